@@ -1,0 +1,4 @@
+pub mod Block
+pub mod Counts
+pub mod Fuse
+pub mod Told
