@@ -1,3 +1,4 @@
 pub mod BlockLemmas
 pub mod CountLemmas
+pub mod FieldLemmas
 pub mod ToldLemmas

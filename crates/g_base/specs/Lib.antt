@@ -1,4 +1,5 @@
 pub mod Block
 pub mod Counts
+pub mod Fields
 pub mod Fuse
 pub mod Told

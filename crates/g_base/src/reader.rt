@@ -1,0 +1,90 @@
+//! Reads the fields of a block one behind the other.
+ghost use Rattle.std.specs.Prelude.{◌≡◌, ℕ, ◌^◌, ◌<◌, ◌≤◌, List, ◌∷◌, ◌++◌, length, drop};
+ghost use Rattle.g_base.specs.Fields.{number};
+
+use byteorder::{BigEndian, ByteOrder};
+use std::marker::Model;
+
+/// Bytes that are being read, which contracts see as those that are left.
+#[derive(Drop)]
+pub struct BlockReader<'a> {
+    rest: &'a [u8],
+}
+
+impl<'a> Model for BlockReader<'a> {
+    ghost use Rattle.std.specs.Prelude.{ℕ, List};
+
+    ghost Value = { List ℕ };
+
+    ghost view = { λ r. r.rest.now };
+}
+
+impl<'a> BlockReader<'a> {
+    /// Nothing taken yet.
+    pub fn new(bytes: &'a [u8]) -> Self
+        ensures { result ≡ bytes.now }
+    {
+        BlockReader { rest: bytes }
+    }
+
+    /// One byte.
+    pub fn take_u8(&mut self) -> u8
+        requires { 1 ≤ length self.old }
+        ensures { self.old ≡ result ∷ self.new }
+    {
+        let x = self.rest[0];
+        self.rest = &self.rest[1..];
+        x
+    }
+
+    /// So many bytes.
+    pub fn take_bytes(&mut self, count: usize) -> &'a [u8]
+        requires { count ≤ length self.old }
+        ensures all { self.old ≡ result.now ++ self.new }
+        ensures count { length result.now ≡ count }
+    {
+        let (taken, rest) = self.rest.split_at(count);
+        self.rest = rest;
+        taken
+    }
+
+    /// A number of two bytes.
+    pub fn take_u16(&mut self) -> u16
+        requires { 2 ≤ length self.old }
+        ensures left { self.new ≡ drop 2 self.old }
+        ensures again { (x : ℕ) (rest : List ℕ) → x < 2 ^ 16 → self.old ≡ number 2 x ++ rest
+            → (result ≡ x) × (self.new ≡ rest) }
+    {
+        BigEndian::read_u16(self.take_bytes(2))
+    }
+
+    /// A number of three bytes.
+    pub fn take_u24(&mut self) -> u32
+        requires { 3 ≤ length self.old }
+        ensures left { self.new ≡ drop 3 self.old }
+        ensures again { (x : ℕ) (rest : List ℕ) → x < 2 ^ 24 → self.old ≡ number 3 x ++ rest
+            → (result ≡ x) × (self.new ≡ rest) }
+    {
+        BigEndian::read_u24(self.take_bytes(3))
+    }
+
+    /// A number of four bytes.
+    pub fn take_u32(&mut self) -> u32
+        requires { 4 ≤ length self.old }
+        ensures left { self.new ≡ drop 4 self.old }
+        ensures again { (x : ℕ) (rest : List ℕ) → x < 2 ^ 32 → self.old ≡ number 4 x ++ rest
+            → (result ≡ x) × (self.new ≡ rest) }
+    {
+        BigEndian::read_u32(self.take_bytes(4))
+    }
+
+    /// A number of eight bytes.
+    pub fn take_u64(&mut self) -> u64
+        requires { 8 ≤ length self.old }
+        ensures left { self.new ≡ drop 8 self.old }
+        ensures again { (x : ℕ) (rest : List ℕ) → x < 2 ^ 64 → self.old ≡ number 8 x ++ rest
+            → (result ≡ x) × (self.new ≡ rest) }
+    {
+        BigEndian::read_u64(self.take_bytes(8))
+    }
+}

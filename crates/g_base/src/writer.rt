@@ -1,0 +1,130 @@
+//! Writes the fields of a block one behind the other.
+ghost use Rattle.std.specs.Prelude.{◌≡◌, ◌+◌, ◌^◌, ◌<◌, ◌≤◌, [], ◌∷◌, ◌++◌, length, replicate};
+ghost use Rattle.g_base.specs.Fields.{number, padded};
+
+use crate::block::Block;
+use byteorder::{BigEndian, ByteOrder};
+use std::marker::Model;
+
+/// A block that is being written, which contracts see as the bytes that were put so far. What isn't
+/// put is zero.
+#[derive(Drop)]
+pub struct BlockWriter {
+    block: Block,
+    at: usize,
+}
+
+impl Model for BlockWriter {
+    ghost use Rattle.std.specs.Prelude.{ℕ, List, take};
+    ghost use Rattle.g_base.specs.Fields.{IsPartWritten};
+
+    ghost Value = { List ℕ };
+
+    ghost view = { λ w. take w.at w.block };
+
+    ghost invariant = { λ w. IsPartWritten w.at w.block };
+}
+
+impl BlockWriter {
+    /// Nothing put yet.
+    pub fn new() -> Self
+        ensures { result ≡ [] }
+    {
+        BlockWriter {
+            block: [0; 512],
+            at: 0,
+        }
+    }
+
+    /// One byte.
+    pub fn put_u8(&mut self, x: u8)
+        requires { length self.old < 512 }
+        ensures { self.new ≡ self.old ++ x ∷ [] }
+    {
+        self.block[self.at] = x;
+        self.at += 1;
+    }
+
+    /// The bytes as they are.
+    pub fn put_bytes(&mut self, bytes: &[u8])
+        requires { length self.old + length bytes.now ≤ 512 }
+        ensures { self.new ≡ self.old ++ bytes.now }
+    {
+        for x in bytes {
+            self.put_u8(*x);
+        }
+    }
+
+    /// So many zeros.
+    pub fn put_zeros(&mut self, count: usize)
+        requires { length self.old + count ≤ 512 }
+        ensures { self.new ≡ self.old ++ replicate count 0 }
+    {
+        for _zero in 0..count {
+            self.put_u8(0);
+        }
+    }
+
+    /// A field of `width` bytes: the bytes, and zeros behind them.
+    #[tactic(auto, unfolding(crate::specs::Fields::padded))]
+    pub fn put_padded(&mut self, width: usize, bytes: &[u8])
+        requires fits { length bytes.now ≤ width }
+        requires room { length self.old + width ≤ 512 }
+        ensures { self.new ≡ self.old ++ padded width bytes.now }
+    {
+        self.put_bytes(bytes);
+        self.put_zeros(width - bytes.len());
+    }
+
+    /// A number of two bytes.
+    #[tactic(auto, unfolding(crate::specs::Fields::number))]
+    pub fn put_u16(&mut self, x: u16)
+        requires { length self.old + 2 ≤ 512 }
+        ensures { self.new ≡ self.old ++ number 2 x }
+    {
+        let mut bytes = [0; 2];
+        BigEndian::write_u16(&mut bytes, x);
+        self.put_bytes(&bytes);
+    }
+
+    /// A number of three bytes.
+    #[tactic(auto, unfolding(crate::specs::Fields::number))]
+    pub fn put_u24(&mut self, x: u32)
+        requires fits { x < 2 ^ 24 }
+        requires room { length self.old + 3 ≤ 512 }
+        ensures { self.new ≡ self.old ++ number 3 x }
+    {
+        let mut bytes = [0; 3];
+        BigEndian::write_u24(&mut bytes, x);
+        self.put_bytes(&bytes);
+    }
+
+    /// A number of four bytes.
+    #[tactic(auto, unfolding(crate::specs::Fields::number))]
+    pub fn put_u32(&mut self, x: u32)
+        requires { length self.old + 4 ≤ 512 }
+        ensures { self.new ≡ self.old ++ number 4 x }
+    {
+        let mut bytes = [0; 4];
+        BigEndian::write_u32(&mut bytes, x);
+        self.put_bytes(&bytes);
+    }
+
+    /// A number of eight bytes.
+    #[tactic(auto, unfolding(crate::specs::Fields::number))]
+    pub fn put_u64(&mut self, x: u64)
+        requires { length self.old + 8 ≤ 512 }
+        ensures { self.new ≡ self.old ++ number 8 x }
+    {
+        let mut bytes = [0; 8];
+        BigEndian::write_u64(&mut bytes, x);
+        self.put_bytes(&bytes);
+    }
+
+    /// The block: what was put, and zeros behind it.
+    pub fn finish(self) -> Block
+        ensures { result ≡ padded 512 self }
+    {
+        self.block
+    }
+}
