@@ -4,6 +4,7 @@
 
 mod block;
 mod counter;
+mod fault;
 mod fuse;
 mod memory;
 mod reader;
@@ -13,6 +14,7 @@ mod writer;
 
 pub use block::{Block, blocks_for};
 pub use counter::raised;
+pub use fault::{ReadFailed, WriteFailed};
 pub use fuse::Fuse;
 pub use memory::NoMemory;
 pub use reader::BlockReader;
