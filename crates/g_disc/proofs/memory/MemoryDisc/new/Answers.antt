@@ -1,0 +1,16 @@
+use Rattle.std.proofs.Common.{ℕ, replicate, subst, sym, ap, arith, length}
+use Rattle.std.specs.Prelude.{All}
+use Rattle.std.proofs.lemmas.List.{length-replicate}
+use Rattle.std.proofs.lemmas.List.Elements.{All-replicate}
+use Rattle.g_base.proofs.BlockLemmas.{IsBlock-zeros}
+use Rattle.g_base.specs.Block.{IsBlock}
+use Rattle.g_disc.proofs.memory.MemoryDisc.new.Goals as goal
+
+pub invariant_of-result : goal.invariant_of-result
+invariant_of-result c =
+    let blocks = c.in_ok-zero_blocks.field-0 in
+    let zeros = c.in_ok-zero_blocks.ensures in
+    let few = c.ranges.blocks in
+    let long = length-replicate c.args.blocks (replicate {A = ℕ} 512 0) in
+    let counted = ap length zeros in
+    (omega (arith, blocks.ok.0), subst (All IsBlock) (sym zeros) (All-replicate IsBlock c.args.blocks (replicate 512 0) IsBlock-zeros))

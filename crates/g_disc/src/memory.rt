@@ -1,0 +1,163 @@
+//! A disc in memory, whose failures are set beforehand.
+ghost use Rattle.std.specs.Prelude.{◌≡◌, ◌<◌, IfOk, replicate};
+ghost use Rattle.g_disc.specs.Memory.{MemoryReads, MemoryWrites, blank, left_by};
+
+use crate::disc::Disc;
+use g_base::{Block, Fuse, NoMemory, ReadFailed, WriteFailed, raised};
+use std::alloc::Global;
+use std::marker::Model;
+
+/// What a failing write leaves of the block that it was to replace.
+#[derive(Drop)]
+pub enum Leave {
+    /// The block as it was.
+    Old,
+    /// The new block.
+    Whole,
+    /// The first 256 bytes of the new block, and the rest of the old one.
+    Half,
+    /// These bytes.
+    These(Block),
+}
+
+/// A disc in memory. Nothing fails but the write at which its fuse is 1 and the reads that are named.
+#[derive(Drop)]
+pub struct MemoryDisc {
+    blocks: Vec<Block>,
+    leave: Leave,
+    fail: Vec<u64>,
+    reads: u64,
+    read_faults: u64,
+    write_faults: u64,
+    writes: u64,
+    fuse: Fuse,
+    arms: u64,
+}
+
+impl Model for MemoryDisc {
+    ghost use Rattle.std.specs.Prelude.{◌<◌, ◌^◌, All, Some, vec_len};
+    ghost use Rattle.g_base.specs.Block.{IsBlock};
+    ghost use Rattle.g_disc.specs.Memory.{Memory};
+
+    ghost Value = { Memory };
+
+    ghost view = { λ m. record {
+      disc = record {
+        held = Some m.blocks.items;
+        size = vec_len m.blocks;
+        read_faults = m.read_faults;
+        write_faults = m.write_faults;
+        writes = m.writes;
+        fuse = m.fuse;
+        arms = m.arms;
+      };
+      leave = m.leave;
+      fail = m.fail.items;
+      reads = m.reads;
+    } };
+
+    ghost invariant = { λ m. (vec_len m.blocks < 2 ^ 32) × All IsBlock m.blocks.items };
+}
+
+impl MemoryDisc {
+    /// A disc of so many blocks of zeros. Its failing writes leave the block as it was, until
+    /// `set_leave` says otherwise.
+    pub fn new(alloc: Global, blocks: u32) -> Result<MemoryDisc, NoMemory>
+        ensures { IfOk result (λ m. m ≡ blank blocks) }
+    {
+        Ok(MemoryDisc {
+            blocks: zero_blocks(alloc, blocks)?,
+            leave: Leave::Old,
+            fail: Vec::new(alloc),
+            reads: 0,
+            read_faults: 0,
+            write_faults: 0,
+            writes: 0,
+            fuse: Fuse::new(),
+            arms: 0,
+        })
+    }
+
+    /// Says what failing writes leave from now on.
+    pub fn set_leave(&mut self, leave: Leave)
+        ensures { self.new ≡ record self.old { leave = leave } }
+    {
+        self.leave = leave;
+    }
+
+    /// Names the reads that fail, counted from 1 since the disc was made, in place of those named
+    /// before.
+    pub fn fail_reads(&mut self, calls: Vec<u64>)
+        ensures { self.new ≡ record self.old { fail = calls.items } }
+    {
+        self.fail = calls;
+    }
+}
+
+impl Disc for MemoryDisc {
+    ghost state = { λ m. m.disc };
+
+    fn size(&self) -> u32 {
+        self.blocks.len() as u32
+    }
+
+    fn read(&mut self, k: u32, into: &mut Block) -> Result<(), ReadFailed>
+        requires { k < self.old.disc.size }
+        ensures { MemoryReads k into.new self.old self.new result }
+    {
+        self.reads = raised(self.reads);
+        if self.fail.contains(&self.reads) {
+            self.read_faults = raised(self.read_faults);
+            return Err(ReadFailed);
+        }
+        *into = self.blocks[k as usize];
+        Ok(())
+    }
+
+    fn write(&mut self, k: u32, from: &Block) -> Result<(), WriteFailed>
+        requires { k < self.old.disc.size }
+        ensures { MemoryWrites k from.now self.old self.new result }
+    {
+        self.writes = raised(self.writes);
+        if self.fuse.burn() {
+            self.write_faults = raised(self.write_faults);
+            let left = left_of(&self.leave, &self.blocks[k as usize], from);
+            self.blocks[k as usize] = left;
+            return Err(WriteFailed);
+        }
+        self.blocks[k as usize] = *from;
+        Ok(())
+    }
+
+    fn arm(&mut self, k: u32) {
+        self.fuse.arm(k);
+        self.arms = raised(self.arms);
+    }
+}
+
+/// So many blocks of zeros.
+fn zero_blocks(alloc: Global, count: u32) -> Result<Vec<Block>, NoMemory>
+    ensures { IfOk result (λ blocks. blocks.items ≡ replicate count (replicate 512 0)) }
+{
+    let mut blocks = Vec::with_capacity(alloc, count as usize)?;
+    for _block in 0..count {
+        blocks.push([0; 512])?;
+    }
+    Ok(blocks)
+}
+
+/// What a failing write of `new` leaves of `old`.
+fn left_of(leave: &Leave, old: &Block, new: &Block) -> Block
+    ensures { result ≡ left_by leave.now old.now new.now }
+{
+    match leave {
+        Leave::Old => *old,
+        Leave::Whole => *new,
+        Leave::Half => {
+            let mut left = *old;
+            left[..256].copy_from_slice(&new[..256]);
+            left
+        }
+        Leave::These(bytes) => *bytes,
+    }
+}
