@@ -1,0 +1,4 @@
+pub mod BadPlace
+pub mod Grammar
+pub mod Names
+pub mod Order

@@ -1,0 +1,19 @@
+//! The names of the filestore: users, local names, languages, paths as they are written, and full names with their order.
+#![tactic(auto)]
+
+mod bad_name;
+mod full;
+mod grammar;
+mod lang;
+mod local;
+mod path;
+mod text;
+mod user;
+
+pub use bad_name::BadName;
+pub use full::Full;
+pub use lang::Lang;
+pub use local::Local;
+pub use path::Path;
+pub use text::Text;
+pub use user::User;
