@@ -1,8 +1,8 @@
 //! Texts that own their bytes.
 ghost use Rattle.std.specs.Prelude.{◌≡◌, [], ◌∷◌, ◌++◌, IfOk, OnOk, OnErr};
-ghost use Rattle.std.specs.Prelude.{nat_eq};
 
-use std::alloc::{AllocError, Global};
+use g_base::NoMemory;
+use std::alloc::Global;
 use std::marker::Model;
 
 /// A list of bytes that contracts see as a list. It is made from a `Vec` and gives it back without taking memory.
@@ -30,7 +30,7 @@ impl Text {
     }
 
     /// A text of its own with these bytes.
-    pub fn from_slice(alloc: Global, bytes: &[u8]) -> Result<Text, AllocError>
+    pub fn from_slice(alloc: Global, bytes: &[u8]) -> Result<Text, NoMemory>
         ensures { IfOk result (λ t. t ≡ bytes.now) }
     {
         let bytes = Vec::from_slice(alloc, bytes)?;
@@ -45,7 +45,7 @@ impl Text {
     }
 
     /// Puts a byte behind the text; without memory the text stays as it was.
-    pub fn push(&mut self, byte: u8) -> Result<(), AllocError>
+    pub fn push(&mut self, byte: u8) -> Result<(), NoMemory>
         ensures ok { OnOk result (self.new ≡ self.old ++ byte ∷ []) }
         ensures err { OnErr result (self.new ≡ self.old) }
     {
@@ -54,11 +54,12 @@ impl Text {
     }
 
     /// Puts bytes behind the text; without memory the text stays as it was.
-    pub fn extend(&mut self, bytes: &[u8]) -> Result<(), AllocError>
+    pub fn extend(&mut self, bytes: &[u8]) -> Result<(), NoMemory>
         ensures ok { OnOk result (self.new ≡ self.old ++ bytes.now) }
         ensures err { OnErr result (self.new ≡ self.old) }
     {
-        self.bytes.extend_from_slice(bytes)
+        self.bytes.extend_from_slice(bytes)?;
+        Ok(())
     }
 }
 
