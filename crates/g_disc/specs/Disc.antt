@@ -52,6 +52,17 @@ pub record ReadsOnly {T E : Type 0} (before after : DiscState) (result : Result 
   pub kept : OnOk result (after.read_faults ≡ before.read_faults)
   pub rose : OnErr result (Rose before.read_faults after.read_faults)
 
+-- The same of a call that may answer otherwise too: read_fault is that it answered for a failed read.
+pub record ReadsByCause (read_fault : Type 0) (before after : DiscState) : Type 0 where
+  pub held : after.held ≡ before.held
+  pub size : after.size ≡ before.size
+  pub write_faults : after.write_faults ≡ before.write_faults
+  pub writes : after.writes ≡ before.writes
+  pub fuse : after.fuse ≡ before.fuse
+  pub arms : after.arms ≡ before.arms
+  pub kept : (read_fault → ⊥) → after.read_faults ≡ before.read_faults
+  pub rose : read_fault → Rose before.read_faults after.read_faults
+
 -- a call that writes and doesn't read: n blocks where it is Ok; it fails only where a write failed
 pub record WritesOnly {T E : Type 0} (n : ℕ) (before after : DiscState) (result : Result T E) : Type 0 where
   pub size : after.size ≡ before.size

@@ -1,0 +1,24 @@
+//! The names of the filestore: users, local names, languages, paths as they are written, and full names with their order.
+#![tactic(auto)]
+
+mod bad_name;
+mod full;
+mod grammar;
+mod lang;
+mod local;
+mod parse;
+mod path;
+mod path_reader;
+#[cfg(test)]
+mod tests;
+mod text;
+mod user;
+
+pub use bad_name::BadName;
+pub use full::Full;
+pub use lang::Lang;
+pub use local::Local;
+pub use parse::parse_path;
+pub use path::Path;
+pub use text::Text;
+pub use user::User;

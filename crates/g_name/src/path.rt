@@ -1,0 +1,32 @@
+//! Paths: the names of files as commands write them.
+ghost use Rattle.std.specs.Prelude.{◌≡◌, ◌≤◌, IfSome};
+ghost use Rattle.std.proofs.Props.{props};
+
+use crate::{Lang, Local, User};
+
+/// A file as a command names it: `:USER.NAME(generation/LANG)`, of which every part but the local name may be absent.
+///
+/// An absent user is the caller, an absent language that of four spaces. An absent generation is the greatest one there is for input, and for output one more.
+#[derive(Debug, Drop, PartialEq, Eq)]
+pub struct Path {
+    pub user: Option<User>,
+    pub local: Local,
+    /// 1 to 4,095.
+    pub generation: Option<u16>,
+    pub lang: Option<Lang>,
+    pub ghost in_range: { IfSome generation (λ g. (1 ≤ g) × (g ≤ 4095)) } by { Prim.hlevel props },
+}
+
+impl Path {
+    /// The same path once more, which takes no memory.
+    pub fn copy(&self) -> Path
+        ensures { result ≡ self.now }
+    {
+        Path {
+            user: self.user.as_ref().map(|user| user.copy()),
+            local: self.local.copy(),
+            generation: self.generation,
+            lang: self.lang.as_ref().map(|lang| lang.copy()),
+        }
+    }
+}

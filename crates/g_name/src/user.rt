@@ -1,0 +1,106 @@
+//! Names of users.
+ghost use Rattle.std.specs.Prelude.{◌≡◌, true, ◌↔◌, IsSome, IfSome, IfOk, IfErr, false, ◌∷◌, codes};
+ghost use Rattle.g_name.specs.BadPlace.{IsBadPlace};
+ghost use Rattle.g_name.specs.Grammar.{is_word, is_user_text};
+ghost use Rattle.g_name.specs.Names.{IsUserText};
+
+use crate::{BadName, grammar};
+use arrayvec::ArrayVec;
+use std::marker::Model;
+
+/// The name of a user without its colon: 1 to 12 of `A` to `Z`, `0` to `9` and `-`, the first a letter. Names are in the order of their bytes.
+#[derive(Debug, Drop, PartialEq, Eq, PartialOrd, Ord, Hash)]
+pub struct User {
+    word: ArrayVec<u8, 12>,
+}
+
+impl Model for User {
+    ghost use Rattle.std.specs.Prelude.{◌≡◌, ℕ, List, true};
+    ghost use Rattle.g_name.specs.Grammar.{is_word};
+
+    ghost Value = { List ℕ };
+
+    ghost view = { λ u. u.word.items };
+
+    ghost invariant = { λ u. is_word u.word.items ≡ true };
+
+    ghost inverse = { λ xs. record { word = record { items = xs } } };
+}
+
+impl User {
+    /// The user of a word, without the colon.
+    pub fn new(word: &[u8]) -> Option<User>
+        ensures word { IsSome result ↔ (is_word word.now ≡ true) }
+        ensures value { IfSome result (λ u. u ≡ word.now) }
+    {
+        if grammar::is_word(word) {
+            Some(User {
+                word: grammar::copied(word),
+            })
+        } else {
+            None
+        }
+    }
+
+    /// The user that a text with a colon is.
+    pub fn parse(text: &[u8]) -> Result<User, BadName>
+        ensures ok { IfOk result (λ u. (is_user_text text.now ≡ true) × (text.now ≡ 58 ∷ u)) }
+        ensures err { IfErr result (λ e. (is_user_text text.now ≡ false) × IsBadPlace IsUserText text.now e.place) }
+    {
+        let Some((first, word)) = text.split_first() else {
+            return Err(BadName { place: 0 });
+        };
+        if *first != b':' {
+            return Err(BadName { place: 0 });
+        }
+        match User::new(word) {
+            Some(user) => Ok(user),
+            None => Err(BadName {
+                place: 1 + grammar::word_end(word),
+            }),
+        }
+    }
+
+    /// `MASTER`, the first user, which is its own superior.
+    pub fn master() -> User
+        ensures { result ≡ codes "MASTER" }
+    {
+        User {
+            word: grammar::copied(b"MASTER"),
+        }
+    }
+
+    /// `MACROS`, the user whose files everybody may execute.
+    pub fn macros() -> User
+        ensures { result ≡ codes "MACROS" }
+    {
+        User {
+            word: grammar::copied(b"MACROS"),
+        }
+    }
+
+    /// The name of characters that were looked at already.
+    pub(crate) fn from_word(word: ArrayVec<u8, 12>) -> User
+        requires { is_word word.items ≡ true }
+        ensures { result ≡ word.items }
+    {
+        User { word }
+    }
+
+    /// The characters.
+    pub fn as_slice(&self) -> &[u8]
+        ensures characters { result.now ≡ self.now }
+        ensures word { is_word self.now ≡ true }
+    {
+        self.word.as_slice()
+    }
+
+    /// The same name once more, which takes no memory.
+    pub fn copy(&self) -> User
+        ensures { result ≡ self.now }
+    {
+        User {
+            word: grammar::copied(self.word.as_slice()),
+        }
+    }
+}
