@@ -1,19 +1,16 @@
 -- The end of a run, behind all its parts.
-use Rattle.std.proofs.Common.{◌≡◌, ◌++◌, ℕ, true, List, [], ◌∷◌, Option, Some, None, refl, sym, ◌∙◌, ap, subst}
-use Rattle.std.proofs.lemmas.List.{append-nil}
+use Rattle.std.proofs.Common.{◌≡◌, ◌++◌, ℕ, List, [], ◌∷◌, Option, Some, None, refl, sym, ◌∙◌, ap, subst}
 use Rattle.g_disc.specs.Disc.{DiscState}
 use Rattle.g_io.specs.Streams.{with_more, HasPutPart}
 use Rattle.g_script.specs.declared.script.Work.{Work}
-use Rattle.g_script.specs.declared.script.Work.TheVariants.{Nothing, Format, FormatAndJob}
-use Rattle.g_script.specs.declared.script.Job.{Job}
+use Rattle.g_script.specs.declared.script.Work.TheVariants.{Nothing}
 use Rattle.g_run.specs.declared.progress.Failure.{Failure}
 use Rattle.g_run.specs.Texts.{bad_line}
-use Rattle.g_run.specs.World.{World, Line, JobLine, start, closing, closed}
+use Rattle.g_run.specs.World.{World, start, closing, closed}
 use Rattle.g_run.specs.Run.{Move, Over, Run, Counted}
-use Rattle.g_run.specs.Parts.{Comes, IsIdle, Goes, Breaks, GoesBy, PutsBy}
-use Rattle.g_run.specs.Operator.{LineGoes}
-use Rattle.g_run.specs.Ends.{IsWhole, IsShort, EndsWhole, EndsShort, EndsBy, WorkGoes}
-use Rattle.g_run.proofs.RunLemmas.{run-append, counted-append, counted-none, counted-over, with_more-nil, put_nothing}
+use Rattle.g_run.specs.Parts.{Comes, IsIdle, PutsBy}
+use Rattle.g_run.specs.Ends.{EndsWhole, EndsShort, EndsBy, WorkGoes}
+use Rattle.g_run.proofs.RunLemmas.{run-append, counted-append, counted-none, counted-over, with_more-nil}
 use Rattle.g_run.proofs.PartLemmas.{with_more-append, put_on}
 
 -- a script without a line

@@ -1,9 +1,8 @@
 -- A job's turns and its ends, as parts of a run.
-use Rattle.std.proofs.Common.{◌≡◌, ◌≢◌, ◌⊎◌, ◌==◌, ◌+◌, ◌++◌, ℕ, Bool, true, false, List, [], ◌∷◌, Option, Some, None, refl, sym, ◌∙◌, ap, subst, inl, inr, codes, slice_get, if◌then◌else◌}
+use Rattle.std.proofs.Common.{◌≡◌, ◌==◌, ◌+◌, ◌++◌, ℕ, true, false, List, [], ◌∷◌, Option, Some, None, refl, sym, ◌∙◌, ap, subst, inl, inr, codes, slice_get, if◌then◌else◌}
 use Rattle.std.proofs.lemmas.List.{append-nil, append_assoc}
 use Rattle.std.proofs.lemmas.Bool.{eq-eqb}
 use Rattle.std.proofs.lemmas.Bool.Decides.{eqb_tells}
-use Rattle.g_disc.specs.Disc.{DiscState}
 use Rattle.g_online.specs.Files.{File}
 use Rattle.g_online.specs.Store.{FirstView}
 use Rattle.g_script.specs.declared.script.Job.{Job}
@@ -12,9 +11,9 @@ use Rattle.g_run.specs.declared.progress.Failure.TheVariants as failures
 use Rattle.g_run.specs.declared.turn.Turn.TheVariants as kinds
 use Rattle.g_run.specs.Texts.{ended_line, header, last_line, operator_line}
 use Rattle.g_run.specs.World.{World, Outcome, Store, Up, StoppedIn, JobView, IsOn, TurnEnd, Going, Ended, Stopped, after_turn, job_ended, job_goes_on}
-use Rattle.g_run.specs.Run.{Move, Turn, Step, Run, Counted}
-use Rattle.g_run.specs.Turn.{HasCause, IsUp, IsNow, Turns, IsTurn, IsTurnInPart, kind_of, said_in, store_after}
-use Rattle.g_run.specs.Parts.{PutsBy, Comes, IsIdle, GoesBy, job_view, job_world}
+use Rattle.g_run.specs.Run.{Turn, Run, Counted}
+use Rattle.g_run.specs.Turn.{Turns, IsTurn, IsTurnInPart, kind_of, said_in, store_after}
+use Rattle.g_run.specs.Parts.{PutsBy, GoesBy, job_view, job_world}
 use Rattle.g_run.specs.Jobs.{InJob, HasCome, JobGoes}
 use Rattle.g_run.proofs.RunLemmas.{run-append, counted-append, counted-none, counted-turn, now_on, put_nothing}
 

@@ -1,22 +1,20 @@
 -- The operator's lines as parts of a run.
-use Rattle.std.proofs.Common.{false, ◌≡◌, ◌⊎◌, ◌++◌, ℕ, List, [], ◌∷◌, Option, Some, None, refl, sym, ◌∙◌, ap, subst, inl, inr, codes}
-use Rattle.std.proofs.lemmas.List.{append-nil}
+use Rattle.std.proofs.Common.{false, ◌≡◌, ◌++◌, ℕ, List, [], ◌∷◌, Option, Some, None, refl, sym, subst, inl, inr, codes}
 use Rattle.g_disc.specs.Disc.{DiscState}
 use Rattle.g_io.specs.Streams.{with_more, HasPutPart}
-use Rattle.g_online.specs.Files.{File}
 use Rattle.g_online.specs.Store.{FirstView}
 use Rattle.g_script.specs.declared.script.Job.{Job}
 use Rattle.g_run.specs.declared.progress.Failure.{Failure}
 use Rattle.g_run.specs.declared.progress.Failure.TheVariants as failures
 use Rattle.g_run.specs.Texts.{header, job_in, operator_line}
-use Rattle.g_run.specs.World.{World, Outcome, Plain, DiscRead, Cut, Up, Unknown, Line, FormatLine, JobLine, IsOn}
-use Rattle.g_run.specs.Run.{Move, TakeLine, Run, Counted}
+use Rattle.g_run.specs.World.{World, Outcome, Plain, DiscRead, Cut, Up, Line, FormatLine, JobLine, IsOn}
+use Rattle.g_run.specs.Run.{TakeLine, Run, Counted}
 use Rattle.g_run.specs.Turn.{HasCause, IsUp}
-use Rattle.g_run.specs.Parts.{PutsBy, Comes, IsIdle, GoesBy, Formats, IsUnformatted, Unformatted, before_format, after_format_line, format_says, formatted, job_world}
+use Rattle.g_run.specs.Parts.{PutsBy, Comes, GoesBy, Formats, Unformatted, before_format, after_format_line, format_says, formatted, job_world}
 use Rattle.g_run.specs.Jobs.{JobGoes}
 use Rattle.g_run.specs.Operator.{IsFormatted, LineGoes, before_job}
-use Rattle.g_run.proofs.RunLemmas.{counted-line, counted-none, none_rose, now_on, put_nothing}
-use Rattle.g_run.proofs.PartLemmas.{put_on, with_more-append, goes_on, goes_last}
+use Rattle.g_run.proofs.RunLemmas.{counted-line, none_rose, now_on, put_nothing}
+use Rattle.g_run.proofs.PartLemmas.{goes_on, goes_last}
 
 format_run : (rest : List Line) (bad : Option ℕ) (outcome : Outcome) → Run (before_format rest bad) (TakeLine outcome ∷ []) (after_format_line rest bad outcome)
 format_run rest bad Plain = (after_format_line rest bad Plain, (FormatLine, rest, refl, refl), refl)

@@ -1,13 +1,13 @@
 -- Parts of a run, one behind the other.
-use Rattle.std.proofs.Common.{◌≡◌, ◌+◌, ◌≤◌, ◌++◌, ℕ, List, [], ◌∷◌, Option, Some, None, refl, sym, ◌∙◌, ap, subst, length, take, arith}
-use Rattle.std.proofs.lemmas.List.{append-nil, append_assoc, length-append}
+use Rattle.std.proofs.Common.{◌≡◌, ◌+◌, ◌++◌, ℕ, List, Option, Some, None, refl, sym, ◌∙◌, ap, length, take, arith}
+use Rattle.std.proofs.lemmas.List.{append_assoc, length-append}
 use Rattle.std.proofs.Math.Seq.{take-append-add}
 use Rattle.g_disc.specs.Disc.{DiscState}
 use Rattle.g_io.specs.Streams.{with_more, HasPutPart}
 use Rattle.g_run.specs.declared.progress.Failure.{Failure}
 use Rattle.g_run.specs.World.{World}
 use Rattle.g_run.specs.Run.{Move}
-use Rattle.g_run.specs.Parts.{Comes, IsIdle, Goes, Breaks, GoesBy, PutsBy}
+use Rattle.g_run.specs.Parts.{Comes, IsIdle, GoesBy, PutsBy}
 use Rattle.g_run.proofs.RunLemmas.{run-append, counted-append}
 
 pub with_more-append : (before : Option (List ℕ)) (a b : List ℕ) → with_more (with_more before a) b ≡ with_more before (a ++ b)

@@ -1,18 +1,15 @@
 -- How runs are put together, and what they count.
-use Rattle.std.proofs.Common.{◌≡◌, ◌+◌, ◌≤◌, ◌++◌, ℕ, List, [], ◌∷◌, Option, Some, None, refl, sym, ◌∙◌, ap, subst, add_assoc, zero-add, arith, take, length}
-use Rattle.std.proofs.lemmas.List.{append-nil, append_assoc}
-use Rattle.g_base.specs.Counts.{Rose, HasRisenBy}
+use Rattle.std.proofs.Common.{◌≡◌, ◌+◌, ◌++◌, ℕ, List, [], ◌∷◌, Option, Some, None, refl, sym, ◌∙◌, ap, subst, add_assoc, zero-add, arith}
+use Rattle.std.proofs.lemmas.List.{append-nil}
+use Rattle.g_base.specs.Counts.{HasRisenBy}
 use Rattle.g_base.proofs.CountLemmas.{HasRisenBy-none, HasRisenBy-Rose, HasRisenBy-then}
 use Rattle.g_disc.specs.Disc.{DiscState}
 use Rattle.g_io.specs.Streams.{with_more, HasPutPart}
-use Rattle.g_online.specs.Files.{File}
 use Rattle.g_online.specs.Image.{StandsFor}
 use Rattle.g_online.specs.Store.{FirstView}
 use Rattle.g_run.specs.World.{World, Outcome, Plain, DiscRead, Cut, Store, Unknown, Up, StoppedIn, IsOn}
 use Rattle.g_run.specs.Run.{Move, TakeLine, Turn, Over, Run, reads_in, cuts_in, reads_of, cuts_of, Counted}
-use Rattle.g_run.specs.Turn.{HasCause, IsUp, IsNow}
-use Rattle.g_run.specs.Parts.{Comes, IsIdle, Goes, Breaks, GoesBy}
-use Rattle.g_run.specs.declared.progress.Failure.{Failure}
+use Rattle.g_run.specs.Turn.{HasCause, IsNow}
 use Rattle.g_run.proofs.TurnLemmas.{same_some}
 
 pub run-append : (a b d : World) (moves more : List Move) → Run a moves b → Run b more d → Run a (moves ++ more) d

@@ -5,11 +5,11 @@ use Rattle.g_base.specs.Told.{Changes}
 use Rattle.g_disc.specs.Disc.{DiscState, Causes}
 use Rattle.g_online.specs.Files.{File, greatest, newest}
 use Rattle.g_online.specs.Image.{StandsFor}
-use Rattle.g_online.specs.Store.{FirstView, IsFetched, with_file}
+use Rattle.g_online.specs.Store.{FirstView, with_file}
 use Rattle.g_script.specs.declared.script.Command.{Command}
 use Rattle.g_script.specs.declared.script.Command.TheVariants.{Input, ListFile}
 use Rattle.g_run.specs.Texts.{ended_line, listing, input_echo, made, list_echo, listed}
-use Rattle.g_run.specs.World.{Outcome, Plain, DiscRead, Cut, StoppedIn, IsOn, TurnEnd, Going, Ended, Stopped, list_turn, turn_end}
+use Rattle.g_run.specs.World.{Plain, DiscRead, Cut, StoppedIn, IsOn, Going, Ended, Stopped, list_turn, turn_end}
 use Rattle.g_run.specs.Turn.{HasCause, IsUp, Turns}
 
 pub on_err : {T E P : Type 0} (r : Result T E) → P → OnErr r P

@@ -4,14 +4,13 @@ use Rattle.g_base.specs.Counts.{Rose}
 use Rattle.g_disc.specs.Disc.{DiscState}
 use Rattle.g_io.specs.Streams.{with_more, HasPutPart}
 use Rattle.g_online.specs.Files.{File}
-use Rattle.g_online.specs.Store.{FirstView}
 use Rattle.g_script.specs.declared.script.Job.{Job}
 use Rattle.g_run.specs.declared.progress.Failure.{Failure}
 use Rattle.g_run.specs.declared.progress.Failure.TheVariants as failures
 use Rattle.g_run.specs.Texts.{operator_line}
 use Rattle.g_run.specs.World.{World, Outcome, Plain, DiscRead, Cut, Store, Unknown, Up, Line, FormatLine, JobView, IsOn}
 use Rattle.g_run.specs.Run.{Move, Run, Counted}
-use Rattle.g_run.specs.Turn.{HasCause, IsUp}
+use Rattle.g_run.specs.Turn.{HasCause}
 
 -- the sink's count moves with a failed put alone
 abbrev pub FaultCause : Option Failure → ℕ → ℕ → Type 0

@@ -3,7 +3,7 @@ use Rattle.std.specs.Prelude.{◌≡◌, ◌+◌, ℕ, false, List, [], ◌∷�
 use Rattle.g_base.specs.Counts.{HasRisenBy}
 use Rattle.g_disc.specs.Disc.{DiscState}
 use Rattle.g_online.specs.Files.{File}
-use Rattle.g_run.specs.World.{World, Outcome, Plain, DiscRead, Cut, Store, Up, Line, JobView, TurnEnd, after_line, turn_end, after_turn, closed}
+use Rattle.g_run.specs.World.{World, Outcome, Plain, DiscRead, Cut, Up, Line, JobView, TurnEnd, after_line, turn_end, after_turn, closed}
 
 -- the operator's next line, a turn of the job, the end of the run
 pub data Move : Type 0 where

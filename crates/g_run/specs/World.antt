@@ -1,5 +1,5 @@
 -- The world of a run: what is left of the script, the files, the job, and the text so far.
-use Rattle.std.specs.Prelude.{◌≡◌, ◌⊎◌, ◌==◌, ◌+◌, ℕ, Bool, true, false, List, [], ◌∷◌, ◌++◌, Option, Some, None, codes, if◌then◌else◌}
+use Rattle.std.specs.Prelude.{◌⊎◌, ◌==◌, ◌+◌, ℕ, Bool, true, false, List, [], ◌∷◌, ◌++◌, Option, Some, None, codes, if◌then◌else◌}
 use Rattle.std.specs.Option.{ForSome}
 use Rattle.g_disc.specs.Disc.{DiscState}
 use Rattle.g_online.specs.Files.{File, greatest, newest}

@@ -1,4 +1,4 @@
-use Rattle.std.proofs.Common.{◌∙◌, ◌≡◌, ◌++◌, ◌≤◌, arith, subst, sym, take, length}
+use Rattle.std.proofs.Common.{◌∙◌, ◌++◌, arith, subst, sym, take}
 use Rattle.std.proofs.lemmas.List.{length-append, length-take}
 use Rattle.g_run.specs.Input.{HasRead}
 use Rattle.g_run.proofs.InputLemmas.{read_all, read_more, taken_so_far}

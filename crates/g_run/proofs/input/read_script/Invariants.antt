@@ -1,4 +1,4 @@
-use Rattle.std.proofs.Common.{◌≡◌, ◌-◌, ◌≤◌, ℕ, List, Some, length, vec_len}
+use Rattle.std.proofs.Common.{◌≡◌, ◌-◌, ◌≤◌, ℕ, List, Some, vec_len}
 use Rattle.g_run.specs.Input.{HasRead}
 use Rattle.g_run.proofs.input.read_script.Given as goal
 

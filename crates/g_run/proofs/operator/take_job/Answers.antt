@@ -1,5 +1,3 @@
-use Rattle.g_run.specs.Texts.{job_in, operator_line}
-use Rattle.g_run.specs.Parts.{PutsBy}
 use Rattle.g_run.proofs.OperatorLemmas.{job_runs, job_untold}
 use Rattle.g_run.proofs.operator.take_job.Goals as goal
 

@@ -1,4 +1,4 @@
-use Rattle.std.proofs.Common.{◌∙◌, List, subst}
+use Rattle.std.proofs.Common.{◌∙◌, subst}
 use Rattle.g_script.specs.Lines.{lines_of}
 use Rattle.g_script.specs.Script.{IsParsed}
 use Rattle.g_run.proofs.TopLemmas.{ends_as}

@@ -1,4 +1,4 @@
-use Rattle.std.proofs.Common.{◌++◌, [], Some, codes, refl, ap}
+use Rattle.std.proofs.Common.{Some, codes, refl, ap}
 use Rattle.g_run.specs.Texts.{ended_line}
 use Rattle.g_run.specs.World.{Plain, Ended, turn_end}
 use Rattle.g_run.proofs.TurnLemmas.{end_turns}

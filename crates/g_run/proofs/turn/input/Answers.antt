@@ -1,4 +1,4 @@
-use Rattle.std.proofs.Common.{◌++◌, ◌+◌, ◌∙◌, refl, sym, ap, inr, Some, true}
+use Rattle.std.proofs.Common.{◌++◌, ◌+◌, ◌∙◌, refl, ap, inr, Some, true}
 use Rattle.g_online.specs.Files.{greatest}
 use Rattle.g_online.specs.Store.{with_file}
 use Rattle.g_script.specs.declared.script.Command.TheVariants.{Input}
