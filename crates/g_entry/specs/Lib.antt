@@ -1,0 +1,4 @@
+pub mod FileFields
+pub mod Formats
+pub mod HeadFields
+pub mod UserFields

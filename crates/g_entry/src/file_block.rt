@@ -1,0 +1,195 @@
+//! The block of a file, written and read.
+ghost use Rattle.std.specs.Prelude.{◌≡◌, ◌↔◌, ℕ, List, Option, true, IsTrue, IfSome, IfNone, Some, nat_lt};
+ghost use Rattle.std.specs.List.{list_all};
+ghost use Rattle.std.specs.Option.{option_copied};
+ghost use Rattle.g_trap.specs.TrapList.{IsOthers};
+ghost use Rattle.g_entry.specs.FileFields.{IsFile, IsCopy, AreSets, ArePlaces, lacks, file_block};
+ghost use Rattle.g_entry.specs.Formats.{is_place};
+
+use crate::put::{put_copy, put_lang, put_online, put_traps, put_word};
+use crate::take::{take_copy, take_lang, take_local, take_places, take_traps};
+use crate::{BlockList, FileRec, Format, TapeCopy};
+use g_base::{Block, BlockReader, BlockWriter, blocks_for};
+use g_trap::{Modes, Traps};
+
+/// The block of a file. `online` are the block numbers of its bytes where the file is online.
+pub fn encode_file(r: &FileRec, online: Option<&BlockList>) -> Block
+    requires file { IsFile r.now }
+    requires places { IfSome (option_copied online) (ArePlaces Format.Two r.now.len) }
+    ensures { result ≡ file_block Format.Two r.now (option_copied online.entry) }
+{
+    encode(Format::Two, r, online)
+}
+
+/// The file of this number whose block it is, with its block numbers where it is online. None exactly where no file has
+/// that block.
+pub fn decode_file(b: &Block, number: u16) -> Option<(FileRec, Option<BlockList>)>
+    ensures number { IfSome result (λ found. found.0.number ≡ number) }
+    ensures file { IfSome result (λ found. IsFile found.0 × IfSome found.1 (ArePlaces Format.Two found.0.len)) }
+    ensures block { IfSome result (λ found. b.now ≡ file_block Format.Two found.0 found.1) }
+    ensures none { IfNone result ((r : FileRec) (online : Option (List ℕ)) → r.number ≡ number → IsFile r
+        → IfSome online (ArePlaces Format.Two r.len) → b.now ≡ file_block Format.Two r online → ⊥) }
+
+    // What was written is read back, so a file has one block.
+    ensures again { (r : FileRec) (online : Option (List ℕ)) → r.number ≡ number → IsFile r
+        → IfSome online (ArePlaces Format.Two r.len) → b.now ≡ file_block Format.Two r online → result ≡ Some (r, online) }
+{
+    decode(Format::Two, b, number)
+}
+
+/// The block of a file in the first format, whose block numbers are below 65,536.
+pub fn encode_file_1(r: &FileRec, online: Option<&BlockList>) -> Block
+    requires file { IsFile r.now }
+    requires places { IfSome (option_copied online) (ArePlaces Format.One r.now.len) }
+    ensures { result ≡ file_block Format.One r.now (option_copied online.entry) }
+{
+    encode(Format::One, r, online)
+}
+
+/// The file of this number whose block in the first format it is, with its block numbers where it is online. None
+/// exactly where no file has that block.
+pub fn decode_file_1(b: &Block, number: u16) -> Option<(FileRec, Option<BlockList>)>
+    ensures number { IfSome result (λ found. found.0.number ≡ number) }
+    ensures file { IfSome result (λ found. IsFile found.0 × IfSome found.1 (ArePlaces Format.One found.0.len)) }
+    ensures block { IfSome result (λ found. b.now ≡ file_block Format.One found.0 found.1) }
+    ensures none { IfNone result ((r : FileRec) (online : Option (List ℕ)) → r.number ≡ number → IsFile r
+        → IfSome online (ArePlaces Format.One r.len) → b.now ≡ file_block Format.One r online → ⊥) }
+
+    // What was written is read back, so a file has one block.
+    ensures again { (r : FileRec) (online : Option (List ℕ)) → r.number ≡ number → IsFile r
+        → IfSome online (ArePlaces Format.One r.len) → b.now ≡ file_block Format.One r online → result ≡ Some (r, online) }
+{
+    decode(Format::One, b, number)
+}
+
+#[tactic(auto, using(crate::proofs::FieldLemmas::field_lengths, crate::proofs::FieldLemmas::name_lengths), unfolding(crate::specs::FileFields::file_fields))]
+fn encode(format: Format, r: &FileRec, online: Option<&BlockList>) -> Block
+    requires file { IsFile r.now }
+    requires places { IfSome (option_copied online) (ArePlaces format r.now.len) }
+    ensures { result ≡ file_block format r.now (option_copied online.entry) }
+{
+    let mut writer = BlockWriter::new();
+    writer.put_u8(1);
+    writer.put_u8(r.owner);
+    put_word(&mut writer, r.local.as_slice());
+    writer.put_u16(r.generation);
+    put_lang(&mut writer, &r.lang);
+    writer.put_u64(r.stamp);
+    writer.put_u32(r.len);
+    put_traps(&mut writer, &r.traps);
+    put_copy(&mut writer, r.tape);
+    put_online(&mut writer, format, online);
+    writer.finish()
+}
+
+fn decode(format: Format, b: &Block, number: u16) -> Option<(FileRec, Option<BlockList>)>
+    ensures number { IfSome result (λ found. found.0.number ≡ number) }
+    ensures file { IfSome result (λ found. IsFile found.0 × IfSome found.1 (ArePlaces format found.0.len)) }
+    ensures block { IfSome result (λ found. b.now ≡ file_block format found.0 found.1) }
+    ensures again { (r : FileRec) (online : Option (List ℕ)) → r.number ≡ number → IsFile r
+        → IfSome online (ArePlaces format r.len) → b.now ≡ file_block format r online → result ≡ Some (r, online) }
+{
+    let (r, online) = fields_of(format, b, number)?;
+    if keeps_file(&r)
+        && keep_places(format, r.len, online.as_ref())
+        && encode(format, &r, online.as_ref()) == *b
+    {
+        Some((r, online))
+    } else {
+        None
+    }
+}
+
+/// What stands in the fields of a file's block.
+fn fields_of(format: Format, b: &Block, number: u16) -> Option<(FileRec, Option<BlockList>)>
+    ensures number { IfSome result (λ found. found.0.number ≡ number) }
+    ensures again { (r : FileRec) (online : Option (List ℕ)) → r.number ≡ number → IsFile r
+        → IfSome online (ArePlaces format r.len) → b.now ≡ file_block format r online → result ≡ Some (r, online) }
+{
+    let mut reader = BlockReader::new(b);
+    let _used = reader.take_u8();
+    let owner = reader.take_u8();
+    let local = take_local(&mut reader);
+    let generation = reader.take_u16();
+    let lang = take_lang(&mut reader);
+    let stamp = reader.take_u64();
+    let len = reader.take_u32();
+    let traps = take_traps(&mut reader);
+    let tape = take_copy(&mut reader);
+    let online = take_places(&mut reader, format, len);
+    let r = FileRec {
+        number,
+        owner,
+        local: local?,
+        generation,
+        lang: lang?,
+        stamp,
+        len,
+        traps: traps?,
+        tape,
+    };
+    Some((r, online))
+}
+
+fn keeps_file(r: &FileRec) -> bool
+    ensures { IsTrue result ↔ IsFile r.now }
+{
+    let _word = r.local.as_slice();
+    let _characters = r.lang.as_slice();
+    let least = 1 <= r.generation && r.stamp < 1 << 62;
+    least
+        && r.generation <= 4095
+        && r.len <= 65_536
+        && keep_traps(r.owner, &r.traps)
+        && keeps_copy(r.tape)
+}
+
+fn keep_traps(owner: u8, traps: &Traps) -> bool
+    ensures cases { IsTrue result ↔ (AreSets traps.now × (lacks owner traps.now.others ≡ true)) }
+    ensures others { IsOthers traps.now.others }
+{
+    let _owner_modes = traps.owner_modes().bits();
+    are_sets(traps.others()) && lack(owner, traps.others())
+}
+
+/// Whether the modes are sets, as all that a program makes are.
+fn are_sets(others: &[(u8, Modes)]) -> bool
+    ensures { result ≡ list_all (λ pair. nat_lt pair.1 32) others.now }
+{
+    others.iter().all(|(_, modes)| modes.bits() < 32)
+}
+
+fn lack(owner: u8, others: &[(u8, Modes)]) -> bool
+    ensures { result ≡ lacks owner others.now }
+{
+    others.iter().all(|(user, _)| *user != owner)
+}
+
+fn keeps_copy(tape: Option<TapeCopy>) -> bool
+    ensures { IsTrue result ↔ IfSome tape IsCopy }
+{
+    match tape {
+        None => true,
+        Some(copy) => (1..=999_999).contains(&copy.serial),
+    }
+}
+
+fn keep_places(format: Format, len: u32, online: Option<&BlockList>) -> bool
+    ensures { IsTrue result ↔ IfSome (option_copied online.entry) (ArePlaces format len) }
+{
+    match online {
+        None => true,
+        Some(places) => u32::try_from(places.as_slice().len()) == Ok(blocks_for(len))
+            && are_places(format, places.as_slice()),
+    }
+}
+
+fn are_places(format: Format, places: &[u32]) -> bool
+    ensures { result ≡ list_all (is_place format) places.now }
+{
+    let end = match format {
+        Format::One => 65_536,
+        Format::Two => 16_777_216,
+    };
+    places.iter().all(|place| *place < end)
+}

@@ -1,0 +1,19 @@
+//! The head of a directory.
+
+/// A dump that is open, or was when the system went down: its reel, the place of its first block there, and its number.
+#[derive(Clone, Copy, Debug, PartialEq, Eq)]
+pub struct Intent {
+    pub serial: u32,
+    pub place: u32,
+    pub number: u64,
+}
+
+/// What a directory says besides its users and files.
+#[derive(Clone, Copy, Debug, PartialEq, Eq)]
+pub struct Head {
+    /// The stamp of the version that is made next.
+    pub next_stamp: u64,
+    /// The number of the last dump, or 0.
+    pub last_dump: u64,
+    pub intent: Option<Intent>,
+}

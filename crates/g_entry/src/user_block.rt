@@ -1,0 +1,115 @@
+//! The block of a user, written and read.
+ghost use Rattle.std.specs.Prelude.{◌≡◌, ◌↔◌, IsTrue, IfSome, IfNone, Some};
+ghost use Rattle.g_entry.specs.Formats.{IsMoney};
+ghost use Rattle.g_entry.specs.UserFields.{IsUser, user_block};
+
+use crate::put::{put_money, put_word};
+use crate::take::{take_money, take_user};
+use crate::{Format, UserRec};
+use g_base::{Block, BlockReader, BlockWriter};
+
+/// The block of a user.
+pub fn encode_user(r: &UserRec) -> Block
+    requires { IsUser Format.Two r.now }
+    ensures { result ≡ user_block Format.Two 0 r.now }
+{
+    encode(Format::Two, r)
+}
+
+/// The user of this number whose block it is. None exactly where no user has that block.
+pub fn decode_user(b: &Block, number: u8) -> Option<UserRec>
+    ensures found { IfSome result (λ r. (r.number ≡ number) × IsUser Format.Two r × (b.now ≡ user_block Format.Two 0 r)) }
+    ensures none { IfNone result ((r : UserRec) → r.number ≡ number → IsUser Format.Two r → b.now ≡ user_block Format.Two 0 r → ⊥) }
+
+    // What was written is read back, so a user has one block.
+    ensures again { (r : UserRec) → r.number ≡ number → IsUser Format.Two r → b.now ≡ user_block Format.Two 0 r → result ≡ Some r }
+{
+    decode(Format::Two, b, number)
+}
+
+/// The block of a user in the first format, which has no MONEY: it has to be 1,000,000.
+pub fn encode_user_1(r: &UserRec) -> Block
+    requires { IsUser Format.One r.now }
+    ensures { result ≡ user_block Format.One 0 r.now }
+{
+    encode(Format::One, r)
+}
+
+/// The user of this number whose block in the first format it is, with MONEY 1,000,000. None exactly where no user has
+/// that block.
+pub fn decode_user_1(b: &Block, number: u8) -> Option<UserRec>
+    ensures found { IfSome result (λ r. (r.number ≡ number) × IsUser Format.One r × (b.now ≡ user_block Format.One 0 r)) }
+    ensures none { IfNone result ((r : UserRec) → r.number ≡ number → IsUser Format.One r → b.now ≡ user_block Format.One 0 r → ⊥) }
+
+    // What was written is read back, so a user has one block.
+    ensures again { (r : UserRec) → r.number ≡ number → IsUser Format.One r → b.now ≡ user_block Format.One 0 r → result ≡ Some r }
+{
+    decode(Format::One, b, number)
+}
+
+#[tactic(auto, using(crate::proofs::FieldLemmas::field_lengths, crate::proofs::FieldLemmas::name_lengths), unfolding(crate::specs::UserFields::user_fields))]
+fn encode(format: Format, r: &UserRec) -> Block
+    requires { IsUser format r.now }
+    ensures { result ≡ user_block format 0 r.now }
+{
+    let mut writer = BlockWriter::new();
+    writer.put_u8(1);
+    put_word(&mut writer, r.user.as_slice());
+    writer.put_u8(r.superior);
+    writer.put_u32(r.space);
+    writer.put_u64(r.time);
+    writer.put_u8(0);
+    put_money(&mut writer, format, r.money);
+    writer.finish()
+}
+
+fn decode(format: Format, b: &Block, number: u8) -> Option<UserRec>
+    ensures found { IfSome result (λ r. (r.number ≡ number) × IsUser format r × (b.now ≡ user_block format 0 r)) }
+    ensures again { (r : UserRec) → r.number ≡ number → IsUser format r → b.now ≡ user_block format 0 r → result ≡ Some r }
+{
+    let r = fields_of(format, b, number)?;
+    if keeps_limits(format, &r) && encode(format, &r) == *b {
+        Some(r)
+    } else {
+        None
+    }
+}
+
+/// What stands in the fields of a user's block.
+fn fields_of(format: Format, b: &Block, number: u8) -> Option<UserRec>
+    ensures number { IfSome result (λ r. r.number ≡ number) }
+    ensures again { (r : UserRec) → r.number ≡ number → IsUser format r → b.now ≡ user_block format 0 r → result ≡ Some r }
+{
+    let mut reader = BlockReader::new(b);
+    let _used = reader.take_u8();
+    let user = take_user(&mut reader);
+    let superior = reader.take_u8();
+    let space = reader.take_u32();
+    let time = reader.take_u64();
+    let _held = reader.take_u8();
+    let money = take_money(&mut reader, format);
+    Some(UserRec {
+        number,
+        user: user?,
+        superior,
+        space,
+        time,
+        money,
+    })
+}
+
+fn keeps_limits(format: Format, r: &UserRec) -> bool
+    ensures { IsTrue result ↔ IsUser format r.now }
+{
+    let _word = r.user.as_slice();
+    r.space <= 65_535 && r.time <= 1_000_000_000 && is_money(format, r.money)
+}
+
+fn is_money(format: Format, money: u64) -> bool
+    ensures { IsTrue result ↔ IsMoney format money }
+{
+    match format {
+        Format::One => money == 1_000_000,
+        Format::Two => money <= 1_000_000_000,
+    }
+}

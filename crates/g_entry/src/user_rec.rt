@@ -1,0 +1,32 @@
+//! The record of a user.
+ghost use Rattle.std.specs.Prelude.{◌≡◌};
+
+use g_name::User;
+
+/// A user, whose number is the place of the record among those of users. SPACE counts blocks of 512 bytes, TIME units.
+#[derive(Debug, Drop, PartialEq, Eq)]
+pub struct UserRec {
+    pub number: u8,
+    pub user: User,
+    /// The superior's number.
+    pub superior: u8,
+    pub space: u32,
+    pub time: u64,
+    pub money: u64,
+}
+
+impl UserRec {
+    /// The same record once more, which takes no memory.
+    pub fn copy(&self) -> UserRec
+        ensures { result ≡ self.now }
+    {
+        UserRec {
+            number: self.number,
+            user: self.user.copy(),
+            superior: self.superior,
+            space: self.space,
+            time: self.time,
+            money: self.money,
+        }
+    }
+}
