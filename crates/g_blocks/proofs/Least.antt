@@ -1,0 +1,82 @@
+-- The free blocks that the search has found so far.
+use Rattle.std.proofs.Common.{◌≡◌, ℕ, ◌+◌, ◌-◌, ◌<◌, ◌⊎◌, List, [], ◌∷◌, ◌++◌, Bool, true, false, not, Some, length, take, All, Contains, slice_get, get_or, sym, ◌∙◌, ap, subst, inl, inr, arith, length-append}
+use Rattle.std.proofs.Math.Seq.{get_or-append_seam}
+use Rattle.std.proofs.lemmas.Bool.{cases_lt}
+use Rattle.std.proofs.lemmas.List.{get_or_append_left}
+use Rattle.std.proofs.lemmas.List.Elements.{All-push, Contains-append_left, Contains-push}
+use Rattle.std.proofs.lemmas.List.Sums.{count_by_more_yes, count_by_more_no}
+use Rattle.std.proofs.lemmas.Option.{slice_get-get_or, get_or_from_slice_get}
+use Rattle.std.specs.List.Sorted.{IsStrictlyIncreasing}
+use Rattle.g_blocks.specs.declared.pool.TheConstants.{FIRST_COPY_BLOCK}
+use Rattle.g_blocks.specs.Flags.{free_flags}
+use Rattle.g_blocks.specs.Pool.{IsFree}
+
+-- these are the free blocks among the first of the pool
+pub record AreFound (pool : List Bool) (seen : ℕ) (blocks : List ℕ) : Type 0 where
+  pub count : length blocks ≡ free_flags (take seen pool)
+  pub rising : IsStrictlyIncreasing blocks
+  pub free : All (IsFree pool) blocks
+  pub below : All (λ block. block < FIRST_COPY_BLOCK + seen) blocks
+  pub all : (block : ℕ) → IsFree pool block → block < FIRST_COPY_BLOCK + seen → Contains blocks block
+
+-- the block at the next place is the only one below the bound that wasn't below it before
+below_or_next : (block seen : ℕ) → block < FIRST_COPY_BLOCK + (seen + 1) → (block < FIRST_COPY_BLOCK + seen) ⊎ (block ≡ FIRST_COPY_BLOCK + seen)
+below_or_next block seen h = search arith
+
+-- a number behind all others keeps them rising
+rising-push : (numbers : List ℕ) (x : ℕ) → IsStrictlyIncreasing numbers → All (λ n. n < x) numbers → IsStrictlyIncreasing (numbers ++ x ∷ [])
+rising-push numbers x rising below k h =
+    let within : k < length numbers = omega (arith, length-append numbers (x ∷ []), h) in
+    let first : get_or (numbers ++ x ∷ []) k 0 ≡ get_or numbers k 0 = get_or_append_left numbers (x ∷ []) 0 k within in
+    elim (cases_lt (k + 1) (length numbers)) [
+      | inl more ↦
+          let second : get_or (numbers ++ x ∷ []) (k + 1) 0 ≡ get_or numbers (k + 1) 0 = get_or_append_left numbers (x ∷ []) 0 (k + 1) more in
+          let rises : get_or numbers k 0 < get_or numbers (k + 1) 0 = rising k more in
+          omega (arith, first, second, rises)
+      | inr last ↦
+          let end : k + 1 ≡ length numbers = omega arith in
+          let second : get_or (numbers ++ x ∷ []) (k + 1) 0 ≡ x = subst (λ (i : ℕ). get_or (numbers ++ x ∷ []) i 0 ≡ x) (sym end) (get_or-append_seam numbers x [] 0) in
+          let under : get_or numbers k 0 < x = below k 0 within in
+          omega (arith, first, second, under)
+    ]
+
+-- The next block of the pool was free, and was put behind the others; or it was taken.
+pub AreFound-free : (pool : List Bool) (seen : ℕ) (blocks : List ℕ) → AreFound pool seen blocks → seen < length pool → get_or pool seen false ≡ false → AreFound pool (seen + 1) (blocks ++ (FIRST_COPY_BLOCK + seen) ∷ [])
+AreFound-free pool seen blocks found within is =
+    let block = FIRST_COPY_BLOCK + seen in
+    let passes : not (get_or pool seen false) ≡ true = ap not is in
+    let more = count_by_more_yes not pool seen false within passes in
+    let place : block - FIRST_COPY_BLOCK ≡ seen = omega arith in
+    let here : slice_get pool seen ≡ Some false = slice_get-get_or pool seen false within ∙ ap Some is in
+    let free : IsFree pool block = record { low = omega arith; flag = subst (λ i. slice_get pool i ≡ Some false) (sym place) here } in
+    let earlier : All (λ b. b < FIRST_COPY_BLOCK + (seen + 1)) blocks = λ k d h. omega (arith, found.below k d h) in
+    record {
+      count = omega (arith, length-append blocks (block ∷ []), more, found.count);
+      rising = rising-push blocks block found.rising found.below;
+      free = All-push (IsFree pool) blocks block found.free free;
+      below = All-push (λ b. b < FIRST_COPY_BLOCK + (seen + 1)) blocks block earlier (omega arith);
+      all = λ other is_free h.
+          elim (below_or_next other seen h) [
+            | inl b ↦ Contains-append_left _ _ _ (found.all other is_free b)
+            | inr e ↦ subst (Contains (blocks ++ block ∷ [])) (sym e) (Contains-push blocks block)
+          ];
+    }
+
+pub AreFound-taken : (pool : List Bool) (seen : ℕ) (blocks : List ℕ) → AreFound pool seen blocks → seen < length pool → get_or pool seen false ≡ true → AreFound pool (seen + 1) blocks
+AreFound-taken pool seen blocks found within is =
+    let fails : not (get_or pool seen false) ≡ false = ap not is in
+    let same = count_by_more_no not pool seen false within fails in
+    record {
+      count = omega (arith, same, found.count);
+      rising = found.rising;
+      free = found.free;
+      below = λ k d h. omega (arith, found.below k d h);
+      all = λ other is_free h.
+          elim (below_or_next other seen h) [
+            | inl b ↦ found.all other is_free b
+            | inr e ↦
+                let place : other - FIRST_COPY_BLOCK ≡ seen = omega arith in
+                let clear : get_or pool seen false ≡ false = get_or_from_slice_get pool seen false false (subst (λ i. slice_get pool i ≡ Some false) place is_free.flag) in
+                absurd (cc)
+          ];
+    }

@@ -1,0 +1,6 @@
+-- Of a pool without taken blocks just the used ones were taken.
+use Rattle.g_blocks.proofs.Marks.{IsFresh-taken}
+use Rattle.g_blocks.proofs.pool.Pool.new.Goals as goal
+
+pub returns-clause-ok : goal.returns-clause-ok
+returns-clause-ok c = IsFresh-taken _ _ _ _ c.requires.low c.in_ok-pool.ensures c.mark_all_taken.ensures

@@ -1,0 +1,148 @@
+// The pool of copy blocks: a flag for each, and how many are free.
+ghost use Rattle.std.specs.Prelude.{◌≡◌, ◌≢◌, ◌+◌, ◌-◌, ◌<◌, ◌≤◌, ◌↔◌, ◌⊎◌, All, AllPairs, IfOk, IfErr, OnErr, IsErrOf, IsOkUnless, slice_set, replicate, length, true, false};
+
+use crate::free::least_free;
+use std::alloc::{AllocError, Global};
+use std::marker::Model;
+use thiserror::Error;
+
+/// The number of the first copy block. Before it stand the gate and two slots of 1,088 blocks each.
+pub const FIRST_COPY_BLOCK: u32 = 2_177;
+
+/// The most blocks of a disc.
+pub const MAX_DISC_BLOCKS: u32 = 1_048_576;
+
+/// Why a pool is not made, or gives no blocks. Both leave all as before.
+#[derive(Clone, Copy, Debug, PartialEq, Eq, Error)]
+pub enum PoolFault {
+    /// More blocks are needed than are free.
+    #[error("DISC FULL {need} {room}")]
+    DiscFull { need: u32, room: u32 },
+    #[error("no memory")]
+    NoMemory,
+}
+
+impl From<AllocError> for PoolFault {
+    ghost use Rattle.std.specs.Prelude.{◌≡◌};
+    ghost use Rattle.g_blocks.specs.declared.pool.PoolFault.TheVariants.{NoMemory};
+
+    ghost from_gives = { λ _ fault. fault ≡ NoMemory };
+
+    fn from(_error: AllocError) -> PoolFault {
+        PoolFault::NoMemory
+    }
+}
+
+/// The copy blocks of one disc. Contracts see the list of their flags, true where a block is taken:
+/// the flag at place i is that of block `FIRST_COPY_BLOCK + i`.
+#[derive(Drop)]
+pub struct Pool {
+    taken: Vec<bool>,
+    free: u32,
+}
+
+impl Model for Pool {
+    ghost use Rattle.std.specs.Prelude.{◌≡◌, ◌+◌, ◌≤◌, List, Bool, length};
+    ghost use Rattle.g_blocks.specs.Flags.{free_flags};
+
+    ghost Value = { List Bool };
+
+    ghost view = { λ pool. pool.taken.items };
+
+    ghost invariant = { λ pool. (pool.free ≡ free_flags pool.taken.items) × (2177 + length pool.taken.items ≤ 1_048_576) };
+}
+
+impl Pool {
+    ghost use Rattle.g_blocks.specs.Pool.{IsInArea, IsFree, IsTaken, HasTaken, HasGiven, AreLeastFree, IsFresh, free_count};
+
+    /// The pool of a disc of `size` blocks, on which these copy blocks are used.
+    pub fn new(alloc: Global, size: u32, used: &[u32]) -> Result<Pool, PoolFault>
+        requires low { FIRST_COPY_BLOCK < size }
+        requires high { size ≤ MAX_DISC_BLOCKS }
+        requires area { All (IsInArea size) used.now }
+        requires apart { AllPairs (λ one other. one ≢ other) used.now }
+        ensures ok { IfOk result (IsFresh size used.now) }
+        ensures err { IsOkUnless result PoolFault.NoMemory }
+    {
+        let mut pool = Pool::all_free(alloc, size - FIRST_COPY_BLOCK)?;
+        pool.mark_all_taken(used);
+        Ok(pool)
+    }
+
+    /// How many blocks are free.
+    pub fn free(&self) -> u32
+        ensures { result ≡ free_count self.now }
+    {
+        self.free
+    }
+
+    /// Takes the n least free blocks, in rising order. Room for all of them is looked for first: where
+    /// there isn't enough, or no memory for the list, no block is taken.
+    pub fn take(&mut self, alloc: Global, n: u32) -> Result<Vec<u32>, PoolFault>
+        ensures least { IfOk result (λ blocks. AreLeastFree self.old n blocks.items) }
+        ensures taken { IfOk result (λ blocks. HasTaken blocks.items self.old self.new) }
+        ensures full { IsErrOf result (PoolFault.DiscFull n (free_count self.old)) ↔ (free_count self.old < n) }
+        ensures fault { IfErr result (λ fault. (fault ≡ PoolFault.NoMemory) ⊎ (fault ≡ PoolFault.DiscFull n (free_count self.old))) }
+        ensures err { OnErr result (self.new ≡ self.old) }
+    {
+        if self.free < n {
+            return Err(PoolFault::DiscFull {
+                need: n,
+                room: self.free,
+            });
+        }
+        let blocks = least_free(alloc, &self.taken, n as usize)?;
+        self.mark_all_taken(&blocks);
+        Ok(blocks)
+    }
+
+    /// Gives blocks back.
+    pub fn give(&mut self, blocks: &[u32])
+        requires apart { AllPairs (λ one other. one ≢ other) blocks.now }
+        requires taken { All (IsTaken self.old) blocks.now }
+        ensures { HasGiven blocks.now self.old self.new }
+    {
+        for block in blocks {
+            self.mark_free(*block);
+        }
+    }
+
+    /// A pool of this many blocks, none of them taken.
+    fn all_free(alloc: Global, blocks: u32) -> Result<Pool, AllocError>
+        requires { FIRST_COPY_BLOCK + blocks ≤ MAX_DISC_BLOCKS }
+        ensures { IfOk result (λ pool. pool ≡ replicate blocks false) }
+    {
+        Ok(Pool {
+            taken: vec![in alloc; false; blocks as usize]?,
+            free: blocks,
+        })
+    }
+
+    fn mark_all_taken(&mut self, blocks: &[u32])
+        requires apart { AllPairs (λ one other. one ≢ other) blocks.now }
+        requires free { All (IsFree self.old) blocks.now }
+        ensures { HasTaken blocks.now self.old self.new }
+    {
+        for block in blocks {
+            self.mark_taken(*block);
+        }
+    }
+
+    fn mark_taken(&mut self, block: u32)
+        requires { IsFree self.old block }
+        ensures flags { self.new ≡ slice_set self.old (block - FIRST_COPY_BLOCK) true }
+        ensures count { free_count self.new + 1 ≡ free_count self.old }
+    {
+        self.taken[(block - FIRST_COPY_BLOCK) as usize] = true;
+        self.free -= 1;
+    }
+
+    fn mark_free(&mut self, block: u32)
+        requires { IsTaken self.old block }
+        ensures flags { self.new ≡ slice_set self.old (block - FIRST_COPY_BLOCK) false }
+        ensures count { free_count self.new ≡ free_count self.old + 1 }
+    {
+        self.taken[(block - FIRST_COPY_BLOCK) as usize] = false;
+        self.free += 1;
+    }
+}

@@ -1,0 +1,55 @@
+// The choice itself: one pass over the standings, that keeps the first of the least.
+ghost use Rattle.g_sched.specs.Choice.{IsChosen, IsNoLater};
+ghost use Rattle.g_sched.specs.Rule.{IsWeighRule, IsInRange};
+ghost use Rattle.std.specs.Prelude.{◌≡◌, ◌⊎◌, ◌<◌, ◌≤◌, ◌↔◌, All, [], IfSome, IsNone, IsTrue, Some, false};
+
+use crate::rule::{Standing, WeighRule};
+
+/// A standing's place in the list, with what it is chosen by.
+#[derive(Clone, Copy)]
+struct Candidate {
+    place: usize,
+    weight: u64,
+    number: u64,
+}
+
+impl Candidate {
+    /// Whether this one may go before the other: by weight, then by number.
+    fn is_no_later(&self, other: &Candidate) -> bool
+        ensures yes { IsTrue result → IsNoLater self.now.weight self.now.number other.now.weight other.now.number }
+        ensures no { (result ≡ false) → IsNoLater other.now.weight other.now.number self.now.weight self.now.number }
+    {
+        (self.weight, self.number) <= (other.weight, other.number)
+    }
+}
+
+/// The place of the standing of least weight, and among those of least weight of the least number.
+pub fn choose<U: Fn(&Standing) -> u64>(rule: &WeighRule<U>, list: &[Standing]) -> Option<usize>
+    requires rule { IsWeighRule U.Fn rule.now }
+    requires in_range { All IsInRange list.now }
+    ensures none { IsNone result ↔ (list.now ≡ []) }
+    ensures chosen { IfSome result (IsChosen U.Fn rule.now list.now) }
+{
+    let mut best: Option<Candidate> = None;
+    for (place, standing) in list.iter().enumerate() {
+        let candidate = Candidate {
+            place,
+            weight: rule.weight(standing),
+            number: standing.number,
+        };
+        best = Some(earlier(best, candidate));
+    }
+    best.map(|candidate| candidate.place)
+}
+
+/// Which of two goes first: the one found before stays where the other doesn't go before it.
+fn earlier(best: Option<Candidate>, candidate: Candidate) -> Candidate
+    ensures one { (result ≡ candidate) ⊎ (best ≡ Some result) }
+    ensures before { IsNoLater result.weight result.number candidate.weight candidate.number }
+    ensures before_best { IfSome best (λ b. IsNoLater result.weight result.number b.weight b.number) }
+{
+    match best {
+        Some(best) if best.is_no_later(&candidate) => best,
+        _ => candidate,
+    }
+}
