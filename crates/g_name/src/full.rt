@@ -1,7 +1,10 @@
 //! Full names of files.
-ghost use Rattle.std.specs.Prelude.{◌≡◌};
+ghost use Rattle.std.specs.Prelude.{◌≡◌, IfOk};
+ghost use Rattle.g_name.specs.Names.{name_text, full_name};
 
-use crate::{Lang, Local, User};
+use crate::{Lang, Local, Text, User};
+use g_base::NoMemory;
+use std::alloc::Global;
 
 /// The full name of a file: `:USER.NAME(generation/LANG)`. The order is by user, local name, generation and language.
 #[derive(Debug, Drop, PartialEq, Eq, PartialOrd, Ord, Hash)]
@@ -24,5 +27,23 @@ impl Full {
             generation: self.generation,
             lang: self.lang.copy(),
         }
+    }
+
+    /// The text of the full name, with the trailing spaces of the language dropped: `:MASTER.F(1/)`. As a path it is read back.
+    pub fn print(&self, alloc: Global) -> Result<Text, NoMemory>
+        ensures { IfOk result (λ t. t ≡ name_text (full_name self.now)) }
+    {
+        let generation = format!(in alloc; "{}", self.generation)?;
+        let mut text = Text::new(alloc);
+        text.extend(b":")?;
+        text.extend(self.user.as_slice())?;
+        text.extend(b".")?;
+        text.extend(self.local.as_slice())?;
+        text.extend(b"(")?;
+        text.extend(generation.as_bytes())?;
+        text.extend(b"/")?;
+        text.extend(self.lang.as_slice())?;
+        text.extend(b")")?;
+        Ok(text)
     }
 }

@@ -1,7 +1,10 @@
 //! Which characters and words names are made of.
 ghost use Rattle.std.specs.Prelude.{◌≡◌, ◌≤◌, length};
 ghost use Rattle.std.specs.List.{list_all};
+ghost use Rattle.g_name.specs.BadPlace.{IsBadPlace};
 ghost use Rattle.g_name.specs.Grammar as grammar;
+ghost use Rattle.g_name.specs.Names.{IsLocalText};
+ghost use Rattle.g_name.specs.Words as words;
 
 use arrayvec::ArrayVec;
 
@@ -41,6 +44,28 @@ fn are_name_chars(text: &[u8]) -> bool
     ensures { result ≡ list_all grammar.is_name_char text.now }
 {
     text.iter().all(|byte| is_name_char(*byte))
+}
+
+/// Whether the byte may come next in a word.
+pub fn extends(word: &[u8], byte: u8) -> bool
+    ensures { result ≡ words.extends word.now byte }
+{
+    match word.split_first() {
+        None => is_letter(byte),
+        Some((_, others)) => is_name_char(byte) && others.len() < 11,
+    }
+}
+
+/// The place where a text goes wrong as a word; where it is one, its length.
+pub fn word_end(text: &[u8]) -> usize
+    ensures { IsBadPlace IsLocalText text.now result }
+{
+    for (place, byte) in text.iter().enumerate() {
+        if !extends(&text[..place], *byte) {
+            return place;
+        }
+    }
+    text.len()
 }
 
 /// The characters of a text in a list of their own, which takes no memory.

@@ -49,6 +49,14 @@ impl Lang {
         }
     }
 
+    /// The name of characters that were looked at already.
+    pub(crate) fn from_characters(characters: ArrayVec<u8, 4>) -> Lang
+        requires { is_lang characters.items ≡ true }
+        ensures { result ≡ characters.items }
+    {
+        Lang { characters }
+    }
+
     /// The characters, without spaces behind them.
     pub fn as_slice(&self) -> &[u8]
         ensures characters { result.now ≡ self.now }

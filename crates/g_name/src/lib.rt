@@ -6,7 +6,11 @@ mod full;
 mod grammar;
 mod lang;
 mod local;
+mod parse;
 mod path;
+mod path_reader;
+#[cfg(test)]
+mod tests;
 mod text;
 mod user;
 
@@ -14,6 +18,7 @@ pub use bad_name::BadName;
 pub use full::Full;
 pub use lang::Lang;
 pub use local::Local;
+pub use parse::parse_path;
 pub use path::Path;
 pub use text::Text;
 pub use user::User;

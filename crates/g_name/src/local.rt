@@ -1,8 +1,10 @@
 //! Local names of files.
-ghost use Rattle.std.specs.Prelude.{◌≡◌, true, ◌↔◌, IsSome, IfSome};
+ghost use Rattle.std.specs.Prelude.{◌≡◌, true, ◌↔◌, IsSome, IfSome, IfOk, IfErr, false};
+ghost use Rattle.g_name.specs.BadPlace.{IsBadPlace};
 ghost use Rattle.g_name.specs.Grammar.{is_word};
+ghost use Rattle.g_name.specs.Names.{IsLocalText};
 
-use crate::grammar;
+use crate::{BadName, grammar};
 use arrayvec::ArrayVec;
 use std::marker::Model;
 
@@ -38,6 +40,27 @@ impl Local {
         } else {
             None
         }
+    }
+
+    /// The local name that a text is.
+    pub fn parse(text: &[u8]) -> Result<Local, BadName>
+        ensures ok { IfOk result (λ l. (is_word text.now ≡ true) × (l ≡ text.now)) }
+        ensures err { IfErr result (λ e. (is_word text.now ≡ false) × IsBadPlace IsLocalText text.now e.place) }
+    {
+        match Local::new(text) {
+            Some(local) => Ok(local),
+            None => Err(BadName {
+                place: grammar::word_end(text),
+            }),
+        }
+    }
+
+    /// The name of characters that were looked at already.
+    pub(crate) fn from_word(word: ArrayVec<u8, 12>) -> Local
+        requires { is_word word.items ≡ true }
+        ensures { result ≡ word.items }
+    {
+        Local { word }
     }
 
     /// The characters.

@@ -1,8 +1,10 @@
 //! Names of users.
-ghost use Rattle.std.specs.Prelude.{◌≡◌, true, ◌↔◌, IsSome, IfSome, codes};
-ghost use Rattle.g_name.specs.Grammar.{is_word};
+ghost use Rattle.std.specs.Prelude.{◌≡◌, true, ◌↔◌, IsSome, IfSome, IfOk, IfErr, false, ◌∷◌, codes};
+ghost use Rattle.g_name.specs.BadPlace.{IsBadPlace};
+ghost use Rattle.g_name.specs.Grammar.{is_word, is_user_text};
+ghost use Rattle.g_name.specs.Names.{IsUserText};
 
-use crate::grammar;
+use crate::{BadName, grammar};
 use arrayvec::ArrayVec;
 use std::marker::Model;
 
@@ -40,6 +42,25 @@ impl User {
         }
     }
 
+    /// The user that a text with a colon is.
+    pub fn parse(text: &[u8]) -> Result<User, BadName>
+        ensures ok { IfOk result (λ u. (is_user_text text.now ≡ true) × (text.now ≡ 58 ∷ u)) }
+        ensures err { IfErr result (λ e. (is_user_text text.now ≡ false) × IsBadPlace IsUserText text.now e.place) }
+    {
+        let Some((first, word)) = text.split_first() else {
+            return Err(BadName { place: 0 });
+        };
+        if *first != b':' {
+            return Err(BadName { place: 0 });
+        }
+        match User::new(word) {
+            Some(user) => Ok(user),
+            None => Err(BadName {
+                place: 1 + grammar::word_end(word),
+            }),
+        }
+    }
+
     /// `MASTER`, the first user, which is its own superior.
     pub fn master() -> User
         ensures { result ≡ codes "MASTER" }
@@ -56,6 +77,14 @@ impl User {
         User {
             word: grammar::copied(b"MACROS"),
         }
+    }
+
+    /// The name of characters that were looked at already.
+    pub(crate) fn from_word(word: ArrayVec<u8, 12>) -> User
+        requires { is_word word.items ≡ true }
+        ensures { result ≡ word.items }
+    {
+        User { word }
     }
 
     /// The characters.

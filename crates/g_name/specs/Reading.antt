@@ -1,0 +1,89 @@
+-- What a reader of paths does with each byte.
+use Rattle.std.specs.Prelude.{ℕ, ◌+◌, ◌-◌, ◌*◌, Bool, true, false, not, ◌&&◌, ◌==◌, nat_le, List, [], ◌∷◌, ◌++◌, Option, Some, None, if◌then◌else◌}
+use Rattle.g_name.specs.Grammar.{is_digit}
+use Rattle.g_name.specs.Words.{is_empty, extends, extends_lang}
+use Rattle.g_name.specs.Names.{Name}
+use Rattle.g_name.specs.declared.path_reader.Part.{Part}
+use Rattle.g_name.specs.declared.path_reader.Part.TheVariants.{User, Local, Generation, Lang, Closed, LangClosed}
+use Rattle.g_name.specs.declared.path_reader.PathReader.{PathReader}
+
+-- a generation with one more digit
+abbrev pub with_digit : ℕ → ℕ → ℕ
+with_digit generation byte = 10 * generation + (byte - 48)
+
+abbrev pub is_generation : ℕ → Bool
+is_generation n = nat_le 1 n && nat_le n 4095
+
+abbrev pub with_part : PathReader → Part → PathReader
+with_part r part = record r { part = part }
+
+-- each part, and what of it a byte can be
+abbrev pub step_user : ℕ → PathReader → Option PathReader
+step_user byte r =
+    if extends r.user.items byte then Some (record r { user = record { items = r.user.items ++ byte ∷ [] } })
+    else if byte == 46 && not (is_empty r.user.items) then Some (with_part r Local)
+    else None
+
+abbrev pub step_local : ℕ → PathReader → Option PathReader
+step_local byte r =
+    if extends r.local.items byte then Some (record r { local = record { items = r.local.items ++ byte ∷ [] } })
+    else if byte == 58 && is_empty r.user.items && is_empty r.local.items then Some (with_part r User)
+    else if byte == 40 && not (is_empty r.local.items) then Some (with_part r Generation)
+    else None
+
+abbrev pub step_generation : ℕ → PathReader → Option PathReader
+step_generation byte r =
+    if is_digit byte && is_generation (with_digit r.generation byte) then Some (record r { generation = with_digit r.generation byte })
+    else if byte == 47 then Some (with_part r Lang)
+    else if byte == 41 && not (r.generation == 0) then Some (with_part r Closed)
+    else None
+
+abbrev pub step_lang : ℕ → PathReader → Option PathReader
+step_lang byte r =
+    if extends_lang r.lang.items byte then Some (record r { lang = record { items = r.lang.items ++ byte ∷ [] } })
+    else if byte == 41 then Some (with_part r LangClosed)
+    else None
+
+abbrev pub step_in : Part → ℕ → PathReader → Option PathReader
+step_in User byte r = step_user byte r
+step_in Local byte r = step_local byte r
+step_in Generation byte r = step_generation byte r
+step_in Lang byte r = step_lang byte r
+step_in Closed byte r = None
+step_in LangClosed byte r = None
+
+abbrev pub step : ℕ → PathReader → Option PathReader
+step byte r = step_in r.part byte r
+
+abbrev pub start : PathReader
+start = record { part = Local; user = record { items = [] }; local = record { items = [] }; generation = 0; lang = record { items = [] } }
+
+-- a path may end here
+abbrev pub may_end : Part → Bool → Bool
+may_end Local has_local = has_local
+may_end Closed has_local = true
+may_end LangClosed has_local = true
+may_end _ has_local = false
+
+abbrev pub is_whole : PathReader → Bool
+is_whole r = may_end r.part (not (is_empty r.local.items))
+
+abbrev pub user_read : List ℕ → Option (List ℕ)
+user_read [] = None
+user_read (first ∷ others) = Some (first ∷ others)
+
+abbrev pub generation_read : ℕ → Option ℕ
+generation_read n = if n == 0 then None else Some n
+
+abbrev pub lang_read : Part → List ℕ → Option (List ℕ)
+lang_read LangClosed lang = Some lang
+lang_read _ lang = None
+
+-- what has been read
+abbrev pub name_read : PathReader → Name
+name_read r = record {
+  user = user_read r.user.items;
+  local = r.local.items;
+  generation = generation_read r.generation;
+  lang = lang_read r.part r.lang.items;
+}

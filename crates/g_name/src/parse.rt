@@ -1,0 +1,26 @@
+//! From the text of a name to the path that it is.
+ghost use Rattle.std.specs.Prelude.{◌≡◌, IfOk, IfErr, IsOkAnd};
+ghost use Rattle.g_name.specs.BadPlace.{IsBadPlace};
+ghost use Rattle.g_name.specs.Names.{Name, IsName, IsNameText, name_text, path_name};
+
+use crate::path_reader::PathReader;
+use crate::{BadName, Path};
+
+/// The path that a text is.
+///
+/// A text that isn't in the grammar of names is refused with the place where it goes wrong.
+pub fn parse_path(text: &[u8]) -> Result<Path, BadName>
+    ensures ok { IfOk result (λ p. IsName (path_name p) × (text.now ≡ name_text (path_name p))) }
+    ensures err { IfErr result (λ e. IsBadPlace IsNameText text.now e.place) }
+
+    // The text of a name is read as that name.
+    ensures read { (n : Name) → IsName n → text.now ≡ name_text n → IsOkAnd result (λ p. path_name p ≡ n) }
+{
+    let mut reader = PathReader::new();
+    for (place, byte) in text.iter().enumerate() {
+        if !reader.take(*byte) {
+            return Err(BadName { place });
+        }
+    }
+    reader.path().ok_or(BadName { place: text.len() })
+}

@@ -1,0 +1,201 @@
+//! A reader of paths that takes one byte at a time.
+ghost use Rattle.std.specs.Prelude.{◌≡◌, ◌↔◌, ◌&&◌, true, if◌then◌else◌, Some, None, IsSome, IfSome};
+ghost use Rattle.std.specs.Bool.{OnTrue, OnFalse};
+ghost use Rattle.g_name.specs.Grammar.{is_digit, is_word};
+ghost use Rattle.g_name.specs.Names.{path_name};
+ghost use Rattle.g_name.specs.Reading as reading;
+ghost use Rattle.g_name.specs.ReadingText.{IsReading};
+ghost use Rattle.g_name.specs.Words.{may_be_word};
+
+use crate::grammar::{extends, is_name_char};
+use crate::{Lang, Local, Path, User};
+use arrayvec::ArrayVec;
+
+/// Where in the text of a path a reader stands.
+#[derive(Clone, Copy, Debug, PartialEq, Eq)]
+enum Part {
+    /// Behind the colon.
+    User,
+    /// At the front, or behind the dot.
+    Local,
+    /// Behind the opening bracket.
+    Generation,
+    /// Behind the slash.
+    Lang,
+    /// Behind the closing bracket, with no slash before it.
+    Closed,
+    /// Behind the closing bracket, with a slash before it.
+    LangClosed,
+}
+
+/// What has been read of a path: a part that isn't reached yet is empty, or 0.
+#[derive(Debug, Drop)]
+pub struct PathReader {
+    part: Part,
+    user: ArrayVec<u8, 12>,
+    local: ArrayVec<u8, 12>,
+    generation: u16,
+    lang: ArrayVec<u8, 4>,
+}
+
+impl PathReader {
+    /// Nothing has been read.
+    pub fn new() -> PathReader
+        ensures { result ≡ reading.start }
+    {
+        PathReader {
+            part: Part::Local,
+            user: ArrayVec::new(),
+            local: ArrayVec::new(),
+            generation: 0,
+            lang: ArrayVec::new(),
+        }
+    }
+
+    /// Takes the next byte, if some path goes on with it.
+    pub fn take(&mut self, byte: u8) -> bool
+        ensures taken { OnTrue result (reading.step byte self.old ≡ Some self.new) }
+        ensures refused { OnFalse result (reading.step byte self.old ≡ None) }
+    {
+        match self.part {
+            Part::User => self.take_user(byte),
+            Part::Local => self.take_local(byte),
+            Part::Generation => self.take_generation(byte),
+            Part::Lang => self.take_lang(byte),
+            Part::Closed | Part::LangClosed => false,
+        }
+    }
+
+    fn take_user(&mut self, byte: u8) -> bool
+        ensures taken { OnTrue result (reading.step_user byte self.old ≡ Some self.new) }
+        ensures refused { OnFalse result (reading.step_user byte self.old ≡ None) }
+    {
+        if extends(self.user.as_slice(), byte) {
+            self.user.push(byte);
+            true
+        } else if byte == b'.' && !self.user.is_empty() {
+            self.part = Part::Local;
+            true
+        } else {
+            false
+        }
+    }
+
+    fn take_local(&mut self, byte: u8) -> bool
+        ensures taken { OnTrue result (reading.step_local byte self.old ≡ Some self.new) }
+        ensures refused { OnFalse result (reading.step_local byte self.old ≡ None) }
+    {
+        if extends(self.local.as_slice(), byte) {
+            self.local.push(byte);
+            true
+        } else if byte == b':' && self.user.is_empty() && self.local.is_empty() {
+            self.part = Part::User;
+            true
+        } else if byte == b'(' && !self.local.is_empty() {
+            self.part = Part::Generation;
+            true
+        } else {
+            false
+        }
+    }
+
+    fn take_generation(&mut self, byte: u8) -> bool
+        ensures taken { OnTrue result (reading.step_generation byte self.old ≡ Some self.new) }
+        ensures refused { OnFalse result (reading.step_generation byte self.old ≡ None) }
+    {
+        if let Some(generation) = with_digit(self.generation, byte) {
+            self.generation = generation;
+            true
+        } else if byte == b'/' {
+            self.part = Part::Lang;
+            true
+        } else if byte == b')' && self.generation != 0 {
+            self.part = Part::Closed;
+            true
+        } else {
+            false
+        }
+    }
+
+    fn take_lang(&mut self, byte: u8) -> bool
+        ensures taken { OnTrue result (reading.step_lang byte self.old ≡ Some self.new) }
+        ensures refused { OnFalse result (reading.step_lang byte self.old ≡ None) }
+    {
+        if is_name_char(byte) && !self.lang.is_full() {
+            self.lang.push(byte);
+            true
+        } else if byte == b')' {
+            self.part = Part::LangClosed;
+            true
+        } else {
+            false
+        }
+    }
+
+    /// The path that was read, if a path may end here.
+    pub fn path(self) -> Option<Path>
+        requires { IsReading self }
+        ensures whole { IsSome result ↔ (reading.is_whole self ≡ true) }
+        ensures value { IfSome result (λ p. path_name p ≡ reading.name_read self) }
+    {
+        match self.part {
+            Part::Local if self.local.is_empty() => None,
+            Part::Local | Part::Closed => Some(self.named(false)),
+            Part::LangClosed => Some(self.named(true)),
+            Part::User | Part::Generation | Part::Lang => None,
+        }
+    }
+
+    /// The path of the parts that were read.
+    fn named(self, has_lang: bool) -> Path
+        requires parts { IsReading self }
+        requires local { is_word self.local.items ≡ true }
+        ensures user { result.user ≡ reading.user_read self.user.items }
+        ensures local { result.local ≡ self.local.items }
+        ensures generation { result.generation ≡ reading.generation_read self.generation }
+        ensures lang { result.lang ≡ (if has_lang then Some self.lang.items else None) }
+    {
+        let lang = Lang::from_characters(self.lang);
+        Path {
+            user: user_of(self.user),
+            local: Local::from_word(self.local),
+            generation: generation_of(self.generation),
+            lang: has_lang.then_some(lang),
+        }
+    }
+}
+
+/// The user of what was read behind the colon, if there was one.
+fn user_of(word: ArrayVec<u8, 12>) -> Option<User>
+    requires { may_be_word word.items ≡ true }
+    ensures { result ≡ reading.user_read word.items }
+{
+    if word.is_empty() {
+        None
+    } else {
+        Some(User::from_word(word))
+    }
+}
+
+/// The generation that was read, if there was one.
+fn generation_of(read: u16) -> Option<u16>
+    ensures { result ≡ reading.generation_read read }
+{
+    (read != 0).then_some(read)
+}
+
+/// The generation with one more digit, where the byte is one and there is such a generation.
+fn with_digit(generation: u16, byte: u8) -> Option<u16>
+    ensures digit { IsSome result ↔ ((is_digit byte && reading.is_generation (reading.with_digit generation byte)) ≡ true) }
+    ensures value { IfSome result (λ g. g ≡ reading.with_digit generation byte) }
+{
+    if !byte.is_ascii_digit() {
+        return None;
+    }
+    let longer = 10 * u32::from(generation) + u32::from(byte - b'0');
+    if (1..=4095).contains(&longer) {
+        u16::try_from(longer).ok()
+    } else {
+        None
+    }
+}

@@ -1,0 +1,2 @@
+pub mod CodingLaws
+pub mod TableLaws

@@ -1,0 +1,53 @@
+//! The words that hold orders, both ways.
+
+ghost use Rattle.std.specs.Prelude.{◌≡◌, ◌<◌, ◌^◌, Some, None, MatchOption, MatchResult, IsOkAnd, IfOk, IfErr, IsTrue};
+ghost use Rattle.g_order.specs.Order.{Fields, is_order, decoded, word_of};
+ghost use Rattle.g_order.specs.Coding.{fields};
+
+use crate::orders::{Order, is_branch};
+use g_word::Word;
+use thiserror::Error;
+
+/// No row of the table has this word.
+#[derive(Clone, Copy, Debug, PartialEq, Eq, Error)]
+#[error("no order has this word")]
+pub struct Illegal(pub Word);
+
+/// The order of a word.
+pub fn decode(word: Word) -> Result<Order, Illegal>
+    ensures value { MatchResult result (λ o. decoded word ≡ Some (fields o)) (λ _. decoded word ≡ None) }
+    ensures refused { IfErr result (λ e. e ≡ record { 0 = word }) }
+    ensures written { IfOk result (λ o. word_of (fields o) ≡ word) }
+    ensures found { (o : Fields) → IsTrue (is_order o.x o.f o.m o.n) → word_of o ≡ word → IsOkAnd result (λ r. fields r ≡ o) }
+{
+    read(word).ok_or(Illegal(word))
+}
+
+/// The order of a word, if it has one.
+fn read(word: Word) -> Option<Order>
+    ensures { MatchOption result (decoded word ≡ None) (λ o. decoded word ≡ Some (fields o)) }
+{
+    let bits = word.value();
+    let x = (bits >> 21) as u8;
+    let f = ((bits >> 14) % 0x80) as u8;
+    if is_branch(f) {
+        let f = ((bits >> 15) % 0x40) as u8 * 2;
+        Order::new(x, f, 0, (bits % 0x8000) as u16)
+    } else {
+        let m = ((bits >> 12) % 4) as u8;
+        Order::new(x, f, m, (bits % 0x1000) as u16)
+    }
+}
+
+/// The word of an order.
+pub fn encode(order: &Order) -> Word
+    ensures value { result ≡ word_of (fields order.now) }
+    ensures read { decoded result ≡ Some (fields order.now) }
+{
+    let number = (u32::from(order.x) << 21) + (u32::from(order.f) << 14);
+    let bits = number + (u32::from(order.m) << 12) + u32::from(order.n);
+    match Word::new(bits) {
+        Some(word) => word,
+        None => unreachable!(),
+    }
+}

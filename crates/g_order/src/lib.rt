@@ -1,0 +1,13 @@
+//! The orders of the order code: their fields, the words that hold them, and the function of each.
+#![tactic(auto)]
+
+mod coding;
+mod functions;
+mod orders;
+
+pub use coding::{Illegal, decode, encode};
+pub use functions::{Condition, Function, Operation, function_of};
+pub use orders::{Order, is_branch};
+
+#[cfg(test)]
+mod tests;

@@ -1,0 +1,13 @@
+//! The two slots of a disc: which of them is current, and the commit that makes the other one
+//! current, old or new and never in between.
+#![tactic(auto)]
+
+mod fault;
+mod side;
+mod slots;
+#[cfg(test)]
+mod tests;
+
+pub use fault::SlotFault;
+pub use side::Side;
+pub use slots::{SLOT_BLOCKS, Slots};

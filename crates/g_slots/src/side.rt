@@ -1,0 +1,65 @@
+//! The names of the two slots, and how the gate gives them.
+
+ghost use Rattle.std.specs.Prelude.{◌≡◌, ◌==◌, ◌%◌, slice_index, if◌then◌else◌};
+ghost use Rattle.g_slots.specs.Layout.{byte_of, gate_block, other, start_of};
+
+use g_base::Block;
+
+/// One of the two slots. Slot A begins at block 1 of the disc and slot B at block 1,089.
+#[derive(Clone, Copy, Debug, PartialEq, Eq)]
+pub enum Side {
+    A,
+    B,
+}
+
+impl Side {
+    /// The opposite slot.
+    pub fn other(self) -> Side
+        ensures { result ≡ other self }
+    {
+        match self {
+            Side::A => Side::B,
+            Side::B => Side::A,
+        }
+    }
+
+    /// The number of the slot's first block on the disc.
+    pub fn start(self) -> u32
+        ensures { result ≡ start_of self }
+    {
+        match self {
+            Side::A => 1,
+            Side::B => 1089,
+        }
+    }
+
+    /// The slot that a gate names, by the parity of its first byte alone: a failed write may have
+    /// left any bytes there.
+    pub(crate) fn named_by(gate: &Block) -> Side
+        ensures { result ≡ (if slice_index gate.now 0 % 2 == 0 then Side.A else Side.B) }
+    {
+        if gate[0].is_multiple_of(2) {
+            Side::A
+        } else {
+            Side::B
+        }
+    }
+
+    /// The gate that names the slot, as a commit writes it.
+    pub(crate) fn gate(self) -> Block
+        ensures { result ≡ gate_block self }
+    {
+        let mut block = [0; 512];
+        block[0] = self.byte();
+        block
+    }
+
+    fn byte(self) -> u8
+        ensures { result ≡ byte_of self }
+    {
+        match self {
+            Side::A => 0,
+            Side::B => 1,
+        }
+    }
+}

@@ -1,0 +1,2 @@
+-- Lemmas on pairs in rising user number.
+pub mod Places

@@ -1,0 +1,3 @@
+-- What the contracts cite: modes as numbers, and a file's traps.
+pub mod ModeSet
+pub mod TrapList
