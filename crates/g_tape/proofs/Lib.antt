@@ -1,0 +1,6 @@
+pub mod MemoryLemmas
+pub mod PlaceLemmas
+pub mod RackLemmas
+pub mod ReadLemmas
+pub mod ReelLemmas
+pub mod SortLemmas

@@ -1,0 +1,86 @@
+-- The calls of a rack in memory that went through, or whose write failed, by what was done to the reel.
+use Rattle.std.proofs.Common.{◌≡◌, ℕ, ◌<◌, ◌≤◌, List, false, Option, Some, None, Ok, Err, Contains, length, get_or, slice_get, subst, sym, ap, ◌∙◌, refl, arith, eqb}
+use Rattle.std.specs.Option.{ForSome}
+use Rattle.std.proofs.Math.ListN.{set}
+use Rattle.std.proofs.lemmas.Bool.{eqb-false}
+use Rattle.std.proofs.lemmas.List.{get_or_default}
+use Rattle.g_base.specs.Counts.{one_more}
+use Rattle.g_base.specs.Fuse.{burnt}
+use Rattle.g_tape.specs.declared.fault.TapeFault.TheVariants.{WriteFailed}
+use Rattle.g_tape.specs.Reel.{Reel, read_at, ending, left_by}
+use Rattle.g_tape.specs.Rack.{Rack, reel, with_reel, refuses_read, refuses_write}
+use Rattle.g_tape.specs.Place.{IsPlaceOf}
+use Rattle.g_tape.specs.Leave.{remains_of}
+use Rattle.g_tape.specs.Memory.{Memory, MemoryReads, MemoryWrites}
+use Rattle.g_tape.proofs.RackLemmas.{with_reel-place}
+
+-- what stands at one place, read twice
+pub same-place : (reels : List Reel) (i : ℕ) (here was : Reel) → i < length reels → here ≡ get_or reels i here → was ≡ get_or reels i was → here ≡ was
+same-place reels i here was within one two = one ∙ get_or_default reels i here was within ∙ sym two
+
+-- the reel of the serial is the one that stands at its place
+pub at-place : (s i : ℕ) (reels : List Reel) (was : Reel) → IsPlaceOf s reels i → was ≡ get_or reels i was → reel s reels ≡ Some was
+at-place s i reels was place is = place.there was ∙ ap Some (sym is)
+
+-- a number that isn't found in the list isn't in it
+pub not-among : (all : List ℕ) (fail : List ℕ) (number : ℕ) → all ≡ fail → ((k : ℕ) (d : ℕ) → 0 ≤ k → k < length all → eqb (get_or all k d) number ≡ false) → Contains fail number → ⊥
+not-among all fail number same none among =
+    let (k, within, is) = subst (λ (xs : List ℕ). Contains xs number) (sym same) among in
+    eqb-false (get_or all k number) number (none k number (omega arith) within) is
+
+pub reads-done : (s k i : ℕ) (old : Memory) (reads : ℕ) (was now : Reel) (into : List ℕ) → IsPlaceOf s old.rack.reels i → was ≡ get_or old.rack.reels i was → refuses_read k (Some was) ≡ None
+    → ForSome was.blocks (λ bs. slice_get bs k ≡ Some into) → now ≡ read_at k was → reads ≡ one_more old.reads → (Contains old.fail reads → ⊥)
+    → MemoryReads s k old (Ok tt) into (record { rack = record { reels = set old.rack.reels i now; read_faults = old.rack.read_faults; write_faults = old.rack.write_faults; fuse = old.rack.fuse; arms = old.rack.arms }; leave = old.leave; fail = old.fail; reads = reads })
+reads-done s k i old reads was now into place is allowed block value counted good =
+    let here = at-place s i old.rack.reels was place is in
+    record {
+      reading = (
+        ap (refuses_read k) here ∙ allowed,
+        λ r at. let same : was ≡ r = cc in subst (λ (x : Reel). ForSome x.blocks (λ bs. slice_get bs k ≡ Some into)) same block,
+        ap (λ (rs : List Reel). let rack : Rack = record old.rack { reels = rs } in rack) (with_reel-place s old.rack.reels i (read_at k) was now place is value),
+      );
+      fails = (λ e. absurd (cc), λ (free, named). absurd (good (subst (Contains old.fail) (sym counted) named)));
+      others = ap (λ (n : ℕ).
+          let rack : Rack = record old.rack { reels = set old.rack.reels i now } in
+          let memory : Memory = record { rack = rack; leave = old.leave; fail = old.fail; reads = n } in memory) counted;
+    }
+
+pub writes-done : (s k i : ℕ) (block : List ℕ) (old : Memory) (fuse : Option ℕ) (was now : Reel) → IsPlaceOf s old.rack.reels i → was ≡ get_or old.rack.reels i was → refuses_write k (Some was) ≡ None
+    → now ≡ ending k block was → fuse ≡ burnt old.rack.fuse → (old.rack.fuse ≡ Some 1 → ⊥)
+    → MemoryWrites s k block old (Ok tt) (record { rack = record { reels = set old.rack.reels i now; read_faults = old.rack.read_faults; write_faults = old.rack.write_faults; fuse = fuse; arms = old.rack.arms }; leave = old.leave; fail = old.fail; reads = old.reads })
+writes-done s k i block old fuse was now place is allowed value burns good =
+    let here = at-place s i old.rack.reels was place is in
+    record {
+      writing = (
+        ap (refuses_write k) here ∙ allowed,
+        good,
+        ap (λ (rs : List Reel). let rack : Rack = record old.rack { reels = rs; fuse = fuse } in rack) (with_reel-place s old.rack.reels i (ending k block) was now place is value)
+            ∙ ap (λ (f : Option ℕ). let rack : Rack = record old.rack { reels = with_reel s (ending k block) old.rack.reels; fuse = f } in rack) burns,
+      );
+      fails = (λ e. absurd (cc), λ (free, one). absurd (good one));
+      left = λ e. absurd (cc);
+      others = refl;
+    }
+
+pub writes-torn : (s k i : ℕ) (block : List ℕ) (old : Memory) (fuse : Option ℕ) (faults : ℕ) (was now : Reel) → IsPlaceOf s old.rack.reels i → was ≡ get_or old.rack.reels i was → refuses_write k (Some was) ≡ None
+    → now ≡ left_by (remains_of old.leave block) k was → fuse ≡ burnt old.rack.fuse → faults ≡ one_more old.rack.write_faults → old.rack.fuse ≡ Some 1
+    → MemoryWrites s k block old (Err WriteFailed) (record { rack = record { reels = set old.rack.reels i now; read_faults = old.rack.read_faults; write_faults = faults; fuse = fuse; arms = old.rack.arms }; leave = old.leave; fail = old.fail; reads = old.reads })
+writes-torn s k i block old fuse faults was now place is allowed value burns more fired =
+    let here = at-place s i old.rack.reels was place is in
+    let free = ap (refuses_write k) here ∙ allowed in
+    let how = remains_of old.leave block in
+    let torn = with_reel-place s old.rack.reels i (left_by how k) was now place is value in
+    record {
+      writing = (
+        free,
+        record { more = omega arith },
+        (
+          how,
+          ap (λ (rs : List Reel). let rack : Rack = record old.rack { reels = rs; write_faults = faults; fuse = fuse } in rack) torn
+              ∙ ap (λ (f : Option ℕ). let rack : Rack = record old.rack { reels = with_reel s (left_by how k) old.rack.reels; write_faults = faults; fuse = f } in rack) burns,
+        ),
+      );
+      fails = (λ e. (free, fired), λ both. refl);
+      left = λ e. torn;
+      others = refl;
+    }

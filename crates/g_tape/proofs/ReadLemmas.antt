@@ -1,0 +1,230 @@
+-- What reads leave as it is, and how they add up.
+use Rattle.std.proofs.Common.{◌≡◌, ℕ, suc, ◌<◌, ◌≤◌, List, [], ◌∷◌, Bool, true, false, ◌==◌, nat_lt, if◌then◌else◌, Option, Some, None, Result, Ok, Err, All, length, map, get_or, option_map, refl, subst, sym, ap, ◌∙◌, inl, inr, eq-eqb, arith}
+use Rattle.std.proofs.Math.ListN.{set, get_or-eq_default}
+use Rattle.std.specs.Option.{ForSome}
+use Rattle.std.proofs.lemmas.Bool.{ne_eqb, cases_eq, cases_lt, ltb-true}
+use Rattle.std.proofs.lemmas.Bool.Decides.{eqb_tells}
+use Rattle.std.proofs.lemmas.List.{get_or-set_same, get_or-set_other}
+use Rattle.g_base.specs.Counts.{one_more}
+use Rattle.g_tape.specs.declared.fault.TapeFault.{TapeFault}
+use Rattle.g_tape.specs.declared.fault.TapeFault.TheVariants.{NoTape, NotMounted, End, ReadFailed, WriteFailed}
+use Rattle.g_tape.specs.Reel.{Reel, IsReel, read_at}
+use Rattle.g_tape.specs.Rack.{Rack, AreReels, reel, with_reel, changed, refuses_read, Reading}
+use Rattle.g_tape.specs.Reads.{unread, blocks_in, times_in, count_at, blocks_of, OnlyReads, HasRead}
+use Rattle.g_tape.specs.Laws.{ReadsOnlyRead}
+
+-- the changed reel is found changed
+pub reel-with_reel : (s : ℕ) (f : Reel → Reel) → ((r : Reel) → (f r).serial ≡ r.serial) → (rs : List Reel) → reel s (with_reel s f rs) ≡ option_map f (reel s rs)
+reel-with_reel s f keeps [] = refl
+reel-with_reel s f keeps (r ∷ rs) =
+    elim (eqb_tells s r.serial) [
+      | inl h ↦
+          ap (λ (b : Bool). reel s (if b then f r ∷ rs else r ∷ with_reel s f rs)) h.0
+          ∙ ap (λ (b : Bool). if b then Some (f r) else reel s rs) (eq-eqb s (f r).serial (h.1 ∙ sym (keeps r)))
+          ∙ sym (ap (λ (b : Bool). option_map f (if b then Some r else reel s rs)) h.0)
+      | inr h ↦
+          ap (λ (b : Bool). reel s (if b then f r ∷ rs else r ∷ with_reel s f rs)) h.0
+          ∙ ap (λ (b : Bool). if b then Some r else reel s (with_reel s f rs)) h.0
+          ∙ reel-with_reel s f keeps rs
+          ∙ sym (ap (λ (b : Bool). option_map f (if b then Some r else reel s rs)) h.0)
+    ]
+
+-- the others are found as they were
+pub reel-with_reel_other : (s t : ℕ) (f : Reel → Reel) → ((r : Reel) → (f r).serial ≡ r.serial) → (s ≡ t → ⊥) → (rs : List Reel) → reel t (with_reel s f rs) ≡ reel t rs
+reel-with_reel_other s t f keeps apart [] = refl
+reel-with_reel_other s t f keeps apart (r ∷ rs) =
+    elim (eqb_tells s r.serial) [
+      | inl h ↦
+          ap (λ (b : Bool). reel t (if b then f r ∷ rs else r ∷ with_reel s f rs)) h.0
+          ∙ ap (λ (b : Bool). if b then Some (f r) else reel t rs) (ne_eqb t (f r).serial (λ e. apart (h.1 ∙ sym (keeps r) ∙ sym e)))
+          ∙ sym (ap (λ (b : Bool). if b then Some r else reel t rs) (ne_eqb t r.serial (λ e. apart (h.1 ∙ sym e))))
+      | inr h ↦
+          ap (λ (b : Bool). reel t (if b then f r ∷ rs else r ∷ with_reel s f rs)) h.0
+          ∙ ap (λ (o : Option Reel). if t == r.serial then Some r else o) (reel-with_reel_other s t f keeps apart rs)
+    ]
+
+-- a change that only counts reads isn't seen without the counts
+pub unread-with_reel : (s : ℕ) (f : Reel → Reel) → ((r : Reel) → unread (f r) ≡ unread r) → (rs : List Reel) → map unread (with_reel s f rs) ≡ map unread rs
+unread-with_reel s f same [] = refl
+unread-with_reel s f same (r ∷ rs) =
+    elim (eqb_tells s r.serial) [
+      | inl h ↦
+          ap (λ (b : Bool). map unread (if b then f r ∷ rs else r ∷ with_reel s f rs)) h.0
+          ∙ ap (λ (x : Reel). x ∷ map unread rs) (same r)
+      | inr h ↦
+          ap (λ (b : Bool). map unread (if b then f r ∷ rs else r ∷ with_reel s f rs)) h.0
+          ∙ ap (λ (xs : List Reel). unread r ∷ xs) (unread-with_reel s f same rs)
+    ]
+
+counts-none : (g : List ℕ → List ℕ) (o : Option (List ℕ)) → option_map (λ (ts : List ℕ). let none : List ℕ = [] in none) (option_map g o) ≡ option_map (λ (ts : List ℕ). let none : List ℕ = [] in none) o
+counts-none g None = refl
+counts-none g (Some ts) = refl
+
+unread-read_at : (k : ℕ) (r : Reel) → unread (read_at k r) ≡ unread r
+unread-read_at k r = ap (λ (o : Option (List ℕ)). let x : Reel = record r { times_read = o } in x) (counts-none _ r.times_read)
+
+-- the reel of a serial, found without the counts
+pub reel-unread : (s : ℕ) (rs : List Reel) → reel s (map unread rs) ≡ option_map unread (reel s rs)
+reel-unread s [] = refl
+reel-unread s (r ∷ rs) =
+    elim (eqb_tells s r.serial) [
+      | inl h ↦
+          ap (λ (b : Bool). if b then Some (unread r) else reel s (map unread rs)) h.0
+          ∙ sym (ap (λ (b : Bool). option_map unread (if b then Some r else reel s rs)) h.0)
+      | inr h ↦
+          ap (λ (b : Bool). if b then Some (unread r) else reel s (map unread rs)) h.0
+          ∙ reel-unread s rs
+          ∙ sym (ap (λ (b : Bool). option_map unread (if b then Some r else reel s rs)) h.0)
+    ]
+
+-- after reads each reel is as it was but for its counts
+pub reel_after_reads : (s : ℕ) (old new : Rack) → OnlyReads old new → option_map unread (reel s new.reels) ≡ option_map unread (reel s old.reels)
+reel_after_reads s old new only = sym (reel-unread s new.reels) ∙ ap (reel s) only.reels ∙ reel-unread s old.reels
+
+blocks-unread : (o : Option Reel) → blocks_in (option_map unread o) ≡ blocks_in o
+blocks-unread None = refl
+blocks-unread (Some r) = refl
+
+pub blocks_after_reads : (s : ℕ) (old new : Rack) → OnlyReads old new → blocks_of s new ≡ blocks_of s old
+blocks_after_reads s old new only =
+    sym (blocks-unread (reel s new.reels)) ∙ ap blocks_in (reel_after_reads s old new only) ∙ blocks-unread (reel s old.reels)
+
+-- one more at k lowers no count
+count-more : (k j : ℕ) (o : Option (List ℕ)) → count_at j o ≤ count_at j (option_map (λ ts. set ts k (one_more (get_or ts k 0))) o)
+count-more k j None = omega arith
+count-more k j (Some ts) =
+    elim (cases_eq j k) [
+      | inr apart ↦ omega (arith, get_or-set_other ts k j (one_more (get_or ts k 0)) 0 apart)
+      | inl same ↦
+          elim (cases_lt k (length ts)) [
+            | inl within ↦
+                let here : get_or (set ts k (one_more (get_or ts k 0))) j 0 ≡ one_more (get_or ts k 0) = ap (λ (i : ℕ). get_or (set ts k (one_more (get_or ts k 0))) i 0) same ∙ get_or-set_same ts k (one_more (get_or ts k 0)) 0 within in
+                let was : get_or ts j 0 ≡ get_or ts k 0 = ap (λ (i : ℕ). get_or ts i 0) same in
+                omega (arith, here, was)
+            | inr past ↦
+                let was : get_or ts j 0 ≡ 0 = get_or-eq_default ts 0 (omega arith) in
+                omega (arith, was)
+          ]
+    ]
+
+times-read_at : (k j : ℕ) (o : Option Reel) → count_at j (times_in o) ≤ count_at j (times_in (option_map (read_at k) o))
+times-read_at k j None = omega arith
+times-read_at k j (Some r) = count-more k j r.times_read
+
+times-with_reel : (s k t j : ℕ) (rs : List Reel) → count_at j (times_in (reel t rs)) ≤ count_at j (times_in (reel t (with_reel s (read_at k) rs)))
+times-with_reel s k t j rs =
+    elim (cases_eq s t) [
+      | inl same ↦
+          let found : reel t (with_reel s (read_at k) rs) ≡ option_map (read_at k) (reel t rs) = subst (λ (u : ℕ). reel u (with_reel s (read_at k) rs) ≡ option_map (read_at k) (reel u rs)) same (reel-with_reel s (read_at k) (λ r. refl) rs) in
+          omega (arith, times-read_at k j (reel t rs), ap (λ (o : Option Reel). count_at j (times_in o)) found)
+      | inr apart ↦
+          omega (arith, ap (λ (o : Option Reel). count_at j (times_in o)) (reel-with_reel_other s t (read_at k) (λ r. refl) apart rs))
+    ]
+
+-- no read
+pub nothing_read : (rack : Rack) → OnlyReads rack rack
+nothing_read rack = record { reels = refl; write_faults = refl; fuse = refl; arms = refl; read_faults = omega arith; times = λ s k. omega arith }
+
+nothing_else : (old new : Rack) → new ≡ old → OnlyReads old new
+nothing_else old new same = subst (OnlyReads old) (sym same) (nothing_read old)
+
+-- reads and then more reads
+pub more_reads : (first middle last : Rack) → OnlyReads first middle → OnlyReads middle last → OnlyReads first last
+more_reads first middle last one two = record {
+  reels = two.reels ∙ one.reels;
+  write_faults = two.write_faults ∙ one.write_faults;
+  fuse = two.fuse ∙ one.fuse;
+  arms = two.arms ∙ one.arms;
+  read_faults = omega (arith, one.read_faults, two.read_faults);
+  times = λ s k. omega (arith, one.times s k, two.times s k);
+}
+
+-- a read, however it ends
+pub reading_only : (s k : ℕ) (old new : Rack) (result : Result (Unit {0}) TapeFault) (into : List ℕ) → Reading s k old result into new → OnlyReads old new
+reading_only s k old new (Ok u) into (free, block, is) =
+    let read : Rack = changed s (read_at k) old in
+    let only : OnlyReads old read = record {
+      reels = unread-with_reel s (read_at k) (unread-read_at k) old.reels;
+      write_faults = refl;
+      fuse = refl;
+      arms = refl;
+      read_faults = omega arith;
+      times = λ t j. times-with_reel s k t j old.reels;
+    } in
+    subst (OnlyReads old) (sym is) only
+reading_only s k old new (Err ReadFailed) into (free, rose, is) =
+    let failed : Rack = record old { read_faults = new.read_faults } in
+    let only : OnlyReads old failed = record { reels = refl; write_faults = refl; fuse = refl; arms = refl; read_faults = omega (arith, rose.more); times = λ t j. omega arith } in
+    subst (OnlyReads old) (sym is) only
+reading_only s k old new (Err WriteFailed) into reading = absurd reading
+reading_only s k old new (Err NoTape) into (refused, is) = nothing_else old new is
+reading_only s k old new (Err NotMounted) into (refused, is) = nothing_else old new is
+reading_only s k old new (Err End) into (refused, is) = nothing_else old new is
+
+reads-pass : (is under : Bool) → (if is then (if under then None else Some End) else Some NotMounted) ≡ None → under ≡ true
+reads-pass false under is = absurd (cc)
+reads-pass true true is = refl
+reads-pass true false is = absurd (cc)
+
+-- a read that isn't refused is of a block on the reel
+pub allowed-read : (k : ℕ) (r : Reel) → refuses_read k (Some r) ≡ None → k < r.len
+allowed-read k r is = ltb-true k r.len (reads-pass r.mounted (nat_lt k r.len) is)
+
+-- a reel of the rack is one
+pub is_reel : (s : ℕ) (rs : List Reel) (r : Reel) → All IsReel rs → reel s rs ≡ Some r → IsReel r
+is_reel s [] r all is = absurd (cc)
+is_reel s (x ∷ xs) r all is =
+    elim (eqb_tells s x.serial) [
+      | inl h ↦
+          let found : Some x ≡ Some r = sym (ap (λ (b : Bool). if b then Some x else reel s xs) h.0) ∙ is in
+          let same : x ≡ r = cc in
+          subst IsReel same (all 0 x (omega arith))
+      | inr h ↦ is_reel s xs r (λ k d h'. all (suc k) d (omega (arith, h'))) (sym (ap (λ (b : Bool). if b then Some x else reel s xs) h.0) ∙ is)
+    ]
+
+counted-once : (k : ℕ) (o : Option (List ℕ)) (n : ℕ) → k < n → ForSome o (λ ts. length ts ≡ n) → ForSome o (λ ts. one_more (count_at k o) ≤ count_at k (option_map (λ ts'. set ts' k (one_more (get_or ts' k 0))) o))
+counted-once k None n below long ts is = absurd (cc)
+counted-once k (Some xs) n below long ts is =
+    let within : k < length xs = omega (arith, long xs refl) in
+    omega (arith, get_or-set_same xs k (one_more (get_or xs k 0)) 0 within)
+
+counted-in : (k : ℕ) (o : Option Reel) → refuses_read k o ≡ None → ForSome o IsReel → ForSome (times_in o) (λ ts. one_more (count_at k (times_in o)) ≤ count_at k (times_in (option_map (read_at k) o)))
+counted-in k None free is = absurd (cc)
+counted-in k (Some r) free is =
+    let kept = is r refl in
+    counted-once k r.times_read r.capacity (omega (arith, allowed-read k r free, kept.within)) kept.counted
+
+-- a good read of block k
+pub has_read : (s k : ℕ) (old new : Rack) (into : List ℕ) → AreReels old.reels → Reading s k old (Ok tt) into new → HasRead s k old new
+has_read s k old new into are (free, block, is) =
+    let found = reel-with_reel s (read_at k) (λ r. refl) old.reels in
+    let once = counted-in k (reel s old.reels) free (λ r at. is_reel s old.reels r are.each at) in
+    let read : Rack = changed s (read_at k) old in
+    let has : HasRead s k old read = record { more = λ ts at. omega (arith, once ts at, ap (λ (o : Option Reel). count_at k (times_in o)) found) } in
+    subst (HasRead s k old) (sym is) has
+
+-- a block that was read, and then more reads
+pub read_then : (s k : ℕ) (first middle last : Rack) → HasRead s k first middle → OnlyReads middle last → HasRead s k first last
+read_then s k first middle last has only = record { more = λ ts at. omega (arith, has.more ts at, only.times s k) }
+
+counts-told : (x y : Option (List ℕ)) (ts : List ℕ) → option_map (λ (us : List ℕ). let none : List ℕ = [] in none) x ≡ option_map (λ (us : List ℕ). let none : List ℕ = [] in none) y → y ≡ Some ts → (us : List ℕ) × (x ≡ Some us)
+counts-told (Some us) y ts same at = (us, refl)
+counts-told None None ts same at = absurd (cc)
+counts-told None (Some us) ts same at = absurd (cc)
+
+-- whether counts are told stays through reads
+told-times : (a b : Option Reel) (ts : List ℕ) → option_map unread a ≡ option_map unread b → times_in b ≡ Some ts → (us : List ℕ) × (times_in a ≡ Some us)
+told-times a None ts same at = absurd (cc)
+told-times None (Some r) ts same at = absurd (cc)
+told-times (Some q) (Some r) ts same at = counts-told q.times_read r.times_read ts (ap times_in same) at
+
+-- reads, and then a block that was read
+pub then_read : (s k : ℕ) (first middle last : Rack) → OnlyReads first middle → HasRead s k middle last → HasRead s k first last
+then_read s k first middle last only has = record {
+  more = λ ts at.
+      let (us, there) = told-times (reel s middle.reels) (reel s first.reels) ts (reel_after_reads s first middle only) at in
+      omega (arith, has.more us there, only.times s k);
+}
+
+pub reads_only_read : ReadsOnlyRead
+reads_only_read = record { only = reading_only; counted = has_read; blocks = blocks_after_reads }

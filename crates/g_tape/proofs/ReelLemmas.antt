@@ -1,0 +1,82 @@
+-- What is done to a reel leaves it one.
+use Rattle.std.proofs.Common.{◌≡◌, ℕ, ◌+◌, ◌<◌, ◌≤◌, List, [], ◌∷◌, ◌++◌, Bool, true, false, not, ◌||◌, nat_lt, Option, Some, None, length, take, All, option_map, if◌then◌else◌, refl, subst, ◌∙◌, arith, length-append, length-set}
+use Rattle.std.specs.Option.{ForSome}
+use Rattle.std.proofs.lemmas.Bool.{ltb-true, ltb-false}
+use Rattle.std.proofs.lemmas.List.{length-take-le}
+use Rattle.std.proofs.lemmas.List.Elements.{All-take, All-push}
+use Rattle.g_base.specs.Block.{IsBlock}
+use Rattle.g_tape.specs.declared.fault.TapeFault.TheVariants.{NotMounted, End}
+use Rattle.g_tape.specs.Reel.{Reel, IsReel, with_mounted, cut_at, ending, read_at}
+use Rattle.g_tape.specs.Rack.{refuses_write}
+
+-- what holds of each value that is told, through a change of it
+told-map : {X Y : Type 0} (f : X → Y) (P : X → Type 0) (Q : Y → Type 0) (o : Option X) → ForSome o P → ((x : X) → P x → Q (f x)) → ForSome (option_map f o) Q
+told-map f P Q None all each y is = absurd (cc)
+told-map f P Q (Some x) all each y is =
+    let same : f x ≡ y = cc in subst Q same (each x (all x refl))
+
+passes : (is past under : Bool) → (if is then (if past || not under then Some End else None) else Some NotMounted) ≡ None → (past ≡ false) × (under ≡ true)
+passes false past under is = absurd (cc)
+passes true true under is = absurd (cc)
+passes true false true is = (refl, refl)
+passes true false false is = absurd (cc)
+
+-- a write that isn't refused goes to a place on the reel or just behind it, and within its capacity
+pub allowed-write : (k : ℕ) (r : Reel) → refuses_write k (Some r) ≡ None → (k ≤ r.len) × (k < r.capacity)
+allowed-write k r is =
+    let tests = passes r.mounted (nat_lt r.len k) (nat_lt k r.capacity) is in
+    (ltb-false r.len k tests.0, ltb-true k r.capacity tests.1)
+
+pub IsReel-mounted : (is : Bool) (r : Reel) → IsReel r → IsReel (with_mounted is r)
+IsReel-mounted is r kept = record {
+  numbered = kept.numbered;
+  numbered_most = kept.numbered_most;
+  sized = kept.sized;
+  sized_most = kept.sized_most;
+  within = kept.within;
+  told = kept.told;
+  whole = kept.whole;
+  counted = kept.counted;
+}
+
+pub IsReel-read_at : (k : ℕ) (r : Reel) → IsReel r → IsReel (read_at k r)
+IsReel-read_at k r kept = record {
+  numbered = kept.numbered;
+  numbered_most = kept.numbered_most;
+  sized = kept.sized;
+  sized_most = kept.sized_most;
+  within = kept.within;
+  told = kept.told;
+  whole = kept.whole;
+  counted = told-map _ (λ ts. length ts ≡ r.capacity) (λ ts. length ts ≡ r.capacity) r.times_read kept.counted (λ ts is. length-set ts k _ ∙ is);
+}
+
+pub IsReel-cut_at : (k : ℕ) (r : Reel) → refuses_write k (Some r) ≡ None → IsReel r → IsReel (cut_at k r)
+IsReel-cut_at k r allowed kept =
+    let (on, under) = allowed-write k r allowed in
+    record {
+      numbered = kept.numbered;
+      numbered_most = kept.numbered_most;
+      sized = kept.sized;
+      sized_most = kept.sized_most;
+      within = omega arith;
+      told = told-map (take k) (λ bs. length bs ≡ r.len) (λ bs. length bs ≡ k) r.blocks kept.told (λ bs is. length-take-le k bs (omega (arith, is)));
+      whole = told-map (take k) (All IsBlock) (All IsBlock) r.blocks kept.whole (All-take IsBlock k);
+      counted = kept.counted;
+    }
+
+pub IsReel-ending : (k : ℕ) (block : List ℕ) (r : Reel) → refuses_write k (Some r) ≡ None → IsBlock block → IsReel r → IsReel (ending k block r)
+IsReel-ending k block r allowed is_block kept =
+    let (on, under) = allowed-write k r allowed in
+    record {
+      numbered = kept.numbered;
+      numbered_most = kept.numbered_most;
+      sized = kept.sized;
+      sized_most = kept.sized_most;
+      within = omega arith;
+      told = told-map (λ bs. take k bs ++ block ∷ []) (λ bs. length bs ≡ r.len) (λ bs. length bs ≡ k + 1) r.blocks kept.told
+          (λ bs is. omega (arith, is, length-append (take k bs) (block ∷ []), length-take-le k bs (omega (arith, is))));
+      whole = told-map (λ bs. take k bs ++ block ∷ []) (All IsBlock) (All IsBlock) r.blocks kept.whole
+          (λ bs all. All-push IsBlock (take k bs) block (All-take IsBlock k bs all) is_block);
+      counted = kept.counted;
+    }

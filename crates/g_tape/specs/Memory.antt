@@ -1,0 +1,49 @@
+-- A rack in memory: what it holds besides what every rack is, and just when and how its calls fail.
+use Rattle.std.specs.Prelude.{◌≡◌, ℕ, ◌↔◌, List, [], Contains, map, Some, None, Result, Err}
+use Rattle.g_base.specs.Counts.{one_more}
+use Rattle.g_tape.specs.declared.fault.TapeFault.{TapeFault}
+use Rattle.g_tape.specs.declared.fault.TapeFault.TheVariants.{ReadFailed, WriteFailed}
+use Rattle.g_tape.specs.declared.leave.TapeLeave.{TapeLeave}
+use Rattle.g_tape.specs.declared.leave.TapeLeave.TheVariants.{Old}
+use Rattle.g_tape.specs.declared.memory.MemoryTapes.{MemoryTapes}
+use Rattle.g_tape.specs.Leave.{remains_of}
+use Rattle.std.specs.List.Sorted.{IsPermutation}
+use Rattle.g_tape.specs.Reel.{left_by, empty_reel_of}
+use Rattle.g_tape.specs.Rack.{Rack, reel, with_reel, refuses_read, refuses_write, Reading, Writing}
+
+-- a rack, what its failing writes leave, the numbers of the reads that fail, and how many reads were asked for
+pub record Memory : Type 0 where
+  pub rack : Rack
+  pub leave : TapeLeave
+  pub fail : List ℕ
+  pub reads : ℕ
+
+abbrev pub rack_of : MemoryTapes → Rack
+rack_of m = record { reels = m.reels.items; read_faults = m.read_faults; write_faults = m.write_faults; fuse = m.fuse; arms = m.arms }
+
+abbrev pub memory_of : MemoryTapes → Memory
+memory_of m = record { rack = rack_of m; leave = m.leave; fail = m.fail.items; reads = m.reads }
+
+-- The read fails exactly where it isn't refused and its number, counted from 1 over all reads, is named.
+pub record MemoryReads (s k : ℕ) (old : Memory) (result : Result (Unit {0}) TapeFault) (into : List ℕ) (new : Memory) : Type 0 where
+  pub reading : Reading s k old.rack result into new.rack
+  pub fails : (result ≡ Err ReadFailed) ↔ ((refuses_read k (reel s old.rack.reels) ≡ None) × Contains old.fail (one_more old.reads))
+  pub others : new ≡ record old { rack = new.rack; reads = one_more old.reads }
+
+-- The write fails exactly where it isn't refused and the fuse is 1, and leaves exactly what was set.
+pub record MemoryWrites (s k : ℕ) (block : List ℕ) (old : Memory) (result : Result (Unit {0}) TapeFault) (new : Memory) : Type 0 where
+  pub writing : Writing s k block old.rack result new.rack
+  pub fails : (result ≡ Err WriteFailed) ↔ ((refuses_write k (reel s old.rack.reels) ≡ None) × (old.rack.fuse ≡ Some 1))
+  pub left : result ≡ Err WriteFailed → new.rack.reels ≡ with_reel s (left_by (remains_of old.leave block) k) old.rack.reels
+  pub others : new ≡ record old { rack = new.rack }
+
+-- A rack of empty, unmounted reels of these serials and capacities, on which no call was made and no failure was set.
+pub record IsEmptyRack (labels : List (ℕ × ℕ)) (memory : Memory) : Type 0 where
+  pub reels : IsPermutation (map empty_reel_of labels) memory.rack.reels
+  pub read_faults : memory.rack.read_faults ≡ 0
+  pub write_faults : memory.rack.write_faults ≡ 0
+  pub fuse : memory.rack.fuse ≡ None
+  pub arms : memory.rack.arms ≡ 0
+  pub leave : memory.leave ≡ Old
+  pub fail : memory.fail ≡ []
+  pub reads : memory.reads ≡ 0

@@ -1,0 +1,91 @@
+-- A rack of reels, when its calls refuse, and what they do to it.
+use Rattle.std.specs.Prelude.{◌≡◌, ◌≢◌, ℕ, ◌≤◌, List, [], ◌∷◌, Bool, false, not, ◌||◌, Option, Some, None, Result, Ok, Err, length, map, All, slice_get, nat_lt, ◌==◌, if◌then◌else◌}
+use Rattle.std.specs.Option.{ForSome}
+use Rattle.std.specs.List.Sorted.{IsStrictlyIncreasing}
+use Rattle.g_base.specs.Counts.{Rose}
+use Rattle.g_base.specs.Fuse.{burnt}
+use Rattle.g_tape.specs.declared.fault.TapeFault.{TapeFault}
+use Rattle.g_tape.specs.declared.fault.TapeFault.TheVariants.{NoTape, NotMounted, End, ReadFailed, WriteFailed}
+use Rattle.g_tape.specs.Reel.{Reel, IsReel, with_mounted, ending, read_at, Remains, left_by}
+
+-- the reels in rising serial, the counts of failed reads and writes, the fuse, and how often it was armed
+pub record Rack : Type 0 where
+  pub reels : List Reel
+  pub read_faults : ℕ
+  pub write_faults : ℕ
+  pub fuse : Option ℕ
+  pub arms : ℕ
+
+-- what holds of the reels of every rack
+pub record AreReels (reels : List Reel) : Type 0 where
+  pub few : length reels ≤ 16
+  pub rising : IsStrictlyIncreasing (map (λ r. r.serial) reels)
+  pub each : All IsReel reels
+
+-- the reel of a serial
+abbrev pub reel : ℕ → List Reel → Option Reel
+reel s [] = None
+reel s (r ∷ rs) = if s == r.serial then Some r else reel s rs
+
+-- the reels with that one changed
+abbrev pub with_reel : ℕ → (Reel → Reel) → List Reel → List Reel
+with_reel s f [] = []
+with_reel s f (r ∷ rs) = if s == r.serial then f r ∷ rs else r ∷ with_reel s f rs
+
+-- the rack with that reel changed and nothing else
+abbrev pub changed : ℕ → (Reel → Reel) → Rack → Rack
+changed s f r = record r { reels = with_reel s f r.reels }
+
+abbrev pub is_mounted : Option Reel → Bool
+is_mounted None = false
+is_mounted (Some r) = r.mounted
+
+-- a number of a reel, which is told without a mount
+abbrev pub told_of : (Reel → ℕ) → Option Reel → Result ℕ TapeFault
+told_of number None = Err NoTape
+told_of number (Some r) = Ok (number r)
+
+-- The refusals, in the order of their tests: of a mount, of an unmount, of a read and of a write of block k.
+abbrev pub refuses_mount : Option Reel → Option TapeFault
+refuses_mount None = Some NoTape
+refuses_mount (Some r) = None
+
+abbrev pub refuses_unmount : Option Reel → Option TapeFault
+refuses_unmount None = Some NoTape
+refuses_unmount (Some r) = if r.mounted then None else Some NotMounted
+
+abbrev pub refuses_read : ℕ → Option Reel → Option TapeFault
+refuses_read k None = Some NoTape
+refuses_read k (Some r) = if r.mounted then (if nat_lt k r.len then None else Some End) else Some NotMounted
+
+abbrev pub refuses_write : ℕ → Option Reel → Option TapeFault
+refuses_write k None = Some NoTape
+refuses_write k (Some r) = if r.mounted then (if nat_lt r.len k || not (nat_lt k r.capacity) then Some End else None) else Some NotMounted
+
+-- the reel is mounted, or it isn't, or the call is refused and nothing changes
+abbrev pub Mounting : (Option Reel → Option TapeFault) → Bool → ℕ → Rack → Result (Unit {0}) TapeFault → Rack → Type 0
+Mounting refuses is s old (Ok _) new = (refuses (reel s old.reels) ≡ None) × (new ≡ changed s (with_mounted is) old)
+Mounting refuses is s old (Err fault) new = (refuses (reel s old.reels) ≡ Some fault) × (new ≡ old)
+
+-- Block k of the reel was read into `into`; or the read failed, or was refused.
+abbrev pub Reading : ℕ → ℕ → Rack → Result (Unit {0}) TapeFault → List ℕ → Rack → Type 0
+Reading s k old (Ok _) into new =
+    (refuses_read k (reel s old.reels) ≡ None)
+    × ForSome (reel s old.reels) (λ r. ForSome r.blocks (λ bs. slice_get bs k ≡ Some into))
+    × (new ≡ changed s (read_at k) old)
+Reading s k old (Err ReadFailed) into new =
+    (refuses_read k (reel s old.reels) ≡ None) × Rose old.read_faults new.read_faults × (new ≡ record old { read_faults = new.read_faults })
+Reading s k old (Err WriteFailed) into new = ⊥
+Reading s k old (Err fault) into new = (refuses_read k (reel s old.reels) ≡ Some fault) × (new ≡ old)
+
+-- The reel keeps its blocks below k and ends with this one; or the write failed, or was refused. A write that
+-- isn't refused burns the fuse, and fails where the fuse is 1.
+abbrev pub Writing : ℕ → ℕ → List ℕ → Rack → Result (Unit {0}) TapeFault → Rack → Type 0
+Writing s k block old (Ok _) new =
+    (refuses_write k (reel s old.reels) ≡ None) × (old.fuse ≢ Some 1)
+    × (new ≡ record (changed s (ending k block) old) { fuse = burnt old.fuse })
+Writing s k block old (Err WriteFailed) new =
+    (refuses_write k (reel s old.reels) ≡ None) × Rose old.write_faults new.write_faults
+    × ((how : Remains) × (new ≡ record (changed s (left_by how k) old) { write_faults = new.write_faults; fuse = burnt old.fuse }))
+Writing s k block old (Err ReadFailed) new = ⊥
+Writing s k block old (Err fault) new = (refuses_write k (reel s old.reels) ≡ Some fault) × (new ≡ old)

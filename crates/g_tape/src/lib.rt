@@ -1,0 +1,17 @@
+//! Magnetic tapes: the rack of reels as all layers see it, and a rack in memory.
+#![tactic(auto)]
+
+mod fault;
+mod leave;
+mod memory;
+mod memory_reel;
+mod place;
+mod tapes;
+
+pub use fault::TapeFault;
+pub use leave::TapeLeave;
+pub use memory::MemoryTapes;
+pub use tapes::{Tapes, reads_only_read};
+
+#[cfg(test)]
+mod tests;

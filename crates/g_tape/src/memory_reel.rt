@@ -1,0 +1,195 @@
+//! One reel in memory: a store of as many blocks as its capacity, of which the first are on the reel.
+ghost use Rattle.std.specs.Prelude.{◌≡◌, ◌+◌, ◌<◌, ◌≤◌, IfOk, None, Some, map, replicate, slice_get};
+ghost use Rattle.std.specs.Option.{ForSome};
+ghost use Rattle.g_tape.specs.Rack.{refuses_unmount, refuses_read, refuses_write};
+ghost use Rattle.g_tape.specs.Leave.{remains_of};
+ghost use Rattle.g_tape.specs.Reel.{IsReel, empty_reel, empty_reel_of, with_mounted, cut_at, ending, read_at, left_by};
+
+use crate::fault::TapeFault;
+use crate::leave::{TapeLeave, half_of};
+use g_base::{Block, NoMemory, raised};
+use std::alloc::Global;
+use std::marker::Model;
+
+/// A reel whose content is told. Contracts see it as such.
+#[derive(Drop)]
+pub struct MemoryReel {
+    serial: u32,
+    capacity: u32,
+    len: u32,
+    mounted: bool,
+    store: Vec<Block>,
+    times: Vec<u64>,
+}
+
+impl Model for MemoryReel {
+    ghost use Rattle.std.specs.Prelude.{◌≡◌, ◌≤◌, All, Some, length, take};
+    ghost use Rattle.g_base.specs.Block.{IsBlock};
+    ghost use Rattle.g_tape.specs.Reel.{Reel};
+
+    ghost Value = { Reel };
+
+    ghost view = { λ r. record {
+      serial = r.serial;
+      capacity = r.capacity;
+      len = r.len;
+      mounted = r.mounted;
+      blocks = Some (take r.len r.store.items);
+      times_read = Some r.times.items;
+    } };
+
+    ghost invariant = { λ r. (r.len ≤ r.capacity) × (length r.store.items ≡ r.capacity)
+        × (length r.times.items ≡ r.capacity) };
+}
+
+impl MemoryReel {
+    /// An empty reel, which isn't mounted. It takes the memory of its whole capacity.
+    pub fn new(alloc: Global, serial: u32, capacity: u32) -> Result<MemoryReel, NoMemory>
+        ensures { IfOk result (λ r. r ≡ empty_reel serial capacity) }
+    {
+        Ok(MemoryReel {
+            serial,
+            capacity,
+            len: 0,
+            mounted: false,
+            store: zero_blocks(alloc, capacity)?,
+            times: vec![in alloc; 0; capacity as usize]?,
+        })
+    }
+
+    pub fn serial(&self) -> u32
+        ensures { result ≡ self.now.serial }
+    {
+        self.serial
+    }
+
+    pub fn capacity(&self) -> u32
+        ensures { result ≡ self.now.capacity }
+    {
+        self.capacity
+    }
+
+    pub fn len(&self) -> u32
+        ensures { result ≡ self.now.len }
+    {
+        self.len
+    }
+
+    pub fn is_mounted(&self) -> bool
+        ensures { result ≡ self.now.mounted }
+    {
+        self.mounted
+    }
+
+    /// Why an unmount is refused, if it is.
+    pub fn refuses_unmount(&self) -> Option<TapeFault>
+        ensures { result ≡ refuses_unmount (Some self.now) }
+    {
+        if self.mounted {
+            None
+        } else {
+            Some(TapeFault::NotMounted)
+        }
+    }
+
+    /// Why a read of block k is refused, if it is.
+    pub fn refuses_read(&self, k: u32) -> Option<TapeFault>
+        ensures { result ≡ refuses_read k (Some self.now) }
+    {
+        if !self.mounted {
+            Some(TapeFault::NotMounted)
+        } else if k < self.len {
+            None
+        } else {
+            Some(TapeFault::End)
+        }
+    }
+
+    /// Why a write of block k is refused, if it is.
+    pub fn refuses_write(&self, k: u32) -> Option<TapeFault>
+        ensures { result ≡ refuses_write k (Some self.now) }
+    {
+        if !self.mounted {
+            Some(TapeFault::NotMounted)
+        } else if self.len < k || !(k < self.capacity) {
+            Some(TapeFault::End)
+        } else {
+            None
+        }
+    }
+
+    pub fn set_mounted(&mut self, mounted: bool)
+        ensures value { self.new ≡ with_mounted mounted self.old }
+        ensures keeps { IsReel self.old → IsReel self.new }
+    {
+        self.mounted = mounted;
+    }
+
+    /// Copies block k out, and counts that.
+    pub fn read(&mut self, k: u32, into: &mut Block)
+        requires { refuses_read k (Some self.old) ≡ None }
+        ensures block { ForSome self.old.blocks (λ bs. slice_get bs k ≡ Some into.new) }
+        ensures value { self.new ≡ read_at k self.old }
+        ensures keeps { IsReel self.old → IsReel self.new }
+    {
+        *into = self.store[k as usize];
+        self.times[k as usize] = raised(self.times[k as usize]);
+    }
+
+    /// Drops the blocks from k on, and puts this one there.
+    pub fn end_with(&mut self, k: u32, block: &Block)
+        requires { refuses_write k (Some self.old) ≡ None }
+        ensures value { self.new ≡ ending k block.now self.old }
+        ensures keeps { IsReel self.old → IsReel self.new }
+    {
+        self.store[k as usize] = *block;
+        self.len = k + 1;
+    }
+
+    /// Does what a failing write of this block does.
+    pub fn tear(&mut self, leave: &TapeLeave, k: u32, block: &Block)
+        requires { refuses_write k (Some self.old) ≡ None }
+        ensures value { self.new ≡ left_by (remains_of leave.now block.now) k self.old }
+        ensures serial { self.new.serial ≡ self.old.serial }
+        ensures keeps { IsReel self.old → IsReel self.new }
+    {
+        match leave {
+            TapeLeave::Old => {}
+            TapeLeave::Cut => self.cut_at(k),
+            TapeLeave::Half => self.end_with(k, &half_of(block)),
+            TapeLeave::Whole => self.end_with(k, block),
+            TapeLeave::These(bytes) => self.end_with(k, bytes),
+        }
+    }
+
+    /// Drops the blocks from k on.
+    fn cut_at(&mut self, k: u32)
+        requires { refuses_write k (Some self.old) ≡ None }
+        ensures value { self.new ≡ cut_at k self.old }
+        ensures keeps { IsReel self.old → IsReel self.new }
+    {
+        self.len = k;
+    }
+}
+
+/// So many blocks of zeros.
+fn zero_blocks(alloc: Global, count: u32) -> Result<Vec<Block>, NoMemory>
+    ensures { IfOk result (λ blocks. blocks.items ≡ replicate count (replicate 512 0)) }
+{
+    let mut blocks = Vec::with_capacity(alloc, count as usize)?;
+    for _block in 0..count {
+        blocks.push([0; 512])?;
+    }
+    Ok(blocks)
+}
+
+/// The empty reels of these serials and capacities, in their order.
+pub fn empty_reels(alloc: Global, labels: &[(u32, u32)]) -> Result<Vec<MemoryReel>, NoMemory>
+    ensures { IfOk result (λ reels. reels.items ≡ map empty_reel_of labels.now) }
+{
+    let mut reels = Vec::with_capacity(alloc, labels.len())?;
+    for label in labels {
+        reels.push(MemoryReel::new(alloc, label.0, label.1)?)?;
+    }
+    Ok(reels)
+}
