@@ -1,0 +1,18 @@
+//! Copies of texts on disc: written into blocks of the copy area and read back from them.
+#![tactic(auto)]
+
+mod copy;
+mod fault;
+mod numbers;
+mod read;
+mod store;
+#[cfg(test)]
+mod tests;
+mod write;
+
+pub use copy::DiscCopy;
+pub use fault::CopyFault;
+pub use numbers::BlockNumbers;
+pub use read::read_copy;
+pub use store::{drop_copy, store_copy};
+pub use write::write_copy;

@@ -1,0 +1,48 @@
+//! Writes a text into the blocks of its copy.
+ghost use Rattle.std.specs.Prelude.{◌≡◌, ◌*◌, ◌^◌, ◌<◌, ◌≤◌, OnErr, OnOk, Err, drop, length, take};
+ghost use Rattle.g_base.specs.Fields.{padded};
+ghost use Rattle.g_base.specs.Told.{Changes};
+ghost use Rattle.g_disc.specs.Disc.{WritesOnly};
+ghost use Rattle.g_copy.specs.Copy.{Holds, IsCopy, OnlyAt};
+
+use crate::copy::DiscCopy;
+use crate::fault::CopyFault;
+use g_base::{Block, BlockWriter};
+use g_disc::Disc;
+
+/// Writes the bytes into the blocks of the copy, with zeros behind the last of them. It takes no
+/// memory. Where it answers `Stopped`, these blocks hold anything, and all others are as they were.
+pub fn write_copy<D: Disc>(disc: &mut D, copy: &DiscCopy, bytes: &[u8]) -> Result<(), CopyFault>
+    requires size { 2177 < (D.state disc.old).size }
+    requires copy { IsCopy (D.state disc.old).size copy.now }
+    requires len { copy.now.len ≡ length bytes.now }
+    ensures counts { WritesOnly (length copy.now.blocks) (D.state disc.old) (D.state disc.new) result }
+    ensures ok { OnOk result
+        (Changes (Holds copy.now.blocks bytes.now) (D.state disc.old).held (D.state disc.new).held) }
+    ensures stopped { OnErr result
+        (Changes (OnlyAt copy.now.blocks) (D.state disc.old).held (D.state disc.new).held) }
+    ensures only { OnErr result (result ≡ Err CopyFault.Stopped) }
+{
+    let _size = disc.size();
+    let places = copy.blocks.as_slice();
+    for (i, place) in places.iter().enumerate() {
+        let block = block_of(bytes, i);
+        match disc.write(*place, &block) {
+            Ok(()) => {}
+            Err(_) => return Err(CopyFault::Stopped),
+        }
+    }
+    Ok(())
+}
+
+/// Block i of the bytes; zeros behind the last of them.
+fn block_of(bytes: &[u8], i: usize) -> Block
+    requires { i < 2 ^ 32 }
+    ensures { result ≡ padded 512 (take 512 (drop (512 * i) bytes.now)) }
+{
+    let start = (512 * i).min(bytes.len());
+    let end = (start + 512).min(bytes.len());
+    let mut writer = BlockWriter::new();
+    writer.put_bytes(&bytes[start..end]);
+    writer.finish()
+}
