@@ -1,0 +1,5 @@
+pub mod Does
+pub mod Effect
+pub mod Loading
+pub mod Lines
+pub mod Machine

@@ -1,0 +1,87 @@
+//! What a step of a program tells.
+
+ghost use Rattle.std.specs.Prelude.{◌≡◌, ◌<◌, ◌≤◌, [], ◌∷◌, ◌++◌, length};
+
+use arrayvec::ArrayVec;
+use g_word::Word;
+use std::marker::Model;
+
+/// A text of up to 40 bytes. Contracts see it as a list.
+#[derive(Debug, Drop, PartialEq, Eq)]
+pub struct Text40 {
+    bytes: ArrayVec<u8, 40>,
+}
+
+impl Model for Text40 {
+    ghost use Rattle.std.specs.Prelude.{ℕ, List, ◌≤◌, length};
+
+    ghost Value = { List ℕ };
+
+    ghost view = { λ t. t.bytes.items };
+
+    ghost invariant = { λ t. length t.bytes.items ≤ 40 };
+
+    ghost inverse = { λ xs. record { bytes = record { items = xs } } };
+}
+
+impl Text40 {
+    /// The empty text.
+    pub fn new() -> Text40
+        ensures { result ≡ [] }
+    {
+        Text40 {
+            bytes: ArrayVec::new(),
+        }
+    }
+
+    /// The bytes.
+    pub fn as_slice(&self) -> &[u8]
+        ensures bytes { result.now ≡ self.now }
+        ensures short { length self.now ≤ 40 }
+    {
+        self.bytes.as_slice()
+    }
+
+    /// Puts a byte behind the others.
+    pub fn push(&mut self, byte: u8)
+        requires { length self.old < 40 }
+        ensures { self.new ≡ self.old ++ byte ∷ [] }
+    {
+        self.bytes.push(byte);
+    }
+
+    /// The same text once more, which takes no memory.
+    pub fn copy(&self) -> Text40
+        ensures { result ≡ self.now }
+    {
+        let mut copy = Text40::new();
+        for byte in self.bytes.as_slice() {
+            copy.push(*byte);
+        }
+        copy
+    }
+}
+
+/// What one step of a program tells.
+#[derive(Debug, Drop, PartialEq, Eq)]
+pub enum Event {
+    /// An order was done.
+    Ran,
+    /// The program asks for a transfer with a unit; `area` is the address of the control area.
+    Peri {
+        area: u16,
+    },
+    /// The program halted and waits to be resumed.
+    Halted(Text40),
+    /// The program displays a text and goes on.
+    Displayed(Text40),
+    /// The program deletes itself.
+    Deleted(Text40),
+    /// There is no such order, or it needs words past the program. Nothing changed.
+    Illegal {
+        /// The word of the order, or 0 where the program has no word at `at`.
+        word: Word,
+        /// The address of the order.
+        at: u16,
+    },
+}

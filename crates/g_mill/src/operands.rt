@@ -1,0 +1,105 @@
+//! What an order means by its fields: its address, the word there, the place of a character, a text.
+
+ghost use Rattle.std.specs.Prelude.{◌≡◌, ◌+◌, ◌<◌, ◌≤◌, ◌^◌, ◌%◌, length};
+ghost use Rattle.std.specs.List.{range_with_len};
+ghost use Rattle.g_order.specs.Coding.{fields};
+ghost use Rattle.g_mill.specs.Machine as machine;
+ghost use Rattle.g_mill.specs.Does.{TellsText};
+
+use crate::Program;
+use crate::event::Text40;
+use crate::program::LIMIT;
+use g_order::Order;
+use g_word::{Word, byte_of};
+
+impl Program {
+    /// The low 15 bits of an accumulator.
+    pub(crate) fn low_bits(&self, x: u8) -> u16
+        requires { x < 8 }
+        ensures value { result ≡ machine.word_at self.now x % 2 ^ 15 }
+        ensures in_range { result < 2 ^ 15 }
+    {
+        (self.accumulator(x).value() % u32::from(LIMIT)) as u16
+    }
+
+    /// The address of an order.
+    pub(crate) fn address(&self, order: &Order) -> u16
+        ensures value { result ≡ machine.address self.now (fields order.now) }
+        ensures in_range { result < 2 ^ 15 }
+    {
+        if order.m == 0 {
+            order.n
+        } else {
+            (order.n + self.low_bits(order.m)) % LIMIT
+        }
+    }
+
+    /// The word at the address of an order, if the program has it.
+    pub(crate) fn operand(&self, order: &Order) -> Option<Word>
+        ensures { result ≡ machine.operand self.now (fields order.now) }
+    {
+        self.word(self.address(order))
+    }
+
+    /// The place of the character that an order means.
+    pub(crate) fn place(&self, order: &Order) -> u8
+        ensures value { result ≡ machine.place self.now (fields order.now) }
+        ensures in_word { result < 4 }
+    {
+        if order.m == 0 {
+            0
+        } else {
+            (self.accumulator(order.m).value() >> 22) as u8
+        }
+    }
+
+    /// The text that an area of two words tells, if the area and the text stand in the program.
+    pub(crate) fn text(&self, area: u16) -> Option<Text40>
+        requires { area < 2 ^ 15 }
+        ensures { result ≡ machine.text_at self.now area }
+    {
+        let count = self.word(area)?;
+        let from = self.word(area + 1)?;
+        self.text_of(count.value(), from.value())
+    }
+
+    /// The text of so many characters that begin at an address, if there can be one.
+    fn text_of(&self, count: u32, from: u32) -> Option<Text40>
+        ensures { result ≡ machine.text_of self.now count from }
+    {
+        if count > 40 {
+            return None;
+        }
+        if count == 0 {
+            return Some(Text40::new());
+        }
+        if u64::from(from) + u64::from(count.div_ceil(4)) > u64::from(self.size()) {
+            return None;
+        }
+        Some(self.characters(from, count as u8))
+    }
+
+    /// The bytes of the characters that begin at an address.
+    fn characters(&self, from: u32, count: u8) -> Text40
+        requires short { count ≤ 40 }
+        requires within { from + machine.words_for count ≤ machine.size self.now }
+        ensures { result ≡ machine.characters self.now.words from count }
+    {
+        let mut text = Text40::new();
+        for i in 0..count {
+            let word = self.word_in(from as usize + usize::from(i / 4));
+            text.push(byte_of(word.char_at(i % 4)));
+        }
+        text
+    }
+
+    /// The text of an order, with the program going on behind it; without one nothing changes.
+    pub(crate) fn take_text(&mut self, order: &Order) -> Option<Text40>
+        ensures { TellsText result self.old self.new (machine.text_at self.old (machine.address self.old (fields order.now))) }
+    {
+        let area = self.address(order);
+        let text = self.text(area)?;
+        self.go_on();
+        Some(text)
+    }
+}

@@ -1,0 +1,191 @@
+//! A program with its words, and the parts of its steps.
+
+ghost use Rattle.std.specs.Prelude.{◌≡◌, ℕ, ◌+◌, ◌%◌, ◌^◌, ◌<◌, ◌≤◌, Some, None, false, length, vec_len, slice_get, slice_set};
+ghost use Rattle.g_mill.specs.Machine.{size, word_at, following, preceding, going_to, onward, copied, result_at};
+
+use g_word::Word;
+use std::marker::Model;
+
+/// The words of the longest program, and one more than the greatest address.
+pub const LIMIT: u16 = 0x8000;
+
+/// A program of 32 to 32,768 words. Contracts see its words, the address of its next order and its overflow.
+#[derive(Debug, Drop)]
+pub struct Program {
+    words: Vec<Word>,
+    next: u16,
+    overflow: bool,
+}
+
+impl Model for Program {
+    ghost use Rattle.std.specs.Prelude.{◌<◌, ◌≤◌, ◌^◌, vec_len};
+    ghost use Rattle.g_mill.specs.Machine.{Machine};
+
+    ghost Value = { Machine };
+
+    ghost view = { λ p. record { words = p.words.items; next = p.next; overflow = p.overflow } };
+
+    ghost invariant = { λ p. (32 ≤ vec_len p.words) × (vec_len p.words ≤ 2 ^ 15) × (p.next < 2 ^ 15) };
+}
+
+impl Program {
+    /// A program of these words, at its address 0 with overflow clear.
+    pub(crate) fn new(words: Vec<Word>) -> Program
+        requires least { 32 ≤ vec_len words }
+        requires most { vec_len words ≤ 2 ^ 15 }
+        ensures { result ≡ record { words = words.items; next = 0; overflow = false } }
+    {
+        Program {
+            words,
+            next: 0,
+            overflow: false,
+        }
+    }
+
+    /// How many words it has.
+    pub fn size(&self) -> u32
+        ensures value { result ≡ size self.now }
+        ensures least { 32 ≤ result }
+        ensures most { result ≤ 2 ^ 15 }
+    {
+        self.words.len() as u32
+    }
+
+    /// The word at an address, or `None` where the program has none there.
+    pub fn word(&self, address: u16) -> Option<Word>
+        ensures { result ≡ slice_get self.now.words address }
+    {
+        self.words.get(usize::from(address)).copied()
+    }
+
+    /// Puts a word at an address of the program.
+    pub fn set_word(&mut self, address: u16, word: Word)
+        requires { address < size self.old }
+        ensures { self.new ≡ record self.old { words = slice_set self.old.words address word } }
+    {
+        self.words[usize::from(address)] = word;
+    }
+
+    /// The address of the next order.
+    pub fn next(&self) -> u16
+        ensures value { result ≡ self.now.next }
+        ensures in_range { result < 2 ^ 15 }
+    {
+        self.next
+    }
+
+    /// Whether overflow is set.
+    pub fn overflow(&self) -> bool
+        ensures { result ≡ self.now.overflow }
+    {
+        self.overflow
+    }
+
+    /// Makes the program go on at one of its ten entries, with overflow clear.
+    pub fn enter(&mut self, entry: u8)
+        requires { entry ≤ 9 }
+        ensures { self.new ≡ record self.old { next = 20 + entry; overflow = false } }
+    {
+        self.next = 20 + u16::from(entry);
+        self.overflow = false;
+    }
+
+    /// Makes the next address again that of the order before, for an order that was done and that is refused behind.
+    pub fn step_back(&mut self)
+        ensures { self.new ≡ going_to self.old (preceding self.old.next) }
+    {
+        self.next = (self.next + (LIMIT - 1)) % LIMIT;
+    }
+
+    /// Puts a word at an address as the result of an order, with overflow set where it was out of range.
+    pub(crate) fn put(&mut self, address: u16, word: Word, overflow: bool)
+        requires { address < size self.old }
+        ensures { self.new ≡ result_at self.old address word overflow }
+    {
+        self.words[usize::from(address)] = word;
+        if overflow {
+            self.overflow = true;
+        }
+    }
+
+    /// Puts a word into an accumulator as the result of an order, with overflow set where it was out of range.
+    pub(crate) fn put_accumulator(&mut self, x: u8, word: Word, overflow: bool)
+        requires { x < 8 }
+        ensures { self.new ≡ result_at self.old x word overflow }
+    {
+        self.words[usize::from(x)] = word;
+        if overflow {
+            self.overflow = true;
+        }
+    }
+
+    /// Goes on at an address.
+    pub(crate) fn go(&mut self, address: u16)
+        requires { address < 2 ^ 15 }
+        ensures { self.new ≡ going_to self.old address }
+    {
+        self.next = address;
+    }
+
+    /// Goes on behind the order that was done.
+    pub(crate) fn go_on(&mut self)
+        ensures { self.new ≡ onward self.old }
+    {
+        self.next = following(self.next);
+    }
+
+    /// Goes on at an address with this overflow.
+    pub(crate) fn branch_to(&mut self, address: u16, overflow: bool)
+        requires { address < 2 ^ 15 }
+        ensures { self.new ≡ record self.old { next = address; overflow = overflow } }
+    {
+        self.next = address;
+        self.overflow = overflow;
+    }
+
+    /// An accumulator.
+    pub(crate) fn accumulator(&self, x: u8) -> Word
+        requires { x < 8 }
+        ensures { result ≡ word_at self.now x }
+    {
+        self.words[usize::from(x)]
+    }
+
+    /// The word at an address of the program.
+    pub(crate) fn word_in(&self, address: usize) -> Word
+        requires { address < size self.now }
+        ensures { result ≡ word_at self.now address }
+    {
+        self.words[address]
+    }
+
+    /// Copies words one after another, the first first.
+    pub(crate) fn copy_words(&mut self, from: u16, to: u16, count: u16)
+        requires from_within { from + count ≤ size self.old }
+        requires to_within { to + count ≤ size self.old }
+        ensures { self.new ≡ record self.old { words = copied count self.old.words from to } }
+    {
+        let (from, to) = (usize::from(from), usize::from(to));
+        copy_words(self.words.as_mut_slice(), from, to, usize::from(count));
+    }
+}
+
+/// Copies words one after another, the first first.
+fn copy_words(words: &mut [Word], from: usize, to: usize, count: usize)
+    requires from_within { from + count ≤ length words.old }
+    requires to_within { to + count ≤ length words.old }
+    ensures { words.new ≡ copied count words.old from to }
+{
+    for i in 0..count {
+        words[to + i] = words[from + i];
+    }
+}
+
+/// The address behind one.
+pub(crate) fn following(address: u16) -> u16
+    requires { address < 2 ^ 15 }
+    ensures value { result ≡ following address }
+    ensures in_range { result < 2 ^ 15 }
+{
+    (address + 1) % LIMIT
+}
