@@ -1,0 +1,53 @@
+-- The units of a job: which are assigned, and what they hold.
+use Rattle.std.specs.Prelude.{ℕ, ◌+◌, Bool, true, false, List, Option, None, is_some, replicate, slice_set, if◌then◌else◌}
+use Rattle.std.specs.List.{slice_index_or}
+use Rattle.g_name.specs.declared.path.Path.{Path}
+use Rattle.g_peri.specs.declared.unit.Kind.{Kind}
+use Rattle.g_peri.specs.declared.unit.Kind.TheVariants.{Cr, Lp, Tp}
+use Rattle.g_peri.specs.declared.unit.Unit as unit
+
+-- eight card readers with the lines that are left, and eight line printers and eight tape punches with the path
+-- and the bytes of their output
+pub record Held : Type 0 where
+  pub readers : List (Option (List (List ℕ)))
+  pub writers : List (Option (Path × List ℕ))
+
+-- no unit is assigned
+abbrev pub vacant : Held
+vacant = record { readers = replicate 8 None; writers = replicate 16 None }
+
+-- what the unit at a place holds
+abbrev pub at_place : {X : Type 0} → List (Option X) → ℕ → Option X
+at_place units place = slice_index_or units place None
+
+abbrev pub is_reader : Kind → Bool
+is_reader Cr = true
+is_reader Lp = false
+is_reader Tp = false
+
+-- the place of a printer or a punch among both
+abbrev pub place_of : Kind → ℕ → ℕ
+place_of Cr number = number
+place_of Lp number = number
+place_of Tp number = number + 8
+
+-- whether a unit is assigned
+abbrev pub is_assigned : Held → unit.Unit → Bool
+is_assigned h u =
+    if is_reader u.kind then is_some (at_place h.readers u.number) else is_some (at_place h.writers (place_of u.kind u.number))
+
+-- with these lines in a card reader
+abbrev pub with_reader : Held → ℕ → Option (List (List ℕ)) → Held
+with_reader h place lines = record h { readers = slice_set h.readers place lines }
+
+-- with this output on a printer or a punch
+abbrev pub with_writer : Held → ℕ → Option (Path × List ℕ) → Held
+with_writer h place output = record h { writers = slice_set h.writers place output }
+
+-- the output that a unit gives back when it is released: a card reader has none
+abbrev pub output_of : Held → unit.Unit → Option (Path × List ℕ)
+output_of h u = if is_reader u.kind then None else at_place h.writers (place_of u.kind u.number)
+
+-- without what a unit holds
+abbrev pub released : Held → unit.Unit → Held
+released h u = if is_reader u.kind then with_reader h u.number None else with_writer h (place_of u.kind u.number) None

@@ -1,0 +1,82 @@
+//! How lines stand in words, and what a printer leaves of them.
+
+ghost use Rattle.std.specs.Prelude.{◌≡◌, ◌+◌, ◌^◌, ◌<◌, ◌≤◌, length, take, slice_index};
+ghost use Rattle.g_mill.specs.Machine.{size, words_for, characters};
+ghost use Rattle.g_peri.specs.Layout as layout;
+
+use arrayvec::ArrayVec;
+use g_mill::Program;
+use g_word::{Word, byte_of, code_of};
+
+/// The word at an address of a program.
+pub(crate) fn word_in(program: &Program, address: u16) -> Word
+    requires { address < size program.now }
+    ensures { result ≡ slice_index program.now.words address }
+{
+    program.word(address).unwrap()
+}
+
+/// The bytes of the characters that begin at an address of a program, with room for one more.
+pub(crate) fn characters(program: &Program, from: u16, count: u8) -> ArrayVec<u8, 161>
+    requires in_range { from < 2 ^ 15 }
+    requires short { count ≤ 160 }
+    requires within { from + words_for count ≤ size program.now }
+    ensures length { length result.items ≡ count }
+    ensures bytes { result.items ≡ characters program.now.words from count }
+{
+    let mut bytes = ArrayVec::new();
+    for i in 0..count {
+        let word = word_in(program, from + u16::from(i / 4));
+        bytes.push(byte_of(word.char_at(i % 4)));
+    }
+    bytes
+}
+
+/// How many bytes are left without the spaces at the end.
+pub(crate) fn trimmed_len(bytes: &[u8]) -> usize
+    ensures within { result ≤ length bytes.now }
+    ensures trimmed { take result bytes.now ≡ layout.trimmed bytes.now }
+{
+    let mut end = bytes.len();
+    while end > 0 && bytes[end - 1] == b' ' {
+        end -= 1;
+    }
+    end
+}
+
+/// Puts a line into a buffer of a program, with spaces behind, or its first characters where it is too long.
+pub(crate) fn put_line(program: &mut Program, from: u16, count: u8, line: &[u8])
+    requires in_range { from < 2 ^ 15 }
+    requires within { from + words_for count ≤ size program.old }
+    ensures size { size program.new ≡ size program.old }
+    ensures put { program.new ≡ record program.old { words = layout.with_words program.old.words from (layout.line_words line.now count) } }
+{
+    let words = (u16::from(count) + 3) / 4;
+    for j in 0..words {
+        program.set_word(from + j, packed(line, count, 4 * usize::from(j)));
+    }
+}
+
+/// The word of the four characters from a place of a line on.
+fn packed(line: &[u8], count: u8, place: usize) -> Word
+    requires { place < 1000 }
+    ensures { result ≡ layout.packed line.now count place }
+{
+    Word::ZERO
+        .with_char(0, code_at(line, count, place))
+        .with_char(1, code_at(line, count, place + 1))
+        .with_char(2, code_at(line, count, place + 2))
+        .with_char(3, code_at(line, count, place + 3))
+}
+
+/// The character at a place of a line, or a space where the line or the buffer has none.
+fn code_at(line: &[u8], count: u8, place: usize) -> u8
+    ensures value { result ≡ layout.code_at line.now count place }
+    ensures small { result < 64 }
+{
+    if place < usize::from(count) && place < line.len() {
+        code_of(line[place])
+    } else {
+        code_of(b' ')
+    }
+}

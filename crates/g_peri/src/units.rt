@@ -1,0 +1,303 @@
+//! The units of a job, assigned and released, and the transfers of its program.
+
+ghost use Rattle.std.specs.Prelude.{◌≡◌, ◌↔◌, ◌+◌, ◌++◌, ◌∷◌, [], ◌^◌, ◌<◌, ◌≤◌, true, false, drop, length, replicate, Some, None, IsOk, IfOk, IfErr, OnOk, OnErr, MatchResult};
+ghost use Rattle.std.specs.Option.{option_map};
+ghost use Rattle.g_mill.specs.Lines.{lines};
+ghost use Rattle.g_mill.specs.Machine.{Machine, size, words_for};
+ghost use Rattle.g_peri.specs.Layout.{trimmed};
+ghost use Rattle.g_peri.specs.Transfer.{answered, read_by, written_by, Transfers};
+ghost use Rattle.g_mill.specs.Machine as machine;
+ghost use Rattle.g_peri.specs.Transfer as transfer;
+ghost use Rattle.g_peri.specs.Held as held;
+
+use crate::control::{Control, read_control};
+use crate::deck::Deck;
+use crate::layout::{characters, put_line, trimmed_len};
+use crate::unit::{Kind, Unit};
+use arrayvec::ArrayVec;
+use g_base::NoMemory;
+use g_mill::Program;
+use g_name::{Path, Text};
+use g_word::Word;
+use std::alloc::Global;
+use std::marker::Model;
+use thiserror::Error;
+
+/// How many bytes an output may have.
+const LIMIT: usize = 65_536;
+
+/// Why a unit isn't assigned or released.
+#[derive(Clone, Copy, Debug, PartialEq, Eq, Error)]
+pub enum UnitFault {
+    #[error("IN USE")]
+    InUse,
+    #[error("NOT ASSIGNED")]
+    NotAssigned,
+}
+
+/// Why a transfer isn't done.
+#[derive(Clone, Copy, Debug, PartialEq, Eq, Error)]
+pub enum PeriFault {
+    #[error("ILLEGAL")]
+    Illegal,
+    #[error("no memory")]
+    NoMemory,
+}
+
+/// The 24 units of a job. Contracts see what each of them holds.
+#[derive(Debug, Drop)]
+pub struct Units {
+    readers: Vec<Option<Deck>>,
+    writers: Vec<Option<(Path, Text)>>,
+    alloc: Global,
+}
+
+impl Model for Units {
+    ghost use Rattle.std.specs.Prelude.{◌≡◌, vec_len};
+    ghost use Rattle.std.specs.Coded.{codes};
+    ghost use Rattle.g_name.specs.contracts.path.Path as path;
+    ghost use Rattle.g_peri.specs.Held.{Held};
+
+    ghost Value = { Held };
+
+    ghost coded = { Prim.hlevel (codes, path.the_row.coded) };
+
+    ghost view = { λ u. record { readers = u.readers.items; writers = u.writers.items } };
+
+    ghost invariant = { λ u. (vec_len u.readers ≡ 8) × (vec_len u.writers ≡ 16) };
+}
+
+impl Units {
+    /// Units of which none is assigned.
+    pub fn new(alloc: Global) -> Result<Units, NoMemory>
+        ensures { IfOk result (λ u. u ≡ held.vacant) }
+    {
+        let readers = vacant(alloc, 8)?;
+        let writers = vacant(alloc, 16)?;
+        Ok(Units {
+            readers,
+            writers,
+            alloc,
+        })
+    }
+
+    /// Whether a unit is assigned.
+    pub fn assigned(&self, unit: Unit) -> bool
+        ensures { result ≡ held.is_assigned self.now unit }
+    {
+        match unit.kind {
+            Kind::Cr => self.readers[usize::from(unit.number)].is_some(),
+            Kind::Lp | Kind::Tp => self.writers[place(unit)].is_some(),
+        }
+    }
+
+    /// Puts a text into a card reader, whose lines a program then reads. The path isn't kept, since a card reader
+    /// gives nothing back.
+    pub fn assign_input(&mut self, unit: Unit, _path: Path, bytes: Text) -> Result<(), UnitFault>
+        requires { held.is_reader unit.kind ≡ true }
+        ensures exact { IsOk result ↔ (held.is_assigned self.old unit ≡ false) }
+        ensures in_use { IfErr result (λ e. e ≡ UnitFault.InUse) }
+        ensures ok { OnOk result (self.new ≡ held.with_reader self.old unit.number (Some (lines bytes))) }
+        ensures err { OnErr result (self.new ≡ self.old) }
+    {
+        if self.assigned(unit) {
+            return Err(UnitFault::InUse);
+        }
+        self.readers[usize::from(unit.number)] = Some(Deck::new(bytes));
+        Ok(())
+    }
+
+    /// Makes a printer or a punch ready, whose output the path is for.
+    pub fn assign_output(&mut self, unit: Unit, path: Path) -> Result<(), UnitFault>
+        requires { held.is_reader unit.kind ≡ false }
+        ensures exact { IsOk result ↔ (held.is_assigned self.old unit ≡ false) }
+        ensures in_use { IfErr result (λ e. e ≡ UnitFault.InUse) }
+        ensures ok { OnOk result (self.new ≡ held.with_writer self.old (held.place_of unit.kind unit.number) (Some (path, []))) }
+        ensures err { OnErr result (self.new ≡ self.old) }
+    {
+        if self.assigned(unit) {
+            return Err(UnitFault::InUse);
+        }
+        let text = Text::new(self.alloc);
+        self.writers[place(unit)] = Some((path, text));
+        Ok(())
+    }
+
+    /// Takes what a unit holds: the path and the bytes of an output, and of a card reader nothing.
+    pub fn release(&mut self, unit: Unit) -> Result<Option<(Path, Text)>, UnitFault>
+        ensures exact { IsOk result ↔ (held.is_assigned self.old unit ≡ true) }
+        ensures refused { IfErr result (λ e. e ≡ UnitFault.NotAssigned) }
+        ensures output { IfOk result (λ output. output ≡ held.output_of self.old unit) }
+        ensures ok { OnOk result (self.new ≡ held.released self.old unit) }
+        ensures err { OnErr result (self.new ≡ self.old) }
+    {
+        if !self.assigned(unit) {
+            return Err(UnitFault::NotAssigned);
+        }
+        match unit.kind {
+            Kind::Cr => {
+                self.readers[usize::from(unit.number)] = None;
+                Ok(None)
+            }
+            Kind::Lp | Kind::Tp => Ok(self.writers[place(unit)].take()),
+        }
+    }
+
+    /// Does the transfer that a program asks for by a control area, the reply last. An illegal one changes nothing,
+    /// and the program's next address is that of the order again, as it wasn't done. Want of memory changes nothing.
+    pub fn peri(
+        &mut self,
+        _alloc: Global,
+        program: &mut Program,
+        area: u16,
+    ) -> Result<(), PeriFault>
+        ensures { Transfers result self.old program.old self.new program.new area }
+    {
+        let Some(control) = read_control(program, area) else {
+            program.step_back();
+            return Err(PeriFault::Illegal);
+        };
+        match self.answer(program, &control) {
+            Ok(reply) => {
+                program.set_word(area + 1, Word::from(reply));
+                Ok(())
+            }
+            Err(NoMemory) => Err(PeriFault::NoMemory),
+        }
+    }
+
+    /// Does a transfer but for the reply, which it answers.
+    fn answer(&mut self, program: &mut Program, control: &Control) -> Result<u16, NoMemory>
+        requires unit { control.now.unit < 24 }
+        requires from { control.now.from < 2 ^ 15 }
+        requires count { control.now.count ≤ 160 }
+        requires within { control.now.from + words_for control.now.count ≤ size program.old }
+        ensures size { size program.new ≡ size program.old }
+        ensures answered { MatchResult result (λ reply. (self.new, program.new, reply) ≡ answered self.old program.old control.now) (λ _. (self.new ≡ self.old) × (program.new ≡ program.old)) }
+    {
+        if control.unit < 8 {
+            Ok(self.read(program, control))
+        } else {
+            self.write(program, control)
+        }
+    }
+
+    /// Gives a program the next line of a card reader, and answers the reply.
+    fn read(&mut self, program: &mut Program, control: &Control) -> u16
+        requires unit { control.now.unit < 8 }
+        requires from { control.now.from < 2 ^ 15 }
+        requires within { control.now.from + words_for control.now.count ≤ size program.old }
+        ensures size { size program.new ≡ size program.old }
+        ensures read { (self.new, program.new, result) ≡ read_by (held.at_place self.old.readers control.now.unit) self.old program.old control.now }
+    {
+        let place = usize::from(control.unit);
+        let Some(deck) = &self.readers[place] else {
+            return 2;
+        };
+        let Some(line) = deck.next_line() else {
+            return 1;
+        };
+        put_line(program, control.from, control.count, line);
+        let is_longer = line.len() > usize::from(control.count);
+        self.pass(place);
+        if is_longer { 3 } else { 0 }
+    }
+
+    /// Passes the next line of a card reader.
+    fn pass(&mut self, place: usize)
+        requires { place < 8 }
+        ensures { self.new ≡ held.with_reader self.old place (option_map (drop 1) (held.at_place self.old.readers place)) }
+    {
+        if let Some(deck) = &mut self.readers[place] {
+            deck.pass();
+        }
+    }
+
+    /// Takes the characters of a program to a printer or a punch, and answers the reply.
+    fn write(&mut self, program: &Program, control: &Control) -> Result<u16, NoMemory>
+        requires least { 8 ≤ control.now.unit }
+        requires most { control.now.unit < 24 }
+        requires from { control.now.from < 2 ^ 15 }
+        requires count { control.now.count ≤ 160 }
+        requires within { control.now.from + words_for control.now.count ≤ size program.now }
+        ensures { MatchResult result (λ reply. (self.new, program.now, reply) ≡ answered self.old program.now control.now) (λ _. self.new ≡ self.old) }
+    {
+        let place = usize::from(control.unit) - 8;
+        self.append(place, added(program, control, place).as_slice())
+    }
+
+    /// Puts bytes behind an output that has room for them, and answers the reply.
+    fn append(&mut self, place: usize, bytes: &[u8]) -> Result<u16, NoMemory>
+        requires { place < 16 }
+        ensures { (program : Machine) → MatchResult result (λ reply. (self.new, program, reply) ≡ written_by (held.at_place self.old.writers place) place bytes.now self.old program) (λ _. self.new ≡ self.old) }
+    {
+        let Some((_path, text)) = &self.writers[place] else {
+            return Ok(2);
+        };
+        let held = text.as_slice().len();
+        if held > LIMIT || bytes.len() > LIMIT - held {
+            return Ok(4);
+        }
+        self.extend(place, bytes)?;
+        Ok(0)
+    }
+
+    /// Puts bytes behind an output.
+    fn extend(&mut self, place: usize, bytes: &[u8]) -> Result<(), NoMemory>
+        requires { place < 16 }
+        ensures ok { OnOk result (self.new ≡ held.with_writer self.old place (option_map (λ o. (o.0, o.1 ++ bytes.now)) (held.at_place self.old.writers place))) }
+        ensures err { OnErr result (self.new ≡ self.old) }
+    {
+        match &mut self.writers[place] {
+            Some((_path, text)) => text.extend(bytes),
+            None => Ok(()),
+        }
+    }
+}
+
+/// The bytes that a program adds to an output.
+fn added(program: &Program, control: &Control, place: usize) -> ArrayVec<u8, 161>
+    requires from { control.now.from < 2 ^ 15 }
+    requires count { control.now.count ≤ 160 }
+    requires within { control.now.from + words_for control.now.count ≤ size program.now }
+    ensures { result.items ≡ transfer.added place (machine.characters program.now.words control.now.from control.now.count) }
+{
+    let mut bytes = characters(program, control.from, control.count);
+    if place >= 8 {
+        return bytes;
+    }
+    end_line(&mut bytes);
+    bytes
+}
+
+/// Makes characters a line of a printer: without the spaces at their end, and with a byte 10.
+fn end_line(bytes: &mut ArrayVec<u8, 161>)
+    requires { length bytes.old.items ≤ 160 }
+    ensures { bytes.new.items ≡ trimmed bytes.old.items ++ 10 ∷ [] }
+{
+    let end = trimmed_len(bytes.as_slice());
+    bytes.truncate(end);
+    bytes.push(b'\n');
+}
+
+/// Places of which none is assigned.
+fn vacant<T: Drop>(alloc: Global, count: usize) -> Result<Vec<Option<T>>, NoMemory>
+    ensures { IfOk result (λ v. v.items ≡ replicate count None) }
+{
+    let mut places = Vec::with_capacity(alloc, count)?;
+    for _ in 0..count {
+        places.push(None)?;
+    }
+    Ok(places)
+}
+
+/// The place of a printer or a punch among both.
+fn place(unit: Unit) -> usize
+    ensures value { result ≡ held.place_of unit.kind unit.number }
+    ensures within { result < 16 }
+{
+    match unit.kind {
+        Kind::Cr | Kind::Lp => usize::from(unit.number),
+        Kind::Tp => usize::from(unit.number) + 8,
+    }
+}
