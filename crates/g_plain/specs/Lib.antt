@@ -1,0 +1,8 @@
+-- The plain directory tree, and what the calls of jobs do to it.
+pub mod Asks
+pub mod Codes
+pub mod Faults
+pub mod PlainStep
+pub mod PlainTree
+pub mod Replies
+pub mod Rules

@@ -1,0 +1,158 @@
+//! The calls that jobs make of a store, and the replies.
+ghost use Rattle.std.specs.Prelude.{◌≡◌, [], ◌∷◌, ◌++◌, OnOk, OnErr};
+
+use g_base::NoMemory;
+use g_name::{Full, Local, Path, Text, User};
+use g_trap::{Mode, Modes};
+use std::alloc::Global;
+use std::marker::Model;
+
+/// What a user has a budget of.
+#[derive(Clone, Copy, Debug, PartialEq, Eq, Hash)]
+pub enum BudgetKind {
+    /// Blocks of 512 bytes, 0 to 65,535.
+    Space,
+    /// Units of TIME, 0 to 1,000,000,000.
+    Time,
+    /// Units of MONEY, 0 to 1,000,000,000.
+    Money,
+}
+
+/// A call of a job. Where a path names a file for input, an absent generation is the greatest one there
+/// is; for output it is one more.
+#[derive(Debug, Drop, PartialEq, Eq)]
+pub enum StoreCall {
+    /// Makes a user below the caller, with so many blocks of SPACE and units of TIME and MONEY.
+    NewUser {
+        user: User,
+        space: u32,
+        time: u64,
+        money: u64,
+    },
+    /// Sets one budget of a user below the caller.
+    Budget {
+        user: User,
+        kind: BudgetKind,
+        amount: u64,
+    },
+    /// Puts a new version for output: a new file, or other bytes in the place of a file that keeps its traps.
+    Put {
+        path: Path,
+        bytes: Text,
+    },
+    /// Puts bytes behind those of a file.
+    Append {
+        path: Path,
+        bytes: Text,
+    },
+    /// Asks for the bytes of a file, to read or to execute.
+    Fetch {
+        path: Path,
+        mode: Mode,
+    },
+    /// Takes a file out.
+    Erase {
+        path: Path,
+    },
+    /// Gives a file another local name.
+    Rename {
+        path: Path,
+        to: Local,
+    },
+    /// Asks for the files of a user.
+    List {
+        user: User,
+    },
+    /// Opens modes of a file to a user.
+    TrapGo {
+        path: Path,
+        user: User,
+        modes: Modes,
+    },
+    /// Closes modes of a file to a user.
+    TrapStop {
+        path: Path,
+        user: User,
+        modes: Modes,
+    },
+    /// Asks what a user may do with a file.
+    TrapCheck {
+        path: Path,
+        user: User,
+    },
+    /// Brings a file's bytes back to the disc.
+    Retrieve {
+        path: Path,
+    },
+}
+
+/// Files with their lengths in bytes, in full-name order. Contracts see a list of pairs.
+#[derive(Debug, Drop)]
+pub struct Listing {
+    rows: Vec<(Full, u32)>,
+}
+
+impl Model for Listing {
+    ghost use Rattle.std.specs.Prelude.{ℕ, List};
+    ghost use Rattle.g_name.specs.declared.full.Full.{Full};
+
+    ghost Value = { List (Full × ℕ) };
+
+    ghost view = { λ l. l.rows.items };
+}
+
+impl Listing {
+    /// An empty listing, which takes no memory yet.
+    pub fn new(alloc: Global) -> Listing
+        ensures { result ≡ [] }
+    {
+        Listing {
+            rows: Vec::new(alloc),
+        }
+    }
+
+    /// Puts a file behind the others; without memory the listing stays as it was.
+    pub fn push(&mut self, full: Full, len: u32) -> Result<(), NoMemory>
+        ensures ok { OnOk result (self.new ≡ self.old ++ (full, len) ∷ []) }
+        ensures err { OnErr result (self.new ≡ self.old) }
+    {
+        self.rows.push((full, len))?;
+        Ok(())
+    }
+
+    pub fn rows(&self) -> &[(Full, u32)]
+        ensures { result.now ≡ self.now }
+    {
+        self.rows.as_slice()
+    }
+}
+
+impl From<Vec<(Full, u32)>> for Listing {
+    ghost from_gives = { λ rows listing. listing ≡ rows.items };
+
+    fn from(rows: Vec<(Full, u32)>) -> Listing {
+        Listing { rows }
+    }
+}
+
+impl From<Listing> for Vec<(Full, u32)> {
+    ghost from_gives = { λ listing rows. rows.items ≡ listing };
+
+    fn from(listing: Listing) -> Vec<(Full, u32)> {
+        listing.rows
+    }
+}
+
+/// What a store replies to a call that it grants.
+#[derive(Debug, Drop)]
+pub enum StoreReply {
+    Done,
+    Made(Full),
+    Appended(Full),
+    Bytes { full: Full, bytes: Text },
+    Erased(Full),
+    Renamed(Full),
+    Listing(Listing),
+    Modes(Modes),
+    Retrieved(Full),
+}

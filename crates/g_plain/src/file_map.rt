@@ -1,0 +1,289 @@
+//! Files by full name, with their traps, bytes and stamps.
+ghost use Rattle.std.specs.Prelude.{◌≡◌, ◌≤◌, ◌^◌, ◌+◌, true, false, OnOk, OnErr, IfOk, is_some, length, fold, max, map, filter, sum_by, None, Some, unwrap_or, if◌then◌else◌};
+ghost use Rattle.std.specs.Option.{option_copied};
+ghost use Rattle.std.specs.FinMap as finmap;
+ghost use Rattle.std.specs.BTreeMap.{IsOrdered};
+ghost use Rattle.g_base.specs.Block.{blocks_for};
+ghost use Rattle.g_name.specs.Order.{full_cmp, same_text};
+ghost use Rattle.g_plain.specs.PlainTree.{no_row, is_version_of, with_modes};
+
+use crate::Listing;
+use crate::trap_map::TrapMap;
+use g_base::{NoMemory, blocks_for};
+use g_name::{Full, Text, User};
+use g_trap::Modes;
+use std::alloc::Global;
+use std::collections::BTreeMap;
+use std::marker::Model;
+
+/// A file's traps, its bytes, at most 65,536, and the stamp of its version. Contracts see a row of the tree.
+#[derive(Debug, Drop)]
+pub struct FileEntry {
+    traps: TrapMap,
+    bytes: Text,
+    stamp: u64,
+}
+
+impl Model for FileEntry {
+    ghost use Rattle.std.specs.Prelude.{◌≤◌, length};
+    ghost use Rattle.g_plain.specs.PlainTree.{FileRow};
+    ghost use Rattle.g_plain.specs.Codes.{file_row_code};
+
+    ghost Value = { FileRow };
+
+    ghost coded = { file_row_code };
+
+    ghost view = { λ f. record { traps = f.traps; bytes = f.bytes; stamp = f.stamp } };
+
+    ghost invariant = { λ f. length f.bytes ≤ 65536 };
+}
+
+impl FileEntry {
+    pub fn new(traps: TrapMap, bytes: Text, stamp: u64) -> FileEntry
+        requires { length bytes ≤ 65536 }
+        ensures { result ≡ record { traps = traps; bytes = bytes; stamp = stamp } }
+    {
+        FileEntry {
+            traps,
+            bytes,
+            stamp,
+        }
+    }
+
+    pub fn traps(&self) -> &TrapMap
+        ensures { result.now ≡ self.now.traps }
+    {
+        &self.traps
+    }
+
+    pub fn bytes(&self) -> &[u8]
+        ensures value { result.now ≡ self.now.bytes }
+        ensures few { length result.now ≤ 65536 }
+    {
+        self.bytes.as_slice()
+    }
+
+    /// The length in bytes, at most 65,536.
+    pub fn len(&self) -> u32
+        ensures value { result ≡ length self.now.bytes }
+        ensures few { result ≤ 65536 }
+    {
+        self.bytes.as_slice().len() as u32
+    }
+
+    /// The blocks of 512 bytes that the bytes take, at most 128.
+    pub fn blocks(&self) -> u32
+        ensures value { result ≡ blocks_for (length self.now.bytes) }
+        ensures few { result ≤ 128 }
+    {
+        blocks_for(self.len())
+    }
+
+    /// Other bytes, as the version of this stamp.
+    pub fn renew(&mut self, bytes: Text, stamp: u64)
+        requires { length bytes ≤ 65536 }
+        ensures { self.new ≡ record self.old { bytes = bytes; stamp = stamp } }
+    {
+        self.bytes = bytes;
+        self.stamp = stamp;
+    }
+
+    /// The user gets exactly these modes; without memory all stays as it was.
+    pub fn set_traps(&mut self, full: &Full, user: &User, modes: Modes) -> Result<(), NoMemory>
+        ensures ok { OnOk result (self.new ≡ record self.old { traps = with_modes full.now user.now modes self.old.traps }) }
+        ensures err { OnErr result (self.new ≡ self.old) }
+    {
+        self.traps.set(full, user, modes)
+    }
+}
+
+/// A map from full names to rows.
+#[derive(Debug, Drop)]
+pub struct FileMap {
+    rows: BTreeMap<Full, FileEntry>,
+}
+
+impl Model for FileMap {
+    ghost use Rattle.std.specs.FinMap.{FinMap, from_entries};
+    ghost use Rattle.g_name.specs.Order.{full_cmp};
+    ghost use Rattle.g_plain.specs.PlainTree.{FileRow};
+    ghost use Rattle.g_plain.specs.Codes.{file_map_code};
+
+    ghost Value = { FinMap full_cmp FileRow };
+
+    ghost coded = { file_map_code };
+
+    ghost view = { λ m. from_entries m.rows.entries };
+}
+
+impl FileMap {
+    /// No file, which takes no memory yet.
+    pub fn new(alloc: Global) -> FileMap
+        ensures { result ≡ finmap.empty }
+    {
+        FileMap {
+            rows: BTreeMap::new(alloc),
+        }
+    }
+
+    pub fn len(&self) -> usize
+        ensures { result ≡ finmap.len self.now }
+    {
+        self.rows.len()
+    }
+
+    pub fn has(&self, full: &Full) -> bool
+        ensures { result ≡ is_some (finmap.get self.now full.now) }
+    {
+        self.rows.contains_key(full)
+    }
+
+    pub fn get(&self, full: &Full) -> Option<&FileEntry>
+        ensures { option_copied result ≡ finmap.get self.now full.now }
+    {
+        self.rows.get(full)
+    }
+
+    /// Sets the row of a file; without memory the map stays as it was.
+    pub fn insert(&mut self, full: Full, entry: FileEntry) -> Result<(), NoMemory>
+        ensures ok { OnOk result (self.new ≡ finmap.insert self.old full entry) }
+        ensures err { OnErr result (self.new ≡ self.old) }
+    {
+        self.rows.insert(full, entry)?;
+        Ok(())
+    }
+
+    pub fn remove(&mut self, full: &Full)
+        ensures { self.new ≡ finmap.remove self.old full.now }
+    {
+        self.rows.remove(full);
+    }
+
+    /// A file that is there gets other bytes, as the version of this stamp.
+    pub fn renew(&mut self, full: &Full, bytes: Text, stamp: u64)
+        requires there { is_some (finmap.get self.old full.now) ≡ true }
+        requires few { length bytes ≤ 65536 }
+        ensures { self.new ≡ finmap.insert self.old full.now (record (unwrap_or (finmap.get self.old full.now) no_row) { bytes = bytes; stamp = stamp }) }
+    {
+        match self.rows.get_mut(full) {
+            Some(file) => file.renew(bytes, stamp),
+            None => unreachable!(),
+        }
+    }
+
+    /// A user gets exactly these modes of a file that is there; without memory all stays as it was.
+    pub fn set_traps(&mut self, full: &Full, user: &User, modes: Modes) -> Result<(), NoMemory>
+        requires { is_some (finmap.get self.old full.now) ≡ true }
+        ensures ok { let row = unwrap_or (finmap.get self.old full.now) no_row in
+            OnOk result (self.new ≡ finmap.insert self.old full.now (record row { traps = with_modes full.now user.now modes row.traps })) }
+        ensures err { OnErr result (self.new ≡ self.old) }
+    {
+        match self.rows.get_mut(full) {
+            Some(file) => file.set_traps(full, user, modes),
+            None => unreachable!(),
+        }
+    }
+
+    /// A file that is there gets a name that no file has; without memory all stays as it was.
+    pub fn rename(&mut self, alloc: Global, full: &Full, to: Full) -> Result<(), NoMemory>
+        requires there { is_some (finmap.get self.old full.now) ≡ true }
+        requires free { is_some (finmap.get self.old to) ≡ false }
+        ensures ok { OnOk result (self.new ≡ finmap.insert (finmap.remove self.old full.now) to (unwrap_or (finmap.get self.old full.now) no_row)) }
+        ensures err { OnErr result (self.new ≡ self.old) }
+    {
+        let place = FileEntry::new(TrapMap::new(alloc), Text::new(alloc), 0);
+        self.insert(to.copy(), place)?;
+        let entry = self.take(full);
+        self.replace(to, entry);
+        Ok(())
+    }
+
+    /// Takes a file that is there out, and gives its row.
+    fn take(&mut self, full: &Full) -> FileEntry
+        requires { is_some (finmap.get self.old full.now) ≡ true }
+        ensures row { Some result ≡ finmap.get self.old full.now }
+        ensures taken { self.new ≡ finmap.remove self.old full.now }
+    {
+        match self.rows.remove(full) {
+            Some(entry) => entry,
+            None => unreachable!(),
+        }
+    }
+
+    /// Sets the row of a file that is there, which takes no memory.
+    fn replace(&mut self, full: Full, entry: FileEntry)
+        requires { is_some (finmap.get self.old full) ≡ true }
+        ensures { self.new ≡ finmap.insert self.old full entry }
+    {
+        match self.rows.insert(full, entry) {
+            Ok(_old) => {}
+            Err(_) => unreachable!(),
+        }
+    }
+
+    /// The blocks of a user's files.
+    pub fn used(&self, user: &User) -> u32
+        requires { finmap.len self.now ≤ 1024 }
+        ensures { result ≡ sum_by (λ e. if same_text e.0.user user.now then blocks_for (length e.1.bytes) else 0) (finmap.entries self.now) }
+    {
+        used_in(&self.rows, user)
+    }
+
+    /// The greatest generation of the files of this user, local name and language, or 0.
+    pub fn newest(&self, full: &Full) -> u16
+        ensures { result ≡ fold max 0 (map (λ e. e.0.generation) (filter (λ e. is_version_of full.now e.0) (finmap.entries self.now))) }
+    {
+        newest_in(&self.rows, full)
+    }
+
+    /// The files of a user with their lengths, in full-name order.
+    pub fn listing(&self, alloc: Global, user: &User) -> Result<Listing, NoMemory>
+        ensures { IfOk result (λ listing. listing ≡ map (λ e. (e.0, length e.1.bytes)) (filter (λ e. same_text e.0.user user.now) (finmap.entries self.now))) }
+    {
+        listing_of(alloc, &self.rows, user)
+    }
+}
+
+fn used_in(rows: &BTreeMap<Full, FileEntry>, user: &User) -> u32
+    requires { finmap.len (finmap.from_entries {R = full_cmp} rows.now.entries) ≤ 1024 }
+    ensures used { result ≡ sum_by (λ e. if same_text e.0.user user.now then blocks_for (length e.1.bytes) else 0) rows.now.entries }
+    ensures ordered { IsOrdered full_cmp rows.now }
+{
+    let mut used = 0;
+    for (full, file) in rows {
+        if full.user == *user {
+            used += file.blocks();
+        }
+    }
+    used
+}
+
+fn newest_in(rows: &BTreeMap<Full, FileEntry>, name: &Full) -> u16
+    ensures newest { result ≡ fold max 0 (map (λ e. e.0.generation) (filter (λ e. is_version_of name.now e.0) rows.now.entries)) }
+    ensures ordered { IsOrdered full_cmp rows.now }
+{
+    let mut newest = 0;
+    for (full, _file) in rows {
+        if name.user == full.user && name.local == full.local && name.lang == full.lang {
+            newest = newest.max(full.generation);
+        }
+    }
+    newest
+}
+
+fn listing_of(
+    alloc: Global,
+    rows: &BTreeMap<Full, FileEntry>,
+    user: &User,
+) -> Result<Listing, NoMemory>
+    ensures listing { IfOk result (λ listing. listing ≡ map (λ e. (e.0, length e.1.bytes)) (filter (λ e. same_text e.0.user user.now) rows.now.entries)) }
+    ensures ordered { IsOrdered full_cmp rows.now }
+{
+    let mut listing = Listing::new(alloc);
+    for (full, file) in rows {
+        if full.user == *user {
+            listing.push(full.copy(), file.len())?;
+        }
+    }
+    Ok(listing)
+}

@@ -1,0 +1,52 @@
+//! What a job knows of a store.
+ghost use Rattle.std.specs.Prelude.{◌≡◌, ℕ, false, true, Err, IfOk, ◌↔◌, IsErrOf};
+ghost use Rattle.g_plain.specs.Replies.{IsReplyTo};
+ghost use Rattle.g_plain.specs.Rules.{IsWithinLimits};
+
+use crate::{StoreCall, StoreFault, StoreReply};
+use g_name::User;
+use std::alloc::Global;
+
+/// A store of files. How a call was answered is the relation `answers` between the store before, the caller,
+/// the call, the answer and the store after; what holds of every store are the clauses of `call`.
+pub trait Filestore {
+    ghost use Rattle.std.specs.Prelude.{ℕ, Bool, List, Option, Result};
+    ghost use Rattle.g_plain.specs.PlainTree.{Tree};
+    ghost use Rattle.g_plain.specs.declared.calls.StoreCall.{StoreCall};
+    ghost use Rattle.g_plain.specs.declared.calls.StoreReply.{StoreReply};
+    ghost use Rattle.g_plain.specs.declared.faults.StoreFault.{StoreFault};
+
+    // The tree, where all of it is told.
+    ghost tree: { Self → Option Tree };
+
+    // A stop has come, and no call may be made any more.
+    ghost is_spent: { Self → Bool };
+
+    // A call may wait for the reel of this serial: it isn't mounted.
+    ghost can_wait: { Self → ℕ → Bool };
+
+    ghost answers: { Self → List ℕ → StoreCall → Result StoreReply StoreFault → Self → Type 0 };
+
+    /// Makes a call for the user `who`; a caller who isn't there is NoUser, first of all. Any refusal but
+    /// Stopped leaves the tree as it was.
+    fn call(
+        &mut self,
+        alloc: Global,
+        who: &User,
+        call: &StoreCall,
+    ) -> Result<StoreReply, StoreFault>
+        requires running { is_spent self.old ≡ false }
+        requires limits { IsWithinLimits call.now }
+        ensures answers { answers self.old who.now call.now result self.new }
+
+        // Who waits, waits for a reel that isn't mounted, and no call mounts one.
+        ensures waits { (s : ℕ) → result ≡ Err (StoreFault.WaitTape s) → can_wait self.new s ≡ true }
+        ensures same_waits { (s : ℕ) → can_wait self.new s ≡ can_wait self.old s }
+
+        ensures kind { IfOk result (λ reply. IsReplyTo call.now reply) }
+        ensures spent { (is_spent self.new ≡ true) ↔ IsErrOf result StoreFault.Stopped };
+
+    /// Whether a stop has come.
+    fn spent(&self) -> bool
+        ensures { result ≡ is_spent self.now };
+}

@@ -1,0 +1,25 @@
+//! The plain directory tree, against which every store is measured: the calls of jobs with their
+//! replies and faults, what each call does to a tree, programs that ask a store, and a store in memory.
+#![tactic(auto)]
+
+mod asking;
+mod calls;
+mod faults;
+mod file_map;
+mod filestore;
+mod laws;
+mod plain_calls;
+mod plain_store;
+mod plain_tree;
+mod trap_map;
+mod user_map;
+
+pub use asking::ask;
+pub use calls::{BudgetKind, Listing, StoreCall, StoreReply};
+pub use faults::StoreFault;
+pub use filestore::Filestore;
+pub use laws::{plain_refusal_changes_nothing, plain_step_keeps_rules};
+pub use plain_store::PlainStore;
+
+#[cfg(test)]
+mod tests;

@@ -1,0 +1,327 @@
+//! The plain directory tree in memory, and the calls on it.
+ghost use Rattle.std.specs.Prelude.{◌≡◌, ◌≤◌, ◌^◌, ◌+◌, ◌-◌, ◌<◌, true, false, ◌++◌, map, filter, OnOk, OnErr, IfOk, is_some, length, unwrap_or, None, Some, nat_le, nat_lt, codes};
+ghost use Rattle.std.specs.FinMap as finmap;
+ghost use Rattle.g_name.specs.Order.{same_text};
+ghost use Rattle.g_plain.specs.PlainTree as tree;
+ghost use Rattle.g_plain.specs.PlainStep as step;
+ghost use Rattle.g_plain.specs.Rules.{IsTree, most_of};
+
+use crate::file_map::{FileEntry, FileMap};
+use crate::trap_map::TrapMap;
+use crate::user_map::{UserEntry, UserMap};
+use crate::{BudgetKind, Listing};
+use g_base::{NoMemory, blocks_for};
+use g_name::{Full, Lang, Path, Text, User};
+use g_trap::{Mode, Modes};
+use std::alloc::Global;
+use std::marker::Model;
+
+/// Users, files and the next stamp. Contracts see a tree, of whose rules the calls make use.
+#[derive(Debug, Drop)]
+pub struct PlainTree {
+    users: UserMap,
+    files: FileMap,
+    next: u64,
+}
+
+impl Model for PlainTree {
+    ghost use Rattle.g_plain.specs.PlainTree.{Tree};
+    ghost use Rattle.g_plain.specs.Codes.{tree_code};
+
+    ghost Value = { Tree };
+
+    ghost coded = { tree_code };
+
+    ghost view = { λ t. record { users = t.users; files = t.files; next = t.next } };
+}
+
+impl PlainTree {
+    /// The tree of a new filestore.
+    pub fn formatted(alloc: Global) -> Result<PlainTree, NoMemory>
+        ensures { IfOk result (λ t. t ≡ tree.formatted) }
+    {
+        let mut users = UserMap::new(alloc);
+        users.insert(User::master(), first_entry())?;
+        users.insert(User::macros(), first_entry())?;
+        Ok(PlainTree {
+            users,
+            files: FileMap::new(alloc),
+            next: 1,
+        })
+    }
+
+    pub fn has_user(&self, user: &User) -> bool
+        ensures { result ≡ tree.has_user self.now user.now }
+    {
+        self.users.has(user)
+    }
+
+    /// Whether the caller set the budgets of this user.
+    pub fn is_superior(&self, who: &User, user: &User) -> bool
+        requires { tree.has_user self.now user.now ≡ true }
+        ensures { result ≡ same_text (tree.user_row self.now user.now).superior who.now }
+    {
+        match self.users.get(user) {
+            Some(entry) => entry.superior == *who,
+            None => unreachable!(),
+        }
+    }
+
+    pub fn space_of(&self, user: &User) -> u32
+        requires { tree.has_user self.now user.now ≡ true }
+        ensures { result ≡ (tree.user_row self.now user.now).space }
+    {
+        match self.users.get(user) {
+            Some(entry) => entry.space,
+            None => unreachable!(),
+        }
+    }
+
+    pub fn has_file(&self, full: &Full) -> bool
+        ensures { result ≡ tree.has_file self.now full.now }
+    {
+        self.files.has(full)
+    }
+
+    /// The greatest generation there is of what a path names, or 0.
+    pub fn newest(&self, who: &User, path: &Path) -> u16
+        requires { IsTree self.now }
+        ensures newest { result ≡ tree.newest self.now who.now path.now }
+        ensures few { result ≤ 4095 }
+    {
+        self.files.newest(&named(who, path, 0))
+    }
+
+    pub fn input_name(&self, who: &User, path: &Path) -> Full
+        requires { IsTree self.now }
+        ensures { result ≡ tree.input_name self.now who.now path.now }
+    {
+        let newest = self.newest(who, path);
+        named(who, path, path.generation.unwrap_or(newest))
+    }
+
+    pub fn output_name(&self, who: &User, path: &Path) -> Full
+        requires { IsTree self.now }
+        ensures { result ≡ tree.output_name self.now who.now path.now }
+    {
+        let newest = self.newest(who, path);
+        named(who, path, path.generation.unwrap_or(newest + 1))
+    }
+
+    /// The modes that the traps of a file give a user.
+    pub fn given_modes(&self, full: &Full, user: &User) -> Modes
+        requires { tree.has_file self.now full.now ≡ true }
+        ensures { result ≡ unwrap_or (finmap.get (tree.file_row self.now full.now).traps user.now) 0 }
+    {
+        match self.files.get(full) {
+            Some(file) => file.traps().get(user),
+            None => unreachable!(),
+        }
+    }
+
+    /// Whether a user stands in the traps of a file.
+    pub fn stands(&self, full: &Full, user: &User) -> bool
+        requires { tree.has_file self.now full.now ≡ true }
+        ensures { result ≡ is_some (finmap.get (tree.file_row self.now full.now).traps user.now) }
+    {
+        match self.files.get(full) {
+            Some(file) => file.traps().has(user),
+            None => unreachable!(),
+        }
+    }
+
+    /// How many users stand in the traps of a file.
+    pub fn trapped(&self, full: &Full) -> usize
+        requires { tree.has_file self.now full.now ≡ true }
+        ensures { result ≡ finmap.len (tree.file_row self.now full.now).traps }
+    {
+        match self.files.get(full) {
+            Some(file) => file.traps().len(),
+            None => unreachable!(),
+        }
+    }
+
+    /// What a user may do with a file.
+    pub fn modes_of(&self, full: &Full, user: &User) -> Modes
+        requires { tree.has_file self.now full.now ≡ true }
+        ensures { result ≡ tree.modes_of (tree.file_row self.now full.now) full.now user.now }
+    {
+        let given = self.given_modes(full, user);
+        if full.user == User::macros() {
+            given.union(Modes::only(Mode::Execute))
+        } else {
+            given
+        }
+    }
+
+    pub fn is_allowed(&self, full: &Full, who: &User, mode: Mode) -> bool
+        requires { tree.has_file self.now full.now ≡ true }
+        ensures { result ≡ tree.is_allowed (tree.file_row self.now full.now) full.now who.now mode }
+    {
+        self.modes_of(full, who).contains(mode)
+    }
+
+    /// The length of a file in bytes, 0 where there is none.
+    pub fn len_of(&self, full: &Full) -> u32
+        ensures value { result ≡ length (tree.file_row self.now full.now).bytes }
+        ensures few { result ≤ 65536 }
+    {
+        match self.files.get(full) {
+            Some(file) => file.len(),
+            None => 0,
+        }
+    }
+
+    /// The blocks that the owner has left for a file of this name.
+    pub fn space_left(&self, full: &Full) -> u32
+        requires tree { IsTree self.now }
+        requires owner { tree.has_user self.now full.now.user ≡ true }
+        ensures { result ≡ step.space_left self.now full.now }
+    {
+        let others = self
+            .files
+            .used(&full.user)
+            .saturating_sub(blocks_for(self.len_of(full)));
+        self.space_of(&full.user).saturating_sub(others)
+    }
+
+    pub fn users(&self) -> usize
+        ensures { result ≡ finmap.len self.now.users }
+    {
+        self.users.len()
+    }
+
+    pub fn files(&self) -> usize
+        ensures { result ≡ finmap.len self.now.files }
+    {
+        self.files.len()
+    }
+
+    /// Whether no stamp is left for a new version.
+    pub fn is_spent(&self) -> bool
+        ensures { result ≡ nat_le (2 ^ 62) self.now.next }
+    {
+        self.next >= 4611686018427387904
+    }
+
+    /// A text of its own with the bytes of a file, and more behind them.
+    pub fn bytes_with(&self, alloc: Global, full: &Full, more: &[u8]) -> Result<Text, NoMemory>
+        requires { tree.has_file self.now full.now ≡ true }
+        ensures { IfOk result (λ text. text ≡ (tree.file_row self.now full.now).bytes ++ more.now) }
+    {
+        match self.files.get(full) {
+            Some(file) => {
+                let mut text = Text::from_slice(alloc, file.bytes())?;
+                text.extend(more)?;
+                Ok(text)
+            }
+            None => unreachable!(),
+        }
+    }
+
+    /// The files of a user with their lengths, in full-name order.
+    pub fn listing(&self, alloc: Global, user: &User) -> Result<Listing, NoMemory>
+        ensures { IfOk result (λ listing. listing ≡ map (λ e. (e.0, length e.1.bytes)) (filter (λ e. same_text e.0.user user.now) (finmap.entries self.now.files))) }
+    {
+        self.files.listing(alloc, user)
+    }
+
+    /// Sets a user's row; without memory the tree stays as it was.
+    pub fn add_user(&mut self, user: User, entry: UserEntry) -> Result<(), NoMemory>
+        ensures ok { OnOk result (self.new ≡ record self.old { users = finmap.insert self.old.users user entry }) }
+        ensures err { OnErr result (self.new ≡ self.old) }
+    {
+        self.users.insert(user, entry)
+    }
+
+    /// Sets one budget of a user who is there.
+    pub fn set_budget(&mut self, user: &User, kind: BudgetKind, amount: u64)
+        requires there { tree.has_user self.old user.now ≡ true }
+        requires limit { amount ≤ most_of kind }
+        ensures { self.new ≡ record self.old { users = finmap.insert self.old.users user.now (step.with_budget (tree.user_row self.old user.now) kind amount) } }
+    {
+        self.users.set_budget(user, kind, amount)
+    }
+
+    /// A new version of a file, or a new file; without memory the tree stays as it was.
+    pub fn put_version(&mut self, alloc: Global, full: Full, bytes: Text) -> Result<(), NoMemory>
+        requires few { length bytes ≤ 65536 }
+        requires stamps { self.old.next < 2 ^ 62 }
+        ensures ok { OnOk result (self.new ≡ step.with_version self.old full bytes) }
+        ensures err { OnErr result (self.new ≡ self.old) }
+    {
+        if self.files.has(&full) {
+            self.files.renew(&full, bytes, self.next);
+        } else {
+            let mut traps = TrapMap::new(alloc);
+            traps.insert(full.user.copy(), Modes::all())?;
+            self.files
+                .insert(full, FileEntry::new(traps, bytes, self.next))?;
+        }
+        self.next += 1;
+        Ok(())
+    }
+
+    pub fn erase(&mut self, full: &Full)
+        ensures { self.new ≡ record self.old { files = finmap.remove self.old.files full.now } }
+    {
+        self.files.remove(full);
+    }
+
+    /// A file gets a name that no file has; without memory the tree stays as it was.
+    pub fn rename(&mut self, alloc: Global, full: &Full, to: Full) -> Result<(), NoMemory>
+        requires there { tree.has_file self.old full.now ≡ true }
+        requires free { tree.has_file self.old to ≡ false }
+        ensures ok { OnOk result (self.new ≡ record self.old { files = finmap.insert (finmap.remove self.old.files full.now) to (tree.file_row self.old full.now) }) }
+        ensures err { OnErr result (self.new ≡ self.old) }
+    {
+        self.files.rename(alloc, full, to)
+    }
+
+    /// A user gets exactly these modes of a file; without memory the tree stays as it was.
+    pub fn set_traps(&mut self, full: &Full, user: &User, modes: Modes) -> Result<(), NoMemory>
+        requires { tree.has_file self.old full.now ≡ true }
+        ensures ok { OnOk result (self.new ≡ step.with_traps self.old full.now user.now modes) }
+        ensures err { OnErr result (self.new ≡ self.old) }
+    {
+        self.files.set_traps(full, user, modes)
+    }
+}
+
+/// A first user's budgets.
+fn first_entry() -> UserEntry
+    ensures { result ≡ record { superior = codes "MASTER"; space = 65535; time = 1000000; money = 1000000 } }
+{
+    UserEntry {
+        superior: User::master(),
+        space: 65535,
+        time: 1000000,
+        money: 1000000,
+    }
+}
+
+/// Whose file a path names.
+fn owner_of(who: &User, path: &Path) -> User
+    ensures { result ≡ tree.owner_of who.now path.now }
+{
+    match &path.user {
+        Some(user) => user.copy(),
+        None => who.copy(),
+    }
+}
+
+/// The full name that a path gives with a generation.
+fn named(who: &User, path: &Path, generation: u16) -> Full
+    ensures { result ≡ tree.named who.now path.now generation }
+{
+    let lang = match &path.lang {
+        Some(lang) => lang.copy(),
+        None => Lang::spaces(),
+    };
+    Full {
+        user: owner_of(who, path),
+        local: path.local.copy(),
+        generation,
+        lang,
+    }
+}
