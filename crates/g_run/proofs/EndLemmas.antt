@@ -16,11 +16,11 @@ use Rattle.g_run.proofs.PartLemmas.{with_more-append, put_on}
 -- a script without a line
 pub nothing_goes : (old : DiscState) (before : Option (List ℕ)) → WorkGoes Nothing None old old before before
 nothing_goes old before bad blocks told =
-    ([], start Nothing bad, [], record { run = refl; counted = counted-none old; on = tt; text = refl }, record { lines = refl; job = refl; over = refl; bad = refl }, sym (with_more-nil before))
+    ([], start Nothing bad, [], record { run = refl; counted = counted-none old; on = tt; text = refl }, record { lines = refl; job = refl; over = refl; phase = refl; bad = refl }, sym (with_more-nil before))
 
 -- the run ends behind its last part
 over_run : (w next : World) (old new : DiscState) (added : List ℕ) (moves : List Move) → Comes w old new added moves next → IsIdle w next → Run w (moves ++ Over ∷ []) (closed next)
-over_run w next old new added moves comes idle = run-append w next (closed next) moves (Over ∷ []) comes.run (closed next, (idle.lines, idle.job, idle.over, refl), refl)
+over_run w next old new added moves comes idle = run-append w next (closed next) moves (Over ∷ []) comes.run (closed next, (idle.lines, idle.job, idle.over, refl, idle.phase), refl)
 
 over_counted : (w next : World) (old new : DiscState) (added : List ℕ) (moves : List Move) → Comes w old new added moves next → Counted (moves ++ Over ∷ []) old new
 over_counted w next old new added moves comes = counted-append moves (Over ∷ []) old new new comes.counted (counted-over new)

@@ -10,8 +10,8 @@ use Rattle.g_run.specs.declared.progress.Failure.{Failure}
 use Rattle.g_run.specs.declared.progress.Failure.TheVariants as failures
 use Rattle.g_run.specs.declared.turn.Turn.TheVariants as kinds
 use Rattle.g_run.specs.Texts.{ended_line, header, last_line, operator_line}
-use Rattle.g_run.specs.World.{World, Outcome, Store, Up, StoppedIn, JobView, IsOn, TurnEnd, Going, Ended, Stopped, after_turn, job_ended, job_goes_on}
-use Rattle.g_run.specs.Run.{Turn, Run, Counted}
+use Rattle.g_run.specs.World.{Between, Turned, ticked, World, Outcome, Store, Up, StoppedIn, JobView, IsOn, TurnEnd, Going, Ended, Stopped, after_turn, job_ended, job_goes_on}
+use Rattle.g_run.specs.Run.{Ticked, Turn, Run, Counted}
 use Rattle.g_run.specs.Turn.{Turns, IsTurn, IsTurnInPart, kind_of, said_in, store_after}
 use Rattle.g_run.specs.Parts.{PutsBy, GoesBy, job_view, job_world}
 use Rattle.g_run.specs.Jobs.{InJob, HasCome, JobGoes}
@@ -25,32 +25,42 @@ other_test a b other = elim (eqb_tells a b) as (λ _. (a == b) ≡ false) [ inl 
 
 -- the world behind a job
 abbrev job_over : Option ℕ → List ℕ → Store → ℕ → World
-job_over bad text store count = record { lines = []; bad = bad; count = count; store = store; job = None; text = text; over = false }
+job_over bad text store count = record { lines = []; bad = bad; count = count; phase = Between; store = store; job = None; text = text; over = false }
 
 after_going : (bad : Option ℕ) (text : List ℕ) (job : Job) (now files : List File) (used : ℕ) (file said : List ℕ) → (used + 1 == job.time) ≡ false →
-    job_world bad text job files (used + 1) (file ++ said) ≡ after_turn (job_world bad text job now used file) (job_view job used file) (Going files said)
+    job_world bad text job files (used + 1) (file ++ said) ≡ ticked (after_turn (job_world bad text job now used file) (job_view job used file) (Going files said))
 after_going bad text job now files used file said test = rw test refl
 
 after_time_up : (bad : Option ℕ) (text : List ℕ) (job : Job) (now files : List File) (used : ℕ) (file said : List ℕ) → (used + 1 == job.time) ≡ true →
     job_over bad (text ++ ((file ++ said) ++ last_line (codes "TIME UP") (used + 1))) (Up files) (used + 1)
-    ≡ after_turn (job_world bad text job now used file) (job_view job used file) (Going files said)
+    ≡ ticked (after_turn (job_world bad text job now used file) (job_view job used file) (Going files said))
 after_time_up bad text job now files used file said test = rw test refl
 
 after_stop : (bad : Option ℕ) (text : List ℕ) (job : Job) (now old new : List File) (used : ℕ) (file said : List ℕ) →
     job_over bad (text ++ (operator_line used (codes "SYSTEM STOPPED") ++ ((file ++ said) ++ ended_line (codes "BREAK")))) (StoppedIn old new) (used + 1)
-    ≡ after_turn (job_world bad text job now used file) (job_view job used file) (Stopped old new said)
+    ≡ ticked (after_turn (job_world bad text job now used file) (job_view job used file) (Stopped old new said))
 after_stop bad text job now old new used file said =
     ap (λ t. job_over bad t (StoppedIn old new) (used + 1))
     (sym (append_assoc text (operator_line used (codes "SYSTEM STOPPED")) ((file ++ said) ++ ended_line (codes "BREAK"))))
 
+-- behind its turn a tick waits for its end
+turned : (w : World) (job : JobView) (end : TurnEnd) → (after_turn w job end).phase ≡ Turned
+turned w job (Going files said) =
+    elim (job.used + 1 == job.allowance) as (λ t. (if t then job_ended (record w { phase = Turned; store = Up files }) job said (codes "TIME UP")
+    else job_goes_on (record w { phase = Turned; store = Up files }) job said).phase ≡ Turned) [ true ↦ refl | false ↦ refl ]
+turned w job (Ended said) = refl
+turned w job (Stopped old new said) = refl
+
 -- one turn more, to whatever world it leads
 one_turn : (bad : Option ℕ) (text : List ℕ) (job : Job) (begun now new : FirstView) (used : ℕ) (file : List ℕ) (outcome : Outcome) (end : TurnEnd) (next : World) →
     (here : InJob bad text job begun now used file) → Turns (slice_get job.document used) now new outcome end →
-    next ≡ after_turn (job_world bad text job now.files used file) (job_view job used file) end →
-    Run (job_world bad text job begun.files 0 (header 1 job.name)) (here.moves ++ Turn outcome ∷ []) next
+    next ≡ ticked (after_turn (job_world bad text job now.files used file) (job_view job used file) end) →
+    Run (job_world bad text job begun.files 0 (header 1 job.name)) (here.moves ++ Turn outcome ∷ Ticked ∷ []) next
 one_turn bad text job begun now new used file outcome end next here turns e =
-    run-append _ (job_world bad text job now.files used file) next here.moves (Turn outcome ∷ []) here.run
-    (next, (job_view job used file, now.files, end, refl, refl, refl, turns.is, e), refl)
+    let w : World = job_world bad text job now.files used file in
+    let view : JobView = job_view job used file in
+    run-append _ w next here.moves (Turn outcome ∷ Ticked ∷ []) here.run
+    (after_turn w view end, (view, now.files, end, refl, refl, refl, turns.is, refl, refl), (next, (turned w view end, e), refl))
 
 pub come_start : (job : Job) (begun : FirstView) → HasCome job begun begun 0 (header 1 job.name)
 come_start job begun bad text up = record { up = up; moves = []; run = refl; counted = counted-none begun.disc }
@@ -63,9 +73,9 @@ going_on bad text job begun now new used file file' outcome (Going files said) h
     = ap (λ fs. job_world bad text job fs (used + 1) file') turns.now.1 ∙ ap (λ t. job_world bad text job files (used + 1) t) file_is in
     record {
       up = turns.now.0;
-      moves = here.moves ++ Turn outcome ∷ [];
+      moves = here.moves ++ Turn outcome ∷ Ticked ∷ [];
       run = one_turn bad text job begun now new used file outcome (Going files said) _ here turns (e ∙ after_going bad text job now.files files used file said test);
-      counted = counted-append here.moves (Turn outcome ∷ []) begun.disc now.disc new.disc here.counted (counted-turn outcome now.disc new.disc turns.cause);
+      counted = counted-append here.moves (Turn outcome ∷ Ticked ∷ []) begun.disc now.disc new.disc here.counted (counted-turn outcome now.disc new.disc turns.cause);
     }
 going_on bad text job begun now new used file file' outcome (Ended said) here turns kind file_is test = let no : ⊥ = cc in absurd no
 going_on bad text job begun now new used file file' outcome (Stopped old after said) here turns kind file_is test = let no : ⊥ = cc in absurd no
@@ -81,29 +91,29 @@ come_on job begun now new used file file' come turn more bad text up =
 over_by : (failure : Option Failure) (bad : Option ℕ) (text : List ℕ) (job : Job) (begun now new : FirstView) (used : ℕ) (file : List ℕ) (outcome : Outcome) (end : TurnEnd)
     (store : Store) (added : List ℕ) (before after : Option (List ℕ)) →
     InJob bad text job begun now used file → Turns (slice_get job.document used) now new outcome end →
-    job_over bad (text ++ added) store (used + 1) ≡ after_turn (job_world bad text job now.files used file) (job_view job used file) end →
+    job_over bad (text ++ added) store (used + 1) ≡ ticked (after_turn (job_world bad text job now.files used file) (job_view job used file) end) →
     IsOn store new.disc → PutsBy failure added before after →
     GoesBy failure (job_world bad text job begun.files 0 (header 1 job.name)) begun.disc new.disc before after
 over_by None bad text job begun now new used file outcome end store added before after here turns e on put = (
-  here.moves ++ Turn outcome ∷ [],
+  here.moves ++ Turn outcome ∷ Ticked ∷ [],
   job_over bad (text ++ added) store (used + 1),
   added,
   record {
     run = one_turn bad text job begun now new used file outcome end _ here turns e;
-    counted = counted-append here.moves (Turn outcome ∷ []) begun.disc now.disc new.disc here.counted (counted-turn outcome now.disc new.disc turns.cause);
+    counted = counted-append here.moves (Turn outcome ∷ Ticked ∷ []) begun.disc now.disc new.disc here.counted (counted-turn outcome now.disc new.disc turns.cause);
     on = on;
     text = refl;
   },
-  record { lines = refl; job = refl; over = refl; bad = refl },
+  record { lines = refl; job = refl; over = refl; phase = refl; bad = refl },
   put,
 )
 over_by (Some failure) bad text job begun now new used file outcome end store added before after here turns e on put = (
-  here.moves ++ Turn outcome ∷ [],
+  here.moves ++ Turn outcome ∷ Ticked ∷ [],
   job_over bad (text ++ added) store (used + 1),
   added,
   record {
     run = one_turn bad text job begun now new used file outcome end _ here turns e;
-    counted = counted-append here.moves (Turn outcome ∷ []) begun.disc now.disc new.disc here.counted (counted-turn outcome now.disc new.disc turns.cause);
+    counted = counted-append here.moves (Turn outcome ∷ Ticked ∷ []) begun.disc now.disc new.disc here.counted (counted-turn outcome now.disc new.disc turns.cause);
     on = on;
     text = refl;
   },
@@ -182,8 +192,8 @@ breaks_at_start job begun before after same bad text up = (
 -- a turn adds its text to that of the run, or none
 turn_adds : (w : World) (job : JobView) (end : TurnEnd) → (added : List ℕ) × ((after_turn w job end).text ≡ w.text ++ added)
 turn_adds w job (Going files said) =
-    elim (job.used + 1 == job.allowance) as (λ t. (added : List ℕ) × ((if t then job_ended (record w { count = w.count + 1; store = Up files }) job said (codes "TIME UP")
-    else job_goes_on (record w { count = w.count + 1; store = Up files }) job said).text ≡ w.text ++ added)) [
+    elim (job.used + 1 == job.allowance) as (λ t. (added : List ℕ) × ((if t then job_ended (record w { phase = Turned; store = Up files }) job said (codes "TIME UP")
+    else job_goes_on (record w { phase = Turned; store = Up files }) job said).text ≡ w.text ++ added)) [
       | true ↦ ((job.file ++ said) ++ last_line (codes "TIME UP") (job.used + 1), refl)
       | false ↦ ([], sym (append-nil w.text))
     ]
@@ -195,8 +205,8 @@ turn_adds w job (Stopped old new said) = (
 
 turn_leaves : (w : World) (job : JobView) (end : TurnEnd) (files : List File) → w.store ≡ Up files → store_after files end ≡ (after_turn w job end).store
 turn_leaves w job (Going files' said) files e =
-    elim (job.used + 1 == job.allowance) as (λ t. Up files' ≡ (if t then job_ended (record w { count = w.count + 1; store = Up files' }) job said (codes "TIME UP")
-    else job_goes_on (record w { count = w.count + 1; store = Up files' }) job said).store) [ true ↦ refl | false ↦ refl ]
+    elim (job.used + 1 == job.allowance) as (λ t. Up files' ≡ (if t then job_ended (record w { phase = Turned; store = Up files' }) job said (codes "TIME UP")
+    else job_goes_on (record w { phase = Turned; store = Up files' }) job said).store) [ true ↦ refl | false ↦ refl ]
 turn_leaves w job (Ended said) files e = sym e
 turn_leaves w job (Stopped old new said) files e = refl
 
@@ -219,14 +229,14 @@ breaks_in_turn job begun now new used file before after come part same bad text 
         put_nothing before after [] same,
       )
       | inr t ↦ let w = job_world bad text job now.files used file in
-          let next = after_turn w (job_view job used file) t.1 in
+          let next = ticked (after_turn w (job_view job used file) t.1) in
           let adds = turn_adds w (job_view job used file) t.1 in (
-            here.moves ++ Turn t.0 ∷ [],
+            here.moves ++ Turn t.0 ∷ Ticked ∷ [],
             next,
             adds.0,
             record {
               run = one_turn bad text job begun now new used file t.0 t.1 next here t.2 refl;
-              counted = counted-append here.moves (Turn t.0 ∷ []) begun.disc now.disc new.disc here.counted (counted-turn t.0 now.disc new.disc t.2.cause);
+              counted = counted-append here.moves (Turn t.0 ∷ Ticked ∷ []) begun.disc now.disc new.disc here.counted (counted-turn t.0 now.disc new.disc t.2.cause);
               on = subst (λ store. IsOn store new.disc) (turn_leaves w (job_view job used file) t.1 now.files refl) (now_on (store_after now.files t.1) new t.2.now);
               text = adds.1;
             },

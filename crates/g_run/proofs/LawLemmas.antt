@@ -2,8 +2,8 @@
 use Rattle.std.proofs.Common.{◌≡◌, ◌⊎◌, ◌==◌, ◌+◌, ℕ, Bool, true, false, List, [], ◌∷◌, Option, Some, None, refl, sym, ◌∙◌, ap, subst, inl, inr, arith, slice_get, codes, if◌then◌else◌}
 use Rattle.g_script.specs.declared.script.Job.{Job}
 use Rattle.g_online.specs.Files.{File}
-use Rattle.g_run.specs.World.{World, Outcome, Plain, DiscRead, Cut, Store, Unknown, Up, StoppedIn, Line, FormatLine, JobLine, JobView, TurnEnd, Going, Ended, Stopped, start, after_line, after_job_line, turn_end, after_turn, job_ended, job_goes_on}
-use Rattle.g_run.specs.Run.{Move, TakeLine, Turn, Over, Step, Run, reads_in, cuts_in, reads_of, cuts_of}
+use Rattle.g_run.specs.World.{Phase, Between, Turned, ticked, World, Outcome, Plain, DiscRead, Cut, Store, Unknown, Up, StoppedIn, Line, FormatLine, JobLine, JobView, TurnEnd, Going, Ended, Stopped, start, after_line, after_job_line, turn_end, after_turn, job_ended, job_goes_on}
+use Rattle.g_run.specs.Run.{Move, TakeLine, Turn, Ticked, Over, Step, Run, reads_in, cuts_in, reads_of, cuts_of}
 use Rattle.g_run.specs.Laws.{OneText}
 
 same_some : {X : Type 0} (a b : X) → Some a ≡ Some b → a ≡ b
@@ -28,10 +28,14 @@ clash_job job view e f = let no : ⊥ = cc in absurd no
 clash_over : {X : Type 0} (over : Bool) → over ≡ true → over ≡ false → X
 clash_over over e f = let no : ⊥ = cc in absurd no
 
+clash_phase : {X : Type 0} (phase : Phase) → phase ≡ Between → phase ≡ Turned → X
+clash_phase phase e f = let no : ⊥ = cc in absurd no
+
 -- a move at which nothing failed
 abbrev IsPlain : Move → Type 0
 IsPlain (TakeLine outcome) = outcome ≡ Plain
 IsPlain (Turn outcome) = outcome ≡ Plain
+IsPlain Ticked = Unit {0}
 IsPlain Over = Unit {0}
 
 plain_of : (o : Outcome) (n m : ℕ) → reads_in o + n ≡ 0 → cuts_in o + m ≡ 0 → (o ≡ Plain) × (n ≡ 0) × (m ≡ 0)
@@ -43,6 +47,7 @@ first_plain : (move : Move) (moves : List Move) → reads_of (move ∷ moves) �
     IsPlain move × (reads_of moves ≡ 0) × (cuts_of moves ≡ 0)
 first_plain (TakeLine o) moves r c = plain_of o (reads_of moves) (cuts_of moves) r c
 first_plain (Turn o) moves r c = plain_of o (reads_of moves) (cuts_of moves) r c
+first_plain Ticked moves r c = (tt, r, c)
 first_plain Over moves r c = (tt, r, c)
 
 one_line : (w a b : World) (o : Outcome) → Step w (TakeLine o) a → Step w (TakeLine o) b → a ≡ b
@@ -69,13 +74,20 @@ agree (TakeLine o) Over w a b p p' s t = clash_lines w.lines s.0 s.1 s.2 t.0
 agree (Turn o) (TakeLine o') w a b p p' s t = clash_lines w.lines t.0 t.1 t.2 s.3
 agree (Turn o) (Turn o') w a b p p' s t = one_turn w a b o s (subst (λ (x : Outcome). Step w (Turn x) b) (p' ∙ sym p) t)
 agree (Turn o) Over w a b p p' s t = clash_job w.job s.0 s.4 t.1
+agree (TakeLine o) Ticked w a b p p' s t = clash_phase w.phase s.4 t.0
+agree (Turn o) Ticked w a b p p' s t = clash_phase w.phase s.8 t.0
+agree Over Ticked w a b p p' s t = clash_phase w.phase s.4 t.0
+agree Ticked (TakeLine o') w a b p p' s t = clash_phase w.phase t.4 s.0
+agree Ticked (Turn o') w a b p p' s t = clash_phase w.phase t.8 s.0
+agree Ticked Over w a b p p' s t = clash_phase w.phase t.4 s.0
+agree Ticked Ticked w a b p p' s t = s.1 ∙ sym t.1
 agree Over (TakeLine o') w a b p p' s t = clash_lines w.lines t.0 t.1 t.2 s.0
 agree Over (Turn o') w a b p p' s t = clash_job w.job t.0 t.4 s.1
 agree Over Over w a b p p' s t = s.3 ∙ sym t.3
 
 -- a world in which something may be done still, or nothing is left
 abbrev Rests : World → Type 0
-Rests w = (w.over ≡ false) ⊎ ((w.lines ≡ []) × (w.job ≡ None))
+Rests w = (w.over ≡ false) ⊎ ((w.lines ≡ []) × (w.job ≡ None) × (w.phase ≡ Between))
 
 job_line_keeps : (w : World) (job : Job) (store : Store) → (after_job_line w job store).over ≡ w.over
 job_line_keeps w job Unknown = refl
@@ -95,8 +107,8 @@ line_keeps w new (JobLine job) Cut e = let no : ⊥ = cc in absurd no
 
 turn_keeps : (w : World) (job : JobView) (end : TurnEnd) → (after_turn w job end).over ≡ w.over
 turn_keeps w job (Going files said) =
-    elim (job.used + 1 == job.allowance) as (λ t. (if t then job_ended (record w { count = w.count + 1; store = Up files }) job said (codes "TIME UP")
-    else job_goes_on (record w { count = w.count + 1; store = Up files }) job said).over ≡ w.over) [ true ↦ refl | false ↦ refl ]
+    elim (job.used + 1 == job.allowance) as (λ t. (if t then job_ended (record w { phase = Turned; store = Up files }) job said (codes "TIME UP")
+    else job_goes_on (record w { phase = Turned; store = Up files }) job said).over ≡ w.over) [ true ↦ refl | false ↦ refl ]
 turn_keeps w job (Ended said) = refl
 turn_keeps w job (Stopped old new said) = refl
 
@@ -105,12 +117,15 @@ rests_on (TakeLine o) w new rests s =
     elim rests as (λ _. Rests new) [ inl going ↦ inl (line_keeps (record w { lines = s.1 }) new s.0 o s.3 ∙ going) | inr done ↦ clash_lines w.lines s.0 s.1 s.2 done.0 ]
 rests_on (Turn o) w new rests s =
     elim rests as (λ _. Rests new) [ inl going ↦ inl (over_of (after_turn w s.0 s.2) new (sym s.7) ∙ turn_keeps w s.0 s.2 ∙ going) | inr done ↦ clash_job w.job s.0 s.4 done.1 ]
-rests_on Over w new rests s = inr (ap (λ (v : World). v.lines) s.3 ∙ s.0, ap (λ (v : World). v.job) s.3 ∙ s.1)
+rests_on Ticked w new rests s =
+    elim rests as (λ _. Rests new) [ inl going ↦ inl (over_of (ticked w) new (sym s.1) ∙ going) | inr done ↦ clash_phase w.phase done.2 s.0 ]
+rests_on Over w new rests s = inr (ap (λ (v : World). v.lines) s.3 ∙ s.0, ap (λ (v : World). v.job) s.3 ∙ s.1, ap (λ (v : World). v.phase) s.3 ∙ s.4)
 
 -- behind the end no move is left
 stuck : {X : Type 0} (move : Move) (w new : World) → Rests w → w.over ≡ true → Step w move new → X
 stuck {X} (TakeLine o) w new rests over s = elim rests as (λ _. X) [ inl going ↦ clash_over w.over over going | inr done ↦ clash_lines w.lines s.0 s.1 s.2 done.0 ]
 stuck {X} (Turn o) w new rests over s = elim rests as (λ _. X) [ inl going ↦ clash_over w.over over going | inr done ↦ clash_job w.job s.0 s.4 done.1 ]
+stuck {X} Ticked w new rests over s = elim rests as (λ _. X) [ inl going ↦ clash_over w.over over going | inr done ↦ clash_phase w.phase done.2 s.0 ]
 stuck (Over) w new rests over s = clash_over w.over over s.2
 
 one_end : (moves moves' : List Move) (w a b : World) → Rests w → Run w moves a → Run w moves' b → a.over ≡ true → b.over ≡ true →

@@ -7,7 +7,7 @@ use Rattle.g_script.specs.declared.script.Job.{Job}
 use Rattle.g_run.specs.declared.progress.Failure.{Failure}
 use Rattle.g_run.specs.declared.progress.Failure.TheVariants as failures
 use Rattle.g_run.specs.Texts.{header, job_in, operator_line}
-use Rattle.g_run.specs.World.{World, Outcome, Plain, DiscRead, Cut, Up, Line, FormatLine, JobLine, IsOn}
+use Rattle.g_run.specs.World.{Between, World, Outcome, Plain, DiscRead, Cut, Up, Line, FormatLine, JobLine, IsOn}
 use Rattle.g_run.specs.Run.{TakeLine, Run, Counted}
 use Rattle.g_run.specs.Turn.{HasCause, IsUp}
 use Rattle.g_run.specs.Parts.{PutsBy, Comes, GoesBy, Formats, Unformatted, before_format, after_format_line, format_says, formatted, job_world}
@@ -17,9 +17,9 @@ use Rattle.g_run.proofs.RunLemmas.{counted-line, none_rose, now_on, put_nothing}
 use Rattle.g_run.proofs.PartLemmas.{goes_on, goes_last}
 
 format_run : (rest : List Line) (bad : Option ℕ) (outcome : Outcome) → Run (before_format rest bad) (TakeLine outcome ∷ []) (after_format_line rest bad outcome)
-format_run rest bad Plain = (after_format_line rest bad Plain, (FormatLine, rest, refl, refl), refl)
-format_run rest bad DiscRead = (after_format_line rest bad DiscRead, (FormatLine, rest, refl, refl), refl)
-format_run rest bad Cut = (after_format_line rest bad Cut, (FormatLine, rest, refl, refl), refl)
+format_run rest bad Plain = (after_format_line rest bad Plain, (FormatLine, rest, refl, refl, refl), refl)
+format_run rest bad DiscRead = (after_format_line rest bad DiscRead, (FormatLine, rest, refl, refl, refl), refl)
+format_run rest bad Cut = (after_format_line rest bad Cut, (FormatLine, rest, refl, refl, refl), refl)
 
 come_format : (rest : List Line) (bad : Option ℕ) (outcome : Outcome) (old new : DiscState) → Formats outcome old new →
     Comes (before_format rest bad) old new (operator_line 0 (format_says outcome)) (TakeLine outcome ∷ []) (after_format_line rest bad outcome)
@@ -38,7 +38,7 @@ pub alone_formatted : (old : DiscState) (store : FirstView) (before after : Opti
 alone_formatted old store before after empty formatted put bad blocks told =
     goes_last None _ (after_format_line [] bad Plain) old store.disc _ _ before after
     (come_format [] bad Plain old store.disc (formats_plain old store empty (formatted blocks told)))
-    (record { lines = refl; job = refl; over = refl; bad = refl }) put
+    (record { lines = refl; job = refl; over = refl; phase = refl; bad = refl }) put
 
 -- nothing came of FORMAT for want of memory
 lacks_memory : (rest : List Line) (failure : Option Failure) (bad : Option ℕ) (old new : DiscState) (before after : Option (List ℕ)) → failure ≡ Some failures.Memory → HasCause Plain old new → after ≡ before →
@@ -53,7 +53,7 @@ alone_refused failure old new before after refused bad blocks told =
     elim (refused blocks told) as (λ _. GoesBy failure (before_format [] bad) old new before after) [
       | inl m ↦ lacks_memory [] failure bad old new before after m.0 m.1 m.2
       | inr u ↦ goes_last failure _ (after_format_line [] bad u.0) old new _ _ before after (come_format [] bad u.0 old new u.1.formats)
-          (record { lines = refl; job = refl; over = refl; bad = refl }) u.1.put
+          (record { lines = refl; job = refl; over = refl; phase = refl; bad = refl }) u.1.put
     ]
 
 -- FORMAT and a job
@@ -67,13 +67,13 @@ job_cut_short job failure old new before after refused bad blocks told =
 
 -- the job's line behind a FORMAT that was refused
 abbrev not_started : Option ℕ → Outcome → World
-not_started bad outcome = record { lines = []; bad = bad; count = 0; store = formatted outcome; job = None; text = operator_line 0 (format_says outcome) ++ operator_line 0 (codes "REFUSED 20 NOT STARTED"); over = false }
+not_started bad outcome = record { lines = []; bad = bad; count = 0; phase = Between; store = formatted outcome; job = None; text = operator_line 0 (format_says outcome) ++ operator_line 0 (codes "REFUSED 20 NOT STARTED"); over = false }
 
 refuse_run : (bad : Option ℕ) (job : Job) (outcome : Outcome) → (outcome ≡ Plain → ⊥) →
     Run (after_format_line (JobLine job ∷ []) bad outcome) (TakeLine Plain ∷ []) (not_started bad outcome)
 refuse_run bad job Plain refused = absurd (refused refl)
-refuse_run bad job DiscRead refused = (not_started bad DiscRead, (JobLine job, [], refl, refl), refl)
-refuse_run bad job Cut refused = (not_started bad Cut, (JobLine job, [], refl, refl), refl)
+refuse_run bad job DiscRead refused = (not_started bad DiscRead, (JobLine job, [], refl, refl, refl), refl)
+refuse_run bad job Cut refused = (not_started bad Cut, (JobLine job, [], refl, refl, refl), refl)
 
 unknown_on : (outcome : Outcome) (disc : DiscState) → (outcome ≡ Plain → ⊥) → IsOn (formatted outcome) disc
 unknown_on Plain disc refused = absurd (refused refl)
@@ -92,7 +92,7 @@ job_refused job failure old new before middle after refused put bad blocks told 
           (come_format (JobLine job ∷ []) bad u.0 old new u.1.formats) refl u.1.put
           (goes_last failure _ (not_started bad u.0) new new _ _ middle after
           (record { run = refuse_run bad job u.0 other; counted = counted-line Plain new new (record { reads = refl; writes = refl; arms = refl; size = refl }); on = unknown_on u.0 new other; text = refl })
-          (record { lines = refl; job = refl; over = refl; bad = refl }) put)
+          (record { lines = refl; job = refl; over = refl; phase = refl; bad = refl }) put)
     ]
 
 pub job_done : (job : Job) (failure : Option Failure) (old new : DiscState) (store : FirstView) (before middle after : Option (List ℕ)) → store.files ≡ [] →
@@ -109,7 +109,7 @@ come_job : (bad : Option ℕ) (text : List ℕ) (job : Job) (store : FirstView) 
     Comes (before_job bad text job) store.disc store.disc (operator_line 0 (job_in 1 job.name)) (TakeLine Plain ∷ [])
     (job_world bad (text ++ operator_line 0 (job_in 1 job.name)) job [] 0 (header 1 job.name))
 come_job bad text job store empty up = record {
-  run = (job_world bad (text ++ operator_line 0 (job_in 1 job.name)) job [] 0 (header 1 job.name), (JobLine job, [], refl, refl), refl);
+  run = (job_world bad (text ++ operator_line 0 (job_in 1 job.name)) job [] 0 (header 1 job.name), (JobLine job, [], refl, refl, refl), refl);
   counted = counted-line Plain store.disc store.disc (record { reads = refl; writes = refl; arms = refl; size = refl });
   on = now_on (Up []) store (up, empty);
   text = refl;

@@ -38,7 +38,7 @@ goes_on None w mid old now new a moves before middle after first bad put rest = 
   rest.1,
   a ++ rest.2,
   comes_on w mid rest.1 old now new a rest.2 moves rest.0 first rest.3,
-  record { lines = rest.4.lines; job = rest.4.job; over = rest.4.over; bad = rest.4.bad ∙ bad },
+  record { lines = rest.4.lines; job = rest.4.job; over = rest.4.over; phase = rest.4.phase; bad = rest.4.bad ∙ bad },
   rest.5 ∙ ap (λ m. with_more m rest.2) put ∙ with_more-append before a rest.2,
 )
 goes_on (Some failure) w mid old now new a moves before middle after first bad put rest = (

@@ -8,7 +8,7 @@ use Rattle.g_io.specs.Streams.{with_more, HasPutPart}
 use Rattle.g_online.specs.Image.{StandsFor}
 use Rattle.g_online.specs.Store.{FirstView}
 use Rattle.g_run.specs.World.{World, Outcome, Plain, DiscRead, Cut, Store, Unknown, Up, StoppedIn, IsOn}
-use Rattle.g_run.specs.Run.{Move, TakeLine, Turn, Over, Run, reads_in, cuts_in, reads_of, cuts_of, Counted}
+use Rattle.g_run.specs.Run.{Move, TakeLine, Turn, Ticked, Over, Run, reads_in, cuts_in, reads_of, cuts_of, Counted}
 use Rattle.g_run.specs.Turn.{HasCause, IsNow}
 use Rattle.g_run.proofs.TurnLemmas.{same_some}
 
@@ -20,12 +20,14 @@ pub reads_of-append : (moves more : List Move) → reads_of (moves ++ more) ≡ 
 reads_of-append [] more = sym (zero-add (reads_of more))
 reads_of-append (TakeLine o ∷ moves) more = ap (λ n. reads_in o + n) (reads_of-append moves more) ∙ sym (add_assoc (reads_in o) (reads_of moves) (reads_of more))
 reads_of-append (Turn o ∷ moves) more = ap (λ n. reads_in o + n) (reads_of-append moves more) ∙ sym (add_assoc (reads_in o) (reads_of moves) (reads_of more))
+reads_of-append (Ticked ∷ moves) more = reads_of-append moves more
 reads_of-append (Over ∷ moves) more = reads_of-append moves more
 
 pub cuts_of-append : (moves more : List Move) → cuts_of (moves ++ more) ≡ cuts_of moves + cuts_of more
 cuts_of-append [] more = sym (zero-add (cuts_of more))
 cuts_of-append (TakeLine o ∷ moves) more = ap (λ n. cuts_in o + n) (cuts_of-append moves more) ∙ sym (add_assoc (cuts_in o) (cuts_of moves) (cuts_of more))
 cuts_of-append (Turn o ∷ moves) more = ap (λ n. cuts_in o + n) (cuts_of-append moves more) ∙ sym (add_assoc (cuts_in o) (cuts_of moves) (cuts_of more))
+cuts_of-append (Ticked ∷ moves) more = cuts_of-append moves more
 cuts_of-append (Over ∷ moves) more = cuts_of-append moves more
 
 both_none : (m n k : ℕ) → k ≡ m + n → k ≡ 0 → (m ≡ 0) × (n ≡ 0)
@@ -50,7 +52,7 @@ not_one e = let no : ⊥ = omega arith in absurd no
 pub counted-none : (a : DiscState) → Counted [] a a
 counted-none a = record { reads = none_rose _ _ refl; cuts = none_rose _ _ refl; no_read = λ _. refl; no_cut = λ _. refl; arms = refl; size = refl }
 
-pub counted-turn : (o : Outcome) (a b : DiscState) → HasCause o a b → Counted (Turn o ∷ []) a b
+pub counted-turn : (o : Outcome) (a b : DiscState) → HasCause o a b → Counted (Turn o ∷ Ticked ∷ []) a b
 counted-turn Plain a b cause = record { reads = none_rose _ _ cause.reads; cuts = none_rose _ _ cause.writes; no_read = λ _. cause.reads; no_cut = λ _. cause.writes; arms = cause.arms; size = cause.size }
 counted-turn DiscRead a b cause = record { reads = HasRisenBy-Rose cause.reads; cuts = none_rose _ _ cause.writes; no_read = λ e. not_one e; no_cut = λ _. cause.writes; arms = cause.arms; size = cause.size }
 counted-turn Cut a b cause = record { reads = none_rose _ _ cause.reads; cuts = HasRisenBy-Rose cause.writes; no_read = λ _. cause.reads; no_cut = λ e. not_one e; arms = cause.arms; size = cause.size }

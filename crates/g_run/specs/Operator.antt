@@ -4,7 +4,7 @@ use Rattle.g_disc.specs.Disc.{DiscState}
 use Rattle.g_online.specs.Store.{FirstView}
 use Rattle.g_script.specs.declared.script.Job.{Job}
 use Rattle.g_run.specs.declared.progress.Failure.{Failure}
-use Rattle.g_run.specs.World.{World, Plain, Up, Line, JobLine}
+use Rattle.g_run.specs.World.{Between, World, Plain, Up, Line, JobLine}
 use Rattle.g_run.specs.Turn.{HasCause, IsUp}
 use Rattle.g_run.specs.Parts.{GoesBy, before_format}
 
@@ -15,7 +15,7 @@ pub record IsFormatted (old : DiscState) (store : FirstView) : Type 0 where
 
 -- the world before a job's line, behind which nothing comes
 abbrev pub before_job : Option ℕ → List ℕ → Job → World
-before_job bad text job = record { lines = JobLine job ∷ []; bad = bad; count = 0; store = Up []; job = None; text = text; over = false }
+before_job bad text job = record { lines = JobLine job ∷ []; bad = bad; count = 0; phase = Between; store = Up []; job = None; text = text; over = false }
 
 -- a FORMAT line and the lines behind it are done, as far as a failure lets it
 abbrev pub LineGoes : List Line → Option Failure → DiscState → DiscState → Option (List ℕ) → Option (List ℕ) → Type 0

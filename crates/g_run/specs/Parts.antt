@@ -8,7 +8,7 @@ use Rattle.g_script.specs.declared.script.Job.{Job}
 use Rattle.g_run.specs.declared.progress.Failure.{Failure}
 use Rattle.g_run.specs.declared.progress.Failure.TheVariants as failures
 use Rattle.g_run.specs.Texts.{operator_line}
-use Rattle.g_run.specs.World.{World, Outcome, Plain, DiscRead, Cut, Store, Unknown, Up, Line, FormatLine, JobView, IsOn}
+use Rattle.g_run.specs.World.{Between, World, Outcome, Plain, DiscRead, Cut, Store, Unknown, Up, Line, FormatLine, JobView, IsOn}
 use Rattle.g_run.specs.Run.{Move, Run, Counted}
 use Rattle.g_run.specs.Turn.{HasCause}
 
@@ -35,6 +35,7 @@ pub record IsIdle (w next : World) : Type 0 where
   pub lines : next.lines ≡ []
   pub job : next.job ≡ None
   pub over : next.over ≡ false
+  pub phase : next.phase ≡ Between
   pub bad : next.bad ≡ w.bad
 
 -- all that could be done was done, and its text put
@@ -52,14 +53,14 @@ GoesBy (Some failure) w old new before after = Breaks w old new before after
 
 -- the world before a FORMAT line, with the lines behind it
 abbrev pub before_format : List Line → Option ℕ → World
-before_format rest bad = record { lines = FormatLine ∷ rest; bad = bad; count = 0; store = Unknown; job = None; text = []; over = false }
+before_format rest bad = record { lines = FormatLine ∷ rest; bad = bad; count = 0; phase = Between; store = Unknown; job = None; text = []; over = false }
 
 abbrev pub job_view : Job → ℕ → List ℕ → JobView
 job_view job used file = record { allowance = job.time; used = used; commands = job.document; file = file }
 
 -- the world in which a job has used some turns
 abbrev pub job_world : Option ℕ → List ℕ → Job → List File → ℕ → List ℕ → World
-job_world bad text job files used file = record { lines = []; bad = bad; count = used; store = Up files; job = Some (job_view job used file); text = text; over = false }
+job_world bad text job files used file = record { lines = []; bad = bad; count = used; phase = Between; store = Up files; job = Some (job_view job used file); text = text; over = false }
 
 -- what FORMAT tells the operator, and what the disc is then
 abbrev pub format_says : Outcome → List ℕ
@@ -90,4 +91,4 @@ Unformatted failure old new before after = ((failure ≡ Some failures.Memory) �
 
 -- the world behind a FORMAT that came out so
 abbrev pub after_format_line : List Line → Option ℕ → Outcome → World
-after_format_line rest bad outcome = record { lines = rest; bad = bad; count = 0; store = formatted outcome; job = None; text = operator_line 0 (format_says outcome); over = false }
+after_format_line rest bad outcome = record { lines = rest; bad = bad; count = 0; phase = Between; store = formatted outcome; job = None; text = operator_line 0 (format_says outcome); over = false }

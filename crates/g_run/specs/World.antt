@@ -48,10 +48,16 @@ pub record JobView : Type 0 where
   pub commands : List Command
   pub file : List ℕ
 
+-- Where a tick stands: none has begun, or its turn is over.
+pub data Phase : Type 0 where
+  Between : Phase
+  Turned : Phase
+
 pub record World : Type 0 where
   pub lines : List Line
   pub bad : Option ℕ
   pub count : ℕ
+  pub phase : Phase
   pub store : Store
   pub job : Option JobView
   pub text : List ℕ
@@ -59,7 +65,7 @@ pub record World : Type 0 where
 
 -- the world before anything is done
 abbrev pub start : Work → Option ℕ → World
-start work bad = record { lines = lines_for work; bad = bad; count = 0; store = Unknown; job = None; text = []; over = false }
+start work bad = record { lines = lines_for work; bad = bad; count = 0; phase = Between; store = Unknown; job = None; text = []; over = false }
 
 abbrev pub says : World → List ℕ → World
 says w what = record w { text = w.text ++ operator_line w.count what }
@@ -127,15 +133,19 @@ job_goes_on w job said = record w { job = Some (record job { used = job.used + 1
 abbrev pub after_turn : World → JobView → TurnEnd → World
 after_turn w job (Going files said) =
     if job.used + 1 == job.allowance
-    then job_ended (record w { count = w.count + 1; store = Up files }) job said (codes "TIME UP")
-    else job_goes_on (record w { count = w.count + 1; store = Up files }) job said
-after_turn w job (Ended said) = job_ended (record w { count = w.count + 1 }) job said (codes "END")
+    then job_ended (record w { phase = Turned; store = Up files }) job said (codes "TIME UP")
+    else job_goes_on (record w { phase = Turned; store = Up files }) job said
+after_turn w job (Ended said) = job_ended (record w { phase = Turned }) job said (codes "END")
 after_turn w job (Stopped old new said) = record w {
-  count = w.count + 1;
+  phase = Turned;
   store = StoppedIn old new;
   job = None;
   text = (w.text ++ operator_line w.count (codes "SYSTEM STOPPED")) ++ ((job.file ++ said) ++ ended_line (codes "BREAK"));
 }
+
+-- a tick is over: the count of turns rises
+abbrev pub ticked : World → World
+ticked w = record w { count = w.count + 1; phase = Between }
 
 -- behind all that was done a bad line is told
 abbrev pub closing : Option ℕ → List ℕ
