@@ -711,6 +711,68 @@ fn branches_and_moves(rt: HostRuntime) -> Result<(), Fail> {
 }
 
 #[test]
+fn further_edges(rt: HostRuntime) -> Result<(), Fail> {
+    for row in [
+        // ORX at the size
+        (
+            (1, 0o021, 0, 32),
+            [(1, 5), (2, 0)],
+            true,
+            [(1, 5), (2, 0)],
+            21,
+            true,
+        ),
+        // ERX with an address that wraps
+        (
+            (1, 0o022, 2, 10),
+            [(2, 0o77776), (8, 7)],
+            false,
+            [(1, 7), (8, 7)],
+            22,
+            false,
+        ),
+        // ANDS at the size
+        (
+            (1, 0o030, 0, 32),
+            [(1, 5), (2, 0)],
+            false,
+            [(1, 5), (2, 0)],
+            21,
+            false,
+        ),
+        // ORS on the last word, which sets its sign and leaves overflow
+        (
+            (1, 0o031, 0, 31),
+            [(1, 0o40000000), (31, 0o37777777)],
+            true,
+            [(1, 0o40000000), (31, 0o77777777)],
+            22,
+            true,
+        ),
+        // CALL past every program: only the next order finds no word there
+        (
+            (1, 0o070, 0, 0o77777),
+            [(1, 0o77777777), (2, 0)],
+            true,
+            [(1, 22), (2, 0)],
+            0o77777,
+            true,
+        ),
+    ] {
+        check(&rt, load(rt.alloc(), b"00000040\n")?, row);
+    }
+    // PERI with an address that wraps: 100 and 32,766 are 98
+    let mut program = load(rt.alloc(), b"00000040\n")?;
+    let order = Order::new(0, 0o157, 2, 100).expect(&rt, "an order");
+    put(&rt, &mut program, 2, word(&rt, 0o77776));
+    put(&rt, &mut program, 20, encode(&order));
+    program.enter(0);
+    assert_eq!(rt; program.step(), Event::Peri { area: 98 });
+    assert_eq!(rt; program.next(), 21);
+    Ok(())
+}
+
+#[test]
 fn texts(rt: HostRuntime) -> Result<(), Fail> {
     // DISTY 24 and DELTY 26, whose areas name the words 28 and 29
     let text =
