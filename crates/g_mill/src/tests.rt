@@ -713,6 +713,24 @@ fn branches_and_moves(rt: HostRuntime) -> Result<(), Fail> {
 #[test]
 fn further_edges(rt: HostRuntime) -> Result<(), Fail> {
     for row in [
+        // ANDX at the size
+        (
+            (1, 0o020, 0, 32),
+            [(1, 5), (2, 0)],
+            false,
+            [(1, 5), (2, 0)],
+            21,
+            false,
+        ),
+        // ERS
+        (
+            (1, 0o032, 0, 10),
+            [(1, 0o14), (10, 0o12)],
+            false,
+            [(1, 0o14), (10, 0o06)],
+            22,
+            false,
+        ),
         // ORX at the size
         (
             (1, 0o021, 0, 32),
