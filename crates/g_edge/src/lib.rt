@@ -9,6 +9,7 @@ ghost use Rattle.std.specs.Prelude.{◌<◌};
 use file_disc::{FileDisc, open_image};
 use g_run::{Status, george};
 use std::alloc::{AllocError, Global};
+use std::fs::File;
 use std::process::ExitCode;
 use std::{env, io};
 use streams::{StdSink, StdSource};
@@ -30,10 +31,17 @@ pub fn run_program(rt: &HostRuntime) -> ExitCode {
     let Ok(words) = texts_of(rt.alloc(), &words) else {
         return ExitCode::from(Status::NoMemory.code());
     };
+    let _placeholders = (placeholder(rt), placeholder(rt), placeholder(rt));
     match open_image(rt, IMAGE) {
         Some(disc) => ExitCode::from(run(rt, &words, disc)),
         None => ExitCode::from(NO_IMAGE),
     }
+}
+
+/// A file that takes the place of a standard stream that was closed, so that the image never does: nothing can be read
+/// from it, and nothing written to it.
+fn placeholder(rt: &HostRuntime) -> Option<File> {
+    File::open(rt, "/dev/null").ok()
 }
 
 /// The words of the command line, behind the program's own name.
