@@ -2,3 +2,4 @@ pub mod FileFields
 pub mod Formats
 pub mod HeadFields
 pub mod UserFields
+pub mod Rules

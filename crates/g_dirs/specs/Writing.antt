@@ -1,0 +1,53 @@
+-- The way of a commit through the blocks of a slot.
+use Rattle.std.specs.Prelude.{◌≡◌, ◌≢◌, ℕ, ◌<◌, ◌≤◌, List, All, Some, length, slice_get}
+use Rattle.g_base.specs.Counts.{RoseBy}
+use Rattle.g_base.specs.Told.{Changes}
+use Rattle.g_disc.specs.Disc.{DiscState}
+use Rattle.g_entry.specs.declared.format.Format.TheVariants.{Two}
+use Rattle.g_slots.specs.declared.side.Side.{Side}
+use Rattle.g_slots.specs.Commit.{KeepsCurrent}
+use Rattle.g_slots.specs.Layout.{other, slot}
+use Rattle.g_entry.specs.Rules.{AreNumbered}
+use Rattle.g_dirs.specs.Directory.{AreRecords, Directory, LiesSomewhere, recs}
+use Rattle.g_dirs.specs.Image.{block_of}
+use Rattle.g_dirs.specs.Pages.{Remembered, pages_of, unwritten}
+
+-- a directory, and the number of the slot block that comes next
+pub record Encoding : Type 0 where
+  pub directory : Directory
+  pub next : ℕ
+
+-- the first n blocks of the slot opposite `side` are the directory's, and nothing else has changed
+pub record HoldsFirst (side : Side) (d : Directory) (n : ℕ) (before after : List (List ℕ)) : Type 0 where
+  pub kept : KeepsCurrent side before after
+  pub here : (k : ℕ) → k < n → slice_get (slot (other side) after) k ≡ Some (block_of Two d k)
+  pub rest : (k : ℕ) → n ≤ k → slice_get (slot (other side) after) k ≡ slice_get (slot (other side) before) k
+
+-- the first n blocks are remembered as the directory's, and the others as they were
+pub record RemembersFirst (side : Side) (d : Directory) (n : ℕ) (old new : Remembered) : Type 0 where
+  pub here : (k : ℕ) → k < n → slice_get (pages_of (other side) new) k ≡ Some (Some (block_of Two d k))
+  pub rest : (k : ℕ) → n ≤ k → slice_get (pages_of (other side) new) k ≡ slice_get (pages_of (other side) old) k
+  pub kept : pages_of side new ≡ pages_of side old
+
+-- of the first n blocks, those that weren't remembered so were written
+pub record WroteFirst (side : Side) (d : Directory) (n : ℕ) (before after : DiscState) (old new : Remembered) : Type 0 where
+  pub content : Changes (HoldsFirst side d n) before.held after.held
+  pub pages : RemembersFirst side d n old new
+  pub writes : RoseBy (unwritten d (pages_of (other side) old) n) before.writes after.writes
+  pub size : after.size ≡ before.size
+  pub read_faults : after.read_faults ≡ before.read_faults
+  pub write_faults : after.write_faults ≡ before.write_faults
+  pub arms : after.arms ≡ before.arms
+
+-- a directory whose records have blocks in the second format
+pub record IsEncodable (d : Directory) : Type 0 where
+  pub records : AreRecords Two d
+  pub few : length d.users ≤ 63
+  pub numbered : AreNumbered (recs d.files)
+  pub lies : All LiesSomewhere d.files
+
+-- block k of the slot opposite `side` is this one, and nothing else has changed
+pub record HoldsPage (side : Side) (k : ℕ) (block : List ℕ) (before after : List (List ℕ)) : Type 0 where
+  pub kept : KeepsCurrent side before after
+  pub here : slice_get (slot (other side) after) k ≡ Some block
+  pub rest : (j : ℕ) → j ≢ k → slice_get (slot (other side) after) j ≡ slice_get (slot (other side) before) j

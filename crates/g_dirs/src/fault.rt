@@ -1,0 +1,43 @@
+//! What can stand in the way of a directory.
+use g_base::NoMemory;
+use std::alloc::AllocError;
+use thiserror::Error;
+
+/// Why a directory was not read or not written.
+#[derive(Clone, Copy, Debug, PartialEq, Eq, Error)]
+pub enum DirsFault {
+    /// A read of the disc failed.
+    #[error("the disc could not be read")]
+    ReadFault,
+    /// The current slot holds no directory.
+    #[error("the disc holds no filestore")]
+    NoFilestore,
+    /// A write of the disc failed.
+    #[error("the disc could not be written")]
+    Stopped,
+    /// The memory was refused.
+    #[error("out of memory")]
+    NoMemory,
+}
+
+impl From<AllocError> for DirsFault {
+    ghost use Rattle.std.specs.Prelude.{◌≡◌};
+    ghost use Rattle.g_dirs.specs.declared.fault.DirsFault.TheVariants.{NoMemory};
+
+    ghost from_gives = { λ _ e. e ≡ NoMemory };
+
+    fn from(_e: AllocError) -> DirsFault {
+        DirsFault::NoMemory
+    }
+}
+
+impl From<NoMemory> for DirsFault {
+    ghost use Rattle.std.specs.Prelude.{◌≡◌};
+    ghost use Rattle.g_dirs.specs.declared.fault.DirsFault.TheVariants.{NoMemory};
+
+    ghost from_gives = { λ _ e. e ≡ NoMemory };
+
+    fn from(_e: NoMemory) -> DirsFault {
+        DirsFault::NoMemory
+    }
+}

@@ -1,0 +1,18 @@
+//! The directory on a disc: read from the current slot, and written by one commit into the other one.
+#![tactic(auto)]
+
+mod dirs;
+mod encoder;
+mod fault;
+mod laws;
+mod pages;
+mod read;
+mod rules;
+mod write;
+
+pub use dirs::Dirs;
+pub use fault::DirsFault;
+pub use laws::{one_directory, quiet_writes};
+pub use pages::Pages;
+pub use read::read_dirs;
+pub use write::write_dirs;
