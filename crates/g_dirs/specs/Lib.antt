@@ -6,3 +6,4 @@ pub mod Commit
 pub mod Pages
 pub mod Writing
 pub mod Quiet
+pub mod Reading
