@@ -1,5 +1,5 @@
 //! Reading the directory that a disc stands for.
-ghost use Rattle.std.specs.Prelude.{◌≡◌, ◌≢◌, ◌⊎◌, ◌<◌, ℕ, IfOk, IfSome, List, ◌++◌, OnErr, OnOk, Option, Some, length, slice_get};
+ghost use Rattle.std.specs.Prelude.{◌≡◌, ◌≢◌, ◌⊎◌, ◌<◌, ℕ, ◌↔◌, IfOk, IfSome, IsTrue, List, ◌++◌, OnErr, OnOk, Option, Some, length, replicate, slice_get};
 ghost use Rattle.std.specs.Option.{ForSome, option_copied};
 ghost use Rattle.g_disc.specs.Disc.{ReadsByCause};
 ghost use Rattle.g_entry.specs.FileFields.{ArePlaces, IsFile, file_block};
@@ -137,7 +137,7 @@ fn user_in(format: Format, block: &Block, number: u8) -> Result<Option<UserRec>,
     ensures again { (cell : Option UserRec) → IsUserCell format number block.now cell → result ≡ Ok cell }
     ensures only { OnErr result (result ≡ Err DirsFault.NoFilestore) }
 {
-    if *block == empty_block() {
+    if is_unused(block) {
         return Ok(None);
     }
     match decode_user_in(format, block, number) {
@@ -154,6 +154,13 @@ fn decode_user_in(format: Format, block: &Block, number: u8) -> Option<UserRec>
         Format::One => decode_user_1(block, number),
         Format::Two => decode_user(block, number),
     }
+}
+
+/// Whether it is the block of an unused number.
+fn is_unused(block: &Block) -> bool
+    ensures { IsTrue result ↔ (block.now ≡ replicate 512 0) }
+{
+    *block == empty_block()
 }
 
 /// The files of the current slot in order of number, and the copies of those that are online.
@@ -247,7 +254,7 @@ fn file_in(
     ensures again { (cell : Option FileCell) → IsFileCell format number block.now cell → result ≡ Ok cell }
     ensures only { OnErr result (result ≡ Err DirsFault.NoFilestore) }
 {
-    if *block == empty_block() {
+    if is_unused(block) {
         return Ok(None);
     }
     match decode_file_in(format, block, number) {
