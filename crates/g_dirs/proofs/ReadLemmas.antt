@@ -1,9 +1,10 @@
 -- What is known of a slot whose first blocks were read.
-use Rattle.std.proofs.Common.{◌≡◌, ◌≢◌, ℕ, ◌+◌, ◌<◌, ◌≤◌, Bool, true, false, cond, List, [], ◌∷◌, ◌++◌, length, get_or, Option, Some, None, map, refl, sym, ap, ◌∙◌, subst, arith, eqb}
+use Rattle.std.proofs.Common.{◌≡◌, ◌≢◌, ℕ, zero, suc, ◌+◌, ◌<◌, ◌≤◌, Bool, true, false, cond, List, [], ◌∷◌, ◌++◌, length, get_or, Option, Some, None, map, refl, sym, ap, ◌∙◌, subst, inl, inr, arith, eqb, below_more}
 use Rattle.std.specs.Prelude.{replicate, find, slice_get, IfSome, IsTrue, All, AllPairs, Contains, option_map}
-use Rattle.std.specs.Option.{ForSome}
+use Rattle.std.specs.Option.{ForSome, option_to_list}
+use Rattle.std.proofs.lemmas.Bool.{cases_lt}
 use Rattle.std.proofs.lemmas.Bool.Decides.{nat_tests}
-use Rattle.std.proofs.lemmas.List.{append-nil, map-append}
+use Rattle.std.proofs.lemmas.List.{append-nil, length_push, map-append}
 use Rattle.std.proofs.lemmas.List.Elements.{All-cons, All-head, All-nil, All-tail, All-push, All-weaker, All-same, All-get_or, Contains-push, Contains-append_left}
 use Rattle.std.proofs.lemmas.List.Quantifiers.{all_pairs_push}
 use Rattle.std.proofs.lemmas.Option.{slice_get_past, slice_get_within, same_Some, get_or_from_slice_get}
@@ -159,3 +160,124 @@ module _ {X : Type 0} (p : X → Bool) where
         true ↦ λ it here. let same = same_Some y x here in (ap p (sym same) ∙ it, subst P same (All-head P y xs all))
         | false ↦ λ it here. find-holds P xs x (All-tail P y xs all) here
       ] refl found
+
+-- USERS
+
+user_or_empty-unused : (format : Format) (o : Option UserRec) → user_or_empty format o ≡ replicate 512 0 → o ≡ None
+unfolding user_or_empty
+user_or_empty-unused format None is = refl
+user_or_empty-unused format (Some u) is = absurd (user_block-used format u is)
+
+user_or_empty-none : (format : Format) → user_or_empty format None ≡ replicate 512 0
+unfolding user_or_empty
+user_or_empty-none format = refl
+
+-- users in order, with each below n in its block
+pub record UsersRead (format : Format) (n : ℕ) (users : List UserRec) (before after : DiscState) : Type 0 where
+  pub counts : ReadsByCause ⊥ before after
+  pub few : length users ≤ n
+  pub in_order : (i : ℕ) (u : UserRec) → slice_get users i ≡ Some u → u.number ≡ i
+  pub limits : All (IsUser format) users
+  pub here : ForSome before.held (λ blocks. (k : ℕ) → k < n → slice_get (current blocks) (1 + k) ≡ Some (user_or_empty format (slice_get users k)))
+
+pub users_none : (format : Format) (before : DiscState) → UsersRead format 0 [] before before
+users_none format before = record {
+  counts = reads_none before;
+  few = omega arith;
+  in_order = λ i u there. cc;
+  limits = All-nil (IsUser format);
+  here = λ blocks told k below. absurd (omega (arith, below));
+}
+
+-- the block that was read
+pub record IsRead (at : ℕ) (block : List ℕ) (before after : DiscState) : Type 0 where
+  pub counts : ReadsByCause ⊥ before after
+  pub here : ForSome before.held (λ blocks. slice_get (current blocks) at ≡ Some block)
+
+numbered_more : (users : List UserRec) (u : UserRec) (n : ℕ) → ((i : ℕ) (v : UserRec) → slice_get users i ≡ Some v → v.number ≡ i) → length users ≡ n → u.number ≡ n
+    → (i : ℕ) (v : UserRec) → slice_get (users ++ u ∷ []) i ≡ Some v → v.number ≡ i
+numbered_more users u n all long here i v there =
+    elim (cases_lt i n) [
+      inl before ↦ all i v (sym (slice_get-before users (u ∷ []) i (omega (arith, long, before))) ∙ there)
+      | inr behind ↦
+        let within : i < length (users ++ u ∷ []) = slice_get_within (users ++ u ∷ []) i v there in
+        let at : n ≡ i = omega (arith, length_push users u, within, behind, long) in
+        let same : u ≡ v = same_Some u v (sym (slice_get-push users u i (long ∙ at)) ∙ there) in
+        ap (λ (w : UserRec). w.number) (sym same) ∙ here ∙ at
+    ]
+
+abbrev UserHere : Format → List UserRec → List (List ℕ) → ℕ → Type 0
+UserHere format users blocks k = slice_get (current blocks) (1 + k) ≡ Some (user_or_empty format (slice_get users k))
+
+module _ (format : Format) (n : ℕ) (block : List ℕ) (users : List UserRec) (before after : DiscState) where
+  users_unused : ReadsByCause ⊥ before after → UsersRead format n users before after → ForSome before.held (λ blocks. slice_get (current blocks) (1 + n) ≡ Some block)
+      → block ≡ user_or_empty format None → UsersRead format (n + 1) users before after
+  users_unused counts so here holds = record {
+    counts = counts;
+    few = let few_are = so.few in omega arith;
+    in_order = so.in_order;
+    limits = so.limits;
+    here = λ blocks told. below_more (UserHere format users blocks) n (so.here blocks told) (rw (slice_get_past users n so.few) (here blocks told ∙ ap Some holds));
+  }
+
+  users_used : (u : UserRec) → UsersRead format n users before after → ForSome before.held (λ blocks. slice_get (current blocks) (1 + n) ≡ Some block)
+      → (u.number ≡ n) × IsUser format u → block ≡ user_or_empty format (Some u) → length users ≡ n → UsersRead format (n + 1) (users ++ u ∷ []) before after
+  users_used u so here is holds long = record {
+    counts = so.counts;
+    few = omega (arith, length_push users u, long);
+    in_order = numbered_more users u n so.in_order long is.0;
+    limits = All-push (IsUser format) users u so.limits is.1;
+    here = λ blocks told. below_more (UserHere format (users ++ u ∷ []) blocks) n
+      (λ k below. rw (slice_get-before users (u ∷ []) k (omega (arith, long, below))) (so.here blocks told k below))
+      (rw (slice_get-push users u n long) (here blocks told ∙ ap Some holds));
+  }
+
+module _ (format : Format) (n : ℕ) (users : List UserRec) (before mid : DiscState) where
+  users_later : (after : DiscState) → UsersRead format n users before mid → ReadsByCause ⊥ mid after → UsersRead format n users before after
+  users_later after so counts = record { counts = reads_then ⊥ before mid after so.counts counts; few = so.few; in_order = so.in_order; limits = so.limits; here = so.here }
+
+  users_more_at : (block : List ℕ) (after : DiscState) (new : List UserRec) (cell : Option UserRec) → UsersRead format n users before after
+      → ForSome before.held (λ blocks. slice_get (current blocks) (1 + n) ≡ Some block)
+      → IsUserCell format n block cell → IfSome cell (λ u. length users ≡ n) → new ≡ users ++ option_to_list cell → UsersRead format (n + 1) new before after
+  users_more_at block after new None so here holds next added =
+      rw (added ∙ append-nil users) (users_unused format n block users before after so.counts so here holds.block_is)
+  users_more_at block after new (Some u) so here holds next added =
+      rw added (users_used format n block users before after u so here holds.user holds.block_is next)
+
+  pub users_more : (block : List ℕ) (after : DiscState) (new : List UserRec) → UsersRead format n users before mid → ReadsByCause ⊥ mid after
+      → ForSome mid.held (λ blocks. slice_get (current blocks) (1 + n) ≡ Some block) → TakesUser format n block users new → UsersRead format (n + 1) new before after
+  users_more block after new so counts read takes =
+      users_more_at block after new takes.cell (users_later after so counts) (λ blocks told. read blocks (so.counts.held ∙ told)) takes.holds takes.next takes.added
+
+  -- what the blocks up to n say of any users whose they are
+  user_cell_of : (vs : List UserRec) (block : List ℕ) (o : Option UserRec) → AreInOrder format vs → slice_get vs n ≡ o → block ≡ user_or_empty format o → IsUserCell format n block o
+  user_cell_of vs block None are at is = record { user = tt; block_is = is }
+  user_cell_of vs block (Some u) are at is = record {
+    user = (are.numbered n u at, rw (← get_or_from_slice_get vs n u u at) (are.limits n u (slice_get_within vs n u at)));
+    block_is = is;
+  }
+
+  pub users_stopped : (block : List ℕ) → n < 63 → UsersRead format n users before mid → ForSome mid.held (λ blocks. slice_get (current blocks) (1 + n) ≡ Some block)
+      → ((cell : Option UserRec) → IsUserCell format n block cell → (user : UserRec) × (cell ≡ Some user) × (length users ≢ n))
+      → ForSome before.held (λ blocks. (vs : List UserRec) → HoldsUsers format vs (current blocks) → ⊥)
+  users_stopped block below so read nothing = λ blocks told vs holds.
+      let is : block ≡ user_or_empty format (slice_get vs n) = same_Some _ _ (sym (read blocks (so.counts.held ∙ told)) ∙ holds.block n below) in
+      let used = nothing (slice_get vs n) (user_cell_of vs block (slice_get vs n) holds.are refl is) in
+      let m : ℕ = length users in
+      let gap : m < n = let few_are = so.few in let other = used.2 in omega arith in
+      let unused : user_or_empty format None ≡ user_or_empty format (slice_get vs m) =
+        rw (slice_get_past users m (omega arith)) at (same_Some _ _ (sym (so.here blocks told m gap) ∙ holds.block m (omega arith))) in
+      let past : length vs ≤ m = none_past vs m (user_or_empty-unused format (slice_get vs m) (sym unused ∙ user_or_empty-none format)) in
+      let within : n < length vs = slice_get_within vs n used.0 used.1 in
+      omega arith
+
+-- after the last block
+pub users_in_order : (format : Format) (n : ℕ) (users : List UserRec) (before after : DiscState) → n ≤ 63 → UsersRead format n users before after → AreInOrder format users
+users_in_order format n users before after most so = record { few = let few_are = so.few in omega arith; numbered = so.in_order; limits = so.limits }
+
+pub users_all : (format : Format) (n : ℕ) (users : List UserRec) (before after : DiscState) → n ≤ 63 → 63 ≤ n → UsersRead format n users before after
+    → ForSome before.held (λ blocks. HoldsUsers format users (current blocks))
+users_all format n users before after most least so = λ blocks told. record {
+  are = users_in_order format n users before after most so;
+  block = λ k below. so.here blocks told k (omega arith);
+}
