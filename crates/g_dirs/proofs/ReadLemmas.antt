@@ -4,8 +4,8 @@ use Rattle.std.specs.Prelude.{replicate, find, slice_get, IfSome, IsTrue, All, A
 use Rattle.std.specs.Option.{ForSome, option_to_list}
 use Rattle.std.proofs.lemmas.Bool.{cases_lt}
 use Rattle.std.proofs.lemmas.Bool.Decides.{nat_tests}
-use Rattle.std.proofs.lemmas.List.{append-nil, length_push, map-append}
-use Rattle.std.proofs.lemmas.List.Elements.{All-cons, All-head, All-nil, All-tail, All-push, All-weaker, All-same, All-get_or, Contains-push, Contains-append_left}
+use Rattle.std.proofs.lemmas.List.{append-nil, length_push, map_push}
+use Rattle.std.proofs.lemmas.List.Elements.{All-cons, All-head, All-nil, All-tail, All-push, All-weaker, All-same, All-map, All-append, All-get_or, Contains-push, Contains-append_left}
 use Rattle.std.proofs.lemmas.List.Quantifiers.{all_pairs_push}
 use Rattle.std.proofs.lemmas.Option.{slice_get_past, slice_get_within, same_Some, get_or_from_slice_get}
 use Rattle.g_base.specs.Fields.{padded}
@@ -281,3 +281,201 @@ users_all format n users before after most least so = λ blocks told. record {
   are = users_in_order format n users before after most so;
   block = λ k below. so.here blocks told k (omega arith);
 }
+
+-- FILES
+
+eqb_same : (m n : ℕ) → m ≡ n → eqb m n ≡ true
+eqb_same m n is = grind (arith, nat_tests)
+
+eqb_other : (m n : ℕ) → m ≢ n → eqb m n ≡ false
+eqb_other m n other = grind (arith, nat_tests)
+
+eqb_true : (m n : ℕ) → eqb m n ≡ true → m ≡ n
+eqb_true m n is = grind (arith, nat_tests)
+
+abbrev Copies : Type 0
+Copies = List (ℕ × DiscCopy)
+
+abbrev copy : ℕ × DiscCopy → DiscCopy
+copy c = c.1
+
+copy_at-other : (online : Copies) (c : ℕ × DiscCopy) (k : ℕ) → c.0 ≢ k → copy_at (online ++ c ∷ []) k ≡ copy_at online k
+copy_at-other online c k other = ap (option_map copy) (find-other (λ d. eqb d.0 k) online c (eqb_other c.0 k other))
+
+copy_at-last : (online : Copies) (n : ℕ) (d : DiscCopy) → All (λ c. c.0 < n) online → copy_at (online ++ (n, d) ∷ []) n ≡ Some d
+copy_at-last online n d below =
+    ap (option_map copy) (find-last (λ c. eqb c.0 n) online (n, d) (λ k e within. let less = below k e within in eqb_other _ n (omega (arith, less))) (eqb_same n n refl))
+
+copy_at-none : (online : Copies) (n : ℕ) → All (λ c. c.0 < n) online → copy_at online n ≡ None
+copy_at-none online n below =
+    ap (option_map copy) (find-none (λ c. eqb c.0 n) online (λ k e within. let less = below k e within in eqb_other _ n (omega (arith, less))))
+
+abbrev IsBelow : ℕ → FileRec → Type 0
+IsBelow n r = r.number < n
+
+entries_kept : (files : List FileRec) (online : Copies) (c : ℕ × DiscCopy) → All (IsBelow c.0) files → entries_of files (online ++ c ∷ []) ≡ entries_of files online
+entries_kept [] online c below = refl
+entries_kept (r ∷ files) online c below =
+    let first : r.number < c.0 = All-head (IsBelow c.0) r files below in
+    let same : copy_at (online ++ c ∷ []) r.number ≡ copy_at online r.number = copy_at-other online c r.number (omega (arith, first)) in
+    rw same (ap (λ (es : List FileEntry). (r, copy_at online r.number) ∷ es) (entries_kept files online c (All-tail (IsBelow c.0) r files below)))
+
+pub recs-entries_of : (files : List FileRec) (online : Copies) → recs (entries_of files online) ≡ files
+recs-entries_of [] online = refl
+recs-entries_of (r ∷ files) online = ap (λ (rs : List FileRec). r ∷ rs) (recs-entries_of files online)
+
+entries_push : (files : List FileRec) (online : Copies) (r : FileRec) → entries_of (files ++ r ∷ []) online ≡ entries_of files online ++ (r, copy_at online r.number) ∷ []
+entries_push files online r = map_push (λ s. (s, copy_at online s.number)) files r
+
+-- the entries, with each below n in its block
+pub record EntriesRead (format : Format) (n : ℕ) (entries : List FileEntry) (before : DiscState) : Type 0 where
+  pub below : All (λ f. f.0.number < n) entries
+  pub good : All (IsEntry format) entries
+  pub here : ForSome before.held (λ blocks. (k : ℕ) → k < n → slice_get (current blocks) (64 + k) ≡ Some (file_or_empty format (entry_at entries k)))
+
+abbrev FileHere : Format → List FileEntry → List (List ℕ) → ℕ → Type 0
+FileHere format entries blocks k = slice_get (current blocks) (64 + k) ≡ Some (file_or_empty format (entry_at entries k))
+
+module _ (format : Format) (n : ℕ) (block : List ℕ) (entries : List FileEntry) (before : DiscState) where
+  others : EntriesRead format n entries before → All (λ f. eqb f.0.number n ≡ false) entries
+  others so = λ k e within. let less = so.below k e within in eqb_other _ n (omega (arith, less))
+
+  entries_unused : EntriesRead format n entries before → ForSome before.held (λ blocks. slice_get (current blocks) (64 + n) ≡ Some block)
+      → block ≡ file_or_empty format None → EntriesRead format (n + 1) entries before
+  entries_unused so read is = record {
+    below = λ k e within. let less = so.below k e within in omega (arith, less);
+    good = so.good;
+    here = λ blocks told. below_more (FileHere format entries blocks) n (so.here blocks told)
+      (rw (find-none (λ f. eqb f.0.number n) entries (others so)) (read blocks told ∙ ap Some is));
+  }
+
+  entries_used : (e : FileEntry) → EntriesRead format n entries before → ForSome before.held (λ blocks. slice_get (current blocks) (64 + n) ≡ Some block)
+      → e.0.number ≡ n → IsEntry format e → block ≡ file_or_empty format (Some e) → EntriesRead format (n + 1) (entries ++ e ∷ []) before
+  entries_used e so read numbered good is = record {
+    below = All-push (λ f. f.0.number < n + 1) entries e (λ k d within. let less = so.below k d within in omega (arith, less)) (omega (arith, numbered));
+    good = All-push (IsEntry format) entries e so.good good;
+    here = λ blocks told. below_more (FileHere format (entries ++ e ∷ []) blocks) n
+      (λ k less. rw (find-other (λ f. eqb f.0.number k) entries e (eqb_other e.0.number k (omega (arith, numbered, less)))) (so.here blocks told k less))
+      (rw (find-last (λ f. eqb f.0.number n) entries e (others so) (eqb_same e.0.number n numbered)) (read blocks told ∙ ap Some is));
+  }
+
+-- files and their copies, with each below n in its block
+pub record FilesRead (format : Format) (n : ℕ) (files : List FileRec) (online : List (ℕ × DiscCopy)) (before after : DiscState) : Type 0 where
+  pub counts : ReadsByCause ⊥ before after
+  pub rising : AllPairs (λ r s. r.number < s.number) files
+  pub below : All (λ r. r.number < n) files
+  pub copies : AreCopies files online
+  pub copies_below : All (λ c. c.0 < n) online
+  pub entries : EntriesRead format n (entries_of files online) before
+
+abbrev numbers : List FileRec → List ℕ
+numbers files = map (λ r. r.number) files
+
+pub files_none : (format : Format) (before : DiscState) → FilesRead format 0 [] [] before before
+files_none format before = record {
+  counts = reads_none before;
+  rising = λ i j d less within. absurd (omega (arith, within));
+  below = All-nil (λ r. r.number < 0);
+  copies = record { rising = λ i j d less within. absurd (omega (arith, within)); files_are = All-nil (λ c. Contains (numbers []) c.0) };
+  copies_below = All-nil (λ c. c.0 < 0);
+  entries = record {
+    below = All-nil (λ f. f.0.number < 0);
+    good = All-nil (IsEntry format);
+    here = λ blocks told k below. absurd (omega (arith, below));
+  };
+}
+
+numbers_kept : (files : List FileRec) (r : FileRec) (k : ℕ) → Contains (numbers files) k → Contains (numbers (files ++ r ∷ [])) k
+numbers_kept files r k there = let is = map_push (λ (s : FileRec). s.number) files r in rw is (Contains-append_left (numbers files) (r.number ∷ []) k there)
+
+numbers_push : (files : List FileRec) (r : FileRec) → Contains (numbers (files ++ r ∷ [])) r.number
+numbers_push files r = let is = map_push (λ (s : FileRec). s.number) files r in rw is (Contains-push (numbers files) r.number)
+
+copies_kept : (files : List FileRec) (online : Copies) (r : FileRec) → AreCopies files online → AreCopies (files ++ r ∷ []) online
+copies_kept files online r so = record { rising = so.rising; files_are = λ k d within. numbers_kept files r _ (so.files_are k d within) }
+
+copies_push : (files : List FileRec) (online : Copies) (r : FileRec) (d : DiscCopy) → AreCopies files online → All (λ c. c.0 < r.number) online
+    → AreCopies (files ++ r ∷ []) (online ++ (r.number, d) ∷ [])
+copies_push files online r d so below = record {
+  rising = all_pairs_push (λ c e. c.0 < e.0) online (r.number, d) so.rising below;
+  files_are = All-push (λ c. Contains (numbers (files ++ r ∷ [])) c.0) online (r.number, d) (λ k e within. numbers_kept files r _ (so.files_are k e within)) (numbers_push files r);
+}
+
+-- the entry of a block's file
+abbrev entry_of : FileCell → FileEntry
+entry_of (rec, places) = (rec, option_map (λ ks. let made : DiscCopy = record { blocks = ks; len = rec.len } in made) places)
+
+entry_good : (format : Format) (n : ℕ) (block : List ℕ) (rec : FileRec) (places : Option (List ℕ)) → IsFileCell format n block (Some (rec, places)) → IsEntry format (entry_of (rec, places))
+entry_good format n block rec None holds = record { file = holds.file.1; places = tt; len = tt }
+entry_good format n block rec (Some ks) holds = record { file = holds.file.1; places = holds.file.2; len = refl }
+
+entry_block : (format : Format) (n : ℕ) (block : List ℕ) (rec : FileRec) (places : Option (List ℕ)) → IsFileCell format n block (Some (rec, places)) → block ≡ file_or_empty format (Some (entry_of (rec, places)))
+unfolding file_or_empty
+entry_block format n block rec None holds = holds.block_is
+entry_block format n block rec (Some ks) holds = holds.block_is
+
+unused_block : (format : Format) (n : ℕ) (block : List ℕ) → IsFileCell format n block None → block ≡ file_or_empty format None
+unfolding file_or_empty
+unused_block format n block holds = holds.block_is
+
+module _ (format : Format) (n : ℕ) (block : List ℕ) (files : List FileRec) (online : List (ℕ × DiscCopy)) (before after : DiscState) where
+  abbrev BlockRead : Type 0
+  BlockRead = ForSome before.held (λ blocks. slice_get (current blocks) (64 + n) ≡ Some block)
+
+  files_unused : FilesRead format n files online before after → BlockRead → IsFileCell format n block None → FilesRead format (n + 1) files online before after
+  files_unused so read holds = record {
+    counts = so.counts;
+    rising = so.rising;
+    below = λ k d within. let less = so.below k d within in omega (arith, less);
+    copies = so.copies;
+    copies_below = λ k d within. let less = so.copies_below k d within in omega (arith, less);
+    entries = entries_unused format n block (entries_of files online) before so.entries read (unused_block format n block holds);
+  }
+
+  rising_push : (r : FileRec) → FilesRead format n files online before after → r.number ≡ n → AllPairs (λ s t. s.number < t.number) (files ++ r ∷ [])
+  rising_push r so at = all_pairs_push (λ s t. s.number < t.number) files r so.rising (λ k d within. rw at (so.below k d within))
+
+  below_push : (r : FileRec) → FilesRead format n files online before after → r.number ≡ n → All (λ s. s.number < n + 1) (files ++ r ∷ [])
+  below_push r so at = All-push (λ s. s.number < n + 1) files r (λ k d within. let less = so.below k d within in omega (arith, less)) (omega (arith, at))
+
+  files_offline : (r : FileRec) → FilesRead format n files online before after → BlockRead → IsFileCell format n block (Some (r, None)) → FilesRead format (n + 1) (files ++ r ∷ []) online before after
+  files_offline r so read holds =
+      let at : r.number ≡ n = holds.file.0 in
+      let no_copy : copy_at online r.number ≡ None = rw at (copy_at-none online n so.copies_below) in
+      let entries_are : entries_of (files ++ r ∷ []) online ≡ entries_of files online ++ (r, None) ∷ [] = rw (← no_copy) (entries_push files online r) in record {
+        counts = so.counts;
+        rising = rising_push r so at;
+        below = below_push r so at;
+        copies = copies_kept files online r so.copies;
+        copies_below = λ k d within. let less = so.copies_below k d within in omega (arith, less);
+        entries = rw entries_are (entries_used format n block (entries_of files online) before (r, None) so.entries read at (entry_good format n block r None holds) (entry_block format n block r None holds));
+      }
+
+  files_online : (r : FileRec) (ks : List ℕ) → FilesRead format n files online before after → BlockRead → IsFileCell format n block (Some (r, Some ks))
+      → FilesRead format (n + 1) (files ++ r ∷ []) (online ++ copies_in r (Some ks)) before after
+  files_online r ks so read holds =
+      let at : r.number ≡ n = holds.file.0 in
+      let d : DiscCopy = record { blocks = ks; len = r.len } in
+      let copies_below : All (λ c. c.0 < r.number) online = rw at so.copies_below in
+      let here : copy_at (online ++ (r.number, d) ∷ []) r.number ≡ Some d = copy_at-last online r.number d copies_below in
+      let below_r : All (IsBelow r.number) files = rw at so.below in
+      let kept : entries_of files (online ++ (r.number, d) ∷ []) ≡ entries_of files online = entries_kept files online (r.number, d) below_r in
+      let entries_are : entries_of (files ++ r ∷ []) (online ++ (r.number, d) ∷ []) ≡ entries_of files online ++ (r, Some d) ∷ [] =
+        entries_push files (online ++ (r.number, d) ∷ []) r ∙ ap (λ (es : List FileEntry). es ++ (r, copy_at (online ++ (r.number, d) ∷ []) r.number) ∷ []) kept
+        ∙ ap (λ (o : Option DiscCopy). entries_of files online ++ (r, o) ∷ []) here in record {
+        counts = so.counts;
+        rising = rising_push r so at;
+        below = below_push r so at;
+        copies = copies_push files online r d so.copies copies_below;
+        copies_below = All-push (λ c. c.0 < n + 1) online (r.number, d) (λ k e within. let less = so.copies_below k e within in omega (arith, less)) (omega (arith, at));
+        entries = rw entries_are (entries_used format n block (entries_of files online) before (r, Some d) so.entries read at (entry_good format n block r (Some ks) holds) (entry_block format n block r (Some ks) holds));
+      }
+
+  files_more_at : (new : List FileRec) (new_online : List (ℕ × DiscCopy)) (cell : Option FileCell) → FilesRead format n files online before after → BlockRead
+      → IsFileCell format n block cell → new ≡ files ++ recs_in cell → new_online ≡ online ++ copies_of cell → FilesRead format (n + 1) new new_online before after
+  files_more_at new new_online None so read holds added copied =
+      rw (added ∙ append-nil files, copied ∙ append-nil online) (files_unused so read holds)
+  files_more_at new new_online (Some (r, None)) so read holds added copied =
+      rw (added, copied ∙ append-nil online) (files_offline r so read holds)
+  files_more_at new new_online (Some (r, Some ks)) so read holds added copied =
+      rw (added, copied) (files_online r ks so read holds)

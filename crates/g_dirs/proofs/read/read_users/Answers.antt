@@ -1,6 +1,5 @@
-use Rattle.std.proofs.Common.{◌≡◌, ap}
+use Rattle.std.proofs.Common.{◌≡◌}
 use Rattle.g_dirs.proofs.ReadLemmas.{reads_for, users_more, users_stopped}
-use Rattle.g_dirs.specs.declared.fault.DirsFault.{DirsFault}
 use Rattle.g_dirs.specs.declared.fault.DirsFault.TheVariants.{NoFilestore}
 use Rattle.g_dirs.proofs.read.read_users.Goals as goal
 
@@ -15,4 +14,4 @@ returns-in-Err-take_user-clause-none g c = λ stopped.
     let why : c.in-Err-take_user.fault ≡ NoFilestore = cc in
     let read = rw c.from.ensures at c.in-Ok.ensures.ok in
     users_stopped c.args.format c.loop-number.number c.loop-number.users.items _ _ c.in-Ok.block c.loop-number-test.true c.loop-number.invariant read
-    (c.in-Err-take_user.ensures.none (let same : c.in-Err-take_user.fault ≡ NoFilestore = why in cc))
+    (c.in-Err-take_user.ensures.none (cc))
