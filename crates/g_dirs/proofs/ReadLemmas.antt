@@ -479,3 +479,51 @@ module _ (format : Format) (n : ℕ) (block : List ℕ) (files : List FileRec) (
       rw (added, copied ∙ append-nil online) (files_offline r so read holds)
   files_more_at new new_online (Some (r, Some ks)) so read holds added copied =
       rw (added, copied) (files_online r ks so read holds)
+
+-- what a block of a file's number is to any files whose it is
+cell_of : Option FileEntry → Option FileCell
+cell_of = option_map (λ f. (f.0, option_map (λ c. c.blocks) f.1))
+
+file_cell_of : (format : Format) (n : ℕ) (block : List ℕ) (o : Option FileEntry) → IfSome o (λ f. (f.0.number ≡ n) × IsEntry format f) → block ≡ file_or_empty format o → IsFileCell format n block (cell_of o)
+unfolding cell_of file_or_empty
+file_cell_of format n block None is here = record { file = tt; block_is = here }
+file_cell_of format n block (Some (rec, copy)) is here = record { file = (is.0, is.1.file, is.1.places); block_is = here }
+
+entry_at-is : (format : Format) (n : ℕ) (xs : List FileEntry) (o : Option FileEntry) → All (IsEntry format) xs → entry_at xs n ≡ o → IfSome o (λ f. (f.0.number ≡ n) × IsEntry format f)
+entry_at-is format n xs None all at = tt
+entry_at-is format n xs (Some f) all at = let is = find-holds (λ g. eqb g.0.number n) (IsEntry format) xs f all at in (eqb_true f.0.number n is.0, is.1)
+
+module _ (format : Format) (n : ℕ) (files : List FileRec) (online : List (ℕ × DiscCopy)) (before mid : DiscState) where
+  files_later : (after : DiscState) → FilesRead format n files online before mid → ReadsByCause ⊥ mid after → FilesRead format n files online before after
+  files_later after so counts = record {
+    counts = reads_then ⊥ before mid after so.counts counts;
+    rising = so.rising;
+    below = so.below;
+    copies = so.copies;
+    copies_below = so.copies_below;
+    entries = so.entries;
+  }
+
+  pub files_more : (block : List ℕ) (after : DiscState) (new : List FileRec) (new_online : List (ℕ × DiscCopy)) → FilesRead format n files online before mid → ReadsByCause ⊥ mid after
+      → ForSome mid.held (λ blocks. slice_get (current blocks) (64 + n) ≡ Some block) → TakesFile format n block files new online new_online → FilesRead format (n + 1) new new_online before after
+  files_more block after new new_online so counts read takes =
+      files_more_at format n block files online before after new new_online takes.cell (files_later after so counts) (λ blocks told. read blocks (so.counts.held ∙ told)) takes.holds takes.added takes.copies
+
+  pub files_stopped : (block : List ℕ) → n < 1024 → FilesRead format n files online before mid → ForSome mid.held (λ blocks. slice_get (current blocks) (64 + n) ≡ Some block)
+      → ((cell : Option FileCell) → IsFileCell format n block cell → ⊥)
+      → ForSome before.held (λ blocks. (xs : List FileEntry) → HoldsFiles format xs (current blocks) → ⊥)
+  files_stopped block below so read nothing = λ blocks told xs holds.
+      let is : block ≡ file_or_empty format (entry_at xs n) = same_Some _ _ (sym (read blocks (so.counts.held ∙ told)) ∙ holds.block n below) in
+      nothing (cell_of (entry_at xs n)) (file_cell_of format n block (entry_at xs n) (entry_at-is format n xs (entry_at xs n) holds.entries refl) is)
+
+-- after the last block
+pub files_numbered : (format : Format) (n : ℕ) (files : List FileRec) (online : List (ℕ × DiscCopy)) (before after : DiscState) → n ≤ 1024 → FilesRead format n files online before after → AreNumbered files
+files_numbered format n files online before after most so = record { rising = so.rising; below = λ k d within. let less = so.below k d within in omega (arith, less) }
+
+pub files_all : (format : Format) (n : ℕ) (files : List FileRec) (online : List (ℕ × DiscCopy)) (before after : DiscState) → n ≤ 1024 → 1024 ≤ n → FilesRead format n files online before after
+    → ForSome before.held (λ blocks. HoldsFiles format (entries_of files online) (current blocks))
+files_all format n files online before after most least so = λ blocks told. record {
+  numbered = rw (recs-entries_of files online) (files_numbered format n files online before after most so);
+  entries = so.entries.good;
+  block = λ k below. so.entries.here blocks told k (omega arith);
+}
