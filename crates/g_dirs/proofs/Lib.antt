@@ -1,1 +1,4 @@
+pub mod EntryLemmas
+pub mod Parts
+pub mod QuietLemmas
 pub mod ReadLemmas
