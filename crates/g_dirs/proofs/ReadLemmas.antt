@@ -8,49 +8,36 @@ use Rattle.std.proofs.lemmas.List.{append-nil, length_push, map_push}
 use Rattle.std.proofs.lemmas.List.Elements.{All-cons, All-head, All-nil, All-tail, All-push, All-weaker, All-same, All-map, All-append, All-get_or, Contains-push, Contains-append_left}
 use Rattle.std.proofs.lemmas.List.Quantifiers.{all_pairs_push}
 use Rattle.std.proofs.lemmas.Option.{slice_get_past, slice_get_within, same_Some, get_or_from_slice_get}
-use Rattle.g_base.specs.Fields.{padded}
 use Rattle.g_copy.specs.declared.copy.DiscCopy.{DiscCopy}
 use Rattle.g_disc.specs.Disc.{DiscState, ReadsByCause}
 use Rattle.g_entry.specs.declared.file_rec.FileRec.{FileRec}
 use Rattle.g_entry.specs.declared.format.Format.{Format}
+use Rattle.g_entry.specs.declared.head.Head.{Head}
 use Rattle.g_entry.specs.declared.user_rec.UserRec.{UserRec}
-use Rattle.g_entry.specs.FileFields.{ArePlaces, IsFile, file_block, file_fields}
+use Rattle.g_entry.specs.FileFields.{ArePlaces, IsFile, file_block}
 use Rattle.g_entry.specs.Rules.{AreNumbered}
-use Rattle.g_entry.specs.UserFields.{IsUser, user_block, user_fields}
+use Rattle.g_entry.specs.UserFields.{IsUser, user_block}
+use Rattle.g_entry.proofs.OneEncoding.{file_used, user_used}
 use Rattle.g_slots.specs.Layout.{current}
-use Rattle.g_dirs.specs.Directory.{AreCopies, FileEntry, copy_at, entries_of, recs}
-use Rattle.g_dirs.specs.Image.{entry_at, file_or_empty, user_or_empty}
-use Rattle.g_dirs.specs.Parts.{AreInOrder, HoldsFiles, HoldsUsers, IsEntry}
+use Rattle.g_dirs.specs.Directory.{AreCopies, Directory, FileEntry, IsDirectory, copy_at, entries_of, recs}
+use Rattle.g_dirs.specs.Image.{StandsFor, entry_at, file_or_empty, user_or_empty}
+use Rattle.g_dirs.specs.Parts.{AreInOrder, HoldsFiles, HoldsHead, HoldsUsers, IsEntry}
+use Rattle.g_dirs.proofs.Parts.{HoldsParts, files_again, head_again, parts_of_stands, stands_from_parts, users_again}
 use Rattle.g_dirs.specs.Reading.{FileCell, IsFileCell, IsUserCell, TakesFile, TakesUser, copies_in, copies_of, file_cell_block, recs_in}
-
-abbrev zeros : List ℕ
-zeros = replicate 512 0
-
-one_zero : ((let one : ℕ = 1 in one ≡ 0)) → ⊥
-one_zero e = omega (arith, e)
-
--- the first byte of a record's block is 1
-pub user_block-used : (format : Format) (u : UserRec) → user_block format 0 u ≡ replicate 512 0 → ⊥
-unfolding user_fields padded
-user_block-used format u e = one_zero (ap (λ (xs : List ℕ). get_or xs 0 0) e)
-
-pub file_block-used : (format : Format) (r : FileRec) (places : Option (List ℕ)) → file_block format r places ≡ replicate 512 0 → ⊥
-unfolding file_fields padded
-file_block-used format r places e = one_zero (ap (λ (xs : List ℕ). get_or xs 0 0) e)
 
 module _ (format : Format) (number : ℕ) (block : List ℕ) where
   pub user_unused : block ≡ replicate 512 0 → IsUserCell format number block None
   unfolding user_or_empty
   user_unused is = record { user = tt; block_is = is }
 
-  pub user_used : (u : UserRec) → (u.number ≡ number) × IsUser format u × (block ≡ user_block format 0 u) → IsUserCell format number block (Some u)
+  pub user_holds : (u : UserRec) → (u.number ≡ number) × IsUser format u × (block ≡ user_block format 0 u) → IsUserCell format number block (Some u)
   unfolding user_or_empty
-  user_used u is = record { user = (is.0, is.1); block_is = is.2 }
+  user_holds u is = record { user = (is.0, is.1); block_is = is.2 }
 
   pub user_unused_again : block ≡ replicate 512 0 → (cell : Option UserRec) → IsUserCell format number block cell → None ≡ cell
   unfolding user_or_empty
   user_unused_again is None holds = refl
-  user_unused_again is (Some u) holds = absurd (user_block-used format u (sym holds.block_is ∙ is))
+  user_unused_again is (Some u) holds = absurd (user_used format u (sym holds.block_is ∙ is))
 
   pub user_used_again : (found : Option UserRec) → (block ≡ replicate 512 0 → IsTrue false)
       → ((r : UserRec) → r.number ≡ number → IsUser format r → block ≡ user_block format 0 r → found ≡ Some r)
@@ -80,7 +67,7 @@ module _ (format : Format) (number : ℕ) (block : List ℕ) where
 
   pub file_unused_again : block ≡ replicate 512 0 → (cell : Option FileCell) → IsFileCell format number block cell → None ≡ cell
   file_unused_again is None holds = refl
-  file_unused_again is (Some (r, places)) holds = absurd (file_block-used format r places (sym holds.block_is ∙ is))
+  file_unused_again is (Some (r, places)) holds = absurd (file_used format r places (sym holds.block_is ∙ is))
 
 -- READS, one after another
 
@@ -166,7 +153,7 @@ module _ {X : Type 0} (p : X → Bool) where
 user_or_empty-unused : (format : Format) (o : Option UserRec) → user_or_empty format o ≡ replicate 512 0 → o ≡ None
 unfolding user_or_empty
 user_or_empty-unused format None is = refl
-user_or_empty-unused format (Some u) is = absurd (user_block-used format u is)
+user_or_empty-unused format (Some u) is = absurd (user_used format u is)
 
 user_or_empty-none : (format : Format) → user_or_empty format None ≡ replicate 512 0
 unfolding user_or_empty
@@ -527,3 +514,40 @@ files_all format n files online before after most least so = λ blocks told. rec
   entries = so.entries.good;
   block = λ k below. so.entries.here blocks told k (omega arith);
 }
+
+-- THE DIRECTORY
+
+-- the parts that were read, and whether they keep the rules
+module _ (format : Format) (d : Directory) (size : ℕ) (blocks : List (List ℕ)) where
+  pub directory_read : HoldsHead format d.head (current blocks) → HoldsUsers format d.users (current blocks) → HoldsFiles format d.files (current blocks)
+      → length blocks ≡ size → IsDirectory size d → StandsFor blocks d
+  directory_read head users files long rules =
+      stands_from_parts format blocks d (record { head = head; users = users; files = files }) (rw long rules)
+
+  pub rules_broken : HoldsHead format d.head (current blocks) → HoldsUsers format d.users (current blocks) → HoldsFiles format d.files (current blocks)
+      → length blocks ≡ size → (IsDirectory size d → IsTrue false) → (e : Directory) → StandsFor blocks e → ⊥
+  rules_broken head users files long broken e stands =
+      let parts = parts_of_stands blocks e stands in
+      let heads = head_again parts.1.head head in
+      let same_head = heads.1 in
+      let same_users = users_again (rw heads.0 at parts.1.users) users in
+      let same_files = files_again (rw heads.0 at parts.1.files) files in
+      let x : Directory = record { head = e.head; users = e.users; files = e.files } in
+      let y : Directory = record { head = d.head; users = d.users; files = d.files } in
+      let same : x ≡ y = cc in
+      let kept : IsDirectory size e = rw (← long) stands.rules in
+      let never = broken (subst (IsDirectory size) same kept) in
+      cc
+
+pub no_head : (blocks : List (List ℕ)) → ((format : Format) (head : Head) → HoldsHead format head (current blocks) → ⊥) → (e : Directory) → StandsFor blocks e → ⊥
+no_head blocks nothing e stands = let parts = parts_of_stands blocks e stands in nothing parts.0 e.head parts.1.head
+
+pub no_users : (format : Format) (head : Head) (blocks : List (List ℕ)) → HoldsHead format head (current blocks)
+    → ((users : List UserRec) → HoldsUsers format users (current blocks) → ⊥) → (e : Directory) → StandsFor blocks e → ⊥
+no_users format head blocks is nothing e stands =
+    let parts = parts_of_stands blocks e stands in nothing e.users (rw (head_again parts.1.head is).0 at parts.1.users)
+
+pub no_files : (format : Format) (head : Head) (blocks : List (List ℕ)) → HoldsHead format head (current blocks)
+    → ((files : List FileEntry) → HoldsFiles format files (current blocks) → ⊥) → (e : Directory) → StandsFor blocks e → ⊥
+no_files format head blocks is nothing e stands =
+    let parts = parts_of_stands blocks e stands in nothing e.files (rw (head_again parts.1.head is).0 at parts.1.files)
