@@ -2,10 +2,9 @@
 use Rattle.std.proofs.Common.{◌≡◌, ◌≢◌, ℕ, zero, suc, ◌+◌, ◌<◌, ◌≤◌, Bool, true, false, cond, List, [], ◌∷◌, ◌++◌, length, get_or, Option, Some, None, map, refl, sym, ap, ◌∙◌, subst, inl, inr, arith, eqb, below_more}
 use Rattle.std.specs.Prelude.{replicate, find, slice_get, IfSome, IsTrue, All, AllPairs, Contains, option_map}
 use Rattle.std.specs.Option.{ForSome, option_to_list}
-use Rattle.std.proofs.lemmas.Bool.{cases_lt}
-use Rattle.std.proofs.lemmas.Bool.Decides.{nat_tests}
+use Rattle.std.proofs.lemmas.Bool.{cases_lt, eq-eqb, ne_eqb}
 use Rattle.std.proofs.lemmas.List.{append-nil, length_push, map_push}
-use Rattle.std.proofs.lemmas.List.Elements.{All-cons, All-head, All-nil, All-tail, All-push, All-weaker, All-same, All-map, All-append, All-get_or, Contains-push, Contains-append_left}
+use Rattle.std.proofs.lemmas.List.Elements.{All-cons, All-head, All-nil, All-tail, All-push, All-weaker, All-same, All-map, All-append, All-get_or, Contains-push, Contains-append_left, recursion_from_All}
 use Rattle.std.proofs.lemmas.List.Quantifiers.{all_pairs_push}
 use Rattle.std.proofs.lemmas.Option.{slice_get_past, slice_get_within, same_Some, get_or_from_slice_get}
 use Rattle.g_copy.specs.declared.copy.DiscCopy.{DiscCopy}
@@ -22,7 +21,7 @@ use Rattle.g_slots.specs.Layout.{current}
 use Rattle.g_dirs.specs.Directory.{AreCopies, Directory, FileEntry, IsDirectory, copy_at, entries_of, recs}
 use Rattle.g_dirs.specs.Image.{StandsFor, entry_at, file_or_empty, user_or_empty}
 use Rattle.g_dirs.specs.Parts.{AreInOrder, HoldsFiles, HoldsHead, HoldsUsers, IsEntry}
-use Rattle.g_dirs.proofs.Parts.{HoldsParts, files_again, head_again, parts_of_stands, stands_from_parts, users_again}
+use Rattle.g_dirs.proofs.Parts.{HoldsParts, entry_is, files_again, head_again, parts_of_stands, stands_from_parts, users_again}
 use Rattle.g_dirs.specs.Reading.{FileCell, IsFileCell, IsUserCell, TakesFile, TakesUser, copies_in, copies_of, file_cell_block, recs_in}
 
 module _ (format : Format) (number : ℕ) (block : List ℕ) where
@@ -70,18 +69,6 @@ module _ (format : Format) (number : ℕ) (block : List ℕ) where
   file_unused_again is (Some (r, places)) holds = absurd (file_used format r places (sym holds.block_is ∙ is))
 
 -- READS, one after another
-
-pub reads_none : (before : DiscState) → ReadsByCause ⊥ before before
-reads_none before = record {
-  held = refl;
-  size = refl;
-  write_faults = refl;
-  writes = refl;
-  fuse = refl;
-  arms = refl;
-  kept = λ _. refl;
-  rose = λ h. absurd h;
-}
 
 pub reads_then : (P : Type 0) (before mid after : DiscState) → ReadsByCause ⊥ before mid → ReadsByCause P mid after → ReadsByCause P before after
 reads_then P before mid after first second =
@@ -140,13 +127,6 @@ module _ {X : Type 0} (p : X → Bool) where
   find-last [] y all it = rw it refl
   find-last (x ∷ xs) y all it = let P : X → Type 0 = λ z. p z ≡ false in rw (All-head P x xs all) (find-last xs y (All-tail P x xs all) it)
 
-  find-holds : (P : X → Type 0) (xs : List X) (x : X) → All P xs → find p xs ≡ Some x → (p x ≡ true) × P x
-  find-holds P [] x all found = cc
-  find-holds P (y ∷ xs) x all found =
-      elim (p y) as (λ b. p y ≡ b → cond b (Some y) (find p xs) ≡ Some x → (p x ≡ true) × P x) [
-        true ↦ λ it here. let same = same_Some y x here in (ap p (sym same) ∙ it, subst P same (All-head P y xs all))
-        | false ↦ λ it here. find-holds P xs x (All-tail P y xs all) here
-      ] refl found
 
 -- USERS
 
@@ -167,30 +147,16 @@ pub record UsersRead (format : Format) (n : ℕ) (users : List UserRec) (before 
   pub limits : All (IsUser format) users
   pub here : ForSome before.held (λ blocks. (k : ℕ) → k < n → slice_get (current blocks) (1 + k) ≡ Some (user_or_empty format (slice_get users k)))
 
-pub users_none : (format : Format) (before : DiscState) → UsersRead format 0 [] before before
-users_none format before = record {
-  counts = reads_none before;
-  few = omega arith;
-  in_order = λ i u there. cc;
-  limits = All-nil (IsUser format);
-  here = λ blocks told k below. absurd (omega (arith, below));
-}
-
--- the block that was read
-pub record IsRead (at : ℕ) (block : List ℕ) (before after : DiscState) : Type 0 where
-  pub counts : ReadsByCause ⊥ before after
-  pub here : ForSome before.held (λ blocks. slice_get (current blocks) at ≡ Some block)
-
 numbered_more : (users : List UserRec) (u : UserRec) (n : ℕ) → ((i : ℕ) (v : UserRec) → slice_get users i ≡ Some v → v.number ≡ i) → length users ≡ n → u.number ≡ n
     → (i : ℕ) (v : UserRec) → slice_get (users ++ u ∷ []) i ≡ Some v → v.number ≡ i
 numbered_more users u n all long here i v there =
     elim (cases_lt i n) [
-      inl before ↦ all i v (sym (slice_get-before users (u ∷ []) i (omega (arith, long, before))) ∙ there)
+      | inl before ↦ all i v (sym (slice_get-before users (u ∷ []) i (omega (arith, long, before))) ∙ there)
       | inr behind ↦
-        let within : i < length (users ++ u ∷ []) = slice_get_within (users ++ u ∷ []) i v there in
-        let at : n ≡ i = omega (arith, length_push users u, within, behind, long) in
-        let same : u ≡ v = same_Some u v (sym (slice_get-push users u i (long ∙ at)) ∙ there) in
-        ap (λ (w : UserRec). w.number) (sym same) ∙ here ∙ at
+          let within : i < length (users ++ u ∷ []) = slice_get_within (users ++ u ∷ []) i v there in
+          let at : n ≡ i = omega (arith, length_push users u, within, behind, long) in
+          let same : u ≡ v = same_Some u v (sym (slice_get-push users u i (long ∙ at)) ∙ there) in
+          ap (λ (w : UserRec). w.number) (sym same) ∙ here ∙ at
     ]
 
 abbrev UserHere : Format → List UserRec → List (List ℕ) → ℕ → Type 0
@@ -215,8 +181,8 @@ module _ (format : Format) (n : ℕ) (block : List ℕ) (users : List UserRec) (
     in_order = numbered_more users u n so.in_order long is.0;
     limits = All-push (IsUser format) users u so.limits is.1;
     here = λ blocks told. below_more (UserHere format (users ++ u ∷ []) blocks) n
-      (λ k below. rw (slice_get-before users (u ∷ []) k (omega (arith, long, below))) (so.here blocks told k below))
-      (rw (slice_get-push users u n long) (here blocks told ∙ ap Some holds));
+        (λ k below. rw (slice_get-before users (u ∷ []) k (omega (arith, long, below))) (so.here blocks told k below))
+        (rw (slice_get-push users u n long) (here blocks told ∙ ap Some holds));
   }
 
 module _ (format : Format) (n : ℕ) (users : List UserRec) (before mid : DiscState) where
@@ -253,32 +219,12 @@ module _ (format : Format) (n : ℕ) (users : List UserRec) (before mid : DiscSt
       let m : ℕ = length users in
       let gap : m < n = let few_are = so.few in let other = used.2 in omega arith in
       let unused : user_or_empty format None ≡ user_or_empty format (slice_get vs m) =
-        rw (slice_get_past users m (omega arith)) at (same_Some _ _ (sym (so.here blocks told m gap) ∙ holds.block m (omega arith))) in
+      rw (slice_get_past users m (omega arith)) at (same_Some _ _ (sym (so.here blocks told m gap) ∙ holds.block m (omega arith))) in
       let past : length vs ≤ m = none_past vs m (user_or_empty-unused format (slice_get vs m) (sym unused ∙ user_or_empty-none format)) in
       let within : n < length vs = slice_get_within vs n used.0 used.1 in
       omega arith
 
--- after the last block
-pub users_in_order : (format : Format) (n : ℕ) (users : List UserRec) (before after : DiscState) → n ≤ 63 → UsersRead format n users before after → AreInOrder format users
-users_in_order format n users before after most so = record { few = let few_are = so.few in omega arith; numbered = so.in_order; limits = so.limits }
-
-pub users_all : (format : Format) (n : ℕ) (users : List UserRec) (before after : DiscState) → n ≤ 63 → 63 ≤ n → UsersRead format n users before after
-    → ForSome before.held (λ blocks. HoldsUsers format users (current blocks))
-users_all format n users before after most least so = λ blocks told. record {
-  are = users_in_order format n users before after most so;
-  block = λ k below. so.here blocks told k (omega arith);
-}
-
 -- FILES
-
-eqb_same : (m n : ℕ) → m ≡ n → eqb m n ≡ true
-eqb_same m n is = grind (arith, nat_tests)
-
-eqb_other : (m n : ℕ) → m ≢ n → eqb m n ≡ false
-eqb_other m n other = grind (arith, nat_tests)
-
-eqb_true : (m n : ℕ) → eqb m n ≡ true → m ≡ n
-eqb_true m n is = grind (arith, nat_tests)
 
 abbrev Copies : Type 0
 Copies = List (ℕ × DiscCopy)
@@ -287,15 +233,15 @@ abbrev copy : ℕ × DiscCopy → DiscCopy
 copy c = c.1
 
 copy_at-other : (online : Copies) (c : ℕ × DiscCopy) (k : ℕ) → c.0 ≢ k → copy_at (online ++ c ∷ []) k ≡ copy_at online k
-copy_at-other online c k other = ap (option_map copy) (find-other (λ d. eqb d.0 k) online c (eqb_other c.0 k other))
+copy_at-other online c k other = ap (option_map copy) (find-other (λ d. eqb d.0 k) online c (ne_eqb c.0 k other))
 
 copy_at-last : (online : Copies) (n : ℕ) (d : DiscCopy) → All (λ c. c.0 < n) online → copy_at (online ++ (n, d) ∷ []) n ≡ Some d
 copy_at-last online n d below =
-    ap (option_map copy) (find-last (λ c. eqb c.0 n) online (n, d) (λ k e within. let less = below k e within in eqb_other _ n (omega (arith, less))) (eqb_same n n refl))
+    ap (option_map copy) (find-last (λ c. eqb c.0 n) online (n, d) (λ k e within. let less = below k e within in ne_eqb _ n (omega (arith, less))) (eq-eqb n n refl))
 
 copy_at-none : (online : Copies) (n : ℕ) → All (λ c. c.0 < n) online → copy_at online n ≡ None
 copy_at-none online n below =
-    ap (option_map copy) (find-none (λ c. eqb c.0 n) online (λ k e within. let less = below k e within in eqb_other _ n (omega (arith, less))))
+    ap (option_map copy) (find-none (λ c. eqb c.0 n) online (λ k e within. let less = below k e within in ne_eqb _ n (omega (arith, less))))
 
 abbrev IsBelow : ℕ → FileRec → Type 0
 IsBelow n r = r.number < n
@@ -325,7 +271,7 @@ FileHere format entries blocks k = slice_get (current blocks) (64 + k) ≡ Some 
 
 module _ (format : Format) (n : ℕ) (block : List ℕ) (entries : List FileEntry) (before : DiscState) where
   others : EntriesRead format n entries before → All (λ f. eqb f.0.number n ≡ false) entries
-  others so = λ k e within. let less = so.below k e within in eqb_other _ n (omega (arith, less))
+  others so = λ k e within. let less = so.below k e within in ne_eqb _ n (omega (arith, less))
 
   entries_unused : EntriesRead format n entries before → ForSome before.held (λ blocks. slice_get (current blocks) (64 + n) ≡ Some block)
       → block ≡ file_or_empty format None → EntriesRead format (n + 1) entries before
@@ -333,7 +279,7 @@ module _ (format : Format) (n : ℕ) (block : List ℕ) (entries : List FileEntr
     below = λ k e within. let less = so.below k e within in omega (arith, less);
     good = so.good;
     here = λ blocks told. below_more (FileHere format entries blocks) n (so.here blocks told)
-      (rw (find-none (λ f. eqb f.0.number n) entries (others so)) (read blocks told ∙ ap Some is));
+        (rw (find-none (λ f. eqb f.0.number n) entries (others so)) (read blocks told ∙ ap Some is));
   }
 
   entries_used : (e : FileEntry) → EntriesRead format n entries before → ForSome before.held (λ blocks. slice_get (current blocks) (64 + n) ≡ Some block)
@@ -342,8 +288,8 @@ module _ (format : Format) (n : ℕ) (block : List ℕ) (entries : List FileEntr
     below = All-push (λ f. f.0.number < n + 1) entries e (λ k d within. let less = so.below k d within in omega (arith, less)) (omega (arith, numbered));
     good = All-push (IsEntry format) entries e so.good good;
     here = λ blocks told. below_more (FileHere format (entries ++ e ∷ []) blocks) n
-      (λ k less. rw (find-other (λ f. eqb f.0.number k) entries e (eqb_other e.0.number k (omega (arith, numbered, less)))) (so.here blocks told k less))
-      (rw (find-last (λ f. eqb f.0.number n) entries e (others so) (eqb_same e.0.number n numbered)) (read blocks told ∙ ap Some is));
+        (λ k less. rw (find-other (λ f. eqb f.0.number k) entries e (ne_eqb e.0.number k (omega (arith, numbered, less)))) (so.here blocks told k less))
+        (rw (find-last (λ f. eqb f.0.number n) entries e (others so) (eq-eqb e.0.number n numbered)) (read blocks told ∙ ap Some is));
   }
 
 -- files and their copies, with each below n in its block
@@ -357,20 +303,6 @@ pub record FilesRead (format : Format) (n : ℕ) (files : List FileRec) (online 
 
 abbrev numbers : List FileRec → List ℕ
 numbers files = map (λ r. r.number) files
-
-pub files_none : (format : Format) (before : DiscState) → FilesRead format 0 [] [] before before
-files_none format before = record {
-  counts = reads_none before;
-  rising = λ i j d less within. absurd (omega (arith, within));
-  below = All-nil (λ r. r.number < 0);
-  copies = record { rising = λ i j d less within. absurd (omega (arith, within)); files_are = All-nil (λ c. Contains (numbers []) c.0) };
-  copies_below = All-nil (λ c. c.0 < 0);
-  entries = record {
-    below = All-nil (λ f. f.0.number < 0);
-    good = All-nil (IsEntry format);
-    here = λ blocks told k below. absurd (omega (arith, below));
-  };
-}
 
 numbers_kept : (files : List FileRec) (r : FileRec) (k : ℕ) → Contains (numbers files) k → Contains (numbers (files ++ r ∷ [])) k
 numbers_kept files r k there = let is = map_push (λ (s : FileRec). s.number) files r in rw is (Contains-append_left (numbers files) (r.number ∷ []) k there)
@@ -448,8 +380,8 @@ module _ (format : Format) (n : ℕ) (block : List ℕ) (files : List FileRec) (
       let below_r : All (IsBelow r.number) files = rw at so.below in
       let kept : entries_of files (online ++ (r.number, d) ∷ []) ≡ entries_of files online = entries_kept files online (r.number, d) below_r in
       let entries_are : entries_of (files ++ r ∷ []) (online ++ (r.number, d) ∷ []) ≡ entries_of files online ++ (r, Some d) ∷ [] =
-        entries_push files (online ++ (r.number, d) ∷ []) r ∙ ap (λ (es : List FileEntry). es ++ (r, copy_at (online ++ (r.number, d) ∷ []) r.number) ∷ []) kept
-        ∙ ap (λ (o : Option DiscCopy). entries_of files online ++ (r, o) ∷ []) here in record {
+      entries_push files (online ++ (r.number, d) ∷ []) r ∙ ap (λ (es : List FileEntry). es ++ (r, copy_at (online ++ (r.number, d) ∷ []) r.number) ∷ []) kept
+      ∙ ap (λ (o : Option DiscCopy). entries_of files online ++ (r, o) ∷ []) here in record {
         counts = so.counts;
         rising = rising_push r so at;
         below = below_push r so at;
@@ -471,14 +403,10 @@ module _ (format : Format) (n : ℕ) (block : List ℕ) (files : List FileRec) (
 cell_of : Option FileEntry → Option FileCell
 cell_of = option_map (λ f. (f.0, option_map (λ c. c.blocks) f.1))
 
-file_cell_of : (format : Format) (n : ℕ) (block : List ℕ) (o : Option FileEntry) → IfSome o (λ f. (f.0.number ≡ n) × IsEntry format f) → block ≡ file_or_empty format o → IsFileCell format n block (cell_of o)
+file_cell_of : (format : Format) (n : ℕ) (block : List ℕ) (o : Option FileEntry) → IfSome o (λ f. IsEntry format f × (f.0.number ≡ n)) → block ≡ file_or_empty format o → IsFileCell format n block (cell_of o)
 unfolding cell_of file_or_empty
 file_cell_of format n block None is here = record { file = tt; block_is = here }
-file_cell_of format n block (Some (rec, copy)) is here = record { file = (is.0, is.1.file, is.1.places); block_is = here }
-
-entry_at-is : (format : Format) (n : ℕ) (xs : List FileEntry) (o : Option FileEntry) → All (IsEntry format) xs → entry_at xs n ≡ o → IfSome o (λ f. (f.0.number ≡ n) × IsEntry format f)
-entry_at-is format n xs None all at = tt
-entry_at-is format n xs (Some f) all at = let is = find-holds (λ g. eqb g.0.number n) (IsEntry format) xs f all at in (eqb_true f.0.number n is.0, is.1)
+file_cell_of format n block (Some (rec, copy)) is here = record { file = (is.1, is.0.file, is.0.places); block_is = here }
 
 module _ (format : Format) (n : ℕ) (files : List FileRec) (online : List (ℕ × DiscCopy)) (before mid : DiscState) where
   files_later : (after : DiscState) → FilesRead format n files online before mid → ReadsByCause ⊥ mid after → FilesRead format n files online before after
@@ -501,7 +429,7 @@ module _ (format : Format) (n : ℕ) (files : List FileRec) (online : List (ℕ 
       → ForSome before.held (λ blocks. (xs : List FileEntry) → HoldsFiles format xs (current blocks) → ⊥)
   files_stopped block below so read nothing = λ blocks told xs holds.
       let is : block ≡ file_or_empty format (entry_at xs n) = same_Some _ _ (sym (read blocks (so.counts.held ∙ told)) ∙ holds.block n below) in
-      nothing (cell_of (entry_at xs n)) (file_cell_of format n block (entry_at xs n) (entry_at-is format n xs (entry_at xs n) holds.entries refl) is)
+      nothing (cell_of (entry_at xs n)) (file_cell_of format n block (entry_at xs n) (entry_is format xs (recursion_from_All (IsEntry format) xs holds.entries) n) is)
 
 -- after the last block
 pub files_numbered : (format : Format) (n : ℕ) (files : List FileRec) (online : List (ℕ × DiscCopy)) (before after : DiscState) → n ≤ 1024 → FilesRead format n files online before after → AreNumbered files
