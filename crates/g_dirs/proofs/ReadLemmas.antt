@@ -1,10 +1,10 @@
 -- What is known of a slot whose first blocks were read.
-use Rattle.std.proofs.Common.{◌≡◌, ◌≢◌, ℕ, zero, suc, ◌+◌, ◌<◌, ◌≤◌, Bool, true, false, cond, List, [], ◌∷◌, ◌++◌, length, get_or, Option, Some, None, map, refl, sym, ap, ◌∙◌, subst, inl, inr, arith, eqb, below_more}
+use Rattle.std.proofs.Common.{◌≡◌, ◌≢◌, ℕ, zero, suc, ◌+◌, ◌<◌, ◌≤◌, Bool, true, false, cond, List, [], ◌∷◌, ◌++◌, length, Option, Some, None, map, refl, sym, ap, ◌∙◌, subst, inl, inr, arith, eqb, below_more}
 use Rattle.std.specs.Prelude.{replicate, find, slice_get, IfSome, IsTrue, All, AllPairs, Contains, option_map}
 use Rattle.std.specs.Option.{ForSome, option_to_list}
 use Rattle.std.proofs.lemmas.Bool.{cases_lt, eq-eqb, ne_eqb}
 use Rattle.std.proofs.lemmas.List.{append-nil, length_push, map_push}
-use Rattle.std.proofs.lemmas.List.Elements.{All-cons, All-head, All-nil, All-tail, All-push, All-weaker, All-same, All-map, All-append, All-get_or, Contains-push, Contains-append_left, recursion_from_All}
+use Rattle.std.proofs.lemmas.List.Elements.{All-head, All-tail, All-push, Contains-push, Contains-append_left, recursion_from_All}
 use Rattle.std.proofs.lemmas.List.Quantifiers.{all_pairs_push}
 use Rattle.std.proofs.lemmas.Option.{slice_get_past, slice_get_within, same_Some, get_or_from_slice_get}
 use Rattle.g_copy.specs.declared.copy.DiscCopy.{DiscCopy}
@@ -21,8 +21,8 @@ use Rattle.g_slots.specs.Layout.{current}
 use Rattle.g_dirs.specs.Directory.{AreCopies, Directory, FileEntry, IsDirectory, copy_at, entries_of, recs}
 use Rattle.g_dirs.specs.Image.{StandsFor, entry_at, file_or_empty, user_or_empty}
 use Rattle.g_dirs.specs.Parts.{AreInOrder, HoldsFiles, HoldsHead, HoldsUsers, IsEntry}
-use Rattle.g_dirs.proofs.Parts.{HoldsParts, entry_is, files_again, head_again, parts_of_stands, stands_from_parts, users_again}
-use Rattle.g_dirs.specs.Reading.{FileCell, IsFileCell, IsUserCell, TakesFile, TakesUser, copies_in, copies_of, file_cell_block, recs_in}
+use Rattle.g_dirs.proofs.Parts.{entry_is, files_again, head_again, parts_of_stands, stands_from_parts, users_again}
+use Rattle.g_dirs.specs.Reading.{FileCell, IsFileCell, IsUserCell, TakesFile, TakesUser, copies_in, copies_of, recs_in}
 
 module _ (format : Format) (number : ℕ) (block : List ℕ) where
   pub user_unused : block ≡ replicate 512 0 → IsUserCell format number block None
