@@ -4,7 +4,9 @@ use Rattle.std.specs.Prelude.{replicate, find, slice_get, IfSome, IsTrue, All, A
 use Rattle.std.specs.Option.{ForSome, option_to_list}
 use Rattle.std.proofs.lemmas.Bool.{cases_lt, eq-eqb, ne_eqb}
 use Rattle.std.proofs.lemmas.List.{append-nil, length_push, map_push}
-use Rattle.std.proofs.lemmas.List.Elements.{All-head, All-tail, All-push, Contains-push, Contains-append_left, recursion_from_All}
+use Rattle.std.proofs.lemmas.List.Elements.{All-append, All-head, All-map, All-nil, All-tail, All-push, All-weaker, Contains-push, Contains-append_left, recursion_from_All}
+use Rattle.std.proofs.lemmas.Bool.Decides.{nat_tests}
+use Rattle.std.proofs.lemmas.List.Sums.{AllPass-from_list_all}
 use Rattle.std.proofs.lemmas.List.Quantifiers.{all_pairs_push}
 use Rattle.std.proofs.lemmas.Option.{slice_get_past, slice_get_within, same_Some, get_or_from_slice_get}
 use Rattle.g_copy.specs.declared.copy.DiscCopy.{DiscCopy}
@@ -14,11 +16,14 @@ use Rattle.g_entry.specs.declared.format.Format.{Format}
 use Rattle.g_entry.specs.declared.head.Head.{Head}
 use Rattle.g_entry.specs.declared.user_rec.UserRec.{UserRec}
 use Rattle.g_entry.specs.FileFields.{ArePlaces, IsFile, file_block}
+use Rattle.g_entry.specs.declared.format.Format.TheVariants.{One, Two}
+use Rattle.g_entry.specs.Formats.{is_place}
+use Rattle.g_entry.specs.HeadFields.{IsHead}
 use Rattle.g_entry.specs.Rules.{AreNumbered}
 use Rattle.g_entry.specs.UserFields.{IsUser, user_block}
 use Rattle.g_entry.proofs.OneEncoding.{file_used, user_used}
 use Rattle.g_slots.specs.Layout.{current}
-use Rattle.g_dirs.specs.Directory.{AreCopies, Directory, FileEntry, IsDirectory, copy_at, entries_of, recs}
+use Rattle.g_dirs.specs.Directory.{AreCopies, AreRecords, Directory, FileEntry, IsDirectory, all_places, places_of, copy_at, entries_of, recs}
 use Rattle.g_dirs.specs.Image.{StandsFor, entry_at, file_or_empty, user_or_empty}
 use Rattle.g_dirs.specs.Parts.{AreInOrder, HoldsFiles, HoldsHead, HoldsUsers, IsEntry}
 use Rattle.g_dirs.proofs.Parts.{entry_is, files_again, head_again, parts_of_stands, stands_from_parts, users_again}
@@ -126,7 +131,6 @@ module _ {X : Type 0} (p : X → Bool) where
   find-last : (xs : List X) (y : X) → All (λ x. p x ≡ false) xs → p y ≡ true → find p (xs ++ y ∷ []) ≡ Some y
   find-last [] y all it = rw it refl
   find-last (x ∷ xs) y all it = let P : X → Type 0 = λ z. p z ≡ false in rw (All-head P x xs all) (find-last xs y (All-tail P x xs all) it)
-
 
 -- USERS
 
@@ -479,3 +483,34 @@ pub no_files : (format : Format) (head : Head) (blocks : List (List ℕ)) → Ho
     → ((files : List FileEntry) → HoldsFiles format files (current blocks) → ⊥) → (e : Directory) → StandsFor blocks e → ⊥
 no_files format head blocks is nothing e stands =
     let parts = parts_of_stands blocks e stands in nothing e.files (rw (head_again parts.1.head is).0 at parts.1.files)
+
+-- what has a block in a format has one in the second
+
+user_later : (format : Format) (u : UserRec) → IsUser format u → IsUser Two u
+user_later One u is = let money_is = is.money in record { user = is.user; space = is.space; time = is.time; money = omega (arith, money_is) }
+user_later Two u is = is
+
+place_later : (format : Format) (k : ℕ) → is_place format k ≡ true → is_place Two k ≡ true
+place_later One k is = grind (arith, nat_tests)
+place_later Two k is = is
+
+abbrev HasPlace : ℕ → Type 0
+HasPlace k = is_place Two k ≡ true
+
+places_in : (format : Format) (f : FileEntry) → IsEntry format f → All HasPlace (places_of f)
+places_in format (rec, None) is = All-nil HasPlace
+places_in format (rec, Some d) is =
+    All-weaker (λ k. is_place format k ≡ true) HasPlace (place_later format) d.blocks (AllPass-from_list_all (is_place format) d.blocks is.places.each)
+
+places_later : (format : Format) (files : List FileEntry) → All (IsEntry format) files → All HasPlace (all_places files)
+places_later format [] all = All-nil HasPlace
+places_later format (f ∷ files) all =
+    All-append HasPlace (places_of f) (all_places files) (places_in format f (All-head (IsEntry format) f files all)) (places_later format files (All-tail (IsEntry format) f files all))
+
+pub records_read : (format : Format) (d : Directory) → IsHead d.head → AreInOrder format d.users → All (IsEntry format) d.files → AreRecords Two d
+records_read format d head users files = record {
+  head = head;
+  users = All-weaker (IsUser format) (IsUser Two) (user_later format) d.users users.limits;
+  files = All-map IsFile (λ (f : FileEntry). f.0) d.files (All-weaker (IsEntry format) (λ f. IsFile f.0) (λ f is. is.file) d.files files);
+  places = places_later format d.files files;
+}

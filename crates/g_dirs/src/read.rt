@@ -1,14 +1,15 @@
 //! Reading the directory that a disc stands for.
-ghost use Rattle.std.specs.Prelude.{◌≡◌, ◌≢◌, ◌⊎◌, ◌<◌, ℕ, ◌↔◌, IfOk, IfSome, IsTrue, List, ◌++◌, OnErr, OnOk, Option, Some, length, replicate, slice_get};
+ghost use Rattle.std.specs.Prelude.{◌≡◌, ◌≢◌, ◌⊎◌, ◌<◌, ℕ, ◌↔◌, All, IfOk, IfSome, IsTrue, List, ◌++◌, OnErr, OnOk, Option, Some, length, replicate, slice_get};
 ghost use Rattle.std.specs.Option.{ForSome, option_copied};
 ghost use Rattle.g_disc.specs.Disc.{ReadsByCause};
 ghost use Rattle.g_entry.specs.FileFields.{ArePlaces, IsFile, file_block};
+ghost use Rattle.g_entry.specs.HeadFields.{IsHead};
 ghost use Rattle.g_entry.specs.Rules.{AreNumbered};
 ghost use Rattle.g_entry.specs.UserFields.{IsUser, user_block};
 ghost use Rattle.g_slots.specs.Layout.{GateNames, current};
-ghost use Rattle.g_dirs.specs.Directory.{AreCopies, Directory, FileEntry, directory_of, entries_of};
+ghost use Rattle.g_dirs.specs.Directory.{AreCopies, AreRecords, Directory, FileEntry, IsDirectory, directory_of, entries_of};
 ghost use Rattle.g_dirs.specs.Image.{StandsFor};
-ghost use Rattle.g_dirs.specs.Parts.{AreInOrder, HoldsFiles, HoldsHead, HoldsUsers};
+ghost use Rattle.g_dirs.specs.Parts.{AreInOrder, HoldsFiles, HoldsHead, HoldsUsers, IsEntry};
 ghost use Rattle.g_dirs.specs.Reading.{FileCell, IsFileCell, IsUserCell, TakesFile, TakesUser, copies_in};
 
 use crate::rules::keeps_rules;
@@ -32,6 +33,11 @@ pub fn read_dirs<D: Disc>(alloc: Global, disc: &mut D, slots: &Slots) -> Result<
     ensures ok { IfOk result (λ dirs. ForSome (D.state disc.old).held
         (λ blocks. StandsFor blocks (directory_of dirs.head dirs.users.items dirs.files.items dirs.online.items))) }
     ensures copies { IfOk result (λ dirs. AreCopies dirs.files.items dirs.online.items) }
+
+    // What a commit asks for, whether or not the disc tells what it holds.
+    ensures records { IfOk result (λ dirs. AreRecords Format.Two (directory_of dirs.head dirs.users.items dirs.files.items dirs.online.items)) }
+    ensures rules { IfOk result (λ dirs. IsDirectory (D.state disc.old).size
+        (directory_of dirs.head dirs.users.items dirs.files.items dirs.online.items)) }
     ensures none { result ≡ Err DirsFault.NoFilestore →
         ForSome (D.state disc.old).held (λ blocks. (d : Directory) → StandsFor blocks d → ⊥) }
     ensures counts { ReadsByCause (result ≡ Err DirsFault.ReadFault) (D.state disc.old) (D.state disc.new) }
@@ -58,6 +64,7 @@ fn read_head<D: Disc>(disc: &mut D, slots: &Slots) -> Result<(Head, Format), Dir
     requires size { 2177 < (D.state disc.old).size }
     requires gate { GateNames slots.now (D.state disc.old).held }
     ensures ok { IfOk result (λ found. ForSome (D.state disc.old).held (λ blocks. HoldsHead found.1 found.0 (current blocks))) }
+    ensures limits { IfOk result (λ found. IsHead found.0) }
     ensures none { result ≡ Err DirsFault.NoFilestore → ForSome (D.state disc.old).held
         (λ blocks. (format : Format) (head : Head) → HoldsHead format head (current blocks) → ⊥) }
     ensures counts { ReadsByCause (result ≡ Err DirsFault.ReadFault) (D.state disc.old) (D.state disc.new) }
@@ -175,6 +182,7 @@ fn read_files<D: Disc>(
     ensures ok { IfOk result (λ found. ForSome (D.state disc.old).held
         (λ blocks. HoldsFiles format (entries_of found.0.items found.1.items) (current blocks))) }
     ensures numbered { IfOk result (λ found. AreNumbered found.0.items) }
+    ensures entries { IfOk result (λ found. All (IsEntry format) (entries_of found.0.items found.1.items)) }
     ensures copies { IfOk result (λ found. AreCopies found.0.items found.1.items) }
     ensures none { result ≡ Err DirsFault.NoFilestore → ForSome (D.state disc.old).held
         (λ blocks. (files : List FileEntry) → HoldsFiles format files (current blocks) → ⊥) }

@@ -1,6 +1,6 @@
 use Rattle.std.proofs.Common.{◌≡◌, ◌∙◌}
 use Rattle.std.proofs.lemmas.Result.{err_from_is_err_and}
-use Rattle.g_dirs.proofs.ReadLemmas.{directory_read, no_files, no_head, no_users, rules_broken}
+use Rattle.g_dirs.proofs.ReadLemmas.{directory_read, no_files, no_head, no_users, records_read, rules_broken}
 use Rattle.g_dirs.specs.declared.fault.DirsFault.TheVariants.{NoFilestore}
 use Rattle.g_dirs.proofs.read.read_dirs.Goals as goal
 
@@ -39,3 +39,6 @@ returns-else-branch-clause-none g c = λ stopped blocks told.
     let three = c.in_ok-files.ensures.counts.held ∙ two in
     rules_broken c.in_ok-head.format _ c.size.result blocks (c.in_ok-head.ensures.ok blocks told) (c.in_ok-users.ensures.ok blocks (one ∙ told)) (c.in_ok-files.ensures.ok blocks (two ∙ told))
     (c.size.ensures.blocks blocks (three ∙ told)).0 (rw c.if-branch.false at c.in_ok-keeps_rules.ensures.1)
+
+pub returns-then-branch-clause-records : goal.returns-then-branch-clause-records
+returns-then-branch-clause-records g c = records_read c.in_ok-head.format _ c.in_ok-head.ensures.limits c.in_ok-users.ensures.in_order c.in_ok-files.ensures.entries
