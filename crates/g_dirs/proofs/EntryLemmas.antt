@@ -76,12 +76,12 @@ same_files (x ∷ xs) (y ∷ ys) up_x up_y each =
     let here_x = entry_here x xs x.0.number refl in
     let here_y = entry_here y ys y.0.number refl in
     let same : x.0.number ≡ y.0.number = ⊎_elim (λ equal. equal) (λ other. ⊎_elim
-        (λ (less : x.0.number < y.0.number). absurd (gone x (sym (entry_none x.0.number (y ∷ ys) (less, above_less x.0.number y.0.number ys (omega arith) up_y.0)) ∙ sym (each x.0.number) ∙ here_x)))
-        (λ (less : y.0.number < x.0.number). absurd (gone y (sym (entry_none y.0.number (x ∷ xs) (less, above_less y.0.number x.0.number xs (omega arith) up_x.0)) ∙ each y.0.number ∙ here_y)))
-        other) (cases_order x.0.number y.0.number) in
+    (λ (less : x.0.number < y.0.number). absurd (gone x (sym (entry_none x.0.number (y ∷ ys) (less, above_less x.0.number y.0.number ys (omega arith) up_y.0)) ∙ sym (each x.0.number) ∙ here_x)))
+    (λ (less : y.0.number < x.0.number). absurd (gone y (sym (entry_none y.0.number (x ∷ xs) (less, above_less y.0.number x.0.number xs (omega arith) up_x.0)) ∙ each y.0.number ∙ here_y)))
+    other) (cases_order x.0.number y.0.number) in
     let first : x ≡ y = some_same x y (sym here_x ∙ each x.0.number ∙ entry_here y ys x.0.number (sym same)) in
     let tail : (k : ℕ) → entry_at xs k ≡ entry_at ys k = λ k. ⊎_elim
-        (λ (here : x.0.number ≡ k). entry_none k xs (let up : Above x.0.number xs = up_x.0 in above_less k x.0.number xs (omega (arith, here)) up) ∙ sym (entry_none k ys (let up : Above y.0.number ys = up_y.0 in above_less k y.0.number ys (omega (arith, here, same)) up)))
-        (λ (other : x.0.number ≢ k). sym (entry_behind x xs k other) ∙ each k ∙ entry_behind y ys k (λ is. other (same ∙ is)))
-        (cases_eq x.0.number k) in
+    (λ (here : x.0.number ≡ k). entry_none k xs (let up : Above x.0.number xs = up_x.0 in above_less k x.0.number xs (omega (arith, here)) up) ∙ sym (entry_none k ys (let up : Above y.0.number ys = up_y.0 in above_less k y.0.number ys (omega (arith, here, same)) up)))
+    (λ (other : x.0.number ≢ k). sym (entry_behind x xs k other) ∙ each k ∙ entry_behind y ys k (λ is. other (same ∙ is)))
+    (cases_eq x.0.number k) in
     ap (λ (z : FileEntry). z ∷ xs) first ∙ ap (λ (l : List FileEntry). y ∷ l) (same_files xs ys up_x.1 up_y.1 tail)

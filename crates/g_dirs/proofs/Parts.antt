@@ -47,10 +47,10 @@ at_place format users are k (Some r) is =
 pub users_again : {format : Format} {us vs : List UserRec} {blocks : List (List ℕ)} → HoldsUsers format us blocks → HoldsUsers format vs blocks → us ≡ vs
 users_again {format = format} {us = us} {vs = vs} one other =
     let each : (k : ℕ) → slice_get us k ≡ slice_get vs k = λ k. ⊎_elim
-        (λ (below : k < 63). same_user format k (slice_get us k) (slice_get vs k) (at_place format us one.are k (slice_get us k) refl) (at_place format vs other.are k (slice_get vs k) refl)
-            (some_same (user_or_empty format (slice_get us k)) (user_or_empty format (slice_get vs k)) (sym (one.block k below) ∙ other.block k below)))
-        (λ (past : 63 ≤ k). let few_us = one.are.few in let few_vs = other.are.few in slice_get_past us k (omega arith) ∙ sym (slice_get_past vs k (omega arith)))
-        (cases_lt k 63) in
+    (λ (below : k < 63). same_user format k (slice_get us k) (slice_get vs k) (at_place format us one.are k (slice_get us k) refl) (at_place format vs other.are k (slice_get vs k) refl)
+    (some_same (user_or_empty format (slice_get us k)) (user_or_empty format (slice_get vs k)) (sym (one.block k below) ∙ other.block k below)))
+    (λ (past : 63 ≤ k). let few_us = one.are.few in let few_vs = other.are.few in slice_get_past us k (omega arith) ∙ sym (slice_get_past vs k (omega arith)))
+    (cases_lt k 63) in
     same_lists us vs each
 
 -- what is known of the file at a number
@@ -94,10 +94,10 @@ files_again {format = format} {xs = xs} {ys = ys} one other =
     let below_xs = recursion_from_All (λ (r : FileRec). r.number < 1024) (recs xs) one.numbered.below in
     let below_ys = recursion_from_All (λ (r : FileRec). r.number < 1024) (recs ys) other.numbered.below in
     let each : (k : ℕ) → entry_at xs k ≡ entry_at ys k = λ k. ⊎_elim
-        (λ (below : k < 1024). same_file format k (entry_at xs k) (entry_at ys k) (entry_is format xs all_xs k) (entry_is format ys all_ys k)
-            (some_same (file_or_empty format (entry_at xs k)) (file_or_empty format (entry_at ys k)) (sym (one.block k below) ∙ other.block k below)))
-        (λ (past : 1024 ≤ k). entry_past 1024 xs below_xs k past ∙ sym (entry_past 1024 ys below_ys k past))
-        (cases_lt k 1024) in
+    (λ (below : k < 1024). same_file format k (entry_at xs k) (entry_at ys k) (entry_is format xs all_xs k) (entry_is format ys all_ys k)
+    (some_same (file_or_empty format (entry_at xs k)) (file_or_empty format (entry_at ys k)) (sym (one.block k below) ∙ other.block k below)))
+    (λ (past : 1024 ≤ k). entry_past 1024 xs below_xs k past ∙ sym (entry_past 1024 ys below_ys k past))
+    (cases_lt k 1024) in
     same_files xs ys (rising_from xs one.numbered.rising) (rising_from ys other.numbered.rising) each
 
 -- THE PARTS OF A DIRECTORY
@@ -167,13 +167,13 @@ image_of : (format : Format) (d : Directory) (blocks : List (List ℕ)) → Hold
 image_of format d blocks parts = record {
   block = λ k below. ⊎_elim
       (λ (user : k < 64). ⊎_elim
-          (λ (head : k < 1). subst (λ (n : ℕ). slice_get blocks n ≡ Some (block_of format d n)) (let e : 0 ≡ k = omega arith in e)
-              (parts.head.block ∙ ap (λ (b : List ℕ). Some b) (sym (head_block_of format d))))
-          (λ (behind : 1 ≤ k). subst (λ (n : ℕ). slice_get blocks n ≡ Some (block_of format d n)) (let e : 1 + (k - 1) ≡ k = omega arith in e)
-              (parts.users.block (k - 1) (omega arith) ∙ ap (λ (b : List ℕ). Some b) (sym (user_block_of format d (k - 1) (omega arith)))))
-          (cases_lt k 1))
+      (λ (head : k < 1). subst (λ (n : ℕ). slice_get blocks n ≡ Some (block_of format d n)) (let e : 0 ≡ k = omega arith in e)
+      (parts.head.block ∙ ap (λ (b : List ℕ). Some b) (sym (head_block_of format d))))
+      (λ (behind : 1 ≤ k). subst (λ (n : ℕ). slice_get blocks n ≡ Some (block_of format d n)) (let e : 1 + (k - 1) ≡ k = omega arith in e)
+      (parts.users.block (k - 1) (omega arith) ∙ ap (λ (b : List ℕ). Some b) (sym (user_block_of format d (k - 1) (omega arith)))))
+      (cases_lt k 1))
       (λ (file : 64 ≤ k). subst (λ (n : ℕ). slice_get blocks n ≡ Some (block_of format d n)) (let e : 64 + (k - 64) ≡ k = omega arith in e)
-          (parts.files.block (k - 64) (omega arith) ∙ ap (λ (b : List ℕ). Some b) (sym (file_block_of format d (k - 64)))))
+      (parts.files.block (k - 64) (omega arith) ∙ ap (λ (b : List ℕ). Some b) (sym (file_block_of format d (k - 64)))))
       (cases_lt k 64);
 }
 

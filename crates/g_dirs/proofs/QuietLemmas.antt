@@ -61,5 +61,5 @@ one_place blocks place left = record {
 pub quiet_bytes : (blocks : List (List ℕ)) (place : ℕ) (left places : List ℕ) (len : ℕ) → (Contains places place → ⊥) → bytes_at places len (set blocks place left) ≡ bytes_at places len blocks
 quiet_bytes blocks place left places len apart =
     let each : All (λ k. Contains (place ∷ []) k → ⊥) places = λ j d inside among.
-        apart (j, inside, get_or_default places j place d inside ∙ sym (alone place (get_or places j d) among)) in
+    apart (j, inside, get_or_default places j place d inside ∙ sym (alone place (get_or places j d) among)) in
     ap (take len) (blocks_at-OnlyAt (place ∷ []) places blocks (set blocks place left) (one_place blocks place left) each)

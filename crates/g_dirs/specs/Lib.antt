@@ -2,6 +2,7 @@ pub mod Directory
 pub mod Image
 pub mod Parts
 pub mod Rules
+pub mod FileNames
 pub mod Commit
 pub mod Pages
 pub mod Writing
