@@ -48,11 +48,11 @@ find-map f p (x ∷ xs) =
         ∙ sym (ap (option_map f) (cond-false (p (f x)) (Some x) (find (λ x. p (f x)) xs) fails))
     ]
 
-pub All-at : {X : Type 0} (P : X → Type 0) (xs : List X) (k : ℕ) (x : X) → All P xs → slice_get xs k ≡ Some x → P x
+All-at : {X : Type 0} (P : X → Type 0) (xs : List X) (k : ℕ) (x : X) → All P xs → slice_get xs k ≡ Some x → P x
 All-at P xs k x all there = subst P (get_or_from_slice_get xs k x x there) (all k x (slice_get_within xs k x there))
 
 -- where a list was mapped, what was mapped to what stands there
-slice_get-map_back : {X Y : Type 0} (f : X → Y) (xs : List X) (k : ℕ) (y : Y) → slice_get (map f xs) k ≡ Some y → (x : X) × (slice_get xs k ≡ Some x) × (f x ≡ y)
+pub slice_get-map_back : {X Y : Type 0} (f : X → Y) (xs : List X) (k : ℕ) (y : Y) → slice_get (map f xs) k ≡ Some y → (x : X) × (slice_get xs k ≡ Some x) × (f x ≡ y)
 slice_get-map_back f [] k y there = absurd (let none : ⊥ = cc in none)
 slice_get-map_back f (x ∷ xs) zero y there = (x, refl, same_Some (f x) y there)
 slice_get-map_back f (x ∷ xs) (suc k) y there = slice_get-map_back f xs k y there
@@ -146,7 +146,7 @@ found_rising number xs k x rising there =
 abbrev entry_of : List (ℕ × DiscCopy) → FileRec → FileEntry
 entry_of online rec = (rec, copy_at online rec.number)
 
-recs-entries : (files : List FileRec) (online : List (ℕ × DiscCopy)) → recs (entries_of files online) ≡ files
+pub recs-entries : (files : List FileRec) (online : List (ℕ × DiscCopy)) → recs (entries_of files online) ≡ files
 recs-entries [] online = refl
 recs-entries (r ∷ files) online = ap (λ (rest : List FileRec). r ∷ rest) (recs-entries files online)
 
@@ -227,6 +227,22 @@ pub differs_past : {X : Type 0} (number : X → ℕ) (xs : List X) (n place : �
 differs_past number xs n place past x is same = none-some x (sym (slice_get_past xs place past) ∙ is)
 
 -- a list of numbers that has room
-pub list_is : (list : Option (List ℕ)) (numbers : List ℕ) → (IsSome list ↔ (length numbers ≤ 128)) → IfSome list (λ l. l ≡ numbers) → length numbers ≤ 128 → list ≡ Some numbers
+list_is : (list : Option (List ℕ)) (numbers : List ℕ) → (IsSome list ↔ (length numbers ≤ 128)) → IfSome list (λ l. l ≡ numbers) → length numbers ≤ 128 → list ≡ Some numbers
 list_is None numbers fits value small = let none : ⊥ = cc (fits.1 small) in absurd none
 list_is (Some l) numbers fits value small = ap Some value
+
+-- the block numbers of what is found at a cursor
+abbrev places_in : Option (ℕ × DiscCopy) → Option (List ℕ)
+places_in found = option_map (λ (c : DiscCopy). c.blocks) (option_map (λ (c : ℕ × DiscCopy). c.1) found)
+
+module _ (online : List (ℕ × DiscCopy)) (n place : ℕ) (rising : AllPairs (λ c d. c.0 < d.0) online) (here : IsCursor number_of_copy online n place) where
+  pub places_found : (copy : ℕ × DiscCopy) → slice_get online place ≡ Some copy → copy.0 ≡ n → All (λ c. length c.1.blocks ≤ 128) online
+      → (list : Option (List ℕ)) (numbers : List ℕ) → numbers ≡ copy.1.blocks → (IsSome list ↔ (length numbers ≤ 128)) → IfSome list (λ l. l ≡ numbers)
+      → list ≡ option_map (λ c. c.blocks) (copy_at online n)
+  places_found copy there is small list numbers same fits value =
+      let few : length copy.1.blocks ≤ 128 = All-at (λ c. length c.1.blocks ≤ 128) online place copy small there in
+      list_is list numbers fits value (subst (λ (l : List ℕ). length l ≤ 128) (sym same) few) ∙ ap Some same
+      ∙ sym (ap places_in (found_here number_of_copy online n place rising here copy there is))
+
+  pub places_missing : ((copy : ℕ × DiscCopy) → slice_get online place ≡ Some copy → copy.0 ≢ n) → option_map (λ c. c.blocks) (copy_at online n) ≡ None
+  places_missing differs = ap places_in (missing_here number_of_copy online n place rising here differs)

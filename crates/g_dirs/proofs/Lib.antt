@@ -1,3 +1,4 @@
 pub mod EncoderLemmas
 pub mod PageLemmas
+pub mod TestLemmas
 pub mod WriteLemmas

@@ -1,13 +1,15 @@
 -- What is remembered, and how many blocks aren't.
-use Rattle.std.proofs.Common.{◌≡◌, ◌≢◌, ℕ, suc, zero, ◌+◌, ◌<◌, true, if◌then◌else◌, List, [], ◌∷◌, length, get_or, Option, Some, None, refl, sym, ◌∙◌, ap, slice_get, add-one, arith}
+use Rattle.std.proofs.Common.{◌≡◌, ◌≢◌, ℕ, suc, zero, ◌+◌, ◌<◌, true, if◌then◌else◌, List, [], ◌∷◌, length, get_or, Option, Some, None, refl, sym, ◌∙◌, ap, subst, replicate, slice_get, add-one, arith}
 use Rattle.std.specs.Prelude.{set}
-use Rattle.std.proofs.lemmas.List.{set-get_or}
-use Rattle.std.proofs.lemmas.Option.{get_or_from_slice_get}
+use Rattle.std.proofs.lemmas.List.{get_or-replicate, length-replicate, set-get_or}
+use Rattle.std.proofs.lemmas.Option.{get_or_from_slice_get, none-some, slice_get_within}
 use Rattle.std.proofs.lemmas.Slice.Eq.{bytes_eq-Decides}
 use Rattle.g_entry.specs.declared.format.Format.TheVariants.{Two}
+use Rattle.g_slots.specs.declared.side.Side.{Side}
+use Rattle.g_slots.specs.declared.side.Side.TheVariants.{A, B}
 use Rattle.g_dirs.specs.Directory.{Directory}
 use Rattle.g_dirs.specs.Image.{block_of}
-use Rattle.g_dirs.specs.Pages.{Remembered, is_page, is_remembered, unwritten}
+use Rattle.g_dirs.specs.Pages.{Remembered, Remembers, is_page, is_remembered, nothing, pages_of, unwritten}
 
 is_page-true : (block : List ℕ) (page : Option (Option (List ℕ))) → is_page block page ≡ true → page ≡ Some (Some block)
 is_page-true block None is = cc
@@ -38,3 +40,19 @@ slice_get-set_same (y ∷ xs) (suc k) x within = slice_get-set_same xs k x (omeg
 
 pub same_pages : (a b x y : List (Option (List ℕ))) → a ≡ x → b ≡ y → (let p : Remembered = record { a = a; b = b } in let q : Remembered = record { a = x; b = y } in p ≡ q)
 same_pages a b x y p q = λ i. record { a = p i; b = q i }
+
+stands_same : {X : Type 0} (n k : ℕ) (x y : X) → slice_get (replicate n x) k ≡ Some y → x ≡ y
+stands_same {X} n k x y there =
+    let long = length-replicate n x in
+    let within : k < n = omega (arith, slice_get_within (replicate n x) k y there) in
+    sym (get_or-replicate n k x y within) ∙ get_or_from_slice_get (replicate n x) k y y there
+
+nothing_there : (side : Side) (k : ℕ) (page : List ℕ) → slice_get (pages_of side nothing) k ≡ Some (Some page) → slice_get (replicate {A = Option (List ℕ)} 1088 None) k ≡ Some (Some page)
+nothing_there A k page there = there
+nothing_there B k page there = there
+
+-- where nothing is remembered it all stands so
+pub remembers_nothing : (pages : Remembered) (blocks : List (List ℕ)) → pages ≡ nothing → Remembers pages blocks
+remembers_nothing pages blocks is = subst (λ (p : Remembered). Remembers p blocks) (sym is) (record {
+  block = λ side k page there. absurd (none-some page (stands_same 1088 k None (Some page) (nothing_there side k page there)));
+})

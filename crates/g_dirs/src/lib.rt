@@ -8,6 +8,8 @@ mod laws;
 mod pages;
 mod read;
 mod rules;
+#[cfg(test)]
+mod tests;
 mod write;
 
 pub use dirs::Dirs;
