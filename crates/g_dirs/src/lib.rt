@@ -7,6 +7,8 @@ mod fault;
 mod laws;
 mod pages;
 mod read;
+#[cfg(test)]
+mod read_tests;
 mod rules;
 #[cfg(test)]
 mod tests;

@@ -1,16 +1,20 @@
 //! Reading the directory that a disc stands for.
-ghost use Rattle.std.specs.Prelude.{◌≡◌, ◌≢◌, ◌<◌, IfOk, List, OnErr, Some, slice_get};
-ghost use Rattle.std.specs.Option.{ForSome};
+ghost use Rattle.std.specs.Prelude.{◌≡◌, ◌≢◌, ◌⊎◌, ◌<◌, ℕ, ◌↔◌, All, IfOk, IfSome, IsTrue, List, ◌++◌, OnErr, OnOk, Option, Some, length, replicate, slice_get};
+ghost use Rattle.std.specs.Option.{ForSome, option_copied};
 ghost use Rattle.g_disc.specs.Disc.{ReadsByCause};
-ghost use Rattle.g_entry.specs.declared.head.Head.{Head};
+ghost use Rattle.g_entry.specs.FileFields.{ArePlaces, IsFile, file_block};
+ghost use Rattle.g_entry.specs.HeadFields.{IsHead};
+ghost use Rattle.g_entry.specs.Rules.{AreNumbered};
+ghost use Rattle.g_entry.specs.UserFields.{IsUser, user_block};
 ghost use Rattle.g_slots.specs.Layout.{GateNames, current};
-ghost use Rattle.g_dirs.specs.Directory.{AreCopies, Directory, FileEntry, directory_of, entries_of};
+ghost use Rattle.g_dirs.specs.Directory.{AreCopies, AreRecords, Directory, FileEntry, IsDirectory, directory_of, entries_of};
 ghost use Rattle.g_dirs.specs.Image.{StandsFor};
-ghost use Rattle.g_dirs.specs.Parts.{HoldsFiles, HoldsHead, HoldsUsers};
+ghost use Rattle.g_dirs.specs.Parts.{AreInOrder, HoldsFiles, HoldsHead, HoldsUsers, IsEntry};
+ghost use Rattle.g_dirs.specs.Reading.{FileCell, IsFileCell, IsUserCell, TakesFile, TakesUser, copies_in};
 
 use crate::rules::keeps_rules;
 use crate::{Dirs, DirsFault};
-use g_base::Block;
+use g_base::{Block, NoMemory};
 use g_copy::{BlockNumbers, DiscCopy};
 use g_disc::Disc;
 use g_entry::{
@@ -29,6 +33,11 @@ pub fn read_dirs<D: Disc>(alloc: Global, disc: &mut D, slots: &Slots) -> Result<
     ensures ok { IfOk result (λ dirs. ForSome (D.state disc.old).held
         (λ blocks. StandsFor blocks (directory_of dirs.head dirs.users.items dirs.files.items dirs.online.items))) }
     ensures copies { IfOk result (λ dirs. AreCopies dirs.files.items dirs.online.items) }
+
+    // What a commit asks for, whether or not the disc tells what it holds.
+    ensures records { IfOk result (λ dirs. AreRecords Format.Two (directory_of dirs.head dirs.users.items dirs.files.items dirs.online.items)) }
+    ensures rules { IfOk result (λ dirs. IsDirectory (D.state disc.old).size
+        (directory_of dirs.head dirs.users.items dirs.files.items dirs.online.items)) }
     ensures none { result ≡ Err DirsFault.NoFilestore →
         ForSome (D.state disc.old).held (λ blocks. (d : Directory) → StandsFor blocks d → ⊥) }
     ensures counts { ReadsByCause (result ≡ Err DirsFault.ReadFault) (D.state disc.old) (D.state disc.new) }
@@ -55,6 +64,7 @@ fn read_head<D: Disc>(disc: &mut D, slots: &Slots) -> Result<(Head, Format), Dir
     requires size { 2177 < (D.state disc.old).size }
     requires gate { GateNames slots.now (D.state disc.old).held }
     ensures ok { IfOk result (λ found. ForSome (D.state disc.old).held (λ blocks. HoldsHead found.1 found.0 (current blocks))) }
+    ensures limits { IfOk result (λ found. IsHead found.0) }
     ensures none { result ≡ Err DirsFault.NoFilestore → ForSome (D.state disc.old).held
         (λ blocks. (format : Format) (head : Head) → HoldsHead format head (current blocks) → ⊥) }
     ensures counts { ReadsByCause (result ≡ Err DirsFault.ReadFault) (D.state disc.old) (D.state disc.new) }
@@ -80,12 +90,84 @@ fn read_users<D: Disc>(
     requires size { 2177 < (D.state disc.old).size }
     requires gate { GateNames slots.now (D.state disc.old).held }
     ensures ok { IfOk result (λ users. ForSome (D.state disc.old).held (λ blocks. HoldsUsers format users.items (current blocks))) }
+    ensures in_order { IfOk result (λ users. AreInOrder format users.items) }
     ensures none { result ≡ Err DirsFault.NoFilestore → ForSome (D.state disc.old).held
         (λ blocks. (users : List UserRec) → HoldsUsers format users (current blocks) → ⊥) }
     ensures counts { ReadsByCause (result ≡ Err DirsFault.ReadFault) (D.state disc.old) (D.state disc.new) }
     ensures only { result ≢ Err DirsFault.Stopped }
 {
-    Err(DirsFault::NoMemory)
+    let mut users = Vec::new(alloc);
+    for number in 0..63 {
+        let block = match read_block(disc, slots, 1 + u32::from(number)) {
+            Ok(block) => block,
+            Err(fault) => return Err(fault),
+        };
+        match take_user(format, &block, number, &mut users) {
+            Ok(()) => {}
+            Err(fault) => return Err(fault),
+        }
+    }
+    Ok(users)
+}
+
+/// Puts the user of this number behind the others, if its block is that of one. `NoFilestore` comes exactly where it is
+/// no user's block and not empty, or a number before it is unused.
+fn take_user(
+    format: Format,
+    block: &Block,
+    number: u8,
+    users: &mut Vec<UserRec>,
+) -> Result<(), DirsFault>
+    ensures ok { OnOk result (TakesUser format number block.now users.old.items users.new.items) }
+    ensures none { result ≡ Err DirsFault.NoFilestore → (cell : Option UserRec) → IsUserCell format number block.now cell
+        → (user : UserRec) × (cell ≡ Some user) × (length users.old.items ≢ number) }
+    ensures only { OnErr result (result ≡ Err DirsFault.NoFilestore ⊎ result ≡ Err DirsFault.NoMemory) }
+{
+    match user_in(format, block, number) {
+        Ok(None) => Ok(()),
+        Ok(Some(user)) => {
+            if users.len() != usize::from(number) {
+                return Err(DirsFault::NoFilestore);
+            }
+            match users.push(user) {
+                Ok(()) => Ok(()),
+                Err(_) => Err(DirsFault::NoMemory),
+            }
+        }
+        Err(fault) => Err(fault),
+    }
+}
+
+/// The user whose block it is, or none where the number is unused. `NoFilestore` comes where it is neither.
+fn user_in(format: Format, block: &Block, number: u8) -> Result<Option<UserRec>, DirsFault>
+    ensures found { IfOk result (IsUserCell format number block.now) }
+    ensures again { (cell : Option UserRec) → IsUserCell format number block.now cell → result ≡ Ok cell }
+    ensures only { OnErr result (result ≡ Err DirsFault.NoFilestore) }
+{
+    if is_unused(block) {
+        return Ok(None);
+    }
+    match decode_user_in(format, block, number) {
+        Some(user) => Ok(Some(user)),
+        None => Err(DirsFault::NoFilestore),
+    }
+}
+
+fn decode_user_in(format: Format, block: &Block, number: u8) -> Option<UserRec>
+    ensures found { IfSome result (λ r. (r.number ≡ number) × IsUser format r × (block.now ≡ user_block format 0 r)) }
+    ensures again { (r : UserRec) → r.number ≡ number → IsUser format r → block.now ≡ user_block format 0 r → result ≡ Some r }
+{
+    match format {
+        Format::One => decode_user_1(block, number),
+        Format::Two => decode_user(block, number),
+    }
+}
+
+/// Whether it is the block of an unused number.
+fn is_unused(block: &Block) -> bool
+    ensures { IsTrue result ↔ (block.now ≡ replicate 512 0) }
+{
+    *block == empty_block()
 }
 
 /// The files of the current slot in order of number, and the copies of those that are online.
@@ -99,13 +181,111 @@ fn read_files<D: Disc>(
     requires gate { GateNames slots.now (D.state disc.old).held }
     ensures ok { IfOk result (λ found. ForSome (D.state disc.old).held
         (λ blocks. HoldsFiles format (entries_of found.0.items found.1.items) (current blocks))) }
+    ensures numbered { IfOk result (λ found. AreNumbered found.0.items) }
+    ensures entries { IfOk result (λ found. All (IsEntry format) (entries_of found.0.items found.1.items)) }
     ensures copies { IfOk result (λ found. AreCopies found.0.items found.1.items) }
     ensures none { result ≡ Err DirsFault.NoFilestore → ForSome (D.state disc.old).held
         (λ blocks. (files : List FileEntry) → HoldsFiles format files (current blocks) → ⊥) }
     ensures counts { ReadsByCause (result ≡ Err DirsFault.ReadFault) (D.state disc.old) (D.state disc.new) }
     ensures only { result ≢ Err DirsFault.Stopped }
 {
-    Err(DirsFault::NoMemory)
+    let mut files = Vec::new(alloc);
+    let mut online = Vec::new(alloc);
+    for number in 0..1024 {
+        let block = match read_block(disc, slots, 64 + u32::from(number)) {
+            Ok(block) => block,
+            Err(fault) => return Err(fault),
+        };
+        match take_file(alloc, format, &block, number, &mut files, &mut online) {
+            Ok(()) => {}
+            Err(fault) => return Err(fault),
+        }
+    }
+    Ok((files, online))
+}
+
+/// Puts the file of this number behind the others, if its block is that of one, and its copy behind the others where it
+/// is online. `NoFilestore` comes exactly where it is no file's block and not empty.
+fn take_file(
+    alloc: Global,
+    format: Format,
+    block: &Block,
+    number: u16,
+    files: &mut Vec<FileRec>,
+    online: &mut Vec<(u16, DiscCopy)>,
+) -> Result<(), DirsFault>
+    ensures ok { OnOk result (TakesFile format number block.now files.old.items files.new.items online.old.items online.new.items) }
+    ensures none { result ≡ Err DirsFault.NoFilestore → (cell : Option FileCell) → IsFileCell format number block.now cell → ⊥ }
+    ensures only { OnErr result (result ≡ Err DirsFault.NoFilestore ⊎ result ≡ Err DirsFault.NoMemory) }
+{
+    match file_in(format, block, number) {
+        Ok(None) => Ok(()),
+        Ok(Some((rec, places))) => {
+            add_copy(alloc, &rec, places.as_ref(), online)?;
+            match files.push(rec) {
+                Ok(()) => Ok(()),
+                Err(_) => Err(DirsFault::NoMemory),
+            }
+        }
+        Err(fault) => Err(fault),
+    }
+}
+
+/// Puts the copy of a file that is online behind the others.
+fn add_copy(
+    alloc: Global,
+    rec: &FileRec,
+    places: Option<&BlockList>,
+    online: &mut Vec<(u16, DiscCopy)>,
+) -> Result<(), NoMemory>
+    ensures { OnOk result (online.new.items ≡ online.old.items ++ copies_in rec.now (option_copied places.entry)) }
+{
+    let Some(places) = places else {
+        return Ok(());
+    };
+    let blocks = BlockNumbers::from(Vec::from_slice(alloc, places.as_slice())?);
+    let copy = DiscCopy {
+        blocks,
+        len: rec.len,
+    };
+    online.push((rec.number, copy))?;
+    Ok(())
+}
+
+/// The file whose block it is, or none where the number is unused. `NoFilestore` comes where it is neither.
+fn file_in(
+    format: Format,
+    block: &Block,
+    number: u16,
+) -> Result<Option<(FileRec, Option<BlockList>)>, DirsFault>
+    ensures found { IfOk result (IsFileCell format number block.now) }
+    ensures again { (cell : Option FileCell) → IsFileCell format number block.now cell → result ≡ Ok cell }
+    ensures only { OnErr result (result ≡ Err DirsFault.NoFilestore) }
+{
+    if is_unused(block) {
+        return Ok(None);
+    }
+    match decode_file_in(format, block, number) {
+        Some(found) => Ok(Some(found)),
+        None => Err(DirsFault::NoFilestore),
+    }
+}
+
+fn decode_file_in(
+    format: Format,
+    block: &Block,
+    number: u16,
+) -> Option<(FileRec, Option<BlockList>)>
+    ensures number { IfSome result (λ found. found.0.number ≡ number) }
+    ensures file { IfSome result (λ found. IsFile found.0 × IfSome found.1 (ArePlaces format found.0.len)) }
+    ensures block { IfSome result (λ found. block.now ≡ file_block format found.0 found.1) }
+    ensures again { (r : FileRec) (online : Option (List ℕ)) → r.number ≡ number → IsFile r
+        → IfSome online (ArePlaces format r.len) → block.now ≡ file_block format r online → result ≡ Some (r, online) }
+{
+    match format {
+        Format::One => decode_file_1(block, number),
+        Format::Two => decode_file(block, number),
+    }
 }
 
 /// Block `k` of the current slot.

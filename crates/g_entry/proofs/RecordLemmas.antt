@@ -25,10 +25,10 @@ abbrev TakesWord : List ℕ → Option (List ℕ) → List ℕ → Type 0
 TakesWord before taken after = (word rest : List ℕ) → is_word word ≡ true → before ≡ length word ∷ (padded 12 word ++ rest) → (taken ≡ Some word) × (after ≡ rest)
 
 -- the fields of a user, one behind the other
-abbrev user_zeros : Format → ℕ → UserRec → List ℕ
+abbrev pub user_zeros : Format → ℕ → UserRec → List ℕ
 user_zeros format held r = replicate (512 - length (user_fields format held r)) 0
 
-user_peeled : (format : Format) (held : ℕ) (r : UserRec) → user_block format held r
+pub user_peeled : (format : Format) (held : ℕ) (r : UserRec) → user_block format held r
     ≡ 1 ∷ length r.user ∷ (padded 12 r.user ++ (r.superior ∷ (number 4 r.space ++ (number 8 r.time ++ (held ∷ (money_fields format r.money ++ user_zeros format held r))))))
 unfolding user_fields padded
 user_peeled format held r = simp append_assoc
@@ -71,14 +71,14 @@ same_user r numbered_as user superior space time money numbered read =
     let name = read.name in let above = read.above in let blocks = read.blocks in let units = read.units in let pay = read.pay in
     let equal : made ≡ same = cc in equal
 
-format_fits : (format : Format) → format_number format < 2 ^ 16
+pub format_fits : (format : Format) → format_number format < 2 ^ 16
 format_fits One = lit< tt
 format_fits Two = lit< tt
 
-abbrev head_zeros : Format → Head → List ℕ
+abbrev pub head_zeros : Format → Head → List ℕ
 head_zeros format h = replicate (512 - length (head_fields format h)) 0
 
-head_peeled : (format : Format) (h : Head) → head_block format h
+pub head_peeled : (format : Format) (h : Head) → head_block format h
     ≡ codes "G3SL" ++ (number 2 (format_number format) ++ (number 8 h.next_stamp ++ (number 8 h.last_dump ++ (intent_fields h.intent ++ head_zeros format h))))
 unfolding head_fields padded
 head_peeled format h = simp append_assoc
@@ -106,15 +106,15 @@ head_read format h b m0 m1 m2 m3 m4 letters written next last intent is here fro
     let same : Head = record { next_stamp = h.next_stamp; last_dump = h.last_dump; intent = h.intent } in
     let equal : made ≡ same = cc in equal
 
-abbrev file_zeros : Format → FileRec → Option (List ℕ) → List ℕ
+abbrev pub file_zeros : Format → FileRec → Option (List ℕ) → List ℕ
 file_zeros format r online = replicate (512 - length (file_fields format r online)) 0
 
 -- from the stamp on
-abbrev file_rest : Format → FileRec → Option (List ℕ) → List ℕ
+abbrev pub file_rest : Format → FileRec → Option (List ℕ) → List ℕ
 file_rest format r online =
     number 8 r.stamp ++ (number 4 r.len ++ (r.traps.owner ∷ length r.traps.others ∷ (pair_fields r.traps.others ++ (copy_fields r.tape ++ (online_fields format online ++ file_zeros format r online)))))
 
-file_peeled : (format : Format) (r : FileRec) (online : Option (List ℕ)) → file_block format r online
+pub file_peeled : (format : Format) (r : FileRec) (online : Option (List ℕ)) → file_block format r online
     ≡ 1 ∷ r.owner ∷ length r.local ∷ (padded 12 r.local ++ (number 2 r.generation ++ (lang_field r.lang ++ file_rest format r online)))
 unfolding file_fields padded
 file_peeled format r online = simp append_assoc

@@ -1,0 +1,65 @@
+-- Writes that change nothing of what a disc stands for.
+use Rattle.std.proofs.Common.{◌≡◌, ◌≢◌, ℕ, zero, suc, ◌+◌, ◌-◌, ◌<◌, ◌≤◌, List, [], ◌∷◌, length, get_or, take, drop, refl, sym, ◌∙◌, ap, subst, arith, slice_get, length-set}
+use Rattle.std.specs.Prelude.{All, Contains}
+use Rattle.std.proofs.Math.ListN.{set}
+use Rattle.std.proofs.lemmas.List.{drop-set-add, take-set-le, get_or_default}
+use Rattle.g_copy.proofs.Blocks.{blocks_at-OnlyAt, slice_get-set_other}
+use Rattle.g_copy.specs.Copy.{OnlyAt, bytes_at}
+use Rattle.g_slots.proofs.OneWrite.{gate_side-set, keeps_current}
+use Rattle.g_slots.specs.Commit.{KeepsCurrent}
+use Rattle.g_slots.specs.declared.side.Side.{Side}
+use Rattle.g_slots.specs.declared.side.Side.TheVariants.{A, B}
+use Rattle.g_slots.specs.Layout.{current, gate_side, other, slot, start_of}
+use Rattle.g_dirs.specs.Directory.{Directory, IsDirectory}
+use Rattle.g_dirs.specs.Image.{IsImage, StandsFor}
+
+-- WHAT A DISC STANDS FOR is told by its current slot and its size
+pub stands_same : (before after : List (List ℕ)) (d : Directory) → current after ≡ current before → length after ≡ length before → StandsFor before d → StandsFor after d
+stands_same before after d slots size stands = record {
+  format = stands.format;
+  image = subst (IsImage stands.format d) (sym slots) stands.image;
+  records = stands.records;
+  rules = subst (λ (n : ℕ). IsDirectory n d) (sym size) stands.rules;
+}
+
+-- the current slot is kept with the gate
+pub current_kept : (before after : List (List ℕ)) → KeepsCurrent (gate_side before) before after → current after ≡ current before
+current_kept before after kept = ap (λ (s : Side). slot s after) kept.gate ∙ kept.kept
+
+pub quiet_slot : (blocks : List (List ℕ)) (k : ℕ) (left : List ℕ) (d : Directory) → k < 1088 → StandsFor blocks d → StandsFor (set blocks (start_of (other (gate_side blocks)) + k) left) d
+quiet_slot blocks k left d below stands =
+    let after = set blocks (start_of (other (gate_side blocks)) + k) left in
+    let kept = keeps_current blocks k left below (gate_side blocks) in
+    stands_same blocks after d (current_kept blocks after kept) kept.size stands
+
+slot-set-copy : (side : Side) (blocks : List (List ℕ)) (place : ℕ) (left : List ℕ) → 2177 ≤ place → slot side (set blocks place left) ≡ slot side blocks
+unfolding slot
+slot-set-copy A blocks place left past =
+    let at : place ≡ 1 + (place - 1) = omega arith in
+    ap (λ (i : ℕ). take 1088 (drop 1 (set blocks i left))) at ∙ ap (take 1088) (drop-set-add 1 blocks (place - 1) left) ∙ take-set-le 1088 (drop 1 blocks) (place - 1) left (omega arith)
+slot-set-copy B blocks place left past =
+    let at : place ≡ 1089 + (place - 1089) = omega arith in
+    ap (λ (i : ℕ). take 1088 (drop 1089 (set blocks i left))) at ∙ ap (take 1088) (drop-set-add 1089 blocks (place - 1089) left) ∙ take-set-le 1088 (drop 1089 blocks) (place - 1089) left (omega arith)
+
+pub quiet_copy : (blocks : List (List ℕ)) (place : ℕ) (left : List ℕ) (d : Directory) → 2177 ≤ place → StandsFor blocks d → StandsFor (set blocks place left) d
+quiet_copy blocks place left d past stands =
+    let after = set blocks place left in
+    let gate = gate_side-set blocks place left (omega arith) in
+    stands_same blocks after d (ap (λ (s : Side). slot s after) gate ∙ slot-set-copy (gate_side blocks) blocks place left past) (length-set blocks place left) stands
+
+-- one number alone
+alone : (place k : ℕ) → Contains (place ∷ []) k → place ≡ k
+alone place k (zero, inside, is) = is
+alone place k (suc i, inside, is) = let no : ⊥ = omega (arith, inside) in absurd no
+
+one_place : (blocks : List (List ℕ)) (place : ℕ) (left : List ℕ) → OnlyAt (place ∷ []) blocks (set blocks place left)
+one_place blocks place left = record {
+  size = length-set blocks place left;
+  others = λ k apart. slice_get-set_other blocks place k left (λ same. apart (0, omega arith, sym same));
+}
+
+pub quiet_bytes : (blocks : List (List ℕ)) (place : ℕ) (left places : List ℕ) (len : ℕ) → (Contains places place → ⊥) → bytes_at places len (set blocks place left) ≡ bytes_at places len blocks
+quiet_bytes blocks place left places len apart =
+    let each : All (λ k. Contains (place ∷ []) k → ⊥) places = λ j d inside among.
+    apart (j, inside, get_or_default places j place d inside ∙ sym (alone place (get_or places j d) among)) in
+    ap (take len) (blocks_at-OnlyAt (place ∷ []) places blocks (set blocks place left) (one_place blocks place left) each)
