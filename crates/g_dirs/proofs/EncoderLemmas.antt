@@ -1,25 +1,23 @@
 -- What stands at a cursor of a directory's lists, and which blocks its records have.
-use Rattle.std.proofs.Common.{◌≡◌, ◌≢◌, ℕ, suc, zero, ◌+◌, ◌-◌, ◌<◌, ◌≤◌, Bool, true, false, List, [], ◌∷◌, ◌++◌, length, get_or, map, Option, Some, None, refl, sym, ◌∙◌, ap, subst, inl, inr, arith, slice_get}
-use Rattle.std.specs.Prelude.{◌==◌, All, AllPairs, Contains, IfSome, find, option_map, replicate, IsSome, ◌↔◌}
+use Rattle.std.proofs.Common.{◌≡◌, ◌≢◌, ℕ, suc, zero, ◌+◌, ◌<◌, ◌≤◌, Bool, true, false, List, [], ◌∷◌, length, get_or, map, Option, Some, None, refl, sym, ◌∙◌, ap, subst, inl, inr, arith, slice_get}
+use Rattle.std.specs.Prelude.{◌==◌, All, AllPairs, IfSome, find, option_map, replicate, IsSome, ◌↔◌}
 use Rattle.std.specs.List.{flat_map, list_all}
 use Rattle.std.proofs.lemmas.Bool.{cases_Bool, cases_lt, cases_order, cond-false, cond-true, eq-eqb, eqb-true, ne_eqb}
-use Rattle.std.proofs.lemmas.List.{get_or-append-add, get_or_append_left, length-append, length-map}
+use Rattle.std.proofs.lemmas.List.{get_or-append-add, get_or_append_left, length-append}
 use Rattle.std.proofs.lemmas.List.Elements.{All-head, All-tail}
 use Rattle.std.proofs.lemmas.List.Folds.{find_at}
 use Rattle.std.proofs.lemmas.List.Recursion.{and_from_places, found_at}
 use Rattle.std.proofs.lemmas.Option.{get_or_from_slice_get, none-some, same_Some, slice_get-get_or, slice_get-map, slice_get_past, slice_get_read, slice_get_within}
 use Rattle.std.specs.List.{position_or_len}
-use Rattle.g_base.specs.Block.{blocks_for}
 use Rattle.g_copy.specs.declared.copy.DiscCopy.{DiscCopy}
 use Rattle.g_entry.specs.declared.file_rec.FileRec.{FileRec}
-use Rattle.g_entry.specs.declared.format.Format.{Format}
 use Rattle.g_entry.specs.declared.format.Format.TheVariants.{Two}
 use Rattle.g_entry.specs.declared.head.Head.{Head}
 use Rattle.g_entry.specs.declared.user_rec.UserRec.{UserRec}
 use Rattle.g_entry.specs.FileFields.{ArePlaces, IsFile, file_block}
 use Rattle.g_entry.specs.Formats.{is_place}
 use Rattle.g_entry.specs.Rules.{AreNumbered}
-use Rattle.g_dirs.specs.Directory.{AreCopies, AreRecords, FileEntry, IsCopyOf, LiesSomewhere, all_places, copy_at, directory_of, entries_of, places_of, recs}
+use Rattle.g_dirs.specs.Directory.{AreCopies, FileEntry, IsCopyOf, LiesSomewhere, copy_at, directory_of, entries_of, places_of, recs}
 use Rattle.g_dirs.specs.Image.{entry_at, file_or_empty}
 use Rattle.g_dirs.specs.Writing.{AreEncodable, IsCursor, IsEncodable, number_of_copy, number_of_file}
 
@@ -42,10 +40,10 @@ find-map f p [] = refl
 find-map f p (x ∷ xs) =
     elim (cases_Bool (p (f x))) [
       | inl passes ↦
-        cond-true (p (f x)) (Some (f x)) (find p (map f xs)) passes ∙ sym (ap (option_map f) (cond-true (p (f x)) (Some x) (find (λ x. p (f x)) xs) passes))
+          cond-true (p (f x)) (Some (f x)) (find p (map f xs)) passes ∙ sym (ap (option_map f) (cond-true (p (f x)) (Some x) (find (λ x. p (f x)) xs) passes))
       | inr fails ↦
-        cond-false (p (f x)) (Some (f x)) (find p (map f xs)) fails ∙ find-map f p xs
-        ∙ sym (ap (option_map f) (cond-false (p (f x)) (Some x) (find (λ x. p (f x)) xs) fails))
+          cond-false (p (f x)) (Some (f x)) (find p (map f xs)) fails ∙ find-map f p xs
+          ∙ sym (ap (option_map f) (cond-false (p (f x)) (Some x) (find (λ x. p (f x)) xs) fails))
     ]
 
 All-at : {X : Type 0} (P : X → Type 0) (xs : List X) (k : ℕ) (x : X) → All P xs → slice_get xs k ≡ Some x → P x
@@ -62,13 +60,13 @@ All-flat_map P f [] k x all there = absurd (let none : ⊥ = cc in none)
 All-flat_map P f (y ∷ xs) zero x all there =
     let is = same_Some y x there in
     let front : All P (f y) =
-        λ i d within.
-        subst P (get_or_append_left (f y) (flat_map f xs) d i within) (all i d (let long = length-append (f y) (flat_map f xs) in omega arith)) in
+    λ i d within.
+    subst P (get_or_append_left (f y) (flat_map f xs) d i within) (all i d (let long = length-append (f y) (flat_map f xs) in omega arith)) in
     subst (λ z. All P (f z)) is front
 All-flat_map P f (y ∷ xs) (suc k) x all there =
     let rest : All P (flat_map f xs) =
-        λ i d within.
-        subst P (get_or-append-add (f y) (flat_map f xs) i d) (all (length (f y) + i) d (let long = length-append (f y) (flat_map f xs) in omega arith)) in
+    λ i d within.
+    subst P (get_or-append-add (f y) (flat_map f xs) i d) (all (length (f y) + i) d (let long = length-append (f y) (flat_map f xs) in omega arith)) in
     All-flat_map P f xs k x rest there
 
 -- the block numbers of a file that lies on disc
@@ -87,8 +85,8 @@ module _ {X : Type 0} (number : X → ℕ) (xs : List X) (n place : ℕ) (rising
       let within : place < length xs = slice_get_within xs place x there in
       found_at (find (λ y. number y == n)) (λ y. number y == n) Some None refl (λ _ _. refl) xs place x within
       (λ k below.
-        let less : number (get_or xs k x) < n = here.before k x below (omega arith) in
-        ne_eqb (number (get_or xs k x)) n (λ same. let none : ⊥ = omega arith in none))
+      let less : number (get_or xs k x) < n = here.before k x below (omega arith) in
+      ne_eqb (number (get_or xs k x)) n (λ same. let none : ⊥ = omega arith in none))
       (eq-eqb (number (get_or xs place x)) n (ap number at ∙ is))
       ∙ ap Some at
 
@@ -99,8 +97,8 @@ module _ {X : Type 0} (number : X → ℕ) (xs : List X) (n place : ℕ) (rising
         | inl same ↦ differs (get_or xs k d) (ap (slice_get xs) (sym same) ∙ slice_get-get_or xs k d within) is
         | inr (inl below) ↦ let less = here.before k d below within in let none : ⊥ = omega arith in none
         | inr (inr above) ↦
-          let least = here.behind place d (omega arith) (omega arith) in
-          let more = rising place k d above within in let none : ⊥ = omega arith in none
+            let least = here.behind place d (omega arith) (omega arith) in
+            let more = rising place k d above within in let none : ⊥ = omega arith in none
       ]
 
   pub missing_here : ((x : X) → slice_get xs place ≡ Some x → number x ≢ n) → find (λ y. number y == n) xs ≡ None
@@ -113,8 +111,8 @@ module _ {X : Type 0} (number : X → ℕ) (xs : List X) (n place : ℕ) (rising
         elim (cases_lt k place) [
           | inl before ↦ let less = here.before k d before within in omega arith
           | inr reached ↦
-            let same : k ≡ place = omega arith in
-            let at : number (get_or xs k d) ≡ n = ap (λ (i : ℕ). number (get_or xs i d)) same ∙ ap number (get_or_from_slice_get xs place x d there) ∙ is in omega arith
+              let same : k ≡ place = omega arith in
+              let at : number (get_or xs k d) ≡ n = ap (λ (i : ℕ). number (get_or xs i d)) same ∙ ap number (get_or_from_slice_get xs place x d there) ∙ is in omega arith
         ];
     behind = λ k d above within.
         let at : number (get_or xs place d) ≡ n = ap number (get_or_from_slice_get xs place x d there) ∙ is in
@@ -137,8 +135,8 @@ found_rising number xs k x rising there =
     let within : k < length xs = slice_get_within xs k x there in
     found_at (find (λ y. number y == number x)) (λ y. number y == number x) Some None refl (λ _ _. refl) xs k x within
     (λ j below.
-      let less = rising j k x below within in
-      ne_eqb (number (get_or xs j x)) (number x) (λ is. let none : ⊥ = omega arith in none))
+    let less = rising j k x below within in
+    ne_eqb (number (get_or xs j x)) (number x) (λ is. let none : ⊥ = omega arith in none))
     (eq-eqb (number (get_or xs k x)) (number x) same)
     ∙ ap Some at
 
@@ -182,7 +180,7 @@ module _ (files : List FileRec) (online : List (ℕ × DiscCopy)) (n : ℕ) (rec
   are_places is =
       let lies : LiesSomewhere (entry_of online rec) = All-at LiesSomewhere (entries_of files online) place_of (entry_of online rec) is.lies entry_stands in
       let small : All (λ place. is_place Two place ≡ true) (places_of (entry_of online rec)) =
-          All-flat_map (λ place. is_place Two place ≡ true) places_of (entries_of files online) place_of (entry_of online rec) is.places entry_stands in
+      All-flat_map (λ place. is_place Two place ≡ true) places_of (entries_of files online) place_of (entry_of online rec) is.places entry_stands in
       subst (λ (m : ℕ). IfSome (option_map (λ (c : DiscCopy). c.blocks) (copy_at online m)) (ArePlaces Two rec.len)) number_is
       (places_fit rec (copy_at online rec.number) lies.copy small)
 
@@ -208,10 +206,10 @@ copies_fit files online is copies =
     let there : slice_get numbers owner.0 ≡ Some copy.0 = slice_get-get_or numbers owner.0 copy.0 owner.1 ∙ ap Some owner.2 in
     let rec = slice_get-map_back number_of_file files owner.0 copy.0 there in
     let stands : slice_get (entries_of files online) owner.0 ≡ Some (entry_of online rec.0) =
-        slice_get-map (entry_of online) files owner.0 ∙ ap (option_map (entry_of online)) rec.1 in
+    slice_get-map (entry_of online) files owner.0 ∙ ap (option_map (entry_of online)) rec.1 in
     let lies : LiesSomewhere (entry_of online rec.0) = All-at LiesSomewhere (entries_of files online) owner.0 (entry_of online rec.0) is.lies stands in
     let has : copy_at online rec.0.number ≡ Some copy.1 =
-        ap (copy_at online) rec.2 ∙ ap (option_map (λ (c : ℕ × DiscCopy). c.1)) (found_rising number_of_copy online k copy copies.rising (slice_get-get_or online k d within)) in
+    ap (copy_at online) rec.2 ∙ ap (option_map (λ (c : ℕ × DiscCopy). c.1)) (found_rising number_of_copy online k copy copies.rising (slice_get-get_or online k d within)) in
     let same : IsCopyOf rec.0 copy.1 = subst (λ (o : Option DiscCopy). IfSome o (IsCopyOf rec.0)) has lies.copy in
     let small : rec.0.len ≤ 65536 = (All-at IsFile files owner.0 rec.0 is.limits rec.1).len in
     let count = same.count in omega arith

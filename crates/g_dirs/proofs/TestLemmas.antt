@@ -1,5 +1,5 @@
 -- Lists whose elements have the numbers of their places, as the tests make them.
-use Rattle.std.proofs.Common.{◌≡◌, ℕ, suc, zero, ◌+◌, ◌<◌, ◌≤◌, ◌⊎◌, true, List, [], ◌∷◌, ◌++◌, length, get_or, map, Option, Some, None, refl, sym, ◌∙◌, ap, subst, inl, inr, arith, slice_get}
+use Rattle.std.proofs.Common.{◌≡◌, ℕ, suc, zero, ◌+◌, ◌<◌, ◌≤◌, ◌⊎◌, true, List, [], ◌∷◌, ◌++◌, length, get_or, map, Option, Some, refl, sym, ◌∙◌, ap, subst, inl, inr, arith, slice_get}
 use Rattle.std.specs.Prelude.{All, AllPairs, Contains}
 use Rattle.std.specs.Prelude.{◌%◌, ◌==◌, if◌then◌else◌, drop, take, unwrap_or}
 use Rattle.std.specs.Option.{ForSome}
@@ -26,7 +26,6 @@ use Rattle.g_entry.specs.HeadFields.{IsHead}
 use Rattle.g_entry.specs.Rules.{AreNumbered}
 use Rattle.g_entry.specs.UserFields.{IsUser}
 use Rattle.g_dirs.specs.Directory.{AreCopies, AreRecords, IsDirectory, all_places, directory_of, entries_of}
-use Rattle.g_dirs.specs.Parts.{AreInOrder}
 use Rattle.g_dirs.specs.Writing.{number_of_copy, number_of_file}
 use Rattle.g_dirs.proofs.EncoderLemmas.{recs-entries, slice_get-map_back}
 
@@ -124,10 +123,10 @@ module _ (places : List ℕ) (a b : List (List ℕ)) (only : OnlyAt places a b) 
       same_lists (take 1088 (drop (start_of side) b)) (take 1088 (drop (start_of side) a))
       (let same = only.size in simp (length-take, length-drop) (omega arith))
       (λ k d within.
-        let below : k < 1088 = omega (arith, length-take 1088 (drop (start_of side) b)) in
-        get_or-take 1088 (drop (start_of side) b) k d below ∙ get_or-drop (start_of side) b k d
-        ∙ same_at (start_of side + k) d (start_low side k below)
-        ∙ sym (get_or-take 1088 (drop (start_of side) a) k d below ∙ get_or-drop (start_of side) a k d))
+      let below : k < 1088 = omega (arith, length-take 1088 (drop (start_of side) b)) in
+      get_or-take 1088 (drop (start_of side) b) k d below ∙ get_or-drop (start_of side) b k d
+      ∙ same_at (start_of side + k) d (start_low side k below)
+      ∙ sym (get_or-take 1088 (drop (start_of side) a) k d below ∙ get_or-drop (start_of side) a k d))
 
   remembers_kept : (pages : Remembered) → Remembers pages a → Remembers pages b
   remembers_kept pages was = record {

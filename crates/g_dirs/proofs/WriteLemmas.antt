@@ -1,6 +1,5 @@
 -- A commit block by block, and what the disc stands for behind the gate.
 use Rattle.std.proofs.Common.{◌≡◌, ◌≢◌, ℕ, ◌+◌, ◌<◌, ◌≤◌, ◌⊎◌, if◌then◌else◌, List, length, Option, Some, Ok, refl, sym, ◌∙◌, ap, subst, inl, inr, arith, slice_get, true}
-use Rattle.std.specs.Prelude.{slice_set}
 use Rattle.std.specs.Option.{ForSome}
 use Rattle.std.proofs.lemmas.Bool.{cases_lt}
 use Rattle.std.proofs.lemmas.Option.{same_Some}
@@ -14,13 +13,13 @@ use Rattle.g_entry.specs.declared.format.Format.TheVariants.{Two}
 use Rattle.g_slots.specs.declared.side.Side.{Side}
 use Rattle.g_slots.specs.declared.side.Side.TheVariants.{A, B}
 use Rattle.g_slots.specs.Commit.{Flips, KeepsCurrent, Prepares}
-use Rattle.g_slots.specs.Layout.{current, gate_side, other, slot}
+use Rattle.g_slots.specs.Layout.{gate_side, other, slot}
 use Rattle.g_slots.proofs.OneWrite.{length-slot}
 use Rattle.g_dirs.specs.declared.fault.DirsFault.{DirsFault}
 use Rattle.g_dirs.specs.Commit.{NewDirectory, OldOrNew}
 use Rattle.g_dirs.specs.Directory.{AreRecords, Directory, IsDirectory}
 use Rattle.g_dirs.specs.Image.{StandsFor, block_of}
-use Rattle.g_dirs.specs.Pages.{Remembered, Remembers, RemembersAll, RemembersPage, is_page, is_remembered, pages_of, unwritten}
+use Rattle.g_dirs.specs.Pages.{Remembered, Remembers, RemembersPage, is_page, is_remembered, pages_of, unwritten}
 use Rattle.g_dirs.specs.Writing.{Encoding, HoldsFirst, RemembersFirst, WroteFirst}
 use Rattle.g_dirs.proofs.PageLemmas.{is_remembered-true, set-same, slice_get-set_same, unwritten_more, unwritten_none}
 
@@ -67,15 +66,15 @@ pub remembers_first : (side : Side) (d : Directory) (n : ℕ) (old new : Remembe
 remembers_first side d n old new a b was holds pages = record {
   block = each_side (λ s. (k : ℕ) (page : List ℕ) → slice_get (pages_of s new) k ≡ Some (Some page) → slice_get (slot s b) k ≡ Some page) side
       (λ k page there.
-        ap (λ (blocks : List (List ℕ)). slice_get blocks k) holds.kept.kept
-        ∙ was.block side k page (ap (λ (ps : List (Option (List ℕ))). slice_get ps k) (sym pages.kept) ∙ there))
+      ap (λ (blocks : List (List ℕ)). slice_get blocks k) holds.kept.kept
+      ∙ was.block side k page (ap (λ (ps : List (Option (List ℕ))). slice_get ps k) (sym pages.kept) ∙ there))
       (λ k page there.
-        elim (cases_lt k n) [
-          | inl below ↦
+      elim (cases_lt k n) [
+        | inl below ↦
             let same : page ≡ block_of Two d k = same_Some page (block_of Two d k) (same_Some (Some page) (Some (block_of Two d k)) (sym there ∙ pages.here k below)) in
             holds.here k below ∙ ap Some (sym same)
-          | inr above ↦ holds.rest k above ∙ was.block (other side) k page (sym (pages.rest k above) ∙ there)
-        ]);
+        | inr above ↦ holds.rest k above ∙ was.block (other side) k page (sym (pages.rest k above) ∙ there)
+      ]);
 }
 
 -- one block more
@@ -85,16 +84,16 @@ holds_more side d k a b c below long holds step =
     let same = holds.kept.size in
     let there : k < length old = omega (arith, length-slot (other side) b (omega arith)) in
     let at : slice_get (slot (other side) c) k ≡ Some (block_of Two d k) =
-        ap (λ (blocks : List (List ℕ)). slice_get blocks k) step.written ∙ slice_get-set_same old k (block_of Two d k) there in
+    ap (λ (blocks : List (List ℕ)). slice_get blocks k) step.written ∙ slice_get-set_same old k (block_of Two d k) there in
     let others : (j : ℕ) → j ≢ k → slice_get (slot (other side) c) j ≡ slice_get old j =
-        λ j differs. ap (λ (blocks : List (List ℕ)). slice_get blocks j) step.written ∙ slice_get-set_other old k j (block_of Two d k) differs in
+    λ j differs. ap (λ (blocks : List (List ℕ)). slice_get blocks j) step.written ∙ slice_get-set_other old k j (block_of Two d k) differs in
     record {
       kept = stays-then holds.kept step.kept;
       here = λ j before.
           elim (cases_lt j k) [
             | inl less ↦ others j (omega arith) ∙ holds.here j less
             | inr reached ↦
-              let is : k ≡ j = omega arith in subst (λ (i : ℕ). slice_get (slot (other side) c) i ≡ Some (block_of Two d i)) is at
+                let is : k ≡ j = omega arith in subst (λ (i : ℕ). slice_get (slot (other side) c) i ≡ Some (block_of Two d i)) is at
           ];
       rest = λ j above. others j (omega arith) ∙ holds.rest j (omega arith);
     }
@@ -105,7 +104,7 @@ remembers_more side d k old mid new so_far page = record {
       elim (cases_lt j k) [
         | inl less ↦ page.rest j (omega arith) ∙ so_far.here j less
         | inr reached ↦
-          let is : k ≡ j = omega arith in subst (λ (i : ℕ). slice_get (pages_of (other side) new) i ≡ Some (Some (block_of Two d i))) is page.here
+            let is : k ≡ j = omega arith in subst (λ (i : ℕ). slice_get (pages_of (other side) new) i ≡ Some (Some (block_of Two d i))) is page.here
       ];
   rest = λ j above. page.rest j (omega arith) ∙ so_far.rest j (omega arith);
   kept = subst (λ (s : Side). pages_of s new ≡ pages_of s mid) (other-other side) page.opposite ∙ so_far.kept;
@@ -136,7 +135,7 @@ wrote_more side d k x y z old mid new u below large long so_far step counts page
     let block = block_of Two d k in
     let before = pages_of (other side) old in
     let sum : unwritten d before k + (if is_page block (slice_get (pages_of (other side) mid) k) then 0 else 1) ≡ unwritten d before (k + 1) =
-        ap (λ (p : Option (Option (List ℕ))). unwritten d before k + (if is_page block p then 0 else 1)) (so_far.pages.rest k (omega arith)) ∙ sym (unwritten_more d before k) in
+    ap (λ (p : Option (Option (List ℕ))). unwritten d before k + (if is_page block p then 0 else 1)) (so_far.pages.rest k (omega arith)) ∙ sym (unwritten_more d before k) in
     record {
       content = Changes-then so_far.content step (λ a b c told. holds_more side d k a b c below (let l = long a told in omega arith));
       pages = remembers_more side d k old mid new so_far.pages page;
@@ -212,8 +211,8 @@ old_or_new side d size a b c records rules long gate holds flips = record {
   whole =
       elim (sides side (gate_side c)) [
         | inl old ↦
-          inl
-          (ap (λ (s : Side). slot s c) old ∙ flips.slots side ∙ holds.kept.kept ∙ ap (λ (s : Side). slot s a) (sym gate))
+            inl
+            (ap (λ (s : Side). slot s c) old ∙ flips.slots side ∙ holds.kept.kept ∙ ap (λ (s : Side). slot s a) (sym gate))
         | inr new ↦ inr (stands_for side d size a b c records rules long holds flips new)
       ];
   copies = flips.copies ∙ holds.kept.copies;

@@ -122,12 +122,7 @@ fn user_block(users: &[UserRec], number: usize) -> Block
 }
 
 /// The block of file `number`, zeros where it is unused. Moves the cursors behind it.
-fn file_block(
-    files: &[FileRec],
-    online: &[(u16, DiscCopy)],
-    number: u16,
-    at: &mut Cursors,
-) -> Block
+fn file_block(files: &[FileRec], online: &[(u16, DiscCopy)], number: u16, at: &mut Cursors) -> Block
     requires files { AreEncodable files.now online.now }
     requires copies { AreCopies files.now online.now }
     requires file { IsCursor number_of_file files.now number at.old.file }

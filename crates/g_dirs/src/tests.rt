@@ -27,6 +27,7 @@ const HEAD: [u8; 13] = *b"G3SL\0\x02\0\0\0\0\0\0\0";
 /// The blocks of the two users, up to their last fields.
 const MASTER: [u8; 36] =
     *b"\x01\x06MASTER\0\0\0\0\0\0\0\0\0\xff\xff\0\0\0\0\0\x0f\x42\x40\0\0\0\0\0\0\x0f\x42\x40";
+
 const MACROS: [u8; 36] =
     *b"\x01\x06MACROS\0\0\0\0\0\0\0\0\0\xff\xff\0\0\0\0\0\x0f\x42\x40\0\0\0\0\0\0\x0f\x42\x40";
 

@@ -8,3 +8,8 @@ pub returns-then-is_remembered-clause-ok : goal.returns-then-is_remembered-claus
 returns-then-is_remembered-clause-ok g c =
     let is : is_remembered (pages_of (other c.args.slots.now) c.args.last.now) c.args.k c.args.block.now ≡ true = cc in
     prepared_already c.args.slots.now c.args.k c.args.block.now c.args.last.now (g.D.Disc.state c.args.disc.now).held is c.requires.remembers
+
+pub returns-then-is_remembered-clause-pages : goal.returns-then-is_remembered-clause-pages
+returns-then-is_remembered-clause-pages g c =
+    let is : is_remembered (pages_of (other c.args.slots.now) c.args.last.now) c.args.k c.args.block.now ≡ true = cc in
+    remembered_already (other c.args.slots.now) c.args.k c.args.block.now c.args.last.now is
