@@ -1,7 +1,11 @@
-pub mod EntryLemmas
 pub mod CopyLemmas
+pub mod EncoderLemmas
+pub mod EntryLemmas
+pub mod PageLemmas
 pub mod Parts
-pub mod SetLemmas
-pub mod RuleLemmas
 pub mod QuietLemmas
 pub mod ReadLemmas
+pub mod RuleLemmas
+pub mod SetLemmas
+pub mod TestLemmas
+pub mod WriteLemmas

@@ -1,11 +1,10 @@
 -- The slot blocks that are remembered, and how many blocks a commit writes.
-use Rattle.std.specs.Prelude.{◌≡◌, ℕ, zero, suc, ◌+◌, ◌<◌, Bool, true, false, List, length, Option, Some, None, replicate, slice_get, if◌then◌else◌}
+use Rattle.std.specs.Prelude.{◌≡◌, ◌≢◌, ℕ, zero, suc, ◌+◌, ◌<◌, Bool, false, List, Option, Some, None, replicate, slice_get, if◌then◌else◌}
 use Rattle.std.specs.Str.{bytes_eq}
-use Rattle.g_entry.specs.declared.format.Format.{Format}
 use Rattle.g_entry.specs.declared.format.Format.TheVariants.{Two}
 use Rattle.g_slots.specs.declared.side.Side.{Side}
 use Rattle.g_slots.specs.declared.side.Side.TheVariants.{A, B}
-use Rattle.g_slots.specs.Layout.{slot}
+use Rattle.g_slots.specs.Layout.{other, slot}
 use Rattle.g_dirs.specs.Directory.{Directory}
 use Rattle.g_dirs.specs.Image.{block_of}
 
@@ -34,6 +33,12 @@ is_remembered pages k block = is_page block (slice_get pages k)
 unfoldable pub unwritten : Directory → List (Option (List ℕ)) → ℕ → ℕ
 unwritten d pages zero = 0
 unwritten d pages (suc k) = unwritten d pages k + (if is_remembered pages k (block_of Two d k) then 0 else 1)
+
+-- block k of a slot is remembered as this one, and all others as they were
+pub record RemembersPage (side : Side) (k : ℕ) (page : List ℕ) (old new : Remembered) : Type 0 where
+  pub here : slice_get (pages_of side new) k ≡ Some (Some page)
+  pub rest : (j : ℕ) → j ≢ k → slice_get (pages_of side new) j ≡ slice_get (pages_of side old) j
+  pub opposite : pages_of (other side) new ≡ pages_of (other side) old
 
 -- all 1,088 blocks of the directory are remembered
 pub record RemembersAll (d : Directory) (pages : List (Option (List ℕ))) : Type 0 where

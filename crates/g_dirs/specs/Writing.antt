@@ -1,14 +1,20 @@
 -- The way of a commit through the blocks of a slot.
-use Rattle.std.specs.Prelude.{◌≡◌, ◌≢◌, ℕ, ◌<◌, ◌≤◌, List, All, Some, length, slice_get}
+use Rattle.std.specs.Prelude.{◌≡◌, true, ℕ, ◌-◌, ◌<◌, ◌≤◌, List, All, Some, length, slice_get, slice_index_or}
 use Rattle.g_base.specs.Counts.{RoseBy}
 use Rattle.g_base.specs.Told.{Changes}
+use Rattle.g_copy.specs.declared.copy.DiscCopy.{DiscCopy}
 use Rattle.g_disc.specs.Disc.{DiscState}
+use Rattle.g_entry.specs.declared.file_rec.FileRec.{FileRec}
 use Rattle.g_entry.specs.declared.format.Format.TheVariants.{Two}
+use Rattle.g_entry.specs.declared.head.Head.{Head}
+use Rattle.g_entry.specs.declared.user_rec.UserRec.{UserRec}
+use Rattle.g_entry.specs.FileFields.{IsFile}
+use Rattle.g_entry.specs.Formats.{is_place}
+use Rattle.g_entry.specs.Rules.{AreNumbered}
 use Rattle.g_slots.specs.declared.side.Side.{Side}
 use Rattle.g_slots.specs.Commit.{KeepsCurrent}
 use Rattle.g_slots.specs.Layout.{other, slot}
-use Rattle.g_entry.specs.Rules.{AreNumbered}
-use Rattle.g_dirs.specs.Directory.{AreRecords, Directory, LiesSomewhere, recs}
+use Rattle.g_dirs.specs.Directory.{AreCopies, AreRecords, Directory, LiesSomewhere, all_places, directory_of, entries_of, recs}
 use Rattle.g_dirs.specs.Image.{block_of}
 use Rattle.g_dirs.specs.Pages.{Remembered, pages_of, unwritten}
 
@@ -39,15 +45,34 @@ pub record WroteFirst (side : Side) (d : Directory) (n : ℕ) (before after : Di
   pub write_faults : after.write_faults ≡ before.write_faults
   pub arms : after.arms ≡ before.arms
 
+-- the records of files have blocks in the second format
+pub record AreEncodable (files : List FileRec) (online : List (ℕ × DiscCopy)) : Type 0 where
+  pub limits : All IsFile files
+  pub numbered : AreNumbered files
+  pub lies : All LiesSomewhere (entries_of files online)
+  pub places : All (λ place. is_place Two place ≡ true) (all_places (entries_of files online))
+
 -- a directory whose records have blocks in the second format
 pub record IsEncodable (d : Directory) : Type 0 where
   pub records : AreRecords Two d
-  pub few : length d.users ≤ 63
   pub numbered : AreNumbered (recs d.files)
   pub lies : All LiesSomewhere d.files
 
--- block k of the slot opposite `side` is this one, and nothing else has changed
-pub record HoldsPage (side : Side) (k : ℕ) (block : List ℕ) (before after : List (List ℕ)) : Type 0 where
-  pub kept : KeepsCurrent side before after
-  pub here : slice_get (slot (other side) after) k ≡ Some block
-  pub rest : (j : ℕ) → j ≢ k → slice_get (slot (other side) after) j ≡ slice_get (slot (other side) before) j
+abbrev pub number_of_file : FileRec → ℕ
+number_of_file r = r.number
+
+abbrev pub number_of_copy : ℕ × DiscCopy → ℕ
+number_of_copy c = c.0
+
+-- before the place numbers are below n, and from it on they aren't
+pub record IsCursor {X : Type 0} (number : X → ℕ) (xs : List X) (n place : ℕ) : Type 0 where
+  pub before : (k : ℕ) (d : X) → k < place → k < length xs → number (slice_index_or xs k d) < n
+  pub behind : (k : ℕ) (d : X) → place ≤ k → k < length xs → n ≤ number (slice_index_or xs k d)
+
+-- the blocks before `next` are done, and so are the files and copies before these places
+pub record IsEncoding (head : Head) (users : List UserRec) (files : List FileRec) (online : List (ℕ × DiscCopy)) (next file copy : ℕ) : Type 0 where
+  pub directory : IsEncodable (directory_of head users files online)
+  pub copies : AreCopies files online
+  pub within : next ≤ 1088
+  pub file_here : IsCursor number_of_file files (next - 64) file
+  pub copy_here : IsCursor number_of_copy online (next - 64) copy

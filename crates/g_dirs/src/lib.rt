@@ -10,6 +10,8 @@ mod read;
 #[cfg(test)]
 mod read_tests;
 mod rules;
+#[cfg(test)]
+mod tests;
 mod write;
 
 pub use dirs::Dirs;

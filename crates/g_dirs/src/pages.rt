@@ -1,10 +1,9 @@
 //! The slot blocks that are remembered from commit to commit, so that no block is written once more as it stands.
-ghost use Rattle.std.specs.Prelude.{◌≡◌, ◌<◌, IfOk, None, Some, replicate, slice_set};
-ghost use Rattle.g_slots.specs.Layout.{other};
-ghost use Rattle.g_dirs.specs.Pages.{is_remembered, nothing, pages_of};
+ghost use Rattle.std.specs.Prelude.{◌≡◌, ◌<◌, IfOk, None, replicate};
+ghost use Rattle.g_dirs.specs.Pages.{RemembersPage, is_remembered, nothing, pages_of};
 
 use g_base::{Block, NoMemory};
-use g_slots::Side;
+use g_slots::{SLOT_BLOCKS, Side};
 use std::alloc::Global;
 use std::marker::Model;
 
@@ -56,8 +55,7 @@ impl Pages {
     /// Block `k` of a slot now holds this one.
     pub(crate) fn remember(&mut self, side: Side, k: u32, block: &Block)
         requires { k < 1088 }
-        ensures here { pages_of side self.new ≡ slice_set (pages_of side self.old) k (Some block.now) }
-        ensures opposite { pages_of (other side) self.new ≡ pages_of (other side) self.old }
+        ensures { RemembersPage side k block.now self.old self.new }
     {
         match side {
             Side::A => self.a[k as usize] = Some(*block),
@@ -70,8 +68,8 @@ impl Pages {
 fn blank(alloc: Global) -> Result<Vec<Option<Block>>, NoMemory>
     ensures { IfOk result (λ pages. pages.items ≡ replicate 1088 None) }
 {
-    let mut pages = Vec::with_capacity(alloc, 1088)?;
-    for _ in 0..1088 {
+    let mut pages = Vec::with_capacity(alloc, SLOT_BLOCKS as usize)?;
+    for _page in 0..SLOT_BLOCKS {
         pages.push(None)?;
     }
     Ok(pages)

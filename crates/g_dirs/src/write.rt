@@ -1,14 +1,14 @@
 //! The commit of a directory.
-ghost use Rattle.std.specs.Prelude.{◌≡◌, ◌+◌, ◌<◌, OnErr, OnOk, Some, if◌then◌else◌, slice_set};
+ghost use Rattle.std.specs.Prelude.{◌≡◌, ◌+◌, ◌<◌, OnErr, OnOk, if◌then◌else◌};
 ghost use Rattle.std.specs.Option.{ForSome};
 ghost use Rattle.g_base.specs.Told.{Changes};
 ghost use Rattle.g_disc.specs.Disc.{WritesOnly};
-ghost use Rattle.g_slots.specs.Commit.{KeepsCurrent};
+ghost use Rattle.g_slots.specs.Commit.{KeepsCurrent, Prepares};
 ghost use Rattle.g_slots.specs.Layout.{GateNames, GateWritten, other};
 ghost use Rattle.g_dirs.specs.Commit.{NewDirectory, OldOrNew};
 ghost use Rattle.g_dirs.specs.Directory.{AreCopies, AreRecords, IsDirectory, directory_of};
-ghost use Rattle.g_dirs.specs.Pages.{Remembers, RemembersAll, is_remembered, pages_of, unwritten};
-ghost use Rattle.g_dirs.specs.Writing.{HoldsPage, WroteFirst};
+ghost use Rattle.g_dirs.specs.Pages.{Remembers, RemembersAll, RemembersPage, is_remembered, pages_of, unwritten};
+ghost use Rattle.g_dirs.specs.Writing.{WroteFirst};
 
 use crate::encoder::Encoder;
 use crate::{DirsFault, Pages};
@@ -55,7 +55,11 @@ pub fn write_dirs<D: Disc>(
     ensures others { OnOk result (pages_of slots.old last.new ≡ pages_of slots.old last.old) }
     ensures only { OnErr result (result ≡ Err DirsFault.Stopped) }
 {
-    fill(disc, slots, head, users, files, online, last)?;
+    let _size = disc.size();
+    match fill(disc, slots, head, users, files, online, last) {
+        Ok(()) => {}
+        Err(fault) => return Err(fault),
+    }
     match slots.flip(disc) {
         Ok(()) => Ok(()),
         Err(_) => Err(DirsFault::Stopped),
@@ -110,12 +114,11 @@ fn write_page<D: Disc>(
     requires size { 2177 < (D.state disc.old).size }
     requires gate { GateNames slots.now (D.state disc.old).held }
     requires remembers { ForSome (D.state disc.old).held (Remembers last.old) }
-    ensures ok { OnOk result (Changes (HoldsPage slots.now k block.now) (D.state disc.old).held (D.state disc.new).held) }
+    ensures ok { OnOk result (Changes (Prepares slots.now k block.now) (D.state disc.old).held (D.state disc.new).held) }
     ensures stopped { OnErr result (Changes (KeepsCurrent slots.now) (D.state disc.old).held (D.state disc.new).held) }
     ensures counts { WritesOnly (if is_remembered (pages_of (other slots.now) last.old) k block.now then 0 else 1)
         (D.state disc.old) (D.state disc.new) result }
-    ensures pages { OnOk result (pages_of (other slots.now) last.new ≡ slice_set (pages_of (other slots.now) last.old) k (Some block.now)) }
-    ensures others { OnOk result (pages_of slots.now last.new ≡ pages_of slots.now last.old) }
+    ensures pages { OnOk result (RemembersPage (other slots.now) k block.now last.old last.new) }
     ensures only { OnErr result (result ≡ Err DirsFault.Stopped) }
 {
     let side = slots.side().other();

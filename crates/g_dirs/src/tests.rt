@@ -1,0 +1,351 @@
+//! Commits of small directories on a disc in memory, against blocks that were written out by hand.
+ghost use Rattle.std.specs.Prelude.{◌≡◌, ℕ, ◌+◌, All, IfOk, OnOk, Some, length, slice_get};
+ghost use Rattle.std.specs.Option.{ForSome};
+ghost use Rattle.g_copy.specs.declared.copy.DiscCopy.{DiscCopy};
+ghost use Rattle.g_entry.specs.declared.file_rec.FileRec.{FileRec};
+ghost use Rattle.g_entry.specs.FileFields.{IsFile};
+ghost use Rattle.g_entry.specs.HeadFields.{IsHead};
+ghost use Rattle.g_slots.specs.Layout.{GateNames};
+ghost use Rattle.g_dirs.specs.Directory.{AreCopies, AreRecords, IsDirectory, directory_of};
+ghost use Rattle.g_dirs.specs.Pages.{Remembers};
+ghost use Rattle.g_dirs.specs.Parts.{AreInOrder};
+
+use super::*;
+use crate::rules::keeps_rules;
+use g_base::{Block, NoMemory, ReadFailed, WriteFailed};
+use g_blocks::Pool;
+use g_copy::{CopyFault, DiscCopy, store_copy};
+use g_disc::{Disc, Leave, MemoryDisc};
+use g_entry::{FileRec, Format, Head, UserRec, decode_file, decode_head, decode_user, empty_block};
+use g_slots::{SLOT_BLOCKS, Side, SlotFault, Slots};
+use std::alloc::Global;
+use std::test::Fail;
+
+/// The head's block but for the last byte of the next stamp, up to there.
+const HEAD: [u8; 13] = *b"G3SL\0\x02\0\0\0\0\0\0\0";
+
+/// The blocks of the two users, up to their last fields.
+const MASTER: [u8; 36] =
+    *b"\x01\x06MASTER\0\0\0\0\0\0\0\0\0\xff\xff\0\0\0\0\0\x0f\x42\x40\0\0\0\0\0\0\x0f\x42\x40";
+
+const MACROS: [u8; 36] =
+    *b"\x01\x06MACROS\0\0\0\0\0\0\0\0\0\xff\xff\0\0\0\0\0\x0f\x42\x40\0\0\0\0\0\0\x0f\x42\x40";
+
+/// The block of file 0, up to its one block number, 2,177.
+const FILE: [u8; 64] =
+    *b"\x01\0\x01F\0\0\0\0\0\0\0\0\0\0\0\0\x01    \0\0\0\0\0\0\0\x01\0\0\0\x05\x1f\0\0\0\0\0\0\0\0\0\0\0\0\0\0\0\0\0\0\0\0\0\0\0\0\0\0\x01\0\x08\x81";
+
+/// A disc that counts how often it is written to.
+#[derive(Drop)]
+struct Counted {
+    disc: MemoryDisc,
+    writes: u64,
+}
+
+impl Disc for Counted {
+    ghost state = { λ c. c.disc.disc };
+
+    fn size(&self) -> u32 {
+        self.disc.size()
+    }
+
+    fn read(&mut self, k: u32, into: &mut Block) -> Result<(), ReadFailed> {
+        self.disc.read(k, into)
+    }
+
+    fn write(&mut self, k: u32, from: &Block) -> Result<(), WriteFailed> {
+        self.writes = self.writes.saturating_add(1);
+        self.disc.write(k, from)
+    }
+
+    fn arm(&mut self, k: u32) {
+        self.disc.arm(k);
+    }
+}
+
+/// A disc of zeros with room for four copies.
+fn blank_disc(alloc: Global) -> Result<Counted, NoMemory>
+    ensures { IfOk result (λ disc. disc.disc.disc.size ≡ 2181) }
+{
+    Ok(Counted {
+        disc: MemoryDisc::new(alloc, 2181)?,
+        writes: 0,
+    })
+}
+
+/// The bytes with zeros behind them.
+fn block_of(bytes: &[u8]) -> Block {
+    let mut block = [0; 512];
+    for (at, byte) in bytes.iter().enumerate() {
+        if at < 512 {
+            block[at] = *byte;
+        }
+    }
+    block
+}
+
+fn with_byte(block: &Block, at: usize, byte: u8) -> Block {
+    let mut changed = *block;
+    if at < 512 {
+        changed[at] = byte;
+    }
+    changed
+}
+
+/// The head where so many files were put.
+fn head_block(files: u8) -> Block {
+    with_byte(&block_of(&HEAD), 13, files.wrapping_add(1))
+}
+
+/// User 0 or 1.
+fn user_block(number: u8) -> Block {
+    if number == 0 {
+        block_of(&MASTER)
+    } else {
+        block_of(&MACROS)
+    }
+}
+
+/// The file of this number: it differs from file 0 in generation, stamp and block number.
+fn file_block(number: u8) -> Block {
+    let mut block = block_of(&FILE);
+    for (at, byte) in [(16, 1u8), (28, 1), (63, 0x81)] {
+        block = with_byte(&block, at, byte.wrapping_add(number));
+    }
+    block
+}
+
+/// Block `k` of the slot with so many files.
+fn slot_block(files: u8, k: u32) -> Block {
+    match k {
+        0 => head_block(files),
+        1 | 2 => user_block(if k == 1 { 0 } else { 1 }),
+        _ => {
+            if k >= 64 && k - 64 < u32::from(files) {
+                file_block((k - 64) as u8)
+            } else {
+                empty_block()
+            }
+        }
+    }
+}
+
+/// The directory with so many files, read from the blocks.
+fn directory(alloc: Global, files: u8) -> Result<Dirs, DirsFault>
+    ensures records { IfOk result (λ d. AreRecords Format.Two (directory_of d.head d.users.items d.files.items d.online.items)) }
+    ensures rules { IfOk result (λ d. IsDirectory 2181 (directory_of d.head d.users.items d.files.items d.online.items)) }
+    ensures copies { IfOk result (λ d. AreCopies d.files.items d.online.items) }
+{
+    let dirs = Dirs {
+        head: head(files)?,
+        users: users(alloc)?,
+        files: some_files(alloc, files)?,
+        online: some_copies(alloc, files)?,
+    };
+    if keeps_rules(alloc, 2181, &dirs)? {
+        Ok(dirs)
+    } else {
+        Err(DirsFault::NoFilestore)
+    }
+}
+
+fn head(files: u8) -> Result<Head, DirsFault>
+    ensures { IfOk result IsHead }
+{
+    match decode_head(&head_block(files)) {
+        Some(head) => Ok(head),
+        None => Err(DirsFault::NoFilestore),
+    }
+}
+
+fn users(alloc: Global) -> Result<Vec<UserRec>, DirsFault>
+    ensures { IfOk result (λ users. AreInOrder Format.Two users.items) }
+{
+    let mut users = Vec::new(alloc);
+    for number in 0..2 {
+        match decode_user(&user_block(number), number) {
+            Some(user) => match users.push(user) {
+                Ok(()) => {}
+                Err(_) => return Err(DirsFault::NoMemory),
+            },
+            None => return Err(DirsFault::NoFilestore),
+        }
+    }
+    Ok(users)
+}
+
+fn some_files(alloc: Global, count: u8) -> Result<Vec<FileRec>, DirsFault>
+    ensures count { IfOk result (λ files. length files.items ≡ count) }
+    ensures numbers { IfOk result (λ files. (k : ℕ) (r : FileRec) → slice_get files.items k ≡ Some r → r.number ≡ k) }
+    ensures limits { IfOk result (λ files. All IsFile files.items) }
+{
+    let mut files = Vec::new(alloc);
+    for number in 0..count {
+        match decode_file(&file_block(number), u16::from(number)) {
+            Some((rec, _)) => match files.push(rec) {
+                Ok(()) => {}
+                Err(_) => return Err(DirsFault::NoMemory),
+            },
+            None => return Err(DirsFault::NoFilestore),
+        }
+    }
+    Ok(files)
+}
+
+fn some_copies(alloc: Global, count: u8) -> Result<Vec<(u16, DiscCopy)>, NoMemory>
+    ensures count { IfOk result (λ online. length online.items ≡ count) }
+    ensures numbers { IfOk result (λ online. (k : ℕ) (c : ℕ × DiscCopy) → slice_get online.items k ≡ Some c → c.0 ≡ k) }
+{
+    let mut online = Vec::new(alloc);
+    for number in 0..count {
+        let copy = DiscCopy {
+            blocks: vec![in alloc; 2177 + u32::from(number)]?.into(),
+            len: 5,
+        };
+        online.push((u16::from(number), copy))?;
+    }
+    Ok(online)
+}
+
+/// Stores a file's bytes, where they are to be.
+fn store(
+    alloc: Global,
+    disc: &mut Counted,
+    pool: &mut Pool,
+    slots: &Slots,
+    last: &Pages,
+    stored: bool,
+) -> Result<(), CopyFault>
+    requires size { disc.old.disc.disc.size ≡ 2181 }
+    requires pool { 2177 + length pool.old ≡ 2181 }
+    requires gate { GateNames slots.now disc.old.disc.disc.held }
+    requires remembers { ForSome disc.old.disc.disc.held (Remembers last.now) }
+    ensures size { disc.new.disc.disc.size ≡ 2181 }
+    ensures pool { OnOk result (2177 + length pool.new ≡ 2181) }
+    ensures gate { OnOk result (GateNames slots.now disc.new.disc.disc.held) }
+    ensures remembers { OnOk result (ForSome disc.new.disc.disc.held (Remembers last.now)) }
+{
+    if !stored {
+        return Ok(());
+    }
+    match store_copy(alloc, disc, pool, b"HELLO") {
+        Ok(_copy) => {}
+        Err(fault) => return Err(fault),
+    }
+    Ok(())
+}
+
+fn commit(
+    disc: &mut Counted,
+    slots: &mut Slots,
+    dirs: &Dirs,
+    last: &mut Pages,
+) -> Result<(), DirsFault>
+    requires size { disc.old.disc.disc.size ≡ 2181 }
+    requires gate { GateNames slots.old disc.old.disc.disc.held }
+    requires records { AreRecords Format.Two (directory_of dirs.now.head dirs.now.users.items dirs.now.files.items dirs.now.online.items) }
+    requires rules { IsDirectory 2181 (directory_of dirs.now.head dirs.now.users.items dirs.now.files.items dirs.now.online.items) }
+    requires copies { AreCopies dirs.now.files.items dirs.now.online.items }
+    requires remembers { ForSome disc.old.disc.disc.held (Remembers last.old) }
+    ensures size { disc.new.disc.disc.size ≡ 2181 }
+    ensures gate { OnOk result (GateNames slots.new disc.new.disc.disc.held) }
+    ensures remembers { OnOk result (ForSome disc.new.disc.disc.held (Remembers last.new)) }
+{
+    write_dirs(
+        disc,
+        slots,
+        &dirs.head,
+        &dirs.users,
+        &dirs.files,
+        &dirs.online,
+        last,
+    )
+}
+
+/// Whether the current slot is the one with so many files, block by block.
+fn stands(disc: &mut Counted, files: u8) -> Result<bool, SlotFault>
+    requires { disc.old.disc.disc.size ≡ 2181 }
+    ensures size { disc.new.disc.disc.size ≡ 2181 }
+    ensures held { disc.new.disc.disc.held ≡ disc.old.disc.disc.held }
+{
+    let slots = Slots::find(disc)?;
+    let mut block = empty_block();
+    for k in 0..SLOT_BLOCKS {
+        slots.read(disc, k, &mut block)?;
+        if block != slot_block(files, k) {
+            return Ok(false);
+        }
+    }
+    Ok(true)
+}
+
+#[test]
+fn ample(rt: HostRuntime) -> Result<(), Fail> {
+    let pages = Pages::new(rt.alloc())?;
+    let first = pages.is_remembered(Side::A, 0, &empty_block());
+    let last = pages.is_remembered(Side::B, 1087, &empty_block());
+    assert!(rt; !first && !last);
+    Ok(())
+}
+
+#[test]
+fn a_commit_writes_what_is_new(rt: HostRuntime) -> Result<(), Fail> {
+    let alloc = rt.alloc();
+    let mut disc = blank_disc(alloc)?;
+    let mut pool = Pool::new(alloc, 2181, &[])?;
+    let mut slots = Slots::find(&mut disc)?;
+    let mut pages = Pages::new(alloc)?;
+    // How many files the directory has then, whether the last one's block was stored before, and how many blocks were
+    // written: each slot whole at first, then the head and two files, then what is left to write of the same files; and
+    // the gate each time.
+    for (files, stored, writes) in [
+        (0, false, 1_089),
+        (1, true, 1_090),
+        (2, true, 5),
+        (3, true, 5),
+        (3, false, 3),
+        (3, false, 1),
+        (2, false, 3),
+    ] {
+        let before = disc.writes;
+        store(alloc, &mut disc, &mut pool, &slots, &pages, stored)?;
+        let dirs = directory(alloc, files)?;
+        commit(&mut disc, &mut slots, &dirs, &mut pages)?;
+        assert_eq!(rt; disc.writes.wrapping_sub(before), writes, "{files} files");
+        assert_eq!(rt; stands(&mut disc, files), Ok(true), "{files} files");
+    }
+    Ok(())
+}
+
+#[test]
+fn a_stopped_commit_is_old_or_new(rt: HostRuntime) -> Result<(), Fail> {
+    let alloc = rt.alloc();
+    // How many writes go well before the one that fails, what that one leaves, and whether the new directory stands
+    // then.
+    for (before, leave, new) in [
+        (0u16, Leave::Old, false),
+        (0, Leave::Half, false),
+        (0, Leave::Whole, false),
+        (543, Leave::Half, false),
+        (1_087, Leave::Whole, false),
+        (1_088, Leave::Old, false),
+        (1_088, Leave::Half, true),
+        (1_088, Leave::Whole, true),
+        (1_088, Leave::These([2; 512]), true),
+        (1_088, Leave::These([255; 512]), false),
+    ] {
+        let mut disc = blank_disc(alloc)?;
+        let mut slots = Slots::find(&mut disc)?;
+        let mut pages = Pages::new(alloc)?;
+        let old = directory(alloc, 0)?;
+        commit(&mut disc, &mut slots, &old, &mut pages)?;
+        disc.disc.set_leave(leave);
+        disc.arm(u32::from(before) + 1);
+        let next = directory(alloc, 1)?;
+        let stopped = commit(&mut disc, &mut slots, &next, &mut pages);
+        assert_eq!(rt; stopped, Err(DirsFault::Stopped), "at {before}");
+        assert_eq!(rt; stands(&mut disc, 1), Ok(new), "at {before}");
+        assert_eq!(rt; stands(&mut disc, 0), Ok(!new), "at {before}");
+    }
+    Ok(())
+}
