@@ -1,4 +1,5 @@
 pub mod FileFields
 pub mod Formats
 pub mod HeadFields
+pub mod Rules
 pub mod UserFields

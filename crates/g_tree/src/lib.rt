@@ -1,0 +1,14 @@
+//! The users and files of a filestore in memory, as numbered records without bytes. Its calls are
+//! those of the plain directory tree that the records stand for.
+#![tactic(auto)]
+
+mod index;
+mod number_list;
+mod output;
+mod scan;
+mod sorted;
+mod tree;
+
+pub use number_list::NumberList;
+pub use output::Output;
+pub use tree::Tree;
