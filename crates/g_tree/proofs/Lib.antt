@@ -1,0 +1,4 @@
+-- Lemmas on maps, and from records to the tree.
+pub mod IndexLemmas
+pub mod ListLemmas
+pub mod MapLemmas
