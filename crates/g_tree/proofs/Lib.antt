@@ -2,3 +2,4 @@
 pub mod IndexLemmas
 pub mod ListLemmas
 pub mod MapLemmas
+pub mod RecordLemmas

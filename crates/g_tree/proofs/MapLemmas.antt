@@ -144,38 +144,39 @@ module _ {K X : Type 0} {R : K → K → Ordering} (o : IsTotalOrder R) (same : 
       ∙ sym (find-where_key R p q (alike q) (entries (from_entries es))))
 
 -- elements by a key of theirs
-module _ {A K : Type 0} {R : K → K → Ordering} (o : IsTotalOrder R) (same : IsAntisymmetric R) (key : A → K) where
-  abbrev pub keyed : List A → List (K × A)
-  keyed xs = map (λ x. (key x, x)) xs
+abbrev pub keyed : {A K : Type 0} → (A → K) → List A → List (K × A)
+keyed key xs = map (λ x. (key x, x)) xs
 
-  pub found_one : (q : K) (xs : List A) (r : A) → find R q (keyed xs) ≡ Some r → Contains xs r × (key r ≡ q)
+-- no two have one key
+abbrev pub AreApart : {A K : Type 0} → (A → K) → List A → Type 0
+AreApart key xs = AllPairs (λ x y. key x ≢ key y) xs
+
+module _ {A K : Type 0} {R : K → K → Ordering} (o : IsTotalOrder R) (same : IsAntisymmetric R) (key : A → K) where
+  pub found_one : (q : K) (xs : List A) (r : A) → find R q (keyed key xs) ≡ Some r → Contains xs r × (key r ≡ q)
   found_one q [] r e = absurd (none_some r (sym e))
   found_one q (x ∷ xs) r e =
-      elim (eq_by_cmp R q (key x)) as (λ t. eq_by_cmp R q (key x) ≡ t → cond t (Some x) (find R q (keyed xs)) ≡ Some r → Contains (x ∷ xs) r × (key r ≡ q)) [
+      elim (eq_by_cmp R q (key x)) as (λ t. eq_by_cmp R q (key x) ≡ t → cond t (Some x) (find R q (keyed key xs)) ≡ Some r → Contains (x ∷ xs) r × (key r ≡ q)) [
         | true ↦ λ t h. let is = same_some x r h in (subst (Contains (x ∷ xs)) is (contains_first x xs), ap key (sym is) ∙ sym (tied_are o same q (key x) t))
         | false ↦ λ t h. let rest = found_one q xs r h in (contains_more x r xs rest.0, rest.1)
       ] refl e
 
-  pub none_found : (q : K) (xs : List A) → All (λ x. q ≢ key x) xs → find R q (keyed xs) ≡ None
+  pub none_found : (q : K) (xs : List A) → All (λ x. q ≢ key x) xs → find R q (keyed key xs) ≡ None
   none_found q [] all = refl
   none_found q (x ∷ xs) all =
-      ap (λ b. cond b (Some x) (find R q (keyed xs))) (apart_is o same q (key x) (All-head (λ y. q ≢ key y) x xs all)) ∙ none_found q xs (All-tail (λ y. q ≢ key y) x xs all)
+      ap (λ b. cond b (Some x) (find R q (keyed key xs))) (apart_is o same q (key x) (All-head (λ y. q ≢ key y) x xs all)) ∙ none_found q xs (All-tail (λ y. q ≢ key y) x xs all)
 
-  abbrev pub AreApart : List A → Type 0
-  AreApart xs = AllPairs (λ x y. key x ≢ key y) xs
-
-  pub apart_keyed : (xs : List A) → AreApart xs → Apart R (keyed xs)
+  pub apart_keyed : (xs : List A) → AreApart key xs → Apart R (keyed key xs)
   apart_keyed [] pairs = tt
   apart_keyed (x ∷ xs) pairs = (none_found (key x) xs (pairs_first (λ y z. key y ≢ key z) x xs pairs), apart_keyed xs (pairs_rest (λ y z. key y ≢ key z) x xs pairs))
 
-  pub found_itself : (xs : List A) (r : A) → AreApart xs → Contains xs r → find R (key r) (keyed xs) ≡ Some r
+  pub found_itself : (xs : List A) (r : A) → AreApart key xs → Contains xs r → find R (key r) (keyed key xs) ≡ Some r
   found_itself [] r pairs (k, within, is) = absurd (omega arith)
   found_itself (x ∷ xs) r pairs there =
-      elim (contains_cases x r xs there) as (λ _. find R (key r) (keyed (x ∷ xs)) ≡ Some r) [
-        | inl is ↦ ap (λ b. cond b (Some x) (find R (key r) (keyed xs))) (ap (λ k. eq_by_cmp R (key r) k) (ap key is) ∙ (eq_by_cmp_equiv o).refl (key r)) ∙ ap Some is
+      elim (contains_cases x r xs there) as (λ _. find R (key r) (keyed key (x ∷ xs)) ≡ Some r) [
+        | inl is ↦ ap (λ b. cond b (Some x) (find R (key r) (keyed key xs))) (ap (λ k. eq_by_cmp R (key r) k) (ap key is) ∙ (eq_by_cmp_equiv o).refl (key r)) ∙ ap Some is
         | inr later ↦
           let other : key x ≢ key r = All-contains (λ y. key x ≢ key y) xs r (pairs_first (λ y z. key y ≢ key z) x xs pairs) later in
-          ap (λ b. cond b (Some x) (find R (key r) (keyed xs))) (apart_is o same (key r) (key x) (λ e. other (sym e))) ∙ found_itself xs r (pairs_rest (λ y z. key y ≢ key z) x xs pairs) later
+          ap (λ b. cond b (Some x) (find R (key r) (keyed key xs))) (apart_is o same (key r) (key x) (λ e. other (sym e))) ∙ found_itself xs r (pairs_rest (λ y z. key y ≢ key z) x xs pairs) later
       ]
 
 module _ {K X : Type 0} (R : K → K → Ordering) (p : K × X → Bool) (f : K × X → ℕ) where
