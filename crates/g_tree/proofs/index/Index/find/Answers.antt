@@ -1,7 +1,6 @@
 -- What equality finds is what the map has.
 use Rattle.std.proofs.Common.{◌∙◌, ap}
 use Rattle.std.specs.FinMap as map
-use Rattle.g_tree.proofs.RecordLemmas.{names_apart}
 use Rattle.g_tree.proofs.IndexLemmas.{get_indexed}
 use Rattle.g_tree.proofs.index.Index.find.Goals as goal
 
