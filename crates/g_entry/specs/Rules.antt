@@ -3,7 +3,7 @@ use Rattle.std.specs.Prelude.{◌≡◌, ◌≢◌, ℕ, ◌<◌, ◌≤◌, Lis
 use Rattle.g_entry.specs.declared.user_rec.UserRec.{UserRec}
 use Rattle.g_entry.specs.declared.file_rec.FileRec.{FileRec}
 
--- a user who is nobody's subject but MASTER's, who is user 0
+-- the user of this name, whose superior is user 0
 pub record IsFirst (name : List ℕ) (u : UserRec) : Type 0 where
   pub user : u.user ≡ name
   pub superior : u.superior ≡ 0

@@ -2,4 +2,5 @@
 pub mod IndexLemmas
 pub mod ListLemmas
 pub mod MapLemmas
+pub mod PlaceLemmas
 pub mod RecordLemmas

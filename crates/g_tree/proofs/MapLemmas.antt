@@ -175,8 +175,8 @@ module _ {A K : Type 0} {R : K → K → Ordering} (o : IsTotalOrder R) (same : 
       elim (contains_cases x r xs there) as (λ _. find R (key r) (keyed key (x ∷ xs)) ≡ Some r) [
         | inl is ↦ ap (λ b. cond b (Some x) (find R (key r) (keyed key xs))) (ap (λ k. eq_by_cmp R (key r) k) (ap key is) ∙ (eq_by_cmp_equiv o).refl (key r)) ∙ ap Some is
         | inr later ↦
-          let other : key x ≢ key r = All-contains (λ y. key x ≢ key y) xs r (pairs_first (λ y z. key y ≢ key z) x xs pairs) later in
-          ap (λ b. cond b (Some x) (find R (key r) (keyed key xs))) (apart_is o same (key r) (key x) (λ e. other (sym e))) ∙ found_itself xs r (pairs_rest (λ y z. key y ≢ key z) x xs pairs) later
+            let other : key x ≢ key r = All-contains (λ y. key x ≢ key y) xs r (pairs_first (λ y z. key y ≢ key z) x xs pairs) later in
+            ap (λ b. cond b (Some x) (find R (key r) (keyed key xs))) (apart_is o same (key r) (key x) (λ e. other (sym e))) ∙ found_itself xs r (pairs_rest (λ y z. key y ≢ key z) x xs pairs) later
       ]
 
 module _ {K X : Type 0} (R : K → K → Ordering) (p : K × X → Bool) (f : K × X → ℕ) where

@@ -74,12 +74,12 @@ same_owner users i j all pairs within =
     elim (i == j) as (λ t. (i == j) ≡ t → same_text (name_of users i) (name_of users j) ≡ t) [
       | true ↦ λ t. let is : i ≡ j = grind (arith, nat_tests) in ap (λ k. same_text (name_of users i) (name_of users k)) (sym is) ∙ same_itself (name_of users i)
       | false ↦ λ t.
-        let apart : i ≢ j = grind (arith, nat_tests) in
-        text_apart (name_of users i) (name_of users j)
-        (λ e. elim (cases_lt j (length users)) as (λ _. ⊥) [
-          | inl used ↦ apart (name_apart users i j pairs within used e)
-          | inr past ↦ word_there (name_of users i) (name_word users i all within) (e ∙ name_past users j past)
-        ])
+          let apart : i ≢ j = grind (arith, nat_tests) in
+          text_apart (name_of users i) (name_of users j)
+          (λ e. elim (cases_lt j (length users)) as (λ _. ⊥) [
+            | inl used ↦ apart (name_apart users i j pairs within used e)
+            | inr past ↦ word_there (name_of users i) (name_word users i all within) (e ∙ name_past users j past)
+          ])
     ] refl
 
 -- the keys of records
@@ -148,9 +148,9 @@ used_is users files bytes next owner is lengths =
     let es = keyed (full_of users) files in
     sum_same_on (λ r. cond (r.owner == owner) (blocks_for r.len) 0) (blocks_in user bytes users) files
     (λ k d within.
-      let r = get_or files k d in
-      ap (λ t. cond t (blocks_for r.len) 0) (sym (same_owner users r.owner owner is.each_user is.among_users.names (is.among_files.owners k d within)))
-      ∙ ap (λ n. cond (same_text (name_of users r.owner) user) (blocks_for n) 0) (sym (lengths r (Contains-get_or files k d within))))
+    let r = get_or files k d in
+    ap (λ t. cond t (blocks_for r.len) 0) (sym (same_owner users r.owner owner is.each_user is.among_users.names (is.among_files.owners k d within)))
+    ∙ ap (λ n. cond (same_text (name_of users r.owner) user) (blocks_for n) 0) (sym (lengths r (Contains-get_or files k d within))))
     ∙ sym (sum_of_map g (λ r. (full_of users r, r)) files)
     ∙ sym (sum_by-IsPermutation g es (entries (from_entries es)) (entries_permute full_total es (apart_keyed full_total full_exact (full_of users) files (names_apart users files is))))
     ∙ sym (sum_of_map (λ e. cond (same_text e.0.user user) (blocks_for (length e.1.bytes)) 0) (with_value full_cmp row) (entries (by_name users files)))
@@ -180,7 +180,7 @@ listed_is users files bytes next owner is =
     ∙ map_of_map (λ e. e.1) (with_value full_cmp number) (filter (λ e. p e.0) named)
     ∙ kept_same_on (λ e. p e.0) (λ e. e.1.number) (λ e. unwrap_or (number_of users files e.0) 0) named
     (all_map (λ e. get (by_name users files) e.0 ≡ Some e.1) (λ e. e.1.number ≡ unwrap_or (number_of users files e.0) 0)
-      (λ e h. sym (number_found users files e.0 e.1 h)) named (entries_found full_total (by_name users files)))
+    (λ e h. sym (number_found users files e.0 e.1 h)) named (entries_found full_total (by_name users files)))
     ∙ sym (map_of_map (λ e. unwrap_or (number_of users files e.0) 0) (with_value full_cmp row) (filter (λ e. p e.0) named))
     ∙ ap (map (λ e. unwrap_or (number_of users files e.0) 0)) (sym (filter_of_map (λ e. p e.0) (with_value full_cmp row) named) ∙ ap (filter (λ e. p e.0)) (sym (file_entries users files row)))
 
@@ -198,10 +198,10 @@ nobodys_newest users files full is none =
     ap (λ rs. fold max 0 (map (λ (r : FileRec). r.generation) rs))
     (filter_none p files
     (λ k d within.
-      let r = get_or files k d in
-      ap (λ t. t && same_text full.local r.local && same_text full.lang r.lang)
-      (text_apart full.user (name_of users r.owner)
-      (λ e. word_there (name_of users r.owner) (name_word users r.owner is.each_user (is.among_files.owners k d within)) (sym e ∙ none)))))
+    let r = get_or files k d in
+    ap (λ t. t && same_text full.local r.local && same_text full.lang r.lang)
+    (text_apart full.user (name_of users r.owner)
+    (λ e. word_there (name_of users r.owner) (name_word users r.owner is.each_user (is.among_files.owners k d within)) (sym e ∙ none)))))
 
 pub newest_few : (users : List UserRec) (files : List FileRec) (full : Full) → IsRecords users files → newest_of users full files ≤ 4095
 newest_few users files full is =

@@ -2,4 +2,5 @@
 pub mod Records
 pub mod State
 pub mod Codes
+pub mod Places
 pub mod Answers

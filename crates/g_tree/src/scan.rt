@@ -1,10 +1,12 @@
 //! What is read off the records of users and files, one after another.
-ghost use Rattle.std.specs.Prelude.{◌≡◌, ◌<◌, ◌≤◌, ◌*◌, ◌==◌, ◌&&◌, map, filter, sum_by, length, All, IfOk, if◌then◌else◌};
+ghost use Rattle.std.specs.Prelude.{◌≡◌, ◌<◌, ◌≤◌, ◌*◌, ◌==◌, ◌&&◌, map, filter, sum_by, length, All, IfOk, IfErr, if◌then◌else◌};
 ghost use Rattle.std.specs.FinMap as finmap;
 ghost use Rattle.g_base.specs.Block.{blocks_for};
 ghost use Rattle.g_name.specs.Order.{full_cmp};
 ghost use Rattle.g_plain.specs.PlainTree.{is_version_of};
-ghost use Rattle.g_tree.specs.Records.{IsRecords, name_of, full_of};
+ghost use Rattle.g_entry.specs.Rules.{AreNumbered};
+ghost use Rattle.g_tree.specs.Records.{full_of};
+ghost use Rattle.g_tree.specs.Places.{StandsAt, FitsAt};
 ghost use Rattle.g_tree.specs.Answers.{newest_of};
 
 use crate::sorted::Sorted;
@@ -24,6 +26,15 @@ pub fn full_of(users: &[UserRec], file: &FileRec) -> Full
         generation: file.generation,
         lang: file.lang.copy(),
     }
+}
+
+/// Where the file of a number stands among files in order of number, or where it would stand.
+pub fn place_of(files: &[FileRec], number: u16) -> Result<usize, usize>
+    requires { AreNumbered files.now }
+    ensures found { IfOk result (StandsAt files.now number) }
+    ensures absent { IfErr result (FitsAt files.now number) }
+{
+    files.binary_search_by_key(&number, |file| file.number)
 }
 
 /// Whether a file whose owner is there has this full name, but for the generation.

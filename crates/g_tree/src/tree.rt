@@ -10,7 +10,7 @@ ghost use Rattle.g_tree.specs.Answers.{IsOutput, newest_of, listed};
 mod changes;
 
 use crate::index::Index;
-use crate::scan::{newest_of, sorted_of, used_by};
+use crate::scan::{newest_of, place_of, sorted_of, used_by};
 use crate::{NumberList, Output};
 use g_base::NoMemory;
 use g_entry::{FileRec, UserRec};
@@ -90,7 +90,7 @@ impl Tree {
         ensures value { option_copied result ≡ finmap.get (by_number self.now.files) number }
         ensures records { IsRecords self.now.users self.now.files }
     {
-        match self.files.binary_search_by_key(&number, |file| file.number) {
+        match place_of(self.files.as_slice(), number) {
             Ok(place) => Some(&self.files[place]),
             Err(_) => None,
         }

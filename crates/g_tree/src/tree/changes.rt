@@ -6,7 +6,7 @@ ghost use Rattle.g_tree.specs.Records.{IsRecords, name_of, full_of, user_row_of,
 ghost use Rattle.g_tree.specs.State.{with_file, without_file, without_number};
 
 use crate::index::Index;
-use crate::scan::full_of;
+use crate::scan::{full_of, place_of};
 use crate::tree::Tree;
 use g_base::NoMemory;
 use g_entry::{FileRec, UserRec};
@@ -87,10 +87,7 @@ impl Tree {
             ≡ record t { files = finmap.insert (without_number self.old.users self.old.files file.number t.files) (full_of self.old.users file) (file_row_of self.old.users bytes file) } }
     {
         let full = full_of(self.users.as_slice(), &file);
-        match self
-            .files
-            .binary_search_by_key(&file.number, |other| other.number)
-        {
+        match place_of(self.files.as_slice(), file.number) {
             Ok(place) => self.replace(place, full, file),
             Err(place) => {
                 self.index.insert(full, file.number);

@@ -17,10 +17,12 @@ one_more : (users : List UserRec) (owner : ℕ) (files : List FileRec) (left : �
 one_more users owner files left r full old new some within is behind own named more =
     let next : suc (left - 1) ≡ left = omega arith in
     let rest : drop (left - 1) files ≡ r ∷ drop left files =
-    drop-cons files (left - 1) r (omega arith) ∙ (λ i. sym is i ∷ drop (next i) files) in
-    (omega arith, more ∙ ap (λ f. insert old f r.number) named ∙ ap (λ m. insert m (full_of users r) r.number) behind
-      ∙ sym (ap (names users owner) rest
-      ∙ ap (λ t. from_entries {R = full_cmp} (map (λ s. (full_of users s, s.number)) (cond t (r ∷ filter (λ s. s.owner == owner) (drop left files)) (filter (λ s. s.owner == owner) (drop left files))))) (eq-eqb r.owner owner own)))
+    drop-cons files (left - 1) r (omega arith) ∙ (λ i. sym is i ∷ drop (next i) files) in (
+      omega arith,
+      more ∙ ap (λ f. insert old f r.number) named ∙ ap (λ m. insert m (full_of users r) r.number) behind
+          ∙ sym (ap (names users owner) rest
+          ∙ ap (λ t. from_entries {R = full_cmp} (map (λ s. (full_of users s, s.number)) (cond t (r ∷ filter (λ s. s.owner == owner) (drop left files)) (filter (λ s. s.owner == owner) (drop left files))))) (eq-eqb r.owner owner own)),
+    )
 
 pub loop-left-preserved-in-Continue-1 : goal.loop-left-preserved-in-Continue-1
 loop-left-preserved-in-Continue-1 c =
