@@ -1,6 +1,9 @@
 -- Lemmas on maps, and from records to the tree.
+pub mod AnswerLemmas
+pub mod FirstLemmas
 pub mod IndexLemmas
 pub mod ListLemmas
 pub mod MapLemmas
 pub mod PlaceLemmas
 pub mod RecordLemmas
+pub mod ResultLemmas

@@ -23,11 +23,11 @@ use Rattle.g_entry.specs.declared.user_rec.UserRec.{UserRec}
 use Rattle.g_entry.specs.declared.file_rec.FileRec.{FileRec}
 use Rattle.g_entry.specs.UserFields.{IsUser}
 use Rattle.g_entry.specs.Rules.{SameName}
-use Rattle.g_plain.specs.PlainTree.{Tree, has_file, newest, named, used_blocks, is_version_of}
+use Rattle.g_plain.specs.PlainTree.{Tree, has_user, has_file, newest, named, used_blocks, is_version_of}
 use Rattle.g_plain.proofs.Found.{apart_is}
 use Rattle.g_plain.proofs.TextMaps.{text_total, text_exact, full_exact}
 use Rattle.g_plain.proofs.TreeLemmas.{entries_found, all_map}
-use Rattle.g_tree.specs.Records.{IsRecords, HasLengths, name_of, full_of, file_row_of, tree_of, by_name, by_number, number_of}
+use Rattle.g_tree.specs.Records.{IsRecords, HasLengths, name_of, full_of, user_row_of, file_row_of, tree_of, users_by_name, by_name, number_of}
 use Rattle.g_tree.specs.Answers.{newest_of, listed}
 use Rattle.g_tree.proofs.ListLemmas.{filter_same_on, filter_none, sum_same_on, sum_of_map, greatest, fold_greatest, greatest_of_map, greatest_le, filter_of_map, kept_same_on, map_of_map}
 use Rattle.g_tree.proofs.MapLemmas.{with_value, keyed, AreApart, apart_keyed, found_one, none_found, found_itself, find_valued, get_valued, entries_valued, entries_kept, entries_permute, greatest_made}
@@ -209,3 +209,13 @@ newest_few users files full is =
     greatest_le (λ r. is_version_of full (full_of users r)) (λ r. r.generation) 4095 files (λ k d within. (is.each_file k d within).most_generation) in
     let sum = fold_greatest (λ r. is_version_of full (full_of users r)) (λ (r : FileRec). r.generation) 0 files in
     omega (arith, few, sum)
+
+-- users by name
+
+pub get_user : {X : Type 0} (g : UserRec → X) (users : List UserRec) (name : List ℕ) → get (from_entries {R = text_cmp} (map (λ u. (u.user, g u)) users)) name ≡ option_map g (get (users_by_name users) name)
+get_user g users name =
+    ap (λ es. get (from_entries {R = text_cmp} es) name) (sym (map_of_map (with_value text_cmp g) (λ u. (u.user, u)) users))
+    ∙ get_valued text_cmp g text_total (keyed (λ u. u.user) users) name
+
+pub user_there : (users : List UserRec) (files : List FileRec) (bytes : FileRec → List ℕ) (next : ℕ) (name : List ℕ) → is_some (get (users_by_name users) name) ≡ has_user (tree_of users files bytes next) name
+user_there users files bytes next name = sym (ap is_some (get_user (user_row_of users) users name) ∙ some_mapped (user_row_of users) (get (users_by_name users) name))

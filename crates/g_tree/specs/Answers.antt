@@ -1,5 +1,5 @@
 -- What is answered of records, in the words of the tree.
-use Rattle.std.specs.Prelude.{◌≡◌, ℕ, ◌==◌, Bool, true, false, ◌&&◌, List, map, filter, fold, max, Some, is_none, unwrap_or}
+use Rattle.std.specs.Prelude.{◌≡◌, ℕ, ◌==◌, Bool, true, false, ◌&&◌, List, map, filter, fold, max, Some, None, is_none, unwrap_or}
 use Rattle.std.specs.FinMap.{entries}
 use Rattle.g_name.specs.declared.full.Full.{Full}
 use Rattle.g_name.specs.declared.path.Path.{Path}
@@ -24,6 +24,12 @@ IsOutput users files who path tree (Fresh generation) =
     let full = output_name tree who path in
     (is_past_last tree who path ≡ false) × (has_file tree full ≡ false) × (generation ≡ full.generation)
 IsOutput users files who path tree NoGeneration = is_past_last tree who path ≡ true
+
+-- the file of a full name, or a new one
+abbrev pub IsFileOrNew : List UserRec → List FileRec → Full → Output → Type 0
+IsFileOrNew users files full (Replace number) = number_of users files full ≡ Some number
+IsFileOrNew users files full (Fresh generation) = (number_of users files full ≡ None) × (generation ≡ full.generation)
+IsFileOrNew users files full NoGeneration = ⊥
 
 -- the greatest generation of the files of one user, local name and language, or 0
 abbrev pub newest_of : List UserRec → Full → List FileRec → ℕ

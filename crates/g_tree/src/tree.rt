@@ -5,7 +5,7 @@ ghost use Rattle.std.specs.FinMap as finmap;
 ghost use Rattle.g_plain.specs.PlainTree as tree;
 ghost use Rattle.g_tree.specs.Records.{IsRecords, ForTree, HasLengths, name_of, tree_of, users_by_name, by_number, number_of};
 ghost use Rattle.g_tree.specs.State.{first_users};
-ghost use Rattle.g_tree.specs.Answers.{IsOutput, newest_of, listed};
+ghost use Rattle.g_tree.specs.Answers.{IsOutput, IsFileOrNew, newest_of, listed};
 
 mod changes;
 
@@ -118,14 +118,10 @@ impl Tree {
         ensures number { ForTree self.now.users self.now.files (λ t. result ≡ number_of self.now.users self.now.files (tree.input_name t (name_of self.now.users owner) path.now)) }
         ensures there { ForTree self.now.users self.now.files (λ t. is_some result ≡ tree.has_file t (tree.input_name t (name_of self.now.users owner) path.now)) }
     {
-        let Some(mut full) = self.named(owner, path) else {
-            return None;
-        };
-        full.generation = match path.generation {
-            Some(generation) => generation,
-            None => self.newest(&full),
-        };
-        self.index.find(&full)
+        match self.input_name(owner, path) {
+            Some(full) => self.index.find(&full),
+            None => None,
+        }
     }
 
     /// What a path names for output, where an absent user is the owner of this number. Where there is no such user
@@ -133,22 +129,22 @@ impl Tree {
     pub fn output(&self, owner: u8, path: &Path) -> Output
         ensures { ForTree self.now.users self.now.files (λ t. IsOutput self.now.users self.now.files (name_of self.now.users owner) path.now t result) }
     {
-        let Some(mut full) = self.named(owner, path) else {
+        let Some(full) = self.named(owner, path) else {
             let generation = path.generation.unwrap_or(1);
             return Output::Fresh { generation };
         };
-        full.generation = match path.generation {
-            Some(generation) => generation,
-            None => match self.newest(&full) {
-                4095 => return Output::NoGeneration,
-                newest => newest + 1,
-            },
-        };
-        match self.index.find(&full) {
-            Some(number) => Output::Replace(number),
-            None => Output::Fresh {
-                generation: full.generation,
-            },
+        match path.generation {
+            Some(generation) => self.output_of(Full { generation, ..full }),
+            None => {
+                let newest = self.newest(&full);
+                if newest == 4095 {
+                    return Output::NoGeneration;
+                }
+                self.output_of(Full {
+                    generation: newest + 1,
+                    ..full
+                })
+            }
         }
     }
 
@@ -173,13 +169,15 @@ impl Tree {
     fn user_of(&self, owner: u8, path: &Path) -> Option<User>
         ensures some { IfSome result (λ user. user ≡ tree.owner_of (name_of self.now.users owner) path.now) }
         ensures none { IfNone result (tree.owner_of (name_of self.now.users owner) path.now ≡ []) }
+        ensures records { IsRecords self.now.users self.now.files }
     {
-        if let Some(user) = &path.user {
-            return Some(user.copy());
-        }
-        match self.users.get(owner as usize) {
-            Some(user) => Some(user.user.copy()),
-            None => None,
+        let users = self.users();
+        match &path.user {
+            Some(user) => Some(user.copy()),
+            None => match users.get(owner as usize) {
+                Some(user) => Some(user.user.copy()),
+                None => None,
+            },
         }
     }
 
@@ -187,6 +185,7 @@ impl Tree {
     fn named(&self, owner: u8, path: &Path) -> Option<Full>
         ensures some { IfSome result (λ full. full ≡ tree.named (name_of self.now.users owner) path.now 0) }
         ensures none { IfNone result (tree.owner_of (name_of self.now.users owner) path.now ≡ []) }
+        ensures records { IsRecords self.now.users self.now.files }
     {
         let Some(user) = self.user_of(owner, path) else {
             return None;
@@ -201,6 +200,36 @@ impl Tree {
             generation: 0,
             lang,
         })
+    }
+
+    /// The full name that a path gives for input.
+    fn input_name(&self, owner: u8, path: &Path) -> Option<Full>
+        ensures some { IfSome result (λ full. ForTree self.now.users self.now.files (λ t. full ≡ tree.input_name t (name_of self.now.users owner) path.now)) }
+        ensures none { IfNone result (tree.owner_of (name_of self.now.users owner) path.now ≡ []) }
+        ensures records { IsRecords self.now.users self.now.files }
+    {
+        let Some(full) = self.named(owner, path) else {
+            return None;
+        };
+        match path.generation {
+            Some(generation) => Some(Full { generation, ..full }),
+            None => {
+                let generation = self.newest(&full);
+                Some(Full { generation, ..full })
+            }
+        }
+    }
+
+    /// The file of this full name, or a new one.
+    fn output_of(&self, full: Full) -> Output
+        ensures { IsFileOrNew self.now.users self.now.files full result }
+    {
+        match self.index.find(&full) {
+            Some(number) => Output::Replace(number),
+            None => Output::Fresh {
+                generation: full.generation,
+            },
+        }
     }
 
     /// The greatest generation of the files of this user, local name and language, or 0.
