@@ -7,3 +7,4 @@ pub mod MapLemmas
 pub mod PlaceLemmas
 pub mod RecordLemmas
 pub mod ResultLemmas
+pub mod TrapLemmas

@@ -7,6 +7,8 @@ mod number_list;
 mod output;
 mod scan;
 mod sorted;
+#[cfg(test)]
+mod tests;
 mod tree;
 
 pub use number_list::NumberList;
