@@ -1,5 +1,6 @@
 -- Lemmas on maps, and from records to the tree.
 pub mod AnswerLemmas
+pub mod ChangeLemmas
 pub mod FirstLemmas
 pub mod IndexLemmas
 pub mod ListLemmas

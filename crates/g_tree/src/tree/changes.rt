@@ -3,6 +3,7 @@ ghost use Rattle.std.specs.Prelude.{◌≡◌, ◌⊎◌, ℕ, ◌+◌, ◌<◌,
 ghost use Rattle.std.specs.FinMap as finmap;
 ghost use Rattle.g_entry.specs.Rules.{AreNumbered};
 ghost use Rattle.g_tree.specs.Records.{IsRecords, name_of, full_of, user_row_of, file_row_of, tree_of, by_number, number_of};
+ghost use Rattle.g_tree.specs.Places.{StandsAt};
 ghost use Rattle.g_tree.specs.State.{with_file, without_file, without_number};
 
 use crate::index::Index;
@@ -99,7 +100,16 @@ impl Tree {
     }
 
     /// Puts a file in the place of the one of its number, under this full name of it.
-    fn replace(&mut self, place: usize, full: Full, file: FileRec) {
+    fn replace(&mut self, place: usize, full: Full, file: FileRec)
+        requires at { StandsAt self.old.files file.number place }
+        requires name { full ≡ full_of self.old.users file }
+        requires room { (1 ≤ self.old.spare) ⊎ (number_of self.old.users self.old.files full ≡ Some file.number) }
+        requires rules { IsRecords self.old.users (slice_set self.old.files place file) }
+        ensures users { self.new.users ≡ self.old.users }
+        ensures files { self.new.files ≡ slice_set self.old.files place file }
+        ensures spare { self.old.spare ≤ self.new.spare + 1 }
+        ensures same_name { number_of self.old.users self.old.files full ≡ Some file.number → self.new.spare ≡ self.old.spare }
+    {
         let old = full_of(self.users.as_slice(), &self.files[place]);
         if old != full {
             self.index.remove(&old);
