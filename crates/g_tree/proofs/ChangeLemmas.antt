@@ -9,7 +9,7 @@ use Rattle.std.specs.Cmp.{eq_by_cmp_equiv}
 use Rattle.std.specs.FinMap.{FinMap, get, insert, remove, from_entries, find, get-from_entries, nat_cmp-IsAntisymmetric}
 use Rattle.std.proofs.lemmas.Bool.{lt-ltb, le-ltb}
 use Rattle.std.specs.Option.{option_map}
-use Rattle.std.proofs.lemmas.List.{map-append, take-append-drop, length-take-le, length-drop, get_or-take, get_or-drop, set_split, append-nil}
+use Rattle.std.proofs.lemmas.List.{map-append, take-append-drop, length-take-le, length-drop, get_or-take, get_or-drop, get_or_default, set_split, append-nil}
 use Rattle.std.proofs.lemmas.List.Elements.{All-cons, All-nil, All-head, All-tail, All-contains, All-weaker, Contains-append_right, filter-append}
 use Rattle.g_name.specs.declared.full.Full.{Full}
 use Rattle.g_name.specs.Order.{full_cmp, full_eq}
@@ -17,11 +17,11 @@ use Rattle.g_name.proofs.Order.{full_total, full_ties}
 use Rattle.g_entry.specs.declared.user_rec.UserRec.{UserRec}
 use Rattle.g_entry.specs.declared.file_rec.FileRec.{FileRec}
 use Rattle.g_entry.specs.Rules.{AreNumbered}
-use Rattle.g_plain.specs.PlainTree.{FileRow}
+use Rattle.g_plain.specs.PlainTree.{FileRow, Tree}
 use Rattle.g_plain.proofs.TextMaps.{full_exact}
 use Rattle.g_plain.proofs.Found.{same_some, tied_are}
 use Rattle.std.proofs.lemmas.Cmp.{nat_cmp_total}
-use Rattle.g_tree.specs.Records.{IsRecords, full_of, by_name, by_number, number_of}
+use Rattle.g_tree.specs.Records.{IsRecords, full_of, file_row_of, tree_of, by_name, by_number, number_of}
 use Rattle.g_tree.specs.State.{IsIndexed, with_file, without_number}
 use Rattle.g_tree.specs.Places.{StandsAt, FitsAt}
 use Rattle.g_tree.proofs.ListLemmas.{pairs_first, pairs_rest, contains_first, filter_none}
@@ -231,3 +231,37 @@ indexed_new users files place file numbers next is rules changed = record {
   records = rules;
   index = changed ∙ ap (λ m. insert m (full_of users file) file.number) is.index ∙ sym (rows_new users (λ r. r.number) files place file (names_apart users (list.insert files place file) rules));
 }
+
+abbrev without_found : List UserRec → FinMap full_cmp FileRow → Option FileRec → FinMap full_cmp FileRow
+without_found users rows found = elim found [ Some r ↦ remove rows (full_of users r) | None ↦ rows ]
+
+-- the tree after a file is put
+
+module _ (users : List UserRec) (bytes : FileRec → List ℕ) (next : ℕ) where
+  abbrev with_row : Tree → FileRec → List UserRec → List FileRec → Tree
+  with_row tree file owners files = record tree { files = insert (without_number owners files file.number tree.files) (full_of owners file) (file_row_of owners bytes file) }
+
+  pub tree_new : (files : List FileRec) (place : ℕ) (file : FileRec) → IsRecords users files → FitsAt files file.number place → IsRecords users (list.insert files place file)
+      → tree_of users (list.insert files place file) bytes next ≡ with_row (tree_of users files bytes next) file users files
+  tree_new files place file is fits rules =
+      let row = file_row_of users bytes in
+      let rows = rows_of users row files in
+      ap (λ m. record (tree_of users files bytes next) { files = m })
+      (rows_new users row files place file (names_apart users (list.insert files place file) rules)
+      ∙ ap (λ o. insert (without_found users rows o) (full_of users file) (row file)) (sym (fits_none files is.numbers file.number place fits)))
+
+  pub tree_other : (files : List FileRec) (place : ℕ) (file : FileRec) → IsRecords users files → StandsAt files file.number place → IsRecords users (set files place file)
+      → tree_of users (set files place file) bytes next ≡ with_row (tree_of users files bytes next) file users files
+  tree_other files place file is at rules =
+      let row = file_row_of users bytes in
+      let rows = rows_of users row files in
+      let old = get_or files place file in
+      ap (λ m. record (tree_of users files bytes next) { files = m })
+      (rows_other users row files place old file at.within (get_or_default files place file old at.within) (names_apart users files is) (names_apart users (set files place file) rules)
+      ∙ ap (λ o. insert (without_found users rows o) (full_of users file) (row file)) (sym (stands_found files is.numbers file.number place file at)))
+
+-- an owner of a file among others is there
+pub owner_there : (users : List UserRec) (files : List FileRec) (file : FileRec) → IsRecords users (with_file file files) → file.owner < length users
+owner_there users files file is =
+    All-contains (λ r. r.owner < length users) (with_file file files) file is.among_files.owners
+    (Contains-append_right (filter (is_lower file) files) (file ∷ filter (is_greater file) files) file (contains_first file (filter (is_greater file) files)))
