@@ -1,6 +1,8 @@
 -- Lemmas on maps, and from records to the tree.
 pub mod AnswerLemmas
+pub mod ChangeLemmas
 pub mod FirstLemmas
+pub mod FreeLemmas
 pub mod IndexLemmas
 pub mod ListLemmas
 pub mod MapLemmas
