@@ -9,4 +9,5 @@ pub mod MapLemmas
 pub mod PlaceLemmas
 pub mod RecordLemmas
 pub mod ResultLemmas
+mod TestLemmas
 pub mod TrapLemmas
