@@ -2,10 +2,13 @@
 pub mod AnswerLemmas
 pub mod ChangeLemmas
 pub mod FirstLemmas
+pub mod FreeLemmas
 pub mod IndexLemmas
 pub mod ListLemmas
 pub mod MapLemmas
 pub mod PlaceLemmas
+pub mod PutLemmas
 pub mod RecordLemmas
 pub mod ResultLemmas
+mod TestLemmas
 pub mod TrapLemmas

@@ -173,7 +173,7 @@ impl Tree {
     {
         let users = self.users();
         match &path.user {
-            Some(user) => Some(user.copy()),
+            Some(name) => Some(name.copy()),
             None => match users.get(owner as usize) {
                 Some(user) => Some(user.user.copy()),
                 None => None,

@@ -127,7 +127,7 @@ impl Tree {
         ensures tree { (bytes : FileRec → List ℕ) (next : ℕ) → let t = tree_of self.old.users self.old.files bytes next in
             tree_of self.new.users self.new.files bytes next ≡ record t { files = without_number self.old.users self.old.files number t.files } }
     {
-        match self.files.binary_search_by_key(&number, |file| file.number) {
+        match place_of(self.files.as_slice(), number) {
             Ok(place) => {
                 let file = self.files.remove(place);
                 self.index.remove(&full_of(self.users.as_slice(), &file));

@@ -9,7 +9,7 @@ use Rattle.g_tree.specs.Records.{IsRecords, full_of, tree_of, number_of}
 use Rattle.g_tree.specs.State.{IsIndexed, with_file}
 use Rattle.g_tree.specs.Places.{StandsAt, FitsAt}
 use Rattle.g_tree.proofs.ResultLemmas.{ok_is_no_err}
-use Rattle.g_tree.proofs.ChangeLemmas.{owner_there, with_new, with_other, tree_new, tree_other, indexed_new, named_fits, still_room}
+use Rattle.g_tree.proofs.PutLemmas.{owner_there, with_new, with_other, tree_new, tree_other, indexed_new, named_fits, still_room}
 use Rattle.g_tree.proofs.tree.Tree.put.Goals as goal
 
 -- where no file has the number there is room

@@ -6,7 +6,7 @@ use Rattle.std.specs.FinMap.{insert, remove}
 use Rattle.g_tree.specs.Records.{IsRecords, full_of, number_of}
 use Rattle.g_tree.specs.State.{IsIndexed}
 use Rattle.g_tree.specs.Places.{StandsAt}
-use Rattle.g_tree.proofs.ChangeLemmas.{indexed_other, indexed_same, named_stands, names_agree, names_differ, still_room}
+use Rattle.g_tree.proofs.PutLemmas.{indexed_other, indexed_same, named_stands, names_agree, names_differ, still_room}
 use Rattle.g_tree.proofs.tree.Tree.replace.Goals as goal
 use Rattle.g_tree.proofs.tree.Tree.replace.Goals.{then-ne, else-ne}
 
