@@ -12,3 +12,4 @@ pub mod RecordLemmas
 pub mod ResultLemmas
 mod TestLemmas
 pub mod TrapLemmas
+pub mod UserLemmas
