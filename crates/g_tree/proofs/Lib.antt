@@ -9,5 +9,6 @@ pub mod MapLemmas
 pub mod PlaceLemmas
 pub mod RecordLemmas
 pub mod ResultLemmas
+pub mod RuleLemmas
 mod TestLemmas
 pub mod TrapLemmas
