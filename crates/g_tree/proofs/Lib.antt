@@ -10,6 +10,7 @@ pub mod PlaceLemmas
 pub mod PutLemmas
 pub mod RecordLemmas
 pub mod ResultLemmas
+pub mod RuleLemmas
 mod TestLemmas
 pub mod TrapLemmas
 pub mod UserLemmas

@@ -217,5 +217,10 @@ get_user g users name =
     ap (λ es. get (from_entries {R = text_cmp} es) name) (sym (map_of_map (with_value text_cmp g) (λ u. (u.user, u)) users))
     ∙ get_valued text_cmp g text_total (keyed (λ u. u.user) users) name
 
+pub user_entries : {X : Type 0} (g : UserRec → X) (users : List UserRec) → entries (from_entries {R = text_cmp} (map (λ u. (u.user, g u)) users)) ≡ map (with_value text_cmp g) (entries (users_by_name users))
+user_entries g users =
+    ap (λ es. entries (from_entries {R = text_cmp} es)) (sym (map_of_map (with_value text_cmp g) (λ u. (u.user, u)) users))
+    ∙ entries_valued text_cmp g text_total (keyed (λ u. u.user) users)
+
 pub user_there : (users : List UserRec) (files : List FileRec) (bytes : FileRec → List ℕ) (next : ℕ) (name : List ℕ) → is_some (get (users_by_name users) name) ≡ has_user (tree_of users files bytes next) name
 user_there users files bytes next name = sym (ap is_some (get_user (user_row_of users) users name) ∙ some_mapped (user_row_of users) (get (users_by_name users) name))

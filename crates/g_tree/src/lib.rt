@@ -3,6 +3,7 @@
 #![tactic(auto)]
 
 mod index;
+mod laws;
 mod number_list;
 mod output;
 mod scan;
@@ -11,6 +12,7 @@ mod sorted;
 mod tests;
 mod tree;
 
+pub use laws::{records_make_a_tree, rows_are_of_records, traps_go_by_name};
 pub use number_list::NumberList;
 pub use output::Output;
 pub use tree::Tree;
