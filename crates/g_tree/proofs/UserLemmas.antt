@@ -1,12 +1,12 @@
 -- How a changed or a new user changes the tree that records stand for.
-use Rattle.std.proofs.Common.{◌≡◌, ◌≢◌, ℕ, zero, suc, ◌+◌, ◌<◌, ◌≤◌, List, [], ◌∷◌, ◌++◌, length, map, take, drop, get_or, Some, None, slice_get, refl, sym, ap, subst, ◌∙◌, arith, inl, inr}
+use Rattle.std.proofs.Common.{◌≡◌, ◌≢◌, ℕ, suc, ◌+◌, ◌<◌, ◌≤◌, List, [], ◌∷◌, ◌++◌, length, map, take, drop, get_or, Some, None, slice_get, refl, sym, ap, subst, ◌∙◌, arith, inl, inr}
 use Rattle.std.proofs.Math.ListN.{set}
-use Rattle.std.specs.List.{All, AllPairs, slice_index_or}
+use Rattle.std.specs.List.{All, slice_index_or}
 use Rattle.std.specs.Option.{option_map}
 use Rattle.std.specs.FinMap.{FinMap, insert, from_entries, find}
 use Rattle.std.proofs.lemmas.Bool.{cases_lt}
 use Rattle.std.proofs.lemmas.List.{map-append, map-set, map_push, set-get_or, set_split, append-nil, length-append, length-map, get_or_append_left}
-use Rattle.std.proofs.lemmas.List.Elements.{All-head, All-tail, All-append}
+use Rattle.std.proofs.lemmas.List.Elements.{All-head, All-tail}
 use Rattle.std.proofs.lemmas.Option.{slice_get-get_or}
 use Rattle.g_name.specs.declared.full.Full.{Full}
 use Rattle.g_name.specs.Order.{text_cmp, full_cmp}
@@ -21,7 +21,8 @@ use Rattle.g_tree.specs.State.{IsIndexed}
 use Rattle.g_tree.proofs.ListLemmas.{map_of_map}
 use Rattle.g_tree.proofs.MapLemmas.{keyed, with_value, AreApart, none_found, find_valued, made_middle, made_other}
 use Rattle.g_tree.proofs.RecordLemmas.{name_at}
-use Rattle.g_tree.proofs.PutLemmas.{apart_before, split_at}
+use Rattle.g_tree.proofs.ChangeLemmas.{around}
+use Rattle.g_tree.proofs.PutLemmas.{apart_before}
 
 map_same_on : {A B : Type 0} (f g : A → B) (xs : List A) → All (λ x. f x ≡ g x) xs → map f xs ≡ map g xs
 map_same_on f g [] all = refl
@@ -89,7 +90,7 @@ module _ {X : Type 0} (g : UserRec → X) where
       ap (λ us. from_entries {R = text_cmp} (map row us)) new ∙ ap (λ es. from_entries {R = text_cmp} es) (map-append row xs (u ∷ ys))
       ∙ made_other text_total text_exact (map row xs) (map row ys) u.user (g old) (g u) (unnamed u xs (apart_before (λ v. v.user) xs u ys (subst (AreApart (λ v. v.user)) new apart)))
       ∙ ap (λ k. insert (from_entries {R = text_cmp} (map row xs ++ (k, g old) ∷ map row ys)) u.user (g u)) (sym named_old)
-      ∙ ap (λ es. insert (from_entries {R = text_cmp} es) u.user (g u)) (sym (ap (map row) (split_at users n u within) ∙ map-append row xs (old ∷ ys)))
+      ∙ ap (λ es. insert (from_entries {R = text_cmp} es) u.user (g u)) (sym (ap (map row) (around users n u within) ∙ map-append row xs (old ∷ ys)))
 
   users_more : (users : List UserRec) (u : UserRec) → AreApart (λ v. v.user) (users ++ u ∷ [])
       → from_entries {R = text_cmp} (map (λ v. (v.user, g v)) (users ++ u ∷ [])) ≡ insert (from_entries (map (λ v. (v.user, g v)) users)) u.user (g u)
