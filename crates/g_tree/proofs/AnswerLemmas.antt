@@ -1,14 +1,13 @@
 -- What a path names, among records and in the tree.
-use Rattle.std.proofs.Common.{◌≡◌, ◌≢◌, ℕ, ◌+◌, ◌==◌, Bool, true, false, cond, ◌&&◌, List, [], Option, Some, None, is_some, is_none, unwrap_or, refl, sym, ap, subst, ◌∙◌, arith}
+use Rattle.std.proofs.Common.{◌≡◌, ◌≢◌, ℕ, ◌+◌, ◌==◌, Bool, true, false, ◌&&◌, List, [], Some, None, is_some, is_none, unwrap_or, refl, sym, ap, ◌∙◌, arith}
 use Rattle.std.specs.Option.{option_map}
-use Rattle.std.specs.FinMap.{get}
 use Rattle.std.proofs.lemmas.Bool.Decides.{nat_tests}
 use Rattle.g_name.specs.declared.full.Full.{Full}
 use Rattle.g_name.specs.declared.path.Path.{Path}
 use Rattle.g_entry.specs.declared.user_rec.UserRec.{UserRec}
 use Rattle.g_entry.specs.declared.file_rec.FileRec.{FileRec}
 use Rattle.g_plain.specs.PlainTree.{Tree, has_file, newest, owner_of, named, input_name, output_name}
-use Rattle.g_tree.specs.Records.{IsRecords, tree_of, by_name, number_of}
+use Rattle.g_tree.specs.Records.{IsRecords, tree_of, number_of}
 use Rattle.g_tree.specs.Answers.{IsOutput, IsFileOrNew, is_past_last, newest_of}
 use Rattle.g_tree.specs.declared.output.Output.{Output}
 use Rattle.g_tree.specs.declared.output.Output.TheVariants.{Replace, Fresh, NoGeneration}

@@ -1,13 +1,12 @@
 -- How records and the tree change together.
-use Rattle.std.proofs.Common.{◌≡◌, ◌≢◌, ℕ, zero, suc, ◌+◌, ◌-◌, ◌<◌, ◌≤◌, ◌==◌, Bool, true, false, cond, not, List, [], ◌∷◌, ◌++◌, length, map, filter, take, drop, get_or, Option, Some, None, is_some, refl, sym, ap, subst, ◌∙◌, arith, inl, inr}
-use Rattle.std.specs.List.{All, AllPairs, remove as remove_at}
+use Rattle.std.proofs.Common.{◌≡◌, ◌≢◌, ℕ, suc, ◌+◌, ◌<◌, ◌≤◌, ◌==◌, Bool, true, false, cond, not, List, [], ◌∷◌, ◌++◌, length, map, filter, take, drop, get_or, Some, None, refl, sym, ap, subst, ◌∙◌, arith}
+use Rattle.std.specs.List.{All, remove as remove_at}
 use Rattle.std.proofs.Math.Seq.{drop-cons}
 use Rattle.std.proofs.lemmas.Bool.Decides.{nat_tests}
 use Rattle.std.proofs.lemmas.List.Edits.{length-remove}
 use Rattle.std.proofs.lemmas.List.Elements.{All-head, All-tail, All-append, All-take, All-drop, filter-append}
 use Rattle.std.proofs.lemmas.List.Quantifiers.{all_pairs_remove}
-use Rattle.std.specs.Ordering.{nat_cmp}
-use Rattle.std.specs.FinMap.{FinMap, get, insert, remove, find, from_entries, from_entries_push}
+use Rattle.std.specs.FinMap.{FinMap, insert, remove, find, from_entries, from_entries_push}
 use Rattle.std.specs.Option.{option_map}
 use Rattle.std.proofs.lemmas.List.{map_more, map-append, length-take-le, length-drop, get_or-take, get_or-drop, get_or_default, take-append-drop}
 use Rattle.g_name.specs.declared.full.Full.{Full}
@@ -15,15 +14,15 @@ use Rattle.g_name.specs.Order.{full_cmp}
 use Rattle.g_name.proofs.Order.{full_total}
 use Rattle.g_entry.specs.declared.user_rec.UserRec.{UserRec}
 use Rattle.g_entry.specs.declared.file_rec.FileRec.{FileRec}
-use Rattle.g_plain.proofs.TextMaps.{text_total, text_exact, full_exact}
+use Rattle.g_plain.proofs.TextMaps.{full_exact}
 use Rattle.g_entry.specs.FileFields.{IsFile}
 use Rattle.g_entry.specs.Rules.{SameName}
 use Rattle.g_plain.specs.PlainTree.{FileRow}
-use Rattle.g_tree.specs.Records.{IsRecords, full_of, file_row_of, tree_of, by_number}
+use Rattle.g_tree.specs.Records.{IsRecords, full_of, file_row_of, tree_of}
 use Rattle.g_tree.specs.State.{IsIndexed, without_file, without_number}
-use Rattle.g_tree.specs.Places.{StandsAt, FitsAt}
-use Rattle.g_tree.proofs.PlaceLemmas.{numbered_apart, stands_found, fits_none}
-use Rattle.g_tree.proofs.MapLemmas.{keyed, AreApart, none_found, find_valued, with_value, made_middle, made_without}
+use Rattle.g_tree.specs.Places.{StandsAt}
+use Rattle.g_tree.proofs.PlaceLemmas.{numbered_apart, stands_found}
+use Rattle.g_tree.proofs.MapLemmas.{keyed, AreApart, none_found, find_valued, with_value, made_without}
 use Rattle.g_tree.proofs.ListLemmas.{map_of_map}
 use Rattle.g_tree.proofs.RecordLemmas.{names_apart}
 

@@ -1,13 +1,13 @@
 -- Finite maps made of lists of entries: parts of lists, values that are changed, and the entries in order.
-use Rattle.std.proofs.Common.{◌≡◌, ◌≢◌, ℕ, suc, ◌+◌, ◌<◌, ◌≤◌, Bool, true, false, cond, List, [], ◌∷◌, ◌++◌, length, map, filter, fold, max, Option, Some, None, refl, sym, ap, subst, ◌∙◌, is_some, arith, true≢false, inl, inr}
-use Rattle.std.specs.List.{AllPairs, All, Contains, slice_index_or}
+use Rattle.std.proofs.Common.{◌≡◌, ◌≢◌, ℕ, Bool, true, false, cond, List, [], ◌∷◌, ◌++◌, length, map, filter, max, Option, Some, None, refl, sym, ap, subst, ◌∙◌, is_some, arith, true≢false, inl, inr}
+use Rattle.std.specs.List.{AllPairs, All, Contains}
 use Rattle.std.specs.List.Sorted.{IsPermutation}
 use Rattle.std.specs.Option.{option_map}
 use Rattle.std.specs.Ordering.{eq_by_cmp, is_eq}
 use Rattle.std.specs.declared.cmp.Ordering.{Ordering}
 use Rattle.std.specs.declared.cmp.Ordering.TheVariants.{Less, Equal, Greater}
 use Rattle.std.specs.Cmp.{IsTotalOrder, eq_by_cmp_equiv}
-use Rattle.std.specs.FinMap.{FinMap, IsAntisymmetric, get, insert, remove, entries, entries_sorted, from_entries, empty, find, same_map, len-entries, len-empty, get-entries, get-from_entries, get-insert, get-remove, entries-insert}
+use Rattle.std.specs.FinMap.{IsAntisymmetric, get, insert, remove, entries, entries_sorted, from_entries, empty, find, same_map, len-entries, len-empty, get-entries, get-from_entries, get-insert, get-remove, entries-insert}
 use Rattle.std.specs.FinMap.Entries.{put, by_order, same_entries, is_sorted-where_key, find-where_key}
 use Rattle.std.proofs.lemmas.List.Sorted.{IsPermutation-refl, IsPermutation-cons, IsPermutation-trans, IsPermutation-middle}
 use Rattle.std.proofs.lemmas.List.Elements.{All-head, All-tail, All-contains}

@@ -1,8 +1,8 @@
 -- How a changed record changes the maps that records stand for.
-use Rattle.std.proofs.Common.{◌≡◌, ◌≢◌, ℕ, suc, ◌+◌, ◌-◌, ◌<◌, ◌≤◌, Bool, true, false, cond, List, [], ◌∷◌, ◌++◌, length, map, filter, take, drop, nat_lt, get_or, Option, Some, None, refl, sym, ap, subst, ◌∙◌, arith, is_some, true≢false, ◌⊎◌, inl, inr, not}
+use Rattle.std.proofs.Common.{◌≡◌, ◌≢◌, ℕ, suc, ◌+◌, ◌<◌, ◌≤◌, Bool, true, false, cond, List, [], ◌∷◌, ◌++◌, length, map, filter, take, drop, nat_lt, get_or, Option, Some, None, refl, sym, ap, subst, ◌∙◌, arith, is_some, true≢false, ◌⊎◌, inl, inr, not}
 use Rattle.std.proofs.Math.ListN.{set}
 use Rattle.std.proofs.Math.Seq.{drop-cons}
-use Rattle.std.specs.List.{All, AllPairs, AllWithin, Contains}
+use Rattle.std.specs.List.{All, AllWithin, Contains}
 use Rattle.std.specs.List as list
 use Rattle.std.specs.Ordering.{nat_cmp, eq_by_cmp}
 use Rattle.std.specs.Cmp.{eq_by_cmp_equiv}

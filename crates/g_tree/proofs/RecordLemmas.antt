@@ -1,14 +1,12 @@
 -- From numbered records to the tree of names.
-use Rattle.std.proofs.Common.{◌≡◌, ◌≢◌, ℕ, zero, suc, ◌+◌, ◌<◌, ◌≤◌, ◌==◌, Bool, true, false, cond, ◌&&◌, List, [], ◌∷◌, length, map, filter, fold, max, sum_by, Option, Some, None, is_some, unwrap_or, refl, sym, ap, subst, ◌∙◌, arith, ⊎_elim, inl, inr, true≢false, eq-eqb, get_or}
-use Rattle.std.specs.List.{All, AllPairs, Contains}
+use Rattle.std.proofs.Common.{◌≡◌, ◌≢◌, ℕ, zero, suc, ◌<◌, ◌≤◌, ◌==◌, true, false, cond, ◌&&◌, List, [], ◌∷◌, length, map, filter, fold, max, sum_by, Option, Some, None, is_some, unwrap_or, refl, sym, ap, ◌∙◌, arith, inl, inr, true≢false, get_or}
+use Rattle.std.specs.List.{All, AllPairs}
 use Rattle.std.specs.Option.{option_map}
-use Rattle.std.specs.Ordering.{nat_cmp, eq_by_cmp}
 use Rattle.std.specs.Cmp.{eq_by_cmp_equiv}
 use Rattle.std.specs.Cmp.Lexicographic.{texts_ties}
-use Rattle.std.specs.FinMap.{FinMap, get, entries, from_entries, find, get-from_entries, nat_cmp-IsAntisymmetric}
-use Rattle.std.proofs.lemmas.Cmp.{nat_cmp_total}
+use Rattle.std.specs.FinMap.{get, entries, from_entries, get-from_entries}
 use Rattle.std.proofs.lemmas.List.{get_or-map}
-use Rattle.std.proofs.lemmas.List.Elements.{All-get_or, Contains-get_or}
+use Rattle.std.proofs.lemmas.List.Elements.{Contains-get_or}
 use Rattle.std.proofs.lemmas.List.Sorted.{sum_by-IsPermutation}
 use Rattle.std.proofs.lemmas.Bool.{cases_lt}
 use Rattle.std.proofs.lemmas.Bool.Decides.{nat_tests}
@@ -22,15 +20,14 @@ use Rattle.g_entry.specs.declared.format.Format.TheVariants.{Two}
 use Rattle.g_entry.specs.declared.user_rec.UserRec.{UserRec}
 use Rattle.g_entry.specs.declared.file_rec.FileRec.{FileRec}
 use Rattle.g_entry.specs.UserFields.{IsUser}
-use Rattle.g_entry.specs.Rules.{SameName}
-use Rattle.g_plain.specs.PlainTree.{Tree, has_user, has_file, newest, named, used_blocks, is_version_of}
+use Rattle.g_plain.specs.PlainTree.{has_user, has_file, newest, named, used_blocks, is_version_of}
 use Rattle.g_plain.proofs.Found.{apart_is}
 use Rattle.g_plain.proofs.TextMaps.{text_total, text_exact, full_exact}
 use Rattle.g_plain.proofs.TreeLemmas.{entries_found, all_map}
 use Rattle.g_tree.specs.Records.{IsRecords, HasLengths, name_of, full_of, user_row_of, file_row_of, tree_of, users_by_name, by_name, number_of}
 use Rattle.g_tree.specs.Answers.{newest_of, listed}
 use Rattle.g_tree.proofs.ListLemmas.{filter_same_on, filter_none, sum_same_on, sum_of_map, greatest, fold_greatest, greatest_of_map, greatest_le, filter_of_map, kept_same_on, map_of_map}
-use Rattle.g_tree.proofs.MapLemmas.{with_value, keyed, AreApart, apart_keyed, found_one, none_found, found_itself, find_valued, get_valued, entries_valued, entries_kept, entries_permute, greatest_made}
+use Rattle.g_tree.proofs.MapLemmas.{with_value, keyed, AreApart, apart_keyed, none_found, get_valued, entries_valued, entries_kept, entries_permute, greatest_made}
 
 nobody : UserRec
 nobody = record { number = 0; user = []; superior = 0; space = 0; time = 0; money = 0 }

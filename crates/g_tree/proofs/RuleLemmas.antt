@@ -1,13 +1,11 @@
 -- Records that keep their rules stand for a tree that keeps its own.
-use Rattle.std.proofs.Common.{◌≡◌, ◌≢◌, ℕ, suc, ◌+◌, ◌^◌, ◌<◌, ◌≤◌, ◌==◌, Bool, true, false, cond, not, ◌&&◌, List, [], ◌∷◌, length, map, get_or, Option, Some, None, is_some, unwrap_or, refl, sym, ap, subst, ◌∙◌, arith, true≢false, inl, inr}
-use Rattle.std.specs.List.{All, AllPairs, Contains, list_all, slice_get}
+use Rattle.std.proofs.Common.{◌≡◌, ℕ, suc, ◌^◌, ◌<◌, ◌≤◌, ◌==◌, Bool, true, false, cond, not, ◌&&◌, List, [], ◌∷◌, length, map, get_or, Option, Some, None, is_some, refl, sym, ap, subst, ◌∙◌, arith, true≢false, inl, inr}
+use Rattle.std.specs.List.{All, Contains, list_all, slice_get}
 use Rattle.std.specs.Option.{option_map}
 use Rattle.std.specs.Ordering.{nat_cmp, eq_by_cmp}
-use Rattle.std.specs.Cmp.{eq_by_cmp_equiv}
-use Rattle.std.specs.FinMap.{FinMap, get, len, entries, from_entries, find, get-from_entries, len-entries, nat_cmp-IsAntisymmetric}
+use Rattle.std.specs.FinMap.{get, len, entries, find, get-from_entries, len-entries, nat_cmp-IsAntisymmetric}
 use Rattle.std.proofs.lemmas.Bool.Decides.{nat_tests}
 use Rattle.std.proofs.lemmas.Cmp.{nat_cmp_total}
-use Rattle.std.proofs.lemmas.List.{get_or_default}
 use Rattle.std.proofs.lemmas.List.Elements.{All-head, All-tail, All-contains, Contains-get_or}
 use Rattle.std.proofs.lemmas.List.Sorted.{length_permutation}
 use Rattle.std.proofs.lemmas.Option.{slice_get-get_or}
@@ -25,10 +23,10 @@ use Rattle.g_plain.specs.PlainTree.{UserRow, FileRow, has_user}
 use Rattle.g_plain.specs.Rules.{IsUserRow, IsFileRow, IsTree}
 use Rattle.g_plain.proofs.TextMaps.{text_total, text_exact, full_exact}
 use Rattle.g_plain.proofs.Found.{tied_are, apart_is, same_some}
-use Rattle.g_tree.specs.Records.{IsRecords, HasLengths, name_of, full_of, traps_named, user_row_of, file_row_of, tree_of, users_by_name, by_name, by_number, number_of}
-use Rattle.g_tree.proofs.MapLemmas.{with_value, keyed, AreApart, apart_keyed, found_one, found_itself, entries_permute, Apart}
+use Rattle.g_tree.specs.Records.{IsRecords, HasLengths, name_of, full_of, user_row_of, file_row_of, tree_of, users_by_name, by_name, by_number, number_of}
+use Rattle.g_tree.proofs.MapLemmas.{with_value, keyed, AreApart, apart_keyed, found_one, found_itself, entries_permute}
 use Rattle.g_tree.proofs.RecordLemmas.{name_at, names_apart, numbers_apart, get_file, get_user, user_entries, user_there, file_entries}
-use Rattle.g_tree.proofs.TrapLemmas.{AreTrapped, are_trapped, trap_found, trap_count, by_names}
+use Rattle.g_tree.proofs.TrapLemmas.{are_trapped, trap_found, trap_count, by_names}
 
 nobody : UserRec
 nobody = record { number = 0; user = []; superior = 0; space = 0; time = 0; money = 0 }

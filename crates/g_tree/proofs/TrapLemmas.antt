@@ -1,15 +1,14 @@
 -- Traps by the numbers of users against traps by their names.
-use Rattle.std.proofs.Common.{◌≡◌, ◌≢◌, ℕ, suc, ◌+◌, ◌<◌, ◌≤◌, ◌==◌, Bool, true, false, cond, not, ◌&&◌, List, [], ◌∷◌, length, map, filter, Option, Some, None, is_some, unwrap_or, refl, sym, ap, subst, ◌∙◌, arith, true≢false, T}
+use Rattle.std.proofs.Common.{◌≡◌, ◌≢◌, ℕ, suc, ◌+◌, ◌<◌, ◌==◌, Bool, true, false, cond, not, ◌&&◌, List, [], ◌∷◌, length, map, filter, Option, Some, None, unwrap_or, refl, sym, ap, ◌∙◌, arith, true≢false}
 use Rattle.std.specs.List.{All, AllPairs, Contains}
 use Rattle.std.specs.Ordering.{nat_cmp, eq_by_cmp, is_eq, is_lt}
 use Rattle.std.specs.declared.cmp.Ordering.{Ordering}
 use Rattle.std.specs.declared.cmp.Ordering.TheVariants.{Less, Equal, Greater}
-use Rattle.std.specs.Cmp.{eq_by_cmp_equiv, unsigned_ties}
+use Rattle.std.specs.Cmp.{unsigned_ties}
 use Rattle.std.specs.Cmp.Lexicographic.{texts_ties}
 use Rattle.std.specs.FinMap.{FinMap, get, insert, remove, len, entries, from_entries, find, is_sorted, same_map, get-from_entries, get-insert, get-remove, len-entries, nat_cmp-IsAntisymmetric}
 use Rattle.std.specs.FinMap.Entries.{put, by_order, below_all}
 use Rattle.std.proofs.lemmas.Bool.Decides.{nat_tests}
-use Rattle.std.proofs.lemmas.Cmp.{nat_cmp_total}
 use Rattle.std.proofs.lemmas.List.Elements.{All-head, All-tail, All-contains}
 use Rattle.std.proofs.lemmas.List.Sorted.{length_permutation}
 use Rattle.g_name.specs.declared.full.Full.{Full}
@@ -20,10 +19,9 @@ use Rattle.g_entry.specs.declared.user_rec.UserRec.{UserRec}
 use Rattle.g_entry.specs.declared.file_rec.FileRec.{FileRec}
 use Rattle.g_entry.specs.UserFields.{IsUser}
 use Rattle.g_entry.specs.FileFields.{IsFile, lacks}
-use Rattle.g_entry.specs.Rules.{AreUsers}
 use Rattle.g_plain.specs.PlainTree.{with_modes}
 use Rattle.g_plain.proofs.TextMaps.{text_total, text_exact}
-use Rattle.g_plain.proofs.Found.{tied_are, apart_is, untied}
+use Rattle.g_plain.proofs.Found.{tied_are}
 use Rattle.g_tree.specs.Records.{IsRecords, name_of, traps_named}
 use Rattle.g_tree.proofs.MapLemmas.{Apart, entries_permute}
 use Rattle.g_tree.proofs.RecordLemmas.{same_owner, name_apart}

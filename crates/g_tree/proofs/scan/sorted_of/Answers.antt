@@ -1,5 +1,5 @@
 -- One file more, in front of those that were looked at.
-use Rattle.std.proofs.Common.{◌≡◌, ℕ, suc, ◌-◌, ◌<◌, ◌≤◌, ◌==◌, true, cond, List, ◌∷◌, map, filter, drop, length, get_or, sym, ap, ◌∙◌, arith, eq-eqb}
+use Rattle.std.proofs.Common.{◌≡◌, ℕ, suc, ◌-◌, ◌<◌, ◌≤◌, ◌==◌, cond, List, ◌∷◌, map, filter, drop, length, get_or, sym, ap, ◌∙◌, arith, eq-eqb}
 use Rattle.std.proofs.Math.Seq.{drop-cons}
 use Rattle.std.specs.FinMap.{FinMap, insert, from_entries}
 use Rattle.g_name.specs.declared.full.Full.{Full}

@@ -1,5 +1,5 @@
 -- The numbers of users stand for the same names, and there is one row more.
-use Rattle.std.proofs.Common.{◌≡◌, List, [], ◌∷◌, ◌++◌, cond, not, sym, ap, subst, ◌∙◌}
+use Rattle.std.proofs.Common.{◌≡◌, [], ◌∷◌, ◌++◌, cond, not, sym, ap, subst, ◌∙◌}
 use Rattle.g_tree.specs.Records.{IsRecords, tree_of}
 use Rattle.g_tree.specs.State.{IsIndexed}
 use Rattle.g_tree.proofs.UserLemmas.{indexed_more, tree_more}

@@ -1,7 +1,6 @@
 -- The file at the place of the number goes, and its name with it.
-use Rattle.std.proofs.Common.{◌≡◌, List, ℕ, sym, ap, subst, ◌∙◌, is_some, true≢false}
+use Rattle.std.proofs.Common.{◌≡◌, sym, ap, subst, ◌∙◌, is_some, true≢false}
 use Rattle.std.specs.FinMap.{get}
-use Rattle.g_entry.specs.declared.file_rec.FileRec.{FileRec}
 use Rattle.g_tree.specs.Records.{full_of, tree_of, by_number}
 use Rattle.g_tree.specs.State.{TreeState, without_file, without_number}
 use Rattle.g_tree.specs.Places.{StandsAt, FitsAt}

@@ -1,7 +1,6 @@
 -- Where the number stands is the file, and where it would stand there is none.
-use Rattle.std.proofs.Common.{◌≡◌, Some, sym, ap, subst, ◌∙◌}
+use Rattle.std.proofs.Common.{Some, sym, ap, subst, ◌∙◌}
 use Rattle.std.specs.FinMap.{get}
-use Rattle.g_entry.specs.Rules.{AreNumbered}
 use Rattle.g_tree.specs.Places.{StandsAt, FitsAt}
 use Rattle.g_tree.specs.Records.{by_number}
 use Rattle.g_tree.proofs.PlaceLemmas.{stands_found, fits_none}

@@ -1,9 +1,8 @@
 -- The index has the numbers of the records, and the tree their files.
-use Rattle.std.proofs.Common.{◌≡◌, List, ℕ, is_some, sym, ap, ◌∙◌}
+use Rattle.std.proofs.Common.{is_some, sym, ap, ◌∙◌}
 use Rattle.std.specs.FinMap as map
-use Rattle.g_entry.specs.declared.file_rec.FileRec.{FileRec}
 use Rattle.g_plain.specs.PlainTree.{input_name}
-use Rattle.g_tree.specs.Records.{ForTree, name_of, number_of, tree_of}
+use Rattle.g_tree.specs.Records.{name_of, number_of, tree_of}
 use Rattle.g_tree.proofs.AnswerLemmas.{nobodys_number, nobodys_file}
 use Rattle.g_tree.proofs.RecordLemmas.{get_file, file_there}
 use Rattle.g_tree.proofs.tree.Tree.find.Goals as goal

@@ -1,5 +1,5 @@
 -- The owner's numbers in the order of names are those of the tree's entries.
-use Rattle.std.proofs.Common.{◌≡◌, ◌==◌, map, filter, ap, sym, subst, ◌∙◌}
+use Rattle.std.proofs.Common.{◌≡◌, ◌==◌, map, filter, ap, subst, ◌∙◌}
 use Rattle.std.specs.FinMap.{entries, from_entries}
 use Rattle.g_name.specs.Order.{full_cmp}
 use Rattle.g_tree.specs.Records.{IsRecords, full_of}

@@ -1,5 +1,5 @@
 -- The first two users make the tree of a new filestore, whichever comes first.
-use Rattle.std.proofs.Common.{◌≡◌, rules, [], codes}
+use Rattle.std.proofs.Common.{◌≡◌, rules, []}
 use Rattle.g_tree.specs.State.{first_users}
 use Rattle.g_tree.proofs.FirstLemmas.{first_tree}
 use Rattle.g_tree.proofs.tree.Tree.new.Goals as goal

@@ -1,5 +1,5 @@
 -- The generation is the given one, or the one behind the newest.
-use Rattle.std.proofs.Common.{◌≡◌, sym, ◌∙◌, rules}
+use Rattle.std.proofs.Common.{sym, ◌∙◌}
 use Rattle.g_tree.proofs.AnswerLemmas.{nobodys_output, output_given, output_past, output_next, newest_there}
 use Rattle.g_tree.proofs.tree.Tree.output.Goals as goal
 

@@ -1,6 +1,5 @@
 -- A file in the place of another, or between others.
-use Rattle.std.proofs.Common.{◌≡◌, ◌≤◌, ◌<◌, ◌⊎◌, ℕ, List, true, cond, not, sym, ap, subst, ◌∙◌, arith, Some, length}
-use Rattle.std.proofs.Math.ListN.{set}
+use Rattle.std.proofs.Common.{◌≡◌, ◌≤◌, ◌<◌, ◌⊎◌, ℕ, List, cond, not, sym, ap, subst, ◌∙◌, arith, Some, length}
 use Rattle.std.specs.List as list
 use Rattle.std.specs.FinMap.{insert}
 use Rattle.g_entry.specs.declared.user_rec.UserRec.{UserRec}

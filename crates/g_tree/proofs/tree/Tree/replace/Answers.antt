@@ -1,5 +1,5 @@
 -- The index changes only where the full name does.
-use Rattle.std.proofs.Common.{◌≡◌, ◌≤◌, ◌-◌, min, refl, sym, ap, subst, ◌∙◌, arith, Some, vec_len}
+use Rattle.std.proofs.Common.{◌≡◌, ◌≤◌, ◌-◌, min, refl, sym, ap, subst, ◌∙◌, arith, vec_len}
 use Rattle.std.specs.Vec.{vec_capacity}
 use Rattle.std.proofs.Math.ListN.{set}
 use Rattle.std.specs.FinMap.{insert, remove}

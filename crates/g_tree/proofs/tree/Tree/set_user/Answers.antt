@@ -1,5 +1,5 @@
 -- The names of users stay, and with them all but the one row.
-use Rattle.std.proofs.Common.{◌≡◌, ◌<◌, sym, ap, subst, ◌∙◌, length}
+use Rattle.std.proofs.Common.{sym, ap, subst, ◌∙◌}
 use Rattle.std.proofs.Math.ListN.{set}
 use Rattle.g_tree.specs.Records.{IsRecords, name_of, tree_of}
 use Rattle.g_tree.proofs.UserLemmas.{indexed_set, tree_set}

@@ -1,5 +1,5 @@
 -- The first number that isn't that of its place is free, else the one behind the last.
-use Rattle.std.proofs.Common.{◌≡◌, ◌≤◌, length, subst, sym, arith, ◌∙◌, ap, get_or}
+use Rattle.std.proofs.Common.{sym, arith, ◌∙◌, ap, get_or}
 use Rattle.g_tree.proofs.FreeLemmas.{filled_least, filled_gap, filled_end, filled_full}
 use Rattle.g_tree.proofs.tree.changes.free_in.Goals as goal
 

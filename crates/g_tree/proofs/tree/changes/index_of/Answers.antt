@@ -1,5 +1,5 @@
 -- One name more.
-use Rattle.std.proofs.Common.{◌∙◌, arith, ap, sym}
+use Rattle.std.proofs.Common.{arith}
 use Rattle.g_tree.proofs.ChangeLemmas.{index_more}
 use Rattle.g_tree.proofs.tree.changes.index_of.Goals as goal
 
