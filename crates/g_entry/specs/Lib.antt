@@ -1,5 +1,6 @@
 pub mod FileFields
 pub mod Formats
 pub mod HeadFields
+pub mod Rules
 pub mod UserFields
 pub mod Rules

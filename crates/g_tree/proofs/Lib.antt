@@ -1,0 +1,16 @@
+-- Lemmas on maps, and from records to the tree.
+pub mod AnswerLemmas
+pub mod ChangeLemmas
+pub mod FirstLemmas
+pub mod FreeLemmas
+pub mod IndexLemmas
+pub mod ListLemmas
+pub mod MapLemmas
+pub mod PlaceLemmas
+pub mod PutLemmas
+pub mod RecordLemmas
+pub mod ResultLemmas
+pub mod RuleLemmas
+mod TestLemmas
+pub mod TrapLemmas
+pub mod UserLemmas

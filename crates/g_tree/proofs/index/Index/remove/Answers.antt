@@ -1,0 +1,8 @@
+-- An entry that is taken out makes the map without it.
+use Rattle.std.proofs.Common.{◌∙◌, ap}
+use Rattle.std.specs.FinMap as map
+use Rattle.g_tree.proofs.IndexLemmas.{indexed_remove}
+use Rattle.g_tree.proofs.index.Index.remove.Goals as goal
+
+pub returns-clause-numbers : goal.returns-clause-numbers
+returns-clause-numbers c = indexed_remove _ _ c.args.full.now c.swap_remove.ensures.updates.0 ∙ ap (λ s. map.remove s.numbers c.args.full.now) c.self.view_is

@@ -1,0 +1,6 @@
+-- The numbers so far, and behind them those that are left.
+use Rattle.std.proofs.Common.{◌≡◌, ◌++◌, map}
+use Rattle.g_tree.proofs.sorted.numbers_in.Given as goal
+
+abbrev pub invariant-loop-full : goal.invariant-loop-full
+invariant-loop-full l = l.list ++ map (λ e. e.1) l._full-iterator ≡ map (λ e. e.1) l.numbers.entries

@@ -1,0 +1,36 @@
+-- The file at the place of the number goes, and its name with it.
+use Rattle.std.proofs.Common.{◌≡◌, sym, ap, subst, ◌∙◌, is_some, true≢false}
+use Rattle.std.specs.FinMap.{get}
+use Rattle.g_tree.specs.Records.{full_of, tree_of, by_number}
+use Rattle.g_tree.specs.State.{TreeState, without_file, without_number}
+use Rattle.g_tree.specs.Places.{StandsAt, FitsAt}
+use Rattle.g_tree.proofs.PlaceLemmas.{fits_none}
+use Rattle.g_tree.proofs.ChangeLemmas.{erased, removed_list, removed_tree}
+use Rattle.g_tree.proofs.tree.Tree.erase.Goals as goal
+
+pub invariant_of-self : goal.invariant_of-self
+invariant_of-self c =
+    let at : StandsAt c.self.inside.files.items c.args.number c.in-Ok.place = subst (λ fs. StandsAt fs c.args.number c.in-Ok.place) c.as_slice.ensures.value c.in-Ok.ensures.found in
+    erased c.self.inside.users.items c.self.inside.files.items c.self.invariant.records c.args.number c.in-Ok.place at c.remove-file.new.self.items c.remove-file.result c.full_of.result _ _ c.self.invariant.index
+    c.remove-file.ensures.items c.remove-file.ensures.value (c.full_of.ensures ∙ ap (λ us. full_of us c.remove-file.result) c.as_slice-in-Ok.ensures.value) c.remove.ensures.numbers
+
+pub unreachable-requires : goal.unreachable-requires
+unreachable-requires c =
+    let at : FitsAt c.self.inside.files.items c.args.number c.in-Err.field-0 = subst (λ fs. FitsAt fs c.args.number c.in-Err.field-0) c.as_slice.ensures.value c.in-Err.ensures.absent in
+    true≢false (sym c.requires ∙ ap (λ s. is_some (get (by_number s.files) c.args.number)) (sym c.self.view_is)
+    ∙ ap is_some (fits_none c.self.inside.files.items c.self.invariant.records.numbers c.args.number c.in-Err.field-0 at))
+
+pub returns-clause-files : goal.returns-clause-files
+returns-clause-files c =
+    let at : StandsAt c.self.inside.files.items c.args.number c.in-Ok.place = subst (λ fs. StandsAt fs c.args.number c.in-Ok.place) c.as_slice.ensures.value c.in-Ok.ensures.found in
+    c.remove-file.ensures.items ∙ removed_list c.self.inside.users.items c.self.inside.files.items c.self.invariant.records c.args.number c.in-Ok.place at c.remove-file.result
+    ∙ ap (λ s. without_file c.args.number s.files) c.self.view_is
+
+pub returns-clause-tree : goal.returns-clause-tree
+returns-clause-tree c = λ bytes next.
+    let at : StandsAt c.self.inside.files.items c.args.number c.in-Ok.place = subst (λ fs. StandsAt fs c.args.number c.in-Ok.place) c.as_slice.ensures.value c.in-Ok.ensures.found in
+    let P : TreeState → Type 0 = λ s. tree_of c.self.inside.users.items c.remove-file.new.self.items bytes next
+    ≡ record (tree_of s.users s.files bytes next) { files = without_number s.users s.files c.args.number (tree_of s.users s.files bytes next).files } in
+    subst P c.self.view_is
+    (ap (λ fs. tree_of c.self.inside.users.items fs bytes next) c.remove-file.ensures.items
+    ∙ removed_tree c.self.inside.users.items c.self.inside.files.items c.self.invariant.records c.args.number c.in-Ok.place at bytes next c.remove-file.result)

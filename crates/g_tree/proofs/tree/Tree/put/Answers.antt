@@ -1,0 +1,95 @@
+-- A file in the place of another, or between others.
+use Rattle.std.proofs.Common.{◌≡◌, ◌≤◌, ◌<◌, ◌⊎◌, ℕ, List, cond, not, sym, ap, subst, ◌∙◌, arith, Some, length}
+use Rattle.std.specs.List as list
+use Rattle.std.specs.FinMap.{insert}
+use Rattle.g_entry.specs.declared.user_rec.UserRec.{UserRec}
+use Rattle.g_entry.specs.declared.file_rec.FileRec.{FileRec}
+use Rattle.g_tree.specs.Records.{IsRecords, full_of, tree_of, number_of}
+use Rattle.g_tree.specs.State.{IsIndexed, with_file}
+use Rattle.g_tree.specs.Places.{StandsAt, FitsAt}
+use Rattle.g_tree.proofs.ResultLemmas.{ok_is_no_err}
+use Rattle.g_tree.proofs.PutLemmas.{owner_there, with_new, with_other, tree_new, tree_other, indexed_new, named_fits, still_room}
+use Rattle.g_tree.proofs.tree.Tree.put.Goals as goal
+
+-- where no file has the number there is room
+room_there : (users : List UserRec) (files : List FileRec) (file : FileRec) (place spare : ℕ) → IsRecords users files → FitsAt files file.number place
+    → (1 ≤ spare) ⊎ (number_of users files (full_of users file) ≡ Some file.number) → 1 ≤ spare
+room_there users files file place spare is fits room = still_room users files (full_of users file) file.number spare room (λ e. named_fits users files is file.number (full_of users file) place e fits)
+
+pub full_of-full-requires : goal.full_of-full-requires
+full_of-full-requires c =
+    subst (λ us. c.args.file.owner < length us) (ap (λ s. s.users) (sym c.self.view_is) ∙ sym c.as_slice.ensures.value) (owner_there c.args.self.now.users c.args.self.now.files c.args.file c.requires.rules)
+
+pub replace-requires-clause-rules : goal.replace-requires-clause-rules
+replace-requires-clause-rules c =
+    let is : IsRecords c.args.self.now.users c.args.self.now.files = subst (λ s. IsRecords s.users s.files) c.self.view_is c.self.invariant.records in
+    let at : StandsAt c.args.self.now.files c.args.file.number c.in-Ok.place =
+    subst (λ fs. StandsAt fs c.args.file.number c.in-Ok.place) (c.as_slice-2.ensures.value ∙ ap (λ s. s.files) c.self.view_is) c.in-Ok.ensures.found in
+    subst (IsRecords c.args.self.now.users) (with_other c.args.file c.args.self.now.files c.in-Ok.place is.numbers at) c.requires.rules
+
+pub returns-in-Ok-clause-files : goal.returns-in-Ok-clause-files
+returns-in-Ok-clause-files c =
+    let is : IsRecords c.args.self.now.users c.args.self.now.files = subst (λ s. IsRecords s.users s.files) c.self.view_is c.self.invariant.records in
+    let at : StandsAt c.args.self.now.files c.args.file.number c.in-Ok.place =
+    subst (λ fs. StandsAt fs c.args.file.number c.in-Ok.place) (c.as_slice-2.ensures.value ∙ ap (λ s. s.files) c.self.view_is) c.in-Ok.ensures.found in
+    c.replace.ensures.files ∙ sym (with_other c.args.file c.args.self.now.files c.in-Ok.place is.numbers at)
+
+pub returns-in-Ok-clause-tree : goal.returns-in-Ok-clause-tree
+returns-in-Ok-clause-tree c = λ bytes next.
+    let is : IsRecords c.args.self.now.users c.args.self.now.files = subst (λ s. IsRecords s.users s.files) c.self.view_is c.self.invariant.records in
+    let at : StandsAt c.args.self.now.files c.args.file.number c.in-Ok.place =
+    subst (λ fs. StandsAt fs c.args.file.number c.in-Ok.place) (c.as_slice-2.ensures.value ∙ ap (λ s. s.files) c.self.view_is) c.in-Ok.ensures.found in
+    let rules = subst (IsRecords c.args.self.now.users) (with_other c.args.file c.args.self.now.files c.in-Ok.place is.numbers at) c.requires.rules in
+    (λ i. tree_of (c.replace.ensures.users i) (c.replace.ensures.files i) bytes next) ∙ tree_other c.args.self.now.users bytes next c.args.self.now.files c.in-Ok.place c.args.file is at rules
+
+pub insert-requires : goal.insert-requires
+insert-requires c =
+    let fits : FitsAt c.self.inside.files.items c.args.file.number c.in-Err.place = subst (λ fs. FitsAt fs c.args.file.number c.in-Err.place) c.as_slice-2.ensures.value c.in-Err.ensures.absent in
+    let room = subst (λ s. (1 ≤ s.spare) ⊎ (number_of s.users s.files (full_of s.users c.args.file) ≡ Some c.args.file.number)) (sym c.self.view_is) c.requires.room in
+    let spare = room_there c.self.inside.users.items c.self.inside.files.items c.args.file c.in-Err.place _ c.self.invariant.records fits room in
+    omega (arith, spare)
+
+pub unreachable-requires : goal.unreachable-requires
+unreachable-requires c =
+    let fits : FitsAt c.self.inside.files.items c.args.file.number c.in-Err.place = subst (λ fs. FitsAt fs c.args.file.number c.in-Err.place) c.as_slice-2.ensures.value c.in-Err.ensures.absent in
+    let room = subst (λ s. (1 ≤ s.spare) ⊎ (number_of s.users s.files (full_of s.users c.args.file) ≡ Some c.args.file.number)) (sym c.self.view_is) c.requires.room in
+    let spare = room_there c.self.inside.users.items c.self.inside.files.items c.args.file c.in-Err.place _ c.self.invariant.records fits room in
+    ok_is_no_err c.insert-in-Err.result (c.insert-in-Err.ensures.succeeds (omega (arith, spare))) (sym c.is_err.ensures.value ∙ c.if-is_err.true)
+
+pub invariant_of-self : goal.invariant_of-self
+invariant_of-self c =
+    let users = c.self.inside.users.items in
+    let files = c.self.inside.files.items in
+    let fits : FitsAt files c.args.file.number c.in-Err.place = subst (λ fs. FitsAt fs c.args.file.number c.in-Err.place) c.as_slice-2.ensures.value c.in-Err.ensures.absent in
+    let rules : IsRecords users (with_file c.args.file files) = subst (λ s. IsRecords s.users (with_file c.args.file s.files)) (sym c.self.view_is) c.requires.rules in
+    let items : c.insert-in-Err.new.self.items ≡ list.insert files c.in-Err.place c.args.file =
+    c.insert-in-Err.ensures.items ∙ ap (λ b. cond b (list.insert files c.in-Err.place c.args.file) files) (c.is_err.ensures.negation ∙ ap not c.if-is_err.false) in
+    subst (λ fs. IsIndexed users fs c.insert.new.self.numbers) (sym items)
+    (indexed_new users files c.in-Err.place c.args.file c.self.inside.index.numbers c.insert.new.self.numbers c.self.invariant (subst (IsRecords users) (with_new c.args.file files c.in-Err.place fits) rules)
+    (c.insert.ensures.numbers ∙ ap (λ f. insert c.self.inside.index.numbers f c.args.file.number) (c.full_of-full.ensures ∙ ap (λ us. full_of us c.args.file) c.as_slice.ensures.value)))
+
+pub returns-else-is_err-clause-files : goal.returns-else-is_err-clause-files
+returns-else-is_err-clause-files c =
+    let files = c.self.inside.files.items in
+    let fits : FitsAt files c.args.file.number c.in-Err.place = subst (λ fs. FitsAt fs c.args.file.number c.in-Err.place) c.as_slice-2.ensures.value c.in-Err.ensures.absent in
+    c.insert-in-Err.ensures.items ∙ ap (λ b. cond b (list.insert files c.in-Err.place c.args.file) files) (c.is_err.ensures.negation ∙ ap not c.if-is_err.false)
+    ∙ sym (with_new c.args.file files c.in-Err.place fits) ∙ ap (λ s. with_file c.args.file s.files) c.self.view_is
+
+pub returns-else-is_err-clause-same_name : goal.returns-else-is_err-clause-same_name
+returns-else-is_err-clause-same_name c = λ e.
+    let fits : FitsAt c.args.self.now.files c.args.file.number c.in-Err.place =
+    subst (λ fs. FitsAt fs c.args.file.number c.in-Err.place) (c.as_slice-2.ensures.value ∙ ap (λ s. s.files) c.self.view_is) c.in-Err.ensures.absent in
+    absurd (named_fits c.args.self.now.users c.args.self.now.files (subst (λ s. IsRecords s.users s.files) c.self.view_is c.self.invariant.records) c.args.file.number (full_of c.args.self.now.users c.args.file) c.in-Err.place e fits)
+
+pub returns-else-is_err-clause-tree : goal.returns-else-is_err-clause-tree
+returns-else-is_err-clause-tree c = λ bytes next.
+    let users = c.args.self.now.users in
+    let files = c.args.self.now.files in
+    let is : IsRecords users files = subst (λ s. IsRecords s.users s.files) c.self.view_is c.self.invariant.records in
+    let fits : FitsAt files c.args.file.number c.in-Err.place =
+    subst (λ fs. FitsAt fs c.args.file.number c.in-Err.place) (c.as_slice-2.ensures.value ∙ ap (λ s. s.files) c.self.view_is) c.in-Err.ensures.absent in
+    let items : c.insert-in-Err.new.self.items ≡ list.insert files c.in-Err.place c.args.file =
+    c.insert-in-Err.ensures.items ∙ ap (λ b. cond b (list.insert c.self.inside.files.items c.in-Err.place c.args.file) c.self.inside.files.items) (c.is_err.ensures.negation ∙ ap not c.if-is_err.false)
+    ∙ ap (λ s. list.insert s.files c.in-Err.place c.args.file) c.self.view_is in
+    (λ i. tree_of ((c.self.view_is i).users) (items i) bytes next)
+    ∙ tree_new users bytes next files c.in-Err.place c.args.file is fits (subst (IsRecords users) (with_new c.args.file files c.in-Err.place fits) c.requires.rules)

@@ -1,0 +1,6 @@
+-- Users and files as numbered records, and the tree by names that they stand for.
+pub mod Records
+pub mod State
+pub mod Codes
+pub mod Places
+pub mod Answers

@@ -1,0 +1,72 @@
+-- From numbered records to the tree by names.
+use Rattle.std.specs.Prelude.{◌≡◌, ℕ, [], ◌∷◌, List, map, length, All, Contains, Option, slice_index_or}
+use Rattle.std.specs.Option.{option_map}
+use Rattle.std.specs.Ordering.{nat_cmp}
+use Rattle.std.specs.FinMap.{FinMap, get, from_entries}
+use Rattle.g_name.specs.declared.full.Full.{Full}
+use Rattle.g_name.specs.Order.{text_cmp, full_cmp}
+use Rattle.g_trap.specs.TrapList.{TrapList}
+use Rattle.g_entry.specs.declared.format.Format.TheVariants.{Two}
+use Rattle.g_entry.specs.declared.user_rec.UserRec.{UserRec}
+use Rattle.g_entry.specs.declared.file_rec.FileRec.{FileRec}
+use Rattle.g_entry.specs.UserFields.{IsUser}
+use Rattle.g_entry.specs.FileFields.{IsFile}
+use Rattle.g_entry.specs.Rules.{AreUsers, AreNumbered, AreFiles}
+use Rattle.g_plain.specs.PlainTree.{UserRow, FileRow, Tree}
+
+-- THE RULES OF RECORDS: those of each record, and those among records that concern neither the next stamp nor the disc
+pub record IsRecords (users : List UserRec) (files : List FileRec) : Type 0 where
+  pub each_user : All (IsUser Two) users
+  pub among_users : AreUsers users
+  pub each_file : All IsFile files
+  pub numbers : AreNumbered files
+  pub among_files : AreFiles (length users) files
+
+-- the name of the user of a number, empty where there is none
+abbrev pub name_of : List UserRec → ℕ → List ℕ
+name_of users number = slice_index_or (map (λ u. u.user) users) number []
+
+-- the full name of a file
+abbrev pub full_of : List UserRec → FileRec → Full
+full_of users r = record { user = name_of users r.owner; local = r.local; generation = r.generation; lang = r.lang }
+
+-- a file's traps by the names of users, the owner among them
+abbrev pub traps_named : List UserRec → ℕ → TrapList → FinMap text_cmp ℕ
+traps_named users owner traps = from_entries ((name_of users owner, traps.owner) ∷ map (λ pair. (name_of users pair.0, pair.1)) traps.others)
+
+-- the row of a user, and that of a file with these bytes
+abbrev pub user_row_of : List UserRec → UserRec → UserRow
+user_row_of users u = record { superior = name_of users u.superior; space = u.space; time = u.time; money = u.money }
+
+abbrev pub file_row_of : List UserRec → (FileRec → List ℕ) → FileRec → FileRow
+file_row_of users bytes r = record { traps = traps_named users r.owner r.traps; bytes = bytes r; stamp = r.stamp }
+
+-- THE TREE that records stand for, where each file has these bytes
+abbrev pub tree_of : List UserRec → List FileRec → (FileRec → List ℕ) → ℕ → Tree
+tree_of users files bytes next = record {
+  users = from_entries (map (λ u. (u.user, user_row_of users u)) users);
+  files = from_entries (map (λ r. (full_of users r, file_row_of users bytes r)) files);
+  next = next;
+}
+
+-- each file has as many bytes as its record says
+abbrev pub HasLengths : List FileRec → (FileRec → List ℕ) → Type 0
+HasLengths files bytes = (r : FileRec) → Contains files r → length (bytes r) ≡ r.len
+
+-- what is so of the tree, whatever the bytes and the next stamp are
+abbrev pub ForTree : List UserRec → List FileRec → (Tree → Type 0) → Type 0
+ForTree users files P = (bytes : FileRec → List ℕ) (next : ℕ) → P (tree_of users files bytes next)
+
+-- the records of users and of files by name, and those of files by number
+abbrev pub users_by_name : List UserRec → FinMap text_cmp UserRec
+users_by_name users = from_entries (map (λ u. (u.user, u)) users)
+
+abbrev pub by_name : List UserRec → List FileRec → FinMap full_cmp FileRec
+by_name users files = from_entries (map (λ r. (full_of users r, r)) files)
+
+abbrev pub by_number : List FileRec → FinMap nat_cmp FileRec
+by_number files = from_entries (map (λ r. (r.number, r)) files)
+
+-- the number of the file of a full name
+abbrev pub number_of : List UserRec → List FileRec → Full → Option ℕ
+number_of users files full = option_map (λ r. r.number) (get (by_name users files) full)

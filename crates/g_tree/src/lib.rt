@@ -1,0 +1,18 @@
+//! The users and files of a filestore in memory, as numbered records without bytes. Its calls are
+//! those of the plain directory tree that the records stand for.
+#![tactic(auto)]
+
+mod index;
+mod laws;
+mod number_list;
+mod output;
+mod scan;
+mod sorted;
+#[cfg(test)]
+mod tests;
+mod tree;
+
+pub use laws::{records_make_a_tree, rows_are_of_records, traps_go_by_name};
+pub use number_list::NumberList;
+pub use output::Output;
+pub use tree::Tree;

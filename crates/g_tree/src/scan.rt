@@ -1,0 +1,100 @@
+//! What is read off the records of users and files, one after another.
+ghost use Rattle.std.specs.Prelude.{◌≡◌, ◌<◌, ◌≤◌, ◌*◌, ◌==◌, ◌&&◌, map, filter, sum_by, length, All, IfOk, IfErr, if◌then◌else◌};
+ghost use Rattle.std.specs.FinMap as finmap;
+ghost use Rattle.g_base.specs.Block.{blocks_for};
+ghost use Rattle.g_name.specs.Order.{full_cmp};
+ghost use Rattle.g_plain.specs.PlainTree.{is_version_of};
+ghost use Rattle.g_entry.specs.Rules.{AreNumbered};
+ghost use Rattle.g_tree.specs.Records.{full_of};
+ghost use Rattle.g_tree.specs.Places.{StandsAt, FitsAt};
+ghost use Rattle.g_tree.specs.Answers.{newest_of};
+
+use crate::sorted::Sorted;
+use g_base::{NoMemory, blocks_for};
+use g_entry::{FileRec, UserRec};
+use g_name::Full;
+use std::alloc::Global;
+
+/// The full name of a file whose owner is there.
+pub fn full_of(users: &[UserRec], file: &FileRec) -> Full
+    requires { file.now.owner < length users.now }
+    ensures { result ≡ full_of users.now file.now }
+{
+    Full {
+        user: users[file.owner as usize].user.copy(),
+        local: file.local.copy(),
+        generation: file.generation,
+        lang: file.lang.copy(),
+    }
+}
+
+/// Where the file of a number stands among files in order of number, or where it would stand.
+pub fn place_of(files: &[FileRec], number: u16) -> Result<usize, usize>
+    requires { AreNumbered files.now }
+    ensures found { IfOk result (StandsAt files.now number) }
+    ensures absent { IfErr result (FitsAt files.now number) }
+{
+    files.binary_search_by_key(&number, |file| file.number)
+}
+
+/// Whether a file whose owner is there has this full name, but for the generation.
+fn is_version_of(users: &[UserRec], name: &Full, file: &FileRec) -> bool
+    requires { file.now.owner < length users.now }
+    ensures { result ≡ is_version_of name.now (full_of users.now file.now) }
+{
+    name.user == users[file.owner as usize].user
+        && name.local == file.local
+        && name.lang == file.lang
+}
+
+/// The greatest generation of the files of this user, local name and language, or 0.
+pub fn newest_of(users: &[UserRec], name: &Full, files: &[FileRec]) -> u16
+    requires { All (λ r. r.owner < length users.now) files.now }
+    ensures { result ≡ newest_of users.now name.now files.now }
+{
+    let mut newest = 0;
+    for file in files {
+        if is_version_of(users, name, file) {
+            newest = newest.max(file.generation);
+        }
+    }
+    newest
+}
+
+/// The blocks of an owner's files.
+pub fn used_by(owner: u8, files: &[FileRec]) -> u32
+    requires few { length files.now ≤ 1024 }
+    requires lengths { All (λ r. r.len ≤ 65536) files.now }
+    ensures used { result ≡ sum_by (λ r. if r.owner == owner then blocks_for r.len else 0) files.now }
+    ensures few { result ≤ 128 * length files.now }
+{
+    let mut used = 0;
+    for file in files {
+        if file.owner == owner {
+            used += blocks_for(file.len);
+        }
+    }
+    used
+}
+
+/// The numbers of an owner's files by full name.
+pub fn sorted_of(
+    alloc: Global,
+    users: &[UserRec],
+    owner: u8,
+    files: &[FileRec],
+) -> Result<Sorted, NoMemory>
+    requires { All (λ r. r.owner < length users.now) files.now }
+    ensures { IfOk result (λ sorted. sorted ≡ finmap.from_entries (map (λ r. (full_of users.now r, r.number)) (filter (λ r. r.owner == owner) files.now))) }
+{
+    let mut sorted = Sorted::new(alloc);
+    let mut left = files.len();
+    while left > 0 {
+        left -= 1;
+        let file = &files[left];
+        if file.owner == owner {
+            sorted.insert(full_of(users, file), file.number)?;
+        }
+    }
+    Ok(sorted)
+}

@@ -1,0 +1,256 @@
+//! The users and files of a filestore, and what is asked of them.
+ghost use Rattle.std.specs.Prelude.{◌≡◌, ℕ, ◌≤◌, ◌*◌, List, IfOk, IfSome, IfNone, is_some, slice_get, []};
+ghost use Rattle.std.specs.Option.{option_copied};
+ghost use Rattle.std.specs.FinMap as finmap;
+ghost use Rattle.g_plain.specs.PlainTree as tree;
+ghost use Rattle.g_tree.specs.Records.{IsRecords, ForTree, HasLengths, name_of, tree_of, users_by_name, by_number, number_of};
+ghost use Rattle.g_tree.specs.State.{first_users};
+ghost use Rattle.g_tree.specs.Answers.{IsOutput, IsFileOrNew, newest_of, listed};
+
+mod changes;
+
+use crate::index::Index;
+use crate::scan::{newest_of, place_of, sorted_of, used_by};
+use crate::{NumberList, Output};
+use g_base::NoMemory;
+use g_entry::{FileRec, UserRec};
+use g_name::{Full, Lang, Path, User};
+use std::alloc::Global;
+use std::marker::Model;
+
+/// Users in order of number, at most 63, and files in order of number, at most 1,024. A user's number is the place
+/// among users; the first two are `MASTER` and `MACROS`. Contracts see the records, and beside them how many more
+/// users and files fit without taking memory. The rules of records are those of docs/FORMATS.md.
+#[derive(Drop)]
+pub struct Tree {
+    users: Vec<UserRec>,
+    files: Vec<FileRec>,
+    index: Index,
+}
+
+impl Model for Tree {
+    ghost use Rattle.std.specs.Prelude.{◌-◌, min, vec_len};
+    ghost use Rattle.std.specs.Vec.{vec_capacity};
+    ghost use Rattle.g_tree.specs.State.{TreeState, IsIndexed};
+
+    ghost Value = { TreeState };
+
+    ghost view = { λ t. record {
+      users = t.users.items;
+      files = t.files.items;
+      spare = min (vec_capacity t.users - vec_len t.users) (min (vec_capacity t.files - vec_len t.files) t.index.spare);
+    } };
+
+    ghost invariant = { λ t. IsIndexed t.users.items t.files.items t.index.numbers };
+}
+
+impl Tree {
+    /// The users of a new filestore, and no file.
+    pub fn new(alloc: Global) -> Result<Tree, NoMemory>
+        ensures users { IfOk result (λ t. t.users ≡ first_users) }
+        ensures files { IfOk result (λ t. t.files ≡ []) }
+        ensures tree { IfOk result (λ t. (bytes : FileRec → List ℕ) → tree_of t.users t.files bytes 1 ≡ tree.formatted) }
+    {
+        let mut users = Vec::new(alloc);
+        users.push(first_user(0, User::master()))?;
+        users.push(first_user(1, User::macros()))?;
+        Ok(Tree {
+            users,
+            files: Vec::new(alloc),
+            index: Index::new(alloc),
+        })
+    }
+
+    /// The record of the user of this name.
+    pub fn user(&self, name: &User) -> Option<UserRec>
+        ensures value { result ≡ finmap.get (users_by_name self.now.users) name.now }
+        ensures there { ForTree self.now.users self.now.files (λ t. is_some result ≡ tree.has_user t name.now) }
+    {
+        for user in &self.users {
+            if user.user == *name {
+                return Some(user.copy());
+            }
+        }
+        None
+    }
+
+    /// The record of the user of this number.
+    pub fn user_at(&self, number: u8) -> Option<UserRec>
+        ensures value { result ≡ slice_get self.now.users number }
+        ensures records { IsRecords self.now.users self.now.files }
+    {
+        match self.users.get(number as usize) {
+            Some(user) => Some(user.copy()),
+            None => None,
+        }
+    }
+
+    /// The record of the file of this number.
+    pub fn file_at(&self, number: u16) -> Option<&FileRec>
+        ensures value { option_copied result ≡ finmap.get (by_number self.now.files) number }
+        ensures records { IsRecords self.now.users self.now.files }
+    {
+        match place_of(self.files.as_slice(), number) {
+            Ok(place) => Some(&self.files[place]),
+            Err(_) => None,
+        }
+    }
+
+    /// All users in order of number.
+    pub fn users(&self) -> &[UserRec]
+        ensures value { result.now ≡ self.now.users }
+        ensures records { IsRecords self.now.users self.now.files }
+    {
+        self.users.as_slice()
+    }
+
+    /// All files in order of number.
+    pub fn files(&self) -> &[FileRec]
+        ensures value { result.now ≡ self.now.files }
+        ensures records { IsRecords self.now.users self.now.files }
+    {
+        self.files.as_slice()
+    }
+
+    /// The number of the file that a path names for input, where an absent user is the owner of this number.
+    /// None also where there is no such user.
+    pub fn find(&self, owner: u8, path: &Path) -> Option<u16>
+        ensures number { ForTree self.now.users self.now.files (λ t. result ≡ number_of self.now.users self.now.files (tree.input_name t (name_of self.now.users owner) path.now)) }
+        ensures there { ForTree self.now.users self.now.files (λ t. is_some result ≡ tree.has_file t (tree.input_name t (name_of self.now.users owner) path.now)) }
+    {
+        match self.input_name(owner, path) {
+            Some(full) => self.index.find(&full),
+            None => None,
+        }
+    }
+
+    /// What a path names for output, where an absent user is the owner of this number. Where there is no such user
+    /// no file is there, so this is the first generation, or the one that is given.
+    pub fn output(&self, owner: u8, path: &Path) -> Output
+        ensures { ForTree self.now.users self.now.files (λ t. IsOutput self.now.users self.now.files (name_of self.now.users owner) path.now t result) }
+    {
+        let Some(full) = self.named(owner, path) else {
+            let generation = path.generation.unwrap_or(1);
+            return Output::Fresh { generation };
+        };
+        match path.generation {
+            Some(generation) => self.output_of(Full { generation, ..full }),
+            None => {
+                let newest = self.newest(&full);
+                if newest == 4095 {
+                    return Output::NoGeneration;
+                }
+                self.output_of(Full {
+                    generation: newest + 1,
+                    ..full
+                })
+            }
+        }
+    }
+
+    /// The blocks of 512 bytes of the files of the owner of this number.
+    pub fn used(&self, owner: u8) -> u32
+        ensures used { (bytes : FileRec → List ℕ) (next : ℕ) → HasLengths self.now.files bytes
+            → result ≡ tree.used_blocks (tree_of self.now.users self.now.files bytes next) (name_of self.now.users owner) }
+        ensures few { result ≤ 131072 }
+    {
+        used_by(owner, self.files.as_slice())
+    }
+
+    /// The numbers of the files of the owner of this number, in full-name order.
+    pub fn listing(&self, alloc: Global, owner: u8) -> Result<NumberList, NoMemory>
+        ensures { IfOk result (λ list. ForTree self.now.users self.now.files (λ t. list ≡ listed self.now.users self.now.files (name_of self.now.users owner) t)) }
+    {
+        let sorted = sorted_of(alloc, self.users.as_slice(), owner, self.files.as_slice())?;
+        sorted.numbers(alloc)
+    }
+
+    /// The user whom a path names, or the owner of this number. None where a user is wanted whose number isn't used.
+    fn user_of(&self, owner: u8, path: &Path) -> Option<User>
+        ensures some { IfSome result (λ user. user ≡ tree.owner_of (name_of self.now.users owner) path.now) }
+        ensures none { IfNone result (tree.owner_of (name_of self.now.users owner) path.now ≡ []) }
+        ensures records { IsRecords self.now.users self.now.files }
+    {
+        let users = self.users();
+        match &path.user {
+            Some(name) => Some(name.copy()),
+            None => match users.get(owner as usize) {
+                Some(user) => Some(user.user.copy()),
+                None => None,
+            },
+        }
+    }
+
+    /// The full name that a path gives with generation 0.
+    fn named(&self, owner: u8, path: &Path) -> Option<Full>
+        ensures some { IfSome result (λ full. full ≡ tree.named (name_of self.now.users owner) path.now 0) }
+        ensures none { IfNone result (tree.owner_of (name_of self.now.users owner) path.now ≡ []) }
+        ensures records { IsRecords self.now.users self.now.files }
+    {
+        let Some(user) = self.user_of(owner, path) else {
+            return None;
+        };
+        let lang = match &path.lang {
+            Some(lang) => lang.copy(),
+            None => Lang::spaces(),
+        };
+        Some(Full {
+            user,
+            local: path.local.copy(),
+            generation: 0,
+            lang,
+        })
+    }
+
+    /// The full name that a path gives for input.
+    fn input_name(&self, owner: u8, path: &Path) -> Option<Full>
+        ensures some { IfSome result (λ full. ForTree self.now.users self.now.files (λ t. full ≡ tree.input_name t (name_of self.now.users owner) path.now)) }
+        ensures none { IfNone result (tree.owner_of (name_of self.now.users owner) path.now ≡ []) }
+        ensures records { IsRecords self.now.users self.now.files }
+    {
+        let Some(full) = self.named(owner, path) else {
+            return None;
+        };
+        match path.generation {
+            Some(generation) => Some(Full { generation, ..full }),
+            None => {
+                let generation = self.newest(&full);
+                Some(Full { generation, ..full })
+            }
+        }
+    }
+
+    /// The file of this full name, or a new one.
+    fn output_of(&self, full: Full) -> Output
+        ensures { IsFileOrNew self.now.users self.now.files full result }
+    {
+        match self.index.find(&full) {
+            Some(number) => Output::Replace(number),
+            None => Output::Fresh {
+                generation: full.generation,
+            },
+        }
+    }
+
+    /// The greatest generation of the files of this user, local name and language, or 0.
+    fn newest(&self, name: &Full) -> u16
+        ensures newest { result ≡ newest_of self.now.users name.now self.now.files }
+        ensures few { result ≤ 4095 }
+    {
+        newest_of(self.users.as_slice(), name, self.files.as_slice())
+    }
+}
+
+/// A user of a new filestore.
+fn first_user(number: u8, user: User) -> UserRec
+    ensures { result ≡ record { number = number; user = user; superior = 0; space = 65535; time = 1000000; money = 1000000 } }
+{
+    UserRec {
+        number,
+        user,
+        superior: 0,
+        space: 65535,
+        time: 1000000,
+        money: 1000000,
+    }
+}

@@ -1,0 +1,189 @@
+//! Trees from records, and how records change.
+ghost use Rattle.std.specs.Prelude.{◌≡◌, ◌⊎◌, ℕ, ◌+◌, ◌<◌, ◌≤◌, true, List, [], ◌∷◌, ◌++◌, OnOk, OnErr, IfOk, IfSome, IfNone, Some, None, length, map, slice_set, is_some};
+ghost use Rattle.std.specs.FinMap as finmap;
+ghost use Rattle.g_entry.specs.Rules.{AreNumbered};
+ghost use Rattle.g_tree.specs.Records.{IsRecords, name_of, full_of, user_row_of, file_row_of, tree_of, by_number, number_of};
+ghost use Rattle.g_tree.specs.Places.{StandsAt};
+ghost use Rattle.g_tree.specs.State.{with_file, without_file, without_number};
+
+use crate::index::Index;
+use crate::scan::{full_of, place_of};
+use crate::tree::Tree;
+use g_base::NoMemory;
+use g_entry::{FileRec, UserRec};
+use g_name::Full;
+use std::alloc::Global;
+
+impl Tree {
+    /// The tree of these records.
+    pub fn from_records(
+        alloc: Global,
+        users: Vec<UserRec>,
+        files: Vec<FileRec>,
+    ) -> Result<Tree, NoMemory>
+        requires { IsRecords users.items files.items }
+        ensures users { IfOk result (λ t. t.users ≡ users.items) }
+        ensures files { IfOk result (λ t. t.files ≡ files.items) }
+    {
+        let index = index_of(alloc, users.as_slice(), files.as_slice())?;
+        Ok(Tree {
+            users,
+            files,
+            index,
+        })
+    }
+
+    /// Makes room for one user and one file more; without memory nothing changes but that there may be more room.
+    pub fn reserve(&mut self) -> Result<(), NoMemory>
+        ensures users { self.new.users ≡ self.old.users }
+        ensures files { self.new.files ≡ self.old.files }
+        ensures ok { OnOk result (1 ≤ self.new.spare) }
+        ensures spare { self.old.spare ≤ self.new.spare }
+    {
+        self.users.reserve(1)?;
+        self.files.reserve(1)?;
+        self.index.reserve(1)
+    }
+
+    /// Puts a user behind the others, whose number is the least unused one.
+    pub fn add_user(&mut self, user: UserRec)
+        requires room { 1 ≤ self.old.spare }
+        requires rules { IsRecords (self.old.users ++ user ∷ []) self.old.files }
+        ensures users { self.new.users ≡ self.old.users ++ user ∷ [] }
+        ensures files { self.new.files ≡ self.old.files }
+        ensures spare { self.old.spare ≤ self.new.spare + 1 }
+        ensures tree { (bytes : FileRec → List ℕ) (next : ℕ) → let t = tree_of self.old.users self.old.files bytes next in
+            tree_of self.new.users self.new.files bytes next ≡ record t { users = finmap.insert t.users user.user (user_row_of self.old.users user) } }
+    {
+        if self.users.push(user).is_err() {
+            unreachable!()
+        }
+    }
+
+    /// Replaces the user of the same number, who has the same name.
+    pub fn set_user(&mut self, user: UserRec)
+        requires there { user.number < length self.old.users }
+        requires name { name_of self.old.users user.number ≡ user.user }
+        requires rules { IsRecords (slice_set self.old.users user.number user) self.old.files }
+        ensures users { self.new.users ≡ slice_set self.old.users user.number user }
+        ensures files { self.new.files ≡ self.old.files }
+        ensures spare { self.new.spare ≡ self.old.spare }
+        ensures tree { (bytes : FileRec → List ℕ) (next : ℕ) → let t = tree_of self.old.users self.old.files bytes next in
+            tree_of self.new.users self.new.files bytes next ≡ record t { users = finmap.insert t.users user.user (user_row_of self.old.users user) } }
+    {
+        let place = user.number as usize;
+        self.users[place] = user;
+    }
+
+    /// Puts a file in its place in order of number, or in that of the file of the same number.
+    pub fn put(&mut self, file: FileRec)
+        requires room { (1 ≤ self.old.spare) ⊎ (number_of self.old.users self.old.files (full_of self.old.users file) ≡ Some file.number) }
+        requires rules { IsRecords self.old.users (with_file file self.old.files) }
+        ensures users { self.new.users ≡ self.old.users }
+        ensures files { self.new.files ≡ with_file file self.old.files }
+        ensures spare { self.old.spare ≤ self.new.spare + 1 }
+        ensures same_name { number_of self.old.users self.old.files (full_of self.old.users file) ≡ Some file.number → self.new.spare ≡ self.old.spare }
+        ensures tree { (bytes : FileRec → List ℕ) (next : ℕ) → let t = tree_of self.old.users self.old.files bytes next in
+            tree_of self.new.users self.new.files bytes next
+            ≡ record t { files = finmap.insert (without_number self.old.users self.old.files file.number t.files) (full_of self.old.users file) (file_row_of self.old.users bytes file) } }
+    {
+        let full = full_of(self.users.as_slice(), &file);
+        match place_of(self.files.as_slice(), file.number) {
+            Ok(place) => self.replace(place, full, file),
+            Err(place) => {
+                self.index.insert(full, file.number);
+                if self.files.insert(place, file).is_err() {
+                    unreachable!()
+                }
+            }
+        }
+    }
+
+    /// Puts a file in the place of the one of its number, under this full name of it.
+    fn replace(&mut self, place: usize, full: Full, file: FileRec)
+        requires at { StandsAt self.old.files file.number place }
+        requires name { full ≡ full_of self.old.users file }
+        requires room { (1 ≤ self.old.spare) ⊎ (number_of self.old.users self.old.files full ≡ Some file.number) }
+        requires rules { IsRecords self.old.users (slice_set self.old.files place file) }
+        ensures users { self.new.users ≡ self.old.users }
+        ensures files { self.new.files ≡ slice_set self.old.files place file }
+        ensures spare { self.old.spare ≤ self.new.spare + 1 }
+        ensures same_name { number_of self.old.users self.old.files full ≡ Some file.number → self.new.spare ≡ self.old.spare }
+    {
+        let old = full_of(self.users.as_slice(), &self.files[place]);
+        if old != full {
+            self.index.remove(&old);
+            self.index.insert(full, file.number);
+        }
+        self.files[place] = file;
+    }
+
+    /// Takes the file of this number out.
+    pub fn erase(&mut self, number: u16)
+        requires { is_some (finmap.get (by_number self.old.files) number) ≡ true }
+        ensures users { self.new.users ≡ self.old.users }
+        ensures files { self.new.files ≡ without_file number self.old.files }
+        ensures spare { self.old.spare ≤ self.new.spare }
+        ensures tree { (bytes : FileRec → List ℕ) (next : ℕ) → let t = tree_of self.old.users self.old.files bytes next in
+            tree_of self.new.users self.new.files bytes next ≡ record t { files = without_number self.old.users self.old.files number t.files } }
+    {
+        match place_of(self.files.as_slice(), number) {
+            Ok(place) => {
+                let file = self.files.remove(place);
+                self.index.remove(&full_of(self.users.as_slice(), &file));
+            }
+            Err(_) => unreachable!(),
+        }
+    }
+
+    /// The least unused number of a user, where there is one below 63.
+    pub fn free_user(&self) -> Option<u8>
+        ensures some { IfSome result (λ number. (number < 63) × (number ≡ length self.now.users)) }
+        ensures none { IfNone result (length self.now.users ≡ 63) }
+    {
+        if self.users.len() < 63 {
+            Some(self.users.len() as u8)
+        } else {
+            None
+        }
+    }
+
+    /// The least unused number of a file, where there is one below 1,024.
+    pub fn free_file(&self) -> Option<u16>
+        ensures unused { IfSome result (λ number. (number < 1024) × (finmap.get (by_number self.now.files) number ≡ None)) }
+        ensures least { IfSome result (λ number. (lower : ℕ) → lower < number → is_some (finmap.get (by_number self.now.files) lower) ≡ true) }
+        ensures none { IfNone result (length self.now.files ≡ 1024) }
+    {
+        free_in(self.files.as_slice())
+    }
+}
+
+/// The numbers of files by full name, for which there is room.
+fn index_of(alloc: Global, users: &[UserRec], files: &[FileRec]) -> Result<Index, NoMemory>
+    requires { IsRecords users.now files.now }
+    ensures { IfOk result (λ index. index.numbers ≡ finmap.from_entries (map (λ r. (full_of users.now r, r.number)) files.now)) }
+{
+    let mut index = Index::new(alloc);
+    index.reserve(files.len())?;
+    for file in files {
+        index.insert(full_of(users, file), file.number);
+    }
+    Ok(index)
+}
+
+/// The least number that no file has.
+fn free_in(files: &[FileRec]) -> Option<u16>
+    requires { AreNumbered files.now }
+    ensures unused { IfSome result (λ number. (number < 1024) × (finmap.get (by_number files.now) number ≡ None)) }
+    ensures least { IfSome result (λ number. (lower : ℕ) → lower < number → is_some (finmap.get (by_number files.now) lower) ≡ true) }
+    ensures none { IfNone result (length files.now ≡ 1024) }
+{
+    let mut number = 0;
+    for file in files {
+        if file.number != number {
+            return Some(number);
+        }
+        number += 1;
+    }
+    if number < 1024 { Some(number) } else { None }
+}
