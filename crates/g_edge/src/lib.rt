@@ -2,11 +2,17 @@
 #![tactic(auto)]
 
 mod file_disc;
+mod file_reel;
+mod file_tapes;
 mod streams;
+#[cfg(test)]
+mod tests;
 
 ghost use Rattle.std.specs.Prelude.{◌<◌};
 
 use file_disc::{FileDisc, open_image};
+pub use file_reel::FileReel;
+pub use file_tapes::FileTapes;
 use g_run::{Status, george};
 use std::alloc::{AllocError, Global};
 use std::fs::File;

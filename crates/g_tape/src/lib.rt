@@ -9,7 +9,7 @@ mod place;
 mod tapes;
 
 pub use fault::TapeFault;
-pub use leave::TapeLeave;
+pub use leave::{TapeLeave, half_of};
 pub use memory::MemoryTapes;
 pub use tapes::{Tapes, reads_only_read};
 
