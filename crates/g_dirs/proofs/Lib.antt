@@ -7,5 +7,4 @@ pub mod QuietLemmas
 pub mod ReadLemmas
 pub mod RuleLemmas
 pub mod SetLemmas
-pub mod TestLemmas
 pub mod WriteLemmas

@@ -1,17 +1,25 @@
 -- Writes that change nothing of what a disc stands for.
-use Rattle.std.proofs.Common.{◌≡◌, ◌≢◌, ℕ, zero, suc, ◌+◌, ◌-◌, ◌<◌, ◌≤◌, List, [], ◌∷◌, length, get_or, take, drop, refl, sym, ◌∙◌, ap, subst, arith, slice_get, length-set}
-use Rattle.std.specs.Prelude.{All, Contains}
+use Rattle.std.proofs.Common.{◌≡◌, ◌≢◌, ℕ, zero, suc, ◌+◌, ◌-◌, ◌<◌, ◌≤◌, List, [], ◌∷◌, length, get_or, take, drop, Option, Some, refl, sym, ◌∙◌, ap, subst, arith, slice_get, length-set}
+use Rattle.std.specs.Prelude.{All, Contains, ◌%◌, ◌==◌, if◌then◌else◌, unwrap_or}
+use Rattle.std.specs.Option.{ForSome}
 use Rattle.std.proofs.Math.ListN.{set}
-use Rattle.std.proofs.lemmas.List.{drop-set-add, take-set-le, get_or_default}
+use Rattle.std.proofs.lemmas.List.{drop-set-add, take-set-le, get_or-drop, get_or-take, get_or_default, length-drop, length-take, same_lists}
+use Rattle.std.proofs.lemmas.List.Elements.{All-contains}
+use Rattle.std.proofs.lemmas.Option.{unwrap_or-slice_get}
+use Rattle.g_base.specs.Told.{Changes}
+use Rattle.g_base.proofs.ToldLemmas.{told_after}
+use Rattle.g_blocks.specs.Pool.{IsInArea}
 use Rattle.g_copy.proofs.Blocks.{blocks_at-OnlyAt, slice_get-set_other}
-use Rattle.g_copy.specs.Copy.{OnlyAt, bytes_at}
+use Rattle.g_copy.specs.declared.copy.DiscCopy.{DiscCopy}
+use Rattle.g_copy.specs.Copy.{Holds, OnlyAt, bytes_at}
 use Rattle.g_slots.proofs.OneWrite.{gate_side-set, keeps_current}
 use Rattle.g_slots.specs.Commit.{KeepsCurrent}
 use Rattle.g_slots.specs.declared.side.Side.{Side}
 use Rattle.g_slots.specs.declared.side.Side.TheVariants.{A, B}
-use Rattle.g_slots.specs.Layout.{current, gate_side, other, slot, start_of}
+use Rattle.g_slots.specs.Layout.{GateNames, current, gate_side, other, slot, start_of}
 use Rattle.g_dirs.specs.Directory.{Directory, IsDirectory}
 use Rattle.g_dirs.specs.Image.{IsImage, StandsFor}
+use Rattle.g_dirs.specs.Pages.{Remembered, Remembers}
 
 -- WHAT A DISC STANDS FOR is told by its current slot and its size
 pub stands_same : (before after : List (List ℕ)) (d : Directory) → current after ≡ current before → length after ≡ length before → StandsFor before d → StandsFor after d
@@ -63,3 +71,45 @@ quiet_bytes blocks place left places len apart =
     let each : All (λ k. Contains (place ∷ []) k → ⊥) places = λ j d inside among.
     apart (j, inside, get_or_default places j place d inside ∙ sym (alone place (get_or places j d) among)) in
     ap (take len) (blocks_at-OnlyAt (place ∷ []) places blocks (set blocks place left) (one_place blocks place left) each)
+
+start_low : (side : Side) (k : ℕ) → k < 1088 → start_of side + k < 2177
+start_low A k below = omega arith
+start_low B k below = omega arith
+
+-- WHAT IS WRITTEN INTO THE COPY AREA leaves the gate and the slots as they were
+module _ (places : List ℕ) (a b : List (List ℕ)) (only : OnlyAt places a b) (size : ℕ) (area : All (IsInArea size) places) where
+  same_at : (k : ℕ) (d : List ℕ) → k < 2177 → get_or b k d ≡ get_or a k d
+  same_at k d below =
+      let apart : Contains places k → ⊥ = λ is. let low = (All-contains (IsInArea size) places k area is).low in let none : ⊥ = omega arith in none in
+      sym (unwrap_or-slice_get b k d) ∙ ap (λ (o : Option (List ℕ)). unwrap_or o d) (only.others k apart) ∙ unwrap_or-slice_get a k d
+
+  pub gate_kept : gate_side b ≡ gate_side a
+  unfolding gate_side
+  gate_kept = ap (λ (g : List ℕ). if get_or g 0 0 % 2 == 0 then A else B) (same_at 0 [] (omega arith))
+
+  pub slot_kept : (side : Side) → slot side b ≡ slot side a
+  unfolding slot
+  slot_kept side =
+      same_lists (take 1088 (drop (start_of side) b)) (take 1088 (drop (start_of side) a))
+      (let same = only.size in simp (length-take, length-drop) (omega arith))
+      (λ k d within.
+      let below : k < 1088 = omega (arith, length-take 1088 (drop (start_of side) b)) in
+      get_or-take 1088 (drop (start_of side) b) k d below ∙ get_or-drop (start_of side) b k d
+      ∙ same_at (start_of side + k) d (start_low side k below)
+      ∙ sym (get_or-take 1088 (drop (start_of side) a) k d below ∙ get_or-drop (start_of side) a k d))
+
+  pub remembers_kept : (pages : Remembered) → Remembers pages a → Remembers pages b
+  remembers_kept pages was = record {
+    block = λ side k page there. ap (λ (blocks : List (List ℕ)). slice_get blocks k) (slot_kept side) ∙ was.block side k page there;
+  }
+
+  pub stands_beside : (d : Directory) → StandsFor a d → StandsFor b d
+  stands_beside d stands = stands_same a b d (ap (λ (s : Side). slot s b) gate_kept ∙ slot_kept (gate_side a)) only.size stands
+
+-- the same of a disc, by what a copy's write did
+module _ (copy : DiscCopy) (bytes : List ℕ) (before now : Option (List (List ℕ))) (size : ℕ) (area : All (IsInArea size) copy.blocks) (changes : Changes (Holds copy.blocks bytes) before now) where
+  pub gate_after : (side : Side) → GateNames side before → GateNames side now
+  gate_after side names = told_after changes (λ a b told holds. gate_kept copy.blocks a b holds.only size area ∙ names a told)
+
+  pub remembers_after : (pages : Remembered) → ForSome before (Remembers pages) → ForSome now (Remembers pages)
+  remembers_after pages was = told_after changes (λ a b told holds. remembers_kept copy.blocks a b holds.only size area pages (was a told))

@@ -1,13 +1,13 @@
 //! The slot blocks that are remembered from commit to commit, so that no block is written once more as it stands.
-ghost use Rattle.std.specs.Prelude.{◌≡◌, ◌<◌, IfOk, None, replicate};
-ghost use Rattle.g_dirs.specs.Pages.{RemembersPage, is_remembered, nothing, pages_of};
+ghost use Rattle.std.specs.Prelude.{◌≡◌, ◌<◌, IfOk, List, None, replicate, ℕ};
+ghost use Rattle.g_dirs.specs.Pages.{Remembers, RemembersPage, is_remembered, nothing, pages_of};
 
 use g_base::{Block, NoMemory};
 use g_slots::{SLOT_BLOCKS, Side};
 use std::alloc::Global;
 use std::marker::Model;
 
-/// What each of the 1,088 blocks of either slot last held in this session, as far as it is known. Contracts see a list
+/// What each of the 1,088 blocks of either slot last held, as far as it is known. Contracts see a list
 /// for each slot.
 #[derive(Debug, Drop)]
 pub struct Pages {
@@ -29,7 +29,8 @@ impl Model for Pages {
 impl Pages {
     /// Nothing is remembered.
     pub fn new(alloc: Global) -> Result<Pages, NoMemory>
-        ensures { IfOk result (λ pages. pages ≡ nothing) }
+        ensures nothing { IfOk result (λ pages. pages ≡ nothing) }
+        ensures stands { IfOk result (λ pages. (blocks : List (List ℕ)) → Remembers pages blocks) }
     {
         Ok(Pages {
             a: blank(alloc)?,

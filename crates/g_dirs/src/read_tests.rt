@@ -1,5 +1,5 @@
 //! Directories of bytes that were written out by hand, in both formats, and slots that break one rule each.
-use crate::{Dirs, DirsFault, read_dirs};
+use crate::{Dirs, DirsFault, Pages, read_dirs, write_dirs};
 use g_disc::{Disc, MemoryDisc};
 use g_entry::{FileRec, Format, Head, TapeCopy, UserRec};
 use g_name::{Lang, Local, User};
@@ -51,15 +51,16 @@ fn put(
     Ok(())
 }
 
-/// A disc of 2,200 blocks with this first byte of its gate and the directory in the slot that begins at `start`.
+/// A disc of so many blocks, with this first byte of its gate and the directory in the slot that begins at `start`.
 fn laid_out(
     rt: &impl Abort,
     alloc: Global,
+    size: u32,
     gate: u8,
     start: u32,
     format: Format,
 ) -> Result<MemoryDisc, Fail> {
-    let mut disc = MemoryDisc::new(alloc, 2200)?;
+    let mut disc = MemoryDisc::new(alloc, size)?;
     assert!(rt; start < 1090);
     put(rt, &mut disc, 0, 0, &[gate])?;
     put(rt, &mut disc, start, 0, &HEAD)?;
@@ -157,7 +158,7 @@ fn ample(rt: HostRuntime) -> Result<(), Fail> {
         (2, 1, Format::One),
         (255, 1_089, Format::Two),
     ] {
-        let mut disc = laid_out(&rt, rt.alloc(), gate, start, format)?;
+        let mut disc = laid_out(&rt, rt.alloc(), 2200, gate, start, format)?;
         let dirs = read(&rt, rt.alloc(), &mut disc)?;
         let money = match format {
             Format::One => [1_000_000; 2],
@@ -211,7 +212,7 @@ fn each_rule_is_looked_at(rt: HostRuntime) -> Result<(), Fail> {
         ("a head of zeros", 0, 0, &[0; 14]),
     ];
     for (wrong, k, at, bytes) in rows {
-        let mut disc = laid_out(&rt, rt.alloc(), 0, 1, Format::Two)?;
+        let mut disc = laid_out(&rt, rt.alloc(), 2200, 0, 1, Format::Two)?;
         assert!(rt; k < 1_088);
         put(&rt, &mut disc, 1 + k, at, bytes)?;
         let answer = read(&rt, rt.alloc(), &mut disc).err();
@@ -222,7 +223,7 @@ fn each_rule_is_looked_at(rt: HostRuntime) -> Result<(), Fail> {
 
 #[test]
 fn a_failed_read_is_a_read_fault(rt: HostRuntime) -> Result<(), Fail> {
-    let mut disc = laid_out(&rt, rt.alloc(), 0, 1, Format::Two)?;
+    let mut disc = laid_out(&rt, rt.alloc(), 2200, 0, 1, Format::Two)?;
     // After the eight reads that laid it out: the head's fails, then a user's, then a file's.
     disc.fail_reads([10, 40, 1_097].to_vec(rt.alloc())?);
     for fails in [true, true, true, false] {
@@ -234,5 +235,29 @@ fn a_failed_read_is_a_read_fault(rt: HostRuntime) -> Result<(), Fail> {
         };
         assert_eq!(rt; answer, want);
     }
+    Ok(())
+}
+
+#[test]
+fn a_disc_of_70_000_blocks(rt: HostRuntime) -> Result<(), Fail> {
+    let alloc = rt.alloc();
+    let mut disc = laid_out(&rt, alloc, 70_000, 0, 1, Format::Two)?;
+    put(&rt, &mut disc, 65, 61, b"\x01\0\0\x01\x11\x6f")?;
+    assert!(rt; 2177 < disc.size());
+    let mut slots = Slots::find(&mut disc)?;
+    let dirs = read_dirs(alloc, &mut disc, &slots)?;
+    let mut pages = Pages::new(alloc)?;
+    write_dirs(
+        &mut disc,
+        &mut slots,
+        &dirs.head,
+        &dirs.users,
+        &dirs.files,
+        &dirs.online,
+        &mut pages,
+    )?;
+    let again = read_dirs(alloc, &mut disc, &slots)?;
+    assert!(rt; again.files == dirs.files && again.online.len() == 2);
+    assert!(rt; again.online[0].1.blocks.as_slice() == [65_536, 69_999].as_slice());
     Ok(())
 }

@@ -1,22 +1,16 @@
 //! Commits of small directories on a disc in memory, against blocks that were written out by hand.
-ghost use Rattle.std.specs.Prelude.{◌≡◌, ℕ, ◌+◌, All, IfOk, OnOk, Some, length, slice_get};
+ghost use Rattle.std.specs.Prelude.{◌≡◌, ◌+◌, IfOk, OnOk, length};
 ghost use Rattle.std.specs.Option.{ForSome};
-ghost use Rattle.g_copy.specs.declared.copy.DiscCopy.{DiscCopy};
-ghost use Rattle.g_entry.specs.declared.file_rec.FileRec.{FileRec};
-ghost use Rattle.g_entry.specs.FileFields.{IsFile};
-ghost use Rattle.g_entry.specs.HeadFields.{IsHead};
 ghost use Rattle.g_slots.specs.Layout.{GateNames};
 ghost use Rattle.g_dirs.specs.Directory.{AreCopies, AreRecords, IsDirectory, directory_of};
 ghost use Rattle.g_dirs.specs.Pages.{Remembers};
-ghost use Rattle.g_dirs.specs.Parts.{AreInOrder};
 
 use super::*;
-use crate::rules::keeps_rules;
 use g_base::{Block, NoMemory, ReadFailed, WriteFailed};
 use g_blocks::Pool;
 use g_copy::{CopyFault, DiscCopy, store_copy};
 use g_disc::{Disc, Leave, MemoryDisc};
-use g_entry::{FileRec, Format, Head, UserRec, decode_file, decode_head, decode_user, empty_block};
+use g_entry::{Format, empty_block};
 use g_slots::{SLOT_BLOCKS, Side, SlotFault, Slots};
 use std::alloc::Global;
 use std::test::Fail;
@@ -130,81 +124,31 @@ fn slot_block(files: u8, k: u32) -> Block {
     }
 }
 
-/// The directory with so many files, read from the blocks.
+/// The directory with so many files, read from a disc on which its blocks were laid out.
 fn directory(alloc: Global, files: u8) -> Result<Dirs, DirsFault>
     ensures records { IfOk result (λ d. AreRecords Format.Two (directory_of d.head d.users.items d.files.items d.online.items)) }
     ensures rules { IfOk result (λ d. IsDirectory 2181 (directory_of d.head d.users.items d.files.items d.online.items)) }
     ensures copies { IfOk result (λ d. AreCopies d.files.items d.online.items) }
 {
-    let dirs = Dirs {
-        head: head(files)?,
-        users: users(alloc)?,
-        files: some_files(alloc, files)?,
-        online: some_copies(alloc, files)?,
-    };
-    if keeps_rules(alloc, 2181, &dirs)? {
-        Ok(dirs)
-    } else {
-        Err(DirsFault::NoFilestore)
+    let mut disc = laid_out(alloc, files)?;
+    match Slots::find(&mut disc) {
+        Ok(slots) => read_dirs(alloc, &mut disc, &slots),
+        Err(_) => Err(DirsFault::ReadFault),
     }
 }
 
-fn head(files: u8) -> Result<Head, DirsFault>
-    ensures { IfOk result IsHead }
+/// A disc whose first slot is the one with so many files.
+fn laid_out(alloc: Global, files: u8) -> Result<MemoryDisc, DirsFault>
+    ensures { IfOk result (λ disc. disc.disc.size ≡ 2181) }
 {
-    match decode_head(&head_block(files)) {
-        Some(head) => Ok(head),
-        None => Err(DirsFault::NoFilestore),
-    }
-}
-
-fn users(alloc: Global) -> Result<Vec<UserRec>, DirsFault>
-    ensures { IfOk result (λ users. AreInOrder Format.Two users.items) }
-{
-    let mut users = Vec::new(alloc);
-    for number in 0..2 {
-        match decode_user(&user_block(number), number) {
-            Some(user) => match users.push(user) {
-                Ok(()) => {}
-                Err(_) => return Err(DirsFault::NoMemory),
-            },
-            None => return Err(DirsFault::NoFilestore),
+    let mut disc = MemoryDisc::new(alloc, 2181)?;
+    for k in 0..SLOT_BLOCKS {
+        match disc.write(1 + k, &slot_block(files, k)) {
+            Ok(()) => {}
+            Err(_) => return Err(DirsFault::Stopped),
         }
     }
-    Ok(users)
-}
-
-fn some_files(alloc: Global, count: u8) -> Result<Vec<FileRec>, DirsFault>
-    ensures count { IfOk result (λ files. length files.items ≡ count) }
-    ensures numbers { IfOk result (λ files. (k : ℕ) (r : FileRec) → slice_get files.items k ≡ Some r → r.number ≡ k) }
-    ensures limits { IfOk result (λ files. All IsFile files.items) }
-{
-    let mut files = Vec::new(alloc);
-    for number in 0..count {
-        match decode_file(&file_block(number), u16::from(number)) {
-            Some((rec, _)) => match files.push(rec) {
-                Ok(()) => {}
-                Err(_) => return Err(DirsFault::NoMemory),
-            },
-            None => return Err(DirsFault::NoFilestore),
-        }
-    }
-    Ok(files)
-}
-
-fn some_copies(alloc: Global, count: u8) -> Result<Vec<(u16, DiscCopy)>, NoMemory>
-    ensures count { IfOk result (λ online. length online.items ≡ count) }
-    ensures numbers { IfOk result (λ online. (k : ℕ) (c : ℕ × DiscCopy) → slice_get online.items k ≡ Some c → c.0 ≡ k) }
-{
-    let mut online = Vec::new(alloc);
-    for number in 0..count {
-        let copy = DiscCopy {
-            blocks: vec![in alloc; 2177 + u32::from(number)]?.into(),
-            len: 5,
-        };
-        online.push((u16::from(number), copy))?;
-    }
-    Ok(online)
+    Ok(disc)
 }
 
 /// Stores a file's bytes, where they are to be.
@@ -279,6 +223,31 @@ fn stands(disc: &mut Counted, files: u8) -> Result<bool, SlotFault>
     Ok(true)
 }
 
+/// Whether the disc stands for the directory with so many files.
+fn reads_as(alloc: Global, disc: &mut Counted, files: u8) -> Result<bool, DirsFault>
+    requires { disc.old.disc.disc.size ≡ 2181 }
+    ensures { disc.new.disc.disc.size ≡ 2181 }
+{
+    let read = match Slots::find(disc) {
+        Ok(slots) => read_dirs(alloc, disc, &slots)?,
+        Err(_) => return Err(DirsFault::ReadFault),
+    };
+    let want = directory(alloc, files)?;
+    let copies = are_same(&read.online, &want.online);
+    let lists = read.users.as_slice() == want.users.as_slice()
+        && read.files.as_slice() == want.files.as_slice();
+    Ok(read.head == want.head && lists && copies)
+}
+
+fn are_same(copies: &[(u16, DiscCopy)], others: &[(u16, DiscCopy)]) -> bool {
+    copies.len() == others.len()
+        && copies.iter().zip(others).all(|(one, other)| {
+            one.0 == other.0
+                && one.1.len == other.1.len
+                && one.1.blocks.as_slice() == other.1.blocks.as_slice()
+        })
+}
+
 #[test]
 fn ample(rt: HostRuntime) -> Result<(), Fail> {
     let pages = Pages::new(rt.alloc())?;
@@ -344,8 +313,8 @@ fn a_stopped_commit_is_old_or_new(rt: HostRuntime) -> Result<(), Fail> {
         let next = directory(alloc, 1)?;
         let stopped = commit(&mut disc, &mut slots, &next, &mut pages);
         assert_eq!(rt; stopped, Err(DirsFault::Stopped), "at {before}");
-        assert_eq!(rt; stands(&mut disc, 1), Ok(new), "at {before}");
-        assert_eq!(rt; stands(&mut disc, 0), Ok(!new), "at {before}");
+        assert_eq!(rt; reads_as(alloc, &mut disc, 1), Ok(new), "at {before}");
+        assert_eq!(rt; reads_as(alloc, &mut disc, 0), Ok(!new), "at {before}");
     }
     Ok(())
 }

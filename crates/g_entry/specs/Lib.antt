@@ -3,4 +3,3 @@ pub mod Formats
 pub mod HeadFields
 pub mod Rules
 pub mod UserFields
-pub mod Rules

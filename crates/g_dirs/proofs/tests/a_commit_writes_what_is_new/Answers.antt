@@ -1,5 +1,4 @@
 use Rattle.std.proofs.Common.{◌∙◌, sym}
-use Rattle.g_dirs.proofs.PageLemmas.{remembers_nothing}
 use Rattle.g_dirs.proofs.tests.a_commit_writes_what_is_new.Goals as goal
 
 pub loop-files-init : goal.loop-files-init
@@ -7,5 +6,5 @@ loop-files-init g c = record {
   size = c.in_ok-slots.ensures.counts.size ∙ c.in_ok-disc.ensures;
   room = c.in_ok-pool.ensures.ok.whole;
   gate = λ b told. c.in_ok-slots.ensures.ok b (sym c.in_ok-slots.ensures.counts.held ∙ told);
-  remembers = λ b told. remembers_nothing c.in_ok-pages.pages b c.in_ok-pages.ensures;
+  remembers = λ b told. c.in_ok-pages.ensures.stands b;
 }

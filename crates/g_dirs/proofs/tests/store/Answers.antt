@@ -1,4 +1,4 @@
-use Rattle.g_dirs.proofs.TestLemmas.{gate_after, remembers_after}
+use Rattle.g_dirs.proofs.QuietLemmas.{gate_after, remembers_after}
 use Rattle.g_dirs.proofs.tests.store.Goals as goal
 
 pub returns-clause-gate : goal.returns-clause-gate

@@ -1,7 +1,13 @@
-use Rattle.std.proofs.Common.{None, replicate}
-use Rattle.g_dirs.proofs.PageLemmas.{same_pages}
+use Rattle.std.proofs.Common.{◌≡◌, None, replicate}
+use Rattle.g_dirs.specs.Pages.{Remembered, nothing}
+use Rattle.g_dirs.proofs.PageLemmas.{remembers_nothing, same_pages}
 use Rattle.g_dirs.proofs.pages.Pages.new.Goals as goal
 
-pub returns : goal.returns
-returns c =
+pub returns-clause-nothing : goal.returns-clause-nothing
+returns-clause-nothing c =
     same_pages c.in_ok-blank.field-0.items c.in_ok-blank-2.field-0.items (replicate 1088 None) (replicate 1088 None) c.in_ok-blank.ensures c.in_ok-blank-2.ensures
+
+pub returns-clause-stands : goal.returns-clause-stands
+returns-clause-stands c blocks =
+    let is = same_pages c.in_ok-blank.field-0.items c.in_ok-blank-2.field-0.items (replicate 1088 None) (replicate 1088 None) c.in_ok-blank.ensures c.in_ok-blank-2.ensures in
+    remembers_nothing _ blocks is
