@@ -1,7 +1,7 @@
 -- Files in order of number, with their copies in order of number beside them.
-use Rattle.std.proofs.Common.{◌≡◌, ◌≢◌, ◌⊎◌, ⊎_elim, ℕ, zero, suc, ◌+◌, ◌<◌, ◌≤◌, ◌==◌, true, false, Bool, List, [], ◌∷◌, ◌++◌, length, get_or, map, find, drop, take, Option, Some, None, All, AllPairs, refl, sym, ◌∙◌, ap, arith, if◌then◌else◌, option_map, subst, Bor}
+use Rattle.std.proofs.Common.{◌≡◌, ◌≢◌, ⊎_elim, ℕ, zero, suc, ◌+◌, ◌<◌, ◌≤◌, ◌==◌, Bool, List, [], ◌∷◌, ◌++◌, length, get_or, map, find, drop, take, Option, Some, None, All, AllPairs, refl, sym, ◌∙◌, ap, arith, if◌then◌else◌, option_map, subst, Bor}
 use Rattle.std.specs.Prelude.{⊤, Contains, IfNone, IfSome, option_copied}
-use Rattle.std.specs.List.{AllByRecursion, flat_map}
+use Rattle.std.specs.List.{AllByRecursion}
 use Rattle.std.proofs.lemmas.Bool.{ne_eqb, eq-eqb, cases_eq}
 use Rattle.std.proofs.Math.Seq.{drop-cons}
 use Rattle.std.proofs.lemmas.List.{drop-drop, get_or-drop, length-map, take_all}

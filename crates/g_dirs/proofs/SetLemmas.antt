@@ -1,5 +1,5 @@
 -- Sets that were collected from a list, and what their size tells.
-use Rattle.std.proofs.Common.{◌≡◌, ◌≢◌, ◌↔◌, ℕ, ◌<◌, ◌==◌, true, false, Bool, List, [], ◌∷◌, length, subst, get_or, map, AllPairs, refl, sym, ◌∙◌, ap, arith, nat_eq, HashSet}
+use Rattle.std.proofs.Common.{◌≡◌, ◌≢◌, ◌↔◌, ℕ, ◌<◌, true, false, Bool, List, [], ◌∷◌, length, subst, map, AllPairs, refl, sym, ◌∙◌, ap, arith, nat_eq, HashSet}
 use Rattle.std.specs.Prelude.{IsTrue, ◌&&◌}
 use Rattle.std.specs.Bool.{Decides}
 use Rattle.std.specs.Cmp.{IsEquivalence}

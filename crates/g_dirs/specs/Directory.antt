@@ -1,6 +1,6 @@
 -- A directory: what the filestore on a disc says of itself, and the rules that it keeps.
-use Rattle.std.specs.Prelude.{◌≡◌, ◌≢◌, ◌⊎◌, ℕ, ◌<◌, ◌==◌, true, Bool, List, [], ◌++◌, length, map, find, All, AllPairs, Contains, Option, Some, None, IfSome, is_some, option_map}
-use Rattle.std.specs.List.{flat_map, list_all}
+use Rattle.std.specs.Prelude.{◌≡◌, ◌≢◌, ◌⊎◌, ℕ, ◌<◌, ◌==◌, true, List, [], length, map, find, All, AllPairs, Contains, Option, Some, None, IfSome, is_some, option_map}
+use Rattle.std.specs.List.{flat_map}
 use Rattle.g_base.specs.Block.{blocks_for}
 use Rattle.g_blocks.specs.Pool.{IsInArea}
 use Rattle.g_copy.specs.declared.copy.DiscCopy.{DiscCopy}

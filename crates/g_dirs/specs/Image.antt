@@ -1,6 +1,5 @@
 -- How a slot holds a directory, and what a disc stands for.
 use Rattle.std.specs.Prelude.{◌≡◌, ℕ, ◌-◌, ◌<◌, ◌==◌, List, find, length, replicate, Option, Some, None, slice_get, nat_lt, option_map, if◌then◌else◌}
-use Rattle.g_copy.specs.declared.copy.DiscCopy.{DiscCopy}
 use Rattle.g_entry.specs.declared.format.Format.{Format}
 use Rattle.g_entry.specs.declared.user_rec.UserRec.{UserRec}
 use Rattle.g_entry.specs.FileFields.{file_block}

@@ -1,5 +1,5 @@
 -- The parts of a slot: its head, its users and its files.
-use Rattle.std.specs.Prelude.{◌≡◌, ℕ, ◌+◌, ◌<◌, ◌≤◌, List, length, All, Option, Some, slice_get, IfSome, option_map}
+use Rattle.std.specs.Prelude.{◌≡◌, ℕ, ◌+◌, ◌<◌, ◌≤◌, List, length, All, Some, slice_get, IfSome, option_map}
 use Rattle.g_entry.specs.declared.format.Format.{Format}
 use Rattle.g_entry.specs.declared.head.Head.{Head}
 use Rattle.g_entry.specs.declared.user_rec.UserRec.{UserRec}
@@ -7,7 +7,7 @@ use Rattle.g_entry.specs.FileFields.{ArePlaces, IsFile}
 use Rattle.g_entry.specs.HeadFields.{IsHead, head_block}
 use Rattle.g_entry.specs.Rules.{AreNumbered}
 use Rattle.g_entry.specs.UserFields.{IsUser}
-use Rattle.g_dirs.specs.Directory.{Directory, FileEntry, recs}
+use Rattle.g_dirs.specs.Directory.{FileEntry, recs}
 use Rattle.g_dirs.specs.Image.{entry_at, file_or_empty, user_or_empty}
 
 -- the first block is this head's

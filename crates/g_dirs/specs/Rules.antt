@@ -1,5 +1,5 @@
 -- What is known of the records of a slot before the rules among them are looked at, and the rules one by one.
-use Rattle.std.specs.Prelude.{◌≡◌, ◌≢◌, ℕ, ◌<◌, ◌≤◌, ◌==◌, List, ◌∷◌, length, All, AllPairs, None, Some, slice_get, codes, if◌then◌else◌}
+use Rattle.std.specs.Prelude.{◌≡◌, ◌≢◌, ℕ, ◌<◌, ◌≤◌, List, ◌∷◌, length, All, AllPairs, None, Some, slice_get, codes}
 use Rattle.std.specs.List.{flat_map}
 use Rattle.g_blocks.specs.Pool.{IsInArea}
 use Rattle.g_copy.specs.declared.copy.DiscCopy.{DiscCopy}

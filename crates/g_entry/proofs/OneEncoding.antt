@@ -1,6 +1,6 @@
 -- Two records of one block are one record.
-use Rattle.std.proofs.Common.{◌≡◌, ℕ, zero, suc, ◌+◌, ◌-◌, ◌*◌, ◌^◌, ◌<◌, ◌≤◌, true, false, List, [], ◌∷◌, ◌++◌, length, take, Option, Some, None, refl, ap, ◌∙◌, sym, arith, append_assoc, subst, lit<}
-use Rattle.std.specs.Prelude.{replicate, IfSome, codes, nat_lt, ◌&&◌}
+use Rattle.std.proofs.Common.{◌≡◌, ℕ, ◌-◌, ◌*◌, ◌<◌, true, List, [], ◌∷◌, ◌++◌, length, take, Option, Some, None, refl, ap, ◌∙◌, sym, arith, append_assoc, subst}
+use Rattle.std.specs.Prelude.{replicate, IfSome, codes}
 use Rattle.std.specs.List.{flat_map, list_all}
 use Rattle.std.proofs.lemmas.Bool.{and_parts, ltb-true}
 use Rattle.g_base.specs.Fields.{number, padded}
@@ -9,7 +9,7 @@ use Rattle.g_name.specs.Grammar.{is_word, is_lang}
 use Rattle.g_trap.specs.TrapList.{TrapList, IsOthers}
 use Rattle.g_entry.specs.Formats.{format_number, place_width, is_place, IsMoney}
 use Rattle.g_entry.specs.UserFields.{IsUser, money_fields, user_block}
-use Rattle.g_entry.specs.HeadFields.{IsHead, IsIntent, IsSerial, intent_fields, head_block}
+use Rattle.g_entry.specs.HeadFields.{IsHead, IsIntent, intent_fields, head_block}
 use Rattle.g_entry.specs.FileFields.{IsFile, IsCopy, ArePlaces, pair_fields, lang_field, copy_fields, online_fields, file_block}
 use Rattle.g_entry.specs.declared.format.Format.{Format}
 use Rattle.g_entry.specs.declared.format.Format.TheVariants.{One, Two}

@@ -1,4 +1,3 @@
-use Rattle.std.proofs.Common.{rules, ◌≡◌}
 use Rattle.g_dirs.proofs.Parts.{stands_for_one}
 use Rattle.g_dirs.proofs.laws.one_directory.Goals as goal
 

@@ -1,4 +1,3 @@
-use Rattle.std.proofs.Common.{rules, ◌≡◌}
 use Rattle.g_dirs.proofs.QuietLemmas.{quiet_bytes, quiet_copy, quiet_slot}
 use Rattle.g_dirs.proofs.laws.quiet_writes.Goals as goal
 

@@ -1,4 +1,3 @@
-use Rattle.std.proofs.Common.{◌≡◌, ℕ, List}
 use Rattle.std.specs.Cmp.{unsigned_Decides, nat_eq_equiv}
 use Rattle.g_dirs.proofs.SetLemmas.{list_size_tells}
 use Rattle.g_dirs.proofs.rules.numbers_differ.Goals as goal

@@ -1,4 +1,4 @@
-use Rattle.std.proofs.Common.{◌≡◌, arith, refl}
+use Rattle.std.proofs.Common.{arith, refl}
 use Rattle.g_dirs.proofs.RuleLemmas.{places_all, places_more}
 use Rattle.g_dirs.proofs.rules.places_are_kept.Goals as goal
 

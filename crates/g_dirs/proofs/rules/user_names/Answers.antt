@@ -1,10 +1,9 @@
-use Rattle.std.proofs.Common.{rules, tests, ◌≡◌, List, map, nat_eq}
+use Rattle.std.proofs.Common.{rules, tests, nat_eq}
 use Rattle.std.specs.Cmp.Lexicographic.{pointwise}
 use Rattle.std.specs.HashSet as bag
 use Rattle.std.proofs.lemmas.Iterator.{YieldsList-from_map, YieldsList-from_slice}
 use Rattle.std.proofs.lemmas.Iterator.Adapters.{fact_from_collect}
 use Rattle.std.proofs.lemmas.Result.{IfOk-at_ok}
-use Rattle.g_dirs.specs.FileNames.{name_of, same_name}
 use Rattle.g_dirs.proofs.rules.user_names.Goals as goal
 
 pub returns : goal.returns

@@ -1,4 +1,4 @@
-use Rattle.std.proofs.Common.{◌≡◌, ◌≢◌, ◌↔◌, AllPairs, arith}
+use Rattle.std.proofs.Common.{◌≢◌, ◌↔◌, AllPairs, arith}
 use Rattle.std.specs.Prelude.{IsTrue}
 use Rattle.std.proofs.lemmas.Result.{IfOk-weaker}
 use Rattle.g_entry.specs.declared.user_rec.UserRec.{UserRec}

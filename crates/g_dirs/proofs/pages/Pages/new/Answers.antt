@@ -1,5 +1,4 @@
-use Rattle.std.proofs.Common.{◌≡◌, None, replicate}
-use Rattle.g_dirs.specs.Pages.{Remembered, nothing}
+use Rattle.std.proofs.Common.{None, replicate}
 use Rattle.g_dirs.proofs.PageLemmas.{remembers_nothing, same_pages}
 use Rattle.g_dirs.proofs.pages.Pages.new.Goals as goal
 
