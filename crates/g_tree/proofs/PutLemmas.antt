@@ -1,7 +1,6 @@
 -- How a changed record changes the maps that records stand for.
 use Rattle.std.proofs.Common.{◌≡◌, ◌≢◌, ℕ, suc, ◌+◌, ◌<◌, ◌≤◌, Bool, true, false, cond, List, [], ◌∷◌, ◌++◌, length, map, filter, take, drop, nat_lt, get_or, Option, Some, None, refl, sym, ap, subst, ◌∙◌, arith, is_some, true≢false, ◌⊎◌, inl, inr, not}
 use Rattle.std.proofs.Math.ListN.{set}
-use Rattle.std.proofs.Math.Seq.{drop-cons}
 use Rattle.std.specs.List.{All, AllWithin, Contains}
 use Rattle.std.specs.List as list
 use Rattle.std.specs.Ordering.{nat_cmp, eq_by_cmp}
@@ -10,7 +9,7 @@ use Rattle.std.specs.FinMap.{FinMap, get, insert, remove, from_entries, find, ge
 use Rattle.std.proofs.lemmas.Bool.{lt-ltb, le-ltb}
 use Rattle.std.specs.Option.{option_map}
 use Rattle.std.proofs.lemmas.List.{map-append, take-append-drop, length-take-le, length-drop, get_or-take, get_or-drop, get_or_default, set_split, append-nil}
-use Rattle.std.proofs.lemmas.List.Elements.{All-cons, All-nil, All-head, All-tail, All-contains, All-weaker, Contains-append_right, filter-append}
+use Rattle.std.proofs.lemmas.List.Elements.{All-cons, All-nil, All-contains, All-weaker, Contains-append_right, filter-append}
 use Rattle.g_name.specs.declared.full.Full.{Full}
 use Rattle.g_name.specs.Order.{full_cmp, full_eq}
 use Rattle.g_name.proofs.Order.{full_total, full_ties}
@@ -24,29 +23,18 @@ use Rattle.std.proofs.lemmas.Cmp.{nat_cmp_total}
 use Rattle.g_tree.specs.Records.{IsRecords, full_of, file_row_of, tree_of, by_name, by_number, number_of}
 use Rattle.g_tree.specs.State.{IsIndexed, with_file, without_number}
 use Rattle.g_tree.specs.Places.{StandsAt, FitsAt}
-use Rattle.g_tree.proofs.ListLemmas.{pairs_first, pairs_rest, contains_first, filter_none}
+use Rattle.g_tree.proofs.ListLemmas.{pairs_first, pairs_rest, contains_first, filter_none, filter_whole, around}
 use Rattle.g_tree.proofs.MapLemmas.{keyed, AreApart, none_found, found_one, found_itself, find_valued, made_middle, made_without}
 use Rattle.g_tree.proofs.RecordLemmas.{valued, names_apart}
 use Rattle.g_tree.proofs.PlaceLemmas.{numbered_apart, stands_found, fits_none}
 
 module _ {A : Type 0} where
-  -- what a test keeps whole
-  pub filter_whole : (p : A → Bool) (xs : List A) → All (λ x. p x ≡ true) xs → filter p xs ≡ xs
-  filter_whole p [] all = refl
-  filter_whole p (x ∷ xs) all =
-      ap (λ b. cond b (x ∷ filter p xs) (filter p xs)) (All-head (λ y. p y ≡ true) x xs all)
-      ∙ ap (λ ys. x ∷ ys) (filter_whole p xs (All-tail (λ y. p y ≡ true) x xs all))
-
   pub all_before : (P : A → Type 0) (xs : List A) (n : ℕ) → n ≤ length xs → AllWithin P xs 0 n → All P (take n xs)
   all_before P xs n within all =
       λ k d h. let len = length-take-le n xs within in let lower : k < n = omega (arith, len, h) in subst P (sym (get_or-take n xs k d lower)) (all k d (omega arith) lower)
 
   pub all_behind : (P : A → Type 0) (xs : List A) (n : ℕ) → AllWithin P xs n (length xs) → All P (drop n xs)
   all_behind P xs n all = λ k d h. let len = length-drop n xs in subst P (sym (get_or-drop n xs k d)) (all (n + k) d (omega arith) (omega (arith, len, h)))
-
-  -- a list in two parts about the element at a place
-  pub split_at : (xs : List A) (n : ℕ) (d : A) → n < length xs → xs ≡ take n xs ++ get_or xs n d ∷ drop (suc n) xs
-  split_at xs n d within = sym (take-append-drop n xs) ∙ ap (λ ys. take n xs ++ ys) (drop-cons xs n d within)
 
 module _ {A K : Type 0} (key : A → K) where
   pub apart_before : (xs : List A) (r : A) (ys : List A) → AreApart key (xs ++ r ∷ ys) → All (λ x. key r ≢ key x) xs
@@ -103,7 +91,7 @@ module _ (r : FileRec) where
       (λ k d low high. subst (λ n. (get_or files k d).number < n) (at.has d) (is.rising k place d high at.within)) in
       let above : All (λ s. r.number < s.number) (drop (suc place) files) =
       all_behind (λ s. r.number < s.number) files (suc place) (λ k d low high. subst (λ n. n < (get_or files k d).number) (at.has d) (is.rising place k d low high)) in
-      ap (with_file r) (split_at files place r at.within)
+      ap (with_file r) (around files place r at.within)
       ∙ with_parts (take place files) (drop (suc place) files) (old ∷ drop (suc place) files) below
       (ap (λ b. cond b (old ∷ filter is_lower (drop (suc place) files)) (filter is_lower (drop (suc place) files))) (le-ltb old.number r.number (omega (arith, same))) ∙ none_lower (drop (suc place) files) above)
       (ap (λ b. cond b (old ∷ filter is_greater (drop (suc place) files)) (filter is_greater (drop (suc place) files))) (le-ltb r.number old.number (omega (arith, same))) ∙ all_greater (drop (suc place) files) above)
@@ -146,7 +134,7 @@ module _ (users : List UserRec) {X : Type 0} (g : FileRec → X) where
   rows_other files place old r within is apart later =
       let xs = take place files in
       let ys = drop (suc place) files in
-      let parts : files ≡ xs ++ old ∷ ys = split_at files place old within ∙ ap (λ s. xs ++ s ∷ ys) (sym is) in
+      let parts : files ≡ xs ++ old ∷ ys = around files place old within ∙ ap (λ s. xs ++ s ∷ ys) (sym is) in
       let new : set files place r ≡ xs ++ r ∷ ys = set_split files place r within in
       ap rows_of new
       ∙ put_between xs r ys (subst (AreApart (full_of users)) new later)
@@ -158,7 +146,7 @@ module _ (users : List UserRec) {X : Type 0} (g : FileRec → X) where
       let xs = take place files in
       let ys = drop (suc place) files in
       let row : FileRec → Full × X = λ s. (full_of users s, g s) in
-      let parts : files ≡ xs ++ old ∷ ys = split_at files place old within ∙ ap (λ s. xs ++ s ∷ ys) (sym is) in
+      let parts : files ≡ xs ++ old ∷ ys = around files place old within ∙ ap (λ s. xs ++ s ∷ ys) (sym is) in
       ap (λ fs. from_entries {R = full_cmp} (map row fs)) (set_split files place r within) ∙ ap (λ es. from_entries {R = full_cmp} es) (map-append row xs (r ∷ ys))
       ∙ (λ i. from_entries {R = full_cmp} (map row xs ++ (sym named i, sym valued_same i) ∷ map row ys))
       ∙ ap (λ es. from_entries {R = full_cmp} es) (sym (map-append row xs (old ∷ ys))) ∙ ap (λ fs. from_entries {R = full_cmp} (map row fs)) (sym parts)

@@ -18,10 +18,10 @@ use Rattle.g_plain.specs.PlainTree.{UserRow, FileRow, Tree}
 use Rattle.g_plain.proofs.TextMaps.{text_total, text_exact}
 use Rattle.g_tree.specs.Records.{IsRecords, name_of, full_of, traps_named, user_row_of, file_row_of, tree_of}
 use Rattle.g_tree.specs.State.{IsIndexed}
-use Rattle.g_tree.proofs.ListLemmas.{map_of_map}
+use Rattle.g_tree.proofs.ListLemmas.{map_of_map, around}
 use Rattle.g_tree.proofs.MapLemmas.{keyed, with_value, AreApart, none_found, find_valued, made_middle, made_other}
 use Rattle.g_tree.proofs.RecordLemmas.{name_at}
-use Rattle.g_tree.proofs.PutLemmas.{apart_before, split_at}
+use Rattle.g_tree.proofs.PutLemmas.{apart_before}
 
 map_same_on : {A B : Type 0} (f g : A → B) (xs : List A) → All (λ x. f x ≡ g x) xs → map f xs ≡ map g xs
 map_same_on f g [] all = refl
@@ -89,7 +89,7 @@ module _ {X : Type 0} (g : UserRec → X) where
       ap (λ us. from_entries {R = text_cmp} (map row us)) new ∙ ap (λ es. from_entries {R = text_cmp} es) (map-append row xs (u ∷ ys))
       ∙ made_other text_total text_exact (map row xs) (map row ys) u.user (g old) (g u) (unnamed u xs (apart_before (λ v. v.user) xs u ys (subst (AreApart (λ v. v.user)) new apart)))
       ∙ ap (λ k. insert (from_entries {R = text_cmp} (map row xs ++ (k, g old) ∷ map row ys)) u.user (g u)) (sym named_old)
-      ∙ ap (λ es. insert (from_entries {R = text_cmp} es) u.user (g u)) (sym (ap (map row) (split_at users n u within) ∙ map-append row xs (old ∷ ys)))
+      ∙ ap (λ es. insert (from_entries {R = text_cmp} es) u.user (g u)) (sym (ap (map row) (around users n u within) ∙ map-append row xs (old ∷ ys)))
 
   users_more : (users : List UserRec) (u : UserRec) → AreApart (λ v. v.user) (users ++ u ∷ [])
       → from_entries {R = text_cmp} (map (λ v. (v.user, g v)) (users ++ u ∷ [])) ≡ insert (from_entries (map (λ v. (v.user, g v)) users)) u.user (g u)
@@ -119,7 +119,7 @@ module _ (users : List UserRec) (files : List FileRec) (n : ℕ) (u : UserRec) (
 
 -- a user behind the others
 
-superior_there : (us : List UserRec) (n : ℕ) → AreUsers us → 2 ≤ n → length us ≤ n + 1 → All (λ v. v.superior < n) us
+pub superior_there : (us : List UserRec) (n : ℕ) → AreUsers us → 2 ≤ n → length us ≤ n + 1 → All (λ v. v.superior < n) us
 superior_there us n is both few = λ k d within.
     let v = get_or us k d in
     let at = slice_get-get_or us k d within in
