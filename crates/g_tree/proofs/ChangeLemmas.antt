@@ -1,14 +1,13 @@
 -- How records and the tree change together.
-use Rattle.std.proofs.Common.{◌≡◌, ◌≢◌, ℕ, suc, ◌+◌, ◌<◌, ◌≤◌, ◌==◌, Bool, true, false, cond, not, List, [], ◌∷◌, ◌++◌, length, map, filter, take, drop, get_or, Some, None, refl, sym, ap, subst, ◌∙◌, arith}
+use Rattle.std.proofs.Common.{◌≡◌, ◌≢◌, ℕ, suc, ◌+◌, ◌<◌, ◌≤◌, ◌==◌, true, false, cond, not, List, [], ◌∷◌, ◌++◌, length, map, filter, take, drop, get_or, Some, None, sym, ap, subst, ◌∙◌, arith}
 use Rattle.std.specs.List.{All, remove as remove_at}
-use Rattle.std.proofs.Math.Seq.{drop-cons}
 use Rattle.std.proofs.lemmas.Bool.Decides.{nat_tests}
 use Rattle.std.proofs.lemmas.List.Edits.{length-remove}
-use Rattle.std.proofs.lemmas.List.Elements.{All-head, All-tail, All-append, All-take, All-drop, filter-append}
+use Rattle.std.proofs.lemmas.List.Elements.{All-append, All-take, All-drop, filter-append}
 use Rattle.std.proofs.lemmas.List.Quantifiers.{all_pairs_remove}
 use Rattle.std.specs.FinMap.{FinMap, insert, remove, find, from_entries, from_entries_push}
 use Rattle.std.specs.Option.{option_map}
-use Rattle.std.proofs.lemmas.List.{map_more, map-append, length-take-le, length-drop, get_or-take, get_or-drop, get_or_default, take-append-drop}
+use Rattle.std.proofs.lemmas.List.{map_more, map-append, length-take-le, length-drop, get_or-take, get_or-drop, get_or_default}
 use Rattle.g_name.specs.declared.full.Full.{Full}
 use Rattle.g_name.specs.Order.{full_cmp}
 use Rattle.g_name.proofs.Order.{full_total}
@@ -23,7 +22,7 @@ use Rattle.g_tree.specs.State.{IsIndexed, without_file, without_number}
 use Rattle.g_tree.specs.Places.{StandsAt}
 use Rattle.g_tree.proofs.PlaceLemmas.{numbered_apart, stands_found}
 use Rattle.g_tree.proofs.MapLemmas.{keyed, AreApart, none_found, find_valued, with_value, made_without}
-use Rattle.g_tree.proofs.ListLemmas.{map_of_map}
+use Rattle.g_tree.proofs.ListLemmas.{map_of_map, filter_whole, around}
 use Rattle.g_tree.proofs.RecordLemmas.{names_apart}
 
 -- an element is none of those before it
@@ -68,15 +67,6 @@ behind_none g users files i d is within =
     ∙ find_valued full_cmp g full (keyed (full_of users) (drop (suc i) files))
     ∙ ap (option_map g) (none_found full_total full_exact (full_of users) full (drop (suc i) files) (behind_apart (full_of users) files i d (names_apart users files is) within))
 
--- a list around one of its places
-pub around : {A : Type 0} (xs : List A) (i : ℕ) (d : A) → i < length xs → xs ≡ take i xs ++ get_or xs i d ∷ drop (suc i) xs
-around xs i d within = sym (take-append-drop i xs) ∙ ap (λ ys. take i xs ++ ys) (drop-cons xs i d within)
-
--- what a test keeps whole
-pub keep_all : {A : Type 0} (p : A → Bool) (xs : List A) → All (λ x. p x ≡ true) xs → filter p xs ≡ xs
-keep_all p [] all = refl
-keep_all p (x ∷ xs) all = ap (λ b. cond b (x ∷ filter p xs) (filter p xs)) (All-head (λ y. p y ≡ true) x xs all) ∙ ap (λ ys. x ∷ ys) (keep_all p xs (All-tail (λ y. p y ≡ true) x xs all))
-
 -- a file that is taken out
 
 other_number : (m n : ℕ) → m ≢ n → not (m == n) ≡ true
@@ -115,10 +105,10 @@ module _ (users : List UserRec) (files : List FileRec) (is : IsRecords users fil
         let r = get_or files place d in
         let apart = numbered_apart files is.numbers number in
         let before : filter p (take place files) ≡ take place files =
-        keep_all p (take place files)
+        filter_whole p (take place files)
         (λ k e within. other_number _ number (λ same. before_apart (λ s. s.number) files place d apart at.within k e within (at.has d ∙ sym same))) in
         let behind : filter p (drop (suc place) files) ≡ drop (suc place) files =
-        keep_all p (drop (suc place) files)
+        filter_whole p (drop (suc place) files)
         (λ k e within. other_number _ number (λ same. behind_apart (λ s. s.number) files place d apart at.within k e within (at.has d ∙ sym same))) in
         sym (ap (filter p) (around files place d at.within) ∙ filter-append p (take place files) (r ∷ drop (suc place) files)
         ∙ (λ i. before i ++ cond (same_number r.number number (at.has d) i) (r ∷ filter p (drop (suc place) files)) (filter p (drop (suc place) files)))

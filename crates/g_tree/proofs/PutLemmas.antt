@@ -23,7 +23,7 @@ use Rattle.std.proofs.lemmas.Cmp.{nat_cmp_total}
 use Rattle.g_tree.specs.Records.{IsRecords, full_of, file_row_of, tree_of, by_name, by_number, number_of}
 use Rattle.g_tree.specs.State.{IsIndexed, with_file, without_number}
 use Rattle.g_tree.specs.Places.{StandsAt, FitsAt}
-use Rattle.g_tree.proofs.ListLemmas.{pairs_first, pairs_rest, contains_first, filter_none}
+use Rattle.g_tree.proofs.ListLemmas.{pairs_first, pairs_rest, contains_first, filter_none, filter_whole, around}
 use Rattle.g_tree.proofs.MapLemmas.{keyed, AreApart, none_found, found_one, found_itself, find_valued, made_middle, made_without}
 use Rattle.g_tree.proofs.RecordLemmas.{valued, names_apart}
 use Rattle.g_tree.proofs.ChangeLemmas.{around, keep_all}

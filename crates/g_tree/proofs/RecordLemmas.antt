@@ -29,7 +29,7 @@ use Rattle.g_tree.specs.Answers.{newest_of, listed}
 use Rattle.g_tree.proofs.ListLemmas.{filter_same_on, filter_none, sum_same_on, sum_of_map, greatest, fold_greatest, greatest_of_map, greatest_le, filter_of_map, kept_same_on, map_of_map}
 use Rattle.g_tree.proofs.MapLemmas.{with_value, keyed, AreApart, apart_keyed, none_found, get_valued, entries_valued, entries_kept, entries_permute, greatest_made}
 
-nobody : UserRec
+pub nobody : UserRec
 nobody = record { number = 0; user = []; superior = 0; space = 0; time = 0; money = 0 }
 
 -- the names of users

@@ -1,6 +1,6 @@
 -- Records that keep their rules stand for a tree that keeps its own.
-use Rattle.std.proofs.Common.{◌≡◌, ℕ, suc, ◌^◌, ◌<◌, ◌≤◌, ◌==◌, Bool, true, false, cond, not, ◌&&◌, List, [], ◌∷◌, length, map, get_or, Option, Some, None, is_some, refl, sym, ap, subst, ◌∙◌, arith, true≢false, inl, inr}
-use Rattle.std.specs.List.{All, Contains, list_all, slice_get}
+use Rattle.std.proofs.Common.{◌≡◌, ℕ, suc, ◌^◌, ◌<◌, ◌≤◌, ◌==◌, true, false, cond, not, List, [], ◌∷◌, length, map, get_or, Option, Some, None, is_some, refl, sym, ap, subst, ◌∙◌, arith, true≢false}
+use Rattle.std.specs.List.{All, Contains, list_all}
 use Rattle.std.specs.Option.{option_map}
 use Rattle.std.specs.Ordering.{nat_cmp, eq_by_cmp}
 use Rattle.std.specs.FinMap.{get, len, entries, find, get-from_entries, len-entries, nat_cmp-IsAntisymmetric}
@@ -8,8 +8,6 @@ use Rattle.std.proofs.lemmas.Bool.Decides.{nat_tests}
 use Rattle.std.proofs.lemmas.Cmp.{nat_cmp_total}
 use Rattle.std.proofs.lemmas.List.Elements.{All-head, All-tail, All-contains, Contains-get_or}
 use Rattle.std.proofs.lemmas.List.Sorted.{length_permutation}
-use Rattle.std.proofs.lemmas.Option.{slice_get-get_or}
-use Rattle.std.proofs.lemmas.Bool.{cases_lt}
 use Rattle.g_name.specs.declared.full.Full.{Full}
 use Rattle.g_name.specs.Order.{text_cmp, full_cmp}
 use Rattle.g_name.proofs.Order.{full_total}
@@ -24,26 +22,21 @@ use Rattle.g_plain.specs.Rules.{IsUserRow, IsFileRow, IsTree}
 use Rattle.g_plain.proofs.TextMaps.{text_total, text_exact, full_exact}
 use Rattle.g_plain.proofs.Found.{tied_are, apart_is, same_some}
 use Rattle.g_tree.specs.Records.{IsRecords, HasLengths, name_of, full_of, user_row_of, file_row_of, tree_of, users_by_name, by_name, by_number, number_of}
+use Rattle.g_tree.proofs.ListLemmas.{both_true}
+use Rattle.g_tree.proofs.UserLemmas.{superior_there}
 use Rattle.g_tree.proofs.MapLemmas.{with_value, keyed, AreApart, apart_keyed, found_one, found_itself, entries_permute}
-use Rattle.g_tree.proofs.RecordLemmas.{name_at, names_apart, numbers_apart, get_file, get_user, user_entries, user_there, file_entries}
+use Rattle.g_tree.proofs.RecordLemmas.{nobody, name_at, names_apart, numbers_apart, get_file, get_user, user_entries, user_there, file_entries}
 use Rattle.g_tree.proofs.TrapLemmas.{are_trapped, trap_found, trap_count, by_names}
-
-nobody : UserRec
-nobody = record { number = 0; user = []; superior = 0; space = 0; time = 0; money = 0 }
 
 mapped_length : {A B : Type 0} (f : A → B) (xs : List A) → length (map f xs) ≡ length xs
 mapped_length f [] = refl
 mapped_length f (x ∷ xs) = ap suc (mapped_length f xs)
 
-both_true : (a b : Bool) → (a && b) ≡ true → (a ≡ true) × (b ≡ true)
-both_true true b e = (refl, e)
-both_true false b e = absurd (true≢false (sym e))
-
 some_mode : (n : ℕ) → not (n == 0) ≡ true → 0 < n
 some_mode n e = grind (arith, nat_tests)
 
-same_number : (n : ℕ) → (n == n) ≡ true
-same_number n = grind (arith, nat_tests)
+own_number : (n : ℕ) → (n == n) ≡ true
+own_number n = grind (arith, nat_tests)
 
 -- what stands behind a value that was made of another
 made_of : {A B : Type 0} (g : A → B) (o : Option A) (y : B) → option_map g o ≡ Some y → (x : A) × (o ≡ Some x) × (g x ≡ y)
@@ -69,18 +62,9 @@ module _ (users : List UserRec) (files : List FileRec) (bytes : FileRec → List
 
   -- a superior is a user
   superior_below : (u : UserRec) → Contains users u → u.superior < length users
-  superior_below u (i, within, here) =
+  superior_below u there =
       let both = is.among_users.both in
-      let at = slice_get-get_or users i u within ∙ ap Some here in
-      elim (cases_lt i 2) as (λ _. u.superior < length users) [
-        | inl low ↦ elim (cases_lt i 1) as (λ _. u.superior < length users) [
-          | inl first ↦ let zero_is : i ≡ 0 = omega arith in
-              let e = (is.among_users.master u (ap (λ k. slice_get users k) (sym zero_is) ∙ at)).superior in omega (arith, e, both)
-          | inr second ↦ let one_is : i ≡ 1 = omega arith in
-              let e = (is.among_users.macros u (ap (λ k. slice_get users k) (sym one_is) ∙ at)).superior in omega (arith, e, both)
-        ]
-        | inr high ↦ let e = is.among_users.superiors i u high at in omega (arith, e, within)
-      ]
+      All-contains (λ v. v.superior < length users) users u (superior_there users (length users) is.among_users both (omega arith)) there
 
   pub user_found : (name : List ℕ) (row : UserRow) → get (tree_of users files bytes next).users name ≡ Some row → (u : UserRec) × Contains users u × (u.user ≡ name) × (user_row_of users u ≡ row)
   user_found name row e =
@@ -139,7 +123,7 @@ module _ (users : List UserRec) (files : List FileRec) (bytes : FileRec → List
           owner = has_name r.owner trapped.owner_there;
           generation = (file.least_generation, file.most_generation);
           bytes = subst (λ n. n ≤ 65536) (sym same) most;
-          owner_stands = ap is_some (trap_found users r.owner r.traps trapped r.owner trapped.owner_there ∙ ap (λ t. cond t (Some r.traps.owner) (find nat_cmp r.owner r.traps.others)) (same_number r.owner));
+          owner_stands = ap is_some (trap_found users r.owner r.traps trapped r.owner trapped.owner_there ∙ ap (λ t. cond t (Some r.traps.owner) (find nat_cmp r.owner r.traps.others)) (own_number r.owner));
           others = λ user modes got other.
               named_other user modes r.traps.others trapped.others_there file.others.used
               (ap (λ t. cond t (Some r.traps.owner) (find text_cmp user (by_names users r.traps.others))) (sym (apart_is text_total text_exact user (name_of users r.owner) other))

@@ -23,6 +23,7 @@ use Rattle.g_plain.specs.PlainTree.{with_modes}
 use Rattle.g_plain.proofs.TextMaps.{text_total, text_exact}
 use Rattle.g_plain.proofs.Found.{tied_are}
 use Rattle.g_tree.specs.Records.{IsRecords, name_of, traps_named}
+use Rattle.g_tree.proofs.ListLemmas.{both_true}
 use Rattle.g_tree.proofs.MapLemmas.{Apart, entries_permute}
 use Rattle.g_tree.proofs.RecordLemmas.{same_owner, name_apart}
 
@@ -179,10 +180,6 @@ module _ (users : List UserRec) (owner : ℕ) (traps : TrapList) (is : AreTrappe
 
 plus_one : (n : ℕ) → suc (n + 1) ≡ suc n + 1
 plus_one n = omega arith
-
-both_true : (a b : Bool) → (a && b) ≡ true → (a ≡ true) × (b ≡ true)
-both_true true b e = (refl, e)
-both_true false b e = absurd (true≢false (sym e))
 
 lower_none : (r : Ordering) → is_lt r ≡ true → is_eq r ≡ false
 lower_none Less e = refl

@@ -18,10 +18,9 @@ use Rattle.g_plain.specs.PlainTree.{UserRow, FileRow, Tree}
 use Rattle.g_plain.proofs.TextMaps.{text_total, text_exact}
 use Rattle.g_tree.specs.Records.{IsRecords, name_of, full_of, traps_named, user_row_of, file_row_of, tree_of}
 use Rattle.g_tree.specs.State.{IsIndexed}
-use Rattle.g_tree.proofs.ListLemmas.{map_of_map}
+use Rattle.g_tree.proofs.ListLemmas.{map_of_map, around}
 use Rattle.g_tree.proofs.MapLemmas.{keyed, with_value, AreApart, none_found, find_valued, made_middle, made_other}
 use Rattle.g_tree.proofs.RecordLemmas.{name_at}
-use Rattle.g_tree.proofs.ChangeLemmas.{around}
 use Rattle.g_tree.proofs.PutLemmas.{apart_before}
 
 map_same_on : {A B : Type 0} (f g : A → B) (xs : List A) → All (λ x. f x ≡ g x) xs → map f xs ≡ map g xs
@@ -120,7 +119,7 @@ module _ (users : List UserRec) (files : List FileRec) (n : ℕ) (u : UserRec) (
 
 -- a user behind the others
 
-superior_there : (us : List UserRec) (n : ℕ) → AreUsers us → 2 ≤ n → length us ≤ n + 1 → All (λ v. v.superior < n) us
+pub superior_there : (us : List UserRec) (n : ℕ) → AreUsers us → 2 ≤ n → length us ≤ n + 1 → All (λ v. v.superior < n) us
 superior_there us n is both few = λ k d within.
     let v = get_or us k d in
     let at = slice_get-get_or us k d within in
