@@ -1,4 +1,4 @@
--- How a file that is put changes the maps that records stand for.
+-- How a changed record changes the maps that records stand for.
 use Rattle.std.proofs.Common.{◌≡◌, ◌≢◌, ℕ, suc, ◌+◌, ◌<◌, ◌≤◌, Bool, true, false, cond, List, [], ◌∷◌, ◌++◌, length, map, filter, take, drop, nat_lt, get_or, Option, Some, None, refl, sym, ap, subst, ◌∙◌, arith, is_some, true≢false, ◌⊎◌, inl, inr, not}
 use Rattle.std.proofs.Math.ListN.{set}
 use Rattle.std.specs.List.{All, AllWithin, Contains}
@@ -26,7 +26,6 @@ use Rattle.g_tree.specs.Places.{StandsAt, FitsAt}
 use Rattle.g_tree.proofs.ListLemmas.{pairs_first, pairs_rest, contains_first, filter_none, filter_whole, around}
 use Rattle.g_tree.proofs.MapLemmas.{keyed, AreApart, none_found, found_one, found_itself, find_valued, made_middle, made_without}
 use Rattle.g_tree.proofs.RecordLemmas.{valued, names_apart}
-use Rattle.g_tree.proofs.ChangeLemmas.{around, keep_all}
 use Rattle.g_tree.proofs.PlaceLemmas.{numbered_apart, stands_found, fits_none}
 
 module _ {A : Type 0} where
@@ -62,7 +61,7 @@ module _ (r : FileRec) where
   with_parts xs ys zs below none rest =
       let lower : filter is_lower (xs ++ zs) ≡ xs =
       filter-append is_lower xs zs
-      ∙ (λ i. keep_all is_lower xs (All-weaker (λ s. s.number < r.number) (λ s. is_lower s ≡ true) (λ s lt. lt-ltb s.number r.number lt) xs below) i ++ none i) ∙ append-nil xs in
+      ∙ (λ i. filter_whole is_lower xs (All-weaker (λ s. s.number < r.number) (λ s. is_lower s ≡ true) (λ s lt. lt-ltb s.number r.number lt) xs below) i ++ none i) ∙ append-nil xs in
       let greater : filter is_greater (xs ++ zs) ≡ ys =
       filter-append is_greater xs zs
       ∙ (λ i. filter_none is_greater xs (All-weaker (λ s. s.number < r.number) (λ s. is_greater s ≡ false) (λ s lt. le-ltb r.number s.number (omega arith)) xs below) i ++ rest i) in
@@ -72,7 +71,7 @@ module _ (r : FileRec) where
   none_lower ys above = filter_none is_lower ys (All-weaker (λ s. r.number < s.number) (λ s. is_lower s ≡ false) (λ s lt. le-ltb s.number r.number (omega arith)) ys above)
 
   all_greater : (ys : List FileRec) → All (λ s. r.number < s.number) ys → filter is_greater ys ≡ ys
-  all_greater ys above = keep_all is_greater ys (All-weaker (λ s. r.number < s.number) (λ s. is_greater s ≡ true) (λ s lt. lt-ltb r.number s.number lt) ys above)
+  all_greater ys above = filter_whole is_greater ys (All-weaker (λ s. r.number < s.number) (λ s. is_greater s ≡ true) (λ s lt. lt-ltb r.number s.number lt) ys above)
 
   -- where no file has its number
   pub with_new : (files : List FileRec) (place : ℕ) → FitsAt files r.number place → with_file r files ≡ list.insert files place r
