@@ -9,7 +9,7 @@ use Rattle.std.proofs.lemmas.List.Elements.{All-more, recursion_from_All}
 use Rattle.g_copy.specs.declared.copy.DiscCopy.{DiscCopy}
 use Rattle.g_entry.specs.declared.file_rec.FileRec.{FileRec}
 use Rattle.g_entry.specs.Rules.{AreNumbered}
-use Rattle.g_dirs.specs.Directory.{AreCopies, FileEntry, LiesSomewhere, all_places, copy_at, entries_of}
+use Rattle.g_dirs.specs.Directory.{AreCopies, FileEntry, LiesSomewhere, all_places, copy_at, entries_of, recs}
 use Rattle.g_dirs.specs.Rules.{HasNoCopy, numbers_of}
 
 abbrev pub Copies : Type 0
@@ -17,6 +17,11 @@ Copies = List (ℕ × DiscCopy)
 
 abbrev numbers : List FileRec → List ℕ
 numbers files = map (λ r. r.number) files
+
+-- the records of files with their copies
+pub recs-entries : (files : List FileRec) (online : Copies) → recs (entries_of files online) ≡ files
+recs-entries [] online = refl
+recs-entries (r ∷ files) online = ap (λ (rest : List FileRec). r ∷ rest) (recs-entries files online)
 
 -- numbers behind a number
 abbrev pub FilesAbove : ℕ → List FileRec → Type 0

@@ -20,6 +20,7 @@ use Rattle.g_entry.specs.Rules.{AreNumbered}
 use Rattle.g_dirs.specs.Directory.{AreCopies, FileEntry, IsCopyOf, LiesSomewhere, copy_at, directory_of, entries_of, places_of, recs}
 use Rattle.g_dirs.specs.Image.{entry_at, file_or_empty}
 use Rattle.g_dirs.specs.Writing.{AreEncodable, IsCursor, IsEncodable, number_of_copy, number_of_file}
+use Rattle.g_dirs.proofs.CopyLemmas.{recs-entries}
 
 -- the first that passes passes
 find-passes : {X : Type 0} (p : X → Bool) (xs : List X) (x : X) → find p xs ≡ Some x → p x ≡ true
@@ -143,10 +144,6 @@ found_rising number xs k x rising there =
 -- a file with its copy
 abbrev entry_of : List (ℕ × DiscCopy) → FileRec → FileEntry
 entry_of online rec = (rec, copy_at online rec.number)
-
-pub recs-entries : (files : List FileRec) (online : List (ℕ × DiscCopy)) → recs (entries_of files online) ≡ files
-recs-entries [] online = refl
-recs-entries (r ∷ files) online = ap (λ (rest : List FileRec). r ∷ rest) (recs-entries files online)
 
 pub are_encodable : (head : Head) (users : List UserRec) (files : List FileRec) (online : List (ℕ × DiscCopy)) → IsEncodable (directory_of head users files online) → AreEncodable files online
 are_encodable head users files online is =

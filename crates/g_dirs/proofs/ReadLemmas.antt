@@ -28,6 +28,7 @@ use Rattle.g_dirs.specs.Image.{StandsFor, entry_at, file_or_empty, user_or_empty
 use Rattle.g_dirs.specs.Parts.{AreInOrder, HoldsFiles, HoldsHead, HoldsUsers, IsEntry}
 use Rattle.g_dirs.proofs.Parts.{entry_is, files_again, head_again, parts_of_stands, stands_from_parts, users_again}
 use Rattle.g_dirs.specs.Reading.{FileCell, IsFileCell, IsUserCell, TakesFile, TakesUser, copies_in, copies_of, recs_in}
+use Rattle.g_dirs.proofs.CopyLemmas.{recs-entries}
 
 module _ (format : Format) (number : ℕ) (block : List ℕ) where
   pub user_unused : block ≡ replicate 512 0 → IsUserCell format number block None
@@ -257,10 +258,6 @@ entries_kept (r ∷ files) online c below =
     let same : copy_at (online ++ c ∷ []) r.number ≡ copy_at online r.number = copy_at-other online c r.number (omega (arith, first)) in
     rw same (ap (λ (es : List FileEntry). (r, copy_at online r.number) ∷ es) (entries_kept files online c (All-tail (IsBelow c.0) r files below)))
 
-pub recs-entries_of : (files : List FileRec) (online : Copies) → recs (entries_of files online) ≡ files
-recs-entries_of [] online = refl
-recs-entries_of (r ∷ files) online = ap (λ (rs : List FileRec). r ∷ rs) (recs-entries_of files online)
-
 entries_push : (files : List FileRec) (online : Copies) (r : FileRec) → entries_of (files ++ r ∷ []) online ≡ entries_of files online ++ (r, copy_at online r.number) ∷ []
 entries_push files online r = map_push (λ s. (s, copy_at online s.number)) files r
 
@@ -442,7 +439,7 @@ files_numbered format n files online before after most so = record { rising = so
 pub files_all : (format : Format) (n : ℕ) (files : List FileRec) (online : List (ℕ × DiscCopy)) (before after : DiscState) → n ≤ 1024 → 1024 ≤ n → FilesRead format n files online before after
     → ForSome before.held (λ blocks. HoldsFiles format (entries_of files online) (current blocks))
 files_all format n files online before after most least so = λ blocks told. record {
-  numbered = rw (recs-entries_of files online) (files_numbered format n files online before after most so);
+  numbered = rw (recs-entries files online) (files_numbered format n files online before after most so);
   entries = so.entries.good;
   block = λ k below. so.entries.here blocks told k (omega arith);
 }

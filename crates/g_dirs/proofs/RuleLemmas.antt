@@ -10,7 +10,7 @@ use Rattle.g_entry.specs.Rules.{AreFiles, AreNumbered, AreUsers, SameName}
 use Rattle.g_dirs.specs.declared.dirs.Dirs.{Dirs}
 use Rattle.g_dirs.specs.Directory.{IsDirectory, all_places, copy_at, directory_of, entries_of, recs}
 use Rattle.g_dirs.specs.Rules.{AreRead, KeepAll, KeepPlaces, KeepsAlone, KeepsPlace, numbers_of}
-use Rattle.g_dirs.proofs.CopyLemmas.{match_from, places_are}
+use Rattle.g_dirs.proofs.CopyLemmas.{match_from, places_are, recs-entries}
 
 -- one user more keeps its place
 pub places_more : (users : List UserRec) (i : ℕ) (u : UserRec) → i < length users → u ≡ get_or users i u → KeepsPlace i u
@@ -47,10 +47,6 @@ places_of_users users are = record {
   };
 }
 
-recs_are : (files : List FileRec) (f : FileRec → Option DiscCopy) → recs (map (λ r. (r, f r)) files) ≡ files
-recs_are [] f = refl
-recs_are (r ∷ files) f = ap (λ (l : List FileRec). r ∷ l) (recs_are files f)
-
 one_from_alone : (users next : ℕ) (files : List FileRec) → All (KeepsAlone users next) files → (P : FileRec → Type 0) → ((r : FileRec) → KeepsAlone users next r → P r) → All P files
 one_from_alone users next files all P each k d inside = each (get_or files k d) (all k d inside)
 
@@ -71,7 +67,7 @@ pub rules_from : (size : ℕ) (dirs : Dirs) → AreRead dirs → KeepAll size di
 rules_from size dirs read kept =
     let files = dirs.files.items in
     let online = dirs.online.items in
-    let same : recs (entries_of files online) ≡ files = recs_are files (λ r. copy_at online r.number) in
+    let same : recs (entries_of files online) ≡ files = recs-entries files online in
     let places : all_places (entries_of files online) ≡ numbers_of online = places_are files online (match_from files online read.numbered read.copies) in
     record {
       users = kept.users_are;
@@ -88,7 +84,7 @@ pub rules_to : (size : ℕ) (dirs : Dirs) → AreRead dirs → IsDirectory size 
 rules_to size dirs read is =
     let files = dirs.files.items in
     let online = dirs.online.items in
-    let same : recs (entries_of files online) ≡ files = recs_are files (λ r. copy_at online r.number) in
+    let same : recs (entries_of files online) ≡ files = recs-entries files online in
     let places : all_places (entries_of files online) ≡ numbers_of online = places_are files online (match_from files online read.numbered read.copies) in
     let of_files : AreFiles (length dirs.users.items) files = subst (AreFiles (length dirs.users.items)) same is.files in
     let dated : All (λ r. r.stamp < dirs.head.next_stamp) files = subst (λ (l : List FileRec). All (λ r. r.stamp < dirs.head.next_stamp) l) same is.dated in
