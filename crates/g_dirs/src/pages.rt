@@ -7,8 +7,8 @@ use g_slots::{SLOT_BLOCKS, Side};
 use std::alloc::Global;
 use std::marker::Model;
 
-/// What each of the 1,088 blocks of either slot last held, as far as it is known. Contracts see a list
-/// for each slot.
+/// What each of the 1,088 blocks of either slot holds, as far as it is known from the commits since this was made.
+/// Contracts see a list for each slot.
 #[derive(Debug, Drop)]
 pub struct Pages {
     a: Vec<Option<Block>>,
