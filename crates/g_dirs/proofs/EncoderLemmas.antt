@@ -17,7 +17,7 @@ use Rattle.g_entry.specs.declared.user_rec.UserRec.{UserRec}
 use Rattle.g_entry.specs.FileFields.{ArePlaces, IsFile, file_block}
 use Rattle.g_entry.specs.Formats.{is_place}
 use Rattle.g_entry.specs.Rules.{AreNumbered}
-use Rattle.g_dirs.specs.Directory.{AreCopies, FileEntry, IsCopyOf, LiesSomewhere, copy_at, directory_of, entries_of, places_of, recs}
+use Rattle.g_dirs.specs.Directory.{AreCopies, FileEntry, IsCopyOf, LiesSomewhere, copy_at, directory_of, entries_of, places_of}
 use Rattle.g_dirs.specs.Image.{entry_at, file_or_empty}
 use Rattle.g_dirs.specs.Writing.{AreEncodable, IsCursor, IsEncodable, number_of_copy, number_of_file}
 use Rattle.g_dirs.proofs.CopyLemmas.{recs-entries}

@@ -23,7 +23,7 @@ use Rattle.g_entry.specs.Rules.{AreNumbered}
 use Rattle.g_entry.specs.UserFields.{IsUser, user_block}
 use Rattle.g_entry.proofs.OneEncoding.{file_used, user_used}
 use Rattle.g_slots.specs.Layout.{current}
-use Rattle.g_dirs.specs.Directory.{AreCopies, AreRecords, Directory, FileEntry, IsDirectory, all_places, places_of, copy_at, entries_of, recs}
+use Rattle.g_dirs.specs.Directory.{AreCopies, AreRecords, Directory, FileEntry, IsDirectory, all_places, places_of, copy_at, entries_of}
 use Rattle.g_dirs.specs.Image.{StandsFor, entry_at, file_or_empty, user_or_empty}
 use Rattle.g_dirs.specs.Parts.{AreInOrder, HoldsFiles, HoldsHead, HoldsUsers, IsEntry}
 use Rattle.g_dirs.proofs.Parts.{entry_is, files_again, head_again, parts_of_stands, stands_from_parts, users_again}

@@ -1,14 +1,13 @@
 -- The rules of a directory, one by one and together.
-use Rattle.std.proofs.Common.{◌≡◌, ◌≢◌, ⊎_elim, ℕ, ◌+◌, ◌<◌, ◌≤◌, List, [], ◌∷◌, length, get_or, map, Option, Some, All, AllPairs, refl, sym, ◌∙◌, ap, subst, arith, slice_get}
+use Rattle.std.proofs.Common.{◌≡◌, ◌≢◌, ⊎_elim, ℕ, ◌+◌, ◌<◌, ◌≤◌, List, length, get_or, Some, All, AllPairs, refl, sym, ◌∙◌, ap, subst, arith, slice_get}
 use Rattle.std.proofs.lemmas.Bool.{cases_lt}
 use Rattle.std.proofs.lemmas.Option.{get_or_from_slice_get, slice_get_within}
 use Rattle.g_blocks.specs.Pool.{IsInArea}
-use Rattle.g_copy.specs.declared.copy.DiscCopy.{DiscCopy}
 use Rattle.g_entry.specs.declared.file_rec.FileRec.{FileRec}
 use Rattle.g_entry.specs.declared.user_rec.UserRec.{UserRec}
 use Rattle.g_entry.specs.Rules.{AreFiles, AreNumbered, AreUsers, SameName}
 use Rattle.g_dirs.specs.declared.dirs.Dirs.{Dirs}
-use Rattle.g_dirs.specs.Directory.{IsDirectory, all_places, copy_at, directory_of, entries_of, recs}
+use Rattle.g_dirs.specs.Directory.{IsDirectory, all_places, directory_of, entries_of, recs}
 use Rattle.g_dirs.specs.Rules.{AreRead, KeepAll, KeepPlaces, KeepsAlone, KeepsPlace, numbers_of}
 use Rattle.g_dirs.proofs.CopyLemmas.{match_from, places_are, recs-entries}
 

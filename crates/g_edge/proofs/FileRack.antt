@@ -1,12 +1,14 @@
 -- The calls of a rack over files, by what was done to the reel of the serial.
-use Rattle.std.proofs.Common.{◌≡◌, ℕ, ◌<◌, List, Bool, Option, Some, None, Ok, Err, get_or, ap, sym, ◌∙◌, refl, arith}
+use Rattle.std.proofs.Common.{◌≡◌, ℕ, zero, suc, ◌≤◌, List, [], ◌∷◌, false, Option, Some, None, Ok, Err, get_or, ap, subst, sym, ◌∙◌, arith}
+use Rattle.std.specs.Prelude.{All}
+use Rattle.std.specs.List.Sorted.{IsStrictlyIncreasing}
 use Rattle.std.proofs.Math.ListN.{set}
 use Rattle.std.proofs.lemmas.List.{set-get_or}
 use Rattle.g_base.specs.Counts.{one_more}
 use Rattle.g_base.specs.Fuse.{burnt}
 use Rattle.g_tape.specs.declared.fault.TapeFault.TheVariants.{WriteFailed}
-use Rattle.g_tape.specs.Reel.{Reel, Torn, ending, left_by, read_at}
-use Rattle.g_tape.specs.Rack.{Rack, Reading, Writing, changed, refuses_read, refuses_write, with_reel}
+use Rattle.g_tape.specs.Reel.{IsReel, Reel, Torn, ending, left_by, read_at}
+use Rattle.g_tape.specs.Rack.{AreReels, Rack, Reading, Writing, refuses_read, refuses_write, with_reel}
 use Rattle.g_tape.specs.Place.{IsPlaceOf}
 use Rattle.g_tape.proofs.MemoryLemmas.{at-place}
 use Rattle.g_tape.proofs.RackLemmas.{with_reel-place}
@@ -51,3 +53,38 @@ module _ (s k i : ℕ) (old : Rack) (was : Reel) (place : IsPlaceOf s old.reels 
               ∙ ap (λ (f : Option ℕ). let rack : Rack = record old { reels = with_reel s (left_by (Torn left) k) old.reels; write_faults = faults; fuse = f } in rack) burns,
         ),
       )
+
+-- an empty reel of which nothing is told
+abbrev blank : ℕ → Reel
+blank n = record { serial = n; capacity = 3; len = 0; mounted = false; blocks = None; times_read = None }
+
+blank_is : (n : ℕ) → 1 ≤ n → n ≤ 999_999 → IsReel (blank n)
+blank_is n some few = record {
+  numbered = some;
+  numbered_most = few;
+  sized = omega arith;
+  sized_most = omega arith;
+  within = omega arith;
+  told = λ x there. let no : ⊥ = cc in absurd no;
+  whole = λ x there. let no : ⊥ = cc in absurd no;
+  counted = λ x there. let no : ⊥ = cc in absurd no;
+}
+
+-- two of them are a rack
+pub two_reels : (r s : Reel) (reels : List Reel) → r ≡ blank 7 → s ≡ blank 9 → reels ≡ r ∷ s ∷ [] → AreReels reels
+two_reels r s reels one other are =
+    let both : reels ≡ blank 7 ∷ blank 9 ∷ [] = are ∙ ap (λ (x : Reel). x ∷ s ∷ []) one ∙ ap (λ (x : Reel). blank 7 ∷ x ∷ []) other in
+    subst AreReels (sym both) (record {
+      few = omega arith;
+      rising = rises;
+      each = each;
+    })
+  where
+    rises : IsStrictlyIncreasing (7 ∷ 9 ∷ [])
+    rises zero within = omega arith
+    rises (suc k) within = let no : ⊥ = omega (arith, within) in absurd no
+
+    each : All IsReel (blank 7 ∷ blank 9 ∷ [])
+    each zero d within = blank_is 7 (omega arith) (omega arith)
+    each (suc zero) d within = blank_is 9 (omega arith) (omega arith)
+    each (suc (suc k)) d within = let no : ⊥ = omega (arith, within) in absurd no

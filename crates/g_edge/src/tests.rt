@@ -1,4 +1,6 @@
 //! A rack over two files, written and read.
+ghost use Rattle.std.specs.Prelude.{◌≡◌, IfOk, None, false};
+
 use super::*;
 use g_tape::{TapeFault, Tapes};
 use std::fs::{self, OpenFile, OpenOptions};
@@ -6,7 +8,9 @@ use std::process::Abort;
 use std::test::Fail;
 
 /// An empty reel in a file that is made anew.
-fn empty_reel(rt: &HostRuntime, path: &str, serial: u32) -> Result<FileReel, Fail> {
+fn empty_reel(rt: &HostRuntime, path: &str, serial: u32) -> Result<FileReel, Fail>
+    ensures { IfOk result (λ r. r ≡ record { serial = serial; capacity = 3; len = 0; mounted = false; blocks = None; times_read = None }) }
+{
     let mut how = OpenOptions::new();
     how.read(true).write(true).create(true).truncate(true);
     let file = how.open(rt, path)?;

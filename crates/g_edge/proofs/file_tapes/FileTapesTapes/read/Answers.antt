@@ -1,10 +1,9 @@
-use Rattle.std.proofs.Common.{◌≡◌, List, Some, None, true, false, subst, sym, ap, ◌∙◌, refl}
-use Rattle.g_tape.specs.Reel.{Reel, with_mounted}
-use Rattle.g_tape.specs.Rack.{Rack, refuses_mount, refuses_unmount, refuses_read, refuses_write}
+use Rattle.std.proofs.Common.{◌≡◌, List, Some, None, subst, sym, ap, ◌∙◌}
+use Rattle.g_tape.specs.Reel.{Reel}
+use Rattle.g_tape.specs.Rack.{Rack, refuses_read}
 use Rattle.g_tape.specs.Place.{IsPlaceOf}
-use Rattle.g_tape.proofs.MemoryLemmas.{at-place, same-place}
-use Rattle.g_tape.proofs.RackLemmas.{AreReels-set, with_reel-place}
-use Rattle.g_edge.proofs.FileRack.{read_done, write_done, write_failed}
+use Rattle.g_tape.proofs.MemoryLemmas.{same-place}
+use Rattle.g_edge.proofs.FileRack.{read_done}
 use Rattle.g_edge.proofs.file_tapes.FileTapesTapes.read.Goals as goal
 
 pub returns-in-Ok : goal.returns-in-Ok
