@@ -123,6 +123,7 @@ impl Tree {
         requires { is_some (finmap.get (by_number self.old.files) number) ≡ true }
         ensures users { self.new.users ≡ self.old.users }
         ensures files { self.new.files ≡ without_file number self.old.files }
+        ensures records { IsRecords self.new.users self.new.files }
         ensures spare { self.old.spare ≤ self.new.spare }
         ensures tree { (bytes : FileRec → List ℕ) (next : ℕ) → let t = tree_of self.old.users self.old.files bytes next in
             tree_of self.new.users self.new.files bytes next ≡ record t { files = without_number self.old.users self.old.files number t.files } }
