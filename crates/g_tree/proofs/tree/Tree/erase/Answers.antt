@@ -39,4 +39,4 @@ pub returns-clause-records : goal.returns-clause-records
 returns-clause-records c =
     let at : StandsAt c.self.inside.files.items c.args.number c.in-Ok.place = subst (λ fs. StandsAt fs c.args.number c.in-Ok.place) c.as_slice.ensures.value c.in-Ok.ensures.found in
     (erased c.self.inside.users.items c.self.inside.files.items c.self.invariant.records c.args.number c.in-Ok.place at c.remove-file.new.self.items c.remove-file.result c.full_of.result _ _ c.self.invariant.index
-        c.remove-file.ensures.items c.remove-file.ensures.value (c.full_of.ensures ∙ ap (λ us. full_of us c.remove-file.result) c.as_slice-in-Ok.ensures.value) c.remove.ensures.numbers).records
+    c.remove-file.ensures.items c.remove-file.ensures.value (c.full_of.ensures ∙ ap (λ us. full_of us c.remove-file.result) c.as_slice-in-Ok.ensures.value) c.remove.ensures.numbers).records
