@@ -1,4 +1,5 @@
 pub mod BlockLemmas
 pub mod CountLemmas
 pub mod FieldLemmas
+pub mod SetLemmas
 pub mod ToldLemmas

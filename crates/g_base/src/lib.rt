@@ -1,11 +1,15 @@
-//! What all layers share: blocks, counts that stand still at the end of their type, the fuse of a
-//! device, what is told of a device's content, want of memory, and the fields of blocks.
+//! What all layers share: the limits of the filestore, blocks and lists of their numbers, counts that
+//! stand still at the end of their type, the fuse of a device, what is told of a device's content,
+//! want of memory, and the fields of blocks.
 #![tactic(auto)]
 
 mod block;
+mod block_list;
 mod counter;
+mod distinct;
 mod fault;
 mod fuse;
+mod limits;
 mod memory;
 mod reader;
 #[cfg(test)]
@@ -13,9 +17,17 @@ mod tests;
 mod writer;
 
 pub use block::{Block, blocks_for};
+pub use block_list::BlockList;
 pub use counter::raised;
+pub use distinct::are_distinct;
 pub use fault::{ReadFailed, WriteFailed};
 pub use fuse::Fuse;
+pub use limits::{
+    FIRST_COPY_BLOCK, FIRST_FILE_BLOCK, MAX_ALLOWANCE, MAX_BALANCE, MAX_DISC_BLOCKS,
+    MAX_FILE_BLOCKS, MAX_FILE_BYTES, MAX_FILES, MAX_GENERATION, MAX_REELS, MAX_SCRIPT_BYTES,
+    MAX_SERIAL, MAX_SPACE, MAX_TRAPPED, MAX_USERS, SLOT_BLOCKS, STAMP_END,
+    limits_are_those_defined,
+};
 pub use memory::NoMemory;
 pub use reader::BlockReader;
 pub use writer::BlockWriter;

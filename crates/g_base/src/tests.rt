@@ -1,5 +1,20 @@
-//! Blocks of a text, counts and fuses by rows that were worked out by hand.
+//! Blocks of a text, counts and fuses by rows that were worked out by hand, and the calls that may take
+//! memory.
 use super::*;
+use std::test::Fail;
+
+#[test]
+fn ample(rt: HostRuntime) -> Result<(), Fail> {
+    let rows = [(1u8, 2u64), (1, 3), (2, 2)];
+    assert!(rt; !are_distinct(rt.alloc(), &rows, |row| row.0)?);
+    assert!(rt; !are_distinct(rt.alloc(), &rows, |row| row.1)?);
+    assert!(rt; are_distinct(rt.alloc(), &rows, |row| *row)?);
+    let mut places = BlockList::new();
+    places.push(2_177);
+    assert_eq!(rt; places.copy().as_slice(), [2_177].as_slice());
+    assert_eq!(rt; BlockList::from_slice(&[0; 129]), None);
+    Ok(())
+}
 
 #[test]
 fn blocks_of_texts(rt: HostRuntime) {

@@ -1,9 +1,23 @@
 //! Where a text's copy stands.
-use crate::numbers::BlockNumbers;
+ghost use Rattle.std.specs.Prelude.{◌≡◌};
+
+use g_base::BlockList;
 
 /// A text of `len` bytes in the blocks of these numbers, in order; the last block need not be full.
 #[derive(Debug, Drop)]
 pub struct DiscCopy {
-    pub blocks: BlockNumbers,
+    pub blocks: BlockList,
     pub len: u32,
+}
+
+impl DiscCopy {
+    /// The same copy once more, which takes no memory.
+    pub fn copy(&self) -> DiscCopy
+        ensures { result ≡ self.now }
+    {
+        DiscCopy {
+            blocks: self.blocks.copy(),
+            len: self.len,
+        }
+    }
 }

@@ -3,7 +3,6 @@
 
 mod copy;
 mod fault;
-mod numbers;
 mod read;
 mod store;
 #[cfg(test)]
@@ -12,7 +11,6 @@ mod write;
 
 pub use copy::DiscCopy;
 pub use fault::CopyFault;
-pub use numbers::BlockNumbers;
 pub use read::read_copy;
 pub use store::{drop_copy, store_copy};
 pub use write::write_copy;

@@ -1,7 +1,8 @@
 //! Stores a text in free blocks, and gives the blocks of a copy back.
-ghost use Rattle.std.specs.Prelude.{◌≡◌, ◌≢◌, ◌+◌, ◌^◌, ◌<◌, ◌⊎◌, ◌↔◌, All, AllPairs, Err, IfErr, IfOk, IsErr, IsErrOf, length};
-ghost use Rattle.g_base.specs.Block.{blocks_for};
+ghost use Rattle.std.specs.Prelude.{◌≡◌, ◌≢◌, ◌+◌, ◌<◌, ◌≤◌, ◌⊎◌, ◌↔◌, All, AllPairs, Err, IfErr, IfOk, IsErr, IsErrOf, length};
+ghost use Rattle.g_base.specs.Block as block;
 ghost use Rattle.g_base.specs.Counts.{RoseBy};
+ghost use Rattle.g_base.specs.Limits.{max_file_blocks, max_file_bytes};
 ghost use Rattle.g_base.specs.Told.{Changes};
 ghost use Rattle.g_blocks.specs.Pool.{HasGiven, IsTaken, free_count};
 ghost use Rattle.g_disc.specs.Disc.{Causes};
@@ -10,9 +11,9 @@ ghost use Rattle.g_copy.specs.Store.{StopsIn, Takes};
 
 use crate::copy::DiscCopy;
 use crate::fault::CopyFault;
-use crate::numbers::BlockNumbers;
 use crate::write::write_copy;
-use g_blocks::{FIRST_COPY_BLOCK, Pool};
+use g_base::{BlockList, blocks_for};
+use g_blocks::Pool;
 use g_disc::Disc;
 use std::alloc::Global;
 
@@ -26,8 +27,8 @@ pub fn store_copy<D: Disc>(
     bytes: &[u8],
 ) -> Result<DiscCopy, CopyFault>
     requires size { 2177 < (D.state disc.old).size }
-    requires pool { FIRST_COPY_BLOCK + length pool.old ≡ (D.state disc.old).size }
-    requires len { length bytes.now < 2 ^ 32 }
+    requires pool { 2177 + length pool.old ≡ (D.state disc.old).size }
+    requires len { length bytes.now ≤ max_file_bytes }
     ensures len { IfOk result (λ copy. copy.len ≡ length bytes.now) }
     ensures copy { IfOk result (IsCopy (D.state disc.new).size) }
     ensures takes { IfOk result (λ copy. Takes (length bytes.now) copy.blocks pool.old pool.new) }
@@ -37,24 +38,32 @@ pub fn store_copy<D: Disc>(
         RoseBy (length copy.blocks) (D.state disc.old).writes (D.state disc.new).writes) }
 
     // A full disc is told exactly, and before anything is written.
-    ensures full { IsErrOf result (CopyFault.DiscFull (blocks_for (length bytes.now)) (free_count pool.old))
-        ↔ (free_count pool.old < blocks_for (length bytes.now)) }
+    ensures full { IsErrOf result (CopyFault.DiscFull (block.blocks_for (length bytes.now)) (free_count pool.old))
+        ↔ (free_count pool.old < block.blocks_for (length bytes.now)) }
     ensures unchanged { IfErr result (λ e. e ≢ CopyFault.Stopped
         → (D.state disc.new ≡ D.state disc.old) × (pool.new ≡ pool.old)) }
     ensures stopped { result ≡ Err CopyFault.Stopped
         → StopsIn (length bytes.now) pool.old pool.new (D.state disc.old) (D.state disc.new) }
     ensures causes { Causes ⊥ (result ≡ Err CopyFault.Stopped) (D.state disc.old) (D.state disc.new) }
     ensures only { IfErr result (λ e. (e ≡ CopyFault.Stopped) ⊎ (e ≡ CopyFault.NoMemory)
-        ⊎ (e ≡ CopyFault.DiscFull (blocks_for (length bytes.now)) (free_count pool.old))) }
+        ⊎ (e ≡ CopyFault.DiscFull (block.blocks_for (length bytes.now)) (free_count pool.old))) }
 {
     let len = bytes.len() as u32;
-    let blocks = pool.take(alloc, g_base::blocks_for(len))?;
+    let taken = pool.take(alloc, blocks_for(len))?;
     let copy = DiscCopy {
-        blocks: BlockNumbers::from(blocks),
+        blocks: list_of(taken.as_slice()),
         len,
     };
     write_copy(disc, &copy, bytes)?;
     Ok(copy)
+}
+
+/// The list of these numbers.
+fn list_of(numbers: &[u32]) -> BlockList
+    requires { length numbers.now ≤ max_file_blocks }
+    ensures { result ≡ numbers.now }
+{
+    BlockList::from_slice(numbers).unwrap()
 }
 
 /// Gives the blocks of a copy back to the pool.

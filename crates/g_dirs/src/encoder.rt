@@ -7,11 +7,9 @@ ghost use Rattle.g_dirs.specs.Directory.{AreCopies, copy_at, directory_of, entri
 ghost use Rattle.g_dirs.specs.Image.{block_of, entry_at, file_or_empty, user_or_empty};
 ghost use Rattle.g_dirs.specs.Writing.{AreEncodable, IsCursor, IsEncodable, IsEncoding, number_of_copy, number_of_file};
 
-use g_base::Block;
+use g_base::{Block, BlockList};
 use g_copy::DiscCopy;
-use g_entry::{
-    BlockList, FileRec, Format, Head, UserRec, empty_block, encode_file, encode_head, encode_user,
-};
+use g_entry::{FileRec, Format, Head, UserRec, empty_block, encode_file, encode_head, encode_user};
 use std::marker::Model;
 
 /// A directory that is being encoded, with its places in the lists of files and of copies. Contracts see the directory

@@ -14,12 +14,12 @@ ghost use Rattle.g_dirs.specs.Reading.{FileCell, IsFileCell, IsUserCell, TakesFi
 
 use crate::rules::keeps_rules;
 use crate::{Dirs, DirsFault};
-use g_base::{Block, NoMemory};
-use g_copy::{BlockNumbers, DiscCopy};
+use g_base::{Block, BlockList, NoMemory};
+use g_copy::DiscCopy;
 use g_disc::Disc;
 use g_entry::{
-    BlockList, FileRec, Format, Head, UserRec, decode_file, decode_file_1, decode_head,
-    decode_head_1, decode_user, decode_user_1, empty_block,
+    FileRec, Format, Head, UserRec, decode_file, decode_file_1, decode_head, decode_head_1,
+    decode_user, decode_user_1, empty_block,
 };
 use g_slots::Slots;
 use std::alloc::Global;
@@ -196,7 +196,7 @@ fn read_files<D: Disc>(
             Ok(block) => block,
             Err(fault) => return Err(fault),
         };
-        match take_file(alloc, format, &block, number, &mut files, &mut online) {
+        match take_file(format, &block, number, &mut files, &mut online) {
             Ok(()) => {}
             Err(fault) => return Err(fault),
         }
@@ -207,7 +207,6 @@ fn read_files<D: Disc>(
 /// Puts the file of this number behind the others, if its block is that of one, and its copy behind the others where it
 /// is online. `NoFilestore` comes exactly where it is no file's block and not empty.
 fn take_file(
-    alloc: Global,
     format: Format,
     block: &Block,
     number: u16,
@@ -221,7 +220,7 @@ fn take_file(
     match file_in(format, block, number) {
         Ok(None) => Ok(()),
         Ok(Some((rec, places))) => {
-            add_copy(alloc, &rec, places.as_ref(), online)?;
+            add_copy(&rec, places.as_ref(), online)?;
             match files.push(rec) {
                 Ok(()) => Ok(()),
                 Err(_) => Err(DirsFault::NoMemory),
@@ -233,7 +232,6 @@ fn take_file(
 
 /// Puts the copy of a file that is online behind the others.
 fn add_copy(
-    alloc: Global,
     rec: &FileRec,
     places: Option<&BlockList>,
     online: &mut Vec<(u16, DiscCopy)>,
@@ -243,9 +241,8 @@ fn add_copy(
     let Some(places) = places else {
         return Ok(());
     };
-    let blocks = BlockNumbers::from(Vec::from_slice(alloc, places.as_slice())?);
     let copy = DiscCopy {
-        blocks,
+        blocks: places.copy(),
         len: rec.len,
     };
     online.push((rec.number, copy))?;

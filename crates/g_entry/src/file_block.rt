@@ -8,8 +8,8 @@ ghost use Rattle.g_entry.specs.Formats.{is_place};
 
 use crate::put::{put_copy, put_lang, put_online, put_traps, put_word};
 use crate::take::{take_copy, take_lang, take_local, take_places, take_traps};
-use crate::{BlockList, FileRec, Format, TapeCopy};
-use g_base::{Block, BlockReader, BlockWriter, blocks_for};
+use crate::{FileRec, Format, TapeCopy};
+use g_base::{Block, BlockList, BlockReader, BlockWriter, blocks_for};
 use g_trap::{Modes, Traps};
 
 /// The block of a file. `online` are the block numbers of its bytes where the file is online.

@@ -1,7 +1,6 @@
 //! The records of a filestore, each in a block of its own: users, files, and the head of a directory.
 #![tactic(auto)]
 
-mod block_list;
 mod file_block;
 mod file_rec;
 mod format;
@@ -14,7 +13,6 @@ mod tests;
 mod user_block;
 mod user_rec;
 
-pub use block_list::BlockList;
 pub use file_block::{decode_file, decode_file_1, encode_file, encode_file_1};
 pub use file_rec::{FileRec, TapeCopy};
 pub use format::{Format, empty_block};

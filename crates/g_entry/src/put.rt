@@ -8,8 +8,8 @@ ghost use Rattle.g_entry.specs.Formats.{place_width, is_place};
 ghost use Rattle.g_entry.specs.HeadFields.{intent_fields};
 ghost use Rattle.g_entry.specs.UserFields.{money_fields};
 
-use crate::{BlockList, Format, Intent, TapeCopy};
-use g_base::BlockWriter;
+use crate::{Format, Intent, TapeCopy};
+use g_base::{BlockList, BlockWriter};
 use g_name::Lang;
 use g_trap::Traps;
 

@@ -10,9 +10,9 @@ ghost use Rattle.g_entry.specs.Formats.{IsMoney, place_width, is_place};
 ghost use Rattle.g_entry.specs.HeadFields.{IsIntent, intent_fields};
 ghost use Rattle.g_entry.specs.UserFields.{money_fields};
 
-use crate::{BlockList, Format, Intent, TapeCopy};
+use crate::{Format, Intent, TapeCopy};
 use arrayvec::ArrayVec;
-use g_base::{BlockReader, blocks_for};
+use g_base::{BlockList, BlockReader, blocks_for};
 use g_name::{Lang, Local, User};
 use g_trap::{Modes, Traps};
 

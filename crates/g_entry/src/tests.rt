@@ -1,6 +1,6 @@
 //! One record of each kind in each format, against bytes that were written out by hand.
 use super::*;
-use g_base::Block;
+use g_base::{Block, BlockList};
 use g_name::{Lang, Local, User};
 use g_trap::{Modes, Traps};
 use std::test::Fail;
@@ -183,10 +183,6 @@ fn heads(rt: HostRuntime) -> Result<(), Fail> {
 
 #[test]
 fn ample(rt: HostRuntime) -> Result<(), Fail> {
-    let mut places = BlockList::new();
-    places.push(2_177);
-    assert_eq!(rt; places.copy().as_slice(), [2_177].as_slice());
-    assert_eq!(rt; BlockList::from_slice(&[0; 129]), None);
     let user = decode_user(&block_of([&USER, b""]), 3).ok_or("a user")?;
     assert_eq!(rt; user.copy(), user);
     let (file, _online) = decode_file(&block_of([&FILE, b"\x00\x08\x81\x00\x08\x82"]), 6).ok_or(

@@ -160,4 +160,37 @@ impl Program {
         self.go_on();
         Some(Event::Ran)
     }
+
+    /// Asks for a transfer with the control area at the address.
+    pub(crate) fn transfer(&mut self, order: &Order) -> Event
+        ensures { Does (Some result) self.old self.new (effect function.Transfer self.old (fields order.now)) }
+    {
+        let area = self.address(order);
+        self.go_on();
+        Event::Peri { area }
+    }
+
+    /// Halts with the text of the area at the address.
+    #[inline(never)]
+    pub(crate) fn halt(&mut self, order: &Order) -> Option<Event>
+        ensures { Does result self.old self.new (effect function.Halt self.old (fields order.now)) }
+    {
+        self.take_text(order).map(Event::Halted)
+    }
+
+    /// Displays the text of the area at the address.
+    #[inline(never)]
+    pub(crate) fn display(&mut self, order: &Order) -> Option<Event>
+        ensures { Does result self.old self.new (effect function.Display self.old (fields order.now)) }
+    {
+        self.take_text(order).map(Event::Displayed)
+    }
+
+    /// Deletes the program with the text of the area at the address.
+    #[inline(never)]
+    pub(crate) fn delete(&mut self, order: &Order) -> Option<Event>
+        ensures { Does result self.old self.new (effect function.Delete self.old (fields order.now)) }
+    {
+        self.take_text(order).map(Event::Deleted)
+    }
 }

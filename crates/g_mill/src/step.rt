@@ -4,10 +4,10 @@ ghost use Rattle.std.specs.Prelude.{◌≡◌, ◌<◌, Option, Some, None, opti
 ghost use Rattle.g_order.specs.Coding.{fields};
 ghost use Rattle.g_order.specs.Order.{decoded};
 ghost use Rattle.g_mill.specs.Does.{Does};
-ghost use Rattle.g_mill.specs.Effect.{performed, order};
+ghost use Rattle.g_mill.specs.Effect.{effect, performed, order};
 
 use crate::{Event, Program};
-use g_order::{Function, Order, decode};
+use g_order::{Function, Order, read_order};
 use g_word::Word;
 
 impl Program {
@@ -34,17 +34,15 @@ impl Program {
     fn obey(&mut self, word: Word) -> Option<Event>
         ensures { Does result self.old self.new (option_and_then (performed self.old) (decoded word)) }
     {
-        match decode(word) {
-            Ok(order) => self.perform(&order),
-            Err(_illegal) => None,
-        }
+        let (function, order) = read_order(word)?;
+        self.perform(function, &order)
     }
 
-    /// Does an order; `None` where it is illegal.
-    fn perform(&mut self, order: &Order) -> Option<Event>
-        ensures { Does result self.old self.new (performed self.old (fields order.now)) }
+    /// Does what a function makes of an order; `None` where the order is illegal.
+    fn perform(&mut self, function: Function, order: &Order) -> Option<Event>
+        ensures { Does result self.old self.new (effect function self.old (fields order.now)) }
     {
-        match order.function() {
+        match function {
             Function::Load(operation) => self.load(operation, order),
             Function::Store(operation) => self.store(operation, order),
             Function::LoadNumber(operation) => Some(self.load_number(operation, order)),
@@ -62,14 +60,10 @@ impl Program {
                 Some(Event::Ran)
             }
             Function::Move => self.move_words(order),
-            Function::Transfer => {
-                let area = self.address(order);
-                self.go_on();
-                Some(Event::Peri { area })
-            }
-            Function::Halt => self.take_text(order).map(Event::Halted),
-            Function::Display => self.take_text(order).map(Event::Displayed),
-            Function::Delete => self.take_text(order).map(Event::Deleted),
+            Function::Transfer => Some(self.transfer(order)),
+            Function::Halt => self.halt(order),
+            Function::Display => self.display(order),
+            Function::Delete => self.delete(order),
         }
     }
 }

@@ -1,12 +1,15 @@
 //! Full names of files.
 ghost use Rattle.std.specs.Prelude.{◌≡◌, IfOk};
 ghost use Rattle.g_name.specs.Names.{name_text, full_name};
+ghost use Rattle.g_name.specs.Order.{full_cmp};
 
 use crate::{Lang, Local, Text, User};
 use g_base::NoMemory;
 use std::alloc::Global;
+use std::cmp::Ordering;
 
-/// The full name of a file: `:USER.NAME(generation/LANG)`. The order is by user, local name, generation and language.
+/// The full name of a file: `:USER.NAME(generation/LANG)`. The order, that of `compare`, is by user, local name,
+/// generation and language.
 #[derive(Debug, Drop, PartialEq, Eq, PartialOrd, Ord, Hash)]
 pub struct Full {
     pub user: User,
@@ -27,6 +30,13 @@ impl Full {
             generation: self.generation,
             lang: self.lang.copy(),
         }
+    }
+
+    /// Which of two full names comes first: by user, then local name, then generation, then language.
+    pub fn compare(&self, other: &Full) -> Ordering
+        ensures { result ≡ full_cmp self.now other.now }
+    {
+        self.cmp(other)
     }
 
     /// The text of the full name, with the trailing spaces of the language dropped: `:MASTER.F(1/)`. As a path it is read back.

@@ -73,9 +73,5 @@ pub fn copied<const N: usize>(text: &[u8]) -> ArrayVec<u8, N>
     requires { length text.now ≤ N }
     ensures { result.items ≡ text.now }
 {
-    let mut characters = ArrayVec::new();
-    for byte in text {
-        characters.push(*byte);
-    }
-    characters
+    ArrayVec::try_from(text).unwrap()
 }

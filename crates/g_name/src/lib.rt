@@ -9,8 +9,6 @@ mod local;
 mod parse;
 mod path;
 mod path_reader;
-#[cfg(test)]
-mod tests;
 mod text;
 mod user;
 

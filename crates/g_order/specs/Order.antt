@@ -13,10 +13,14 @@ pub record Fields : Type 0 where
 abbrev pub is_branch : ℕ → Bool
 is_branch f = nat_le 0o50 f && nat_lt f 0o100
 
+-- M and N are no longer than a word has place for
+abbrev pub are_operands : ℕ → ℕ → ℕ → Bool
+are_operands f m n =
+    if is_branch f then (m == 0) && nat_lt n (2 ^ 15) else nat_lt m 4 && nat_lt n (2 ^ 12)
+
 -- some row of the table has these fields
 abbrev pub is_order : ℕ → ℕ → ℕ → ℕ → Bool
-is_order x f m n =
-    nat_lt x 8 && is_some (function_of f x) && (if is_branch f then (m == 0) && nat_lt n (2 ^ 15) else nat_lt m 4 && nat_lt n (2 ^ 12))
+is_order x f m n = nat_lt x 8 && is_some (function_of f x) && are_operands f m n
 
 -- the fields of a word: X has three bits, F seven, M two and N twelve, but of a branch, whose F is told by the
 -- upper six of its bits, N has all the fifteen bits behind those

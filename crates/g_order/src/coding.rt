@@ -1,9 +1,11 @@
 //! The words that hold orders, both ways.
 
-ghost use Rattle.std.specs.Prelude.{◌≡◌, ◌<◌, ◌^◌, Some, None, MatchOption, MatchResult, IsOkAnd, IfOk, IfErr, IsTrue};
-ghost use Rattle.g_order.specs.Order.{Fields, is_order, decoded, word_of};
+ghost use Rattle.std.specs.Prelude.{◌≡◌, ◌<◌, ◌^◌, Some, None, true, MatchOption, MatchResult, IsOkAnd, IfSome, IfOk, IfErr, IsTrue};
+ghost use Rattle.g_order.specs.Order.{Fields, are_operands, fields_of, is_order, decoded, word_of};
 ghost use Rattle.g_order.specs.Coding.{fields};
+ghost use Rattle.g_order.specs.Table.{function_of};
 
+use crate::functions::{Function, function_of};
 use crate::orders::{Order, is_branch};
 use g_word::Word;
 use thiserror::Error;
@@ -27,15 +29,39 @@ pub fn decode(word: Word) -> Result<Order, Illegal>
 fn read(word: Word) -> Option<Order>
     ensures { MatchOption result (decoded word ≡ None) (λ o. decoded word ≡ Some (fields o)) }
 {
+    match read_order(word) {
+        Some((_function, order)) => Some(order),
+        None => None,
+    }
+}
+
+/// What a word does and its order, if it has one. The table is looked up once.
+#[inline(always)]
+pub fn read_order(word: Word) -> Option<(Function, Order)>
+    ensures order { MatchOption result (decoded word ≡ None) (λ r. decoded word ≡ Some (fields r.1)) }
+    ensures function { IfSome result (λ r. function_of r.1.f r.1.x ≡ Some r.0) }
+{
+    let (x, f, m, n) = split(word);
+    let function = function_of(f, x)?;
+    Some((function, Order { x, f, m, n }))
+}
+
+/// X, F, M and N of a word, whether an order has them or not.
+#[inline(always)]
+fn split(word: Word) -> (u8, u8, u8, u16)
+    ensures fields { fields_of word ≡ record { x = result.0; f = result.1; m = result.2; n = result.3 } }
+    ensures x { result.0 < 8 }
+    ensures operands { are_operands result.1 result.2 result.3 ≡ true }
+{
     let bits = word.value();
     let x = (bits >> 21) as u8;
     let f = ((bits >> 14) % 0x80) as u8;
     if is_branch(f) {
         let f = ((bits >> 15) % 0x40) as u8 * 2;
-        Order::new(x, f, 0, (bits % 0x8000) as u16)
+        (x, f, 0, (bits % 0x8000) as u16)
     } else {
         let m = ((bits >> 12) % 4) as u8;
-        Order::new(x, f, m, (bits % 0x1000) as u16)
+        (x, f, m, (bits % 0x1000) as u16)
     }
 }
 

@@ -87,6 +87,7 @@ pub enum Function {
 }
 
 /// The function of orders with this F and X, or `None` where the table has no row for them.
+#[inline(always)]
 #[tactic(auto, unfolding(crate::specs::Table::function_of))]
 pub fn function_of(f: u8, x: u8) -> Option<Function>
     ensures { result ≡ table.function_of f x }

@@ -5,8 +5,8 @@ use Rattle.g_base.specs.Counts.{HasRisenBy}
 use Rattle.g_base.proofs.CountLemmas.{HasRisenBy-none, HasRisenBy-Rose, HasRisenBy-then}
 use Rattle.g_disc.specs.Disc.{DiscState}
 use Rattle.g_io.specs.Streams.{with_more, HasPutPart}
-use Rattle.g_online.specs.Image.{StandsFor}
-use Rattle.g_online.specs.Store.{FirstView}
+use Rattle.g_first.specs.Image.{StandsFor}
+use Rattle.g_first.specs.Store.{FirstView}
 use Rattle.g_run.specs.World.{World, Outcome, Plain, DiscRead, Cut, Store, Unknown, Up, StoppedIn, IsOn}
 use Rattle.g_run.specs.Run.{Move, TakeLine, Turn, Ticked, Over, Run, reads_in, cuts_in, reads_of, cuts_of, Counted}
 use Rattle.g_run.specs.Turn.{HasCause, IsNow}

@@ -3,9 +3,9 @@ use Rattle.std.proofs.Common.{◌≡◌, ◌⊎◌, ◌+◌, ◌++◌, ℕ, true
 use Rattle.std.proofs.lemmas.List.{append_assoc}
 use Rattle.g_base.specs.Told.{Changes}
 use Rattle.g_disc.specs.Disc.{DiscState, Causes}
-use Rattle.g_online.specs.Files.{File, greatest, newest}
-use Rattle.g_online.specs.Image.{StandsFor}
-use Rattle.g_online.specs.Store.{FirstView, with_file}
+use Rattle.g_first.specs.Files.{File, greatest, newest}
+use Rattle.g_first.specs.Image.{StandsFor}
+use Rattle.g_first.specs.Store.{FirstView, with_file}
 use Rattle.g_script.specs.declared.script.Command.{Command}
 use Rattle.g_script.specs.declared.script.Command.TheVariants.{Input, ListFile}
 use Rattle.g_run.specs.Texts.{ended_line, listing, input_echo, made, list_echo, listed}

@@ -1,7 +1,7 @@
 -- What is kept while a job runs: the moves that led from its beginning to the turn that comes next.
 use Rattle.std.specs.Prelude.{ℕ, List, Option}
 use Rattle.g_disc.specs.Disc.{DiscState}
-use Rattle.g_online.specs.Store.{FirstView}
+use Rattle.g_first.specs.Store.{FirstView}
 use Rattle.g_script.specs.declared.script.Job.{Job}
 use Rattle.g_run.specs.declared.progress.Failure.{Failure}
 use Rattle.g_run.specs.Texts.{header}

@@ -3,7 +3,7 @@ use Rattle.std.specs.Prelude.{◌≡◌, ◌⊎◌, ℕ, false, List, [], ◌∷
 use Rattle.g_base.specs.Counts.{Rose}
 use Rattle.g_disc.specs.Disc.{DiscState}
 use Rattle.g_io.specs.Streams.{with_more, HasPutPart}
-use Rattle.g_online.specs.Files.{File}
+use Rattle.g_first.specs.Files.{File}
 use Rattle.g_script.specs.declared.script.Job.{Job}
 use Rattle.g_run.specs.declared.progress.Failure.{Failure}
 use Rattle.g_run.specs.declared.progress.Failure.TheVariants as failures

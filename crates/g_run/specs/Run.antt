@@ -2,7 +2,7 @@
 use Rattle.std.specs.Prelude.{◌≡◌, ◌+◌, ℕ, false, List, [], ◌∷◌, Some, None, slice_get}
 use Rattle.g_base.specs.Counts.{HasRisenBy}
 use Rattle.g_disc.specs.Disc.{DiscState}
-use Rattle.g_online.specs.Files.{File}
+use Rattle.g_first.specs.Files.{File}
 use Rattle.g_run.specs.World.{World, Outcome, Plain, DiscRead, Cut, Up, Line, JobView, TurnEnd, Between, Turned, after_line, turn_end, after_turn, ticked, closed}
 
 -- the operator's next line, a turn of the job, the end of its tick, the end of the run

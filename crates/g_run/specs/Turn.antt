@@ -2,9 +2,9 @@
 use Rattle.std.specs.Prelude.{◌≡◌, ◌⊎◌, ◌++◌, ℕ, true, List, Option, Some}
 use Rattle.g_base.specs.Counts.{Rose}
 use Rattle.g_disc.specs.Disc.{DiscState}
-use Rattle.g_online.specs.Files.{File}
-use Rattle.g_online.specs.Image.{StandsFor}
-use Rattle.g_online.specs.Store.{FirstView}
+use Rattle.g_first.specs.Files.{File}
+use Rattle.g_first.specs.Image.{StandsFor}
+use Rattle.g_first.specs.Store.{FirstView}
 use Rattle.g_script.specs.declared.script.Command.{Command}
 use Rattle.g_run.specs.declared.turn.Turn as turns
 use Rattle.g_run.specs.declared.turn.Turn.TheVariants as kinds

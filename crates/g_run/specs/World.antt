@@ -2,9 +2,9 @@
 use Rattle.std.specs.Prelude.{◌⊎◌, ◌==◌, ◌+◌, ℕ, Bool, true, false, List, [], ◌∷◌, ◌++◌, Option, Some, None, codes, if◌then◌else◌}
 use Rattle.std.specs.Option.{ForSome}
 use Rattle.g_disc.specs.Disc.{DiscState}
-use Rattle.g_online.specs.Files.{File, greatest, newest}
-use Rattle.g_online.specs.Store.{with_file}
-use Rattle.g_online.specs.Image.{StandsFor}
+use Rattle.g_first.specs.Files.{File, greatest, newest}
+use Rattle.g_first.specs.Store.{with_file}
+use Rattle.g_first.specs.Image.{StandsFor}
 use Rattle.g_script.specs.declared.script.Command.{Command}
 use Rattle.g_script.specs.declared.script.Command.TheVariants.{Input, ListFile, EndJob}
 use Rattle.g_script.specs.declared.script.Job.{Job}

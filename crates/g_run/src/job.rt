@@ -10,9 +10,9 @@ use crate::texts;
 use crate::turn::{Turn, next_turn};
 use g_base::NoMemory;
 use g_disc::Disc;
+use g_first::FirstStore;
 use g_io::Sink;
 use g_name::Text;
-use g_online::FirstStore;
 use g_script::Job;
 use std::alloc::Global;
 

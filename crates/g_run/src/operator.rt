@@ -12,8 +12,8 @@ use crate::progress::{Failure, Progress, say};
 use crate::texts;
 use g_base::NoMemory;
 use g_disc::Disc;
+use g_first::{FirstStore, OnlineFault};
 use g_io::Sink;
-use g_online::{FirstStore, OnlineFault};
 use g_script::Job;
 use std::alloc::Global;
 

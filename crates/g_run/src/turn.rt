@@ -6,8 +6,8 @@ ghost use Rattle.g_run.specs.Turn.{IsTurn, IsTurnInPart};
 use crate::texts;
 use g_base::NoMemory;
 use g_disc::Disc;
+use g_first::{FirstStore, OnlineFault};
 use g_name::Text;
-use g_online::{FirstStore, OnlineFault};
 use g_script::Command;
 use std::alloc::Global;
 

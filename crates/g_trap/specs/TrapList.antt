@@ -1,5 +1,5 @@
 -- The traps of one file, by user number.
-use Rattle.std.specs.Prelude.{◌≡◌, ℕ, ◌≤◌, ◌==◌, Bool, true, not, ◌&&◌, nat_le, List, length, unwrap_or, is_none, filter, if◌then◌else◌}
+use Rattle.std.specs.Prelude.{◌≡◌, ℕ, ◌≤◌, ◌==◌, Bool, true, not, ◌&&◌, nat_le, nat_lt, List, length, unwrap_or, is_none, filter, if◌then◌else◌}
 use Rattle.std.specs.List.{list_all}
 use Rattle.std.specs.Ordering.{nat_cmp}
 use Rattle.std.specs.FinMap.{find, put, is_sorted}
@@ -9,10 +9,11 @@ pub record TrapList : Type 0 where
   pub owner : ℕ
   pub others : List (ℕ × ℕ)
 
--- the user numbers rise, each pair has a mode, and there are at most 8
+-- the user numbers rise, each pair has a set of modes that isn't empty, and there are at most 8
 pub record IsOthers (others : List (ℕ × ℕ)) : Type 0 where
   pub rising : is_sorted nat_cmp others ≡ true
   pub used : list_all (λ pair. not (pair.1 == 0)) others ≡ true
+  pub sets : list_all (λ pair. nat_lt pair.1 32) others ≡ true
   pub few : length others ≤ 8
 
 -- the modes of another user, none where that user isn't there

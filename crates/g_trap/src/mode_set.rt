@@ -90,7 +90,8 @@ impl Modes {
     }
 
     pub fn is_empty(self) -> bool
-        ensures { result ≡ (self == 0) }
+        ensures value { result ≡ (self == 0) }
+        ensures below { self < 32 }
     {
         self.bits == 0
     }

@@ -1,9 +1,11 @@
 //! The traps of one file.
-ghost use Rattle.std.specs.Prelude.{◌≡◌, ◌-◌, ◌≤◌, ◌==◌, true, not, ◌&&◌, bit_and, bit_or, [], length, nat_le, nat_lt, ◌↔◌, IsTrue, IsSome, IfSome, IsErr, OnOk, OnErr};
+ghost use Rattle.std.specs.Prelude.{◌≡◌, ◌-◌, ◌==◌, true, not, ◌&&◌, bit_and, bit_or, [], nat_lt, ◌↔◌};
+ghost use Rattle.std.specs.Prelude.{IsTrue, IsSome, IfSome, IfOk, IfErr, IsErr, OnOk, OnErr};
 ghost use Rattle.std.specs.Ordering.{nat_cmp};
 ghost use Rattle.std.specs.FinMap.{is_sorted};
-ghost use Rattle.std.specs.List.{position_or_len, list_all};
+ghost use Rattle.std.specs.List.{list_all};
 ghost use Rattle.g_trap.specs.ModeSet.{allows};
+ghost use Rattle.g_trap.specs.Places.{StandsAt, FitsAt};
 ghost use Rattle.g_trap.specs.TrapList.{IsOthers, other_modes, modes_of, with_modes, with_other, is_ninth};
 
 use crate::mode_set::{Mode, Modes};
@@ -75,7 +77,7 @@ impl Traps {
         self.owner
     }
 
-    /// The other users with their modes, in rising user number.
+    /// The other users with their modes, in rising user number. Each has at least one mode.
     pub fn others(&self) -> &[(u8, Modes)]
         ensures value { result.now ≡ self.now.others }
         ensures others { IsOthers result.now }
@@ -132,24 +134,14 @@ impl Traps {
 fn is_others(others: &[(u8, Modes)]) -> bool
     ensures { IsTrue result ↔ IsOthers others.now }
 {
-    others.len() <= 8 && is_rising(others) && is_used(others)
+    others.len() <= 8 && is_rising(others) && is_used(others) && are_sets(others)
 }
 
 /// Whether the user numbers rise.
 fn is_rising(others: &[(u8, Modes)]) -> bool
     ensures { result ≡ is_sorted nat_cmp others.now }
 {
-    match others {
-        [] => true,
-        [first, rest @ ..] => is_above(first.0, rest) && is_rising(rest),
-    }
-}
-
-/// Whether all user numbers are above this one.
-fn is_above(number: u8, others: &[(u8, Modes)]) -> bool
-    ensures { result ≡ list_all (λ pair. nat_lt number pair.0) others.now }
-{
-    others.iter().all(|pair| number < pair.0)
+    others.is_sorted_by(|one, next| one.0 < next.0)
 }
 
 /// Whether each pair has a mode.
@@ -159,26 +151,31 @@ fn is_used(others: &[(u8, Modes)]) -> bool
     others.iter().all(|pair| !pair.1.is_empty())
 }
 
+/// Whether the modes are sets, as all that a program makes are: who reads the contract learns it from here.
+fn are_sets(others: &[(u8, Modes)]) -> bool
+    ensures { result ≡ list_all (λ pair. nat_lt pair.1 32) others.now }
+{
+    others.iter().all(|pair| pair.1.bits() < 32)
+}
+
 /// The modes of another user.
 fn other_modes(others: &[(u8, Modes)], user: u8) -> Modes
+    requires { is_sorted nat_cmp others.now ≡ true }
     ensures { result ≡ other_modes others.now user }
 {
-    match others {
-        [] => Modes::none(),
-        [first, ..] if first.0 == user => first.1,
-        [_, rest @ ..] => other_modes(rest, user),
+    match place_of(others, user) {
+        Ok(place) => others[place].1,
+        Err(_) => Modes::none(),
     }
 }
 
 /// Where the user's pair stands among pairs in rising user number, or would stand.
-fn place_of(others: &[(u8, Modes)], user: u8) -> usize
-    ensures place { result ≡ position_or_len (λ pair. nat_le user pair.0) others.now }
-    ensures within { result ≤ length others.now }
+fn place_of(others: &[(u8, Modes)], user: u8) -> Result<usize, usize>
+    requires { is_sorted nat_cmp others.now ≡ true }
+    ensures found { IfOk result (StandsAt user others.now) }
+    ensures absent { IfErr result (FitsAt user others.now) }
 {
-    match others {
-        [first, rest @ ..] if first.0 < user => 1 + place_of(rest, user),
-        _ => 0,
-    }
+    others.binary_search_by_key(&user, |pair| pair.0)
 }
 
 /// Another user gets exactly these modes, and stands there no more without any.
@@ -189,18 +186,13 @@ fn give(others: &mut ArrayVec<(u8, Modes), 8>, user: u8, modes: Modes) -> Result
     ensures err { OnErr result (others.new.items ≡ others.old.items) }
     ensures kept { IsOthers others.new.items }
 {
-    let there = !other_modes(others, user).is_empty();
-    let place = place_of(others, user);
-    match (there, modes.is_empty()) {
-        (false, true) => {}
-        (true, true) => {
+    match (place_of(others, user), modes.is_empty()) {
+        (Ok(place), true) => {
             others.remove(place);
         }
-        (true, false) => {
-            others.remove(place);
-            others.insert(place, (user, modes));
-        }
-        (false, false) => {
+        (Ok(place), false) => others[place].1 = modes,
+        (Err(_), true) => {}
+        (Err(place), false) => {
             if others.is_full() {
                 return Err(TrapsFull);
             }

@@ -21,7 +21,7 @@ both_no : (b : Bool) → (b && false) ≡ false
 both_no true = refl
 both_no false = refl
 
-not_same : (m n : ℕ) → m ≢ n → (m == n) ≡ false
+pub not_same : (m n : ℕ) → m ≢ n → (m == n) ≡ false
 not_same m n apart = grind (arith, nat_tests)
 
 module _ (users : List UserRec) (files : List FileRec) (bytes : FileRec → List ℕ) (next : ℕ) (who : List ℕ) (path : Path) where

@@ -69,7 +69,7 @@ behind_none g users files i d is within =
 
 -- a file that is taken out
 
-other_number : (m n : ℕ) → m ≢ n → not (m == n) ≡ true
+pub other_number : (m n : ℕ) → m ≢ n → not (m == n) ≡ true
 other_number m n apart = grind (arith, nat_tests)
 
 same_number : (m n : ℕ) → m ≡ n → not (m == n) ≡ false

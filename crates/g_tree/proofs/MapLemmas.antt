@@ -19,6 +19,11 @@ abbrev pub or_else : {X : Type 0} → Option X → Option X → Option X
 or_else None p = p
 or_else (Some x) p = Some x
 
+-- what a first answer hides
+pub shadowed : {A : Type 0} (b : Bool) (x y z : A) → cond b x z ≡ cond b x (cond b y z)
+shadowed true x y z = refl
+shadowed false x y z = refl
+
 two_first : (a b : Bool) (m n k : ℕ) → cond a (max m (cond b (max n k) k)) (cond b (max n k) k) ≡ cond b (max n (cond a (max m k) k)) (cond a (max m k) k)
 two_first true true m n k = omega arith
 two_first true false m n k = refl

@@ -163,7 +163,7 @@ module _ (users : List UserRec) (files : List FileRec) (is : IsRecords users fil
             (r, (found.0, found.1, same_some r.number number n))
       ] refl e
 
-  number_found : (r : FileRec) → Contains files r → r.number ≡ number → get (by_number files) number ≡ Some r
+  pub number_found : (r : FileRec) → Contains files r → r.number ≡ number → get (by_number files) number ≡ Some r
   number_found r there e =
       get-from_entries nat_cmp_total (keyed (λ s. s.number) files) number
       ∙ subst (λ n. find nat_cmp n (keyed (λ s. s.number) files) ≡ Some r) e (found_itself nat_cmp_total nat_cmp-IsAntisymmetric (λ s. s.number) files r (numbered_apart files is.numbers number) there)

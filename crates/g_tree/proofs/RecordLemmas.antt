@@ -1,5 +1,5 @@
 -- From numbered records to the tree of names.
-use Rattle.std.proofs.Common.{◌≡◌, ◌≢◌, ℕ, zero, suc, ◌<◌, ◌≤◌, ◌==◌, true, false, cond, ◌&&◌, List, [], ◌∷◌, length, map, filter, fold, max, sum_by, Option, Some, None, is_some, unwrap_or, refl, sym, ap, ◌∙◌, arith, inl, inr, true≢false, get_or}
+use Rattle.std.proofs.Common.{◌≡◌, ◌≢◌, ◌⊎◌, ℕ, zero, suc, ◌<◌, ◌≤◌, ◌==◌, true, false, cond, ◌&&◌, List, [], ◌∷◌, length, map, filter, fold, max, sum_by, Option, Some, None, is_some, unwrap_or, refl, sym, ap, ◌∙◌, arith, inl, inr, true≢false, get_or}
 use Rattle.std.specs.List.{All, AllPairs}
 use Rattle.std.specs.Option.{option_map}
 use Rattle.std.specs.Cmp.{eq_by_cmp_equiv}
@@ -65,17 +65,24 @@ same_itself a = texts_ties a a ∙ (eq_by_cmp_equiv text_total).refl a
 text_apart : (a b : List ℕ) → a ≢ b → same_text a b ≡ false
 text_apart a b apart = texts_ties a b ∙ apart_is text_total text_exact a b apart
 
--- a user's name is another's exactly where the number is
-pub same_owner : (users : List UserRec) (i j : ℕ) → All (IsUser Two) users → AllPairs (λ u v. u.user ≢ v.user) users → i < length users → same_text (name_of users i) (name_of users j) ≡ (i == j)
-same_owner users i j all pairs within =
+-- a user's name is another's exactly where the number is, even where one of both isn't used
+pub same_user : (users : List UserRec) (i j : ℕ) → All (IsUser Two) users → AllPairs (λ u v. u.user ≢ v.user) users
+    → (i < length users) ⊎ (j < length users) → same_text (name_of users i) (name_of users j) ≡ (i == j)
+same_user users i j all pairs used =
     elim (i == j) as (λ t. (i == j) ≡ t → same_text (name_of users i) (name_of users j) ≡ t) [
       | true ↦ λ t. let is : i ≡ j = grind (arith, nat_tests) in ap (λ k. same_text (name_of users i) (name_of users k)) (sym is) ∙ same_itself (name_of users i)
       | false ↦ λ t.
           let apart : i ≢ j = grind (arith, nat_tests) in
           text_apart (name_of users i) (name_of users j)
-          (λ e. elim (cases_lt j (length users)) as (λ _. ⊥) [
-            | inl used ↦ apart (name_apart users i j pairs within used e)
-            | inr past ↦ word_there (name_of users i) (name_word users i all within) (e ∙ name_past users j past)
+          (λ e. elim (cases_lt i (length users)) as (λ _. ⊥) [
+            | inl first ↦ elim (cases_lt j (length users)) as (λ _. ⊥) [
+              | inl second ↦ apart (name_apart users i j pairs first second e)
+              | inr past ↦ word_there (name_of users i) (name_word users i all first) (e ∙ name_past users j past)
+            ]
+            | inr past ↦ elim used as (λ _. ⊥) [
+              | inl first ↦ omega arith
+              | inr second ↦ word_there (name_of users j) (name_word users j all second) (sym e ∙ name_past users i past)
+            ]
           ])
     ] refl
 
@@ -146,7 +153,7 @@ used_is users files bytes next owner is lengths =
     sum_same_on (λ r. cond (r.owner == owner) (blocks_for r.len) 0) (blocks_in user bytes users) files
     (λ k d within.
     let r = get_or files k d in
-    ap (λ t. cond t (blocks_for r.len) 0) (sym (same_owner users r.owner owner is.each_user is.among_users.names (is.among_files.owners k d within)))
+    ap (λ t. cond t (blocks_for r.len) 0) (sym (same_user users r.owner owner is.each_user is.among_users.names (inl (is.among_files.owners k d within))))
     ∙ ap (λ n. cond (same_text (name_of users r.owner) user) (blocks_for n) 0) (sym (lengths r (Contains-get_or files k d within))))
     ∙ sym (sum_of_map g (λ r. (full_of users r, r)) files)
     ∙ sym (sum_by-IsPermutation g es (entries (from_entries es)) (entries_permute full_total es (apart_keyed full_total full_exact (full_of users) files (names_apart users files is))))
@@ -168,7 +175,7 @@ listed_is users files bytes next owner is =
     let named = entries (by_name users files) in
     let own : filter (λ r. r.owner == owner) files ≡ filter (λ r. p (full_of users r)) files =
     filter_same_on (λ r. r.owner == owner) (λ r. p (full_of users r)) files
-    (λ k d within. sym (same_owner users (get_or files k d).owner owner is.each_user is.among_users.names (is.among_files.owners k d within))) in
+    (λ k d within. sym (same_user users (get_or files k d).owner owner is.each_user is.among_users.names (inl (is.among_files.owners k d within)))) in
     ap (λ rs. map (λ e. e.1) (entries (from_entries {R = full_cmp} (map (λ r. (full_of users r, r.number)) rs)))) own
     ∙ ap (λ es. map (λ e. e.1) (entries (from_entries {R = full_cmp} es))) (sym (filter_of_map (λ e. p e.0) (λ r. (full_of users r, r.number)) files))
     ∙ ap (map (λ e. e.1)) (entries_kept full_total full_exact p (map (λ r. (full_of users r, r.number)) files)

@@ -39,12 +39,12 @@ own_number : (n : ℕ) → (n == n) ≡ true
 own_number n = grind (arith, nat_tests)
 
 -- what stands behind a value that was made of another
-made_of : {A B : Type 0} (g : A → B) (o : Option A) (y : B) → option_map g o ≡ Some y → (x : A) × (o ≡ Some x) × (g x ≡ y)
+pub made_of : {A B : Type 0} (g : A → B) (o : Option A) (y : B) → option_map g o ≡ Some y → (x : A) × (o ≡ Some x) × (g x ≡ y)
 made_of g None y e = absurd (true≢false (sym (ap is_some e)))
 made_of g (Some x) y e = (x, refl, same_some (g x) y e)
 
 -- elements of one key are one
-one_of_key : {A : Type 0} (key : A → ℕ) (xs : List A) (r s : A) → AreApart key xs → Contains xs r → Contains xs s → key r ≡ key s → r ≡ s
+pub one_of_key : {A : Type 0} (key : A → ℕ) (xs : List A) (r s : A) → AreApart key xs → Contains xs r → Contains xs s → key r ≡ key s → r ≡ s
 one_of_key key xs r s apart first second same =
     same_some r s
     (sym (found_itself nat_cmp_total nat_cmp-IsAntisymmetric key xs r apart first)
@@ -61,7 +61,7 @@ module _ (users : List UserRec) (files : List FileRec) (bytes : FileRec → List
       ∙ found_itself text_total text_exact (λ u. u.user) users (get_or users i nobody) is.among_users.names (Contains-get_or users i nobody within))
 
   -- a superior is a user
-  superior_below : (u : UserRec) → Contains users u → u.superior < length users
+  pub superior_below : (u : UserRec) → Contains users u → u.superior < length users
   superior_below u there =
       let both = is.among_users.both in
       All-contains (λ v. v.superior < length users) users u (superior_there users (length users) is.among_users both (omega arith)) there
@@ -123,7 +123,7 @@ module _ (users : List UserRec) (files : List FileRec) (bytes : FileRec → List
           owner = has_name r.owner trapped.owner_there;
           generation = (file.least_generation, file.most_generation);
           bytes = subst (λ n. n ≤ 65536) (sym same) most;
-          owner_stands = ap is_some (trap_found users r.owner r.traps trapped r.owner trapped.owner_there ∙ ap (λ t. cond t (Some r.traps.owner) (find nat_cmp r.owner r.traps.others)) (own_number r.owner));
+          owner_stands = ap is_some (trap_found users r.owner r.traps trapped r.owner ∙ ap (λ t. cond t (Some r.traps.owner) (find nat_cmp r.owner r.traps.others)) (own_number r.owner));
           others = λ user modes got other.
               named_other user modes r.traps.others trapped.others_there file.others.used
               (ap (λ t. cond t (Some r.traps.owner) (find text_cmp user (by_names users r.traps.others))) (sym (apart_is text_total text_exact user (name_of users r.owner) other))

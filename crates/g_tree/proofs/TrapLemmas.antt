@@ -1,5 +1,5 @@
 -- Traps by the numbers of users against traps by their names.
-use Rattle.std.proofs.Common.{◌≡◌, ◌≢◌, ℕ, suc, ◌+◌, ◌<◌, ◌==◌, Bool, true, false, cond, not, ◌&&◌, List, [], ◌∷◌, length, map, filter, Option, Some, None, unwrap_or, refl, sym, ap, ◌∙◌, arith, true≢false}
+use Rattle.std.proofs.Common.{◌≡◌, ◌≢◌, ℕ, suc, ◌+◌, ◌<◌, ◌==◌, Bool, true, false, cond, not, ◌&&◌, List, [], ◌∷◌, length, map, filter, Option, Some, None, unwrap_or, refl, sym, ap, ◌∙◌, is_none, nat_le, arith, inr, true≢false}
 use Rattle.std.specs.List.{All, AllPairs, Contains}
 use Rattle.std.specs.Ordering.{nat_cmp, eq_by_cmp, is_eq, is_lt}
 use Rattle.std.specs.declared.cmp.Ordering.{Ordering}
@@ -13,7 +13,7 @@ use Rattle.std.proofs.lemmas.List.Elements.{All-head, All-tail, All-contains}
 use Rattle.std.proofs.lemmas.List.Sorted.{length_permutation}
 use Rattle.g_name.specs.declared.full.Full.{Full}
 use Rattle.g_name.specs.Order.{text_cmp, same_text}
-use Rattle.g_trap.specs.TrapList.{TrapList, IsOthers, modes_of, other_modes, with_other, with_modes as with_numbered}
+use Rattle.g_trap.specs.TrapList.{TrapList, IsOthers, modes_of, other_modes, is_ninth, with_other, with_modes as with_numbered}
 use Rattle.g_entry.specs.declared.format.Format.TheVariants.{Two}
 use Rattle.g_entry.specs.declared.user_rec.UserRec.{UserRec}
 use Rattle.g_entry.specs.declared.file_rec.FileRec.{FileRec}
@@ -24,12 +24,8 @@ use Rattle.g_plain.proofs.TextMaps.{text_total, text_exact}
 use Rattle.g_plain.proofs.Found.{tied_are}
 use Rattle.g_tree.specs.Records.{IsRecords, name_of, traps_named}
 use Rattle.g_tree.proofs.ListLemmas.{both_true}
-use Rattle.g_tree.proofs.MapLemmas.{Apart, entries_permute}
-use Rattle.g_tree.proofs.RecordLemmas.{same_owner, name_apart}
-
-shadowed : {A : Type 0} (b : Bool) (x y z : A) → cond b x z ≡ cond b x (cond b y z)
-shadowed true x y z = refl
-shadowed false x y z = refl
+use Rattle.g_tree.proofs.MapLemmas.{Apart, entries_permute, shadowed}
+use Rattle.g_tree.proofs.RecordLemmas.{same_user, name_apart}
 
 swapped : {A : Type 0} (a b : Bool) (x y z : A) → (a ≡ true → b ≡ true → ⊥) → cond a x (cond b y z) ≡ cond b y (cond a x z)
 swapped true true x y z apart = absurd (apart refl refl)
@@ -60,15 +56,15 @@ neither true = refl
 neither false = refl
 
 module _ (users : List UserRec) (all : All (IsUser Two) users) (pairs : AllPairs (λ u v. u.user ≢ v.user) users) where
-  -- names tie exactly where numbers do
-  name_ties : (i j : ℕ) → i < length users → eq_by_cmp text_cmp (name_of users i) (name_of users j) ≡ eq_by_cmp nat_cmp i j
-  name_ties i j within = sym (texts_ties (name_of users i) (name_of users j)) ∙ same_owner users i j all pairs within ∙ unsigned_ties i j
+  -- a name ties with that of a user exactly where the number does
+  name_ties : (i j : ℕ) → j < length users → eq_by_cmp text_cmp (name_of users i) (name_of users j) ≡ eq_by_cmp nat_cmp i j
+  name_ties i j within = sym (texts_ties (name_of users i) (name_of users j)) ∙ same_user users i j all pairs (inr within) ∙ unsigned_ties i j
 
-  pub find_named : (u : ℕ) (ps : List (ℕ × ℕ)) → u < length users → find text_cmp (name_of users u) (by_names users ps) ≡ find nat_cmp u ps
-  find_named u [] within = refl
-  find_named u (p ∷ ps) within =
-      ap (λ b. cond b (Some p.1) (find text_cmp (name_of users u) (by_names users ps))) (name_ties u p.0 within)
-      ∙ ap (cond (eq_by_cmp nat_cmp u p.0) (Some p.1)) (find_named u ps within)
+  pub find_named : (u : ℕ) (ps : List (ℕ × ℕ)) → All (λ p. p.0 < length users) ps → find text_cmp (name_of users u) (by_names users ps) ≡ find nat_cmp u ps
+  find_named u [] there = refl
+  find_named u (p ∷ ps) there =
+      ap (λ b. cond b (Some p.1) (find text_cmp (name_of users u) (by_names users ps))) (name_ties u p.0 (All-head (λ s. s.0 < length users) p ps there))
+      ∙ ap (cond (eq_by_cmp nat_cmp u p.0) (Some p.1)) (find_named u ps (All-tail (λ s. s.0 < length users) p ps there))
 
   -- two users have two names
   names_differ : (q : List ℕ) (i j : ℕ) → i < length users → j < length users → i ≢ j → eq_by_cmp text_cmp q (name_of users i) ≡ true → eq_by_cmp text_cmp q (name_of users j) ≡ true → ⊥
@@ -114,17 +110,17 @@ module _ (users : List UserRec) (all : All (IsUser Two) users) (pairs : AllPairs
 
 module _ (users : List UserRec) (owner : ℕ) (traps : TrapList) (is : AreTrapped users owner traps) where
   -- a user's entry is that of the number
-  pub trap_found : (u : ℕ) → u < length users → get (traps_named users owner traps) (name_of users u) ≡ cond (u == owner) (Some traps.owner) (find nat_cmp u traps.others)
-  trap_found u within =
+  pub trap_found : (u : ℕ) → get (traps_named users owner traps) (name_of users u) ≡ cond (u == owner) (Some traps.owner) (find nat_cmp u traps.others)
+  trap_found u =
       get-from_entries text_total ((name_of users owner, traps.owner) ∷ by_names users traps.others) (name_of users u)
       ∙ ap (λ b. cond b (Some traps.owner) (find text_cmp (name_of users u) (by_names users traps.others)))
-      (sym (texts_ties (name_of users u) (name_of users owner)) ∙ same_owner users u owner is.each_user is.names within)
-      ∙ ap (cond (u == owner) (Some traps.owner)) (find_named users is.each_user is.names u traps.others within)
+      (sym (texts_ties (name_of users u) (name_of users owner)) ∙ same_user users u owner is.each_user is.names (inr is.owner_there))
+      ∙ ap (cond (u == owner) (Some traps.owner)) (find_named users is.each_user is.names u traps.others is.others_there)
 
   -- and so are the modes
-  pub modes_found : (u : ℕ) → u < length users → unwrap_or (get (traps_named users owner traps) (name_of users u)) 0 ≡ modes_of traps owner u
-  modes_found u within =
-      ap (λ o. unwrap_or o 0) (trap_found u within)
+  pub modes_found : (u : ℕ) → unwrap_or (get (traps_named users owner traps) (name_of users u)) 0 ≡ modes_of traps owner u
+  modes_found u =
+      ap (λ o. unwrap_or o 0) (trap_found u)
       ∙ elim (u == owner) as (λ t. unwrap_or (cond t (Some traps.owner) (find nat_cmp u traps.others)) 0 ≡ cond t traps.owner (other_modes traps.others u)) [ true ↦ refl | false ↦ refl ]
 
   abbrev rows : FinMap text_cmp ℕ
@@ -169,7 +165,7 @@ module _ (users : List UserRec) (owner : ℕ) (traps : TrapList) (is : AreTrappe
       → with_modes full (name_of users u) m (traps_named users owner traps) ≡ traps_named users owner (with_numbered traps owner u m)
   modes_changed full u m owned within =
       ap (λ b. cond ((m == 0) && not b) (remove (traps_named users owner traps) (name_of users u)) (insert (traps_named users owner traps) (name_of users u) m))
-      (ap (same_text (name_of users u)) owned ∙ same_owner users u owner is.each_user is.names within)
+      (ap (same_text (name_of users u)) owned ∙ same_user users u owner is.each_user is.names (inr is.owner_there))
       ∙ elim (u == owner) as (λ t. (u == owner) ≡ t → cond ((m == 0) && not t) (remove (traps_named users owner traps) (name_of users u)) (insert (traps_named users owner traps) (name_of users u) m)
       ≡ traps_named users owner (cond t (record traps { owner = m }) (record traps { others = with_other traps.others u m }))) [
         | true ↦ λ t. own u m t
@@ -177,6 +173,14 @@ module _ (users : List UserRec) (owner : ℕ) (traps : TrapList) (is : AreTrappe
       ] refl
 
 -- how many stand in the traps
+
+one_more : (n : ℕ) → nat_le 9 (n + 1) ≡ nat_le 8 n
+one_more n = grind (arith, nat_tests)
+
+ninth_cases : (owns given : Bool) (modes : ℕ) (found : Option ℕ) (full : Bool) → (given && is_none (cond owns (Some modes) found) && full) ≡ (not owns && (given && is_none found && full))
+ninth_cases true true modes found full = refl
+ninth_cases true false modes found full = refl
+ninth_cases false given modes found full = refl
 
 plus_one : (n : ℕ) → suc (n + 1) ≡ suc n + 1
 plus_one n = omega arith
@@ -209,19 +213,27 @@ module _ (users : List UserRec) (owner : ℕ) (traps : TrapList) (is : AreTrappe
   others_apart [] rising there = tt
   others_apart (p ∷ ps) rising there =
       let parts = both_true (below_all nat_cmp p.0 ps) (is_sorted nat_cmp ps) rising in (
-        find_named users is.each_user is.names p.0 ps (All-head (λ s. s.0 < length users) p ps there) ∙ below_none p.0 ps parts.0,
+        find_named users is.each_user is.names p.0 ps (All-tail (λ s. s.0 < length users) p ps there) ∙ below_none p.0 ps parts.0,
         others_apart ps parts.1 (All-tail (λ s. s.0 < length users) p ps there),
       )
 
   pub trapped_apart : Apart text_cmp ((name_of users owner, traps.owner) ∷ by_names users traps.others)
   trapped_apart =
-      (find_named users is.each_user is.names owner traps.others is.owner_there ∙ lacks_none owner traps.others is.no_owner, others_apart traps.others is.others.rising is.others_there)
+      (find_named users is.each_user is.names owner traps.others is.others_there ∙ lacks_none owner traps.others is.no_owner, others_apart traps.others is.others.rising is.others_there)
 
   -- the owner and the others
   pub trap_count : len (traps_named users owner traps) ≡ length traps.others + 1
   trap_count =
       let es = (name_of users owner, traps.owner) ∷ by_names users traps.others in
       len-entries (traps_named users owner traps) ∙ length_permutation es (entries (from_entries es)) (entries_permute text_total es trapped_apart) ∙ counted traps.others
+
+  -- a ninth other user, by name and by number
+  pub ninth_by_number : (u m : ℕ) → let rows = traps_named users owner traps in
+      (not (m == 0) && is_none (get rows (name_of users u)) && nat_le 9 (len rows)) ≡ (not (u == owner) && is_ninth traps.others u m)
+  ninth_by_number u m =
+      (λ i. not (m == 0) && is_none (trap_found users owner traps is u i) && nat_le 9 (trap_count i))
+      ∙ ap (λ b. not (m == 0) && is_none (cond (u == owner) (Some traps.owner) (find nat_cmp u traps.others)) && b) (one_more (length traps.others))
+      ∙ ninth_cases (u == owner) (not (m == 0)) traps.owner (find nat_cmp u traps.others) (nat_le 8 (length traps.others))
 
 pub are_trapped : (users : List UserRec) (files : List FileRec) (r : FileRec) → IsRecords users files → Contains files r → AreTrapped users r.owner r.traps
 are_trapped users files r is there =

@@ -23,7 +23,7 @@ use Rattle.g_tree.proofs.MapLemmas.{keyed, with_value, AreApart, none_found, fin
 use Rattle.g_tree.proofs.RecordLemmas.{name_at}
 use Rattle.g_tree.proofs.PutLemmas.{apart_before}
 
-map_same_on : {A B : Type 0} (f g : A → B) (xs : List A) → All (λ x. f x ≡ g x) xs → map f xs ≡ map g xs
+pub map_same_on : {A B : Type 0} (f g : A → B) (xs : List A) → All (λ x. f x ≡ g x) xs → map f xs ≡ map g xs
 map_same_on f g [] all = refl
 map_same_on f g (x ∷ xs) all = λ i. All-head (λ y. f y ≡ g y) x xs all i ∷ map_same_on f g xs (All-tail (λ y. f y ≡ g y) x xs all) i
 

@@ -1,5 +1,5 @@
 -- From numbered records to the tree by names.
-use Rattle.std.specs.Prelude.{◌≡◌, ℕ, [], ◌∷◌, List, map, length, All, Contains, Option, slice_index_or}
+use Rattle.std.specs.Prelude.{◌≡◌, ℕ, [], ◌∷◌, List, map, length, All, Contains, Option, IfSome, slice_index_or}
 use Rattle.std.specs.Option.{option_map}
 use Rattle.std.specs.Ordering.{nat_cmp}
 use Rattle.std.specs.FinMap.{FinMap, get, from_entries}
@@ -12,7 +12,7 @@ use Rattle.g_entry.specs.declared.file_rec.FileRec.{FileRec}
 use Rattle.g_entry.specs.UserFields.{IsUser}
 use Rattle.g_entry.specs.FileFields.{IsFile}
 use Rattle.g_entry.specs.Rules.{AreUsers, AreNumbered, AreFiles}
-use Rattle.g_plain.specs.PlainTree.{UserRow, FileRow, Tree}
+use Rattle.g_plain.specs.PlainTree.{UserRow, FileRow, Tree, file_row}
 
 -- THE RULES OF RECORDS: those of each record, and those among records that concern neither the next stamp nor the disc
 pub record IsRecords (users : List UserRec) (files : List FileRec) : Type 0 where
@@ -67,6 +67,17 @@ by_name users files = from_entries (map (λ r. (full_of users r, r)) files)
 abbrev pub by_number : List FileRec → FinMap nat_cmp FileRec
 by_number files = from_entries (map (λ r. (r.number, r)) files)
 
--- the number of the file of a full name
+-- the number of the user of a name, and that of the file of a full name
+abbrev pub user_number : List UserRec → List ℕ → Option ℕ
+user_number users name = option_map (λ u. u.number) (get (users_by_name users) name)
+
 abbrev pub number_of : List UserRec → List FileRec → Full → Option ℕ
 number_of users files full = option_map (λ r. r.number) (get (by_name users files) full)
+
+-- the full name of the file of a number
+abbrev pub name_of_file : List UserRec → List FileRec → ℕ → Option Full
+name_of_file users files number = option_map (full_of users) (get (by_number files) number)
+
+-- what is so of the row and the full name of the file of a number, whatever the bytes and the next stamp are
+abbrev pub ForFile : List UserRec → List FileRec → ℕ → (FileRow → Full → Type 0) → Type 0
+ForFile users files number P = ForTree users files (λ t. IfSome (name_of_file users files number) (λ full. P (file_row t full) full))

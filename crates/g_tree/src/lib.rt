@@ -12,7 +12,10 @@ mod sorted;
 mod tests;
 mod tree;
 
-pub use laws::{records_make_a_tree, rows_are_of_records, traps_go_by_name};
+pub use laws::{
+    bytes_go_by_record, records_change_the_tree, records_make_a_tree, rows_are_of_records,
+    traps_go_by_name, users_go_by_name,
+};
 pub use number_list::NumberList;
 pub use output::Output;
 pub use tree::Tree;

@@ -8,6 +8,7 @@ ghost use Rattle.g_tree.specs.State.{first_users};
 ghost use Rattle.g_tree.specs.Answers.{IsOutput, IsFileOrNew, newest_of, listed};
 
 mod changes;
+mod rights;
 
 use crate::index::Index;
 use crate::scan::{newest_of, place_of, sorted_of, used_by};
@@ -65,6 +66,7 @@ impl Tree {
     pub fn user(&self, name: &User) -> Option<UserRec>
         ensures value { result ≡ finmap.get (users_by_name self.now.users) name.now }
         ensures there { ForTree self.now.users self.now.files (λ t. is_some result ≡ tree.has_user t name.now) }
+        ensures records { IsRecords self.now.users self.now.files }
     {
         for user in &self.users {
             if user.user == *name {
@@ -119,9 +121,18 @@ impl Tree {
         ensures there { ForTree self.now.users self.now.files (λ t. is_some result ≡ tree.has_file t (tree.input_name t (name_of self.now.users owner) path.now)) }
     {
         match self.input_name(owner, path) {
-            Some(full) => self.index.find(&full),
+            Some(full) => self.number_of(&full),
             None => None,
         }
+    }
+
+    /// The number of the file of this full name, in one look-up.
+    pub fn number_of(&self, full: &Full) -> Option<u16>
+        ensures number { result ≡ number_of self.now.users self.now.files full.now }
+        ensures there { ForTree self.now.users self.now.files (λ t. is_some result ≡ tree.has_file t full.now) }
+        ensures records { IsRecords self.now.users self.now.files }
+    {
+        self.index.find(full)
     }
 
     /// What a path names for output, where an absent user is the owner of this number. Where there is no such user
@@ -224,7 +235,7 @@ impl Tree {
     fn output_of(&self, full: Full) -> Output
         ensures { IsFileOrNew self.now.users self.now.files full result }
     {
-        match self.index.find(&full) {
+        match self.number_of(&full) {
             Some(number) => Output::Replace(number),
             None => Output::Fresh {
                 generation: full.generation,

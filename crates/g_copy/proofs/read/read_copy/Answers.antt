@@ -7,7 +7,7 @@ loop-place-init g c = rw c.in_ok-bytes.ensures.items (has_read_none c.args.copy.
 
 pub loop-place-preserved : goal.loop-place-preserved
 loop-place-preserved g c =
-    let is = c.as_slice-place-items.ensures in
+    let is = c.as_slice-place-items.ensures.value in
     let long = ap length is in
     let within : c.loop-place.place-index < length c.args.copy.now.blocks = omega arith in
     let more = has_read_more c.loop-place.place-index c.args.copy.now.blocks c.args.copy.now.len c.loop-place.bytes.items c.read.new.into _ _ _ _ within c.read.array_long c.loop-place.invariant (rw is at c.in-Ok.ensures) in
@@ -16,7 +16,7 @@ loop-place-preserved g c =
 
 pub returns-clause-text : goal.returns-clause-text
 returns-clause-text g c =
-    let is = c.as_slice-place-items.ensures in
+    let is = c.as_slice-place-items.ensures.value in
     let long = ap length is in
     let count = c.requires.copy.count in
     let all : length c.args.copy.now.blocks ≡ c.loop-place.place-index = omega arith in

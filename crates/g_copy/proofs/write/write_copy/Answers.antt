@@ -10,12 +10,12 @@ loop-i-init g c = written_none c.as_slice-places.result.now c.args.bytes.now (g.
 
 pub returns-in-Err-clause-stopped : goal.returns-in-Err-clause-stopped
 returns-in-Err-clause-stopped g c =
-    subst (λ (ps : List ℕ). Changes (OnlyAt ps) (g.D.Disc.state c.args.disc.now).held (g.D.Disc.state c.write.new.self).held) c.as_slice-places.ensures
+    subst (λ (ps : List ℕ). Changes (OnlyAt ps) (g.D.Disc.state c.args.disc.now).held (g.D.Disc.state c.write.new.self).held) c.as_slice-places.ensures.value
     (written_torn c.loop-i.i c.as_slice-places.result.now c.args.bytes.now _ _ _ _ _ (omega arith) c.loop-i.invariant c.in-Err.ensures)
 
 pub loop-i-preserved : goal.loop-i-preserved
 loop-i-preserved g c =
-    let is = c.as_slice-places.ensures in
+    let is = c.as_slice-places.ensures.value in
     let long = ap length is in
     let copy = c.requires.copy in
     let count = copy.count in
@@ -29,7 +29,7 @@ loop-i-preserved g c =
 
 pub returns-clause-ok : goal.returns-clause-ok
 returns-clause-ok g c =
-    let is = c.as_slice-places.ensures in
+    let is = c.as_slice-places.ensures.value in
     let long = ap length is in
     let count = c.requires.copy.count in
     let len = c.requires.len in

@@ -1,75 +1,65 @@
 -- A user who has modes has a pair at the place; one who has none has no pair, and would stand there.
-use Rattle.std.proofs.Common.{◌≡◌, ◌≤◌, ℕ, arith, ◌∙◌, ap, refl, length, insert, remove, None}
+use Rattle.std.proofs.Common.{◌≡◌, ◌≤◌, arith, ◌∙◌, sym, true≢false, refl, length, set, get_or, None}
+use Rattle.std.specs.List.{length_refill}
 use Rattle.std.specs.Ordering.{nat_cmp}
 use Rattle.std.specs.FinMap.{find}
 use Rattle.std.proofs.lemmas.Bool.Decides.{nat_tests}
-use Rattle.g_trap.specs.TrapList.{other_modes, with_other}
-use Rattle.g_trap.proofs.Places.{place, has_modes, has_none, dropped_there, replaced_there, stays_absent, placed_absent, with_other-IsOthers}
+use Rattle.g_trap.specs.TrapList.{with_other}
+use Rattle.g_trap.specs.Places.{StandsAt, FitsAt}
+use Rattle.g_trap.proofs.Places.{stands_in, fits_in, found, absent, dropped_there, stays_absent, placed_absent, written_there, with_other-IsOthers}
 use Rattle.g_trap.proofs.trap_list.give.Goals as goal
-
-pub remove-requires : goal.remove-requires
-remove-requires c =
-    let stands = has_modes c.args.others.now.items c.args.user _ c.requires (c.other_modes.ensures ∙ ap (λ es. other_modes es c.args.user) c.deref.ensures.0) c.in-true-true.ensures in
-    let at : c.place_of-place.result ≡ place c.args.user c.args.others.now.items = c.place_of-place.ensures.place ∙ ap (place c.args.user) c.deref-2.ensures.0 in
-    (omega arith, rw at stands.within)
-
-pub remove-requires-in-true-false : goal.remove-requires-in-true-false
-remove-requires-in-true-false c =
-    let stands = has_modes c.args.others.now.items c.args.user _ c.requires (c.other_modes.ensures ∙ ap (λ es. other_modes es c.args.user) c.deref.ensures.0) (c.in-true-false.ensures) in
-    let at : c.place_of-place.result ≡ place c.args.user c.args.others.now.items = c.place_of-place.ensures.place ∙ ap (place c.args.user) c.deref-2.ensures.0 in
-    (omega arith, rw at stands.within)
 
 pub returns-then-is_full-clause-full : goal.returns-then-is_full-clause-full
 returns-then-is_full-clause-full c =
-    let none : find nat_cmp c.args.user c.args.others.now.items ≡ None = has_none c.args.others.now.items c.args.user _ c.requires (c.other_modes.ensures ∙ ap (λ es. other_modes es c.args.user) c.deref.ensures.0) (c.in-false-false.ensures) in
-    let some = c.in-false-false.ensures' in
+    let fits : FitsAt c.args.user c.args.others.now.items c.in-Err-false.place = fits_in _ _ _ _ c.deref.ensures.0 c.in-Err-false.ensures.absent in
+    let none : find nat_cmp c.args.user c.args.others.now.items ≡ None = absent _ _ _ fits in
+    let some = c.in-Err-false.ensures'.value in
     let full = c.is_full.ensures.value in
     (λ _. grind (arith, nat_tests), λ _. refl)
 
-pub returns-in-true-true-clause-ok : goal.returns-in-true-true-clause-ok
-returns-in-true-true-clause-ok c =
-    let stands = has_modes c.args.others.now.items c.args.user _ c.requires (c.other_modes.ensures ∙ ap (λ es. other_modes es c.args.user) c.deref.ensures.0) c.in-true-true.ensures in
-    let at : c.place_of-place.result ≡ place c.args.user c.args.others.now.items = c.place_of-place.ensures.place ∙ ap (place c.args.user) c.deref-2.ensures.0 in
-    c.remove.ensures.items ∙ ap (remove c.args.others.now.items) at ∙ dropped_there _ _ _ stands (c.in-true-true.ensures')
+pub returns-in-Ok-true-clause-ok : goal.returns-in-Ok-true-clause-ok
+returns-in-Ok-true-clause-ok c =
+    let at : StandsAt c.args.user c.args.others.now.items c.in-Ok-true.place = stands_in _ _ _ _ c.deref.ensures.0 c.in-Ok-true.ensures.found in
+    c.remove.ensures.items ∙ dropped_there _ _ _ _ c.requires.rising at c.in-Ok-true.ensures'.value
 
-pub returns-in-true-true-clause-kept : goal.returns-in-true-true-clause-kept
-returns-in-true-true-clause-kept c =
-    let stands = has_modes c.args.others.now.items c.args.user _ c.requires (c.other_modes.ensures ∙ ap (λ es. other_modes es c.args.user) c.deref.ensures.0) c.in-true-true.ensures in
-    let at : c.place_of-place.result ≡ place c.args.user c.args.others.now.items = c.place_of-place.ensures.place ∙ ap (place c.args.user) c.deref-2.ensures.0 in
-    let is : c.remove.new.self.items ≡ with_other c.args.others.now.items c.args.user c.args.modes = c.remove.ensures.items ∙ ap (remove c.args.others.now.items) at ∙ dropped_there _ _ _ stands (c.in-true-true.ensures') in
-    with_other-IsOthers _ _ _ _ is c.requires (omega arith)
+pub returns-in-Ok-true-clause-kept : goal.returns-in-Ok-true-clause-kept
+returns-in-Ok-true-clause-kept c =
+    let at : StandsAt c.args.user c.args.others.now.items c.in-Ok-true.place = stands_in _ _ _ _ c.deref.ensures.0 c.in-Ok-true.ensures.found in
+    let is : c.remove.new.self.items ≡ with_other c.args.others.now.items c.args.user c.args.modes =
+    c.remove.ensures.items ∙ dropped_there _ _ _ _ c.requires.rising at c.in-Ok-true.ensures'.value in
+    with_other-IsOthers _ _ _ _ is c.requires c.is_empty.ensures.below (omega arith)
 
-pub returns-in-true-false-clause-ok : goal.returns-in-true-false-clause-ok
-returns-in-true-false-clause-ok c =
-    let stands = has_modes c.args.others.now.items c.args.user _ c.requires (c.other_modes.ensures ∙ ap (λ es. other_modes es c.args.user) c.deref.ensures.0) (c.in-true-false.ensures) in
-    let at : c.place_of-place.result ≡ place c.args.user c.args.others.now.items = c.place_of-place.ensures.place ∙ ap (place c.args.user) c.deref-2.ensures.0 in
-    c.insert.ensures.items ∙ ap (λ es. insert es c.place_of-place.result (c.args.user, c.args.modes)) c.remove-in-true-false.ensures.items
-    ∙ ap (λ (k : ℕ). insert (remove c.args.others.now.items k) k (c.args.user, c.args.modes)) at ∙ replaced_there _ _ _ stands (c.in-true-false.ensures')
-
-pub returns-in-true-false-clause-kept : goal.returns-in-true-false-clause-kept
-returns-in-true-false-clause-kept c =
-    let stands = has_modes c.args.others.now.items c.args.user _ c.requires (c.other_modes.ensures ∙ ap (λ es. other_modes es c.args.user) c.deref.ensures.0) (c.in-true-false.ensures) in
-    let at : c.place_of-place.result ≡ place c.args.user c.args.others.now.items = c.place_of-place.ensures.place ∙ ap (place c.args.user) c.deref-2.ensures.0 in
-    let is : c.insert.new.self.items ≡ with_other c.args.others.now.items c.args.user c.args.modes = c.insert.ensures.items ∙ ap (λ es. insert es c.place_of-place.result (c.args.user, c.args.modes)) c.remove-in-true-false.ensures.items
-    ∙ ap (λ (k : ℕ). insert (remove c.args.others.now.items k) k (c.args.user, c.args.modes)) at ∙ replaced_there _ _ _ stands (c.in-true-false.ensures') in
-    with_other-IsOthers _ _ _ _ is c.requires (omega arith)
-
-pub returns-in-false-true-clause-ok : goal.returns-in-false-true-clause-ok
-returns-in-false-true-clause-ok c =
-    let none : find nat_cmp c.args.user c.args.others.now.items ≡ None = has_none c.args.others.now.items c.args.user _ c.requires (c.other_modes.ensures ∙ ap (λ es. other_modes es c.args.user) c.deref.ensures.0) (c.in-false-true.ensures) in
-    stays_absent c.args.others.now.items c.args.user _ none (c.in-false-true.ensures')
+pub returns-in-Err-true-clause-ok : goal.returns-in-Err-true-clause-ok
+returns-in-Err-true-clause-ok c =
+    let fits : FitsAt c.args.user c.args.others.now.items c.in-Err-true.field-0-0 = fits_in _ _ _ _ c.deref.ensures.0 c.in-Err-true.ensures.absent in
+    stays_absent _ _ _ _ fits c.in-Err-true.ensures'.value
 
 pub returns-else-is_full-clause-ok : goal.returns-else-is_full-clause-ok
 returns-else-is_full-clause-ok c =
-    let none : find nat_cmp c.args.user c.args.others.now.items ≡ None = has_none c.args.others.now.items c.args.user _ c.requires (c.other_modes.ensures ∙ ap (λ es. other_modes es c.args.user) c.deref.ensures.0) (c.in-false-false.ensures) in
-    let at : c.place_of-place.result ≡ place c.args.user c.args.others.now.items = c.place_of-place.ensures.place ∙ ap (place c.args.user) c.deref-2.ensures.0 in
-    c.insert-in-false-false.ensures.items ∙ ap (λ (k : ℕ). insert c.args.others.now.items k (c.args.user, c.args.modes)) at ∙ placed_absent c.args.others.now.items c.args.user _ none (c.in-false-false.ensures')
+    let fits : FitsAt c.args.user c.args.others.now.items c.in-Err-false.place = fits_in _ _ _ _ c.deref.ensures.0 c.in-Err-false.ensures.absent in
+    c.insert.ensures.items ∙ placed_absent _ _ _ _ fits c.in-Err-false.ensures'.value
 
 pub returns-else-is_full-clause-kept : goal.returns-else-is_full-clause-kept
 returns-else-is_full-clause-kept c =
-    let none : find nat_cmp c.args.user c.args.others.now.items ≡ None = has_none c.args.others.now.items c.args.user _ c.requires (c.other_modes.ensures ∙ ap (λ es. other_modes es c.args.user) c.deref.ensures.0) (c.in-false-false.ensures) in
-    let at : c.place_of-place.result ≡ place c.args.user c.args.others.now.items = c.place_of-place.ensures.place ∙ ap (place c.args.user) c.deref-2.ensures.0 in
-    let is : c.insert-in-false-false.new.self.items ≡ with_other c.args.others.now.items c.args.user c.args.modes =
-    c.insert-in-false-false.ensures.items ∙ ap (λ (k : ℕ). insert c.args.others.now.items k (c.args.user, c.args.modes)) at ∙ placed_absent c.args.others.now.items c.args.user _ none (c.in-false-false.ensures') in
+    let fits : FitsAt c.args.user c.args.others.now.items c.in-Err-false.place = fits_in _ _ _ _ c.deref.ensures.0 c.in-Err-false.ensures.absent in
+    let is : c.insert.new.self.items ≡ with_other c.args.others.now.items c.args.user c.args.modes =
+    c.insert.ensures.items ∙ placed_absent _ _ _ _ fits c.in-Err-false.ensures'.value in
     let room : length c.args.others.now.items ≤ 7 = grind (arith, nat_tests, c.is_full.ensures.value) in
-    with_other-IsOthers _ _ _ _ is c.requires (omega arith)
+    with_other-IsOthers _ _ _ _ is c.requires c.is_empty.ensures.below (omega arith)
+
+pub returns-in-Ok-false-clause-full : goal.returns-in-Ok-false-clause-full
+returns-in-Ok-false-clause-full c =
+    let at : StandsAt c.args.user c.args.others.now.items c.in-Ok-false.place = stands_in _ _ _ _ c.deref.ensures.0 c.in-Ok-false.ensures.found in
+    let there = found c.args.others.now.items c.args.user c.in-Ok-false.place (0, 0) c.requires.rising at in
+    (λ e. absurd (true≢false (sym e)), λ e. grind (arith, nat_tests))
+
+pub returns-in-Ok-false-clause-ok : goal.returns-in-Ok-false-clause-ok
+returns-in-Ok-false-clause-ok c =
+    let at : StandsAt c.args.user c.args.others.now.items c.in-Ok-false.place = stands_in _ _ _ _ c.deref.ensures.0 c.in-Ok-false.ensures.found in
+    written_there _ _ _ _ _ _ c.requires.rising at c.deref_mut.ensures.value c.in-Ok-false.ensures'.value
+
+pub returns-in-Ok-false-clause-kept : goal.returns-in-Ok-false-clause-kept
+returns-in-Ok-false-clause-kept c =
+    let at : StandsAt c.args.user c.args.others.now.items c.in-Ok-false.place = stands_in _ _ _ _ c.deref.ensures.0 c.in-Ok-false.ensures.found in
+    with_other-IsOthers _ _ _ _ (written_there _ _ _ _ _ _ c.requires.rising at c.deref_mut.ensures.value c.in-Ok-false.ensures'.value) c.requires c.is_empty.ensures.below
+    (omega (arith, length_refill (length c.args.others.now.items) c.args.others.now.items (set c.deref_mut.result.now c.in-Ok-false.place ((get_or c.deref_mut.result.now c.in-Ok-false.place c.index-deref_mut-place.result).0, c.args.modes)) refl))

@@ -1,11 +1,12 @@
 -- The file at the place of the number goes, and its name with it.
-use Rattle.std.proofs.Common.{◌≡◌, sym, ap, subst, ◌∙◌, is_some, true≢false}
+use Rattle.std.proofs.Common.{sym, ap, subst, ◌∙◌, is_some, true≢false}
 use Rattle.std.specs.FinMap.{get}
-use Rattle.g_tree.specs.Records.{full_of, tree_of, by_number}
-use Rattle.g_tree.specs.State.{TreeState, without_file, without_number}
+use Rattle.g_tree.specs.Records.{IsRecords, full_of, tree_of, by_number}
+use Rattle.g_tree.specs.State.{without_file}
 use Rattle.g_tree.specs.Places.{StandsAt, FitsAt}
 use Rattle.g_tree.proofs.PlaceLemmas.{fits_none}
-use Rattle.g_tree.proofs.ChangeLemmas.{erased, removed_list, removed_tree}
+use Rattle.g_tree.proofs.ChangeLemmas.{erased, removed_list}
+use Rattle.g_tree.proofs.LawLemmas.{tree_erased}
 use Rattle.g_tree.proofs.tree.Tree.erase.Goals as goal
 
 pub invariant_of-self : goal.invariant_of-self
@@ -28,12 +29,8 @@ returns-clause-files c =
 
 pub returns-clause-tree : goal.returns-clause-tree
 returns-clause-tree c = λ bytes next.
-    let at : StandsAt c.self.inside.files.items c.args.number c.in-Ok.place = subst (λ fs. StandsAt fs c.args.number c.in-Ok.place) c.as_slice.ensures.value c.in-Ok.ensures.found in
-    let P : TreeState → Type 0 = λ s. tree_of c.self.inside.users.items c.remove-file.new.self.items bytes next
-    ≡ record (tree_of s.users s.files bytes next) { files = without_number s.users s.files c.args.number (tree_of s.users s.files bytes next).files } in
-    subst P c.self.view_is
-    (ap (λ fs. tree_of c.self.inside.users.items fs bytes next) c.remove-file.ensures.items
-    ∙ removed_tree c.self.inside.users.items c.self.inside.files.items c.self.invariant.records c.args.number c.in-Ok.place at bytes next c.remove-file.result)
+    let is = subst (λ s. IsRecords s.users s.files) c.self.view_is c.self.invariant.records in
+    (λ i. tree_of ((c.self.view_is i).users) (returns-clause-files c i) bytes next) ∙ tree_erased c.args.self.now.users c.args.self.now.files bytes next is c.args.number
 
 pub returns-clause-records : goal.returns-clause-records
 returns-clause-records c =

@@ -8,7 +8,8 @@ use Rattle.g_tree.specs.Records.{IsRecords, full_of, tree_of, number_of}
 use Rattle.g_tree.specs.State.{IsIndexed, with_file}
 use Rattle.g_tree.specs.Places.{StandsAt, FitsAt}
 use Rattle.g_tree.proofs.ResultLemmas.{ok_is_no_err}
-use Rattle.g_tree.proofs.PutLemmas.{owner_there, with_new, with_other, tree_new, tree_other, indexed_new, named_fits, still_room}
+use Rattle.g_tree.proofs.PutLemmas.{owner_there, with_new, with_other, indexed_new, named_fits, still_room}
+use Rattle.g_tree.proofs.LawLemmas.{tree_put}
 use Rattle.g_tree.proofs.tree.Tree.put.Goals as goal
 
 -- where no file has the number there is room
@@ -36,11 +37,8 @@ returns-in-Ok-clause-files c =
 
 pub returns-in-Ok-clause-tree : goal.returns-in-Ok-clause-tree
 returns-in-Ok-clause-tree c = λ bytes next.
-    let is : IsRecords c.args.self.now.users c.args.self.now.files = subst (λ s. IsRecords s.users s.files) c.self.view_is c.self.invariant.records in
-    let at : StandsAt c.args.self.now.files c.args.file.number c.in-Ok.place =
-    subst (λ fs. StandsAt fs c.args.file.number c.in-Ok.place) (c.as_slice-2.ensures.value ∙ ap (λ s. s.files) c.self.view_is) c.in-Ok.ensures.found in
-    let rules = subst (IsRecords c.args.self.now.users) (with_other c.args.file c.args.self.now.files c.in-Ok.place is.numbers at) c.requires.rules in
-    (λ i. tree_of (c.replace.ensures.users i) (c.replace.ensures.files i) bytes next) ∙ tree_other c.args.self.now.users bytes next c.args.self.now.files c.in-Ok.place c.args.file is at rules
+    let is = subst (λ s. IsRecords s.users s.files) c.self.view_is c.self.invariant.records in
+    (λ i. tree_of (c.replace.ensures.users i) (returns-in-Ok-clause-files c i) bytes next) ∙ tree_put c.args.self.now.users c.args.self.now.files bytes next is c.args.file c.requires.rules
 
 pub insert-requires : goal.insert-requires
 insert-requires c =
@@ -83,13 +81,6 @@ returns-else-is_err-clause-same_name c = λ e.
 
 pub returns-else-is_err-clause-tree : goal.returns-else-is_err-clause-tree
 returns-else-is_err-clause-tree c = λ bytes next.
-    let users = c.args.self.now.users in
-    let files = c.args.self.now.files in
-    let is : IsRecords users files = subst (λ s. IsRecords s.users s.files) c.self.view_is c.self.invariant.records in
-    let fits : FitsAt files c.args.file.number c.in-Err.place =
-    subst (λ fs. FitsAt fs c.args.file.number c.in-Err.place) (c.as_slice-2.ensures.value ∙ ap (λ s. s.files) c.self.view_is) c.in-Err.ensures.absent in
-    let items : c.insert-in-Err.new.self.items ≡ list.insert files c.in-Err.place c.args.file =
-    c.insert-in-Err.ensures.items ∙ ap (λ b. cond b (list.insert c.self.inside.files.items c.in-Err.place c.args.file) c.self.inside.files.items) (c.is_err.ensures.negation ∙ ap not c.if-is_err.false)
-    ∙ ap (λ s. list.insert s.files c.in-Err.place c.args.file) c.self.view_is in
-    (λ i. tree_of ((c.self.view_is i).users) (items i) bytes next)
-    ∙ tree_new users bytes next files c.in-Err.place c.args.file is fits (subst (IsRecords users) (with_new c.args.file files c.in-Err.place fits) c.requires.rules)
+    let is = subst (λ s. IsRecords s.users s.files) c.self.view_is c.self.invariant.records in
+    (λ i. tree_of ((c.self.view_is i).users) (returns-else-is_err-clause-files c i) bytes next)
+    ∙ tree_put c.args.self.now.users c.args.self.now.files bytes next is c.args.file c.requires.rules

@@ -1,0 +1,68 @@
+//! A list of block numbers.
+ghost use Rattle.std.specs.Prelude.{◌≡◌, ◌≤◌, ◌<◌, ◌↔◌, [], ◌∷◌, ◌++◌, length, IsSome, IfSome};
+
+use arrayvec::ArrayVec;
+use std::marker::Model;
+
+/// Up to 128 block numbers, as many as the greatest file takes, in the order of what stands in them.
+#[derive(Debug, Drop, PartialEq, Eq)]
+pub struct BlockList {
+    blocks: ArrayVec<u32, 128>,
+}
+
+impl Model for BlockList {
+    ghost use Rattle.std.specs.Prelude.{ℕ, List};
+
+    ghost Value = { List ℕ };
+
+    ghost view = { λ l. l.blocks.items };
+
+    ghost inverse = { λ ks. record { blocks = record { items = ks } } };
+}
+
+impl BlockList {
+    /// No block.
+    pub fn new() -> BlockList
+        ensures { result ≡ [] }
+    {
+        BlockList {
+            blocks: ArrayVec::new(),
+        }
+    }
+
+    /// The list of these numbers: none where there are more than 128.
+    pub fn from_slice(blocks: &[u32]) -> Option<BlockList>
+        ensures fits { IsSome result ↔ (length blocks.now ≤ 128) }
+        ensures value { IfSome result (λ l. l ≡ blocks.now) }
+    {
+        let blocks = ArrayVec::try_from(blocks).ok()?;
+        Some(BlockList { blocks })
+    }
+
+    /// Puts a number behind the others.
+    pub fn push(&mut self, block: u32)
+        requires { length self.old < 128 }
+        ensures { self.new ≡ self.old ++ block ∷ [] }
+    {
+        self.blocks.push(block);
+    }
+
+    /// The numbers.
+    pub fn as_slice(&self) -> &[u32]
+        ensures value { result.now ≡ self.now }
+        ensures fits { length self.now ≤ 128 }
+    {
+        self.blocks.as_slice()
+    }
+
+    /// The same list once more, which takes no memory.
+    pub fn copy(&self) -> BlockList
+        ensures { result ≡ self.now }
+    {
+        let mut copied = BlockList::new();
+        for block in self.blocks.as_slice() {
+            copied.push(*block);
+        }
+        copied
+    }
+}

@@ -1,0 +1,4 @@
+pub mod Commits
+pub mod Contents
+pub mod Facts
+pub mod Quiet

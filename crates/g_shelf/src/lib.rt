@@ -1,0 +1,12 @@
+//! The completed dumps of a reel, and which writes of a tape change them. So far definitions and laws alone.
+#![tactic(auto)]
+
+ghost use Rattle.g_shelf.specs.Quiet.{MarkCompletes, QuietBlocks};
+
+/// A write of the next block of a dump that begins behind the completed ones, whatever it leaves, leaves the completed
+/// dumps as they are, where the block stands before the mark; and a write of the mark leaves them, or adds that dump.
+#[tactic(auto, using(crate::proofs::QuietLemmas::quiet_blocks, crate::proofs::MarkLemmas::mark_completes))]
+pub fn writes_of_dumps()
+    ensures quiet { QuietBlocks }
+    ensures mark { MarkCompletes }
+{}

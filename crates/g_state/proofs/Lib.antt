@@ -1,0 +1,3 @@
+pub mod BelongLemmas
+pub mod ChangeLemmas
+pub mod ViewLemmas

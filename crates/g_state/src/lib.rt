@@ -1,0 +1,23 @@
+//! What devices mean: content, the dumped directory, disc and rack that belong together, the state that a store stands for,
+//! and how a store answers. So far definitions and laws alone.
+#![tactic(auto)]
+
+ghost use Rattle.g_state.specs.Laws.{ClosingBelongs, FilesBelong, FormatBelongs, IntentsBelong, NewVersionBelongs, ReadsBelong, ReadsKeepState, RestoreBelongs};
+
+/// Which changes keep disc and rack together: a new version, with other files taken off the disc for it; a file erased,
+/// recorded anew, taken off or brought back; an intent and its dropping; the closing commit of a dump and its adoption;
+/// what a restore makes; and the first directory over reels without a dump.
+pub fn changes_belong()
+    ensures version { NewVersionBelongs }
+    ensures files { FilesBelong }
+    ensures intents { IntentsBelong }
+    ensures closing { ClosingBelongs }
+    ensures restore { RestoreBelongs }
+    ensures format { FormatBelongs }
+{}
+
+/// Reads of tape change neither that disc and rack belong together nor the state that a store stands for.
+pub fn reads_change_nothing()
+    ensures belong { ReadsBelong }
+    ensures state { ReadsKeepState }
+{}

@@ -1,0 +1,6 @@
+-- A user is there where a record has the name.
+use Rattle.std.proofs.Common.{◌∙◌}
+use Rattle.g_tree.proofs.tree.Tree.has_user.Goals as goal
+
+pub returns : goal.returns
+returns c = λ bytes next. c.is_some.ensures ∙ c.user.ensures.there bytes next
