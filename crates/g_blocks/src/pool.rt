@@ -1,4 +1,4 @@
-//! The pool of copy blocks: a flag for each, how many are free, and where the search for them begins.
+//! The pool of copy blocks: a flag for each, how many are free, and where the search begins.
 ghost use Rattle.std.specs.Prelude.{◌≡◌, ◌≢◌, ◌+◌, ◌-◌, ◌<◌, ◌≤◌, ◌↔◌, ◌⊎◌, All, AllPairs, IfOk, IfErr, OnErr, IsErrOf, IsOkUnless, slice_set, replicate, length, true, false};
 
 use crate::free::{least_free, taken_in_front};
@@ -80,8 +80,10 @@ impl Pool {
     pub fn take(&mut self, alloc: Global, n: u32) -> Result<Vec<u32>, PoolFault>
         ensures least { IfOk result (λ blocks. AreLeastFree self.old n blocks.items) }
         ensures taken { IfOk result (λ blocks. HasTaken blocks.items self.old self.new) }
-        ensures full { IsErrOf result (PoolFault.DiscFull n (free_count self.old)) ↔ (free_count self.old < n) }
-        ensures fault { IfErr result (λ fault. (fault ≡ PoolFault.NoMemory) ⊎ (fault ≡ PoolFault.DiscFull n (free_count self.old))) }
+        ensures full { IsErrOf result (PoolFault.DiscFull n (free_count self.old))
+            ↔ (free_count self.old < n) }
+        ensures fault { IfErr result (λ fault. (fault ≡ PoolFault.NoMemory)
+            ⊎ (fault ≡ PoolFault.DiscFull n (free_count self.old))) }
         ensures err { OnErr result (self.new ≡ self.old) }
     {
         if self.free < n {

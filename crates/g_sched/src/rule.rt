@@ -13,7 +13,7 @@ pub const MAX_WEIGHT: u64 = 1_099_511_627_776;
 
 const _: () = prove!(MAX_ALLOWANCE == 1_000_000 && MAX_WEIGHT == 1_099_511_627_776);
 
-///! Where a job stands: its number, the units of TIME charged so far, its allowance of them, and how
+/// Where a job stands: its number, the units of TIME charged so far, its allowance of them, and how
 /// many of its turns were charged.
 #[derive(Clone, Copy, Debug, PartialEq, Eq)]
 pub struct Standing {
