@@ -1,16 +1,16 @@
 -- One flag after another: what a loop that marks blocks has changed so far.
-use Rattle.std.proofs.Common.{◌≡◌, ◌≢◌, ℕ, zero, suc, ◌+◌, ◌-◌, ◌*◌, ◌<◌, ◌≤◌, List, [], ◌∷◌, ◌++◌, Bool, true, false, not, cond, Some, length, take, All, AllPairs, Contains, slice_get, get_or, replicate, refl, sym, ◌∙◌, ap, subst, inl, inr, arith, length-set, length-take}
+use Rattle.std.proofs.Common.{◌≡◌, ◌≢◌, ℕ, zero, suc, ◌+◌, ◌-◌, ◌*◌, ◌<◌, ◌≤◌, List, [], ◌∷◌, ◌++◌, Bool, true, false, not, cond, Some, length, take, drop, All, AllPairs, Contains, slice_get, get_or, replicate, refl, sym, ◌∙◌, ap, subst, inl, inr, arith, length-set, length-take, length-drop}
 use Rattle.std.proofs.Math.ListN.{set}
-use Rattle.std.proofs.lemmas.List.{take_more, get_or-set_same, get_or-take, get_or_default, get_or-replicate, length-replicate}
+use Rattle.std.proofs.lemmas.List.{take_all, take_more, get_or-set_same, get_or-take, get_or-drop, get_or_default, get_or-replicate, length-replicate}
 use Rattle.std.proofs.lemmas.List.Folds.{sum_by-replicate}
 use Rattle.std.proofs.lemmas.List.Elements.{All-more, Contains-append_left, Contains-push}
 use Rattle.std.specs.List.Sorted.{IsStrictlyIncreasing}
-use Rattle.std.proofs.lemmas.Bool.{cases_eq}
+use Rattle.std.proofs.lemmas.Bool.{cases_eq, cases_lt}
 use Rattle.std.proofs.lemmas.List.Kept.{AllPairs-from_increasing}
 use Rattle.std.proofs.lemmas.List.Sums.{sum_by-set}
 use Rattle.std.proofs.lemmas.Option.{slice_get-get_or, get_or_from_slice_get, slice_get_within}
-use Rattle.g_blocks.specs.declared.pool.TheConstants.{FIRST_COPY_BLOCK}
-use Rattle.g_blocks.specs.Flags.{free_flags}
+use Rattle.g_base.specs.Limits.{first_copy_block}
+use Rattle.g_blocks.specs.Flags.{free_flags, AreSetBefore}
 use Rattle.g_blocks.specs.Pool.{IsFree, IsTaken, ChangesOnly, HasTaken, HasGiven, IsFresh}
 
 slice_get-set_same : {X : Type 0} (xs : List X) (i : ℕ) (x : X) → i < length xs → slice_get (set xs i x) i ≡ Some x
@@ -53,24 +53,24 @@ not-before blocks i apart below (k, within, is) =
     apart k i 0 before below (get_or_default blocks k 0 block here ∙ sym (get_or-take i blocks k block before) ∙ is)
 
 -- a block that isn't among the first i of the list has its old flag
-pub flag-still : (blocks : List ℕ) (i : ℕ) (old now : List Bool) → ChangesOnly (take i blocks) old now → AllPairs (λ one other. one ≢ other) blocks → i < length blocks → FIRST_COPY_BLOCK ≤ get_or blocks i 0 → slice_get now (get_or blocks i 0 - FIRST_COPY_BLOCK) ≡ slice_get old (get_or blocks i 0 - FIRST_COPY_BLOCK)
+pub flag-still : (blocks : List ℕ) (i : ℕ) (old now : List Bool) → ChangesOnly (take i blocks) old now → AllPairs (λ one other. one ≢ other) blocks → i < length blocks → first_copy_block ≤ get_or blocks i 0 → slice_get now (get_or blocks i 0 - first_copy_block) ≡ slice_get old (get_or blocks i 0 - first_copy_block)
 flag-still blocks i old now changes apart below low =
-    let number : FIRST_COPY_BLOCK + (get_or blocks i 0 - FIRST_COPY_BLOCK) ≡ get_or blocks i 0 = omega arith in
-    changes.others (get_or blocks i 0 - FIRST_COPY_BLOCK) (λ among. not-before blocks i apart below (subst (Contains (take i blocks)) number among))
+    let number : first_copy_block + (get_or blocks i 0 - first_copy_block) ≡ get_or blocks i 0 = omega arith in
+    changes.others (get_or blocks i 0 - first_copy_block) (λ among. not-before blocks i apart below (subst (Contains (take i blocks)) number among))
 
 -- one block more
-ChangesOnly-more : (blocks : List ℕ) (i : ℕ) (old now : List Bool) (flag : Bool) → ChangesOnly (take i blocks) old now → i < length blocks → FIRST_COPY_BLOCK ≤ get_or blocks i 0 → ChangesOnly (take (i + 1) blocks) old (set now (get_or blocks i 0 - FIRST_COPY_BLOCK) flag)
+ChangesOnly-more : (blocks : List ℕ) (i : ℕ) (old now : List Bool) (flag : Bool) → ChangesOnly (take i blocks) old now → i < length blocks → first_copy_block ≤ get_or blocks i 0 → ChangesOnly (take (i + 1) blocks) old (set now (get_or blocks i 0 - first_copy_block) flag)
 ChangesOnly-more blocks i old now flag changes below low =
     let block = get_or blocks i 0 in
     let more = take_more blocks i 0 below in
     record {
       size = length-set now _ flag ∙ changes.size;
       others = λ place apart.
-          let earlier : Contains (take i blocks) (FIRST_COPY_BLOCK + place) → ⊥ = λ among. apart (subst (λ bs. Contains bs (FIRST_COPY_BLOCK + place)) (sym more) (Contains-append_left _ _ _ among)) in
-          let other : place ≢ block - FIRST_COPY_BLOCK = λ same.
-          let number : block ≡ FIRST_COPY_BLOCK + place = omega arith in
-          apart (subst (λ bs. Contains bs (FIRST_COPY_BLOCK + place)) (sym more) (subst (Contains (take i blocks ++ block ∷ [])) number (Contains-push (take i blocks) block))) in
-          slice_get-set_other now (block - FIRST_COPY_BLOCK) place flag other ∙ changes.others place earlier;
+          let earlier : Contains (take i blocks) (first_copy_block + place) → ⊥ = λ among. apart (subst (λ bs. Contains bs (first_copy_block + place)) (sym more) (Contains-append_left _ _ _ among)) in
+          let other : place ≢ block - first_copy_block = λ same.
+          let number : block ≡ first_copy_block + place = omega arith in
+          apart (subst (λ bs. Contains bs (first_copy_block + place)) (sym more) (subst (Contains (take i blocks ++ block ∷ [])) number (Contains-push (take i blocks) block))) in
+          slice_get-set_other now (block - first_copy_block) place flag other ∙ changes.others place earlier;
     }
 
 -- a flag that is set stays set when another is set or it is set again
@@ -81,9 +81,9 @@ flag-kept flags i j flag below is =
       | inr apart ↦ slice_get-set_other flags i j flag apart ∙ is
     ]
 
-pub HasTaken-more : (blocks : List ℕ) (i : ℕ) (old now : List Bool) → HasTaken (take i blocks) old now → i < length blocks → IsFree now (get_or blocks i 0) → HasTaken (take (i + 1) blocks) old (set now (get_or blocks i 0 - FIRST_COPY_BLOCK) true)
+pub HasTaken-more : (blocks : List ℕ) (i : ℕ) (old now : List Bool) → HasTaken (take i blocks) old now → i < length blocks → IsFree now (get_or blocks i 0) → HasTaken (take (i + 1) blocks) old (set now (get_or blocks i 0 - first_copy_block) true)
 HasTaken-more blocks i old now taken below free =
-    let place = get_or blocks i 0 - FIRST_COPY_BLOCK in
+    let place = get_or blocks i 0 - first_copy_block in
     let within : place < length now = slice_get_within now place false free.flag in
     let count = free_flags-taken now place free.flag in
     let earlier : All (IsTaken (set now place true)) (take i blocks) = λ k d h.
@@ -95,9 +95,9 @@ HasTaken-more blocks i old now taken below free =
       count = omega (arith, count, taken.count, length-take (i + 1) blocks, length-take i blocks);
     }
 
-pub HasGiven-more : (blocks : List ℕ) (i : ℕ) (old now : List Bool) → HasGiven (take i blocks) old now → i < length blocks → IsTaken now (get_or blocks i 0) → HasGiven (take (i + 1) blocks) old (set now (get_or blocks i 0 - FIRST_COPY_BLOCK) false)
+pub HasGiven-more : (blocks : List ℕ) (i : ℕ) (old now : List Bool) → HasGiven (take i blocks) old now → i < length blocks → IsTaken now (get_or blocks i 0) → HasGiven (take (i + 1) blocks) old (set now (get_or blocks i 0 - first_copy_block) false)
 HasGiven-more blocks i old now given below taken =
-    let place = get_or blocks i 0 - FIRST_COPY_BLOCK in
+    let place = get_or blocks i 0 - first_copy_block in
     let within : place < length now = slice_get_within now place true taken.flag in
     let count = free_flags-given now place taken.flag in
     let earlier : All (IsFree (set now place false)) (take i blocks) = λ k d h.
@@ -109,16 +109,81 @@ HasGiven-more blocks i old now given below taken =
       count = omega (arith, count, given.count, length-take (i + 1) blocks, length-take i blocks);
     }
 
--- The count beside the flags, when the flag of a free block is set, and when that of a taken one is cleared.
-pub count-taken : (free : ℕ) (flags pool : List Bool) (i : ℕ) → flags ≡ pool → slice_get pool i ≡ Some false → (free ≡ free_flags flags) × (2177 + length flags ≤ 1_048_576) → (free - 1 ≡ free_flags (set flags i true)) × (2177 + length (set flags i true) ≤ 1_048_576)
-count-taken free flags pool i same is (counted, small) =
-    let count = free_flags-taken flags i (subst (λ fs. slice_get fs i ≡ Some false) (sym same) is) in
-    (omega (arith, count, counted), omega (arith, small, length-set flags i true))
+-- No block before the place where the search begins is free: when a flag is set, and when one is cleared.
+AreSetBefore-set : (low : ℕ) (flags : List Bool) (i : ℕ) → i < length flags → AreSetBefore low flags → AreSetBefore low (set flags i true)
+AreSetBefore-set low flags i below before = record {
+  within = omega (arith, length-set flags i true, before.within);
+  each = λ j h. flag-kept flags i j true below (before.each j h);
+}
 
-pub count-given : (free : ℕ) (flags pool : List Bool) (i : ℕ) → flags ≡ pool → slice_get pool i ≡ Some true → (free ≡ free_flags flags) × (2177 + length flags ≤ 1_048_576) → (free + 1 ≡ free_flags (set flags i false)) × (2177 + length (set flags i false) ≤ 1_048_576)
-count-given free flags pool i same is (counted, small) =
+AreSetBefore-cleared : (low now : ℕ) (flags : List Bool) (i : ℕ) → now ≤ low → now ≤ i
+    → AreSetBefore low flags → AreSetBefore now (set flags i false)
+AreSetBefore-cleared low now flags i lower none before = record {
+  within = omega (arith, length-set flags i false, before.within);
+  each = λ j h. slice_get-set_other flags i j false (omega (arith, h)) ∙ before.each j (omega (arith, h));
+}
+
+-- none at all; one more that is set; those behind the place
+pub AreSetBefore-none : (flags : List Bool) → AreSetBefore 0 flags
+AreSetBefore-none flags = record { within = omega arith; each = λ j h. absurd (omega (arith, h)) }
+
+pub AreSetBefore-more : (place : ℕ) (flags : List Bool) → AreSetBefore place flags → place < length flags
+    → get_or flags place false ≡ true → AreSetBefore (place + 1) flags
+AreSetBefore-more place flags before within is = record {
+  within = omega arith;
+  each = λ j h.
+      elim (cases_eq j place) [
+        | inl same ↦ subst (λ k. slice_get flags k ≡ Some true) (sym same) (slice_get-get_or flags place false within ∙ ap Some is)
+        | inr apart ↦ before.each j (omega (arith, h, apart))
+      ];
+}
+
+AreSetBefore-then : (low more : ℕ) (flags : List Bool) → AreSetBefore low flags → AreSetBefore more (drop low flags) → AreSetBefore (low + more) flags
+AreSetBefore-then low more flags before behind =
+    let long = length-drop low flags in
+    record {
+      within = omega (arith, long, before.within, behind.within);
+      each = λ j h.
+          elim (cases_lt j low) [
+            | inl front ↦ before.each j front
+            | inr back ↦
+                let k = j - low in
+                let number : low + k ≡ j = omega arith in
+                let within : low + k < length flags = omega (arith, h, long, before.within, behind.within) in
+                let there : get_or (drop low flags) k false ≡ true = get_or_from_slice_get (drop low flags) k true false (behind.each k (omega (arith, h))) in
+                let same = get_or-drop low flags k false in
+                let here : slice_get flags (low + k) ≡ Some true =
+                slice_get-get_or flags (low + k) false within ∙ ap Some (sym same ∙ there) in
+                subst (λ i. slice_get flags i ≡ Some true) number here
+          ];
+    }
+
+pub slice_from : {X : Type 0} (n : ℕ) (xs : List X) → take (length xs - n) (drop n xs) ≡ drop n xs
+slice_from n xs = take_all (length xs - n) (drop n xs) (omega (arith, length-drop n xs))
+
+pub AreSetBefore-behind : (low more : ℕ) (flags slice : List Bool) → slice ≡ flags → AreSetBefore low flags
+    → AreSetBefore more (take (length slice - low) (drop low slice)) → AreSetBefore (low + more) flags
+AreSetBefore-behind low more flags slice same before behind =
+    let there : AreSetBefore more (drop low slice) = subst (AreSetBefore more) (slice_from low slice) behind in
+    AreSetBefore-then low more flags before (subst (λ (fs : List Bool). AreSetBefore more (drop low fs)) same there)
+
+-- The count beside the flags, when the flag of a free block is set, and when that of a taken one is cleared.
+pub count-taken : (free low : ℕ) (flags pool : List Bool) (i : ℕ) → flags ≡ pool → slice_get pool i ≡ Some false
+    → (free ≡ free_flags flags) × (2177 + length flags ≤ 1_048_576) × AreSetBefore low flags
+    → (free - 1 ≡ free_flags (set flags i true)) × (2177 + length (set flags i true) ≤ 1_048_576) × AreSetBefore low (set flags i true)
+count-taken free low flags pool i same is (counted, small, before) =
+    let clear = subst (λ fs. slice_get fs i ≡ Some false) (sym same) is in
+    let count = free_flags-taken flags i clear in
+    let set_before = AreSetBefore-set low flags i (slice_get_within flags i false clear) before in
+    (omega (arith, count, counted), omega (arith, small, length-set flags i true), set_before)
+
+pub count-given : (free low now : ℕ) (flags pool : List Bool) (i : ℕ) → flags ≡ pool → slice_get pool i ≡ Some true
+    → now ≤ low → now ≤ i → (free ≡ free_flags flags) × (2177 + length flags ≤ 1_048_576) × AreSetBefore low flags
+    → (free + 1 ≡ free_flags (set flags i false)) × (2177 + length (set flags i false) ≤ 1_048_576) × AreSetBefore now (set flags i false)
+count-given free low now flags pool i same is lower none (counted, small, before) =
     let count = free_flags-given flags i (subst (λ fs. slice_get fs i ≡ Some true) (sym same) is) in
-    (omega (arith, count, counted), omega (arith, small, length-set flags i false))
+    let set_before = AreSetBefore-cleared low now flags i lower none before in
+    (omega (arith, count, counted), omega (arith, small, length-set flags i false), set_before)
 
 pub free_flags-some : (flags pool : List Bool) (i : ℕ) → flags ≡ pool → slice_get pool i ≡ Some false → 1 ≤ free_flags flags
 free_flags-some flags pool i same is =
@@ -146,19 +211,19 @@ pub apart-rising : (blocks : List ℕ) → IsStrictlyIncreasing blocks → AllPa
 apart-rising blocks rising i j d before below same = absurd (omega (arith, AllPairs-from_increasing blocks rising i j d before below, same))
 
 -- where no block was taken, just these are taken now
-pub IsFresh-taken : (size : ℕ) (used : List ℕ) (old new : List Bool) → FIRST_COPY_BLOCK < size → old ≡ replicate (size - FIRST_COPY_BLOCK) false → HasTaken used old new → IsFresh size used new
+pub IsFresh-taken : (size : ℕ) (used : List ℕ) (old new : List Bool) → first_copy_block < size → old ≡ replicate (size - first_copy_block) false → HasTaken used old new → IsFresh size used new
 IsFresh-taken size used old new low empty taken =
-    let n = size - FIRST_COPY_BLOCK in
+    let n = size - first_copy_block in
     let long : length old ≡ n = ap length empty ∙ length-replicate n false in
     let all : free_flags old ≡ n * 1 = ap free_flags empty ∙ sum_by-replicate number_free n false in
     record {
       whole = omega (arith, taken.changes.size, long);
       taken = taken.taken;
       free = λ block area other.
-          let place = block - FIRST_COPY_BLOCK in
+          let place = block - first_copy_block in
           let below : place < n = omega (arith, area.low, area.high) in
           let within : place < length old = omega (arith, long) in
-          let number : FIRST_COPY_BLOCK + place ≡ block = omega (arith, area.low) in
+          let number : first_copy_block + place ≡ block = omega (arith, area.low) in
           let clear : get_or old place false ≡ false = ap (λ (flags : List Bool). get_or flags place false) empty ∙ get_or-replicate n place false false below in
           let was : slice_get old place ≡ Some false = slice_get-get_or old place false within ∙ ap Some clear in
           record { low = area.low; flag = taken.changes.others place (λ among. other (subst (Contains used) number among)) ∙ was };

@@ -1,6 +1,11 @@
--- The flags of a pool's blocks, counted.
-use Rattle.std.specs.Prelude.{ℕ, List, Bool, not, count_by}
+-- The flags of a pool's blocks: how many aren't set, and how far all are.
+use Rattle.std.specs.Prelude.{◌≡◌, ℕ, ◌<◌, ◌≤◌, List, Bool, true, Some, length, not, count_by, slice_get}
 
 -- how many flags aren't set
 abbrev pub free_flags : List Bool → ℕ
 free_flags flags = count_by not flags
+
+-- there are as many flags, and those before this place are set
+pub record AreSetBefore (place : ℕ) (flags : List Bool) : Type 0 where
+  pub within : place ≤ length flags
+  pub each : (i : ℕ) → i < place → slice_get flags i ≡ Some true

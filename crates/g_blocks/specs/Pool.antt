@@ -1,21 +1,21 @@
 -- Which blocks of a pool are free and taken, and what taking and giving back change. A pool is the list of its blocks' flags.
 use Rattle.std.specs.Prelude.{◌≡◌, ℕ, ◌+◌, ◌-◌, ◌<◌, ◌≤◌, List, Bool, true, false, Some, length, All, Contains, slice_get}
 use Rattle.std.specs.List.Sorted.{IsStrictlyIncreasing}
-use Rattle.g_blocks.specs.declared.pool.TheConstants.{FIRST_COPY_BLOCK}
+use Rattle.g_base.specs.Limits.{first_copy_block}
 use Rattle.g_blocks.specs.Flags.{free_flags}
 
 -- a copy block of a disc of this size
 pub record IsInArea (size block : ℕ) : Type 0 where
-  pub low : FIRST_COPY_BLOCK ≤ block
+  pub low : first_copy_block ≤ block
   pub high : block < size
 
 pub record IsFree (pool : List Bool) (block : ℕ) : Type 0 where
-  pub low : FIRST_COPY_BLOCK ≤ block
-  pub flag : slice_get pool (block - FIRST_COPY_BLOCK) ≡ Some false
+  pub low : first_copy_block ≤ block
+  pub flag : slice_get pool (block - first_copy_block) ≡ Some false
 
 pub record IsTaken (pool : List Bool) (block : ℕ) : Type 0 where
-  pub low : FIRST_COPY_BLOCK ≤ block
-  pub flag : slice_get pool (block - FIRST_COPY_BLOCK) ≡ Some true
+  pub low : first_copy_block ≤ block
+  pub flag : slice_get pool (block - first_copy_block) ≡ Some true
 
 -- how many blocks of the pool are free
 abbrev pub free_count : List Bool → ℕ
@@ -31,7 +31,7 @@ pub record AreLeastFree (pool : List Bool) (n : ℕ) (blocks : List ℕ) : Type 
 -- the pools are of one size, and all but these blocks are free or taken as before
 pub record ChangesOnly (blocks : List ℕ) (old new : List Bool) : Type 0 where
   pub size : length new ≡ length old
-  pub others : (place : ℕ) → (Contains blocks (FIRST_COPY_BLOCK + place) → ⊥) → slice_get new place ≡ slice_get old place
+  pub others : (place : ℕ) → (Contains blocks (first_copy_block + place) → ⊥) → slice_get new place ≡ slice_get old place
 
 -- these blocks, and no others, went from free to taken
 pub record HasTaken (blocks : List ℕ) (old new : List Bool) : Type 0 where
@@ -47,7 +47,7 @@ pub record HasGiven (blocks : List ℕ) (old new : List Bool) : Type 0 where
 
 -- the pool of a disc of this size on which just these blocks are taken
 pub record IsFresh (size : ℕ) (used : List ℕ) (pool : List Bool) : Type 0 where
-  pub whole : FIRST_COPY_BLOCK + length pool ≡ size
+  pub whole : first_copy_block + length pool ≡ size
   pub taken : All (IsTaken pool) used
   pub free : (block : ℕ) → IsInArea size block → (Contains used block → ⊥) → IsFree pool block
-  pub count : FIRST_COPY_BLOCK + free_count pool + length used ≡ size
+  pub count : first_copy_block + free_count pool + length used ≡ size

@@ -4,7 +4,8 @@
 mod free;
 mod pool;
 
-pub use pool::{FIRST_COPY_BLOCK, MAX_DISC_BLOCKS, Pool, PoolFault};
+pub use g_base::{FIRST_COPY_BLOCK, MAX_DISC_BLOCKS};
+pub use pool::{Pool, PoolFault};
 
 #[cfg(test)]
 mod tests;

@@ -1,24 +1,19 @@
-// The pool of copy blocks: a flag for each, and how many are free.
+//! The pool of copy blocks: a flag for each, how many are free, and where the search begins.
 ghost use Rattle.std.specs.Prelude.{◌≡◌, ◌≢◌, ◌+◌, ◌-◌, ◌<◌, ◌≤◌, ◌↔◌, ◌⊎◌, All, AllPairs, IfOk, IfErr, OnErr, IsErrOf, IsOkUnless, slice_set, replicate, length, true, false};
 
-use crate::free::least_free;
+use crate::free::{least_free, taken_in_front};
+use g_base::FIRST_COPY_BLOCK;
 use std::alloc::{AllocError, Global};
 use std::marker::Model;
 use thiserror::Error;
-
-/// The number of the first copy block. Before it stand the gate and two slots of 1,088 blocks each.
-pub const FIRST_COPY_BLOCK: u32 = 2_177;
-
-/// The most blocks of a disc.
-pub const MAX_DISC_BLOCKS: u32 = 1_048_576;
 
 /// Why a pool is not made, or gives no blocks. Both leave all as before.
 #[derive(Clone, Copy, Debug, PartialEq, Eq, Error)]
 pub enum PoolFault {
     /// More blocks are needed than are free.
-    #[error("DISC FULL {need} {room}")]
+    #[error("{need} blocks are needed and {room} are free")]
     DiscFull { need: u32, room: u32 },
-    #[error("no memory")]
+    #[error("out of memory")]
     NoMemory,
 }
 
@@ -34,22 +29,25 @@ impl From<AllocError> for PoolFault {
 }
 
 /// The copy blocks of one disc. Contracts see the list of their flags, true where a block is taken:
-/// the flag at place i is that of block `FIRST_COPY_BLOCK + i`.
+/// the flag at place i is that of block 2,177 + i. The search for free blocks begins at the place
+/// `low`, before which none is free.
 #[derive(Drop)]
 pub struct Pool {
     taken: Vec<bool>,
     free: u32,
+    low: usize,
 }
 
 impl Model for Pool {
     ghost use Rattle.std.specs.Prelude.{◌≡◌, ◌+◌, ◌≤◌, List, Bool, length};
-    ghost use Rattle.g_blocks.specs.Flags.{free_flags};
+    ghost use Rattle.g_blocks.specs.Flags.{free_flags, AreSetBefore};
 
     ghost Value = { List Bool };
 
     ghost view = { λ pool. pool.taken.items };
 
-    ghost invariant = { λ pool. (pool.free ≡ free_flags pool.taken.items) × (2177 + length pool.taken.items ≤ 1_048_576) };
+    ghost invariant = { λ pool. (pool.free ≡ free_flags pool.taken.items)
+        × (2177 + length pool.taken.items ≤ 1_048_576) × AreSetBefore pool.low pool.taken.items };
 }
 
 impl Pool {
@@ -57,8 +55,8 @@ impl Pool {
 
     /// The pool of a disc of `size` blocks, on which these copy blocks are used.
     pub fn new(alloc: Global, size: u32, used: &[u32]) -> Result<Pool, PoolFault>
-        requires low { FIRST_COPY_BLOCK < size }
-        requires high { size ≤ MAX_DISC_BLOCKS }
+        requires low { 2177 < size }
+        requires high { size ≤ 1_048_576 }
         requires area { All (IsInArea size) used.now }
         requires apart { AllPairs (λ one other. one ≢ other) used.now }
         ensures ok { IfOk result (IsFresh size used.now) }
@@ -66,6 +64,7 @@ impl Pool {
     {
         let mut pool = Pool::all_free(alloc, size - FIRST_COPY_BLOCK)?;
         pool.mark_all_taken(used);
+        pool.skip_taken();
         Ok(pool)
     }
 
@@ -81,8 +80,10 @@ impl Pool {
     pub fn take(&mut self, alloc: Global, n: u32) -> Result<Vec<u32>, PoolFault>
         ensures least { IfOk result (λ blocks. AreLeastFree self.old n blocks.items) }
         ensures taken { IfOk result (λ blocks. HasTaken blocks.items self.old self.new) }
-        ensures full { IsErrOf result (PoolFault.DiscFull n (free_count self.old)) ↔ (free_count self.old < n) }
-        ensures fault { IfErr result (λ fault. (fault ≡ PoolFault.NoMemory) ⊎ (fault ≡ PoolFault.DiscFull n (free_count self.old))) }
+        ensures full { IsErrOf result (PoolFault.DiscFull n (free_count self.old))
+            ↔ (free_count self.old < n) }
+        ensures fault { IfErr result (λ fault. (fault ≡ PoolFault.NoMemory)
+            ⊎ (fault ≡ PoolFault.DiscFull n (free_count self.old))) }
         ensures err { OnErr result (self.new ≡ self.old) }
     {
         if self.free < n {
@@ -91,7 +92,8 @@ impl Pool {
                 room: self.free,
             });
         }
-        let blocks = least_free(alloc, &self.taken, n as usize)?;
+        self.skip_taken();
+        let blocks = least_free(alloc, &self.taken, self.low, n as usize)?;
         self.mark_all_taken(&blocks);
         Ok(blocks)
     }
@@ -107,15 +109,32 @@ impl Pool {
         }
     }
 
+    /// Takes blocks again that were given back, which needs no memory.
+    pub fn retake(&mut self, blocks: &[u32])
+        requires apart { AllPairs (λ one other. one ≢ other) blocks.now }
+        requires free { All (IsFree self.old) blocks.now }
+        ensures { HasTaken blocks.now self.old self.new }
+    {
+        self.mark_all_taken(blocks);
+    }
+
     /// A pool of this many blocks, none of them taken.
     fn all_free(alloc: Global, blocks: u32) -> Result<Pool, AllocError>
-        requires { FIRST_COPY_BLOCK + blocks ≤ MAX_DISC_BLOCKS }
+        requires { 2177 + blocks ≤ 1_048_576 }
         ensures { IfOk result (λ pool. pool ≡ replicate blocks false) }
     {
         Ok(Pool {
             taken: vec![in alloc; false; blocks as usize]?,
             free: blocks,
+            low: 0,
         })
+    }
+
+    /// Lets the search begin at the least free block.
+    fn skip_taken(&mut self)
+        ensures { self.new ≡ self.old }
+    {
+        self.low += taken_in_front(&self.taken[self.low..]);
     }
 
     fn mark_all_taken(&mut self, blocks: &[u32])
@@ -130,7 +149,7 @@ impl Pool {
 
     fn mark_taken(&mut self, block: u32)
         requires { IsFree self.old block }
-        ensures flags { self.new ≡ slice_set self.old (block - FIRST_COPY_BLOCK) true }
+        ensures flags { self.new ≡ slice_set self.old (block - 2177) true }
         ensures count { free_count self.new + 1 ≡ free_count self.old }
     {
         self.taken[(block - FIRST_COPY_BLOCK) as usize] = true;
@@ -139,10 +158,12 @@ impl Pool {
 
     fn mark_free(&mut self, block: u32)
         requires { IsTaken self.old block }
-        ensures flags { self.new ≡ slice_set self.old (block - FIRST_COPY_BLOCK) false }
+        ensures flags { self.new ≡ slice_set self.old (block - 2177) false }
         ensures count { free_count self.new ≡ free_count self.old + 1 }
     {
-        self.taken[(block - FIRST_COPY_BLOCK) as usize] = false;
+        let place = (block - FIRST_COPY_BLOCK) as usize;
+        self.taken[place] = false;
         self.free += 1;
+        self.low = self.low.min(place);
     }
 }

@@ -1,4 +1,4 @@
-// The worked rows of the pool.
+//! The worked rows of the pool.
 use super::*;
 use std::test::Fail;
 
@@ -12,6 +12,9 @@ fn ample(rt: HostRuntime) -> Result<(), Fail> {
     assert_eq!(rt; pool.take(rt.alloc(), 2).err(), Some(fault));
     pool.give(&blocks);
     assert_eq!(rt; pool.free(), 4);
+    pool.retake(&blocks);
+    assert_eq!(rt; pool.free(), 1);
+    assert_eq!(rt; pool.take(rt.alloc(), 1)?.as_slice(), [2_181].as_slice());
     Ok(())
 }
 

@@ -4,12 +4,11 @@ use Rattle.std.specs.Fn.{Shared}
 use denote.Ref.{Bor}
 use Rattle.g_budget.specs.declared.tariff.Usage.{Usage}
 use Rattle.g_budget.specs.declared.tariff.Charge.{Charge}
-use Rattle.g_budget.specs.declared.tariff.TheConstants.{MAX_ORDERS, MAX_BLOCKS}
 
 -- a usage that a turn can have
 pub record IsUsage (usage : Usage) : Type 0 where
-  pub orders : usage.orders ≤ MAX_ORDERS
-  pub blocks : usage.blocks ≤ MAX_BLOCKS
+  pub orders : usage.orders ≤ 64
+  pub blocks : usage.blocks ≤ 4096
 
 -- a charge in range: at least one unit, so that every turn costs something
 pub record IsCharge (charge : Charge) : Type 0 where

@@ -1,4 +1,4 @@
-// Accounts: what is left of a budget, beside what unfinished jobs hold of it.
+//! Accounts: what is left of a budget, beside what unfinished jobs hold of it.
 ghost use Rattle.g_budget.specs.Account.{Balance, IsReserved, IsSettled, AddsUp};
 ghost use Rattle.std.specs.Prelude.{◌≡◌, ◌+◌, ◌<◌, ◌≤◌, ◌↔◌, ◌^◌, ℕ, OnOk, OnErr, IsErrOf};
 
@@ -16,7 +16,7 @@ pub trait Refusal: Drop {
 
 /// More TIME was asked for than the account has left. Both are units of TIME.
 #[derive(Clone, Copy, Debug, PartialEq, Eq, Error)]
-#[error("NO TIME {ask} {left}")]
+#[error("{ask} units of TIME are needed and {left} are left")]
 pub struct NoTime {
     pub ask: u64,
     pub left: u64,
@@ -24,7 +24,7 @@ pub struct NoTime {
 
 /// More MONEY was asked for than the account has left.
 #[derive(Clone, Copy, Debug, PartialEq, Eq, Error)]
-#[error("NO MONEY {ask} {left}")]
+#[error("{ask} units of MONEY are needed and {left} are left")]
 pub struct NoMoney {
     pub ask: u64,
     pub left: u64,

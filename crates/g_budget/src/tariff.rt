@@ -1,4 +1,4 @@
-// A turn's usage, its charge, and the tariff that gives the one for the other: a closure of the caller's.
+//! A turn's usage, its charge, and the tariff that gives the one for the other: the caller's closure.
 ghost use Rattle.g_budget.specs.Tariff.{IsTariff, IsUsage, IsCharge};
 ghost use Rattle.std.specs.Fn.{FnReturnsAt};
 ghost use Rattle.std.specs.Prelude.{◌≡◌};
@@ -10,6 +10,8 @@ pub const MAX_ORDERS: u32 = 64;
 
 /// The most blocks of file bytes that a turn moves.
 pub const MAX_BLOCKS: u32 = 4_096;
+
+const _: () = prove!(MAX_ORDERS == 64 && MAX_BLOCKS == 4_096);
 
 /// What one turn of a job used: orders run, and blocks of 512 bytes fetched, put or appended.
 #[derive(Clone, Copy, Debug, PartialEq, Eq)]

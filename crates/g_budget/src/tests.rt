@@ -1,4 +1,4 @@
-// The worked rows of budgets.
+//! The worked rows of budgets.
 use super::*;
 use std::test::Fail;
 

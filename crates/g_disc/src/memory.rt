@@ -1,5 +1,6 @@
 //! A disc in memory, whose failures are set beforehand.
-ghost use Rattle.std.specs.Prelude.{◌≡◌, ◌<◌, IfOk, replicate};
+ghost use Rattle.std.specs.Prelude.{◌≡◌, ◌<◌, ◌≤◌, IfOk, Some, replicate};
+ghost use Rattle.g_base.specs.Counts.{one_more};
 ghost use Rattle.g_disc.specs.Memory.{MemoryReads, MemoryWrites, blank, left_by};
 
 use crate::disc::Disc;
@@ -129,7 +130,13 @@ impl Disc for MemoryDisc {
         Ok(())
     }
 
-    fn arm(&mut self, k: u32) {
+    fn arm(&mut self, k: u32)
+        requires { 1 ≤ k }
+        ensures { self.new ≡ record self.old {
+          disc = record self.old.disc
+              { fuse = Some k; arms = one_more self.old.disc.arms };
+        } }
+    {
         self.fuse.arm(k);
         self.arms = raised(self.arms);
     }

@@ -1,18 +1,17 @@
 -- What holds of a weigh rule: it may be asked of every standing in range, and answers by the standing alone.
-use Rattle.std.specs.Prelude.{◌≡◌, ℕ, ◌≤◌}
+use Rattle.std.specs.Prelude.{◌≡◌, ℕ, ◌^◌, ◌≤◌}
 use Rattle.std.specs.Fn.{Shared}
 use denote.Ref.{Bor}
 use Rattle.g_sched.specs.declared.rule.Standing.{Standing}
-use Rattle.g_sched.specs.declared.rule.TheConstants.{MAX_ALLOWANCE, MAX_WEIGHT}
 
 -- a standing that a job can have
 pub record IsInRange (standing : Standing) : Type 0 where
   pub something : 1 ≤ standing.allowance
-  pub allowance : standing.allowance ≤ MAX_ALLOWANCE
+  pub allowance : standing.allowance ≤ 1_000_000
   pub used : standing.used ≤ standing.allowance
 
 -- a rule that may be called on every standing in range, answers a weight in range there, and the same one for equal standings
 pub record IsWeighRule {U : Type 0} (calls : Shared U (Bor Standing × Unit {0}) ℕ) (rule : U) : Type 0 where
   pub callable : (standing : Bor Standing) → IsInRange standing.now → calls.pre rule (standing, tt)
-  pub bounded : (standing : Bor Standing) (weight : ℕ) → IsInRange standing.now → calls.post rule (standing, tt) weight → weight ≤ MAX_WEIGHT
+  pub bounded : (standing : Bor Standing) (weight : ℕ) → IsInRange standing.now → calls.post rule (standing, tt) weight → weight ≤ 2 ^ 40
   pub same : (one other : Bor Standing) (weight weight' : ℕ) → IsInRange one.now → one.now ≡ other.now → calls.post rule (one, tt) weight → calls.post rule (other, tt) weight' → weight ≡ weight'

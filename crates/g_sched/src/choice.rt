@@ -1,4 +1,4 @@
-// The choice itself: one pass over the standings, that keeps the first of the least.
+//! The choice itself: one pass over the standings, that keeps the first of the least.
 ghost use Rattle.g_sched.specs.Choice.{IsChosen, IsNoLater};
 ghost use Rattle.g_sched.specs.Rule.{IsWeighRule, IsInRange};
 ghost use Rattle.std.specs.Prelude.{◌≡◌, ◌⊎◌, ◌<◌, ◌≤◌, ◌↔◌, All, [], IfSome, IsNone, IsTrue, Some, false};
@@ -16,8 +16,10 @@ struct Candidate {
 impl Candidate {
     /// Whether this one may go before the other: by weight, then by number.
     fn is_no_later(&self, other: &Candidate) -> bool
-        ensures yes { IsTrue result → IsNoLater self.now.weight self.now.number other.now.weight other.now.number }
-        ensures no { (result ≡ false) → IsNoLater other.now.weight other.now.number self.now.weight self.now.number }
+        ensures yes { IsTrue result
+            → IsNoLater self.now.weight self.now.number other.now.weight other.now.number }
+        ensures no { (result ≡ false)
+            → IsNoLater other.now.weight other.now.number self.now.weight self.now.number }
     {
         (self.weight, self.number) <= (other.weight, other.number)
     }
@@ -46,7 +48,8 @@ pub fn choose<U: Fn(&Standing) -> u64>(rule: &WeighRule<U>, list: &[Standing]) -
 fn earlier(best: Option<Candidate>, candidate: Candidate) -> Candidate
     ensures one { (result ≡ candidate) ⊎ (best ≡ Some result) }
     ensures before { IsNoLater result.weight result.number candidate.weight candidate.number }
-    ensures before_best { IfSome best (λ b. IsNoLater result.weight result.number b.weight b.number) }
+    ensures before_best { IfSome best
+        (λ b. IsNoLater result.weight result.number b.weight b.number) }
 {
     match best {
         Some(best) if best.is_no_later(&candidate) => best,

@@ -1,7 +1,7 @@
-// Where a job stands, and the rule that weighs it: a closure of the caller's.
+//! Where a job stands, and the rule that weighs it: a closure of the caller's.
 ghost use Rattle.g_sched.specs.Rule.{IsWeighRule, IsInRange};
 ghost use Rattle.std.specs.Fn.{FnReturnsAt};
-ghost use Rattle.std.specs.Prelude.{◌≡◌, ◌≤◌};
+ghost use Rattle.std.specs.Prelude.{◌≡◌, ◌≤◌, ◌^◌};
 
 use std::marker::Model;
 
@@ -10,6 +10,8 @@ pub const MAX_ALLOWANCE: u64 = 1_000_000;
 
 /// The greatest weight: 2 to the power of 40.
 pub const MAX_WEIGHT: u64 = 1_099_511_627_776;
+
+const _: () = prove!(MAX_ALLOWANCE == 1_000_000 && MAX_WEIGHT == 1_099_511_627_776);
 
 /// Where a job stands: its number, the units of TIME charged so far, its allowance of them, and how
 /// many of its turns were charged.
@@ -46,7 +48,7 @@ impl<U: Fn(&Standing) -> u64> WeighRule<U> {
     pub fn weight(&self, standing: &Standing) -> u64
         requires rule { IsWeighRule U.Fn self.now }
         requires in_range { IsInRange standing.now }
-        ensures bounded { result ≤ MAX_WEIGHT }
+        ensures bounded { result ≤ 2 ^ 40 }
         ensures kept { FnReturnsAt U.Fn self.now standing.now result }
     {
         (self.rule)(standing)

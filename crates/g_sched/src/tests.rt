@@ -1,4 +1,4 @@
-// The worked rows of the choice.
+//! The worked rows of the choice.
 ghost use Rattle.g_sched.specs.Rule.{IsInRange};
 
 use super::*;

@@ -1,16 +1,22 @@
 -- What one write does to the gate, the slots and the copy area.
 use Rattle.std.proofs.Common.{◌≡◌, ◌≢◌, ℕ, ◌+◌, ◌%◌, ◌<◌, ◌≤◌, ◌==◌, if◌then◌else◌, List, [], length, get_or, take, drop, Option, Some, sym, ◌∙◌, ap, arith, slice_get, get_or-set_other, get_or-set_same, length-set, length-take, length-drop}
+use Rattle.std.specs.Prelude.{Result, Ok, Err, OnErr}
 use Rattle.std.proofs.Math.ListN.{set}
 use Rattle.std.proofs.Math.Seq.{take-set-lt}
 use Rattle.std.proofs.lemmas.List.{drop-set-add, drop-set-lt, take-set-le, get_or-drop, get_or-take}
 use Rattle.std.proofs.lemmas.Option.{get_or_from_slice_get, slice_get-get_or, slice_get_within}
-use Rattle.g_base.specs.Block.{with_block}
+use Rattle.g_base.specs.Block.{IsBlock, with_block}
 use Rattle.g_base.specs.Told.{Changes}
 use Rattle.g_base.proofs.ToldLemmas.{Changes-with_block, told_after_write}
 use Rattle.g_slots.specs.declared.side.Side.{Side}
 use Rattle.g_slots.specs.declared.side.Side.TheVariants.{A, B}
 use Rattle.g_slots.specs.Layout.{other, start_of, slot, copy_area, gate_block, gate_side}
-use Rattle.g_slots.specs.Commit.{Flips, KeepsCurrent, Prepares}
+use Rattle.g_slots.specs.Commit.{Flips, KeepsCurrent, Prepares, Tears}
+
+-- what holds whatever a call answers
+pub on_err : {T E P : Type 0} (result : Result T E) → P → OnErr result P
+on_err (Ok t) holds = tt
+on_err (Err e) holds = holds
 
 -- the gate names a slot by its first byte alone
 pub gate_side-named : (blocks : List (List ℕ)) (gate : List ℕ) → slice_get blocks 0 ≡ Some gate → gate_side blocks ≡ (if get_or gate 0 0 % 2 == 0 then A else B)
@@ -95,6 +101,9 @@ module _ (b : List (List ℕ)) (k : ℕ) (v : List ℕ) (below : k < 1088) where
   pub prepares : (side : Side) → Prepares side k v b (set b (start_of (other side) + k) v)
   prepares side = record { kept = keeps_current side; written = slot-set-same (other side) }
 
+  pub tears : (side : Side) → IsBlock v → Tears side k b (set b (start_of (other side) + k) v)
+  tears side whole = record { left = v; whole = whole; torn = slot-set-same (other side) }
+
 pub flips : (blocks : List (List ℕ)) (v : List ℕ) → Flips blocks (set blocks 0 v)
 flips blocks v = record {
   size = length-set blocks 0 v;
@@ -115,6 +124,12 @@ module _ (side : Side) (k start : ℕ) (v : List ℕ) (before after : Option (Li
       Changes-with_block (KeepsCurrent side) (start_of (other side) + k) v before after
       (is ∙ ap (λ (s : ℕ). with_block (s + k) v before) at)
       (λ b was. keeps_current b k v below side)
+
+  pub torn : start ≡ start_of (other side) → k < 1088 → IsBlock v → after ≡ with_block (start + k) v before → Changes (Tears side k) before after
+  torn at below whole is =
+      Changes-with_block (Tears side k) (start_of (other side) + k) v before after
+      (is ∙ ap (λ (s : ℕ). with_block (s + k) v before) at)
+      (λ b was. tears b k v below side whole)
 
 pub flipped : (side : Side) (gate : List ℕ) (before after : Option (List (List ℕ))) → gate ≡ gate_block side → ((b : List (List ℕ)) → before ≡ Some b → 0 < length b) → after ≡ with_block 0 gate before
     → (a : List (List ℕ)) → after ≡ Some a → gate_side a ≡ side

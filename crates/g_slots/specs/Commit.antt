@@ -1,5 +1,6 @@
 -- What the steps of a commit do to the parts of a disc.
 use Rattle.std.specs.Prelude.{◌≡◌, ℕ, List, length, slice_set, ◌⊎◌}
+use Rattle.g_base.specs.Block.{IsBlock}
 use Rattle.g_slots.specs.declared.side.Side.{Side}
 use Rattle.g_slots.specs.Layout.{other, slot, copy_area, gate_side, current}
 
@@ -14,6 +15,12 @@ pub record KeepsCurrent (side : Side) (before after : List (List ℕ)) : Type 0 
 pub record Prepares (side : Side) (k : ℕ) (block : List ℕ) (before after : List (List ℕ)) : Type 0 where
   pub kept : KeepsCurrent side before after
   pub written : slot (other side) after ≡ slice_set (slot (other side) before) k block
+
+-- in the slot opposite `side` no block but block k has changed, which may hold any bytes
+pub record Tears (side : Side) (k : ℕ) (before after : List (List ℕ)) : Type 0 where
+  pub left : List ℕ
+  pub whole : IsBlock left
+  pub torn : slot (other side) after ≡ slice_set (slot (other side) before) k left
 
 -- the slot opposite `side` now holds the image, and nothing else has changed
 pub record Fills (side : Side) (image before after : List (List ℕ)) : Type 0 where

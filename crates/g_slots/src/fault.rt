@@ -1,5 +1,6 @@
 //! Why a call on the slots failed.
 
+use g_base::{ReadFailed, WriteFailed};
 use thiserror::Error;
 
 /// The disc's own count of faults rose in the call. Nothing else makes a call on the slots fail.
@@ -11,4 +12,26 @@ pub enum SlotFault {
     /// A block couldn't be written. The call says what the disc then holds.
     #[error("a block of the disc can't be written")]
     Stopped,
+}
+
+impl From<ReadFailed> for SlotFault {
+    ghost use Rattle.std.specs.Prelude.{◌≡◌};
+    ghost use Rattle.g_slots.specs.declared.fault.SlotFault.TheVariants.{ReadFault};
+
+    ghost from_gives = { λ _ fault. fault ≡ ReadFault };
+
+    fn from(_failed: ReadFailed) -> SlotFault {
+        SlotFault::ReadFault
+    }
+}
+
+impl From<WriteFailed> for SlotFault {
+    ghost use Rattle.std.specs.Prelude.{◌≡◌};
+    ghost use Rattle.g_slots.specs.declared.fault.SlotFault.TheVariants.{Stopped};
+
+    ghost from_gives = { λ _ fault. fault ≡ Stopped };
+
+    fn from(_failed: WriteFailed) -> SlotFault {
+        SlotFault::Stopped
+    }
 }

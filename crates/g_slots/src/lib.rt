@@ -9,5 +9,6 @@ mod slots;
 mod tests;
 
 pub use fault::SlotFault;
+pub use g_base::SLOT_BLOCKS;
 pub use side::Side;
-pub use slots::{SLOT_BLOCKS, Slots};
+pub use slots::Slots;

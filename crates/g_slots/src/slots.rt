@@ -5,15 +5,12 @@ ghost use Rattle.std.specs.Option.{ForSome};
 ghost use Rattle.g_base.specs.Told.{Changes};
 ghost use Rattle.g_disc.specs.Disc.{ReadsOnly, WritesOnly};
 ghost use Rattle.g_slots.specs.Layout.{GateNames, GateWritten, other, slot};
-ghost use Rattle.g_slots.specs.Commit.{Commits, CommitsOrNot, Fills, Flips, KeepsCurrent, Prepares};
+ghost use Rattle.g_slots.specs.Commit.{Commits, CommitsOrNot, Fills, Flips, KeepsCurrent, Prepares, Tears};
 
 use crate::{Side, SlotFault};
 use g_base::Block;
 use g_disc::Disc;
 use std::marker::Model;
-
-/// The blocks of a slot.
-pub const SLOT_BLOCKS: u32 = 1088;
 
 /// The current slot of a disc, as its gate names it. A clause sees the side. It isn't `Copy`: a copy
 /// that is kept over a commit would name the wrong slot.
@@ -39,12 +36,10 @@ impl Slots {
         ensures only { OnErr result (result ≡ Err SlotFault.ReadFault) }
     {
         let mut gate = [0; 512];
-        match disc.read(0, &mut gate) {
-            Ok(()) => Ok(Slots {
-                current: Side::named_by(&gate),
-            }),
-            Err(_) => Err(SlotFault::ReadFault),
-        }
+        disc.read(0, &mut gate)?;
+        Ok(Slots {
+            current: Side::named_by(&gate),
+        })
     }
 
     /// The current slot.
@@ -64,13 +59,12 @@ impl Slots {
         ensures counts { ReadsOnly (D.state disc.old) (D.state disc.new) result }
         ensures only { OnErr result (result ≡ Err SlotFault.ReadFault) }
     {
-        match disc.read(self.current.start() + k, into) {
-            Ok(()) => Ok(()),
-            Err(_) => Err(SlotFault::ReadFault),
-        }
+        disc.read(self.current.start() + k, into)?;
+        Ok(())
     }
 
-    /// Writes block `k` of the slot that isn't current.
+    /// Writes block `k` of the slot that isn't current. Where this stops, that block may be torn, and
+    /// all else is as it was.
     pub fn prepare<D: Disc>(&self, disc: &mut D, k: u32, from: &Block) -> Result<(), SlotFault>
         requires place { k < 1088 }
         requires size { 2177 < (D.state disc.old).size }
@@ -79,13 +73,13 @@ impl Slots {
             (D.state disc.old).held (D.state disc.new).held) }
         ensures stopped { OnErr result
             (Changes (KeepsCurrent self.now) (D.state disc.old).held (D.state disc.new).held) }
+        ensures torn { OnErr result
+            (Changes (Tears self.now k) (D.state disc.old).held (D.state disc.new).held) }
         ensures counts { WritesOnly 1 (D.state disc.old) (D.state disc.new) result }
         ensures only { OnErr result (result ≡ Err SlotFault.Stopped) }
     {
-        match disc.write(self.current.other().start() + k, from) {
-            Ok(()) => Ok(()),
-            Err(_) => Err(SlotFault::Stopped),
-        }
+        disc.write(self.current.other().start() + k, from)?;
+        Ok(())
     }
 
     /// Writes the gate, so that the other slot is current. Where this stops, the gate names either
@@ -103,13 +97,9 @@ impl Slots {
     {
         let next = self.current.other();
         let _size = disc.size();
-        match disc.write(0, &next.gate()) {
-            Ok(()) => {
-                self.current = next;
-                Ok(())
-            }
-            Err(_) => Err(SlotFault::Stopped),
-        }
+        disc.write(0, &next.gate())?;
+        self.current = next;
+        Ok(())
     }
 
     /// Writes the image into the slot that isn't current, block by block, and then the gate. Where
@@ -148,10 +138,7 @@ impl Slots {
     {
         let _size = disc.size();
         for (k, block) in image.iter().enumerate() {
-            match self.prepare(disc, k as u32, block) {
-                Ok(()) => {}
-                Err(fault) => return Err(fault),
-            }
+            self.prepare(disc, k as u32, block)?;
         }
         Ok(())
     }

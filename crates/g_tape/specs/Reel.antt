@@ -1,5 +1,5 @@
 -- A reel, and what is done to it.
-use Rattle.std.specs.Prelude.{◌≡◌, ℕ, ◌+◌, ◌≤◌, List, [], ◌∷◌, ◌++◌, Bool, false, Option, Some, length, take, replicate, All, slice_index, slice_set, option_map}
+use Rattle.std.specs.Prelude.{◌≡◌, ℕ, ◌+◌, ◌≤◌, List, [], ◌∷◌, ◌++◌, Bool, false, Option, Some, None, length, take, replicate, All, slice_index, slice_set, option_map}
 use Rattle.std.specs.Option.{ForSome}
 use Rattle.g_base.specs.Block.{IsBlock}
 use Rattle.g_base.specs.Counts.{one_more}
@@ -28,6 +28,10 @@ pub record IsReel (r : Reel) : Type 0 where
 -- a reel of that serial and capacity with nothing on it, whose content is told
 abbrev pub empty_reel : ℕ → ℕ → Reel
 empty_reel s n = record { serial = s; capacity = n; len = 0; mounted = false; blocks = Some []; times_read = Some (replicate n 0) }
+
+-- an unmounted reel of that serial and capacity with so many blocks, of which nothing is told
+abbrev pub untold_reel : ℕ → ℕ → ℕ → Reel
+untold_reel s n len = record { serial = s; capacity = n; len = len; mounted = false; blocks = None; times_read = None }
 
 -- the empty reel of a pair of serial and capacity
 abbrev pub empty_reel_of : ℕ × ℕ → Reel

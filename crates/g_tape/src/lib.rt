@@ -6,11 +6,13 @@ mod leave;
 mod memory;
 mod memory_reel;
 mod place;
+mod reel_state;
 mod tapes;
 
 pub use fault::TapeFault;
 pub use leave::{TapeLeave, half_of};
 pub use memory::MemoryTapes;
+pub use reel_state::ReelState;
 pub use tapes::{Tapes, reads_only_read};
 
 #[cfg(test)]

@@ -7,6 +7,7 @@ ghost use Rattle.g_tape.specs.Reel.{IsReel, empty_reel, empty_reel_of, with_moun
 
 use crate::fault::TapeFault;
 use crate::leave::{TapeLeave, half_of};
+use crate::reel_state::ReelState;
 use g_base::{Block, NoMemory, raised};
 use std::alloc::Global;
 use std::marker::Model;
@@ -14,10 +15,7 @@ use std::marker::Model;
 /// A reel whose content is told. Contracts see it as such.
 #[derive(Drop)]
 pub struct MemoryReel {
-    serial: u32,
-    capacity: u32,
-    len: u32,
-    mounted: bool,
+    state: ReelState,
     store: Vec<Block>,
     times: Vec<u64>,
 }
@@ -29,17 +27,13 @@ impl Model for MemoryReel {
 
     ghost Value = { Reel };
 
-    ghost view = { λ r. record {
-      serial = r.serial;
-      capacity = r.capacity;
-      len = r.len;
-      mounted = r.mounted;
-      blocks = Some (take r.len r.store.items);
+    ghost view = { λ r. record r.state {
+      blocks = Some (take r.state.len r.store.items);
       times_read = Some r.times.items;
     } };
 
-    ghost invariant = { λ r. (r.len ≤ r.capacity) × (length r.store.items ≡ r.capacity)
-        × (length r.times.items ≡ r.capacity) };
+    ghost invariant = { λ r. (r.state.len ≤ r.state.capacity)
+        × (length r.store.items ≡ r.state.capacity) × (length r.times.items ≡ r.state.capacity) };
 }
 
 impl MemoryReel {
@@ -48,10 +42,7 @@ impl MemoryReel {
         ensures { IfOk result (λ r. r ≡ empty_reel serial capacity) }
     {
         Ok(MemoryReel {
-            serial,
-            capacity,
-            len: 0,
-            mounted: false,
+            state: ReelState::new(serial, capacity, 0),
             store: zero_blocks(alloc, capacity)?,
             times: vec![in alloc; 0; capacity as usize]?,
         })
@@ -60,69 +51,53 @@ impl MemoryReel {
     pub fn serial(&self) -> u32
         ensures { result ≡ self.now.serial }
     {
-        self.serial
+        self.state.serial()
     }
 
     pub fn capacity(&self) -> u32
         ensures { result ≡ self.now.capacity }
     {
-        self.capacity
+        self.state.capacity()
     }
 
     pub fn len(&self) -> u32
         ensures { result ≡ self.now.len }
     {
-        self.len
+        self.state.len()
     }
 
     pub fn is_mounted(&self) -> bool
         ensures { result ≡ self.now.mounted }
     {
-        self.mounted
+        self.state.is_mounted()
     }
 
     /// Why an unmount is refused, if it is.
     pub fn refuses_unmount(&self) -> Option<TapeFault>
         ensures { result ≡ refuses_unmount (Some self.now) }
     {
-        if self.mounted {
-            None
-        } else {
-            Some(TapeFault::NotMounted)
-        }
+        self.state.refuses_unmount()
     }
 
     /// Why a read of block k is refused, if it is.
     pub fn refuses_read(&self, k: u32) -> Option<TapeFault>
         ensures { result ≡ refuses_read k (Some self.now) }
     {
-        if !self.mounted {
-            Some(TapeFault::NotMounted)
-        } else if k < self.len {
-            None
-        } else {
-            Some(TapeFault::End)
-        }
+        self.state.refuses_read(k)
     }
 
     /// Why a write of block k is refused, if it is.
     pub fn refuses_write(&self, k: u32) -> Option<TapeFault>
         ensures { result ≡ refuses_write k (Some self.now) }
     {
-        if !self.mounted {
-            Some(TapeFault::NotMounted)
-        } else if self.len < k || !(k < self.capacity) {
-            Some(TapeFault::End)
-        } else {
-            None
-        }
+        self.state.refuses_write(k)
     }
 
     pub fn set_mounted(&mut self, mounted: bool)
         ensures value { self.new ≡ with_mounted mounted self.old }
         ensures keeps { IsReel self.old → IsReel self.new }
     {
-        self.mounted = mounted;
+        self.state.set_mounted(mounted);
     }
 
     /// Copies block k out, and counts that.
@@ -143,7 +118,7 @@ impl MemoryReel {
         ensures keeps { IsReel self.old → IsReel self.new }
     {
         self.store[k as usize] = *block;
-        self.len = k + 1;
+        self.state.end_with(k);
     }
 
     /// Does what a failing write of this block does.
@@ -168,7 +143,7 @@ impl MemoryReel {
         ensures value { self.new ≡ cut_at k self.old }
         ensures keeps { IsReel self.old → IsReel self.new }
     {
-        self.len = k;
+        self.state.cut_at(k);
     }
 }
 

@@ -5,9 +5,9 @@ use Rattle.g_slots.proofs.slots.Slots.fill.Goals as goal
 
 pub loop-k-preserved : goal.loop-k-preserved
 loop-k-preserved g c =
-    filled_more c.args.self.now c.loop-k.k c.args.image.now _ (g.D.Disc.state c.loop-k.disc) _ c.in-Ok.field-0 c.loop-k-test.true c.requires.image c.requires.size
+    filled_more c.args.self.now c.loop-k.k c.args.image.now _ (g.D.Disc.state c.loop-k.disc) _ c.in_ok-prepare.field-0 c.loop-k-test.true c.requires.image c.requires.size
     (λ a told. (c.size-size.ensures.blocks a told).0 ∙ c.size-size.ensures.size)
-    c.loop-k.invariant c.in-Ok.ensures.ok c.in-Ok.ensures.counts
+    c.loop-k.invariant c.in_ok-prepare.ensures.ok c.in_ok-prepare.ensures.counts
 
 pub returns-clause-ok : goal.returns-clause-ok
 returns-clause-ok g c =

@@ -1,0 +1,218 @@
+-- How the calls on a disc follow each other, and what they are the cause of.
+use Rattle.std.proofs.Common.{◌≡◌, ℕ, ◌+◌, List, Ok, Err, refl, subst, ◌∙◌}
+use Rattle.std.specs.Prelude.{Result}
+use Rattle.g_base.specs.Counts.{Rose}
+use Rattle.g_base.proofs.CountLemmas.{RoseBy-one, RoseBy-then}
+use Rattle.g_disc.specs.Disc.{DiscState, Reads, Writes, ReadsOnly, ReadsByCause, WritesOnly, Causes}
+
+rose_then : {a b c : ℕ} → b ≡ a → Rose b c → Rose a c
+rose_then {c = c} same rose = subst (λ (n : ℕ). Rose n c) same rose
+
+-- READS
+
+-- no call
+pub ReadsByCause-none : {P : Type 0} (state : DiscState) → (P → ⊥) → ReadsByCause P state state
+ReadsByCause-none state none = record {
+  held = refl;
+  size = refl;
+  write_faults = refl;
+  writes = refl;
+  fuse = refl;
+  arms = refl;
+  kept = λ no. refl;
+  rose = λ is. absurd (none is);
+}
+
+-- one read, which went well or failed
+pub ReadsByCause-Reads_ok : {T E P : Type 0} {k : ℕ} {into : List ℕ} {x y : DiscState} {t : T} → (P → ⊥)
+    → Reads {T = T} {E = E} k into x y (Ok t) → ReadsByCause P x y
+ReadsByCause-Reads_ok none read = record {
+  held = read.held;
+  size = read.size;
+  write_faults = read.write_faults;
+  writes = read.writes;
+  fuse = read.fuse;
+  arms = read.arms;
+  kept = λ no. read.kept;
+  rose = λ is. absurd (none is);
+}
+
+pub ReadsByCause-Reads_err : {T E P : Type 0} {k : ℕ} {into : List ℕ} {x y : DiscState} {e : E} → P
+    → Reads {T = T} {E = E} k into x y (Err e) → ReadsByCause P x y
+ReadsByCause-Reads_err is read = record {
+  held = read.held;
+  size = read.size;
+  write_faults = read.write_faults;
+  writes = read.writes;
+  fuse = read.fuse;
+  arms = read.arms;
+  kept = λ no. absurd (no is);
+  rose = λ p. read.rose;
+}
+
+-- the same of calls that read and do nothing else
+pub ReadsByCause-ReadsOnly_ok : {T E P : Type 0} {x y : DiscState} {t : T} → (P → ⊥)
+    → ReadsOnly {T = T} {E = E} x y (Ok t) → ReadsByCause P x y
+ReadsByCause-ReadsOnly_ok none reads = record {
+  held = reads.held;
+  size = reads.size;
+  write_faults = reads.write_faults;
+  writes = reads.writes;
+  fuse = reads.fuse;
+  arms = reads.arms;
+  kept = λ no. reads.kept;
+  rose = λ is. absurd (none is);
+}
+
+pub ReadsByCause-ReadsOnly_err : {T E P : Type 0} {x y : DiscState} {e : E} → P
+    → ReadsOnly {T = T} {E = E} x y (Err e) → ReadsByCause P x y
+ReadsByCause-ReadsOnly_err is reads = record {
+  held = reads.held;
+  size = reads.size;
+  write_faults = reads.write_faults;
+  writes = reads.writes;
+  fuse = reads.fuse;
+  arms = reads.arms;
+  kept = λ no. absurd (no is);
+  rose = λ p. reads.rose;
+}
+
+-- two in a row, of which the first had no failed read
+pub ReadsByCause-then : {P Q : Type 0} {x y z : DiscState} → (P → ⊥)
+    → ReadsByCause P x y → ReadsByCause Q y z → ReadsByCause Q x z
+ReadsByCause-then none first second = record {
+  held = second.held ∙ first.held;
+  size = second.size ∙ first.size;
+  write_faults = second.write_faults ∙ first.write_faults;
+  writes = second.writes ∙ first.writes;
+  fuse = second.fuse ∙ first.fuse;
+  arms = second.arms ∙ first.arms;
+  kept = λ no. second.kept no ∙ first.kept none;
+  rose = λ is. rose_then (first.kept none) (second.rose is);
+}
+
+-- for an answer that is given in just the same cases
+pub ReadsByCause-for : {P Q : Type 0} {x y : DiscState} → (P → Q) → (Q → P) → ReadsByCause P x y → ReadsByCause Q x y
+ReadsByCause-for there back reads = record {
+  held = reads.held;
+  size = reads.size;
+  write_faults = reads.write_faults;
+  writes = reads.writes;
+  fuse = reads.fuse;
+  arms = reads.arms;
+  kept = λ no. reads.kept (λ p. no (there p));
+  rose = λ q. reads.rose (back q);
+}
+
+-- WRITES
+
+-- one write
+pub WritesOnly-Writes : {T E : Type 0} {k : ℕ} {from : List ℕ} {x y : DiscState} (result : Result T E)
+    → Writes k from x y result → WritesOnly 1 x y result
+WritesOnly-Writes (Ok t) write = record {
+  size = write.size;
+  read_faults = write.read_faults;
+  arms = write.arms;
+  writes = RoseBy-one write.writes;
+  kept = write.kept;
+  rose = tt;
+}
+WritesOnly-Writes (Err e) write = record {
+  size = write.size;
+  read_faults = write.read_faults;
+  arms = write.arms;
+  writes = tt;
+  kept = tt;
+  rose = write.rose;
+}
+
+-- two in a row, of which the first went well
+pub WritesOnly-then : {T E U F : Type 0} {m n : ℕ} {x y z : DiscState} {t : T} (result : Result U F) → WritesOnly {T = T} {E = E} m x y (Ok t)
+    → WritesOnly n y z result → WritesOnly (m + n) x z result
+WritesOnly-then (Ok u) first second = record {
+  size = second.size ∙ first.size;
+  read_faults = second.read_faults ∙ first.read_faults;
+  arms = second.arms ∙ first.arms;
+  writes = RoseBy-then first.writes second.writes;
+  kept = second.kept ∙ first.kept;
+  rose = tt;
+}
+WritesOnly-then (Err f) first second = record {
+  size = second.size ∙ first.size;
+  read_faults = second.read_faults ∙ first.read_faults;
+  arms = second.arms ∙ first.arms;
+  writes = tt;
+  kept = tt;
+  rose = rose_then first.kept second.rose;
+}
+
+-- CAUSES
+
+-- no call
+pub Causes-none : {P Q : Type 0} (state : DiscState) → (P → ⊥) → (Q → ⊥) → Causes P Q state state
+Causes-none state not_read not_written = record {
+  size = refl;
+  arms = refl;
+  reads_kept = λ no. refl;
+  reads_rose = λ is. absurd (not_read is);
+  writes_kept = λ no. refl;
+  writes_rose = λ is. absurd (not_written is);
+}
+
+-- a call that only reads
+pub Causes-ReadsByCause : {P Q : Type 0} {x y : DiscState} → (Q → ⊥) → ReadsByCause P x y → Causes P Q x y
+Causes-ReadsByCause never reads = record {
+  size = reads.size;
+  arms = reads.arms;
+  reads_kept = reads.kept;
+  reads_rose = reads.rose;
+  writes_kept = λ no. reads.write_faults;
+  writes_rose = λ is. absurd (never is);
+}
+
+-- a call that only writes, which went well or stopped
+pub Causes-WritesOnly_ok : {T E P Q : Type 0} {n : ℕ} {x y : DiscState} {t : T} → (P → ⊥)
+    → (Q → ⊥) → WritesOnly {T = T} {E = E} n x y (Ok t) → Causes P Q x y
+Causes-WritesOnly_ok not_read not_written writes = record {
+  size = writes.size;
+  arms = writes.arms;
+  reads_kept = λ no. writes.read_faults;
+  reads_rose = λ is. absurd (not_read is);
+  writes_kept = λ no. writes.kept;
+  writes_rose = λ is. absurd (not_written is);
+}
+
+pub Causes-WritesOnly_err : {T E P Q : Type 0} {n : ℕ} {x y : DiscState} {e : E} → (P → ⊥)
+    → Q → WritesOnly {T = T} {E = E} n x y (Err e) → Causes P Q x y
+Causes-WritesOnly_err not_read stopped writes = record {
+  size = writes.size;
+  arms = writes.arms;
+  reads_kept = λ no. writes.read_faults;
+  reads_rose = λ is. absurd (not_read is);
+  writes_kept = λ no. absurd (no stopped);
+  writes_rose = λ is. writes.rose;
+}
+
+-- two in a row, of which the first had no fault
+pub Causes-then : {P Q R S : Type 0} {x y z : DiscState} → (P → ⊥) → (Q → ⊥)
+    → Causes P Q x y → Causes R S y z → Causes R S x z
+Causes-then not_read not_written first second = record {
+  size = second.size ∙ first.size;
+  arms = second.arms ∙ first.arms;
+  reads_kept = λ no. second.reads_kept no ∙ first.reads_kept not_read;
+  reads_rose = λ is. rose_then (first.reads_kept not_read) (second.reads_rose is);
+  writes_kept = λ no. second.writes_kept no ∙ first.writes_kept not_written;
+  writes_rose = λ is. rose_then (first.writes_kept not_written) (second.writes_rose is);
+}
+
+-- for answers that are given in just the same cases
+pub Causes-for : {P Q R S : Type 0} {x y : DiscState} → (P → R) → (R → P)
+    → (Q → S) → (S → Q) → Causes P Q x y → Causes R S x y
+Causes-for there back there' back' causes = record {
+  size = causes.size;
+  arms = causes.arms;
+  reads_kept = λ no. causes.reads_kept (λ p. no (there p));
+  reads_rose = λ r. causes.reads_rose (back r);
+  writes_kept = λ no. causes.writes_kept (λ q. no (there' q));
+  writes_rose = λ s. causes.writes_rose (back' s);
+}

@@ -1,0 +1,136 @@
+//! What every reel has, wherever its blocks are kept: its serial, how many blocks it can hold and
+//! holds, whether it is mounted, and so which calls it refuses.
+ghost use Rattle.std.specs.Prelude.{◌≡◌, ◌+◌, Some, None};
+ghost use Rattle.g_tape.specs.Rack.{refuses_unmount, refuses_read, refuses_write};
+ghost use Rattle.g_tape.specs.Reel.{untold_reel, with_mounted};
+
+use crate::fault::TapeFault;
+use std::marker::Model;
+
+/// A reel without its blocks. Contracts see it as a reel of which nothing is told.
+#[derive(Debug, Drop)]
+pub struct ReelState {
+    serial: u32,
+    capacity: u32,
+    len: u32,
+    mounted: bool,
+}
+
+impl Model for ReelState {
+    ghost use Rattle.std.specs.Prelude.{None};
+    ghost use Rattle.g_tape.specs.Reel.{Reel};
+
+    ghost Value = { Reel };
+
+    ghost view = { λ r. record {
+      serial = r.serial;
+      capacity = r.capacity;
+      len = r.len;
+      mounted = r.mounted;
+      blocks = None;
+      times_read = None;
+    } };
+}
+
+impl ReelState {
+    /// A reel that holds `len` blocks and isn't mounted. Capacity and length are in blocks.
+    pub fn new(serial: u32, capacity: u32, len: u32) -> ReelState
+        ensures { result ≡ untold_reel serial capacity len }
+    {
+        ReelState {
+            serial,
+            capacity,
+            len,
+            mounted: false,
+        }
+    }
+
+    /// The number by which the reel is called.
+    pub fn serial(&self) -> u32
+        ensures { result ≡ self.now.serial }
+    {
+        self.serial
+    }
+
+    /// How many blocks it can hold.
+    pub fn capacity(&self) -> u32
+        ensures { result ≡ self.now.capacity }
+    {
+        self.capacity
+    }
+
+    /// How many blocks it holds.
+    pub fn len(&self) -> u32
+        ensures { result ≡ self.now.len }
+    {
+        self.len
+    }
+
+    /// Whether it is mounted.
+    pub fn is_mounted(&self) -> bool
+        ensures { result ≡ self.now.mounted }
+    {
+        self.mounted
+    }
+
+    /// Why an unmount is refused, if it is: `NotMounted`.
+    pub fn refuses_unmount(&self) -> Option<TapeFault>
+        ensures { result ≡ refuses_unmount (Some self.now) }
+    {
+        if self.mounted {
+            None
+        } else {
+            Some(TapeFault::NotMounted)
+        }
+    }
+
+    /// Why a read of block k is refused, if it is: `NotMounted`, or `End` where the reel ends before it.
+    pub fn refuses_read(&self, k: u32) -> Option<TapeFault>
+        ensures { result ≡ refuses_read k (Some self.now) }
+    {
+        if !self.mounted {
+            Some(TapeFault::NotMounted)
+        } else if k < self.len {
+            None
+        } else {
+            Some(TapeFault::End)
+        }
+    }
+
+    /// Why a write of block k is refused, if it is: `NotMounted`, or `End` where a block before it is
+    /// missing or the reel is full.
+    pub fn refuses_write(&self, k: u32) -> Option<TapeFault>
+        ensures { result ≡ refuses_write k (Some self.now) }
+    {
+        if !self.mounted {
+            Some(TapeFault::NotMounted)
+        } else if self.len < k || !(k < self.capacity) {
+            Some(TapeFault::End)
+        } else {
+            None
+        }
+    }
+
+    /// Says whether it is mounted from now on.
+    pub fn set_mounted(&mut self, mounted: bool)
+        ensures { self.new ≡ with_mounted mounted self.old }
+    {
+        self.mounted = mounted;
+    }
+
+    /// Lets the reel end with block k, which replaces those from k on.
+    pub fn end_with(&mut self, k: u32)
+        requires { refuses_write k (Some self.old) ≡ None }
+        ensures { self.new ≡ record self.old { len = k + 1 } }
+    {
+        prove!(k < self.capacity);
+        self.len = k + 1;
+    }
+
+    /// Lets the reel end before block k.
+    pub fn cut_at(&mut self, k: u32)
+        ensures { self.new ≡ record self.old { len = k } }
+    {
+        self.len = k;
+    }
+}
