@@ -1,3 +1,4 @@
+pub mod AreaLemmas
 pub mod Blocks
 pub mod Reading
 pub mod Storing

@@ -1,3 +1,4 @@
 pub mod Copy
 pub mod Fault
 pub mod Store
+pub mod Laws

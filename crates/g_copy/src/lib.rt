@@ -3,6 +3,7 @@
 
 mod copy;
 mod fault;
+mod laws;
 mod read;
 mod store;
 #[cfg(test)]
@@ -11,6 +12,7 @@ mod write;
 
 pub use copy::DiscCopy;
 pub use fault::CopyFault;
+pub use laws::copies_stay;
 pub use read::read_copy;
 pub use store::{drop_copy, store_copy};
 pub use write::write_copy;

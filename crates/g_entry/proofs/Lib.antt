@@ -1,3 +1,5 @@
 pub mod FieldLemmas
 pub mod RecordLemmas
 pub mod OneEncoding
+pub mod NameLemmas
+pub mod RuleLemmas

@@ -1,12 +1,12 @@
 -- What a reader finds in the block of a record.
 use Rattle.std.proofs.Common.{◌≡◌, ℕ, ◌-◌, ◌^◌, ◌<◌, ◌≤◌, true, List, ◌∷◌, ◌++◌, length, Option, Some, None, refl, ap, ◌∙◌, sym, arith, append_assoc, subst, lit<}
-use Rattle.std.specs.Prelude.{replicate, IfSome, codes}
+use Rattle.std.specs.Prelude.{Bool, false, replicate, nat_eq, IfSome, codes}
 use Rattle.g_base.specs.Fields.{number, padded}
 use Rattle.g_base.proofs.FieldLemmas.{same_byte, same_bytes}
 use Rattle.g_name.specs.Grammar.{is_word, is_lang}
 use Rattle.g_trap.specs.TrapList.{TrapList, IsOthers}
 use Rattle.g_entry.specs.Formats.{format_number, IsMoney}
-use Rattle.g_entry.specs.UserFields.{IsUser, money_fields, user_fields, user_block}
+use Rattle.g_entry.specs.UserFields.{IsUser, held_byte, money_fields, user_fields, user_block}
 use Rattle.g_entry.specs.HeadFields.{IsHead, IsIntent, intent_fields, head_fields, head_block}
 use Rattle.g_entry.specs.FileFields.{IsFile, IsCopy, AreSets, ArePlaces, pair_fields, lang_field, copy_fields, online_fields, file_fields, file_block}
 use Rattle.g_entry.specs.declared.format.Format.{Format}
@@ -34,42 +34,49 @@ unfolding user_fields padded
 user_peeled format held r = simp append_assoc
 
 -- what was taken is what the record has
-pub record UserRead (r : UserRec) (user : Option (List ℕ)) (superior space time money : ℕ) : Type 0 where
+pub record UserRead (r : UserRec) (held : Bool) (user : Option (List ℕ)) (superior space time money : ℕ) (flag : Bool) : Type 0 where
   pub name : user ≡ Some r.user
   pub above : superior ≡ r.superior
   pub blocks : space ≡ r.space
   pub units : time ≡ r.time
   pub pay : money ≡ r.money
+  pub is_held : flag ≡ held
 
-pub user_read : (format : Format) (r : UserRec) (b m0 m1 m2 m3 m4 m5 m6 : List ℕ) (used superior space time held money : ℕ) (user : Option (List ℕ))
-    → IsUser format r → b ≡ user_block format 0 r → m0 ≡ b → m0 ≡ used ∷ m1 → TakesWord m1 user m2 → m2 ≡ superior ∷ m3
+flag_of : (held : Bool) → nat_eq (held_byte held) 1 ≡ held
+flag_of true = refl
+flag_of false = refl
+
+pub user_read : (format : Format) (r : UserRec) (flag : Bool) (b m0 m1 m2 m3 m4 m5 m6 : List ℕ) (used superior space time held money : ℕ) (user : Option (List ℕ))
+    → IsUser format r → b ≡ user_block format (held_byte flag) r → m0 ≡ b → m0 ≡ used ∷ m1 → TakesWord m1 user m2 → m2 ≡ superior ∷ m3
     → Takes (2 ^ 32) 4 m3 space m4 → Takes (2 ^ 64) 8 m4 time m5 → m5 ≡ held ∷ m6
     → ((x : ℕ) (rest : List ℕ) → IsMoney format x → m6 ≡ money_fields format x ++ rest → money ≡ x)
-    → UserRead r user superior space time money
-user_read format r b m0 m1 m2 m3 m4 m5 m6 used superior space time held money user is here from t0 t1 t2 t3 t4 t5 t6 =
-    let zeros = user_zeros format 0 r in
+    → UserRead r flag user superior space time money (nat_eq held 1)
+user_read format r flag b m0 m1 m2 m3 m4 m5 m6 used superior space time held money user is here from t0 t1 t2 t3 t4 t5 t6 =
+    let zeros = user_zeros format (held_byte flag) r in
     let r6 : List ℕ = money_fields format r.money ++ zeros in
-    let r4 : List ℕ = number 8 r.time ++ (0 ∷ r6) in
+    let r4 : List ℕ = number 8 r.time ++ (held_byte flag ∷ r6) in
     let r3 : List ℕ = number 4 r.space ++ r4 in
     let r1 : List ℕ = length r.user ∷ (padded 12 r.user ++ (r.superior ∷ r3)) in
     let in_space = is.space in
     let in_time = is.time in
-    let s0 = same_byte used 1 m1 r1 (sym t0 ∙ from ∙ here ∙ user_peeled format 0 r) in
+    let s0 = same_byte used 1 m1 r1 (sym t0 ∙ from ∙ here ∙ user_peeled format (held_byte flag) r) in
     let s1 = t1 r.user (r.superior ∷ r3) is.user s0.1 in
     let s2 = same_byte superior r.superior m3 r3 (sym t2 ∙ s1.1) in
     let s3 = t3 r.space r4 (omega arith) s2.1 in
-    let s4 = t4 r.time (0 ∷ r6) (omega arith) s3.1 in
-    let s5 = same_byte held 0 m6 r6 (sym t5 ∙ s4.1) in
-    record { name = s1.0; above = s2.0; blocks = s3.0; units = s4.0; pay = t6 r.money zeros is.money s5.1 }
+    let s4 = t4 r.time (held_byte flag ∷ r6) (omega arith) s3.1 in
+    let s5 = same_byte held (held_byte flag) m6 r6 (sym t5 ∙ s4.1) in
+    record { name = s1.0; above = s2.0; blocks = s3.0; units = s4.0; pay = t6 r.money zeros is.money s5.1; is_held = ap (λ (n : ℕ). nat_eq n 1) s5.0 ∙ flag_of flag }
 
 -- records of the same fields are one
-pub same_user : (r : UserRec) (number : ℕ) (user : List ℕ) (superior space time money : ℕ) → r.number ≡ number → UserRead r (Some user) superior space time money
-    → (let made : UserRec = record { number = number; user = user; superior = superior; space = space; time = time; money = money } in made ≡ r)
-same_user r numbered_as user superior space time money numbered read =
+pub same_user : (r : UserRec) (held : Bool) (number : ℕ) (user : List ℕ) (superior space time money : ℕ) (flag : Bool) → r.number ≡ number → UserRead r held (Some user) superior space time money flag
+    → (let made : UserRec × Bool = (record { number = number; user = user; superior = superior; space = space; time = time; money = money }, flag) in made ≡ (r, held))
+same_user r held numbered_as user superior space time money flag numbered read =
     let made : UserRec = record { number = numbered_as; user = user; superior = superior; space = space; time = time; money = money } in
     let same : UserRec = record { number = r.number; user = r.user; superior = r.superior; space = r.space; time = r.time; money = r.money } in
     let name = read.name in let above = read.above in let blocks = read.blocks in let units = read.units in let pay = read.pay in
-    let equal : made ≡ same = cc in equal
+    let equal : made ≡ same = cc in
+    let both : made ≡ r = equal in
+    ap (λ (m : UserRec). (m, flag)) both ∙ ap (λ (f : Bool). (r, f)) read.is_held
 
 pub format_fits : (format : Format) → format_number format < 2 ^ 16
 format_fits One = lit< tt

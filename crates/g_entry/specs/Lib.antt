@@ -3,3 +3,5 @@ pub mod Formats
 pub mod HeadFields
 pub mod Rules
 pub mod UserFields
+pub mod FileNames
+pub mod OneByOne

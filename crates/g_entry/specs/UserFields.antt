@@ -1,5 +1,5 @@
 -- The block of a user.
-use Rattle.std.specs.Prelude.{◌≡◌, ℕ, ◌≤◌, true, List, [], ◌∷◌, ◌++◌, length}
+use Rattle.std.specs.Prelude.{◌≡◌, ℕ, ◌≤◌, Bool, true, List, [], ◌∷◌, ◌++◌, length, if◌then◌else◌}
 use Rattle.g_base.specs.Fields.{number, padded}
 use Rattle.g_name.specs.Grammar.{is_word}
 use Rattle.g_entry.specs.Formats.{IsMoney}
@@ -17,6 +17,10 @@ pub record IsUser (format : Format) (r : UserRec) : Type 0 where
 abbrev pub money_fields : Format → ℕ → List ℕ
 money_fields One money = []
 money_fields Two money = number 8 money
+
+-- byte 27 of a user's block
+abbrev pub held_byte : Bool → ℕ
+held_byte held = if held then 1 else 0
 
 -- held is 0 on disc; on tape it is 1 where the user's directory is in the dump, else 0
 unfoldable pub user_fields : Format → ℕ → UserRec → List ℕ

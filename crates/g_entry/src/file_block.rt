@@ -18,7 +18,7 @@ pub fn encode_file(r: &FileRec, online: Option<&BlockList>) -> Block
     requires places { IfSome (option_copied online) (ArePlaces Format.Two r.now.len) }
     ensures { result ≡ file_block Format.Two r.now (option_copied online.entry) }
 {
-    encode(Format::Two, r, online)
+    encode_file_in(Format::Two, r, online)
 }
 
 /// The file of this number whose block it is, with its block numbers where it is online. None exactly where no file has
@@ -34,7 +34,7 @@ pub fn decode_file(b: &Block, number: u16) -> Option<(FileRec, Option<BlockList>
     ensures again { (r : FileRec) (online : Option (List ℕ)) → r.number ≡ number → IsFile r
         → IfSome online (ArePlaces Format.Two r.len) → b.now ≡ file_block Format.Two r online → result ≡ Some (r, online) }
 {
-    decode(Format::Two, b, number)
+    decode_file_in(Format::Two, b, number)
 }
 
 /// The block of a file in the first format, whose block numbers are below 65,536.
@@ -43,7 +43,7 @@ pub fn encode_file_1(r: &FileRec, online: Option<&BlockList>) -> Block
     requires places { IfSome (option_copied online) (ArePlaces Format.One r.now.len) }
     ensures { result ≡ file_block Format.One r.now (option_copied online.entry) }
 {
-    encode(Format::One, r, online)
+    encode_file_in(Format::One, r, online)
 }
 
 /// The file of this number whose block in the first format it is, with its block numbers where it is online. None
@@ -59,11 +59,12 @@ pub fn decode_file_1(b: &Block, number: u16) -> Option<(FileRec, Option<BlockLis
     ensures again { (r : FileRec) (online : Option (List ℕ)) → r.number ≡ number → IsFile r
         → IfSome online (ArePlaces Format.One r.len) → b.now ≡ file_block Format.One r online → result ≡ Some (r, online) }
 {
-    decode(Format::One, b, number)
+    decode_file_in(Format::One, b, number)
 }
 
+/// The block of a file in a format.
 #[tactic(auto, using(crate::proofs::FieldLemmas::field_lengths, crate::proofs::FieldLemmas::name_lengths), unfolding(crate::specs::FileFields::file_fields))]
-fn encode(format: Format, r: &FileRec, online: Option<&BlockList>) -> Block
+pub fn encode_file_in(format: Format, r: &FileRec, online: Option<&BlockList>) -> Block
     requires file { IsFile r.now }
     requires places { IfSome (option_copied online) (ArePlaces format r.now.len) }
     ensures { result ≡ file_block format r.now (option_copied online.entry) }
@@ -82,17 +83,27 @@ fn encode(format: Format, r: &FileRec, online: Option<&BlockList>) -> Block
     writer.finish()
 }
 
-fn decode(format: Format, b: &Block, number: u16) -> Option<(FileRec, Option<BlockList>)>
+/// The file of this number whose block in a format it is, with its block numbers where it is online. None exactly where
+/// no file has that block.
+pub fn decode_file_in(
+    format: Format,
+    b: &Block,
+    number: u16,
+) -> Option<(FileRec, Option<BlockList>)>
     ensures number { IfSome result (λ found. found.0.number ≡ number) }
     ensures file { IfSome result (λ found. IsFile found.0 × IfSome found.1 (ArePlaces format found.0.len)) }
     ensures block { IfSome result (λ found. b.now ≡ file_block format found.0 found.1) }
+    ensures none { IfNone result ((r : FileRec) (online : Option (List ℕ)) → r.number ≡ number → IsFile r
+        → IfSome online (ArePlaces format r.len) → b.now ≡ file_block format r online → ⊥) }
+
+    // What was written is read back, so a file has one block.
     ensures again { (r : FileRec) (online : Option (List ℕ)) → r.number ≡ number → IsFile r
         → IfSome online (ArePlaces format r.len) → b.now ≡ file_block format r online → result ≡ Some (r, online) }
 {
     let (r, online) = fields_of(format, b, number)?;
     if keeps_file(&r)
         && keep_places(format, r.len, online.as_ref())
-        && encode(format, &r, online.as_ref()) == *b
+        && encode_file_in(format, &r, online.as_ref()) == *b
     {
         Some((r, online))
     } else {

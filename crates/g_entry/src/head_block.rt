@@ -12,7 +12,7 @@ pub fn encode_head(h: &Head) -> Block
     requires { IsHead h.now }
     ensures { result ≡ head_block Format.Two h.now }
 {
-    encode(Format::Two, h)
+    encode_head_in(Format::Two, h)
 }
 
 /// The head whose block it is. None exactly where no head has that block.
@@ -23,7 +23,7 @@ pub fn decode_head(b: &Block) -> Option<Head>
     // What was written is read back, so a head has one block.
     ensures again { (h : Head) → IsHead h → b.now ≡ head_block Format.Two h → result ≡ Some h }
 {
-    decode(Format::Two, b)
+    decode_head_in(Format::Two, b)
 }
 
 /// The block of a head in the first format.
@@ -31,7 +31,7 @@ pub fn encode_head_1(h: &Head) -> Block
     requires { IsHead h.now }
     ensures { result ≡ head_block Format.One h.now }
 {
-    encode(Format::One, h)
+    encode_head_in(Format::One, h)
 }
 
 /// The head whose block in the first format it is. None exactly where no head has that block.
@@ -42,11 +42,12 @@ pub fn decode_head_1(b: &Block) -> Option<Head>
     // What was written is read back, so a head has one block.
     ensures again { (h : Head) → IsHead h → b.now ≡ head_block Format.One h → result ≡ Some h }
 {
-    decode(Format::One, b)
+    decode_head_in(Format::One, b)
 }
 
+/// The block of a head in a format.
 #[tactic(auto, using(crate::proofs::FieldLemmas::field_lengths), unfolding(crate::specs::HeadFields::head_fields))]
-fn encode(format: Format, h: &Head) -> Block
+pub fn encode_head_in(format: Format, h: &Head) -> Block
     requires { IsHead h.now }
     ensures { result ≡ head_block format h.now }
 {
@@ -59,12 +60,16 @@ fn encode(format: Format, h: &Head) -> Block
     writer.finish()
 }
 
-fn decode(format: Format, b: &Block) -> Option<Head>
+/// The head whose block in a format it is. None exactly where no head has that block.
+pub fn decode_head_in(format: Format, b: &Block) -> Option<Head>
     ensures found { IfSome result (λ h. IsHead h × (b.now ≡ head_block format h)) }
+    ensures none { IfNone result ((h : Head) → IsHead h → b.now ≡ head_block format h → ⊥) }
+
+    // What was written is read back, so a head has one block.
     ensures again { (h : Head) → IsHead h → b.now ≡ head_block format h → result ≡ Some h }
 {
     let h = fields_of(b);
-    if keeps_limits(&h) && encode(format, &h) == *b {
+    if keeps_limits(&h) && encode_head_in(format, &h) == *b {
         Some(h)
     } else {
         None

@@ -82,6 +82,36 @@ fn users(rt: HostRuntime) -> Result<(), Fail> {
 }
 
 #[test]
+fn users_in_a_dump(rt: HostRuntime) -> Result<(), Fail> {
+    let block = block_of([&USER, b""]);
+    // The byte that says whether the user is held, and the answer.
+    for (byte, want) in [(0, Some(false)), (1, Some(true)), (2, None), (255, None)] {
+        let written = with_byte(&block, 27, byte);
+        let found = decode_user_held(Format::Two, &written, 2);
+        assert_eq!(rt; found.is_some(), want.is_some(), "byte {byte}");
+        if let Some((user, held)) = found {
+            assert_eq!(rt; Some(held), want, "byte {byte}");
+            assert!(rt; encode_user_held(Format::Two, &user, held) == written);
+        }
+    }
+    let first = with_byte(&block_of([&USER[..28], b""]), 27, 1);
+    let (user, held) = decode_user_held(Format::One, &first, 2).ok_or("a user")?;
+    assert!(rt; held && user.money == 1_000_000);
+    Ok(())
+}
+
+fn first_user(number: u8, name: &[u8]) -> Result<UserRec, Fail> {
+    Ok(UserRec {
+        number,
+        user: User::parse(name)?,
+        superior: 0,
+        space: 0,
+        time: 0,
+        money: 0,
+    })
+}
+
+#[test]
 fn files(rt: HostRuntime) -> Result<(), Fail> {
     let block = block_of([&FILE, b"\x00\x08\x81\x00\xff\xff"]);
     let (file, online) = decode_file(&block, 5).ok_or("a file")?;
@@ -189,5 +219,13 @@ fn ample(rt: HostRuntime) -> Result<(), Fail> {
         "a file",
     )?;
     assert_eq!(rt; file.copy(), file);
+    let users = [first_user(0, b":MASTER")?, first_user(1, b":MACROS")?];
+    assert!(rt; users_keep(rt.alloc(), &users)?);
+    let swapped = [first_user(0, b":MACROS")?, first_user(1, b":MASTER")?];
+    assert!(rt; !users_keep(rt.alloc(), &swapped)?);
+    // Its owner is user 2, and users 0 and 1 are trapped.
+    let files = [file];
+    assert!(rt; files_keep(rt.alloc(), 3, &files)?);
+    assert!(rt; !files_keep(rt.alloc(), 2, &files)?);
     Ok(())
 }

@@ -1,7 +1,7 @@
 //! The block of a user, written and read.
-ghost use Rattle.std.specs.Prelude.{◌≡◌, ◌↔◌, IsTrue, IfSome, IfNone, Some};
+ghost use Rattle.std.specs.Prelude.{◌≡◌, ◌↔◌, Bool, IsTrue, IfSome, IfNone, Some};
 ghost use Rattle.g_entry.specs.Formats.{IsMoney};
-ghost use Rattle.g_entry.specs.UserFields.{IsUser, user_block};
+ghost use Rattle.g_entry.specs.UserFields.{IsUser, held_byte, user_block};
 
 use crate::put::{put_money, put_word};
 use crate::take::{take_money, take_user};
@@ -13,18 +13,21 @@ pub fn encode_user(r: &UserRec) -> Block
     requires { IsUser Format.Two r.now }
     ensures { result ≡ user_block Format.Two 0 r.now }
 {
-    encode(Format::Two, r)
+    encode_user_in(Format::Two, r)
 }
 
 /// The user of this number whose block it is. None exactly where no user has that block.
 pub fn decode_user(b: &Block, number: u8) -> Option<UserRec>
-    ensures found { IfSome result (λ r. (r.number ≡ number) × IsUser Format.Two r × (b.now ≡ user_block Format.Two 0 r)) }
-    ensures none { IfNone result ((r : UserRec) → r.number ≡ number → IsUser Format.Two r → b.now ≡ user_block Format.Two 0 r → ⊥) }
+    ensures found { IfSome result (λ r. (r.number ≡ number) × IsUser Format.Two r
+        × (b.now ≡ user_block Format.Two 0 r)) }
+    ensures none { IfNone result ((r : UserRec) → r.number ≡ number → IsUser Format.Two r
+        → b.now ≡ user_block Format.Two 0 r → ⊥) }
 
     // What was written is read back, so a user has one block.
-    ensures again { (r : UserRec) → r.number ≡ number → IsUser Format.Two r → b.now ≡ user_block Format.Two 0 r → result ≡ Some r }
+    ensures again { (r : UserRec) → r.number ≡ number → IsUser Format.Two r
+        → b.now ≡ user_block Format.Two 0 r → result ≡ Some r }
 {
-    decode(Format::Two, b, number)
+    decode_user_in(Format::Two, b, number)
 }
 
 /// The block of a user in the first format, which has no MONEY: it has to be 1,000,000.
@@ -32,25 +35,55 @@ pub fn encode_user_1(r: &UserRec) -> Block
     requires { IsUser Format.One r.now }
     ensures { result ≡ user_block Format.One 0 r.now }
 {
-    encode(Format::One, r)
+    encode_user_in(Format::One, r)
 }
 
 /// The user of this number whose block in the first format it is, with MONEY 1,000,000. None exactly where no user has
 /// that block.
 pub fn decode_user_1(b: &Block, number: u8) -> Option<UserRec>
-    ensures found { IfSome result (λ r. (r.number ≡ number) × IsUser Format.One r × (b.now ≡ user_block Format.One 0 r)) }
-    ensures none { IfNone result ((r : UserRec) → r.number ≡ number → IsUser Format.One r → b.now ≡ user_block Format.One 0 r → ⊥) }
+    ensures found { IfSome result (λ r. (r.number ≡ number) × IsUser Format.One r
+        × (b.now ≡ user_block Format.One 0 r)) }
+    ensures none { IfNone result ((r : UserRec) → r.number ≡ number → IsUser Format.One r
+        → b.now ≡ user_block Format.One 0 r → ⊥) }
 
     // What was written is read back, so a user has one block.
-    ensures again { (r : UserRec) → r.number ≡ number → IsUser Format.One r → b.now ≡ user_block Format.One 0 r → result ≡ Some r }
+    ensures again { (r : UserRec) → r.number ≡ number → IsUser Format.One r
+        → b.now ≡ user_block Format.One 0 r → result ≡ Some r }
 {
-    decode(Format::One, b, number)
+    decode_user_in(Format::One, b, number)
 }
 
-#[tactic(auto, using(crate::proofs::FieldLemmas::field_lengths, crate::proofs::FieldLemmas::name_lengths), unfolding(crate::specs::UserFields::user_fields))]
-fn encode(format: Format, r: &UserRec) -> Block
+/// The block of a user on disc, in a format.
+pub fn encode_user_in(format: Format, r: &UserRec) -> Block
     requires { IsUser format r.now }
     ensures { result ≡ user_block format 0 r.now }
+{
+    encode_user_held(format, r, false)
+}
+
+/// The user of this number whose block on disc it is, in a format. None exactly where no user has that block.
+pub fn decode_user_in(format: Format, b: &Block, number: u8) -> Option<UserRec>
+    ensures found { IfSome result (λ r. (r.number ≡ number) × IsUser format r
+        × (b.now ≡ user_block format 0 r)) }
+    ensures none { IfNone result ((r : UserRec) → r.number ≡ number → IsUser format r
+        → b.now ≡ user_block format 0 r → ⊥) }
+
+    // What was written is read back, so a user has one block.
+    ensures again { (r : UserRec) → r.number ≡ number → IsUser format r
+        → b.now ≡ user_block format 0 r → result ≡ Some r }
+{
+    match decode_user_held(format, b, number) {
+        Some((r, false)) => Some(r),
+        _ => None,
+    }
+}
+
+/// The block of a user in a dump, whose byte 27 says whether the user's files are held in that dump (docs/FORMATS.md). On
+/// disc it is 0 for all.
+#[tactic(auto, using(crate::proofs::FieldLemmas::field_lengths, crate::proofs::FieldLemmas::name_lengths), unfolding(crate::specs::UserFields::user_fields))]
+pub fn encode_user_held(format: Format, r: &UserRec, held: bool) -> Block
+    requires { IsUser format r.now }
+    ensures { result ≡ user_block format (held_byte held) r.now }
 {
     let mut writer = BlockWriter::new();
     writer.put_u8(1);
@@ -58,27 +91,43 @@ fn encode(format: Format, r: &UserRec) -> Block
     writer.put_u8(r.superior);
     writer.put_u32(r.space);
     writer.put_u64(r.time);
-    writer.put_u8(0);
+    writer.put_u8(flag(held));
     put_money(&mut writer, format, r.money);
     writer.finish()
 }
 
-fn decode(format: Format, b: &Block, number: u8) -> Option<UserRec>
-    ensures found { IfSome result (λ r. (r.number ≡ number) × IsUser format r × (b.now ≡ user_block format 0 r)) }
-    ensures again { (r : UserRec) → r.number ≡ number → IsUser format r → b.now ≡ user_block format 0 r → result ≡ Some r }
+/// The byte that says whether a user is held.
+fn flag(held: bool) -> u8
+    ensures { result ≡ held_byte held }
 {
-    let r = fields_of(format, b, number)?;
-    if keeps_limits(format, &r) && encode(format, &r) == *b {
-        Some(r)
+    if held { 1 } else { 0 }
+}
+
+/// The user of this number whose block in a dump it is, and whether the user is held. None exactly where no user has that
+/// block.
+pub fn decode_user_held(format: Format, b: &Block, number: u8) -> Option<(UserRec, bool)>
+    ensures found { IfSome result (λ f. (f.0.number ≡ number) × IsUser format f.0
+        × (b.now ≡ user_block format (held_byte f.1) f.0)) }
+    ensures none { IfNone result ((r : UserRec) (held : Bool) → r.number ≡ number → IsUser format r
+        → b.now ≡ user_block format (held_byte held) r → ⊥) }
+
+    // What was written is read back, so a user has one block, and it tells whether the user is held.
+    ensures again { (r : UserRec) (held : Bool) → r.number ≡ number → IsUser format r
+        → b.now ≡ user_block format (held_byte held) r → result ≡ Some (r, held) }
+{
+    let (r, held) = fields_of(format, b, number)?;
+    if keeps_limits(format, &r) && encode_user_held(format, &r, held) == *b {
+        Some((r, held))
     } else {
         None
     }
 }
 
 /// What stands in the fields of a user's block.
-fn fields_of(format: Format, b: &Block, number: u8) -> Option<UserRec>
-    ensures number { IfSome result (λ r. r.number ≡ number) }
-    ensures again { (r : UserRec) → r.number ≡ number → IsUser format r → b.now ≡ user_block format 0 r → result ≡ Some r }
+fn fields_of(format: Format, b: &Block, number: u8) -> Option<(UserRec, bool)>
+    ensures number { IfSome result (λ f. f.0.number ≡ number) }
+    ensures again { (r : UserRec) (held : Bool) → r.number ≡ number → IsUser format r
+        → b.now ≡ user_block format (held_byte held) r → result ≡ Some (r, held) }
 {
     let mut reader = BlockReader::new(b);
     let _used = reader.take_u8();
@@ -86,16 +135,17 @@ fn fields_of(format: Format, b: &Block, number: u8) -> Option<UserRec>
     let superior = reader.take_u8();
     let space = reader.take_u32();
     let time = reader.take_u64();
-    let _held = reader.take_u8();
+    let held = reader.take_u8();
     let money = take_money(&mut reader, format);
-    Some(UserRec {
+    let r = UserRec {
         number,
         user: user?,
         superior,
         space,
         time,
         money,
-    })
+    };
+    Some((r, held == 1))
 }
 
 fn keeps_limits(format: Format, r: &UserRec) -> bool

@@ -1,0 +1,60 @@
+-- The rules of users and of files, from those one by one.
+use Rattle.std.proofs.Common.{◌≡◌, ◌≢◌, ⊎_elim, ℕ, ◌+◌, ◌<◌, ◌≤◌, List, length, get_or, Some, All, AllPairs, refl, ◌∙◌, ap, subst, arith, slice_get}
+use Rattle.std.proofs.lemmas.Bool.{cases_lt}
+use Rattle.std.proofs.lemmas.Option.{get_or_from_slice_get, slice_get_within}
+use Rattle.g_entry.specs.declared.file_rec.FileRec.{FileRec}
+use Rattle.g_entry.specs.declared.user_rec.UserRec.{UserRec}
+use Rattle.g_entry.specs.OneByOne.{KeepPlaces, KeepsAlone, KeepsPlace}
+use Rattle.g_entry.specs.Rules.{AreFiles, AreUsers, SameName}
+
+-- one user more keeps its place
+pub places_more : (users : List UserRec) (i : ℕ) (u : UserRec) → i < length users → u ≡ get_or users i u → KeepsPlace i u
+    → ((j : ℕ) (v : UserRec) → j < i → slice_get users j ≡ Some v → KeepsPlace j v) → (j : ℕ) (v : UserRec) → j < i + 1 → slice_get users j ≡ Some v → KeepsPlace j v
+places_more users i u inside at keeps before j v below is = ⊎_elim
+    (λ (less : j < i). before j v less is)
+    (λ (past : i ≤ j). let same : i ≡ j = omega arith in
+    let one : u ≡ v = at ∙ ap (λ (n : ℕ). get_or users n u) same ∙ get_or_from_slice_get users j v u is in
+    subst (λ (n : ℕ). KeepsPlace n v) same (subst (KeepsPlace i) one keeps))
+    (cases_lt j i)
+
+pub places_all : (users : List UserRec) (i : ℕ) → length users ≤ i → ((j : ℕ) (v : UserRec) → j < i → slice_get users j ≡ Some v → KeepsPlace j v) → KeepPlaces users
+places_all users i all before = record { each = λ j v is. let inside = slice_get_within users j v is in before j v (omega arith) is }
+
+-- THE USERS
+pub users_from : (users : List UserRec) → 2 ≤ length users → length users ≤ 63 → KeepPlaces users → AllPairs (λ u v. u.user ≢ v.user) users → AreUsers users
+users_from users both few places names = record {
+  both = both;
+  few = few;
+  numbered = λ i u is. (places.each i u is).number;
+  master = λ u is. let at = (places.each 0 u is).stands.master refl in record { user = at.0; superior = at.1 };
+  macros = λ u is. let at = (places.each 1 u is).stands.macros refl in record { user = at.0; superior = at.1 };
+  superiors = λ i u behind is. (places.each i u is).stands.behind behind;
+  names = names;
+}
+
+pub places_of_users : (users : List UserRec) → AreUsers users → KeepPlaces users
+places_of_users users are = record {
+  each = λ i u is. record {
+    number = are.numbered i u is;
+    stands = record {
+      master = λ first. let at = are.master u (subst (λ (n : ℕ). slice_get users n ≡ Some u) first is) in (at.user, at.superior);
+      macros = λ second. let at = are.macros u (subst (λ (n : ℕ). slice_get users n ≡ Some u) second is) in (at.user, at.superior);
+      behind = λ behind. are.superiors i u behind is;
+    };
+  };
+}
+
+-- THE FILES
+pub files_from : (users : ℕ) (files : List FileRec) → length files ≤ 1024 → All (KeepsAlone users) files → AllPairs (λ r s. SameName r s → ⊥) files → AllPairs (λ r s. r.stamp ≢ s.stamp) files → AreFiles users files
+files_from users files few alone names stamps = record {
+  few = few;
+  owners = λ k d inside. (alone k d inside).owner;
+  trapped = λ k d inside. (alone k d inside).trapped;
+  names = names;
+  stamps = stamps;
+  dated = λ k d inside. (alone k d inside).dated;
+  empty = λ k d inside. (alone k d inside).empty;
+}
+
+pub alone_in : (users : ℕ) (files : List FileRec) → AreFiles users files → All (KeepsAlone users) files
+alone_in users files are = λ k d inside. record { owner = are.owners k d inside; trapped = are.trapped k d inside; dated = are.dated k d inside; empty = are.empty k d inside }
