@@ -114,30 +114,33 @@ same_money : (format : Format) (m n : ℕ) (a b : List ℕ) → IsMoney format m
 same_money One m n a b of_m of_n is = of_m ∙ sym of_n
 same_money Two m n a b of_m of_n is = (same_number 8 m n a b (omega (arith, of_m)) (omega (arith, of_n)) is).0
 
--- USERS: one number and one block
-pub user_again : (format : Format) (r s : UserRec) → IsUser format r → IsUser format s → r.number ≡ s.number → user_block format 0 r ≡ user_block format 0 s → r ≡ s
-user_again format r s is_r is_s numbered is =
-    let a6 : List ℕ = money_fields format r.money ++ user_zeros format 0 r in
-    let b6 : List ℕ = money_fields format s.money ++ user_zeros format 0 s in
-    let a4 : List ℕ = number 8 r.time ++ (0 ∷ a6) in
-    let b4 : List ℕ = number 8 s.time ++ (0 ∷ b6) in
+-- USERS: one number and one block, which on tape tells whether the dump holds their directory
+pub user_held_again : (format : Format) (f g : ℕ) (r s : UserRec) → IsUser format r → IsUser format s → r.number ≡ s.number → user_block format f r ≡ user_block format g s → (r ≡ s) × (f ≡ g)
+user_held_again format f g r s is_r is_s numbered is =
+    let a6 : List ℕ = money_fields format r.money ++ user_zeros format f r in
+    let b6 : List ℕ = money_fields format s.money ++ user_zeros format g s in
+    let a4 : List ℕ = number 8 r.time ++ (f ∷ a6) in
+    let b4 : List ℕ = number 8 s.time ++ (g ∷ b6) in
     let a3 : List ℕ = number 4 r.space ++ a4 in
     let b3 : List ℕ = number 4 s.space ++ b4 in
     let a1 : List ℕ = length r.user ∷ (padded 12 r.user ++ (r.superior ∷ a3)) in
     let b1 : List ℕ = length s.user ∷ (padded 12 s.user ++ (s.superior ∷ b3)) in
     let space_r = is_r.space in let space_s = is_s.space in
     let time_r = is_r.time in let time_s = is_s.time in
-    let s0 = same_byte 1 1 a1 b1 (sym (user_peeled format 0 r) ∙ is ∙ user_peeled format 0 s) in
+    let s0 = same_byte 1 1 a1 b1 (sym (user_peeled format f r) ∙ is ∙ user_peeled format g s) in
     let s1 = same_word r.user s.user (r.superior ∷ a3) (s.superior ∷ b3) is_r.user is_s.user s0.1 in
     let s2 = same_byte r.superior s.superior a3 b3 s1.1 in
     let s3 = same_number 4 r.space s.space a4 b4 (omega arith) (omega arith) s2.1 in
-    let s4 = same_number 8 r.time s.time (0 ∷ a6) (0 ∷ b6) (omega arith) (omega arith) s3.1 in
-    let s5 = same_byte 0 0 a6 b6 s4.1 in
-    let money = same_money format r.money s.money (user_zeros format 0 r) (user_zeros format 0 s) is_r.money is_s.money s5.1 in
+    let s4 = same_number 8 r.time s.time (f ∷ a6) (g ∷ b6) (omega arith) (omega arith) s3.1 in
+    let s5 = same_byte f g a6 b6 s4.1 in
+    let money = same_money format r.money s.money (user_zeros format f r) (user_zeros format g s) is_r.money is_s.money s5.1 in
     let x : UserRec = record { number = r.number; user = r.user; superior = r.superior; space = r.space; time = r.time; money = r.money } in
     let y : UserRec = record { number = s.number; user = s.user; superior = s.superior; space = s.space; time = s.time; money = s.money } in
     let user = s1.0 in let superior = s2.0 in let space = s3.0 in let time = s4.0 in
-    let equal : x ≡ y = cc in equal
+    let equal : x ≡ y = cc in (equal, s5.0)
+
+pub user_again : (format : Format) (r s : UserRec) → IsUser format r → IsUser format s → r.number ≡ s.number → user_block format 0 r ≡ user_block format 0 s → r ≡ s
+user_again format r s is_r is_s numbered is = (user_held_again format 0 0 r s is_r is_s numbered is).0
 
 same_intent : (m n : ℕ) (c d : Option Intent) (a b : List ℕ) → IfSome c (IsIntent m) → IfSome d (IsIntent n) → intent_fields c ++ a ≡ intent_fields d ++ b → c ≡ d
 same_intent m n None None a b of_c of_d is = refl
@@ -162,7 +165,7 @@ same_intent m n (Some c) (Some d) a b of_c of_d is =
     let serials = two.0 in let places = three.0 in let numbers = four.0 in
     let equal : x ≡ y = cc in ap (λ (i : Intent). Some i) equal
 
-same_format : (f g : Format) → format_number f ≡ format_number g → f ≡ g
+pub same_format : (f g : Format) → format_number f ≡ format_number g → f ≡ g
 same_format One One is = refl
 same_format One Two is = let no : ⊥ = omega (arith, is) in absurd no
 same_format Two One is = let no : ⊥ = omega (arith, is) in absurd no

@@ -1,6 +1,7 @@
 //! The completed dumps of a reel, and which writes of a tape change them. So far definitions and laws alone.
 #![tactic(auto)]
 
+ghost use Rattle.g_shelf.specs.Completed.{CompletedAreOne};
 ghost use Rattle.g_shelf.specs.Quiet.{MarkCompletes, QuietBlocks};
 
 /// A write of the next block of a dump that begins behind the completed ones, whatever it leaves, leaves the completed
@@ -9,4 +10,10 @@ ghost use Rattle.g_shelf.specs.Quiet.{MarkCompletes, QuietBlocks};
 pub fn writes_of_dumps()
     ensures quiet { QuietBlocks }
     ensures mark { MarkCompletes }
+{}
+
+/// A reel's blocks have one list of completed dumps.
+#[tactic(auto, using(crate::proofs::OneLemmas::completed_are_one))]
+pub fn one_list_of_dumps()
+    ensures one { CompletedAreOne }
 {}
