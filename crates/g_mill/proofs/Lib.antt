@@ -1,3 +1,4 @@
 pub mod LineLaws
 pub mod LoadingLaws
 pub mod MachineLaws
+pub mod StepLaws

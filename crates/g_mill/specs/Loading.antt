@@ -1,5 +1,5 @@
 -- Program files: a first line with the number of words, and a line for each word, in eight octal digits.
-use Rattle.std.specs.Prelude.{◌≡◌, ◌≢◌, ⊤, Vec, Result, Ok, Err, ℕ, ◌+◌, ◌-◌, ◌*◌, ◌==◌, ◌&&◌, Bool, false, List, [], ◌∷◌, ◌++◌, length, map, fold, min, replicate, Option, Some, None, nat_lt, nat_le, if◌then◌else◌}
+use Rattle.std.specs.Prelude.{◌≡◌, ◌≢◌, ⊤, Vec, Result, Ok, Err, ℕ, ◌+◌, ◌-◌, ◌*◌, ◌==◌, ◌&&◌, Bool, true, false, List, [], ◌∷◌, ◌++◌, length, map, fold, min, replicate, Option, Some, None, nat_lt, nat_le, if◌then◌else◌}
 use Rattle.std.specs.List.{list_all, prefix_len}
 use Rattle.std.specs.declared.alloc.Global.{Global}
 use Rattle.g_mill.specs.Machine.{Machine}
@@ -21,6 +21,11 @@ octal line = fold (λ number digit. 8 * number + (digit - 48)) 0 line
 abbrev pub is_size_line : List ℕ → Bool
 is_size_line line = is_word_line line && nat_le 32 (octal line) && nat_le (octal line) 32768
 
+-- whether the first line of a file tells a size of a program
+abbrev pub is_sized : List (List ℕ) → Bool
+is_sized [] = false
+is_sized (first ∷ words) = is_size_line first
+
 -- how many lines of words are good: they are words, and the program has place for them
 abbrev pub good_lines : ℕ → List (List ℕ) → ℕ
 good_lines size words = min size (prefix_len is_word_line words)
@@ -36,11 +41,11 @@ abbrev pub program_of : List (List ℕ) → Machine
 program_of [] = record { words = []; next = 0; overflow = false }
 program_of (first ∷ words) = record { words = map octal words ++ replicate (octal first - length words) 0; next = 0; overflow = false }
 
--- how the loading of a file of these lines answers
+-- how the loading of a file of these lines answers: memory is asked for behind a first line that tells a size
 abbrev pub Loads : List (List ℕ) → Result Machine LoadFault → Type 0
 Loads file (Ok program) = (bad_line file ≡ None) × (program ≡ program_of file)
 Loads file (Err (BadProgram line)) = bad_line file ≡ Some line
-Loads file (Err NoMemory) = ⊤
+Loads file (Err NoMemory) = is_sized file ≡ true
 
 -- how the reading of these lines of words, for a program of this size, answers
 abbrev pub ReadsWords : ℕ → List (List ℕ) → Result (Vec ℕ Global) LoadFault → Type 0

@@ -34,6 +34,14 @@ impl Text40 {
         }
     }
 
+    /// The text of these bytes.
+    pub(crate) fn of(bytes: ArrayVec<u8, 40>) -> Text40
+        requires { length bytes.items ≤ 40 }
+        ensures { result ≡ bytes.items }
+    {
+        Text40 { bytes }
+    }
+
     /// The bytes.
     pub fn as_slice(&self) -> &[u8]
         ensures bytes { result.now ≡ self.now }

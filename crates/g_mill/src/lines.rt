@@ -6,8 +6,10 @@ ghost use Rattle.g_mill.specs.Lines.{lines};
 /// The first line of a text, without its byte 10, and what is behind it; `None` where the text is empty. The last
 /// line of a text may lack its byte 10.
 pub fn split_line(text: &[u8]) -> Option<(&[u8], &[u8])>
-    ensures lines { MatchOption result (text.now ≡ []) (λ p. lines text.now ≡ p.0.now ∷ lines p.1.now) }
-    ensures suffix { IfSome result (λ p. p.1.now ≡ drop (length text.now - length p.1.now) text.now) }
+    ensures lines { MatchOption result (text.now ≡ [])
+        (λ p. lines text.now ≡ p.0.now ∷ lines p.1.now) }
+    ensures suffix { IfSome result
+        (λ p. p.1.now ≡ drop (length text.now - length p.1.now) text.now) }
     ensures shorter { IfSome result (λ p. length p.1.now < length text.now) }
 {
     for (i, byte) in text.iter().enumerate() {

@@ -15,9 +15,9 @@ use thiserror::Error;
 pub enum LoadFault {
     /// The first line, from 1, that isn't eight octal digits, or tells no size of a program, or comes behind the
     /// last word. A file without lines has the bad line 1.
-    #[error("BAD PROGRAM {0}")]
+    #[error("line {0} of the program file is bad")]
     BadProgram(usize),
-    #[error("no memory")]
+    #[error("out of memory")]
     NoMemory,
 }
 
@@ -65,7 +65,8 @@ fn read_words(alloc: Global, size: usize, text: &[u8]) -> Result<Vec<Word>, Load
 
 /// The size of a program that a line tells, if it tells one.
 fn size_of_line(line: &[u8]) -> Option<usize>
-    ensures { MatchOption result (is_size_line line.now ≡ false) (λ n. (is_size_line line.now ≡ true) × (n ≡ octal line.now)) }
+    ensures { MatchOption result (is_size_line line.now ≡ false)
+        (λ n. (is_size_line line.now ≡ true) × (n ≡ octal line.now)) }
 {
     let size = word_of_line(line)?.value();
     if (32..=0x8000).contains(&size) {
@@ -77,7 +78,8 @@ fn size_of_line(line: &[u8]) -> Option<usize>
 
 /// The word of eight octal digits, if the line is that.
 fn word_of_line(line: &[u8]) -> Option<Word>
-    ensures { MatchOption result (is_word_line line.now ≡ false) (λ w. (is_word_line line.now ≡ true) × (w ≡ octal line.now)) }
+    ensures { MatchOption result (is_word_line line.now ≡ false)
+        (λ w. (is_word_line line.now ≡ true) × (w ≡ octal line.now)) }
 {
     if line.len() != 8 {
         return None;

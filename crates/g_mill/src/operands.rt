@@ -10,7 +10,7 @@ use crate::Program;
 use crate::event::Text40;
 use crate::program::LIMIT;
 use g_order::Order;
-use g_word::{Word, byte_of};
+use g_word::Word;
 
 impl Program {
     /// The low 15 bits of an accumulator.
@@ -76,26 +76,13 @@ impl Program {
         if u64::from(from) + u64::from(count.div_ceil(4)) > u64::from(self.size()) {
             return None;
         }
-        Some(self.characters(from, count as u8))
-    }
-
-    /// The bytes of the characters that begin at an address.
-    fn characters(&self, from: u32, count: u8) -> Text40
-        requires short { count ≤ 40 }
-        requires within { from + machine.words_for count ≤ machine.size self.now }
-        ensures { result ≡ machine.characters self.now.words from count }
-    {
-        let mut text = Text40::new();
-        for i in 0..count {
-            let word = self.word_in(from as usize + usize::from(i / 4));
-            text.push(byte_of(word.char_at(i % 4)));
-        }
-        text
+        Some(Text40::of(self.characters(from as u16, count as u8)))
     }
 
     /// The text of an order, with the program going on behind it; without one nothing changes.
     pub(crate) fn take_text(&mut self, order: &Order) -> Option<Text40>
-        ensures { TellsText result self.old self.new (machine.text_at self.old (machine.address self.old (fields order.now))) }
+        ensures { TellsText result self.old self.new
+            (machine.text_at self.old (machine.address self.old (fields order.now))) }
     {
         let area = self.address(order);
         let text = self.text(area)?;

@@ -14,8 +14,9 @@ use g_word::Word;
 
 impl Program {
     /// The accumulator becomes what the operation makes of it and the word at the address.
-    pub(crate) fn load(&mut self, operation: Operation, order: &Order) -> Option<Event>
-        ensures { Does result self.old self.new (effect (function.Load operation) self.old (fields order.now)) }
+    pub(crate) fn load_word(&mut self, operation: Operation, order: &Order) -> Option<Event>
+        ensures { Does result self.old self.new
+            (effect (function.Load operation) self.old (fields order.now)) }
     {
         let operand = self.operand(order)?;
         let (word, overflow) = made(operation, self.accumulator(order.x), operand);
@@ -26,7 +27,8 @@ impl Program {
 
     /// The word at the address becomes what the operation makes of it and the accumulator.
     pub(crate) fn store(&mut self, operation: Operation, order: &Order) -> Option<Event>
-        ensures { Does result self.old self.new (effect (function.Store operation) self.old (fields order.now)) }
+        ensures { Does result self.old self.new
+            (effect (function.Store operation) self.old (fields order.now)) }
     {
         let address = self.address(order);
         let old = self.word(address)?;
@@ -38,7 +40,8 @@ impl Program {
 
     /// The accumulator becomes what the operation makes of it and the address itself.
     pub(crate) fn load_number(&mut self, operation: Operation, order: &Order) -> Event
-        ensures { Does (Some result) self.old self.new (effect (function.LoadNumber operation) self.old (fields order.now)) }
+        ensures { Does (Some result) self.old self.new
+            (effect (function.LoadNumber operation) self.old (fields order.now)) }
     {
         let number = Word::from(self.address(order));
         let (word, overflow) = made(operation, self.accumulator(order.x), number);
@@ -49,7 +52,8 @@ impl Program {
 
     /// The accumulator becomes a character of the word at the address.
     pub(crate) fn load_character(&mut self, order: &Order) -> Option<Event>
-        ensures { Does result self.old self.new (effect function.LoadCharacter self.old (fields order.now)) }
+        ensures { Does result self.old self.new
+            (effect function.LoadCharacter self.old (fields order.now)) }
     {
         let operand = self.operand(order)?;
         let character = operand.char_at(self.place(order));
@@ -60,7 +64,8 @@ impl Program {
 
     /// The word at the address becomes 0.
     pub(crate) fn store_zero(&mut self, order: &Order) -> Option<Event>
-        ensures { Does result self.old self.new (effect function.StoreZero self.old (fields order.now)) }
+        ensures { Does result self.old self.new
+            (effect function.StoreZero self.old (fields order.now)) }
     {
         let address = self.address(order);
         let _old = self.word(address)?;
@@ -71,7 +76,8 @@ impl Program {
 
     /// A character of the word at the address becomes the last of the accumulator.
     pub(crate) fn deposit_character(&mut self, order: &Order) -> Option<Event>
-        ensures { Does result self.old self.new (effect function.DepositCharacter self.old (fields order.now)) }
+        ensures { Does result self.old self.new
+            (effect function.DepositCharacter self.old (fields order.now)) }
     {
         let address = self.address(order);
         let old = self.word(address)?;
@@ -83,7 +89,8 @@ impl Program {
 
     /// The accumulator and the next one become the product of the accumulator and the word at the address.
     pub(crate) fn multiply(&mut self, order: &Order) -> Option<Event>
-        ensures { Does result self.old self.new (effect function.Multiply self.old (fields order.now)) }
+        ensures { Does result self.old self.new
+            (effect function.Multiply self.old (fields order.now)) }
     {
         let operand = self.operand(order)?;
         let (high, low, overflow) = self.accumulator(order.x).mul_parts(operand);
@@ -95,7 +102,8 @@ impl Program {
 
     /// Goes to the address where the condition holds.
     pub(crate) fn branch(&mut self, condition: Condition, order: &Order) -> Event
-        ensures { Does (Some result) self.old self.new (effect (function.Branch condition) self.old (fields order.now)) }
+        ensures { Does (Some result) self.old self.new
+            (effect (function.Branch condition) self.old (fields order.now)) }
     {
         let overflow = self.overflow();
         let taken = is_taken(condition, self.accumulator(order.x), overflow);
@@ -110,7 +118,8 @@ impl Program {
 
     /// Goes to a routine, and keeps the address behind the order in the accumulator.
     pub(crate) fn call(&mut self, order: &Order) -> Event
-        ensures { Does (Some result) self.old self.new (effect function.Call self.old (fields order.now)) }
+        ensures { Does (Some result) self.old self.new
+            (effect function.Call self.old (fields order.now)) }
     {
         let back = following(self.next());
         self.put_accumulator(order.x, Word::from(back), false);
@@ -120,7 +129,8 @@ impl Program {
 
     /// Goes back by the address that the accumulator keeps.
     pub(crate) fn exit(&mut self, order: &Order) -> Event
-        ensures { Does (Some result) self.old self.new (effect function.Exit self.old (fields order.now)) }
+        ensures { Does (Some result) self.old self.new
+            (effect function.Exit self.old (fields order.now)) }
     {
         let back = self.low_bits(order.x);
         self.go((back + order.n) % LIMIT);
@@ -146,7 +156,8 @@ impl Program {
 
     /// Copies words from where the accumulator tells to where the next one does.
     pub(crate) fn move_words(&mut self, order: &Order) -> Option<Event>
-        ensures { Does result self.old self.new (effect function.Move self.old (fields order.now)) }
+        ensures { Does result self.old self.new
+            (effect function.Move self.old (fields order.now)) }
     {
         let low = self.address(order) % 512;
         let count = if low == 0 { 512 } else { low };
@@ -163,7 +174,8 @@ impl Program {
 
     /// Asks for a transfer with the control area at the address.
     pub(crate) fn transfer(&mut self, order: &Order) -> Event
-        ensures { Does (Some result) self.old self.new (effect function.Transfer self.old (fields order.now)) }
+        ensures { Does (Some result) self.old self.new
+            (effect function.Transfer self.old (fields order.now)) }
     {
         let area = self.address(order);
         self.go_on();
@@ -173,7 +185,8 @@ impl Program {
     /// Halts with the text of the area at the address.
     #[inline(never)]
     pub(crate) fn halt(&mut self, order: &Order) -> Option<Event>
-        ensures { Does result self.old self.new (effect function.Halt self.old (fields order.now)) }
+        ensures { Does result self.old self.new
+            (effect function.Halt self.old (fields order.now)) }
     {
         self.take_text(order).map(Event::Halted)
     }
@@ -181,7 +194,8 @@ impl Program {
     /// Displays the text of the area at the address.
     #[inline(never)]
     pub(crate) fn display(&mut self, order: &Order) -> Option<Event>
-        ensures { Does result self.old self.new (effect function.Display self.old (fields order.now)) }
+        ensures { Does result self.old self.new
+            (effect function.Display self.old (fields order.now)) }
     {
         self.take_text(order).map(Event::Displayed)
     }
@@ -189,7 +203,8 @@ impl Program {
     /// Deletes the program with the text of the area at the address.
     #[inline(never)]
     pub(crate) fn delete(&mut self, order: &Order) -> Option<Event>
-        ensures { Does result self.old self.new (effect function.Delete self.old (fields order.now)) }
+        ensures { Does result self.old self.new
+            (effect function.Delete self.old (fields order.now)) }
     {
         self.take_text(order).map(Event::Deleted)
     }

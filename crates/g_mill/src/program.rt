@@ -1,9 +1,10 @@
 //! A program with its words, and the parts of its steps.
 
 ghost use Rattle.std.specs.Prelude.{◌≡◌, ℕ, ◌+◌, ◌%◌, ◌^◌, ◌<◌, ◌≤◌, Some, None, false, length, vec_len, slice_get, slice_set};
-ghost use Rattle.g_mill.specs.Machine.{size, word_at, following, preceding, going_to, onward, copied, result_at};
+ghost use Rattle.g_mill.specs.Machine.{size, word_at, words_for, characters, following, preceding, going_to, onward, copied, result_at};
 
-use g_word::Word;
+use arrayvec::ArrayVec;
+use g_word::{Word, byte_of};
 use std::marker::Model;
 
 /// The words of the longest program, and one more than the greatest address.
@@ -25,7 +26,8 @@ impl Model for Program {
 
     ghost view = { λ p. record { words = p.words.items; next = p.next; overflow = p.overflow } };
 
-    ghost invariant = { λ p. (32 ≤ vec_len p.words) × (vec_len p.words ≤ 2 ^ 15) × (p.next < 2 ^ 15) };
+    ghost invariant = { λ p. (32 ≤ vec_len p.words) × (vec_len p.words ≤ 2 ^ 15)
+        × (p.next < 2 ^ 15) };
 }
 
 impl Program {
@@ -56,6 +58,30 @@ impl Program {
         ensures { result ≡ slice_get self.now.words address }
     {
         self.words.get(usize::from(address)).copied()
+    }
+
+    /// The word at an address that the program has.
+    pub fn word_in(&self, address: u16) -> Word
+        requires { address < size self.now }
+        ensures { result ≡ word_at self.now address }
+    {
+        self.words[usize::from(address)]
+    }
+
+    /// The bytes of the characters that begin at an address, four in each word.
+    pub fn characters<const N: usize>(&self, from: u16, count: u8) -> ArrayVec<u8, N>
+        requires room { count ≤ N }
+        requires in_range { from ≤ 2 ^ 15 }
+        requires within { from + words_for count ≤ size self.now }
+        ensures length { length result.items ≡ count }
+        ensures bytes { result.items ≡ characters self.now.words from count }
+    {
+        let mut bytes = ArrayVec::new();
+        for i in 0..count {
+            let word = self.word_in(from + u16::from(i / 4));
+            bytes.push(byte_of(word.char_at(i % 4)));
+        }
+        bytes
     }
 
     /// Puts a word at an address of the program.
@@ -113,10 +139,9 @@ impl Program {
         requires { x < 8 }
         ensures { self.new ≡ result_at self.old x word overflow }
     {
-        self.words[usize::from(x)] = word;
-        if overflow {
-            self.overflow = true;
-        }
+        let is_within = u32::from(x) < self.size();
+        prove!(is_within);
+        self.put(u16::from(x), word, overflow);
     }
 
     /// Goes on at an address.
@@ -149,14 +174,6 @@ impl Program {
         ensures { result ≡ word_at self.now x }
     {
         self.words[usize::from(x)]
-    }
-
-    /// The word at an address of the program.
-    pub(crate) fn word_in(&self, address: usize) -> Word
-        requires { address < size self.now }
-        ensures { result ≡ word_at self.now address }
-    {
-        self.words[address]
     }
 
     /// Copies words one after another, the first first.

@@ -32,7 +32,8 @@ impl Program {
 
     /// Does the order of a word; `None` where it is illegal.
     fn obey(&mut self, word: Word) -> Option<Event>
-        ensures { Does result self.old self.new (option_and_then (performed self.old) (decoded word)) }
+        ensures { Does result self.old self.new
+            (option_and_then (performed self.old) (decoded word)) }
     {
         let (function, order) = read_order(word)?;
         self.perform(function, &order)
@@ -43,7 +44,7 @@ impl Program {
         ensures { Does result self.old self.new (effect function self.old (fields order.now)) }
     {
         match function {
-            Function::Load(operation) => self.load(operation, order),
+            Function::Load(operation) => self.load_word(operation, order),
             Function::Store(operation) => self.store(operation, order),
             Function::LoadNumber(operation) => Some(self.load_number(operation, order)),
             Function::LoadCharacter => self.load_character(order),

@@ -2,20 +2,9 @@
 use Rattle.std.proofs.Common.{◌≡◌, ℕ, suc, ◌+◌, ◌-◌, ◌/◌, ◌%◌, ◌<◌, ◌≤◌, List, [], ◌∷◌, ◌++◌, length, map, take, get_or, refl, sym, ◌∙◌, ap, arith, false}
 use Rattle.std.specs.Prelude.{slice_index, slice_set, nat_eq}
 use Rattle.std.specs.List.{range_with_len}
-use Rattle.std.proofs.lemmas.List.FromFn.{length-map-range_with_len, map-range_with_len_more}
 use Rattle.std.proofs.lemmas.Bool.{ne_eqb}
 use Rattle.std.proofs.lemmas.List.{take_more}
-use Rattle.g_word.specs.Characters.{character, byte_of}
-use Rattle.g_mill.specs.Machine.{characters}
 use Rattle.g_peri.specs.Layout.{before_rest, trimmed, with_words}
-
--- as many bytes as characters
-pub length-characters : (words : List ℕ) (from count : ℕ) → length (characters words from count) ≡ count
-length-characters words from count = length-map-range_with_len _ 0 count
-
--- one more character
-pub characters_more : (words : List ℕ) (from count : ℕ) → characters words from (count + 1) ≡ characters words from count ++ byte_of (character (slice_index words (from + count / 4)) (count % 4)) ∷ []
-characters_more words from count = map-range_with_len_more _ 0 count count (omega arith)
 
 -- a space at the end is trimmed
 trimmed-space : (bytes : List ℕ) → trimmed (bytes ++ 32 ∷ []) ≡ trimmed bytes

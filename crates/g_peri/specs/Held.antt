@@ -1,5 +1,5 @@
 -- The units of a job: which are assigned, and what they hold.
-use Rattle.std.specs.Prelude.{ℕ, ◌+◌, Bool, true, false, List, Option, None, is_some, replicate, slice_set, if◌then◌else◌}
+use Rattle.std.specs.Prelude.{ℕ, ◌+◌, Bool, true, false, List, Option, Some, None, length, ◌≤◌, ⊤, is_some, replicate, slice_set, if◌then◌else◌}
 use Rattle.std.specs.List.{slice_index_or}
 use Rattle.g_name.specs.declared.path.Path.{Path}
 use Rattle.g_peri.specs.declared.unit.Kind.{Kind}
@@ -30,6 +30,21 @@ abbrev pub place_of : Kind → ℕ → ℕ
 place_of Cr number = number
 place_of Lp number = number
 place_of Tp number = number + 8
+
+-- the number of a kind's unit 0 in a control area
+abbrev pub first_number : Kind → ℕ
+first_number Cr = 0
+first_number Lp = 8
+first_number Tp = 16
+
+-- the number of a unit in a control area
+abbrev pub number_of : unit.Unit → ℕ
+number_of u = first_number u.kind + u.number
+
+-- an output that has at most 65,536 bytes, where there is one
+abbrev pub IsShort : Option (Path × List ℕ) → Type 0
+IsShort None = ⊤
+IsShort (Some output) = length output.1 ≤ 65536
 
 -- whether a unit is assigned
 abbrev pub is_assigned : Held → unit.Unit → Bool

@@ -1,3 +1,4 @@
 pub mod Held
 pub mod Layout
+pub mod Ordered
 pub mod Transfer

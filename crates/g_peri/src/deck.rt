@@ -35,7 +35,8 @@ impl Deck {
 
     /// The next line, if one is left.
     pub(crate) fn next_line(&self) -> Option<&[u8]>
-        ensures { MatchOption result (self.now ≡ []) (λ line. self.now ≡ line.now ∷ drop 1 self.now) }
+        ensures { MatchOption result (self.now ≡ [])
+            (λ line. self.now ≡ line.now ∷ drop 1 self.now) }
     {
         match split_line(&self.text.as_slice()[self.taken..]) {
             Some((line, _behind)) => Some(line),

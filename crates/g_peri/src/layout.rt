@@ -1,36 +1,11 @@
 //! How lines stand in words, and what a printer leaves of them.
 
-ghost use Rattle.std.specs.Prelude.{◌≡◌, ◌+◌, ◌^◌, ◌<◌, ◌≤◌, length, take, slice_index};
-ghost use Rattle.g_mill.specs.Machine.{size, words_for, characters};
+ghost use Rattle.std.specs.Prelude.{◌≡◌, ◌+◌, ◌^◌, ◌<◌, ◌≤◌, length, take};
+ghost use Rattle.g_mill.specs.Machine.{size, words_for};
 ghost use Rattle.g_peri.specs.Layout as layout;
 
-use arrayvec::ArrayVec;
 use g_mill::Program;
-use g_word::{Word, byte_of, code_of};
-
-/// The word at an address of a program.
-pub(crate) fn word_in(program: &Program, address: u16) -> Word
-    requires { address < size program.now }
-    ensures { result ≡ slice_index program.now.words address }
-{
-    program.word(address).unwrap()
-}
-
-/// The bytes of the characters that begin at an address of a program, with room for one more.
-pub(crate) fn characters(program: &Program, from: u16, count: u8) -> ArrayVec<u8, 161>
-    requires in_range { from < 2 ^ 15 }
-    requires short { count ≤ 160 }
-    requires within { from + words_for count ≤ size program.now }
-    ensures length { length result.items ≡ count }
-    ensures bytes { result.items ≡ characters program.now.words from count }
-{
-    let mut bytes = ArrayVec::new();
-    for i in 0..count {
-        let word = word_in(program, from + u16::from(i / 4));
-        bytes.push(byte_of(word.char_at(i % 4)));
-    }
-    bytes
-}
+use g_word::{Word, code_of};
 
 /// How many bytes are left without the spaces at the end.
 pub(crate) fn trimmed_len(bytes: &[u8]) -> usize
@@ -49,7 +24,9 @@ pub(crate) fn put_line(program: &mut Program, from: u16, count: u8, line: &[u8])
     requires in_range { from < 2 ^ 15 }
     requires within { from + words_for count ≤ size program.old }
     ensures size { size program.new ≡ size program.old }
-    ensures put { program.new ≡ record program.old { words = layout.with_words program.old.words from (layout.line_words line.now count) } }
+    ensures put { program.new ≡ record program.old {
+      words = layout.with_words program.old.words from (layout.line_words line.now count);
+    } }
 {
     let words = (u16::from(count) + 3) / 4;
     for j in 0..words {

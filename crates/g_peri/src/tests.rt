@@ -1,21 +1,11 @@
-//! Transfers of small programs with their units. Expected words and bytes are written out by hand.
+//! A transfer of a small program with a punch. Expected words and bytes are written out by hand.
 
-use crate::{Kind, PeriFault, Unit, UnitFault, Units};
+use crate::{Kind, OrderEvent, Unit, UnitFault, Units};
 use g_mill::{Program, load};
 use g_name::{Local, Path, Text};
 use g_word::Word;
 use std::process::Abort;
 use std::test::Fail;
-
-const READER: Unit = Unit {
-    kind: Kind::Cr,
-    number: 0,
-};
-
-const PRINTER: Unit = Unit {
-    kind: Kind::Lp,
-    number: 1,
-};
 
 const PUNCH: Unit = Unit {
     kind: Kind::Tp,
@@ -58,93 +48,14 @@ fn ample(rt: HostRuntime) -> Result<(), Fail> {
     assert!(rt; units.assigned(PUNCH));
     put(&rt, &mut program, 100, 0o41202020);
     area(&rt, &mut program, 17, 3, 100);
-    units.peri(rt.alloc(), &mut program, 40)?;
+    units.peri(&mut program, 40)?;
     shows(&rt, &program, 41, 0);
+    // the same transfer by PERI 40
+    put(&rt, &mut program, 20, 0o06740050);
+    program.enter(0);
+    assert_eq!(rt; units.one_order(&mut program)?, OrderEvent::Ran);
     let (_path, text) = units.release(PUNCH)?.expect(&rt, "an output");
-    assert_eq!(rt; text.as_slice(), b"A  ".as_slice());
+    assert_eq!(rt; text.as_slice(), b"A  A  ".as_slice());
     assert_eq!(rt; units.release(PUNCH).err(), Some(UnitFault::NotAssigned));
-    Ok(())
-}
-
-#[test]
-fn readers(rt: HostRuntime) -> Result<(), Fail> {
-    let mut program = load(rt.alloc(), b"00000200\n")?;
-    let mut units = Units::new(rt.alloc())?;
-    area(&rt, &mut program, 0, 4, 100);
-    units.peri(rt.alloc(), &mut program, 40)?;
-    shows(&rt, &program, 41, 2);
-    let cards = Text::from_slice(rt.alloc(), b"AB\nCDEFGH\nxy")?;
-    units.assign_input(READER, path(&rt), cards)?;
-    let more = Text::from_slice(rt.alloc(), b"")?;
-    let again = units.assign_input(READER, path(&rt), more).err();
-    assert_eq!(rt; again, Some(UnitFault::InUse));
-    // the count, the reply and two words of the buffer, line by line
-    for (count, reply, first, second) in [
-        (4, 0, 0o41422020, 0),
-        (5, 3, 0o43444546, 0o47202020),
-        (7, 0, 0o70712020, 0o20202020),
-        (7, 1, 0o70712020, 0o20202020),
-    ] {
-        area(&rt, &mut program, 0, count, 100);
-        units.peri(rt.alloc(), &mut program, 40)?;
-        shows(&rt, &program, 41, reply);
-        shows(&rt, &program, 100, first);
-        shows(&rt, &program, 101, second);
-    }
-    assert!(rt; units.release(READER)?.is_none());
-    Ok(())
-}
-
-#[test]
-fn writers(rt: HostRuntime) -> Result<(), Fail> {
-    let mut program = load(rt.alloc(), b"00000200\n")?;
-    let mut units = Units::new(rt.alloc())?;
-    units.assign_output(PRINTER, path(&rt))?;
-    put(&rt, &mut program, 100, 0o41202020);
-    area(&rt, &mut program, 9, 3, 100);
-    units.peri(rt.alloc(), &mut program, 40)?;
-    // a line of spaces alone
-    area(&rt, &mut program, 9, 2, 101);
-    put(&rt, &mut program, 101, 0o20202020);
-    units.peri(rt.alloc(), &mut program, 40)?;
-    let (_path, text) = units.release(PRINTER)?.expect(&rt, "an output");
-    assert_eq!(rt; text.as_slice(), b"A\n\n".as_slice());
-    // 409 times 160 characters and 96 of them fill a punch
-    units.assign_output(PUNCH, path(&rt))?;
-    area(&rt, &mut program, 17, 160, 60);
-    for _ in 0..409 {
-        units.peri(rt.alloc(), &mut program, 40)?;
-    }
-    for (count, reply) in [(97, 4), (96, 0), (1, 4)] {
-        area(&rt, &mut program, 17, count, 60);
-        units.peri(rt.alloc(), &mut program, 40)?;
-        shows(&rt, &program, 41, reply);
-    }
-    let (_path, text) = units.release(PUNCH)?.expect(&rt, "an output");
-    assert_eq!(rt; text.as_slice().len(), 65_536);
-    Ok(())
-}
-
-#[test]
-fn illegal_areas(rt: HostRuntime) -> Result<(), Fail> {
-    let mut program = load(rt.alloc(), b"00000200\n")?;
-    let mut units = Units::new(rt.alloc())?;
-    program.enter(5);
-    // the unit, the count, the buffer and the area
-    for (unit, count, buffer, at) in [
-        (24, 4, 100, 40),
-        (0, 0, 100, 40),
-        (0, 161, 60, 40),
-        (0, 5, 127, 40),
-        (0, 4, 0o77777777, 40),
-        (0, 4, 100, 125),
-    ] {
-        area(&rt, &mut program, unit, count, buffer);
-        let next = program.next();
-        let answer = units.peri(rt.alloc(), &mut program, at).err();
-        assert_eq!(rt; answer, Some(PeriFault::Illegal));
-        assert_eq!(rt; program.next() + 1, next);
-        shows(&rt, &program, 41, 7);
-    }
     Ok(())
 }

@@ -5,17 +5,17 @@ ghost use Rattle.std.specs.Option.{option_map};
 ghost use Rattle.g_mill.specs.Lines.{lines};
 ghost use Rattle.g_mill.specs.Machine.{Machine, size, words_for};
 ghost use Rattle.g_peri.specs.Layout.{trimmed};
-ghost use Rattle.g_peri.specs.Transfer.{answered, read_by, written_by, Transfers};
+ghost use Rattle.g_peri.specs.Transfer.{answered, read_by, written_by, has_room, puts, Transfers};
 ghost use Rattle.g_mill.specs.Machine as machine;
 ghost use Rattle.g_peri.specs.Transfer as transfer;
 ghost use Rattle.g_peri.specs.Held as held;
 
 use crate::control::{Control, read_control};
 use crate::deck::Deck;
-use crate::layout::{characters, put_line, trimmed_len};
+use crate::layout::{put_line, trimmed_len};
 use crate::unit::{Kind, Unit};
 use arrayvec::ArrayVec;
-use g_base::NoMemory;
+use g_base::{MAX_FILE_BYTES, NoMemory};
 use g_mill::Program;
 use g_name::{Path, Text};
 use g_word::Word;
@@ -23,25 +23,36 @@ use std::alloc::Global;
 use std::marker::Model;
 use thiserror::Error;
 
-/// How many bytes an output may have.
-const LIMIT: usize = 65_536;
+/// How many bytes an output may have, which becomes a file.
+const LIMIT: usize = MAX_FILE_BYTES as usize;
 
 /// Why a unit isn't assigned or released.
 #[derive(Clone, Copy, Debug, PartialEq, Eq, Error)]
 pub enum UnitFault {
-    #[error("IN USE")]
+    #[error("the unit is assigned already")]
     InUse,
-    #[error("NOT ASSIGNED")]
+    #[error("the unit isn't assigned")]
     NotAssigned,
 }
 
 /// Why a transfer isn't done.
 #[derive(Clone, Copy, Debug, PartialEq, Eq, Error)]
 pub enum PeriFault {
-    #[error("ILLEGAL")]
+    #[error("the transfer is illegal")]
     Illegal,
-    #[error("no memory")]
+    #[error("out of memory")]
     NoMemory,
+}
+
+impl From<NoMemory> for PeriFault {
+    ghost use Rattle.std.specs.Prelude.{◌≡◌};
+    ghost use Rattle.g_peri.specs.declared.units.PeriFault.TheVariants.{NoMemory};
+
+    ghost from_gives = { λ _ fault. fault ≡ NoMemory };
+
+    fn from(_e: NoMemory) -> PeriFault {
+        PeriFault::NoMemory
+    }
 }
 
 /// The 24 units of a job. Contracts see what each of them holds.
@@ -53,10 +64,10 @@ pub struct Units {
 }
 
 impl Model for Units {
-    ghost use Rattle.std.specs.Prelude.{◌≡◌, vec_len};
+    ghost use Rattle.std.specs.Prelude.{◌≡◌, vec_len, All};
     ghost use Rattle.std.specs.Coded.{codes};
     ghost use Rattle.g_name.specs.contracts.path.Path as path;
-    ghost use Rattle.g_peri.specs.Held.{Held};
+    ghost use Rattle.g_peri.specs.Held.{Held, IsShort};
 
     ghost Value = { Held };
 
@@ -64,7 +75,8 @@ impl Model for Units {
 
     ghost view = { λ u. record { readers = u.readers.items; writers = u.writers.items } };
 
-    ghost invariant = { λ u. (vec_len u.readers ≡ 8) × (vec_len u.writers ≡ 16) };
+    ghost invariant = { λ u. (vec_len u.readers ≡ 8) × (vec_len u.writers ≡ 16)
+        × All IsShort u.writers.items };
 }
 
 impl Units {
@@ -83,11 +95,12 @@ impl Units {
 
     /// Whether a unit is assigned.
     pub fn assigned(&self, unit: Unit) -> bool
-        ensures { result ≡ held.is_assigned self.now unit }
+        ensures value { result ≡ held.is_assigned self.now unit }
+        ensures sizes { (length self.now.readers ≡ 8) × (length self.now.writers ≡ 16) }
     {
         match unit.kind {
             Kind::Cr => self.readers[usize::from(unit.number)].is_some(),
-            Kind::Lp | Kind::Tp => self.writers[place(unit)].is_some(),
+            Kind::Lp | Kind::Tp => self.writers[unit.place()].is_some(),
         }
     }
 
@@ -97,7 +110,8 @@ impl Units {
         requires { held.is_reader unit.kind ≡ true }
         ensures exact { IsOk result ↔ (held.is_assigned self.old unit ≡ false) }
         ensures in_use { IfErr result (λ e. e ≡ UnitFault.InUse) }
-        ensures ok { OnOk result (self.new ≡ held.with_reader self.old unit.number (Some (lines bytes))) }
+        ensures ok { OnOk result
+            (self.new ≡ held.with_reader self.old unit.number (Some (lines bytes))) }
         ensures err { OnErr result (self.new ≡ self.old) }
     {
         if self.assigned(unit) {
@@ -112,14 +126,16 @@ impl Units {
         requires { held.is_reader unit.kind ≡ false }
         ensures exact { IsOk result ↔ (held.is_assigned self.old unit ≡ false) }
         ensures in_use { IfErr result (λ e. e ≡ UnitFault.InUse) }
-        ensures ok { OnOk result (self.new ≡ held.with_writer self.old (held.place_of unit.kind unit.number) (Some (path, []))) }
+        ensures ok { OnOk result
+            (self.new ≡ held.with_writer self.old (held.place_of unit.kind unit.number)
+            (Some (path, []))) }
         ensures err { OnErr result (self.new ≡ self.old) }
     {
         if self.assigned(unit) {
             return Err(UnitFault::InUse);
         }
         let text = Text::new(self.alloc);
-        self.writers[place(unit)] = Some((path, text));
+        self.writers[unit.place()] = Some((path, text));
         Ok(())
     }
 
@@ -128,6 +144,7 @@ impl Units {
         ensures exact { IsOk result ↔ (held.is_assigned self.old unit ≡ true) }
         ensures refused { IfErr result (λ e. e ≡ UnitFault.NotAssigned) }
         ensures output { IfOk result (λ output. output ≡ held.output_of self.old unit) }
+        ensures short { IfOk result held.IsShort }
         ensures ok { OnOk result (self.new ≡ held.released self.old unit) }
         ensures err { OnErr result (self.new ≡ self.old) }
     {
@@ -139,43 +156,34 @@ impl Units {
                 self.readers[usize::from(unit.number)] = None;
                 Ok(None)
             }
-            Kind::Lp | Kind::Tp => Ok(self.writers[place(unit)].take()),
+            Kind::Lp | Kind::Tp => Ok(self.writers[unit.place()].take()),
         }
     }
 
     /// Does the transfer that a program asks for by a control area, the reply last. An illegal one changes nothing,
     /// and the program's next address is that of the order again, as it wasn't done. Want of memory changes nothing.
-    pub fn peri(
-        &mut self,
-        _alloc: Global,
-        program: &mut Program,
-        area: u16,
-    ) -> Result<(), PeriFault>
+    pub fn peri(&mut self, program: &mut Program, area: u16) -> Result<(), PeriFault>
         ensures { Transfers result self.old program.old self.new program.new area }
     {
         let Some(control) = read_control(program, area) else {
             program.step_back();
             return Err(PeriFault::Illegal);
         };
-        match self.answer(program, &control) {
-            Ok(reply) => {
-                program.set_word(area + 1, Word::from(reply));
-                Ok(())
-            }
-            Err(NoMemory) => Err(PeriFault::NoMemory),
-        }
+        let reply = self.answer(program, &control)?;
+        program.set_word(area + 1, Word::from(reply));
+        Ok(())
     }
 
     /// Does a transfer but for the reply, which it answers.
     fn answer(&mut self, program: &mut Program, control: &Control) -> Result<u16, NoMemory>
-        requires unit { control.now.unit < 24 }
-        requires from { control.now.from < 2 ^ 15 }
-        requires count { control.now.count ≤ 160 }
-        requires within { control.now.from + words_for control.now.count ≤ size program.old }
+        requires { control.now.from + words_for control.now.count ≤ size program.old }
         ensures size { size program.new ≡ size program.old }
-        ensures answered { MatchResult result (λ reply. (self.new, program.new, reply) ≡ answered self.old program.old control.now) (λ _. (self.new ≡ self.old) × (program.new ≡ program.old)) }
+        ensures answered { MatchResult result
+            (λ reply. (self.new, program.new, reply) ≡ answered self.old program.old control.now)
+            (λ _. (self.new ≡ self.old) × (program.new ≡ program.old)) }
+        ensures no_memory { IfErr result (λ _. puts self.old program.old control.now ≡ true) }
     {
-        if control.unit < 8 {
+        if control.unit.is_reader() {
             Ok(self.read(program, control))
         } else {
             self.write(program, control)
@@ -184,13 +192,13 @@ impl Units {
 
     /// Gives a program the next line of a card reader, and answers the reply.
     fn read(&mut self, program: &mut Program, control: &Control) -> u16
-        requires unit { control.now.unit < 8 }
-        requires from { control.now.from < 2 ^ 15 }
+        requires reader { control.now.unit < 8 }
         requires within { control.now.from + words_for control.now.count ≤ size program.old }
         ensures size { size program.new ≡ size program.old }
-        ensures read { (self.new, program.new, result) ≡ read_by (held.at_place self.old.readers control.now.unit) self.old program.old control.now }
+        ensures read { (self.new, program.new, result) ≡ read_by
+            (held.at_place self.old.readers control.now.unit) self.old program.old control.now }
     {
-        let place = usize::from(control.unit);
+        let place = control.unit.place();
         let Some(deck) = &self.readers[place] else {
             return 2;
         };
@@ -206,7 +214,8 @@ impl Units {
     /// Passes the next line of a card reader.
     fn pass(&mut self, place: usize)
         requires { place < 8 }
-        ensures { self.new ≡ held.with_reader self.old place (option_map (drop 1) (held.at_place self.old.readers place)) }
+        ensures { self.new ≡ held.with_reader self.old place
+            (option_map (drop 1) (held.at_place self.old.readers place)) }
     {
         if let Some(deck) = &mut self.readers[place] {
             deck.pass();
@@ -215,27 +224,31 @@ impl Units {
 
     /// Takes the characters of a program to a printer or a punch, and answers the reply.
     fn write(&mut self, program: &Program, control: &Control) -> Result<u16, NoMemory>
-        requires least { 8 ≤ control.now.unit }
-        requires most { control.now.unit < 24 }
-        requires from { control.now.from < 2 ^ 15 }
-        requires count { control.now.count ≤ 160 }
+        requires writer { 8 ≤ control.now.unit }
         requires within { control.now.from + words_for control.now.count ≤ size program.now }
-        ensures { MatchResult result (λ reply. (self.new, program.now, reply) ≡ answered self.old program.now control.now) (λ _. self.new ≡ self.old) }
+        ensures answered { MatchResult result
+            (λ reply. (self.new, program.now, reply) ≡ answered self.old program.now control.now)
+            (λ _. self.new ≡ self.old) }
+        ensures no_memory { IfErr result (λ _. puts self.old program.now control.now ≡ true) }
     {
-        let place = usize::from(control.unit) - 8;
+        let place = control.unit.place();
         self.append(place, added(program, control, place).as_slice())
     }
 
     /// Puts bytes behind an output that has room for them, and answers the reply.
     fn append(&mut self, place: usize, bytes: &[u8]) -> Result<u16, NoMemory>
         requires { place < 16 }
-        ensures { (program : Machine) → MatchResult result (λ reply. (self.new, program, reply) ≡ written_by (held.at_place self.old.writers place) place bytes.now self.old program) (λ _. self.new ≡ self.old) }
+        ensures written { (program : Machine) → MatchResult result
+            (λ reply. (self.new, program, reply) ≡ written_by
+            (held.at_place self.old.writers place) place bytes.now self.old program)
+            (λ _. self.new ≡ self.old) }
+        ensures no_memory { IfErr result
+            (λ _. has_room (held.at_place self.old.writers place) bytes.now ≡ true) }
     {
         let Some((_path, text)) = &self.writers[place] else {
             return Ok(2);
         };
-        let held = text.as_slice().len();
-        if held > LIMIT || bytes.len() > LIMIT - held {
+        if bytes.len() > LIMIT - text.as_slice().len() {
             return Ok(4);
         }
         self.extend(place, bytes)?;
@@ -244,8 +257,11 @@ impl Units {
 
     /// Puts bytes behind an output.
     fn extend(&mut self, place: usize, bytes: &[u8]) -> Result<(), NoMemory>
-        requires { place < 16 }
-        ensures ok { OnOk result (self.new ≡ held.with_writer self.old place (option_map (λ o. (o.0, o.1 ++ bytes.now)) (held.at_place self.old.writers place))) }
+        requires place { place < 16 }
+        requires room { has_room (held.at_place self.old.writers place) bytes.now ≡ true }
+        ensures ok { OnOk result
+            (self.new ≡ held.with_writer self.old place
+            (option_map (λ o. (o.0, o.1 ++ bytes.now)) (held.at_place self.old.writers place))) }
         ensures err { OnErr result (self.new ≡ self.old) }
     {
         match &mut self.writers[place] {
@@ -257,12 +273,11 @@ impl Units {
 
 /// The bytes that a program adds to an output.
 fn added(program: &Program, control: &Control, place: usize) -> ArrayVec<u8, 161>
-    requires from { control.now.from < 2 ^ 15 }
-    requires count { control.now.count ≤ 160 }
-    requires within { control.now.from + words_for control.now.count ≤ size program.now }
-    ensures { result.items ≡ transfer.added place (machine.characters program.now.words control.now.from control.now.count) }
+    requires { control.now.from + words_for control.now.count ≤ size program.now }
+    ensures { result.items ≡ transfer.added place
+        (machine.characters program.now.words control.now.from control.now.count) }
 {
-    let mut bytes = characters(program, control.from, control.count);
+    let mut bytes = program.characters(control.from, control.count);
     if place >= 8 {
         return bytes;
     }
@@ -289,15 +304,4 @@ fn vacant<T: Drop>(alloc: Global, count: usize) -> Result<Vec<Option<T>>, NoMemo
         places.push(None)?;
     }
     Ok(places)
-}
-
-/// The place of a printer or a punch among both.
-fn place(unit: Unit) -> usize
-    ensures value { result ≡ held.place_of unit.kind unit.number }
-    ensures within { result < 16 }
-{
-    match unit.kind {
-        Kind::Cr | Kind::Lp => usize::from(unit.number),
-        Kind::Tp => usize::from(unit.number) + 8,
-    }
 }

@@ -1,0 +1,74 @@
+//! One order of a program with its transfer.
+
+ghost use Rattle.std.specs.Prelude.{◌≡◌, ◌<◌, IfOk};
+ghost use Rattle.g_mill.specs.Machine.{size, preceding};
+ghost use Rattle.g_peri.specs.Ordered.{Orders, Transferred, Stays};
+
+use crate::units::{PeriFault, Units};
+use g_base::NoMemory;
+use g_mill::{Event, Program, Text40};
+use g_word::Word;
+
+/// What one order of a program came to, with its transfer where it asked for one.
+#[derive(Debug, Drop, PartialEq, Eq)]
+pub enum OrderEvent {
+    /// The order was done, and its transfer.
+    Ran,
+    /// The program halted and waits to be resumed.
+    Halted(Text40),
+    /// The program displays a text and goes on.
+    Displayed(Text40),
+    /// The program deletes itself.
+    Deleted(Text40),
+    /// There is no such order, it needs words past the program, or its transfer is illegal. Nothing changed.
+    Illegal {
+        /// The word of the order, or 0 where the program has no word at `at`.
+        word: Word,
+        /// The address of the order.
+        at: u16,
+    },
+}
+
+impl Units {
+    /// Does the next order of a program, and the transfer that it may ask for. An illegal order changes neither
+    /// units nor program, and neither does want of memory, so the order can be tried again.
+    pub fn one_order(&mut self, program: &mut Program) -> Result<OrderEvent, NoMemory>
+        ensures ordered { Orders result self.old program.old self.new program.new }
+        ensures illegal { IfOk result
+            (λ event. Stays event self.old program.old self.new program.new) }
+    {
+        let at = program.next();
+        match program.step() {
+            Event::Ran => Ok(OrderEvent::Ran),
+            Event::Peri { area } => self.transfer(program, area, at),
+            Event::Halted(text) => Ok(OrderEvent::Halted(text)),
+            Event::Displayed(text) => Ok(OrderEvent::Displayed(text)),
+            Event::Deleted(text) => Ok(OrderEvent::Deleted(text)),
+            Event::Illegal { word, at } => Ok(OrderEvent::Illegal { word, at }),
+        }
+    }
+
+    /// Does the transfer that the order at an address asks for, behind which the program goes on.
+    fn transfer(
+        &mut self,
+        program: &mut Program,
+        area: u16,
+        at: u16,
+    ) -> Result<OrderEvent, NoMemory>
+        requires within { at < size program.old }
+        requires passed { preceding program.old.next ≡ at }
+        ensures { Transferred result self.old program.old self.new program.new area }
+    {
+        match self.peri(program, area) {
+            Ok(()) => Ok(OrderEvent::Ran),
+            Err(PeriFault::Illegal) => {
+                let word = program.word_in(at);
+                Ok(OrderEvent::Illegal { word, at })
+            }
+            Err(PeriFault::NoMemory) => {
+                program.step_back();
+                Err(NoMemory)
+            }
+        }
+    }
+}
