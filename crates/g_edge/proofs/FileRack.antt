@@ -1,9 +1,12 @@
 -- The calls of a rack over files, by what was done to the reel of the serial.
-use Rattle.std.proofs.Common.{◌≡◌, ℕ, zero, suc, ◌≤◌, List, [], ◌∷◌, false, Option, Some, None, Ok, Err, get_or, ap, subst, sym, ◌∙◌, arith}
+use Rattle.std.proofs.Common.{◌≡◌, ℕ, ◌+◌, ◌<◌, List, [], ◌∷◌, ◌++◌, Option, Some, None, Ok, Err, length, map, get_or, inl, inr, ap, subst, sym, ◌∙◌, arith, length-append}
 use Rattle.std.specs.Prelude.{All}
 use Rattle.std.specs.List.Sorted.{IsStrictlyIncreasing}
 use Rattle.std.proofs.Math.ListN.{set}
-use Rattle.std.proofs.lemmas.List.{set-get_or}
+use Rattle.std.proofs.Math.Seq.{get_or-append_seam}
+use Rattle.std.proofs.lemmas.Bool.{cases_lt}
+use Rattle.std.proofs.lemmas.List.{get_or_append_left, get_or-map, length-map, map_push, set-get_or}
+use Rattle.std.proofs.lemmas.List.Elements.{All-push}
 use Rattle.g_base.specs.Counts.{one_more}
 use Rattle.g_base.specs.Fuse.{burnt}
 use Rattle.g_tape.specs.declared.fault.TapeFault.TheVariants.{WriteFailed}
@@ -54,37 +57,33 @@ module _ (s k i : ℕ) (old : Rack) (was : Reel) (place : IsPlaceOf s old.reels 
         ),
       )
 
--- an empty reel of which nothing is told
-abbrev blank : ℕ → Reel
-blank n = record { serial = n; capacity = 3; len = 0; mounted = false; blocks = None; times_read = None }
+-- a number above all others keeps them rising behind them
+rising-push : (numbers : List ℕ) (x : ℕ) → IsStrictlyIncreasing numbers → All (λ n. n < x) numbers → IsStrictlyIncreasing (numbers ++ x ∷ [])
+rising-push numbers x rising below k h =
+    let within : k < length numbers = omega (arith, length-append numbers (x ∷ []), h) in
+    let first : get_or (numbers ++ x ∷ []) k 0 ≡ get_or numbers k 0 = get_or_append_left numbers (x ∷ []) 0 k within in
+    elim (cases_lt (k + 1) (length numbers)) [
+      | inl more ↦
+          let second : get_or (numbers ++ x ∷ []) (k + 1) 0 ≡ get_or numbers (k + 1) 0 = get_or_append_left numbers (x ∷ []) 0 (k + 1) more in
+          let rises : get_or numbers k 0 < get_or numbers (k + 1) 0 = rising k more in
+          omega (arith, first, second, rises)
+      | inr last ↦
+          let end : k + 1 ≡ length numbers = omega arith in
+          let second : get_or (numbers ++ x ∷ []) (k + 1) 0 ≡ x = subst (λ (i : ℕ). get_or (numbers ++ x ∷ []) i 0 ≡ x) (sym end) (get_or-append_seam numbers x [] 0) in
+          let under : get_or numbers k 0 < x = below k 0 within in
+          omega (arith, first, second, under)
+    ]
 
-blank_is : (n : ℕ) → 1 ≤ n → n ≤ 999_999 → IsReel (blank n)
-blank_is n some few = record {
-  numbered = some;
-  numbered_most = few;
-  sized = omega arith;
-  sized_most = omega arith;
-  within = omega arith;
-  told = λ x there. let no : ⊥ = cc in absurd no;
-  whole = λ x there. let no : ⊥ = cc in absurd no;
-  counted = λ x there. let no : ⊥ = cc in absurd no;
-}
-
--- two of them are a rack
-pub two_reels : (r s : Reel) (reels : List Reel) → r ≡ blank 7 → s ≡ blank 9 → reels ≡ r ∷ s ∷ [] → AreReels reels
-two_reels r s reels one other are =
-    let both : reels ≡ blank 7 ∷ blank 9 ∷ [] = are ∙ ap (λ (x : Reel). x ∷ s ∷ []) one ∙ ap (λ (x : Reel). blank 7 ∷ x ∷ []) other in
-    subst AreReels (sym both) (record {
-      few = omega arith;
-      rising = rises;
-      each = each;
-    })
-  where
-    rises : IsStrictlyIncreasing (7 ∷ 9 ∷ [])
-    rises zero within = omega arith
-    rises (suc k) within = let no : ⊥ = omega (arith, within) in absurd no
-
-    each : All IsReel (blank 7 ∷ blank 9 ∷ [])
-    each zero d within = blank_is 7 (omega arith) (omega arith)
-    each (suc zero) d within = blank_is 9 (omega arith) (omega arith)
-    each (suc (suc k)) d within = let no : ⊥ = omega (arith, within) in absurd no
+-- one more reel behind those of a rack, with a serial above all of them
+pub AreReels-push : (reels : List Reel) (r : Reel) → AreReels reels → length reels < 16 → IsReel r → All (λ other. other.serial < r.serial) reels → AreReels (reels ++ r ∷ [])
+AreReels-push reels r are room is above =
+    let below : All (λ n. n < r.serial) (map (λ (o : Reel). o.serial) reels) = λ k d h.
+    let within : k < length reels = omega (arith, length-map reels (λ (o : Reel). o.serial), h) in
+    let there : get_or (map (λ (o : Reel). o.serial) reels) k d ≡ (get_or reels k r).serial = get_or-map (λ (o : Reel). o.serial) reels k r d within in
+    let under : (get_or reels k r).serial < r.serial = above k r within in
+    omega (arith, there, under) in
+    record {
+      few = omega (arith, length-append reels (r ∷ []), room);
+      rising = subst IsStrictlyIncreasing (sym (map_push (λ (o : Reel). o.serial) reels r)) (rising-push (map (λ (o : Reel). o.serial) reels) r.serial are.rising below);
+      each = All-push IsReel reels r are.each is;
+    }

@@ -1,8 +1,9 @@
 //! One reel in a file of whole blocks. It tells no content: only its length is known, as a number.
-ghost use Rattle.std.specs.Prelude.{◌≡◌, ℕ, ◌+◌, ◌≤◌, List, None, Some, false};
+ghost use Rattle.std.specs.Prelude.{◌≡◌, ℕ, ◌+◌, ◌^◌, ◌<◌, ◌≤◌, List, None, Some, false};
 ghost use Rattle.g_tape.specs.Rack.{refuses_read, refuses_unmount, refuses_write};
 ghost use Rattle.g_tape.specs.Reel.{IsReel, ending, with_mounted};
 
+use crate::blocks::start_of;
 use g_base::Block;
 use g_tape::TapeFault;
 use std::fs::File;
@@ -10,8 +11,8 @@ use std::io;
 use std::marker::Model;
 use std::os::unix::fs::FileExt;
 
-/// The bytes of a block.
-const BLOCK_BYTES: u64 = 512;
+/// What the last block of a dump, its mark, begins with (docs/FORMATS.md, "Tapes").
+const MARK: &[u8] = b"G3MK";
 
 /// A reel over an open file. Contracts see it as a reel of which nothing is told.
 #[derive(Drop)]
@@ -125,11 +126,14 @@ impl FileReel {
     pub fn read(&self, k: u32, into: &mut Block) -> io::Result<()>
         ensures untold { (self.now.blocks ≡ None) × (self.now.times_read ≡ None) }
     {
-        self.file.read_exact_at(into, u64::from(k) * BLOCK_BYTES)
+        self.file.read_exact_at(into, start_of(k))
     }
 
-    /// Writes these bytes at block k, drops what stands behind that block and counts it, also where this fails: then
-    /// nobody knows what the file holds there.
+    /// Drops what stands from block k on, writes these bytes there and counts the block, also where this
+    /// fails: then the file ends at k, or with a block of any bytes there, or is as it was.
+    ///
+    /// A dump's mark completes the dump: all that was written before it is on the device before it, and
+    /// it is there before all that comes behind it.
     pub fn end_with(&mut self, k: u32, bytes: &[u8]) -> io::Result<()>
         requires free { refuses_write k (Some self.old) ≡ None }
         requires reel { IsReel self.old }
@@ -137,7 +141,26 @@ impl FileReel {
         ensures keeps { IsReel self.old → IsReel self.new }
     {
         self.len = k + 1;
-        self.file.write_all_at(bytes, u64::from(k) * BLOCK_BYTES)?;
-        self.file.set_len((u64::from(k) + 1) * BLOCK_BYTES)
+        let completes = bytes.starts_with(MARK);
+        if completes {
+            self.sync()?;
+        }
+        self.append(k, bytes)?;
+        if completes { self.sync() } else { Ok(()) }
+    }
+
+    /// Cuts the file at block k, makes room for one block and writes these bytes into it, so that it is
+    /// whole blocks wherever this is cut off.
+    fn append(&self, k: u32, bytes: &[u8]) -> io::Result<()>
+        requires { k + 1 < 2 ^ 32 }
+    {
+        self.file.set_len(start_of(k))?;
+        self.file.set_len(start_of(k + 1))?;
+        self.file.write_all_at(bytes, start_of(k))
+    }
+
+    /// Brings all that was written to the device.
+    pub fn sync(&self) -> io::Result<()> {
+        self.file.sync_data()
     }
 }

@@ -7,10 +7,12 @@ ghost use Rattle.g_tape.specs.Rack.{AreReels, reel};
 use crate::file_reel::FileReel;
 use g_base::{Block, Fuse, raised};
 use g_tape::{TapeFault, Tapes, half_of};
+use std::fs::File;
 
-/// A rack over open files.
+/// A rack over open files, whose folder is locked as long as this lives.
 #[derive(Drop)]
 pub struct FileTapes {
+    folder: File,
     reels: Vec<FileReel>,
     read_faults: u64,
     write_faults: u64,
@@ -20,16 +22,25 @@ pub struct FileTapes {
 }
 
 impl FileTapes {
-    /// The rack of these reels, in rising serial.
-    pub fn new(reels: Vec<FileReel>) -> FileTapes
+    /// The rack of these reels, in rising serial, which lie in this folder.
+    pub fn new(folder: File, reels: Vec<FileReel>) -> FileTapes
         requires { AreReels reels.items }
     {
         FileTapes {
+            folder,
             reels,
             read_faults: 0,
             write_faults: 0,
             fuse: Fuse::new(),
             arms: 0,
+        }
+    }
+
+    /// Brings all that was written to the device, at the end of a run. Where a reel can't be brought there
+    /// nothing is lost that was promised, since each completed dump was brought there with its mark.
+    pub fn sync(&self) {
+        for reel in &self.reels {
+            let _synced = reel.sync();
         }
     }
 }
@@ -80,6 +91,8 @@ impl Tapes for FileTapes {
         Ok(())
     }
 
+    /// Brings the reel's blocks to the device first. Where that fails nothing is lost that was promised,
+    /// since each completed dump was brought there with its mark.
     fn unmount(&mut self, serial: u32) -> Result<(), TapeFault> {
         let Some(place) = place_of(&self.reels, serial) else {
             return Err(TapeFault::NoTape);
@@ -87,6 +100,7 @@ impl Tapes for FileTapes {
         if let Some(fault) = self.reels[place].refuses_unmount() {
             return Err(fault);
         }
+        let _synced = self.reels[place].sync();
         self.reels[place].set_mounted(false);
         Ok(())
     }

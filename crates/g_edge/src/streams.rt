@@ -1,11 +1,11 @@
 //! Standard input and output as source and sink. They tell no content, and count each failure.
-ghost use Rattle.std.specs.Prelude.{None};
+ghost use Rattle.std.specs.Prelude.{◌≤◌, None, IfOk, length};
 
 use g_base::{ReadFailed, WriteFailed, raised};
 use g_io::{Sink, Source};
-use std::io::{Read, Write};
+use std::io::{self, ErrorKind, Read, Write};
 
-/// A source over a reader.
+/// A source over a reader. A read that a signal interrupted is tried again.
 #[derive(Drop)]
 pub struct StdSource<R: Read + Drop> {
     reader: R,
@@ -24,7 +24,7 @@ impl<R: Read + Drop> Source for StdSource<R> {
     ghost faults = { λ s. s.faults };
 
     fn take(&mut self, into: &mut [u8]) -> Result<usize, ReadFailed> {
-        match self.reader.read(into) {
+        match read_through(&mut self.reader, into) {
             Ok(count) => Ok(count),
             Err(_) => {
                 self.faults = raised(self.faults);
@@ -32,6 +32,19 @@ impl<R: Read + Drop> Source for StdSource<R> {
             }
         }
     }
+}
+
+/// Reads, and tries again where a signal interrupted that.
+fn read_through<R: Read>(reader: &mut R, into: &mut [u8]) -> io::Result<usize>
+    ensures { IfOk result (λ count. count ≤ length into.new) }
+{
+    for _try in 0..u64::MAX {
+        match reader.read(into) {
+            Err(fault) if fault.kind() == ErrorKind::Interrupted => {}
+            ended => return ended,
+        }
+    }
+    Err(io::Error::from(ErrorKind::Interrupted))
 }
 
 /// A sink over a writer.

@@ -1,0 +1,144 @@
+//! A rack in a folder: a file `SERIAL.tape` for each reel.
+ghost use Rattle.std.specs.Prelude.{◌<◌, ◌≤◌, ◌↔◌, All, IfOk, IsTrue, OnOk};
+ghost use Rattle.g_tape.specs.Rack.{AreReels};
+ghost use Rattle.g_tape.specs.Reel.{IsReel};
+
+use crate::blocks::blocks_in;
+use crate::claim::{claim, sync_folder};
+use crate::file_reel::FileReel;
+use crate::file_tapes::FileTapes;
+use g_base::{MAX_REELS, MAX_SERIAL};
+use std::fs::{self, File, OpenOptions};
+use std::io::{self, Error, ErrorKind};
+
+/// How many blocks each reel can hold.
+const CAPACITY: u32 = 8_192;
+
+/// The number of a reel.
+#[derive(Clone, Copy)]
+struct Serial {
+    number: u32,
+    ghost limits: { (1 ≤ number) × (number ≤ 999999) },
+}
+
+/// Opens the rack of a folder for this run alone. Each of its files `SERIAL.tape`, with a serial from 1 to
+/// 999,999 without a leading zero, is a reel that can hold 8,192 blocks; none is mounted. Other names are
+/// passed by. Where there is no such folder it is made, with the empty reels 1 and 2.
+///
+/// The error is `WouldBlock` where another run has the rack, and `InvalidData` where there are more than 16
+/// reels, or where one isn't whole blocks, at most 8,192; else it is the system's. What was there stays.
+pub fn open_rack(rt: &HostRuntime, folder: &str) -> io::Result<FileTapes> {
+    let opened = open_folder(rt, folder)?;
+    claim(&opened)?;
+    let mut serials = serials_in(rt, folder)?;
+    serials.sort_by_key(|serial| serial.number)?;
+    let mut reels = Vec::new(rt.alloc());
+    for serial in serials {
+        let reel = open_reel(rt, folder, serial)?;
+        put_behind(&mut reels, reel)?;
+    }
+    Ok(FileTapes::new(opened, reels))
+}
+
+/// Opens the folder of a rack, or makes it.
+fn open_folder(rt: &HostRuntime, folder: &str) -> io::Result<File> {
+    match File::open(rt, folder) {
+        Err(fault) if fault.kind() == ErrorKind::NotFound => {
+            make_folder(rt, folder)?;
+            File::open(rt, folder)
+        }
+        opened => opened,
+    }
+}
+
+/// Makes the folder of a rack under another name, and gives it the right one when its reels are there. The
+/// folder of a rack that another run made meanwhile stays, since a folder with files isn't replaced.
+fn make_folder(rt: &HostRuntime, folder: &str) -> io::Result<()> {
+    let unready = format!(in rt.alloc(); "{folder}.new")?;
+    match fs::create_dir(rt, unready.as_str()) {
+        Err(fault) if fault.kind() != ErrorKind::AlreadyExists => return Err(fault),
+        _ => {}
+    }
+    for serial in 1..3 {
+        make_reel(rt, unready.as_str(), serial)?;
+    }
+    sync_folder(rt, unready.as_str())?;
+    fs::rename(rt, unready.as_str(), folder)?;
+    sync_folder(rt, ".")
+}
+
+/// Makes the file of an empty reel.
+fn make_reel(rt: &HostRuntime, folder: &str, serial: u32) -> io::Result<()> {
+    let path = format!(in rt.alloc(); "{folder}/{serial}.tape")?;
+    let mut how = OpenOptions::new();
+    how.write(true).create(true);
+    let _file = how.open(rt, path.as_str())?;
+    Ok(())
+}
+
+/// The serials of the files in the folder that are reels, in any order.
+fn serials_in(rt: &HostRuntime, folder: &str) -> io::Result<Vec<Serial>> {
+    let mut serials = Vec::new(rt.alloc());
+    for entry in fs::read_dir(rt, folder)? {
+        match entry {
+            Ok(entry) => {
+                if let Some(serial) = serial_in(entry.file_name()) {
+                    serials.push(serial)?;
+                }
+            }
+            // A name that isn't UTF-8 is no reel's.
+            Err(fault) if fault.kind() == ErrorKind::InvalidFilename => {}
+            Err(fault) => return Err(fault),
+        }
+    }
+    Ok(serials)
+}
+
+/// The serial in the name of a reel's file, if it is one.
+fn serial_in(name: &str) -> Option<Serial> {
+    let digits = name.strip_suffix(".tape")?;
+    if digits.starts_with('0') || !digits.bytes().all(|b| b.is_ascii_digit()) {
+        return None;
+    }
+    let number = digits.parse::<u32>().ok()?;
+    if number < 1 || MAX_SERIAL < number {
+        return None;
+    }
+    Some(Serial { number })
+}
+
+/// Opens the file of a reel.
+fn open_reel(rt: &HostRuntime, folder: &str, serial: Serial) -> io::Result<FileReel>
+    ensures { IfOk result IsReel }
+{
+    let number = serial.number;
+    let path = format!(in rt.alloc(); "{folder}/{number}.tape")?;
+    let mut how = OpenOptions::new();
+    how.read(true).write(true);
+    let file = how.open(rt, path.as_str())?;
+    let len = blocks_in(&file)?;
+    if len > CAPACITY {
+        return Err(Error::from(ErrorKind::InvalidData));
+    }
+    Ok(FileReel::new(file, number, CAPACITY, len))
+}
+
+/// Puts a reel behind the others of a rack, or `InvalidData` where there are 16 already or one has a serial as great.
+fn put_behind(reels: &mut Vec<FileReel>, reel: FileReel) -> io::Result<()>
+    requires rack { AreReels reels.old.items }
+    requires reel { IsReel reel }
+    ensures { OnOk result (AreReels reels.new.items) }
+{
+    if reels.len() >= MAX_REELS || !is_above(reel.serial(), reels) {
+        return Err(Error::from(ErrorKind::InvalidData));
+    }
+    reels.push(reel)?;
+    Ok(())
+}
+
+/// Whether the serial is above those of all these reels.
+fn is_above(serial: u32, reels: &[FileReel]) -> bool
+    ensures { IsTrue result ↔ All (λ reel. reel.serial < serial) reels.now }
+{
+    reels.iter().all(|reel| reel.serial() < serial)
+}

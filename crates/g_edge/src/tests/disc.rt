@@ -1,0 +1,118 @@
+//! The image of a disc.
+use crate::file_disc::open_image;
+use g_base::WriteFailed;
+use g_disc::Disc;
+use g_io::{MemorySink, MemorySource};
+use g_run::{Status, george};
+use std::fs::{self, File};
+use std::io::ErrorKind;
+use std::test::Fail;
+
+/// Whether block k of an image is these bytes with zeros behind them.
+fn holds(image: &[u8], k: usize, bytes: &[u8]) -> bool {
+    match image.chunks(512).nth(k) {
+        Some(block) => block.starts_with(bytes) && block.iter().skip(bytes.len()).all(|&b| b == 0),
+        None => false,
+    }
+}
+
+/// How many blocks of an image aren't zeros.
+fn used_blocks(image: &[u8]) -> usize {
+    image
+        .chunks(512)
+        .filter(|block| block.iter().any(|&b| b != 0))
+        .count()
+}
+
+#[test]
+fn blocks_lie_where_they_belong(rt: HostRuntime) -> Result<(), Fail> {
+    let name = "g_edge_blocks.disc";
+    let mut disc = open_image(&rt, name)?;
+    assert_eq!(rt; disc.size(), 4_096);
+    let image = fs::read(&rt, name)?;
+    assert_eq!(rt; (image.len(), used_blocks(&image)), (2_097_152, 0));
+    disc.write(0, &[1; 512])?;
+    disc.write(7, &[8; 512])?;
+    disc.write(2_177, &[130; 512])?;
+    disc.arm(2);
+    disc.write(8, &[5; 512])?;
+    assert_eq!(rt; disc.write(7, &[6; 512]), Err(WriteFailed));
+    let image = fs::read(&rt, name)?;
+    assert_eq!(rt; (image.len(), used_blocks(&image)), (2_097_152, 4));
+    assert!(rt; holds(&image, 0, &[1; 512]) && holds(&image, 2_177, &[130; 512]));
+    let mut torn = [8; 512];
+    torn[..256].copy_from_slice(&[6; 256]);
+    assert!(rt; holds(&image, 7, &torn) && holds(&image, 8, &[5; 512]));
+    let mut block = [0; 512];
+    disc.read(7, &mut block)?;
+    assert!(rt; block == torn);
+    fs::remove_file(&rt, name)?;
+    Ok(())
+}
+
+#[test]
+fn an_image_is_one_runs_alone(rt: HostRuntime) -> Result<(), Fail> {
+    let name = "g_edge_taken.disc";
+    // What a run left that was cut off while it made the image is in no way of the next, and is no image.
+    fs::write(&rt, "g_edge_taken.disc.new", "cut")?;
+    let disc = open_image(&rt, name)?;
+    assert!(rt; !fs::exists(&rt, "g_edge_taken.disc.new")?);
+    assert_eq!(rt; used_blocks(&fs::read(&rt, name)?), 0);
+    assert_eq!(rt;
+        open_image(&rt, name).err().map(|e| e.kind()),
+        Some(ErrorKind::WouldBlock)
+    );
+    drop(disc);
+    assert!(rt; open_image(&rt, name).is_ok());
+    fs::remove_file(&rt, name)?;
+    Ok(())
+}
+
+#[test]
+fn sizes_that_no_disc_has_are_refused(rt: HostRuntime) -> Result<(), Fail> {
+    let name = "g_edge_sizes.disc";
+    let rows = [
+        (0, false),
+        (2_177 * 512, false),
+        (2_178 * 512 - 1, false),
+        (2_178 * 512, true),
+        (2_178 * 512 + 1, false),
+        (1_048_576 * 512, true),
+        (1_048_577 * 512, false),
+    ];
+    for (bytes, fits) in rows {
+        File::create(&rt, name)?.set_len(bytes)?;
+        assert_eq!(rt; open_image(&rt, name).is_ok(), fits, "{bytes} bytes");
+        assert_eq!(rt; fs::metadata(&rt, name)?.len(), bytes);
+    }
+    fs::remove_file(&rt, name)?;
+    Ok(())
+}
+
+#[test]
+fn the_image_of_the_first_script(rt: HostRuntime) -> Result<(), Fail> {
+    let script =
+        "0 FORMAT\n0 JOB ONE,:MASTER,TIME 10\nINPUT F\nHELLO\nWORLD\n////\nLISTFILE F\nENDJOB\n****\n";
+    let name = "g_edge_first.disc";
+    let disc = open_image(&rt, name)?;
+    let bytes = Vec::from_slice(rt.alloc(), script.as_bytes())?;
+    let mut source = MemorySource::new(bytes, Vec::new(rt.alloc()));
+    let mut sink = MemorySink::new(rt.alloc(), 1_000, Vec::new(rt.alloc()))?;
+    let (status, _disc) = george(rt.alloc(), &["run"], &mut source, &mut sink, disc);
+    assert_eq!(rt; status, Status::Done);
+    let image = fs::read(&rt, name)?;
+    // Slot A is current: one file. Slot B holds what FORMAT made. All else is zeros.
+    assert!(rt; holds(&image, 0, b""));
+    assert!(rt; holds(&image, 1, b"G3R1\0\x01"));
+    assert!(rt;
+        holds(
+            &image,
+            2,
+            b"\x01F\0\0\0\0\0\0\0\0\0\0\0\0\x01\0\x0cHELLO\nWORLD\n"
+        )
+    );
+    assert!(rt; holds(&image, 1_089, b"G3R1\0\0"));
+    assert_eq!(rt; (image.len(), used_blocks(&image)), (2_097_152, 3));
+    fs::remove_file(&rt, name)?;
+    Ok(())
+}
