@@ -1,10 +1,9 @@
 pub mod CopyLemmas
-pub mod EncoderLemmas
+pub mod ListingLemmas
 pub mod EntryLemmas
 pub mod PageLemmas
 pub mod Parts
 pub mod QuietLemmas
 pub mod ReadLemmas
 pub mod RuleLemmas
-pub mod SetLemmas
 pub mod WriteLemmas

@@ -1,6 +1,7 @@
 -- A commit block by block, and what the disc stands for behind the gate.
-use Rattle.std.proofs.Common.{◌≡◌, ◌≢◌, ℕ, ◌+◌, ◌<◌, ◌≤◌, ◌⊎◌, if◌then◌else◌, List, length, Option, Some, Ok, refl, sym, ◌∙◌, ap, subst, inl, inr, arith, slice_get, true}
+use Rattle.std.proofs.Common.{◌≡◌, ◌≢◌, ℕ, ◌+◌, ◌<◌, ◌≤◌, ◌⊎◌, if◌then◌else◌, Bool, false, replicate, List, length, Option, Some, Result, Ok, Err, refl, sym, ◌∙◌, ap, subst, inl, inr, arith, slice_get, true}
 use Rattle.std.specs.Option.{ForSome}
+use Rattle.std.specs.Prelude.{OnErr}
 use Rattle.std.proofs.lemmas.Bool.{cases_lt}
 use Rattle.std.proofs.lemmas.Option.{same_Some}
 use Rattle.g_base.specs.Counts.{RoseBy}
@@ -19,9 +20,10 @@ use Rattle.g_dirs.specs.declared.fault.DirsFault.{DirsFault}
 use Rattle.g_dirs.specs.Commit.{NewDirectory, OldOrNew}
 use Rattle.g_dirs.specs.Directory.{AreRecords, Directory, IsDirectory}
 use Rattle.g_dirs.specs.Image.{StandsFor, block_of}
-use Rattle.g_dirs.specs.Pages.{Remembered, Remembers, RemembersPage, is_page, is_remembered, pages_of, unwritten}
-use Rattle.g_dirs.specs.Writing.{Encoding, HoldsFirst, RemembersFirst, WroteFirst}
-use Rattle.g_dirs.proofs.PageLemmas.{is_remembered-true, set-same, slice_get-set_same, unwritten_more, unwritten_none}
+use Rattle.g_dirs.specs.Marks.{IsNext}
+use Rattle.g_dirs.specs.Pages.{Covers, KeepsMarks, LosesMarks, Remembered, Remembers, RemembersAll, RemembersPage, is_page, is_remembered, marks_of, pages_of, unwritten}
+use Rattle.g_dirs.specs.Writing.{HoldsFirst, RemembersFirst, WroteFirst}
+use Rattle.g_dirs.proofs.PageLemmas.{is_remembered-true, remembers_same, same_marks, same_pages_of, set-same, slice_get-set_same, unwritten_more, unwritten_none, unwritten_past}
 
 pub other-other : (side : Side) → other (other side) ≡ side
 other-other A = refl
@@ -59,6 +61,7 @@ remembered_already side k block pages is = record {
   here = is_remembered-true (pages_of side pages) k block is;
   rest = λ j differs. refl;
   opposite = refl;
+  marks = record { a = refl; b = refl };
 }
 
 -- what is remembered stands on the disc
@@ -110,11 +113,6 @@ remembers_more side d k old mid new so_far page = record {
   kept = subst (λ (s : Side). pages_of s new ≡ pages_of s mid) (other-other side) page.opposite ∙ so_far.kept;
 }
 
--- the first blocks were written, and the encoder is at the next one
-pub record Filled (side : Side) (d : Directory) (k : ℕ) (before after : DiscState) (old new : Remembered) (encoder : Encoding) : Type 0 where
-  pub wrote : WroteFirst side d k before after old new
-  pub encoded : encoder ≡ record { directory = d; next = k }
-
 pub wrote_none : (side : Side) (d : Directory) (disc : DiscState) (pages : Remembered) → WroteFirst side d 0 disc disc pages pages
 wrote_none side d disc pages = record {
   content = Changes-none (HoldsFirst side d 0) disc.held disc.held refl (λ b was. record { kept = stays side b; here = λ k below. absurd (omega arith); rest = λ k above. refl });
@@ -126,7 +124,7 @@ wrote_none side d disc pages = record {
   arms = refl;
 }
 
-wrote_more : (side : Side) (d : Directory) (k : ℕ) (x y z : DiscState) (old mid new : Remembered) (u : Unit {0}) → k < 1088 → 2177 < x.size
+pub wrote_more : (side : Side) (d : Directory) (k : ℕ) (x y z : DiscState) (old mid new : Remembered) (u : Unit {0}) → k < 1088 → 2177 < x.size
     → ((a : List (List ℕ)) → x.held ≡ Some a → length a ≡ x.size)
     → WroteFirst side d k x y old mid → Changes (Prepares side k (block_of Two d k)) y.held z.held
     → WritesOnly {T = Unit {0}} {E = DirsFault} (if is_remembered (pages_of (other side) mid) k (block_of Two d k) then 0 else 1) y z (Ok u)
@@ -146,25 +144,57 @@ wrote_more side d k x y z old mid new u below large long so_far step counts page
       arms = counts.arms ∙ so_far.arms;
     }
 
-moved : Encoding → Encoding
-moved e = record e { next = e.next + 1 }
+-- blocks that are remembered as the directory's are passed over
+holds_past : (side : Side) (d : Directory) (k n : ℕ) (old : Remembered) (a b : List (List ℕ)) → k ≤ n → Remembers old a
+    → ((j : ℕ) → k ≤ j → j < n → slice_get (pages_of (other side) old) j ≡ Some (Some (block_of Two d j))) → HoldsFirst side d k a b → HoldsFirst side d n a b
+holds_past side d k n old a b forth was there holds = record {
+  kept = holds.kept;
+  here = λ j below.
+      elim (cases_lt j k) [
+        | inl less ↦ holds.here j less
+        | inr reached ↦ holds.rest j reached ∙ was.block (other side) j (block_of Two d j) (there j reached below)
+      ];
+  rest = λ j above. holds.rest j (omega arith);
+}
 
-pub filled_more : (side : Side) (d : Directory) (k : ℕ) (x y z : DiscState) (old mid new : Remembered) (encoder behind : Encoding) (block : List ℕ) (u : Unit {0}) → k < 1088 → 2177 < x.size
-    → ((a : List (List ℕ)) → x.held ≡ Some a → length a ≡ x.size)
-    → Filled side d k x y old mid encoder → block ≡ block_of Two encoder.directory encoder.next → behind ≡ record encoder { next = encoder.next + 1 }
-    → Changes (Prepares side k block) y.held z.held
-    → WritesOnly {T = Unit {0}} {E = DirsFault} (if is_remembered (pages_of (other side) mid) k block then 0 else 1) y z (Ok u)
-    → RemembersPage (other side) k block mid new → Filled side d (k + 1) x z old new behind
-unfolding moved
-filled_more side d k x y z old mid new encoder behind block u below large long so_far block_is moves step counts page =
-    let is : block ≡ block_of Two d k = block_is ∙ ap (λ (e : Encoding). block_of Two e.directory e.next) so_far.encoded in
-    record {
-      wrote = wrote_more side d k x y z old mid new u below large long so_far.wrote
-          (subst (λ (v : List ℕ). Changes (Prepares side k v) y.held z.held) is step)
-          (subst (λ (v : List ℕ). WritesOnly {T = Unit {0}} {E = DirsFault} (if is_remembered (pages_of (other side) mid) k v then 0 else 1) y z (Ok u)) is counts)
-          (subst (λ (v : List ℕ). RemembersPage (other side) k v mid new) is page);
-      encoded = moves ∙ ap moved so_far.encoded;
-    }
+remembers_past : (side : Side) (d : Directory) (k n : ℕ) (old new : Remembered) → k ≤ n
+    → ((j : ℕ) → k ≤ j → j < n → slice_get (pages_of (other side) old) j ≡ Some (Some (block_of Two d j))) → RemembersFirst side d k old new → RemembersFirst side d n old new
+remembers_past side d k n old new forth there so_far = record {
+  here = λ j below.
+      elim (cases_lt j k) [
+        | inl less ↦ so_far.here j less
+        | inr reached ↦ so_far.rest j reached ∙ there j reached below
+      ];
+  rest = λ j above. so_far.rest j (omega arith);
+  kept = so_far.kept;
+}
+
+pub wrote_past : (side : Side) (d : Directory) (k n : ℕ) (x y : DiscState) (old new : Remembered) → k ≤ n → ForSome x.held (Remembers old)
+    → ((j : ℕ) → k ≤ j → j < n → slice_get (pages_of (other side) old) j ≡ Some (Some (block_of Two d j))) → WroteFirst side d k x y old new → WroteFirst side d n x y old new
+wrote_past side d k n x y old new forth was there so_far = record {
+  content = Changes-weaken so_far.content (λ a b told holds. holds_past side d k n old a b forth (was a told) there holds);
+  pages = remembers_past side d k n old new forth there so_far.pages;
+  writes = subst (λ (m : ℕ). RoseBy m x.writes y.writes) (sym (unwritten_past d (pages_of (other side) old) k n forth there)) so_far.writes;
+  size = so_far.size;
+  read_faults = so_far.read_faults;
+  write_faults = so_far.write_faults;
+  arms = so_far.arms;
+}
+
+-- the blocks up to the next mark are remembered as the directory's
+pub between : (side : Side) (d : Directory) (k n : ℕ) (old now : Remembered) → KeepsMarks old now → Covers d side old → IsNext (marks_of side now) k n
+    → (j : ℕ) → k ≤ j → j < n → slice_get (pages_of side old) j ≡ Some (Some (block_of Two d j))
+between side d k n old now marks covers next j reached below =
+    let within = next.within in
+    covers.block j (omega arith) (ap (λ (ms : List Bool). slice_get ms j) (sym (same_marks side old now marks)) ∙ next.passed j reached below)
+
+-- no block before the first mark is written
+pub wrote_to_first : (side : Side) (d : Directory) (n : ℕ) (disc : DiscState) (pages : Remembered) → ForSome disc.held (Remembers pages) → Covers d (other side) pages
+    → IsNext (marks_of (other side) pages) 0 n → WroteFirst side d n disc disc pages pages
+wrote_to_first side d n disc pages was covers next =
+    wrote_past side d 0 n disc disc pages pages (omega arith) was
+    (between (other side) d 0 n pages pages (record { a = refl; b = refl }) covers next)
+    (wrote_none side d disc pages)
 
 -- what is remembered on the way stands on the disc
 pub remembers_now : (side : Side) (d : Directory) (n : ℕ) (x y : DiscState) (old new : Remembered) → WroteFirst side d n x y old new → ForSome x.held (Remembers old) → ForSome y.held (Remembers new)
@@ -224,9 +254,6 @@ remembers-flipped pages b c flips was = record {
   block = λ side k page there. ap (λ (blocks : List (List ℕ)). slice_get blocks k) (flips.slots side) ∙ was.block side k page there;
 }
 
-pub filled_none : (side : Side) (d : Directory) (disc : DiscState) (pages : Remembered) (encoder : Encoding) → encoder ≡ record { directory = d; next = 0 } → Filled side d 0 disc disc pages pages encoder
-filled_none side d disc pages encoder is = record { wrote = wrote_none side d disc pages; encoded = is }
-
 -- two changes, with what is known of the content at both ends
 then_told : {R S T : List (List ℕ) → List (List ℕ) → Type 0} {x y z : Option (List (List ℕ))} → Changes R x y → Changes S y z
     → ((a b c : List (List ℕ)) → x ≡ Some a → z ≡ Some c → R a b → S b c → T a c) → Changes T x z
@@ -255,3 +282,66 @@ module _ (side : Side) (d : Directory) (x y z : DiscState) (old new : Remembered
   pub remembers_behind : WroteFirst side d 1088 x y old new → ForSome x.held (Remembers old) → Changes Flips y.held z.held → ForSome z.held (Remembers new)
   remembers_behind wrote was flips =
       told_after flips (λ b c told flip. remembers-flipped new b c flip (remembers_now side d 1088 x y old new wrote was b told))
+
+-- taking the marks off changes nothing of what is remembered
+pub remembers_unmarked : (side : Side) (old new : Remembered) (held : Option (List (List ℕ))) → LosesMarks side old new → ForSome held (Remembers old) → ForSome held (Remembers new)
+remembers_unmarked side old new held loses was = λ b told. remembers_same old new b loses.pages (was b told)
+
+-- WHERE ALL BLOCKS ARE DONE
+pub wrote_whole : (side : Side) (d : Directory) (n : ℕ) (x y : DiscState) (old new : Remembered) → n ≤ 1088 → 1088 ≤ n → WroteFirst side d n x y old new → WroteFirst side d 1088 x y old new
+wrote_whole side d n x y old new within all wrote =
+    let same : n ≡ 1088 = omega arith in subst (λ (m : ℕ). WroteFirst side d m x y old new) same wrote
+
+pub wrote_counts : (side : Side) (d : Directory) (n : ℕ) (x y : DiscState) (old new : Remembered) (u : Unit {0}) → WroteFirst side d n x y old new
+    → WritesOnly {T = Unit {0}} {E = DirsFault} (unwritten d (pages_of (other side) old) n) x y (Ok u)
+wrote_counts side d n x y old new u wrote = record {
+  size = wrote.size;
+  read_faults = wrote.read_faults;
+  arms = wrote.arms;
+  writes = wrote.writes;
+  kept = wrote.write_faults;
+  rose = tt;
+}
+
+-- what is remembered, and the marks, behind the gate
+module _ (side next now : Side) (d : Directory) (old mid new : Remembered) (to : next ≡ other side) (is : now ≡ other side) (loses : LosesMarks next mid new) where
+  pub remembers_whole : RemembersFirst side d 1088 old mid → RemembersAll d (pages_of now new)
+  remembers_whole first = record {
+    block = λ k below.
+        ap (λ (ps : List (Option (List ℕ))). slice_get ps k) (same_pages_of now mid new loses.pages)
+        ∙ ap (λ (s : Side). slice_get (pages_of s mid) k) is
+        ∙ first.here k below;
+  }
+
+  pub others_kept : RemembersFirst side d 1088 old mid → pages_of side new ≡ pages_of side old
+  others_kept first = same_pages_of side mid new loses.pages ∙ first.kept
+
+  pub marks_taken : marks_of now new ≡ replicate 1088 false
+  marks_taken = ap (λ (s : Side). marks_of s new) (is ∙ sym to) ∙ loses.none
+
+  pub marks_left : KeepsMarks old mid → marks_of side new ≡ marks_of side old
+  marks_left keeps =
+      subst (λ (s : Side). marks_of s new ≡ marks_of s mid) (ap other to ∙ other-other side) loses.others ∙ same_marks side old mid keeps
+
+pub keeps_then : {old mid new : Remembered} → KeepsMarks old mid → KeepsMarks mid new → KeepsMarks old new
+keeps_then first second = record { a = second.a ∙ first.a; b = second.b ∙ first.b }
+
+-- one marked block, and on to the next one
+pub wrote_next : (side : Side) (d : Directory) (k n : ℕ) (x y z : DiscState) (old mid new : Remembered) (block : List ℕ) (u : Unit {0}) → k < 1088 → 2177 < x.size
+    → ((a : List (List ℕ)) → x.held ≡ Some a → length a ≡ x.size) → ForSome x.held (Remembers old) → Covers d (other side) old
+    → WroteFirst side d k x y old mid → KeepsMarks old mid → block ≡ block_of Two d k
+    → Changes (Prepares side k block) y.held z.held
+    → WritesOnly {T = Unit {0}} {E = DirsFault} (if is_remembered (pages_of (other side) mid) k block then 0 else 1) y z (Ok u)
+    → RemembersPage (other side) k block mid new → IsNext (marks_of (other side) new) (k + 1) n → WroteFirst side d n x z old new
+wrote_next side d k n x y z old mid new block u below large long was covers so_far kept is step counts page next =
+    wrote_past side d (k + 1) n x z old new next.reached was
+    (between (other side) d (k + 1) n old new (keeps_then kept page.marks) covers next)
+    (wrote_more side d k x y z old mid new u below large long so_far
+    (subst (λ (v : List ℕ). Changes (Prepares side k v) y.held z.held) is step)
+    (subst (λ (v : List ℕ). WritesOnly {T = Unit {0}} {E = DirsFault} (if is_remembered (pages_of (other side) mid) k v then 0 else 1) y z (Ok u)) is counts)
+    (subst (λ (v : List ℕ). RemembersPage (other side) k v mid new) is page))
+
+-- what holds holds of a fault
+pub on_err : {T E P : Type 0} (r : Result T E) → P → OnErr r P
+on_err (Ok x) holds = tt
+on_err (Err e) holds = holds

@@ -2,9 +2,10 @@ pub mod Directory
 pub mod Image
 pub mod Parts
 pub mod Rules
-pub mod FileNames
 pub mod Commit
 pub mod Pages
+pub mod Marks
 pub mod Writing
 pub mod Quiet
 pub mod Reading
+pub mod Fault

@@ -1,27 +1,20 @@
 -- The way of a commit through the blocks of a slot.
-use Rattle.std.specs.Prelude.{◌≡◌, true, ℕ, ◌-◌, ◌<◌, ◌≤◌, List, All, Some, length, slice_get, slice_index_or}
+use Rattle.std.specs.Prelude.{◌≡◌, true, ℕ, ◌<◌, ◌≤◌, List, All, Some, slice_get}
 use Rattle.g_base.specs.Counts.{RoseBy}
 use Rattle.g_base.specs.Told.{Changes}
 use Rattle.g_copy.specs.declared.copy.DiscCopy.{DiscCopy}
 use Rattle.g_disc.specs.Disc.{DiscState}
 use Rattle.g_entry.specs.declared.file_rec.FileRec.{FileRec}
 use Rattle.g_entry.specs.declared.format.Format.TheVariants.{Two}
-use Rattle.g_entry.specs.declared.head.Head.{Head}
-use Rattle.g_entry.specs.declared.user_rec.UserRec.{UserRec}
 use Rattle.g_entry.specs.FileFields.{IsFile}
 use Rattle.g_entry.specs.Formats.{is_place}
 use Rattle.g_entry.specs.Rules.{AreNumbered}
 use Rattle.g_slots.specs.declared.side.Side.{Side}
 use Rattle.g_slots.specs.Commit.{KeepsCurrent}
 use Rattle.g_slots.specs.Layout.{other, slot}
-use Rattle.g_dirs.specs.Directory.{AreCopies, AreRecords, Directory, LiesSomewhere, all_places, directory_of, entries_of, recs}
+use Rattle.g_dirs.specs.Directory.{AreRecords, Directory, LiesSomewhere, all_places, entries_of, recs}
 use Rattle.g_dirs.specs.Image.{block_of}
 use Rattle.g_dirs.specs.Pages.{Remembered, pages_of, unwritten}
-
--- a directory, and the number of the slot block that comes next
-pub record Encoding : Type 0 where
-  pub directory : Directory
-  pub next : ℕ
 
 -- the first n blocks of the slot opposite `side` are the directory's, and nothing else has changed
 pub record HoldsFirst (side : Side) (d : Directory) (n : ℕ) (before after : List (List ℕ)) : Type 0 where
@@ -63,16 +56,3 @@ number_of_file r = r.number
 
 abbrev pub number_of_copy : ℕ × DiscCopy → ℕ
 number_of_copy c = c.0
-
--- before the place numbers are below n, and from it on they aren't
-pub record IsCursor {X : Type 0} (number : X → ℕ) (xs : List X) (n place : ℕ) : Type 0 where
-  pub before : (k : ℕ) (d : X) → k < place → k < length xs → number (slice_index_or xs k d) < n
-  pub behind : (k : ℕ) (d : X) → place ≤ k → k < length xs → n ≤ number (slice_index_or xs k d)
-
--- the blocks before `next` are done, and so are the files and copies before these places
-pub record IsEncoding (head : Head) (users : List UserRec) (files : List FileRec) (online : List (ℕ × DiscCopy)) (next file copy : ℕ) : Type 0 where
-  pub directory : IsEncodable (directory_of head users files online)
-  pub copies : AreCopies files online
-  pub within : next ≤ 1088
-  pub file_here : IsCursor number_of_file files (next - 64) file
-  pub copy_here : IsCursor number_of_copy online (next - 64) copy

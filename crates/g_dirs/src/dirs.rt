@@ -1,4 +1,8 @@
 //! A directory in memory, as it is read from a disc.
+ghost use Rattle.std.specs.Prelude.{◌≡◌};
+ghost use Rattle.g_dirs.specs.Directory.{AreCopies, directory_of};
+
+use crate::Listing;
 use g_copy::DiscCopy;
 use g_entry::{FileRec, Head, UserRec};
 
@@ -10,4 +14,19 @@ pub struct Dirs {
     pub users: Vec<UserRec>,
     pub files: Vec<FileRec>,
     pub online: Vec<(u16, DiscCopy)>,
+}
+
+impl Dirs {
+    /// The same directory, to be written.
+    pub fn listing(&self) -> Listing<'_>
+        requires { AreCopies self.now.files.items self.now.online.items }
+        ensures { result ≡ directory_of self.now.head self.now.users.items self.now.files.items self.now.online.items }
+    {
+        Listing::new(
+            &self.head,
+            self.users.as_slice(),
+            self.files.as_slice(),
+            self.online.as_slice(),
+        )
+    }
 }

@@ -1,5 +1,6 @@
 //! What can stand in the way of a directory.
 use g_base::NoMemory;
+use g_slots::SlotFault;
 use std::alloc::AllocError;
 use thiserror::Error;
 
@@ -39,5 +40,19 @@ impl From<NoMemory> for DirsFault {
 
     fn from(_e: NoMemory) -> DirsFault {
         DirsFault::NoMemory
+    }
+}
+
+impl From<SlotFault> for DirsFault {
+    ghost use Rattle.std.specs.Prelude.{◌≡◌};
+    ghost use Rattle.g_dirs.specs.Fault.{dirs_fault_of};
+
+    ghost from_gives = { λ fault e. e ≡ dirs_fault_of fault };
+
+    fn from(fault: SlotFault) -> DirsFault {
+        match fault {
+            SlotFault::ReadFault => DirsFault::ReadFault,
+            SlotFault::Stopped => DirsFault::Stopped,
+        }
     }
 }

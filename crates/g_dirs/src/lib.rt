@@ -2,13 +2,12 @@
 #![tactic(auto)]
 
 mod dirs;
-mod encoder;
 mod fault;
 mod laws;
+mod listing;
+mod marks;
 mod pages;
 mod read;
-#[cfg(test)]
-mod read_tests;
 mod rules;
 #[cfg(test)]
 mod tests;
@@ -17,6 +16,7 @@ mod write;
 pub use dirs::Dirs;
 pub use fault::DirsFault;
 pub use laws::{one_directory, quiet_writes};
+pub use listing::Listing;
 pub use pages::Pages;
 pub use read::read_dirs;
-pub use write::write_dirs;
+pub use write::{write_changed, write_dirs};

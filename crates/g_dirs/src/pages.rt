@@ -1,18 +1,29 @@
 //! The slot blocks that are remembered from commit to commit, so that no block is written once more as it stands.
-ghost use Rattle.std.specs.Prelude.{◌≡◌, ◌<◌, IfOk, List, None, replicate, ℕ};
-ghost use Rattle.g_dirs.specs.Pages.{Remembers, RemembersPage, is_remembered, nothing, pages_of};
+ghost use Rattle.std.specs.Prelude.{◌≡◌, ◌≢◌, ◌<◌, ◌≤◌, ◌↔◌, IfOk, IsTrue, List, None, replicate, true, ℕ};
+ghost use Rattle.g_entry.specs.declared.format.Format.TheVariants.{Two};
+ghost use Rattle.g_slots.specs.declared.side.Side.{Side};
+ghost use Rattle.g_dirs.specs.Directory.{Directory};
+ghost use Rattle.g_dirs.specs.Image.{block_of};
+ghost use Rattle.g_dirs.specs.Marks.{IsNext};
+ghost use Rattle.g_dirs.specs.Pages.{Covers, LosesMarks, Remembers, RemembersPage, all_marked, is_remembered, marked, marks_of, nothing, pages_of};
+ghost use Rattle.g_dirs.specs.Writing.{IsEncodable};
 
+use crate::Listing;
+use crate::marks::Marks;
 use g_base::{Block, NoMemory};
 use g_slots::{SLOT_BLOCKS, Side};
 use std::alloc::Global;
 use std::marker::Model;
 
-/// What each of the 1,088 blocks of either slot holds, as far as it is known from the commits since this was made.
-/// Contracts see a list for each slot.
+/// What each of the 1,088 blocks of either slot holds, as far as it is known from the commits since this was made, and a
+/// mark at each block that may differ from that of the directory in memory (docs/FORMATS.md has the blocks by number).
+/// Contracts see two lists for each slot.
 #[derive(Debug, Drop)]
 pub struct Pages {
     a: Vec<Option<Block>>,
     b: Vec<Option<Block>>,
+    marks_a: Marks,
+    marks_b: Marks,
 }
 
 impl Model for Pages {
@@ -21,13 +32,13 @@ impl Model for Pages {
 
     ghost Value = { Remembered };
 
-    ghost view = { λ p. record { a = p.a.items; b = p.b.items } };
+    ghost view = { λ p. record { a = p.a.items; b = p.b.items; marks_a = p.marks_a; marks_b = p.marks_b } };
 
     ghost invariant = { λ p. (vec_len p.a ≡ 1088) × (vec_len p.b ≡ 1088) };
 }
 
 impl Pages {
-    /// Nothing is remembered.
+    /// Nothing is remembered, and all blocks are marked.
     pub fn new(alloc: Global) -> Result<Pages, NoMemory>
         ensures nothing { IfOk result (λ pages. pages ≡ nothing) }
         ensures stands { IfOk result (λ pages. (blocks : List (List ℕ)) → Remembers pages blocks) }
@@ -35,7 +46,68 @@ impl Pages {
         Ok(Pages {
             a: blank(alloc)?,
             b: blank(alloc)?,
+            marks_a: Marks::new(alloc)?,
+            marks_b: Marks::new(alloc)?,
         })
+    }
+
+    /// Marks block `k` of both slots: the record that stands there has changed since the last commit.
+    pub fn changed(&mut self, k: u32)
+        requires { k < 1088 }
+        ensures marks { self.new ≡ marked k self.old }
+
+        // A directory that differs in this block alone from one whose changes were marked has its changes marked.
+        ensures covers { (side : Side) (d e : Directory) → Covers d side self.old
+            → ((j : ℕ) → j ≢ k → block_of Two e j ≡ block_of Two d j) → Covers e side self.new }
+        ensures remembers { (blocks : List (List ℕ)) → Remembers self.old blocks → Remembers self.new blocks }
+    {
+        self.marks_a.set(k);
+        self.marks_b.set(k);
+    }
+
+    /// Marks all blocks of both slots.
+    pub fn all_changed(&mut self)
+        ensures marks { self.new ≡ all_marked self.old }
+        ensures covers { (side : Side) (d : Directory) → Covers d side self.new }
+        ensures remembers { (blocks : List (List ℕ)) → Remembers self.old blocks → Remembers self.new blocks }
+    {
+        self.marks_a.set_all();
+        self.marks_b.set_all();
+    }
+
+    /// Whether each block of a slot without a mark is remembered as this directory's, so that its changes were marked. It
+    /// looks at all blocks.
+    pub fn covers(&self, side: Side, listing: &Listing) -> bool
+        requires { IsEncodable listing.now }
+        ensures { IsTrue result ↔ Covers listing.now side self.now }
+    {
+        for k in 0..1088 {
+            if self.next_marked(side, k) != k && !self.is_remembered(side, k, &listing.block(k)) {
+                return false;
+            }
+        }
+        true
+    }
+
+    /// The first marked block of a slot from `k` on, or 1,088.
+    pub(crate) fn next_marked(&self, side: Side, k: u32) -> u32
+        requires { k ≤ 1088 }
+        ensures { IsNext (marks_of side self.now) k result }
+    {
+        match side {
+            Side::A => self.marks_a.next(k),
+            Side::B => self.marks_b.next(k),
+        }
+    }
+
+    /// Takes the marks of a slot off.
+    pub(crate) fn clear(&mut self, side: Side)
+        ensures { LosesMarks side self.old self.new }
+    {
+        match side {
+            Side::A => self.marks_a.clear(),
+            Side::B => self.marks_b.clear(),
+        }
     }
 
     /// Whether block `k` of a slot is remembered as this one.

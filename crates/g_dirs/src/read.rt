@@ -2,10 +2,8 @@
 ghost use Rattle.std.specs.Prelude.{◌≡◌, ◌≢◌, ◌⊎◌, ◌<◌, ℕ, ◌↔◌, All, IfOk, IfSome, IsTrue, List, ◌++◌, OnErr, OnOk, Option, Some, length, replicate, slice_get};
 ghost use Rattle.std.specs.Option.{ForSome, option_copied};
 ghost use Rattle.g_disc.specs.Disc.{ReadsByCause};
-ghost use Rattle.g_entry.specs.FileFields.{ArePlaces, IsFile, file_block};
 ghost use Rattle.g_entry.specs.HeadFields.{IsHead};
 ghost use Rattle.g_entry.specs.Rules.{AreNumbered};
-ghost use Rattle.g_entry.specs.UserFields.{IsUser, user_block};
 ghost use Rattle.g_slots.specs.Layout.{GateNames, current};
 ghost use Rattle.g_dirs.specs.Directory.{AreCopies, AreRecords, Directory, FileEntry, IsDirectory, directory_of, entries_of};
 ghost use Rattle.g_dirs.specs.Image.{StandsFor};
@@ -18,8 +16,7 @@ use g_base::{Block, BlockList, NoMemory};
 use g_copy::DiscCopy;
 use g_disc::Disc;
 use g_entry::{
-    FileRec, Format, Head, UserRec, decode_file, decode_file_1, decode_head, decode_head_1,
-    decode_user, decode_user_1, empty_block,
+    FileRec, Format, Head, UserRec, decode_file_in, decode_head_in, decode_user_in, empty_block,
 };
 use g_slots::Slots;
 use std::alloc::Global;
@@ -71,10 +68,10 @@ fn read_head<D: Disc>(disc: &mut D, slots: &Slots) -> Result<(Head, Format), Dir
     ensures only { result ≢ Err DirsFault.Stopped }
 {
     let block = read_block(disc, slots, 0)?;
-    if let Some(head) = decode_head(&block) {
+    if let Some(head) = decode_head_in(Format::Two, &block) {
         return Ok((head, Format::Two));
     }
-    match decode_head_1(&block) {
+    match decode_head_in(Format::One, &block) {
         Some(head) => Ok((head, Format::One)),
         None => Err(DirsFault::NoFilestore),
     }
@@ -98,6 +95,7 @@ fn read_users<D: Disc>(
 {
     let mut users = Vec::new(alloc);
     for number in 0..63 {
+        // In a loop the proof reads the arms of a `match`, and not what `?` returns.
         let block = match read_block(disc, slots, 1 + u32::from(number)) {
             Ok(block) => block,
             Err(fault) => return Err(fault),
@@ -153,16 +151,6 @@ fn user_in(format: Format, block: &Block, number: u8) -> Result<Option<UserRec>,
     }
 }
 
-fn decode_user_in(format: Format, block: &Block, number: u8) -> Option<UserRec>
-    ensures found { IfSome result (λ r. (r.number ≡ number) × IsUser format r × (block.now ≡ user_block format 0 r)) }
-    ensures again { (r : UserRec) → r.number ≡ number → IsUser format r → block.now ≡ user_block format 0 r → result ≡ Some r }
-{
-    match format {
-        Format::One => decode_user_1(block, number),
-        Format::Two => decode_user(block, number),
-    }
-}
-
 /// Whether it is the block of an unused number.
 fn is_unused(block: &Block) -> bool
     ensures { IsTrue result ↔ (block.now ≡ replicate 512 0) }
@@ -192,6 +180,7 @@ fn read_files<D: Disc>(
     let mut files = Vec::new(alloc);
     let mut online = Vec::new(alloc);
     for number in 0..1024 {
+        // A `match` here too, for the proof.
         let block = match read_block(disc, slots, 64 + u32::from(number)) {
             Ok(block) => block,
             Err(fault) => return Err(fault),
@@ -265,23 +254,6 @@ fn file_in(
     match decode_file_in(format, block, number) {
         Some(found) => Ok(Some(found)),
         None => Err(DirsFault::NoFilestore),
-    }
-}
-
-fn decode_file_in(
-    format: Format,
-    block: &Block,
-    number: u16,
-) -> Option<(FileRec, Option<BlockList>)>
-    ensures number { IfSome result (λ found. found.0.number ≡ number) }
-    ensures file { IfSome result (λ found. IsFile found.0 × IfSome found.1 (ArePlaces format found.0.len)) }
-    ensures block { IfSome result (λ found. block.now ≡ file_block format found.0 found.1) }
-    ensures again { (r : FileRec) (online : Option (List ℕ)) → r.number ≡ number → IsFile r
-        → IfSome online (ArePlaces format r.len) → block.now ≡ file_block format r online → result ≡ Some (r, online) }
-{
-    match format {
-        Format::One => decode_file_1(block, number),
-        Format::Two => decode_file(block, number),
     }
 }
 

@@ -1,102 +1,134 @@
 //! The commit of a directory.
-ghost use Rattle.std.specs.Prelude.{◌≡◌, ◌+◌, ◌<◌, OnErr, OnOk, if◌then◌else◌};
+ghost use Rattle.std.specs.Prelude.{◌≡◌, ◌+◌, ◌<◌, OnErr, OnOk, false, replicate, true, if◌then◌else◌};
 ghost use Rattle.std.specs.Option.{ForSome};
 ghost use Rattle.g_base.specs.Told.{Changes};
 ghost use Rattle.g_disc.specs.Disc.{WritesOnly};
 ghost use Rattle.g_slots.specs.Commit.{KeepsCurrent, Prepares};
 ghost use Rattle.g_slots.specs.Layout.{GateNames, GateWritten, other};
 ghost use Rattle.g_dirs.specs.Commit.{NewDirectory, OldOrNew};
-ghost use Rattle.g_dirs.specs.Directory.{AreCopies, AreRecords, IsDirectory, directory_of};
-ghost use Rattle.g_dirs.specs.Pages.{Remembers, RemembersAll, RemembersPage, is_remembered, pages_of, unwritten};
+ghost use Rattle.g_dirs.specs.Directory.{AreRecords, IsDirectory};
+ghost use Rattle.g_dirs.specs.Pages.{Covers, KeepsMarks, Remembers, RemembersAll, RemembersPage, is_remembered, marks_of, pages_of, unwritten};
 ghost use Rattle.g_dirs.specs.Writing.{WroteFirst};
 
-use crate::encoder::Encoder;
-use crate::{DirsFault, Pages};
+use crate::{DirsFault, Listing, Pages};
 use g_base::Block;
-use g_copy::DiscCopy;
 use g_disc::Disc;
-use g_entry::{FileRec, Format, Head, UserRec};
+use g_entry::Format;
 use g_slots::Slots;
 
-/// One commit: makes the directory of these lists the one that the disc stands for. It writes those blocks of the slot
+/// One commit: makes this directory the one that the disc stands for, whatever changed. It writes those blocks of the slot
 /// that isn't current which aren't remembered as they are to be, in order of number, and then the gate.
 ///
-/// The lists are in order of number; `online` has the copies on disc by file number. Where a write fails the answer is
-/// `Stopped`, the disc stands for what it stood for or for the new directory, and neither `slots` nor `last` may be used
-/// again: the gate has to be found anew, and what was remembered made anew.
+/// Where a write fails the answer is `Stopped`, the disc stands for what it stood for or for the new directory, and
+/// neither `slots` nor `last` may be used again: the gate has to be found anew, and what was remembered made anew.
 pub fn write_dirs<D: Disc>(
     disc: &mut D,
     slots: &mut Slots,
-    head: &Head,
-    users: &[UserRec],
-    files: &[FileRec],
-    online: &[(u16, DiscCopy)],
+    listing: &Listing,
     last: &mut Pages,
 ) -> Result<(), DirsFault>
     requires size { 2177 < (D.state disc.old).size }
     requires gate { GateNames slots.old (D.state disc.old).held }
-    requires records { AreRecords Format.Two (directory_of head.now users.now files.now online.now) }
-    requires rules { IsDirectory (D.state disc.old).size (directory_of head.now users.now files.now online.now) }
-    requires copies { AreCopies files.now online.now }
+    requires records { AreRecords Format.Two listing.now }
+    requires rules { IsDirectory (D.state disc.old).size listing.now }
     requires remembers { ForSome (D.state disc.old).held (Remembers last.old) }
-    ensures ok { OnOk result (Changes (NewDirectory (directory_of head.now users.now files.now online.now))
-        (D.state disc.old).held (D.state disc.new).held) }
+    ensures ok { OnOk result
+        (Changes (NewDirectory listing.now) (D.state disc.old).held (D.state disc.new).held) }
     ensures side { OnOk result (slots.new ≡ other slots.old) }
     ensures gate { OnOk result (GateNames slots.new (D.state disc.new).held) }
     ensures written { OnOk result (GateWritten slots.new (D.state disc.new).held) }
-    ensures stopped { OnErr result (Changes (OldOrNew (directory_of head.now users.now files.now online.now))
-        (D.state disc.old).held (D.state disc.new).held) }
+    ensures stopped { OnErr result
+        (Changes (OldOrNew listing.now) (D.state disc.old).held (D.state disc.new).held) }
 
     // Just the blocks that aren't remembered are written, and the gate.
-    ensures counts { WritesOnly (unwritten (directory_of head.now users.now files.now online.now) (pages_of (other slots.old) last.old) 1088 + 1)
+    ensures counts { WritesOnly (unwritten listing.now (pages_of (other slots.old) last.old) 1088 + 1)
         (D.state disc.old) (D.state disc.new) result }
     ensures remembers { OnOk result (ForSome (D.state disc.new).held (Remembers last.new)) }
-    ensures all { OnOk result (RemembersAll (directory_of head.now users.now files.now online.now) (pages_of slots.new last.new)) }
+    ensures all { OnOk result (RemembersAll listing.now (pages_of slots.new last.new)) }
     ensures others { OnOk result (pages_of slots.old last.new ≡ pages_of slots.old last.old) }
+    ensures marks { OnOk result (marks_of slots.new last.new ≡ replicate 1088 false) }
+    ensures other_marks { OnOk result (marks_of slots.old last.new ≡ replicate 1088 true) }
+    ensures only { OnErr result (result ≡ Err DirsFault.Stopped) }
+{
+    last.all_changed();
+    write_changed(disc, slots, listing, last)
+}
+
+/// The same commit, where it is known which blocks may have changed: those that are marked. No other block is looked at, so
+/// the cost is that of the changes. The marks of the slot that is current then are taken off.
+pub fn write_changed<D: Disc>(
+    disc: &mut D,
+    slots: &mut Slots,
+    listing: &Listing,
+    last: &mut Pages,
+) -> Result<(), DirsFault>
+    requires size { 2177 < (D.state disc.old).size }
+    requires gate { GateNames slots.old (D.state disc.old).held }
+    requires records { AreRecords Format.Two listing.now }
+    requires rules { IsDirectory (D.state disc.old).size listing.now }
+    requires remembers { ForSome (D.state disc.old).held (Remembers last.old) }
+
+    // Each change was marked.
+    requires covers { Covers listing.now (other slots.old) last.old }
+    ensures ok { OnOk result
+        (Changes (NewDirectory listing.now) (D.state disc.old).held (D.state disc.new).held) }
+    ensures side { OnOk result (slots.new ≡ other slots.old) }
+    ensures gate { OnOk result (GateNames slots.new (D.state disc.new).held) }
+    ensures written { OnOk result (GateWritten slots.new (D.state disc.new).held) }
+    ensures stopped { OnErr result
+        (Changes (OldOrNew listing.now) (D.state disc.old).held (D.state disc.new).held) }
+
+    // Just the blocks that aren't remembered are written, and the gate: as many as with all blocks marked.
+    ensures counts { WritesOnly (unwritten listing.now (pages_of (other slots.old) last.old) 1088 + 1)
+        (D.state disc.old) (D.state disc.new) result }
+    ensures remembers { OnOk result (ForSome (D.state disc.new).held (Remembers last.new)) }
+    ensures all { OnOk result (RemembersAll listing.now (pages_of slots.new last.new)) }
+    ensures others { OnOk result (pages_of slots.old last.new ≡ pages_of slots.old last.old) }
+    ensures marks { OnOk result (marks_of slots.new last.new ≡ replicate 1088 false) }
+    ensures other_marks { OnOk result (marks_of slots.old last.new ≡ marks_of slots.old last.old) }
     ensures only { OnErr result (result ≡ Err DirsFault.Stopped) }
 {
     let _size = disc.size();
-    match fill(disc, slots, head, users, files, online, last) {
-        Ok(()) => {}
-        Err(fault) => return Err(fault),
-    }
-    match slots.flip(disc) {
-        Ok(()) => Ok(()),
-        Err(_) => Err(DirsFault::Stopped),
-    }
+    let next = slots.side().other();
+    fill(disc, slots, listing, last)?;
+    slots.flip(disc)?;
+    last.clear(next);
+    Ok(())
 }
 
-/// Makes the slot that isn't current hold the directory of these lists.
+/// Makes the slot that isn't current hold this directory.
 fn fill<D: Disc>(
     disc: &mut D,
     slots: &Slots,
-    head: &Head,
-    users: &[UserRec],
-    files: &[FileRec],
-    online: &[(u16, DiscCopy)],
+    listing: &Listing,
     last: &mut Pages,
 ) -> Result<(), DirsFault>
     requires size { 2177 < (D.state disc.old).size }
     requires gate { GateNames slots.now (D.state disc.old).held }
-    requires records { AreRecords Format.Two (directory_of head.now users.now files.now online.now) }
-    requires rules { IsDirectory (D.state disc.old).size (directory_of head.now users.now files.now online.now) }
-    requires copies { AreCopies files.now online.now }
+    requires records { AreRecords Format.Two listing.now }
+    requires rules { IsDirectory (D.state disc.old).size listing.now }
     requires remembers { ForSome (D.state disc.old).held (Remembers last.old) }
-    ensures ok { OnOk result (WroteFirst slots.now (directory_of head.now users.now files.now online.now) 1088
+    requires covers { Covers listing.now (other slots.now) last.old }
+    ensures ok { OnOk result (WroteFirst slots.now listing.now 1088
         (D.state disc.old) (D.state disc.new) last.old last.new) }
-    ensures stopped { OnErr result (Changes (KeepsCurrent slots.now) (D.state disc.old).held (D.state disc.new).held) }
-    ensures counts { WritesOnly (unwritten (directory_of head.now users.now files.now online.now) (pages_of (other slots.now) last.old) 1088)
+    ensures stopped { OnErr result
+        (Changes (KeepsCurrent slots.now) (D.state disc.old).held (D.state disc.new).held) }
+    ensures counts { WritesOnly (unwritten listing.now (pages_of (other slots.now) last.old) 1088)
         (D.state disc.old) (D.state disc.new) result }
+    ensures marks { OnOk result (KeepsMarks last.old last.new) }
     ensures only { OnErr result (result ≡ Err DirsFault.Stopped) }
 {
     let _size = disc.size();
-    let mut encoder = Encoder::new(head, users, files, online);
-    for k in 0..1088 {
-        let block = encoder.next();
+    let side = slots.side().other();
+    let mut k = last.next_marked(side, 0);
+    while k < 1088 {
+        let block = listing.block(k);
+        // In a loop the proof reads the arms of a `match`, and not what `?` returns.
         match write_page(disc, slots, k, &block, last) {
             Ok(()) => {}
             Err(fault) => return Err(fault),
         }
+        k = last.next_marked(side, k + 1);
     }
     Ok(())
 }
@@ -114,8 +146,10 @@ fn write_page<D: Disc>(
     requires size { 2177 < (D.state disc.old).size }
     requires gate { GateNames slots.now (D.state disc.old).held }
     requires remembers { ForSome (D.state disc.old).held (Remembers last.old) }
-    ensures ok { OnOk result (Changes (Prepares slots.now k block.now) (D.state disc.old).held (D.state disc.new).held) }
-    ensures stopped { OnErr result (Changes (KeepsCurrent slots.now) (D.state disc.old).held (D.state disc.new).held) }
+    ensures ok { OnOk result
+        (Changes (Prepares slots.now k block.now) (D.state disc.old).held (D.state disc.new).held) }
+    ensures stopped { OnErr result
+        (Changes (KeepsCurrent slots.now) (D.state disc.old).held (D.state disc.new).held) }
     ensures counts { WritesOnly (if is_remembered (pages_of (other slots.now) last.old) k block.now then 0 else 1)
         (D.state disc.old) (D.state disc.new) result }
     ensures pages { OnOk result (RemembersPage (other slots.now) k block.now last.old last.new) }

@@ -1,6 +1,6 @@
-use Rattle.std.specs.Cmp.{unsigned_Decides, nat_eq_equiv}
-use Rattle.g_dirs.proofs.SetLemmas.{list_size_tells}
+use Rattle.std.proofs.Common.{rules, tests}
+use Rattle.std.specs.Cmp.{unsigned_Decides}
 use Rattle.g_dirs.proofs.rules.numbers_differ.Goals as goal
 
 pub returns : goal.returns
-returns c = list_size_tells unsigned_Decides nat_eq_equiv c.args.numbers.now c.in_ok-apart.apart c.len.result c.in_ok-apart.ensures c.len.ensures.len
+returns c = c.are_distinct.ensures (λ k. k) (λ x r post. search (rules, tests)) unsigned_Decides

@@ -1,7 +1,14 @@
-use Rattle.g_dirs.specs.Directory.{directory_of}
-use Rattle.g_dirs.proofs.WriteLemmas.{Filled}
+use Rattle.std.proofs.Common.{◌-◌, ◌≤◌}
+use Rattle.g_dirs.specs.Pages.{KeepsMarks}
+use Rattle.g_dirs.specs.Writing.{WroteFirst}
 use Rattle.g_dirs.proofs.write.fill.Given as goal
 
 abbrev pub invariant-loop-k : goal.invariant-loop-k
-invariant-loop-k g l =
-    Filled l.slots (directory_of l.fn.head l.fn.users l.fn.files l.fn.online) l.k (g.D.Disc.state l.initial.disc) (g.D.Disc.state l.disc) l.initial.last l.last l.encoder
+invariant-loop-k g l = record {
+  within : l.k ≤ 1088;
+  wrote : WroteFirst l.slots l.fn.listing l.k (g.D.Disc.state l.initial.disc) (g.D.Disc.state l.disc) l.initial.last l.last;
+  marks : KeepsMarks l.initial.last l.last;
+}
+
+abbrev pub decreases-loop-k : goal.decreases-loop-k
+decreases-loop-k g l = 1088 - l.k

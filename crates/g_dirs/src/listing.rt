@@ -1,0 +1,132 @@
+//! A directory over lists that stand elsewhere, and its blocks by their numbers.
+ghost use Rattle.std.specs.Prelude.{◌≡◌, ◌<◌, ◌==◌, All, AllPairs, find, slice_get};
+ghost use Rattle.std.specs.Option.{option_copied, option_map};
+ghost use Rattle.g_entry.specs.Rules.{AreNumbered};
+ghost use Rattle.g_entry.specs.UserFields.{IsUser};
+ghost use Rattle.g_dirs.specs.Directory.{AreCopies, copy_at, directory_of, entries_of};
+ghost use Rattle.g_dirs.specs.Image.{block_of, entry_at, file_or_empty, user_or_empty};
+ghost use Rattle.g_dirs.specs.Writing.{AreEncodable, IsEncodable, number_of_file};
+
+use g_base::{Block, BlockList};
+use g_copy::DiscCopy;
+use g_entry::{FileRec, Format, Head, UserRec, empty_block, encode_file, encode_head, encode_user};
+use std::marker::Model;
+
+/// A directory that is borrowed: the head, the users and the files in order of number, and by file number the copies on
+/// disc of those that are online, in order of number too. Contracts see the directory.
+#[derive(Drop)]
+pub struct Listing<'a> {
+    head: &'a Head,
+    users: &'a [UserRec],
+    files: &'a [FileRec],
+    online: &'a [(u16, DiscCopy)],
+}
+
+impl<'a> Model for Listing<'a> {
+    ghost use Rattle.g_dirs.specs.Directory.{AreCopies, Directory, directory_of};
+
+    ghost Value = { Directory };
+
+    ghost view = { λ l. directory_of l.head.now l.users.now l.files.now l.online.now };
+
+    ghost invariant = { λ l. AreCopies l.files.now l.online.now };
+}
+
+impl<'a> Listing<'a> {
+    /// The directory of these lists.
+    pub fn new(
+        head: &'a Head,
+        users: &'a [UserRec],
+        files: &'a [FileRec],
+        online: &'a [(u16, DiscCopy)],
+    ) -> Listing<'a>
+        requires { AreCopies files.now online.now }
+        ensures { result ≡ directory_of head.now users.now files.now online.now }
+    {
+        Listing {
+            head,
+            users,
+            files,
+            online,
+        }
+    }
+
+    /// Block `k` of the slot.
+    pub(crate) fn block(&self, k: u32) -> Block
+        requires place { k < 1088 }
+        requires directory { IsEncodable self.now }
+        ensures { result ≡ block_of Format.Two self.now k }
+    {
+        slot_block(self.head, self.users, self.files, self.online, k)
+    }
+}
+
+/// Block `k` of the slot of these lists.
+#[tactic(auto, unfolding(crate::specs::Image::block_of))]
+fn slot_block(
+    head: &Head,
+    users: &[UserRec],
+    files: &[FileRec],
+    online: &[(u16, DiscCopy)],
+    k: u32,
+) -> Block
+    requires place { k < 1088 }
+    requires directory { IsEncodable (directory_of head.now users.now files.now online.now) }
+    requires copies { AreCopies files.now online.now }
+    ensures { result ≡ block_of Format.Two (directory_of head.now users.now files.now online.now) k }
+{
+    if k == 0 {
+        return encode_head(head);
+    }
+    if k < 64 {
+        return user_block(users, k as usize - 1);
+    }
+    file_block(files, online, k as u16 - 64)
+}
+
+/// The block of user `number`, zeros where it is unused.
+#[tactic(auto, unfolding(crate::specs::Image::user_or_empty))]
+fn user_block(users: &[UserRec], number: usize) -> Block
+    requires { All (IsUser Format.Two) users.now }
+    ensures { result ≡ user_or_empty Format.Two (slice_get users.now number) }
+{
+    match users.get(number) {
+        Some(user) => encode_user(user),
+        None => empty_block(),
+    }
+}
+
+/// The block of file `number`, zeros where it is unused.
+fn file_block(files: &[FileRec], online: &[(u16, DiscCopy)], number: u16) -> Block
+    requires files { AreEncodable files.now online.now }
+    requires copies { AreCopies files.now online.now }
+    ensures { result ≡ file_or_empty Format.Two (entry_at (entries_of files.now online.now) number) }
+{
+    let places = places_of(online, number);
+    match file_of(files, number) {
+        Some(rec) => encode_file(rec, places),
+        None => empty_block(),
+    }
+}
+
+/// The file of this number, where there is one.
+fn file_of(files: &[FileRec], number: u16) -> Option<&FileRec>
+    requires { AreNumbered files.now }
+    ensures { option_copied result ≡ find (λ r. number_of_file r == number) files.now }
+{
+    match files.binary_search_by_key(&number, |r| r.number) {
+        Ok(place) => Some(&files[place]),
+        Err(_) => None,
+    }
+}
+
+/// The block numbers of the file of this number, where it is online.
+fn places_of(online: &[(u16, DiscCopy)], number: u16) -> Option<&BlockList>
+    requires { AllPairs (λ c d. c.0 < d.0) online.now }
+    ensures { option_copied result ≡ option_map (λ c. c.blocks) (copy_at online.now number) }
+{
+    match online.binary_search_by_key(&number, |c| c.0) {
+        Ok(place) => Some(&online[place].1.blocks),
+        Err(_) => None,
+    }
+}

@@ -1,0 +1,68 @@
+//! A mark at each block of a slot that may have to be written.
+ghost use Rattle.std.specs.Prelude.{◌≡◌, ◌<◌, ◌≤◌, IfOk, false, replicate, slice_set, true};
+ghost use Rattle.g_dirs.specs.Marks.{IsNext};
+
+use g_base::{NoMemory, SLOT_BLOCKS};
+use std::alloc::Global;
+use std::marker::Model;
+
+/// Which of the 1,088 blocks of a slot are marked. Contracts see a list of truth values.
+#[derive(Debug, Drop)]
+pub(crate) struct Marks {
+    blocks: Vec<bool>,
+}
+
+impl Model for Marks {
+    ghost use Rattle.std.specs.Prelude.{◌≡◌, Bool, List, vec_len};
+
+    ghost Value = { List Bool };
+
+    ghost view = { λ m. m.blocks.items };
+
+    ghost invariant = { λ m. vec_len m.blocks ≡ 1088 };
+}
+
+impl Marks {
+    /// All blocks are marked.
+    pub(crate) fn new(alloc: Global) -> Result<Marks, NoMemory>
+        ensures { IfOk result (λ marks. marks ≡ replicate 1088 true) }
+    {
+        let blocks = vec![in alloc; true; SLOT_BLOCKS as usize]?;
+        Ok(Marks { blocks })
+    }
+
+    /// Marks block `k`.
+    pub(crate) fn set(&mut self, k: u32)
+        requires { k < 1088 }
+        ensures { self.new ≡ slice_set self.old k true }
+    {
+        self.blocks[k as usize] = true;
+    }
+
+    /// Marks all blocks.
+    pub(crate) fn set_all(&mut self)
+        ensures { self.new ≡ replicate 1088 true }
+    {
+        self.blocks.fill(true);
+    }
+
+    /// Takes all marks off.
+    pub(crate) fn clear(&mut self)
+        ensures { self.new ≡ replicate 1088 false }
+    {
+        self.blocks.fill(false);
+    }
+
+    /// The first marked block from `k` on, or 1,088.
+    pub(crate) fn next(&self, k: u32) -> u32
+        requires { k ≤ 1088 }
+        ensures { IsNext self.now k result }
+    {
+        for j in k..1088 {
+            if self.blocks[j as usize] {
+                return j;
+            }
+        }
+        1088
+    }
+}

@@ -1,0 +1,219 @@
+//! A commit of what changed beside one of the whole directory: the same writes in the same order, the same answer, and the
+//! same disc behind it, also where a write fails.
+ghost use Rattle.std.specs.Prelude.{◌≡◌, IfOk, OnOk};
+ghost use Rattle.std.specs.Option.{ForSome};
+ghost use Rattle.g_slots.specs.Layout.{GateNames};
+ghost use Rattle.g_dirs.specs.Directory.{AreCopies, AreRecords, IsDirectory, directory_of};
+ghost use Rattle.g_dirs.specs.Pages.{Remembers};
+
+use crate::commits::{Changed, changed_directory};
+use g_base::{Block, NoMemory, ReadFailed, WriteFailed};
+use g_dirs::{Dirs, DirsFault, Pages, write_changed, write_dirs};
+use g_disc::{Disc, Leave, MemoryDisc};
+use g_entry::Format;
+use g_slots::Slots;
+use std::alloc::Global;
+use std::process::Abort;
+use std::test::Fail;
+
+/// A disc that notes which blocks are written, in order.
+#[derive(Drop)]
+struct Noted {
+    disc: MemoryDisc,
+    written: Vec<u32>,
+}
+
+impl Disc for Noted {
+    ghost state = { λ c. c.disc.disc };
+
+    fn size(&self) -> u32 {
+        self.disc.size()
+    }
+
+    fn read(&mut self, k: u32, into: &mut Block) -> Result<(), ReadFailed> {
+        self.disc.read(k, into)
+    }
+
+    fn write(&mut self, k: u32, from: &Block) -> Result<(), WriteFailed> {
+        let _noted = self.written.push(k);
+        self.disc.write(k, from)
+    }
+
+    fn arm(&mut self, k: u32) {
+        self.disc.arm(k);
+    }
+}
+
+/// A disc of zeros.
+fn blank_disc(alloc: Global) -> Result<Noted, NoMemory>
+    ensures { IfOk result (λ disc. disc.disc.disc.size ≡ 2181) }
+{
+    Ok(Noted {
+        disc: MemoryDisc::new(alloc, 2181)?,
+        written: Vec::new(alloc),
+    })
+}
+
+/// A commit of the whole directory.
+fn commit_whole(
+    disc: &mut Noted,
+    slots: &mut Slots,
+    dirs: &Dirs,
+    last: &mut Pages,
+) -> Result<(), DirsFault>
+    requires size { disc.old.disc.disc.size ≡ 2181 }
+    requires gate { GateNames slots.old disc.old.disc.disc.held }
+    requires records { AreRecords Format.Two (directory_of dirs.now.head dirs.now.users.items dirs.now.files.items dirs.now.online.items) }
+    requires rules { IsDirectory 2181 (directory_of dirs.now.head dirs.now.users.items dirs.now.files.items dirs.now.online.items) }
+    requires copies { AreCopies dirs.now.files.items dirs.now.online.items }
+    requires remembers { ForSome disc.old.disc.disc.held (Remembers last.old) }
+    ensures size { disc.new.disc.disc.size ≡ 2181 }
+    ensures gate { OnOk result (GateNames slots.new disc.new.disc.disc.held) }
+    ensures remembers { OnOk result (ForSome disc.new.disc.disc.held (Remembers last.new)) }
+{
+    write_dirs(disc, slots, &dirs.listing(), last)
+}
+
+/// A commit of the blocks that were marked and of these.
+fn commit_changed(
+    rt: &impl Abort,
+    disc: &mut Noted,
+    slots: &mut Slots,
+    dirs: &Dirs,
+    marks: &[u32],
+    last: &mut Pages,
+) -> Result<(), DirsFault>
+    requires size { disc.old.disc.disc.size ≡ 2181 }
+    requires gate { GateNames slots.old disc.old.disc.disc.held }
+    requires records { AreRecords Format.Two (directory_of dirs.now.head dirs.now.users.items dirs.now.files.items dirs.now.online.items) }
+    requires rules { IsDirectory 2181 (directory_of dirs.now.head dirs.now.users.items dirs.now.files.items dirs.now.online.items) }
+    requires copies { AreCopies dirs.now.files.items dirs.now.online.items }
+    requires remembers { ForSome disc.old.disc.disc.held (Remembers last.old) }
+    ensures size { disc.new.disc.disc.size ≡ 2181 }
+    ensures gate { OnOk result (GateNames slots.new disc.new.disc.disc.held) }
+    ensures remembers { OnOk result (ForSome disc.new.disc.disc.held (Remembers last.new)) }
+{
+    for k in marks {
+        assert!(rt; *k < 1_088);
+        last.changed(*k);
+    }
+    let listing = dirs.listing();
+    assert!(rt; last.covers(slots.side().other(), &listing));
+    write_changed(disc, slots, &listing, last)
+}
+
+/// Whether two discs hold the same.
+fn are_same(one: &mut Noted, two: &mut Noted) -> Result<bool, ReadFailed>
+    requires one { one.old.disc.disc.size ≡ 2181 }
+    requires two { two.old.disc.disc.size ≡ 2181 }
+{
+    let mut block = [0; 512];
+    let mut other = [0; 512];
+    for k in 0..2_181 {
+        one.disc.read(k, &mut block)?;
+        two.disc.read(k, &mut other)?;
+        if block != other {
+            return Ok(false);
+        }
+    }
+    Ok(true)
+}
+
+/// The bytes of the first format where three files are.
+const FIRST: [Changed; 6] = [
+    (0, 5, b"\x01"),
+    (1, 33, b"\0\0\0"),
+    (2, 33, b"\0\0\0"),
+    (64, 61, b"\x08\x81\0"),
+    (65, 61, b"\x08\x82\0"),
+    (66, 61, b"\x08\x83\0"),
+];
+
+/// A file of number 1,023, of five bytes, on tape.
+const LAST: [u8; 60] =
+    *b"\x01\0\x01L\0\0\0\0\0\0\0\0\0\0\0\0\x01    \0\0\0\0\0\0\0\x08\0\0\0\x05\x1f\0\0\0\0\0\0\0\0\0\0\0\0\0\0\0\0\0\x01\0\0\0\x01\0\0\0\x09";
+
+/// What changes, and which blocks are marked for it.
+const ROWS: [(&str, &[Changed], &[u32]); 7] = [
+    ("nothing", &[], &[]),
+    ("one record", &[(65, 33, b"\x10")], &[65]),
+    ("a record put back as it was", &[], &[65]),
+    (
+        "the first and the last file",
+        &[(0, 13, b"\x09"), (64, 33, b"\x10"), (1_087, 0, &LAST)],
+        &[1_087, 64, 0],
+    ),
+    ("two users", &[(1, 18, b"\x01"), (2, 18, b"\x02")], &[2, 1]),
+    ("the head alone", &[(0, 13, b"\xc8")], &[0]),
+    (
+        "a mark that is there already",
+        &[(64, 33, b"\x11")],
+        &[64, 64],
+    ),
+];
+
+/// What a failing write leaves.
+fn leave_of(number: u8) -> Leave {
+    match number {
+        0 => Leave::Old,
+        1 => Leave::Half,
+        2 => Leave::Whole,
+        _ => Leave::These([255; 512]),
+    }
+}
+
+/// One commit either way; into the slot that was current before as well, where it is `again`. The write of this number
+/// fails in the last of them and leaves this.
+fn compare(
+    rt: &impl Abort,
+    alloc: Global,
+    first: &[Changed],
+    row: &(&str, &[Changed], &[u32]),
+    again: bool,
+    fails: (u32, u8),
+) -> Result<(), Fail> {
+    let base = changed_directory(alloc, 3, first)?;
+    let next = changed_directory(alloc, 3, row.1)?;
+    let mut one = blank_disc(alloc)?;
+    let mut one_slots = Slots::find(&mut one)?;
+    let mut one_pages = Pages::new(alloc)?;
+    let mut two = blank_disc(alloc)?;
+    let mut two_slots = Slots::find(&mut two)?;
+    let mut two_pages = Pages::new(alloc)?;
+    commit_whole(&mut one, &mut one_slots, &base, &mut one_pages)?;
+    commit_changed(rt, &mut two, &mut two_slots, &base, &[], &mut two_pages)?;
+    commit_whole(&mut one, &mut one_slots, &base, &mut one_pages)?;
+    commit_changed(rt, &mut two, &mut two_slots, &base, &[], &mut two_pages)?;
+    if again {
+        commit_whole(&mut one, &mut one_slots, &next, &mut one_pages)?;
+        commit_changed(rt, &mut two, &mut two_slots, &next, row.2, &mut two_pages)?;
+    }
+    one.disc.set_leave(leave_of(fails.1));
+    two.disc.set_leave(leave_of(fails.1));
+    one.arm(fails.0);
+    two.arm(fails.0);
+    let whole = commit_whole(&mut one, &mut one_slots, &next, &mut one_pages);
+    let changed = commit_changed(rt, &mut two, &mut two_slots, &next, row.2, &mut two_pages);
+    assert_eq!(rt; whole, changed, "{} {}", row.0, fails.0);
+    assert!(rt;
+        one.written.as_slice() == two.written.as_slice(),
+        "{} {}",
+        row.0,
+        fails.0
+    );
+    assert!(rt; are_same(&mut one, &mut two)?, "{} {}", row.0, fails.0);
+    Ok(())
+}
+
+#[test]
+fn the_twins_write_the_same(rt: HostRuntime) -> Result<(), Fail> {
+    for row in ROWS {
+        for leave in 0..4 {
+            for write in 1..7 {
+                compare(&rt, rt.alloc(), &[], &row, false, (write, leave))?;
+                compare(&rt, rt.alloc(), &FIRST, &row, true, (write, leave))?;
+            }
+        }
+    }
+    Ok(())
+}
