@@ -8,8 +8,6 @@ mod listing;
 mod marks;
 mod pages;
 mod read;
-#[cfg(test)]
-mod read_tests;
 mod rules;
 #[cfg(test)]
 mod tests;

@@ -95,6 +95,7 @@ fn read_users<D: Disc>(
 {
     let mut users = Vec::new(alloc);
     for number in 0..63 {
+        // In a loop the proof reads the arms of a `match`, and not what `?` returns.
         let block = match read_block(disc, slots, 1 + u32::from(number)) {
             Ok(block) => block,
             Err(fault) => return Err(fault),
@@ -179,6 +180,7 @@ fn read_files<D: Disc>(
     let mut files = Vec::new(alloc);
     let mut online = Vec::new(alloc);
     for number in 0..1024 {
+        // A `match` here too, for the proof.
         let block = match read_block(disc, slots, 64 + u32::from(number)) {
             Ok(block) => block,
             Err(fault) => return Err(fault),

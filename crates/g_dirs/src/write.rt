@@ -123,6 +123,7 @@ fn fill<D: Disc>(
     let mut k = last.next_marked(side, 0);
     while k < 1088 {
         let block = listing.block(k);
+        // In a loop the proof reads the arms of a `match`, and not what `?` returns.
         match write_page(disc, slots, k, &block, last) {
             Ok(()) => {}
             Err(fault) => return Err(fault),
