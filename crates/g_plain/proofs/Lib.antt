@@ -8,4 +8,7 @@ pub mod Found
 pub mod TreeKept
 pub mod StepKept
 pub mod StepAnswers
+pub mod Fronts
 pub mod AskLemmas
+pub mod RanByLemmas
+pub mod PlainlyLemmas

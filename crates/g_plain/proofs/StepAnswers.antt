@@ -57,12 +57,10 @@ same_err a b e = cc
 ok_no_err : (reply : StoreReply) (f : StoreFault) → (let x : Result StoreReply StoreFault = Ok reply in x ≡ Err f) → ⊥
 ok_no_err reply f e = cc
 
-pub plain_fault : (t : Tree) (who : List ℕ) (call : StoreCall) (f : StoreFault) → plain_answer t who call ≡ Err f → is_plain f ≡ true
-plain_fault t who call f e =
-    elim (fault_of t who call) as (λ o. fault_of t who call ≡ o → plain_by t who call o ≡ Err f → is_plain f ≡ true) [
-      | Some fault ↦ λ is h. first_plain ((not (has_user t who), NoUser) ∷ checks t who call) f (all_plain t who call) (is ∙ ap Some (same_err fault f h))
-      | None ↦ λ is h. absurd (ok_no_err (reply_to t who call) f h)
-    ] refl e
+-- a fault that isn't of the plain step's own is never its fault
+pub own_fault : (t : Tree) (who : List ℕ) (call : StoreCall) (f g : StoreFault) → Some f ≡ fault_of t who call → (let x : Result StoreReply StoreFault = Err f in x ≡ Err g) → is_plain g ≡ true
+own_fault t who call f g some e =
+    ap is_plain (sym (same_err f g e)) ∙ first_plain ((not (has_user t who), NoUser) ∷ checks t who call) f (all_plain t who call) (sym some)
 
 -- either no memory was found, or it is the plain step
 pub answer_cases : (old : Tree) (who : List ℕ) (call : StoreCall) (r : Result StoreReply StoreFault) (new : Tree) → IsPlainAnswer old who call r new
@@ -86,16 +84,8 @@ kind_of t who (TrapStop path user modes) is p = tt
 kind_of t who (TrapCheck path user) is p = tt
 kind_of t who (Retrieve path) is p = tt
 
-pub reply_kind : (t : Tree) (who : List ℕ) (call : StoreCall) → IsTree t → IfOk (plain_answer t who call) (λ reply. IsReplyTo call reply)
-reply_kind t who call is =
-    elim (fault_of t who call) as (λ o. fault_of t who call ≡ o → IfOk (plain_by t who call o) (λ reply. IsReplyTo call reply)) [
-      | Some fault ↦ λ _. tt
-      | None ↦ λ none. kind_of t who call is (all_passed ((not (has_user t who), NoUser) ∷ checks t who call) none)
-    ] refl
-
--- want of memory is no other fault
-pub memory_apart : (f : StoreFault) → nat_le 17 (fault_number f) && nat_le (fault_number f) 17 ≡ false → (let x : Result StoreReply StoreFault = Err NoMemory in x ≡ Err f) → ⊥
-memory_apart f other e = true≢false (ap (λ g. nat_le 17 (fault_number g) && nat_le (fault_number g) 17) (same_err NoMemory f e) ∙ other)
+pub granted_kind : (t : Tree) (who : List ℕ) (call : StoreCall) → IsTree t → None ≡ fault_of t who call → IsReplyTo call (reply_to t who call)
+granted_kind t who call is none = kind_of t who call is (all_passed ((not (has_user t who), NoUser) ∷ checks t who call) (sym none))
 
 pub refused_same : (t : Tree) (who : List ℕ) (call : StoreCall) → IsErr (plain_answer t who call) → plain_tree t who call ≡ t
 refused_same t who call is =

@@ -182,3 +182,8 @@ plain_tree tree who call = elim (fault_of tree who call) [ Some fault ↦ tree |
 abbrev pub IsPlainAnswer : Tree → List ℕ → StoreCall → Result StoreReply StoreFault → Tree → Type 0
 IsPlainAnswer old who call (Err NoMemory) new = new ≡ old
 IsPlainAnswer old who call answer new = (answer ≡ plain_answer old who call) × (new ≡ plain_tree old who call)
+
+-- what a call without a fault came to: the reply and the tree after it, or want of memory
+abbrev pub IsGranted : {E : Type 0} → Tree → List ℕ → StoreCall → Result StoreReply E → Tree → Type 0
+IsGranted old who call (Ok reply) new = (reply ≡ reply_to old who call) × (new ≡ tree_after old who call)
+IsGranted old who call (Err e) new = new ≡ old

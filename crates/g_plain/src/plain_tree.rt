@@ -1,5 +1,5 @@
 //! The plain directory tree in memory, and the calls on it.
-ghost use Rattle.std.specs.Prelude.{◌≡◌, ◌≤◌, ◌^◌, ◌+◌, ◌-◌, ◌<◌, true, false, ◌++◌, map, filter, OnOk, OnErr, IfOk, is_some, length, unwrap_or, None, Some, nat_le, nat_lt, codes};
+ghost use Rattle.std.specs.Prelude.{◌≡◌, ◌≤◌, ◌^◌, ◌+◌, ◌-◌, ◌<◌, true, false, ◌++◌, ◌&&◌, ◌==◌, not, map, filter, OnOk, OnErr, IfOk, is_none, length, unwrap_or, None, Some, nat_le, nat_lt, codes};
 ghost use Rattle.std.specs.FinMap as finmap;
 ghost use Rattle.g_name.specs.Order.{same_text};
 ghost use Rattle.g_plain.specs.PlainTree as tree;
@@ -7,11 +7,12 @@ ghost use Rattle.g_plain.specs.PlainStep as step;
 ghost use Rattle.g_plain.specs.Rules.{IsTree, most_of};
 
 use crate::file_map::{FileEntry, FileMap};
+use crate::names::named;
 use crate::trap_map::TrapMap;
 use crate::user_map::{UserEntry, UserMap};
 use crate::{BudgetKind, Listing};
 use g_base::{NoMemory, blocks_for};
-use g_name::{Full, Lang, Path, Text, User};
+use g_name::{Full, Path, Text, User};
 use g_trap::{Mode, Modes};
 use std::alloc::Global;
 use std::marker::Model;
@@ -119,24 +120,17 @@ impl PlainTree {
         }
     }
 
-    /// Whether a user stands in the traps of a file.
-    pub fn stands(&self, full: &Full, user: &User) -> bool
+    /// Whether a user who is to get these modes of a file would be the ninth beside its owner.
+    pub fn is_ninth(&self, full: &Full, user: &User, modes: Modes) -> bool
         requires { tree.has_file self.now full.now ≡ true }
-        ensures { result ≡ is_some (finmap.get (tree.file_row self.now full.now).traps user.now) }
+        ensures { let traps = (tree.file_row self.now full.now).traps in
+            result ≡ (not (modes == 0) && is_none (finmap.get traps user.now) && nat_le 9 (finmap.len traps)) }
     {
         match self.files.get(full) {
-            Some(file) => file.traps().has(user),
-            None => unreachable!(),
-        }
-    }
-
-    /// How many users stand in the traps of a file.
-    pub fn trapped(&self, full: &Full) -> usize
-        requires { tree.has_file self.now full.now ≡ true }
-        ensures { result ≡ finmap.len (tree.file_row self.now full.now).traps }
-    {
-        match self.files.get(full) {
-            Some(file) => file.traps().len(),
+            Some(file) => {
+                let traps = file.traps();
+                !modes.is_empty() && !traps.has(user) && traps.len() >= 9
+            }
             None => unreachable!(),
         }
     }
@@ -152,13 +146,6 @@ impl PlainTree {
         } else {
             given
         }
-    }
-
-    pub fn is_allowed(&self, full: &Full, who: &User, mode: Mode) -> bool
-        requires { tree.has_file self.now full.now ≡ true }
-        ensures { result ≡ tree.is_allowed (tree.file_row self.now full.now) full.now who.now mode }
-    {
-        self.modes_of(full, who).contains(mode)
     }
 
     /// The length of a file in bytes, 0 where there is none.
@@ -198,7 +185,7 @@ impl PlainTree {
     }
 
     /// Whether no stamp is left for a new version.
-    pub fn is_spent(&self) -> bool
+    pub fn stamps_spent(&self) -> bool
         ensures { result ≡ nat_le (2 ^ 62) self.now.next }
     {
         self.next >= 4611686018427387904
@@ -297,31 +284,5 @@ fn first_entry() -> UserEntry
         space: 65535,
         time: 1000000,
         money: 1000000,
-    }
-}
-
-/// Whose file a path names.
-fn owner_of(who: &User, path: &Path) -> User
-    ensures { result ≡ tree.owner_of who.now path.now }
-{
-    match &path.user {
-        Some(user) => user.copy(),
-        None => who.copy(),
-    }
-}
-
-/// The full name that a path gives with a generation.
-fn named(who: &User, path: &Path, generation: u16) -> Full
-    ensures { result ≡ tree.named who.now path.now generation }
-{
-    let lang = match &path.lang {
-        Some(lang) => lang.copy(),
-        None => Lang::spaces(),
-    };
-    Full {
-        user: owner_of(who, path),
-        local: path.local.copy(),
-        generation,
-        lang,
     }
 }
