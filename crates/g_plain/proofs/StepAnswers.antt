@@ -62,12 +62,6 @@ pub own_fault : (t : Tree) (who : List ℕ) (call : StoreCall) (f g : StoreFault
 own_fault t who call f g some e =
     ap is_plain (sym (same_err f g e)) ∙ first_plain ((not (has_user t who), NoUser) ∷ checks t who call) f (all_plain t who call) (sym some)
 
--- either no memory was found, or it is the plain step
-pub answer_cases : (old : Tree) (who : List ℕ) (call : StoreCall) (r : Result StoreReply StoreFault) (new : Tree) → IsPlainAnswer old who call r new
-    → ((r ≡ Err NoMemory) × (new ≡ old)) ⊎ ((r ≡ plain_answer old who call) × (new ≡ plain_tree old who call))
-answer_cases old who call (Err NoMemory) new is = inl (refl, is)
-answer_cases old who call r new is = inr is
-
 kind_of : (t : Tree) (who : List ℕ) (call : StoreCall) → IsTree t → AllByRecursion (λ c. c.0 ≡ false) ((not (has_user t who), NoUser) ∷ checks t who call) → IsReplyTo call (reply_to t who call)
 kind_of t who (NewUser user space time money) is p = tt
 kind_of t who (Budget user kind amount) is p = tt
