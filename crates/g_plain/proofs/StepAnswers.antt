@@ -1,14 +1,14 @@
 -- The plain step's replies are of the call's kind, and its faults are its own.
-use Rattle.std.proofs.Common.{◌≡◌, ℕ, ◌+◌, Bool, true, false, cond, not, ◌&&◌, ◌||◌, nat_le, List, [], ◌∷◌, length, Option, Some, None, Result, Ok, Err, IsErr, IfOk, refl, sym, ap, ◌∙◌, is_some, arith, ◌⊎◌, inl, inr, true≢false}
+use Rattle.std.proofs.Common.{◌≡◌, ℕ, ◌+◌, Bool, true, false, cond, not, ◌&&◌, ◌||◌, nat_le, List, [], ◌∷◌, length, Option, Some, None, Result, Ok, Err, IsErr, refl, sym, ap, ◌∙◌, is_some, arith, true≢false}
 use Rattle.std.specs.List.{AllByRecursion, list_all}
 use Rattle.g_plain.specs.declared.calls.StoreCall.{StoreCall}
 use Rattle.g_plain.specs.declared.calls.StoreCall.TheVariants.{NewUser, Budget, Put, Append, Fetch, Erase, Rename, List as ListFiles, TrapGo, TrapStop, TrapCheck, Retrieve}
 use Rattle.g_plain.specs.declared.calls.StoreReply.{StoreReply}
 use Rattle.g_plain.specs.declared.faults.StoreFault.{StoreFault}
-use Rattle.g_plain.specs.declared.faults.StoreFault.TheVariants.{NoUser, NoMemory}
+use Rattle.g_plain.specs.declared.faults.StoreFault.TheVariants.{NoUser}
 use Rattle.g_plain.specs.Faults.{fault_number}
 use Rattle.g_plain.specs.PlainTree.{Tree, has_user, file_row, input_name}
-use Rattle.g_plain.specs.PlainStep.{Checks, first_fault, checks, fault_of, reply_to, tree_after, plain_answer, plain_tree, IsPlainAnswer}
+use Rattle.g_plain.specs.PlainStep.{Checks, first_fault, checks, fault_of, reply_to, tree_after, plain_answer, plain_tree}
 use Rattle.g_plain.specs.Replies.{IsReplyTo}
 use Rattle.g_plain.specs.Rules.{IsTree}
 use Rattle.g_plain.proofs.StepKept.{all_passed, not_false, not_above, file_rules}

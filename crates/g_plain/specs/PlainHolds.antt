@@ -10,9 +10,8 @@ use Rattle.g_plain.specs.Plainly.{PlainOrDevice}
 pub plain_holds : (old t : Tree) (who : List ℕ) (call : StoreCall) (answer : Answer) (new : Tree) → old ≡ t
     → IsPlainAnswer old who call answer new → IsAnswer answer → (after : Tree) × PlainOrDevice t who call answer after × (new ≡ after)
 plain_holds old t who call (Err NoMemory) new same is real = absurd (true≢false real)
-plain_holds old t who call answer new same is real =
-    (
-      plain_tree t who call,
-      inl (is.0 ∙ ap (λ u. plain_answer u who call) same, refl),
-      is.1 ∙ ap (λ u. plain_tree u who call) same,
-    )
+plain_holds old t who call answer new same is real = (
+  plain_tree t who call,
+  inl (is.0 ∙ ap (λ u. plain_answer u who call) same, refl),
+  is.1 ∙ ap (λ u. plain_tree u who call) same,
+)

@@ -1,5 +1,5 @@
 -- What each call does to a tree, and what it answers.
-use Rattle.std.specs.Prelude.{◌≡◌, ℕ, ◌+◌, ◌-◌, ◌^◌, ◌==◌, Bool, not, ◌&&◌, ◌||◌, nat_lt, nat_le, List, [], ◌∷◌, ◌++◌, map, filter, length, Option, Some, None, Result, Ok, Err, unwrap_or, is_none, bit_and, bit_or, if◌then◌else◌}
+use Rattle.std.specs.Prelude.{◌≡◌, ℕ, ◌+◌, ◌-◌, ◌^◌, ◌==◌, Bool, not, ◌&&◌, ◌||◌, nat_lt, nat_le, List, [], ◌∷◌, ◌++◌, length, Option, Some, None, Result, Ok, Err, unwrap_or, is_none, bit_and, bit_or, if◌then◌else◌}
 use Rattle.std.specs.FinMap.{get, insert, remove, len, entries, empty}
 use Rattle.g_base.specs.Block.{blocks_for}
 use Rattle.g_name.specs.declared.full.Full.{Full}
