@@ -61,3 +61,17 @@ pub Ran-along : {S T A : Type 0} (answers : S → List ℕ → StoreCall → Ans
 Ran-along answers others stands along who old (Gives x) given new r = (r.0, ap stands r.1)
 Ran-along answers others stands along who old (Call call more) given new r =
     (r.0, stands r.1, along old who call r.0 r.1 r.2, r.3, Ran-along answers others stands along who r.1 (more r.0) given new r.4)
+
+-- the same of a run that found no memory on its way
+pub RanInPart-along : {S T A : Type 0} (answers : S → List ℕ → StoreCall → Answer → S → Type 0) (others : T → List ℕ → StoreCall → Answer → T → Type 0) (stands : S → T)
+    → ((s : S) (who : List ℕ) (call : StoreCall) (answer : Answer) (t : S) → answers s who call answer t → others (stands s) who call answer (stands t))
+    → (who : List ℕ) (old : S) (p : Asks A) (new : S) → RanInPart answers who old p new → RanInPart others who (stands old) p (stands new)
+RanInPart-along answers others stands along who old (Gives x) new r = ap stands r
+RanInPart-along answers others stands along who old (Call call more) new r =
+    elim r as (λ _. RanInPart others who (stands old) (Call call more) (stands new)) [
+      | inl same ↦ inl (ap stands same)
+      | inr later ↦ elim later as (λ _. RanInPart others who (stands old) (Call call more) (stands new)) [
+        | inl memory ↦ inr (inl (along old who call (Err NoMemory) new memory))
+        | inr on ↦ inr (inr (on.0, stands on.1, along old who call on.0 on.1 on.2, on.3, RanInPart-along answers others stands along who on.1 (more on.0) new on.4))
+      ]
+    ]

@@ -1,14 +1,14 @@
 -- The plain step's replies are of the call's kind, and its faults are its own.
-use Rattle.std.proofs.Common.{◌≡◌, ℕ, ◌+◌, Bool, true, false, cond, not, ◌&&◌, ◌||◌, nat_le, List, [], ◌∷◌, length, Option, Some, None, Result, Ok, Err, IsErr, IfOk, refl, sym, ap, ◌∙◌, is_some, arith, ◌⊎◌, inl, inr, true≢false}
+use Rattle.std.proofs.Common.{◌≡◌, ℕ, ◌+◌, Bool, true, false, cond, not, ◌&&◌, ◌||◌, nat_le, List, [], ◌∷◌, length, Option, Some, None, Result, Ok, Err, IsErr, refl, sym, ap, ◌∙◌, is_some, arith, true≢false}
 use Rattle.std.specs.List.{AllByRecursion, list_all}
 use Rattle.g_plain.specs.declared.calls.StoreCall.{StoreCall}
 use Rattle.g_plain.specs.declared.calls.StoreCall.TheVariants.{NewUser, Budget, Put, Append, Fetch, Erase, Rename, List as ListFiles, TrapGo, TrapStop, TrapCheck, Retrieve}
 use Rattle.g_plain.specs.declared.calls.StoreReply.{StoreReply}
 use Rattle.g_plain.specs.declared.faults.StoreFault.{StoreFault}
-use Rattle.g_plain.specs.declared.faults.StoreFault.TheVariants.{NoUser, NoMemory}
+use Rattle.g_plain.specs.declared.faults.StoreFault.TheVariants.{NoUser}
 use Rattle.g_plain.specs.Faults.{fault_number}
 use Rattle.g_plain.specs.PlainTree.{Tree, has_user, file_row, input_name}
-use Rattle.g_plain.specs.PlainStep.{Checks, first_fault, checks, fault_of, reply_to, tree_after, plain_answer, plain_tree, IsPlainAnswer}
+use Rattle.g_plain.specs.PlainStep.{Checks, first_fault, checks, fault_of, reply_to, tree_after, plain_answer, plain_tree}
 use Rattle.g_plain.specs.Replies.{IsReplyTo}
 use Rattle.g_plain.specs.Rules.{IsTree}
 use Rattle.g_plain.proofs.StepKept.{all_passed, not_false, not_above, file_rules}
@@ -57,18 +57,10 @@ same_err a b e = cc
 ok_no_err : (reply : StoreReply) (f : StoreFault) → (let x : Result StoreReply StoreFault = Ok reply in x ≡ Err f) → ⊥
 ok_no_err reply f e = cc
 
-pub plain_fault : (t : Tree) (who : List ℕ) (call : StoreCall) (f : StoreFault) → plain_answer t who call ≡ Err f → is_plain f ≡ true
-plain_fault t who call f e =
-    elim (fault_of t who call) as (λ o. fault_of t who call ≡ o → plain_by t who call o ≡ Err f → is_plain f ≡ true) [
-      | Some fault ↦ λ is h. first_plain ((not (has_user t who), NoUser) ∷ checks t who call) f (all_plain t who call) (is ∙ ap Some (same_err fault f h))
-      | None ↦ λ is h. absurd (ok_no_err (reply_to t who call) f h)
-    ] refl e
-
--- either no memory was found, or it is the plain step
-pub answer_cases : (old : Tree) (who : List ℕ) (call : StoreCall) (r : Result StoreReply StoreFault) (new : Tree) → IsPlainAnswer old who call r new
-    → ((r ≡ Err NoMemory) × (new ≡ old)) ⊎ ((r ≡ plain_answer old who call) × (new ≡ plain_tree old who call))
-answer_cases old who call (Err NoMemory) new is = inl (refl, is)
-answer_cases old who call r new is = inr is
+-- a fault that isn't of the plain step's own is never its fault
+pub own_fault : (t : Tree) (who : List ℕ) (call : StoreCall) (f g : StoreFault) → Some f ≡ fault_of t who call → (let x : Result StoreReply StoreFault = Err f in x ≡ Err g) → is_plain g ≡ true
+own_fault t who call f g some e =
+    ap is_plain (sym (same_err f g e)) ∙ first_plain ((not (has_user t who), NoUser) ∷ checks t who call) f (all_plain t who call) (sym some)
 
 kind_of : (t : Tree) (who : List ℕ) (call : StoreCall) → IsTree t → AllByRecursion (λ c. c.0 ≡ false) ((not (has_user t who), NoUser) ∷ checks t who call) → IsReplyTo call (reply_to t who call)
 kind_of t who (NewUser user space time money) is p = tt
@@ -86,16 +78,8 @@ kind_of t who (TrapStop path user modes) is p = tt
 kind_of t who (TrapCheck path user) is p = tt
 kind_of t who (Retrieve path) is p = tt
 
-pub reply_kind : (t : Tree) (who : List ℕ) (call : StoreCall) → IsTree t → IfOk (plain_answer t who call) (λ reply. IsReplyTo call reply)
-reply_kind t who call is =
-    elim (fault_of t who call) as (λ o. fault_of t who call ≡ o → IfOk (plain_by t who call o) (λ reply. IsReplyTo call reply)) [
-      | Some fault ↦ λ _. tt
-      | None ↦ λ none. kind_of t who call is (all_passed ((not (has_user t who), NoUser) ∷ checks t who call) none)
-    ] refl
-
--- want of memory is no other fault
-pub memory_apart : (f : StoreFault) → nat_le 17 (fault_number f) && nat_le (fault_number f) 17 ≡ false → (let x : Result StoreReply StoreFault = Err NoMemory in x ≡ Err f) → ⊥
-memory_apart f other e = true≢false (ap (λ g. nat_le 17 (fault_number g) && nat_le (fault_number g) 17) (same_err NoMemory f e) ∙ other)
+pub granted_kind : (t : Tree) (who : List ℕ) (call : StoreCall) → IsTree t → None ≡ fault_of t who call → IsReplyTo call (reply_to t who call)
+granted_kind t who call is none = kind_of t who call is (all_passed ((not (has_user t who), NoUser) ∷ checks t who call) (sym none))
 
 pub refused_same : (t : Tree) (who : List ℕ) (call : StoreCall) → IsErr (plain_answer t who call) → plain_tree t who call ≡ t
 refused_same t who call is =

@@ -2,7 +2,10 @@
 pub mod Asks
 pub mod Codes
 pub mod Faults
+pub mod Plainly
+pub mod PlainHolds
 pub mod PlainStep
 pub mod PlainTree
+pub mod RanBy
 pub mod Replies
 pub mod Rules

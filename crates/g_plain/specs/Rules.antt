@@ -1,34 +1,58 @@
 -- The rules that every tree keeps, and those of calls.
-use Rattle.std.specs.Prelude.{◌≡◌, ◌≢◌, ℕ, ◌^◌, ◌<◌, ◌≤◌, true, List, length, Some, is_some}
+use Rattle.std.specs.Prelude.{◌≡◌, ◌≢◌, ℕ, zero, suc, ◌^◌, ◌<◌, ◌≤◌, true, List, length, Some, is_some, codes}
 use Rattle.std.specs.FinMap.{get, len}
 use Rattle.g_name.specs.declared.full.Full.{Full}
+use Rattle.g_name.specs.Grammar.{is_word, is_lang}
+use Rattle.g_name.specs.Names.{IsName, path_name}
 use Rattle.g_plain.specs.declared.calls.BudgetKind.{BudgetKind}
 use Rattle.g_plain.specs.declared.calls.BudgetKind.TheVariants.{Space, Time, Money}
 use Rattle.g_plain.specs.declared.calls.StoreCall.{StoreCall}
-use Rattle.g_plain.specs.declared.calls.StoreCall.TheVariants.{NewUser, Budget}
-use Rattle.g_plain.specs.PlainTree.{Tree, UserRow, FileRow, has_user}
+use Rattle.g_plain.specs.declared.calls.StoreCall.TheVariants.{NewUser, Budget, Put, Rename, TrapGo}
+use Rattle.g_plain.specs.PlainTree.{Tree, UserRow, FileRow, has_user, user_row}
 
--- a user's superior is there, and the budgets are within their limits
-pub record IsUserRow (tree : Tree) (row : UserRow) : Type 0 where
+-- a user's name is a name, the superior is there, and the budgets are within their limits
+pub record IsUserRow (tree : Tree) (user : List ℕ) (row : UserRow) : Type 0 where
+  pub name : is_word user ≡ true
   pub superior : has_user tree row.superior ≡ true
   pub space : row.space ≤ 65535
   pub time : row.time ≤ 1000000000
   pub money : row.money ≤ 1000000000
 
--- the owner is there and stands in the traps, with at most 8 other users, each of whom is there and has a mode
+-- the parts of the name are names; the owner is there and stands in the traps, with at most 8 other users, each of
+-- whom is there and has a mode; modes are the sum of five bits
 pub record IsFileRow (tree : Tree) (full : Full) (row : FileRow) : Type 0 where
   pub owner : has_user tree full.user ≡ true
+  pub local : is_word full.local ≡ true
   pub generation : (1 ≤ full.generation) × (full.generation ≤ 4095)
+  pub lang : is_lang full.lang ≡ true
   pub bytes : length row.bytes ≤ 65536
   pub owner_stands : is_some (get row.traps full.user) ≡ true
   pub others : (user : List ℕ) (modes : ℕ) → get row.traps user ≡ Some modes → user ≢ full.user → (has_user tree user ≡ true) × (0 < modes)
+  pub modes : (user : List ℕ) (modes : ℕ) → get row.traps user ≡ Some modes → modes < 32
   pub few : len row.traps ≤ 9
   pub stamp : (1 ≤ row.stamp) × (row.stamp < tree.next)
 
+-- the user is there, and MASTER is the superior
+pub record IsFirst (tree : Tree) (user : List ℕ) : Type 0 where
+  pub there : has_user tree user ≡ true
+  pub superior : (user_row tree user).superior ≡ codes "MASTER"
+
+-- the user's superior's superior .., so many up
+abbrev pub superior_of : Tree → ℕ → List ℕ → List ℕ
+superior_of tree zero user = user
+superior_of tree (suc n) user = superior_of tree n (user_row tree user).superior
+
+-- the superiors of the user lead up to MASTER
+abbrev pub LeadsUp : Tree → List ℕ → Type 0
+LeadsUp tree user = (n : ℕ) × (superior_of tree n user ≡ codes "MASTER")
+
 -- THE RULES OF A TREE
 pub record IsTree (tree : Tree) : Type 0 where
-  pub users : (user : List ℕ) (row : UserRow) → get tree.users user ≡ Some row → IsUserRow tree row
+  pub users : (user : List ℕ) (row : UserRow) → get tree.users user ≡ Some row → IsUserRow tree user row
   pub few_users : len tree.users ≤ 63
+  pub master : IsFirst tree (codes "MASTER")
+  pub macros : IsFirst tree (codes "MACROS")
+  pub above : (user : List ℕ) → has_user tree user ≡ true → LeadsUp tree user
   pub files : (full : Full) (row : FileRow) → get tree.files full ≡ Some row → IsFileRow tree full row
   pub few_files : len tree.files ≤ 1024
   -- no two versions have one stamp
@@ -46,3 +70,11 @@ abbrev pub IsWithinLimits : StoreCall → Type 0
 IsWithinLimits (NewUser user space time money) = (space ≤ 65535) × (time ≤ 1000000000) × (money ≤ 1000000000)
 IsWithinLimits (Budget user kind amount) = amount ≤ most_of kind
 IsWithinLimits call = Unit {0}
+
+-- the names that a call brings in are names, and the modes that it opens are the sum of five bits
+abbrev pub IsNamed : StoreCall → Type 0
+IsNamed (NewUser user space time money) = is_word user ≡ true
+IsNamed (Put path bytes) = IsName (path_name path)
+IsNamed (Rename path to) = is_word to ≡ true
+IsNamed (TrapGo path user modes) = modes < 32
+IsNamed call = Unit {0}

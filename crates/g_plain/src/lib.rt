@@ -1,5 +1,6 @@
 //! The plain directory tree, against which every store is measured: the calls of jobs with their
-//! replies and faults, what each call does to a tree, programs that ask a store, and a store in memory.
+//! replies and faults, the order of refusals, what each call does to a tree, programs that ask a
+//! store, and a store in memory.
 #![tactic(auto)]
 
 mod asking;
@@ -8,9 +9,13 @@ mod faults;
 mod file_map;
 mod filestore;
 mod laws;
+mod names;
 mod plain_calls;
 mod plain_store;
 mod plain_tree;
+mod questions;
+mod refusals;
+mod runs;
 mod trap_map;
 mod user_map;
 
@@ -19,7 +24,11 @@ pub use calls::{BudgetKind, Listing, StoreCall, StoreReply};
 pub use faults::StoreFault;
 pub use filestore::Filestore;
 pub use laws::{plain_refusal_changes_nothing, plain_step_keeps_rules};
+pub use names::named;
 pub use plain_store::PlainStore;
+pub use questions::Questions;
+pub use refusals::refusal;
+pub use runs::{HoldsTree, StandsFor, runs_are_plain, runs_go_along, runs_have_answers};
 
 #[cfg(test)]
 mod tests;

@@ -2,15 +2,17 @@
 ghost use Rattle.std.specs.Prelude.{◌≡◌, IfOk, IsOk};
 ghost use Rattle.g_plain.specs.PlainTree.{formatted};
 
+use crate::names::call_is_named;
 use crate::plain_tree::PlainTree;
-use crate::{Filestore, StoreCall, StoreFault, StoreReply};
+use crate::{Filestore, HoldsTree, Questions, StoreCall, StoreFault, StoreReply, refusal};
 use g_base::NoMemory;
-use g_name::User;
+use g_name::{Full, Path, User};
+use g_trap::Modes;
 use std::alloc::Global;
 use std::marker::Model;
 
-/// The plain tree as a store: each call answers the plain step, or finds no memory and changes nothing.
-/// It never waits and never stops. Contracts see the tree.
+/// The plain tree as a store: each call answers the plain step, or finds no memory and changes
+/// nothing. It never waits and never stops. Contracts see the tree.
 #[derive(Debug, Drop)]
 pub struct PlainStore {
     tree: PlainTree,
@@ -31,7 +33,8 @@ impl Model for PlainStore {
 }
 
 impl PlainStore {
-    /// A new filestore: `MASTER`, and `MACROS` below it, both with SPACE 65,535 and TIME and MONEY 1,000,000, and no file.
+    /// A new filestore: `MASTER`, and `MACROS` below it, both with SPACE 65,535 and TIME and MONEY
+    /// 1,000,000, and no file.
     pub fn new(alloc: Global) -> Result<PlainStore, NoMemory>
         ensures { IfOk result (λ store. store ≡ formatted) }
     {
@@ -40,11 +43,65 @@ impl PlainStore {
     }
 }
 
-impl Filestore for PlainStore {
-    ghost use Rattle.std.specs.Prelude.{Some, false};
-    ghost use Rattle.g_plain.specs.PlainStep.{IsPlainAnswer};
+impl Questions for PlainStore {
+    ghost tree = { λ s. s };
 
-    ghost tree = { λ s. Some s };
+    fn has_user(&self, user: &User) -> bool {
+        self.tree.has_user(user)
+    }
+
+    fn is_superior(&self, who: &User, user: &User) -> bool {
+        self.tree.is_superior(who, user)
+    }
+
+    fn users(&self) -> usize {
+        self.tree.users()
+    }
+
+    fn has_file(&self, full: &Full) -> bool {
+        self.tree.has_file(full)
+    }
+
+    fn files(&self) -> usize {
+        self.tree.files()
+    }
+
+    fn newest(&self, who: &User, path: &Path) -> u16 {
+        self.tree.newest(who, path)
+    }
+
+    fn input_name(&self, who: &User, path: &Path) -> Full {
+        self.tree.input_name(who, path)
+    }
+
+    fn output_name(&self, who: &User, path: &Path) -> Full {
+        self.tree.output_name(who, path)
+    }
+
+    fn len_of(&self, full: &Full) -> u32 {
+        self.tree.len_of(full)
+    }
+
+    fn space_left(&self, full: &Full) -> u32 {
+        self.tree.space_left(full)
+    }
+
+    fn modes_of(&self, full: &Full, user: &User) -> Modes {
+        self.tree.modes_of(full, user)
+    }
+
+    fn is_ninth(&self, full: &Full, user: &User, modes: Modes) -> bool {
+        self.tree.is_ninth(full, user, modes)
+    }
+
+    fn stamps_spent(&self) -> bool {
+        self.tree.stamps_spent()
+    }
+}
+
+impl Filestore for PlainStore {
+    ghost use Rattle.std.specs.Prelude.{false};
+    ghost use Rattle.g_plain.specs.PlainStep.{IsPlainAnswer};
 
     ghost is_spent = { λ s. false };
 
@@ -58,10 +115,23 @@ impl Filestore for PlainStore {
         who: &User,
         call: &StoreCall,
     ) -> Result<StoreReply, StoreFault> {
-        self.tree.call(alloc, who, call)
+        call_is_named(call);
+        if let Some(fault) = refusal(self, who, call) {
+            return Err(fault);
+        }
+        Ok(self.tree.grant(alloc, who, call)?)
     }
 
     fn spent(&self) -> bool {
         false
     }
+}
+
+impl HoldsTree for PlainStore {
+    ghost use Rattle.std.specs.Prelude.{◌≡◌};
+    ghost use Rattle.g_plain.specs.PlainHolds.{plain_holds};
+
+    ghost holds = { λ s t. s ≡ t };
+
+    ghost plainly = { plain_holds };
 }

@@ -1,35 +1,37 @@
--- Each call is the plain step, which keeps the rules of a tree, or finds no memory.
-use Rattle.std.proofs.Common.{◌≡◌, ◌∙◌, subst, sym, inl, inr, true, false, true≢false, IfOk, refl}
+-- A call without a fault is granted, and its tree keeps the rules of a tree; a fault is one of the plain step.
+use Rattle.std.proofs.Common.{◌∙◌, ap, sym, subst, true≢false}
 use Rattle.g_plain.specs.declared.faults.StoreFault.TheVariants.{WaitTape, Stopped}
+use Rattle.g_plain.specs.PlainStep.{fault_of}
 use Rattle.g_plain.specs.Replies.{IsReplyTo}
 use Rattle.g_plain.specs.Rules.{IsTree}
-use Rattle.g_plain.proofs.StepKept.{step_kept}
-use Rattle.g_plain.proofs.StepAnswers.{plain_fault, answer_cases, reply_kind, memory_apart}
+use Rattle.g_plain.proofs.StepKept.{granted_kept}
+use Rattle.g_plain.proofs.StepAnswers.{own_fault, granted_kind}
 use Rattle.g_plain.proofs.plain_store.PlainStoreFilestore.call.Goals as goal
 
 pub invariant_of-self : goal.invariant_of-self
-invariant_of-self c = elim (answer_cases _ c.args.who.now c.args.call.now c.call.result c.call.new.self c.call.ensures) as (λ _. IsTree c.call.new.self) [
-  | inl (e, same) ↦ subst IsTree (sym same) c.self.invariant
-  | inr (e, is) ↦ subst IsTree (sym is) (step_kept _ c.args.who.now c.args.call.now c.self.invariant c.requires.limits)
-]
+invariant_of-self c = subst IsTree (sym c.in_err-grant.ensures) c.self.invariant
 
-pub returns-clause-waits : goal.returns-clause-waits
-returns-clause-waits c = λ s e. elim (answer_cases _ c.args.who.now c.args.call.now c.call.result c.call.new.self c.call.ensures) as (λ _. false ≡ true) [
-  | inl (m, same) ↦ absurd (memory_apart (WaitTape s) refl (sym m ∙ e))
-  | inr (m, is) ↦ plain_fault _ c.args.who.now c.args.call.now (WaitTape s) (sym m ∙ e)
-]
+pub invariant_of-self-2 : goal.invariant_of-self-2
+invariant_of-self-2 c =
+    subst IsTree (sym c.in_ok-grant.ensures.1)
+    (granted_kept c.self.inside.tree c.args.who.now c.args.call.now c.self.invariant c.requires.limits c.call_is_named.ensures
+    (c.in_default.ensures ∙ ap (λ t. fault_of t c.args.who.now c.args.call.now) (sym c.self.view_is)))
+
+pub returns-in-Some-clause-waits : goal.returns-in-Some-clause-waits
+returns-in-Some-clause-waits c = λ s e. own_fault c.args.self.now c.args.who.now c.args.call.now c.in-Some.fault (WaitTape s) c.in-Some.ensures e
+
+pub returns-in-Some-clause-may_wait : goal.returns-in-Some-clause-may_wait
+returns-in-Some-clause-may_wait c = λ s e.
+    absurd (true≢false (sym (own_fault c.args.self.now c.args.who.now c.args.call.now c.in-Some.fault (WaitTape s) c.in-Some.ensures e)))
+
+pub returns-in-Some-clause-spent : goal.returns-in-Some-clause-spent
+returns-in-Some-clause-spent c = (
+  λ e. absurd (true≢false (sym e)),
+  λ e. own_fault c.args.self.now c.args.who.now c.args.call.now c.in-Some.fault Stopped c.in-Some.ensures e,
+)
 
 pub returns-clause-kind : goal.returns-clause-kind
-returns-clause-kind c = elim (answer_cases _ c.args.who.now c.args.call.now c.call.result c.call.new.self c.call.ensures) as (λ _. IfOk c.call.result (λ reply. IsReplyTo c.args.call.now reply)) [
-  | inl (e, same) ↦ subst (λ r. IfOk r (λ reply. IsReplyTo c.args.call.now reply)) (sym e) tt
-  | inr (e, is) ↦ subst (λ r. IfOk r (λ reply. IsReplyTo c.args.call.now reply)) (sym e) (reply_kind _ c.args.who.now c.args.call.now c.self.invariant)
-]
-
-pub returns-clause-spent : goal.returns-clause-spent
-returns-clause-spent c = (
-  λ e. absurd (true≢false (sym e)),
-  λ e. elim (answer_cases _ c.args.who.now c.args.call.now c.call.result c.call.new.self c.call.ensures) as (λ _. false ≡ true) [
-    | inl (m, same) ↦ absurd (memory_apart Stopped refl (sym m ∙ e))
-    | inr (m, is) ↦ plain_fault _ c.args.who.now c.args.call.now Stopped (sym m ∙ e)
-  ],
-)
+returns-clause-kind c =
+    subst (IsReplyTo c.args.call.now) (sym c.in_ok-grant.ensures.0)
+    (granted_kind c.self.inside.tree c.args.who.now c.args.call.now c.self.invariant
+    (c.in_default.ensures ∙ ap (λ t. fault_of t c.args.who.now c.args.call.now) (sym c.self.view_is)))

@@ -1,0 +1,50 @@
+-- Tests that come before others.
+use Rattle.std.proofs.Common.{◌≡◌, Bool, true, false, cond, not, ◌++◌, List, [], ◌∷◌, ℕ, Option, Some, None, is_some, refl, sym, ap, ◌∙◌, true≢false}
+use Rattle.std.specs.List.{AllByRecursion}
+use Rattle.g_plain.specs.declared.calls.StoreCall.{StoreCall}
+use Rattle.g_plain.specs.declared.faults.StoreFault.{StoreFault}
+use Rattle.g_plain.specs.declared.faults.StoreFault.TheVariants.{NoUser}
+use Rattle.g_plain.specs.PlainTree.{Tree, has_user}
+use Rattle.g_plain.specs.PlainStep.{Checks, first_fault, checks, fault_of}
+use Rattle.g_plain.proofs.StepKept.{all_passed}
+
+front_some : (a b : Checks) → is_some (first_fault a) ≡ true → first_fault a ≡ first_fault (a ++ b)
+front_some [] b some = absurd (true≢false (sym some))
+front_some (c ∷ a) b some =
+    elim c.0 as (λ t. is_some (cond t (Some c.1) (first_fault a)) ≡ true → cond t (Some c.1) (first_fault a) ≡ cond t (Some c.1) (first_fault (a ++ b))) [
+      | true ↦ λ _. refl
+      | false ↦ λ h. front_some a b h
+    ] some
+
+front_none : (a b : Checks) → is_some (first_fault a) ≡ false → first_fault (a ++ b) ≡ first_fault b
+front_none [] b none = refl
+front_none (c ∷ a) b none =
+    elim c.0 as (λ t. is_some (cond t (Some c.1) (first_fault a)) ≡ false → cond t (Some c.1) (first_fault (a ++ b)) ≡ first_fault b) [
+      | true ↦ λ h. absurd (true≢false h)
+      | false ↦ λ h. front_none a b h
+    ] none
+
+-- a fault of the front is that of all
+pub front_fault : (a b : Checks) (r : Option StoreFault) → r ≡ first_fault a → is_some r ≡ true → r ≡ first_fault (a ++ b)
+front_fault a b r e some = e ∙ front_some a b (ap is_some (sym e) ∙ some)
+
+-- where the front has none, it is that of the rest
+pub front_passed : (a b : Checks) (r : Option StoreFault) → r ≡ first_fault a → is_some r ≡ false → first_fault b ≡ first_fault (a ++ b)
+front_passed a b r e none = sym (front_none a b (ap is_some (sym e) ∙ none))
+
+-- a last test, where those before it have no fault
+pub last_fault : (a : Checks) (test : Bool) (f : StoreFault) (r : Option StoreFault) (b : Bool) → r ≡ first_fault a → is_some r ≡ false → b ≡ test
+    → cond b (Some f) None ≡ first_fault (a ++ (test, f) ∷ [])
+last_fault a test f r b e none same = ap (λ t. cond t (Some f) None) same ∙ front_passed a ((test, f) ∷ []) r e none
+
+none_of : {X : Type 0} (o : Option X) → is_some o ≡ false → o ≡ None
+none_of None e = refl
+none_of (Some x) e = absurd (true≢false e)
+
+pub front_tests : (a : Checks) (r : Option StoreFault) → r ≡ first_fault a → is_some r ≡ false → AllByRecursion (λ c. c.0 ≡ false) a
+front_tests a r e none = all_passed a (none_of (first_fault a) (ap is_some (sym e) ∙ none))
+
+-- the fault of a caller who is there
+pub known : (t : Tree) (who : List ℕ) (call other : StoreCall) (r : Option StoreFault) → has_user t who ≡ true → call ≡ other → r ≡ first_fault (checks t who other) → r ≡ fault_of t who call
+known t who call other r there is e =
+    e ∙ ap (λ b. cond (not b) (Some NoUser) (first_fault (checks t who other))) (sym there) ∙ ap (fault_of t who) (sym is)

@@ -1,0 +1,80 @@
+//! What has to be known of a tree to tell whether a call is granted.
+ghost use Rattle.std.specs.Prelude.{◌≡◌, ◌≤◌, ◌^◌, ◌&&◌, ◌==◌, not, nat_le, true, length, is_none};
+ghost use Rattle.std.specs.FinMap.{get, len};
+ghost use Rattle.g_name.specs.Order.{same_text};
+ghost use Rattle.g_plain.specs.PlainTree as plain;
+ghost use Rattle.g_plain.specs.PlainStep as step;
+
+use g_name::{Full, Path, User};
+use g_trap::Modes;
+
+/// Whoever answers for a tree of users and files, by name. The tree in memory answers, and so do
+/// numbered records. No answer takes memory or reads a device.
+pub trait Questions {
+    ghost use Rattle.g_plain.specs.PlainTree.{Tree};
+
+    // The tree that is asked about.
+    ghost tree: { Self → Tree };
+
+    fn has_user(&self, user: &User) -> bool
+        ensures { result ≡ plain.has_user (tree self.now) user.now };
+
+    /// Whether the user `who` set the budgets of another.
+    fn is_superior(&self, who: &User, user: &User) -> bool
+        requires caller { plain.has_user (tree self.now) who.now ≡ true }
+        requires there { plain.has_user (tree self.now) user.now ≡ true }
+        ensures { result ≡ same_text (plain.user_row (tree self.now) user.now).superior who.now };
+
+    /// How many users there are.
+    fn users(&self) -> usize
+        ensures { result ≡ len (tree self.now).users };
+
+    fn has_file(&self, full: &Full) -> bool
+        ensures { result ≡ plain.has_file (tree self.now) full.now };
+
+    /// How many files there are.
+    fn files(&self) -> usize
+        ensures { result ≡ len (tree self.now).files };
+
+    /// The greatest generation there is of what a path names, or 0.
+    fn newest(&self, who: &User, path: &Path) -> u16
+        ensures newest { result ≡ plain.newest (tree self.now) who.now path.now }
+        ensures few { result ≤ 4095 };
+
+    /// The file that a path names for input.
+    fn input_name(&self, who: &User, path: &Path) -> Full
+        ensures { result ≡ plain.input_name (tree self.now) who.now path.now };
+
+    /// The file that a path names for output.
+    fn output_name(&self, who: &User, path: &Path) -> Full
+        ensures { result ≡ plain.output_name (tree self.now) who.now path.now };
+
+    /// The length of a file in bytes.
+    fn len_of(&self, full: &Full) -> u32
+        requires { plain.has_file (tree self.now) full.now ≡ true }
+        ensures len { result ≡ length (plain.file_row (tree self.now) full.now).bytes }
+        ensures few { result ≤ 65536 };
+
+    /// The blocks of 512 bytes that the owner has left for a file of this name.
+    fn space_left(&self, full: &Full) -> u32
+        requires { plain.has_user (tree self.now) full.now.user ≡ true }
+        ensures { result ≡ step.space_left (tree self.now) full.now };
+
+    /// What a user may do with a file.
+    fn modes_of(&self, full: &Full, user: &User) -> Modes
+        requires file { plain.has_file (tree self.now) full.now ≡ true }
+        requires user { plain.has_user (tree self.now) user.now ≡ true }
+        ensures { let row = plain.file_row (tree self.now) full.now in
+            result ≡ plain.modes_of row full.now user.now };
+
+    /// Whether a user who is to get these modes of a file would be the ninth beside its owner.
+    fn is_ninth(&self, full: &Full, user: &User, modes: Modes) -> bool
+        requires file { plain.has_file (tree self.now) full.now ≡ true }
+        requires user { plain.has_user (tree self.now) user.now ≡ true }
+        ensures { let traps = (plain.file_row (tree self.now) full.now).traps in
+            result ≡ (not (modes == 0) && is_none (get traps user.now) && nat_le 9 (len traps)) };
+
+    /// Whether no stamp is left for a new version.
+    fn stamps_spent(&self) -> bool
+        ensures { result ≡ nat_le (2 ^ 62) (tree self.now).next };
+}
