@@ -139,26 +139,30 @@ module _ (users : List UserRec) (files : List FileRec) (bytes : FileRec → List
 
 -- the blocks of a user's files
 
-abbrev blocks_in : List ℕ → (FileRec → List ℕ) → List UserRec → FileRec → ℕ
+abbrev pub blocks_in : List ℕ → (FileRec → List ℕ) → List UserRec → FileRec → ℕ
 blocks_in user bytes users r = cond (same_text (name_of users r.owner) user) (blocks_for (length (bytes r))) 0
+
+pub used_named : (users : List UserRec) (files : List FileRec) (bytes : FileRec → List ℕ) (next : ℕ) (user : List ℕ) → IsRecords users files
+    → used_blocks (tree_of users files bytes next) user ≡ sum_by (blocks_in user bytes users) files
+used_named users files bytes next user is =
+    let row = file_row_of users bytes in
+    let g = λ (e : Full × FileRec). cond (same_text e.0.user user) (blocks_for (length (row e.1).bytes)) 0 in
+    let es = keyed (full_of users) files in
+    ap (sum_by (λ e. cond (same_text e.0.user user) (blocks_for (length e.1.bytes)) 0)) (file_entries users files row)
+    ∙ sum_of_map (λ e. cond (same_text e.0.user user) (blocks_for (length e.1.bytes)) 0) (with_value full_cmp row) (entries (by_name users files))
+    ∙ sum_by-IsPermutation g es (entries (from_entries es)) (entries_permute full_total es (apart_keyed full_total full_exact (full_of users) files (names_apart users files is)))
+    ∙ sum_of_map g (λ r. (full_of users r, r)) files
 
 pub used_is : (users : List UserRec) (files : List FileRec) (bytes : FileRec → List ℕ) (next owner : ℕ) → IsRecords users files → HasLengths files bytes
     → sum_by (λ r. cond (r.owner == owner) (blocks_for r.len) 0) files ≡ used_blocks (tree_of users files bytes next) (name_of users owner)
 used_is users files bytes next owner is lengths =
-    let row = file_row_of users bytes in
     let user = name_of users owner in
-    let h = λ (e : Full × FileRec). blocks_in user bytes users e.1 in
-    let g = λ (e : Full × FileRec). cond (same_text e.0.user user) (blocks_for (length (row e.1).bytes)) 0 in
-    let es = keyed (full_of users) files in
     sum_same_on (λ r. cond (r.owner == owner) (blocks_for r.len) 0) (blocks_in user bytes users) files
     (λ k d within.
     let r = get_or files k d in
     ap (λ t. cond t (blocks_for r.len) 0) (sym (same_user users r.owner owner is.each_user is.among_users.names (inl (is.among_files.owners k d within))))
     ∙ ap (λ n. cond (same_text (name_of users r.owner) user) (blocks_for n) 0) (sym (lengths r (Contains-get_or files k d within))))
-    ∙ sym (sum_of_map g (λ r. (full_of users r, r)) files)
-    ∙ sym (sum_by-IsPermutation g es (entries (from_entries es)) (entries_permute full_total es (apart_keyed full_total full_exact (full_of users) files (names_apart users files is))))
-    ∙ sym (sum_of_map (λ e. cond (same_text e.0.user user) (blocks_for (length e.1.bytes)) 0) (with_value full_cmp row) (entries (by_name users files)))
-    ∙ ap (sum_by (λ e. cond (same_text e.0.user user) (blocks_for (length e.1.bytes)) 0)) (sym (file_entries users files row))
+    ∙ sym (used_named users files bytes next user is)
 
 -- the numbers of a user's files in order
 

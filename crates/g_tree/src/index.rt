@@ -8,7 +8,8 @@ use indexmap::IndexMap;
 use std::alloc::Global;
 use std::marker::Model;
 
-/// A map from full names to numbers. Contracts see it beside how many more names fit without taking memory.
+/// A map from full names to numbers. Contracts see it beside how many more names fit without taking
+/// memory.
 #[derive(Drop)]
 pub struct Index {
     numbers: IndexMap<Full, u16>,
@@ -24,7 +25,10 @@ impl Model for Index {
 
     ghost coded = { index_code };
 
-    ghost view = { λ i. record { numbers = from_entries i.numbers.entries; spare = spare i.numbers } };
+    ghost view = { λ i. record {
+      numbers = from_entries i.numbers.entries;
+      spare = spare i.numbers;
+    } };
 }
 
 impl Index {

@@ -2,6 +2,7 @@
 //! those of the plain directory tree that the records stand for.
 #![tactic(auto)]
 
+mod asked;
 mod index;
 mod laws;
 mod number_list;
@@ -12,9 +13,10 @@ mod sorted;
 mod tests;
 mod tree;
 
+pub use asked::refusal_of;
 pub use laws::{
-    bytes_go_by_record, records_change_the_tree, records_make_a_tree, rows_are_of_records,
-    traps_go_by_name, users_go_by_name,
+    bytes_go_by_record, records_change_the_tree, records_make_a_tree, refusals_go_by_length,
+    rows_are_of_records, traps_go_by_name, users_go_by_name,
 };
 pub use number_list::NumberList;
 pub use output::Output;

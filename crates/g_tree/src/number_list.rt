@@ -5,7 +5,8 @@ use g_base::NoMemory;
 use std::alloc::Global;
 use std::marker::Model;
 
-/// Numbers of files. Contracts see a list. It is made from a `Vec` and gives it back without taking memory.
+/// Numbers of files. Contracts see a list. It is made from a `Vec` and gives it back without taking
+/// memory.
 #[derive(Debug, Drop)]
 pub struct NumberList {
     numbers: Vec<u16>,

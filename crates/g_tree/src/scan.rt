@@ -65,7 +65,8 @@ pub fn newest_of(users: &[UserRec], name: &Full, files: &[FileRec]) -> u16
 pub fn used_by(owner: u8, files: &[FileRec]) -> u32
     requires few { length files.now ≤ 1024 }
     requires lengths { All (λ r. r.len ≤ 65536) files.now }
-    ensures used { result ≡ sum_by (λ r. if r.owner == owner then blocks_for r.len else 0) files.now }
+    ensures used { result
+        ≡ sum_by (λ r. if r.owner == owner then blocks_for r.len else 0) files.now }
     ensures few { result ≤ 128 * length files.now }
 {
     let mut used = 0;
@@ -85,7 +86,9 @@ pub fn sorted_of(
     files: &[FileRec],
 ) -> Result<Sorted, NoMemory>
     requires { All (λ r. r.owner < length users.now) files.now }
-    ensures { IfOk result (λ sorted. sorted ≡ finmap.from_entries (map (λ r. (full_of users.now r, r.number)) (filter (λ r. r.owner == owner) files.now))) }
+    ensures { IfOk result (λ sorted. sorted
+        ≡ finmap.from_entries (map (λ r. (full_of users.now r, r.number))
+        (filter (λ r. r.owner == owner) files.now))) }
 {
     let mut sorted = Sorted::new(alloc);
     let mut left = files.len();

@@ -3,8 +3,8 @@ ghost use Rattle.std.specs.Prelude.{◌≡◌, ℕ, ◌≤◌, ◌*◌, List, If
 ghost use Rattle.std.specs.Option.{option_copied};
 ghost use Rattle.std.specs.FinMap as finmap;
 ghost use Rattle.g_plain.specs.PlainTree as tree;
-ghost use Rattle.g_tree.specs.Records.{IsRecords, ForTree, HasLengths, name_of, tree_of, users_by_name, by_number, number_of};
-ghost use Rattle.g_tree.specs.State.{first_users};
+ghost use Rattle.g_tree.specs.Records.{IsRecords, ForTree, HasLengths, name_of, name_of_file, tree_of, users_by_name, by_number, number_of};
+ghost use Rattle.g_tree.specs.State.{first_user, first_users};
 ghost use Rattle.g_tree.specs.Answers.{IsOutput, IsFileOrNew, newest_of, listed};
 
 mod changes;
@@ -19,9 +19,10 @@ use g_name::{Full, Lang, Path, User};
 use std::alloc::Global;
 use std::marker::Model;
 
-/// Users in order of number, at most 63, and files in order of number, at most 1,024. A user's number is the place
-/// among users; the first two are `MASTER` and `MACROS`. Contracts see the records, and beside them how many more
-/// users and files fit without taking memory. The rules of records are those of docs/FORMATS.md.
+/// Users in order of number, at most 63, and files in order of number, at most 1,024. A user's number
+/// is the place among users; the first two are `MASTER` and `MACROS`. Contracts see the records, and
+/// beside them how many more users and files fit without taking memory. The rules of records are those
+/// of docs/FORMATS.md.
 #[derive(Drop)]
 pub struct Tree {
     users: Vec<UserRec>,
@@ -39,7 +40,8 @@ impl Model for Tree {
     ghost view = { λ t. record {
       users = t.users.items;
       files = t.files.items;
-      spare = min (vec_capacity t.users - vec_len t.users) (min (vec_capacity t.files - vec_len t.files) t.index.spare);
+      spare = min (vec_capacity t.users - vec_len t.users)
+          (min (vec_capacity t.files - vec_len t.files) t.index.spare);
     } };
 
     ghost invariant = { λ t. IsIndexed t.users.items t.files.items t.index.numbers };
@@ -50,7 +52,8 @@ impl Tree {
     pub fn new(alloc: Global) -> Result<Tree, NoMemory>
         ensures users { IfOk result (λ t. t.users ≡ first_users) }
         ensures files { IfOk result (λ t. t.files ≡ []) }
-        ensures tree { IfOk result (λ t. (bytes : FileRec → List ℕ) → tree_of t.users t.files bytes 1 ≡ tree.formatted) }
+        ensures tree { IfOk result (λ t. (bytes : FileRec → List ℕ)
+            → tree_of t.users t.files bytes 1 ≡ tree.formatted) }
     {
         let mut users = Vec::new(alloc);
         users.push(first_user(0, User::master()))?;
@@ -65,7 +68,8 @@ impl Tree {
     /// The record of the user of this name.
     pub fn user(&self, name: &User) -> Option<UserRec>
         ensures value { result ≡ finmap.get (users_by_name self.now.users) name.now }
-        ensures there { ForTree self.now.users self.now.files (λ t. is_some result ≡ tree.has_user t name.now) }
+        ensures there { ForTree self.now.users self.now.files
+            (λ t. is_some result ≡ tree.has_user t name.now) }
         ensures records { IsRecords self.now.users self.now.files }
     {
         for user in &self.users {
@@ -114,11 +118,15 @@ impl Tree {
         self.files.as_slice()
     }
 
-    /// The number of the file that a path names for input, where an absent user is the owner of this number.
-    /// None also where there is no such user.
+    /// The number of the file that a path names for input, where an absent user is the owner of this
+    /// number. None also where there is no such user.
     pub fn find(&self, owner: u8, path: &Path) -> Option<u16>
-        ensures number { ForTree self.now.users self.now.files (λ t. result ≡ number_of self.now.users self.now.files (tree.input_name t (name_of self.now.users owner) path.now)) }
-        ensures there { ForTree self.now.users self.now.files (λ t. is_some result ≡ tree.has_file t (tree.input_name t (name_of self.now.users owner) path.now)) }
+        ensures number { ForTree self.now.users self.now.files
+            (λ t. result ≡ number_of self.now.users self.now.files
+            (tree.input_name t (name_of self.now.users owner) path.now)) }
+        ensures there { ForTree self.now.users self.now.files
+            (λ t. is_some result ≡ tree.has_file t
+            (tree.input_name t (name_of self.now.users owner) path.now)) }
     {
         match self.input_name(owner, path) {
             Some(full) => self.number_of(&full),
@@ -129,16 +137,21 @@ impl Tree {
     /// The number of the file of this full name, in one look-up.
     pub fn number_of(&self, full: &Full) -> Option<u16>
         ensures number { result ≡ number_of self.now.users self.now.files full.now }
-        ensures there { ForTree self.now.users self.now.files (λ t. is_some result ≡ tree.has_file t full.now) }
+        ensures named { IfSome result (λ number. name_of_file self.now.users self.now.files number
+            ≡ Some full.now) }
+        ensures there { ForTree self.now.users self.now.files
+            (λ t. is_some result ≡ tree.has_file t full.now) }
         ensures records { IsRecords self.now.users self.now.files }
     {
         self.index.find(full)
     }
 
-    /// What a path names for output, where an absent user is the owner of this number. Where there is no such user
-    /// no file is there, so this is the first generation, or the one that is given.
+    /// What a path names for output, where an absent user is the owner of this number. Where there is
+    /// no such user no file is there, so this is the first generation, or the one that is given.
     pub fn output(&self, owner: u8, path: &Path) -> Output
-        ensures { ForTree self.now.users self.now.files (λ t. IsOutput self.now.users self.now.files (name_of self.now.users owner) path.now t result) }
+        ensures { ForTree self.now.users self.now.files
+            (λ t. IsOutput self.now.users self.now.files
+            (name_of self.now.users owner) path.now t result) }
     {
         let Some(full) = self.named(owner, path) else {
             let generation = path.generation.unwrap_or(1);
@@ -162,7 +175,8 @@ impl Tree {
     /// The blocks of 512 bytes of the files of the owner of this number.
     pub fn used(&self, owner: u8) -> u32
         ensures used { (bytes : FileRec → List ℕ) (next : ℕ) → HasLengths self.now.files bytes
-            → result ≡ tree.used_blocks (tree_of self.now.users self.now.files bytes next) (name_of self.now.users owner) }
+            → result ≡ tree.used_blocks (tree_of self.now.users self.now.files bytes next)
+            (name_of self.now.users owner) }
         ensures few { result ≤ 131072 }
     {
         used_by(owner, self.files.as_slice())
@@ -170,15 +184,18 @@ impl Tree {
 
     /// The numbers of the files of the owner of this number, in full-name order.
     pub fn listing(&self, alloc: Global, owner: u8) -> Result<NumberList, NoMemory>
-        ensures { IfOk result (λ list. ForTree self.now.users self.now.files (λ t. list ≡ listed self.now.users self.now.files (name_of self.now.users owner) t)) }
+        ensures { IfOk result (λ list. ForTree self.now.users self.now.files
+            (λ t. list ≡ listed self.now.users self.now.files (name_of self.now.users owner) t)) }
     {
         let sorted = sorted_of(alloc, self.users.as_slice(), owner, self.files.as_slice())?;
         sorted.numbers(alloc)
     }
 
-    /// The user whom a path names, or the owner of this number. None where a user is wanted whose number isn't used.
+    /// The user whom a path names, or the owner of this number. None where a user is wanted whose
+    /// number isn't used.
     fn user_of(&self, owner: u8, path: &Path) -> Option<User>
-        ensures some { IfSome result (λ user. user ≡ tree.owner_of (name_of self.now.users owner) path.now) }
+        ensures some { IfSome result (λ user. user
+            ≡ tree.owner_of (name_of self.now.users owner) path.now) }
         ensures none { IfNone result (tree.owner_of (name_of self.now.users owner) path.now ≡ []) }
         ensures records { IsRecords self.now.users self.now.files }
     {
@@ -194,7 +211,8 @@ impl Tree {
 
     /// The full name that a path gives with generation 0.
     fn named(&self, owner: u8, path: &Path) -> Option<Full>
-        ensures some { IfSome result (λ full. full ≡ tree.named (name_of self.now.users owner) path.now 0) }
+        ensures some { IfSome result (λ full. full
+            ≡ tree.named (name_of self.now.users owner) path.now 0) }
         ensures none { IfNone result (tree.owner_of (name_of self.now.users owner) path.now ≡ []) }
         ensures records { IsRecords self.now.users self.now.files }
     {
@@ -215,7 +233,8 @@ impl Tree {
 
     /// The full name that a path gives for input.
     fn input_name(&self, owner: u8, path: &Path) -> Option<Full>
-        ensures some { IfSome result (λ full. ForTree self.now.users self.now.files (λ t. full ≡ tree.input_name t (name_of self.now.users owner) path.now)) }
+        ensures some { IfSome result (λ full. ForTree self.now.users self.now.files
+            (λ t. full ≡ tree.input_name t (name_of self.now.users owner) path.now)) }
         ensures none { IfNone result (tree.owner_of (name_of self.now.users owner) path.now ≡ []) }
         ensures records { IsRecords self.now.users self.now.files }
     {
@@ -244,9 +263,10 @@ impl Tree {
     }
 
     /// The greatest generation of the files of this user, local name and language, or 0.
-    fn newest(&self, name: &Full) -> u16
+    pub fn newest(&self, name: &Full) -> u16
         ensures newest { result ≡ newest_of self.now.users name.now self.now.files }
         ensures few { result ≤ 4095 }
+        ensures records { IsRecords self.now.users self.now.files }
     {
         newest_of(self.users.as_slice(), name, self.files.as_slice())
     }
@@ -254,7 +274,7 @@ impl Tree {
 
 /// A user of a new filestore.
 fn first_user(number: u8, user: User) -> UserRec
-    ensures { result ≡ record { number = number; user = user; superior = 0; space = 65535; time = 1000000; money = 1000000 } }
+    ensures { result ≡ first_user number user }
 {
     UserRec {
         number,

@@ -33,7 +33,8 @@ impl Tree {
         })
     }
 
-    /// Makes room for one user and one file more; without memory nothing changes but that there may be more room.
+    /// Makes room for one user and one file more; without memory nothing changes but that there may be
+    /// more room.
     pub fn reserve(&mut self) -> Result<(), NoMemory>
         ensures users { self.new.users ≡ self.old.users }
         ensures files { self.new.files ≡ self.old.files }
@@ -52,8 +53,13 @@ impl Tree {
         ensures users { self.new.users ≡ self.old.users ++ user ∷ [] }
         ensures files { self.new.files ≡ self.old.files }
         ensures spare { self.old.spare ≤ self.new.spare + 1 }
-        ensures tree { (bytes : FileRec → List ℕ) (next : ℕ) → let t = tree_of self.old.users self.old.files bytes next in
-            tree_of self.new.users self.new.files bytes next ≡ record t { users = finmap.insert t.users user.user (user_row_of self.old.users user) } }
+        ensures tree { (bytes : FileRec → List ℕ) (next : ℕ)
+            → let t = tree_of self.old.users self.old.files bytes next in
+            tree_of self.new.users self.new.files bytes next
+            ≡ record t {
+              users = finmap.insert t.users user.user
+                  (user_row_of self.old.users user);
+            } }
     {
         if self.users.push(user).is_err() {
             unreachable!()
@@ -68,8 +74,13 @@ impl Tree {
         ensures users { self.new.users ≡ slice_set self.old.users user.number user }
         ensures files { self.new.files ≡ self.old.files }
         ensures spare { self.new.spare ≡ self.old.spare }
-        ensures tree { (bytes : FileRec → List ℕ) (next : ℕ) → let t = tree_of self.old.users self.old.files bytes next in
-            tree_of self.new.users self.new.files bytes next ≡ record t { users = finmap.insert t.users user.user (user_row_of self.old.users user) } }
+        ensures tree { (bytes : FileRec → List ℕ) (next : ℕ)
+            → let t = tree_of self.old.users self.old.files bytes next in
+            tree_of self.new.users self.new.files bytes next
+            ≡ record t {
+              users = finmap.insert t.users user.user
+                  (user_row_of self.old.users user);
+            } }
     {
         let place = user.number as usize;
         self.users[place] = user;
@@ -77,15 +88,23 @@ impl Tree {
 
     /// Puts a file in its place in order of number, or in that of the file of the same number.
     pub fn put(&mut self, file: FileRec)
-        requires room { (1 ≤ self.old.spare) ⊎ (number_of self.old.users self.old.files (full_of self.old.users file) ≡ Some file.number) }
+        requires room { (1 ≤ self.old.spare) ⊎
+            (number_of self.old.users self.old.files (full_of self.old.users file)
+            ≡ Some file.number) }
         requires rules { IsRecords self.old.users (with_file file self.old.files) }
         ensures users { self.new.users ≡ self.old.users }
         ensures files { self.new.files ≡ with_file file self.old.files }
         ensures spare { self.old.spare ≤ self.new.spare + 1 }
-        ensures same_name { number_of self.old.users self.old.files (full_of self.old.users file) ≡ Some file.number → self.new.spare ≡ self.old.spare }
-        ensures tree { (bytes : FileRec → List ℕ) (next : ℕ) → let t = tree_of self.old.users self.old.files bytes next in
+        ensures same_name { number_of self.old.users self.old.files (full_of self.old.users file)
+            ≡ Some file.number → self.new.spare ≡ self.old.spare }
+        ensures tree { (bytes : FileRec → List ℕ) (next : ℕ)
+            → let t = tree_of self.old.users self.old.files bytes next in
             tree_of self.new.users self.new.files bytes next
-            ≡ record t { files = finmap.insert (without_number self.old.users self.old.files file.number t.files) (full_of self.old.users file) (file_row_of self.old.users bytes file) } }
+            ≡ record t {
+              files = finmap.insert
+                  (without_number self.old.users self.old.files file.number t.files)
+                  (full_of self.old.users file) (file_row_of self.old.users bytes file);
+            } }
     {
         let full = full_of(self.users.as_slice(), &file);
         match place_of(self.files.as_slice(), file.number) {
@@ -103,12 +122,14 @@ impl Tree {
     fn replace(&mut self, place: usize, full: Full, file: FileRec)
         requires at { StandsAt self.old.files file.number place }
         requires name { full ≡ full_of self.old.users file }
-        requires room { (1 ≤ self.old.spare) ⊎ (number_of self.old.users self.old.files full ≡ Some file.number) }
+        requires room { (1 ≤ self.old.spare) ⊎
+            (number_of self.old.users self.old.files full ≡ Some file.number) }
         requires rules { IsRecords self.old.users (slice_set self.old.files place file) }
         ensures users { self.new.users ≡ self.old.users }
         ensures files { self.new.files ≡ slice_set self.old.files place file }
         ensures spare { self.old.spare ≤ self.new.spare + 1 }
-        ensures same_name { number_of self.old.users self.old.files full ≡ Some file.number → self.new.spare ≡ self.old.spare }
+        ensures same_name { number_of self.old.users self.old.files full ≡ Some file.number
+            → self.new.spare ≡ self.old.spare }
     {
         let old = full_of(self.users.as_slice(), &self.files[place]);
         if old != full {
@@ -125,8 +146,10 @@ impl Tree {
         ensures files { self.new.files ≡ without_file number self.old.files }
         ensures records { IsRecords self.new.users self.new.files }
         ensures spare { self.old.spare ≤ self.new.spare }
-        ensures tree { (bytes : FileRec → List ℕ) (next : ℕ) → let t = tree_of self.old.users self.old.files bytes next in
-            tree_of self.new.users self.new.files bytes next ≡ record t { files = without_number self.old.users self.old.files number t.files } }
+        ensures tree { (bytes : FileRec → List ℕ) (next : ℕ)
+            → let t = tree_of self.old.users self.old.files bytes next in
+            tree_of self.new.users self.new.files bytes next
+            ≡ record t { files = without_number self.old.users self.old.files number t.files } }
     {
         match place_of(self.files.as_slice(), number) {
             Ok(place) => {
@@ -151,8 +174,10 @@ impl Tree {
 
     /// The least unused number of a file, where there is one below 1,024.
     pub fn free_file(&self) -> Option<u16>
-        ensures unused { IfSome result (λ number. (number < 1024) × (finmap.get (by_number self.now.files) number ≡ None)) }
-        ensures least { IfSome result (λ number. (lower : ℕ) → lower < number → is_some (finmap.get (by_number self.now.files) lower) ≡ true) }
+        ensures unused { IfSome result (λ number. (number < 1024)
+            × (finmap.get (by_number self.now.files) number ≡ None)) }
+        ensures least { IfSome result (λ number. (lower : ℕ) → lower < number
+            → is_some (finmap.get (by_number self.now.files) lower) ≡ true) }
         ensures none { IfNone result (length self.now.files ≡ 1024) }
     {
         free_in(self.files.as_slice())
@@ -162,7 +187,8 @@ impl Tree {
 /// The numbers of files by full name, for which there is room.
 fn index_of(alloc: Global, users: &[UserRec], files: &[FileRec]) -> Result<Index, NoMemory>
     requires { IsRecords users.now files.now }
-    ensures { IfOk result (λ index. index.numbers ≡ finmap.from_entries (map (λ r. (full_of users.now r, r.number)) files.now)) }
+    ensures { IfOk result (λ index. index.numbers
+        ≡ finmap.from_entries (map (λ r. (full_of users.now r, r.number)) files.now)) }
 {
     let mut index = Index::new(alloc);
     index.reserve(files.len())?;
@@ -175,8 +201,10 @@ fn index_of(alloc: Global, users: &[UserRec], files: &[FileRec]) -> Result<Index
 /// The least number that no file has.
 fn free_in(files: &[FileRec]) -> Option<u16>
     requires { AreNumbered files.now }
-    ensures unused { IfSome result (λ number. (number < 1024) × (finmap.get (by_number files.now) number ≡ None)) }
-    ensures least { IfSome result (λ number. (lower : ℕ) → lower < number → is_some (finmap.get (by_number files.now) lower) ≡ true) }
+    ensures unused { IfSome result (λ number. (number < 1024)
+        × (finmap.get (by_number files.now) number ≡ None)) }
+    ensures least { IfSome result (λ number. (lower : ℕ) → lower < number
+        → is_some (finmap.get (by_number files.now) lower) ≡ true) }
     ensures none { IfNone result (length files.now ≡ 1024) }
 {
     let mut number = 0;

@@ -2,8 +2,8 @@
 use Rattle.std.proofs.Common.{◌≡◌, [], ◌∷◌, ◌++◌, sym, ap, subst, ◌∙◌}
 use Rattle.g_tree.specs.Records.{IsRecords}
 use Rattle.g_tree.specs.State.{first_users}
-use Rattle.g_tree.proofs.TestLemmas.{one, two, last, files_rules}
-use Rattle.g_tree.proofs.tests.files.Goals as goal
+use Rattle.g_tree_tests.proofs.RowLemmas.{one, two, last, files_rules}
+use Rattle.g_tree_tests.proofs.tests.files.Goals as goal
 
 pub returns : goal.returns
 returns c =

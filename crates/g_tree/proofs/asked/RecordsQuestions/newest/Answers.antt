@@ -1,0 +1,10 @@
+-- The greatest generation among records is that of the tree.
+use Rattle.std.proofs.Common.{◌∙◌}
+use Rattle.g_tree.specs.Asked.{zeros}
+use Rattle.g_tree.proofs.AnswerLemmas.{newest_there}
+use Rattle.g_tree.proofs.asked.RecordsQuestions.newest.Goals as goal
+
+pub returns-clause-newest : goal.returns-clause-newest
+returns-clause-newest c =
+    let s = c.args.self.now in
+    c.newest.ensures.newest ∙ newest_there s.tree.now.users s.tree.now.files zeros s.next c.args.who.now c.args.path.now c.named.result c.newest.ensures.records c.named.ensures
