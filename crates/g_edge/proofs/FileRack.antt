@@ -19,12 +19,15 @@ use Rattle.g_tape.proofs.RackLemmas.{with_reel-place}
 -- a reel that tells no counts of reads is the same when it was read
 unread : (k : ℕ) (r : Reel) → r.times_read ≡ None → r ≡ read_at k r
 unread k r untold =
-    let x : Reel = record { serial = r.serial; capacity = r.capacity; len = r.len; mounted = r.mounted; blocks = r.blocks; times_read = r.times_read } in
-    let y : Reel = record { serial = r.serial; capacity = r.capacity; len = r.len; mounted = r.mounted; blocks = r.blocks; times_read = None } in
+    let x : Reel = record
+    { serial = r.serial; capacity = r.capacity; len = r.len; mounted = r.mounted; blocks = r.blocks; times_read = r.times_read } in
+    let y : Reel = record
+    { serial = r.serial; capacity = r.capacity; len = r.len; mounted = r.mounted; blocks = r.blocks; times_read = None } in
     let there : x ≡ y = cc in there ∙ ap (read_at k) (sym there)
 
 module _ (s k i : ℕ) (old : Rack) (was : Reel) (place : IsPlaceOf s old.reels i) (is : was ≡ get_or old.reels i was) where
-  pub read_done : (into : List ℕ) → refuses_read k (Some was) ≡ None → was.blocks ≡ None → was.times_read ≡ None → Reading s k old (Ok tt) into old
+  pub read_done : (into : List ℕ) → refuses_read k (Some was) ≡ None → was.blocks ≡ None → was.times_read ≡ None
+      → Reading s k old (Ok tt) into old
   read_done into allowed no_blocks no_times =
       let here = at-place s i old.reels was place is in
       let same : set old.reels i was ≡ old.reels = ap (set old.reels i) is ∙ set-get_or old.reels i was in (
@@ -34,17 +37,21 @@ module _ (s k i : ℕ) (old : Rack) (was : Reel) (place : IsPlaceOf s old.reels 
             (sym same ∙ with_reel-place s old.reels i (read_at k) was was place is (unread k was no_times)),
       )
 
-  pub write_done : (block : List ℕ) (fuse : Option ℕ) (now : Reel) → refuses_write k (Some was) ≡ None → now ≡ ending k block was → fuse ≡ burnt old.fuse → (old.fuse ≡ Some 1 → ⊥)
+  pub write_done : (block : List ℕ) (fuse : Option ℕ) (now : Reel) → refuses_write k (Some was) ≡ None → now ≡ ending k block was
+      → fuse ≡ burnt old.fuse → (old.fuse ≡ Some 1 → ⊥)
       → Writing s k block old (Ok tt) (record old { reels = set old.reels i now; fuse = fuse })
   write_done block fuse now allowed value burns good =
       let here = at-place s i old.reels was place is in (
         ap (refuses_write k) here ∙ allowed,
         good,
-        ap (λ (rs : List Reel). let rack : Rack = record old { reels = rs; fuse = fuse } in rack) (with_reel-place s old.reels i (ending k block) was now place is value)
-            ∙ ap (λ (f : Option ℕ). let rack : Rack = record old { reels = with_reel s (ending k block) old.reels; fuse = f } in rack) burns,
+        ap (λ (rs : List Reel). let rack : Rack = record old { reels = rs; fuse = fuse } in rack)
+            (with_reel-place s old.reels i (ending k block) was now place is value)
+            ∙ ap (λ (f : Option ℕ). let rack : Rack = record old { reels = with_reel s (ending k block) old.reels; fuse = f } in rack)
+            burns,
       )
 
-  pub write_failed : (block left : List ℕ) (fuse : Option ℕ) (faults : ℕ) (now : Reel) → refuses_write k (Some was) ≡ None → now ≡ ending k left was → fuse ≡ burnt old.fuse → faults ≡ one_more old.write_faults
+  pub write_failed : (block left : List ℕ) (fuse : Option ℕ) (faults : ℕ) (now : Reel) → refuses_write k (Some was) ≡ None
+      → now ≡ ending k left was → fuse ≡ burnt old.fuse → faults ≡ one_more old.write_faults
       → Writing s k block old (Err WriteFailed) (record old { reels = set old.reels i now; write_faults = faults; fuse = fuse })
   write_failed block left fuse faults now allowed value burns more =
       let here = at-place s i old.reels was place is in (
@@ -52,38 +59,46 @@ module _ (s k i : ℕ) (old : Rack) (was : Reel) (place : IsPlaceOf s old.reels 
         record { more = omega arith },
         (
           Torn left,
-          ap (λ (rs : List Reel). let rack : Rack = record old { reels = rs; write_faults = faults; fuse = fuse } in rack) (with_reel-place s old.reels i (left_by (Torn left) k) was now place is value)
-              ∙ ap (λ (f : Option ℕ). let rack : Rack = record old { reels = with_reel s (left_by (Torn left) k) old.reels; write_faults = faults; fuse = f } in rack) burns,
+          ap (λ (rs : List Reel). let rack : Rack = record old { reels = rs; write_faults = faults; fuse = fuse } in rack)
+              (with_reel-place s old.reels i (left_by (Torn left) k) was now place is value)
+              ∙ ap (λ (f : Option ℕ). let rack : Rack =
+              record old { reels = with_reel s (left_by (Torn left) k) old.reels; write_faults = faults; fuse = f } in rack) burns,
         ),
       )
 
 -- a number above all others keeps them rising behind them
-rising-push : (numbers : List ℕ) (x : ℕ) → IsStrictlyIncreasing numbers → All (λ n. n < x) numbers → IsStrictlyIncreasing (numbers ++ x ∷ [])
+rising-push : (numbers : List ℕ) (x : ℕ) → IsStrictlyIncreasing numbers → All (λ n. n < x) numbers
+    → IsStrictlyIncreasing (numbers ++ x ∷ [])
 rising-push numbers x rising below k h =
     let within : k < length numbers = omega (arith, length-append numbers (x ∷ []), h) in
     let first : get_or (numbers ++ x ∷ []) k 0 ≡ get_or numbers k 0 = get_or_append_left numbers (x ∷ []) 0 k within in
     elim (cases_lt (k + 1) (length numbers)) [
       | inl more ↦
-          let second : get_or (numbers ++ x ∷ []) (k + 1) 0 ≡ get_or numbers (k + 1) 0 = get_or_append_left numbers (x ∷ []) 0 (k + 1) more in
+          let second : get_or (numbers ++ x ∷ []) (k + 1) 0 ≡ get_or numbers (k + 1) 0 =
+          get_or_append_left numbers (x ∷ []) 0 (k + 1) more in
           let rises : get_or numbers k 0 < get_or numbers (k + 1) 0 = rising k more in
           omega (arith, first, second, rises)
       | inr last ↦
           let end : k + 1 ≡ length numbers = omega arith in
-          let second : get_or (numbers ++ x ∷ []) (k + 1) 0 ≡ x = subst (λ (i : ℕ). get_or (numbers ++ x ∷ []) i 0 ≡ x) (sym end) (get_or-append_seam numbers x [] 0) in
+          let second : get_or (numbers ++ x ∷ []) (k + 1) 0 ≡ x =
+          subst (λ (i : ℕ). get_or (numbers ++ x ∷ []) i 0 ≡ x) (sym end) (get_or-append_seam numbers x [] 0) in
           let under : get_or numbers k 0 < x = below k 0 within in
           omega (arith, first, second, under)
     ]
 
 -- one more reel behind those of a rack, with a serial above all of them
-pub AreReels-push : (reels : List Reel) (r : Reel) → AreReels reels → length reels < 16 → IsReel r → All (λ other. other.serial < r.serial) reels → AreReels (reels ++ r ∷ [])
+pub AreReels-push : (reels : List Reel) (r : Reel) → AreReels reels → length reels < 16 → IsReel r
+    → All (λ other. other.serial < r.serial) reels → AreReels (reels ++ r ∷ [])
 AreReels-push reels r are room is above =
     let below : All (λ n. n < r.serial) (map (λ (o : Reel). o.serial) reels) = λ k d h.
     let within : k < length reels = omega (arith, length-map reels (λ (o : Reel). o.serial), h) in
-    let there : get_or (map (λ (o : Reel). o.serial) reels) k d ≡ (get_or reels k r).serial = get_or-map (λ (o : Reel). o.serial) reels k r d within in
+    let there : get_or (map (λ (o : Reel). o.serial) reels) k d ≡ (get_or reels k r).serial =
+    get_or-map (λ (o : Reel). o.serial) reels k r d within in
     let under : (get_or reels k r).serial < r.serial = above k r within in
     omega (arith, there, under) in
     record {
       few = omega (arith, length-append reels (r ∷ []), room);
-      rising = subst IsStrictlyIncreasing (sym (map_push (λ (o : Reel). o.serial) reels r)) (rising-push (map (λ (o : Reel). o.serial) reels) r.serial are.rising below);
+      rising = subst IsStrictlyIncreasing (sym (map_push (λ (o : Reel). o.serial) reels r))
+          (rising-push (map (λ (o : Reel). o.serial) reels) r.serial are.rising below);
       each = All-push IsReel reels r are.each is;
     }

@@ -43,7 +43,14 @@ impl Model for FileReel {
 impl FileReel {
     /// The reel of `len` blocks in this file, which isn't mounted.
     pub fn new(file: File, serial: u32, capacity: u32, len: u32) -> FileReel
-        ensures { result ≡ record { serial = serial; capacity = capacity; len = len; mounted = false; blocks = None; times_read = None } }
+        ensures { result ≡ record {
+          serial = serial;
+          capacity = capacity;
+          len = len;
+          mounted = false;
+          blocks = None;
+          times_read = None;
+        } }
     {
         FileReel {
             file,

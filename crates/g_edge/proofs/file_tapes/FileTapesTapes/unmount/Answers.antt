@@ -17,7 +17,13 @@ invariant_of-self c =
 pub returns : goal.returns
 returns c =
     let place = subst (λ (rs : List Reel). IsPlaceOf c.args.serial rs c.in-Some.place) c.deref.ensures.value c.in-Some.ensures in
-    let old : Rack = record { reels = c.args.self.now.reels.items; read_faults = c.args.self.now.read_faults; write_faults = c.args.self.now.write_faults; fuse = c.args.self.now.fuse; arms = c.args.self.now.arms } in (
+    let old : Rack = record {
+      reels = c.args.self.now.reels.items;
+      read_faults = c.args.self.now.read_faults;
+      write_faults = c.args.self.now.write_faults;
+      fuse = c.args.self.now.fuse;
+      arms = c.args.self.now.arms;
+    } in (
       ap refuses_unmount (at-place _ _ _ _ place c.index.ensures) ∙ sym c.refuses_unmount.ensures ∙ c.in_default-refuses_unmount.is,
       ap (λ (rs : List Reel). let new : Rack = record old { reels = rs } in new)
           (with_reel-place _ _ _ (with_mounted false) _ _ place c.index_mut.ensures.value c.set_mounted.ensures.value),
