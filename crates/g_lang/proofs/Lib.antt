@@ -1,4 +1,6 @@
+pub mod ParseLemmas
 pub mod PartLemmas
+pub mod PieceLemmas
 pub mod PlaceLemmas
 pub mod ReadLemmas
 pub mod ReadingLemmas

@@ -83,24 +83,24 @@ byte_taken d c cs =
     (λ (o : Option State). (elim o [ None ↦ false | Some t ↦ takes t cs ]) ≡ true → ByteTaken d c cs)
     (λ opens taken. record { more = rw opens taken; part = λ p comma is. rw (opens) (let P : ℕ → Type 0 = λ n. is_part n p ≡ true in let e : depth_behind c d ≡ d + 1 = rw opens refl in subst P e is) })
     (λ no_open.
-      cond_both (c == 41) (if d == 0 then None else Some (Params (pred d))) (if is_printed c then Some (Params d) else None)
-      (λ (o : Option State). (elim o [ None ↦ false | Some t ↦ takes t cs ]) ≡ true → ByteTaken d c cs)
-      (λ closes.
-        cond_both (d == 0) None (Some (Params (pred d)))
-        (λ (o : Option State). (elim o [ None ↦ false | Some t ↦ takes t cs ]) ≡ true → ByteTaken d c cs)
-        (λ flat taken. absurd (false≢true taken))
-        (λ deep taken. record {
-          more = rw (no_open, closes) taken;
-          part = λ p comma is. let P : ℕ → Type 0 = λ n. is_part n p ≡ true in let e : depth_behind c d ≡ pred d = rw (no_open, closes) refl in rw (no_open, closes, deep) (subst P e is);
-        }))
-      (λ no_close.
-        cond_both (is_printed c) (Some (Params d)) None
-        (λ (o : Option State). (elim o [ None ↦ false | Some t ↦ takes t cs ]) ≡ true → ByteTaken d c cs)
-        (λ printed taken. record {
-          more = rw (no_open, no_close) taken;
-          part = λ p comma is. let P : ℕ → Type 0 = λ n. is_part n p ≡ true in let e : depth_behind c d ≡ d = rw (no_open, no_close) refl in rw (no_open, no_close, printed, comma) (subst P e is);
-        })
-        (λ not_printed taken. absurd (false≢true taken))))
+    cond_both (c == 41) (if d == 0 then None else Some (Params (pred d))) (if is_printed c then Some (Params d) else None)
+    (λ (o : Option State). (elim o [ None ↦ false | Some t ↦ takes t cs ]) ≡ true → ByteTaken d c cs)
+    (λ closes.
+    cond_both (d == 0) None (Some (Params (pred d)))
+    (λ (o : Option State). (elim o [ None ↦ false | Some t ↦ takes t cs ]) ≡ true → ByteTaken d c cs)
+    (λ flat taken. absurd (false≢true taken))
+    (λ deep taken. record {
+      more = rw (no_open, closes) taken;
+      part = λ p comma is. let P : ℕ → Type 0 = λ n. is_part n p ≡ true in let e : depth_behind c d ≡ pred d = rw (no_open, closes) refl in rw (no_open, closes, deep) (subst P e is);
+    }))
+    (λ no_close.
+    cond_both (is_printed c) (Some (Params d)) None
+    (λ (o : Option State). (elim o [ None ↦ false | Some t ↦ takes t cs ]) ≡ true → ByteTaken d c cs)
+    (λ printed taken. record {
+      more = rw (no_open, no_close) taken;
+      part = λ p comma is. let P : ℕ → Type 0 = λ n. is_part n p ≡ true in let e : depth_behind c d ≡ d = rw (no_open, no_close) refl in rw (no_open, no_close, printed, comma) (subst P e is);
+    })
+    (λ not_printed taken. absurd (false≢true taken))))
 
 -- parts, of which the first begins at this depth
 abbrev ArePartsFrom : ℕ → List (List ℕ) → Type 0

@@ -101,15 +101,16 @@ takes_runs s (c ∷ cs) taken = takes_on cs (λ t more. takes_runs t cs more) (s
 module _ (IsIn : List ℕ → Type 0) (reads : (text : List ℕ) → IsIn text → takes Front text ≡ true)
     (only : (text : List ℕ) → takes Front text ≡ true → IsIn text) (completes : (s : State) → takes s (completing s) ≡ true) where
   begins_by : (text : List ℕ) (n : ℕ) (stops : StopsAt Front text n) → Begins IsIn (take n text)
-  begins_by text n stops =
-      (completing stops.here,
-      only (take n text ++ completing stops.here) (takes-append Front stops.here (take n text) (completing stops.here) stops.led ∙ completes stops.here))
+  begins_by text n stops = (
+    completing stops.here,
+    only (take n text ++ completing stops.here) (takes-append Front stops.here (take n text) (completing stops.here) stops.led ∙ completes stops.here),
+  )
 
   pub wrong_place : (text : List ℕ) (place : ℕ) → wrong_from Front 0 text ≡ Some place → IsBadPlace IsIn text place
   wrong_place text place w =
       let found = stops_at Front 0 text place w in
       let stops = found.2 in
       let at_n : IsBadPlace IsIn text found.0 =
-          wrong_at step Front IsIn (λ t is_in. takes_runs Front t (reads t is_in)) text found.0 stops.here stops.within stops.led (begins_by text found.0 stops) stops.end in
+      wrong_at step Front IsIn (λ t is_in. takes_runs Front t (reads t is_in)) text found.0 stops.here stops.within stops.led (begins_by text found.0 stops) stops.end in
       let same : found.0 ≡ place = omega (arith, found.1) in
       subst (λ (m : ℕ). IsBadPlace IsIn text m) same at_n

@@ -1,14 +1,14 @@
 -- What is read of a written line is what it says.
-use Rattle.std.proofs.Common.{IfSome, List, None, Option, Some, [], ap, append-nil, append_assoc, arith, codes, cond, false, is_some, leb-true, length, length-append, map, nat_le, not, pred, refl, subst, suc, sym, true, zero, ℕ, ◌&&◌, ◌++◌, ◌+◌, ◌||◌, ◌∙◌, ◌∷◌, ◌≡◌, ◌≤◌}
+use Rattle.std.proofs.Common.{IfSome, List, None, Option, Some, [], ap, append-nil, append_assoc, arith, codes, cond, false, is_some, leb-true, length, length-append, map, nat_le, not, option_map, refl, subst, suc, sym, true, zero, ℕ, ◌&&◌, ◌++◌, ◌+◌, ◌||◌, ◌∙◌, ◌∷◌, ◌≡◌, ◌≤◌}
 use Rattle.std.proofs.lemmas.Bool.{and_from, and_parts, and_right, cond-false, cond-true, false≢true, lt-leb, not-true, or_parts}
 use Rattle.std.proofs.lemmas.List.Elements.{recursion_from_All}
 use Rattle.std.specs.List.{AllByRecursion, list_all}
-use Rattle.std.specs.Prelude.{if◌then◌else◌}
 use Rattle.g_lang.proofs.SpaceLemmas.{EndsWell, StartsWell, at_space, behind-front, digit-name_char, ends-append, front-same, front-spaces, front_of_spaces, label-no_space, letter-name_char, name_char-no_space, no_space, no_space-ends, spaces-add, spaces-two, starts-append, trim-text, trimmed-ends, trimmed-starts, word-front, word-no_space}
 use Rattle.g_lang.proofs.ValueLemmas.{are_parts, before-part, behind-part, cond-part, cond-read, not_keyword, parts-joined}
 use Rattle.g_lang.specs.Conditions.{IsCond, cond_text}
-use Rattle.g_lang.specs.How.{before_comma, behind, behind_comma, behind_word, command_read, cond_read, line_read, option_read, params_read, parts_of, verb_read}
-use Rattle.g_lang.specs.Lines.{AreParts, IsLine, IsWritten, LineSaid, Said, SaidIf, SaidVerb, SaidWhenever, Written, WrittenGoto, WrittenIf, WrittenLine, WrittenVerb, WrittenWhenever, command_text, is_verb, line_text, params_text, said_by, said_in}
+use Rattle.g_lang.specs.How.{before_comma, behind, behind_comma, behind_word, command_read, cond_read, line_read, option_read, params_read, parts_of, read_trimmed, verb_read}
+use Rattle.g_lang.specs.Lines.{AreParts, IsCommandText, IsLine, IsLineText, IsWritten, LineSaid, Said, SaidIf, SaidVerb, SaidWhenever, Written, WrittenGoto, WrittenIf, WrittenLine, WrittenVerb, WrittenWhenever, command_text, is_verb, line_text, params_text, said_by, said_in}
+use Rattle.g_lang.specs.Texts.{HasCommands, IsVerbText}
 use Rattle.g_lang.specs.Words.{is_label, is_part, joined, spaces, trimmed, without_back, without_front, word_of}
 use Rattle.g_lang.specs.declared.line.Cond.{Cond}
 use Rattle.g_name.specs.Grammar.{is_digit, is_letter, is_name_char, is_word}
@@ -77,7 +77,7 @@ verb-read name gap parts is =
     let none = word-no_space name (verb-word name is.0) in
     let at = params-at gap parts is.1 in
     let rest : behind_word (name ++ params_text gap parts) ≡ joined parts =
-        behind-front name (params_text gap parts) none at ∙ front-params gap parts is.1 in
+    behind-front name (params_text gap parts) none at ∙ front-params gap parts is.1 in
     rw (word-front name (params_text gap parts) none at, rest, params-read gap parts is.1) refl
 
 -- how many conditions and labels stand in front
@@ -148,20 +148,20 @@ command-ends (WrittenWhenever cond inner) is =
 command-ends (WrittenVerb name gap parts) is = verb-ends name gap parts (verb-word name is.0) is.1
 
 -- a command has fewer conditions than bytes
-need-length : (w : Written) → need w ≤ pred (length (command_text w))
+need-length : (w : Written) → need w ≤ length (command_text w)
 need-length (WrittenGoto label) = omega arith
 need-length (WrittenIf cond inner) = omega (arith, need-length inner, length-append (cond_text cond) (44 ∷ command_text inner))
 need-length (WrittenWhenever cond inner) = omega arith
 need-length (WrittenVerb name gap parts) = omega arith
 
-some-read : (t : List ℕ) → LetterFirst t → option_read t ≡ Some (command_read (pred (length t)) t)
+some-read : (t : List ℕ) → LetterFirst t → option_read t ≡ Some (command_read (length t) t)
 some-read [] letter = absurd letter
 some-read (c ∷ cs) letter = refl
 
 pub option-read : (w : Written) → IsWritten w → option_read (command_text w) ≡ Some (said_by w)
 option-read w is =
     some-read (command_text w) (command-letter w is)
-    ∙ ap (λ (s : Said). Some s) (command-read (pred (length (command_text w))) w is (need-length w))
+    ∙ ap (λ (s : Said). Some s) (command-read (length (command_text w)) w is (need-length w))
 
 no_label : (t : List ℕ) → LetterFirst t → is_label (word_of t) ≡ false
 no_label [] letter = absurd letter
@@ -180,65 +180,128 @@ labelled t = record { label = Some (word_of t); command = option_read (behind_wo
 abbrev bare : List ℕ → LineSaid
 bare t = record { label = None; command = option_read t }
 
-abbrev read_trimmed : List ℕ → LineSaid
-read_trimmed t = if is_label (word_of t) then labelled t else bare t
-
 by_label : (t label : List ℕ) (o : Option Said) → is_label label ≡ true → word_of t ≡ label → option_read (behind_word t) ≡ o
-    → (said : LineSaid) → said ≡ record { label = Some label; command = o } → read_trimmed t ≡ said
-by_label t label o is word more said same =
+    → read_trimmed t ≡ record { label = Some label; command = o }
+by_label t label o is word more =
     let holds : is_label (word_of t) ≡ true = ap is_label word ∙ is in
-    cond-true (is_label (word_of t)) (labelled t) (bare t) holds
-    ∙ (let e : labelled t ≡ record { label = Some label; command = o } = rw (word, more) refl in e) ∙ sym same
+    cond-true (is_label (word_of t)) (labelled t) (bare t) holds ∙ rw (word, more) refl
 
-by_command : (t : List ℕ) (o : Option Said) → is_label (word_of t) ≡ false → option_read t ≡ o
-    → (said : LineSaid) → said ≡ record { label = None; command = o } → read_trimmed t ≡ said
-by_command t o none more said same =
-    cond-false (is_label (word_of t)) (labelled t) (bare t) none
-    ∙ (let e : bare t ≡ record { label = None; command = o } = rw more refl in e) ∙ sym same
+by_command : (t : List ℕ) (o : Option Said) → is_label (word_of t) ≡ false → option_read t ≡ o → read_trimmed t ≡ record { label = None; command = o }
+by_command t o none more = cond-false (is_label (word_of t)) (labelled t) (bare t) none ∙ rw more refl
 
 abbrev the_line : ℕ → Option (List ℕ) → ℕ → Option Written → ℕ → WrittenLine
 the_line front label gap command back = record { front = front; label = label; gap = gap; command = command; back = back }
 
-blank_trimmed : (front gap back : ℕ) → trimmed (spaces front ++ (spaces gap ++ spaces back)) ≡ []
-blank_trimmed front gap back =
-    ap without_back (front-spaces front (spaces gap ++ spaces back) ∙ front-spaces gap (spaces back) ∙ front_of_spaces back)
+-- what is cut out of a line
+abbrev CutAs : Option (List ℕ) → Option Written → List ℕ → Type 0
+CutAs None None t = t ≡ []
+CutAs None (Some w) t = t ≡ command_text w
+CutAs (Some label) None t = (word_of t ≡ label) × (behind_word t ≡ [])
+CutAs (Some label) (Some w) t = (word_of t ≡ label) × (behind_word t ≡ command_text w)
 
-line-read-by : (front : ℕ) (label : Option (List ℕ)) (gap : ℕ) (command : Option Written) (back : ℕ) → IfSome label (λ label. is_label label ≡ true) → IfSome command IsWritten
-    → ((is_some label && is_some command) ≡ true → 1 ≤ gap)
-    → read_trimmed (trimmed (line_text (the_line front label gap command back))) ≡ said_in (the_line front label gap command back)
-line-read-by front None gap None back is_label_ is_command apart = rw (blank_trimmed front gap back) refl
-line-read-by front None gap (Some w) back is_label_ is_command apart =
-    let t : trimmed (line_text (the_line front None gap (Some w) back)) ≡ command_text w =
-        ap trimmed (spaces-add front gap (command_text w ++ spaces back))
-        ∙ trim-text (front + gap) back (command_text w) (letter-starts (command_text w) (command-letter w is_command)) (command-ends w is_command) in
-    ap read_trimmed t
-    ∙ by_command (command_text w) (Some (said_by w)) (no_label (command_text w) (command-letter w is_command)) (option-read w is_command) _ refl
-line-read-by front (Some label) gap None back is_label_ is_command apart =
-    let none = label-no_space label is_label_ in
+cut_as : (front : ℕ) (label : Option (List ℕ)) (gap : ℕ) (command : Option Written) (back : ℕ) → IfSome label (λ label. is_label label ≡ true) → IfSome command IsWritten
+    → ((is_some label && is_some command) ≡ true → 1 ≤ gap) → CutAs label command (trimmed (line_text (the_line front label gap command back)))
+cut_as front None gap None back label_is command_is apart =
+    ap without_back (front-spaces front (spaces gap ++ spaces back) ∙ front-spaces gap (spaces back) ∙ front_of_spaces back)
+cut_as front None gap (Some w) back label_is command_is apart =
+    ap trimmed (spaces-add front gap (command_text w ++ spaces back))
+    ∙ trim-text (front + gap) back (command_text w) (letter-starts (command_text w) (command-letter w command_is)) (command-ends w command_is)
+cut_as front (Some label) gap None back label_is command_is apart =
+    let none = label-no_space label label_is in
     let t : trimmed (line_text (the_line front (Some label) gap None back)) ≡ label =
-        ap (λ (ts : List ℕ). trimmed (spaces front ++ (label ++ ts))) (spaces-two gap back)
-        ∙ trim-text front (gap + back) label (label-starts label is_label_) (label-ends label is_label_) in
+    ap (λ (ts : List ℕ). trimmed (spaces front ++ (label ++ ts))) (spaces-two gap back)
+    ∙ trim-text front (gap + back) label (label-starts label label_is) (label-ends label label_is) in
     let word : word_of label ≡ label = sym (ap word_of (append-nil label)) ∙ word-front label [] none refl in
     let rest : behind_word label ≡ [] = sym (ap behind_word (append-nil label)) ∙ behind-front label [] none refl in
-    ap read_trimmed t ∙ by_label label label None is_label_ word (ap option_read rest) _ refl
-line-read-by front (Some label) zero (Some w) back is_label_ is_command apart = absurd (let h = apart refl in omega (arith, h))
-line-read-by front (Some label) (suc gap) (Some w) back is_label_ is_command apart =
-    let none = label-no_space label is_label_ in
+    (ap word_of t ∙ word, ap behind_word t ∙ rest)
+cut_as front (Some label) zero (Some w) back label_is command_is apart = absurd (let h = apart refl in omega (arith, h))
+cut_as front (Some label) (suc gap) (Some w) back label_is command_is apart =
+    let none = label-no_space label label_is in
     let whole = label ++ (spaces (suc gap) ++ command_text w) in
     let grouped : label ++ (spaces (suc gap) ++ (command_text w ++ spaces back)) ≡ whole ++ spaces back =
-        ap (λ (ts : List ℕ). label ++ ts) (sym (append_assoc (spaces (suc gap)) (command_text w) (spaces back)))
-        ∙ sym (append_assoc label (spaces (suc gap) ++ command_text w) (spaces back)) in
+    ap (λ (ts : List ℕ). label ++ ts) (sym (append_assoc (spaces (suc gap)) (command_text w) (spaces back)))
+    ∙ sym (append_assoc label (spaces (suc gap) ++ command_text w) (spaces back)) in
     let ends : EndsWell whole =
-        ends-append label (spaces (suc gap) ++ command_text w) (ends-append (spaces (suc gap)) (command_text w) (command-ends w is_command)) in
+    ends-append label (spaces (suc gap) ++ command_text w) (ends-append (spaces (suc gap)) (command_text w) (command-ends w command_is)) in
     let t : trimmed (line_text (the_line front (Some label) (suc gap) (Some w) back)) ≡ whole =
-        ap (λ (ts : List ℕ). trimmed (spaces front ++ ts)) grouped
-        ∙ trim-text front back whole (starts-append label (spaces (suc gap) ++ command_text w) (label-starts label is_label_)) ends in
+    ap (λ (ts : List ℕ). trimmed (spaces front ++ ts)) grouped
+    ∙ trim-text front back whole (starts-append label (spaces (suc gap) ++ command_text w) (label-starts label label_is)) ends in
     let rest : behind_word whole ≡ command_text w =
-        behind-front label (spaces (suc gap) ++ command_text w) none refl ∙ front-spaces (suc gap) (command_text w)
-        ∙ front-same (command_text w) (letter-starts (command_text w) (command-letter w is_command)) in
-    ap read_trimmed t
-    ∙ by_label whole label (Some (said_by w)) is_label_ (word-front label (spaces (suc gap) ++ command_text w) none refl) (ap option_read rest ∙ option-read w is_command) _ refl
+    behind-front label (spaces (suc gap) ++ command_text w) none refl ∙ front-spaces (suc gap) (command_text w)
+    ∙ front-same (command_text w) (letter-starts (command_text w) (command-letter w command_is)) in
+    (ap word_of t ∙ word-front label (spaces (suc gap) ++ command_text w) none refl, ap behind_word t ∙ rest)
+
+read_cut : (label : Option (List ℕ)) (command : Option Written) (t : List ℕ) → IfSome label (λ label. is_label label ≡ true) → IfSome command IsWritten
+    → CutAs label command t → read_trimmed t ≡ record { label = label; command = option_map said_by command }
+read_cut None None t label_is command_is cut = ap read_trimmed cut
+read_cut None (Some w) t label_is command_is cut =
+    ap read_trimmed cut ∙ by_command (command_text w) (Some (said_by w)) (no_label (command_text w) (command-letter w command_is)) (option-read w command_is)
+read_cut (Some label) None t label_is command_is cut = by_label t label None label_is cut.0 (ap option_read cut.1)
+read_cut (Some label) (Some w) t label_is command_is cut = by_label t label (Some (said_by w)) label_is cut.0 (ap option_read cut.1 ∙ option-read w command_is)
 
 -- WHAT IS READ of a written line is what it says
 pub line-read : (l : WrittenLine) → IsLine l → line_read (line_text l) ≡ said_in l
-line-read l is = line-read-by l.front l.label l.gap l.command l.back is.label is.command is.apart
+line-read l is =
+    read_cut l.label l.command (trimmed (line_text l)) is.label is.command (cut_as l.front l.label l.gap l.command l.back is.label is.command is.apart)
+
+commands_cut : (label : Option (List ℕ)) (command : Option Written) (t : List ℕ) → IfSome label (λ label. is_label label ≡ true) → IfSome command IsWritten
+    → CutAs label command t → HasCommands t
+commands_cut None None t label_is command_is cut =
+    (λ is some. absurd (some (ap behind_word cut)), λ isnt some. absurd (some cut))
+commands_cut None (Some w) t label_is command_is cut = (
+  λ is some. absurd (false≢true (sym (ap (λ (ts : List ℕ). is_label (word_of ts)) cut ∙ no_label (command_text w) (command-letter w command_is)) ∙ is)),
+  λ isnt some. (w, command_is, cut),
+)
+commands_cut (Some label) None t label_is command_is cut =
+    (λ is some. absurd (some cut.1), λ isnt some. absurd (false≢true (sym isnt ∙ ap is_label cut.0 ∙ label_is)))
+commands_cut (Some label) (Some w) t label_is command_is cut =
+    (λ is some. (w, command_is, cut.1), λ isnt some. absurd (false≢true (sym isnt ∙ ap is_label cut.0 ∙ label_is)))
+
+-- what isn't a label in a line is a command
+pub line-commands : (text : List ℕ) → IsLineText text → HasCommands (trimmed text)
+line-commands text line =
+    let l = line.0 in
+    let is = line.1 in
+    subst (λ (t : List ℕ). HasCommands (trimmed t)) (sym line.2)
+    (commands_cut l.label l.command (trimmed (line_text l)) is.label is.command (cut_as l.front l.label l.gap l.command l.back is.label is.command is.apart))
+
+-- which command a text is
+pub if-inside : (t rest : List ℕ) → IsCommandText t → behind (codes "IF ") t ≡ Some rest → IsCommandText (behind_comma 0 rest)
+if-inside t rest command front = inside command.0 command.1 (ap (behind (codes "IF ")) (sym command.2) ∙ front)
+  where
+    inside : (w : Written) → IsWritten w → behind (codes "IF ") (command_text w) ≡ Some rest → IsCommandText (behind_comma 0 rest)
+    inside (WrittenGoto label) is front = absurd cc
+    inside (WrittenIf cond w) is front =
+        let same : cond_text cond ++ (44 ∷ command_text w) ≡ rest = cc in
+        (w, is.1, ap (behind_comma 0) (sym same) ∙ behind-part 0 (cond_text cond) (command_text w) (cond-part cond.negated cond.test is.0))
+    inside (WrittenWhenever cond w) is front = absurd cc
+    inside (WrittenVerb name gap parts) is front =
+        let none = not_keyword (codes "IF") name (params_text gap parts) refl (word-no_space name (verb-word name is.0)) (params-at gap parts is.1) (verb-other name is.0).0 in
+        let gone = sym none ∙ front in
+        absurd cc
+
+pub goto-label : (t label : List ℕ) → IsCommandText t → behind (codes "GOTO ") t ≡ Some label → is_label label ≡ true
+goto-label t label command front = inside command.0 command.1 (ap (behind (codes "GOTO ")) (sym command.2) ∙ front)
+  where
+    inside : (w : Written) → IsWritten w → behind (codes "GOTO ") (command_text w) ≡ Some label → is_label label ≡ true
+    inside (WrittenGoto other) is front = let same : other ≡ label = cc in ap is_label (sym same) ∙ is
+    inside (WrittenIf cond w) is front = absurd cc
+    inside (WrittenWhenever cond w) is front = absurd cc
+    inside (WrittenVerb name gap parts) is front =
+        let none = not_keyword (codes "GOTO") name (params_text gap parts) refl (word-no_space name (verb-word name is.0)) (params-at gap parts is.1) (verb-other name is.0).2 in
+        let gone = sym none ∙ front in
+        absurd cc
+
+pub verb-text : (t : List ℕ) → IsCommandText t → behind (codes "IF ") t ≡ None → behind (codes "WHENEVER ") t ≡ None → behind (codes "GOTO ") t ≡ None → IsVerbText t
+verb-text t command no_if no_whenever no_goto =
+    subst IsVerbText (sym command.2)
+    (inside command.0 command.1 (ap (behind (codes "IF ")) (sym command.2) ∙ no_if) (ap (behind (codes "WHENEVER ")) (sym command.2) ∙ no_whenever)
+    (ap (behind (codes "GOTO ")) (sym command.2) ∙ no_goto))
+  where
+    inside : (w : Written) → IsWritten w → behind (codes "IF ") (command_text w) ≡ None → behind (codes "WHENEVER ") (command_text w) ≡ None
+        → behind (codes "GOTO ") (command_text w) ≡ None → IsVerbText (command_text w)
+    inside (WrittenGoto label) is a b c = absurd cc
+    inside (WrittenIf cond w) is a b c = absurd cc
+    inside (WrittenWhenever cond w) is a b c = absurd cc
+    inside (WrittenVerb name gap parts) is a b c =
+        ap is_word (word-front name (params_text gap parts) (word-no_space name (verb-word name is.0)) (params-at gap parts is.1)) ∙ verb-word name is.0

@@ -20,13 +20,13 @@ word_completes : (first : ℕ) (word : List ℕ) (inner : Bool) → may_end (Wor
 word_completes first word inner never =
     let name = first ∷ word in
     let some : ((same_text name (codes "IF") || same_text name (codes "WHENEVER") || same_text name (codes "GOTO")) || (same_text name (codes "INPUT") && inner)) ≡ true =
-        not-false _ never in
+    not-false _ never in
     ⊎_elim
     (λ three. ⊎_elim
-      (λ two. ⊎_elim (keyword_completes (codes "IF") name inner refl) (keyword_completes (codes "WHENEVER") name inner refl)
-      (or_cases (same_text name (codes "IF")) (same_text name (codes "WHENEVER")) two))
-      (keyword_completes (codes "GOTO") name inner refl)
-      (or_cases (same_text name (codes "IF") || same_text name (codes "WHENEVER")) (same_text name (codes "GOTO")) three))
+    (λ two. ⊎_elim (keyword_completes (codes "IF") name inner refl) (keyword_completes (codes "WHENEVER") name inner refl)
+    (or_cases (same_text name (codes "IF")) (same_text name (codes "WHENEVER")) two))
+    (keyword_completes (codes "GOTO") name inner refl)
+    (or_cases (same_text name (codes "IF") || same_text name (codes "WHENEVER")) (same_text name (codes "GOTO")) three))
     (λ input. keyword_completes (codes "INPUT") name inner refl (and_parts (same_text name (codes "INPUT")) inner input).0)
     (or_cases (same_text name (codes "IF") || same_text name (codes "WHENEVER") || same_text name (codes "GOTO")) (same_text name (codes "INPUT") && inner) some)
 

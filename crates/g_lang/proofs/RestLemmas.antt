@@ -153,16 +153,19 @@ from_command text r =
 
 from_label : (c : ℕ) (cs : List ℕ) → is_digit c ≡ true → LabelRest 1 cs → IsLineText (c ∷ cs)
 from_label c cs digit r =
-    let short : length r.chars ≤ 11 = let h = r.fits in omega (arith, h) in
-    (the_line 0 (Some (c ∷ r.chars)) r.gap r.command r.back,
-    record { label = and_from _ _ (and_from _ _ digit (le-leb (length r.chars) 11 short)) r.all; command = r.is; apart = r.apart },
-    before c cs (r.chars ++ (spaces r.gap ++ (option_text r.command ++ spaces r.back))) r.same)
+    let short : length r.chars ≤ 11 = let h = r.fits in omega (arith, h) in (
+      the_line 0 (Some (c ∷ r.chars)) r.gap r.command r.back,
+      record { label = and_from _ _ (and_from _ _ digit (le-leb (length r.chars) 11 short)) r.all; command = r.is; apart = r.apart },
+      before c cs (r.chars ++ (spaces r.gap ++ (option_text r.command ++ spaces r.back))) r.same,
+    )
 
 from_space : (c : ℕ) (cs : List ℕ) → (c == 32) ≡ true → IsLineText cs → IsLineText (c ∷ cs)
 from_space c cs space r =
-    let l = r.0 in
-    (the_line (suc l.front) l.label l.gap l.command l.back, record { label = r.1.label; command = r.1.command; apart = r.1.apart },
-    at_byte c 32 cs (line_text l) space r.2)
+    let l = r.0 in (
+      the_line (suc l.front) l.label l.gap l.command l.back,
+      record { label = r.1.label; command = r.1.command; apart = r.1.apart },
+      at_byte c 32 cs (line_text l) space r.2,
+    )
 
 goes_word : (inner : Bool) (c : ℕ) (cs : List ℕ) → Goes (Word [] inner) c cs (in_word [] inner c)
 goes_word inner c cs =
@@ -242,8 +245,8 @@ cond_command : (inner : Bool) (cs : List ℕ) (r : CondRest cs) → CommandRest 
 cond_command inner cs r =
     let w = r.rest.rest.written in
     let behind_cond : cs ≡ (cond_text r.cond ++ (44 ∷ command_text w)) ++ spaces r.rest.rest.back =
-        r.same ∙ ap (λ (ts : List ℕ). cond_text r.cond ++ ts) (r.rest.same ∙ ap (λ (ts : List ℕ). 44 ∷ ts) r.rest.rest.same)
-        ∙ sym (append_assoc (cond_text r.cond) (44 ∷ command_text w) (spaces r.rest.rest.back)) in
+    r.same ∙ ap (λ (ts : List ℕ). cond_text r.cond ++ ts) (r.rest.same ∙ ap (λ (ts : List ℕ). 44 ∷ ts) r.rest.rest.same)
+    ∙ sym (append_assoc (cond_text r.cond) (44 ∷ command_text w) (spaces r.rest.rest.back)) in
     record {
       written = WrittenIf r.cond w;
       is = (r.is, r.rest.rest.is, and_true (is_input w) r.rest.rest.other);
@@ -256,8 +259,8 @@ whenever_command : (inner : Bool) (cs : List ℕ) (r : CondRest cs) → CommandR
 whenever_command inner cs r =
     let w = r.rest.rest.written in
     let behind_cond : cs ≡ (cond_text r.cond ++ (44 ∷ command_text w)) ++ spaces r.rest.rest.back =
-        r.same ∙ ap (λ (ts : List ℕ). cond_text r.cond ++ ts) (r.rest.same ∙ ap (λ (ts : List ℕ). 44 ∷ ts) r.rest.rest.same)
-        ∙ sym (append_assoc (cond_text r.cond) (44 ∷ command_text w) (spaces r.rest.rest.back)) in
+    r.same ∙ ap (λ (ts : List ℕ). cond_text r.cond ++ ts) (r.rest.same ∙ ap (λ (ts : List ℕ). 44 ∷ ts) r.rest.rest.same)
+    ∙ sym (append_assoc (cond_text r.cond) (44 ∷ command_text w) (spaces r.rest.rest.back)) in
     record {
       written = WrittenWhenever r.cond w;
       is = (r.is, r.rest.rest.is, and_true (is_input w) r.rest.rest.other);
@@ -324,15 +327,15 @@ goes_behind_word first word inner c cs space =
     (if same_text name (codes "GOTO") then Some ALabel else if same_text name (codes "INPUT") && inner then None else Some VerbGap)
     (Goes (Word name inner) c cs)
     (λ either r may.
-      ⊎_elim (λ is. keyword (codes "IF") name inner c cs is space (cond_command inner cs r)) (λ is. keyword (codes "WHENEVER") name inner c cs is space (whenever_command inner cs r))
-      (or_cases (same_text name (codes "IF")) (same_text name (codes "WHENEVER")) either))
+    ⊎_elim (λ is. keyword (codes "IF") name inner c cs is space (cond_command inner cs r)) (λ is. keyword (codes "WHENEVER") name inner c cs is space (whenever_command inner cs r))
+    (or_cases (same_text name (codes "IF")) (same_text name (codes "WHENEVER")) either))
     (λ neither.
-      let others = or_parts (same_text name (codes "IF")) (same_text name (codes "WHENEVER")) neither in
-      cond_both (same_text name (codes "GOTO")) (Some ALabel) (if same_text name (codes "INPUT") && inner then None else Some VerbGap) (Goes (Word name inner) c cs)
-      (λ is r may. keyword (codes "GOTO") name inner c cs is space (goto_command inner cs r))
-      (λ no_goto.
-        cond_both (same_text name (codes "INPUT") && inner) None (Some VerbGap) (Goes (Word name inner) c cs) (λ _. tt)
-        (λ other r may. verb_params inner name c cs space (verb_of name may others.0 others.1 no_goto) other r)))
+    let others = or_parts (same_text name (codes "IF")) (same_text name (codes "WHENEVER")) neither in
+    cond_both (same_text name (codes "GOTO")) (Some ALabel) (if same_text name (codes "INPUT") && inner then None else Some VerbGap) (Goes (Word name inner) c cs)
+    (λ is r may. keyword (codes "GOTO") name inner c cs is space (goto_command inner cs r))
+    (λ no_goto.
+    cond_both (same_text name (codes "INPUT") && inner) None (Some VerbGap) (Goes (Word name inner) c cs) (λ _. tt)
+    (λ other r may. verb_params inner name c cs space (verb_of name may others.0 others.1 no_goto) other r)))
 
 goes_in_word : (first : ℕ) (word : List ℕ) (inner : Bool) (c : ℕ) (cs : List ℕ) → Goes (Word (first ∷ word) inner) c cs (in_word (first ∷ word) inner c)
 goes_in_word first word inner c cs =
@@ -383,7 +386,7 @@ test_present c cs is r = record {
   more = r.rest.rest.0;
   rest = r.rest.rest.1;
   same = at_byte c 80 cs (codes "RESENT(%" ++ r.more) is r.same
-  ∙ ap (λ (ts : List ℕ). codes "PRESENT(%" ++ ts) (r.rest.same ∙ ap (λ (ts : List ℕ). r.rest.letter ∷ ts) r.rest.rest.2);
+      ∙ ap (λ (ts : List ℕ). codes "PRESENT(%" ++ ts) (r.rest.same ∙ ap (λ (ts : List ℕ). r.rest.letter ∷ ts) r.rest.rest.2);
 }
 
 test_absent : (c : ℕ) (cs : List ℕ) → (c == 65) ≡ true → FixedRest (codes "BSENT(%") (ALetter false) cs → TestRest (c ∷ cs)
@@ -393,7 +396,7 @@ test_absent c cs is r = record {
   more = r.rest.rest.0;
   rest = r.rest.rest.1;
   same = at_byte c 65 cs (codes "BSENT(%" ++ r.more) is r.same
-  ∙ ap (λ (ts : List ℕ). codes "ABSENT(%" ++ ts) (r.rest.same ∙ ap (λ (ts : List ℕ). r.rest.letter ∷ ts) r.rest.rest.2);
+      ∙ ap (λ (ts : List ℕ). codes "ABSENT(%" ++ ts) (r.rest.same ∙ ap (λ (ts : List ℕ). r.rest.letter ∷ ts) r.rest.rest.2);
 }
 
 test_string : (c : ℕ) (cs : List ℕ) → (c == 83) ≡ true → FixedRest (codes "TRING(%") (ALetter true) cs → TestRest (c ∷ cs)
@@ -406,8 +409,8 @@ test_string c cs is r =
       more = t.more;
       rest = t.rest;
       same = at_byte c 83 cs (codes "TRING(%" ++ r.more) is r.same
-      ∙ ap (λ (ts : List ℕ). codes "STRING(%" ++ ts) (r.rest.same ∙ ap (λ (ts : List ℕ). letter ∷ ts) r.rest.rest.2)
-      ∙ bracketed (codes "STRING(%" ++ (letter ∷ codes ")=(")) r.rest.rest.0 t;
+          ∙ ap (λ (ts : List ℕ). codes "STRING(%" ++ ts) (r.rest.same ∙ ap (λ (ts : List ℕ). letter ∷ ts) r.rest.rest.2)
+          ∙ bracketed (codes "STRING(%" ++ (letter ∷ codes ")=(")) r.rest.rest.0 t;
     }
 
 test_not : (c : ℕ) (cs : List ℕ) → (c == 78) ≡ true → FixedRest (codes "OT ") ATest cs → CondRest (c ∷ cs)
@@ -496,13 +499,13 @@ goes_a_label : (c : ℕ) (cs : List ℕ) → Goes ALabel c cs (step c ALabel)
 goes_a_label c cs =
     cond_both (is_digit c) (Some (InGoto 1)) None (Goes ALabel c cs)
     (λ digit r.
-      let short : length r.chars ≤ 11 = let h = r.fits in omega (arith, h) in
-      record {
-        label = c ∷ r.chars;
-        is = and_from _ _ (and_from _ _ digit (le-leb (length r.chars) 11 short)) r.all;
-        back = r.back;
-        same = before c cs (r.chars ++ spaces r.back) r.same;
-      })
+    let short : length r.chars ≤ 11 = let h = r.fits in omega (arith, h) in
+    record {
+      label = c ∷ r.chars;
+      is = and_from _ _ (and_from _ _ digit (le-leb (length r.chars) 11 short)) r.all;
+      back = r.back;
+      same = before c cs (r.chars ++ spaces r.back) r.same;
+    })
     (λ _. tt)
 
 goto_char : (n c : ℕ) (cs : List ℕ) → (is_name_char c && nat_lt n 12) ≡ true → GotoMore (n + 1) cs → GotoMore n (c ∷ cs)

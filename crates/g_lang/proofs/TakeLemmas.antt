@@ -149,12 +149,12 @@ part_goes d c cs =
     (λ (b : Bool). b ≡ true → in_params d c ≡ Some (Params (depth_behind c d)))
     (λ open_bracket is. rw open_bracket refl)
     (λ no_open.
-      cond_both (c == 41) (not (d == 0) && is_part (pred d) cs) (is_printed c && not (c == 44 && d == 0) && is_part d cs)
-      (λ (b : Bool). b ≡ true → in_params d c ≡ Some (Params (depth_behind c d)))
-      (λ close_bracket is. rw (no_open, close_bracket, not-true _ (and_parts (not (d == 0)) (is_part (pred d) cs) is).0) refl)
-      (λ no_close is.
-        let parts = and_parts (is_printed c && not (c == 44 && d == 0)) (is_part d cs) is in
-        rw (no_open, no_close, (and_parts (is_printed c) (not (c == 44 && d == 0)) parts.0).0) refl))
+    cond_both (c == 41) (not (d == 0) && is_part (pred d) cs) (is_printed c && not (c == 44 && d == 0) && is_part d cs)
+    (λ (b : Bool). b ≡ true → in_params d c ≡ Some (Params (depth_behind c d)))
+    (λ close_bracket is. rw (no_open, close_bracket, not-true _ (and_parts (not (d == 0)) (is_part (pred d) cs) is).0) refl)
+    (λ no_close is.
+    let parts = and_parts (is_printed c && not (c == 44 && d == 0)) (is_part d cs) is in
+    rw (no_open, no_close, (and_parts (is_printed c) (not (c == 44 && d == 0)) parts.0).0) refl))
 
 part_taken : (d : ℕ) (xs t : List ℕ) → is_part d xs ≡ true → takes (Params d) (xs ++ t) ≡ takes (Params 0) t
 part_taken d [] t is = ap (λ (n : ℕ). takes (Params n) t) (eqb-true d 0 is)

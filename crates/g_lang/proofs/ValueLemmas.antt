@@ -51,17 +51,17 @@ part_byte d c cs =
     cond_both (c == 40) (is_part (d + 1) cs) (if c == 41 then not (d == 0) && is_part (pred d) cs else is_printed c && not (c == 44 && d == 0) && is_part d cs)
     (λ (b : Bool). b ≡ true → ((c == 44 && d == 0) ≡ false) × (is_part (depth_behind c d) cs ≡ true))
     (λ open_bracket is.
-      let other : (c == 44) ≡ false = ne_eqb c 44 (λ e. let f = eqb-true c 40 open_bracket in absurd (omega (arith, e, f))) in
-      (and_left _ _ other, rw open_bracket is))
+    let other : (c == 44) ≡ false = ne_eqb c 44 (λ e. let f = eqb-true c 40 open_bracket in absurd (omega (arith, e, f))) in
+    (and_left _ _ other, rw open_bracket is))
     (λ no_open.
-      cond_both (c == 41) (not (d == 0) && is_part (pred d) cs) (is_printed c && not (c == 44 && d == 0) && is_part d cs)
-      (λ (b : Bool). b ≡ true → ((c == 44 && d == 0) ≡ false) × (is_part (depth_behind c d) cs ≡ true))
-      (λ close_bracket is.
-        let other : (c == 44) ≡ false = ne_eqb c 44 (λ e. let f = eqb-true c 41 close_bracket in absurd (omega (arith, e, f))) in
-        (and_left _ _ other, rw (no_open, close_bracket) (and_parts _ _ is).1))
-      (λ no_close is.
-        let parts = and_parts (is_printed c && not (c == 44 && d == 0)) (is_part d cs) is in
-        (not-true _ (and_parts (is_printed c) (not (c == 44 && d == 0)) parts.0).1, rw (no_open, no_close) parts.1)))
+    cond_both (c == 41) (not (d == 0) && is_part (pred d) cs) (is_printed c && not (c == 44 && d == 0) && is_part d cs)
+    (λ (b : Bool). b ≡ true → ((c == 44 && d == 0) ≡ false) × (is_part (depth_behind c d) cs ≡ true))
+    (λ close_bracket is.
+    let other : (c == 44) ≡ false = ne_eqb c 44 (λ e. let f = eqb-true c 41 close_bracket in absurd (omega (arith, e, f))) in
+    (and_left _ _ other, rw (no_open, close_bracket) (and_parts _ _ is).1))
+    (λ no_close is.
+    let parts = and_parts (is_printed c && not (c == 44 && d == 0)) (is_part d cs) is in
+    (not-true _ (and_parts (is_printed c) (not (c == 44 && d == 0)) parts.0).1, rw (no_open, no_close) parts.1)))
 
 pub before-part : (d : ℕ) (xs t : List ℕ) → is_part d xs ≡ true → before_comma d (xs ++ 44 ∷ t) ≡ xs
 before-part d [] t is = let zero_deep : (d == 0) ≡ true = is in rw zero_deep refl
@@ -103,9 +103,12 @@ plain-part d (c ∷ text) rest plain =
 letter_is : (letter : ℕ) → is_param_letter letter ≡ true → ((letter == 40) ≡ false) × ((letter == 41) ≡ false) × ((letter == 44) ≡ false) × (is_printed letter ≡ true)
 letter_is letter is =
     let low : 65 ≤ letter = leb-true 65 letter (and_parts (nat_le 65 letter) (nat_le letter 88) is).0 in
-    let high : letter ≤ 88 = leb-true letter 88 (and_parts (nat_le 65 letter) (nat_le letter 88) is).1 in
-    (ne_eqb letter 40 (λ e. absurd (omega (arith, e))), ne_eqb letter 41 (λ e. absurd (omega (arith, e))), ne_eqb letter 44 (λ e. absurd (omega (arith, e))),
-    and_from _ _ (le-leb 32 letter (omega arith)) (le-leb letter 126 (omega arith)))
+    let high : letter ≤ 88 = leb-true letter 88 (and_parts (nat_le 65 letter) (nat_le letter 88) is).1 in (
+      ne_eqb letter 40 (λ e. absurd (omega (arith, e))),
+      ne_eqb letter 41 (λ e. absurd (omega (arith, e))),
+      ne_eqb letter 44 (λ e. absurd (omega (arith, e))),
+      and_from _ _ (le-leb 32 letter (omega arith)) (le-leb letter 126 (omega arith)),
+    )
 
 letter-part : (d letter : ℕ) (rest : List ℕ) → is_param_letter letter ≡ true → is_part d (letter ∷ rest) ≡ is_part d rest
 letter-part d letter rest is =

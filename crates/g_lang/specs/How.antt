@@ -181,30 +181,31 @@ abbrev pub letter_of : List ℕ → ℕ
 letter_of [] = 65
 letter_of (c ∷ cs) = c
 
+-- behind a letter and `)=(`
+abbrev pub behind_equals : List ℕ → List ℕ
+behind_equals (letter ∷ a ∷ b ∷ c ∷ rest) = rest
+behind_equals rest = []
+
+abbrev pub letter_test_read : List ℕ → Test
+letter_test_read text = elim (behind (codes "PRESENT(%") text) [
+  | Some rest ↦ Present (letter_of rest)
+  | None ↦ elim (behind (codes "ABSENT(%") text) [
+    | Some rest ↦ Absent (letter_of rest)
+    | None ↦ elim (behind (codes "STRING(%") text) [
+      | Some rest ↦ Equals (letter_of rest) (without_last (behind_equals rest))
+      | None ↦ Failed
+    ]
+  ]
+]
+
 abbrev pub test_read : List ℕ → Test
 test_read text =
     if same_text text (codes "COMMAND ERROR") then CommandError
     else if same_text text (codes "FAILED") then Failed
     else elim (behind (codes "HALTED(") text) [
       | Some rest ↦ Halted (without_last rest)
-      | None ↦ elim (behind (codes "DELETED(") text) [
-        | Some rest ↦ Deleted (without_last rest)
-        | None ↦ elim (behind (codes "PRESENT(%") text) [
-          | Some rest ↦ Present (letter_of rest)
-          | None ↦ elim (behind (codes "ABSENT(%") text) [
-            | Some rest ↦ Absent (letter_of rest)
-            | None ↦ elim (behind (codes "STRING(%") text) [
-              | Some rest ↦ Equals (letter_of rest) (without_last (behind_equals rest))
-              | None ↦ Failed
-            ]
-          ]
-        ]
-      ]
+      | None ↦ elim (behind (codes "DELETED(") text) [ Some rest ↦ Deleted (without_last rest) | None ↦ letter_test_read text ]
     ]
-  where
-    behind_equals : List ℕ → List ℕ
-    behind_equals (letter ∷ a ∷ b ∷ c ∷ rest) = rest
-    behind_equals rest = []
 
 abbrev pub cond_read : List ℕ → Cond
 cond_read text = elim (behind (codes "NOT ") text) [
@@ -236,14 +237,16 @@ command_read (suc n) text = elim (behind (codes "IF ") text) [
 
 abbrev pub option_read : List ℕ → Option Said
 option_read [] = None
-option_read (c ∷ cs) = Some (command_read (length cs) (c ∷ cs))
+option_read (c ∷ cs) = Some (command_read (suc (length cs)) (c ∷ cs))
 
--- what a line of the grammar says
+-- what a line of the grammar says, once the spaces at its ends are gone
+abbrev pub read_trimmed : List ℕ → LineSaid
+read_trimmed text =
+    if is_label (word_of text) then record { label = Some (word_of text); command = option_read (behind_word text) }
+    else record { label = None; command = option_read text }
+
 abbrev pub line_read : List ℕ → LineSaid
-line_read text =
-    if is_label (word_of (trimmed text))
-    then record { label = Some (word_of (trimmed text)); command = option_read (behind_word (trimmed text)) }
-    else record { label = None; command = option_read (trimmed text) }
+line_read text = read_trimmed (trimmed text)
 
 -- THE READING of a line
 unfoldable pub reading : List ℕ → Reading

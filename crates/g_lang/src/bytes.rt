@@ -3,6 +3,7 @@ ghost use Rattle.std.specs.Prelude.{◌≡◌};
 ghost use Rattle.std.specs.List.{list_all};
 ghost use Rattle.g_name.specs.Grammar as grammar;
 ghost use Rattle.g_lang.specs.Words as words;
+ghost use Rattle.g_lang.specs.Conditions as conditions;
 
 /// Whether a byte is one of `0` to `9`.
 pub fn is_digit(byte: u8) -> bool
@@ -30,6 +31,13 @@ pub fn is_printed(byte: u8) -> bool
     ensures { result ≡ words.is_printed byte }
 {
     (b' '..=b'~').contains(&byte)
+}
+
+/// Whether a byte is one of `A` to `X`, which name a level's parameters.
+pub fn is_param_letter(byte: u8) -> bool
+    ensures { result ≡ conditions.is_param_letter byte }
+{
+    (b'A'..=b'X').contains(&byte)
 }
 
 /// Whether a text is a label.

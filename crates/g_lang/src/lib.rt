@@ -6,8 +6,14 @@ mod fault;
 mod label;
 mod laws;
 mod line;
+mod parse;
+mod pieces;
+mod reader;
+#[cfg(test)]
+mod tests;
 
 pub use fault::LangFault;
 pub use label::Label;
 pub use laws::lines_are_read_by_the_grammar;
 pub use line::{Command, Cond, Line, Test};
+pub use parse::{is_input_line, label_of, parse_line};

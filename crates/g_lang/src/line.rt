@@ -16,11 +16,17 @@ pub enum Command {
     /// No command stands on the line.
     Blank,
     /// The inner command is done where the condition holds.
-    If { cond: Cond, inner: Box<Command> },
+    If {
+        cond: Cond,
+        inner: Box<Command>,
+    },
     /// The level goes on at its first line with this label.
     Goto(Label),
     /// The level keeps the command's text, to be done once the condition holds.
-    Whenever { cond: Cond, command: Text },
+    Whenever {
+        cond: Cond,
+        command: Text,
+    },
     /// A verb or a macro; `rest` is what stands on the line from the first parameter on, as it was written.
     Verb {
         name: Local,
