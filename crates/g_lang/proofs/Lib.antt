@@ -1,0 +1,10 @@
+pub mod ParseLemmas
+pub mod PartLemmas
+pub mod PieceLemmas
+pub mod PlaceLemmas
+pub mod ReadLemmas
+pub mod ReadingLemmas
+pub mod RestLemmas
+pub mod SpaceLemmas
+pub mod TakeLemmas
+pub mod ValueLemmas

@@ -1,0 +1,5 @@
+use Rattle.g_lang.proofs.ReadingLemmas.{reading-grammar, reading-one, reading-written, reading-command}
+use Rattle.g_lang.proofs.laws.lines_are_read_by_the_grammar.Goals as goal
+
+pub returns : goal.returns
+returns c = record { reads = reading-grammar; one = reading-one; written = reading-written; command = reading-command }

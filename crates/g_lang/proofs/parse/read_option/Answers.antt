@@ -1,0 +1,9 @@
+use Rattle.std.proofs.Common.{◌≡◌, ◌∙◌, sym, ap, length, eqb, true, false, eq-eqb}
+use Rattle.std.proofs.lemmas.Bool.{false≢true}
+use Rattle.g_lang.proofs.ParseLemmas.{option-reads}
+use Rattle.g_lang.proofs.parse.read_option.Goals as goal
+
+pub returns : goal.returns
+returns c =
+    option-reads c.args.text.now c.read_command.result
+    (λ none. false≢true (sym c.if-is_empty.false ∙ c.is_empty.ensures ∙ eq-eqb (length c.args.text.now) 0 none)) c.read_command.ensures

@@ -1,0 +1,68 @@
+-- Labels, spaces, and the parts between commas.
+use Rattle.std.specs.List.{list_all}
+use Rattle.std.specs.Prelude.{Bool, List, None, Option, Some, [], false, if◌then◌else◌, length, nat_le, not, pred, replicate, ℕ, ◌&&◌, ◌++◌, ◌+◌, ◌==◌, ◌∷◌}
+use Rattle.g_name.specs.Grammar.{is_digit, is_name_char}
+
+-- a byte from space to tilde
+abbrev pub is_printed : ℕ → Bool
+is_printed c = nat_le 32 c && nat_le c 126
+
+-- a digit and up to 11 of A to Z, 0 to 9 and `-`
+abbrev pub is_label : List ℕ → Bool
+is_label [] = false
+is_label (first ∷ others) = is_digit first && nat_le (length others) 11 && list_all is_name_char others
+
+abbrev pub spaces : ℕ → List ℕ
+spaces n = replicate n 32
+
+-- without the spaces in front
+abbrev pub without_front : List ℕ → List ℕ
+without_front [] = []
+without_front (c ∷ cs) = if c == 32 then without_front cs else c ∷ cs
+
+-- a byte in front of others, unless it is a space with nothing behind
+abbrev pub before_rest : ℕ → List ℕ → List ℕ
+before_rest c [] = if c == 32 then [] else c ∷ []
+before_rest c (d ∷ rest) = c ∷ d ∷ rest
+
+-- without the spaces behind
+abbrev pub without_back : List ℕ → List ℕ
+without_back [] = []
+without_back (c ∷ cs) = before_rest c (without_back cs)
+
+-- without the spaces at both ends
+abbrev pub trimmed : List ℕ → List ℕ
+trimmed text = without_back (without_front text)
+
+-- what stands before the first space
+abbrev pub word_of : List ℕ → List ℕ
+word_of [] = []
+word_of (c ∷ cs) = if c == 32 then [] else c ∷ word_of cs
+
+-- the label of a line: its first word, if that is one
+abbrev pub label_in : List ℕ → Option (List ℕ)
+label_in text = if is_label (word_of (without_front text)) then Some (word_of (without_front text)) else None
+
+-- a part between commas: its brackets match, from this depth on, and no comma stands outside of them
+abbrev pub is_part : ℕ → List ℕ → Bool
+is_part depth [] = depth == 0
+is_part depth (c ∷ cs) =
+    if c == 40 then is_part (depth + 1) cs
+    else if c == 41 then not (depth == 0) && is_part (pred depth) cs
+    else is_printed c && not (c == 44 && depth == 0) && is_part depth cs
+
+-- the parts with commas between them
+abbrev pub joined : List (List ℕ) → List ℕ
+joined [] = []
+joined (part ∷ []) = part
+joined (part ∷ more ∷ parts) = part ++ 44 ∷ joined (more ∷ parts)
+
+-- the last of these bytes is no space
+abbrev pub ends_well : ℕ → List ℕ → Bool
+ends_well c [] = not (c == 32)
+ends_well c (d ∷ ds) = ends_well d ds
+
+-- there is something, and no space stands at either end
+abbrev pub is_trimmed : List ℕ → Bool
+is_trimmed [] = false
+is_trimmed (c ∷ cs) = not (c == 32) && ends_well c cs

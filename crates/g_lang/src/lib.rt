@@ -1,0 +1,19 @@
+//! The command language: lines as they are written, and what they say.
+#![tactic(auto)]
+
+mod bytes;
+mod fault;
+mod label;
+mod laws;
+mod line;
+mod parse;
+mod pieces;
+mod reader;
+#[cfg(test)]
+mod tests;
+
+pub use fault::LangFault;
+pub use label::Label;
+pub use laws::lines_are_read_by_the_grammar;
+pub use line::{Command, Cond, Line, Test};
+pub use parse::{is_input_line, label_of, parse_line};

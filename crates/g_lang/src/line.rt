@@ -1,0 +1,62 @@
+//! What a line says.
+use crate::Label;
+use g_lines::Texts;
+use g_name::{Local, Text};
+
+/// A line: a label and a command, each of which may be absent.
+#[derive(Debug, Drop)]
+pub struct Line {
+    pub label: Option<Label>,
+    pub command: Command,
+}
+
+/// A command.
+#[derive(Debug, Drop)]
+pub enum Command {
+    /// No command stands on the line.
+    Blank,
+    /// The inner command is done where the condition holds.
+    If {
+        cond: Cond,
+        inner: Box<Command>,
+    },
+    /// The level goes on at its first line with this label.
+    Goto(Label),
+    /// The level keeps the command's text, to be done once the condition holds.
+    Whenever {
+        cond: Cond,
+        command: Text,
+    },
+    /// A verb or a macro; `rest` is what stands on the line from the first parameter on, as it was written.
+    Verb {
+        name: Local,
+        params: Texts,
+        rest: Text,
+    },
+}
+
+/// A test, or that it fails.
+#[derive(Debug, Drop, PartialEq, Eq)]
+pub struct Cond {
+    pub negated: bool,
+    pub test: Test,
+}
+
+/// What a condition asks; letters are `A` to `X`, which name the parameters of a level.
+#[derive(Debug, Drop, PartialEq, Eq)]
+pub enum Test {
+    /// The last command was an error.
+    CommandError,
+    /// The program came to an order that is illegal.
+    Failed,
+    /// The program halted with this text.
+    Halted(Text),
+    /// The program was deleted with this text.
+    Deleted(Text),
+    /// The parameter isn't empty.
+    Present(u8),
+    /// The parameter is empty.
+    Absent(u8),
+    /// The parameter is this text.
+    Equals { letter: u8, text: Text },
+}

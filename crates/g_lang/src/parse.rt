@@ -1,0 +1,222 @@
+//! From the text of a line to what it says.
+ghost use Rattle.std.specs.Prelude.{◌≡◌, ◌≢◌, ◌≤◌, ℕ, [], length, None, Some, IfOk};
+ghost use Rattle.g_lang.specs.How as how;
+ghost use Rattle.g_lang.specs.Lines.{IsCommandText};
+ghost use Rattle.g_lang.specs.Said.{Reads, IsReadAs, command_said, line_said, is_input_said};
+ghost use Rattle.g_lang.specs.Texts.{HasCommands, IsVerbText};
+ghost use Rattle.g_lang.specs.Words.{label_in};
+
+use crate::bytes::is_label;
+use crate::pieces::{
+    behind, split_at_comma, split_condition, split_word, trimmed, without_front, without_last,
+};
+use crate::reader::wrong_place;
+use crate::{Command, Cond, Label, LangFault, Line, Test};
+use g_base::NoMemory;
+use g_lines::Texts;
+use g_name::{Local, Text};
+use std::alloc::Global;
+
+/// The label of a line, also of one that isn't in the language: its first word, if that is a label.
+pub fn label_of(text: &[u8]) -> Option<Label>
+    ensures { result ≡ label_in text.now }
+{
+    let (word, _) = split_word(without_front(text));
+    Label::new(word)
+}
+
+/// What a line says (`docs/MANUAL.md`).
+///
+/// A text that is no line of the language is refused with the place where it goes wrong. It takes memory for the
+/// value alone.
+pub fn parse_line(alloc: Global, text: &[u8]) -> Result<Line, LangFault>
+    ensures grammar { Reads text.now result }
+    ensures one { IsReadAs (how.reading text.now) result }
+{
+    if let Some(place) = wrong_place(text) {
+        return Err(LangFault::BadLine(place));
+    }
+    let line = read_line(alloc, trimmed(text))?;
+    Ok(line)
+}
+
+/// Whether the verb of a line is INPUT, behind whose line a document stands. It takes no memory; a text that is no
+/// line of the language is none.
+pub fn is_input_line(text: &[u8]) -> bool
+    ensures { result ≡ is_input_said (how.reading text.now) }
+{
+    if wrong_place(text).is_some() {
+        return false;
+    }
+    let line = trimmed(text);
+    let (word, rest) = split_word(line);
+    let command = if is_label(word) { rest } else { line };
+    let (verb, _) = split_word(command);
+    verb == b"INPUT".as_slice()
+}
+
+/// What a line of the language says, without the spaces at its ends.
+fn read_line(alloc: Global, text: &[u8]) -> Result<Line, NoMemory>
+    requires { HasCommands text.now }
+    ensures { IfOk result (λ line. line_said line ≡ how.read_trimmed text.now) }
+{
+    let (word, rest) = split_word(text);
+    match Label::new(word) {
+        Some(label) => {
+            let command = read_option(alloc, rest)?;
+            Ok(Line {
+                label: Some(label),
+                command,
+            })
+        }
+        None => {
+            let command = read_option(alloc, text)?;
+            Ok(Line {
+                label: None,
+                command,
+            })
+        }
+    }
+}
+
+/// A command, or none.
+fn read_option(alloc: Global, text: &[u8]) -> Result<Command, NoMemory>
+    requires { text.now ≢ [] → IsCommandText text.now }
+    ensures { IfOk result (λ command. command_said command ≡ how.option_read text.now) }
+{
+    if text.is_empty() {
+        return Ok(Command::Blank);
+    }
+    read_command(alloc, text)
+}
+
+/// A command.
+fn read_command(alloc: Global, text: &[u8]) -> Result<Command, NoMemory>
+    requires { IsCommandText text.now }
+    ensures { (n : ℕ) → length text.now ≤ n
+        → IfOk result (λ command. command_said command ≡ Some (how.command_read n text.now)) }
+{
+    if let Some(rest) = behind(b"IF ", text) {
+        let (cond, inner) = split_condition(rest);
+        let cond = read_cond(alloc, cond)?;
+        let inner = read_command(alloc, inner)?;
+        let inner = Box::new(alloc, inner)?;
+        return Ok(Command::If { cond, inner });
+    }
+    if let Some(rest) = behind(b"WHENEVER ", text) {
+        let (cond, command) = split_condition(rest);
+        let cond = read_cond(alloc, cond)?;
+        let command = Text::from_slice(alloc, command)?;
+        return Ok(Command::Whenever { cond, command });
+    }
+    if let Some(label) = behind(b"GOTO ", text) {
+        return Ok(Command::Goto(Label::new(label).unwrap()));
+    }
+    read_verb(alloc, text)
+}
+
+/// A verb with its parameters.
+fn read_verb(alloc: Global, text: &[u8]) -> Result<Command, NoMemory>
+    requires { IsVerbText text.now }
+    ensures { IfOk result (λ command. command_said command ≡ Some (how.verb_read text.now)) }
+{
+    let (word, params) = split_word(text);
+    let name = Local::new(word).unwrap();
+    let rest = Text::from_slice(alloc, params)?;
+    let params = read_params(alloc, params)?;
+    Ok(Command::Verb { name, params, rest })
+}
+
+/// The parameters of a verb, without the spaces around them.
+fn read_params(alloc: Global, text: &[u8]) -> Result<Texts, NoMemory>
+    ensures { IfOk result (λ params. params ≡ how.params_read text.now) }
+{
+    let mut params = Texts::new(alloc);
+    let mut left = if text.is_empty() { None } else { Some(text) };
+    while let Some(rest) = left {
+        let (part, behind) = split_at_comma(rest);
+        let param = Text::from_slice(alloc, trimmed(part))?;
+        params.push(param)?;
+        left = behind;
+    }
+    Ok(params)
+}
+
+/// A condition.
+fn read_cond(alloc: Global, text: &[u8]) -> Result<Cond, NoMemory>
+    ensures { IfOk result (λ cond. cond ≡ how.cond_read text.now) }
+{
+    match behind(b"NOT ", text) {
+        Some(rest) => {
+            let test = read_test(alloc, rest)?;
+            Ok(Cond {
+                negated: true,
+                test,
+            })
+        }
+        None => {
+            let test = read_test(alloc, text)?;
+            Ok(Cond {
+                negated: false,
+                test,
+            })
+        }
+    }
+}
+
+/// What a condition asks.
+fn read_test(alloc: Global, text: &[u8]) -> Result<Test, NoMemory>
+    ensures { IfOk result (λ test. test ≡ how.test_read text.now) }
+{
+    if text == b"COMMAND ERROR".as_slice() {
+        return Ok(Test::CommandError);
+    }
+    if text == b"FAILED".as_slice() {
+        return Ok(Test::Failed);
+    }
+    if let Some(rest) = behind(b"HALTED(", text) {
+        return Ok(Test::Halted(Text::from_slice(alloc, without_last(rest))?));
+    }
+    if let Some(rest) = behind(b"DELETED(", text) {
+        return Ok(Test::Deleted(Text::from_slice(alloc, without_last(rest))?));
+    }
+    read_letter_test(alloc, text)
+}
+
+/// What a condition asks of a parameter.
+fn read_letter_test(alloc: Global, text: &[u8]) -> Result<Test, NoMemory>
+    ensures { IfOk result (λ test. test ≡ how.letter_test_read text.now) }
+{
+    if let Some(rest) = behind(b"PRESENT(%", text) {
+        return Ok(Test::Present(letter_of(rest)));
+    }
+    if let Some(rest) = behind(b"ABSENT(%", text) {
+        return Ok(Test::Absent(letter_of(rest)));
+    }
+    if let Some(rest) = behind(b"STRING(%", text) {
+        let letter = letter_of(rest);
+        let text = Text::from_slice(alloc, without_last(behind_equals(rest)))?;
+        return Ok(Test::Equals { letter, text });
+    }
+    Ok(Test::Failed)
+}
+
+/// A parameter's letter.
+fn letter_of(text: &[u8]) -> u8
+    ensures { result ≡ how.letter_of text.now }
+{
+    match text {
+        [letter, ..] => *letter,
+        [] => b'A',
+    }
+}
+
+/// What stands behind a letter and `)=(`.
+fn behind_equals(text: &[u8]) -> &[u8]
+    ensures { result.now ≡ how.behind_equals text.now }
+{
+    match text {
+        [_, _, _, _, rest @ ..] => rest,
+        _ => &[],
+    }
+}

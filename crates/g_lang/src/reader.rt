@@ -1,0 +1,351 @@
+//! A reader of lines that takes one byte after another: it tells where a text goes wrong, and takes no memory.
+ghost use Rattle.std.specs.Prelude.{◌≡◌, ◌^◌, ◌<◌};
+ghost use Rattle.g_name.specs.Words.{extends as extends_word};
+ghost use Rattle.g_lang.specs.How as how;
+ghost use Rattle.g_lang.specs.Places.{Steps, state_of, next_of, depth_of};
+
+use crate::bytes::{is_digit, is_letter, is_name_char, is_param_letter, is_printed};
+use arrayvec::ArrayVec;
+
+/// What comes behind a fixed text of a condition.
+#[derive(Clone, Copy, Debug)]
+enum Behind {
+    Test,
+    Comma,
+    Text,
+    /// A parameter's letter; behind it stands a text to compare with, or none.
+    Letter { equals: bool },
+}
+
+/// Where in a line the reader stands.
+#[derive(Debug, Drop)]
+enum Place {
+    /// In the spaces in front.
+    Front,
+    /// In a label, behind so many of its characters.
+    Label(usize),
+    /// Behind a label and a space.
+    Gap,
+    /// In the first word of a command; whether it stands behind a condition.
+    Word {
+        word: ArrayVec<u8, 12>,
+        inner: bool,
+    },
+    /// Before a condition; whether NOT stands before it.
+    Condition {
+        negated: bool,
+    },
+    /// In a fixed text of a condition, of which this is left.
+    Fixed {
+        byte: u8,
+        rest: &'static [u8],
+        behind: Behind,
+    },
+    /// Before a parameter's letter.
+    Letter {
+        equals: bool,
+    },
+    /// In a text in brackets.
+    Text,
+    /// Behind a condition.
+    BeforeComma,
+    /// Behind GOTO and its space.
+    BeforeLabel,
+    /// In the label of GOTO, behind so many of its characters.
+    Goto(usize),
+    /// In the spaces behind.
+    Back,
+    /// In the spaces behind a verb.
+    VerbGap,
+    /// In the parameters, within so many brackets.
+    Params(usize),
+}
+
+/// The place where a text goes wrong as a line, if it does: the length of its longest front that begins some line.
+pub fn wrong_place(text: &[u8]) -> Option<usize>
+    ensures { result ≡ how.wrong_from how.Front 0 text.now }
+{
+    let mut place = Place::Front;
+    for (at, byte) in text.iter().enumerate() {
+        match place.step(*byte) {
+            Some(next) => place = next,
+            None => return Some(at),
+        }
+    }
+    if place.may_end() {
+        None
+    } else {
+        Some(text.len())
+    }
+}
+
+impl Place {
+    /// The place behind the next byte, if some line goes on with it.
+    fn step(self, byte: u8) -> Option<Place>
+        requires { depth_of (state_of self) < 2 ^ 63 }
+        ensures { Steps (how.step byte (state_of self)) result }
+    {
+        match self {
+            Place::Front => in_front(byte),
+            Place::Label(count) => in_label(count, byte),
+            Place::Gap => in_gap(byte),
+            Place::Word { word, inner } => in_word(word, inner, byte),
+            Place::Condition { negated } => in_condition(negated, byte),
+            Place::Fixed {
+                byte: first,
+                rest,
+                behind,
+            } => in_fixed(first, rest, behind, byte),
+            Place::Letter { equals } => in_letter(equals, byte),
+            Place::Text => in_text(byte),
+            Place::BeforeComma => in_comma(byte),
+            Place::BeforeLabel => in_before_label(byte),
+            Place::Goto(count) => in_goto(count, byte),
+            Place::Back => in_back(byte),
+            Place::VerbGap => in_verb_gap(byte),
+            Place::Params(depth) => in_params(depth, byte),
+        }
+    }
+
+    /// Whether a line may end here.
+    fn may_end(&self) -> bool
+        ensures { result ≡ how.may_end (state_of self.now) }
+    {
+        match self {
+            Place::Front
+            | Place::Label(_)
+            | Place::Gap
+            | Place::Goto(_)
+            | Place::Back
+            | Place::VerbGap => true,
+            Place::Word { word, inner } => is_whole_verb(word.as_slice(), *inner),
+            Place::Params(depth) => *depth == 0,
+            Place::Condition { .. }
+            | Place::Fixed { .. }
+            | Place::Letter { .. }
+            | Place::Text
+            | Place::BeforeComma
+            | Place::BeforeLabel => false,
+        }
+    }
+}
+
+fn in_front(byte: u8) -> Option<Place>
+    ensures { Steps (how.step byte how.Front) result }
+{
+    if byte == b' ' {
+        return Some(Place::Front);
+    }
+    if is_digit(byte) {
+        return Some(Place::Label(1));
+    }
+    in_word(ArrayVec::new(), false, byte)
+}
+
+fn in_label(length: usize, byte: u8) -> Option<Place>
+    ensures { Steps (how.step byte (how.InLabel length)) result }
+{
+    if is_name_char(byte) && length < 12 {
+        return Some(Place::Label(length + 1));
+    }
+    if byte == b' ' { Some(Place::Gap) } else { None }
+}
+
+fn in_gap(byte: u8) -> Option<Place>
+    ensures { Steps (how.step byte how.Gap) result }
+{
+    if byte == b' ' {
+        return Some(Place::Gap);
+    }
+    in_word(ArrayVec::new(), false, byte)
+}
+
+fn in_word(mut word: ArrayVec<u8, 12>, inner: bool, byte: u8) -> Option<Place>
+    ensures { Steps (how.in_word word.items inner byte) result }
+{
+    if extends(word.as_slice(), byte) {
+        word.push(byte);
+        return Some(Place::Word { word, inner });
+    }
+    if byte == b' ' && !word.is_empty() {
+        behind_word(word.as_slice(), inner)
+    } else {
+        None
+    }
+}
+
+/// Whether the byte may come next in a word.
+fn extends(word: &[u8], byte: u8) -> bool
+    ensures { result ≡ extends_word word.now byte }
+{
+    match word.split_first() {
+        None => is_letter(byte),
+        Some((_, others)) => is_name_char(byte) && others.len() < 11,
+    }
+}
+
+fn behind_word(word: &[u8], inner: bool) -> Option<Place>
+    ensures { Steps (how.state_behind_word word.now inner) result }
+{
+    if word == b"IF".as_slice() || word == b"WHENEVER".as_slice() {
+        return Some(Place::Condition { negated: false });
+    }
+    if word == b"GOTO".as_slice() {
+        return Some(Place::BeforeLabel);
+    }
+    if word == b"INPUT".as_slice() && inner {
+        return None;
+    }
+    Some(Place::VerbGap)
+}
+
+/// Whether the word is a verb that may stand alone.
+fn is_whole_verb(word: &[u8], inner: bool) -> bool
+    ensures { result ≡ how.may_end (how.Word word.now inner) }
+{
+    let keyword = word == b"IF".as_slice()
+        || word == b"WHENEVER".as_slice()
+        || word == b"GOTO".as_slice();
+    let input_inside = word == b"INPUT".as_slice() && inner;
+    !word.is_empty() && !keyword && !input_inside
+}
+
+fn in_condition(negated: bool, byte: u8) -> Option<Place>
+    ensures { Steps (how.test_from negated byte) result }
+{
+    match byte {
+        b'N' if !negated => Some(fixed(b"OT ", Behind::Test)),
+        b'C' => Some(fixed(b"OMMAND ERROR", Behind::Comma)),
+        b'F' => Some(fixed(b"AILED", Behind::Comma)),
+        b'H' => Some(fixed(b"ALTED(", Behind::Text)),
+        b'D' => Some(fixed(b"ELETED(", Behind::Text)),
+        b'P' => Some(fixed(b"RESENT(%", Behind::Letter { equals: false })),
+        b'A' => Some(fixed(b"BSENT(%", Behind::Letter { equals: false })),
+        b'S' => Some(fixed(b"TRING(%", Behind::Letter { equals: true })),
+        _ => None,
+    }
+}
+
+/// In a fixed text, or behind it where it is empty.
+fn fixed(text: &'static [u8], behind: Behind) -> Place
+    ensures { state_of result ≡ how.fixed text.now (next_of behind) }
+{
+    match text.split_first() {
+        Some((byte, rest)) => Place::Fixed {
+            byte: *byte,
+            rest,
+            behind,
+        },
+        None => behind_fixed(behind),
+    }
+}
+
+fn behind_fixed(behind: Behind) -> Place
+    ensures { state_of result ≡ how.behind_fixed (next_of behind) }
+{
+    match behind {
+        Behind::Test => Place::Condition { negated: true },
+        Behind::Comma => Place::BeforeComma,
+        Behind::Text => Place::Text,
+        Behind::Letter { equals } => Place::Letter { equals },
+    }
+}
+
+fn in_fixed(first: u8, rest: &'static [u8], behind: Behind, byte: u8) -> Option<Place>
+    ensures { Steps (how.step byte (how.Fixed first rest.now (next_of behind))) result }
+{
+    if byte == first {
+        Some(fixed(rest, behind))
+    } else {
+        None
+    }
+}
+
+fn in_letter(equals: bool, byte: u8) -> Option<Place>
+    ensures { Steps (how.step byte (how.Letter equals)) result }
+{
+    if !is_param_letter(byte) {
+        return None;
+    }
+    if equals {
+        Some(fixed(b")=(", Behind::Text))
+    } else {
+        Some(fixed(b")", Behind::Comma))
+    }
+}
+
+fn in_text(byte: u8) -> Option<Place>
+    ensures { Steps (how.step byte how.InText) result }
+{
+    if byte == b')' {
+        return Some(Place::BeforeComma);
+    }
+    if is_printed(byte) && byte != b'(' {
+        Some(Place::Text)
+    } else {
+        None
+    }
+}
+
+fn in_comma(byte: u8) -> Option<Place>
+    ensures { Steps (how.step byte how.BeforeComma) result }
+{
+    if byte != b',' {
+        return None;
+    }
+    Some(Place::Word {
+        word: ArrayVec::new(),
+        inner: true,
+    })
+}
+
+fn in_before_label(byte: u8) -> Option<Place>
+    ensures { Steps (how.step byte how.ALabel) result }
+{
+    if is_digit(byte) {
+        Some(Place::Goto(1))
+    } else {
+        None
+    }
+}
+
+fn in_goto(count: usize, byte: u8) -> Option<Place>
+    ensures { Steps (how.step byte (how.InGoto count)) result }
+{
+    if is_name_char(byte) && count < 12 {
+        return Some(Place::Goto(count + 1));
+    }
+    in_back(byte)
+}
+
+fn in_back(byte: u8) -> Option<Place>
+    ensures { Steps (how.step byte how.Back) result }
+{
+    if byte == b' ' {
+        Some(Place::Back)
+    } else {
+        None
+    }
+}
+
+fn in_verb_gap(byte: u8) -> Option<Place>
+    ensures { Steps (how.step byte how.VerbGap) result }
+{
+    if byte == b' ' {
+        return Some(Place::VerbGap);
+    }
+    in_params(0, byte)
+}
+
+fn in_params(depth: usize, byte: u8) -> Option<Place>
+    requires { depth < 2 ^ 63 }
+    ensures { Steps (how.in_params depth byte) result }
+{
+    match byte {
+        b'(' => Some(Place::Params(depth + 1)),
+        b')' if depth == 0 => None,
+        b')' => Some(Place::Params(depth - 1)),
+        _ if is_printed(byte) => Some(Place::Params(depth)),
+        _ => None,
+    }
+}
