@@ -3,27 +3,28 @@ use super::*;
 use g_disc::{Disc, MemoryDisc};
 use g_entry::empty_block;
 use g_slots::{Side, Slots};
+use std::process::Abort;
 use std::test::Fail;
 
-/// The blocks of a head, of MASTER and of MACROS, up to where zeros follow.
-const BLOCKS: [&[u8]; 3] = [
-    b"G3SL\0\x02\0\0\0\0\0\0\0\x01",
-    b"\x01\x06MASTER",
-    b"\x01\x06MACROS",
-];
+/// Writes these bytes with zeros behind them.
+fn put(rt: &impl Abort, disc: &mut MemoryDisc, k: u32, bytes: &[u8]) -> Result<(), Fail> {
+    let mut block = [0; 512];
+    for (at, byte) in bytes.iter().enumerate() {
+        if at < 512 {
+            block[at] = *byte;
+        }
+    }
+    assert!(rt; k < disc.size());
+    disc.write(k, &block)?;
+    Ok(())
+}
 
 #[test]
 fn ample(rt: HostRuntime) -> Result<(), Fail> {
     let mut disc = MemoryDisc::new(rt.alloc(), 2181)?;
-    for (k, bytes) in BLOCKS.iter().enumerate() {
-        let mut block = empty_block();
-        for (at, byte) in bytes.iter().enumerate() {
-            if at < 512 {
-                block[at] = *byte;
-            }
-        }
-        disc.write(1 + k as u32, &block)?;
-    }
+    put(&rt, &mut disc, 1, b"G3SL\0\x02\0\0\0\0\0\0\0\x01")?;
+    put(&rt, &mut disc, 2, b"\x01\x06MASTER")?;
+    put(&rt, &mut disc, 3, b"\x01\x06MACROS")?;
     assert!(rt; 2177 < disc.size());
     let mut slots = Slots::find(&mut disc)?;
     let dirs = read_dirs(rt.alloc(), &mut disc, &slots)?;

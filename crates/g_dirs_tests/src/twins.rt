@@ -102,6 +102,68 @@ fn commit_changed(
     write_changed(disc, slots, &listing, last)
 }
 
+/// Both slots hold the first directory then, or the current one the second.
+fn begin_whole(
+    disc: &mut Noted,
+    slots: &mut Slots,
+    base: &Dirs,
+    next: &Dirs,
+    again: bool,
+    last: &mut Pages,
+) -> Result<(), DirsFault>
+    requires size { disc.old.disc.disc.size ≡ 2181 }
+    requires gate { GateNames slots.old disc.old.disc.disc.held }
+    requires records { AreRecords Format.Two (directory_of base.now.head base.now.users.items base.now.files.items base.now.online.items) }
+    requires rules { IsDirectory 2181 (directory_of base.now.head base.now.users.items base.now.files.items base.now.online.items) }
+    requires copies { AreCopies base.now.files.items base.now.online.items }
+    requires next_records { AreRecords Format.Two (directory_of next.now.head next.now.users.items next.now.files.items next.now.online.items) }
+    requires next_rules { IsDirectory 2181 (directory_of next.now.head next.now.users.items next.now.files.items next.now.online.items) }
+    requires next_copies { AreCopies next.now.files.items next.now.online.items }
+    requires remembers { ForSome disc.old.disc.disc.held (Remembers last.old) }
+    ensures size { disc.new.disc.disc.size ≡ 2181 }
+    ensures gate { OnOk result (GateNames slots.new disc.new.disc.disc.held) }
+    ensures remembers { OnOk result (ForSome disc.new.disc.disc.held (Remembers last.new)) }
+{
+    commit_whole(disc, slots, base, last)?;
+    commit_whole(disc, slots, base, last)?;
+    if again {
+        return commit_whole(disc, slots, next, last);
+    }
+    Ok(())
+}
+
+/// The same by commits of what changed.
+fn begin_changed(
+    rt: &impl Abort,
+    disc: &mut Noted,
+    slots: &mut Slots,
+    base: &Dirs,
+    next: &Dirs,
+    marks: &[u32],
+    again: bool,
+    last: &mut Pages,
+) -> Result<(), DirsFault>
+    requires size { disc.old.disc.disc.size ≡ 2181 }
+    requires gate { GateNames slots.old disc.old.disc.disc.held }
+    requires records { AreRecords Format.Two (directory_of base.now.head base.now.users.items base.now.files.items base.now.online.items) }
+    requires rules { IsDirectory 2181 (directory_of base.now.head base.now.users.items base.now.files.items base.now.online.items) }
+    requires copies { AreCopies base.now.files.items base.now.online.items }
+    requires next_records { AreRecords Format.Two (directory_of next.now.head next.now.users.items next.now.files.items next.now.online.items) }
+    requires next_rules { IsDirectory 2181 (directory_of next.now.head next.now.users.items next.now.files.items next.now.online.items) }
+    requires next_copies { AreCopies next.now.files.items next.now.online.items }
+    requires remembers { ForSome disc.old.disc.disc.held (Remembers last.old) }
+    ensures size { disc.new.disc.disc.size ≡ 2181 }
+    ensures gate { OnOk result (GateNames slots.new disc.new.disc.disc.held) }
+    ensures remembers { OnOk result (ForSome disc.new.disc.disc.held (Remembers last.new)) }
+{
+    commit_changed(rt, disc, slots, base, &[], last)?;
+    commit_changed(rt, disc, slots, base, &[], last)?;
+    if again {
+        return commit_changed(rt, disc, slots, next, marks, last);
+    }
+    Ok(())
+}
+
 /// Whether two discs hold the same.
 fn are_same(one: &mut Noted, two: &mut Noted) -> Result<bool, ReadFailed>
     requires one { one.old.disc.disc.size ≡ 2181 }
@@ -177,17 +239,27 @@ fn compare(
     let mut one = blank_disc(alloc)?;
     let mut one_slots = Slots::find(&mut one)?;
     let mut one_pages = Pages::new(alloc)?;
+    begin_whole(
+        &mut one,
+        &mut one_slots,
+        &base,
+        &next,
+        again,
+        &mut one_pages,
+    )?;
     let mut two = blank_disc(alloc)?;
     let mut two_slots = Slots::find(&mut two)?;
     let mut two_pages = Pages::new(alloc)?;
-    commit_whole(&mut one, &mut one_slots, &base, &mut one_pages)?;
-    commit_changed(rt, &mut two, &mut two_slots, &base, &[], &mut two_pages)?;
-    commit_whole(&mut one, &mut one_slots, &base, &mut one_pages)?;
-    commit_changed(rt, &mut two, &mut two_slots, &base, &[], &mut two_pages)?;
-    if again {
-        commit_whole(&mut one, &mut one_slots, &next, &mut one_pages)?;
-        commit_changed(rt, &mut two, &mut two_slots, &next, row.2, &mut two_pages)?;
-    }
+    begin_changed(
+        rt,
+        &mut two,
+        &mut two_slots,
+        &base,
+        &next,
+        row.2,
+        again,
+        &mut two_pages,
+    )?;
     one.disc.set_leave(leave_of(fails.1));
     two.disc.set_leave(leave_of(fails.1));
     one.arm(fails.0);
