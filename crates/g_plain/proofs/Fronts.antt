@@ -32,6 +32,11 @@ front_fault a b r e some = e ∙ front_some a b (ap is_some (sym e) ∙ some)
 pub front_passed : (a b : Checks) (r : Option StoreFault) → r ≡ first_fault a → is_some r ≡ false → first_fault b ≡ first_fault (a ++ b)
 front_passed a b r e none = sym (front_none a b (ap is_some (sym e) ∙ none))
 
+-- a last test, where those before it have no fault
+pub last_fault : (a : Checks) (test : Bool) (f : StoreFault) (r : Option StoreFault) (b : Bool) → r ≡ first_fault a → is_some r ≡ false → b ≡ test
+    → cond b (Some f) None ≡ first_fault (a ++ (test, f) ∷ [])
+last_fault a test f r b e none same = ap (λ t. cond t (Some f) None) same ∙ front_passed a ((test, f) ∷ []) r e none
+
 none_of : {X : Type 0} (o : Option X) → is_some o ≡ false → o ≡ None
 none_of None e = refl
 none_of (Some x) e = absurd (true≢false e)

@@ -1,14 +1,14 @@
 -- The plain step's replies are of the call's kind, and its faults are its own.
-use Rattle.std.proofs.Common.{◌≡◌, ℕ, ◌+◌, Bool, true, false, cond, not, ◌&&◌, ◌||◌, nat_le, List, [], ◌∷◌, length, Option, Some, None, Result, Ok, Err, IsErr, IfOk, refl, sym, ap, ◌∙◌, is_some, arith, ◌⊎◌, inl, inr, true≢false}
+use Rattle.std.proofs.Common.{◌≡◌, ℕ, ◌+◌, Bool, true, false, cond, not, ◌&&◌, ◌||◌, nat_le, List, [], ◌∷◌, length, Option, Some, None, Result, Ok, Err, IsErr, refl, sym, ap, ◌∙◌, is_some, arith, true≢false}
 use Rattle.std.specs.List.{AllByRecursion, list_all}
 use Rattle.g_plain.specs.declared.calls.StoreCall.{StoreCall}
 use Rattle.g_plain.specs.declared.calls.StoreCall.TheVariants.{NewUser, Budget, Put, Append, Fetch, Erase, Rename, List as ListFiles, TrapGo, TrapStop, TrapCheck, Retrieve}
 use Rattle.g_plain.specs.declared.calls.StoreReply.{StoreReply}
 use Rattle.g_plain.specs.declared.faults.StoreFault.{StoreFault}
-use Rattle.g_plain.specs.declared.faults.StoreFault.TheVariants.{NoUser, NoMemory}
+use Rattle.g_plain.specs.declared.faults.StoreFault.TheVariants.{NoUser}
 use Rattle.g_plain.specs.Faults.{fault_number}
 use Rattle.g_plain.specs.PlainTree.{Tree, has_user, file_row, input_name}
-use Rattle.g_plain.specs.PlainStep.{Checks, first_fault, checks, fault_of, reply_to, tree_after, plain_answer, plain_tree, IsPlainAnswer}
+use Rattle.g_plain.specs.PlainStep.{Checks, first_fault, checks, fault_of, reply_to, tree_after, plain_answer, plain_tree}
 use Rattle.g_plain.specs.Replies.{IsReplyTo}
 use Rattle.g_plain.specs.Rules.{IsTree}
 use Rattle.g_plain.proofs.StepKept.{all_passed, not_false, not_above, file_rules}
@@ -61,12 +61,6 @@ ok_no_err reply f e = cc
 pub own_fault : (t : Tree) (who : List ℕ) (call : StoreCall) (f g : StoreFault) → Some f ≡ fault_of t who call → (let x : Result StoreReply StoreFault = Err f in x ≡ Err g) → is_plain g ≡ true
 own_fault t who call f g some e =
     ap is_plain (sym (same_err f g e)) ∙ first_plain ((not (has_user t who), NoUser) ∷ checks t who call) f (all_plain t who call) (sym some)
-
--- either no memory was found, or it is the plain step
-pub answer_cases : (old : Tree) (who : List ℕ) (call : StoreCall) (r : Result StoreReply StoreFault) (new : Tree) → IsPlainAnswer old who call r new
-    → ((r ≡ Err NoMemory) × (new ≡ old)) ⊎ ((r ≡ plain_answer old who call) × (new ≡ plain_tree old who call))
-answer_cases old who call (Err NoMemory) new is = inl (refl, is)
-answer_cases old who call r new is = inr is
 
 kind_of : (t : Tree) (who : List ℕ) (call : StoreCall) → IsTree t → AllByRecursion (λ c. c.0 ≡ false) ((not (has_user t who), NoUser) ∷ checks t who call) → IsReplyTo call (reply_to t who call)
 kind_of t who (NewUser user space time money) is p = tt

@@ -3,6 +3,7 @@ pub mod Asks
 pub mod Codes
 pub mod Faults
 pub mod Plainly
+pub mod PlainHolds
 pub mod PlainStep
 pub mod PlainTree
 pub mod RanBy

@@ -1,5 +1,5 @@
 -- What each call does to a tree, and what it answers.
-use Rattle.std.specs.Prelude.{◌≡◌, ℕ, ◌+◌, ◌-◌, ◌^◌, ◌==◌, Bool, not, ◌&&◌, ◌||◌, nat_lt, nat_le, List, [], ◌∷◌, ◌++◌, map, filter, length, Option, Some, None, Result, Ok, Err, unwrap_or, is_none, bit_and, bit_or, if◌then◌else◌}
+use Rattle.std.specs.Prelude.{◌≡◌, ℕ, ◌+◌, ◌-◌, ◌^◌, ◌==◌, Bool, not, ◌&&◌, ◌||◌, nat_lt, nat_le, List, [], ◌∷◌, ◌++◌, length, Option, Some, None, Result, Ok, Err, unwrap_or, is_none, bit_and, bit_or, if◌then◌else◌}
 use Rattle.std.specs.FinMap.{get, insert, remove, len, entries, empty}
 use Rattle.g_base.specs.Block.{blocks_for}
 use Rattle.g_name.specs.declared.full.Full.{Full}
@@ -14,7 +14,7 @@ use Rattle.g_plain.specs.declared.calls.StoreReply.{StoreReply}
 use Rattle.g_plain.specs.declared.calls.StoreReply.TheVariants.{Done, Made, Appended, Bytes, Erased, Renamed, Listing, Modes, Retrieved}
 use Rattle.g_plain.specs.declared.faults.StoreFault.{StoreFault}
 use Rattle.g_plain.specs.declared.faults.StoreFault.TheVariants.{NoUser, NoFile, Exists, Trapped, NoGeneration, OverSpace, TooLong, DirectoryFull, UsersFull, TrapsFull, NotOwner, CountersSpent, NoMemory}
-use Rattle.g_plain.specs.PlainTree.{Tree, UserRow, has_user, user_row, has_file, file_row, used_blocks, owner_of, newest, input_name, output_name, modes_of, is_allowed, with_modes}
+use Rattle.g_plain.specs.PlainTree.{Tree, UserRow, has_user, user_row, has_file, file_row, used_blocks, lengths, owner_of, newest, input_name, output_name, modes_of, is_allowed, with_modes}
 
 -- a test, and the fault where it holds
 abbrev pub Checks : Type 0
@@ -158,14 +158,17 @@ reply_to tree who (Append path bytes) = Appended (input_name tree who path)
 reply_to tree who (Fetch path m) = Bytes (input_name tree who path) (file_row tree (input_name tree who path)).bytes
 reply_to tree who (Erase path) = Erased (input_name tree who path)
 reply_to tree who (Rename path to) = Renamed (record (input_name tree who path) { local = to })
-reply_to tree who (ListFiles user) =
-    Listing (map (λ e. (e.0, length e.1.bytes)) (filter (λ e. same_text e.0.user user) (entries tree.files)))
+reply_to tree who (ListFiles user) = Listing (lengths user (entries tree.files))
 reply_to tree who (TrapGo path user modes) = Done
 reply_to tree who (TrapStop path user modes) = Done
 reply_to tree who (TrapCheck path user) =
     let full = input_name tree who path in
     Modes (modes_of (file_row tree full) full user)
 reply_to tree who (Retrieve path) = Retrieved (input_name tree who path)
+
+-- the fault of a call of a user who is there, if it has one
+abbrev pub fault_in : Tree → List ℕ → StoreCall → Option StoreFault
+fault_in tree who call = first_fault (checks tree who call)
 
 -- the fault of a call, if it has one
 abbrev pub fault_of : Tree → List ℕ → StoreCall → Option StoreFault

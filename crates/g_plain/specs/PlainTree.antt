@@ -52,9 +52,17 @@ no_row = record { traps = empty; bytes = []; stamp = 0 }
 abbrev pub file_row : Tree → Full → FileRow
 file_row tree full = unwrap_or (get tree.files full) no_row
 
+-- the blocks of a file, where it is the user's
+abbrev pub blocks_of : List ℕ → Full × FileRow → ℕ
+blocks_of user e = if same_text e.0.user user then blocks_for (length e.1.bytes) else 0
+
 -- the blocks of a user's files
 abbrev pub used_blocks : Tree → List ℕ → ℕ
-used_blocks tree user = sum_by (λ e. if same_text e.0.user user then blocks_for (length e.1.bytes) else 0) (entries tree.files)
+used_blocks tree user = sum_by (blocks_of user) (entries tree.files)
+
+-- a user's files with their lengths
+abbrev pub lengths : List ℕ → List (Full × FileRow) → List (Full × ℕ)
+lengths user es = map (λ e. (e.0, length e.1.bytes)) (filter (λ e. same_text e.0.user user) es)
 
 -- whose file a path names
 abbrev pub owner_of : List ℕ → Path → List ℕ
@@ -68,9 +76,13 @@ named who path n = record { user = owner_of who path; local = path.local; genera
 abbrev pub is_version_of : Full → Full → Bool
 is_version_of f g = same_text f.user g.user && same_text f.local g.local && same_text f.lang g.lang
 
+-- the generations of files of one user, local name and language
+abbrev pub generations : Full → List (Full × FileRow) → List ℕ
+generations name es = map (λ e. e.0.generation) (filter (λ e. is_version_of name e.0) es)
+
 -- the greatest generation there is of what a path names, or 0
 abbrev pub newest : Tree → List ℕ → Path → ℕ
-newest tree who path = fold max 0 (map (λ e. e.0.generation) (filter (λ e. is_version_of (named who path 0) e.0) (entries tree.files)))
+newest tree who path = fold max 0 (generations (named who path 0) (entries tree.files))
 
 -- the file that a path names for input, and for output
 abbrev pub input_name : Tree → List ℕ → Path → Full

@@ -19,9 +19,12 @@ pub fn ask<S: Filestore>(
 ) -> Result<Result<StoreReply, StoreFault>, NoMemory>
     requires running { S.is_spent store.old ≡ false }
     requires limits { IsWithinLimits call.now }
-    ensures ok { IfOk result (λ answer. Ran S.answers who.now store.old (Call call.now (λ given. Gives given)) answer store.new) }
-    ensures err { OnErr result (RanInPart S.answers who.now store.old (Call call.now (λ given. Gives given)) store.new) }
-    ensures cause { OnErr result (S.answers store.old who.now call.now (Err StoreFault.NoMemory) store.new) }
+    ensures ok { let asked = Call call.now (λ given. Gives given) in
+        IfOk result (λ answer. Ran S.answers who.now store.old asked answer store.new) }
+    ensures err { let asked = Call call.now (λ given. Gives given) in
+        OnErr result (RanInPart S.answers who.now store.old asked store.new) }
+    ensures cause { OnErr result
+        (S.answers store.old who.now call.now (Err StoreFault.NoMemory) store.new) }
     ensures kind { IfOk result (λ answer. IfOk answer (λ reply. IsReplyTo call.now reply)) }
     ensures spent { (S.is_spent store.new ≡ true) ↔ (result ≡ Ok (Err StoreFault.Stopped)) }
     ensures live { OnErr result (S.is_spent store.new ≡ false) }

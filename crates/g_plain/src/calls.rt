@@ -18,8 +18,8 @@ pub enum BudgetKind {
     Money,
 }
 
-/// A call of a job. Where a path names a file for input, an absent generation is the greatest one there
-/// is; for output it is one more.
+/// A call of a job. Where a path names a file for input, an absent generation is the greatest one
+/// there is; for output it is one more.
 #[derive(Debug, Drop, PartialEq, Eq)]
 pub enum StoreCall {
     /// Makes a user below the caller, with so many blocks of SPACE and units of TIME and MONEY.
@@ -35,7 +35,8 @@ pub enum StoreCall {
         kind: BudgetKind,
         amount: u64,
     },
-    /// Puts a new version for output: a new file, or other bytes in the place of a file that keeps its traps.
+    /// Puts a new version for output: a new file, or other bytes in the place of a file that keeps
+    /// its traps.
     Put {
         path: Path,
         bytes: Text,

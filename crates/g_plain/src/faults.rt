@@ -9,7 +9,8 @@ use g_trap::Mode;
 use std::alloc::{AllocError, AllocFailed};
 use thiserror::Error;
 
-/// Why a store refuses a call or an event. Serials of reels, and `need`, `left` and `room` in blocks, are numbers.
+/// Why a store refuses a call or an event. Serials of reels, and `need`, `left` and `room` in
+/// blocks, are numbers.
 #[derive(Debug, Drop, PartialEq, Eq, Error)]
 pub enum StoreFault {
     /// A user who is named isn't there.

@@ -1,11 +1,12 @@
 //! Files by full name, with their traps, bytes and stamps.
-ghost use Rattle.std.specs.Prelude.{◌≡◌, ◌≤◌, ◌^◌, ◌+◌, true, false, OnOk, OnErr, IfOk, is_some, length, fold, max, map, filter, sum_by, None, Some, unwrap_or, if◌then◌else◌};
+ghost use Rattle.std.specs.Prelude.{◌≡◌, ◌≤◌, true, false, OnOk, OnErr, IfOk, is_some};
+ghost use Rattle.std.specs.Prelude.{length, fold, max, sum_by, None, Some, unwrap_or};
 ghost use Rattle.std.specs.Option.{option_copied};
 ghost use Rattle.std.specs.FinMap as finmap;
 ghost use Rattle.std.specs.BTreeMap.{IsOrdered};
 ghost use Rattle.g_base.specs.Block.{blocks_for};
 ghost use Rattle.g_name.specs.Order.{full_cmp, same_text};
-ghost use Rattle.g_plain.specs.PlainTree.{no_row, is_version_of, with_modes};
+ghost use Rattle.g_plain.specs.PlainTree.{no_row, blocks_of, generations, lengths, with_modes};
 
 use crate::Listing;
 use crate::trap_map::TrapMap;
@@ -16,7 +17,8 @@ use std::alloc::Global;
 use std::collections::BTreeMap;
 use std::marker::Model;
 
-/// A file's traps, its bytes, at most 65,536, and the stamp of its version. Contracts see a row of the tree.
+/// A file's traps, its bytes, at most 65,536, and the stamp of its version. Contracts see a row of
+/// the tree.
 #[derive(Debug, Drop)]
 pub struct FileEntry {
     traps: TrapMap,
@@ -90,7 +92,9 @@ impl FileEntry {
 
     /// The user gets exactly these modes; without memory all stays as it was.
     pub fn set_traps(&mut self, full: &Full, user: &User, modes: Modes) -> Result<(), NoMemory>
-        ensures ok { OnOk result (self.new ≡ record self.old { traps = with_modes full.now user.now modes self.old.traps }) }
+        ensures ok { OnOk result
+            (let traps = with_modes full.now user.now modes self.old.traps in
+            self.new ≡ record self.old { traps = traps }) }
         ensures err { OnErr result (self.new ≡ self.old) }
     {
         self.traps.set(full, user, modes)
@@ -163,7 +167,9 @@ impl FileMap {
     pub fn renew(&mut self, full: &Full, bytes: Text, stamp: u64)
         requires there { is_some (finmap.get self.old full.now) ≡ true }
         requires few { length bytes ≤ 65536 }
-        ensures { self.new ≡ finmap.insert self.old full.now (record (unwrap_or (finmap.get self.old full.now) no_row) { bytes = bytes; stamp = stamp }) }
+        ensures { let row = unwrap_or (finmap.get self.old full.now) no_row in
+            let renewed = record row { bytes = bytes; stamp = stamp } in
+            self.new ≡ finmap.insert self.old full.now renewed }
     {
         match self.rows.get_mut(full) {
             Some(file) => file.renew(bytes, stamp),
@@ -175,7 +181,9 @@ impl FileMap {
     pub fn set_traps(&mut self, full: &Full, user: &User, modes: Modes) -> Result<(), NoMemory>
         requires { is_some (finmap.get self.old full.now) ≡ true }
         ensures ok { let row = unwrap_or (finmap.get self.old full.now) no_row in
-            OnOk result (self.new ≡ finmap.insert self.old full.now (record row { traps = with_modes full.now user.now modes row.traps })) }
+            let traps = with_modes full.now user.now modes row.traps in
+            OnOk result
+            (self.new ≡ finmap.insert self.old full.now (record row { traps = traps })) }
         ensures err { OnErr result (self.new ≡ self.old) }
     {
         match self.rows.get_mut(full) {
@@ -188,7 +196,8 @@ impl FileMap {
     pub fn rename(&mut self, alloc: Global, full: &Full, to: Full) -> Result<(), NoMemory>
         requires there { is_some (finmap.get self.old full.now) ≡ true }
         requires free { is_some (finmap.get self.old to) ≡ false }
-        ensures ok { OnOk result (self.new ≡ finmap.insert (finmap.remove self.old full.now) to (unwrap_or (finmap.get self.old full.now) no_row)) }
+        ensures ok { let row = unwrap_or (finmap.get self.old full.now) no_row in
+            OnOk result (self.new ≡ finmap.insert (finmap.remove self.old full.now) to row) }
         ensures err { OnErr result (self.new ≡ self.old) }
     {
         let place = FileEntry::new(TrapMap::new(alloc), Text::new(alloc), 0);
@@ -224,21 +233,21 @@ impl FileMap {
     /// The blocks of a user's files.
     pub fn used(&self, user: &User) -> u32
         requires { finmap.len self.now ≤ 1024 }
-        ensures { result ≡ sum_by (λ e. if same_text e.0.user user.now then blocks_for (length e.1.bytes) else 0) (finmap.entries self.now) }
+        ensures { result ≡ sum_by (blocks_of user.now) (finmap.entries self.now) }
     {
         used_in(&self.rows, user)
     }
 
     /// The greatest generation of the files of this user, local name and language, or 0.
     pub fn newest(&self, full: &Full) -> u16
-        ensures { result ≡ fold max 0 (map (λ e. e.0.generation) (filter (λ e. is_version_of full.now e.0) (finmap.entries self.now))) }
+        ensures { result ≡ fold max 0 (generations full.now (finmap.entries self.now)) }
     {
         newest_in(&self.rows, full)
     }
 
     /// The files of a user with their lengths, in full-name order.
     pub fn listing(&self, alloc: Global, user: &User) -> Result<Listing, NoMemory>
-        ensures { IfOk result (λ listing. listing ≡ map (λ e. (e.0, length e.1.bytes)) (filter (λ e. same_text e.0.user user.now) (finmap.entries self.now))) }
+        ensures { IfOk result (λ listing. listing ≡ lengths user.now (finmap.entries self.now)) }
     {
         listing_of(alloc, &self.rows, user)
     }
@@ -246,7 +255,7 @@ impl FileMap {
 
 fn used_in(rows: &BTreeMap<Full, FileEntry>, user: &User) -> u32
     requires { finmap.len (finmap.from_entries {R = full_cmp} rows.now.entries) ≤ 1024 }
-    ensures used { result ≡ sum_by (λ e. if same_text e.0.user user.now then blocks_for (length e.1.bytes) else 0) rows.now.entries }
+    ensures used { result ≡ sum_by (blocks_of user.now) rows.now.entries }
     ensures ordered { IsOrdered full_cmp rows.now }
 {
     let mut used = 0;
@@ -259,7 +268,7 @@ fn used_in(rows: &BTreeMap<Full, FileEntry>, user: &User) -> u32
 }
 
 fn newest_in(rows: &BTreeMap<Full, FileEntry>, name: &Full) -> u16
-    ensures newest { result ≡ fold max 0 (map (λ e. e.0.generation) (filter (λ e. is_version_of name.now e.0) rows.now.entries)) }
+    ensures newest { result ≡ fold max 0 (generations name.now rows.now.entries) }
     ensures ordered { IsOrdered full_cmp rows.now }
 {
     let mut newest = 0;
@@ -276,7 +285,7 @@ fn listing_of(
     rows: &BTreeMap<Full, FileEntry>,
     user: &User,
 ) -> Result<Listing, NoMemory>
-    ensures listing { IfOk result (λ listing. listing ≡ map (λ e. (e.0, length e.1.bytes)) (filter (λ e. same_text e.0.user user.now) rows.now.entries)) }
+    ensures listing { IfOk result (λ listing. listing ≡ lengths user.now rows.now.entries) }
     ensures ordered { IsOrdered full_cmp rows.now }
 {
     let mut listing = Listing::new(alloc);

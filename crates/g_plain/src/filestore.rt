@@ -8,8 +8,9 @@ use crate::{StoreCall, StoreFault, StoreReply};
 use g_name::User;
 use std::alloc::Global;
 
-/// A store of files. How a call was answered is the relation `answers` between the store before, the caller,
-/// the call, the answer and the store after; what holds of every store are the clauses of `call`.
+/// A store of files. How a call was answered is the relation `answers` between the store before,
+/// the caller, the call, the answer and the store after; what holds of every store are the clauses
+/// of `call`.
 pub trait Filestore {
     ghost use Rattle.std.specs.Prelude.{ℕ, Bool, List, Result};
     ghost use Rattle.g_plain.specs.declared.calls.StoreCall.{StoreCall};
@@ -24,7 +25,8 @@ pub trait Filestore {
 
     ghost answers: { Self → List ℕ → StoreCall → Result StoreReply StoreFault → Self → Type 0 };
 
-    /// Makes a call for the user `who`. Stopped, and no other answer, ends the store: it takes no call any more.
+    /// Makes a call for the user `who`. Stopped, and no other answer, ends the store: it takes no
+    /// call any more.
     fn call(
         &mut self,
         alloc: Global,
@@ -35,9 +37,12 @@ pub trait Filestore {
         requires limits { IsWithinLimits call.now }
         ensures answers { answers self.old who.now call.now result self.new }
 
-        // Who waits, waits for a reel that isn't mounted, at a call that may need one; and no call mounts one.
-        ensures waits { (s : ℕ) → result ≡ Err (StoreFault.WaitTape s) → can_wait self.new s ≡ true }
-        ensures may_wait { (s : ℕ) → result ≡ Err (StoreFault.WaitTape s) → may_wait call.now ≡ true }
+        // Who waits, waits for a reel that isn't mounted, at a call that may need one; and no call
+        // mounts one.
+        ensures waits { (s : ℕ) → result ≡ Err (StoreFault.WaitTape s)
+            → can_wait self.new s ≡ true }
+        ensures may_wait { (s : ℕ) → result ≡ Err (StoreFault.WaitTape s)
+            → may_wait call.now ≡ true }
         ensures same_waits { (s : ℕ) → can_wait self.new s ≡ can_wait self.old s }
 
         ensures kind { IfOk result (λ reply. IsReplyTo call.now reply) }

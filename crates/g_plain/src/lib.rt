@@ -1,5 +1,6 @@
 //! The plain directory tree, against which every store is measured: the calls of jobs with their
-//! replies and faults, what each call does to a tree, programs that ask a store, and a store in memory.
+//! replies and faults, the order of refusals, what each call does to a tree, programs that ask a
+//! store, and a store in memory.
 #![tactic(auto)]
 
 mod asking;

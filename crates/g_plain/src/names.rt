@@ -8,8 +8,8 @@ ghost use Rattle.g_plain.specs.Rules.{IsNamed};
 use crate::StoreCall;
 use g_name::{Full, Lang, Local, Path, User};
 
-/// The full name that a path gives with a generation, where an absent user is the caller, and an absent language
-/// that of four spaces.
+/// The full name that a path gives with a generation, where an absent user is the caller, and an
+/// absent language that of four spaces.
 pub fn named(who: &User, path: &Path, generation: u16) -> Full
     ensures { result ≡ tree.named who.now path.now generation }
 {

@@ -56,7 +56,8 @@ impl PlainTree {
         time: u64,
         money: u64,
     ) -> Result<StoreReply, NoMemory>
-        ensures { IsGranted self.old who.now (StoreCall.NewUser user.now space time money) result self.new }
+        ensures { IsGranted self.old who.now
+            (StoreCall.NewUser user.now space time money) result self.new }
     {
         let entry = UserEntry {
             superior: who.copy(),
@@ -77,7 +78,8 @@ impl PlainTree {
     ) -> Result<StoreReply, NoMemory>
         requires there { tree.has_user self.old user.now ≡ true }
         requires limit { amount ≤ most_of kind }
-        ensures { IsGranted self.old who.now (StoreCall.Budget user.now kind amount) result self.new }
+        ensures { IsGranted self.old who.now
+            (StoreCall.Budget user.now kind amount) result self.new }
     {
         self.set_budget(user, kind, amount);
         Ok(StoreReply::Done)
@@ -110,7 +112,8 @@ impl PlainTree {
     ) -> Result<StoreReply, NoMemory>
         requires tree { IsTree self.old }
         requires there { tree.has_file self.old (tree.input_name self.old who.now path.now) ≡ true }
-        requires few { length (tree.file_row self.old (tree.input_name self.old who.now path.now)).bytes + length bytes.now ≤ 65536 }
+        requires few { let full = tree.input_name self.old who.now path.now in
+            let row = tree.file_row self.old full in length row.bytes + length bytes.now ≤ 65536 }
         requires stamps { self.old.next < 2 ^ 62 }
         ensures { IsGranted self.old who.now (StoreCall.Append path.now bytes.now) result self.new }
     {
@@ -123,7 +126,8 @@ impl PlainTree {
     fn fetch(&self, alloc: Global, who: &User, path: &Path) -> Result<StoreReply, NoMemory>
         requires tree { IsTree self.now }
         requires there { tree.has_file self.now (tree.input_name self.now who.now path.now) ≡ true }
-        ensures { (mode : Mode) → IsGranted self.now who.now (StoreCall.Fetch path.now mode) result self.now }
+        ensures { (mode : Mode) → IsGranted self.now who.now
+            (StoreCall.Fetch path.now mode) result self.now }
     {
         let full = self.input_name(who, path);
         let bytes = self.bytes_with(alloc, &full, &[])?;
@@ -173,7 +177,8 @@ impl PlainTree {
     ) -> Result<StoreReply, NoMemory>
         requires tree { IsTree self.old }
         requires there { tree.has_file self.old (tree.input_name self.old who.now path.now) ≡ true }
-        ensures { IsGranted self.old who.now (StoreCall.TrapGo path.now user.now modes) result self.new }
+        ensures { IsGranted self.old who.now
+            (StoreCall.TrapGo path.now user.now modes) result self.new }
     {
         let full = self.input_name(who, path);
         let modes = self.given_modes(&full, user).union(modes);
@@ -190,7 +195,8 @@ impl PlainTree {
     ) -> Result<StoreReply, NoMemory>
         requires tree { IsTree self.old }
         requires there { tree.has_file self.old (tree.input_name self.old who.now path.now) ≡ true }
-        ensures { IsGranted self.old who.now (StoreCall.TrapStop path.now user.now modes) result self.new }
+        ensures { IsGranted self.old who.now
+            (StoreCall.TrapStop path.now user.now modes) result self.new }
     {
         let full = self.input_name(who, path);
         let modes = self.given_modes(&full, user).without(modes);
@@ -201,7 +207,8 @@ impl PlainTree {
     fn trap_check(&self, who: &User, path: &Path, user: &User) -> Result<StoreReply, NoMemory>
         requires tree { IsTree self.now }
         requires there { tree.has_file self.now (tree.input_name self.now who.now path.now) ≡ true }
-        ensures { IsGranted self.now who.now (StoreCall.TrapCheck path.now user.now) result self.now }
+        ensures { IsGranted self.now who.now
+            (StoreCall.TrapCheck path.now user.now) result self.now }
     {
         let full = self.input_name(who, path);
         Ok(StoreReply::Modes(self.modes_of(&full, user)))

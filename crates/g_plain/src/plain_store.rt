@@ -4,15 +4,15 @@ ghost use Rattle.g_plain.specs.PlainTree.{formatted};
 
 use crate::names::call_is_named;
 use crate::plain_tree::PlainTree;
-use crate::{Filestore, Questions, StoreCall, StoreFault, StoreReply, refusal};
+use crate::{Filestore, HoldsTree, Questions, StoreCall, StoreFault, StoreReply, refusal};
 use g_base::NoMemory;
 use g_name::{Full, Path, User};
 use g_trap::Modes;
 use std::alloc::Global;
 use std::marker::Model;
 
-/// The plain tree as a store: each call answers the plain step, or finds no memory and changes nothing.
-/// It never waits and never stops. Contracts see the tree.
+/// The plain tree as a store: each call answers the plain step, or finds no memory and changes
+/// nothing. It never waits and never stops. Contracts see the tree.
 #[derive(Debug, Drop)]
 pub struct PlainStore {
     tree: PlainTree,
@@ -33,7 +33,8 @@ impl Model for PlainStore {
 }
 
 impl PlainStore {
-    /// A new filestore: `MASTER`, and `MACROS` below it, both with SPACE 65,535 and TIME and MONEY 1,000,000, and no file.
+    /// A new filestore: `MASTER`, and `MACROS` below it, both with SPACE 65,535 and TIME and MONEY
+    /// 1,000,000, and no file.
     pub fn new(alloc: Global) -> Result<PlainStore, NoMemory>
         ensures { IfOk result (λ store. store ≡ formatted) }
     {
@@ -124,4 +125,13 @@ impl Filestore for PlainStore {
     fn spent(&self) -> bool {
         false
     }
+}
+
+impl HoldsTree for PlainStore {
+    ghost use Rattle.std.specs.Prelude.{◌≡◌};
+    ghost use Rattle.g_plain.specs.PlainHolds.{plain_holds};
+
+    ghost holds = { λ s t. s ≡ t };
+
+    ghost plainly = { plain_holds };
 }

@@ -1,5 +1,6 @@
 //! The plain directory tree in memory, and the calls on it.
-ghost use Rattle.std.specs.Prelude.{◌≡◌, ◌≤◌, ◌^◌, ◌+◌, ◌-◌, ◌<◌, true, false, ◌++◌, ◌&&◌, ◌==◌, not, map, filter, OnOk, OnErr, IfOk, is_none, length, unwrap_or, None, Some, nat_le, nat_lt, codes};
+ghost use Rattle.std.specs.Prelude.{◌≡◌, ◌≤◌, ◌^◌, ◌<◌, ◌++◌, ◌&&◌, ◌==◌, true, false, not};
+ghost use Rattle.std.specs.Prelude.{OnOk, OnErr, IfOk, is_none, length, unwrap_or, nat_le, codes};
 ghost use Rattle.std.specs.FinMap as finmap;
 ghost use Rattle.g_name.specs.Order.{same_text};
 ghost use Rattle.g_plain.specs.PlainTree as tree;
@@ -112,7 +113,8 @@ impl PlainTree {
     /// The modes that the traps of a file give a user.
     pub fn given_modes(&self, full: &Full, user: &User) -> Modes
         requires { tree.has_file self.now full.now ≡ true }
-        ensures { result ≡ unwrap_or (finmap.get (tree.file_row self.now full.now).traps user.now) 0 }
+        ensures { let traps = (tree.file_row self.now full.now).traps in
+            result ≡ unwrap_or (finmap.get traps user.now) 0 }
     {
         match self.files.get(full) {
             Some(file) => file.traps().get(user),
@@ -124,7 +126,8 @@ impl PlainTree {
     pub fn is_ninth(&self, full: &Full, user: &User, modes: Modes) -> bool
         requires { tree.has_file self.now full.now ≡ true }
         ensures { let traps = (tree.file_row self.now full.now).traps in
-            result ≡ (not (modes == 0) && is_none (finmap.get traps user.now) && nat_le 9 (finmap.len traps)) }
+            result ≡ (not (modes == 0) && is_none (finmap.get traps user.now)
+            && nat_le 9 (finmap.len traps)) }
     {
         match self.files.get(full) {
             Some(file) => {
@@ -208,14 +211,16 @@ impl PlainTree {
 
     /// The files of a user with their lengths, in full-name order.
     pub fn listing(&self, alloc: Global, user: &User) -> Result<Listing, NoMemory>
-        ensures { IfOk result (λ listing. listing ≡ map (λ e. (e.0, length e.1.bytes)) (filter (λ e. same_text e.0.user user.now) (finmap.entries self.now.files))) }
+        ensures { let es = finmap.entries self.now.files in
+            IfOk result (λ listing. listing ≡ tree.lengths user.now es) }
     {
         self.files.listing(alloc, user)
     }
 
     /// Sets a user's row; without memory the tree stays as it was.
     pub fn add_user(&mut self, user: User, entry: UserEntry) -> Result<(), NoMemory>
-        ensures ok { OnOk result (self.new ≡ record self.old { users = finmap.insert self.old.users user entry }) }
+        ensures ok { OnOk result
+            (self.new ≡ record self.old { users = finmap.insert self.old.users user entry }) }
         ensures err { OnErr result (self.new ≡ self.old) }
     {
         self.users.insert(user, entry)
@@ -225,7 +230,8 @@ impl PlainTree {
     pub fn set_budget(&mut self, user: &User, kind: BudgetKind, amount: u64)
         requires there { tree.has_user self.old user.now ≡ true }
         requires limit { amount ≤ most_of kind }
-        ensures { self.new ≡ record self.old { users = finmap.insert self.old.users user.now (step.with_budget (tree.user_row self.old user.now) kind amount) } }
+        ensures { let row = step.with_budget (tree.user_row self.old user.now) kind amount in
+            self.new ≡ record self.old { users = finmap.insert self.old.users user.now row } }
     {
         self.users.set_budget(user, kind, amount)
     }
@@ -259,7 +265,9 @@ impl PlainTree {
     pub fn rename(&mut self, alloc: Global, full: &Full, to: Full) -> Result<(), NoMemory>
         requires there { tree.has_file self.old full.now ≡ true }
         requires free { tree.has_file self.old to ≡ false }
-        ensures ok { OnOk result (self.new ≡ record self.old { files = finmap.insert (finmap.remove self.old.files full.now) to (tree.file_row self.old full.now) }) }
+        ensures ok { let others = finmap.remove self.old.files full.now in
+            let files = finmap.insert others to (tree.file_row self.old full.now) in
+            OnOk result (self.new ≡ record self.old { files = files }) }
         ensures err { OnErr result (self.new ≡ self.old) }
     {
         self.files.rename(alloc, full, to)
@@ -277,7 +285,8 @@ impl PlainTree {
 
 /// A first user's budgets.
 fn first_entry() -> UserEntry
-    ensures { result ≡ record { superior = codes "MASTER"; space = 65535; time = 1000000; money = 1000000 } }
+    ensures { result
+        ≡ record { superior = codes "MASTER"; space = 65535; time = 1000000; money = 1000000 } }
 {
     UserEntry {
         superior: User::master(),

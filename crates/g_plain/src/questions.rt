@@ -8,8 +8,8 @@ ghost use Rattle.g_plain.specs.PlainStep as step;
 use g_name::{Full, Path, User};
 use g_trap::Modes;
 
-/// Whoever answers for a tree of users and files, by name. The tree in memory answers, and so do numbered records.
-/// No answer takes memory or reads a device.
+/// Whoever answers for a tree of users and files, by name. The tree in memory answers, and so do
+/// numbered records. No answer takes memory or reads a device.
 pub trait Questions {
     ghost use Rattle.g_plain.specs.PlainTree.{Tree};
 
@@ -64,7 +64,8 @@ pub trait Questions {
     fn modes_of(&self, full: &Full, user: &User) -> Modes
         requires file { plain.has_file (tree self.now) full.now ≡ true }
         requires user { plain.has_user (tree self.now) user.now ≡ true }
-        ensures { result ≡ plain.modes_of (plain.file_row (tree self.now) full.now) full.now user.now };
+        ensures { let row = plain.file_row (tree self.now) full.now in
+            result ≡ plain.modes_of row full.now user.now };
 
     /// Whether a user who is to get these modes of a file would be the ninth beside its owner.
     fn is_ninth(&self, full: &Full, user: &User, modes: Modes) -> bool

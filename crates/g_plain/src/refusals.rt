@@ -2,7 +2,8 @@
 ghost use Rattle.std.specs.Prelude.{◌≡◌, ℕ, List, [], ◌∷◌, true};
 ghost use Rattle.g_plain.specs.declared.calls.BudgetKind.{BudgetKind};
 ghost use Rattle.g_plain.specs.PlainTree as plain;
-ghost use Rattle.g_plain.specs.PlainStep as step;
+ghost use Rattle.g_plain.specs.PlainStep.{first_fault, fault_in, fault_of};
+ghost use Rattle.g_plain.specs.PlainStep.{input_checks, size_checks, spent_check};
 
 use crate::names::with_local;
 use crate::{Questions, StoreCall, StoreFault};
@@ -10,9 +11,10 @@ use g_base::blocks_for;
 use g_name::{Full, Local, Path, Text, User};
 use g_trap::{Mode, Modes};
 
-/// The fault of a call, or None where it is granted. A caller who isn't there is NoUser, first of all.
+/// The fault of a call, or None where it is granted. A caller who isn't there is NoUser, first of
+/// all.
 pub fn refusal<Q: Questions>(questions: &Q, who: &User, call: &StoreCall) -> Option<StoreFault>
-    ensures { result ≡ step.fault_of (Q.tree questions.now) who.now call.now }
+    ensures { result ≡ fault_of (Q.tree questions.now) who.now call.now }
 {
     if !questions.has_user(who) {
         return Some(StoreFault::NoUser);
@@ -33,9 +35,10 @@ pub fn refusal<Q: Questions>(questions: &Q, who: &User, call: &StoreCall) -> Opt
     }
 }
 
+/// The name has to be new, and there have to be fewer than 63 users.
 fn new_user<Q: Questions>(questions: &Q, user: &User) -> Option<StoreFault>
     ensures { (who : List ℕ) (space time money : ℕ) → result
-        ≡ step.first_fault (step.checks (Q.tree questions.now) who (StoreCall.NewUser user.now space time money)) }
+        ≡ fault_in (Q.tree questions.now) who (StoreCall.NewUser user.now space time money) }
 {
     if questions.has_user(user) {
         Some(StoreFault::Exists)
@@ -46,10 +49,11 @@ fn new_user<Q: Questions>(questions: &Q, user: &User) -> Option<StoreFault>
     }
 }
 
+/// The user has to be there, and the caller to be the superior.
 fn budget<Q: Questions>(questions: &Q, who: &User, user: &User) -> Option<StoreFault>
     requires { plain.has_user (Q.tree questions.now) who.now ≡ true }
     ensures { (kind : BudgetKind) (amount : ℕ) → result
-        ≡ step.first_fault (step.checks (Q.tree questions.now) who.now (StoreCall.Budget user.now kind amount)) }
+        ≡ fault_in (Q.tree questions.now) who.now (StoreCall.Budget user.now kind amount) }
 {
     if !questions.has_user(user) {
         Some(StoreFault::NoUser)
@@ -60,9 +64,10 @@ fn budget<Q: Questions>(questions: &Q, who: &User, user: &User) -> Option<StoreF
     }
 }
 
+/// The user has to be there, and the caller to be that user or the superior.
 fn list<Q: Questions>(questions: &Q, who: &User, user: &User) -> Option<StoreFault>
     requires { plain.has_user (Q.tree questions.now) who.now ≡ true }
-    ensures { result ≡ step.first_fault (step.checks (Q.tree questions.now) who.now (StoreCall.List user.now)) }
+    ensures { result ≡ fault_in (Q.tree questions.now) who.now (StoreCall.List user.now) }
 {
     if !questions.has_user(user) {
         Some(StoreFault::NoUser)
@@ -73,9 +78,11 @@ fn list<Q: Questions>(questions: &Q, who: &User, user: &User) -> Option<StoreFau
     }
 }
 
+/// The owner has to be there, and a generation to be left; the file has to be open to the caller, or
+/// new and the caller's own; the bytes have to be few enough, and a file and a stamp to be left.
 fn put<Q: Questions>(questions: &Q, who: &User, path: &Path, bytes: &Text) -> Option<StoreFault>
     requires { plain.has_user (Q.tree questions.now) who.now ≡ true }
-    ensures { result ≡ step.first_fault (step.checks (Q.tree questions.now) who.now (StoreCall.Put path.now bytes.now)) }
+    ensures { result ≡ fault_in (Q.tree questions.now) who.now (StoreCall.Put path.now bytes.now) }
 {
     let full = questions.output_name(who, path);
     if !questions.has_user(&full.user) {
@@ -101,9 +108,11 @@ fn put<Q: Questions>(questions: &Q, who: &User, path: &Path, bytes: &Text) -> Op
     spent(questions)
 }
 
+/// The file has to be open to the caller, all bytes to be few enough, and a stamp to be left.
 fn append<Q: Questions>(questions: &Q, who: &User, path: &Path, bytes: &Text) -> Option<StoreFault>
     requires { plain.has_user (Q.tree questions.now) who.now ≡ true }
-    ensures { result ≡ step.first_fault (step.checks (Q.tree questions.now) who.now (StoreCall.Append path.now bytes.now)) }
+    ensures { result
+        ≡ fault_in (Q.tree questions.now) who.now (StoreCall.Append path.now bytes.now) }
 {
     let closed = trapped(questions, who, path, Mode::Append);
     if closed.is_some() {
@@ -118,8 +127,9 @@ fn append<Q: Questions>(questions: &Q, who: &User, path: &Path, bytes: &Text) ->
     spent(questions)
 }
 
+/// The file has to be the caller's, and its new name to be free.
 fn rename<Q: Questions>(questions: &Q, who: &User, path: &Path, to: &Local) -> Option<StoreFault>
-    ensures { result ≡ step.first_fault (step.checks (Q.tree questions.now) who.now (StoreCall.Rename path.now to.now)) }
+    ensures { result ≡ fault_in (Q.tree questions.now) who.now (StoreCall.Rename path.now to.now) }
 {
     let absent = missing(questions, who, path);
     if absent.is_some() {
@@ -135,6 +145,7 @@ fn rename<Q: Questions>(questions: &Q, who: &User, path: &Path, to: &Local) -> O
     }
 }
 
+/// As for modes that are taken; and with this user not more than eight others may be trapped.
 fn trap_go<Q: Questions>(
     questions: &Q,
     who: &User,
@@ -142,7 +153,8 @@ fn trap_go<Q: Questions>(
     user: &User,
     modes: Modes,
 ) -> Option<StoreFault>
-    ensures { result ≡ step.first_fault (step.checks (Q.tree questions.now) who.now (StoreCall.TrapGo path.now user.now modes)) }
+    ensures { result
+        ≡ fault_in (Q.tree questions.now) who.now (StoreCall.TrapGo path.now user.now modes) }
 {
     let refused = trap_stop(questions, who, path, user);
     if refused.is_some() {
@@ -156,6 +168,7 @@ fn trap_go<Q: Questions>(
     }
 }
 
+/// The file and the user have to be there, and the file to be the caller's.
 fn trap_stop<Q: Questions>(
     questions: &Q,
     who: &User,
@@ -163,7 +176,7 @@ fn trap_stop<Q: Questions>(
     user: &User,
 ) -> Option<StoreFault>
     ensures { (modes : ℕ) → result
-        ≡ step.first_fault (step.checks (Q.tree questions.now) who.now (StoreCall.TrapStop path.now user.now modes)) }
+        ≡ fault_in (Q.tree questions.now) who.now (StoreCall.TrapStop path.now user.now modes) }
 {
     let absent = missing(questions, who, path);
     if absent.is_some() {
@@ -178,13 +191,15 @@ fn trap_stop<Q: Questions>(
     }
 }
 
+/// The file and the user have to be there, and the caller to be the owner or that user.
 fn trap_check<Q: Questions>(
     questions: &Q,
     who: &User,
     path: &Path,
     user: &User,
 ) -> Option<StoreFault>
-    ensures { result ≡ step.first_fault (step.checks (Q.tree questions.now) who.now (StoreCall.TrapCheck path.now user.now)) }
+    ensures { result
+        ≡ fault_in (Q.tree questions.now) who.now (StoreCall.TrapCheck path.now user.now) }
 {
     let absent = missing(questions, who, path);
     if absent.is_some() {
@@ -201,7 +216,7 @@ fn trap_check<Q: Questions>(
 
 /// Whom the name of a file for input names has to be there, and the file.
 fn missing<Q: Questions>(questions: &Q, who: &User, path: &Path) -> Option<StoreFault>
-    ensures { result ≡ step.first_fault (step.input_checks (Q.tree questions.now) who.now path.now) }
+    ensures { result ≡ first_fault (input_checks (Q.tree questions.now) who.now path.now) }
 {
     let full = questions.input_name(who, path);
     if !questions.has_user(&full.user) {
@@ -216,7 +231,7 @@ fn missing<Q: Questions>(questions: &Q, who: &User, path: &Path) -> Option<Store
 /// The file has to be there, and open to the caller in this mode.
 fn trapped<Q: Questions>(questions: &Q, who: &User, path: &Path, mode: Mode) -> Option<StoreFault>
     requires { plain.has_user (Q.tree questions.now) who.now ≡ true }
-    ensures { result ≡ step.first_fault (step.checks (Q.tree questions.now) who.now (StoreCall.Fetch path.now mode)) }
+    ensures { result ≡ fault_in (Q.tree questions.now) who.now (StoreCall.Fetch path.now mode) }
 {
     let absent = missing(questions, who, path);
     if absent.is_some() {
@@ -233,7 +248,7 @@ fn trapped<Q: Questions>(questions: &Q, who: &User, path: &Path, mode: Mode) -> 
 /// So many bytes have to be no more than a file may have, and than its owner has room for.
 fn over_size<Q: Questions>(questions: &Q, full: &Full, size: u64) -> Option<StoreFault>
     requires { plain.has_user (Q.tree questions.now) full.now.user ≡ true }
-    ensures { result ≡ step.first_fault (step.size_checks (Q.tree questions.now) full.now size) }
+    ensures { result ≡ first_fault (size_checks (Q.tree questions.now) full.now size) }
 {
     if size > 65536 {
         return Some(StoreFault::TooLong(size));
@@ -249,7 +264,7 @@ fn over_size<Q: Questions>(questions: &Q, full: &Full, size: u64) -> Option<Stor
 
 /// A new version needs a stamp.
 fn spent<Q: Questions>(questions: &Q) -> Option<StoreFault>
-    ensures { result ≡ step.first_fault (step.spent_check (Q.tree questions.now) ∷ []) }
+    ensures { result ≡ first_fault (spent_check (Q.tree questions.now) ∷ []) }
 {
     if questions.stamps_spent() {
         Some(StoreFault::CountersSpent)

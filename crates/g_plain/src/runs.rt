@@ -17,11 +17,12 @@ pub trait StandsFor<T: Filestore>: Filestore {
     ghost stands: { Self → T };
 
     ghost along: { (old : Self) (who : List ℕ) (call : StoreCall) (answer : Answer) (new : Self)
-        → Self.answers old who call answer new → T.answers (stands old) who call answer (stands new) };
+        → Self.answers old who call answer new
+        → T.answers (stands old) who call answer (stands new) };
 }
 
-/// A store that holds a tree: each answer but want of memory is that of the plain step, a refusal of a device or a
-/// stop, and the tree is as that says.
+/// A store that holds a tree: each answer but want of memory is that of the plain step, a refusal of
+/// a device or a stop, and the tree is as that says.
 pub trait HoldsTree: Filestore {
     ghost use Rattle.std.specs.Prelude.{ℕ, List};
     ghost use Rattle.g_plain.specs.declared.calls.StoreCall.{StoreCall};
@@ -32,7 +33,8 @@ pub trait HoldsTree: Filestore {
     // The store holds this tree.
     ghost holds: { Self → Tree → Type 0 };
 
-    ghost plainly: { (old : Self) (t : Tree) (who : List ℕ) (call : StoreCall) (answer : Answer) (new : Self)
+    ghost plainly: { (old : Self) (t : Tree) (who : List ℕ)
+        (call : StoreCall) (answer : Answer) (new : Self)
         → holds old t → Self.answers old who call answer new → IsAnswer answer
         → (after : Tree) × PlainOrDevice t who call answer after × holds new after };
 }
@@ -40,17 +42,21 @@ pub trait HoldsTree: Filestore {
 /// A program that ran got some answers, and a program that ran with some answers ran.
 pub fn runs_have_answers<S: Filestore, A>()
     ensures some { (who : List ℕ) (p : Asks A) (old : S) (given : A) (new : S)
-        → Ran S.answers who old p given new → (told : List Answer) × RanBy S.answers who old p told given new }
+        → Ran S.answers who old p given new
+        → (told : List Answer) × RanBy S.answers who old p told given new }
     ensures ran { (who : List ℕ) (p : Asks A) (told : List Answer) (old : S) (given : A) (new : S)
         → RanBy S.answers who old p told given new → Ran S.answers who old p given new }
 {}
 
-/// A program that ran over a store, whole or until it found no memory, ran so over the store that this one stands for.
+/// A program that ran over a store, whole or until it found no memory, ran so over the store that
+/// this one stands for.
 pub fn runs_go_along<T: Filestore, S: StandsFor<T>, A>()
     ensures whole { (who : List ℕ) (old : S) (p : Asks A) (given : A) (new : S)
-        → Ran S.answers who old p given new → Ran T.answers who (S.stands old) p given (S.stands new) }
+        → Ran S.answers who old p given new
+        → Ran T.answers who (S.stands old) p given (S.stands new) }
     ensures part { (who : List ℕ) (old : S) (p : Asks A) (new : S)
-        → RanInPart S.answers who old p new → RanInPart T.answers who (S.stands old) p (S.stands new) }
+        → RanInPart S.answers who old p new
+        → RanInPart T.answers who (S.stands old) p (S.stands new) }
 {}
 
 /// A program that ran over a store that holds a tree was asked of that tree.

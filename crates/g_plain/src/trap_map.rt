@@ -76,7 +76,8 @@ impl TrapMap {
         self.modes.remove(user);
     }
 
-    /// The user gets exactly these modes of the file, and stands there no more without any, but for the owner.
+    /// The user gets exactly these modes of the file, and stands there no more without any, but for
+    /// the owner.
     pub fn set(&mut self, full: &Full, user: &User, modes: Modes) -> Result<(), NoMemory>
         ensures ok { OnOk result (self.new ≡ with_modes full.now user.now modes self.old) }
         ensures err { OnErr result (self.new ≡ self.old) }

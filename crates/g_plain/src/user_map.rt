@@ -27,7 +27,8 @@ impl Model for UserEntry {
 
     ghost Value = { UserRow };
 
-    ghost view = { λ u. record { superior = u.superior; space = u.space; time = u.time; money = u.money } };
+    ghost view = { λ u.
+        record { superior = u.superior; space = u.space; time = u.time; money = u.money } };
 }
 
 impl UserEntry {
@@ -103,7 +104,8 @@ impl UserMap {
     pub fn set_budget(&mut self, user: &User, kind: BudgetKind, amount: u64)
         requires there { is_some (finmap.get self.old user.now) ≡ true }
         requires limit { amount ≤ most_of kind }
-        ensures { self.new ≡ finmap.insert self.old user.now (with_budget (unwrap_or (finmap.get self.old user.now) no_budgets) kind amount) }
+        ensures { let row = unwrap_or (finmap.get self.old user.now) no_budgets in
+            self.new ≡ finmap.insert self.old user.now (with_budget row kind amount) }
     {
         match self.rows.get_mut(user) {
             Some(entry) => entry.set(kind, amount),

@@ -1,6 +1,6 @@
 -- The files so far, and behind them those that are left.
 use Rattle.std.proofs.Common.{◌≡◌, ◌++◌}
-use Rattle.g_plain.proofs.Loops.{lengths}
+use Rattle.g_plain.specs.PlainTree.{lengths}
 use Rattle.g_plain.proofs.file_map.listing_of.Given as goal
 
 abbrev pub invariant-loop-full : goal.invariant-loop-full

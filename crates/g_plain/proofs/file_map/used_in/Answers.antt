@@ -3,7 +3,7 @@ use Rattle.std.proofs.Common.{◌≤◌, ap, subst, arith, length, sum_by}
 use Rattle.g_name.proofs.Order.{full_total}
 use Rattle.g_plain.proofs.Maps.{len-made}
 use Rattle.g_plain.proofs.TextMaps.{full_exact}
-use Rattle.g_plain.proofs.Loops.{blocks_of}
+use Rattle.g_plain.specs.PlainTree.{blocks_of}
 use Rattle.g_plain.proofs.file_map.used_in.Goals as goal
 
 pub loop-full-init : goal.loop-full-init

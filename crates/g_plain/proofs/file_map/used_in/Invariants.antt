@@ -1,6 +1,6 @@
 -- The blocks so far and those of the files that are left are those of all files, and there is room for them.
 use Rattle.std.proofs.Common.{◌≡◌, ◌+◌, ◌*◌, ◌≤◌, length, sum_by}
-use Rattle.g_plain.proofs.Loops.{blocks_of}
+use Rattle.g_plain.specs.PlainTree.{blocks_of}
 use Rattle.g_plain.proofs.file_map.used_in.Given as goal
 
 abbrev pub invariant-loop-full : goal.invariant-loop-full

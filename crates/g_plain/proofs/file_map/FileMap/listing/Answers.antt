@@ -4,7 +4,7 @@ use Rattle.std.specs.FinMap as finmap
 use Rattle.g_name.proofs.Order.{full_total}
 use Rattle.g_plain.proofs.Maps.{entries-made}
 use Rattle.g_plain.proofs.TextMaps.{full_exact}
-use Rattle.g_plain.proofs.Loops.{lengths}
+use Rattle.g_plain.specs.PlainTree.{lengths}
 use Rattle.g_plain.proofs.file_map.FileMap.listing.Goals as goal
 
 pub returns : goal.returns

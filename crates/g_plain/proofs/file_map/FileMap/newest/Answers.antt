@@ -4,7 +4,7 @@ use Rattle.std.specs.FinMap as finmap
 use Rattle.g_name.proofs.Order.{full_total}
 use Rattle.g_plain.proofs.Maps.{entries-made}
 use Rattle.g_plain.proofs.TextMaps.{full_exact}
-use Rattle.g_plain.proofs.Loops.{generations}
+use Rattle.g_plain.specs.PlainTree.{generations}
 use Rattle.g_plain.proofs.file_map.FileMap.newest.Goals as goal
 
 pub returns : goal.returns

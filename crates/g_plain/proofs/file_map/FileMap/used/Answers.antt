@@ -4,7 +4,7 @@ use Rattle.std.specs.FinMap as finmap
 use Rattle.g_name.proofs.Order.{full_total}
 use Rattle.g_plain.proofs.Maps.{entries-made}
 use Rattle.g_plain.proofs.TextMaps.{full_exact}
-use Rattle.g_plain.proofs.Loops.{blocks_of}
+use Rattle.g_plain.specs.PlainTree.{blocks_of}
 use Rattle.g_plain.proofs.file_map.FileMap.used.Goals as goal
 
 pub used_in-requires : goal.used_in-requires

@@ -2,7 +2,7 @@
 use Rattle.std.proofs.Common.{◌≡◌, ◌≤◌, subst, sym, ap, ◌∙◌, fold, max}
 use Rattle.std.specs.FinMap as finmap
 use Rattle.g_plain.specs.PlainTree.{newest}
-use Rattle.g_plain.proofs.Loops.{generations}
+use Rattle.g_plain.specs.PlainTree.{generations}
 use Rattle.g_plain.proofs.TreeLemmas.{newest-few}
 use Rattle.g_plain.proofs.plain_tree.PlainTree.newest.Goals as goal
 
