@@ -2,7 +2,7 @@
 use Rattle.std.proofs.Common.{Bool, List, None, Option, Some, [], ap, eqb-true, false, pred, refl, subst, suc, sym, true, ℕ, ◌&&◌, ◌++◌, ◌+◌, ◌==◌, ◌∙◌, ◌∷◌, ◌≡◌}
 use Rattle.std.proofs.lemmas.Bool.{and_from, and_parts, cond_both, false≢true, not_from_false}
 use Rattle.std.specs.Prelude.{if◌then◌else◌}
-use Rattle.g_lang.proofs.PlaceLemmas.{closes, takes}
+use Rattle.g_lang.proofs.PlaceLemmas.{takes}
 use Rattle.g_lang.proofs.SpaceLemmas.{StartsWell}
 use Rattle.g_lang.proofs.TakeLemmas.{params_spaces}
 use Rattle.g_lang.proofs.ValueLemmas.{are_parts}

@@ -5,7 +5,7 @@ use Rattle.std.proofs.lemmas.List.Elements.{All-from_recursion}
 use Rattle.std.specs.List.{AllByRecursion, list_all}
 use Rattle.std.specs.Prelude.{if◌then◌else◌}
 use Rattle.g_lang.proofs.PartLemmas.{AreParams, ParamsRest, params-rest}
-use Rattle.g_lang.proofs.PlaceLemmas.{closes, takes}
+use Rattle.g_lang.proofs.PlaceLemmas.{takes}
 use Rattle.g_lang.proofs.SpaceLemmas.{spaces-two}
 use Rattle.g_lang.proofs.TakeLemmas.{goes-on}
 use Rattle.g_lang.proofs.ValueLemmas.{are_parts, same_text-eq}

@@ -4,16 +4,20 @@ use std::test::Fail;
 /// A label, a condition and a verb with its parameters, with ample memory.
 #[test]
 fn ample(rt: HostRuntime) -> Result<(), Fail> {
-    let line = parse_line(rt.alloc(), b" 1A IF NOT STRING(%B)=(X,Y),COPY A (B,C) , D ")?;
-    let Some(label) = line.label else {
+    let Line { label, command } = parse_line(
+        rt.alloc(),
+        b" 1A IF NOT STRING(%B)=(X,Y),COPY A (B,C) , D ",
+    )?;
+    let Some(label) = label else {
         panic!(rt; "no label");
     };
     assert_eq!(rt; label.as_slice(), b"1A".as_slice());
-    let Command::If { cond, inner } = line.command else {
+    let Command::If { cond, inner } = command else {
         panic!(rt; "no condition");
     };
-    assert!(rt; cond.negated);
-    let Test::Equals { letter, text } = cond.test else {
+    let Cond { negated, test } = cond;
+    assert!(rt; negated);
+    let Test::Equals { letter, text } = test else {
         panic!(rt; "another test");
     };
     assert_eq!(rt; letter, b'B');

@@ -1,4 +1,4 @@
-use Rattle.std.proofs.Common.{Option, Some, ◌≡◌, ◌∙◌, ◌≤◌, ◌<◌, ◌+◌, ap, sym, subst, arith, length, List, ℕ, codes}
+use Rattle.std.proofs.Common.{Option, Some, ◌≡◌, ◌∙◌, ◌≤◌, ◌<◌, ap, sym, subst, arith, length, List, ℕ, codes}
 use Rattle.g_lang.specs.Lines.{IsCommandText, Said, SaidIf}
 use Rattle.g_lang.specs.How.{cond_read, command_read}
 use Rattle.g_lang.specs.Said.{said_inside}

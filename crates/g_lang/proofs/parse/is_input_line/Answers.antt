@@ -1,4 +1,4 @@
-use Rattle.std.proofs.Common.{sym, ap, ◌∙◌, ◌≡◌, Bool, Bor, true, false, List, ℕ, codes}
+use Rattle.std.proofs.Common.{sym, ap, ◌∙◌, ◌≡◌, Bor, true, false, List, ℕ, codes}
 use Rattle.std.proofs.lemmas.Bool.{false≢true}
 use Rattle.g_name.specs.Order.{same_text}
 use Rattle.g_lang.proofs.ParseLemmas.{wrong-input, right-input}

@@ -1,5 +1,5 @@
-use Rattle.std.proofs.Common.{◌≡◌, ◌∙◌, sym, ap, subst, Some, None, Ok, Err, ℕ}
-use Rattle.g_lang.specs.How.{reading, read_trimmed}
+use Rattle.std.proofs.Common.{◌∙◌, sym, ap, subst, Some, Ok}
+use Rattle.g_lang.specs.How.{read_trimmed}
 use Rattle.g_lang.specs.Lines.{LineSaid, Reading}
 use Rattle.g_lang.specs.Said.{line_said}
 use Rattle.g_lang.specs.Texts.{HasCommands}

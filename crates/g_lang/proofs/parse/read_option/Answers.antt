@@ -1,4 +1,4 @@
-use Rattle.std.proofs.Common.{◌≡◌, ◌∙◌, sym, ap, length, eqb, true, false, eq-eqb}
+use Rattle.std.proofs.Common.{◌∙◌, sym, length, eq-eqb}
 use Rattle.std.proofs.lemmas.Bool.{false≢true}
 use Rattle.g_lang.proofs.ParseLemmas.{option-reads}
 use Rattle.g_lang.proofs.parse.read_option.Goals as goal

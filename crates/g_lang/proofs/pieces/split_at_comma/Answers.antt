@@ -1,4 +1,4 @@
-use Rattle.std.proofs.Common.{ap, sym, ◌∙◌, ◌∷◌, ◌+◌, ◌-◌, ◌<◌, ◌≡◌, ◌≤◌, List, ℕ, arith, drop, length, take, get_or, length-drop}
+use Rattle.std.proofs.Common.{ap, sym, ◌∙◌, ◌∷◌, ◌+◌, ◌-◌, ◌<◌, List, ℕ, arith, drop, length, take, get_or, length-drop}
 use Rattle.g_lang.specs.How.{parts_of}
 use Rattle.g_lang.proofs.PieceLemmas.{up_to-more, up_to-all, a_comma, before-stop, past-stop, parts-stop, tail-all}
 use Rattle.g_lang.proofs.pieces.split_at_comma.Goals as goal
