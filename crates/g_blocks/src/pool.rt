@@ -92,9 +92,9 @@ impl Pool {
                 room: self.free,
             });
         }
-        self.skip_taken();
         let blocks = least_free(alloc, &self.taken, self.low, n as usize)?;
         self.mark_all_taken(&blocks);
+        self.skip_taken();
         Ok(blocks)
     }
 

@@ -1,8 +1,15 @@
--- The least free blocks rise, so they are apart.
-use Rattle.std.proofs.Common.{◌≢◌, AllPairs, ℕ, sym, subst}
+-- The least free blocks rise, so they are apart. Where the search begins is not seen.
+use Rattle.std.proofs.Common.{◌≢◌, AllPairs, List, ℕ, sym, subst}
+use Rattle.g_blocks.specs.Pool.{HasTaken}
 use Rattle.g_blocks.proofs.Marks.{apart-rising}
 use Rattle.g_blocks.proofs.pool.Pool.take.Goals as goal
 
 pub mark_all_taken-requires-clause-apart : goal.mark_all_taken-requires-clause-apart
 mark_all_taken-requires-clause-apart c =
     subst (AllPairs (λ (one other : ℕ). one ≢ other)) (sym c.deref-2.ensures.value) (apart-rising _ c.in_ok-blocks.ensures.rising)
+
+pub returns-clause-taken : goal.returns-clause-taken
+returns-clause-taken c =
+    let taken : HasTaken c.in_ok-blocks.blocks.items c.args.self.now c.mark_all_taken.new.self =
+    subst (λ (blocks : List ℕ). HasTaken blocks c.args.self.now c.mark_all_taken.new.self) c.deref-2.ensures.value c.mark_all_taken.ensures in
+    subst (HasTaken c.in_ok-blocks.blocks.items c.args.self.now) (sym c.skip_taken.ensures) taken
