@@ -1,19 +1,19 @@
 -- Changes of files, of the intent and of the last dump's number, and what a restore and a format make.
-use Rattle.std.proofs.Common.{◌≡◌, ℕ, ◌+◌, ◌<◌, ◌≤◌, List, [], ◌∷◌, Option, Some, None, length, refl, sym, ◌∙◌, ap, subst, inl, inr, arith}
-use Rattle.std.specs.Prelude.{◌⊎◌, Bool, true, false, ◌==◌, not, All, Contains, filter, map, IfSome, if◌then◌else◌}
+use Rattle.std.proofs.Common.{◌≡◌, ℕ, ◌≤◌, List, [], ◌∷◌, Option, Some, None, length, refl, sym, ◌∙◌, ap, subst, inl, inr, arith}
+use Rattle.std.specs.Prelude.{◌⊎◌, Bool, true, false, ◌==◌, not, All, Contains, map, IfSome, if◌then◌else◌}
 use Rattle.std.specs.Option.{ForSome, option_map}
 use Rattle.std.proofs.lemmas.Bool.{eqb-true}
 use Rattle.std.proofs.lemmas.List.Elements.{All-nil, All-cons, All-contains, All-head, All-tail, All-filter}
 use Rattle.g_entry.specs.declared.file_rec.FileRec.{FileRec}
 use Rattle.g_entry.specs.declared.file_rec.TapeCopy.{TapeCopy}
 use Rattle.g_tape.specs.Reel.{Reel}
-use Rattle.g_contents.specs.Contents.{Contents, File, brought, copied_rec, copy_of, has, offline_in, online_with, set_rec, taken_off, with_copies, with_copy, with_rec, without_file}
+use Rattle.g_contents.specs.Contents.{Contents, File, brought, copy_of, has, offline_in, online_with, set_rec, taken_off, with_copies, with_copy, with_rec, without_file}
 use Rattle.g_incr.specs.Layout.{Dump}
 use Rattle.g_shelf.specs.Completed.{all_dumps}
-use Rattle.g_state.specs.Meaning.{DumpedDirectory, IsContent, files_in}
-use Rattle.g_state.specs.Belong.{DiscBelongs, IsIntended, KeepsFile, KeepsRecord, RackBelongs}
+use Rattle.g_state.specs.Meaning.{IsContent, files_in}
+use Rattle.g_state.specs.Belong.{DiscBelongs, IsIntended, KeepsFile, KeepsRecord}
 use Rattle.g_state.specs.Laws.{BringsText, ClosingBelongs, FilesBelong, FormatBelongs, HasContent, IntentsBelong, RecordsAnew, RestoreBelongs, restored_file}
-use Rattle.g_state.proofs.BelongLemmas.{HasKept, Keeps, none_is, not_some}
+use Rattle.g_state.proofs.BelongLemmas.{HasKept, Keeps, none_is}
 
 -- other files alone
 with_other : (text : ℕ → List ℕ) (shelf : ℕ → List Dump) (reels : List Reel) (c : Contents) (files : List File) → DiscBelongs text shelf reels c

@@ -1,3 +1,6 @@
 pub mod BelongLemmas
 pub mod ChangeLemmas
+pub mod DirectoryLemmas
+pub mod OneLemmas
+pub mod StayLemmas
 pub mod ViewLemmas

@@ -3,11 +3,10 @@ use Rattle.std.specs.Prelude.{◌≡◌, ◌⊎◌, ℕ, ◌+◌, ◌<◌, ◌�
 use Rattle.std.specs.Option.{ForSome, option_map}
 use Rattle.g_entry.specs.declared.file_rec.FileRec.{FileRec}
 use Rattle.g_entry.specs.declared.file_rec.TapeCopy.{TapeCopy}
-use Rattle.g_entry.specs.declared.head.Head.{Head}
 use Rattle.g_entry.specs.declared.head.Intent.{Intent}
 use Rattle.g_entry.specs.declared.user_rec.UserRec.{UserRec}
 use Rattle.g_tape.specs.Reel.{Reel}
-use Rattle.g_contents.specs.Contents.{Contents, File, brought, copy_of, set_rec, taken_off, with_copies, with_file, with_intent, without_file}
+use Rattle.g_contents.specs.Contents.{Contents, File, brought, set_rec, taken_off, with_copies, with_file, with_intent, without_file}
 use Rattle.g_incr.specs.Layout.{Dump}
 use Rattle.g_shelf.specs.Completed.{all_dumps}
 use Rattle.g_tape.specs.Rack.{Rack}
@@ -15,7 +14,7 @@ use Rattle.g_tape.specs.Reads.{OnlyReads}
 use Rattle.g_step.specs.State.{State}
 use Rattle.g_state.specs.Up.{StoreFacts}
 use Rattle.g_state.specs.Reading.{StandsForState}
-use Rattle.g_state.specs.Belong.{Belong, DiscBelongs, IsIntended, IsPlaced, RackBelongs}
+use Rattle.g_state.specs.Belong.{Belong, DiscBelongs, IsPlaced, RackBelongs}
 use Rattle.g_state.specs.Meaning.{DumpedDirectory, IsContent, files_in}
 
 abbrev pub with_text : ℕ → List ℕ → (ℕ → List ℕ) → ℕ → List ℕ

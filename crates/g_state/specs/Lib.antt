@@ -1,6 +1,9 @@
 pub mod Answers
 pub mod Belong
+pub mod Directories
 pub mod Laws
 pub mod Meaning
+pub mod One
 pub mod Reading
+pub mod Staying
 pub mod Up

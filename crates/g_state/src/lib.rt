@@ -2,6 +2,9 @@
 //! and how a store answers. So far definitions and laws alone.
 #![tactic(auto)]
 
+ghost use Rattle.g_state.specs.Directories.{ChangesKeepOthers, ClosingKeepsDirectories, OthersStay};
+ghost use Rattle.g_state.specs.One.{DevicesAreOne};
+ghost use Rattle.g_state.specs.Staying.{StaysUp};
 ghost use Rattle.g_state.specs.Laws.{ClosingBelongs, FilesBelong, FormatBelongs, IntentsBelong, NewVersionBelongs, ReadsBelong, ReadsKeepState, RestoreBelongs};
 
 /// Which changes keep disc and rack together: a new version, with other files taken off the disc for it; a file erased,
@@ -20,4 +23,23 @@ pub fn changes_belong()
 pub fn reads_change_nothing()
     ensures belong { ReadsBelong }
     ensures state { ReadsKeepState }
+{}
+
+/// A disc and reels that tell what they hold, and belong together, stand for one state.
+pub fn one_state()
+    ensures devices { DevicesAreOne }
+{}
+
+/// Users who aren't changed keep their directories, which are those of the completed dumps: over a new version, an erasure,
+/// another record, files taken off the disc or brought back, an intent, and other users; and behind the closing of a dump.
+pub fn directories_stay()
+    ensures changes { ChangesKeepOthers }
+    ensures others { OthersStay }
+    ensures closing { ClosingKeepsDirectories }
+{}
+
+/// What a store that is up keeps, it keeps over a new version, an erasure, another record, and files taken off the disc or
+/// brought back, whether a dump is open or not.
+pub fn changes_stay_up()
+    ensures up { StaysUp }
 {}
