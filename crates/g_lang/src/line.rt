@@ -30,7 +30,8 @@ pub enum Command {
         cond: Cond,
         command: Text,
     },
-    /// A verb or a macro; `rest` is what stands on the line from the first parameter on, as it was written.
+    /// A verb or a macro; `rest` is what stands from the first parameter on, as it was written,
+    /// without the spaces at the line's end.
     Verb {
         name: Local,
         params: Texts,
