@@ -1,15 +1,16 @@
 -- What is read of a written line is what it says.
-use Rattle.std.proofs.Common.{IfSome, List, None, Option, Some, [], ap, append-nil, append_assoc, arith, codes, cond, false, is_some, leb-true, length, length-append, map, nat_le, not, option_map, refl, subst, suc, sym, true, zero, ℕ, ◌&&◌, ◌++◌, ◌+◌, ◌||◌, ◌∙◌, ◌∷◌, ◌≡◌, ◌≤◌}
-use Rattle.std.proofs.lemmas.Bool.{and_from, and_parts, and_right, cond-false, cond-true, false≢true, lt-leb, not-true, or_parts}
+use Rattle.std.proofs.Common.{IfSome, List, None, Option, Some, [], ap, append-nil, append_assoc, arith, codes, cond, false, is_some, leb-true, length, length-append, map, nat_le, not, option_map, refl, subst, suc, sym, true, zero, ℕ, ◌&&◌, ◌++◌, ◌+◌, ◌==◌, ◌||◌, ◌∙◌, ◌∷◌, ◌≡◌, ◌≤◌}
+use Rattle.std.proofs.lemmas.Bool.{and_from, and_parts, and_right, cond-false, cond-true, cond_both, false≢true, lt-leb, not-true, or_parts}
 use Rattle.std.proofs.lemmas.List.Elements.{recursion_from_All}
 use Rattle.std.specs.List.{AllByRecursion, list_all}
+use Rattle.std.specs.Prelude.{if◌then◌else◌}
 use Rattle.g_lang.proofs.SpaceLemmas.{EndsWell, StartsWell, at_space, behind-front, digit-name_char, ends-append, front-same, front-spaces, front_of_spaces, label-no_space, letter-name_char, name_char-no_space, no_space, no_space-ends, spaces-add, spaces-two, starts-append, trim-text, trimmed-ends, trimmed-starts, word-front, word-no_space}
 use Rattle.g_lang.proofs.ValueLemmas.{are_parts, before-part, behind-part, cond-part, cond-read, not_keyword, parts-joined}
 use Rattle.g_lang.specs.Conditions.{IsCond, cond_text}
 use Rattle.g_lang.specs.How.{before_comma, behind, behind_comma, behind_word, command_read, cond_read, line_read, option_read, params_read, parts_of, read_trimmed, verb_read}
-use Rattle.g_lang.specs.Lines.{AreParts, IsCommandText, IsLine, IsLineText, IsWritten, LineSaid, Said, SaidIf, SaidVerb, SaidWhenever, Written, WrittenGoto, WrittenIf, WrittenLine, WrittenVerb, WrittenWhenever, command_text, is_verb, line_text, params_text, said_by, said_in}
+use Rattle.g_lang.specs.Lines.{AreParts, IsCommandText, IsLine, IsLineText, IsWritten, KeepsCommand, LineSaid, Said, SaidIf, SaidVerb, SaidWhenever, Written, WrittenGoto, WrittenIf, WrittenLine, WrittenVerb, WrittenWhenever, command_text, is_verb, line_text, params_text, said_by, said_in}
 use Rattle.g_lang.specs.Texts.{HasCommands, IsVerbText}
-use Rattle.g_lang.specs.Words.{is_label, is_part, joined, spaces, trimmed, without_back, without_front, word_of}
+use Rattle.g_lang.specs.Words.{before_rest, is_label, is_part, joined, label_in, spaces, trimmed, without_back, without_front, word_of}
 use Rattle.g_lang.specs.declared.line.Cond.{Cond}
 use Rattle.g_name.specs.Grammar.{is_digit, is_letter, is_name_char, is_word}
 use Rattle.g_name.specs.Order.{same_text}
@@ -305,3 +306,34 @@ verb-text t command no_if no_whenever no_goto =
     inside (WrittenWhenever cond w) is a b c = absurd cc
     inside (WrittenVerb name gap parts) is a b c =
         ap is_word (word-front name (params_text gap parts) (word-no_space name (verb-word name is.0)) (params-at gap parts is.1)) ∙ verb-word name is.0
+
+-- the first word is that of the text without the spaces behind
+word_before : (c : ℕ) (cs w : List ℕ) → word_of w ≡ word_of cs → word_of (before_rest c w) ≡ word_of (c ∷ cs)
+word_before c cs [] same =
+    cond_both (c == 32) [] (c ∷ []) (λ (t : List ℕ). word_of t ≡ word_of (c ∷ cs)) (λ space. rw space refl)
+    (λ other. rw other (ap (λ (t : List ℕ). c ∷ t) same))
+word_before c cs (d ∷ ds) same = ap (λ (ts : List ℕ). if c == 32 then [] else c ∷ ts) same
+
+word_back : (t : List ℕ) → word_of (without_back t) ≡ word_of t
+word_back [] = refl
+word_back (c ∷ cs) = word_before c cs (without_back cs) (word_back cs)
+
+abbrev label_by : List ℕ → Option (List ℕ)
+label_by word = if is_label word then Some word else None
+
+read_label : (t : List ℕ) → (read_trimmed t).label ≡ label_by (word_of t)
+read_label t =
+    cond_both (is_label (word_of t)) (labelled t) (bare t) (λ (s : LineSaid). s.label ≡ label_by (word_of t)) (λ is. rw is refl) (λ isnt. rw isnt refl)
+
+-- THE LABEL of a line is its first word
+pub label-line : (l : WrittenLine) → IsLine l → label_in (line_text l) ≡ l.label
+label-line l is =
+    ap label_by (sym (word_back (without_front (line_text l)))) ∙ sym (read_label (trimmed (line_text l)))
+    ∙ ap (λ (s : LineSaid). s.label) (line-read l is)
+
+-- what waits is the text of a command
+pub keeps-said : (w : Written) → IsWritten w → KeepsCommand (said_by w)
+keeps-said (WrittenGoto label) is = tt
+keeps-said (WrittenIf cond w) is = keeps-said w is.1
+keeps-said (WrittenWhenever cond w) is = (w, is.1, refl)
+keeps-said (WrittenVerb name gap parts) is = tt

@@ -1,14 +1,14 @@
 -- The reading of a text is what the grammar says of it, and nothing else is.
-use Rattle.std.proofs.Common.{Bool, Err, List, None, Ok, Option, Some, [], ap, append-nil, codes, false, refl, subst, sym, true, ℕ, ⊎_elim, ◌&&◌, ◌+◌, ◌||◌, ◌∙◌, ◌∷◌, ◌≡◌}
+use Rattle.std.proofs.Common.{Bool, Err, IfSome, List, None, Ok, Option, Some, [], ap, append-nil, codes, false, option_map, refl, subst, sym, true, ℕ, ⊎_elim, ◌&&◌, ◌+◌, ◌||◌, ◌∙◌, ◌∷◌, ◌≡◌}
 use Rattle.std.proofs.lemmas.Bool.{and_parts, cases_order, cond_both, false≢true, not-false, or_cases}
 use Rattle.std.specs.Prelude.{if◌then◌else◌}
 use Rattle.g_lang.proofs.PlaceLemmas.{closes, fixed_completes, takes, wrong_place}
-use Rattle.g_lang.proofs.ReadLemmas.{line-read}
+use Rattle.g_lang.proofs.ReadLemmas.{keeps-said, line-read}
 use Rattle.g_lang.proofs.RestLemmas.{only-lines}
 use Rattle.g_lang.proofs.TakeLemmas.{line-taken}
 use Rattle.g_lang.proofs.ValueLemmas.{same_text-eq}
 use Rattle.g_lang.specs.How.{ALabel, ALetter, ATestFrom, Back, BeforeComma, Fixed, Front, Gap, InGoto, InLabel, InText, Letter, Params, State, VerbGap, Word, completing, completing_next, line_read, may_end, reading, step, wrong_from}
-use Rattle.g_lang.specs.Lines.{IsLine, IsLineText, IsReading, IsWritten, LineSaid, Reading, Written, WrittenLine, command_text, line_text, said_by, said_in}
+use Rattle.g_lang.specs.Lines.{IsLine, IsLineText, IsReading, IsWritten, KeepsCommand, LineSaid, Reading, Said, Written, WrittenLine, command_text, line_text, said_by, said_in}
 use Rattle.g_name.specs.BadPlace.{IsBadPlace}
 use Rattle.g_name.specs.Order.{same_text}
 
@@ -131,3 +131,17 @@ pub reading-command : (w : Written) → IsWritten w → reading (command_text w)
 reading-command w is =
     let l : WrittenLine = record { front = 0; label = None; gap = 0; command = Some w; back = 0 } in
     ap reading (sym (append-nil (command_text w))) ∙ reading-written l (record { label = tt; command = is; apart = λ both. absurd (false≢true both) })
+
+-- what waits for a condition
+keeps_option : (o : Option Written) → IfSome o IsWritten → IfSome (option_map said_by o) KeepsCommand
+keeps_option None is = tt
+keeps_option (Some w) is = keeps-said w is
+
+pub keeps-reading : (text : List ℕ) (said : LineSaid) → IsReading text (Ok said) → IfSome said.command KeepsCommand
+keeps-reading text said is =
+    subst (λ (s : LineSaid). IfSome s.command KeepsCommand) (sym is.3) (keeps_option is.0.command is.1.command)
+
+pub reading-keeps : (text : List ℕ) (label : Option (List ℕ)) (said : Said)
+    → reading text ≡ Ok (record { label = label; command = Some said }) → KeepsCommand said
+reading-keeps text label said is =
+    keeps-reading text (record { label = label; command = Some said }) (subst (IsReading text) is (reading-grammar text))

@@ -60,6 +60,17 @@ said_by (WrittenIf cond inner) = SaidIf cond (said_by inner)
 said_by (WrittenWhenever cond inner) = SaidWhenever cond (command_text inner)
 said_by (WrittenVerb name gap parts) = SaidVerb name (map trimmed parts) (joined parts)
 
+-- the text of some command
+abbrev pub IsCommandText : List ℕ → Type 0
+IsCommandText text = (w : Written) × IsWritten w × (text ≡ command_text w)
+
+-- the command that waits, here or behind conditions, is the text of a command
+abbrev pub KeepsCommand : Said → Type 0
+KeepsCommand (SaidGoto label) = Unit {0}
+KeepsCommand (SaidIf cond inner) = KeepsCommand inner
+KeepsCommand (SaidWhenever cond command) = IsCommandText command
+KeepsCommand (SaidVerb name params rest) = Unit {0}
+
 -- a line as it is written: a label and a command, each of which may be absent, with spaces around them
 pub record WrittenLine : Type 0 where
   pub front : ℕ
@@ -80,12 +91,9 @@ pub record IsLine (l : WrittenLine) : Type 0 where
   pub command : IfSome l.command IsWritten
   pub apart : is_some l.label && is_some l.command ≡ true → 1 ≤ l.gap
 
--- THE GRAMMAR: the text of some line, and of some command
+-- THE GRAMMAR: the text of some line
 abbrev pub IsLineText : List ℕ → Type 0
 IsLineText text = (l : WrittenLine) × IsLine l × (text ≡ line_text l)
-
-abbrev pub IsCommandText : List ℕ → Type 0
-IsCommandText text = (w : Written) × IsWritten w × (text ≡ command_text w)
 
 -- what a line says; a blank one has no command
 pub record LineSaid : Type 0 where

@@ -1,6 +1,6 @@
 -- What the values of the code say.
-use Rattle.std.specs.Prelude.{Bool, Err, List, None, Ok, Option, Result, Some, [], codes, false, ℕ, ⊤, ◌≡◌}
-use Rattle.g_lang.specs.Lines.{IsReading, LineSaid, Reading, Said, SaidGoto, SaidIf, SaidVerb, SaidWhenever}
+use Rattle.std.specs.Prelude.{Bool, Err, List, None, Ok, Option, Result, Some, [], codes, false, is_ok, true, ℕ, ◌≡◌}
+use Rattle.g_lang.specs.Lines.{IsLineText, IsReading, LineSaid, Reading, Said, SaidGoto, SaidIf, SaidVerb, SaidWhenever}
 use Rattle.g_lang.specs.declared.fault.LangFault.{LangFault}
 use Rattle.g_lang.specs.declared.fault.LangFault.TheVariants.{BadLine, NoMemory}
 use Rattle.g_lang.specs.declared.line.Command.{Command}
@@ -28,7 +28,7 @@ line_said line = record { label = line.label; command = command_said line.comman
 abbrev pub Reads : List ℕ → Result Line LangFault → Type 0
 Reads text (Ok line) = IsReading text (Ok (line_said line))
 Reads text (Err (BadLine place)) = IsReading text (Err place)
-Reads text (Err NoMemory) = ⊤
+Reads text (Err NoMemory) = IsLineText text
 
 -- a text that says an INPUT
 abbrev pub is_input_of : Option Said → Bool
@@ -43,4 +43,4 @@ is_input_said (Err place) = false
 abbrev pub IsReadAs : Reading → Result Line LangFault → Type 0
 IsReadAs r (Ok line) = r ≡ Ok (line_said line)
 IsReadAs r (Err (BadLine place)) = r ≡ Err place
-IsReadAs r (Err NoMemory) = ⊤
+IsReadAs r (Err NoMemory) = is_ok r ≡ true

@@ -8,11 +8,12 @@ use thiserror::Error;
 /// A line that isn't read.
 #[derive(Clone, Copy, Debug, PartialEq, Eq, Error)]
 pub enum LangFault {
-    /// The text is no line of the language (`docs/MANUAL.md`). The number is a count of bytes: the length of the
+    /// The text is no line of the language (`docs/DEFINITIONS.md`, "Lines of the command language"). The number is a count of bytes: the length of the
     /// longest front of the text that begins some line.
     #[error("the line goes wrong behind its first {0} bytes")]
     BadLine(usize),
-    #[error("no memory")]
+    /// The memory for the value was refused; the text is a line of the language.
+    #[error("out of memory")]
     NoMemory,
 }
 

@@ -12,6 +12,7 @@ mod reader;
 #[cfg(test)]
 mod tests;
 
+pub use bytes::is_param_letter;
 pub use fault::LangFault;
 pub use label::Label;
 pub use laws::lines_are_read_by_the_grammar;

@@ -1,4 +1,7 @@
 //! What a line says.
+ghost use Rattle.std.specs.Prelude.{◌≡◌};
+ghost use Rattle.g_lang.specs.Conditions.{same_cond};
+
 use crate::Label;
 use g_lines::Texts;
 use g_name::{Local, Text};
@@ -27,7 +30,8 @@ pub enum Command {
         cond: Cond,
         command: Text,
     },
-    /// A verb or a macro; `rest` is what stands on the line from the first parameter on, as it was written.
+    /// A verb or a macro; `rest` is what stands from the first parameter on, as it was written,
+    /// without the spaces at the line's end.
     Verb {
         name: Local,
         params: Texts,
@@ -40,6 +44,15 @@ pub enum Command {
 pub struct Cond {
     pub negated: bool,
     pub test: Test,
+}
+
+impl Cond {
+    /// Whether two conditions ask the same.
+    pub fn is_same(&self, other: &Cond) -> bool
+        ensures { result ≡ same_cond self.now other.now }
+    {
+        self == other
+    }
 }
 
 /// What a condition asks; letters are `A` to `X`, which name the parameters of a level.

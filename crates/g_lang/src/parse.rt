@@ -1,7 +1,7 @@
 //! From the text of a line to what it says.
-ghost use Rattle.std.specs.Prelude.{◌≡◌, ◌≢◌, ◌≤◌, ℕ, [], length, None, Some, IfOk};
+ghost use Rattle.std.specs.Prelude.{◌≡◌, ◌≢◌, ◌≤◌, ℕ, [], length, None, Some, IfOk, IfSome};
 ghost use Rattle.g_lang.specs.How as how;
-ghost use Rattle.g_lang.specs.Lines.{IsCommandText};
+ghost use Rattle.g_lang.specs.Lines.{IsCommandText, KeepsCommand};
 ghost use Rattle.g_lang.specs.Said.{Reads, IsReadAs, command_said, line_said, is_input_said};
 ghost use Rattle.g_lang.specs.Texts.{HasCommands, IsVerbText};
 ghost use Rattle.g_lang.specs.Words.{label_in};
@@ -25,13 +25,15 @@ pub fn label_of(text: &[u8]) -> Option<Label>
     Label::new(word)
 }
 
-/// What a line says (`docs/MANUAL.md`).
+/// What a line says (`docs/DEFINITIONS.md`, "Lines of the command language").
 ///
 /// A text that is no line of the language is refused with the place where it goes wrong. It takes memory for the
-/// value alone.
+/// value alone, so want of memory comes only for a line of the language. It calls itself once for each condition of
+/// the line; lines of the program have at most 240 bytes.
 pub fn parse_line(alloc: Global, text: &[u8]) -> Result<Line, LangFault>
     ensures grammar { Reads text.now result }
     ensures one { IsReadAs (how.reading text.now) result }
+    ensures waiting { IfOk result (λ line. IfSome (command_said line.command) KeepsCommand) }
 {
     if let Some(place) = wrong_place(text) {
         return Err(LangFault::BadLine(place));
@@ -198,6 +200,7 @@ fn read_letter_test(alloc: Global, text: &[u8]) -> Result<Test, NoMemory>
         let text = Text::from_slice(alloc, without_last(behind_equals(rest)))?;
         return Ok(Test::Equals { letter, text });
     }
+    // No text of the language comes here.
     Ok(Test::Failed)
 }
 
@@ -207,6 +210,7 @@ fn letter_of(text: &[u8]) -> u8
 {
     match text {
         [letter, ..] => *letter,
+        // No text of the language comes here.
         [] => b'A',
     }
 }

@@ -1,10 +1,11 @@
-use Rattle.std.proofs.Common.{◌∙◌, sym, ap, subst, Some, Ok}
+use Rattle.std.proofs.Common.{is_ok, ◌∙◌, sym, ap, subst, Some, Ok}
+use Rattle.std.proofs.lemmas.Result.{err_from_is_err_and}
 use Rattle.g_lang.specs.How.{read_trimmed}
 use Rattle.g_lang.specs.Lines.{LineSaid, Reading}
 use Rattle.g_lang.specs.Said.{line_said}
 use Rattle.g_lang.specs.Texts.{HasCommands}
 use Rattle.g_lang.proofs.ReadLemmas.{line-commands}
-use Rattle.g_lang.proofs.ReadingLemmas.{reading_is}
+use Rattle.g_lang.proofs.ReadingLemmas.{reading_is, keeps-reading}
 use Rattle.g_lang.proofs.ParseLemmas.{bad-grammar, read-grammar, right-grammar, right-line}
 use Rattle.g_lang.proofs.parse.parse_line.Goals as goal
 
@@ -29,3 +30,20 @@ pub returns-clause-one : goal.returns-clause-one
 returns-clause-one c =
     right-grammar c.args.text.now c.wrong_place.result c.wrong_place.ensures c.in_default.is
     ∙ ap (λ (said : LineSaid). let r : Reading = Ok said in r) (sym (c.in_ok-line.ensures ∙ ap read_trimmed c.trimmed.ensures))
+
+pub returns-clause-waiting : goal.returns-clause-waiting
+returns-clause-waiting c =
+    keeps-reading c.args.text.now (line_said c.in_ok-line.line)
+    (read-grammar c.args.text.now (line_said c.in_ok-line.line)
+    (right-grammar c.args.text.now c.wrong_place.result c.wrong_place.ensures c.in_default.is
+    ∙ ap (λ (said : LineSaid). let r : Reading = Ok said in r) (sym (c.in_ok-line.ensures ∙ ap read_trimmed c.trimmed.ensures))))
+
+pub returns-in_err-line-clause-grammar : goal.returns-in_err-line-clause-grammar
+returns-in_err-line-clause-grammar c =
+    let p = err_from_is_err_and c.from_residual.result c.from_residual.ensures.1 in
+    rw (p.1, p.2) (right-line c.args.text.now c.wrong_place.result c.wrong_place.ensures c.in_default.is)
+
+pub returns-in_err-line-clause-one : goal.returns-in_err-line-clause-one
+returns-in_err-line-clause-one c =
+    let p = err_from_is_err_and c.from_residual.result c.from_residual.ensures.1 in
+    rw (p.1, p.2) (ap (λ (r : Reading). is_ok r) (right-grammar c.args.text.now c.wrong_place.result c.wrong_place.ensures c.in_default.is))
