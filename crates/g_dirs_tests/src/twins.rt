@@ -181,38 +181,32 @@ fn are_same(one: &mut Noted, two: &mut Noted) -> Result<bool, ReadFailed>
     Ok(true)
 }
 
-/// The bytes of the first format where three files are.
-const FIRST: [Changed; 6] = [
-    (0, 5, b"\x01"),
-    (1, 33, b"\0\0\0"),
-    (2, 33, b"\0\0\0"),
-    (64, 61, b"\x08\x81\0"),
-    (65, 61, b"\x08\x82\0"),
-    (66, 61, b"\x08\x83\0"),
-];
+/// A directory with three files, read from a slot in either format.
+fn base_directory(alloc: Global, format: Format) -> Result<Dirs, DirsFault>
+    ensures records { IfOk result (λ d. AreRecords Format.Two (directory_of d.head d.users.items d.files.items d.online.items)) }
+    ensures rules { IfOk result (λ d. IsDirectory 2181 (directory_of d.head d.users.items d.files.items d.online.items)) }
+    ensures copies { IfOk result (λ d. AreCopies d.files.items d.online.items) }
+{
+    match format {
+        Format::One => changed_directory(
+            alloc,
+            3,
+            &[
+                (0, 5, b"\x01"),
+                (1, 33, b"\0\0\0"),
+                (2, 33, b"\0\0\0"),
+                (64, 61, b"\x08\x81\0"),
+                (65, 61, b"\x08\x82\0"),
+                (66, 61, b"\x08\x83\0"),
+            ],
+        ),
+        Format::Two => changed_directory(alloc, 3, &[]),
+    }
+}
 
 /// A file of number 1,023, of five bytes, on tape.
 const LAST: [u8; 60] =
     *b"\x01\0\x01L\0\0\0\0\0\0\0\0\0\0\0\0\x01    \0\0\0\0\0\0\0\x08\0\0\0\x05\x1f\0\0\0\0\0\0\0\0\0\0\0\0\0\0\0\0\0\x01\0\0\0\x01\0\0\0\x09";
-
-/// What changes, and which blocks are marked for it.
-const ROWS: [(&str, &[Changed], &[u32]); 7] = [
-    ("nothing", &[], &[]),
-    ("one record", &[(65, 33, b"\x10")], &[65]),
-    ("a record put back as it was", &[], &[65]),
-    (
-        "the first and the last file",
-        &[(0, 13, b"\x09"), (64, 33, b"\x10"), (1_087, 0, &LAST)],
-        &[1_087, 64, 0],
-    ),
-    ("two users", &[(1, 18, b"\x01"), (2, 18, b"\x02")], &[2, 1]),
-    ("the head alone", &[(0, 13, b"\xc8")], &[0]),
-    (
-        "a mark that is there already",
-        &[(64, 33, b"\x11")],
-        &[64, 64],
-    ),
-];
 
 /// What a failing write leaves.
 fn leave_of(number: u8) -> Leave {
@@ -224,18 +218,19 @@ fn leave_of(number: u8) -> Leave {
     }
 }
 
-/// One commit either way; into the slot that was current before as well, where it is `again`. The write of this number
-/// fails in the last of them and leaves this.
+/// One commit either way of these changes; into the slot that was current before as well, where the first directory is
+/// read in the first format. The write of this number fails in the last commit, and leaves this.
 fn compare(
     rt: &impl Abort,
     alloc: Global,
-    first: &[Changed],
-    row: &(&str, &[Changed], &[u32]),
-    again: bool,
+    format: Format,
+    changes: &[Changed],
+    marks: &[u32],
     fails: (u32, u8),
 ) -> Result<(), Fail> {
-    let base = changed_directory(alloc, 3, first)?;
-    let next = changed_directory(alloc, 3, row.1)?;
+    let again = format == Format::One;
+    let base = base_directory(alloc, format)?;
+    let next = changed_directory(alloc, 3, changes)?;
     let mut one = blank_disc(alloc)?;
     let mut one_slots = Slots::find(&mut one)?;
     let mut one_pages = Pages::new(alloc)?;
@@ -256,7 +251,7 @@ fn compare(
         &mut two_slots,
         &base,
         &next,
-        row.2,
+        marks,
         again,
         &mut two_pages,
     )?;
@@ -265,27 +260,40 @@ fn compare(
     one.arm(fails.0);
     two.arm(fails.0);
     let whole = commit_whole(&mut one, &mut one_slots, &next, &mut one_pages);
-    let changed = commit_changed(rt, &mut two, &mut two_slots, &next, row.2, &mut two_pages);
-    assert_eq!(rt; whole, changed, "{} {}", row.0, fails.0);
-    assert!(rt;
-        one.written.as_slice() == two.written.as_slice(),
-        "{} {}",
-        row.0,
-        fails.0
-    );
-    assert!(rt; are_same(&mut one, &mut two)?, "{} {}", row.0, fails.0);
+    let changed = commit_changed(rt, &mut two, &mut two_slots, &next, marks, &mut two_pages);
+    assert_eq!(rt; whole, changed);
+    assert!(rt; one.written.as_slice() == two.written.as_slice());
+    assert!(rt; are_same(&mut one, &mut two)?);
+    Ok(())
+}
+
+/// Compares where each write of the commit fails, with each leaving, and where none does.
+fn compare_all(
+    rt: &impl Abort,
+    alloc: Global,
+    changes: &[Changed],
+    marks: &[u32],
+) -> Result<(), Fail> {
+    for leave in 0..4 {
+        for write in 1..7 {
+            compare(rt, alloc, Format::One, changes, marks, (write, leave))?;
+            compare(rt, alloc, Format::Two, changes, marks, (write, leave))?;
+        }
+    }
     Ok(())
 }
 
 #[test]
 fn the_twins_write_the_same(rt: HostRuntime) -> Result<(), Fail> {
-    for row in ROWS {
-        for leave in 0..4 {
-            for write in 1..7 {
-                compare(&rt, rt.alloc(), &[], &row, false, (write, leave))?;
-                compare(&rt, rt.alloc(), &FIRST, &row, true, (write, leave))?;
-            }
-        }
-    }
-    Ok(())
+    let alloc = rt.alloc();
+    // Nothing, one record, and a record that was put back as it was.
+    compare_all(&rt, alloc, &[], &[])?;
+    compare_all(&rt, alloc, &[(65, 33, b"\x10")], &[65])?;
+    compare_all(&rt, alloc, &[], &[65])?;
+    // The first and the last file, two users, and the head alone.
+    let files: [Changed; 3] = [(0, 13, b"\x09"), (64, 33, b"\x10"), (1_087, 0, &LAST)];
+    compare_all(&rt, alloc, &files, &[1_087, 64, 0])?;
+    let users: [Changed; 2] = [(1, 18, b"\x01"), (2, 18, b"\x02")];
+    compare_all(&rt, alloc, &users, &[2, 1, 1])?;
+    compare_all(&rt, alloc, &[(0, 13, b"\xc8")], &[0])
 }
