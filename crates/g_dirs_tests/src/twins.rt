@@ -219,14 +219,14 @@ fn leave_of(number: u8) -> Leave {
 }
 
 /// One commit either way of these changes; into the slot that was current before as well, where the first directory is
-/// read in the first format. The write of this number fails in the last commit, and leaves this.
+/// read in the first format. In the last commit so many writes go well, and the next one fails and leaves this.
 fn compare(
     rt: &impl Abort,
     alloc: Global,
     format: Format,
     changes: &[Changed],
     marks: &[u32],
-    fails: (u32, u8),
+    fails: (u16, u8),
 ) -> Result<(), Fail> {
     let again = format == Format::One;
     let base = base_directory(alloc, format)?;
@@ -257,8 +257,8 @@ fn compare(
     )?;
     one.disc.set_leave(leave_of(fails.1));
     two.disc.set_leave(leave_of(fails.1));
-    one.arm(fails.0);
-    two.arm(fails.0);
+    one.arm(u32::from(fails.0) + 1);
+    two.arm(u32::from(fails.0) + 1);
     let whole = commit_whole(&mut one, &mut one_slots, &next, &mut one_pages);
     let changed = commit_changed(rt, &mut two, &mut two_slots, &next, marks, &mut two_pages);
     assert_eq!(rt; whole, changed);
@@ -275,9 +275,9 @@ fn compare_all(
     marks: &[u32],
 ) -> Result<(), Fail> {
     for leave in 0..4 {
-        for write in 1..7 {
-            compare(rt, alloc, Format::One, changes, marks, (write, leave))?;
-            compare(rt, alloc, Format::Two, changes, marks, (write, leave))?;
+        for before in 0..6 {
+            compare(rt, alloc, Format::One, changes, marks, (before, leave))?;
+            compare(rt, alloc, Format::Two, changes, marks, (before, leave))?;
         }
     }
     Ok(())
