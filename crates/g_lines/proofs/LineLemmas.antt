@@ -1,9 +1,10 @@
 -- Lines and the bytes 10 between them.
-use Rattle.std.proofs.Common.{◌≡◌, ◌≢◌, ◌↔◌, Bool, true, eqb, ◌<◌, ℕ, List, [], ◌∷◌, ◌++◌, length, All, sym, ap, ◌∙◌, refl, arith}
+use Rattle.std.proofs.Common.{◌≡◌, ◌≢◌, ◌↔◌, ◌==◌, Bool, true, eqb, eqb-true, ◌<◌, ℕ, List, [], ◌∷◌, ◌++◌, append_assoc, length, All, sym, ap, ◌∙◌, refl, arith}
 use Rattle.std.specs.List.{AllByRecursion}
 use Rattle.std.proofs.lemmas.Bool.{ne_eqb, cond_both, false≢true}
 use Rattle.std.proofs.lemmas.List.Elements.{recursion_from_All}
-use Rattle.g_lines.specs.Lines.{lines_of, onto_first}
+use Rattle.std.specs.Prelude.{if◌then◌else◌}
+use Rattle.g_lines.specs.Lines.{ended, lines_of, onto_first, text_of}
 
 -- a line without a byte 10
 abbrev pub IsOneLine : List ℕ → Type 0
@@ -38,3 +39,34 @@ pub no_lines : (text : List ℕ) (lines : List (List ℕ)) (empty : Bool) → em
 no_lines [] lines empty is same = ((λ e. sym same), (λ e. is))
 no_lines (b ∷ text) lines empty is same =
     ((λ e. absurd (false≢true (sym (is ∙ ne_eqb (length (b ∷ text)) 0 (λ z. omega arith)) ∙ e))), (λ e. absurd (lines_of_some b text (same ∙ e))))
+
+-- LINES AND THEIR TEXT: lines without a byte 10 are those of their text
+text_lines : (lines : List (List ℕ)) → AllByRecursion (λ line. All (λ b. b ≢ 10) line) lines → lines_of (text_of lines) ≡ lines
+text_lines [] all = refl
+text_lines (line ∷ lines) all =
+    ap lines_of (append_assoc line (10 ∷ []) (text_of lines))
+    ∙ (lines_of-line line (text_of lines) (recursion_from_All _ line all.0) ∙ ap (λ others. line ∷ others) (text_lines lines all.1))
+
+pub text-lines : (lines : List (List ℕ)) → All (λ line. All (λ b. b ≢ 10) line) lines → lines_of (text_of lines) ≡ lines
+text-lines lines all = text_lines lines (recursion_from_All _ lines all)
+
+-- a text that ends with a byte 10 is that of its lines
+ended_some : (text : List ℕ) → lines_of (ended text) ≡ [] → ⊥
+ended_some [] e = lines_of_some 10 [] e
+ended_some (b ∷ text) e = lines_of_some b (ended text) e
+
+onto_text : (b : ℕ) (lines : List (List ℕ)) → (lines ≡ [] → ⊥) → text_of (onto_first b lines) ≡ b ∷ text_of lines
+onto_text b [] some = absurd (some refl)
+onto_text b (line ∷ lines) some = refl
+
+pub lines-text : (text : List ℕ) → text_of (lines_of (ended text)) ≡ ended text
+lines-text [] = refl
+lines-text (b ∷ text) =
+    cond_both (b == 10) ([] ∷ lines_of (ended text)) (onto_first b (lines_of (ended text))) (λ (ls : List (List ℕ)). text_of ls ≡ ended (b ∷ text))
+    (λ is. ap (λ (bs : List ℕ). 10 ∷ bs) (lines-text text) ∙ ap (λ (c : ℕ). c ∷ ended text) (sym (eqb-true b 10 is)))
+    (λ other. onto_text b (lines_of (ended text)) (ended_some text) ∙ ap (λ (bs : List ℕ). b ∷ bs) (lines-text text))
+
+-- the last byte 10 may lack
+pub lines-last : (text : List ℕ) (last : ℕ) → last ≢ 10 → lines_of (ended (text ++ last ∷ [])) ≡ lines_of (text ++ last ∷ [])
+lines-last [] last other = rw (ne_eqb last 10 other) refl
+lines-last (b ∷ text) last other = ap (λ (ls : List (List ℕ)). if b == 10 then [] ∷ ls else onto_first b ls) (lines-last text last other)

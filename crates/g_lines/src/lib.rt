@@ -1,10 +1,12 @@
 //! The lines of texts, and lists of texts that own them.
 #![tactic(auto)]
 
+mod laws;
 mod lines;
 #[cfg(test)]
 mod tests;
 mod texts;
 
+pub use laws::lines_are_those_of_their_text;
 pub use lines::Lines;
 pub use texts::Texts;

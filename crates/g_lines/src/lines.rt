@@ -1,5 +1,5 @@
 //! The lines of a text, one after the other.
-ghost use Rattle.std.specs.Prelude.{◌≡◌, ◌≢◌, ◌<◌, ◌↔◌, [], ◌∷◌, ◌++◌, length, All, IsTrue, MatchOption};
+ghost use Rattle.std.specs.Prelude.{◌≡◌, ◌≢◌, ◌<◌, ◌↔◌, [], ◌∷◌, ◌++◌, length, All, IfNone, IsTrue, MatchOption};
 ghost use Rattle.g_lines.specs.Lines.{lines_of};
 
 use std::marker::Model;
@@ -36,7 +36,8 @@ impl<'a> Lines<'a> {
 
     /// Takes the next line.
     pub fn next(&mut self) -> Option<&'a [u8]>
-        ensures { MatchOption result (self.old ≡ []) (λ line. self.old ≡ line.now ∷ self.new) }
+        ensures line { MatchOption result (self.old ≡ []) (λ line. self.old ≡ line.now ∷ self.new) }
+        ensures end { IfNone result (self.new ≡ []) }
     {
         let text = self.rest;
         if text.is_empty() {
