@@ -1,0 +1,127 @@
+//! A disc that is read through a cache.
+ghost use Rattle.std.specs.Prelude.{◌≡◌, ◌⊎◌, ◌<◌, ◌≤◌, [], ◌∷◌, IfErr, IfNone, IfOk, IfSome, None, Some, take};
+ghost use Rattle.g_base.specs.Counts.{one_more};
+ghost use Rattle.g_cache.specs.Cached.{CachedReads, CachedWrites, cached_with, kept_block, without_block};
+
+use g_base::{Block, NoMemory};
+use g_disc::{Disc, ReadFailed, WriteFailed};
+use lru::LruCache;
+use std::alloc::Global;
+use std::marker::Model;
+use std::num::NonZeroUsize;
+
+/// A disc that is read through a cache of 64 blocks, the ones asked for last. It answers as the disc
+/// below would, which it owns. A write goes through to that disc and takes the block out of the cache.
+#[derive(Drop)]
+pub struct CachedDisc<D: Disc> {
+    disc: D,
+    cache: LruCache<u32, Block>,
+}
+
+impl<D: Disc> Model for CachedDisc<D> {
+    ghost use Rattle.g_cache.specs.Cached.{Cached, IsCacheOf, cached_code, cached_with};
+
+    ghost Value = { Cached D };
+
+    ghost coded = { cached_code D.code };
+
+    ghost view = { λ c. cached_with c.disc c.cache.entries };
+
+    ghost invariant = { λ c. IsCacheOf c.cache.cap c.cache.entries (D.state c.disc).held };
+}
+
+impl<D: Disc> CachedDisc<D> {
+    /// Puts an empty cache before the disc. Where there is no memory for it, the disc comes back as it
+    /// was.
+    pub fn new(alloc: Global, disc: D) -> Result<CachedDisc<D>, (NoMemory, D)>
+        ensures empty { IfOk result (λ c. c ≡ cached_with disc []) }
+        ensures unchanged { IfErr result (λ e. e.1 ≡ disc) }
+    {
+        match LruCache::new(alloc, NonZeroUsize::new(64).unwrap()) {
+            Ok(cache) => Ok(CachedDisc { disc, cache }),
+            Err(_) => Err((NoMemory, disc)),
+        }
+    }
+
+    /// The disc below, as it then is.
+    pub fn into_disc(self) -> D
+        ensures { result ≡ self.disc }
+    {
+        self.disc
+    }
+}
+
+impl<D: Disc> Disc for CachedDisc<D> {
+    ghost state = { λ c. D.state c.disc };
+
+    fn size(&self) -> u32 {
+        self.disc.size()
+    }
+
+    /// Reads block k. One that is kept is the answer, and the disc below isn't asked. Where there is no
+    /// memory to keep a block that was read, it is the answer all the same.
+    fn read(&mut self, k: u32, into: &mut Block) -> Result<(), ReadFailed>
+        requires { k < (D.state self.old.disc).size }
+        ensures { CachedReads D.state k into.new self.old self.new result }
+    {
+        if let Some(block) = recall(&mut self.cache, k) {
+            *into = block;
+            return Ok(());
+        }
+        self.disc.read(k, into)?;
+        keep(&mut self.cache, k, into);
+        Ok(())
+    }
+
+    /// Writes block k through to the disc below. Whether that fails or not, the block is kept no more.
+    fn write(&mut self, k: u32, from: &Block) -> Result<(), WriteFailed>
+        requires { k < (D.state self.old.disc).size }
+        ensures { CachedWrites D.state k from.now self.old self.new result }
+    {
+        forget(&mut self.cache, k);
+        self.disc.write(k, from)
+    }
+
+    fn arm(&mut self, k: u32)
+        requires { 1 ≤ k }
+        ensures armed { D.state self.new.disc ≡ record (D.state self.old.disc)
+            { fuse = Some k; arms = one_more (D.state self.old.disc).arms } }
+        ensures kept { self.new.kept ≡ self.old.kept }
+    {
+        self.disc.arm(k);
+    }
+}
+
+/// Block k, if it is kept. It is the one asked for last then.
+fn recall(cache: &mut LruCache<u32, Block>, k: u32) -> Option<Block>
+    ensures found { result ≡ kept_block k cache.old.entries }
+    ensures first { IfSome result
+        (λ block. cache.new.entries ≡ (k, block) ∷ without_block k cache.old.entries) }
+    ensures missed { IfNone result (cache.new.entries ≡ cache.old.entries) }
+    ensures room { cache.new.cap ≡ cache.old.cap }
+{
+    cache.get(&k).copied()
+}
+
+/// Keeps block k, which wasn't kept, as the one asked for last, unless there is no memory for it.
+fn keep(cache: &mut LruCache<u32, Block>, k: u32, block: &Block)
+    requires missed { kept_block k cache.old.entries ≡ None }
+    requires room { cache.old.cap ≡ 64 }
+    ensures first { (cache.new.entries ≡ (k, block.now) ∷ take 63 cache.old.entries)
+        ⊎ (cache.new.entries ≡ cache.old.entries) }
+    ensures room { cache.new.cap ≡ 64 }
+{
+    // A growth that is refused leaves the cache as it was.
+    drop(cache.put(k, *block));
+}
+
+/// Keeps block k no more, and all else as it was.
+fn forget(cache: &mut LruCache<u32, Block>, k: u32)
+    ensures gone { kept_block k cache.new.entries ≡ None }
+    ensures others { cache.new.entries ≡ without_block k cache.old.entries }
+    ensures room { cache.new.cap ≡ cache.old.cap }
+{
+    // Its clause says that no number is kept twice.
+    let _len = cache.len();
+    drop(cache.pop(&k));
+}
