@@ -1,10 +1,7 @@
-//! Tests of directories on a disc: slots that were written out by hand and are read, commits, and a commit of what changed
-//! beside one of the whole directory.
+//! Tests of directories on a disc: slots that were written out by hand and are read, and commits.
 #![tactic(auto)]
 
 #[cfg(test)]
 mod commits;
 #[cfg(test)]
 mod reading;
-#[cfg(test)]
-mod twins;
