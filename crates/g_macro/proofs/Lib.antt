@@ -1,0 +1,4 @@
+pub mod FrontLemmas
+pub mod LevelLemmas
+pub mod PlaceLemmas
+pub mod StackLemmas

@@ -1,0 +1,207 @@
+-- The levels as the code keeps them, the current one last.
+use Rattle.std.proofs.Common.{Bool, Err, IfOk, IsSome, List, None, Ok, Option, Result, Some, [], ap, arith, cond, false, get_or, inl, inr, le-leb, le-ltb, length, length-set, length-take-le, lives, lt-ltb, refl, reverse, set, subst, sym, take, take-take, take_all, true, ℕ, ⊎_elim, ◌&&◌, ◌++◌, ◌+◌, ◌-◌, ◌<◌, ◌∙◌, ◌∷◌, ◌≡◌, ◌≤◌, ◌⊎◌}
+use Rattle.std.proofs.Math.Seq.{take-length}
+use Rattle.std.proofs.lemmas.Bool.{and_from, and_left, and_right, cases_Bool, cases_lt, lt-leb, or_right}
+use Rattle.std.proofs.lemmas.List.{get_or_default, length-reverse, reverse-append, take_more, take_more_set}
+use Rattle.std.specs.Prelude.{if◌then◌else◌}
+use Rattle.g_lang.specs.declared.line.Cond.{Cond}
+use Rattle.g_macro.specs.Expansion.{substituted}
+use Rattle.g_macro.specs.Fronts.{Holds}
+use Rattle.g_macro.specs.LevelReplies.{KeepsIn, is_full_in}
+use Rattle.g_macro.specs.Levels.{Level, Line, Nothing, Stack, Taken, TooLong, as_taken, changed, current, entry_kept, entry_that_holds, fired, first_level, has_line, holds, is_last, line_at, line_taken, live, next_line, take_line, with_current}
+use Rattle.g_macro.specs.Replies.{Keeps, TakesLine}
+use Rattle.g_macro.specs.declared.entry.Entry.{Entry}
+use Rattle.g_macro.specs.declared.expansion.Front.{Front}
+use Rattle.g_macro.specs.declared.fault.MacroFault.{MacroFault}
+use Rattle.g_macro.specs.declared.outcome.Outcome.{Outcome}
+use Rattle.g_macro.specs.declared.fault.MacroFault.TheVariants as fault
+
+-- the lowest levels, one more
+pub one-more : (items : List Level) (n : ℕ) (d : Level) → n < length items → reverse (take (n + 1) items) ≡ get_or items n d ∷ reverse (take n items)
+one-more items n d inside = ap reverse (take_more items n d inside) ∙ reverse-append (take n items) (get_or items n d ∷ [])
+
+pub all-of : (items : List Level) → reverse (take (length items) items) ≡ reverse items
+all-of items = ap reverse (take-length items)
+
+pub top-split : (items : List Level) (n : ℕ) (d : Level) → n + 1 ≡ length items → reverse items ≡ get_or items n d ∷ reverse (take n items)
+top-split items n d last =
+    sym (all-of items) ∙ ap (λ (k : ℕ). reverse (take k items)) (sym last) ∙ one-more items n d (omega (arith, last))
+
+top-set : (items : List Level) (n : ℕ) (new : Level) → n + 1 ≡ length items → reverse (set items n new) ≡ new ∷ reverse (take n items)
+top-set items n new last =
+    let inside : n < length items = omega (arith, last) in
+    let whole : take (n + 1) (set items n new) ≡ set items n new = take_all (n + 1) (set items n new) (omega (arith, last, length-set items n new)) in
+    ap reverse (sym whole ∙ take_more_set items n new inside) ∙ reverse-append (take n items) (new ∷ [])
+
+-- the current level is changed
+pub top-changed : (items : List Level) (held : Bool) (n : ℕ) (old new : Level) (f : Level → Level) (now : Stack) → record { levels = reverse items; held = held } ≡ now
+    → n + 1 ≡ length items → old ≡ get_or items n old → new ≡ f old → ◌≡◌ {A = Stack} (record { levels = reverse (set items n new); held = held }) (with_current f now)
+top-changed items held n old new f now was last is same =
+    ap (λ (ls : List Level). let s : Stack = record { levels = ls; held = held } in s)
+    (top-set items n new last ∙ ap (λ (l : Level). l ∷ reverse (take n items)) same
+    ∙ ap (changed f) (ap (λ (l : Level). l ∷ reverse (take n items)) is ∙ sym (top-split items n old last)))
+    ∙ ap (with_current f) was
+
+pub top-current : (items : List Level) (held : Bool) (n : ℕ) (old : Level) (now : Stack) → record { levels = reverse items; held = held } ≡ now
+    → n + 1 ≡ length items → old ≡ get_or items n old → current now ≡ old
+top-current items held n old now was last is =
+    ap current (sym was) ∙ ap first_level (top-split items n old last) ∙ sym is
+
+pub top-place : (items : List Level) (held : Bool) (count : ℕ) (now : Stack) → record { levels = reverse items; held = held } ≡ now → count ≡ length items → 0 < length now.levels
+    → count - 1 + 1 ≡ length items
+top-place items held count now was is some =
+    omega (arith, is, some, length-reverse items, ap (λ (s : Stack). length s.levels) was)
+
+-- levels without a line
+pub live-step : (items : List Level) (held : Bool) (n : ℕ) (d : Level) → 0 < n → n ≤ length items → has_line (get_or items (n - 1) d) ≡ false → (held ≡ true → n ≡ 1 → ⊥)
+    → live held (reverse (take n items)) ≡ live held (reverse (take (n - 1) items))
+live-step items held n d some within none other =
+    let back : n - 1 + 1 ≡ n = omega (arith, some) in
+    let inside : n - 1 < length items = omega (arith, some, within) in
+    let below = reverse (take (n - 1) items) in
+    let isnt : (held && is_last below) ≡ false =
+    ⊎_elim (λ holds. and_right held (is_last below) (not_last below (λ none_below. other holds (lone items n some within none_below)))) (λ fails. and_left held (is_last below) fails) (cases_Bool held) in
+    ap (λ (k : ℕ). live held (reverse (take k items))) (sym back) ∙ ap (live held) (one-more items (n - 1) d inside) ∙ rw (none, isnt) refl
+  where
+    not_last : (ls : List Level) → (length ls ≡ 0 → ⊥) → is_last ls ≡ false
+    not_last [] some = absurd (some refl)
+    not_last (l ∷ ls) some = refl
+
+    lone : (items : List Level) (n : ℕ) → 0 < n → n ≤ length items → length (reverse (take (n - 1) items)) ≡ 0 → n ≡ 1
+    lone items n some within none = omega (arith, some, within, none, length-reverse (take (n - 1) items), length-take-le (n - 1) items (omega (arith, within)))
+
+pub live-line : (items : List Level) (held : Bool) (n : ℕ) (d : Level) → 0 < n → n ≤ length items → has_line (get_or items (n - 1) d) ≡ true
+    → live held (reverse (take n items)) ≡ reverse (take n items)
+live-line items held n d some within line =
+    let back : n - 1 + 1 ≡ n = omega (arith, some) in
+    let inside : n - 1 < length items = omega (arith, some, within) in
+    let cut : reverse (take n items) ≡ get_or items (n - 1) d ∷ reverse (take (n - 1) items) =
+    ap (λ (k : ℕ). reverse (take k items)) (sym back) ∙ one-more items (n - 1) d inside in
+    ap (live held) cut ∙ rw line (sym cut)
+
+pub live-held : (items : List Level) (held : Bool) (n : ℕ) (d : Level) → n ≡ 1 → n ≤ length items → held ≡ true
+    → live held (reverse (take n items)) ≡ reverse (take n items)
+live-held items held n d lone within holds =
+    let zero_back : 0 + 1 ≡ n = omega (arith, lone) in
+    let inside : 0 < length items = omega (arith, lone, within) in
+    let cut : reverse (take n items) ≡ get_or items 0 d ∷ [] =
+    ap (λ (k : ℕ). reverse (take k items)) (sym zero_back) ∙ one-more items 0 d inside in
+    let is : (held && true) ≡ true = and_from held true holds refl in
+    ap (live held) cut ∙ rw (is, or_right (has_line (get_or items 0 d)) true refl) (sym cut)
+
+-- the levels are looked through from the top
+pub fired-step : (items : List Level) (outcome : Outcome) (n : ℕ) (d : Level) → 0 < n → n ≤ length items → entry_that_holds (get_or items (n - 1) d) outcome ≡ None
+    → fired outcome (reverse (take n items)) ≡ fired outcome (reverse (take (n - 1) items))
+fired-step items outcome n d some within none =
+    let back : n - 1 + 1 ≡ n = omega (arith, some) in
+    let inside : n - 1 < length items = omega (arith, some, within) in
+    ap (λ (k : ℕ). fired outcome (reverse (take k items))) (sym back) ∙ ap (fired outcome) (one-more items (n - 1) d inside) ∙ rw (none, fired) refl
+
+pub fired-here : (items : List Level) (outcome : Outcome) (n : ℕ) (d : Level) (entry : Entry) → 0 < n → n ≤ length items → entry_that_holds (get_or items (n - 1) d) outcome ≡ Some entry
+    → fired outcome (reverse (take n items)) ≡ Some (entry.command, reverse (take n items))
+fired-here items outcome n d entry some within is =
+    let back : n - 1 + 1 ≡ n = omega (arith, some) in
+    let inside : n - 1 < length items = omega (arith, some, within) in
+    let cut : reverse (take n items) ≡ get_or items (n - 1) d ∷ reverse (take (n - 1) items) =
+    ap (λ (k : ℕ). reverse (take k items)) (sym back) ∙ one-more items (n - 1) d inside in
+    ap (fired outcome) cut ∙ rw (is, fired) (ap (λ (ls : List Level). let o : Option (List ℕ × List Level) = Some (entry.command, ls) in o) (sym cut))
+
+-- a level that was left as it was
+changed-none : (levels : List Level) → changed (λ level. level) levels ≡ levels
+changed-none [] = refl
+changed-none (level ∷ below) = refl
+
+pub top-same : (items : List Level) (held : Bool) (n : ℕ) (old new : Level) (now : Stack) → record { levels = reverse items; held = held } ≡ now
+    → n + 1 ≡ length items → old ≡ get_or items n old → new ≡ old → ◌≡◌ {A = Stack} (record { levels = reverse (set items n new); held = held }) now
+top-same items held n old new now was last is same =
+    top-changed items held n old new (λ level. level) now was last is same
+    ∙ ap (λ (ls : List Level). let s : Stack = record { levels = ls; held = now.held } in s) (changed-none now.levels)
+
+-- what a call of the current level comes to
+pub keeps-top : (items : List Level) (held : Bool) (n : ℕ) (old new : Level) (cond : Cond) (command : List ℕ) (now : Stack) (r : Result (Unit {0}) MacroFault)
+    → record { levels = reverse items; held = held } ≡ now → n + 1 ≡ length items → old ≡ get_or items n old → KeepsIn cond command old new r
+    → Keeps cond command now (record { levels = reverse (set items n new); held = held }) r
+keeps-top items held n old new cond command now (Ok done) was last is keeps = (
+  ap (is_full_in cond) (top-current items held n old now was last is) ∙ keeps.0,
+  top-changed items held n old new (entry_kept cond command) now was last is keeps.1,
+)
+keeps-top items held n old new cond command now (Err fault.WheneversFull) was last is keeps =
+    (ap (is_full_in cond) (top-current items held n old now was last is) ∙ keeps.0, top-same items held n old new now was last is keeps.1)
+keeps-top items held n old new cond command now (Err fault.NoMemory) was last is keeps =
+    (ap (is_full_in cond) (top-current items held n old now was last is) ∙ keeps.0, top-same items held n old new now was last is keeps.1)
+keeps-top items held n old new cond command now (Err fault.TooDeep) was last is keeps = keeps
+keeps-top items held n old new cond command now (Err fault.NoLabel) was last is keeps = keeps
+keeps-top items held n old new cond command now (Err (fault.TooLong text)) was last is keeps = keeps
+
+-- the line that is taken
+taken_as : (text : List ℕ) (front : Front) → Holds text front → as_taken text ≡ (if front.is_cut then TooLong front.bytes.items else Line front.bytes.items)
+taken_as text front holds =
+    ⊎_elim
+    (λ short.
+    let is : front.is_cut ≡ false = holds.1 ∙ le-ltb 240 (length text) short in
+    let all : front.bytes.items ≡ text = holds.0 ∙ take_all 240 text short in
+    rw (le-leb (length text) 240 short, is, all) refl)
+    (λ long.
+    let is : front.is_cut ≡ true = holds.1 ∙ lt-ltb 240 (length text) long in
+    rw (lt-leb (length text) 240 long, is, holds.0) refl)
+    (shorter (length text))
+  where
+    shorter : (n : ℕ) → (n ≤ 240) ⊎ (240 < n)
+    shorter n = ⊎_elim (λ long. inr long) (λ short. inl short) (cases_lt 240 n)
+
+pub line-next : (items : List Level) (held : Bool) (n : ℕ) (old new : Level) (front : Front) (now : Stack) → record { levels = reverse items; held = held } ≡ now
+    → 0 < n → n ≤ length items → live held (reverse items) ≡ reverse (take n items) → old ≡ get_or items (n - 1) old → has_line old ≡ true → new ≡ line_taken old
+    → Holds (substituted old.params (line_at old)) front
+    → next_line now ≡ ((if front.is_cut then TooLong front.bytes.items else Line front.bytes.items), record { levels = reverse (set (take n items) (n - 1) new); held = held })
+line-next items held n old new front now was some within lives is line same holds =
+    let back : n - 1 + 1 ≡ n = omega (arith, some) in
+    let inside : n - 1 < length items = omega (arith, some, within) in
+    let below = reverse (take (n - 1) items) in
+    let short : length (take n items) ≡ n = length-take-le n items within in
+    let cut : reverse (take n items) ≡ old ∷ below =
+    ap (λ (k : ℕ). reverse (take k items)) (sym back) ∙ one-more items (n - 1) old inside ∙ ap (λ (l : Level). l ∷ below) (sym is) in
+    let stays : reverse (set (take n items) (n - 1) new) ≡ line_taken old ∷ below =
+    top-set (take n items) (n - 1) new (back ∙ sym short) ∙ ap (λ (ls : List Level). new ∷ reverse ls) (take-take (n - 1) n items (omega (arith, some)))
+    ∙ ap (λ (l : Level). l ∷ below) same in
+    ap next_line (sym was) ∙ ap (take_line held) (lives ∙ cut)
+    ∙ rw (line, stays, taken_as (substituted old.params (line_at old)) front holds) refl
+
+pub none-next : (items : List Level) (held : Bool) (n : ℕ) (old : Level) (now : Stack) → record { levels = reverse items; held = held } ≡ now
+    → 0 < n → n ≤ length items → live held (reverse items) ≡ reverse (take n items) → old ≡ get_or items (n - 1) old → has_line old ≡ false
+    → next_line now ≡ (Nothing, record { levels = reverse (take n items); held = held })
+none-next items held n old now was some within lives is none =
+    let back : n - 1 + 1 ≡ n = omega (arith, some) in
+    let inside : n - 1 < length items = omega (arith, some, within) in
+    let below = reverse (take (n - 1) items) in
+    let cut : reverse (take n items) ≡ old ∷ below =
+    ap (λ (k : ℕ). reverse (take k items)) (sym back) ∙ one-more items (n - 1) old inside ∙ ap (λ (l : Level). l ∷ below) (sym is) in
+    ap next_line (sym was) ∙ ap (take_line held) (lives ∙ cut) ∙ rw (none, cut) refl
+
+-- a macro's level is put on top
+pub pushed : (items : List Level) (level : Level) → reverse (items ++ level ∷ []) ≡ level ∷ reverse items
+pushed items level = reverse-append items (level ∷ [])
+
+pub takes-line : (now new : Stack) (front : Front) (r : Result (Option (List ℕ)) MacroFault)
+    → next_line now ≡ ((if front.is_cut then TooLong front.bytes.items else Line front.bytes.items), new)
+    → ((front.is_cut ≡ true) × (r ≡ Err (fault.TooLong front.bytes.items))) ⊎ ((front.is_cut ≡ false) × (r ≡ Ok (Some front.bytes.items))) → TakesLine now new r
+takes-line now new front r next (inl long) =
+    subst (TakesLine now new) (sym long.1) (next ∙ (let e : ◌≡◌ {A = Taken × Stack} ((if front.is_cut then TooLong front.bytes.items else Line front.bytes.items), new) (TooLong front.bytes.items, new) = rw long.0 refl in e))
+takes-line now new front r next (inr short) =
+    subst (TakesLine now new) (sym short.1) (next ∙ (let e : ◌≡◌ {A = Taken × Stack} ((if front.is_cut then TooLong front.bytes.items else Line front.bytes.items), new) (Line front.bytes.items, new) = rw short.0 refl in e))
+
+-- a line that is there is none of nothing
+pub some-next : (now new : Stack) (front : Front) → next_line now ≡ ((if front.is_cut then TooLong front.bytes.items else Line front.bytes.items), new) → (next_line now).0 ≡ Nothing → ⊥
+some-next now new front next none =
+    not_nothing front.is_cut front.bytes.items (ap (λ (p : Taken × Stack). p.0) (sym next) ∙ none)
+  where
+    not_nothing : (b : Bool) (t : List ℕ) → ◌≡◌ {A = Taken} (if b then TooLong t else Line t) Nothing → ⊥
+    not_nothing true t is = cc
+    not_nothing false t is = cc
+
+-- one level, read twice
+pub same-at : (items : List Level) (i : ℕ) (a b : Level) → i < length items → a ≡ get_or items i a → b ≡ get_or items i b → a ≡ b
+same-at items i a b inside is also = is ∙ get_or_default items i a b inside ∙ sym also
+
+pub any-line : {P : Type 0} (r : Result (Option (List ℕ)) MacroFault) → P → IfOk r (λ line. IsSome line → P)
+any-line (Ok line) holds = λ some. holds
+any-line (Err e) holds = tt

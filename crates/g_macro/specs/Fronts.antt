@@ -1,0 +1,7 @@
+-- The front of a text as the code keeps it.
+use Rattle.std.specs.Prelude.{List, length, nat_lt, take, ℕ, ◌≡◌}
+use Rattle.g_macro.specs.declared.expansion.Front.{Front}
+
+-- its first 240 bytes, and whether there are more
+abbrev pub Holds : List ℕ → Front → Type 0
+Holds text front = (front.bytes.items ≡ take 240 text) × (front.is_cut ≡ nat_lt 240 (length text))

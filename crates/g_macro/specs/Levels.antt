@@ -1,0 +1,188 @@
+-- The levels of a job, and the lines that it takes of them.
+use Rattle.std.specs.Prelude.{All, Bool, List, None, Option, Some, [], codes, drop, false, find, if◌then◌else◌, length, nat_le, nat_lt, not, option_map, replicate, slice_index_or, slice_set, take, true, ℕ, ◌&&◌, ◌++◌, ◌+◌, ◌-◌, ◌||◌, ◌∷◌, ◌≡◌, ◌≤◌}
+use Rattle.g_lang.specs.Conditions.{same_cond}
+use Rattle.g_lang.specs.Lines.{IsCommandText}
+use Rattle.g_lang.specs.Words.{label_in}
+use Rattle.g_lang.specs.declared.line.Cond.{Cond}
+use Rattle.g_lines.specs.Lines.{text_of}
+use Rattle.g_macro.specs.Asked.{cond_holds}
+use Rattle.g_macro.specs.Expansion.{substituted}
+use Rattle.g_macro.specs.declared.entry.Entry.{Entry}
+use Rattle.g_macro.specs.declared.outcome.Outcome.{Outcome}
+use Rattle.g_name.specs.Order.{same_text}
+
+-- a level: all its lines, its 24 parameters, how many lines were taken, its WHENEVERs in their order
+pub record Level : Type 0 where
+  pub lines : List (List ℕ)
+  pub params : List (List ℕ)
+  pub taken : ℕ
+  pub entries : List Entry
+
+-- THE LEVELS: the current one first; whether the last of them, the document, is held open for lines to come
+pub record Stack : Type 0 where
+  pub levels : List Level
+  pub held : Bool
+
+-- 24 parameters, of which those that aren't there are empty
+abbrev pub padded : List (List ℕ) → List (List ℕ)
+padded params = params ++ replicate (24 - length params) []
+
+abbrev pub level_of : List (List ℕ) → List (List ℕ) → Level
+level_of lines params = record { lines = lines; params = padded params; taken = 0; entries = [] }
+
+-- the levels of a job that begins
+abbrev pub begun : List (List ℕ) → Stack
+begun lines = record { levels = level_of lines [] ∷ []; held = false }
+
+abbrev pub has_line : Level → Bool
+has_line level = nat_lt level.taken (length level.lines)
+
+abbrev pub line_at : Level → List ℕ
+line_at level = slice_index_or level.lines level.taken []
+
+abbrev pub is_last : List Level → Bool
+is_last [] = true
+is_last (level ∷ levels) = false
+
+-- without the levels in front that have no line left; a document that is held stays
+abbrev pub live : Bool → List Level → List Level
+live held [] = []
+live held (level ∷ below) = if has_line level || (held && is_last below) then level ∷ below else live held below
+
+-- what is taken: nothing, a line, or the first 240 bytes of one that is longer
+pub data Taken : Type 0 where
+  Nothing : Taken
+  Line : List ℕ → Taken
+  TooLong : List ℕ → Taken
+
+abbrev pub as_taken : List ℕ → Taken
+as_taken text = if nat_le (length text) 240 then Line text else TooLong (take 240 text)
+
+abbrev pub line_taken : Level → Level
+line_taken level = record level { taken = level.taken + 1 }
+
+abbrev pub take_line : Bool → List Level → Taken × Stack
+take_line held [] = (Nothing, record { levels = []; held = held })
+take_line held (level ∷ below) =
+    if has_line level
+    then (as_taken (substituted level.params (line_at level)), record { levels = line_taken level ∷ below; held = held })
+    else (Nothing, record { levels = level ∷ below; held = held })
+
+-- THE NEXT LINE
+abbrev pub next_line : Stack → Taken × Stack
+next_line s = take_line s.held (live s.held s.levels)
+
+-- with another current level; where there is none nothing changes
+abbrev pub changed : (Level → Level) → List Level → List Level
+changed change [] = []
+changed change (level ∷ below) = change level ∷ below
+
+abbrev pub with_current : (Level → Level) → Stack → Stack
+with_current change s = record s { levels = changed change s.levels }
+
+abbrev pub first_level : List Level → Level
+first_level [] = level_of [] []
+first_level (level ∷ below) = level
+
+abbrev pub current : Stack → Level
+current s = first_level s.levels
+
+-- the lines of a document up to `////`, or to the end, and how many lines that passes
+abbrev pub is_closing : List ℕ → Bool
+is_closing line = same_text line (codes "////")
+
+abbrev pub before_closing : List (List ℕ) → List (List ℕ)
+before_closing [] = []
+before_closing (line ∷ lines) = if is_closing line then [] else line ∷ before_closing lines
+
+abbrev pub passed : List (List ℕ) → ℕ
+passed [] = 0
+passed (line ∷ lines) = if is_closing line then 1 else 1 + passed lines
+
+abbrev pub lines_left : Level → List (List ℕ)
+lines_left level = drop level.taken level.lines
+
+-- THE DOCUMENT of an INPUT, each line with its byte 10
+abbrev pub document_of : Stack → List ℕ
+document_of s = text_of (before_closing (lines_left (current s)))
+
+abbrev pub past_document : Level → Level
+past_document level = record level { taken = level.taken + passed (lines_left level) }
+
+abbrev pub document_passed : Stack → Stack
+document_passed s = with_current past_document s
+
+-- a macro's level is the current one; there are 8 at most
+abbrev pub is_deepest : Stack → Bool
+is_deepest s = nat_le 8 (length s.levels)
+
+abbrev pub called : List (List ℕ) → List (List ℕ) → Stack → Stack
+called lines params s = record s { levels = level_of lines params ∷ s.levels }
+
+-- the first line of the level that has this label
+abbrev pub is_that_label : List ℕ → Option (List ℕ) → Bool
+is_that_label label None = false
+is_that_label label (Some other) = same_text other label
+
+abbrev pub has_label : List ℕ → List ℕ → Bool
+has_label label line = is_that_label label (label_in line)
+
+abbrev pub line_of_label : List ℕ → List (List ℕ) → Option ℕ
+line_of_label label [] = None
+line_of_label label (line ∷ lines) = if has_label label line then Some 0 else option_map (λ n. 1 + n) (line_of_label label lines)
+
+abbrev pub at_line : ℕ → Level → Level
+at_line place level = record level { taken = place }
+
+abbrev pub gone_to : ℕ → Stack → Stack
+gone_to place s = with_current (at_line place) s
+
+-- the command in the place of that of an equal condition, or behind all
+abbrev pub has_cond : Cond → List Entry → Bool
+has_cond cond [] = false
+has_cond cond (entry ∷ entries) = same_cond entry.cond cond || has_cond cond entries
+
+abbrev pub with_entry : Cond → List ℕ → List Entry → List Entry
+with_entry cond command [] = record { cond = cond; command = command } ∷ []
+with_entry cond command (entry ∷ entries) =
+    if same_cond entry.cond cond then record entry { command = command } ∷ entries else entry ∷ with_entry cond command entries
+
+abbrev pub is_full_for : Cond → Stack → Bool
+is_full_for cond s = not (has_cond cond (current s).entries) && nat_le 16 (length (current s).entries)
+
+abbrev pub entry_kept : Cond → List ℕ → Level → Level
+entry_kept cond command level = record level { entries = with_entry cond command level.entries }
+
+abbrev pub with_whenever : Cond → List ℕ → Stack → Stack
+with_whenever cond command s = with_current (entry_kept cond command) s
+
+abbrev pub param_set : ℕ → List ℕ → Level → Level
+param_set letter value level = record level { params = slice_set level.params (letter - 65) value }
+
+abbrev pub with_param : ℕ → List ℕ → Stack → Stack
+with_param letter value s = with_current (param_set letter value) s
+
+abbrev pub holds : Stack → Cond → Outcome → Bool
+holds s cond outcome = cond_holds (current s).params outcome cond
+
+-- the first entry that holds, in its level
+abbrev pub entry_that_holds : Level → Outcome → Option Entry
+entry_that_holds level outcome = find (λ entry. cond_holds level.params outcome entry.cond) level.entries
+
+-- THE WHENEVER THAT FIRES: the entries of the current level in order, then those of the one below, and so on; the levels above its own go
+abbrev pub fired : Outcome → List Level → Option (List ℕ × List Level)
+fired outcome [] = None
+fired outcome (level ∷ below) = elim (entry_that_holds level outcome) [ Some entry ↦ Some (entry.command, level ∷ below) | None ↦ fired outcome below ]
+
+-- the rules of the levels
+pub record IsLevel (level : Level) : Type 0 where
+  pub params : length level.params ≡ 24
+  pub taken : level.taken ≤ length level.lines
+  pub entries : length level.entries ≤ 16
+  pub commands : All (λ entry. IsCommandText entry.command) level.entries
+
+-- the place of the entry with a condition
+abbrev pub place_of_cond : Cond → List Entry → Option ℕ
+place_of_cond cond [] = None
+place_of_cond cond (entry ∷ entries) =
+    if same_cond entry.cond cond then Some 0 else option_map (λ n. 1 + n) (place_of_cond cond entries)

@@ -1,0 +1,6 @@
+pub mod Asked
+pub mod Expansion
+pub mod Fronts
+pub mod LevelReplies
+pub mod Levels
+pub mod Replies

@@ -1,0 +1,109 @@
+//! Parameters put into a line. It takes no memory.
+ghost use Rattle.std.specs.Prelude.{◌≡◌, ◌++◌, ◌∷◌, ◌≤◌, [], ℕ, List, length};
+ghost use Rattle.g_macro.specs.Expansion as expansion;
+ghost use Rattle.g_macro.specs.Fronts.{Holds};
+
+use arrayvec::ArrayVec;
+use g_lang::is_param_letter;
+use g_name::Text;
+
+/// The front of a text, up to 240 bytes, and whether the text is longer.
+#[derive(Debug, Drop)]
+pub struct Front {
+    pub bytes: ArrayVec<u8, 240>,
+    pub is_cut: bool,
+}
+
+impl Front {
+    fn new() -> Front
+        ensures { Holds [] result }
+    {
+        Front {
+            bytes: ArrayVec::new(),
+            is_cut: false,
+        }
+    }
+
+    fn push(&mut self, byte: u8)
+        ensures { (text : List ℕ) → Holds text self.old → Holds (text ++ byte ∷ []) self.new }
+    {
+        if self.bytes.is_full() {
+            self.is_cut = true;
+        } else {
+            self.bytes.push(byte);
+        }
+    }
+
+    fn extend(&mut self, bytes: &[u8])
+        ensures { (text : List ℕ) → Holds text self.old → Holds (text ++ bytes.now) self.new }
+    {
+        for byte in bytes {
+            self.push(*byte);
+        }
+    }
+}
+
+/// The front of a line once the parameters are put in.
+pub fn expand(params: &[Text], line: &[u8]) -> Front
+    requires { length params.now ≡ 24 }
+    ensures { Holds (expansion.substituted params.now line.now) result }
+{
+    let mut front = Front::new();
+    let mut at = 0usize;
+    while at < line.len() {
+        let (done, rest) = line.split_at(at);
+        at += fill(&mut front, params, done, rest);
+    }
+    front
+}
+
+/// Puts what stands at the front of the rest of a line behind the others, and tells how many bytes of the line it was.
+fn fill(front: &mut Front, params: &[Text], done: &[u8], rest: &[u8]) -> usize
+    requires params { length params.now ≡ 24 }
+    requires some { 1 ≤ length rest.now }
+    ensures some { 1 ≤ result }
+    ensures within { result ≤ length rest.now }
+    ensures filled { (text : List ℕ) → Holds text front.old
+        → Holds (text ++ expansion.first_filled params.now done.now rest.now) front.new }
+    ensures taken { result ≡ expansion.first_taken rest.now }
+{
+    let first = rest[0];
+    if first != b'%' || rest.len() < 2 {
+        front.push(first);
+        return 1;
+    }
+    let second = rest[1];
+    if second == b'%' {
+        front.push(b'%');
+        return 2;
+    }
+    if !is_param_letter(second) {
+        front.push(first);
+        return 1;
+    }
+    if is_asked(done) {
+        front.push(first);
+        front.push(second);
+    } else {
+        front.extend(params[(second - b'A') as usize].as_slice());
+    }
+    2
+}
+
+/// Whether a condition asks here for a parameter by its name.
+fn is_asked(done: &[u8]) -> bool
+    ensures { result ≡ expansion.is_asked done.now }
+{
+    ends_with(done, b"PRESENT(") || ends_with(done, b"ABSENT(") || ends_with(done, b"STRING(")
+}
+
+/// Whether the text ends with these bytes.
+fn ends_with(text: &[u8], back: &[u8]) -> bool
+    ensures { result ≡ expansion.ends_with text.now back.now }
+{
+    if text.len() < back.len() {
+        return false;
+    }
+    let last = &text[text.len() - back.len()..];
+    last == back
+}
