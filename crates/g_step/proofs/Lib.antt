@@ -1,3 +1,4 @@
 mod StepLemmas
 mod EventLemmas
 mod OneLemmas
+mod ProcessLemmas

@@ -4,4 +4,5 @@ pub mod CallStep
 pub mod DumpSteps
 pub mod Rising
 pub mod Process
+pub mod ProcessLaws
 pub mod Laws
