@@ -1,1 +1,6 @@
+pub mod HeaderLemmas
+pub mod ListLemmas
+pub mod OneLemmas
+pub mod PieceLemmas
 pub mod PlanLemmas
+pub mod WaitingLemmas

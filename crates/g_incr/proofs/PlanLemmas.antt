@@ -15,45 +15,45 @@ use Rattle.g_incr.specs.Layout.{FollowOn, content_at, holds, is_between}
 use Rattle.g_incr.specs.Plan.{ComesBefore, PlanGivesDump, blocks_of, content_blocks, dump_of, first_content, noted_files, noted_rec, numbered_from, waiting, waits, with_number}
 
 -- the copy that a version got, or the one that it had
-record GetsCopy (serial from to : ℕ) (r s : FileRec) : Type 0 where
-  waits : waits r ≡ true
-  at : ℕ
-  least : from ≤ at
-  most : at + blocks_for r.len ≤ to
-  tape : s.tape ≡ Some (record { serial = serial; first = at })
+pub record GetsCopy (serial from to : ℕ) (r s : FileRec) : Type 0 where
+  pub waits : waits r ≡ true
+  pub at : ℕ
+  pub least : from ≤ at
+  pub most : at + blocks_for r.len ≤ to
+  pub tape : s.tape ≡ Some (record { serial = serial; first = at })
 
-record KeepsCopy (r s : FileRec) : Type 0 where
-  waits : waits r ≡ false
-  tape : s.tape ≡ r.tape
+pub record KeepsCopy (r s : FileRec) : Type 0 where
+  pub waits : waits r ≡ false
+  pub tape : s.tape ≡ r.tape
 
 -- a record of the dump, beside the record that it was made of
-record IsMade (serial from to : ℕ) (r s : FileRec) : Type 0 where
-  owner : s.owner ≡ r.owner
-  local : s.local ≡ r.local
-  generation : s.generation ≡ r.generation
-  lang : s.lang ≡ r.lang
-  stamp : s.stamp ≡ r.stamp
-  len : s.len ≡ r.len
-  traps : s.traps ≡ r.traps
-  copy : GetsCopy serial from to r s ⊎ KeepsCopy r s
+pub record IsMade (serial from to : ℕ) (r s : FileRec) : Type 0 where
+  pub owner : s.owner ≡ r.owner
+  pub local : s.local ≡ r.local
+  pub generation : s.generation ≡ r.generation
+  pub lang : s.lang ≡ r.lang
+  pub stamp : s.stamp ≡ r.stamp
+  pub len : s.len ≡ r.len
+  pub traps : s.traps ≡ r.traps
+  pub copy : GetsCopy serial from to r s ⊎ KeepsCopy r s
 
-abbrev made : ℕ → ℕ → ℕ → List FileRec → List FileRec
+abbrev pub made : ℕ → ℕ → ℕ → List FileRec → List FileRec
 made serial n at rs = numbered_from n (noted_files serial at rs)
 
-made_waits : (serial n at : ℕ) (r : FileRec) (rs : List FileRec) → waits r ≡ true
+pub made_waits : (serial n at : ℕ) (r : FileRec) (rs : List FileRec) → waits r ≡ true
     → made serial n at (r ∷ rs) ≡ with_number n (noted_rec serial at r) ∷ made serial (n + 1) (at + blocks_for r.len) rs
 made_waits serial n at r rs is = ap (numbered_from n) (cond-true (waits r) (noted_rec serial at r ∷ noted_files serial (at + blocks_for r.len) rs) (r ∷ noted_files serial at rs) is)
 
-made_keeps : (serial n at : ℕ) (r : FileRec) (rs : List FileRec) → waits r ≡ false → made serial n at (r ∷ rs) ≡ with_number n r ∷ made serial (n + 1) at rs
+pub made_keeps : (serial n at : ℕ) (r : FileRec) (rs : List FileRec) → waits r ≡ false → made serial n at (r ∷ rs) ≡ with_number n r ∷ made serial (n + 1) at rs
 made_keeps serial n at r rs is = ap (numbered_from n) (cond-false (waits r) (noted_rec serial at r ∷ noted_files serial (at + blocks_for r.len) rs) (r ∷ noted_files serial at rs) is)
 
-blocks_waits : (r : FileRec) (rs : List FileRec) → waits r ≡ true → blocks_of (waiting (r ∷ rs)) ≡ blocks_for r.len + blocks_of (waiting rs)
+pub blocks_waits : (r : FileRec) (rs : List FileRec) → waits r ≡ true → blocks_of (waiting (r ∷ rs)) ≡ blocks_for r.len + blocks_of (waiting rs)
 blocks_waits r rs is = ap blocks_of (cond-true (waits r) (r ∷ waiting rs) (waiting rs) is) ∙ sum_by-cons (λ (s : FileRec). blocks_for s.len) r (waiting rs)
 
-blocks_keeps : (r : FileRec) (rs : List FileRec) → waits r ≡ false → blocks_of (waiting (r ∷ rs)) ≡ blocks_of (waiting rs)
+pub blocks_keeps : (r : FileRec) (rs : List FileRec) → waits r ≡ false → blocks_of (waiting (r ∷ rs)) ≡ blocks_of (waiting rs)
 blocks_keeps r rs is = ap blocks_of (cond-false (waits r) (r ∷ waiting rs) (waiting rs) is)
 
-length-made : (serial n at : ℕ) (rs : List FileRec) → length (made serial n at rs) ≡ length rs
+pub length-made : (serial n at : ℕ) (rs : List FileRec) → length (made serial n at rs) ≡ length rs
 length-made serial n at [] = refl
 length-made serial n at (r ∷ rs) = by_copy (cases_Bool (waits r)) (length-made serial (n + 1) (at + blocks_for r.len) rs) (length-made serial (n + 1) at rs)
   where
@@ -63,7 +63,7 @@ length-made serial n at (r ∷ rs) = by_copy (cases_Bool (waits r)) (length-made
     by_copy (inr is) gets keeps = ap length (made_keeps serial n at r rs is) ∙ ap suc keeps
 
 -- each record of the dump is made of the record at its place
-made_of : (serial n from at to : ℕ) (rs : List FileRec) → from ≤ at → at + blocks_of (waiting rs) ≤ to
+pub made_of : (serial n from at to : ℕ) (rs : List FileRec) → from ≤ at → at + blocks_of (waiting rs) ≤ to
     → (i : ℕ) (d : FileRec) → i < length rs → IsMade serial from to (get_or rs i d) (get_or (made serial n at rs) i d)
 made_of serial n from at to [] le fits i d within = let no : ⊥ = omega (arith, within) in absurd no
 made_of serial n from at to (r ∷ rs) le fits i d within =
@@ -116,10 +116,10 @@ between_own : (serial from at to : ℕ) → from ≤ at → at < to → is_betwe
 between_own serial from at to le below =
     and_from (serial == serial) (nat_le from at && nat_lt at to) (eq-eqb serial serial refl) (and_from (nat_le from at) (nat_lt at to) (le-leb from at le) (lt-ltb at to below))
 
-has_bytes : (r : FileRec) → waits r ≡ true → 0 < r.len
+pub has_bytes : (r : FileRec) → waits r ≡ true → 0 < r.len
 has_bytes r is = ltb-true 0 r.len (and_parts (nat_lt 0 r.len) (is_none r.tape) is).0
 
-abbrev is_own : ℕ → ℕ → ℕ → FileRec → Bool
+abbrev pub is_own : ℕ → ℕ → ℕ → FileRec → Bool
 is_own serial from to r = is_between serial from to r.tape
 
 follow : (serial n from at to : ℕ) (rs : List FileRec) → from ≤ at → at + blocks_of (waiting rs) ≡ to → All (λ r. is_own serial from to r ≡ false) rs
@@ -153,7 +153,7 @@ follow serial n from at to (r ∷ rs) le ends away =
         (keeps (omega (arith, ends, sum)))
 
 -- 128 blocks a file at most
-blocks_most : (rs : List FileRec) → All IsFile rs → blocks_of (waiting rs) ≤ 128 * length rs
+pub blocks_most : (rs : List FileRec) → All IsFile rs → blocks_of (waiting rs) ≤ 128 * length rs
 blocks_most [] all = omega arith
 blocks_most (r ∷ rs) all = by_copy (cases_Bool (waits r)) (blocks_most rs (λ i d within. all (suc i) d (omega (arith, within))))
   where
@@ -167,7 +167,7 @@ copy_there len None is some = let no : ⊥ = both_ways (nat_lt 0 len && true) is
 
 -- ONE RECORD of a dump keeps what its record keeps
 module _ (serial from to : ℕ) (r s : FileRec) (same : IsMade serial from to r s) where
-  file_keeps : IsSerial serial → to < 2 ^ 32 → IsFile r → IsFile s
+  pub file_keeps : IsSerial serial → to < 2 ^ 32 → IsFile r → IsFile s
   file_keeps of_serial low is = record {
     local = ap is_word same.local ∙ is.local;
     least_generation = subst (λ (n : ℕ). 1 ≤ n) (sym same.generation) is.least_generation;

@@ -1,2 +1,4 @@
 pub mod Layout
+pub mod Notes
+pub mod Pieces
 pub mod Plan

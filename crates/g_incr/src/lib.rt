@@ -1,7 +1,19 @@
-//! A dump and the blocks of tape that it takes, and what a dump will hold. So far definitions and a law alone.
+//! A dump and the blocks of tape that it takes: what a dump will hold, the writer of its blocks, and the reader of a dump
+//! that stands on a reel.
 #![tactic(auto)]
 
 ghost use Rattle.g_incr.specs.Plan.{PlanGivesDump};
+
+mod fault;
+mod header;
+mod held;
+mod note;
+mod waiting;
+mod writer;
+
+pub use fault::ShelfFault;
+pub use note::{DumpDir, DumpNote};
+pub use writer::{Piece, Writer};
 
 /// A plan gives a dump that keeps the rules of a dump, whatever the content.
 pub fn plan_gives_dump()

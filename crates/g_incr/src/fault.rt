@@ -1,0 +1,43 @@
+//! Why a reel could not be read.
+use g_base::NoMemory;
+use std::alloc::AllocError;
+use thiserror::Error;
+
+/// Why a reader of a reel answers nothing. No fault changes what the reel holds.
+#[derive(Clone, Copy, Debug, PartialEq, Eq, Error)]
+pub enum ShelfFault {
+    /// No reel of that serial is in the rack.
+    #[error("no such tape")]
+    NoTape,
+    /// The reel isn't mounted.
+    #[error("the tape is not mounted")]
+    NotMounted,
+    /// A read of the reel failed.
+    #[error("the tape could not be read")]
+    ReadFault,
+    /// The memory was refused.
+    #[error("out of memory")]
+    NoMemory,
+}
+
+impl From<AllocError> for ShelfFault {
+    ghost use Rattle.std.specs.Prelude.{◌≡◌};
+    ghost use Rattle.g_incr.specs.declared.fault.ShelfFault.TheVariants.{NoMemory};
+
+    ghost from_gives = { λ _ e. e ≡ NoMemory };
+
+    fn from(_e: AllocError) -> ShelfFault {
+        ShelfFault::NoMemory
+    }
+}
+
+impl From<NoMemory> for ShelfFault {
+    ghost use Rattle.std.specs.Prelude.{◌≡◌};
+    ghost use Rattle.g_incr.specs.declared.fault.ShelfFault.TheVariants.{NoMemory};
+
+    ghost from_gives = { λ _ e. e ≡ NoMemory };
+
+    fn from(_e: NoMemory) -> ShelfFault {
+        ShelfFault::NoMemory
+    }
+}

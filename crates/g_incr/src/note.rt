@@ -1,0 +1,31 @@
+//! What is told of a dump that stands on a reel.
+use g_entry::{FileRec, Format, UserRec};
+
+/// What a dump's header says: its number, its first block, how many blocks it has between header and mark, how many of
+/// them are users and files, and the next stamp at its opening.
+#[derive(Clone, Copy, Debug, PartialEq, Eq)]
+pub struct DumpNote {
+    pub number: u64,
+    pub place: u32,
+    pub count: u32,
+    pub users: u16,
+    pub files: u16,
+    pub next_stamp: u64,
+}
+
+/// A note, and the format of the dump's records.
+#[derive(Clone, Copy, Debug, PartialEq, Eq)]
+pub struct Header {
+    pub format: Format,
+    pub note: DumpNote,
+}
+
+/// The records of a dump: all users in order of number, the numbers of those whose directories it holds, and their files,
+/// which have the numbers of their places.
+#[derive(Debug, Drop)]
+pub struct DumpDir {
+    pub note: DumpNote,
+    pub users: Vec<UserRec>,
+    pub held: Vec<u8>,
+    pub files: Vec<FileRec>,
+}
