@@ -1,0 +1,6 @@
+-- What the contracts cite: the texts that jobs and operators read.
+pub mod JobLines
+pub mod Listing
+pub mod Parts
+pub mod Refusals
+pub mod Replies

@@ -1,0 +1,87 @@
+//! Files and directories as they are listed.
+ghost use Rattle.std.specs.Prelude.{◌≡◌, ◌++◌, map, IfOk, OnOk};
+ghost use Rattle.g_lines.specs.Lines.{text_of};
+ghost use Rattle.g_monitor.specs.Listing.{shown, shown_line, listed_lines, row_line};
+
+use crate::parts::{push_decimal, push_words};
+use g_base::NoMemory;
+use g_lines::Lines;
+use g_name::{Full, Text};
+use std::alloc::Global;
+
+/// A byte as a listing shows it: `?` in the place of one that can't be printed.
+fn shown(byte: u8) -> u8
+    ensures { result ≡ shown byte }
+{
+    if (32..=126).contains(&byte) {
+        byte
+    } else {
+        b'?'
+    }
+}
+
+/// Puts a line of a file behind the text, behind `| ` and without a byte 10. Where memory is wanting, a front of it may
+/// stand there.
+pub fn push_shown(text: &mut Text, line: &[u8]) -> Result<(), NoMemory>
+    ensures { OnOk result (text.new ≡ text.old ++ shown_line line.now) }
+{
+    text.extend(b"| ")?;
+    for byte in line {
+        text.push(shown(*byte))?;
+    }
+    Ok(())
+}
+
+/// Puts a file with its length in bytes behind the text, as the listing of a directory has it, without a byte 10. Where
+/// memory is wanting, a front of it may stand there.
+pub fn push_row(alloc: Global, text: &mut Text, row: &(Full, u32)) -> Result<(), NoMemory>
+    ensures { OnOk result (text.new ≡ text.old ++ row_line row.now) }
+{
+    let (full, len) = row;
+    push_words(text, b"| ", full.local.as_slice())?;
+    text.extend(b"(")?;
+    push_decimal(alloc, text, u64::from(full.generation))?;
+    text.extend(b"/")?;
+    text.extend(full.lang.as_slice())?;
+    text.extend(b") ")?;
+    push_decimal(alloc, text, u64::from(*len))
+}
+
+/// Puts the lines of a file behind the text, each with its byte 10.
+#[tactic(auto, using(crate::proofs::LineLemmas::line_behind))]
+pub(crate) fn push_list(text: &mut Text, bytes: &[u8]) -> Result<(), NoMemory>
+    ensures { OnOk result (text.new ≡ text.old ++ text_of (listed_lines bytes.now)) }
+{
+    let mut lines = Lines::new(bytes);
+    while let Some(line) = lines.next() {
+        push_shown(text, line)?;
+        text.push(b'\n')?;
+    }
+    Ok(())
+}
+
+/// Puts the files of a directory behind the text, each on its line with its byte 10.
+#[tactic(auto, using(crate::proofs::LineLemmas::line_behind))]
+pub(crate) fn push_rows(
+    alloc: Global,
+    text: &mut Text,
+    rows: &[(Full, u32)],
+) -> Result<(), NoMemory>
+    ensures { OnOk result (text.new ≡ text.old ++ text_of (map row_line rows.now)) }
+{
+    for row in rows {
+        push_row(alloc, text, row)?;
+        text.push(b'\n')?;
+    }
+    Ok(())
+}
+
+/// The lines of a file as LISTFILE shows them, each behind `| ` and with its byte 10 (`docs/MANUAL.md`, "Texts of jobs
+/// and refusals").
+pub fn list_text(alloc: Global, bytes: &[u8]) -> Result<Text, NoMemory>
+    ensures { IfOk result (λ text. text ≡ text_of (listed_lines bytes.now)) }
+{
+    let mut text = Text::new(alloc);
+    push_list(&mut text, bytes)?;
+    Ok(text)
+}
