@@ -1,0 +1,5 @@
+pub mod NumberLemmas
+pub mod ParamLemmas
+pub mod ReadLemmas
+pub mod SaidLemmas
+pub mod WalkLemmas

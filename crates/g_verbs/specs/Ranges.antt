@@ -1,0 +1,41 @@
+-- Paths and units whose ranges are kept: a number that is out of its range becomes the nearest one that isn't.
+use Rattle.std.proofs.Common.{List, None, Option, Some, [], lit<, lit≤, max, min, ℕ, ◌<◌, ◌≤◌}
+use Rattle.std.proofs.Math.Nat.{le-max_left, lt_of_le_of_lt, max-le, min-le_right}
+use Rattle.std.specs.Prelude.{IfSome}
+use Rattle.std.specs.Option.{option_map}
+use Rattle.g_name.specs.Names.{Name}
+use Rattle.g_name.specs.declared.path.Path.{Path}
+use Rattle.g_peri.specs.declared.unit.Kind.{Kind}
+use Rattle.g_peri.specs.declared.unit.Kind.TheVariants.{Cr}
+use Rattle.g_peri.specs.declared.unit.Unit as unit
+
+abbrev pub IsGeneration : Option ℕ → Type 0
+IsGeneration generation = IfSome generation (λ g. (1 ≤ g) × (g ≤ 4095))
+
+abbrev pub clamped : ℕ → ℕ
+clamped g = max 1 (min g 4095)
+
+pub clamped_range : (generation : Option ℕ) → IsGeneration (option_map clamped generation)
+clamped_range None = tt
+clamped_range (Some g) = (le-max_left 1 (min g 4095), max-le (lit≤ tt) (min-le_right g 4095))
+
+abbrev pub path_with : Name → Path
+path_with n = record {
+  user = n.user;
+  local = n.local;
+  generation = option_map clamped n.generation;
+  lang = n.lang;
+  in_range = clamped_range n.generation;
+}
+
+abbrev pub no_path : Path
+no_path = record { user = None; local = []; generation = None; lang = None; in_range = tt }
+
+pub below_eight : (number : ℕ) → min number 7 < 8
+below_eight number = lt_of_le_of_lt (min-le_right number 7) (lit< tt)
+
+abbrev pub unit_with : Kind → ℕ → unit.Unit
+unit_with kind number = record { kind = kind; number = min number 7; in_range = below_eight number }
+
+abbrev pub no_unit : unit.Unit
+no_unit = unit_with Cr 0

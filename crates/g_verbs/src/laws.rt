@@ -1,0 +1,19 @@
+//! Laws of the verbs. They do nothing; their clauses say what holds of every name with every parameters.
+ghost use Rattle.std.specs.Prelude.{◌≡◌, ℕ, true, List, Result};
+ghost use Rattle.g_name.specs.Grammar.{is_word};
+ghost use Rattle.g_verbs.specs.How.{action_read};
+ghost use Rattle.g_verbs.specs.Verbs.{Says, IsRead, IsSound};
+ghost use Rattle.g_verbs.specs.declared.action.Action.{Action};
+
+/// Each name that is a word has, with any parameters, one reading, and `action_read` is it: what the verb asks for, or
+/// the first bad parameter. Of a name that is no word nothing is asked. What is asked for is within the limits.
+pub fn verbs_are_read_by_their_forms()
+    ensures reads { (name : List ℕ) (params : List (List ℕ)) (rest : List ℕ)
+        → is_word name ≡ true → IsRead name params rest (action_read name params rest) }
+    ensures one { (name : List ℕ) (params : List (List ℕ)) (rest : List ℕ) (r s : Result Action ℕ)
+        → IsRead name params rest r → IsRead name params rest s → r ≡ s }
+    ensures word { (name : List ℕ) (params : List (List ℕ)) (rest : List ℕ) (action : Action)
+        → Says action name params rest → is_word name ≡ true }
+    ensures sound { (name : List ℕ) (params : List (List ℕ)) (rest : List ℕ) (action : Action)
+        → Says action name params rest → IsSound action }
+{}

@@ -1,0 +1,22 @@
+//! The verbs of the command language: the parameters that each takes, and what it asks for.
+#![tactic(auto)]
+
+mod action;
+mod asked;
+mod fault;
+mod form;
+mod laws;
+mod number;
+mod parameter;
+mod read;
+#[cfg(test)]
+mod tests;
+mod values;
+mod verb;
+
+pub use action::Action;
+pub use fault::VerbFault;
+pub use form::{Form, Forms};
+pub use laws::verbs_are_read_by_their_forms;
+pub use read::read_verb;
+pub use verb::Verb;

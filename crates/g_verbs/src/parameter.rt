@@ -1,0 +1,163 @@
+//! One parameter of each form; none of these takes memory.
+ghost use Rattle.std.specs.Prelude.{◌≡◌, None, Some, MatchOption};
+ghost use Rattle.g_lang.specs.How as lang;
+ghost use Rattle.g_verbs.specs.How as how;
+ghost use Rattle.g_verbs.specs.Parameters as parameters;
+
+use crate::number::number;
+use g_lang::is_param_letter;
+use g_name::{Local, Path, User, parse_path};
+use g_peri::{Kind, Unit};
+use g_plain::BudgetKind;
+use g_trap::Mode;
+
+/// All modes.
+const MODES: [Mode; 5] = [
+    Mode::Read,
+    Mode::Write,
+    Mode::Append,
+    Mode::Execute,
+    Mode::Erase,
+];
+
+/// The path of a file.
+pub fn file(text: &[u8]) -> Option<Path>
+    ensures { result ≡ how.file_read text.now }
+{
+    parse_path(text).ok()
+}
+
+/// A user with its colon.
+pub fn user(text: &[u8]) -> Option<User>
+    ensures { result ≡ how.user_read text.now }
+{
+    User::parse(text).ok()
+}
+
+/// A local name.
+pub fn local(text: &[u8]) -> Option<Local>
+    ensures { result ≡ how.local_read text.now }
+{
+    Local::new(text)
+}
+
+/// An amount of a budget: its word, a space and a number up to the budget's most.
+pub fn amount(kind: BudgetKind, text: &[u8]) -> Option<u64>
+    ensures { result ≡ how.amount_read kind text.now }
+{
+    match behind(front(kind), text) {
+        Some(digits) => number(digits, most(kind)),
+        None => None,
+    }
+}
+
+/// An amount of any budget.
+pub fn budget(text: &[u8]) -> Option<(BudgetKind, u64)>
+    ensures { result ≡ how.budget_read text.now }
+{
+    if let Some(amount) = amount(BudgetKind::Space, text) {
+        return Some((BudgetKind::Space, amount));
+    }
+    if let Some(amount) = amount(BudgetKind::Time, text) {
+        return Some((BudgetKind::Time, amount));
+    }
+    match amount(BudgetKind::Money, text) {
+        Some(amount) => Some((BudgetKind::Money, amount)),
+        None => None,
+    }
+}
+
+/// What stands before the number of an amount.
+fn front(kind: BudgetKind) -> &'static [u8]
+    ensures { result.now ≡ how.kind_front kind }
+{
+    match kind {
+        BudgetKind::Space => b"SPACE ",
+        BudgetKind::Time => b"TIME ",
+        BudgetKind::Money => b"MONEY ",
+    }
+}
+
+/// The most that there may be of a budget.
+fn most(kind: BudgetKind) -> u64
+    ensures { result ≡ parameters.most_of kind }
+{
+    match kind {
+        BudgetKind::Space => 65_535,
+        BudgetKind::Time | BudgetKind::Money => 1_000_000_000,
+    }
+}
+
+/// A unit: its kind and its digit.
+pub fn unit(text: &[u8]) -> Option<Unit>
+    ensures { result ≡ how.unit_read text.now }
+{
+    if let Some(digit) = behind(b"*CR", text) {
+        return digit_unit(Kind::Cr, digit);
+    }
+    if let Some(digit) = behind(b"*LP", text) {
+        return digit_unit(Kind::Lp, digit);
+    }
+    match behind(b"*TP", text) {
+        Some(digit) => digit_unit(Kind::Tp, digit),
+        None => None,
+    }
+}
+
+/// The unit of a kind with this digit.
+fn digit_unit(kind: Kind, text: &[u8]) -> Option<Unit>
+    ensures { result ≡ how.digit_unit kind text.now }
+{
+    match text {
+        [digit] if (b'0'..=b'7').contains(digit) => Some(Unit {
+            kind,
+            number: *digit - b'0',
+        }),
+        _ => None,
+    }
+}
+
+/// A mode by its word.
+pub fn mode(text: &[u8]) -> Option<Mode>
+    ensures { result ≡ how.mode_read text.now }
+{
+    MODES.iter().copied().find(|mode| mode_word(*mode) == text)
+}
+
+/// The word of a mode.
+fn mode_word(mode: Mode) -> &'static [u8]
+    ensures { result.now ≡ parameters.mode_word mode }
+{
+    match mode {
+        Mode::Read => b"READ",
+        Mode::Write => b"WRITE",
+        Mode::Append => b"APPEND",
+        Mode::Execute => b"EXECUTE",
+        Mode::Erase => b"ERASE",
+    }
+}
+
+/// A letter, `A` to `X`.
+pub fn letter(text: &[u8]) -> Option<u8>
+    ensures { result ≡ how.letter_read text.now }
+{
+    match text {
+        [letter] if is_param_letter(*letter) => Some(*letter),
+        _ => None,
+    }
+}
+
+/// A number from 0 to 9.
+pub fn digit(text: &[u8]) -> Option<u64>
+    ensures { result ≡ how.number_read 9 text.now }
+{
+    number(text, 9)
+}
+
+/// What stands behind a front, if the text begins with it.
+fn behind<'a>(front: &[u8], text: &'a [u8]) -> Option<&'a [u8]>
+    ensures { MatchOption result (lang.behind front.now text.now ≡ None)
+        (λ rest. lang.behind front.now text.now ≡ Some rest.now) }
+{
+    text.strip_prefix(front)
+}

@@ -1,0 +1,84 @@
+//! From a verb and its parameters to what it asks for.
+ghost use Rattle.std.specs.Prelude.{◌≡◌, IfOk};
+ghost use Rattle.g_verbs.specs.Forms.{AreGood};
+ghost use Rattle.g_verbs.specs.How as how;
+ghost use Rattle.g_verbs.specs.Tables.{forms_said};
+ghost use Rattle.g_verbs.specs.Verbs as verbs;
+
+use crate::verb::macro_forms;
+use crate::{Action, Forms, Verb, VerbFault, asked};
+use g_lines::Texts;
+use g_name::{Local, Text};
+
+/// What a verb with its parameters asks for (`docs/DEFINITIONS.md`, "Verbs"). `rest` is what stands from the first
+/// parameter on, as it was written, which DISPLAY alone uses.
+///
+/// `BadParameter` comes exactly where a parameter is bad. A name that is no verb's is that of a macro, which isn't
+/// looked for here. It takes no memory.
+pub fn read_verb(name: &Local, params: Texts, rest: Text) -> Result<Action, VerbFault>
+    ensures grammar { verbs.Reads name.now params rest result }
+    ensures one { verbs.IsActionRead (how.action_read name.now params rest) result }
+    ensures sound { IfOk result verbs.IsSound }
+{
+    let verb = Verb::of(name.as_slice());
+    let forms = forms_of(verb);
+    if let Some(index) = forms.first_wrong(params.rows()) {
+        return Err(VerbFault::BadParameter(index));
+    }
+    Ok(asked_by(verb, name, params, rest))
+}
+
+/// The parameters that a verb takes, or a macro.
+fn forms_of(verb: Option<Verb>) -> Forms
+    ensures { forms_said result ≡ verbs.forms_with verb }
+{
+    match verb {
+        Some(verb) => verb.forms(),
+        None => macro_forms(),
+    }
+}
+
+/// What a verb or a macro asks for, whose parameters are good.
+fn asked_by(verb: Option<Verb>, name: &Local, params: Texts, rest: Text) -> Action
+    requires { AreGood (verbs.forms_with verb) params }
+    ensures { result ≡ how.asked verb name.now params rest }
+{
+    match verb {
+        Some(verb) => action_of(verb, params, rest),
+        None => Action::Macro {
+            name: name.copy(),
+            params,
+        },
+    }
+}
+
+/// What a verb asks for, whose parameters are good.
+fn action_of(verb: Verb, params: Texts, rest: Text) -> Action
+    requires { AreGood (verbs.verb_forms verb) params }
+    ensures { result ≡ how.action_of verb params rest }
+{
+    match verb {
+        Verb::Input => asked::input(params.rows()),
+        Verb::Copy => asked::copy(params.rows()),
+        Verb::Append => asked::append(params.rows()),
+        Verb::Erase => asked::erase(params.rows()),
+        Verb::Rename => asked::rename(params.rows()),
+        Verb::ListFile => asked::list_file(params.rows()),
+        Verb::ListDir => asked::list_dir(params.rows()),
+        Verb::TrapGo => asked::trap_go(params.rows()),
+        Verb::TrapStop => asked::trap_stop(params.rows()),
+        Verb::TrapCheck => asked::trap_check(params.rows()),
+        Verb::NewUser => asked::new_user(params.rows()),
+        Verb::Budget => asked::budget(params.rows()),
+        Verb::Retrieve => asked::retrieve(params.rows()),
+        Verb::Load => asked::load(params.rows()),
+        Verb::Enter => asked::enter(params.rows()),
+        Verb::Resume => Action::Resume,
+        Verb::Assign => asked::assign(params.rows()),
+        Verb::Release => asked::release(params.rows()),
+        Verb::Delete => Action::Delete,
+        Verb::SetParam => asked::set_param(params),
+        Verb::Display => Action::Display { text: rest },
+        Verb::EndJob => Action::EndJob,
+    }
+}

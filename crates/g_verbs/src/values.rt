@@ -1,0 +1,128 @@
+//! The values of parameters that are of their forms.
+ghost use Rattle.std.specs.Prelude.{◌≡◌, ◌<◌, length};
+ghost use Rattle.g_plain.specs.declared.calls.BudgetKind.TheVariants as kind;
+ghost use Rattle.g_verbs.specs.How as how;
+ghost use Rattle.g_verbs.specs.Tables.{IsThere};
+ghost use Rattle.g_verbs.specs.declared.form.Form.TheVariants as form;
+
+use crate::parameter;
+use g_name::{Local, Path, Text, User};
+use g_peri::Unit;
+use g_plain::BudgetKind;
+use g_trap::{Mode, Modes};
+
+/// The text of a parameter.
+fn text_at(params: &[Text], place: usize) -> &[u8]
+    requires { place < length params.now }
+    ensures { result.now ≡ how.param params.now place }
+{
+    params[place].as_slice()
+}
+
+/// The file that a parameter names.
+pub fn file_at(params: &[Text], place: usize) -> Path
+    requires { IsThere form.File params.now place }
+    ensures { result ≡ how.file_of (how.param params.now place) }
+{
+    parameter::file(text_at(params, place)).unwrap()
+}
+
+/// The user that a parameter names.
+pub fn user_at(params: &[Text], place: usize) -> User
+    requires { IsThere form.User params.now place }
+    ensures { result ≡ how.user_of (how.param params.now place) }
+{
+    parameter::user(text_at(params, place)).unwrap()
+}
+
+/// The user that a parameter names, if it is there.
+pub fn user_if_at(params: &[Text], place: usize) -> Option<User>
+    requires { place < length params.now → IsThere form.User params.now place }
+    ensures { result ≡ how.user_at params.now place }
+{
+    if place < params.len() {
+        Some(user_at(params, place))
+    } else {
+        None
+    }
+}
+
+/// The local name that a parameter is.
+pub fn local_at(params: &[Text], place: usize) -> Local
+    requires { IsThere form.Local params.now place }
+    ensures { result ≡ how.local_of (how.param params.now place) }
+{
+    parameter::local(text_at(params, place)).unwrap()
+}
+
+/// The amount of a budget that a parameter names.
+pub fn amount_at(kind: BudgetKind, params: &[Text], place: usize) -> u64
+    requires { IsThere (form.Amount kind) params.now place }
+    ensures { result ≡ how.amount_of kind (how.param params.now place) }
+{
+    parameter::amount(kind, text_at(params, place)).unwrap()
+}
+
+/// The amount of MONEY that a parameter names, if it is there.
+pub fn money_if_at(params: &[Text], place: usize) -> Option<u64>
+    requires { place < length params.now → IsThere (form.Amount kind.Money) params.now place }
+    ensures { result ≡ how.money_at params.now place }
+{
+    if place < params.len() {
+        Some(amount_at(BudgetKind::Money, params, place))
+    } else {
+        None
+    }
+}
+
+/// The budget that a parameter names, and its amount.
+pub fn budget_at(params: &[Text], place: usize) -> (BudgetKind, u64)
+    requires { IsThere form.AnyAmount params.now place }
+    ensures { result ≡ how.budget_of (how.param params.now place) }
+{
+    parameter::budget(text_at(params, place)).unwrap()
+}
+
+/// The unit that a parameter names.
+pub fn unit_at(params: &[Text], place: usize) -> Unit
+    requires { IsThere form.Unit params.now place }
+    ensures { result ≡ how.unit_of (how.param params.now place) }
+{
+    parameter::unit(text_at(params, place)).unwrap()
+}
+
+/// The digit that a parameter is.
+pub fn digit_at(params: &[Text], place: usize) -> u64
+    requires { IsThere form.Digit params.now place }
+    ensures { result ≡ how.digit_of (how.param params.now place) }
+{
+    parameter::digit(text_at(params, place)).unwrap()
+}
+
+/// The letter that a parameter is.
+pub fn letter_at(params: &[Text], place: usize) -> u8
+    requires { IsThere form.Letter params.now place }
+    ensures { result ≡ how.letter_of (how.param params.now place) }
+{
+    parameter::letter(text_at(params, place)).unwrap()
+}
+
+/// All the modes that these parameters name.
+pub fn modes_of(params: &[Text]) -> Modes
+    ensures { result ≡ how.modes_read params.now }
+{
+    match params.split_first() {
+        Some((first, others)) => with_mode(parameter::mode(first.as_slice()), modes_of(others)),
+        None => Modes::none(),
+    }
+}
+
+/// These modes and one more, if there is one.
+fn with_mode(mode: Option<Mode>, modes: Modes) -> Modes
+    ensures { result ≡ how.with_mode mode modes }
+{
+    match mode {
+        Some(mode) => Modes::only(mode).union(modes),
+        None => modes,
+    }
+}
