@@ -1,0 +1,5 @@
+//! Tests of the plain tree: worked calls, with the replies and faults that the rules give.
+#![tactic(auto)]
+
+#[cfg(test)]
+mod tests;
