@@ -5,3 +5,5 @@
 mod commits;
 #[cfg(test)]
 mod reading;
+#[cfg(test)]
+mod twins;
