@@ -1,6 +1,10 @@
+pub mod DumpLemmas
 pub mod HeaderLemmas
 pub mod ListLemmas
 pub mod OneLemmas
 pub mod PieceLemmas
 pub mod PlanLemmas
+pub mod RecordsLemmas
+pub mod RuleLemmas
+pub mod TapeLemmas
 pub mod WaitingLemmas

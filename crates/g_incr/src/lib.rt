@@ -8,11 +8,17 @@ mod fault;
 mod header;
 mod held;
 mod note;
+mod read;
+mod records;
+mod rules;
+mod tape;
 mod waiting;
 mod writer;
 
 pub use fault::ShelfFault;
 pub use note::{DumpDir, DumpNote};
+pub use read::read_dump;
+pub use tape::{read_block, read_blocks};
 pub use writer::{Piece, Writer};
 
 /// A plan gives a dump that keeps the rules of a dump, whatever the content.

@@ -1,0 +1,145 @@
+//! The records of a dump, from the blocks between its header and its content.
+ghost use Rattle.std.specs.Prelude.{◌≡◌, ◌↔◌, ℕ, ◌+◌, ◌≤◌, [], ◌∷◌, ◌++◌, All, IfNone, IfOk, IfSome, IsTrue, List, OnOk, if◌then◌else◌, length, option_copied};
+ghost use Rattle.g_entry.specs.declared.file_rec.FileRec.{FileRec};
+ghost use Rattle.g_entry.specs.declared.user_rec.UserRec.{UserRec};
+ghost use Rattle.g_entry.specs.FileFields.{IsFile, file_block};
+ghost use Rattle.g_incr.specs.Layout.{numbers_in};
+ghost use Rattle.g_incr.specs.Notes.{IsInLimits};
+ghost use Rattle.g_incr.specs.Records.{AreFilesIn, AreUsersIn, HasRecords};
+
+use crate::note::{DumpDir, Header};
+use crate::rules::keeps_rules;
+use g_base::{Block, BlockList, NoMemory};
+use g_entry::{FileRec, Format, UserRec, decode_file_in, decode_user_held};
+use std::alloc::Global;
+
+/// The records in these blocks, the users' and behind them the files'. None exactly where they are not those of a dump with
+/// this header on this reel.
+pub(crate) fn records_in(
+    alloc: Global,
+    serial: u32,
+    h: &Header,
+    blocks: &[Block],
+) -> Result<Option<DumpDir>, NoMemory>
+    requires limits { IsInLimits h.now.note }
+    ensures found { IfOk result (λ o. IfSome o (λ dir. (dir.note ≡ h.now.note)
+        × HasRecords serial h.now dir.users.items dir.held.items dir.files.items blocks.now)) }
+    ensures none { IfOk result (λ o. IfNone o ((users : List UserRec) (held : List ℕ) (files : List FileRec)
+        → HasRecords serial h.now users held files blocks.now → ⊥)) }
+{
+    let users = usize::from(h.note.users);
+    if blocks.len() != users + usize::from(h.note.files) {
+        return Ok(None);
+    }
+    let (front, back) = blocks.split_at(users);
+    let (users, held) = match users_in(alloc, h.format, front)? {
+        Some(found) => found,
+        None => return Ok(None),
+    };
+    let files = match files_in(alloc, h.format, back)? {
+        Some(files) => files,
+        None => return Ok(None),
+    };
+    let dir = DumpDir {
+        note: h.note,
+        users,
+        held,
+        files,
+    };
+    if keeps_rules(alloc, serial, &dir)? {
+        Ok(Some(dir))
+    } else {
+        Ok(None)
+    }
+}
+
+/// The users whose blocks these are, and the numbers of those who are held. None exactly where a block is no user's.
+fn users_in(
+    alloc: Global,
+    format: Format,
+    blocks: &[Block],
+) -> Result<Option<(Vec<UserRec>, Vec<u8>)>, NoMemory>
+    requires { length blocks.now ≤ 63 }
+    ensures found { IfOk result (λ o. IfSome o (λ f. AreUsersIn format f.0.items f.1.items blocks.now)) }
+    ensures none { IfOk result (λ o. IfNone o ((users : List UserRec) (held : List ℕ) → AreUsersIn format users held blocks.now → ⊥)) }
+{
+    let mut users = Vec::new(alloc);
+    let mut held = Vec::new(alloc);
+    for (number, block) in blocks.iter().enumerate() {
+        match decode_user_held(format, block, number as u8) {
+            Some((user, is_held)) => match add_user(user, is_held, &mut users, &mut held) {
+                Ok(()) => {}
+                Err(fault) => return Err(fault),
+            },
+            None => return Ok(None),
+        }
+    }
+    Ok(Some((users, held)))
+}
+
+/// Puts a user behind the others, and the number behind the others where the user is held.
+fn add_user(
+    user: UserRec,
+    is_held: bool,
+    users: &mut Vec<UserRec>,
+    held: &mut Vec<u8>,
+) -> Result<(), NoMemory>
+    ensures users { OnOk result (users.new.items ≡ users.old.items ++ user ∷ []) }
+    ensures held { OnOk result (held.new.items ≡ held.old.items ++ (if is_held then user.number ∷ [] else [])) }
+{
+    if is_held {
+        held.push(user.number)?;
+    }
+    users.push(user)?;
+    Ok(())
+}
+
+/// The files whose blocks these are. None exactly where a block is no file's.
+fn files_in(
+    alloc: Global,
+    format: Format,
+    blocks: &[Block],
+) -> Result<Option<Vec<FileRec>>, NoMemory>
+    requires { length blocks.now ≤ 1024 }
+    ensures found { IfOk result (λ o. IfSome o (λ files. AreFilesIn format files.items blocks.now)) }
+    ensures none { IfOk result (λ o. IfNone o ((files : List FileRec) → AreFilesIn format files blocks.now → ⊥)) }
+{
+    let mut files = Vec::new(alloc);
+    for (number, block) in blocks.iter().enumerate() {
+        match file_in(format, block, number as u16) {
+            Some(file) => match files.push(file) {
+                Ok(()) => {}
+                Err(_) => return Err(NoMemory),
+            },
+            None => return Ok(None),
+        }
+    }
+    Ok(Some(files))
+}
+
+/// The file whose block on tape it is. There it has no block numbers, and an empty file is online.
+fn file_in(format: Format, block: &Block, number: u16) -> Option<FileRec>
+    ensures found { IfSome result (λ r. (r.number ≡ number) × IsFile r × (block.now ≡ file_block format r (numbers_in r))) }
+    ensures none { IfNone result ((r : FileRec) → r.number ≡ number → IsFile r
+        → block.now ≡ file_block format r (numbers_in r) → ⊥) }
+{
+    match decode_file_in(format, block, number) {
+        Some((file, online)) => {
+            if is_on_tape(&file, online.as_ref()) {
+                Some(file)
+            } else {
+                None
+            }
+        }
+        None => None,
+    }
+}
+
+fn is_on_tape(r: &FileRec, online: Option<&BlockList>) -> bool
+    ensures { IsTrue result ↔ (option_copied online.entry ≡ numbers_in r.now) }
+{
+    match online {
+        Some(places) => r.len == 0 && places.as_slice().is_empty(),
+        None => r.len != 0,
+    }
+}
