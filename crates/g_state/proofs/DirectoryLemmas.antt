@@ -13,7 +13,7 @@ use Rattle.g_state.specs.Directories.{ChangesKeepOthers, ClosingKeepsDirectories
 use Rattle.g_state.specs.Meaning.{files_of}
 use Rattle.g_state.specs.Up.{IsKept, KeepsDirectories, up_to}
 
-abbrev recs : List File → List FileRec
+abbrev pub recs : List File → List FileRec
 recs files = map (λ f. f.rec) files
 
 -- one record more, of this user or of another
@@ -210,11 +210,11 @@ directories_stay old new c e dumps grows keeps was = record {
 }
 
 -- copies that are put in change no owner
-copied_recs : (copies : List (ℕ × TapeCopy)) (files : List File) → recs (with_copies copies files) ≡ map (copied_rec copies) (recs files)
+pub copied_recs : (copies : List (ℕ × TapeCopy)) (files : List File) → recs (with_copies copies files) ≡ map (copied_rec copies) (recs files)
 copied_recs copies [] = refl
 copied_recs copies (f ∷ fs) = ap (λ (rs : List FileRec). copied_rec copies f.rec ∷ rs) (copied_recs copies fs)
 
-copied_files : (n : ℕ) (copies : List (ℕ × TapeCopy)) (rs : List FileRec) → files_of n (map (copied_rec copies) rs) ≡ map (copied_rec copies) (files_of n rs)
+pub copied_files : (n : ℕ) (copies : List (ℕ × TapeCopy)) (rs : List FileRec) → files_of n (map (copied_rec copies) rs) ≡ map (copied_rec copies) (files_of n rs)
 copied_files n copies [] = refl
 copied_files n copies (r ∷ rs) = by_owner (cases_Bool (r.owner == n)) (copied_files n copies rs)
   where
@@ -246,7 +246,7 @@ others_stay = record {
 }
 
 -- THE CLOSING: all dumps count
-all_up_to : (n : ℕ) (dumps : List Dump) → All (λ d. d.number ≤ n) dumps → up_to n dumps ≡ dumps
+pub all_up_to : (n : ℕ) (dumps : List Dump) → All (λ d. d.number ≤ n) dumps → up_to n dumps ≡ dumps
 all_up_to n [] all = refl
 all_up_to n (d ∷ ds) all =
     cond-true (nat_le d.number n) (d ∷ up_to n ds) (up_to n ds) (le-leb d.number n (All-head (λ (e : Dump). e.number ≤ n) d ds all))

@@ -30,10 +30,10 @@ one_shelf : (serial : ℕ) (blocks : Option (List (List ℕ))) (ds es : List Dum
 one_shelf serial None ds es told are_d are_e = absurd (false≢true told)
 one_shelf serial (Some reel) ds es told are_d are_e = completed_are_one serial reel ds es (are_d reel refl) (are_e reel refl)
 
-Agree : (ℕ → List Dump) → (ℕ → List Dump) → List Reel → Type 0
+unfoldable pub Agree : (ℕ → List Dump) → (ℕ → List Dump) → List Reel → Type 0
 Agree a b reels = (r : Reel) → Contains reels r → a r.serial ≡ b r.serial
 
-shelves_agree : (a b : ℕ → List Dump) (reels : List Reel) → ReelsTold reels → AreShelved a reels → AreShelved b reels → Agree a b reels
+pub shelves_agree : (a b : ℕ → List Dump) (reels : List Reel) → ReelsTold reels → AreShelved a reels → AreShelved b reels → Agree a b reels
 unfolding Agree
 shelves_agree a b reels told are_a are_b r there =
     one_shelf r.serial r.blocks (a r.serial) (b r.serial) (All-contains (λ s. is_some s.blocks ≡ true) reels r told.each there) (are_a.each r there) (are_b.each r there)
@@ -46,7 +46,7 @@ first_agrees : (a b : ℕ → List Dump) (r : Reel) (rs : List Reel) → Agree a
 unfolding Agree
 first_agrees a b r rs agree = agree r (0, omega arith, refl)
 
-same_dumps : (a b : ℕ → List Dump) (reels : List Reel) → Agree a b reels → all_dumps a reels ≡ all_dumps b reels
+pub same_dumps : (a b : ℕ → List Dump) (reels : List Reel) → Agree a b reels → all_dumps a reels ≡ all_dumps b reels
 same_dumps a b [] agree = refl
 same_dumps a b (r ∷ rs) agree =
     ap (λ (ds : List Dump). ds ++ all_dumps a rs) (first_agrees a b r rs agree) ∙ ap (λ (ds : List Dump). b r.serial ++ ds) (same_dumps a b rs (rest_agree a b r rs agree))
@@ -54,19 +54,19 @@ same_dumps a b (r ∷ rs) agree =
 row_with : Reel → List Dump → state.ReelRow
 row_with r dumps = row_of (λ _. dumps) r
 
-same_rows : (a b : ℕ → List Dump) (reels : List Reel) → Agree a b reels → map (row_of a) reels ≡ map (row_of b) reels
+pub same_rows : (a b : ℕ → List Dump) (reels : List Reel) → Agree a b reels → map (row_of a) reels ≡ map (row_of b) reels
 unfolding row_with
 same_rows a b [] agree = refl
 same_rows a b (r ∷ rs) agree =
     ap (λ (x : state.ReelRow). x ∷ map (row_of a) rs) (ap (row_with r) (first_agrees a b r rs agree)) ∙ ap (λ (xs : List state.ReelRow). row_of b r ∷ xs) (same_rows a b rs (rest_agree a b r rs agree))
 
 -- PLACES: a place of tape lies in the content of one dump at most
-record IsOn (shelf : ℕ → List Dump) (reels : List Reel) (d : Dump) : Type 0 where
-  reel : Reel
-  there : Contains reels reel
-  on : Contains (shelf reel.serial) d
+pub record IsOn (shelf : ℕ → List Dump) (reels : List Reel) (d : Dump) : Type 0 where
+  pub reel : Reel
+  pub there : Contains reels reel
+  pub on : Contains (shelf reel.serial) d
 
-on_reel : (shelf : ℕ → List Dump) (reels : List Reel) (d : Dump) → Contains (all_dumps shelf reels) d → IsOn shelf reels d
+pub on_reel : (shelf : ℕ → List Dump) (reels : List Reel) (d : Dump) → Contains (all_dumps shelf reels) d → IsOn shelf reels d
 on_reel shelf [] d (i, within, is) = let no : ⊥ = omega (arith, within) in absurd no
 on_reel shelf (r ∷ rs) d there = by_place (Contains-append_cases (shelf r.serial) (all_dumps shelf rs) d there) (on_reel shelf rs d)
   where
@@ -93,7 +93,7 @@ among serial reel at from (e ∷ es) are d (suc i, within, is) =
     let least = rest.least in
     record { on = rest.on; least = omega arith; rules = rest.rules }
 
-Apart : Dump → Dump → Type 0
+unfoldable pub Apart : Dump → Dump → Type 0
 Apart d e = (d ≡ e) ⊎ ((ends d ≤ e.place) ⊎ (ends e ≤ d.place))
 
 apart_on : (serial : ℕ) (reel : List (List ℕ)) (at from : ℕ) (ds : List Dump) → AreNext serial reel at from ds → (d e : Dump) → Contains ds d → Contains ds e → Apart d e
@@ -110,16 +110,16 @@ apart_on serial reel at from (c ∷ cs) are d e (suc i, in_d, is_d) (suc j, in_e
     apart_on serial reel (ends c) (c.number + 1) cs are.1 d e (i, omega (arith, in_d), is_d) (j, omega (arith, in_e), is_e)
 
 -- what holds of the dumps of one reel that tells
-on_told : {A : Type 0} (serial : ℕ) (blocks : Option (List (List ℕ))) (ds : List Dump) → is_some blocks ≡ true → ForSome blocks (λ reel. AreCompleted serial reel ds)
+pub on_told : {A : Type 0} (serial : ℕ) (blocks : Option (List (List ℕ))) (ds : List Dump) → is_some blocks ≡ true → ForSome blocks (λ reel. AreCompleted serial reel ds)
     → ((reel : List (List ℕ)) → AreCompleted serial reel ds → A) → A
 on_told serial None ds told are make = absurd (false≢true told)
 on_told serial (Some reel) ds told are make = make reel (are reel refl)
 
 module _ (shelf : ℕ → List Dump) (reels : List Reel) (told : ReelsTold reels) (shelved : AreShelved shelf reels) where
-  reel_told : (r : Reel) → Contains reels r → is_some r.blocks ≡ true
+  pub reel_told : (r : Reel) → Contains reels r → is_some r.blocks ≡ true
   reel_told r there = All-contains (λ s. is_some s.blocks ≡ true) reels r told.each there
 
-  is_shelved : (d : Dump) (r : Reel) → Contains reels r → Contains (shelf r.serial) d → (d.serial ≡ r.serial) × IsDump d
+  pub is_shelved : (d : Dump) (r : Reel) → Contains reels r → Contains (shelf r.serial) d → (d.serial ≡ r.serial) × IsDump d
   is_shelved d r there on =
       on_told r.serial r.blocks (shelf r.serial) (reel_told r there) (shelved.each r there)
       (λ reel are. let is = among r.serial reel 0 0 (shelf r.serial) are.are d on in (is.on, is.rules))
@@ -139,11 +139,24 @@ module _ (shelf : ℕ → List Dump) (reels : List Reel) (told : ReelsTold reels
       on_told r.serial r.blocks (shelf r.serial) (reel_told r on_d.there) (shelved.each r on_d.there)
       (λ reel are. apart_on r.serial reel 0 0 (shelf r.serial) are.are d e on_d.on here)
 
+-- DUMPS that keep their rules, two on one reel apart
+pub record AreRight (dumps : List Dump) : Type 0 where
+  pub rules : (d : Dump) → Contains dumps d → IsDump d
+  pub two : (d e : Dump) → Contains dumps d → Contains dumps e → d.serial ≡ e.serial → Apart d e
+
+pub are_right : (shelf : ℕ → List Dump) (reels : List Reel) → ReelsTold reels → AreShelved shelf reels → AreRight (all_dumps shelf reels)
+are_right shelf reels told shelved = record { rules = dump_rules shelf reels told shelved; two = two_apart shelf reels told shelved }
+
+-- FILES of the disc: online with bytes that are told, or offline with a copy
+pub record LiesTold (f : File) : Type 0 where
+  pub lies : (is_some f.bytes ≡ true) ⊎ ((f.online ≡ false) × (is_some f.rec.tape ≡ true))
+
+module _ (dumps : List Dump) (right : AreRight dumps) where
   no_text : (text : List ℕ) → length text ≡ 0 → text ≡ []
   no_text [] none = refl
   no_text (b ∷ bs) none = let no : ⊥ = omega (arith, none) in absurd no
 
-  one_content : (c : TapeCopy) (x y : List ℕ) → length x ≡ length y → IsContent (all_dumps shelf reels) c x → IsContent (all_dumps shelf reels) c y → x ≡ y
+  one_content : (c : TapeCopy) (x y : List ℕ) → length x ≡ length y → IsContent dumps c x → IsContent dumps c y → x ≡ y
   unfolding Apart
   one_content c x y long in_x in_y = by_length (cases_eq (length x) 0)
     where
@@ -162,11 +175,11 @@ module _ (shelf : ℕ → List Dump) (reels : List Reel) (told : ReelsTold reels
 
       by_length : (length x ≡ 0) ⊎ (length x ≡ 0 → ⊥) → x ≡ y
       by_length (inl none) = no_text x none ∙ sym (no_text y (sym long ∙ none))
-      by_length (inr some) = by_place some (two_apart in_x.dump in_y.dump in_x.there in_y.there (in_x.reel ∙ sym in_y.reel))
+      by_length (inr some) = by_place some (right.two in_x.dump in_y.dump in_x.there in_y.there (in_x.reel ∙ sym in_y.reel))
 
   -- TEXTS: a record that has a copy, or no bytes, has one text
   one_text : (len : ℕ) (tape : Option TapeCopy) (x y : List ℕ) → (len ≢ 0 → is_some tape ≡ true) → length x ≡ len → length y ≡ len
-      → IfSome tape (λ c. IsContent (all_dumps shelf reels) c x) → IfSome tape (λ c. IsContent (all_dumps shelf reels) c y) → x ≡ y
+      → IfSome tape (λ c. IsContent dumps c x) → IfSome tape (λ c. IsContent dumps c y) → x ≡ y
   one_text len (Some c) x y copied long_x long_y in_x in_y = one_content c x y (long_x ∙ sym long_y) in_x in_y
   one_text len None x y copied long_x long_y in_x in_y = by_length (cases_eq len 0)
     where
@@ -174,11 +187,7 @@ module _ (shelf : ℕ → List Dump) (reels : List Reel) (told : ReelsTold reels
       by_length (inl none) = no_text x (long_x ∙ none) ∙ sym (no_text y (long_y ∙ none))
       by_length (inr some) = absurd (false≢true (copied some))
 
-  -- FILES of the disc: online with bytes that are told, or offline with a copy
-  record LiesTold (f : File) : Type 0 where
-    lies : (is_some f.bytes ≡ true) ⊎ ((f.online ≡ false) × (is_some f.rec.tape ≡ true))
-
-  text_of : (all : Type 0) (f : File) (x y : List ℕ) → all → LiesTold f → HasText all x (all_dumps shelf reels) f → HasText all y (all_dumps shelf reels) f → x ≡ y
+  text_of : (all : Type 0) (f : File) (x y : List ℕ) → all → LiesTold f → HasText all x dumps f → HasText all y dumps f → x ≡ y
   text_of all f x y tell lies is_x is_y = by_place lies.lies
     where
       by_bytes : (bytes : Option (List ℕ)) → is_some bytes ≡ true → ForSome bytes (λ b. b ≡ x) → ForSome bytes (λ b. b ≡ y) → x ≡ y
@@ -190,17 +199,16 @@ module _ (shelf : ℕ → List Dump) (reels : List Reel) (told : ReelsTold reels
       by_place (inr (offline, copied)) = one_text f.rec.len f.rec.tape x y (λ some. copied) is_x.len is_y.len (is_x.tape tell offline) (is_y.tape tell offline)
 
 -- a file of a disc that tells lies somewhere
-lies_told : (shelf : ℕ → List Dump) (reels : List Reel) (told : ReelsTold reels) (shelved : AreShelved shelf reels) (blocks : List (List ℕ)) (f : FileEntry)
-    → LiesSomewhere f → LiesTold shelf reels told shelved (file_of (Some blocks) f)
-lies_told shelf reels told shelved blocks (rec, Some copy) is = record { lies = inl refl }
-lies_told shelf reels told shelved blocks (rec, None) is = record { lies = inr (refl, on_tape is.lies) }
+lies_told : (blocks : List (List ℕ)) (f : FileEntry) → LiesSomewhere f → LiesTold (file_of (Some blocks) f)
+lies_told blocks (rec, Some copy) is = record { lies = inl refl }
+lies_told blocks (rec, None) is = record { lies = inr (refl, on_tape is.lies) }
   where
     on_tape : (false ≡ true) ⊎ (is_some rec.tape ≡ true) → is_some rec.tape ≡ true
     on_tape (inl isnt) = absurd (false≢true isnt)
     on_tape (inr is_there) = is_there
 
 -- THE DUMPED DIRECTORY: dumps with distinct numbers give one
-IsApart : List Dump → Type 0
+unfoldable pub IsApart : List Dump → Type 0
 IsApart dumps = (d e : Dump) → Contains dumps d → Contains dumps e → d.number ≡ e.number → d ≡ e
 
 same_last : (dumps : List Dump) → IsApart dumps → (d e : Dump) → IsGreatest dumps d → IsGreatest dumps e → d ≡ e
@@ -217,7 +225,7 @@ same_holder dumps apart user d e is_d is_e =
     let two = is_e.newest d is_d.there is_d.held in
     apart d e is_d.there is_e.there (omega arith)
 
-same_gathered : (dumps : List Dump) → IsApart dumps → (users : List UserRec) (a b : List FileRec) → Gathers dumps users a → Gathers dumps users b → a ≡ b
+pub same_gathered : (dumps : List Dump) → IsApart dumps → (users : List UserRec) (a b : List FileRec) → Gathers dumps users a → Gathers dumps users b → a ≡ b
 same_gathered dumps apart [] a b is_a is_b = is_a ∙ sym is_b
 same_gathered dumps apart (u ∷ us) a b (d, has_d, rest_d, are_d, more_d) (e, has_e, rest_e, are_e, more_e) =
     let one = same_holder dumps apart u.number d e has_d has_e in
@@ -252,37 +260,36 @@ dumped_parts text last gathered = record {
 }
 
 -- the texts of all records are the same
-AgreeOn : (ℕ → List ℕ) → (ℕ → List ℕ) → List FileRec → Type 0
+pub AgreeOn : (ℕ → List ℕ) → (ℕ → List ℕ) → List FileRec → Type 0
 AgreeOn x y files = (r : FileRec) → Contains files r → x r.stamp ≡ y r.stamp
 
-same_tree : (x y : ℕ → List ℕ) (users : List UserRec) (files : List FileRec) (next : ℕ) → AgreeOn x y files → tree_by x users files next ≡ tree_by y users files next
+pub same_tree : (x y : ℕ → List ℕ) (users : List UserRec) (files : List FileRec) (next : ℕ) → AgreeOn x y files → tree_by x users files next ≡ tree_by y users files next
 unfolding AgreeOn
 same_tree x y users files next agree = same_bytes users files (λ r. y r.stamp) (λ r. x r.stamp) next agree
 
-abbrev KeepsIn : (dumps : List Dump) → (ℕ → List ℕ) → DumpedDirectory dumps → Type 0
+abbrev pub KeepsIn : (dumps : List Dump) → (ℕ → List ℕ) → DumpedDirectory dumps → Type 0
 KeepsIn dumps text t = All (λ r. KeepsRecord (text r.stamp) dumps r) (files_in t)
 
 -- no tree is dumped where no directory has all its bytes
-abbrev NoneIn : (dumps : List Dump) → Option (DumpedDirectory dumps) → Type 0
+abbrev pub NoneIn : (dumps : List Dump) → Option (DumpedDirectory dumps) → Type 0
 NoneIn dumps t = t ≡ None → (u : DumpedDirectory dumps) (text : ℕ → List ℕ) → KeepsIn dumps text u → ⊥
 
-module _ (shelf : ℕ → List Dump) (reels : List Reel) (told : ReelsTold reels) (shelved : AreShelved shelf reels) (apart : IsApart (all_dumps shelf reels)) where
-  agree_on : (x y : ℕ → List ℕ) (t u : DumpedDirectory (all_dumps shelf reels)) → files_in t ≡ files_in u → KeepsIn (all_dumps shelf reels) x t → KeepsIn (all_dumps shelf reels) y u
+module _ (dumps : List Dump) (right : AreRight dumps) (apart : IsApart dumps) where
+  agree_on : (x y : ℕ → List ℕ) (t u : DumpedDirectory dumps) → files_in t ≡ files_in u → KeepsIn dumps x t → KeepsIn dumps y u
       → AgreeOn x y (files_in t)
   unfolding AgreeOn IsCopied
   agree_on x y t u same keeps_x keeps_y r there =
-      let rules = dump_rules shelf reels told shelved in
-      let copied = All-contains IsCopied (files_in t) r (numbered_copied 0 t.gathered (all_copied (all_dumps shelf reels) rules t.last.users t.gathered t.gathers)) there in
-      let of_x = All-contains (λ s. KeepsRecord (x s.stamp) (all_dumps shelf reels) s) (files_in t) r keeps_x there in
-      let of_y = All-contains (λ s. KeepsRecord (y s.stamp) (all_dumps shelf reels) s) (files_in u) r keeps_y (subst (λ (rs : List FileRec). Contains rs r) same there) in
-      one_text shelf reels told shelved r.len r.tape (x r.stamp) (y r.stamp) copied of_x.len of_y.len of_x.copy of_y.copy
+      let copied = All-contains IsCopied (files_in t) r (numbered_copied 0 t.gathered (all_copied dumps right.rules t.last.users t.gathered t.gathers)) there in
+      let of_x = All-contains (λ s. KeepsRecord (x s.stamp) dumps s) (files_in t) r keeps_x there in
+      let of_y = All-contains (λ s. KeepsRecord (y s.stamp) dumps s) (files_in u) r keeps_y (subst (λ (rs : List FileRec). Contains rs r) same there) in
+      one_text dumps right r.len r.tape (x r.stamp) (y r.stamp) copied of_x.len of_y.len of_x.copy of_y.copy
 
-  same_directory : (x y : ℕ → List ℕ) (t u : DumpedDirectory (all_dumps shelf reels)) → KeepsIn (all_dumps shelf reels) x t → KeepsIn (all_dumps shelf reels) y u → dumped_of x t ≡ dumped_of y u
+  same_directory : (x y : ℕ → List ℕ) (t u : DumpedDirectory dumps) → KeepsIn dumps x t → KeepsIn dumps y u → dumped_of x t ≡ dumped_of y u
   unfolding dumped_parts
   same_directory x y t u keeps_x keeps_y =
-      let last = same_last (all_dumps shelf reels) apart t.last u.last t.greatest u.greatest in
-      let gathered = same_gathered (all_dumps shelf reels) apart u.last.users t.gathered u.gathered
-      (subst (λ (d : Dump). Gathers (all_dumps shelf reels) d.users t.gathered) last t.gathers) u.gathers in
+      let last = same_last dumps apart t.last u.last t.greatest u.greatest in
+      let gathered = same_gathered dumps apart u.last.users t.gathered u.gathered
+      (subst (λ (d : Dump). Gathers dumps d.users t.gathered) last t.gathers) u.gathers in
       let texts = agree_on x y t u (ap (numbered_from 0) gathered) keeps_x keeps_y in
       let tree = same_tree x y t.last.users (files_in t) t.last.next texts in
       ap (λ (made : Tree). let d : state.Dumped = record { number = t.last.number; tree = made; places = dumped_places (files_in t); own = own_of t.last } in d) tree
@@ -290,8 +297,8 @@ module _ (shelf : ℕ → List Dump) (reels : List Reel) (told : ReelsTold reels
       ∙ ap (λ (rs : List FileRec). dumped_parts y u.last rs) gathered
 
   -- none, or one
-  same_dumped : (x y : ℕ → List ℕ) (t u : Option (DumpedDirectory (all_dumps shelf reels)))
-      → IfSome t (KeepsIn (all_dumps shelf reels) x) → IfSome u (KeepsIn (all_dumps shelf reels) y) → NoneIn (all_dumps shelf reels) t → NoneIn (all_dumps shelf reels) u
+  same_dumped : (x y : ℕ → List ℕ) (t u : Option (DumpedDirectory dumps))
+      → IfSome t (KeepsIn dumps x) → IfSome u (KeepsIn dumps y) → NoneIn dumps t → NoneIn dumps u
       → option_map (dumped_of x) t ≡ option_map (dumped_of y) u
   same_dumped x y None None is_t is_u none_t none_u = refl
   same_dumped x y None (Some u) is_t is_u none_t none_u = let no : ⊥ = none_t refl u y is_u in absurd no
@@ -299,7 +306,7 @@ module _ (shelf : ℕ → List Dump) (reels : List Reel) (told : ReelsTold reels
   same_dumped x y (Some t) (Some u) is_t is_u none_t none_u = ap (λ (d : state.Dumped). Some d) (same_directory x y t u is_t is_u)
 
   -- whatever the lists of dumps are called
-  over_dumps : (x y : ℕ → List ℕ) (a b : List Dump) → all_dumps shelf reels ≡ a → all_dumps shelf reels ≡ b → (t : Option (DumpedDirectory a)) (u : Option (DumpedDirectory b))
+  pub over_dumps : (x y : ℕ → List ℕ) (a b : List Dump) → dumps ≡ a → dumps ≡ b → (t : Option (DumpedDirectory a)) (u : Option (DumpedDirectory b))
       → IfSome t (KeepsIn a x) → IfSome u (KeepsIn b y) → NoneIn a t → NoneIn b u → option_map (dumped_of x) t ≡ option_map (dumped_of y) u
   over_dumps x y a b is_a is_b t u keeps_t keeps_u none_t none_u =
       subst (λ (ds : List Dump). (t : Option (DumpedDirectory ds)) → IfSome t (KeepsIn ds x) → NoneIn ds t → option_map (dumped_of x) t ≡ option_map (dumped_of y) u) is_a
@@ -309,16 +316,16 @@ module _ (shelf : ℕ → List Dump) (reels : List Reel) (told : ReelsTold reels
       t keeps_t none_t
 
   -- FILES of a disc that tells
-  texts_on : (all : Type 0) (x y : ℕ → List ℕ) (blocks : List (List ℕ)) (c : Contents) → all → Holds blocks c
-      → All (λ f. HasText all (x f.rec.stamp) (all_dumps shelf reels) f) c.files → All (λ f. HasText all (y f.rec.stamp) (all_dumps shelf reels) f) c.files → AgreeOn x y (recs_in c)
+  pub texts_on : (all : Type 0) (x y : ℕ → List ℕ) (blocks : List (List ℕ)) (c : Contents) → all → Holds blocks c
+      → All (λ f. HasText all (x f.rec.stamp) dumps f) c.files → All (λ f. HasText all (y f.rec.stamp) dumps f) c.files → AgreeOn x y (recs_in c)
   unfolding AgreeOn
   texts_on all x y blocks c tell is has_x has_y r there =
-      let lie : All (LiesTold shelf reels told shelved) c.files =
-      subst (λ (k : Contents). All (LiesTold shelf reels told shelved) k.files) (sym is.are)
-      (All-map (LiesTold shelf reels told shelved) (file_of (Some blocks)) is.directory.files
-      (λ i d within. lies_told shelf reels told shelved blocks (get_or is.directory.files i d) (is.stands.rules.lies i d within))) in
+      let lie : All LiesTold c.files =
+      subst (λ (k : Contents). All LiesTold k.files) (sym is.are)
+      (All-map LiesTold (file_of (Some blocks)) is.directory.files
+      (λ i d within. lies_told blocks (get_or is.directory.files i d) (is.stands.rules.lies i d within))) in
       let each : All (λ f. x f.rec.stamp ≡ y f.rec.stamp) c.files =
-      λ i d within. let f = get_or c.files i d in text_of shelf reels told shelved all f (x f.rec.stamp) (y f.rec.stamp) tell (lie i d within) (has_x i d within) (has_y i d within) in
+      λ i d within. let f = get_or c.files i d in text_of dumps right all f (x f.rec.stamp) (y f.rec.stamp) tell (lie i d within) (has_x i d within) (has_y i d within) in
       All-contains (λ s. x s.stamp ≡ y s.stamp) (recs_in c) r (All-map (λ s. x s.stamp ≡ y s.stamp) (λ f. f.rec) c.files each) there
 
 -- WHAT A DISC HOLDS
@@ -352,7 +359,7 @@ module _ (held : Option (List (List ℕ))) (reels : List Reel) (all : AllTold he
       let has_w =
       subst (λ (ds : List Dump). All (λ f. HasText (AllTold held reels) (w.text f.rec.stamp) ds f) c.files) (sym dumps_w)
       (subst (λ (k : Contents). All (λ f. HasText (AllTold held reels) (w.text f.rec.stamp) w.dumps f) k.files) (sym one) of_e.view.files) in
-      let texts = texts_on v.shelf reels all.each of_v.shelved apart (AllTold held reels) v.text w.text of_c.blocks c all of_c.holds has_v has_w in
+      let texts = texts_on (all_dumps v.shelf reels) (are_right v.shelf reels all.each of_v.shelved) apart (AllTold held reels) v.text w.text of_c.blocks c all of_c.holds has_v has_w in
       ap (λ (tree : Tree). holding_parts tree c) (same_tree v.text w.text c.users (recs_in c) c.head.next_stamp texts)
       ∙ ap (holding_of w.text []) one
 
@@ -385,7 +392,7 @@ devices_are_one size held reels s t all belongs at_s at_t =
     let rows = same_rows v.shelf w.shelf reels (agree held reels all v w at_s.rack at_t.rack apart) in
     let holding = same_holdings held reels all v w at_s.rack at_t.rack apart at_s.contents at_t.contents
     (is_of held reels v at_s.contents at_s.is, at_s.none) (is_of held reels w at_t.contents at_t.is, at_t.none) in
-    let dumped = over_dumps v.shelf reels all.each at_s.rack.shelved apart v.text w.text v.dumps w.dumps (sym at_s.rack.all) (dumps_w held reels all v w at_s.rack at_t.rack apart)
+    let dumped = over_dumps (all_dumps v.shelf reels) (are_right v.shelf reels all.each at_s.rack.shelved) apart v.text w.text v.dumps w.dumps (sym at_s.rack.all) (dumps_w held reels all v w at_s.rack at_t.rack apart)
     v.dumped w.dumped (at_s.rack.dumped all) (at_t.rack.dumped all) (at_s.rack.none all) (at_t.rack.none all) in
     at_s.state_is
     ∙ ap (λ (h : Option state.Holding). state_parts size h (map (row_of v.shelf) reels) (option_map (dumped_of v.text) v.dumped)) holding

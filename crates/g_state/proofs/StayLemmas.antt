@@ -19,7 +19,7 @@ use Rattle.g_state.proofs.ChangeLemmas.{files_belong}
 use Rattle.g_state.proofs.DirectoryLemmas.{changes_keep_others, others_stay}
 
 -- whatever dumps there are, what belonged belongs behind the change
-Carries : (ℕ → List ℕ) → (ℕ → List ℕ) → List Reel → Contents → Contents → Type 0
+unfoldable pub Carries : (ℕ → List ℕ) → (ℕ → List ℕ) → List Reel → Contents → Contents → Type 0
 Carries text new reels c e = (shelf : ℕ → List Dump) → RackBelongs text (all_dumps shelf reels) → DiscBelongs text shelf reels c → RackBelongs new (all_dumps shelf reels) × DiscBelongs new shelf reels e
 
 -- the change keeps the directories of all who aren't touched, where a dump is open
@@ -47,7 +47,7 @@ module _ (text new : ℕ → List ℕ) (shelf : ℕ → List Dump) (s : StoreFac
   open_stays None keeps was = tt
   open_stays (Some d) keeps was = λ pins pinned content told. ready keeps.0 keeps.1 (dump_of d.plan content) (was pins pinned content told)
 
-  up_after : Grows s.online.changed changed → KeepsOthers changed s.online.contents e → KeepsTouched s.dump s.online.touched touched s.online.contents e
+  pub up_after : Grows s.online.changed changed → KeepsOthers changed s.online.contents e → KeepsTouched s.dump s.online.touched touched s.online.contents e
       → IsUp text shelf s → IsUp new shelf (behind s e changed touched)
   unfolding Carries
   up_after grows keeps open_keeps was =
@@ -60,7 +60,7 @@ module _ (text new : ℕ → List ℕ) (shelf : ℕ → List Dump) (s : StoreFac
       }
 
 -- what is known where a dump is open
-both_open : {P Q R : DumpFacts → Type 0} (dump : Option DumpFacts) → ((d : DumpFacts) → P d → Q d → R d) → IfSome dump P → IfSome dump Q → IfSome dump R
+pub both_open : {P Q R : DumpFacts → Type 0} (dump : Option DumpFacts) → ((d : DumpFacts) → P d → Q d → R d) → IfSome dump P → IfSome dump Q → IfSome dump R
 both_open None make p q = tt
 both_open (Some d) make p q = make d p q
 
