@@ -1,13 +1,6 @@
 pub mod BelongLemmas
 pub mod ChangeLemmas
-pub mod ClosingLemmas
 pub mod DirectoryLemmas
-pub mod DumpingLemmas
 pub mod OneLemmas
-pub mod OpeningLemmas
-pub mod PinLemmas
-pub mod RecordLemmas
-pub mod StateLemmas
 pub mod StayLemmas
-pub mod UpOneLemmas
 pub mod ViewLemmas

@@ -1,7 +1,6 @@
 pub mod Answers
 pub mod Belong
 pub mod Directories
-pub mod Dumping
 pub mod Laws
 pub mod Meaning
 pub mod One

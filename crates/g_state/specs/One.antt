@@ -1,30 +1,11 @@
--- That devices and stores have a state, and that what they tell stands for one.
-use Rattle.std.specs.Prelude.{◌≡◌, ℕ, true, false, List, Option, IfSome, Some, is_some}
+-- That what devices tell stands for one state.
+use Rattle.std.specs.Prelude.{◌≡◌, ℕ, List, Option}
 use Rattle.g_tape.specs.Reel.{Reel}
 use Rattle.g_step.specs.State.{State}
-use Rattle.g_contents.specs.Contents.{Contents, Holds}
-use Rattle.g_state.specs.Answers.{Belongs, IsStore, Told}
 use Rattle.g_state.specs.Belong.{BelongWith}
-use Rattle.g_state.specs.Reading.{AllTold, DevicesStandFor, StandsForState}
-use Rattle.g_state.specs.Up.{StoreFacts}
+use Rattle.g_state.specs.Reading.{AllTold, DevicesStandFor}
 
 -- a disc and reels that tell what they hold, and belong together, stand for one state
 abbrev pub DevicesAreOne : Type 0
 DevicesAreOne = (size : ℕ) (held : Option (List (List ℕ))) (reels : List Reel) (s t : State)
     → AllTold held reels → BelongWith held reels → DevicesStandFor size held reels s → DevicesStandFor size held reels t → s ≡ t
-
--- and so does a store that is up, an open dump with it, or one that is spent
-abbrev pub StoreIsOne : Type 0
-StoreIsOne = (s : StoreFacts) (t u : State) → Told s → Belongs s → IsStore s → StandsForState s t → StandsForState s u → t ≡ u
-
--- what a disc holds, or that it stands for nothing
-pub record AreContents (held : Option (List (List ℕ))) (contents : Option Contents) : Type 0 where
-  pub are : IfSome contents (λ c. (blocks : List (List ℕ)) × (held ≡ Some blocks) × Holds blocks c)
-  pub none : is_some contents ≡ false → (blocks : List (List ℕ)) (c : Contents) → held ≡ Some blocks → Holds blocks c → ⊥
-
--- WHAT BELONGS TOGETHER HAS A STATE, whether or not the devices tell
-pub record HaveStates : Type 0 where
-  pub devices : (size : ℕ) (held : Option (List (List ℕ))) (reels : List Reel) (contents : Option Contents)
-      → AreContents held contents → BelongWith held reels → (u : State) × DevicesStandFor size held reels u
-  pub up : (s : StoreFacts) → s.spent ≡ false → Belongs s → IsStore s → (u : State) × StandsForState s u
-  pub spent : (s : StoreFacts) (contents : Option Contents) → s.spent ≡ true → AreContents s.online.disc.held contents → Belongs s → (u : State) × StandsForState s u

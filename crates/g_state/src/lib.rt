@@ -3,8 +3,7 @@
 #![tactic(auto)]
 
 ghost use Rattle.g_state.specs.Directories.{ChangesKeepOthers, ClosingKeepsDirectories, OthersStay};
-ghost use Rattle.g_state.specs.Dumping.{ClosingStaysUp, EventsStayUp, OpeningStaysUp};
-ghost use Rattle.g_state.specs.One.{DevicesAreOne, HaveStates, StoreIsOne};
+ghost use Rattle.g_state.specs.One.{DevicesAreOne};
 ghost use Rattle.g_state.specs.Staying.{StaysUp};
 ghost use Rattle.g_state.specs.Laws.{ClosingBelongs, FilesBelong, FormatBelongs, IntentsBelong, NewVersionBelongs, ReadsBelong, ReadsKeepState, RestoreBelongs};
 
@@ -26,17 +25,9 @@ pub fn reads_change_nothing()
     ensures state { ReadsKeepState }
 {}
 
-/// A disc and reels that tell what they hold, and belong together, stand for one state; and so does a store over them, with the
-/// dump that it has open.
+/// A disc and reels that tell what they hold, and belong together, stand for one state.
 pub fn one_state()
     ensures devices { DevicesAreOne }
-    ensures store { StoreIsOne }
-{}
-
-/// Whether or not the devices tell what they hold: what belongs together has a state.
-#[tactic(auto, using(crate::proofs::StateLemmas::have_states))]
-pub fn some_state()
-    ensures { HaveStates }
 {}
 
 /// Users who aren't changed keep their directories, which are those of the completed dumps: over a new version, an erasure,
@@ -51,12 +42,4 @@ pub fn directories_stay()
 /// brought back, whether a dump is open or not.
 pub fn changes_stay_up()
     ensures up { StaysUp }
-{}
-
-/// What a store that is up keeps, it keeps where users are added, an intent is dropped, a tape is written or mounted, and where a
-/// dump is opened, goes on, is given up or is closed.
-pub fn events_stay_up()
-    ensures events { EventsStayUp }
-    ensures opening { OpeningStaysUp }
-    ensures closing { ClosingStaysUp }
 {}

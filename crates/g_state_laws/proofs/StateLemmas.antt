@@ -17,10 +17,11 @@ use Rattle.g_step.specs.State.{State}
 use Rattle.g_state.specs.Answers.{Belongs, IsStore}
 use Rattle.g_state.specs.Belong.{BelongWith, DiscBelongs, IsPlaced, KeepsFile, KeepsRecord, RackBelongs}
 use Rattle.g_state.specs.Meaning.{DumpedDirectory, files_in, told_reels}
-use Rattle.g_state.specs.One.{AreContents, HaveStates}
+use Rattle.g_state_laws.specs.States.{AreContents, HaveStates}
 use Rattle.g_state.specs.Reading.{AllTold, DevicesStandFor, HasText, IsRackView, IsView, OpensTo, Opened, StandsForState, View, state_down, state_up}
 use Rattle.g_state.specs.Up.{DumpFacts, IsOpen, IsReady, IsUp, StoreFacts, content_in, with_dump}
-use Rattle.g_state.proofs.UpOneLemmas.{on_all, reel_named}
+use Rattle.g_state_laws.proofs.PinLemmas.{both_told}
+use Rattle.g_state_laws.proofs.UpOneLemmas.{on_all, reel_named}
 use Rattle.g_state.proofs.ViewLemmas.{Stands, back}
 
 -- THE DUMPED DIRECTORY, where there is a dump
@@ -80,10 +81,6 @@ devices_have size held reels contents are belongs =
         (blocks, is, holds, is_view held reels belongs.text belongs.shelf belongs.shelved belongs.rack None c (belongs.disc blocks c is holds))
 
 -- PINS that are told give the content of the dump
-abbrev both_told : Option (List (List ℕ)) → Option (List (List ℕ)) → Option (List (List ℕ))
-both_told (Some a) (Some b) = Some (a ++ b)
-both_told a b = None
-
 are_told : (a b : Option (List (List ℕ))) → is_some a ≡ true → is_some b ≡ true → is_some (both_told a b) ≡ true
 are_told (Some a) (Some b) is_a is_b = refl
 are_told (Some a) None is_a is_b = is_b

@@ -1,7 +1,7 @@
-use Rattle.g_state.proofs.ClosingLemmas.{closing_stays}
-use Rattle.g_state.proofs.DumpingLemmas.{events_stay_up}
-use Rattle.g_state.proofs.OpeningLemmas.{opening_stays}
-use Rattle.g_state.proofs.events_stay_up.Goals as goal
+use Rattle.g_state_laws.proofs.ClosingLemmas.{closing_stays}
+use Rattle.g_state_laws.proofs.DumpingLemmas.{events_stay_up}
+use Rattle.g_state_laws.proofs.OpeningLemmas.{opening_stays}
+use Rattle.g_state_laws.proofs.events_stay_up.Goals as goal
 
 pub returns-clause-events : goal.returns-clause-events
 returns-clause-events c = events_stay_up

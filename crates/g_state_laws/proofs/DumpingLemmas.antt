@@ -13,7 +13,7 @@ use Rattle.g_incr.specs.Layout.{Dump}
 use Rattle.g_incr.specs.Plan.{dump_of}
 use Rattle.g_shelf.specs.Completed.{all_dumps}
 use Rattle.g_state.specs.Belong.{DiscBelongs, IsIntended, IsPlaced, KeepsFile, RackBelongs}
-use Rattle.g_state.specs.Dumping.{EventsStayUp, SameReels, WereThere, given_up, without_intent}
+use Rattle.g_state_laws.specs.Dumping.{EventsStayUp, SameReels, WereThere, given_up, without_intent}
 use Rattle.g_state.specs.Meaning.{told_reels}
 use Rattle.g_state.specs.Staying.{OnlyGrow, behind}
 use Rattle.g_state.specs.Up.{DumpFacts, IsReady, IsUp, KeepsDirectories, KeepsOpening, StoreFacts, content_in, with_dump}

@@ -16,7 +16,7 @@ use Rattle.g_contents.specs.Contents.{copied_rec, copy_of}
 use Rattle.g_contents.specs.Facts.{Pin}
 use Rattle.g_incr.specs.Layout.{Dump, content_at}
 use Rattle.g_incr.specs.Plan.{blocks_of, noted_files, noted_rec, waiting, waits}
-use Rattle.g_state.specs.Dumping.{PinsText}
+use Rattle.g_state_laws.specs.Dumping.{PinsText}
 use Rattle.g_state.specs.Laws.{HasContent}
 use Rattle.g_state.specs.Meaning.{IsContent, joined}
 use Rattle.g_state.specs.Up.{ArePinned, content_in}
@@ -109,7 +109,7 @@ noted_copied serial at (r ∷ rs) pins are apart =
         ∙ ap (λ (q : FileRec). q ∷ map (copied_rec (pairs pins)) rs) (sym (copied_apart pins r (other_pins serial at r.stamp (waiting rs) pins were (waiting_all (IsOther r.stamp) rs others))))
 
 -- THE CONTENT that pins give
-abbrev both_told : Option (List (List ℕ)) → Option (List (List ℕ)) → Option (List (List ℕ))
+abbrev pub both_told : Option (List (List ℕ)) → Option (List (List ℕ)) → Option (List (List ℕ))
 both_told (Some a) (Some b) = Some (a ++ b)
 both_told a b = None
 

@@ -23,7 +23,7 @@ use Rattle.g_step.specs.State as state
 use Rattle.g_state.specs.Answers.{Belongs, IsStore, Told}
 use Rattle.g_state.specs.Belong.{DiscBelongs, IsPlaced}
 use Rattle.g_state.specs.Meaning.{DumpedDirectory, told_reels}
-use Rattle.g_state.specs.One.{StoreIsOne}
+use Rattle.g_state_laws.specs.States.{StoreIsOne}
 use Rattle.g_state.specs.Reading.{AllTold, HasText, IsOpenView, IsView, OpensTo, Opened, ReelsTold, StandsForState, View, dumped_of, holding_of, names_of, open_of, open_tree, own_of, own_opened, places_of, row_of, state_up, tree_by, users_in, users_not_in, waiting_of}
 use Rattle.g_state.specs.Up.{DumpFacts, IsOpen, IsReady, IsUp, StoreFacts, content_in, with_dump}
 use Rattle.g_state.proofs.DirectoryLemmas.{all_up_to}

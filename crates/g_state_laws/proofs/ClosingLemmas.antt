@@ -16,14 +16,14 @@ use Rattle.g_incr.specs.Layout.{Dump, IsDump, holds}
 use Rattle.g_incr.specs.Plan.{dump_of, first_content, noted_files, noted_rec, numbered_from, waiting, waits, with_number}
 use Rattle.g_shelf.specs.Completed.{all_dumps}
 use Rattle.g_state.specs.Belong.{IsPlaced, KeepsRecord}
-use Rattle.g_state.specs.Dumping.{ClosingStaysUp}
+use Rattle.g_state_laws.specs.Dumping.{ClosingStaysUp}
 use Rattle.g_state.specs.Laws.{HasContent}
 use Rattle.g_state.specs.Meaning.{DumpedDirectory, Gathers, HasDirectory, IsContent, files_in, files_of, told_reels}
 use Rattle.g_state.specs.Up.{ArePinned, DumpFacts, IsReady, IsUp, content_in, with_dump}
 use Rattle.g_state.proofs.ChangeLemmas.{closing_belongs}
 use Rattle.g_state.proofs.DirectoryLemmas.{closing_keeps_directories}
-use Rattle.g_state.proofs.StateLemmas.{with_there}
-use Rattle.g_state.proofs.UpOneLemmas.{in_with, reel_named}
+use Rattle.g_state_laws.proofs.StateLemmas.{with_there}
+use Rattle.g_state_laws.proofs.UpOneLemmas.{in_with, reel_named}
 
 -- LISTS: parts, and what a filter keeps
 pub all_left : {A : Type 0} (P : A → Type 0) (xs ys : List A) → All P (xs ++ ys) → All P xs

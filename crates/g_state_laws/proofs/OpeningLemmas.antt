@@ -22,19 +22,19 @@ use Rattle.g_incr.specs.Plan.{IsAway, Plan, content_blocks, dump_of, first_conte
 use Rattle.g_incr.proofs.PlanLemmas.{plan_gives_dump}
 use Rattle.g_shelf.specs.Completed.{AreShelved, all_dumps, end_of}
 use Rattle.g_state.specs.Belong.{DiscBelongs, IsIntended, IsPlaced, KeepsFile, KeepsRecord, RackBelongs}
-use Rattle.g_state.specs.Dumping.{AreDumpable, IsPlanOf, OpeningStaysUp, PinsText, opened_with}
+use Rattle.g_state_laws.specs.Dumping.{AreDumpable, IsPlanOf, OpeningStaysUp, PinsText, opened_with}
 use Rattle.g_state.specs.Laws.{HasContent}
 use Rattle.g_state.specs.Meaning.{DumpedDirectory, Gathers, HasDirectory, IsContent, files_in, files_of, told_reels}
 use Rattle.g_state.specs.Reading.{ReelsTold}
 use Rattle.g_state.specs.Up.{ArePinned, DumpFacts, IsKept, IsReady, IsUp, KeepsOpening, StoreFacts, content_in, unnumbered, up_to, with_dump}
 use Rattle.g_state.proofs.ChangeLemmas.{copy_is, intents_belong}
-use Rattle.g_state.proofs.ClosingLemmas.{contains_filter}
+use Rattle.g_state_laws.proofs.ClosingLemmas.{contains_filter}
 use Rattle.g_state.proofs.DirectoryLemmas.{all_up_to, copied_files, copied_recs}
 use Rattle.g_state.proofs.OneLemmas.{AreRight, IsApart, on_reel, same_gathered}
-use Rattle.g_state.proofs.PinLemmas.{HasLen, IsOther, OtherStamp, copied_apart, noted_copied, other_pins, pairs, pinned_blocks, pins_content, waiting_all}
-use Rattle.g_state.proofs.RecordLemmas.{apart_in, from_filter, gathered_all_of, gathered_by, gathered_few, gathered_pairs, numbers_are, numbers_none, numbers_none_of, owned, pairs_mapped, same_all, same_count, same_pairs, users_apart}
-use Rattle.g_state.proofs.StateLemmas.{with_there}
-use Rattle.g_state.proofs.UpOneLemmas.{ends_before, in_with, on_all, reel_named, right_with}
+use Rattle.g_state_laws.proofs.PinLemmas.{HasLen, IsOther, OtherStamp, copied_apart, noted_copied, other_pins, pairs, pinned_blocks, pins_content, waiting_all}
+use Rattle.g_state_laws.proofs.RecordLemmas.{apart_in, from_filter, gathered_all_of, gathered_by, gathered_few, gathered_pairs, numbers_are, numbers_none, numbers_none_of, owned, pairs_mapped, same_all, same_count, same_pairs, users_apart}
+use Rattle.g_state_laws.proofs.StateLemmas.{with_there}
+use Rattle.g_state_laws.proofs.UpOneLemmas.{ends_before, in_with, on_all, reel_named, right_with}
 
 -- what was there is there with a dump more
 old_with : (d : Dump) (shelf : ℕ → List Dump) (reels : List Reel) (e : Dump) → Contains (all_dumps shelf reels) e → Contains (all_dumps (with_dump d shelf) reels) e

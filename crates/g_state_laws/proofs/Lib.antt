@@ -1,0 +1,7 @@
+mod ClosingLemmas
+mod DumpingLemmas
+mod OpeningLemmas
+mod PinLemmas
+mod RecordLemmas
+mod StateLemmas
+mod UpOneLemmas
