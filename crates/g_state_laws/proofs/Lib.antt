@@ -1,7 +1,7 @@
-mod ClosingLemmas
-mod DumpingLemmas
-mod OpeningLemmas
-mod PinLemmas
-mod RecordLemmas
-mod StateLemmas
-mod UpOneLemmas
+pub mod ClosingLemmas
+pub mod DumpingLemmas
+pub mod OpeningLemmas
+pub mod PinLemmas
+pub mod RecordLemmas
+pub mod StateLemmas
+pub mod UpOneLemmas

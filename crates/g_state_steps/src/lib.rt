@@ -1,0 +1,30 @@
+//! That what a store has in memory goes as its state goes: the room of the disc, and where the bytes of each version lie. Laws
+//! alone.
+#![tactic(auto)]
+
+ghost use Rattle.g_state_steps.specs.Places.{PlacesGoByChange};
+ghost use Rattle.g_state_steps.specs.Rooms.{RoomIs};
+ghost use Rattle.g_state_steps.specs.Users.{DumpedTextsStay, UsersGoByChange};
+
+/// The room that memory counts, over files and pins, is the room of the state.
+pub fn room_goes_by_files()
+    ensures room { RoomIs }
+{}
+
+/// What a change makes of the files, the step makes of the places: a new version, an erasure, another record, a file brought
+/// back, files taken off the disc, and copies that a dump noted.
+#[tactic(auto, using(crate::proofs::PlaceLemmas::places_go_by_change))]
+pub fn places_go_by_change()
+    ensures places { PlacesGoByChange }
+{}
+
+/// Who is changed is kept no longer, and is touched, by name as by number.
+#[tactic(auto, using(crate::proofs::UserLemmas::users_go_by_change))]
+pub fn users_go_by_change()
+    ensures users { UsersGoByChange }
+{}
+
+/// A version that is made now is in no dump, so its text changes no dumped tree.
+pub fn dumped_texts_stay()
+    ensures texts { DumpedTextsStay }
+{}
