@@ -1,6 +1,6 @@
 -- The closing of a dump keeps what a store that is up keeps.
-use Rattle.std.proofs.Common.{◌≡◌, ℕ, zero, suc, ◌+◌, ◌<◌, ◌≤◌, Bool, true, false, List, [], ◌∷◌, ◌++◌, get_or, length, Option, Some, None, refl, sym, ◌∙◌, ap, arith, subst, inl, inr}
-use Rattle.std.specs.Prelude.{◌⊎◌, ◌==◌, All, Contains, IfSome, filter, map, slice_get}
+use Rattle.std.proofs.Common.{◌≡◌, ℕ, zero, suc, ◌+◌, ◌≤◌, Bool, true, false, List, [], ◌∷◌, ◌++◌, get_or, Option, Some, sym, ◌∙◌, ap, arith, subst, inl, inr}
+use Rattle.std.specs.Prelude.{◌⊎◌, ◌==◌, All, Contains, IfSome, filter, map}
 use Rattle.std.specs.Option.{ForSome}
 use Rattle.std.proofs.lemmas.Bool.{cases_Bool, cond-false, cond-true, eq-eqb}
 use Rattle.std.proofs.lemmas.List.Elements.{All-cons, All-contains, All-head, All-map, All-nil, All-tail, All-weaker, Contains-append_right, Contains-get_or}
@@ -10,16 +10,15 @@ use Rattle.g_entry.specs.declared.file_rec.FileRec.{FileRec}
 use Rattle.g_entry.specs.declared.file_rec.TapeCopy.{TapeCopy}
 use Rattle.g_entry.specs.declared.head.Intent.{Intent}
 use Rattle.g_entry.specs.declared.user_rec.UserRec.{UserRec}
-use Rattle.g_tape.specs.Reel.{Reel}
-use Rattle.g_contents.specs.Facts.{OnlineFacts, Pin, noted}
+use Rattle.g_contents.specs.Facts.{Pin, noted}
 use Rattle.g_incr.specs.Layout.{Dump, IsDump, holds}
 use Rattle.g_incr.specs.Plan.{dump_of, first_content, noted_files, noted_rec, numbered_from, waiting, waits, with_number}
 use Rattle.g_shelf.specs.Completed.{all_dumps}
 use Rattle.g_state.specs.Belong.{IsPlaced, KeepsRecord}
 use Rattle.g_state_laws.specs.Dumping.{ClosingStaysUp}
 use Rattle.g_state.specs.Laws.{HasContent}
-use Rattle.g_state.specs.Meaning.{DumpedDirectory, Gathers, HasDirectory, IsContent, files_in, files_of, told_reels}
-use Rattle.g_state.specs.Up.{ArePinned, DumpFacts, IsReady, IsUp, content_in, with_dump}
+use Rattle.g_state.specs.Meaning.{Gathers, HasDirectory, IsContent, files_in, files_of, told_reels}
+use Rattle.g_state.specs.Up.{ArePinned, DumpFacts, IsReady, content_in, with_dump}
 use Rattle.g_state.proofs.ChangeLemmas.{closing_belongs}
 use Rattle.g_state.proofs.DirectoryLemmas.{closing_keeps_directories}
 use Rattle.g_state_laws.proofs.StateLemmas.{with_there}

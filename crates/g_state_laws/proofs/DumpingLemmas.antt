@@ -1,5 +1,5 @@
 -- Events that aren't a job's keep what a store that is up keeps.
-use Rattle.std.proofs.Common.{◌≡◌, ℕ, ◌+◌, ◌≤◌, List, [], ◌∷◌, ◌++◌, Option, Some, None, refl, sym, ◌∙◌, ap, arith, subst, inl, inr}
+use Rattle.std.proofs.Common.{◌≡◌, ℕ, ◌≤◌, List, [], ◌∷◌, ◌++◌, Option, Some, None, refl, sym, ◌∙◌, ap, subst}
 use Rattle.std.specs.Prelude.{◌⊎◌, All, Contains, IfSome, map}
 use Rattle.std.specs.Option.{ForSome}
 use Rattle.g_entry.specs.declared.head.Intent.{Intent}
@@ -7,7 +7,7 @@ use Rattle.g_entry.specs.declared.user_rec.UserRec.{UserRec}
 use Rattle.g_tape.specs.Reel.{Reel}
 use Rattle.g_tape.specs.Rack.{Rack}
 use Rattle.g_tape.specs.Reads.{unread}
-use Rattle.g_contents.specs.Contents.{Contents, File, with_intent}
+use Rattle.g_contents.specs.Contents.{Contents}
 use Rattle.g_contents.specs.Facts.{OnlineFacts, Pin}
 use Rattle.g_incr.specs.Layout.{Dump}
 use Rattle.g_incr.specs.Plan.{dump_of}
@@ -18,7 +18,7 @@ use Rattle.g_state.specs.Meaning.{told_reels}
 use Rattle.g_state.specs.Staying.{OnlyGrow, behind}
 use Rattle.g_state.specs.Up.{DumpFacts, IsReady, IsUp, KeepsDirectories, KeepsOpening, StoreFacts, content_in, with_dump}
 use Rattle.g_state.proofs.ChangeLemmas.{files_belong, intents_belong}
-use Rattle.g_state.proofs.DirectoryLemmas.{changes_keep_others, others_stay}
+use Rattle.g_state.proofs.DirectoryLemmas.{changes_keep_others}
 use Rattle.g_state.proofs.StayLemmas.{Carries, both_open, up_after}
 
 -- REELS count by their serials alone

@@ -1,12 +1,10 @@
 -- The opening of a dump: with its dump completed disc and rack would belong together, and the directories be those of the opening.
-use Rattle.std.proofs.Common.{◌≡◌, ◌≢◌, ℕ, zero, suc, ◌+◌, ◌<◌, ◌≤◌, Bool, true, false, List, [], ◌∷◌, ◌++◌, get_or, length, Option, Some, None, refl, sym, ◌∙◌, ap, arith, subst, inl, inr}
+use Rattle.std.proofs.Common.{◌≡◌, ℕ, ◌+◌, ◌<◌, ◌≤◌, Bool, true, false, List, [], ◌∷◌, ◌++◌, get_or, length, Option, Some, None, refl, sym, ◌∙◌, ap, arith, subst, inl, inr}
 use Rattle.std.specs.Prelude.{◌⊎◌, ◌==◌, ◌&&◌, All, AllPairs, Contains, IfSome, filter, map, nat_le, nat_lt}
-use Rattle.std.specs.Option.{ForSome}
 use Rattle.std.proofs.lemmas.Bool.{and_left, both_ways, cases_Bool, cases_eq, cond-false, cond-true, eq-eqb, eqb-true, lt-leb}
 use Rattle.std.proofs.lemmas.List.{append-nil, length-map, map-append}
 use Rattle.std.proofs.lemmas.List.Elements.{All-append, All-cons, All-contains, All-filter, All-head, All-map, All-nil, All-tail, All-weaker, Contains-append_left, Contains-append_right, Contains-get_or, filter-append}
 use Rattle.std.proofs.lemmas.Option.{same_Some}
-use Rattle.g_base.specs.Block.{blocks_for}
 use Rattle.g_entry.specs.declared.file_rec.FileRec.{FileRec}
 use Rattle.g_entry.specs.declared.file_rec.TapeCopy.{TapeCopy}
 use Rattle.g_entry.specs.declared.head.Intent.{Intent}
@@ -16,8 +14,8 @@ use Rattle.g_entry.specs.Rules.{AreFiles, AreNumbered, SameName, StampsBelow}
 use Rattle.g_tape.specs.Reel.{Reel}
 use Rattle.g_tree.specs.Records.{IsRecords}
 use Rattle.g_contents.specs.Contents.{Contents, File, copied_rec, recs_in, with_intent}
-use Rattle.g_contents.specs.Facts.{OnlineFacts, Pin}
-use Rattle.g_incr.specs.Layout.{Dump, IsDump, content_at, holds, is_between}
+use Rattle.g_contents.specs.Facts.{Pin}
+use Rattle.g_incr.specs.Layout.{Dump, IsDump, holds, is_between}
 use Rattle.g_incr.specs.Plan.{IsAway, Plan, content_blocks, dump_of, first_content, noted_files, numbered_from, waiting, with_number}
 use Rattle.g_incr.proofs.PlanLemmas.{plan_gives_dump}
 use Rattle.g_shelf.specs.Completed.{AreShelved, all_dumps, end_of}
@@ -26,7 +24,7 @@ use Rattle.g_state_laws.specs.Dumping.{AreDumpable, IsPlanOf, OpeningStaysUp, Pi
 use Rattle.g_state.specs.Laws.{HasContent}
 use Rattle.g_state.specs.Meaning.{DumpedDirectory, Gathers, HasDirectory, IsContent, files_in, files_of, told_reels}
 use Rattle.g_state.specs.Reading.{ReelsTold}
-use Rattle.g_state.specs.Up.{ArePinned, DumpFacts, IsKept, IsReady, IsUp, KeepsOpening, StoreFacts, content_in, unnumbered, up_to, with_dump}
+use Rattle.g_state.specs.Up.{ArePinned, IsKept, IsReady, IsUp, KeepsOpening, StoreFacts, content_in, unnumbered, up_to, with_dump}
 use Rattle.g_state.proofs.ChangeLemmas.{copy_is, intents_belong}
 use Rattle.g_state_laws.proofs.ClosingLemmas.{contains_filter}
 use Rattle.g_state.proofs.DirectoryLemmas.{all_up_to, copied_files, copied_recs}

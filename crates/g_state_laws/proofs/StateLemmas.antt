@@ -1,5 +1,5 @@
 -- What belongs together has a state.
-use Rattle.std.proofs.Common.{◌≡◌, ℕ, true, false, List, [], ◌∷◌, ◌++◌, Option, Some, None, refl, sym, ◌∙◌, ap, arith, subst}
+use Rattle.std.proofs.Common.{◌≡◌, ℕ, true, false, List, [], ◌∷◌, ◌++◌, Option, Some, None, refl, sym, ◌∙◌, arith, subst}
 use Rattle.std.specs.Prelude.{Bool, ◌==◌, All, Contains, IfSome, is_some}
 use Rattle.std.specs.Option.{ForSome}
 use Rattle.std.proofs.lemmas.Bool.{cond-true, eq-eqb, false≢true}
@@ -19,7 +19,7 @@ use Rattle.g_state.specs.Belong.{BelongWith, DiscBelongs, IsPlaced, KeepsFile, K
 use Rattle.g_state.specs.Meaning.{DumpedDirectory, files_in, told_reels}
 use Rattle.g_state_laws.specs.States.{AreContents, HaveStates}
 use Rattle.g_state.specs.Reading.{AllTold, DevicesStandFor, HasText, IsRackView, IsView, OpensTo, Opened, StandsForState, View, state_down, state_up}
-use Rattle.g_state.specs.Up.{DumpFacts, IsOpen, IsReady, IsUp, StoreFacts, content_in, with_dump}
+use Rattle.g_state.specs.Up.{DumpFacts, IsOpen, IsReady, StoreFacts, content_in, with_dump}
 use Rattle.g_state_laws.proofs.PinLemmas.{both_told}
 use Rattle.g_state_laws.proofs.UpOneLemmas.{on_all, reel_named}
 use Rattle.g_state.proofs.ViewLemmas.{Stands, back}

@@ -1,10 +1,10 @@
 -- A store that is up, and tells what it holds, stands for one state, an open dump with it.
 use Rattle.std.proofs.Common.{◌≡◌, ℕ, zero, suc, ◌+◌, ◌≤◌, true, false, List, [], ◌∷◌, ◌++◌, get_or, Option, Some, None, refl, sym, ◌∙◌, ap, arith, subst, inl, inr}
-use Rattle.std.specs.Prelude.{◌⊎◌, Bool, ◌==◌, All, Contains, IfSome, filter, map, nat_le, is_some, if◌then◌else◌}
+use Rattle.std.specs.Prelude.{◌⊎◌, Bool, ◌==◌, All, Contains, IfSome, map, is_some, if◌then◌else◌}
 use Rattle.std.specs.Option.{ForSome, option_map}
 use Rattle.std.specs.Ordering.{nat_cmp}
 use Rattle.std.specs.FinMap.{FinMap}
-use Rattle.std.proofs.lemmas.Bool.{cases_Bool, cond-false, cond-true, eqb-true, false≢true}
+use Rattle.std.proofs.lemmas.Bool.{cases_Bool, cond-false, cond-true, false≢true}
 use Rattle.std.proofs.lemmas.List.Elements.{Contains-append_left, Contains-append_right, Contains-get_or, Contains-push_cases}
 use Rattle.std.proofs.lemmas.Option.{none-some, same_Some}
 use Rattle.g_entry.specs.declared.file_rec.TapeCopy.{TapeCopy}
@@ -24,8 +24,8 @@ use Rattle.g_state.specs.Answers.{Belongs, IsStore, Told}
 use Rattle.g_state.specs.Belong.{DiscBelongs, IsPlaced}
 use Rattle.g_state.specs.Meaning.{DumpedDirectory, told_reels}
 use Rattle.g_state_laws.specs.States.{StoreIsOne}
-use Rattle.g_state.specs.Reading.{AllTold, HasText, IsOpenView, IsView, OpensTo, Opened, ReelsTold, StandsForState, View, dumped_of, holding_of, names_of, open_of, open_tree, own_of, own_opened, places_of, row_of, state_up, tree_by, users_in, users_not_in, waiting_of}
-use Rattle.g_state.specs.Up.{DumpFacts, IsOpen, IsReady, IsUp, StoreFacts, content_in, with_dump}
+use Rattle.g_state.specs.Reading.{AllTold, HasText, OpensTo, Opened, ReelsTold, View, dumped_of, holding_of, names_of, open_of, open_tree, own_of, own_opened, places_of, row_of, users_in, users_not_in, waiting_of}
+use Rattle.g_state.specs.Up.{DumpFacts, IsOpen, IsReady, StoreFacts, content_in, with_dump}
 use Rattle.g_state.proofs.DirectoryLemmas.{all_up_to}
 use Rattle.g_state.proofs.OneLemmas.{Agree, Apart, AreRight, IsApart, KeepsIn, NoneIn, are_right, devices_are_one, is_shelved, on_reel, on_told, over_dumps, reel_told, same_dumps, same_rows, same_tree, shelves_agree, texts_on}
 use Rattle.g_state.proofs.ViewLemmas.{Stands, to}

@@ -1,6 +1,6 @@
 -- WHAT A STORE THAT IS UP KEEPS, it keeps where users are added, an intent is dropped, a tape is written, and a dump is opened, goes
 -- on, is given up or is closed.
-use Rattle.std.specs.Prelude.{◌≡◌, ℕ, ◌+◌, true, false, List, [], map, length, take, All, Contains, Option, Some, None, IfSome}
+use Rattle.std.specs.Prelude.{◌≡◌, ℕ, ◌+◌, true, false, List, [], map, take, All, Contains, Some, None, IfSome}
 use Rattle.std.specs.Option.{ForSome}
 use Rattle.g_base.specs.Block.{IsBlock}
 use Rattle.g_entry.specs.declared.user_rec.UserRec.{UserRec}

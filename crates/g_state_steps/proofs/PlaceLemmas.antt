@@ -1,6 +1,6 @@
 -- Places by stamp, behind each change of contents.
-use Rattle.std.proofs.Common.{◌≡◌, ◌≢◌, ℕ, zero, suc, ◌<◌, Bool, true, false, cond, List, [], ◌∷◌, ◌++◌, get_or, Option, Some, None, is_some, unwrap_or, refl, sym, ◌∙◌, ap, arith, subst, inl, inr}
-use Rattle.std.specs.Prelude.{◌⊎◌, ◌==◌, ◌&&◌, T, All, AllPairs, Contains, filter, map, nat_lt, not, if◌then◌else◌}
+use Rattle.std.proofs.Common.{◌≡◌, ◌≢◌, ℕ, ◌<◌, Bool, true, false, cond, List, [], ◌∷◌, get_or, Option, Some, None, is_some, unwrap_or, refl, sym, ◌∙◌, ap, arith, subst, inl, inr}
+use Rattle.std.specs.Prelude.{◌⊎◌, ◌==◌, ◌&&◌, T, All, Contains, filter, map, nat_lt, not, if◌then◌else◌}
 use Rattle.std.specs.Option.{option_map}
 use Rattle.std.specs.Ordering.{nat_cmp, eq_by_cmp, is_lt}
 use Rattle.std.specs.Cmp.{eq_by_cmp_equiv}
@@ -17,7 +17,7 @@ use Rattle.g_tree.proofs.ListLemmas.{contains_cases, map_of_map}
 use Rattle.g_tree.proofs.MapLemmas.{found_itself, found_one, get_valued, keyed, none_found, with_value}
 use Rattle.g_contents.specs.Contents.{File, brought, copy_of, has, offline_in, online_with, set_rec, taken_off, with_copies, with_copy, with_file, with_rec, without_file}
 use Rattle.g_contents.specs.Facts.{Pin, noted}
-use Rattle.g_step.specs.State.{Holding, OpenDump, Place, is_candidate, offline_before, place_at, taken_offline, with_online}
+use Rattle.g_step.specs.State.{Holding, OpenDump, Place, is_candidate, place_at, taken_offline, with_online}
 use Rattle.g_step.specs.DumpSteps.{noted_copy, with_noted}
 use Rattle.g_state.specs.Laws.{RecordsAnew}
 use Rattle.g_state.specs.Reading.{place_of, places_of, waiting_of}

@@ -1,6 +1,6 @@
 -- The room of a state by its files and pins.
-use Rattle.std.proofs.Common.{◌≡◌, ◌≢◌, ℕ, ◌+◌, ◌-◌, ◌<◌, Bool, true, false, cond, List, [], ◌∷◌, get_or, length, Option, Some, None, unwrap_or, refl, sym, ◌∙◌, ap, arith, subst}
-use Rattle.std.specs.Prelude.{◌==◌, ◌||◌, All, AllPairs, Contains, IfSome, map, not, sum_by, if◌then◌else◌}
+use Rattle.std.proofs.Common.{◌≡◌, ◌≢◌, ℕ, ◌-◌, Bool, true, false, cond, List, [], ◌∷◌, get_or, length, Option, Some, None, unwrap_or, refl, sym, ◌∙◌, ap, arith}
+use Rattle.std.specs.Prelude.{◌==◌, ◌||◌, All, AllPairs, IfSome, map, not, sum_by, if◌then◌else◌}
 use Rattle.std.specs.List.{list_any}
 use Rattle.std.specs.Option.{option_map}
 use Rattle.std.specs.Ordering.{nat_cmp}
@@ -11,14 +11,12 @@ use Rattle.std.proofs.lemmas.List.Elements.{All-head, All-tail, Contains-get_or}
 use Rattle.std.proofs.lemmas.List.Sorted.{list_any-IsPermutation, sum_by-IsPermutation}
 use Rattle.g_base.specs.Block.{blocks_for}
 use Rattle.g_name.specs.declared.full.Full.{Full}
-use Rattle.g_name.specs.Order.{full_cmp}
 use Rattle.g_name.proofs.Order.{full_total}
 use Rattle.g_entry.specs.declared.file_rec.FileRec.{FileRec}
 use Rattle.g_entry.specs.declared.user_rec.UserRec.{UserRec}
 use Rattle.g_plain.specs.PlainTree.{FileRow}
 use Rattle.g_plain.proofs.Found.{apart_is}
 use Rattle.g_plain.proofs.TextMaps.{full_exact}
-use Rattle.g_tape.specs.Reel.{Reel}
 use Rattle.g_tree.specs.Records.{IsRecords, by_name, file_row_of, full_of}
 use Rattle.g_tree.proofs.ListLemmas.{pairs_first, pairs_rest, sum_of_map, sum_same_on}
 use Rattle.g_tree.proofs.MapLemmas.{Apart, apart_keyed, entries_permute, keyed}
@@ -26,10 +24,10 @@ use Rattle.g_tree.proofs.RecordLemmas.{file_entries, names_apart}
 use Rattle.g_contents.specs.Contents.{Contents, File, recs_in}
 use Rattle.g_contents.specs.Facts as facts
 use Rattle.g_step.specs.State as state
-use Rattle.g_state.specs.Reading.{View, holding_of, open_of, place_of, places_of, state_up, tree_by, users_not_in, waiting_of}
+use Rattle.g_state.specs.Reading.{View, holding_of, open_of, users_not_in, waiting_of}
 use Rattle.g_state.specs.Up.{DumpFacts}
 use Rattle.g_state_steps.specs.Places.{AreDistinct}
-use Rattle.g_state_steps.specs.Rooms.{ArePins, HasLength, RoomIs, held_in}
+use Rattle.g_state_steps.specs.Rooms.{ArePins, HasLength, RoomIs}
 use Rattle.g_state_steps.proofs.PlaceLemmas.{place_found}
 
 -- files with the records that they have

@@ -1,11 +1,10 @@
 -- The users who are kept and touched, by name and by number.
-use Rattle.std.proofs.Common.{◌≡◌, ◌≢◌, ℕ, zero, suc, ◌<◌, ◌≤◌, Bool, true, false, cond, List, [], ◌∷◌, ◌++◌, Option, Some, None, is_some, refl, sym, ◌∙◌, ap, arith, subst, inl, inr}
-use Rattle.std.specs.Prelude.{◌⊎◌, ◌==◌, ◌||◌, ◌&&◌, All, Contains, filter, map, nat_lt, not}
+use Rattle.std.proofs.Common.{◌≡◌, ◌≢◌, ℕ, zero, suc, ◌<◌, Bool, true, false, cond, List, [], ◌∷◌, Option, Some, None, is_some, refl, sym, ◌∙◌, ap, arith, inl, inr}
+use Rattle.std.specs.Prelude.{◌⊎◌, ◌==◌, ◌||◌, All, Contains, filter, map, nat_lt, not}
 use Rattle.std.specs.List.{list_any}
 use Rattle.std.specs.Ordering.{eq_by_cmp}
-use Rattle.std.specs.Cmp.{eq_by_cmp_equiv}
-use Rattle.std.specs.FinMap.{FinMap, find, get, insert, remove, from_entries, same_map, get-from_entries, get-insert, get-remove}
-use Rattle.std.proofs.lemmas.Bool.{both_ways, cases_Bool, cases_eq, cases_order, cond-false, cond-true, eq-eqb, eqb-true, le-ltb, lt-ltb, ne_eqb}
+use Rattle.std.specs.FinMap.{find, get, insert, remove, same_map, get-from_entries, get-insert, get-remove}
+use Rattle.std.proofs.lemmas.Bool.{both_ways, cases_Bool, cases_order, cond-false, cond-true, eq-eqb, eqb-true, le-ltb, lt-ltb, ne_eqb}
 use Rattle.std.proofs.lemmas.List.Elements.{All-contains, All-head, All-tail, All-weaker}
 use Rattle.std.proofs.lemmas.List.Folds.{list_any-append}
 use Rattle.std.proofs.lemmas.Map.Views.{any-filter_same}
@@ -19,8 +18,8 @@ use Rattle.g_tree.proofs.LawLemmas.{same_bytes}
 use Rattle.g_contents.specs.Contents.{has, with_number}
 use Rattle.g_step.specs.State as state
 use Rattle.g_state.specs.Laws.{with_text}
-use Rattle.g_state.specs.Meaning.{DumpedDirectory, files_in}
-use Rattle.g_state.specs.Reading.{dumped_of, dumped_places, names_of, own_of, users_in, users_not_in}
+use Rattle.g_state.specs.Meaning.{files_in}
+use Rattle.g_state.specs.Reading.{dumped_places, names_of, own_of, users_in, users_not_in}
 use Rattle.g_state_laws.proofs.ClosingLemmas.{contains_filter}
 use Rattle.g_state_steps.specs.Users.{DumpedTextsStay, IsNamed, UsersGoByChange}
 

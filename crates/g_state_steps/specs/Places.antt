@@ -1,14 +1,13 @@
 -- WHERE THE BYTES LIE behind each change of contents is what the step makes of the places.
-use Rattle.std.specs.Prelude.{◌≡◌, ◌≢◌, ℕ, ◌==◌, ◌&&◌, true, nat_lt, List, [], ◌∷◌, All, AllPairs, Contains, Option, Some}
+use Rattle.std.specs.Prelude.{◌≡◌, ◌≢◌, ℕ, ◌&&◌, true, nat_lt, List, All, AllPairs, Contains, Option, Some}
 use Rattle.std.specs.FinMap.{insert, remove}
 use Rattle.g_entry.specs.declared.file_rec.FileRec.{FileRec}
-use Rattle.g_entry.specs.declared.user_rec.UserRec.{UserRec}
-use Rattle.g_contents.specs.Contents.{Contents, File, brought, has, set_rec, taken_off, with_copies, with_file, with_number, without_file}
+use Rattle.g_contents.specs.Contents.{File, brought, has, set_rec, taken_off, with_copies, with_file, without_file}
 use Rattle.g_contents.specs.Facts.{Pin, noted}
-use Rattle.g_step.specs.State.{Holding, OpenDump, Place, is_candidate, place_at, taken_offline, with_online}
+use Rattle.g_step.specs.State.{Holding, OpenDump, is_candidate, place_at, taken_offline, with_online}
 use Rattle.g_step.specs.DumpSteps.{with_noted}
 use Rattle.g_state.specs.Laws.{RecordsAnew}
-use Rattle.g_state.specs.Reading.{names_of, place_of, places_of, users_not_in, waiting_of}
+use Rattle.g_state.specs.Reading.{place_of, places_of, waiting_of}
 
 -- no two files have one stamp
 abbrev pub AreDistinct : List File → Type 0

@@ -1,20 +1,17 @@
 -- What follows of the step of PROCESS.
-use Rattle.std.proofs.Common.{◌≡◌, ◌≢◌, ℕ, ◌+◌, ◌<◌, List, [], ◌∷◌, ◌++◌, Option, Some, None, refl, sym, ◌∙◌, ap, subst, inl, inr}
-use Rattle.std.specs.Prelude.{◌⊎◌, ◌==◌, Bool, true, false, not, ◌&&◌, length, map, nat_lt, Result, Ok, Err, MatchOption, option_map, if◌then◌else◌}
-use Rattle.std.specs.FinMap.{FinMap, get}
+use Rattle.std.proofs.Common.{◌≡◌, ◌≢◌, ℕ, ◌+◌, List, [], ◌∷◌, ◌++◌, Option, Some, None, refl, sym, ◌∙◌, ap, subst, inl, inr}
+use Rattle.std.specs.Prelude.{◌⊎◌, ◌==◌, Bool, true, false, not, ◌&&◌, map, nat_lt, Result, Ok, Err, MatchOption, option_map, if◌then◌else◌}
+use Rattle.std.specs.FinMap.{FinMap}
 use Rattle.std.specs.List.{AllZip}
 use Rattle.std.specs.Ordering.{nat_cmp}
-use Rattle.std.proofs.lemmas.Bool.{both_ways, cases_Bool, cond-false, cond-true, eq-eqb, eqb-false, eqb-true, ne_eqb}
-use Rattle.g_name.specs.declared.full.Full.{Full}
-use Rattle.g_entry.specs.declared.file_rec.TapeCopy.{TapeCopy}
+use Rattle.std.proofs.lemmas.Bool.{both_ways, cases_Bool, cond-false, cond-true, eq-eqb, eqb-true, ne_eqb}
 use Rattle.g_plain.specs.declared.faults.StoreFault.{StoreFault}
 use Rattle.g_plain.specs.declared.faults.StoreFault.TheVariants.{DiscReadFault, TapeReadFault, Stopped}
-use Rattle.g_plain.specs.PlainTree.{FileRow}
-use Rattle.g_step.specs.State.{State, Holding, Dumped, Place, Shelved, ReelRow, place_at, reel_at, with_reel}
+use Rattle.g_step.specs.State.{State, Holding, Dumped, Place, Shelved, ReelRow, reel_at, with_reel}
 use Rattle.g_step.specs.CallStep.{Outcome, Plain, DiscRead, TapeRead, Cut, down}
 use Rattle.g_step.specs.DumpSteps.{with_shelved, with_used}
 use Rattle.g_step.specs.Laws.{dumped_tree, tree_in}
-use Rattle.g_step.specs.Process.{AreMoved, HasCopiesOf, IsProcessed, LeftByRead, ProcessDone, ProcessLeft, NotYet, Marked, Moved, ProcessStep, Processes, is_released, marked_by, moved, process_dump, process_refuses, process_refuses_late, released_before, with_cut}
+use Rattle.g_step.specs.Process.{AreMoved, IsProcessed, LeftByRead, ProcessDone, ProcessLeft, NotYet, Marked, Moved, ProcessStep, Processes, is_released, moved, process_dump, process_refuses, process_refuses_late, released_before, with_cut}
 use Rattle.g_step.specs.ProcessLaws.{AllOnReel, HasOneMore, IsBefore, IsBehind, IsThatReel, IsWrittenOrReleased, KeepsDumps, ProcessKeeps, dumps_of, is_half_done}
 use Rattle.g_step.proofs.StepLemmas.{tree_down, tree_held}
 
