@@ -1,5 +1,5 @@
 -- Numbers as they are written.
-use Rattle.std.proofs.Common.{Err, List, None, Ok, Option, Result, Some, [], ap, arith, get_or, length, refl, subst, suc, sym, zero, ℕ, ◌<◌, ◌≢◌, ◌≤◌, ◌^◌, ◌∙◌, ◌∷◌, ◌≡◌}
+use Rattle.std.proofs.Common.{Err, List, None, Ok, Option, Result, Some, ap, arith, get_or, length, refl, subst, suc, sym, zero, ℕ, ◌<◌, ◌≢◌, ◌≤◌, ◌^◌, ◌∙◌, ◌≡◌}
 use Rattle.std.specs.Fmt.{decimal}
 use Rattle.std.specs.Str.{IsUtf8}
 use Rattle.std.specs.Str.Parse.{AllDigits, ParsesUnsigned, digits_value}

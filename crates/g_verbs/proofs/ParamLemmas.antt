@@ -1,5 +1,5 @@
 -- What a parameter is read as.
-use Rattle.std.proofs.Common.{Bool, Err, IfOk, List, None, Ok, Option, Result, Some, [], ap, arith, codes, cond, drop, eq-eqb, eqb-true, false, get_or, le-leb, leb-true, length, max, min, refl, subst, sym, true, ℕ, ◌+◌, ◌-◌, ◌<◌, ◌≤◌, ◌∙◌, ◌∷◌, ◌++◌, ◌^◌, ◌≡◌}
+use Rattle.std.proofs.Common.{Bool, Err, IfOk, List, None, Ok, Option, Result, Some, [], ap, arith, codes, drop, eqb-true, get_or, le-leb, leb-true, length, min, refl, subst, sym, true, ℕ, ◌+◌, ◌-◌, ◌<◌, ◌≤◌, ◌∙◌, ◌∷◌, ◌++◌, ◌^◌, ◌≡◌}
 use Rattle.std.specs.Prelude.{if◌then◌else◌, is_some, nat_le, ◌&&◌, ◌==◌}
 use Rattle.std.specs.Fmt.{decimal}
 use Rattle.std.specs.List.{find}
@@ -32,7 +32,7 @@ use Rattle.g_trap.specs.declared.mode_set.Mode.{Mode}
 use Rattle.g_trap.specs.declared.mode_set.Mode.TheVariants as mode
 use Rattle.g_verbs.specs.Ranges.{IsGeneration, clamped, clamped_range, path_with, unit_with}
 use Rattle.g_verbs.specs.Forms.{IsOf}
-use Rattle.g_verbs.specs.How.{all_modes, amount_of, amount_read, budget_of, budget_or, budget_read, digit_of, digit_unit, file_of, file_read, fits, is_of, kind_front, letter_of, letter_read, local_of, local_read, mode_read, number_read, unit_of, unit_read, user_of, user_read, whole_path}
+use Rattle.g_verbs.specs.How.{all_modes, amount_read, budget_or, budget_read, digit_unit, file_read, fits, is_of, kind_front, letter_read, local_read, mode_read, number_read, unit_read, user_read, whole_path}
 use Rattle.g_verbs.specs.Parameters.{IsAmount, IsFile, IsLocal, IsUnit, IsUser, kind_word, mode_word, most_of, unit_word}
 use Rattle.g_verbs.specs.declared.form.Form.{Form}
 use Rattle.g_verbs.specs.declared.form.Form.TheVariants as form

@@ -1,8 +1,8 @@
 -- What is said is read, and nothing else.
-use Rattle.std.proofs.Common.{Err, List, None, Ok, Option, Result, Some, [], ap, arith, codes, false, get_or, length, map, refl, subst, suc, sym, true, zero, ℕ, ◌<◌, ◌≤◌, ◌∙◌, ◌∷◌, ◌≡◌}
+use Rattle.std.proofs.Common.{Err, List, None, Ok, Option, Result, Some, [], ap, arith, codes, false, length, map, refl, subst, suc, sym, true, zero, ℕ, ◌<◌, ◌≤◌, ◌∙◌, ◌∷◌, ◌≡◌}
 use Rattle.std.specs.Fmt.{decimal}
 use Rattle.std.specs.Prelude.{replicate}
-use Rattle.std.specs.List.{find, slice_get}
+use Rattle.std.specs.List.{slice_get}
 use Rattle.std.proofs.lemmas.List.{get_or-replicate, length-map, length-replicate}
 use Rattle.std.proofs.lemmas.Option.{slice_get-get_or, slice_get_within}
 use Rattle.g_lang.proofs.ValueLemmas.{same_text-eq}
@@ -14,7 +14,7 @@ use Rattle.g_peri.specs.declared.unit.Unit as unit
 use Rattle.g_plain.specs.declared.calls.BudgetKind.{BudgetKind}
 use Rattle.g_plain.specs.declared.calls.BudgetKind.TheVariants as kind
 use Rattle.g_trap.specs.declared.mode_set.Mode.{Mode}
-use Rattle.g_verbs.proofs.ParamLemmas.{amount-complete, budget-complete, file-complete, found, is_of-complete, letter-complete, local-complete, mode-complete, number-complete, unit-complete, user-complete}
+use Rattle.g_verbs.proofs.ParamLemmas.{found, is_of-complete}
 use Rattle.g_verbs.proofs.SaidLemmas.{amount_of-is, budget_of-is, digit_of-is, file_of-is, good-says, letter_of-is, local_of-is, macro-few, modes_read-words, unit_of-is, user_of-is}
 use Rattle.g_verbs.proofs.WalkLemmas.{Walked, walked, wrong-none, wrong-some}
 use Rattle.g_verbs.specs.Forms.{AreGood, Fits, Forms, IsFirstWrong, IsGoodPlace, IsOf, at_least, just, or_any}

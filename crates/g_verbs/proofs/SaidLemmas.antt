@@ -1,5 +1,5 @@
 -- Good parameters of a verb are said by what it asks for.
-use Rattle.std.proofs.Common.{List, None, Option, Some, [], ap, arith, drop, false, get_or, length, lit≤, map, refl, replicate, subst, suc, sym, true, zero, ℕ, ◌+◌, ◌<◌, ◌≤◌, ◌∙◌, ◌∷◌, ◌≡◌}
+use Rattle.std.proofs.Common.{List, Option, Some, [], ap, arith, drop, false, length, map, refl, subst, suc, sym, zero, ℕ, ◌<◌, ◌≤◌, ◌∙◌, ◌∷◌, ◌≡◌}
 use Rattle.std.specs.Fmt.{decimal}
 use Rattle.std.specs.Prelude.{unwrap_or}
 use Rattle.std.specs.List.{slice_get}
@@ -14,7 +14,7 @@ use Rattle.g_trap.specs.declared.mode_set.Mode.{Mode}
 use Rattle.g_verbs.proofs.ParamLemmas.{amount-complete, budget-complete, file-complete, letter-complete, local-complete, mode-complete, number-complete, unit-complete, user-complete}
 use Rattle.g_verbs.specs.Ranges.{no_path, no_unit}
 use Rattle.g_verbs.specs.Forms.{AreGood, Fits, Forms, IsGoodPlace, IsOf, at_least, just, or_any}
-use Rattle.g_verbs.specs.How.{action_of, amount_of, budget_of, digit_of, file_of, letter_of, local_of, mode_read, modes_read, money_at, param, unit_of, user_at, user_of, with_mode}
+use Rattle.g_verbs.specs.How.{action_of, amount_of, budget_of, digit_of, file_of, letter_of, local_of, modes_read, money_at, param, unit_of, user_at, user_of, with_mode}
 use Rattle.g_verbs.specs.Parameters.{AreModes, IsAmount, IsFile, IsLocal, IsUnit, IsUser, mode_word, modes_of}
 use Rattle.g_verbs.specs.Verbs.{MayBeMoney, MayBeText, MayBeUser, Says, macro_forms, verb_forms, verb_word}
 use Rattle.g_verbs.specs.declared.form.Form.{Form}

@@ -3,7 +3,7 @@
 use Rattle.std.specs.Fmt.{decimal}
 use Rattle.std.specs.List.{find, slice_get, slice_index_or}
 use Rattle.std.specs.Option.{option_and_then, option_map}
-use Rattle.std.specs.Prelude.{Bool, Err, List, None, Ok, Option, Result, Some, [], bit_or, codes, drop, false, if◌then◌else◌, is_some, nat_le, pred, suc, true, unwrap_or, ℕ, ◌&&◌, ◌++◌, ◌-◌, ◌==◌, ◌∷◌}
+use Rattle.std.specs.Prelude.{Bool, Err, List, None, Ok, Option, Result, Some, [], bit_or, codes, drop, false, if◌then◌else◌, is_some, nat_le, pred, suc, true, unwrap_or, ℕ, ◌&&◌, ◌-◌, ◌==◌, ◌∷◌}
 use Rattle.std.specs.Str.Parse.{digits_value}
 use Rattle.g_lang.specs.Conditions.{is_param_letter}
 use Rattle.g_lang.specs.How.{behind}
@@ -23,7 +23,7 @@ use Rattle.g_trap.specs.declared.mode_set.Mode.{Mode}
 use Rattle.g_trap.specs.declared.mode_set.Mode.TheVariants as mode
 use Rattle.g_verbs.specs.Ranges.{no_path, no_unit, path_with, unit_with}
 use Rattle.g_verbs.specs.Forms.{Forms, or_any}
-use Rattle.g_verbs.specs.Parameters.{kind_word, mode_word, most_of, unit_word}
+use Rattle.g_verbs.specs.Parameters.{mode_word, most_of}
 use Rattle.g_verbs.specs.Verbs.{forms_with, verb_of}
 use Rattle.g_verbs.specs.declared.action.Action.{Action}
 use Rattle.g_verbs.specs.declared.action.Action.TheVariants as action

@@ -1,5 +1,5 @@
 -- Paths and units whose ranges are kept: a number that is out of its range becomes the nearest one that isn't.
-use Rattle.std.proofs.Common.{List, None, Option, Some, [], lit<, lit≤, max, min, ℕ, ◌<◌, ◌≤◌}
+use Rattle.std.proofs.Common.{None, Option, Some, [], lit<, lit≤, max, min, ℕ, ◌<◌, ◌≤◌}
 use Rattle.std.proofs.Math.Nat.{le-max_left, lt_of_le_of_lt, max-le, min-le_right}
 use Rattle.std.specs.Prelude.{IfSome}
 use Rattle.std.specs.Option.{option_map}

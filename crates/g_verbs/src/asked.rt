@@ -1,8 +1,10 @@
 //! What each verb asks for, from parameters that are good.
-ghost use Rattle.std.specs.Prelude.{◌≡◌, []};
+ghost use Rattle.std.specs.Prelude.{◌≡◌, [], ◌∷◌};
+ghost use Rattle.g_verbs.specs.Forms as forms;
 ghost use Rattle.g_verbs.specs.Forms.{AreGood};
 ghost use Rattle.g_verbs.specs.How as how;
 ghost use Rattle.g_verbs.specs.Verbs as verbs;
+ghost use Rattle.g_verbs.specs.declared.form.Form.TheVariants as form;
 ghost use Rattle.g_verbs.specs.declared.verb.Verb.TheVariants as verb;
 
 use crate::Action;
@@ -11,17 +13,15 @@ use crate::values::{
     user_at, user_if_at,
 };
 use g_lines::Texts;
-use g_name::Text;
+use g_name::{Path, Text};
 use g_plain::BudgetKind;
 
-/// INPUT with its file.
-pub fn input(params: &[Text]) -> Action
-    requires { AreGood (verbs.verb_forms verb.Input) params.now }
-    ensures { result ≡ how.action_of verb.Input params.now [] }
+/// The file of a verb that takes one file alone.
+pub fn only_file(params: &[Text]) -> Path
+    requires { AreGood (forms.just (form.File ∷ [])) params.now }
+    ensures { result ≡ how.file_of (how.param params.now 0) }
 {
-    Action::Input {
-        file: file_at(params, 0),
-    }
+    file_at(params, 0)
 }
 
 /// COPY with both files.
@@ -46,16 +46,6 @@ pub fn append(params: &[Text]) -> Action
     }
 }
 
-/// ERASE with its file.
-pub fn erase(params: &[Text]) -> Action
-    requires { AreGood (verbs.verb_forms verb.Erase) params.now }
-    ensures { result ≡ how.action_of verb.Erase params.now [] }
-{
-    Action::Erase {
-        file: file_at(params, 0),
-    }
-}
-
 /// RENAME with its file and the new name.
 pub fn rename(params: &[Text]) -> Action
     requires { AreGood (verbs.verb_forms verb.Rename) params.now }
@@ -64,16 +54,6 @@ pub fn rename(params: &[Text]) -> Action
     Action::Rename {
         file: file_at(params, 0),
         to: local_at(params, 1),
-    }
-}
-
-/// LISTFILE with its file.
-pub fn list_file(params: &[Text]) -> Action
-    requires { AreGood (verbs.verb_forms verb.ListFile) params.now }
-    ensures { result ≡ how.action_of verb.ListFile params.now [] }
-{
-    Action::ListFile {
-        file: file_at(params, 0),
     }
 }
 
@@ -145,26 +125,6 @@ pub fn budget(params: &[Text]) -> Action
         user: user_at(params, 0),
         kind,
         amount,
-    }
-}
-
-/// RETRIEVE with its file.
-pub fn retrieve(params: &[Text]) -> Action
-    requires { AreGood (verbs.verb_forms verb.Retrieve) params.now }
-    ensures { result ≡ how.action_of verb.Retrieve params.now [] }
-{
-    Action::Retrieve {
-        file: file_at(params, 0),
-    }
-}
-
-/// LOAD with its file.
-pub fn load(params: &[Text]) -> Action
-    requires { AreGood (verbs.verb_forms verb.Load) params.now }
-    ensures { result ≡ how.action_of verb.Load params.now [] }
-{
-    Action::Load {
-        file: file_at(params, 0),
     }
 }
 

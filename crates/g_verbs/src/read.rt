@@ -58,20 +58,30 @@ fn action_of(verb: Verb, params: Texts, rest: Text) -> Action
     ensures { result ≡ how.action_of verb params rest }
 {
     match verb {
-        Verb::Input => asked::input(params.rows()),
+        Verb::Input => Action::Input {
+            file: asked::only_file(params.rows()),
+        },
         Verb::Copy => asked::copy(params.rows()),
         Verb::Append => asked::append(params.rows()),
-        Verb::Erase => asked::erase(params.rows()),
+        Verb::Erase => Action::Erase {
+            file: asked::only_file(params.rows()),
+        },
         Verb::Rename => asked::rename(params.rows()),
-        Verb::ListFile => asked::list_file(params.rows()),
+        Verb::ListFile => Action::ListFile {
+            file: asked::only_file(params.rows()),
+        },
         Verb::ListDir => asked::list_dir(params.rows()),
         Verb::TrapGo => asked::trap_go(params.rows()),
         Verb::TrapStop => asked::trap_stop(params.rows()),
         Verb::TrapCheck => asked::trap_check(params.rows()),
         Verb::NewUser => asked::new_user(params.rows()),
         Verb::Budget => asked::budget(params.rows()),
-        Verb::Retrieve => asked::retrieve(params.rows()),
-        Verb::Load => asked::load(params.rows()),
+        Verb::Retrieve => Action::Retrieve {
+            file: asked::only_file(params.rows()),
+        },
+        Verb::Load => Action::Load {
+            file: asked::only_file(params.rows()),
+        },
         Verb::Enter => asked::enter(params.rows()),
         Verb::Resume => Action::Resume,
         Verb::Assign => asked::assign(params.rows()),

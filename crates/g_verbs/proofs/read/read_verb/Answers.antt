@@ -1,8 +1,7 @@
-use Rattle.std.proofs.Common.{Option, ap, ◌∙◌, ◌≡◌}
+use Rattle.std.proofs.Common.{ap, ◌∙◌, ◌≡◌}
 use Rattle.g_verbs.proofs.ReadLemmas.{read-asked, read-wrong}
 use Rattle.g_verbs.specs.Tables.{forms_said}
 use Rattle.g_verbs.specs.Verbs.{forms_with, verb_of}
-use Rattle.g_verbs.specs.declared.verb.Verb.{Verb}
 use Rattle.g_verbs.proofs.read.read_verb.Goals as goal
 
 pub returns-in-Some-clause-one : goal.returns-in-Some-clause-one
