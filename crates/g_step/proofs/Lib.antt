@@ -2,3 +2,4 @@ mod StepLemmas
 mod EventLemmas
 mod OneLemmas
 mod ProcessLemmas
+mod StartLemmas

@@ -147,7 +147,7 @@ found_behind : (on : ℕ) (r : ReelRow) (rs : List ReelRow) → (on == r.serial)
 found_behind on r rs isnt = cond-false (on == r.serial) (Some r) (reel_at on rs) isnt
 
 -- what is found where one reel is changed
-found_with : (on : ℕ) (f : ReelRow → ReelRow) → ((r : ReelRow) → (f r).serial ≡ r.serial) → (rs : List ReelRow) → reel_at on (with_reel on f rs) ≡ option_map f (reel_at on rs)
+pub found_with : (on : ℕ) (f : ReelRow → ReelRow) → ((r : ReelRow) → (f r).serial ≡ r.serial) → (rs : List ReelRow) → reel_at on (with_reel on f rs) ≡ option_map f (reel_at on rs)
 found_with on f same [] = refl
 found_with on f same (r ∷ rs) = by_serial (cases_Bool (on == r.serial)) (found_with on f same rs)
   where

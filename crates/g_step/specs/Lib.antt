@@ -3,6 +3,7 @@ pub mod State
 pub mod CallStep
 pub mod DumpSteps
 pub mod Rising
+pub mod StartLaws
 pub mod Process
 pub mod ProcessLaws
 pub mod Laws
