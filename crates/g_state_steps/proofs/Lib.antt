@@ -1,3 +1,4 @@
 mod PlaceLemmas
 mod RoomLemmas
+mod TreeLemmas
 mod UserLemmas

@@ -1,3 +1,4 @@
 pub mod Places
 pub mod Rooms
+pub mod Trees
 pub mod Users

@@ -4,6 +4,7 @@
 
 ghost use Rattle.g_state_steps.specs.Places.{PlacesGoByChange};
 ghost use Rattle.g_state_steps.specs.Rooms.{RoomIs};
+ghost use Rattle.g_state_steps.specs.Trees.{DumpedTreeIs};
 ghost use Rattle.g_state_steps.specs.Users.{DumpedTextsStay, UsersGoByChange};
 
 /// The room that memory counts, over files and pins, is the room of the state.
@@ -27,4 +28,9 @@ pub fn users_go_by_change()
 /// A version that is made now is in no dump, so its text changes no dumped tree.
 pub fn dumped_texts_stay()
     ensures texts { DumpedTextsStay }
+{}
+
+/// Where each user's directory is the one of the dumps, the dumped tree is the disc's.
+pub fn dumped_tree_is()
+    ensures tree { DumpedTreeIs }
 {}
