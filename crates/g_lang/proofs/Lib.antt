@@ -5,6 +5,7 @@ pub mod PlaceLemmas
 pub mod ReadLemmas
 pub mod ReadingLemmas
 pub mod RestLemmas
+pub mod SameLemmas
 pub mod SpaceLemmas
 pub mod TakeLemmas
 pub mod ValueLemmas

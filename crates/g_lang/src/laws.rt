@@ -1,8 +1,10 @@
 //! Laws of the language. They do nothing; their clauses say what holds of every text.
-ghost use Rattle.std.specs.Prelude.{◌≡◌, ℕ, List, Option, None, Some, Ok};
+ghost use Rattle.std.specs.Prelude.{◌≡◌, ◌↔◌, true, ℕ, List, Option, None, Some, Ok};
+ghost use Rattle.g_lang.specs.Conditions.{same_cond};
 ghost use Rattle.g_lang.specs.How.{reading};
 ghost use Rattle.g_lang.specs.Lines.{Written, IsWritten, command_text, said_by, WrittenLine, IsLine, line_text, said_in, Said, KeepsCommand, Reading, IsReading};
 ghost use Rattle.g_lang.specs.Words.{label_in};
+ghost use Rattle.g_lang.specs.declared.line.Cond.{Cond};
 
 /// Each text has one reading, and `reading` is it: what some written line of this text says, or the place where
 /// no line goes on. What is written reads back; the label of a line is its first word; what waits for a condition is
@@ -16,4 +18,9 @@ pub fn lines_are_read_by_the_grammar()
     ensures label { (l : WrittenLine) → IsLine l → label_in (line_text l) ≡ l.label }
     ensures waiting { (text : List ℕ) (label : Option (List ℕ)) (said : Said)
         → reading text ≡ Ok (record { label = label; command = Some said }) → KeepsCommand said }
+{}
+
+/// Two conditions are the same exactly where they are equal: negated or not, the test, its letter and its text.
+pub fn same_conditions_are_equal()
+    ensures { (a b : Cond) → (same_cond a b ≡ true) ↔ (a ≡ b) }
 {}

@@ -15,6 +15,6 @@ mod tests;
 pub use bytes::is_param_letter;
 pub use fault::LangFault;
 pub use label::Label;
-pub use laws::lines_are_read_by_the_grammar;
+pub use laws::{lines_are_read_by_the_grammar, same_conditions_are_equal};
 pub use line::{Command, Cond, Line, Test};
 pub use parse::{is_input_line, label_of, parse_line};

@@ -1,5 +1,5 @@
 //! One level: the lines of a document or a macro, its parameters, and the commands that wait in it.
-ghost use Rattle.std.specs.Prelude.{◌≡◌, ◌++◌, ◌+◌, ◌-◌, ◌<◌, ◌≤◌, true, false, None, Some, drop, length, IfOk, MatchOption, slice_index_or};
+ghost use Rattle.std.specs.Prelude.{◌≡◌, ◌++◌, ◌+◌, ◌-◌, ◌<◌, ◌≤◌, true, false, None, Some, drop, length, IfOk, IfSome, MatchOption, slice_index_or};
 ghost use Rattle.g_lang.specs.Conditions.{IsLetter};
 ghost use Rattle.g_lang.specs.Lines.{IsCommandText};
 ghost use Rattle.g_macro.specs.Asked as asked;
@@ -169,8 +169,9 @@ impl Level {
 
     /// The first entry whose condition holds.
     pub fn entry_that_holds(&self, outcome: &Outcome) -> Option<&Entry>
-        ensures { MatchOption result (levels.entry_that_holds self.now outcome.now ≡ None)
+        ensures first { MatchOption result (levels.entry_that_holds self.now outcome.now ≡ None)
             (λ entry. levels.entry_that_holds self.now outcome.now ≡ Some entry.now) }
+        ensures command { IfSome result (λ entry. IsCommandText entry.now.command) }
     {
         for entry in self.entries.as_slice() {
             if self.holds(&entry.cond, outcome) {

@@ -1,5 +1,5 @@
 //! The levels of a job.
-ghost use Rattle.std.specs.Prelude.{◌≡◌, ◌<◌, ◌≤◌, None, Some, length, reverse, take, IfOk, IsSome, MatchOption};
+ghost use Rattle.std.specs.Prelude.{◌≡◌, ◌<◌, ◌≤◌, None, Some, length, reverse, take, IfOk, IfSome, IsSome, MatchOption};
 ghost use Rattle.g_lang.specs.Conditions.{IsLetter};
 ghost use Rattle.g_lang.specs.Lines.{IsCommandText};
 ghost use Rattle.g_macro.specs.Levels as levels;
@@ -144,9 +144,10 @@ impl Levels {
     }
 
     /// The command of the first entry that holds, of the current level and then of those below it. The levels above
-    /// its own are dropped.
+    /// its own are dropped. It is the text of a command, so reading it again refuses nothing.
     pub fn fire(&mut self, alloc: Global, outcome: &Outcome) -> Result<Option<Text>, MacroFault>
-        ensures { replies.Fires outcome.now self.old self.new result }
+        ensures fires { replies.Fires outcome.now self.old self.new result }
+        ensures command { IfOk result (λ command. IfSome command IsCommandText) }
     {
         match firing(self.levels.as_slice(), outcome) {
             Some((entry, depth)) => {
@@ -176,9 +177,10 @@ fn live_levels(all: &[Level], held: bool) -> usize
 
 /// The first entry that holds, from the topmost level down, and how many levels stay.
 fn firing<'a>(all: &'a [Level], outcome: &Outcome) -> Option<(&'a Entry, usize)>
-    ensures { MatchOption result (levels.fired outcome.now (reverse all.now) ≡ None)
+    ensures first { MatchOption result (levels.fired outcome.now (reverse all.now) ≡ None)
         (λ found. (found.1 ≤ length all.now)
         × (levels.fired outcome.now (reverse all.now) ≡ Some (found.0.now.command, reverse (take found.1 all.now)))) }
+    ensures command { IfSome result (λ found. IsCommandText found.0.now.command) }
 {
     let mut depth = all.len();
     while depth > 0 {
