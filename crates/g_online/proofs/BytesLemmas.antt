@@ -1,0 +1,117 @@
+-- What the copies in memory say of the files.
+use Rattle.std.proofs.Common.{◌≡◌, ◌≢◌, ℕ, suc, true, List, [], ◌∷◌, ◌++◌, length, take, map, Option, Some, None, All, AllPairs, refl, sym, ◌∙◌, ap, subst, arith, option_map}
+use Rattle.std.specs.Prelude.{Contains, IfSome, is_some}
+use Rattle.std.specs.Option.{ForSome}
+use Rattle.std.proofs.lemmas.List.Elements.{All-cons, All-contains, All-head, All-tail}
+use Rattle.g_base.specs.Block.{blocks_for}
+use Rattle.g_blocks.specs.Pool.{IsInArea}
+use Rattle.g_copy.specs.declared.copy.DiscCopy.{DiscCopy}
+use Rattle.g_copy.specs.Copy.{IsCopy, blocks_at, bytes_at}
+use Rattle.g_disc.specs.Disc.{DiscState}
+use Rattle.g_entry.specs.declared.file_rec.FileRec.{FileRec}
+use Rattle.g_dirs.specs.Directory.{FileEntry, IsCopyOf, LiesSomewhere, all_places, copy_at, entries_of, places_of}
+use Rattle.g_contents.specs.Contents.{File, file_of}
+use Rattle.g_contents.specs.Facts.{OnlineFacts}
+use Rattle.g_online.specs.Kept.{IsKept, Memory, facts_of}
+use Rattle.g_online.proofs.ReadyLemmas.{pairs_left}
+use Rattle.g_online.proofs.SameLemmas.{left_part, right_part}
+
+-- the copy of this number is the file's
+pub record IsItsCopy (held : Option (List (List ℕ))) (online : List (ℕ × DiscCopy)) (size : ℕ) (f : File) : Type 0 where
+  pub online_is : f.online ≡ is_some (copy_at online f.rec.number)
+  pub bytes : (copy : DiscCopy) → copy_at online f.rec.number ≡ Some copy → f.bytes ≡ option_map (bytes_at copy.blocks copy.len) held
+  pub len : (copy : DiscCopy) → copy_at online f.rec.number ≡ Some copy → copy.len ≡ f.rec.len
+  pub copy : (copy : DiscCopy) → copy_at online f.rec.number ≡ Some copy → IsCopy size copy
+
+inside_copy : (a b : DiscCopy) → (let one : Option DiscCopy = Some a in one ≡ Some b) → a ≡ b
+inside_copy a b e = cc
+
+no_copy : (b : DiscCopy) → (let none : Option DiscCopy = None in none ≡ Some b) → ⊥
+no_copy b e = cc
+
+its_copy : (held : Option (List (List ℕ))) (online : List (ℕ × DiscCopy)) (size : ℕ) (r : FileRec) (found : Option DiscCopy) → copy_at online r.number ≡ found → IfSome found (IsCopyOf r)
+    → All (IsInArea size) (places_of (r, found)) → AllPairs (λ j k. j ≢ k) (places_of (r, found)) → IsItsCopy held online size (file_of held (r, found))
+its_copy held online size r None is fits area apart = record {
+  online_is = ap is_some (sym is);
+  bytes = λ copy there. absurd (no_copy copy (sym is ∙ there));
+  len = λ copy there. absurd (no_copy copy (sym is ∙ there));
+  copy = λ copy there. absurd (no_copy copy (sym is ∙ there));
+}
+its_copy held online size r (Some it) is fits area apart = record {
+  online_is = ap is_some (sym is);
+  bytes = λ copy there. ap (λ (c : DiscCopy). option_map (bytes_at c.blocks c.len) held) (inside_copy it copy (sym is ∙ there));
+  len = λ copy there. ap (λ (c : DiscCopy). c.len) (sym (inside_copy it copy (sym is ∙ there))) ∙ fits.len;
+  copy = λ copy there. subst (IsCopy size) (inside_copy it copy (sym is ∙ there)) (record { count = fits.count ∙ lens; area = area; apart = apart });
+}
+  where
+    lens : blocks_for r.len ≡ blocks_for it.len
+    lens = ap blocks_for (sym fits.len)
+
+pub pairs_right : (xs ys : List ℕ) → AllPairs (λ j k. j ≢ k) (xs ++ ys) → AllPairs (λ j k. j ≢ k) ys
+pairs_right [] ys all = all
+pairs_right (x ∷ xs) ys all = pairs_right xs ys (λ i j d less within. all (suc i) (suc j) d (omega arith) (omega arith))
+
+-- so are all
+pub copies_are : (held : Option (List (List ℕ))) (online : List (ℕ × DiscCopy)) (size : ℕ) (files : List FileRec) → All LiesSomewhere (entries_of files online) → All (IsInArea size) (all_places (entries_of files online))
+    → AllPairs (λ j k. j ≢ k) (all_places (entries_of files online)) → All (IsItsCopy held online size) (map (file_of held) (entries_of files online))
+copies_are held online size [] lies area apart = λ k d within. absurd (omega arith)
+copies_are held online size (r ∷ files) lies area apart =
+    let e : FileEntry = (r, copy_at online r.number) in
+    let first = All-head LiesSomewhere e (entries_of files online) lies in
+    All-cons (IsItsCopy held online size) (file_of held e) (map (file_of held) (entries_of files online))
+    (its_copy held online size r (copy_at online r.number) refl first.copy (left_part (IsInArea size) (places_of e) (all_places (entries_of files online)) area)
+    (pairs_left (places_of e) (all_places (entries_of files online)) apart))
+    (copies_are held online size files (All-tail LiesSomewhere e (entries_of files online) lies) (right_part (IsInArea size) (places_of e) (all_places (entries_of files online)) area)
+    (pairs_right (places_of e) (all_places (entries_of files online)) apart))
+
+told_text : (F : List (List ℕ) → List ℕ) (held : Option (List (List ℕ))) (bytes : Option (List ℕ)) (text : List ℕ) → bytes ≡ option_map F held → ForSome held (λ blocks. F blocks ≡ text) → ForSome bytes (λ b. text ≡ b)
+told_text F None bytes text is each = λ b told. (let no : (let none : Option (List ℕ) = None in none ≡ Some b) = sym is ∙ told in let never : ⊥ = cc in absurd never)
+told_text F (Some blocks) bytes text is each = λ b told. sym (each blocks refl) ∙ inside_text (F blocks) b (sym is ∙ told)
+  where
+    inside_text : (a b : List ℕ) → (let one : Option (List ℕ) = Some a in one ≡ Some b) → a ≡ b
+    inside_text a b e = cc
+
+-- FOR A CALL of a file by its number
+module _ (disc : DiscState) (m : Memory) (o : OnlineFacts) (is : facts_of disc m ≡ o) (kept : IsKept disc m) (live : m.live ≡ true) (number : ℕ) (online : List (ℕ × DiscCopy)) (same : online ≡ m.online) where
+  each_copy : All (IsItsCopy disc.held m.online disc.size) o.contents.files
+  each_copy =
+      let rules = (kept.agreed live).stored.rules in
+      subst (λ (p : OnlineFacts). All (IsItsCopy disc.held m.online disc.size) p.contents.files) is
+      (copies_are disc.held m.online disc.size m.files rules.lies rules.area rules.apart)
+
+  one_copy : (f : File) → Contains o.contents.files f → IsItsCopy disc.held m.online disc.size f
+  one_copy f there = All-contains (IsItsCopy disc.held m.online disc.size) o.contents.files f each_copy there
+
+  copy_there : (f : File) → f.rec.number ≡ number → copy_at m.online f.rec.number ≡ copy_at online number
+  copy_there f at = ap (copy_at m.online) at ∙ ap (λ (on : List (ℕ × DiscCopy)). copy_at on number) (sym same)
+
+  pub online_is_there : (found : Option DiscCopy) → found ≡ copy_at online number → (f : File) → Contains o.contents.files f → f.rec.number ≡ number → is_some found ≡ f.online
+  online_is_there found found_is f there at = ap is_some (found_is ∙ sym (copy_there f at)) ∙ sym (one_copy f there).online_is
+
+  pub no_copy_no : (f : File) → Contains o.contents.files f → f.rec.number ≡ number → f.online ≡ true → (let none : Option DiscCopy = None in none ≡ copy_at online number) → ⊥
+  no_copy_no f there at on none =
+      let wrong : is_some (let no_one : Option DiscCopy = None in no_one) ≡ f.online = online_is_there None none f there at in
+      (let never : ⊥ = cc in never)
+
+  pub copy_is : (copy : DiscCopy) → (let one : Option DiscCopy = Some copy in one ≡ copy_at online number) → (f : File) → Contains o.contents.files f → f.rec.number ≡ number → IsCopy disc.size copy
+  copy_is copy found f there at = (one_copy f there).copy copy (copy_there f at ∙ sym found)
+
+  pub len_is : (copy : DiscCopy) → (let one : Option DiscCopy = Some copy in one ≡ copy_at online number) → (f : File) → Contains o.contents.files f → f.rec.number ≡ number → copy.len ≡ f.rec.len
+  len_is copy found f there at = (one_copy f there).len copy (copy_there f at ∙ sym found)
+
+  pub text_is : (copy : DiscCopy) → (let one : Option DiscCopy = Some copy in one ≡ copy_at online number) → (text : List ℕ) → ForSome disc.held (λ blocks. bytes_at copy.blocks copy.len blocks ≡ text) → length text ≡ copy.len
+      → (f : File) → Contains o.contents.files f → f.rec.number ≡ number → ForSome f.bytes (λ bytes. text ≡ bytes) × (length text ≡ f.rec.len)
+  text_is copy found text read long f there at =
+      (told_text (bytes_at copy.blocks copy.len) disc.held f.bytes text ((one_copy f there).bytes copy (copy_there f at ∙ sym found)) read, long ∙ len_is copy found f there at)
+
+  pub empty_is : (copy : DiscCopy) → (let one : Option DiscCopy = Some copy in one ≡ copy_at online number) → copy.len ≡ 0
+      → (f : File) → Contains o.contents.files f → f.rec.number ≡ number → ForSome f.bytes (λ bytes. (let text : List ℕ = [] in text ≡ bytes)) × (0 ≡ f.rec.len)
+  empty_is copy found none f there at =
+      text_is copy found [] (λ blocks told. take_none (blocks_at copy.blocks blocks)) (sym none) f there at
+    where
+      no_more : (xs : List ℕ) → take 0 xs ≡ []
+      no_more [] = refl
+      no_more (x ∷ xs) = refl
+
+      take_none : (xs : List ℕ) → take copy.len xs ≡ []
+      take_none xs = ap (λ (n : ℕ). take n xs) none ∙ no_more xs

@@ -1,0 +1,247 @@
+-- A change that is one commit: what is known before it, and what it leaves.
+use Rattle.std.proofs.Common.{◌≡◌, ℕ, ◌+◌, Bool, true, false, List, Option, Some, None, Result, Ok, Err, refl, sym, ◌∙◌, ap, subst, arith, inl, inr}
+use Rattle.std.specs.Prelude.{is_some, length, ◌⊎◌, OnErr, OnOk}
+use Rattle.std.specs.Option.{ForSome}
+use Rattle.g_base.specs.Counts.{RoseBy}
+use Rattle.g_base.specs.Told.{Changes}
+use Rattle.g_base.proofs.ToldLemmas.{Changes-weaken, Changes-back}
+use Rattle.g_copy.specs.declared.copy.DiscCopy.{DiscCopy}
+use Rattle.g_disc.specs.Disc.{DiscState, WritesOnly}
+use Rattle.g_disc.proofs.CallLemmas.{Causes-WritesOnly_ok, Causes-WritesOnly_err, Causes-none}
+use Rattle.g_slots.specs.declared.side.Side.{Side}
+use Rattle.g_slots.specs.Layout.{other}
+use Rattle.g_dirs.specs.Commit.{NewDirectory, OldOrNew}
+use Rattle.g_dirs.specs.Directory.{AreCopies, IsDirectory, all_places, directory_of}
+use Rattle.g_dirs.specs.Pages.{KeepsPages, Remembered, pages_of, unwritten}
+use Rattle.g_contents.specs.Commits.{Committed, Commits}
+use Rattle.g_contents.specs.Contents.{Holds, contents_of}
+use Rattle.g_contents.specs.Facts.{OnlineFacts}
+use Rattle.g_contents.proofs.CommitLemmas.{commit_holds}
+use Rattle.g_online.specs.declared.change.Change.{Change}
+use Rattle.g_online.specs.declared.fault.OnlineFault.{OnlineFault}
+use Rattle.g_online.specs.declared.fault.OnlineFault.TheVariants.{NoMemory, Stopped}
+use Rattle.g_online.specs.declared.pinned.Pinned.{Pinned}
+use Rattle.g_online.specs.Change.{changed as changed_to, changed_after, touched_after, need_of}
+use Rattle.g_online.specs.Committed.{HasCommitted, IsMarked, commit_blocks}
+use Rattle.g_online.specs.Done.{AfterStop, HasChanged, IsApplied, commits_of}
+use Rattle.g_online.specs.Kept.{AreNoted, AreWhole, IsKept, IsPooled, Memory, PinsAre, directory_in, facts_of, pins_of}
+use Rattle.g_online.proofs.SameLemmas.{same_area, same_contents, same_pins, AreSame}
+use Rattle.g_online.proofs.TieLemmas.{tied}
+use Rattle.g_online.proofs.WriteLemmas.{same_pages}
+
+-- THE MEMORY n IS READY to be written for a change of what m says: all that a commit asks for, and all that is owed behind it
+pub record IsReady (change : Change) (before : DiscState) (m n : Memory) : Type 0 where
+  pub was : IsKept before m
+  pub lived : m.live ≡ true
+  pub commits : commits_of change ≡ 1
+  pub need : need_of change ≡ 0
+  pub live : n.live ≡ true
+  pub side : n.side ≡ m.side
+  pub pages : KeepsPages m.pages n.pages
+  pub same_pins : n.pins ≡ m.pins
+  pub changed : n.changed ≡ changed_after change (facts_of before m)
+  pub touched : n.touched ≡ touched_after change (facts_of before m)
+  pub contents : contents_of before.held (directory_in n) ≡ changed_to (is_some before.held) (is_some m.pins) change (contents_of before.held (directory_in m))
+  pub copies : AreCopies n.files n.online
+  pub marked : IsMarked before n.side n.pages (directory_in n)
+  pub pool : IsPooled before.size n.pins (directory_in n).files n.pool
+  pub noted : AreNoted (length n.users) (directory_in n).files n.changed n.touched
+  pub pins : PinsAre n.pins before.size n.head.next_stamp (directory_in n).files n.touched
+
+-- the memory behind the commit
+abbrev pub written : Memory → Side → Remembered → Memory
+written n next pages = record n { side = next; pages = pages }
+
+abbrev pub stopped : Memory → Side → Remembered → Memory
+stopped n next pages = record n { side = next; pages = pages; live = false }
+
+-- whether there are pinned versions
+pub pins_told : (held : Option (List (List ℕ))) (pins : Option (List Pinned)) → is_some (pins_of held pins) ≡ is_some pins
+pins_told held None = refl
+pins_told held (Some pins) = refl
+
+-- whether the disc tells stays
+pub both_told : {R : List (List ℕ) → List (List ℕ) → Type 0} (x y : Option (List (List ℕ))) → Changes R x y → is_some y ≡ is_some x
+both_told None y changes = ap (λ (h : Option (List (List ℕ))). is_some h) (changes.untold refl)
+both_told (Some b) y changes = ap (λ (h : Option (List (List ℕ))). is_some h) (changes.told b refl).1
+
+-- what the commit asks for
+pub marked_for : (change : Change) (before : DiscState) (m n : Memory) → IsReady change before m n → (online : List (ℕ × DiscCopy)) → online ≡ n.online
+    → IsMarked before n.side n.pages (directory_of n.head n.users n.files online)
+marked_for change before m n ready online same = subst (λ (on : List (ℕ × DiscCopy)). IsMarked before n.side n.pages (directory_of n.head n.users n.files on)) (sym same) ready.marked
+
+pub copies_for : (change : Change) (before : DiscState) (m n : Memory) → IsReady change before m n → (online : List (ℕ × DiscCopy)) → online ≡ n.online → AreCopies n.files online
+copies_for change before m n ready online same = subst (AreCopies n.files) (sym same) ready.copies
+
+-- without memory nothing has changed
+pub not_applied : (change : Change) (disc : DiscState) (m n : Memory) (o : OnlineFacts) → facts_of disc m ≡ o → IsKept disc m → n ≡ m → IsApplied change o (facts_of disc n) (Err NoMemory)
+not_applied change disc m n o is kept same =
+    subst (λ (old : OnlineFacts). IsApplied change old (facts_of disc n) (Err NoMemory)) is
+    (subst (λ (k : Memory). IsApplied change (facts_of disc m) (facts_of disc k) (Err NoMemory)) (sym same)
+    (record {
+      ok = tt;
+      stopped = λ no. (let never : ⊥ = cc in absurd never);
+      same = λ other. refl;
+      causes = Causes-none disc (λ no. no) (λ no. (let never : ⊥ = cc in never));
+      tied = tied disc m kept;
+      told = refl;
+      only = inr refl;
+    }))
+
+module _ (change : Change) (before after : DiscState) (m n : Memory) (next : Side) (pages : Remembered) (ready : IsReady change before m n) where
+  pub done_kept : HasCommitted (directory_in n) before after n.side next n.pages pages → after.size ≡ before.size → ForSome after.held (AreWhole after.size) → IsKept after (written n next pages)
+  done_kept done size whole =
+      let low = ready.was.size in
+      let high = ready.was.most in
+      record {
+        size = omega arith;
+        most = omega arith;
+        whole = whole;
+        agreed = λ live. record {
+          stored = done.stored;
+          copies = ready.copies;
+          pool = subst (λ (s : ℕ). IsPooled s n.pins (directory_in n).files n.pool) (sym size) ready.pool;
+          noted = ready.noted;
+          pins = subst (λ (s : ℕ). PinsAre n.pins s n.head.next_stamp (directory_in n).files n.touched) (sym size) ready.pins;
+        };
+      }
+
+  pub stopped_kept : after.size ≡ before.size → ForSome after.held (AreWhole after.size) → IsKept after (stopped n next pages)
+  stopped_kept size whole =
+      let low = ready.was.size in
+      let high = ready.was.most in
+      record { size = omega arith; most = omega arith; whole = whole; agreed = λ live. (let no : ⊥ = cc in absurd no) }
+
+  area_same : Changes (NewDirectory (directory_in n)) before.held after.held → Changes (AreSame (all_places (directory_in n).files)) before.held after.held
+  area_same content = Changes-weaken content (λ b a told new. same_area before.size b a (all_places (directory_in n).files) new.copies ready.marked.rules.area)
+
+  new_contents : HasCommitted (directory_in n) before after n.side next n.pages pages → contents_of after.held (directory_in n) ≡ changed_to (is_some before.held) (is_some m.pins) change (contents_of before.held (directory_in m))
+  new_contents done = same_contents before.held after.held (directory_in n) (area_same done.content) ∙ ready.contents
+
+  new_pins : HasCommitted (directory_in n) before after n.side next n.pages pages → pins_of after.held n.pins ≡ pins_of before.held m.pins
+  new_pins done =
+      same_pins (directory_in n) before.held after.held before.size n.head.next_stamp (directory_in n).files n.touched n.pins done.content ready.pins
+      ∙ ap (pins_of before.held) ready.same_pins
+
+  one_commit : (done : HasCommitted (directory_in n) before after n.side next n.pages pages)
+      → Committed (facts_of before m).layout (facts_of after (written n next pages)).layout (commit_blocks (directory_in n) n.side n.pages)
+  one_commit done = record {
+    side = done.turned ∙ ap other ready.side;
+    written = ap (λ (ps : List (Option (List ℕ))). unwritten (directory_in n) ps 1088 + 1)
+        (ap (λ (s : Side). pages_of s n.pages) (sym done.turned) ∙ same_pages next m.pages n.pages ready.pages);
+    here = done.here;
+    there = ap (λ (s : Side). pages_of s pages) (sym ready.side) ∙ done.there ∙ same_pages n.side m.pages n.pages ready.pages ∙ ap (λ (s : Side). pages_of s m.pages) ready.side;
+  }
+
+  has_changed : {T E : Type 0} {t : T} → HasCommitted (directory_in n) before after n.side next n.pages pages → WritesOnly {T = T} {E = E} (commit_blocks (directory_in n) n.side n.pages) before after (Ok t)
+      → HasChanged change (facts_of before m) (facts_of after (written n next pages))
+  has_changed done counts = record {
+    live = ready.live;
+    contents = new_contents done ∙ pinned_same;
+    pins = new_pins done;
+    changed = ready.changed;
+    touched = ready.touched;
+    blocks = commit_blocks (directory_in n) n.side n.pages;
+    commits = subst (λ (k : ℕ). Commits k (facts_of before m).layout (facts_of after (written n next pages)).layout (commit_blocks (directory_in n) n.side n.pages)) (sym ready.commits)
+        ((facts_of after (written n next pages)).layout, commit_blocks (directory_in n) n.side n.pages, 0, one_commit done, (refl, refl), omega arith);
+    writes = subst (λ (k : ℕ). RoseBy k before.writes after.writes) (sum_is) counts.writes;
+  }
+    where
+      sum_is : commit_blocks (directory_in n) n.side n.pages ≡ need_of change + commit_blocks (directory_in n) n.side n.pages
+      sum_is = let none = ready.need in omega arith
+
+      pinned_same : changed_to (is_some before.held) (is_some m.pins) change (contents_of before.held (directory_in m)) ≡ changed_to (is_some before.held) (is_some (pins_of before.held m.pins)) change (contents_of before.held (directory_in m))
+      pinned_same = ap (λ (b : Bool). changed_to (is_some before.held) b change (contents_of before.held (directory_in m))) (sym (pins_told before.held m.pins))
+
+  told_same : Changes (NewDirectory (directory_in n)) before.held after.held → is_some after.held ≡ is_some before.held
+  told_same content = both_told before.held after.held content
+
+  applied_with : (o : OnlineFacts) → facts_of before m ≡ o → {u : Unit {0}} → HasCommitted (directory_in n) before after n.side next n.pages pages
+      → WritesOnly {T = Unit {0}} {E = OnlineFault} (commit_blocks (directory_in n) n.side n.pages) before after (Ok u) → ForSome after.held (AreWhole after.size)
+      → IsApplied change o (facts_of after (written n next pages)) (Ok u)
+  applied_with o is {u} done counts whole =
+      subst (λ (old : OnlineFacts). IsApplied change old (facts_of after (written n next pages)) (Ok u)) is
+      (record {
+        ok = has_changed done counts;
+        stopped = λ no. (let never : ⊥ = cc in absurd never);
+        same = tt;
+        causes = Causes-WritesOnly_ok (λ no. no) (λ no. (let never : ⊥ = cc in never)) counts;
+        tied = tied after (written n next pages) (done_kept done counts.size whole);
+        told = told_same done.content;
+        only = tt;
+      })
+
+  pub kept_done : (online : List (ℕ × DiscCopy)) → online ≡ n.online → HasCommitted (directory_of n.head n.users n.files online) before after n.side next n.pages pages → after.size ≡ before.size
+      → ForSome after.held (AreWhole after.size) → IsKept after (written n next pages)
+  kept_done online same done size whole =
+      done_kept (subst (λ (on : List (ℕ × DiscCopy)). HasCommitted (directory_of n.head n.users n.files on) before after n.side next n.pages pages) same done) size whole
+
+  pub applied_done : (o : OnlineFacts) → facts_of before m ≡ o → {u : Unit {0}} → (online : List (ℕ × DiscCopy)) → online ≡ n.online
+      → HasCommitted (directory_of n.head n.users n.files online) before after n.side next n.pages pages
+      → WritesOnly {T = Unit {0}} {E = OnlineFault} (commit_blocks (directory_of n.head n.users n.files online) n.side n.pages) before after (Ok u) → ForSome after.held (AreWhole after.size)
+      → IsApplied change o (facts_of after (written n next pages)) (Ok u)
+  applied_done o is {u} online same done counts whole =
+      applied_with o is
+      (subst (λ (on : List (ℕ × DiscCopy)). HasCommitted (directory_of n.head n.users n.files on) before after n.side next n.pages pages) same done)
+      (subst (λ (on : List (ℕ × DiscCopy)). WritesOnly {T = Unit {0}} {E = OnlineFault} (commit_blocks (directory_of n.head n.users n.files on) n.side n.pages) before after (Ok u)) same counts)
+      whole
+
+  new_told : (b : List (List ℕ)) → before.held ≡ Some b
+      → contents_of before.held (directory_in n) ≡ changed_to true (is_some (pins_of before.held m.pins)) change (contents_of before.held (directory_in m))
+  new_told b was =
+      ready.contents ∙ ap (λ (told : Bool). changed_to told (is_some m.pins) change (contents_of before.held (directory_in m))) (ap (λ (h : Option (List (List ℕ))). is_some h) was)
+      ∙ ap (λ (p : Bool). changed_to true p change (contents_of before.held (directory_in m))) (sym (pins_told before.held m.pins))
+
+  -- what the disc holds, where the commit was stopped at any of its writes
+  stop_holds : Changes (OldOrNew (directory_in n)) before.held after.held → ForSome after.held (AfterStop change (facts_of before m))
+  stop_holds content blocks told =
+      let from = Changes-back (OldOrNew (directory_in n)) before.held after.held content blocks told in
+      let old : Holds from.0 (contents_of (Some from.0) (directory_in m)) = record { directory = directory_in m; stands = (ready.was.agreed ready.lived).stored.stands from.0 from.1; are = refl } in
+      let size = (ready.was.whole from.0 from.1).0 in
+      after_stop from.0 from.1 (commit_holds from.0 blocks (directory_in n) (contents_of (Some from.0) (directory_in m)) from.2 (subst (λ (s : ℕ). IsDirectory s (directory_in n)) (sym size) ready.marked.rules) old)
+    where
+      after_stop : (b : List (List ℕ)) → before.held ≡ Some b → Holds blocks (contents_of (Some b) (directory_in m)) ⊎ Holds blocks (contents_of (Some b) (directory_in n)) → AfterStop change (facts_of before m) blocks
+      after_stop b was (inl held) = record { one = inl (subst (λ (h : Option (List (List ℕ))). Holds blocks (contents_of h (directory_in m))) (sym was) held) }
+      after_stop b was (inr held) = record {
+        one = inr (inr (subst (Holds blocks) (new_told b was) (subst (λ (h : Option (List (List ℕ))). Holds blocks (contents_of h (directory_in n))) (sym was) held)));
+      }
+
+  pub applied_stopped : (o : OnlineFacts) → facts_of before m ≡ o → {k : ℕ} {e : OnlineFault} → (online : List (ℕ × DiscCopy)) → online ≡ n.online
+      → Changes (OldOrNew (directory_of n.head n.users n.files online)) before.held after.held
+      → WritesOnly {T = Unit {0}} {E = OnlineFault} k before after (Err e) → ForSome after.held (AreWhole after.size)
+      → IsApplied change o (facts_of after (stopped n next pages)) (Err Stopped)
+  applied_stopped o is online same content' counts whole =
+      let content : Changes (OldOrNew (directory_in n)) before.held after.held =
+      subst (λ (on : List (ℕ × DiscCopy)). Changes (OldOrNew (directory_of n.head n.users n.files on)) before.held after.held) same content' in
+      subst (λ (old : OnlineFacts). IsApplied change old (facts_of after (stopped n next pages)) (Err Stopped)) is
+      (record {
+        ok = tt;
+        stopped = λ same. record { live = refl; holds = stop_holds content };
+        same = λ other. absurd (other refl);
+        causes = Causes-WritesOnly_err (λ no. no) refl counts;
+        tied = tied after (stopped n next pages) (stopped_kept counts.size whole);
+        told = both_told before.held after.held content;
+        only = inl refl;
+      })
+
+  -- however it is answered
+  abbrev behind : Bool → Memory
+  behind live = record n { side = next; pages = pages; live = live }
+
+  pub kept_behind : (live : Bool) (result : Result (Unit {0}) OnlineFault) (online : List (ℕ × DiscCopy)) → online ≡ n.online
+      → OnOk result (HasCommitted (directory_of n.head n.users n.files online) before after n.side next n.pages pages) → {k : ℕ} → WritesOnly k before after result → ForSome after.held (AreWhole after.size)
+      → OnOk result (live ≡ n.live) → OnErr result (live ≡ false) → IsKept after (behind live)
+  kept_behind live (Ok u) online same done {k} counts whole lives dies = subst (λ (l : Bool). IsKept after (behind l)) (sym lives) (kept_done online same done counts.size whole)
+  kept_behind live (Err e) online same done {k} counts whole lives dies = subst (λ (l : Bool). IsKept after (behind l)) (sym dies) (stopped_kept counts.size whole)
+
+  pub applied : (o : OnlineFacts) → facts_of before m ≡ o → (live : Bool) (result : Result (Unit {0}) OnlineFault) (online : List (ℕ × DiscCopy)) → online ≡ n.online
+      → OnOk result (HasCommitted (directory_of n.head n.users n.files online) before after n.side next n.pages pages)
+      → OnErr result (Changes (OldOrNew (directory_of n.head n.users n.files online)) before.held after.held)
+      → WritesOnly (commit_blocks (directory_of n.head n.users n.files online) n.side n.pages) before after result → ForSome after.held (AreWhole after.size) → OnErr result (result ≡ Err Stopped)
+      → OnOk result (live ≡ n.live) → OnErr result (live ≡ false) → IsApplied change o (facts_of after (behind live)) result
+  applied o is live (Ok u) online same done content counts whole only lives dies =
+      subst (λ (l : Bool). IsApplied change o (facts_of after (behind l)) (Ok u)) (sym lives) (applied_done o is online same done counts whole)
+  applied o is live (Err e) online same done content counts whole only lives dies =
+      let at : e ≡ Stopped = cc in
+      subst (λ (l : Bool). IsApplied change o (facts_of after (behind l)) (Err e)) (sym dies)
+      (subst (λ (f : OnlineFault). IsApplied change o (facts_of after (stopped n next pages)) (Err f)) (sym at) (applied_stopped o is online same content counts whole))

@@ -1,0 +1,112 @@
+-- HOW A FILESTORE BEGINS: loaded from its disc, or made on it anew.
+use Rattle.std.specs.Prelude.{◌≡◌, ◌⊎◌, ℕ, ◌==◌, Bool, true, false, List, [], map, filter, None, is_some, if◌then◌else◌}
+use Rattle.std.specs.Option.{ForSome}
+use Rattle.g_base.specs.Counts.{RoseBy}
+use Rattle.g_copy.specs.declared.copy.DiscCopy.{DiscCopy}
+use Rattle.g_disc.specs.Disc.{Causes, DiscState, ReadsByCause}
+use Rattle.g_entry.specs.declared.file_rec.FileRec.{FileRec}
+use Rattle.g_entry.specs.declared.format.Format.TheVariants.{Two}
+use Rattle.g_entry.specs.declared.head.Head.{Head}
+use Rattle.g_entry.specs.declared.user_rec.UserRec.{UserRec}
+use Rattle.g_slots.specs.declared.side.Side.{Side}
+use Rattle.g_slots.specs.Layout.{GateNames}
+use Rattle.g_dirs.specs.declared.fault.DirsFault.{DirsFault}
+use Rattle.g_dirs.specs.declared.fault.DirsFault.TheVariants as dirs
+use Rattle.g_dirs.specs.Directory.{AreRecords, Directory, IsDirectory}
+use Rattle.g_dirs.specs.Image.{StandsFor}
+use Rattle.g_dirs.specs.Pages.{Remembered, nothing}
+use Rattle.g_contents.specs.Commits.{Commits}
+use Rattle.g_contents.specs.Contents.{Contents, File, Holds}
+use Rattle.g_contents.specs.Facts.{Layout, OnlineFacts}
+use Rattle.g_online.specs.declared.fault.OnlineFault.{OnlineFault}
+use Rattle.g_online.specs.declared.fault.OnlineFault.TheVariants.{NoFilestore, NoMemory, ReadFault, Stopped}
+use Rattle.g_online.specs.Change.{told_bytes}
+use Rattle.g_online.specs.Kept.{Memory}
+
+-- nothing is pinned or touched; all users are changed
+pub record IsBegun (o : OnlineFacts) : Type 0 where
+  pub live : o.live ≡ true
+  pub pins : o.pins ≡ None
+  pub touched : o.touched ≡ []
+  pub changed : o.changed ≡ map (λ u. u.number) o.contents.users
+
+-- so many commits, where nothing was remembered of the slots
+pub record WroteFirst (n : ℕ) (disc : DiscState) (new : OnlineFacts) : Type 0 where
+  pub found : Layout
+  pub unknown : found.pages ≡ nothing
+  pub gate : GateNames found.side disc.held
+  pub blocks : ℕ
+  pub commits : Commits n found new.layout blocks
+  pub writes : RoseBy blocks disc.writes new.disc.writes
+
+-- LOADED: what the disc holds, and nothing was written
+pub record HasLoaded (disc : DiscState) (o : OnlineFacts) : Type 0 where
+  pub begun : IsBegun o
+  pub reads : ReadsByCause ⊥ disc o.disc
+  pub holds : ForSome disc.held (λ blocks. Holds blocks o.contents)
+  pub unknown : o.layout.pages ≡ nothing
+  pub gate : GateNames o.layout.side disc.held
+
+-- a file without a block: an empty one is on the disc
+abbrev pub first_file : Bool → FileRec → File
+first_file told r = if r.len == 0
+    then record { rec = r; online = true; bytes = told_bytes told [] }
+    else record { rec = r; online = false; bytes = None }
+
+-- records whose files have no blocks
+abbrev pub first_contents : Bool → Head → List UserRec → List FileRec → Contents
+first_contents told head users files = record { head = head; users = users; files = map (first_file told) files }
+
+-- MADE ANEW, by one commit, whatever the disc held
+pub record HasMade (made : Contents) (disc : DiscState) (o : OnlineFacts) : Type 0 where
+  pub begun : IsBegun o
+  pub contents : o.contents ≡ made
+  pub causes : Causes ⊥ ⊥ disc o.disc
+  pub wrote : WroteFirst 1 disc o
+  pub told : is_some o.disc.held ≡ is_some disc.held
+
+-- the disc holds what it held, or nothing as before
+pub record HoldsAsBefore (before after : List (List ℕ)) : Type 0 where
+  pub kept : (c : Contents) → Holds before c → Holds after c
+  pub only : (c : Contents) → Holds after c → Holds before c
+
+-- stopped: what the disc held, or the new contents
+pub record AsBeforeOr (contents : Contents) (before after : List (List ℕ)) : Type 0 where
+  pub one : HoldsAsBefore before after ⊎ Holds after contents
+
+-- what was read of a disc: the side that its gate names, and the directory that it stands for
+pub record IsFound (disc : DiscState) (side : Side) (d : Directory) : Type 0 where
+  pub gate : GateNames side disc.held
+  pub stands : ForSome disc.held (λ blocks. StandsFor blocks d)
+  pub records : AreRecords Two d
+  pub rules : IsDirectory disc.size d
+
+-- what a refusal to read a directory is to the filestore
+abbrev pub refusal_of : DirsFault → OnlineFault
+refusal_of dirs.ReadFault = ReadFault
+refusal_of dirs.NoFilestore = NoFilestore
+refusal_of dirs.Stopped = Stopped
+refusal_of dirs.NoMemory = NoMemory
+
+-- the copies of the empty files
+abbrev pub empty_copy : FileRec → ℕ × DiscCopy
+empty_copy r = (r.number, record { blocks = []; len = 0 })
+
+abbrev pub empty_copies : List FileRec → List (ℕ × DiscCopy)
+empty_copies files = map empty_copy (filter (λ r. r.len == 0) files)
+
+-- what is in memory at the beginning
+abbrev pub memory_of : Side → Remembered → List Bool → List UserRec → List FileRec → Head → List (ℕ × DiscCopy) → Memory
+memory_of side pages pool users files head online = record {
+  side = side;
+  pages = pages;
+  pool = pool;
+  users = users;
+  files = files;
+  head = head;
+  online = online;
+  pins = None;
+  changed = map (λ u. u.number) users;
+  touched = [];
+  live = true;
+}

@@ -1,0 +1,7 @@
+pub mod Change
+pub mod Allowed
+pub mod Done
+pub mod Kept
+pub mod Committed
+pub mod Copies
+pub mod Begun

@@ -1,0 +1,58 @@
+//! One commit of the directory in memory.
+ghost use Rattle.std.specs.Prelude.{◌≡◌, OnErr, OnOk, false};
+ghost use Rattle.std.specs.Option.{ForSome};
+ghost use Rattle.g_base.specs.Told.{Changes};
+ghost use Rattle.g_disc.specs.Disc.{WritesOnly};
+ghost use Rattle.g_dirs.specs.Commit.{OldOrNew};
+ghost use Rattle.g_dirs.specs.Directory.{AreCopies, directory_of};
+ghost use Rattle.g_online.specs.Committed.{HasCommitted, IsMarked, commit_blocks};
+ghost use Rattle.g_online.specs.Kept.{AreWhole};
+
+use crate::OnlineFault;
+use g_copy::DiscCopy;
+use g_dirs::{Listing, Pages, write_changed};
+use g_disc::Disc;
+use g_entry::Head;
+use g_slots::Slots;
+use g_tree::Tree;
+
+/// Makes the directory of these records the one that the disc stands for. It writes the blocks of the slot that isn't
+/// current which are marked and aren't remembered as they are to be, and then the gate. Where a write fails the filestore
+/// is live no more.
+pub(crate) fn commit<D: Disc>(
+    disc: &mut D,
+    slots: &mut Slots,
+    pages: &mut Pages,
+    live: &mut bool,
+    head: &Head,
+    tree: &Tree,
+    online: &[(u16, DiscCopy)],
+) -> Result<(), OnlineFault>
+    requires copies { AreCopies tree.now.files online.now }
+    requires marked { IsMarked (D.state disc.old) slots.old pages.old
+        (directory_of head.now tree.now.users tree.now.files online.now) }
+    ensures ok { OnOk result (HasCommitted (directory_of head.now tree.now.users tree.now.files online.now)
+        (D.state disc.old) (D.state disc.new) slots.old slots.new pages.old pages.new) }
+    ensures stopped { OnErr result
+        (Changes (OldOrNew (directory_of head.now tree.now.users tree.now.files online.now))
+        (D.state disc.old).held (D.state disc.new).held) }
+    ensures counts { WritesOnly (commit_blocks (directory_of head.now tree.now.users tree.now.files online.now)
+        slots.old pages.old) (D.state disc.old) (D.state disc.new) result }
+    ensures lives { OnOk result (live.new ≡ live.old) }
+    ensures dies { OnErr result (live.new ≡ false) }
+    ensures whole { ForSome (D.state disc.new).held (AreWhole (D.state disc.new).size) }
+    ensures only { OnErr result (result ≡ Err OnlineFault.Stopped) }
+{
+    let listing = Listing::new(head, tree.users(), tree.files(), online);
+    match write_changed(disc, slots, &listing, pages) {
+        Ok(()) => {
+            let _size = disc.size();
+            Ok(())
+        }
+        Err(_) => {
+            let _size = disc.size();
+            *live = false;
+            Err(OnlineFault::Stopped)
+        }
+    }
+}

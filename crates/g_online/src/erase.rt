@@ -1,0 +1,95 @@
+//! A file goes.
+ghost use Rattle.std.specs.Prelude.{◌≡◌, ◌≢◌, ◌<◌, All, AllPairs, false, option_map};
+ghost use Rattle.std.specs.Option.{option_copied};
+ghost use Rattle.g_blocks.specs.Pool.{IsTaken};
+ghost use Rattle.g_online.specs.Allowed.{IsAllowed};
+ghost use Rattle.g_online.specs.Copies.{without_copy};
+ghost use Rattle.g_online.specs.Done.{IsApplied};
+ghost use Rattle.g_online.specs.Kept.{GivesUnless, copy_places, has_stamp, is_pinned};
+
+use crate::change::Change;
+use crate::commit::commit;
+use crate::copies::copy_of;
+use crate::pinned::Pinned;
+use crate::records::{kept_head, note};
+use crate::{Online, OnlineFault};
+use g_base::FIRST_FILE_BLOCK;
+use g_blocks::Pool;
+use g_copy::DiscCopy;
+use g_disc::Disc;
+
+impl<D: Disc> Online<D> {
+    /// Takes a file out, and gives its blocks back unless its version is pinned: what `Change::EraseFile` says.
+    pub fn erase_file(&mut self, number: u16) -> Result<(), OnlineFault>
+        requires allowed { IsAllowed (Change.EraseFile number) self.old }
+        ensures { IsApplied (Change.EraseFile number) self.old self.new result }
+    {
+        let Some(file) = self.tree.file_at(number) else {
+            unreachable!()
+        };
+        let owner = file.owner;
+        let keeps = is_kept(&self.pins, file.stamp);
+        let pinned = self.pins.is_some();
+        give_unless(keeps, &mut self.pool, copy_of(&self.online, number));
+        forget_copy(&mut self.online, number);
+        self.head = kept_head(&self.head, pinned);
+        self.pages.changed(0);
+        self.tree.erase(number);
+        self.pages.changed(FIRST_FILE_BLOCK + u32::from(number));
+        note(&mut self.changed, &mut self.touched, pinned, owner);
+        commit(
+            &mut self.disc,
+            &mut self.slots,
+            &mut self.pages,
+            &mut self.live,
+            &self.head,
+            &self.tree,
+            &self.online,
+        )
+    }
+}
+
+/// Whether the version of this stamp is pinned, so that its blocks stay.
+fn is_kept(pins: &Option<Vec<Pinned>>, stamp: u64) -> bool
+    ensures { result ≡ is_pinned (option_map (λ v. v.items) pins.now) stamp }
+{
+    match pins {
+        Some(pins) => has_stamp(pins, stamp),
+        None => false,
+    }
+}
+
+/// Whether one of these versions has this stamp.
+fn has_stamp(pins: &[Pinned], stamp: u64) -> bool
+    ensures { result ≡ has_stamp pins.now stamp }
+{
+    pins.iter().any(|p| p.stamp == stamp)
+}
+
+/// Gives the blocks of a copy back to the pool, or keeps them.
+fn give_unless(keeps: bool, pool: &mut Pool, copy: Option<&DiscCopy>)
+    requires apart { keeps ≡ false → AllPairs (λ j k. j ≢ k) (copy_places (option_copied copy)) }
+    requires taken { keeps ≡ false → All (IsTaken pool.old) (copy_places (option_copied copy)) }
+    ensures { GivesUnless keeps (copy_places (option_copied copy.entry)) pool.old pool.new }
+{
+    if keeps {
+        return;
+    }
+    match copy {
+        Some(copy) => pool.give(copy.blocks.as_slice()),
+        None => pool.give(&[]),
+    }
+}
+
+/// Takes the copy of this number out of the list.
+fn forget_copy(online: &mut Vec<(u16, DiscCopy)>, number: u16)
+    requires { AllPairs (λ c d. c.0 < d.0) online.old.items }
+    ensures { online.new.items ≡ without_copy number online.old.items }
+{
+    match online.binary_search_by_key(&number, |c| c.0) {
+        Ok(place) => {
+            online.remove(place);
+        }
+        Err(_) => {}
+    }
+}

@@ -1,0 +1,46 @@
+//! What can stand in the way of the filestore.
+use g_base::NoMemory;
+use std::alloc::AllocError;
+use thiserror::Error;
+
+/// Why a call on the filestore was refused.
+#[derive(Clone, Copy, Debug, PartialEq, Eq, Error)]
+pub enum OnlineFault {
+    /// The new bytes take `need` blocks, and only `room` would be free.
+    #[error("{need} blocks are needed and {room} are free")]
+    DiscFull { need: u32, room: u32 },
+    /// A read of the disc failed; nothing has changed.
+    #[error("the disc could not be read")]
+    ReadFault,
+    /// A write of the disc failed. The disc holds the old contents or the new ones, and takes no further call.
+    #[error("the disc could not be written")]
+    Stopped,
+    /// The disc holds no filestore.
+    #[error("the disc holds no filestore")]
+    NoFilestore,
+    /// The memory was refused; nothing has changed.
+    #[error("out of memory")]
+    NoMemory,
+}
+
+impl From<AllocError> for OnlineFault {
+    ghost use Rattle.std.specs.Prelude.{◌≡◌};
+    ghost use Rattle.g_online.specs.declared.fault.OnlineFault.TheVariants.{NoMemory};
+
+    ghost from_gives = { λ _ e. e ≡ NoMemory };
+
+    fn from(_e: AllocError) -> OnlineFault {
+        OnlineFault::NoMemory
+    }
+}
+
+impl From<NoMemory> for OnlineFault {
+    ghost use Rattle.std.specs.Prelude.{◌≡◌};
+    ghost use Rattle.g_online.specs.declared.fault.OnlineFault.TheVariants.{NoMemory};
+
+    ghost from_gives = { λ _ e. e ≡ NoMemory };
+
+    fn from(_e: NoMemory) -> OnlineFault {
+        OnlineFault::NoMemory
+    }
+}

@@ -1,0 +1,18 @@
+//! The filestore that is online: one commit a change, whole or not at all.
+#![tactic(auto)]
+
+mod bytes;
+mod change;
+mod commit;
+mod copies;
+mod erase;
+mod fault;
+mod load;
+mod numbers;
+mod online;
+mod pinned;
+mod records;
+
+pub use change::{Change, CopyList};
+pub use fault::OnlineFault;
+pub use online::Online;

@@ -1,0 +1,236 @@
+//! The beginnings of a filestore that is online: it is loaded from its disc, or made on it anew.
+ghost use Rattle.std.specs.Prelude.{◌≡◌, ◌≢◌, ◌⊎◌, ◌<◌, ◌≤◌, ℕ, AllPairs, IfErr, IfOk, List, map, is_some, [], OnErr};
+ghost use Rattle.std.specs.Option.{ForSome};
+ghost use Rattle.g_base.specs.Told.{Changes};
+ghost use Rattle.g_blocks.specs.Pool.{IsFresh};
+ghost use Rattle.g_disc.specs.Disc.{Causes, ReadsByCause};
+ghost use Rattle.g_entry.specs.Rules.{AreUsers};
+ghost use Rattle.g_slots.specs.Layout.{GateNames};
+ghost use Rattle.g_tree.specs.Records.{IsRecords};
+ghost use Rattle.g_dirs.specs.Directory.{AreCopies, Directory, directory_of};
+ghost use Rattle.g_dirs.specs.Image.{StandsFor};
+ghost use Rattle.g_dirs.specs.Pages.{nothing};
+ghost use Rattle.g_dirs.specs.Rules.{AreApart, numbers_of};
+ghost use Rattle.g_contents.specs.Contents.{Contents, Holds};
+ghost use Rattle.g_contents.specs.Facts.{IsTied};
+ghost use Rattle.g_online.specs.Allowed.{KeepsRules};
+ghost use Rattle.g_online.specs.Begun.{AsBeforeOr, HasLoaded, HasMade, IsFound, empty_copies, first_contents, memory_of, refusal_of};
+ghost use Rattle.g_online.specs.Kept.{IsAgreed, facts_of};
+
+use crate::commit::commit;
+use crate::numbers::UserNumbers;
+use crate::{Online, OnlineFault};
+use g_base::{BlockList, NoMemory};
+use g_blocks::Pool;
+use g_copy::DiscCopy;
+use g_dirs::{Dirs, DirsFault, Pages, read_dirs};
+use g_disc::Disc;
+use g_entry::{FileRec, Head, UserRec};
+use g_slots::Slots;
+use g_tree::Tree;
+use std::alloc::Global;
+
+impl<D: Disc> Online<D> {
+    /// The filestore that the disc holds, in either format (docs/FORMATS.md). Nothing is remembered of its slots, and all
+    /// users count as changed. Nothing is written. A refusal hands the disc back, which holds what it held: `NoFilestore`
+    /// comes exactly where it holds no filestore, `ReadFault` where a block couldn't be read.
+    pub fn load(alloc: Global, mut disc: D) -> Result<Online<D>, (OnlineFault, D)>
+        requires low { 2177 < (D.state disc).size }
+        requires high { (D.state disc).size ≤ 1_048_576 }
+        ensures ok { IfOk result (HasLoaded (D.state disc)) }
+        ensures tied { IfOk result (λ o. IsTied o) }
+        ensures none { IfErr result (λ e. e.0 ≡ OnlineFault.NoFilestore
+            → ForSome (D.state disc).held (λ blocks. (c : Contents) → Holds blocks c → ⊥)) }
+        ensures refused { IfErr result (λ e. ReadsByCause (e.0 ≡ OnlineFault.ReadFault) (D.state disc) (D.state e.1)) }
+        ensures only { IfErr result (λ e. (e.0 ≡ OnlineFault.ReadFault) ⊎ (e.0 ≡ OnlineFault.NoFilestore)
+            ⊎ (e.0 ≡ OnlineFault.NoMemory)) }
+    {
+        let (slots, dirs) = match find(alloc, &mut disc) {
+            Ok(found) => found,
+            Err(fault) => return Err((fault, disc)),
+        };
+        let (pages, pool) = match pool_of(alloc, disc.size(), dirs.online.as_slice()) {
+            Ok(made) => made,
+            Err(_) => return Err((OnlineFault::NoMemory, disc)),
+        };
+        let Dirs {
+            head,
+            users,
+            files,
+            online,
+        } = dirs;
+        match Tree::from_records(alloc, users, files) {
+            Ok(tree) => Ok(begin(disc, slots, pages, pool, tree, head, online)),
+            Err(_) => Err((OnlineFault::NoMemory, disc)),
+        }
+    }
+
+    /// Makes a filestore of these records on the disc by one commit, whatever it held: all files are offline but the empty
+    /// ones. Nothing is remembered of the slots before, and all users count as changed. A refusal hands the disc back. Where
+    /// a write failed, `Stopped`, it holds what it held or the new filestore; with `ReadFault`, which comes where the gate
+    /// couldn't be read, and `NoMemory` it is as it was.
+    pub fn fresh(
+        alloc: Global,
+        mut disc: D,
+        tree: Tree,
+        head: Head,
+    ) -> Result<Online<D>, (OnlineFault, D)>
+        requires low { 2177 < (D.state disc).size }
+        requires high { (D.state disc).size ≤ 1_048_576 }
+        requires rules { KeepsRules (first_contents (is_some (D.state disc).held) head tree.users tree.files) }
+        ensures ok { IfOk result (HasMade (first_contents (is_some (D.state disc).held) head tree.users tree.files) (D.state disc)) }
+        ensures tied { IfOk result (λ o. IsTied o) }
+        ensures stopped { IfErr result (λ e. e.0 ≡ OnlineFault.Stopped
+            → Changes (AsBeforeOr (first_contents (is_some (D.state disc).held) head tree.users tree.files))
+            (D.state disc).held (D.state e.1).held) }
+        ensures same { IfErr result (λ e. e.0 ≢ OnlineFault.Stopped
+            → ((D.state e.1).held ≡ (D.state disc).held) × ((D.state e.1).writes ≡ (D.state disc).writes)) }
+        ensures causes { IfErr result (λ e. Causes (e.0 ≡ OnlineFault.ReadFault) (e.0 ≡ OnlineFault.Stopped)
+            (D.state disc) (D.state e.1)) }
+        ensures only { IfErr result (λ e. (e.0 ≡ OnlineFault.ReadFault) ⊎ (e.0 ≡ OnlineFault.Stopped)
+            ⊎ (e.0 ≡ OnlineFault.NoMemory)) }
+    {
+        let (mut pages, pool) = match pool_of(alloc, disc.size(), &[]) {
+            Ok(made) => made,
+            Err(_) => return Err((OnlineFault::NoMemory, disc)),
+        };
+        let online = match empty_copies(alloc, tree.files()) {
+            Ok(online) => online,
+            Err(_) => return Err((OnlineFault::NoMemory, disc)),
+        };
+        let mut slots = match Slots::find(&mut disc) {
+            Ok(slots) => slots,
+            Err(_) => return Err((OnlineFault::ReadFault, disc)),
+        };
+        let mut live = true;
+        match commit(
+            &mut disc, &mut slots, &mut pages, &mut live, &head, &tree, &online,
+        ) {
+            Ok(()) => Ok(begin(disc, slots, pages, pool, tree, head, online)),
+            Err(fault) => Err((fault, disc)),
+        }
+    }
+}
+
+/// The filestore of these parts, with nothing pinned or touched.
+fn begin<D: Disc>(
+    disc: D,
+    slots: Slots,
+    pages: Pages,
+    pool: Pool,
+    tree: Tree,
+    head: Head,
+    online: Vec<(u16, DiscCopy)>,
+) -> Online<D>
+    requires low { 2177 < (D.state disc).size }
+    requires high { (D.state disc).size ≤ 1_048_576 }
+    requires agreed { IsAgreed (D.state disc) (memory_of slots pages pool tree.users tree.files head online.items) }
+    ensures facts { result ≡ facts_of (D.state disc) (memory_of slots pages pool tree.users tree.files head online.items) }
+    ensures tied { IsTied result }
+{
+    let _size = disc.size();
+    let changed = numbers_of(tree.users());
+    Online {
+        disc,
+        slots,
+        pages,
+        pool,
+        tree,
+        head,
+        online,
+        pins: None,
+        changed,
+        touched: UserNumbers::new(),
+        live: true,
+    }
+}
+
+/// The current slot and the directory that it holds.
+fn find<D: Disc>(alloc: Global, disc: &mut D) -> Result<(Slots, Dirs), OnlineFault>
+    requires { 2177 < (D.state disc.old).size }
+    ensures found { IfOk result (λ found. IsFound (D.state disc.old) found.0
+        (directory_of found.1.head found.1.users.items found.1.files.items found.1.online.items)) }
+    ensures copies { IfOk result (λ found. AreCopies found.1.files.items found.1.online.items) }
+    ensures none { result ≡ Err OnlineFault.NoFilestore
+        → ForSome (D.state disc.old).held (λ blocks. (d : Directory) → StandsFor blocks d → ⊥) }
+    ensures reads { ReadsByCause (result ≡ Err OnlineFault.ReadFault) (D.state disc.old) (D.state disc.new) }
+    ensures only { IfErr result (λ e. (e ≡ OnlineFault.ReadFault) ⊎ (e ≡ OnlineFault.NoFilestore)
+        ⊎ (e ≡ OnlineFault.NoMemory)) }
+{
+    let slots = match Slots::find(disc) {
+        Ok(slots) => slots,
+        Err(_) => return Err(OnlineFault::ReadFault),
+    };
+    match read_dirs(alloc, disc, &slots) {
+        Ok(dirs) => Ok((slots, dirs)),
+        Err(fault) => Err(refusal(fault)),
+    }
+}
+
+/// What a refusal of the directory is to the filestore.
+fn refusal(fault: DirsFault) -> OnlineFault
+    ensures { result ≡ refusal_of fault }
+{
+    match fault {
+        DirsFault::ReadFault => OnlineFault::ReadFault,
+        DirsFault::NoFilestore => OnlineFault::NoFilestore,
+        DirsFault::Stopped => OnlineFault::Stopped,
+        DirsFault::NoMemory => OnlineFault::NoMemory,
+    }
+}
+
+/// Nothing remembered, and the pool on which the blocks of these copies are taken.
+fn pool_of(alloc: Global, size: u32, online: &[(u16, DiscCopy)]) -> Result<(Pages, Pool), NoMemory>
+    requires low { 2177 < size }
+    requires high { size ≤ 1_048_576 }
+    requires places { AreApart size (numbers_of online.now) }
+    ensures pages { IfOk result (λ made. made.0 ≡ nothing) }
+    ensures pool { IfOk result (λ made. IsFresh size (numbers_of online.now) made.1) }
+{
+    let pages = Pages::new(alloc)?;
+    let used = collected(alloc, online)?;
+    match Pool::new(alloc, size, used.as_slice()) {
+        Ok(pool) => Ok((pages, pool)),
+        Err(_) => Err(NoMemory),
+    }
+}
+
+/// The block numbers of all copies.
+fn collected(alloc: Global, online: &[(u16, DiscCopy)]) -> Result<Vec<u32>, NoMemory>
+    ensures { IfOk result (λ places. places.items ≡ numbers_of online.now) }
+{
+    let mut places = Vec::new(alloc);
+    for copy in online {
+        places.extend_from_slice(copy.1.blocks.as_slice())?;
+    }
+    Ok(places)
+}
+
+/// The copies of the empty files, which have no block.
+fn empty_copies(alloc: Global, files: &[FileRec]) -> Result<Vec<(u16, DiscCopy)>, NoMemory>
+    ensures { IfOk result (λ online. online.items ≡ empty_copies files.now) }
+{
+    let mut online = Vec::new(alloc);
+    for file in files {
+        if file.len == 0 {
+            let copy = DiscCopy {
+                blocks: BlockList::new(),
+                len: 0,
+            };
+            online.push((file.number, copy))?;
+        }
+    }
+    Ok(online)
+}
+
+/// The numbers of all users.
+fn numbers_of(users: &[UserRec]) -> UserNumbers
+    requires { AreUsers users.now }
+    ensures { result ≡ map (λ u. u.number) users.now }
+{
+    let mut numbers = UserNumbers::new();
+    for user in users {
+        numbers.put(user.number);
+    }
+    numbers
+}

@@ -1,0 +1,51 @@
+//! Rising numbers of users.
+ghost use Rattle.std.specs.Prelude.{◌≡◌, ◌<◌, ◌≤◌, []};
+ghost use Rattle.g_contents.specs.Contents.{with_number};
+
+use arrayvec::ArrayVec;
+use std::marker::Model;
+
+/// Numbers of users, rising, at most 63. Contracts see a list.
+#[derive(Debug, Drop)]
+pub(crate) struct UserNumbers {
+    numbers: ArrayVec<u8, 63>,
+}
+
+impl Model for UserNumbers {
+    ghost use Rattle.std.specs.Prelude.{ℕ, List};
+    ghost use Rattle.g_contents.specs.Facts.{AreNumbers};
+
+    ghost Value = { List ℕ };
+
+    ghost view = { λ l. l.numbers.items };
+
+    ghost invariant = { λ l. AreNumbers 63 l.numbers.items };
+}
+
+impl UserNumbers {
+    /// No user.
+    pub(crate) fn new() -> UserNumbers
+        ensures { result ≡ [] }
+    {
+        UserNumbers {
+            numbers: ArrayVec::new(),
+        }
+    }
+
+    /// Puts a number in its place among the others, if it isn't there.
+    pub(crate) fn put(&mut self, number: u8)
+        requires { number < 63 }
+        ensures { self.new ≡ with_number number self.old }
+    {
+        match self.numbers.binary_search(&number) {
+            Ok(_) => {}
+            Err(place) => self.numbers.insert(place, number),
+        }
+    }
+
+    pub(crate) fn as_slice(&self) -> &[u8]
+        ensures { result.now ≡ self.now }
+    {
+        self.numbers.as_slice()
+    }
+}

@@ -1,0 +1,130 @@
+//! The filestore that is online: the disc, and in memory what it holds.
+ghost use Rattle.std.specs.Prelude.{◌≡◌, ◌≤◌, true, Contains, Some};
+ghost use Rattle.g_base.specs.Counts.{one_more};
+ghost use Rattle.g_contents.specs.Contents.{File, recs_in};
+ghost use Rattle.g_contents.specs.Facts.{IsTied, room_of};
+
+use crate::copies::copy_of;
+use crate::numbers::UserNumbers;
+use crate::pinned::Pinned;
+use g_blocks::Pool;
+use g_copy::DiscCopy;
+use g_dirs::Pages;
+use g_disc::Disc;
+use g_entry::Head;
+use g_slots::Slots;
+use g_tree::Tree;
+use std::marker::Model;
+
+/// A disc whose filestore is known in memory: its head, users and files, where the bytes of the files that are on the
+/// disc lie, and which copy blocks are free. Contracts see the facts of an online filestore (docs/DEFINITIONS.md).
+///
+/// After a change that answered `Stopped` it isn't live: the disc can be taken out of it, and no other call be made.
+#[derive(Drop)]
+pub struct Online<D: Disc> {
+    pub(crate) disc: D,
+    pub(crate) slots: Slots,
+    pub(crate) pages: Pages,
+    pub(crate) pool: Pool,
+    pub(crate) tree: Tree,
+    pub(crate) head: Head,
+    pub(crate) online: Vec<(u16, DiscCopy)>,
+    pub(crate) pins: Option<Vec<Pinned>>,
+    pub(crate) changed: UserNumbers,
+    pub(crate) touched: UserNumbers,
+    pub(crate) live: bool,
+}
+
+impl<D: Disc> Model for Online<D> {
+    ghost use Rattle.std.specs.Prelude.{option_map};
+    ghost use Rattle.g_contents.specs.Facts.{OnlineFacts};
+    ghost use Rattle.g_online.specs.Kept.{IsKept, facts_of};
+
+    ghost Value = { OnlineFacts };
+
+    ghost view = { λ o. facts_of (D.state o.disc) (record {
+      side = o.slots;
+      pages = o.pages;
+      pool = o.pool;
+      users = o.tree.users;
+      files = o.tree.files;
+      head = o.head;
+      online = o.online.items;
+      pins = option_map (λ v. v.items) o.pins;
+      changed = o.changed;
+      touched = o.touched;
+      live = o.live;
+    }) };
+
+    ghost invariant = { λ o. IsKept (D.state o.disc) (record {
+      side = o.slots;
+      pages = o.pages;
+      pool = o.pool;
+      users = o.tree.users;
+      files = o.tree.files;
+      head = o.head;
+      online = o.online.items;
+      pins = option_map (λ v. v.items) o.pins;
+      changed = o.changed;
+      touched = o.touched;
+      live = o.live;
+    }) };
+}
+
+impl<D: Disc> Online<D> {
+    /// Users and files.
+    pub fn tree(&self) -> &Tree
+        requires live { self.now.live ≡ true }
+        ensures users { result.now.users ≡ self.now.contents.users }
+        ensures files { result.now.files ≡ recs_in self.now.contents }
+    {
+        &self.tree
+    }
+
+    /// The head of the directory.
+    pub fn head(&self) -> Head
+        requires live { self.now.live ≡ true }
+        ensures { result ≡ self.now.contents.head }
+    {
+        self.head
+    }
+
+    /// How many copy blocks are free. Those of pinned versions that no file has any more aren't.
+    pub fn room(&self) -> u32
+        requires live { self.now.live ≡ true }
+        ensures { result ≡ room_of self.now }
+    {
+        self.pool.free()
+    }
+
+    /// Whether the bytes of the file of this number are on the disc.
+    pub fn is_online(&self, number: u16) -> bool
+        requires live { self.now.live ≡ true }
+        ensures { (f : File) → Contains self.now.contents.files f → f.rec.number ≡ number → result ≡ f.online }
+    {
+        copy_of(&self.online, number).is_some()
+    }
+
+    /// The users whose directory may not be the one that the completed dumps hold, in rising number.
+    pub fn changed(&self) -> &[u8]
+        ensures { result.now ≡ self.now.changed }
+    {
+        self.changed.as_slice()
+    }
+
+    /// Sets the fuse of the disc, so that its `k`-th next write fails.
+    pub fn arm(&mut self, k: u32)
+        requires { 1 ≤ k }
+        ensures armed { self.new ≡ record self.old { disc = record self.old.disc { fuse = Some k; arms = one_more self.old.disc.arms } } }
+        ensures tied { IsTied self.new }
+    {
+        self.disc.arm(k);
+    }
+
+    /// The disc as it then is, also after a stop.
+    pub fn into_disc(self) -> D
+        ensures { D.state result ≡ self.disc }
+    {
+        self.disc
+    }
+}

@@ -1,0 +1,133 @@
+//! The changes of records, which touch no bytes.
+ghost use Rattle.std.specs.Prelude.{◌≡◌, ◌<◌, if◌then◌else◌};
+ghost use Rattle.g_contents.specs.Contents.{with_number};
+ghost use Rattle.g_online.specs.Allowed.{IsAllowed};
+ghost use Rattle.g_online.specs.Done.{IsApplied};
+ghost use Rattle.g_online.specs.Kept.{head_after};
+
+use crate::change::Change;
+use crate::commit::commit;
+use crate::numbers::UserNumbers;
+use crate::{Online, OnlineFault};
+use g_base::FIRST_FILE_BLOCK;
+use g_disc::Disc;
+use g_entry::{FileRec, Head, Intent, UserRec};
+
+impl<D: Disc> Online<D> {
+    /// Sets the intent of the head: what `Change::SetIntent` says.
+    pub fn set_intent(&mut self, intent: Option<Intent>) -> Result<(), OnlineFault>
+        requires allowed { IsAllowed (Change.SetIntent intent) self.old }
+        ensures { IsApplied (Change.SetIntent intent) self.old self.new result }
+    {
+        self.head.intent = intent;
+        self.pages.changed(0);
+        commit(
+            &mut self.disc,
+            &mut self.slots,
+            &mut self.pages,
+            &mut self.live,
+            &self.head,
+            &self.tree,
+            &self.online,
+        )
+    }
+
+    /// Replaces the record of a user: what `Change::SetUser` says.
+    pub fn set_user(&mut self, user: &UserRec) -> Result<(), OnlineFault>
+        requires allowed { IsAllowed (Change.SetUser user.now) self.old }
+        ensures { IsApplied (Change.SetUser user.now) self.old self.new result }
+    {
+        self.head = kept_head(&self.head, self.pins.is_some());
+        self.pages.changed(0);
+        self.tree.set_user(user.copy());
+        self.pages.changed(1 + u32::from(user.number));
+        commit(
+            &mut self.disc,
+            &mut self.slots,
+            &mut self.pages,
+            &mut self.live,
+            &self.head,
+            &self.tree,
+            &self.online,
+        )
+    }
+
+    /// Puts a user behind the others: what `Change::AddUser` says.
+    pub fn add_user(&mut self, user: &UserRec) -> Result<(), OnlineFault>
+        requires allowed { IsAllowed (Change.AddUser user.now) self.old }
+        ensures { IsApplied (Change.AddUser user.now) self.old self.new result }
+    {
+        match self.tree.reserve() {
+            Ok(()) => {}
+            Err(_) => return Err(OnlineFault::NoMemory),
+        }
+        let pinned = self.pins.is_some();
+        self.head = kept_head(&self.head, pinned);
+        self.pages.changed(0);
+        self.tree.add_user(user.copy());
+        self.pages.changed(1 + u32::from(user.number));
+        note(&mut self.changed, &mut self.touched, pinned, user.number);
+        commit(
+            &mut self.disc,
+            &mut self.slots,
+            &mut self.pages,
+            &mut self.live,
+            &self.head,
+            &self.tree,
+            &self.online,
+        )
+    }
+
+    /// Replaces the record of a file, whose version stays: what `Change::SetFile` says.
+    pub fn set_file(&mut self, rec: &FileRec) -> Result<(), OnlineFault>
+        requires allowed { IsAllowed (Change.SetFile rec.now) self.old }
+        ensures { IsApplied (Change.SetFile rec.now) self.old self.new result }
+    {
+        match self.tree.reserve() {
+            Ok(()) => {}
+            Err(_) => return Err(OnlineFault::NoMemory),
+        }
+        let pinned = self.pins.is_some();
+        self.head = kept_head(&self.head, pinned);
+        self.pages.changed(0);
+        self.tree.put(rec.copy());
+        self.pages.changed(FIRST_FILE_BLOCK + u32::from(rec.number));
+        note(&mut self.changed, &mut self.touched, pinned, rec.owner);
+        commit(
+            &mut self.disc,
+            &mut self.slots,
+            &mut self.pages,
+            &mut self.live,
+            &self.head,
+            &self.tree,
+            &self.online,
+        )
+    }
+}
+
+/// Notes that the directory of this user has changed, for the dumps to come; and while versions are pinned also for the
+/// time when they are let go.
+pub(crate) fn note(changed: &mut UserNumbers, touched: &mut UserNumbers, pinned: bool, number: u8)
+    requires { number < 63 }
+    ensures changed { changed.new ≡ with_number number changed.old }
+    ensures touched { touched.new ≡ (if pinned then with_number number touched.old else touched.old) }
+{
+    changed.put(number);
+    if pinned {
+        touched.put(number);
+    }
+}
+
+/// The head of the next commit, which carries an intent only while versions are pinned.
+pub(crate) fn kept_head(head: &Head, pinned: bool) -> Head
+    ensures { result ≡ head_after pinned head.now }
+{
+    if pinned {
+        *head
+    } else {
+        Head {
+            intent: None,
+            ..*head
+        }
+    }
+}
