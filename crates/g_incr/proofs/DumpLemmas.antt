@@ -4,13 +4,11 @@ use Rattle.std.specs.Prelude.{◌⊎◌, All, IfNone, IfSome, IsTrue, map}
 use Rattle.std.specs.Option.{ForSome}
 use Rattle.std.proofs.Math.Seq.{take-add}
 use Rattle.std.proofs.lemmas.Bool.{cases_lt, false≢true}
-use Rattle.std.proofs.lemmas.List.{append_assoc, drop-append-le, drop-drop, drop-take, drop_at, length-append, length-drop, length-map, length-replicate, length-take, length-take-le, take-append-drop, take-take, take_at}
+use Rattle.std.proofs.lemmas.List.{append_assoc, drop-drop, drop-take, drop_at, length-append, length-drop, length-map, length-replicate, length-take-le, take-append-drop, take-take, take_at}
 use Rattle.std.proofs.lemmas.List.Elements.{All-drop, All-replicate, All-take}
 use Rattle.std.proofs.lemmas.Option.{same_Some, slice_get_within}
 use Rattle.g_base.specs.Block.{IsBlock}
-use Rattle.g_entry.specs.declared.file_rec.FileRec.{FileRec}
 use Rattle.g_entry.specs.declared.format.Format.{Format}
-use Rattle.g_entry.specs.declared.user_rec.UserRec.{UserRec}
 use Rattle.g_entry.specs.FileFields.{file_block}
 use Rattle.g_entry.specs.Rules.{StampsBelow}
 use Rattle.g_entry.specs.UserFields.{IsUser, held_byte, user_block}
@@ -25,7 +23,7 @@ use Rattle.g_incr.specs.Finding.{FindsHeader, FindsMark, HasHeader, HasMark, Has
 use Rattle.g_incr.specs.Layout.{Dump, IsDump, StandsOn, content_at, count_of, dump_blocks, file_in, header_block, holds, mark_block, numbers_in, size_of, user_in}
 use Rattle.g_incr.specs.Notes.{IsDirOf, IsHeaderOf, IsInLimits, IsNoteOf}
 use Rattle.g_incr.specs.Reading.{HasNone, HasReadDump, IsFound}
-use Rattle.g_incr.specs.Records.{AreFilesIn, AreUsersIn, HasRecords, KeepRules, content_from, content_to}
+use Rattle.g_incr.specs.Records.{HasRecords, content_from, content_to}
 use Rattle.g_incr.proofs.ListLemmas.{get_drop, get_take, none_within, one_at}
 use Rattle.g_incr.proofs.PieceLemmas.{at_header, at_mark}
 use Rattle.g_incr.proofs.RuleLemmas.{moved}

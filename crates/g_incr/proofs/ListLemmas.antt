@@ -1,7 +1,6 @@
 -- Lists, and what stands at their places.
 use Rattle.std.specs.Prelude.{IfNone, IfSome, map}
 use Rattle.std.proofs.Common.{◌≡◌, ◌⊎◌, inl, inr, ℕ, zero, suc, ◌+◌, ◌<◌, ◌≤◌, List, [], ◌∷◌, ◌++◌, length, take, drop, get_or, Option, Some, None, refl, sym, ◌∙◌, ap, arith, slice_get, subst}
-use Rattle.std.proofs.lemmas.List.{append_assoc, drop_at, take_at}
 
 pub get_front : {X : Type 0} (xs ys : List X) (i : ℕ) (x : X) → slice_get xs i ≡ Some x → slice_get (xs ++ ys) i ≡ Some x
 get_front [] ys i x is = absurd (let no : ⊥ = cc in no)

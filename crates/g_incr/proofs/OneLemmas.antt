@@ -3,7 +3,7 @@ use Rattle.std.proofs.Common.{◌≡◌, ◌⊎◌, ℕ, suc, ◌+◌, ◌-◌, 
 use Rattle.std.specs.Prelude.{◌==◌, ◌||◌, map, codes, All, IfSome, option_map, if◌then◌else◌, slice_index}
 use Rattle.std.specs.List.Sorted.{IsStrictlyIncreasing}
 use Rattle.std.proofs.lemmas.Bool.{both_ways, cases_eq, cases_lt, cases_order, eq-eqb, ne_eqb, or_from, or_left}
-use Rattle.std.proofs.lemmas.List.{append_assoc, length-map, take_at, drop_at, same_lists, take-take}
+use Rattle.std.proofs.lemmas.List.{append_assoc, length-map, take_at, drop_at, same_lists}
 use Rattle.std.proofs.lemmas.Option.{slice_get-map, slice_get-get_or, same_Some}
 use Rattle.g_base.specs.Fields.{number, padded}
 use Rattle.g_base.proofs.FieldLemmas.{same_bytes, same_number}
@@ -15,7 +15,7 @@ use Rattle.g_entry.specs.Formats.{format_number}
 use Rattle.g_entry.specs.UserFields.{IsUser, user_block}
 use Rattle.g_entry.proofs.OneEncoding.{file_again, same_format, user_held_again}
 use Rattle.g_entry.proofs.RecordLemmas.{format_fits}
-use Rattle.g_incr.specs.Layout.{Dump, IsDump, count_of, size_of, dump_blocks, header_block, header_fields, holds, mark_block, numbers_in, user_in, file_in}
+use Rattle.g_incr.specs.Layout.{Dump, IsDump, count_of, dump_blocks, header_block, header_fields, holds, mark_block, numbers_in, user_in, file_in}
 
 -- two lists of one length in front of the same blocks
 pub same_front : (xs ys a b : List (List ℕ)) → length xs ≡ length ys → xs ++ a ≡ ys ++ b → (xs ≡ ys) × (a ≡ b)

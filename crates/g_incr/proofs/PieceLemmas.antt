@@ -1,5 +1,5 @@
 -- The blocks of a dump one by one, as a plan has them.
-use Rattle.std.proofs.Common.{◌≡◌, ◌⊎◌, ℕ, zero, suc, ◌+◌, ◌^◌, ◌<◌, ◌≤◌, Bool, true, false, List, [], ◌∷◌, ◌++◌, length, get_or, take, Some, None, refl, sym, ◌∙◌, ap, arith, slice_get, subst, inl, inr}
+use Rattle.std.proofs.Common.{◌≡◌, ◌⊎◌, ℕ, zero, suc, ◌+◌, ◌^◌, ◌<◌, true, false, List, [], ◌∷◌, ◌++◌, length, get_or, take, Some, None, refl, sym, ◌∙◌, ap, arith, slice_get, subst, inl, inr}
 use Rattle.std.specs.Prelude.{◌==◌, map, option_map, IfSome, Option, if◌then◌else◌}
 use Rattle.std.proofs.lemmas.Bool.{cases_Bool, cond-false, cond-true, eq-eqb, ne_eqb}
 use Rattle.std.proofs.lemmas.List.{length-map}
@@ -13,7 +13,7 @@ use Rattle.g_incr.specs.declared.note.DumpNote.{DumpNote}
 use Rattle.g_incr.specs.Layout.{Dump, count_of, dump_blocks, file_in, header_block, mark_block, numbers_in, user_in}
 use Rattle.g_incr.specs.Notes.{IsNoteOf}
 use Rattle.g_incr.specs.Pieces.{IsVersionAt, dumped_rec}
-use Rattle.g_incr.specs.Plan.{IsContentAt, IsPlan, IsReadyAt, Plan, blocks_of, content_blocks, dump_of, first_content, needs, noted_files, noted_rec, numbered_from, waiting, waits, with_number}
+use Rattle.g_incr.specs.Plan.{IsContentAt, IsPlan, IsReadyAt, Plan, blocks_of, content_blocks, dump_of, first_content, needs, noted_rec, waiting, waits, with_number}
 use Rattle.g_incr.proofs.ListLemmas.{get_behind, get_front, get_seam}
 use Rattle.g_incr.proofs.PlanLemmas.{blocks_keeps, blocks_most, blocks_waits, file_keeps, length-made, made, made_keeps, made_of, made_waits}
 

@@ -1,6 +1,6 @@
 -- Reads of a reel, and what they tell.
-use Rattle.std.proofs.Common.{◌≡◌, ℕ, ◌+◌, ◌-◌, ◌<◌, ◌≤◌, Bool, true, false, List, [], ◌∷◌, ◌++◌, length, take, drop, Option, Some, None, Result, Ok, Err, refl, sym, ◌∙◌, ap, arith, subst, slice_get, inl, inr}
-use Rattle.std.specs.Prelude.{◌↔◌, ◌⊎◌, All, nat_lt, option_map, if◌then◌else◌}
+use Rattle.std.proofs.Common.{◌≡◌, ℕ, ◌+◌, ◌<◌, ◌≤◌, Bool, true, false, List, [], ◌∷◌, ◌++◌, length, take, drop, Option, Some, None, Result, Ok, Err, refl, sym, ◌∙◌, ap, arith, subst, slice_get, inl, inr}
+use Rattle.std.specs.Prelude.{◌↔◌, ◌⊎◌, nat_lt, option_map, if◌then◌else◌}
 use Rattle.std.specs.Option.{ForSome}
 use Rattle.std.proofs.lemmas.Bool.{cases_lt, ltb-false}
 use Rattle.std.proofs.lemmas.List.{length-append, take_more, take_all}
@@ -8,10 +8,10 @@ use Rattle.std.proofs.lemmas.Option.{get_or_from_slice_get, slice_get_past, slic
 use Rattle.g_base.specs.Counts.{Rose}
 use Rattle.g_tape.specs.declared.fault.TapeFault.{TapeFault}
 use Rattle.g_tape.specs.declared.fault.TapeFault.TheVariants as tape
-use Rattle.g_tape.specs.Reel.{IsReel, Reel}
+use Rattle.g_tape.specs.Reel.{Reel}
 use Rattle.g_tape.specs.Rack.{AreReels, Rack, Reading, is_mounted, reel, refuses_read, refuses_unmount, told_of}
 use Rattle.g_tape.specs.Reads.{HasRead, OnlyReads, blocks_in, blocks_of, unread}
-use Rattle.g_tape.proofs.ReadLemmas.{allowed-read, blocks_after_reads, has_read, is_reel, more_reads, nothing_read, read_then, reading_only, reel_after_reads, then_read}
+use Rattle.g_tape.proofs.ReadLemmas.{allowed-read, blocks_after_reads, is_reel, more_reads, nothing_read, read_then, reading_only, reel_after_reads, then_read}
 use Rattle.g_incr.specs.declared.fault.ShelfFault.{ShelfFault}
 use Rattle.g_incr.specs.declared.fault.ShelfFault.TheVariants.{NoTape, NotMounted, ReadFault, NoMemory}
 use Rattle.g_incr.specs.Reading.{ReadsReel}

@@ -1,14 +1,11 @@
 -- The versions that wait, one after the other.
-use Rattle.std.proofs.Common.{◌≡◌, ◌⊎◌, ℕ, suc, ◌+◌, ◌*◌, ◌<◌, ◌≤◌, Bool, true, false, List, [], ◌∷◌, ◌++◌, length, take, drop, get_or, Some, refl, sym, ◌∙◌, ap, arith, slice_get, inl, inr, All}
-use Rattle.std.specs.Prelude.{filter}
-use Rattle.std.proofs.lemmas.Bool.{cond-false, cond-true, cases_Bool}
-use Rattle.std.proofs.lemmas.List.{append-nil, append_assoc, length-append, take_all, take_at, take_more}
+use Rattle.std.proofs.Common.{◌≡◌, ℕ, ◌+◌, ◌*◌, ◌<◌, ◌≤◌, true, false, List, [], ◌∷◌, ◌++◌, length, take, drop, get_or, sym, ◌∙◌, ap, arith, slice_get}
+use Rattle.std.proofs.lemmas.Bool.{cond-false, cond-true}
+use Rattle.std.proofs.lemmas.List.{append-nil, length-append, take_all, take_at, take_more}
 use Rattle.std.proofs.lemmas.List.Elements.{filter-append}
 use Rattle.std.proofs.lemmas.List.Sums.{sum_by-append, sum_by-cons}
-use Rattle.std.proofs.Math.Seq.{drop-cons}
 use Rattle.g_base.specs.Block.{blocks_for}
 use Rattle.g_entry.specs.declared.file_rec.FileRec.{FileRec}
-use Rattle.g_entry.specs.FileFields.{IsFile}
 use Rattle.g_incr.specs.Pieces.{IsVersionAt}
 use Rattle.g_incr.specs.Plan.{blocks_of, waiting, waits}
 use Rattle.g_incr.proofs.ListLemmas.{split_at, get_seam}

@@ -25,3 +25,6 @@ pub use writer::{Piece, Writer};
 pub fn plan_gives_dump()
     ensures dump { PlanGivesDump }
 {}
+
+#[cfg(test)]
+mod tests;

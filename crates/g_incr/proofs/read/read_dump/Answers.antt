@@ -1,4 +1,4 @@
-use Rattle.std.proofs.Common.{Bool, None, Some, Option, subst, sym}
+use Rattle.std.proofs.Common.{Bool, None, Some, Option, subst}
 use Rattle.std.specs.Prelude.{IfNone, IfSome}
 use Rattle.std.proofs.lemmas.Result.{IfOk-weaker}
 use Rattle.g_tape.proofs.ReadLemmas.{more_reads}

@@ -2,7 +2,7 @@ use Rattle.std.proofs.Common.{◌≡◌, ℕ, ◌+◌, arith, sym, subst}
 use Rattle.std.proofs.lemmas.Bool.{eq-eqb, eqb-true, false≢true}
 use Rattle.g_base.specs.Block.{blocks_for}
 use Rattle.g_incr.specs.Records.{content_from, content_to}
-use Rattle.g_incr.proofs.RuleLemmas.{HaveFollowed, all_followed, breaks, few_blocks, follows, moved, passes_by}
+use Rattle.g_incr.proofs.RuleLemmas.{HaveFollowed, all_followed, breaks, few_blocks, follows, moved}
 use Rattle.g_incr.proofs.rules.follow_on.Goals as goal
 
 pub returns-then-first-at : goal.returns-then-first-at

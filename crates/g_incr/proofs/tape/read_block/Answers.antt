@@ -1,4 +1,4 @@
-use Rattle.std.proofs.Common.{Err, Result, subst}
+use Rattle.std.proofs.Common.{Err, subst}
 use Rattle.g_tape.specs.declared.fault.TapeFault.{TapeFault}
 use Rattle.g_tape.specs.Rack.{Reading}
 use Rattle.g_tape.proofs.ReadLemmas.{has_read}
