@@ -1,3 +1,7 @@
+pub mod HeldLemmas
+pub mod LastLemmas
 pub mod MarkLemmas
 pub mod OneLemmas
 pub mod QuietLemmas
+pub mod ReadLemmas
+pub mod RowLemmas

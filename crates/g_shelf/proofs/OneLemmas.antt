@@ -17,7 +17,7 @@ same_first reel d e place on_d on_e =
     let first = same_cons (header_block d) (header_block e) [] [] (sym one_d ∙ ap (λ (n : ℕ). take 1 (drop n reel)) place ∙ one_e) in
     same_header d e on_d.rules on_e.rules first.0
 
-same_next : (serial : ℕ) (reel : List (List ℕ)) (at from : ℕ) (d e : Dump) → IsNext serial reel at from d → IsNext serial reel at from e → d ≡ e
+pub same_next : (serial : ℕ) (reel : List (List ℕ)) (at from : ℕ) (d e : Dump) → IsNext serial reel at from d → IsNext serial reel at from e → d ≡ e
 same_next serial reel at from d e is_d is_e =
     let place = is_d.place ∙ sym is_e.place in
     let header = same_first reel d e place is_d.stands is_e.stands in

@@ -1,7 +1,19 @@
-//! The completed dumps of a reel, and which writes of a tape change them. So far definitions and laws alone.
+//! The completed dumps of a reel, the last dump of a rack, and which writes of a tape change them.
 #![tactic(auto)]
 
+mod catalogue;
+mod copy;
+mod last;
+
+pub use catalogue::{completed, end_of};
+pub use copy::find_copy;
+pub use last::last_dump;
+
+#[cfg(test)]
+mod tests;
+
 ghost use Rattle.g_shelf.specs.Completed.{CompletedAreOne};
+ghost use Rattle.g_shelf.specs.Held.{HeldInOne};
 ghost use Rattle.g_shelf.specs.Quiet.{MarkCompletes, QuietBlocks};
 
 /// A write of the next block of a dump that begins behind the completed ones, whatever it leaves, leaves the completed
@@ -16,4 +28,10 @@ pub fn writes_of_dumps()
 #[tactic(auto, using(crate::proofs::OneLemmas::completed_are_one))]
 pub fn one_list_of_dumps()
     ensures one { CompletedAreOne }
+{}
+
+/// Blocks that are held lie in the content of one completed dump.
+#[tactic(auto, using(crate::proofs::HeldLemmas::held_in_one))]
+pub fn held_blocks_lie_in_one_dump()
+    ensures one { HeldInOne }
 {}

@@ -1,0 +1,286 @@
+-- The last dump of the reels seen so far.
+use Rattle.std.proofs.Common.{◌≡◌, ◌⊎◌, ℕ, zero, suc, ◌+◌, ◌-◌, ◌<◌, ◌≤◌, Bool, true, false, List, [], ◌∷◌, ◌++◌, length, get_or, take, Option, Some, None, Result, Ok, Err, refl, sym, ◌∙◌, ap, arith, slice_get, subst, inl, inr, map, All}
+use Rattle.std.specs.Prelude.{Contains, IfNone, IfSome, MatchOption, nat_lt, option_map, if◌then◌else◌}
+use Rattle.std.specs.Option.{ForSome}
+use Rattle.std.specs.List.Sorted.{IsStrictlyIncreasing}
+use Rattle.std.proofs.Math.Seq.{take-suc}
+use Rattle.std.proofs.lemmas.Bool.{cases_Bool, ltb-true, ltb-false, cond-true, cond-false}
+use Rattle.std.proofs.lemmas.List.{get_or-map, get_or-take, length-map, length-take-le, take_all}
+use Rattle.std.proofs.lemmas.List.Elements.{All-contains, All-nil, All-push, All-weaker, Contains-append_left, Contains-push}
+use Rattle.std.proofs.lemmas.List.Kept.{AllPairs-from_increasing}
+use Rattle.std.proofs.lemmas.Option.{get_or_from_slice_get, same_Some}
+use Rattle.g_tape.specs.declared.fault.TapeFault.TheVariants as tape
+use Rattle.g_tape.specs.Place.{IsPlaceOf}
+use Rattle.g_tape.specs.Rack.{AreReels, Rack, reel, refuses_unmount}
+use Rattle.g_tape.specs.Reads.{OnlyReads, blocks_in, blocks_of, unread}
+use Rattle.g_tape.specs.Reel.{Reel}
+use Rattle.g_tape.proofs.PlaceLemmas.{reel-first}
+use Rattle.g_tape.proofs.ReadLemmas.{blocks_after_reads, more_reads, nothing_read, reel_after_reads}
+use Rattle.g_incr.specs.declared.fault.ShelfFault.{ShelfFault}
+use Rattle.g_incr.specs.declared.fault.ShelfFault.TheVariants.{NoTape, NotMounted, ReadFault, NoMemory}
+use Rattle.g_incr.specs.declared.note.DumpNote.{DumpNote}
+use Rattle.g_incr.specs.Layout.{Dump, IsDump, count_of, ends}
+use Rattle.g_incr.specs.Reading.{HasReadDump, ReadsReel}
+use Rattle.g_shelf.specs.Completed.{AreCompleted, end_of}
+use Rattle.g_shelf.specs.Found.{AreInRow, AreRead, note_of}
+use Rattle.g_shelf.specs.Last.{HasBelow, HasDumps, HasUpTo, HaveNone, IsLast}
+use Rattle.g_shelf.specs.Next.{later}
+use Rattle.g_shelf.proofs.ReadLemmas.{last-map, len-unread, read_dump_then, refuses_after_reads, then_read_dump}
+use Rattle.g_shelf.proofs.RowLemmas.{IsTop, in_row, none_last, top}
+
+-- the last dump of these reels, or none
+abbrev pub LastOf : List Reel → Option (ℕ × DumpNote) → Type 0
+LastOf rs last = MatchOption last (HaveNone rs) (λ l. IsLast rs l.0 l.1)
+
+-- where every dump of a list is below n
+weaker_upto : (m n : ℕ) → m ≤ n → (r : Reel) → HasUpTo m r → HasUpTo n r
+weaker_upto m n le r has blocks told =
+    let (dumps, are, each) = has blocks told in
+    (dumps, are, All-weaker (λ (d : Dump). d.number ≤ m) (λ (d : Dump). d.number ≤ n) (λ d most. omega arith) dumps each)
+
+weaker_below : (m n : ℕ) → m < n → (r : Reel) → HasUpTo m r → HasBelow n r
+weaker_below m n below r has blocks told =
+    let (dumps, are, each) = has blocks told in
+    (dumps, are, All-weaker (λ (d : Dump). d.number ≤ m) (λ (d : Dump). d.number < n) (λ d most. omega arith) dumps each)
+
+none_upto : (n : ℕ) (r : Reel) → HasDumps (λ dumps. dumps ≡ []) r → HasUpTo n r
+none_upto n r has blocks told =
+    let (dumps, are, none) = has blocks told in
+    (dumps, are, subst (All (λ (d : Dump). d.number ≤ n)) (sym none) (All-nil (λ (d : Dump). d.number ≤ n)))
+
+none_below : (n : ℕ) (r : Reel) → HasDumps (λ dumps. dumps ≡ []) r → HasBelow n r
+none_below n r has blocks told =
+    let (dumps, are, none) = has blocks told in
+    (dumps, are, subst (All (λ (d : Dump). d.number < n)) (sym none) (All-nil (λ (d : Dump). d.number < n)))
+
+-- ONE MORE REEL, whose serial is above those of the reels before it
+module _ (rs : List Reel) (r : Reel) (dumps : List Dump) (before : All (λ q. q.serial < r.serial) rs) (are : ForSome r.blocks (λ blocks. AreCompleted r.serial blocks dumps)) where
+  has_none : dumps ≡ [] → HasDumps (λ ds. ds ≡ []) r
+  has_none none blocks told = (dumps, are blocks told, none)
+
+  has_upto : (n : ℕ) → All (λ d. d.number ≤ n) dumps → HasUpTo n r
+  has_upto n each blocks told = (dumps, are blocks told, each)
+
+  -- the last dump stays, since no dump of the new reel has a greater number
+  stays : (serial : ℕ) (note : DumpNote) (last : IsLast rs serial note) → HasUpTo last.dump.number r → IsLast (rs ++ r ∷ []) serial note
+  stays serial note last upto =
+      let below : last.at.serial < r.serial = All-contains (λ (q : Reel). q.serial < r.serial) rs last.at before last.there in
+      let serial_is = last.serial_is in
+      record {
+        dump = last.dump;
+        rules = last.rules;
+        on = last.on;
+        note_is = last.note_is;
+        at = last.at;
+        there = Contains-append_left rs (r ∷ []) last.at last.there;
+        serial_is = serial_is;
+        completed = last.completed;
+        fits = last.fits;
+        greatest = All-push (HasUpTo last.dump.number) rs r last.greatest upto;
+        first = All-push (λ (q : Reel). q.serial < serial → HasBelow last.dump.number q) rs r last.first (λ lower. let no : ⊥ = omega arith in absurd no);
+      }
+
+  -- the last dump of the new reel is the last of all, where all before it are of lower numbers
+  comes : (d : Dump) → AreInRow r.serial 0 0 dumps → end_of dumps ≤ r.len → IsTop 0 0 dumps d → All (HasUpTo d.number) rs → All (HasBelow d.number) rs → IsLast (rs ++ r ∷ []) r.serial (note_of d)
+  comes d row fits is_top upto below =
+      let is = in_row r.serial 0 0 dumps row d is_top.there in
+      let end = is_top.end in
+      record {
+        dump = d;
+        rules = is.rules;
+        on = is.on;
+        note_is = refl;
+        at = r;
+        there = Contains-push rs r;
+        serial_is = refl;
+        completed = λ blocks told. (dumps, are blocks told, is_top.there);
+        fits = omega arith;
+        greatest = All-push (HasUpTo d.number) rs r upto (has_upto d.number is_top.most);
+        first = All-push (λ (q : Reel). q.serial < r.serial → HasBelow d.number q) rs r (λ k e within lower. below k e within) (λ lower. let no : ⊥ = omega arith in absurd no);
+      }
+
+  no_dumps : (last : Option (ℕ × DumpNote)) → dumps ≡ [] → LastOf rs last → LastOf (rs ++ r ∷ []) last
+  no_dumps None none is = All-push (HasDumps (λ ds. ds ≡ [])) rs r is (has_none none)
+  no_dumps (Some l) none is = stays l.0 l.1 is (none_upto is.dump.number r (has_none none))
+
+  one_last : (last : Option (ℕ × DumpNote)) (d : Dump) → AreInRow r.serial 0 0 dumps → end_of dumps ≤ r.len → IsTop 0 0 dumps d → LastOf rs last → LastOf (rs ++ r ∷ []) (later last r.serial (Some (note_of d)))
+  one_last None d row fits is_top is =
+      comes d row fits is_top
+      (All-weaker (HasDumps (λ ds. ds ≡ [])) (HasUpTo d.number) (λ q has. none_upto d.number q has) rs is)
+      (All-weaker (HasDumps (λ ds. ds ≡ [])) (HasBelow d.number) (λ q has. none_below d.number q has) rs is)
+  one_last (Some l) d row fits is_top is = by_number (cases_Bool (nat_lt l.1.number d.number))
+    where
+      noted : l.1.number ≡ is.dump.number
+      noted = ap (λ (n : DumpNote). n.number) is.note_is
+
+      by_number : (nat_lt l.1.number d.number ≡ true) ⊎ (nat_lt l.1.number d.number ≡ false) → LastOf (rs ++ r ∷ []) (later (Some l) r.serial (Some (note_of d)))
+      by_number (inl lower) =
+          let below : l.1.number < d.number = ltb-true l.1.number d.number lower in
+          let number = noted in
+          subst (LastOf (rs ++ r ∷ [])) (sym (cond-true (nat_lt l.1.number d.number) (Some (r.serial, note_of d)) (Some l) lower))
+          (comes d row fits is_top
+          (All-weaker (HasUpTo is.dump.number) (HasUpTo d.number) (λ q has. weaker_upto is.dump.number d.number (omega arith) q has) rs is.greatest)
+          (All-weaker (HasUpTo is.dump.number) (HasBelow d.number) (λ q has. weaker_below is.dump.number d.number (omega arith) q has) rs is.greatest))
+      by_number (inr not_lower) =
+          let most : d.number ≤ l.1.number = ltb-false l.1.number d.number not_lower in
+          let number = noted in
+          subst (LastOf (rs ++ r ∷ [])) (sym (cond-false (nat_lt l.1.number d.number) (Some (r.serial, note_of d)) (Some l) not_lower))
+          (stays l.0 l.1 is (has_upto is.dump.number (All-weaker (λ (e : Dump). e.number ≤ d.number) (λ (e : Dump). e.number ≤ is.dump.number) (λ e low. omega arith) dumps is_top.most)))
+
+  -- whichever of the two it is
+  one_more : (last : Option (ℕ × DumpNote)) (o : Option Dump) → AreInRow r.serial 0 0 dumps → (end_of dumps ≤ r.len) → slice_get dumps (length dumps - 1) ≡ o → LastOf rs last
+      → LastOf (rs ++ r ∷ []) (later last r.serial (option_map note_of o))
+  one_more None None row fits is last = no_dumps None (none_last dumps is) last
+  one_more (Some l) None row fits is last = no_dumps (Some l) (none_last dumps is) last
+  one_more last (Some d) row fits is l = one_last last d row fits (top r.serial 0 0 dumps row d is) l
+
+-- THE REELS of a rack, in rising serial
+serials_kept : (rs : List Reel) → map (λ (r : Reel). r.serial) (map unread rs) ≡ map (λ (r : Reel). r.serial) rs
+serials_kept [] = refl
+serials_kept (r ∷ rs) = ap (λ (ns : List ℕ). r.serial ∷ ns) (serials_kept rs)
+
+pub many_after_reads : (old new : Rack) → OnlyReads old new → length new.reels ≡ length old.reels
+many_after_reads old new only = sym (length-map new.reels unread) ∙ ap length only.reels ∙ length-map old.reels unread
+
+serial_at : (old new : Rack) (i serial : ℕ) (d : Reel) → OnlyReads old new → i < length old.reels → slice_get (map (λ (r : Reel). r.serial) new.reels) i ≡ Some serial → (get_or old.reels i d).serial ≡ serial
+serial_at old new i serial d only within is =
+    let same : map (λ (r : Reel). r.serial) new.reels ≡ map (λ (r : Reel). r.serial) old.reels =
+    sym (serials_kept new.reels) ∙ ap (map (λ (r : Reel). r.serial)) only.reels ∙ serials_kept old.reels in
+    sym (get_or-map (λ (r : Reel). r.serial) old.reels i d 0 within)
+    ∙ get_or_from_slice_get (map (λ (r : Reel). r.serial) old.reels) i serial 0 (ap (λ (ns : List ℕ). slice_get ns i) (sym same) ∙ is)
+
+rises : (rs : List Reel) → IsStrictlyIncreasing (map (λ (r : Reel). r.serial) rs) → (k i : ℕ) (d e : Reel) → k < i → i < length rs → (get_or rs k d).serial < (get_or rs i e).serial
+rises rs rising k i d e below within =
+    let long = length-map rs (λ (r : Reel). r.serial) in
+    let at_k = get_or-map (λ (r : Reel). r.serial) rs k d 0 (omega arith) in
+    let at_i = get_or-map (λ (r : Reel). r.serial) rs i e 0 within in
+    let less = AllPairs-from_increasing (map (λ (r : Reel). r.serial) rs) rising k i 0 below (omega arith) in
+    omega arith
+
+-- the reel at a place
+record IsAt (rs : List Reel) (i serial : ℕ) (r : Reel) : Type 0 where
+  here : get_or rs i r ≡ r
+  named : r.serial ≡ serial
+  found : reel serial rs ≡ Some r
+  before : All (λ q. q.serial < r.serial) (take i rs)
+  next : take (i + 1) rs ≡ take i rs ++ r ∷ []
+
+at_place : (rs : List Reel) (i : ℕ) → i < length rs → (r : Reel) × (get_or rs i r ≡ r)
+at_place [] i within = let no : ⊥ = omega (arith, within) in absurd no
+at_place (r ∷ rs) zero within = (r, refl)
+at_place (r ∷ rs) (suc i) within = let (q, is) = at_place rs i (omega (arith, within)) in (q, is)
+
+reel_at : (old new : Rack) (i serial : ℕ) → AreReels old.reels → OnlyReads old new → i < length old.reels → slice_get (map (λ (r : Reel). r.serial) new.reels) i ≡ Some serial → (r : Reel) × IsAt old.reels i serial r
+reel_at old new i serial are only within is =
+    let (r, here) = at_place old.reels i within in
+    let named : r.serial ≡ serial = ap (λ (q : Reel). q.serial) (sym here) ∙ serial_at old new i serial r only within is in
+    let at_r : (get_or old.reels i r).serial ≡ r.serial = ap (λ (q : Reel). q.serial) here in
+    let place = reel-first serial old.reels i within (λ d. serial_at old new i serial d only within is)
+    (λ k d below same. let less = rises old.reels are.rising k i d r below within in let no : ⊥ = omega (arith, same) in no) in
+    (r, record {
+      here = here;
+      named = named;
+      found = place.there r ∙ ap Some here;
+      before = λ k d inside.
+          let long = length-take-le i old.reels (omega arith) in
+          let low : k < i = omega (arith, inside) in
+          let less = rises old.reels are.rising k i d r low within in
+          let at_k = ap (λ (q : Reel). q.serial) (get_or-take i old.reels k d low) in
+          omega arith;
+      next = ap (λ (n : ℕ). take n old.reels) (let n : i + 1 ≡ suc i = omega arith in n) ∙ take-suc old.reels i r within ∙ ap (λ (q : Reel). take i old.reels ++ q ∷ []) here;
+    })
+
+-- THE REELS SEEN SO FAR
+pub record SeenSoFar (i : ℕ) (last : Option (ℕ × DumpNote)) (old new : Rack) : Type 0 where
+  pub last_is : LastOf (take i old.reels) last
+  pub read : IfSome last (λ l. HasReadDump l.0 l.1 old new)
+  pub only : OnlyReads old new
+  pub kept : new.read_faults ≡ old.read_faults
+
+pub nothing_seen : (rack : Rack) → SeenSoFar 0 None rack rack
+nothing_seen rack = record { last_is = All-nil (HasDumps (λ ds. ds ≡ [])); read = tt; only = nothing_read rack; kept = refl }
+
+-- the note that stays or comes was read
+still_read : (last : Option (ℕ × DumpNote)) (old mid new : Rack) → OnlyReads mid new → IfSome last (λ l. HasReadDump l.0 l.1 old mid) → IfSome last (λ l. HasReadDump l.0 l.1 old new)
+still_read None old mid new only has = tt
+still_read (Some l) old mid new only has = read_dump_then l.0 l.1 old mid new has only
+
+one_read : (last : Option (ℕ × DumpNote)) (serial : ℕ) (o : Option DumpNote) (old new : Rack) → IfSome last (λ l. HasReadDump l.0 l.1 old new) → IfSome o (λ n. HasReadDump serial n old new)
+    → IfSome (later last serial o) (λ l. HasReadDump l.0 l.1 old new)
+one_read None serial None old new has one = tt
+one_read (Some l) serial None old new has one = has
+one_read None serial (Some n) old new has one = one
+one_read (Some l) serial (Some n) old new has one = by_number (nat_lt l.1.number n.number)
+  where
+    by_number : (b : Bool) → IfSome (if b then Some (serial, n) else Some l) (λ k. HasReadDump k.0 k.1 old new)
+    by_number true = one
+    by_number false = has
+
+last_read : (ds : List Dump) (o : Option Dump) (serial : ℕ) (old new : Rack) → slice_get ds (length ds - 1) ≡ o → All (λ d. HasReadDump serial (note_of d) old new) ds
+    → IfSome (option_map note_of o) (λ n. HasReadDump serial n old new)
+last_read ds None serial old new is each = tt
+last_read ds (Some d) serial old new is each = All-contains (λ (e : Dump). HasReadDump serial (note_of e) old new) ds d each (within_list ds (length ds - 1) d is)
+  where
+    within_list : (es : List Dump) (i : ℕ) (e : Dump) → slice_get es i ≡ Some e → Contains es e
+    within_list [] i e at_i = let no : ⊥ = cc in absurd no
+    within_list (c ∷ cs) zero e at_i = (0, omega arith, same_Some c e at_i)
+    within_list (c ∷ cs) (suc i) e at_i = let (j, inside, at_j) = within_list cs i e at_i in (suc j, omega (arith, inside), at_j)
+
+pub one_more_reel : (i serial : ℕ) (last : Option (ℕ × DumpNote)) (notes items : List DumpNote) (o : Option DumpNote) (dumps : List Dump) (old mid new : Rack) → AreReels old.reels → SeenSoFar i last old mid
+    → i < length old.reels → slice_get (map (λ (r : Reel). r.serial) mid.reels) i ≡ Some serial → AreRead serial dumps mid new → OnlyReads mid new → new.read_faults ≡ mid.read_faults
+    → notes ≡ map note_of dumps → items ≡ notes → o ≡ slice_get items (length items - 1) → SeenSoFar (i + 1) (later last serial o) old new
+one_more_reel i serial last notes items o dumps old mid new are so within named read only kept notes_are items_are is =
+    let (r, at_i) = reel_at old mid i serial are so.only within named in
+    let o_is : o ≡ option_map note_of (slice_get dumps (length dumps - 1)) =
+    is ∙ ap (λ (ns : List DumpNote). slice_get ns (length ns - 1)) (items_are ∙ notes_are) ∙ last-map dumps in
+    let named_r : serial ≡ r.serial = sym at_i.named in
+    let blocks_are : blocks_of serial mid ≡ r.blocks = blocks_after_reads serial old mid so.only ∙ ap blocks_in at_i.found in
+    let completed : ForSome r.blocks (λ blocks. AreCompleted r.serial blocks dumps) =
+    λ blocks told. subst (λ (s : ℕ). AreCompleted s blocks dumps) named_r (read.completed blocks (blocks_are ∙ told)) in
+    let row : AreInRow r.serial 0 0 dumps = subst (λ (s : ℕ). AreInRow s 0 0 dumps) named_r read.row in
+    let fits : end_of dumps ≤ r.len = len-unread (reel serial mid.reels) (reel serial old.reels) (end_of dumps) (reel_after_reads serial old mid so.only) read.fits r at_i.found in
+    let seen : LastOf (take i old.reels ++ r ∷ []) (later last r.serial (option_map note_of (slice_get dumps (length dumps - 1)))) =
+    one_more (take i old.reels) r dumps at_i.before completed last (slice_get dumps (length dumps - 1)) row fits refl so.last_is in
+    let each : All (λ d. HasReadDump serial (note_of d) old new) dumps =
+    All-weaker (λ (d : Dump). HasReadDump serial (note_of d) mid new) (λ (d : Dump). HasReadDump serial (note_of d) old new)
+    (λ d has. then_read_dump serial (note_of d) old mid new so.only has) dumps read.read in
+    let one : IfSome (option_map note_of (slice_get dumps (length dumps - 1))) (λ n. HasReadDump serial n old new) =
+    last_read dumps (slice_get dumps (length dumps - 1)) serial old new refl each in
+    record {
+      last_is = subst (λ (rs : List Reel). LastOf rs (later last serial o)) (sym at_i.next)
+          (subst (λ (p : Option DumpNote). LastOf (take i old.reels ++ r ∷ []) (later last serial p)) (sym o_is)
+          (subst (λ (s : ℕ). LastOf (take i old.reels ++ r ∷ []) (later last s (option_map note_of (slice_get dumps (length dumps - 1))))) (sym named_r) seen));
+      read = one_read last serial o old new (still_read last old mid new only so.read) (subst (λ (p : Option DumpNote). IfSome p (λ n. HasReadDump serial n old new)) (sym o_is) one);
+      only = more_reads old mid new so.only only;
+      kept = kept ∙ so.kept;
+    }
+
+-- all of them
+pub last_of_all : (i : ℕ) (last : Option (ℕ × DumpNote)) (old new : Rack) → length old.reels ≤ i → SeenSoFar i last old new → LastOf old.reels last
+last_of_all i last old new le so = subst (λ (rs : List Reel). LastOf rs last) (take_all i old.reels le) so.last_is
+
+-- FAULTS: where all reels are mounted none is refused
+no_refusal : (o : Option Reel) (r : Reel) → o ≡ Some r → r.mounted ≡ true → refuses_unmount o ≡ None
+no_refusal o r is mounted = ap refuses_unmount is ∙ ap (λ (b : Bool). if b then None else Some tape.NotMounted) mounted
+
+pub not_refused : (i serial : ℕ) (last : Option (ℕ × DumpNote)) (old mid : Rack) → AreReels old.reels → All (λ r. r.mounted ≡ true) old.reels → SeenSoFar i last old mid → i < length old.reels
+    → slice_get (map (λ (r : Reel). r.serial) mid.reels) i ≡ Some serial → refuses_unmount (reel serial mid.reels) ≡ None
+not_refused i serial last old mid are mounted so within named =
+    let (r, at_i) = reel_at old mid i serial are so.only within named in
+    let up : r.mounted ≡ true = ap (λ (q : Reel). q.mounted) (sym at_i.here) ∙ mounted i r within in
+    refuses_after_reads serial old mid so.only ∙ no_refusal (reel serial old.reels) r at_i.found up
+
+pub only_these : {A : Type 0} (serial : ℕ) (fault : ShelfFault) (mid new : Rack) → refuses_unmount (reel serial mid.reels) ≡ None → ReadsReel {A = A} serial (Err fault) mid new
+    → (fault ≡ ReadFault) ⊎ (fault ≡ NoMemory)
+only_these serial NoTape mid new free reads = let wrong = reads.no_tape.0 refl in let no : ⊥ = cc in absurd no
+only_these serial NotMounted mid new free reads = let wrong = reads.not_mounted.0 refl in let no : ⊥ = cc in absurd no
+only_these serial ReadFault mid new free reads = inl refl
+only_these serial NoMemory mid new free reads = inr refl
+
+pub some_of : (rs : List Reel) (last : Option (ℕ × DumpNote)) → LastOf rs last → IfSome last (λ l. IsLast rs l.0 l.1)
+some_of rs None is = tt
+some_of rs (Some l) is = is
+
+pub none_of : (rs : List Reel) (last : Option (ℕ × DumpNote)) → LastOf rs last → IfNone last (HaveNone rs)
+none_of rs None is = is
+none_of rs (Some l) is = tt

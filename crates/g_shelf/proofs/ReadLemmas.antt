@@ -1,0 +1,241 @@
+-- What the readers of a reel hand on, and the dumps that were read so far.
+use Rattle.std.proofs.Common.{◌≡◌, ◌⊎◌, ◌↔◌, ℕ, suc, ◌+◌, ◌-◌, ◌^◌, ◌<◌, ◌≤◌, Bool, true, false, List, [], ◌∷◌, ◌++◌, length, Option, Some, None, Result, Ok, Err, refl, sym, ◌∙◌, ap, arith, slice_get, subst, map, All}
+use Rattle.std.specs.Prelude.{option_map}
+use Rattle.std.specs.Option.{ForSome}
+use Rattle.std.proofs.lemmas.List.{append-nil, append_assoc, length-map, map-append}
+use Rattle.std.proofs.lemmas.Option.{same_Some, slice_get-map}
+use Rattle.g_base.specs.Counts.{Rose}
+use Rattle.std.proofs.lemmas.List.Elements.{All-append, All-cons, All-nil, All-push, All-weaker}
+use Rattle.g_tape.specs.declared.fault.TapeFault.{TapeFault}
+use Rattle.g_tape.specs.declared.fault.TapeFault.TheVariants as tape
+use Rattle.g_tape.specs.Rack.{AreReels, Rack, reel, refuses_unmount}
+use Rattle.g_tape.specs.Reads.{HasRead, OnlyReads, blocks_of, unread}
+use Rattle.g_tape.specs.Reel.{IsReel, Reel}
+use Rattle.g_tape.proofs.ReadLemmas.{blocks_after_reads, is_reel, more_reads, nothing_read, read_then, reel_after_reads, then_read}
+use Rattle.g_incr.specs.declared.fault.ShelfFault.{ShelfFault}
+use Rattle.g_incr.specs.declared.fault.ShelfFault.TheVariants.{NoTape, NotMounted, ReadFault, NoMemory}
+use Rattle.g_incr.specs.declared.note.DumpDir.{DumpDir}
+use Rattle.g_incr.specs.declared.note.DumpNote.{DumpNote}
+use Rattle.g_incr.specs.Layout.{Dump, count_of, ends}
+use Rattle.g_incr.specs.Reading.{HasReadDump, IsFound, ReadsReel}
+use Rattle.g_shelf.specs.Completed.{AreCompleted, AreNext, IsNext, end_of, number_behind}
+use Rattle.g_shelf.specs.Found.{AreInRow, AreRead, Follows, note_of}
+use Rattle.g_shelf.specs.Next.{IsRead}
+use Rattle.g_shelf.proofs.OneLemmas.{same_next}
+use Rattle.g_shelf.proofs.RowLemmas.{end_then, number_then, row_then, top}
+
+-- a reel that neither refusal is due for is there
+stands_there : (o : Option Reel) → (refuses_unmount o ≡ Some tape.NoTape → ⊥) → (refuses_unmount o ≡ Some tape.NotMounted → ⊥) → (r : Reel) × (o ≡ Some r)
+stands_there None no_tape not_mounted = absurd (no_tape refl)
+stands_there (Some r) no_tape not_mounted = (r, refl)
+
+pub there : {A : Type 0} (serial : ℕ) (x : A) (old new : Rack) → ReadsReel serial (Ok x) old new → (r : Reel) × (reel serial old.reels ≡ Some r)
+there serial x old new reads =
+    stands_there (reel serial old.reels)
+    (λ is. let wrong = reads.no_tape.1 is in let no : ⊥ = cc in no)
+    (λ is. let wrong = reads.not_mounted.1 is in let no : ⊥ = cc in no)
+
+-- REFUSALS stay as they are through reads
+refuses-unread : (o : Option Reel) → refuses_unmount (option_map unread o) ≡ refuses_unmount o
+refuses-unread None = refl
+refuses-unread (Some r) = refl
+
+pub refuses_after_reads : (s : ℕ) (old new : Rack) → OnlyReads old new → refuses_unmount (reel s new.reels) ≡ refuses_unmount (reel s old.reels)
+refuses_after_reads s old new only = sym (refuses-unread (reel s new.reels)) ∙ ap refuses_unmount (reel_after_reads s old new only) ∙ refuses-unread (reel s old.reels)
+
+-- reads without a fault, and then a call of a reader whose faults are those of the whole
+and_reads : {A B : Type 0} (serial : ℕ) (a : Result A ShelfFault) (b : Result B ShelfFault) (old mid new : Rack) → OnlyReads old mid → mid.read_faults ≡ old.read_faults
+    → ((b ≡ Err NoTape) ↔ (a ≡ Err NoTape)) → ((b ≡ Err NotMounted) ↔ (a ≡ Err NotMounted)) → ((b ≡ Err ReadFault) ↔ (a ≡ Err ReadFault))
+    → ReadsReel serial a mid new → ReadsReel serial b old new
+and_reads serial a b old mid new only kept no_tape not_mounted fault reads =
+    let same = refuses_after_reads serial old mid only in
+    record {
+      only = more_reads old mid new only reads.only;
+      no_tape = (λ is. sym same ∙ reads.no_tape.0 (no_tape.0 is), λ is. no_tape.1 (reads.no_tape.1 (same ∙ is)));
+      not_mounted = (λ is. sym same ∙ reads.not_mounted.0 (not_mounted.0 is), λ is. not_mounted.1 (reads.not_mounted.1 (same ∙ is)));
+      kept = λ other. reads.kept (λ is. other (fault.1 is)) ∙ kept;
+      rose = λ is. subst (λ (n : ℕ). Rose n new.read_faults) kept (reads.rose (fault.0 is));
+    }
+
+both_ok : {A B : Type 0} (x : A) (y : B) (f : ShelfFault) → (Ok y ≡ Err f) ↔ (Ok x ≡ Err f)
+both_ok x y f = (λ is. absurd (let no : ⊥ = cc in no), λ is. absurd (let no : ⊥ = cc in no))
+
+pub went_on : {A B : Type 0} (serial : ℕ) (x : A) (y : B) (old mid new : Rack) → OnlyReads old mid → mid.read_faults ≡ old.read_faults → ReadsReel serial (Ok x) mid new → ReadsReel serial (Ok y) old new
+went_on serial x y old mid new only kept reads = and_reads serial (Ok x) (Ok y) old mid new only kept (both_ok x y NoTape) (both_ok x y NotMounted) (both_ok x y ReadFault) reads
+
+both_err : {A B : Type 0} (a : Result A ShelfFault) (b : Result B ShelfFault) (fault f : ShelfFault) → a ≡ Err fault → b ≡ Err fault → (b ≡ Err f) ↔ (a ≡ Err f)
+both_err a b fault f is_a is_b = (λ is. let same : fault ≡ f = cc in is_a ∙ ap Err same, λ is. let same : fault ≡ f = cc in is_b ∙ ap Err same)
+
+pub went_wrong : {A B : Type 0} (serial : ℕ) (fault : ShelfFault) (old mid new : Rack) → OnlyReads old mid → mid.read_faults ≡ old.read_faults
+    → ReadsReel {A = A} serial (Err fault) mid new → ReadsReel {A = B} serial (Err fault) old new
+went_wrong serial fault old mid new only kept reads =
+    and_reads serial (Err fault) (Err fault) old mid new only kept
+    (both_err (Err fault) (Err fault) fault NoTape refl refl) (both_err (Err fault) (Err fault) fault NotMounted refl refl) (both_err (Err fault) (Err fault) fault ReadFault refl refl) reads
+
+pub starved : {A B : Type 0} (serial : ℕ) (x : A) (old mid new : Rack) → OnlyReads old mid → mid.read_faults ≡ old.read_faults → ReadsReel serial (Ok x) mid new → ReadsReel {A = B} serial (Err NoMemory) old new
+starved serial x old mid new only kept reads =
+    and_reads serial (Ok x) (Err NoMemory) old mid new only kept
+    (λ is. absurd (let no : ⊥ = cc in no), λ is. absurd (let no : ⊥ = cc in no))
+    (λ is. absurd (let no : ⊥ = cc in no), λ is. absurd (let no : ⊥ = cc in no))
+    (λ is. absurd (let no : ⊥ = cc in no), λ is. absurd (let no : ⊥ = cc in no)) reads
+
+-- LENGTHS stay as they are through reads
+pub len-unread : (o p : Option Reel) (n : ℕ) → option_map unread o ≡ option_map unread p → ForSome o (λ r. n ≤ r.len) → ForSome p (λ r. n ≤ r.len)
+len-unread o None n same fits r is = absurd (let no : ⊥ = cc in no)
+len-unread None (Some p) n same fits r is = absurd (let no : ⊥ = cc in no)
+len-unread (Some q) (Some p) n same fits r is =
+    let here = fits q refl in
+    let lens : q.len ≡ p.len = ap (λ (x : Reel). x.len) (same_Some (unread q) (unread p) same) in
+    let len : p.len ≡ r.len = ap (λ (x : Reel). x.len) (same_Some p r is) in
+    omega arith
+
+-- WHAT WAS READ stays read
+pub read_dump_then : (serial : ℕ) (note : DumpNote) (first middle last : Rack) → HasReadDump serial note first middle → OnlyReads middle last → HasReadDump serial note first last
+read_dump_then serial note first middle last has only = record {
+  front = λ k least most. read_then serial k first middle last (has.front k least most) only;
+  mark = read_then serial (note.place + 1 + note.count) first middle last has.mark only;
+}
+
+pub then_read_dump : (serial : ℕ) (note : DumpNote) (first middle last : Rack) → OnlyReads first middle → HasReadDump serial note middle last → HasReadDump serial note first last
+then_read_dump serial note first middle last only has = record {
+  front = λ k least most. then_read serial k first middle last only (has.front k least most);
+  mark = then_read serial (note.place + 1 + note.count) first middle last only has.mark;
+}
+
+-- A DUMP OF TOO LOW A NUMBER isn't the next
+pub too_low : (serial at least : ℕ) (rack : Rack) (dir : DumpDir) → IsFound serial at rack dir → dir.note.number < least
+    → (blocks : List (List ℕ)) → blocks_of serial rack ≡ Some blocks → (d : Dump) → IsNext serial blocks at least d → ⊥
+too_low serial at least rack dir found low blocks told d next =
+    let one : IsNext serial blocks at 0 found.dump = record { on = found.on; place = found.at; number = omega arith; stands = found.stands blocks told } in
+    let other : IsNext serial blocks at 0 d = record { on = next.on; place = next.place; number = omega arith; stands = next.stands } in
+    let same : found.dump ≡ d = same_next serial blocks at 0 found.dump d one other in
+    let number : found.dump.number ≡ d.number = ap (λ (e : Dump). e.number) same in
+    let noted = found.dir_is.note.number in
+    let least_is = next.number in
+    omega arith
+
+-- a reel has at most 65,536 blocks
+pub ends_low : {A : Type 0} (serial at : ℕ) (x : A) (old new : Rack) (dir : DumpDir) → AreReels old.reels → ReadsReel serial (Ok x) old new → IsFound serial at old dir
+    → dir.note.place + dir.note.count + 2 ≤ 65536
+ends_low serial at x old new dir are reads found =
+    let (r, here) = there serial x old new reads in
+    let is = is_reel serial old.reels r are.each here in
+    let within = is.within in
+    let most = is.sized_most in
+    let fits = found.fits r here in
+    let place = found.dir_is.note.place in
+    let count = found.dir_is.note.count in
+    omega arith
+
+-- THE DUMPS READ SO FAR
+pub record SoFar (serial at least : ℕ) (notes : List DumpNote) (old new : Rack) : Type 0 where
+  pub dumps : List Dump
+  pub notes_are : notes ≡ map note_of dumps
+  pub row : AreInRow serial 0 0 dumps
+  pub end_is : at ≡ end_of dumps
+  pub least_is : least ≡ number_behind 0 dumps
+  pub completed : ForSome (blocks_of serial old) (λ blocks. (es : List Dump) → AreNext serial blocks at least es → AreNext serial blocks 0 0 (dumps ++ es))
+  pub fits : ForSome (reel serial old.reels) (λ r. end_of dumps ≤ r.len)
+  pub read : All (λ d. HasReadDump serial (note_of d) old new) dumps
+  pub only : OnlyReads old new
+  pub kept : new.read_faults ≡ old.read_faults
+  pub low : at ≤ 65536
+
+pub nothing_yet : (serial : ℕ) (rack : Rack) → SoFar serial 0 0 [] rack rack
+nothing_yet serial rack = record {
+  dumps = [];
+  notes_are = refl;
+  row = tt;
+  end_is = refl;
+  least_is = refl;
+  completed = λ blocks told es are. are;
+  fits = λ r is. omega arith;
+  read = All-nil (λ (d : Dump). HasReadDump serial (note_of d) rack rack);
+  only = nothing_read rack;
+  kept = refl;
+  low = omega arith;
+}
+
+pub one_more_dump : {A : Type 0} (serial at least : ℕ) (notes : List DumpNote) (old mid new : Rack) (x : A) (note : DumpNote) → SoFar serial at least notes old mid → ReadsReel serial (Ok x) mid new
+    → (d : Dump) × IsRead serial at least d mid new × (note ≡ note_of d) → note.place + note.count + 2 ≤ 65536
+    → SoFar serial (note.place + note.count + 2) (note.number + 1) (notes ++ note ∷ []) old new
+one_more_dump serial at least notes old mid new x note so reads (d, read, is) low =
+    let follows = read.follows in
+    let end_is = so.end_is in
+    let least_is = so.least_is in
+    let number = follows.number in
+    let place_is : note.place ≡ d.place = ap (λ (n : DumpNote). n.place) is in
+    let count_is : note.count ≡ count_of d = ap (λ (n : DumpNote). n.count) is in
+    let number_is : note.number ≡ d.number = ap (λ (n : DumpNote). n.number) is in
+    let ends_is : note.place + note.count + 2 ≡ ends d = omega arith in
+    let next_is : note.number + 1 ≡ d.number + 1 = omega arith in
+    let end : end_of (so.dumps ++ d ∷ []) ≡ ends d = end_then 0 so.dumps d in
+    record {
+      dumps = so.dumps ++ d ∷ [];
+      notes_are = ap (λ (ns : List DumpNote). ns ++ note ∷ []) so.notes_are ∙ ap (λ (n : DumpNote). map note_of so.dumps ++ n ∷ []) is ∙ sym (map-append note_of so.dumps (d ∷ []));
+      row = row_then serial 0 0 so.dumps d so.row (record { on = follows.on; place = follows.place ∙ end_is; number = omega arith; rules = follows.rules });
+      end_is = ends_is ∙ sym end;
+      least_is = next_is ∙ sym (number_then 0 so.dumps d);
+      completed = λ blocks told es are.
+          let told_mid = blocks_after_reads serial old mid so.only ∙ told in
+          let here : IsNext serial blocks at least d = record { on = follows.on; place = follows.place; number = number; stands = read.stands blocks told_mid } in
+          let rest : AreNext serial blocks (ends d) (d.number + 1) es =
+          subst (λ (n : ℕ). AreNext serial blocks (ends d) n es) next_is (subst (λ (n : ℕ). AreNext serial blocks n (note.number + 1) es) ends_is are) in
+          subst (AreNext serial blocks 0 0) (sym (append_assoc so.dumps (d ∷ []) es)) (so.completed blocks told (d ∷ es) (here, rest));
+      fits = λ r at_r.
+          let fits = len-unread (reel serial mid.reels) (reel serial old.reels) (ends d) (reel_after_reads serial old mid so.only) read.fits r at_r in
+          omega arith;
+      read = All-push (λ (e : Dump). HasReadDump serial (note_of e) old new) so.dumps d
+          (All-weaker (λ (e : Dump). HasReadDump serial (note_of e) old mid) (λ (e : Dump). HasReadDump serial (note_of e) old new)
+          (λ e has. read_dump_then serial (note_of e) old mid new has reads.only) so.dumps so.read)
+          (then_read_dump serial (note_of d) old mid new so.only read.read);
+      only = more_reads old mid new so.only reads.only;
+      kept = reads.kept (λ wrong. let no : ⊥ = cc in no) ∙ so.kept;
+      low = low;
+    }
+
+pub all_read : {A : Type 0} (serial at least : ℕ) (notes : List DumpNote) (old mid new : Rack) (x : A) → SoFar serial at least notes old mid → ReadsReel serial (Ok x) mid new
+    → ForSome (blocks_of serial mid) (λ blocks. (d : Dump) → IsNext serial blocks at least d → ⊥)
+    → (dumps : List Dump) × AreRead serial dumps old new × (notes ≡ map note_of dumps)
+all_read serial at least notes old mid new x so reads none = (
+  so.dumps,
+  record {
+    row = so.row;
+    completed = λ blocks told. record {
+      are = subst (AreNext serial blocks 0 0) (append-nil so.dumps) (so.completed blocks told [] (none blocks (blocks_after_reads serial old mid so.only ∙ told)));
+    };
+    fits = so.fits;
+    read = All-weaker (λ (e : Dump). HasReadDump serial (note_of e) old mid) (λ (e : Dump). HasReadDump serial (note_of e) old new)
+        (λ e has. read_dump_then serial (note_of e) old mid new has reads.only) so.dumps so.read;
+  },
+  so.notes_are,
+)
+
+-- THE LAST OF THEM
+pub last-map : (ds : List Dump) → slice_get (map note_of ds) (length (map note_of ds) - 1) ≡ option_map note_of (slice_get ds (length ds - 1))
+last-map ds = ap (λ (n : ℕ). slice_get (map note_of ds) (n - 1)) (length-map ds note_of) ∙ slice_get-map note_of ds (length ds - 1)
+
+end_at : (serial : ℕ) (ds : List Dump) (o : Option Dump) (note : DumpNote) → AreInRow serial 0 0 ds → slice_get ds (length ds - 1) ≡ o → Some note ≡ option_map note_of o
+    → note.place + note.count + 2 ≡ end_of ds
+end_at serial ds None note row last is = let no : ⊥ = cc in absurd no
+end_at serial ds (Some d) note row last is =
+    let same : note ≡ note_of d = same_Some note (note_of d) is in
+    let place : note.place ≡ d.place = ap (λ (n : DumpNote). n.place) same in
+    let count : note.count ≡ count_of d = ap (λ (n : DumpNote). n.count) same in
+    let end = (top serial 0 0 ds row d last).end in
+    omega arith
+
+pub noted_end : (serial : ℕ) (ds : List Dump) (notes items : List DumpNote) (note : DumpNote) → AreInRow serial 0 0 ds → notes ≡ map note_of ds → items ≡ notes
+    → Some note ≡ slice_get items (length items - 1) → note.place + note.count + 2 ≡ end_of ds
+noted_end serial ds notes items note row notes_are items_are is =
+    end_at serial ds (slice_get ds (length ds - 1)) note row refl
+    (is ∙ ap (λ (ns : List DumpNote). slice_get ns (length ns - 1)) (items_are ∙ notes_are) ∙ last-map ds)
+
+pub end_low : {A : Type 0} (serial : ℕ) (x : A) (dumps : List Dump) (old new : Rack) → AreReels old.reels → ReadsReel serial (Ok x) old new → AreRead serial dumps old new → end_of dumps ≤ 65536
+end_low serial x dumps old new are reads read =
+    let (r, here) = there serial x old new reads in
+    let is = is_reel serial old.reels r are.each here in
+    let within = is.within in
+    let most = is.sized_most in
+    let fits = read.fits r here in
+    omega arith

@@ -1,0 +1,56 @@
+//! Whether a file's copy on tape is still there.
+ghost use Rattle.std.specs.Prelude.{◌≡◌, ◌↔◌, ◌⊎◌, IfOk, IsTrue, List};
+ghost use Rattle.g_incr.specs.Layout.{Dump};
+ghost use Rattle.g_incr.specs.Reading.{ReadsReel};
+ghost use Rattle.g_shelf.specs.Found.{AreRead};
+ghost use Rattle.g_shelf.specs.Held.{AreHeld};
+ghost use Rattle.g_shelf.specs.Next.{AnyHolds, Holds};
+
+use crate::catalogue::completed;
+use g_entry::TapeCopy;
+use g_incr::{DumpNote, ShelfFault};
+use g_tape::Tapes;
+use std::alloc::Global;
+
+/// Whether all of so many blocks, from the copy's first one on, are content of completed dumps of its reel.
+pub fn find_copy<T: Tapes>(
+    alloc: Global,
+    tapes: &mut T,
+    copy: &TapeCopy,
+    blocks: u32,
+) -> Result<bool, ShelfFault>
+    ensures reads { ReadsReel copy.now.serial result (T.rack tapes.old) (T.rack tapes.new) }
+    ensures held { IfOk result (λ is. (dumps : List Dump)
+        × AreRead copy.now.serial dumps (T.rack tapes.old) (T.rack tapes.new) × (IsTrue is ↔ AreHeld dumps copy.now blocks)) }
+{
+    let notes = completed(alloc, tapes, copy.serial)?;
+    Ok(are_held(notes.as_slice(), copy.first, blocks))
+}
+
+/// Whether there are no such blocks, or the content of one of the dumps has all of them.
+fn are_held(notes: &[DumpNote], first: u32, blocks: u32) -> bool
+    ensures { IsTrue result ↔ ((blocks ≡ 0) ⊎ AnyHolds notes.now first blocks) }
+{
+    blocks == 0 || any_holds(notes, first, blocks)
+}
+
+/// Whether the content of one of the dumps has all these blocks.
+fn any_holds(notes: &[DumpNote], first: u32, blocks: u32) -> bool
+    ensures { IsTrue result ↔ AnyHolds notes.now first blocks }
+{
+    for note in notes {
+        if holds(note, first, blocks) {
+            return true;
+        }
+    }
+    false
+}
+
+/// Whether the dump's content has all these blocks. The sums are of 64 bits, since a copy may name any block.
+fn holds(note: &DumpNote, first: u32, blocks: u32) -> bool
+    ensures { IsTrue result ↔ Holds note.now first blocks }
+{
+    let content = u64::from(note.place) + 1 + u64::from(note.users) + u64::from(note.files);
+    let mark = u64::from(note.place) + 1 + u64::from(note.count);
+    content <= u64::from(first) && u64::from(first) + u64::from(blocks) <= mark
+}

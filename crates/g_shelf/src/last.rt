@@ -1,0 +1,61 @@
+//! The last dump of a rack.
+ghost use Rattle.std.specs.Prelude.{◌≡◌, ◌⊎◌, All, IfNone, IfOk, IfSome, OnErr, true};
+ghost use Rattle.std.specs.Option.{option_copied};
+ghost use Rattle.g_base.specs.Counts.{Rose};
+ghost use Rattle.g_tape.specs.Reads.{OnlyReads};
+ghost use Rattle.g_incr.specs.Reading.{HasReadDump};
+ghost use Rattle.g_shelf.specs.Last.{HaveNone, IsLast};
+ghost use Rattle.g_shelf.specs.Next.{later};
+
+use crate::catalogue::completed;
+use g_incr::{DumpNote, ShelfFault};
+use g_tape::Tapes;
+use std::alloc::Global;
+
+/// The completed dump of greatest number over all reels, with the serial of its reel; of equal numbers the one on the first
+/// reel. None exactly where no reel has a completed dump.
+pub fn last_dump<T: Tapes>(
+    alloc: Global,
+    tapes: &mut T,
+) -> Result<Option<(u32, DumpNote)>, ShelfFault>
+    requires mounted { All (λ r. r.mounted ≡ true) (T.rack tapes.old).reels }
+    ensures some { IfOk result (λ found. IfSome found (λ last. IsLast (T.rack tapes.old).reels last.0 last.1)) }
+    ensures none { IfOk result (λ found. IfNone found (HaveNone (T.rack tapes.old).reels)) }
+    ensures read { IfOk result (λ found. IfSome found (λ last. HasReadDump last.0 last.1 (T.rack tapes.old) (T.rack tapes.new))) }
+    ensures only { OnlyReads (T.rack tapes.old) (T.rack tapes.new) }
+    ensures faults { OnErr result ((result ≡ Err ShelfFault.ReadFault) ⊎ (result ≡ Err ShelfFault.NoMemory)) }
+    ensures kept { (result ≡ Err ShelfFault.ReadFault → ⊥) → (T.rack tapes.new).read_faults ≡ (T.rack tapes.old).read_faults }
+    ensures rose { result ≡ Err ShelfFault.ReadFault → Rose (T.rack tapes.old).read_faults (T.rack tapes.new).read_faults }
+{
+    let mut last = None;
+    for i in 0..tapes.reels() {
+        let serial = tapes.serial(i);
+        // In a loop the proof reads the arms of a `match`, and not what `?` returns.
+        match completed(alloc, tapes, serial) {
+            Ok(notes) => last = later(last, serial, notes.last()),
+            Err(fault) => return Err(fault),
+        }
+    }
+    Ok(last)
+}
+
+/// The dump of greater number of these two, the first where they are equal.
+fn later(
+    last: Option<(u32, DumpNote)>,
+    serial: u32,
+    note: Option<&DumpNote>,
+) -> Option<(u32, DumpNote)>
+    ensures { result ≡ later last serial (option_copied note.entry) }
+{
+    match (last, note) {
+        (last, None) => last,
+        (None, Some(note)) => Some((serial, *note)),
+        (Some((before, least)), Some(note)) => {
+            if least.number < note.number {
+                Some((serial, *note))
+            } else {
+                Some((before, least))
+            }
+        }
+    }
+}

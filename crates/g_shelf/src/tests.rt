@@ -1,0 +1,48 @@
+//! Each call with ample memory, over a dump without files.
+use super::*;
+use g_entry::TapeCopy;
+use g_incr::DumpNote;
+use g_tape::{MemoryTapes, Tapes};
+use std::test::Fail;
+
+#[test]
+fn ample(rt: HostRuntime) -> Result<(), Fail> {
+    let alloc = rt.alloc();
+    let mut labels = Vec::with_capacity(alloc, 1)?;
+    labels.push((9, 4))?;
+    let mut tapes = MemoryTapes::new(alloc, labels)?;
+    tapes.mount(9)?;
+    let mut header = [0; 512];
+    header[..34].copy_from_slice(
+        b"G3HD\0\x02\0\0\0\0\0\0\0\x07\0\0\0\0\0\0\0\x02\0\x02\0\0\0\0\0\0\0\0\0\x01",
+    );
+    let mut master = [0; 512];
+    master[..8].copy_from_slice(b"\x01\x06MASTER");
+    let mut macros = [0; 512];
+    macros[..8].copy_from_slice(b"\x01\x06MACROS");
+    let mut mark = [0; 512];
+    mark[..20].copy_from_slice(b"G3MK\0\0\0\0\0\0\0\x07\0\0\0\0\0\0\0\x02");
+    mark[511] = 2;
+    tapes.write(9, 0, &header)?;
+    tapes.write(9, 1, &master)?;
+    tapes.write(9, 2, &macros)?;
+    tapes.write(9, 3, &mark)?;
+    let note = DumpNote {
+        number: 7,
+        place: 0,
+        count: 2,
+        users: 2,
+        files: 0,
+        next_stamp: 1,
+    };
+    let notes = completed(alloc, &mut tapes, 9)?;
+    assert!(rt; notes.as_slice() == [note].as_slice());
+    assert_eq!(rt; end_of(alloc, &mut tapes, 9), Ok(4));
+    assert_eq!(rt; last_dump(alloc, &mut tapes), Ok(Some((9, note))));
+    let copy = TapeCopy {
+        serial: 9,
+        first: 3,
+    };
+    assert_eq!(rt; find_copy(alloc, &mut tapes, &copy, 1), Ok(false));
+    Ok(())
+}
