@@ -1,13 +1,15 @@
 -- Blocks that are held lie in the content of one dump, whose note tells it.
 use Rattle.std.proofs.Common.{◌≡◌, ◌⊎◌, ◌↔◌, ℕ, zero, suc, ◌+◌, ◌-◌, ◌<◌, ◌≤◌, Bool, List, [], ◌∷◌, length, refl, sym, ◌∙◌, ap, arith, inl, inr, map, subst}
 use Rattle.std.specs.Prelude.{Contains, IsTrue}
+use Rattle.std.specs.Option.{ForSome}
 use Rattle.std.proofs.lemmas.Bool.{cases_eq, cases_lt}
 use Rattle.g_entry.specs.declared.file_rec.TapeCopy.{TapeCopy}
+use Rattle.g_tape.specs.Rack.{Rack, reel}
 use Rattle.g_incr.specs.declared.note.DumpNote.{DumpNote}
 use Rattle.g_incr.specs.Layout.{Dump, content_at, count_of, ends}
-use Rattle.g_shelf.specs.Found.{AreInRow, note_of}
+use Rattle.g_shelf.specs.Found.{AreInRow, AreRead, note_of}
 use Rattle.g_shelf.specs.Held.{AreHeld, AreInOne, HeldInOne, IsContentBlock}
-use Rattle.g_shelf.specs.Next.{AnyHolds, Holds}
+use Rattle.g_shelf.specs.Next.{AnyHolds}
 use Rattle.g_shelf.proofs.RowLemmas.{apart_in_row, in_row, row_of}
 
 -- the block behind a dump's content is its mark, and so content of none
@@ -84,3 +86,13 @@ copy_found ds notes items copy blocks is row notes_are items_are tests = (λ yes
           there = subst (λ (ns : List DumpNote). Contains ns (note_of lies.dump)) (sym (items_are ∙ notes_are)) (has_note ds lies.dump lies.there);
           holds = record { from = omega arith; to = omega arith };
         })
+
+-- and what is held lies on the reel
+pub held_fits : (copy : TapeCopy) (blocks : ℕ) (dumps : List Dump) (old new : Rack) → AreRead copy.serial dumps old new → 0 < blocks → AreHeld dumps copy blocks
+    → ForSome (reel copy.serial old.reels) (λ r. copy.first + blocks ≤ r.len)
+held_fits copy blocks dumps old new read some held r here =
+    let lies = held_in_row copy.serial dumps copy blocks read.row some held in
+    let to = lies.to in
+    let most = (in_row copy.serial 0 0 dumps read.row lies.dump lies.there).most in
+    let fits = read.fits r here in
+    omega arith

@@ -1,6 +1,6 @@
 -- The last dump of the reels seen so far.
-use Rattle.std.proofs.Common.{◌≡◌, ◌⊎◌, ℕ, zero, suc, ◌+◌, ◌-◌, ◌<◌, ◌≤◌, Bool, true, false, List, [], ◌∷◌, ◌++◌, length, get_or, take, Option, Some, None, Result, Ok, Err, refl, sym, ◌∙◌, ap, arith, slice_get, subst, inl, inr, map, All}
-use Rattle.std.specs.Prelude.{Contains, IfNone, IfSome, MatchOption, nat_lt, option_map, if◌then◌else◌}
+use Rattle.std.proofs.Common.{◌≡◌, ◌⊎◌, ℕ, zero, suc, ◌+◌, ◌-◌, ◌<◌, ◌≤◌, Bool, true, false, List, [], ◌∷◌, ◌++◌, length, get_or, take, Option, Some, None, Err, refl, sym, ◌∙◌, ap, arith, slice_get, subst, inl, inr, map, All}
+use Rattle.std.specs.Prelude.{Contains, IfNone, IfSome, MatchOption, find, nat_lt, not, option_map, if◌then◌else◌}
 use Rattle.std.specs.Option.{ForSome}
 use Rattle.std.specs.List.Sorted.{IsStrictlyIncreasing}
 use Rattle.std.proofs.Math.Seq.{take-suc}
@@ -10,8 +10,7 @@ use Rattle.std.proofs.lemmas.List.Elements.{All-contains, All-nil, All-push, All
 use Rattle.std.proofs.lemmas.List.Kept.{AllPairs-from_increasing}
 use Rattle.std.proofs.lemmas.Option.{get_or_from_slice_get, same_Some}
 use Rattle.g_tape.specs.declared.fault.TapeFault.TheVariants as tape
-use Rattle.g_tape.specs.Place.{IsPlaceOf}
-use Rattle.g_tape.specs.Rack.{AreReels, Rack, reel, refuses_unmount}
+use Rattle.g_tape.specs.Rack.{AreReels, Rack, is_mounted, reel, refuses_unmount}
 use Rattle.g_tape.specs.Reads.{OnlyReads, blocks_in, blocks_of, unread}
 use Rattle.g_tape.specs.Reel.{Reel}
 use Rattle.g_tape.proofs.PlaceLemmas.{reel-first}
@@ -19,11 +18,11 @@ use Rattle.g_tape.proofs.ReadLemmas.{blocks_after_reads, more_reads, nothing_rea
 use Rattle.g_incr.specs.declared.fault.ShelfFault.{ShelfFault}
 use Rattle.g_incr.specs.declared.fault.ShelfFault.TheVariants.{NoTape, NotMounted, ReadFault, NoMemory}
 use Rattle.g_incr.specs.declared.note.DumpNote.{DumpNote}
-use Rattle.g_incr.specs.Layout.{Dump, IsDump, count_of, ends}
+use Rattle.g_incr.specs.Layout.{Dump}
 use Rattle.g_incr.specs.Reading.{HasReadDump, ReadsReel}
 use Rattle.g_shelf.specs.Completed.{AreCompleted, end_of}
 use Rattle.g_shelf.specs.Found.{AreInRow, AreRead, note_of}
-use Rattle.g_shelf.specs.Last.{HasBelow, HasDumps, HasUpTo, HaveNone, IsLast}
+use Rattle.g_shelf.specs.Last.{HasBelow, HasDumps, HasUpTo, HaveNone, IsLast, first_unmounted}
 use Rattle.g_shelf.specs.Next.{later}
 use Rattle.g_shelf.proofs.ReadLemmas.{last-map, len-unread, read_dump_then, refuses_after_reads, then_read_dump}
 use Rattle.g_shelf.proofs.RowLemmas.{IsTop, in_row, none_last, top}
@@ -176,19 +175,21 @@ reel_at old new i serial are only within is =
     let named : r.serial ≡ serial = ap (λ (q : Reel). q.serial) (sym here) ∙ serial_at old new i serial r only within is in
     let at_r : (get_or old.reels i r).serial ≡ r.serial = ap (λ (q : Reel). q.serial) here in
     let place = reel-first serial old.reels i within (λ d. serial_at old new i serial d only within is)
-    (λ k d below same. let less = rises old.reels are.rising k i d r below within in let no : ⊥ = omega (arith, same) in no) in
-    (r, record {
-      here = here;
-      named = named;
-      found = place.there r ∙ ap Some here;
-      before = λ k d inside.
-          let long = length-take-le i old.reels (omega arith) in
-          let low : k < i = omega (arith, inside) in
-          let less = rises old.reels are.rising k i d r low within in
-          let at_k = ap (λ (q : Reel). q.serial) (get_or-take i old.reels k d low) in
-          omega arith;
-      next = ap (λ (n : ℕ). take n old.reels) (let n : i + 1 ≡ suc i = omega arith in n) ∙ take-suc old.reels i r within ∙ ap (λ (q : Reel). take i old.reels ++ q ∷ []) here;
-    })
+    (λ k d below same. let less = rises old.reels are.rising k i d r below within in let no : ⊥ = omega (arith, same) in no) in (
+      r,
+      record {
+        here = here;
+        named = named;
+        found = place.there r ∙ ap Some here;
+        before = λ k d inside.
+            let long = length-take-le i old.reels (omega arith) in
+            let low : k < i = omega (arith, inside) in
+            let less = rises old.reels are.rising k i d r low within in
+            let at_k = ap (λ (q : Reel). q.serial) (get_or-take i old.reels k d low) in
+            omega arith;
+        next = ap (λ (n : ℕ). take n old.reels) (let n : i + 1 ≡ suc i = omega arith in n) ∙ take-suc old.reels i r within ∙ ap (λ (q : Reel). take i old.reels ++ q ∷ []) here;
+      },
+    )
 
 -- THE REELS SEEN SO FAR
 pub record SeenSoFar (i : ℕ) (last : Option (ℕ × DumpNote)) (old new : Rack) : Type 0 where
@@ -284,3 +285,49 @@ some_of rs (Some l) is = is
 pub none_of : (rs : List Reel) (last : Option (ℕ × DumpNote)) → LastOf rs last → IfNone last (HaveNone rs)
 none_of rs None is = is
 none_of rs (Some l) is = tt
+
+-- THE FIRST REEL that isn't mounted
+none_down : (rs : List Reel) → All (λ r. r.mounted ≡ true) rs → find (λ (r : Reel). not r.mounted) rs ≡ None
+none_down [] up = refl
+none_down (r ∷ rs) up =
+    ap (λ (b : Bool). if not b then Some r else find (λ (q : Reel). not q.mounted) rs) (up 0 r (omega arith)) ∙ none_down rs (λ k d within. up (suc k) d (omega (arith, within)))
+
+first_down : (rs : List Reel) (i : ℕ) (r : Reel) → All (λ q. q.mounted ≡ true) (take i rs) → i < length rs → get_or rs i r ≡ r → r.mounted ≡ false → find (λ (q : Reel). not q.mounted) rs ≡ Some r
+first_down [] i r up within here down = let no : ⊥ = omega (arith, within) in absurd no
+first_down (q ∷ qs) zero r up within here down =
+    ap (λ (b : Bool). if not b then Some q else find (λ (p : Reel). not p.mounted) qs) (ap (λ (p : Reel). p.mounted) here ∙ down) ∙ ap Some here
+first_down (q ∷ qs) (suc i) r up within here down =
+    ap (λ (b : Bool). if not b then Some q else find (λ (p : Reel). not p.mounted) qs) (up 0 q (omega arith))
+    ∙ first_down qs i r (λ k d inside. up (suc k) d (omega (arith, inside))) (omega (arith, within)) here down
+
+-- the reels below i are mounted
+pub AreUp : ℕ → Rack → Type 0
+AreUp i rack = All (λ r. r.mounted ≡ true) (take i rack.reels)
+
+pub none_up : (rack : Rack) → AreUp 0 rack
+unfolding AreUp
+none_up rack = All-nil (λ (r : Reel). r.mounted ≡ true)
+
+mounted_at : (rack : Rack) (i serial : ℕ) (b : Bool) (r : Reel) → IsAt rack.reels i serial r → is_mounted (reel serial rack.reels) ≡ b → r.mounted ≡ b
+mounted_at rack i serial b r at_i is = ap is_mounted (sym at_i.found) ∙ is
+
+pub one_up : (rack : Rack) (i serial : ℕ) → AreReels rack.reels → AreUp i rack → i < length rack.reels → slice_get (map (λ (r : Reel). r.serial) rack.reels) i ≡ Some serial
+    → is_mounted (reel serial rack.reels) ≡ true → AreUp (i + 1) rack
+unfolding AreUp
+one_up rack i serial are up within named is =
+    let (r, at_i) = reel_at rack rack i serial are (nothing_read rack) within named in
+    subst (All (λ (q : Reel). q.mounted ≡ true)) (sym at_i.next) (All-push (λ (q : Reel). q.mounted ≡ true) (take i rack.reels) r up (mounted_at rack i serial true r at_i is))
+
+pub one_down : (rack : Rack) (i serial : ℕ) → AreReels rack.reels → AreUp i rack → i < length rack.reels → slice_get (map (λ (r : Reel). r.serial) rack.reels) i ≡ Some serial
+    → is_mounted (reel serial rack.reels) ≡ false → Some serial ≡ first_unmounted rack.reels
+unfolding AreUp
+one_down rack i serial are up within named is =
+    let (r, at_i) = reel_at rack rack i serial are (nothing_read rack) within named in
+    ap Some (sym at_i.named) ∙ sym (ap (option_map (λ (q : Reel). q.serial)) (first_down rack.reels i r up within at_i.here (mounted_at rack i serial false r at_i is)))
+
+pub all_up : (rack : Rack) (i : ℕ) → length rack.reels ≤ i → AreUp i rack → All (λ r. r.mounted ≡ true) rack.reels
+unfolding AreUp
+all_up rack i le up = subst (All (λ (r : Reel). r.mounted ≡ true)) (take_all i rack.reels le) up
+
+pub none_is_down : (rack : Rack) (i : ℕ) → length rack.reels ≤ i → AreUp i rack → None ≡ first_unmounted rack.reels
+none_is_down rack i le up = sym (ap (option_map (λ (q : Reel). q.serial)) (none_down rack.reels (all_up rack i le up)))

@@ -1,16 +1,15 @@
 -- What the readers of a reel hand on, and the dumps that were read so far.
-use Rattle.std.proofs.Common.{◌≡◌, ◌⊎◌, ◌↔◌, ℕ, suc, ◌+◌, ◌-◌, ◌^◌, ◌<◌, ◌≤◌, Bool, true, false, List, [], ◌∷◌, ◌++◌, length, Option, Some, None, Result, Ok, Err, refl, sym, ◌∙◌, ap, arith, slice_get, subst, map, All}
+use Rattle.std.proofs.Common.{◌≡◌, ◌↔◌, ℕ, ◌+◌, ◌-◌, ◌<◌, ◌≤◌, List, [], ◌∷◌, ◌++◌, length, Option, Some, None, Result, Ok, Err, refl, sym, ◌∙◌, ap, arith, slice_get, subst, map, All}
 use Rattle.std.specs.Prelude.{option_map}
 use Rattle.std.specs.Option.{ForSome}
 use Rattle.std.proofs.lemmas.List.{append-nil, append_assoc, length-map, map-append}
 use Rattle.std.proofs.lemmas.Option.{same_Some, slice_get-map}
 use Rattle.g_base.specs.Counts.{Rose}
-use Rattle.std.proofs.lemmas.List.Elements.{All-append, All-cons, All-nil, All-push, All-weaker}
-use Rattle.g_tape.specs.declared.fault.TapeFault.{TapeFault}
+use Rattle.std.proofs.lemmas.List.Elements.{All-nil, All-push, All-weaker}
 use Rattle.g_tape.specs.declared.fault.TapeFault.TheVariants as tape
 use Rattle.g_tape.specs.Rack.{AreReels, Rack, reel, refuses_unmount}
-use Rattle.g_tape.specs.Reads.{HasRead, OnlyReads, blocks_of, unread}
-use Rattle.g_tape.specs.Reel.{IsReel, Reel}
+use Rattle.g_tape.specs.Reads.{OnlyReads, blocks_of, unread}
+use Rattle.g_tape.specs.Reel.{Reel}
 use Rattle.g_tape.proofs.ReadLemmas.{blocks_after_reads, is_reel, more_reads, nothing_read, read_then, reel_after_reads, then_read}
 use Rattle.g_incr.specs.declared.fault.ShelfFault.{ShelfFault}
 use Rattle.g_incr.specs.declared.fault.ShelfFault.TheVariants.{NoTape, NotMounted, ReadFault, NoMemory}
@@ -18,8 +17,8 @@ use Rattle.g_incr.specs.declared.note.DumpDir.{DumpDir}
 use Rattle.g_incr.specs.declared.note.DumpNote.{DumpNote}
 use Rattle.g_incr.specs.Layout.{Dump, count_of, ends}
 use Rattle.g_incr.specs.Reading.{HasReadDump, IsFound, ReadsReel}
-use Rattle.g_shelf.specs.Completed.{AreCompleted, AreNext, IsNext, end_of, number_behind}
-use Rattle.g_shelf.specs.Found.{AreInRow, AreRead, Follows, note_of}
+use Rattle.g_shelf.specs.Completed.{AreNext, IsNext, end_of, number_behind}
+use Rattle.g_shelf.specs.Found.{AreInRow, AreRead, note_of}
 use Rattle.g_shelf.specs.Next.{IsRead}
 use Rattle.g_shelf.proofs.OneLemmas.{same_next}
 use Rattle.g_shelf.proofs.RowLemmas.{end_then, number_then, row_then, top}

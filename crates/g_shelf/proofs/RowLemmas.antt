@@ -1,9 +1,9 @@
 -- Dumps in a row: where they lie, one more behind them, and the last of them.
-use Rattle.std.proofs.Common.{◌≡◌, ◌⊎◌, ℕ, zero, suc, ◌+◌, ◌-◌, ◌<◌, ◌≤◌, List, [], ◌∷◌, ◌++◌, length, Option, Some, None, refl, sym, ◌∙◌, ap, arith, slice_get, subst, inl, inr, All}
+use Rattle.std.proofs.Common.{◌≡◌, ◌⊎◌, ℕ, zero, suc, ◌+◌, ◌-◌, ◌≤◌, List, [], ◌∷◌, ◌++◌, length, Some, None, refl, sym, ◌∙◌, ap, arith, slice_get, subst, inl, inr, All}
 use Rattle.std.specs.Prelude.{Contains}
-use Rattle.std.proofs.lemmas.List.Elements.{All-cons, All-nil, All-weaker}
+use Rattle.std.proofs.lemmas.List.Elements.{All-cons, All-nil}
 use Rattle.std.proofs.lemmas.Option.{same_Some}
-use Rattle.g_incr.specs.Layout.{Dump, IsDump, count_of, ends}
+use Rattle.g_incr.specs.Layout.{Dump, IsDump, ends}
 use Rattle.g_shelf.specs.Completed.{AreNext, end_behind, number_behind}
 use Rattle.g_shelf.specs.Found.{AreInRow, Follows}
 

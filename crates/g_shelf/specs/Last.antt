@@ -1,11 +1,15 @@
 -- THE LAST DUMP of a rack: the completed one of greatest number over its reels.
-use Rattle.std.specs.Prelude.{◌≡◌, ℕ, ◌<◌, ◌≤◌, List, [], All, Contains}
+use Rattle.std.specs.Prelude.{◌≡◌, ℕ, ◌<◌, ◌≤◌, not, List, [], All, Contains, find, Option, option_map}
 use Rattle.std.specs.Option.{ForSome}
 use Rattle.g_tape.specs.Reel.{Reel}
 use Rattle.g_incr.specs.declared.note.DumpNote.{DumpNote}
 use Rattle.g_incr.specs.Layout.{Dump, IsDump, ends}
 use Rattle.g_shelf.specs.Completed.{AreCompleted}
 use Rattle.g_shelf.specs.Found.{note_of}
+
+-- the serial of the first reel that isn't mounted
+abbrev pub first_unmounted : List Reel → Option ℕ
+first_unmounted reels = option_map (λ r. r.serial) (find (λ r. not r.mounted) reels)
 
 -- the completed dumps of the reel, where it tells what it holds, are such
 abbrev pub HasDumps : (List Dump → Type 0) → Reel → Type 0

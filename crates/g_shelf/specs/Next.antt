@@ -1,5 +1,5 @@
 -- The steps of the readers: the next dump of a reel, the later of two, and whether one holds a file's blocks.
-use Rattle.std.specs.Prelude.{◌≡◌, ℕ, ◌+◌, ◌≤◌, nat_lt, List, Contains, Option, Some, None, if◌then◌else◌}
+use Rattle.std.specs.Prelude.{ℕ, ◌+◌, ◌≤◌, nat_lt, List, Contains, Option, Some, None, if◌then◌else◌}
 use Rattle.std.specs.Option.{ForSome}
 use Rattle.g_tape.specs.Rack.{Rack, reel}
 use Rattle.g_tape.specs.Reads.{blocks_of}

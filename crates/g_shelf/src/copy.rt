@@ -1,5 +1,7 @@
 //! Whether a file's copy on tape is still there.
-ghost use Rattle.std.specs.Prelude.{◌≡◌, ◌↔◌, ◌⊎◌, IfOk, IsTrue, List};
+ghost use Rattle.std.specs.Prelude.{◌≡◌, ◌↔◌, ◌⊎◌, ◌+◌, ◌<◌, ◌≤◌, IfOk, IsTrue, List};
+ghost use Rattle.std.specs.Option.{ForSome};
+ghost use Rattle.g_tape.specs.Rack.{reel};
 ghost use Rattle.g_incr.specs.Layout.{Dump};
 ghost use Rattle.g_incr.specs.Reading.{ReadsReel};
 ghost use Rattle.g_shelf.specs.Found.{AreRead};
@@ -22,6 +24,8 @@ pub fn find_copy<T: Tapes>(
     ensures reads { ReadsReel copy.now.serial result (T.rack tapes.old) (T.rack tapes.new) }
     ensures held { IfOk result (λ is. (dumps : List Dump)
         × AreRead copy.now.serial dumps (T.rack tapes.old) (T.rack tapes.new) × (IsTrue is ↔ AreHeld dumps copy.now blocks)) }
+    ensures fits { IfOk result (λ is. IsTrue is → 0 < blocks →
+        ForSome (reel copy.now.serial (T.rack tapes.old).reels) (λ r. copy.now.first + blocks ≤ r.len)) }
 {
     let notes = completed(alloc, tapes, copy.serial)?;
     Ok(are_held(notes.as_slice(), copy.first, blocks))

@@ -4,13 +4,27 @@ ghost use Rattle.std.specs.Option.{option_copied};
 ghost use Rattle.g_base.specs.Counts.{Rose};
 ghost use Rattle.g_tape.specs.Reads.{OnlyReads};
 ghost use Rattle.g_incr.specs.Reading.{HasReadDump};
-ghost use Rattle.g_shelf.specs.Last.{HaveNone, IsLast};
+ghost use Rattle.g_shelf.specs.Last.{HaveNone, IsLast, first_unmounted};
 ghost use Rattle.g_shelf.specs.Next.{later};
 
 use crate::catalogue::completed;
 use g_incr::{DumpNote, ShelfFault};
 use g_tape::Tapes;
 use std::alloc::Global;
+
+/// The serial of the first reel that isn't mounted, if there is one.
+pub fn first_unmounted<T: Tapes>(tapes: &T) -> Option<u32>
+    ensures first { result ≡ first_unmounted (T.rack tapes.now).reels }
+    ensures all { IfNone result (All (λ r. r.mounted ≡ true) (T.rack tapes.now).reels) }
+{
+    for i in 0..tapes.reels() {
+        let serial = tapes.serial(i);
+        if !tapes.mounted(serial) {
+            return Some(serial);
+        }
+    }
+    None
+}
 
 /// The completed dump of greatest number over all reels, with the serial of its reel; of equal numbers the one on the first
 /// reel. None exactly where no reel has a completed dump.

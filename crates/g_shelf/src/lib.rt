@@ -7,7 +7,7 @@ mod last;
 
 pub use catalogue::{completed, end_of};
 pub use copy::find_copy;
-pub use last::last_dump;
+pub use last::{first_unmounted, last_dump};
 
 #[cfg(test)]
 mod tests;

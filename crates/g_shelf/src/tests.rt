@@ -1,7 +1,7 @@
 //! Each call with ample memory, over a dump without files.
 use super::*;
 use g_entry::TapeCopy;
-use g_incr::DumpNote;
+use g_incr::{DumpNote, ShelfFault};
 use g_tape::{MemoryTapes, Tapes};
 use std::test::Fail;
 
@@ -38,7 +38,11 @@ fn ample(rt: HostRuntime) -> Result<(), Fail> {
     let notes = completed(alloc, &mut tapes, 9)?;
     assert!(rt; notes.as_slice() == [note].as_slice());
     assert_eq!(rt; end_of(alloc, &mut tapes, 9), Ok(4));
-    assert_eq!(rt; last_dump(alloc, &mut tapes), Ok(Some((9, note))));
+    let last = match first_unmounted(&tapes) {
+        None => last_dump(alloc, &mut tapes),
+        Some(_) => Err(ShelfFault::NotMounted),
+    };
+    assert_eq!(rt; last, Ok(Some((9, note))));
     let copy = TapeCopy {
         serial: 9,
         first: 3,

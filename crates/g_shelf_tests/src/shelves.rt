@@ -1,7 +1,7 @@
 //! Reels of dumps that were written out by hand: which of them are completed, which is the last, and what they hold.
 use g_entry::TapeCopy;
 use g_incr::{DumpNote, ShelfFault};
-use g_shelf::{completed, end_of, find_copy, last_dump};
+use g_shelf::{completed, end_of, find_copy, first_unmounted, last_dump};
 use g_tape::{MemoryTapes, Tapes};
 use std::alloc::Global;
 use std::process::Abort;
@@ -101,6 +101,17 @@ fn reels_with(rt: &impl Abort, alloc: Global, dumps: &[(u8, u8, u8)]) -> Result<
     Ok(tapes)
 }
 
+/// The last dump, where all reels are mounted.
+fn last(
+    alloc: Global,
+    tapes: &mut MemoryTapes,
+) -> Result<Option<(u32, DumpNote)>, ShelfFault> {
+    match first_unmounted(tapes) {
+        None => last_dump(alloc, tapes),
+        Some(_) => Err(ShelfFault::NotMounted),
+    }
+}
+
 fn note(number: u64, place: u32) -> DumpNote {
     DumpNote {
         number,
@@ -155,7 +166,7 @@ fn a_dump_without_its_mark_ends_the_list(rt: HostRuntime) -> Result<(), Fail> {
 fn the_last_dump_over_reels(rt: HostRuntime) -> Result<(), Fail> {
     let alloc = rt.alloc();
     let mut tapes = two_reels(alloc)?;
-    assert_eq!(rt; last_dump(alloc, &mut tapes), Ok(None));
+    assert_eq!(rt; last(alloc, &mut tapes), Ok(None));
     // A dump's reel, first block and number, and then the last one.
     let rows = [
         ((2, 0, 3), (2, note(3, 0))),
@@ -163,9 +174,9 @@ fn the_last_dump_over_reels(rt: HostRuntime) -> Result<(), Fail> {
         ((1, 6, 3), (1, note(3, 6))),
         ((2, 6, 4), (2, note(4, 6))),
     ];
-    for ((serial, place, number), last) in rows {
+    for ((serial, place, number), want) in rows {
         put_dump(&rt, &mut tapes, serial, place, number)?;
-        assert_eq!(rt; last_dump(alloc, &mut tapes), Ok(Some(last)));
+        assert_eq!(rt; last(alloc, &mut tapes), Ok(Some(want)));
     }
     Ok(())
 }
@@ -214,7 +225,9 @@ fn reels_that_are_not_read(rt: HostRuntime) -> Result<(), Fail> {
     tapes.fail_reads([8].to_vec(alloc)?);
     assert_eq!(rt; end_of(alloc, &mut tapes, 1), Err(ShelfFault::ReadFault));
     assert_eq!(rt; end_of(alloc, &mut tapes, 1), Ok(12));
+    assert_eq!(rt; first_unmounted(&tapes), None);
     tapes.unmount(2)?;
+    assert_eq!(rt; first_unmounted(&tapes), Some(2));
     assert_eq!(rt; end_of(alloc, &mut tapes, 2), Err(ShelfFault::NotMounted));
     assert_eq!(rt; end_of(alloc, &mut tapes, 3), Err(ShelfFault::NoTape));
     Ok(())
