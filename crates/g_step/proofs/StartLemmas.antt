@@ -1,17 +1,17 @@
 -- When a start adopts a dump, and what it holds then.
-use Rattle.std.proofs.Common.{◌≡◌, ℕ, List, [], ◌∷◌, ◌++◌, Option, Some, None, refl, sym, ◌∙◌, ap, subst, inl, inr}
-use Rattle.std.specs.Prelude.{◌⊎◌, ◌==◌, ◌&&◌, ◌||◌, Bool, true, false, not, find, is_some, map, Result, Ok, Err, option_map, unwrap_or, if◌then◌else◌}
+use Rattle.std.proofs.Common.{◌≡◌, ℕ, List, [], ◌∷◌, ◌++◌, Option, Some, None, refl, ◌∙◌, ap, subst}
+use Rattle.std.specs.Prelude.{◌==◌, ◌&&◌, Bool, true, false, find, is_some, map, Result, Ok, option_map, unwrap_or, if◌then◌else◌}
 use Rattle.std.specs.Ordering.{nat_cmp}
 use Rattle.std.specs.FinMap.{FinMap, empty, entries, entries_sorted, from_sorted, get, get-entries}
-use Rattle.std.proofs.lemmas.Bool.{cases_Bool, cond-false, cond-true, eq-eqb}
+use Rattle.std.proofs.lemmas.Bool.{eq-eqb}
 use Rattle.g_entry.specs.declared.head.Intent.{Intent}
 use Rattle.g_plain.specs.declared.faults.StoreFault.{StoreFault}
 use Rattle.g_plain.specs.declared.faults.StoreFault.TheVariants.{MountFirst, Stopped, TapeReadFault}
 use Rattle.g_plain.specs.PlainStep.{first_fault}
 use Rattle.g_step.specs.State.{State, Dumped, Holding, OpenDump, Place, ReelRow, Shelved, is_mounted, mounted_in, reel_at, with_reel}
-use Rattle.g_step.specs.CallStep.{Outcome, Cut, DiscRead, Plain, TapeRead, down, no_longer_kept}
+use Rattle.g_step.specs.CallStep.{Outcome, DiscRead, Plain, down, no_longer_kept}
 use Rattle.g_step.specs.DumpSteps.{Event, marked, noted_copy, shelved, with_noted, with_shelved}
-use Rattle.g_step.specs.Rising.{StartStep, Starts, adopted, coming_up, dump_adopted, is_completed, is_intended, other_copy, stands_on, start_refuses, unmounted_reel, fault_from}
+use Rattle.g_step.specs.Rising.{Starts, adopted, coming_up, dump_adopted, is_completed, is_intended, other_copy, stands_on, start_refuses, unmounted_reel, fault_from}
 use Rattle.g_step.specs.StartLaws.{HasItsDump, OwnsNoted, StartsAdopt, intent_of}
 use Rattle.g_step.proofs.OneLemmas.{AllOwn, own_all}
 use Rattle.g_step.proofs.ProcessLemmas.{found_with}

@@ -1,6 +1,6 @@
 -- THE LAWS OF START: a dump is adopted just where its reel has it whole, and what is held then is what the closing commit of the
 -- dump would have left.
-use Rattle.std.specs.Prelude.{◌≡◌, ℕ, Bool, true, Option, Some, None, Result, Ok}
+use Rattle.std.specs.Prelude.{◌≡◌, ℕ, true, Option, Some, None, Result, Ok}
 use Rattle.std.specs.FinMap.{empty, get}
 use Rattle.g_entry.specs.declared.head.Intent.{Intent}
 use Rattle.g_plain.specs.declared.faults.StoreFault.{StoreFault}
