@@ -1,6 +1,6 @@
 -- The tree of records that are gathered user by user.
-use Rattle.std.proofs.Common.{◌≡◌, ◌≢◌, ℕ, zero, suc, ◌<◌, List, [], ◌∷◌, ◌++◌, get_or, length, Option, Some, None, refl, sym, ◌∙◌, ap, arith, subst, inl, inr}
-use Rattle.std.specs.Prelude.{◌⊎◌, ◌==◌, All, Contains, map}
+use Rattle.std.proofs.Common.{◌≡◌, ◌≢◌, ℕ, zero, suc, ◌<◌, List, [], ◌∷◌, ◌++◌, get_or, length, Option, Some, None, refl, sym, ◌∙◌, ap, arith, subst}
+use Rattle.std.specs.Prelude.{◌==◌, Contains, map}
 use Rattle.std.specs.Option.{option_map}
 use Rattle.std.specs.FinMap.{FinMap, find, from_entries, same_map, get-from_entries}
 use Rattle.std.proofs.lemmas.Bool.{eq-eqb}
@@ -19,10 +19,9 @@ use Rattle.g_tree.specs.Records.{IsRecords, file_row_of, full_of, user_row_of}
 use Rattle.g_tree.proofs.ListLemmas.{map_of_map}
 use Rattle.g_tree.proofs.MapLemmas.{AreApart, found_itself, found_one, keyed}
 use Rattle.g_tree.proofs.RecordLemmas.{get_file, names_apart, nobody}
-use Rattle.g_contents.specs.Contents.{Contents, copied_rec, recs_in, with_copies}
+use Rattle.g_contents.specs.Contents.{copied_rec, recs_in}
 use Rattle.g_incr.specs.Layout.{Dump}
-use Rattle.g_incr.specs.Plan.{numbered_from}
-use Rattle.g_state.specs.Meaning.{DumpedDirectory, Gathers, HasDirectory, files_in, files_of}
+use Rattle.g_state.specs.Meaning.{Gathers, files_in, files_of}
 use Rattle.g_state.specs.Reading.{tree_by}
 use Rattle.g_state.specs.Up.{IsKept, unnumbered}
 use Rattle.g_state.proofs.DirectoryLemmas.{copied_files, copied_recs}
