@@ -17,8 +17,10 @@ impl<D: Disc> Online<D> {
     /// count of failed reads.
     pub fn bytes(&mut self, alloc: Global, number: u16) -> Result<Text, OnlineFault>
         requires live { self.old.live ≡ true }
-        requires online { (f : File) × Contains self.old.contents.files f × (f.rec.number ≡ number) × (f.online ≡ true) }
-        ensures text { IfOk result (λ text. (f : File) → Contains self.old.contents.files f → f.rec.number ≡ number
+        requires online { (f : File) × Contains self.old.contents.files f
+            × (f.rec.number ≡ number) × (f.online ≡ true) }
+        ensures text { IfOk result (λ text. (f : File) → Contains self.old.contents.files f
+            → f.rec.number ≡ number
             → ForSome f.bytes (λ bytes. text ≡ bytes) × (length text ≡ f.rec.len)) }
         ensures same { self.new ≡ record self.old { disc = self.new.disc } }
         ensures reads { ReadsByCause (result ≡ Err OnlineFault.ReadFault) self.old.disc self.new.disc }

@@ -41,9 +41,10 @@ impl<D: Disc> Online<D> {
         ensures tied { IfOk result (λ o. IsTied o) }
         ensures none { IfErr result (λ e. e.0 ≡ OnlineFault.NoFilestore
             → ForSome (D.state disc).held (λ blocks. (c : Contents) → Holds blocks c → ⊥)) }
-        ensures refused { IfErr result (λ e. ReadsByCause (e.0 ≡ OnlineFault.ReadFault) (D.state disc) (D.state e.1)) }
-        ensures only { IfErr result (λ e. (e.0 ≡ OnlineFault.ReadFault) ⊎ (e.0 ≡ OnlineFault.NoFilestore)
-            ⊎ (e.0 ≡ OnlineFault.NoMemory)) }
+        ensures refused { IfErr result (λ e. ReadsByCause (e.0 ≡ OnlineFault.ReadFault)
+            (D.state disc) (D.state e.1)) }
+        ensures only { IfErr result (λ e. (e.0 ≡ OnlineFault.ReadFault)
+            ⊎ (e.0 ≡ OnlineFault.NoFilestore) ⊎ (e.0 ≡ OnlineFault.NoMemory)) }
     {
         let (slots, dirs) = match find(alloc, &mut disc) {
             Ok(found) => found,
@@ -77,11 +78,14 @@ impl<D: Disc> Online<D> {
     ) -> Result<Online<D>, (OnlineFault, D)>
         requires low { 2177 < (D.state disc).size }
         requires high { (D.state disc).size ≤ 1_048_576 }
-        requires rules { KeepsRules (first_contents (is_some (D.state disc).held) head tree.users tree.files) }
-        ensures ok { IfOk result (HasMade (first_contents (is_some (D.state disc).held) head tree.users tree.files) (D.state disc)) }
+        requires rules { KeepsRules
+            (first_contents (is_some (D.state disc).held) head tree.users tree.files) }
+        ensures ok { IfOk result (HasMade
+            (first_contents (is_some (D.state disc).held) head tree.users tree.files) (D.state disc)) }
         ensures tied { IfOk result (λ o. IsTied o) }
         ensures stopped { IfErr result (λ e. e.0 ≡ OnlineFault.Stopped
-            → Changes (AsBeforeOr (first_contents (is_some (D.state disc).held) head tree.users tree.files))
+            → Changes (AsBeforeOr
+            (first_contents (is_some (D.state disc).held) head tree.users tree.files))
             (D.state disc).held (D.state e.1).held) }
         ensures same { IfErr result (λ e. e.0 ≢ OnlineFault.Stopped
             → ((D.state e.1).held ≡ (D.state disc).held) × ((D.state e.1).writes ≡ (D.state disc).writes)) }
@@ -124,8 +128,10 @@ fn begin<D: Disc>(
 ) -> Online<D>
     requires low { 2177 < (D.state disc).size }
     requires high { (D.state disc).size ≤ 1_048_576 }
-    requires agreed { IsAgreed (D.state disc) (memory_of slots pages pool tree.users tree.files head online.items) }
-    ensures facts { result ≡ facts_of (D.state disc) (memory_of slots pages pool tree.users tree.files head online.items) }
+    requires agreed { IsAgreed (D.state disc)
+        (memory_of slots pages pool tree.users tree.files head online.items) }
+    ensures facts { result ≡ facts_of (D.state disc)
+        (memory_of slots pages pool tree.users tree.files head online.items) }
     ensures tied { IsTied result }
 {
     let _size = disc.size();

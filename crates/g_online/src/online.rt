@@ -100,7 +100,8 @@ impl<D: Disc> Online<D> {
     /// Whether the bytes of the file of this number are on the disc.
     pub fn is_online(&self, number: u16) -> bool
         requires live { self.now.live ≡ true }
-        ensures { (f : File) → Contains self.now.contents.files f → f.rec.number ≡ number → result ≡ f.online }
+        ensures { (f : File) → Contains self.now.contents.files f → f.rec.number ≡ number
+            → result ≡ f.online }
     {
         copy_of(&self.online, number).is_some()
     }
@@ -115,7 +116,9 @@ impl<D: Disc> Online<D> {
     /// Sets the fuse of the disc, so that its `k`-th next write fails.
     pub fn arm(&mut self, k: u32)
         requires { 1 ≤ k }
-        ensures armed { self.new ≡ record self.old { disc = record self.old.disc { fuse = Some k; arms = one_more self.old.disc.arms } } }
+        ensures armed { self.new ≡ record self.old {
+          disc = record self.old.disc { fuse = Some k; arms = one_more self.old.disc.arms };
+        } }
         ensures tied { IsTied self.new }
     {
         self.disc.arm(k);
