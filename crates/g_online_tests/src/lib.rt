@@ -1,0 +1,5 @@
+//! Tests of the filestore that is online, over discs in memory.
+#![tactic(auto)]
+
+#[cfg(test)]
+mod begin;
