@@ -1,0 +1,320 @@
+//! Lines, good and bad, with what they say and with their places taken from the grammar by hand.
+use g_lang::{Command, Label, LangFault, Line, Test, is_input_line, label_of, parse_line};
+use g_lines::Texts;
+use std::test::Fail;
+
+/// A line with a verb: its text, its label, the verb, the parameters, and the text from the first parameter on.
+type Verb = (
+    &'static [u8],
+    Option<&'static [u8]>,
+    &'static [u8],
+    &'static [&'static [u8]],
+    &'static [u8],
+);
+
+const VERBS: [Verb; 21] = [
+    (b"COPY", None, b"COPY", &[], b""),
+    (b"  COPY  ", None, b"COPY", &[], b""),
+    (
+        b"12 DISPLAY A (B,C) , D ",
+        Some(b"12"),
+        b"DISPLAY",
+        &[b"A (B,C)", b"D"],
+        b"A (B,C) , D",
+    ),
+    (b"1   X   A", Some(b"1"), b"X", &[b"A"], b"A"),
+    (b"M ,X", None, b"M", &[b"", b"X"], b",X"),
+    (b"M STOP,", None, b"M", &[b"STOP", b""], b"STOP,"),
+    (b"DISPLAY ,", None, b"DISPLAY", &[b"", b""], b","),
+    (b"DISPLAY ,X ", None, b"DISPLAY", &[b"", b"X"], b",X"),
+    (b"IFX A", None, b"IFX", &[b"A"], b"A"),
+    (b"IF-", None, b"IF-", &[], b""),
+    (b"GOTO1", None, b"GOTO1", &[], b""),
+    (
+        b"X ((,),(,)),B",
+        None,
+        b"X",
+        &[b"((,),(,))", b"B"],
+        b"((,),(,)),B",
+    ),
+    (
+        b"ABCDEFGHIJKL ~ !",
+        None,
+        b"ABCDEFGHIJKL",
+        &[b"~ !"],
+        b"~ !",
+    ),
+    (
+        b"123456789ABC INPUT f",
+        Some(b"123456789ABC"),
+        b"INPUT",
+        &[b"f"],
+        b"f",
+    ),
+    (b"COPY   A , B  ", None, b"COPY", &[b"A", b"B"], b"A , B"),
+    (b"COPY F, ", None, b"COPY", &[b"F", b""], b"F,"),
+    (b"COPY A,,B", None, b"COPY", &[b"A", b"", b"B"], b"A,,B"),
+    (
+        b"COPY (A,B),C",
+        None,
+        b"COPY",
+        &[b"(A,B)", b"C"],
+        b"(A,B),C",
+    ),
+    (b"COPY a~", None, b"COPY", &[b"a~"], b"a~"),
+    (b"A-", None, b"A-", &[], b""),
+    (b"1 INPUT", Some(b"1"), b"INPUT", &[], b""),
+];
+
+/// A line with a condition: its text, whether NOT stands there, the first letter of the test, a parameter's letter,
+/// and a text.
+type Condition = (&'static [u8], bool, u8, u8, &'static [u8]);
+
+const CONDITIONS: [Condition; 9] = [
+    (b"IF COMMAND ERROR,X", false, b'C', 0, b""),
+    (b"IF NOT FAILED,X", true, b'F', 0, b""),
+    (b"IF HALTED(),X", false, b'H', 0, b""),
+    (b"IF HALTED(OK, DONE),X", false, b'H', 0, b"OK, DONE"),
+    (b"IF NOT DELETED( A ),X", true, b'D', 0, b" A "),
+    (b"IF PRESENT(%A),X", false, b'P', b'A', b""),
+    (b"IF ABSENT(%X),X", false, b'A', b'X', b""),
+    (b"IF NOT STRING(%A)=(X,Y),GOTO 1", true, b'S', b'A', b"X,Y"),
+    (b"1 IF STRING(%B)=(),X", false, b'S', b'B', b""),
+];
+
+const BAD: [(&[u8], usize); 59] = [
+    (b"IF FAILED,INPUT F", 15),
+    (b"WHENEVER FAILED,INPUT", 21),
+    (b"WHENEVER FAILED,WHENEVER FAILED,INPUT F", 37),
+    (b"IF  FAILED,X", 3),
+    (b"IF FAILED, X", 10),
+    (b"IF FAILED ,X", 9),
+    (b"IF NOT  FAILED,X", 7),
+    (b"IF NOT NOT FAILED,X", 7),
+    (b"IF COMMAND  ERROR,X", 11),
+    (b"IF COMMAND ERROR", 16),
+    (b"IF PRESENT( %A),X", 11),
+    (b"IF PRESENT(%Y),X", 12),
+    (b"IF STRING(%A) =(X),Y", 13),
+    (b"IF HALTED(A(B)),X", 11),
+    (b"IF FAILED,", 10),
+    (b"IF FAILED,1 X", 10),
+    (b"IF FAILED,GOTO", 14),
+    (b"IF", 2),
+    (b"WHENEVER", 8),
+    (b"GOTO", 4),
+    (b"GOTO ", 5),
+    (b"GOTO  1", 5),
+    (b"GOTO A", 5),
+    (b"GOTO 1 2", 7),
+    (b"12 GOTO 12 X", 11),
+    (b"GOTO 1234567890123", 17),
+    (b"1234567890123", 12),
+    (b"1,2", 1),
+    (b"12monkeys", 2),
+    (b"  copy", 2),
+    (b"ABCDEFGHIJKLM", 12),
+    (b"COPY\t", 4),
+    (b"DISPLAY \x7f", 8),
+    (b"COPY (F", 7),
+    (b"A)", 1),
+    (b"X A)", 3),
+    (b"X (A))", 5),
+    (b"-", 0),
+    (b"copy", 0),
+    (b"-A", 0),
+    (b"1a", 1),
+    (b"A_B", 1),
+    (b"1 2", 2),
+    (b"IF ", 3),
+    (b"12 monkeys", 3),
+    (b"GOTO X", 5),
+    (b"COPY )(", 5),
+    (b"COPY F)", 6),
+    (b"IF NOTFAILED,X", 6),
+    (b"INPUT F(", 8),
+    (b"IF FAILED", 9),
+    (b"COPY ((A)", 9),
+    (b"IF PRESENT(A),X", 11),
+    (b"IF FAILED,IF", 12),
+    (b"IF STRING(%A)= (A),X", 14),
+    (b"IF FAILED,INPUT", 15),
+    (b"WHENEVER FAILED,X,Y", 17),
+    (b"IF FAILED,IF FAILED,INPUT F", 25),
+    (b"WHENEVER FAILED,IF FAILED,INPUT F", 31),
+];
+
+/// Whether the verb of a line is INPUT.
+const INPUTS: [(&[u8], bool); 11] = [
+    (b"INPUT F", true),
+    (b" INPUT", true),
+    (b"1 INPUT F", true),
+    (b"INPUT f,G", true),
+    (b"INPUT F(", false),
+    (b"INPUTX F", false),
+    (b"COPY INPUT", false),
+    (b"IF FAILED,X", false),
+    (b"GOTO 1", false),
+    (b"1", false),
+    (b"", false),
+];
+
+/// The label of a line, also of one that isn't in the language.
+const LABELS: [(&[u8], Option<&[u8]>); 7] = [
+    (b"12 monkeys", Some(b"12")),
+    (b"  1A", Some(b"1A")),
+    (b"1,2", None),
+    (b"A 1", None),
+    (b"1234567890123 X", None),
+    (b" ", None),
+    (b"", None),
+];
+
+/// Whether a command is this verb with these parameters.
+fn is_verb(command: &Command, verb: &[u8], params: &[&[u8]], rest: &[u8]) -> bool {
+    let Command::Verb {
+        name,
+        params: told,
+        rest: all,
+    } = command
+    else {
+        return false;
+    };
+    name.as_slice() == verb && all.as_slice() == rest && are_params(told, params)
+}
+
+fn are_params(told: &Texts, params: &[&[u8]]) -> bool {
+    if told.len() != params.len() {
+        return false;
+    }
+    for (told, param) in told.rows().iter().zip(params.iter()) {
+        if told.as_slice() != *param {
+            return false;
+        }
+    }
+    true
+}
+
+/// Whether a label is this one.
+fn is_label(told: Option<&Label>, label: Option<&[u8]>) -> bool {
+    match (told, label) {
+        (Some(told), Some(label)) => told.as_slice() == label,
+        (None, None) => true,
+        _ => false,
+    }
+}
+
+#[test]
+fn verbs(rt: HostRuntime) -> Result<(), Fail> {
+    for (text, label, verb, params, rest) in VERBS {
+        let line = parse_line(rt.alloc(), text)?;
+        assert!(rt; is_label(line.label.as_ref(), label), "label of {text:?}");
+        assert!(rt;
+            is_verb(&line.command, verb, params, rest),
+            "verb of {text:?}"
+        );
+    }
+    Ok(())
+}
+
+/// A test by its first letter, with its parameter's letter and its text.
+fn told(test: &Test) -> (u8, u8, &[u8]) {
+    match test {
+        Test::CommandError => (b'C', 0, &[]),
+        Test::Failed => (b'F', 0, &[]),
+        Test::Halted(text) => (b'H', 0, text.as_slice()),
+        Test::Deleted(text) => (b'D', 0, text.as_slice()),
+        Test::Present(letter) => (b'P', *letter, &[]),
+        Test::Absent(letter) => (b'A', *letter, &[]),
+        Test::Equals { letter, text } => (b'S', *letter, text.as_slice()),
+    }
+}
+
+/// Whether a command stands behind this condition.
+fn is_behind(command: &Command, is_negated: bool, kind: u8, letter: u8, plain: &[u8]) -> bool {
+    let Command::If { cond, .. } = command else {
+        return false;
+    };
+    let (told_kind, told_letter, told_plain) = told(&cond.test);
+    cond.negated == is_negated && told_kind == kind && told_letter == letter && told_plain == plain
+}
+
+#[test]
+fn conditions(rt: HostRuntime) -> Result<(), Fail> {
+    for (text, is_negated, kind, letter, plain) in CONDITIONS {
+        let line = parse_line(rt.alloc(), text)?;
+        assert!(rt;
+            is_behind(&line.command, is_negated, kind, letter, plain),
+            "{text:?}"
+        );
+    }
+    Ok(())
+}
+
+/// A command that waits is kept as it stands, up to the spaces behind it.
+#[test]
+fn waiting_commands(rt: HostRuntime) -> Result<(), Fail> {
+    let Line { label: _, command } = parse_line(
+        rt.alloc(),
+        b"WHENEVER FAILED,WHENEVER FAILED,X  Y  ",
+    )?;
+    let Command::Whenever { cond, command } = command else {
+        panic!(rt; "another command");
+    };
+    assert!(rt; !cond.negated);
+    assert!(rt; command.as_slice() == b"WHENEVER FAILED,X  Y".as_slice());
+    Ok(())
+}
+
+/// A label alone, GOTO with its label, and a blank line.
+#[test]
+fn lines_without_verbs(rt: HostRuntime) -> Result<(), Fail> {
+    for (text, label) in [
+        (b"1 ".as_slice(), Some(b"1".as_slice())),
+        (b"  ", None),
+        (b"", None),
+    ] {
+        let line = parse_line(rt.alloc(), text)?;
+        assert!(rt; is_label(line.label.as_ref(), label), "label of {text:?}");
+        assert!(rt;
+            matches!(&line.command, Command::Blank),
+            "command of {text:?}"
+        );
+    }
+    Ok(())
+}
+
+#[test]
+fn goto(rt: HostRuntime) -> Result<(), Fail> {
+    let Line { label: _, command } = parse_line(rt.alloc(), b"7 GOTO 9-ER ")?;
+    let Command::Goto(label) = command else {
+        panic!(rt; "another command");
+    };
+    assert!(rt; label.as_slice() == b"9-ER".as_slice());
+    Ok(())
+}
+
+#[test]
+fn bad_lines(rt: HostRuntime) {
+    for (text, place) in BAD {
+        let is_bad = match parse_line(rt.alloc(), text) {
+            Err(LangFault::BadLine(told)) => told == place,
+            _ => false,
+        };
+        assert!(rt; is_bad, "at {text:?}");
+    }
+}
+
+#[test]
+fn inputs(rt: HostRuntime) {
+    for (text, is_input) in INPUTS {
+        assert!(rt; is_input_line(text) == is_input, "at {text:?}");
+    }
+}
+
+#[test]
+fn labels(rt: HostRuntime) {
+    for (text, label) in LABELS {
+        assert!(rt; is_label(label_of(text).as_ref(), label), "of {text:?}");
+    }
+}
