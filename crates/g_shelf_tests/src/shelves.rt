@@ -102,10 +102,7 @@ fn reels_with(rt: &impl Abort, alloc: Global, dumps: &[(u8, u8, u8)]) -> Result<
 }
 
 /// The last dump, where all reels are mounted.
-fn last(
-    alloc: Global,
-    tapes: &mut MemoryTapes,
-) -> Result<Option<(u32, DumpNote)>, ShelfFault> {
+fn last(alloc: Global, tapes: &mut MemoryTapes) -> Result<Option<(u32, DumpNote)>, ShelfFault> {
     match first_unmounted(tapes) {
         None => last_dump(alloc, tapes),
         Some(_) => Err(ShelfFault::NotMounted),
