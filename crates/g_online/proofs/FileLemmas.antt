@@ -43,7 +43,7 @@ all_contents P held (r ∷ files) online all =
     All-cons (λ (f : File). P f.rec) _ (contents_files held files online) (subst P (sym (rec_of held _)) (All-head P r files all)) (all_contents P held files online (All-tail P r files all))
 
 -- the number of a file is one of the numbers
-number_there : (held : Option (List (List ℕ))) (files : List FileRec) (online : List (ℕ × DiscCopy)) (f : File) → Contains (contents_files held files online) f
+pub number_there : (held : Option (List (List ℕ))) (files : List FileRec) (online : List (ℕ × DiscCopy)) (f : File) → Contains (contents_files held files online) f
     → Contains (map (λ (r : FileRec). r.number) files) f.rec.number
 number_there held [] online f (k, inside, is) = let no : ⊥ = omega (arith, inside) in absurd no
 number_there held (r ∷ files) online f (zero, inside, is) = (0, omega arith, ap (λ (s : FileRec). s.number) (sym (rec_of held _)) ∙ ap (λ (g : File). g.rec.number) is)

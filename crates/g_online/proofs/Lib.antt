@@ -22,3 +22,5 @@ pub mod FileLemmas
 pub mod EraseLemmas
 pub mod ForgetLemmas
 pub mod BegunLemmas
+pub mod OffLemmas
+pub mod UnloadLemmas

@@ -5,3 +5,4 @@ pub mod Kept
 pub mod Committed
 pub mod Copies
 pub mod Begun
+pub mod Off

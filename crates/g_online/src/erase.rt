@@ -67,7 +67,7 @@ fn has_stamp(pins: &[Pinned], stamp: u64) -> bool
 }
 
 /// Gives the blocks of a copy back to the pool, or keeps them.
-fn give_unless(keeps: bool, pool: &mut Pool, copy: Option<&DiscCopy>)
+pub(crate) fn give_unless(keeps: bool, pool: &mut Pool, copy: Option<&DiscCopy>)
     requires apart { keeps ≡ false → AllPairs (λ j k. j ≢ k) (copy_places (option_copied copy)) }
     requires taken { keeps ≡ false → All (IsTaken pool.old) (copy_places (option_copied copy)) }
     ensures { GivesUnless keeps (copy_places (option_copied copy.entry)) pool.old pool.new }
@@ -82,7 +82,7 @@ fn give_unless(keeps: bool, pool: &mut Pool, copy: Option<&DiscCopy>)
 }
 
 /// Takes the copy of this number out of the list.
-fn forget_copy(online: &mut Vec<(u16, DiscCopy)>, number: u16)
+pub(crate) fn forget_copy(online: &mut Vec<(u16, DiscCopy)>, number: u16)
     requires { AllPairs (λ c d. c.0 < d.0) online.old.items }
     ensures { online.new.items ≡ without_copy number online.old.items }
 {

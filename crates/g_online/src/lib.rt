@@ -9,6 +9,7 @@ mod erase;
 mod fault;
 mod load;
 mod numbers;
+mod off;
 mod online;
 mod pinned;
 mod records;
