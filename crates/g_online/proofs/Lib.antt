@@ -24,3 +24,4 @@ pub mod ForgetLemmas
 pub mod BegunLemmas
 pub mod OffLemmas
 pub mod UnloadLemmas
+pub mod AdoptLemmas

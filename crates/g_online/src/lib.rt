@@ -1,6 +1,7 @@
 //! The filestore that is online: one commit a change, whole or not at all.
 #![tactic(auto)]
 
+mod adopt;
 mod bytes;
 mod change;
 mod commit;

@@ -1,0 +1,6 @@
+use Rattle.std.proofs.Common.{◌≡◌, map, take}
+use Rattle.g_contents.specs.Contents.{copied_rec}
+use Rattle.g_online.proofs.adopt.copied_files.Given as goal
+
+abbrev pub invariant-loop-file : goal.invariant-loop-file
+invariant-loop-file l = l.copied.items ≡ map (copied_rec l.copies) (take l.file-index l.files)
