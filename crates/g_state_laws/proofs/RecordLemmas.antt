@@ -25,7 +25,7 @@ pairs_head R x xs all j d within = all 0 (suc j) d (omega arith) (omega (arith, 
 pub pairs_tail : {A : Type 0} (R : A → A → Type 0) (x : A) (xs : List A) → AllPairs R (x ∷ xs) → AllPairs R xs
 pairs_tail R x xs all i j d less within = all (suc i) (suc j) d (omega (arith, less)) (omega (arith, within))
 
-pairs_cons : {A : Type 0} (R : A → A → Type 0) (x : A) (xs : List A) → All (R x) xs → AllPairs R xs → AllPairs R (x ∷ xs)
+pub pairs_cons : {A : Type 0} (R : A → A → Type 0) (x : A) (xs : List A) → All (R x) xs → AllPairs R xs → AllPairs R (x ∷ xs)
 pairs_cons R x xs first rest zero zero d less within = let no : ⊥ = omega (arith, less) in absurd no
 pairs_cons R x xs first rest zero (suc j) d less within = first j d (omega (arith, within))
 pairs_cons R x xs first rest (suc i) zero d less within = let no : ⊥ = omega (arith, less) in absurd no

@@ -1,4 +1,6 @@
+mod NeedsLemmas
 mod PlaceLemmas
 mod RoomLemmas
 mod TreeLemmas
 mod UserLemmas
+mod WaitingLemmas

@@ -6,7 +6,7 @@ use Rattle.std.specs.Ordering.{nat_cmp, eq_by_cmp, is_lt}
 use Rattle.std.specs.Cmp.{eq_by_cmp_equiv}
 use Rattle.std.specs.FinMap.{FinMap, find, get, insert, remove, entries, entries_sorted, from_entries, from_sorted, is_sorted, same_map, get-entries, get-from_entries, get-from_sorted, get-insert, get-remove, nat_cmp-IsAntisymmetric}
 use Rattle.std.specs.FinMap.Entries.{below_all}
-use Rattle.std.proofs.lemmas.Bool.{cases_eq, cases_order, cond-false, cond-true, eq-eqb, eqb-false, eqb-true, lt-ltb, ltb-true, ne_eqb, not-true}
+use Rattle.std.proofs.lemmas.Bool.{and_parts, cases_eq, cases_order, cond-false, cond-true, eq-eqb, eqb-false, eqb-true, lt-ltb, ltb-true, ne_eqb, not-true}
 use Rattle.std.proofs.lemmas.Cmp.{nat_cmp_total}
 use Rattle.std.proofs.lemmas.List.Elements.{All-cons, All-contains, All-head, All-nil, All-tail, All-weaker, Contains-append_cases, Contains-append_left, Contains-append_right, Contains-get_or, filter_passes}
 use Rattle.g_base.specs.Block.{blocks_for}
@@ -24,7 +24,7 @@ use Rattle.g_state.specs.Reading.{place_of, places_of, waiting_of}
 use Rattle.g_state_laws.proofs.ClosingLemmas.{contains_filter}
 use Rattle.g_state_laws.proofs.PinLemmas.{pairs}
 use Rattle.g_state_laws.proofs.RecordLemmas.{apart_in, from_filter}
-use Rattle.g_state_steps.specs.Places.{AreDistinct, AreNotedIn, IsOfStamp, PlacesGoByChange}
+use Rattle.g_state_steps.specs.Places.{AreDistinct, AreNotedIn, IsOfStamp, PlacesGoByChange, TakenHaveCopies}
 
 abbrev pub stamp_of : File → ℕ
 stamp_of f = f.rec.stamp
@@ -372,3 +372,22 @@ noted_places d files pins distinct are =
 
 pub places_go_by_change : PlacesGoByChange
 places_go_by_change = record { version = version_places; erased = erased_places; recorded = recorded_places; back = back_places; taken = taken_places; noted = noted_places }
+
+-- WHAT IS TAKEN OFF has a copy
+taken_choice : (b : Bool) (p : Place) → p.online ≡ true → (if b then record p { online = false } else p).online ≡ false → b ≡ true
+taken_choice true p was is = refl
+taken_choice false p was is = sym is ∙ was
+
+candidate_copy : (a b c : Bool) → (a && (b && c)) ≡ true → c ≡ true
+candidate_copy a b c e = (and_parts b c (and_parts a (b && c) e).1).1
+
+has_copy : (until q : ℕ) (o : Option Place) → (unwrap_or o (record { online = true; copy = None })).online ≡ true
+    → (unwrap_or (option_map (taken_by until q) o) (record { online = true; copy = None })).online ≡ false → is_some (unwrap_or o (record { online = true; copy = None })).copy ≡ true
+has_copy until q None was is = sym is ∙ was
+has_copy until q (Some p) was is =
+    candidate_copy (nat_lt q until) p.online (is_some p.copy) (taken_choice (nat_lt q until && is_candidate p) p was is)
+
+pub taken_have_copies : TakenHaveCopies
+taken_have_copies k until q was is =
+    has_copy until q (get k.places q) was
+    (ap (λ (o : Option Place). (unwrap_or o (record { online = true; copy = None })).online) (sym (get_by (taken_by until) k.places q)) ∙ is)

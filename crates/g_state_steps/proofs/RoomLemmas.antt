@@ -31,7 +31,7 @@ use Rattle.g_state_steps.specs.Rooms.{ArePins, HasLength, RoomIs}
 use Rattle.g_state_steps.proofs.PlaceLemmas.{place_found}
 
 -- files with the records that they have
-files_apart : (files : List File) → AllPairs (λ (r s : FileRec). r.stamp ≢ s.stamp) (map (λ (f : File). f.rec) files) → AreDistinct files
+pub files_apart : (files : List File) → AllPairs (λ (r s : FileRec). r.stamp ≢ s.stamp) (map (λ (f : File). f.rec) files) → AreDistinct files
 files_apart files apart i j d less within same =
     let long = length-map files (λ (f : File). f.rec) in
     let one = get_or-map (λ (f : File). f.rec) files i d d.rec (omega (arith, less, within)) in
@@ -50,7 +50,7 @@ find_pin q (p ∷ ps) all =
     (apart_is nat_cmp_total nat_cmp-IsAntisymmetric q p.stamp (All-head (λ (x : facts.Pin). q ≢ x.stamp) p ps all))
     ∙ find_pin q ps (All-tail (λ (x : facts.Pin). q ≢ x.stamp) p ps all)
 
-pins_apart : (pins : List facts.Pin) → AllPairs (λ (p q : facts.Pin). p.stamp ≢ q.stamp) pins → Apart nat_cmp (map (λ (p : facts.Pin). (p.stamp, blocks_for p.len)) pins)
+pub pins_apart : (pins : List facts.Pin) → AllPairs (λ (p q : facts.Pin). p.stamp ≢ q.stamp) pins → Apart nat_cmp (map (λ (p : facts.Pin). (p.stamp, blocks_for p.len)) pins)
 pins_apart [] apart = tt
 pins_apart (p ∷ ps) apart =
     (find_pin p.stamp ps (pairs_first (λ (x y : facts.Pin). x.stamp ≢ y.stamp) p ps apart), pins_apart ps (pairs_rest (λ (x y : facts.Pin). x.stamp ≢ y.stamp) p ps apart))
@@ -69,7 +69,7 @@ module _ (text : ℕ → List ℕ) (c : Contents) (kept : List UserRec) (rules :
   in_tree e = (e.0, row e.1)
 
   -- a sum over the files of the tree is one over the records
-  sum_is : (f : Full × FileRow → ℕ) → sum_by f (entries held.tree.files) ≡ sum_by (λ (g : File). f (in_tree (named g.rec))) c.files
+  pub sum_is : (f : Full × FileRow → ℕ) → sum_by f (entries held.tree.files) ≡ sum_by (λ (g : File). f (in_tree (named g.rec))) c.files
   sum_is f =
       let es = keyed (full_of c.users) (recs_in c) in
       ap (sum_by f) (file_entries c.users (recs_in c) row)

@@ -93,7 +93,7 @@ any_agree t p q (x ∷ xs) all = by_test (cases_Bool (t x)) (any_agree t p q xs 
         both (p x) rest ∙ ap (λ (b : Bool). list_any t (cond b (x ∷ filter q xs) (filter q xs))) (All-head (λ y. t y ≡ true → p y ≡ q y) x xs all is)
     by_test (inr isnt) rest = skip (p x) isnt ∙ rest ∙ sym (skip_other (q x) isnt)
 
-any_none : {A : Type 0} (t p : A → Bool) (xs : List A) → All (λ x. t x ≡ true → p x ≡ false) xs → list_any t (filter p xs) ≡ false
+pub any_none : {A : Type 0} (t p : A → Bool) (xs : List A) → All (λ x. t x ≡ true → p x ≡ false) xs → list_any t (filter p xs) ≡ false
 any_none t p [] all = refl
 any_none t p (x ∷ xs) all = by_test (cases_Bool (t x)) (any_none t p xs (All-tail (λ y. t y ≡ true → p y ≡ false) x xs all))
   where
@@ -105,13 +105,13 @@ any_none t p (x ∷ xs) all = by_test (cases_Bool (t x)) (any_none t p xs (All-t
     by_test (inl is) rest = ap (list_any t) (cond-false (p x) (x ∷ filter p xs) (filter p xs) (All-head (λ y. t y ≡ true → p y ≡ false) x xs all is)) ∙ rest
     by_test (inr isnt) rest = skip (p x) isnt rest
 
-any_there : {A : Type 0} (t : A → Bool) (xs : List A) (x : A) → Contains xs x → t x ≡ true → list_any t xs ≡ true
+pub any_there : {A : Type 0} (t : A → Bool) (xs : List A) (x : A) → Contains xs x → t x ≡ true → list_any t xs ≡ true
 any_there t [] x (i, within, is) test = let no : ⊥ = omega (arith, within) in absurd no
 any_there t (y ∷ ys) x (zero, within, is) test = ap (λ (b : Bool). b || list_any t ys) (ap t is ∙ test)
 any_there t (y ∷ ys) x (suc i, within, is) test = ap (λ (b : Bool). t y || b) (any_there t ys x (i, omega (arith, within), is) test) ∙ or_true (t y)
 
 -- NAMES as a set
-abbrev called : List ℕ → UserRec → Bool
+abbrev pub called : List ℕ → UserRec → Bool
 called q u = eq_by_cmp text_cmp q u.user
 
 abbrev member : UserRec → List ℕ × Unit {0}
@@ -121,13 +121,13 @@ named_found : (q : List ℕ) (us : List UserRec) → is_some (find text_cmp q (m
 named_found q [] = refl
 named_found q (u ∷ us) = some_of (eq_by_cmp text_cmp q u.user) (find text_cmp q (map member us)) ∙ ap (λ (b : Bool). called q u || b) (named_found q us)
 
-named_any : (q : List ℕ) (users : List UserRec) → is_some (get (names_of users) q) ≡ list_any (called q) users
+pub named_any : (q : List ℕ) (users : List UserRec) → is_some (get (names_of users) q) ≡ list_any (called q) users
 named_any q users = ap is_some (get-from_entries text_total (map member users) q) ∙ named_found q users
 
 same_names : (m n : state.Users) → ((q : List ℕ) → is_some (get m q) ≡ is_some (get n q)) → m ≡ n
 same_names m n same = same_map text_total text_exact m n (λ q. one_of (get m q) (get n q) (same q))
 
-is_called : (q : List ℕ) (u : UserRec) → called q u ≡ true → q ≡ u.user
+pub is_called : (q : List ℕ) (u : UserRec) → called q u ≡ true → q ≡ u.user
 is_called q u e = tied_are text_total text_exact q u.user e
 
 -- who is called so has the number, and the other way round

@@ -1,5 +1,5 @@
 -- WHERE THE BYTES LIE behind each change of contents is what the step makes of the places.
-use Rattle.std.specs.Prelude.{◌≡◌, ◌≢◌, ℕ, ◌&&◌, true, nat_lt, List, All, AllPairs, Contains, Option, Some}
+use Rattle.std.specs.Prelude.{◌≡◌, ◌≢◌, ℕ, ◌&&◌, true, false, is_some, nat_lt, List, All, AllPairs, Contains, Option, Some}
 use Rattle.std.specs.FinMap.{insert, remove}
 use Rattle.g_entry.specs.declared.file_rec.FileRec.{FileRec}
 use Rattle.g_contents.specs.Contents.{File, brought, has, set_rec, taken_off, with_copies, with_file, without_file}
@@ -37,3 +37,8 @@ pub record PlacesGoByChange : Type 0 where
       → places_of (taken_off numbers files) ≡ (taken_offline until k).places
   pub noted : (d : OpenDump) (files : List File) (pins : List Pin) → AreDistinct files → AreNotedIn d pins
       → places_of (with_copies (noted (Some pins)) files) ≡ with_noted d (places_of files)
+
+-- no version goes off the disc without a copy on tape
+abbrev pub TakenHaveCopies : Type 0
+TakenHaveCopies = (k : Holding) (until stamp : ℕ) → (place_at k.places stamp).online ≡ true → (place_at (taken_offline until k).places stamp).online ≡ false
+    → is_some (place_at k.places stamp).copy ≡ true

@@ -2,7 +2,8 @@
 //! alone.
 #![tactic(auto)]
 
-ghost use Rattle.g_state_steps.specs.Places.{PlacesGoByChange};
+ghost use Rattle.g_state_steps.specs.Opened.{OpeningTakes};
+ghost use Rattle.g_state_steps.specs.Places.{PlacesGoByChange, TakenHaveCopies};
 ghost use Rattle.g_state_steps.specs.Rooms.{RoomIs};
 ghost use Rattle.g_state_steps.specs.Trees.{DumpedTreeIs};
 ghost use Rattle.g_state_steps.specs.Users.{DumpedTextsStay, UsersGoByChange};
@@ -14,9 +15,9 @@ pub fn room_goes_by_files()
 
 /// What a change makes of the files, the step makes of the places: a new version, an erasure, another record, a file brought
 /// back, files taken off the disc, and copies that a dump noted.
-#[tactic(auto, using(crate::proofs::PlaceLemmas::places_go_by_change))]
 pub fn places_go_by_change()
     ensures places { PlacesGoByChange }
+    ensures taken { TakenHaveCopies }
 {}
 
 /// Who is changed is kept no longer, and is touched, by name as by number.
@@ -33,4 +34,10 @@ pub fn dumped_texts_stay()
 /// Where each user's directory is the one of the dumps, the dumped tree is the disc's.
 pub fn dumped_tree_is()
     ensures tree { DumpedTreeIs }
+{}
+
+/// An opening takes from the state what its plan has: the versions that wait, by stamp, and as many blocks as the dump needs.
+#[tactic(auto, using(crate::proofs::NeedsLemmas::opening_takes))]
+pub fn opening_takes()
+    ensures { OpeningTakes }
 {}
