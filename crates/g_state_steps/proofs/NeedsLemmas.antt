@@ -1,26 +1,25 @@
 -- How many blocks a dump needs: by the plan and by the state.
-use Rattle.std.proofs.Common.{◌≡◌, ◌≢◌, ℕ, zero, suc, ◌+◌, ◌<◌, ◌≤◌, Bool, true, false, cond, List, [], ◌∷◌, ◌++◌, get_or, length, Option, Some, None, is_some, refl, sym, ◌∙◌, ap, arith, subst, inl, inr}
+use Rattle.std.proofs.Common.{◌≡◌, ◌≢◌, ℕ, zero, suc, ◌+◌, ◌<◌, Bool, true, false, cond, List, [], ◌∷◌, ◌++◌, get_or, length, refl, sym, ◌∙◌, ap, arith, subst, inl, inr}
 use Rattle.std.specs.Prelude.{◌⊎◌, ◌==◌, All, AllPairs, Contains, filter, map, not, sum_by}
 use Rattle.std.specs.List.{list_any}
-use Rattle.std.specs.Ordering.{eq_by_cmp, nat_cmp}
+use Rattle.std.specs.Ordering.{nat_cmp}
 use Rattle.std.specs.Cmp.{eq_by_cmp_equiv}
-use Rattle.std.specs.FinMap.{entries, from_entries, get}
-use Rattle.std.proofs.lemmas.Bool.{both_ways, cases_Bool, cases_eq, cond-false, cond-true, eq-eqb, eqb-true, ne_eqb}
+use Rattle.std.specs.FinMap.{entries, from_entries}
+use Rattle.std.proofs.lemmas.Bool.{both_ways, cases_Bool, cases_eq, cond-false, cond-true, eq-eqb, ne_eqb}
 use Rattle.std.proofs.lemmas.Cmp.{nat_cmp_total}
 use Rattle.std.proofs.lemmas.List.{length-append}
-use Rattle.std.proofs.lemmas.List.Elements.{All-contains, All-filter, All-head, All-nil, All-tail, All-weaker, Contains-append_right, Contains-get_or, filter_passes}
+use Rattle.std.proofs.lemmas.List.Elements.{All-contains, All-filter, All-head, All-tail, All-weaker, Contains-append_right, Contains-get_or, filter_passes}
 use Rattle.std.proofs.lemmas.List.Kept.{AllPairs-filter}
 use Rattle.std.proofs.lemmas.List.Sorted.{sum_by-IsPermutation}
 use Rattle.std.proofs.lemmas.List.Sums.{length-filter, sum_by-cons}
 use Rattle.std.proofs.lemmas.Option.{slice_get-get_or}
 use Rattle.g_base.specs.Block.{blocks_for}
 use Rattle.g_name.specs.declared.full.Full.{Full}
-use Rattle.g_name.specs.Order.{text_cmp}
 use Rattle.g_entry.specs.declared.file_rec.FileRec.{FileRec}
 use Rattle.g_entry.specs.declared.user_rec.UserRec.{UserRec}
 use Rattle.g_plain.specs.PlainTree.{FileRow}
 use Rattle.g_plain.proofs.TextMaps.{text_total}
-use Rattle.g_tree.specs.Records.{IsRecords, full_of, name_of}
+use Rattle.g_tree.specs.Records.{IsRecords, name_of}
 use Rattle.g_tree.proofs.ListLemmas.{sum_of_map, sum_same_on}
 use Rattle.g_tree.proofs.MapLemmas.{entries_permute}
 use Rattle.g_tree.proofs.RecordLemmas.{name_at, nobody}
@@ -32,7 +31,7 @@ use Rattle.g_incr.specs.Plan.{Plan, blocks_of, first_content, needs, waiting as 
 use Rattle.g_step.specs.State as state
 use Rattle.g_step.specs.DumpSteps.{dump_needs, waiting, waiting_blocks}
 use Rattle.g_state.specs.Meaning.{files_of}
-use Rattle.g_state.specs.Reading.{holding_of, names_of, users_not_in, waiting_of}
+use Rattle.g_state.specs.Reading.{holding_of, names_of, users_not_in}
 use Rattle.g_state.specs.Up.{ArePinned}
 use Rattle.g_state_laws.proofs.ClosingLemmas.{contains_filter}
 use Rattle.g_state_laws.proofs.PinLemmas.{OtherStamp}

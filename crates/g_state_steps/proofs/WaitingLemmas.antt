@@ -1,22 +1,21 @@
 -- The versions that wait, by stamp: those of the plan are those of the state.
-use Rattle.std.proofs.Common.{◌≡◌, ◌≢◌, ℕ, zero, suc, ◌+◌, ◌<◌, Bool, true, false, cond, List, [], ◌∷◌, ◌++◌, get_or, length, Option, Some, None, unwrap_or, refl, sym, ◌∙◌, ap, arith, subst, inl, inr}
-use Rattle.std.specs.Prelude.{◌⊎◌, ◌==◌, ◌&&◌, All, AllPairs, Contains, filter, is_none, map, nat_lt, sum_by}
+use Rattle.std.proofs.Common.{◌≡◌, ◌≢◌, ℕ, zero, suc, ◌+◌, ◌<◌, Bool, true, false, cond, List, [], ◌∷◌, get_or, length, Option, Some, None, unwrap_or, refl, sym, ◌∙◌, ap, arith, subst, inl, inr}
+use Rattle.std.specs.Prelude.{◌⊎◌, ◌==◌, ◌&&◌, All, Contains, filter, is_none, map, nat_lt}
 use Rattle.std.specs.Ordering.{nat_cmp, eq_by_cmp}
 use Rattle.std.specs.Cmp.{eq_by_cmp_equiv}
-use Rattle.std.specs.FinMap.{FinMap, entries, find, from_entries, get, nat_cmp-IsAntisymmetric, same_map, get-from_entries}
+use Rattle.std.specs.FinMap.{entries, find, from_entries, nat_cmp-IsAntisymmetric, same_map, get-from_entries}
 use Rattle.std.proofs.lemmas.Bool.{and_parts, both_ways, cases_Bool, cases_eq, eq-eqb, ltb-true}
 use Rattle.std.proofs.lemmas.Cmp.{nat_cmp_total}
 use Rattle.std.proofs.lemmas.List.Elements.{All-cons, All-contains, All-filter, All-head, All-map, All-nil, All-tail, All-weaker, Contains-append_right, Contains-get_or, filter_passes}
 use Rattle.std.proofs.lemmas.List.Sorted.{All-permutation, Contains-permutation}
 use Rattle.g_base.specs.Block.{blocks_for}
 use Rattle.g_name.specs.declared.full.Full.{Full}
-use Rattle.g_name.specs.Order.{full_cmp}
 use Rattle.g_name.proofs.Order.{full_total}
 use Rattle.g_entry.specs.declared.file_rec.FileRec.{FileRec}
 use Rattle.g_entry.specs.declared.file_rec.TapeCopy.{TapeCopy}
 use Rattle.g_entry.specs.declared.user_rec.UserRec.{UserRec}
 use Rattle.g_plain.specs.PlainTree.{FileRow}
-use Rattle.g_plain.proofs.Found.{apart_is, tied_are}
+use Rattle.g_plain.proofs.Found.{apart_is}
 use Rattle.g_plain.proofs.TextMaps.{full_exact}
 use Rattle.g_tree.specs.Records.{IsRecords, by_name, file_row_of, full_of}
 use Rattle.g_tree.proofs.MapLemmas.{apart_keyed, entries_permute, keyed}
@@ -28,7 +27,6 @@ use Rattle.g_incr.specs.Layout.{Dump, holds}
 use Rattle.g_incr.specs.Plan.{Plan, first_content, waiting as waiting_files, waits as file_waits}
 use Rattle.g_step.specs.State as state
 use Rattle.g_step.specs.DumpSteps.{waiting, waits}
-use Rattle.g_state.specs.Meaning.{files_of}
 use Rattle.g_state.specs.Reading.{holding_of, waiting_of}
 use Rattle.g_state.specs.Up.{ArePinned}
 use Rattle.g_state_laws.proofs.ClosingLemmas.{contains_filter}
