@@ -25,3 +25,10 @@ pub mod BegunLemmas
 pub mod OffLemmas
 pub mod UnloadLemmas
 pub mod AdoptLemmas
+pub mod PinLostLemmas
+pub mod PinBlockLemmas
+pub mod CloseNoteLemmas
+pub mod CloseLemmas
+pub mod PinPutLemmas
+pub mod PinWaitLemmas
+pub mod PinLemmas

@@ -6,3 +6,5 @@ pub mod Committed
 pub mod Copies
 pub mod Begun
 pub mod Off
+pub mod Pins
+pub mod Dumped

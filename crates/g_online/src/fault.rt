@@ -12,7 +12,8 @@ pub enum OnlineFault {
     /// A read of the disc failed; nothing has changed.
     #[error("the disc could not be read")]
     ReadFault,
-    /// A write of the disc failed. The disc holds the old contents or the new ones, and takes no further call.
+    /// A write of the disc failed. The disc holds the old contents, or the new ones, or, where files were taken off for the
+    /// change, the old ones without what was taken off. The filestore takes no further call.
     #[error("the disc could not be written")]
     Stopped,
     /// The disc holds no filestore.

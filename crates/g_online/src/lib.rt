@@ -4,6 +4,7 @@
 mod adopt;
 mod bytes;
 mod change;
+mod closing;
 mod commit;
 mod copies;
 mod erase;
@@ -13,6 +14,7 @@ mod numbers;
 mod off;
 mod online;
 mod pinned;
+mod pins;
 mod records;
 
 pub use change::{Change, CopyList};

@@ -1,0 +1,266 @@
+-- A dump is closed: its versions are let go, their places on tape are noted as those of a dump that was completed, and who was touched counts as changed.
+use Rattle.std.proofs.Common.{◌≡◌, ◌≢◌, ◌⊎◌, ℕ, ◌+◌, ◌<◌, ◌==◌, ◌||◌, Bool, true, false, List, [], ◌∷◌, length, get_or, map, Option, Some, None, Result, Ok, Err, All, AllPairs, refl, sym, ◌∙◌, ap, subst, arith, inl, inr}
+use Rattle.std.specs.Prelude.{is_some, OnErr, OnOk}
+use Rattle.std.specs.Option.{ForSome}
+use Rattle.std.proofs.lemmas.Bool.{cases_Bool, cond-false, cond-true}
+use Rattle.std.proofs.lemmas.List.Elements.{All-cons, All-head, All-map, All-tail, All-weaker}
+use Rattle.g_base.specs.Counts.{RoseBy}
+use Rattle.g_base.specs.Told.{Changes}
+use Rattle.g_blocks.specs.Pool.{HasGiven, IsTaken}
+use Rattle.g_copy.specs.declared.copy.DiscCopy.{DiscCopy}
+use Rattle.g_disc.specs.Disc.{DiscState, WritesOnly}
+use Rattle.g_entry.specs.declared.file_rec.FileRec.{FileRec}
+use Rattle.g_entry.specs.declared.file_rec.TapeCopy.{TapeCopy}
+use Rattle.g_entry.specs.declared.user_rec.UserRec.{UserRec}
+use Rattle.g_slots.specs.declared.side.Side.{Side}
+use Rattle.g_dirs.specs.Commit.{OldOrNew}
+use Rattle.g_dirs.specs.Directory.{Directory, FileEntry, copy_at, directory_of, entries_of}
+use Rattle.g_dirs.specs.Pages.{Covers, Remembered, all_marked}
+use Rattle.g_tree.specs.Records.{IsRecords}
+use Rattle.g_contents.specs.Contents.{Contents, Holds, copied_rec, copy_of, has, with_copies, with_intent}
+use Rattle.g_contents.specs.Facts.{OnlineFacts, Pin, noted}
+use Rattle.g_online.specs.declared.change.Change.TheVariants.{Adopt}
+use Rattle.g_online.specs.declared.fault.OnlineFault.{OnlineFault}
+use Rattle.g_online.specs.declared.fault.OnlineFault.TheVariants.{Stopped}
+use Rattle.g_online.specs.declared.pinned.Pinned.{Pinned}
+use Rattle.g_online.specs.Allowed.{IsAllowed, KeepsRules}
+use Rattle.g_online.specs.Change.{changed, closed, unjammed}
+use Rattle.g_online.specs.Committed.{HasCommitted, commit_blocks}
+use Rattle.g_online.specs.Done.{HasChanged, HasClosed, HasStopped, IsApplied, StoppedClosing}
+use Rattle.g_online.specs.Dumped.{lost_places, noted_in, pinned_in}
+use Rattle.g_online.specs.Kept.{AreNoted, AreWhole, IsFileOf, IsKept, IsPinned, Memory, PinsAre, WaitsFor, WaitsPinned, directory_in, facts_of, has_stamp, pin_of, pins_of}
+use Rattle.g_online.specs.Pins.{IsClosing}
+use Rattle.g_online.proofs.AdoptLemmas.{adopt_ready, adopt_rules}
+use Rattle.g_online.proofs.PinLostLemmas.{gone_kept, let_go, lost_blocks, no_numbers}
+use Rattle.g_online.proofs.ReadyLemmas.{StillRemembers}
+use Rattle.g_online.proofs.StepLemmas.{IsReady, applied, kept_behind, pins_told}
+use Rattle.g_online.proofs.TieLemmas.{all_files, tied}
+
+abbrev Tapes : Type 0
+Tapes = List (ℕ × TapeCopy)
+
+-- WHAT IS NOTED is noted for pinned versions alone
+no_copy : (pins : List Pinned) (stamp : ℕ) (old : Option TapeCopy) → copy_of (noted_in pins) stamp old ≡ None → (old ≡ None) × (has_stamp pins stamp ≡ false)
+no_copy [] stamp old none = (none, refl)
+no_copy (p ∷ pins) stamp old none = by_first (cases_Bool (p.stamp == stamp)) (no_copy pins stamp old)
+  where
+    by_first : ((p.stamp == stamp) ≡ true) ⊎ ((p.stamp == stamp) ≡ false) → (copy_of (noted_in pins) stamp old ≡ None → (old ≡ None) × (has_stamp pins stamp ≡ false))
+        → (old ≡ None) × (has_stamp (p ∷ pins) stamp ≡ false)
+    by_first (inl is) rest =
+        let it : (let some : Option TapeCopy = Some p.copy in some ≡ None) = sym (cond-true (p.stamp == stamp) (Some p.copy) (copy_of (noted_in pins) stamp old) is) ∙ none in
+        (let no : ⊥ = cc in absurd no)
+    by_first (inr is) rest =
+        let others = rest (sym (cond-false (p.stamp == stamp) (Some p.copy) (copy_of (noted_in pins) stamp old) is) ∙ none) in
+        (others.0, ap (λ (b : Bool). b || has_stamp pins stamp) is ∙ others.1)
+
+noted_list : (held : Option (List (List ℕ))) (pins : List Pinned) → map (λ (p : Pin). (p.stamp, p.copy)) (map (pin_of held) pins) ≡ noted_in pins
+noted_list held [] = refl
+noted_list held (p ∷ pins) = ap (λ (l : Tapes). (p.stamp, p.copy) ∷ l) (noted_list held pins)
+
+pub noted_is : (held : Option (List (List ℕ))) (pins : Option (List Pinned)) → noted (pins_of held pins) ≡ noted_in (pinned_in pins)
+noted_is held None = refl
+noted_is held (Some pins) = noted_list held pins
+
+-- no place is noted for an empty file
+not_empty : (pins : List Pinned) (f : FileEntry) → All (λ (p : Pinned). (0 < p.len) × IsFileOf p f) pins → f.0.len ≡ 0 → All (λ (c : ℕ × TapeCopy). c.0 ≢ f.0.stamp) (noted_in pins)
+not_empty pins f all empty =
+    All-map (λ (c : ℕ × TapeCopy). c.0 ≢ f.0.stamp) (λ (p : Pinned). (p.stamp, p.copy)) pins
+    (All-weaker (λ (p : Pinned). (0 < p.len) × IsFileOf p f) (λ (p : Pinned). p.stamp ≢ f.0.stamp)
+    (λ p both. λ same. (let filled = both.0 in let len = (both.1 (sym same)).0 in let no : ⊥ = omega (arith, filled, len, empty) in no)) pins all)
+
+empty_apart : (size next : ℕ) (files : List FileEntry) (touched : List ℕ) (pins : Option (List Pinned)) → PinsAre pins size next files touched
+    → All (λ (f : FileEntry). f.0.len ≡ 0 → All (λ (c : ℕ × TapeCopy). c.0 ≢ f.0.stamp) (noted_in (pinned_in pins))) files
+empty_apart size next files touched None are = λ k d within empty. λ j e inside. (let no : ⊥ = omega (arith, inside) in absurd no)
+empty_apart size next files touched (Some pins) are = λ k d within.
+    not_empty pins (get_or files k d)
+    (All-weaker (IsPinned size next files) (λ (p : Pinned). (0 < p.len) × IsFileOf p (get_or files k d)) (λ p is. (is.filled, is.current k d within)) pins are.each)
+
+-- WHO WAITS behind it was touched
+waits_closed : (pins : List Pinned) (touched : List ℕ) (files : List FileRec) (online : List (ℕ × DiscCopy)) → All (WaitsPinned pins touched) (entries_of files online)
+    → All (λ (e : FileEntry). WaitsFor touched e.0) (entries_of (map (copied_rec (noted_in pins)) files) online)
+waits_closed pins touched [] online all = λ k d within. (let no : ⊥ = omega (arith, within) in absurd no)
+waits_closed pins touched (r ∷ files) online all =
+    All-cons (λ (e : FileEntry). WaitsFor touched e.0) (let e : FileEntry = (copied_rec (noted_in pins) r, copy_at online r.number) in e) (entries_of (map (copied_rec (noted_in pins)) files) online)
+    (λ filled none. touched_one filled (no_copy pins r.stamp r.tape none))
+    (waits_closed pins touched files online (All-tail (WaitsPinned pins touched) (let e : FileEntry = (r, copy_at online r.number) in e) (entries_of files online) all))
+  where
+    either : (has_stamp pins r.stamp ≡ true) ⊎ (has touched r.owner ≡ true) → has_stamp pins r.stamp ≡ false → has touched r.owner ≡ true
+    either (inl is) isnt = (let wrong = sym is ∙ isnt in let no : ⊥ = cc in absurd no)
+    either (inr is) isnt = is
+
+    touched_one : 0 < r.len → (r.tape ≡ None) × (has_stamp pins r.stamp ≡ false) → has touched r.owner ≡ true
+    touched_one filled both = either (All-head (WaitsPinned pins touched) (let e : FileEntry = (r, copy_at online r.number) in e) (entries_of files online) all filled both.0) both.1
+
+noted_closed : (users size next : ℕ) (files : List FileRec) (online : List (ℕ × DiscCopy)) (changed touched : List ℕ) (pins : Option (List Pinned)) → is_some pins ≡ true → AreNoted users (entries_of files online) changed touched
+    → PinsAre pins size next (entries_of files online) touched → AreNoted users (entries_of (map (copied_rec (noted_in (pinned_in pins))) files) online) touched []
+noted_closed users size next files online changed touched None some was are = (let no : ⊥ = cc in absurd no)
+noted_closed users size next files online changed touched (Some pins) some was are = record {
+  changed_are = was.touched_are;
+  touched_are = no_numbers users;
+  touched_changed = λ k d within. (let no : ⊥ = omega (arith, within) in absurd no);
+  waits = waits_closed pins touched files online are.waits;
+}
+
+-- THE SAME MEMORY, but for who counts as changed
+abbrev counted : List ℕ → List ℕ → Memory → Memory
+counted all touched m = record m { changed = all; touched = touched }
+
+counted_kept : (disc : DiscState) (m : Memory) (all touched : List ℕ) → IsKept disc m → m.pins ≡ None → touched ≡ [] → (m.live ≡ true → AreNoted (length m.users) (directory_in m).files all touched) → IsKept disc (counted all touched m)
+counted_kept disc m all touched kept none nobody noted_are = record {
+  size = kept.size;
+  most = kept.most;
+  whole = kept.whole;
+  agreed = λ live.
+      let was = kept.agreed live in
+      record {
+        stored = was.stored;
+        copies = was.copies;
+        pool = was.pool;
+        noted = noted_are live;
+        pins = subst (λ (pins : Option (List Pinned)). PinsAre pins disc.size m.head.next_stamp (directory_in m).files touched) (sym none) nobody;
+      };
+}
+
+-- THE CLOSING, as the places of a completed dump are noted, once the versions were let go
+closed_is : (told : Bool) (last : ℕ) (copies : Tapes) (o : OnlineFacts) → copies ≡ noted o.pins → changed told false (Adopt last copies) o.contents ≡ closed last o
+unfolding changed
+closed_is told last copies o same =
+    ap (λ (cs : Tapes). with_intent None (let c : Contents = record o.contents { head = record o.contents.head { last_dump = last }; files = with_copies cs o.contents.files } in c)) same
+
+-- what is known before it
+pub record IsToClose (last : ℕ) (before : DiscState) (m : Memory) : Type 0 where
+  pub kept : IsKept before m
+  pub live : m.live ≡ true
+  pub some : is_some m.pins ≡ true
+  pub rules : KeepsRules (closed last (facts_of before m))
+
+pub to_close : (last : ℕ) (before : DiscState) (m : Memory) (o : OnlineFacts) → facts_of before m ≡ o → IsKept before m → o.live ≡ true → is_some o.pins ≡ true → KeepsRules (closed last o) → IsToClose last before m
+to_close last before m o is kept live some rules = record {
+  kept = kept;
+  live = ap (λ (p : OnlineFacts). p.live) is ∙ live;
+  some = sym (pins_told before.held m.pins) ∙ ap (λ (p : OnlineFacts). is_some p.pins) is ∙ some;
+  rules = subst (λ (p : OnlineFacts). KeepsRules (closed last p)) (sym is) rules;
+}
+
+module _ (last : ℕ) (before : DiscState) (m : Memory) (may : IsToClose last before m) (files : List FileRec) (pins : List Pinned) (files_are : files ≡ m.files) (pins_are : pins ≡ pinned_in m.pins) where
+  -- what giving their blocks back asks for
+  pub lost_to_close : AllPairs (λ j k. j ≢ k) (lost_places files pins) × All (IsTaken m.pool) (lost_places files pins)
+  lost_to_close = lost_blocks before m may.kept may.live files pins files_are pins_are
+
+  copies_are : noted_in pins ≡ noted (facts_of before m).pins
+  copies_are = ap noted_in pins_are ∙ sym (noted_is before.held m.pins)
+
+  module _ (pool : List Bool) (gives : HasGiven (lost_places files pins) m.pool pool) where
+    abbrev gone : Memory
+    gone = let_go pool [] m
+
+    gone_is : IsKept before gone
+    gone_is = gone_kept before m may.kept may.live files pins files_are pins_are pool [] gives refl
+
+    allowed : IsAllowed (Adopt last (noted_in pins)) (facts_of before gone)
+    allowed = record {
+      live = may.live;
+      fits = (
+        refl,
+        all_files (λ (r : FileRec). r.len ≡ 0 → All (λ (c : ℕ × TapeCopy). c.0 ≢ r.stamp) (noted_in pins)) before.held (directory_in m).files
+            (subst (λ (ps : List Pinned). All (λ (f : FileEntry). f.0.len ≡ 0 → All (λ (c : ℕ × TapeCopy). c.0 ≢ f.0.stamp) (noted_in ps)) (directory_in m).files) (sym pins_are)
+            (empty_apart before.size m.head.next_stamp (directory_in m).files m.touched m.pins (may.kept.agreed may.live).pins)),
+      );
+      rules = subst KeepsRules (sym (closed_is (is_some before.held) last (noted_in pins) (facts_of before m) copies_are)) may.rules;
+    }
+
+    -- what the tree asks for
+    pub close_rules : IsRecords m.users (map (copied_rec (noted_in pins)) m.files)
+    close_rules = adopt_rules last (noted_in pins) (noted_in pins) before gone (facts_of before gone) refl refl gone_is allowed
+
+    abbrev pub shut : List UserRec → List FileRec → Remembered → Memory
+    shut users noted_files pages = record gone { head = record m.head { last_dump = last; intent = None }; users = users; files = noted_files; pages = pages }
+
+    pub close_ready : (users : List UserRec) (noted_files : List FileRec) (pages : Remembered) → users ≡ m.users → noted_files ≡ map (copied_rec (noted_in pins)) m.files
+        → pages ≡ all_marked m.pages → StillRemembers m.pages pages → ((side : Side) (d : Directory) → Covers d side pages) → IsReady (Adopt last (noted_in pins)) before gone (shut users noted_files pages)
+    close_ready users noted_files pages users_are noted_are marks remembers covers =
+        adopt_ready last (noted_in pins) (noted_in pins) before gone false (record m.head { last_dump = last; intent = None }) users noted_files pages (facts_of before gone)
+        refl refl refl users_are noted_are refl gone_is allowed marks remembers covers
+
+    -- who counts as changed behind it
+    close_noted : (users : List UserRec) (noted_files : List FileRec) (all touched : List ℕ) → users ≡ m.users → noted_files ≡ map (copied_rec (noted_in pins)) m.files → all ≡ m.touched → touched ≡ []
+        → AreNoted (length users) (entries_of noted_files m.online) all touched
+    close_noted users noted_files all touched users_are noted_are all_is none =
+        let was = may.kept.agreed may.live in
+        subst (λ (us : List UserRec). AreNoted (length us) (entries_of noted_files m.online) all touched) (sym users_are)
+        (subst (λ (fs : List FileRec). AreNoted (length m.users) (entries_of fs m.online) all touched) (sym noted_are)
+        (subst (λ (ps : List Pinned). AreNoted (length m.users) (entries_of (map (copied_rec (noted_in ps)) m.files) m.online) all touched) (sym pins_are)
+        (subst (λ (ns : List ℕ). AreNoted (length m.users) (entries_of (map (copied_rec (noted_in (pinned_in m.pins))) m.files) m.online) ns touched) (sym all_is)
+        (subst (λ (ns : List ℕ). AreNoted (length m.users) (entries_of (map (copied_rec (noted_in (pinned_in m.pins))) m.files) m.online) m.touched ns) (sym none)
+        (noted_closed (length m.users) before.size m.head.next_stamp m.files m.online m.changed m.touched m.pins may.some was.noted was.pins)))))
+
+    module _ (users : List UserRec) (noted_files : List FileRec) (marks : Remembered) (all touched : List ℕ) (users_are : users ≡ m.users) (noted_are : noted_files ≡ map (copied_rec (noted_in pins)) m.files)
+        (marks_are : marks ≡ all_marked m.pages) (remembers : StillRemembers m.pages marks) (covers : (side : Side) (d : Directory) → Covers d side marks) (all_is : all ≡ m.touched) (none : touched ≡ [])
+        (after : DiscState) (next : Side) (pages : Remembered) (live : Bool) where
+      abbrev behind : Memory
+      behind = record (shut users noted_files marks) { side = next; pages = pages; live = live }
+
+      ready : IsReady (Adopt last (noted_in pins)) before gone (shut users noted_files marks)
+      ready = close_ready users noted_files marks users_are noted_are marks_are remembers covers
+
+      pub closed_kept : (result : Result (Unit {0}) OnlineFault) (online : List (ℕ × DiscCopy)) → online ≡ m.online
+          → OnOk result (HasCommitted (directory_of (record m.head { last_dump = last; intent = None }) users noted_files online) before after m.side next marks pages) → {k : ℕ} → WritesOnly k before after result
+          → ForSome after.held (AreWhole after.size) → OnOk result (live ≡ m.live) → OnErr result (live ≡ false) → IsKept after (counted all touched behind)
+      closed_kept result online same done {k} counts whole lives dies =
+          counted_kept after behind all touched
+          (kept_behind (Adopt last (noted_in pins)) before after gone (shut users noted_files marks) next pages ready live result online same done counts whole lives dies)
+          refl none (λ _. close_noted users noted_files all touched users_are noted_are all_is none)
+
+      done_closed : HasChanged (Adopt last (noted_in pins)) (facts_of before gone) (facts_of after behind) → HasClosed last (facts_of before m) (facts_of after (counted all touched behind))
+      done_closed done = record {
+        live = done.live;
+        contents = done.contents ∙ closed_is (is_some before.held) last (noted_in pins) (facts_of before m) copies_are;
+        pins = refl;
+        changed = all_is;
+        touched = none;
+        blocks = done.blocks;
+        commits = done.commits;
+        writes = subst (λ (k : ℕ). RoseBy k before.writes after.writes) (let same : 0 + done.blocks ≡ done.blocks = omega arith in same) done.writes;
+      }
+
+      stopped_closing : HasStopped (Adopt last (noted_in pins)) (facts_of before gone) (facts_of after behind) → StoppedClosing last (facts_of before m) (facts_of after (counted all touched behind))
+      stopped_closing stopped = record { live = stopped.live; holds = λ blocks told. one_of blocks (stopped.holds blocks told).one }
+        where
+          one_of : (blocks : List (List ℕ)) → Holds blocks (facts_of before m).contents
+              ⊎ (((let nothing : ℕ = 0 in nothing < 0) × Holds blocks (unjammed false (Adopt last (noted_in pins)) (facts_of before m).contents))
+              ⊎ Holds blocks (changed true false (Adopt last (noted_in pins)) (facts_of before m).contents))
+              → Holds blocks (facts_of before m).contents ⊎ Holds blocks (closed last (facts_of before m))
+          one_of blocks (inl held) = inl held
+          one_of blocks (inr (inl held)) = (let no : ⊥ = (let less = held.0 in omega (arith, less)) in absurd no)
+          one_of blocks (inr (inr held)) = inr (subst (Holds blocks) (closed_is true last (noted_in pins) (facts_of before m) copies_are) held)
+
+      answered : (result : Result (Unit {0}) OnlineFault) → IsApplied (Adopt last (noted_in pins)) (facts_of before gone) (facts_of after behind) result → IsKept after (counted all touched behind)
+          → OnErr result (result ≡ Err Stopped) → IsClosing last (facts_of before m) (facts_of after (counted all touched behind)) result
+      answered (Ok u) is kept only = record {
+        ok = done_closed is.ok;
+        stopped = tt;
+        causes = is.causes;
+        tied = tied after (counted all touched behind) kept;
+        told = is.told;
+        only = tt;
+      }
+      answered (Err e) is kept only = record {
+        ok = tt;
+        stopped = stopped_closing (is.stopped only);
+        causes = is.causes;
+        tied = tied after (counted all touched behind) kept;
+        told = is.told;
+        only = only;
+      }
+
+      pub closing_is : (o : OnlineFacts) → facts_of before m ≡ o → (result : Result (Unit {0}) OnlineFault) (online : List (ℕ × DiscCopy)) → online ≡ m.online
+          → OnOk result (HasCommitted (directory_of (record m.head { last_dump = last; intent = None }) users noted_files online) before after m.side next marks pages)
+          → OnErr result (Changes (OldOrNew (directory_of (record m.head { last_dump = last; intent = None }) users noted_files online)) before.held after.held)
+          → WritesOnly (commit_blocks (directory_of (record m.head { last_dump = last; intent = None }) users noted_files online) m.side marks) before after result
+          → ForSome after.held (AreWhole after.size) → OnErr result (result ≡ Err Stopped) → OnOk result (live ≡ m.live) → OnErr result (live ≡ false)
+          → IsClosing last o (facts_of after (counted all touched behind)) result
+      closing_is o is result online same done content counts whole only lives dies =
+          subst (λ (old : OnlineFacts). IsClosing last old (facts_of after (counted all touched behind)) result) is
+          (answered result
+          (applied (Adopt last (noted_in pins)) before after gone (shut users noted_files marks) next pages ready (facts_of before gone) refl live result online same done content counts whole only lives dies)
+          (closed_kept result online same done counts whole lives dies) only)

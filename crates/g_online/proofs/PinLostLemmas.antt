@@ -1,0 +1,138 @@
+-- The blocks of pinned versions that no file has any more are free again when the versions are let go.
+use Rattle.std.proofs.Common.{◌≡◌, ◌≢◌, ℕ, ◌+◌, ◌<◌, ◌==◌, ◌||◌, Bool, true, false, not, List, [], ◌∷◌, ◌++◌, length, get_or, filter, take, drop, Option, Some, None, All, AllPairs, refl, sym, ◌∙◌, ap, subst, arith, append_assoc, take-append-drop, cond, if◌then◌else◌}
+use Rattle.std.specs.List.{flat_map}
+use Rattle.std.proofs.lemmas.List.{append-nil, take_more}
+use Rattle.g_blocks.specs.Pool.{HasGiven, IsFresh, IsInArea, IsTaken}
+use Rattle.g_copy.specs.declared.copy.DiscCopy.{DiscCopy}
+use Rattle.g_disc.specs.Disc.{DiscState}
+use Rattle.g_entry.specs.declared.file_rec.FileRec.{FileRec}
+use Rattle.g_dirs.specs.Directory.{FileEntry, all_places, entries_of}
+use Rattle.g_contents.specs.Contents.{has}
+use Rattle.g_contents.specs.Facts.{AreNumbers, OnlineFacts}
+use Rattle.g_online.specs.declared.pinned.Pinned.{Pinned}
+use Rattle.g_online.specs.Dumped.{is_filed, lost_of, lost_places, pinned_in}
+use Rattle.g_online.specs.Kept.{IsKept, IsPooled, Memory, directory_in, facts_of, is_current, orphans, used_places}
+use Rattle.g_online.proofs.OffLemmas.{given_then, still_taken}
+use Rattle.g_online.proofs.UseLemmas.{IsUsed, left_all, left_apart, may_give, right_all, right_apart, same_swap, used_given, used_same}
+
+-- ONE VERSION after the other
+lost_append : (files : List FileRec) (xs ys : List Pinned) → lost_places files (xs ++ ys) ≡ lost_places files xs ++ lost_places files ys
+lost_append files [] ys = refl
+lost_append files (x ∷ xs) ys =
+    ap (λ (l : List ℕ). lost_of files x ++ l) (lost_append files xs ys) ∙ sym (append_assoc (lost_of files x) (lost_places files xs) (lost_places files ys))
+
+lost_push : (files : List FileRec) (xs : List Pinned) (p : Pinned) → lost_places files (xs ++ p ∷ []) ≡ lost_places files xs ++ lost_of files p
+lost_push files xs p = lost_append files xs (p ∷ []) ∙ ap (λ (l : List ℕ). lost_places files xs ++ l) (append-nil (lost_of files p))
+
+module _ (files : List FileRec) (pins : List Pinned) (k : ℕ) (p : Pinned) (within : k < length pins) (is : p ≡ get_or pins k p) where
+  lost_further : lost_places files (take (k + 1) pins) ≡ lost_places files (take k pins) ++ lost_of files p
+  lost_further =
+      ap (lost_places files) (take_more pins k p within ∙ ap (λ (q : Pinned). take k pins ++ q ∷ []) (sym is)) ∙ lost_push files (take k pins) p
+
+  lost_front : lost_places files pins ≡ (lost_places files (take k pins) ++ lost_of files p) ++ lost_places files (drop (k + 1) pins)
+  lost_front =
+      ap (lost_places files) (sym (take-append-drop (k + 1) pins)) ∙ lost_append files (take (k + 1) pins) (drop (k + 1) pins)
+      ∙ ap (λ (l : List ℕ). l ++ lost_places files (drop (k + 1) pins)) lost_further
+
+  front_apart : AllPairs (λ i j. i ≢ j) (lost_places files pins) → AllPairs (λ i j. i ≢ j) (lost_places files (take k pins) ++ lost_of files p)
+  front_apart apart =
+      left_apart (lost_places files (take k pins) ++ lost_of files p) (lost_places files (drop (k + 1) pins)) (subst (AllPairs (λ (i : ℕ) j. i ≢ j)) lost_front apart)
+
+  -- what giving back the next one's asks for
+  pub next_apart : AllPairs (λ i j. i ≢ j) (lost_places files pins) → AllPairs (λ i j. i ≢ j) (lost_of files p)
+  next_apart apart = right_apart (lost_places files (take k pins)) (lost_of files p) (front_apart apart)
+
+  pub next_taken : (pool given : List Bool) → AllPairs (λ i j. i ≢ j) (lost_places files pins) → All (IsTaken pool) (lost_places files pins) → HasGiven (lost_places files (take k pins)) pool given
+      → All (IsTaken given) (lost_of files p)
+  next_taken pool given apart taken gives =
+      still_taken (lost_places files (take k pins)) (lost_of files p) pool given (front_apart apart) gives
+      (right_all (IsTaken pool) (lost_places files (take k pins)) (lost_of files p)
+      (left_all (IsTaken pool) (lost_places files (take k pins) ++ lost_of files p) (lost_places files (drop (k + 1) pins)) (subst (All (IsTaken pool)) lost_front taken)))
+
+  pub lost_more : (pool given rest : List Bool) → AllPairs (λ i j. i ≢ j) (lost_places files pins) → HasGiven (lost_places files (take k pins)) pool given → HasGiven (lost_of files p) given rest
+      → HasGiven (lost_places files (take (k + 1) pins)) pool rest
+  lost_more pool given rest apart gives more =
+      subst (λ (l : List ℕ). HasGiven l pool rest) (sym lost_further)
+      (given_then (lost_places files (take k pins)) (lost_of files p) pool given rest (front_apart apart) gives more)
+
+-- these are the blocks that no file has
+filed_is : (files : List FileRec) (online : List (ℕ × DiscCopy)) (s : ℕ) → is_current (entries_of files online) s ≡ is_filed files s
+filed_is [] online s = refl
+filed_is (r ∷ files) online s = ap (λ (b : Bool). (r.stamp == s) || b) (filed_is files online s)
+
+by_filed : (b : Bool) (p : Pinned) (rest : List Pinned) (lost : List ℕ) → flat_map (λ (q : Pinned). q.blocks) rest ≡ lost
+    → flat_map (λ (q : Pinned). q.blocks) (cond (not b) (p ∷ rest) rest) ≡ (if b then [] else p.blocks) ++ lost
+by_filed true p rest lost same = same
+by_filed false p rest lost same = ap (λ (l : List ℕ). p.blocks ++ l) same
+
+lost_list : (files : List FileRec) (online : List (ℕ × DiscCopy)) (pins : List Pinned) → orphans (Some pins) (entries_of files online) ≡ lost_places files pins
+lost_list files online [] = refl
+lost_list files online (p ∷ pins) =
+    let rest : List Pinned = filter (λ (q : Pinned). not (is_current (entries_of files online) q.stamp)) pins in
+    ap (λ (b : Bool). flat_map (λ (q : Pinned). q.blocks) (cond (not b) (p ∷ rest) rest)) (filed_is files online p.stamp)
+    ∙ by_filed (is_filed files p.stamp) p rest (lost_places files pins) (lost_list files online pins)
+
+pub lost_is : (files : List FileRec) (online : List (ℕ × DiscCopy)) (pins : Option (List Pinned)) → orphans pins (entries_of files online) ≡ lost_places files (pinned_in pins)
+lost_is files online None = refl
+lost_is files online (Some pins) = lost_list files online pins
+
+-- THE POOL without pinned versions
+used_first : (size : ℕ) (pins : Option (List Pinned)) (files : List FileEntry) (pool : List Bool) → IsPooled size pins files pool → IsUsed size (orphans pins files ++ all_places files) pool
+used_first size pins files pool was =
+    used_same size (used_places pins files) (orphans pins files ++ all_places files) pool (same_swap (all_places files) (orphans pins files))
+    (record { fresh = was.fresh; area = was.area; apart = was.apart })
+
+pool_free : (size : ℕ) (pins : Option (List Pinned)) (files : List FileEntry) (old new : List Bool) → IsPooled size pins files old → HasGiven (orphans pins files) old new → IsPooled size None files new
+pool_free size pins files old new was gives =
+    let left : IsUsed size (all_places files) new = used_given size (orphans pins files) (all_places files) old new (used_first size pins files old was) gives in
+    let all : all_places files ≡ all_places files ++ [] = sym (append-nil (all_places files)) in
+    record {
+      fresh = subst (λ (u : List ℕ). IsFresh size u new) all left.fresh;
+      area = subst (λ (u : List ℕ). All (IsInArea size) u) all left.area;
+      apart = subst (λ (u : List ℕ). AllPairs (λ j k. j ≢ k) u) all left.apart;
+    }
+
+pub no_numbers : (users : ℕ) → AreNumbers users []
+no_numbers users = record { rising = λ k next. (let no : ⊥ = omega (arith, next) in absurd no); there = λ k d inside. (let no : ⊥ = omega (arith, inside) in absurd no) }
+
+-- the memory behind it
+abbrev pub let_go : List Bool → List ℕ → Memory → Memory
+let_go pool touched m = record m { pool = pool; pins = None; touched = touched }
+
+module _ (disc : DiscState) (m : Memory) (kept : IsKept disc m) (live : m.live ≡ true) (files : List FileRec) (pins : List Pinned) (files_are : files ≡ m.files) (pins_are : pins ≡ pinned_in m.pins) where
+  lost_here : lost_places files pins ≡ orphans m.pins (directory_in m).files
+  lost_here = (λ i. lost_places (files_are i) (pins_are i)) ∙ sym (lost_is m.files m.online m.pins)
+
+  -- what giving them back asks for
+  pub lost_blocks : AllPairs (λ j k. j ≢ k) (lost_places files pins) × All (IsTaken m.pool) (lost_places files pins)
+  lost_blocks =
+      subst (λ (l : List ℕ). AllPairs (λ j k. j ≢ k) l × All (IsTaken m.pool) l) (sym lost_here)
+      (may_give disc.size (orphans m.pins (directory_in m).files) (all_places (directory_in m).files) m.pool
+      (used_first disc.size m.pins (directory_in m).files m.pool (kept.agreed live).pool))
+
+  -- LET GO
+  pub gone_kept : (pool : List Bool) (touched : List ℕ) → HasGiven (lost_places files pins) m.pool pool → touched ≡ [] → IsKept disc (let_go pool touched m)
+  gone_kept pool touched gives none =
+      let was = kept.agreed live in
+      record {
+        size = kept.size;
+        most = kept.most;
+        whole = kept.whole;
+        agreed = λ still. record {
+          stored = was.stored;
+          copies = was.copies;
+          pool = pool_free disc.size m.pins (directory_in m).files m.pool pool was.pool (subst (λ (l : List ℕ). HasGiven l m.pool pool) lost_here gives);
+          noted = record {
+            changed_are = was.noted.changed_are;
+            touched_are = subst (AreNumbers (length m.users)) (sym none) (no_numbers (length m.users));
+            touched_changed = subst (All (λ n. has m.changed n ≡ true)) (sym none) (λ k d inside. (let no : ⊥ = omega (arith, inside) in absurd no));
+            waits = was.noted.waits;
+          };
+          pins = none;
+        };
+      }
+
+  pub gone_facts : (o : OnlineFacts) → facts_of disc m ≡ o → (pool : List Bool) (touched : List ℕ) → touched ≡ [] → facts_of disc (let_go pool touched m) ≡ record o { pins = None; touched = [] }
+  gone_facts o is pool touched none =
+      (λ i. let was : OnlineFacts = facts_of disc m in let now : OnlineFacts = record was { pins = None; touched = none i } in now)
+      ∙ ap (λ (p : OnlineFacts). let q : OnlineFacts = record p { pins = None; touched = [] } in q) is

@@ -1,0 +1,120 @@
+-- The versions that wait are pinned one behind the other, owner by owner.
+use Rattle.std.proofs.Common.{◌≡◌, ℕ, zero, suc, ◌+◌, ◌*◌, ◌<◌, ◌≤◌, ◌==◌, ◌&&◌, ◌^◌, Bool, true, false, List, [], ◌∷◌, ◌++◌, length, get_or, take, All, sym, ◌∙◌, ap, subst, arith, add-one, append_assoc, if◌then◌else◌}
+use Rattle.std.proofs.lemmas.Bool.{cond-false, cond-true}
+use Rattle.std.proofs.lemmas.List.{append-nil, length-take-le, take_all, take_more}
+use Rattle.std.proofs.lemmas.List.Elements.{All-head, All-tail, All-take, All-weaker, filter-append}
+use Rattle.g_base.specs.Block.{blocks_for}
+use Rattle.g_copy.specs.declared.copy.DiscCopy.{DiscCopy}
+use Rattle.g_entry.specs.declared.file_rec.FileRec.{FileRec}
+use Rattle.g_entry.specs.declared.user_rec.UserRec.{UserRec}
+use Rattle.g_entry.specs.FileFields.{IsFile}
+use Rattle.g_tree.specs.Records.{IsRecords}
+use Rattle.g_online.specs.declared.pinned.Pinned.{Pinned}
+use Rattle.g_online.specs.Dumped.{HasPut, blocks_of, is_waiting, pinned_of, pins_from, waiting_below, waiting_of}
+
+further : (a b c : ℕ) → (a + b) + c ≡ a + (b + c)
+further a b c = omega arith
+
+blocks_append : (xs ys : List FileRec) → blocks_of (xs ++ ys) ≡ blocks_of xs + blocks_of ys
+blocks_append [] ys = omega arith
+blocks_append (x ∷ xs) ys = ap (λ (k : ℕ). blocks_for x.len + k) (blocks_append xs ys) ∙ sym (further (blocks_for x.len) (blocks_of xs) (blocks_of ys))
+
+pins_append : (serial at : ℕ) (online : List (ℕ × DiscCopy)) (xs ys : List FileRec) → pins_from serial at online (xs ++ ys) ≡ pins_from serial at online xs ++ pins_from serial (at + blocks_of xs) online ys
+pins_append serial at online [] ys = ap (λ (k : ℕ). pins_from serial k online ys) (let same : at ≡ at + 0 = omega arith in same)
+pins_append serial at online (x ∷ xs) ys =
+    ap (λ (l : List Pinned). pinned_of serial at online x ∷ l)
+    (pins_append serial (at + blocks_for x.len) online xs ys
+    ∙ ap (λ (k : ℕ). pins_from serial (at + blocks_for x.len) online xs ++ pins_from serial k online ys) (further at (blocks_for x.len) (blocks_of xs)))
+
+-- NOTHING YET, and more
+put_none : (serial : ℕ) (online : List (ℕ × DiscCopy)) (pins : List Pinned) (at : ℕ) → HasPut serial online [] pins at pins at
+put_none serial online pins at = record { pins = sym (append-nil pins); at = (let same : at ≡ at + 0 = omega arith in same) }
+
+put_then : (serial : ℕ) (online : List (ℕ × DiscCopy)) (xs ys : List FileRec) (p q r : List Pinned) (a b c : ℕ) → HasPut serial online xs p a q b → HasPut serial online ys q b r c → HasPut serial online (xs ++ ys) p a r c
+put_then serial online xs ys p q r a b c first second = record {
+  pins = second.pins ∙ (λ i. first.pins i ++ pins_from serial (first.at i) online ys) ∙ append_assoc p (pins_from serial a online xs) (pins_from serial (a + blocks_of xs) online ys)
+      ∙ ap (λ (l : List Pinned). p ++ l) (sym (pins_append serial a online xs ys));
+  at = second.at ∙ ap (λ (k : ℕ). k + blocks_of ys) first.at ∙ further a (blocks_of xs) (blocks_of ys) ∙ ap (λ (k : ℕ). a + k) (sym (blocks_append xs ys));
+}
+
+-- 128 blocks a file at most
+few_in : (b : Bool) (r : FileRec) (rest : List FileRec) (n : ℕ) → r.len ≤ 65536 → blocks_of rest ≤ 128 * n → blocks_of (if b then r ∷ rest else rest) ≤ 128 * (n + 1)
+few_in true r rest n len few = let one : blocks_for r.len ≤ 128 = omega (arith, len) in omega (arith, one, few)
+few_in false r rest n len few = omega (arith, few)
+
+few_of : (owner : ℕ) (files : List FileRec) → All (λ r. r.len ≤ 65536) files → blocks_of (waiting_of owner files) ≤ 128 * length files
+few_of owner [] all = omega arith
+few_of owner (r ∷ files) all =
+    let P : FileRec → Type 0 = λ s. s.len ≤ 65536 in
+    let more = few_in ((r.owner == owner) && is_waiting r) r (waiting_of owner files) (length files) (All-head P r files all) (few_of owner files (All-tail P r files all)) in
+    omega (arith, more)
+
+few_below : (owner : ℕ) (files : List FileRec) → length files ≤ 1024 → All (λ r. r.len ≤ 65536) files → blocks_of (waiting_below owner files) ≤ 131072 * owner
+few_below zero files few all = omega arith
+few_below (suc owner) files few all =
+    let rest = few_below owner files few all in
+    let one = few_of owner files all in
+    omega (arith, rest, one, few, blocks_append (waiting_below owner files) (waiting_of owner files))
+
+-- ONE FILE MORE
+module _ (serial owner : ℕ) (online : List (ℕ × DiscCopy)) (files : List FileRec) (k : ℕ) (r : FileRec) (within : k < length files) (is : r ≡ get_or files k r) where
+  one_further : waiting_of owner (take (k + 1) files) ≡ waiting_of owner (take k files) ++ waiting_of owner (r ∷ [])
+  one_further =
+      ap (waiting_of owner) (take_more files k r within ∙ ap (λ (s : FileRec). take k files ++ s ∷ []) (sym is))
+      ∙ filter-append (λ (s : FileRec). (s.owner == owner) && is_waiting s) (take k files) (r ∷ [])
+
+  pub file_more : (p q s : List Pinned) (a b c : ℕ) → HasPut serial online (waiting_of owner (take k files)) p a q b → HasPut serial online (waiting_of owner (r ∷ [])) q b s c
+      → HasPut serial online (waiting_of owner (take (k + 1) files)) p a s c
+  file_more p q s a b c was more =
+      subst (λ (rs : List FileRec). HasPut serial online rs p a s c) (sym one_further) (put_then serial online (waiting_of owner (take k files)) (waiting_of owner (r ∷ [])) p q s a b c was more)
+
+  -- its places are numbers of 32 bits
+  pub file_fits : (p q : List Pinned) (a b : ℕ) → length files ≤ 1024 → All (λ s. s.len ≤ 65536) files → a + 131072 < 2 ^ 32 → HasPut serial online (waiting_of owner (take k files)) p a q b → b + blocks_for r.len < 2 ^ 32
+  file_fits p q a b few all room was =
+      let P : FileRec → Type 0 = λ s. s.len ≤ 65536 in
+      let front = few_of owner (take k files) (All-take P k files all) in
+      let long = length-take-le k files (omega (arith, within)) in
+      let len : r.len ≤ 65536 = subst P (sym is) (all k r within) in
+      let one : blocks_for r.len ≤ 128 = omega (arith, len) in
+      let at = was.at in
+      omega (arith, front, long, one, at, room, few, within)
+
+pub file_none : (serial owner : ℕ) (online : List (ℕ × DiscCopy)) (files : List FileRec) (pins : List Pinned) (at : ℕ) → HasPut serial online (waiting_of owner (take 0 files)) pins at pins at
+file_none serial owner online files pins at = put_none serial online pins at
+
+pub file_all : (serial owner : ℕ) (online : List (ℕ × DiscCopy)) (files : List FileRec) (k : ℕ) (p q : List Pinned) (a b : ℕ) → length files ≤ k → HasPut serial online (waiting_of owner (take k files)) p a q b
+    → HasPut serial online (waiting_of owner files) p a q b
+file_all serial owner online files k p q a b all was = subst (λ (fs : List FileRec). HasPut serial online (waiting_of owner fs) p a q b) (take_all k files all) was
+
+-- what pinning one file does
+pub put_not : (serial owner : ℕ) (online : List (ℕ × DiscCopy)) (r : FileRec) (pins : List Pinned) (at : ℕ) → ((r.owner == owner) && is_waiting r) ≡ false → HasPut serial online (waiting_of owner (r ∷ [])) pins at pins at
+put_not serial owner online r pins at isnt =
+    subst (λ (rs : List FileRec). HasPut serial online rs pins at pins at) (sym (cond-false ((r.owner == owner) && is_waiting r) (r ∷ []) [] isnt)) (put_none serial online pins at)
+
+pub put_one_more : (serial owner : ℕ) (online : List (ℕ × DiscCopy)) (r : FileRec) (p q : List Pinned) (a b : ℕ) → ((r.owner == owner) && is_waiting r) ≡ true → q ≡ p ++ pinned_of serial a online r ∷ [] → b ≡ a + blocks_for r.len
+    → HasPut serial online (waiting_of owner (r ∷ [])) p a q b
+put_one_more serial owner online r p q a b is pins at =
+    subst (λ (rs : List FileRec). HasPut serial online rs p a q b) (sym (cond-true ((r.owner == owner) && is_waiting r) (r ∷ []) [] is))
+    (record { pins = pins; at = at ∙ (let same : a + blocks_for r.len ≡ a + (blocks_for r.len + 0) = omega arith in same) })
+
+pub lengths_are : (users : List UserRec) (files : List FileRec) → IsRecords users files → All (λ r. r.len ≤ 65536) files
+lengths_are users files is = All-weaker IsFile (λ (r : FileRec). r.len ≤ 65536) (λ r file. file.len) files is.each_file
+
+-- ONE OWNER MORE
+pub owner_none : (serial : ℕ) (online : List (ℕ × DiscCopy)) (files : List FileRec) (pins : List Pinned) (at : ℕ) → pins ≡ [] → HasPut serial online (waiting_below 0 files) [] at pins at
+owner_none serial online files pins at none = subst (λ (ps : List Pinned). HasPut serial online [] [] at ps at) (sym none) (put_none serial online [] at)
+
+pub owner_more : (serial owner : ℕ) (online : List (ℕ × DiscCopy)) (files : List FileRec) (q s : List Pinned) (a b c : ℕ) → HasPut serial online (waiting_below owner files) [] a q b → HasPut serial online (waiting_of owner files) q b s c
+    → HasPut serial online (waiting_below (owner + 1) files) [] a s c
+owner_more serial owner online files q s a b c was more =
+    subst (λ (n : ℕ). HasPut serial online (waiting_below n files) [] a s c) (sym (add-one owner)) (put_then serial online (waiting_below owner files) (waiting_of owner files) [] q s a b c was more)
+
+pub owner_fits : (serial owner : ℕ) (online : List (ℕ × DiscCopy)) (users : List UserRec) (files : List FileRec) (q : List Pinned) (a b : ℕ) → IsRecords users files → owner < 63 → a ≤ 131072
+    → HasPut serial online (waiting_below owner files) [] a q b → b + 131072 < 2 ^ 32
+owner_fits serial owner online users files q a b rules below low was =
+    let few = few_below owner files rules.among_files.few (lengths_are users files rules) in
+    let at = was.at in
+    omega (arith, few, at, low, below)
+
+pub owners_all : (serial owner : ℕ) (online : List (ℕ × DiscCopy)) (files : List FileRec) (q : List Pinned) (a b : ℕ) → owner ≡ 63 → HasPut serial online (waiting_below owner files) [] a q b → q ≡ pins_from serial a online (waiting_below 63 files)
+owners_all serial owner online files q a b all was = was.pins ∙ ap (λ (n : ℕ). pins_from serial a online (waiting_below n files)) all

@@ -1,0 +1,6 @@
+use Rattle.g_online.specs.Dumped.{noted_in}
+use Rattle.g_online.proofs.CloseNoteLemmas.{IsNoting}
+use Rattle.g_online.proofs.closing.note_copies.Given as goal
+
+abbrev pub invariant-loop-number : goal.invariant-loop-number
+invariant-loop-number l = IsNoting (noted_in l.pins) l.number l.fn.tree l.tree

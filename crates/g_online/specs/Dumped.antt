@@ -1,0 +1,67 @@
+-- WHAT IS KEPT IN MEMORY of the versions of a dump.
+use Rattle.std.specs.Prelude.{◌≡◌, ℕ, zero, suc, ◌+◌, ◌==◌, ◌&&◌, nat_lt, Bool, List, [], ◌∷◌, ◌++◌, map, filter, Option, Some, None, is_none, slice_get, if◌then◌else◌}
+use Rattle.std.specs.List.{flat_map, list_any}
+use Rattle.g_base.specs.Block.{blocks_for}
+use Rattle.g_copy.specs.declared.copy.DiscCopy.{DiscCopy}
+use Rattle.g_entry.specs.declared.file_rec.FileRec.{FileRec}
+use Rattle.g_entry.specs.declared.file_rec.TapeCopy.{TapeCopy}
+use Rattle.g_dirs.specs.Directory.{copy_at}
+use Rattle.g_contents.specs.Contents.{copy_of}
+use Rattle.g_online.specs.declared.pinned.Pinned.{Pinned}
+use Rattle.g_online.specs.Kept.{copy_places}
+
+-- the pinned versions, if there are any
+abbrev pub pinned_in : Option (List Pinned) → List Pinned
+pinned_in None = []
+pinned_in (Some pins) = pins
+
+-- block `part` of a version
+abbrev pub place_in : Option Pinned → ℕ → Option ℕ
+place_in None part = None
+place_in (Some p) part = slice_get p.blocks part
+
+-- WHAT IS LET GO: the blocks of versions that no file has any more
+abbrev pub is_filed : List FileRec → ℕ → Bool
+is_filed files stamp = list_any (λ r. r.stamp == stamp) files
+
+abbrev pub lost_of : List FileRec → Pinned → List ℕ
+lost_of files p = if is_filed files p.stamp then [] else p.blocks
+
+abbrev pub lost_places : List FileRec → List Pinned → List ℕ
+lost_places files pins = flat_map (lost_of files) pins
+
+-- WHAT IS NOTED: the places on tape by stamp
+abbrev pub noted_in : List Pinned → List (ℕ × TapeCopy)
+noted_in pins = map (λ p. (p.stamp, p.copy)) pins
+
+-- the record with the copy that is noted for its version, if it has this number
+abbrev pub noted_at : List (ℕ × TapeCopy) → ℕ → FileRec → FileRec
+noted_at copies number r = record r { tape = if r.number == number then copy_of copies r.stamp r.tape else r.tape }
+
+-- WHICH VERSIONS WAIT, by owner and then by number
+abbrev pub is_waiting : FileRec → Bool
+is_waiting r = nat_lt 0 r.len && is_none r.tape
+
+abbrev pub waiting_of : ℕ → List FileRec → List FileRec
+waiting_of owner files = filter (λ r. (r.owner == owner) && is_waiting r) files
+
+abbrev pub waiting_below : ℕ → List FileRec → List FileRec
+waiting_below zero files = []
+waiting_below (suc owner) files = waiting_below owner files ++ waiting_of owner files
+
+abbrev pub blocks_of : List FileRec → ℕ
+blocks_of [] = 0
+blocks_of (r ∷ rs) = blocks_for r.len + blocks_of rs
+
+-- and what is noted for each of them
+abbrev pub pinned_of : ℕ → ℕ → List (ℕ × DiscCopy) → FileRec → Pinned
+pinned_of serial at online r = record { stamp = r.stamp; len = r.len; copy = record { serial = serial; first = at }; blocks = copy_places (copy_at online r.number) }
+
+abbrev pub pins_from : ℕ → ℕ → List (ℕ × DiscCopy) → List FileRec → List Pinned
+pins_from serial at online [] = []
+pins_from serial at online (r ∷ rs) = pinned_of serial at online r ∷ pins_from serial (at + blocks_for r.len) online rs
+
+-- these versions were pinned behind the others
+pub record HasPut (serial : ℕ) (online : List (ℕ × DiscCopy)) (files : List FileRec) (before : List Pinned) (from : ℕ) (after : List Pinned) (to : ℕ) : Type 0 where
+  pub pins : after ≡ before ++ pins_from serial from online files
+  pub at : to ≡ from + blocks_of files

@@ -1,0 +1,231 @@
+//! The versions of a dump: they are pinned when it is opened, read while it is written, and let go when it ends.
+ghost use Rattle.std.specs.Prelude.{◌≡◌, ◌≢◌, ◌+◌, ◌<◌, ◌≤◌, ◌^◌, All, AllPairs, IfOk, List, None, OnErr, OnOk, Some, length, option_map, slice_get, true, [], ◌∷◌};
+ghost use Rattle.std.specs.Option.{ForSome, option_copied};
+ghost use Rattle.g_base.specs.Block.{blocks_for};
+ghost use Rattle.g_blocks.specs.Pool.{HasGiven, IsTaken};
+ghost use Rattle.g_disc.specs.Disc.{ReadsByCause};
+ghost use Rattle.g_contents.specs.Facts.{IsTied, Pin};
+ghost use Rattle.g_online.specs.Dumped.{HasPut, is_filed, is_waiting, lost_of, lost_places, pinned_in, pins_from, place_in, waiting_below, waiting_of};
+ghost use Rattle.g_online.specs.Kept.{copy_places};
+ghost use Rattle.g_online.specs.Pins.{HasPinned};
+
+use crate::copies::copy_of;
+use crate::numbers::UserNumbers;
+use crate::pinned::Pinned;
+use crate::{Online, OnlineFault};
+use g_base::{Block, BlockList, NoMemory, blocks_for};
+use g_blocks::Pool;
+use g_copy::DiscCopy;
+use g_disc::Disc;
+use g_entry::{FileRec, TapeCopy};
+use g_tree::Tree;
+use std::alloc::Global;
+
+impl<D: Disc> Online<D> {
+    /// Pins the versions that wait to be dumped: those of files that aren't empty and have no copy on tape, by owner and
+    /// then by number. Their blocks stay until `unpin` or `close_dump`, whatever becomes of the files. For each a place on
+    /// the reel `serial` is noted, that of the first from block `first` on, each other behind the one before it. It takes
+    /// all memory that the closing needs; without memory nothing has changed.
+    pub fn pin(&mut self, alloc: Global, serial: u32, first: u32) -> Result<(), NoMemory>
+        requires live { self.old.live ≡ true }
+        requires none { self.old.pins ≡ None }
+        requires place { first ≤ 131_072 }
+        ensures ok { OnOk result (HasPinned serial first self.old self.new) }
+        ensures same { OnErr result (self.new ≡ self.old) }
+        ensures tied { IsTied self.new }
+    {
+        let pins = match waiting_versions(alloc, &self.tree, &self.online, serial, first) {
+            Ok(pins) => pins,
+            Err(_) => return Err(NoMemory),
+        };
+        self.pins = Some(pins);
+        Ok(())
+    }
+
+    /// Lets the pinned versions go. The blocks that no file has any more are free again.
+    pub fn unpin(&mut self)
+        requires live { self.old.live ≡ true }
+        ensures free { self.new ≡ record self.old { pins = None; touched = [] } }
+        ensures tied { IsTied self.new }
+    {
+        give_lost(
+            &mut self.pool,
+            pinned_versions(&self.pins),
+            self.tree.files(),
+        );
+        self.pins = None;
+        self.touched = UserNumbers::new();
+    }
+
+    /// Reads block `part` of the `i`-th pinned version, both counted from 0. Nothing changes but the count of failed reads.
+    /// Where it answers `ReadFault`, nothing is known of `into`.
+    pub fn pinned_block(&mut self, i: usize, part: u32, into: &mut Block) -> Result<(), OnlineFault>
+        requires live { self.old.live ≡ true }
+        requires there { (pins : List Pin) × (self.old.pins ≡ Some pins) × (pin : Pin)
+            × (slice_get pins i ≡ Some pin) × (part < blocks_for pin.len) }
+        ensures block { OnOk result ((pins : List Pin) (pin : Pin) → self.old.pins ≡ Some pins
+            → slice_get pins i ≡ Some pin
+            → ForSome pin.blocks (λ blocks. slice_get blocks part ≡ Some into.new)) }
+        ensures same { self.new ≡ record self.old { disc = self.new.disc } }
+        ensures reads { ReadsByCause (result ≡ Err OnlineFault.ReadFault) self.old.disc self.new.disc }
+        ensures tied { IsTied self.new }
+        ensures only { OnErr result (result ≡ Err OnlineFault.ReadFault) }
+    {
+        let Some(place) = place_of(pinned_versions(&self.pins), i, part) else {
+            unreachable!()
+        };
+        match self.disc.read(place, into) {
+            Ok(()) => Ok(()),
+            Err(_) => Err(OnlineFault::ReadFault),
+        }
+    }
+}
+
+/// The pinned versions, if there are any.
+pub(crate) fn pinned_versions(pins: &Option<Vec<Pinned>>) -> &[Pinned]
+    ensures { result.now ≡ pinned_in (option_map (λ v. v.items) pins.now) }
+{
+    match pins {
+        Some(pins) => pins.as_slice(),
+        None => &[],
+    }
+}
+
+/// Where block `part` of the `i`-th version lies.
+fn place_of(pins: &[Pinned], i: usize, part: u32) -> Option<u32>
+    ensures { result ≡ place_in (slice_get pins.now i) part }
+{
+    match pins.get(i) {
+        Some(pin) => pin.blocks.as_slice().get(part as usize).copied(),
+        None => None,
+    }
+}
+
+/// Gives the blocks of those versions back to the pool that no file has any more.
+pub(crate) fn give_lost(pool: &mut Pool, pins: &[Pinned], files: &[FileRec])
+    requires apart { AllPairs (λ j k. j ≢ k) (lost_places files.now pins.now) }
+    requires taken { All (IsTaken pool.old) (lost_places files.now pins.now) }
+    ensures { HasGiven (lost_places files.now pins.now) pool.old pool.new }
+{
+    for pin in pins {
+        give_one_lost(pool, pin, files);
+    }
+}
+
+/// The same of one version.
+fn give_one_lost(pool: &mut Pool, pin: &Pinned, files: &[FileRec])
+    requires apart { AllPairs (λ j k. j ≢ k) (lost_of files.now pin.now) }
+    requires taken { All (IsTaken pool.old) (lost_of files.now pin.now) }
+    ensures { HasGiven (lost_of files.now pin.now) pool.old pool.new }
+{
+    if is_filed(files, pin.stamp) {
+        pool.give(&[]);
+    } else {
+        pool.give(pin.blocks.as_slice());
+    }
+}
+
+/// Whether the version of this stamp is a file's.
+fn is_filed(files: &[FileRec], stamp: u64) -> bool
+    ensures { result ≡ is_filed files.now stamp }
+{
+    files.iter().any(|file| file.stamp == stamp)
+}
+
+/// The versions that wait, by owner and then by number, with their places on tape end to end from block `first` on.
+fn waiting_versions(
+    alloc: Global,
+    tree: &Tree,
+    online: &[(u16, DiscCopy)],
+    serial: u32,
+    first: u32,
+) -> Result<Vec<Pinned>, NoMemory>
+    requires rising { AllPairs (λ c d. c.0 < d.0) online.now }
+    requires place { first ≤ 131_072 }
+    ensures { IfOk result (λ pins. pins.items
+        ≡ pins_from serial first online.now (waiting_below 63 tree.now.files)) }
+{
+    let files = tree.files();
+    let mut pins = Vec::new(alloc);
+    let mut at = first;
+    for owner in 0..63 {
+        match pin_owner(&mut pins, &mut at, serial, owner, files, online) {
+            Ok(()) => {}
+            Err(_) => return Err(NoMemory),
+        }
+    }
+    Ok(pins)
+}
+
+/// Puts the versions of this owner that wait behind the others. `at` is the block behind the last place on tape.
+fn pin_owner(
+    pins: &mut Vec<Pinned>,
+    at: &mut u32,
+    serial: u32,
+    owner: u8,
+    files: &[FileRec],
+    online: &[(u16, DiscCopy)],
+) -> Result<(), NoMemory>
+    requires rising { AllPairs (λ c d. c.0 < d.0) online.now }
+    requires few { length files.now ≤ 1024 }
+    requires lengths { All (λ r. r.len ≤ 65536) files.now }
+    requires room { at.old + 131_072 < 2 ^ 32 }
+    ensures { OnOk result (HasPut serial online.now (waiting_of owner files.now)
+        pins.old.items at.old pins.new.items at.new) }
+{
+    for file in files {
+        match pin_file(pins, at, serial, owner, file, online) {
+            Ok(()) => {}
+            Err(_) => return Err(NoMemory),
+        }
+    }
+    Ok(())
+}
+
+/// The same of one file.
+fn pin_file(
+    pins: &mut Vec<Pinned>,
+    at: &mut u32,
+    serial: u32,
+    owner: u8,
+    file: &FileRec,
+    online: &[(u16, DiscCopy)],
+) -> Result<(), NoMemory>
+    requires rising { AllPairs (λ c d. c.0 < d.0) online.now }
+    requires room { at.old + blocks_for file.now.len < 2 ^ 32 }
+    ensures { OnOk result (HasPut serial online.now (waiting_of owner (file.now ∷ []))
+        pins.old.items at.old pins.new.items at.new) }
+{
+    if file.owner != owner || !waits(file) {
+        return Ok(());
+    }
+    let pinned = Pinned {
+        stamp: file.stamp,
+        len: file.len,
+        copy: TapeCopy { serial, first: *at },
+        blocks: blocks_of(copy_of(online, file.number)),
+    };
+    match pins.push(pinned) {
+        Ok(()) => {}
+        Err(_) => return Err(NoMemory),
+    }
+    *at += blocks_for(file.len);
+    Ok(())
+}
+
+/// Whether the version waits to be dumped.
+fn waits(file: &FileRec) -> bool
+    ensures { result ≡ is_waiting file.now }
+{
+    file.len > 0 && file.tape.is_none()
+}
+
+/// The blocks of a copy, if there is one.
+fn blocks_of(copy: Option<&DiscCopy>) -> BlockList
+    ensures { result ≡ copy_places (option_copied copy.entry) }
+{
+    match copy {
+        Some(copy) => copy.blocks.copy(),
+        None => BlockList::new(),
+    }
+}
