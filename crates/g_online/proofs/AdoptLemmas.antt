@@ -1,5 +1,5 @@
 -- Files with copies on tape are ready to be written.
-use Rattle.std.proofs.Common.{◌≡◌, ◌≢◌, ◌⊎◌, ℕ, zero, suc, ◌+◌, ◌<◌, ◌==◌, Bool, true, false, List, [], ◌∷◌, ◌++◌, length, get_or, map, drop, Option, Some, None, All, AllPairs, refl, sym, ◌∙◌, ap, subst, arith, drop-cons, add-one, inl, inr, if◌then◌else◌}
+use Rattle.std.proofs.Common.{◌≡◌, ◌≢◌, ◌⊎◌, ℕ, suc, ◌+◌, ◌<◌, ◌==◌, Bool, true, false, List, [], ◌∷◌, ◌++◌, length, get_or, map, drop, Option, Some, None, All, AllPairs, refl, sym, ◌∙◌, ap, subst, arith, drop-cons, add-one, inl, inr}
 use Rattle.std.specs.Prelude.{Contains, IfSome, is_some}
 use Rattle.std.proofs.lemmas.Bool.{cases_Bool, cond-false, cond-true, eq-eqb, ne_eqb}
 use Rattle.std.proofs.lemmas.List.Elements.{All-cons, All-head, All-tail}
@@ -14,12 +14,12 @@ use Rattle.g_dirs.specs.Directory.{AreCopies, Directory, FileEntry, IsCopyOf, al
 use Rattle.g_dirs.specs.Pages.{Covers, Remembered, all_marked}
 use Rattle.g_slots.specs.declared.side.Side.{Side}
 use Rattle.g_tree.specs.Records.{IsRecords}
-use Rattle.g_contents.specs.Contents.{contents_of, copied_rec, copy_of}
-use Rattle.g_contents.specs.Facts.{OnlineFacts, Pin}
+use Rattle.g_contents.specs.Contents.{copied_rec, copy_of}
+use Rattle.g_contents.specs.Facts.{OnlineFacts}
 use Rattle.g_online.specs.declared.change.Change.TheVariants.{Adopt}
 use Rattle.g_online.specs.declared.pinned.Pinned.{Pinned}
 use Rattle.g_online.specs.Allowed.{IsAllowed}
-use Rattle.g_online.specs.Kept.{AreNoted, IsAgreed, IsKept, IsPooled, Memory, PinsAre, WaitsFor, copy_places, directory_in, facts_of, head_after, pins_of}
+use Rattle.g_online.specs.Kept.{IsAgreed, IsKept, IsPooled, Memory, PinsAre, WaitsFor, directory_in, facts_of, head_after, pins_of}
 use Rattle.g_online.proofs.ChangeLemmas.{adopt_contents}
 use Rattle.g_online.proofs.KeepLemmas.{CopyFits}
 use Rattle.g_online.proofs.ReadyLemmas.{StillRemembers, allowed_here, allowed_live, make_ready, rules_then}

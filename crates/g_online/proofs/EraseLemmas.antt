@@ -39,7 +39,7 @@ use Rattle.g_online.proofs.ReadyLemmas.{CoversBut, StillRemembers, allowed_here,
 use Rattle.g_online.proofs.RecordLemmas.{fits_still, keeps_marked, keeps_then, next_kept}
 use Rattle.g_online.proofs.StepLemmas.{IsReady}
 use Rattle.g_online.proofs.TieLemmas.{rec_of}
-use Rattle.g_online.proofs.UseLemmas.{IsUsed, may_give, used_given, used_same}
+use Rattle.g_online.proofs.UseLemmas.{IsUsed, SameUse, may_give, used_given, used_same}
 
 -- the files without this one
 pub entries_without : (n : ℕ) (files : List FileRec) (online : List (ℕ × DiscCopy)) → entries_of (without_file n files) (without_copy n online) ≡ without_entry n (entries_of files online)
@@ -219,10 +219,10 @@ some_has (p ∷ pins) s is = by_first (cases_eq p.stamp s) (λ other. some_has p
         let within = rest.1.1 in
         (rest.0, (suc rest.1.0, omega (arith, within), rest.1.2), rest.2)
 
-used : (size : ℕ) (pins : Option (List Pinned)) (files : List FileEntry) (pool : List Bool) → IsPooled size pins files pool → IsUsed size (used_places pins files) pool
+pub used : (size : ℕ) (pins : Option (List Pinned)) (files : List FileEntry) (pool : List Bool) → IsPooled size pins files pool → IsUsed size (used_places pins files) pool
 used size pins files pool is = record { fresh = is.fresh; area = is.area; apart = is.apart }
 
-pooled : (size : ℕ) (pins : Option (List Pinned)) (files : List FileEntry) (pool : List Bool) → IsUsed size (used_places pins files) pool → IsPooled size pins files pool
+pub pooled : (size : ℕ) (pins : Option (List Pinned)) (files : List FileEntry) (pool : List Bool) → IsUsed size (used_places pins files) pool → IsPooled size pins files pool
 pooled size pins files pool is = record { fresh = is.fresh; area = is.area; apart = is.apart }
 
 module _ (size next : ℕ) (e : FileEntry) (files : List FileEntry) (rising : AllPairs (λ f g. f.0.number < g.0.number) files) (stamps : AllPairs (λ f g. f.0.stamp ≢ g.0.stamp) files) (there : Contains files e) where
@@ -239,6 +239,18 @@ module _ (size next : ℕ) (e : FileEntry) (files : List FileEntry) (rising : Al
   pub may_go : (pins : Option (List Pinned)) (pool : List Bool) → is_pinned pins e.0.stamp ≡ false → IsPooled size pins files pool → AllPairs (λ j k. j ≢ k) (places_of e) × All (IsTaken pool) (places_of e)
   may_go pins pool is was = may_give size (places_of e) (used_places pins (without_entry e.0.number files)) pool (used_then pins pool is was)
 
+  -- the blocks that are used with and without this file
+  pub use_gone : (pins : Option (List Pinned)) (touched : List ℕ) (b : Bool) → is_pinned pins e.0.stamp ≡ b → PinsAre pins size next files touched
+      → SameUse (used_places pins files) ((if b then [] else places_of e) ++ used_places pins (without_entry e.0.number files))
+  use_gone pins touched false is are = used_without pins e files rising there (not_pinned pins is)
+  use_gone None touched true is are = (let no : ⊥ = cc in absurd no)
+  use_gone (Some pins) touched true is are =
+      let it = some_has pins e.0.stamp is in
+      let p : Pinned = it.0 in
+      let pin : IsPinned size next files p = All-contains (IsPinned size next files) pins p are.each it.1 in
+      let blocks = All-contains (IsFileOf p) files e pin.current there (sym it.2) in
+      used_without_pinned p pins e files rising stamps there are.apart it.1 it.2 (sym blocks.2)
+
   -- THE POOL without them, unless they are pinned
   pub pool_gone : (pins : Option (List Pinned)) (touched : List ℕ) (old new : List Bool) (b : Bool) → is_pinned pins e.0.stamp ≡ b → GivesUnless b (places_of e) old new → IsPooled size pins files old
       → PinsAre pins size next files touched → IsPooled size pins (without_entry e.0.number files) new
@@ -247,14 +259,10 @@ module _ (size next : ℕ) (e : FileEntry) (files : List FileEntry) (rising : Al
       (used_given size (places_of e) (used_places pins (without_entry e.0.number files)) old new (used_then pins old is was) gives)
   pool_gone None touched old new true is gives was are = (let no : ⊥ = cc in absurd no)
   pool_gone (Some pins) touched old new true is gives was are =
-      let it = some_has pins e.0.stamp is in
-      let p : Pinned = it.0 in
-      let pin : IsPinned size next files p = All-contains (IsPinned size next files) pins p are.each it.1 in
-      let blocks = All-contains (IsFileOf p) files e pin.current there (sym it.2) in
       subst (IsPooled size (Some pins) (without_entry e.0.number files)) (sym gives)
       (pooled size (Some pins) (without_entry e.0.number files) old
       (used_same size (used_places (Some pins) files) (used_places (Some pins) (without_entry e.0.number files)) old
-      (used_without_pinned p pins e files rising stamps there are.apart it.1 it.2 (sym blocks.2)) (used size (Some pins) files old was)))
+      (use_gone (Some pins) touched true is are) (used size (Some pins) files old was)))
 
 -- what the tree asks for
 pub number_used : (number : ℕ) (before : DiscState) (m : Memory) (going : IsGoing number before m) → is_some (finmap.get (by_number m.files) number) ≡ true
@@ -343,7 +351,7 @@ owner_below number before m owner going is =
     omega arith
 
 -- its blocks
-places_are : (r : FileRec) (copy : Option DiscCopy) → places_of (r, copy) ≡ copy_places copy
+pub places_are : (r : FileRec) (copy : Option DiscCopy) → places_of (r, copy) ≡ copy_places copy
 places_are r None = refl
 places_are r (Some copy) = refl
 
@@ -354,10 +362,10 @@ pairs_of R es all = λ i j d less within.
     let second = get_or-map (λ (e : FileEntry). e.0) es j d d.0 within in
     subst (λ (r : FileRec). R r (get_or es j d).0) first (subst (λ (r : FileRec). R (get_or (map (λ (e : FileEntry). e.0) es) i d.0) r) second (all i j d.0 less long))
 
-entries_rise : (files : List FileRec) (online : List (ℕ × DiscCopy)) → AllPairs (λ r s. r.number < s.number) (map (λ (e : FileEntry). e.0) (entries_of files online)) → AllPairs (λ (f : FileEntry) g. f.0.number < g.0.number) (entries_of files online)
+pub entries_rise : (files : List FileRec) (online : List (ℕ × DiscCopy)) → AllPairs (λ r s. r.number < s.number) (map (λ (e : FileEntry). e.0) (entries_of files online)) → AllPairs (λ (f : FileEntry) g. f.0.number < g.0.number) (entries_of files online)
 entries_rise files online rising = pairs_of (λ (r : FileRec) s. r.number < s.number) (entries_of files online) rising
 
-entries_differ : (files : List FileRec) (online : List (ℕ × DiscCopy)) → AllPairs (λ r s. r.stamp ≢ s.stamp) (map (λ (e : FileEntry). e.0) (entries_of files online)) → AllPairs (λ (f : FileEntry) g. f.0.stamp ≢ g.0.stamp) (entries_of files online)
+pub entries_differ : (files : List FileRec) (online : List (ℕ × DiscCopy)) → AllPairs (λ r s. r.stamp ≢ s.stamp) (map (λ (e : FileEntry). e.0) (entries_of files online)) → AllPairs (λ (f : FileEntry) g. f.0.stamp ≢ g.0.stamp) (entries_of files online)
 entries_differ files online apart = pairs_of (λ (r : FileRec) s. r.stamp ≢ s.stamp) (entries_of files online) apart
 
 module _ (number : ℕ) (before : DiscState) (m : Memory) (going : IsGoing number before m) where

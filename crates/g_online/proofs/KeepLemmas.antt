@@ -37,7 +37,7 @@ lie held files lies fit k d inside =
 lie_back : (held : Told) (files : List FileEntry) → All LiesSomewhere files → All Lies (map (file_of held) files)
 lie_back held files lies = All-map Lies (file_of held) files (All-weaker LiesSomewhere (λ (f : FileEntry). Lies (file_of held f)) (λ f is. lies_back held f is) files lies)
 
-small : (size : ℕ) → size ≤ 1_048_576 → (k : ℕ) → IsInArea size k → is_place Two k ≡ true
+pub small : (size : ℕ) → size ≤ 1_048_576 → (k : ℕ) → IsInArea size k → is_place Two k ≡ true
 small size most k is = let high = is.high in lt-ltb k 16777216 (omega (arith, high, most))
 
 -- THE RULES OF A DIRECTORY

@@ -32,3 +32,12 @@ pub mod CloseLemmas
 pub mod PinPutLemmas
 pub mod PinWaitLemmas
 pub mod PinLemmas
+pub mod PutLemmas
+pub mod BesideLemmas
+pub mod InsertLemmas
+pub mod RetakeLemmas
+pub mod TwoLemmas
+pub mod UnjamLemmas
+pub mod PutStepLemmas
+pub mod NeedLemmas
+pub mod WrittenLemmas

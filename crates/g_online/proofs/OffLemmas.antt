@@ -1,9 +1,8 @@
 -- Files are taken off one by one.
-use Rattle.std.proofs.Common.{◌≡◌, ◌≢◌, ◌⊎◌, ℕ, zero, suc, ◌+◌, ◌-◌, ◌<◌, ◌≤◌, ◌==◌, ◌||◌, ◌&&◌, Bool, true, false, not, List, [], ◌∷◌, ◌++◌, length, get_or, filter, take, drop, Option, Some, None, All, AllPairs, refl, sym, ◌∙◌, ap, subst, arith, inl, inr, append_assoc, length-append, take-append-drop, slice_get, if◌then◌else◌}
+use Rattle.std.proofs.Common.{◌≡◌, ◌≢◌, ◌⊎◌, ℕ, ◌+◌, ◌-◌, ◌<◌, ◌==◌, ◌||◌, Bool, true, false, not, List, [], ◌∷◌, ◌++◌, length, get_or, take, drop, Option, Some, All, AllPairs, refl, sym, ◌∙◌, ap, subst, arith, inl, inr, append_assoc, length-append, take-append-drop, slice_get, if◌then◌else◌}
 use Rattle.std.specs.Prelude.{Contains}
-use Rattle.std.specs.List.{flat_map}
 use Rattle.std.proofs.Math.ListN.{set}
-use Rattle.std.proofs.lemmas.Bool.{cases_Bool, cases_eq, cond-false, cond-true, eq-eqb, eqb-true, ne_eqb}
+use Rattle.std.proofs.lemmas.Bool.{cases_eq, eq-eqb, ne_eqb}
 use Rattle.std.proofs.lemmas.List.{append-nil, get_or-take, get_or_default, length-set, length-take, take_more}
 use Rattle.std.proofs.lemmas.List.Kept.{AllPairs-filter}
 use Rattle.std.proofs.lemmas.List.Elements.{All-append, All-cons, All-contains, All-contains_itself, All-head, All-tail, All-weaker, Contains-append_left, Contains-append_right}
@@ -14,7 +13,7 @@ use Rattle.g_copy.proofs.Blocks.{slice_get-set_other}
 use Rattle.g_slots.specs.declared.side.Side.{Side}
 use Rattle.g_slots.specs.declared.side.Side.TheVariants.{A, B}
 use Rattle.g_dirs.specs.Directory.{copy_at}
-use Rattle.g_dirs.specs.Pages.{KeepsPages, Remembered, marked, marks_of}
+use Rattle.g_dirs.specs.Pages.{Remembered, marked, marks_of}
 use Rattle.g_dirs.proofs.PageLemmas.{slice_get-set_same}
 use Rattle.g_contents.specs.Contents.{has}
 use Rattle.g_online.specs.Copies.{without_copies, without_copy}
@@ -85,7 +84,7 @@ first_passes : (n : ℕ) (c : ℕ × DiscCopy) (x y : Bool) → y ≡ (c.0 == n)
 first_passes n c true y is rest = refl
 first_passes n c false y is rest = ap (λ (b : Bool). if not b then c ∷ without_copy n rest else without_copy n rest) (sym is)
 
-both_filters : (ns : List ℕ) (n : ℕ) (cs : List (ℕ × DiscCopy)) → without_copy n (without_copies ns cs) ≡ without_copies (ns ++ n ∷ []) cs
+pub both_filters : (ns : List ℕ) (n : ℕ) (cs : List (ℕ × DiscCopy)) → without_copy n (without_copies ns cs) ≡ without_copies (ns ++ n ∷ []) cs
 both_filters ns n [] = refl
 both_filters ns n (c ∷ cs) =
     first_passes n c (has ns c.0) (n == c.0) (turned c.0 n) (without_copies ns cs)
@@ -133,7 +132,7 @@ pub record IsOff (numbers : List ℕ) (online next : List (ℕ × DiscCopy)) (po
 pub off_none : (online : List (ℕ × DiscCopy)) (pool : List Bool) (pages : Remembered) → IsOff [] online online pool pool pages pages
 off_none online pool pages = record { copies = no_filter online; blocks = given_none pool; marks = marks_none pages }
 
-places_push : (ns : List ℕ) (n : ℕ) (online : List (ℕ × DiscCopy)) → places_off (ns ++ n ∷ []) online ≡ places_off ns online ++ copy_places (copy_at online n)
+pub places_push : (ns : List ℕ) (n : ℕ) (online : List (ℕ × DiscCopy)) → places_off (ns ++ n ∷ []) online ≡ places_off ns online ++ copy_places (copy_at online n)
 places_push [] n online = append-nil (copy_places (copy_at online n))
 places_push (k ∷ ns) n online =
     ap (λ (ps : List ℕ). copy_places (copy_at online k) ++ ps) (places_push ns n online) ∙ sym (append_assoc (copy_places (copy_at online k)) (places_off ns online) (copy_places (copy_at online n)))
@@ -201,6 +200,10 @@ module _ (numbers : List ℕ) (i : ℕ) (within : i < length numbers) where
   pub front_taken : (online : List (ℕ × DiscCopy)) (pool : List Bool) → All (IsTaken pool) (places_off numbers online) → All (IsTaken pool) (places_off (take i numbers ++ get_or numbers i 0 ∷ []) online)
   front_taken online pool taken =
       left_all (IsTaken pool) (places_off (take i numbers ++ get_or numbers i 0 ∷ []) online) (places_off (drop (i + 1) numbers) online) (subst (All (IsTaken pool)) (front_places online) taken)
+
+  pub front_free : (online : List (ℕ × DiscCopy)) (pool : List Bool) → All (IsFree pool) (places_off numbers online) → All (IsFree pool) (places_off (take i numbers ++ get_or numbers i 0 ∷ []) online)
+  front_free online pool free =
+      left_all (IsFree pool) (places_off (take i numbers ++ get_or numbers i 0 ∷ []) online) (places_off (drop (i + 1) numbers) online) (subst (All (IsFree pool)) (front_places online) free)
 
   pub front_away : AllPairs (λ m n. m ≢ n) numbers → All (λ m. m ≢ get_or numbers i 0) (take i numbers)
   front_away once = λ k d inside. λ same.

@@ -18,7 +18,7 @@ use Rattle.g_online.specs.Done.{commits_of}
 use Rattle.g_online.specs.Kept.{AreNoted, IsKept, IsPooled, Memory, PinsAre, directory_in, facts_of, orphans}
 use Rattle.g_online.proofs.KeepLemmas.{CopyFits, rules_kept}
 use Rattle.g_online.proofs.SameLemmas.{left_part}
-use Rattle.g_online.proofs.StepLemmas.{IsReady, pins_told}
+use Rattle.g_online.proofs.StepLemmas.{IsReady, beside_none, pins_told}
 
 -- what the mark of block k brings about
 abbrev pub CoversBut : ℕ → Remembered → Remembered → Type 0
@@ -68,7 +68,7 @@ make_ready change before m n o is kept allowed commits need lives side pins page
       was = kept;
       lived = live;
       commits = commits;
-      need = need;
+      beside = beside_none change before m need;
       live = lives ∙ live;
       side = side;
       pages = pages;

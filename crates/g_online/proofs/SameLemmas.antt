@@ -80,7 +80,7 @@ same_pin : (before after : List (List ℕ)) (p : Pinned) → AreSame p.blocks be
 same_pin before after p same =
     ap (λ (blocks : List (List ℕ)). let q : Pin = record { stamp = p.stamp; len = p.len; copy = p.copy; blocks = Some blocks } in q) (same_list before after p.blocks same)
 
-same_pin_list : (before after : List (List ℕ)) (pins : List Pinned) → All (λ (p : Pinned). AreSame p.blocks before after) pins → map (pin_of (Some after)) pins ≡ map (pin_of (Some before)) pins
+pub same_pin_list : (before after : List (List ℕ)) (pins : List Pinned) → All (λ (p : Pinned). AreSame p.blocks before after) pins → map (pin_of (Some after)) pins ≡ map (pin_of (Some before)) pins
 same_pin_list before after [] same = refl
 same_pin_list before after (p ∷ ps) same =
     ap (λ (q : Pin). q ∷ map (pin_of (Some after)) ps) (same_pin before after p (All-head (λ (r : Pinned). AreSame r.blocks before after) p ps same))

@@ -1,8 +1,8 @@
 -- Files taken off the disc are ready to be written.
-use Rattle.std.proofs.Common.{◌≡◌, ◌≢◌, ◌⊎◌, ℕ, zero, suc, ◌+◌, ◌-◌, ◌<◌, ◌≤◌, ◌==◌, ◌||◌, Bool, true, false, not, List, [], ◌∷◌, ◌++◌, length, get_or, map, filter, Option, Some, None, All, AllPairs, refl, sym, ◌∙◌, ap, subst, arith, inl, inr, slice_get, if◌then◌else◌, cond}
-use Rattle.std.specs.Prelude.{Contains, IfSome, is_some, sum_by}
-use Rattle.std.specs.List.{flat_map, list_any}
-use Rattle.std.proofs.lemmas.Bool.{cases_Bool, cases_eq, cond-false, cond-true, eq-eqb, eqb-true, ne_eqb}
+use Rattle.std.proofs.Common.{◌≡◌, ◌≢◌, ◌⊎◌, ℕ, zero, suc, ◌+◌, ◌-◌, ◌<◌, ◌==◌, ◌||◌, Bool, true, false, not, List, [], ◌∷◌, ◌++◌, length, get_or, map, filter, Option, Some, None, All, AllPairs, refl, sym, ◌∙◌, ap, subst, arith, inl, inr, slice_get, if◌then◌else◌}
+use Rattle.std.specs.Prelude.{Contains, is_some, sum_by}
+use Rattle.std.specs.List.{flat_map}
+use Rattle.std.proofs.lemmas.Bool.{cases_Bool, cases_eq, cond-false, cond-true, eq-eqb, ne_eqb}
 use Rattle.std.proofs.lemmas.List.Elements.{All-cons, All-contains, All-filter, All-head, All-map, All-tail, All-weaker}
 use Rattle.std.proofs.lemmas.List.Kept.{AllPairs-filter}
 use Rattle.std.proofs.lemmas.List.Sums.{sum_by-append}
@@ -15,7 +15,7 @@ use Rattle.g_entry.specs.declared.format.Format.TheVariants.{Two}
 use Rattle.g_slots.specs.declared.side.Side.{Side}
 use Rattle.g_dirs.specs.Directory.{AreCopies, Directory, FileEntry, all_places, copy_at, directory_of, entries_of, places_of}
 use Rattle.g_dirs.specs.Image.{block_of, entry_at}
-use Rattle.g_dirs.specs.Pages.{Covers, KeepsPages, Remembered, Remembers, marked, marks_of, pages_of}
+use Rattle.g_dirs.specs.Pages.{Covers, KeepsPages, Remembered, Remembers, marked}
 use Rattle.g_dirs.proofs.CopyLemmas.{recs-entries}
 use Rattle.g_dirs.proofs.PageLemmas.{same_pages_of}
 use Rattle.g_contents.specs.Contents.{File, contents_of, file_of, has}
@@ -23,7 +23,7 @@ use Rattle.g_contents.specs.Facts.{OnlineFacts}
 use Rattle.g_online.specs.declared.change.Change.TheVariants.{Unload}
 use Rattle.g_online.specs.declared.pinned.Pinned.{Pinned}
 use Rattle.g_online.specs.Allowed.{AreUnjammable, IsAllowed, IsUnjammable}
-use Rattle.g_online.specs.Copies.{without_copies, without_copy}
+use Rattle.g_online.specs.Copies.{without_copies}
 use Rattle.g_online.specs.Kept.{AreNoted, IsAgreed, IsFileOf, IsKept, IsPinned, IsPooled, Memory, PinsAre, WaitsFor, WaitsPinned, copy_places, directory_in, facts_of, head_after, is_current, orphans, used_places}
 use Rattle.g_online.specs.Off.{MarksFiles, places_off}
 use Rattle.g_online.proofs.ChangeLemmas.{unload_contents}
@@ -62,12 +62,12 @@ covers_off numbers side d e old new marks was same = record {
       ∙ ap (λ (b : List ℕ). Some (Some b)) (sym (same k before.1));
 }
 
-remembers_pages : (old new : Remembered) → KeepsPages old new → (blocks : List (List ℕ)) → Remembers old blocks → Remembers new blocks
+pub remembers_pages : (old new : Remembered) → KeepsPages old new → (blocks : List (List ℕ)) → Remembers old blocks → Remembers new blocks
 remembers_pages old new kept blocks was = record {
   block = λ side k page there. was.block side k page (ap (λ (ps : List (Option (List ℕ))). slice_get ps k) (sym (same_pages_of side old new kept)) ∙ there);
 }
 
-not_among : (numbers : List ℕ) (i k : ℕ) → k ≡ 64 + i → All (λ n. k ≢ 64 + n) numbers → has numbers i ≡ false
+pub not_among : (numbers : List ℕ) (i k : ℕ) → k ≡ 64 + i → All (λ n. k ≢ 64 + n) numbers → has numbers i ≡ false
 not_among [] i k at away = refl
 not_among (n ∷ ns) i k at away =
     let first : k ≢ 64 + n = All-head (λ m. k ≢ 64 + m) n ns away in
@@ -295,10 +295,8 @@ pub record IsUnloadable (numbers : List ℕ) (before : DiscState) (m : Memory) :
   pub copied : All (IsCopied numbers) (entries_of m.files m.online)
   pub blocks : SameUse (used_places m.pins (entries_of m.files m.online)) (places_off numbers m.online ++ used_places m.pins (entries_of m.files (without_copies numbers m.online)))
 
-pub is_unloadable : (numbers : List ℕ) (before : DiscState) (m : Memory) (o : OnlineFacts) → facts_of before m ≡ o → IsKept before m → IsAllowed (Unload numbers) o → IsUnloadable numbers before m
-is_unloadable numbers before m o is kept allowed =
-    let was : IsAgreed before m = kept.agreed (allowed_live (Unload numbers) before m o is allowed) in
-    let fits : AreUnjammable (contents_of before.held (directory_in m)).files numbers = (allowed_here (Unload numbers) before m o is allowed).fits in
+pub unloadable : (numbers : List ℕ) (before : DiscState) (m : Memory) → IsAgreed before m → AreUnjammable (contents_of before.held (directory_in m)).files numbers → IsUnloadable numbers before m
+unloadable numbers before m was fits =
     let files : List File = map (file_of before.held) (entries_of m.files m.online) in
     let recs = recs-entries m.files m.online in
     let rising : AllPairs (λ r s. r.number < s.number) m.files = subst (λ (rs : List FileRec). AllPairs (λ (r : FileRec) (s : FileRec). r.number < s.number) rs) recs was.stored.rules.numbered.rising in
@@ -327,6 +325,10 @@ is_unloadable numbers before m o is kept allowed =
       );
     }
 
+pub is_unloadable : (numbers : List ℕ) (before : DiscState) (m : Memory) (o : OnlineFacts) → facts_of before m ≡ o → IsKept before m → IsAllowed (Unload numbers) o → IsUnloadable numbers before m
+is_unloadable numbers before m o is kept allowed =
+    unloadable numbers before m (kept.agreed (allowed_live (Unload numbers) before m o is allowed)) (allowed_here (Unload numbers) before m o is allowed).fits
+
 used_before : (numbers : List ℕ) (before : DiscState) (m : Memory) → IsUnloadable numbers before m
     → IsUsed before.size (places_off numbers m.online ++ used_places m.pins (entries_of m.files (without_copies numbers m.online))) m.pool
 used_before numbers before m un =
@@ -337,7 +339,7 @@ used_before numbers before m un =
 pub off_blocks : (numbers : List ℕ) (before : DiscState) (m : Memory) → IsUnloadable numbers before m → AllPairs (λ j k. j ≢ k) (places_off numbers m.online) × All (IsTaken m.pool) (places_off numbers m.online)
 off_blocks numbers before m un = may_give before.size (places_off numbers m.online) (used_places m.pins (entries_of m.files (without_copies numbers m.online))) m.pool (used_before numbers before m un)
 
-pool_then : (numbers : List ℕ) (before : DiscState) (m : Memory) (pool : List Bool) → IsUnloadable numbers before m → HasGiven (places_off numbers m.online) m.pool pool
+pub pool_then : (numbers : List ℕ) (before : DiscState) (m : Memory) (pool : List Bool) → IsUnloadable numbers before m → HasGiven (places_off numbers m.online) m.pool pool
     → IsPooled before.size m.pins (entries_of m.files (without_copies numbers m.online)) pool
 pool_then numbers before m pool un given =
     let less = used_given before.size (places_off numbers m.online) (used_places m.pins (entries_of m.files (without_copies numbers m.online))) m.pool pool (used_before numbers before m un) given in

@@ -152,7 +152,7 @@ used_same size xs ys pool same was = record {
 pub used_count : (size : ℕ) (used : List ℕ) (pool : List Bool) → IsUsed size used pool → free_count pool ≡ size - 2177 - length used
 used_count size used pool is = let c = is.fresh.count in omega (arith, c)
 
-contains_or_not : (xs : List ℕ) (k : ℕ) → Contains xs k ⊎ (Contains xs k → ⊥)
+pub contains_or_not : (xs : List ℕ) (k : ℕ) → Contains xs k ⊎ (Contains xs k → ⊥)
 contains_or_not xs k =
     elim (cases_eq (times k xs) 0) as (λ _. Contains xs k ⊎ (Contains xs k → ⊥)) [
       | inl none ↦ inr (λ there. let often = contains_times k xs there in let no : ⊥ = omega (arith, none, often) in no)

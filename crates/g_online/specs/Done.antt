@@ -1,14 +1,14 @@
 -- WHAT A CHANGE LEAVES: done, or stopped at one of its writes.
-use Rattle.std.specs.Prelude.{◌≡◌, ◌≢◌, ◌⊎◌, ℕ, ◌+◌, ◌<◌, true, false, List, [], length, is_some, None, if◌then◌else◌, nat_lt, Result, Err, OnOk, OnErr, IfErr}
+use Rattle.std.specs.Prelude.{◌≡◌, ◌≢◌, ◌⊎◌, ℕ, ◌+◌, ◌<◌, true, false, List, [], length, is_some, None, if◌then◌else◌, nat_lt, Result, Err, OnOk, IfErr, IsErrOf, ◌↔◌}
 use Rattle.std.specs.Option.{ForSome}
 use Rattle.g_base.specs.Counts.{RoseBy}
 use Rattle.g_disc.specs.Disc.{Causes}
-use Rattle.g_contents.specs.Contents.{Holds}
+use Rattle.g_contents.specs.Contents.{Holds, taken_off}
 use Rattle.g_contents.specs.Commits.{Commits}
-use Rattle.g_contents.specs.Facts.{IsTied, OnlineFacts}
+use Rattle.g_contents.specs.Facts.{IsTied, OnlineFacts, room_with}
 use Rattle.g_online.specs.declared.change.Change.{Change}
 use Rattle.g_online.specs.declared.fault.OnlineFault.{OnlineFault}
-use Rattle.g_online.specs.declared.fault.OnlineFault.TheVariants.{NoMemory, Stopped}
+use Rattle.g_online.specs.declared.fault.OnlineFault.TheVariants.{DiscFull, NoMemory, Stopped}
 use Rattle.g_online.specs.Change.{changed as changed_to, unjammed, unjammed_by, need_of, changed_after, touched_after, closed}
 
 -- the commits of a change: one, and one before it where files are taken off the disc
@@ -50,12 +50,18 @@ pub record StoppedClosing (last : ℕ) (old new : OnlineFacts) : Type 0 where
   pub live : new.live ≡ false
   pub holds : ForSome new.disc.held (λ blocks. Holds blocks old.contents ⊎ Holds blocks (closed last old))
 
--- HOW A CHANGE THAT NEEDS NO BLOCKS IS ANSWERED: done; or stopped at one of its writes; or there was no memory, and all is as it was
+-- the blocks that would be free, were the files taken off that the change takes off
+abbrev pub room_for : Change → OnlineFacts → ℕ
+room_for change o = room_with (taken_off (unjammed_by change) o.contents.files) o
+
+-- HOW A CHANGE IS ANSWERED: done; or stopped at one of its writes; or refused, and all is as it was, the counts too. Room is
+-- refused just where the blocks that it needs would not be free; memory may be wanting anywhere else.
 pub record IsApplied (change : Change) (old new : OnlineFacts) (result : Result (Unit {0}) OnlineFault) : Type 0 where
   pub ok : OnOk result (HasChanged change old new)
   pub stopped : result ≡ Err Stopped → HasStopped change old new
   pub same : IfErr result (λ e. e ≢ Stopped → new ≡ old)
+  pub full : IsErrOf result (DiscFull (need_of change) (room_for change old)) ↔ (room_for change old < need_of change)
   pub causes : Causes ⊥ (result ≡ Err Stopped) old.disc new.disc
   pub tied : IsTied new
   pub told : is_some new.disc.held ≡ is_some old.disc.held
-  pub only : OnErr result ((result ≡ Err Stopped) ⊎ (result ≡ Err NoMemory))
+  pub only : IfErr result (λ e. (e ≡ Stopped) ⊎ ((e ≡ NoMemory) ⊎ (e ≡ DiscFull (need_of change) (room_for change old))))

@@ -8,3 +8,4 @@ pub mod Begun
 pub mod Off
 pub mod Pins
 pub mod Dumped
+pub mod Put

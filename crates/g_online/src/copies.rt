@@ -1,7 +1,9 @@
 //! Where the bytes of a file lie.
-ghost use Rattle.std.specs.Prelude.{◌≡◌, ◌<◌, AllPairs};
+ghost use Rattle.std.specs.Prelude.{◌≡◌, ◌<◌, AllPairs, vec_len};
+ghost use Rattle.std.specs.Vec.{vec_capacity};
 ghost use Rattle.std.specs.Option.{option_copied};
 ghost use Rattle.g_dirs.specs.Directory.{copy_at};
+ghost use Rattle.g_online.specs.Copies.{with_copy_at};
 
 use g_copy::DiscCopy;
 
@@ -13,5 +15,23 @@ pub(crate) fn copy_of(online: &[(u16, DiscCopy)], number: u16) -> Option<&DiscCo
     match online.binary_search_by_key(&number, |c| c.0) {
         Ok(place) => Some(&online[place].1),
         Err(_) => None,
+    }
+}
+
+/// Puts the copy of the file of this number among the others, in the place of the one that it had.
+pub(crate) fn put_copy(online: &mut Vec<(u16, DiscCopy)>, number: u16, copy: DiscCopy)
+    requires rising { AllPairs (λ c d. c.0 < d.0) online.old.items }
+    requires room { vec_len online.old < vec_capacity online.old }
+    ensures { online.new.items ≡ with_copy_at (number, copy) online.old.items }
+{
+    match online.binary_search_by_key(&number, |c| c.0) {
+        Ok(place) => {
+            online[place] = (number, copy);
+        }
+        Err(place) => {
+            if online.insert(place, (number, copy)).is_err() {
+                unreachable!()
+            }
+        }
     }
 }

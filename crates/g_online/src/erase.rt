@@ -1,6 +1,7 @@
 //! A file goes.
-ghost use Rattle.std.specs.Prelude.{◌≡◌, ◌≢◌, ◌<◌, All, AllPairs, false, option_map};
+ghost use Rattle.std.specs.Prelude.{◌≡◌, ◌≢◌, ◌<◌, All, AllPairs, false, option_map, vec_len};
 ghost use Rattle.std.specs.Option.{option_copied};
+ghost use Rattle.std.specs.Vec.{vec_capacity};
 ghost use Rattle.g_blocks.specs.Pool.{IsTaken};
 ghost use Rattle.g_online.specs.Allowed.{IsAllowed};
 ghost use Rattle.g_online.specs.Copies.{without_copy};
@@ -50,7 +51,7 @@ impl<D: Disc> Online<D> {
 }
 
 /// Whether the version of this stamp is pinned, so that its blocks stay.
-fn is_kept(pins: &Option<Vec<Pinned>>, stamp: u64) -> bool
+pub(crate) fn is_kept(pins: &Option<Vec<Pinned>>, stamp: u64) -> bool
     ensures { result ≡ is_pinned (option_map (λ v. v.items) pins.now) stamp }
 {
     match pins {
@@ -84,7 +85,8 @@ pub(crate) fn give_unless(keeps: bool, pool: &mut Pool, copy: Option<&DiscCopy>)
 /// Takes the copy of this number out of the list.
 pub(crate) fn forget_copy(online: &mut Vec<(u16, DiscCopy)>, number: u16)
     requires { AllPairs (λ c d. c.0 < d.0) online.old.items }
-    ensures { online.new.items ≡ without_copy number online.old.items }
+    ensures copies { online.new.items ≡ without_copy number online.old.items }
+    ensures room { vec_len online.old < vec_capacity online.old → vec_len online.new < vec_capacity online.new }
 {
     match online.binary_search_by_key(&number, |c| c.0) {
         Ok(place) => {

@@ -15,6 +15,7 @@ mod off;
 mod online;
 mod pinned;
 mod pins;
+mod put;
 mod records;
 
 pub use change::{Change, CopyList};

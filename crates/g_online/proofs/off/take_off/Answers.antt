@@ -1,4 +1,4 @@
-use Rattle.std.proofs.Common.{◌∷◌, ◌++◌, [], List, ℕ, get_or, subst, sym, take}
+use Rattle.std.proofs.Common.{List, ℕ, get_or, subst, sym}
 use Rattle.g_online.proofs.OffLemmas.{IsOff, front_apart, front_away, front_taken, off_more, off_next, off_none, off_rising, one_further}
 use Rattle.g_online.proofs.off.take_off.Goals as goal
 

@@ -1,4 +1,4 @@
-use Rattle.std.proofs.Common.{ℕ, ◌+◌, ◌∙◌, List, [], ◌∷◌, ◌++◌, ap, sym, option_map}
+use Rattle.std.proofs.Common.{ℕ, ◌+◌, ◌∙◌, List, [], ◌∷◌, ◌++◌, ap, sym, option_map, refl}
 use Rattle.g_entry.specs.declared.user_rec.UserRec.{UserRec}
 use Rattle.g_online.specs.declared.change.Change.TheVariants.{AddUser}
 use Rattle.g_online.specs.Kept.{Memory}
@@ -23,7 +23,7 @@ returns-in-Err g c =
       live = c.self.inside.live;
     } in
     not_applied (AddUser c.args.user.now) (g.D.Disc.state c.self.inside.disc) m (record m { users = c.reserve.new.self.users; files = c.reserve.new.self.files }) c.args.self.now c.self.view_is c.self.invariant
-    (λ i. record m { users = c.reserve.ensures.users i; files = c.reserve.ensures.files i })
+    (λ i. record m { users = c.reserve.ensures.users i; files = c.reserve.ensures.files i }) refl
 
 pub add_user-requires-clause-rules : goal.add_user-requires-clause-rules
 add_user-requires-clause-rules g c =

@@ -28,7 +28,7 @@ pub commit-requires-clause-marked : goal.commit-requires-clause-marked
 commit-requires-clause-marked g c =
     marked_for (EraseFile c.args.number) (g.D.Disc.state c.self.inside.disc) _ _
     (erased_ready c.args.number (g.D.Disc.state c.self.inside.disc) _ c.is_some-pinned.result c.kept_head-self-inside.result c.erase.new.self.users c.erase.new.self.files c.forget_copy.new.online.items c.give_unless.new.pool (64 + c.from.result) c.changed.new.self c.changed-2.new.self
-    c.note.new.changed c.note.new.touched c.in-Some.file.now.owner c.args.self.now (is_going c.args.number (g.D.Disc.state c.self.inside.disc) _ c.args.self.now c.self.view_is c.self.invariant c.requires.allowed) (ap (λ (r : FileRec). r.owner) (it_is c.args.number (g.D.Disc.state c.self.inside.disc) _ c.in-Some.file.now (is_going c.args.number (g.D.Disc.state c.self.inside.disc) _ c.args.self.now c.self.view_is c.self.invariant c.requires.allowed) c.in-Some.ensures.value)) (c.is_some-pinned.ensures ∙ sym (some_made _ c.self.inside.pins)) c.kept_head-self-inside.ensures c.erase.ensures.users c.erase.ensures.files c.forget_copy.ensures (ap (λ (n : ℕ). 64 + n) c.from.ensures)
+    c.note.new.changed c.note.new.touched c.in-Some.file.now.owner c.args.self.now (is_going c.args.number (g.D.Disc.state c.self.inside.disc) _ c.args.self.now c.self.view_is c.self.invariant c.requires.allowed) (ap (λ (r : FileRec). r.owner) (it_is c.args.number (g.D.Disc.state c.self.inside.disc) _ c.in-Some.file.now (is_going c.args.number (g.D.Disc.state c.self.inside.disc) _ c.args.self.now c.self.view_is c.self.invariant c.requires.allowed) c.in-Some.ensures.value)) (c.is_some-pinned.ensures ∙ sym (some_made _ c.self.inside.pins)) c.kept_head-self-inside.ensures c.erase.ensures.users c.erase.ensures.files c.forget_copy.ensures.copies (ap (λ (n : ℕ). 64 + n) c.from.ensures)
     c.note.ensures.changed c.note.ensures.touched
     (pool_after c.args.number (g.D.Disc.state c.self.inside.disc) _ (is_going c.args.number (g.D.Disc.state c.self.inside.disc) _ c.args.self.now c.self.view_is c.self.invariant c.requires.allowed) c.in-Some.file.now.stamp (option_copied c.copy_of.result) c.is_kept-keeps.result c.give_unless.new.pool (ap (λ (r : FileRec). r.stamp) (it_is c.args.number (g.D.Disc.state c.self.inside.disc) _ c.in-Some.file.now (is_going c.args.number (g.D.Disc.state c.self.inside.disc) _ c.args.self.now c.self.view_is c.self.invariant c.requires.allowed) c.in-Some.ensures.value)) (c.copy_of.ensures ∙ ap (λ (on : List (ℕ × DiscCopy)). copy_at on c.args.number) c.deref.ensures.value) c.is_kept-keeps.ensures c.give_unless.ensures)
     c.self.view_is c.self.invariant c.requires.allowed
@@ -39,7 +39,7 @@ pub commit-requires-clause-copies : goal.commit-requires-clause-copies
 commit-requires-clause-copies g c =
     copies_for (EraseFile c.args.number) (g.D.Disc.state c.self.inside.disc) _ _
     (erased_ready c.args.number (g.D.Disc.state c.self.inside.disc) _ c.is_some-pinned.result c.kept_head-self-inside.result c.erase.new.self.users c.erase.new.self.files c.forget_copy.new.online.items c.give_unless.new.pool (64 + c.from.result) c.changed.new.self c.changed-2.new.self
-    c.note.new.changed c.note.new.touched c.in-Some.file.now.owner c.args.self.now (is_going c.args.number (g.D.Disc.state c.self.inside.disc) _ c.args.self.now c.self.view_is c.self.invariant c.requires.allowed) (ap (λ (r : FileRec). r.owner) (it_is c.args.number (g.D.Disc.state c.self.inside.disc) _ c.in-Some.file.now (is_going c.args.number (g.D.Disc.state c.self.inside.disc) _ c.args.self.now c.self.view_is c.self.invariant c.requires.allowed) c.in-Some.ensures.value)) (c.is_some-pinned.ensures ∙ sym (some_made _ c.self.inside.pins)) c.kept_head-self-inside.ensures c.erase.ensures.users c.erase.ensures.files c.forget_copy.ensures (ap (λ (n : ℕ). 64 + n) c.from.ensures)
+    c.note.new.changed c.note.new.touched c.in-Some.file.now.owner c.args.self.now (is_going c.args.number (g.D.Disc.state c.self.inside.disc) _ c.args.self.now c.self.view_is c.self.invariant c.requires.allowed) (ap (λ (r : FileRec). r.owner) (it_is c.args.number (g.D.Disc.state c.self.inside.disc) _ c.in-Some.file.now (is_going c.args.number (g.D.Disc.state c.self.inside.disc) _ c.args.self.now c.self.view_is c.self.invariant c.requires.allowed) c.in-Some.ensures.value)) (c.is_some-pinned.ensures ∙ sym (some_made _ c.self.inside.pins)) c.kept_head-self-inside.ensures c.erase.ensures.users c.erase.ensures.files c.forget_copy.ensures.copies (ap (λ (n : ℕ). 64 + n) c.from.ensures)
     c.note.ensures.changed c.note.ensures.touched
     (pool_after c.args.number (g.D.Disc.state c.self.inside.disc) _ (is_going c.args.number (g.D.Disc.state c.self.inside.disc) _ c.args.self.now c.self.view_is c.self.invariant c.requires.allowed) c.in-Some.file.now.stamp (option_copied c.copy_of.result) c.is_kept-keeps.result c.give_unless.new.pool (ap (λ (r : FileRec). r.stamp) (it_is c.args.number (g.D.Disc.state c.self.inside.disc) _ c.in-Some.file.now (is_going c.args.number (g.D.Disc.state c.self.inside.disc) _ c.args.self.now c.self.view_is c.self.invariant c.requires.allowed) c.in-Some.ensures.value)) (c.copy_of.ensures ∙ ap (λ (on : List (ℕ × DiscCopy)). copy_at on c.args.number) c.deref.ensures.value) c.is_kept-keeps.ensures c.give_unless.ensures)
     c.self.view_is c.self.invariant c.requires.allowed
@@ -50,7 +50,7 @@ pub invariant_of-self : goal.invariant_of-self
 invariant_of-self g c =
     kept_behind (EraseFile c.args.number) (g.D.Disc.state c.self.inside.disc) (g.D.Disc.state c.commit.new.disc) _ _ c.commit.new.slots c.commit.new.pages
     (erased_ready c.args.number (g.D.Disc.state c.self.inside.disc) _ c.is_some-pinned.result c.kept_head-self-inside.result c.erase.new.self.users c.erase.new.self.files c.forget_copy.new.online.items c.give_unless.new.pool (64 + c.from.result) c.changed.new.self c.changed-2.new.self
-    c.note.new.changed c.note.new.touched c.in-Some.file.now.owner c.args.self.now (is_going c.args.number (g.D.Disc.state c.self.inside.disc) _ c.args.self.now c.self.view_is c.self.invariant c.requires.allowed) (ap (λ (r : FileRec). r.owner) (it_is c.args.number (g.D.Disc.state c.self.inside.disc) _ c.in-Some.file.now (is_going c.args.number (g.D.Disc.state c.self.inside.disc) _ c.args.self.now c.self.view_is c.self.invariant c.requires.allowed) c.in-Some.ensures.value)) (c.is_some-pinned.ensures ∙ sym (some_made _ c.self.inside.pins)) c.kept_head-self-inside.ensures c.erase.ensures.users c.erase.ensures.files c.forget_copy.ensures (ap (λ (n : ℕ). 64 + n) c.from.ensures)
+    c.note.new.changed c.note.new.touched c.in-Some.file.now.owner c.args.self.now (is_going c.args.number (g.D.Disc.state c.self.inside.disc) _ c.args.self.now c.self.view_is c.self.invariant c.requires.allowed) (ap (λ (r : FileRec). r.owner) (it_is c.args.number (g.D.Disc.state c.self.inside.disc) _ c.in-Some.file.now (is_going c.args.number (g.D.Disc.state c.self.inside.disc) _ c.args.self.now c.self.view_is c.self.invariant c.requires.allowed) c.in-Some.ensures.value)) (c.is_some-pinned.ensures ∙ sym (some_made _ c.self.inside.pins)) c.kept_head-self-inside.ensures c.erase.ensures.users c.erase.ensures.files c.forget_copy.ensures.copies (ap (λ (n : ℕ). 64 + n) c.from.ensures)
     c.note.ensures.changed c.note.ensures.touched
     (pool_after c.args.number (g.D.Disc.state c.self.inside.disc) _ (is_going c.args.number (g.D.Disc.state c.self.inside.disc) _ c.args.self.now c.self.view_is c.self.invariant c.requires.allowed) c.in-Some.file.now.stamp (option_copied c.copy_of.result) c.is_kept-keeps.result c.give_unless.new.pool (ap (λ (r : FileRec). r.stamp) (it_is c.args.number (g.D.Disc.state c.self.inside.disc) _ c.in-Some.file.now (is_going c.args.number (g.D.Disc.state c.self.inside.disc) _ c.args.self.now c.self.view_is c.self.invariant c.requires.allowed) c.in-Some.ensures.value)) (c.copy_of.ensures ∙ ap (λ (on : List (ℕ × DiscCopy)). copy_at on c.args.number) c.deref.ensures.value) c.is_kept-keeps.ensures c.give_unless.ensures)
     c.self.view_is c.self.invariant c.requires.allowed
@@ -61,7 +61,7 @@ pub returns : goal.returns
 returns g c =
     applied (EraseFile c.args.number) (g.D.Disc.state c.self.inside.disc) (g.D.Disc.state c.commit.new.disc) _ _ c.commit.new.slots c.commit.new.pages
     (erased_ready c.args.number (g.D.Disc.state c.self.inside.disc) _ c.is_some-pinned.result c.kept_head-self-inside.result c.erase.new.self.users c.erase.new.self.files c.forget_copy.new.online.items c.give_unless.new.pool (64 + c.from.result) c.changed.new.self c.changed-2.new.self
-    c.note.new.changed c.note.new.touched c.in-Some.file.now.owner c.args.self.now (is_going c.args.number (g.D.Disc.state c.self.inside.disc) _ c.args.self.now c.self.view_is c.self.invariant c.requires.allowed) (ap (λ (r : FileRec). r.owner) (it_is c.args.number (g.D.Disc.state c.self.inside.disc) _ c.in-Some.file.now (is_going c.args.number (g.D.Disc.state c.self.inside.disc) _ c.args.self.now c.self.view_is c.self.invariant c.requires.allowed) c.in-Some.ensures.value)) (c.is_some-pinned.ensures ∙ sym (some_made _ c.self.inside.pins)) c.kept_head-self-inside.ensures c.erase.ensures.users c.erase.ensures.files c.forget_copy.ensures (ap (λ (n : ℕ). 64 + n) c.from.ensures)
+    c.note.new.changed c.note.new.touched c.in-Some.file.now.owner c.args.self.now (is_going c.args.number (g.D.Disc.state c.self.inside.disc) _ c.args.self.now c.self.view_is c.self.invariant c.requires.allowed) (ap (λ (r : FileRec). r.owner) (it_is c.args.number (g.D.Disc.state c.self.inside.disc) _ c.in-Some.file.now (is_going c.args.number (g.D.Disc.state c.self.inside.disc) _ c.args.self.now c.self.view_is c.self.invariant c.requires.allowed) c.in-Some.ensures.value)) (c.is_some-pinned.ensures ∙ sym (some_made _ c.self.inside.pins)) c.kept_head-self-inside.ensures c.erase.ensures.users c.erase.ensures.files c.forget_copy.ensures.copies (ap (λ (n : ℕ). 64 + n) c.from.ensures)
     c.note.ensures.changed c.note.ensures.touched
     (pool_after c.args.number (g.D.Disc.state c.self.inside.disc) _ (is_going c.args.number (g.D.Disc.state c.self.inside.disc) _ c.args.self.now c.self.view_is c.self.invariant c.requires.allowed) c.in-Some.file.now.stamp (option_copied c.copy_of.result) c.is_kept-keeps.result c.give_unless.new.pool (ap (λ (r : FileRec). r.stamp) (it_is c.args.number (g.D.Disc.state c.self.inside.disc) _ c.in-Some.file.now (is_going c.args.number (g.D.Disc.state c.self.inside.disc) _ c.args.self.now c.self.view_is c.self.invariant c.requires.allowed) c.in-Some.ensures.value)) (c.copy_of.ensures ∙ ap (λ (on : List (ℕ × DiscCopy)). copy_at on c.args.number) c.deref.ensures.value) c.is_kept-keeps.ensures c.give_unless.ensures)
     c.self.view_is c.self.invariant c.requires.allowed

@@ -1,0 +1,67 @@
+-- NEW BYTES: where they find room, and what is done before they are written.
+use Rattle.std.specs.Prelude.{◌≡◌, ℕ, Bool, false, List, Option, Some, None, Result, Ok, Err, OnOk, OnErr}
+use Rattle.std.specs.Option.{ForSome}
+use Rattle.g_base.specs.Block.{blocks_for}
+use Rattle.g_base.specs.Told.{Changes}
+use Rattle.g_blocks.specs.Pool.{AreLeastFree, HasGiven, HasTaken}
+use Rattle.g_copy.specs.declared.copy.DiscCopy.{DiscCopy}
+use Rattle.g_disc.specs.Disc.{DiscState, WritesOnly}
+use Rattle.g_entry.specs.declared.file_rec.FileRec.{FileRec}
+use Rattle.g_entry.specs.declared.head.Head.{Head}
+use Rattle.g_entry.specs.declared.user_rec.UserRec.{UserRec}
+use Rattle.g_slots.specs.declared.side.Side.{Side}
+use Rattle.g_dirs.specs.Commit.{OldOrNew}
+use Rattle.g_dirs.specs.Directory.{Directory, directory_of}
+use Rattle.g_dirs.specs.Pages.{KeepsPages, Remembered}
+use Rattle.g_online.specs.declared.fault.OnlineFault.{OnlineFault}
+use Rattle.g_online.specs.declared.fault.OnlineFault.TheVariants.{Stopped}
+use Rattle.g_online.specs.declared.pinned.Pinned.{Pinned}
+use Rattle.g_online.specs.Committed.{HasCommitted, IsMarked, commit_blocks}
+use Rattle.g_online.specs.Copies.{without_copies}
+use Rattle.g_online.specs.Kept.{AreWhole, head_after, is_pinned}
+
+-- whether the version of a file, where there is one, is pinned
+abbrev pub is_pinned_at : Option (List Pinned) → Option FileRec → Bool
+is_pinned_at pins None = false
+is_pinned_at pins (Some r) = is_pinned pins r.stamp
+
+-- these blocks were given back, and then the least free ones were taken for so many bytes
+pub record TakesBeside (given : List ℕ) (bytes : ℕ) (old new : List Bool) (copy : DiscCopy) : Type 0 where
+  pub between : List Bool
+  pub gives : HasGiven given old between
+  pub least : AreLeastFree between (blocks_for bytes) copy.blocks
+  pub takes : HasTaken copy.blocks between new
+  pub len : copy.len ≡ bytes
+
+-- what a commit that takes files off the disc works on
+pub record Parts : Type 0 where
+  pub side : Side
+  pub pages : Remembered
+  pub head : Head
+  pub online : List (ℕ × DiscCopy)
+  pub live : Bool
+
+abbrev pub directory_with : List UserRec → List FileRec → Parts → Directory
+directory_with users files p = directory_of p.head users files p.online
+
+-- nothing was done
+pub record IsUntouched (before after : DiscState) (old new : Parts) (result : Result (Unit {0}) OnlineFault) : Type 0 where
+  pub done : result ≡ Ok tt
+  pub disc : after ≡ before
+  pub parts : new ≡ old
+
+-- THESE FILES ARE TAKEN OFF the disc by one commit, or it was stopped at one of its writes
+pub record TakesFilesOff (numbers : List ℕ) (pinned : Bool) (users : List UserRec) (files : List FileRec) (before after : DiscState) (old new : Parts) (result : Result (Unit {0}) OnlineFault) : Type 0 where
+  pub head : new.head ≡ head_after pinned old.head
+  pub online : new.online ≡ without_copies numbers old.online
+  -- what is remembered where the changes are marked
+  pub mid : Remembered
+  pub pages : KeepsPages old.pages mid
+  pub marked : IsMarked before old.side mid (directory_with users files new)
+  pub ok : OnOk result (HasCommitted (directory_with users files new) before after old.side new.side mid new.pages)
+  pub stopped : OnErr result (Changes (OldOrNew (directory_with users files new)) before.held after.held)
+  pub counts : WritesOnly (commit_blocks (directory_with users files new) old.side mid) before after result
+  pub whole : ForSome after.held (AreWhole after.size)
+  pub lives : OnOk result (new.live ≡ old.live)
+  pub dies : OnErr result (new.live ≡ false)
+  pub only : OnErr result (result ≡ Err Stopped)

@@ -1,0 +1,389 @@
+//! New bytes: they find room and are written beside all that the disc holds, before a commit names them.
+ghost use Rattle.std.specs.Prelude.{◌≡◌, ◌≢◌, ◌⊎◌, ◌↔◌, ◌+◌, ◌<◌, ◌≤◌, ◌^◌, All, AllPairs, Err, IfErr, IfOk, IsErrOf, Ok, OnErr, OnOk, [], false, length, option_map, true, vec_len};
+ghost use Rattle.std.specs.Option.{ForSome, option_copied};
+ghost use Rattle.std.specs.Vec.{vec_capacity};
+ghost use Rattle.std.specs.FinMap as finmap;
+ghost use Rattle.g_base.specs.Block as block;
+ghost use Rattle.g_base.specs.Told.{Changes};
+ghost use Rattle.g_blocks.specs.Pool.{AreLeastFree, HasGiven, HasTaken, IsFree, IsTaken, free_count};
+ghost use Rattle.g_copy.specs.Copy.{Holds, IsCopy, OnlyAt};
+ghost use Rattle.g_disc.specs.Disc.{WritesOnly};
+ghost use Rattle.g_entry.specs.declared.format.Format.TheVariants.{Two};
+ghost use Rattle.g_tree.specs.Records.{by_number};
+ghost use Rattle.g_dirs.specs.Directory.{AreCopies, AreRecords, IsDirectory, copy_at, directory_of};
+ghost use Rattle.g_dirs.specs.Pages.{marked};
+ghost use Rattle.g_online.specs.Allowed.{IsAllowed};
+ghost use Rattle.g_online.specs.Committed.{IsMarked};
+ghost use Rattle.g_online.specs.Copies.{with_copy_at, without_copies, without_copy};
+ghost use Rattle.g_online.specs.Done.{IsApplied};
+ghost use Rattle.g_online.specs.Kept.{AreWhole, GivesUnless, copy_places, head_after};
+ghost use Rattle.g_online.specs.Off.{MarksFiles, places_off};
+ghost use Rattle.g_online.specs.Put.{IsUntouched, TakesBeside, TakesFilesOff, is_pinned_at};
+
+use crate::change::Change;
+use crate::commit::commit;
+use crate::copies::{copy_of, put_copy};
+use crate::erase::{forget_copy, give_unless, is_kept};
+use crate::pinned::Pinned;
+use crate::records::{kept_head, note};
+use crate::{Online, OnlineFault};
+use g_base::{BlockList, FIRST_FILE_BLOCK, blocks_for};
+use g_blocks::Pool;
+use g_copy::{DiscCopy, write_copy};
+use g_dirs::Pages;
+use g_disc::Disc;
+use g_entry::{FileRec, Head};
+use g_name::Text;
+use g_slots::Slots;
+use g_tree::{NumberList, Tree};
+use std::alloc::Global;
+
+impl<D: Disc> Online<D> {
+    /// Puts a new version in, under a new number or in the place of the file of its number: what `Change::PutFile` says.
+    /// The files of `unjam` are taken off the disc before, by a commit of its own. Blocks and memory are seen to first, so
+    /// that a refusal leaves all as it was: `DiscFull` comes exactly where the blocks that would be free are too few.
+    pub fn put_file(
+        &mut self,
+        alloc: Global,
+        rec: &FileRec,
+        bytes: &Text,
+        unjam: &NumberList,
+    ) -> Result<(), OnlineFault>
+        requires allowed { IsAllowed (Change.PutFile rec.now bytes.now unjam.now) self.old }
+        ensures { IsApplied (Change.PutFile rec.now bytes.now unjam.now) self.old self.new result }
+    {
+        let numbers = unjam.as_slice();
+        let content = bytes.as_slice();
+        let copy = match make_ready(
+            alloc,
+            &mut self.pool,
+            &mut self.tree,
+            &mut self.online,
+            numbers,
+            rec.len,
+        ) {
+            Ok(copy) => copy,
+            Err(fault) => return Err(fault),
+        };
+        let pinned = self.pins.is_some();
+        match unjam_first(
+            &mut self.disc,
+            &mut self.slots,
+            &mut self.pages,
+            &mut self.live,
+            &mut self.head,
+            &self.tree,
+            &mut self.online,
+            pinned,
+            numbers,
+        ) {
+            Ok(()) => {}
+            Err(fault) => return Err(fault),
+        }
+        match write_new(&mut self.disc, &mut self.live, &copy, content) {
+            Ok(()) => {}
+            Err(fault) => return Err(fault),
+        }
+        let keeps = is_kept_at(&self.pins, &self.tree, rec.number);
+        replace_copy(keeps, &mut self.pool, &mut self.online, rec.number, copy);
+        self.head = next_head(&self.head, pinned);
+        self.pages.changed(0);
+        self.tree.put(rec.copy());
+        self.pages.changed(FIRST_FILE_BLOCK + u32::from(rec.number));
+        note(&mut self.changed, &mut self.touched, pinned, rec.owner);
+        commit(
+            &mut self.disc,
+            &mut self.slots,
+            &mut self.pages,
+            &mut self.live,
+            &self.head,
+            &self.tree,
+            &self.online,
+        )
+    }
+}
+
+/// Sees to blocks and memory for a new copy of `len` bytes. The blocks of the files that are to be taken off are given back
+/// for it. Where it refuses, all is as before.
+fn make_ready(
+    alloc: Global,
+    pool: &mut Pool,
+    tree: &mut Tree,
+    online: &mut Vec<(u16, DiscCopy)>,
+    numbers: &[u16],
+    len: u32,
+) -> Result<DiscCopy, OnlineFault>
+    requires rising { AllPairs (λ c d. c.0 < d.0) online.old.items }
+    requires apart { AllPairs (λ j k. j ≢ k) (places_off numbers.now online.old.items) }
+    requires taken { All (IsTaken pool.old) (places_off numbers.now online.old.items) }
+    requires len { len ≤ 65536 }
+    ensures users { tree.new.users ≡ tree.old.users }
+    ensures files { tree.new.files ≡ tree.old.files }
+    ensures items { online.new.items ≡ online.old.items }
+    ensures ok { IfOk result (TakesBeside (places_off numbers.now online.old.items) len pool.old pool.new) }
+    ensures spare { OnOk result (1 ≤ tree.new.spare) }
+    ensures room { OnOk result (vec_len online.new < vec_capacity online.new) }
+    ensures full { IsErrOf result (OnlineFault.DiscFull (block.blocks_for len)
+        (free_count pool.old + length (places_off numbers.now online.old.items)))
+        ↔ (free_count pool.old + length (places_off numbers.now online.old.items) < block.blocks_for len) }
+    ensures same { OnErr result (pool.new ≡ pool.old) }
+    ensures only { IfErr result (λ e. (e ≡ OnlineFault.NoMemory) ⊎ (e ≡ OnlineFault.DiscFull (block.blocks_for len)
+        (free_count pool.old + length (places_off numbers.now online.old.items)))) }
+{
+    let lists = make_room(tree, online);
+    give_all(pool, online, numbers);
+    match take_blocks(alloc, lists, pool, blocks_for(len)) {
+        Ok(blocks) => Ok(DiscCopy {
+            blocks: list_of(&blocks),
+            len,
+        }),
+        Err(fault) => {
+            retake_all(pool, online, numbers);
+            Err(fault)
+        }
+    }
+}
+
+/// Makes room for one more file in the lists of files and of copies; false without memory.
+fn make_room(tree: &mut Tree, online: &mut Vec<(u16, DiscCopy)>) -> bool
+    ensures users { tree.new.users ≡ tree.old.users }
+    ensures files { tree.new.files ≡ tree.old.files }
+    ensures items { online.new.items ≡ online.old.items }
+    ensures spare { result ≡ true → 1 ≤ tree.new.spare }
+    ensures room { result ≡ true → vec_len online.new < vec_capacity online.new }
+{
+    match tree.reserve() {
+        Ok(()) => {}
+        Err(_) => return false,
+    }
+    match online.reserve(1) {
+        Ok(()) => true,
+        Err(_) => false,
+    }
+}
+
+/// Takes the n least free blocks, where there is room in the lists. Blocks that aren't there are told first.
+fn take_blocks(alloc: Global, lists: bool, pool: &mut Pool, n: u32) -> Result<Vec<u32>, OnlineFault>
+    ensures least { IfOk result (λ blocks. AreLeastFree pool.old n blocks.items) }
+    ensures taken { IfOk result (λ blocks. HasTaken blocks.items pool.old pool.new) }
+    ensures lists { OnOk result (lists ≡ true) }
+    ensures full { IsErrOf result (OnlineFault.DiscFull n (free_count pool.old)) ↔ (free_count pool.old < n) }
+    ensures same { OnErr result (pool.new ≡ pool.old) }
+    ensures only { IfErr result (λ e. (e ≡ OnlineFault.NoMemory) ⊎ (e ≡ OnlineFault.DiscFull n (free_count pool.old))) }
+{
+    let room = pool.free();
+    if room < n {
+        return Err(OnlineFault::DiscFull { need: n, room });
+    }
+    if !lists {
+        return Err(OnlineFault::NoMemory);
+    }
+    match pool.take(alloc, n) {
+        Ok(blocks) => Ok(blocks),
+        Err(_) => Err(OnlineFault::NoMemory),
+    }
+}
+
+/// The list of these numbers.
+fn list_of(numbers: &[u32]) -> BlockList
+    requires { length numbers.now ≤ 128 }
+    ensures { result ≡ numbers.now }
+{
+    BlockList::from_slice(numbers).unwrap()
+}
+
+/// Gives the blocks of these files back to the pool.
+fn give_all(pool: &mut Pool, online: &[(u16, DiscCopy)], numbers: &[u16])
+    requires rising { AllPairs (λ c d. c.0 < d.0) online.now }
+    requires apart { AllPairs (λ j k. j ≢ k) (places_off numbers.now online.now) }
+    requires taken { All (IsTaken pool.old) (places_off numbers.now online.now) }
+    ensures { HasGiven (places_off numbers.now online.now) pool.old pool.new }
+{
+    for number in numbers {
+        give_one(pool, online, *number);
+    }
+}
+
+/// The same of one file.
+fn give_one(pool: &mut Pool, online: &[(u16, DiscCopy)], number: u16)
+    requires rising { AllPairs (λ c d. c.0 < d.0) online.now }
+    requires apart { AllPairs (λ j k. j ≢ k) (copy_places (copy_at online.now number)) }
+    requires taken { All (IsTaken pool.old) (copy_places (copy_at online.now number)) }
+    ensures { HasGiven (copy_places (copy_at online.now number)) pool.old pool.new }
+{
+    give_unless(false, pool, copy_of(online, number));
+}
+
+/// Takes them again, which needs no memory.
+fn retake_all(pool: &mut Pool, online: &[(u16, DiscCopy)], numbers: &[u16])
+    requires rising { AllPairs (λ c d. c.0 < d.0) online.now }
+    requires apart { AllPairs (λ j k. j ≢ k) (places_off numbers.now online.now) }
+    requires free { All (IsFree pool.old) (places_off numbers.now online.now) }
+    ensures { HasTaken (places_off numbers.now online.now) pool.old pool.new }
+{
+    for number in numbers {
+        retake_one(pool, online, *number);
+    }
+}
+
+/// The same of one file.
+fn retake_one(pool: &mut Pool, online: &[(u16, DiscCopy)], number: u16)
+    requires rising { AllPairs (λ c d. c.0 < d.0) online.now }
+    requires apart { AllPairs (λ j k. j ≢ k) (copy_places (copy_at online.now number)) }
+    requires free { All (IsFree pool.old) (copy_places (copy_at online.now number)) }
+    ensures { HasTaken (copy_places (copy_at online.now number)) pool.old pool.new }
+{
+    retake_copy(pool, copy_of(online, number));
+}
+
+/// Takes the blocks of a copy again, if it is one.
+fn retake_copy(pool: &mut Pool, copy: Option<&DiscCopy>)
+    requires apart { AllPairs (λ j k. j ≢ k) (copy_places (option_copied copy)) }
+    requires free { All (IsFree pool.old) (copy_places (option_copied copy)) }
+    ensures { HasTaken (copy_places (option_copied copy.entry)) pool.old pool.new }
+{
+    match copy {
+        Some(copy) => pool.retake(copy.blocks.as_slice()),
+        None => pool.retake(&[]),
+    }
+}
+
+/// Takes these files off the disc by one commit, if there are any. Their blocks aren't looked at.
+fn unjam_first<D: Disc>(
+    disc: &mut D,
+    slots: &mut Slots,
+    pages: &mut Pages,
+    live: &mut bool,
+    head: &mut Head,
+    tree: &Tree,
+    online: &mut Vec<(u16, DiscCopy)>,
+    pinned: bool,
+    numbers: &[u16],
+) -> Result<(), OnlineFault>
+    requires below { All (λ n. n < 1024) numbers.now }
+    requires copies { AreCopies tree.now.files online.old.items }
+    requires marked { IsMarked (D.state disc.old) slots.old pages.old
+        (directory_of head.old tree.now.users tree.now.files online.old.items) }
+    requires records { AreRecords Two (directory_of (head_after pinned head.old) tree.now.users tree.now.files
+        (without_copies numbers.now online.old.items)) }
+    requires rules { IsDirectory (D.state disc.old).size (directory_of (head_after pinned head.old)
+        tree.now.users tree.now.files (without_copies numbers.now online.old.items)) }
+    ensures none { numbers.now ≡ [] → IsUntouched (D.state disc.old) (D.state disc.new)
+        (record { side = slots.old; pages = pages.old; head = head.old; online = online.old.items; live = live.old })
+        (record { side = slots.new; pages = pages.new; head = head.new; online = online.new.items; live = live.new })
+        result }
+    ensures off { 0 < length numbers.now
+        → TakesFilesOff numbers.now pinned tree.now.users tree.now.files (D.state disc.old) (D.state disc.new)
+        (record { side = slots.old; pages = pages.old; head = head.old; online = online.old.items; live = live.old })
+        (record { side = slots.new; pages = pages.new; head = head.new; online = online.new.items; live = live.new })
+        result }
+    ensures room { vec_len online.old < vec_capacity online.old → vec_len online.new < vec_capacity online.new }
+{
+    if numbers.is_empty() {
+        return Ok(());
+    }
+    *head = kept_head(head, pinned);
+    pages.changed(0);
+    forget_all(pages, online, numbers);
+    commit(disc, slots, pages, live, head, tree, online)
+}
+
+/// Takes the copies of these files out of the list, and marks their records.
+fn forget_all(pages: &mut Pages, online: &mut Vec<(u16, DiscCopy)>, numbers: &[u16])
+    requires rising { AllPairs (λ c d. c.0 < d.0) online.old.items }
+    requires below { All (λ n. n < 1024) numbers.now }
+    ensures copies { online.new.items ≡ without_copies numbers.now online.old.items }
+    ensures marks { MarksFiles numbers.now pages.old pages.new }
+    ensures room { vec_len online.old < vec_capacity online.old → vec_len online.new < vec_capacity online.new }
+{
+    for number in numbers {
+        forget_one(pages, online, *number);
+    }
+}
+
+/// The same of one file.
+fn forget_one(pages: &mut Pages, online: &mut Vec<(u16, DiscCopy)>, number: u16)
+    requires rising { AllPairs (λ c d. c.0 < d.0) online.old.items }
+    requires below { number < 1024 }
+    ensures copies { online.new.items ≡ without_copy number online.old.items }
+    ensures marks { pages.new ≡ marked (64 + number) pages.old }
+    ensures room { vec_len online.old < vec_capacity online.old → vec_len online.new < vec_capacity online.new }
+{
+    forget_copy(online, number);
+    pages.changed(FIRST_FILE_BLOCK + u32::from(number));
+}
+
+/// Writes the bytes into the blocks of their copy. Where a write fails the filestore is live no more.
+fn write_new<D: Disc>(
+    disc: &mut D,
+    live: &mut bool,
+    copy: &DiscCopy,
+    bytes: &[u8],
+) -> Result<(), OnlineFault>
+    requires size { 2177 < (D.state disc.old).size }
+    requires copy { IsCopy (D.state disc.old).size copy.now }
+    requires len { copy.now.len ≡ length bytes.now }
+    ensures counts { WritesOnly (length copy.now.blocks) (D.state disc.old) (D.state disc.new) result }
+    ensures ok { OnOk result
+        (Changes (Holds copy.now.blocks bytes.now) (D.state disc.old).held (D.state disc.new).held) }
+    ensures stopped { OnErr result
+        (Changes (OnlyAt copy.now.blocks) (D.state disc.old).held (D.state disc.new).held) }
+    ensures lives { OnOk result (live.new ≡ live.old) }
+    ensures dies { OnErr result (live.new ≡ false) }
+    ensures whole { ForSome (D.state disc.new).held (AreWhole (D.state disc.new).size) }
+    ensures only { OnErr result (result ≡ Err OnlineFault.Stopped) }
+{
+    match write_copy(disc, copy, bytes) {
+        Ok(()) => {
+            let _size = disc.size();
+            Ok(())
+        }
+        Err(_) => {
+            let _size = disc.size();
+            *live = false;
+            Err(OnlineFault::Stopped)
+        }
+    }
+}
+
+/// Whether the version of the file of this number, if there is one, is pinned, so that its blocks stay.
+fn is_kept_at(pins: &Option<Vec<Pinned>>, tree: &Tree, number: u16) -> bool
+    ensures { result ≡ is_pinned_at (option_map (λ v. v.items) pins.now)
+        (finmap.get (by_number tree.now.files) number) }
+{
+    match tree.file_at(number) {
+        Some(file) => is_kept(pins, file.stamp),
+        None => false,
+    }
+}
+
+/// Puts a new copy in the place of the one of its file, whose blocks go back to the pool unless they are kept.
+fn replace_copy(
+    keeps: bool,
+    pool: &mut Pool,
+    online: &mut Vec<(u16, DiscCopy)>,
+    number: u16,
+    copy: DiscCopy,
+)
+    requires rising { AllPairs (λ c d. c.0 < d.0) online.old.items }
+    requires room { vec_len online.old < vec_capacity online.old }
+    requires apart { keeps ≡ false → AllPairs (λ j k. j ≢ k) (copy_places (copy_at online.old.items number)) }
+    requires taken { keeps ≡ false → All (IsTaken pool.old) (copy_places (copy_at online.old.items number)) }
+    ensures copies { online.new.items ≡ with_copy_at (number, copy) online.old.items }
+    ensures blocks { GivesUnless keeps (copy_places (copy_at online.old.items number)) pool.old pool.new }
+{
+    give_unless(keeps, pool, copy_of(online, number));
+    put_copy(online, number, copy);
+}
+
+/// The head of the commit of a new version: the next stamp is one more.
+fn next_head(head: &Head, pinned: bool) -> Head
+    requires { head.now.next_stamp ≤ 2 ^ 62 }
+    ensures { result ≡ head_after pinned (record head.now { next_stamp = head.now.next_stamp + 1 }) }
+{
+    let next = Head {
+        next_stamp: head.next_stamp + 1,
+        ..*head
+    };
+    kept_head(&next, pinned)
+}
