@@ -1,7 +1,9 @@
 pub mod ClosingLemmas
+pub mod CommitLemmas
 pub mod DumpingLemmas
 pub mod OpeningLemmas
 pub mod PinLemmas
 pub mod RecordLemmas
+pub mod RefusalLemmas
 pub mod StateLemmas
 pub mod UpOneLemmas

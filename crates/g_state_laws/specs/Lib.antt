@@ -1,2 +1,4 @@
+pub mod Commits
 pub mod Dumping
+pub mod Refusals
 pub mod States

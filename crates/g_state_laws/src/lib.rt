@@ -2,7 +2,9 @@
 //! while it is up it keeps over each event. Laws alone.
 #![tactic(auto)]
 
+ghost use Rattle.g_state_laws.specs.Commits.{CommitsAreTold};
 ghost use Rattle.g_state_laws.specs.Dumping.{ClosingStaysUp, EventsStayUp, OpeningStaysUp};
+ghost use Rattle.g_state_laws.specs.Refusals.{RefusalsOfCalls};
 ghost use Rattle.g_state_laws.specs.States.{HaveStates, StoreIsOne};
 
 /// A store that tells what it holds, and belongs together, stands for one state, with the dump that it has open.
@@ -23,4 +25,16 @@ pub fn events_stay_up()
     ensures events { EventsStayUp }
     ensures opening { OpeningStaysUp }
     ensures closing { ClosingStaysUp }
+{}
+
+/// A lost copy, a wait, a failed read and a full disc come to the calls that want what they speak of, and to no others; and where
+/// the devices tell, a stop comes to no call that only tells.
+pub fn refusals_go_by_calls()
+    ensures { RefusalsOfCalls }
+{}
+
+/// How many commits an event made can be told by the slot that is current behind it, and each is counted among the writes: whoever
+/// owes one commit hasn't made two.
+pub fn commits_are_told()
+    ensures { CommitsAreTold }
 {}
