@@ -1,6 +1,7 @@
-mod NeedsLemmas
-mod PlaceLemmas
-mod RoomLemmas
-mod TreeLemmas
-mod UserLemmas
-mod WaitingLemmas
+pub mod NeedsLemmas
+pub mod PlaceLemmas
+pub mod RoomLemmas
+pub mod TreeLemmas
+pub mod UnjamLemmas
+pub mod UserLemmas
+pub mod WaitingLemmas

@@ -43,7 +43,7 @@ use Rattle.g_state_steps.proofs.UserLemmas.{any_none, any_there, called, is_call
 use Rattle.g_state_steps.proofs.WaitingLemmas.{IsPinned, are_of, mapped_there, waiting_is}
 
 -- USERS by name and number
-users_named : (users : List UserRec) (files : List FileRec) → IsRecords users files → (u : UserRec) → Contains users u → All (IsNamed u.number u.user) users
+pub users_named : (users : List UserRec) (files : List FileRec) → IsRecords users files → (u : UserRec) → Contains users u → All (IsNamed u.number u.user) users
 users_named users files rules u there i d within =
     let v = get_or users i d in
     let in_users = Contains-get_or users i d within in (
@@ -69,7 +69,7 @@ any_kept users changed u there named (inr isnt) =
     (contains_filter (λ (v : UserRec). not (has changed v.number)) users u there (ap not isnt)) ((eq_by_cmp_equiv text_total).refl u.user))
     ∙ sym isnt
 
-kept_is : (users : List UserRec) (files : List FileRec) (changed : List ℕ) (owner : ℕ) → IsRecords users files → owner < length users
+pub kept_is : (users : List UserRec) (files : List FileRec) (changed : List ℕ) (owner : ℕ) → IsRecords users files → owner < length users
     → not (state.is_in (names_of (users_not_in changed users)) (name_of users owner)) ≡ has changed owner
 kept_is users files changed owner rules within =
     let u = get_or users owner nobody in
@@ -239,7 +239,7 @@ module _ (text : ℕ → List ℕ) (shelf : ℕ → List Dump) (changed : List �
       (are_of serial (at + blocks_for w.len) ws rest more))
       (pins_differ serial (at + blocks_for w.len) ws rest more (pairs_tail OtherStamp w ws apart)))
 
-  content_is : waiting_blocks (waiting held) ≡ blocks_of (waiting_files plan.files)
+  pub content_is : waiting_blocks (waiting held) ≡ blocks_of (waiting_files plan.files)
   content_is =
       let ws = waiting_files plan.files in
       let es : List (ℕ × ℕ) = map (λ (p : Pin). (p.stamp, blocks_for p.len)) pins in

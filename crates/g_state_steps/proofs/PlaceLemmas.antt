@@ -127,7 +127,7 @@ to_parts files f g there other = by_order (cases_order g.rec.number f.rec.number
         Contains-append_right (filter (below f.rec.number) files) (f ∷ filter (beyond f.rec.number) files) g
         (Contains-append_right (f ∷ []) (filter (beyond f.rec.number) files) g (contains_filter (beyond f.rec.number) files g there (lt-ltb f.rec.number g.rec.number more)))
 
-itself_there : (files : List File) (f : File) → Contains (with_file f files) f
+pub itself_there : (files : List File) (f : File) → Contains (with_file f files) f
 itself_there files f = Contains-append_right (filter (below f.rec.number) files) (f ∷ filter (beyond f.rec.number) files) f (0, omega arith, refl)
 
 abbrev Other : File → File → Type 0

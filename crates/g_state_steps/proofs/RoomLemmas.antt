@@ -89,7 +89,7 @@ module _ (text : ℕ → List ℕ) (c : Contents) (kept : List UserRec) (rules :
       ∙ any_of_map (λ (e : Full × FileRec). p (in_tree e)) named (recs_in c)
       ∙ any_of_map (λ (r : FileRec). p (in_tree (named r))) (λ (g : File). g.rec) c.files
 
-  current_is : (stamp : ℕ) → state.is_current held.tree stamp ≡ facts.is_current c.files stamp
+  pub current_is : (stamp : ℕ) → state.is_current held.tree stamp ≡ facts.is_current c.files stamp
   current_is stamp = any_is (λ (e : Full × FileRow). e.1.stamp == stamp)
 
   only_is : (b : Bool) (m n : ℕ) → m ≡ n → state.only_if b m ≡ (if b then n else 0)

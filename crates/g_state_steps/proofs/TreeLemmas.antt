@@ -50,7 +50,7 @@ gathered_there (v ∷ vs) files u r (suc i, within, is) there =
     Contains-append_right (files_of v.number files) (gathered_by vs files) r (gathered_there vs files u r (i, omega (arith, within), is) there)
 
 module _ (users : List UserRec) (files : List FileRec) (rules : IsRecords users files) where
-  all_there : (r : FileRec) → Contains files r → Contains (gathered_by users files) r
+  pub all_there : (r : FileRec) → Contains files r → Contains (gathered_by users files) r
   all_there r there =
       let owner : r.owner < length users = All-contains (λ (s : FileRec). s.owner < length users) files r rules.among_files.owners there in
       let u = get_or users r.owner nobody in
@@ -58,7 +58,7 @@ module _ (users : List UserRec) (files : List FileRec) (rules : IsRecords users 
       gathered_there users files u r (Contains-get_or users r.owner nobody owner)
       (contains_filter (λ (s : FileRec). s.owner == u.number) files r there (eq-eqb r.owner u.number (sym number)))
 
-  none_more : (r : FileRec) → Contains (gathered_by users files) r → Contains files r
+  pub none_more : (r : FileRec) → Contains (gathered_by users files) r → Contains files r
   none_more r there = All-contains (Contains files) (gathered_by users files) r (gathered_all_of (Contains files) users files (All-contains_itself files)) there
 
   gathered_apart : AreApart (full_of users) (gathered_by users files)
@@ -79,7 +79,7 @@ module _ (users : List UserRec) (files : List FileRec) (rules : IsRecords users 
         ∙ sym (get-from_entries full_total (keyed (full_of users) files) q)) ∙ sym (get_file users files row q))
 
 -- WHAT THE DUMPS GATHER, but for numbers
-gathered_same : (dumps : List Dump) → AreNumberedApart dumps → (ys : List FileRec) (users : List UserRec) (files : List FileRec)
+pub gathered_same : (dumps : List Dump) → AreNumberedApart dumps → (ys : List FileRec) (users : List UserRec) (files : List FileRec)
     → ((u : UserRec) → Contains users u → IsKept dumps u.number (files_of u.number ys)) → Gathers dumps users files → map unnumbered files ≡ map unnumbered (gathered_by users ys)
 gathered_same dumps apart ys [] files kept is = ap (map unnumbered) is
 gathered_same dumps apart ys (u ∷ us) files kept (e, has, rest, are, more) =
@@ -92,7 +92,7 @@ gathered_same dumps apart ys (u ∷ us) files kept (e, has, rest, are, more) =
     ∙ ap (λ (rs : List FileRec). map unnumbered (files_of u.number ys) ++ rs) (gathered_same dumps apart ys us rest (λ v in_us. kept v (Contains-append_right (u ∷ []) us v in_us)) more)
     ∙ sym (map-append unnumbered (files_of u.number ys) (gathered_by us ys))
 
-gathered_copied : (copies : List (ℕ × TapeCopy)) (users : List UserRec) (files : List FileRec) → gathered_by users (map (copied_rec copies) files) ≡ map (copied_rec copies) (gathered_by users files)
+pub gathered_copied : (copies : List (ℕ × TapeCopy)) (users : List UserRec) (files : List FileRec) → gathered_by users (map (copied_rec copies) files) ≡ map (copied_rec copies) (gathered_by users files)
 gathered_copied copies [] files = refl
 gathered_copied copies (u ∷ us) files =
     ap (λ (rs : List FileRec). rs ++ gathered_by us (map (copied_rec copies) files)) (copied_files u.number copies files)

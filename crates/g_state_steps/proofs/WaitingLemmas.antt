@@ -42,18 +42,18 @@ mapped_there f [] x (i, within, is) = let no : ⊥ = omega (arith, within) in ab
 mapped_there f (y ∷ ys) x (zero, within, is) = (0, omega arith, ap f is)
 mapped_there f (y ∷ ys) x (suc i, within, is) = Contains-append_right (f y ∷ []) (map f ys) (f x) (mapped_there f ys x (i, omega (arith, within), is))
 
-from_mapped : {A B : Type 0} (f : A → B) (xs : List A) (y : B) → Contains (map f xs) y → (x : A) × Contains xs x × (f x ≡ y)
+pub from_mapped : {A B : Type 0} (f : A → B) (xs : List A) (y : B) → Contains (map f xs) y → (x : A) × Contains xs x × (f x ≡ y)
 from_mapped f [] y (i, within, is) = let no : ⊥ = omega (arith, within) in absurd no
 from_mapped f (x ∷ xs) y (zero, within, is) = (x, (0, omega arith, refl), is)
 from_mapped f (x ∷ xs) y (suc i, within, is) =
     let (z, there, same) = from_mapped f xs y (i, omega (arith, within), is) in (z, Contains-append_right (x ∷ []) xs z there, same)
 
-no_copy : (tape : Option TapeCopy) → is_none tape ≡ true → tape ≡ None
+pub no_copy : (tape : Option TapeCopy) → is_none tape ≡ true → tape ≡ None
 no_copy None is = refl
 no_copy (Some copy) is = absurd (both_ways false refl is)
 
 -- LOOKING UP a number among elements: one value, or none
-find_value : {A : Type 0} (key value : A → ℕ) (xs : List A) (q v : ℕ) (x : A) → Contains xs x → key x ≡ q → All (λ y. key y ≡ q → value y ≡ v) xs
+pub find_value : {A : Type 0} (key value : A → ℕ) (xs : List A) (q v : ℕ) (x : A) → Contains xs x → key x ≡ q → All (λ y. key y ≡ q → value y ≡ v) xs
     → find nat_cmp q (map (λ y. (key y, value y)) xs) ≡ Some v
 find_value key value [] q v x (i, within, is) same all = let no : ⊥ = omega (arith, within) in absurd no
 find_value {A} key value (y ∷ ys) q v x there same all =
@@ -70,7 +70,7 @@ find_value {A} key value (y ∷ ys) q v x there same all =
     by_key (inr isnt) rest =
         ap (λ (b : Bool). cond b (Some (value y)) (find nat_cmp q (map (λ z. (key z, value z)) ys))) (apart_is nat_cmp_total nat_cmp-IsAntisymmetric q (key y) (λ e. isnt (sym e))) ∙ rest isnt
 
-find_nothing : {A : Type 0} (key value : A → ℕ) (xs : List A) (q : ℕ) → All (λ y. key y ≢ q) xs → find nat_cmp q (map (λ y. (key y, value y)) xs) ≡ None
+pub find_nothing : {A : Type 0} (key value : A → ℕ) (xs : List A) (q : ℕ) → All (λ y. key y ≢ q) xs → find nat_cmp q (map (λ y. (key y, value y)) xs) ≡ None
 find_nothing key value [] q all = refl
 find_nothing key value (y ∷ ys) q all =
     ap (λ (b : Bool). cond b (Some (value y)) (find nat_cmp q (map (λ z. (key z, value z)) ys)))
@@ -116,7 +116,7 @@ module _ (text : ℕ → List ℕ) (shelf : ℕ → List Dump) (changed : List �
   rules = opened.dumpable.records
 
   -- a version that waits is of the plan, and the other way round
-  in_plan : (f : File) → Contains c.files f → file_waits f.rec ≡ true → Contains (waiting_files plan.files) f.rec
+  pub in_plan : (f : File) → Contains c.files f → file_waits f.rec ≡ true → Contains (waiting_files plan.files) f.rec
   in_plan f there is =
       let (long, none) = and_parts (nat_lt 0 f.rec.len) (is_none f.rec.tape) is in
       let held : holds changed f.rec.owner ≡ true = All-contains (λ (g : File). 0 < g.rec.len → g.rec.tape ≡ None → holds changed g.rec.owner ≡ true) c.files f opened.dumpable.waits there (ltb-true 0 f.rec.len long) (no_copy f.rec.tape none) in
@@ -125,7 +125,7 @@ module _ (text : ℕ → List ℕ) (shelf : ℕ → List Dump) (changed : List �
       contains_filter file_waits plan.files f.rec
       (from_filter (λ (r : FileRec). r.owner == f.rec.owner) plan.files f.rec (subst (λ (rs : List FileRec). Contains rs f.rec) (sym (opened.planned.files f.rec.owner held)) of_owner)) is
 
-  from_plan : (r : FileRec) → Contains (waiting_files plan.files) r → Contains xs r × (file_waits r ≡ true)
+  pub from_plan : (r : FileRec) → Contains (waiting_files plan.files) r → Contains xs r × (file_waits r ≡ true)
   from_plan r there =
       let in_files = from_filter file_waits plan.files r there in
       let held : holds plan.held r.owner ≡ true = All-contains (λ (s : FileRec). holds plan.held s.owner ≡ true) plan.files r opened.planned.rules.owners in_files in
@@ -143,7 +143,7 @@ module _ (text : ℕ → List ℕ) (shelf : ℕ → List Dump) (changed : List �
     entry f = (full_of c.users f.rec, file_row_of c.users (λ s. text s.stamp) f.rec)
 
     -- the entries of the tree are those of the files
-    entries_all : (P : Full × FileRow → Type 0) → All (λ f. P (entry f)) c.files → All P (entries held.tree.files)
+    pub entries_all : (P : Full × FileRow → Type 0) → All (λ f. P (entry f)) c.files → All P (entries held.tree.files)
     entries_all P all =
         let es = keyed (full_of c.users) xs in
         let row : Full × FileRec → Full × FileRow = λ e. (e.0, file_row_of c.users (λ s. text s.stamp) e.1) in
@@ -153,7 +153,7 @@ module _ (text : ℕ → List ℕ) (shelf : ℕ → List Dump) (changed : List �
         (All-map (λ (e : Full × FileRec). P (row e)) (λ (r : FileRec). (full_of c.users r, r)) xs
         (All-map (λ (r : FileRec). P (row (full_of c.users r, r))) (λ (f : File). f.rec) c.files all))))
 
-    entry_there : (f : File) → Contains c.files f → Contains (entries held.tree.files) (entry f)
+    pub entry_there : (f : File) → Contains c.files f → Contains (entries held.tree.files) (entry f)
     entry_there f there =
         let es = keyed (full_of c.users) xs in
         let row : Full × FileRec → Full × FileRow = λ e. (e.0, file_row_of c.users (λ s. text s.stamp) e.1) in

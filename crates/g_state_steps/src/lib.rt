@@ -6,6 +6,7 @@ ghost use Rattle.g_state_steps.specs.Opened.{OpeningTakes};
 ghost use Rattle.g_state_steps.specs.Places.{PlacesGoByChange, TakenHaveCopies};
 ghost use Rattle.g_state_steps.specs.Rooms.{RoomIs};
 ghost use Rattle.g_state_steps.specs.Trees.{DumpedTreeIs};
+ghost use Rattle.g_state_steps.specs.Unjam.{UnjamIs};
 ghost use Rattle.g_state_steps.specs.Users.{DumpedTextsStay, UsersGoByChange};
 
 /// The room that memory counts, over files and pins, is the room of the state.
@@ -40,4 +41,9 @@ pub fn dumped_tree_is()
 #[tactic(auto, using(crate::proofs::NeedsLemmas::opening_takes))]
 pub fn opening_takes()
     ensures { OpeningTakes }
+{}
+
+/// A plan of files that are taken off the disc is the step's: the same versions, the same room, the same places behind it.
+pub fn unjamming_goes_by_plan()
+    ensures { UnjamIs }
 {}
