@@ -4,4 +4,14 @@
 #[cfg(test)]
 mod bad;
 #[cfg(test)]
+mod bad_files;
+#[cfg(test)]
+mod bad_jobs;
+#[cfg(test)]
+mod bad_users;
+#[cfg(test)]
 mod good;
+#[cfg(test)]
+mod good_lines;
+#[cfg(test)]
+mod said;
