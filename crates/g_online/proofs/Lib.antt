@@ -41,3 +41,4 @@ pub mod UnjamLemmas
 pub mod PutStepLemmas
 pub mod NeedLemmas
 pub mod WrittenLemmas
+pub mod BringStepLemmas

@@ -2,6 +2,8 @@
 #![tactic(auto)]
 
 mod adopt;
+mod apply;
+mod bring;
 mod bytes;
 mod change;
 mod closing;

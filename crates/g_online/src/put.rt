@@ -105,7 +105,7 @@ impl<D: Disc> Online<D> {
 
 /// Sees to blocks and memory for a new copy of `len` bytes. The blocks of the files that are to be taken off are given back
 /// for it. Where it refuses, all is as before.
-fn make_ready(
+pub(crate) fn make_ready(
     alloc: Global,
     pool: &mut Pool,
     tree: &mut Tree,
@@ -249,7 +249,7 @@ fn retake_copy(pool: &mut Pool, copy: Option<&DiscCopy>)
 }
 
 /// Takes these files off the disc by one commit, if there are any. Their blocks aren't looked at.
-fn unjam_first<D: Disc>(
+pub(crate) fn unjam_first<D: Disc>(
     disc: &mut D,
     slots: &mut Slots,
     pages: &mut Pages,
@@ -314,7 +314,7 @@ fn forget_one(pages: &mut Pages, online: &mut Vec<(u16, DiscCopy)>, number: u16)
 }
 
 /// Writes the bytes into the blocks of their copy. Where a write fails the filestore is live no more.
-fn write_new<D: Disc>(
+pub(crate) fn write_new<D: Disc>(
     disc: &mut D,
     live: &mut bool,
     copy: &DiscCopy,

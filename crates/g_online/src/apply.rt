@@ -1,0 +1,34 @@
+//! Any change of the filestore.
+ghost use Rattle.g_online.specs.Allowed.{IsAllowed};
+ghost use Rattle.g_online.specs.Done.{IsApplied};
+
+use crate::change::Change;
+use crate::{Online, OnlineFault};
+use g_disc::Disc;
+use std::alloc::Global;
+
+impl<D: Disc> Online<D> {
+    /// Makes this change: it is in the disc whole, or not at all. `Stopped`: a write failed, and no further call may be made
+    /// but `arm` and `into_disc`. `DiscFull`: too few blocks would be free. `NoMemory`: there are enough. With these two
+    /// nothing has changed.
+    pub fn apply(&mut self, alloc: Global, change: &Change) -> Result<(), OnlineFault>
+        requires allowed { IsAllowed change.now self.old }
+        ensures { IsApplied change.now self.old self.new result }
+    {
+        match change {
+            Change::AddUser(user) => self.add_user(user),
+            Change::SetUser(user) => self.set_user(user),
+            Change::PutFile { rec, bytes, unjam } => self.put_file(alloc, rec, bytes, unjam),
+            Change::SetFile(rec) => self.set_file(rec),
+            Change::EraseFile(number) => self.erase_file(*number),
+            Change::Unload(numbers) => self.unload(numbers),
+            Change::Bring {
+                number,
+                bytes,
+                unjam,
+            } => self.bring(alloc, *number, bytes, unjam),
+            Change::SetIntent(intent) => self.set_intent(*intent),
+            Change::Adopt { last, copies } => self.adopt(alloc, *last, copies),
+        }
+    }
+}
