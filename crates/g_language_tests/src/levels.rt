@@ -9,7 +9,7 @@ use std::alloc::Global;
 use std::test::Fail;
 
 /// A line with the parameters put in: the first two parameters, the line, and what becomes of it.
-const LINES: [(&[u8], &[u8], &[u8], &[u8]); 12] = [
+static LINES: [(&[u8], &[u8], &[u8], &[u8]); 12] = [
     (b"X", b"", b"DISPLAY %A%%%B-%", b"DISPLAY X%-%"),
     (
         b"X",
@@ -60,7 +60,7 @@ fn is_line(told: &Option<Text>, line: &[u8]) -> bool {
 
 #[test]
 fn parameters(rt: HostRuntime) -> Result<(), Fail> {
-    for (a, b, line, filled) in LINES {
+    for (a, b, line, filled) in LINES.iter() {
         let mut levels = Levels::new(rt.alloc(), Texts::new(rt.alloc()))?;
         levels.call(rt.alloc(), one(rt.alloc(), line)?, two(rt.alloc(), a, b)?)?;
         let told = levels.next_line(rt.alloc())?;

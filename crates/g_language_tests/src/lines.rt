@@ -12,7 +12,7 @@ type Verb = (
     &'static [u8],
 );
 
-const VERBS: [Verb; 21] = [
+static VERBS: [Verb; 21] = [
     (b"COPY", None, b"COPY", &[], b""),
     (b"  COPY  ", None, b"COPY", &[], b""),
     (
@@ -70,7 +70,7 @@ const VERBS: [Verb; 21] = [
 /// and a text.
 type Condition = (&'static [u8], bool, u8, u8, &'static [u8]);
 
-const CONDITIONS: [Condition; 9] = [
+static CONDITIONS: [Condition; 9] = [
     (b"IF COMMAND ERROR,X", false, b'C', 0, b""),
     (b"IF NOT FAILED,X", true, b'F', 0, b""),
     (b"IF HALTED(),X", false, b'H', 0, b""),
@@ -82,7 +82,7 @@ const CONDITIONS: [Condition; 9] = [
     (b"1 IF STRING(%B)=(),X", false, b'S', b'B', b""),
 ];
 
-const BAD: [(&[u8], usize); 59] = [
+static BAD: [(&[u8], usize); 59] = [
     (b"IF FAILED,INPUT F", 15),
     (b"WHENEVER FAILED,INPUT", 21),
     (b"WHENEVER FAILED,WHENEVER FAILED,INPUT F", 37),
@@ -145,7 +145,7 @@ const BAD: [(&[u8], usize); 59] = [
 ];
 
 /// Whether the verb of a line is INPUT.
-const INPUTS: [(&[u8], bool); 11] = [
+static INPUTS: [(&[u8], bool); 11] = [
     (b"INPUT F", true),
     (b" INPUT", true),
     (b"1 INPUT F", true),
@@ -160,7 +160,7 @@ const INPUTS: [(&[u8], bool); 11] = [
 ];
 
 /// The label of a line, also of one that isn't in the language.
-const LABELS: [(&[u8], Option<&[u8]>); 7] = [
+static LABELS: [(&[u8], Option<&[u8]>); 7] = [
     (b"12 monkeys", Some(b"12")),
     (b"  1A", Some(b"1A")),
     (b"1,2", None),
@@ -206,9 +206,9 @@ fn is_label(told: Option<&Label>, label: Option<&[u8]>) -> bool {
 
 #[test]
 fn verbs(rt: HostRuntime) -> Result<(), Fail> {
-    for (text, label, verb, params, rest) in VERBS {
+    for (text, label, verb, params, rest) in VERBS.iter() {
         let line = parse_line(rt.alloc(), text)?;
-        assert!(rt; is_label(line.label.as_ref(), label), "label of {text:?}");
+        assert!(rt; is_label(line.label.as_ref(), *label), "label of {text:?}");
         assert!(rt;
             is_verb(&line.command, verb, params, rest),
             "verb of {text:?}"
@@ -241,10 +241,10 @@ fn is_behind(command: &Command, is_negated: bool, kind: u8, letter: u8, plain: &
 
 #[test]
 fn conditions(rt: HostRuntime) -> Result<(), Fail> {
-    for (text, is_negated, kind, letter, plain) in CONDITIONS {
+    for (text, is_negated, kind, letter, plain) in CONDITIONS.iter() {
         let line = parse_line(rt.alloc(), text)?;
         assert!(rt;
-            is_behind(&line.command, is_negated, kind, letter, plain),
+            is_behind(&line.command, *is_negated, *kind, *letter, plain),
             "{text:?}"
         );
     }
@@ -296,9 +296,9 @@ fn goto(rt: HostRuntime) -> Result<(), Fail> {
 
 #[test]
 fn bad_lines(rt: HostRuntime) {
-    for (text, place) in BAD {
+    for (text, place) in BAD.iter() {
         let is_bad = match parse_line(rt.alloc(), text) {
-            Err(LangFault::BadLine(told)) => told == place,
+            Err(LangFault::BadLine(told)) => told == *place,
             _ => false,
         };
         assert!(rt; is_bad, "at {text:?}");
@@ -307,14 +307,14 @@ fn bad_lines(rt: HostRuntime) {
 
 #[test]
 fn inputs(rt: HostRuntime) {
-    for (text, is_input) in INPUTS {
-        assert!(rt; is_input_line(text) == is_input, "at {text:?}");
+    for (text, is_input) in INPUTS.iter() {
+        assert!(rt; is_input_line(text) == *is_input, "at {text:?}");
     }
 }
 
 #[test]
 fn labels(rt: HostRuntime) {
-    for (text, label) in LABELS {
-        assert!(rt; is_label(label_of(text).as_ref(), label), "of {text:?}");
+    for (text, label) in LABELS.iter() {
+        assert!(rt; is_label(label_of(text).as_ref(), *label), "of {text:?}");
     }
 }

@@ -65,7 +65,7 @@ fn fault_of_operators(number: u8) -> Option<StoreFault>
     }
 }
 
-const JOBS: [(u8, &[u8]); 13] = [
+static JOBS: [(u8, &[u8]); 13] = [
     (1, b"1 NO USER"),
     (2, b"2 NO FILE"),
     (3, b"3 EXISTS"),
@@ -81,7 +81,7 @@ const JOBS: [(u8, &[u8]); 13] = [
     (18, b"18 NOT OWNER"),
 ];
 
-const OPERATORS: [(u8, &[u8]); 16] = [
+static OPERATORS: [(u8, &[u8]); 16] = [
     (19, b"19 COUNTERS SPENT"),
     (20, b"20 NOT STARTED"),
     (21, b"21 NOT MOUNTED"),
@@ -102,25 +102,25 @@ const OPERATORS: [(u8, &[u8]); 16] = [
 
 #[test]
 fn of_jobs(rt: HostRuntime) -> Result<(), Fail> {
-    for (number, text) in JOBS {
-        let fault = fault_of_jobs(number).ok_or("a fault")?;
+    for (number, text) in JOBS.iter() {
+        let fault = fault_of_jobs(*number).ok_or("a fault")?;
         let told = fault_text(rt.alloc(), &fault)?;
-        assert!(rt; told.as_slice() == text, "fault {number}");
+        assert!(rt; told.as_slice() == *text, "fault {number}");
     }
     Ok(())
 }
 
 #[test]
 fn of_operators(rt: HostRuntime) -> Result<(), Fail> {
-    for (number, text) in OPERATORS {
-        let fault = fault_of_operators(number).ok_or("a fault")?;
+    for (number, text) in OPERATORS.iter() {
+        let fault = fault_of_operators(*number).ok_or("a fault")?;
         let told = fault_text(rt.alloc(), &fault)?;
-        assert!(rt; told.as_slice() == text, "fault {number}");
+        assert!(rt; told.as_slice() == *text, "fault {number}");
     }
     Ok(())
 }
 
-const TRAPPED: [(Mode, &[u8]); 5] = [
+static TRAPPED: [(Mode, &[u8]); 5] = [
     (Mode::Read, b"4 TRAPPED READ"),
     (Mode::Write, b"4 TRAPPED WRITE"),
     (Mode::Append, b"4 TRAPPED APPEND"),
@@ -130,9 +130,9 @@ const TRAPPED: [(Mode, &[u8]); 5] = [
 
 #[test]
 fn trapped(rt: HostRuntime) -> Result<(), Fail> {
-    for (mode, text) in TRAPPED {
-        let told = fault_text(rt.alloc(), &StoreFault::Trapped(mode))?;
-        assert!(rt; told.as_slice() == text);
+    for (mode, text) in TRAPPED.iter() {
+        let told = fault_text(rt.alloc(), &StoreFault::Trapped(*mode))?;
+        assert!(rt; told.as_slice() == *text);
     }
     Ok(())
 }
@@ -161,7 +161,7 @@ fn lost_directory(rt: HostRuntime) -> Result<(), Fail> {
 }
 
 /// Errors of commands, with their texts.
-const ERRORS: [(CommandError, &[u8]); 11] = [
+static ERRORS: [(CommandError, &[u8]); 11] = [
     (CommandError::BadLine(240), b"50 BAD LINE 240"),
     (CommandError::UnknownVerb, b"51 UNKNOWN VERB"),
     (CommandError::TooDeep, b"52 TOO DEEP"),
@@ -177,10 +177,10 @@ const ERRORS: [(CommandError, &[u8]); 11] = [
 
 #[test]
 fn errors(rt: HostRuntime) -> Result<(), Fail> {
-    for (error, text) in ERRORS {
+    for (error, text) in ERRORS.iter() {
         let mut told = Text::new(rt.alloc());
-        push_error(rt.alloc(), &mut told, error)?;
-        assert!(rt; told.as_slice() == text, "{error:?}");
+        push_error(rt.alloc(), &mut told, *error)?;
+        assert!(rt; told.as_slice() == *text, "{error:?}");
     }
     Ok(())
 }

@@ -64,7 +64,7 @@ fn on_user(number: u8) -> Option<StoreCall>
     }
 }
 
-const DONE: [(u8, &[u8]); 4] = [
+static DONE: [(u8, &[u8]); 4] = [
     (0, b"NEW USER :A\n"),
     (1, b"BUDGET SET\n"),
     (2, b"TRAPS SET\n"),
@@ -73,10 +73,10 @@ const DONE: [(u8, &[u8]); 4] = [
 
 #[test]
 fn users_and_traps(rt: HostRuntime) -> Result<(), Fail> {
-    for (number, text) in DONE {
-        let call = on_user(number).ok_or("a call")?;
+    for (number, text) in DONE.iter() {
+        let call = on_user(*number).ok_or("a call")?;
         let told = reply_text(rt.alloc(), &call, &StoreReply::Done)?;
-        assert!(rt; told.as_slice() == text, "call {number}");
+        assert!(rt; told.as_slice() == *text, "call {number}");
     }
     Ok(())
 }
@@ -111,7 +111,7 @@ fn on_file(alloc: Global, number: u8) -> Option<(StoreCall, StoreReply)>
     }
 }
 
-const ON_FILE: [(u8, &[u8]); 6] = [
+static ON_FILE: [(u8, &[u8]); 6] = [
     (0, b"MADE :A.F(1/)\n"),
     (1, b"APPENDED :A.F(1/)\n"),
     (2, b"ERASED :A.F(1/)\n"),
@@ -122,16 +122,16 @@ const ON_FILE: [(u8, &[u8]); 6] = [
 
 #[test]
 fn files(rt: HostRuntime) -> Result<(), Fail> {
-    for (number, text) in ON_FILE {
-        let (call, reply) = on_file(rt.alloc(), number).ok_or("a call")?;
+    for (number, text) in ON_FILE.iter() {
+        let (call, reply) = on_file(rt.alloc(), *number).ok_or("a call")?;
         let told = reply_text(rt.alloc(), &call, &reply)?;
-        assert!(rt; told.as_slice() == text, "call {number}");
+        assert!(rt; told.as_slice() == *text, "call {number}");
     }
     Ok(())
 }
 
 /// Modes, by the sum of their bits, with their letters.
-const SHOWN: [(u8, &[u8]); 7] = [
+static SHOWN: [(u8, &[u8]); 7] = [
     (31, b"TRAPS RWAXE\n"),
     (0, b"TRAPS .....\n"),
     (16, b"TRAPS R....\n"),
@@ -156,16 +156,16 @@ fn checked(bits: u8) -> Option<(StoreCall, StoreReply)>
 
 #[test]
 fn modes(rt: HostRuntime) -> Result<(), Fail> {
-    for (bits, text) in SHOWN {
-        let (call, reply) = checked(bits).ok_or("a call")?;
+    for (bits, text) in SHOWN.iter() {
+        let (call, reply) = checked(*bits).ok_or("a call")?;
         let told = reply_text(rt.alloc(), &call, &reply)?;
-        assert!(rt; told.as_slice() == text, "modes {bits}");
+        assert!(rt; told.as_slice() == *text, "modes {bits}");
     }
     Ok(())
 }
 
 /// Listings of a file: its bytes, and what is shown of them.
-const LISTED: [(&[u8], &[u8]); 6] = [
+static LISTED: [(&[u8], &[u8]); 6] = [
     (b"", b""),
     (b"\n", b"| \n"),
     (b"A", b"| A\n"),
@@ -176,9 +176,9 @@ const LISTED: [(&[u8], &[u8]); 6] = [
 
 #[test]
 fn listed_files(rt: HostRuntime) -> Result<(), Fail> {
-    for (bytes, text) in LISTED {
+    for (bytes, text) in LISTED.iter() {
         let told = list_text(rt.alloc(), bytes)?;
-        assert!(rt; told.as_slice() == text, "{bytes:?}");
+        assert!(rt; told.as_slice() == *text, "{bytes:?}");
     }
     Ok(())
 }
@@ -234,7 +234,7 @@ fn illegal_order(rt: HostRuntime) -> Result<(), Fail> {
 }
 
 /// What stands in front of a text.
-const MARKS: [(Mark, &[u8]); 6] = [
+static MARKS: [(Mark, &[u8]); 6] = [
     (Mark::Taken, b"- T"),
     (Mark::Fired, b"+ T"),
     (Mark::Error, b"ERROR T"),
@@ -245,10 +245,10 @@ const MARKS: [(Mark, &[u8]); 6] = [
 
 #[test]
 fn marks(rt: HostRuntime) -> Result<(), Fail> {
-    for (mark, text) in MARKS {
+    for (mark, text) in MARKS.iter() {
         let mut told = Text::new(rt.alloc());
-        push_marked(&mut told, mark, b"T")?;
-        assert!(rt; told.as_slice() == text, "{mark:?}");
+        push_marked(&mut told, *mark, b"T")?;
+        assert!(rt; told.as_slice() == *text, "{mark:?}");
     }
     Ok(())
 }
