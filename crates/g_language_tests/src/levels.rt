@@ -1,5 +1,5 @@
 //! What levels give of their lines.
-ghost use Rattle.std.specs.Prelude.{◌≡◌, length, IfOk};
+ghost use Rattle.std.specs.Prelude.{◌≡◌, ◌<◌, length, IfOk};
 
 use g_lang::{Command, Label, Line, parse_line};
 use g_lines::Texts;
@@ -50,105 +50,152 @@ fn two(alloc: Global, first: &[u8], second: &[u8]) -> Result<Texts, Fail>
     Ok(list)
 }
 
-/// Whether a line came, and is this one.
-fn is_line(told: &Option<Text>, line: &[u8]) -> bool {
-    match told {
-        Some(text) => text.as_slice() == line,
-        None => false,
+/// The levels of a job with this document.
+fn begun(alloc: Global, document: &[u8]) -> Result<Levels, Fail>
+    ensures { IfOk result (λ levels. 0 < length levels.levels) }
+{
+    let levels = Levels::new(alloc, Texts::of_text(alloc, document)?)?;
+    Ok(levels)
+}
+
+/// Whether the next line is this one.
+fn next_is(alloc: Global, levels: &mut Levels, line: &[u8]) -> Result<bool, Fail> {
+    match levels.next_line(alloc)? {
+        Some(told) => Ok(told.as_slice() == line),
+        None => Ok(false),
     }
+}
+
+/// Whether the next line is refused for its length, with this front.
+fn next_is_cut(alloc: Global, levels: &mut Levels, front: &[u8]) -> bool {
+    match levels.next_line(alloc) {
+        Err(MacroFault::TooLong(told)) => told.as_slice() == front,
+        _ => false,
+    }
+}
+
+/// Whether the line of a macro with two parameters becomes this one.
+fn becomes(alloc: Global, a: &[u8], b: &[u8], line: &[u8], filled: &[u8]) -> Result<bool, Fail> {
+    let mut levels = begun(alloc, b"")?;
+    levels.call(alloc, one(alloc, line)?, two(alloc, a, b)?)?;
+    next_is(alloc, &mut levels, filled)
 }
 
 #[test]
 fn parameters(rt: HostRuntime) -> Result<(), Fail> {
     for (a, b, line, filled) in LINES.iter() {
-        let mut levels = Levels::new(rt.alloc(), Texts::new(rt.alloc()))?;
-        levels.call(rt.alloc(), one(rt.alloc(), line)?, two(rt.alloc(), a, b)?)?;
-        let told = levels.next_line(rt.alloc())?;
-        assert!(rt; is_line(&told, filled));
+        assert!(rt; becomes(rt.alloc(), a, b, line, filled)?);
     }
     Ok(())
+}
+
+/// A macro whose first line is its parameter, whose second is that and one byte, and whose third is `END`.
+fn with_parameter(alloc: Global, param: &[u8]) -> Result<Levels, Fail> {
+    let mut levels = begun(alloc, b"")?;
+    levels.call(
+        alloc,
+        Texts::of_text(alloc, b"%A\n%AB\nEND")?,
+        one(alloc, param)?,
+    )?;
+    Ok(levels)
 }
 
 /// A line of 240 bytes is taken, of a longer one the first 240 are told, and the next line comes behind it.
 #[test]
 fn long_lines(rt: HostRuntime) -> Result<(), Fail> {
     let long = [b'Z'; 240];
-    let mut levels = Levels::new(rt.alloc(), Texts::new(rt.alloc()))?;
-    levels.call(
-        rt.alloc(),
-        Texts::of_text(rt.alloc(), b"%A\n%AB\nEND")?,
-        one(rt.alloc(), long.as_slice())?,
-    )?;
-    let whole = levels.next_line(rt.alloc())?;
-    assert!(rt; is_line(&whole, long.as_slice()));
-    match levels.next_line(rt.alloc()) {
-        Err(MacroFault::TooLong(front)) => assert!(rt; front.as_slice() == long.as_slice()),
-        _ => panic!(rt; "another answer"),
-    }
-    let last = levels.next_line(rt.alloc())?;
-    assert!(rt; is_line(&last, b"END".as_slice()));
+    let mut levels = with_parameter(rt.alloc(), &long)?;
+    assert!(rt; next_is(rt.alloc(), &mut levels, &long)?);
+    assert!(rt; next_is_cut(rt.alloc(), &mut levels, &long));
+    assert!(rt; next_is(rt.alloc(), &mut levels, b"END")?);
     assert!(rt; levels.next_line(rt.alloc())?.is_none());
+    Ok(())
+}
+
+/// Takes this line, and then goes to a label.
+fn go_behind(alloc: Global, levels: &mut Levels, line: &[u8], label: &[u8]) -> Result<(), Fail> {
+    let label = Label::new(label).ok_or("no label")?;
+    let Some(told) = levels.next_line(alloc)? else {
+        return Err("no line".into());
+    };
+    if told.as_slice() != line {
+        return Err("another line".into());
+    }
+    levels.goto(&label)?;
     Ok(())
 }
 
 /// GOTO goes to the first line with the label, also backwards.
 #[test]
 fn labels(rt: HostRuntime) -> Result<(), Fail> {
-    let lines = Texts::of_text(rt.alloc(), b"1 GOTO 2X\n2X DISPLAY A\n2X DISPLAY B")?;
-    let mut levels = Levels::new(rt.alloc(), lines)?;
-    let _ = levels.next_line(rt.alloc())?;
-    let _ = levels.next_line(rt.alloc())?;
-    let Some(label) = Label::new(b"2X") else {
-        panic!(rt; "no label");
-    };
-    let Some(last) = levels.next_line(rt.alloc())? else {
-        panic!(rt; "no line");
-    };
-    assert!(rt; last.as_slice() == b"2X DISPLAY B".as_slice());
-    levels.goto(&label)?;
-    let told = levels.next_line(rt.alloc())?;
-    assert!(rt; is_line(&told, b"2X DISPLAY A".as_slice()));
+    let mut levels = begun(rt.alloc(), b"1 GOTO 2X\n2X DISPLAY A\n2X DISPLAY B")?;
+    assert!(rt; next_is(rt.alloc(), &mut levels, b"1 GOTO 2X")?);
+    assert!(rt; next_is(rt.alloc(), &mut levels, b"2X DISPLAY A")?);
+    go_behind(rt.alloc(), &mut levels, b"2X DISPLAY B", b"2X")?;
+    assert!(rt; next_is(rt.alloc(), &mut levels, b"2X DISPLAY A")?);
     Ok(())
 }
 
 /// The document of an INPUT goes up to `////`, which is passed by too.
 #[test]
 fn documents(rt: HostRuntime) -> Result<(), Fail> {
-    let lines = Texts::of_text(rt.alloc(), b"A\n%A\n////\nEND")?;
-    let mut levels = Levels::new(rt.alloc(), lines)?;
+    let mut levels = begun(rt.alloc(), b"A\n%A\n////\nEND")?;
     let document = levels.document(rt.alloc())?;
     assert!(rt; document.as_slice() == b"A\n%A\n".as_slice());
-    let told = levels.next_line(rt.alloc())?;
-    assert!(rt; is_line(&told, b"END".as_slice()));
+    assert!(rt; next_is(rt.alloc(), &mut levels, b"END")?);
     Ok(())
+}
+
+/// Lets the command of a WHENEVER wait in the current level.
+fn let_wait(alloc: Global, levels: &mut Levels, line: &[u8]) -> Result<(), Fail>
+    requires { 0 < length levels.old.levels }
+{
+    let Line { label: _, command } = parse_line(alloc, line)?;
+    let Command::Whenever { cond, command } = command else {
+        return Err("another command".into());
+    };
+    levels.whenever(cond, command)?;
+    Ok(())
+}
+
+/// A macro `M` of one line, which calls it again, up to the eighth level; whether each line was that.
+fn deepen(alloc: Global, levels: &mut Levels) -> Result<bool, Fail> {
+    for _ in 0..7 {
+        if !next_is(alloc, levels, b"M")? {
+            return Ok(false);
+        }
+        levels.call(alloc, one(alloc, b"M")?, Texts::new(alloc))?;
+    }
+    next_is(alloc, levels, b"M")
+}
+
+/// Whether another macro would be too deep.
+fn is_deepest(alloc: Global, levels: &mut Levels) -> Result<bool, Fail> {
+    let deep = levels.call(alloc, one(alloc, b"M")?, Texts::new(alloc));
+    Ok(matches!(deep, Err(MacroFault::TooDeep)))
+}
+
+/// Whether this command waits for an error.
+fn fires(alloc: Global, levels: &mut Levels, command: &[u8]) -> Result<bool, Fail> {
+    let outcome = Outcome {
+        error: true,
+        event: EventNote::None,
+    };
+    match levels.fire(alloc, &outcome)? {
+        Some(told) => Ok(told.as_slice() == command),
+        None => Ok(false),
+    }
 }
 
 /// A macro that calls itself comes to the eighth level; then the command that waits for an error is done in the
 /// document's level.
 #[test]
 fn the_deepest_macro(rt: HostRuntime) -> Result<(), Fail> {
-    let lines = Texts::of_text(rt.alloc(), b"M\nDISPLAY NOT HERE\n9ER DISPLAY CAUGHT")?;
-    let mut levels = Levels::new(rt.alloc(), lines)?;
-    let Line { label: _, command } = parse_line(rt.alloc(), b"WHENEVER COMMAND ERROR,GOTO 9ER")?;
-    let Command::Whenever { cond, command } = command else {
-        panic!(rt; "another command");
-    };
-    levels.whenever(cond, command)?;
-    for _ in 0..7 {
-        let told = levels.next_line(rt.alloc())?;
-        assert!(rt; is_line(&told, b"M".as_slice()));
-        levels.call(rt.alloc(), one(rt.alloc(), b"M")?, Texts::new(rt.alloc()))?;
-    }
-    let _ = levels.next_line(rt.alloc())?;
-    let deep = levels.call(rt.alloc(), one(rt.alloc(), b"M")?, Texts::new(rt.alloc()));
-    assert!(rt; matches!(deep, Err(MacroFault::TooDeep)));
-    let outcome = Outcome {
-        error: true,
-        event: EventNote::None,
-    };
-    let fired = levels.fire(rt.alloc(), &outcome)?;
-    assert!(rt; is_line(&fired, b"GOTO 9ER".as_slice()));
-    let told = levels.next_line(rt.alloc())?;
-    assert!(rt; is_line(&told, b"DISPLAY NOT HERE".as_slice()));
+    let mut levels = begun(rt.alloc(), b"M\nDISPLAY NOT HERE\n9ER DISPLAY CAUGHT")?;
+    let_wait(rt.alloc(), &mut levels, b"WHENEVER COMMAND ERROR,GOTO 9ER")?;
+    assert!(rt; deepen(rt.alloc(), &mut levels)?);
+    assert!(rt; is_deepest(rt.alloc(), &mut levels)?);
+    assert!(rt; fires(rt.alloc(), &mut levels, b"GOTO 9ER")?);
+    assert!(rt; next_is(rt.alloc(), &mut levels, b"DISPLAY NOT HERE")?);
     Ok(())
 }

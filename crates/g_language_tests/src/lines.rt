@@ -1,6 +1,7 @@
 //! Lines, good and bad, with what they say and with their places taken from the grammar by hand.
 use g_lang::{Command, Label, LangFault, Line, Test, is_input_line, label_of, parse_line};
 use g_lines::Texts;
+use std::alloc::Global;
 use std::test::Fail;
 
 /// A line with a verb: its text, its label, the verb, the parameters, and the text from the first parameter on.
@@ -81,6 +82,9 @@ static CONDITIONS: [Condition; 9] = [
     (b"IF NOT STRING(%A)=(X,Y),GOTO 1", true, b'S', b'A', b"X,Y"),
     (b"1 IF STRING(%B)=(),X", false, b'S', b'B', b""),
 ];
+
+/// Lines without a command, with their labels.
+static BLANK: [(&[u8], Option<&[u8]>); 3] = [(b"1 ", Some(b"1")), (b"  ", None), (b"", None)];
 
 static BAD: [(&[u8], usize); 59] = [
     (b"IF FAILED,INPUT F", 15),
@@ -204,15 +208,17 @@ fn is_label(told: Option<&Label>, label: Option<&[u8]>) -> bool {
     }
 }
 
+/// Whether a line reads as its row says.
+fn is_verb_read(alloc: Global, row: &Verb) -> Result<bool, Fail> {
+    let (text, label, verb, params, rest) = row;
+    let line = parse_line(alloc, text)?;
+    Ok(is_label(line.label.as_ref(), *label) && is_verb(&line.command, verb, params, rest))
+}
+
 #[test]
 fn verbs(rt: HostRuntime) -> Result<(), Fail> {
-    for (text, label, verb, params, rest) in VERBS.iter() {
-        let line = parse_line(rt.alloc(), text)?;
-        assert!(rt; is_label(line.label.as_ref(), *label), "label of {text:?}");
-        assert!(rt;
-            is_verb(&line.command, verb, params, rest),
-            "verb of {text:?}"
-        );
+    for row in VERBS.iter() {
+        assert!(rt; is_verb_read(rt.alloc(), row)?, "in {:?}", row.0);
     }
     Ok(())
 }
@@ -239,14 +245,17 @@ fn is_behind(command: &Command, is_negated: bool, kind: u8, letter: u8, plain: &
     cond.negated == is_negated && told_kind == kind && told_letter == letter && told_plain == plain
 }
 
+/// Whether a line reads as its row says.
+fn is_condition_read(alloc: Global, row: &Condition) -> Result<bool, Fail> {
+    let (text, is_negated, kind, letter, plain) = row;
+    let line = parse_line(alloc, text)?;
+    Ok(is_behind(&line.command, *is_negated, *kind, *letter, plain))
+}
+
 #[test]
 fn conditions(rt: HostRuntime) -> Result<(), Fail> {
-    for (text, is_negated, kind, letter, plain) in CONDITIONS.iter() {
-        let line = parse_line(rt.alloc(), text)?;
-        assert!(rt;
-            is_behind(&line.command, *is_negated, *kind, *letter, plain),
-            "{text:?}"
-        );
+    for row in CONDITIONS.iter() {
+        assert!(rt; is_condition_read(rt.alloc(), row)?, "in {:?}", row.0);
     }
     Ok(())
 }
@@ -266,20 +275,16 @@ fn waiting_commands(rt: HostRuntime) -> Result<(), Fail> {
     Ok(())
 }
 
-/// A label alone, GOTO with its label, and a blank line.
+/// Whether a line has this label, and no command.
+fn is_blank(alloc: Global, text: &[u8], label: Option<&[u8]>) -> Result<bool, Fail> {
+    let line = parse_line(alloc, text)?;
+    Ok(is_label(line.label.as_ref(), label) && matches!(&line.command, Command::Blank))
+}
+
 #[test]
-fn lines_without_verbs(rt: HostRuntime) -> Result<(), Fail> {
-    for (text, label) in [
-        (b"1 ".as_slice(), Some(b"1".as_slice())),
-        (b"  ", None),
-        (b"", None),
-    ] {
-        let line = parse_line(rt.alloc(), text)?;
-        assert!(rt; is_label(line.label.as_ref(), label), "label of {text:?}");
-        assert!(rt;
-            matches!(&line.command, Command::Blank),
-            "command of {text:?}"
-        );
+fn lines_without_commands(rt: HostRuntime) -> Result<(), Fail> {
+    for (text, label) in BLANK.iter() {
+        assert!(rt; is_blank(rt.alloc(), text, *label)?, "in {text:?}");
     }
     Ok(())
 }
