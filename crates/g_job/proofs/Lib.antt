@@ -1,0 +1,16 @@
+pub mod BoundLemmas
+pub mod CauseLemmas
+pub mod CommandBounds
+pub mod CommandLemmas
+pub mod EndLemmas
+pub mod HeaderLemmas
+pub mod HonestLemmas
+pub mod KeepLemmas
+pub mod LineLemmas
+pub mod RunBounds
+pub mod RunLemmas
+pub mod StepLemmas
+pub mod UnitLemmas
+pub mod VerbBounds
+pub mod VerbLemmas
+pub mod WellLemmas

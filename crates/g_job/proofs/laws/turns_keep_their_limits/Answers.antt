@@ -1,0 +1,5 @@
+use Rattle.g_job.proofs.CommandBounds.{turn_within}
+use Rattle.g_job.proofs.laws.turns_keep_their_limits.Goals as goal
+
+pub returns : goal.returns
+returns c = turn_within

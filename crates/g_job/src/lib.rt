@@ -1,0 +1,22 @@
+//! Jobs: a document, the macros that it calls, units, a program, an allowance; and what one turn of all that asks of a
+//! store and makes of the answers.
+#![tactic(auto)]
+
+mod again;
+mod asking;
+mod job;
+mod laws;
+mod stop;
+mod turn;
+mod work;
+
+pub use job::Job;
+pub use laws::{
+    lines_are_lines_of_programs, turns_are_asked_of_a_plain_tree, turns_come_to_one_end,
+    turns_keep_the_rules, turns_keep_their_limits, turns_leave_their_store,
+    turns_say_why_they_are_over,
+};
+pub use turn::Turn;
+
+#[cfg(test)]
+mod tests;

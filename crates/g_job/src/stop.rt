@@ -1,0 +1,14 @@
+//! Why a turn's work is over.
+
+/// Why a turn's work is over.
+#[derive(Clone, Copy, Debug, PartialEq, Eq)]
+pub enum Stop {
+    /// The monitoring file has no room for the next line.
+    Full,
+    /// A call waits for the reel of this serial.
+    Waits(u32),
+    /// A call was stopped.
+    Broken,
+    /// The job is done.
+    Done,
+}

@@ -1,0 +1,19 @@
+use super::*;
+use g_lines::Texts;
+use g_name::{Local, User};
+use std::test::Fail;
+
+/// A job that begins, with ample memory.
+#[test]
+fn ample(rt: HostRuntime) -> Result<(), Fail> {
+    let name = Local::new(b"DEEP").ok_or("no name")?;
+    let user = User::new(b"MASTER").ok_or("no user")?;
+    let lines = Texts::of_text(rt.alloc(), b"DISPLAY X")?;
+    let job = Job::new(rt.alloc(), 1, name, user, 20, 1_000, lines)?;
+    assert_eq!(rt; job.monitor(), b"JOB 1 DEEP :MASTER\n".as_slice());
+    assert_eq!(rt; job.wants(), None);
+    let standing = job.standing();
+    assert_eq!(rt; standing.allowance, 20);
+    assert_eq!(rt; standing.used, 0);
+    Ok(())
+}
