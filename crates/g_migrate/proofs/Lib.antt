@@ -1,0 +1,5 @@
+pub mod CandidateLemmas
+pub mod FrontLemmas
+pub mod KeepsLemmas
+pub mod MigrationLemmas
+pub mod PlanLemmas

@@ -1,0 +1,4 @@
+pub mod Keeps
+pub mod Migrated
+pub mod Taken
+pub mod Unjam

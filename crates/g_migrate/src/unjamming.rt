@@ -1,0 +1,75 @@
+//! Which files make room on the disc.
+ghost use Rattle.std.specs.Prelude.{◌≡◌, ◌≤◌, true, [], All, AllPairs, IfOk, length};
+ghost use Rattle.std.specs.List.Sorted.{IsNonDecreasingBy, IsPermutation};
+ghost use Rattle.g_contents.specs.Facts.{IsTied, room_of};
+ghost use Rattle.g_migrate.specs.Taken.{TakesFirst};
+ghost use Rattle.g_migrate.specs.Unjam.{IsOlder, IsRoomWithout, IsUnjamPlan};
+
+use crate::candidates::{Candidate, candidates};
+use g_base::NoMemory;
+use g_disc::Disc;
+use g_online::Online;
+use g_tree::NumberList;
+use std::alloc::Global;
+
+/// The files that are taken off the disc to make room, by number, the oldest versions first, and how many blocks are free
+/// then.
+#[derive(Debug, Drop)]
+pub struct Unjam {
+    pub take: NumberList,
+    pub room: u32,
+}
+
+/// The plan for a need of so many blocks (docs/DEFINITIONS.md): of the files that are on the disc and on tape too it takes
+/// the oldest versions, just as many as leave `need` blocks free, or all of them where that isn't enough. Nothing changes,
+/// and no device is asked.
+pub fn plan_unjam<D: Disc>(alloc: Global, online: &Online<D>, need: u32) -> Result<Unjam, NoMemory>
+    requires live { online.now.live ≡ true }
+    requires tied { IsTied online.now }
+    ensures plan { IfOk result (λ u. IsUnjamPlan need online.now u.take u.room) }
+    ensures order { IfOk result (λ u. AllPairs (IsOlder online.now.contents.files) u.take) }
+    ensures room { IfOk result (λ u. IsRoomWithout online.now u.take u.room) }
+    ensures none { IfOk result (λ u. need ≤ room_of online.now → (u.take ≡ []) × (u.room ≡ room_of online.now)) }
+{
+    let mut candidates = candidates(alloc, online)?;
+    sort_by_age(&mut candidates);
+    take_first(alloc, &candidates, online.room(), need)
+}
+
+/// Puts the oldest versions first.
+fn sort_by_age(candidates: &mut Vec<Candidate>)
+    ensures moved { IsPermutation candidates.old.items candidates.new.items }
+    ensures order { IsNonDecreasingBy (λ c. c.stamp) candidates.new.items }
+{
+    candidates.sort_unstable_by_key(|candidate| candidate.stamp);
+}
+
+/// Takes candidates in their order, until the room reaches the need or none is left.
+fn take_first(
+    alloc: Global,
+    candidates: &[Candidate],
+    room: u32,
+    need: u32,
+) -> Result<Unjam, NoMemory>
+    requires few { length candidates.now ≤ 1024 }
+    requires small { All (λ c. c.blocks ≤ 128) candidates.now }
+    requires room { room ≤ 1_048_576 }
+    ensures { IfOk result (λ u. TakesFirst candidates.now room need u.take u.room) }
+{
+    let mut taken = NumberList::new(alloc);
+    let mut reached = room;
+    for candidate in candidates {
+        if need <= reached {
+            return Ok(Unjam {
+                take: taken,
+                room: reached,
+            });
+        }
+        taken.push(candidate.number)?;
+        reached += candidate.blocks;
+    }
+    Ok(Unjam {
+        take: taken,
+        room: reached,
+    })
+}
