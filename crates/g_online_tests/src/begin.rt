@@ -12,10 +12,10 @@ use std::test::Fail;
 const HEAD: [u8; 14] = *b"G3SL\0\x02\0\0\0\0\0\0\0\x01";
 
 /// The blocks of the two users.
-const MASTER: [u8; 36] =
+pub(crate) const MASTER: [u8; 36] =
     *b"\x01\x06MASTER\0\0\0\0\0\0\0\0\0\xff\xff\0\0\0\0\0\x0f\x42\x40\0\0\0\0\0\0\x0f\x42\x40";
 
-const MACROS: [u8; 36] =
+pub(crate) const MACROS: [u8; 36] =
     *b"\x01\x06MACROS\0\0\0\0\0\0\0\0\0\xff\xff\0\0\0\0\0\x0f\x42\x40\0\0\0\0\0\0\x0f\x42\x40";
 
 /// A filestore of the first two users and no file on the disc.
@@ -93,13 +93,11 @@ fn loading_reads_alone(rt: HostRuntime) -> Result<(), Fail> {
     disc.arm(1);
     disc.fail_reads([600].to_vec(rt.alloc())?);
     assert!(rt; 2177 < disc.size() && disc.size() <= 1_048_576);
-    let disc = match Online::load(rt.alloc(), disc) {
-        Ok(online) => online.into_disc(),
-        Err((fault, disc)) => {
-            assert_eq!(rt; fault, OnlineFault::ReadFault);
-            disc
-        }
+    let (failed, disc) = match Online::load(rt.alloc(), disc) {
+        Ok(online) => (false, online.into_disc()),
+        Err((fault, disc)) => (fault == OnlineFault::ReadFault, disc),
     };
+    assert!(rt; failed);
     assert!(rt; 2177 < disc.size() && disc.size() <= 1_048_576);
     let online = match Online::load(rt.alloc(), disc) {
         Ok(online) => online,
@@ -126,13 +124,11 @@ fn a_first_commit_stops(rt: HostRuntime) -> Result<(), Fail> {
         let mut disc = MemoryDisc::new(rt.alloc(), 2182)?;
         disc.set_leave(leave);
         disc.arm(write);
-        let disc = match formatted(rt.alloc(), disc) {
-            Ok(online) => online.into_disc(),
-            Err((fault, disc)) => {
-                assert_eq!(rt; fault, OnlineFault::Stopped);
-                disc
-            }
+        let (stopped, disc) = match formatted(rt.alloc(), disc) {
+            Ok(online) => (false, online.into_disc()),
+            Err((fault, disc)) => (fault == OnlineFault::Stopped, disc),
         };
+        assert!(rt; stopped, "write {write}");
         assert!(rt; 2177 < disc.size() && disc.size() <= 1_048_576);
         match Online::load(rt.alloc(), disc) {
             Ok(_online) => assert!(rt; holds),

@@ -3,3 +3,5 @@
 
 #[cfg(test)]
 mod begin;
+#[cfg(test)]
+mod changes;
