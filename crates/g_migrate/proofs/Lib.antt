@@ -3,3 +3,4 @@ pub mod FrontLemmas
 pub mod KeepsLemmas
 pub mod MigrationLemmas
 pub mod PlanLemmas
+pub mod UsedLemmas

@@ -3,6 +3,8 @@
 
 mod candidates;
 mod migration;
+#[cfg(test)]
+mod tests;
 mod unjamming;
 
 pub use migration::migrate;
