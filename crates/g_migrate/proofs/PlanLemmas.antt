@@ -19,7 +19,8 @@ use Rattle.g_contents.specs.Facts.{OnlineFacts, Pin, is_current, online_blocks, 
 use Rattle.g_online.proofs.UseLemmas.{same_apart}
 use Rattle.g_migrate.specs.declared.candidates.Candidate.{Candidate}
 use Rattle.g_migrate.specs.Taken.{TakesFirst, blocks_in, candidate_of, candidates_in}
-use Rattle.g_migrate.specs.Unjam.{FitsDisc, IsOlder, IsRoomWithout, IsUnjamPlan, is_candidate, is_taken, room_until}
+use Rattle.g_state_steps.specs.Unjam.{IsUnjamPlan, is_candidate, is_taken, room_until}
+use Rattle.g_migrate.specs.Unjam.{FitsDisc, IsOlder, IsRoomWithout}
 use Rattle.g_migrate.proofs.FrontLemmas.{AreRising, IsFront, below, fewer_below, nobody, until_front, until_of}
 
 -- WHAT IS KEPT AND MADE of a list

@@ -3,7 +3,7 @@ ghost use Rattle.std.specs.Prelude.{◌≡◌, ◌&&◌, ◌++◌, true, Contain
 ghost use Rattle.std.specs.Option.{option_to_list};
 ghost use Rattle.g_contents.specs.Contents.{File};
 ghost use Rattle.g_migrate.specs.Taken.{candidate_in, candidates_in};
-ghost use Rattle.g_migrate.specs.Unjam.{is_candidate};
+ghost use Rattle.g_state_steps.specs.Unjam.{is_candidate};
 
 use g_base::{NoMemory, blocks_for};
 use g_disc::Disc;

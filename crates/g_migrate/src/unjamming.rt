@@ -3,7 +3,8 @@ ghost use Rattle.std.specs.Prelude.{◌≡◌, ◌≤◌, true, [], All, AllPair
 ghost use Rattle.std.specs.List.Sorted.{IsNonDecreasingBy, IsPermutation};
 ghost use Rattle.g_contents.specs.Facts.{IsTied, room_of};
 ghost use Rattle.g_migrate.specs.Taken.{TakesFirst};
-ghost use Rattle.g_migrate.specs.Unjam.{IsOlder, IsRoomWithout, IsUnjamPlan};
+ghost use Rattle.g_state_steps.specs.Unjam.{IsUnjamPlan};
+ghost use Rattle.g_migrate.specs.Unjam.{IsOlder, IsRoomWithout};
 
 use crate::candidates::{Candidate, candidates};
 use g_base::NoMemory;
