@@ -41,7 +41,7 @@ fn formatted(
 }
 
 /// Whether block `k` is these bytes with zeros behind them.
-fn is_block(disc: &mut MemoryDisc, k: u32, bytes: &[u8]) -> bool {
+pub(crate) fn is_block(disc: &mut MemoryDisc, k: u32, bytes: &[u8]) -> bool {
     let mut block = [9; 512];
     if k >= disc.size() || disc.read(k, &mut block).is_err() {
         return false;

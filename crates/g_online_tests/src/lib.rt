@@ -5,3 +5,5 @@
 mod begin;
 #[cfg(test)]
 mod changes;
+#[cfg(test)]
+mod put;
