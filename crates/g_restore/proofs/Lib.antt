@@ -1,0 +1,4 @@
+pub mod BelongLemmas
+pub mod NeverLemmas
+pub mod NumberLemmas
+pub mod ReelLemmas

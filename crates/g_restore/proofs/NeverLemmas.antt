@@ -1,0 +1,146 @@
+-- Where disc and rack belong together no directory and no copy is lost.
+use Rattle.std.proofs.Common.{◌≡◌, ◌≢◌, ℕ, ◌+◌, ◌<◌, ◌≤◌, List, [], ◌∷◌, ◌++◌, length, get_or, take, drop, Option, Some, None, Result, Ok, Err, refl, sym, ◌∙◌, ap, arith, subst, All}
+use Rattle.std.specs.Prelude.{AllPairs, IfSome}
+use Rattle.std.proofs.lemmas.List.{append_assoc, get_or_append_left, length-append, take-append-drop}
+use Rattle.std.proofs.lemmas.List.Elements.{All-cons, All-contains, All-head, All-nil, All-tail, All-weaker, Contains-append_right}
+use Rattle.g_entry.specs.declared.file_rec.FileRec.{FileRec}
+use Rattle.g_entry.specs.declared.file_rec.TapeCopy.{TapeCopy}
+use Rattle.g_entry.specs.declared.user_rec.UserRec.{UserRec}
+use Rattle.g_entry.specs.Rules.{AreFiles, SameName, StampsBelow}
+use Rattle.g_name.specs.declared.full.Full.{Full}
+use Rattle.g_tape.specs.Reel.{Reel}
+use Rattle.g_plain.specs.declared.faults.StoreFault.{StoreFault}
+use Rattle.g_plain.specs.declared.faults.StoreFault.TheVariants.{LostCopy, LostDirectory}
+use Rattle.g_incr.specs.Layout.{Dump}
+use Rattle.g_incr.specs.Plan.{numbered_from, with_number}
+use Rattle.g_shelf.specs.Completed.{all_dumps}
+use Rattle.g_state.specs.Belong.{BelongWith, KeepsRecord, RackBelongs}
+use Rattle.g_state.specs.Meaning.{DumpedDirectory, Gathers, IsContent, files_in, files_of, told_reels}
+use Rattle.g_state.specs.Reading.{ReelsTold}
+use Rattle.g_state.proofs.OneLemmas.{IsApart, same_gathered}
+use Rattle.g_restore.specs.Lost.{AreApart, GoTogether, HasPlace, IsFirstLost, IsLostDirectory, LostIsNamed}
+use Rattle.g_restore.specs.Laws.{NoneIsLost}
+use Rattle.g_restore.specs.Restored.{NothingIsLost}
+use Rattle.g_restore.proofs.NumberLemmas.{numbered-append}
+
+-- THE FRONT of files that keep the rules keeps them
+all_front : (P : FileRec → Type 0) (xs ys : List FileRec) → All P (xs ++ ys) → All P xs
+all_front P xs ys all k d within =
+    let long = length-append xs ys in
+    subst P (get_or_append_left xs ys d k within) (all k d (omega (arith, within, long)))
+
+pairs_front : (R : FileRec → FileRec → Type 0) (xs ys : List FileRec) → AllPairs R (xs ++ ys) → AllPairs R xs
+pairs_front R xs ys all i j d below within =
+    let long = length-append xs ys in
+    let at_i = get_or_append_left xs ys d i (omega (arith, below, within)) in
+    let at_j = get_or_append_left xs ys d j within in
+    subst (λ (r : FileRec). R r (get_or xs j d)) at_i
+    (subst (λ (r : FileRec). R (get_or (xs ++ ys) i d) r) at_j (all i j d below (omega (arith, within, long))))
+
+files_front : (users : ℕ) (xs ys : List FileRec) → AreFiles users (xs ++ ys) → AreFiles users xs
+files_front users xs ys is =
+    let long = length-append xs ys in
+    let few = is.few in
+    record {
+      few = omega (arith, long, few);
+      owners = all_front (λ r. r.owner < users) xs ys is.owners;
+      trapped = all_front (λ r. All (λ pair. pair.0 < users) r.traps.others) xs ys is.trapped;
+      names = pairs_front (λ r s. SameName r s → ⊥) xs ys is.names;
+      stamps = pairs_front (λ r s. r.stamp ≢ s.stamp) xs ys is.stamps;
+      dated = all_front (λ r. 1 ≤ r.stamp) xs ys is.dated;
+      empty = all_front (λ r. r.len ≡ 0 → r.tape ≡ None) xs ys is.empty;
+    }
+
+-- dumps that are apart, as the laws of the state say it
+apart_is : (dumps : List Dump) → AreApart dumps → IsApart dumps
+unfolding IsApart
+apart_is dumps apart = apart
+
+record HasFront (dumps : List Dump) (us : List UserRec) (fs : List FileRec) : Type 0 where
+  front : List FileRec
+  back : List FileRec
+  gathers : Gathers dumps us front
+  are : fs ≡ front ++ back
+
+gathers_front : (dumps : List Dump) (us vs : List UserRec) (fs : List FileRec) → Gathers dumps (us ++ vs) fs → HasFront dumps us fs
+gathers_front dumps [] vs fs all = record { front = []; back = fs; gathers = refl; are = refl }
+gathers_front dumps (u ∷ us) vs fs (d, has, rest, are, more) =
+    let behind = gathers_front dumps us vs rest more in
+    record {
+      front = files_of u.number d.files ++ behind.front;
+      back = behind.back;
+      gathers = (d, has, behind.front, refl, behind.gathers);
+      are = are ∙ ap (λ (xs : List FileRec). files_of u.number d.files ++ xs) behind.are ∙ sym (append_assoc (files_of u.number d.files) behind.front behind.back);
+    }
+
+-- so where all directories go together, those of the first users do
+go_front : (dumps : List Dump) (t : DumpedDirectory dumps) (k : ℕ) → GoTogether dumps t.last (take k t.last.users)
+go_front dumps t k =
+    let part = gathers_front dumps (take k t.last.users) (drop k t.last.users) t.gathered
+    (subst (λ (us : List UserRec). Gathers dumps us t.gathered) (sym (take-append-drop k t.last.users)) t.gathers) in
+    let numbered : numbered_from 0 t.gathered ≡ numbered_from 0 part.front ++ numbered_from (0 + length part.front) part.back =
+    ap (numbered_from 0) part.are ∙ numbered-append 0 part.front part.back in
+    record {
+      files = part.front;
+      gathers = part.gathers;
+      rules = files_front (length t.last.users) (numbered_from 0 part.front) (numbered_from (0 + length part.front) part.back)
+          (subst (AreFiles (length t.last.users)) numbered t.rules.among_files);
+      dated = all_front (λ r. r.stamp < t.last.next) (numbered_from 0 part.front) (numbered_from (0 + length part.front) part.back)
+          (subst (StampsBelow t.last.next) numbered t.dated);
+    }
+
+module _ (dumps : List Dump) (t : DumpedDirectory dumps) (apart : AreApart dumps) where
+  no_directory : (name : List ℕ) → IsLostDirectory dumps name → ⊥
+  no_directory name is =
+      let one = t.greatest.greatest is.last is.greatest.there in
+      let two = is.greatest.greatest t.last t.greatest.there in
+      let last : t.last ≡ is.last = apart t.last is.last t.greatest.there is.greatest.there (omega (arith, one, two)) in
+      is.bad (subst (λ (d : Dump). GoTogether dumps d (take (is.number + 1) d.users)) last (go_front dumps t (is.number + 1)))
+
+  -- places that are held without the numbers
+  numbers_back : (n : ℕ) (rs : List FileRec) → All (HasPlace dumps) (numbered_from n rs) → All (HasPlace dumps) rs
+  numbers_back n [] all = All-nil (HasPlace dumps)
+  numbers_back n (r ∷ rs) all =
+      All-cons (HasPlace dumps) r rs (All-head (HasPlace dumps) (with_number n r) (numbered_from (n + 1) rs) all)
+      (numbers_back (n + 1) rs (All-tail (HasPlace dumps) (with_number n r) (numbered_from (n + 1) rs) all))
+
+  no_copy : (full : Full) (serial : ℕ) → All (HasPlace dumps) (files_in t) → IsFirstLost dumps full serial → ⊥
+  no_copy full serial places is =
+      let one = t.greatest.greatest is.last is.greatest.there in
+      let two = is.greatest.greatest t.last t.greatest.there in
+      let last : t.last ≡ is.last = apart t.last is.last t.greatest.there is.greatest.there (omega (arith, one, two)) in
+      let same : t.gathered ≡ is.all.files =
+      same_gathered dumps (apart_is dumps apart) is.last.users t.gathered is.all.files (subst (λ (d : Dump). Gathers dumps d.users t.gathered) last t.gathers) is.all.gathers in
+      let held : All (HasPlace dumps) (is.before ++ is.file ∷ is.behind) = subst (All (HasPlace dumps)) (same ∙ is.there) (numbers_back 0 t.gathered places) in
+      is.lost (All-contains (HasPlace dumps) (is.before ++ is.file ∷ is.behind) is.file held
+      (Contains-append_right is.before (is.file ∷ is.behind) is.file (0, omega arith, refl)))
+
+-- a record that keeps its text has its place
+kept_place : (dumps : List Dump) (len : ℕ) (tape : Option TapeCopy) (text : List ℕ) → length text ≡ len → IfSome tape (λ c. IsContent dumps c text)
+    → IfSome tape (λ c. (t : List ℕ) × (length t ≡ len) × IsContent dumps c t)
+kept_place dumps len None text long is = tt
+kept_place dumps len (Some c) text long is = (text, long, is)
+
+abbrev Keeps : (ℕ → List ℕ) → List Dump → FileRec → Type 0
+Keeps text dumps r = KeepsRecord (text r.stamp) dumps r
+
+places_kept : (text : ℕ → List ℕ) (dumps : List Dump) (t : DumpedDirectory dumps) → RackBelongs text dumps → All (HasPlace dumps) (files_in t)
+places_kept text dumps t rack =
+    All-weaker (Keeps text dumps) (HasPlace dumps) (λ r kept. kept_place dumps r.len r.tape (text r.stamp) kept.len kept.copy) (files_in t) (rack.records t)
+
+pub nothing_lost : {A : Type 0} (held : Option (List (List ℕ))) (reels : List Reel) (answer : Result A StoreFault) → LostIsNamed reels answer → ReelsTold reels → BelongWith held reels
+    → NothingIsLost answer
+nothing_lost held reels (Ok made) names told belong = tt
+nothing_lost held reels (Err (LostDirectory user)) names told belong =
+    let dumps : List Dump = all_dumps belong.shelf reels in
+    let is : IsLostDirectory dumps user = names told belong.shelf belong.shelved belong.rack.apart in
+    no_directory dumps (belong.rack.tree is.last is.greatest.there) belong.rack.apart user is
+nothing_lost held reels (Err (LostCopy full serial)) names told belong =
+    let dumps : List Dump = all_dumps belong.shelf reels in
+    let is : IsFirstLost dumps full serial = names told belong.shelf belong.shelved belong.rack.apart in
+    let t : DumpedDirectory dumps = belong.rack.tree is.last is.greatest.there in
+    no_copy dumps t belong.rack.apart full serial (places_kept belong.text dumps t belong.rack) is
+nothing_lost held reels (Err fault) names told belong = tt
+
+pub none_lost : NoneIsLost
+none_lost held rack answer names told belong = nothing_lost held (told_reels rack) answer names told belong

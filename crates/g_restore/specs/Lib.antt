@@ -1,0 +1,4 @@
+pub mod Laws
+pub mod Lost
+pub mod Reels
+pub mod Restored

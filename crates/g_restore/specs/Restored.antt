@@ -1,0 +1,33 @@
+-- WHAT A RESTORE MAKES OF THE DUMPS, and what it answers.
+use Rattle.std.specs.Prelude.{◌≡◌, ℕ, List, All, Option, Result, Err}
+use Rattle.g_tape.specs.Rack.{Rack}
+use Rattle.g_tape.specs.Reel.{Reel}
+use Rattle.g_plain.specs.declared.faults.StoreFault.{StoreFault}
+use Rattle.g_plain.specs.declared.faults.StoreFault.TheVariants as store
+use Rattle.g_contents.specs.Contents.{Contents}
+use Rattle.g_incr.specs.Layout.{Dump}
+use Rattle.g_state.specs.Belong.{Belong}
+use Rattle.g_state.specs.Laws.{restored}
+use Rattle.g_state.specs.Meaning.{DumpedDirectory, files_in, told_reels}
+use Rattle.g_state.specs.Reading.{ReelsTold}
+use Rattle.g_restore.specs.Reels.{AreOnReels}
+use Rattle.g_restore.specs.Lost.{HasPlace}
+
+-- THE DUMPED DIRECTORY of the dumps on these reels, with each place held, on a disc that holds nothing else
+pub record IsRestored (reels : List Reel) (held : Option (List (List ℕ))) (number : ℕ) (made : Contents) : Type 0 where
+  pub dumps : List Dump
+  pub are : AreOnReels reels dumps
+  pub directory : DumpedDirectory dumps
+  pub places : All (HasPlace dumps) (files_in directory)
+  pub number_is : number ≡ directory.last.number
+  pub made_is : made ≡ restored held directory
+
+-- where the reels tell what they hold, disc and rack that belong together go on doing so
+abbrev pub KeepsBelonging : Option (List (List ℕ)) → Rack → Option (List (List ℕ)) → Rack → Type 0
+KeepsBelonging held old after new = ReelsTold (told_reels old) → Belong held old → Belong after new
+
+-- no directory and no copy is lost
+abbrev pub NothingIsLost : {A : Type 0} → Result A StoreFault → Type 0
+NothingIsLost (Err (store.LostDirectory user)) = ⊥
+NothingIsLost (Err (store.LostCopy full serial)) = ⊥
+NothingIsLost answer = Unit {0}
