@@ -1,6 +1,6 @@
 -- A store keeps what it keeps where files of its filestore are taken off the disc.
-use Rattle.std.proofs.Common.{◌≡◌, ℕ, ◌+◌, ◌<◌, ◌≤◌, Bool, true, false, List, [], Option, Some, None, refl, sym, ◌∙◌, ap, subst, arith, inl, inr, if◌then◌else◌, true≢false}
-use Rattle.std.specs.Prelude.{◌⊎◌, ◌||◌, Contains, IfSome, Result, is_some, not}
+use Rattle.std.proofs.Common.{◌≡◌, ℕ, ◌+◌, ◌<◌, Bool, true, false, List, [], Option, Some, None, refl, sym, ◌∙◌, ap, subst, arith, inl, inr, if◌then◌else◌, true≢false}
+use Rattle.std.specs.Prelude.{◌⊎◌, ◌||◌, IfSome, is_some, not}
 use Rattle.std.specs.Option.{ForSome}
 use Rattle.g_tape.specs.Rack.{Rack}
 use Rattle.g_tape.specs.Reel.{Reel}
@@ -17,7 +17,7 @@ use Rattle.g_state.specs.Answers.{Belongs, IsStore}
 use Rattle.g_state.specs.Belong.{BelongWith, DiscBelongs, RackBelongs}
 use Rattle.g_state.specs.Laws.{IsQuiet}
 use Rattle.g_state.specs.Meaning.{told_reels}
-use Rattle.g_state.specs.Staying.{OnlyGrow, behind}
+use Rattle.g_state.specs.Staying.{behind}
 use Rattle.g_state.specs.Up.{DumpFacts, IsOpen, IsReady, IsUp, StoreFacts, content_in}
 use Rattle.g_state.proofs.ChangeLemmas.{files_belong, intents_belong}
 use Rattle.g_state.proofs.StayLemmas.{stays_up}

@@ -1,6 +1,6 @@
 -- One file that goes off the disc: that it may, and how it is answered.
-use Rattle.std.proofs.Common.{◌≡◌, ◌≢◌, ℕ, zero, suc, ◌<◌, ◌==◌, Bool, true, false, List, [], ◌∷◌, length, get_or, map, Option, Some, None, Ok, Err, refl, sym, ◌∙◌, ap, subst, arith, inl, inr, if◌then◌else◌, true≢false}
-use Rattle.std.specs.Prelude.{◌⊎◌, ◌↔◌, ◌||◌, All, AllPairs, Contains, OnErr, OnOk, Result, is_some}
+use Rattle.std.proofs.Common.{◌≡◌, ◌≢◌, ℕ, zero, suc, ◌==◌, Bool, true, false, List, [], ◌∷◌, get_or, map, Option, Some, None, Ok, Err, refl, sym, ◌∙◌, ap, subst, arith, inl, inr, if◌then◌else◌, true≢false}
+use Rattle.std.specs.Prelude.{◌⊎◌, ◌↔◌, ◌||◌, All, Contains, OnErr, Result, is_some}
 use Rattle.std.specs.FinMap.{get}
 use Rattle.std.proofs.lemmas.Bool.{eqb-true, or_cases}
 use Rattle.std.proofs.lemmas.List.{get_or-map, length-map}
@@ -15,14 +15,14 @@ use Rattle.g_plain.specs.declared.faults.StoreFault.{StoreFault}
 use Rattle.g_plain.specs.declared.faults.StoreFault.TheVariants.{NoMemory, NotDumped, Offline, Stopped}
 use Rattle.g_tree.specs.Records.{IsRecords, by_number}
 use Rattle.g_tree.proofs.PutLemmas.{number_found}
-use Rattle.g_contents.specs.Contents.{Contents, File, committed, contents_of, has, offline_in, recs_in, taken_off}
+use Rattle.g_contents.specs.Contents.{Contents, File, committed, has, offline_in, recs_in, taken_off}
 use Rattle.g_contents.specs.Facts.{IsTied, OnlineFacts}
 use Rattle.g_online.specs.declared.change.Change.TheVariants.{Unload}
 use Rattle.g_online.specs.declared.fault.OnlineFault.{OnlineFault}
 use Rattle.g_online.specs.declared.fault.OnlineFault.TheVariants as variants
 use Rattle.g_online.specs.Allowed.{HasNumber, IsAllowed, IsUnjammable, KeepsRules, Lies}
 use Rattle.g_online.specs.Change.{changed, with_files}
-use Rattle.g_online.specs.Done.{HasChanged, HasStopped, IsApplied}
+use Rattle.g_online.specs.Done.{IsApplied}
 use Rattle.g_online.proofs.KeepLemmas.{rules_of}
 use Rattle.g_migrate.specs.Keeps.{KeepsStore}
 use Rattle.g_migrate.specs.Migrated.{HasMigrated, as_stored, refusal_by, refusal_of}

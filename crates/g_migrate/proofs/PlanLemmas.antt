@@ -1,27 +1,26 @@
 -- The first candidates in order of stamp are a plan of unjamming.
-use Rattle.std.proofs.Common.{◌≡◌, ◌≢◌, ℕ, zero, suc, ◌+◌, ◌-◌, ◌<◌, ◌≤◌, ◌==◌, Bool, true, false, ◌&&◌, ◌||◌, cond, List, [], ◌∷◌, ◌++◌, ◌*◌, length, get_or, map, filter, take, sum_by, Option, Some, None, refl, sym, ◌∙◌, ap, subst, arith, inl, inr, if◌then◌else◌}
+use Rattle.std.proofs.Common.{◌≡◌, ◌≢◌, ℕ, zero, suc, ◌+◌, ◌<◌, ◌≤◌, ◌==◌, Bool, true, false, ◌&&◌, ◌||◌, List, [], ◌∷◌, ◌++◌, ◌*◌, length, get_or, map, filter, take, sum_by, Option, Some, None, refl, sym, ◌∙◌, ap, subst, arith, inl, inr, if◌then◌else◌}
 use Rattle.std.specs.Prelude.{◌⊎◌, All, AllPairs, Contains, is_some, nat_lt}
-use Rattle.std.specs.List.{list_any}
 use Rattle.std.specs.List.Sorted.{IsNonDecreasingBy, IsPermutation}
-use Rattle.std.proofs.lemmas.Bool.{and_from, and_parts, cases_Bool, cases_lt, cases_order, cond-false, cond-true, eq-eqb, eqb-true, le-ltb, lt-ltb, ltb-true}
+use Rattle.std.proofs.lemmas.Bool.{and_from, and_parts, cases_Bool, cases_lt, cases_order, cond-false, cond-true, eq-eqb, eqb-true, lt-ltb, ltb-true}
 use Rattle.std.proofs.lemmas.List.{get_or-map, get_or-take, get_or_default, length-map, length-take-le, map_more, take-map}
 use Rattle.std.proofs.lemmas.List.Elements.{All-head, All-map, All-tail, Contains-get_or}
 use Rattle.std.proofs.lemmas.List.Folds.{list_any_at}
 use Rattle.std.proofs.lemmas.List.Kept.{AllPairs-filter}
-use Rattle.std.proofs.lemmas.List.Sorted.{Contains-permutation, IsPermutation-map, IsPermutation-sym, length_permutation, sum_by-IsPermutation}
+use Rattle.std.proofs.lemmas.List.Sorted.{Contains-permutation, IsPermutation-map, IsPermutation-sym, sum_by-IsPermutation}
 use Rattle.std.proofs.lemmas.List.Sums.{sum_by-cons, sum_by_more}
 use Rattle.g_base.specs.Block.{blocks_for}
 use Rattle.g_entry.specs.declared.file_rec.FileRec.{FileRec}
 use Rattle.g_tree.specs.Records.{IsRecords}
 use Rattle.g_tree.proofs.ListLemmas.{contains_cases, contains_first, contains_more}
 use Rattle.g_contents.specs.Contents.{File, has, offline_in, recs_in, taken_off}
-use Rattle.g_contents.specs.Facts.{OnlineFacts, Pin, is_current, online_blocks, pinned_blocks, room_of, room_with}
+use Rattle.g_contents.specs.Facts.{OnlineFacts, Pin, is_current, online_blocks, pinned_blocks, room_of}
 use Rattle.g_online.proofs.UseLemmas.{same_apart}
 use Rattle.g_migrate.specs.declared.candidates.Candidate.{Candidate}
 use Rattle.g_migrate.specs.Taken.{TakesFirst, blocks_in, candidate_of, candidates_in}
 use Rattle.g_state_steps.specs.Unjam.{IsUnjamPlan, is_candidate, is_taken, room_until}
-use Rattle.g_migrate.specs.Unjam.{FitsDisc, IsOlder, IsRoomWithout}
-use Rattle.g_migrate.proofs.FrontLemmas.{AreRising, IsFront, below, fewer_below, nobody, until_front, until_of}
+use Rattle.g_migrate.specs.Unjam.{IsOlder, IsRoomWithout}
+use Rattle.g_migrate.proofs.FrontLemmas.{AreRising, IsFront, below, fewer_below, until_front, until_of}
 
 -- WHAT IS KEPT AND MADE of a list
 pub made_there : {A B : Type 0} (p : A → Bool) (f : A → B) (xs : List A) (x : A) → Contains xs x → p x ≡ true → Contains (map f (filter p xs)) (f x)
