@@ -1,6 +1,6 @@
 -- The bytes of held blocks are content.
-use Rattle.std.proofs.Common.{◌≡◌, ℕ, zero, suc, ◌+◌, ◌-◌, ◌*◌, ◌<◌, ◌≤◌, Bool, true, false, List, [], ◌∷◌, ◌++◌, length, map, take, drop, Some, refl, sym, ◌∙◌, ap, subst, arith, length-append}
-use Rattle.std.specs.Prelude.{◌↔◌, All, Contains, IsTrue}
+use Rattle.std.proofs.Common.{◌≡◌, ℕ, zero, suc, ◌+◌, ◌-◌, ◌*◌, ◌<◌, ◌≤◌, List, [], ◌∷◌, ◌++◌, length, map, take, drop, refl, sym, ◌∙◌, ap, subst, arith, length-append}
+use Rattle.std.specs.Prelude.{All, Contains}
 use Rattle.std.specs.Option.{ForSome}
 use Rattle.std.proofs.lemmas.Grind.{flat_map-append}
 use Rattle.std.proofs.lemmas.List.{append_assoc, drop-drop, drop-take, drop_at, length-drop, length-map, length-take-le, take-append-drop, take-append-le, take-take, take_at}
@@ -12,7 +12,7 @@ use Rattle.g_tape.specs.Reads.{blocks_of}
 use Rattle.g_incr.specs.Layout.{Dump, StandsOn, content_at, dump_blocks, ends, file_in, header_block, mark_block, size_of, user_in}
 use Rattle.g_shelf.specs.Completed.{AreCompleted, AreNext}
 use Rattle.g_shelf.specs.Found.{AreRead}
-use Rattle.g_shelf.specs.Held.{AreHeld, AreInOne}
+use Rattle.g_shelf.specs.Held.{AreHeld}
 use Rattle.g_shelf.proofs.HeldLemmas.{held_in_one}
 use Rattle.g_shelf.proofs.OneLemmas.{completed_are_one}
 use Rattle.g_state.specs.Meaning.{IsContent, joined}

@@ -1,7 +1,6 @@
 -- Bytes that are read block by block.
-use Rattle.std.proofs.Common.{◌≡◌, ℕ, zero, suc, ◌+◌, ◌-◌, ◌*◌, ◌^◌, ◌<◌, ◌≤◌, min, List, [], ◌∷◌, ◌++◌, length, take, drop, Option, Some, None, Ok, Err, refl, sym, ◌∙◌, ap, subst, arith, slice_get, inl, inr, if◌then◌else◌, Bool, true, false, length-append}
-use Rattle.std.specs.Prelude.{◌⊎◌, Result}
-use Rattle.std.specs.List.{flat_map}
+use Rattle.std.proofs.Common.{◌≡◌, ℕ, zero, suc, ◌+◌, ◌-◌, ◌*◌, ◌^◌, ◌<◌, ◌≤◌, min, List, [], ◌∷◌, ◌++◌, length, take, drop, Option, Some, None, Ok, refl, sym, ◌∙◌, ap, subst, arith, slice_get, inl, inr, if◌then◌else◌, Bool, true, false, length-append}
+use Rattle.std.specs.Prelude.{◌⊎◌}
 use Rattle.std.specs.Option.{ForSome}
 use Rattle.std.proofs.lemmas.Bool.{cases_lt}
 use Rattle.std.proofs.lemmas.Grind.{flat_map-append}
@@ -13,8 +12,7 @@ use Rattle.g_tape.specs.declared.fault.TapeFault.TheVariants as tape
 use Rattle.g_tape.specs.Rack.{AreReels, Rack, reel, refuses_unmount}
 use Rattle.g_tape.specs.Reads.{HasRead, OnlyReads, blocks_of}
 use Rattle.g_tape.specs.Reel.{Reel}
-use Rattle.g_tape.proofs.ReadLemmas.{blocks_after_reads, is_reel, nothing_read, read_then, then_read}
-use Rattle.g_incr.specs.declared.fault.ShelfFault.{ShelfFault}
+use Rattle.g_tape.proofs.ReadLemmas.{blocks_after_reads, is_reel, read_then, then_read}
 use Rattle.g_incr.specs.Reading.{ReadsReel}
 use Rattle.g_incr.proofs.ListLemmas.{get_drop}
 use Rattle.g_incr.proofs.TapeLemmas.{ReadsTape, reads_nothing, reads_then, same_len}
