@@ -33,7 +33,8 @@ use Rattle.g_trap.specs.declared.mode_set.Mode.TheVariants as mode
 use Rattle.g_verbs.specs.Ranges.{IsGeneration, clamped, clamped_range, path_with, unit_with}
 use Rattle.g_verbs.specs.Forms.{IsOf}
 use Rattle.g_verbs.specs.How.{all_modes, amount_read, budget_or, budget_read, digit_unit, file_read, fits, is_of, kind_front, letter_read, local_read, mode_read, number_read, unit_read, user_read, whole_path}
-use Rattle.g_verbs.specs.Parameters.{IsAmount, IsFile, IsLocal, IsUnit, IsUser, kind_word, mode_word, most_of, unit_word}
+use Rattle.g_monitor.specs.Parts.{mode_word}
+use Rattle.g_verbs.specs.Parameters.{IsAmount, IsFile, IsLocal, IsUnit, IsUser, kind_word, most_of, unit_word}
 use Rattle.g_verbs.specs.declared.form.Form.{Form}
 use Rattle.g_verbs.specs.declared.form.Form.TheVariants as form
 

@@ -19,7 +19,8 @@ use Rattle.g_verbs.proofs.SaidLemmas.{amount_of-is, budget_of-is, digit_of-is, f
 use Rattle.g_verbs.proofs.WalkLemmas.{Walked, walked, wrong-none, wrong-some}
 use Rattle.g_verbs.specs.Forms.{AreGood, Fits, Forms, IsFirstWrong, IsGoodPlace, IsOf, at_least, just, or_any}
 use Rattle.g_verbs.specs.How.{action_of, action_read, amount_of, asked, asked_or_wrong, budget_of, file_of, first_wrong, is_of, local_of, modes_read, read_as, unit_of, user_of}
-use Rattle.g_verbs.specs.Parameters.{IsAmount, IsFile, IsUser, mode_word}
+use Rattle.g_monitor.specs.Parts.{mode_word}
+use Rattle.g_verbs.specs.Parameters.{IsAmount, IsFile, IsUser}
 use Rattle.g_verbs.specs.Verbs.{FileVerb, IsRead, IsSound, MayBeMoney, MayBeText, MayBeUser, Says, TrapVerb, TwoFiles, forms_with, macro_forms, verb_forms, verb_of, verb_word, verbs}
 use Rattle.g_verbs.specs.declared.action.Action.{Action}
 use Rattle.g_verbs.specs.declared.action.Action.TheVariants as action

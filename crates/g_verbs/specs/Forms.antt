@@ -3,11 +3,12 @@ use Rattle.std.specs.Fmt.{decimal}
 use Rattle.std.specs.List.{slice_get}
 use Rattle.std.specs.Prelude.{Bool, List, None, Option, Some, [], false, if◌then◌else◌, length, ℕ, ◌+◌, ◌-◌, ◌<◌, ◌∷◌, ◌≡◌, ◌≤◌}
 use Rattle.g_lang.specs.Conditions.{IsLetter}
+use Rattle.g_monitor.specs.Parts.{mode_word}
 use Rattle.g_name.specs.declared.path.Path.{Path}
 use Rattle.g_peri.specs.declared.unit.Unit as unit
 use Rattle.g_plain.specs.declared.calls.BudgetKind.{BudgetKind}
 use Rattle.g_trap.specs.declared.mode_set.Mode.{Mode}
-use Rattle.g_verbs.specs.Parameters.{IsAmount, IsFile, IsLocal, IsUnit, IsUser, mode_word}
+use Rattle.g_verbs.specs.Parameters.{IsAmount, IsFile, IsLocal, IsUnit, IsUser}
 use Rattle.g_verbs.specs.declared.form.Form.{Form}
 use Rattle.g_verbs.specs.declared.form.Form.TheVariants as form
 

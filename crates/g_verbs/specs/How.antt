@@ -7,6 +7,7 @@ use Rattle.std.specs.Prelude.{Bool, Err, List, None, Ok, Option, Result, Some, [
 use Rattle.std.specs.Str.Parse.{digits_value}
 use Rattle.g_lang.specs.Conditions.{is_param_letter}
 use Rattle.g_lang.specs.How.{behind}
+use Rattle.g_monitor.specs.Parts.{mode_word}
 use Rattle.g_name.specs.Grammar.{is_user_text, is_word}
 use Rattle.g_name.specs.Machine.{run}
 use Rattle.g_name.specs.Order.{same_text}
@@ -23,7 +24,7 @@ use Rattle.g_trap.specs.declared.mode_set.Mode.{Mode}
 use Rattle.g_trap.specs.declared.mode_set.Mode.TheVariants as mode
 use Rattle.g_verbs.specs.Ranges.{no_path, no_unit, path_with, unit_with}
 use Rattle.g_verbs.specs.Forms.{Forms, or_any}
-use Rattle.g_verbs.specs.Parameters.{mode_word, most_of}
+use Rattle.g_verbs.specs.Parameters.{most_of}
 use Rattle.g_verbs.specs.Verbs.{forms_with, verb_of}
 use Rattle.g_verbs.specs.declared.action.Action.{Action}
 use Rattle.g_verbs.specs.declared.action.Action.TheVariants as action

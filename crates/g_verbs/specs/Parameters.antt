@@ -1,6 +1,7 @@
 -- Parameters of verbs, as they are written.
 use Rattle.std.specs.Fmt.{decimal}
 use Rattle.std.specs.Prelude.{List, [], bit_or, codes, length, map, true, ℕ, ◌++◌, ◌+◌, ◌∷◌, ◌≡◌, ◌≤◌}
+use Rattle.g_monitor.specs.Parts.{mode_word}
 use Rattle.g_name.specs.Grammar.{is_word}
 use Rattle.g_name.specs.Names.{IsName, name_text, path_name}
 use Rattle.g_name.specs.declared.path.Path.{Path}
@@ -11,7 +12,6 @@ use Rattle.g_plain.specs.declared.calls.BudgetKind.{BudgetKind}
 use Rattle.g_plain.specs.declared.calls.BudgetKind.TheVariants.{Money, Space, Time}
 use Rattle.g_trap.specs.ModeSet.{mode_bit}
 use Rattle.g_trap.specs.declared.mode_set.Mode.{Mode}
-use Rattle.g_trap.specs.declared.mode_set.Mode.TheVariants.{Append, Erase, Execute, Read, Write}
 
 -- a parameter that names a file, a user, a local name
 abbrev pub IsFile : Path → List ℕ → Type 0
@@ -46,13 +46,6 @@ unit_word Tp = codes "*TP"
 
 abbrev pub IsUnit : unit.Unit → List ℕ → Type 0
 IsUnit u text = (u.number ≤ 7) × (text ≡ unit_word u.kind ++ ((48 + u.number) ∷ []))
-
-abbrev pub mode_word : Mode → List ℕ
-mode_word Read = codes "READ"
-mode_word Write = codes "WRITE"
-mode_word Append = codes "APPEND"
-mode_word Execute = codes "EXECUTE"
-mode_word Erase = codes "ERASE"
 
 -- all of these modes
 abbrev pub modes_of : List Mode → ℕ

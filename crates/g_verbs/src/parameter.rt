@@ -6,6 +6,7 @@ ghost use Rattle.g_verbs.specs.Parameters as parameters;
 
 use crate::number::number;
 use g_lang::is_param_letter;
+use g_monitor::mode_word;
 use g_name::{Local, Path, User, parse_path};
 use g_peri::{Kind, Unit};
 use g_plain::BudgetKind;
@@ -122,19 +123,6 @@ pub fn mode(text: &[u8]) -> Option<Mode>
     ensures { result ≡ how.mode_read text.now }
 {
     MODES.iter().copied().find(|mode| mode_word(*mode) == text)
-}
-
-/// The word of a mode.
-fn mode_word(mode: Mode) -> &'static [u8]
-    ensures { result.now ≡ parameters.mode_word mode }
-{
-    match mode {
-        Mode::Read => b"READ",
-        Mode::Write => b"WRITE",
-        Mode::Append => b"APPEND",
-        Mode::Execute => b"EXECUTE",
-        Mode::Erase => b"ERASE",
-    }
 }
 
 /// A letter, `A` to `X`.
