@@ -1,4 +1,4 @@
-//! The lines of texts, and lists of texts that own them.
+//! The lines of texts, and lists of texts that own them (docs/DEFINITIONS.md, "The script", *Lines*).
 #![tactic(auto)]
 
 mod laws;

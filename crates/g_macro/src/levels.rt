@@ -51,7 +51,7 @@ impl Levels {
         })
     }
 
-    /// Takes the next line, with the parameters of its level put in. Levels without a line are dropped before.
+    /// Takes the next line, with the parameters of its level put in. Levels on top that have no line are dropped before.
     ///
     /// `None` where no level has a line. A line above 240 bytes is refused, and counts as taken.
     pub fn next_line(&mut self, alloc: Global) -> Result<Option<Text>, MacroFault>
