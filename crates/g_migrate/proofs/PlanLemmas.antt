@@ -19,6 +19,7 @@ use Rattle.g_online.proofs.UseLemmas.{same_apart}
 use Rattle.g_migrate.specs.declared.candidates.Candidate.{Candidate}
 use Rattle.g_migrate.specs.Taken.{TakesFirst, blocks_in, candidate_of, candidates_in}
 use Rattle.g_state_steps.specs.Unjam.{IsUnjamPlan, is_candidate, is_taken, room_until}
+use Rattle.g_online.specs.Room.{FitsDisc}
 use Rattle.g_migrate.specs.Unjam.{IsOlder, IsRoomWithout}
 use Rattle.g_migrate.proofs.FrontLemmas.{AreRising, IsFront, below, fewer_below, until_front, until_of}
 
@@ -348,7 +349,7 @@ module _ (o : OnlineFacts) (need : ℕ) (sorted : List Candidate) (taken : List 
       by_case (inr isnt) (inl is) = let no : true ≡ false = sym (has_there taken f.rec.number (all_there f there is)) ∙ isnt in (let wrong : ⊥ = cc in absurd wrong)
       by_case (inr isnt) (inr also) = isnt ∙ sym also
 
-  pub room_behind : IsRoomWithout o taken room
+  pub room_behind : FitsDisc o → IsRoomWithout o taken room
   room_behind fits =
       let sum = off_all until taken files (λ i d inside. taken_are (get_or files i d) (Contains-get_or files i d inside)) in
       let pinned = pinned_off taken files o.pins in

@@ -8,4 +8,5 @@ mod tests;
 mod unjamming;
 
 pub use migration::migrate;
-pub use unjamming::{Unjam, plan_unjam};
+pub use g_online::Unjam;
+pub use unjamming::plan_unjam;

@@ -9,17 +9,9 @@ ghost use Rattle.g_migrate.specs.Unjam.{IsOlder, IsRoomWithout};
 use crate::candidates::{Candidate, candidates};
 use g_base::NoMemory;
 use g_disc::Disc;
-use g_online::Online;
+use g_online::{Online, Unjam};
 use g_tree::NumberList;
 use std::alloc::Global;
-
-/// The files that are taken off the disc to make room, by number, the oldest versions first, and how many blocks are free
-/// then.
-#[derive(Debug, Drop)]
-pub struct Unjam {
-    pub take: NumberList,
-    pub room: u32,
-}
 
 /// The plan for a need of so many blocks (docs/DEFINITIONS.md): of the files that are on the disc and on tape too it takes
 /// the oldest versions, just as many as leave `need` blocks free, or all of them where that isn't enough. Nothing changes,

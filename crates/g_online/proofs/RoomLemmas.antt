@@ -10,6 +10,7 @@ use Rattle.g_entry.specs.declared.file_rec.FileRec.{FileRec}
 use Rattle.g_dirs.specs.Directory.{FileEntry, LiesSomewhere, all_places, places_of}
 use Rattle.g_contents.specs.Contents.{File, file_of}
 use Rattle.g_contents.specs.Facts.{Pin, online_blocks, pinned_blocks, room_of, is_current as is_current_file}
+use Rattle.g_online.specs.Room.{FitsDisc}
 use Rattle.g_online.specs.declared.pinned.Pinned.{Pinned}
 use Rattle.g_online.specs.Kept.{IsKept, IsPinned, Memory, PinsAre, directory_in, facts_of, is_current, orphans, pin_of, pins_of}
 use Rattle.g_online.proofs.ContentLemmas.{Told, rec_is}
@@ -72,6 +73,19 @@ lost_are size next held files touched (Some pins) are = lost_all size next held 
 -- THE ROOM
 pub room_is : (disc : DiscState) (m : Memory) → IsKept disc m → m.live ≡ true → free_count m.pool ≡ room_of (facts_of disc m)
 room_is disc m kept live =
+    let was = kept.agreed live in
+    let files = (directory_in m).files in
+    let count = was.pool.fresh.count in
+    omega (
+      arith,
+      count,
+      length-append (all_places files) (orphans m.pins files),
+      blocks_are disc.held files was.stored.rules.lies,
+      lost_are disc.size m.head.next_stamp disc.held files m.touched m.pins was.pins,
+    )
+
+pub room_fits : (disc : DiscState) (m : Memory) → IsKept disc m → m.live ≡ true → FitsDisc (facts_of disc m)
+room_fits disc m kept live =
     let was = kept.agreed live in
     let files = (directory_in m).files in
     let count = was.pool.fresh.count in

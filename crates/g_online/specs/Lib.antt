@@ -9,3 +9,4 @@ pub mod Off
 pub mod Pins
 pub mod Dumped
 pub mod Put
+pub mod Room

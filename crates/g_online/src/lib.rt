@@ -19,7 +19,9 @@ mod pinned;
 mod pins;
 mod put;
 mod records;
+mod unjam;
 
 pub use change::{Change, CopyList};
 pub use fault::OnlineFault;
 pub use online::Online;
+pub use unjam::Unjam;

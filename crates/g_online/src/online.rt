@@ -3,6 +3,7 @@ ghost use Rattle.std.specs.Prelude.{◌≡◌, ◌≤◌, true, Contains, Some};
 ghost use Rattle.g_base.specs.Counts.{one_more};
 ghost use Rattle.g_contents.specs.Contents.{File, recs_in};
 ghost use Rattle.g_contents.specs.Facts.{IsTied, room_of};
+ghost use Rattle.g_online.specs.Room.{FitsDisc};
 
 use crate::copies::copy_of;
 use crate::numbers::UserNumbers;
@@ -92,7 +93,8 @@ impl<D: Disc> Online<D> {
     /// How many copy blocks are free. Those of pinned versions that no file has any more aren't.
     pub fn room(&self) -> u32
         requires live { self.now.live ≡ true }
-        ensures { result ≡ room_of self.now }
+        ensures room { result ≡ room_of self.now }
+        ensures fits { FitsDisc self.now }
     {
         self.pool.free()
     }

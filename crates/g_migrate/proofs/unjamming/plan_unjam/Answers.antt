@@ -3,7 +3,7 @@ use Rattle.std.specs.Prelude.{IfOk}
 use Rattle.std.specs.List.Sorted.{IsNonDecreasingBy, IsPermutation}
 use Rattle.std.proofs.lemmas.Result.{IfOk-weaker}
 use Rattle.g_migrate.specs.declared.candidates.Candidate.{Candidate}
-use Rattle.g_migrate.specs.declared.unjamming.Unjam.{Unjam}
+use Rattle.g_online.specs.declared.unjam.Unjam.{Unjam}
 use Rattle.g_migrate.specs.Taken.{TakesFirst}
 use Rattle.g_migrate.proofs.CandidateLemmas.{few_files, few_sorted, small_room, small_sorted}
 use Rattle.g_migrate.proofs.MigrationLemmas.{rules_here}
@@ -25,7 +25,7 @@ take_first-requires-clause-small g c =
     (subst (λ (l : List Candidate). IsPermutation l c.deref.result.now) c.in_ok-candidates.ensures (subst (IsPermutation c.in_ok-candidates.candidates.items) (sym c.deref.ensures.value) c.sort_by_age.ensures.moved))
 
 pub take_first-requires-clause-room : goal.take_first-requires-clause-room
-take_first-requires-clause-room g c = subst (λ (n : ℕ). n ≤ 1_048_576) (sym c.room.ensures) (small_room c.args.online.now c.requires.tied)
+take_first-requires-clause-room g c = subst (λ (n : ℕ). n ≤ 1_048_576) (sym c.room.ensures.room) (small_room c.args.online.now c.requires.tied)
 
 pub returns-clause-plan : goal.returns-clause-plan
 returns-clause-plan g c =
@@ -34,7 +34,7 @@ returns-clause-plan g c =
     let moved = subst (λ (l : List Candidate). IsPermutation l c.deref.result.now) c.in_ok-candidates.ensures (subst (IsPermutation c.in_ok-candidates.candidates.items) (sym c.deref.ensures.value) c.sort_by_age.ensures.moved) in
     let order = subst (IsNonDecreasingBy (λ (x : Candidate). x.stamp)) (sym c.deref.ensures.value) c.sort_by_age.ensures.order in
     IfOk-weaker c.take_first.result _ _ (λ (u : Unjam) first. plan_is o c.args.need c.deref.result.now u.take u.room records moved order first)
-    (subst (λ (n : ℕ). IfOk c.take_first.result (λ (u : Unjam). TakesFirst c.deref.result.now n c.args.need u.take u.room)) c.room.ensures c.take_first.ensures)
+    (subst (λ (n : ℕ). IfOk c.take_first.result (λ (u : Unjam). TakesFirst c.deref.result.now n c.args.need u.take u.room)) c.room.ensures.room c.take_first.ensures)
 
 pub returns-clause-order : goal.returns-clause-order
 returns-clause-order g c =
@@ -43,7 +43,7 @@ returns-clause-order g c =
     let moved = subst (λ (l : List Candidate). IsPermutation l c.deref.result.now) c.in_ok-candidates.ensures (subst (IsPermutation c.in_ok-candidates.candidates.items) (sym c.deref.ensures.value) c.sort_by_age.ensures.moved) in
     let order = subst (IsNonDecreasingBy (λ (x : Candidate). x.stamp)) (sym c.deref.ensures.value) c.sort_by_age.ensures.order in
     IfOk-weaker c.take_first.result _ _ (λ (u : Unjam) first. oldest_first o c.args.need c.deref.result.now u.take u.room records moved order first)
-    (subst (λ (n : ℕ). IfOk c.take_first.result (λ (u : Unjam). TakesFirst c.deref.result.now n c.args.need u.take u.room)) c.room.ensures c.take_first.ensures)
+    (subst (λ (n : ℕ). IfOk c.take_first.result (λ (u : Unjam). TakesFirst c.deref.result.now n c.args.need u.take u.room)) c.room.ensures.room c.take_first.ensures)
 
 pub returns-clause-room : goal.returns-clause-room
 returns-clause-room g c =
@@ -51,10 +51,10 @@ returns-clause-room g c =
     let records = (rules_here o c.requires.live c.requires.tied).records in
     let moved = subst (λ (l : List Candidate). IsPermutation l c.deref.result.now) c.in_ok-candidates.ensures (subst (IsPermutation c.in_ok-candidates.candidates.items) (sym c.deref.ensures.value) c.sort_by_age.ensures.moved) in
     let order = subst (IsNonDecreasingBy (λ (x : Candidate). x.stamp)) (sym c.deref.ensures.value) c.sort_by_age.ensures.order in
-    IfOk-weaker c.take_first.result _ _ (λ (u : Unjam) first. room_behind o c.args.need c.deref.result.now u.take u.room records moved order first)
-    (subst (λ (n : ℕ). IfOk c.take_first.result (λ (u : Unjam). TakesFirst c.deref.result.now n c.args.need u.take u.room)) c.room.ensures c.take_first.ensures)
+    IfOk-weaker c.take_first.result _ _ (λ (u : Unjam) first. room_behind o c.args.need c.deref.result.now u.take u.room records moved order first c.room.ensures.fits)
+    (subst (λ (n : ℕ). IfOk c.take_first.result (λ (u : Unjam). TakesFirst c.deref.result.now n c.args.need u.take u.room)) c.room.ensures.room c.take_first.ensures)
 
 pub returns-clause-none : goal.returns-clause-none
 returns-clause-none g c =
     IfOk-weaker c.take_first.result _ _ (λ (u : Unjam) first. none_taken c.deref.result.now _ c.args.need u.take u.room first)
-    (subst (λ (n : ℕ). IfOk c.take_first.result (λ (u : Unjam). TakesFirst c.deref.result.now n c.args.need u.take u.room)) c.room.ensures c.take_first.ensures)
+    (subst (λ (n : ℕ). IfOk c.take_first.result (λ (u : Unjam). TakesFirst c.deref.result.now n c.args.need u.take u.room)) c.room.ensures.room c.take_first.ensures)
