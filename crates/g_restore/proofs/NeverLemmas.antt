@@ -1,6 +1,6 @@
 -- Where disc and rack belong together no directory and no copy is lost.
-use Rattle.std.proofs.Common.{◌≡◌, ◌≢◌, ℕ, ◌+◌, ◌<◌, ◌≤◌, List, [], ◌∷◌, ◌++◌, length, get_or, take, drop, Option, Some, None, Result, Ok, Err, refl, sym, ◌∙◌, ap, arith, subst, All}
-use Rattle.std.specs.Prelude.{AllPairs, IfSome}
+use Rattle.std.proofs.Common.{◌≡◌, ◌≢◌, ℕ, zero, suc, ◌+◌, ◌<◌, ◌≤◌, List, [], ◌∷◌, ◌++◌, length, get_or, take, drop, Option, Some, None, Result, Ok, Err, refl, sym, ◌∙◌, ap, arith, subst, All}
+use Rattle.std.specs.Prelude.{AllPairs, Contains, IfSome}
 use Rattle.std.proofs.lemmas.List.{append_assoc, get_or_append_left, length-append, take-append-drop}
 use Rattle.std.proofs.lemmas.List.Elements.{All-cons, All-contains, All-head, All-nil, All-tail, All-weaker, Contains-append_right}
 use Rattle.g_entry.specs.declared.file_rec.FileRec.{FileRec}
@@ -17,10 +17,11 @@ use Rattle.g_shelf.specs.Completed.{all_dumps}
 use Rattle.g_state.specs.Belong.{BelongWith, KeepsRecord, RackBelongs}
 use Rattle.g_state.specs.Meaning.{DumpedDirectory, Gathers, IsContent, files_in, files_of, told_reels}
 use Rattle.g_state.specs.Reading.{ReelsTold}
-use Rattle.g_state.proofs.OneLemmas.{IsApart, same_gathered}
-use Rattle.g_restore.specs.Lost.{AreApart, GoTogether, HasPlace, IsFirstLost, IsLostDirectory, LostIsNamed}
+use Rattle.g_state.proofs.OneLemmas.{same_gathered}
 use Rattle.g_restore.specs.Laws.{NoneIsLost}
+use Rattle.g_restore.specs.Lost.{AreApart, GoTogether, HasPlace, IsFirstLost, IsLostDirectory, LostIsNamed}
 use Rattle.g_restore.specs.Restored.{NothingIsLost}
+use Rattle.g_restore.proofs.GatherLemmas.{apart_is}
 use Rattle.g_restore.proofs.NumberLemmas.{numbered-append}
 
 -- THE FRONT of files that keep the rules keeps them
@@ -50,11 +51,6 @@ files_front users xs ys is =
       dated = all_front (λ r. 1 ≤ r.stamp) xs ys is.dated;
       empty = all_front (λ r. r.len ≡ 0 → r.tape ≡ None) xs ys is.empty;
     }
-
--- dumps that are apart, as the laws of the state say it
-apart_is : (dumps : List Dump) → AreApart dumps → IsApart dumps
-unfolding IsApart
-apart_is dumps apart = apart
 
 record HasFront (dumps : List Dump) (us : List UserRec) (fs : List FileRec) : Type 0 where
   front : List FileRec

@@ -1,4 +1,7 @@
+pub mod Gathered
+pub mod Known
 pub mod Laws
 pub mod Lost
+pub mod Places
 pub mod Reels
 pub mod Restored

@@ -1,5 +1,5 @@
 -- WHAT A RESTORE MAKES OF THE DUMPS, and what it answers.
-use Rattle.std.specs.Prelude.{◌≡◌, ℕ, List, All, Option, Result, Err}
+use Rattle.std.specs.Prelude.{◌≡◌, ℕ, List, All, Option, Result, Ok, Err}
 use Rattle.g_tape.specs.Rack.{Rack}
 use Rattle.g_tape.specs.Reel.{Reel}
 use Rattle.g_plain.specs.declared.faults.StoreFault.{StoreFault}
@@ -21,6 +21,27 @@ pub record IsRestored (reels : List Reel) (held : Option (List (List ℕ))) (num
   pub places : All (HasPlace dumps) (files_in directory)
   pub number_is : number ≡ directory.last.number
   pub made_is : made ≡ restored held directory
+
+-- the answer without the disc that is handed back
+abbrev pub answer_of : {A B : Type 0} → Result A (StoreFault × B) → Result A StoreFault
+answer_of (Ok reply) = Ok reply
+answer_of (Err e) = Err e.0
+
+-- the refusals that come of the reels, those that come of the disc, and all
+abbrev pub IsOfReels : StoreFault → Type 0
+IsOfReels (store.RackNotMounted serial) = Unit {0}
+IsOfReels store.TapeReadFault = Unit {0}
+IsOfReels store.NoDump = Unit {0}
+IsOfReels (store.LostDirectory user) = Unit {0}
+IsOfReels (store.LostCopy full serial) = Unit {0}
+IsOfReels store.NoMemory = Unit {0}
+IsOfReels fault = ⊥
+
+abbrev pub IsOfDisc : StoreFault → Type 0
+IsOfDisc store.DiscReadFault = Unit {0}
+IsOfDisc store.Stopped = Unit {0}
+IsOfDisc store.NoMemory = Unit {0}
+IsOfDisc fault = ⊥
 
 -- where the reels tell what they hold, disc and rack that belong together go on doing so
 abbrev pub KeepsBelonging : Option (List (List ℕ)) → Rack → Option (List (List ℕ)) → Rack → Type 0

@@ -1,6 +1,10 @@
 //! General restore: what it makes of the completed dumps of a rack, what it names where they give no directory, and the laws of
-//! that. So far definitions and laws alone.
+//! that. So far definitions, laws, and the reading of what the dumps hold.
 #![tactic(auto)]
+
+mod dumps;
+mod gather;
+mod places;
 
 ghost use Rattle.g_restore.specs.Laws.{NoneIsLost, RefusedBelongs, RestoredBelongs, StoppedBelongs};
 ghost use Rattle.g_restore.specs.Reels.{AreAllDumps};

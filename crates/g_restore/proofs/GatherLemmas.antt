@@ -1,0 +1,169 @@
+-- The directories of users, gathered one behind the other.
+use Rattle.std.proofs.Common.{◌≡◌, ◌⊎◌, ℕ, zero, suc, ◌+◌, ◌<◌, ◌≤◌, Bool, true, false, List, [], ◌∷◌, ◌++◌, length, get_or, take, Option, Result, Some, Ok, Err, ◌↔◌, refl, sym, ◌∙◌, ap, arith, slice_get, subst, below_more, map, All}
+use Rattle.std.specs.Prelude.{AllPairs, Contains, IfOk, IsTrue}
+use Rattle.std.proofs.lemmas.Bool.{false≢true}
+use Rattle.std.proofs.lemmas.List.{append-nil, append_assoc, take_all, take_more}
+use Rattle.std.proofs.lemmas.Option.{slice_get_read}
+use Rattle.g_base.specs.declared.memory.NoMemory.{NoMemory}
+use Rattle.g_entry.specs.declared.file_rec.FileRec.{FileRec}
+use Rattle.g_entry.specs.declared.user_rec.UserRec.{UserRec}
+use Rattle.g_entry.specs.Rules.{AreFiles, StampsBelow}
+use Rattle.g_incr.specs.Layout.{Dump, holds}
+use Rattle.g_incr.specs.Plan.{numbered_from}
+use Rattle.g_state.specs.Meaning.{Gathers, HasDirectory, files_of}
+use Rattle.g_state.proofs.OneLemmas.{IsApart, same_gathered}
+use Rattle.g_restore.specs.declared.dumps.Found.{Found}
+use Rattle.g_restore.specs.Gathered.{AreGathered, GoWith, IsAdded, IsBadWith, IsBest, IsFirstBad, IsHeldNowhere, IsTaken, NonePasses, SoFar, behind}
+use Rattle.g_restore.specs.Known.{AreKnown, Known, known, known_of}
+use Rattle.g_restore.specs.Lost.{AreApart}
+use Rattle.g_restore.proofs.KnownLemmas.{holder, none_passed}
+use Rattle.g_restore.proofs.NumberLemmas.{behind_is}
+
+-- ONE DIRECTORY
+pub held_nowhere : (found : List Found) (user : ℕ) → NonePasses (Some user) found (length found) → IsHeldNowhere found user
+held_nowhere found user none dumps are d has = none_passed found dumps are.same (Some user) none d has.there has.held
+
+pub is_added : (found : List Found) (user : ℕ) (b : ℕ × ℕ) (f : Found) (old new : List FileRec) → IsBest (Some user) found (length found) b → f ≡ get_or found b.0 f
+    → new ≡ behind old user f.dir.files.items → IsAdded found user old new
+is_added found user b f old new best at is dumps are =
+    let (d, has, known_d) = holder found dumps are.same user b best in
+    let same : known f ≡ known_of d = ap known at ∙ known_d f in
+    (d, has, is ∙ ap (λ (k : Known). behind old user k.files) same)
+
+same_holder : (dumps : List Dump) → AreApart dumps → (user : ℕ) (d e : Dump) → HasDirectory dumps user d → HasDirectory dumps user e → d ≡ e
+same_holder dumps apart user d e is_d is_e =
+    let one = is_d.newest e is_e.there is_e.held in
+    let two = is_e.newest d is_d.there is_d.held in
+    apart d e is_d.there is_e.there (omega arith)
+
+pub bad_with : (found : List Found) (users next user : ℕ) (old new : List FileRec) → IsAdded found user old new → (GoWith users next new → ⊥) → IsBadWith found users next user old
+bad_with found users next user old new added bad dumps are apart d has go =
+    let (e, has_e, is) = added dumps are in
+    let same : d ≡ e = same_holder dumps apart user d e has has_e in
+    bad (subst (GoWith users next) (ap (λ (x : Dump). behind old user x.files) same ∙ sym is) go)
+
+pub bad_if : (found : List Found) (users next user : ℕ) (old new : List FileRec) (result : Result Bool NoMemory) → IfOk result (λ is. IsTrue is ↔ GoWith users next new)
+    → IsAdded found user old new → IfOk result (λ is. is ≡ false → IsBadWith found users next user old)
+bad_if found users next user old new (Ok b) is added = λ isnt. bad_with found users next user old new added (λ go. false≢true (sym isnt ∙ is.1 go))
+bad_if found users next user old new (Err e) is added = tt
+
+pub nowhere_bad : (found : List Found) (users next user : ℕ) (old : List FileRec) → IsHeldNowhere found user → IsBadWith found users next user old
+nowhere_bad found users next user old nowhere dumps are apart d has go = nowhere dumps are d has
+
+-- THOSE OF USERS, and of one user more
+gathers_push : (dumps : List Dump) (us : List UserRec) (u : UserRec) (fs : List FileRec) (d : Dump) → Gathers dumps us fs → HasDirectory dumps u.number d
+    → Gathers dumps (us ++ u ∷ []) (fs ++ files_of u.number d.files)
+gathers_push dumps [] u fs d is has = (d, has, [], ap (λ (xs : List FileRec). xs ++ files_of u.number d.files) is ∙ sym (append-nil (files_of u.number d.files)), refl)
+gathers_push dumps (v ∷ vs) u fs d (e, has_e, rest, are, more) has = (
+  e,
+  has_e,
+  rest ++ files_of u.number d.files,
+  ap (λ (xs : List FileRec). xs ++ files_of u.number d.files) are ∙ append_assoc (files_of v.number e.files) rest (files_of u.number d.files),
+  gathers_push dumps vs u rest d more has,
+)
+
+record IsParted (dumps : List Dump) (us : List UserRec) (u : UserRec) (fs : List FileRec) : Type 0 where
+  front : List FileRec
+  dump : Dump
+  gathers : Gathers dumps us front
+  has : HasDirectory dumps u.number dump
+  are : fs ≡ front ++ files_of u.number dump.files
+
+gathers_part : (dumps : List Dump) (us : List UserRec) (u : UserRec) (fs : List FileRec) → Gathers dumps (us ++ u ∷ []) fs → IsParted dumps us u fs
+gathers_part dumps [] u fs (d, has, rest, are, none) = record {
+  front = [];
+  dump = d;
+  gathers = refl;
+  has = has;
+  are = are ∙ ap (λ (xs : List FileRec). files_of u.number d.files ++ xs) none ∙ append-nil (files_of u.number d.files);
+}
+gathers_part dumps (v ∷ vs) u fs (e, has_e, rest, are, more) =
+    let parted = gathers_part dumps vs u rest more in
+    record {
+      front = files_of v.number e.files ++ parted.front;
+      dump = parted.dump;
+      gathers = (e, has_e, parted.front, refl, parted.gathers);
+      has = parted.has;
+      are =
+          are ∙ ap (λ (xs : List FileRec). files_of v.number e.files ++ xs) parted.are
+          ∙ sym (append_assoc (files_of v.number e.files) parted.front (files_of u.number parted.dump.files));
+    }
+
+-- no files go together
+pub nothing_goes : (users next : ℕ) → GoWith users next []
+nothing_goes users next = record {
+  rules = record {
+    few = omega arith;
+    owners = λ k d within. let no : ⊥ = omega (arith, within) in absurd no;
+    trapped = λ k d within. let no : ⊥ = omega (arith, within) in absurd no;
+    names = λ i j d below within. let no : ⊥ = omega (arith, within) in absurd no;
+    stamps = λ i j d below within. let no : ⊥ = omega (arith, within) in absurd no;
+    dated = λ k d within. let no : ⊥ = omega (arith, within) in absurd no;
+    empty = λ k d within. let no : ⊥ = omega (arith, within) in absurd no;
+  };
+  dated = λ k d within. let no : ⊥ = omega (arith, within) in absurd no;
+}
+
+pub nothing_gathered : (found : List Found) (users : List UserRec) (next : ℕ) → SoFar found users next 0 []
+nothing_gathered found users next = record {
+  go = nothing_goes (length users) next;
+  all = λ dumps are. record { gathered = []; gathers = refl; numbered = refl; go = nothing_goes (length users) next };
+  lower = λ dumps are k below. let no : ⊥ = omega (arith, below) in absurd no;
+}
+
+next_user : (users : List UserRec) (i : ℕ) (u : UserRec) → i < length users → u ≡ get_or users i u → take (i + 1) users ≡ take i users ++ u ∷ []
+next_user users i u within at = take_more users i u within ∙ ap (λ (x : UserRec). take i users ++ x ∷ []) (sym at)
+
+pub one_taken : (found : List Found) (users : List UserRec) (next i : ℕ) (files now : List FileRec) (u : UserRec) → i < length users → u ≡ get_or users i u
+    → SoFar found users next i files → IsTaken found (length users) next u.number files now → SoFar found users next (i + 1) now
+one_taken found users next i files now u within at so taken = record {
+  go = taken.go;
+  all = more;
+  lower = λ dumps are k below.
+      below_more (λ j. (fs : List FileRec) × AreGathered dumps (length users) next (take (j + 1) users) fs) i (λ j lt. so.lower dumps are j lt) (now, more dumps are) k below;
+}
+  where
+    more : (dumps : List Dump) → AreKnown found dumps → AreGathered dumps (length users) next (take (i + 1) users) now
+    more dumps are =
+        let all = so.all dumps are in
+        let (d, has, is) = taken.is dumps are in
+        subst (λ (us : List UserRec). AreGathered dumps (length users) next us now) (sym (next_user users i u within at))
+        (record {
+          gathered = all.gathered ++ files_of u.number d.files;
+          gathers = gathers_push dumps (take i users) u all.gathered d all.gathers has;
+          numbered = is ∙ behind_is files all.gathered u.number d.files all.numbered;
+          go = taken.go;
+        })
+
+-- dumps that are apart, as the laws of the state say it
+pub apart_is : (dumps : List Dump) → AreApart dumps → IsApart dumps
+unfolding IsApart
+apart_is dumps apart = apart
+
+pub one_bad : (found : List Found) (users : List UserRec) (next i : ℕ) (files : List FileRec) (u : UserRec) → i < length users → u ≡ get_or users i u
+    → SoFar found users next i files → IsBadWith found (length users) next u.number files
+    → (dumps : List Dump) → AreKnown found dumps → AreApart dumps → IsFirstBad dumps users next u.user
+one_bad found users next i files u within at so bad dumps are apart = record {
+  number = i;
+  user = u;
+  there = slice_get_read users (length users) i u refl within at;
+  bad = none;
+  least = λ lower below. so.lower dumps are lower below;
+  name_is = refl;
+}
+  where
+    none : (fs : List FileRec) → AreGathered dumps (length users) next (take (i + 1) users) fs → ⊥
+    none fs gathered =
+        let all = so.all dumps are in
+        let g = subst (λ (us : List UserRec). AreGathered dumps (length users) next us fs) (next_user users i u within at) gathered in
+        let parted = gathers_part dumps (take i users) u g.gathered g.gathers in
+        let same : parted.front ≡ all.gathered = same_gathered dumps (apart_is dumps apart) (take i users) parted.front all.gathered parted.gathers all.gathers in
+        let fs_is : fs ≡ behind files u.number parted.dump.files =
+        g.numbered ∙ ap (numbered_from 0) (parted.are ∙ ap (λ (xs : List FileRec). xs ++ files_of u.number parted.dump.files) same)
+        ∙ sym (behind_is files all.gathered u.number parted.dump.files all.numbered) in
+        bad dumps are apart parted.dump parted.has (subst (GoWith (length users) next) fs_is g.go)
+
+pub all_gathered : (found : List Found) (users : List UserRec) (next i : ℕ) (files : List FileRec) → length users ≤ i → SoFar found users next i files
+    → (dumps : List Dump) → AreKnown found dumps → AreGathered dumps (length users) next users files
+all_gathered found users next i files le so dumps are =
+    subst (λ (us : List UserRec). AreGathered dumps (length users) next us files) (take_all i users le) (so.all dumps are)
