@@ -1,10 +1,10 @@
 -- The best of the dumps looked at so far.
-use Rattle.std.proofs.Common.{◌≡◌, ◌⊎◌, ℕ, ◌+◌, ◌<◌, ◌≤◌, true, false, List, length, get_or, Option, Some, None, refl, sym, ◌∙◌, ap, arith, inl, inr, subst, below_more}
+use Rattle.std.proofs.Common.{◌≡◌, ◌⊎◌, ℕ, ◌+◌, ◌<◌, ◌≤◌, true, false, List, length, get_or, Option, Some, None, sym, ◌∙◌, ap, arith, inl, inr, subst, below_more}
 use Rattle.std.specs.Prelude.{nat_lt}
 use Rattle.std.proofs.lemmas.Bool.{cases_Bool, cond-false, cond-true, false≢true, ltb-false, ltb-true}
 use Rattle.std.proofs.lemmas.List.{get_or_default, get_or_read}
 use Rattle.g_restore.specs.declared.dumps.Found.{Found}
-use Rattle.g_restore.specs.Gathered.{IsBest, IsBestOf, NonePasses, better, greater, number_in, passes}
+use Rattle.g_restore.specs.Gathered.{IsBest, IsBestOf, better, greater, number_in, passes}
 
 pub none_best : (user : Option ℕ) (found : List Found) → IsBestOf user found 0 None
 none_best user found = λ k d below passed. let no : ⊥ = omega (arith, below) in no

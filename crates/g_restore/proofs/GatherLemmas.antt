@@ -1,14 +1,13 @@
 -- The directories of users, gathered one behind the other.
-use Rattle.std.proofs.Common.{◌≡◌, ◌⊎◌, ℕ, zero, suc, ◌+◌, ◌<◌, ◌≤◌, Bool, true, false, List, [], ◌∷◌, ◌++◌, length, get_or, take, Option, Result, Some, Ok, Err, ◌↔◌, refl, sym, ◌∙◌, ap, arith, slice_get, subst, below_more, map, All}
-use Rattle.std.specs.Prelude.{AllPairs, Contains, IfOk, IsTrue}
+use Rattle.std.proofs.Common.{◌≡◌, ℕ, ◌+◌, ◌<◌, ◌≤◌, Bool, false, List, [], ◌∷◌, ◌++◌, length, get_or, take, Result, Some, Ok, Err, ◌↔◌, refl, sym, ◌∙◌, ap, arith, subst, below_more}
+use Rattle.std.specs.Prelude.{IfOk, IsTrue}
 use Rattle.std.proofs.lemmas.Bool.{false≢true}
 use Rattle.std.proofs.lemmas.List.{append-nil, append_assoc, take_all, take_more}
 use Rattle.std.proofs.lemmas.Option.{slice_get_read}
 use Rattle.g_base.specs.declared.memory.NoMemory.{NoMemory}
 use Rattle.g_entry.specs.declared.file_rec.FileRec.{FileRec}
 use Rattle.g_entry.specs.declared.user_rec.UserRec.{UserRec}
-use Rattle.g_entry.specs.Rules.{AreFiles, StampsBelow}
-use Rattle.g_incr.specs.Layout.{Dump, holds}
+use Rattle.g_incr.specs.Layout.{Dump}
 use Rattle.g_incr.specs.Plan.{numbered_from}
 use Rattle.g_state.specs.Meaning.{Gathers, HasDirectory, files_of}
 use Rattle.g_state.proofs.OneLemmas.{IsApart, same_gathered}

@@ -1,13 +1,13 @@
 -- What is in memory and the dumps that it is known of.
-use Rattle.std.proofs.Common.{◌≡◌, ◌⊎◌, ℕ, zero, suc, ◌+◌, ◌<◌, ◌≤◌, Bool, true, false, List, [], ◌∷◌, length, get_or, Option, Some, None, refl, sym, ◌∙◌, ap, arith, subst, map, All}
+use Rattle.std.proofs.Common.{◌≡◌, ℕ, zero, suc, ◌<◌, ◌≤◌, Bool, true, List, [], ◌∷◌, length, get_or, Option, Some, None, refl, sym, ◌∙◌, ap, arith, map, All}
 use Rattle.std.specs.Prelude.{Contains}
 use Rattle.std.proofs.lemmas.List.{get_or-map, get_or_default, length-map}
 use Rattle.std.proofs.lemmas.List.Elements.{All-contains}
 use Rattle.g_incr.specs.Layout.{Dump, IsDump, holds}
 use Rattle.g_state.specs.Meaning.{HasDirectory, IsGreatest}
 use Rattle.g_restore.specs.declared.dumps.Found.{Found}
-use Rattle.g_restore.specs.Gathered.{HasFew, IsBest, IsBestOf, NonePasses, number_in, passes}
-use Rattle.g_restore.specs.Known.{AreKnown, Known, known, known_of}
+use Rattle.g_restore.specs.Gathered.{HasFew, IsBest, NonePasses, number_in, passes}
+use Rattle.g_restore.specs.Known.{Known, known, known_of}
 
 pub at_place : {X : Type 0} (xs : List X) (i : ℕ) → i < length xs → (x : X) × (get_or xs i x ≡ x)
 at_place [] i within = let no : ⊥ = omega (arith, within) in absurd no

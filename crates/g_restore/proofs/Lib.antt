@@ -1,5 +1,6 @@
 pub mod BelongLemmas
 pub mod BestLemmas
+pub mod FoldLemmas
 pub mod GatherLemmas
 pub mod KnownLemmas
 pub mod NeverLemmas

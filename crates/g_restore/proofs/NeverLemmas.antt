@@ -1,6 +1,6 @@
 -- Where disc and rack belong together no directory and no copy is lost.
-use Rattle.std.proofs.Common.{◌≡◌, ◌≢◌, ℕ, zero, suc, ◌+◌, ◌<◌, ◌≤◌, List, [], ◌∷◌, ◌++◌, length, get_or, take, drop, Option, Some, None, Result, Ok, Err, refl, sym, ◌∙◌, ap, arith, subst, All}
-use Rattle.std.specs.Prelude.{AllPairs, Contains, IfSome}
+use Rattle.std.proofs.Common.{◌≡◌, ◌≢◌, ℕ, ◌+◌, ◌<◌, ◌≤◌, List, [], ◌∷◌, ◌++◌, length, get_or, take, drop, Option, Some, None, Result, Ok, Err, refl, sym, ◌∙◌, ap, arith, subst, All}
+use Rattle.std.specs.Prelude.{AllPairs, IfSome}
 use Rattle.std.proofs.lemmas.List.{append_assoc, get_or_append_left, length-append, take-append-drop}
 use Rattle.std.proofs.lemmas.List.Elements.{All-cons, All-contains, All-head, All-nil, All-tail, All-weaker, Contains-append_right}
 use Rattle.g_entry.specs.declared.file_rec.FileRec.{FileRec}

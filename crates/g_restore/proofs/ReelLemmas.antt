@@ -1,5 +1,5 @@
 -- What was read of one reel, and of the reels so far.
-use Rattle.std.proofs.Common.{◌≡◌, ◌⊎◌, ℕ, zero, suc, ◌+◌, ◌-◌, ◌<◌, ◌≤◌, true, List, [], ◌∷◌, ◌++◌, length, get_or, take, Option, Some, None, Ok, Err, refl, sym, ◌∙◌, ap, arith, slice_get, subst, map, All}
+use Rattle.std.proofs.Common.{◌≡◌, ℕ, zero, suc, ◌+◌, ◌<◌, ◌≤◌, true, List, [], ◌∷◌, ◌++◌, length, get_or, take, Option, Some, None, Ok, refl, sym, ◌∙◌, ap, arith, slice_get, subst, map, All}
 use Rattle.std.specs.Prelude.{is_some, if◌then◌else◌, Bool}
 use Rattle.std.specs.Option.{ForSome}
 use Rattle.std.specs.List.Sorted.{IsStrictlyIncreasing}
@@ -21,7 +21,7 @@ use Rattle.g_incr.specs.declared.note.DumpNote.{DumpNote}
 use Rattle.g_incr.specs.Layout.{Dump, IsDump, count_of, ends}
 use Rattle.g_incr.specs.Notes.{IsDirOf, IsNoteOf}
 use Rattle.g_incr.specs.Reading.{ReadsReel}
-use Rattle.g_shelf.specs.Completed.{AreCompleted, AreNext, AreShelved, IsNext, all_dumps, end_of, number_behind}
+use Rattle.g_shelf.specs.Completed.{AreCompleted, AreNext, AreShelved, IsNext, end_of, number_behind}
 use Rattle.g_shelf.specs.Found.{AreInRow, note_of}
 use Rattle.g_shelf.proofs.OneLemmas.{completed_are_one}
 use Rattle.g_shelf.proofs.ReadLemmas.{refuses_after_reads}

@@ -5,3 +5,4 @@ pub mod Lost
 pub mod Places
 pub mod Reels
 pub mod Restored
+pub mod Steps

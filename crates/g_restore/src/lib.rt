@@ -3,6 +3,7 @@
 #![tactic(auto)]
 
 mod dumps;
+mod fold;
 mod gather;
 mod places;
 

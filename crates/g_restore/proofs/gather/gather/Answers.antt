@@ -1,4 +1,4 @@
-use Rattle.std.proofs.Common.{◌≡◌, ◌∙◌, List, ℕ, sym, subst, arith}
+use Rattle.std.proofs.Common.{◌≡◌, ◌∙◌, sym, subst, arith}
 use Rattle.g_restore.specs.Gathered.{IsFirstBad}
 use Rattle.g_restore.proofs.GatherLemmas.{all_gathered, nothing_gathered, one_bad, one_taken}
 use Rattle.g_restore.proofs.gather.gather.Goals as goal

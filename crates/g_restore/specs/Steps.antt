@@ -1,0 +1,67 @@
+-- The steps of a restore: the refusals of the layers below, and the directory that is made.
+use Rattle.std.specs.Prelude.{◌≡◌, ◌≢◌, ◌^◌, ◌<◌, ◌≤◌, true, List, All, None, is_some}
+use Rattle.g_entry.specs.declared.head.Head.{Head}
+use Rattle.g_entry.specs.Rules.{StampsBelow}
+use Rattle.g_tree.specs.Records.{IsRecords}
+use Rattle.g_plain.specs.declared.faults.StoreFault.{StoreFault}
+use Rattle.g_plain.specs.declared.faults.StoreFault.TheVariants as store
+use Rattle.g_incr.specs.declared.fault.ShelfFault.{ShelfFault}
+use Rattle.g_incr.specs.declared.fault.ShelfFault.TheVariants as shelf
+use Rattle.g_incr.specs.Layout.{Dump}
+use Rattle.g_state.specs.Meaning.{DumpedDirectory, files_in}
+use Rattle.g_online.specs.declared.fault.OnlineFault.{OnlineFault}
+use Rattle.g_online.specs.declared.fault.OnlineFault.TheVariants as online
+use Rattle.g_restore.specs.declared.fold.Dumped.{Dumped}
+use Rattle.g_tape.specs.Reel.{Reel}
+use Rattle.g_restore.specs.Lost.{HasPlace}
+use Rattle.g_restore.specs.Reels.{AreOnReels}
+
+-- what a refusal of a reader of tape is to the store, and one of the online filestore
+abbrev pub by_shelf : ShelfFault → StoreFault
+by_shelf shelf.NoTape = store.NoTape
+by_shelf shelf.NotMounted = store.NotMounted
+by_shelf shelf.ReadFault = store.TapeReadFault
+by_shelf shelf.NoMemory = store.NoMemory
+
+abbrev pub by_online : OnlineFault → StoreFault
+by_online (online.DiscFull need room) = store.DiscFull need room
+by_online online.ReadFault = store.DiscReadFault
+by_online online.Stopped = store.Stopped
+by_online online.NoFilestore = store.NoFilestore
+by_online online.NoMemory = store.NoMemory
+
+-- the refusals that come of what the dumps hold
+abbrev pub IsOfDumps : StoreFault → Type 0
+IsOfDumps store.NoDump = Unit {0}
+IsOfDumps (store.LostDirectory user) = Unit {0}
+IsOfDumps (store.LostCopy full serial) = Unit {0}
+IsOfDumps store.NoMemory = Unit {0}
+IsOfDumps fault = ⊥
+
+-- what is in memory of the directory that dumps give
+pub record IsFolded (dumps : List Dump) (d : Dumped) : Type 0 where
+  pub directory : DumpedDirectory dumps
+  pub places : All (HasPlace dumps) (files_in directory)
+  pub number_is : d.number ≡ directory.last.number
+  pub next_is : d.next_stamp ≡ directory.last.next
+  pub users_are : d.users.items ≡ directory.last.users
+  pub files_are : d.files.items ≡ files_in directory
+
+-- a directory that can be put on a disc
+pub record CanBeMade (d : Dumped) : Type 0 where
+  pub number : d.number < 2 ^ 62
+  pub first : 1 ≤ d.next_stamp
+  pub last : d.next_stamp ≤ 2 ^ 62
+  pub records : IsRecords d.users.items d.files.items
+  pub dated : StampsBelow d.next_stamp d.files.items
+  pub copied : All (λ r. r.len ≢ 0 → is_some r.tape ≡ true) d.files.items
+
+abbrev pub head_of : Dumped → Head
+head_of d = record { next_stamp = d.next_stamp; last_dump = d.number; intent = None }
+
+-- the dumps of the reels give it, and it can be made
+pub record IsGiven (reels : List Reel) (d : Dumped) : Type 0 where
+  pub dumps : List Dump
+  pub are : AreOnReels reels dumps
+  pub folded : IsFolded dumps d
+  pub can : CanBeMade d
