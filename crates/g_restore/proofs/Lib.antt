@@ -1,9 +1,12 @@
+pub mod AnswerLemmas
 pub mod BelongLemmas
 pub mod BestLemmas
+pub mod DirectoryLemmas
 pub mod FoldLemmas
 pub mod GatherLemmas
 pub mod KnownLemmas
 pub mod NeverLemmas
 pub mod NumberLemmas
 pub mod PlaceLemmas
+pub mod RebuildLemmas
 pub mod ReelLemmas

@@ -6,9 +6,12 @@ mod dumps;
 mod fold;
 mod gather;
 mod places;
+mod restore;
 
 ghost use Rattle.g_restore.specs.Laws.{NoneIsLost, RefusedBelongs, RestoredBelongs, StoppedBelongs};
 ghost use Rattle.g_restore.specs.Reels.{AreAllDumps};
+
+pub use restore::rebuild;
 
 /// Where the reels tell what they hold, the dumps that are read of them are all completed dumps.
 pub fn dumps_of_reels()
