@@ -15,10 +15,9 @@ use Rattle.g_incr.specs.Layout.{Dump}
 use Rattle.g_incr.specs.Plan.{numbered_from, with_number}
 use Rattle.g_shelf.specs.Completed.{all_dumps}
 use Rattle.g_state.specs.Belong.{BelongWith, KeepsRecord, RackBelongs}
-use Rattle.g_state.specs.Meaning.{DumpedDirectory, Gathers, IsContent, files_in, files_of, told_reels}
+use Rattle.g_state.specs.Meaning.{DumpedDirectory, Gathers, IsContent, files_in, files_of}
 use Rattle.g_state.specs.Reading.{ReelsTold}
 use Rattle.g_state.proofs.OneLemmas.{same_gathered}
-use Rattle.g_restore.specs.Laws.{NoneIsLost}
 use Rattle.g_restore.specs.Lost.{AreApart, GoTogether, HasPlace, IsFirstLost, IsLostDirectory, LostIsNamed}
 use Rattle.g_restore.specs.Restored.{NothingIsLost}
 use Rattle.g_restore.proofs.GatherLemmas.{apart_is}
@@ -137,6 +136,3 @@ nothing_lost held reels (Err (LostCopy full serial)) names told belong =
     let t : DumpedDirectory dumps = belong.rack.tree is.last is.greatest.there in
     no_copy dumps t belong.rack.apart full serial (places_kept belong.text dumps t belong.rack) is
 nothing_lost held reels (Err fault) names told belong = tt
-
-pub none_lost : NoneIsLost
-none_lost held rack answer names told belong = nothing_lost held (told_reels rack) answer names told belong

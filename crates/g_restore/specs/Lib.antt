@@ -1,6 +1,5 @@
 pub mod Gathered
 pub mod Known
-pub mod Laws
 pub mod Lost
 pub mod Places
 pub mod Reels
