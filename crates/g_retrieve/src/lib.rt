@@ -1,8 +1,10 @@
-//! The bytes of files that are on tape alone.
+//! The bytes of files that are on tape alone, and how such a file comes back to the disc.
 #![tactic(auto)]
 
+mod back;
 mod bytes;
 #[cfg(test)]
 mod tests;
 
+pub use back::bring_back;
 pub use bytes::tape_bytes;

@@ -1,0 +1,179 @@
+-- What the bytes of a copy are where disc and rack belong together, and that it isn't lost then.
+use Rattle.std.proofs.Common.{◌≡◌, ℕ, ◌-◌, ◌==◌, true, false, List, [], ◌∷◌, length, take, drop, Option, Some, None, is_some, refl, sym, ◌∙◌, ap, arith, subst, inl, inr}
+use Rattle.std.specs.Prelude.{◌⊎◌, Contains, IfSome}
+use Rattle.std.proofs.lemmas.Bool.{cases_Bool, cases_eq, cond-false, cond-true, eqb-true}
+use Rattle.std.proofs.lemmas.List.Elements.{All-contains}
+use Rattle.std.proofs.lemmas.Option.{same_Some}
+use Rattle.g_name.specs.declared.full.Full.{Full}
+use Rattle.g_entry.specs.declared.file_rec.TapeCopy.{TapeCopy}
+use Rattle.g_tape.specs.Rack.{Rack, is_mounted, reel}
+use Rattle.g_tape.specs.Reads.{blocks_in, blocks_of, unread}
+use Rattle.g_tape.specs.Reel.{Reel}
+use Rattle.g_tree.specs.Records.{full_of}
+use Rattle.g_tree.proofs.ListLemmas.{contains_first, contains_more}
+use Rattle.g_contents.specs.Contents.{File}
+use Rattle.g_contents.specs.Facts.{OnlineFacts}
+use Rattle.g_incr.specs.Layout.{Dump, content_at}
+use Rattle.g_shelf.specs.Completed.{AreCompleted, AreShelved, all_dumps}
+use Rattle.g_state.specs.Answers.{Belongs, IsLostCopy, Told}
+use Rattle.g_state.specs.Belong.{KeepsFile}
+use Rattle.g_state.specs.Meaning.{IsContent, joined, told_reels}
+use Rattle.g_state.specs.Reading.{ReelsTold}
+use Rattle.g_state.specs.Up.{IsUp, StoreFacts}
+use Rattle.g_state.proofs.OneLemmas.{Apart, AreRight, are_right, is_shelved, on_reel}
+use Rattle.g_state_laws.proofs.UpOneLemmas.{on_all}
+use Rattle.g_state_steps.proofs.WaitingLemmas.{mapped_there}
+use Rattle.g_retrieve.specs.Brought.{HasCopied, IsOnTape, IsNowhere}
+use Rattle.g_retrieve.specs.Keeps.{HasLostCopy, IsOver}
+
+-- THE REEL of a serial
+reel_there : (s : ℕ) (rs : List Reel) (q : Reel) → reel s rs ≡ Some q → Contains rs q × (q.serial ≡ s)
+reel_there s [] q is = let no : ⊥ = cc in absurd no
+reel_there s (r ∷ rs) q is = by_case (cases_Bool (s == r.serial)) (reel_there s rs q)
+  where
+    by_case : ((s == r.serial) ≡ true) ⊎ ((s == r.serial) ≡ false) → (reel s rs ≡ Some q → Contains rs q × (q.serial ≡ s)) → Contains (r ∷ rs) q × (q.serial ≡ s)
+    by_case (inl here) later =
+        let same : r ≡ q = same_Some r q (sym (cond-true (s == r.serial) (Some r) (reel s rs) here) ∙ is) in
+        (subst (Contains (r ∷ rs)) same (contains_first r rs), ap (λ (x : Reel). x.serial) (sym same) ∙ sym (eqb-true s r.serial here))
+    by_case (inr other) later =
+        let (there, at) = later (sym (cond-false (s == r.serial) (Some r) (reel s rs) other) ∙ is) in
+        (contains_more r q rs there, at)
+
+-- the shelf has its completed dumps, where it tells
+pub shelf_of : (shelf : ℕ → List Dump) (s : ℕ) (rack : Rack) (blocks : List (List ℕ)) → AreShelved shelf (told_reels rack) → blocks_of s rack ≡ Some blocks → AreCompleted s blocks (shelf s)
+shelf_of shelf s rack blocks shelved told = by_reel (reel s rack.reels) refl
+  where
+    by_reel : (o : Option Reel) → reel s rack.reels ≡ o → AreCompleted s blocks (shelf s)
+    by_reel None none = let wrong : None ≡ Some blocks = sym (ap blocks_in none) ∙ told in (let no : ⊥ = cc in absurd no)
+    by_reel (Some q) some =
+        let (there, at) = reel_there s rack.reels q some in
+        let tells : q.blocks ≡ Some blocks = sym (ap blocks_in some) ∙ told in
+        subst (λ (n : ℕ). AreCompleted n blocks (shelf n)) at (shelved.each (unread q) (mapped_there unread rack.reels q there) blocks tells)
+
+-- a reel that is mounted tells, where all do, and its dumps are among all
+record TellsReel (shelf : ℕ → List Dump) (s : ℕ) (rack : Rack) : Type 0 where
+  blocks : List (List ℕ)
+  told : blocks_of s rack ≡ Some blocks
+  on : (d : Dump) → Contains (shelf s) d → Contains (all_dumps shelf (told_reels rack)) d
+
+tells_reel : (shelf : ℕ → List Dump) (s : ℕ) (rack : Rack) → ReelsTold (told_reels rack) → is_mounted (reel s rack.reels) ≡ true → TellsReel shelf s rack
+tells_reel shelf s rack all mounted = by_reel (reel s rack.reels) refl mounted
+  where
+    by_blocks : (q : Reel) → reel s rack.reels ≡ Some q → (b : Option (List (List ℕ))) → q.blocks ≡ b → is_some b ≡ true → TellsReel shelf s rack
+    by_blocks q some None none is = let no : ⊥ = cc in absurd no
+    by_blocks q some (Some blocks) tells is =
+        let (there, at) = reel_there s rack.reels q some in
+        record {
+          blocks = blocks;
+          told = ap blocks_in some ∙ tells;
+          on = λ d inside. on_all shelf (told_reels rack) (unread q) d (mapped_there unread rack.reels q there) (subst (λ (n : ℕ). Contains (shelf n) d) (sym at) inside);
+        }
+
+    by_reel : (o : Option Reel) → reel s rack.reels ≡ o → is_mounted o ≡ true → TellsReel shelf s rack
+    by_reel None none is = let no : ⊥ = cc in absurd no
+    by_reel (Some q) some is =
+        let (there, at) = reel_there s rack.reels q some in
+        by_blocks q some q.blocks refl (All-contains (λ (r : Reel). is_some r.blocks ≡ true) (told_reels rack) (unread q) all.each (mapped_there unread rack.reels q there))
+
+-- CONTENT of all dumps is that of the dumps of its reel
+content_on : (shelf : ℕ → List Dump) (reels : List Reel) (c : TapeCopy) (t : List ℕ) → ReelsTold reels → AreShelved shelf reels → IsContent (all_dumps shelf reels) c t → IsContent (shelf c.serial) c t
+content_on shelf reels c t told shelved is =
+    let on = on_reel shelf reels is.dump is.there in
+    let (serial, rules) = is_shelved shelf reels told shelved is.dump on.reel on.there on.on in
+    record {
+      dump = is.dump;
+      there = subst (λ (n : ℕ). Contains (shelf n) is.dump) (sym serial ∙ is.reel) on.on;
+      reel = is.reel;
+      from = is.from;
+      to = is.to;
+      text_is = is.text_is;
+    }
+
+content_in : (old new : List Dump) (c : TapeCopy) (t : List ℕ) → ((d : Dump) → Contains old d → Contains new d) → IsContent old c t → IsContent new c t
+content_in old new c t more is = record { dump = is.dump; there = more is.dump is.there; reel = is.reel; from = is.from; to = is.to; text_is = is.text_is }
+
+-- at one place there is one content of a length
+no_bytes : (t : List ℕ) → length t ≡ 0 → t ≡ []
+no_bytes [] none = refl
+no_bytes (b ∷ bs) none = let no : ⊥ = omega (arith, none) in absurd no
+
+same_content : (dumps : List Dump) → AreRight dumps → (c : TapeCopy) (x y : List ℕ) → length x ≡ length y → IsContent dumps c x → IsContent dumps c y → x ≡ y
+unfolding Apart
+same_content dumps right c x y long of_x of_y = by_length (cases_eq (length x) 0)
+  where
+    by_place : (length x ≡ 0 → ⊥) → Apart of_x.dump of_y.dump → x ≡ y
+    by_place some (inl same) =
+        sym of_x.text_is
+        ∙ ap (λ (d : Dump). take (length x) (joined (drop (c.first - content_at d) d.content))) same
+        ∙ ap (λ (n : ℕ). take n (joined (drop (c.first - content_at of_y.dump) of_y.dump.content))) long
+        ∙ of_y.text_is
+    by_place some (inr (inl before)) =
+        let to = of_x.to in let from = of_y.from in
+        let no : ⊥ = omega (arith, some) in absurd no
+    by_place some (inr (inr before)) =
+        let to = of_y.to in let from = of_x.from in
+        let no : ⊥ = omega (arith, some, long) in absurd no
+
+    by_length : (length x ≡ 0) ⊎ (length x ≡ 0 → ⊥) → x ≡ y
+    by_length (inl none) = no_bytes x none ∙ sym (no_bytes y (sym long ∙ none))
+    by_length (inr some) = by_place some (right.two of_x.dump of_y.dump of_x.there of_y.there (of_x.reel ∙ sym of_y.reel))
+
+-- THE BYTES THAT WERE READ are the text that disc and tape know
+pub copied_one : (shelf : ℕ → List Dump) (c : TapeCopy) (len : ℕ) (t bytes : List ℕ) (before after : Rack) → ReelsTold (told_reels before) → AreShelved shelf (told_reels before)
+    → IsContent (all_dumps shelf (told_reels before)) c t → length t ≡ len → HasCopied c len bytes before after → bytes ≡ t
+copied_one shelf c len t bytes before after told shelved is long copied =
+    let reels : List Reel = told_reels before in
+    let tells = tells_reel shelf c.serial before told copied.mounted in
+    let here : IsContent (shelf c.serial) c bytes = copied.content tells.blocks tells.told (shelf c.serial) (shelf_of shelf c.serial before tells.blocks shelved tells.told) in
+    same_content (all_dumps shelf reels) (are_right shelf reels told shelved) c bytes t (copied.long ∙ sym long)
+    (content_in (shelf c.serial) (all_dumps shelf reels) c bytes tells.on here) is
+
+-- A LOST COPY: as a store tells it
+pub lost_copy : (s : StoreFacts) (f : File) (c : TapeCopy) → Contains s.online.contents.files f → f.online ≡ false → f.rec.tape ≡ Some c → IsNowhere c f.rec.len s.rack
+    → IsLostCopy s (full_of s.online.contents.users f.rec) c.serial
+lost_copy s f c there offline copy nowhere =
+    (f, there, refl, offline, c.first, copy, λ shelf text shelved blocks told long is. nowhere.none blocks told (shelf c.serial) (shelf_of shelf c.serial s.rack blocks shelved told) text long is)
+
+-- and never where the text of its version is content
+never_lost : (shelf : ℕ → List Dump) (c : TapeCopy) (len : ℕ) (t : List ℕ) (rack : Rack) → ReelsTold (told_reels rack) → AreShelved shelf (told_reels rack)
+    → IsContent (all_dumps shelf (told_reels rack)) c t → length t ≡ len → IsNowhere c len rack → ⊥
+never_lost shelf c len t rack told shelved is long nowhere =
+    let tells = tells_reel shelf c.serial rack told nowhere.mounted in
+    nowhere.none tells.blocks tells.told (shelf c.serial) (shelf_of shelf c.serial rack tells.blocks shelved tells.told) t long (content_on shelf (told_reels rack) c t told shelved is)
+
+-- the text of a version that a store knows
+copy_text : (text : List ℕ) (dumps : List Dump) (f : File) (c : TapeCopy) → KeepsFile text dumps f → f.rec.tape ≡ Some c → IsContent dumps c text
+copy_text text dumps f c keeps copy = subst (λ (o : Option TapeCopy). IfSome o (λ k. IsContent dumps k text)) copy keeps.rec.copy
+
+pub text_is : (text : ℕ → List ℕ) (shelf : ℕ → List Dump) (s : StoreFacts) (f : File) (c : TapeCopy) → IsUp text shelf s → Contains s.online.contents.files f → f.rec.tape ≡ Some c
+    → IsContent (all_dumps shelf (told_reels s.rack)) c (text f.rec.stamp) × (length (text f.rec.stamp) ≡ f.rec.len)
+text_is text shelf s f c up there copy =
+    let dumps : List Dump = all_dumps shelf (told_reels s.rack) in
+    let keeps = All-contains (λ (g : File). KeepsFile (text g.rec.stamp) dumps g) s.online.contents.files f up.disc.files there in
+    (copy_text (text f.rec.stamp) dumps f c keeps copy, keeps.rec.len)
+
+belongs_not_lost : (s : StoreFacts) (f : File) (c : TapeCopy) → s.spent ≡ false → Told s → Belongs s → Contains s.online.contents.files f → f.rec.tape ≡ Some c → IsNowhere c f.rec.len s.rack → ⊥
+belongs_not_lost s f c unspent told belongs there copy nowhere =
+    let (text, shelf, shelved, up) = belongs.up unspent in
+    let (is, long) = text_is text shelf s f c up there copy in
+    never_lost shelf c f.rec.len (text f.rec.stamp) s.rack told.each shelved is long nowhere
+
+-- the copy of a file that was looked for
+pub is_lost : (number : ℕ) (o : OnlineFacts) (rack : Rack) (f : File) (c : TapeCopy) (name : Full) (serial : ℕ) → IsOnTape number o f c → name ≡ full_of o.contents.users f.rec → serial ≡ c.serial
+    → IsNowhere c f.rec.len rack → HasLostCopy f c name serial o rack
+is_lost number o rack f c name serial away named on nowhere = record {
+  name_is = named;
+  serial_is = on;
+  nowhere = nowhere;
+  copy = λ s over.
+      let here = in_store s over in
+      let lost = lost_copy s f c here.there here.offline here.copy (subst (IsNowhere c f.rec.len) (sym over.rack_is) nowhere) in
+      subst (λ (n : ℕ). IsLostCopy s name n) (sym on)
+      (subst (λ (n : Full). IsLostCopy s n c.serial) (ap (λ (p : OnlineFacts). full_of p.contents.users f.rec) over.online_is ∙ sym named) lost);
+  never = λ s over told belongs.
+      let here = in_store s over in
+      belongs_not_lost s f c over.unspent told belongs here.there here.copy (subst (IsNowhere c f.rec.len) (sym over.rack_is) nowhere);
+}
+  where
+    in_store : (s : StoreFacts) → IsOver o rack s → IsOnTape number s.online f c
+    in_store s over = subst (λ (p : OnlineFacts). IsOnTape number p f c) (sym over.online_is) away
