@@ -1,35 +1,57 @@
 use super::*;
+use g_lines::Texts;
 use std::test::Fail;
+
+/// Whether a condition is that parameter B isn't `X,Y`.
+fn is_asked(cond: &Cond) -> bool {
+    match &cond.test {
+        Test::Equals { letter, text } => {
+            cond.negated && *letter == b'B' && text.as_slice() == b"X,Y".as_slice()
+        }
+        _ => false,
+    }
+}
+
+/// Whether parameters are `A (B,C)` and `D`.
+fn are_two(params: &Texts) -> bool {
+    match params.rows() {
+        [first, second] => {
+            first.as_slice() == b"A (B,C)".as_slice() && second.as_slice() == b"D".as_slice()
+        }
+        _ => false,
+    }
+}
+
+/// Whether a command is a COPY with these parameters.
+fn is_copy(command: &Command) -> bool {
+    match command {
+        Command::Verb { name, params, rest } => {
+            name.as_slice() == b"COPY".as_slice()
+                && are_two(params)
+                && rest.as_slice() == b"A (B,C) , D".as_slice()
+        }
+        _ => false,
+    }
+}
+
+/// Whether a command does that COPY under that condition.
+fn is_done(command: &Command) -> bool {
+    match command {
+        Command::If { cond, inner } => is_asked(cond) && is_copy(inner),
+        _ => false,
+    }
+}
+
+/// Whether a label is `1A`.
+fn is_label(label: Option<&Label>) -> bool {
+    label.is_some_and(|label| label.as_slice() == b"1A".as_slice())
+}
 
 /// A label, a condition and a verb with its parameters, with ample memory.
 #[test]
 fn ample(rt: HostRuntime) -> Result<(), Fail> {
-    let Line { label, command } = parse_line(
-        rt.alloc(),
-        b" 1A IF NOT STRING(%B)=(X,Y),COPY A (B,C) , D ",
-    )?;
-    let Some(label) = label else {
-        panic!(rt; "no label");
-    };
-    assert_eq!(rt; label.as_slice(), b"1A".as_slice());
-    let Command::If { cond, inner } = command else {
-        panic!(rt; "no condition");
-    };
-    let Cond { negated, test } = cond;
-    assert!(rt; negated);
-    let Test::Equals { letter, text } = test else {
-        panic!(rt; "another test");
-    };
-    assert_eq!(rt; letter, b'B');
-    assert_eq!(rt; text.as_slice(), b"X,Y".as_slice());
-    let Command::Verb { name, params, rest } = Box::into_inner(inner) else {
-        panic!(rt; "no verb");
-    };
-    assert_eq!(rt; name.as_slice(), b"COPY".as_slice());
-    assert_eq!(rt; rest.as_slice(), b"A (B,C) , D".as_slice());
-    assert_eq!(rt; params.len(), 2);
-    for (param, text) in params.rows().iter().zip([b"A (B,C)".as_slice(), b"D"]) {
-        assert_eq!(rt; param.as_slice(), text);
-    }
+    let line = parse_line(rt.alloc(), b" 1A IF NOT STRING(%B)=(X,Y),COPY A (B,C) , D ")?;
+    assert!(rt; is_label(line.label.as_ref()));
+    assert!(rt; is_done(&line.command));
     Ok(())
 }
