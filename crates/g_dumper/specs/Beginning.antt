@@ -1,0 +1,115 @@
+-- AN OPENING OF A DUMP: its plan, when it is refused, and what it leaves.
+use Rattle.std.specs.Prelude.{◌≡◌, ◌≢◌, ◌⊎◌, ◌↔◌, ℕ, ◌+◌, ◌-◌, ◌^◌, ◌<◌, ◌≤◌, true, false, List, [], Option, Some, None, is_some, Result, Err, IfErr}
+use Rattle.std.specs.Option.{ForSome}
+use Rattle.std.specs.List.{flat_map}
+use Rattle.g_base.specs.Counts.{Rose, RoseBy}
+use Rattle.g_entry.specs.declared.file_rec.FileRec.{FileRec}
+use Rattle.g_entry.specs.declared.head.Intent.{Intent}
+use Rattle.g_tape.specs.declared.fault.TapeFault.{TapeFault}
+use Rattle.g_tape.specs.declared.fault.TapeFault.TheVariants as tape
+use Rattle.g_tape.specs.Rack.{Rack, reel, refuses_unmount}
+use Rattle.g_tape.specs.Reads.{blocks_of}
+use Rattle.g_tape.specs.Reel.{Reel}
+use Rattle.g_plain.specs.declared.faults.StoreFault.{StoreFault}
+use Rattle.g_plain.specs.declared.faults.StoreFault.TheVariants.{CountersSpent, NoMemory, NoTape, NotMounted, Stopped, TapeFull, TapeReadFault}
+use Rattle.g_contents.specs.Commits.{Commits}
+use Rattle.g_contents.specs.Contents.{Holds, recs_in, with_intent}
+use Rattle.g_contents.specs.Facts.{OnlineFacts}
+use Rattle.g_incr.specs.Layout.{Dump}
+use Rattle.g_incr.specs.Plan.{IsPlan, Plan, first_content, needs}
+use Rattle.g_online.specs.Pins.{HasPinned}
+use Rattle.g_shelf.specs.Completed.{AreCompleted, end_of}
+use Rattle.g_state.specs.Meaning.{files_of}
+use Rattle.g_state.specs.Up.{DumpFacts, IsOpen}
+
+-- the files of these users, one user behind the other
+abbrev pub held_of : List ℕ → List FileRec → List FileRec
+held_of users files = flat_map (λ n. files_of n files) users
+
+-- THE PLAN of a dump that is opened now at this place: all users as they are, and the files of the changed ones
+abbrev pub plan_of : ℕ → ℕ → OnlineFacts → Plan
+plan_of serial place o = record {
+  serial = serial;
+  place = place;
+  number = o.contents.head.last_dump + 1;
+  next = o.contents.head.next_stamp;
+  users = o.contents.users;
+  held = o.changed;
+  files = held_of o.changed (recs_in o.contents);
+}
+
+abbrev pub intent_of : Plan → Intent
+intent_of plan = record { serial = plan.serial; place = plan.place; number = plan.number }
+
+-- the place is the end of the reel's completed dumps, where the reel tells what it holds
+pub record IsEnd (serial : ℕ) (rack : Rack) (place : ℕ) : Type 0 where
+  pub is : ForSome (blocks_of serial rack) (λ blocks. (dumps : List Dump) → AreCompleted serial blocks dumps → place ≡ end_of dumps)
+
+-- a dump of `need` blocks would go past the end of the reel, which has room for `room` of them behind its completed dumps
+pub record IsTooLong (serial need room : ℕ) (o : OnlineFacts) (rack : Rack) : Type 0 where
+  pub place : ℕ
+  pub end_is : IsEnd serial rack place
+  pub need_is : need ≡ needs (plan_of serial place o)
+  pub room_is : ForSome (reel serial rack.reels) (λ r. room ≡ r.capacity - place)
+  pub less : room < need
+
+-- the greatest number of a dump is given
+abbrev pub IsSpent : OnlineFacts → Type 0
+IsSpent o = o.contents.head.last_dump ≡ 2 ^ 62 - 1
+
+-- the reel can't be written, for this reason
+abbrev pub IsKeptBack : ℕ → Rack → TapeFault → Type 0
+IsKeptBack serial rack fault = refuses_unmount (reel serial rack.reels) ≡ Some fault
+
+-- the refusals that there are
+abbrev pub MayRefuse : StoreFault → Type 0
+MayRefuse CountersSpent = Unit {0}
+MayRefuse NoTape = Unit {0}
+MayRefuse NotMounted = Unit {0}
+MayRefuse TapeReadFault = Unit {0}
+MayRefuse (TapeFull need room) = Unit {0}
+MayRefuse Stopped = Unit {0}
+MayRefuse NoMemory = Unit {0}
+MayRefuse fault = ⊥
+
+-- THE REFUSALS, in their order: the numbers of dumps are used up, the reel isn't there, isn't mounted, couldn't be read, or is too
+-- short. Each comes just where it should; a dump that is opened, or stopped at its intent, has the room (`Begins`, `StoppedOpening`).
+pub record RefusesOpening {A : Type 0} (serial : ℕ) (o : OnlineFacts) (old new : Rack) (result : Result A StoreFault) : Type 0 where
+  pub spent : (result ≡ Err CountersSpent) ↔ IsSpent o
+  pub no_tape : (result ≡ Err NoTape) ↔ ((IsSpent o → ⊥) × IsKeptBack serial old tape.NoTape)
+  pub not_mounted : (result ≡ Err NotMounted) ↔ ((IsSpent o → ⊥) × IsKeptBack serial old tape.NotMounted)
+  pub rose : result ≡ Err TapeReadFault → Rose old.read_faults new.read_faults
+  pub kept : (result ≡ Err TapeReadFault → ⊥) → new.read_faults ≡ old.read_faults
+  pub full : (need room : ℕ) → result ≡ Err (TapeFull need room) → IsTooLong serial need room o old
+  pub only : IfErr result MayRefuse
+
+-- refused: all is as it was. Where memory was wanting nobody counts as touched, which is looked at while a dump is open alone.
+abbrev pub LeftByRefusal : StoreFault → OnlineFacts → OnlineFacts → Type 0
+LeftByRefusal Stopped old new = Unit {0}
+LeftByRefusal NoMemory old new = new ≡ record old { touched = new.touched }
+LeftByRefusal fault old new = new ≡ old
+
+-- STOPPED: the disc holds what it held, or that with the intent, and the filestore takes no further call
+pub record StoppedOpening (serial : ℕ) (old new : OnlineFacts) (rack : Rack) : Type 0 where
+  pub live : new.live ≡ false
+  pub place : ℕ
+  pub end_is : IsEnd serial rack place
+  pub fits : ForSome (reel serial rack.reels) (λ r. place + needs (plan_of serial place old) ≤ r.capacity)
+  pub holds : ForSome new.disc.held (λ blocks. Holds blocks old.contents ⊎ Holds blocks (with_intent (Some (intent_of (plan_of serial place old))) old.contents))
+
+-- OPENED: the plan is that of the filestore as it is, the versions that wait are pinned, and one commit has put the intent on the disc
+pub record Begins (serial : ℕ) (old : OnlineFacts) (rack : Rack) (d : DumpFacts) (new : OnlineFacts) (after : Rack) : Type 0 where
+  pub place : ℕ
+  pub end_is : IsEnd serial rack place
+  pub dump : d ≡ record { plan = plan_of serial place old; done = 0 }
+  pub rules : IsPlan d.plan
+  pub pinned : HasPinned serial (first_content d.plan) old (record old { pins = new.pins; touched = [] })
+  pub contents : new.contents ≡ with_intent (Some (intent_of d.plan)) old.contents
+  pub changed_is : new.changed ≡ old.changed
+  pub touched : new.touched ≡ []
+  pub live : new.live ≡ true
+  pub told : is_some new.disc.held ≡ is_some old.disc.held
+  pub blocks : ℕ
+  pub commits : Commits 1 old.layout new.layout blocks
+  pub writes : RoseBy blocks old.disc.writes new.disc.writes
+  pub open_dump : IsOpen d new after

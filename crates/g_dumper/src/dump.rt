@@ -1,0 +1,59 @@
+//! An open dump, and its steps.
+ghost use Rattle.std.specs.Prelude.{◌≡◌};
+ghost use Rattle.g_incr.specs.Plan.{needs};
+
+use g_incr::Writer;
+use std::marker::Model;
+
+/// How a step is answered: the dump goes on, or it is completed, with its number.
+#[derive(Clone, Copy, Debug, PartialEq, Eq)]
+pub enum DumpStep {
+    Going,
+    Completed(u64),
+}
+
+/// A dump that was opened: what it will hold, fixed at its opening, and how many of its blocks are written. The bytes of
+/// the versions that wait are those that the online filestore has pinned.
+#[derive(Debug, Drop)]
+pub struct Dump {
+    pub(crate) writer: Writer,
+    pub(crate) serial: u32,
+    pub(crate) place: u32,
+    pub(crate) number: u64,
+    pub(crate) done: u32,
+}
+
+impl Model for Dump {
+    ghost use Rattle.g_state.specs.Up.{DumpFacts};
+    ghost use Rattle.g_dumper.specs.Steps.{IsNamed};
+
+    ghost Value = { DumpFacts };
+
+    ghost view = { λ d. record { plan = d.writer; done = d.done } };
+
+    // The writer keeps the rules of a plan; the numbers beside it are the plan's.
+    ghost invariant = { λ d. IsNamed d.writer d.serial d.place d.number d.done };
+}
+
+impl Dump {
+    /// How many blocks of tape the dump takes.
+    pub fn needs(&self) -> u32
+        ensures { result ≡ needs self.now.plan }
+    {
+        self.writer.needs()
+    }
+
+    /// The number of the dump.
+    pub fn number(&self) -> u64
+        ensures { result ≡ self.now.plan.number }
+    {
+        self.number
+    }
+
+    /// The serial of its reel.
+    pub fn serial(&self) -> u32
+        ensures { result ≡ self.now.plan.serial }
+    {
+        self.serial
+    }
+}

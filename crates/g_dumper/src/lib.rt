@@ -1,0 +1,6 @@
+//! A dump that is being written, one block of tape a step.
+#![tactic(auto)]
+
+mod dump;
+
+pub use dump::{Dump, DumpStep};
