@@ -1,0 +1,3 @@
+pub mod NextLemmas
+pub mod OpenLemmas
+pub mod RulesLemmas

@@ -2,5 +2,6 @@
 #![tactic(auto)]
 
 mod dump;
+mod step;
 
 pub use dump::{Dump, DumpStep};

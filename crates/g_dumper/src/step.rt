@@ -1,0 +1,76 @@
+//! The steps of a dump.
+ghost use Rattle.std.specs.Prelude.{◌≡◌, ◌<◌, IfNone, IfSome, List, Ok, Some, true};
+ghost use Rattle.g_contents.specs.Facts.{IsTied, Pin};
+ghost use Rattle.g_incr.specs.Plan.{first_content, needs, waiting};
+ghost use Rattle.g_state.specs.Up.{ArePinned, IsOpen};
+ghost use Rattle.g_step.specs.DumpSteps.{Going};
+ghost use Rattle.g_dumper.specs.Steps.{Abandoned, IsNextBlock, Stepping, stepped_of};
+
+use crate::dump::{Dump, DumpStep};
+use g_base::Block;
+use g_disc::Disc;
+use g_incr::{Piece, Writer};
+use g_online::Online;
+use g_plain::StoreFault;
+use g_tape::Tapes;
+
+impl Dump {
+    /// Writes the next block to tape. Behind the last one, the mark, the disc gets the copies of those versions that are
+    /// still current, the dump's number, and no intent. `DiscReadFault`: a block of a version couldn't be read; the dump is
+    /// given up and its versions wait no more. `Stopped`: a write of tape or disc failed, and neither takes a further call.
+    pub fn step<D: Disc, T: Tapes>(
+        &mut self,
+        online: &mut Online<D>,
+        tapes: &mut T,
+    ) -> Result<DumpStep, StoreFault>
+        requires open { IsOpen self.old online.old (T.rack tapes.old) }
+        requires live { online.old.live ≡ true }
+        requires tied { IsTied online.old }
+        ensures step { Stepping self.old online.old (T.rack tapes.old) (stepped_of result) self.new online.new (T.rack tapes.new) }
+        ensures open { stepped_of result ≡ Ok Going → IsOpen self.new online.new (T.rack tapes.new) }
+        ensures tied { IsTied online.new }
+    {
+        let block = match next_block(&self.writer, self.done, online) {
+            Some(block) => block,
+            None => return Err(StoreFault::DiscReadFault),
+        };
+        match tapes.write(self.serial, self.place + self.done, &block) {
+            Ok(()) => {}
+            Err(_) => return Err(StoreFault::Stopped),
+        }
+        self.done += 1;
+        if self.done < self.writer.needs() {
+            return Ok(DumpStep::Going);
+        }
+        match online.close_dump(self.number) {
+            Ok(()) => Ok(DumpStep::Completed(self.number)),
+            Err(_) => Err(StoreFault::Stopped),
+        }
+    }
+}
+
+/// The next block of the dump. None: a block of a version couldn't be read, and the versions wait no more.
+fn next_block<D: Disc>(writer: &Writer, done: u32, online: &mut Online<D>) -> Option<Block>
+    requires within { done < needs writer.now }
+    requires live { online.old.live ≡ true }
+    requires pinned { (pins : List Pin) × (online.old.pins ≡ Some pins)
+        × ArePinned writer.now.serial (first_content writer.now) (waiting writer.now.files) pins }
+    requires tied { IsTied online.old }
+    ensures block { IfSome result (λ block.
+        IsNextBlock (record { plan = writer.now; done = done }) online.old.pins block) }
+    ensures same { IfSome result (λ _. online.new ≡ online.old) }
+    ensures given_up { IfNone result (Abandoned (record { plan = writer.now; done = done }) online.old online.new) }
+    ensures tied { IsTied online.new }
+{
+    let mut block: Block = [0; 512];
+    match writer.piece(done, &mut block) {
+        Piece::Ready => Some(block),
+        Piece::Content { version, part } => match online.pinned_block(version, part, &mut block) {
+            Ok(()) => Some(block),
+            Err(_) => {
+                online.unpin();
+                None
+            }
+        },
+    }
+}
