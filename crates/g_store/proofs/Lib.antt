@@ -1,0 +1,5 @@
+mod ArmLemmas
+mod EventLemmas
+mod MountLemmas
+mod SeenLemmas
+mod TurnLemmas

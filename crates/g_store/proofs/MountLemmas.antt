@@ -1,0 +1,156 @@
+-- A reel that is mounted, or isn't any more: nothing else of what a rack means changes.
+use Rattle.std.proofs.Common.{◌≡◌, ◌≢◌, ℕ, Bool, true, false, List, [], ◌∷◌, ◌++◌, Option, Some, None, refl, sym, ◌∙◌, ap, inl, inr}
+use Rattle.std.specs.Prelude.{◌⊎◌, ◌==◌, All, Contains, map, if◌then◌else◌, is_none, is_some}
+use Rattle.std.specs.Option.{ForSome, option_map}
+use Rattle.std.proofs.lemmas.Bool.{cases_eq, cond-false, cond-true, eq-eqb, ne_eqb}
+use Rattle.std.proofs.lemmas.List.Elements.{All-cons, All-contains, All-contains_itself, All-head, All-tail, All-weaker}
+use Rattle.g_tape.specs.Reel.{Reel, with_mounted}
+use Rattle.g_tape.specs.Rack.{is_mounted, reel, with_reel}
+use Rattle.g_tape.specs.Reads.{unread}
+use Rattle.g_incr.specs.Layout.{Dump}
+use Rattle.g_shelf.specs.Completed.{AreCompleted, AreShelved, all_dumps}
+use Rattle.g_step.specs.State as state
+use Rattle.g_step.specs.DumpSteps as dumps
+use Rattle.g_state.specs.Reading.{AllTold, row_of}
+
+abbrev pub serials : List Reel → List ℕ
+serials reels = map (λ (r : Reel). r.serial) reels
+
+module _ (s : ℕ) (is : Bool) where
+  abbrev pub turned : List Reel → List Reel
+  turned reels = with_reel s (with_mounted is) reels
+
+  -- whether reads are counted or not
+  pub told_turned : (reels : List Reel) → map unread (turned reels) ≡ turned (map unread reels)
+  told_turned [] = refl
+  told_turned (r ∷ rs) = pick (s == r.serial) (told_turned rs)
+    where
+      pick : (b : Bool) → map unread (turned rs) ≡ turned (map unread rs) → map unread (if b then with_mounted is r ∷ rs else r ∷ turned rs) ≡ (if b then with_mounted is (unread r) ∷ map unread rs else unread r ∷ turned (map unread rs))
+      pick true rest = refl
+      pick false rest = ap (λ (l : List Reel). unread r ∷ l) rest
+
+  -- serials and dumps stay
+  pub serials_stay : (reels : List Reel) → serials (turned reels) ≡ serials reels
+  serials_stay [] = refl
+  serials_stay (r ∷ rs) = pick (s == r.serial) (serials_stay rs)
+    where
+      pick : (b : Bool) → serials (turned rs) ≡ serials rs → serials (if b then with_mounted is r ∷ rs else r ∷ turned rs) ≡ r.serial ∷ serials rs
+      pick true rest = refl
+      pick false rest = ap (λ (l : List ℕ). r.serial ∷ l) rest
+
+  pub dumps_stay : (shelf : ℕ → List Dump) (reels : List Reel) → all_dumps shelf (turned reels) ≡ all_dumps shelf reels
+  dumps_stay shelf [] = refl
+  dumps_stay shelf (r ∷ rs) = pick (s == r.serial) (dumps_stay shelf rs)
+    where
+      pick : (b : Bool) → all_dumps shelf (turned rs) ≡ all_dumps shelf rs → all_dumps shelf (if b then with_mounted is r ∷ rs else r ∷ turned rs) ≡ shelf r.serial ++ all_dumps shelf rs
+      pick true rest = refl
+      pick false rest = ap (λ (l : List Dump). shelf r.serial ++ l) rest
+
+  -- what is so of each reel, mounted or not
+  all_turned : (P : Reel → Type 0) → ((r : Reel) → P r → P (with_mounted is r)) → (reels : List Reel) → All P reels → All P (turned reels)
+  all_turned P keeps [] all = all
+  all_turned P keeps (r ∷ rs) all = pick (s == r.serial) (all_turned P keeps rs (All-tail P r rs all))
+    where
+      pick : (b : Bool) → All P (turned rs) → All P (if b then with_mounted is r ∷ rs else r ∷ turned rs)
+      pick true rest = All-cons P (with_mounted is r) rs (keeps r (All-head P r rs all)) (All-tail P r rs all)
+      pick false rest = All-cons P r (turned rs) (All-head P r rs all) rest
+
+  all_before : (P : Reel → Type 0) → ((r : Reel) → P (with_mounted is r) → P r) → (reels : List Reel) → All P (turned reels) → All P reels
+  all_before P keeps [] all = all
+  all_before P keeps (r ∷ rs) all = pick (s == r.serial) (all_before P keeps rs) all
+    where
+      pick : (b : Bool) → (All P (turned rs) → All P rs) → All P (if b then with_mounted is r ∷ rs else r ∷ turned rs) → All P (r ∷ rs)
+      pick true rest all = All-cons P r rs (keeps r (All-head P (with_mounted is r) rs all)) (All-tail P (with_mounted is r) rs all)
+      pick false rest all = All-cons P r rs (All-head P r (turned rs) all) (rest (All-tail P r (turned rs) all))
+
+  abbrev IsShelved : (ℕ → List Dump) → Reel → Type 0
+  IsShelved shelf r = ForSome r.blocks (λ reel. AreCompleted r.serial reel (shelf r.serial))
+
+  pub shelved_turned : (shelf : ℕ → List Dump) (reels : List Reel) → AreShelved shelf reels → AreShelved shelf (turned reels)
+  shelved_turned shelf reels shelved =
+      let all : All (IsShelved shelf) reels = All-weaker (Contains reels) (IsShelved shelf) (λ r there. shelved.each r there) reels (All-contains_itself reels) in
+      let after : All (IsShelved shelf) (turned reels) = all_turned (IsShelved shelf) (λ r is. is) reels all in
+      record { each = λ r there. All-contains (IsShelved shelf) (turned reels) r after there }
+
+  pub told_before : (held : Option (List (List ℕ))) (reels : List Reel) → AllTold held (turned reels) → AllTold held reels
+  told_before held reels told = record { disc = told.disc; each = record { each = all_before (λ (r : Reel). is_some r.blocks ≡ true) (λ r is. is) reels told.each.each } }
+
+  pub told_after : (held : Option (List (List ℕ))) (reels : List Reel) → AllTold held reels → AllTold held (turned reels)
+  told_after held reels told = record { disc = told.disc; each = record { each = all_turned (λ (r : Reel). is_some r.blocks ≡ true) (λ r is. is) reels told.each.each } }
+
+  -- the rows of the state
+  pub rows_turned : (shelf : ℕ → List Dump) (reels : List Reel) → map (row_of shelf) (turned reels) ≡ state.with_reel s (dumps.with_mounted is) (map (row_of shelf) reels)
+  rows_turned shelf [] = refl
+  rows_turned shelf (r ∷ rs) = pick (s == r.serial) (rows_turned shelf rs)
+    where
+      pick : (b : Bool) → map (row_of shelf) (turned rs) ≡ state.with_reel s (dumps.with_mounted is) (map (row_of shelf) rs) → map (row_of shelf) (if b then with_mounted is r ∷ rs else r ∷ turned rs)
+          ≡ (if b then dumps.with_mounted is (row_of shelf r) ∷ map (row_of shelf) rs else row_of shelf r ∷ state.with_reel s (dumps.with_mounted is) (map (row_of shelf) rs))
+      pick true rest = refl
+      pick false rest = ap (λ (l : List state.ReelRow). row_of shelf r ∷ l) rest
+
+  -- another reel, and the same
+  pub other_reel : (t : ℕ) (reels : List Reel) → t ≢ s → reel t (turned reels) ≡ reel t reels
+  other_reel t [] other = refl
+  other_reel t (r ∷ rs) other = by_case (cases_eq s r.serial) (other_reel t rs other)
+    where
+      by_case : (s ≡ r.serial) ⊎ (s ≡ r.serial → ⊥) → reel t (turned rs) ≡ reel t rs → reel t (turned (r ∷ rs)) ≡ reel t (r ∷ rs)
+      by_case (inl same) rest =
+          ap (reel t) (cond-true (s == r.serial) (with_mounted is r ∷ rs) (r ∷ turned rs) (eq-eqb s r.serial same))
+          ∙ cond-false (t == r.serial) (Some (with_mounted is r)) (reel t rs) (ne_eqb t r.serial (λ e. other (e ∙ sym same)))
+          ∙ sym (cond-false (t == r.serial) (Some r) (reel t rs) (ne_eqb t r.serial (λ e. other (e ∙ sym same))))
+      by_case (inr isnt) rest =
+          ap (reel t) (cond-false (s == r.serial) (with_mounted is r ∷ rs) (r ∷ turned rs) (ne_eqb s r.serial isnt))
+          ∙ ap (λ (o : Option Reel). if t == r.serial then Some r else o) rest
+
+  pub same_reel : (reels : List Reel) → reel s (turned reels) ≡ option_map (with_mounted is) (reel s reels)
+  same_reel [] = refl
+  same_reel (r ∷ rs) = by_case (cases_eq s r.serial) (same_reel rs)
+    where
+      by_case : (s ≡ r.serial) ⊎ (s ≡ r.serial → ⊥) → reel s (turned rs) ≡ option_map (with_mounted is) (reel s rs) → reel s (turned (r ∷ rs)) ≡ option_map (with_mounted is) (reel s (r ∷ rs))
+      by_case (inl same) rest =
+          ap (reel s) (cond-true (s == r.serial) (with_mounted is r ∷ rs) (r ∷ turned rs) (eq-eqb s r.serial same))
+          ∙ cond-true (s == r.serial) (Some (with_mounted is r)) (reel s rs) (eq-eqb s r.serial same)
+          ∙ ap (option_map (with_mounted is)) (sym (cond-true (s == r.serial) (Some r) (reel s rs) (eq-eqb s r.serial same)))
+      by_case (inr isnt) rest =
+          ap (reel s) (cond-false (s == r.serial) (with_mounted is r ∷ rs) (r ∷ turned rs) (ne_eqb s r.serial isnt))
+          ∙ cond-false (s == r.serial) (Some r) (reel s (turned rs)) (ne_eqb s r.serial isnt)
+          ∙ rest
+          ∙ ap (option_map (with_mounted is)) (sym (cond-false (s == r.serial) (Some r) (reel s rs) (ne_eqb s r.serial isnt)))
+
+-- WHAT THE STATE SEES of a reel
+pub reel_unread : (s : ℕ) (reels : List Reel) → reel s (map unread reels) ≡ option_map unread (reel s reels)
+reel_unread s [] = refl
+reel_unread s (r ∷ rs) = pick (s == r.serial) (reel_unread s rs)
+  where
+    pick : (b : Bool) → reel s (map unread rs) ≡ option_map unread (reel s rs) → (if b then Some (unread r) else reel s (map unread rs)) ≡ option_map unread (if b then Some r else reel s rs)
+    pick true rest = refl
+    pick false rest = rest
+
+pub row_found : (shelf : ℕ → List Dump) (s : ℕ) (reels : List Reel) → state.reel_at s (map (row_of shelf) reels) ≡ option_map (row_of shelf) (reel s reels)
+row_found shelf s [] = refl
+row_found shelf s (r ∷ rs) = pick (s == r.serial) (row_found shelf s rs)
+  where
+    pick : (b : Bool) → state.reel_at s (map (row_of shelf) rs) ≡ option_map (row_of shelf) (reel s rs) → (if b then Some (row_of shelf r) else state.reel_at s (map (row_of shelf) rs)) ≡ option_map (row_of shelf) (if b then Some r else reel s rs)
+    pick true rest = refl
+    pick false rest = rest
+
+row_told : (shelf : ℕ → List Dump) (s : ℕ) (reels : List Reel) → state.reel_at s (map (row_of shelf) (map unread reels)) ≡ option_map (λ (r : Reel). row_of shelf (unread r)) (reel s reels)
+row_told shelf s reels = row_found shelf s (map unread reels) ∙ ap (option_map (row_of shelf)) (reel_unread s reels) ∙ both (reel s reels)
+  where
+    both : (r : Option Reel) → option_map (row_of shelf) (option_map unread r) ≡ option_map (λ (q : Reel). row_of shelf (unread q)) r
+    both None = refl
+    both (Some r) = refl
+
+is_none_row : (shelf : ℕ → List Dump) (r : Option Reel) → is_none (option_map (λ (q : Reel). row_of shelf (unread q)) r) ≡ is_none r
+is_none_row shelf None = refl
+is_none_row shelf (Some r) = refl
+
+mounted_row : (shelf : ℕ → List Dump) (r : Option Reel) → state.mounted_in (option_map (λ (q : Reel). row_of shelf (unread q)) r) ≡ is_mounted r
+mounted_row shelf None = refl
+mounted_row shelf (Some r) = refl
+
+pub lacks_by : (shelf : ℕ → List Dump) (s : ℕ) (reels : List Reel) → is_none (state.reel_at s (map (row_of shelf) (map unread reels))) ≡ is_none (reel s reels)
+lacks_by shelf s reels = ap is_none (row_told shelf s reels) ∙ is_none_row shelf (reel s reels)
+
+pub mounted_by : (shelf : ℕ → List Dump) (s : ℕ) (reels : List Reel) → state.mounted_in (state.reel_at s (map (row_of shelf) (map unread reels))) ≡ is_mounted (reel s reels)
+mounted_by shelf s reels = ap state.mounted_in (row_told shelf s reels) ∙ mounted_row shelf (reel s reels)

@@ -1,0 +1,10 @@
+-- A DEVICE IS ARMED, and nothing changes of what the store means.
+use Rattle.g_step.specs.State.{State}
+use Rattle.g_state.specs.Answers.{Belongs, Told}
+use Rattle.g_state.specs.Reading.{StandsForState}
+use Rattle.g_state.specs.Up.{StoreFacts}
+
+pub record MeansTheSame (old new : StoreFacts) : Type 0 where
+  pub told : Told old → Told new
+  pub belongs : Belongs old → Belongs new
+  pub state : (s : State) → StandsForState old s → StandsForState new s

@@ -1,0 +1,93 @@
+-- HOW A STORE ANSWERS THE EVENTS OF THE OPERATOR.
+use Rattle.std.specs.Prelude.{◌≡◌, ◌≢◌, ◌⊎◌, ℕ, ◌+◌, ◌<◌, ◌≤◌, ◌↔◌, true, false, [], List, Some, Result, Ok, Err}
+use Rattle.g_name.specs.declared.full.Full.{Full}
+use Rattle.g_name.specs.declared.path.Path.{Path}
+use Rattle.g_tape.specs.Reel.{with_mounted}
+use Rattle.g_tape.specs.Rack.{changed, reel}
+use Rattle.g_plain.specs.declared.faults.StoreFault.{StoreFault}
+use Rattle.g_plain.specs.declared.faults.StoreFault.TheVariants.{NoMemory, Stopped, TapeFull, TapeReadFault}
+use Rattle.g_plain.specs.PlainTree.{input_name}
+use Rattle.g_step.specs.State.{State, Holding, OpenDump}
+use Rattle.g_step.specs.CallStep.{Outcome, Plain}
+use Rattle.g_step.specs.DumpSteps.{OpenStep, DumpStep, Stepped, Going, Completed, MigrateStep, MountStep, UnmountStep, migrate_refuses}
+use Rattle.g_state.specs.Up.{StoreFacts}
+use Rattle.g_state.specs.Reading.{StandsForState, holding_of}
+use Rattle.g_state.specs.Answers.{Belongs, HasCause, IsStore, Raised, Told, WroteCommits}
+use Rattle.g_store.specs.Refusing.{DoneOr, IsExact, capacity_of, mount_refuses, needs_now, open_refuses, unmount_refuses}
+
+-- a state behind the event, by its step with an outcome whose count rose
+pub record LeadsBy {A : Type 0} (by : State → Holding → Outcome → Result A StoreFault → State → Type 0) (before : State) (old new : StoreFacts) (answer : Result A StoreFault) : Type 0 where
+  pub after : State
+  pub left : StandsForState new after
+  pub held : Holding
+  pub holds : before.holding ≡ Some held
+  pub outcome : Outcome
+  pub raised : Raised outcome old new
+  pub step : by before held outcome answer after
+
+-- want of memory changes nothing; every other answer is the step's
+abbrev pub StepsBy : {A : Type 0} → (State → Holding → Outcome → Result A StoreFault → State → Type 0) → State → StoreFacts → Result A StoreFault → StoreFacts → Type 0
+StepsBy by before old (Err NoMemory) new = StandsForState new before
+StepsBy by before old answer new = LeadsBy by before old new answer
+
+-- so many commits for each reply, none with a refusal, and no other write of the disc; of a stop nothing is said
+abbrev pub WroteBy : {A : Type 0} → (A → ℕ) → StoreFacts → Result A StoreFault → StoreFacts → Type 0
+WroteBy count old (Ok reply) new = WroteCommits (count reply) old new
+WroteBy count old (Err Stopped) new = Unit {0}
+WroteBy count old (Err fault) new = WroteCommits 0 old new
+
+-- AN EVENT. Its step is owed where the devices tell and belong together; the rest always.
+pub record AnswersEvent {A : Type 0} (by : State → Holding → Outcome → Result A StoreFault → State → Type 0) (count : A → ℕ) (old : StoreFacts) (answer : Result A StoreFault) (new : StoreFacts) : Type 0 where
+  pub step : Told old → Belongs old → (s : State) → StandsForState old s → StepsBy by s old answer new
+  pub wrote : WroteBy count old answer new
+  pub keeps : IsStore new
+  pub told : Told old → Told new
+  pub belongs : Told old → Belongs old → Belongs new
+  pub spent : (new.spent ≡ true) ↔ (answer ≡ Err Stopped)
+
+-- what an opening answers where nothing refuses it before the reel is read
+abbrev pub IsOfOpening : StoreFault → Type 0
+IsOfOpening fault = (fault ≡ TapeReadFault) ⊎ (((need room : ℕ) × (fault ≡ TapeFull need room)) ⊎ ((fault ≡ Stopped) ⊎ (fault ≡ NoMemory)))
+
+-- opening a dump: one commit (and g_dumper's `Begins`); it answers the number behind the last one
+pub record Opens (serial : ℕ) (old : StoreFacts) (answer : Result ℕ StoreFault) (new : StoreFacts) : Type 0 where
+  pub event : AnswersEvent (λ s k o a n. OpenStep s k serial o a n) (λ number. 1) old answer new
+  pub cause : HasCause old new answer
+  pub dump : (fault : StoreFault) → answer ≡ Err fault → fault ≢ Stopped → new.dump ≡ old.dump
+  pub exact : IsExact (open_refuses serial old) IsOfOpening old answer new
+  pub number : (n : ℕ) → answer ≡ Ok n → n ≡ old.online.contents.head.last_dump + 1
+  pub full : (need room : ℕ) → answer ≡ Err (TapeFull need room)
+      → (need ≡ needs_now old.online) × (room < need) × (room ≤ capacity_of (reel serial old.rack.reels))
+
+-- a step of the open dump: one commit with the last (and g_dumper's `Stepping`, which has what becomes of the tape)
+abbrev pub IsStepOfDump : State → Holding → Outcome → Result Stepped StoreFault → State → Type 0
+IsStepOfDump s k o answer new = (d : OpenDump) × (s.open_dump ≡ Some d) × DumpStep s k d o answer new
+
+abbrev pub commits_of_step : Stepped → ℕ
+commits_of_step Going = 0
+commits_of_step (Completed number) = 1
+
+abbrev pub StepsDump : StoreFacts → Result Stepped StoreFault → StoreFacts → Type 0
+StepsDump old answer new = AnswersEvent IsStepOfDump commits_of_step old answer new
+
+-- what a migration answers where nothing refuses it
+abbrev pub IsOfMigration : StoreFault → Type 0
+IsOfMigration fault = (fault ≡ Stopped) ⊎ (fault ≡ NoMemory)
+
+-- Taking a file off the disc: one commit, and an open dump stays as it is. Who isn't there, which file isn't, where its bytes are: no
+-- byte of a file is asked for, so the refusals are those of every text.
+pub record Migrates (path : Path) (old : StoreFacts) (answer : Result Full StoreFault) (new : StoreFacts) : Type 0 where
+  pub event : AnswersEvent (λ s k o a n. MigrateStep s k path.user (input_name k.tree [] path) o a n) (λ full. 1) old answer new
+  pub cause : HasCause old new answer
+  pub dump : (answer ≡ Err Stopped → ⊥) → new.dump ≡ old.dump
+  pub exact : (text : ℕ → List ℕ)
+      → (let k = holding_of text [] old.online.contents in IsExact (migrate_refuses k path.user (input_name k.tree [] path) Plain) IsOfMigration old answer new)
+
+-- MOUNTING AND UNMOUNTING change that reel alone
+pub record Mounts (serial : ℕ) (old : StoreFacts) (answer : Result (Unit {0}) StoreFault) (new : StoreFacts) : Type 0 where
+  pub event : AnswersEvent (λ s k o a n. MountStep s serial a n) (λ reply. 0) old answer new
+  pub exact : DoneOr (mount_refuses serial old) (record old { rack = changed serial (with_mounted true) old.rack }) old answer new
+
+pub record Unmounts (serial : ℕ) (old : StoreFacts) (answer : Result (Unit {0}) StoreFault) (new : StoreFacts) : Type 0 where
+  pub event : AnswersEvent (λ s k o a n. UnmountStep s serial a n) (λ reply. 0) old answer new
+  pub exact : DoneOr (unmount_refuses serial old) (record old { rack = changed serial (with_mounted false) old.rack }) old answer new

@@ -1,0 +1,4 @@
+pub mod Arming
+pub mod Events
+pub mod Making
+pub mod Refusing

@@ -1,0 +1,87 @@
+-- REFUSALS THAT ARE EXACT OVER EVERY DISC AND RACK, real ones too: they go by the labels, lengths and mounts of the reels, which are
+-- always told, and by what the store has in memory.
+use Rattle.std.specs.Prelude.{◌≡◌, ℕ, ◌+◌, ◌-◌, ◌^◌, ◌==◌, Bool, false, not, nat_lt, List, [], ◌∷◌, filter, length, Option, Some, None, IfSome, IfErr, is_some, is_none, Result, Ok, Err, if◌then◌else◌}
+use Rattle.g_tape.specs.Reel.{Reel}
+use Rattle.g_tape.specs.Rack.{is_mounted, reel}
+use Rattle.g_tape.specs.declared.fault.TapeFault.{TapeFault}
+use Rattle.g_tape.specs.declared.fault.TapeFault.TheVariants as tape
+use Rattle.g_plain.specs.declared.faults.StoreFault.{StoreFault}
+use Rattle.g_plain.specs.declared.faults.StoreFault.TheVariants.{CountersSpent, DumpOpen, NoTape, NotMounted, TapeBusy}
+use Rattle.g_plain.specs.PlainStep.{first_fault}
+use Rattle.g_contents.specs.Contents.{recs_in}
+use Rattle.g_contents.specs.Facts.{OnlineFacts}
+use Rattle.g_incr.specs.Layout.{holds}
+use Rattle.g_incr.specs.Plan.{blocks_of, waiting}
+use Rattle.g_state.specs.Up.{DumpFacts, StoreFacts}
+
+-- An event that asks no device for what it holds: it is refused for this, and nothing has changed, or it is done.
+abbrev pub DoneOr : {A : Type 0} → Option StoreFault → StoreFacts → StoreFacts → Result A StoreFault → StoreFacts → Type 0
+DoneOr refusal after old (Ok reply) new = (refusal ≡ None) × (new ≡ after)
+DoneOr refusal after old (Err fault) new = (refusal ≡ Some fault) × (new ≡ old)
+
+-- One that does: it is refused for this, and nothing has changed; or, where there is nothing to refuse it for, it has no other fault
+-- than these.
+pub record IsExact {A : Type 0} (refusal : Option StoreFault) (others : StoreFault → Type 0) (old : StoreFacts) (answer : Result A StoreFault) (new : StoreFacts) : Type 0 where
+  pub refused : IfSome refusal (λ fault. (answer ≡ Err fault) × (new ≡ old))
+  pub granted : refusal ≡ None → IfErr answer others
+
+-- the open dump: its number, and whether it is on this reel
+abbrev pub number_in : Option DumpFacts → ℕ
+number_in None = 0
+number_in (Some d) = d.plan.number
+
+abbrev pub is_on : ℕ → Option DumpFacts → Bool
+is_on serial None = false
+is_on serial (Some d) = d.plan.serial == serial
+
+abbrev pub mount_refuses : ℕ → StoreFacts → Option StoreFault
+mount_refuses serial s = first_fault ((is_none (reel serial s.rack.reels), NoTape) ∷ [])
+
+abbrev pub unmount_refuses : ℕ → StoreFacts → Option StoreFault
+unmount_refuses serial s = first_fault (
+    (is_none (reel serial s.rack.reels), NoTape)
+    ∷ (not (is_mounted (reel serial s.rack.reels)), NotMounted)
+    ∷ (is_on serial s.dump, TapeBusy)
+    ∷ [])
+
+-- what a store answers where its rack has answered so
+abbrev pub mount_answer : Result (Unit {0}) TapeFault → Result (Unit {0}) StoreFault
+mount_answer (Ok u) = Ok u
+mount_answer (Err fault) = Err NoTape
+
+abbrev pub unmount_answer : Result (Unit {0}) TapeFault → Result (Unit {0}) StoreFault
+unmount_answer (Ok u) = Ok u
+unmount_answer (Err tape.NoTape) = Err NoTape
+unmount_answer (Err fault) = Err NotMounted
+
+-- those of an opening that come before the reel is read
+abbrev pub open_refuses : ℕ → StoreFacts → Option StoreFault
+open_refuses serial s = first_fault (
+    (is_none (reel serial s.rack.reels), NoTape)
+    ∷ (not (is_mounted (reel serial s.rack.reels)), NotMounted)
+    ∷ (is_some s.dump, DumpOpen (number_in s.dump))
+    ∷ (s.online.contents.head.last_dump == 2 ^ 62 - 1, CountersSpent)
+    ∷ [])
+
+-- how many blocks of tape a dump would take now: its header, all users, the files of the users who are changed, the blocks of the
+-- versions without a copy, and its mark
+abbrev pub needs_now : OnlineFacts → ℕ
+needs_now o =
+    let files = filter (λ r. holds o.changed r.owner) (recs_in o.contents) in
+    2 + length o.contents.users + length files + blocks_of (waiting files)
+
+abbrev pub capacity_of : Option Reel → ℕ
+capacity_of None = 0
+capacity_of (Some r) = r.capacity
+
+-- the first reel, in rising serial, with this property
+abbrev pub first_with : (Reel → Bool) → List Reel → Option ℕ
+first_with test [] = None
+first_with test (r ∷ rs) = if test r then Some r.serial else first_with test rs
+
+-- that has a block; that isn't mounted
+abbrev pub first_used : List Reel → Option ℕ
+first_used reels = first_with (λ r. nat_lt 0 r.len) reels
+
+abbrev pub first_unmounted : List Reel → Option ℕ
+first_unmounted reels = first_with (λ r. not r.mounted) reels

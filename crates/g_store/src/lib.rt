@@ -1,0 +1,8 @@
+//! The whole store: a disc and a rack of reels, the files on both, and the dump that is open. Each of its events is a step of the
+//! state that it stands for.
+#![tactic(auto)]
+
+mod mounting;
+mod store;
+
+pub use store::Store;

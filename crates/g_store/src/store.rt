@@ -1,0 +1,131 @@
+//! The store, and what is told of it without asking a device.
+ghost use Rattle.std.specs.Prelude.{◌≡◌, ◌≤◌, ℕ, List, false, true, Some, None, is_some, option_map};
+ghost use Rattle.std.specs.FinMap as finmap;
+ghost use Rattle.g_base.specs.Counts.{one_more};
+ghost use Rattle.g_tape.specs.Rack.{is_mounted, reel};
+ghost use Rattle.g_tree.specs.Records.{users_by_name};
+ghost use Rattle.g_step.specs.State.{State};
+ghost use Rattle.g_step.specs.CallStep.{down};
+ghost use Rattle.g_state.specs.Meaning.{told_reels};
+ghost use Rattle.g_state.specs.Reading.{DevicesStandFor, StandsForState};
+ghost use Rattle.g_store.specs.Arming.{MeansTheSame};
+
+use g_disc::Disc;
+use g_dumper::Dump;
+use g_entry::UserRec;
+use g_name::User;
+use g_online::Online;
+use g_tape::Tapes;
+use std::marker::Model;
+
+/// A disc whose filestore is known in memory, the rack of reels with its dumps, and the dump that is open, if one is. Contracts
+/// see what is in memory and what the devices are (`StoreFacts`, docs/DEFINITIONS.md).
+///
+/// After an answer `Stopped` the store is spent: both devices can be taken out of it and be armed, and no other call be made.
+#[derive(Drop)]
+pub struct Store<D: Disc, T: Tapes> {
+    pub(crate) online: Online<D>,
+    pub(crate) tapes: T,
+    pub(crate) dump: Option<Dump>,
+    pub(crate) spent: bool,
+}
+
+impl<D: Disc, T: Tapes> Model for Store<D, T> {
+    ghost use Rattle.g_state.specs.Up.{StoreFacts};
+    ghost use Rattle.g_state.specs.Answers.{IsStore};
+
+    ghost Value = { StoreFacts };
+
+    ghost view = { λ s. record { online = s.online; rack = T.rack s.tapes; dump = s.dump; spent = s.spent } };
+
+    ghost invariant = { λ s. IsStore (record { online = s.online; rack = T.rack s.tapes; dump = s.dump; spent = s.spent }) };
+}
+
+impl<D: Disc, T: Tapes> Store<D, T> {
+    /// The number of the open dump, None where none is open.
+    pub fn dump_number(&self) -> Option<u64>
+        ensures { result ≡ option_map (λ d. d.plan.number) self.now.dump }
+    {
+        match &self.dump {
+            Some(dump) => Some(dump.number()),
+            None => None,
+        }
+    }
+
+    /// Whether the reel is there and mounted.
+    pub fn mounted(&self, serial: u32) -> bool
+        ensures { result ≡ is_mounted (reel serial self.now.rack.reels) }
+    {
+        self.tapes.mounted(serial)
+    }
+
+    /// All users in order of number.
+    pub fn users(&self) -> &[UserRec]
+        requires running { self.now.spent ≡ false }
+        ensures { result.now ≡ self.now.online.contents.users }
+    {
+        self.online.tree().users()
+    }
+
+    /// The units of TIME of a user's budget, None where there is no such user.
+    pub fn user_time(&self, user: &User) -> Option<u64>
+        requires running { self.now.spent ≡ false }
+        ensures { result ≡ option_map (λ u. u.time)
+            (finmap.get (users_by_name self.now.online.contents.users) user.now) }
+    {
+        match self.online.tree().user(user) {
+            Some(user) => Some(user.time),
+            None => None,
+        }
+    }
+
+    /// The units of MONEY of a user's budget, None where there is no such user.
+    pub fn user_money(&self, user: &User) -> Option<u64>
+        requires running { self.now.spent ≡ false }
+        ensures { result ≡ option_map (λ u. u.money)
+            (finmap.get (users_by_name self.now.online.contents.users) user.now) }
+    {
+        match self.online.tree().user(user) {
+            Some(user) => Some(user.money),
+            None => None,
+        }
+    }
+
+    /// Sets the fuse of the disc, so that its `k`-th next write fails. Nothing else changes.
+    pub fn arm_disc(&mut self, k: u32)
+        requires { 1 ≤ k }
+        ensures armed { self.new ≡ record self.old {
+          online = record self.old.online {
+            disc = record self.old.online.disc { fuse = Some k; arms = one_more self.old.online.disc.arms };
+          };
+        } }
+        ensures same { MeansTheSame self.old self.new }
+    {
+        self.online.arm(k);
+    }
+
+    /// Sets the fuse of the tapes, so that their `k`-th next write that isn't refused fails. Nothing else changes.
+    pub fn arm_tape(&mut self, k: u32)
+        requires { 1 ≤ k }
+        ensures armed { self.new ≡ record self.old {
+          rack = record self.old.rack { fuse = Some k; arms = one_more self.old.rack.arms };
+        } }
+        ensures same { MeansTheSame self.old self.new }
+    {
+        self.tapes.arm(k);
+    }
+
+    /// Both devices as they then are, also out of a spent store.
+    pub fn into_devices(self) -> (D, T)
+        ensures disc { D.state result.0 ≡ self.online.disc }
+        ensures tapes { T.rack result.1 ≡ self.rack }
+        // Where the disc tells what it holds, they stand for what the store stood for, down.
+        ensures down { is_some self.online.disc.held ≡ true → self.spent ≡ false → (s : State)
+            → StandsForState self s
+            → DevicesStandFor self.online.disc.size self.online.disc.held (told_reels self.rack) (down s) }
+        ensures spent { self.spent ≡ true → (s : State) → StandsForState self s
+            → DevicesStandFor self.online.disc.size self.online.disc.held (told_reels self.rack) s }
+    {
+        (self.online.into_disc(), self.tapes)
+    }
+}
