@@ -15,6 +15,8 @@ use Rattle.g_plain.specs.declared.faults.StoreFault.TheVariants.{CountersSpent, 
 use Rattle.g_contents.specs.Commits.{Commits}
 use Rattle.g_contents.specs.Contents.{Holds, recs_in, with_intent}
 use Rattle.g_contents.specs.Facts.{OnlineFacts}
+use Rattle.g_incr.specs.declared.fault.ShelfFault.{ShelfFault}
+use Rattle.g_incr.specs.declared.fault.ShelfFault.TheVariants as shelf
 use Rattle.g_incr.specs.Layout.{Dump}
 use Rattle.g_incr.specs.Plan.{IsPlan, Plan, first_content, needs}
 use Rattle.g_online.specs.Pins.{HasPinned}
@@ -89,22 +91,17 @@ LeftByRefusal Stopped old new = Unit {0}
 LeftByRefusal NoMemory old new = new ≡ record old { touched = new.touched }
 LeftByRefusal fault old new = new ≡ old
 
--- STOPPED: the disc holds what it held, or that with the intent, and the filestore takes no further call
-pub record StoppedOpening (serial : ℕ) (old new : OnlineFacts) (rack : Rack) : Type 0 where
-  pub live : new.live ≡ false
-  pub place : ℕ
-  pub end_is : IsEnd serial rack place
-  pub fits : ForSome (reel serial rack.reels) (λ r. place + needs (plan_of serial place old) ≤ r.capacity)
-  pub holds : ForSome new.disc.held (λ blocks. Holds blocks old.contents ⊎ Holds blocks (with_intent (Some (intent_of (plan_of serial place old))) old.contents))
+-- what a refusal to read a reel is to the store
+abbrev pub as_refusal : ShelfFault → StoreFault
+as_refusal shelf.NoTape = NoTape
+as_refusal shelf.NotMounted = NotMounted
+as_refusal shelf.ReadFault = TapeReadFault
+as_refusal shelf.NoMemory = NoMemory
 
--- OPENED: the plan is that of the filestore as it is, the versions that wait are pinned, and one commit has put the intent on the disc
-pub record Begins (serial : ℕ) (old : OnlineFacts) (rack : Rack) (d : DumpFacts) (new : OnlineFacts) (after : Rack) : Type 0 where
-  pub place : ℕ
-  pub end_is : IsEnd serial rack place
-  pub dump : d ≡ record { plan = plan_of serial place old; done = 0 }
-  pub rules : IsPlan d.plan
-  pub pinned : HasPinned serial (first_content d.plan) old (record old { pins = new.pins; touched = [] })
-  pub contents : new.contents ≡ with_intent (Some (intent_of d.plan)) old.contents
+-- THE DUMP OF THIS PLAN IS OPENED in memory and on the disc: the versions that wait are pinned, and one commit has put in the intent
+pub record HasOpened (plan : Plan) (old new : OnlineFacts) : Type 0 where
+  pub pinned : HasPinned plan.serial (first_content plan) old (record old { pins = new.pins; touched = [] })
+  pub contents : new.contents ≡ with_intent (Some (intent_of plan)) old.contents
   pub changed_is : new.changed ≡ old.changed
   pub touched : new.touched ≡ []
   pub live : new.live ≡ true
@@ -112,4 +109,25 @@ pub record Begins (serial : ℕ) (old : OnlineFacts) (rack : Rack) (d : DumpFact
   pub blocks : ℕ
   pub commits : Commits 1 old.layout new.layout blocks
   pub writes : RoseBy blocks old.disc.writes new.disc.writes
+
+-- or the commit was stopped: the disc holds what it held, or that with the intent, and the filestore takes no further call
+pub record StoppedAtIntent (plan : Plan) (old new : OnlineFacts) : Type 0 where
+  pub live : new.live ≡ false
+  pub told : is_some new.disc.held ≡ is_some old.disc.held
+  pub holds : ForSome new.disc.held (λ blocks. Holds blocks old.contents ⊎ Holds blocks (with_intent (Some (intent_of plan)) old.contents))
+
+-- OPENED: the plan is that of the filestore as it is, and stands behind the completed dumps of the reel
+pub record Begins (serial : ℕ) (old : OnlineFacts) (rack : Rack) (d : DumpFacts) (new : OnlineFacts) (after : Rack) : Type 0 where
+  pub place : ℕ
+  pub end_is : IsEnd serial rack place
+  pub dump : d ≡ record { plan = plan_of serial place old; done = 0 }
+  pub rules : IsPlan d.plan
+  pub opened : HasOpened d.plan old new
   pub open_dump : IsOpen d new after
+
+-- STOPPED: a dump of such a plan would have been opened
+pub record StoppedOpening (serial : ℕ) (old new : OnlineFacts) (rack : Rack) : Type 0 where
+  pub place : ℕ
+  pub end_is : IsEnd serial rack place
+  pub fits : ForSome (reel serial rack.reels) (λ r. place + needs (plan_of serial place old) ≤ r.capacity)
+  pub left : StoppedAtIntent (plan_of serial place old) old new

@@ -1,6 +1,7 @@
 //! A dump that is being written, one block of tape a step.
 #![tactic(auto)]
 
+mod begin;
 mod dump;
 mod step;
 
