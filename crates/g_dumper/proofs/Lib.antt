@@ -1,7 +1,10 @@
 pub mod BeginLemmas
 pub mod HeldLemmas
 pub mod IntentLemmas
+pub mod KeepLemmas
 pub mod NextLemmas
 pub mod OpenLemmas
 pub mod PlanLemmas
+pub mod ReelLemmas
 pub mod RulesLemmas
+pub mod ShelfLemmas

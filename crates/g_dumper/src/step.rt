@@ -1,9 +1,10 @@
 //! The steps of a dump.
-ghost use Rattle.std.specs.Prelude.{◌≡◌, ◌<◌, IfNone, IfSome, List, Ok, Some, true};
+ghost use Rattle.std.specs.Prelude.{◌≡◌, ℕ, ◌<◌, IfNone, IfSome, List, None, Ok, Some, true};
 ghost use Rattle.g_contents.specs.Facts.{IsTied, Pin};
 ghost use Rattle.g_incr.specs.Plan.{first_content, needs, waiting};
 ghost use Rattle.g_state.specs.Up.{ArePinned, IsOpen};
-ghost use Rattle.g_step.specs.DumpSteps.{Going};
+ghost use Rattle.g_step.specs.DumpSteps.{Completed, Going};
+ghost use Rattle.g_dumper.specs.Keeps.{CompletesOpening, KeepsStore, behind_step, up_with};
 ghost use Rattle.g_dumper.specs.Steps.{Abandoned, IsNextBlock, Stepping, stepped_of};
 
 use crate::dump::{Dump, DumpStep};
@@ -19,6 +20,27 @@ impl Dump {
     /// still current, the dump's number, and no intent. `DiscReadFault`: a block of a version couldn't be read; the dump is
     /// given up and its versions wait no more. `Stopped`: a write of tape or disc failed, and neither takes a further call.
     pub fn step<D: Disc, T: Tapes>(
+        &mut self,
+        online: &mut Online<D>,
+        tapes: &mut T,
+    ) -> Result<DumpStep, StoreFault>
+        requires open { IsOpen self.old online.old (T.rack tapes.old) }
+        requires live { online.old.live ≡ true }
+        requires tied { IsTied online.old }
+        ensures step { Stepping self.old online.old (T.rack tapes.old) (stepped_of result) self.new online.new (T.rack tapes.new) }
+        ensures open { stepped_of result ≡ Ok Going → IsOpen self.new online.new (T.rack tapes.new) }
+        ensures tied { IsTied online.new }
+        ensures keeps { KeepsStore (up_with online.old (T.rack tapes.old) (Some self.old))
+            (behind_step (stepped_of result) self.new online.new (T.rack tapes.new)) }
+        ensures dumped { (number : ℕ) → stepped_of result ≡ Ok (Completed number)
+            → CompletesOpening self.old (up_with online.old (T.rack tapes.old) (Some self.old))
+            (up_with online.new (T.rack tapes.new) None) }
+    {
+        self.write_next(online, tapes)
+    }
+
+    /// What `step` does, without what it keeps.
+    fn write_next<D: Disc, T: Tapes>(
         &mut self,
         online: &mut Online<D>,
         tapes: &mut T,

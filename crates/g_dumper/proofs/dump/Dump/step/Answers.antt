@@ -1,38 +1,10 @@
-use Rattle.std.proofs.Common.{◌+◌, ◌<◌, arith, subst, sym}
-use Rattle.g_contents.specs.Facts.{OnlineFacts}
-use Rattle.g_online.specs.Allowed.{KeepsRules}
-use Rattle.g_online.specs.Change.{closed}
-use Rattle.g_state.specs.Up.{DumpFacts, IsOpen}
-use Rattle.g_dumper.proofs.OpenLemmas.{goes_on, more_fits, place_fits}
-use Rattle.g_dumper.proofs.RulesLemmas.{closing_rules}
+use Rattle.g_dumper.proofs.KeepLemmas.{completes_step, keeps_step}
 use Rattle.g_dumper.proofs.dump.Dump.step.Goals as goal
 
-pub overflow_add-self-inside : goal.overflow_add-self-inside
-overflow_add-self-inside g c =
-    let d : DumpFacts = record { plan = c.self.inside.writer; done = c.self.inside.done } in
-    let is = subst (λ (e : DumpFacts). IsOpen e c.args.online.now (g.T.Tapes.rack c.args.tapes.now)) (sym c.self.view_is) c.requires.open in
-    let at = c.self.invariant.place_is in
-    let fits = place_fits d _ _ (g.met.T.Tapes.well_formed _) is in
-    omega (arith, at, fits)
+pub returns-clause-keeps : goal.returns-clause-keeps
+returns-clause-keeps g c =
+    keeps_step c.args.self.now _ c.args.online.now _ _ _ _ (g.met.T.Tapes.well_formed _) c.requires.live c.requires.tied c.requires.open c.write_next.ensures.step c.write_next.ensures.open c.write_next.ensures.tied
 
-pub overflow_add-self : goal.overflow_add-self
-overflow_add-self g c =
-    let d : DumpFacts = record { plan = c.self.inside.writer; done = c.self.inside.done } in
-    let is = subst (λ (e : DumpFacts). IsOpen e c.args.online.now (g.T.Tapes.rack c.args.tapes.now)) (sym c.self.view_is) c.requires.open in
-    let fits = more_fits d _ _ (g.met.T.Tapes.well_formed _) is in
-    omega (arith, fits)
-
-pub returns-then-self-needs-clause-open : goal.returns-then-self-needs-clause-open
-returns-then-self-needs-clause-open g c = λ _.
-    let d : DumpFacts = record { plan = c.self.inside.writer; done = c.self.inside.done } in
-    let is = subst (λ (e : DumpFacts). IsOpen e c.args.online.now (g.T.Tapes.rack c.args.tapes.now)) (sym c.self.view_is) c.requires.open in
-    goes_on d _ _ _ _ _ _ _ (g.met.T.Tapes.well_formed _) is c.in-Some.ensures.same c.self.invariant.serial_is c.self.invariant.place_is c.in-Some.ensures.block c.in-Ok.ensures.2
-    (subst (λ n. c.self.inside.done + 1 < n) c.needs.ensures c.if-self-needs.true)
-
-pub close_dump-requires-clause-rules : goal.close_dump-requires-clause-rules
-close_dump-requires-clause-rules g c =
-    let d : DumpFacts = record { plan = c.self.inside.writer; done = c.self.inside.done } in
-    let is = subst (λ (e : DumpFacts). IsOpen e c.args.online.now (g.T.Tapes.rack c.args.tapes.now)) (sym c.self.view_is) c.requires.open in
-    subst (λ n. KeepsRules (closed n c.next_block.new.online)) (sym c.self.invariant.number_is)
-    (subst (λ (o : OnlineFacts). KeepsRules (closed d.plan.number o)) (sym c.in-Some.ensures.same)
-    (closing_rules d _ _ (g.met.T.Tapes.well_formed _) c.requires.live c.requires.tied c.self.invariant.rules is))
+pub returns-clause-dumped : goal.returns-clause-dumped
+returns-clause-dumped g c = λ number is.
+    completes_step c.args.self.now _ c.args.online.now _ _ _ _ number (g.met.T.Tapes.well_formed _) c.requires.live c.requires.tied c.requires.open c.write_next.ensures.step is
