@@ -39,7 +39,7 @@ reel_named s (q ∷ qs) r is = by_serial (cases_Bool (s == q.serial)) (reel_name
     by_serial (inr other) rest = rest (sym (cond-false (s == q.serial) (Some q) (reel s qs) other) ∙ is)
 
 -- a reel behind reads is the same but for how often it was read
-after_reads : (o p : Option Reel) (r : Reel) → p ≡ Some r → option_map unread o ≡ option_map unread p → (q : Reel) × (o ≡ Some q) × (unread q ≡ unread r)
+pub after_reads : (o p : Option Reel) (r : Reel) → p ≡ Some r → option_map unread o ≡ option_map unread p → (q : Reel) × (o ≡ Some q) × (unread q ≡ unread r)
 after_reads None p r is same = absurd (none-some (unread r) (same ∙ ap (option_map unread) is))
 after_reads (Some q) p r is same = (q, refl, same_Some (unread q) (unread r) (same ∙ ap (option_map unread) is))
 

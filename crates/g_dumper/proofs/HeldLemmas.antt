@@ -3,14 +3,16 @@ use Rattle.std.proofs.Common.{◌≡◌, ◌≢◌, ℕ, zero, suc, ◌+◌, ◌
 use Rattle.std.specs.Prelude.{◌⊎◌, ◌==◌, ◌||◌, All, AllPairs, Contains, filter, map}
 use Rattle.std.specs.List.{list_any}
 use Rattle.std.specs.List.Sorted.{IsStrictlyIncreasing}
-use Rattle.std.proofs.lemmas.Bool.{cases_Bool, eq-eqb, eqb-true, or_cases}
-use Rattle.std.proofs.lemmas.List.Elements.{All-append, All-cons, All-contains, All-filter, All-head, All-nil, All-tail, Contains-append_cases, Contains-append_left, Contains-append_right, Contains-get_or}
+use Rattle.std.proofs.lemmas.Bool.{cases_Bool, cond-true, eq-eqb, eqb-true, ne_eqb, or_cases}
+use Rattle.std.proofs.lemmas.List.{append-nil}
+use Rattle.std.proofs.lemmas.List.Elements.{All-append, All-cons, All-contains, All-filter, All-head, All-nil, All-tail, Contains-append_cases, Contains-append_left, Contains-append_right, Contains-get_or, filter-append}
 use Rattle.std.proofs.lemmas.List.Kept.{AllPairs-filter, AllPairs-from_increasing}
 use Rattle.g_entry.specs.declared.file_rec.FileRec.{FileRec}
 use Rattle.g_entry.specs.declared.user_rec.UserRec.{UserRec}
 use Rattle.g_incr.specs.Layout.{holds}
 use Rattle.g_incr.specs.Plan.{ComesBefore}
 use Rattle.g_online.proofs.CloseNoteLemmas.{pairs_map}
+use Rattle.g_tree.proofs.ListLemmas.{filter_none}
 use Rattle.g_state.specs.Meaning.{files_of}
 use Rattle.g_state_laws.proofs.ClosingLemmas.{contains_filter}
 use Rattle.g_state_laws.proofs.RecordLemmas.{OtherUser, from_filter, gathered_by, gathered_few, gathered_pairs, owned, pairs_cons, pairs_head, pairs_tail}
@@ -67,6 +69,52 @@ holds_there (m ∷ ms) n (suc i, within, is) = by_first (m == n) (holds_there ms
     by_first true rest = refl
     by_first false rest = rest
 
+all_owned : (n : ℕ) (files : List FileRec) → All (λ (r : FileRec). r.owner ≡ n) (files_of n files)
+all_owned n files i d within = owned n files (get_or (files_of n files) i d) (Contains-get_or (files_of n files) i d within)
+
+-- THE FILES OF ONE USER among them are those that the user has
+same_of : (n : ℕ) (rs : List FileRec) → All (λ (r : FileRec). r.owner ≡ n) rs → files_of n rs ≡ rs
+same_of n [] all = refl
+same_of n (r ∷ rs) all =
+    cond-true (r.owner == n) (r ∷ files_of n rs) (files_of n rs) (eq-eqb r.owner n (All-head (λ (s : FileRec). s.owner ≡ n) r rs all))
+    ∙ ap (λ (ss : List FileRec). r ∷ ss) (same_of n rs (All-tail (λ (s : FileRec). s.owner ≡ n) r rs all))
+
+none_of : (n : ℕ) (rs : List FileRec) → All (λ (r : FileRec). r.owner ≡ n → ⊥) rs → files_of n rs ≡ []
+none_of n rs others = filter_none (λ (r : FileRec). r.owner == n) rs (λ k d within. ne_eqb (get_or rs k d).owner n (others k d within))
+
+none_held : (n : ℕ) (ns : List ℕ) (files : List FileRec) → All (λ (m : ℕ). m ≡ n → ⊥) ns → files_of n (held_of ns files) ≡ []
+none_held n ns files others =
+    none_of n (held_of ns files)
+    (λ k d within same.
+    let r = get_or (held_of ns files) k d in
+    All-contains (λ (m : ℕ). m ≡ n → ⊥) ns r.owner others (in_held ns files r (Contains-get_or (held_of ns files) k d within)).1 same)
+
+pub held_of_one : (n : ℕ) (ns : List ℕ) (files : List FileRec) → AllPairs (λ (a b : ℕ). a < b) ns → holds ns n ≡ true → files_of n (held_of ns files) ≡ files_of n files
+held_of_one n [] files rising held = absurd (true≢false (sym held))
+held_of_one n (m ∷ ms) files rising held = by_first (cases_Bool (m == n)) (held_of_one n ms files (pairs_tail (λ (a b : ℕ). a < b) m ms rising))
+  where
+    split : files_of n (held_of (m ∷ ms) files) ≡ files_of n (files_of m files) ++ files_of n (held_of ms files)
+    split = filter-append (λ (r : FileRec). r.owner == n) (files_of m files) (held_of ms files)
+
+    by_first : ((m == n) ≡ true) ⊎ ((m == n) ≡ false) → (holds ms n ≡ true → files_of n (held_of ms files) ≡ files_of n files) → files_of n (held_of (m ∷ ms) files) ≡ files_of n files
+    by_first (inl is) rest =
+        let same : m ≡ n = eqb-true m n is in
+        split
+        ∙ ap (λ (k : ℕ). files_of n (files_of k files) ++ files_of n (held_of ms files)) same
+        ∙ ap (λ (rs : List FileRec). rs ++ files_of n (held_of ms files)) (same_of n (files_of n files) (all_owned n files))
+        ∙ ap (λ (rs : List FileRec). files_of n files ++ rs)
+        (none_held n ms files
+        (λ k d within equal.
+        let above = pairs_head (λ (a b : ℕ). a < b) m ms rising k d within in
+        let no : ⊥ = omega (arith, above, equal, same) in no))
+        ∙ append-nil (files_of n files)
+    by_first (inr isnt) rest =
+        let other : m ≡ n → ⊥ = λ e. true≢false (sym (eq-eqb m n e) ∙ isnt) in
+        split
+        ∙ ap (λ (rs : List FileRec). rs ++ files_of n (held_of ms files))
+        (none_of n (files_of m files) (λ k d within equal. other (sym (all_owned m files k d within) ∙ equal)))
+        ∙ rest (sym (ap (λ (b : Bool). b || holds ms n) isnt) ∙ held)
+
 -- IN ORDER: by owner, then by number
 pairs_append : {A : Type 0} (R : A → A → Type 0) (xs ys : List A) → AllPairs R xs → AllPairs R ys → ((x y : A) → Contains xs x → Contains ys y → R x y) → AllPairs R (xs ++ ys)
 pairs_append R [] ys in_xs in_ys across = in_ys
@@ -78,9 +126,6 @@ pairs_append R (x ∷ xs) ys in_xs in_ys across =
 ordered_of : (n : ℕ) (rs : List FileRec) → All (λ (r : FileRec). r.owner ≡ n) rs → AllPairs (λ (r s : FileRec). r.number < s.number) rs → AllPairs ComesBefore rs
 ordered_of n rs all rising i j d less within =
     inr (all i d (omega (arith, less, within)) ∙ sym (all j d within), rising i j d less within)
-
-all_owned : (n : ℕ) (files : List FileRec) → All (λ (r : FileRec). r.owner ≡ n) (files_of n files)
-all_owned n files i d within = owned n files (get_or (files_of n files) i d) (Contains-get_or (files_of n files) i d within)
 
 ordered : (ns : List ℕ) (files : List FileRec) → AllPairs (λ (m n : ℕ). m < n) ns → AllPairs (λ (r s : FileRec). r.number < s.number) files → AllPairs ComesBefore (held_of ns files)
 ordered [] files below rising = λ i j d less within. let no : ⊥ = omega (arith, within) in absurd no

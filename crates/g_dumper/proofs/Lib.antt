@@ -4,6 +4,7 @@ pub mod IntentLemmas
 pub mod KeepLemmas
 pub mod NextLemmas
 pub mod OpenLemmas
+pub mod OpeningLemmas
 pub mod PlanLemmas
 pub mod ReelLemmas
 pub mod RulesLemmas

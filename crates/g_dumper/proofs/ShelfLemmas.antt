@@ -38,7 +38,7 @@ reel_there s (q ∷ qs) r is = by_serial (cases_Bool (s == q.serial)) (reel_ther
     by_serial (inr other) rest =
         Contains-append_right (unread q ∷ []) (map unread qs) (unread r) (rest (sym (cond-false (s == q.serial) (Some q) (reel s qs) other) ∙ is))
 
-told_is : (o : Option (List (List ℕ))) → is_some o ≡ true → (blocks : List (List ℕ)) × (o ≡ Some blocks)
+pub told_is : (o : Option (List (List ℕ))) → is_some o ≡ true → (blocks : List (List ℕ)) × (o ≡ Some blocks)
 told_is None is = let no : ⊥ = cc in absurd no
 told_is (Some blocks) is = (blocks, refl)
 

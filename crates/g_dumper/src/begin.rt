@@ -8,6 +8,7 @@ ghost use Rattle.g_contents.specs.Facts.{IsTied};
 ghost use Rattle.g_incr.specs.Plan as plan;
 ghost use Rattle.g_state.specs.Meaning.{files_of};
 ghost use Rattle.g_dumper.specs.Beginning.{Begins, HasOpened, LeftByRefusal, RefusesOpening, StoppedAtIntent, StoppedOpening, as_refusal, held_of, plan_of};
+ghost use Rattle.g_dumper.specs.Keeps.{KeepsStore, behind_opening, up_with};
 
 use crate::dump::Dump;
 use g_base::NoMemory;
@@ -44,25 +45,48 @@ impl Dump {
         ensures reads { OnlyReads (T.rack tapes.old) (T.rack tapes.new) }
         ensures causes { Causes ⊥ (result ≡ Err StoreFault.Stopped) online.old.disc online.new.disc }
         ensures tied { IsTied online.new }
+        ensures keeps { KeepsStore (up_with online.old (T.rack tapes.old) None)
+            (behind_opening result online.new (T.rack tapes.new)) }
     {
-        if online.head().last_dump == LAST_NUMBER {
-            return Err(StoreFault::CountersSpent);
-        }
-        let place = match end_of(alloc, tapes, serial) {
-            Ok(place) => place,
-            Err(fault) => return Err(refusal(fault)),
-        };
-        let (writer, first) = match planned(alloc, online, serial, place) {
-            Ok(planned) => planned,
-            Err(_) => return Err(StoreFault::NoMemory),
-        };
-        let need = writer.needs();
-        let room = room_behind(tapes, serial, place);
-        if need > room {
-            return Err(StoreFault::TapeFull { need, room });
-        }
-        open(alloc, online, writer, serial, place, first)
+        begin_dump(alloc, online, tapes, serial)
     }
+}
+
+/// What `Dump::begin` does, without what it keeps.
+fn begin_dump<D: Disc, T: Tapes>(
+    alloc: Global,
+    online: &mut Online<D>,
+    tapes: &mut T,
+    serial: u32,
+) -> Result<Dump, StoreFault>
+    requires live { online.old.live ≡ true }
+    requires pins { online.old.pins ≡ None }
+    requires tied { IsTied online.old }
+    ensures ok { IfOk result (λ d. Begins serial online.old (T.rack tapes.old) d online.new (T.rack tapes.new)) }
+    ensures refused { RefusesOpening serial online.old (T.rack tapes.old) (T.rack tapes.new) result }
+    ensures left { IfErr result (λ e. LeftByRefusal e online.old online.new) }
+    ensures stopped { result ≡ Err StoreFault.Stopped → StoppedOpening serial online.old online.new (T.rack tapes.old) }
+    ensures reads { OnlyReads (T.rack tapes.old) (T.rack tapes.new) }
+    ensures causes { Causes ⊥ (result ≡ Err StoreFault.Stopped) online.old.disc online.new.disc }
+    ensures tied { IsTied online.new }
+{
+    if online.head().last_dump == LAST_NUMBER {
+        return Err(StoreFault::CountersSpent);
+    }
+    let place = match end_of(alloc, tapes, serial) {
+        Ok(place) => place,
+        Err(fault) => return Err(refusal(fault)),
+    };
+    let (writer, first) = match planned(alloc, online, serial, place) {
+        Ok(planned) => planned,
+        Err(_) => return Err(StoreFault::NoMemory),
+    };
+    let need = writer.needs();
+    let room = room_behind(tapes, serial, place);
+    if need > room {
+        return Err(StoreFault::TapeFull { need, room });
+    }
+    open(alloc, online, writer, serial, place, first)
 }
 
 /// The writer of what the filestore holds now, and the block of the reel where the content of the dump begins.
