@@ -1,5 +1,9 @@
 mod ArmLemmas
 mod EventLemmas
+mod MigrateLemmas
+mod MigratedLemmas
 mod MountLemmas
+mod NameLemmas
+mod OffLemmas
 mod SeenLemmas
 mod TurnLemmas

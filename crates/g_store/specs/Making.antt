@@ -5,6 +5,7 @@ use Rattle.g_disc.specs.Disc.{Causes, DiscState}
 use Rattle.g_tape.specs.Rack.{Rack, is_mounted, reel}
 use Rattle.g_tape.specs.Reads.{OnlyReads}
 use Rattle.g_dirs.specs.Pages.{nothing}
+use Rattle.g_shelf.specs.Last.{first_unmounted}
 use Rattle.g_plain.specs.declared.faults.StoreFault.{StoreFault}
 use Rattle.g_plain.specs.declared.faults.StoreFault.TheVariants.{NoMemory, DiscReadFault, TapeReadFault, Stopped, RackNotEmpty, RackNotMounted, MountFirst}
 use Rattle.g_step.specs.State.{State}
@@ -18,7 +19,7 @@ use Rattle.g_state.specs.Meaning.{told_reels}
 use Rattle.g_state.specs.Up.{StoreFacts}
 use Rattle.g_state.specs.Reading.{AllTold, DevicesStandFor, StandsForState}
 use Rattle.g_state.specs.Answers.{Belongs, IsStore, Told}
-use Rattle.g_store.specs.Refusing.{first_unmounted, first_used}
+use Rattle.g_store.specs.Refusing.{first_used}
 
 -- so many commits, where nothing was remembered of the slots
 pub record WroteFirst (n : ℕ) (disc : DiscState) (new : StoreFacts) : Type 0 where

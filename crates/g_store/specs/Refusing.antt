@@ -1,6 +1,6 @@
 -- REFUSALS THAT ARE EXACT OVER EVERY DISC AND RACK, real ones too: they go by the labels, lengths and mounts of the reels, which are
 -- always told, and by what the store has in memory.
-use Rattle.std.specs.Prelude.{◌≡◌, ℕ, ◌+◌, ◌-◌, ◌^◌, ◌==◌, Bool, false, not, nat_lt, List, [], ◌∷◌, filter, length, Option, Some, None, IfSome, IfErr, is_some, is_none, Result, Ok, Err, if◌then◌else◌}
+use Rattle.std.specs.Prelude.{◌≡◌, ℕ, ◌+◌, ◌-◌, ◌^◌, ◌==◌, Bool, false, not, nat_lt, List, [], ◌∷◌, filter, find, length, option_map, Option, Some, None, IfSome, IfErr, is_some, is_none, Result, Ok, Err}
 use Rattle.g_tape.specs.Reel.{Reel}
 use Rattle.g_tape.specs.Rack.{is_mounted, reel}
 use Rattle.g_tape.specs.declared.fault.TapeFault.{TapeFault}
@@ -74,14 +74,6 @@ abbrev pub capacity_of : Option Reel → ℕ
 capacity_of None = 0
 capacity_of (Some r) = r.capacity
 
--- the first reel, in rising serial, with this property
-abbrev pub first_with : (Reel → Bool) → List Reel → Option ℕ
-first_with test [] = None
-first_with test (r ∷ rs) = if test r then Some r.serial else first_with test rs
-
--- that has a block; that isn't mounted
+-- the serial of the first reel that has a block
 abbrev pub first_used : List Reel → Option ℕ
-first_used reels = first_with (λ r. nat_lt 0 r.len) reels
-
-abbrev pub first_unmounted : List Reel → Option ℕ
-first_unmounted reels = first_with (λ r. not r.mounted) reels
+first_used reels = option_map (λ r. r.serial) (find (λ r. nat_lt 0 r.len) reels)

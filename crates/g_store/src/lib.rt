@@ -2,6 +2,7 @@
 //! state that it stands for.
 #![tactic(auto)]
 
+mod migrating;
 mod mounting;
 mod store;
 

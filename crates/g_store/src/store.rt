@@ -42,6 +42,13 @@ impl<D: Disc, T: Tapes> Model for Store<D, T> {
 }
 
 impl<D: Disc, T: Tapes> Store<D, T> {
+    /// Whether a stop has come.
+    pub fn spent(&self) -> bool
+        ensures { result ≡ self.now.spent }
+    {
+        self.spent
+    }
+
     /// The number of the open dump, None where none is open.
     pub fn dump_number(&self) -> Option<u64>
         ensures { result ≡ option_map (λ d. d.plan.number) self.now.dump }
