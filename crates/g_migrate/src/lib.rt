@@ -7,6 +7,6 @@ mod migration;
 mod tests;
 mod unjamming;
 
-pub use migration::migrate;
 pub use g_online::Unjam;
+pub use migration::migrate;
 pub use unjamming::plan_unjam;
