@@ -6,3 +6,6 @@ mod dump;
 mod step;
 
 pub use dump::{Dump, DumpStep};
+
+#[cfg(test)]
+mod tests;
