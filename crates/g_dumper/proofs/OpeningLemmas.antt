@@ -24,7 +24,7 @@ use Rattle.g_state.specs.Answers.{Belongs, IsStore, Told}
 use Rattle.g_state.specs.Belong.{BelongWith, DiscBelongs, IsPlaced, KeepsFile, RackBelongs}
 use Rattle.g_state.specs.Meaning.{files_of, joined, told_reels}
 use Rattle.g_state.specs.Reading.{AllTold, ReelsTold}
-use Rattle.g_state.specs.Up.{DumpFacts, IsOpen, IsReady, IsUp, KeepsDirectories, KeepsOpening, StoreFacts, content_in}
+use Rattle.g_state.specs.Up.{ArePinned, DumpFacts, IsOpen, IsReady, IsUp, KeepsDirectories, KeepsOpening, StoreFacts, content_in}
 use Rattle.g_state.proofs.ChangeLemmas.{intents_belong}
 use Rattle.g_state.proofs.DirectoryLemmas.{all_up_to}
 use Rattle.g_state_laws.specs.Dumping.{AreDumpable, IsPlanOf, PinsText, opened_with}
@@ -100,7 +100,7 @@ up_again text shelf rack p q d contents pins changed touched was =
     }
 
 -- a serial that a reel has
-serial_among : (rs : List Reel) (r : Reel) → Contains rs r → Contains (map (λ (x : Reel). x.serial) rs) r.serial
+pub serial_among : (rs : List Reel) (r : Reel) → Contains rs r → Contains (map (λ (x : Reel). x.serial) rs) r.serial
 serial_among [] r (i, within, is) = let no : ⊥ = omega (arith, within) in absurd no
 serial_among (q ∷ qs) r (zero, within, is) = (0, omega arith, ap (λ (x : Reel). x.serial) is)
 serial_among (q ∷ qs) r (suc i, within, is) =
@@ -131,6 +131,19 @@ module _ (serial place : ℕ) (rack after : Rack) (on : Reel) (reads : OnlyReads
       let x = get_or (shelf serial) k d in
       quiet x (on_all shelf (told_reels after) (unread on) x on_there (subst (λ (n : ℕ). Contains (shelf n) x) (sym on_named) (Contains-get_or (shelf serial) k d within)))
 
+-- WHAT STANDS behind an opening, over devices that tell: the plan is the one of the records, the pins have the texts of the versions
+-- that wait, and the store keeps what a store with an open dump keeps
+pub record IsOpenedUp (text : ℕ → List ℕ) (shelf : ℕ → List Dump) (o new : OnlineFacts) (after : Rack) (d : DumpFacts) : Type 0 where
+  pub dumpable : AreDumpable o.changed o.contents
+  pub planned : IsPlanOf shelf o.changed o.contents d.plan
+  pub start : d.done ≡ 0
+  pub pins : List Pin
+  pub pinned : new.pins ≡ Some pins
+  pub are : ArePinned d.plan.serial (first_content d.plan) (waiting d.plan.files) pins
+  pub texts : All (PinsText text) pins
+  pub contents : new.contents ≡ with_intent (Some (intent_of d.plan)) o.contents
+  pub up : IsUp text shelf (up_with new after (Some d))
+
 -- THE OPENING, from what the filestore was
 module _ (serial : ℕ) (o new : OnlineFacts) (rack after : Rack) (live : o.live ≡ true) (tied : IsTied o) (tied_new : IsTied new) (reads : OnlyReads rack after) where
   dumpable : AreDumpable o.changed o.contents
@@ -146,9 +159,9 @@ module _ (serial : ℕ) (o new : OnlineFacts) (rack after : Rack) (live : o.live
     open_now : IsOpen (record { plan = plan_of serial begins.place o; done = 0 }) new after
     open_now = subst (λ (e : DumpFacts). IsOpen e new after) begins.dump begins.open_dump
 
-    pub opening_belongs : Told (up_with o rack None) → Belongs (up_with o rack None) → Belongs (up_with new after (Some d))
-    opening_belongs told was =
-        let (text, shelf, shelved, up) = was.up refl in
+    pub opened_up : Told (up_with o rack None) → (text : ℕ → List ℕ) (shelf : ℕ → List Dump) → AreShelved shelf (told_reels rack) → IsUp text shelf (up_with o rack None)
+        → IsOpenedUp text shelf o new after d
+    opened_up told text shelf shelved up =
         let plan = plan_of serial begins.place o in
         let up_read = read_up o rack after reads text shelf up in
         let shelved_read = read_shelf o rack after reads shelf shelved in
@@ -173,8 +186,22 @@ module _ (serial : ℕ) (o new : OnlineFacts) (rack after : Rack) (live : o.live
         dumpable planned open_dump.are texts up_read in
         let up_new : IsUp text shelf (up_with new after (Some (record { plan = plan; done = 0 }))) =
         up_again text shelf after (opened_with plan open_dump.pins (up_with o after None)).online new (record { plan = plan; done = 0 }) opened.contents open_dump.pinned opened.changed_is opened.touched stays in
-        subst (λ (e : DumpFacts). Belongs (up_with new after (Some e))) (sym begins.dump)
-        (belongs_up text shelf (up_with new after (Some (record { plan = plan; done = 0 }))) tied_new opened.live shelved_read up_new)
+        subst (λ (e : DumpFacts). IsOpenedUp text shelf o new after e) (sym begins.dump) (record {
+          dumpable = dumpable;
+          planned = planned;
+          start = refl;
+          pins = open_dump.pins;
+          pinned = open_dump.pinned;
+          are = open_dump.are;
+          texts = texts;
+          contents = opened.contents;
+          up = up_new;
+        })
+
+    pub opening_belongs : Told (up_with o rack None) → Belongs (up_with o rack None) → Belongs (up_with new after (Some d))
+    opening_belongs told was =
+        let (text, shelf, shelved, up) = was.up refl in
+        belongs_up text shelf (up_with new after (Some d)) tied_new begins.opened.live (read_shelf o rack after reads shelf shelved) (opened_up told text shelf shelved up).up
 
   -- stopped at the intent: whichever of the two the disc holds, it belongs
   pub stopped_belongs : (r : Reel) → reel serial after.reels ≡ Some r → StoppedOpening serial o new rack → Told (up_with o rack None) → Belongs (up_with o rack None) → Belongs (spent_with new after)

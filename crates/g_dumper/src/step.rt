@@ -56,7 +56,8 @@ impl Dump {
             Some(block) => block,
             None => return Err(StoreFault::DiscReadFault),
         };
-        match tapes.write(self.serial, self.place + self.done, &block) {
+        let at = self.place + self.done;
+        match tapes.write(self.serial, at, &block) {
             Ok(()) => {}
             Err(_) => return Err(StoreFault::Stopped),
         }

@@ -7,8 +7,8 @@ use Rattle.g_dumper.proofs.OpenLemmas.{goes_on, more_fits, place_fits}
 use Rattle.g_dumper.proofs.RulesLemmas.{closing_rules}
 use Rattle.g_dumper.proofs.dump.Dump.write_next.Goals as goal
 
-pub overflow_add-self-inside : goal.overflow_add-self-inside
-overflow_add-self-inside g c =
+pub overflow_add-at : goal.overflow_add-at
+overflow_add-at g c =
     let d : DumpFacts = record { plan = c.self.inside.writer; done = c.self.inside.done } in
     let is = subst (λ (e : DumpFacts). IsOpen e c.args.online.now (g.T.Tapes.rack c.args.tapes.now)) (sym c.self.view_is) c.requires.open in
     let at = c.self.invariant.place_is in
