@@ -3,10 +3,10 @@ use Rattle.std.proofs.Common.{◌≡◌, ◌≢◌, ◌⊎◌, ℕ, zero, suc, �
 use Rattle.std.specs.Prelude.{Contains, is_some, slice_set}
 use Rattle.std.specs.FinMap as finmap
 use Rattle.std.specs.FinMap.{get-from_entries, nat_cmp-IsAntisymmetric}
-use Rattle.std.proofs.lemmas.Bool.{cases_eq, cond-false, cond-true, eq-eqb, ne_eqb}
+use Rattle.std.proofs.lemmas.Bool.{cases_Bool, cases_eq, cond-false, cond-true, eq-eqb, ne_eqb}
 use Rattle.std.proofs.lemmas.Cmp.{nat_cmp_total}
 use Rattle.std.proofs.lemmas.List.{get_or-map, length-map, set-get_or}
-use Rattle.std.proofs.lemmas.List.Elements.{All-cons, All-filter, All-head, All-map, Contains-get_or}
+use Rattle.std.proofs.lemmas.List.Elements.{All-filter, All-head, All-map, All-tail, Contains-get_or}
 use Rattle.std.proofs.lemmas.List.Kept.{AllPairs-filter}
 use Rattle.std.proofs.lemmas.List.Sums.{count_by-le-length, length-filter}
 use Rattle.std.proofs.lemmas.Option.{get_or_from_slice_get, slice_get_within}
@@ -25,7 +25,7 @@ use Rattle.g_contents.specs.Facts.{IsTied, OnlineFacts, Pin, noted}
 use Rattle.g_base.specs.Block.{blocks_for}
 use Rattle.g_online.specs.declared.change.Change.{Change}
 use Rattle.g_online.specs.declared.change.Change.TheVariants.{Adopt, EraseFile, SetFile, SetIntent, SetUser, Unload}
-use Rattle.g_online.specs.Allowed.{Fits, IsAllowed, IsUnjammable, KeepsRules, Lies}
+use Rattle.g_online.specs.Allowed.{AreUnjammable, Fits, IsAllowed, IsUnjammable, KeepsRules, Lies}
 use Rattle.g_online.specs.Change.{changed, closed, made, sets_intent}
 use Rattle.g_online.specs.Pins.{ArePinnedFrom, HasPinned, IsWaiting}
 use Rattle.g_online.proofs.CloseNoteLemmas.{map_same, pairs_map}
@@ -43,11 +43,11 @@ no_intent c kept = record {
   lie = kept.lie;
 }
 
-still_committed : (b : Bool) (c : Contents) → KeepsRules c → KeepsRules (committed b c)
+pub still_committed : (b : Bool) (c : Contents) → KeepsRules c → KeepsRules (committed b c)
 still_committed true c kept = kept
 still_committed false c kept = no_intent c kept
 
-allow : (change : Change) (o : OnlineFacts) → o.live ≡ true → Fits change o → KeepsRules (made (is_some o.disc.held) change o.contents) → IsAllowed change o
+pub allow : (change : Change) (o : OnlineFacts) → o.live ≡ true → Fits change o → KeepsRules (made (is_some o.disc.held) change o.contents) → IsAllowed change o
 unfolding changed
 allow change o live fits rules = record {
   live = live;
@@ -56,7 +56,7 @@ allow change o live fits rules = record {
 }
 
 -- with other files of the same rules
-with_them : (c : Contents) (files : List File) → KeepsRules c → IsRecords c.users (map (λ (f : File). f.rec) files) → StampsBelow c.head.next_stamp (map (λ (f : File). f.rec) files) → All Lies files → KeepsRules (let d : Contents = record c { files = files } in d)
+pub with_them : (c : Contents) (files : List File) → KeepsRules c → IsRecords c.users (map (λ (f : File). f.rec) files) → StampsBelow c.head.next_stamp (map (λ (f : File). f.rec) files) → All Lies files → KeepsRules (let d : Contents = record c { files = files } in d)
 with_them c files kept records dated lie = record { head = kept.head; records = records; dated = dated; lie = lie }
 
 -- the file of a number
@@ -103,6 +103,9 @@ user_allowed o user tied live found =
 rec_there : (files : List File) (g : File) → Contains files g → Contains (map (λ (h : File). h.rec) files) g.rec
 rec_there files g (k, within, at) =
     (k, (let long = length-map files (λ (h : File). h.rec) in omega (arith, within, long)), get_or-map (λ (h : File). h.rec) files k g g.rec within ∙ ap (λ (h : File). h.rec) at)
+
+pub rec_here : (o : OnlineFacts) (r : FileRec) → IsThere o r → Contains (recs_in o.contents) r
+rec_here o r is = subst (Contains (recs_in o.contents)) is.rec (rec_there o.contents.files is.file is.there)
 
 same_or_not : (o : OnlineFacts) (r : FileRec) → AreNumbered (recs_in o.contents) → IsThere o r → (f : File) → Contains o.contents.files f → with_rec r f ≡ f
 same_or_not o r numbered is f there = by_number (cases_eq f.rec.number r.number)
@@ -203,29 +206,56 @@ recs_off : (numbers : List ℕ) (files : List File) → map (λ (f : File). f.re
 recs_off numbers [] = refl
 recs_off numbers (f ∷ files) = λ i. off_rec numbers f i ∷ recs_off numbers files i
 
-lies_off : (o : OnlineFacts) (number : ℕ) → AreNumbered (recs_in o.contents) → (is : IsUnjammable o.contents.files number) → (f : File) → Contains o.contents.files f → Lies f → Lies (offline_in (number ∷ []) f)
-lies_off o number numbered is f there lies = by_number (cases_eq number f.rec.number)
+one_of : (P : ℕ → Type 0) (numbers : List ℕ) (n : ℕ) → All P numbers → has numbers n ≡ true → P n
+one_of P [] n all is = (let no : ⊥ = cc in absurd no)
+one_of P (m ∷ ms) n all is = by_number (one_of P ms n (All-tail P m ms all)) (cases_eq m n)
   where
-    by_number : (number ≡ f.rec.number) ⊎ (number ≡ f.rec.number → ⊥) → Lies (offline_in (number ∷ []) f)
-    by_number (inl same) =
-        let it : f.rec ≡ is.file.rec = one_of_key (λ (s : FileRec). s.number) (recs_in o.contents) f.rec is.file.rec (numbered_apart (recs_in o.contents) numbered 0) (rec_there o.contents.files f there) (rec_there o.contents.files is.file is.there) (sym same ∙ sym is.number_is) in
+    by_number : (has ms n ≡ true → P n) → (m ≡ n) ⊎ (m ≡ n → ⊥) → P n
+    by_number rest (inl same) = subst P same (All-head P m ms all)
+    by_number rest (inr other) = rest (sym (ap (λ (b : Bool). b || has ms n) (ne_eqb m n other)) ∙ is)
+
+lies_off : (o : OnlineFacts) (numbers : List ℕ) → AreNumbered (recs_in o.contents) → All (IsUnjammable o.contents.files) numbers → (f : File) → Contains o.contents.files f → Lies f → Lies (offline_in numbers f)
+lies_off o numbers numbered each f there lies = by_case (cases_Bool (has numbers f.rec.number))
+  where
+    by_case : (has numbers f.rec.number ≡ true) ⊎ (has numbers f.rec.number ≡ false) → Lies (offline_in numbers f)
+    by_case (inl goes) =
+        let is : IsUnjammable o.contents.files f.rec.number = one_of (IsUnjammable o.contents.files) numbers f.rec.number each goes in
+        let it : f.rec ≡ is.file.rec = one_of_key (λ (s : FileRec). s.number) (recs_in o.contents) f.rec is.file.rec (numbered_apart (recs_in o.contents) numbered 0) (rec_there o.contents.files f there) (rec_there o.contents.files is.file is.there) (sym is.number_is) in
         let len = ap (λ (s : FileRec). s.len) it in
         let filled = is.filled in
-        subst Lies (sym (cond-true (has (number ∷ []) f.rec.number) (let g : File = record f { online = false; bytes = None } in g) f (ap (λ (b : Bool). b || false) (eq-eqb number f.rec.number same))))
+        subst Lies (sym (cond-true (has numbers f.rec.number) (let g : File = record f { online = false; bytes = None } in g) f goes))
         (record { somewhere = inr (ap (λ (s : FileRec). is_some s.tape) it ∙ is.copied); empty = λ none. (let no : ⊥ = omega (arith, none, len, filled) in absurd no) })
-    by_number (inr other) =
-        subst Lies (sym (cond-false (has (number ∷ []) f.rec.number) (let g : File = record f { online = false; bytes = None } in g) f (ap (λ (b : Bool). b || false) (ne_eqb number f.rec.number other)))) lies
+    by_case (inr stays) =
+        subst Lies (sym (cond-false (has numbers f.rec.number) (let g : File = record f { online = false; bytes = None } in g) f stays)) lies
 
-pub unload_allowed : (o : OnlineFacts) (number : ℕ) (numbers : List ℕ) → IsTied o → o.live ≡ true → IsUnjammable o.contents.files number → numbers ≡ number ∷ [] → IsAllowed (Unload numbers) o
-unload_allowed o number numbers tied live is are =
+pub unload_allowed : (o : OnlineFacts) (numbers : List ℕ) → IsTied o → o.live ≡ true → AreUnjammable o.contents.files numbers → IsAllowed (Unload numbers) o
+unload_allowed o numbers tied live are =
     let rules = rules_here o tied live in
-    let same = recs_off (number ∷ []) o.contents.files in
-    subst (λ (ns : List ℕ). IsAllowed (Unload ns) o) (sym are)
-    (allow (Unload (number ∷ [])) o live
-    (record { each = All-cons (IsUnjammable o.contents.files) number [] is (λ k d within. (let no : ⊥ = omega (arith, within) in absurd no)); once = λ i j d less within. (let no : ⊥ = omega (arith, less, within) in absurd no) })
-    (with_them o.contents (taken_off (number ∷ []) o.contents.files) rules (subst (IsRecords o.contents.users) (sym same) rules.records) (subst (StampsBelow o.contents.head.next_stamp) (sym same) rules.dated)
-    (All-map Lies (offline_in (number ∷ [])) o.contents.files
-    (λ k d within. lies_off o number rules.records.numbers is (get_or o.contents.files k d) (Contains-get_or o.contents.files k d within) (rules.lie k d within)))))
+    let same = recs_off numbers o.contents.files in
+    allow (Unload numbers) o live are
+    (with_them o.contents (taken_off numbers o.contents.files) rules (subst (IsRecords o.contents.users) (sym same) rules.records) (subst (StampsBelow o.contents.head.next_stamp) (sym same) rules.dated)
+    (All-map Lies (offline_in numbers) o.contents.files
+    (λ k d within. lies_off o numbers rules.records.numbers are.each (get_or o.contents.files k d) (Contains-get_or o.contents.files k d within) (rules.lie k d within))))
+
+-- of what is taken off, the records stay, and the next stamp
+pub off_same : (told pinned : Bool) (numbers : List ℕ) (c : Contents) → (recs_in (changed told pinned (Unload numbers) c) ≡ recs_in c) × ((changed told pinned (Unload numbers) c).head.next_stamp ≡ c.head.next_stamp)
+unfolding changed
+off_same told true numbers c = (recs_off numbers c.files, refl)
+off_same told false numbers c = (recs_off numbers c.files, refl)
+
+-- WHICH FILES may be taken off
+pub may_go : (o : OnlineFacts) (number : ℕ) (r : FileRec) → IsThere o r × (r.number ≡ number) → ((f : File) → Contains o.contents.files f → f.rec.number ≡ number → f.online ≡ true) → 0 < r.len → is_some r.tape ≡ true → IsUnjammable o.contents.files number
+may_go o number r there online filled copied =
+    let is = there.0 in
+    let at = ap (λ (s : FileRec). s.number) is.rec ∙ there.1 in
+    record {
+      file = is.file;
+      there = is.there;
+      number_is = at;
+      online = online is.file is.there at;
+      filled = subst (λ (s : FileRec). 0 < s.len) (sym is.rec) filled;
+      copied = ap (λ (s : FileRec). is_some s.tape) is.rec ∙ copied;
+    }
 
 -- NO COPIES, but a number
 no_copies : (files : List File) → with_copies [] files ≡ files

@@ -1,9 +1,6 @@
 -- A new version in the place of a file may be put in.
-use Rattle.std.proofs.Common.{◌≡◌, ◌≢◌, ◌⊎◌, ℕ, ◌+◌, ◌<◌, ◌≤◌, ◌==◌, ◌^◌, Bool, true, false, List, [], ◌∷◌, ◌++◌, length, get_or, filter, map, Option, Some, None, All, AllPairs, refl, sym, ◌∙◌, ap, subst, arith, inl, inr}
+use Rattle.std.proofs.Common.{◌≡◌, ◌≢◌, ◌⊎◌, ℕ, ◌+◌, ◌<◌, ◌≤◌, ◌==◌, ◌^◌, Bool, true, false, List, [], ◌∷◌, ◌++◌, length, get_or, filter, map, None, All, AllPairs, refl, sym, ◌∙◌, ap, subst, arith, inl, inr}
 use Rattle.std.specs.Prelude.{Contains, is_some, nat_lt}
-use Rattle.std.specs.FinMap as finmap
-use Rattle.std.specs.FinMap.{get-from_entries, nat_cmp-IsAntisymmetric}
-use Rattle.std.proofs.lemmas.Cmp.{nat_cmp_total}
 use Rattle.std.proofs.lemmas.Bool.{cases_Bool, cases_eq, cond-false, cond-true, eq-eqb, ne_eqb}
 use Rattle.std.proofs.lemmas.List.{get_or-map, length-map, map-append}
 use Rattle.std.proofs.lemmas.List.Elements.{All-append, All-contains, All-cons, All-filter, All-map, Contains-get_or}
@@ -12,19 +9,18 @@ use Rattle.g_entry.specs.declared.head.Head.{Head}
 use Rattle.g_entry.specs.FileFields.{IsFile}
 use Rattle.g_entry.specs.HeadFields.{IsHead}
 use Rattle.g_entry.specs.Rules.{SameName, StampsBelow}
-use Rattle.g_tree.specs.Records.{IsRecords, by_number}
-use Rattle.g_tree.proofs.MapLemmas.{found_one, keyed}
+use Rattle.g_tree.specs.Records.{IsRecords}
 use Rattle.g_tree.specs.State.{with_file as tree_with_file}
 use Rattle.g_tree.proofs.PlaceLemmas.{numbered_apart}
 use Rattle.g_tree.proofs.RuleLemmas.{one_of_key}
 use Rattle.g_contents.specs.Contents.{Contents, File, recs_in, taken_off, with_file}
 use Rattle.g_contents.specs.Facts.{IsTied, OnlineFacts}
-use Rattle.g_online.specs.declared.change.Change.TheVariants.{PutFile}
-use Rattle.g_online.specs.Allowed.{IsAllowed, KeepsRules, Lies}
+use Rattle.g_online.specs.declared.change.Change.TheVariants.{PutFile, Unload}
+use Rattle.g_online.specs.Allowed.{AreUnjammable, IsAllowed, KeepsRules, Lies}
 use Rattle.g_online.specs.Change.{changed, told_bytes}
 use Rattle.g_online.proofs.EntryLemmas.{put-set, set_one}
-use Rattle.g_online.proofs.KeepLemmas.{rules_of}
-use Rattle.g_online.proofs.TwoLemmas.{none_unjammed, taken_none}
+use Rattle.g_online.proofs.TwoLemmas.{put_two, taken_none}
+use Rattle.g_online_tests.proofs.AllowedLemmas.{off_same, unload_allowed}
 
 -- the records of files among which one is put
 map_filter : (p : FileRec → Bool) (files : List File) → map (λ (f : File). f.rec) (filter (λ (f : File). p f.rec) files) ≡ filter p (map (λ (f : File). f.rec) files)
@@ -75,9 +71,6 @@ module _ (rec : FileRec) (recs : List FileRec) (rising : AllPairs (λ r s. r.num
       (λ other. at_or_not (λ (y : FileRec). R s y) t (λ at. second s t there here was at) (λ differs. was)) in
       subst (λ (y : FileRec). R (get_or (map (set_one rec) recs) i d) y) (sym (get_or-map (set_one rec) recs j d d below))
       (subst (λ (x : FileRec). R x (set_one rec t)) (sym (get_or-map (set_one rec) recs i d d (omega (arith, less, below)))) both)
-
-rules_here : (o : OnlineFacts) → IsTied o → o.live ≡ true → KeepsRules o.contents
-rules_here o tied live = subst KeepsRules (sym (tied.contents live)) (rules_of o.disc.size o.disc.held o.layout.directory (tied.records live) (tied.rules live))
 
 -- the record of the next version of a file
 abbrev pub next_rec : FileRec → ℕ → ℕ → FileRec
@@ -172,24 +165,23 @@ module _ (c : Contents) (r : FileRec) (len : ℕ) (kept : KeepsRules c) (there :
       put_rules (record { rec = next_rec r c.head.next_stamp len; online = true; bytes = told_bytes told bytes }) (record c.head { next_stamp = c.head.next_stamp + 1; intent = None }) refl refl
       (record { least_stamp = omega arith; most_stamp = omega (arith, early); last_dump = head.last_dump; intent = tt }) refl
 
--- ALLOWED
-pub put_allowed : (o : OnlineFacts) (r rec : FileRec) (bytes unjam : List ℕ) → IsTied o → o.live ≡ true → Contains (recs_in o.contents) r → rec ≡ next_rec r o.contents.head.next_stamp (length bytes) → unjam ≡ []
+-- ALLOWED, where these files are taken off for it
+pub put_allowed : (o : OnlineFacts) (r rec : FileRec) (bytes unjam : List ℕ) → IsTied o → o.live ≡ true → Contains (recs_in o.contents) r → rec ≡ next_rec r o.contents.head.next_stamp (length bytes) → AreUnjammable o.contents.files unjam
     → o.contents.head.next_stamp < 2 ^ 62 → length bytes ≤ 65536 → IsAllowed (PutFile rec bytes unjam) o
-put_allowed o r rec bytes unjam tied live there is none early short =
-    let new : FileRec = next_rec r o.contents.head.next_stamp (length bytes) in
-    subst (λ (ns : List ℕ). IsAllowed (PutFile rec bytes ns) o) (sym none)
-    (subst (λ (s : FileRec). IsAllowed (PutFile s bytes []) o) (sym is)
-    (record {
+put_allowed o r rec bytes unjam tied live there is are early short =
+    let told = is_some o.disc.held in
+    let pinned = is_some o.pins in
+    let between : Contents = changed told pinned (Unload unjam) o.contents in
+    let same = off_same told pinned unjam o.contents in
+    let new : rec ≡ next_rec r between.head.next_stamp (length bytes) = is ∙ ap (λ (n : ℕ). next_rec r n (length bytes)) (sym same.1) in
+    record {
       live = live;
-      fits = (refl, refl, refl, none_unjammed o.contents.files);
-      rules = changed_rules o.contents r (length bytes) (rules_here o tied live) there early short (is_some o.disc.held) (is_some o.pins) bytes;
-    }))
-
--- the file that the tree has of a number
-pub there_is : (files : List FileRec) (recs : List FileRec) (number : ℕ) (r : FileRec) → files ≡ recs → (let one : Option FileRec = Some r in one ≡ finmap.get (by_number files) number) → Contains recs r
-there_is files recs number r same found =
-    subst (λ (rs : List FileRec). Contains rs r) same
-    (found_one nat_cmp_total nat_cmp-IsAntisymmetric (λ (s : FileRec). s.number) number files r (sym (get-from_entries nat_cmp_total (keyed (λ (s : FileRec). s.number) files) number) ∙ sym found)).0
+      fits = (ap (λ (s : FileRec). s.stamp) is, ap (λ (s : FileRec). s.tape) is, ap (λ (s : FileRec). s.len) is, are);
+      rules = subst KeepsRules ((put_two rec bytes unjam).contents told told pinned o.contents)
+          (subst (λ (s : FileRec). KeepsRules (changed told pinned (PutFile s bytes []) between)) (sym new)
+          (changed_rules between r (length bytes) (unload_allowed o unjam tied live are).rules (subst (λ (rs : List FileRec). Contains rs r) (sym same.0) there)
+          (subst (λ (n : ℕ). n < 2 ^ 62) (sym same.1) early) short told pinned bytes));
+    }
 
 -- its next version
 pub next_made : (r s : FileRec) (n m len k : ℕ) → s ≡ r → n ≡ m → len ≡ k → next_rec s n len ≡ next_rec r m k

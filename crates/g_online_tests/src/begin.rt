@@ -1,6 +1,7 @@
 //! Filestores that are made anew and loaded, against blocks that were written out by hand.
 ghost use Rattle.std.specs.Prelude.{◌≡◌, ◌<◌, ◌≤◌, IfErr, IfOk};
 
+use crate::discs::{MACROS, MASTER, are_blocks};
 use g_disc::{Disc, Leave, MemoryDisc};
 use g_entry::Head;
 use g_online::{Online, OnlineFault};
@@ -8,15 +9,17 @@ use g_tree::Tree;
 use std::alloc::Global;
 use std::test::Fail;
 
-/// The first block of a slot, up to the next stamp, 1.
-const HEAD: [u8; 14] = *b"G3SL\0\x02\0\0\0\0\0\0\0\x01";
-
-/// The blocks of the two users.
-pub(crate) const MASTER: [u8; 36] =
-    *b"\x01\x06MASTER\0\0\0\0\0\0\0\0\0\xff\xff\0\0\0\0\0\x0f\x42\x40\0\0\0\0\0\0\x0f\x42\x40";
-
-pub(crate) const MACROS: [u8; 36] =
-    *b"\x01\x06MACROS\0\0\0\0\0\0\0\0\0\xff\xff\0\0\0\0\0\x0f\x42\x40\0\0\0\0\0\0\x0f\x42\x40";
+/// Behind the first commit, with the next stamp 1.
+static FIRST: [(u32, &[u8]); 8] = [
+    (0, &[1]),
+    (1, b""),
+    (1089, b"G3SL\0\x02\0\0\0\0\0\0\0\x01"),
+    (1090, &MASTER),
+    (1091, &MACROS),
+    (1092, b""),
+    (2176, b""),
+    (2177, b""),
+];
 
 /// A filestore of the first two users and no file on the disc.
 fn formatted(
@@ -40,20 +43,6 @@ fn formatted(
     Online::fresh(alloc, disc, tree, head)
 }
 
-/// Whether block `k` is these bytes with zeros behind them.
-pub(crate) fn is_block(disc: &mut MemoryDisc, k: u32, bytes: &[u8]) -> bool {
-    let mut block = [9; 512];
-    if k >= disc.size() || disc.read(k, &mut block).is_err() {
-        return false;
-    }
-    for (at, byte) in block.iter().enumerate() {
-        if *byte != bytes.get(at).copied().unwrap_or(0) {
-            return false;
-        }
-    }
-    true
-}
-
 /// Slot A is current on a disc of zeros, so the first commit writes all of slot B and then the gate: 1,089 writes.
 #[test]
 fn the_first_commit_by_hand(rt: HostRuntime) -> Result<(), Fail> {
@@ -65,18 +54,7 @@ fn the_first_commit_by_hand(rt: HostRuntime) -> Result<(), Fail> {
     };
     assert_eq!(rt; online.changed(), [0, 1].as_slice());
     let mut disc = online.into_disc();
-    for (k, bytes) in [
-        (0, [1].as_slice()),
-        (1, [].as_slice()),
-        (1089, HEAD.as_slice()),
-        (1090, MASTER.as_slice()),
-        (1091, MACROS.as_slice()),
-        (1092, [].as_slice()),
-        (2176, [].as_slice()),
-        (2177, [].as_slice()),
-    ] {
-        assert!(rt; is_block(&mut disc, k, bytes), "block {k}");
-    }
+    assert!(rt; are_blocks(&mut disc, &FIRST));
     assert!(rt; 2177 < disc.size());
     assert!(rt; disc.write(2177, &[0; 512]).is_err());
     Ok(())

@@ -1,55 +1,33 @@
 //! Changes of a small filestore whose blocks were written out by hand: what they write, what they leave, and what is there
 //! when they were stopped.
-ghost use Rattle.std.specs.Prelude.{◌≡◌, IfOk, None, OnOk, true};
+ghost use Rattle.std.specs.Prelude.{◌≡◌, ◌≤◌, IfOk, None, OnOk, true};
 ghost use Rattle.g_contents.specs.Facts.{IsTied};
 
-use crate::begin::{MACROS, MASTER};
-use g_base::{Block, ReadFailed, WriteFailed};
-use g_disc::{Disc, Leave, MemoryDisc};
-use g_name::Text;
+use crate::asked::{bytes_of, only, put_again};
+use crate::discs::{Counted, Cut, MACROS, MASTER, block_of, laid_out, loaded, loaded_again};
+use g_base::Block;
+use g_disc::Disc;
 use g_online::{CopyList, Online, OnlineFault};
-use g_tree::NumberList;
 use std::alloc::Global;
 use std::test::Fail;
 
-/// The first block of a slot, up to the next stamp, 3.
-const HEAD: [u8; 14] = *b"G3SL\0\x02\0\0\0\0\0\0\0\x03";
-
-/// The block of file 0, F, of 5 bytes at block 2,177: it has no copy on tape.
-const F: [u8; 64] =
-    *b"\x01\0\x01F\0\0\0\0\0\0\0\0\0\0\0\0\x01    \0\0\0\0\0\0\0\x01\0\0\0\x05\x1f\0\0\0\0\0\0\0\0\0\0\0\0\0\0\0\0\0\0\0\0\0\0\0\0\0\0\x01\0\x08\x81";
-
-/// That of file 1, G, of 5 bytes at block 2,178 and on reel 1 at its block 1.
-const G: [u8; 64] =
-    *b"\x01\0\x01G\0\0\0\0\0\0\0\0\0\0\0\0\x01    \0\0\0\0\0\0\0\x02\0\0\0\x05\x1f\0\0\0\0\0\0\0\0\0\0\0\0\0\0\0\0\0\x01\0\0\0\x01\0\0\0\x01\x01\0\x08\x82";
-
-/// A disc in memory that counts how often it is written to, and of which contracts see no content.
-#[derive(Drop)]
-struct Counted {
-    disc: MemoryDisc,
-    writes: u64,
-}
-
-impl Disc for Counted {
-    ghost state = { λ c. record c.disc.disc { held = None } };
-
-    fn size(&self) -> u32 {
-        self.disc.size()
-    }
-
-    fn read(&mut self, k: u32, into: &mut Block) -> Result<(), ReadFailed> {
-        self.disc.read(k, into)
-    }
-
-    fn write(&mut self, k: u32, from: &Block) -> Result<(), WriteFailed> {
-        self.writes = self.writes.saturating_add(1);
-        self.disc.write(k, from)
-    }
-
-    fn arm(&mut self, k: u32) {
-        self.disc.arm(k);
-    }
-}
+/// The two users, file 0, F, of 5 bytes at block 2,177, which has no copy on tape, and file 1, G, of 5 bytes at block 2,178
+/// and on reel 1 at its block 1. The next stamp is 3.
+static ROWS: [(u32, &[u8]); 7] = [
+    (1, b"G3SL\0\x02\0\0\0\0\0\0\0\x03"),
+    (2, &MASTER),
+    (3, &MACROS),
+    (
+        65,
+        b"\x01\0\x01F\0\0\0\0\0\0\0\0\0\0\0\0\x01    \0\0\0\0\0\0\0\x01\0\0\0\x05\x1f\0\0\0\0\0\0\0\0\0\0\0\0\0\0\0\0\0\0\0\0\0\0\0\0\0\0\x01\0\x08\x81",
+    ),
+    (
+        66,
+        b"\x01\0\x01G\0\0\0\0\0\0\0\0\0\0\0\0\x01    \0\0\0\0\0\0\0\x02\0\0\0\x05\x1f\0\0\0\0\0\0\0\0\0\0\0\0\0\0\0\0\0\x01\0\0\0\x01\0\0\0\x01\x01\0\x08\x82",
+    ),
+    (2_177, b"HELLO"),
+    (2_178, b"WORLD"),
+];
 
 /// A change, in the order in which they are made.
 #[derive(Clone, Copy, Debug)]
@@ -76,48 +54,6 @@ const STEPS: [Step; 6] = [
     Step::Adopt,
     Step::Erase,
 ];
-
-/// The bytes with zeros behind them.
-fn block_of(bytes: &[u8]) -> Block {
-    let mut block = [0; 512];
-    for (at, byte) in bytes.iter().enumerate() {
-        if at < 512 {
-            block[at] = *byte;
-        }
-    }
-    block
-}
-
-fn put(disc: &mut MemoryDisc, k: u32, bytes: &[u8]) -> Result<(), WriteFailed>
-    ensures { disc.new.disc.size ≡ disc.old.disc.size }
-{
-    if k >= disc.size() {
-        return Err(WriteFailed);
-    }
-    disc.write(k, &block_of(bytes))
-}
-
-/// A disc of 2,182 blocks with the two users and the two files.
-fn laid_out(alloc: Global) -> Result<Counted, OnlineFault>
-    ensures { IfOk result (λ c. c.disc.disc.size ≡ 2182) }
-{
-    let mut disc = MemoryDisc::new(alloc, 2182)?;
-    for (k, bytes) in [
-        (1, HEAD.as_slice()),
-        (2, MASTER.as_slice()),
-        (3, MACROS.as_slice()),
-        (65, F.as_slice()),
-        (66, G.as_slice()),
-        (2177, b"HELLO".as_slice()),
-        (2178, b"WORLD".as_slice()),
-    ] {
-        match put(&mut disc, k, bytes) {
-            Ok(()) => {}
-            Err(_) => return Err(OnlineFault::Stopped),
-        }
-    }
-    Ok(Counted { disc, writes: 0 })
-}
 
 fn set_user(online: &mut Online<Counted>) -> Result<(), OnlineFault>
     requires live { online.old.live ≡ true }
@@ -156,14 +92,7 @@ fn unload(alloc: Global, online: &mut Online<Counted>) -> Result<(), OnlineFault
     ensures none { OnOk result (online.new.pins ≡ None) }
     ensures tied { IsTied online.new }
 {
-    let mut numbers = NumberList::new(alloc);
-    numbers.push(1)?;
-    let Some(file) = online.tree().file_at(1) else {
-        return Ok(());
-    };
-    if file.len == 0 || file.tape.is_none() || !online.is_online(1) {
-        return Ok(());
-    }
+    let numbers = only(alloc, online, 1)?;
     online.unload(&numbers)
 }
 
@@ -177,6 +106,20 @@ fn adopt(alloc: Global, online: &mut Online<Counted>) -> Result<(), OnlineFault>
 {
     let copies = CopyList::from(Vec::new(alloc));
     online.adopt(alloc, 5, &copies)
+}
+
+/// Takes F out.
+fn erase(online: &mut Online<Counted>) -> Result<(), OnlineFault>
+    requires live { online.old.live ≡ true }
+    requires tied { IsTied online.old }
+    ensures live { OnOk result (online.new.live ≡ true) }
+    ensures pins { OnOk result (online.new.pins ≡ online.old.pins) }
+    ensures tied { IsTied online.new }
+{
+    let Some(_file) = online.tree().file_at(0) else {
+        return Err(OnlineFault::NoFilestore);
+    };
+    online.erase_file(0)
 }
 
 /// Takes F out while it is pinned, and reads it then. `ReadFault` also where it isn't what it was.
@@ -198,7 +141,7 @@ fn erase_pinned(alloc: Global, online: &mut Online<Counted>) -> Result<(), Onlin
         Ok(()) => {}
         Err(_) => return Err(OnlineFault::NoMemory),
     }
-    match online.erase_file(0) {
+    match erase(online) {
         Ok(()) => {}
         Err(fault) => return Err(fault),
     }
@@ -212,26 +155,6 @@ fn erase_pinned(alloc: Global, online: &mut Online<Counted>) -> Result<(), Onlin
         Ok(())
     } else {
         Err(OnlineFault::ReadFault)
-    }
-}
-
-/// The bytes of a file that is on the disc.
-fn read(
-    alloc: Global,
-    online: &mut Online<Counted>,
-    number: u16,
-) -> Result<Option<Text>, OnlineFault>
-    requires { online.old.live ≡ true }
-{
-    let Some(_file) = online.tree().file_at(number) else {
-        return Ok(None);
-    };
-    if !online.is_online(number) {
-        return Ok(None);
-    }
-    match online.bytes(alloc, number) {
-        Ok(text) => Ok(Some(text)),
-        Err(fault) => Err(fault),
     }
 }
 
@@ -269,89 +192,159 @@ fn walk(alloc: Global, online: &mut Online<Counted>, steps: &[Step]) -> Result<(
     Ok(())
 }
 
-/// What the first changes write in all, and what is there then: the first two commits write all of a slot, since nothing is
-/// remembered of it; then only what differs there, and the gate.
+/// Whether what was made is there.
+fn is_so(online: &Online<Counted>, room: u32, last: u64, files: usize) -> bool
+    requires { online.now.live ≡ true }
+{
+    online.room() == room && online.head().last_dump == last && online.tree().files().len() == files
+}
+
+/// How many changes, what they write in all, and then the room, the number of the last dump, and how many files there are.
+type Made = (usize, u64, u32, u64, usize);
+
+/// The first two commits write all of a slot, since nothing is remembered of it; then only what differs there, and the gate.
+static CHANGES: [Made; 7] = [
+    (0, 0, 3, 0, 2),
+    (1, 1_089, 3, 0, 2),
+    (2, 2_178, 3, 0, 2),
+    (3, 2_179, 3, 0, 2),
+    (4, 2_181, 4, 0, 2),
+    (5, 2_184, 4, 5, 2),
+    (6, 2_187, 5, 5, 1),
+];
+
+/// How often so many changes write to the disc, and whether it holds this when it is loaded again.
+fn are_made(alloc: Global, row: &Made) -> Result<bool, OnlineFault> {
+    let (steps, writes, room, last, files) = *row;
+    let mut online = loaded(alloc, laid_out(alloc, 2182, &ROWS)?)?;
+    walk(alloc, &mut online, STEPS.get(..steps).unwrap_or(&[]))?;
+    let online = loaded_again(alloc, online)?;
+    let is_so = is_so(&online, room, last, files);
+    Ok(is_so && online.into_disc().writes == writes)
+}
+
 #[test]
 fn changes_by_hand(rt: HostRuntime) -> Result<(), Fail> {
-    let alloc = rt.alloc();
-    for (steps, writes, room, last, files) in [
-        (0, 0, 3, 0, 2),
-        (1, 1_089, 3, 0, 2),
-        (2, 2_178, 3, 0, 2),
-        (3, 2_179, 3, 0, 2),
-        (4, 2_181, 4, 0, 2),
-        (5, 2_184, 4, 5, 2),
-        (6, 2_187, 5, 5, 1),
-    ] {
-        let mut online = match Online::load(alloc, laid_out(alloc)?) {
-            Ok(online) => online,
-            Err((fault, _disc)) => return Err(fault.into()),
-        };
-        walk(alloc, &mut online, STEPS.get(..steps).unwrap_or(&[]))?;
-        let disc = online.into_disc();
-        assert_eq!(rt; disc.writes, writes, "{steps} changes");
-        let online = match Online::load(alloc, disc) {
-            Ok(online) => online,
-            Err((fault, _disc)) => return Err(fault.into()),
-        };
-        assert_eq!(rt;
-            (online.room(), online.head().last_dump),
-            (room, last),
-            "{steps} changes"
-        );
-        assert_eq!(rt; online.tree().files().len(), files, "{steps} changes");
+    for row in CHANGES.iter() {
+        assert!(rt; are_made(rt.alloc(), row)?, "{} changes", row.0);
     }
     Ok(())
 }
 
-/// That each call finds memory, and a file its bytes; a read that fails is told.
-#[test]
-fn ample(rt: HostRuntime) -> Result<(), Fail> {
-    let alloc = rt.alloc();
-    let mut online = match Online::load(alloc, laid_out(alloc)?) {
-        Ok(online) => online,
-        Err((fault, _disc)) => return Err(fault.into()),
-    };
-    let text = read(alloc, &mut online, 1)?;
-    assert!(rt; text.is_some_and(|text| text.as_slice() == b"WORLD".as_slice()));
-    Ok(())
+/// At which write the changes are stopped, what that leaves, and what is there then, as above.
+type Stop = (u32, Cut, u32, u64, usize);
+
+static STOPS: [Stop; 10] = [
+    (1, Cut::Whole, 3, 0, 2),
+    (1_089, Cut::Old, 3, 0, 2),
+    (2_180, Cut::Half, 3, 0, 2),
+    (2_181, Cut::Old, 3, 0, 2),
+    (2_181, Cut::Half, 4, 0, 2),
+    (2_181, Cut::Whole, 4, 0, 2),
+    (2_184, Cut::Old, 4, 0, 2),
+    (2_184, Cut::Whole, 4, 5, 2),
+    (2_187, Cut::Old, 4, 5, 2),
+    (2_187, Cut::Whole, 5, 5, 1),
+];
+
+/// The filestore, whose write of this number fails and leaves this.
+fn begun(alloc: Global, write: u32, cut: Cut) -> Result<Online<Counted>, OnlineFault>
+    requires { 1 ≤ write }
+    ensures live { IfOk result (λ o. o.live ≡ true) }
+    ensures none { IfOk result (λ o. o.pins ≡ None) }
+    ensures tied { IfOk result (λ o. IsTied o) }
+{
+    let mut disc = laid_out(alloc, 2182, &ROWS)?;
+    disc.disc.set_leave(cut.leave());
+    disc.arm(write);
+    loaded(alloc, disc)
+}
+
+/// Whether the changes stop there, and leave that.
+fn is_left(alloc: Global, row: &Stop) -> Result<bool, OnlineFault> {
+    let (write, cut, room, last, files) = *row;
+    if write == 0 {
+        return Ok(false);
+    }
+    let mut online = begun(alloc, write, cut)?;
+    match walk(alloc, &mut online, &STEPS) {
+        Err(OnlineFault::Stopped) => {}
+        _ => return Ok(false),
+    }
+    let online = loaded_again(alloc, online)?;
+    Ok(is_so(&online, room, last, files))
 }
 
 /// What is there when the changes were stopped at a write, which left this.
 #[test]
 fn changes_that_stop(rt: HostRuntime) -> Result<(), Fail> {
-    let alloc = rt.alloc();
-    for (write, leave, room, last, files) in [
-        (1, Leave::Whole, 3, 0, 2),
-        (1_089, Leave::Old, 3, 0, 2),
-        (2_180, Leave::Half, 3, 0, 2),
-        (2_181, Leave::Old, 3, 0, 2),
-        (2_181, Leave::Half, 4, 0, 2),
-        (2_181, Leave::Whole, 4, 0, 2),
-        (2_184, Leave::Old, 4, 0, 2),
-        (2_184, Leave::Whole, 4, 5, 2),
-        (2_187, Leave::Old, 4, 5, 2),
-        (2_187, Leave::Whole, 5, 5, 1),
-    ] {
-        let mut disc = laid_out(alloc)?;
-        disc.disc.set_leave(leave);
-        disc.arm(write);
-        let mut online = match Online::load(alloc, disc) {
-            Ok(online) => online,
-            Err((fault, _disc)) => return Err(fault.into()),
-        };
-        let stopped = walk(alloc, &mut online, &STEPS);
-        assert_eq!(rt; stopped, Err(OnlineFault::Stopped), "write {write}");
-        let online = match Online::load(alloc, online.into_disc()) {
-            Ok(online) => online,
-            Err((fault, _disc)) => return Err(fault.into()),
-        };
-        assert_eq!(rt;
-            (online.room(), online.head().last_dump),
-            (room, last),
-            "write {write}"
-        );
-        assert_eq!(rt; online.tree().files().len(), files, "write {write}");
+    for row in STOPS.iter() {
+        assert!(rt; is_left(rt.alloc(), row)?, "write {}", row.0);
     }
+    Ok(())
+}
+
+/// A file has its bytes.
+#[test]
+fn ample(rt: HostRuntime) -> Result<(), Fail> {
+    let mut online = loaded(rt.alloc(), laid_out(rt.alloc(), 2182, &ROWS)?)?;
+    let text = bytes_of(rt.alloc(), &mut online, 1)?;
+    assert!(rt; text.is_some_and(|text| text.as_slice() == b"WORLD".as_slice()));
+    Ok(())
+}
+
+/// Pins F, replaces it, takes the new version out, and reads the pinned one then. Answers its block and the room while it is
+/// pinned; nothing where it doesn't wait.
+fn pinned(alloc: Global, online: &mut Online<Counted>) -> Result<Option<(Block, u32)>, OnlineFault>
+    requires live { online.old.live ≡ true }
+    requires none { online.old.pins ≡ None }
+    requires tied { IsTied online.old }
+    ensures live { OnOk result (online.new.live ≡ true) }
+    ensures tied { IsTied online.new }
+{
+    let Some(file) = online.tree().file_at(0) else {
+        return Ok(None);
+    };
+    if file.len == 0 || file.tape.is_some() {
+        return Ok(None);
+    }
+    match online.pin(alloc, 1, 10) {
+        Ok(()) => {}
+        Err(_) => return Err(OnlineFault::NoMemory),
+    }
+    match replaced_and_erased(alloc, online) {
+        Ok(()) => {}
+        Err(fault) => return Err(fault),
+    }
+    let mut block = [9; 512];
+    match online.pinned_block(0, 0, &mut block) {
+        Ok(()) => Ok(Some((block, online.room()))),
+        Err(fault) => Err(fault),
+    }
+}
+
+/// A new version of F, which goes then.
+fn replaced_and_erased(alloc: Global, online: &mut Online<Counted>) -> Result<(), OnlineFault>
+    requires live { online.old.live ≡ true }
+    requires tied { IsTied online.old }
+    ensures live { OnOk result (online.new.live ≡ true) }
+    ensures pins { OnOk result (online.new.pins ≡ online.old.pins) }
+    ensures tied { IsTied online.new }
+{
+    match put_again(alloc, online, 0, b"AGAIN") {
+        Ok(()) => {}
+        Err(fault) => return Err(fault),
+    }
+    erase(online)
+}
+
+/// A version that was replaced, and whose file is gone, is read while it is pinned. Its block is free when it is let go.
+#[test]
+fn a_pinned_version(rt: HostRuntime) -> Result<(), Fail> {
+    let mut online = loaded(rt.alloc(), laid_out(rt.alloc(), 2182, &ROWS)?)?;
+    let told = pinned(rt.alloc(), &mut online)?;
+    assert!(rt; told.is_some_and(|(block, room)| block == block_of(b"HELLO") && room == 3));
+    online.unpin();
+    assert!(rt; online.room() == 4);
     Ok(())
 }

@@ -1,7 +1,7 @@
 use Rattle.std.proofs.Common.{◌∙◌, ap, sym}
 use Rattle.g_entry.specs.declared.file_rec.FileRec.{FileRec}
 use Rattle.g_online_tests.proofs.AllowedLemmas.{there_is}
-use Rattle.g_online_tests.proofs.changes.read.Goals as goal
+use Rattle.g_online_tests.proofs.asked.bytes_of.Goals as goal
 
 pub bytes-requires-clause-online : goal.bytes-requires-clause-online
 bytes-requires-clause-online c =
