@@ -43,7 +43,7 @@ one_of (Some x) None same = absurd (both_ways false refl (sym same))
 one_of (Some x) (Some y) same = refl
 
 -- NUMBERS with one more
-apart_any : (n m : ℕ) (numbers : List ℕ) → m ≢ n → has (with_number n numbers) m ≡ has numbers m
+pub apart_any : (n m : ℕ) (numbers : List ℕ) → m ≢ n → has (with_number n numbers) m ≡ has numbers m
 apart_any n m numbers other = list_any-append (λ k. k == m) (filter (λ k. nat_lt k n) numbers) (n ∷ filter (λ k. nat_lt n k) numbers) ∙ by_order (cases_order m n)
   where
     middle : (n == m) ≡ false
@@ -65,7 +65,7 @@ apart_any n m numbers other = list_any-append (λ k. k == m) (filter (λ k. nat_
         ∙ ap (λ (b : Bool). false || (b || list_any (λ k. k == m) (filter (λ k. nat_lt n k) numbers))) middle
         ∙ ap (λ (b : Bool). false || (false || b)) last
 
-has_new : (n : ℕ) (numbers : List ℕ) → has (with_number n numbers) n ≡ true
+pub has_new : (n : ℕ) (numbers : List ℕ) → has (with_number n numbers) n ≡ true
 has_new n numbers =
     list_any-append (λ k. k == n) (filter (λ k. nat_lt k n) numbers) (n ∷ filter (λ k. nat_lt n k) numbers)
     ∙ ap (λ (b : Bool). list_any (λ k. k == n) (filter (λ k. nat_lt k n) numbers) || (b || list_any (λ k. k == n) (filter (λ k. nat_lt n k) numbers))) (eq-eqb n n refl)
