@@ -1,0 +1,3 @@
+pub mod CalmLemmas
+pub mod SeenLemmas
+pub mod TellLemmas

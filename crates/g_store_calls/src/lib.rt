@@ -1,0 +1,6 @@
+//! A job's calls that need the disc alone, each answered as the whole store answers it: by the step of the state that it stands for.
+#![tactic(auto)]
+
+mod telling;
+
+pub use telling::tell;
