@@ -31,7 +31,7 @@ use Rattle.g_state.specs.Up.{DumpFacts}
 use Rattle.g_state_steps.specs.Rooms.{held_in}
 use Rattle.g_state_steps.proofs.NeedsLemmas.{users_named}
 use Rattle.g_state_steps.proofs.UserLemmas.{called, named_any, users_go_by_change}
-use Rattle.g_state_calls.specs.Calls.{IsAsked}
+use Rattle.g_state_calls.specs.Calls.{IsKnown}
 use Rattle.g_state_calls.proofs.PartLemmas.{GoesBy, granted_tree}
 use Rattle.g_state_calls.proofs.StillLemmas.{still}
 
@@ -124,7 +124,7 @@ keys_kept users n u within number name numbered =
         (λ i. ((number ∙ sym (numbered n (get_or users n u) (slice_get-get_or users n u within))) i, (sym name ∙ name_at users n u within) i))
         ∙ sym (get_or-map key_of users n u (0, []) within)
 
-module _ (v : View) (reels : List Reel) (o : OnlineFacts) (dump : Option DumpFacts) (who : List ℕ) (asked : IsAsked v o dump) (u : UserRec) where
+module _ (v : View) (reels : List Reel) (o : OnlineFacts) (dump : Option DumpFacts) (who : List ℕ) (asked : IsKnown o dump) (u : UserRec) where
   abbrev c : Contents
   c = o.contents
 

@@ -36,7 +36,7 @@ use Rattle.g_state_steps.proofs.PlaceLemmas.{places_go_by_change}
 use Rattle.g_state_steps.proofs.RoomLemmas.{files_apart}
 use Rattle.g_state_steps.proofs.UnjamLemmas.{numbers_apart, unjam_is}
 use Rattle.g_state_steps.proofs.WaitingLemmas.{mapped_there}
-use Rattle.g_state_calls.specs.Calls.{CallsGoByStep, IsAsked}
+use Rattle.g_state_calls.specs.Calls.{CallsGoByStep, IsAsked, IsKnown}
 use Rattle.g_state_calls.proofs.AddLemmas.{add_parts, budget_parts}
 use Rattle.g_state_calls.proofs.FileLemmas.{of_stamp, offline_rec, offline_recs, online_recs}
 use Rattle.g_state_calls.proofs.PutLemmas.{put_parts}
@@ -54,7 +54,7 @@ tells v reels o dump who call until none =
     after_none : (b : Bool) (x : state.State) → b ≡ false → (if b then x else state_up v reels o dump) ≡ state_up v reels o dump
     after_none b x is = cond-false b x (state_up v reels o dump) is
 
-module _ (v : View) (reels : List Reel) (o : OnlineFacts) (dump : Option DumpFacts) (who : List ℕ) (asked : IsAsked v o dump) where
+module _ (v : View) (reels : List Reel) (o : OnlineFacts) (dump : Option DumpFacts) (who : List ℕ) (asked : IsKnown o dump) where
   abbrev c : Contents
   c = o.contents
 
@@ -88,7 +88,7 @@ module _ (v : View) (reels : List Reel) (o : OnlineFacts) (dump : Option DumpFac
   -- BROUGHT BACK
   module _ (call : StoreCall) (f : File) (bytes : Option (List ℕ)) (take : List ℕ) (room : ℕ) (there : Contains c.files f)
       (reads : version_read k.tree who call ≡ Some (full_of c.users f.rec)) (granted : fault_of k.tree who call ≡ None) (does : brings_now s k who call ≡ true)
-      (plan : IsUnjamPlan (need s k who call) o take room) where
+      (plan : IsUnjamPlan (need s k who call) o take room) (whole : IsAsked v o dump) where
     abbrev taken : List File
     taken = taken_off take c.files
 
@@ -118,7 +118,7 @@ module _ (v : View) (reels : List Reel) (o : OnlineFacts) (dump : Option DumpFac
     taken_numbered = numbers_apart taken (subst (λ (rs : List FileRec). AllPairs (λ (r q : FileRec). r.number < q.number) rs) (sym (offline_recs take c.files)) asked.records.numbers.rising)
 
     planned : places_of taken ≡ (state.taken_offline plan.until k).places
-    planned = unjam_is.places_are v o dump (need s k who call) take room (record { records = asked.records; long = asked.long; pins = asked.pins }) plan
+    planned = unjam_is.places_are v o dump (need s k who call) take room (record { records = whole.records; long = whole.long; pins = whole.pins }) plan
 
     back_places : places_of (brought f.rec.number bytes taken) ≡ state.with_online true f.rec.stamp (state.taken_offline plan.until k).places
     back_places =
@@ -200,28 +200,31 @@ module _ (v : View) (reels : List Reel) (o : OnlineFacts) (dump : Option DumpFac
       opened = refl;
     }
 
+known : (v : View) (o : OnlineFacts) (dump : Option DumpFacts) → IsAsked v o dump → IsKnown o dump
+known v o dump asked = record { records = asked.records; pinned = asked.pinned }
+
 pub calls_go_by_step : CallsGoByStep
 calls_go_by_step = record {
   tells = tells;
   brings = λ v reels o new dump who call f bytes take room asked there reads granted does plan behind.
-      state_is v reels o new dump who call plan.until v.text (back v reels o dump who asked call f bytes take room there reads granted does plan) [] asked behind
-      (brings_parts v reels o dump who asked call f bytes take room there reads granted does plan new);
+      state_is v reels o new dump who call plan.until v.text (back v reels o dump who (known v o dump asked) call f bytes take room there reads granted does plan asked) [] asked.pinned behind
+      (brings_parts v reels o dump who (known v o dump asked) call f bytes take room there reads granted does plan asked new);
   erases = λ v reels o new dump who path f until asked there named granted unjam behind.
-      state_is v reels o new dump who (Erase path) until v.text (without v reels o dump who asked path f until there named granted unjam) (f.rec.owner ∷ []) asked behind
+      state_is v reels o new dump who (Erase path) until v.text (without v reels o dump who asked path f until there named granted unjam) (f.rec.owner ∷ []) asked.pinned behind
       (erase_parts v reels o dump who asked path f until there named granted unjam new);
   renames = λ v reels o new dump who path to f r until asked there named is traps name granted unjam behind.
-      state_is v reels o new dump who (Rename path to) until v.text (record o.contents { files = set_rec r o.contents.files }) (r.owner ∷ []) asked behind
+      state_is v reels o new dump who (Rename path to) until v.text (record o.contents { files = set_rec r o.contents.files }) (r.owner ∷ []) asked.pinned behind
       (rename_parts v reels o dump who asked (input_name (held_in v o).tree who path) f r there named is new path to until refl traps name granted unjam);
   traps = λ v reels o new dump who call path user number f r until asked is_call there named name within is same traps granted unjam behind.
-      state_is v reels o new dump who call until v.text (record o.contents { files = set_rec r o.contents.files }) (r.owner ∷ []) asked behind
+      state_is v reels o new dump who call until v.text (record o.contents { files = set_rec r o.contents.files }) (r.owner ∷ []) asked.pinned behind
       (trap_parts v reels o dump who asked (input_name (held_in v o).tree who path) f r there named is new call path user number until is_call refl name within same traps granted unjam);
   adds = λ v reels o new dump who user space time money u until asked rules name row granted unjam behind.
-      state_is v reels o new dump who (NewUser user space time money) until v.text (record o.contents { users = o.contents.users ++ u ∷ [] }) (u.number ∷ []) asked behind
+      state_is v reels o new dump who (NewUser user space time money) until v.text (record o.contents { users = o.contents.users ++ u ∷ [] }) (u.number ∷ []) asked.pinned behind
       (add_parts v reels o dump who asked u new user space time money until rules name row granted unjam);
   budgets = λ v reels o new dump who user kind amount u until asked rules within named name row granted unjam behind.
-      state_is v reels o new dump who (Budget user kind amount) until v.text (record o.contents { users = slice_set o.contents.users u.number u }) [] asked behind
+      state_is v reels o new dump who (Budget user kind amount) until v.text (record o.contents { users = slice_set o.contents.users u.number u }) [] asked.pinned behind
       (budget_parts v reels o dump who asked u new user kind amount until rules within named name row granted unjam);
   puts = λ v reels o new dump who call full bytes f take room asked made is online granted plan behind.
-      state_is v reels o new dump who call plan.until (with_text o.contents.head.next_stamp bytes v.text) (with_version f take o.contents) (f.rec.owner ∷ []) asked behind
+      state_is v reels o new dump who call plan.until (with_text o.contents.head.next_stamp bytes v.text) (with_version f take o.contents) (f.rec.owner ∷ []) asked.pinned behind
       (put_parts v reels o dump who asked call full bytes f take room made is online granted plan new);
 }

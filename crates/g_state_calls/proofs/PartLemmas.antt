@@ -32,7 +32,7 @@ use Rattle.g_state.specs.Up.{DumpFacts}
 use Rattle.g_state_steps.specs.Rooms.{held_in}
 use Rattle.g_state_steps.proofs.NeedsLemmas.{users_named}
 use Rattle.g_state_steps.proofs.UserLemmas.{dumped_texts_stay, users_go_by_change}
-use Rattle.g_state_calls.specs.Calls.{IsAsked, IsBehind, marked}
+use Rattle.g_state_calls.specs.Calls.{IsBehind, marked}
 
 -- a call that the plain step grants
 pub granted_tree : (tree : Tree) (who : List ℕ) (call : StoreCall) → fault_of tree who call ≡ None → plain_tree tree who call ≡ tree_after tree who call
@@ -101,7 +101,7 @@ module _ (v : View) (reels : List Reel) (o new : OnlineFacts) (dump : Option Dum
     open_dump = open_dump;
   }
 
-  module _ (asked : IsAsked v o dump) (behind : IsBehind o e owners new) (goes : GoesBy) where
+  module _ (opened : is_some o.pins ≡ is_some dump) (behind : IsBehind o e owners new) (goes : GoesBy) where
     abbrev pinned : Bool
     pinned = is_some o.pins
 
@@ -134,7 +134,7 @@ module _ (v : View) (reels : List Reel) (o new : OnlineFacts) (dump : Option Dum
     intent_is : new.contents.head.intent ≡ kept_intent s.open_dump o.contents.head.intent
     intent_is =
         ap (λ (c : Contents). c.head.intent) behind.contents
-        ∙ intent_by pinned e s.open_dump (asked.pinned ∙ sym (some_mapped (open_of v o) dump))
+        ∙ intent_by pinned e s.open_dump (opened ∙ sym (some_mapped (open_of v o) dump))
         ∙ ap (λ (i : Option Intent). kept_intent s.open_dump i) goes.intent
 
     kept_is : names_of (users_not_in new.changed new.contents.users) ≡ state.without_all (changes k.tree who call) k.kept
@@ -161,7 +161,7 @@ module _ (v : View) (reels : List Reel) (o new : OnlineFacts) (dump : Option Dum
     pub state_is : state_up w reels new dump ≡ after_call s k who call until
     unfolding state_by
     state_is =
-        (λ i. state_by (behind.size i) (tree_is i) (places_is i) (last_is i) (intent_is i) (kept_is i) (goes.dumped i) (open_is dump (sym asked.pinned) i))
+        (λ i. state_by (behind.size i) (tree_is i) (places_is i) (last_is i) (intent_is i) (kept_is i) (goes.dumped i) (open_is dump (sym opened) i))
         ∙ sym (ap (λ (b : Bool). if b then record (commits s (record (state.taken_offline until k) {
           tree = plain_tree k.tree who call;
           places = places_after k.tree who call (state.taken_offline until k).places;

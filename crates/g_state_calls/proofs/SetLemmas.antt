@@ -35,7 +35,7 @@ use Rattle.g_state_steps.proofs.PlaceLemmas.{places_go_by_change}
 use Rattle.g_state_steps.proofs.UnjamLemmas.{numbers_apart}
 use Rattle.g_state_steps.proofs.WaitingLemmas.{mapped_there}
 use Rattle.g_tree.proofs.RuleLemmas.{one_of_key}
-use Rattle.g_state_calls.specs.Calls.{IsAsked, IsRecordOf, modes_by, trapped}
+use Rattle.g_state_calls.specs.Calls.{IsKnown, IsRecordOf, modes_by, trapped}
 use Rattle.g_state_calls.proofs.PartLemmas.{GoesBy, granted_tree, kept_without, touched_with}
 use Rattle.g_state_calls.proofs.StillLemmas.{still}
 
@@ -115,7 +115,7 @@ set_is r (q ∷ qs) rising old there same = by_order (cases_order q.number r.num
 row_by : FinMap text_cmp ℕ → List ℕ → ℕ → FileRow
 row_by traps bytes stamp = record { traps = traps; bytes = bytes; stamp = stamp }
 
-module _ (v : View) (reels : List Reel) (o : OnlineFacts) (dump : Option DumpFacts) (who : List ℕ) (asked : IsAsked v o dump)
+module _ (v : View) (reels : List Reel) (o : OnlineFacts) (dump : Option DumpFacts) (who : List ℕ) (asked : IsKnown o dump)
     (full : Full) (f : File) (r : FileRec) (there : Contains o.contents.files f) (named : full_of o.contents.users f.rec ≡ full) (is : IsRecordOf o f.rec r) where
   abbrev c : Contents
   c = o.contents

@@ -24,7 +24,12 @@ use Rattle.g_state.specs.Up.{DumpFacts}
 use Rattle.g_state_steps.specs.Rooms.{ArePins, HasLength, held_in}
 use Rattle.g_state_steps.specs.Unjam.{IsUnjamPlan}
 
--- what is known of a store where a call comes: of its records, texts and pins; and no dump is newer than the next version
+-- what is known of a store where a call comes: its records keep their rules, and versions are pinned just where a dump is open
+pub record IsKnown (o : OnlineFacts) (dump : Option DumpFacts) : Type 0 where
+  pub records : IsRecords o.contents.users (recs_in o.contents)
+  pub pinned : is_some o.pins ≡ is_some dump
+
+-- and, where it takes or brings bytes, of texts and pins; and no dump is newer than the next version
 pub record IsAsked (v : View) (o : OnlineFacts) (dump : Option DumpFacts) : Type 0 where
   pub records : IsRecords o.contents.users (recs_in o.contents)
   pub dated : StampsBelow o.contents.head.next_stamp (recs_in o.contents)
@@ -95,32 +100,32 @@ pub record CallsGoByStep : Type 0 where
       → IsBehind o (record o.contents { files = brought f.rec.number bytes (taken_off take o.contents.files) }) [] new
       → state_up v reels new dump ≡ after_call (state_up v reels o dump) (held_in v o) who call plan.until
   pub erases : (v : View) (reels : List Reel) (o new : OnlineFacts) (dump : Option DumpFacts) (who : List ℕ) (path : Path) (f : File) (until : ℕ)
-      → IsAsked v o dump → Contains o.contents.files f → full_of o.contents.users f.rec ≡ input_name (held_in v o).tree who path
+      → IsKnown o dump → Contains o.contents.files f → full_of o.contents.users f.rec ≡ input_name (held_in v o).tree who path
       → fault_of (held_in v o).tree who (Erase path) ≡ None → IsUnjam (state_up v reels o dump) (held_in v o) who (Erase path) until
       → IsBehind o (record o.contents { files = without_file f.rec.number o.contents.files }) (f.rec.owner ∷ []) new
       → state_up v reels new dump ≡ after_call (state_up v reels o dump) (held_in v o) who (Erase path) until
   pub renames : (v : View) (reels : List Reel) (o new : OnlineFacts) (dump : Option DumpFacts) (who : List ℕ) (path : Path) (to : List ℕ) (f : File) (r : FileRec) (until : ℕ)
-      → IsAsked v o dump → Contains o.contents.files f → full_of o.contents.users f.rec ≡ input_name (held_in v o).tree who path → IsRecordOf o f.rec r
+      → IsKnown o dump → Contains o.contents.files f → full_of o.contents.users f.rec ≡ input_name (held_in v o).tree who path → IsRecordOf o f.rec r
       → r.traps ≡ f.rec.traps → full_of o.contents.users r ≡ record (input_name (held_in v o).tree who path) { local = to }
       → fault_of (held_in v o).tree who (Rename path to) ≡ None → IsUnjam (state_up v reels o dump) (held_in v o) who (Rename path to) until
       → IsBehind o (record o.contents { files = set_rec r o.contents.files }) (r.owner ∷ []) new
       → state_up v reels new dump ≡ after_call (state_up v reels o dump) (held_in v o) who (Rename path to) until
   -- TrapGo and TrapStop
   pub traps : (v : View) (reels : List Reel) (o new : OnlineFacts) (dump : Option DumpFacts) (who : List ℕ) (call : StoreCall) (path : Path) (user : List ℕ) (number : ℕ) (f : File) (r : FileRec) (until : ℕ)
-      → IsAsked v o dump → trapped call ≡ Some (path, user) → Contains o.contents.files f → full_of o.contents.users f.rec ≡ input_name (held_in v o).tree who path
+      → IsKnown o dump → trapped call ≡ Some (path, user) → Contains o.contents.files f → full_of o.contents.users f.rec ≡ input_name (held_in v o).tree who path
       → name_of o.contents.users number ≡ user → number < length o.contents.users → IsRecordOf o f.rec r → full_of o.contents.users r ≡ input_name (held_in v o).tree who path
       → r.traps ≡ with_modes f.rec.traps f.rec.owner number (modes_by call (modes_of f.rec.traps f.rec.owner number))
       → fault_of (held_in v o).tree who call ≡ None → IsUnjam (state_up v reels o dump) (held_in v o) who call until
       → IsBehind o (record o.contents { files = set_rec r o.contents.files }) (r.owner ∷ []) new
       → state_up v reels new dump ≡ after_call (state_up v reels o dump) (held_in v o) who call until
   pub adds : (v : View) (reels : List Reel) (o new : OnlineFacts) (dump : Option DumpFacts) (who user : List ℕ) (space time money : ℕ) (u : UserRec) (until : ℕ)
-      → IsAsked v o dump → IsRecords (o.contents.users ++ u ∷ []) (recs_in o.contents) → u.user ≡ user
+      → IsKnown o dump → IsRecords (o.contents.users ++ u ∷ []) (recs_in o.contents) → u.user ≡ user
       → user_row_of o.contents.users u ≡ record { superior = who; space = space; time = time; money = money }
       → fault_of (held_in v o).tree who (NewUser user space time money) ≡ None → IsUnjam (state_up v reels o dump) (held_in v o) who (NewUser user space time money) until
       → IsBehind o (record o.contents { users = o.contents.users ++ u ∷ [] }) (u.number ∷ []) new
       → state_up v reels new dump ≡ after_call (state_up v reels o dump) (held_in v o) who (NewUser user space time money) until
   pub budgets : (v : View) (reels : List Reel) (o new : OnlineFacts) (dump : Option DumpFacts) (who user : List ℕ) (kind : BudgetKind) (amount : ℕ) (u : UserRec) (until : ℕ)
-      → IsAsked v o dump → IsRecords (slice_set o.contents.users u.number u) (recs_in o.contents) → u.number < length o.contents.users
+      → IsKnown o dump → IsRecords (slice_set o.contents.users u.number u) (recs_in o.contents) → u.number < length o.contents.users
       → name_of o.contents.users u.number ≡ u.user → u.user ≡ user → user_row_of o.contents.users u ≡ with_budget (user_row (held_in v o).tree user) kind amount
       → fault_of (held_in v o).tree who (Budget user kind amount) ≡ None → IsUnjam (state_up v reels o dump) (held_in v o) who (Budget user kind amount) until
       → IsBehind o (record o.contents { users = slice_set o.contents.users u.number u }) [] new
