@@ -1,3 +1,6 @@
+pub mod AddLemmas
 pub mod CalmLemmas
+pub mod MarkLemmas
+pub mod RecordLemmas
 pub mod SeenLemmas
 pub mod TellLemmas

@@ -104,7 +104,7 @@ not_not true is = refl
 not_not false is = is
 
 module _ (users : List UserRec) (files : List FileRec) where
-  user_any : (user : List ℕ) (bytes other : FileRec → List ℕ) (next then_ : ℕ) → has_user (tree_of users files bytes next) user ≡ has_user (tree_of users files other then_) user
+  pub user_any : (user : List ℕ) (bytes other : FileRec → List ℕ) (next then_ : ℕ) → has_user (tree_of users files bytes next) user ≡ has_user (tree_of users files other then_) user
   user_any user bytes other next then_ = sym (user_there users files bytes next user) ∙ user_there users files other then_ user
 
   name_any : IsRecords users files → (who : List ℕ) (path : Path) (bytes other : FileRec → List ℕ) (next then_ : ℕ)
@@ -200,6 +200,12 @@ pub refuses_of : (o : OnlineFacts) (us : List UserRec) (fs : List FileRec) (next
 refuses_of o us fs next who call x users files stamp is =
     subst (λ (n : ℕ). RefusesAs o.contents.users (recs_in o.contents) n who call x) stamp
     (subst (λ (rs : List FileRec). RefusesAs o.contents.users rs next who call x) files (subst (λ (u : List UserRec). RefusesAs u fs next who call x) users is))
+
+-- and back
+pub refuses_on : (o : OnlineFacts) (us : List UserRec) (fs : List FileRec) (next : ℕ) (who : List ℕ) (call : StoreCall) (x : Option StoreFault) → us ≡ o.contents.users → fs ≡ recs_in o.contents
+    → RefusesAs o.contents.users (recs_in o.contents) next who call x → RefusesAs us fs next who call x
+refuses_on o us fs next who call x users files is =
+    subst (λ (u : List UserRec). RefusesAs u fs next who call x) (sym users) (subst (λ (rs : List FileRec). RefusesAs o.contents.users rs next who call x) (sym files) is)
 
 pub replies_of : (o : OnlineFacts) (us : List UserRec) (fs : List FileRec) (next : ℕ) (who : List ℕ) (call : StoreCall) (reply : StoreReply) → us ≡ o.contents.users → fs ≡ recs_in o.contents
     → RepliesAs us fs next who call reply → RepliesAs o.contents.users (recs_in o.contents) next who call reply

@@ -1,2 +1,4 @@
 pub mod Answering
+pub mod Applied
+pub mod Made
 pub mod Replies

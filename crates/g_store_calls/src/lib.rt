@@ -1,6 +1,8 @@
 //! A job's calls that need the disc alone, each answered as the whole store answers it: by the step of the state that it stands for.
 #![tactic(auto)]
 
+mod changing;
 mod telling;
 
+pub use changing::new_user;
 pub use telling::tell;

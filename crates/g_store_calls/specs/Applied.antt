@@ -1,0 +1,23 @@
+-- A CHANGE OF RECORDS, as a store answers it: by one commit, or that was stopped at one of its writes; or for want of memory, and all is as it was.
+use Rattle.std.specs.Prelude.{◌≡◌, ◌≢◌, ◌⊎◌, is_some, Result, Ok, Err, IfErr, OnOk}
+use Rattle.g_disc.specs.Disc.{Causes}
+use Rattle.g_plain.specs.declared.calls.StoreReply.{StoreReply}
+use Rattle.g_plain.specs.declared.faults.StoreFault.{StoreFault}
+use Rattle.g_plain.specs.declared.faults.StoreFault.TheVariants.{NoMemory, Stopped}
+use Rattle.g_contents.specs.Facts.{IsTied, OnlineFacts}
+use Rattle.g_online.specs.declared.change.Change.{Change}
+use Rattle.g_online.specs.Done.{HasChanged, HasStopped}
+
+pub record HasApplied (change : Change) (old new : OnlineFacts) (result : Result (Unit {0}) StoreFault) : Type 0 where
+  pub ok : OnOk result (HasChanged change old new)
+  pub stopped : result ≡ Err Stopped → HasStopped change old new
+  pub same : IfErr result (λ e. e ≢ Stopped → new ≡ old)
+  pub causes : Causes ⊥ (result ≡ Err Stopped) old.disc new.disc
+  pub tied : IsTied new
+  pub told : is_some new.disc.held ≡ is_some old.disc.held
+  pub only : IfErr result (λ e. (e ≡ Stopped) ⊎ (e ≡ NoMemory))
+
+-- the reply, where it was made
+abbrev pub answer_with : StoreReply → Result (Unit {0}) StoreFault → Result StoreReply StoreFault
+answer_with reply (Ok u) = Ok reply
+answer_with reply (Err fault) = Err fault

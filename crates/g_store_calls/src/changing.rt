@@ -1,0 +1,89 @@
+//! Calls that change records: each by one commit.
+ghost use Rattle.std.specs.Prelude.{◌≡◌, None, true, ℕ};
+ghost use Rattle.g_contents.specs.Facts.{IsTied};
+ghost use Rattle.g_online.specs.Allowed.{IsAllowed};
+ghost use Rattle.g_plain.specs.Rules.{IsWithinLimits};
+ghost use Rattle.g_store_calls.specs.Answering.{AnswersIn};
+ghost use Rattle.g_store_calls.specs.Applied.{HasApplied};
+ghost use Rattle.g_store_calls.specs.Made.{IsNewUser};
+ghost use Rattle.g_store_calls.specs.Replies.{RefusesAs};
+
+use g_disc::Disc;
+use g_entry::UserRec;
+use g_name::User;
+use g_online::{Change, Online, OnlineFault};
+use g_plain::{StoreCall, StoreFault, StoreReply};
+use g_tree::{Tree, refusal_of};
+use std::alloc::Global;
+
+/// The answer to `NewUser`: a user below the caller is made, by one commit. The refusals of the call by users
+/// (docs/DEFINITIONS.md), and `NoMemory`: nothing has changed. `Stopped`: a write of the disc failed; it holds what it held, or
+/// that with the new user, and takes no further call.
+pub fn new_user<D: Disc>(
+    alloc: Global,
+    online: &mut Online<D>,
+    who: &User,
+    user: &User,
+    space: u32,
+    time: u64,
+    money: u64,
+) -> Result<StoreReply, StoreFault>
+    requires live { online.old.live ≡ true }
+    requires tied { IsTied online.old }
+    requires limits { IsWithinLimits (StoreCall.NewUser user.now space time money) }
+    ensures { AnswersIn who.now (StoreCall.NewUser user.now space time money) online.old result online.new }
+{
+    let call = StoreCall::NewUser {
+        user: user.copy(),
+        space,
+        time,
+        money,
+    };
+    match refusal_of(online.tree(), online.head().next_stamp, who, &call) {
+        Some(fault) => return Err(fault),
+        None => {}
+    }
+    let made = made_user(online.tree(), who, user, space, time, money);
+    match applied(alloc, online, &Change::AddUser(made)) {
+        Ok(()) => Ok(StoreReply::Done),
+        Err(fault) => Err(fault),
+    }
+}
+
+/// The record of a user below the caller, behind the others. The call isn't refused.
+fn made_user(tree: &Tree, who: &User, user: &User, space: u32, time: u64, money: u64) -> UserRec
+    requires granted { (next : ℕ) × RefusesAs tree.now.users tree.now.files next who.now (StoreCall.NewUser user.now space time money) None }
+    requires limits { IsWithinLimits (StoreCall.NewUser user.now space time money) }
+    ensures { IsNewUser tree.now.users tree.now.files who.now user.now space time money result }
+{
+    // That the name is one is known from here.
+    let _word = user.as_slice();
+    let number = tree.users().len() as u8;
+    let Some(superior) = tree.user_number(who) else {
+        unreachable!()
+    };
+    UserRec {
+        number,
+        user: user.copy(),
+        superior,
+        space,
+        time,
+        money,
+    }
+}
+
+/// Makes the change. `Stopped`, `NoMemory`.
+fn applied<D: Disc>(
+    alloc: Global,
+    online: &mut Online<D>,
+    change: &Change,
+) -> Result<(), StoreFault>
+    requires allowed { IsAllowed change.now online.old }
+    ensures { HasApplied change.now online.old online.new result }
+{
+    match online.apply(alloc, change) {
+        Ok(()) => Ok(()),
+        Err(OnlineFault::Stopped) => Err(StoreFault::Stopped),
+        Err(_) => Err(StoreFault::NoMemory),
+    }
+}
