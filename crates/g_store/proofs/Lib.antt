@@ -1,5 +1,8 @@
 mod ArmLemmas
+mod EmptyLemmas
 mod EventLemmas
+mod FormatLemmas
+mod MakeLemmas
 mod MigrateLemmas
 mod MigratedLemmas
 mod MountLemmas

@@ -1,33 +1,25 @@
 -- A STORE OUT OF DEVICES, by FORMAT, START or RESTORE.
 use Rattle.std.specs.Prelude.{◌≡◌, ◌≢◌, ℕ, ◌↔◌, true, false, [], All, Option, Some, None, IfSome, Result, Ok, Err}
-use Rattle.g_base.specs.Counts.{Rose, RoseBy}
+use Rattle.g_base.specs.Counts.{Rose}
 use Rattle.g_disc.specs.Disc.{Causes, DiscState}
 use Rattle.g_tape.specs.Rack.{Rack, is_mounted, reel}
 use Rattle.g_tape.specs.Reads.{OnlyReads}
-use Rattle.g_dirs.specs.Pages.{nothing}
 use Rattle.g_shelf.specs.Last.{first_unmounted}
 use Rattle.g_plain.specs.declared.faults.StoreFault.{StoreFault}
-use Rattle.g_plain.specs.declared.faults.StoreFault.TheVariants.{NoMemory, DiscReadFault, TapeReadFault, Stopped, RackNotEmpty, RackNotMounted, MountFirst}
+use Rattle.g_plain.specs.declared.faults.StoreFault.TheVariants.{NoMemory, NoFilestore, DiscReadFault, TapeReadFault, Stopped, RackNotEmpty, RackNotMounted, MountFirst}
 use Rattle.g_step.specs.State.{State}
 use Rattle.g_step.specs.CallStep.{Outcome, Plain, DiscRead, TapeRead, Cut}
 use Rattle.g_step.specs.Rising.{FormatStep, StartStep, RestoreStep}
 use Rattle.g_contents.specs.Contents.{has}
-use Rattle.g_contents.specs.Facts.{Layout}
-use Rattle.g_contents.specs.Commits.{Commits}
+use Rattle.g_online.specs.Begun.{WroteFirst}
+use Rattle.g_online.specs.declared.fault.OnlineFault.{OnlineFault}
+use Rattle.g_online.specs.declared.fault.OnlineFault.TheVariants as online
 use Rattle.g_state.specs.Belong.{Belong}
 use Rattle.g_state.specs.Meaning.{told_reels}
 use Rattle.g_state.specs.Up.{StoreFacts}
 use Rattle.g_state.specs.Reading.{AllTold, DevicesStandFor, StandsForState}
 use Rattle.g_state.specs.Answers.{Belongs, IsStore, Told}
 use Rattle.g_store.specs.Refusing.{first_used}
-
--- so many commits, where nothing was remembered of the slots
-pub record WroteFirst (n : ℕ) (disc : DiscState) (new : StoreFacts) : Type 0 where
-  pub found : Layout
-  pub unknown : found.pages ≡ nothing
-  pub blocks : ℕ
-  pub commits : Commits n found new.online.layout blocks
-  pub writes : RoseBy blocks disc.writes new.online.disc.writes
 
 -- The store is made. Where the devices tell, and with what is given of them, its state is that of the step.
 pub record Makes {A : Type 0} (given : Type 0) (by : State → Outcome → Result A StoreFault → State → Type 0) (count : A → ℕ) (disc : DiscState) (rack : Rack) (reply : A) (new : StoreFacts) : Type 0 where
@@ -39,7 +31,7 @@ pub record Makes {A : Type 0} (given : Type 0) (by : State → Outcome → Resul
   pub causes : Causes ⊥ ⊥ disc new.online.disc
   pub tapes : OnlyReads rack new.rack
   pub tape_read : new.rack.read_faults ≡ rack.read_faults
-  pub wrote : WroteFirst (count reply) disc new
+  pub wrote : WroteFirst (count reply) disc new.online
   pub told : AllTold disc.held (told_reels rack) → Told new
   pub step : AllTold disc.held (told_reels rack) → given → (s : State) → DevicesStandFor disc.size disc.held (told_reels rack) s
       → (u : State) × StandsForState new u × by s Plain (Ok reply) u
@@ -74,6 +66,13 @@ pub record Refuses {A : Type 0} (given : Type 0) (by : State → Outcome → Res
   pub told : AllTold disc.held (told_reels rack) → AllTold disc'.held (told_reels rack')
   pub step : AllTold disc.held (told_reels rack) → given → (s : State) → DevicesStandFor disc.size disc.held (told_reels rack) s → StepsDown by s disc rack fault disc' rack'
   pub belongs : AllTold disc.held (told_reels rack) → Belong disc.held rack → Belong disc'.held rack'
+
+-- what a refusal of the filestore is to a store that is being made
+abbrev pub made_fault : OnlineFault → StoreFault
+made_fault online.ReadFault = DiscReadFault
+made_fault online.Stopped = Stopped
+made_fault online.NoFilestore = NoFilestore
+made_fault fault = NoMemory
 
 -- FORMAT asks nothing of the devices but that every reel is empty, and says which is the first that isn't, of every rack
 pub record Formats (disc : DiscState) (rack : Rack) (new : StoreFacts) : Type 0 where

@@ -74,6 +74,11 @@ abbrev pub capacity_of : Option Reel → ℕ
 capacity_of None = 0
 capacity_of (Some r) = r.capacity
 
+-- the reel is there and has a block
+abbrev pub is_used : Option Reel → Bool
+is_used None = false
+is_used (Some r) = nat_lt 0 r.len
+
 -- the serial of the first reel that has a block
 abbrev pub first_used : List Reel → Option ℕ
 first_used reels = option_map (λ r. r.serial) (find (λ r. nat_lt 0 r.len) reels)

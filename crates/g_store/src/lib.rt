@@ -2,8 +2,12 @@
 //! state that it stands for.
 #![tactic(auto)]
 
+mod making;
 mod migrating;
 mod mounting;
 mod store;
+#[cfg(test)]
+mod tests;
 
+pub use making::{Refused, format};
 pub use store::Store;

@@ -1,0 +1,115 @@
+//! A store is made of a disc and a rack of reels.
+ghost use Rattle.std.specs.Prelude.{◌≡◌, ◌<◌, ◌≤◌, IfErr, IfOk};
+ghost use Rattle.g_store.specs.Making.{Formats, RefusesFormat, made_fault};
+ghost use Rattle.g_tape.specs.Rack.{reel};
+ghost use Rattle.g_store.specs.Refusing.{first_used, is_used};
+
+use crate::store::Store;
+use g_disc::Disc;
+use g_entry::Head;
+use g_online::{Online, OnlineFault};
+use g_plain::StoreFault;
+use g_tape::Tapes;
+use g_tree::Tree;
+use std::alloc::Global;
+
+/// Why no store was made, and both devices as they are then.
+#[derive(Drop)]
+pub struct Refused<D: Disc, T: Tapes> {
+    pub fault: StoreFault,
+    pub disc: D,
+    pub tapes: T,
+}
+
+/// Makes a new filestore on the disc, whatever it held, by one commit: `:MASTER` and `:MACROS`, and no file
+/// (docs/DEFINITIONS.md). Every reel has to be empty. A refusal hands both devices back:
+///
+/// - `RackNotEmpty`: the first reel that has a block. With this, and with `NoMemory`, the disc is as it was.
+/// - `DiscReadFault`: the gate couldn't be read; the disc is as it was. `Stopped`: a write failed, and the disc stands for what
+///   it stood for, or for the new filestore.
+pub fn format<D: Disc, T: Tapes>(
+    alloc: Global,
+    disc: D,
+    tapes: T,
+) -> Result<Store<D, T>, Refused<D, T>>
+    requires low { 2177 < (D.state disc).size }
+    requires high { (D.state disc).size ≤ 1_048_576 }
+    ensures ok { IfOk result (λ store. Formats (D.state disc) (T.rack tapes) store) }
+    ensures refused { IfErr result (λ e. RefusesFormat (D.state disc) (T.rack tapes) e.fault (D.state e.disc) (T.rack e.tapes)) }
+{
+    match first_used(&tapes) {
+        Some(serial) => {
+            return Err(Refused {
+                fault: StoreFault::RackNotEmpty(serial),
+                disc,
+                tapes,
+            });
+        }
+        None => {}
+    }
+    let tree = match Tree::new(alloc) {
+        Ok(tree) => tree,
+        Err(_) => {
+            return Err(Refused {
+                fault: StoreFault::NoMemory,
+                disc,
+                tapes,
+            });
+        }
+    };
+    let _users = tree.users();
+    let head = Head {
+        next_stamp: 1,
+        last_dump: 0,
+        intent: None,
+    };
+    match Online::fresh(alloc, disc, tree, head) {
+        Ok(online) => Ok(Store {
+            online,
+            tapes,
+            dump: None,
+            spent: false,
+        }),
+        Err((fault, disc)) => Err(Refused {
+            fault: refusal(fault),
+            disc,
+            tapes,
+        }),
+    }
+}
+
+/// The serial of the first reel that has a block, if there is one.
+fn first_used<T: Tapes>(tapes: &T) -> Option<u32>
+    ensures { result ≡ first_used (T.rack tapes.now).reels }
+{
+    for i in 0..tapes.reels() {
+        let serial = tapes.serial(i);
+        if has_block(tapes, serial) {
+            return Some(serial);
+        }
+    }
+    None
+}
+
+/// Whether the reel has a block.
+fn has_block<T: Tapes>(tapes: &T, serial: u32) -> bool
+    ensures { result ≡ is_used (reel serial (T.rack tapes.now).reels) }
+{
+    match tapes.length(serial) {
+        Ok(len) => 0 < len,
+        Err(_) => false,
+    }
+}
+
+/// What a refusal of the filestore is to a store that is being made.
+fn refusal(fault: OnlineFault) -> StoreFault
+    ensures { result ≡ made_fault fault }
+{
+    match fault {
+        OnlineFault::ReadFault => StoreFault::DiscReadFault,
+        OnlineFault::Stopped => StoreFault::Stopped,
+        OnlineFault::NoFilestore => StoreFault::NoFilestore,
+        OnlineFault::DiscFull { .. } => StoreFault::NoMemory,
+        OnlineFault::NoMemory => StoreFault::NoMemory,
+    }
+}
