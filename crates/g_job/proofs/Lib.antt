@@ -9,6 +9,7 @@ pub mod KeepLemmas
 pub mod LineLemmas
 pub mod RunBounds
 pub mod RunLemmas
+pub mod SayLemmas
 pub mod StepLemmas
 pub mod UnitLemmas
 pub mod VerbBounds

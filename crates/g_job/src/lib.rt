@@ -6,6 +6,8 @@ mod again;
 mod asking;
 mod job;
 mod laws;
+mod listing;
+mod say;
 mod stop;
 mod turn;
 mod work;

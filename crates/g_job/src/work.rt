@@ -11,21 +11,21 @@ use std::marker::Model;
 /// What commands change, and what the present turn has made so far. A job owns one for good.
 #[derive(Debug, Drop)]
 pub struct Work {
-    levels: Levels,
-    outcome: Outcome,
-    program: Option<Program>,
+    pub(crate) levels: Levels,
+    pub(crate) outcome: Outcome,
+    pub(crate) program: Option<Program>,
     /// The program's last run ended with a halt.
-    halted: bool,
+    pub(crate) halted: bool,
     /// A run of the program isn't over; and whether a WHENEVER began it.
-    running: Option<bool>,
-    units: Units,
-    text: Text,
-    orders: u32,
-    blocks: u32,
+    pub(crate) running: Option<bool>,
+    pub(crate) units: Units,
+    pub(crate) text: Text,
+    pub(crate) orders: u32,
+    pub(crate) blocks: u32,
     /// The turn's command set the outcome.
-    sets: bool,
-    again: Option<Again>,
-    stop: Option<Stop>,
+    pub(crate) sets: bool,
+    pub(crate) again: Option<Again>,
+    pub(crate) stop: Option<Stop>,
 }
 
 impl Model for Work {
