@@ -7,11 +7,15 @@ pub mod HeaderLemmas
 pub mod HonestLemmas
 pub mod KeepLemmas
 pub mod LineLemmas
+pub mod ReleaseLemmas
 pub mod RunBounds
 pub mod RunLemmas
 pub mod SayLemmas
 pub mod StepLemmas
 pub mod UnitLemmas
+pub mod UnitsLemmas
+pub mod UseLemmas
 pub mod VerbBounds
 pub mod VerbLemmas
 pub mod WellLemmas
+pub mod WellThen

@@ -5,7 +5,7 @@ use Rattle.g_job.specs.Actions.{act}
 use Rattle.g_job.specs.Asking.{append, append_told, by_answer, one_call, put, put_told}
 use Rattle.g_job.specs.Bounds.{AlwaysGives, MayAnswer}
 use Rattle.g_job.specs.Macros.{first_looked, look_up, macro_called, macro_path, second_looked}
-use Rattle.g_job.specs.Releases.{delete, deleted, dropped, end_job, finished, given_back, release, release_all, release_each, without_readers}
+use Rattle.g_job.specs.Releases.{delete, deleted, dropped, end_job, finished, given_back, release, release_all, release_each, release_one, without_readers}
 use Rattle.g_job.specs.Say.{done, in_error, with_bytes, with_levels, with_units}
 use Rattle.g_job.specs.State.{Work}
 use Rattle.g_job.specs.Uses.{ToAppend, ToAssign, ToList, ToLoad, ToPut, Use, assign, fetch, fetched, loaded_by, output_kept, use_bytes, with_program}
@@ -161,15 +161,18 @@ module _ (room : ℕ) where
       (given_back_gives most (output_of w.desk.units u) (with_units (released w.desk.units u) w) (reader_good most (is_reader u.kind) u w g))
       (error_good room 64 (most + 128) errors.NotAssigned w (in_more most (most + 128) w (omega arith) g))
 
+  one_gives : (place : ℕ) (output : Option (Path × List ℕ)) (most : ℕ) (w : Work) → In most w → AlwaysGives (In (most + 128)) (release_one room place output w)
+  one_gives place None most w g = in_more most (most + 128) w (omega arith) g
+  one_gives place (Some output) most w g =
+      put_gives most false output.0 output.1 (with_units (with_writer w.desk.units place None) w) (output_good most place None w g)
+
   each_gives : (place : ℕ) (outputs : List (Option (Path × List ℕ))) (most : ℕ) (w : Work) → In most w
       → AlwaysGives (In (most + 128 * length outputs)) (release_each room place outputs w)
   each_gives place [] most w g = in_more most (most + 128 * 0) w (omega arith) g
-  each_gives place (None ∷ outputs) most w g =
-      more_gives (most + 128 * length outputs) (most + 128 * suc (length outputs)) (release_each room (place + 1) outputs w) (omega arith) (each_gives (place + 1) outputs most w g)
-  each_gives place (Some output ∷ outputs) most w g =
+  each_gives place (output ∷ outputs) most w g =
       then_gives (In (most + 128)) (In (most + 128 * suc (length outputs)))
-      (put room false output.0 output.1 (with_units (with_writer w.desk.units place None) w)) (release_each room (place + 1) outputs)
-      (put_gives most false output.0 output.1 (with_units (with_writer w.desk.units place None) w) (output_good most place None w g))
+      (release_one room place output w) (release_each room (place + 1) outputs)
+      (one_gives place output most w g)
       (λ v h over. in_more (most + 128) (most + 128 * suc (length outputs)) v (omega arith) h)
       (λ v h on. more_gives (most + 128 + 128 * length outputs) (most + 128 * suc (length outputs)) (release_each room (place + 1) outputs v) (omega arith)
       (each_gives (place + 1) outputs (most + 128) v h))

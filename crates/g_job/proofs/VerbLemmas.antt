@@ -4,7 +4,7 @@ use Rattle.g_job.specs.Actions.{act}
 use Rattle.g_job.specs.Asking.{append, append_told, by_answer, one_call, put, put_told}
 use Rattle.g_job.specs.Causes.{GoesOn, IsHonest, IsOther}
 use Rattle.g_job.specs.Macros.{first_looked, look_up, macro_called, second_looked}
-use Rattle.g_job.specs.Releases.{delete, deleted, dropped, end_job, finished, given_back, release, release_all, release_each, without_readers}
+use Rattle.g_job.specs.Releases.{delete, deleted, dropped, end_job, finished, given_back, release, release_all, release_each, release_one, without_readers}
 use Rattle.g_job.specs.Say.{done, in_error, with_bytes, with_levels, with_units}
 use Rattle.g_job.specs.State.{Work}
 use Rattle.g_job.specs.Uses.{ToAppend, ToAssign, ToList, ToLoad, ToPut, Use, assign, fetch, fetched, loaded_by, output_kept, use_bytes, with_program}
@@ -116,12 +116,15 @@ release_honest room u w goes =
     if_honest (is_assigned w.desk.units u) (given_back room (output_of w.desk.units u) (with_units (released w.desk.units u) w)) (Gives (in_error room errors.NotAssigned w))
     (given_back_honest room (output_of w.desk.units u) (with_units (released w.desk.units u) w) goes) (error_goes room errors.NotAssigned w goes)
 
+one_honest : (room place : ℕ) (output : Option (Path × List ℕ)) (w : Work) → GoesOn w.stop → IsHonest (release_one room place output w)
+one_honest room place None w goes = goes
+one_honest room place (Some output) w goes =
+    put_honest room false output.0 output.1 (with_units (with_writer w.desk.units place None) w) goes
+
 each_honest : (room place : ℕ) (outputs : List (Option (Path × List ℕ))) (w : Work) → GoesOn w.stop → IsHonest (release_each room place outputs w)
 each_honest room place [] w goes = goes
-each_honest room place (None ∷ outputs) w goes = each_honest room (place + 1) outputs w goes
-each_honest room place (Some output ∷ outputs) w goes =
-    honest_then (put room false output.0 output.1 (with_units (with_writer w.desk.units place None) w)) (release_each room (place + 1) outputs)
-    (put_honest room false output.0 output.1 (with_units (with_writer w.desk.units place None) w) goes)
+each_honest room place (output ∷ outputs) w goes =
+    honest_then (release_one room place output w) (release_each room (place + 1) outputs) (one_honest room place output w goes)
     (λ v on. each_honest room (place + 1) outputs v (not_over_goes v on))
 
 all_honest : (room : ℕ) (w : Work) → GoesOn w.stop → IsHonest (release_all room w)

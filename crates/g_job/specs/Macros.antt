@@ -30,11 +30,13 @@ module _ (room : ℕ) where
   second_looked params w (Err fault.NoFile) = Gives (in_error room errors.UnknownVerb w)
   second_looked params w (Err other) = Gives (refused room other w)
 
+  abbrev pub look_up_shared : List ℕ → List (List ℕ) → Work → Asks Work
+  look_up_shared name params w = Call (call.Fetch (macro_path (Some (codes "MACROS")) name) mode.Execute) (second_looked params w)
+
   abbrev pub first_looked : List ℕ → List (List ℕ) → Work → Answer → Asks Work
   first_looked name params w (Ok (Bytes full bytes)) = Gives (macro_called params bytes (with_bytes (length bytes) w))
   first_looked name params w (Ok reply) = Gives w
-  first_looked name params w (Err fault.NoFile) =
-      Call (call.Fetch (macro_path (Some (codes "MACROS")) name) mode.Execute) (second_looked params w)
+  first_looked name params w (Err fault.NoFile) = look_up_shared name params w
   first_looked name params w (Err other) = Gives (refused room other w)
 
   abbrev pub look_up : List ℕ → List (List ℕ) → Work → Asks Work

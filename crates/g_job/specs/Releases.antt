@@ -33,13 +33,16 @@ module _ (room : ℕ) where
       if is_assigned w.desk.units u then given_back (output_of w.desk.units u) (with_units (released w.desk.units u) w)
       else Gives (in_error room errors.NotAssigned w)
 
+  -- one place: where a printer or a punch is assigned there, it is released, and its output is put
+  abbrev pub release_one : ℕ → Option (Path × List ℕ) → Work → Asks Work
+  release_one place None w = Gives w
+  release_one place (Some output) w = put room false output.0 output.1 (with_units (with_writer w.desk.units place None) w)
+
   -- the outputs from a place on are put, each behind the release of its unit, in order; where one is refused its error is
   -- printed, and the later ones follow
   abbrev pub release_each : ℕ → List (Option (Path × List ℕ)) → Work → Asks Work
   release_each place [] w = Gives w
-  release_each place (None ∷ outputs) w = release_each (place + 1) outputs w
-  release_each place (Some output ∷ outputs) w =
-      and_then is_over (put room false output.0 output.1 (with_units (with_writer w.desk.units place None) w)) (release_each (place + 1) outputs)
+  release_each place (output ∷ outputs) w = and_then is_over (release_one place output w) (release_each (place + 1) outputs)
 
   -- ALL UNITS: the readers, the printers, the punches, each by their numbers
   abbrev pub release_all : Work → Asks Work
@@ -53,6 +56,9 @@ module _ (room : ℕ) where
   abbrev pub deleted : Work → Asks Work
   deleted w = Gives (say room (job_line line.Deleted) w)
 
+  abbrev pub drop_program : Work → Asks Work
+  drop_program w = and_then is_over (release_all (done (dropped w))) deleted
+
   abbrev pub delete : Option Machine → Work → Asks Work
   delete None w = Gives (in_error room errors.NoProgram w)
-  delete (Some p) w = and_then is_over (release_all (done (dropped w))) deleted
+  delete (Some p) w = drop_program w

@@ -1,5 +1,5 @@
 -- What a file's bytes are fetched for: COPY, APPEND, LISTFILE, LOAD, and ASSIGN of a card reader.
-use Rattle.std.specs.Prelude.{Err, List, None, Ok, Option, Some, [], false, if◌then◌else◌, length, true, ℕ}
+use Rattle.std.specs.Prelude.{Err, List, None, Ok, Option, Some, [], false, if◌then◌else◌, length, true, ℕ, ◌≡◌}
 use Rattle.g_job.specs.Asking.{append, put}
 use Rattle.g_job.specs.Say.{done, in_error, refused, say, say_all, with_bytes, with_units}
 use Rattle.g_job.specs.State.{Work}
@@ -12,7 +12,7 @@ use Rattle.g_monitor.specs.declared.errors.CommandError.TheVariants as errors
 use Rattle.g_monitor.specs.declared.job_lines.JobLine.TheVariants as line
 use Rattle.g_name.specs.declared.full.Full.{Full}
 use Rattle.g_name.specs.declared.path.Path.{Path}
-use Rattle.g_peri.specs.Held.{is_assigned, is_reader, place_of, with_reader, with_writer}
+use Rattle.g_peri.specs.Held.{Held, is_assigned, is_reader, place_of, with_reader, with_writer}
 use Rattle.g_peri.specs.declared.unit.Unit as unit
 use Rattle.g_plain.specs.Asks.{Answer, Asks, Call, Gives}
 use Rattle.g_plain.specs.declared.calls.StoreCall.TheVariants as call
@@ -26,6 +26,11 @@ pub data Use : Type 0 where
   ToList : Use
   ToLoad : Use
   ToAssign : unit.Unit → Use
+
+-- a file is put into a unit only where that is a card reader and isn't assigned
+abbrev pub IsFree : Use → Held → Type 0
+IsFree (ToAssign u) held = (is_reader u.kind ≡ true) × (is_assigned held u ≡ false)
+IsFree use_for held = Unit {0}
 
 -- a program in the place of that before
 abbrev pub with_program : Machine → Work → Work

@@ -4,12 +4,16 @@
 
 mod again;
 mod asking;
+mod fetching;
 mod job;
 mod laws;
 mod listing;
+mod macros;
+mod releases;
 mod say;
 mod stop;
 mod turn;
+mod uses;
 mod work;
 
 pub use job::Job;

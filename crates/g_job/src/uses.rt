@@ -1,0 +1,18 @@
+//! What a file's bytes are fetched for.
+use g_name::Path;
+use g_peri::Unit;
+
+/// What a file's bytes are fetched for.
+#[derive(Debug, Drop)]
+pub enum Use {
+    /// They are put for this path.
+    Put(Path),
+    /// They are put behind those of this file.
+    Append(Path),
+    /// Their lines are said.
+    List,
+    /// They are a program.
+    Load,
+    /// Their lines are put into a card reader, which is assigned to this file.
+    Assign { unit: Unit, file: Path },
+}
