@@ -7,6 +7,7 @@ pub mod HeaderLemmas
 pub mod HonestLemmas
 pub mod KeepLemmas
 pub mod LineLemmas
+pub mod OrderLemmas
 pub mod ReleaseLemmas
 pub mod RunBounds
 pub mod RunLemmas

@@ -1,5 +1,5 @@
 -- WHAT EACH VERB DOES: the calls that it makes, and what it makes of the answers.
-use Rattle.std.specs.Prelude.{Bool, List, [], true, unwrap_or, ℕ}
+use Rattle.std.specs.Prelude.{Bool, List, [], false, true, unwrap_or, ℕ}
 use Rattle.g_job.specs.Asking.{one_call, put}
 use Rattle.g_job.specs.Macros.{look_up}
 use Rattle.g_job.specs.Releases.{delete, end_job, release}
@@ -10,15 +10,33 @@ use Rattle.g_job.specs.Uses.{ToAppend, ToList, ToLoad, ToPut, assign, fetch}
 use Rattle.g_macro.specs.Levels.{document_of, document_passed, with_param}
 use Rattle.g_monitor.specs.JobLines.{marked}
 use Rattle.g_monitor.specs.declared.job_lines.Mark.TheVariants as mark
+use Rattle.g_name.specs.declared.path.Path.{Path}
 use Rattle.g_plain.specs.Asks.{Asks, Gives}
 use Rattle.g_plain.specs.declared.calls.StoreCall.TheVariants as call
 use Rattle.g_trap.specs.declared.mode_set.Mode.TheVariants as mode
 use Rattle.g_verbs.specs.declared.action.Action.{Action}
 use Rattle.g_verbs.specs.declared.action.Action.TheVariants as action
 
+-- INPUT: the lines up to `////` are passed over, and put
+abbrev pub input : ℕ → Path → Work → Asks Work
+input room file w = put room true file (document_of w.desk.levels) (with_levels (document_passed w.desk.levels) w)
+
+-- the verbs of one call that hands over no bytes, whose reply is said
+abbrev pub is_one_call : Action → Bool
+is_one_call (action.Erase file) = true
+is_one_call (action.Rename file to) = true
+is_one_call (action.ListDir user) = true
+is_one_call (action.TrapGo file user modes) = true
+is_one_call (action.TrapStop file user modes) = true
+is_one_call (action.TrapCheck file user) = true
+is_one_call (action.NewUser user space time money) = true
+is_one_call (action.Budget user kind amount) = true
+is_one_call (action.Retrieve file) = true
+is_one_call other = false
+
 -- `who` is the job's user, and `by` tells that a WHENEVER does it
 abbrev pub act : ℕ → List ℕ → Bool → Action → Work → Asks Work
-act room who by (action.Input file) w = put room true file (document_of w.desk.levels) (with_levels (document_passed w.desk.levels) w)
+act room who by (action.Input file) w = input room file w
 act room who by (action.Copy from to) w = fetch room from mode.Read (ToPut to) w
 act room who by (action.Append from to) w = fetch room from mode.Read (ToAppend to) w
 act room who by (action.Erase file) w = one_call room (call.Erase file) w

@@ -18,9 +18,11 @@ abbrev pub behind_order : Ordered → Work → Work
 behind_order o w = record w { orders = w.orders + 1; desk = record w.desk { units = o.units; program = Some o.machine } }
 
 -- a run is over: its command comes out, with what the program came to, and the line of that is said
+abbrev pub run_ended : EventNote → Bool → Work → Work
+run_ended event halted w = comes_out false event (record w { desk = record w.desk { running = None; halted = halted } })
+
 abbrev pub run_over : ℕ → EventNote → Bool → List ℕ → Work → Work
-run_over room event halted text w =
-    say room text (comes_out false event (record w { desk = record w.desk { running = None; halted = halted } }))
+run_over room event halted text w = say room text (run_ended event halted w)
 
 abbrev pub without_program : Work → Work
 without_program w = record w { desk = record w.desk { program = None } }
@@ -41,6 +43,11 @@ by_event room (came.Illegal word at) w = Ends (run_over room note.Failed false (
 abbrev pub one_order : ℕ → Machine → Work → Order
 one_order room p w = by_event room (order_with w.desk.units p).event (behind_order (order_with w.desk.units p) w)
 
+-- the next order of the program; without one the run is over
+abbrev pub next_order : ℕ → Option Machine → Work → Order
+next_order room None w = Ends w
+next_order room (Some p) w = one_order room p w
+
 -- what comes behind an order: nothing where the run or the work is over
 abbrev pub behind_event : (Work → Work) → Order → Work
 behind_event more (Ends w) = w
@@ -59,6 +66,10 @@ run_orders room (suc left) w = order_of room (run_orders room left) w.desk.progr
 -- a turn runs 64 orders, those of its line and of a WHENEVER's command together
 abbrev pub goes_on : ℕ → Work → Work
 goes_on room w = run_orders room (64 - w.orders) w
+
+-- a run begins, by a WHENEVER or not
+abbrev pub running_again : Bool → Work → Work
+running_again by w = record w { desk = record w.desk { running = Some by; halted = false } }
 
 abbrev pub running_by : Bool → Machine → Work → Work
 running_by by p w = record w { desk = record w.desk { program = Some p; running = Some by; halted = false } }

@@ -2,6 +2,7 @@
 //! store and makes of the answers.
 #![tactic(auto)]
 
+mod acts;
 mod again;
 mod asking;
 mod fetching;
@@ -10,6 +11,7 @@ mod laws;
 mod listing;
 mod macros;
 mod releases;
+mod runs;
 mod say;
 mod stop;
 mod turn;
