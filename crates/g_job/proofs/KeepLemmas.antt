@@ -46,7 +46,7 @@ last_fits monitor last file short =
     let both : length (monitor ++ last) ≡ length monitor + length last = length-append monitor last in omega (arith, both, file, short)
 
 -- the file of a job that takes turns
-file_of : (j : JobState) → IsJob j → j.over ≡ false → length j.monitor ≤ 1048576
+pub file_of : (j : JobState) → IsJob j → j.over ≡ false → length j.monitor ≤ 1048576
 file_of j rules going = subst (λ (over : Bool). length j.monitor ≤ most_bytes over) going rules.file
 
 module _ (j : JobState) (w : Work) (charge : Charge) (rules : IsJob j) (going : j.over ≡ false) (within : IsCharge charge) (fits : length w.text ≤ room_of j) where

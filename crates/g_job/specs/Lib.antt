@@ -5,10 +5,14 @@ pub mod Begun
 pub mod Bounds
 pub mod Causes
 pub mod Commands
+pub mod Ending
 pub mod Ends
+pub mod Going
 pub mod JobValue
 pub mod Lines
 pub mod Macros
+pub mod Making
+pub mod Met
 pub mod Releases
 pub mod Rules
 pub mod Runs

@@ -1,19 +1,31 @@
 //! A job between its turns.
-ghost use Rattle.std.specs.Prelude.{◌≡◌, ◌≤◌, IfOk, length};
-ghost use Rattle.g_job.specs.Begun.{job_begun, standing_of};
+ghost use Rattle.std.specs.Prelude.{◌≡◌, ◌≤◌, ◌↔◌, ℕ, List, Ok, false, true, IfOk, OnErr, length};
+ghost use Rattle.g_budget.specs.Tariff.{IsTariff};
+ghost use Rattle.g_job.specs.Begun.{job_begun, room_of, standing_of};
+ghost use Rattle.g_job.specs.Bounds.{IsWithin};
+ghost use Rattle.g_job.specs.Causes.{CauseOf, last_answer};
+ghost use Rattle.g_job.specs.Ends.{IsTurn};
 ghost use Rattle.g_job.specs.Rules.{most_bytes};
+ghost use Rattle.g_job.specs.Spends.{Spends, ToldAsBefore};
+ghost use Rattle.g_job.specs.State.{Work};
+ghost use Rattle.g_job.specs.Turns.{turn_work};
 ghost use Rattle.g_lines.specs.Lines.{ended};
 ghost use Rattle.g_monitor.specs.JobLines.{header};
+ghost use Rattle.g_plain.specs.Asks.{Answer, RanInPart};
+ghost use Rattle.g_plain.specs.RanBy.{RanBy};
 ghost use Rattle.g_sched.specs.Rule.{IsInRange};
 
 use crate::again::Again;
+use crate::turn::Turn;
 use crate::work::Work;
 use g_base::NoMemory;
+use g_budget::{Charge, Tariff, Usage};
 use g_lines::Texts;
 use g_macro::Levels;
 use g_monitor::push_header;
 use g_name::{Local, Text, User};
 use g_peri::Units;
+use g_plain::Filestore;
 use g_sched::Standing;
 use std::alloc::Global;
 use std::marker::Model;
@@ -22,20 +34,20 @@ use std::marker::Model;
 /// monitoring file. Contracts see a `JobState` (`docs/DEFINITIONS.md`, "A job and its turn").
 #[derive(Debug, Drop)]
 pub struct Job {
-    number: u64,
-    name: Local,
-    user: User,
-    allowance: u64,
-    money: u64,
-    used: u64,
-    used_money: u64,
-    turns: u64,
-    work: Work,
+    pub(crate) number: u64,
+    pub(crate) name: Local,
+    pub(crate) user: User,
+    pub(crate) allowance: u64,
+    pub(crate) money: u64,
+    pub(crate) used: u64,
+    pub(crate) used_money: u64,
+    pub(crate) turns: u64,
+    pub(crate) work: Work,
     /// What the next turn goes on with, where the last one waited.
-    again: Option<Again>,
-    wants: Option<u32>,
-    monitor: Text,
-    over: bool,
+    pub(crate) again: Option<Again>,
+    pub(crate) wants: Option<u32>,
+    pub(crate) monitor: Text,
+    pub(crate) over: bool,
 }
 
 impl Model for Job {
@@ -91,6 +103,48 @@ impl Job {
             monitor,
             over: false,
         })
+    }
+
+    /// Takes a turn: goes on with what waited, or with a run of the program that isn't over, or takes the next line; does its
+    /// command and the WHENEVER behind it; and charges all that by the tariff, each kind cut to what the job has left.
+    ///
+    /// Where memory is wanting, a front of the turn's calls was made, and nothing is known of the job any more: it takes no
+    /// further turn.
+    pub fn turn<S: Filestore, F: Fn(&Usage) -> Charge>(
+        &mut self,
+        alloc: Global,
+        store: &mut S,
+        tariff: &Tariff<F>,
+    ) -> Result<Turn, NoMemory>
+        requires spent { S.is_spent store.old ≡ false }
+        requires open { self.old.over ≡ false }
+        requires tariff { IsTariff F.Fn tariff.now }
+
+        // Its calls and their answers; why its work is over, and what it used; and how it ends.
+        ensures ok { IfOk result (λ turn. (told : List Answer) × (work : Work)
+            × RanBy S.answers self.old.user store.old (turn_work self.old) told work store.new
+            × CauseOf (last_answer told) work.stop
+            × IsWithin (room_of self.old) work
+            × IsTurn F.Fn tariff.now self.old work turn self.new) }
+
+        // Without memory a front of these calls was answered.
+        ensures err { OnErr result
+            (RanInPart S.answers self.old.user store.old (turn_work self.old) store.new) }
+
+        // The reel that it waits for isn't mounted, and it mounts none.
+        ensures waits { (s : ℕ) → result ≡ Ok (Turn.Wants s) → S.can_wait store.new s ≡ true }
+        ensures same_waits { (s : ℕ) → S.can_wait store.new s ≡ S.can_wait store.old s }
+        ensures stopped { IfOk result (λ turn. (S.is_spent store.new ≡ true) ↔ (turn ≡ Turn.Broken)) }
+        ensures spends { IfOk result (λ turn. Spends self.old turn self.new) }
+        ensures waited { (s : ℕ) → result ≡ Ok (Turn.Wants s) → ToldAsBefore self.old self.new }
+    {
+        match self.make(alloc, store) {
+            Ok(made) => match self.end(alloc, tariff, made) {
+                Ok(turn) => Ok(turn),
+                Err(NoMemory) => Err(NoMemory),
+            },
+            Err(NoMemory) => Err(NoMemory),
+        }
     }
 
     /// The monitoring file so far: at most 1,048,576 bytes, and behind them one last line of at most 23, once the job has

@@ -1,0 +1,198 @@
+-- The end of a turn in the code: the job's rules, and that it is the end that is defined.
+use Rattle.std.proofs.Common.{◌≡◌, ℕ, ◌+◌, ◌-◌, ◌<◌, ◌≤◌, min, Bool, true, false, List, [], ◌++◌, length, length-append, Option, Some, None, IfSome, is_some, option_map, refl, sym, ap, ◌∙◌, subst, le_refl, lit≤, le_trans, arith}
+use Rattle.std.proofs.lemmas.Bool.{false≢true, true≢false}
+use Rattle.std.specs.Fn.{FnReturnsAt, Shared}
+use denote.Ref.{Bor}
+use Rattle.g_budget.specs.Tariff.{IsCharge, IsUsage}
+use Rattle.g_budget.specs.declared.tariff.Charge.{Charge}
+use Rattle.g_budget.specs.declared.tariff.Usage.{Usage}
+use Rattle.g_job.specs.Begun.{room_of}
+use Rattle.g_job.specs.Bounds.{HasMore, IsKeptWithin, IsWithin}
+use Rattle.g_job.specs.Ending.{IsClear, IsWaiting, turn_by, with_last}
+use Rattle.g_job.specs.Ends.{IsPriced, IsTurn, behind_turn, broken, charged, charged_end, end_by, is_free, last_line, money_of, turn_end, turn_of, units_of, waited}
+use Rattle.g_job.specs.Going.{IsAgain, IsReady}
+use Rattle.g_job.specs.Making.{IsMade}
+use Rattle.g_job.specs.Rules.{IsGoneOnWith, IsJob, IsPending, most_bytes}
+use Rattle.g_job.specs.State.{AgainCommand, AgainLine, Broken, Desk, Done, Full, JobState, Pending, Stop, Waits, Work}
+use Rattle.g_job.specs.Values.{pending_of, stop_of}
+use Rattle.g_job.specs.declared.made.Made.{Made}
+use Rattle.g_job.specs.declared.turn.Turn.{Turn}
+use Rattle.g_job.specs.declared.turn.Turn.TheVariants as turn
+use Rattle.g_job.proofs.KeepLemmas.{file_of, rules_kept}
+use Rattle.g_lines.specs.Lines.{ended}
+
+-- a job with nothing that waits
+cleared : (j : JobState) → IsClear j → record j { pending = None; wants = None } ≡ j
+cleared j clear =
+    ap (λ (p : Option Pending). record j { pending = p; wants = None }) (sym clear.0) ∙ ap (λ (s : Option ℕ). record j { wants = s }) (sym clear.1)
+
+-- it waits
+pub wait_rules : (j : JobState) (again : Option Pending) (serial : ℕ) → IsJob j → IsWaiting j again → IsJob (record j { pending = again; wants = Some serial })
+wait_rules j again serial rules waiting = record {
+  least = rules.least;
+  most = rules.most;
+  covered = rules.covered;
+  turned = rules.turned;
+  rich = rules.rich;
+  paid = rules.paid;
+  has_time = rules.has_time;
+  file = rules.file;
+  waits = sym waiting.0;
+  goes_on = waiting.1;
+  level = λ there. waiting.2;
+}
+
+-- nothing waits any more
+pub clear_rules : (j : JobState) (desk : Desk) → IsJob j → IsJob (record j { desk = desk; pending = None; wants = None })
+clear_rules j desk rules = record {
+  least = rules.least;
+  most = rules.most;
+  covered = rules.covered;
+  turned = rules.turned;
+  rich = rules.rich;
+  paid = rules.paid;
+  has_time = rules.has_time;
+  file = rules.file;
+  waits = refl;
+  goes_on = tt;
+  level = λ is. absurd (false≢true is);
+}
+
+-- text was put behind its file
+fits_both : (j : JobState) (text : List ℕ) → IsJob j → j.over ≡ false → length text ≤ room_of j → length j.monitor + length text ≤ 1048576
+fits_both j text rules going fits = let file : length j.monitor ≤ 1048576 = file_of j rules going in omega (arith, file, fits)
+
+pub grown_rules : (j : JobState) (text monitor : List ℕ) → IsJob j → IsClear j → j.over ≡ false → length text ≤ room_of j → length monitor ≤ length j.monitor + length text
+    → IsJob (record j { monitor = monitor })
+grown_rules j text monitor rules clear going fits few = record {
+  least = rules.least;
+  most = rules.most;
+  covered = rules.covered;
+  turned = rules.turned;
+  rich = rules.rich;
+  paid = rules.paid;
+  has_time = rules.has_time;
+  file = subst (λ (over : Bool). length monitor ≤ most_bytes over) (sym going) (let both = fits_both j text rules going fits in le_trans few both);
+  waits = rules.waits;
+  goes_on = subst (λ (p : Option Pending). IfSome p (IsPending monitor)) (sym clear.0) tt;
+  level = rules.level;
+}
+
+-- it was stopped
+pub broken_rules : (j : JobState) (text : List ℕ) → IsJob j → IsClear j → j.over ≡ false → length text ≤ room_of j → IsJob (record j { monitor = j.monitor ++ text; over = true })
+broken_rules j text rules clear going fits = record {
+  least = rules.least;
+  most = rules.most;
+  covered = rules.covered;
+  turned = rules.turned;
+  rich = rules.rich;
+  paid = rules.paid;
+  has_time = λ is. absurd (true≢false is);
+  file =
+      let both : length j.monitor + length text ≤ 1048576 = fits_both j text rules going fits in
+      let all : length (j.monitor ++ text) ≡ length j.monitor + length text = length-append j.monitor text in
+      omega (arith, both, all);
+  waits = rules.waits;
+  goes_on = subst (λ (p : Option Pending). IfSome p (IsPending (j.monitor ++ text))) (sym clear.0) tt;
+  level = rules.level;
+}
+
+-- a work of such a text, which is over for this
+abbrev work_for : JobState → List ℕ → Option Stop → Work
+work_for j text stop = record { desk = j.desk; text = text; orders = 0; blocks = 0; sets = false; again = None; stop = stop }
+
+-- the job behind a turn that is charged, as the code makes it
+abbrev pub settled : JobState → List ℕ → Charge → Option (List ℕ) → JobState
+settled j text charge last = record j {
+  used = j.used + units_of j charge;
+  used_money = j.used_money + money_of j charge;
+  turns = j.turns + 1;
+  monitor = with_last (j.monitor ++ text) last;
+  over = is_some last;
+}
+
+-- is the one that is defined
+settled_is : (j : JobState) (w : Work) (charge : Charge) (last : Option (List ℕ)) → IsClear j → j.over ≡ false → w.desk ≡ j.desk
+    → settled j w.text charge (option_map ended last) ≡ behind_turn (charged j w charge) last
+settled_is j w charge None clear going desk =
+    ap (λ (over : Bool). record j { used = j.used + units_of j charge; used_money = j.used_money + money_of j charge; turns = j.turns + 1; monitor = j.monitor ++ w.text; over = over }) (sym going)
+    ∙ ap (λ (k : JobState). record j { used = j.used + units_of j charge; used_money = j.used_money + money_of j charge; turns = j.turns + 1; monitor = j.monitor ++ w.text; pending = k.pending; wants = k.wants }) (sym (cleared j clear))
+    ∙ ap (λ (d : Desk). record j { used = j.used + units_of j charge; used_money = j.used_money + money_of j charge; turns = j.turns + 1; desk = d; pending = None; wants = None; monitor = j.monitor ++ w.text }) (sym desk)
+settled_is j w charge (Some last) clear going desk =
+    ap (λ (k : JobState). record j { used = j.used + units_of j charge; used_money = j.used_money + money_of j charge; turns = j.turns + 1; monitor = (j.monitor ++ w.text) ++ ended last; pending = k.pending; wants = k.wants; over = true }) (sym (cleared j clear))
+    ∙ ap (λ (d : Desk). record j { used = j.used + units_of j charge; used_money = j.used_money + money_of j charge; turns = j.turns + 1; desk = d; pending = None; wants = None; monitor = (j.monitor ++ w.text) ++ ended last; over = true }) (sym desk)
+
+end_rules : (j : JobState) (text : List ℕ) (charge : Charge) (stop : Option Stop) → IsJob j → j.over ≡ false → IsCharge charge → length text ≤ room_of j → is_free stop ≡ false
+    → IsJob (charged_end stop j (work_for j text stop) charge).1
+end_rules j text charge None rules going within fits free =
+    rules_kept j (work_for j text None) (Some charge) rules going within (record { text = fits; orders = lit≤ tt; blocks = lit≤ tt; kept = tt; waits = tt })
+    (record { pending = tt; level = λ is. absurd (false≢true is) })
+end_rules j text charge (Some Full) rules going within fits free =
+    rules_kept j (work_for j text (Some Full)) (Some charge) rules going within (record { text = fits; orders = lit≤ tt; blocks = lit≤ tt; kept = tt; waits = tt })
+    (record { pending = tt; level = λ is. absurd (false≢true is) })
+end_rules j text charge (Some Done) rules going within fits free =
+    rules_kept j (work_for j text (Some Done)) (Some charge) rules going within (record { text = fits; orders = lit≤ tt; blocks = lit≤ tt; kept = tt; waits = tt })
+    (record { pending = tt; level = λ is. absurd (false≢true is) })
+end_rules j text charge (Some (Waits serial)) rules going within fits free = absurd (true≢false free)
+end_rules j text charge (Some Broken) rules going within fits free = absurd (true≢false free)
+
+module _ (j : JobState) (text : List ℕ) (charge : Charge) (stop : Option Stop) (last : Option (List ℕ)) (clear : IsClear j) (going : j.over ≡ false) where
+  -- the last line is that of any such work
+  pub settled_rules : IsJob j → IsCharge charge → length text ≤ room_of j → is_free stop ≡ false
+      → ((w : Work) → last ≡ option_map ended (last_line stop j charge (charged j w charge))) → IsJob (settled j text charge last)
+  settled_rules rules within fits free is =
+      let w : Work = work_for j text stop in
+      subst (λ (l : Option (List ℕ)). IsJob (settled j text charge l)) (sym (is w))
+      (subst IsJob (sym (settled_is j w charge (last_line stop j charge (charged j w charge)) clear going refl)) (end_rules j text charge stop rules going within fits free))
+
+  turn_is : (units money : ℕ) (line : Option (List ℕ)) → turn_by units money (is_some (option_map ended line)) ≡ turn_of units money line
+  turn_is units money None = refl
+  turn_is units money (Some line) = refl
+
+  pub settled_end : ((w : Work) → last ≡ option_map ended (last_line stop j charge (charged j w charge))) → (w : Work) → w.desk ≡ j.desk → w.text ≡ text
+      → (let both : Turn × JobState = (turn_by (units_of j charge) (money_of j charge) (is_some last), settled j text charge last) in both ≡ charged_end stop j w charge)
+  settled_end is w desk same =
+      ap (λ (l : Option (List ℕ)). let both : Turn × JobState = (turn_by (units_of j charge) (money_of j charge) (is_some l), settled j text charge l) in both) (is w)
+      ∙ ap (λ (t : Turn). let both : Turn × JobState = (t, settled j text charge (option_map ended (last_line stop j charge (charged j w charge)))) in both)
+      (turn_is (units_of j charge) (money_of j charge) (last_line stop j charge (charged j w charge)))
+      ∙ ap (λ (x : List ℕ). let both : Turn × JobState = (turn_of (units_of j charge) (money_of j charge) (last_line stop j charge (charged j w charge)), settled j x charge (option_map ended (last_line stop j charge (charged j w charge)))) in both)
+      (sym same)
+      ∙ ap (λ (k : JobState). let both : Turn × JobState = (turn_of (units_of j charge) (money_of j charge) (last_line stop j charge (charged j w charge)), k) in both)
+      (settled_is j w charge (last_line stop j charge (charged j w charge)) clear going desk)
+
+-- a turn that is charged ends as that is defined
+by_free : (stop : Option Stop) → is_free stop ≡ false → (j : JobState) (w : Work) (charge : Charge) → end_by stop j w (Some charge) ≡ Some (charged_end stop j w charge)
+by_free None free j w charge = refl
+by_free (Some Full) free j w charge = refl
+by_free (Some Done) free j w charge = refl
+by_free (Some (Waits serial)) free j w charge = absurd (true≢false free)
+by_free (Some Broken) free j w charge = absurd (true≢false free)
+
+module _ {F : Type 0} (calls : Shared F (Bor Usage × Unit {0}) Charge) (rule : F) where
+  pub charged_turn : (j : JobState) (made : Made) (charge : Charge) (t : Turn) (new : JobState) → is_free (option_map stop_of made.stop) ≡ false
+      → FnReturnsAt calls rule (record { orders = made.orders; blocks = made.blocks }) charge
+      → ((w : Work) → w.desk ≡ j.desk → w.text ≡ made.text → (let both : Turn × JobState = (t, new) in both ≡ charged_end (option_map stop_of made.stop) j w charge))
+      → (w : Work) → IsMade j.desk made w → IsTurn calls rule j w t new
+  charged_turn j made charge t new free kept settle w is = (
+    Some charge,
+    subst (λ (n : ℕ). FnReturnsAt calls rule (record { orders = n; blocks = w.blocks }) charge) (sym is.orders)
+        (subst (λ (n : ℕ). FnReturnsAt calls rule (record { orders = made.orders; blocks = n }) charge) (sym is.blocks) kept),
+    ap (λ (stop : Option Stop). end_by stop j w (Some charge)) is.stop ∙ by_free (option_map stop_of made.stop) free j w charge
+        ∙ ap (λ (both : Turn × JobState). let end : Option (Turn × JobState) = Some both in end) (sym (settle w is.desk is.text)),
+  )
+
+-- the rules of the job behind a charge, as the code makes it
+pub settle_rules : (j job : JobState) → j ≡ job → (text : List ℕ) (charge : Charge) (stop : Option Stop) (last : Option (List ℕ)) (units money : ℕ) (monitor : List ℕ) (over : Bool)
+    → IsJob j → IsClear job → job.over ≡ false → length text ≤ room_of job → IsCharge charge → is_free stop ≡ false
+    → ((w : Work) → last ≡ option_map ended (last_line stop job charge (charged job w charge)))
+    → units ≡ units_of j charge → money ≡ money_of j charge → monitor ≡ with_last (j.monitor ++ text) last → over ≡ is_some last
+    → IsJob (record j { used = j.used + units; used_money = j.used_money + money; turns = j.turns + 1; monitor = monitor; over = over })
+settle_rules j job same text charge stop last units money monitor over rules clear going fits within free line eu em et eo =
+    let k : IsJob (settled j text charge last) =
+    settled_rules j text charge stop last (subst IsClear (sym same) clear) (subst (λ (x : JobState). x.over ≡ false) (sym same) going) rules within
+    (subst (λ (x : JobState). length text ≤ room_of x) (sym same) fits) free
+    (λ w. subst (λ (x : JobState). last ≡ option_map ended (last_line stop x charge (charged x w charge))) (sym same) (line w)) in
+    subst (λ (b : Bool). IsJob (record j { used = j.used + units; used_money = j.used_money + money; turns = j.turns + 1; monitor = monitor; over = b })) (sym eo)
+    (subst (λ (m : List ℕ). IsJob (record j { used = j.used + units; used_money = j.used_money + money; turns = j.turns + 1; monitor = m; over = is_some last })) (sym et)
+    (subst (λ (n : ℕ). IsJob (record j { used = j.used + units; used_money = j.used_money + n; turns = j.turns + 1; monitor = with_last (j.monitor ++ text) last; over = is_some last })) (sym em)
+    (subst (λ (n : ℕ). IsJob (record j { used = j.used + n; used_money = j.used_money + money_of j charge; turns = j.turns + 1; monitor = with_last (j.monitor ++ text) last; over = is_some last })) (sym eu) k)))

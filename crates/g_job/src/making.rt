@@ -1,0 +1,43 @@
+//! The work of a turn of a job, up to its end.
+ghost use Rattle.std.specs.Prelude.{◌≡◌, ℕ, None, false, IfOk, OnErr, OnOk};
+ghost use Rattle.g_job.specs.Making.{Makes};
+ghost use Rattle.g_job.specs.State.{Work};
+ghost use Rattle.g_job.specs.Turns.{turn_work};
+ghost use Rattle.g_plain.specs.Asks.{RanInPart};
+
+use crate::job::Job;
+use crate::made::Made;
+use g_base::NoMemory;
+use g_plain::Filestore;
+use std::alloc::Global;
+
+/// The most bytes of a monitoring file, before its last line.
+const MOST: usize = 1_048_576;
+
+impl Job {
+    /// Does the work of a turn, which takes what waited, and hands over what it has made.
+    pub(crate) fn make<S: Filestore>(
+        &mut self,
+        alloc: Global,
+        store: &mut S,
+    ) -> Result<Made, NoMemory>
+        requires running { S.is_spent store.old ≡ false }
+        requires open { self.old.over ≡ false }
+        ensures ok { IfOk result (λ made. (w : Work) × Makes S.answers S.is_spent S.can_wait
+            self.old store.old self.new.desk made w store.new) }
+        ensures job { OnOk result
+            (self.new ≡ record self.old { desk = self.new.desk; pending = None; wants = None }) }
+        ensures err { OnErr result
+            (RanInPart S.answers self.old.user store.old (turn_work self.old) store.new) }
+        ensures same_waits { (s : ℕ) → S.can_wait store.new s ≡ S.can_wait store.old s }
+    {
+        let room = MOST - self.monitor.as_slice().len();
+        let again = self.again.take();
+        self.wants = None;
+        self.work.begin(alloc);
+        match self.work.go(alloc, store, &self.user, room, again) {
+            Ok(()) => Ok(self.work.take_made(alloc)),
+            Err(NoMemory) => Err(NoMemory),
+        }
+    }
+}
