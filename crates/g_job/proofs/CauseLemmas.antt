@@ -1,9 +1,10 @@
 -- An honest program's work is over by its last answer.
 use Rattle.std.proofs.Common.{◌≡◌, ℕ, List, [], ◌∷◌, Option, Some, Err, refl, sym, ap, ◌∙◌, subst}
-use Rattle.g_job.specs.Causes.{CauseOf, GoesOn, IsHonest, IsOther, StopsAt, last_answer}
-use Rattle.g_job.specs.State.{Broken, JobState, Stop, Waits, Work}
+use Rattle.g_act.specs.Causes.{CauseOf, GoesOn, IsHonest, IsOther, StopsAt, last_answer}
+use Rattle.g_act.specs.State.{Broken, Stop, Waits, Work}
+use Rattle.g_job.specs.State.{JobState}
 use Rattle.g_job.specs.Turns.{turn_work}
-use Rattle.g_job.proofs.CommandLemmas.{turn_honest}
+use Rattle.g_job.proofs.TurnBounds.{turn_honest}
 use Rattle.g_plain.specs.Asks.{Answer, Asks, Call, Gives, IsAnswer}
 use Rattle.g_plain.specs.RanBy.{RanBy}
 use Rattle.g_plain.specs.declared.calls.StoreCall.{StoreCall}

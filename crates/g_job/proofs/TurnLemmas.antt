@@ -8,18 +8,21 @@ use Rattle.g_budget.specs.Tariff.{IsCharge, IsTariff, IsUsage}
 use Rattle.g_budget.specs.declared.tariff.Charge.{Charge}
 use Rattle.g_budget.specs.declared.tariff.Usage.{Usage}
 use Rattle.g_job.specs.Begun.{begin, room_of}
-use Rattle.g_job.specs.Bounds.{IsKeptWithin, IsWithin}
-use Rattle.g_job.specs.Causes.{CauseOf, last_answer}
+use Rattle.g_act.specs.Bounds.{IsKeptWithin, IsWithin}
+use Rattle.g_act.specs.Causes.{CauseOf, last_answer}
 use Rattle.g_job.specs.Ending.{IsClear}
 use Rattle.g_job.specs.Ends.{IsPriced, IsTurn, end_by, turn_end}
-use Rattle.g_job.specs.Going.{IsAgain, IsReady}
-use Rattle.g_job.specs.Making.{FewBlocks, IsMade, Makes}
+use Rattle.g_act.specs.Going.{IsAgain, IsReady}
+use Rattle.g_act.specs.Making.{FewBlocks, IsMade}
+use Rattle.g_job.specs.Making.{Makes}
 use Rattle.g_job.specs.Rules.{IsGoneOnWith, IsJob, IsPending}
 use Rattle.g_job.specs.Spends.{ComesTo, Spends, ToldAsBefore}
-use Rattle.g_job.specs.State.{AgainCommand, AgainLine, Broken, Desk, Done, Full, JobState, Pending, Stop, Waits, Work}
-use Rattle.g_job.specs.Steps.{RanWell}
-use Rattle.g_job.specs.Turns.{begins, turn_work}
-use Rattle.g_job.specs.declared.made.Made.{Made}
+use Rattle.g_act.specs.State.{AgainCommand, AgainLine, Broken, Desk, Done, Full, Pending, Stop, Waits, Work}
+use Rattle.g_job.specs.State.{JobState}
+use Rattle.g_act.specs.Steps.{RanWell}
+use Rattle.g_act.specs.Turns.{begins}
+use Rattle.g_job.specs.Turns.{turn_work}
+use Rattle.g_act.specs.declared.made.Made.{Made}
 use Rattle.g_job.specs.declared.turn.Turn.{Turn}
 use Rattle.g_job.specs.declared.turn.Turn.TheVariants as turn
 use Rattle.g_job.proofs.CauseLemmas.{turn_cause}

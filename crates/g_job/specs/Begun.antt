@@ -1,6 +1,7 @@
 -- A job that begins, and a turn that begins.
 use Rattle.std.specs.Prelude.{List, None, [], false, length, ℕ, ◌-◌}
-use Rattle.g_job.specs.State.{Desk, JobState, Work}
+use Rattle.g_act.specs.State.{Desk, Work}
+use Rattle.g_job.specs.State.{JobState}
 use Rattle.g_lines.specs.Lines.{ended}
 use Rattle.g_macro.specs.Levels.{begun}
 use Rattle.g_macro.specs.declared.outcome.EventNote.TheVariants as note

@@ -1,7 +1,7 @@
 -- What a job of the code is.
 use Rattle.std.specs.Prelude.{option_map}
 use Rattle.g_job.specs.State.{JobState}
-use Rattle.g_job.specs.Values.{pending_of}
+use Rattle.g_act.specs.Values.{pending_of}
 use Rattle.g_job.specs.declared.job.Job.TheInside.{Inside}
 
 abbrev pub job_of : Inside → JobState

@@ -1,25 +1,10 @@
--- What the contracts cite: a job, the program of a turn, how a turn ends, and why.
-pub mod Actions
-pub mod Asking
+-- What the contracts cite: a job, the program of a turn, and how a turn ends.
 pub mod Begun
-pub mod Bounds
-pub mod Causes
-pub mod Commands
 pub mod Ending
 pub mod Ends
-pub mod Going
 pub mod JobValue
-pub mod Lines
-pub mod Macros
 pub mod Making
-pub mod Met
-pub mod Releases
 pub mod Rules
-pub mod Runs
-pub mod Say
 pub mod Spends
 pub mod State
-pub mod Steps
 pub mod Turns
-pub mod Uses
-pub mod Values

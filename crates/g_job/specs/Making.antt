@@ -1,44 +1,16 @@
--- What the code of a turn takes of the levels, and what it hands over at its end.
-use Rattle.std.specs.Prelude.{Bool, List, length, option_map, ℕ, ◌<◌, ◌≡◌, ◌≤◌}
+-- The work of a turn, done and handed over.
+use Rattle.std.specs.Prelude.{Bool, List, ℕ}
+use Rattle.g_act.specs.Bounds.{IsWithin}
+use Rattle.g_act.specs.Making.{IsMade}
+use Rattle.g_act.specs.State.{Desk, Work}
+use Rattle.g_act.specs.Steps.{RanWell}
+use Rattle.g_act.specs.declared.made.Made.{Made}
 use Rattle.g_job.specs.Begun.{room_of}
-use Rattle.g_job.specs.Bounds.{IsWithin}
 use Rattle.g_job.specs.Rules.{IsGoneOnWith, IsJob}
-use Rattle.g_job.specs.State.{AgainCommand, AgainLine, Desk, JobState, Pending, Work}
-use Rattle.g_job.specs.Steps.{RanWell}
+use Rattle.g_job.specs.State.{JobState}
 use Rattle.g_job.specs.Turns.{turn_work}
-use Rattle.g_job.specs.Values.{pending_of, stop_of}
-use Rattle.g_job.specs.declared.made.Made.{Made}
-use Rattle.g_job.specs.declared.turning.Next.{Next}
-use Rattle.g_job.specs.declared.turning.Next.TheVariants as next
-use Rattle.g_macro.specs.Levels.{Line, Nothing, Taken, TooLong}
 use Rattle.g_plain.specs.Asks.{Answer}
 use Rattle.g_plain.specs.declared.calls.StoreCall.{StoreCall}
-
--- what is taken
-abbrev pub taken_as : Next → Taken
-taken_as next.Nothing = Nothing
-taken_as (next.Line text) = Line text
-taken_as (next.TooLong front) = TooLong front
-
--- a line is of a level
-abbrev pub HasLevel : Next → Work → Type 0
-HasLevel next.Nothing w = Unit {0}
-HasLevel (next.Line text) w = 0 < length w.desk.levels.levels
-HasLevel (next.TooLong front) w = Unit {0}
-
--- what was handed over before a command that waits is within what a line uses
-abbrev pub FewBlocks : Pending → Type 0
-FewBlocks (AgainLine text) = Unit {0}
-FewBlocks (AgainCommand text orders blocks command) = blocks ≤ 2048
-
--- what a work was, apart from whether its command set the outcome
-pub record IsMade (left : Desk) (made : Made) (w : Work) : Type 0 where
-  pub desk : w.desk ≡ left
-  pub text : w.text ≡ made.text
-  pub orders : w.orders ≡ made.orders
-  pub blocks : w.blocks ≡ made.blocks
-  pub again : w.again ≡ option_map pending_of made.again
-  pub stop : w.stop ≡ option_map stop_of made.stop
 
 module _ {S : Type 0} (answers : S → List ℕ → StoreCall → Answer → S → Type 0) (is_spent : S → Bool) (can_wait : S → ℕ → Bool) where
   -- the work of a job's turn was done, from this store to that one, and handed over

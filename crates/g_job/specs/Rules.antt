@@ -1,6 +1,7 @@
 -- The rules that a job keeps between its turns.
 use Rattle.std.specs.Prelude.{Bool, IfSome, List, false, is_some, length, true, ℕ, ◌+◌, ◌<◌, ◌≡◌, ◌≤◌}
-use Rattle.g_job.specs.State.{AgainCommand, AgainLine, JobState, Pending, Work}
+use Rattle.g_act.specs.State.{AgainCommand, AgainLine, Pending, Work}
+use Rattle.g_job.specs.State.{JobState}
 use Rattle.g_lang.specs.Lines.{IsCommandText}
 
 -- a monitoring file has at most 1,048,576 bytes, and behind them one last line of at most 23, once the job has ended

@@ -2,21 +2,19 @@
 ghost use Rattle.std.specs.Prelude.{◌≡◌, ◌≤◌, ◌+◌, ◌++◌, min, None, Some, false, length, option_map, true, IfOk, IfSome, OnErr, OnOk};
 ghost use Rattle.g_budget.specs.Tariff.{IsCharge, IsTariff};
 ghost use Rattle.g_job.specs.Begun.{room_of};
-ghost use Rattle.g_job.specs.Bounds.{IsWithin};
+ghost use Rattle.g_act.specs.Bounds.{IsWithin};
 ghost use Rattle.g_job.specs.Ends as ends;
 ghost use Rattle.g_job.specs.Ending.{IsClear, IsWaiting, turn_by, up_text, with_last};
-ghost use Rattle.g_job.specs.Making.{IsMade};
+ghost use Rattle.g_act.specs.Making.{IsMade};
 ghost use Rattle.g_job.specs.Rules.{IsGoneOnWith};
-ghost use Rattle.g_job.specs.State.{Work};
-ghost use Rattle.g_job.specs.Values.{pending_of, stop_of};
+ghost use Rattle.g_act.specs.State.{Work};
+ghost use Rattle.g_act.specs.Values.{pending_of, stop_of};
 ghost use Rattle.g_lines.specs.Lines.{ended};
 ghost use Rattle.g_monitor.specs.JobLines.{job_line};
 
 use crate::Turn;
-use crate::again::Again;
 use crate::job::Job;
-use crate::made::Made;
-use crate::stop::Stop;
+use g_act::{Again, Made, Stop};
 use g_base::NoMemory;
 use g_budget::{Charge, Tariff, Usage};
 use g_monitor::{JobLine, push_job_line};

@@ -2,12 +2,12 @@
 ghost use Rattle.std.specs.Prelude.{◌≡◌, ◌≤◌, ◌↔◌, ℕ, List, Ok, false, true, IfOk, OnErr, length};
 ghost use Rattle.g_budget.specs.Tariff.{IsTariff};
 ghost use Rattle.g_job.specs.Begun.{job_begun, room_of, standing_of};
-ghost use Rattle.g_job.specs.Bounds.{IsWithin};
-ghost use Rattle.g_job.specs.Causes.{CauseOf, last_answer};
+ghost use Rattle.g_act.specs.Bounds.{IsWithin};
+ghost use Rattle.g_act.specs.Causes.{CauseOf, last_answer};
 ghost use Rattle.g_job.specs.Ends.{IsTurn};
 ghost use Rattle.g_job.specs.Rules.{most_bytes};
 ghost use Rattle.g_job.specs.Spends.{Spends, ToldAsBefore};
-ghost use Rattle.g_job.specs.State.{Work};
+ghost use Rattle.g_act.specs.State.{Work};
 ghost use Rattle.g_job.specs.Turns.{turn_work};
 ghost use Rattle.g_lines.specs.Lines.{ended};
 ghost use Rattle.g_monitor.specs.JobLines.{header};
@@ -15,9 +15,8 @@ ghost use Rattle.g_plain.specs.Asks.{Answer, RanInPart};
 ghost use Rattle.g_plain.specs.RanBy.{RanBy};
 ghost use Rattle.g_sched.specs.Rule.{IsInRange};
 
-use crate::again::Again;
 use crate::turn::Turn;
-use crate::work::Work;
+use g_act::{Again, Work};
 use g_base::NoMemory;
 use g_budget::{Charge, Tariff, Usage};
 use g_lines::Texts;

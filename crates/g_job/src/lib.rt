@@ -2,28 +2,11 @@
 //! store and makes of the answers.
 #![tactic(auto)]
 
-mod acts;
-mod again;
-mod asking;
-mod command;
 mod ending;
-mod fetching;
 mod job;
 mod laws;
-mod lines;
-mod listing;
-mod macros;
-mod made;
 mod making;
-mod releases;
-mod runs;
-mod say;
-mod stop;
-mod trimming;
 mod turn;
-mod turning;
-mod uses;
-mod work;
 
 pub use job::Job;
 pub use laws::{

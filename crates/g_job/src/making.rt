@@ -1,12 +1,12 @@
 //! The work of a turn of a job, up to its end.
 ghost use Rattle.std.specs.Prelude.{◌≡◌, ℕ, None, false, IfOk, OnErr, OnOk};
 ghost use Rattle.g_job.specs.Making.{Makes};
-ghost use Rattle.g_job.specs.State.{Work};
+ghost use Rattle.g_act.specs.State.{Work};
 ghost use Rattle.g_job.specs.Turns.{turn_work};
 ghost use Rattle.g_plain.specs.Asks.{RanInPart};
 
 use crate::job::Job;
-use crate::made::Made;
+use g_act::Made;
 use g_base::NoMemory;
 use g_plain::Filestore;
 use std::alloc::Global;

@@ -1,4 +1,4 @@
-use Rattle.g_job.proofs.CommandBounds.{turn_within}
+use Rattle.g_job.proofs.TurnBounds.{turn_within}
 use Rattle.g_job.proofs.laws.turns_keep_their_limits.Goals as goal
 
 pub returns : goal.returns

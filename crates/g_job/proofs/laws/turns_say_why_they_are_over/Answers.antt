@@ -1,5 +1,5 @@
 use Rattle.g_job.proofs.CauseLemmas.{turn_cause, turn_one}
-use Rattle.g_job.proofs.CommandLemmas.{turn_honest}
+use Rattle.g_job.proofs.TurnBounds.{turn_honest}
 use Rattle.g_job.proofs.laws.turns_say_why_they_are_over.Goals as goal
 
 pub returns : goal.returns

@@ -1,6 +1,6 @@
 use Rattle.std.proofs.Common.{option_map}
 use Rattle.g_job.specs.JobValue.{job_of}
-use Rattle.g_job.specs.Values.{stop_of}
+use Rattle.g_act.specs.Values.{stop_of}
 use Rattle.g_job.proofs.EndingLemmas.{settle_rules}
 use Rattle.g_job.proofs.job.Job.settle.Goals as goal
 

@@ -1,0 +1,13 @@
+use Rattle.g_act.specs.Lines.{does_fired}
+use Rattle.g_act.specs.Say.{is_over, say}
+use Rattle.g_monitor.specs.JobLines.{marked}
+use Rattle.g_monitor.specs.declared.job_lines.Mark.TheVariants as mark
+use Rattle.g_plain.specs.Asks.{Gives, and_then}
+use Rattle.g_act.proofs.ReadyLemmas.{err_none}
+use Rattle.g_act.proofs.work.Work.fires.Goals as goal
+
+pub returns-in_err-say_marked-clause-err : goal.returns-in_err-say_marked-clause-err
+returns-in_err-say_marked-clause-err g c =
+    err_none g.S.Filestore.answers c.args.who.now
+    (and_then is_over (Gives (say c.args.room (marked mark.Fired c.args.text) c.args.self.now)) (does_fired c.args.room c.args.who.now c.args.text)) c.args.store.now
+    c.from_residual.result

@@ -1,0 +1,12 @@
+use Rattle.g_act.specs.Lines.{line}
+use Rattle.g_act.proofs.ReadyLemmas.{err_none}
+use Rattle.g_act.proofs.work.Work.line.Goals as goal
+
+pub returns-in_err-read-clause-err : goal.returns-in_err-read-clause-err
+returns-in_err-read-clause-err g c =
+    err_none g.S.Filestore.answers c.args.who.now (line c.args.room c.args.who.now c.args.text c.args.self.now) c.args.store.now c.from_residual.result
+
+pub returns-in_err-say_line-clause-err : goal.returns-in_err-say_line-clause-err
+returns-in_err-say_line-clause-err g c =
+    err_none g.S.Filestore.answers c.args.who.now (line c.args.room c.args.who.now c.args.text c.args.self.now) c.args.store.now
+    c.from_residual-in_err-say_line.result

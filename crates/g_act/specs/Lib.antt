@@ -1,0 +1,19 @@
+-- What the contracts cite: the work of a turn, what each line, command and verb asks, and what any store does.
+pub mod Actions
+pub mod Asking
+pub mod Bounds
+pub mod Causes
+pub mod Commands
+pub mod Going
+pub mod Lines
+pub mod Macros
+pub mod Making
+pub mod Met
+pub mod Releases
+pub mod Runs
+pub mod Say
+pub mod State
+pub mod Steps
+pub mod Turns
+pub mod Uses
+pub mod Values

@@ -1,0 +1,217 @@
+//! What each verb does.
+ghost use Rattle.std.specs.Prelude.{◌≡◌, ◌≤◌, ◌<◌, ◌+◌, ℕ, [], Bool, false, length, unwrap_or, IfErr, IfOk, OnErr, OnOk};
+ghost use Rattle.g_act.specs.Actions as actions;
+ghost use Rattle.g_act.specs.Asking as asking;
+ghost use Rattle.g_act.specs.Say as said;
+ghost use Rattle.g_act.specs.State as state;
+ghost use Rattle.g_act.specs.Steps.{RanWell};
+ghost use Rattle.g_lang.specs.Conditions.{IsLetter};
+ghost use Rattle.g_macro.specs.Levels.{document_of, document_passed, with_param};
+ghost use Rattle.g_monitor.specs.JobLines.{marked};
+ghost use Rattle.g_monitor.specs.declared.job_lines.Mark.TheVariants as mark;
+ghost use Rattle.g_plain.specs.Asks.{RanInPart};
+ghost use Rattle.g_plain.specs.Rules.{IsWithinLimits};
+ghost use Rattle.g_verbs.specs.Verbs as verbs;
+
+use crate::uses::Use;
+use crate::work::Work;
+use g_base::NoMemory;
+use g_monitor::Mark;
+use g_name::{Path, Text, User};
+use g_plain::{Filestore, StoreCall};
+use g_trap::Mode;
+use g_verbs::Action;
+use std::alloc::Global;
+
+/// The MONEY of a user that is made without an amount.
+const MONEY: u64 = 1_000_000;
+
+/// The call of a verb that makes one, hands over no bytes and has its reply said; any other verb is given back.
+fn call_of(action: Action, who: &User) -> Result<StoreCall, Action>
+    requires sound { verbs.IsSound action }
+    ensures call { IfOk result (λ call. (room : ℕ) (by : Bool) (w : state.Work)
+        → actions.act room who.now by action w ≡ asking.one_call room call w) }
+    ensures limits { IfOk result (λ call. IsWithinLimits call) }
+    ensures other { IfErr result (λ other. other ≡ action) }
+    ensures kind { IfErr result (λ other. actions.is_one_call other ≡ false) }
+{
+    match action {
+        Action::Erase { file } => Ok(StoreCall::Erase { path: file }),
+        Action::Rename { file, to } => Ok(StoreCall::Rename { path: file, to }),
+        Action::ListDir { user } => Ok(StoreCall::List {
+            user: user.unwrap_or(who.copy()),
+        }),
+        Action::TrapGo { file, user, modes } => Ok(StoreCall::TrapGo {
+            path: file,
+            user,
+            modes,
+        }),
+        Action::TrapStop { file, user, modes } => Ok(StoreCall::TrapStop {
+            path: file,
+            user,
+            modes,
+        }),
+        Action::TrapCheck { file, user } => Ok(StoreCall::TrapCheck {
+            path: file,
+            user: user.unwrap_or(who.copy()),
+        }),
+        Action::NewUser {
+            user,
+            space,
+            time,
+            money,
+        } => Ok(StoreCall::NewUser {
+            user,
+            space: space as u32,
+            time,
+            money: money.unwrap_or(MONEY),
+        }),
+        Action::Budget { user, kind, amount } => Ok(StoreCall::Budget { user, kind, amount }),
+        Action::Retrieve { file } => Ok(StoreCall::Retrieve { path: file }),
+        other => Err(other),
+    }
+}
+
+impl Work {
+    /// Does what a verb with its parameters asks for, of the user `who`; `by` tells that a WHENEVER does it.
+    pub(crate) fn act<S: Filestore>(
+        &mut self,
+        alloc: Global,
+        store: &mut S,
+        who: &User,
+        room: usize,
+        by: bool,
+        action: Action,
+    ) -> Result<(), NoMemory>
+        requires running { S.is_spent store.old ≡ false }
+        requires open { said.is_over self.old ≡ false }
+        requires few { self.old.blocks ≤ 2048 }
+        requires level { 0 < length self.old.desk.levels.levels }
+        requires sound { verbs.IsSound action }
+        ensures ok { OnOk result (RanWell S.answers S.is_spent S.can_wait who.now store.old
+            (actions.act room who.now by action self.old) self.new store.new) }
+        ensures err { OnErr result (RanInPart S.answers who.now store.old
+            (actions.act room who.now by action self.old) store.new) }
+        ensures live { OnOk result (said.is_over self.new ≡ false → S.is_spent store.new ≡ false) }
+        ensures same_waits { (s : ℕ) → S.can_wait store.new s ≡ S.can_wait store.old s }
+        ensures blocks { OnOk result (self.new.blocks ≤ self.old.blocks + 2048) }
+    {
+        match call_of(action, who) {
+            Ok(call) => match self.one_call(alloc, store, who, room, &call) {
+                Ok(()) => Ok(()),
+                Err(NoMemory) => Err(NoMemory),
+            },
+            Err(action) => match self.act_otherwise(alloc, store, who, room, by, action) {
+                Ok(()) => Ok(()),
+                Err(NoMemory) => Err(NoMemory),
+            },
+        }
+    }
+
+    /// Does what a verb asks for that isn't one call alone.
+    fn act_otherwise<S: Filestore>(
+        &mut self,
+        alloc: Global,
+        store: &mut S,
+        who: &User,
+        room: usize,
+        by: bool,
+        action: Action,
+    ) -> Result<(), NoMemory>
+        requires running { S.is_spent store.old ≡ false }
+        requires open { said.is_over self.old ≡ false }
+        requires few { self.old.blocks ≤ 2048 }
+        requires level { 0 < length self.old.desk.levels.levels }
+        requires sound { verbs.IsSound action }
+        requires kind { actions.is_one_call action ≡ false }
+        ensures ok { OnOk result (RanWell S.answers S.is_spent S.can_wait who.now store.old
+            (actions.act room who.now by action self.old) self.new store.new) }
+        ensures err { OnErr result (RanInPart S.answers who.now store.old
+            (actions.act room who.now by action self.old) store.new) }
+        ensures live { OnOk result (said.is_over self.new ≡ false → S.is_spent store.new ≡ false) }
+        ensures same_waits { (s : ℕ) → S.can_wait store.new s ≡ S.can_wait store.old s }
+        ensures blocks { OnOk result (self.new.blocks ≤ self.old.blocks + 2048) }
+    {
+        match action {
+            Action::Input { file } => self.input(alloc, store, who, room, file),
+            Action::Copy { from, to } => {
+                self.fetch(alloc, store, who, room, from, Mode::Read, Use::Put(to))
+            }
+            Action::Append { from, to } => {
+                self.fetch(alloc, store, who, room, from, Mode::Read, Use::Append(to))
+            }
+            Action::ListFile { file } => {
+                self.fetch(alloc, store, who, room, file, Mode::Read, Use::List)
+            }
+            Action::Load { file } => {
+                self.fetch(alloc, store, who, room, file, Mode::Execute, Use::Load)
+            }
+            Action::Enter { n } => self.enter(alloc, room, by, n as u8),
+            Action::Resume => self.resume(alloc, room, by),
+            Action::Assign { unit, file } => self.assign(alloc, store, who, room, unit, file),
+            Action::Release { unit } => self.release(alloc, store, who, room, unit),
+            Action::Delete => self.delete(alloc, store, who, room),
+            Action::SetParam { letter, text } => {
+                self.set_param(alloc, letter, text);
+                Ok(())
+            }
+            Action::Display { text } => self.display(alloc, room, text.as_slice()),
+            Action::EndJob => self.end_job(alloc, store, who, room),
+            Action::Macro { name, params } => {
+                self.look_up(alloc, store, who, room, &name, params)
+            }
+            _ => unreachable!(),
+        }
+    }
+
+    /// INPUT: the lines up to `////` are put, and passed over whatever that answers.
+    fn input<S: Filestore>(
+        &mut self,
+        alloc: Global,
+        store: &mut S,
+        who: &User,
+        room: usize,
+        file: Path,
+    ) -> Result<(), NoMemory>
+        requires running { S.is_spent store.old ≡ false }
+        requires few { self.old.blocks ≤ 4096 }
+        requires level { 0 < length self.old.desk.levels.levels }
+        ensures ok { OnOk result (RanWell S.answers S.is_spent S.can_wait who.now store.old
+            (actions.input room file self.old) self.new store.new) }
+        ensures err { OnErr result (RanInPart S.answers who.now store.old
+            (actions.input room file self.old) store.new) }
+        ensures live { OnOk result (said.is_over self.new ≡ false → S.is_spent store.new ≡ false) }
+        ensures same_waits { (s : ℕ) → S.can_wait store.new s ≡ S.can_wait store.old s }
+        ensures blocks { OnOk result (self.new.blocks ≤ self.old.blocks + 128) }
+    {
+        match self.levels.document(alloc) {
+            Ok(bytes) => match self.put(alloc, store, who, room, true, file, bytes) {
+                Ok(()) => Ok(()),
+                Err(NoMemory) => Err(NoMemory),
+            },
+            Err(_) => Err(NoMemory),
+        }
+    }
+
+    /// SETPARAM: the empty text where none is given.
+    fn set_param(&mut self, alloc: Global, letter: u8, text: Option<Text>)
+        requires level { 0 < length self.old.desk.levels.levels }
+        requires letter { IsLetter letter }
+        ensures { self.new ≡ said.with_levels
+            (with_param letter (unwrap_or text []) self.old.desk.levels) self.old }
+    {
+        let value = text.unwrap_or(Text::new(alloc));
+        self.levels.set_param(letter, value);
+    }
+
+    /// DISPLAY.
+    fn display(&mut self, alloc: Global, room: usize, text: &[u8]) -> Result<(), NoMemory>
+        ensures ok { OnOk result
+            (self.new ≡ said.say room (marked mark.Displayed text.now) (said.done self.old)) }
+        ensures blocks { OnOk result (self.new.blocks ≡ self.old.blocks) }
+    {
+        self.done();
+        self.say_marked(alloc, room, Mark::Displayed, text)?;
+        Ok(())
+    }
+}

@@ -1,0 +1,195 @@
+//! Calls of a store, and what a work makes of their answers.
+ghost use Rattle.std.specs.Prelude.{◌≡◌, ◌≤◌, ◌+◌, ◌++◌, ℕ, Err, false, IfOk, OnErr, OnOk, if◌then◌else◌};
+ghost use Rattle.g_act.specs.Asking as asking;
+ghost use Rattle.g_act.specs.Say as said;
+ghost use Rattle.g_act.specs.Steps.{IsStep, RanWell};
+ghost use Rattle.g_monitor.specs.Parts.{full_text};
+ghost use Rattle.g_monitor.specs.Replies.{reply_lines};
+ghost use Rattle.g_plain.specs.Asks.{RanInPart};
+ghost use Rattle.g_plain.specs.Replies.{IsReplyTo};
+ghost use Rattle.g_plain.specs.Rules.{IsWithinLimits};
+
+use crate::work::Work;
+use g_base::NoMemory;
+use g_name::{Full, Path, Text, User};
+use g_plain::{Filestore, StoreCall, StoreFault, StoreReply, ask};
+use std::alloc::Global;
+
+/// Makes one call, and says of its answer all that is known of any store. Want of memory is no answer.
+pub(crate) fn ask_any<S: Filestore>(
+    alloc: Global,
+    store: &mut S,
+    who: &User,
+    call: &StoreCall,
+) -> Result<Result<StoreReply, StoreFault>, NoMemory>
+    requires running { S.is_spent store.old ≡ false }
+    requires limits { IsWithinLimits call.now }
+    ensures step { IfOk result (λ answer.
+        IsStep S.answers S.is_spent S.can_wait who.now store.old call.now answer store.new) }
+    ensures memory { OnErr result
+        (S.answers store.old who.now call.now (Err StoreFault.NoMemory) store.new) }
+    ensures live { OnErr result (S.is_spent store.new ≡ false) }
+    ensures same_waits { (s : ℕ) → S.can_wait store.new s ≡ S.can_wait store.old s }
+{
+    ask(alloc, store, who, call)
+}
+
+impl Work {
+    /// A verb of one call that hands over no bytes: its reply is said.
+    pub(crate) fn one_call<S: Filestore>(
+        &mut self,
+        alloc: Global,
+        store: &mut S,
+        who: &User,
+        room: usize,
+        call: &StoreCall,
+    ) -> Result<(), NoMemory>
+        requires running { S.is_spent store.old ≡ false }
+        requires open { said.is_over self.old ≡ false }
+        requires limits { IsWithinLimits call.now }
+        ensures ok { OnOk result (RanWell S.answers S.is_spent S.can_wait who.now store.old
+            (asking.one_call room call.now self.old) self.new store.new) }
+        ensures err { OnErr result (RanInPart S.answers who.now store.old
+            (asking.one_call room call.now self.old) store.new) }
+        ensures live { OnOk result (said.is_over self.new ≡ false → S.is_spent store.new ≡ false) }
+        ensures same_waits { (s : ℕ) → S.can_wait store.new s ≡ S.can_wait store.old s }
+        ensures blocks { OnOk result (self.new.blocks ≡ self.old.blocks) }
+    {
+        match ask_any(alloc, store, who, call) {
+            Ok(Ok(reply)) => match self.grant(alloc, room, call, &reply) {
+                Ok(()) => Ok(()),
+                Err(NoMemory) => Err(NoMemory),
+            },
+            Ok(Err(fault)) => match self.refuse(alloc, room, &fault) {
+                Ok(()) => Ok(()),
+                Err(NoMemory) => Err(NoMemory),
+            },
+            Err(NoMemory) => Err(NoMemory),
+        }
+    }
+
+    /// A call is granted: the command is done, and the reply is said.
+    fn grant(
+        &mut self,
+        alloc: Global,
+        room: usize,
+        call: &StoreCall,
+        reply: &StoreReply,
+    ) -> Result<(), NoMemory>
+        requires open { said.is_over self.old ≡ false }
+        requires kind { IsReplyTo call.now reply.now }
+        ensures ok { OnOk result
+            (self.new ≡ said.say_all room (reply_lines call.now reply.now) (said.done self.old)) }
+        ensures blocks { OnOk result (self.new.blocks ≡ self.old.blocks) }
+    {
+        self.done();
+        self.say_reply(alloc, room, call, reply)?;
+        Ok(())
+    }
+
+    /// Puts bytes. The command comes out well with them; or, at the release of a unit by DELETE or at the job's end, as it
+    /// stands.
+    pub(crate) fn put<S: Filestore>(
+        &mut self,
+        alloc: Global,
+        store: &mut S,
+        who: &User,
+        room: usize,
+        comes_well: bool,
+        path: Path,
+        bytes: Text,
+    ) -> Result<(), NoMemory>
+        requires running { S.is_spent store.old ≡ false }
+        requires few { self.old.blocks ≤ 4096 }
+        ensures ok { OnOk result (RanWell S.answers S.is_spent S.can_wait who.now store.old
+            (asking.put room comes_well path bytes self.old) self.new store.new) }
+        ensures err { OnErr result (RanInPart S.answers who.now store.old
+            (asking.put room comes_well path bytes self.old) store.new) }
+        ensures live { OnOk result (said.is_over self.new ≡ false → S.is_spent store.new ≡ false) }
+        ensures same_waits { (s : ℕ) → S.can_wait store.new s ≡ S.can_wait store.old s }
+        ensures blocks { OnOk result (self.new.blocks ≤ self.old.blocks + 128) }
+    {
+        let len = bytes.as_slice().len();
+        let call = StoreCall::Put { path, bytes };
+        match ask_any(alloc, store, who, &call) {
+            Ok(Ok(reply)) => match reply {
+                StoreReply::Made(full) => {
+                    match self.say_handed(alloc, room, comes_well, len, b"MADE ", &full) {
+                        Ok(()) => Ok(()),
+                        Err(NoMemory) => Err(NoMemory),
+                    }
+                }
+                _ => Ok(()),
+            },
+            Ok(Err(fault)) => match self.refuse(alloc, room, &fault) {
+                Ok(()) => Ok(()),
+                Err(NoMemory) => Err(NoMemory),
+            },
+            Err(NoMemory) => Err(NoMemory),
+        }
+    }
+
+    /// Puts bytes behind those of a file.
+    pub(crate) fn append<S: Filestore>(
+        &mut self,
+        alloc: Global,
+        store: &mut S,
+        who: &User,
+        room: usize,
+        path: Path,
+        bytes: Text,
+    ) -> Result<(), NoMemory>
+        requires running { S.is_spent store.old ≡ false }
+        requires few { self.old.blocks ≤ 4096 }
+        ensures ok { OnOk result (RanWell S.answers S.is_spent S.can_wait who.now store.old
+            (asking.append room path bytes self.old) self.new store.new) }
+        ensures err { OnErr result (RanInPart S.answers who.now store.old
+            (asking.append room path bytes self.old) store.new) }
+        ensures live { OnOk result (said.is_over self.new ≡ false → S.is_spent store.new ≡ false) }
+        ensures same_waits { (s : ℕ) → S.can_wait store.new s ≡ S.can_wait store.old s }
+        ensures blocks { OnOk result (self.new.blocks ≤ self.old.blocks + 128) }
+    {
+        let len = bytes.as_slice().len();
+        let call = StoreCall::Append { path, bytes };
+        match ask_any(alloc, store, who, &call) {
+            Ok(Ok(reply)) => match reply {
+                StoreReply::Appended(full) => {
+                    match self.say_handed(alloc, room, true, len, b"APPENDED ", &full) {
+                        Ok(()) => Ok(()),
+                        Err(NoMemory) => Err(NoMemory),
+                    }
+                }
+                _ => Ok(()),
+            },
+            Ok(Err(fault)) => match self.refuse(alloc, room, &fault) {
+                Ok(()) => Ok(()),
+                Err(NoMemory) => Err(NoMemory),
+            },
+            Err(NoMemory) => Err(NoMemory),
+        }
+    }
+
+    /// So many bytes were handed over: their blocks count, and the file is said behind these words.
+    fn say_handed(
+        &mut self,
+        alloc: Global,
+        room: usize,
+        comes_well: bool,
+        len: usize,
+        words: &[u8],
+        full: &Full,
+    ) -> Result<(), NoMemory>
+        requires few { self.old.blocks ≤ 4096 }
+        requires short { len ≤ 65536 }
+        ensures ok { OnOk result (self.new ≡ said.say room (words.now ++ full_text full.now)
+            (said.with_bytes len (if comes_well then said.done self.old else self.old))) }
+        ensures blocks { OnOk result (self.new.blocks ≤ self.old.blocks + 128) }
+    {
+        if comes_well {
+            self.done();
+        }
+        self.count_bytes(len);
+        self.say_named(alloc, room, words, full)?;
+        Ok(())
+    }
+}

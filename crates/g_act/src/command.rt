@@ -1,0 +1,229 @@
+//! One command of a line: GOTO, IF, WHENEVER, or a verb.
+ghost use Rattle.std.specs.Prelude.{◌≡◌, ◌≤◌, ◌+◌, ◌<◌, ℕ, false, length, IfSome, OnErr, OnOk};
+ghost use Rattle.g_act.specs.Commands as commands;
+ghost use Rattle.g_act.specs.Met.{IsBare, IsSpoken, Met};
+ghost use Rattle.g_act.specs.Say as said;
+ghost use Rattle.g_act.specs.Steps.{RanWell};
+ghost use Rattle.g_lang.specs.Lines.{IsCommandText};
+ghost use Rattle.g_lang.specs.Said.{command_said};
+ghost use Rattle.g_macro.specs.Levels.{current, line_of_label};
+ghost use Rattle.g_plain.specs.Asks.{RanInPart};
+ghost use Rattle.g_monitor.specs.declared.errors.CommandError.TheVariants as errors;
+ghost use Rattle.g_verbs.specs.How.{action_read};
+
+use crate::work::Work;
+use g_base::NoMemory;
+use g_lang::{Command, Cond, Label};
+use g_lines::Texts;
+use g_macro::MacroFault;
+use g_monitor::CommandError;
+use g_name::{Local, Text, User};
+use g_plain::Filestore;
+use g_verbs::{VerbFault, read_verb};
+use std::alloc::Global;
+
+impl Work {
+    /// Does what a text says, for the user `who`; `by` tells that a WHENEVER does it. Nothing is done of a blank line,
+    /// of a label alone, and behind an IF whose condition doesn't hold.
+    pub(crate) fn do_command<S: Filestore>(
+        &mut self,
+        alloc: Global,
+        store: &mut S,
+        who: &User,
+        room: usize,
+        by: bool,
+        command: Command,
+    ) -> Result<(), NoMemory>
+        requires running { S.is_spent store.old ≡ false }
+        requires open { said.is_over self.old ≡ false }
+        requires few { self.old.blocks ≤ 2048 }
+        requires level { 0 < length self.old.desk.levels.levels }
+        requires spoken { IfSome (command_said command) IsSpoken }
+        ensures ok { OnOk result (RanWell S.answers S.is_spent S.can_wait who.now store.old
+            (commands.done_if room who.now by (command_said command) self.old) self.new store.new) }
+        ensures err { OnErr result (RanInPart S.answers who.now store.old
+            (commands.done_if room who.now by (command_said command) self.old) store.new) }
+        ensures live { OnOk result (said.is_over self.new ≡ false → S.is_spent store.new ≡ false) }
+        ensures same_waits { (s : ℕ) → S.can_wait store.new s ≡ S.can_wait store.old s }
+        ensures blocks { OnOk result (self.new.blocks ≤ self.old.blocks + 2048) }
+    {
+        match self.met(command) {
+            Some(command) => match self.command(alloc, store, who, room, by, command) {
+                Ok(()) => Ok(()),
+                Err(NoMemory) => Err(NoMemory),
+            },
+            None => Ok(()),
+        }
+    }
+
+    /// The command behind the conditions of IF, where they all hold.
+    fn met(&self, command: Command) -> Option<Command>
+        requires level { 0 < length self.now.desk.levels.levels }
+        requires spoken { IfSome (command_said command) IsSpoken }
+        ensures met { Met command self.now result }
+        ensures spoken { IfSome result (λ c. IfSome (command_said c) IsSpoken) }
+    {
+        match command {
+            Command::Blank => None,
+            Command::If { cond, inner } => {
+                if self.levels.holds(&cond, &self.outcome) {
+                    self.met(Box::into_inner(inner))
+                } else {
+                    None
+                }
+            }
+            other => Some(other),
+        }
+    }
+
+    /// Does a command that stands behind no condition.
+    fn command<S: Filestore>(
+        &mut self,
+        alloc: Global,
+        store: &mut S,
+        who: &User,
+        room: usize,
+        by: bool,
+        command: Command,
+    ) -> Result<(), NoMemory>
+        requires running { S.is_spent store.old ≡ false }
+        requires open { said.is_over self.old ≡ false }
+        requires few { self.old.blocks ≤ 2048 }
+        requires level { 0 < length self.old.desk.levels.levels }
+        requires spoken { IfSome (command_said command) IsSpoken }
+        requires bare { IsBare command }
+        ensures ok { OnOk result (RanWell S.answers S.is_spent S.can_wait who.now store.old
+            (commands.done_if room who.now by (command_said command) self.old) self.new store.new) }
+        ensures err { OnErr result (RanInPart S.answers who.now store.old
+            (commands.done_if room who.now by (command_said command) self.old) store.new) }
+        ensures live { OnOk result (said.is_over self.new ≡ false → S.is_spent store.new ≡ false) }
+        ensures same_waits { (s : ℕ) → S.can_wait store.new s ≡ S.can_wait store.old s }
+        ensures blocks { OnOk result (self.new.blocks ≤ self.old.blocks + 2048) }
+    {
+        match command {
+            Command::Goto(label) => match self.go_to(alloc, room, &label) {
+                Ok(()) => Ok(()),
+                Err(NoMemory) => Err(NoMemory),
+            },
+            Command::Whenever { cond, command } => match self.keep(alloc, room, cond, command) {
+                Ok(()) => Ok(()),
+                Err(NoMemory) => Err(NoMemory),
+            },
+            Command::Verb { name, params, rest } => {
+                match self.verb(alloc, store, who, room, by, &name, params, rest) {
+                    Ok(()) => Ok(()),
+                    Err(NoMemory) => Err(NoMemory),
+                }
+            }
+            Command::Blank | Command::If { .. } => Ok(()),
+        }
+    }
+
+    /// GOTO: the level goes on at its first line with the label.
+    fn go_to(&mut self, alloc: Global, room: usize, label: &Label) -> Result<(), NoMemory>
+        requires level { 0 < length self.old.desk.levels.levels }
+        ensures ok { OnOk result (self.new ≡ commands.gone room
+            (line_of_label label.now (current self.old.desk.levels).lines) self.old) }
+        ensures blocks { OnOk result (self.new.blocks ≡ self.old.blocks) }
+    {
+        match self.levels.goto(label) {
+            Ok(()) => Ok(()),
+            Err(MacroFault::NoLabel) => self.in_error(alloc, room, CommandError::NoLabel),
+            Err(_) => unreachable!(),
+        }
+    }
+
+    /// WHENEVER: the level keeps the command.
+    fn keep(
+        &mut self,
+        alloc: Global,
+        room: usize,
+        cond: Cond,
+        command: Text,
+    ) -> Result<(), NoMemory>
+        requires level { 0 < length self.old.desk.levels.levels }
+        requires command { IsCommandText command }
+        ensures ok { OnOk result (self.new ≡ commands.kept room cond command self.old) }
+        ensures blocks { OnOk result (self.new.blocks ≡ self.old.blocks) }
+    {
+        match self.levels.whenever(cond, command) {
+            Ok(()) => Ok(()),
+            Err(MacroFault::WheneversFull) => {
+                self.in_error(alloc, room, CommandError::WheneversFull)
+            }
+            Err(MacroFault::NoMemory) => Err(NoMemory),
+            Err(_) => unreachable!(),
+        }
+    }
+
+    /// A verb, or a macro.
+    fn verb<S: Filestore>(
+        &mut self,
+        alloc: Global,
+        store: &mut S,
+        who: &User,
+        room: usize,
+        by: bool,
+        name: &Local,
+        params: Texts,
+        rest: Text,
+    ) -> Result<(), NoMemory>
+        requires running { S.is_spent store.old ≡ false }
+        requires open { said.is_over self.old ≡ false }
+        requires few { self.old.blocks ≤ 2048 }
+        requires level { 0 < length self.old.desk.levels.levels }
+        ensures ok { OnOk result (RanWell S.answers S.is_spent S.can_wait who.now store.old
+            (commands.acted room who.now by name.now (action_read name.now params rest) self.old)
+            self.new store.new) }
+        ensures err { OnErr result (RanInPart S.answers who.now store.old
+            (commands.acted room who.now by name.now (action_read name.now params rest) self.old)
+            store.new) }
+        ensures live { OnOk result (said.is_over self.new ≡ false → S.is_spent store.new ≡ false) }
+        ensures same_waits { (s : ℕ) → S.can_wait store.new s ≡ S.can_wait store.old s }
+        ensures blocks { OnOk result (self.new.blocks ≤ self.old.blocks + 2048) }
+    {
+        match read_verb(name, params, rest) {
+            Ok(action) => match self.act(alloc, store, who, room, by, action) {
+                Ok(()) => Ok(()),
+                Err(NoMemory) => Err(NoMemory),
+            },
+            Err(VerbFault::BadParameter(index)) => {
+                match self.bad_parameter(alloc, room, name, index) {
+                    Ok(()) => Ok(()),
+                    Err(NoMemory) => Err(NoMemory),
+                }
+            }
+        }
+    }
+
+    /// A bad parameter; the document of an INPUT is passed over all the same.
+    fn bad_parameter(
+        &mut self,
+        alloc: Global,
+        room: usize,
+        name: &Local,
+        index: usize,
+    ) -> Result<(), NoMemory>
+        requires level { 0 < length self.old.desk.levels.levels }
+        ensures ok { OnOk result (self.new ≡ said.in_error room (errors.BadParameter index)
+            (commands.passes_document name.now self.old)) }
+        ensures blocks { OnOk result (self.new.blocks ≡ self.old.blocks) }
+    {
+        self.pass_document(alloc, name)?;
+        self.in_error(alloc, room, CommandError::BadParameter(index))
+    }
+
+    /// Passes over the lines behind an INPUT.
+    fn pass_document(&mut self, alloc: Global, name: &Local) -> Result<(), NoMemory>
+        requires level { 0 < length self.old.desk.levels.levels }
+        ensures { OnOk result (self.new ≡ commands.passes_document name.now self.old) }
+    {
+        if name.as_slice() != b"INPUT".as_slice() {
+            return Ok(());
+        }
+        match self.levels.document(alloc) {
+            Ok(_document) => Ok(()),
+            Err(_) => Err(NoMemory),
+        }
+    }
+}

@@ -1,0 +1,28 @@
+//! The work of a turn: what its lines, commands and verbs ask of a store, what they make of the answers, and what is said.
+#![tactic(auto)]
+
+mod acts;
+mod again;
+mod asking;
+mod command;
+mod fetching;
+mod lines;
+mod listing;
+mod macros;
+mod made;
+mod releases;
+mod runs;
+mod say;
+mod stop;
+mod trimming;
+mod turning;
+mod uses;
+mod work;
+
+pub use again::Again;
+pub use made::Made;
+pub use stop::Stop;
+pub use work::Work;
+
+#[cfg(test)]
+mod tests;

@@ -1,0 +1,353 @@
+//! One line, and the WHENEVER behind it.
+ghost use Rattle.std.specs.Prelude.{◌≡◌, ◌≤◌, ◌+◌, ◌<◌, ℕ, false, length, IfOk, OnErr, OnOk};
+ghost use Rattle.g_act.specs.Going.{FiredAs, IsReady};
+ghost use Rattle.g_act.specs.Lines as lines;
+ghost use Rattle.g_act.specs.Met.{IsReadWell, IsSpoken, read_as};
+ghost use Rattle.g_act.specs.Say as said;
+ghost use Rattle.g_act.specs.Steps.{RanWell};
+ghost use Rattle.g_lang.specs.How.{reading};
+ghost use Rattle.g_lang.specs.Lines.{IsCommandText};
+ghost use Rattle.g_monitor.specs.JobLines.{marked};
+ghost use Rattle.g_monitor.specs.declared.job_lines.Mark.TheVariants as mark;
+ghost use Rattle.g_plain.specs.Asks.{Gives, RanInPart, and_then};
+
+use crate::again::Again;
+use crate::trimming::trimmed;
+use crate::work::Work;
+use g_base::NoMemory;
+use g_lang::{LangFault, Line, parse_line};
+use g_monitor::{CommandError, Mark};
+use g_name::{Text, User};
+use g_plain::Filestore;
+use std::alloc::Global;
+
+impl Work {
+    /// Does a line that was taken: its echo, its command, and the WHENEVER behind it.
+    pub(crate) fn line<S: Filestore>(
+        &mut self,
+        alloc: Global,
+        store: &mut S,
+        who: &User,
+        room: usize,
+        text: Text,
+    ) -> Result<(), NoMemory>
+        requires running { S.is_spent store.old ≡ false }
+        requires few { self.old.blocks ≡ 0 }
+        requires level { 0 < length self.old.desk.levels.levels }
+        ensures ok { OnOk result (RanWell S.answers S.is_spent S.can_wait who.now store.old
+            (lines.line room who.now text self.old) self.new store.new) }
+        ensures err { OnErr result (RanInPart S.answers who.now store.old
+            (lines.line room who.now text self.old) store.new) }
+        ensures same_waits { (s : ℕ) → S.can_wait store.new s ≡ S.can_wait store.old s }
+        ensures ready { OnOk result (IsReady self.new) }
+    {
+        let read = read_line(alloc, text.as_slice())?;
+        self.say_line(alloc, room, text)?;
+        if self.is_over() {
+            return Ok(());
+        }
+        match self.behind_echo(alloc, store, who, room, read) {
+            Ok(()) => Ok(()),
+            Err(NoMemory) => Err(NoMemory),
+        }
+    }
+
+    /// Says the echo of a line; where its command waits, the turn is gone on with at this line.
+    fn say_line(&mut self, alloc: Global, room: usize, text: Text) -> Result<(), NoMemory>
+        requires level { 0 < length self.old.desk.levels.levels }
+        ensures ok { OnOk result (self.new ≡ lines.says_line room text self.old) }
+        ensures blocks { OnOk result (self.new.blocks ≡ self.old.blocks) }
+        ensures level { OnOk result (0 < length self.new.desk.levels.levels) }
+        ensures ready { OnOk result (IsReady self.new) }
+    {
+        self.say_marked(alloc, room, Mark::Taken, trimmed(text.as_slice()))?;
+        self.again = Some(Again::Line(text));
+        Ok(())
+    }
+
+    /// The command of a line behind its echo, and the WHENEVER behind it.
+    fn behind_echo<S: Filestore>(
+        &mut self,
+        alloc: Global,
+        store: &mut S,
+        who: &User,
+        room: usize,
+        read: Result<Line, usize>,
+    ) -> Result<(), NoMemory>
+        requires running { S.is_spent store.old ≡ false }
+        requires open { said.is_over self.old ≡ false }
+        requires few { self.old.blocks ≡ 0 }
+        requires level { 0 < length self.old.desk.levels.levels }
+        requires read { IsReadWell read }
+        requires ready { IsReady self.old }
+        ensures ok { OnOk result (RanWell S.answers S.is_spent S.can_wait who.now store.old
+            (and_then said.is_over (lines.does_line room who.now (read_as read) self.old) (lines.may_fire room who.now)) self.new store.new) }
+        ensures err { OnErr result (RanInPart S.answers who.now store.old
+            (and_then said.is_over (lines.does_line room who.now (read_as read) self.old) (lines.may_fire room who.now)) store.new) }
+        ensures same_waits { (s : ℕ) → S.can_wait store.new s ≡ S.can_wait store.old s }
+        ensures ready { OnOk result (IsReady self.new) }
+    {
+        match self.do_line(alloc, store, who, room, read) {
+            Ok(()) => {}
+            Err(NoMemory) => return Err(NoMemory),
+        }
+        if self.is_over() {
+            return Ok(());
+        }
+        match self.may_fire(alloc, store, who, room) {
+            Ok(()) => Ok(()),
+            Err(NoMemory) => Err(NoMemory),
+        }
+    }
+
+    /// The command of a line, or the error of a bad one.
+    fn do_line<S: Filestore>(
+        &mut self,
+        alloc: Global,
+        store: &mut S,
+        who: &User,
+        room: usize,
+        read: Result<Line, usize>,
+    ) -> Result<(), NoMemory>
+        requires running { S.is_spent store.old ≡ false }
+        requires open { said.is_over self.old ≡ false }
+        requires few { self.old.blocks ≤ 2048 }
+        requires level { 0 < length self.old.desk.levels.levels }
+        requires read { IsReadWell read }
+        requires ready { IsReady self.old }
+        ensures ok { OnOk result (RanWell S.answers S.is_spent S.can_wait who.now store.old
+            (lines.does_line room who.now (read_as read) self.old) self.new store.new) }
+        ensures err { OnErr result (RanInPart S.answers who.now store.old
+            (lines.does_line room who.now (read_as read) self.old) store.new) }
+        ensures live { OnOk result (said.is_over self.new ≡ false → S.is_spent store.new ≡ false) }
+        ensures same_waits { (s : ℕ) → S.can_wait store.new s ≡ S.can_wait store.old s }
+        ensures blocks { OnOk result (self.new.blocks ≤ self.old.blocks + 2048) }
+        ensures ready { OnOk result (IsReady self.new) }
+    {
+        match read {
+            Ok(line) => match self.do_command(alloc, store, who, room, false, line.command) {
+                Ok(()) => Ok(()),
+                Err(NoMemory) => Err(NoMemory),
+            },
+            Err(place) => match self.in_error(alloc, room, CommandError::BadLine(place)) {
+                Ok(()) => Ok(()),
+                Err(NoMemory) => Err(NoMemory),
+            },
+        }
+    }
+
+    /// Does a line above 240 bytes, of which these are the first 240: it is bad.
+    pub(crate) fn long_line<S: Filestore>(
+        &mut self,
+        alloc: Global,
+        store: &mut S,
+        who: &User,
+        room: usize,
+        front: Text,
+    ) -> Result<(), NoMemory>
+        requires running { S.is_spent store.old ≡ false }
+        requires few { self.old.blocks ≤ 2048 }
+        requires ready { IsReady self.old }
+        ensures ok { OnOk result (RanWell S.answers S.is_spent S.can_wait who.now store.old
+            (lines.long_line room who.now front self.old) self.new store.new) }
+        ensures err { OnErr result (RanInPart S.answers who.now store.old
+            (lines.long_line room who.now front self.old) store.new) }
+        ensures same_waits { (s : ℕ) → S.can_wait store.new s ≡ S.can_wait store.old s }
+        ensures ready { OnOk result (IsReady self.new) }
+    {
+        self.say_marked(alloc, room, Mark::Taken, front.as_slice())?;
+        if self.is_over() {
+            return Ok(());
+        }
+        match self.too_long(alloc, store, who, room) {
+            Ok(()) => Ok(()),
+            Err(NoMemory) => Err(NoMemory),
+        }
+    }
+
+    /// The error of a line above 240 bytes, and the WHENEVER behind it.
+    fn too_long<S: Filestore>(
+        &mut self,
+        alloc: Global,
+        store: &mut S,
+        who: &User,
+        room: usize,
+    ) -> Result<(), NoMemory>
+        requires running { S.is_spent store.old ≡ false }
+        requires few { self.old.blocks ≤ 2048 }
+        requires ready { IsReady self.old }
+        ensures ok { OnOk result (RanWell S.answers S.is_spent S.can_wait who.now store.old
+            (lines.too_long room who.now self.old) self.new store.new) }
+        ensures err { OnErr result (RanInPart S.answers who.now store.old
+            (lines.too_long room who.now self.old) store.new) }
+        ensures same_waits { (s : ℕ) → S.can_wait store.new s ≡ S.can_wait store.old s }
+        ensures ready { OnOk result (IsReady self.new) }
+    {
+        self.in_error(alloc, room, CommandError::BadLine(240))?;
+        if self.is_over() {
+            return Ok(());
+        }
+        match self.may_fire(alloc, store, who, room) {
+            Ok(()) => Ok(()),
+            Err(NoMemory) => Err(NoMemory),
+        }
+    }
+
+    /// Does the WHENEVER behind a command that set the outcome, if one fires.
+    pub(crate) fn may_fire<S: Filestore>(
+        &mut self,
+        alloc: Global,
+        store: &mut S,
+        who: &User,
+        room: usize,
+    ) -> Result<(), NoMemory>
+        requires running { S.is_spent store.old ≡ false }
+        requires few { self.old.blocks ≤ 2048 }
+        requires ready { IsReady self.old }
+        ensures ok { OnOk result (RanWell S.answers S.is_spent S.can_wait who.now store.old
+            (lines.may_fire room who.now self.old) self.new store.new) }
+        ensures err { OnErr result (RanInPart S.answers who.now store.old
+            (lines.may_fire room who.now self.old) store.new) }
+        ensures same_waits { (s : ℕ) → S.can_wait store.new s ≡ S.can_wait store.old s }
+        ensures ready { OnOk result (IsReady self.new) }
+    {
+        if !self.sets {
+            return Ok(());
+        }
+        match self.take_fired(alloc)? {
+            Some(text) => match self.fires(alloc, store, who, room, text) {
+                Ok(()) => Ok(()),
+                Err(NoMemory) => Err(NoMemory),
+            },
+            None => Ok(()),
+        }
+    }
+
+    /// The command that fires, whose level is then the current one.
+    fn take_fired(&mut self, alloc: Global) -> Result<Option<Text>, NoMemory>
+        ensures fired { IfOk result (λ text. FiredAs text self.old self.new) }
+        ensures blocks { OnOk result (self.new.blocks ≡ self.old.blocks) }
+    {
+        match self.levels.fire(alloc, &self.outcome) {
+            Ok(text) => Ok(text),
+            Err(_) => Err(NoMemory),
+        }
+    }
+
+    /// Says a command that fires, in its own level, and does it.
+    fn fires<S: Filestore>(
+        &mut self,
+        alloc: Global,
+        store: &mut S,
+        who: &User,
+        room: usize,
+        text: Text,
+    ) -> Result<(), NoMemory>
+        requires running { S.is_spent store.old ≡ false }
+        requires few { self.old.blocks ≤ 2048 }
+        requires level { 0 < length self.old.desk.levels.levels }
+        requires command { IsCommandText text }
+        requires ready { IsReady self.old }
+        ensures ok { OnOk result (RanWell S.answers S.is_spent S.can_wait who.now store.old
+            (and_then said.is_over (Gives (said.say room (marked mark.Fired text) self.old)) (lines.does_fired room who.now text)) self.new store.new) }
+        ensures err { OnErr result (RanInPart S.answers who.now store.old
+            (and_then said.is_over (Gives (said.say room (marked mark.Fired text) self.old)) (lines.does_fired room who.now text)) store.new) }
+        ensures same_waits { (s : ℕ) → S.can_wait store.new s ≡ S.can_wait store.old s }
+        ensures ready { OnOk result (IsReady self.new) }
+    {
+        self.say_marked(alloc, room, Mark::Fired, text.as_slice())?;
+        if self.is_over() {
+            return Ok(());
+        }
+        match self.do_fired(alloc, store, who, room, text) {
+            Ok(()) => Ok(()),
+            Err(NoMemory) => Err(NoMemory),
+        }
+    }
+
+    /// Does the command of a WHENEVER behind its line; where it waits, the turn is gone on with at this command.
+    pub(crate) fn do_fired<S: Filestore>(
+        &mut self,
+        alloc: Global,
+        store: &mut S,
+        who: &User,
+        room: usize,
+        text: Text,
+    ) -> Result<(), NoMemory>
+        requires running { S.is_spent store.old ≡ false }
+        requires open { said.is_over self.old ≡ false }
+        requires few { self.old.blocks ≤ 2048 }
+        requires level { 0 < length self.old.desk.levels.levels }
+        requires command { IsCommandText text }
+        ensures ok { OnOk result (RanWell S.answers S.is_spent S.can_wait who.now store.old
+            (lines.does_fired room who.now text self.old) self.new store.new) }
+        ensures err { OnErr result (RanInPart S.answers who.now store.old
+            (lines.does_fired room who.now text self.old) store.new) }
+        ensures same_waits { (s : ℕ) → S.can_wait store.new s ≡ S.can_wait store.old s }
+        ensures ready { OnOk result (IsReady self.new) }
+    {
+        let read = read_line(alloc, text.as_slice())?;
+        self.keep_command(alloc, text)?;
+        match self.do_read(alloc, store, who, room, read) {
+            Ok(()) => Ok(()),
+            Err(NoMemory) => Err(NoMemory),
+        }
+    }
+
+    /// Keeps the command of a WHENEVER, with what the line before it left.
+    fn keep_command(&mut self, alloc: Global, command: Text) -> Result<(), NoMemory>
+        ensures ok { OnOk result (self.new ≡ lines.to_go_on command self.old) }
+    {
+        let text = Text::from_slice(alloc, self.text.as_slice())?;
+        self.again = Some(Again::Command {
+            text,
+            orders: self.orders,
+            blocks: self.blocks,
+            command,
+        });
+        Ok(())
+    }
+
+    /// Does the command of a WHENEVER that was read. Its text is that of a command, so it was read well.
+    fn do_read<S: Filestore>(
+        &mut self,
+        alloc: Global,
+        store: &mut S,
+        who: &User,
+        room: usize,
+        read: Result<Line, usize>,
+    ) -> Result<(), NoMemory>
+        requires running { S.is_spent store.old ≡ false }
+        requires open { said.is_over self.old ≡ false }
+        requires few { self.old.blocks ≤ 2048 }
+        requires level { 0 < length self.old.desk.levels.levels }
+        requires read { IsReadWell read }
+        requires ready { IsReady self.old }
+        ensures ok { OnOk result (RanWell S.answers S.is_spent S.can_wait who.now store.old
+            (lines.does_read room who.now (read_as read) self.old) self.new store.new) }
+        ensures err { OnErr result (RanInPart S.answers who.now store.old
+            (lines.does_read room who.now (read_as read) self.old) store.new) }
+        ensures same_waits { (s : ℕ) → S.can_wait store.new s ≡ S.can_wait store.old s }
+        ensures ready { OnOk result (IsReady self.new) }
+    {
+        match read {
+            Ok(line) => match self.do_command(alloc, store, who, room, true, line.command) {
+                Ok(()) => Ok(()),
+                Err(NoMemory) => Err(NoMemory),
+            },
+            Err(_) => Ok(()),
+        }
+    }
+}
+
+/// What a line says, or the place where it goes wrong.
+fn read_line(alloc: Global, text: &[u8]) -> Result<Result<Line, usize>, NoMemory>
+    ensures reading { IfOk result (λ read. reading text.now ≡ read_as read) }
+    ensures well { IfOk result IsReadWell }
+{
+    match parse_line(alloc, text) {
+        Ok(line) => Ok(Ok(line)),
+        Err(LangFault::BadLine(place)) => Ok(Err(place)),
+        Err(LangFault::NoMemory) => Err(NoMemory),
+    }
+}
