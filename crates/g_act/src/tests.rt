@@ -18,7 +18,10 @@ fn ample(rt: HostRuntime) -> Result<(), Fail> {
     work.begin(alloc);
     work.go(alloc, &mut store, &User::master(), 1_000, None)?;
     let made = work.take_made(alloc);
-    assert_eq!(rt; made.text.as_slice(), b"- DISPLAY X\nDISPLAY X\n".as_slice());
+    assert_eq!(rt;
+        made.text.as_slice(),
+        b"- DISPLAY X\nDISPLAY X\n".as_slice()
+    );
     assert_eq!(rt; made.orders, 0);
     assert_eq!(rt; made.blocks, 0);
     assert!(rt; made.stop.is_none());
