@@ -1,8 +1,7 @@
 //! Tests of the command language: lines that are in it and lines that aren't, by hand from the grammar, what levels make
-//! of them, and every text; and the law that a script's lines are those of the language.
+//! of them, and every text.
 #![tactic(auto)]
 
-mod laws;
 #[cfg(test)]
 mod levels;
 #[cfg(test)]
@@ -11,5 +10,3 @@ mod lines;
 mod refusals;
 #[cfg(test)]
 mod replies;
-
-pub use laws::script_lines_are_lines;

@@ -2,8 +2,8 @@
 use Rattle.std.proofs.Common.{◌≡◌, ◌++◌, ℕ, List, [], ◌∷◌, Option, Some, None, refl, sym, ◌∙◌, ap, subst}
 use Rattle.g_disc.specs.Disc.{DiscState}
 use Rattle.g_io.specs.Streams.{with_more, HasPutPart}
-use Rattle.g_script.specs.declared.script.Work.{Work}
-use Rattle.g_script.specs.declared.script.Work.TheVariants.{Nothing}
+use Rattle.g_first_script.specs.declared.script.Work.{Work}
+use Rattle.g_first_script.specs.declared.script.Work.TheVariants.{Nothing}
 use Rattle.g_run.specs.declared.progress.Failure.{Failure}
 use Rattle.g_run.specs.Texts.{bad_line}
 use Rattle.g_run.specs.World.{World, start, closing, closed}

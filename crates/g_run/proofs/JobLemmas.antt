@@ -5,7 +5,7 @@ use Rattle.std.proofs.lemmas.Bool.{eq-eqb}
 use Rattle.std.proofs.lemmas.Bool.Decides.{eqb_tells}
 use Rattle.g_first.specs.Files.{File}
 use Rattle.g_first.specs.Store.{FirstView}
-use Rattle.g_script.specs.declared.script.Job.{Job}
+use Rattle.g_first_script.specs.declared.script.Job.{Job}
 use Rattle.g_run.specs.declared.progress.Failure.{Failure}
 use Rattle.g_run.specs.declared.progress.Failure.TheVariants as failures
 use Rattle.g_run.specs.declared.turn.Turn.TheVariants as kinds

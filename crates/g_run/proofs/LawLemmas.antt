@@ -1,6 +1,6 @@
 -- Runs in which nothing failed have one text.
 use Rattle.std.proofs.Common.{◌≡◌, ◌⊎◌, ◌==◌, ◌+◌, ℕ, Bool, true, false, List, [], ◌∷◌, Option, Some, None, refl, sym, ◌∙◌, ap, subst, inl, inr, arith, slice_get, codes, if◌then◌else◌}
-use Rattle.g_script.specs.declared.script.Job.{Job}
+use Rattle.g_first_script.specs.declared.script.Job.{Job}
 use Rattle.g_first.specs.Files.{File}
 use Rattle.g_run.specs.World.{Phase, Between, Turned, ticked, World, Outcome, Plain, DiscRead, Cut, Store, Unknown, Up, StoppedIn, Line, FormatLine, JobLine, JobView, TurnEnd, Going, Ended, Stopped, start, after_line, after_job_line, turn_end, after_turn, job_ended, job_goes_on}
 use Rattle.g_run.specs.Run.{Move, TakeLine, Turn, Ticked, Over, Step, Run, reads_in, cuts_in, reads_of, cuts_of}

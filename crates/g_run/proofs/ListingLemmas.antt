@@ -1,7 +1,7 @@
 -- A listing shown byte by byte is the listing of the lines.
 use Rattle.std.proofs.Common.{◌≡◌, ◌==◌, ◌≤◌, drop, length, ℕ, Bool, true, false, List, [], ◌∷◌, ◌++◌, map, refl, sym, ◌∙◌, ap, if◌then◌else◌, codes}
 use Rattle.std.proofs.lemmas.List.{drop_all}
-use Rattle.g_script.specs.Lines.{lines_of, onto_first, text_of}
+use Rattle.g_first_script.specs.Lines.{lines_of, onto_first, text_of}
 use Rattle.g_run.specs.Texts.{shown, listing, listing_from}
 
 -- lines as a listing shows them

@@ -3,7 +3,7 @@ use Rattle.std.proofs.Common.{false, ◌≡◌, ◌++◌, ℕ, List, [], ◌∷�
 use Rattle.g_disc.specs.Disc.{DiscState}
 use Rattle.g_io.specs.Streams.{with_more, HasPutPart}
 use Rattle.g_first.specs.Store.{FirstView}
-use Rattle.g_script.specs.declared.script.Job.{Job}
+use Rattle.g_first_script.specs.declared.script.Job.{Job}
 use Rattle.g_run.specs.declared.progress.Failure.{Failure}
 use Rattle.g_run.specs.declared.progress.Failure.TheVariants as failures
 use Rattle.g_run.specs.Texts.{header, job_in, operator_line}

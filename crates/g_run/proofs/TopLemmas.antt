@@ -1,9 +1,9 @@
 -- A run that was ended, whole or cut short, as its status tells.
 use Rattle.std.proofs.Common.{ℕ, List, Option, Some, None, inr}
 use Rattle.g_disc.specs.Disc.{DiscState}
-use Rattle.g_script.specs.Lines.{lines_of}
-use Rattle.g_script.specs.Script.{IsParsed}
-use Rattle.g_script.specs.declared.script.Work.{Work}
+use Rattle.g_first_script.specs.Lines.{lines_of}
+use Rattle.g_first_script.specs.Script.{IsParsed}
+use Rattle.g_first_script.specs.declared.script.Work.{Work}
 use Rattle.g_run.specs.declared.progress.Failure.{Failure}
 use Rattle.g_run.specs.declared.progress.Failure.TheVariants as failures
 use Rattle.g_run.specs.Ends.{EndsBy}

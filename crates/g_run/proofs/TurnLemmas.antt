@@ -6,8 +6,8 @@ use Rattle.g_disc.specs.Disc.{DiscState, Causes}
 use Rattle.g_first.specs.Files.{File, greatest, newest}
 use Rattle.g_first.specs.Image.{StandsFor}
 use Rattle.g_first.specs.Store.{FirstView, with_file}
-use Rattle.g_script.specs.declared.script.Command.{Command}
-use Rattle.g_script.specs.declared.script.Command.TheVariants.{Input, ListFile}
+use Rattle.g_first_script.specs.declared.script.Command.{Command}
+use Rattle.g_first_script.specs.declared.script.Command.TheVariants.{Input, ListFile}
 use Rattle.g_run.specs.Texts.{ended_line, listing, input_echo, made, list_echo, listed}
 use Rattle.g_run.specs.World.{Plain, DiscRead, Cut, StoppedIn, IsOn, Going, Ended, Stopped, list_turn, turn_end}
 use Rattle.g_run.specs.Turn.{HasCause, IsUp, Turns}

@@ -2,7 +2,7 @@
 use Rattle.std.specs.Prelude.{◌≡◌, ℕ, true, List, Option, Some, None}
 use Rattle.g_disc.specs.Disc.{DiscState}
 use Rattle.g_io.specs.Streams.{with_more, HasPutPart}
-use Rattle.g_script.specs.declared.script.Work.{Work}
+use Rattle.g_first_script.specs.declared.script.Work.{Work}
 use Rattle.g_run.specs.declared.progress.Failure.{Failure}
 use Rattle.g_run.specs.World.{World, IsOn, start}
 use Rattle.g_run.specs.Run.{Move, Run, Counted}

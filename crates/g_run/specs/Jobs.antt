@@ -2,7 +2,7 @@
 use Rattle.std.specs.Prelude.{ℕ, List, Option}
 use Rattle.g_disc.specs.Disc.{DiscState}
 use Rattle.g_first.specs.Store.{FirstView}
-use Rattle.g_script.specs.declared.script.Job.{Job}
+use Rattle.g_first_script.specs.declared.script.Job.{Job}
 use Rattle.g_run.specs.declared.progress.Failure.{Failure}
 use Rattle.g_run.specs.Texts.{header}
 use Rattle.g_run.specs.Run.{Move, Run, Counted}

@@ -1,6 +1,6 @@
 -- What holds of every run.
 use Rattle.std.specs.Prelude.{◌≡◌, ℕ, true, List, Option}
-use Rattle.g_script.specs.declared.script.Work.{Work}
+use Rattle.g_first_script.specs.declared.script.Work.{Work}
 use Rattle.g_run.specs.World.{World, start}
 use Rattle.g_run.specs.Run.{Move, Run, reads_of, cuts_of}
 

@@ -2,7 +2,7 @@
 use Rattle.std.specs.Prelude.{◌≡◌, ℕ, false, List, [], ◌∷◌, Option, Some, None}
 use Rattle.g_disc.specs.Disc.{DiscState}
 use Rattle.g_first.specs.Store.{FirstView}
-use Rattle.g_script.specs.declared.script.Job.{Job}
+use Rattle.g_first_script.specs.declared.script.Job.{Job}
 use Rattle.g_run.specs.declared.progress.Failure.{Failure}
 use Rattle.g_run.specs.World.{Between, World, Plain, Up, Line, JobLine}
 use Rattle.g_run.specs.Turn.{HasCause, IsUp}

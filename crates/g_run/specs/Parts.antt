@@ -4,7 +4,7 @@ use Rattle.g_base.specs.Counts.{Rose}
 use Rattle.g_disc.specs.Disc.{DiscState}
 use Rattle.g_io.specs.Streams.{with_more, HasPutPart}
 use Rattle.g_first.specs.Files.{File}
-use Rattle.g_script.specs.declared.script.Job.{Job}
+use Rattle.g_first_script.specs.declared.script.Job.{Job}
 use Rattle.g_run.specs.declared.progress.Failure.{Failure}
 use Rattle.g_run.specs.declared.progress.Failure.TheVariants as failures
 use Rattle.g_run.specs.Texts.{operator_line}

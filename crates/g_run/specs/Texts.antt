@@ -1,7 +1,7 @@
 -- The lines that a run prints. Each line ends with a byte 10.
 use Rattle.std.specs.Prelude.{◌&&◌, ◌==◌, ℕ, Bool, true, false, List, [], ◌∷◌, ◌++◌, map, nat_le, codes, if◌then◌else◌}
 use Rattle.std.specs.Fmt.{decimal}
-use Rattle.g_script.specs.Lines.{lines_of, text_of}
+use Rattle.g_first_script.specs.Lines.{lines_of, text_of}
 
 abbrev pub ended_line : List ℕ → List ℕ
 ended_line text = text ++ 10 ∷ []

@@ -3,9 +3,9 @@ use Rattle.std.specs.Prelude.{◌≡◌, ◌⊎◌, ◌<◌, ℕ, List, Option, 
 use Rattle.g_base.specs.Counts.{Rose}
 use Rattle.g_disc.specs.Disc.{DiscState}
 use Rattle.g_io.specs.Streams.{with_more, HasPutPart}
-use Rattle.g_script.specs.Lines.{lines_of}
-use Rattle.g_script.specs.Script.{IsParsed}
-use Rattle.g_script.specs.declared.script.Work.{Work}
+use Rattle.g_first_script.specs.Lines.{lines_of}
+use Rattle.g_first_script.specs.Script.{IsParsed}
+use Rattle.g_first_script.specs.declared.script.Work.{Work}
 use Rattle.g_run.specs.declared.status.Status.{Status}
 use Rattle.g_run.specs.declared.status.Status.TheVariants.{Done, Words, BadScript, ScriptFault, OutputFault, NoMemory, TooLong}
 use Rattle.g_run.specs.declared.progress.Failure.{Failure}

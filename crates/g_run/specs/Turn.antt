@@ -5,7 +5,7 @@ use Rattle.g_disc.specs.Disc.{DiscState}
 use Rattle.g_first.specs.Files.{File}
 use Rattle.g_first.specs.Image.{StandsFor}
 use Rattle.g_first.specs.Store.{FirstView}
-use Rattle.g_script.specs.declared.script.Command.{Command}
+use Rattle.g_first_script.specs.declared.script.Command.{Command}
 use Rattle.g_run.specs.declared.turn.Turn as turns
 use Rattle.g_run.specs.declared.turn.Turn.TheVariants as kinds
 use Rattle.g_run.specs.World.{Outcome, Plain, DiscRead, Cut, Store, Unknown, Up, StoppedIn, IsOn, TurnEnd, Going, Ended, Stopped, turn_end}

@@ -5,11 +5,11 @@ use Rattle.g_disc.specs.Disc.{DiscState}
 use Rattle.g_first.specs.Files.{File, greatest, newest}
 use Rattle.g_first.specs.Store.{with_file}
 use Rattle.g_first.specs.Image.{StandsFor}
-use Rattle.g_script.specs.declared.script.Command.{Command}
-use Rattle.g_script.specs.declared.script.Command.TheVariants.{Input, ListFile, EndJob}
-use Rattle.g_script.specs.declared.script.Job.{Job}
-use Rattle.g_script.specs.declared.script.Work.{Work}
-use Rattle.g_script.specs.declared.script.Work.TheVariants.{Nothing, Format, FormatAndJob}
+use Rattle.g_first_script.specs.declared.script.Command.{Command}
+use Rattle.g_first_script.specs.declared.script.Command.TheVariants.{Input, ListFile, EndJob}
+use Rattle.g_first_script.specs.declared.script.Job.{Job}
+use Rattle.g_first_script.specs.declared.script.Work.{Work}
+use Rattle.g_first_script.specs.declared.script.Work.TheVariants.{Nothing, Format, FormatAndJob}
 use Rattle.g_run.specs.Texts.{ended_line, operator_line, listing, header, job_in, input_echo, made, list_echo, listed, last_line, bad_line}
 
 -- how an event came out: as on a disc that doesn't fail, by a read that failed, or by a write that failed

@@ -1,6 +1,6 @@
 //! A job, from its first turn to its end.
 ghost use Rattle.std.specs.Prelude.{◌≡◌, ◌+◌, ◌≤◌, ◌<◌, ◌++◌, true, length, count_by, codes, IfOk};
-ghost use Rattle.g_script.specs.Script.{IsJob, is_input};
+ghost use Rattle.g_first_script.specs.Script.{IsJob, is_input};
 ghost use Rattle.g_run.specs.Texts as texts;
 ghost use Rattle.g_run.specs.Parts.{FaultCause, PutsBy};
 ghost use Rattle.g_run.specs.Jobs.{JobGoes};
@@ -11,9 +11,9 @@ use crate::turn::{Turn, next_turn};
 use g_base::NoMemory;
 use g_disc::Disc;
 use g_first::FirstStore;
+use g_first_script::Job;
 use g_io::Sink;
 use g_name::Text;
-use g_script::Job;
 use std::alloc::Global;
 
 /// Runs a job that was taken in, and puts its monitoring file when it ends.

@@ -1,6 +1,6 @@
 //! The operator's lines: FORMAT, and the job behind it.
 ghost use Rattle.std.specs.Prelude.{◌≡◌, ◌<◌, ◌++◌, ℕ, true, [], ◌∷◌, List, Option, Some, None, IfOk, IfErr, codes};
-ghost use Rattle.g_script.specs.Script.{IsJob};
+ghost use Rattle.g_first_script.specs.Script.{IsJob};
 ghost use Rattle.g_run.specs.Texts as texts;
 ghost use Rattle.g_run.specs.World.{JobLine};
 ghost use Rattle.g_run.specs.Turn.{IsUp};
@@ -13,8 +13,8 @@ use crate::texts;
 use g_base::NoMemory;
 use g_disc::Disc;
 use g_first::{FirstStore, OnlineFault};
+use g_first_script::Job;
 use g_io::Sink;
-use g_script::Job;
 use std::alloc::Global;
 
 /// Makes an empty store, and tells the operator. Where the disc refuses, or the text isn't put, the disc is handed back,

@@ -1,6 +1,6 @@
 //! A script that was read, done to its end.
 ghost use Rattle.std.specs.Prelude.{◌<◌};
-ghost use Rattle.g_script.specs.Script.{IsWork};
+ghost use Rattle.g_first_script.specs.Script.{IsWork};
 ghost use Rattle.g_run.specs.Texts as texts;
 ghost use Rattle.g_run.specs.Parts.{FaultCause, PutsBy};
 ghost use Rattle.g_run.specs.Ends.{EndsBy, WorkGoes};
@@ -10,8 +10,8 @@ use crate::progress::{Failure, Progress, put};
 use crate::texts;
 use g_base::NoMemory;
 use g_disc::Disc;
+use g_first_script::{Script, Work};
 use g_io::Sink;
-use g_script::{Script, Work};
 use std::alloc::Global;
 
 /// Does the work of a script, and tells its first bad line, if there is one.

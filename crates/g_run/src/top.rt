@@ -11,8 +11,8 @@ use crate::run::run_script;
 use crate::status::Status;
 use g_base::NoMemory;
 use g_disc::Disc;
+use g_first_script::parse_script;
 use g_io::{Sink, Source};
-use g_script::parse_script;
 use std::alloc::Global;
 
 /// Runs the script that the source has left, puts its text to the sink and keeps its files on the disc, which has more

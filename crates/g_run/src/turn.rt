@@ -1,14 +1,14 @@
 //! One turn of a job: the next command, done on the store, and what it adds to the monitoring file.
 ghost use Rattle.std.specs.Prelude.{◌≡◌, ◌+◌, ◌≤◌, ◌<◌, true, All, Some, IfOk, OnErr, count_by, drop, length, slice_get, if◌then◌else◌};
-ghost use Rattle.g_script.specs.Script.{IsCommand, is_input};
+ghost use Rattle.g_first_script.specs.Script.{IsCommand, is_input};
 ghost use Rattle.g_run.specs.Turn.{IsTurn, IsTurnInPart};
 
 use crate::texts;
 use g_base::NoMemory;
 use g_disc::Disc;
 use g_first::{FirstStore, OnlineFault};
+use g_first_script::Command;
 use g_name::Text;
-use g_script::Command;
 use std::alloc::Global;
 
 /// How a turn ended: the job goes on, it has ended, or a write of the disc failed.

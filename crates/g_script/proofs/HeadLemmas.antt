@@ -1,133 +1,362 @@
--- The first line of a job, and the number in it.
-use Rattle.std.proofs.Common.{subst, ◌≡◌, ◌≢◌, ◌<◌, ◌≤◌, ◌^◌, ℕ, zero, suc, true, ◌&&◌, nat_le, Result, Ok, Err, List, [], ◌∷◌, ◌++◌, length, get_or, All, codes, sym, ap, ◌∙◌, arith}
+-- A first line is read as the item whose first line it is, and no other line is read.
+use Rattle.std.proofs.Common.{All, List, None, Option, Some, [], ap, arith, codes, eq-eqb, ne_eqb, refl, subst, sym, ℕ, ◌++◌, ◌<◌, ◌^◌, ◌∙◌, ◌∷◌, ◌≡◌, ◌≢◌, ◌≤◌}
 use Rattle.std.specs.Fmt.{decimal}
-use Rattle.std.specs.Str.{IsUtf8}
-use Rattle.std.specs.Str.Parse.{AllDigits, digits_value, ParsesUnsigned}
-use Rattle.std.proofs.lemmas.Str.{IsUtf8-from_ascii}
-use Rattle.std.proofs.lemmas.Str.Parse.{IsNumeralModel, numerals_by_value, tells_digits, digit_at, parse_plain}
-use Rattle.std.proofs.lemmas.Fmt.{decimal_is_IsNumeral, decimal_nonempty, first_decimal, parse-decimal, decimal-digits_value, decimal_injective, IsAscii-decimal, decimal_digit}
-use Rattle.std.proofs.lemmas.Result.{OkIff-at_ok}
-use Rattle.std.specs.List.{AllByRecursion, list_all}
-use Rattle.std.proofs.lemmas.Bool.{and_parts, false≢true}
-use Rattle.std.proofs.lemmas.List.{append_assoc, append_cancel_left}
-use Rattle.std.proofs.lemmas.List.Elements.{recursion_from_All}
-use Rattle.g_name.specs.Grammar.{is_word, is_letter, is_name_char}
-use Rattle.g_script.specs.Script.{head_line}
-use Rattle.g_script.proofs.LineLemmas.{split_unique, no_split}
+use Rattle.std.specs.Option.{option_and_then, option_map}
+use Rattle.std.specs.Prelude.{Bool, false, true, unwrap_or, if◌then◌else◌, ◌==◌}
+use Rattle.std.proofs.lemmas.Bool.{cond_both, false≢true}
+use Rattle.std.proofs.lemmas.List.{append-nil, append_assoc}
+use Rattle.std.proofs.lemmas.Option.{option_and_then_some, same_Some, some_pair_parts}
+use Rattle.g_lang.proofs.ValueLemmas.{behind-is, same_text-eq}
+use Rattle.g_lang.specs.How.{behind}
+use Rattle.g_name.specs.Grammar.{is_word}
+use Rattle.g_name.specs.Names.{name_text, path_name}
+use Rattle.g_name.specs.Order.{same_text}
+use Rattle.g_name.specs.declared.path.Path.{Path}
+use Rattle.g_script.proofs.PieceLemmas.{Without, number-without, split-is, split-none, split-some, without-append, word-without}
+use Rattle.g_script.specs.How.{allowances_in, allowances_read, argument_read, bare_or, dump_read, from_one_read, head_read, job_behind, job_named, job_of, job_read, job_user_read, job_with, migration_read, money_read, name_read, named, number_behind, number_or, numbered_read, of_user, positive, split_at, stop_read, time_read, timed, timed_in, unmount_read, what_read, with_money, without_money, word_or, word_read}
+use Rattle.g_script.specs.Script.{Bare, IsBare, IsDocumentLine, IsItem, IsJob, IsWrittenOperator, Job, WrittenItem, WrittenOperator, head_line, money_text, operator_text, written_text}
+use Rattle.g_script.specs.declared.head.Head.{Head}
+use Rattle.g_script.specs.declared.head.What.{What}
+use Rattle.g_script.specs.declared.head.What.TheVariants as what
+use Rattle.g_script.specs.declared.operator.Operator.{Operator}
+use Rattle.g_script.specs.declared.operator.Operator.TheVariants as line
+use Rattle.g_verbs.proofs.ParamLemmas.{file-complete, file-sound, local-complete, local-sound, number-complete, number-sound, user-complete, user-sound}
+use Rattle.g_verbs.specs.How.{file_read, local_read, number_read, user_read}
 
--- the bytes are no TIME
-abbrev pub IsNoTime : List ℕ → Type 0
-IsNoTime digits = (time : ℕ) → 1 ≤ time → time ≤ 1000000 → digits ≢ decimal time
+-- numbers from 1
+positive-is : (n : ℕ) → 1 ≤ n → positive n ≡ Some n
+positive-is n least = rw (ne_eqb n 0 (λ e. omega (arith, e, least))) refl
 
--- the first byte is a digit other than 0
-abbrev pub BeginsPlainly : List ℕ → Type 0
-BeginsPlainly digits = (49 ≤ get_or digits 0 0) × (get_or digits 0 0 ≤ 57)
+positive-from : (m n : ℕ) → positive m ≡ Some n → (1 ≤ n) × (m ≡ n)
+positive-from m n e =
+    cond_both (m == 0) None (Some m) (λ (o : Option ℕ). o ≡ Some n → (1 ≤ n) × (m ≡ n)) (λ is found. absurd cc)
+    (λ other found.
+    let same : m ≡ n = same_Some m n found in
+    let some : m ≢ 0 = λ z. false≢true (sym other ∙ eq-eqb m 0 z) in
+    (omega (arith, same, some), same)) e
 
-own : IsNumeralModel (AllDigits 10) (digits_value 10)
-own = numerals_by_value (AllDigits 10) tells_digits
+from_one-complete : (most n : ℕ) → most < 2 ^ 64 → 1 ≤ n → n ≤ most → from_one_read most (decimal n) ≡ Some n
+from_one-complete most n fits least few = ap (option_and_then positive) (number-complete most n (decimal n) fits (few, refl)) ∙ positive-is n least
 
-small : (time : ℕ) → time ≤ 1000000 → time < 2 ^ 64
-small time most = omega arith
+from_one-sound : (most n : ℕ) (digits : List ℕ) → from_one_read most digits ≡ Some n → (1 ≤ n) × (n ≤ most) × (digits ≡ decimal n)
+from_one-sound most n digits e =
+    option_and_then_some positive (number_read most digits) n e
+    (λ m read is.
+    let number = number-sound most m digits read in
+    let parts = positive-from m n is in
+    (parts.0, subst (λ (k : ℕ). k ≤ most) parts.1 number.0, number.1 ∙ ap decimal parts.1))
 
-pub BeginsPlainly-decimal : (time : ℕ) → 1 ≤ time → time ≤ 1000000 → BeginsPlainly (decimal time)
-BeginsPlainly-decimal time least most =
-    let fits = small time most in
-    let first = digit_at (decimal time) 0 (decimal_is_IsNumeral time fits).0.1 (decimal_nonempty time fits) in
-    (omega (arith, first_decimal time least fits), first.1)
+number_behind-sound : (most : ℕ) (word text : List ℕ) (n : ℕ) → number_behind most word text ≡ Some n → (1 ≤ n) × (n ≤ most) × (text ≡ word ++ decimal n)
+number_behind-sound most word text n e =
+    option_and_then_some (from_one_read most) (behind word text) n e
+    (λ digits there read.
+    let parts = from_one-sound most n digits read in
+    (parts.0, parts.1, behind-is word text digits there ∙ ap (λ (d : List ℕ). word ++ d) parts.2))
 
-pub IsNoTime-first : (digits : List ℕ) → (BeginsPlainly digits → ⊥) → IsNoTime digits
-IsNoTime-first digits not_plain time least most e =
-    not_plain (subst BeginsPlainly (sym e) (BeginsPlainly-decimal time least most))
+-- COMPLETE: what is written is read
+number_found : (operator : ℕ → Operator) (o : Option ℕ) (n : ℕ) (others : Option Operator) (rest : Option What) → o ≡ Some n → bare_or (number_or operator o others) rest ≡ Some (what.Bare (operator n))
+number_found operator o n others rest e = ap (λ (x : Option ℕ). bare_or (number_or operator x others) rest) e
 
-pub IsNoTime-utf8 : (digits : List ℕ) → (IsUtf8 digits → ⊥) → IsNoTime digits
-IsNoTime-utf8 digits not_text time least most e =
-    not_text (subst IsUtf8 (sym e) (IsUtf8-from_ascii (decimal time) (IsAscii-decimal time (small time most))))
+-- a job behind its word, taken apart at its commas
+abbrev job_tail : ℕ → Option ℕ → List ℕ
+job_tail time money = codes "TIME " ++ (decimal time ++ money_text money)
 
-parsed : {E : Type 0} (digits text : List ℕ) (r : Result ℕ E) (time : ℕ) → text ≡ digits → ParsesUnsigned 64 10 text r → time ≤ 1000000 → digits ≡ decimal time → r ≡ Ok time
-parsed digits text r time same parses most e = parse-decimal 64 time text r (small time most) (small time most) (same ∙ e) parses
+abbrev job_parts : List ℕ → List ℕ → List ℕ → List ℕ
+job_parts name user tail = name ++ 44 ∷ ((58 ∷ user) ++ 44 ∷ tail)
 
-pub IsNoTime-parse : {E : Type 0} (digits text : List ℕ) (r : Result ℕ E) (e : E) → text ≡ digits → ParsesUnsigned 64 10 text r → r ≡ Err e → IsNoTime digits
-IsNoTime-parse digits text r failed same parses is time least most e =
-    let ok = parsed digits text r time same parses most e in cc
+regrouped : (name user : List ℕ) (time : ℕ) (money : Option ℕ) (lines : List (List ℕ)) → written_text (Job name user time money lines) ≡ codes "JOB " ++ job_parts name user (job_tail time money)
+regrouped name user time money lines =
+    append_assoc (((codes "JOB " ++ name) ++ codes ",:") ++ user) (codes ",TIME ") (decimal time ++ money_text money)
+    ∙ append_assoc ((codes "JOB " ++ name) ++ codes ",:") user (codes ",TIME " ++ (decimal time ++ money_text money))
+    ∙ append_assoc (codes "JOB " ++ name) (codes ",:") (user ++ (codes ",TIME " ++ (decimal time ++ money_text money)))
+    ∙ append_assoc (codes "JOB ") name (codes ",:" ++ (user ++ (codes ",TIME " ++ (decimal time ++ money_text money))))
 
-pub IsNoTime-large : {E : Type 0} (digits text : List ℕ) (r : Result ℕ E) (n : ℕ) → text ≡ digits → ParsesUnsigned 64 10 text r → r ≡ Ok n → 1000000 < n → IsNoTime digits
-IsNoTime-large digits text r n same parses is large time least most e =
-    let ok = parsed digits text r time same parses most e in let same_number : n ≡ time = cc in omega arith
+small : (n : ℕ) → n ≤ 1000000 → n < 2 ^ 64
+small n few = omega (arith, few)
 
-positive : (time : ℕ) (text : List ℕ) → BeginsPlainly text → decimal time ≡ text → 1 ≤ time
-positive zero text begins printed =
-    let begins_0 : BeginsPlainly (48 ∷ []) = subst BeginsPlainly (sym printed ∙ decimal_digit 0 (omega arith)) begins in
-    absurd (omega (arith, begins_0.0))
-positive (suc n) text begins printed = omega arith
+word_without_comma : (word : List ℕ) → is_word word ≡ true → Without 44 word
+word_without_comma word is = word-without 44 word refl refl is
 
-pub time_found : {E : Type 0} (digits text : List ℕ) (r : Result ℕ E) (time : ℕ) → text ≡ digits → ParsesUnsigned 64 10 text r → r ≡ Ok time → BeginsPlainly digits → time ≤ 1000000 → (1 ≤ time) × (time ≤ 1000000) × (digits ≡ decimal time)
-time_found digits text r time same parses is plain most =
-    let begins : BeginsPlainly text = subst BeginsPlainly (sym same) plain in
-    let read = OkIff-at_ok r _ _ time (parse_plain own 64 text r parses (λ e. omega arith)) is in
-    let printed : decimal time ≡ text = ap decimal read.1 ∙ decimal-digits_value own text read.0.0 read.0.1 (λ e. absurd (omega arith)) read.0.2 in
-    (positive time text begins printed, most, sym same ∙ sym printed)
+time_without_comma : (time : ℕ) → time ≤ 1000000 → Without 44 (codes "TIME " ++ decimal time)
+time_without_comma time few =
+    without-append 44 (codes "TIME ") (decimal time) ((λ e. omega (arith, e)), ((λ e. omega (arith, e)), ((λ e. omega (arith, e)), ((λ e. omega (arith, e)), ((λ e. omega (arith, e)), tt)))))
+    (number-without 44 time (omega arith) (small time few))
 
--- the line is no job's first
-abbrev pub IsNoHead : List ℕ → Type 0
-IsNoHead line = (name : List ℕ) (time : ℕ) → is_word name ≡ true → 1 ≤ time → time ≤ 1000000 → line ≢ head_line name time
+time-complete : (time : ℕ) → 1 ≤ time → time ≤ 1000000 → time_read (codes "TIME " ++ decimal time) ≡ Some time
+time-complete time least few = from_one-complete 1000000 time (omega arith) least few
 
-no_comma_in : (others : List ℕ) → list_all is_name_char others ≡ true → AllByRecursion (λ c. c ≢ 44) others
-no_comma_in [] all = tt
-no_comma_in (c ∷ others) all =
-    let parts = and_parts (is_name_char c) (list_all is_name_char others) all in
-    ((λ e. let f : is_name_char 44 ≡ true = subst (λ d. is_name_char d ≡ true) e parts.0 in false≢true f), no_comma_in others parts.1)
+money-complete : (money : ℕ) → money ≤ 1000000 → money_read (codes "MONEY " ++ decimal money) ≡ Some money
+money-complete money few = number-complete 1000000 money (decimal money) (omega arith) (few, refl)
 
-no_comma : (name : List ℕ) → is_word name ≡ true → AllByRecursion (λ c. c ≢ 44) name
-no_comma [] word = tt
-no_comma (first ∷ others) word =
-    let outer = and_parts (is_letter first && nat_le (length others) 11) (list_all is_name_char others) word in
-    let inner = and_parts (is_letter first) (nat_le (length others) 11) outer.0 in
-    ((λ e. let f : is_letter 44 ≡ true = subst (λ d. is_letter d ≡ true) e inner.0 in false≢true f), no_comma_in others outer.1)
+allowances-complete : (time : ℕ) (money : Option ℕ) → 1 ≤ time → time ≤ 1000000 → unwrap_or money 1000 ≤ 1000000 → allowances_read (job_tail time money) ≡ Some (time, money)
+allowances-complete time None least few rich =
+    let text : List ℕ = codes "TIME " ++ decimal time in
+    ap allowances_read (ap (λ (d : List ℕ). codes "TIME " ++ d) (append-nil (decimal time)))
+    ∙ ap (allowances_in text) (split-none 44 text (time_without_comma time few)) ∙ ap without_money (time-complete time least few)
+allowances-complete time (Some money) least few rich =
+    let text : List ℕ = codes "TIME " ++ decimal time in let paid : List ℕ = codes "MONEY " ++ decimal money in
+    ap (allowances_in (text ++ 44 ∷ paid)) (split-some 44 text paid (time_without_comma time few))
+    ∙ ap (λ (o : Option ℕ). with_money o (money_read paid)) (time-complete time least few) ∙ ap (with_money (Some time)) (money-complete money rich)
 
-abbrev behind_name : ℕ → List ℕ
-behind_name time = codes ":MASTER,TIME " ++ decimal time
+name-complete : (name rest : List ℕ) → is_word name ≡ true → name_read (name ++ 44 ∷ rest) ≡ Some (name, rest)
+name-complete name rest is =
+    ap (option_and_then named) (split-some 44 name rest (word_without_comma name is))
+    ∙ ap (option_map (λ (l : List ℕ). let p : List ℕ × List ℕ = (l, rest) in p)) (local-complete name name (is, refl))
 
-regrouped : (name : List ℕ) (time : ℕ) → head_line name time ≡ codes "0 JOB " ++ (name ++ 44 ∷ behind_name time)
-regrouped name time = ap (λ rest. codes "0 JOB " ++ rest) (append_assoc name (codes ",:MASTER,TIME ") (decimal time))
+user-read : (user rest : List ℕ) → is_word user ≡ true → job_user_read ((58 ∷ user) ++ 44 ∷ rest) ≡ Some (user, rest)
+user-read user rest is =
+    ap (option_and_then of_user) (split-some 44 (58 ∷ user) rest ((λ e. omega (arith, e)), word_without_comma user is))
+    ∙ ap (option_map (λ (l : List ℕ). let p : List ℕ × List ℕ = (l, rest) in p)) (user-complete user (58 ∷ user) (is, refl))
 
--- the pieces of a line that is a job's first
-abbrev IsRest : List ℕ → List ℕ → Type 0
-IsRest line rest = line ≡ codes "0 JOB " ++ rest
+job-complete : (name user : List ℕ) (time : ℕ) (money : Option ℕ) (lines : List (List ℕ)) → IsJob name user time money lines
+    → job_behind (job_parts name user (job_tail time money)) ≡ Some (what.Job name user time money)
+job-complete name user time money lines is =
+    let tail = job_tail time money in
+    ap job_named (name-complete name ((58 ∷ user) ++ 44 ∷ tail) is.is_name) ∙ ap (job_of name) (user-read user tail is.is_user)
+    ∙ ap (job_with name user) (allowances-complete time money is.time_within.0 is.time_within.1 is.money_within)
 
-rest_is : (line rest name : List ℕ) (time : ℕ) → IsRest line rest → line ≡ head_line name time → rest ≡ name ++ 44 ∷ behind_name time
-rest_is line rest name time is e = append_cancel_left (codes "0 JOB ") rest (name ++ 44 ∷ behind_name time) (sym is ∙ (e ∙ regrouped name time))
+-- what is read of a written operator
+abbrev pub what_for : WrittenOperator → What
+what_for (Bare o) = what.Bare o
+what_for (Job name user time money lines) = what.Job name user time money
 
-parts_are : (line rest front behind name : List ℕ) (time : ℕ) → IsRest line rest → rest ≡ front ++ 44 ∷ behind → All (λ c. c ≢ 44) front → is_word name ≡ true → line ≡ head_line name time → (front ≡ name) × (behind ≡ behind_name time)
-parts_are line rest front behind name time is split none word e =
-    split_unique 44 front name behind (behind_name time) (recursion_from_All (λ c. c ≢ 44) front none) (no_comma name word) (sym split ∙ rest_is line rest name time is e)
+pub what-complete : (w : WrittenOperator) → IsWrittenOperator w → what_read (written_text w) ≡ Some (what_for w)
+what-complete (Bare line.Format) is = refl
+what-complete (Bare line.Start) is = refl
+what-complete (Bare line.Restore) is = refl
+what-complete (Bare line.Shut) is = refl
+what-complete (Bare (line.Job name user time money lines)) is = absurd is
+what-complete (Bare (line.Mount s)) is =
+    let text : List ℕ = codes "MOUNT " ++ decimal s in
+    number_found line.Mount (from_one_read 999999 (decimal s)) s (unmount_read text) (argument_read text) (from_one-complete 999999 s (omega arith) is.0 is.1)
+what-complete (Bare (line.Unmount s)) is =
+    let text : List ℕ = codes "UNMOUNT " ++ decimal s in
+    number_found line.Unmount (from_one_read 999999 (decimal s)) s (dump_read text) (argument_read text) (from_one-complete 999999 s (omega arith) is.0 is.1)
+what-complete (Bare (line.Dump s)) is =
+    let text : List ℕ = codes "DUMP " ++ decimal s in
+    number_found line.Dump (from_one_read 999999 (decimal s)) s (stop_read text) (argument_read text) (from_one-complete 999999 s (omega arith) is.0 is.1)
+what-complete (Bare (line.Migrate path)) is =
+    let name : List ℕ = name_text (path_name path) in let text : List ℕ = codes "MIGRATE " ++ name in
+    ap (λ (o : Option Path). bare_or (option_map line.Migrate o) (job_read text)) (file-complete path name (is, refl))
+what-complete (Bare (line.StopDisc k)) is =
+    let text : List ℕ = codes "STOP DISC " ++ decimal k in
+    number_found line.StopDisc (from_one_read 1000000000 (decimal k)) k (number_or line.StopTape (number_behind 1000000000 (codes "STOP TAPE ") text) None) (argument_read text)
+    (from_one-complete 1000000000 k (omega arith) is.0 is.1)
+what-complete (Bare (line.StopTape k)) is =
+    let text : List ℕ = codes "STOP TAPE " ++ decimal k in
+    number_found line.StopTape (from_one_read 1000000000 (decimal k)) k None (argument_read text) (from_one-complete 1000000000 k (omega arith) is.0 is.1)
+what-complete (Job name user time money lines) is =
+    ap what_read (regrouped name user time money lines) ∙ job-complete name user time money lines is
 
-pub IsNoHead-prefix : (line : List ℕ) → ((rest : List ℕ) → line ≢ codes "0 JOB " ++ rest) → IsNoHead line
-IsNoHead-prefix line none name time word least most e = none _ (e ∙ regrouped name time)
+-- what is read of an item's first line
+abbrev pub head_for : WrittenItem → Head
+head_for item = record { turn = item.turn; what = what_for item.what }
 
-pub IsNoHead-comma : (line rest : List ℕ) → line ≡ codes "0 JOB " ++ rest → All (λ c. c ≢ 44) rest → IsNoHead line
-IsNoHead-comma line rest is none name time word least most e =
-    no_split 44 name (behind_name time) (subst (AllByRecursion (λ c. c ≢ 44)) (rest_is line rest name time is e) (recursion_from_All (λ c. c ≢ 44) rest none))
+pub head-complete : (item : WrittenItem) → IsItem item → head_read (head_line item) ≡ Some (head_for item)
+head-complete item is =
+    let few : item.turn < 2 ^ 64 = omega (arith, is.0) in
+    ap timed_in (split-some 32 (decimal item.turn) (written_text item.what) (number-without 32 item.turn (omega arith) few))
+    ∙ ap (λ (o : Option ℕ). timed o (what_read (written_text item.what))) (number-complete 1000000000 item.turn (decimal item.turn) (omega arith) (is.0, refl))
+    ∙ ap (timed (Some item.turn)) (what-complete item.what is.1)
 
-pub IsNoHead-name : (line rest front behind : List ℕ) → line ≡ codes "0 JOB " ++ rest → rest ≡ front ++ 44 ∷ behind → All (λ c. c ≢ 44) front → (is_word front ≡ true → ⊥) → IsNoHead line
-IsNoHead-name line rest front behind is split none no_word name time word least most e =
-    no_word (ap is_word (parts_are line rest front behind name time is split none word e).0 ∙ word)
+-- SOUND: what is read was written
+abbrev pub with_lines : What → List (List ℕ) → WrittenOperator
+with_lines (what.Bare o) lines = Bare o
+with_lines (what.Job name user time money) lines = Job name user time money lines
 
-pub IsNoHead-behind : (line rest front behind : List ℕ) → line ≡ codes "0 JOB " ++ rest → rest ≡ front ++ 44 ∷ behind → All (λ c. c ≢ 44) front → ((digits : List ℕ) → behind ≢ codes ":MASTER,TIME " ++ digits) → IsNoHead line
-IsNoHead-behind line rest front behind is split none other name time word least most e =
-    other _ (parts_are line rest front behind name time is split none word e).1
+abbrev IsSaid : What → List ℕ → Type 0
+IsSaid asked text = (lines : List (List ℕ)) → All IsDocumentLine lines → IsWrittenOperator (with_lines asked lines) × (text ≡ written_text (with_lines asked lines))
 
-pub IsNoHead-time : (line rest front behind digits : List ℕ) → line ≡ codes "0 JOB " ++ rest → rest ≡ front ++ 44 ∷ behind → All (λ c. c ≢ 44) front → behind ≡ codes ":MASTER,TIME " ++ digits → IsNoTime digits → IsNoHead line
-IsNoHead-time line rest front behind digits is split none after no_time name time word least most e =
-    no_time time least most
-    (append_cancel_left (codes ":MASTER,TIME ") digits (decimal time) (sym after ∙ (parts_are line rest front behind name time is split none word e).1))
+abbrev Whats : Option What → List ℕ → Type 0
+Whats found text = (asked : What) → found ≡ Some asked → IsSaid asked text
 
-pub head_found : (line rest front behind digits name : List ℕ) (time : ℕ) → line ≡ codes "0 JOB " ++ rest → rest ≡ front ++ 44 ∷ behind → behind ≡ codes ":MASTER,TIME " ++ digits → name ≡ front → digits ≡ decimal time → line ≡ head_line name time
-head_found line rest front behind digits name time is split after same number =
-    is ∙ (ap (λ r. codes "0 JOB " ++ r) (split ∙ cc) ∙ sym (regrouped name time))
+abbrev IsBareText : Operator → List ℕ → Type 0
+IsBareText o text = IsBare o × (text ≡ operator_text o)
 
--- the first line of a job determines its name and its TIME
-pub head_unique : (name other : List ℕ) (time other_time : ℕ) → is_word name ≡ true → is_word other ≡ true → time ≤ 1000000 → other_time ≤ 1000000 → head_line name time ≡ head_line other other_time → (name ≡ other) × (time ≡ other_time)
-head_unique name other time other_time word other_word most other_most e =
-    let parts = split_unique 44 name other (behind_name time) (behind_name other_time) (no_comma name word) (no_comma other other_word)
-    (rest_is (head_line name time) (name ++ 44 ∷ behind_name time) other other_time (regrouped name time) e) in
-    (parts.0, decimal_injective time other_time (small time most) (small other_time other_most) (append_cancel_left (codes ":MASTER,TIME ") (decimal time) (decimal other_time) parts.1))
+abbrev Bares : Option Operator → List ℕ → Type 0
+Bares found text = (o : Operator) → found ≡ Some o → IsBareText o text
+
+none_bare : (text : List ℕ) → Bares None text
+none_bare text o e = absurd cc
+
+some_bare : (text : List ℕ) (o : Operator) → IsBareText o text → Bares (Some o) text
+some_bare text o is x e = subst (λ (y : Operator). IsBareText y text) (same_Some o x e) is
+
+word_or-sound : (text : List ℕ) (o : Operator) (b : Bool) (others : Option Operator) → (b ≡ true → IsBareText o text) → Bares others text → Bares (word_or o b others) text
+word_or-sound text o true others good rest = some_bare text o (good refl)
+word_or-sound text o false others good rest = rest
+
+word-sound : (text : List ℕ) → Bares (word_read text) text
+word-sound text =
+    word_or-sound text line.Format (same_text text (codes "FORMAT")) _ (λ is. (tt, same_text-eq text (codes "FORMAT") is))
+    (word_or-sound text line.Start (same_text text (codes "START")) _ (λ is. (tt, same_text-eq text (codes "START") is))
+    (word_or-sound text line.Restore (same_text text (codes "RESTORE")) _ (λ is. (tt, same_text-eq text (codes "RESTORE") is))
+    (word_or-sound text line.Shut (same_text text (codes "SHUT")) None (λ is. (tt, same_text-eq text (codes "SHUT") is)) (none_bare text))))
+
+number_or-sound : (text : List ℕ) (operator : ℕ → Operator) (most : ℕ) (word : List ℕ) (others : Option Operator)
+    → ((n : ℕ) → 1 ≤ n → n ≤ most → text ≡ word ++ decimal n → IsBareText (operator n) text) → Bares others text → Bares (number_or operator (number_behind most word text) others) text
+number_or-sound text operator most word others good rest = by (number_behind most word text) refl
+  where
+    by : (o : Option ℕ) → number_behind most word text ≡ o → Bares (number_or operator o others) text
+    by None is = rest
+    by (Some n) is = let parts = number_behind-sound most word text n is in some_bare text (operator n) (good n parts.0 parts.1 parts.2)
+
+stop-sound : (text : List ℕ) → Bares (stop_read text) text
+stop-sound text =
+    number_or-sound text line.StopDisc 1000000000 (codes "STOP DISC ") _ (λ n least few is. ((least, few), is))
+    (number_or-sound text line.StopTape 1000000000 (codes "STOP TAPE ") None (λ n least few is. ((least, few), is)) (none_bare text))
+
+numbered-sound : (text : List ℕ) → Bares (numbered_read text) text
+numbered-sound text =
+    number_or-sound text line.Mount 999999 (codes "MOUNT ") (unmount_read text) (λ n least few is. ((least, few), is))
+    (number_or-sound text line.Unmount 999999 (codes "UNMOUNT ") (dump_read text) (λ n least few is. ((least, few), is))
+    (number_or-sound text line.Dump 999999 (codes "DUMP ") (stop_read text) (λ n least few is. ((least, few), is)) (stop-sound text)))
+
+migration-sound : (text : List ℕ) → Bares (migration_read text) text
+migration-sound text = by (option_and_then file_read (behind (codes "MIGRATE ") text)) refl
+  where
+    by : (o : Option Path) → option_and_then file_read (behind (codes "MIGRATE ") text) ≡ o → Bares (option_map line.Migrate o) text
+    by None is = none_bare text
+    by (Some path) is =
+        some_bare text (line.Migrate path)
+        (option_and_then_some file_read (behind (codes "MIGRATE ") text) path is
+        (λ name there read.
+        let file = file-sound name path read in
+        (file.0, behind-is (codes "MIGRATE ") text name there ∙ ap (λ (n : List ℕ). codes "MIGRATE " ++ n) file.1)))
+
+some_pair : (a b c d : List ℕ) → (let one : Option (List ℕ × List ℕ) = Some (a, b) in one ≡ Some (c, d)) → (a ≡ c) × (b ≡ d)
+some_pair a b c d e = some_pair_parts a c b d e
+
+name-sound : (text name rest : List ℕ) → name_read text ≡ Some (name, rest) → (is_word name ≡ true) × (text ≡ name ++ 44 ∷ rest)
+name-sound text name rest e = option_and_then_some named (split_at 44 text) (name, rest) e (λ parts there is. by parts there (local_read parts.0) refl is)
+  where
+    by : (parts : List ℕ × List ℕ) → split_at 44 text ≡ Some parts → (o : Option (List ℕ)) → local_read parts.0 ≡ o
+        → option_map (λ (l : List ℕ). let p : List ℕ × List ℕ = (l, parts.1) in p) o ≡ Some (name, rest) → (is_word name ≡ true) × (text ≡ name ++ 44 ∷ rest)
+    by parts there None read is = absurd cc
+    by parts there (Some l) read is =
+        let same = some_pair l parts.1 name rest is in
+        let local = local-sound parts.0 name (read ∙ ap (λ (x : List ℕ). let o : Option (List ℕ) = Some x in o) same.0) in
+        (local.0, split-is 44 text parts there ∙ ap (λ (x : List ℕ). x ++ 44 ∷ parts.1) local.1 ∙ ap (λ (x : List ℕ). name ++ 44 ∷ x) same.1)
+
+user-part : (text user rest : List ℕ) → job_user_read text ≡ Some (user, rest) → (is_word user ≡ true) × (text ≡ (58 ∷ user) ++ 44 ∷ rest)
+user-part text user rest e = option_and_then_some of_user (split_at 44 text) (user, rest) e (λ parts there is. by parts there (user_read parts.0) refl is)
+  where
+    by : (parts : List ℕ × List ℕ) → split_at 44 text ≡ Some parts → (o : Option (List ℕ)) → user_read parts.0 ≡ o
+        → option_map (λ (l : List ℕ). let p : List ℕ × List ℕ = (l, parts.1) in p) o ≡ Some (user, rest) → (is_word user ≡ true) × (text ≡ (58 ∷ user) ++ 44 ∷ rest)
+    by parts there None read is = absurd cc
+    by parts there (Some l) read is =
+        let same = some_pair l parts.1 user rest is in
+        let named_so = user-sound parts.0 user (read ∙ ap (λ (x : List ℕ). let o : Option (List ℕ) = Some x in o) same.0) in
+        (named_so.0, split-is 44 text parts there ∙ ap (λ (x : List ℕ). x ++ 44 ∷ parts.1) named_so.1 ∙ ap (λ (x : List ℕ). (58 ∷ user) ++ 44 ∷ x) same.1)
+
+money-sound : (text : List ℕ) (money : ℕ) → money_read text ≡ Some money → (money ≤ 1000000) × (text ≡ codes "MONEY " ++ decimal money)
+money-sound text money e =
+    option_and_then_some (number_read 1000000) (behind (codes "MONEY ") text) money e
+    (λ digits there read.
+    let number = number-sound 1000000 money digits read in
+    (number.0, behind-is (codes "MONEY ") text digits there ∙ ap (λ (d : List ℕ). codes "MONEY " ++ d) number.1))
+
+-- the allowances of a job, and their text
+abbrev AreAllowances : ℕ × Option ℕ → List ℕ → Type 0
+AreAllowances a text = (1 ≤ a.0) × (a.0 ≤ 1000000) × (unwrap_or a.1 1000 ≤ 1000000) × (text ≡ job_tail a.0 a.1)
+
+abbrev AllowancesIn : Option (ℕ × Option ℕ) → List ℕ → Type 0
+AllowancesIn found text = (a : ℕ × Option ℕ) → found ≡ Some a → AreAllowances a text
+
+some_allowances : (text : List ℕ) (a b : ℕ × Option ℕ) → AreAllowances a text → (let one : Option (ℕ × Option ℕ) = Some a in one ≡ Some b) → AreAllowances b text
+some_allowances text a b are e = subst (λ (x : ℕ × Option ℕ). AreAllowances x text) (same_Some a b e) are
+
+without_money-sound : (text : List ℕ) → AllowancesIn (without_money (time_read text)) text
+without_money-sound text = by (time_read text) refl
+  where
+    by : (o : Option ℕ) → time_read text ≡ o → AllowancesIn (without_money o) text
+    by None is a e = absurd cc
+    by (Some time) is a e =
+        let parts = number_behind-sound 1000000 (codes "TIME ") text time is in
+        some_allowances text (time, None) a (parts.0, parts.1, omega arith, parts.2 ∙ sym (ap (λ (d : List ℕ). codes "TIME " ++ d) (append-nil (decimal time)))) e
+
+with_money-sound : (text before paid : List ℕ) → text ≡ before ++ 44 ∷ paid → AllowancesIn (with_money (time_read before) (money_read paid)) text
+with_money-sound text before paid split = by (time_read before) (money_read paid) refl refl
+  where
+    by : (o p : Option ℕ) → time_read before ≡ o → money_read paid ≡ p → AllowancesIn (with_money o p) text
+    by None p is also a e = absurd cc
+    by (Some time) None is also a e = absurd cc
+    by (Some time) (Some money) is also a e =
+        let parts = number_behind-sound 1000000 (codes "TIME ") before time is in
+        let cost = money-sound paid money also in
+        let whole : text ≡ job_tail time (Some money) = split ∙ ap (λ (x : List ℕ). x ++ 44 ∷ paid) parts.2 ∙ ap (λ (x : List ℕ). (codes "TIME " ++ decimal time) ++ 44 ∷ x) cost.1 in
+        some_allowances text (time, Some money) a (parts.0, parts.1, cost.0, whole) e
+
+allowances-sound : (text : List ℕ) → AllowancesIn (allowances_read text) text
+allowances-sound text = by (split_at 44 text) refl
+  where
+    by : (o : Option (List ℕ × List ℕ)) → split_at 44 text ≡ o → AllowancesIn (allowances_in text o) text
+    by None is = without_money-sound text
+    by (Some parts) is = with_money-sound text parts.0 parts.1 (split-is 44 text parts is)
+
+some_job : (text name user rest : List ℕ) (a : ℕ × Option ℕ) → is_word name ≡ true → is_word user ≡ true → AreAllowances a rest → text ≡ codes "JOB " ++ job_parts name user rest
+    → IsSaid (what.Job name user a.0 a.1) text
+some_job text name user rest a is_name is_user are is lines good = (
+  record { is_name = is_name; is_user = is_user; time_within = (are.0, are.1); money_within = are.2; document = good },
+  is ∙ ap (λ (x : List ℕ). codes "JOB " ++ job_parts name user x) are.3 ∙ sym (regrouped name user a.0 a.1 lines),
+)
+
+job_with-sound : (text name user rest : List ℕ) → is_word name ≡ true → is_word user ≡ true → text ≡ codes "JOB " ++ job_parts name user rest → Whats (job_with name user (allowances_read rest)) text
+job_with-sound text name user rest is_name is_user is = by (allowances_read rest) refl
+  where
+    by : (o : Option (ℕ × Option ℕ)) → allowances_read rest ≡ o → Whats (job_with name user o) text
+    by None read asked e = absurd cc
+    by (Some a) read asked e =
+        subst (λ (x : What). IsSaid x text) (same_Some (what.Job name user a.0 a.1) asked e) (some_job text name user rest a is_name is_user (allowances-sound rest a read) is)
+
+job_of-sound : (text name rest : List ℕ) → is_word name ≡ true → text ≡ codes "JOB " ++ (name ++ 44 ∷ rest) → Whats (job_of name (job_user_read rest)) text
+job_of-sound text name rest is_name is = by (job_user_read rest) refl
+  where
+    by : (o : Option (List ℕ × List ℕ)) → job_user_read rest ≡ o → Whats (job_of name o) text
+    by None read asked e = absurd cc
+    by (Some p) read asked e =
+        let user = user-part rest p.0 p.1 read in
+        job_with-sound text name p.0 p.1 is_name user.0 (is ∙ ap (λ (x : List ℕ). codes "JOB " ++ (name ++ 44 ∷ x)) user.1) asked e
+
+job-sound : (text : List ℕ) → Whats (job_read text) text
+job-sound text asked e = option_and_then_some job_behind (behind (codes "JOB ") text) asked e (λ rest there read. by rest (behind-is (codes "JOB ") text rest there) (name_read rest) refl asked read)
+  where
+    by : (rest : List ℕ) → text ≡ codes "JOB " ++ rest → (o : Option (List ℕ × List ℕ)) → name_read rest ≡ o → Whats (job_named o) text
+    by rest is None read found none = absurd cc
+    by rest is (Some p) read found said =
+        let name = name-sound rest p.0 p.1 read in
+        job_of-sound text p.0 p.1 name.0 (is ∙ ap (λ (x : List ℕ). codes "JOB " ++ x) name.1) found said
+
+bare_or-sound : (text : List ℕ) (found : Option Operator) (others : Option What) → Bares found text → Whats others text → Whats (bare_or found others) text
+bare_or-sound text None others bares rest asked e = rest asked e
+bare_or-sound text (Some o) others bares rest asked e =
+    subst (λ (x : What). IsSaid x text) (same_Some (what.Bare o) asked e) (λ lines good. bares o refl)
+
+what-sound : (text : List ℕ) → Whats (what_read text) text
+what-sound text =
+    bare_or-sound text (word_read text) _ (word-sound text)
+    (bare_or-sound text (numbered_read text) _ (numbered-sound text) (bare_or-sound text (migration_read text) (job_read text) (migration-sound text) (job-sound text)))
+
+-- the item with this first line and these lines of a document
+abbrev pub item_with : Head → List (List ℕ) → WrittenItem
+item_with head lines = record { turn = head.turn; what = with_lines head.what lines }
+
+abbrev Heads : Option Head → List ℕ → Type 0
+Heads found text = (head : Head) → found ≡ Some head → (lines : List (List ℕ)) → All IsDocumentLine lines → IsItem (item_with head lines) × (text ≡ head_line (item_with head lines))
+
+pub head-sound : (text : List ℕ) → Heads (head_read text) text
+head-sound text = by (split_at 32 text) refl
+  where
+    timed_by : (before asked : List ℕ) → text ≡ before ++ 32 ∷ asked → (o : Option ℕ) (w : Option What) → number_read 1000000000 before ≡ o → what_read asked ≡ w → Heads (timed o w) text
+    timed_by before asked split None w read said head e lines good = absurd cc
+    timed_by before asked split (Some turn) None read said head e lines good = absurd cc
+    timed_by before asked split (Some turn) (Some what) read said head e lines good =
+        let number = number-sound 1000000000 turn before read in
+        let parts = what-sound asked what said lines good in
+        let own : Head = record { turn = turn; what = what } in
+        let whole : text ≡ head_line (item_with own lines) = split ∙ ap (λ (x : List ℕ). x ++ 32 ∷ asked) number.1 ∙ ap (λ (x : List ℕ). decimal turn ++ 32 ∷ x) parts.1 in
+        subst (λ (h : Head). IsItem (item_with h lines) × (text ≡ head_line (item_with h lines))) (same_Some own head e) ((number.0, parts.0), whole)
+
+    by : (o : Option (List ℕ × List ℕ)) → split_at 32 text ≡ o → Heads (timed_in o) text
+    by None is head e = absurd cc
+    by (Some parts) is head e = timed_by parts.0 parts.1 (split-is 32 text parts is) (number_read 1000000000 parts.0) (what_read parts.1) refl refl head e

@@ -1,6 +1,5 @@
 pub mod HeadLemmas
-pub mod LineLemmas
+pub mod ItemLemmas
 pub mod OneReading
-pub mod ParseLemmas
-pub mod StepLemmas
-pub mod Walks
+pub mod PieceLemmas
+pub mod ReadLemmas

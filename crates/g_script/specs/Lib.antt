@@ -1,3 +1,3 @@
-pub mod Lines
+pub mod How
 pub mod Reading
 pub mod Script

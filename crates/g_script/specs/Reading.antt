@@ -1,50 +1,45 @@
--- How a document is read, line by line.
-use Rattle.std.specs.Prelude.{◌≡◌, ◌≢◌, ◌≤◌, ℕ, true, false, List, [], ◌∷◌, ◌++◌, length, All, Option, Some, None, IfSome, codes}
-use Rattle.g_name.specs.Grammar.{is_word}
-use Rattle.g_script.specs.Script.{IsTextLine, IsInputText, IsCommand, IsDocument, command_lines, document_lines, is_open}
-use Rattle.g_script.specs.declared.script.Command.{Command}
-use Rattle.g_script.specs.declared.script.Command.TheVariants.{Input}
-use Rattle.g_script.specs.declared.step.BegunInput.{BegunInput}
-use Rattle.g_script.specs.declared.step.Step.{Step}
-use Rattle.g_script.specs.declared.step.Step.TheVariants.{Begun, Whole, Refused}
+-- What is read of a document, and of an item.
+use Rattle.std.specs.Prelude.{All, List, [], codes, length, map, ℕ, ◌++◌, ◌+◌, ◌∷◌, ◌≡◌, ◌≢◌}
+use Rattle.g_script.specs.Script.{IsBadLine, IsDocumentLine, IsItem, WrittenItem, item_lines, lines_in, timed_said}
+use Rattle.g_script.specs.declared.operator.Timed.{Timed}
+use Rattle.g_script.specs.declared.read.DocumentRead.{DocumentRead}
+use Rattle.g_script.specs.declared.read.DocumentRead.TheVariants as document
+use Rattle.g_script.specs.declared.read.ItemRead.{ItemRead}
+use Rattle.g_script.specs.declared.read.ItemRead.TheVariants as item
 
--- the text of an INPUT with one more line
-abbrev pub with_line : List ℕ → List ℕ → List ℕ
-with_line text line = text ++ (line ++ 10 ∷ [])
+-- good lines of a document, and behind them one that no document has
+pub record IsBadIn (lines : List (List ℕ)) (k : ℕ) : Type 0 where
+  pub front : List (List ℕ)
+  pub line : List ℕ
+  pub behind : List (List ℕ)
+  pub good : All IsDocumentLine front
+  pub all : lines ≡ front ++ line ∷ behind
+  pub bad : IsDocumentLine line → ⊥
+  pub no_end : line ≢ codes "****"
+  pub place : k ≡ length front + 1
 
--- a command whose text doesn't go on
-abbrev pub IsWhole : Command → Type 0
-IsWhole command = IsCommand command × (is_open command ≡ false)
+-- what lines are as those of a document, and which of them are left
+abbrev pub IsDocumentRead : List (List ℕ) → List (List ℕ) → DocumentRead → Type 0
+IsDocumentRead lines rest (document.Whole texts) = All IsDocumentLine texts × (lines ≡ texts ++ codes "****" ∷ rest)
+IsDocumentRead lines rest (document.BadAt k) = IsBadIn lines k
+IsDocumentRead lines rest document.Open = All IsDocumentLine lines
 
--- what a line makes of a document whose commands are whole, or of one whose last INPUT has begun
-abbrev pub IsStep : Option BegunInput → List ℕ → Step → Type 0
-IsStep None line (Begun input) = (is_word input.name ≡ true) × (input.text ≡ []) × (line ≡ codes "INPUT " ++ input.name)
-IsStep None line (Whole command) = IsWhole command × (line ∷ [] ≡ command_lines command)
-IsStep None line Refused = (command : Command) → IsCommand command → (more : List (List ℕ)) → line ∷ more ≢ command_lines command
-IsStep (Some input) line (Begun next) = (next.name ≡ input.name) × (next.text ≡ with_line input.text line) × (length next.text ≤ 480) × IsTextLine line
-IsStep (Some input) line (Whole command) = (command ≡ Input input.name input.text true) × (line ≡ codes "////")
-IsStep (Some input) line Refused = (line ≢ codes "////") × (IsTextLine line → length (with_line input.text line) ≤ 480 → ⊥)
+-- an item stands there, which takes so many lines
+pub record IsTaken (lines : List (List ℕ)) (rest : List (List ℕ)) (said : Timed) (count : ℕ) : Type 0 where
+  pub item : WrittenItem
+  pub is_item : IsItem item
+  pub is_said : said ≡ timed_said item
+  pub all : lines ≡ item_lines item ++ rest
+  pub counted : count ≡ length (item_lines item)
 
--- no document goes on with this line behind the lines of these commands
-abbrev pub Refuses : List Command → List ℕ → Type 0
-Refuses commands line = (document : List Command) (more : List (List ℕ)) → IsDocument document → document_lines document ≢ document_lines commands ++ line ∷ more
+abbrev pub IsItemRead : List (List ℕ) → List (List ℕ) → ItemRead → Type 0
+IsItemRead lines rest (item.Taken said count) = IsTaken lines rest said count
+IsItemRead lines rest (item.BadAt k) = IsBadLine lines [] k
 
--- the command that an INPUT is whose text may go on
-abbrev pub begun_commands : Option BegunInput → List Command
-begun_commands None = []
-begun_commands (Some input) = Input input.name input.text false ∷ []
-
--- whole commands and the INPUT behind them
-abbrev pub document_so_far : List Command → Option BegunInput → List Command
-document_so_far commands begun = commands ++ begun_commands begun
-
--- the INPUT with the text that it has so far is a command
-abbrev pub IsBegun : BegunInput → Type 0
-IsBegun input = (is_word input.name ≡ true) × IsInputText input.text
-
--- whole commands and an INPUT that has begun are a document of that many lines
-pub record IsFront (commands : List Command) (begun : Option BegunInput) (lines : ℕ) : Type 0 where
-  pub whole : All IsWhole commands
-  pub input : IfSome begun IsBegun
-  pub document : IsDocument (document_so_far commands begun)
-  pub counted : lines ≡ length (document_lines (document_so_far commands begun))
+-- items stand in front of the lines that are left
+pub record IsFront (lines : List (List ℕ)) (said : List Timed) (rest : List (List ℕ)) (before : ℕ) : Type 0 where
+  pub items : List WrittenItem
+  pub are_items : All IsItem items
+  pub is_said : said ≡ map timed_said items
+  pub all : lines ≡ lines_in items ++ rest
+  pub counted : before ≡ length (lines_in items)

@@ -1,53 +1,239 @@
-//! The first line of a job: its name and the units of TIME that it may use.
-ghost use Rattle.std.specs.Prelude.{◌≡◌, ◌≢◌, ◌≤◌, ◌↔◌, ℕ, List, true, IsTrue, slice_index, MatchOption};
-ghost use Rattle.std.specs.Fmt.{decimal};
-ghost use Rattle.g_name.specs.Grammar.{is_word};
-ghost use Rattle.g_script.specs.Script.{head_line};
+//! The first line of an item: its turn, and what is asked for.
+ghost use Rattle.std.specs.Prelude.{◌≡◌, None, Some, MatchOption};
+ghost use Rattle.g_script.specs.How as how;
+ghost use Rattle.g_verbs.specs.How as verbs;
 
-use crate::lines::split_at_byte;
-use g_name::Local;
-use std::str;
+use crate::Operator;
+use crate::number::{behind, from_one, is_same, number, number_behind, parts_at};
+use g_name::{Local, Path, User, parse_path};
 
-/// The most units of TIME of a job.
-const MOST_TIME: u64 = 1_000_000;
+/// The most that a serial number may be.
+const MOST_SERIAL: u64 = 999_999;
 
-/// The name and the TIME in a job's first line.
-pub fn head_of(line: &[u8]) -> Option<(Local, u64)>
-    ensures { MatchOption result
-        ((name : List ℕ) (time : ℕ) → is_word name ≡ true → 1 ≤ time → time ≤ 1000000 → line.now ≢ head_line name time)
-        (λ head. (is_word head.0 ≡ true) × (1 ≤ head.1) × (head.1 ≤ 1000000) × (line.now ≡ head_line head.0 head.1)) }
-{
-    let rest = line.strip_prefix(b"0 JOB ")?;
-    let (name, rest) = split_at_byte(rest, b',')?;
-    let name = Local::new(name)?;
-    let time = time_of(rest.strip_prefix(b":MASTER,TIME ")?)?;
-    Some((name, time))
+/// The most that a turn, and the number of a write that is to fail, may be.
+const MOST_COUNT: u64 = 1_000_000_000;
+
+/// The most TIME, and the most MONEY, of a job.
+const MOST_ALLOWANCE: u64 = 1_000_000;
+
+/// What a first line asks for: a job without its document, or all else.
+#[derive(Debug, Drop)]
+pub enum What {
+    Bare(Operator),
+    Job {
+        name: Local,
+        user: User,
+        time: u64,
+        money: Option<u64>,
+    },
 }
 
-/// The TIME that these digits are, from 1 to the most, without a leading zero.
-fn time_of(digits: &[u8]) -> Option<u64>
-    ensures { MatchOption result
-        ((time : ℕ) → 1 ≤ time → time ≤ 1000000 → digits.now ≢ decimal time)
-        (λ time. (1 ≤ time) × (time ≤ 1000000) × (digits.now ≡ decimal time)) }
+/// What a first line says.
+#[derive(Debug, Drop)]
+pub struct Head {
+    pub turn: u64,
+    pub what: What,
+}
+
+/// What a first line says, if it is one.
+pub fn head_of(line: &[u8]) -> Option<Head>
+    ensures { result ≡ how.head_read line.now }
 {
-    if !begins_with_1_to_9(digits) {
-        return None;
+    match parts_at(line, b' ') {
+        Some((turn, asked)) => match (number(turn, MOST_COUNT), what_of(asked)) {
+            (Some(turn), Some(what)) => Some(Head { turn, what }),
+            _ => None,
+        },
+        None => None,
     }
-    let Ok(text) = str::from_utf8(digits) else {
-        return None;
-    };
-    let Ok(time) = text.parse::<u64>() else {
-        return None;
-    };
-    if time <= MOST_TIME { Some(time) } else { None }
 }
 
-/// Whether the first byte is a digit other than 0.
-fn begins_with_1_to_9(digits: &[u8]) -> bool
-    ensures { IsTrue result ↔ ((49 ≤ slice_index digits.now 0) × (slice_index digits.now 0 ≤ 57)) }
+/// What is asked for behind the turn.
+fn what_of(text: &[u8]) -> Option<What>
+    ensures { result ≡ how.what_read text.now }
 {
-    match digits.first() {
-        Some(first) => b'1' <= *first && *first <= b'9',
-        None => false,
+    if let Some(operator) = word(text) {
+        return Some(What::Bare(operator));
+    }
+    if let Some(operator) = numbered(text) {
+        return Some(What::Bare(operator));
+    }
+    if let Some(operator) = migration(text) {
+        return Some(What::Bare(operator));
+    }
+    job(text)
+}
+
+/// An operator that is a word alone.
+fn word(text: &[u8]) -> Option<Operator>
+    ensures { result ≡ how.word_read text.now }
+{
+    if is_same(text, b"FORMAT") {
+        return Some(Operator::Format);
+    }
+    if is_same(text, b"START") {
+        return Some(Operator::Start);
+    }
+    if is_same(text, b"RESTORE") {
+        return Some(Operator::Restore);
+    }
+    if is_same(text, b"SHUT") {
+        return Some(Operator::Shut);
+    }
+    None
+}
+
+/// An operator that is a word and a number.
+fn numbered(text: &[u8]) -> Option<Operator>
+    ensures { result ≡ how.numbered_read text.now }
+{
+    if let Some(serial) = number_behind(MOST_SERIAL, b"MOUNT ", text) {
+        return Some(Operator::Mount(serial as u32));
+    }
+    if let Some(serial) = number_behind(MOST_SERIAL, b"UNMOUNT ", text) {
+        return Some(Operator::Unmount(serial as u32));
+    }
+    if let Some(serial) = number_behind(MOST_SERIAL, b"DUMP ", text) {
+        return Some(Operator::Dump(serial as u32));
+    }
+    stop(text)
+}
+
+/// STOP DISC and STOP TAPE.
+fn stop(text: &[u8]) -> Option<Operator>
+    ensures { result ≡ how.stop_read text.now }
+{
+    if let Some(k) = number_behind(MOST_COUNT, b"STOP DISC ", text) {
+        return Some(Operator::StopDisc(k as u32));
+    }
+    if let Some(k) = number_behind(MOST_COUNT, b"STOP TAPE ", text) {
+        return Some(Operator::StopTape(k as u32));
+    }
+    None
+}
+
+/// MIGRATE and its path.
+fn migration(text: &[u8]) -> Option<Operator>
+    ensures { result ≡ how.migration_read text.now }
+{
+    match behind(b"MIGRATE ", text) {
+        Some(name) => match file(name) {
+            Some(path) => Some(Operator::Migrate(path)),
+            None => None,
+        },
+        None => None,
+    }
+}
+
+/// The path of a file.
+fn file(text: &[u8]) -> Option<Path>
+    ensures { result ≡ verbs.file_read text.now }
+{
+    parse_path(text).ok()
+}
+
+/// A user with its colon.
+fn user(text: &[u8]) -> Option<User>
+    ensures { result ≡ verbs.user_read text.now }
+{
+    User::parse(text).ok()
+}
+
+/// A local name.
+fn local(text: &[u8]) -> Option<Local>
+    ensures { result ≡ verbs.local_read text.now }
+{
+    Local::new(text)
+}
+
+/// JOB, without its document.
+fn job(text: &[u8]) -> Option<What>
+    ensures { result ≡ how.job_read text.now }
+{
+    match behind(b"JOB ", text) {
+        Some(rest) => job_behind(rest),
+        None => None,
+    }
+}
+
+/// What stands behind the word JOB.
+fn job_behind(text: &[u8]) -> Option<What>
+    ensures { result ≡ how.job_behind text.now }
+{
+    match name_of(text) {
+        Some((name, rest)) => match user_of(rest) {
+            Some((user, rest)) => match allowances(rest) {
+                Some((time, money)) => Some(What::Job {
+                    name,
+                    user,
+                    time,
+                    money,
+                }),
+                None => None,
+            },
+            None => None,
+        },
+        None => None,
+    }
+}
+
+/// A job's name, and what stands behind its comma.
+fn name_of(text: &[u8]) -> Option<(Local, &[u8])>
+    ensures { MatchOption result (how.name_read text.now ≡ None)
+        (λ r. how.name_read text.now ≡ Some (r.0, r.1.now)) }
+{
+    match parts_at(text, b',') {
+        Some((name, rest)) => match local(name) {
+            Some(name) => Some((name, rest)),
+            None => None,
+        },
+        None => None,
+    }
+}
+
+/// A job's user, and what stands behind its comma.
+fn user_of(text: &[u8]) -> Option<(User, &[u8])>
+    ensures { MatchOption result (how.job_user_read text.now ≡ None)
+        (λ r. how.job_user_read text.now ≡ Some (r.0, r.1.now)) }
+{
+    match parts_at(text, b',') {
+        Some((name, rest)) => match user(name) {
+            Some(user) => Some((user, rest)),
+            None => None,
+        },
+        None => None,
+    }
+}
+
+/// A job's TIME, and its MONEY where that is given.
+fn allowances(text: &[u8]) -> Option<(u64, Option<u64>)>
+    ensures { result ≡ how.allowances_read text.now }
+{
+    match parts_at(text, b',') {
+        Some((time, money)) => match (time_of(time), money_of(money)) {
+            (Some(time), Some(money)) => Some((time, Some(money))),
+            _ => None,
+        },
+        None => match time_of(text) {
+            Some(time) => Some((time, None)),
+            None => None,
+        },
+    }
+}
+
+/// TIME and its number.
+fn time_of(text: &[u8]) -> Option<u64>
+    ensures { result ≡ how.time_read text.now }
+{
+    number_behind(MOST_ALLOWANCE, b"TIME ", text)
+}
+
+/// MONEY and its number, which may be 0.
+fn money_of(text: &[u8]) -> Option<u64>
+    ensures { result ≡ how.money_read text.now }
+{
+    match behind(b"MONEY ", text) {
+        Some(digits) => number(digits, MOST_ALLOWANCE),
+        None => None,
     }
 }

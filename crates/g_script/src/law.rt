@@ -1,10 +1,10 @@
 //! That what is said of a reading leaves one reading alone.
 ghost use Rattle.std.specs.Prelude.{◌≡◌, ℕ, List, Option};
-ghost use Rattle.g_script.specs.declared.script.Work.{Work};
+ghost use Rattle.g_script.specs.declared.operator.Timed.{Timed};
 ghost use Rattle.g_script.specs.Script.{IsParsed};
 
-/// The lines of a script determine its work and its bad line.
+/// The lines of a script determine what it asks for and its bad line.
 pub fn one_reading()
-    ensures { (lines : List (List ℕ)) (work other : Work) (bad other_bad : Option ℕ) →
-        IsParsed lines work bad → IsParsed lines other other_bad → (work ≡ other) × (bad ≡ other_bad) }
+    ensures { (lines : List (List ℕ)) (said other : List Timed) (bad other_bad : Option ℕ) →
+        IsParsed lines said bad → IsParsed lines other other_bad → (said ≡ other) × (bad ≡ other_bad) }
 {}

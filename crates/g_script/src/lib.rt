@@ -1,16 +1,15 @@
-//! The script that an operator gives: its lines read into the work to do, and the first line that is no script's.
+//! The script that an operator gives: its lines read into what is asked for, and the first line that is no script's.
 #![tactic(auto)]
 
-mod front;
 mod head;
 mod law;
-mod lines;
+mod number;
+mod operator;
 mod parse;
-mod script;
-mod step;
+mod read;
 #[cfg(test)]
 mod tests;
 
 pub use law::one_reading;
+pub use operator::{Operator, Script, Timed, Timeds};
 pub use parse::parse_script;
-pub use script::{Command, Document, Job, Script, Work};

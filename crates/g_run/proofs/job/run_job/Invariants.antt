@@ -1,5 +1,5 @@
 use Rattle.std.proofs.Common.{◌≡◌, ◌+◌, ◌-◌, ◌<◌, ◌≤◌, true, length, count_by, drop}
-use Rattle.g_script.specs.Script.{is_input}
+use Rattle.g_first_script.specs.Script.{is_input}
 use Rattle.g_run.specs.Jobs.{HasCome}
 use Rattle.g_run.proofs.job.run_job.Given as goal
 

@@ -1,6 +1,6 @@
 use Rattle.std.proofs.Common.{◌∙◌, subst}
-use Rattle.g_script.specs.Lines.{lines_of}
-use Rattle.g_script.specs.Script.{IsParsed}
+use Rattle.g_first_script.specs.Lines.{lines_of}
+use Rattle.g_first_script.specs.Script.{IsParsed}
 use Rattle.g_run.proofs.TopLemmas.{ends_as}
 use Rattle.g_run.proofs.top.george.Goals as goal
 

@@ -1,7 +1,7 @@
 use Rattle.std.proofs.Common.{◌++◌, ◌+◌, ◌∙◌, refl, ap, inr, Some, true}
 use Rattle.g_first.specs.Files.{greatest}
 use Rattle.g_first.specs.Store.{with_file}
-use Rattle.g_script.specs.declared.script.Command.TheVariants.{Input}
+use Rattle.g_first_script.specs.declared.script.Command.TheVariants.{Input}
 use Rattle.g_run.specs.Turn.{IsTurnInPart}
 use Rattle.g_run.specs.Texts.{input_echo, made}
 use Rattle.g_run.specs.World.{Plain, Cut, Going, Stopped}

@@ -1,5 +1,5 @@
 use Rattle.std.proofs.Common.{◌++◌, ◌∙◌, refl, ap, inr, codes, Some}
-use Rattle.g_script.specs.declared.script.Command.TheVariants.{ListFile}
+use Rattle.g_first_script.specs.declared.script.Command.TheVariants.{ListFile}
 use Rattle.g_run.specs.Turn.{IsTurnInPart}
 use Rattle.g_run.specs.Texts.{ended_line, list_echo, listed, listing}
 use Rattle.g_run.specs.World.{Plain, DiscRead, Going}
