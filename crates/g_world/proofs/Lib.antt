@@ -1,0 +1,9 @@
+pub mod AnswerLemmas
+pub mod DumpLemmas
+pub mod DumpedLemmas
+pub mod LawLemmas
+pub mod OverLemmas
+pub mod StepLemmas
+pub mod ToldLemmas
+pub mod TreeLemmas
+pub mod TurnLemmas

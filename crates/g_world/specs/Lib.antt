@@ -1,0 +1,9 @@
+pub mod Accounts
+pub mod Devices
+pub mod Events
+pub mod Laws
+pub mod Lines
+pub mod Moves
+pub mod Texts
+pub mod Top
+pub mod World

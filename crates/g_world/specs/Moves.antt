@@ -1,0 +1,129 @@
+-- A run is a list of moves of the world, one for each event.
+use Rattle.std.specs.Prelude.{◌≡◌, ◌⊎◌, ℕ, ◌+◌, true, false, List, [], ◌∷◌, ◌++◌, map, slice_get, Option, Some, None, Result, Ok, Err, codes}
+use Rattle.std.specs.Fmt.{decimal}
+use Rattle.std.specs.Fn.{Shared}
+use denote.Ref.{Bor}
+use Rattle.g_base.specs.Counts.{HasRisenBy, RoseBy}
+use Rattle.g_budget.specs.declared.tariff.Usage.{Usage}
+use Rattle.g_budget.specs.declared.tariff.Charge.{Charge}
+use Rattle.g_sched.specs.declared.rule.Standing.{Standing}
+use Rattle.g_sched.specs.Choice.{IsChosen}
+use Rattle.g_plain.specs.declared.calls.StoreCall.{StoreCall}
+use Rattle.g_plain.specs.declared.faults.StoreFault.{StoreFault}
+use Rattle.g_plain.specs.declared.faults.StoreFault.TheVariants.{Stopped}
+use Rattle.g_plain.specs.Asks.{Answer, Asks, Gives, Call, IsAnswer}
+use Rattle.g_job.specs.declared.turn.Turn.{Turn}
+use Rattle.g_job.specs.declared.turn.Turn.TheVariants as turns
+use Rattle.g_job.specs.Begun.{standing_of}
+use Rattle.g_job.specs.State.{JobState, Work}
+use Rattle.g_job.specs.Turns.{turn_work}
+use Rattle.g_job.specs.Ends.{turn_end, IsPriced}
+use Rattle.g_monitor.specs.Refusals.{fault_line}
+use Rattle.g_step.specs.State.{State}
+use Rattle.g_step.specs.CallStep.{Outcome, Plain, DiscRead, TapeRead, Cut}
+use Rattle.g_step.specs.DumpSteps.{Stepped as DumpStepped, Going, Completed}
+use Rattle.g_world.specs.Devices.{Devices}
+use Rattle.g_world.specs.Events.{IsDumpStep, IsCall}
+use Rattle.g_script.specs.declared.operator.Timed.{Timed}
+use Rattle.g_world.specs.Accounts.{with_new, settled}
+use Rattle.g_world.specs.Lines.{LineGives}
+use Rattle.g_world.specs.Texts.{dump_text, job_text}
+use Rattle.g_world.specs.World.{World, Between, Stepped, Turned, able, is_dumping, nothing_steps, has_none, is_due, job_of, with_job, without_job, says, system_stopped, closed}
+
+-- the operator's next line; a step of the open dump; a turn begins; a call of it is answered; it is over, with its
+-- charge, if there is one; the tick is over; the run is over
+pub data Move : Type 0 where
+  TakeLine : Outcome → Move
+  Dumped : Outcome → Move
+  Begin : ℕ → Move
+  Answered : Outcome → Move
+  TurnOver : ℕ → Option Charge → Move
+  Ticked : Move
+  Over : Move
+
+-- what a step of the dump tells
+abbrev pub dump_told : ℕ → Result DumpStepped StoreFault → State → World → World
+dump_told number (Ok Going) s w = record w { store = s; phase = Stepped }
+dump_told number (Ok (Completed n)) s w = record (says (dump_text n (codes "COMPLETED")) w) { store = s; phase = Stepped }
+dump_told number (Err Stopped) s w = record (system_stopped s w) { phase = Turned }
+dump_told number (Err fault) s w = record (says (dump_text number (codes "LOST " ++ fault_line fault)) w) { store = s; phase = Stepped }
+
+-- what the end of a turn makes of the world: accounts of new users open, unless the turn was stopped
+abbrev pub turn_told : JobState → Turn → World → World
+turn_told j turns.Broken w = system_stopped w.store (record w { jobs = with_job j w.jobs })
+turn_told j (turns.Wants serial) w =
+    record (says (job_text j.number (codes "WANTS TAPE " ++ decimal serial)) w) { jobs = with_job j w.jobs; accounts = with_new w.store w.accounts }
+turn_told j (turns.Ran units money) w = record w { jobs = with_job j w.jobs; accounts = with_new w.store w.accounts }
+turn_told j (turns.Ended units money) w =
+    record w { jobs = without_job j.number w.jobs; accounts = with_new w.store (settled j w.accounts); text = w.text ++ j.monitor }
+
+module _ {F U : Type 0} (tariffs : Shared F (Bor Usage × Unit {0}) Charge) (tariff : F) (rules : Shared U (Bor Standing × Unit {0}) ℕ) (rule : U) where
+  abbrev pub Step : World → Move → World → Type 0
+  Step w (TakeLine outcome) new = (line : Timed) × (rest : List Timed) × (w.lines ≡ line ∷ rest) × (w.phase ≡ Between) × (w.turn ≡ None)
+      × ((is_due w ≡ true) ⊎ (nothing_steps w ≡ true)) × LineGives outcome line.what (record w { lines = rest }) new
+  Step w (Dumped outcome) new = (w.phase ≡ Between) × (w.turn ≡ None) × (is_due w ≡ false) × (is_dumping w ≡ true)
+      × ((r : Result DumpStepped StoreFault) × (s : State) × IsDumpStep w.store outcome r s × (new ≡ dump_told (number_of w.store) r s w))
+    where
+      number_of : State → ℕ
+      number_of s = elim s.open_dump [ None ↦ 0 | Some d ↦ d.number ]
+  Step w (Begin number) new = (w.turn ≡ None) × (is_due w ≡ false) × (((w.phase ≡ Between) × (is_dumping w ≡ false)) ⊎ (w.phase ≡ Stepped))
+      × ((place : ℕ) × (job : JobState) × IsChosen rules rule (map standing_of (able w)) place × (slice_get (able w) place ≡ Some job) × (job.number ≡ number)
+      × (new ≡ record w { turn = Some (job.number, turn_work job); phase = Stepped }))
+  Step w (Answered outcome) new = (number : ℕ) × (call : StoreCall) × (more : Answer → Asks Work) × (job : JobState) × (answer : Answer) × (s : State)
+      × (w.turn ≡ Some (number, Call call more)) × (job_of w number ≡ Some job) × IsCall w.store job.user call outcome answer s × IsAnswer answer
+      × (new ≡ record w { store = s; turn = Some (number, more answer) })
+  Step w (TurnOver number charge) new = (work : Work) × (job : JobState) × (turn : Turn) × (after : JobState)
+      × (w.turn ≡ Some (number, Gives work)) × (job_of w number ≡ Some job) × IsPriced tariffs tariff work charge
+      × (turn_end job work charge ≡ Some (turn, after)) × (new ≡ record (turn_told after turn w) { turn = None; phase = Turned })
+  Step w Ticked new = (w.turn ≡ None) × ((w.phase ≡ Turned) ⊎ ((w.phase ≡ Stepped) × (has_none (able w) ≡ true)))
+      × (new ≡ record w { count = w.count + 1; phase = Between })
+  Step w Over new = (w.phase ≡ Between) × (w.turn ≡ None) × (w.lines ≡ []) × (nothing_steps w ≡ true) × (w.over ≡ false) × (new ≡ closed w)
+
+  abbrev pub Run : World → List Move → World → Type 0
+  Run w [] new = new ≡ w
+  Run w (move ∷ moves) new = (mid : World) × Step w move mid × Run mid moves new
+
+-- the outcome of a move that is an event of the store or a line
+abbrev pub outcome_of : Move → Outcome
+outcome_of (TakeLine outcome) = outcome
+outcome_of (Dumped outcome) = outcome
+outcome_of (Begin number) = Plain
+outcome_of (Answered outcome) = outcome
+outcome_of (TurnOver number charge) = Plain
+outcome_of Ticked = Plain
+outcome_of Over = Plain
+
+abbrev pub disc_reads_in : Outcome → ℕ
+disc_reads_in Plain = 0
+disc_reads_in DiscRead = 1
+disc_reads_in TapeRead = 0
+disc_reads_in Cut = 0
+
+abbrev pub tape_reads_in : Outcome → ℕ
+tape_reads_in Plain = 0
+tape_reads_in DiscRead = 0
+tape_reads_in TapeRead = 1
+tape_reads_in Cut = 0
+
+abbrev pub cuts_in : Outcome → ℕ
+cuts_in Plain = 0
+cuts_in DiscRead = 0
+cuts_in TapeRead = 0
+cuts_in Cut = 1
+
+-- how often the moves of a run have an outcome
+abbrev pub counted : (Outcome → ℕ) → List Move → ℕ
+counted f [] = 0
+counted f (move ∷ moves) = f (outcome_of move) + counted f moves
+
+-- A run has at most as many failed reads of each device, and failed writes of both, as the counts rose; a count that
+-- moved has one. Each STOP line that was done armed its device once, and nobody else did.
+pub record Counted (moves : List Move) (last : World) (old new : Devices) : Type 0 where
+  pub disc_reads : HasRisenBy (counted disc_reads_in moves) old.disc.read_faults new.disc.read_faults
+  pub tape_reads : HasRisenBy (counted tape_reads_in moves) old.rack.read_faults new.rack.read_faults
+  pub cuts : (i : ℕ) × (j : ℕ) × (i + j ≡ counted cuts_in moves) × HasRisenBy i old.disc.write_faults new.disc.write_faults × HasRisenBy j old.rack.write_faults new.rack.write_faults
+  pub no_disc_read : counted disc_reads_in moves ≡ 0 → new.disc.read_faults ≡ old.disc.read_faults
+  pub no_tape_read : counted tape_reads_in moves ≡ 0 → new.rack.read_faults ≡ old.rack.read_faults
+  pub no_cut : counted cuts_in moves ≡ 0 → (new.disc.write_faults ≡ old.disc.write_faults) × (new.rack.write_faults ≡ old.rack.write_faults)
+  pub disc_arms : RoseBy last.disc_stops old.disc.arms new.disc.arms
+  pub tape_arms : RoseBy last.tape_stops old.rack.arms new.rack.arms

@@ -1,0 +1,105 @@
+-- The world of a run.
+use Rattle.std.specs.Prelude.{if◌then◌else◌, ℕ, ◌==◌, Bool, true, false, not, ◌&&◌, nat_le, List, [], ◌∷◌, ◌++◌, map, filter, find, Option, Some, None, is_some, codes}
+use Rattle.g_plain.specs.Asks.{Asks}
+use Rattle.g_job.specs.State.{JobState, Work}
+use Rattle.g_step.specs.State.{State, is_mounted}
+use Rattle.g_script.specs.declared.operator.Timed.{Timed}
+use Rattle.g_world.specs.Accounts.{Opened}
+use Rattle.g_world.specs.Texts.{operator_line, broken_files, waiting_files, closing}
+
+-- where a tick stands: none has begun; its dump step is done, or there was none; its turn is over
+pub data Phase : Type 0 where
+  Between : Phase
+  Stepped : Phase
+  Turned : Phase
+
+-- THE WORLD. `turn` is the number of the job whose turn it is, and what is left of the turn's program.
+pub record World : Type 0 where
+  pub lines : List Timed
+  pub bad : Option ℕ
+  pub count : ℕ
+  pub phase : Phase
+  pub store : State
+  pub accounts : List Opened
+  pub jobs : List JobState
+  pub next_job : ℕ
+  pub turn : Option (ℕ × Asks Work)
+  pub disc_stops : ℕ
+  pub tape_stops : ℕ
+  pub text : List ℕ
+  pub over : Bool
+
+-- before anything is done
+abbrev pub start : List Timed → Option ℕ → State → World
+start lines bad s = record {
+  lines = lines;
+  bad = bad;
+  count = 0;
+  phase = Between;
+  store = s;
+  accounts = [];
+  jobs = [];
+  next_job = 1;
+  turn = None;
+  disc_stops = 0;
+  tape_stops = 0;
+  text = [];
+  over = false;
+}
+
+-- a job can step unless it waits for a reel that isn't mounted
+abbrev pub can_step : State → JobState → Bool
+can_step s j = may s j.wants
+  where
+    may : State → Option ℕ → Bool
+    may t None = true
+    may t (Some serial) = is_mounted t serial
+
+abbrev pub able : World → List JobState
+able w = filter (can_step w.store) w.jobs
+
+abbrev pub is_dumping : World → Bool
+is_dumping w = is_some w.store.open_dump
+
+abbrev pub has_none : List JobState → Bool
+has_none [] = true
+has_none (j ∷ jobs) = false
+
+abbrev pub nothing_steps : World → Bool
+nothing_steps w = not (is_dumping w) && has_none (able w)
+
+-- the next line is due
+abbrev pub is_due : World → Bool
+is_due w = due w.lines w.count
+  where
+    due : List Timed → ℕ → Bool
+    due [] count = false
+    due (line ∷ lines) count = nat_le line.turn count
+
+abbrev pub job_of : World → ℕ → Option JobState
+job_of w number = find (λ j. j.number == number) w.jobs
+
+abbrev pub with_job : JobState → List JobState → List JobState
+with_job j jobs = map (λ k. if k.number == j.number then j else k) jobs
+
+abbrev pub without_job : ℕ → List JobState → List JobState
+without_job number jobs = filter (λ j. not (j.number == number)) jobs
+
+abbrev pub says : List ℕ → World → World
+says what w = record w { text = w.text ++ operator_line w.count what }
+
+-- the system is down: accounts and jobs are gone, and each job's file is put
+abbrev pub goes_down : List ℕ → State → World → World
+goes_down what s w = record w {
+  store = s;
+  accounts = [];
+  jobs = [];
+  text = (w.text ++ operator_line w.count what) ++ broken_files w.jobs;
+}
+
+abbrev pub system_stopped : State → World → World
+system_stopped s w = goes_down (codes "SYSTEM STOPPED") s w
+
+-- the end of the run
+abbrev pub closed : World → World
+closed w = record w { jobs = []; over = true; text = (w.text ++ waiting_files w.jobs) ++ closing w.bad }
