@@ -1,0 +1,201 @@
+//! Turns over a store that refuses numbered calls.
+ghost use Rattle.std.specs.Prelude.{◌≡◌, false};
+
+use crate::refusing::{Refusal, Refusing};
+use g_budget::{Charge, Tariff, Usage};
+use g_job::{Job, Turn};
+use g_lines::Texts;
+use g_name::{Local, User};
+use g_plain::PlainStore;
+use std::process::Abort;
+use std::test::Fail;
+
+/// A job over a store whose calls from one number on, up to another, are refused so; how often the job waits, how it
+/// ends, and its whole monitoring file then.
+struct Case {
+    from: u64,
+    until: u64,
+    how: Refusal,
+    document: &'static str,
+    waits: u64,
+    end: Turn,
+    text: &'static str,
+}
+
+static CASES: [Case; 6] = [
+    // What a WHENEVER does waits twice, and is gone on with behind its line; the turn is charged for both commands.
+    Case {
+        from: 1,
+        until: 3,
+        how: Refusal::Wait,
+        document: "INPUT F\n\
+HELLO\n\
+////\n\
+WHENEVER NOT COMMAND ERROR,LISTFILE F\n\
+DISPLAY B",
+        waits: 2,
+        end: Turn::Ended { units: 1, money: 0 },
+        text: "JOB 1 A :MASTER\n\
+- INPUT F\n\
+MADE :MASTER.F(1/)\n\
+- WHENEVER NOT COMMAND ERROR,LISTFILE F\n\
+- DISPLAY B\n\
+DISPLAY B\n\
++ LISTFILE F\n\
+| HELLO\n\
+LISTED :MASTER.F(1/)\n\
+END 4 UNITS\n",
+    },
+    // A line that waits meets the outcome of the command before it when it is done again.
+    Case {
+        from: 3,
+        until: 4,
+        how: Refusal::Wait,
+        document: "INPUT F\n\
+HELLO\n\
+////\n\
+NOVERB\n\
+IF COMMAND ERROR,LISTFILE F",
+        waits: 1,
+        end: Turn::Ended { units: 1, money: 0 },
+        text: "JOB 1 A :MASTER\n\
+- INPUT F\n\
+MADE :MASTER.F(1/)\n\
+- NOVERB\n\
+ERROR 51 UNKNOWN VERB\n\
+- IF COMMAND ERROR,LISTFILE F\n\
+| HELLO\n\
+LISTED :MASTER.F(1/)\n\
+END 4 UNITS\n",
+    },
+    // A command whose second call waits is done again from its first.
+    Case {
+        from: 2,
+        until: 3,
+        how: Refusal::Wait,
+        document: "INPUT F\n\
+HELLO\n\
+////\n\
+APPEND F,F\n\
+LISTFILE F",
+        waits: 1,
+        end: Turn::Ended { units: 1, money: 0 },
+        text: "JOB 1 A :MASTER\n\
+- INPUT F\n\
+MADE :MASTER.F(1/)\n\
+- APPEND F,F\n\
+APPENDED :MASTER.F(1/)\n\
+- LISTFILE F\n\
+| HELLO\n\
+| HELLO\n\
+LISTED :MASTER.F(1/)\n\
+END 4 UNITS\n",
+    },
+    // A refusal of the disc is an error of the command.
+    Case {
+        from: 1,
+        until: 2,
+        how: Refusal::Read,
+        document: "INPUT F\n\
+HELLO\n\
+////\n\
+COPY F,G\n\
+IF COMMAND ERROR,DISPLAY X",
+        waits: 0,
+        end: Turn::Ended { units: 1, money: 0 },
+        text: "JOB 1 A :MASTER\n\
+- INPUT F\n\
+MADE :MASTER.F(1/)\n\
+- COPY F,G\n\
+ERROR 14 DISC READ\n\
+- IF COMMAND ERROR,DISPLAY X\n\
+DISPLAY X\n\
+END 4 UNITS\n",
+    },
+    // A stop ends the job at once; what was said so far stands.
+    Case {
+        from: 1,
+        until: 2,
+        how: Refusal::Stop,
+        document: "INPUT F\n\
+HELLO\n\
+////\n\
+LISTFILE F\n\
+DISPLAY X",
+        waits: 0,
+        end: Turn::Broken,
+        text: "JOB 1 A :MASTER\n\
+- INPUT F\n\
+MADE :MASTER.F(1/)\n\
+- LISTFILE F\n",
+    },
+    // A stop at the release of a unit.
+    Case {
+        from: 0,
+        until: 1,
+        how: Refusal::Stop,
+        document: "ASSIGN *LP0,OUT",
+        waits: 0,
+        end: Turn::Broken,
+        text: "JOB 1 A :MASTER\n\
+- ASSIGN *LP0,OUT\n\
+ASSIGNED\n",
+    },
+];
+
+/// Takes turns until the job ends, and counts those that wait.
+fn finish(
+    rt: &(impl Abort + AllocGlobal),
+    store: &mut Refusing,
+    job: &mut Job,
+) -> Result<(u64, Turn), Fail>
+    requires open { job.old.over ≡ false }
+    requires running { store.old.spent ≡ false }
+{
+    let tariff = Tariff::new(|usage: &Usage| Charge {
+        units: 1 + u64::from(usage.orders / 64) + u64::from(usage.blocks / 64),
+        money: u64::from(usage.blocks / 64),
+    });
+    let mut waits = 0;
+    for _ in 0..1_000u64 {
+        let turn = job.turn(rt.alloc(), store, &tariff)?;
+        match turn {
+            Turn::Ran { units: _, money: _ } => {}
+            Turn::Wants { serial: _ } => waits += 1,
+            Turn::Ended { units: _, money: _ } | Turn::Broken => return Ok((waits, turn)),
+        }
+        if store.spent {
+            return Err("a stop that was not told".into());
+        }
+    }
+    Err("too many turns".into())
+}
+
+/// Runs a case.
+fn check(rt: &(impl Abort + AllocGlobal), case: &Case) -> Result<(), Fail> {
+    let mut store = Refusing {
+        store: PlainStore::new(rt.alloc())?,
+        calls: 0,
+        from: case.from,
+        until: case.until,
+        how: case.how,
+        spent: false,
+    };
+    let name = Local::new(b"A").ok_or("no name")?;
+    let user = User::new(b"MASTER").ok_or("no user")?;
+    let lines = Texts::of_text(rt.alloc(), case.document.as_bytes())?;
+    let mut job = Job::new(rt.alloc(), 1, name, user, 20, 1_000, lines)?;
+    let (waits, end) = finish(rt, &mut store, &mut job)?;
+    assert_eq!(rt; job.monitor(), case.text.as_bytes());
+    assert_eq!(rt; waits, case.waits);
+    assert_eq!(rt; end, case.end);
+    Ok(())
+}
+
+#[test]
+fn refused_calls(rt: HostRuntime) -> Result<(), Fail> {
+    for case in &CASES {
+        check(&rt, case)?;
+    }
+    Ok(())
+}
