@@ -22,7 +22,7 @@ use std::alloc::Global;
 use std::mem;
 
 impl Work {
-    /// A turn begins; the desk is as the last one left it, with its 16 places for output.
+    /// A turn begins, with nothing made yet; the desk is as the last one left it, with its 16 places for output.
     pub fn begin(&mut self, alloc: Global)
         ensures ok { self.new ≡ record {
           desk = self.old.desk;
@@ -47,7 +47,7 @@ impl Work {
         self.stop = None;
     }
 
-    /// Hands over what the turn has made, all but the desk.
+    /// Hands over what the turn has made, all but the desk, which stays. It takes no memory.
     pub fn take_made(&mut self, alloc: Global) -> Made
         ensures made { IsMade self.old.desk result self.old }
         ensures desk { self.new.desk ≡ self.old.desk }
@@ -61,7 +61,10 @@ impl Work {
         }
     }
 
-    /// Goes on with what waited; else with a run of the program that isn't over; else takes the next line.
+    /// Does the work of a turn for the user `who`, whose monitoring file has room for so many bytes: goes on with what
+    /// waited; else with a run of the program that isn't over; else takes the next line.
+    ///
+    /// Where memory is wanting, the store has answered a front of the turn's calls, and nothing is known of the work.
     pub fn go<S: Filestore>(
         &mut self,
         alloc: Global,

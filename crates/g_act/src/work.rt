@@ -61,7 +61,7 @@ impl Work {
     ghost use Rattle.std.specs.Prelude.{◌≡◌, None, [], false};
     ghost use Rattle.g_macro.specs.declared.outcome.EventNote.TheVariants as note;
 
-    /// A desk on which nothing was done yet.
+    /// A desk on which nothing was done yet, with these levels and units and no program. It takes no memory.
     pub fn new(alloc: Global, levels: Levels, units: Units) -> Work
         ensures { result ≡ record {
           desk = record {
