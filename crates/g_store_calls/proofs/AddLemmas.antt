@@ -149,7 +149,7 @@ new_user_made users files next who user space time money is granted limits word 
 }
 
 -- THE CHANGE may be made
-or_false : (b : Bool) → (b || false) ≡ b
+pub or_false : (b : Bool) → (b || false) ≡ b
 or_false true = refl
 or_false false = refl
 

@@ -107,7 +107,7 @@ module _ (users : List UserRec) (files : List FileRec) where
   pub user_any : (user : List ℕ) (bytes other : FileRec → List ℕ) (next then_ : ℕ) → has_user (tree_of users files bytes next) user ≡ has_user (tree_of users files other then_) user
   user_any user bytes other next then_ = sym (user_there users files bytes next user) ∙ user_there users files other then_ user
 
-  name_any : IsRecords users files → (who : List ℕ) (path : Path) (bytes other : FileRec → List ℕ) (next then_ : ℕ)
+  pub name_any : IsRecords users files → (who : List ℕ) (path : Path) (bytes other : FileRec → List ℕ) (next then_ : ℕ)
       → input_name (tree_of users files bytes next) who path ≡ input_name (tree_of users files other then_) who path
   name_any is who path bytes other next then_ =
       ap (λ (n : ℕ). named who path (unwrap_or path.generation n)) (newest_is users files bytes next who path is ∙ sym (newest_is users files other then_ who path is))

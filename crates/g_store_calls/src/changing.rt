@@ -5,12 +5,13 @@ ghost use Rattle.g_online.specs.Allowed.{IsAllowed};
 ghost use Rattle.g_plain.specs.Rules.{IsWithinLimits};
 ghost use Rattle.g_store_calls.specs.Answering.{AnswersIn};
 ghost use Rattle.g_store_calls.specs.Applied.{HasApplied};
-ghost use Rattle.g_store_calls.specs.Made.{IsNewUser};
+ghost use Rattle.g_store_calls.specs.Made.{IsFileAt, IsNewUser};
 ghost use Rattle.g_store_calls.specs.Replies.{RefusesAs};
 
+use crate::telling::input_name;
 use g_disc::Disc;
 use g_entry::UserRec;
-use g_name::User;
+use g_name::{Full, Path, User};
 use g_online::{Change, Online, OnlineFault};
 use g_plain::{StoreCall, StoreFault, StoreReply};
 use g_tree::{Tree, refusal_of};
@@ -70,6 +71,43 @@ fn made_user(tree: &Tree, who: &User, user: &User, space: u32, time: u64, money:
         time,
         money,
     }
+}
+
+/// The answer to `Erase`: the file that the path names goes, by one commit. The refusals of the call (docs/DEFINITIONS.md), and
+/// `NoMemory`: nothing has changed. `Stopped`: a write of the disc failed; it holds what it held, or that without the file, and
+/// takes no further call.
+pub fn erase<D: Disc>(
+    alloc: Global,
+    online: &mut Online<D>,
+    who: &User,
+    path: &Path,
+) -> Result<StoreReply, StoreFault>
+    requires live { online.old.live ≡ true }
+    requires tied { IsTied online.old }
+    ensures { AnswersIn who.now (StoreCall.Erase path.now) online.old result online.new }
+{
+    let call = StoreCall::Erase { path: path.copy() };
+    match refusal_of(online.tree(), online.head().next_stamp, who, &call) {
+        Some(fault) => return Err(fault),
+        None => {}
+    }
+    let (number, full) = erased_file(online.tree(), who, path);
+    match applied(alloc, online, &Change::EraseFile(number)) {
+        Ok(()) => Ok(StoreReply::Erased(full)),
+        Err(fault) => Err(fault),
+    }
+}
+
+/// The file that the path names, with its full name. The erasing isn't refused.
+fn erased_file(tree: &Tree, who: &User, path: &Path) -> (u16, Full)
+    requires granted { (next : ℕ) × RefusesAs tree.now.users tree.now.files next who.now (StoreCall.Erase path.now) None }
+    ensures { IsFileAt tree.now.users tree.now.files who.now path.now result.0 result.1 }
+{
+    let full = input_name(tree, who, path);
+    let Some(number) = tree.number_of(&full) else {
+        unreachable!()
+    };
+    (number, full)
 }
 
 /// Makes the change. `Stopped`, `NoMemory`.

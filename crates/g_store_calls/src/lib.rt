@@ -4,5 +4,5 @@
 mod changing;
 mod telling;
 
-pub use changing::new_user;
+pub use changing::{erase, new_user};
 pub use telling::tell;

@@ -126,7 +126,7 @@ fn modes_of(tree: &Tree, who: &User, path: &Path, user: &User) -> Modes
 }
 
 /// The full name of the file that a path names for input.
-fn input_name(tree: &Tree, who: &User, path: &Path) -> Full
+pub(crate) fn input_name(tree: &Tree, who: &User, path: &Path) -> Full
     ensures { ForTree tree.now.users tree.now.files (λ t. result ≡ plain.input_name t who.now path.now) }
 {
     let newest = tree.newest(&named(who, path, 0));

@@ -1,0 +1,244 @@
+-- A file less.
+use Rattle.std.proofs.Common.{◌≡◌, ◌≢◌, ℕ, zero, suc, ◌<◌, ◌≤◌, ◌+◌, Bool, true, false, List, [], ◌∷◌, get_or, length, map, Option, Some, None, is_some, unwrap_or, refl, sym, ◌∙◌, ap, arith, inl, inr, subst, All}
+use Rattle.std.specs.Prelude.{◌⊎◌, ◌==◌, ◌||◌, AllPairs, Contains, IfSome, filter, if◌then◌else◌, not}
+use Rattle.std.specs.FinMap.{get, get-from_entries}
+use Rattle.std.specs.Option.{option_map}
+use Rattle.std.proofs.lemmas.Bool.{cases_eq, cond-false, cond-true, eq-eqb, false≢true, ne_eqb}
+use Rattle.std.proofs.lemmas.List.{get_or-map, length-map}
+use Rattle.std.proofs.lemmas.List.Elements.{All-filter, All-head, All-map, All-tail, Contains-get_or}
+use Rattle.std.proofs.lemmas.List.Kept.{AllPairs-filter}
+use Rattle.std.proofs.lemmas.List.Sums.{count_by-le-length, length-filter}
+use Rattle.g_online.proofs.CloseNoteLemmas.{map_same, pairs_map}
+use Rattle.g_entry.specs.declared.file_rec.FileRec.{FileRec}
+use Rattle.g_entry.specs.declared.user_rec.UserRec.{UserRec}
+use Rattle.g_entry.specs.FileFields.{IsFile}
+use Rattle.g_entry.specs.Rules.{SameName}
+use Rattle.g_name.specs.declared.full.Full.{Full}
+use Rattle.g_name.specs.declared.path.Path.{Path}
+use Rattle.g_name.proofs.Order.{full_total}
+use Rattle.g_tape.specs.Reel.{Reel}
+use Rattle.g_plain.proofs.TextMaps.{full_exact}
+use Rattle.g_plain.specs.declared.calls.StoreCall.{StoreCall}
+use Rattle.g_plain.specs.declared.calls.StoreCall.TheVariants.{Erase}
+use Rattle.g_plain.specs.declared.calls.StoreReply.TheVariants.{Erased}
+use Rattle.g_plain.specs.declared.faults.StoreFault.{StoreFault}
+use Rattle.g_plain.specs.PlainTree.{Tree, has_file, has_user, input_name}
+use Rattle.g_tree.specs.Asked.{zeros}
+use Rattle.g_tree.specs.Records.{ForTree, IsRecords, by_name, full_of, number_of, tree_of}
+use Rattle.g_tree.proofs.MapLemmas.{found_one, keyed}
+use Rattle.g_tree.proofs.NamedLemmas.{zeros_fit}
+use Rattle.g_tree.proofs.RecordLemmas.{file_there, numbers_apart}
+use Rattle.g_tree.proofs.RuleLemmas.{made_of, one_of_key}
+use Rattle.g_contents.specs.Contents.{Contents, File, committed, recs_in, without_file}
+use Rattle.g_contents.specs.Facts.{IsTied, OnlineFacts}
+use Rattle.g_incr.specs.Layout.{Dump, holds}
+use Rattle.g_state.specs.Directories.{IsOwnedIn}
+use Rattle.g_state.specs.Reading.{AllTold, HasText, View}
+use Rattle.g_state.specs.Staying.{behind}
+use Rattle.g_state.specs.Up.{DumpFacts, IsUp, StoreFacts}
+use Rattle.g_state.proofs.ChangeLemmas.{files_belong}
+use Rattle.g_state.proofs.StayLemmas.{stays_up}
+use Rattle.g_state_calls.specs.Calls.{IsBehind, marked}
+use Rattle.g_state_calls.proofs.CallLemmas.{calls_go_by_step}
+use Rattle.g_state_steps.proofs.WaitingLemmas.{from_mapped, mapped_there}
+use Rattle.g_online.specs.declared.change.Change.TheVariants.{EraseFile}
+use Rattle.g_online.specs.Allowed.{IsAllowed, KeepsRules, Lies}
+use Rattle.g_online.specs.Change.{changed, owner_in, with_files}
+use Rattle.g_migrate.proofs.MigrationLemmas.{rules_here}
+use Rattle.g_store_calls.specs.Made.{IsFileAt}
+use Rattle.g_store_calls.specs.Replies.{RefusesAs}
+use Rattle.g_store_calls.proofs.AddLemmas.{or_false, rules_committed}
+use Rattle.g_store_calls.proofs.MarkLemmas.{has_first, only_grow}
+use Rattle.g_store_calls.proofs.RecordLemmas.{IsRecorded}
+use Rattle.g_store_calls.proofs.TellLemmas.{granted_off, name_any, not_not, refuses_of}
+
+-- A FILE LESS
+all_back : {A B : Type 0} (P : B → Type 0) (f : A → B) (xs : List A) → All P (map f xs) → All (λ x. P (f x)) xs
+all_back P f xs all = λ k d within. subst P (get_or-map f xs k d (f d) within) (all k (f d) (let long = length-map xs f in omega (arith, within, long)))
+
+pairs_back : {A B : Type 0} (R : B → B → Type 0) (f : A → B) (xs : List A) → AllPairs R (map f xs) → AllPairs (λ x y. R (f x) (f y)) xs
+pairs_back {A} {B} R f xs all = λ i j d less within.
+    let long = length-map xs f in
+    subst (λ (y : B). R (f (get_or xs i d)) y) (get_or-map f xs j d (f d) within)
+    (subst (λ (x : B). R x (get_or (map f xs) j (f d))) (get_or-map f xs i d (f d) (omega (arith, less, within))) (all i j (f d) less (omega (arith, within, long))))
+
+module _ (p : File → Bool) (files : List File) where
+  abbrev rec : File → FileRec
+  rec f = f.rec
+
+  abbrev fewer : List FileRec
+  fewer = map rec (filter p files)
+
+  pub all_fewer : (P : FileRec → Type 0) → All P (map rec files) → All P fewer
+  all_fewer P all = All-map P rec (filter p files) (All-filter p (λ (f : File). P f.rec) files (all_back P rec files all))
+
+  pairs_fewer : (R : FileRec → FileRec → Type 0) → AllPairs R (map rec files) → AllPairs R fewer
+  pairs_fewer R all = pairs_map R rec (filter p files) (AllPairs-filter (λ (f : File) (g : File). R f.rec g.rec) p files (pairs_back R rec files all))
+
+  pub records_fewer : (users : List UserRec) → IsRecords users (map rec files) → IsRecords users fewer
+  records_fewer users was =
+      let few = was.among_files.few in
+      let one = length-map files rec in
+      let two = length-map (filter p files) rec in
+      let three = length-filter p files in
+      let four = count_by-le-length p files in
+      record {
+        each_user = was.each_user;
+        among_users = was.among_users;
+        each_file = all_fewer IsFile was.each_file;
+        numbers = record { rising = pairs_fewer (λ r s. r.number < s.number) was.numbers.rising; below = all_fewer (λ r. r.number < 1024) was.numbers.below };
+        among_files = record {
+          few = omega (arith, few, one, two, three, four);
+          owners = all_fewer (λ r. r.owner < length users) was.among_files.owners;
+          trapped = all_fewer (λ r. All (λ pair. pair.0 < length users) r.traps.others) was.among_files.trapped;
+          names = pairs_fewer (λ r s. SameName r s → ⊥) was.among_files.names;
+          stamps = pairs_fewer (λ r s. r.stamp ≢ s.stamp) was.among_files.stamps;
+          dated = all_fewer (λ r. 1 ≤ r.stamp) was.among_files.dated;
+          empty = all_fewer (λ r. r.len ≡ 0 → r.tape ≡ None) was.among_files.empty;
+        };
+      }
+
+-- THE FILE that a path names
+pub file_at : (users : List UserRec) (files : List FileRec) (who : List ℕ) (path : Path) (number : ℕ) (full : Full) → IsRecords users files → Some number ≡ number_of users files full
+    → ForTree users files (λ t. full ≡ input_name t who path) → IsFileAt users files who path number full
+file_at users files who path number full is found named =
+    let (r, got, same) = made_of (λ (s : FileRec). s.number) (get (by_name users files) full) number (sym found) in
+    let (there, name) = found_one full_total full_exact (full_of users) full files r (sym (get-from_entries full_total (keyed (full_of users) files) full) ∙ got) in
+    record { rec = r; there = there; number_is = same; name_is = name; named = named }
+
+pub kept_file : (users : List UserRec) (files : List FileRec) (next : ℕ) (who : List ℕ) (path : Path) → IsRecords users files
+    → (let t = tree_of users files zeros next in not (not (has_file t (input_name t who path))) ≡ true) → ForTree users files (λ t. has_file t (input_name t who path) ≡ true)
+kept_file users files next who path is off bytes then_ =
+    let t = tree_of users files zeros next in
+    ap (has_file (tree_of users files bytes then_)) (name_any users files is who path bytes zeros then_ next)
+    ∙ sym (file_there users files bytes then_ (input_name t who path)) ∙ file_there users files zeros next (input_name t who path)
+    ∙ not_not (has_file t (input_name t who path)) off
+
+pub erased_there : (users : List UserRec) (files : List FileRec) (next : ℕ) (who : List ℕ) (path : Path) → IsRecords users files → RefusesAs users files next who (Erase path) None
+    → ForTree users files (λ t. has_file t (input_name t who path) ≡ true)
+erased_there users files next who path is granted =
+    kept_file users files next who path is (granted_off (tree_of users files zeros next) who (Erase path) (granted zeros (zeros_fit files))).1.1.0
+
+-- THE CHANGE may be made
+erase_is : (told pinned : Bool) (number : ℕ) (c : Contents) → changed told pinned (EraseFile number) c ≡ committed pinned (record c { files = without_file number c.files })
+unfolding changed
+erase_is told pinned number c = ap (λ (b : Bool). committed b (record c { files = without_file number c.files })) (or_false pinned)
+
+pub may_erase : (o : OnlineFacts) (who : List ℕ) (path : Path) (number : ℕ) (full : Full) → o.live ≡ true → IsTied o → IsFileAt o.contents.users (recs_in o.contents) who path number full
+    → IsAllowed (EraseFile number) o
+may_erase o who path number full live tied at =
+    let was = rules_here o live tied in
+    let (f, there, rec) = from_mapped (λ (g : File). g.rec) o.contents.files at.rec at.there in
+    let p : File → Bool = λ g. not (g.rec.number == number) in
+    record {
+      live = live;
+      fits = (f, there, ap (λ (r : FileRec). r.number) rec ∙ at.number_is);
+      rules = subst KeepsRules (sym (erase_is (is_some o.disc.held) (is_some o.pins) number o.contents))
+          (rules_committed (is_some o.pins) (record o.contents { files = without_file number o.contents.files })
+          (record {
+            head = was.head;
+            records = records_fewer p o.contents.files o.contents.users was.records;
+            dated = all_fewer p o.contents.files (λ r. r.stamp < o.contents.head.next_stamp) was.dated;
+            lie = All-filter p Lies o.contents.files was.lie;
+          }));
+    }
+
+-- WHOSE FILE IT IS
+IsOwn : ℕ → ℕ → File → Type 0
+IsOwn number owner g = g.rec.number ≡ number → g.rec.owner ≡ owner
+
+owner_first : (number owner : ℕ) (files : List File) → All (IsOwn number owner) files → (f : File) → Contains files f → f.rec.number ≡ number → owner_in number files ≡ owner ∷ []
+unfolding IsOwn
+owner_first number owner [] all f (k, within, at) is = let no : ⊥ = omega (arith, within) in absurd no
+owner_first number owner (g ∷ gs) all f there is =
+    by_number (cases_eq g.rec.number number) (λ other. owner_first number owner gs (All-tail (IsOwn number owner) g gs all) f (later there other) is)
+  where
+    later : Contains (g ∷ gs) f → (g.rec.number ≡ number → ⊥) → Contains gs f
+    later (zero, within, at) other = absurd (other (ap (λ (h : File). h.rec.number) at ∙ is))
+    later (suc k, within, at) other = (k, omega (arith, within), at)
+
+    by_number : (g.rec.number ≡ number) ⊎ (g.rec.number ≡ number → ⊥) → ((g.rec.number ≡ number → ⊥) → owner_in number gs ≡ owner ∷ []) → owner_in number (g ∷ gs) ≡ owner ∷ []
+    by_number (inl same) rest =
+        cond-true (g.rec.number == number) (g.rec.owner ∷ []) (owner_in number gs) (eq-eqb g.rec.number number same)
+        ∙ ap (λ (n : ℕ). let l : List ℕ = n ∷ [] in l) (All-head (IsOwn number owner) g gs all same)
+    by_number (inr other) rest =
+        cond-false (g.rec.number == number) (g.rec.owner ∷ []) (owner_in number gs) (ne_eqb g.rec.number number other) ∙ rest other
+
+-- THE CALL is the step's
+own_file : (o : OnlineFacts) (f : File) → IsRecords o.contents.users (recs_in o.contents) → Contains o.contents.files f → (g : File) → Contains o.contents.files g → g.rec.number ≡ f.rec.number → g.rec.owner ≡ f.rec.owner
+own_file o f is there g there_g same =
+    ap (λ (r : FileRec). r.owner)
+    (one_of_key (λ (r : FileRec). r.number) (recs_in o.contents) g.rec f.rec (numbers_apart o.contents.users (recs_in o.contents) is)
+    (mapped_there (λ (h : File). h.rec) o.contents.files g there_g) (mapped_there (λ (h : File). h.rec) o.contents.files f there) same)
+
+owned_in : (files : List File) (number owner : ℕ) (changed numbers : List ℕ) → ((g : File) → Contains files g → g.rec.number ≡ number → g.rec.owner ≡ owner) → changed ≡ marked (owner ∷ []) numbers
+    → All (IsOwnedIn number changed) files
+owned_in files number owner changed numbers own is i d within same =
+    let g = get_or files i d in
+    ap (λ (n : ℕ). holds changed n) (own g (Contains-get_or files i d within) same) ∙ ap (λ (l : List ℕ). holds l owner) is ∙ has_first owner [] numbers
+
+owned_open : (files : List File) (number owner : ℕ) (touched numbers : List ℕ) (dump : Option DumpFacts) → ((g : File) → Contains files g → g.rec.number ≡ number → g.rec.owner ≡ owner)
+    → IfSome dump (λ d. touched ≡ marked (owner ∷ []) numbers) → IfSome dump (λ d. All (IsOwnedIn number touched) files)
+owned_open files number owner touched numbers None own is = tt
+owned_open files number owner touched numbers (Some d) own is = owned_in files number owner touched numbers own is
+
+owner_all : (o : OnlineFacts) (number owner : ℕ) → ((g : File) → Contains o.contents.files g → g.rec.number ≡ number → g.rec.owner ≡ owner) → (f : File) → Contains o.contents.files f
+    → f.rec.number ≡ number → owner_in number o.contents.files ≡ owner ∷ []
+unfolding IsOwn
+owner_all o number owner own f there is =
+    owner_first number owner o.contents.files (λ i d within. own (get_or o.contents.files i d) (Contains-get_or o.contents.files i d within)) f there is
+
+pub erases : (o : OnlineFacts) (who : List ℕ) (path : Path) (number : ℕ) (full : Full) → o.live ≡ true → IsTied o
+    → RefusesAs o.contents.users (recs_in o.contents) o.contents.head.next_stamp who (Erase path) None
+    → (at : IsFileAt o.contents.users (recs_in o.contents) who path number full)
+    → IsRecorded o who (Erase path) (EraseFile number) (record o.contents { files = without_file number o.contents.files }) (at.rec.owner ∷ []) (Erased full)
+erases o who path number full live tied granted at =
+    let rules = (rules_here o live tied).records in
+    let (f, there, rec) = from_mapped (λ (g : File). g.rec) o.contents.files at.rec at.there in
+    let numbered : f.rec.number ≡ number = ap (λ (r : FileRec). r.number) rec ∙ at.number_is in
+    let owner : f.rec.owner ≡ at.rec.owner = ap (λ (r : FileRec). r.owner) rec in
+    let own : (g : File) → Contains o.contents.files g → g.rec.number ≡ number → g.rec.owner ≡ at.rec.owner = λ g there_g same. own_file o f rules there g there_g (same ∙ sym numbered) ∙ owner in
+    record {
+      live = live;
+      records = rules;
+      changes = λ told pinned. erase_is told pinned number o.contents;
+      alone = refl;
+      no_blocks = refl;
+      touched = owner_all o number at.rec.owner own f there numbered;
+      write = refl;
+      off = λ s k. refl;
+      none = λ s k. refl;
+      head = refl;
+      granted = granted;
+      replied = λ bytes long. ap Erased (at.named bytes o.contents.head.next_stamp);
+      goes = λ v reels new dump known free unjam behind.
+          let name = ap (full_of o.contents.users) rec ∙ at.name_is ∙ at.named (λ r. v.text r.stamp) o.contents.head.next_stamp in
+          calls_go_by_step.erases v reels o new dump who path f 0 known there name free unjam
+          (subst (λ (n : ℕ). IsBehind o (record o.contents { files = without_file n o.contents.files }) (f.rec.owner ∷ []) new) (sym numbered)
+          (subst (λ (n : ℕ). IsBehind o (record o.contents { files = without_file number o.contents.files }) (n ∷ []) new) (sym owner) behind));
+      texts = λ held reels v are. All-filter (λ (g : File). not (g.rec.number == number)) (λ (g : File). HasText (AllTold held reels) (v.text g.rec.stamp) v.dumps g) o.contents.files are;
+      up = λ text shelf s changed touched is changed_is touched_is was.
+          let mine : changed ≡ marked (at.rec.owner ∷ []) s.online.changed = changed_is ∙ ap (λ (x : OnlineFacts). marked (at.rec.owner ∷ []) x.changed) (sym is) in
+          let open_mine : IfSome s.dump (λ d. touched ≡ marked (at.rec.owner ∷ []) s.online.touched) =
+          subst (λ (x : OnlineFacts). IfSome s.dump (λ d. touched ≡ marked (at.rec.owner ∷ []) x.touched)) (sym is) touched_is in
+          let mine_own : (g : File) → Contains s.online.contents.files g → g.rec.number ≡ number → g.rec.owner ≡ at.rec.owner =
+          subst (λ (x : OnlineFacts). (g : File) → Contains x.contents.files g → g.rec.number ≡ number → g.rec.owner ≡ at.rec.owner) (sym is) own in
+          subst (λ (x : OnlineFacts). IsUp text shelf (behind s (record x.contents { files = without_file number x.contents.files }) changed touched)) is
+          (stays_up.erased text shelf s number changed touched (only_grow s (at.rec.owner ∷ []) changed touched mine open_mine)
+          (owned_in s.online.contents.files number at.rec.owner changed s.online.changed mine_own mine)
+          (owned_open s.online.contents.files number at.rec.owner touched s.online.touched s.dump mine_own open_mine) was);
+      belongs = λ text shelf reels was. files_belong.erased text shelf reels o.contents number was;
+    }
+
+-- of the records of the filestore
+pub file_on : (o : OnlineFacts) (us : List UserRec) (fs : List FileRec) (who : List ℕ) (path : Path) (number : ℕ) (full : Full) → us ≡ o.contents.users → fs ≡ recs_in o.contents
+    → IsFileAt us fs who path number full → IsFileAt o.contents.users (recs_in o.contents) who path number full
+file_on o us fs who path number full users files is =
+    subst (λ (rs : List FileRec). IsFileAt o.contents.users rs who path number full) files (subst (λ (x : List UserRec). IsFileAt x fs who path number full) users is)
+
+-- as it was asked for this call
+pub erase_asked : (o : OnlineFacts) (us : List UserRec) (fs : List FileRec) (next : ℕ) (who : List ℕ) (path copied : Path) (x : Option StoreFault) → us ≡ o.contents.users
+    → fs ≡ recs_in o.contents → next ≡ o.contents.head.next_stamp → copied ≡ path → RefusesAs us fs next who (Erase copied) x
+    → RefusesAs o.contents.users (recs_in o.contents) o.contents.head.next_stamp who (Erase path) x
+erase_asked o us fs next who path copied x users files stamp same is =
+    subst (λ (p : Path). RefusesAs o.contents.users (recs_in o.contents) o.contents.head.next_stamp who (Erase p) x) same (refuses_of o us fs next who (Erase copied) x users files stamp is)
