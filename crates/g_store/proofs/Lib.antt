@@ -10,3 +10,5 @@ mod NameLemmas
 mod OffLemmas
 mod SeenLemmas
 mod TurnLemmas
+pub mod OpenedLemmas
+pub mod OwnViewLemmas

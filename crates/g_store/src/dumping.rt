@@ -1,0 +1,71 @@
+//! Dumps are opened.
+ghost use Rattle.std.specs.Prelude.{◌≡◌, false};
+ghost use Rattle.g_tape.specs.Rack.{reel};
+ghost use Rattle.g_store.specs.Dumping.{OpensDump, is_stop_at};
+ghost use Rattle.g_store.specs.Events.{Opens};
+ghost use Rattle.g_store.specs.Refusing.{open_refuses};
+
+use crate::store::Store;
+use g_disc::Disc;
+use g_dumper::Dump;
+use g_plain::StoreFault;
+use g_tape::Tapes;
+use std::alloc::Global;
+
+/// The greatest number that a dump may have.
+const LAST_NUMBER: u64 = 4_611_686_018_427_387_903;
+
+impl<D: Disc, T: Tapes> Store<D, T> {
+    /// Opens a dump on the reel, behind its completed dumps, and answers its number (docs/DEFINITIONS.md). `NoTape`,
+    /// `NotMounted`. `DumpOpen`: there is one. `CountersSpent`: the greatest number is given. `TapeReadFault`: the reel
+    /// couldn't be read. `TapeFull`: the dump needs more blocks than the reel has room for. Behind these, and behind
+    /// `NoMemory`, nothing has changed. `Stopped`: a write of the disc failed.
+    pub fn open_dump(&mut self, alloc: Global, serial: u32) -> Result<u64, StoreFault>
+        requires running { self.old.spent ≡ false }
+        ensures event { Opens serial self.old result self.new }
+        ensures begins { OpensDump serial self.old result self.new }
+    {
+        match self.opening_refused(serial) {
+            Some(fault) => return Err(fault),
+            None => {}
+        }
+        match Dump::begin(alloc, &mut self.online, &mut self.tapes, serial) {
+            Ok(dump) => {
+                let number = dump.number();
+                self.dump = Some(dump);
+                Ok(number)
+            }
+            Err(fault) => {
+                self.spent = is_stop(&fault);
+                Err(fault)
+            }
+        }
+    }
+
+    /// What refuses an opening before the reel is read.
+    fn opening_refused(&self, serial: u32) -> Option<StoreFault>
+        requires running { self.now.spent ≡ false }
+        ensures { result ≡ open_refuses serial self.now }
+    {
+        if self.tapes.capacity(serial).is_err() {
+            return Some(StoreFault::NoTape);
+        }
+        if !self.tapes.mounted(serial) {
+            return Some(StoreFault::NotMounted);
+        }
+        if let Some(dump) = &self.dump {
+            return Some(StoreFault::DumpOpen(dump.number()));
+        }
+        if self.online.head().last_dump == LAST_NUMBER {
+            return Some(StoreFault::CountersSpent);
+        }
+        None
+    }
+}
+
+/// Whether it is a stop.
+fn is_stop(fault: &StoreFault) -> bool
+    ensures { result ≡ is_stop_at fault.now }
+{
+    matches!(fault, StoreFault::Stopped)
+}
