@@ -58,7 +58,7 @@ MONITORING FILE FULL\n",
 ];
 
 /// Puts a line behind a document: words, and so many letters.
-fn push_line(document: &mut Text, words: &str, letters: usize) -> Result<(), Fail> {
+pub fn push_line(document: &mut Text, words: &str, letters: usize) -> Result<(), Fail> {
     document.extend(words.as_bytes())?;
     for _ in 0..letters {
         document.push(b'X')?;

@@ -7,6 +7,8 @@ mod edge;
 #[cfg(test)]
 mod faults;
 #[cfg(test)]
+mod money;
+#[cfg(test)]
 mod refusing;
 #[cfg(test)]
 mod rows;

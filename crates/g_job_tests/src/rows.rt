@@ -564,3 +564,53 @@ TRAPS .....\n\
 END 3 UNITS\n",
     },
 ];
+
+/// A run past the program's end, behind which a WHENEVER follows; then one that never ends, of which each turn takes two
+/// units, the last one cut to what is left.
+pub static ENDLESS: [Row; 1] = [Row {
+    number: 1,
+    name: "P",
+    user: "MASTER",
+    time: 9,
+    money: 1_000,
+    document: "INPUT P\n\
+00000040\n\
+00000000\n\
+00000000\n\
+00000000\n\
+00000000\n\
+00000000\n\
+00000000\n\
+00000000\n\
+00000000\n\
+00000000\n\
+00000000\n\
+00000000\n\
+00000000\n\
+00000000\n\
+00000000\n\
+00000000\n\
+00000000\n\
+00000000\n\
+00000000\n\
+00000000\n\
+00000000\n\
+03600024\n\
+////\n\
+LOAD P\n\
+WHENEVER FAILED,DISPLAY BAD\n\
+ENTER 1\n\
+ENTER 0",
+    text: "JOB 1 P :MASTER\n\
+- INPUT P\n\
+MADE :MASTER.P(1/)\n\
+- LOAD P\n\
+LOADED 32 WORDS\n\
+- WHENEVER FAILED,DISPLAY BAD\n\
+- ENTER 1\n\
+ILLEGAL 00000000 AT 32\n\
++ DISPLAY BAD\n\
+DISPLAY BAD\n\
+- ENTER 0\n\
+TIME UP 9 UNITS\n",
+}];
