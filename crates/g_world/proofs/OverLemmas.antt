@@ -11,7 +11,8 @@ use Rattle.g_plain.specs.declared.faults.StoreFault.{StoreFault}
 use Rattle.g_plain.specs.declared.faults.StoreFault.TheVariants.{Stopped, Running, NotStarted}
 use Rattle.g_plain.specs.Asks.{Asks}
 use Rattle.g_monitor.specs.Parts.{full_text}
-use Rattle.g_job.specs.State.{JobState, Work}
+use Rattle.g_act.specs.State.{Work}
+use Rattle.g_job.specs.State.{JobState}
 use Rattle.g_job.specs.declared.turn.Turn.{Turn}
 use Rattle.g_job.specs.declared.turn.Turn.TheVariants as turns
 use Rattle.g_step.specs.State.{State, OpenDump}

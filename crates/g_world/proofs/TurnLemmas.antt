@@ -9,7 +9,8 @@ use Rattle.g_sched.specs.declared.rule.Standing.{Standing}
 use Rattle.g_plain.specs.declared.calls.StoreCall.{StoreCall}
 use Rattle.g_plain.specs.Asks.{Answer, Asks, Gives, Call, Ran, IsAnswer}
 use Rattle.g_job.specs.Begun.{standing_of}
-use Rattle.g_job.specs.State.{JobState, Work}
+use Rattle.g_act.specs.State.{Work}
+use Rattle.g_job.specs.State.{JobState}
 use Rattle.g_step.specs.State.{State}
 use Rattle.g_step.specs.CallStep.{Outcome}
 use Rattle.g_world.specs.Events.{IsCall}

@@ -15,7 +15,8 @@ use Rattle.g_plain.specs.Asks.{Answer, Asks, Gives, Call, IsAnswer}
 use Rattle.g_job.specs.declared.turn.Turn.{Turn}
 use Rattle.g_job.specs.declared.turn.Turn.TheVariants as turns
 use Rattle.g_job.specs.Begun.{standing_of}
-use Rattle.g_job.specs.State.{JobState, Work}
+use Rattle.g_act.specs.State.{Work}
+use Rattle.g_job.specs.State.{JobState}
 use Rattle.g_job.specs.Turns.{turn_work}
 use Rattle.g_job.specs.Ends.{turn_end, IsPriced}
 use Rattle.g_monitor.specs.Refusals.{fault_line}

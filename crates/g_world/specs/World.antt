@@ -1,7 +1,8 @@
 -- The world of a run.
 use Rattle.std.specs.Prelude.{if◌then◌else◌, ℕ, ◌==◌, Bool, true, false, not, ◌&&◌, nat_le, List, [], ◌∷◌, ◌++◌, map, filter, find, Option, Some, None, is_some, codes}
 use Rattle.g_plain.specs.Asks.{Asks}
-use Rattle.g_job.specs.State.{JobState, Work}
+use Rattle.g_act.specs.State.{Work}
+use Rattle.g_job.specs.State.{JobState}
 use Rattle.g_step.specs.State.{State, is_mounted}
 use Rattle.g_script.specs.declared.operator.Timed.{Timed}
 use Rattle.g_world.specs.Accounts.{Opened}
