@@ -1,0 +1,120 @@
+//! A disc of four copy blocks and a reel with one dump, whose blocks were written out by hand.
+ghost use Rattle.std.specs.Prelude.{◌≡◌, ◌<◌, ◌≤◌, IfOk};
+
+use g_base::Block;
+use g_disc::{Disc, MemoryDisc};
+use g_tape::{MemoryTapes, Tapes};
+use std::alloc::Global;
+use std::test::Fail;
+
+/// The block that begins with these bytes, with zeros behind them.
+fn block_of(bytes: &[u8]) -> Block {
+    let mut block = [0; 512];
+    for (to, from) in block.iter_mut().zip(bytes) {
+        *to = *from;
+    }
+    block
+}
+
+/// The record of a file of MASTER, without a place on tape or on the disc.
+fn record(letter: u8, stamp: u8, len: [u8; 2]) -> Block {
+    let mut block = block_of(b"\x01\0\x01F\0\0\0\0\0\0\0\0\0\0\0\0\x01    ");
+    block[3] = letter;
+    block[28] = stamp;
+    block[31..33].copy_from_slice(&len);
+    block[33] = 31;
+    block
+}
+
+/// The same of a file on tape alone, from this block of reel 9 on.
+pub(crate) fn on_tape(letter: u8, stamp: u8, len: [u8; 2], first: [u8; 4]) -> Block {
+    let mut block = record(letter, stamp, len);
+    let [a, b, c, d] = first;
+    block[51..60].copy_from_slice(&[1, 0, 0, 0, 9, a, b, c, d]);
+    block
+}
+
+/// The same of a file of five bytes in the block 2,048 + `place` of the disc.
+pub(crate) fn on_disc(letter: u8, stamp: u8, place: u8) -> Block {
+    let mut block = record(letter, stamp, [0, 5]);
+    block[60..63].copy_from_slice(b"\x01\0\x08");
+    block[63] = place;
+    block
+}
+
+/// The same of one that is on tape too, from block 5 of reel 9 on.
+pub(crate) fn on_both(letter: u8, stamp: u8, place: u8) -> Block {
+    let mut block = on_disc(letter, stamp, place);
+    block[51..60].copy_from_slice(b"\x01\0\0\0\x09\0\0\0\x05");
+    block
+}
+
+/// F, of 600 bytes, is on tape alone. A, B and C are on the disc and on tape too, the oldest one first, and D is on the disc
+/// alone. No block of the disc is free.
+pub(crate) fn one_away(first: [u8; 4]) -> [Block; 5] {
+    [
+        on_tape(b'F', 1, [2, 88], first),
+        on_both(b'A', 2, 129),
+        on_both(b'B', 3, 130),
+        on_both(b'C', 4, 131),
+        on_disc(b'D', 5, 132),
+    ]
+}
+
+/// Slot A, which the gate of a blank disc names, with two users and these files; the next stamp is 9, the last dump 7.
+pub(crate) fn disc_with(alloc: Global, files: &[Block; 5]) -> Result<MemoryDisc, Fail>
+    ensures low { IfOk result (λ disc. 2177 < disc.disc.size) }
+    ensures high { IfOk result (λ disc. disc.disc.size ≤ 1_048_576) }
+{
+    let head = block_of(b"G3SL\0\x02\0\0\0\0\0\0\0\x09\0\0\0\0\0\0\0\x07");
+    let master = block_of(
+        b"\x01\x06MASTER\0\0\0\0\0\0\0\0\0\xff\xff\0\0\0\0\0\x0f\x42\x40\0\0\0\0\0\0\x0f\x42\x40",
+    );
+    let macros = block_of(
+        b"\x01\x06MACROS\0\0\0\0\0\0\0\0\0\xff\xff\0\0\0\0\0\x0f\x42\x40\0\0\0\0\0\0\x0f\x42\x40",
+    );
+    let mut disc = MemoryDisc::new(alloc, 2181)?;
+    disc.write(1, &head)?;
+    disc.write(2, &master)?;
+    disc.write(3, &macros)?;
+    disc.write(65, &files[0])?;
+    disc.write(66, &files[1])?;
+    disc.write(67, &files[2])?;
+    disc.write(68, &files[3])?;
+    disc.write(69, &files[4])?;
+    Ok(disc)
+}
+
+/// Reel 9, mounted, with dump 7 but for its mark: two users, F and G, F's 600 bytes in the blocks 5 and 6, and G's 1,100 in
+/// the blocks 7 to 9.
+pub(crate) fn without_mark(alloc: Global) -> Result<MemoryTapes, Fail> {
+    let mut labels = Vec::with_capacity(alloc, 1)?;
+    labels.push((9, 11))?;
+    let mut tapes = MemoryTapes::new(alloc, labels)?;
+    tapes.mount(9)?;
+    let header = block_of(
+        b"G3HD\0\x02\0\0\0\0\0\0\0\x07\0\0\0\0\0\0\0\x09\0\x02\0\x02\0\0\0\0\0\0\0\x03",
+    );
+    let mut master = block_of(b"\x01\x06MASTER");
+    master[27] = 1;
+    tapes.write(9, 0, &header)?;
+    tapes.write(9, 1, &master)?;
+    tapes.write(9, 2, &block_of(b"\x01\x06MACROS"))?;
+    tapes.write(9, 3, &on_tape(b'F', 1, [2, 88], [0, 0, 0, 5]))?;
+    tapes.write(9, 4, &on_tape(b'G', 2, [4, 76], [0, 0, 0, 7]))?;
+    tapes.write(9, 5, &[b'u'; 512])?;
+    tapes.write(9, 6, &[b'v'; 512])?;
+    tapes.write(9, 7, &[b'x'; 512])?;
+    tapes.write(9, 8, &[b'y'; 512])?;
+    tapes.write(9, 9, &[b'z'; 512])?;
+    Ok(tapes)
+}
+
+/// The same with its mark.
+pub(crate) fn dumped(alloc: Global) -> Result<MemoryTapes, Fail> {
+    let mut tapes = without_mark(alloc)?;
+    let mut mark = block_of(b"G3MK\0\0\0\0\0\0\0\x07\0\0\0\0\0\0\0\x09");
+    mark[511] = 9;
+    tapes.write(9, 10, &mark)?;
+    Ok(tapes)
+}

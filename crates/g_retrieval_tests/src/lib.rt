@@ -1,0 +1,9 @@
+//! Tests of files that go off the disc and come back from tape, over a disc and a reel in memory.
+#![tactic(auto)]
+
+#[cfg(test)]
+mod laid_out;
+#[cfg(test)]
+mod migrations;
+#[cfg(test)]
+mod retrievals;
