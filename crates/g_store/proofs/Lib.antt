@@ -8,6 +8,8 @@ mod MigratedLemmas
 mod MountLemmas
 mod NameLemmas
 mod OffLemmas
+mod RestoreLemmas
+mod RestoredLemmas
 mod SeenLemmas
 mod TurnLemmas
 pub mod OpenedLemmas

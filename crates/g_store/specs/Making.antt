@@ -14,6 +14,7 @@ use Rattle.g_contents.specs.Contents.{has}
 use Rattle.g_online.specs.Begun.{WroteFirst}
 use Rattle.g_online.specs.declared.fault.OnlineFault.{OnlineFault}
 use Rattle.g_online.specs.declared.fault.OnlineFault.TheVariants as online
+use Rattle.g_restore.specs.Lost.{LostIsNamed}
 use Rattle.g_state.specs.Belong.{Belong}
 use Rattle.g_state.specs.Meaning.{told_reels}
 use Rattle.g_state.specs.Up.{StoreFacts}
@@ -96,11 +97,14 @@ pub record RefusesStart (disc : DiscState) (rack : Rack) (fault : StoreFault) (d
   pub refuses : Refuses (Belong disc.held rack) StartStep disc rack fault disc' rack'
   pub first : (serial : ℕ) → fault ≡ MountFirst serial → is_mounted (reel serial rack.reels) ≡ false
 
--- RESTORE too, and that every reel is mounted; it says which is the first that isn't, of every rack
+-- RESTORE too, and that every reel is mounted; it says which is the first that isn't, of every rack; and it names what is lost, whether
+-- disc and rack belong together or not
 pub record Restored (disc : DiscState) (rack : Rack) (number : ℕ) (new : StoreFacts) : Type 0 where
   pub makes : Makes (Belong disc.held rack) RestoreStep (λ n. 1) disc rack number new
   pub mounted : first_unmounted rack.reels ≡ None
+  pub lost : LostIsNamed (told_reels rack) (Ok number)
 
 pub record RefusesRestore (disc : DiscState) (rack : Rack) (fault : StoreFault) (disc' : DiscState) (rack' : Rack) : Type 0 where
   pub refuses : Refuses (Belong disc.held rack) RestoreStep disc rack fault disc' rack'
   pub unmounted : (serial : ℕ) → (fault ≡ RackNotMounted serial) ↔ (first_unmounted rack.reels ≡ Some serial)
+  pub lost : (let answer : Result ℕ StoreFault = Err fault in LostIsNamed (told_reels rack) answer)

@@ -10,5 +10,5 @@ mod store;
 #[cfg(test)]
 mod tests;
 
-pub use making::{Refused, format};
+pub use making::{Refused, format, restore};
 pub use store::Store;

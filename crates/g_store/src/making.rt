@@ -1,6 +1,6 @@
 //! A store is made of a disc and a rack of reels.
 ghost use Rattle.std.specs.Prelude.{◌≡◌, ◌<◌, ◌≤◌, IfErr, IfOk};
-ghost use Rattle.g_store.specs.Making.{Formats, RefusesFormat, made_fault};
+ghost use Rattle.g_store.specs.Making.{Formats, RefusesFormat, RefusesRestore, Restored, made_fault};
 ghost use Rattle.g_tape.specs.Rack.{reel};
 ghost use Rattle.g_store.specs.Refusing.{first_used, is_used};
 
@@ -9,6 +9,7 @@ use g_disc::Disc;
 use g_entry::Head;
 use g_online::{Online, OnlineFault};
 use g_plain::StoreFault;
+use g_restore::rebuild;
 use g_tape::Tapes;
 use g_tree::Tree;
 use std::alloc::Global;
@@ -75,6 +76,40 @@ pub fn format<D: Disc, T: Tapes>(
             disc,
             tapes,
         }),
+    }
+}
+
+/// General restore: makes the filestore that the completed dumps of the rack give, on this disc, by one commit, and answers the
+/// number of the last dump (docs/DEFINITIONS.md). The disc may have held anything, and its filestore is gone. All reels have to
+/// be mounted, and are only read. A refusal hands both devices back:
+///
+/// - `RackNotMounted`: the first reel that isn't mounted. `TapeReadFault`: a read of a reel failed. `NoDump`: no reel has a
+///   completed dump. `LostDirectory`: the first user whose directory is lost, or breaks the rules of a directory with those
+///   before it. `LostCopy`: the first file whose place no completed dump holds. With these, and with `NoMemory`, the disc is as
+///   it was.
+/// - `DiscReadFault`: the gate couldn't be read; the disc is as it was. `Stopped`: a write failed, and the disc stands for what
+///   it stood for, or for the dumped tree.
+pub fn restore<D: Disc, T: Tapes>(
+    alloc: Global,
+    disc: D,
+    mut tapes: T,
+) -> Result<(Store<D, T>, u64), Refused<D, T>>
+    requires low { 2177 < (D.state disc).size }
+    requires high { (D.state disc).size ≤ 1_048_576 }
+    ensures ok { IfOk result (λ p. Restored (D.state disc) (T.rack tapes) p.1 p.0) }
+    ensures refused { IfErr result (λ e. RefusesRestore (D.state disc) (T.rack tapes) e.fault (D.state e.disc) (T.rack e.tapes)) }
+{
+    match rebuild(alloc, disc, &mut tapes) {
+        Ok((online, number)) => Ok((
+            Store {
+                online,
+                tapes,
+                dump: None,
+                spent: false,
+            },
+            number,
+        )),
+        Err((fault, disc)) => Err(Refused { fault, disc, tapes }),
     }
 }
 

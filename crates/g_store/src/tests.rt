@@ -9,18 +9,34 @@ use g_tape::MemoryTapes;
 use std::alloc::Global;
 use std::test::Fail;
 
-/// A new filestore on a disc of one copy block, over two empty reels.
-fn new_store(alloc: Global) -> Result<Store<MemoryDisc, MemoryTapes>, StoreFault>
-    ensures { IfOk result (λ store. store.spent ≡ false) }
-{
+/// Two empty reels, which aren't mounted.
+fn two_reels(alloc: Global) -> Result<MemoryTapes, StoreFault> {
     let mut labels = Vec::with_capacity(alloc, 2)?;
     labels.push((7, 4))?;
     labels.push((9, 4))?;
     let tapes = MemoryTapes::new(alloc, labels)?;
+    Ok(tapes)
+}
+
+/// A new filestore on a disc of one copy block, over two empty reels.
+fn new_store(alloc: Global) -> Result<Store<MemoryDisc, MemoryTapes>, StoreFault>
+    ensures { IfOk result (λ store. store.spent ≡ false) }
+{
+    let tapes = two_reels(alloc)?;
     let disc = MemoryDisc::new(alloc, 2178)?;
     match format(alloc, disc, tapes) {
         Ok(store) => Ok(store),
         Err(refused) => Err(refused.fault),
+    }
+}
+
+/// What a general restore from these reels is refused for.
+fn refused_restore(alloc: Global) -> Result<StoreFault, StoreFault> {
+    let tapes = two_reels(alloc)?;
+    let disc = MemoryDisc::new(alloc, 2178)?;
+    match restore(alloc, disc, tapes) {
+        Ok((_store, _number)) => Err(StoreFault::Running),
+        Err(refused) => Ok(refused.fault),
     }
 }
 
@@ -53,5 +69,9 @@ fn ample(rt: HostRuntime) -> Result<(), Fail> {
     other.arm_disc(1);
     other.arm_tape(1);
     let (_disc, _tapes) = other.into_devices();
+    assert_eq!(rt;
+        refused_restore(rt.alloc()),
+        Ok(StoreFault::RackNotMounted(7))
+    );
     Ok(())
 }
