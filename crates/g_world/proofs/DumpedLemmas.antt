@@ -30,8 +30,8 @@ use Rattle.g_script.specs.declared.operator.Operator.TheVariants as line
 use Rattle.g_world.specs.World.{World, start}
 use Rattle.g_world.specs.Texts.{started_text, tape_text, dump_text}
 use Rattle.g_world.specs.Events.{IsTold, IsOpening, IsMigration}
-use Rattle.g_world.specs.Lines.{LineGives, tells, up_with, now_stands, job_line, taken_in, job_refusal, line_refused, Shuts}
-use Rattle.g_world.specs.Moves.{Move, TakeLine, Dumped, Begin, Answered, TurnOver, Ticked, Over, Step, Run, dump_told, turn_told}
+use Rattle.g_world.specs.Lines.{LineGives, tells, up_with, now_stands, line_refused, Shuts}
+use Rattle.g_world.specs.Moves.{Move, TakeLine, Dumped, Begin, Answered, TurnOver, Ticked, Over, Step, Run}
 use Rattle.g_world.specs.Laws.{DumpedIsOpened}
 use Rattle.g_world.proofs.StepLemmas.{tree_held}
 use Rattle.g_world.proofs.TreeLemmas.{dump_store, job_by, told_stands, told_up, turn_store}
