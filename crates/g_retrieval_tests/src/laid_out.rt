@@ -118,3 +118,25 @@ pub(crate) fn dumped(alloc: Global) -> Result<MemoryTapes, Fail> {
     tapes.write(9, 10, &mark)?;
     Ok(tapes)
 }
+
+/// G, of 1,100 bytes, is on tape alone. C is on the disc and on tape too, the other three are on the disc alone.
+pub(crate) fn one_to_take() -> [Block; 5] {
+    [
+        on_tape(b'G', 2, [4, 76], [0, 0, 0, 7]),
+        on_both(b'C', 4, 129),
+        on_disc(b'D', 5, 130),
+        on_disc(b'E', 6, 131),
+        on_disc(b'H', 7, 132),
+    ]
+}
+
+/// The same where C is on the disc alone.
+pub(crate) fn nothing_to_take() -> [Block; 5] {
+    [
+        on_tape(b'G', 2, [4, 76], [0, 0, 0, 7]),
+        on_disc(b'C', 4, 129),
+        on_disc(b'D', 5, 130),
+        on_disc(b'E', 6, 131),
+        on_disc(b'H', 7, 132),
+    ]
+}

@@ -6,4 +6,6 @@ mod laid_out;
 #[cfg(test)]
 mod migrations;
 #[cfg(test)]
+mod refusals;
+#[cfg(test)]
 mod retrievals;
