@@ -1,13 +1,13 @@
 -- The programs of commands, lines and turns keep the limits.
-use Rattle.std.proofs.Common.{ℕ, ◌+◌, ◌-◌, ◌≤◌, Bool, true, false, List, length, Option, Some, None, Result, Ok, Err, IfSome, codes, refl, le_refl, lit≤, arith}
+use Rattle.std.proofs.Common.{ℕ, ◌+◌, ◌≤◌, Bool, true, false, List, Option, Some, None, Result, Ok, Err, codes, refl, le_refl, lit≤, arith}
 use Rattle.g_act.specs.Bounds.{AlwaysGives}
 use Rattle.g_act.specs.Commands.{acted, command, done_if, gone, kept, passes_document}
 use Rattle.g_act.specs.Lines.{behind_echo, does_fired, does_line, does_read, fires, line, long_line, may_fire, says_fired, says_line, takes, to_go_on, too_long}
 use Rattle.g_act.specs.Runs.{goes_on}
 use Rattle.g_act.specs.Say.{in_error, say, with_levels}
-use Rattle.g_act.specs.State.{AgainCommand, AgainLine, Pending, Work}
+use Rattle.g_act.specs.State.{AgainCommand, AgainLine, Work}
 use Rattle.g_act.specs.Turns.{fires_unless, runs_on, runs_or_takes}
-use Rattle.g_act.proofs.BoundLemmas.{There, error_good, gives_more, good_more, if_gives, if_good, more_some, say_good, say_there, then_gives, within_of}
+use Rattle.g_act.proofs.BoundLemmas.{There, error_good, gives_more, good_more, if_gives, if_good, more_some, say_good, say_there, then_gives}
 use Rattle.g_act.proofs.RunBounds.{goes_on_good}
 use Rattle.g_act.proofs.VerbBounds.{In, act_gives, end_gives}
 use Rattle.g_lang.specs.How.{reading}

@@ -1,5 +1,5 @@
 -- No verb and no command changes what a turn is gone on with, or takes away a level.
-use Rattle.std.proofs.Common.{◌≡◌, ℕ, suc, zero, ◌+◌, ◌-◌, ◌≤◌, Bool, true, false, List, [], ◌∷◌, ◌++◌, length, nat_lt, Option, Some, None, Result, Ok, Err, unwrap_or, codes, if◌then◌else◌, refl, sym, subst, arith}
+use Rattle.std.proofs.Common.{◌≡◌, ℕ, suc, zero, ◌+◌, ◌-◌, ◌≤◌, Bool, true, false, List, [], ◌∷◌, ◌++◌, length, nat_lt, Option, Some, None, Result, Ok, Err, unwrap_or, codes, if◌then◌else◌, arith}
 use Rattle.g_act.specs.Actions.{act}
 use Rattle.g_act.specs.Asking.{append, append_told, by_answer, one_call, put, put_told}
 use Rattle.g_act.specs.Bounds.{AlwaysGives, MayAnswer}
@@ -35,7 +35,7 @@ use Rattle.g_peri.specs.Ordered.{order_with}
 use Rattle.g_peri.specs.declared.ordered.OrderEvent.{OrderEvent}
 use Rattle.g_peri.specs.declared.ordered.OrderEvent.TheVariants as came
 use Rattle.g_peri.specs.declared.unit.Unit as unit
-use Rattle.g_plain.specs.Asks.{Answer, Asks, Gives}
+use Rattle.g_plain.specs.Asks.{Answer, Gives}
 use Rattle.g_plain.specs.declared.calls.StoreCall.{StoreCall}
 use Rattle.g_plain.specs.declared.calls.StoreCall.TheVariants as call
 use Rattle.g_plain.specs.declared.calls.StoreReply.TheVariants.{Appended, Bytes, Made}

@@ -1,6 +1,6 @@
 -- A run of the program, order by order.
-use Rattle.std.proofs.Common.{◌≡◌, ◌+◌, ◌-◌, ◌<◌, ◌≤◌, ℕ, suc, zero, Bool, true, false, List, Option, Some, None, if◌then◌else◌, length, nat_lt, refl, sym, ap, ◌∙◌, subst, arith}
-use Rattle.g_act.specs.Runs.{Ends, Goes, Order, behind_event, behind_order, by_event, goes_on, next_order, one_order, order_of, run_orders}
+use Rattle.std.proofs.Common.{◌≡◌, ◌+◌, ◌-◌, ◌<◌, ◌≤◌, ℕ, suc, Bool, true, false, List, Option, Some, None, if◌then◌else◌, length, nat_lt, refl, sym, ap, ◌∙◌, subst, arith}
+use Rattle.g_act.specs.Runs.{Ends, Goes, behind_event, behind_order, by_event, goes_on, next_order, order_of, run_orders}
 use Rattle.g_act.specs.Say.{is_over, say}
 use Rattle.g_act.specs.State.{Work}
 use Rattle.g_act.specs.Values.{Stepped, order_as}

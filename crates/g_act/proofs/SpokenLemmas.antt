@@ -1,10 +1,10 @@
 -- What lines say that were read, and what is done of a command behind conditions.
-use Rattle.std.proofs.Common.{◌≡◌, ◌∙◌, ℕ, Bool, true, false, List, [], ◌∷◌, Option, Some, None, Result, Ok, Err, IfSome, option_map, if◌then◌else◌, refl, sym, ap, subst}
+use Rattle.std.proofs.Common.{◌≡◌, ◌∙◌, ℕ, Bool, true, List, [], ◌∷◌, Option, Some, None, Result, Ok, Err, IfSome, option_map, if◌then◌else◌, refl, sym, ap, subst}
 use Rattle.std.proofs.lemmas.Bool.{false≢true}
 use Rattle.g_act.specs.Commands.{command, done_if}
 use Rattle.g_act.specs.Met.{IsSpoken, Met}
 use Rattle.g_act.specs.State.{Work}
-use Rattle.g_lang.specs.Lines.{IsLine, IsReading, IsWritten, LineSaid, Said, SaidIf, WrittenGoto, WrittenIf, WrittenLine, WrittenVerb, WrittenWhenever, Written, said_by, said_in}
+use Rattle.g_lang.specs.Lines.{IsReading, IsWritten, LineSaid, Said, SaidIf, WrittenGoto, WrittenIf, WrittenVerb, WrittenWhenever, Written, said_by}
 use Rattle.g_lang.specs.Said.{command_said, said_inside}
 use Rattle.g_lang.specs.declared.line.Command.{Command}
 use Rattle.g_lang.specs.declared.line.Command.TheVariants.{Blank, Goto, If', Verb, Whenever}

@@ -20,7 +20,7 @@ use Rattle.g_monitor.specs.Replies.{last_line}
 use Rattle.g_monitor.specs.declared.job_lines.Mark.TheVariants as mark
 use Rattle.g_name.specs.declared.path.Path.{Path}
 use Rattle.g_peri.specs.Held.{Held, at_place, with_reader, with_writer}
-use Rattle.g_plain.specs.Asks.{Answer, Asks, Gives, RanInPart, and_then}
+use Rattle.g_plain.specs.Asks.{Answer, Asks, RanInPart}
 use Rattle.g_plain.specs.declared.calls.StoreCall.{StoreCall}
 use Rattle.g_plain.specs.declared.calls.StoreCall.TheVariants as call
 use Rattle.g_plain.specs.declared.calls.StoreReply.TheVariants.{Made}

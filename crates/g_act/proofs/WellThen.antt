@@ -1,5 +1,5 @@
 -- Programs that were made of others, as they were run over any store.
-use Rattle.std.proofs.Common.{◌≡◌, ℕ, Bool, true, false, List, Ok, Err, refl, sym, ap, ◌∙◌, subst, inl, inr, if◌then◌else◌}
+use Rattle.std.proofs.Common.{◌≡◌, ℕ, Bool, true, false, List, Ok, Err, refl, sym, ap, ◌∙◌, subst, inr, if◌then◌else◌}
 use Rattle.g_act.specs.Bounds.{AlwaysGives, MayAnswer}
 use Rattle.g_act.specs.Say.{is_over}
 use Rattle.g_act.specs.State.{Work}

@@ -1,5 +1,5 @@
 -- What the code of a turn takes of the levels, and what it hands over at its end.
-use Rattle.std.specs.Prelude.{Bool, List, length, option_map, ℕ, ◌<◌, ◌≡◌, ◌≤◌}
+use Rattle.std.specs.Prelude.{length, option_map, ◌<◌, ◌≡◌, ◌≤◌}
 use Rattle.g_act.specs.State.{AgainCommand, AgainLine, Desk, Pending, Work}
 use Rattle.g_act.specs.Values.{pending_of, stop_of}
 use Rattle.g_act.specs.declared.made.Made.{Made}

@@ -5,7 +5,7 @@ use Rattle.g_act.specs.State.{Work}
 use Rattle.g_lang.specs.Lines.{IsCommandText, Reading, Said, SaidGoto, SaidIf, SaidVerb, SaidWhenever}
 use Rattle.g_lang.specs.Said.{command_said, line_said}
 use Rattle.g_lang.specs.declared.line.Command.{Command}
-use Rattle.g_lang.specs.declared.line.Command.TheVariants.{Blank, Goto, If', Verb, Whenever}
+use Rattle.g_lang.specs.declared.line.Command.TheVariants.{Blank, If'}
 use Rattle.g_lang.specs.declared.line.Line.{Line}
 use Rattle.g_plain.specs.Asks.{Gives}
 

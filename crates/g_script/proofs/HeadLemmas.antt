@@ -1,8 +1,8 @@
 -- A first line is read as the item whose first line it is, and no other line is read.
-use Rattle.std.proofs.Common.{All, List, None, Option, Some, [], ap, arith, codes, eq-eqb, ne_eqb, refl, subst, sym, ℕ, ◌++◌, ◌<◌, ◌^◌, ◌∙◌, ◌∷◌, ◌≡◌, ◌≢◌, ◌≤◌}
+use Rattle.std.proofs.Common.{All, List, None, Option, Some, ap, arith, codes, eq-eqb, ne_eqb, refl, subst, sym, ℕ, ◌++◌, ◌<◌, ◌^◌, ◌∙◌, ◌∷◌, ◌≡◌, ◌≢◌, ◌≤◌}
 use Rattle.std.specs.Fmt.{decimal}
 use Rattle.std.specs.Option.{option_and_then, option_map}
-use Rattle.std.specs.Prelude.{Bool, false, true, unwrap_or, if◌then◌else◌, ◌==◌}
+use Rattle.std.specs.Prelude.{Bool, false, true, unwrap_or, ◌==◌}
 use Rattle.std.proofs.lemmas.Bool.{cond_both, false≢true}
 use Rattle.std.proofs.lemmas.List.{append-nil, append_assoc}
 use Rattle.std.proofs.lemmas.Option.{option_and_then_some, same_Some, some_pair_parts}

@@ -1,16 +1,14 @@
 -- The lines of items say which items they are.
 use Rattle.std.proofs.Common.{All, List, Option, Some, None, [], ap, codes, refl, subst, sym, ℕ, ◌++◌, ◌∙◌, ◌∷◌, ◌≡◌, ◌≢◌}
 use Rattle.std.specs.List.{AllByRecursion}
-use Rattle.std.specs.Prelude.{◌⊎◌}
 use Rattle.std.proofs.Common.{inl, inr}
 use Rattle.std.proofs.lemmas.List.{append-nil, append_assoc}
 use Rattle.std.proofs.lemmas.List.Elements.{All-from_recursion, recursion_from_All}
 use Rattle.std.proofs.lemmas.Option.{same_Some}
 use Rattle.g_script.proofs.HeadLemmas.{head-complete, head_for, item_with, what_for, with_lines}
 use Rattle.g_script.specs.How.{head_read}
-use Rattle.g_script.specs.Script.{Bare, Begins, IsBegun, IsDocumentLine, IsItem, IsJob, IsOpenJob, IsWrittenOperator, Job, WrittenItem, WrittenOperator, behind_head, head_line, item_lines, lines_in}
+use Rattle.g_script.specs.Script.{Bare, Begins, IsBegun, IsDocumentLine, IsItem, IsOpenJob, IsWrittenOperator, Job, WrittenItem, WrittenOperator, behind_head, head_line, item_lines, lines_in}
 use Rattle.g_script.specs.declared.head.Head.{Head}
-use Rattle.g_script.specs.declared.head.What.{What}
 use Rattle.g_script.specs.declared.head.What.TheVariants as what
 
 abbrev pub end_line : List ℕ

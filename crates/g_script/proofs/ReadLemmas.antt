@@ -1,6 +1,6 @@
 -- What is read of one item, and of a script so far.
-use Rattle.std.proofs.Common.{All, List, Option, Some, None, [], ap, arith, codes, inl, inr, length, map, refl, subst, suc, sym, take, ℕ, ◌++◌, ◌+◌, ◌-◌, ◌<◌, ◌∙◌, ◌∷◌, ◌≡◌, ◌≢◌, ◌≤◌}
-use Rattle.std.specs.Prelude.{if◌then◌else◌, unwrap_or, ◌==◌}
+use Rattle.std.proofs.Common.{All, List, Option, Some, None, [], ap, arith, inl, inr, length, map, refl, subst, suc, sym, take, ℕ, ◌++◌, ◌+◌, ◌-◌, ◌<◌, ◌∙◌, ◌∷◌, ◌≡◌, ◌≤◌}
+use Rattle.std.specs.Prelude.{unwrap_or, ◌==◌}
 use Rattle.std.proofs.lemmas.Bool.{cond_both}
 use Rattle.std.proofs.lemmas.List.{append-nil, append_assoc, length-append, map-append, take_at}
 use Rattle.std.proofs.lemmas.List.Concat.{flat_map-append}

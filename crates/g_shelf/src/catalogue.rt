@@ -13,8 +13,8 @@ use g_incr::{DumpNote, ShelfFault, read_dump};
 use g_tape::Tapes;
 use std::alloc::Global;
 
-/// The completed dumps of the reel: those that stand whole from its first block on, end to end and with rising numbers.
-/// Their content isn't read.
+/// The completed dumps of the reel (docs/FORMATS.md): those that stand whole from its first block on, end to end and with
+/// rising numbers. Their content isn't read. `NoTape`, `NotMounted`, `ReadFault`, `NoMemory`; the reel is as it was.
 pub fn completed<T: Tapes>(
     alloc: Global,
     tapes: &mut T,
@@ -44,7 +44,8 @@ pub fn completed<T: Tapes>(
     }
 }
 
-/// The block behind the completed dumps of the reel. It is at most the reel's length.
+/// The block behind the completed dumps of the reel, which is at most the reel's length, in blocks. `NoTape`, `NotMounted`,
+/// `ReadFault`, `NoMemory`; the reel is as it was.
 pub fn end_of<T: Tapes>(alloc: Global, tapes: &mut T, serial: u32) -> Result<u32, ShelfFault>
     ensures reads { ReadsReel serial result (T.rack tapes.old) (T.rack tapes.new) }
     ensures end { IfOk result (λ end. (dumps : List Dump)

@@ -14,7 +14,8 @@ use g_incr::{DumpNote, ShelfFault};
 use g_tape::Tapes;
 use std::alloc::Global;
 
-/// Whether all of so many blocks, from the copy's first one on, are content of completed dumps of its reel.
+/// Whether all of so many blocks, from the copy's first one on, are content of completed dumps of its reel. `NoTape`,
+/// `NotMounted`, `ReadFault`, `NoMemory`; the reel is as it was.
 pub fn find_copy<T: Tapes>(
     alloc: Global,
     tapes: &mut T,

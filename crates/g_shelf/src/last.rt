@@ -27,7 +27,7 @@ pub fn first_unmounted<T: Tapes>(tapes: &T) -> Option<u32>
 }
 
 /// The completed dump of greatest number over all reels, with the serial of its reel; of equal numbers the one on the first
-/// reel. None exactly where no reel has a completed dump.
+/// reel. None exactly where no reel has a completed dump. `ReadFault`, `NoMemory`; the reels are as they were.
 pub fn last_dump<T: Tapes>(
     alloc: Global,
     tapes: &mut T,

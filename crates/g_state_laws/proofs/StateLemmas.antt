@@ -25,7 +25,7 @@ use Rattle.g_state_laws.proofs.UpOneLemmas.{on_all, reel_named}
 use Rattle.g_state.proofs.ViewLemmas.{Stands, back}
 
 -- THE DUMPED DIRECTORY, where there is a dump
-abbrev dumped_in : (dumps : List Dump) → ((d : Dump) → Contains dumps d → DumpedDirectory dumps) → Option (DumpedDirectory dumps)
+abbrev pub dumped_in : (dumps : List Dump) → ((d : Dump) → Contains dumps d → DumpedDirectory dumps) → Option (DumpedDirectory dumps)
 dumped_in [] tree = None
 dumped_in (d ∷ ds) tree = Some (tree d (0, omega arith, refl))
 
@@ -38,12 +38,12 @@ none_dumped : (dumps : List Dump) (tree : (d : Dump) → Contains dumps d → Du
 none_dumped [] tree isnt t = let (i, within, is) = t.greatest.there in (let no : ⊥ = omega (arith, within) in no)
 none_dumped (d ∷ ds) tree isnt t = none-some (tree d (0, omega arith, refl)) (sym isnt)
 
-abbrev view_by : (text : ℕ → List ℕ) (shelf : ℕ → List Dump) (reels : List Reel) → RackBelongs text (all_dumps shelf reels) → Option Opened → View
+abbrev pub view_by : (text : ℕ → List ℕ) (shelf : ℕ → List Dump) (reels : List Reel) → RackBelongs text (all_dumps shelf reels) → Option Opened → View
 view_by text shelf reels rack opened = record { text = text; shelf = shelf; dumps = all_dumps shelf reels; dumped = dumped_in (all_dumps shelf reels) rack.tree; opened = opened }
 
 module _ (held : Option (List (List ℕ))) (reels : List Reel) (text : ℕ → List ℕ) (shelf : ℕ → List Dump) (shelved : AreShelved shelf reels)
     (rack : RackBelongs text (all_dumps shelf reels)) (opened : Option Opened) where
-  rack_view : IsRackView held reels (view_by text shelf reels rack opened)
+  pub rack_view : IsRackView held reels (view_by text shelf reels rack opened)
   rack_view = record {
     shelved = shelved;
     all = refl;
@@ -51,7 +51,7 @@ module _ (held : Option (List (List ℕ))) (reels : List Reel) (text : ℕ → L
     none = λ told isnt t other keeps. none_dumped (all_dumps shelf reels) rack.tree isnt t;
   }
 
-  is_view : (c : Contents) → DiscBelongs text shelf reels c → IsView held reels c (view_by text shelf reels rack opened)
+  pub is_view : (c : Contents) → DiscBelongs text shelf reels c → IsView held reels c (view_by text shelf reels rack opened)
   is_view c disc = record {
     rack = rack_view;
     files = All-weaker (λ (f : File). KeepsFile (text f.rec.stamp) (all_dumps shelf reels) f) (λ (f : File). HasText (AllTold held reels) (text f.rec.stamp) (all_dumps shelf reels) f)

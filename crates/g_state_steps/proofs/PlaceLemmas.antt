@@ -188,7 +188,7 @@ erased_places files number old distinct distinct_new of =
     All-contains (Isnt q) (without_file number files) g all (contains_filter (stands number) files g in_files (ap not (ne_eqb g.rec.number number apart)))))))
 
 -- CHANGES OF EACH FILE BY ITSELF
-find_mapped : (h : File → File) (q : ℕ) (files : List File) → All (λ g. (h g).rec.stamp ≡ g.rec.stamp) files → find nat_cmp q (keyed stamp_of (map h files)) ≡ option_map h (find nat_cmp q (keyed stamp_of files))
+pub find_mapped : (h : File → File) (q : ℕ) (files : List File) → All (λ g. (h g).rec.stamp ≡ g.rec.stamp) files → find nat_cmp q (keyed stamp_of (map h files)) ≡ option_map h (find nat_cmp q (keyed stamp_of files))
 find_mapped h q [] same = refl
 find_mapped h q (g ∷ gs) same =
     ap (λ (n : ℕ). cond (eq_by_cmp nat_cmp q n) (Some (h g)) (find nat_cmp q (keyed stamp_of (map h gs)))) (All-head (λ (f : File). (h f).rec.stamp ≡ f.rec.stamp) g gs same)
@@ -199,7 +199,7 @@ find_mapped h q (g ∷ gs) same =
     by_key true = refl
     by_key false = refl
 
-mapped_places : (h : File → File) (k : ℕ → Place → Place) (files : List File) (m : FinMap nat_cmp Place) → All (λ g. (h g).rec.stamp ≡ g.rec.stamp) files
+pub mapped_places : (h : File → File) (k : ℕ → Place → Place) (files : List File) (m : FinMap nat_cmp Place) → All (λ g. (h g).rec.stamp ≡ g.rec.stamp) files
     → All (λ g. place_of (h g) ≡ k g.rec.stamp (place_of g)) files → ((q : ℕ) → get m q ≡ option_map (k q) (get (places_of files) q)) → places_of (map h files) ≡ m
 mapped_places h k files m same each is =
     same_map nat_cmp_total nat_cmp-IsAntisymmetric (places_of (map h files)) m

@@ -16,7 +16,7 @@ use Rattle.g_state.specs.Reading.{DevicesStandFor, StandsForState}
 use Rattle.g_state.specs.Up.{DumpFacts, IsOpen, IsReady, IsUp, StoreFacts, content_in}
 use Rattle.g_state.proofs.ViewLemmas.{Stands, back, to}
 use Rattle.g_store.specs.Arming.{MeansTheSame}
-use Rattle.g_store.proofs.SeenLemmas.{seen}
+use Rattle.g_store_calls.proofs.SeenLemmas.{seen}
 
 module _ (s : StoreFacts) (f g : Option ℕ) (a b : ℕ) where
   abbrev online : OnlineFacts

@@ -11,7 +11,7 @@ use Rattle.g_state.specs.Reading.{StandsForState, View, state_up}
 use Rattle.g_state.specs.Up.{StoreFacts}
 use Rattle.g_state_steps.specs.Rooms.{held_in}
 use Rattle.g_store.specs.Events.{AnswersEvent, LeadsBy, StepsBy, WroteBy}
-use Rattle.g_store.proofs.SeenLemmas.{Seen, seen}
+use Rattle.g_store_calls.proofs.SeenLemmas.{Seen, seen}
 
 -- what the state holds
 pub held_by : (s : StoreFacts) (u : State) (is : Seen s u) → u.holding ≡ Some (held_in is.view s.online)

@@ -10,7 +10,5 @@ mod NameLemmas
 mod OffLemmas
 mod RestoreLemmas
 mod RestoredLemmas
-mod SeenLemmas
 mod TurnLemmas
 pub mod OpenedLemmas
-pub mod OwnViewLemmas

@@ -27,7 +27,7 @@ use Rattle.g_state.specs.Reading.{AllTold, DevicesStandFor, HasText, IsRackView,
 use Rattle.g_state.specs.Up.{StoreFacts}
 use Rattle.g_migrate.proofs.KeepsLemmas.{devices_belong}
 use Rattle.g_store.proofs.MigrateLemmas.{files_seen, rack_seen}
-use Rattle.g_store.proofs.SeenLemmas.{stands}
+use Rattle.g_store_calls.proofs.SeenLemmas.{stands}
 
 abbrev pub store_of : OnlineFacts → Rack → StoreFacts
 store_of o rack = record { online = o; rack = rack; dump = None; spent = false }

@@ -38,7 +38,7 @@ use Rattle.g_store.specs.Naming.{IsNamedFile, named_answer, naming_refuses, stop
 use Rattle.g_store.specs.Refusing.{IsExact}
 use Rattle.g_store.proofs.EventLemmas.{held_by, leads_same, none_written, refused}
 use Rattle.g_store.proofs.MigrateLemmas.{IsFileOf, file_of, down_before, down_behind, files_seen, name_refused, refusal_is, stamp_is, state_done, told_back, tree_in, two_faults, unload_is, view_off}
-use Rattle.g_store.proofs.SeenLemmas.{Seen, seen, stands}
+use Rattle.g_store_calls.proofs.SeenLemmas.{Seen, seen, stands}
 
 abbrev pub MigratesBy : Path → state.State → state.Holding → Outcome → Result Full StoreFault → state.State → Type 0
 MigratesBy path s k o a n = MigrateStep s k path.user (input_name k.tree [] path) o a n

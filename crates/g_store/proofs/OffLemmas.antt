@@ -1,12 +1,12 @@
 -- A file is taken off the disc: its place, and what is known of the others.
 use Rattle.std.proofs.Common.{◌≡◌, ℕ, Bool, true, false, cond, List, [], ◌∷◌, get_or, Option, Some, None, is_some, unwrap_or, refl, sym, ◌∙◌, ap, subst, inl, inr}
-use Rattle.std.specs.Prelude.{◌⊎◌, ◌==◌, ◌||◌, All, Contains, map, if◌then◌else◌}
+use Rattle.std.specs.Prelude.{◌⊎◌, ◌==◌, ◌||◌, All, Contains, if◌then◌else◌}
 use Rattle.std.specs.Option.{option_map}
-use Rattle.std.specs.Ordering.{nat_cmp, eq_by_cmp}
+use Rattle.std.specs.Ordering.{nat_cmp}
 use Rattle.std.specs.FinMap.{FinMap, find, get, same_map, get-insert, nat_cmp-IsAntisymmetric}
 use Rattle.std.proofs.lemmas.Bool.{cases_eq, cond-false, cond-true, eq-eqb, false≢true, ne_eqb}
 use Rattle.std.proofs.lemmas.Cmp.{nat_cmp_total}
-use Rattle.std.proofs.lemmas.List.Elements.{All-contains, All-head, All-map, All-tail}
+use Rattle.std.proofs.lemmas.List.Elements.{All-contains, All-map}
 use Rattle.g_entry.specs.declared.file_rec.TapeCopy.{TapeCopy}
 use Rattle.g_plain.proofs.Found.{apart_is, here}
 use Rattle.g_tree.proofs.MapLemmas.{found_one, keyed}
@@ -15,19 +15,7 @@ use Rattle.g_contents.specs.Contents.{File, contents_of, file_of, offline_in, ta
 use Rattle.g_step.specs.State.{Place, place_at, with_online}
 use Rattle.g_state.specs.Reading.{place_of, places_of}
 use Rattle.g_state_steps.specs.Places.{AreDistinct, IsOfStamp}
-use Rattle.g_state_steps.proofs.PlaceLemmas.{get_place, place_found, stamp_of}
-
--- each file by itself
-find_mapped : (h : File → File) (q : ℕ) (files : List File) → All (λ g. (h g).rec.stamp ≡ g.rec.stamp) files → find nat_cmp q (keyed stamp_of (map h files)) ≡ option_map h (find nat_cmp q (keyed stamp_of files))
-find_mapped h q [] same = refl
-find_mapped h q (g ∷ gs) same =
-    ap (λ (n : ℕ). cond (eq_by_cmp nat_cmp q n) (Some (h g)) (find nat_cmp q (keyed stamp_of (map h gs)))) (All-head (λ (f : File). (h f).rec.stamp ≡ f.rec.stamp) g gs same)
-    ∙ ap (λ (o : Option File). cond (eq_by_cmp nat_cmp q g.rec.stamp) (Some (h g)) o) (find_mapped h q gs (All-tail (λ (f : File). (h f).rec.stamp ≡ f.rec.stamp) g gs same))
-    ∙ by_key (eq_by_cmp nat_cmp q g.rec.stamp)
-  where
-    by_key : (b : Bool) → cond b (Some (h g)) (option_map h (find nat_cmp q (keyed stamp_of gs))) ≡ option_map h (cond b (Some g) (find nat_cmp q (keyed stamp_of gs)))
-    by_key true = refl
-    by_key false = refl
+use Rattle.g_state_steps.proofs.PlaceLemmas.{find_mapped, get_place, place_found, stamp_of}
 
 entry_by : Bool → Option TapeCopy → Place
 entry_by online copy = record { online = online; copy = copy }

@@ -40,7 +40,7 @@ use Rattle.g_state.specs.Reading.{AllTold, DevicesStandFor, IsOpenView, IsView, 
 use Rattle.g_state.specs.Up.{ArePinned, DumpFacts, IsReady, IsUp, StoreFacts, content_in, with_dump}
 use Rattle.g_state.proofs.ViewLemmas.{Stands, back, reads_keep_state}
 use Rattle.g_state_laws.specs.Dumping.{IsPlanOf, opened_with}
-use Rattle.g_state_laws.proofs.StateLemmas.{with_there}
+use Rattle.g_state_laws.proofs.StateLemmas.{is_view, view_by, with_there}
 use Rattle.g_state_laws.proofs.UpOneLemmas.{store_is_one}
 use Rattle.g_state_steps.specs.Opened.{AreOpened}
 use Rattle.g_state_steps.specs.Rooms.{HasLength, held_in}
@@ -63,8 +63,7 @@ use Rattle.g_store.specs.Dumping.{is_stop_at}
 use Rattle.g_store.proofs.EventLemmas.{leads_same, none_written, refused}
 use Rattle.g_store.proofs.MigrateLemmas.{files_seen}
 use Rattle.g_store.proofs.MountLemmas.{lacks_by, mounted_by, reel_unread, row_found}
-use Rattle.g_store.proofs.OwnViewLemmas.{own_view, view_by}
-use Rattle.g_store.proofs.SeenLemmas.{Seen, seen, stands}
+use Rattle.g_store_calls.proofs.SeenLemmas.{Seen, seen, stands}
 
 abbrev pub OpensBy : ℕ → state.State → state.Holding → Outcome → Result ℕ StoreFault → state.State → Type 0
 OpensBy serial s k o a n = OpenStep s k serial o a n
@@ -195,7 +194,7 @@ module _ (serial : ℕ) (o : OnlineFacts) (rack : Rack) (on : Reel) (on_is : ree
         } in
         let own : Seen before (state_up v reels o None) = record {
           view = v;
-          is = own_view o.disc.held reels text shelf shelved up.rack (Some op) o.contents up.disc;
+          is = is_view o.disc.held reels text shelf shelved up.rack (Some op) o.contents up.disc;
           opens = record { is = λ all qs some. tt };
           state_is = refl;
         } in
@@ -219,7 +218,7 @@ module _ (serial : ℕ) (o : OnlineFacts) (rack : Rack) (on : Reel) (on_is : ree
         let disc_new : DiscBelongs text shelf reels new.contents = subst (λ (rs : List Reel). DiscBelongs text shelf rs new.contents) reads.reels opened.up.disc in
         let seen_new : Seen (up_with new after (Some d)) end = record {
           view = v;
-          is = subst (λ (rs : List Reel). IsView new.disc.held rs new.contents v) (sym reads.reels) (own_view new.disc.held reels text shelf shelved up.rack (Some op) new.contents disc_new);
+          is = subst (λ (rs : List Reel). IsView new.disc.held rs new.contents v) (sym reads.reels) (is_view new.disc.held reels text shelf shelved up.rack (Some op) new.contents disc_new);
           opens = record {
             is = λ all qs some. (
               content,
@@ -526,7 +525,7 @@ module _ (serial : ℕ) (o : OnlineFacts) (rack : Rack) (on : Reel) (on_is : ree
         let v = view_by text shelf (told_reels rack) up.rack None in
         let own : Seen was_up (state_up v (told_reels rack) o None) = record {
           view = v;
-          is = own_view o.disc.held (told_reels rack) text shelf shelved up.rack None o.contents up.disc;
+          is = is_view o.disc.held (told_reels rack) text shelf shelved up.rack None o.contents up.disc;
           opens = record { is = λ all qs some. tt };
           state_is = refl;
         } in

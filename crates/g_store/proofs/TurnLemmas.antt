@@ -30,7 +30,7 @@ use Rattle.g_store.specs.Refusing.{DoneOr, is_on, mount_answer, mount_refuses, u
 use Rattle.g_store.specs.Events.{AnswersEvent, LeadsBy, Mounts, Unmounts}
 use Rattle.g_store.proofs.EventLemmas.{held_by, leads_same, none_written, refused}
 use Rattle.g_store.proofs.MountLemmas.{dumps_stay, lacks_by, mounted_by, other_reel, rows_turned, same_reel, serials_stay, shelved_turned, told_after, told_before, told_turned, turned}
-use Rattle.g_store.proofs.SeenLemmas.{Seen, seen, stands}
+use Rattle.g_store_calls.proofs.SeenLemmas.{Seen, seen, stands}
 
 -- THE VIEW stays right
 module _ (s : ℕ) (is : Bool) (held : Option (List (List ℕ))) (reels : List Reel) where

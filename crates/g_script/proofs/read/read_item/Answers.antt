@@ -1,4 +1,3 @@
-use Rattle.std.proofs.Common.{sym, ◌∙◌}
 use Rattle.g_script.proofs.ReadLemmas.{read_bad, read_bare, read_job, read_none, read_open}
 use Rattle.g_script.proofs.read.read_item.Goals as goal
 

@@ -1,4 +1,4 @@
-use Rattle.std.proofs.Common.{◌≡◌, ◌∙◌, IfSome, sym, ap, subst}
+use Rattle.std.proofs.Common.{◌∙◌, IfSome, sym, ap, subst}
 use Rattle.g_act.specs.Met.{IsSpoken, Met}
 use Rattle.g_lang.specs.Said.{command_said}
 use Rattle.g_macro.specs.Levels.{holds}

@@ -1,4 +1,4 @@
-use Rattle.std.proofs.Common.{true, false}
+use Rattle.std.proofs.Common.{false}
 use Rattle.g_lang.specs.Said.{command_said}
 use Rattle.g_act.proofs.ReadyLemmas.{said_ready}
 use Rattle.g_act.proofs.work.Work.do_line.Goals as goal

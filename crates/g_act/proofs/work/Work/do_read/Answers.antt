@@ -1,4 +1,4 @@
-use Rattle.std.proofs.Common.{true, false}
+use Rattle.std.proofs.Common.{true}
 use Rattle.g_lang.specs.Said.{command_said}
 use Rattle.g_act.proofs.ReadyLemmas.{said_ready}
 use Rattle.g_act.proofs.work.Work.do_read.Goals as goal

@@ -1,4 +1,4 @@
-use Rattle.std.proofs.Common.{◌≡◌, ◌∙◌, ◌<◌, ◌≤◌, ap, sym, arith}
+use Rattle.std.proofs.Common.{◌∙◌, ◌<◌, ◌≤◌, ap, sym, arith}
 use Rattle.g_act.proofs.OrderLemmas.{goes_nowhere, rest_ends, rest_goes, rest_stops}
 use Rattle.g_act.proofs.work.Work.go_on.Goals as goal
 use Rattle.g_act.proofs.work.Work.go_on.Goals.{then-not-goes-via-then-not-goes, then-not-goes-via-else-not-goes+then-is_over}
