@@ -164,6 +164,17 @@ none_of test n (r ∷ rs) isnt all =
     (ne_eqb r.owner n (λ e. both_ways (test n) isnt (ap test (sym e) ∙ All-head (λ (q : FileRec). test q.owner ≡ true) r rs all)))
     ∙ none_of test n rs isnt (All-tail (λ (q : FileRec). test q.owner ≡ true) r rs all)
 
+-- pins of versions that are apart are apart
+pub pins_differ : (serial at : ℕ) (ws : List FileRec) (ps : List Pin) → ArePinned serial at ws ps → AllPairs OtherStamp ws → AllPairs (λ (p q : Pin). p.stamp ≢ q.stamp) ps
+pins_differ serial at [] ps are apart = subst (AllPairs (λ (p q : Pin). p.stamp ≢ q.stamp)) (sym are) (λ i j d less within. let no : ⊥ = omega (arith, within) in absurd no)
+pins_differ serial at (w ∷ ws) ps (pin, rest, same, stamp, len, copy, blocks, more) apart =
+    subst (AllPairs (λ (p q : Pin). p.stamp ≢ q.stamp)) (sym same)
+    (pairs_cons (λ (p q : Pin). p.stamp ≢ q.stamp) pin rest
+    (All-weaker (IsPinned ws) (λ (q : Pin). pin.stamp ≢ q.stamp)
+    (λ q it e. All-contains (OtherStamp w) ws it.rec (pairs_head OtherStamp w ws apart) it.there (sym stamp ∙ e ∙ it.stamp)) rest
+    (are_of serial (at + blocks_for w.len) ws rest more))
+    (pins_differ serial (at + blocks_for w.len) ws rest more (pairs_tail OtherStamp w ws apart)))
+
 module _ (text : ℕ → List ℕ) (shelf : ℕ → List Dump) (changed : List ℕ) (c : Contents) (plan : Plan) (pins : List Pin) (opened : AreOpened text shelf changed c plan pins) where
   abbrev rules : IsRecords c.users (recs_in c)
   rules = opened.dumpable.records
@@ -228,16 +239,6 @@ module _ (text : ℕ → List ℕ) (shelf : ℕ → List Dump) (changed : List �
       ∙ ap (λ (n : ℕ). blocks_for n + sum_by (λ (p : Pin). blocks_for p.len) rest) len
       ∙ ap (λ (n : ℕ). blocks_for w.len + n) (sum_pins serial (at + blocks_for w.len) ws rest more)
       ∙ sym (sum_by-cons (λ (r : FileRec). blocks_for r.len) w ws)
-
-  pins_differ : (serial at : ℕ) (ws : List FileRec) (ps : List Pin) → ArePinned serial at ws ps → AllPairs OtherStamp ws → AllPairs (λ (p q : Pin). p.stamp ≢ q.stamp) ps
-  pins_differ serial at [] ps are apart = subst (AllPairs (λ (p q : Pin). p.stamp ≢ q.stamp)) (sym are) (λ i j d less within. let no : ⊥ = omega (arith, within) in absurd no)
-  pins_differ serial at (w ∷ ws) ps (pin, rest, same, stamp, len, copy, blocks, more) apart =
-      subst (AllPairs (λ (p q : Pin). p.stamp ≢ q.stamp)) (sym same)
-      (pairs_cons (λ (p q : Pin). p.stamp ≢ q.stamp) pin rest
-      (All-weaker (IsPinned ws) (λ (q : Pin). pin.stamp ≢ q.stamp)
-      (λ q it e. All-contains (OtherStamp w) ws it.rec (pairs_head OtherStamp w ws apart) it.there (sym stamp ∙ e ∙ it.stamp)) rest
-      (are_of serial (at + blocks_for w.len) ws rest more))
-      (pins_differ serial (at + blocks_for w.len) ws rest more (pairs_tail OtherStamp w ws apart)))
 
   pub content_is : waiting_blocks (waiting held) ≡ blocks_of (waiting_files plan.files)
   content_is =
