@@ -162,6 +162,27 @@ impl Job {
         self.wants
     }
 
+    /// The user whose job it is.
+    pub fn user(&self) -> &User
+        ensures { result.now ≡ self.now.user }
+    {
+        &self.user
+    }
+
+    /// Its allowance of MONEY, in units.
+    pub fn money(&self) -> u64
+        ensures { result ≡ self.now.money }
+    {
+        self.money
+    }
+
+    /// The units of MONEY charged so far.
+    pub fn used_money(&self) -> u64
+        ensures { result ≡ self.now.used_money }
+    {
+        self.used_money
+    }
+
     /// Where the job stands, by which the next turn is chosen: its number, the units of TIME charged so far, its
     /// allowance of them, and how many of its turns were charged.
     pub fn standing(&self) -> Standing
