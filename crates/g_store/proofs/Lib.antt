@@ -1,14 +1,14 @@
-mod ArmLemmas
+pub mod ArmLemmas
 mod EmptyLemmas
-mod EventLemmas
+pub mod EventLemmas
 mod FormatLemmas
-mod MakeLemmas
+pub mod MakeLemmas
 mod MigrateLemmas
 mod MigratedLemmas
-mod MountLemmas
+pub mod MountLemmas
 mod NameLemmas
 mod OffLemmas
 mod RestoreLemmas
 mod RestoredLemmas
-mod TurnLemmas
+pub mod TurnLemmas
 pub mod OpenedLemmas
