@@ -34,7 +34,7 @@ use Rattle.g_store_calls.proofs.SeenLemmas.{Seen, seen, stands}
 
 -- THE VIEW stays right
 module _ (s : ℕ) (is : Bool) (held : Option (List (List ℕ))) (reels : List Reel) where
-  rack_view : (v : View) → IsRackView held reels v → IsRackView held (turned s is reels) v
+  pub rack_view : (v : View) → IsRackView held reels v → IsRackView held (turned s is reels) v
   rack_view v right = record {
     shelved = shelved_turned s is v.shelf reels right.shelved;
     all = right.all ∙ sym (dumps_stay s is v.shelf reels);
@@ -42,7 +42,7 @@ module _ (s : ℕ) (is : Bool) (held : Option (List (List ℕ))) (reels : List R
     none = λ told. right.none (told_before s is held reels told);
   }
 
-  files_view : (c : Contents) (v : View) → IsView held reels c v → IsView held (turned s is reels) c v
+  pub files_view : (c : Contents) (v : View) → IsView held reels c v → IsView held (turned s is reels) c v
   files_view c v right = record {
     rack = rack_view v right.rack;
     files = All-weaker (λ (f : File). HasText (AllTold held reels) (v.text f.rec.stamp) v.dumps f) (λ (f : File). HasText (AllTold held (turned s is reels)) (v.text f.rec.stamp) v.dumps f)
