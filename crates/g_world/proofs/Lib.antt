@@ -1,4 +1,5 @@
 pub mod AnswerLemmas
+pub mod CountLemmas
 pub mod DumpLemmas
 pub mod DumpedLemmas
 pub mod LawLemmas
