@@ -1,10 +1,16 @@
 pub mod AnswerLemmas
 pub mod CountLemmas
+pub mod CrewLemmas
 pub mod DumpLemmas
 pub mod DumpedLemmas
+pub mod EndsLemmas
+pub mod EventToldLemmas
 pub mod LawLemmas
+pub mod MappedLemmas
+pub mod MountLemmas
 pub mod OverLemmas
 pub mod StepLemmas
+pub mod TakenLemmas
 pub mod ToldLemmas
 pub mod TreeLemmas
 pub mod TurnLemmas

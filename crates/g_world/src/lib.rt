@@ -9,6 +9,7 @@ ghost use Rattle.g_world.specs.Laws.{
   DumpsEnd,
   NothingBehindOver,
   RisesOn,
+  RunsEnd,
   StartHasTheTree,
 };
 
@@ -54,4 +55,10 @@ pub fn nothing_comes_behind_the_end<F: Fn(&Usage) -> Charge, U: Fn(&Standing) ->
 /// run opened.
 pub fn dumped_is_what_a_dump_opened_on<F: Fn(&Usage) -> Charge, U: Fn(&Standing) -> u64>()
     ensures { (tariff : F) (rule : U) → DumpedIsOpened F.Fn tariff U.Fn rule }
+{}
+
+/// A job takes at most its allowance in charged turns, and in turns that charge nothing at most one more than there were
+/// MOUNT lines.
+pub fn jobs_come_to_an_end<F: Fn(&Usage) -> Charge, U: Fn(&Standing) -> u64>()
+    ensures { (tariff : F) (rule : U) → RunsEnd F.Fn tariff U.Fn rule }
 {}
