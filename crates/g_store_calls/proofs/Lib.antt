@@ -1,7 +1,14 @@
 pub mod AddLemmas
+pub mod AskedLemmas
+pub mod BackLemmas
+pub mod BroughtLemmas
 pub mod CalmLemmas
 pub mod EraseLemmas
+pub mod FetchLemmas
+pub mod HereLemmas
 pub mod MarkLemmas
 pub mod RecordLemmas
 pub mod SeenLemmas
+pub mod TapeLemmas
 pub mod TellLemmas
+pub mod WantLemmas

@@ -2,7 +2,9 @@
 #![tactic(auto)]
 
 mod changing;
+mod fetching;
 mod telling;
 
 pub use changing::{erase, new_user};
+pub use fetching::{fetch, retrieve};
 pub use telling::tell;
