@@ -1,7 +1,13 @@
 pub mod AddLemmas
+pub mod BudgetLemmas
 pub mod CalmLemmas
 pub mod EraseLemmas
+pub mod KindLemmas
 pub mod MarkLemmas
+pub mod NamedLemmas
 pub mod RecordLemmas
+pub mod RenameLemmas
 pub mod SeenLemmas
+pub mod SetLemmas
 pub mod TellLemmas
+pub mod TrapLemmas

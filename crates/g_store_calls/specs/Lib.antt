@@ -1,4 +1,6 @@
+pub mod Anew
 pub mod Answering
 pub mod Applied
+pub mod Kinds
 pub mod Made
 pub mod Replies
