@@ -11,6 +11,7 @@ pub mod KeptDumpLemmas
 pub mod LawLemmas
 pub mod MappedLemmas
 pub mod MountLemmas
+pub mod OneTextLemmas
 pub mod OpenAlikeLemmas
 pub mod OverLemmas
 pub mod StepLemmas
