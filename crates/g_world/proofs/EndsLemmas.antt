@@ -207,7 +207,7 @@ module _ (n : ℕ) (u q : Bool) (a : ℕ) where
         goes_with f m c f c w new Over (omega arith) (omega arith)
         (keeps_is f m c w.lines new _ is (taken_gone n u q a f m c w.jobs w.next_job w.store w.store w.turn w.turn idle h, refl))
 
-    timed_on : (old new : List Timed) (m m2 : ℕ) → LinesGo old new m m2 → AllByRecursion IsTimed old → AllByRecursion IsTimed new
+    pub timed_on : (old new : List Timed) (m m2 : ℕ) → LinesGo old new m m2 → AllByRecursion IsTimed old → AllByRecursion IsTimed new
     timed_on old new m m2 (inl same) timed = subst (λ (ls : List Timed). AllByRecursion IsTimed ls) (sym same.0) timed
     timed_on old new m m2 (inr one) timed = (subst (λ (ls : List Timed). AllByRecursion IsTimed ls) one.1 timed).1
 
@@ -278,7 +278,7 @@ done_are lines done left is =
 
 module _ {F U : Type 0} (tariffs : Shared F (Bor Usage × Unit {0}) Charge) (tariff : F) (rules : Shared U (Bor Standing × Unit {0}) ℕ) (rule : U) where
   -- nobody is there when a run begins
-  begun : (n : ℕ) (u : Bool) (lines : List Timed) (bad : Option ℕ) (s : State) → IsTakenIn n u false 0 0 0 0 (start lines bad s)
+  pub begun : (n : ℕ) (u : Bool) (lines : List Timed) (bad : Option ℕ) (s : State) → IsTakenIn n u false 0 0 0 0 (start lines bad s)
   begun n u lines bad s = record {
     rising = (let low : 0 ≤ 1 = omega arith in low);
     free = (let low : 0 ≤ 1 + 0 = omega arith in low);

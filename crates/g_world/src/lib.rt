@@ -8,6 +8,7 @@ ghost use Rattle.g_world.specs.Laws.{
   DumpedIsOpened,
   DumpsEnd,
   NothingBehindOver,
+  OneText,
   RisesOn,
   RunsEnd,
   StartHasTheTree,
@@ -15,7 +16,7 @@ ghost use Rattle.g_world.specs.Laws.{
 
 use g_budget::{Charge, Usage};
 use g_sched::Standing;
-use g_step::step_is_plain;
+use g_step::{step_is_one, step_is_plain};
 
 /// Every call of every job is answered as on one plain tree, waits, refusals of devices and stops aside.
 pub fn calls_are_answered_plainly<F: Fn(&Usage) -> Charge, U: Fn(&Standing) -> u64>()
@@ -62,3 +63,11 @@ pub fn dumped_is_what_a_dump_opened_on<F: Fn(&Usage) -> Charge, U: Fn(&Standing)
 pub fn jobs_come_to_an_end<F: Fn(&Usage) -> Charge, U: Fn(&Standing) -> u64>()
     ensures { (tariff : F) (rule : U) → RunsEnd F.Fn tariff U.Fn rule }
 {}
+
+/// Where no count rose, the text of a run that is over follows from the script, what the devices stood for when it began,
+/// the charges and the weigh rule.
+pub fn text_is_one<F: Fn(&Usage) -> Charge, U: Fn(&Standing) -> u64>()
+    ensures { (tariff : F) (rule : U) → OneText F.Fn tariff U.Fn rule }
+{
+    step_is_one();
+}
