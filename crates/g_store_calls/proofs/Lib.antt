@@ -1,7 +1,15 @@
 pub mod AddLemmas
+pub mod AheadLemmas
+pub mod BehindLemmas
 pub mod CalmLemmas
 pub mod EraseLemmas
+pub mod KindLemmas
+pub mod MakeLemmas
 pub mod MarkLemmas
+pub mod NextLemmas
+pub mod PutLemmas
 pub mod RecordLemmas
+pub mod RoomSteps
 pub mod SeenLemmas
 pub mod TellLemmas
+pub mod VersionLemmas

@@ -1,4 +1,6 @@
 pub mod Answering
 pub mod Applied
+pub mod Kinds
 pub mod Made
 pub mod Replies
+pub mod Versions

@@ -2,7 +2,9 @@
 #![tactic(auto)]
 
 mod changing;
+mod putting;
 mod telling;
 
 pub use changing::{erase, new_user};
+pub use putting::put;
 pub use telling::tell;
