@@ -1,6 +1,8 @@
 pub mod AddLemmas
+pub mod AheadLemmas
 pub mod AskedLemmas
 pub mod BackLemmas
+pub mod BehindLemmas
 pub mod BroughtLemmas
 pub mod BudgetLemmas
 pub mod CalmLemmas
@@ -8,13 +10,18 @@ pub mod EraseLemmas
 pub mod FetchLemmas
 pub mod HereLemmas
 pub mod KindLemmas
+pub mod MakeLemmas
 pub mod MarkLemmas
 pub mod NamedLemmas
+pub mod NextLemmas
+pub mod PutLemmas
 pub mod RecordLemmas
 pub mod RenameLemmas
+pub mod RoomSteps
 pub mod SeenLemmas
 pub mod SetLemmas
 pub mod TapeLemmas
 pub mod TellLemmas
 pub mod TrapLemmas
+pub mod VersionLemmas
 pub mod WantLemmas

@@ -5,3 +5,4 @@ pub mod Fetched
 pub mod Kinds
 pub mod Made
 pub mod Replies
+pub mod Versions

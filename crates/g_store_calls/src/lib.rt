@@ -5,10 +5,12 @@ mod answering;
 mod changing;
 mod fetching;
 mod setting;
+mod putting;
 mod telling;
 
 pub use answering::change;
 pub use changing::{erase, new_user};
 pub use fetching::{fetch, retrieve};
 pub use setting::{budget, rename, trap_go, trap_stop};
+pub use putting::put;
 pub use telling::tell;
