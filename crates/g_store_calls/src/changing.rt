@@ -111,7 +111,7 @@ fn erased_file(tree: &Tree, who: &User, path: &Path) -> (u16, Full)
 }
 
 /// Makes the change. `Stopped`, `NoMemory`.
-fn applied<D: Disc>(
+pub(crate) fn applied<D: Disc>(
     alloc: Global,
     online: &mut Online<D>,
     change: &Change,
