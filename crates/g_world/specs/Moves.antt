@@ -128,3 +128,21 @@ pub record Counted (moves : List Move) (last : World) (old new : Devices) : Type
   pub no_cut : counted cuts_in moves ≡ 0 → (new.disc.write_faults ≡ old.disc.write_faults) × (new.rack.write_faults ≡ old.rack.write_faults)
   pub disc_arms : RoseBy last.disc_stops old.disc.arms new.disc.arms
   pub tape_arms : RoseBy last.tape_stops old.rack.arms new.rack.arms
+
+-- What the devices counted: so many failed reads of each and failed writes of both at most, none where there were none, and so many armings of each.
+pub record Happened (disc_reads tape_reads cuts disc_arms tape_arms : ℕ) (old new : Devices) : Type 0 where
+  pub disc_reads_rose : HasRisenBy disc_reads old.disc.read_faults new.disc.read_faults
+  pub tape_reads_rose : HasRisenBy tape_reads old.rack.read_faults new.rack.read_faults
+  pub cuts_rose : (i : ℕ) × (j : ℕ) × (i + j ≡ cuts) × HasRisenBy i old.disc.write_faults new.disc.write_faults × HasRisenBy j old.rack.write_faults new.rack.write_faults
+  pub no_disc_read : disc_reads ≡ 0 → new.disc.read_faults ≡ old.disc.read_faults
+  pub no_tape_read : tape_reads ≡ 0 → new.rack.read_faults ≡ old.rack.read_faults
+  pub no_cut : cuts ≡ 0 → (new.disc.write_faults ≡ old.disc.write_faults) × (new.rack.write_faults ≡ old.rack.write_faults)
+  pub disc_armed : RoseBy disc_arms old.disc.arms new.disc.arms
+  pub tape_armed : RoseBy tape_arms old.rack.arms new.rack.arms
+
+-- in one event with this outcome, and in a part of a run
+abbrev pub EventCounted : Outcome → ℕ → ℕ → Devices → Devices → Type 0
+EventCounted o disc_arms tape_arms old new = Happened (disc_reads_in o) (tape_reads_in o) (cuts_in o) disc_arms tape_arms old new
+
+abbrev pub MovesCounted : List Move → ℕ → ℕ → Devices → Devices → Type 0
+MovesCounted moves disc_arms tape_arms old new = Happened (counted disc_reads_in moves) (counted tape_reads_in moves) (counted cuts_in moves) disc_arms tape_arms old new
