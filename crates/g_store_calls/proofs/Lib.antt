@@ -6,9 +6,13 @@ pub mod AppendLemmas
 pub mod AppendPartLemmas
 pub mod AppendedLemmas
 pub mod AskedLemmas
+pub mod BackLemmas
 pub mod BehindLemmas
+pub mod BroughtLemmas
 pub mod CalmLemmas
 pub mod EraseLemmas
+pub mod FetchLemmas
+pub mod HereLemmas
 pub mod KindLemmas
 pub mod MakeLemmas
 pub mod MarkLemmas
@@ -18,6 +22,7 @@ pub mod RecordLemmas
 pub mod RoomSteps
 pub mod SeenLemmas
 pub mod StepLemmas
+pub mod TapeLemmas
 pub mod TellLemmas
 pub mod VersionLemmas
 pub mod WantLemmas

@@ -2,6 +2,7 @@ pub mod Answering
 pub mod Appending
 pub mod Applied
 pub mod Asking
+pub mod Fetched
 pub mod Kinds
 pub mod Made
 pub mod Replies

@@ -3,8 +3,10 @@
 
 mod appending;
 mod changing;
+mod fetching;
 mod telling;
 
 pub use appending::append;
 pub use changing::{erase, new_user};
+pub use fetching::{fetch, retrieve};
 pub use telling::tell;
