@@ -9,6 +9,7 @@ pub mod AskedLemmas
 pub mod BackLemmas
 pub mod BehindLemmas
 pub mod BroughtLemmas
+pub mod BudgetLemmas
 pub mod CalmLemmas
 pub mod EraseLemmas
 pub mod FetchLemmas
@@ -16,13 +17,17 @@ pub mod HereLemmas
 pub mod KindLemmas
 pub mod MakeLemmas
 pub mod MarkLemmas
+pub mod NamedLemmas
 pub mod NextLemmas
 pub mod QuietLemmas
 pub mod RecordLemmas
+pub mod RenameLemmas
 pub mod RoomSteps
 pub mod SeenLemmas
+pub mod SetLemmas
 pub mod StepLemmas
 pub mod TapeLemmas
 pub mod TellLemmas
+pub mod TrapLemmas
 pub mod VersionLemmas
 pub mod WantLemmas
