@@ -1,5 +1,10 @@
 pub mod AddLemmas
 pub mod AheadLemmas
+pub mod AppendCallLemmas
+pub mod AppendCodeLemmas
+pub mod AppendLemmas
+pub mod AppendPartLemmas
+pub mod AppendedLemmas
 pub mod AskedLemmas
 pub mod BackLemmas
 pub mod BehindLemmas
@@ -15,11 +20,13 @@ pub mod MarkLemmas
 pub mod NamedLemmas
 pub mod NextLemmas
 pub mod PutLemmas
+pub mod QuietLemmas
 pub mod RecordLemmas
 pub mod RenameLemmas
 pub mod RoomSteps
 pub mod SeenLemmas
 pub mod SetLemmas
+pub mod StepLemmas
 pub mod TapeLemmas
 pub mod TellLemmas
 pub mod TrapLemmas
