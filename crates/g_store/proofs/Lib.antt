@@ -1,14 +1,21 @@
+mod AdoptLemmas
 pub mod ArmLemmas
 mod EmptyLemmas
 pub mod EventLemmas
 mod FormatLemmas
+mod GreatestLemmas
 pub mod MakeLemmas
 mod MigrateLemmas
 mod MigratedLemmas
 pub mod MountLemmas
 mod NameLemmas
+mod NamedLemmas
 mod OffLemmas
+mod OwnPlaceLemmas
 mod RestoreLemmas
 mod RestoredLemmas
+mod StartLemmas
+mod StartedLemmas
+mod TakeLemmas
 pub mod TurnLemmas
 pub mod OpenedLemmas
