@@ -119,6 +119,8 @@ module _ (disc : DiscState) (rack : Rack) where
             step = read_step s s.holding;
           });
       first = λ serial e. let no : ⊥ = cc in absurd no;
+      none = λ e. let no : ⊥ = cc in absurd no;
+      named = λ serial e. let no : ⊥ = cc in absurd no;
     }
 
     unfounded : Refused online.NoFilestore
@@ -134,6 +136,8 @@ module _ (disc : DiscState) (rack : Rack) where
             step = no_files (none refl) s devices;
           });
       first = λ serial e. let no : ⊥ = cc in absurd no;
+      none = λ e. none refl;
+      named = λ serial e. let no : ⊥ = cc in absurd no;
     }
 
     starved : Refused online.NoMemory
@@ -143,6 +147,8 @@ module _ (disc : DiscState) (rack : Rack) where
           (λ e. let no : ⊥ = cc in absurd no) (λ no. refl)
           (λ told belong s devices. stays disc now rack rack (nothing_read rack) reads.size reads.held reads.writes s devices);
       first = λ serial e. let no : ⊥ = cc in absurd no;
+      none = λ e. let no : ⊥ = cc in absurd no;
+      named = λ serial e. let no : ⊥ = cc in absurd no;
     }
 
     pub load_refused : (fault : OnlineFault) → (fault ≡ online.ReadFault) ⊎ ((fault ≡ online.NoFilestore) ⊎ (fault ≡ online.NoMemory)) → Refused fault
@@ -423,6 +429,8 @@ module _ (disc : DiscState) (rack : Rack) (o : OnlineFacts) (loaded : HasLoaded 
           belongs = goes_on;
         };
         first = λ serial e. let no : ⊥ = cc in absurd no;
+        none = λ e. let no : ⊥ = cc in absurd no;
+        named = λ serial e. let no : ⊥ = cc in absurd no;
       }
 
   -- OR ITS REEL IS IN THE WAY: nothing was written
@@ -532,6 +540,8 @@ module _ (disc : DiscState) (rack : Rack) (o : OnlineFacts) (loaded : HasLoaded 
                   (start.there disc rack told belong o.contents loaded.holds)) (sym serial_is) (unmounted_step disc rack o loaded after taken.reads told belong i is));
             });
         first = λ n e. let at : n ≡ serial = cc in subst (λ (m : ℕ). is_mounted (reel m rack.reels) ≡ false) (sym (at ∙ serial_is)) is.mounted_is;
+        none = λ e. let no : ⊥ = cc in absurd no;
+        named = λ n e blocks was. let at : n ≡ serial = cc in (o.contents, loaded.holds blocks was, i, is.is, sym (at ∙ serial_is));
       }
 
   unread_said : Says TapeReadFault
@@ -549,6 +559,8 @@ module _ (disc : DiscState) (rack : Rack) (o : OnlineFacts) (loaded : HasLoaded 
               step = refused_step disc rack o loaded after taken.reads told belong i TapeRead TapeReadFault s devices (unread_step disc rack o loaded after taken.reads told belong i is);
             });
         first = λ n e. let no : ⊥ = cc in absurd no;
+        none = λ e. let no : ⊥ = cc in absurd no;
+        named = λ serial e. let no : ⊥ = cc in absurd no;
       }
 
   starved_said : Says NoMemory
@@ -560,6 +572,8 @@ module _ (disc : DiscState) (rack : Rack) (o : OnlineFacts) (loaded : HasLoaded 
         refuses = refuses_by disc rack o loaded after taken.reads new same NoMemory (rose_by NoMemory taken) (kept_by NoMemory taken) read stop
             (λ told belong s devices. left_same disc rack o loaded after taken.reads new same NoMemory (rose_by NoMemory taken) (kept_by NoMemory taken) read stop s devices);
         first = λ n e. let no : ⊥ = cc in absurd no;
+        none = λ e. let no : ⊥ = cc in absurd no;
+        named = λ serial e. let no : ⊥ = cc in absurd no;
       }
 
   cut_said : Says Stopped
