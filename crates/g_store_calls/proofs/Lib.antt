@@ -2,6 +2,7 @@ pub mod AddLemmas
 pub mod BudgetLemmas
 pub mod CalmLemmas
 pub mod EraseLemmas
+pub mod FirstLemmas
 pub mod KindLemmas
 pub mod MarkLemmas
 pub mod NamedLemmas

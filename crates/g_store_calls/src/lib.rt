@@ -5,6 +5,8 @@ mod answering;
 mod changing;
 mod setting;
 mod telling;
+#[cfg(test)]
+mod tests;
 
 pub use answering::change;
 pub use changing::{erase, new_user};
