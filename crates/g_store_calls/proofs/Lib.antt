@@ -14,6 +14,7 @@ pub mod CalmLemmas
 pub mod EraseLemmas
 pub mod FetchLemmas
 pub mod HereLemmas
+pub mod FirstLemmas
 pub mod KindLemmas
 pub mod MakeLemmas
 pub mod MarkLemmas

@@ -8,6 +8,8 @@ mod fetching;
 mod putting;
 mod setting;
 mod telling;
+#[cfg(test)]
+mod tests;
 
 pub use answering::change;
 pub use appending::append;
