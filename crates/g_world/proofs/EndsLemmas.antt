@@ -28,17 +28,19 @@ use Rattle.g_script.specs.declared.operator.Operator.TheVariants as line
 use Rattle.g_script.specs.declared.operator.Timed.{Timed}
 use Rattle.g_step.specs.CallStep.{CallStep, Outcome, Plain}
 use Rattle.g_step.specs.DumpSteps.{Completed, Going, Stepped as DumpStepped}
+use Rattle.g_step.specs.Laws.{AnswersPlainly}
 use Rattle.g_step.specs.Rising.{FormatStep, RestoreStep, StartStep}
 use Rattle.g_step.specs.State.{Holding, OpenDump, State}
 use Rattle.g_world.specs.Events.{IsMigration, IsOpening, IsTold}
-use Rattle.g_world.specs.Laws.{IsTimed, RunsEnd, TakesUnit, charged_in, free_in, is_mount, lines_done}
+use Rattle.g_world.specs.Laws.{IsTimed, RunsEnd, charged_in, free_in, is_mount, lines_done}
 use Rattle.g_world.specs.Lines.{LineGives, Shuts, job_line, job_refusal, line_refused, now_stands, taken_in, tells, up_with}
 use Rattle.g_world.specs.Moves.{Answered, Begin, Dumped, Move, Over, Run, Step, TakeLine, Ticked, TurnOver, dump_told, turn_told}
 use Rattle.g_world.specs.Texts.{dump_text, started_text, tape_text}
 use Rattle.g_world.specs.World.{World, job_of, start}
 use Rattle.g_world.proofs.CrewLemmas.{no_job, number_of, numbered, one_job}
 use Rattle.g_world.proofs.MountLemmas.{NoMount, call_mounts, dump_mounts, format_mounts, migrate_mounts, open_mounts, restore_mounts, start_mounts, unmount_mounts, wait_unmounted}
-use Rattle.g_world.proofs.TakenLemmas.{IsCandid, IsTaken, IsTakenIn, Turned, charged_over, crew_after, free_over, one_if, taken_answer, taken_begin, taken_gone, taken_mount, taken_on, taken_push}
+use Rattle.g_world.proofs.PricedLemmas.{units_taken}
+use Rattle.g_world.proofs.TakenLemmas.{IsCandid, IsTaken, IsTakenIn, TakesUnit, Turned, charged_over, crew_after, free_over, one_if, taken_answer, taken_begin, taken_gone, taken_mount, taken_on, taken_push}
 
 -- a program that was answered waits at once, or was stopped, or says so when it does
 candid_on : (s : State) (k : Holding) (who : List ℕ) (call : StoreCall) (o : Outcome) (more : Answer → Asks Work) (answer : Answer) (new : State) → CallStep s k who call o answer new
@@ -331,9 +333,11 @@ module _ {F U : Type 0} (tariffs : Shared F (Bor Usage × Unit {0}) Charge) (tar
       let sum : sum_by (charged_in n) (front ++ back) ≡ all_in (charged_in n) (front ++ back) = sums (charged_in n) (front ++ back) in
       omega (arith, most, one, two, both, sum)
 
-  pub runs_end : RunsEnd tariffs tariff rules rule
-  runs_end lines bad s moves last units timed run n = (
-    frees lines bad s moves last (recursion_from_All IsTimed lines timed) run n,
-    λ front back w job is first later here. subst (λ (ms : List Move). sum_by (charged_in n) ms ≤ job.allowance) (sym is)
-        (charges lines bad s front back w last (recursion_from_All IsTimed lines timed) (subst (λ (ms : List Move). AllByRecursion TakesUnit ms) is units) first later n job here),
-  )
+  pub runs_end : AnswersPlainly → RunsEnd tariffs tariff rules rule
+  runs_end plainly lines bad s moves last fair timed short run n =
+      let units = units_taken tariffs tariff rules rule plainly fair lines bad s moves last short run in
+      (
+        frees lines bad s moves last (recursion_from_All IsTimed lines timed) run n,
+        λ front back w job is first later here. subst (λ (ms : List Move). sum_by (charged_in n) ms ≤ job.allowance) (sym is)
+            (charges lines bad s front back w last (recursion_from_All IsTimed lines timed) (subst (λ (ms : List Move). AllByRecursion TakesUnit ms) is units) first later n job here),
+      )

@@ -15,8 +15,11 @@ pub mod MountLemmas
 pub mod OneTextLemmas
 pub mod OpenAlikeLemmas
 pub mod OverLemmas
+pub mod PricedLemmas
+pub mod ShareLemmas
 pub mod ShortLemmas
 pub mod StepLemmas
+pub mod StoreLemmas
 pub mod TakenLemmas
 pub mod ToldLemmas
 pub mod TreeLemmas

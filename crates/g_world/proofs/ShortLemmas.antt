@@ -92,7 +92,7 @@ held_down : (h : Option Holding) → IfSome h (λ k. IsShort k.tree) → IfSome 
 held_down None h = tt
 held_down (Some k) h = h
 
-short_down : (s : State) → AreShort s → AreShort (down s)
+pub short_down : (s : State) → AreShort s → AreShort (down s)
 short_down s h = record { held = held_down s.holding h.held; dumped = h.dumped; opened = tt }
 
 short_of : (s mid new : State) → new ≡ mid → KeepsShort s mid → KeepsShort s new

@@ -45,6 +45,11 @@ use Rattle.g_world.proofs.MountLemmas.{NoMount, call_mounts, dump_mounts, format
 abbrev pub IsCandid : State → Asks Work → Type 0
 IsCandid s p = IsHonest p ⊎ (((serial : ℕ) × StopsAt (Waits serial) p × (is_mounted s serial ≡ false)) ⊎ StopsAt Broken p)
 
+-- the charge of a turn, where there is one, takes a unit at least
+abbrev pub TakesUnit : Move → Type 0
+TakesUnit (TurnOver number (Some charge)) = 1 ≤ charge.units
+TakesUnit move = Unit {0}
+
 abbrev pub one_if : Bool → ℕ
 one_if b = if b then 1 else 0
 
