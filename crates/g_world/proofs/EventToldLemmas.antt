@@ -45,7 +45,7 @@ told_ok reply answer is = record {
   cut = λ e. absurd (let no : ⊥ = cc in no);
 }
 
-told_own : {A : Type 0} (f : StoreFault) (answer : Result A StoreFault) → IsOwn f → answer ≡ Err f → OutcomeTold Plain answer
+pub told_own : {A : Type 0} (f : StoreFault) (answer : Result A StoreFault) → IsOwn f → answer ≡ Err f → OutcomeTold Plain answer
 told_own f answer own is = record {
   told = tt;
   disc_read = λ e. absurd (own_apart f DiscReadFault own (λ x. x) (same_fault f DiscReadFault (sym is ∙ e)));

@@ -20,7 +20,9 @@ pub mod ShareLemmas
 pub mod ShortLemmas
 pub mod StepLemmas
 pub mod StoreLemmas
+pub mod StoreTurnLemmas
 pub mod TakenLemmas
+pub mod TickLemmas
 pub mod ToldLemmas
 pub mod TreeLemmas
 pub mod TurnLemmas
