@@ -1,6 +1,6 @@
 -- A turn's program that was run over a store is a list of moves of the world, as many of which have an outcome as the devices
 -- counted; and so is a front of it, where memory ran out.
-use Rattle.std.proofs.Common.{◌≡◌, ◌⊎◌, ℕ, false, List, [], ◌∷◌, ◌++◌, map, Option, Some, None, slice_get, Err, refl, sym, ap, subst, inl, inr}
+use Rattle.std.proofs.Common.{◌≡◌, ℕ, false, List, [], ◌∷◌, ◌++◌, map, Option, Some, None, slice_get, Err, refl, sym, ap, subst, inl, inr}
 use Rattle.std.specs.Fn.{Shared}
 use denote.Ref.{Bor}
 use Rattle.g_act.specs.State.{Work}
@@ -43,7 +43,7 @@ turn_keeps after (turns.Ended units money) w = record { lines = refl; bad = refl
 module _ {F U S : Type 0} (tariffs : Shared F (Bor Usage × Unit {0}) Charge) (tariff : F) (rules : Shared U (Bor Standing × Unit {0}) ℕ) (rule : U)
     (answers : S → List ℕ → StoreCall → Answer → S → Type 0) (who : List ℕ) (IsNow : S → State → Type 0) (devices : S → Devices)
     (leads : (s : S) (t : State) (call : StoreCall) (answer : Answer) (next : S) → IsNow s t → answers s who call answer next → IsAnswer answer
-        → (o : Outcome) × (t2 : State) × IsCall t who call o answer t2 × IsNow next t2 × EventCounted o 0 0 (devices s) (devices next)) where
+    → (o : Outcome) × (t2 : State) × IsCall t who call o answer t2 × IsNow next t2 × EventCounted o 0 0 (devices s) (devices next)) where
   -- one call is one move
   one_then : (o : Outcome) (moves : List Move) (old mid new : S) → EventCounted o 0 0 (devices old) (devices mid) → MovesCounted moves 0 0 (devices mid) (devices new) → MovesCounted (Answered o ∷ moves) 0 0 (devices old) (devices new)
   one_then o moves old mid new one rest = moves_then (Answered o ∷ []) moves 0 0 0 0 (devices old) (devices mid) (devices new) (move_counted (Answered o) 0 0 (devices old) (devices mid) one) rest
@@ -84,7 +84,7 @@ turned_world w number t work turn after = record (turn_told after turn (with_tur
 module _ {F U S : Type 0} (tariffs : Shared F (Bor Usage × Unit {0}) Charge) (tariff : F) (rules : Shared U (Bor Standing × Unit {0}) ℕ) (rule : U)
     (answers : S → List ℕ → StoreCall → Answer → S → Type 0) (IsNow : S → State → Type 0) (devices : S → Devices) (w : World) (job : JobState) (place : ℕ)
     (leads : (s : S) (t : State) (call : StoreCall) (answer : Answer) (next : S) → IsNow s t → answers s job.user call answer next → IsAnswer answer
-        → (o : Outcome) × (t2 : State) × IsCall t job.user call o answer t2 × IsNow next t2 × EventCounted o 0 0 (devices s) (devices next))
+    → (o : Outcome) × (t2 : State) × IsCall t job.user call o answer t2 × IsNow next t2 × EventCounted o 0 0 (devices s) (devices next))
     (idle : w.turn ≡ None) (undue : is_due w ≡ false) (ready : MayBegin tariffs tariff rules rule w) (chosen : IsChosen rules rule (map standing_of (able w)) place) (there : slice_get (able w) place ≡ Some job) (here : job_of w job.number ≡ Some job) where
   -- a turn begins, without any device
   begin_then : (moves : List Move) (old new : S) → MovesCounted moves 0 0 (devices old) (devices new) → MovesCounted (Begin job.number ∷ moves) 0 0 (devices old) (devices new)
@@ -109,8 +109,7 @@ module _ {F U S : Type 0} (tariffs : Shared F (Bor Usage × Unit {0}) Charge) (t
       let begun : World = with_turn (in_turn tariffs tariff rules rule w) w.store job.number (turn_work job) in
       let asked : World = with_turn (in_turn tariffs tariff rules rule w) held.1 job.number (Gives work) in
       let told : World = turned_world w job.number held.1 work turn after in
-      let over : Run tariffs tariff rules rule asked (TurnOver job.number charge ∷ []) told = (told, (work, job, turn, after, refl, here, priced, ends, refl), refl) in
-      (
+      let over : Run tariffs tariff rules rule asked (TurnOver job.number charge ∷ []) told = (told, (work, job, turn, after, refl, here, priced, ends, refl), refl) in (
         Begin job.number ∷ (held.0 ++ TurnOver job.number charge ∷ []),
         held.1,
         held.3,
@@ -126,8 +125,7 @@ module _ {F U S : Type 0} (tariffs : Shared F (Bor Usage × Unit {0}) Charge) (t
       × KeepsLines w (with_turn (in_turn tariffs tariff rules rule w) t job.number rest)
   turn_in_part forgets old new now ran =
       let part = part_counted tariffs tariff rules rule answers job.user IsNow devices leads forgets (in_turn tariffs tariff rules rule w) w.store job.number job old (turn_work job) new here refl now ran in
-      let begun : World = with_turn (in_turn tariffs tariff rules rule w) w.store job.number (turn_work job) in
-      (
+      let begun : World = with_turn (in_turn tariffs tariff rules rule w) w.store job.number (turn_work job) in (
         Begin job.number ∷ part.0,
         part.1,
         part.2,

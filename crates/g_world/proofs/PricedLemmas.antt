@@ -1,5 +1,5 @@
 -- Every turn keeps its limits, and so a tariff charges a unit at least.
-use Rattle.std.proofs.Common.{◌≡◌, ◌⊎◌, ◌≤◌, ◌+◌, ◌-◌, ◌==◌, ◌++◌, ℕ, Bool, true, false, cond, not, List, [], ◌∷◌, filter, length, Option, Some, None, IfSome, slice_get, Result, Ok, Err, MatchBool, codes, if◌then◌else◌, refl, sym, ◌∙◌, ap, subst, inl, inr, eqb-true, lit≤, arith}
+use Rattle.std.proofs.Common.{◌≡◌, ◌⊎◌, ◌≤◌, ◌+◌, ◌==◌, ◌++◌, ℕ, Bool, true, false, not, List, [], ◌∷◌, filter, length, Option, Some, None, IfSome, slice_get, Result, Ok, Err, MatchBool, codes, if◌then◌else◌, refl, sym, ◌∙◌, ap, subst, inl, inr, eqb-true, lit≤, arith}
 use Rattle.std.proofs.lemmas.Option.{some_pair_parts}
 use Rattle.std.specs.Fmt.{decimal}
 use Rattle.std.specs.Fn.{Shared}
@@ -14,7 +14,7 @@ use Rattle.g_budget.specs.Tariff.{IsTariff, IsUsage}
 use Rattle.g_budget.specs.declared.tariff.Charge.{Charge}
 use Rattle.g_budget.specs.declared.tariff.Usage.{Usage}
 use Rattle.g_job.specs.Begun.{begin, job_begun, room_of}
-use Rattle.g_job.specs.Ends.{behind_turn, charged, end_by, is_money_up, is_time_up, turn_end, up_line}
+use Rattle.g_job.specs.Ends.{behind_turn, charged, end_by, is_money_up, is_time_up, up_line}
 use Rattle.g_job.specs.State.{JobState}
 use Rattle.g_job.specs.Turns.{turn_work}
 use Rattle.g_job.specs.declared.turn.Turn.{Turn}
@@ -39,7 +39,7 @@ use Rattle.g_world.specs.Lines.{LineGives, Shuts, job_line, job_refusal, line_re
 use Rattle.g_world.specs.Moves.{Answered, Begin, Dumped, Move, Over, Run, Step, TakeLine, Ticked, TurnOver, dump_told, turn_told}
 use Rattle.g_world.specs.Texts.{dump_text, started_text, tape_text}
 use Rattle.g_world.specs.World.{World, can_step, start, with_job, without_job}
-use Rattle.g_world.proofs.CrewLemmas.{AreRising, found_other, found_push, found_same, left_none, left_other, listed, no_job, number_of, numbered, one_job, rising_filter, rising_push, rising_with}
+use Rattle.g_world.proofs.CrewLemmas.{AreRising, found_other, found_push, found_same, left_none, left_other, listed, no_job, numbered, one_job, rising_filter, rising_push, rising_with}
 use Rattle.g_world.proofs.ShortLemmas.{KeepsShort, call_short, dump_short, format_short, may_answer, migrate_short, mount_short, open_short, restore_short, short_down, start_short, unmount_short}
 use Rattle.g_world.proofs.TakenLemmas.{TakesUnit, crew_after}
 

@@ -1,5 +1,5 @@
 -- What the jobs of a run have left, as sums: behind a job that goes on as another, that is gone, or that comes.
-use Rattle.std.proofs.Common.{◌≡◌, ◌<◌, ◌≤◌, ◌+◌, ◌-◌, ◌==◌, ℕ, zero, suc, Bool, true, false, cond, not, List, [], ◌∷◌, ◌++◌, map, filter, find, length, sum_by, Option, Some, None, get_or, take, drop, remove, add-one, refl, sym, ◌∙◌, ap, subst, if◌then◌else◌, eqb-true, ne_eqb, arith}
+use Rattle.std.proofs.Common.{◌≡◌, ◌<◌, ◌≤◌, ◌+◌, ◌-◌, ◌==◌, ℕ, Bool, true, false, cond, not, List, [], ◌∷◌, ◌++◌, length, sum_by, Some, None, get_or, take, drop, remove, add-one, refl, sym, ◌∙◌, ap, if◌then◌else◌, eqb-true, ne_eqb, arith}
 use Rattle.std.proofs.lemmas.List.Sums.{sum_by-append, sum_by-cons, sum_by-drop_more, sum_by-take-drop}
 use Rattle.g_job.specs.State.{JobState}
 use Rattle.g_world.specs.World.{with_job, without_job}

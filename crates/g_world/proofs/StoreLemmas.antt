@@ -1,15 +1,14 @@
 -- How a store answers a call, as an event of a run.
-use Rattle.std.proofs.Common.{◌≡◌, ℕ, true, false, List, Option, Some, Result, Ok, Err, refl, sym, ◌∙◌, ap, subst}
+use Rattle.std.proofs.Common.{◌≡◌, ℕ, List, Err, refl, sym, subst}
 use Rattle.std.proofs.lemmas.Bool.{false≢true}
 use Rattle.g_name.specs.declared.full.Full.{Full}
 use Rattle.g_plain.specs.Asks.{Answer, IsAnswer}
 use Rattle.g_plain.specs.declared.calls.StoreCall.{StoreCall}
-use Rattle.g_plain.specs.declared.faults.StoreFault.{StoreFault}
 use Rattle.g_plain.specs.declared.faults.StoreFault.TheVariants.{NoCopy, NoMemory, Stopped}
 use Rattle.g_state.specs.Answers.{Answers, Belongs, From, Leads, Steps, Told}
 use Rattle.g_state.specs.Reading.{StandsForState}
 use Rattle.g_state.specs.Up.{StoreFacts}
-use Rattle.g_step.specs.CallStep.{CallStep, Outcome}
+use Rattle.g_step.specs.CallStep.{Outcome}
 use Rattle.g_step.specs.State.{State}
 use Rattle.g_world.specs.Events.{IsCall, OutcomeTold}
 use Rattle.g_world.proofs.EventToldLemmas.{call_told}

@@ -1,5 +1,5 @@
 -- A turn over a store whose devices tell and belong together, as moves of a run.
-use Rattle.std.proofs.Common.{◌≡◌, ◌⊎◌, ℕ, false, List, map, Option, Some, None, slice_get, Err, refl, sym, ap, subst}
+use Rattle.std.proofs.Common.{◌≡◌, ℕ, false, List, map, Some, None, slice_get, Err, refl}
 use Rattle.std.specs.Fn.{Shared}
 use denote.Ref.{Bor}
 use Rattle.g_act.specs.State.{Work}

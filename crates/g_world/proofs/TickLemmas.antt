@@ -1,5 +1,5 @@
 -- The moves of a tick, and of a line, each with what it leaves and what it adds to the text.
-use Rattle.std.proofs.Common.{◌≡◌, ◌⊎◌, ◌+◌, ◌&&◌, ℕ, Bool, true, false, not, List, [], ◌∷◌, ◌++◌, Option, Some, None, Result, Ok, Err, is_some, codes, append_assoc, append-nil, refl, sym, ◌∙◌, ap, subst, inl, inr}
+use Rattle.std.proofs.Common.{◌≡◌, ◌⊎◌, ◌+◌, ℕ, true, false, List, [], ◌∷◌, ◌++◌, Option, Some, None, Result, Ok, Err, is_some, codes, append_assoc, append-nil, refl, sym, ap}
 use Rattle.std.specs.Fmt.{decimal}
 use Rattle.std.specs.Fn.{Shared}
 use denote.Ref.{Bor}
@@ -18,7 +18,7 @@ use Rattle.g_step.specs.DumpSteps.{Completed, DumpStep, Going, Stepped as DumpSt
 use Rattle.g_step.specs.State.{Holding, OpenDump, State}
 use Rattle.g_world.specs.Events.{IsDumpStep, OutcomeTold}
 use Rattle.g_world.specs.Lines.{LineGives}
-use Rattle.g_world.specs.Moves.{Dumped, Move, Over, Run, TakeLine, Ticked, dump_told, turn_told}
+use Rattle.g_world.specs.Moves.{Dumped, Over, Run, TakeLine, Ticked, dump_told, turn_told}
 use Rattle.g_world.specs.Texts.{broken_files, dump_text, job_text, operator_line}
 use Rattle.g_world.specs.World.{Between, KeepsLines, Stepped, Turned, World, able, closed, has_none, is_due, nothing_steps, with_job}
 use Rattle.g_world.proofs.EventToldLemmas.{dump_told as step_told}
