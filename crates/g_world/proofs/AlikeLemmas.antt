@@ -1,30 +1,30 @@
 -- Events of two states that differ in first blocks of copies alone, in which no device failed: they have one answer, and leave
 -- two such states.
-use Rattle.std.proofs.Common.{◌≡◌, ◌≢◌, ◌⊎◌, ◌+◌, ◌-◌, ◌<◌, ◌≤◌, ◌&&◌, ◌||◌, ◌==◌, ◌++◌, ℕ, Bool, true, false, cond, not, List, [], ◌∷◌, length, map, flat_map, sum_by, filter, Option, Some, None, option_map, is_some, is_none, unwrap_or, Result, Ok, Err, MatchOption, IfSome, nat_lt, nat_le, if◌then◌else◌, refl, sym, ◌∙◌, ap, subst, inl, inr, arith}
-use Rattle.std.proofs.lemmas.Bool.{false≢true, lt-ltb}
-use Rattle.std.specs.List.{list_all, list_any}
+use Rattle.std.proofs.Common.{◌≡◌, ◌||◌, ℕ, Bool, true, false, not, List, [], ◌∷◌, Option, Some, None, option_map, is_some, is_none, Result, Ok, Err, MatchOption, if◌then◌else◌, refl, sym, ◌∙◌, ap, subst, inl, inr, arith}
+use Rattle.std.proofs.lemmas.Bool.{false≢true}
+use Rattle.std.specs.List.{list_all}
 use Rattle.std.specs.Ordering.{nat_cmp}
-use Rattle.std.specs.FinMap.{FinMap, empty, entries, from_entries, get, insert, len}
+use Rattle.std.specs.FinMap.{FinMap, empty, get}
 use Rattle.g_entry.specs.declared.file_rec.TapeCopy.{TapeCopy}
 use Rattle.g_entry.specs.declared.head.Intent.{Intent}
 use Rattle.g_name.specs.declared.full.Full.{Full}
 use Rattle.g_name.specs.declared.path.Path.{Path}
 use Rattle.g_plain.specs.Asks.{Answer}
 use Rattle.g_plain.specs.PlainStep.{first_fault}
-use Rattle.g_plain.specs.PlainTree.{FileRow, Tree, formatted, has_file, has_user, input_name}
+use Rattle.g_plain.specs.PlainTree.{formatted, has_file, has_user, input_name}
 use Rattle.g_plain.specs.declared.calls.StoreCall.{StoreCall}
 use Rattle.g_plain.specs.declared.faults.StoreFault.{StoreFault}
 use Rattle.g_plain.specs.declared.faults.StoreFault.TheVariants.{DiscReadFault, MountFirst, NoDump, NoFile, NoTape, NoUser, NotDumped, NotMounted, Offline, RackNotMounted, Stopped, TapeBusy, TapeReadFault}
 use Rattle.g_step.specs.Laws.{StepIsOne}
-use Rattle.g_step.specs.CallStep.{CallStep, Cut, DiscRead, Outcome, Plain, commits, stamp_of}
-use Rattle.g_step.specs.DumpSteps.{Completed, DumpStep, Event, Going, MigrateStep, MountStep, OpenStep, Stepped as DumpStepped, UnmountStep, completed, is_busy, kept_now, migrate_refuses, noted_copy, open_number, open_refuses, uses, with_mounted, with_noted}
-use Rattle.g_step.specs.Rising.{FormatStep, IsLost, RestoreStep, Restores, StartStep, Starts, adopted, coming_up, dump_adopted, fault_from, has_none, is_completed, other_copy, restore_early, restore_late, restored, start_refuses, stands_on, unmounted_reel}
-use Rattle.g_step.specs.State.{Dumped as DumpedTree, Holding, OpenDump, Place, ReelRow, State, first_reel, is_mounted, lacks, place_at, with_online, with_reel}
-use Rattle.g_world.specs.Events.{IsCall, IsDumpStep, IsMigration, IsMounting, IsTold, IsUnmounting}
+use Rattle.g_step.specs.CallStep.{CallStep, Outcome, Plain, commits, stamp_of}
+use Rattle.g_step.specs.DumpSteps.{Completed, DumpStep, Event, Going, MountStep, Stepped as DumpStepped, UnmountStep, completed, is_busy, kept_now, migrate_refuses, noted_copy, uses, with_mounted}
+use Rattle.g_step.specs.Rising.{FormatStep, RestoreStep, Restores, StartStep, Starts, adopted, coming_up, dump_adopted, fault_from, has_none, is_completed, other_copy, restore_early, restore_late, restored, start_refuses, unmounted_reel}
+use Rattle.g_step.specs.State.{Dumped as DumpedTree, Holding, OpenDump, Place, State, first_reel, is_mounted, lacks, place_at, with_online, with_reel}
+use Rattle.g_world.specs.Events.{IsCall, IsDumpStep, IsMigration}
 use Rattle.g_world.specs.Laws.{HasDumped}
-use Rattle.g_world.proofs.BareLemmas.{bare_copies, bare_copy, bare_dumped, bare_holding, bare_open, bare_place, bare_places, bare_state, call_bare, commits_bare, intent_bare, none_bare, place_at_bare, some_bare, with_online_bare}
-use Rattle.g_world.proofs.EventToldLemmas.{GoesWith, IsOwn, IsOwnOf, early_goes, format_goes, format_refuses, late_goes, migrate_goes, start_goes}
-use Rattle.g_world.proofs.MappedLemmas.{get-mapped, mapped, mapped-mapped}
+use Rattle.g_world.proofs.BareLemmas.{bare_copies, bare_copy, bare_dumped, bare_holding, bare_open, bare_place, bare_state, call_bare, commits_bare, none_bare, place_at_bare, with_online_bare}
+use Rattle.g_world.proofs.EventToldLemmas.{GoesWith, IsOwnOf, format_goes, format_refuses, late_goes, migrate_goes, start_goes}
+use Rattle.g_world.proofs.MappedLemmas.{get-mapped, mapped-mapped}
 
 -- one answer, and states that are alike
 abbrev pub AreSame : {A : Type 0} → A → A → State → State → Type 0
@@ -67,7 +67,7 @@ calls_alike step_is_one s t who call a b new other same (k, holds, step, so) (h,
     let one : CallStep (bare_state s) (bare_holding k) who call Plain a (bare_state new) = call_bare s k who call a new step in
     let two : CallStep (bare_state t) (bare_holding h) who call Plain b (bare_state other) = call_bare t h who call b other step2 in
     let here : CallStep (bare_state s) (bare_holding k) who call Plain b (bare_state other) =
-        subst (λ (x : State). CallStep x (bare_holding k) who call Plain b (bare_state other)) (sym same) (subst (λ (x : Holding). CallStep (bare_state t) x who call Plain b (bare_state other)) (sym held) two) in
+    subst (λ (x : State). CallStep x (bare_holding k) who call Plain b (bare_state other)) (sym same) (subst (λ (x : Holding). CallStep (bare_state t) x who call Plain b (bare_state other)) (sym held) two) in
     step_is_one (bare_state s) (bare_holding k) who call a b (bare_state new) (bare_state other) one here
 
 -- FORMAT

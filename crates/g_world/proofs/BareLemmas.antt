@@ -1,20 +1,20 @@
 -- States without the first blocks of copies on tape: which blocks those are tells nobody anything.
-use Rattle.std.proofs.Common.{◌≡◌, ◌≢◌, ◌⊎◌, ◌+◌, ◌-◌, ◌<◌, ◌≤◌, ◌&&◌, ◌||◌, ◌==◌, ℕ, Bool, true, false, T, cond, not, List, [], ◌∷◌, ◌++◌, length, map, sum_by, filter, Option, Some, None, option_map, is_some, is_none, unwrap_or, Result, Ok, Err, MatchOption, nat_lt, if◌then◌else◌, refl, sym, ◌∙◌, ap, subst, inl, inr, arith}
+use Rattle.std.proofs.Common.{◌≡◌, ◌⊎◌, ◌+◌, ◌-◌, ◌<◌, ◌≤◌, ◌&&◌, ◌||◌, ℕ, Bool, true, false, not, List, [], ◌∷◌, sum_by, Option, Some, None, option_map, is_some, is_none, unwrap_or, Result, Ok, Err, MatchOption, nat_lt, if◌then◌else◌, refl, sym, ◌∙◌, ap, subst, inl, inr}
 use Rattle.std.specs.Ordering.{nat_cmp}
-use Rattle.std.specs.FinMap.{FinMap, empty, entries, get, insert, remove}
+use Rattle.std.specs.FinMap.{FinMap, entries, get, insert, remove}
 use Rattle.g_base.specs.Block.{blocks_for}
 use Rattle.g_entry.specs.declared.file_rec.TapeCopy.{TapeCopy}
 use Rattle.g_entry.specs.declared.head.Intent.{Intent}
 use Rattle.g_name.specs.declared.full.Full.{Full}
 use Rattle.g_plain.specs.PlainStep.{fault_of, first_fault, plain_tree, reply_to}
-use Rattle.g_plain.specs.PlainTree.{FileRow, Tree, file_row, input_name, output_name}
+use Rattle.g_plain.specs.PlainTree.{FileRow, Tree, input_name, output_name}
 use Rattle.g_plain.specs.declared.calls.StoreCall.{StoreCall}
 use Rattle.g_plain.specs.declared.calls.StoreCall.TheVariants as call
 use Rattle.g_plain.specs.declared.calls.StoreReply.{StoreReply}
 use Rattle.g_plain.specs.declared.faults.StoreFault.{StoreFault}
 use Rattle.g_plain.specs.declared.faults.StoreFault.TheVariants.{DiscFull, DiscReadFault, Stopped, TapeReadFault, WaitTape}
-use Rattle.g_step.specs.CallStep.{CallStep, IsUnjam, LeftByRefusal, Plain, Planned, after_call, brings, brings_now, changes, commits, copy_serial, down, early, held_after, is_offline, kept_intent, late, len_of, need, new_blocks, no_longer_kept, place_of, places_after, reel_of, room_until, stamp_of, touched_by, version_read, with_version, writes}
-use Rattle.g_step.specs.State.{Dumped as DumpedTree, Holding, OpenDump, Place, State, blocks_of, fresh, held_blocks, is_candidate, is_mounted, is_taken, offline_before, online_blocks, only_if, place_at, room, taken_blocks, taken_offline, with_online, without_all}
+use Rattle.g_step.specs.CallStep.{CallStep, IsUnjam, LeftByRefusal, Plain, Planned, after_call, brings, brings_now, changes, commits, copy_serial, down, early, held_after, is_offline, kept_intent, len_of, need, new_blocks, no_longer_kept, place_of, places_after, reel_of, room_until, stamp_of, touched_by, version_read, with_version, writes}
+use Rattle.g_step.specs.State.{Dumped as DumpedTree, Holding, OpenDump, Place, State, blocks_of, fresh, held_blocks, is_candidate, is_mounted, is_taken, online_blocks, only_if, place_at, room, taken_blocks, taken_offline, with_online, without_all}
 use Rattle.g_world.proofs.MappedLemmas.{get-mapped, mapped, mapped-insert, mapped-mapped, mapped-remove}
 
 abbrev pub bare_copy : TapeCopy → TapeCopy
@@ -180,7 +180,7 @@ module _ (s : State) (k : Holding) (who : List ℕ) (call : StoreCall) where
       ≡ with_parts (places_after k.tree who call (taken_offline until (bare_holding k)).places) (kept_intent (option_map bare_open s.open_dump) k.intent) (option_map (touched_by (bare_state s) (bare_holding k) who call) (option_map bare_open s.open_dump))
   parts_bare until =
       ap (λ (m : FinMap nat_cmp Place). with_parts m (kept_intent s.open_dump k.intent) (option_map bare_open (option_map (touched_by s k who call) s.open_dump)))
-          (places_after_bare k.tree who call (taken_offline until k).places ∙ ap (λ (m : FinMap nat_cmp Place). places_after k.tree who call m) (offline_places_bare until k))
+      (places_after_bare k.tree who call (taken_offline until k).places ∙ ap (λ (m : FinMap nat_cmp Place). places_after k.tree who call m) (offline_places_bare until k))
       ∙ ap (λ (i : Option Intent). with_parts (places_after k.tree who call (taken_offline until (bare_holding k)).places) i (option_map bare_open (option_map (touched_by s k who call) s.open_dump))) (sym (intent_bare s.open_dump k.intent))
       ∙ ap (λ (d : Option OpenDump). with_parts (places_after k.tree who call (taken_offline until (bare_holding k)).places) (kept_intent (option_map bare_open s.open_dump) k.intent) d) (open_bare s.open_dump)
 

@@ -1,6 +1,6 @@
 -- What the devices count, event by event.
-use Rattle.std.proofs.Common.{◌≡◌, ℕ, ◌+◌, ◌++◌, List, [], ◌∷◌, refl, sym, ◌∙◌, ap, subst, arith}
-use Rattle.g_base.specs.Counts.{HasRisenBy, RoseBy}
+use Rattle.std.proofs.Common.{◌≡◌, ℕ, ◌+◌, ◌++◌, List, [], ◌∷◌, refl, sym, ◌∙◌, subst, arith}
+use Rattle.g_base.specs.Counts.{HasRisenBy}
 use Rattle.g_base.proofs.CountLemmas.{HasRisenBy-none, HasRisenBy-then, RoseBy-none, RoseBy-then}
 use Rattle.g_step.specs.CallStep.{Outcome}
 use Rattle.g_world.specs.Devices.{Devices}

@@ -1,6 +1,6 @@
 -- A turn's program that was run over a store is a list of moves of the world, as many of which have an outcome as the devices
 -- counted; and so is a front of it, where memory ran out.
-use Rattle.std.proofs.Common.{◌≡◌, ◌⊎◌, ℕ, false, List, [], ◌∷◌, ◌++◌, map, Option, Some, None, slice_get, Err, refl, sym, ap, subst, inl, inr}
+use Rattle.std.proofs.Common.{◌≡◌, ℕ, false, List, [], ◌∷◌, ◌++◌, map, Option, Some, None, slice_get, Err, refl, sym, ap, subst, inl, inr}
 use Rattle.std.specs.Fn.{Shared}
 use denote.Ref.{Bor}
 use Rattle.g_act.specs.State.{Work}
@@ -22,7 +22,7 @@ use Rattle.g_step.specs.State.{State}
 use Rattle.g_world.specs.Devices.{Devices}
 use Rattle.g_world.specs.Events.{IsCall}
 use Rattle.g_world.specs.Moves.{Answered, Begin, EventCounted, Move, MovesCounted, Run, TurnOver, turn_told}
-use Rattle.g_world.specs.World.{KeepsLines, Turned, World, able, is_due, job_of}
+use Rattle.g_world.specs.World.{KeepsLines, Stepped, Turned, World, able, is_due, job_of}
 use Rattle.g_world.proofs.CountLemmas.{event_none, move_counted, moves_then}
 use Rattle.g_world.proofs.TurnLemmas.{MayBegin, in_turn, run_append, with_turn}
 
@@ -43,7 +43,7 @@ turn_keeps after (turns.Ended units money) w = record { lines = refl; bad = refl
 module _ {F U S : Type 0} (tariffs : Shared F (Bor Usage × Unit {0}) Charge) (tariff : F) (rules : Shared U (Bor Standing × Unit {0}) ℕ) (rule : U)
     (answers : S → List ℕ → StoreCall → Answer → S → Type 0) (who : List ℕ) (IsNow : S → State → Type 0) (devices : S → Devices)
     (leads : (s : S) (t : State) (call : StoreCall) (answer : Answer) (next : S) → IsNow s t → answers s who call answer next → IsAnswer answer
-        → (o : Outcome) × (t2 : State) × IsCall t who call o answer t2 × IsNow next t2 × EventCounted o 0 0 (devices s) (devices next)) where
+    → (o : Outcome) × (t2 : State) × IsCall t who call o answer t2 × IsNow next t2 × EventCounted o 0 0 (devices s) (devices next)) where
   -- one call is one move
   one_then : (o : Outcome) (moves : List Move) (old mid new : S) → EventCounted o 0 0 (devices old) (devices mid) → MovesCounted moves 0 0 (devices mid) (devices new) → MovesCounted (Answered o ∷ moves) 0 0 (devices old) (devices new)
   one_then o moves old mid new one rest = moves_then (Answered o ∷ []) moves 0 0 0 0 (devices old) (devices mid) (devices new) (move_counted (Answered o) 0 0 (devices old) (devices mid) one) rest
@@ -77,10 +77,14 @@ module _ {F U S : Type 0} (tariffs : Shared F (Bor Usage × Unit {0}) Charge) (t
         let step : IsCall s job.user call one.0 r.0 one.1 = subst (λ (u : List ℕ). IsCall s u call one.0 r.0 one.1) (sym user) one.2 in
         (Answered one.0 ∷ rest.0, rest.1, rest.2, (with_turn w one.1 number (more r.0), (number, call, more, job, r.0, one.1, refl, here, step, r.3, refl), rest.3), rest.4, one_then one.0 rest.0 old r.1 new one.4 rest.5)
 
+-- the world behind a turn
+abbrev pub turned_world : World → ℕ → State → Work → Turn → JobState → World
+turned_world w number t work turn after = record (turn_told after turn (with_turn (record w { phase = Stepped }) t number (Gives work))) { turn = None; phase = Turned }
+
 module _ {F U S : Type 0} (tariffs : Shared F (Bor Usage × Unit {0}) Charge) (tariff : F) (rules : Shared U (Bor Standing × Unit {0}) ℕ) (rule : U)
     (answers : S → List ℕ → StoreCall → Answer → S → Type 0) (IsNow : S → State → Type 0) (devices : S → Devices) (w : World) (job : JobState) (place : ℕ)
     (leads : (s : S) (t : State) (call : StoreCall) (answer : Answer) (next : S) → IsNow s t → answers s job.user call answer next → IsAnswer answer
-        → (o : Outcome) × (t2 : State) × IsCall t job.user call o answer t2 × IsNow next t2 × EventCounted o 0 0 (devices s) (devices next))
+    → (o : Outcome) × (t2 : State) × IsCall t job.user call o answer t2 × IsNow next t2 × EventCounted o 0 0 (devices s) (devices next))
     (idle : w.turn ≡ None) (undue : is_due w ≡ false) (ready : MayBegin tariffs tariff rules rule w) (chosen : IsChosen rules rule (map standing_of (able w)) place) (there : slice_get (able w) place ≡ Some job) (here : job_of w job.number ≡ Some job) where
   -- a turn begins, without any device
   begin_then : (moves : List Move) (old new : S) → MovesCounted moves 0 0 (devices old) (devices new) → MovesCounted (Begin job.number ∷ moves) 0 0 (devices old) (devices new)
@@ -90,11 +94,7 @@ module _ {F U S : Type 0} (tariffs : Shared F (Bor Usage × Unit {0}) Charge) (t
   over_then number charge moves old new front =
       moves_then moves (TurnOver number charge ∷ []) 0 0 0 0 (devices old) (devices new) (devices new) front (move_counted (TurnOver number charge) 0 0 (devices new) (devices new) (event_none (devices new)))
 
-  -- the world behind a turn
-  abbrev pub turned_world : State → Work → Turn → JobState → World
-  turned_world t work turn after = record (turn_told after turn (with_turn (in_turn tariffs tariff rules rule w) t job.number (Gives work))) { turn = None; phase = Turned }
-
-  turned_keeps : (t : State) (work : Work) (turn : Turn) (after : JobState) → KeepsLines w (turned_world t work turn after)
+  turned_keeps : (t : State) (work : Work) (turn : Turn) (after : JobState) → KeepsLines w (turned_world w job.number t work turn after)
   turned_keeps t work turn after =
       let told : KeepsLines (with_turn (in_turn tariffs tariff rules rule w) t job.number (Gives work)) (turn_told after turn (with_turn (in_turn tariffs tariff rules rule w) t job.number (Gives work))) = turn_keeps after turn (with_turn (in_turn tariffs tariff rules rule w) t job.number (Gives work)) in
       record { lines = told.lines; bad = told.bad; over = told.over; count = told.count; disc_stops = told.disc_stops; tape_stops = told.tape_stops }
@@ -102,15 +102,14 @@ module _ {F U S : Type 0} (tariffs : Shared F (Bor Usage × Unit {0}) Charge) (t
   -- THE MOVES OF A TURN: it begins, its calls are answered, it is over
   pub turn_counted : (old new : S) (work : Work) (charge : Option Charge) (turn : Turn) (after : JobState)
       → IsNow old w.store → Ran answers job.user old (turn_work job) work new → IsPriced tariffs tariff work charge → turn_end job work charge ≡ Some (turn, after)
-      → (moves : List Move) × (t : State) × IsNow new t × Run tariffs tariff rules rule w moves (turned_world t work turn after) × MovesCounted moves 0 0 (devices old) (devices new)
-      × KeepsLines w (turned_world t work turn after)
+      → (moves : List Move) × (t : State) × IsNow new t × Run tariffs tariff rules rule w moves (turned_world w job.number t work turn after) × MovesCounted moves 0 0 (devices old) (devices new)
+      × KeepsLines w (turned_world w job.number t work turn after)
   turn_counted old new work charge turn after now ran priced ends =
       let held = held_counted tariffs tariff rules rule answers job.user IsNow devices leads (in_turn tariffs tariff rules rule w) w.store job.number job old (turn_work job) work new here refl now ran in
       let begun : World = with_turn (in_turn tariffs tariff rules rule w) w.store job.number (turn_work job) in
       let asked : World = with_turn (in_turn tariffs tariff rules rule w) held.1 job.number (Gives work) in
-      let told : World = turned_world held.1 work turn after in
-      let over : Run tariffs tariff rules rule asked (TurnOver job.number charge ∷ []) told = (told, (work, job, turn, after, refl, here, priced, ends, refl), refl) in
-      (
+      let told : World = turned_world w job.number held.1 work turn after in
+      let over : Run tariffs tariff rules rule asked (TurnOver job.number charge ∷ []) told = (told, (work, job, turn, after, refl, here, priced, ends, refl), refl) in (
         Begin job.number ∷ (held.0 ++ TurnOver job.number charge ∷ []),
         held.1,
         held.3,
@@ -126,8 +125,7 @@ module _ {F U S : Type 0} (tariffs : Shared F (Bor Usage × Unit {0}) Charge) (t
       × KeepsLines w (with_turn (in_turn tariffs tariff rules rule w) t job.number rest)
   turn_in_part forgets old new now ran =
       let part = part_counted tariffs tariff rules rule answers job.user IsNow devices leads forgets (in_turn tariffs tariff rules rule w) w.store job.number job old (turn_work job) new here refl now ran in
-      let begun : World = with_turn (in_turn tariffs tariff rules rule w) w.store job.number (turn_work job) in
-      (
+      let begun : World = with_turn (in_turn tariffs tariff rules rule w) w.store job.number (turn_work job) in (
         Begin job.number ∷ part.0,
         part.1,
         part.2,

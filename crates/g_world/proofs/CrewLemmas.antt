@@ -1,5 +1,5 @@
 -- Lists of jobs: each has a number of its own, those that come are behind the others, and those that go leave the rest.
-use Rattle.std.proofs.Common.{◌≡◌, ◌<◌, ◌≤◌, ◌+◌, ◌==◌, ◌⊎◌, ℕ, zero, suc, Bool, true, false, cond, not, List, [], ◌∷◌, ◌++◌, map, filter, find, Option, Some, None, slice_get, refl, sym, ◌∙◌, ap, subst, inl, inr, if◌then◌else◌, le_trans, eq-eqb, ne_eqb, eqb-true, arith}
+use Rattle.std.proofs.Common.{◌≡◌, ◌<◌, ◌≤◌, ◌+◌, ◌==◌, ◌⊎◌, ℕ, zero, suc, Bool, true, false, cond, not, List, [], ◌∷◌, ◌++◌, filter, find, Option, Some, None, slice_get, refl, sym, ◌∙◌, ap, subst, inl, inr, if◌then◌else◌, le_trans, eq-eqb, ne_eqb, eqb-true, arith}
 use Rattle.g_job.specs.State.{JobState}
 use Rattle.g_world.specs.World.{with_job, without_job}
 
@@ -150,7 +150,7 @@ found_push number [] job found is = by (job.number == number) refl is
     by false e is = no_job found is
 found_push number (k ∷ jobs) job found is = by (k.number == number) is (λ e. found_push number jobs job found e)
   where
-    by : (b : Bool) → cond b (Some k) (numbered number (jobs ++ job ∷ [])) ≡ Some found 
+    by : (b : Bool) → cond b (Some k) (numbered number (jobs ++ job ∷ [])) ≡ Some found
         → (numbered number (jobs ++ job ∷ []) ≡ Some found → (numbered number jobs ≡ Some found) ⊎ ((job.number ≡ number) × (found ≡ job)))
         → (cond b (Some k) (numbered number jobs) ≡ Some found) ⊎ ((job.number ≡ number) × (found ≡ job))
     by true is again = inl is

@@ -1,5 +1,5 @@
 -- A job has at most one more free turn than there were MOUNT lines, and at most its allowance of charged ones.
-use Rattle.std.proofs.Common.{◌≡◌, ◌<◌, ◌≤◌, ◌+◌, ◌-◌, ◌==◌, ◌⊎◌, ℕ, suc, Bool, true, false, cond, not, List, [], ◌∷◌, ◌++◌, All, filter, length, length-append, map, take, sum_by, Option, Some, None, IfSome, slice_get, refl, sym, ◌∙◌, ap, subst, inl, inr, if◌then◌else◌, append_assoc, append-nil, add_assoc, codes, arith}
+use Rattle.std.proofs.Common.{◌≡◌, ◌<◌, ◌≤◌, ◌+◌, ◌-◌, ◌⊎◌, ℕ, Bool, true, false, cond, List, [], ◌∷◌, ◌++◌, filter, length, length-append, take, sum_by, Option, Some, None, refl, sym, ◌∙◌, ap, subst, inl, inr, if◌then◌else◌, append_assoc, codes, arith}
 use Rattle.std.proofs.lemmas.Bool.{false≢true}
 use Rattle.std.proofs.lemmas.List.Elements.{recursion_from_All}
 use Rattle.std.proofs.lemmas.List.Sums.{sum_by-cons}
@@ -8,12 +8,10 @@ use Rattle.std.specs.Prelude.{MatchBool, Result, Ok, Err}
 use Rattle.std.specs.Fmt.{decimal}
 use Rattle.std.specs.Fn.{Shared}
 use denote.Ref.{Bor}
-use Rattle.g_act.specs.Causes.{IsHonest, IsOther}
 use Rattle.g_act.specs.State.{Work}
 use Rattle.g_budget.specs.declared.tariff.Charge.{Charge}
 use Rattle.g_budget.specs.declared.tariff.Usage.{Usage}
 use Rattle.g_job.specs.Begun.{job_begun}
-use Rattle.g_job.specs.Ends.{turn_end}
 use Rattle.g_job.specs.State.{JobState}
 use Rattle.g_job.specs.declared.turn.Turn.{Turn}
 use Rattle.g_job.specs.declared.turn.Turn.TheVariants as turns
@@ -28,17 +26,19 @@ use Rattle.g_script.specs.declared.operator.Operator.TheVariants as line
 use Rattle.g_script.specs.declared.operator.Timed.{Timed}
 use Rattle.g_step.specs.CallStep.{CallStep, Outcome, Plain}
 use Rattle.g_step.specs.DumpSteps.{Completed, Going, Stepped as DumpStepped}
+use Rattle.g_step.specs.Laws.{AnswersPlainly}
 use Rattle.g_step.specs.Rising.{FormatStep, RestoreStep, StartStep}
 use Rattle.g_step.specs.State.{Holding, OpenDump, State}
 use Rattle.g_world.specs.Events.{IsMigration, IsOpening, IsTold}
-use Rattle.g_world.specs.Laws.{IsTimed, RunsEnd, TakesUnit, charged_in, free_in, is_mount, lines_done}
+use Rattle.g_world.specs.Laws.{IsTimed, RunsEnd, charged_in, free_in, is_mount, lines_done}
 use Rattle.g_world.specs.Lines.{LineGives, Shuts, job_line, job_refusal, line_refused, now_stands, taken_in, tells, up_with}
 use Rattle.g_world.specs.Moves.{Answered, Begin, Dumped, Move, Over, Run, Step, TakeLine, Ticked, TurnOver, dump_told, turn_told}
 use Rattle.g_world.specs.Texts.{dump_text, started_text, tape_text}
 use Rattle.g_world.specs.World.{World, job_of, start}
-use Rattle.g_world.proofs.CrewLemmas.{no_job, number_of, numbered, one_job}
+use Rattle.g_world.proofs.CrewLemmas.{no_job, number_of, one_job}
 use Rattle.g_world.proofs.MountLemmas.{NoMount, call_mounts, dump_mounts, format_mounts, migrate_mounts, open_mounts, restore_mounts, start_mounts, unmount_mounts, wait_unmounted}
-use Rattle.g_world.proofs.TakenLemmas.{IsCandid, IsTaken, IsTakenIn, Turned, charged_over, crew_after, free_over, one_if, taken_answer, taken_begin, taken_gone, taken_mount, taken_on, taken_push}
+use Rattle.g_world.proofs.PricedLemmas.{units_taken}
+use Rattle.g_world.proofs.TakenLemmas.{IsCandid, IsTaken, IsTakenIn, TakesUnit, charged_over, crew_after, free_over, taken_answer, taken_begin, taken_gone, taken_mount, taken_on, taken_push}
 
 -- a program that was answered waits at once, or was stopped, or says so when it does
 candid_on : (s : State) (k : Holding) (who : List ℕ) (call : StoreCall) (o : Outcome) (more : Answer → Asks Work) (answer : Answer) (new : State) → CallStep s k who call o answer new
@@ -140,12 +140,18 @@ module _ (n : ℕ) (u q : Bool) (a : ℕ) where
         (m + 1, refl, subst (λ (x : World). Keeps f (m + 1) c rest x) (sym is) (mount_keeps (λ _. tape_text serial (codes "MOUNTED")) r s w idle h))
     line_keeps at o (line.Unmount serial) w new timed idle h (r, s, (plain, does), is) =
         (m, omega arith, keeps_is new _ is (stands_keeps (λ _. tape_text serial (codes "UNMOUNTED")) r s w idle (unmount_mounts w.store serial r s does) h))
-    line_keeps at o (line.Dump serial) w new timed idle h gives =
-        (m, omega arith, needs_keeps (λ r s. IsOpening w.store serial o r s) (λ x. dump_text x (codes "OPENED")) o w new w.store.up idle
-        (λ r s (k, holds, step, so). open_mounts w.store k serial o r s step) h gives)
-    line_keeps at o (line.Migrate path) w new timed idle h gives =
-        (m, omega arith, needs_keeps (λ r s. IsMigration w.store path o r s) (λ full. codes "MIGRATED " ++ full_text full) o w new w.store.up idle
-        (λ r s (k, holds, step, so). migrate_mounts w.store k _ _ o r s step) h gives)
+    line_keeps at o (line.Dump serial) w new timed idle h gives = (
+      m,
+      omega arith,
+      needs_keeps (λ r s. IsOpening w.store serial o r s) (λ x. dump_text x (codes "OPENED")) o w new w.store.up idle
+          (λ r s (k, holds, step, so). open_mounts w.store k serial o r s step) h gives,
+    )
+    line_keeps at o (line.Migrate path) w new timed idle h gives = (
+      m,
+      omega arith,
+      needs_keeps (λ r s. IsMigration w.store path o r s) (λ full. codes "MIGRATED " ++ full_text full) o w new w.store.up idle
+          (λ r s (k, holds, step, so). migrate_mounts w.store k _ _ o r s step) h gives,
+    )
     line_keeps at o (line.StopDisc k) w new timed idle h (plain, is) = (m, omega arith, keeps_is new _ is h)
     line_keeps at o (line.StopTape k) w new timed idle h (plain, is) = (m, omega arith, keeps_is new _ is h)
 
@@ -189,9 +195,11 @@ module _ (n : ℕ) (u q : Bool) (a : ℕ) where
     step_goes f m c w new (Answered o) unit timed h (number, call, more, job, answer, s, asks, here, (k, holds, step, so), real, is) =
         let now : IsTaken n u q a f m c w.jobs w.next_job w.store (Some (number, Call call more)) = subst (λ (t : Option (ℕ × Asks Work)). IsTaken n u q a f m c w.jobs w.next_job w.store t) asks h in
         goes_with f m c f c w new (Answered o) (omega arith) (omega arith)
-        (keeps_is f m c w.lines new _ is
-        (taken_answer n u q a f m c w.jobs w.next_job w.store s number (Call call more) (more answer) (call_mounts w.store k job.user call o answer s step)
-        (λ candid. candid_on w.store k job.user call o more answer s step candid) now, refl))
+        (keeps_is f m c w.lines new _ is (
+          taken_answer n u q a f m c w.jobs w.next_job w.store s number (Call call more) (more answer) (call_mounts w.store k job.user call o answer s step)
+              (λ candid. candid_on w.store k job.user call o more answer s step candid) now,
+          refl,
+        ))
     step_goes f m c w new (TurnOver number None) unit timed h (work, job, turn, after, asks, here, priced, ends, is) =
         let now : IsTaken n u q a f m c w.jobs w.next_job w.store (Some (number, Gives work)) = subst (λ (t : Option (ℕ × Asks Work)). IsTaken n u q a f m c w.jobs w.next_job w.store t) asks h in
         let over = free_over n u q a f m c w.jobs w.next_job w.store number (Gives work) job here now work turn after refl ends in
@@ -225,19 +233,30 @@ module _ (n : ℕ) (u q : Bool) (a : ℕ) where
 
     done_on : (lines done old new : List Timed) (m m2 : ℕ) → AreDone lines done old m → LinesGo old new m m2 → (more : List Timed) × AreDone lines more new m2
     done_on lines done old new m m2 are (inl same) = (done, (are.0 ∙ ap (λ (ls : List Timed). done ++ ls) (sym same.0), same.1 ∙ are.1))
-    done_on lines done old new m m2 are (inr one) =
-        (done ++ one.0 ∷ [],
-        (are.0 ∙ ap (λ (ls : List Timed). done ++ ls) one.1 ∙ sym (append_assoc done (one.0 ∷ []) new),
-        one.2 ∙ ap (λ (x : ℕ). x + mounts (one.0 ∷ [])) are.1 ∙ sym (mounts-push done one.0)))
+    done_on lines done old new m m2 are (inr one) = (
+      done ++ one.0 ∷ [],
+      (
+        are.0 ∙ ap (λ (ls : List Timed). done ++ ls) one.1 ∙ sym (append_assoc done (one.0 ∷ []) new),
+        one.2 ∙ ap (λ (x : ℕ). x + mounts (one.0 ∷ [])) are.1 ∙ sym (mounts-push done one.0),
+      ),
+    )
 
     -- ALL MOVES OF A RUN
     pub run_goes : (lines : List Timed) (moves : List Move) (f m c : ℕ) (w last : World) (done : List Timed) → AreDone lines done w.lines m → AllByRecursion IsTimed w.lines
         → (u ≡ true → AllByRecursion TakesUnit moves) → IsTakenIn n u q a f m c w → Run tariffs tariff rules rule w moves last
         → (f2 : ℕ) × (m2 : ℕ) × (c2 : ℕ) × (more : List Timed) × (f2 ≡ f + all_in (free_in n) moves) × (c2 ≡ c + all_in (charged_in n) moves) × IsTakenIn n u q a f2 m2 c2 last
         × AreDone lines more last.lines m2 × AllByRecursion IsTimed last.lines
-    run_goes lines [] f m c w last done are timed units h is =
-        (f, m, c, done, omega arith, omega arith, subst (λ (x : World). IsTakenIn n u q a f m c x) (sym is) h,
-        subst (λ (x : World). AreDone lines done x.lines m) (sym is) are, subst (λ (x : World). AllByRecursion IsTimed x.lines) (sym is) timed)
+    run_goes lines [] f m c w last done are timed units h is = (
+      f,
+      m,
+      c,
+      done,
+      omega arith,
+      omega arith,
+      subst (λ (x : World). IsTakenIn n u q a f m c x) (sym is) h,
+      subst (λ (x : World). AreDone lines done x.lines m) (sym is) are,
+      subst (λ (x : World). AllByRecursion IsTimed x.lines) (sym is) timed,
+    )
     run_goes lines (move ∷ moves) f m c w last done are timed units h (mid, step, run) =
         let one = step_goes f m c w mid move (λ on. (units on).0) timed h step in
         let goes = one.6 in
@@ -331,9 +350,10 @@ module _ {F U : Type 0} (tariffs : Shared F (Bor Usage × Unit {0}) Charge) (tar
       let sum : sum_by (charged_in n) (front ++ back) ≡ all_in (charged_in n) (front ++ back) = sums (charged_in n) (front ++ back) in
       omega (arith, most, one, two, both, sum)
 
-  pub runs_end : RunsEnd tariffs tariff rules rule
-  runs_end lines bad s moves last units timed run n = (
-    frees lines bad s moves last (recursion_from_All IsTimed lines timed) run n,
-    λ front back w job is first later here. subst (λ (ms : List Move). sum_by (charged_in n) ms ≤ job.allowance) (sym is)
-        (charges lines bad s front back w last (recursion_from_All IsTimed lines timed) (subst (λ (ms : List Move). AllByRecursion TakesUnit ms) is units) first later n job here),
-  )
+  pub runs_end : AnswersPlainly → RunsEnd tariffs tariff rules rule
+  runs_end plainly lines bad s moves last fair timed short run n =
+      let units = units_taken tariffs tariff rules rule plainly fair lines bad s moves last short run in (
+        frees lines bad s moves last (recursion_from_All IsTimed lines timed) run n,
+        λ front back w job is first later here. subst (λ (ms : List Move). sum_by (charged_in n) ms ≤ job.allowance) (sym is)
+            (charges lines bad s front back w last (recursion_from_All IsTimed lines timed) (subst (λ (ms : List Move). AllByRecursion TakesUnit ms) is units) first later n job here),
+      )

@@ -1,6 +1,6 @@
 -- An event whose answer doesn't tell its outcome is the event in which no device failed; and an answer of a device's own comes
 -- with its outcome alone.
-use Rattle.std.proofs.Common.{◌≡◌, ◌≢◌, ◌⊎◌, ◌&&◌, ◌||◌, ◌==◌, ◌+◌, ◌-◌, ◌^◌, ℕ, Bool, true, false, cond, not, List, [], ◌∷◌, ◌++◌, Option, Some, None, Result, Ok, Err, MatchOption, option_map, is_some, is_none, nat_lt, unwrap_or, refl, sym, ◌∙◌, ap, subst, inl, inr}
+use Rattle.std.proofs.Common.{◌≡◌, ◌⊎◌, ◌&&◌, ◌||◌, ◌==◌, ◌+◌, ◌-◌, ◌^◌, ℕ, Bool, true, false, cond, not, List, [], ◌∷◌, ◌++◌, Option, Some, None, Result, Ok, Err, MatchOption, option_map, is_some, is_none, nat_lt, unwrap_or, refl, sym, ◌∙◌, ap, subst, inl, inr}
 use Rattle.std.proofs.lemmas.Bool.{false≢true}
 use Rattle.std.specs.List.{list_all}
 use Rattle.g_name.specs.declared.full.Full.{Full}
@@ -15,8 +15,8 @@ use Rattle.std.specs.FinMap.{empty}
 use Rattle.g_step.specs.CallStep.{CallStep, Cut, DiscRead, LeftByRefusal, Outcome, Plain, Planned, TapeRead, brings_now, commits, early, is_cut, is_disc_read, is_offline, is_tape_read, late, len_of, need, reel_of, room_until, stamp_of, version_read, wants_bytes, writes}
 use Rattle.g_step.specs.DumpSteps.{Completed, DumpStep, Event, Going, MigrateStep, OpenStep, opening, Stepped as DumpStepped, dump_needs, migrate_refuses, open_number, open_refuses, tape_room}
 use Rattle.g_step.specs.Rising.{FormatStep, IsLost, RestoreStep, Restores, StartStep, Starts, adopted, coming_up, dump_adopted, fault_from, has_none, is_completed, restore_early, restore_late, restored, start_refuses, unmounted_reel}
-use Rattle.g_step.specs.State.{Dumped as DumpedTree, Holding, OpenDump, ReelRow, State, first_reel, is_mounted, lacks, place_at, with_online}
-use Rattle.g_world.specs.Events.{IsTold, OutcomeTold}
+use Rattle.g_step.specs.State.{Dumped as DumpedTree, Holding, OpenDump, State, first_reel, is_mounted, lacks, place_at, with_online}
+use Rattle.g_world.specs.Events.{OutcomeTold}
 use Rattle.g_world.proofs.StepLemmas.{not_err, refused}
 use Rattle.g_world.proofs.ToldLemmas.{plain_too}
 
@@ -45,7 +45,7 @@ told_ok reply answer is = record {
   cut = λ e. absurd (let no : ⊥ = cc in no);
 }
 
-told_own : {A : Type 0} (f : StoreFault) (answer : Result A StoreFault) → IsOwn f → answer ≡ Err f → OutcomeTold Plain answer
+pub told_own : {A : Type 0} (f : StoreFault) (answer : Result A StoreFault) → IsOwn f → answer ≡ Err f → OutcomeTold Plain answer
 told_own f answer own is = record {
   told = tt;
   disc_read = λ e. absurd (own_apart f DiscReadFault own (λ x. x) (same_fault f DiscReadFault (sym is ∙ e)));
@@ -482,8 +482,7 @@ call_outcome s k who call o g new step = by_early (refused (λ x. new ≡ s) (ea
 own_too : (s : State) (k : Holding) (who : List ℕ) (call : StoreCall) (o : Outcome) (fault : StoreFault) (new : State) → IsOwn fault → CallStep s k who call o (Err fault) new
     → ToldBy (CallStep s k who call) o (Err fault) new
 own_too s k who call o fault new own step =
-    let answer : Result StoreReply StoreFault = Err fault in
-    (
+    let answer : Result StoreReply StoreFault = Err fault in (
       Plain,
       plain_too s k who call o answer new (λ e. own_apart fault DiscReadFault own (λ x. x) (same_fault fault DiscReadFault e)) (λ e. own_apart fault TapeReadFault own (λ x. x) (same_fault fault TapeReadFault e))
           (λ e. own_apart fault Stopped own (λ x. x) (same_fault fault Stopped e)) step,

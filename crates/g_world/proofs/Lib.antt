@@ -15,9 +15,14 @@ pub mod MountLemmas
 pub mod OneTextLemmas
 pub mod OpenAlikeLemmas
 pub mod OverLemmas
+pub mod PricedLemmas
+pub mod ShareLemmas
 pub mod ShortLemmas
 pub mod StepLemmas
+pub mod StoreLemmas
+pub mod StoreTurnLemmas
 pub mod TakenLemmas
+pub mod TickLemmas
 pub mod ToldLemmas
 pub mod TreeLemmas
 pub mod TurnLemmas

@@ -1,6 +1,6 @@
 -- Which reels are mounted behind each event: none more than before, but for MOUNT. And a call that waits, waits for a reel
 -- that isn't mounted.
-use Rattle.std.proofs.Common.{◌≡◌, ◌==◌, ◌⊎◌, ◌&&◌, ℕ, Bool, true, false, cond, not, List, [], ◌∷◌, Option, Some, None, Result, Ok, Err, MatchOption, option_map, is_some, unwrap_or, refl, sym, ◌∙◌, ap, subst, inl, inr, if◌then◌else◌, nat_lt, ◌||◌}
+use Rattle.std.proofs.Common.{◌≡◌, ◌==◌, ◌⊎◌, ◌&&◌, ℕ, Bool, true, false, not, List, [], ◌∷◌, Option, Some, None, Result, Ok, Err, MatchOption, option_map, is_some, unwrap_or, refl, sym, ◌∙◌, ap, subst, inl, inr, if◌then◌else◌, ◌||◌}
 use Rattle.std.proofs.lemmas.Bool.{false≢true}
 use Rattle.g_plain.proofs.StepAnswers.{own_fault}
 use Rattle.g_plain.specs.declared.calls.StoreCall.{StoreCall}
@@ -8,7 +8,7 @@ use Rattle.g_plain.specs.declared.calls.StoreReply.{StoreReply}
 use Rattle.g_plain.specs.declared.faults.StoreFault.{StoreFault}
 use Rattle.g_plain.specs.declared.faults.StoreFault.TheVariants.{DiscFull, DiscReadFault, Stopped, TapeReadFault, WaitTape}
 use Rattle.g_plain.specs.PlainStep.{fault_of, first_fault, reply_to}
-use Rattle.g_step.specs.CallStep.{CallStep, Cut, DiscRead, LeftByRefusal, Outcome, Plain, Planned, TapeRead, after_call, brings_now, commits, down, early, held_after, is_cut, is_disc_read, is_offline, is_tape_read, late, len_of, need, reel_of, room_until, touched_by, version_read, wants_bytes, writes}
+use Rattle.g_step.specs.CallStep.{CallStep, Cut, DiscRead, LeftByRefusal, Outcome, Plain, Planned, TapeRead, after_call, brings_now, commits, down, early, held_after, is_offline, is_tape_read, late, reel_of, touched_by, writes}
 use Rattle.g_step.specs.DumpSteps.{Completed, DumpStep, Event, Going, MigrateStep, OpenStep, Stepped as DumpStepped, UnmountStep, UsedByCut, shelved, with_mounted, with_shelved, with_used}
 use Rattle.g_step.specs.Rising.{FormatStep, RestoreStep, Restores, StartStep, Starts, restore_early}
 use Rattle.g_step.specs.State.{Dumped as DumpedTree, Holding, OpenDump, ReelRow, State, is_mounted, mounted_in, reel_at, with_reel}

@@ -1,5 +1,5 @@
 -- Where no count rose, the text follows from the script, the state that there was, the charges and the weigh rule.
-use Rattle.std.proofs.Common.{◌≡◌, ◌≢◌, ◌⊎◌, ◌<◌, ◌≤◌, ◌+◌, ◌==◌, ◌&&◌, ◌++◌, ℕ, zero, suc, Bool, true, false, cond, not, All, List, [], ◌∷◌, map, Option, Some, None, option_map, is_some, slice_get, Result, Ok, Err, codes, if◌then◌else◌, refl, sym, ◌∙◌, ap, subst, inl, inr, arith}
+use Rattle.std.proofs.Common.{◌≡◌, ◌⊎◌, ◌<◌, ◌+◌, ◌&&◌, ◌++◌, ℕ, zero, suc, Bool, true, false, not, List, [], ◌∷◌, map, Option, Some, None, option_map, slice_get, Result, codes, if◌then◌else◌, refl, sym, ◌∙◌, ap, subst, inl, inr, arith}
 use Rattle.std.proofs.lemmas.Bool.{false≢true}
 use Rattle.std.proofs.lemmas.List.Elements.{recursion_from_All}
 use Rattle.std.proofs.lemmas.Option.{slice_get-map, some_pair_parts}
@@ -20,7 +20,7 @@ use Rattle.g_monitor.specs.Parts.{full_text}
 use Rattle.g_plain.specs.Asks.{Answer, Asks, Call, Gives}
 use Rattle.g_plain.specs.declared.calls.StoreCall.{StoreCall}
 use Rattle.g_plain.specs.declared.faults.StoreFault.{StoreFault}
-use Rattle.g_plain.specs.declared.faults.StoreFault.TheVariants.{NotStarted, Running, Stopped}
+use Rattle.g_plain.specs.declared.faults.StoreFault.TheVariants.{NotStarted, Running}
 use Rattle.g_sched.specs.Choice.{IsChosen, IsNoLater}
 use Rattle.g_sched.specs.Rule.{IsInRange, IsWeighRule}
 use Rattle.g_sched.specs.declared.rule.Standing.{Standing}
@@ -28,17 +28,17 @@ use Rattle.g_script.specs.declared.operator.Operator.{Operator}
 use Rattle.g_script.specs.declared.operator.Operator.TheVariants as line
 use Rattle.g_script.specs.declared.operator.Timed.{Timed}
 use Rattle.g_step.specs.CallStep.{Outcome, Plain}
-use Rattle.g_step.specs.DumpSteps.{DumpStep, Stepped as DumpStepped}
+use Rattle.g_step.specs.DumpSteps.{DumpStep}
 use Rattle.g_step.specs.Laws.{StepIsOne}
 use Rattle.g_step.specs.Rising.{FormatStep, RestoreStep, StartStep}
-use Rattle.g_step.specs.State.{Holding, OpenDump, State}
+use Rattle.g_step.specs.State.{OpenDump, State}
 use Rattle.g_world.specs.Events.{IsCall, IsDumpStep, IsMigration, IsOpening, IsTold}
 use Rattle.g_world.specs.Laws.{HasDumped, IsPlain, IsTimed, OneText, charges_of}
-use Rattle.g_world.specs.Lines.{LineGives, Shuts, job_line, job_refusal, line_refused, now_stands, taken_in, tells, up_with}
-use Rattle.g_world.specs.Moves.{Answered, Begin, Dumped, Move, Over, Run, Step, TakeLine, Ticked, TurnOver, dump_told, outcome_of, turn_told}
+use Rattle.g_world.specs.Lines.{LineGives, Shuts, line_refused, now_stands, tells, up_with}
+use Rattle.g_world.specs.Moves.{Answered, Begin, Dumped, Move, Over, Run, Step, TakeLine, Ticked, TurnOver, turn_told}
 use Rattle.g_world.specs.Texts.{dump_text, started_text, tape_text}
-use Rattle.g_world.specs.World.{Between, Phase, Stepped, Turned, World, able, can_step, closed, has_none, is_dumping, is_due, job_of, nothing_steps, start}
-use Rattle.g_world.proofs.AlikeLemmas.{AreSame, calls_alike, dumps_alike}
+use Rattle.g_world.specs.World.{Between, Phase, Stepped, Turned, World, able, can_step, closed, has_none, is_dumping, is_due, start}
+use Rattle.g_world.proofs.AlikeLemmas.{calls_alike, dumps_alike}
 use Rattle.g_world.proofs.BareLemmas.{bare_open, bare_state}
 use Rattle.g_world.proofs.CrewLemmas.{AreRising, listed, no_job, numbered, one_job}
 use Rattle.g_world.proofs.EndsLemmas.{begun, step_goes, timed_on}
@@ -344,7 +344,7 @@ module _ {F U : Type 0} (tariffs : Shared F (Bor Usage × Unit {0}) Charge) (tar
         let here : IsChosen rules rule (map standing_of (able w)) place2 = subst (λ (jobs : List JobState). IsChosen rules rule (map standing_of jobs) place2) able_same chosen2 in
         let there_too : slice_get (able w) place2 ≡ Some job2 = subst (λ (jobs : List JobState). slice_get jobs place2 ≡ Some job2) able_same there2 in
         let numbers : job.number ≡ job2.number =
-            sym (chosen_number w place job there chosen) ∙ chosen_one weigh (map standing_of (able w)) (in_range w known) place place2 chosen here ∙ chosen_number w place2 job2 there_too here in
+        sym (chosen_number w place job there chosen) ∙ chosen_one weigh (map standing_of (able w)) (in_range w known) place place2 chosen here ∙ chosen_number w place2 job2 there_too here in
         let found = listed (can_step w.store) 0 w.jobs w.next_job place job (known.every 0).3.rising there in
         let found2 = listed (can_step w.store) 0 w.jobs w.next_job place2 job2 (known.every 0).3.rising there_too in
         let jobs : job ≡ job2 = one_job job job2 (sym found.1 ∙ ap (λ (x : ℕ). numbered x w.jobs) numbers ∙ found2.1) in
@@ -356,8 +356,8 @@ module _ {F U : Type 0} (tariffs : Shared F (Bor Usage × Unit {0}) Charge) (tar
         let mores : more ≡ more2 = ap (more_in more) parts.1 in
         let jobs : job ≡ job2 = one_job job job2 (sym here ∙ ap (λ (x : ℕ). numbered x w.jobs) parts.0 ∙ ap (λ (x : World). numbered number2 x.jobs) alike ∙ here2) in
         let same = calls_alike is_one w.store v.store job.user call answer answer2 s s2 (ap (λ (x : World). x.store) alike)
-            (subst (λ (x : Outcome). IsCall w.store job.user call x answer s) plain step)
-            (subst (λ (x : JobState). IsCall v.store x.user call Plain answer2 s2) (sym jobs) (subst (λ (x : StoreCall). IsCall v.store job2.user x Plain answer2 s2) (sym calls) (subst (λ (x : Outcome). IsCall v.store job2.user call2 x answer2 s2) plain2 step2))) in
+        (subst (λ (x : Outcome). IsCall w.store job.user call x answer s) plain step)
+        (subst (λ (x : JobState). IsCall v.store x.user call Plain answer2 s2) (sym jobs) (subst (λ (x : StoreCall). IsCall v.store job2.user x Plain answer2 s2) (sym calls) (subst (λ (x : Outcome). IsCall v.store job2.user call2 x answer2 s2) plain2 step2))) in
         let turn : Answer → (Answer → Asks Work) → ℕ → Option (ℕ × Asks Work) = λ y f x. Some (x, f y) in
         ap bare_world is
         ∙ ap (λ (x : World). let y : World = record x { store = bare_state s; turn = turn answer more number } in y) alike
@@ -371,7 +371,7 @@ module _ {F U : Type 0} (tariffs : Shared F (Bor Usage × Unit {0}) Charge) (tar
         let works : work ≡ work2 = ap (given_in work) parts.1 in
         let jobs : job ≡ job2 = one_job job job2 (sym here ∙ ap (λ (x : ℕ). numbered x w.jobs) parts.0 ∙ ap (λ (x : World). numbered b x.jobs) alike ∙ here2) in
         let end = some_pair_parts turn turn2 after after2
-            (sym ends ∙ ap (λ (x : JobState). turn_end x work c) jobs ∙ ap (λ (x : Work). turn_end job2 x c) works ∙ ap (λ (x : Option Charge). turn_end job2 work2 x) charge ∙ ends2) in
+        (sym ends ∙ ap (λ (x : JobState). turn_end x work c) jobs ∙ ap (λ (x : Work). turn_end job2 x c) works ∙ ap (λ (x : Option Charge). turn_end job2 work2 x) charge ∙ ends2) in
         ap bare_world is
         ∙ ap (λ (x : World). let y : World = record x { turn = None; phase = Turned } in y)
         (turn_bare after turn w ∙ ap (λ (x : JobState). turn_told x turn (bare_world w)) end.1 ∙ ap (λ (x : Turn). turn_told after2 x (bare_world w)) end.0

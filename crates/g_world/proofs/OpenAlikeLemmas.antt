@@ -1,5 +1,5 @@
 -- The opening of a dump, of two states that differ in first blocks of copies alone: the two dumps differ in no more.
-use Rattle.std.proofs.Common.{◌≡◌, ◌≢◌, ◌⊎◌, ◌+◌, ◌-◌, ◌^◌, ◌<◌, ◌≤◌, ◌&&◌, ◌||◌, ◌==◌, ◌++◌, ℕ, Bool, true, false, T, cond, not, List, [], ◌∷◌, length, map, flat_map, sum_by, filter, Option, Some, None, option_map, is_some, is_none, unwrap_or, Result, Ok, Err, nat_lt, if◌then◌else◌, refl, sym, ◌∙◌, ap, subst, inl, inr, eqb-true, arith}
+use Rattle.std.proofs.Common.{◌≡◌, ◌+◌, ◌-◌, ◌^◌, ◌≤◌, ◌&&◌, ◌||◌, ◌==◌, ◌++◌, ℕ, Bool, true, false, T, cond, not, List, [], ◌∷◌, length, map, flat_map, filter, Option, Some, None, option_map, is_some, is_none, unwrap_or, Result, nat_lt, if◌then◌else◌, refl, sym, ◌∙◌, ap, subst, eqb-true, arith}
 use Rattle.std.proofs.lemmas.List.{map-append}
 use Rattle.std.proofs.lemmas.Bool.{false≢true, ltb-true, ltb-false, and_from}
 use Rattle.std.specs.Cmp.{IsTotalOrder, tied_itself}
@@ -10,7 +10,6 @@ use Rattle.std.specs.declared.cmp.Ordering.TheVariants.{Equal, Greater, Less}
 use Rattle.std.specs.FinMap.{FinMap, empty, entries, entries_sorted, from_entries, get, get-entries, len}
 use Rattle.std.specs.FinMap.Entries.{below_all, find, is_sorted}
 use Rattle.g_entry.specs.declared.file_rec.TapeCopy.{TapeCopy}
-use Rattle.g_entry.specs.declared.head.Intent.{Intent}
 use Rattle.g_name.proofs.Order.{full_total}
 use Rattle.g_name.specs.Order.{full_cmp}
 use Rattle.g_name.specs.declared.full.Full.{Full}
@@ -56,9 +55,10 @@ module _ {K X : Type 0} (R : K → K → Ordering) (o : IsTotalOrder R) where
   own_all : (es : List (K × X)) → T (is_sorted R es) → Own es es
   own_all [] sorted = tt
   own_all (e ∷ es) sorted =
-      let alike : eq_by_cmp R e.0 e.0 ≡ true = ap is_eq (tied_itself o e.0) in
-      (ap (λ (t : Bool). cond t (Some e.1) (find R e.0 es)) alike,
-      more_own e es es (left_true (below_all R e.0 es) (is_sorted R es) sorted) (own_all es (right_true (below_all R e.0 es) (is_sorted R es) sorted)))
+      let alike : eq_by_cmp R e.0 e.0 ≡ true = ap is_eq (tied_itself o e.0) in (
+        ap (λ (t : Bool). cond t (Some e.1) (find R e.0 es)) alike,
+        more_own e es es (left_true (below_all R e.0 es) (is_sorted R es) sorted) (own_all es (right_true (below_all R e.0 es) (is_sorted R es) sorted)),
+      )
 
 some_file : (q : ℕ) (all es : List (Full × FileRow)) → Own full_cmp full_total all es → list_any (λ e. e.1.stamp == q) es ≡ true
     → (full : Full) × (row : FileRow) × (find full_cmp full all ≡ Some row) × (row.stamp ≡ q)

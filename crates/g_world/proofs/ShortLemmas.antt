@@ -1,27 +1,26 @@
 -- Every file of the trees that there are has at most 65,536 bytes, behind each event too. So a store answers each call as a turn
 -- may be answered.
-use Rattle.std.proofs.Common.{◌≡◌, ◌≢◌, ◌⊎◌, ◌≤◌, ◌+◌, ◌&&◌, ◌||◌, ℕ, Bool, true, false, cond, not, List, [], ◌∷◌, ◌++◌, length, length-append, Option, Some, None, IfSome, option_map, is_some, unwrap_or, Result, Ok, Err, MatchOption, if◌then◌else◌, refl, sym, ◌∙◌, ap, subst, inl, inr, lit≤, arith}
+use Rattle.std.proofs.Common.{◌≡◌, ◌≤◌, ◌+◌, ◌||◌, ℕ, Bool, true, false, cond, not, List, ◌∷◌, ◌++◌, length, length-append, Option, Some, None, IfSome, option_map, unwrap_or, Result, Ok, Err, MatchOption, if◌then◌else◌, refl, sym, ◌∙◌, subst, inl, inr, arith}
 use Rattle.std.proofs.lemmas.Bool.{false≢true}
-use Rattle.std.specs.FinMap.{FinMap, empty, get, get-empty, get-insert, get-remove, insert, remove}
+use Rattle.std.specs.FinMap.{FinMap, get, get-empty, get-insert, get-remove, insert, remove}
 use Rattle.std.specs.List.{AllByRecursion}
 use Rattle.std.specs.Ordering.{eq_by_cmp}
 use Rattle.g_act.specs.Bounds.{MayAnswer}
 use Rattle.g_name.proofs.Order.{full_total}
 use Rattle.g_name.specs.Order.{full_cmp}
 use Rattle.g_name.specs.declared.full.Full.{Full}
-use Rattle.g_plain.proofs.StepAnswers.{own_fault}
-use Rattle.g_plain.proofs.StepKept.{all_passed, file_there, not_above, not_false}
+use Rattle.g_plain.proofs.StepKept.{all_passed, not_above}
 use Rattle.g_plain.specs.Asks.{Answer, IsAnswer}
 use Rattle.g_plain.specs.Plainly.{may_wait}
 use Rattle.g_plain.specs.PlainStep.{checks, fault_of, plain_answer, plain_tree, reply_to, tree_after}
-use Rattle.g_plain.specs.PlainTree.{FileRow, Tree, file_row, formatted, has_file, has_user, input_name, no_row, output_name}
+use Rattle.g_plain.specs.PlainTree.{FileRow, Tree, file_row, formatted, has_user, input_name, no_row, output_name}
 use Rattle.g_plain.specs.Replies.{IsReplyTo}
 use Rattle.g_plain.specs.declared.calls.StoreCall.{StoreCall}
 use Rattle.g_plain.specs.declared.calls.StoreCall.TheVariants as call
 use Rattle.g_plain.specs.declared.calls.StoreReply.{StoreReply}
 use Rattle.g_plain.specs.declared.faults.StoreFault.{StoreFault}
 use Rattle.g_plain.specs.declared.faults.StoreFault.TheVariants.{DiscReadFault, NoMemory, NoUser, Stopped, WaitTape}
-use Rattle.g_step.specs.CallStep.{CallStep, Cut, DiscRead, LeftByRefusal, Outcome, Plain, Planned, TapeRead, after_call, brings_now, commits, down, early, held_after, is_offline, late, no_longer_kept, touched_by, version_read, writes}
+use Rattle.g_step.specs.CallStep.{CallStep, Cut, DiscRead, LeftByRefusal, Outcome, Plain, Planned, TapeRead, after_call, brings_now, commits, down, early, held_after, is_offline, late, no_longer_kept, touched_by, writes}
 use Rattle.g_step.specs.DumpSteps.{Completed, DumpStep, Event, Going, MigrateStep, MountStep, OpenStep, Stepped as DumpStepped, UnmountStep, UsedByCut}
 use Rattle.g_step.specs.Laws.{AnswersPlainly}
 use Rattle.g_step.specs.Rising.{FormatStep, RestoreStep, Restores, StartStep, Starts, adopted, dump_adopted, restore_early}
@@ -92,7 +91,7 @@ held_down : (h : Option Holding) → IfSome h (λ k. IsShort k.tree) → IfSome 
 held_down None h = tt
 held_down (Some k) h = h
 
-short_down : (s : State) → AreShort s → AreShort (down s)
+pub short_down : (s : State) → AreShort s → AreShort (down s)
 short_down s h = record { held = held_down s.holding h.held; dumped = h.dumped; opened = tt }
 
 short_of : (s mid new : State) → new ≡ mid → KeepsShort s mid → KeepsShort s new

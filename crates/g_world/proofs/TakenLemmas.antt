@@ -1,49 +1,33 @@
 -- What is known of one number's job in a run: how many free turns it may have had by the lines that were done, and that what
 -- was charged is within its allowance.
-use Rattle.std.proofs.Common.{◌≡◌, ◌<◌, ◌≤◌, ◌+◌, ◌-◌, ◌==◌, ◌⊎◌, ℕ, zero, suc, Bool, true, false, cond, not, List, [], ◌∷◌, ◌++◌, filter, length, map, Option, Some, None, IfSome, slice_get, is_some, refl, sym, ◌∙◌, ap, subst, inl, inr, if◌then◌else◌, eq-eqb, eqb-true, le_trans, codes, min, arith}
+use Rattle.std.proofs.Common.{◌≡◌, ◌<◌, ◌≤◌, ◌+◌, ◌-◌, ◌==◌, ◌⊎◌, ℕ, Bool, true, false, not, List, [], ◌∷◌, ◌++◌, filter, Option, Some, None, IfSome, slice_get, refl, sym, ◌∙◌, ap, subst, inl, inr, if◌then◌else◌, eqb-true, arith}
 use Rattle.std.proofs.lemmas.Bool.{false≢true, leb-false}
 use Rattle.std.proofs.lemmas.Option.{some_pair_parts}
 use Rattle.std.proofs.Math.Nat.{le-min}
-use Rattle.std.specs.Prelude.{MatchBool, Result, Ok, Err}
-use Rattle.std.specs.Fmt.{decimal}
-use Rattle.std.specs.Fn.{Shared}
-use denote.Ref.{Bor}
-use Rattle.g_act.specs.Causes.{GoesOn, IsHonest, IsOther, StopsAt}
+use Rattle.g_act.specs.Causes.{GoesOn, IsHonest, StopsAt}
 use Rattle.g_act.specs.State.{Broken, Done, Full, Stop, Waits, Work}
 use Rattle.g_budget.specs.declared.tariff.Charge.{Charge}
-use Rattle.g_budget.specs.declared.tariff.Usage.{Usage}
 use Rattle.g_job.proofs.TurnBounds.{turn_honest}
-use Rattle.g_job.specs.Begun.{job_begun}
 use Rattle.g_job.specs.Ends.{behind_turn, broken, charged, end_by, is_money_up, is_time_up, money_of, turn_end, turn_of, units_left, units_of, up_line, waited}
 use Rattle.g_job.specs.State.{JobState}
 use Rattle.g_job.specs.Turns.{turn_work}
 use Rattle.g_job.specs.declared.turn.Turn.{Turn}
 use Rattle.g_job.specs.declared.turn.Turn.TheVariants as turns
-use Rattle.g_monitor.specs.Parts.{full_text}
-use Rattle.g_plain.specs.Asks.{Answer, Asks, Call, Gives}
-use Rattle.g_plain.specs.declared.calls.StoreCall.{StoreCall}
-use Rattle.g_plain.specs.declared.faults.StoreFault.{StoreFault}
-use Rattle.g_plain.specs.declared.faults.StoreFault.TheVariants.{NotStarted, Running, Stopped, WaitTape}
-use Rattle.g_sched.specs.declared.rule.Standing.{Standing}
-use Rattle.g_script.specs.declared.operator.Operator.{Operator}
-use Rattle.g_script.specs.declared.operator.Operator.TheVariants as line
-use Rattle.g_script.specs.declared.operator.Timed.{Timed}
-use Rattle.g_step.specs.CallStep.{Outcome, Plain, down}
-use Rattle.g_step.specs.DumpSteps.{Completed, Going, Stepped as DumpStepped}
-use Rattle.g_step.specs.Rising.{FormatStep, RestoreStep, StartStep}
-use Rattle.g_step.specs.State.{Holding, OpenDump, State, is_mounted}
-use Rattle.g_world.specs.Events.{IsCall, IsMigration, IsOpening, IsTold}
-
-use Rattle.g_world.specs.Lines.{LineGives, Shuts, job_line, job_refusal, line_refused, now_stands, taken_in, tells, up_with}
-use Rattle.g_world.specs.Moves.{Answered, Begin, Dumped, Move, Over, Step, TakeLine, Ticked, TurnOver, dump_told, turn_told}
-use Rattle.g_world.specs.Texts.{dump_text, started_text, tape_text}
+use Rattle.g_plain.specs.Asks.{Asks, Gives}
+use Rattle.g_step.specs.State.{State, is_mounted}
+use Rattle.g_world.specs.Moves.{Move, TurnOver}
 use Rattle.g_world.specs.World.{World, can_step, with_job, without_job}
 use Rattle.g_world.proofs.CrewLemmas.{AreRising, found_other, found_push, found_same, left_none, left_other, listed, no_job, number_of, numbered, rising_filter, rising_push, rising_with}
-use Rattle.g_world.proofs.MountLemmas.{NoMount, call_mounts, dump_mounts, format_mounts, migrate_mounts, open_mounts, restore_mounts, start_mounts, unmount_mounts, wait_unmounted}
+use Rattle.g_world.proofs.MountLemmas.{NoMount}
 
 -- what is left of a turn's program waits at once, for a reel that isn't mounted, or was stopped; or it says so when it does
 abbrev pub IsCandid : State → Asks Work → Type 0
 IsCandid s p = IsHonest p ⊎ (((serial : ℕ) × StopsAt (Waits serial) p × (is_mounted s serial ≡ false)) ⊎ StopsAt Broken p)
+
+-- the charge of a turn, where there is one, takes a unit at least
+abbrev pub TakesUnit : Move → Type 0
+TakesUnit (TurnOver number (Some charge)) = 1 ≤ charge.units
+TakesUnit move = Unit {0}
 
 abbrev pub one_if : Bool → ℕ
 one_if b = if b then 1 else 0
@@ -234,8 +218,7 @@ module _ (n : ℕ) (u q : Bool) (a : ℕ) where
     born = h.born;
     taking = λ p is.
         let parts = some_pair_parts job.number n (turn_work job) p is in
-        let found = listed (can_step s) 0 jobs next place job h.rising there in
-        (
+        let found = listed (can_step s) 0 jobs next place job h.rising there in (
           h.able job (subst (λ (x : ℕ). numbered x jobs ≡ Some job) parts.0 found.1) found.2,
           subst (λ (x : Asks Work). IsCandid s x) parts.1 (inl (turn_honest job)),
         );
@@ -372,19 +355,27 @@ module _ (n : ℕ) (u q : Bool) (a : ℕ) where
             let same : number ≡ n = eqb-true number n e in
             let few : f ≤ m = (asked same).0 in
             let fair = h.within job (here same) in
-            let can : can_step s after ≡ true → f + 1 ≤ m = λ steps. absurd (false≢true (sym (unmounted s work serial stop (candid same)) ∙ subst (λ (y : JobState). can_step s y ≡ true) it steps)) in
-            (f + 1, c, refl, omega arith,
-            subst (λ (x : Turn). IsTaken (f + 1) m c (crew_after x after jobs) next s None) (sym is)
-            (same_on (f + 1) c after (ap (λ (y : JobState). y.number) it ∙ of_number) same (omega (arith, few)) can
-            (subst (λ (y : JobState). y.used < y.allowance) (sym it) fair.0) (ap (λ (y : JobState). y.allowance) it)
-            (λ on. subst (λ (y : JobState). c ≤ y.used) (sym it) (h.spent on job (here same)))))
+            let can : can_step s after ≡ true → f + 1 ≤ m = λ steps. absurd (false≢true (sym (unmounted s work serial stop (candid same)) ∙ subst (λ (y : JobState). can_step s y ≡ true) it steps)) in (
+              f + 1,
+              c,
+              refl,
+              omega arith,
+              subst (λ (x : Turn). IsTaken (f + 1) m c (crew_after x after jobs) next s None) (sym is)
+                  (same_on (f + 1) c after (ap (λ (y : JobState). y.number) it ∙ of_number) same (omega (arith, few)) can
+                  (subst (λ (y : JobState). y.used < y.allowance) (sym it) fair.0) (ap (λ (y : JobState). y.allowance) it)
+                  (λ on. subst (λ (y : JobState). c ≤ y.used) (sym it) (h.spent on job (here same)))),
+            )
         by true e (inr is) =
             let same : number ≡ n = eqb-true number n e in
             let few : f ≤ m = (asked same).0 in
             (f + 1, c, refl, omega arith, subst (λ (x : Turn). IsTaken (f + 1) m c (crew_after x after jobs) next s None) (sym is) (same_broken (f + 1) same (omega (arith, few))))
-        by false e (inl (serial, stop, is, it)) =
-            (f, c, omega arith, omega arith,
-            subst (λ (x : Turn). IsTaken f m c (crew_after x after jobs) next s None) (sym is) (other_on after (ap (λ (y : JobState). y.number) it ∙ of_number) e))
+        by false e (inl (serial, stop, is, it)) = (
+          f,
+          c,
+          omega arith,
+          omega arith,
+          subst (λ (x : Turn). IsTaken f m c (crew_after x after jobs) next s None) (sym is) (other_on after (ap (λ (y : JobState). y.number) it ∙ of_number) e),
+        )
         by false e (inr is) =
             (f, c, omega arith, omega arith, subst (λ (x : Turn). IsTaken f m c (crew_after x after jobs) next s None) (sym is) (taken_gone f m c jobs next s s (Some (number, p)) None refl h))
 
@@ -398,23 +389,31 @@ module _ (n : ℕ) (u q : Bool) (a : ℕ) where
             let same : number ≡ n = eqb-true number n e in
             let few : f ≤ m = (asked same).0 in
             let free : f ≤ 1 + m = h.free in
-            let fair = h.within job (here same) in
-            (f, c + 1, omega arith, refl,
-            subst (λ (x : Turn). IsTaken f m (c + 1) (crew_after x after jobs) next s None) (sym is)
-            (same_on f (c + 1) after (goes.number ∙ of_number) same free (λ steps. few) (goes.fair fair.0) goes.allowance
-            (λ on. let old : c ≤ job.used = h.spent on job (here same) in let more : job.used + 1 ≤ after.used = goes.more fair.0 (unit on) in omega (arith, old, more))))
+            let fair = h.within job (here same) in (
+              f,
+              c + 1,
+              omega arith,
+              refl,
+              subst (λ (x : Turn). IsTaken f m (c + 1) (crew_after x after jobs) next s None) (sym is)
+                  (same_on f (c + 1) after (goes.number ∙ of_number) same free (λ steps. few) (goes.fair fair.0) goes.allowance
+                  (λ on. let old : c ≤ job.used = h.spent on job (here same) in let more : job.used + 1 ≤ after.used = goes.more fair.0 (unit on) in omega (arith, old, more))),
+            )
         by true e (inr (units, money, is, its)) =
             let same : number ≡ n = eqb-true number n e in
-            let fair = h.within job (here same) in
-            (f, c + 1, omega arith, refl,
-            subst (λ (x : Turn). IsTaken f m (c + 1) (crew_after x after jobs) next s None) (sym is)
-            (same_gone (c + 1) after.number (its ∙ of_number) same
-            (λ on.
-                let b = h.born on in
-                let old : c ≤ job.used = h.spent b.0 job (here same) in
-                let left : job.used < job.allowance = fair.0 in
-                let allowed : job.allowance ≡ a = b.3 job (here same) in
-                omega (arith, old, left, allowed))))
+            let fair = h.within job (here same) in (
+              f,
+              c + 1,
+              omega arith,
+              refl,
+              subst (λ (x : Turn). IsTaken f m (c + 1) (crew_after x after jobs) next s None) (sym is)
+                  (same_gone (c + 1) after.number (its ∙ of_number) same
+                  (λ on.
+                  let b = h.born on in
+                  let old : c ≤ job.used = h.spent b.0 job (here same) in
+                  let left : job.used < job.allowance = fair.0 in
+                  let allowed : job.allowance ≡ a = b.3 job (here same) in
+                  omega (arith, old, left, allowed))),
+            )
         by false e (inl (units, money, is, goes)) =
             (f, c, omega arith, omega arith, subst (λ (x : Turn). IsTaken f m c (crew_after x after jobs) next s None) (sym is) (other_on after (goes.number ∙ of_number) e))
         by false e (inr (units, money, is, its)) =

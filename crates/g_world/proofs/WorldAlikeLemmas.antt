@@ -1,5 +1,5 @@
 -- Worlds that differ in first blocks of copies alone: a line, a step of the dump and the end of a turn leave two such worlds.
-use Rattle.std.proofs.Common.{◌≡◌, ◌≢◌, ◌⊎◌, ◌==◌, ◌&&◌, ◌+◌, ◌++◌, ℕ, Bool, true, false, cond, not, List, [], ◌∷◌, length, map, filter, Option, Some, None, option_map, is_some, unwrap_or, Result, Ok, Err, MatchBool, nat_le, nat_lt, if◌then◌else◌, codes, refl, sym, ◌∙◌, ap, subst, inl, inr}
+use Rattle.std.proofs.Common.{◌≡◌, ◌+◌, ◌++◌, ℕ, Bool, true, false, not, List, [], ◌∷◌, length, map, filter, Option, Some, None, option_map, is_some, unwrap_or, Result, Ok, Err, MatchBool, nat_le, nat_lt, if◌then◌else◌, codes, refl, sym, ◌∙◌, ap}
 use Rattle.std.specs.FinMap.{entries}
 use Rattle.std.specs.Fmt.{decimal}
 use Rattle.std.specs.List.{list_any}
@@ -17,9 +17,9 @@ use Rattle.g_script.specs.declared.operator.Operator.TheVariants as line
 use Rattle.g_step.specs.CallStep.{Outcome, Plain, down}
 use Rattle.g_step.specs.DumpSteps.{Completed, Going, Stepped as DumpStepped}
 use Rattle.g_step.specs.Rising.{FormatStep, RestoreStep, StartStep}
-use Rattle.g_step.specs.State.{Holding, OpenDump, State, is_mounted}
-use Rattle.g_world.specs.Accounts.{Opened, account_of, has_account, knows_user, money_left, opened_of, rows_of, settled, time_left, tree_of, with_new}
-use Rattle.g_world.specs.Events.{IsMigration, IsMounting, IsOpening, IsTold, IsUnmounting}
+use Rattle.g_step.specs.State.{Holding, OpenDump, State}
+use Rattle.g_world.specs.Accounts.{Opened, account_of, has_account, knows_user, money_left, opened_of, rows_of, settled, time_left, with_new}
+use Rattle.g_world.specs.Events.{IsMigration, IsOpening, IsTold}
 use Rattle.g_world.specs.Laws.{HasDumped}
 use Rattle.g_world.specs.Lines.{LineGives, Shuts, first_text, job_line, job_refusal, line_refused, no_account, now_stands, taken_in, tells, up_with}
 use Rattle.g_world.specs.Moves.{dump_told, turn_told}

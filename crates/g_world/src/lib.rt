@@ -62,7 +62,9 @@ pub fn dumped_is_what_a_dump_opened_on<F: Fn(&Usage) -> Charge, U: Fn(&Standing)
 /// MOUNT lines.
 pub fn jobs_come_to_an_end<F: Fn(&Usage) -> Charge, U: Fn(&Standing) -> u64>()
     ensures { (tariff : F) (rule : U) → RunsEnd F.Fn tariff U.Fn rule }
-{}
+{
+    step_is_plain();
+}
 
 /// Where no count rose, the text of a run that is over follows from the script, what the devices stood for when it began,
 /// the charges and the weigh rule.
