@@ -19,6 +19,7 @@ pub mod MakeLemmas
 pub mod MarkLemmas
 pub mod NamedLemmas
 pub mod NextLemmas
+pub mod PutLemmas
 pub mod QuietLemmas
 pub mod RecordLemmas
 pub mod RenameLemmas

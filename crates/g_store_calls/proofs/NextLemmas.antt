@@ -280,13 +280,27 @@ next_made o live tied early len short files number file copied stamp same it cop
     subst (λ (r : FileRec). IsVersionOf o full r) (λ i. next_rec (sym copy i) (sym at i) len)
     (next_version o (rules_here o live tied) early len short file there full called)
 
--- a file of a number that has a name is there
-pub next_missing : (o : OnlineFacts) (files : List FileRec) (number : ℕ) (x : Option FileRec) → files ≡ recs_in o.contents → x ≡ get (by_number files) number → x ≡ None
-    → (full : Full) → name_of_file o.contents.users (recs_in o.contents) number ≡ Some full → ⊥
-next_missing o files number x same it none full named =
-    let nobody : get (by_number (recs_in o.contents)) number ≡ None = ap (λ (fs : List FileRec). get (by_number fs) number) (sym same) ∙ sym it ∙ none in
-    false≢true (ap (λ (y : Option FileRec). is_some (option_map (full_of o.contents.users) y)) (sym nobody) ∙ ap is_some named)
-
 -- what is asked of the record where it is put in
 pub is_next : (o : OnlineFacts) (bytes : List ℕ) (full : Full) (r : FileRec) (len : ℕ) → IsVersionOf o full r → o.contents.head.next_stamp < 2 ^ 62 → r.len ≡ len → len ≡ length bytes → IsNext o bytes r
 is_next o bytes full r len version early is long = record { stamp = version.stamp; early = early; tape = version.tape; len = is ∙ long; rules = version.rules }
+
+-- the record of a new file
+pub first_made : (o : OnlineFacts) → o.live ≡ true → IsTied o → o.contents.head.next_stamp < 2 ^ 62 → (len : ℕ) → len ≤ 65536 → (full : Full) → number_of o.contents.users (recs_in o.contents) full ≡ None
+    → is_word full.local ≡ true → is_lang full.lang ≡ true → (1 ≤ full.generation) × (full.generation ≤ 4095) → (us : List UserRec) (fs : List FileRec) → us ≡ o.contents.users → fs ≡ recs_in o.contents
+    → (r : FileRec) → (r.number < 1024) × (get (by_number fs) r.number ≡ None) → (r.owner < length us) × (name_of us r.owner ≡ full.user) → r.local ≡ full.local → r.generation ≡ full.generation
+    → r.lang ≡ full.lang → r.stamp ≡ o.contents.head.next_stamp → r.len ≡ len → r.traps ≡ record { owner = 31; others = [] } → r.tape ≡ None → IsVersionOf o full r
+first_made o live tied early len short full none word lang generation us fs users files r free owner local_is generation_is lang_is stamp_is len_is traps_are tape_is =
+    let owned = subst (λ (x : List UserRec). (r.owner < length x) × (name_of x r.owner ≡ full.user)) users owner in
+    first_version o (rules_here o live tied) early len short full none word lang generation r free.0 (subst (λ (x : List FileRec). get (by_number x) r.number ≡ None) files free.1) owned.0 owned.1 local_is generation_is
+    lang_is stamp_is len_is traps_are tape_is
+
+-- names and numbers of records, as a tree's
+pub named_on : (o : OnlineFacts) (us : List UserRec) (fs : List FileRec) (number : ℕ) (full : Full) → us ≡ o.contents.users → fs ≡ recs_in o.contents → name_of_file us fs number ≡ Some full
+    → name_of_file o.contents.users (recs_in o.contents) number ≡ Some full
+named_on o us fs number full users files is =
+    subst (λ (x : List FileRec). name_of_file o.contents.users x number ≡ Some full) files (subst (λ (x : List UserRec). name_of_file x fs number ≡ Some full) users is)
+
+pub none_on : (o : OnlineFacts) (us : List UserRec) (fs : List FileRec) (full : Full) → us ≡ o.contents.users → fs ≡ recs_in o.contents → (let none : Option ℕ = None in none ≡ number_of us fs full)
+    → number_of o.contents.users (recs_in o.contents) full ≡ None
+none_on o us fs full users files is =
+    subst (λ (x : List FileRec). number_of o.contents.users x full ≡ None) files (subst (λ (x : List UserRec). number_of x fs full ≡ None) users (sym is))

@@ -5,6 +5,7 @@ mod answering;
 mod appending;
 mod changing;
 mod fetching;
+mod putting;
 mod setting;
 mod telling;
 
@@ -12,5 +13,6 @@ pub use answering::change;
 pub use appending::append;
 pub use changing::{erase, new_user};
 pub use fetching::{fetch, retrieve};
+pub use putting::put;
 pub use setting::{budget, rename, trap_go, trap_stop};
 pub use telling::tell;

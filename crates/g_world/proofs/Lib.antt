@@ -2,6 +2,7 @@ pub mod AlikeLemmas
 pub mod AnswerLemmas
 pub mod BareLemmas
 pub mod CountLemmas
+pub mod CountedTurnLemmas
 pub mod CrewLemmas
 pub mod DumpLemmas
 pub mod DumpedLemmas
@@ -14,6 +15,7 @@ pub mod MountLemmas
 pub mod OneTextLemmas
 pub mod OpenAlikeLemmas
 pub mod OverLemmas
+pub mod ShortLemmas
 pub mod StepLemmas
 pub mod TakenLemmas
 pub mod ToldLemmas

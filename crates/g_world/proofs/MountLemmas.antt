@@ -161,8 +161,30 @@ offline_unmounted true true e = absurd (false≢true e)
 offline_unmounted true false e = refl
 offline_unmounted false mounted e = absurd (false≢true e)
 
+is_left : (a b : Bool) → (a && b) ≡ true → a ≡ true
+is_left true b e = refl
+is_left false b e = absurd (false≢true e)
+
 not_ok : {P : Type 0} (fault : StoreFault) (reply : StoreReply) → (let one : Result StoreReply StoreFault = Err fault in one ≡ Ok reply) → P
 not_ok fault reply e = absurd (let no : ⊥ = cc in no)
+
+-- a call that waits is of a version that isn't on the disc
+pub wait_offline : (s : State) (k : Holding) (who : List ℕ) (call : StoreCall) (o : Outcome) (serial : ℕ) (new : State) → CallStep s k who call o (Err (WaitTape serial)) new → is_offline s k who call ≡ true
+wait_offline s k who call o serial new step = by_early (refused (λ g. new ≡ s) (early s k who call o) (WaitTape serial) step)
+  where
+    by_late : (plan : Planned s k who call o (Err (WaitTape serial)) new) → is_offline s k who call ≡ true
+    by_late plan = elim (refused (λ g. LeftByRefusal s k who call o plan.until g new) (late s k who call o plan.until) (WaitTape serial) plan.step) [
+      | inl none ↦ not_ok (WaitTape serial) (reply_to k.tree who call) none.1.0
+      | inr some ↦ late_waits _ _ _ _ _ serial some.0
+    ]
+
+    offline : ((fault_of k.tree who call ≡ Some (WaitTape serial)) ⊎ (((is_offline s k who call && not (is_mounted s (reel_of s k who call))) ≡ true) × (reel_of s k who call ≡ serial))) → is_offline s k who call ≡ true
+    offline (inl plain) = absurd (false≢true (own_fault k.tree who call (WaitTape serial) (WaitTape serial) (sym plain) refl))
+    offline (inr (off, reel)) = is_left (is_offline s k who call) (not (is_mounted s (reel_of s k who call))) off
+
+    by_early : ((early s k who call o ≡ None) × Planned s k who call o (Err (WaitTape serial)) new) ⊎ ((early s k who call o ≡ Some (WaitTape serial)) × (new ≡ s)) → is_offline s k who call ≡ true
+    by_early (inl (none, plan)) = by_late plan
+    by_early (inr (some, is)) = offline (wait_early (fault_of k.tree who call) (is_offline s k who call && not (is_mounted s (reel_of s k who call))) (is_tape_read o && is_offline s k who call) (reel_of s k who call) serial some)
 
 pub wait_unmounted : (s : State) (k : Holding) (who : List ℕ) (call : StoreCall) (o : Outcome) (serial : ℕ) (new : State) → CallStep s k who call o (Err (WaitTape serial)) new → is_mounted new serial ≡ false
 wait_unmounted s k who call o serial new step = by_early (refused (λ g. new ≡ s) (early s k who call o) (WaitTape serial) step)
