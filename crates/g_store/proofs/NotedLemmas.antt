@@ -1,6 +1,6 @@
 -- What the completion of a dump makes of the state: the places that it noted, its tree, and the users who are kept then.
-use Rattle.std.proofs.Common.{◌≡◌, ◌≢◌, ℕ, zero, suc, ◌+◌, ◌<◌, ◌≤◌, Bool, true, false, List, [], ◌∷◌, ◌++◌, get_or, length, take, Option, Some, is_some, unwrap_or, None, refl, sym, ◌∙◌, ap, arith, subst, inl, inr}
-use Rattle.std.specs.Prelude.{◌⊎◌, ◌&&◌, ◌==◌, All, AllPairs, Contains, filter, map, nat_le, nat_lt, not, slice_get, sum_by}
+use Rattle.std.proofs.Common.{◌≡◌, ◌≢◌, ℕ, zero, suc, ◌+◌, ◌≤◌, Bool, true, false, List, [], ◌∷◌, get_or, take, Option, Some, unwrap_or, None, refl, sym, ◌∙◌, ap, arith, subst, inl, inr}
+use Rattle.std.specs.Prelude.{◌⊎◌, ◌==◌, All, AllPairs, Contains, filter, map, nat_le, nat_lt, not, slice_get, sum_by}
 use Rattle.std.specs.Option.{option_map}
 use Rattle.std.specs.Ordering.{nat_cmp}
 use Rattle.std.specs.Cmp.{eq_by_cmp_equiv}
@@ -32,7 +32,7 @@ use Rattle.g_online.proofs.CloseNoteLemmas.{pairs_map}
 use Rattle.g_step.specs.State as state
 use Rattle.g_step.specs.DumpSteps.{kept_now, waiting_blocks, writes_content}
 use Rattle.g_state.specs.Meaning.{DumpedDirectory, Gathers, HasDirectory, files_in, files_of}
-use Rattle.g_state.specs.Reading.{dumped_place, dumped_places, names_of, tree_by, users_in, users_not_in, waiting_of}
+use Rattle.g_state.specs.Reading.{dumped_place, dumped_places, names_of, users_in, users_not_in, waiting_of}
 use Rattle.g_state.specs.Up.{ArePinned}
 use Rattle.g_state_laws.proofs.ClosingLemmas.{IsOf, all_left, all_right, contains_filter}
 use Rattle.g_state_laws.proofs.PinLemmas.{OtherStamp}

@@ -1,10 +1,9 @@
 -- How a store answers the opening of a dump.
-use Rattle.std.proofs.Common.{◌≡◌, ◌≢◌, ℕ, zero, suc, ◌+◌, ◌-◌, ◌^◌, ◌<◌, ◌≤◌, ◌==◌, Bool, true, false, List, [], ◌∷◌, ◌++◌, length, map, Option, Some, None, Result, Ok, Err, refl, sym, ◌∙◌, ap, arith, subst, inl, inr, true≢false}
+use Rattle.std.proofs.Common.{◌≡◌, ◌≢◌, ℕ, ◌+◌, ◌-◌, ◌^◌, ◌<◌, ◌≤◌, ◌==◌, Bool, true, false, List, [], ◌∷◌, ◌++◌, length, map, Option, Some, None, Result, Ok, Err, refl, sym, ◌∙◌, ap, arith, subst, inl, inr, true≢false}
 use Rattle.std.specs.List.Sorted.{IsStrictlyIncreasing}
 use Rattle.std.proofs.lemmas.List.Kept.{AllPairs-from_increasing}
 use Rattle.std.proofs.lemmas.List.Sums.{sum_by-cons}
-use Rattle.std.specs.Prelude.{◌⊎◌, ◌↔◌, ◌||◌, All, AllPairs, Contains, IfErr, IfOk, IfSome, filter, is_none, if◌then◌else◌, is_some, nat_lt, not, option_map, sum_by}
-use Rattle.std.specs.Option.{ForSome}
+use Rattle.std.specs.Prelude.{◌⊎◌, ◌||◌, All, AllPairs, Contains, IfErr, IfOk, IfSome, filter, is_none, if◌then◌else◌, is_some, nat_lt, not, option_map, sum_by}
 use Rattle.std.specs.Ordering.{nat_cmp}
 use Rattle.std.specs.FinMap.{FinMap, from_entries}
 use Rattle.std.proofs.lemmas.Bool.{cases_Bool, cond-false, cond-true, eq-eqb, eqb-true, false≢true, le-ltb, lt-ltb, ne_eqb}
@@ -27,7 +26,7 @@ use Rattle.g_plain.specs.PlainStep.{first_fault}
 use Rattle.g_contents.specs.Contents.{Contents, File, Holds, recs_in, with_intent}
 use Rattle.g_contents.specs.Facts.{IsPinOf, IsTied, OnlineFacts, Pin}
 use Rattle.g_incr.specs.Layout.{Dump, holds}
-use Rattle.g_incr.specs.Plan.{IsPlan, Plan, blocks_of, dump_of, first_content, needs, waiting, waits}
+use Rattle.g_incr.specs.Plan.{blocks_of, dump_of, first_content, needs, waiting, waits}
 use Rattle.g_shelf.specs.Completed.{AreCompleted, AreShelved, all_dumps, end_behind, end_of}
 use Rattle.g_shelf.proofs.QuietLemmas.{end-within}
 use Rattle.g_step.specs.State as state
@@ -36,13 +35,12 @@ use Rattle.g_step.specs.DumpSteps.{Event, OpenStep, dump_needs, open_number, ope
 use Rattle.g_state.specs.Answers.{Belongs, IsStore, Told, WroteCommits}
 use Rattle.g_state.specs.Belong.{DiscBelongs, KeepsFile}
 use Rattle.g_state.specs.Meaning.{files_of, told_reels}
-use Rattle.g_state.specs.Reading.{AllTold, DevicesStandFor, IsOpenView, IsView, Opened, OpensTo, StandsForState, View, holding_of, open_of, row_of, shelved_of, state_down, state_up}
+use Rattle.g_state.specs.Reading.{DevicesStandFor, IsView, Opened, OpensTo, StandsForState, View, holding_of, open_of, row_of, shelved_of, state_down, state_up}
 use Rattle.g_state.specs.Up.{ArePinned, DumpFacts, IsReady, IsUp, StoreFacts, content_in, with_dump}
 use Rattle.g_state.proofs.ViewLemmas.{Stands, back, reads_keep_state}
 use Rattle.g_state_laws.specs.Dumping.{IsPlanOf, opened_with}
 use Rattle.g_state_laws.proofs.StateLemmas.{is_view, view_by, with_there}
 use Rattle.g_state_laws.proofs.UpOneLemmas.{store_is_one}
-use Rattle.g_state_steps.specs.Opened.{AreOpened}
 use Rattle.g_state_steps.specs.Rooms.{HasLength, held_in}
 use Rattle.g_state_steps.proofs.NeedsLemmas.{opening_takes}
 use Rattle.g_state_opening.specs.Opening.{IsOpening}
@@ -57,7 +55,7 @@ use Rattle.g_dumper.proofs.KeepLemmas.{content_told}
 use Rattle.g_dumper.proofs.OpeningLemmas.{IsOpenedUp, opened_up, serial_among}
 use Rattle.g_dumper.proofs.ShelfLemmas.{reel_there, told_is}
 use Rattle.g_state_laws.proofs.RecordLemmas.{pairs_head, pairs_tail}
-use Rattle.g_store.specs.Events.{AnswersEvent, IsOfOpening, LeadsBy, Opens, StepsBy, WroteBy}
+use Rattle.g_store.specs.Events.{IsOfOpening, LeadsBy, Opens, StepsBy, WroteBy}
 use Rattle.g_store.specs.Refusing.{IsExact, capacity_of, needs_now, number_in, open_refuses as refuses_now}
 use Rattle.g_store.specs.Dumping.{is_stop_at}
 use Rattle.g_store.proofs.EventLemmas.{leads_same, none_written, refused}

@@ -1,13 +1,12 @@
 -- How a store answers a step of its open dump, whichever answer the dumper gave.
-use Rattle.std.proofs.Common.{◌≡◌, ◌≢◌, ℕ, ◌+◌, ◌<◌, Bool, true, false, List, Option, Some, None, Result, Ok, Err, refl, sym, ◌∙◌, ap, arith, subst, inl, inr}
-use Rattle.std.specs.Prelude.{◌⊎◌, ◌↔◌, All, IfSome, is_some}
+use Rattle.std.proofs.Common.{◌≡◌, ℕ, ◌+◌, ◌<◌, Bool, true, false, List, Option, Some, None, Result, Ok, Err, refl, sym, ◌∙◌, ap, arith, subst, inl, inr}
+use Rattle.std.specs.Prelude.{◌↔◌, All, IfSome, is_some}
 use Rattle.std.proofs.lemmas.Bool.{false≢true}
-use Rattle.std.proofs.lemmas.Option.{none-some, same_Some}
+use Rattle.std.proofs.lemmas.Option.{same_Some}
 use Rattle.g_tape.specs.Rack.{AreReels, Rack}
 use Rattle.g_plain.specs.declared.faults.StoreFault.{StoreFault}
 use Rattle.g_plain.specs.declared.faults.StoreFault.TheVariants.{DiscReadFault, Stopped}
 use Rattle.g_contents.specs.Facts.{IsPinOf, OnlineFacts, Pin}
-use Rattle.g_online.specs.declared.fault.OnlineFault.TheVariants as online
 use Rattle.g_online.specs.Done.{HasClosed}
 use Rattle.g_incr.specs.Plan.{needs}
 use Rattle.g_step.specs.State as state
@@ -16,10 +15,10 @@ use Rattle.g_state.specs.Answers.{Belongs, IsStore, Told, WroteCommits}
 use Rattle.g_state.specs.Reading.{StandsForState}
 use Rattle.g_state.specs.Up.{DumpFacts, IsOpen, StoreFacts, content_in}
 use Rattle.g_dumper.specs.Keeps.{KeepsStore, behind_step, spent_with, up_with}
-use Rattle.g_dumper.specs.Steps.{Abandoned, Stepping}
+use Rattle.g_dumper.specs.Steps.{Stepping}
 use Rattle.g_dumper.proofs.KeepLemmas.{content_told}
 use Rattle.g_store.specs.Dumping.{LeavesOpen, NoneRose, Progresses, StepsAs, is_stop_at}
-use Rattle.g_store.specs.Events.{AnswersEvent, IsStepOfDump, LeadsBy, StepsBy, StepsDump, WroteBy, commits_of_step}
+use Rattle.g_store.specs.Events.{IsStepOfDump, LeadsBy, StepsBy, StepsDump, WroteBy, commits_of_step}
 use Rattle.g_store.proofs.SteppedLemmas.{abandons, completes, goes, stops, stops_closing}
 
 -- THE CONTENT of its pins, where the disc tells

@@ -1,5 +1,5 @@
 -- WHAT BECOMES OF FILESTORE AND TAPE where a dump is opened and where it takes a step: `Begins` and `Stepping` of g_dumper.
-use Rattle.std.specs.Prelude.{◌≡◌, ℕ, ◌+◌, ◌<◌, Bool, true, false, Option, Some, None, Result, Ok, Err, OnOk}
+use Rattle.std.specs.Prelude.{◌≡◌, ℕ, ◌+◌, ◌<◌, Bool, true, false, Option, Some, None, Result, Ok, OnOk}
 use Rattle.g_base.specs.Counts.{Rose}
 use Rattle.g_plain.specs.declared.faults.StoreFault.{StoreFault}
 use Rattle.g_plain.specs.declared.faults.StoreFault.TheVariants.{Stopped}

@@ -1,4 +1,4 @@
-use Rattle.std.proofs.Common.{◌≡◌, ℕ, Bool, Err, Ok, Some, subst, sym}
+use Rattle.std.proofs.Common.{ℕ, Bool, Err, Ok, Some, subst, sym}
 use Rattle.g_state.specs.Answers.{IsStore}
 use Rattle.g_state.specs.Up.{StoreFacts}
 use Rattle.g_store.specs.Events.{Opens}
