@@ -1,5 +1,5 @@
 -- Accounts: where a user's stands, and what ended jobs leave of it.
-use Rattle.std.proofs.Common.{◌≡◌, ◌+◌, ◌-◌, ◌<◌, ◌≤◌, ◌∙◌, ◌++◌, ◌∷◌, [], Bool, List, None, Option, Some, ap, append-nil, arith, cond, drop, false, filter, find, get_or, is_some, length, refl, set, slice_get, subst, suc, sum_by, sym, take, take_all, true, true≢false, unwrap_or, zero, ℕ}
+use Rattle.std.proofs.Common.{◌≡◌, ◌+◌, ◌-◌, ◌<◌, ◌∙◌, ◌++◌, ◌∷◌, [], Bool, List, None, Option, Some, ap, append-nil, arith, cond, drop, false, find, get_or, is_some, length, refl, slice_get, subst, suc, sum_by, sym, take, take_all, true, true≢false, unwrap_or, zero, ℕ}
 use Rattle.std.specs.Option.{option_map, option_or}
 use Rattle.std.proofs.lemmas.Bool.{cond_both, false≢true}
 use Rattle.std.proofs.lemmas.List.{drop_all, take_more}

@@ -1,5 +1,5 @@
 -- The jobs that can step, one after another.
-use Rattle.std.proofs.Common.{◌≡◌, ◌+◌, ◌<◌, ◌≤◌, ◌∙◌, ◌++◌, ◌∷◌, [], Bool, List, None, Option, Some, ap, arith, cond, false, filter, get_or, length, map, not, refl, set, slice_get, subst, sym, suc, take, true, zero, ℕ}
+use Rattle.std.proofs.Common.{◌≡◌, ◌+◌, ◌<◌, ◌∙◌, ◌++◌, ◌∷◌, [], Bool, List, None, Option, Some, ap, arith, cond, false, get_or, length, map, not, refl, set, slice_get, subst, sym, suc, take, true, zero, ℕ}
 use Rattle.std.specs.Fn.{Shared}
 use Rattle.std.specs.List.{All}
 use Rattle.std.specs.Option.{option_map}

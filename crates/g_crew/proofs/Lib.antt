@@ -2,4 +2,5 @@ pub mod AccountLemmas
 pub mod ChoiceLemmas
 pub mod NumberLemmas
 pub mod OpeningLemmas
+pub mod RowLemmas
 pub mod TakingLemmas

@@ -1,5 +1,5 @@
 -- Jobs by number: the order of numbers is kept, and a job at a place is the one of its number.
-use Rattle.std.proofs.Common.{◌≡◌, ◌+◌, ◌<◌, ◌≤◌, ◌∙◌, ◌==◌, ◌++◌, ◌∷◌, [], Bool, List, None, Option, Some, ap, arith, cond, drop, eq-eqb, false, filter, find, length, length-set, map, ne_eqb, not, refl, set, slice_get, subst, suc, sym, take, true, zero, ℕ}
+use Rattle.std.proofs.Common.{◌≡◌, ◌+◌, ◌<◌, ◌≤◌, ◌∙◌, ◌==◌, ◌++◌, ◌∷◌, [], Bool, List, None, Some, ap, arith, cond, eq-eqb, false, filter, length, length-set, ne_eqb, not, refl, set, slice_get, subst, suc, sym, true, zero, ℕ}
 use Rattle.std.specs.List.{remove}
 use Rattle.std.proofs.lemmas.Bool.{cond_both}
 use Rattle.std.proofs.lemmas.List.{drop-set-lt, length_push, take-set}

@@ -1,6 +1,5 @@
 -- Accounts that open, beside those of a world.
-use Rattle.std.proofs.Common.{◌≡◌, ◌+◌, ◌-◌, ◌<◌, ◌∙◌, ◌++◌, ◌||◌, ◌∷◌, [], Bool, List, None, Option, Some, ap, arith, cond, false, filter, find, get_or, is_some, length, map, not, refl, subst, sum_by, sym, take, true, unwrap_or, ℕ}
-use Rattle.std.specs.List.{list_any}
+use Rattle.std.proofs.Common.{◌≡◌, ◌+◌, ◌-◌, ◌<◌, ◌∙◌, ◌++◌, ◌||◌, ◌∷◌, [], Bool, List, None, Option, Some, ap, arith, cond, false, filter, find, get_or, is_some, length, map, not, refl, sym, take, true, ℕ}
 use Rattle.std.specs.Option.{option_map, option_or}
 use Rattle.std.proofs.lemmas.Bool.{cond_both, false≢true}
 use Rattle.std.proofs.lemmas.List.{take_more}

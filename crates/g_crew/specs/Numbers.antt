@@ -1,5 +1,5 @@
 -- Jobs go by their numbers.
-use Rattle.std.specs.Prelude.{◌≡◌, ℕ, ◌+◌, ◌<◌, ◌≤◌, ◌==◌, All, List, [], ◌∷◌, length, Option, find, false}
+use Rattle.std.specs.Prelude.{◌≡◌, ℕ, ◌+◌, ◌≤◌, ◌==◌, All, List, [], ◌∷◌, length, Option, find, false}
 use Rattle.g_job.specs.State.{JobState}
 
 -- the job of a number

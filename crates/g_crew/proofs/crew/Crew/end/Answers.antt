@@ -1,5 +1,5 @@
 -- The job at the place is the one of its number.
-use Rattle.std.proofs.Common.{List, Option, Some, ap, arith, drop, length, slice_get, subst, sym, take, ◌++◌, ◌<◌, ◌∙◌, ◌≡◌}
+use Rattle.std.proofs.Common.{List, Option, Some, ap, arith, drop, length, slice_get, subst, sym, take, ◌++◌, ◌∙◌, ◌≡◌}
 use Rattle.std.proofs.lemmas.Option.{get_or_from_slice_get, slice_get_within}
 use Rattle.g_job.specs.State.{JobState}
 use Rattle.g_crew.specs.Accounts.{AreKept, charged, kept_for}
