@@ -1,6 +1,6 @@
 -- Of the state that a store stands for: a view in which no dump is ahead of the disc. Where the devices tell it is the view there is;
 -- where they don't, one without a dumped tree has the same names and lengths.
-use Rattle.std.proofs.Common.{◌≡◌, ◌≢◌, ℕ, ◌<◌, ◌≤◌, Bool, true, false, List, [], ◌∷◌, ◌++◌, length, Option, Some, None, is_some, refl, sym, ◌∙◌, ap, arith, inl, inr, subst, All}
+use Rattle.std.proofs.Common.{◌≡◌, ◌≢◌, ℕ, ◌≤◌, true, false, List, [], ◌∷◌, ◌++◌, Option, Some, None, is_some, refl, sym, ◌∙◌, ap, inl, inr, subst, All}
 use Rattle.std.specs.Prelude.{◌⊎◌, ◌==◌, AllPairs, Contains, IfSome, if◌then◌else◌}
 use Rattle.std.specs.Option.{ForSome}
 use Rattle.std.proofs.lemmas.Bool.{cases_Bool, both_ways}
@@ -9,9 +9,9 @@ use Rattle.std.proofs.lemmas.List.Kept.{AllPairs-filter}
 use Rattle.g_entry.specs.declared.file_rec.FileRec.{FileRec}
 use Rattle.g_tape.specs.Reel.{Reel}
 use Rattle.g_contents.specs.Contents.{File}
-use Rattle.g_contents.specs.Facts.{OnlineFacts, Pin}
+use Rattle.g_contents.specs.Facts.{Pin}
 use Rattle.g_incr.specs.Layout.{Dump}
-use Rattle.g_incr.specs.Plan.{IsPlan, dump_of, first_content, waiting, waits}
+use Rattle.g_incr.specs.Plan.{dump_of, first_content, waiting, waits}
 use Rattle.g_shelf.specs.Completed.{AreShelved, all_dumps}
 use Rattle.g_step.specs.State.{State}
 use Rattle.g_state.specs.Answers.{Belongs, IsStore, Told}

@@ -1,24 +1,21 @@
 -- Append, whatever was answered: what the plain step grants, and that the call is answered as the whole store answers it.
 use Rattle.std.proofs.Common.{◌≡◌, ◌≢◌, ℕ, ◌+◌, ◌<◌, ◌≤◌, ◌^◌, Bool, true, false, List, ◌∷◌, ◌++◌, length, Option, Some, None, Result, Ok, Err, is_some, refl, sym, ◌∙◌, ap, arith, inl, inr, subst}
-use Rattle.std.specs.Prelude.{◌⊎◌, Contains, IfOk, nat_le, nat_lt, not}
+use Rattle.std.specs.Prelude.{◌⊎◌, Contains, nat_le, nat_lt, not}
 use Rattle.std.specs.Option.{ForSome}
 use Rattle.std.proofs.lemmas.Bool.{cases_Bool, false≢true, ltb-false}
 use Rattle.std.proofs.lemmas.Bool.Decides.{leb_tells}
 use Rattle.std.proofs.lemmas.List.{length-replicate}
-use Rattle.g_base.specs.Block.{blocks_for}
 use Rattle.g_name.specs.declared.full.Full.{Full}
 use Rattle.g_name.specs.declared.path.Path.{Path}
 use Rattle.g_entry.specs.declared.file_rec.FileRec.{FileRec}
 use Rattle.g_entry.specs.declared.file_rec.TapeCopy.{TapeCopy}
 use Rattle.g_entry.specs.declared.user_rec.UserRec.{UserRec}
 use Rattle.g_tape.specs.Rack.{Rack, is_mounted, reel}
-use Rattle.g_plain.specs.declared.calls.StoreCall.{StoreCall}
 use Rattle.g_plain.specs.declared.calls.StoreCall.TheVariants.{Append}
-use Rattle.g_plain.specs.declared.calls.StoreReply.{StoreReply}
 use Rattle.g_plain.specs.declared.calls.StoreReply.TheVariants.{Appended}
 use Rattle.g_plain.specs.declared.faults.StoreFault.{StoreFault}
 use Rattle.g_plain.specs.declared.faults.StoreFault.TheVariants.{DiscFull, DiscReadFault, NoCopy, NoMemory, NoUser, Stopped, TapeReadFault, WaitTape}
-use Rattle.g_plain.specs.PlainStep.{checks, fault_of}
+use Rattle.g_plain.specs.PlainStep.{checks}
 use Rattle.g_plain.specs.PlainTree.{FileRow, Tree, file_row, has_file, has_user, input_name}
 use Rattle.g_tree.specs.Asked.{zeros}
 use Rattle.g_tree.specs.Records.{ForTree, IsRecords, file_row_of, full_of, tree_of}
@@ -36,7 +33,7 @@ use Rattle.g_online.specs.declared.change.Change.TheVariants.{PutFile}
 use Rattle.g_migrate.proofs.MigrationLemmas.{rules_here}
 use Rattle.g_retrieve.specs.Brought.{HasCopied}
 use Rattle.g_store_calls.specs.Answering.{AnswersOver, KeepsPlan, with_devices}
-use Rattle.g_store_calls.specs.Appending.{HasAppended, HasPutBehind, IsAtHand, IsAway, IsOldText, version_of}
+use Rattle.g_store_calls.specs.Appending.{HasAppended, HasPutBehind, IsAtHand, IsOldText, version_of}
 use Rattle.g_store_calls.specs.Applied.{answer_with}
 use Rattle.g_store_calls.specs.Kinds.{IsKind}
 use Rattle.g_store_calls.specs.Made.{IsFileAt}

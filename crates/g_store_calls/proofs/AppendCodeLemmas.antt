@@ -1,6 +1,6 @@
 -- What the functions of Append show in turn, by the record of the file that they have.
-use Rattle.std.proofs.Common.{◌≡◌, ◌≢◌, ℕ, ◌+◌, ◌<◌, ◌≤◌, ◌^◌, Bool, true, false, List, ◌++◌, length, map, Option, Some, None, Result, Ok, Err, is_some, refl, sym, ◌∙◌, ap, inl, inr, subst, true≢false}
-use Rattle.std.specs.Prelude.{◌⊎◌, Contains, IfErr, IfOk}
+use Rattle.std.proofs.Common.{◌≡◌, ℕ, ◌+◌, ◌<◌, Bool, true, false, List, ◌++◌, length, Some, None, Result, Ok, Err, is_some, refl, sym, ◌∙◌, ap, inl, inr, subst, true≢false}
+use Rattle.std.specs.Prelude.{◌⊎◌, Contains}
 use Rattle.std.specs.Option.{ForSome}
 use Rattle.std.proofs.lemmas.Bool.{false≢true}
 use Rattle.std.proofs.lemmas.List.Elements.{All-contains}

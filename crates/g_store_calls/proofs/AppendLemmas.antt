@@ -1,6 +1,6 @@
 -- How bytes that are put behind those of a file are answered where nothing is written.
-use Rattle.std.proofs.Common.{◌≡◌, ◌≢◌, ℕ, ◌+◌, ◌<◌, ◌≤◌, Bool, true, false, List, length, Option, Some, None, Result, Ok, Err, refl, sym, ◌∙◌, ap, arith, inl, inr, subst, All}
-use Rattle.std.specs.Prelude.{◌⊎◌, ◌&&◌, Contains, nat_lt, not}
+use Rattle.std.proofs.Common.{◌≡◌, ◌≢◌, ℕ, ◌+◌, ◌<◌, ◌≤◌, Bool, true, false, List, length, Option, Some, None, Result, Err, refl, sym, ◌∙◌, ap, arith, inl, inr, subst}
+use Rattle.std.specs.Prelude.{◌&&◌, nat_lt, not}
 use Rattle.std.proofs.lemmas.Bool.{le-ltb, lt-ltb}
 use Rattle.std.proofs.lemmas.List.Elements.{All-contains}
 use Rattle.std.proofs.lemmas.Option.{same_Some}
@@ -14,17 +14,17 @@ use Rattle.g_plain.specs.declared.calls.StoreCall.{StoreCall}
 use Rattle.g_plain.specs.declared.calls.StoreCall.TheVariants.{Append}
 use Rattle.g_plain.specs.declared.calls.StoreReply.{StoreReply}
 use Rattle.g_plain.specs.declared.faults.StoreFault.{StoreFault}
-use Rattle.g_plain.specs.declared.faults.StoreFault.TheVariants.{DiscFull, DiscReadFault, NoCopy, NoMemory, Stopped, TapeReadFault, WaitTape}
+use Rattle.g_plain.specs.declared.faults.StoreFault.TheVariants.{DiscFull, DiscReadFault, NoCopy, NoMemory, TapeReadFault, WaitTape}
 use Rattle.g_plain.specs.PlainStep.{fault_of}
 use Rattle.g_plain.specs.PlainTree.{FileRow, file_row, input_name}
 use Rattle.g_tree.specs.Records.{IsRecords, full_of}
 use Rattle.g_contents.specs.Contents.{File, recs_in}
 use Rattle.g_contents.specs.Facts.{OnlineFacts}
 use Rattle.g_step.specs.State.{Holding, State, is_mounted}
-use Rattle.g_step.specs.CallStep.{CallStep, DiscRead, IsUnjam, Outcome, Plain, TapeRead, early, is_offline, len_of, need, reel_of, room_until, version_read}
-use Rattle.g_state.specs.Answers.{Answers, Belongs, IsLostCopy, IsStore, Raised, Steps, Told, WantsCopy}
+use Rattle.g_step.specs.CallStep.{CallStep, DiscRead, IsUnjam, Outcome, Plain, TapeRead, is_offline, len_of, need, reel_of, room_until, version_read}
+use Rattle.g_state.specs.Answers.{Answers, Belongs, IsLostCopy, IsStore, Told, WantsCopy}
 use Rattle.g_state.specs.Meaning.{told_reels}
-use Rattle.g_state.specs.Reading.{AllTold, HasText, IsView, StandsForState, View, state_up}
+use Rattle.g_state.specs.Reading.{AllTold, HasText, IsView, View, state_up}
 use Rattle.g_state.specs.Up.{StoreFacts}
 use Rattle.g_state_steps.specs.Rooms.{held_in}
 use Rattle.g_state_steps.specs.Unjam.{ArePlanned, IsUnjamPlan}
@@ -33,10 +33,10 @@ use Rattle.g_retrieve.specs.Brought.{IsNowhere, IsOnTape}
 use Rattle.g_retrieve.specs.Keeps.{HasLostCopy, IsOver}
 use Rattle.g_retrieve.proofs.HeldLemmas.{is_lost}
 use Rattle.g_store_calls.specs.Answering.{KeepsPlan, with_devices}
-use Rattle.g_store_calls.specs.Appending.{HasAppended, IsAtHand, IsAway, IsFor}
+use Rattle.g_store_calls.specs.Appending.{IsAtHand, IsAway, IsFor}
 use Rattle.g_store_calls.specs.Asking.{HasAsked}
 use Rattle.g_store_calls.proofs.AskedLemmas.{planned, prepared}
-use Rattle.g_store_calls.proofs.QuietLemmas.{asked_for, leads_read, quietly, read_store, stands_read}
+use Rattle.g_store_calls.proofs.QuietLemmas.{asked_for, leads_read, quietly, stands_read}
 use Rattle.g_store_calls.proofs.SeenLemmas.{seen}
 use Rattle.g_store_calls.proofs.StepLemmas.{early_reads, early_waits, lacks_room, late_full, late_reads, no_early, reads_disc, step_early, step_late, waits}
 use Rattle.g_store_calls.proofs.WantLemmas.{Wants, granted_in, len_in, mounted_in_state, offline_in, reads_is, reel_in, row_in}

@@ -1,10 +1,10 @@
 -- How bytes that were put behind those of a file are answered: the new version is the step's, whether it was made or a write failed.
-use Rattle.std.proofs.Common.{◌≡◌, ◌≢◌, ℕ, ◌+◌, ◌<◌, ◌≤◌, Bool, true, false, List, ◌++◌, get_or, length, length-append, Option, Some, None, Result, Ok, Err, is_some, refl, sym, ◌∙◌, ap, arith, inl, inr, subst, true≢false, All}
-use Rattle.std.specs.Prelude.{◌⊎◌, Contains, IfErr, IfSome, OnOk, not}
+use Rattle.std.proofs.Common.{◌≡◌, ℕ, ◌+◌, ◌<◌, ◌≤◌, Bool, true, false, List, ◌++◌, get_or, length, length-append, Option, Some, None, Ok, Err, is_some, refl, sym, ◌∙◌, ap, inl, inr, subst, true≢false, All}
+use Rattle.std.specs.Prelude.{◌⊎◌, Contains, IfSome, not}
 use Rattle.std.specs.Option.{ForSome}
 use Rattle.std.proofs.lemmas.Bool.{false≢true}
 use Rattle.std.proofs.lemmas.List.Elements.{All-contains, All-map}
-use Rattle.std.proofs.lemmas.Option.{none-some, same_Some}
+use Rattle.std.proofs.lemmas.Option.{none-some}
 use Rattle.g_base.specs.Block.{blocks_for}
 use Rattle.g_base.specs.Counts.{Rose}
 use Rattle.g_disc.specs.Disc.{Causes}
@@ -18,18 +18,15 @@ use Rattle.g_tape.specs.Reads.{HasRead, OnlyReads}
 use Rattle.g_tape.specs.Reel.{Reel}
 use Rattle.g_plain.specs.declared.calls.StoreCall.{StoreCall}
 use Rattle.g_plain.specs.declared.calls.StoreCall.TheVariants.{Append}
-use Rattle.g_plain.specs.declared.calls.StoreReply.{StoreReply}
 use Rattle.g_plain.specs.declared.calls.StoreReply.TheVariants.{Appended}
-use Rattle.g_plain.specs.declared.faults.StoreFault.{StoreFault}
-use Rattle.g_plain.specs.declared.faults.StoreFault.TheVariants.{DiscFull, DiscReadFault, NoCopy, NoMemory, Stopped, TapeReadFault, WaitTape}
+use Rattle.g_plain.specs.declared.faults.StoreFault.TheVariants.{Stopped}
 use Rattle.g_plain.specs.PlainStep.{reply_to}
-use Rattle.g_plain.specs.PlainTree.{FileRow, file_row, input_name}
+use Rattle.g_plain.specs.PlainTree.{FileRow, file_row}
 use Rattle.g_tree.specs.Records.{file_row_of, full_of}
 use Rattle.g_dirs.specs.Directory.{FileEntry}
-use Rattle.g_contents.specs.Contents.{Contents, File, file_of, recs_in}
+use Rattle.g_contents.specs.Contents.{Contents, File, file_of}
 use Rattle.g_contents.specs.Facts.{IsTied, OnlineFacts}
 use Rattle.g_incr.specs.Layout.{Dump}
-use Rattle.g_shelf.specs.Completed.{all_dumps}
 use Rattle.g_step.specs.State.{Holding, Place, State}
 use Rattle.g_step.specs.CallStep.{Plain, is_offline, len_of, place_of, version_read}
 use Rattle.g_state.specs.Answers.{Answers, Belongs, IsStore, ReadCopy, Told}
@@ -42,18 +39,16 @@ use Rattle.g_state_steps.specs.Rooms.{held_in}
 use Rattle.g_state_steps.specs.Unjam.{IsUnjamPlan}
 use Rattle.g_online.specs.declared.change.Change.{Change}
 use Rattle.g_online.specs.declared.change.Change.TheVariants.{PutFile}
-use Rattle.g_online.specs.Done.{AfterStop, HasChanged, HasStopped}
+use Rattle.g_online.specs.Done.{HasChanged, HasStopped}
 use Rattle.g_retrieve.specs.Brought.{HasCopied}
-use Rattle.g_retrieve.specs.Keeps.{IsOver}
 use Rattle.g_retrieve.proofs.HeldLemmas.{copied_one}
 use Rattle.g_retrieve.proofs.KeepsLemmas.{keeps_same}
-use Rattle.g_store_calls.specs.Answering.{AnswersOver, KeepsPlan, with_devices}
-use Rattle.g_store_calls.specs.Appending.{HasAppended, HasPutBehind, IsAtHand, IsAway, IsOldText, version_of}
-use Rattle.g_store_calls.specs.Applied.{HasApplied, answer_with}
+use Rattle.g_store_calls.specs.Answering.{KeepsPlan}
+use Rattle.g_store_calls.specs.Appending.{IsAtHand, IsOldText, version_of}
 use Rattle.g_store_calls.specs.Asking.{HasAsked}
 use Rattle.g_store_calls.specs.Versions.{HasRoom}
 use Rattle.g_store_calls.proofs.AheadLemmas.{Ahead, ahead_stands}
-use Rattle.g_store_calls.proofs.AppendLemmas.{failed_answer, full_answer, going, granted_here, long_here, lost_answer, named_here, need_here, offline_here, starved, unread_answer, waits_answer}
+use Rattle.g_store_calls.proofs.AppendLemmas.{going, granted_here, long_here, named_here, need_here, offline_here}
 use Rattle.g_store_calls.proofs.AskedLemmas.{Met, met, no_bytes, prepared}
 use Rattle.g_store_calls.proofs.QuietLemmas.{online_is, read_online}
 use Rattle.g_store_calls.proofs.VersionLemmas.{IsMet, belongs_done, belongs_stopped, leads_done, leads_stopped, store_done}

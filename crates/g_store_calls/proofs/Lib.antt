@@ -10,9 +10,11 @@ pub mod BackLemmas
 pub mod BehindLemmas
 pub mod BroughtLemmas
 pub mod BudgetLemmas
+pub mod CallLemmas
 pub mod CalmLemmas
 pub mod EraseLemmas
 pub mod FetchLemmas
+pub mod FirstLemmas
 pub mod HereLemmas
 pub mod KindLemmas
 pub mod MakeLemmas

@@ -1,23 +1,20 @@
 -- The making of a new version: that the filestore allows it, and how it is answered.
-use Rattle.std.proofs.Common.{◌≡◌, ◌≢◌, ℕ, ◌<◌, ◌≤◌, ◌+◌, ◌^◌, Bool, true, false, List, [], ◌∷◌, ◌++◌, get_or, length, map, Option, Some, None, Result, Ok, Err, is_some, refl, sym, ◌∙◌, ap, arith, inl, inr, subst, All}
-use Rattle.std.specs.Prelude.{◌⊎◌, ◌==◌, ◌||◌, ◌&&◌, AllPairs, Contains, filter, if◌then◌else◌, nat_lt}
+use Rattle.std.proofs.Common.{◌≡◌, ℕ, ◌<◌, ◌≤◌, ◌+◌, Bool, true, false, List, ◌∷◌, get_or, length, None, Ok, Err, is_some, refl, sym, ◌∙◌, ap, arith, inl, inr, subst, All}
+use Rattle.std.specs.Prelude.{◌⊎◌, ◌==◌, ◌&&◌, Contains, filter, nat_lt}
 use Rattle.std.proofs.lemmas.Bool.{cases_Bool, cond-false, cond-true, eqb-true, false≢true, ltb-true}
 use Rattle.std.proofs.lemmas.List.Elements.{All-append, All-cons, All-contains, All-filter, All-map, Contains-get_or}
 use Rattle.g_base.specs.Block.{blocks_for}
-use Rattle.g_disc.specs.Disc.{Causes}
 use Rattle.g_disc.proofs.CallLemmas.{Causes-for}
 use Rattle.g_entry.specs.declared.file_rec.FileRec.{FileRec}
 use Rattle.g_entry.specs.Rules.{StampsBelow}
-use Rattle.g_plain.specs.declared.faults.StoreFault.{StoreFault}
 use Rattle.g_plain.specs.declared.faults.StoreFault.TheVariants.{DiscFull, NoMemory, Stopped}
 use Rattle.g_tree.specs.Records.{IsRecords}
 use Rattle.g_tree.specs.State as records
 use Rattle.g_tree.proofs.PlaceLemmas.{numbered_apart}
 use Rattle.g_tree.proofs.RuleLemmas.{one_of_key}
-use Rattle.g_contents.specs.Contents.{Contents, File, committed, has, offline_in, recs_in, taken_off, with_file}
+use Rattle.g_contents.specs.Contents.{Contents, File, committed, has, offline_in, recs_in, taken_off}
 use Rattle.g_contents.specs.Facts.{IsTied, OnlineFacts}
 use Rattle.g_online.specs.declared.change.Change.TheVariants.{PutFile}
-use Rattle.g_online.specs.declared.fault.OnlineFault.{OnlineFault}
 use Rattle.g_online.specs.declared.fault.OnlineFault.TheVariants as online
 use Rattle.g_online.specs.Allowed.{AreUnjammable, IsAllowed, IsUnjammable, KeepsRules, Lies}
 use Rattle.g_online.specs.Change.{changed, told_bytes}
@@ -28,7 +25,7 @@ use Rattle.g_state_steps.specs.Unjam.{IsUnjamPlan, is_taken}
 use Rattle.g_state_steps.proofs.UnjamLemmas.{any_found}
 use Rattle.g_state_steps.proofs.WaitingLemmas.{mapped_there}
 use Rattle.g_migrate.proofs.MigrationLemmas.{rules_here}
-use Rattle.g_store_calls.specs.Versions.{HasMade, HasRoom, IsFull, IsNext}
+use Rattle.g_store_calls.specs.Versions.{HasMade, HasRoom, IsNext}
 use Rattle.g_store_calls.proofs.AddLemmas.{or_false, rules_committed}
 
 -- WHAT MAY GO OFF the disc

@@ -1,10 +1,9 @@
 -- The record of a new version: in the place of the file of its number, or of a new file, the records keep their rules.
-use Rattle.std.proofs.Common.{◌≡◌, ◌≢◌, ℕ, zero, suc, ◌<◌, ◌≤◌, ◌+◌, ◌^◌, Bool, true, false, List, [], ◌∷◌, ◌++◌, get_or, length, map, Option, Some, None, is_some, unwrap_or, refl, sym, ◌∙◌, ap, arith, inl, inr, subst, All}
-use Rattle.std.specs.Prelude.{◌⊎◌, ◌==◌, ◌&&◌, AllPairs, Contains, IfSome, filter, is_none, nat_le, nat_lt, not}
+use Rattle.std.proofs.Common.{◌≡◌, ◌≢◌, ℕ, zero, suc, ◌<◌, ◌≤◌, ◌^◌, Bool, true, List, [], ◌∷◌, ◌++◌, get_or, length, Option, Some, None, is_some, refl, sym, ◌∙◌, ap, arith, inl, inr, subst, All}
+use Rattle.std.specs.Prelude.{◌⊎◌, AllPairs, Contains, IfSome, filter, nat_lt}
 use Rattle.std.specs.FinMap.{get, get-from_entries, len, nat_cmp-IsAntisymmetric}
 use Rattle.std.specs.Option.{option_map}
-use Rattle.std.proofs.lemmas.Bool.{cases_Bool, cases_lt, eqb-true, false≢true, ltb-false, ltb-true}
-use Rattle.std.proofs.lemmas.Bool.Decides.{leb_tells}
+use Rattle.std.proofs.lemmas.Bool.{cases_lt, false≢true, ltb-true}
 use Rattle.std.proofs.lemmas.Cmp.{nat_cmp_total}
 use Rattle.std.proofs.lemmas.List.Elements.{All-append, All-cons, All-contains, All-filter, Contains-append_right, Contains-get_or, filter_passes}
 use Rattle.std.proofs.lemmas.List.Kept.{AllPairs-cons, AllPairs-filter}
@@ -15,16 +14,13 @@ use Rattle.g_entry.specs.declared.user_rec.UserRec.{UserRec}
 use Rattle.g_entry.specs.FileFields.{AreSets, IsCopy, IsFile, lacks}
 use Rattle.g_entry.specs.Rules.{AreNumbered, SameName}
 use Rattle.g_name.specs.declared.full.Full.{Full}
-use Rattle.g_name.specs.declared.path.Path.{Path}
 use Rattle.g_name.specs.Grammar.{is_lang, is_word}
 use Rattle.g_trap.specs.TrapList.{IsOthers, TrapList}
-use Rattle.g_plain.specs.PlainTree.{Tree, has_file, has_user, newest, output_name}
 use Rattle.g_tree.specs.Records.{IsRecords, by_number, full_of, name_of, name_of_file, number_of}
 use Rattle.g_tree.specs.State.{with_file}
 use Rattle.g_tree.proofs.MapLemmas.{found_one, keyed}
 use Rattle.g_tree.proofs.PutLemmas as found
 use Rattle.g_tree.proofs.RightLemmas.{number_found}
-use Rattle.g_tree.proofs.RuleLemmas.{made_of}
 use Rattle.g_contents.specs.Contents.{recs_in}
 use Rattle.g_contents.specs.Facts.{IsTied, OnlineFacts}
 use Rattle.g_online.specs.Allowed.{KeepsRules}

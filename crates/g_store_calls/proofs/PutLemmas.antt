@@ -1,11 +1,10 @@
 -- Put: what the path names for output, that the record is one of a new version, and that the call is answered as the whole store answers it.
-use Rattle.std.proofs.Common.{◌≡◌, ◌≢◌, ℕ, ◌<◌, ◌≤◌, ◌+◌, ◌^◌, Bool, true, false, List, [], ◌∷◌, length, Option, Some, None, Result, Ok, Err, is_some, unwrap_or, refl, sym, ◌∙◌, ap, arith, inl, inr, subst}
-use Rattle.std.specs.Prelude.{◌⊎◌, ◌==◌, ◌&&◌, Contains, IfSome, is_none, nat_le, nat_lt, not}
+use Rattle.std.proofs.Common.{◌≡◌, ℕ, ◌<◌, ◌≤◌, ◌+◌, ◌^◌, Bool, true, false, List, ◌∷◌, length, Option, Some, None, Result, Ok, Err, is_some, unwrap_or, refl, sym, ◌∙◌, ap, arith, inl, inr, subst}
+use Rattle.std.specs.Prelude.{◌⊎◌, ◌==◌, ◌&&◌, IfSome, is_none, nat_le, nat_lt, not}
 use Rattle.std.specs.FinMap.{len}
 use Rattle.std.proofs.lemmas.Bool.{cases_Bool, eq-eqb, false≢true, ltb-false}
 use Rattle.std.proofs.lemmas.Bool.Decides.{leb_tells}
 use Rattle.g_base.specs.Block.{blocks_for}
-use Rattle.g_disc.specs.Disc.{Causes}
 use Rattle.g_disc.proofs.CallLemmas.{Causes-for}
 use Rattle.g_entry.specs.declared.file_rec.FileRec.{FileRec}
 use Rattle.g_entry.specs.declared.user_rec.UserRec.{UserRec}
@@ -15,21 +14,20 @@ use Rattle.g_tape.specs.Rack.{Rack}
 use Rattle.g_tape.proofs.ReadLemmas.{nothing_read}
 use Rattle.g_plain.specs.declared.calls.StoreCall.{StoreCall}
 use Rattle.g_plain.specs.declared.calls.StoreCall.TheVariants.{Put}
-use Rattle.g_plain.specs.declared.calls.StoreReply.{StoreReply}
 use Rattle.g_plain.specs.declared.calls.StoreReply.TheVariants.{Made}
 use Rattle.g_plain.specs.declared.faults.StoreFault.{StoreFault}
 use Rattle.g_plain.specs.declared.faults.StoreFault.TheVariants.{DiscFull, NoMemory, NoUser, Stopped}
-use Rattle.g_plain.specs.PlainStep.{checks, fault_of}
+use Rattle.g_plain.specs.PlainStep.{checks}
 use Rattle.g_plain.specs.PlainTree.{Tree, has_file, has_user, named, newest, output_name}
 use Rattle.g_tree.specs.Answers.{newest_of}
 use Rattle.g_tree.specs.Asked.{zeros}
-use Rattle.g_tree.specs.Records.{ForTree, HasLengths, IsRecords, number_of, tree_of}
+use Rattle.g_tree.specs.Records.{ForTree, IsRecords, number_of, tree_of}
 use Rattle.g_tree.proofs.NamedLemmas.{zeros_fit}
 use Rattle.g_tree.proofs.RecordLemmas.{file_there, newest_few, newest_is}
 use Rattle.g_tree.proofs.RuleLemmas.{count_files}
 use Rattle.g_contents.specs.Contents.{recs_in}
 use Rattle.g_contents.specs.Facts.{IsTied, OnlineFacts}
-use Rattle.g_state.specs.Answers.{Answers, IsStore, Steps, Told}
+use Rattle.g_state.specs.Answers.{Answers, IsStore, Told}
 use Rattle.g_state.specs.Meaning.{told_reels}
 use Rattle.g_state.specs.Reading.{AllTold, IsView, View}
 use Rattle.g_state.specs.Up.{StoreFacts}
@@ -43,7 +41,6 @@ use Rattle.g_store_calls.specs.Replies.{RefusesAs}
 use Rattle.g_store_calls.specs.Versions.{HasMade, HasPut, HasStoppedPut, IsFull, IsNext}
 use Rattle.g_store_calls.proofs.AheadLemmas.{ahead_stands, before_of}
 use Rattle.g_store_calls.proofs.CalmLemmas.{calmly, same_store, texts_fit}
-use Rattle.g_store_calls.proofs.SeenLemmas.{seen}
 use Rattle.g_store_calls.proofs.TellLemmas.{AreOff, granted_off, not_not, user_any, user_missing}
 use Rattle.g_store_calls.proofs.VersionLemmas.{IsMet, belongs_done, belongs_stopped, leads_done, leads_full, leads_stopped, store_done}
 

@@ -1,8 +1,7 @@
 -- A store whose devices were only read stands for what it stood for, and keeps what it kept.
-use Rattle.std.proofs.Common.{◌≡◌, ◌≢◌, ℕ, Bool, true, false, List, Option, Some, None, Result, Err, refl, sym, ◌∙◌, ap, subst}
+use Rattle.std.proofs.Common.{◌≡◌, ℕ, Bool, true, false, List, Option, Some, None, Result, Err, refl, sym, ◌∙◌, ap, subst}
 use Rattle.std.specs.Prelude.{IfSome, OnOk, not}
 use Rattle.std.proofs.lemmas.Bool.{false≢true}
-use Rattle.g_base.specs.Counts.{Rose}
 use Rattle.g_disc.specs.Disc.{DiscState}
 use Rattle.g_name.specs.declared.full.Full.{Full}
 use Rattle.g_tape.specs.Rack.{Rack}
@@ -12,7 +11,7 @@ use Rattle.g_plain.specs.declared.calls.StoreReply.{StoreReply}
 use Rattle.g_plain.specs.declared.faults.StoreFault.{StoreFault}
 use Rattle.g_plain.specs.declared.faults.StoreFault.TheVariants.{DiscReadFault, NoCopy, Stopped, TapeReadFault}
 use Rattle.g_contents.specs.Facts.{IsTied, OnlineFacts}
-use Rattle.g_step.specs.State.{Holding, State}
+use Rattle.g_step.specs.State.{State}
 use Rattle.g_step.specs.CallStep.{CallStep, Outcome}
 use Rattle.g_state.specs.Answers.{Answers, Belongs, Did, IsLostCopy, IsStore, Leads, Raised, Steps, Told}
 use Rattle.g_state.specs.Meaning.{told_reels}

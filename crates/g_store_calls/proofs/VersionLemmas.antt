@@ -1,6 +1,6 @@
 -- A call that makes a new version, by one commit or two, whatever the call: the state behind it, what was written, and that disc and rack go
 -- on belonging together.
-use Rattle.std.proofs.Common.{◌≡◌, ◌≢◌, ℕ, ◌<◌, ◌≤◌, ◌+◌, Bool, true, false, List, [], ◌∷◌, get_or, length, map, Option, Some, None, Result, Ok, Err, is_some, refl, sym, ◌∙◌, ap, arith, inl, inr, subst, true≢false, All}
+use Rattle.std.proofs.Common.{◌≡◌, ℕ, ◌<◌, ◌≤◌, ◌+◌, Bool, true, false, List, [], ◌∷◌, get_or, length, map, Option, Some, None, Ok, Err, is_some, refl, sym, ◌∙◌, ap, arith, inl, inr, subst, true≢false, All}
 use Rattle.std.specs.Prelude.{◌⊎◌, ◌||◌, ◌&&◌, Contains, IfSome, if◌then◌else◌, nat_lt, not}
 use Rattle.std.specs.Option.{option_map}
 use Rattle.std.proofs.lemmas.Bool.{cases_Bool, false≢true, ltb-false, ltb-true}
@@ -16,7 +16,6 @@ use Rattle.g_entry.specs.declared.user_rec.UserRec.{UserRec}
 use Rattle.g_tape.specs.Rack.{Rack}
 use Rattle.g_tape.specs.Reads.{OnlyReads}
 use Rattle.g_tape.specs.Reel.{Reel}
-use Rattle.g_trap.specs.TrapList.{TrapList}
 use Rattle.g_plain.specs.declared.calls.StoreCall.{StoreCall}
 use Rattle.g_plain.specs.declared.calls.StoreReply.{StoreReply}
 use Rattle.g_plain.specs.declared.faults.StoreFault.{StoreFault}
@@ -25,13 +24,12 @@ use Rattle.g_plain.specs.PlainStep.{fault_of, reply_to}
 use Rattle.g_tree.specs.Records.{full_of, number_of}
 use Rattle.g_tree.proofs.RecordLemmas.{numbers_apart}
 use Rattle.g_tree.proofs.RuleLemmas.{one_of_key}
-use Rattle.g_contents.specs.Commits.{Commits}
-use Rattle.g_contents.specs.Contents.{Contents, File, Holds, committed, recs_in, taken_off, with_file, with_intent, with_number}
-use Rattle.g_contents.specs.Facts.{IsTied, OnlineFacts, Pin}
+use Rattle.g_contents.specs.Contents.{Contents, File, Holds, committed, recs_in, taken_off, with_intent, with_number}
+use Rattle.g_contents.specs.Facts.{IsTied, OnlineFacts}
 use Rattle.g_contents.proofs.HoldLemmas.{holds_one}
 use Rattle.g_online.specs.declared.change.Change.TheVariants.{PutFile}
 use Rattle.g_online.specs.Allowed.{KeepsRules}
-use Rattle.g_online.specs.Change.{changed, told_bytes, unjammed, with_files}
+use Rattle.g_online.specs.Change.{changed, told_bytes, with_files}
 use Rattle.g_online.specs.Done.{HasChanged, HasStopped, commits_of}
 use Rattle.g_incr.specs.Layout.{Dump, holds}
 use Rattle.g_shelf.specs.Completed.{AreShelved, all_dumps}
@@ -42,7 +40,7 @@ use Rattle.g_state.specs.Belong.{BelongWith, DiscBelongs, RackBelongs}
 use Rattle.g_state.specs.Directories.{IsOwnedBy}
 use Rattle.g_state.specs.Laws.{IsNewVersion, IsQuiet, with_text, with_version}
 use Rattle.g_state.specs.Meaning.{told_reels}
-use Rattle.g_state.specs.Reading.{AllTold, DevicesStandFor, IsOpenView, IsView, StandsForState, View, holding_of, names_of, open_of, places_of, row_of, state_down, state_up, tree_by}
+use Rattle.g_state.specs.Reading.{AllTold, DevicesStandFor, IsView, StandsForState, View, holding_of, names_of, open_of, row_of, state_down, state_up, tree_by}
 use Rattle.g_state.specs.Staying.{AreMarked, behind}
 use Rattle.g_state.specs.Up.{DumpFacts, IsOpen, IsUp, StoreFacts}
 use Rattle.g_state.proofs.BelongLemmas.{new_version_belongs}

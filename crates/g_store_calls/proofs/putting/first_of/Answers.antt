@@ -1,4 +1,4 @@
-use Rattle.std.proofs.Common.{ap, refl, sym, ◌∙◌}
+use Rattle.std.proofs.Common.{ap, refl}
 use Rattle.g_entry.specs.declared.head.Head.{Head}
 use Rattle.g_store_calls.proofs.NextLemmas.{first_made}
 use Rattle.g_store_calls.proofs.PutLemmas.{owner_missing}

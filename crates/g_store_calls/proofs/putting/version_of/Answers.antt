@@ -1,4 +1,4 @@
-use Rattle.std.proofs.Common.{◌≤◌, ap, arith, length, List, ℕ, refl, subst, sym}
+use Rattle.std.proofs.Common.{◌≤◌, ap, arith, length, List, ℕ, subst, sym}
 use Rattle.g_contents.specs.Contents.{recs_in}
 use Rattle.g_migrate.proofs.MigrationLemmas.{rules_here}
 use Rattle.g_store_calls.proofs.NextLemmas.{is_next, named_on, none_on}

@@ -1,0 +1,140 @@
+//! Each call with ample memory, over a new filestore.
+ghost use Rattle.std.specs.Prelude.{◌≡◌, true, IfOk};
+ghost use Rattle.g_contents.specs.Facts.{IsTied};
+ghost use Rattle.g_plain.specs.Rules.{IsWithinLimits};
+ghost use Rattle.g_store_calls.specs.Kinds.{sets_records};
+
+use super::*;
+use g_disc::MemoryDisc;
+use g_entry::Head;
+use g_name::{Local, Path, User};
+use g_online::Online;
+use g_plain::{BudgetKind, StoreCall, StoreFault, StoreReply};
+use g_trap::Modes;
+use g_tree::Tree;
+use std::alloc::Global;
+use std::test::Fail;
+
+/// A filestore of the first two users and no file.
+fn formatted(alloc: Global) -> Result<Online<MemoryDisc>, Fail>
+    ensures live { IfOk result (λ o. o.live ≡ true) }
+    ensures tied { IfOk result (λ o. IsTied o) }
+{
+    let disc = MemoryDisc::new(alloc, 2182)?;
+    let tree = Tree::new(alloc)?;
+    let _users = tree.users();
+    let head = Head {
+        next_stamp: 1,
+        last_dump: 0,
+        intent: None,
+    };
+    match Online::fresh(alloc, disc, tree, head) {
+        Ok(online) => Ok(online),
+        Err((fault, _disc)) => Err(fault.into()),
+    }
+}
+
+/// The path of a file that isn't there.
+fn absent() -> Result<Path, Fail> {
+    Ok(Path {
+        user: None,
+        local: Local::parse(b"F")?,
+        generation: None,
+        lang: None,
+    })
+}
+
+/// How many files of `MASTER` are told.
+fn listed(alloc: Global) -> Result<Option<usize>, Fail> {
+    let online = formatted(alloc)?;
+    let master = User::master();
+    let call = StoreCall::List {
+        user: master.copy(),
+    };
+    match tell(alloc, &online, &master, &call) {
+        Ok(StoreReply::Listing(listing)) => Ok(Some(listing.rows().len())),
+        _ => Ok(None),
+    }
+}
+
+/// Whether `MASTER`'s call is done.
+fn is_done(alloc: Global, call: &StoreCall) -> Result<bool, Fail>
+    requires limits { IsWithinLimits call.now }
+    requires records { sets_records call.now ≡ true }
+{
+    let mut online = formatted(alloc)?;
+    let answer = change(alloc, &mut online, &User::master(), call);
+    Ok(matches!(&answer, Ok(StoreReply::Done)))
+}
+
+/// Whether `MASTER`'s call finds no file.
+fn is_missed(alloc: Global, call: &StoreCall) -> Result<bool, Fail>
+    requires limits { IsWithinLimits call.now }
+    requires records { sets_records call.now ≡ true }
+{
+    let mut online = formatted(alloc)?;
+    let answer = change(alloc, &mut online, &User::master(), call);
+    Ok(matches!(&answer, Err(StoreFault::NoFile)))
+}
+
+fn is_made(alloc: Global) -> Result<bool, Fail> {
+    let call = StoreCall::NewUser {
+        user: User::parse(b":ALBERT")?,
+        space: 5,
+        time: 6,
+        money: 7,
+    };
+    is_done(alloc, &call)
+}
+
+fn is_set(alloc: Global) -> Result<bool, Fail> {
+    let call = StoreCall::Budget {
+        user: User::macros(),
+        kind: BudgetKind::Money,
+        amount: 8,
+    };
+    is_done(alloc, &call)
+}
+
+fn is_not_erased(alloc: Global) -> Result<bool, Fail> {
+    is_missed(alloc, &StoreCall::Erase { path: absent()? })
+}
+
+fn is_not_renamed(alloc: Global) -> Result<bool, Fail> {
+    let call = StoreCall::Rename {
+        path: absent()?,
+        to: Local::parse(b"G")?,
+    };
+    is_missed(alloc, &call)
+}
+
+fn is_not_opened(alloc: Global) -> Result<bool, Fail> {
+    let call = StoreCall::TrapGo {
+        path: absent()?,
+        user: User::macros(),
+        modes: Modes::all(),
+    };
+    is_missed(alloc, &call)
+}
+
+fn is_not_closed(alloc: Global) -> Result<bool, Fail> {
+    let call = StoreCall::TrapStop {
+        path: absent()?,
+        user: User::macros(),
+        modes: Modes::all(),
+    };
+    is_missed(alloc, &call)
+}
+
+#[test]
+fn ample(rt: HostRuntime) -> Result<(), Fail> {
+    let alloc = rt.alloc();
+    assert_eq!(rt; listed(alloc)?, Some(0));
+    let done = is_made(alloc)? && is_set(alloc)?;
+    assert!(rt; done);
+    let files = is_not_erased(alloc)? && is_not_renamed(alloc)?;
+    assert!(rt; files);
+    let traps = is_not_opened(alloc)? && is_not_closed(alloc)?;
+    assert!(rt; traps);
+    Ok(())
+}
