@@ -10,11 +10,12 @@ pub mod BackLemmas
 pub mod BehindLemmas
 pub mod BroughtLemmas
 pub mod BudgetLemmas
+pub mod CallLemmas
 pub mod CalmLemmas
 pub mod EraseLemmas
 pub mod FetchLemmas
-pub mod HereLemmas
 pub mod FirstLemmas
+pub mod HereLemmas
 pub mod KindLemmas
 pub mod MakeLemmas
 pub mod MarkLemmas

@@ -5,7 +5,7 @@ use Rattle.g_plain.specs.declared.calls.StoreCall.{StoreCall}
 use Rattle.g_plain.specs.declared.calls.StoreCall.TheVariants.{Budget, Erase, NewUser, Rename, TrapGo, TrapStop}
 use Rattle.g_plain.specs.declared.calls.StoreReply.{StoreReply}
 use Rattle.g_plain.specs.declared.faults.StoreFault.{StoreFault}
-use Rattle.g_plain.specs.declared.faults.StoreFault.TheVariants.{WaitTape}
+use Rattle.g_plain.specs.declared.faults.StoreFault.TheVariants.{Stopped, WaitTape}
 use Rattle.g_plain.specs.Plainly.{may_wait}
 use Rattle.g_plain.specs.Replies.{IsReplyTo}
 
@@ -29,3 +29,8 @@ sets_records (Rename path to) = true
 sets_records (TrapGo path user modes) = true
 sets_records (TrapStop path user modes) = true
 sets_records call = false
+
+-- the answer that spends a store
+abbrev pub stops_call : Result StoreReply StoreFault → Bool
+stops_call (Err Stopped) = true
+stops_call answer = false

@@ -11,7 +11,7 @@ mod telling;
 #[cfg(test)]
 mod tests;
 
-pub use answering::change;
+pub use answering::{answer, change};
 pub use appending::append;
 pub use changing::{erase, new_user};
 pub use fetching::{fetch, retrieve};
