@@ -4,6 +4,8 @@ pub mod BareLemmas
 pub mod CountLemmas
 pub mod CountedTurnLemmas
 pub mod CrewLemmas
+pub mod DeviceDumpLemmas
+pub mod DeviceShortLemmas
 pub mod DumpLemmas
 pub mod DumpedLemmas
 pub mod EndsLemmas
