@@ -1,0 +1,8 @@
+-- What the contracts cite: the crew, its accounts beside those of a world, a job's turn, and the choice of the next one.
+pub mod Accounts
+pub mod Choice
+pub mod Crew
+pub mod Keeping
+pub mod Numbers
+pub mod Taking
+pub mod Turn

@@ -1,0 +1,29 @@
+-- A job's turn.
+use Rattle.std.specs.Prelude.{◌≡◌, ℕ, List}
+use Rattle.std.specs.Fn.{Shared}
+use denote.Ref.{Bor}
+use Rattle.g_budget.specs.declared.tariff.Usage.{Usage}
+use Rattle.g_budget.specs.declared.tariff.Charge.{Charge}
+use Rattle.g_act.specs.Bounds.{IsWithin}
+use Rattle.g_act.specs.Causes.{CauseOf, last_answer}
+use Rattle.g_act.specs.State.{Work}
+use Rattle.g_job.specs.Begun.{room_of}
+use Rattle.g_job.specs.Ends.{IsTurn}
+use Rattle.g_job.specs.Spends.{Spends}
+use Rattle.g_job.specs.State.{JobState}
+use Rattle.g_job.specs.Turns.{turn_work}
+use Rattle.g_job.specs.declared.turn.Turn.{Turn}
+use Rattle.g_plain.specs.Asks.{Answer}
+use Rattle.g_plain.specs.RanBy.{RanBy}
+use Rattle.g_plain.specs.declared.calls.StoreCall.{StoreCall}
+
+module _ {S F : Type 0} (answers : S → List ℕ → StoreCall → Answer → S → Type 0) (tariffs : Shared F (Bor Usage × Unit {0}) Charge) (tariff : F) where
+  -- A JOB TOOK A TURN over a store: its calls and their answers, why its work is over, what it used, and how it ended
+  pub record TakesTurn (job : JobState) (old : S) (turn : Turn) (after : JobState) (new : S) : Type 0 where
+    pub told : List Answer
+    pub work : Work
+    pub ran : RanBy answers job.user old (turn_work job) told work new
+    pub cause : CauseOf (last_answer told) work.stop
+    pub within : IsWithin (room_of job) work
+    pub ends : IsTurn tariffs tariff job work turn after
+    pub spends : Spends job turn after

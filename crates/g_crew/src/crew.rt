@@ -1,0 +1,242 @@
+//! The crew.
+ghost use Rattle.std.specs.Prelude.{◌≡◌, ◌+◌, ◌<◌, ◌≤◌, ◌≢◌, ◌++◌, ℕ, [], ◌∷◌, Bool, true, false, not, List, Ok, Err, None, Some, IfOk, IfSome, OnErr, OnOk, length};
+ghost use Rattle.g_budget.specs.Tariff.{IsTariff};
+ghost use Rattle.g_crew.specs.Accounts.{AreKept, HaveRows};
+ghost use Rattle.g_crew.specs.Choice.{Chooses, TellsMounted, able_in};
+ghost use Rattle.g_crew.specs.Numbers.{AreJobs, AreOpen, job_in};
+ghost use Rattle.g_crew.specs.Taking.{RefusesAsIn, printed};
+ghost use Rattle.g_crew.specs.Turn.{TakesTurn};
+ghost use Rattle.g_job.specs.Begun.{job_begun};
+ghost use Rattle.g_job.specs.Spends.{ToldAsBefore};
+ghost use Rattle.g_job.specs.State.{JobState};
+ghost use Rattle.g_sched.specs.Rule.{IsWeighRule};
+ghost use Rattle.g_step.specs.State.{State};
+ghost use Rattle.g_world.specs.Accounts.{Opened, rows_of, settled, with_new};
+ghost use Rattle.g_world.specs.World.{has_none, with_job, without_job};
+
+use crate::account::{Account, charge, open_each};
+use crate::choice::{MOST_JOBS, NOBODY, one_can_step, standings_of};
+use crate::place::place_of;
+use crate::taking::{NewJob, NotTaken, refusal};
+use g_base::NoMemory;
+use g_budget::{Charge, Tariff, Usage};
+use g_entry::UserRec;
+use g_job::{Job, Turn};
+use g_plain::Filestore;
+use g_sched::{Standing, WeighRule, choose};
+use std::alloc::Global;
+use std::marker::Model;
+
+/// The jobs that have come in and aren't over, at most 64, in order of number; the accounts of users; and the number of the
+/// next job. Contracts see a `CrewState` (`docs/DEFINITIONS.md`, "What is kept beside the system").
+#[derive(Drop)]
+pub struct Crew {
+    pub(crate) jobs: Vec<Job>,
+    accounts: Vec<Account>,
+    next_job: u64,
+}
+
+impl Model for Crew {
+    ghost use Rattle.std.specs.Coded.{codes};
+    ghost use Rattle.g_name.specs.contracts.path.Path as path;
+    ghost use Rattle.g_crew.specs.Crew.{CrewState};
+
+    ghost Value = { CrewState };
+
+    ghost coded = { Prim.hlevel (codes, path.the_row.coded) };
+
+    ghost use Rattle.g_crew.specs.Numbers.{AreJobs};
+
+    ghost view = { λ c. record { jobs = c.jobs.items; accounts = c.accounts.items; next_job = c.next_job } };
+
+    ghost invariant = { λ c. AreJobs c.jobs.items c.next_job };
+}
+
+impl Crew {
+    /// Nobody, and no account: job 1 is the next one.
+    pub fn new(alloc: Global) -> Crew
+        ensures { result ≡ record { jobs = []; accounts = []; next_job = 1 } }
+    {
+        Crew {
+            jobs: Vec::new(alloc),
+            accounts: Vec::new(alloc),
+            next_job: 1,
+        }
+    }
+
+    /// Opens an account for each of these users who has none, with the budgets of this moment: as the system comes up for
+    /// all, and behind each turn for those whom it has made. Without memory all stays as it was.
+    pub fn open_accounts(&mut self, users: &[UserRec]) -> Result<(), NoMemory>
+        ensures opened { OnOk result ((s : State) (accounts : List Opened) → HaveRows users.now (rows_of s)
+            → AreKept accounts self.old.accounts → AreKept (with_new s accounts) self.new.accounts) }
+        ensures others { self.new ≡ record self.old { accounts = self.new.accounts } }
+        ensures err { OnErr result (self.new ≡ self.old) }
+    {
+        let before = self.accounts.len();
+        match open_each(&mut self.accounts, users) {
+            Ok(()) => Ok(()),
+            Err(NoMemory) => {
+                self.accounts.truncate(before);
+                Err(NoMemory)
+            }
+        }
+    }
+
+    /// Takes a job in behind the others, and answers its number. `known` says whether the store knows the user. A refusal
+    /// leaves all as it was; they are looked at in this order:
+    /// - `NoUser`: the store doesn't know the user. `JobsFull`: 64 jobs are unfinished. `NoTime`, `NoMoney`: the allowance
+    ///   is more than the user's account has left, less the allowances of the user's unfinished jobs.
+    /// - `NoMemory`: it would have been taken in.
+    pub fn take_in(&mut self, alloc: Global, known: bool, job: NewJob) -> Result<u64, NotTaken>
+        requires time { (1 ≤ job.time) × (job.time ≤ 1000000) }
+        requires money { job.money ≤ 1000000 }
+        requires numbers { self.old.next_job + 1 < 18446744073709551616 }
+        ensures refusal { RefusesAsIn self.old known job.user job.time job.money (printed result) }
+        ensures ok { IfOk result (λ number. (number ≡ self.old.next_job) × (self.new ≡ record self.old {
+          jobs = self.old.jobs
+              ++ job_begun self.old.next_job job.name job.user job.time job.money job.lines ∷ [];
+          next_job = self.old.next_job + 1;
+        })) }
+        ensures err { OnErr result (self.new ≡ self.old) }
+    {
+        match refusal(&self.accounts, &self.jobs, known, &job) {
+            Ok(()) => self.begin(alloc, job),
+            Err(why) => Err(why),
+        }
+    }
+
+    /// Lets the job begin behind the others. Without memory all stays as it was.
+    fn begin(&mut self, alloc: Global, job: NewJob) -> Result<u64, NotTaken>
+        requires few { length self.old.jobs < 64 }
+        requires time { (1 ≤ job.time) × (job.time ≤ 1000000) }
+        requires money { job.money ≤ 1000000 }
+        requires numbers { self.old.next_job + 1 < 18446744073709551616 }
+        ensures ok { IfOk result (λ number. (number ≡ self.old.next_job) × (self.new ≡ record self.old {
+          jobs = self.old.jobs
+              ++ job_begun self.old.next_job job.name job.user job.time job.money job.lines ∷ [];
+          next_job = self.old.next_job + 1;
+        })) }
+        ensures err { OnErr result (self.new ≡ self.old) }
+        ensures untold { printed result ≡ None }
+    {
+        match job.begin(alloc, self.next_job) {
+            Ok(job) => self.push(job),
+            Err(NoMemory) => Err(NotTaken::NoMemory),
+        }
+    }
+
+    /// Puts a job of the next number behind the others. Without memory all stays as it was.
+    fn push(&mut self, job: Job) -> Result<u64, NotTaken>
+        requires few { length self.old.jobs < 64 }
+        requires next { job.number ≡ self.old.next_job }
+        requires numbers { self.old.next_job + 1 < 18446744073709551616 }
+        ensures ok { IfOk result (λ number. (number ≡ self.old.next_job) × (self.new ≡ record self.old {
+          jobs = self.old.jobs ++ job ∷ [];
+          next_job = self.old.next_job + 1;
+        })) }
+        ensures err { OnErr result (self.new ≡ self.old) }
+        ensures untold { printed result ≡ None }
+    {
+        match self.jobs.push(job) {
+            Ok(()) => {
+                let number = self.next_job;
+                self.next_job += 1;
+                Ok(number)
+            }
+            Err(_) => Err(NotTaken::NoMemory),
+        }
+    }
+
+    /// Whether a job can step: one that waits for no reel, or for one that is `mounted`.
+    pub fn can_step<M: Fn(u32) -> bool>(&self, mounted: &M) -> bool
+        requires { M.IsAlwaysCallable mounted.now }
+        ensures { (s : State) → TellsMounted M.Fn mounted.now s → result ≡ not (has_none (able_in s self.now.jobs)) }
+    {
+        one_can_step(self.jobs(), mounted)
+    }
+
+    /// The number of the job that goes next: of those that can step, the one of least weight by the rule, then of least
+    /// number. None where none can. It takes no memory.
+    pub fn choose<U: Fn(&Standing) -> u64, M: Fn(u32) -> bool>(
+        &self,
+        weigh: &WeighRule<U>,
+        mounted: &M,
+    ) -> Option<u64>
+        requires rule { IsWeighRule U.Fn weigh.now }
+        requires callable { M.IsAlwaysCallable mounted.now }
+        ensures { (s : State) → TellsMounted M.Fn mounted.now s
+            → Chooses U.Fn weigh.now self.now.jobs (able_in s self.now.jobs) result }
+    {
+        let mut standings = [NOBODY; MOST_JOBS];
+        let able = standings_of(self.jobs(), mounted, &mut standings);
+        let standings = &standings[..able];
+        match choose(weigh, standings) {
+            Some(place) => Some(standings[place].number),
+            None => None,
+        }
+    }
+
+    /// A turn of the job of this number, over any store, as `Job::turn` takes it. Without memory nothing is known of the job
+    /// any more, and it is gone.
+    pub fn turn<S: Filestore, F: Fn(&Usage) -> Charge>(
+        &mut self,
+        alloc: Global,
+        number: u64,
+        store: &mut S,
+        tariff: &Tariff<F>,
+    ) -> Result<Turn, NoMemory>
+        requires there { (job : JobState) × (job_in number self.old.jobs ≡ Some job) }
+        requires open { AreOpen self.old.jobs }
+        requires spent { S.is_spent store.old ≡ false }
+        requires tariff { IsTariff F.Fn tariff.now }
+        ensures ok { IfOk result (λ turn. (job : JobState) × (after : JobState)
+            × (job_in number self.old.jobs ≡ Some job)
+            × TakesTurn S.answers F.Fn tariff.now job store.old turn after store.new
+            × (self.new ≡ record self.old { jobs = with_job after self.old.jobs })) }
+    {
+        let Some(place) = place_of(&self.jobs, number) else {
+            unreachable!()
+        };
+        match self.jobs[place].turn(alloc, store, tariff) {
+            Ok(turn) => Ok(turn),
+            Err(NoMemory) => {
+                self.jobs.remove(place);
+                Err(NoMemory)
+            }
+        }
+    }
+
+    /// Takes the job of this number out, as it is over, and charges its account with what it has used. None, and nothing
+    /// changes, where there is no such job.
+    pub fn end(&mut self, number: u64) -> Option<Job>
+        ensures job { result ≡ job_in number self.old.jobs }
+        ensures jobs { self.new.jobs ≡ without_job number self.old.jobs }
+        ensures settled { IfSome result (λ job. (accounts : List Opened) → AreKept accounts self.old.accounts
+            → AreKept (settled job accounts) self.new.accounts) }
+        ensures none { result ≡ None → self.new ≡ self.old }
+        ensures number { self.new.next_job ≡ self.old.next_job }
+    {
+        let Some(place) = place_of(&self.jobs, number) else {
+            return None;
+        };
+        let job = self.jobs.remove(place);
+        charge(&mut self.accounts, &job);
+        Some(job)
+    }
+
+    /// The system is down: jobs and accounts are gone. Numbers of jobs go on.
+    pub fn go_down(&mut self)
+        ensures { self.new ≡ record self.old { jobs = []; accounts = [] } }
+    {
+        self.jobs.truncate(0);
+        self.accounts.truncate(0);
+    }
+
+    /// The jobs in order of number.
+    pub fn jobs(&self) -> &[Job]
+        ensures jobs { result.now ≡ self.now.jobs }
+        ensures numbers { AreJobs self.now.jobs self.now.next_job }
+    {
+        self.jobs.as_slice()
+    }
+}

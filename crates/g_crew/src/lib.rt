@@ -1,0 +1,17 @@
+//! What the run of the program keeps beside the system: the jobs that have come in and aren't over, the accounts of users,
+//! and the number of the next job; and the texts that the operator reads.
+#![tactic(auto)]
+
+mod account;
+mod choice;
+mod crew;
+mod files;
+mod place;
+mod taking;
+mod texts;
+
+pub use account::Account;
+pub use crew::Crew;
+pub use taking::{NewJob, NotTaken, push_refusal};
+pub use texts::{closing_text, dump_text, job_text, push_operator_line, started_text, tape_text};
+

@@ -1,0 +1,115 @@
+//! What a job's line asks for, and why it isn't taken in.
+ghost use Rattle.std.specs.Prelude.{◌≡◌, ◌<◌, ◌≤◌, ◌++◌, ℕ, IfOk, OnOk, length};
+ghost use Rattle.g_crew.specs.Taking.{IsPrinted, RefusesAsIn, printed, refusal_line};
+ghost use Rattle.g_crew.specs.declared.taking.NotTaken.TheVariants.{NoMemory};
+ghost use Rattle.g_job.specs.Begun.{job_begun};
+
+use crate::account::{Account, left_for};
+use crate::choice::MOST_JOBS;
+use crate::texts::{push_number, push_numbers};
+use g_base::NoMemory;
+use g_job::Job;
+use g_lines::Texts;
+use g_name::{Local, Text, User};
+use std::alloc::Global;
+use thiserror::Error;
+
+/// A job as its line asks for it: 1 to 1,000,000 units of TIME, at most 1,000,000 of MONEY, and the lines of its document.
+#[derive(Debug, Drop)]
+pub struct NewJob {
+    pub name: Local,
+    pub user: User,
+    pub time: u64,
+    pub money: u64,
+    pub lines: Texts,
+}
+
+/// Why a job isn't taken in. Nothing is changed then.
+#[derive(Clone, Copy, Debug, PartialEq, Eq, Error)]
+pub enum NotTaken {
+    /// There is no such user.
+    #[error("no such user")]
+    NoUser,
+    /// 64 jobs are unfinished.
+    #[error("64 jobs are unfinished")]
+    JobsFull,
+    /// More TIME is asked for than the user has left. Both are units of TIME.
+    #[error("{ask} units of TIME are needed and {left} are left")]
+    NoTime { ask: u64, left: u64 },
+    /// More MONEY is asked for than the user has left.
+    #[error("{ask} units of MONEY are needed and {left} are left")]
+    NoMoney { ask: u64, left: u64 },
+    /// The memory was refused; the job would have been taken in.
+    #[error("out of memory")]
+    NoMemory,
+}
+
+impl From<NoMemory> for NotTaken {
+    ghost from_gives = { λ e why. why ≡ NoMemory };
+
+    fn from(_e: NoMemory) -> NotTaken {
+        NotTaken::NoMemory
+    }
+}
+
+impl NewJob {
+    /// The job of this number, which begins.
+    pub(crate) fn begin(self, alloc: Global, number: u64) -> Result<Job, NoMemory>
+        requires time { (1 ≤ self.time) × (self.time ≤ 1000000) }
+        requires money { self.money ≤ 1000000 }
+        ensures { IfOk result (λ job. job
+            ≡ job_begun number self.name self.user self.time self.money self.lines) }
+    {
+        Job::new(
+            alloc, number, self.name, self.user, self.time, self.money, self.lines,
+        )
+    }
+}
+
+/// The first reason, in this order, not to take the job in.
+pub(crate) fn refusal(
+    accounts: &[Account],
+    jobs: &[Job],
+    known: bool,
+    job: &NewJob,
+) -> Result<(), NotTaken>
+    ensures refusal { (next : ℕ) → RefusesAsIn (record { jobs = jobs.now; accounts = accounts.now; next_job = next })
+        known job.now.user job.now.time job.now.money (printed result) }
+    ensures few { OnOk result (length jobs.now < 64) }
+{
+    if !known {
+        return Err(NotTaken::NoUser);
+    }
+    if jobs.len() >= MOST_JOBS {
+        return Err(NotTaken::JobsFull);
+    }
+    let left = left_for(accounts, jobs, &job.user);
+    if left.time < job.time {
+        return Err(NotTaken::NoTime {
+            ask: job.time,
+            left: left.time,
+        });
+    }
+    if left.money < job.money {
+        return Err(NotTaken::NoMoney {
+            ask: job.money,
+            left: left.money,
+        });
+    }
+    Ok(())
+}
+
+/// Puts number and text of a refusal behind the text, without a byte 10 (`docs/MANUAL.md`, "Texts of jobs and refusals").
+/// Where memory is wanting, a front of it may stand there.
+pub fn push_refusal(alloc: Global, text: &mut Text, why: NotTaken) -> Result<(), NoMemory>
+    requires { IsPrinted why }
+    ensures { OnOk result (text.new ≡ text.old ++ refusal_line why) }
+{
+    match why {
+        NotTaken::NoUser => text.extend(b"1 NO USER"),
+        NotTaken::JobsFull => text.extend(b"41 JOBS FULL"),
+        NotTaken::NoTime { ask, left } => push_numbers(alloc, text, b"40 NO TIME ", ask, left),
+        NotTaken::NoMoney { ask, left } => push_numbers(alloc, text, b"42 NO MONEY ", ask, left),
+        NotTaken::NoMemory => unreachable!(),
+    }
+}
