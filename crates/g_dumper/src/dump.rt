@@ -1,6 +1,6 @@
 //! An open dump, and its steps.
 ghost use Rattle.std.specs.Prelude.{◌≡◌};
-ghost use Rattle.g_incr.specs.Plan.{needs};
+ghost use Rattle.g_incr.specs.Plan.{IsPlan, needs};
 
 use g_incr::Writer;
 use std::marker::Model;
@@ -38,7 +38,8 @@ impl Model for Dump {
 impl Dump {
     /// How many blocks of tape the dump takes.
     pub fn needs(&self) -> u32
-        ensures { result ≡ needs self.now.plan }
+        ensures needs { result ≡ needs self.now.plan }
+        ensures rules { IsPlan self.now.plan }
     {
         self.writer.needs()
     }

@@ -2,6 +2,7 @@
 //! state that it stands for.
 #![tactic(auto)]
 
+mod calling;
 mod dumping;
 mod making;
 mod migrating;
