@@ -40,6 +40,21 @@ fn refused_restore(alloc: Global) -> Result<StoreFault, StoreFault> {
     }
 }
 
+/// A new filestore, taken down and started again: the number of the dump that was taken over.
+fn started_again(alloc: Global) -> Result<Option<u64>, StoreFault> {
+    let (disc, tapes) = new_store(alloc)?.into_devices();
+    match start(alloc, disc, tapes) {
+        Ok((store, number)) => {
+            if store.users().len() == 2 {
+                Ok(number)
+            } else {
+                Err(StoreFault::NoFilestore)
+            }
+        }
+        Err(refused) => Err(refused.fault),
+    }
+}
+
 /// Mounts a reel, and unmounts it twice.
 fn turn_reel(store: &mut Store<MemoryDisc, MemoryTapes>) -> Result<(), StoreFault>
     requires { store.old.spent ≡ false }
@@ -69,6 +84,7 @@ fn ample(rt: HostRuntime) -> Result<(), Fail> {
     other.arm_disc(1);
     other.arm_tape(1);
     let (_disc, _tapes) = other.into_devices();
+    assert_eq!(rt; started_again(rt.alloc()), Ok(None));
     assert_eq!(rt;
         refused_restore(rt.alloc()),
         Ok(StoreFault::RackNotMounted(7))
