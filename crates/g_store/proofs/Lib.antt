@@ -1,14 +1,25 @@
+mod AdoptLemmas
 pub mod ArmLemmas
 mod EmptyLemmas
 pub mod EventLemmas
 mod FormatLemmas
+mod GreatestLemmas
 pub mod MakeLemmas
 mod MigrateLemmas
 mod MigratedLemmas
 pub mod MountLemmas
 mod NameLemmas
+mod NamedLemmas
+mod NotedLemmas
 mod OffLemmas
+pub mod OpenedLemmas
+mod OwnPlaceLemmas
 mod RestoreLemmas
 mod RestoredLemmas
+mod StartLemmas
+mod StartedLemmas
+mod StepLemmas
+mod SteppedLemmas
+mod TakeLemmas
 pub mod TurnLemmas
-pub mod OpenedLemmas
+mod WrittenLemmas

@@ -84,7 +84,7 @@ number_of (Ok d) = Ok d.plan.number
 number_of (Err fault) = Err fault
 
 -- a spent store stands for what its devices do
-spent_stands : (o : OnlineFacts) (rack : Rack) (u : state.State) → DevicesStandFor o.disc.size o.disc.held (told_reels rack) u → StandsForState (spent_with o rack) u
+pub spent_stands : (o : OnlineFacts) (rack : Rack) (u : state.State) → DevicesStandFor o.disc.size o.disc.held (told_reels rack) u → StandsForState (spent_with o rack) u
 unfolding Stands
 spent_stands o rack u is = let devices : Stands true o None u (told_reels rack) = is in back true o None u rack devices
 

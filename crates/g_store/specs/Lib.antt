@@ -4,3 +4,4 @@ pub mod Events
 pub mod Making
 pub mod Naming
 pub mod Refusing
+pub mod Starting

@@ -1,7 +1,9 @@
 -- A STORE OUT OF DEVICES, by FORMAT, START or RESTORE.
 use Rattle.std.specs.Prelude.{◌≡◌, ◌≢◌, ℕ, ◌↔◌, true, false, [], All, Option, Some, None, IfSome, Result, Ok, Err}
+use Rattle.std.specs.Option.{ForSome}
 use Rattle.g_base.specs.Counts.{Rose}
 use Rattle.g_disc.specs.Disc.{Causes, DiscState}
+use Rattle.g_entry.specs.declared.head.Intent.{Intent}
 use Rattle.g_tape.specs.Rack.{Rack, is_mounted, reel}
 use Rattle.g_tape.specs.Reads.{OnlyReads}
 use Rattle.g_shelf.specs.Last.{first_unmounted}
@@ -10,7 +12,7 @@ use Rattle.g_plain.specs.declared.faults.StoreFault.TheVariants.{NoMemory, NoFil
 use Rattle.g_step.specs.State.{State}
 use Rattle.g_step.specs.CallStep.{Outcome, Plain, DiscRead, TapeRead, Cut}
 use Rattle.g_step.specs.Rising.{FormatStep, StartStep, RestoreStep}
-use Rattle.g_contents.specs.Contents.{has}
+use Rattle.g_contents.specs.Contents.{Contents, Holds, has}
 use Rattle.g_online.specs.Begun.{WroteFirst}
 use Rattle.g_online.specs.declared.fault.OnlineFault.{OnlineFault}
 use Rattle.g_online.specs.declared.fault.OnlineFault.TheVariants as online
@@ -96,6 +98,10 @@ pub record Begun (disc : DiscState) (rack : Rack) (adopted : Option ℕ) (new : 
 pub record RefusesStart (disc : DiscState) (rack : Rack) (fault : StoreFault) (disc' : DiscState) (rack' : Rack) : Type 0 where
   pub refuses : Refuses (Belong disc.held rack) StartStep disc rack fault disc' rack'
   pub first : (serial : ℕ) → fault ≡ MountFirst serial → is_mounted (reel serial rack.reels) ≡ false
+  -- of the disc alone, where it tells, whether or not disc and rack belong together
+  pub none : fault ≡ NoFilestore → ForSome disc.held (λ blocks. (c : Contents) → Holds blocks c → ⊥)
+  pub named : (serial : ℕ) → fault ≡ MountFirst serial
+      → ForSome disc.held (λ blocks. (c : Contents) × Holds blocks c × (i : Intent) × (c.head.intent ≡ Some i) × (i.serial ≡ serial))
 
 -- RESTORE too, and that every reel is mounted; it says which is the first that isn't, of every rack; and it names what is lost, whether
 -- disc and rack belong together or not

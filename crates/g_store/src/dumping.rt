@@ -1,13 +1,14 @@
-//! Dumps are opened.
-ghost use Rattle.std.specs.Prelude.{◌≡◌, false};
+//! Dumps are opened, and written block by block.
+ghost use Rattle.std.specs.Prelude.{◌≡◌, false, is_some, true};
 ghost use Rattle.g_tape.specs.Rack.{reel};
-ghost use Rattle.g_store.specs.Dumping.{OpensDump, is_stop_at};
-ghost use Rattle.g_store.specs.Events.{Opens};
+ghost use Rattle.g_dumper.specs.Steps.{stepped_of};
+ghost use Rattle.g_store.specs.Dumping.{OpensDump, Progresses, StepsAs, is_stop_at};
+ghost use Rattle.g_store.specs.Events.{Opens, StepsDump};
 ghost use Rattle.g_store.specs.Refusing.{open_refuses};
 
 use crate::store::Store;
 use g_disc::Disc;
-use g_dumper::Dump;
+use g_dumper::{Dump, DumpStep};
 use g_plain::StoreFault;
 use g_tape::Tapes;
 use std::alloc::Global;
@@ -39,6 +40,33 @@ impl<D: Disc, T: Tapes> Store<D, T> {
                 self.spent = is_stop(&fault);
                 Err(fault)
             }
+        }
+    }
+
+    /// Writes the next block of the open dump to its reel (docs/DEFINITIONS.md). `Going`: there are more. `Completed`: that
+    /// was the last one, the mark; the disc has the dump's number and copies, and no dump is open. `DiscReadFault`: a block
+    /// of a version couldn't be read; the dump is given up, and none is open. `Stopped`: a write of tape or disc failed.
+    pub fn dump_step(&mut self) -> Result<DumpStep, StoreFault>
+        requires running { self.old.spent ≡ false }
+        requires open { is_some self.old.dump ≡ true }
+        ensures event { StepsDump self.old (stepped_of result) self.new }
+        ensures steps { StepsAs self.old (stepped_of result) self.new }
+        ensures progress { Progresses self.old (stepped_of result) self.new }
+    {
+        match &mut self.dump {
+            Some(dump) => match dump.step(&mut self.online, &mut self.tapes) {
+                Ok(DumpStep::Going) => Ok(DumpStep::Going),
+                Ok(DumpStep::Completed(number)) => {
+                    self.dump = None;
+                    Ok(DumpStep::Completed(number))
+                }
+                Err(fault) => {
+                    self.dump = None;
+                    self.spent = is_stop(&fault);
+                    Err(fault)
+                }
+            },
+            None => unreachable!(),
         }
     }
 

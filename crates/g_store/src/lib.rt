@@ -6,9 +6,11 @@ mod dumping;
 mod making;
 mod migrating;
 mod mounting;
+mod starting;
 mod store;
 #[cfg(test)]
 mod tests;
 
 pub use making::{Refused, format, restore};
+pub use starting::start;
 pub use store::Store;

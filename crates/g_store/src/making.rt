@@ -137,7 +137,7 @@ fn has_block<T: Tapes>(tapes: &T, serial: u32) -> bool
 }
 
 /// What a refusal of the filestore is to a store that is being made.
-fn refusal(fault: OnlineFault) -> StoreFault
+pub(crate) fn refusal(fault: OnlineFault) -> StoreFault
     ensures { result ≡ made_fault fault }
 {
     match fault {

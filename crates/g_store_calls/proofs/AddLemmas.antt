@@ -1,5 +1,5 @@
 -- A new user.
-use Rattle.std.proofs.Common.{◌≡◌, ◌≢◌, ℕ, zero, suc, ◌<◌, ◌≤◌, ◌+◌, Bool, true, false, List, [], ◌∷◌, ◌++◌, get_or, length, Option, Some, None, Result, Ok, Err, is_some, refl, sym, ◌∙◌, ap, arith, inl, inr, slice_get, subst, All}
+use Rattle.std.proofs.Common.{◌≡◌, ◌≢◌, ℕ, ◌<◌, ◌≤◌, ◌+◌, Bool, true, false, List, [], ◌∷◌, ◌++◌, length, Option, Some, None, is_some, refl, sym, ◌∙◌, ap, arith, inl, inr, slice_get, subst, All}
 use Rattle.std.specs.Prelude.{◌⊎◌, ◌||◌, Contains, IfSome, nat_le, not}
 use Rattle.std.specs.FinMap.{len}
 use Rattle.std.proofs.lemmas.Bool.Decides.{leb_tells}
@@ -10,10 +10,9 @@ use Rattle.std.proofs.lemmas.List.Quantifiers.{all_pairs_push}
 use Rattle.g_entry.specs.declared.file_rec.FileRec.{FileRec}
 use Rattle.g_entry.specs.declared.format.Format.TheVariants.{Two}
 use Rattle.g_entry.specs.declared.user_rec.UserRec.{UserRec}
-use Rattle.g_entry.specs.Rules.{AreFiles, AreUsers, IsFirst}
+use Rattle.g_entry.specs.Rules.{AreUsers}
 use Rattle.g_entry.specs.UserFields.{IsUser}
 use Rattle.g_name.specs.Grammar.{is_word}
-use Rattle.g_tape.specs.Reel.{Reel}
 use Rattle.g_plain.specs.declared.calls.StoreCall.TheVariants.{NewUser}
 use Rattle.g_plain.specs.declared.calls.StoreReply.TheVariants.{Done}
 use Rattle.g_plain.specs.declared.faults.StoreFault.{StoreFault}
@@ -28,9 +27,9 @@ use Rattle.g_tree.proofs.RecordLemmas.{name_at}
 use Rattle.g_tree.proofs.RuleLemmas.{count_users, has_name}
 use Rattle.g_contents.specs.Contents.{Contents, committed, recs_in}
 use Rattle.g_contents.specs.Facts.{IsTied, OnlineFacts}
-use Rattle.g_incr.specs.Layout.{Dump, holds}
+use Rattle.g_incr.specs.Layout.{holds}
 use Rattle.g_state.specs.Staying.{behind}
-use Rattle.g_state.specs.Up.{DumpFacts, IsUp, StoreFacts}
+use Rattle.g_state.specs.Up.{DumpFacts, IsUp}
 use Rattle.g_state.proofs.ChangeLemmas.{files_belong}
 use Rattle.g_state_calls.specs.Calls.{marked}
 use Rattle.g_state_calls.proofs.CallLemmas.{calls_go_by_step}

@@ -1,5 +1,5 @@
 -- An answer that changes nothing, whatever store the filestore is in.
-use Rattle.std.proofs.Common.{◌≡◌, ◌≢◌, ℕ, ◌<◌, ◌+◌, Bool, true, false, List, [], ◌∷◌, length, Option, Some, None, Result, Ok, Err, refl, sym, ◌∙◌, ap, arith, inl, inr, subst, All}
+use Rattle.std.proofs.Common.{◌≡◌, ℕ, Bool, true, false, List, [], ◌∷◌, length, Option, Some, None, Result, Ok, Err, refl, sym, ◌∙◌, ap, arith, inl, inr, subst, All}
 use Rattle.std.specs.Prelude.{◌⊎◌, ◌||◌, ◌&&◌, not, nat_lt, if◌then◌else◌, MatchOption, OnOk, is_some, unwrap_or}
 use Rattle.std.proofs.lemmas.Bool.{cases_Bool, false≢true, ltb-true}
 use Rattle.std.proofs.lemmas.List.Elements.{All-contains, All-map, All-weaker}
@@ -19,17 +19,16 @@ use Rattle.g_tree.proofs.NamedLemmas.{zeros_fit}
 use Rattle.g_contents.specs.Contents.{Contents, File, recs_in}
 use Rattle.g_contents.specs.Facts.{OnlineFacts}
 use Rattle.g_step.specs.State.{Holding, State, is_mounted}
-use Rattle.g_step.specs.CallStep.{CallStep, Outcome, Plain, Planned, IsUnjam, LeftByRefusal, after_call, brings_now, early, is_offline, late, len_of, need, reel_of, room_until, version_read, wants_bytes, writes}
+use Rattle.g_step.specs.CallStep.{CallStep, Plain, Planned, IsUnjam, LeftByRefusal, after_call, brings_now, early, is_offline, late, len_of, need, reel_of, room_until, version_read, wants_bytes, writes}
 use Rattle.g_state.specs.Answers.{Answers, Did, IsStore, Leads, Steps}
 use Rattle.g_state.specs.Meaning.{told_reels}
 use Rattle.g_state.specs.Reading.{AllTold, HasText, IsView, StandsForState, View, state_up}
 use Rattle.g_state.specs.Up.{StoreFacts}
-use Rattle.g_state_calls.proofs.CallLemmas.{calls_go_by_step}
 use Rattle.g_state_steps.specs.Rooms.{held_in}
 use Rattle.g_migrate.specs.Keeps.{with_online}
 use Rattle.g_store_calls.specs.Answering.{AnswersIn}
-use Rattle.g_store_calls.specs.Replies.{RefusesAs, RepliesAs}
-use Rattle.g_store_calls.proofs.SeenLemmas.{Seen, seen}
+use Rattle.g_store_calls.specs.Replies.{RefusesAs}
+use Rattle.g_store_calls.proofs.SeenLemmas.{seen}
 
 -- THE FAULTS OF THE PLAIN STEP are none of devices and of memory
 abbrev pub IsPlain : StoreFault → Type 0

@@ -1,14 +1,13 @@
 -- A file less.
-use Rattle.std.proofs.Common.{◌≡◌, ◌≢◌, ℕ, zero, suc, ◌<◌, ◌≤◌, ◌+◌, Bool, true, false, List, [], ◌∷◌, get_or, length, map, Option, Some, None, is_some, unwrap_or, refl, sym, ◌∙◌, ap, arith, inl, inr, subst, All}
-use Rattle.std.specs.Prelude.{◌⊎◌, ◌==◌, ◌||◌, AllPairs, Contains, IfSome, filter, if◌then◌else◌, not}
+use Rattle.std.proofs.Common.{◌≡◌, ◌≢◌, ℕ, zero, suc, ◌<◌, ◌≤◌, Bool, true, List, [], ◌∷◌, get_or, length, map, Option, Some, None, is_some, refl, sym, ◌∙◌, ap, arith, inl, inr, subst, All}
+use Rattle.std.specs.Prelude.{◌⊎◌, ◌==◌, AllPairs, Contains, IfSome, filter, not}
 use Rattle.std.specs.FinMap.{get, get-from_entries}
-use Rattle.std.specs.Option.{option_map}
-use Rattle.std.proofs.lemmas.Bool.{cases_eq, cond-false, cond-true, eq-eqb, false≢true, ne_eqb}
+use Rattle.std.proofs.lemmas.Bool.{cases_eq, cond-false, cond-true, eq-eqb, ne_eqb}
 use Rattle.std.proofs.lemmas.List.{get_or-map, length-map}
 use Rattle.std.proofs.lemmas.List.Elements.{All-filter, All-head, All-map, All-tail, Contains-get_or}
 use Rattle.std.proofs.lemmas.List.Kept.{AllPairs-filter}
 use Rattle.std.proofs.lemmas.List.Sums.{count_by-le-length, length-filter}
-use Rattle.g_online.proofs.CloseNoteLemmas.{map_same, pairs_map}
+use Rattle.g_online.proofs.CloseNoteLemmas.{pairs_map}
 use Rattle.g_entry.specs.declared.file_rec.FileRec.{FileRec}
 use Rattle.g_entry.specs.declared.user_rec.UserRec.{UserRec}
 use Rattle.g_entry.specs.FileFields.{IsFile}
@@ -16,13 +15,11 @@ use Rattle.g_entry.specs.Rules.{SameName}
 use Rattle.g_name.specs.declared.full.Full.{Full}
 use Rattle.g_name.specs.declared.path.Path.{Path}
 use Rattle.g_name.proofs.Order.{full_total}
-use Rattle.g_tape.specs.Reel.{Reel}
 use Rattle.g_plain.proofs.TextMaps.{full_exact}
-use Rattle.g_plain.specs.declared.calls.StoreCall.{StoreCall}
 use Rattle.g_plain.specs.declared.calls.StoreCall.TheVariants.{Erase}
 use Rattle.g_plain.specs.declared.calls.StoreReply.TheVariants.{Erased}
 use Rattle.g_plain.specs.declared.faults.StoreFault.{StoreFault}
-use Rattle.g_plain.specs.PlainTree.{Tree, has_file, has_user, input_name}
+use Rattle.g_plain.specs.PlainTree.{has_file, input_name}
 use Rattle.g_tree.specs.Asked.{zeros}
 use Rattle.g_tree.specs.Records.{ForTree, IsRecords, by_name, full_of, number_of, tree_of}
 use Rattle.g_tree.proofs.MapLemmas.{found_one, keyed}
@@ -31,11 +28,11 @@ use Rattle.g_tree.proofs.RecordLemmas.{file_there, numbers_apart}
 use Rattle.g_tree.proofs.RuleLemmas.{made_of, one_of_key}
 use Rattle.g_contents.specs.Contents.{Contents, File, committed, recs_in, without_file}
 use Rattle.g_contents.specs.Facts.{IsTied, OnlineFacts}
-use Rattle.g_incr.specs.Layout.{Dump, holds}
+use Rattle.g_incr.specs.Layout.{holds}
 use Rattle.g_state.specs.Directories.{IsOwnedIn}
-use Rattle.g_state.specs.Reading.{AllTold, HasText, View}
+use Rattle.g_state.specs.Reading.{AllTold, HasText}
 use Rattle.g_state.specs.Staying.{behind}
-use Rattle.g_state.specs.Up.{DumpFacts, IsUp, StoreFacts}
+use Rattle.g_state.specs.Up.{DumpFacts, IsUp}
 use Rattle.g_state.proofs.ChangeLemmas.{files_belong}
 use Rattle.g_state.proofs.StayLemmas.{stays_up}
 use Rattle.g_state_calls.specs.Calls.{IsBehind, marked}
@@ -43,7 +40,7 @@ use Rattle.g_state_calls.proofs.CallLemmas.{calls_go_by_step}
 use Rattle.g_state_steps.proofs.WaitingLemmas.{from_mapped, mapped_there}
 use Rattle.g_online.specs.declared.change.Change.TheVariants.{EraseFile}
 use Rattle.g_online.specs.Allowed.{IsAllowed, KeepsRules, Lies}
-use Rattle.g_online.specs.Change.{changed, owner_in, with_files}
+use Rattle.g_online.specs.Change.{changed, owner_in}
 use Rattle.g_migrate.proofs.MigrationLemmas.{rules_here}
 use Rattle.g_store_calls.specs.Made.{IsFileAt}
 use Rattle.g_store_calls.specs.Replies.{RefusesAs}

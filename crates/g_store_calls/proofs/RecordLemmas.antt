@@ -1,7 +1,6 @@
 -- A call that changes records by one commit, whatever store the filestore is in.
-use Rattle.std.proofs.Common.{◌≡◌, ◌≢◌, ℕ, ◌<◌, ◌≤◌, ◌+◌, Bool, true, false, List, [], ◌∷◌, get_or, length, Option, Some, None, Result, Ok, Err, refl, sym, ◌∙◌, ap, arith, inl, inr, subst, true≢false, All}
-use Rattle.std.specs.Prelude.{◌⊎◌, ◌||◌, ◌&&◌, IfErr, IfSome, MatchOption, OnOk, if◌then◌else◌, is_some, map, nat_lt, not, unwrap_or}
-use Rattle.std.specs.Option.{ForSome}
+use Rattle.std.proofs.Common.{◌≡◌, ◌≢◌, ℕ, ◌<◌, ◌≤◌, ◌+◌, Bool, true, false, List, [], ◌∷◌, length, Option, Some, None, Result, Ok, Err, refl, sym, ◌∙◌, ap, arith, inl, inr, subst, true≢false, All}
+use Rattle.std.specs.Prelude.{◌⊎◌, ◌||◌, ◌&&◌, IfSome, MatchOption, if◌then◌else◌, is_some, nat_lt, not, unwrap_or}
 use Rattle.std.proofs.lemmas.Bool.{cases_Bool, false≢true, le-ltb, ltb-true}
 use Rattle.g_base.specs.Counts.{RoseBy}
 use Rattle.g_disc.specs.Disc.{Causes}
@@ -12,21 +11,20 @@ use Rattle.g_tape.proofs.ReadLemmas.{nothing_read}
 use Rattle.g_plain.specs.declared.calls.StoreCall.{StoreCall}
 use Rattle.g_plain.specs.declared.calls.StoreReply.{StoreReply}
 use Rattle.g_plain.specs.declared.faults.StoreFault.{StoreFault}
-use Rattle.g_plain.specs.declared.faults.StoreFault.TheVariants.{DiscFull, DiscReadFault, NoCopy, NoMemory, Stopped, TapeReadFault, WaitTape}
+use Rattle.g_plain.specs.declared.faults.StoreFault.TheVariants.{DiscFull, DiscReadFault, NoMemory, Stopped, TapeReadFault, WaitTape}
 use Rattle.g_plain.specs.PlainStep.{fault_of, first_fault, reply_to}
 use Rattle.g_tree.specs.Records.{IsRecords}
 use Rattle.g_contents.specs.Commits.{Commits}
-use Rattle.g_contents.specs.Contents.{Contents, File, Holds, committed, contents_of, recs_in, taken_off, with_intent, with_number}
+use Rattle.g_contents.specs.Contents.{Contents, File, Holds, committed, recs_in, with_intent, with_number}
 use Rattle.g_contents.specs.Facts.{IsTied, OnlineFacts}
 use Rattle.g_contents.proofs.HoldLemmas.{holds_one}
 use Rattle.g_online.specs.declared.change.Change.{Change}
-use Rattle.g_online.specs.Change.{changed, need_of, touches, unjammed, unjammed_by, with_all, with_files}
-use Rattle.g_online.specs.Done.{AfterStop, HasChanged, HasStopped, commits_of}
+use Rattle.g_online.specs.Change.{changed, need_of, touches, unjammed, unjammed_by, with_all}
+use Rattle.g_online.specs.Done.{HasChanged, HasStopped, commits_of}
 use Rattle.g_incr.specs.Layout.{Dump}
-use Rattle.g_shelf.specs.Completed.{AreShelved, all_dumps}
 use Rattle.g_step.specs.State.{Holding, State, is_candidate, is_mounted, is_taken, place_at}
 use Rattle.g_step.specs.CallStep.{CallStep, Cut, IsUnjam, LeftByRefusal, Plain, Planned, after_call, brings_now, down, early, is_offline, late, len_of, need, reel_of, room_until, version_read, wants_bytes, writes}
-use Rattle.g_state.specs.Answers.{Answers, Belongs, Did, HasCause, IsStore, Leads, Told}
+use Rattle.g_state.specs.Answers.{Answers, Belongs, Did, IsStore, Leads, Told}
 use Rattle.g_state.specs.Belong.{DiscBelongs}
 use Rattle.g_state.specs.Laws.{IsQuiet}
 use Rattle.g_state.specs.Meaning.{told_reels}
@@ -43,7 +41,7 @@ use Rattle.g_migrate.proofs.KeepsLemmas.{devices_belong, moved}
 use Rattle.g_store_calls.specs.Answering.{AnswersIn}
 use Rattle.g_store_calls.specs.Applied.{HasApplied, answer_with}
 use Rattle.g_store_calls.specs.Replies.{RefusesAs, RepliesAs}
-use Rattle.g_store_calls.proofs.CalmLemmas.{IsCalm, calmly, nothing_unjammed, same_store, step_done, texts_fit}
+use Rattle.g_store_calls.proofs.CalmLemmas.{calmly, nothing_unjammed, same_store, step_done, texts_fit}
 use Rattle.g_store_calls.proofs.SeenLemmas.{Seen, seen, stands}
 
 -- WHAT IS KNOWN of the call, of its change, of the contents that it makes, and of the users that it marks

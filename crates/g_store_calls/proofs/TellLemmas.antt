@@ -1,5 +1,5 @@
 -- What is told of records.
-use Rattle.std.proofs.Common.{◌≡◌, ℕ, ◌<◌, ◌+◌, Bool, true, false, List, [], ◌∷◌, length, map, filter, Option, Some, None, Result, Ok, Err, is_some, unwrap_or, refl, sym, ◌∙◌, ap, arith, inl, inr, subst, All}
+use Rattle.std.proofs.Common.{◌≡◌, ℕ, Bool, true, false, List, [], ◌∷◌, length, map, filter, Option, Some, None, Result, Ok, Err, is_some, unwrap_or, refl, sym, ◌∙◌, ap, arith, inl, subst, All}
 use Rattle.std.specs.Prelude.{◌||◌, Contains, IfOk, IfSome, if◌then◌else◌, not}
 use Rattle.std.specs.FinMap.{entries, get, get-from_entries}
 use Rattle.std.specs.List.{AllByRecursion}
@@ -17,17 +17,17 @@ use Rattle.g_plain.specs.declared.calls.StoreCall.{StoreCall}
 use Rattle.g_plain.specs.declared.calls.StoreCall.TheVariants.{List as ListFiles, TrapCheck}
 use Rattle.g_plain.specs.declared.calls.StoreReply.{StoreReply}
 use Rattle.g_plain.specs.declared.faults.StoreFault.{StoreFault}
-use Rattle.g_plain.specs.declared.faults.StoreFault.TheVariants.{NoFile, NoUser, NotOwner}
-use Rattle.g_plain.specs.PlainStep.{Checks, checks, fault_of, first_fault, reply_to}
-use Rattle.g_plain.specs.PlainTree.{Tree, file_row, has_file, has_user, input_name, lengths, modes_of, named, newest}
+use Rattle.g_plain.specs.declared.faults.StoreFault.TheVariants.{NoUser}
+use Rattle.g_plain.specs.PlainStep.{Checks, checks, fault_of, first_fault}
+use Rattle.g_plain.specs.PlainTree.{Tree, file_row, has_file, has_user, input_name, lengths, modes_of, named}
 use Rattle.g_plain.proofs.TextMaps.{full_exact}
 use Rattle.g_plain.proofs.TreeLemmas.{all_map, entries_found}
 use Rattle.g_tree.specs.Answers.{listed, newest_of}
 use Rattle.g_tree.specs.Asked.{zeros}
-use Rattle.g_tree.specs.Records.{ForFile, ForTree, HasLengths, IsRecords, by_name, by_number, file_row_of, full_of, name_of, name_of_file, number_of, tree_of, users_by_name}
+use Rattle.g_tree.specs.Records.{ForFile, ForTree, HasLengths, IsRecords, by_name, by_number, file_row_of, full_of, name_of, name_of_file, number_of, tree_of}
 use Rattle.g_tree.proofs.ListLemmas.{filter_of_map, kept_same_on, map_of_map}
 use Rattle.g_tree.proofs.MapLemmas.{found_one, keyed, with_value}
-use Rattle.g_tree.proofs.NamedLemmas.{name_found, zeros_fit}
+use Rattle.g_tree.proofs.NamedLemmas.{zeros_fit}
 use Rattle.g_tree.proofs.RecordLemmas.{file_entries, file_there, newest_is, user_there}
 use Rattle.g_tree.proofs.RuleLemmas.{numbered_is}
 use Rattle.g_contents.specs.Contents.{recs_in}
@@ -36,7 +36,7 @@ use Rattle.g_step.specs.State.{Holding, State}
 use Rattle.g_step.specs.CallStep.{brings_now, is_offline, need, writes}
 use Rattle.g_state.specs.Answers.{Did, IsStore, Steps}
 use Rattle.g_state.specs.Meaning.{told_reels}
-use Rattle.g_state.specs.Reading.{AllTold, StandsForState, View, state_up}
+use Rattle.g_state.specs.Reading.{AllTold, StandsForState, state_up}
 use Rattle.g_state.specs.Up.{StoreFacts}
 use Rattle.g_state_calls.proofs.CallLemmas.{calls_go_by_step}
 use Rattle.g_state_laws.specs.Refusals.{only_tells}

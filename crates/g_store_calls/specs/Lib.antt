@@ -1,4 +1,10 @@
+pub mod Anew
 pub mod Answering
+pub mod Appending
 pub mod Applied
+pub mod Asking
+pub mod Fetched
+pub mod Kinds
 pub mod Made
 pub mod Replies
+pub mod Versions

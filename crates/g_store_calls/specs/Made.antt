@@ -1,5 +1,5 @@
 -- THE RECORDS that calls make, and the files that their paths name.
-use Rattle.std.specs.Prelude.{◌≡◌, ℕ, ◌<◌, List, [], ◌∷◌, ◌++◌, length, Contains}
+use Rattle.std.specs.Prelude.{◌≡◌, ℕ, List, [], ◌∷◌, ◌++◌, length, Contains}
 use Rattle.g_entry.specs.declared.file_rec.FileRec.{FileRec}
 use Rattle.g_entry.specs.declared.user_rec.UserRec.{UserRec}
 use Rattle.g_name.specs.declared.full.Full.{Full}

@@ -1,5 +1,5 @@
 -- WHAT IS REPLIED AND REFUSED of records: what the plain step says of the tree that they stand for, whatever bytes of their lengths the files have.
-use Rattle.std.specs.Prelude.{◌≡◌, ℕ, true, List, [], All, Option, Some, None, is_some}
+use Rattle.std.specs.Prelude.{◌≡◌, ℕ, true, List, [], Option, Some, None, is_some}
 use Rattle.std.specs.FinMap.{entries, get}
 use Rattle.g_name.specs.declared.full.Full.{Full}
 use Rattle.g_entry.specs.declared.file_rec.FileRec.{FileRec}

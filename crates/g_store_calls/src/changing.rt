@@ -4,6 +4,7 @@ ghost use Rattle.g_contents.specs.Facts.{IsTied};
 ghost use Rattle.g_online.specs.Allowed.{IsAllowed};
 ghost use Rattle.g_plain.specs.Rules.{IsWithinLimits};
 ghost use Rattle.g_store_calls.specs.Answering.{AnswersIn};
+ghost use Rattle.g_store_calls.specs.Kinds.{IsSettled};
 ghost use Rattle.g_store_calls.specs.Applied.{HasApplied};
 ghost use Rattle.g_store_calls.specs.Made.{IsFileAt, IsNewUser};
 ghost use Rattle.g_store_calls.specs.Replies.{RefusesAs};
@@ -32,7 +33,8 @@ pub fn new_user<D: Disc>(
     requires live { online.old.live ≡ true }
     requires tied { IsTied online.old }
     requires limits { IsWithinLimits (StoreCall.NewUser user.now space time money) }
-    ensures { AnswersIn who.now (StoreCall.NewUser user.now space time money) online.old result online.new }
+    ensures answers { AnswersIn who.now (StoreCall.NewUser user.now space time money) online.old result online.new }
+    ensures kind { IsSettled (StoreCall.NewUser user.now space time money) result }
 {
     let call = StoreCall::NewUser {
         user: user.copy(),
@@ -84,7 +86,8 @@ pub fn erase<D: Disc>(
 ) -> Result<StoreReply, StoreFault>
     requires live { online.old.live ≡ true }
     requires tied { IsTied online.old }
-    ensures { AnswersIn who.now (StoreCall.Erase path.now) online.old result online.new }
+    ensures answers { AnswersIn who.now (StoreCall.Erase path.now) online.old result online.new }
+    ensures kind { IsSettled (StoreCall.Erase path.now) result }
 {
     let call = StoreCall::Erase { path: path.copy() };
     match refusal_of(online.tree(), online.head().next_stamp, who, &call) {
@@ -111,7 +114,7 @@ fn erased_file(tree: &Tree, who: &User, path: &Path) -> (u16, Full)
 }
 
 /// Makes the change. `Stopped`, `NoMemory`.
-fn applied<D: Disc>(
+pub(crate) fn applied<D: Disc>(
     alloc: Global,
     online: &mut Online<D>,
     change: &Change,

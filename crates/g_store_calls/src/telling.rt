@@ -7,6 +7,7 @@ ghost use Rattle.g_plain.specs.PlainStep.{reply_to};
 ghost use Rattle.g_plain.specs.PlainTree as plain;
 ghost use Rattle.g_state_laws.specs.Refusals.{only_tells};
 ghost use Rattle.g_store_calls.specs.Answering.{AnswersIn};
+ghost use Rattle.g_store_calls.specs.Kinds.{IsSettled};
 ghost use Rattle.g_store_calls.specs.Replies.{AreLengths, IsThere, RefusesAs, RepliesAs, row_of};
 
 use g_base::NoMemory;
@@ -28,7 +29,8 @@ pub fn tell<D: Disc>(
 ) -> Result<StoreReply, StoreFault>
     requires live { online.now.live ≡ true }
     requires tells { only_tells call.now ≡ true }
-    ensures { AnswersIn who.now call.now online.now result online.now }
+    ensures answers { AnswersIn who.now call.now online.now result online.now }
+    ensures kind { IsSettled call.now result }
 {
     let tree = online.tree();
     match refusal_of(tree, online.head().next_stamp, who, call) {

@@ -98,7 +98,7 @@ line_over o (line.StopDisc k) w new (plain, is) = over_is w new _ is refl
 line_over o (line.StopTape k) w new (plain, is) = over_is w new _ is refl
 
 -- a run is at its end
-record IsAtEnd (w : World) : Type 0 where
+pub record IsAtEnd (w : World) : Type 0 where
   pub over : w.over ≡ true
   pub lines : w.lines ≡ []
   pub phase : w.phase ≡ Between
@@ -134,7 +134,7 @@ not_dumping true b e = absurd (false_true e)
 
 module _ {F U : Type 0} (tariffs : Shared F (Bor Usage × Unit {0}) Charge) (tariff : F) (rules : Shared U (Bor Standing × Unit {0}) ℕ) (rule : U) where
   -- at its end no move applies
-  at_end : (w new : World) (move : Move) → IsAtEnd w → Step tariffs tariff rules rule w move new → ⊥
+  pub at_end : (w new : World) (move : Move) → IsAtEnd w → Step tariffs tariff rules rule w move new → ⊥
   at_end w new (TakeLine o) ends (next, rest, lines, between, idle, due, gives) = nil_cons next rest (sym ends.lines ∙ lines)
   at_end w new (Dumped o) ends (between, idle, undue, dumping, more) = false_true (sym ends.dumping ∙ dumping)
   at_end w new (Begin number) ends (idle, undue, ready, (place, job, chosen, there, named, is)) =
@@ -146,7 +146,7 @@ module _ {F U : Type 0} (tariffs : Shared F (Bor Usage × Unit {0}) Charge) (tar
   at_end w new Over ends (between, idle, lines, nothing, going, is) = false_true (sym going ∙ ends.over)
 
   -- a move goes on, or comes to the end
-  step_over : (w new : World) (move : Move) → w.over ≡ false → Step tariffs tariff rules rule w move new → (new.over ≡ false) ⊎ IsAtEnd new
+  pub step_over : (w new : World) (move : Move) → w.over ≡ false → Step tariffs tariff rules rule w move new → (new.over ≡ false) ⊎ IsAtEnd new
   step_over w new (TakeLine o) e (next, rest, lines, between, idle, due, gives) = inl (line_over o next.what (record w { lines = rest }) new gives ∙ e)
   step_over w new (Dumped o) e (between, idle, undue, dumping, (r, s, step, is)) = inl (over_is w new _ is (dump_over _ r s w) ∙ e)
   step_over w new (Begin number) e (idle, undue, ready, (place, job, chosen, there, named, is)) = inl (over_is w new _ is refl ∙ e)

@@ -1,5 +1,5 @@
 -- The world of a run.
-use Rattle.std.specs.Prelude.{if◌then◌else◌, ℕ, ◌==◌, Bool, true, false, not, ◌&&◌, nat_le, List, [], ◌∷◌, ◌++◌, map, filter, find, Option, Some, None, is_some, codes}
+use Rattle.std.specs.Prelude.{◌≡◌, if◌then◌else◌, ℕ, ◌==◌, Bool, true, false, not, ◌&&◌, nat_le, List, [], ◌∷◌, ◌++◌, map, filter, find, Option, Some, None, is_some, codes}
 use Rattle.g_plain.specs.Asks.{Asks}
 use Rattle.g_act.specs.State.{Work}
 use Rattle.g_job.specs.State.{JobState}
@@ -29,6 +29,15 @@ pub record World : Type 0 where
   pub tape_stops : ℕ
   pub text : List ℕ
   pub over : Bool
+
+-- what no turn of a job changes: the lines that are left, the count, how often each device was armed, and whether the run is over
+pub record KeepsLines (w new : World) : Type 0 where
+  pub lines : new.lines ≡ w.lines
+  pub bad : new.bad ≡ w.bad
+  pub over : new.over ≡ w.over
+  pub count : new.count ≡ w.count
+  pub disc_stops : new.disc_stops ≡ w.disc_stops
+  pub tape_stops : new.tape_stops ≡ w.tape_stops
 
 -- before anything is done
 abbrev pub start : List Timed → Option ℕ → State → World

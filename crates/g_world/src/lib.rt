@@ -8,13 +8,15 @@ ghost use Rattle.g_world.specs.Laws.{
   DumpedIsOpened,
   DumpsEnd,
   NothingBehindOver,
+  OneText,
   RisesOn,
+  RunsEnd,
   StartHasTheTree,
 };
 
 use g_budget::{Charge, Usage};
 use g_sched::Standing;
-use g_step::step_is_plain;
+use g_step::{step_is_one, step_is_plain};
 
 /// Every call of every job is answered as on one plain tree, waits, refusals of devices and stops aside.
 pub fn calls_are_answered_plainly<F: Fn(&Usage) -> Charge, U: Fn(&Standing) -> u64>()
@@ -55,3 +57,17 @@ pub fn nothing_comes_behind_the_end<F: Fn(&Usage) -> Charge, U: Fn(&Standing) ->
 pub fn dumped_is_what_a_dump_opened_on<F: Fn(&Usage) -> Charge, U: Fn(&Standing) -> u64>()
     ensures { (tariff : F) (rule : U) → DumpedIsOpened F.Fn tariff U.Fn rule }
 {}
+
+/// A job takes at most its allowance in charged turns, and in turns that charge nothing at most one more than there were
+/// MOUNT lines.
+pub fn jobs_come_to_an_end<F: Fn(&Usage) -> Charge, U: Fn(&Standing) -> u64>()
+    ensures { (tariff : F) (rule : U) → RunsEnd F.Fn tariff U.Fn rule }
+{}
+
+/// Where no count rose, the text of a run that is over follows from the script, what the devices stood for when it began,
+/// the charges and the weigh rule.
+pub fn text_is_one<F: Fn(&Usage) -> Charge, U: Fn(&Standing) -> u64>()
+    ensures { (tariff : F) (rule : U) → OneText F.Fn tariff U.Fn rule }
+{
+    step_is_one();
+}

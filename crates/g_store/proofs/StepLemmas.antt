@@ -1,0 +1,166 @@
+-- How a store answers a step of its open dump, whichever answer the dumper gave.
+use Rattle.std.proofs.Common.{◌≡◌, ◌≢◌, ℕ, ◌+◌, ◌<◌, Bool, true, false, List, Option, Some, None, Result, Ok, Err, refl, sym, ◌∙◌, ap, arith, subst, inl, inr}
+use Rattle.std.specs.Prelude.{◌⊎◌, ◌↔◌, All, IfSome, is_some}
+use Rattle.std.proofs.lemmas.Bool.{false≢true}
+use Rattle.std.proofs.lemmas.Option.{none-some, same_Some}
+use Rattle.g_tape.specs.Rack.{AreReels, Rack}
+use Rattle.g_plain.specs.declared.faults.StoreFault.{StoreFault}
+use Rattle.g_plain.specs.declared.faults.StoreFault.TheVariants.{DiscReadFault, Stopped}
+use Rattle.g_contents.specs.Facts.{IsPinOf, OnlineFacts, Pin}
+use Rattle.g_online.specs.declared.fault.OnlineFault.TheVariants as online
+use Rattle.g_online.specs.Done.{HasClosed}
+use Rattle.g_incr.specs.Plan.{needs}
+use Rattle.g_step.specs.State as state
+use Rattle.g_step.specs.DumpSteps.{Completed, Going, Stepped}
+use Rattle.g_state.specs.Answers.{Belongs, IsStore, Told, WroteCommits}
+use Rattle.g_state.specs.Reading.{StandsForState}
+use Rattle.g_state.specs.Up.{DumpFacts, IsOpen, StoreFacts, content_in}
+use Rattle.g_dumper.specs.Keeps.{KeepsStore, behind_step, spent_with, up_with}
+use Rattle.g_dumper.specs.Steps.{Abandoned, Stepping}
+use Rattle.g_dumper.proofs.KeepLemmas.{content_told}
+use Rattle.g_store.specs.Dumping.{LeavesOpen, NoneRose, Progresses, StepsAs, is_stop_at}
+use Rattle.g_store.specs.Events.{AnswersEvent, IsStepOfDump, LeadsBy, StepsBy, StepsDump, WroteBy, commits_of_step}
+use Rattle.g_store.proofs.SteppedLemmas.{abandons, completes, goes, stops, stops_closing}
+
+-- THE CONTENT of its pins, where the disc tells
+the_content : (d : DumpFacts) (o : OnlineFacts) (old : Rack) → IsStore (up_with o old (Some d)) → Told (up_with o old (Some d)) → (is : IsOpen d o old)
+    → (content : List (List ℕ)) × (content_in is.pins ≡ Some content)
+the_content d o old keeps told is =
+    let pins_are = subst (λ (p : Option (List Pin)). IfSome p (All (IsPinOf (is_some o.disc.held) o.contents.head.next_stamp o.contents.files))) is.pinned (keeps.tied.pinned (keeps.live refl)) in
+    content_told o.contents.head.next_stamp o.contents.files is.pins
+    (subst (λ (b : Bool). All (IsPinOf b o.contents.head.next_stamp o.contents.files) is.pins) told.disc pins_are)
+
+-- nothing was written
+none_wrote : (d : Option DumpFacts) (old new : Rack) (o o' : OnlineFacts) (dump : Option DumpFacts) → o'.layout ≡ o.layout → o'.disc.writes ≡ o.disc.writes
+    → WroteCommits 0 (up_with o old d) (up_with o' new dump)
+none_wrote d old new o o' dump layout writes = record {
+  blocks = 0;
+  commits = (layout, refl);
+  writes = record { exactly = λ less. writes ∙ (let n : o.disc.writes ≡ o.disc.writes + 0 = omega arith in n) };
+}
+
+module _ (d : DumpFacts) (o : OnlineFacts) (old : Rack) (reels : AreReels old.reels) (keeps : IsStore (up_with o old (Some d))) where
+  abbrev before : StoreFacts
+  before = up_with o old (Some d)
+
+  is : IsOpen d o old
+  is = keeps.open_dump refl
+
+  by_state : (d' : DumpFacts) (o' : OnlineFacts) (new : Rack) (answer : Result Stepped StoreFault) → Stepping d o old answer d' o' new → Told before → Belongs before
+      → (u : state.State) → StandsForState before u → StepsBy IsStepOfDump u before answer (behind_step answer d' o' new)
+  by_state d' o' new (Ok Going) (less, dump_is, same, wrote) told was u here =
+      let (text, shelf, shelved, up) = was.up refl in
+      let (content, has) = the_content d o old keeps told is in
+      let both : up_with o new (Some (record { plan = d.plan; done = d.done + 1 })) ≡ up_with o' new (Some d') =
+      ap (λ (e : DumpFacts). up_with o new (Some e)) (sym dump_is) ∙ ap (λ (x : OnlineFacts). up_with x new (Some d')) (sym same) in
+      subst (λ (x : StoreFacts). LeadsBy IsStepOfDump u before x (Ok Going)) both (goes d o old reels keeps told was text shelf shelved up is content has new less wrote u here)
+  by_state d' o' new (Ok (Completed n)) (last, number, plan_is, wrote, closing) told was u here =
+      let (text, shelf, shelved, up) = was.up refl in
+      let (content, has) = the_content d o old keeps told is in
+      completes d o old reels keeps told was text shelf shelved up is content has new o' n last number wrote closing.causes.size (subst (λ (m : ℕ). HasClosed m o o') number closing.ok) u here
+  by_state d' o' new (Err Stopped) (plan_is, inl (failed, same)) told was u here =
+      let (text, shelf, shelved, up) = was.up refl in
+      let (content, has) = the_content d o old keeps told is in
+      subst (λ (x : OnlineFacts). LeadsBy IsStepOfDump u before (spent_with x new) (Err Stopped)) (sym same) (stops d o old reels keeps told was text shelf shelved up is content has new failed u here)
+  by_state d' o' new (Err Stopped) (plan_is, inr (last, wrote, closing)) told was u here =
+      let (text, shelf, shelved, up) = was.up refl in
+      let (content, has) = the_content d o old keeps told is in
+      stops_closing d o old reels keeps told was text shelf shelved up is content has new o' last wrote closing.causes.size closing.told (closing.causes.writes_rose refl) closing.stopped u here
+  by_state d' o' new (Err DiscReadFault) (dump_is, same, left) told was u here =
+      let (text, shelf, shelved, up) = was.up refl in
+      let (content, has) = the_content d o old keeps told is in
+      subst (λ (r : Rack). LeadsBy IsStepOfDump u before (up_with o' r None) (Err DiscReadFault)) (sym same) (abandons d o old reels keeps told was text shelf shelved up is content has o' left u here)
+  by_state d' o' new (Err fault) never told was u here = absurd never
+
+  by_writes : (d' : DumpFacts) (o' : OnlineFacts) (new : Rack) (answer : Result Stepped StoreFault) → Stepping d o old answer d' o' new → WroteBy commits_of_step before answer (behind_step answer d' o' new)
+  by_writes d' o' new (Ok Going) (less, dump_is, same, wrote) =
+      none_wrote (Some d) old new o o' (Some d') (ap (λ (x : OnlineFacts). x.layout) same) (ap (λ (x : OnlineFacts). x.disc.writes) same)
+  by_writes d' o' new (Ok (Completed n)) (last, number, plan_is, wrote, closing) = record { blocks = closing.ok.blocks; commits = closing.ok.commits; writes = closing.ok.writes }
+  by_writes d' o' new (Err Stopped) step = tt
+  by_writes d' o' new (Err DiscReadFault) (dump_is, same, left) =
+      none_wrote (Some d) old new o o' None (ap (λ (x : OnlineFacts). x.layout) left.facts) (ap (λ (x : OnlineFacts). x.disc.writes) left.facts)
+  by_writes d' o' new (Err fault) never = absurd never
+
+  by_spent : (d' : DumpFacts) (o' : OnlineFacts) (new : Rack) (answer : Result Stepped StoreFault) → Stepping d o old answer d' o' new
+      → (let after = behind_step answer d' o' new in (after.spent ≡ true) ↔ (answer ≡ Err Stopped))
+  by_spent d' o' new (Ok Going) step = (λ no. absurd (false≢true no), λ no. absurd (let it : ⊥ = cc in it))
+  by_spent d' o' new (Ok (Completed n)) step = (λ no. absurd (false≢true no), λ no. absurd (let it : ⊥ = cc in it))
+  by_spent d' o' new (Err Stopped) step = (λ yes. refl, λ yes. refl)
+  by_spent d' o' new (Err DiscReadFault) step = (λ no. absurd (false≢true no), λ no. absurd (let it : ⊥ = cc in it))
+  by_spent d' o' new (Err fault) never = absurd never
+
+  -- THE ANSWER
+  answers : (d' : DumpFacts) (o' : OnlineFacts) (new : Rack) (answer : Result Stepped StoreFault) → Stepping d o old answer d' o' new → KeepsStore before (behind_step answer d' o' new)
+      → StepsDump before answer (behind_step answer d' o' new)
+  answers d' o' new answer step kept = record {
+    step = λ told was u here. by_state d' o' new answer step told was u here;
+    wrote = by_writes d' o' new answer step;
+    keeps = kept.store keeps;
+    told = kept.told;
+    belongs = λ told was. kept.belongs told keeps was;
+    spent = by_spent d' o' new answer step;
+  }
+
+-- the store behind a step
+abbrev pub spends : Result Stepped StoreFault → Bool
+spends (Ok step) = false
+spends (Err fault) = is_stop_at fault
+
+behind_same : (answer : Result Stepped StoreFault) (d' : DumpFacts) (o' : OnlineFacts) (new : Rack) (dump : Option DumpFacts) (spent : Bool) → LeavesOpen answer d' dump → spent ≡ spends answer
+    → behind_step answer d' o' new ≡ record { online = o'; rack = new; dump = dump; spent = spent }
+behind_same (Ok Going) d' o' new dump spent left over = λ i. let s : StoreFacts = record { online = o'; rack = new; dump = sym left i; spent = sym over i } in s
+behind_same (Ok (Completed n)) d' o' new dump spent left over = λ i. let s : StoreFacts = record { online = o'; rack = new; dump = sym left i; spent = sym over i } in s
+behind_same (Err Stopped) d' o' new dump spent left over = λ i. let s : StoreFacts = record { online = o'; rack = new; dump = sym left i; spent = sym over i } in s
+behind_same (Err fault) d' o' new dump spent left over = λ i. let s : StoreFacts = record { online = o'; rack = new; dump = sym left i; spent = sym over i } in s
+
+-- WHERE NO COUNT ROSE
+module _ (d d' : DumpFacts) (o o' : OnlineFacts) (old new : Rack) (dump : Option DumpFacts) (spent : Bool) where
+  abbrev none_rose : Type 0
+  none_rose = NoneRose (up_with o old (Some d)) (record { online = o'; rack = new; dump = dump; spent = spent })
+
+  going_by : (answer : Result Stepped StoreFault) → Stepping d o old answer d' o' new → none_rose → d.done + 1 < needs d.plan → answer ≡ Ok Going
+  going_by (Ok Going) step none less = refl
+  going_by (Ok (Completed n)) (last, number, plan_is, wrote, closing) none less = absurd (let no : ⊥ = omega (arith, last, less) in no)
+  going_by (Err Stopped) (plan_is, inl (failed, same)) none less = absurd (none.tape_writes failed.rose)
+  going_by (Err Stopped) (plan_is, inr (last, wrote, closing)) none less = absurd (none.disc_writes (closing.causes.writes_rose refl))
+  going_by (Err DiscReadFault) (dump_is, same, left) none less = absurd (none.disc_reads left.rose)
+  going_by (Err fault) never none less = absurd never
+
+  last_by : (answer : Result Stepped StoreFault) → Stepping d o old answer d' o' new → none_rose → d.done + 1 ≡ needs d.plan → answer ≡ Ok (Completed d.plan.number)
+  last_by (Ok Going) (less, dump_is, same, wrote) none last = absurd (let no : ⊥ = omega (arith, last, less) in no)
+  last_by (Ok (Completed n)) (last_is, number, plan_is, wrote, closing) none last = ap (λ (m : ℕ). let r : Result Stepped StoreFault = Ok (Completed m) in r) number
+  last_by (Err Stopped) (plan_is, inl (failed, same)) none last = absurd (none.tape_writes failed.rose)
+  last_by (Err Stopped) (plan_is, inr (last_is, wrote, closing)) none last = absurd (none.disc_writes (closing.causes.writes_rose refl))
+  last_by (Err DiscReadFault) (dump_is, same, left) none last = absurd (none.disc_reads left.rose)
+  last_by (Err fault) never none last = absurd never
+
+  progresses : (answer : Result Stepped StoreFault) → Stepping d o old answer d' o' new
+      → (let after : StoreFacts = record { online = o'; rack = new; dump = dump; spent = spent } in Progresses (up_with o old (Some d)) answer after)
+  progresses answer step = record {
+    going = λ e at none less. going_by answer step none (subst (λ (x : DumpFacts). x.done + 1 < needs x.plan) (sym (same_Some d e at)) less);
+    last = λ e at none last.
+        subst (λ (x : DumpFacts). answer ≡ Ok (Completed x.plan.number)) (same_Some d e at)
+        (last_by answer step none (subst (λ (x : DumpFacts). x.done + 1 ≡ needs x.plan) (sym (same_Some d e at)) last));
+  }
+
+-- A STORE THAT TOOK A STEP, by what the dumper said
+module _ (old t : StoreFacts) (same : t ≡ old) (unspent : old.spent ≡ false) (d : DumpFacts) (dump_is : t.dump ≡ Some d) (d' : DumpFacts) (o' : OnlineFacts) (new : Rack)
+    (answer : Result Stepped StoreFault) (step : Stepping d t.online t.rack answer d' o' new) (dump : Option DumpFacts) (spent : Bool) (left : LeavesOpen answer d' dump) where
+  abbrev after : StoreFacts
+  after = record { online = o'; rack = new; dump = dump; spent = spent }
+
+  whole : up_with t.online t.rack (Some d) ≡ old
+  whole = (λ i. let s : StoreFacts = record { online = t.online; rack = t.rack; dump = sym dump_is i; spent = sym (ap (λ (x : StoreFacts). x.spent) same ∙ unspent) i } in s) ∙ same
+
+  pub event_by : IsStore t → AreReels t.rack.reels → KeepsStore (up_with t.online t.rack (Some d)) (behind_step answer d' o' new) → spent ≡ spends answer → StepsDump old answer after
+  event_by keeps reels kept over =
+      subst (λ (x : StoreFacts). StepsDump x answer after) whole
+      (subst (λ (x : StoreFacts). StepsDump (up_with t.online t.rack (Some d)) answer x) (behind_same answer d' o' new dump spent left over)
+      (answers d t.online t.rack reels (subst IsStore (same ∙ sym whole) keeps) d' o' new answer step kept))
+
+  pub steps_by : StepsAs old answer after
+  steps_by =
+      subst (λ (x : StoreFacts). StepsAs x answer after) whole (record { dump = d; dump_is = refl; after = d'; stepping = step; left = left })
+
+  pub progress_by : Progresses old answer after
+  progress_by = subst (λ (x : StoreFacts). Progresses x answer after) whole (progresses d d' t.online o' t.rack new dump spent answer step)

@@ -1,0 +1,20 @@
+use Rattle.std.proofs.Common.{subst, sym}
+use Rattle.g_store.specs.Making.{RefusesStart}
+use Rattle.g_store.proofs.StartedLemmas.{begun_is, load_refused, start_refused}
+use Rattle.g_store.proofs.starting.start.Goals as goal
+
+pub returns-in-Err-clause-refused : goal.returns-in-Err-clause-refused
+returns-in-Err-clause-refused g c =
+    subst (λ f. RefusesStart (g.D.Disc.state c.args.disc) (g.T.Tapes.rack c.args.tapes) f (g.D.Disc.state c.in-Err.disc) (g.T.Tapes.rack c.args.tapes)) (sym c.refusal.ensures)
+    (load_refused (g.D.Disc.state c.args.disc) (g.T.Tapes.rack c.args.tapes) (g.D.Disc.state c.in-Err.disc) c.in-Err.fault c.in-Err.ensures.only c.in-Err.ensures.refused c.in-Err.ensures.none)
+
+pub returns-in-Ok-take_over-clause-ok : goal.returns-in-Ok-take_over-clause-ok
+returns-in-Ok-take_over-clause-ok g c =
+    begun_is (g.D.Disc.state c.args.disc) (g.T.Tapes.rack c.args.tapes) c.in-Ok.online c.in-Ok.ensures.ok c.take_over.new.online (g.T.Tapes.rack c.take_over.new.tapes) c.in-Ok-take_over.number
+    c.in-Ok-take_over.ensures
+
+pub returns-in-Err-take_over-clause-refused : goal.returns-in-Err-take_over-clause-refused
+returns-in-Err-take_over-clause-refused g c =
+    subst (λ d. RefusesStart (g.D.Disc.state c.args.disc) (g.T.Tapes.rack c.args.tapes) c.in-Err-take_over.fault d (g.T.Tapes.rack c.take_over.new.tapes)) (sym c.into_disc.ensures)
+    (start_refused (g.D.Disc.state c.args.disc) (g.T.Tapes.rack c.args.tapes) c.in-Ok.online c.in-Ok.ensures.ok c.take_over.new.online (g.T.Tapes.rack c.take_over.new.tapes) c.in-Err-take_over.fault
+    c.in-Err-take_over.ensures)

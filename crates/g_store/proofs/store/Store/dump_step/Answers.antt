@@ -1,0 +1,44 @@
+use Rattle.std.proofs.Common.{Err, None, Ok, Some, ap, ◌∙◌, refl, subst}
+use Rattle.g_step.specs.DumpSteps.{Completed, Going}
+use Rattle.g_state.specs.Up.{StoreFacts}
+use Rattle.g_dumper.specs.declared.dump.DumpStep.{DumpStep}
+use Rattle.g_dumper.specs.Keeps.{KeepsStore, behind_step, up_with}
+use Rattle.g_dumper.specs.Steps.{Stepping, stepped}
+use Rattle.g_store.proofs.StepLemmas.{event_by}
+use Rattle.g_store.proofs.store.Store.dump_step.Goals as goal
+
+pub returns-in-Ok-Going-clause-event : goal.returns-in-Ok-Going-clause-event
+returns-in-Ok-Going-clause-event g c =
+    let step =
+    subst
+    (λ (x : DumpStep). Stepping c.in-Some.dump c.self.inside.online (g.T.Tapes.rack c.self.inside.tapes) (Ok (stepped x)) c.step.new.self c.step.new.online (g.T.Tapes.rack c.step.new.tapes))
+    c.in-Ok-Going.field-0-is c.in-Ok-Going.ensures.step in
+    let kept =
+    subst
+    (λ (x : DumpStep).
+    KeepsStore (up_with c.self.inside.online (g.T.Tapes.rack c.self.inside.tapes) (Some c.in-Some.dump))
+    (behind_step (Ok (stepped x)) c.step.new.self c.step.new.online (g.T.Tapes.rack c.step.new.tapes)))
+    c.in-Ok-Going.field-0-is c.in-Ok-Going.ensures.keeps in
+    event_by c.args.self.now _ c.self.view_is c.requires.running c.in-Some.dump c.in-Some.is c.step.new.self c.step.new.online (g.T.Tapes.rack c.step.new.tapes) (Ok Going) step (Some c.step.new.self)
+    c.self.inside.spent refl c.self.invariant (g.met.T.Tapes.well_formed _) kept (ap (λ (s : StoreFacts). s.spent) c.self.view_is ∙ c.requires.running)
+
+pub returns-in-Ok-Completed-clause-event : goal.returns-in-Ok-Completed-clause-event
+returns-in-Ok-Completed-clause-event g c =
+    let step =
+    subst
+    (λ (x : DumpStep). Stepping c.in-Some.dump c.self.inside.online (g.T.Tapes.rack c.self.inside.tapes) (Ok (stepped x)) c.step.new.self c.step.new.online (g.T.Tapes.rack c.step.new.tapes))
+    c.in-Ok-Completed.field-0-is c.in-Ok-Completed.ensures.step in
+    let kept =
+    subst
+    (λ (x : DumpStep).
+    KeepsStore (up_with c.self.inside.online (g.T.Tapes.rack c.self.inside.tapes) (Some c.in-Some.dump))
+    (behind_step (Ok (stepped x)) c.step.new.self c.step.new.online (g.T.Tapes.rack c.step.new.tapes)))
+    c.in-Ok-Completed.field-0-is c.in-Ok-Completed.ensures.keeps in
+    event_by c.args.self.now _ c.self.view_is c.requires.running c.in-Some.dump c.in-Some.is c.step.new.self c.step.new.online (g.T.Tapes.rack c.step.new.tapes)
+    (Ok (Completed c.in-Ok-Completed.number)) step None c.self.inside.spent refl c.self.invariant (g.met.T.Tapes.well_formed _) kept
+    (ap (λ (s : StoreFacts). s.spent) c.self.view_is ∙ c.requires.running)
+
+pub returns-in-Err-clause-event : goal.returns-in-Err-clause-event
+returns-in-Err-clause-event g c =
+    event_by c.args.self.now _ c.self.view_is c.requires.running c.in-Some.dump c.in-Some.is c.step.new.self c.step.new.online (g.T.Tapes.rack c.step.new.tapes) (Err c.in-Err.fault) c.in-Err.ensures.step
+    None c.is_stop-self-inside.result refl c.self.invariant (g.met.T.Tapes.well_formed _) c.in-Err.ensures.keeps c.is_stop-self-inside.ensures

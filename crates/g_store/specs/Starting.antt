@@ -1,0 +1,110 @@
+-- A START'S DUMP: which one the intent of the disc names, and what is made of the copies that its records name.
+use Rattle.std.specs.Prelude.{◌≡◌, ◌≢◌, ◌⊎◌, ℕ, ◌==◌, ◌&&◌, Bool, true, false, List, [], Contains, IfErr, IfSome, OnOk, Option, Some, None, Result, Ok, Err, is_some, if◌then◌else◌}
+use Rattle.std.specs.Option.{ForSome}
+use Rattle.std.specs.List.{flat_map, list_any}
+use Rattle.g_base.specs.Counts.{Rose}
+use Rattle.g_disc.specs.Disc.{Causes}
+use Rattle.g_entry.specs.declared.file_rec.FileRec.{FileRec}
+use Rattle.g_entry.specs.declared.file_rec.TapeCopy.{TapeCopy}
+use Rattle.g_entry.specs.declared.head.Intent.{Intent}
+use Rattle.g_tape.specs.Rack.{Rack, is_mounted, reel}
+use Rattle.g_tape.specs.Reads.{OnlyReads, blocks_of}
+use Rattle.g_plain.specs.declared.faults.StoreFault.{StoreFault}
+use Rattle.g_plain.specs.declared.faults.StoreFault.TheVariants.{MountFirst, NoMemory, Stopped, TapeReadFault}
+use Rattle.g_contents.specs.Contents.{recs_in}
+use Rattle.g_contents.specs.Facts.{IsTied, OnlineFacts}
+use Rattle.g_online.specs.declared.change.Change.{Change}
+use Rattle.g_online.specs.declared.change.Change.TheVariants.{Adopt}
+use Rattle.g_online.specs.Done.{HasChanged, HasStopped}
+use Rattle.g_incr.specs.declared.fault.ShelfFault.{ShelfFault}
+use Rattle.g_incr.specs.declared.fault.ShelfFault.TheVariants.{ReadFault}
+use Rattle.g_incr.specs.declared.note.DumpNote.{DumpNote}
+use Rattle.g_incr.specs.Layout.{Dump, IsDump}
+use Rattle.g_shelf.specs.Completed.{AreCompleted}
+use Rattle.g_step.specs.State.{copy_entry}
+
+-- the intent names the dump of this note
+abbrev pub names : Intent → DumpNote → Bool
+names i n = (n.place == i.place) && (n.number == i.number)
+
+-- and this one among the completed dumps of its reel
+pub record IsNamed (i : Intent) (dumps : List Dump) (d : Dump) : Type 0 where
+  pub there : Contains dumps d
+  pub place : d.place ≡ i.place
+  pub number : d.number ≡ i.number
+
+-- these are the files of the dump that the intent names, which is a completed one where its reel tells
+pub record HasNamed (i : Intent) (rack : Rack) (files : List FileRec) : Type 0 where
+  pub dump : Dump
+  pub rules : IsDump dump
+  pub files_are : files ≡ dump.files
+  pub named : ForSome (blocks_of i.serial rack) (λ blocks. (dumps : List Dump) → AreCompleted i.serial blocks dumps → IsNamed i dumps dump)
+
+-- no completed dump is the one that it names
+abbrev pub NamesNone : Intent → Rack → Type 0
+NamesNone i rack = ForSome (blocks_of i.serial rack) (λ blocks. (dumps : List Dump) → AreCompleted i.serial blocks dumps → (d : Dump) → IsNamed i dumps d → ⊥)
+
+-- what a refusal of a reader of tape is, where the reel is mounted
+abbrev pub read_refusal : ShelfFault → StoreFault
+read_refusal ReadFault = TapeReadFault
+read_refusal fault = NoMemory
+
+-- The copies that a dump's records name, without those of the stamps that empty files have: an empty file has none on tape.
+abbrev pub has_empty : List FileRec → ℕ → Bool
+has_empty files stamp = list_any (λ r. (r.stamp == stamp) && (r.len == 0)) files
+
+abbrev pub copy_named : List FileRec → FileRec → List (ℕ × TapeCopy)
+copy_named files r = if has_empty files r.stamp then [] else copy_entry r.stamp r.tape
+
+abbrev pub copies_named : List FileRec → List FileRec → List (ℕ × TapeCopy)
+copies_named files dumped = flat_map (copy_named files) dumped
+
+-- the dump of this number and of these files is adopted
+abbrev pub adoption : ℕ → List FileRec → OnlineFacts → Change
+adoption number dumped o = Adopt number (copies_named (recs_in o.contents) dumped)
+
+pub record Adopts (number : ℕ) (dumped : List FileRec) (old : OnlineFacts) (result : Result (Unit {0}) StoreFault) (new : OnlineFacts) : Type 0 where
+  pub ok : OnOk result (HasChanged (adoption number dumped old) old new)
+  pub stopped : result ≡ Err Stopped → HasStopped (adoption number dumped old) old new
+  pub same : IfErr result (λ e. e ≢ Stopped → new ≡ old)
+  pub causes : Causes ⊥ (result ≡ Err Stopped) old.disc new.disc
+  pub tied : IsTied new
+  pub told : is_some new.disc.held ≡ is_some old.disc.held
+  pub only : IfErr result (λ e. (e ≡ Stopped) ⊎ (e ≡ NoMemory))
+
+-- the intent of the disc, and its reel
+pub record IsIntent (o : OnlineFacts) (rack : Rack) (mounted : Bool) (i : Intent) : Type 0 where
+  pub is : o.contents.head.intent ≡ Some i
+  pub mounted_is : is_mounted (reel i.serial rack.reels) ≡ mounted
+
+-- there is no intent, or it names no completed dump
+pub record TakesNone (old : OnlineFacts) (rack : Rack) (new : OnlineFacts) : Type 0 where
+  pub same : new ≡ old
+  pub none : IfSome old.contents.head.intent (λ i. (is_mounted (reel i.serial rack.reels) ≡ true) × NamesNone i rack)
+
+-- the dump that it names is adopted, or the adoption is stopped
+pub record TakesNamed (old : OnlineFacts) (rack : Rack) (Leaves : Change → Type 0) : Type 0 where
+  pub intent : Intent
+  pub is : IsIntent old rack true intent
+  pub files : List FileRec
+  pub found : HasNamed intent rack files
+  pub leaves : Leaves (adoption intent.number files old)
+
+abbrev pub Takes : OnlineFacts → Rack → Result (Option ℕ) StoreFault → OnlineFacts → Type 0
+Takes old rack (Ok None) new = TakesNone old rack new
+Takes old rack (Ok (Some number)) new = (taken : TakesNamed old rack (λ change. HasChanged change old new)) × (number ≡ taken.intent.number)
+Takes old rack (Err (MountFirst serial)) new = (new ≡ old) × (i : Intent) × IsIntent old rack false i × (serial ≡ i.serial)
+Takes old rack (Err TapeReadFault) new = (new ≡ old) × (i : Intent) × IsIntent old rack true i
+Takes old rack (Err Stopped) new = TakesNamed old rack (λ change. HasStopped change old new)
+Takes old rack (Err NoMemory) new = new ≡ old
+Takes old rack (Err fault) new = ⊥
+
+-- HOW THE DUMP OF THE INTENT IS TAKEN OVER: by a commit of the disc, and reads of the reel
+pub record TakesOver (old : OnlineFacts) (rack : Rack) (result : Result (Option ℕ) StoreFault) (new : OnlineFacts) (after : Rack) : Type 0 where
+  pub takes : Takes old rack result new
+  pub causes : Causes ⊥ (result ≡ Err Stopped) old.disc new.disc
+  pub tied : IsTied new
+  pub told : is_some new.disc.held ≡ is_some old.disc.held
+  pub reads : OnlyReads rack after
+  pub kept : (result ≡ Err TapeReadFault → ⊥) → after.read_faults ≡ rack.read_faults
+  pub rose : result ≡ Err TapeReadFault → Rose rack.read_faults after.read_faults

@@ -1,0 +1,208 @@
+//! A store is started from what its disc holds.
+ghost use Rattle.std.specs.Prelude.{◌≡◌, ◌⊎◌, ◌<◌, ◌≤◌, ◌^◌, ◌++◌, All, IfErr, IfNone, IfOk, IfSome, None, OnOk, true};
+ghost use Rattle.std.specs.List.{list_any};
+ghost use Rattle.g_base.specs.Counts.{Rose};
+ghost use Rattle.g_entry.specs.FileFields.{IsFile};
+ghost use Rattle.g_tape.specs.Rack.{is_mounted, reel};
+ghost use Rattle.g_tape.specs.Reads.{OnlyReads};
+ghost use Rattle.g_contents.specs.Facts.{IsTied};
+ghost use Rattle.g_store.specs.Making.{Begun, RefusesStart};
+ghost use Rattle.g_store.specs.Starting.{Adopts, HasNamed, NamesNone, TakesOver, copies_named, copy_named, has_empty, names, read_refusal};
+
+use crate::making::{Refused, refusal};
+use crate::store::Store;
+use g_base::NoMemory;
+use g_disc::Disc;
+use g_entry::{FileRec, Intent, TapeCopy};
+use g_incr::{DumpDir, DumpNote, ShelfFault, read_dump};
+use g_online::{CopyList, Online};
+use g_plain::StoreFault;
+use g_shelf::completed;
+use g_tape::Tapes;
+use std::alloc::Global;
+
+/// Starts the store that the disc holds. Where the disc has an intent, the system went down while a dump was open: if that dump
+/// stands whole among the completed ones of its reel, its copies and its number are taken over by one commit, and the answer is
+/// the number; else nothing is written, and the next commit drops the intent (docs/DEFINITIONS.md). The reel of the intent has to
+/// be mounted, and is only read. A refusal hands both devices back:
+///
+/// - `NoFilestore`: the disc holds none. `DiscReadFault`: a block of it couldn't be read. `MountFirst`: the serial of the intent's
+///   reel, which isn't mounted. `TapeReadFault`: a read of that reel failed. With these, and with `NoMemory`, the disc is as it was.
+/// - `Stopped`: a write failed, and the disc stands for what it stood for, or for that with the dump taken over.
+pub fn start<D: Disc, T: Tapes>(
+    alloc: Global,
+    disc: D,
+    mut tapes: T,
+) -> Result<(Store<D, T>, Option<u64>), Refused<D, T>>
+    requires low { 2177 < (D.state disc).size }
+    requires high { (D.state disc).size ≤ 1_048_576 }
+    ensures ok { IfOk result (λ p. Begun (D.state disc) (T.rack tapes) p.1 p.0) }
+    ensures refused { IfErr result (λ e. RefusesStart (D.state disc) (T.rack tapes) e.fault (D.state e.disc) (T.rack e.tapes)) }
+{
+    let mut online = match Online::load(alloc, disc) {
+        Ok(online) => online,
+        Err((fault, disc)) => {
+            return Err(Refused {
+                fault: refusal(fault),
+                disc,
+                tapes,
+            });
+        }
+    };
+    match take_over(alloc, &mut online, &mut tapes) {
+        Ok(number) => Ok((
+            Store {
+                online,
+                tapes,
+                dump: None,
+                spent: false,
+            },
+            number,
+        )),
+        Err(fault) => Err(Refused {
+            fault,
+            disc: online.into_disc(),
+            tapes,
+        }),
+    }
+}
+
+/// Takes the dump over that the intent of the disc names, if it is a completed one. Its number.
+fn take_over<D: Disc, T: Tapes>(
+    alloc: Global,
+    online: &mut Online<D>,
+    tapes: &mut T,
+) -> Result<Option<u64>, StoreFault>
+    requires live { online.old.live ≡ true }
+    requires pins { online.old.pins ≡ None }
+    requires tied { IsTied online.old }
+    ensures { TakesOver online.old (T.rack tapes.old) result online.new (T.rack tapes.new) }
+{
+    let intent = match online.head().intent {
+        Some(intent) => intent,
+        None => return Ok(None),
+    };
+    if !tapes.mounted(intent.serial) {
+        return Err(StoreFault::MountFirst(intent.serial));
+    }
+    let dir = match find_named(alloc, tapes, &intent) {
+        Ok(Some(dir)) => dir,
+        Ok(None) => return Ok(None),
+        Err(fault) => return Err(fault),
+    };
+    match adopt(alloc, online, intent.number, dir.files.as_slice()) {
+        Ok(()) => Ok(Some(intent.number)),
+        Err(fault) => Err(fault),
+    }
+}
+
+/// The records of the dump that the intent names, if it is one of the completed dumps of its reel.
+fn find_named<T: Tapes>(
+    alloc: Global,
+    tapes: &mut T,
+    intent: &Intent,
+) -> Result<Option<DumpDir>, StoreFault>
+    requires { is_mounted (reel intent.now.serial (T.rack tapes.old).reels) ≡ true }
+    ensures some { IfOk result (λ found. IfSome found (λ dir. HasNamed intent.now (T.rack tapes.old) dir.files.items)) }
+    ensures none { IfOk result (λ found. IfNone found (NamesNone intent.now (T.rack tapes.old))) }
+    ensures only { IfErr result (λ e. (e ≡ StoreFault.TapeReadFault) ⊎ (e ≡ StoreFault.NoMemory)) }
+    ensures reads { OnlyReads (T.rack tapes.old) (T.rack tapes.new) }
+    ensures kept { (result ≡ Err StoreFault.TapeReadFault → ⊥) → (T.rack tapes.new).read_faults ≡ (T.rack tapes.old).read_faults }
+    ensures rose { result ≡ Err StoreFault.TapeReadFault → Rose (T.rack tapes.old).read_faults (T.rack tapes.new).read_faults }
+{
+    let notes = match completed(alloc, tapes, intent.serial) {
+        Ok(notes) => notes,
+        Err(fault) => return Err(read_refusal(fault)),
+    };
+    if !has_named(notes.as_slice(), intent) {
+        return Ok(None);
+    }
+    match read_dump(alloc, tapes, intent.serial, intent.place) {
+        Ok(found) => Ok(found),
+        Err(fault) => Err(read_refusal(fault)),
+    }
+}
+
+/// Whether the intent names one of these dumps.
+fn has_named(notes: &[DumpNote], intent: &Intent) -> bool
+    ensures { result ≡ list_any (names intent.now) notes.now }
+{
+    notes.iter().any(|note| note.place == intent.place && note.number == intent.number)
+}
+
+/// What a refusal of a reader of tape is, where the reel is mounted.
+fn read_refusal(fault: ShelfFault) -> StoreFault
+    ensures { result ≡ read_refusal fault }
+{
+    match fault {
+        ShelfFault::ReadFault => StoreFault::TapeReadFault,
+        _ => StoreFault::NoMemory,
+    }
+}
+
+/// Adopts the dump of this number and of these files, by one commit: `Stopped`, `NoMemory`.
+fn adopt<D: Disc>(
+    alloc: Global,
+    online: &mut Online<D>,
+    number: u64,
+    dumped: &[FileRec],
+) -> Result<(), StoreFault>
+    requires live { online.old.live ≡ true }
+    requires pins { online.old.pins ≡ None }
+    requires tied { IsTied online.old }
+    requires below { number < 2 ^ 62 }
+    requires each { All IsFile dumped.now }
+    ensures { Adopts number dumped.now online.old result online.new }
+{
+    let copies = match copies_named(alloc, online.tree().files(), dumped) {
+        Ok(copies) => copies,
+        Err(_) => return Err(StoreFault::NoMemory),
+    };
+    match online.adopt(alloc, number, &copies) {
+        Ok(()) => Ok(()),
+        Err(fault) => Err(refusal(fault)),
+    }
+}
+
+/// The copies on tape that these records of a dump name, but for those of the stamps that empty files have.
+fn copies_named(alloc: Global, files: &[FileRec], dumped: &[FileRec]) -> Result<CopyList, NoMemory>
+    ensures { IfOk result (λ copies. copies ≡ copies_named files.now dumped.now) }
+{
+    let mut copies = Vec::new(alloc);
+    for file in dumped {
+        match put_copy(files, file, &mut copies) {
+            Ok(()) => {}
+            Err(_) => return Err(NoMemory),
+        }
+    }
+    Ok(CopyList::from(copies))
+}
+
+/// Puts the copy that this record names behind the others.
+fn put_copy(
+    files: &[FileRec],
+    file: &FileRec,
+    copies: &mut Vec<(u64, TapeCopy)>,
+) -> Result<(), NoMemory>
+    ensures { OnOk result (copies.new.items ≡ copies.old.items ++ copy_named files.now file.now) }
+{
+    if has_empty(files, file.stamp) {
+        return Ok(());
+    }
+    match file.tape {
+        Some(copy) => match copies.push((file.stamp, copy)) {
+            Ok(()) => Ok(()),
+            Err(_) => Err(NoMemory),
+        },
+        None => Ok(()),
+    }
+}
+
+/// Whether an empty file has this stamp.
+fn has_empty(files: &[FileRec], stamp: u64) -> bool
+    ensures { result ≡ has_empty files.now stamp }
+{
+    files
+        .iter()
+        .any(|file| file.stamp == stamp && file.len == 0)
+}

@@ -1,0 +1,270 @@
+-- Put: what the path names for output, that the record is one of a new version, and that the call is answered as the whole store answers it.
+use Rattle.std.proofs.Common.{◌≡◌, ◌≢◌, ℕ, ◌<◌, ◌≤◌, ◌+◌, ◌^◌, Bool, true, false, List, [], ◌∷◌, length, Option, Some, None, Result, Ok, Err, is_some, unwrap_or, refl, sym, ◌∙◌, ap, arith, inl, inr, subst}
+use Rattle.std.specs.Prelude.{◌⊎◌, ◌==◌, ◌&&◌, Contains, IfSome, is_none, nat_le, nat_lt, not}
+use Rattle.std.specs.FinMap.{len}
+use Rattle.std.proofs.lemmas.Bool.{cases_Bool, eq-eqb, false≢true, ltb-false}
+use Rattle.std.proofs.lemmas.Bool.Decides.{leb_tells}
+use Rattle.g_base.specs.Block.{blocks_for}
+use Rattle.g_disc.specs.Disc.{Causes}
+use Rattle.g_disc.proofs.CallLemmas.{Causes-for}
+use Rattle.g_entry.specs.declared.file_rec.FileRec.{FileRec}
+use Rattle.g_entry.specs.declared.user_rec.UserRec.{UserRec}
+use Rattle.g_name.specs.declared.full.Full.{Full}
+use Rattle.g_name.specs.declared.path.Path.{Path}
+use Rattle.g_tape.specs.Rack.{Rack}
+use Rattle.g_tape.proofs.ReadLemmas.{nothing_read}
+use Rattle.g_plain.specs.declared.calls.StoreCall.{StoreCall}
+use Rattle.g_plain.specs.declared.calls.StoreCall.TheVariants.{Put}
+use Rattle.g_plain.specs.declared.calls.StoreReply.{StoreReply}
+use Rattle.g_plain.specs.declared.calls.StoreReply.TheVariants.{Made}
+use Rattle.g_plain.specs.declared.faults.StoreFault.{StoreFault}
+use Rattle.g_plain.specs.declared.faults.StoreFault.TheVariants.{DiscFull, NoMemory, NoUser, Stopped}
+use Rattle.g_plain.specs.PlainStep.{checks, fault_of}
+use Rattle.g_plain.specs.PlainTree.{Tree, has_file, has_user, named, newest, output_name}
+use Rattle.g_tree.specs.Answers.{newest_of}
+use Rattle.g_tree.specs.Asked.{zeros}
+use Rattle.g_tree.specs.Records.{ForTree, HasLengths, IsRecords, number_of, tree_of}
+use Rattle.g_tree.proofs.NamedLemmas.{zeros_fit}
+use Rattle.g_tree.proofs.RecordLemmas.{file_there, newest_few, newest_is}
+use Rattle.g_tree.proofs.RuleLemmas.{count_files}
+use Rattle.g_contents.specs.Contents.{recs_in}
+use Rattle.g_contents.specs.Facts.{IsTied, OnlineFacts}
+use Rattle.g_state.specs.Answers.{Answers, IsStore, Steps, Told}
+use Rattle.g_state.specs.Meaning.{told_reels}
+use Rattle.g_state.specs.Reading.{AllTold, IsView, View}
+use Rattle.g_state.specs.Up.{StoreFacts}
+use Rattle.g_state_calls.specs.Calls.{IsVersionOf, version_made}
+use Rattle.g_state_steps.specs.Rooms.{held_in}
+use Rattle.g_migrate.specs.Keeps.{with_online}
+use Rattle.g_store_calls.specs.Answering.{AnswersOver, KeepsPlan, with_devices}
+use Rattle.g_store_calls.specs.Applied.{answer_with}
+use Rattle.g_store_calls.specs.Kinds.{IsSettled}
+use Rattle.g_store_calls.specs.Replies.{RefusesAs}
+use Rattle.g_store_calls.specs.Versions.{HasMade, HasPut, HasStoppedPut, IsFull, IsNext}
+use Rattle.g_store_calls.proofs.AheadLemmas.{ahead_stands, before_of}
+use Rattle.g_store_calls.proofs.CalmLemmas.{calmly, same_store, texts_fit}
+use Rattle.g_store_calls.proofs.SeenLemmas.{seen}
+use Rattle.g_store_calls.proofs.TellLemmas.{AreOff, granted_off, not_not, user_any, user_missing}
+use Rattle.g_store_calls.proofs.VersionLemmas.{IsMet, belongs_done, belongs_stopped, leads_done, leads_full, leads_stopped, store_done}
+
+-- THE NAME that a path gives for output
+pub output_is : (users : List UserRec) (files : List FileRec) → IsRecords users files → (who : List ℕ) (path : Path) (zero full : Full) (greatest generation : ℕ)
+    → zero ≡ named who path 0 → greatest ≡ newest_of users zero files → generation ≡ unwrap_or path.generation (greatest + 1) → full ≡ named who path generation
+    → ForTree users files (λ t. full ≡ output_name t who path)
+output_is users files is who path zero full greatest generation zero_is greatest_is generation_is full_is bytes next =
+    full_is
+    ∙ ap (named who path) (generation_is ∙ ap (λ (n : ℕ). unwrap_or path.generation (n + 1)) (greatest_is ∙ ap (λ (f : Full). newest_of users f files) zero_is ∙ sym (newest_is users files bytes next who path is)))
+
+-- WHAT THE PLAIN STEP GRANTS
+below_of : (a b : ℕ) → not (nat_le a b) ≡ true → b < a
+below_of a b off = by_case (leb_tells a b)
+  where
+    by_case : ((nat_le a b ≡ true) × (a ≤ b)) ⊎ ((nat_le a b ≡ false) × (b < a)) → b < a
+    by_case (inl (is, le)) = absurd (false≢true (sym (ap not is) ∙ off))
+    by_case (inr (isnt, less)) = less
+
+most_of : (a b : ℕ) → not (nat_lt a b) ≡ true → b ≤ a
+most_of a b off = by_case (cases_Bool (nat_lt a b))
+  where
+    by_case : (nat_lt a b ≡ true) ⊎ (nat_lt a b ≡ false) → b ≤ a
+    by_case (inl is) = absurd (false≢true (sym (ap not is) ∙ off))
+    by_case (inr isnt) = ltb-false a b isnt
+
+both_on : (a b : Bool) → not (a && b) ≡ true → a ≡ true → not b ≡ true
+both_on true b off is = off
+both_on false b off is = absurd (false≢true is)
+
+next_one : (n : ℕ) → n ≤ 4095 → not (n == 4095) ≡ true → (1 ≤ n + 1) × (n + 1 ≤ 4095)
+next_one n most not_last =
+    let other : n ≡ 4095 → ⊥ = λ e. false≢true (sym (ap not (eq-eqb n 4095 e)) ∙ not_last) in
+    (omega arith, omega (arith, most, other))
+
+module _ (users : List UserRec) (files : List FileRec) (next : ℕ) (who : List ℕ) (path : Path) (bytes : List ℕ) (is : IsRecords users files)
+    (granted : RefusesAs users files next who (Put path bytes) None) where
+  abbrev t : Tree
+  t = tree_of users files zeros next
+
+  off : AreOff ((not (has_user t who), NoUser) ∷ checks t who (Put path bytes))
+  off = granted_off t who (Put path bytes) (granted zeros (zeros_fit files))
+
+  module _ (full : Full) (called : ForTree users files (λ t. full ≡ output_name t who path)) where
+    abbrev out : Full
+    out = output_name t who path
+
+    pub put_owner : ForTree users files (λ t. has_user t full.user ≡ true)
+    put_owner any then_ =
+        user_any users files full.user any zeros then_ next ∙ ap (λ (f : Full). has_user t f.user) (called zeros next) ∙ not_not (has_user t out.user) off.1.0
+
+    pub put_short : length bytes ≤ 65536
+    put_short = most_of 65536 (length bytes) off.1.1.1.1.1.0
+
+    pub put_early : next < 2 ^ 62
+    put_early = below_of (2 ^ 62) next off.1.1.1.1.1.1.1.1.0
+
+    no_file : number_of users files full ≡ None → not (has_file t out) ≡ true
+    no_file none = ap not (ap (has_file t) (sym (called zeros next)) ∙ sym (file_there users files zeros next full) ∙ ap is_some none)
+
+    pub put_few : number_of users files full ≡ None → length files < 1024
+    put_few none =
+        let few = below_of 1024 (len t.files) (both_on (not (has_file t out)) (nat_le 1024 (len t.files)) off.1.1.1.1.1.1.1.0 (no_file none)) in
+        let count = count_files users files zeros next is in
+        omega (arith, few, count)
+
+    pub put_generation : (1 ≤ full.generation) × (full.generation ≤ 4095)
+    put_generation = by_given path.generation refl path.in_range
+      where
+        most : newest t who path ≤ 4095
+        most = subst (λ (n : ℕ). n ≤ 4095) (sym (newest_is users files zeros next who path is)) (newest_few users files (named who path 0) is)
+
+        by_given : (g : Option ℕ) → path.generation ≡ g → IfSome g (λ n. (1 ≤ n) × (n ≤ 4095)) → (1 ≤ full.generation) × (full.generation ≤ 4095)
+        by_given (Some n) given range =
+            let it : full.generation ≡ n = ap (λ (f : Full). f.generation) (called zeros next) ∙ ap (λ (g : Option ℕ). unwrap_or g (newest t who path + 1)) given in
+            subst (λ (m : ℕ). (1 ≤ m) × (m ≤ 4095)) (sym it) range
+        by_given None given range =
+            let it : full.generation ≡ newest t who path + 1 = ap (λ (f : Full). f.generation) (called zeros next) ∙ ap (λ (g : Option ℕ). unwrap_or g (newest t who path + 1)) given in
+            let not_last : not (newest t who path == 4095) ≡ true = both_on (is_none path.generation) (newest t who path == 4095) off.1.1.0 (ap is_none given) in
+            subst (λ (m : ℕ). (1 ≤ m) × (m ≤ 4095)) (sym it) (next_one (newest t who path) most not_last)
+
+-- WHAT IS KNOWN of the call and of the record of its version
+pub record IsPut (o : OnlineFacts) (who : List ℕ) (path : Path) (bytes : List ℕ) (full : Full) (r : FileRec) : Type 0 where
+  pub live : o.live ≡ true
+  pub granted : RefusesAs o.contents.users (recs_in o.contents) o.contents.head.next_stamp who (Put path bytes) None
+  pub called : ForTree o.contents.users (recs_in o.contents) (λ t. full ≡ output_name t who path)
+  pub version : IsVersionOf o full r
+  pub len : r.len ≡ length bytes
+
+module _ (s : StoreFacts) (new : OnlineFacts) (who : List ℕ) (path : Path) (bytes : List ℕ) (full : Full) (r : FileRec) (is : IsPut s.online who path bytes full r)
+    (unspent : s.spent ≡ false) (store : IsStore s) (keeps : KeepsPlan s.dump) where
+  abbrev call : StoreCall
+  call = Put path bytes
+
+  met : (v : View) → IsView s.online.disc.held (told_reels s.rack) s.online.contents v → IsMet v (told_reels s.rack) s.online s.dump who (Put path bytes) (blocks_for (length bytes))
+  met v view = record {
+    granted = sym (is.granted (λ q. v.text q.stamp) (texts_fit (AllTold s.online.disc.held (told_reels s.rack)) v s.online.contents view.files));
+    needs = refl;
+    waits = refl;
+  }
+
+  makes : (v : View) → version_made (held_in v s.online).tree who (Put path bytes) ≡ Some (full, bytes)
+  makes v = ap (λ (f : Full). let x : Option (Full × List ℕ) = Some (f, bytes) in x) (sym (is.called (λ q. v.text q.stamp) s.online.contents.head.next_stamp))
+
+  module _ (tied : IsTied new) (tells : is_some new.disc.held ≡ is_some s.online.disc.held) where
+    told_on : Told s → AllTold new.disc.held (told_reels s.rack)
+    told_on all = record { disc = tells ∙ all.disc; each = all.each }
+
+    done_answers : HasPut r bytes s.online new → Answers s who (Put path bytes) (Ok (Made full)) (record s { online = new; spent = false })
+    done_answers p = record {
+      step = λ belong u here.
+          let b = before_of s u unspent store belong here in
+          record {
+            before = b.before;
+            stands = ahead_stands s b.before unspent b.ahead;
+            told = b.told;
+            steps = leads_done s new full bytes r p.take p.room unspent store keeps tied p.causes.size tells is.version is.len p.roomy belong b.before b.ahead who (Put path bytes)
+                (met b.ahead.view b.ahead.is) (makes b.ahead.view) refl p.done s.rack (nothing_read s.rack) (Made full) (ap Made (is.called (λ q. b.ahead.view.text q.stamp) s.online.contents.head.next_stamp)) (λ off. absurd (false≢true off));
+          };
+      cause = record {
+        disc = Causes-for (λ no. absurd no) (λ is_err. let no : ⊥ = cc in no) (λ no. absurd no) (λ is_err. let no : ⊥ = cc in no) p.causes;
+        tapes = nothing_read s.rack;
+        tape_read = λ is_err. absurd (let no : ⊥ = cc in no);
+        tape_read_only = λ isnt. refl;
+        writes = λ fault is_err other. absurd (let no : ⊥ = cc in no);
+      };
+      keeps = store_done s new full bytes r p.take p.room unspent store keeps tied p.causes.size tells is.version is.len p.roomy p.done;
+      told = told_on;
+      belongs = λ all was. belongs_done s new full bytes r p.take p.room unspent store keeps tied p.causes.size tells is.version is.len p.roomy p.done was;
+      lost = λ name serial is_err. absurd (let no : ⊥ = cc in no);
+      no_copy = λ all was name serial is_err. let no : ⊥ = cc in no;
+      dump = λ isnt. refl;
+      spent = (λ then_. absurd (false≢true then_), λ is_err. absurd (let no : ⊥ = cc in no));
+    }
+
+    stopped_answers : HasStoppedPut r bytes s.online new → Answers s who (Put path bytes) (Err Stopped) (record s { online = new; spent = true })
+    stopped_answers p = record {
+      step = λ belong u here.
+          let b = before_of s u unspent store belong here in
+          record {
+            before = b.before;
+            stands = ahead_stands s b.before unspent b.ahead;
+            told = b.told;
+            steps = leads_stopped s new full bytes r p.take p.room unspent store keeps tied p.causes.size tells is.version is.len p.roomy belong b.before b.ahead who (Put path bytes)
+                (met b.ahead.view b.ahead.is) (makes b.ahead.view) refl p.stopped p.causes s.rack (nothing_read s.rack);
+          };
+      cause = record {
+        disc = Causes-for (λ no. absurd no) (λ is_err. let no : ⊥ = cc in no) (λ one. refl) (λ is_err. tt) p.causes;
+        tapes = nothing_read s.rack;
+        tape_read = λ is_err. absurd (let no : ⊥ = cc in no);
+        tape_read_only = λ isnt. refl;
+        writes = λ fault is_err other. absurd (other (let same : fault ≡ Stopped = cc in same));
+      };
+      keeps = record { tied = tied; live = λ no. absurd (false≢true (sym no)); open_dump = λ no. absurd (false≢true (sym no)); pins = λ no none. absurd (false≢true (sym no)) };
+      told = told_on;
+      belongs = λ all was. belongs_stopped s new full bytes r p.take p.room unspent store keeps tied p.causes.size tells is.version is.len p.roomy p.stopped was;
+      lost = λ name serial is_err. absurd (let no : ⊥ = cc in no);
+      no_copy = λ all was name serial is_err. let no : ⊥ = cc in no;
+      dump = λ isnt. absurd (isnt refl);
+      spent = (λ then_. refl, λ is_err. refl);
+    }
+
+    -- nothing has changed
+    same_answers : (fault : StoreFault) → new ≡ s.online → Answers s who (Put path bytes) (Err fault) s → Answers s who (Put path bytes) (Err fault) (with_online new s)
+    same_answers fault same was =
+        subst (λ (x : OnlineFacts). Answers s who (Put path bytes) (Err fault) (with_online x s)) (sym same)
+        (subst (λ (t : StoreFacts). Answers s who (Put path bytes) (Err fault) t) (same_store s s.online refl unspent is.live) was)
+
+    full_answers : (need room : ℕ) → IsFull bytes s.online new need room → Answers s who (Put path bytes) (Err (DiscFull need room)) (with_online new s)
+    full_answers need room p =
+        subst (λ (n : ℕ). Answers s who (Put path bytes) (Err (DiscFull n room)) (with_online new s)) (sym p.need_is)
+        (same_answers (DiscFull (blocks_for (length bytes)) room) p.same
+        (calmly s who (Put path bytes) (Err (DiscFull (blocks_for (length bytes)) room)) unspent store tt
+        (λ u here. leads_full s unspent store keeps who (Put path bytes) (blocks_for (length bytes)) p.take room p.plan p.short met u here)))
+
+  made_answers : (result : Result (Unit {0}) StoreFault) → HasMade r bytes s.online new result → Answers s who (Put path bytes) (answer_with (Made full) result) (with_online new s)
+  made_answers (Ok u) m =
+      subst (λ (b : Bool). Answers s who (Put path bytes) (Ok (Made full)) (record s { online = new; spent = not b })) (sym m.makes.done.live) (done_answers m.tied m.told m.makes)
+  made_answers (Err Stopped) m =
+      subst (λ (b : Bool). Answers s who (Put path bytes) (Err Stopped) (record s { online = new; spent = not b })) (sym m.makes.stopped.live) (stopped_answers m.tied m.told m.makes)
+  made_answers (Err (DiscFull need room)) m = full_answers m.tied m.told need room m.makes
+  made_answers (Err NoMemory) m = same_answers m.tied m.told NoMemory m.makes (calmly s who (Put path bytes) (Err NoMemory) unspent store tt (λ u here. here))
+  made_answers (Err fault) m = absurd m.makes
+
+-- WHATEVER THE FILESTORE ANSWERED
+pub put_answers : (o new : OnlineFacts) (who : List ℕ) (path : Path) (bytes : List ℕ) (full : Full) (r : FileRec) → IsPut o who path bytes full r
+    → (result : Result (Unit {0}) StoreFault) → HasMade r bytes o new result → (rack : Rack) → AnswersOver who (Put path bytes) o rack (answer_with (Made full) result) new rack
+put_answers o new who path bytes full r is result made rack s at on unspent store keeps =
+    subst (λ (k : Rack). Answers s who (Put path bytes) (answer_with (Made full) result) (with_devices new k s)) on
+    (made_answers s new who path bytes full r (subst (λ (x : OnlineFacts). IsPut x who path bytes full r) (sym at) is) unspent store keeps result
+    (subst (λ (x : OnlineFacts). HasMade r bytes x new result) (sym at) made))
+
+-- AS THE CODE has it: asked of a tree's records
+pub called_on : (o : OnlineFacts) (us : List UserRec) (fs : List FileRec) (who : List ℕ) (path : Path) (full : Full) → us ≡ o.contents.users → fs ≡ recs_in o.contents
+    → ForTree us fs (λ t. full ≡ output_name t who path) → ForTree o.contents.users (recs_in o.contents) (λ t. full ≡ output_name t who path)
+called_on o us fs who path full users files is =
+    subst (λ (rs : List FileRec). ForTree o.contents.users rs (λ t. full ≡ output_name t who path)) files (subst (λ (x : List UserRec). ForTree x fs (λ t. full ≡ output_name t who path)) users is)
+
+-- OF ITS KIND: a full name, and no wait
+pub settled_made : (path : Path) (bytes : List ℕ) (full : Full) (r : FileRec) (old new : OnlineFacts) → length bytes ≤ 65536 → (result : Result (Unit {0}) StoreFault) → HasMade r bytes old new result
+    → IsSettled (Put path bytes) (answer_with (Made full) result)
+settled_made path bytes full r old new short (Ok u) made = record { reply = short; no_wait = λ serial same. let no : ⊥ = cc in no }
+settled_made path bytes full r old new short (Err Stopped) made = record { reply = tt; no_wait = λ serial same. let no : ⊥ = cc in no }
+settled_made path bytes full r old new short (Err (DiscFull need room)) made = record { reply = tt; no_wait = λ serial same. let no : ⊥ = cc in no }
+settled_made path bytes full r old new short (Err NoMemory) made = record { reply = tt; no_wait = λ serial same. let no : ⊥ = cc in no }
+settled_made path bytes full r old new short (Err fault) made = absurd made.makes
+
+-- the owner of a new file is there
+pub owner_missing : (o : OnlineFacts) (us : List UserRec) (fs : List FileRec) (found : Option ℕ) (user : List ℕ) → us ≡ o.contents.users → fs ≡ recs_in o.contents
+    → ForTree us fs (λ t. is_some found ≡ has_user t user) → ForTree o.contents.users (recs_in o.contents) (λ t. has_user t user ≡ true) → found ≡ None → ⊥
+owner_missing o us fs found user users files there owner none =
+    user_missing us fs found user there
+    (subst (λ (x : List UserRec). ForTree x fs (λ t. has_user t user ≡ true)) (sym users) (subst (λ (rs : List FileRec). ForTree o.contents.users rs (λ t. has_user t user ≡ true)) (sym files) owner)) none
+
+pub put_known : (o : OnlineFacts) (us : List UserRec) (fs : List FileRec) (who : List ℕ) (path : Path) (bytes : List ℕ) (full : Full) (r : FileRec) → o.live ≡ true
+    → RefusesAs o.contents.users (recs_in o.contents) o.contents.head.next_stamp who (Put path bytes) None → us ≡ o.contents.users → fs ≡ recs_in o.contents
+    → ForTree us fs (λ t. full ≡ output_name t who path) → IsVersionOf o full r → IsNext o bytes r → IsPut o who path bytes full r
+put_known o us fs who path bytes full r live granted users files called version next = record {
+  live = live;
+  granted = granted;
+  called = called_on o us fs who path full users files called;
+  version = version;
+  len = next.len;
+}

@@ -1,0 +1,23 @@
+use Rattle.std.proofs.Common.{false, refl}
+use Rattle.g_store_calls.proofs.AppendCodeLemmas.{away_put, away_unread, is_filled, not_bare, records_on}
+use Rattle.g_store_calls.proofs.appending.append_from_tape.Goals as goal
+
+pub unreachable-requires : goal.unreachable-requires
+unreachable-requires g c = not_bare c.args.online.now c.requires.live c.requires.tied c.args.file.now c.requires.away c.in_default.is
+
+pub copy_text-requires-clause-records : goal.copy_text-requires-clause-records
+copy_text-requires-clause-records g c = records_on c.args.online.now c.requires.live c.requires.tied c.tree.result.now.users c.tree.result.now.files c.tree.ensures.users c.tree.ensures.files
+
+pub copy_text-requires-clause-filled : goal.copy_text-requires-clause-filled
+copy_text-requires-clause-filled g c = is_filled c.args.online.now c.requires.live c.requires.tied c.args.file.now c.requires.away c.in-Some.copy c.in-Some.is
+
+pub returns-in-Err : goal.returns-in-Err
+returns-in-Err g c =
+    away_unread c.args.online.now c.requires.live c.requires.tied c.args.file.now false c.requires.away c.args.bytes.now c.args.bytes.now _ refl refl refl
+    c.tree.result.now.users c.tree.result.now.files c.tree.ensures.users c.tree.ensures.files c.in-Some.copy c.in-Some.is _ _ c.in-Err.fault c.in-Err.ensures
+
+pub returns : goal.returns
+returns g c =
+    away_put c.args.online.now c.requires.live c.requires.tied c.args.file.now false c.requires.away c.args.bytes.now c.as_slice.result.now c.blocks_for-need.result c.blocks_for-need.ensures c.as_slice.ensures refl
+    c.tree.result.now.users c.tree.result.now.files c.tree.ensures.users c.tree.ensures.files c.in-Some.copy c.in-Some.is _ _ c.in-Ok.old c.in-Ok.ensures
+    c.put_behind.new.online c.in-Ok-plan_for.plan c.in-Ok-plan_for.ensures c.put_behind.result c.put_behind.ensures

@@ -1,0 +1,81 @@
+-- BYTES PUT BEHIND those of a file: the old ones are read, from the disc or from tape, and the new version is put.
+use Rattle.std.specs.Prelude.{◌≡◌, ◌⊎◌, ℕ, ◌+◌, ◌<◌, ◌≤◌, ◌++◌, Bool, true, false, List, length, Contains, None, Some, Result, Ok, Err}
+use Rattle.std.specs.Option.{ForSome}
+use Rattle.g_base.specs.Block.{blocks_for}
+use Rattle.g_name.specs.declared.full.Full.{Full}
+use Rattle.g_disc.specs.Disc.{Causes}
+use Rattle.g_entry.specs.declared.file_rec.FileRec.{FileRec}
+use Rattle.g_entry.specs.declared.file_rec.TapeCopy.{TapeCopy}
+use Rattle.g_tape.specs.Rack.{Rack, is_mounted, reel}
+use Rattle.g_tape.specs.Reads.{OnlyReads}
+use Rattle.g_plain.specs.declared.calls.StoreCall.{StoreCall}
+use Rattle.g_plain.specs.declared.calls.StoreCall.TheVariants.{Append}
+use Rattle.g_plain.specs.declared.faults.StoreFault.{StoreFault}
+use Rattle.g_plain.specs.declared.faults.StoreFault.TheVariants.{DiscFull, DiscReadFault, NoCopy, NoMemory, Stopped, TapeReadFault, WaitTape}
+use Rattle.g_tree.specs.Records.{full_of}
+use Rattle.g_contents.specs.Contents.{File}
+use Rattle.g_contents.specs.Facts.{IsTied, OnlineFacts}
+use Rattle.g_online.specs.declared.change.Change.{Change}
+use Rattle.g_online.specs.declared.change.Change.TheVariants.{PutFile}
+use Rattle.g_state_steps.specs.Unjam.{IsUnjamPlan}
+use Rattle.g_retrieve.specs.Brought.{HasCopied, IsNowhere}
+use Rattle.g_store_calls.specs.Applied.{HasApplied}
+use Rattle.g_store_calls.specs.Asking.{HasAsked, IsReached}
+
+abbrev pub is_append : StoreCall → Bool
+is_append (Append path bytes) = true
+is_append call = false
+
+-- the record of a new version of a file, which keeps all but stamp, length and copy on tape
+abbrev pub version_of : FileRec → ℕ → ℕ → FileRec
+version_of r stamp len = record r { stamp = stamp; len = len; tape = None }
+
+-- the bytes that were read of a file: all of them, as far as the disc tells, or those of its copy on tape
+abbrev pub IsOldText : File → List ℕ → Rack → Rack → Type 0
+IsOldText f text before after =
+    (length text ≡ f.rec.len)
+    × (((f.online ≡ true) × ForSome f.bytes (λ bytes. bytes ≡ text))
+    ⊎ ((f.online ≡ false) × (c : TapeCopy) × (f.rec.tape ≡ Some c) × HasCopied c f.rec.len text before after))
+
+-- the file is on tape alone, at this copy
+pub record IsAway (f : File) (c : TapeCopy) : Type 0 where
+  pub offline : f.online ≡ false
+  pub copy : f.rec.tape ≡ Some c
+
+-- THE NEW VERSION, by a plan that makes room for it, of the bytes that were read and these
+pub record HasPutBehind (f : File) (bytes : List ℕ) (old new : OnlineFacts) (before after : Rack) (result : Result (Unit {0}) StoreFault) : Type 0 where
+  pub mid : OnlineFacts
+  pub asked : HasAsked ⊥ ⊥ old mid before after
+  pub text : List ℕ
+  pub read : IsOldText f text before after
+  pub take : List ℕ
+  pub room : ℕ
+  pub plan : IsUnjamPlan (blocks_for (f.rec.len + length bytes)) old take room
+  pub fits : blocks_for (f.rec.len + length bytes) ≤ room
+  pub applied : HasApplied (PutFile (version_of f.rec old.contents.head.next_stamp (f.rec.len + length bytes)) (text ++ bytes) take) mid new result
+
+-- a plan was made for it, which reaches this room
+abbrev pub IsFor : File → List ℕ → OnlineFacts → ℕ → Type 0
+IsFor f bytes o room = IsReached (blocks_for (f.rec.len + length bytes)) o room
+
+-- where the bytes are on tape alone their reel is mounted
+abbrev pub IsAtHand : File → Rack → Type 0
+IsAtHand f rack = (f.online ≡ true) ⊎ ((c : TapeCopy) × IsAway f c × (is_mounted (reel c.serial rack.reels) ≡ true))
+
+-- HOW BYTES ARE PUT BEHIND those of a file of this name, by each answer
+abbrev pub HasAppended : Full → File → List ℕ → OnlineFacts → OnlineFacts → Rack → Rack → Result (Unit {0}) StoreFault → Type 0
+HasAppended full f bytes old new before after (Ok u) = HasPutBehind f bytes old new before after (Ok u)
+HasAppended full f bytes old new before after (Err Stopped) = HasPutBehind f bytes old new before after (Err Stopped)
+HasAppended full f bytes old new before after (Err NoMemory) = HasAsked ⊥ ⊥ old new before after
+HasAppended full f bytes old new before after (Err (WaitTape serial)) =
+    HasAsked ⊥ ⊥ old new before after × ((c : TapeCopy) × IsAway f c × (serial ≡ c.serial) × (is_mounted (reel c.serial before.reels) ≡ false))
+HasAppended full f bytes old new before after (Err TapeReadFault) =
+    HasAsked ⊥ (Unit {0}) old new before after × ((c : TapeCopy) × IsAway f c × (is_mounted (reel c.serial before.reels) ≡ true))
+HasAppended full f bytes old new before after (Err (NoCopy name serial)) =
+    HasAsked ⊥ ⊥ old new before after × (name ≡ full) × ((c : TapeCopy) × IsAway f c × (serial ≡ c.serial) × IsNowhere c f.rec.len before)
+HasAppended full f bytes old new before after (Err (DiscFull need room)) =
+    HasAsked ⊥ ⊥ old new before after × IsAtHand f before × (need ≡ blocks_for (f.rec.len + length bytes)) × (room < need) × IsFor f bytes old room
+HasAppended full f bytes old new before after (Err DiscReadFault) =
+    HasAsked (Unit {0}) ⊥ old new before after × (f.online ≡ true) × (0 < f.rec.len)
+    × ((room : ℕ) × (blocks_for (f.rec.len + length bytes) ≤ room) × IsFor f bytes old room)
+HasAppended full f bytes old new before after (Err fault) = ⊥

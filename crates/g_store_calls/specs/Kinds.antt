@@ -1,0 +1,31 @@
+-- WHAT EVERY ANSWER IS BESIDES: a reply is of the call's kind; and who waits, waits at a call that may, for a reel that isn't mounted.
+use Rattle.std.specs.Prelude.{◌≡◌, ℕ, Bool, false, true, Err, IfOk, Result}
+use Rattle.g_tape.specs.Rack.{Rack, is_mounted, reel}
+use Rattle.g_plain.specs.declared.calls.StoreCall.{StoreCall}
+use Rattle.g_plain.specs.declared.calls.StoreCall.TheVariants.{Budget, Erase, NewUser, Rename, TrapGo, TrapStop}
+use Rattle.g_plain.specs.declared.calls.StoreReply.{StoreReply}
+use Rattle.g_plain.specs.declared.faults.StoreFault.{StoreFault}
+use Rattle.g_plain.specs.declared.faults.StoreFault.TheVariants.{WaitTape}
+use Rattle.g_plain.specs.Plainly.{may_wait}
+use Rattle.g_plain.specs.Replies.{IsReplyTo}
+
+-- rack is the one before the call
+pub record IsKind (call : StoreCall) (rack : Rack) (answer : Result StoreReply StoreFault) : Type 0 where
+  pub reply : IfOk answer (IsReplyTo call)
+  pub waits : (serial : ℕ) → answer ≡ Err (WaitTape serial) → is_mounted (reel serial rack.reels) ≡ false
+  pub may : (serial : ℕ) → answer ≡ Err (WaitTape serial) → may_wait call ≡ true
+
+-- and where no tape is asked for
+pub record IsSettled (call : StoreCall) (answer : Result StoreReply StoreFault) : Type 0 where
+  pub reply : IfOk answer (IsReplyTo call)
+  pub no_wait : (serial : ℕ) → answer ≡ Err (WaitTape serial) → ⊥
+
+-- the calls that change records alone
+abbrev pub sets_records : StoreCall → Bool
+sets_records (NewUser user space time money) = true
+sets_records (Budget user kind amount) = true
+sets_records (Erase path) = true
+sets_records (Rename path to) = true
+sets_records (TrapGo path user modes) = true
+sets_records (TrapStop path user modes) = true
+sets_records call = false

@@ -1,0 +1,196 @@
+//! Calls that put in a new version.
+ghost use Rattle.std.specs.Prelude.{◌≡◌, ◌<◌, ◌≤◌, ◌^◌, true, None, Some, ℕ, length};
+ghost use Rattle.g_contents.specs.Contents.{recs_in};
+ghost use Rattle.g_contents.specs.Facts.{IsTied};
+ghost use Rattle.g_name.specs.declared.full.Full.{Full};
+ghost use Rattle.g_plain.specs.PlainTree as plain;
+ghost use Rattle.g_state_calls.specs.Calls.{IsVersionOf};
+ghost use Rattle.g_tape.specs.Rack.{Rack};
+ghost use Rattle.g_tree.specs.Records.{ForTree, name_of_file, number_of};
+ghost use Rattle.g_store_calls.specs.Answering.{AnswersOver};
+ghost use Rattle.g_store_calls.specs.Kinds.{IsSettled};
+ghost use Rattle.g_store_calls.specs.Replies.{RefusesAs};
+ghost use Rattle.g_store_calls.specs.Versions.{HasMade, IsNext, is_put};
+
+use g_base::blocks_for;
+use g_disc::Disc;
+use g_entry::FileRec;
+use g_migrate::plan_unjam;
+use g_name::{Full, Path, Text, User};
+use g_online::{Online, OnlineFault};
+use g_plain::{StoreCall, StoreFault, StoreReply, named};
+use g_trap::Traps;
+use g_tree::{Tree, refusal_of};
+use std::alloc::Global;
+
+/// The answer to `Put`: a new version of the file that the path names for output, or a new file, by one commit; where there is no
+/// room, the oldest versions that are on tape too go off the disc before, by a commit of their own. The refusals of the call
+/// (docs/DEFINITIONS.md), `DiscFull` where that doesn't make room enough, in blocks of 512 bytes, and `NoMemory`: nothing has
+/// changed. `Stopped`: a write of the disc failed; it holds what it held, or that with the versions off it, or that with the new
+/// version, and takes no further call.
+pub fn put<D: Disc>(
+    alloc: Global,
+    online: &mut Online<D>,
+    who: &User,
+    call: &StoreCall,
+) -> Result<StoreReply, StoreFault>
+    requires live { online.old.live ≡ true }
+    requires tied { IsTied online.old }
+    requires puts { is_put call.now ≡ true }
+    ensures answers { (rack : Rack) → AnswersOver who.now call.now online.old rack result online.new rack }
+    ensures kind { IsSettled call.now result }
+{
+    match refusal_of(online.tree(), online.head().next_stamp, who, call) {
+        Some(fault) => return Err(fault),
+        None => {}
+    }
+    let StoreCall::Put { path, bytes } = call else {
+        unreachable!()
+    };
+    put_new(alloc, online, who, path, bytes)
+}
+
+/// Puts in the version that isn't refused. `DiscFull`, `NoMemory`, `Stopped`.
+fn put_new<D: Disc>(
+    alloc: Global,
+    online: &mut Online<D>,
+    who: &User,
+    path: &Path,
+    bytes: &Text,
+) -> Result<StoreReply, StoreFault>
+    requires live { online.old.live ≡ true }
+    requires tied { IsTied online.old }
+    requires granted { RefusesAs online.old.contents.users (recs_in online.old.contents) online.old.contents.head.next_stamp who.now
+        (StoreCall.Put path.now bytes.now) None }
+    ensures answers { (rack : Rack) → AnswersOver who.now (StoreCall.Put path.now bytes.now) online.old rack result online.new rack }
+    ensures kind { IsSettled (StoreCall.Put path.now bytes.now) result }
+{
+    let full = output_name(online.tree(), who, path);
+    let rec = version_of(online, who, path, bytes, &full);
+    match make_version(alloc, online, &rec, bytes) {
+        Ok(()) => Ok(StoreReply::Made(full)),
+        Err(fault) => Err(fault),
+    }
+}
+
+/// The full name of the file that a path names for output.
+fn output_name(tree: &Tree, who: &User, path: &Path) -> Full
+    ensures { ForTree tree.now.users tree.now.files (λ t. result ≡ plain.output_name t who.now path.now) }
+{
+    let newest = tree.newest(&named(who, path, 0));
+    named(who, path, path.generation.unwrap_or(newest + 1))
+}
+
+/// The record of the version that a `Put` makes, of the file of the full name that its path gives. The call isn't refused.
+fn version_of<D: Disc>(
+    online: &Online<D>,
+    who: &User,
+    path: &Path,
+    bytes: &Text,
+    full: &Full,
+) -> FileRec
+    requires live { online.now.live ≡ true }
+    requires tied { IsTied online.now }
+    requires granted { RefusesAs online.now.contents.users (recs_in online.now.contents) online.now.contents.head.next_stamp who.now
+        (StoreCall.Put path.now bytes.now) None }
+    requires called { ForTree online.now.contents.users (recs_in online.now.contents)
+        (λ t. full.now ≡ plain.output_name t who.now path.now) }
+    ensures version { IsVersionOf online.now full.now result }
+    ensures next { IsNext online.now bytes.now result }
+{
+    let len = bytes.as_slice().len() as u32;
+    match online.tree().number_of(full) {
+        Some(number) => next_of(online, number, len),
+        None => first_of(online, full, len),
+    }
+}
+
+/// The record of the next version of the file of this number, of so many bytes.
+pub(crate) fn next_of<D: Disc>(online: &Online<D>, number: u16, len: u32) -> FileRec
+    requires live { online.now.live ≡ true }
+    requires tied { IsTied online.now }
+    requires there { (full : Full) × (name_of_file online.now.contents.users (recs_in online.now.contents) number ≡ Some full) }
+    requires early { online.now.contents.head.next_stamp < 2 ^ 62 }
+    requires short { len ≤ 65536 }
+    ensures version { (full : Full) → name_of_file online.now.contents.users (recs_in online.now.contents) number ≡ Some full
+        → IsVersionOf online.now full result }
+    ensures len { result.len ≡ len }
+{
+    let Some(file) = online.tree().file_at(number) else {
+        unreachable!()
+    };
+    FileRec {
+        stamp: online.head().next_stamp,
+        len,
+        tape: None,
+        ..file.copy()
+    }
+}
+
+/// The record of the first version of a new file of this full name, of so many bytes. It is its owner's alone.
+fn first_of<D: Disc>(online: &Online<D>, full: &Full, len: u32) -> FileRec
+    requires live { online.now.live ≡ true }
+    requires tied { IsTied online.now }
+    requires none { number_of online.now.contents.users (recs_in online.now.contents) full.now ≡ None }
+    requires owner { ForTree online.now.contents.users (recs_in online.now.contents)
+        (λ t. plain.has_user t full.now.user ≡ true) }
+    requires few { length (recs_in online.now.contents) < 1024 }
+    requires generation { (1 ≤ full.now.generation) × (full.now.generation ≤ 4095) }
+    requires early { online.now.contents.head.next_stamp < 2 ^ 62 }
+    requires short { len ≤ 65536 }
+    ensures version { IsVersionOf online.now full.now result }
+    ensures len { result.len ≡ len }
+{
+    // That the parts of the name are names is known from here.
+    let _word = full.local.as_slice();
+    let _lang = full.lang.as_slice();
+    let tree = online.tree();
+    let Some(number) = tree.free_file() else {
+        unreachable!()
+    };
+    let Some(owner) = tree.user_number(&full.user) else {
+        unreachable!()
+    };
+    FileRec {
+        number,
+        owner,
+        local: full.local.copy(),
+        generation: full.generation,
+        lang: full.lang.copy(),
+        stamp: online.head().next_stamp,
+        len,
+        traps: Traps::fresh(),
+        tape: None,
+    }
+}
+
+/// Makes the version, with these bytes: versions that are on tape too go off the disc for it where there is no room. `DiscFull`
+/// where that isn't enough, and `NoMemory`: nothing has changed. `Stopped`.
+pub(crate) fn make_version<D: Disc>(
+    alloc: Global,
+    online: &mut Online<D>,
+    rec: &FileRec,
+    bytes: &Text,
+) -> Result<(), StoreFault>
+    requires live { online.old.live ≡ true }
+    requires tied { IsTied online.old }
+    requires next { IsNext online.old bytes.now rec.now }
+    ensures { HasMade rec.now bytes.now online.old online.new result }
+{
+    let need = blocks_for(rec.len);
+    let plan = match plan_unjam(alloc, online, need) {
+        Ok(plan) => plan,
+        Err(_) => return Err(StoreFault::NoMemory),
+    };
+    if plan.room < need {
+        return Err(StoreFault::DiscFull {
+            need,
+            room: plan.room,
+        });
+    }
+    match online.put_file(alloc, rec, bytes, &plan.take) {
+        Ok(()) => Ok(()),
+        Err(OnlineFault::Stopped) => Err(StoreFault::Stopped),
+        Err(_) => Err(StoreFault::NoMemory),
+    }
+}
