@@ -1,5 +1,5 @@
 -- A job's turn.
-use Rattle.std.specs.Prelude.{ℕ, List}
+use Rattle.std.specs.Prelude.{◌≡◌, ℕ, List}
 use Rattle.std.specs.Fn.{Shared}
 use denote.Ref.{Bor}
 use Rattle.g_budget.specs.declared.tariff.Usage.{Usage}
@@ -9,10 +9,11 @@ use Rattle.g_act.specs.Causes.{CauseOf, last_answer}
 use Rattle.g_act.specs.State.{Work}
 use Rattle.g_job.specs.Begun.{room_of}
 use Rattle.g_job.specs.Ends.{IsTurn}
-use Rattle.g_job.specs.Spends.{Spends}
+use Rattle.g_job.specs.Spends.{Spends, ToldAsBefore}
 use Rattle.g_job.specs.State.{JobState}
 use Rattle.g_job.specs.Turns.{turn_work}
 use Rattle.g_job.specs.declared.turn.Turn.{Turn}
+use Rattle.g_job.specs.declared.turn.Turn.TheVariants as turns
 use Rattle.g_plain.specs.Asks.{Answer}
 use Rattle.g_plain.specs.RanBy.{RanBy}
 use Rattle.g_plain.specs.declared.calls.StoreCall.{StoreCall}
@@ -27,3 +28,4 @@ module _ {S F : Type 0} (answers : S → List ℕ → StoreCall → Answer → S
     pub within : IsWithin (room_of job) work
     pub ends : IsTurn tariffs tariff job work turn after
     pub spends : Spends job turn after
+    pub waited : (serial : ℕ) → turn ≡ turns.Wants serial → ToldAsBefore job after

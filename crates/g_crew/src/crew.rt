@@ -1,5 +1,5 @@
 //! The crew.
-ghost use Rattle.std.specs.Prelude.{◌≡◌, ◌+◌, ◌<◌, ◌≤◌, ◌≢◌, ◌++◌, ℕ, [], ◌∷◌, Bool, true, false, not, List, Ok, Err, None, Some, IfOk, IfSome, OnErr, OnOk, length};
+ghost use Rattle.std.specs.Prelude.{◌≡◌, ◌↔◌, ◌+◌, ◌<◌, ◌≤◌, ◌≢◌, ◌++◌, ℕ, [], ◌∷◌, Bool, true, false, not, List, Ok, Err, None, Some, IfOk, IfSome, OnErr, OnOk, length};
 ghost use Rattle.g_budget.specs.Tariff.{IsTariff};
 ghost use Rattle.g_crew.specs.Accounts.{AreKept, HaveRows};
 ghost use Rattle.g_crew.specs.Choice.{Chooses, TellsMounted, able_in};
@@ -9,6 +9,8 @@ ghost use Rattle.g_crew.specs.Turn.{TakesTurn};
 ghost use Rattle.g_job.specs.Begun.{job_begun};
 ghost use Rattle.g_job.specs.Spends.{ToldAsBefore};
 ghost use Rattle.g_job.specs.State.{JobState};
+ghost use Rattle.g_job.specs.Turns.{turn_work};
+ghost use Rattle.g_plain.specs.Asks.{RanInPart};
 ghost use Rattle.g_sched.specs.Rule.{IsWeighRule};
 ghost use Rattle.g_step.specs.State.{State};
 ghost use Rattle.g_world.specs.Accounts.{Opened, rows_of, settled, with_new};
@@ -193,6 +195,15 @@ impl Crew {
             × (job_in number self.old.jobs ≡ Some job)
             × TakesTurn S.answers F.Fn tariff.now job store.old turn after store.new
             × (self.new ≡ record self.old { jobs = with_job after self.old.jobs })) }
+
+        // Without memory a front of its calls was answered.
+        ensures err { OnErr result ((job : JobState) × (job_in number self.old.jobs ≡ Some job)
+            × RanInPart S.answers job.user store.old (turn_work job) store.new) }
+
+        // The reel that it waits for isn't mounted, and it mounts none; a stop spends the store.
+        ensures waits { (s : ℕ) → result ≡ Ok (Turn.Wants s) → S.can_wait store.new s ≡ true }
+        ensures same_waits { (s : ℕ) → S.can_wait store.new s ≡ S.can_wait store.old s }
+        ensures stopped { IfOk result (λ turn. (S.is_spent store.new ≡ true) ↔ (turn ≡ Turn.Broken)) }
     {
         let Some(place) = place_of(&self.jobs, number) else {
             unreachable!()
