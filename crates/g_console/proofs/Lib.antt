@@ -1,0 +1,9 @@
+pub mod CauseLemmas
+pub mod JobLemmas
+pub mod LineLemmas
+pub mod ReelLemmas
+pub mod RiseLemmas
+pub mod StopLemmas
+pub mod TurnedLemmas
+pub mod UpLemmas
+pub mod UserLemmas

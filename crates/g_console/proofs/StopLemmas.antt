@@ -1,0 +1,135 @@
+-- A DEVICE IS ARMED by a line.
+use Rattle.std.proofs.Common.{◌≡◌, ℕ, ◌+◌, ◌<◌, ◌≤◌, ◌++◌, List, Option, refl, sym, ◌∙◌, ap, subst, arith}
+use Rattle.std.specs.Prelude.{codes}
+use Rattle.g_base.specs.Counts.{HasRisenBy, RoseBy, one_more}
+use Rattle.g_base.proofs.CountLemmas.{HasRisenBy-none, RoseBy-none, RoseBy-one}
+use Rattle.g_step.specs.State.{State}
+use Rattle.g_step.specs.CallStep.{Plain}
+use Rattle.g_state.specs.Up.{StoreFacts}
+use Rattle.g_store.specs.Arming.{MeansTheSame}
+use Rattle.g_script.specs.declared.operator.Operator.TheVariants as line
+use Rattle.g_world.specs.Devices.{Devices}
+use Rattle.g_world.specs.Moves.{EventCounted}
+use Rattle.g_world.specs.Texts.{operator_line}
+use Rattle.g_world.specs.World.{World, says}
+use Rattle.g_crew.specs.Crew.{CrewState}
+use Rattle.g_console.specs.declared.progress.Failure.{Failure}
+use Rattle.g_console.specs.Arming.{HasArmed, disc_armed, tape_armed}
+use Rattle.g_console.specs.Parts.{ArmsBy, DidLine, DoesLine, IsReady, Matches, seen}
+use Rattle.g_console.specs.Puts.{Puts}
+use Rattle.g_console.specs.System.{Down, IsNow, StandsAs, SystemBelongs, SystemFacts, Up, devices_in}
+use Rattle.g_console.proofs.LineLemmas.{was_done}
+
+-- a store that means the same
+pub armed_up : (armed : Devices → Devices) (s t : StoreFacts) → MeansTheSame s t → devices_in (Up t) ≡ armed (devices_in (Up s)) → t.spent ≡ s.spent → t.online.disc.size ≡ s.online.disc.size
+    → HasArmed armed (Up s) (Up t)
+armed_up armed s t same devices spent size = record {
+  devices = devices;
+  stands = λ u is. record { told = same.told is.told; belongs = same.belongs is.belongs; stands = same.state u is.stands };
+  belongs = λ is. (same.told is.0, same.belongs is.1);
+  ready = λ c ready.
+      let (unspent, low, high) = ready in
+      (spent ∙ unspent, subst (λ (n : ℕ). 2177 < n) (sym size) low, subst (λ (n : ℕ). n ≤ 1048576) (sym size) high);
+}
+
+-- devices under no store
+pub disc_down : (k : ℕ) (d : Devices) → HasArmed (disc_armed k) (Down d) (Down (disc_armed k d))
+disc_down k d = record {
+  devices = refl;
+  stands = λ u is. (is.0, record { told = is.1.told; belong = is.1.belong; reads = is.1.reads });
+  belongs = λ is. record { told = is.told; belong = is.belong };
+  ready = λ c ready. ready;
+}
+
+pub tape_down : (k : ℕ) (d : Devices) → HasArmed (tape_armed k) (Down d) (Down (tape_armed k d))
+tape_down k d = record {
+  devices = refl;
+  stands = λ u is. (is.0, record { told = is.1.told; belong = is.1.belong; reads = is.1.reads });
+  belongs = λ is. record { told = is.told; belong = is.belong };
+  ready = λ c ready. ready;
+}
+
+none_rose : (a : ℕ) → HasRisenBy 0 a a
+none_rose a = HasRisenBy-none (omega arith)
+
+disc_counted : (k : ℕ) (d : Devices) → EventCounted Plain 1 0 d (disc_armed k d)
+disc_counted k d = record {
+  disc_reads_rose = none_rose d.disc.read_faults;
+  tape_reads_rose = none_rose d.rack.read_faults;
+  cuts_rose = (0, 0, refl, none_rose d.disc.write_faults, none_rose d.rack.write_faults);
+  no_disc_read = λ e. refl;
+  no_tape_read = λ e. refl;
+  no_cut = λ e. (refl, refl);
+  disc_armed = RoseBy-one refl;
+  tape_armed = RoseBy-none refl;
+}
+
+tape_counted : (k : ℕ) (d : Devices) → EventCounted Plain 0 1 d (tape_armed k d)
+tape_counted k d = record {
+  disc_reads_rose = none_rose d.disc.read_faults;
+  tape_reads_rose = none_rose d.rack.read_faults;
+  cuts_rose = (0, 0, refl, none_rose d.disc.write_faults, none_rose d.rack.write_faults);
+  no_disc_read = λ e. refl;
+  no_tape_read = λ e. refl;
+  no_cut = λ e. (refl, refl);
+  disc_armed = RoseBy-none refl;
+  tape_armed = RoseBy-one refl;
+}
+
+module _ (k : ℕ) (old new : SystemFacts) (c : CrewState) (count : ℕ) where
+  abbrev set_text : List ℕ
+  set_text = operator_line count (codes "STOP SET")
+
+  disc_does : HasArmed (disc_armed k) old new → (w : World) → Matches w (seen old c count) → DoesLine (line.StopDisc k) w old new set_text
+  disc_does armed w m = record {
+    outcome = Plain;
+    next = says (codes "STOP SET") (record w { disc_stops = w.disc_stops + 1 });
+    gives = (refl, refl);
+    counted = subst (EventCounted Plain 1 0 (devices_in old)) (sym armed.devices) (disc_counted k (devices_in old));
+    stands = armed.stands w.store m.stands;
+    text = ap (λ (n : ℕ). w.text ++ operator_line n (codes "STOP SET")) m.count;
+  }
+
+  tape_does : HasArmed (tape_armed k) old new → (w : World) → Matches w (seen old c count) → DoesLine (line.StopTape k) w old new set_text
+  tape_does armed w m = record {
+    outcome = Plain;
+    next = says (codes "STOP SET") (record w { tape_stops = w.tape_stops + 1 });
+    gives = (refl, refl);
+    counted = subst (EventCounted Plain 0 1 (devices_in old)) (sym armed.devices) (tape_counted k (devices_in old));
+    stands = armed.stands w.store m.stands;
+    text = ap (λ (n : ℕ). w.text ++ operator_line n (codes "STOP SET")) m.count;
+  }
+
+  pub disc_stop : HasArmed (disc_armed k) old new → IsReady old c → (failure : Option Failure) (before after : Option (List ℕ)) (faults faults' : ℕ) → Puts failure set_text before after faults faults'
+      → DidLine (line.StopDisc k) (seen old c count) failure (seen new c count) before after faults faults'
+  unfolding disc_does
+  disc_stop armed ready failure before after faults faults' puts = record {
+    goes = was_done (line.StopDisc k) (seen old c count) (seen new c count) failure set_text before after (disc_does armed)
+        (λ w m e. record {
+          stands = (disc_does armed w m).stands;
+          crew = record { jobs = m.crew.jobs; accounts = m.crew.accounts; next_job = m.crew.next_job };
+          count = m.count;
+        }) puts.put;
+    ready = armed.ready c ready;
+    arms = subst (ArmsBy (line.StopDisc k) failure (devices_in old)) (sym armed.devices)
+        (record { disc = (1, omega arith, RoseBy-one refl); tape = (0, omega arith, RoseBy-none refl); all = λ through. (RoseBy-one refl, RoseBy-none refl) });
+    belongs = armed.belongs;
+    cause = puts.cause;
+  }
+
+  pub tape_stop : HasArmed (tape_armed k) old new → IsReady old c → (failure : Option Failure) (before after : Option (List ℕ)) (faults faults' : ℕ) → Puts failure set_text before after faults faults'
+      → DidLine (line.StopTape k) (seen old c count) failure (seen new c count) before after faults faults'
+  unfolding tape_does
+  tape_stop armed ready failure before after faults faults' puts = record {
+    goes = was_done (line.StopTape k) (seen old c count) (seen new c count) failure set_text before after (tape_does armed)
+        (λ w m e. record {
+          stands = (tape_does armed w m).stands;
+          crew = record { jobs = m.crew.jobs; accounts = m.crew.accounts; next_job = m.crew.next_job };
+          count = m.count;
+        }) puts.put;
+    ready = armed.ready c ready;
+    arms = subst (ArmsBy (line.StopTape k) failure (devices_in old)) (sym armed.devices)
+        (record { disc = (0, omega arith, RoseBy-none refl); tape = (1, omega arith, RoseBy-one refl); all = λ through. (RoseBy-none refl, RoseBy-one refl) });
+    belongs = armed.belongs;
+    cause = puts.cause;
+  }

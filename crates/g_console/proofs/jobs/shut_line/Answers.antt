@@ -1,0 +1,18 @@
+use Rattle.std.proofs.Common.{sym, ◌∙◌, ap, subst}
+use Rattle.g_script.specs.declared.operator.Operator.TheVariants as line
+use Rattle.g_world.specs.Devices.{Devices}
+use Rattle.g_console.specs.Parts.{DidLine, IsReady, seen}
+use Rattle.g_console.specs.System.{Down, SystemFacts, facts_of}
+use Rattle.g_console.proofs.JobLemmas.{down_shuts_not}
+use Rattle.g_console.proofs.jobs.shut_line.Goals as goal
+
+pub returns-in-Down : goal.returns-in-Down
+returns-in-Down g c =
+    let d : Devices = record { disc = g.D.Disc.state c.in-Down.disc; rack = g.T.Tapes.rack c.in-Down.tapes } in
+    let at = ap (facts_of g.D.Disc.state g.T.Tapes.rack) c.in-Down.is in
+    let ready = subst (λ (f : SystemFacts). IsReady f c.args.crew.now) at c.requires.ready in
+    subst (λ (f : SystemFacts). DidLine line.Shut (seen f c.args.crew.now c.args.count) c.refused.result.failure (seen (facts_of g.D.Disc.state g.T.Tapes.rack c.refused.result.system) c.args.crew.now c.args.count)
+    (g.K.Sink.written c.args.out.now) (g.K.Sink.written c.refused.new.out) (g.K.Sink.faults c.args.out.now) (g.K.Sink.faults c.refused.new.out)) (sym at)
+    (subst (λ (f : SystemFacts). DidLine line.Shut (seen (Down d) c.args.crew.now c.args.count) c.refused.result.failure (seen f c.args.crew.now c.args.count)
+    (g.K.Sink.written c.args.out.now) (g.K.Sink.written c.refused.new.out) (g.K.Sink.faults c.args.out.now) (g.K.Sink.faults c.refused.new.out)) (sym (ap (facts_of g.D.Disc.state g.T.Tapes.rack) c.refused.ensures.same))
+    (down_shuts_not d c.args.crew.now c.args.count c.refused.result.failure _ _ _ _ ready c.refused.ensures.put))

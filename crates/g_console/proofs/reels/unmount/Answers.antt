@@ -1,0 +1,21 @@
+use Rattle.std.proofs.Common.{sym, ap, subst}
+use Rattle.std.specs.Prelude.{Result}
+use Rattle.g_plain.specs.declared.faults.StoreFault.{StoreFault}
+use Rattle.g_world.specs.Devices.{Devices}
+use Rattle.g_console.specs.Reels.{UnmountsOn}
+use Rattle.g_console.specs.System.{Down, IsRunning, SystemFacts, Up, facts_of}
+use Rattle.g_console.proofs.ReelLemmas.{unmounts_down, unmounts_up}
+use Rattle.g_console.proofs.reels.unmount.Goals as goal
+
+pub returns-in-Up : goal.returns-in-Up
+returns-in-Up g c =
+    subst (λ (f : SystemFacts). UnmountsOn c.args.serial f c.unmount.result (Up c.unmount.new.self)) (sym (ap (facts_of g.D.Disc.state g.T.Tapes.rack) c.in-Up.is))
+    (unmounts_up c.args.serial c.in-Up.store c.unmount.new.self (subst IsRunning (ap (facts_of g.D.Disc.state g.T.Tapes.rack) c.in-Up.is) c.requires.running) c.unmount.result c.unmount.ensures)
+
+pub returns-in-Down : goal.returns-in-Down
+returns-in-Down g c =
+    let d : Devices = record { disc = g.D.Disc.state c.in-Down.field-0; rack = g.T.Tapes.rack c.in-Down.tapes } in
+    let e : Devices = record { disc = g.D.Disc.state c.in-Down.field-0; rack = g.T.Tapes.rack c.unmount-in-Down.new.self } in
+    subst (λ (f : SystemFacts). UnmountsOn c.args.serial f c.unmount_answer.result (Down e)) (sym (ap (facts_of g.D.Disc.state g.T.Tapes.rack) c.in-Down.is))
+    (subst (λ (a : Result (Unit {0}) StoreFault). UnmountsOn c.args.serial (Down d) a (Down e)) (sym c.unmount_answer.ensures)
+    (unmounts_down c.args.serial d c.unmount-in-Down.result (g.T.Tapes.rack c.unmount-in-Down.new.self) c.unmount-in-Down.ensures))

@@ -1,0 +1,82 @@
+-- A LINE OF THE OPERATOR, done on a system: what the world is behind it, whatever world stood before, and what holds of every device.
+use Rattle.std.specs.Prelude.{◌≡◌, ◌⊎◌, ◌<◌, ◌≤◌, ℕ, false, List, [], ◌++◌, Option, Some, None}
+use Rattle.g_base.specs.Counts.{RoseBy}
+use Rattle.g_io.specs.Streams.{with_more, HasPutPart}
+use Rattle.g_step.specs.CallStep.{Outcome, Plain}
+use Rattle.g_script.specs.declared.operator.Operator.{Operator}
+use Rattle.g_script.specs.declared.operator.Operator.TheVariants as line
+use Rattle.g_world.specs.Devices.{Devices}
+use Rattle.g_world.specs.Lines.{LineGives}
+use Rattle.g_world.specs.Moves.{EventCounted}
+use Rattle.g_world.specs.World.{World}
+use Rattle.g_crew.specs.Crew.{CrewState, IsCrewOf}
+use Rattle.g_console.specs.declared.progress.Failure.{Failure}
+use Rattle.g_console.specs.Puts.{FaultCause}
+use Rattle.g_console.specs.System.{Down, StandsAs, SystemBelongs, SystemFacts, Up, devices_in}
+
+-- what a run has at hand
+pub record Seen : Type 0 where
+  pub system : SystemFacts
+  pub crew : CrewState
+  pub count : ℕ
+
+abbrev pub seen : SystemFacts → CrewState → ℕ → Seen
+seen system crew count = record { system = system; crew = crew; count = count }
+
+-- A run has this at hand between its events, over a disc of a size that a filestore can have: a store that isn't spent, or, while the system is down, neither jobs nor accounts.
+abbrev pub IsReady : SystemFacts → CrewState → Type 0
+IsReady (Up s) c = (s.spent ≡ false) × (2177 < s.online.disc.size) × (s.online.disc.size ≤ 1048576)
+IsReady (Down d) c = (2177 < d.disc.size) × (d.disc.size ≤ 1048576) × (c.jobs ≡ []) × (c.accounts ≡ [])
+
+-- the world is what is at hand
+pub record Matches (w : World) (seen : Seen) : Type 0 where
+  pub stands : StandsAs seen.system w.store
+  pub crew : IsCrewOf w seen.crew
+  pub count : w.count ≡ seen.count
+
+-- how often a line arms the disc and the tapes
+abbrev pub disc_arms : Operator → ℕ
+disc_arms (line.StopDisc k) = 1
+disc_arms what = 0
+
+abbrev pub tape_arms : Operator → ℕ
+tape_arms (line.StopTape k) = 1
+tape_arms what = 0
+
+-- The line was done: with an outcome that the counts tell it gives the next world, for whose store the system stands, and whose text is
+-- longer.
+pub record DoesLine (what : Operator) (w : World) (old new : SystemFacts) (added : List ℕ) : Type 0 where
+  pub outcome : Outcome
+  pub next : World
+  pub gives : LineGives outcome what w next
+  pub counted : EventCounted outcome (disc_arms what) (tape_arms what) (devices_in old) (devices_in new)
+  pub stands : StandsAs new next.store
+  pub text : next.text ≡ w.text ++ added
+
+-- nothing was done, for want of memory
+pub record DoesNothing (w : World) (old new : SystemFacts) (before after : Option (List ℕ)) : Type 0 where
+  pub counted : EventCounted Plain 0 0 (devices_in old) (devices_in new)
+  pub stands : StandsAs new w.store
+  pub text : after ≡ before
+
+-- From each world that is what is at hand: where nothing failed, the line was done, its text put, and what is then at hand is the next
+-- world; else it was done and a front of its text put, or nothing was done.
+abbrev pub LineGoes : Operator → Seen → Option Failure → Seen → Option (List ℕ) → Option (List ℕ) → Type 0
+LineGoes what old None new before after = (w : World) → Matches w old
+    → (added : List ℕ) × (d : DoesLine what w old.system new.system added) × Matches d.next new × (after ≡ with_more before added)
+LineGoes what old (Some failure) new before after = (w : World) → Matches w old
+    → DoesNothing w old.system new.system before after ⊎ ((added : List ℕ) × DoesLine what w old.system new.system added × HasPutPart before added after)
+
+-- whether devices tell or not, a line arms a device as often as it says, or, where it isn't done, not at all
+pub record ArmsBy (what : Operator) (failure : Option Failure) (old new : Devices) : Type 0 where
+  pub disc : (n : ℕ) × (n ≤ disc_arms what) × RoseBy n old.disc.arms new.disc.arms
+  pub tape : (n : ℕ) × (n ≤ tape_arms what) × RoseBy n old.rack.arms new.rack.arms
+  pub all : failure ≡ None → RoseBy (disc_arms what) old.disc.arms new.disc.arms × RoseBy (tape_arms what) old.rack.arms new.rack.arms
+
+-- A PART OF A RUN that does a line
+pub record DidLine (what : Operator) (old : Seen) (failure : Option Failure) (new : Seen) (before after : Option (List ℕ)) (faults faults' : ℕ) : Type 0 where
+  pub goes : LineGoes what old failure new before after
+  pub ready : IsReady new.system new.crew
+  pub arms : ArmsBy what failure (devices_in old.system) (devices_in new.system)
+  pub belongs : SystemBelongs old.system → SystemBelongs new.system
+  pub cause : FaultCause failure faults faults'

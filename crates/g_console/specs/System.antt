@@ -1,0 +1,50 @@
+-- THE SYSTEM as a run has it: a store that is up, or devices under no store.
+use Rattle.std.specs.Prelude.{◌≡◌, false}
+use Rattle.g_disc.specs.Disc.{DiscState}
+use Rattle.g_tape.specs.Rack.{Rack}
+use Rattle.g_step.specs.State.{State}
+use Rattle.g_state.specs.Meaning.{told_reels}
+use Rattle.g_state.specs.Belong.{Belong}
+use Rattle.g_state.specs.Reading.{AllTold, StandsForState}
+use Rattle.g_state.specs.Answers.{Belongs, Told}
+use Rattle.g_state.specs.Up.{StoreFacts}
+use Rattle.g_world.specs.Devices.{Devices, StandFor}
+use Rattle.g_console.specs.declared.system.System.{System}
+use Rattle.g_console.specs.declared.system.System.TheVariants as systems
+
+pub data SystemFacts : Type 0 where
+  Up : StoreFacts → SystemFacts
+  Down : Devices → SystemFacts
+
+abbrev pub facts_of : {D T : Type 0} → (D → DiscState) → (T → Rack) → System D T → SystemFacts
+facts_of disc rack (systems.Up store) = Up store
+facts_of disc rack (systems.Down d t) = Down (record { disc = disc d; rack = rack t })
+
+abbrev pub devices_in : SystemFacts → Devices
+devices_in (Up s) = record { disc = s.online.disc; rack = s.rack }
+devices_in (Down d) = d
+
+-- a store that is up isn't spent
+abbrev pub IsRunning : SystemFacts → Type 0
+IsRunning (Up s) = s.spent ≡ false
+IsRunning (Down d) = Unit {0}
+
+-- the store tells, disc and rack belong together, and it stands for the state
+pub record IsNow (s : StoreFacts) (t : State) : Type 0 where
+  pub told : Told s
+  pub belongs : Belongs s
+  pub stands : StandsForState s t
+
+-- THE SYSTEM STANDS FOR A STATE
+abbrev pub StandsAs : SystemFacts → State → Type 0
+StandsAs (Up s) t = IsNow s t
+StandsAs (Down d) t = (t.up ≡ false) × StandFor d t
+
+-- devices that tell and belong together
+pub record BelongTogether (d : Devices) : Type 0 where
+  pub told : AllTold d.disc.held (told_reels d.rack)
+  pub belong : Belong d.disc.held d.rack
+
+abbrev pub SystemBelongs : SystemFacts → Type 0
+SystemBelongs (Up s) = Told s × Belongs s
+SystemBelongs (Down d) = BelongTogether d

@@ -1,0 +1,79 @@
+//! The operator arms a device, so that a write of it fails.
+ghost use Rattle.std.specs.Prelude.{◌≡◌, ◌≤◌};
+ghost use Rattle.g_console.specs.Arming.{HasArmed, disc_armed, tape_armed};
+ghost use Rattle.g_console.specs.Parts.{DidLine, IsReady, seen};
+ghost use Rattle.g_console.specs.System.{IsRunning, devices_in, facts_of};
+ghost use Rattle.g_crew.specs.Crew.{CrewState};
+ghost use Rattle.g_script.specs.declared.operator.Operator.TheVariants as line;
+
+use crate::progress::Failure;
+use crate::puts::say;
+use crate::system::System;
+use g_disc::Disc;
+use g_io::Sink;
+use g_tape::Tapes;
+use std::alloc::Global;
+
+/// STOP DISC: the `k`-th next write of the disc will fail.
+pub fn stop_disc_line<K: Sink, D: Disc, T: Tapes>(
+    alloc: Global,
+    system: &mut System<D, T>,
+    count: u64,
+    k: u32,
+    out: &mut K,
+) -> Option<Failure>
+    requires running { IsRunning (facts_of D.state T.rack system.old) }
+    requires from_one { 1 ≤ k }
+    ensures armed { devices_in (facts_of D.state T.rack system.new) ≡ disc_armed k (devices_in (facts_of D.state T.rack system.old)) }
+    ensures line { (crew : CrewState) → IsReady (facts_of D.state T.rack system.old) crew
+        → DidLine (line.StopDisc k) (seen (facts_of D.state T.rack system.old) crew count) result
+        (seen (facts_of D.state T.rack system.new) crew count)
+        (K.written out.old) (K.written out.new) (K.faults out.old) (K.faults out.new) }
+{
+    arm_disc(system, k);
+    say(alloc, count, b"STOP SET", out)
+}
+
+/// STOP TAPE: the `k`-th next write of a reel that isn't refused will fail.
+pub fn stop_tape_line<K: Sink, D: Disc, T: Tapes>(
+    alloc: Global,
+    system: &mut System<D, T>,
+    count: u64,
+    k: u32,
+    out: &mut K,
+) -> Option<Failure>
+    requires running { IsRunning (facts_of D.state T.rack system.old) }
+    requires from_one { 1 ≤ k }
+    ensures armed { devices_in (facts_of D.state T.rack system.new) ≡ tape_armed k (devices_in (facts_of D.state T.rack system.old)) }
+    ensures line { (crew : CrewState) → IsReady (facts_of D.state T.rack system.old) crew
+        → DidLine (line.StopTape k) (seen (facts_of D.state T.rack system.old) crew count) result
+        (seen (facts_of D.state T.rack system.new) crew count)
+        (K.written out.old) (K.written out.new) (K.faults out.old) (K.faults out.new) }
+{
+    arm_tape(system, k);
+    say(alloc, count, b"STOP SET", out)
+}
+
+/// Sets the fuse of the disc.
+fn arm_disc<D: Disc, T: Tapes>(system: &mut System<D, T>, k: u32)
+    requires running { IsRunning (facts_of D.state T.rack system.old) }
+    requires from_one { 1 ≤ k }
+    ensures { HasArmed (disc_armed k) (facts_of D.state T.rack system.old) (facts_of D.state T.rack system.new) }
+{
+    match system {
+        System::Up(store) => store.arm_disc(k),
+        System::Down(disc, _) => disc.arm(k),
+    }
+}
+
+/// Sets the fuse of the tapes.
+fn arm_tape<D: Disc, T: Tapes>(system: &mut System<D, T>, k: u32)
+    requires running { IsRunning (facts_of D.state T.rack system.old) }
+    requires from_one { 1 ≤ k }
+    ensures { HasArmed (tape_armed k) (facts_of D.state T.rack system.old) (facts_of D.state T.rack system.new) }
+{
+    match system {
+        System::Up(store) => store.arm_tape(k),
+        System::Down(_, tapes) => tapes.arm(k),
+    }
+}

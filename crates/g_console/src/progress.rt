@@ -1,0 +1,18 @@
+//! How far a run came.
+use crate::system::System;
+use g_disc::Disc;
+use g_tape::Tapes;
+
+/// Why a run ends before its end: the sink failed, and its count of faults rose, or memory was wanting.
+#[derive(Clone, Copy, Debug, PartialEq, Eq)]
+pub enum Failure {
+    Output,
+    Memory,
+}
+
+/// The system behind a part of a run, and why the run ends there, if it does.
+#[derive(Drop)]
+pub struct Progress<D: Disc, T: Tapes> {
+    pub system: System<D, T>,
+    pub failure: Option<Failure>,
+}

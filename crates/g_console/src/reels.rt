@@ -1,0 +1,107 @@
+//! Reels are mounted and unmounted, whether the system is up or down.
+ghost use Rattle.std.specs.Prelude.{◌≡◌};
+ghost use Rattle.g_crew.specs.Crew.{CrewState};
+ghost use Rattle.g_console.specs.Parts.{DidLine, IsReady, seen};
+ghost use Rattle.g_console.specs.Reels.{MountsOn, UnmountsOn};
+ghost use Rattle.g_console.specs.System.{IsRunning, facts_of};
+ghost use Rattle.g_script.specs.declared.operator.Operator.TheVariants as line;
+ghost use Rattle.g_store.specs.Refusing.{mount_answer, unmount_answer};
+
+use crate::progress::Failure;
+use crate::puts::{refuse, say_made};
+use crate::system::System;
+use g_crew::tape_text;
+use g_disc::Disc;
+use g_io::Sink;
+use g_plain::StoreFault;
+use g_tape::{TapeFault, Tapes};
+use std::alloc::Global;
+
+/// MOUNT: the reel is mounted. `NoTape`: it isn't in the rack.
+pub fn mount_line<K: Sink, D: Disc, T: Tapes>(
+    alloc: Global,
+    system: &mut System<D, T>,
+    count: u64,
+    serial: u32,
+    out: &mut K,
+) -> Option<Failure>
+    requires running { IsRunning (facts_of D.state T.rack system.old) }
+    ensures { (crew : CrewState) → IsReady (facts_of D.state T.rack system.old) crew
+        → DidLine (line.Mount serial) (seen (facts_of D.state T.rack system.old) crew count) result
+        (seen (facts_of D.state T.rack system.new) crew count)
+        (K.written out.old) (K.written out.new) (K.faults out.old) (K.faults out.new) }
+{
+    match mount(system, serial) {
+        Ok(()) => {
+            let made = tape_text(alloc, serial, b"MOUNTED");
+            say_made(alloc, count, made, out)
+        }
+        Err(fault) => refuse(alloc, count, &fault, out),
+    }
+}
+
+/// UNMOUNT: the reel is taken off. `NoTape`, `NotMounted`, `TapeBusy`: the open dump is on it.
+pub fn unmount_line<K: Sink, D: Disc, T: Tapes>(
+    alloc: Global,
+    system: &mut System<D, T>,
+    count: u64,
+    serial: u32,
+    out: &mut K,
+) -> Option<Failure>
+    requires running { IsRunning (facts_of D.state T.rack system.old) }
+    ensures { (crew : CrewState) → IsReady (facts_of D.state T.rack system.old) crew
+        → DidLine (line.Unmount serial) (seen (facts_of D.state T.rack system.old) crew count) result
+        (seen (facts_of D.state T.rack system.new) crew count)
+        (K.written out.old) (K.written out.new) (K.faults out.old) (K.faults out.new) }
+{
+    match unmount(system, serial) {
+        Ok(()) => {
+            let made = tape_text(alloc, serial, b"UNMOUNTED");
+            say_made(alloc, count, made, out)
+        }
+        Err(fault) => refuse(alloc, count, &fault, out),
+    }
+}
+
+/// Mounts the reel of the system's rack.
+fn mount<D: Disc, T: Tapes>(system: &mut System<D, T>, serial: u32) -> Result<(), StoreFault>
+    requires running { IsRunning (facts_of D.state T.rack system.old) }
+    ensures { MountsOn serial (facts_of D.state T.rack system.old) result (facts_of D.state T.rack system.new) }
+{
+    match system {
+        System::Up(store) => store.mount(serial),
+        System::Down(_, tapes) => mount_answer(tapes.mount(serial)),
+    }
+}
+
+/// Unmounts it.
+fn unmount<D: Disc, T: Tapes>(system: &mut System<D, T>, serial: u32) -> Result<(), StoreFault>
+    requires running { IsRunning (facts_of D.state T.rack system.old) }
+    ensures { UnmountsOn serial (facts_of D.state T.rack system.old) result (facts_of D.state T.rack system.new) }
+{
+    match system {
+        System::Up(store) => store.unmount(serial),
+        System::Down(_, tapes) => unmount_answer(tapes.unmount(serial)),
+    }
+}
+
+/// The answer to a mount, where the rack has answered so.
+fn mount_answer(answer: Result<(), TapeFault>) -> Result<(), StoreFault>
+    ensures { result ≡ mount_answer answer }
+{
+    match answer {
+        Ok(()) => Ok(()),
+        Err(_) => Err(StoreFault::NoTape),
+    }
+}
+
+/// The answer to an unmount.
+fn unmount_answer(answer: Result<(), TapeFault>) -> Result<(), StoreFault>
+    ensures { result ≡ unmount_answer answer }
+{
+    match answer {
+        Ok(()) => Ok(()),
+        Err(TapeFault::NoTape) => Err(StoreFault::NoTape),
+        Err(_) => Err(StoreFault::NotMounted),
+    }
+}
