@@ -1,0 +1,10 @@
+mod ListingLemmas
+mod TurnLemmas
+mod RunLemmas
+mod JobLemmas
+mod PartLemmas
+mod OperatorLemmas
+mod EndLemmas
+mod InputLemmas
+mod LawLemmas
+mod TopLemmas

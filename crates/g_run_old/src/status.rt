@@ -1,0 +1,40 @@
+//! How a call of the whole program ended.
+ghost use Rattle.std.specs.Prelude.{◌≡◌};
+
+/// The status of a run. Each has a number, the program's exit status.
+#[derive(Clone, Copy, Debug, PartialEq, Eq)]
+pub enum Status {
+    /// The script was read whole and done to its end.
+    Done,
+    /// The words of the command line aren't known. Nothing was done but to say so.
+    Words,
+    /// This line of the script, counted from 1, is the first that is no script's. All before it was done to its end.
+    BadScript(u64),
+    /// The source failed, and its count of faults rose. Nothing was done.
+    ScriptFault,
+    /// The sink failed, and its count of faults rose. What went out is a front part of the run's text.
+    OutputFault,
+    /// Memory was wanting. What went out is a front part of the run's text.
+    NoMemory,
+    /// The script has more than 16,777,216 bytes. Nothing was done.
+    TooLong,
+}
+
+impl Status {
+    ghost use Rattle.g_run.specs.Top.{code_of};
+
+    /// The exit status: 0 to 6, in the order of the variants.
+    pub fn code(&self) -> u8
+        ensures { result ≡ code_of self.now }
+    {
+        match self {
+            Status::Done => 0,
+            Status::Words => 1,
+            Status::BadScript(_) => 2,
+            Status::ScriptFault => 3,
+            Status::OutputFault => 4,
+            Status::NoMemory => 5,
+            Status::TooLong => 6,
+        }
+    }
+}
