@@ -178,6 +178,19 @@ module _ {F U : Type 0} (tariffs : Shared F (Bor Usage × Unit {0}) Charge) (tar
     keeps = keeps_more done more s failure new faults faults' did.keeps;
   }
 
+  -- where the next one fails they are cut short
+  pub lines_cut : (all done rest : List Timed) (next : Timed) (s mid : Seen) (failure : Option Failure) (new : Seen) (before middle after : Option (List ℕ)) (faults faults1 faults2 : ℕ)
+      → all ≡ done ++ next ∷ rest → DidLines tariffs tariff rules rule done s None mid before middle faults faults1
+      → DidLines tariffs tariff rules rule (next ∷ []) mid failure new middle after faults1 faults2 → (f : Failure) → failure ≡ Some f
+      → DidLines tariffs tariff rules rule all s failure new before after faults faults2
+  lines_cut all done rest next s mid failure new before middle after faults faults1 faults2 is first one f failed =
+      let more = lines_more done next s mid failure new before middle after faults faults1 faults2 first one in
+      let cut : DidLines tariffs tariff rules rule (done ++ next ∷ []) s (Some f) new before after faults faults2 =
+          subst (λ (g : Option Failure). DidLines tariffs tariff rules rule (done ++ next ∷ []) s g new before after faults faults2) failed more in
+      subst (λ (g : Option Failure). DidLines tariffs tariff rules rule all s g new before after faults faults2) (sym failed)
+      (subst (λ (ls : List Timed). DidLines tariffs tariff rules rule ls s (Some f) new before after faults faults2) (append_assoc done (next ∷ []) rest ∙ sym is)
+      (lines_short (done ++ next ∷ []) rest s f new before after faults faults2 cut))
+
   -- ALL LINES, and the ticks behind them
   pub all_done : (lines : List Timed) (s mid : Seen) (failure : Option Failure) (new : Seen) (before middle after : Option (List ℕ)) (faults faults1 faults2 : ℕ)
       → DidLines tariffs tariff rules rule lines s None mid before middle faults faults1 → DidTicks tariffs tariff rules rule IsAtRest None mid failure new middle after faults1 faults2

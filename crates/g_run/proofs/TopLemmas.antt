@@ -11,11 +11,13 @@ use Rattle.g_script.specs.Script.{IsParsed}
 use Rattle.g_script.specs.declared.operator.Timed.{Timed}
 use Rattle.g_script.proofs.OneReading.{reading_unique}
 use Rattle.g_world.specs.Devices.{Devices}
-use Rattle.g_world.specs.Top.{AreArmings}
+use Rattle.g_world.specs.Top.{AreArmings, IsCutWords, words_line}
 use Rattle.g_console.specs.declared.progress.Failure.{Failure}
 use Rattle.g_console.specs.declared.progress.Failure.TheVariants as failures
+use Rattle.g_console.specs.Puts.{PutsBy}
 use Rattle.g_run.specs.declared.status.Status.{Status}
-use Rattle.g_run.specs.Top.{EndsAs, EndsBy, IsThrough, status_of}
+use Rattle.g_run.specs.Top.{EndsAs, EndsBy, IsThrough, status_of, words_status}
+use Rattle.g_run.proofs.TickedLemmas.{whole_part}
 
 module _ {F U : Type 0} (tariffs : Shared F (Bor Usage × Unit {0}) Charge) (tariff : F) (rules : Shared U (Bor Standing × Unit {0}) ℕ) (rule : U) where
   pub ends_as : (bad : Option ℕ) (failure : Option Failure) (left : List ℕ) (lines : List Timed) (old new : Devices) (before after : Option (List ℕ)) →
@@ -50,3 +52,13 @@ arms_as left lines said bad said_bad failure old new was is arms =
       all_disc = λ went. arms.all_disc (went_through said_bad failure went);
       all_tape = λ went. arms.all_tape (went_through said_bad failure went);
     })
+
+-- unknown words are told, whole or in part
+pub cut_words : (failure : Option Failure) (d : Devices) (before after : Option (List ℕ)) → PutsBy failure words_line before after → IsCutWords d d before after
+cut_words None d before after put = (refl, whole_part before after words_line put)
+cut_words (Some failure) d before after put = (refl, put)
+
+pub words_cut : (failure : Option Failure) → IsThrough (words_status failure) → ⊥
+words_cut None went = went
+words_cut (Some failures.Output) went = went
+words_cut (Some failures.Memory) went = went

@@ -16,7 +16,7 @@ use g_script::Operator;
 use g_tape::Tapes;
 use std::alloc::Global;
 
-/// Does what the operator asks, and tells what became of it (docs/MANUAL.md, "Operator lines").
+/// Does what the operator asks, and tells what became of it (docs/MANUAL.md, "The operator's lines").
 pub(crate) fn do_line<K: Sink, D: Disc, T: Tapes>(
     alloc: Global,
     system: System<D, T>,
