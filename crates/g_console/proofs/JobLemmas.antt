@@ -35,6 +35,7 @@ use Rattle.g_console.specs.Parts.{DidLine, DoesLine, IsReady, Matches, Seen, see
 use Rattle.g_console.specs.Puts.{FaultCause, Puts}
 use Rattle.g_console.specs.System.{Down, Up, devices_in}
 use Rattle.g_console.specs.Telling.{down_text, refusal_text, without_jobs}
+use Rattle.g_console.proofs.LeavesLemmas.{leaves_is, leaves_joined, leaves_none, leaves_same}
 use Rattle.g_console.proofs.LineLemmas.{none_armed, refused_line, was_done, wasnt_done}
 use Rattle.g_console.proofs.UpLemmas.{up_is}
 use Rattle.g_console.proofs.UserLemmas.{user_known}
@@ -122,6 +123,7 @@ module _ (job : NewJob) (s : StoreFacts) (known : Bool) (known_is : (u : State) 
         goes = was_done (job_of_line job) before (seen (Up s) (joined job c) count) failure (operator_line count (job_text c.next_job (job.name ++ codes " IN"))) before_text after
             (in_does comes.granted) (λ w m e. in_matches comes.granted w m) comes.put.put;
         ready = ready;
+        crew = λ none. leaves_joined job c;
         arms = none_armed (job_of_line job) failure (devices_in (Up s)) (devices_in (Up s)) refl refl refl refl;
         belongs = λ is. is;
         cause = comes.put.cause;
@@ -132,6 +134,7 @@ module _ (job : NewJob) (s : StoreFacts) (known : Bool) (known_is : (u : State) 
         goes = was_done (job_of_line job) before (seen (Up s) c count) failure (operator_line count (codes "REFUSED " ++ refused.text)) before_text after
             (out_does refused.text refused.refuses) (λ w m e. out_matches refused.text refused.refuses w m) refused.put.put;
         ready = ready;
+        crew = λ none. leaves_same c;
         arms = none_armed (job_of_line job) failure (devices_in (Up s)) (devices_in (Up s)) refl refl refl refl;
         belongs = λ is. is;
         cause = refused.put.cause;
@@ -141,6 +144,7 @@ module _ (job : NewJob) (s : StoreFacts) (known : Bool) (known_is : (u : State) 
       (record {
         goes = wasnt_done (job_of_line job) before (seen (Up s) c' count) before_text after (λ w m. record { counted = event_none (devices_in (Up s)); stands = m.stands; text = text });
         ready = ready;
+        crew = λ none. leaves_is c c' same;
         arms = none_armed (job_of_line job) (Some Memory) (devices_in (Up s)) (devices_in (Up s)) refl refl refl refl;
         belongs = λ was. was;
         cause = still;
@@ -240,6 +244,7 @@ module _ (s : StoreFacts) (c : CrewState) (ready : IsReady (Up s) c) (count : �
           count = m.count;
         }) puts.put;
     ready = (ready.1, ready.2, refl, refl);
+    crew = λ none. leaves_none c;
     arms = none_armed line.Shut failure (devices_in (Up s)) taken_down refl refl refl refl;
     belongs = λ is. record { told = is.0; belong = is.1.devices };
     cause = puts.cause;

@@ -24,6 +24,7 @@ use Rattle.g_console.specs.Parts.{ArmsBy, DidLine, DoesLine, DoesNothing, IsRead
 use Rattle.g_console.specs.Puts.{FaultCause, Puts, PutsBy}
 use Rattle.g_console.specs.System.{StandsAs, SystemBelongs, SystemFacts, devices_in}
 use Rattle.g_console.specs.Telling.{TellsFault, down_text, refusal_text, without_jobs}
+use Rattle.g_console.proofs.LeavesLemmas.{leaves_same}
 
 -- done, and its text put whole or in part
 pub was_done : (what : Operator) (old new : Seen) (failure : Option Failure) (added : List ℕ) (before after : Option (List ℕ))
@@ -75,6 +76,7 @@ module _ (what : Operator) (no_disc : disc_arms what ≡ 0) (no_tape : tape_arms
   refused_line failure before after faults faults' ready puts = record {
     goes = was_done what (seen f c count) (seen f c count) failure (refusal_text count fault) before after refused_does (λ w m e. refused_matches w m) puts.put;
     ready = ready;
+    crew = λ none. leaves_same c;
     arms = none_armed what failure (devices_in f) (devices_in f) no_disc no_tape refl refl;
     belongs = λ is. is;
     cause = puts.cause;

@@ -36,6 +36,7 @@ use Rattle.g_console.specs.Puts.{Puts}
 use Rattle.g_console.specs.System.{BelongTogether, Down, StandsAs, Up, devices_in}
 use Rattle.g_console.specs.Telling.{TellsFault, refusal_text}
 use Rattle.g_console.proofs.CauseLemmas.{OfDisc, counted_by}
+use Rattle.g_console.proofs.LeavesLemmas.{leaves_opened, leaves_told}
 use Rattle.g_console.proofs.LineLemmas.{FaultDone, Faulted, none_armed, refused_line, tells_fault, told_of, told_same, was_done}
 use Rattle.g_console.proofs.UpLemmas.{up_is}
 use Rattle.g_console.proofs.UserLemmas.{have_rows}
@@ -139,6 +140,7 @@ module _ {A : Type 0} (what : Operator) (given : Type 0) (by : State → Outcome
     comes_up failure before_text after faults faults' opens puts = record {
       goes = was_done what before (seen (Up new) c' count) failure added before_text after up_does (λ w m e. up_matches (opens e) w m) puts.put;
       ready = (makes.running, makes.keeps.tied.size, makes.keeps.tied.most);
+      crew = λ none. leaves_opened new.online.contents.users c c' (opens none);
       arms = none_armed what failure old_devices (devices_in (Up new)) no_disc no_tape makes.causes.arms makes.tapes.arms;
       belongs = λ is. (makes.told is.told, makes.belongs is.told (gives is));
       cause = puts.cause;
@@ -212,6 +214,7 @@ module _ {A : Type 0} (what : Operator) (given : Type 0) (by : State → Outcome
             let (low, high, no_jobs, no_accounts) = ready in
             let (same_jobs, same_accounts) = gone fault count c failure c' before_text after faults faults' no_jobs no_accounts tells in
             (subst (λ (n : ℕ). 2177 < n) (sym refuses.causes.size) low, subst (λ (n : ℕ). n ≤ 1048576) (sym refuses.causes.size) high, same_jobs, same_accounts);
+        crew = λ none. leaves_told fault count c failure c' before_text after faults faults' tells;
         arms = none_armed what failure old_devices d no_disc no_tape refuses.causes.arms refuses.tapes.arms;
         belongs = λ is. record { told = refuses.told is.told; belong = refuses.belongs is.told is.belong };
         cause = both.1;

@@ -18,6 +18,7 @@ use Rattle.g_console.specs.Arming.{HasArmed, disc_armed, tape_armed}
 use Rattle.g_console.specs.Parts.{ArmsBy, DidLine, DoesLine, IsReady, Matches, seen}
 use Rattle.g_console.specs.Puts.{Puts}
 use Rattle.g_console.specs.System.{Down, IsNow, StandsAs, SystemBelongs, SystemFacts, Up, devices_in}
+use Rattle.g_console.proofs.LeavesLemmas.{leaves_same}
 use Rattle.g_console.proofs.LineLemmas.{was_done}
 
 -- a store that means the same
@@ -111,6 +112,7 @@ module _ (k : ℕ) (old new : SystemFacts) (c : CrewState) (count : ℕ) where
           count = m.count;
         }) puts.put;
     ready = armed.ready c ready;
+    crew = λ none. leaves_same c;
     arms = subst (ArmsBy (line.StopDisc k) failure (devices_in old)) (sym armed.devices)
         (record { disc = (1, omega arith, RoseBy-one refl); tape = (0, omega arith, RoseBy-none refl); all = λ through. (RoseBy-one refl, RoseBy-none refl) });
     belongs = armed.belongs;
@@ -128,6 +130,7 @@ module _ (k : ℕ) (old new : SystemFacts) (c : CrewState) (count : ℕ) where
           count = m.count;
         }) puts.put;
     ready = armed.ready c ready;
+    crew = λ none. leaves_same c;
     arms = subst (ArmsBy (line.StopTape k) failure (devices_in old)) (sym armed.devices)
         (record { disc = (0, omega arith, RoseBy-none refl); tape = (1, omega arith, RoseBy-one refl); all = λ through. (RoseBy-none refl, RoseBy-one refl) });
     belongs = armed.belongs;

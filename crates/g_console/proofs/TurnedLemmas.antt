@@ -22,6 +22,7 @@ use Rattle.g_console.specs.Puts.{Puts}
 use Rattle.g_console.specs.Reels.{StaysAsUp, StepsReels}
 use Rattle.g_console.specs.System.{Down, StandsAs, SystemFacts, Up, devices_in}
 use Rattle.g_console.specs.Telling.{refusal_text}
+use Rattle.g_console.proofs.LeavesLemmas.{leaves_same}
 use Rattle.g_console.proofs.LineLemmas.{as_armed, none_armed, was_done}
 
 -- no count moved
@@ -103,6 +104,7 @@ module _ (what : Operator) (no_disc : disc_arms what ≡ 0) (no_tape : tape_arms
   reel_line answer is ready failure before after faults faults' puts = record {
     goes = was_done what (seen old c count) (seen new c count) failure (added_by answer) before after (does_by answer is) (λ w m e. matches_by answer is w m) puts.put;
     ready = ready_still old new c is.stays ready;
+    crew = λ none. leaves_same c;
     arms = none_armed what failure (devices_in old) (devices_in new) no_disc no_tape (ap (λ (d : DiscState). d.arms) is.disc) is.arms;
     belongs = is.belongs;
     cause = puts.cause;

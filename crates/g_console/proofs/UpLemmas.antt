@@ -33,6 +33,7 @@ use Rattle.g_console.specs.Puts.{Puts}
 use Rattle.g_console.specs.System.{Down, IsNow, StandsAs, SystemBelongs, SystemFacts, Up, devices_in}
 use Rattle.g_console.specs.Telling.{TellsFault, refusal_text, system_after, without_jobs}
 use Rattle.g_console.proofs.CauseLemmas.{OfDisc, counted_by}
+use Rattle.g_console.proofs.LeavesLemmas.{leaves_same, leaves_told}
 use Rattle.g_console.proofs.LineLemmas.{FaultDone, Faulted, as_armed, none_armed, refused_line, tells_fault, told_of, told_same, was_done}
 
 -- the state of a store that is up is up
@@ -108,6 +109,7 @@ module _ {A : Type 0} (what : Operator) (by : State → Holding → Outcome → 
             count = m.count;
           }) puts.put;
       ready = (running, event.keeps.tied.size, event.keeps.tied.most);
+      crew = λ none. leaves_same c;
       arms = none_armed what failure (devices_in (Up old)) (devices_in (Up new)) no_disc no_tape cause.disc.arms cause.tapes.arms;
       belongs = λ is. (event.told is.0, event.belongs is.0 is.1);
       cause = puts.cause;
@@ -183,6 +185,7 @@ module _ {A : Type 0} (what : Operator) (by : State → Holding → Outcome → 
         let both = tells_fault what no_disc no_tape before system fault (record { does = fault_done; nothing = nothing_done }) failure c' before_text after faults faults' tells in record {
           goes = both.0;
           ready = ready_by fault refl c' (empty_by fault failure c' before_text after faults faults' tells);
+          crew = λ none. leaves_told fault count c failure c' before_text after faults faults' tells;
           arms =
               subst (λ (d : Devices). ArmsBy what failure (devices_in (Up old)) d) (sym (same_devices fault new))
               (none_armed what failure (devices_in (Up old)) (devices_in (Up new)) no_disc no_tape cause.disc.arms cause.tapes.arms);

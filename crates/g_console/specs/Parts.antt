@@ -1,5 +1,5 @@
 -- A LINE OF THE OPERATOR, done on a system: what the world is behind it, whatever world stood before, and what holds of every device.
-use Rattle.std.specs.Prelude.{◌≡◌, ◌⊎◌, ◌<◌, ◌≤◌, ℕ, false, List, [], ◌++◌, Option, Some, None}
+use Rattle.std.specs.Prelude.{◌≡◌, ◌⊎◌, ◌+◌, ◌<◌, ◌≤◌, ℕ, false, List, [], ◌++◌, Option, Some, None}
 use Rattle.g_base.specs.Counts.{RoseBy}
 use Rattle.g_io.specs.Streams.{with_more, HasPutPart}
 use Rattle.g_step.specs.CallStep.{Outcome, Plain}
@@ -10,6 +10,7 @@ use Rattle.g_world.specs.Lines.{LineGives}
 use Rattle.g_world.specs.Moves.{EventCounted}
 use Rattle.g_world.specs.World.{World}
 use Rattle.g_crew.specs.Crew.{CrewState, IsCrewOf}
+use Rattle.g_crew.specs.Numbers.{AreOpen}
 use Rattle.g_console.specs.declared.progress.Failure.{Failure}
 use Rattle.g_console.specs.Puts.{FaultCause}
 use Rattle.g_console.specs.System.{Down, StandsAs, SystemBelongs, SystemFacts, Up, devices_in}
@@ -73,10 +74,16 @@ pub record ArmsBy (what : Operator) (failure : Option Failure) (old new : Device
   pub tape : (n : ℕ) × (n ≤ tape_arms what) × RoseBy n old.rack.arms new.rack.arms
   pub all : failure ≡ None → RoseBy (disc_arms what) old.disc.arms new.disc.arms × RoseBy (tape_arms what) old.rack.arms new.rack.arms
 
+-- whether devices tell or not, a line leaves jobs that can take turns, and gives out one number at most
+pub record LeavesCrew (old new : CrewState) : Type 0 where
+  pub jobs : AreOpen old.jobs → AreOpen new.jobs
+  pub numbers : new.next_job ≤ old.next_job + 1
+
 -- A PART OF A RUN that does a line
 pub record DidLine (what : Operator) (old : Seen) (failure : Option Failure) (new : Seen) (before after : Option (List ℕ)) (faults faults' : ℕ) : Type 0 where
   pub goes : LineGoes what old failure new before after
   pub ready : IsReady new.system new.crew
+  pub crew : failure ≡ None → LeavesCrew old.crew new.crew
   pub arms : ArmsBy what failure (devices_in old.system) (devices_in new.system)
   pub belongs : SystemBelongs old.system → SystemBelongs new.system
   pub cause : FaultCause failure faults faults'
