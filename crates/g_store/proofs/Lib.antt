@@ -1,5 +1,6 @@
 mod AdoptLemmas
 pub mod ArmLemmas
+mod CompleteLemmas
 mod EmptyLemmas
 pub mod EventLemmas
 mod FormatLemmas
