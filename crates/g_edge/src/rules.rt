@@ -15,8 +15,8 @@ use std::alloc::Global;
 /// 64 blocks (docs/MANUAL.md, "Ticks").
 fn price(usage: &Usage) -> Charge
     ensures { result ≡ record {
-        units = 1 + usage.now.orders / 64 + usage.now.blocks / 64;
-        money = usage.now.blocks / 64;
+      units = 1 + usage.now.orders / 64 + usage.now.blocks / 64;
+      money = usage.now.blocks / 64;
     } }
 {
     let blocks = u64::from(usage.blocks / 64);

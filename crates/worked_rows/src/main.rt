@@ -21,12 +21,14 @@ fn main(rt: HostRuntime) -> anyhow::Result<()> {
 fn one_row(rt: &HostRuntime, line: &str) -> anyhow::Result<()> {
     let row = Row::parse(rt.alloc(), line)?;
     let name = row.name;
-    let script = fs::read(rt, format!(in rt.alloc(); "{name}.script")?.as_str())?;
+    let script = fs::read_to_string(rt, format!(in rt.alloc(); "{name}.script")?.as_str())?;
     let wanted = fs::read_to_string(
         rt,
         format!(in rt.alloc(); "{name}.{}", row.kind())?.as_str(),
     )?;
-    let seen = run_row(rt.alloc(), &row, script)?;
+    let script = row.unpack(rt.alloc(), script)?;
+    let wanted = row.unpack(rt.alloc(), wanted)?;
+    let seen = run_row(rt.alloc(), &row, script.into_bytes())?;
     match row.differs(&seen, wanted.as_str()) {
         None => println!(rt; "{name} as it should be")?,
         Some(why) => {

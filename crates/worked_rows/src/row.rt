@@ -11,6 +11,8 @@ pub struct Row<'a> {
     pub name: &'a str,
     /// Whether the row has its whole text, or lines that stand in it in this order.
     whole: bool,
+    /// Whether each line of its files has in front how often it stands.
+    packed: bool,
     pub words: Vec<&'a str>,
     pub blocks: u32,
     /// One reel, or two.
@@ -53,6 +55,7 @@ impl<'a> Row<'a> {
         Ok(Row {
             name,
             whole,
+            packed: false,
             words: Vec::new(alloc),
             blocks: 4_096,
             two_reels: false,
@@ -87,6 +90,8 @@ impl<'a> Row<'a> {
             self.blocks = value;
         } else if key == "reels" {
             self.two_reels = value == 2;
+        } else if key == "packed" {
+            self.packed = value == 1;
         } else if key == "capacity" {
             self.capacity = value;
         } else if key == "torn" {
@@ -97,6 +102,15 @@ impl<'a> Row<'a> {
             self.put = u64::from(value);
         } else if key == "status" {
             self.status = value as u8;
+        }
+    }
+
+    /// The text of one of its files, as it is meant.
+    pub fn unpack(&self, alloc: Global, text: String) -> anyhow::Result<String> {
+        if self.packed {
+            unpacked(alloc, text.as_str())
+        } else {
+            Ok(text)
         }
     }
 
@@ -116,7 +130,11 @@ impl<'a> Row<'a> {
         if !self.whole && !stand_in_order(seen.text.as_str(), wanted) {
             return Some("a line that lacks");
         }
-        if self.absent.iter().any(|text| seen.text.as_str().contains(*text)) {
+        if self
+            .absent
+            .iter()
+            .any(|text| seen.text.as_str().contains(*text))
+        {
             return Some("a text that shouldn't be there");
         }
         if !self.lengths.is_empty() && seen.lengths.as_slice() != self.lengths.as_slice() {
@@ -129,5 +147,28 @@ impl<'a> Row<'a> {
 /// Whether each of the wanted lines stands in the text, in this order.
 fn stand_in_order(text: &str, wanted: &str) -> bool {
     let mut lines = text.lines();
-    wanted.lines().all(|line| lines.any(|other| other.contains(line)))
+    wanted
+        .lines()
+        .all(|line| lines.any(|other| other.contains(line)))
+}
+
+/// The lines of a text in which each has in front how often it stands.
+fn unpacked(alloc: Global, text: &str) -> anyhow::Result<String> {
+    let mut whole = String::new(alloc);
+    for line in text.lines() {
+        let Some((count, line)) = line.split_once(' ') else {
+            return Err(anyhow!("no count: {line}"));
+        };
+        push_times(&mut whole, line, count.parse()?)?;
+    }
+    Ok(whole)
+}
+
+/// Puts a line behind the text so often.
+fn push_times(text: &mut String, line: &str, count: u32) -> Result<(), AllocError> {
+    for _again in 0..count {
+        text.push_str(line)?;
+        text.push('\n')?;
+    }
+    Ok(())
 }

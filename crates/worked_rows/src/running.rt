@@ -27,8 +27,14 @@ pub fn run_row(alloc: Global, row: &Row, script: Vec<u8>) -> anyhow::Result<Seen
     let tapes = tapes_of(alloc, row)?;
     let mut source = MemorySource::new(script, [row.take].to_vec(alloc)?);
     let mut sink = MemorySink::new(alloc, ROOM, [row.put].to_vec(alloc)?)?;
-    let Finish { status, tapes, .. } =
-        run_by_rules(alloc, &row.words, &mut source, &mut sink, disc, tapes);
+    let Finish { status, tapes, .. } = run_by_rules(
+        alloc,
+        &row.words,
+        &mut source,
+        &mut sink,
+        disc,
+        tapes,
+    );
     Ok(Seen {
         status: status.code(),
         text: String::from_utf8_lossy(alloc, sink.text())?,

@@ -92,10 +92,9 @@ fn sizes_that_no_disc_has_are_refused(rt: HostRuntime) -> Result<(), Fail> {
 }
 
 /// The records of a new filestore's users, MASTER and MACROS, as far as they aren't zeros.
-const MASTER: &[u8] =
-    b"\x01\x06MASTER\0\0\0\0\0\0\0\0\0\xff\xff\0\0\0\0\0\x0fB@\0\0\0\0\0\0\x0fB@";
-const MACROS: &[u8] =
-    b"\x01\x06MACROS\0\0\0\0\0\0\0\0\0\xff\xff\0\0\0\0\0\x0fB@\0\0\0\0\0\0\x0fB@";
+const MASTER: &[u8] = b"\x01\x06MASTER\0\0\0\0\0\0\0\0\0\xff\xff\0\0\0\0\0\x0fB@\0\0\0\0\0\0\x0fB@";
+
+const MACROS: &[u8] = b"\x01\x06MACROS\0\0\0\0\0\0\0\0\0\xff\xff\0\0\0\0\0\x0fB@\0\0\0\0\0\0\x0fB@";
 
 #[test]
 fn the_image_of_the_first_script(rt: HostRuntime) -> Result<(), Fail> {
