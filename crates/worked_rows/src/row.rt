@@ -79,13 +79,17 @@ impl<'a> Row<'a> {
             self.lengths.push(value.parse()?)?;
         } else if key == "leaves" {
             self.leaves = value;
+        } else if key == "torn" {
+            self.torn = value.parse()?;
+        } else if key == "status" {
+            self.status = value.parse()?;
         } else {
-            self.set_number(key, value.parse()?);
+            self.set_number(key, value.parse()?)?;
         }
         Ok(())
     }
 
-    fn set_number(&mut self, key: &str, value: u32) {
+    fn set_number(&mut self, key: &str, value: u32) -> anyhow::Result<()> {
         if key == "blocks" {
             self.blocks = value;
         } else if key == "reels" {
@@ -94,15 +98,14 @@ impl<'a> Row<'a> {
             self.packed = value == 1;
         } else if key == "capacity" {
             self.capacity = value;
-        } else if key == "torn" {
-            self.torn = value as u8;
         } else if key == "take" {
             self.take = u64::from(value);
         } else if key == "put" {
             self.put = u64::from(value);
-        } else if key == "status" {
-            self.status = value as u8;
+        } else {
+            return Err(anyhow!("no setting: {key}"));
         }
+        Ok(())
     }
 
     /// The text of one of its files, as it is meant.
