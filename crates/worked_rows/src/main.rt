@@ -6,7 +6,7 @@ mod row;
 mod running;
 
 use row::Row;
-use running::{Seen, run_row};
+use running::{Seen, run_row, wrong_put};
 use std::fs;
 
 fn main(rt: HostRuntime) -> anyhow::Result<()> {
@@ -19,27 +19,35 @@ fn main(rt: HostRuntime) -> anyhow::Result<()> {
 
 /// Runs the row of a line, and prints what became of it.
 fn one_row(rt: &HostRuntime, line: &str) -> anyhow::Result<()> {
-    let row = Row::parse(rt.alloc(), line)?;
-    let name = row.name;
-    let script = fs::read_to_string(rt, format!(in rt.alloc(); "{name}.script")?.as_str())?;
-    let wanted = fs::read_to_string(
-        rt,
-        format!(in rt.alloc(); "{name}.{}", row.kind())?.as_str(),
-    )?;
-    let script = row.unpack(rt.alloc(), script)?;
-    let wanted = row.unpack(rt.alloc(), wanted)?;
-    let seen = run_row(rt.alloc(), &row, script.into_bytes())?;
-    match row.differs(&seen, wanted.as_str()) {
-        None => println!(rt; "{name} as it should be")?,
-        Some(why) => {
-            println!(rt; "{name} differs: {why}")?;
-            let Seen {
-                status,
-                text,
-                lengths,
-            } = seen;
-            println!(rt; "status {status}, lengths {lengths:?}, text:\n{text}")?;
-        }
+    let mut row = Row::parse(rt.alloc(), line)?;
+    let script = file_of(rt, &row, "script")?;
+    let wanted = file_of(rt, &row, row.kind())?;
+    let seen = run_row(rt.alloc(), &row, script.as_str())?;
+    if let Some(why) = row.differs(&seen, wanted.as_str()) {
+        return tell(rt, row.name, why, &seen);
     }
+    match wrong_put(rt.alloc(), &mut row, script.as_str(), wanted.as_str())? {
+        None => println!(rt; "{} as it should be", row.name)?,
+        Some(put) => println!(rt; "{} differs where put {put} fails", row.name)?,
+    }
+    Ok(())
+}
+
+/// Reads a file of the row.
+fn file_of(rt: &HostRuntime, row: &Row, kind: &str) -> anyhow::Result<String> {
+    let path = format!(in rt.alloc(); "{}.{kind}", row.name)?;
+    let text = fs::read_to_string(rt, path.as_str())?;
+    row.unpack(rt.alloc(), text)
+}
+
+/// Prints that a row differs, and what was seen.
+fn tell(rt: &HostRuntime, name: &str, why: &str, seen: &Seen) -> anyhow::Result<()> {
+    println!(rt; "{name} differs: {why}")?;
+    let Seen {
+        status,
+        text,
+        lengths,
+    } = seen;
+    println!(rt; "status {status}, lengths {lengths:?}, text:\n{text}")?;
     Ok(())
 }

@@ -25,6 +25,8 @@ pub struct Row<'a> {
     /// Which take of the script and which put of the text fails; 0: none.
     pub take: u64,
     pub put: u64,
+    /// Whether each put is to fail once.
+    pub each_put: bool,
     status: u8,
     /// The lengths of the reels at the end, where they are told.
     lengths: Vec<u32>,
@@ -64,6 +66,7 @@ impl<'a> Row<'a> {
             torn: 0,
             take: 0,
             put: 0,
+            each_put: false,
             status: 0,
             lengths: Vec::new(alloc),
             absent: Vec::new(alloc),
@@ -96,6 +99,8 @@ impl<'a> Row<'a> {
             self.two_reels = value == 2;
         } else if key == "packed" {
             self.packed = value == 1;
+        } else if key == "puts" {
+            self.each_put = value == 1;
         } else if key == "capacity" {
             self.capacity = value;
         } else if key == "take" {

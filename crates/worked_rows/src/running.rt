@@ -13,6 +13,9 @@ use std::alloc::Global;
 /// The most bytes of a text.
 const ROOM: usize = 4_194_304;
 
+/// More puts than a run has whose puts fail one by one.
+const MOST_PUTS: u64 = 1_000;
+
 /// How a run ended.
 #[derive(Drop)]
 pub struct Seen {
@@ -22,10 +25,13 @@ pub struct Seen {
 }
 
 /// Runs the row's script.
-pub fn run_row(alloc: Global, row: &Row, script: Vec<u8>) -> anyhow::Result<Seen> {
+pub fn run_row(alloc: Global, row: &Row, script: &str) -> anyhow::Result<Seen> {
     let disc = disc_of(alloc, row)?;
     let tapes = tapes_of(alloc, row)?;
-    let mut source = MemorySource::new(script, [row.take].to_vec(alloc)?);
+    let mut source = MemorySource::new(
+        Vec::from_slice(alloc, script.as_bytes())?,
+        [row.take].to_vec(alloc)?,
+    );
     let mut sink = MemorySink::new(alloc, ROOM, [row.put].to_vec(alloc)?)?;
     let Finish { status, tapes, .. } = run_by_rules(
         alloc,
@@ -40,6 +46,30 @@ pub fn run_row(alloc: Global, row: &Row, script: Vec<u8>) -> anyhow::Result<Seen
         text: String::from_utf8_lossy(alloc, sink.text())?,
         lengths: lengths_of(alloc, &tapes)?,
     })
+}
+
+/// Where the row asks for it: the first single put that fails and doesn't end the run with status 4 and a front part of
+/// the text.
+pub fn wrong_put(
+    alloc: Global,
+    row: &mut Row,
+    script: &str,
+    text: &str,
+) -> anyhow::Result<Option<u64>> {
+    if !row.each_put {
+        return Ok(None);
+    }
+    for put in 1..MOST_PUTS {
+        row.put = put;
+        let seen = run_row(alloc, row, script)?;
+        if seen.status == 0 {
+            return Ok(None);
+        }
+        if seen.status != 4 || !text.starts_with(seen.text.as_str()) {
+            return Ok(Some(put));
+        }
+    }
+    Ok(Some(MOST_PUTS))
 }
 
 /// The row's disc.
