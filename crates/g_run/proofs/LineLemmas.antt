@@ -186,7 +186,7 @@ module _ {F U : Type 0} (tariffs : Shared F (Bor Usage × Unit {0}) Charge) (tar
   lines_cut all done rest next s mid failure new before middle after faults faults1 faults2 is first one f failed =
       let more = lines_more done next s mid failure new before middle after faults faults1 faults2 first one in
       let cut : DidLines tariffs tariff rules rule (done ++ next ∷ []) s (Some f) new before after faults faults2 =
-          subst (λ (g : Option Failure). DidLines tariffs tariff rules rule (done ++ next ∷ []) s g new before after faults faults2) failed more in
+      subst (λ (g : Option Failure). DidLines tariffs tariff rules rule (done ++ next ∷ []) s g new before after faults faults2) failed more in
       subst (λ (g : Option Failure). DidLines tariffs tariff rules rule all s g new before after faults faults2) (sym failed)
       (subst (λ (ls : List Timed). DidLines tariffs tariff rules rule ls s (Some f) new before after faults faults2) (append_assoc done (next ∷ []) rest ∙ sym is)
       (lines_short (done ++ next ∷ []) rest s f new before after faults faults2 cut))

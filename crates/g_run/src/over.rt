@@ -32,7 +32,13 @@ pub(crate) struct Over<D: Disc, T: Tapes> {
 }
 
 /// Does a script over devices under no store, and takes the system down again.
-pub(crate) fn run_script<K: Sink, D: Disc, T: Tapes, F: Fn(&Usage) -> Charge, U: Fn(&Standing) -> u64>(
+pub(crate) fn run_script<
+    K: Sink,
+    D: Disc,
+    T: Tapes,
+    F: Fn(&Usage) -> Charge,
+    U: Fn(&Standing) -> u64,
+>(
     alloc: Global,
     script: Script,
     out: &mut K,
@@ -53,8 +59,18 @@ pub(crate) fn run_script<K: Sink, D: Disc, T: Tapes, F: Fn(&Usage) -> Charge, U:
     let Script { lines, bad } = script;
     let mut crew = Crew::new(alloc);
     let Came {
-        system, failure, ..
-    } = run_lines(alloc, lines, System::Down(disc, tapes), &mut crew, tariff, weigh, out);
+        system,
+        failure,
+        ..
+    } = run_lines(
+        alloc,
+        lines,
+        System::Down(disc, tapes),
+        &mut crew,
+        tariff,
+        weigh,
+        out,
+    );
     let failure = close(alloc, &crew, bad, failure, out);
     let (disc, tapes) = taken_down(system);
     Over {

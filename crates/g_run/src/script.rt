@@ -22,7 +22,13 @@ use std::alloc::Global;
 use std::collections::VecDeque;
 
 /// Does all lines, in order, as far as a failure lets it.
-pub(crate) fn do_lines<K: Sink, D: Disc, T: Tapes, F: Fn(&Usage) -> Charge, U: Fn(&Standing) -> u64>(
+pub(crate) fn do_lines<
+    K: Sink,
+    D: Disc,
+    T: Tapes,
+    F: Fn(&Usage) -> Charge,
+    U: Fn(&Standing) -> u64,
+>(
     alloc: Global,
     lines: Timeds,
     system: System<D, T>,
@@ -49,7 +55,16 @@ pub(crate) fn do_lines<K: Sink, D: Disc, T: Tapes, F: Fn(&Usage) -> Charge, U: F
         failure: None,
     };
     'lines: while let Some(next) = lines.pop_front() {
-        came = next_line(alloc, came.system, crew, came.count, next, tariff, weigh, out);
+        came = next_line(
+            alloc,
+            came.system,
+            crew,
+            came.count,
+            next,
+            tariff,
+            weigh,
+            out,
+        );
         if came.failure.is_some() {
             return came;
         }

@@ -46,7 +46,16 @@ pub(crate) fn until<K: Sink, D: Disc, T: Tapes, F: Fn(&Usage) -> Charge, U: Fn(&
         failure: None,
     };
     'ticks: while goes_on(&came, crew, limit) {
-        came = one_tick(alloc, came.system, crew, came.count, limit, tariff, weigh, out);
+        came = one_tick(
+            alloc,
+            came.system,
+            crew,
+            came.count,
+            limit,
+            tariff,
+            weigh,
+            out,
+        );
     }
     came
 }

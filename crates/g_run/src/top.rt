@@ -37,7 +37,14 @@ pub struct Finish<D: Disc, T: Tapes> {
 /// 1,048,576 blocks, and on the reels of the rack. Jobs are charged by the tariff and take their turns by the weigh rule.
 ///
 /// The words are looked at first. The script is read whole before anything is done (docs/MANUAL.md, "Exit status").
-pub fn george<S: Source, K: Sink, D: Disc, T: Tapes, F: Fn(&Usage) -> Charge, U: Fn(&Standing) -> u64>(
+pub fn george<
+    S: Source,
+    K: Sink,
+    D: Disc,
+    T: Tapes,
+    F: Fn(&Usage) -> Charge,
+    U: Fn(&Standing) -> u64,
+>(
     alloc: Global,
     words: &[&str],
     script: &mut S,
