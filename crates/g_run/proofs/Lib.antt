@@ -1,10 +1,10 @@
-mod ListingLemmas
-mod TurnLemmas
-mod RunLemmas
-mod JobLemmas
-mod PartLemmas
-mod OperatorLemmas
-mod EndLemmas
-mod InputLemmas
-mod LawLemmas
-mod TopLemmas
+pub mod InputLemmas
+pub mod LeaveLemmas
+pub mod LineLemmas
+pub mod OverLemmas
+pub mod PartLemmas
+pub mod ReadingLemmas
+pub mod RestLemmas
+pub mod TickedLemmas
+pub mod TopLemmas
+pub mod UntilLemmas

@@ -1,11 +1,4 @@
-pub mod Texts
-pub mod World
-pub mod Run
-pub mod Turn
-pub mod Parts
-pub mod Jobs
-pub mod Operator
-pub mod Ends
 pub mod Input
+pub mod Over
+pub mod Parts
 pub mod Top
-pub mod Laws

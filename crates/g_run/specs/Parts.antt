@@ -1,94 +1,126 @@
--- A part of a run, from one world to another: the moves that were made, the disc, and what was put.
-use Rattle.std.specs.Prelude.{◌≡◌, ◌⊎◌, ℕ, false, List, [], ◌∷◌, ◌++◌, Option, Some, None, codes}
-use Rattle.g_base.specs.Counts.{Rose}
-use Rattle.g_disc.specs.Disc.{DiscState}
-use Rattle.g_io.specs.Streams.{with_more, HasPutPart}
-use Rattle.g_first.specs.Files.{File}
-use Rattle.g_first_script.specs.declared.script.Job.{Job}
-use Rattle.g_run.specs.declared.progress.Failure.{Failure}
-use Rattle.g_run.specs.declared.progress.Failure.TheVariants as failures
-use Rattle.g_run.specs.Texts.{operator_line}
-use Rattle.g_run.specs.World.{Between, World, Outcome, Plain, DiscRead, Cut, Store, Unknown, Up, Line, FormatLine, JobView, IsOn}
-use Rattle.g_run.specs.Run.{Move, Run, Counted}
-use Rattle.g_run.specs.Turn.{HasCause}
+-- PARTS OF A RUN: from each world that is what is at hand between two ticks there are moves to a world that is what is at hand then.
+use Rattle.std.specs.Prelude.{◌≡◌, ◌⊎◌, ℕ, ◌+◌, ◌≤◌, ◌||◌, Bool, true, false, nat_le, List, [], ◌∷◌, ◌++◌, length, Option, Some, None}
+use Rattle.std.specs.Fn.{Shared}
+use denote.Ref.{Bor}
+use Rattle.g_budget.specs.declared.tariff.Charge.{Charge}
+use Rattle.g_budget.specs.declared.tariff.Usage.{Usage}
+use Rattle.g_sched.specs.declared.rule.Standing.{Standing}
+use Rattle.g_io.specs.Streams.{HasPutPart, with_more}
+use Rattle.g_script.specs.declared.operator.Operator.{Operator}
+use Rattle.g_script.specs.declared.operator.Operator.TheVariants as line
+use Rattle.g_script.specs.declared.operator.Timed.{Timed}
+use Rattle.g_world.specs.Moves.{Move, MovesCounted, Run}
+use Rattle.g_world.specs.Top.{AreArmings}
+use Rattle.g_world.specs.World.{World, is_due, nothing_steps}
+use Rattle.g_crew.specs.Numbers.{AreOpen}
+use Rattle.g_console.specs.declared.progress.Failure.{Failure}
+use Rattle.g_console.specs.Parts.{IsReady, Matches, Seen}
+use Rattle.g_console.specs.Puts.{FaultCause}
+use Rattle.g_console.specs.System.{StandsAs, SystemBelongs, SystemFacts, devices_in}
+use Rattle.g_ticks.specs.Parts.{IsBetween, has_dump, left, some_job_steps}
 
--- the sink's count moves with a failed put alone
-abbrev pub FaultCause : Option Failure → ℕ → ℕ → Type 0
-FaultCause None old new = new ≡ old
-FaultCause (Some failures.Output) old new = Rose old new
-FaultCause (Some failures.Memory) old new = new ≡ old
+-- the turn from which on the first of some lines is due
+abbrev pub turn_of : List Timed → Option ℕ
+turn_of [] = None
+turn_of (next ∷ lines) = Some next.turn
 
--- a text was put whole, or, where there was a failure, in part
-abbrev pub PutsBy : Option Failure → List ℕ → Option (List ℕ) → Option (List ℕ) → Type 0
-PutsBy None text before after = after ≡ with_more before text
-PutsBy (Some failure) text before after = HasPutPart before text after
+-- the count has come to it
+abbrev pub is_past : Option ℕ → ℕ → Bool
+is_past None count = false
+is_past (Some turn) count = nat_le turn count
 
--- From one world the moves came to another: the disc is as that world says, and the text has grown.
-pub record Comes (w : World) (old new : DiscState) (added : List ℕ) (moves : List Move) (next : World) : Type 0 where
-  pub run : Run w moves next
-  pub counted : Counted moves old new
-  pub on : IsOn next.store new
-  pub text : next.text ≡ w.text ++ added
+-- something steps, whether devices tell or not: the open dump, or a job
+abbrev pub steps_in : Seen → Bool
+steps_in seen = has_dump seen.system || some_job_steps seen
 
--- nothing is left to do but to end
-pub record IsIdle (w next : World) : Type 0 where
-  pub lines : next.lines ≡ []
-  pub job : next.job ≡ None
-  pub over : next.over ≡ false
-  pub phase : next.phase ≡ Between
-  pub bad : next.bad ≡ w.bad
+-- what an operator may ask, within its limits
+abbrev pub IsWithin : Operator → Type 0
+IsWithin (line.Job name user time money lines) = ((1 ≤ time) × (time ≤ 1000000)) × (money ≤ 1000000)
+IsWithin (line.StopDisc k) = 1 ≤ k
+IsWithin (line.StopTape k) = 1 ≤ k
+IsWithin what = Unit {0}
 
--- all that could be done was done, and its text put
-abbrev pub Goes : World → DiscState → DiscState → Option (List ℕ) → Option (List ℕ) → Type 0
-Goes w old new before after = (moves : List Move) × (next : World) × (added : List ℕ) × Comes w old new added moves next × IsIdle w next × (after ≡ with_more before added)
+abbrev pub IsTimedWithin : Timed → Type 0
+IsTimedWithin next = IsWithin next.what
 
--- some of it was done, and a front part of its text put
-abbrev pub Breaks : World → DiscState → DiscState → Option (List ℕ) → Option (List ℕ) → Type 0
-Breaks w old new before after = (moves : List Move) × (next : World) × (added : List ℕ) × Comes w old new added moves next × HasPutPart before added after
+-- a line is due, or nothing steps
+abbrev pub IsAtRest : World → Type 0
+IsAtRest w = (is_due w ≡ true) ⊎ (nothing_steps w ≡ true)
 
--- as far as a failure lets it
-abbrev pub GoesBy : Option Failure → World → DiscState → DiscState → Option (List ℕ) → Option (List ℕ) → Type 0
-GoesBy None w old new before after = Goes w old new before after
-GoesBy (Some failure) w old new before after = Breaks w old new before after
+abbrev pub Anything : World → Type 0
+Anything w = Unit {0}
 
--- the world before a FORMAT line, with the lines behind it
-abbrev pub before_format : List Line → Option ℕ → World
-before_format rest bad = record { lines = FormatLine ∷ rest; bad = bad; count = 0; phase = Between; store = Unknown; job = None; text = []; over = false }
+module _ {F U : Type 0} (tariffs : Shared F (Bor Usage × Unit {0}) Charge) (tariff : F) (rules : Shared U (Bor Standing × Unit {0}) ℕ) (rule : U) where
+  -- Moves from one world to the next, for whose store the system stands; what the devices counted, and how often a line armed each of them; the
+  -- text is longer.
+  pub record Leads (w : World) (old new : SystemFacts) (moves : List Move) (next : World) (added : List ℕ) : Type 0 where
+    pub disc_arms : ℕ
+    pub tape_arms : ℕ
+    pub run : Run tariffs tariff rules rule w moves next
+    pub counted : MovesCounted moves disc_arms tape_arms (devices_in old) (devices_in new)
+    pub stands : StandsAs new next.store
+    pub bad : next.bad ≡ w.bad
+    pub over : next.over ≡ w.over
+    pub disc_stops : next.disc_stops ≡ w.disc_stops + disc_arms
+    pub tape_stops : next.tape_stops ≡ w.tape_stops + tape_arms
+    pub text : next.text ≡ w.text ++ added
 
-abbrev pub job_view : Job → ℕ → List ℕ → JobView
-job_view job used file = record { allowance = job.time; used = used; commands = job.document; file = file }
+  -- all was done, its text put, and these lines are left
+  pub record Arrives (Rests : World → Type 0) (w : World) (rest : List Timed) (old new : Seen) (before after : Option (List ℕ)) : Type 0 where
+    pub moves : List Move
+    pub next : World
+    pub added : List ℕ
+    pub leads : Leads w old.system new.system moves next added
+    pub matches : Matches next new
+    pub between : IsBetween next
+    pub lines : next.lines ≡ rest
+    pub rests : Rests next
+    pub put : after ≡ with_more before added
 
--- the world in which a job has used some turns
-abbrev pub job_world : Option ℕ → List ℕ → Job → List File → ℕ → List ℕ → World
-job_world bad text job files used file = record { lines = []; bad = bad; count = used; phase = Between; store = Up files; job = Some (job_view job used file); text = text; over = false }
+  -- some of it was done, and a front of its text put
+  pub record Breaks (w : World) (old new : SystemFacts) (before after : Option (List ℕ)) : Type 0 where
+    pub moves : List Move
+    pub next : World
+    pub added : List ℕ
+    pub leads : Leads w old new moves next added
+    pub put : HasPutPart before added after
 
--- what FORMAT tells the operator, and what the disc is then
-abbrev pub format_says : Outcome → List ℕ
-format_says Plain = codes "FORMATTED"
-format_says DiscRead = codes "REFUSED 14 DISC READ"
-format_says Cut = codes "SYSTEM STOPPED"
+  -- as far as a failure lets it
+  abbrev pub GoesBy : (World → Type 0) → World → List Timed → Seen → Option Failure → Seen → Option (List ℕ) → Option (List ℕ) → Type 0
+  GoesBy Rests w rest old None new before after = Arrives Rests w rest old new before after
+  GoesBy Rests w rest old (Some failure) new before after = Breaks w old.system new.system before after
 
-abbrev pub formatted : Outcome → Store
-formatted Plain = Up []
-formatted DiscRead = Unknown
-formatted Cut = Unknown
+  -- FROM EACH WORLD that is what is at hand, and has these lines left
+  abbrev pub PartGoes : (World → Type 0) → List Timed → List Timed → Seen → Option Failure → Seen → Option (List ℕ) → Option (List ℕ) → Type 0
+  PartGoes Rests lines rest old failure new before after =
+      (w : World) → Matches w old → IsBetween w → w.lines ≡ lines → GoesBy Rests w rest old failure new before after
 
--- FORMAT was done with this outcome
-pub record Formats (outcome : Outcome) (old new : DiscState) : Type 0 where
-  pub cause : HasCause outcome old new
-  pub on : IsOn (formatted outcome) new
+-- WHAT HOLDS OF ALL DEVICES behind a part that did some lines: all is ready for the next, unless it failed; the lines armed the devices; disc and
+-- rack go on belonging together; and the sink's count moves with its own failure
+pub record Keeps (done : List Timed) (old : Seen) (failure : Option Failure) (new : Seen) (faults faults' : ℕ) : Type 0 where
+  pub ready : failure ≡ None → IsReady new.system new.crew × AreOpen new.crew.jobs
+  pub numbers : failure ≡ None → new.crew.next_job ≤ old.crew.next_job + length done
+  pub arms : AreArmings done (failure ≡ None) (devices_in old.system) (devices_in new.system)
+  pub belongs : SystemBelongs old.system → SystemBelongs new.system
+  pub cause : FaultCause failure faults faults'
 
--- A FORMAT that was refused, or whose text wasn't put whole: nothing was done, or it was done with this outcome, which
--- isn't Plain unless the put failed.
-pub record IsUnformatted (failure : Option Failure) (outcome : Outcome) (old new : DiscState) (before after : Option (List ℕ)) : Type 0 where
-  pub formats : Formats outcome old new
-  pub put : PutsBy failure (operator_line 0 (format_says outcome)) before after
-  pub refused : failure ≡ None → outcome ≡ Plain → ⊥
+module _ {F U : Type 0} (tariffs : Shared F (Bor Usage × Unit {0}) Charge) (tariff : F) (rules : Shared U (Bor Standing × Unit {0}) ℕ) (rule : U) where
+  -- TICKS, as long as something steps, up to the turn of the next line
+  pub record DidTicks (Rests : World → Type 0) (limit : Option ℕ) (old : Seen) (failure : Option Failure) (new : Seen) (before after : Option (List ℕ)) (faults faults' : ℕ) : Type 0 where
+    pub goes : (lines : List Timed) → turn_of lines ≡ limit → PartGoes tariffs tariff rules rule Rests lines lines old failure new before after
+    pub keeps : Keeps [] old failure new faults faults'
 
-abbrev pub Unformatted : Option Failure → DiscState → DiscState → Option (List ℕ) → Option (List ℕ) → Type 0
-Unformatted failure old new before after = ((failure ≡ Some failures.Memory) × HasCause Plain old new × (after ≡ before))
-    ⊎ ((outcome : Outcome) × IsUnformatted failure outcome old new before after)
+  -- ONE TICK, and less is left to do
+  pub record DidOne (limit : Option ℕ) (old : Seen) (failure : Option Failure) (new : Seen) (before after : Option (List ℕ)) (faults faults' : ℕ) : Type 0 where
+    pub did : DidTicks Anything limit old failure new before after faults faults'
+    pub falls : failure ≡ None → left new + 1 ≤ left old
 
--- the world behind a FORMAT that came out so
-abbrev pub after_format_line : List Line → Option ℕ → Outcome → World
-after_format_line rest bad outcome = record { lines = rest; bad = bad; count = 0; phase = Between; store = formatted outcome; job = None; text = operator_line 0 (format_says outcome); over = false }
+  -- THESE LINES, each when it is due or nothing steps
+  pub record DidLines (done : List Timed) (old : Seen) (failure : Option Failure) (new : Seen) (before after : Option (List ℕ)) (faults faults' : ℕ) : Type 0 where
+    pub goes : (rest : List Timed) → PartGoes tariffs tariff rules rule Anything (done ++ rest) rest old failure new before after
+    pub keeps : Keeps done old failure new faults faults'
+
+  -- ALL OF THEM, and nothing steps behind them
+  pub record DidAll (lines : List Timed) (old : Seen) (failure : Option Failure) (new : Seen) (before after : Option (List ℕ)) (faults faults' : ℕ) : Type 0 where
+    pub goes : PartGoes tariffs tariff rules rule IsAtRest lines [] old failure new before after
+    pub keeps : Keeps lines old failure new faults faults'

@@ -1,17 +1,21 @@
 -- What the top call answers: each status with its cause, and with what stands then.
-use Rattle.std.specs.Prelude.{◌≡◌, ◌⊎◌, ◌<◌, ℕ, List, Option, Some, None, length, codes}
+use Rattle.std.specs.Prelude.{◌≡◌, ◌<◌, ℕ, List, Option, Some, None, length}
+use Rattle.std.specs.Fn.{Shared}
+use denote.Ref.{Bor}
 use Rattle.g_base.specs.Counts.{Rose}
-use Rattle.g_disc.specs.Disc.{DiscState}
-use Rattle.g_io.specs.Streams.{with_more, HasPutPart}
-use Rattle.g_first_script.specs.Lines.{lines_of}
-use Rattle.g_first_script.specs.Script.{IsParsed}
-use Rattle.g_first_script.specs.declared.script.Work.{Work}
+use Rattle.g_budget.specs.declared.tariff.Charge.{Charge}
+use Rattle.g_budget.specs.declared.tariff.Usage.{Usage}
+use Rattle.g_sched.specs.declared.rule.Standing.{Standing}
+use Rattle.g_io.specs.Streams.{with_more}
+use Rattle.g_lines.specs.Lines.{lines_of}
+use Rattle.g_script.specs.Script.{IsParsed}
+use Rattle.g_script.specs.declared.operator.Timed.{Timed}
+use Rattle.g_world.specs.Devices.{Devices}
+use Rattle.g_world.specs.Top.{EndsShort, EndsWhole, IsCut, words_line}
+use Rattle.g_console.specs.declared.progress.Failure.{Failure}
+use Rattle.g_console.specs.declared.progress.Failure.TheVariants as failures
 use Rattle.g_run.specs.declared.status.Status.{Status}
 use Rattle.g_run.specs.declared.status.Status.TheVariants.{Done, Words, BadScript, ScriptFault, OutputFault, NoMemory, TooLong}
-use Rattle.g_run.specs.declared.progress.Failure.{Failure}
-use Rattle.g_run.specs.declared.progress.Failure.TheVariants as failures
-use Rattle.g_run.specs.Texts.{ended_line}
-use Rattle.g_run.specs.Ends.{EndsWhole, EndsShort}
 
 abbrev pub code_of : Status → ℕ
 code_of Done = 0
@@ -42,9 +46,6 @@ SinkCause ScriptFault old new = new ≡ old
 SinkCause NoMemory old new = new ≡ old
 SinkCause TooLong old new = new ≡ old
 
-abbrev pub words_line : List ℕ
-words_line = ended_line (codes "WORDS NOT KNOWN")
-
 -- the statuses of a script that was read whole and done to its end, or to its first bad line
 abbrev pub IsThrough : Status → Type 0
 IsThrough Done = Unit {0}
@@ -55,8 +56,8 @@ IsThrough OutputFault = ⊥
 IsThrough NoMemory = ⊥
 IsThrough TooLong = ⊥
 
--- with the statuses at which nothing was done the disc is as it was, and no more was put than the line of unknown words
-abbrev pub IsQuiet : Status → DiscState → DiscState → Option (List ℕ) → Option (List ℕ) → Type 0
+-- with the statuses at which nothing was done both devices are as they were, and no more was put than the line of unknown words
+abbrev pub IsQuiet : Status → Devices → Devices → Option (List ℕ) → Option (List ℕ) → Type 0
 IsQuiet Words old new before after = (new ≡ old) × (after ≡ with_more before words_line)
 IsQuiet ScriptFault old new before after = (new ≡ old) × (after ≡ before)
 IsQuiet TooLong old new before after = (new ≡ old) × (after ≡ before)
@@ -65,20 +66,22 @@ IsQuiet (BadScript line) old new before after = Unit {0}
 IsQuiet OutputFault old new before after = Unit {0}
 IsQuiet NoMemory old new before after = Unit {0}
 
--- The run was cut short: before anything was done; or in the line of unknown words; or behind some of its events.
-abbrev pub IsCut : List ℕ → DiscState → DiscState → Option (List ℕ) → Option (List ℕ) → Type 0
-IsCut left old new before after = ((new ≡ old) × HasPutPart before words_line after)
-    ⊎ ((work : Work) × (bad : Option ℕ) × IsParsed (lines_of left) work bad × EndsShort work bad old new before after)
+module _ {F U : Type 0} (tariffs : Shared F (Bor Usage × Unit {0}) Charge) (tariff : F) (rules : Shared U (Bor Standing × Unit {0}) ℕ) (rule : U) where
+  -- WHAT STANDS WITH EACH STATUS of a run, where the source told that it had these bytes left.
+  abbrev pub EndsAs : Status → List ℕ → Devices → Devices → Option (List ℕ) → Option (List ℕ) → Type 0
+  EndsAs Done left old new before after = (lines : List Timed) × IsParsed (lines_of left) lines None × EndsWhole tariffs tariff rules rule lines None old new before after
+  EndsAs (BadScript line) left old new before after =
+      (lines : List Timed) × IsParsed (lines_of left) lines (Some line) × EndsWhole tariffs tariff rules rule lines (Some line) old new before after
+  EndsAs OutputFault left old new before after = IsCut tariffs tariff rules rule left old new before after
+  EndsAs NoMemory left old new before after = IsCut tariffs tariff rules rule left old new before after
+  EndsAs TooLong left old new before after = 16777216 < length left
+  EndsAs Words left old new before after = Unit {0}
+  EndsAs ScriptFault left old new before after = Unit {0}
 
--- What stands with each status, where the source told that it had these bytes left.
-abbrev pub EndsAs : Status → List ℕ → DiscState → DiscState → Option (List ℕ) → Option (List ℕ) → Type 0
-EndsAs Done left old new before after = (work : Work) × IsParsed (lines_of left) work None × EndsWhole work None old new before after
-EndsAs (BadScript line) left old new before after = (work : Work) × IsParsed (lines_of left) work (Some line) × EndsWhole work (Some line) old new before after
-EndsAs OutputFault left old new before after = IsCut left old new before after
-EndsAs NoMemory left old new before after = IsCut left old new before after
-EndsAs TooLong left old new before after = 16777216 < length left
-EndsAs Words left old new before after = Unit {0}
-EndsAs ScriptFault left old new before after = Unit {0}
+  -- A script that was read, done to its end or as far as a failure lets it
+  abbrev pub EndsBy : Option Failure → List Timed → Option ℕ → Devices → Devices → Option (List ℕ) → Option (List ℕ) → Type 0
+  EndsBy None lines bad old new before after = EndsWhole tariffs tariff rules rule lines bad old new before after
+  EndsBy (Some failure) lines bad old new before after = EndsShort tariffs tariff rules rule lines bad old new before after
 
 -- a script that is too long gives no other statuses than these
 abbrev pub IsNotDone : Status → Type 0

@@ -1,19 +1,16 @@
-//! The run: a script read whole, done line by line and turn by turn, and its text put.
+//! The run: a script read whole, its lines done when they are due, a tick as long as something can step, and its text put.
 #![tactic(auto)]
 
+mod came;
 mod input;
-mod job;
-mod law;
-mod operator;
-mod progress;
-mod run;
+mod lining;
+mod over;
+mod script;
 mod status;
 #[cfg(test)]
 mod tests;
-mod texts;
+mod ticks;
 mod top;
-mod turn;
 
-pub use law::one_text;
 pub use status::Status;
-pub use top::george;
+pub use top::{Finish, george};

@@ -1,70 +1,132 @@
-//! The top call: the words of the command line, a script, a text and a disc.
+//! The top call: the words of the command line, a script, a text, a disc and a rack of tapes.
 ghost use Rattle.std.specs.Prelude.{◌≡◌, ◌<◌, ◌≤◌, ℕ, List, [], Option, Some, drop, length};
 ghost use Rattle.g_base.specs.Counts.{Rose};
+ghost use Rattle.g_budget.specs.Tariff.{IsTariff};
+ghost use Rattle.g_console.specs.System.{BelongTogether};
+ghost use Rattle.g_lines.specs.Lines.{lines_of};
+ghost use Rattle.g_sched.specs.Rule.{IsWeighRule};
+ghost use Rattle.g_script.specs.Script.{IsParsed};
+ghost use Rattle.g_script.specs.declared.operator.Timed.{Timed};
+ghost use Rattle.g_world.specs.Top.{AreArmings, IsCutWords};
 ghost use Rattle.g_run.specs.Input.{IsRun};
-ghost use Rattle.g_run.specs.Parts.{FaultCause, PutsBy};
+ghost use Rattle.g_run.specs.Over.{both};
 ghost use Rattle.g_run.specs.Top as top;
 
 use crate::input::{Unread, is_run, read_script};
-use crate::progress::{Failure, Progress, put};
-use crate::run::run_script;
+use crate::over::{Over, run_script};
 use crate::status::Status;
 use g_base::NoMemory;
+use g_budget::{Charge, Tariff, Usage};
+use g_console::{Failure, put};
 use g_disc::Disc;
-use g_first_script::parse_script;
 use g_io::{Sink, Source};
+use g_sched::{Standing, WeighRule};
+use g_script::parse_script;
+use g_tape::Tapes;
 use std::alloc::Global;
 
-/// Runs the script that the source has left, puts its text to the sink and keeps its files on the disc, which has more
-/// than 2,177 blocks and is handed back with every status.
+/// The end of a run: its status, and both devices, which are handed back with every status.
+#[derive(Drop)]
+pub struct Finish<D: Disc, T: Tapes> {
+    pub status: Status,
+    pub disc: D,
+    pub tapes: T,
+}
+
+/// Runs the script that the source has left, puts its text to the sink and keeps its files on the disc, which has 2,178 to
+/// 1,048,576 blocks, and on the reels of the rack. Jobs are charged by the tariff and take their turns by the weigh rule.
 ///
-/// The words are looked at first. The script is read whole before anything is done.
-pub fn george<S: Source, K: Sink, D: Disc>(
+/// The words are looked at first. The script is read whole before anything is done (docs/MANUAL.md, "Exit status").
+pub fn george<
+    S: Source,
+    K: Sink,
+    D: Disc,
+    T: Tapes,
+    F: Fn(&Usage) -> Charge,
+    U: Fn(&Standing) -> u64,
+>(
     alloc: Global,
     words: &[&str],
     script: &mut S,
     out: &mut K,
     disc: D,
-) -> (Status, D)
-    requires size { 2177 < (D.state disc).size }
+    tapes: T,
+    tariff: &Tariff<F>,
+    weigh: &WeighRule<U>,
+) -> Finish<D, T>
+    requires size { (2177 < (D.state disc).size) × ((D.state disc).size ≤ 1048576) }
+    requires tariff { IsTariff F.Fn tariff.now }
+    requires rule { IsWeighRule U.Fn weigh.now }
 
     // Which statuses come with which words, and when a script is too long.
-    ensures unknown { (IsRun words.now → ⊥) → top.IsOfWords result.0 }
-    ensures known { IsRun words.now → top.IsOfRun result.0 }
-    ensures long { (left : List ℕ) → S.left script.old ≡ Some left → IsRun words.now → 16777216 < length left → top.IsNotDone result.0 }
+    ensures unknown { (IsRun words.now → ⊥) → top.IsOfWords result.status }
+    ensures known { IsRun words.now → top.IsOfRun result.status }
+    ensures long { (left : List ℕ) → S.left script.old ≡ Some left → IsRun words.now → 16777216 < length left → top.IsNotDone result.status }
     ensures complete { (left : List ℕ) → S.left script.old ≡ Some left → IsRun words.now → length left ≤ 16777216 →
-        (Rose (S.faults script.old) (S.faults script.new) → ⊥) → (Rose (K.faults out.old) (K.faults out.new) → ⊥) → top.IsComplete result.0 }
+        (Rose (S.faults script.old) (S.faults script.new) → ⊥) → (Rose (K.faults out.old) (K.faults out.new) → ⊥) → top.IsComplete result.status }
 
     // What was read of the source.
     ensures unread { (IsRun words.now → ⊥) → S.left script.new ≡ S.left script.old }
     ensures taken { (left : List ℕ) → S.left script.old ≡ Some left → (n : ℕ) × (n ≤ 16777217) × (S.left script.new ≡ Some (drop n left)) }
-    ensures whole { top.IsThrough result.0 → (left : List ℕ) → S.left script.old ≡ Some left → S.left script.new ≡ Some [] }
+    ensures whole { top.IsThrough result.status → (left : List ℕ) → S.left script.old ≡ Some left → S.left script.new ≡ Some [] }
 
     // Each fault has its cause.
-    ensures source { top.SourceCause result.0 (S.faults script.old) (S.faults script.new) }
-    ensures sink { top.SinkCause result.0 (K.faults out.old) (K.faults out.new) }
+    ensures source { top.SourceCause result.status (S.faults script.old) (S.faults script.new) }
+    ensures sink { top.SinkCause result.status (K.faults out.old) (K.faults out.new) }
 
-    // What was written, and what the disc is then.
-    ensures quiet { top.IsQuiet result.0 (D.state disc) (D.state result.1) (K.written out.old) (K.written out.new) }
-    ensures ends { (left : List ℕ) → S.left script.old ≡ Some left →
-        top.EndsAs result.0 left (D.state disc) (D.state result.1) (K.written out.old) (K.written out.new) }
+    // What was written, and what both devices are then.
+    ensures quiet { top.IsQuiet result.status (both (D.state disc) (T.rack tapes)) (both (D.state result.disc) (T.rack result.tapes)) (K.written out.old) (K.written out.new) }
+    ensures ends { IsRun words.now → (left : List ℕ) → S.left script.old ≡ Some left →
+        top.EndsAs F.Fn tariff.now U.Fn weigh.now result.status left (both (D.state disc) (T.rack tapes)) (both (D.state result.disc) (T.rack result.tapes))
+        (K.written out.old) (K.written out.new) }
+    ensures words { (IsRun words.now → ⊥)
+        → IsCutWords (both (D.state disc) (T.rack tapes)) (both (D.state result.disc) (T.rack result.tapes)) (K.written out.old) (K.written out.new) }
+
+    // Of all devices, told or not, and with every status: who was armed, and that disc and rack go on belonging together.
+    ensures arms { (left : List ℕ) → S.left script.old ≡ Some left → (lines : List Timed) (bad : Option ℕ) → IsParsed (lines_of left) lines bad →
+        AreArmings lines (top.IsThrough result.status) (both (D.state disc) (T.rack tapes)) (both (D.state result.disc) (T.rack result.tapes)) }
+    ensures belongs { BelongTogether (both (D.state disc) (T.rack tapes)) → BelongTogether (both (D.state result.disc) (T.rack result.tapes)) }
 {
     if !is_run(words) {
         let failure = put(out, b"WORDS NOT KNOWN\n");
-        return (words_status(failure), disc);
+        return Finish {
+            status: words_status(failure),
+            disc,
+            tapes,
+        };
     }
     let bytes = match read_script(alloc, script) {
         Ok(bytes) => bytes,
-        Err(Unread::Fault) => return (Status::ScriptFault, disc),
-        Err(Unread::TooLong) => return (Status::TooLong, disc),
-        Err(Unread::NoMemory) => return (Status::NoMemory, disc),
+        Err(Unread::Fault) => return not_begun(Status::ScriptFault, disc, tapes),
+        Err(Unread::TooLong) => return not_begun(Status::TooLong, disc, tapes),
+        Err(Unread::NoMemory) => return not_begun(Status::NoMemory, disc, tapes),
     };
     let parsed = match parse_script(alloc, &bytes) {
         Ok(parsed) => parsed,
-        Err(NoMemory) => return (Status::NoMemory, disc),
+        Err(NoMemory) => return not_begun(Status::NoMemory, disc, tapes),
     };
-    let Progress { disc, failure } = run_script(alloc, &parsed, out, disc);
-    (run_status(parsed.bad, failure), disc)
+    let bad = parsed.bad;
+    let Over {
+        disc,
+        tapes,
+        failure,
+    } = run_script(alloc, parsed, out, disc, tapes, tariff, weigh);
+    Finish {
+        status: run_status(bad, failure),
+        disc,
+        tapes,
+    }
+}
+
+/// Nothing was done.
+fn not_begun<D: Disc, T: Tapes>(status: Status, disc: D, tapes: T) -> Finish<D, T>
+    ensures { result ≡ record { status = status; disc = disc; tapes = tapes } }
+{
+    Finish {
+        status,
+        disc,
+        tapes,
+    }
 }
 
 /// The status where the words aren't known.

@@ -1,3 +1,0 @@
-pub mod Files
-pub mod Image
-pub mod Store

@@ -1,5 +1,0 @@
-use Rattle.g_first_script.proofs.OneReading.{reading_unique}
-use Rattle.g_first_script.proofs.law.one_reading.Goals as goal
-
-pub returns : goal.returns
-returns c = reading_unique

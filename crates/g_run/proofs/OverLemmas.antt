@@ -1,0 +1,234 @@
+-- The end of a run, behind all its lines, and both devices behind it.
+use Rattle.std.proofs.Common.{◌≡◌, ◌⊎◌, ◌+◌, ◌<◌, ◌≤◌, ◌++◌, ℕ, Bool, true, false, List, [], ◌∷◌, Option, Some, None, is_some, append_assoc, refl, sym, ◌∙◌, ap, subst, inl, inr, arith}
+use Rattle.std.specs.Prelude.{option_map}
+use Rattle.std.specs.Fn.{Shared}
+use denote.Ref.{Bor}
+use Rattle.std.proofs.lemmas.Bool.{cases_Bool}
+use Rattle.g_budget.specs.declared.tariff.Charge.{Charge}
+use Rattle.g_budget.specs.declared.tariff.Usage.{Usage}
+use Rattle.g_sched.specs.declared.rule.Standing.{Standing}
+use Rattle.g_disc.specs.Disc.{DiscState}
+use Rattle.g_contents.specs.Contents.{Contents}
+use Rattle.g_io.specs.Streams.{HasPutPart, with_more}
+use Rattle.g_job.specs.State.{JobState}
+use Rattle.g_script.specs.declared.operator.Timed.{Timed}
+use Rattle.g_state.specs.Meaning.{told_reels}
+use Rattle.g_state.specs.Reading.{DevicesStandFor, View, holding_of, state_down, StandsForState}
+use Rattle.g_state.specs.Up.{StoreFacts}
+use Rattle.g_step.specs.CallStep.{Plain, down, no_longer_kept}
+use Rattle.g_step.specs.State.{Holding, State}
+use Rattle.g_store.proofs.ArmLemmas.{spent_stands}
+use Rattle.g_tape.specs.Rack.{Rack}
+use Rattle.g_tape.specs.Reel.{Reel}
+use Rattle.g_world.specs.Devices.{Devices, StandFor}
+use Rattle.g_world.specs.Moves.{Move, MovesCounted, Over, Run}
+use Rattle.g_world.specs.Texts.{closing, waiting_files}
+use Rattle.g_world.specs.Top.{AreArmings, EndsShort, EndsWhole, RunOf}
+use Rattle.g_world.specs.World.{Between, World, closed, is_due, nothing_steps, start}
+use Rattle.g_world.proofs.CountLemmas.{counted_of, event_none, move_counted, moves_then}
+use Rattle.g_world.proofs.TickLemmas.{over_move}
+use Rattle.g_world.proofs.TurnLemmas.{run_append}
+use Rattle.g_crew.specs.Crew.{CrewState}
+use Rattle.g_console.specs.declared.progress.Failure.{Failure}
+use Rattle.g_console.specs.Parts.{Matches, Seen, seen}
+use Rattle.g_console.specs.Puts.{FaultCause, Puts, PutsBy}
+use Rattle.g_console.specs.System.{BelongTogether, Down, StandsAs, SystemBelongs, SystemFacts, Up, devices_in}
+use Rattle.g_ticks.specs.Parts.{IsBetween}
+use Rattle.g_ticks.proofs.TickLemmas.{put_on, with_more-append}
+use Rattle.g_run.specs.Over.{ClosesBy, DidScript, TakenDown, both}
+use Rattle.g_run.specs.Parts.{Arrives, Breaks, DidAll, IsAtRest, Keeps, Leads}
+use Rattle.g_run.specs.Top.{EndsBy}
+
+-- A STATE OF DEVICES is down already
+kept_nothing : (text : ℕ → List ℕ) (c : Option Contents) → option_map no_longer_kept (option_map (holding_of text []) c) ≡ option_map (holding_of text []) c
+kept_nothing text None = refl
+kept_nothing text (Some c) = refl
+
+down_of : (v : View) (reels : List Reel) (size : ℕ) (c : Option Contents) → down (state_down v reels size c) ≡ state_down v reels size c
+down_of v reels size c = ap (λ (h : Option Holding). let s : State = record (state_down v reels size c) { holding = h } in s) (kept_nothing v.text c)
+
+pub down_same : (d : Devices) (u : State) → StandFor d u → down u ≡ u
+down_same d u is =
+    let r = is.reads in
+    ap down r.state_is ∙ down_of r.view (told_reels d.rack) d.disc.size r.contents ∙ sym r.state_is
+
+devices_down : (d : Devices) (u : State) → StandFor d u → StandFor d (down u)
+devices_down d u is = subst (λ (s : State). StandFor d s) (sym (down_same d u is)) is
+
+-- a store that is up
+up_down : (s : StoreFacts) → (is_some s.online.disc.held ≡ true → s.spent ≡ false → (u : State) → StandsForState s u → DevicesStandFor s.online.disc.size s.online.disc.held (told_reels s.rack) (down u))
+    → (u : State) → StandsAs (Up s) u → (let d : Devices = record { disc = s.online.disc; rack = s.rack } in StandFor d (down u))
+up_down s clause u now = by (cases_Bool s.spent)
+  where
+    by : (s.spent ≡ true) ⊎ (s.spent ≡ false) → (let d : Devices = record { disc = s.online.disc; rack = s.rack } in StandFor d (down u))
+    by (inl spent) =
+        let d : Devices = record { disc = s.online.disc; rack = s.rack } in
+        let is : StandFor d u = record { told = now.told; belong = now.belongs.devices; reads = spent_stands s spent u now.stands } in devices_down d u is
+    by (inr unspent) = record { told = now.told; belong = now.belongs.devices; reads = clause now.told.disc unspent u now.stands }
+
+pub up_taken_down : (s : StoreFacts) → (is_some s.online.disc.held ≡ true → s.spent ≡ false → (u : State) → StandsForState s u → DevicesStandFor s.online.disc.size s.online.disc.held (told_reels s.rack) (down u))
+    → (disc : DiscState) (rack : Rack) → disc ≡ s.online.disc → rack ≡ s.rack → TakenDown (Up s) (both disc rack)
+up_taken_down s clause disc rack disc_is rack_is =
+    subst (λ (r : Rack). TakenDown (Up s) (both disc r)) (sym rack_is)
+    (subst (λ (d : DiscState). TakenDown (Up s) (both d s.rack)) (sym disc_is) (record { devices = refl; stands = up_down s clause }))
+
+pub down_taken_down : (d : Devices) → TakenDown (Down d) d
+down_taken_down d = record { devices = refl; stands = λ u is. devices_down d u is.1 }
+
+belongs_of : (f : SystemFacts) → SystemBelongs f → BelongTogether (devices_in f)
+belongs_of (Up s) is = record { told = is.0; belong = is.1.devices }
+belongs_of (Down d) is = is
+
+-- before anything is done
+abbrev nobody : CrewState
+nobody = record { jobs = []; accounts = []; next_job = 1 }
+
+module _ {F U : Type 0} (tariffs : Shared F (Bor Usage × Unit {0}) Charge) (tariff : F) (rules : Shared U (Bor Standing × Unit {0}) ℕ) (rule : U)
+    (lines : List Timed) (bad : Option ℕ) (old : Devices) (f : SystemFacts) (c : CrewState) (count : ℕ) (new : Devices) (down_is : TakenDown f new) where
+  abbrev before_all : Seen
+  before_all = seen (Down old) nobody 0
+
+  matches_start : (s : State) → s.up ≡ false → StandFor old s → Matches (start lines bad s) before_all
+  matches_start s is_down stands = record {
+    stands = (is_down, stands);
+    crew = record { jobs = refl; accounts = λ user. refl; next_job = refl };
+    count = refl;
+  }
+
+  -- what was counted of a run from the start
+  counted_from : (s : State) (moves : List Move) (last : World) (added : List ℕ) → Leads tariffs tariff rules rule (start lines bad s) (Down old) f moves last added
+      → MovesCounted moves last.disc_stops last.tape_stops old new
+  counted_from s moves last added leads =
+      let discs : last.disc_stops ≡ leads.disc_arms = let d : last.disc_stops ≡ 0 + leads.disc_arms = leads.disc_stops in omega (arith, d) in
+      let tapes : last.tape_stops ≡ leads.tape_arms = let t : last.tape_stops ≡ 0 + leads.tape_arms = leads.tape_stops in omega (arith, t) in
+      subst (λ (d : Devices). MovesCounted moves last.disc_stops last.tape_stops old d) (sym down_is.devices)
+      (subst (λ (n : ℕ). MovesCounted moves n last.tape_stops old (devices_in f)) (sym discs)
+      (subst (λ (n : ℕ). MovesCounted moves leads.disc_arms n old (devices_in f)) (sym tapes) leads.counted))
+
+  -- CUT SHORT before its end
+  ends_short : (failure : Failure) (before after : Option (List ℕ)) (faults faults' : ℕ) → DidAll tariffs tariff rules rule lines before_all (Some failure) (seen f c count) before after faults faults'
+      → EndsShort tariffs tariff rules rule lines bad old new before after
+  ends_short failure before after faults faults' did = λ s is_down stands.
+      let b = did.goes (start lines bad s) (matches_start s is_down stands) (record { phase = refl; turn = refl }) refl in (
+        b.moves,
+        b.next,
+        record {
+          run = b.leads.run;
+          counted = counted_of b.moves b.next old new (counted_from s b.moves b.next b.added b.leads);
+          stands = down_is.stands b.next.store b.leads.stands;
+        },
+        subst (λ (t : List ℕ). HasPutPart before t after) (sym b.leads.text) b.put,
+      )
+
+  false_true : false ≡ true → ⊥
+  false_true e = cc
+
+  due_none : (w : World) (left : List Timed) → left ≡ [] → (let v : World = record w { lines = left } in is_due v ≡ false)
+  due_none w left is = ap (λ (ls : List Timed). let v : World = record w { lines = ls } in is_due v) is
+
+  -- nothing steps where no line is left and all is at rest
+  nothing_left : (w : World) → w.lines ≡ [] → IsAtRest w → nothing_steps w ≡ true
+  nothing_left w none (inl due) = absurd (false_true (sym (due_none w w.lines none) ∙ due))
+  nothing_left w none (inr still) = still
+
+  -- THE LAST MOVE
+  record Closes (s : State) (before middle : Option (List ℕ)) : Type 0 where
+    moves : List Move
+    last : World
+    added : List ℕ
+    run_of : RunOf tariffs tariff rules rule lines bad s old new moves last
+    over : last.over ≡ true
+    text : last.text ≡ added ++ (waiting_files c.jobs ++ closing bad)
+    put : middle ≡ with_more before added
+
+  closes : (before middle : Option (List ℕ)) (faults faults' : ℕ) → DidAll tariffs tariff rules rule lines before_all None (seen f c count) before middle faults faults'
+      → (s : State) → s.up ≡ false → StandFor old s → Closes s before middle
+  closes before middle faults faults' did s is_down stands =
+      let a = did.goes (start lines bad s) (matches_start s is_down stands) (record { phase = refl; turn = refl }) refl in record {
+        moves = a.moves ++ Over ∷ [];
+        last = closed a.next;
+        added = a.added;
+        run_of = record {
+          run = run_append tariffs tariff rules rule (start lines bad s) a.moves (Over ∷ []) a.next (closed a.next) a.leads.run
+              (over_move tariffs tariff rules rule a.next a.between.phase a.between.turn a.lines (nothing_left a.next a.lines a.rests) a.leads.over);
+          counted = counted_of (a.moves ++ Over ∷ []) (closed a.next) old new (over_counted a.moves a.next a.added s a.leads);
+          stands = down_is.stands a.next.store a.leads.stands;
+        };
+        over = refl;
+        text = ap (λ (t : List ℕ). (t ++ waiting_files a.next.jobs) ++ closing a.next.bad) a.leads.text
+            ∙ append_assoc a.added (waiting_files a.next.jobs) (closing a.next.bad)
+            ∙ ap (λ (js : List JobState). a.added ++ (waiting_files js ++ closing a.next.bad)) a.matches.crew.jobs
+            ∙ ap (λ (b : Option ℕ). a.added ++ (waiting_files c.jobs ++ closing b)) a.leads.bad;
+        put = a.put;
+      }
+    where
+      over_counted : (moves : List Move) (last : World) (added : List ℕ) (s : State) → Leads tariffs tariff rules rule (start lines bad s) (Down old) f moves last added
+          → MovesCounted (moves ++ Over ∷ []) last.disc_stops last.tape_stops old new
+      over_counted moves last added s leads =
+          let discs : last.disc_stops ≡ last.disc_stops + 0 = omega arith in
+          let tapes : last.tape_stops ≡ last.tape_stops + 0 = omega arith in
+          subst (λ (n : ℕ). MovesCounted (moves ++ Over ∷ []) n last.tape_stops old new) (sym discs)
+          (subst (λ (n : ℕ). MovesCounted (moves ++ Over ∷ []) (last.disc_stops + 0) n old new) (sym tapes)
+          (moves_then moves (Over ∷ []) last.disc_stops last.tape_stops 0 0 old new new (counted_from s moves last added leads) (move_counted Over 0 0 new new (event_none new))))
+
+  ends_closed : (failure : Option Failure) (before middle after : Option (List ℕ)) (faults faults' : ℕ) → DidAll tariffs tariff rules rule lines before_all None (seen f c count) before middle faults faults'
+      → PutsBy failure (waiting_files c.jobs ++ closing bad) middle after → EndsBy tariffs tariff rules rule failure lines bad old new before after
+  ends_closed None before middle after faults faults' did put = λ s is_down stands.
+      let z = closes before middle faults faults' did s is_down stands in (
+        z.moves,
+        z.last,
+        z.run_of,
+        z.over,
+        put ∙ ap (λ (t : Option (List ℕ)). with_more t (waiting_files c.jobs ++ closing bad)) z.put ∙ with_more-append before z.added (waiting_files c.jobs ++ closing bad)
+            ∙ ap (λ (t : List ℕ). with_more before t) (sym z.text),
+      )
+  ends_closed (Some failure) before middle after faults faults' did put = λ s is_down stands.
+      let z = closes before middle faults faults' did s is_down stands in (
+        z.moves,
+        z.last,
+        z.run_of,
+        subst (λ (t : List ℕ). HasPutPart before t after) (sym z.text) (put_on before middle after z.added (waiting_files c.jobs ++ closing bad) z.put put),
+      )
+
+  -- what holds of all devices
+  belongs_down : (failure : Option Failure) (faults faults' : ℕ) → Keeps lines before_all failure (seen f c count) faults faults' → BelongTogether old → BelongTogether new
+  belongs_down failure faults faults' keeps was = subst (λ (d : Devices). BelongTogether d) (sym down_is.devices) (belongs_of f (keeps.belongs was))
+
+  -- A SCRIPT, cut short before its end
+  pub script_short : (failure : Failure) (before after : Option (List ℕ)) (faults faults' : ℕ) → DidAll tariffs tariff rules rule lines before_all (Some failure) (seen f c count) before after faults faults'
+      → DidScript tariffs tariff rules rule lines bad old (Some failure) new before after faults faults'
+  script_short failure before after faults faults' did = record {
+    ends = ends_short failure before after faults faults' did;
+    arms = subst (λ (d : Devices). AreArmings lines ((let g : Option Failure = Some failure in g) ≡ None) old d) (sym down_is.devices) did.keeps.arms;
+    belongs = belongs_down (Some failure) faults faults' did.keeps;
+    cause = did.keeps.cause;
+  }
+
+  -- and one that came to it
+  pub script_closed : (failure : Option Failure) (before middle after : Option (List ℕ)) (faults faults1 faults2 : ℕ)
+      → DidAll tariffs tariff rules rule lines before_all None (seen f c count) before middle faults faults1
+      → Puts failure (waiting_files c.jobs ++ closing bad) middle after faults1 faults2 → DidScript tariffs tariff rules rule lines bad old failure new before after faults faults2
+  script_closed failure before middle after faults faults1 faults2 did puts = record {
+    ends = ends_closed failure before middle after faults faults1 did puts.put;
+    arms = record {
+      disc = arms.disc;
+      tape = arms.tape;
+      all_disc = λ went. arms.all_disc refl;
+      all_tape = λ went. arms.all_tape refl;
+    };
+    belongs = belongs_down None faults faults1 did.keeps;
+    cause = subst (λ (n : ℕ). FaultCause failure n faults2) did.keeps.cause puts.cause;
+  }
+    where
+      arms : (let g : Option Failure = None in AreArmings lines (g ≡ None) old new)
+      arms = subst (λ (d : Devices). let g : Option Failure = None in AreArmings lines (g ≡ None) old d) (sym down_is.devices) did.keeps.arms
+
+  -- THE END
+  pub script_over : (came failure : Option Failure) (before middle after : Option (List ℕ)) (faults faults1 faults2 : ℕ)
+      → DidAll tariffs tariff rules rule lines before_all came (seen f c count) before middle faults faults1
+      → ClosesBy came (waiting_files c.jobs ++ closing bad) failure middle after faults1 faults2 → DidScript tariffs tariff rules rule lines bad old failure new before after faults faults2
+  script_over None failure before middle after faults faults1 faults2 did puts = script_closed failure before middle after faults faults1 faults2 did puts
+  script_over (Some came) failure before middle after faults faults1 faults2 did (is, same, still) =
+      subst (λ (g : Option Failure). DidScript tariffs tariff rules rule lines bad old g new before after faults faults2) (sym is)
+      (subst (λ (t : Option (List ℕ)). DidScript tariffs tariff rules rule lines bad old (Some came) new before t faults faults2) (sym same)
+      (subst (λ (n : ℕ). DidScript tariffs tariff rules rule lines bad old (Some came) new before middle faults n) (sym still) (script_short came before middle faults faults1 did)))

@@ -1,0 +1,176 @@
+-- One tick, and the count behind it.
+use Rattle.std.proofs.Common.{◌≡◌, ◌⊎◌, ◌+◌, ◌≤◌, ◌++◌, ℕ, Bool, true, false, not, List, [], ◌∷◌, Option, Some, None, length, take, refl, sym, ◌∙◌, ap, subst, inl, inr, arith, if◌then◌else◌}
+use Rattle.std.specs.Prelude.{◌||◌}
+use Rattle.std.specs.Fn.{Shared}
+use Rattle.std.proofs.lemmas.List.{take_all}
+use denote.Ref.{Bor}
+use Rattle.g_budget.specs.declared.tariff.Charge.{Charge}
+use Rattle.g_budget.specs.declared.tariff.Usage.{Usage}
+use Rattle.g_sched.specs.declared.rule.Standing.{Standing}
+use Rattle.g_io.specs.Streams.{HasPutPart, with_more}
+use Rattle.g_script.specs.declared.operator.Timed.{Timed}
+use Rattle.g_state.specs.Up.{StoreFacts}
+use Rattle.g_world.specs.Moves.{Move, Ticked}
+use Rattle.g_world.specs.World.{Between, World, is_due, nothing_steps}
+use Rattle.g_world.proofs.CountLemmas.{event_none, move_counted, moves_then}
+use Rattle.g_world.proofs.TickLemmas.{tick_move}
+use Rattle.g_world.proofs.TurnLemmas.{run_append}
+use Rattle.g_crew.specs.Crew.{CrewState}
+use Rattle.g_console.specs.declared.progress.Failure.{Failure}
+use Rattle.g_console.specs.declared.progress.Failure.TheVariants.{Memory}
+use Rattle.g_console.specs.Parts.{IsReady, Matches, Seen, seen}
+use Rattle.g_console.specs.Puts.{FaultCause}
+use Rattle.g_console.specs.System.{SystemFacts, Up, devices_in}
+use Rattle.g_ticks.specs.Parts as ticks
+use Rattle.g_ticks.specs.Parts.{Comes, DidTick, IsBetween, IsThrough, KeepsRun, MayTick, has_dump, left, some_job_steps}
+use Rattle.g_run.specs.Parts.{Anything, Arrives, Breaks, DidOne, Keeps, Leads, PartGoes, is_past, steps_in, turn_of}
+use Rattle.g_run.proofs.PartLemmas.{none_arm}
+use Rattle.g_run.proofs.RestLemmas.{due_is, nothing_is}
+
+-- all of a text is a part of it
+pub whole_part : (before after : Option (List ℕ)) (text : List ℕ) → after ≡ with_more before text → HasPutPart before text after
+whole_part before after text is = (length text, omega arith, is ∙ ap (λ (t : List ℕ). with_more before t) (sym (take_all (length text) text (omega arith))))
+
+keeps_of : (old new : Seen) (failure : Option Failure) (faults faults' : ℕ) → KeepsRun old failure new faults faults' → Keeps [] old failure new faults faults'
+keeps_of old new failure faults faults' keeps = record {
+  ready = keeps.ready;
+  numbers = λ none. let same : new.crew.next_job ≡ old.crew.next_job = keeps.numbers none in omega (arith, same);
+  arms = none_arm (failure ≡ None) (devices_in old.system) (devices_in new.system) keeps.disc_arms keeps.tape_arms;
+  belongs = keeps.belongs;
+  cause = keeps.cause;
+}
+
+module _ {F U : Type 0} (tariffs : Shared F (Bor Usage × Unit {0}) Charge) (tariff : F) (rules : Shared U (Bor Standing × Unit {0}) ℕ) (rule : U) where
+  leads_of : (w : World) (old new : SystemFacts) (moves : List Move) (next : World) (added : List ℕ) → Comes tariffs tariff rules rule w old new moves next added → Leads tariffs tariff rules rule w old new moves next added
+  leads_of w old new moves next added comes = record {
+    disc_arms = 0;
+    tape_arms = 0;
+    run = comes.run;
+    counted = comes.counted;
+    stands = comes.stands;
+    bad = comes.keeps.bad;
+    over = comes.keeps.over;
+    disc_stops = let d : next.disc_stops ≡ w.disc_stops = comes.keeps.disc_stops in omega (arith, d);
+    tape_stops = let t : next.tape_stops ≡ w.tape_stops = comes.keeps.tape_stops in omega (arith, t);
+    text = comes.text;
+  }
+
+  -- the count rises
+  abbrev raised : World → World
+  raised w = record w { count = w.count + 1; phase = Between }
+
+  leads_raised : (w : World) (old new : SystemFacts) (moves : List Move) (next : World) (added : List ℕ) → Comes tariffs tariff rules rule w old new moves next added → IsThrough next
+      → Leads tariffs tariff rules rule w old new (moves ++ Ticked ∷ []) (raised next) added
+  leads_raised w old new moves next added comes through = record {
+    disc_arms = 0;
+    tape_arms = 0;
+    run = run_append tariffs tariff rules rule w moves (Ticked ∷ []) next (raised next) comes.run (tick_move tariffs tariff rules rule next through.0 through.1);
+    counted = moves_then moves (Ticked ∷ []) 0 0 0 0 (devices_in old) (devices_in new) (devices_in new) comes.counted
+        (move_counted Ticked 0 0 (devices_in new) (devices_in new) (event_none (devices_in new)));
+    stands = comes.stands;
+    bad = comes.keeps.bad;
+    over = comes.keeps.over;
+    disc_stops = let d : next.disc_stops ≡ w.disc_stops = comes.keeps.disc_stops in omega (arith, d);
+    tape_stops = let t : next.tape_stops ≡ w.tape_stops = comes.keeps.tape_stops in omega (arith, t);
+    text = comes.text;
+  }
+
+  module _ (limit : Option ℕ) (old : StoreFacts) (c : CrewState) (count : ℕ) (ready : IsReady (Up old) c) (undue : is_past limit count ≡ false) (steps : steps_in (seen (Up old) c count) ≡ true)
+      (new : SystemFacts) (c' : CrewState) (before after : Option (List ℕ)) (faults faults' : ℕ) where
+    may_tick : (w : World) → Matches w (seen (Up old) c count) → IsBetween w → turn_of w.lines ≡ limit → MayTick w
+    may_tick w m between at = (
+      between,
+      due_is w ∙ ap (λ (l : Option ℕ). is_past l w.count) at ∙ ap (λ (n : ℕ). is_past limit n) m.count ∙ undue,
+      nothing_is w (Up old) c count m ready ∙ ap (λ (b : Bool). not b) steps,
+    )
+
+    fall : (failure : Option Failure) → ticks.Falls (has_dump (Up old) || some_job_steps (seen (Up old) c count)) (seen (Up old) c count) failure (seen new c' count)
+        → failure ≡ None → left (seen new c' count) + 1 ≤ left (seen (Up old) c count)
+    fall failure falls none = subst (λ (b : Bool). left (seen new c' count) + (if b then 1 else 0) ≤ left (seen (Up old) c count)) steps (falls none)
+
+    -- the tick is over
+    pub ticked : DidTick tariffs tariff rules rule (seen (Up old) c count) None (seen new c' count) before after faults faults'
+        → DidOne tariffs tariff rules rule limit (seen (Up old) c count) None (seen new c' (count + 1)) before after faults faults'
+    ticked did = record {
+      did = record { goes = goes; keeps = keeps };
+      falls = fall None did.falls;
+    }
+      where
+        goes : (lines : List Timed) → turn_of lines ≡ limit → PartGoes tariffs tariff rules rule Anything lines lines (seen (Up old) c count) None (seen new c' (count + 1)) before after
+        goes lines at w m between is =
+            let (moves, next, added, comes, matches, through, put) = did.goes w m (may_tick w m between (ap turn_of is ∙ at)) in record {
+              moves = moves ++ Ticked ∷ [];
+              next = raised next;
+              added = added;
+              leads = leads_raised w (Up old) new moves next added comes through;
+              matches = record {
+                stands = matches.stands;
+                crew = record { jobs = matches.crew.jobs; accounts = matches.crew.accounts; next_job = matches.crew.next_job };
+                count = ap (λ (n : ℕ). n + 1) matches.count;
+              };
+              between = record { phase = refl; turn = through.0 };
+              lines = comes.keeps.lines ∙ is;
+              rests = tt;
+              put = put;
+            }
+
+        keeps : Keeps [] (seen (Up old) c count) None (seen new c' (count + 1)) faults faults'
+        keeps =
+            let k = keeps_of (seen (Up old) c count) (seen new c' count) None faults faults' did.keeps in
+            record { ready = k.ready; numbers = k.numbers; arms = k.arms; belongs = k.belongs; cause = k.cause }
+
+    -- the tick isn't over, and the count stands
+    module _ (count' : ℕ) where
+      short_keeps : (failure : Failure) → KeepsRun (seen (Up old) c count) (Some failure) (seen new c' count) faults faults' → Keeps [] (seen (Up old) c count) (Some failure) (seen new c' count') faults faults'
+      short_keeps failure keeps =
+          let k = keeps_of (seen (Up old) c count) (seen new c' count) (Some failure) faults faults' keeps in
+          record { ready = k.ready; numbers = k.numbers; arms = k.arms; belongs = k.belongs; cause = k.cause }
+
+      pub failed : (failure : Failure) → DidTick tariffs tariff rules rule (seen (Up old) c count) (Some failure) (seen new c' count) before after faults faults'
+          → DidOne tariffs tariff rules rule limit (seen (Up old) c count) (Some failure) (seen new c' count') before after faults faults'
+      failed failure did = record {
+        did = record { goes = goes; keeps = short_keeps failure did.keeps };
+        falls = fall (Some failure) did.falls;
+      }
+        where
+          goes : (lines : List Timed) → turn_of lines ≡ limit → PartGoes tariffs tariff rules rule Anything lines lines (seen (Up old) c count) (Some failure) (seen new c' count') before after
+          goes lines at w m between is =
+              let (moves, next, added, comes, part) = did.goes w m (may_tick w m between (ap turn_of is ∙ at)) in
+              record { moves = moves; next = next; added = added; leads = leads_of w (Up old) new moves next added comes; put = part }
+
+      -- the tick's turn is over, but there is no room for its count
+      pub uncounted : DidTick tariffs tariff rules rule (seen (Up old) c count) None (seen new c' count) before after faults faults'
+          → DidOne tariffs tariff rules rule limit (seen (Up old) c count) (Some Memory) (seen new c' count') before after faults faults'
+      uncounted did = record {
+        did = record { goes = goes; keeps = keeps };
+        falls = λ none. absurd (let no : ⊥ = cc in no);
+      }
+        where
+          goes : (lines : List Timed) → turn_of lines ≡ limit → PartGoes tariffs tariff rules rule Anything lines lines (seen (Up old) c count) (Some Memory) (seen new c' count') before after
+          goes lines at w m between is =
+              let (moves, next, added, comes, matches, through, put) = did.goes w m (may_tick w m between (ap turn_of is ∙ at)) in
+              record { moves = moves; next = next; added = added; leads = leads_of w (Up old) new moves next added comes; put = whole_part before after added put }
+
+          keeps : Keeps [] (seen (Up old) c count) (Some Memory) (seen new c' count') faults faults'
+          keeps =
+              let k = keeps_of (seen (Up old) c count) (seen new c' count) None faults faults' did.keeps in record {
+                ready = λ none. k.ready refl;
+                numbers = λ none. k.numbers refl;
+                arms = none_arm (let f : Option Failure = Some Memory in f ≡ None) (devices_in (Up old)) (devices_in new) did.keeps.disc_arms did.keeps.tape_arms;
+                belongs = k.belongs;
+                cause = k.cause;
+              }
+
+    -- BY HOW IT CAME OUT, and whether there was room for its count
+    pub one_did : (failure : Option Failure) → DidTick tariffs tariff rules rule (seen (Up old) c count) failure (seen new c' count) before after faults faults' → (came : Option Failure) (n : ℕ)
+        → ((f : Failure) → failure ≡ Some f → (came ≡ Some f) × (n ≡ count)) → (failure ≡ None → ((came ≡ None) × (n ≡ count + 1)) ⊎ ((came ≡ Some Memory) × (n ≡ count)))
+        → DidOne tariffs tariff rules rule limit (seen (Up old) c count) came (seen new c' n) before after faults faults'
+    one_did None did came n some none = by (none refl)
+      where
+        by : ((came ≡ None) × (n ≡ count + 1)) ⊎ ((came ≡ Some Memory) × (n ≡ count)) → DidOne tariffs tariff rules rule limit (seen (Up old) c count) came (seen new c' n) before after faults faults'
+        by (inl (is, at)) =
+            subst (λ (f : Option Failure). DidOne tariffs tariff rules rule limit (seen (Up old) c count) f (seen new c' n) before after faults faults') (sym is)
+            (subst (λ (m : ℕ). DidOne tariffs tariff rules rule limit (seen (Up old) c count) None (seen new c' m) before after faults faults') (sym at) (ticked did))
+        by (inr (is, at)) = subst (λ (f : Option Failure). DidOne tariffs tariff rules rule limit (seen (Up old) c count) f (seen new c' n) before after faults faults') (sym is) (uncounted n did)
+    one_did (Some failure) did came n some none =
+        subst (λ (f : Option Failure). DidOne tariffs tariff rules rule limit (seen (Up old) c count) f (seen new c' n) before after faults faults') (sym (some failure refl).0) (failed n failure did)

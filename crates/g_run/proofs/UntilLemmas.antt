@@ -1,0 +1,83 @@
+-- Ticks, one behind the other, until a line is due or nothing steps.
+use Rattle.std.proofs.Common.{◌≡◌, ◌⊎◌, ◌+◌, ◌<◌, ◌≤◌, ℕ, Bool, true, false, not, List, [], ◌∷◌, Option, Some, None, refl, sym, ◌∙◌, ap, subst, inl, inr, arith}
+use Rattle.std.specs.Fn.{Shared}
+use denote.Ref.{Bor}
+use Rattle.g_budget.specs.declared.tariff.Charge.{Charge}
+use Rattle.g_budget.specs.declared.tariff.Usage.{Usage}
+use Rattle.g_sched.specs.declared.rule.Standing.{Standing}
+use Rattle.g_script.specs.declared.operator.Timed.{Timed}
+use Rattle.g_world.specs.World.{World}
+use Rattle.g_crew.specs.Crew.{CrewState}
+use Rattle.g_crew.specs.Numbers.{AreOpen}
+use Rattle.g_console.specs.declared.progress.Failure.{Failure}
+use Rattle.g_console.specs.Parts.{IsReady, Matches, Seen, seen}
+use Rattle.g_console.specs.System.{SystemFacts, devices_in}
+use Rattle.g_ticks.specs.Parts.{IsBetween}
+use Rattle.g_run.specs.Parts.{Anything, Arrives, DidOne, DidTicks, IsAtRest, Keeps, PartGoes, is_past, steps_in, turn_of}
+use Rattle.g_run.proofs.PartLemmas.{arrives_here, goes_then, keeps_then, none_arm}
+use Rattle.g_run.proofs.RestLemmas.{due_is, nothing_is}
+
+pub keeps_here : (s : Seen) (faults : ℕ) → IsReady s.system s.crew → AreOpen s.crew.jobs → Keeps [] s None s faults faults
+keeps_here s faults ready still = record {
+  ready = λ none. (ready, still);
+  numbers = λ none. omega arith;
+  arms = none_arm (let f : Option Failure = None in f ≡ None) (devices_in s.system) (devices_in s.system) refl refl;
+  belongs = λ was. was;
+  cause = refl;
+}
+
+module _ {F U : Type 0} (tariffs : Shared F (Bor Usage × Unit {0}) Charge) (tariff : F) (rules : Shared U (Bor Standing × Unit {0}) ℕ) (rule : U) (limit : Option ℕ) where
+  -- none yet
+  pub ticks_start : (s : Seen) (before : Option (List ℕ)) (faults : ℕ) → IsReady s.system s.crew → AreOpen s.crew.jobs → DidTicks tariffs tariff rules rule Anything limit s None s before before faults faults
+  ticks_start s before faults ready still = record {
+    goes = λ lines at w m between is. arrives_here tariffs tariff rules rule w lines s before m between is;
+    keeps = keeps_here s faults ready still;
+  }
+
+  -- one more
+  pub ticks_more : (s mid : Seen) (failure : Option Failure) (new : Seen) (before middle after : Option (List ℕ)) (faults faults1 faults2 : ℕ)
+      → DidTicks tariffs tariff rules rule Anything limit s None mid before middle faults faults1 → DidOne tariffs tariff rules rule limit mid failure new middle after faults1 faults2
+      → DidTicks tariffs tariff rules rule Anything limit s failure new before after faults faults2
+  ticks_more s mid failure new before middle after faults faults1 faults2 first one = record {
+    goes = λ lines at w m between is.
+        let a = first.goes lines at w m between is in
+        goes_then tariffs tariff rules rule Anything Anything w lines lines s mid before middle a failure new after (one.did.goes lines at a.next a.matches a.between a.lines);
+    keeps = keeps_then [] [] s mid failure new faults faults1 faults2 first.keeps one.did.keeps;
+  }
+
+  -- THE END of them
+  pub ticks_end : (s : Seen) (failure : Option Failure) (f : SystemFacts) (c : CrewState) (count : ℕ) (before after : Option (List ℕ)) (faults faults' : ℕ)
+      → DidTicks tariffs tariff rules rule Anything limit s failure (seen f c count) before after faults faults'
+      → (failure ≡ None → (is_past limit count ≡ true) ⊎ (steps_in (seen f c count) ≡ false)) → DidTicks tariffs tariff rules rule IsAtRest limit s failure (seen f c count) before after faults faults'
+  ticks_end s None f c count before after faults faults' did ends = record { goes = goes; keeps = did.keeps }
+    where
+      rest : (w : World) → Matches w (seen f c count) → turn_of w.lines ≡ limit → (is_past limit count ≡ true) ⊎ (steps_in (seen f c count) ≡ false) → IsAtRest w
+      rest w m at (inl past) = inl (due_is w ∙ ap (λ (l : Option ℕ). is_past l w.count) at ∙ ap (λ (n : ℕ). is_past limit n) m.count ∙ past)
+      rest w m at (inr still) = inr (nothing_is w f c count m (did.keeps.ready refl).0 ∙ ap (λ (b : Bool). not b) still)
+
+      goes : (lines : List Timed) → turn_of lines ≡ limit → PartGoes tariffs tariff rules rule IsAtRest lines lines s None (seen f c count) before after
+      goes lines at w m between is =
+          let a = did.goes lines at w m between is in record {
+            moves = a.moves;
+            next = a.next;
+            added = a.added;
+            leads = a.leads;
+            matches = a.matches;
+            between = a.between;
+            lines = a.lines;
+            rests = rest a.next a.matches (ap turn_of a.lines ∙ at) (ends refl);
+            put = a.put;
+          }
+  ticks_end s (Some failure) f c count before after faults faults' did ends = record { goes = did.goes; keeps = did.keeps }
+
+-- what a loop over ticks has left to do
+abbrev pub ticks_left : Option Failure → ℕ → ℕ
+ticks_left None n = n + 1
+ticks_left (Some failure) n = 0
+
+pub ticks_fall : (was now : Option Failure) (n m : ℕ) → was ≡ None → (now ≡ None → m + 1 ≤ n) → ticks_left now m < ticks_left was n
+ticks_fall was now n m is falls = subst (λ (f : Option Failure). ticks_left now m < ticks_left f n) (sym is) (by now falls)
+  where
+    by : (f : Option Failure) → (f ≡ None → m + 1 ≤ n) → ticks_left f m < n + 1
+    by None less = let it : m + 1 ≤ n = less refl in omega (arith, it)
+    by (Some failure) less = omega arith

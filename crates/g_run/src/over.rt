@@ -1,0 +1,158 @@
+//! A script that was read, done to its end.
+ghost use Rattle.std.specs.Prelude.{◌≡◌, ◌+◌, ◌≤◌, ◌<◌, ◌++◌, All, IfOk, length};
+ghost use Rattle.g_budget.specs.Tariff.{IsTariff};
+ghost use Rattle.g_console.specs.Parts.{IsReady, seen};
+ghost use Rattle.g_console.specs.System.{facts_of};
+ghost use Rattle.g_crew.specs.Numbers.{AreOpen};
+ghost use Rattle.g_sched.specs.Rule.{IsWeighRule};
+ghost use Rattle.g_world.specs.Texts as texts;
+ghost use Rattle.g_run.specs.Over.{ClosesBy, DidScript, TakenDown, both};
+ghost use Rattle.g_run.specs.Parts.{DidAll, IsTimedWithin};
+
+use crate::came::Came;
+use crate::script::do_lines;
+use crate::ticks::until;
+use g_base::NoMemory;
+use g_budget::{Charge, Tariff, Usage};
+use g_console::{Failure, System, put_made};
+use g_crew::{Crew, closing_text};
+use g_disc::Disc;
+use g_io::Sink;
+use g_name::Text;
+use g_sched::{Standing, WeighRule};
+use g_script::{Script, Timeds};
+use g_tape::Tapes;
+use std::alloc::Global;
+
+/// Both devices behind a script, and why it was cut short, if it was.
+pub(crate) struct Over<D: Disc, T: Tapes> {
+    pub(crate) disc: D,
+    pub(crate) tapes: T,
+    pub(crate) failure: Option<Failure>,
+}
+
+/// Does a script over devices under no store, and takes the system down again.
+pub(crate) fn run_script<
+    K: Sink,
+    D: Disc,
+    T: Tapes,
+    F: Fn(&Usage) -> Charge,
+    U: Fn(&Standing) -> u64,
+>(
+    alloc: Global,
+    script: Script,
+    out: &mut K,
+    disc: D,
+    tapes: T,
+    tariff: &Tariff<F>,
+    weigh: &WeighRule<U>,
+) -> Over<D, T>
+    requires size { (2177 < (D.state disc).size) × ((D.state disc).size ≤ 1048576) }
+    requires within { All IsTimedWithin script.lines }
+    requires few { length script.lines ≤ 16777217 }
+    requires tariff { IsTariff F.Fn tariff.now }
+    requires rule { IsWeighRule U.Fn weigh.now }
+    ensures { DidScript F.Fn tariff.now U.Fn weigh.now script.lines script.bad (both (D.state disc) (T.rack tapes)) result.failure
+        (both (D.state result.disc) (T.rack result.tapes))
+        (K.written out.old) (K.written out.new) (K.faults out.old) (K.faults out.new) }
+{
+    let Script { lines, bad } = script;
+    let mut crew = Crew::new(alloc);
+    let Came {
+        system,
+        failure,
+        ..
+    } = run_lines(
+        alloc,
+        lines,
+        System::Down(disc, tapes),
+        &mut crew,
+        tariff,
+        weigh,
+        out,
+    );
+    let failure = close(alloc, &crew, bad, failure, out);
+    let (disc, tapes) = taken_down(system);
+    Over {
+        disc,
+        tapes,
+        failure,
+    }
+}
+
+/// Does all lines, and ticks until nothing can step.
+fn run_lines<K: Sink, D: Disc, T: Tapes, F: Fn(&Usage) -> Charge, U: Fn(&Standing) -> u64>(
+    alloc: Global,
+    lines: Timeds,
+    system: System<D, T>,
+    crew: &mut Crew,
+    tariff: &Tariff<F>,
+    weigh: &WeighRule<U>,
+    out: &mut K,
+) -> Came<D, T>
+    requires ready { IsReady (facts_of D.state T.rack system) crew.old }
+    requires open { AreOpen crew.old.jobs }
+    requires within { All IsTimedWithin lines }
+    requires numbers { crew.old.next_job + length lines < 18446744073709551616 }
+    requires tariff { IsTariff F.Fn tariff.now }
+    requires rule { IsWeighRule U.Fn weigh.now }
+    ensures { DidAll F.Fn tariff.now U.Fn weigh.now lines (seen (facts_of D.state T.rack system) crew.old 0) result.failure
+        (seen (facts_of D.state T.rack result.system) crew.new result.count)
+        (K.written out.old) (K.written out.new) (K.faults out.old) (K.faults out.new) }
+{
+    let Came {
+        system,
+        count,
+        failure,
+    } = do_lines(alloc, lines, system, crew, 0, tariff, weigh, out);
+    match failure {
+        None => until(alloc, system, crew, count, None, tariff, weigh, out),
+        Some(failure) => Came {
+            system,
+            count,
+            failure: Some(failure),
+        },
+    }
+}
+
+/// Puts what stands at the end of a run, if it came to it: the files of unfinished jobs, and the bad line of the script, if there
+/// is one.
+fn close<K: Sink>(
+    alloc: Global,
+    crew: &Crew,
+    bad: Option<u64>,
+    failure: Option<Failure>,
+    out: &mut K,
+) -> Option<Failure>
+    ensures { ClosesBy failure (texts.waiting_files crew.now.jobs ++ texts.closing bad) result
+        (K.written out.old) (K.written out.new) (K.faults out.old) (K.faults out.new) }
+{
+    match failure {
+        None => {
+            let made = end_text(alloc, crew, bad);
+            put_made(out, made)
+        }
+        Some(failure) => Some(failure),
+    }
+}
+
+/// The text of it.
+fn end_text(alloc: Global, crew: &Crew, bad: Option<u64>) -> Result<Text, NoMemory>
+    ensures { IfOk result (λ text. text ≡ texts.waiting_files crew.now.jobs ++ texts.closing bad) }
+{
+    let mut text = Text::new(alloc);
+    crew.push_waiting_files(alloc, &mut text)?;
+    let closing = closing_text(alloc, bad)?;
+    text.extend(closing.as_slice())?;
+    Ok(text)
+}
+
+/// Both devices of a system.
+fn taken_down<D: Disc, T: Tapes>(system: System<D, T>) -> (D, T)
+    ensures { TakenDown (facts_of D.state T.rack system) (both (D.state result.0) (T.rack result.1)) }
+{
+    match system {
+        System::Up(store) => store.into_devices(),
+        System::Down(disc, tapes) => (disc, tapes),
+    }
+}

@@ -1,0 +1,2 @@
+pub mod CompleteLemmas
+pub mod UntoldLemmas

@@ -1,0 +1,11 @@
+pub mod DumpLemmas
+pub mod EndedLemmas
+pub mod FallLemmas
+pub mod KeptLemmas
+pub mod NumberedLemmas
+pub mod RackLemmas
+pub mod RanLemmas
+pub mod SteppingLemmas
+pub mod TakenLemmas
+pub mod TickLemmas
+pub mod TurningLemmas

@@ -1,0 +1,108 @@
+-- What the devices count in a step of the open dump, by its outcome.
+use Rattle.std.proofs.Common.{◌≡◌, ◌⊎◌, ℕ, ◌+◌, List, Option, Some, None, Result, Ok, Err, refl, sym, ◌∙◌, ap, subst, inl, inr, arith}
+use Rattle.g_base.specs.Counts.{HasRisenBy, Rose, RoseBy}
+use Rattle.g_base.proofs.CountLemmas.{HasRisenBy-Rose, RoseBy-none}
+use Rattle.g_contents.specs.Facts.{OnlineFacts}
+use Rattle.g_dumper.specs.Steps.{Abandoned, FailedWrite, Stepping, WroteBlock}
+use Rattle.g_online.specs.Pins.{IsClosing}
+use Rattle.g_online.specs.declared.fault.OnlineFault.{OnlineFault}
+use Rattle.g_online.specs.declared.fault.OnlineFault.TheVariants as online
+use Rattle.g_plain.specs.declared.faults.StoreFault.{StoreFault}
+use Rattle.g_plain.specs.declared.faults.StoreFault.TheVariants.{DiscReadFault, Stopped}
+use Rattle.g_state.specs.Up.{DumpFacts}
+use Rattle.g_contents.specs.Facts.{Pin}
+use Rattle.g_step.specs.CallStep.{Cut, DiscRead, Outcome, Plain, TapeRead}
+use Rattle.g_step.specs.DumpSteps.{Completed, Going, Stepped}
+use Rattle.g_tape.specs.Rack.{Rack}
+use Rattle.g_world.specs.Devices.{Devices}
+use Rattle.g_world.specs.Events.{OutcomeTold}
+use Rattle.g_world.specs.Moves.{EventCounted, Happened}
+use Rattle.g_world.proofs.CountLemmas.{happened_same, none_rose}
+
+abbrev both : OnlineFacts → Rack → Devices
+both o r = record { disc = o.disc; rack = r }
+
+one_zero : {P : Type 0} → ◌≡◌ {A = ℕ} 1 0 → P
+one_zero e = absurd (let no : ⊥ = omega arith in no)
+
+-- a block that was written moves no count
+module _ (d : DumpFacts) (pins : Option (List Pin)) (r s : Rack) (wrote : WroteBlock d pins r s) where
+  block_reads : s.read_faults ≡ r.read_faults
+  block_reads = ap (λ (x : Rack). x.read_faults) wrote.rack
+
+  block_writes : s.write_faults ≡ r.write_faults
+  block_writes = ap (λ (x : Rack). x.write_faults) wrote.rack
+
+  block_arms : s.arms ≡ r.arms
+  block_arms = ap (λ (x : Rack). x.arms) wrote.rack
+
+-- an answer that is Ok has no outcome but the plain one
+plain_ok : {A : Type 0} (x : A) (outcome : Outcome) → (let answer : Result A StoreFault = Ok x in OutcomeTold outcome answer) → outcome ≡ Plain
+plain_ok x Plain told = refl
+plain_ok x DiscRead told = absurd (let is = told.told in let no : ⊥ = cc in no)
+plain_ok x TapeRead told = absurd (let is = told.told in let no : ⊥ = cc in no)
+plain_ok x Cut told = absurd (let is = told.told in let no : ⊥ = cc in no)
+
+not_stopped : (let ok : Result (Unit {0}) OnlineFault = Ok tt in ok ≡ Err online.Stopped) → ⊥
+not_stopped e = cc
+
+module _ (d d2 : DumpFacts) (o o2 : OnlineFacts) (r r2 : Rack) where
+  going : WroteBlock d o.pins r r2 → o2 ≡ o → EventCounted Plain 0 0 (both o r) (both o2 r2)
+  going wrote is = happened_same (both o r) (both o2 r2) (ap (λ (x : OnlineFacts). x.disc.read_faults) is) (ap (λ (x : OnlineFacts). x.disc.write_faults) is) (ap (λ (x : OnlineFacts). x.disc.arms) is)
+      (block_reads d o.pins r r2 wrote) (block_writes d o.pins r r2 wrote) (block_arms d o.pins r r2 wrote)
+
+  done : (n : ℕ) → WroteBlock d o.pins r r2 → IsClosing n o o2 (Ok tt) → EventCounted Plain 0 0 (both o r) (both o2 r2)
+  done n wrote closing = happened_same (both o r) (both o2 r2) (closing.causes.reads_kept (λ x. x)) (closing.causes.writes_kept not_stopped) closing.causes.arms
+      (block_reads d o.pins r r2 wrote) (block_writes d o.pins r r2 wrote) (block_arms d o.pins r r2 wrote)
+
+  unread : Abandoned d o o2 → r2 ≡ r → EventCounted DiscRead 0 0 (both o r) (both o2 r2)
+  unread gone is =
+      let writes = ap (λ (x : OnlineFacts). x.disc.write_faults) gone.facts in
+      record {
+        disc_reads_rose = HasRisenBy-Rose gone.rose;
+        tape_reads_rose = none_rose r.read_faults r2.read_faults (ap (λ (x : Rack). x.read_faults) is);
+        cuts_rose = (0, 0, refl, none_rose o.disc.write_faults o2.disc.write_faults writes, none_rose r.write_faults r2.write_faults (ap (λ (x : Rack). x.write_faults) is));
+        no_disc_read = λ e. one_zero e;
+        no_tape_read = λ e. ap (λ (x : Rack). x.read_faults) is;
+        no_cut = λ e. (writes, ap (λ (x : Rack). x.write_faults) is);
+        disc_armed = RoseBy-none (ap (λ (x : OnlineFacts). x.disc.arms) gone.facts);
+        tape_armed = RoseBy-none (ap (λ (x : Rack). x.arms) is);
+      }
+
+  tape_cut : FailedWrite d r r2 → o2 ≡ o → EventCounted Cut 0 0 (both o r) (both o2 r2)
+  tape_cut failed is =
+      let reads = ap (λ (x : Rack). x.read_faults) failed.rack in
+      record {
+        disc_reads_rose = none_rose o.disc.read_faults o2.disc.read_faults (ap (λ (x : OnlineFacts). x.disc.read_faults) is);
+        tape_reads_rose = none_rose r.read_faults r2.read_faults reads;
+        cuts_rose = (0, 1, refl, none_rose o.disc.write_faults o2.disc.write_faults (ap (λ (x : OnlineFacts). x.disc.write_faults) is), HasRisenBy-Rose failed.rose);
+        no_disc_read = λ e. ap (λ (x : OnlineFacts). x.disc.read_faults) is;
+        no_tape_read = λ e. reads;
+        no_cut = λ e. one_zero e;
+        disc_armed = RoseBy-none (ap (λ (x : OnlineFacts). x.disc.arms) is);
+        tape_armed = RoseBy-none (ap (λ (x : Rack). x.arms) failed.rack);
+      }
+
+  disc_cut : (n : ℕ) → WroteBlock d o.pins r r2 → IsClosing n o o2 (Err online.Stopped) → EventCounted Cut 0 0 (both o r) (both o2 r2)
+  disc_cut n wrote closing = record {
+    disc_reads_rose = none_rose o.disc.read_faults o2.disc.read_faults (closing.causes.reads_kept (λ x. x));
+    tape_reads_rose = none_rose r.read_faults r2.read_faults (block_reads d o.pins r r2 wrote);
+    cuts_rose = (1, 0, refl, HasRisenBy-Rose (closing.causes.writes_rose refl), none_rose r.write_faults r2.write_faults (block_writes d o.pins r r2 wrote));
+    no_disc_read = λ e. closing.causes.reads_kept (λ x. x);
+    no_tape_read = λ e. block_reads d o.pins r r2 wrote;
+    no_cut = λ e. one_zero e;
+    disc_armed = RoseBy-none closing.causes.arms;
+    tape_armed = RoseBy-none (block_arms d o.pins r r2 wrote);
+  }
+
+  at_outcome : (outcome other : Outcome) → outcome ≡ other → EventCounted other 0 0 (both o r) (both o2 r2) → EventCounted outcome 0 0 (both o r) (both o2 r2)
+  at_outcome outcome other is counted = subst (λ (x : Outcome). EventCounted x 0 0 (both o r) (both o2 r2)) (sym is) counted
+
+  -- A STEP
+  pub stepping_counted : (answer : Result Stepped StoreFault) (outcome : Outcome) → Stepping d o r answer d2 o2 r2 → OutcomeTold outcome answer → EventCounted outcome 0 0 (both o r) (both o2 r2)
+  stepping_counted (Ok Going) outcome (more, dump, is, wrote) told = at_outcome outcome Plain (plain_ok Going outcome told) (going wrote is)
+  stepping_counted (Ok (Completed n)) outcome (last, number, plan, wrote, closing) told = at_outcome outcome Plain (plain_ok (Completed n) outcome told) (done n wrote closing)
+  stepping_counted (Err DiscReadFault) outcome (dump, is, gone) told = at_outcome outcome DiscRead (told.disc_read refl) (unread gone is)
+  stepping_counted (Err Stopped) outcome (plan, inl (failed, is)) told = at_outcome outcome Cut (told.cut refl) (tape_cut failed is)
+  stepping_counted (Err Stopped) outcome (plan, inr (last, wrote, closing)) told = at_outcome outcome Cut (told.cut refl) (disc_cut d.plan.number wrote closing)
+  stepping_counted (Err fault) outcome step told = absurd step

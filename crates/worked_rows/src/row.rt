@@ -1,0 +1,182 @@
+//! A row as its line in `rows.txt` has it: the name of its files, and what differs from an empty disc of 4,096 blocks,
+//! one empty reel of 8,192 and the word `run`.
+
+use crate::running::Seen;
+use anyhow::anyhow;
+use std::alloc::{AllocError, Global};
+
+/// What a row asks for.
+#[derive(Drop)]
+pub struct Row<'a> {
+    pub name: &'a str,
+    /// Whether the row has its whole text, or lines that stand in it in this order.
+    whole: bool,
+    /// Whether each line of its files has in front how often it stands.
+    packed: bool,
+    pub words: Vec<&'a str>,
+    pub blocks: u32,
+    /// One reel, or two.
+    pub two_reels: bool,
+    pub capacity: u32,
+    /// What a failing write of a tape leaves: `old`, `half` or `whole`.
+    pub leaves: &'a str,
+    /// The byte of which a failing write of the disc leaves a block.
+    pub torn: u8,
+    /// Which take of the script and which put of the text fails; 0: none.
+    pub take: u64,
+    pub put: u64,
+    /// Whether each put is to fail once.
+    pub each_put: bool,
+    status: u8,
+    /// The lengths of the reels at the end, where they are told.
+    lengths: Vec<u32>,
+    absent: Vec<&'a str>,
+}
+
+impl<'a> Row<'a> {
+    /// Reads a line: the row's name, `text` or `expect`, and settings `key=value`.
+    pub fn parse(alloc: Global, line: &'a str) -> anyhow::Result<Row<'a>> {
+        let mut parts = line.split_whitespace();
+        let (Some(name), Some(kind)) = (parts.next(), parts.next()) else {
+            return Err(anyhow!("no row: {line}"));
+        };
+        let mut row = Row::plain(alloc, name, kind == "text")?;
+        for part in parts {
+            let Some((key, value)) = part.split_once('=') else {
+                return Err(anyhow!("no setting: {part}"));
+            };
+            row.set(key, value)?;
+        }
+        if row.words.is_empty() {
+            row.words.push("run")?;
+        }
+        Ok(row)
+    }
+
+    fn plain(alloc: Global, name: &'a str, whole: bool) -> Result<Row<'a>, AllocError> {
+        Ok(Row {
+            name,
+            whole,
+            packed: false,
+            words: Vec::new(alloc),
+            blocks: 4_096,
+            two_reels: false,
+            capacity: 8_192,
+            leaves: "old",
+            torn: 0,
+            take: 0,
+            put: 0,
+            each_put: false,
+            status: 0,
+            lengths: Vec::new(alloc),
+            absent: Vec::new(alloc),
+        })
+    }
+
+    fn set(&mut self, key: &str, value: &'a str) -> anyhow::Result<()> {
+        if key == "word" {
+            self.words.push(value)?;
+        } else if key == "absent" {
+            self.absent.push(value)?;
+        } else if key == "length" {
+            self.lengths.push(value.parse()?)?;
+        } else if key == "leaves" {
+            self.leaves = value;
+        } else if key == "torn" {
+            self.torn = value.parse()?;
+        } else if key == "status" {
+            self.status = value.parse()?;
+        } else {
+            self.set_number(key, value.parse()?)?;
+        }
+        Ok(())
+    }
+
+    fn set_number(&mut self, key: &str, value: u32) -> anyhow::Result<()> {
+        if key == "blocks" {
+            self.blocks = value;
+        } else if key == "reels" {
+            self.two_reels = value == 2;
+        } else if key == "packed" {
+            self.packed = value == 1;
+        } else if key == "puts" {
+            self.each_put = value == 1;
+        } else if key == "capacity" {
+            self.capacity = value;
+        } else if key == "take" {
+            self.take = u64::from(value);
+        } else if key == "put" {
+            self.put = u64::from(value);
+        } else {
+            return Err(anyhow!("no setting: {key}"));
+        }
+        Ok(())
+    }
+
+    /// The text of one of its files, as it is meant.
+    pub fn unpack(&self, alloc: Global, text: String) -> anyhow::Result<String> {
+        if self.packed {
+            unpacked(alloc, text.as_str())
+        } else {
+            Ok(text)
+        }
+    }
+
+    /// How the file ends that has what the row wants.
+    pub fn kind(&self) -> &'static str {
+        if self.whole { "text" } else { "expect" }
+    }
+
+    /// Why what was seen isn't what the row wants.
+    pub fn differs(&self, seen: &Seen, wanted: &str) -> Option<&'static str> {
+        if seen.status != self.status {
+            return Some("the status");
+        }
+        if self.whole && seen.text.as_str() != wanted {
+            return Some("the text");
+        }
+        if !self.whole && !stand_in_order(seen.text.as_str(), wanted) {
+            return Some("a line that lacks");
+        }
+        if self
+            .absent
+            .iter()
+            .any(|text| seen.text.as_str().contains(*text))
+        {
+            return Some("a text that shouldn't be there");
+        }
+        if !self.lengths.is_empty() && seen.lengths.as_slice() != self.lengths.as_slice() {
+            return Some("the lengths of the reels");
+        }
+        None
+    }
+}
+
+/// Whether each of the wanted lines stands in the text, in this order.
+fn stand_in_order(text: &str, wanted: &str) -> bool {
+    let mut lines = text.lines();
+    wanted
+        .lines()
+        .all(|line| lines.any(|other| other.contains(line)))
+}
+
+/// The lines of a text in which each has in front how often it stands.
+fn unpacked(alloc: Global, text: &str) -> anyhow::Result<String> {
+    let mut whole = String::new(alloc);
+    for line in text.lines() {
+        let Some((count, line)) = line.split_once(' ') else {
+            return Err(anyhow!("no count: {line}"));
+        };
+        push_times(&mut whole, line, count.parse()?)?;
+    }
+    Ok(whole)
+}
+
+/// Puts a line behind the text so often.
+fn push_times(text: &mut String, line: &str, count: u32) -> Result<(), AllocError> {
+    for _again in 0..count {
+        text.push_str(line)?;
+        text.push('\n')?;
+    }
+    Ok(())
+}
