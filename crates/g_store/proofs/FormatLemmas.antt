@@ -1,7 +1,6 @@
 -- FORMAT: the store that it makes, and what a refusal leaves.
 use Rattle.std.proofs.Common.{◌≡◌, ◌≢◌, ℕ, ◌<◌, Bool, true, false, List, [], ◌∷◌, Option, Some, None, Ok, Err, is_some, refl, sym, ◌∙◌, ap, arith, subst, inl, inr}
 use Rattle.std.specs.Prelude.{◌⊎◌, All, Contains, map}
-use Rattle.std.specs.FinMap.{from_entries}
 use Rattle.std.proofs.lemmas.List.Elements.{All-nil}
 use Rattle.std.proofs.lemmas.Option.{none-some, same_Some}
 use Rattle.g_base.specs.Told.{Changes}
@@ -32,7 +31,7 @@ use Rattle.g_state.specs.Belong.{Belong, BelongWith, DiscBelongs}
 use Rattle.g_state.specs.Meaning.{told_reels}
 use Rattle.g_state.specs.Reading.{AllTold, DevicesStandFor, HasText, IsView, StandsForState, View, holding_of, names_of, places_of, state_down, state_up, tree_by}
 use Rattle.g_state.proofs.ChangeLemmas.{format_belongs}
-use Rattle.g_store.specs.Making.{Formats, LeadsDown, Refuses, RefusesFormat, StepsDown, made_fault}
+use Rattle.g_store.specs.Making.{Formats, IsNew, LeadsDown, Refuses, RefusesFormat, StepsDown, made_fault, new_holding}
 use Rattle.g_store.specs.Refusing.{first_used}
 use Rattle.g_store.proofs.EmptyLemmas.{all_blank, blank_shelf, first_row, no_dump_at_all}
 use Rattle.g_store.proofs.MakeLemmas.{Stood, before_belongs, before_stands, belongs_made, down_again, moved, new_belongs, new_down, new_stands, stands_up, stood, store_made, store_of, told_then, unkept, up_is}
@@ -40,9 +39,6 @@ use Rattle.g_store.proofs.MigrateLemmas.{rack_seen, told_back}
 
 abbrev pub first_head : Head
 first_head = record { next_stamp = 1; last_dump = 0; intent = None }
-
-abbrev pub new_holding : state.Holding
-new_holding = record { tree = formatted; places = from_entries []; last = 0; intent = None; kept = names_of [] }
 
 module _ (disc : DiscState) (users : List UserRec) (files : List FileRec) (none : files ≡ []) (whole : (bytes : FileRec → List ℕ) → tree_of users files bytes 1 ≡ formatted) where
   abbrev pub c : Contents
@@ -57,7 +53,7 @@ module _ (disc : DiscState) (users : List UserRec) (files : List FileRec) (none 
   c_is : c ≡ record { head = first_head; users = users; files = [] }
   c_is = ap (λ (fs : List File). let x : Contents = record { head = first_head; users = users; files = fs } in x) files_none
 
-  held_is : (text : ℕ → List ℕ) → holding_of text [] c ≡ new_holding
+  held_is : IsNew c
   held_is text =
       λ i.
       let h : state.Holding = record {
@@ -135,6 +131,7 @@ module _ (disc : DiscState) (users : List UserRec) (files : List FileRec) (none 
               (λ d there. let (i, inside, is) = subst (λ (ds : List Dump). Contains ds d) nothing there in let no : ⊥ = omega (arith, inside) in absurd no);
         };
         empty = empty;
+        holds = λ text. ap (holding_of text []) made.contents ∙ held_is text;
       }
 
     -- STOPPED
@@ -202,6 +199,8 @@ module _ (disc : DiscState) (users : List UserRec) (files : List FileRec) (none 
           belongs = goes_on;
         };
         full = λ serial. (λ is. absurd (let no : ⊥ = cc in no), λ is. absurd (none-some serial (sym empty ∙ is)));
+        stopped = λ is. (c, held_is, changes);
+        only = tt;
       }
 
 -- REFUSED, and nothing has changed
@@ -227,6 +226,8 @@ module _ (disc now : DiscState) (rack : Rack) (held : now.held ≡ disc.held) (w
   memory_is causes empty = record {
     refuses = quietly NoMemory (λ e. let no : ⊥ = cc in no) causes (λ s devices. moved disc.size now.size disc.held now.held on_tape s causes.size held devices);
     full = λ serial. (λ is. absurd (let no : ⊥ = cc in no), λ is. absurd (none-some serial (sym empty ∙ is)));
+    stopped = λ is. absurd (let no : ⊥ = cc in no);
+    only = tt;
   }
 
   rows_are : (s : state.State) → DevicesStandFor disc.size disc.held on_tape s → state.first_reel (λ r. r.used) s.reels ≡ first_used rack.reels
@@ -244,6 +245,8 @@ module _ (disc now : DiscState) (rack : Rack) (held : now.held ≡ disc.held) (w
               (sym (ap (λ (o : Option ℕ). first_fault (fault_from RackNotEmpty o ∷ (true, DiscReadFault) ∷ (false, Stopped) ∷ [])) (rows_are s devices ∙ empty))) (refl, refl);
         });
     full = λ serial. (λ is. absurd (let no : ⊥ = cc in no), λ is. absurd (none-some serial (sym empty ∙ is)));
+    stopped = λ is. absurd (let no : ⊥ = cc in no);
+    only = tt;
   }
 
   pub full_is : (n : ℕ) → Causes (RackNotEmpty n ≡ DiscReadFault) (RackNotEmpty n ≡ Stopped) disc now → first_used rack.reels ≡ Some n → RefusesFormat disc rack (RackNotEmpty n) now rack
@@ -258,6 +261,8 @@ module _ (disc now : DiscState) (rack : Rack) (held : now.held ≡ disc.held) (w
               (sym (ap (λ (o : Option ℕ). first_fault (fault_from RackNotEmpty o ∷ (false, DiscReadFault) ∷ (false, Stopped) ∷ [])) (rows_are s devices ∙ used))) (refl, refl);
         });
     full = λ serial. (λ is. used ∙ ap (λ (m : ℕ). let o : Option ℕ = Some m in o) (let same : n ≡ serial = cc in same), λ is. ap RackNotEmpty (same_Some n serial (sym used ∙ is)));
+    stopped = λ is. absurd (let no : ⊥ = cc in no);
+    only = tt;
   }
 
 pub nothing_caused : (disc : DiscState) (fault : StoreFault) → fault ≢ DiscReadFault → fault ≢ Stopped → Causes (fault ≡ DiscReadFault) (fault ≡ Stopped) disc disc

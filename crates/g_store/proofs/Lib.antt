@@ -1,8 +1,10 @@
 mod AdoptLemmas
 pub mod ArmLemmas
+mod CompleteLemmas
 mod EmptyLemmas
 pub mod EventLemmas
 mod FormatLemmas
+mod FullLemmas
 mod GreatestLemmas
 pub mod MakeLemmas
 mod MigrateLemmas
@@ -16,6 +18,7 @@ pub mod OpenedLemmas
 mod OwnPlaceLemmas
 mod RestoreLemmas
 mod RestoredLemmas
+mod ShelvesLemmas
 mod StartLemmas
 mod StartedLemmas
 mod StepLemmas

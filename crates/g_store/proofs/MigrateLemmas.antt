@@ -55,6 +55,7 @@ pub record IsFileOf (c : Contents) (path : Path) (full : Full) (f : File) : Type
   pub row : (text : ℕ → List ℕ) → (file_row (tree_in text c) full).stamp ≡ f.rec.stamp
   pub distinct : AreDistinct c.files
   pub of : All (IsOfStamp f.rec.number f.rec.stamp) c.files
+  pub named : IsNamedFile c.users (recs_in c) path f.rec.number full
 
 pub file_of : (c : Contents) (path : Path) (number : ℕ) (full : Full) → IsNamedFile c.users (recs_in c) path number full
     → (f : File) × (f.rec.number ≡ number) × IsFileOf c path full f
@@ -67,6 +68,7 @@ file_of c path number full is =
       at,
       record {
         there = there;
+        named = subst (λ (n : ℕ). IsNamedFile c.users (recs_in c) path n full) (sym at) is;
         name = λ text. is.named (λ (r : FileRec). text r.stamp) c.head.next_stamp;
         row = λ text.
             ap (λ (x : Full). (file_row (tree_in text c) x).stamp) (sym named)

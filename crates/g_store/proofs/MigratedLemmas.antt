@@ -122,6 +122,8 @@ module _ (path : Path) (t : StoreFacts) (unspent : t.spent ≡ false) (keeps : I
     cause = no_cause t fault disc tape stop;
     dump = λ _. refl;
     exact = λ text. exact_some _ t fault (is text []);
+    done = tt;
+    stopped = λ is. absurd (stop (let same : fault ≡ Stopped = cc in same));
   }
 
   -- the path names no file
@@ -169,6 +171,8 @@ module _ (path : Path) (t : StoreFacts) (unspent : t.spent ≡ false) (keeps : I
         cause = no_cause t NoMemory (λ e. let no : ⊥ = cc in no) (λ e. let no : ⊥ = cc in no) (λ e. let no : ⊥ = cc in no);
         dump = λ _. refl;
         exact = λ text. exact_none _ t t (Err NoMemory) (granted Plain text []) (inr refl);
+        done = tt;
+        stopped = λ is. absurd (let no : ⊥ = cc in no);
       }
 
       pinned_by : (dump : Option DumpFacts) → t.dump ≡ dump → IfSome dump (λ d. IsOpen d t.online t.rack) → is_some t.online.pins ≡ is_some dump
@@ -265,6 +269,8 @@ module _ (path : Path) (t : StoreFacts) (unspent : t.spent ≡ false) (keeps : I
             };
             dump = λ _. refl;
             exact = λ text. exact_none _ t after (Ok full) (granted Plain text []) tt;
+            done = record { number = f.rec.number; named = is.named; leaves = done };
+            stopped = λ is. absurd (let no : ⊥ = cc in no);
           }
 
         -- stopped
@@ -348,6 +354,8 @@ module _ (path : Path) (t : StoreFacts) (unspent : t.spent ≡ false) (keeps : I
             };
             dump = λ none. absurd (none refl);
             exact = λ text. exact_none _ t spent (Err Stopped) (granted Plain text []) (inl refl);
+            done = tt;
+            stopped = λ _. (full, record { number = f.rec.number; named = is.named; leaves = stopped });
           }
 
 -- BY WHAT THE FILESTORE ANSWERED

@@ -809,7 +809,7 @@ open_front false false true d fa fb fc fd f rest is = is
 open_front false false false true fa fb fc fd f rest is = is
 open_front false false false false fa fb fc fd f rest is = absurd (none-some f is)
 
-which_fault : (a b c d : Bool) (n : ℕ) (f : StoreFault) → first_fault ((a, NoTape) ∷ (b, NotMounted) ∷ (c, DumpOpen n) ∷ (d, CountersSpent) ∷ []) ≡ Some f
+pub which_fault : (a b c d : Bool) (n : ℕ) (f : StoreFault) → first_fault ((a, NoTape) ∷ (b, NotMounted) ∷ (c, DumpOpen n) ∷ (d, CountersSpent) ∷ []) ≡ Some f
     → (NoTape ≡ f) ⊎ ((NotMounted ≡ f) ⊎ ((DumpOpen n ≡ f) ⊎ (CountersSpent ≡ f)))
 which_fault true b c d n f is = inl (same_Some NoTape f is)
 which_fault false true c d n f is = inr (inl (same_Some NotMounted f is))

@@ -95,6 +95,7 @@ module _ (disc : DiscState) (rack after : Rack) (only : OnlyReads rack after) wh
       };
       mounted = mounted;
       lost = named;
+      holds = subst (IsRestored reels disc.held number) (sym has.contents) is;
     }
 
   -- REFUSED
@@ -274,6 +275,11 @@ module _ (disc : DiscState) (rack after : Rack) where
     };
     unmounted = said.unmounted;
     lost = said.lost;
+    none = said.none;
+    found = said.found;
+    unread = said.unread;
+    stopped = said.stopped;
+    only = said.only;
   }
 
 -- a restore that is answered has every reel mounted

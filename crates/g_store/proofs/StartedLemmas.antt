@@ -121,6 +121,8 @@ module _ (disc : DiscState) (rack : Rack) where
       first = λ serial e. let no : ⊥ = cc in absurd no;
       none = λ e. let no : ⊥ = cc in absurd no;
       named = λ serial e. let no : ⊥ = cc in absurd no;
+      stopped = λ e. let no : ⊥ = cc in absurd no;
+      only = tt;
     }
 
     unfounded : Refused online.NoFilestore
@@ -138,6 +140,8 @@ module _ (disc : DiscState) (rack : Rack) where
       first = λ serial e. let no : ⊥ = cc in absurd no;
       none = λ e. none refl;
       named = λ serial e. let no : ⊥ = cc in absurd no;
+      stopped = λ e. let no : ⊥ = cc in absurd no;
+      only = tt;
     }
 
     starved : Refused online.NoMemory
@@ -149,6 +153,8 @@ module _ (disc : DiscState) (rack : Rack) where
       first = λ serial e. let no : ⊥ = cc in absurd no;
       none = λ e. let no : ⊥ = cc in absurd no;
       named = λ serial e. let no : ⊥ = cc in absurd no;
+      stopped = λ e. let no : ⊥ = cc in absurd no;
+      only = tt;
     }
 
     pub load_refused : (fault : OnlineFault) → (fault ≡ online.ReadFault) ⊎ ((fault ≡ online.NoFilestore) ⊎ (fault ≡ online.NoMemory)) → Refused fault
@@ -263,6 +269,7 @@ module _ (disc : DiscState) (rack : Rack) (o : OnlineFacts) (loaded : HasLoaded 
             belongs_up o loaded.begun tied loaded.reads.size told belong (start.disc_belongs disc rack told belong o.contents holds) (adopts_nothing told belong).quiet;
       };
       intent = mounted_by o.contents.head.intent nothing;
+      loaded = (o, loaded, record { same = refl; none = nothing });
     }
 
   -- THE DUMP OF THE INTENT IS ADOPTED
@@ -326,6 +333,7 @@ module _ (disc : DiscState) (rack : Rack) (o : OnlineFacts) (loaded : HasLoaded 
               (subst (IsQuiet belong.shelf (told_reels rack)) (sym contents_are) (start.quiet_after disc rack told belong o.contents holds i intent.is intent.mounted_is files named));
         };
         intent = subst (λ (x : Contents). IfSome x.head.intent (λ j. is_mounted (reel j.serial rack.reels) ≡ true)) (sym contents_are) tt;
+        loaded = (o, loaded, (record { intent = i; is = intent; files = files; found = named; leaves = done }, refl));
       }
 
     -- OR THAT IS STOPPED
@@ -431,6 +439,8 @@ module _ (disc : DiscState) (rack : Rack) (o : OnlineFacts) (loaded : HasLoaded 
         first = λ serial e. let no : ⊥ = cc in absurd no;
         none = λ e. let no : ⊥ = cc in absurd no;
         named = λ serial e. let no : ⊥ = cc in absurd no;
+        stopped = λ e. (o, now, loaded, refl, record { intent = i; is = intent; files = files; found = named; leaves = stopped });
+        only = tt;
       }
 
   -- OR ITS REEL IS IN THE WAY: nothing was written
@@ -542,6 +552,8 @@ module _ (disc : DiscState) (rack : Rack) (o : OnlineFacts) (loaded : HasLoaded 
         first = λ n e. let at : n ≡ serial = cc in subst (λ (m : ℕ). is_mounted (reel m rack.reels) ≡ false) (sym (at ∙ serial_is)) is.mounted_is;
         none = λ e. let no : ⊥ = cc in absurd no;
         named = λ n e blocks was. let at : n ≡ serial = cc in (o.contents, loaded.holds blocks was, i, is.is, sym (at ∙ serial_is));
+        stopped = λ e. let no : ⊥ = cc in absurd no;
+        only = tt;
       }
 
   unread_said : Says TapeReadFault
@@ -561,6 +573,8 @@ module _ (disc : DiscState) (rack : Rack) (o : OnlineFacts) (loaded : HasLoaded 
         first = λ n e. let no : ⊥ = cc in absurd no;
         none = λ e. let no : ⊥ = cc in absurd no;
         named = λ serial e. let no : ⊥ = cc in absurd no;
+        stopped = λ e. let no : ⊥ = cc in absurd no;
+        only = tt;
       }
 
   starved_said : Says NoMemory
@@ -574,6 +588,8 @@ module _ (disc : DiscState) (rack : Rack) (o : OnlineFacts) (loaded : HasLoaded 
         first = λ n e. let no : ⊥ = cc in absurd no;
         none = λ e. let no : ⊥ = cc in absurd no;
         named = λ serial e. let no : ⊥ = cc in absurd no;
+        stopped = λ e. let no : ⊥ = cc in absurd no;
+        only = tt;
       }
 
   cut_said : Says Stopped

@@ -17,8 +17,9 @@ use Rattle.g_state.specs.Up.{DumpFacts, IsOpen, StoreFacts, content_in}
 use Rattle.g_dumper.specs.Keeps.{KeepsStore, behind_step, spent_with, up_with}
 use Rattle.g_dumper.specs.Steps.{Stepping}
 use Rattle.g_dumper.proofs.KeepLemmas.{content_told}
-use Rattle.g_store.specs.Dumping.{LeavesOpen, NoneRose, Progresses, StepsAs, is_stop_at}
+use Rattle.g_store.specs.Dumping.{KeepsDumps, LeavesOpen, NoneRose, Progresses, StepsAs, is_stop_at}
 use Rattle.g_store.specs.Events.{IsStepOfDump, LeadsBy, StepsBy, StepsDump, WroteBy, commits_of_step}
+use Rattle.g_store.proofs.ShelvesLemmas.{adds}
 use Rattle.g_store.proofs.SteppedLemmas.{abandons, completes, goes, stops, stops_closing}
 
 -- THE CONTENT of its pins, where the disc tells
@@ -163,3 +164,20 @@ module _ (old t : StoreFacts) (same : t ≡ old) (unspent : old.spent ≡ false)
 
   pub progress_by : Progresses old answer after
   progress_by = subst (λ (x : StoreFacts). Progresses x answer after) whole (progresses d d' t.online o' t.rack new dump spent answer step)
+
+  dumps_by : (keeps : IsStore (up_with t.online t.rack (Some d))) → AreReels t.rack.reels → KeepsDumps (up_with t.online t.rack (Some d)) answer after
+  dumps_by keeps reels told was shelf shelved =
+      let (text, base, on_base, up) = was.up refl in
+      let is = keeps.open_dump refl in
+      let (content, has) = the_content d t.online t.rack keeps told is in record {
+        dump = d;
+        dump_is = refl;
+        pins = is.pins;
+        pinned = is.pinned;
+        content = content;
+        content_is = has;
+        adds = adds d t.online t.rack reels told text base on_base up is content has shelf shelved d' o' new answer step;
+      }
+
+  pub shelves_by : IsStore t → AreReels t.rack.reels → KeepsDumps old answer after
+  shelves_by keeps reels = subst (λ (x : StoreFacts). KeepsDumps x answer after) whole (dumps_by (subst IsStore (same ∙ sym whole) keeps) reels)

@@ -1,12 +1,18 @@
 -- WHAT BECOMES OF FILESTORE AND TAPE where a dump is opened and where it takes a step: `Begins` and `Stepping` of g_dumper.
-use Rattle.std.specs.Prelude.{◌≡◌, ℕ, ◌+◌, ◌<◌, Bool, true, false, Option, Some, None, Result, Ok, OnOk}
+use Rattle.std.specs.Prelude.{◌≡◌, ◌⊎◌, ℕ, ◌+◌, ◌<◌, Bool, true, false, List, Option, Some, None, Result, Ok, Err, OnOk}
 use Rattle.g_base.specs.Counts.{Rose}
+use Rattle.g_tape.specs.Rack.{Rack}
 use Rattle.g_plain.specs.declared.faults.StoreFault.{StoreFault}
-use Rattle.g_plain.specs.declared.faults.StoreFault.TheVariants.{Stopped}
+use Rattle.g_plain.specs.declared.faults.StoreFault.TheVariants.{Stopped, TapeFull}
 use Rattle.g_step.specs.DumpSteps.{Completed, Going, Stepped}
-use Rattle.g_incr.specs.Plan.{needs}
-use Rattle.g_state.specs.Up.{DumpFacts, StoreFacts}
-use Rattle.g_dumper.specs.Beginning.{Begins}
+use Rattle.g_contents.specs.Facts.{Pin}
+use Rattle.g_incr.specs.Layout.{Dump}
+use Rattle.g_incr.specs.Plan.{dump_of, needs}
+use Rattle.g_shelf.specs.Completed.{AreShelved}
+use Rattle.g_state.specs.Answers.{Belongs, Told}
+use Rattle.g_state.specs.Meaning.{told_reels}
+use Rattle.g_state.specs.Up.{DumpFacts, StoreFacts, content_in, with_dump}
+use Rattle.g_dumper.specs.Beginning.{Begins, IsTooLong, StoppedOpening}
 use Rattle.g_dumper.specs.Steps.{Stepping}
 
 pub record OpensAs (serial : ℕ) (old new : StoreFacts) : Type 0 where
@@ -16,6 +22,12 @@ pub record OpensAs (serial : ℕ) (old new : StoreFacts) : Type 0 where
 
 abbrev pub OpensDump : ℕ → StoreFacts → Result ℕ StoreFault → StoreFacts → Type 0
 OpensDump serial old answer new = OnOk answer (OpensAs serial old new)
+
+-- why a dump wasn't opened behind the look at its reel, of every disc and rack: it would go past the end of the reel, behind the completed
+-- dumps there; or its commit was stopped, where it would have fitted
+pub record RefusesDump (serial : ℕ) (old : StoreFacts) (answer : Result ℕ StoreFault) (new : StoreFacts) : Type 0 where
+  pub full : (need room : ℕ) → answer ≡ Err (TapeFull need room) → IsTooLong serial need room old.online old.rack
+  pub stopped : answer ≡ Err Stopped → StoppedOpening serial old.online new.online old.rack
 
 -- whether a refusal is a stop
 abbrev pub is_stop_at : StoreFault → Bool
@@ -46,3 +58,25 @@ pub record NoneRose (old new : StoreFacts) : Type 0 where
 pub record Progresses (old : StoreFacts) (answer : Result Stepped StoreFault) (new : StoreFacts) : Type 0 where
   pub going : (d : DumpFacts) → old.dump ≡ Some d → NoneRose old new → d.done + 1 < needs d.plan → answer ≡ Ok Going
   pub last : (d : DumpFacts) → old.dump ≡ Some d → NoneRose old new → d.done + 1 ≡ needs d.plan → answer ≡ Ok (Completed d.plan.number)
+
+-- which dumps are on the reels behind a step: the same, or one more; behind a stop one or the other
+abbrev pub Adds : Result Stepped StoreFault → Type 0 → Type 0 → Type 0
+Adds (Ok Going) same more = same
+Adds (Ok (Completed number)) same more = more
+Adds (Err Stopped) same more = same ⊎ more
+Adds (Err fault) same more = same
+
+-- each reel has the completed dumps that it had, and no others; or, behind those of its own reel, the open dump as it was opened: that of
+-- its plan and of the versions that were pinned then
+pub record DumpsStay (shelf : ℕ → List Dump) (old : StoreFacts) (answer : Result Stepped StoreFault) (new : Rack) : Type 0 where
+  pub dump : DumpFacts
+  pub dump_is : old.dump ≡ Some dump
+  pub pins : List Pin
+  pub pinned : old.online.pins ≡ Some pins
+  pub content : List (List ℕ)
+  pub content_is : content_in pins ≡ Some content
+  pub adds : Adds answer (AreShelved shelf (told_reels new)) (AreShelved (with_dump (dump_of dump.plan content) shelf) (told_reels new))
+
+-- NO COMPLETED DUMP IS LOST OR CHANGED, whatever becomes of the step, and none comes but the open one, whole
+abbrev pub KeepsDumps : StoreFacts → Result Stepped StoreFault → StoreFacts → Type 0
+KeepsDumps old answer new = Told old → Belongs old → (shelf : ℕ → List Dump) → AreShelved shelf (told_reels old.rack) → DumpsStay shelf old answer new.rack

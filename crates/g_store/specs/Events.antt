@@ -1,5 +1,5 @@
 -- HOW A STORE ANSWERS THE EVENTS OF THE OPERATOR.
-use Rattle.std.specs.Prelude.{◌≡◌, ◌≢◌, ◌⊎◌, ℕ, ◌+◌, ◌<◌, ◌≤◌, ◌↔◌, true, false, [], List, Some, Result, Ok, Err}
+use Rattle.std.specs.Prelude.{◌≡◌, ◌≢◌, ◌⊎◌, ℕ, ◌+◌, ◌<◌, ◌≤◌, ◌↔◌, true, false, [], ◌∷◌, List, Some, IfOk, Result, Ok, Err}
 use Rattle.g_name.specs.declared.full.Full.{Full}
 use Rattle.g_name.specs.declared.path.Path.{Path}
 use Rattle.g_tape.specs.Reel.{with_mounted}
@@ -13,6 +13,12 @@ use Rattle.g_step.specs.DumpSteps.{OpenStep, DumpStep, Stepped, Going, Completed
 use Rattle.g_state.specs.Up.{StoreFacts}
 use Rattle.g_state.specs.Reading.{StandsForState, holding_of}
 use Rattle.g_state.specs.Answers.{Belongs, HasCause, IsStore, Raised, Told, WroteCommits}
+use Rattle.g_contents.specs.Contents.{recs_in}
+use Rattle.g_contents.specs.Facts.{OnlineFacts}
+use Rattle.g_online.specs.declared.change.Change.{Change}
+use Rattle.g_online.specs.declared.change.Change.TheVariants.{Unload}
+use Rattle.g_online.specs.Done.{HasChanged, HasStopped}
+use Rattle.g_store.specs.Naming.{IsNamedFile}
 use Rattle.g_store.specs.Refusing.{DoneOr, IsExact, capacity_of, mount_refuses, needs_now, open_refuses, unmount_refuses}
 
 -- a state behind the event, by its step with an outcome whose count rose
@@ -74,14 +80,23 @@ StepsDump old answer new = AnswersEvent IsStepOfDump commits_of_step old answer 
 abbrev pub IsOfMigration : StoreFault → Type 0
 IsOfMigration fault = (fault ≡ Stopped) ⊎ (fault ≡ NoMemory)
 
+-- the file that the path names, under its full name, is what went off the disc, or was to go
+pub record Unloads (path : Path) (Leaves : Change → Type 0) (old : OnlineFacts) (full : Full) : Type 0 where
+  pub number : ℕ
+  pub named : IsNamedFile old.contents.users (recs_in old.contents) path number full
+  pub leaves : Leaves (Unload (number ∷ []))
+
 -- Taking a file off the disc: one commit, and an open dump stays as it is. Who isn't there, which file isn't, where its bytes are: no
--- byte of a file is asked for, so the refusals are those of every text.
+-- byte of a file is asked for, so the refusals are those of every text; and whatever the devices tell, the file of the path went, and
+-- that one alone.
 pub record Migrates (path : Path) (old : StoreFacts) (answer : Result Full StoreFault) (new : StoreFacts) : Type 0 where
   pub event : AnswersEvent (λ s k o a n. MigrateStep s k path.user (input_name k.tree [] path) o a n) (λ full. 1) old answer new
   pub cause : HasCause old new answer
   pub dump : (answer ≡ Err Stopped → ⊥) → new.dump ≡ old.dump
   pub exact : (text : ℕ → List ℕ)
       → (let k = holding_of text [] old.online.contents in IsExact (migrate_refuses k path.user (input_name k.tree [] path) Plain) IsOfMigration old answer new)
+  pub done : IfOk answer (Unloads path (λ change. HasChanged change old.online new.online) old.online)
+  pub stopped : answer ≡ Err Stopped → (full : Full) × Unloads path (λ change. HasStopped change old.online new.online) old.online full
 
 -- MOUNTING AND UNMOUNTING change that reel alone
 pub record Mounts (serial : ℕ) (old : StoreFacts) (answer : Result (Unit {0}) StoreFault) (new : StoreFacts) : Type 0 where

@@ -1,28 +1,35 @@
 -- A STORE OUT OF DEVICES, by FORMAT, START or RESTORE.
-use Rattle.std.specs.Prelude.{◌≡◌, ◌≢◌, ℕ, ◌↔◌, true, false, [], All, Option, Some, None, IfSome, Result, Ok, Err}
+use Rattle.std.specs.Prelude.{◌≡◌, ◌≢◌, ◌⊎◌, ℕ, ◌↔◌, true, false, List, [], All, Option, Some, None, IfSome, Result, Ok, Err}
 use Rattle.std.specs.Option.{ForSome}
+use Rattle.std.specs.FinMap.{empty}
 use Rattle.g_base.specs.Counts.{Rose}
+use Rattle.g_base.specs.Told.{Changes}
 use Rattle.g_disc.specs.Disc.{Causes, DiscState}
 use Rattle.g_entry.specs.declared.head.Intent.{Intent}
 use Rattle.g_tape.specs.Rack.{Rack, is_mounted, reel}
 use Rattle.g_tape.specs.Reads.{OnlyReads}
 use Rattle.g_shelf.specs.Last.{first_unmounted}
 use Rattle.g_plain.specs.declared.faults.StoreFault.{StoreFault}
-use Rattle.g_plain.specs.declared.faults.StoreFault.TheVariants.{NoMemory, NoFilestore, DiscReadFault, TapeReadFault, Stopped, RackNotEmpty, RackNotMounted, MountFirst}
-use Rattle.g_step.specs.State.{State}
+use Rattle.g_plain.specs.declared.faults.StoreFault.TheVariants.{NoMemory, NoFilestore, NoDump, DiscReadFault, TapeReadFault, Stopped, RackNotEmpty, RackNotMounted, MountFirst}
+use Rattle.g_plain.specs.PlainTree.{formatted}
+use Rattle.g_step.specs.State.{Holding, State}
 use Rattle.g_step.specs.CallStep.{Outcome, Plain, DiscRead, TapeRead, Cut}
 use Rattle.g_step.specs.Rising.{FormatStep, StartStep, RestoreStep}
 use Rattle.g_contents.specs.Contents.{Contents, Holds, has}
-use Rattle.g_online.specs.Begun.{WroteFirst}
+use Rattle.g_contents.specs.Facts.{OnlineFacts}
+use Rattle.g_online.specs.Begun.{AsBeforeOr, HasLoaded, WroteFirst}
 use Rattle.g_online.specs.declared.fault.OnlineFault.{OnlineFault}
 use Rattle.g_online.specs.declared.fault.OnlineFault.TheVariants as online
 use Rattle.g_restore.specs.Lost.{LostIsNamed}
+use Rattle.g_restore.specs.Reels.{AreOnReels}
+use Rattle.g_restore.specs.Restored.{IsOfDisc, IsOfReels, IsRestored, NothingIsLost}
 use Rattle.g_state.specs.Belong.{Belong}
 use Rattle.g_state.specs.Meaning.{told_reels}
 use Rattle.g_state.specs.Up.{StoreFacts}
-use Rattle.g_state.specs.Reading.{AllTold, DevicesStandFor, StandsForState}
+use Rattle.g_state.specs.Reading.{AllTold, DevicesStandFor, ReelsTold, StandsForState, holding_of}
 use Rattle.g_state.specs.Answers.{Belongs, IsStore, Told}
 use Rattle.g_store.specs.Refusing.{first_used}
+use Rattle.g_store.specs.Starting.{Takes}
 
 -- The store is made. Where the devices tell, and with what is given of them, its state is that of the step.
 pub record Makes {A : Type 0} (given : Type 0) (by : State → Outcome → Result A StoreFault → State → Type 0) (count : A → ℕ) (disc : DiscState) (rack : Rack) (reply : A) (new : StoreFacts) : Type 0 where
@@ -77,23 +84,56 @@ made_fault online.Stopped = Stopped
 made_fault online.NoFilestore = NoFilestore
 made_fault fault = NoMemory
 
--- FORMAT asks nothing of the devices but that every reel is empty, and says which is the first that isn't, of every rack
+-- what a new filestore holds: two users and no file, no dump and no intent
+abbrev pub new_holding : Holding
+new_holding = record { tree = formatted; places = empty; last = 0; intent = None; kept = empty }
+
+abbrev pub IsNew : Contents → Type 0
+IsNew c = (text : ℕ → List ℕ) → holding_of text [] c ≡ new_holding
+
+-- the refusals of FORMAT, and no others
+abbrev pub IsOfFormat : StoreFault → Type 0
+IsOfFormat (RackNotEmpty serial) = Unit {0}
+IsOfFormat DiscReadFault = Unit {0}
+IsOfFormat Stopped = Unit {0}
+IsOfFormat NoMemory = Unit {0}
+IsOfFormat fault = ⊥
+
+-- FORMAT asks nothing of the devices but that every reel is empty, and says which is the first that isn't, of every rack. What is held
+-- then is the new filestore, whatever was there before: also a disc and a rack that stood for no state, as a disc that names files on
+-- reels that were emptied.
 pub record Formats (disc : DiscState) (rack : Rack) (new : StoreFacts) : Type 0 where
   pub makes : Makes (Unit {0}) FormatStep (λ reply. 1) disc rack tt new
   pub empty : first_used rack.reels ≡ None
+  pub holds : IsNew new.online.contents
 
+-- stopped, the disc stands for what it stood for, or for the new filestore
 pub record RefusesFormat (disc : DiscState) (rack : Rack) (fault : StoreFault) (disc' : DiscState) (rack' : Rack) : Type 0 where
   pub refuses : Refuses (Unit {0}) FormatStep disc rack fault disc' rack'
   pub full : (serial : ℕ) → (fault ≡ RackNotEmpty serial) ↔ (first_used rack.reels ≡ Some serial)
+  pub stopped : fault ≡ Stopped → (c : Contents) × IsNew c × Changes (AsBeforeOr c) disc.held disc'.held
+  pub only : IsOfFormat fault
 
 -- START asks that disc and rack belong together; the reel of an intent is mounted, of every rack
 abbrev pub commits_of_start : Option ℕ → ℕ
 commits_of_start None = 0
 commits_of_start (Some number) = 1
 
+-- the refusals of START, and no others
+abbrev pub IsOfStart : StoreFault → Type 0
+IsOfStart NoFilestore = Unit {0}
+IsOfStart DiscReadFault = Unit {0}
+IsOfStart (MountFirst serial) = Unit {0}
+IsOfStart TapeReadFault = Unit {0}
+IsOfStart Stopped = Unit {0}
+IsOfStart NoMemory = Unit {0}
+IsOfStart fault = ⊥
+
 pub record Begun (disc : DiscState) (rack : Rack) (adopted : Option ℕ) (new : StoreFacts) : Type 0 where
   pub makes : Makes (Belong disc.held rack) StartStep commits_of_start disc rack adopted new
   pub intent : IfSome new.online.contents.head.intent (λ i. is_mounted (reel i.serial rack.reels) ≡ true)
+  -- what the disc holds, with the dump of its intent taken over or as it is, whether or not disc and rack belong together
+  pub loaded : (o : OnlineFacts) × HasLoaded disc o × Takes o rack (Ok adopted) new.online
 
 pub record RefusesStart (disc : DiscState) (rack : Rack) (fault : StoreFault) (disc' : DiscState) (rack' : Rack) : Type 0 where
   pub refuses : Refuses (Belong disc.held rack) StartStep disc rack fault disc' rack'
@@ -102,15 +142,26 @@ pub record RefusesStart (disc : DiscState) (rack : Rack) (fault : StoreFault) (d
   pub none : fault ≡ NoFilestore → ForSome disc.held (λ blocks. (c : Contents) → Holds blocks c → ⊥)
   pub named : (serial : ℕ) → fault ≡ MountFirst serial
       → ForSome disc.held (λ blocks. (c : Contents) × Holds blocks c × (i : Intent) × (c.head.intent ≡ Some i) × (i.serial ≡ serial))
+  pub stopped : fault ≡ Stopped → (o : OnlineFacts) × (left : OnlineFacts) × HasLoaded disc o × (left.disc ≡ disc') × Takes o rack (Err Stopped) left
+  pub only : IsOfStart fault
 
--- RESTORE too, and that every reel is mounted; it says which is the first that isn't, of every rack; and it names what is lost, whether
--- disc and rack belong together or not
+-- RESTORE too, and that every reel is mounted; it says which is the first that isn't, of every rack. Whether disc and rack belong
+-- together or not, what is held then is what the completed dumps of the rack give, with every place held, and what is lost is named.
 pub record Restored (disc : DiscState) (rack : Rack) (number : ℕ) (new : StoreFacts) : Type 0 where
   pub makes : Makes (Belong disc.held rack) RestoreStep (λ n. 1) disc rack number new
   pub mounted : first_unmounted rack.reels ≡ None
   pub lost : LostIsNamed (told_reels rack) (Ok number)
+  pub holds : IsRestored (told_reels rack) disc.held number new.online.contents
 
+-- a directory or a copy is lost only where disc and rack don't belong together; the disc is asked for only where the dumps give
+-- something
 pub record RefusesRestore (disc : DiscState) (rack : Rack) (fault : StoreFault) (disc' : DiscState) (rack' : Rack) : Type 0 where
   pub refuses : Refuses (Belong disc.held rack) RestoreStep disc rack fault disc' rack'
   pub unmounted : (serial : ℕ) → (fault ≡ RackNotMounted serial) ↔ (first_unmounted rack.reels ≡ Some serial)
   pub lost : (let answer : Result ℕ StoreFault = Err fault in LostIsNamed (told_reels rack) answer)
+  pub none : fault ≡ NoDump → AreOnReels (told_reels rack) []
+  pub found : ReelsTold (told_reels rack) → Belong disc.held rack → (let answer : Result ℕ StoreFault = Err fault in NothingIsLost answer)
+  pub unread : fault ≡ DiscReadFault → (number : ℕ) × (contents : Contents) × IsRestored (told_reels rack) disc.held number contents
+  pub stopped : fault ≡ Stopped → (number : ℕ) × (contents : Contents) × IsRestored (told_reels rack) disc.held number contents
+      × Changes (AsBeforeOr contents) disc.held disc'.held
+  pub only : IsOfReels fault ⊎ IsOfDisc fault

@@ -2,7 +2,7 @@
 ghost use Rattle.std.specs.Prelude.{◌≡◌, false, is_some, true};
 ghost use Rattle.g_tape.specs.Rack.{reel};
 ghost use Rattle.g_dumper.specs.Steps.{stepped_of};
-ghost use Rattle.g_store.specs.Dumping.{OpensDump, Progresses, StepsAs, is_stop_at};
+ghost use Rattle.g_store.specs.Dumping.{KeepsDumps, OpensDump, Progresses, RefusesDump, StepsAs, is_stop_at};
 ghost use Rattle.g_store.specs.Events.{Opens, StepsDump};
 ghost use Rattle.g_store.specs.Refusing.{open_refuses};
 
@@ -25,6 +25,7 @@ impl<D: Disc, T: Tapes> Store<D, T> {
         requires running { self.old.spent ≡ false }
         ensures event { Opens serial self.old result self.new }
         ensures begins { OpensDump serial self.old result self.new }
+        ensures refuses { RefusesDump serial self.old result self.new }
     {
         match self.opening_refused(serial) {
             Some(fault) => return Err(fault),
@@ -52,6 +53,7 @@ impl<D: Disc, T: Tapes> Store<D, T> {
         ensures event { StepsDump self.old (stepped_of result) self.new }
         ensures steps { StepsAs self.old (stepped_of result) self.new }
         ensures progress { Progresses self.old (stepped_of result) self.new }
+        ensures dumps { KeepsDumps self.old (stepped_of result) self.new }
     {
         match &mut self.dump {
             Some(dump) => match dump.step(&mut self.online, &mut self.tapes) {

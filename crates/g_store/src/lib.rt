@@ -4,6 +4,7 @@
 
 mod calling;
 mod dumping;
+mod laws;
 mod making;
 mod migrating;
 mod mounting;
@@ -12,6 +13,7 @@ mod store;
 #[cfg(test)]
 mod tests;
 
+pub use laws::making_is_complete;
 pub use making::{Refused, format, restore};
 pub use starting::start;
 pub use store::Store;

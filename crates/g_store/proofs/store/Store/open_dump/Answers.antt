@@ -2,6 +2,7 @@ use Rattle.std.proofs.Common.{ℕ, Bool, Err, Ok, Some, subst, sym}
 use Rattle.g_state.specs.Answers.{IsStore}
 use Rattle.g_state.specs.Up.{StoreFacts}
 use Rattle.g_store.specs.Events.{Opens}
+use Rattle.g_store.proofs.FullLemmas.{opened_so, refused_by, refused_early}
 use Rattle.g_store.proofs.OpenedLemmas.{opens_by, opens_refused}
 use Rattle.g_store.proofs.store.Store.open_dump.Goals as goal
 
@@ -43,3 +44,12 @@ returns-in-Err-clause-event g c =
       tied = c.in-Err.ensures.tied;
       keeps = c.in-Err.ensures.keeps;
     }))
+
+pub returns-in-Some-clause-refuses : goal.returns-in-Some-clause-refuses
+returns-in-Some-clause-refuses g c = refused_early c.args.serial c.args.self.now c.in-Some.fault _ c.in-Some.ensures
+
+pub returns-in-Ok-clause-refuses : goal.returns-in-Ok-clause-refuses
+returns-in-Ok-clause-refuses g c = opened_so c.args.serial c.args.self.now c.number-number.result _
+
+pub returns-in-Err-clause-refuses : goal.returns-in-Err-clause-refuses
+returns-in-Err-clause-refuses g c = refused_by c.args.serial c.args.self.now _ c.self.view_is c.in-Err.fault (g.T.Tapes.rack c.begin.new.tapes) _ c.in-Err.ensures.refused c.in-Err.ensures.stopped

@@ -1,0 +1,9 @@
+//! What follows of the clauses of a store's making. Laws alone.
+ghost use Rattle.g_store.specs.Complete.{MakingIsComplete};
+
+/// Where no count of faults rose, FORMAT over empty reels, START over a disc that holds something, without an intent or with
+/// its reel mounted, and RESTORE with all reels mounted and a completed dump, where disc and rack belong together, are done,
+/// or memory was wanting.
+pub fn making_is_complete()
+    ensures { MakingIsComplete }
+{}
