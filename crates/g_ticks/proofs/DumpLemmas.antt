@@ -1,5 +1,5 @@
 -- The step of the open dump, from each world that is what is at hand, and what holds of all devices behind it.
-use Rattle.std.proofs.Common.{◌≡◌, ◌⊎◌, ◌+◌, ◌-◌, ◌≤◌, ◌++◌, append-nil, codes, is_some, ℕ, Bool, true, false, List, [], Option, Some, None, Result, Ok, Err, sum_by, refl, sym, ◌∙◌, ap, subst, inl, inr, arith, if◌then◌else◌}
+use Rattle.std.proofs.Common.{◌≡◌, ◌+◌, ◌-◌, ◌≤◌, ◌++◌, append-nil, codes, is_some, ℕ, Bool, true, false, List, [], Option, Some, None, Result, Ok, Err, sum_by, refl, sym, ◌∙◌, ap, subst, inl, inr, arith, if◌then◌else◌}
 use Rattle.std.proofs.lemmas.Bool.{false≢true}
 use Rattle.std.specs.Option.{option_map}
 use Rattle.g_contents.specs.Facts.{OnlineFacts}

@@ -1,5 +1,5 @@
 -- What holds of every device behind a turn.
-use Rattle.std.proofs.Common.{◌≡◌, ℕ, true, false, List, Option, Some, None, refl, sym, ◌∙◌, ap, subst, inl, inr}
+use Rattle.std.proofs.Common.{◌≡◌, ℕ, true, List, Option, Some, None, refl, sym, ◌∙◌, ap, subst, inl, inr}
 use Rattle.std.specs.Prelude.{◌↔◌}
 use Rattle.g_job.specs.Spends.{SpendsBy}
 use Rattle.g_job.specs.State.{JobState}
@@ -13,8 +13,7 @@ use Rattle.g_crew.specs.Numbers.{AreOpen, job_in}
 use Rattle.g_console.specs.declared.progress.Failure.{Failure}
 use Rattle.g_console.specs.declared.progress.Failure.TheVariants.{Memory}
 use Rattle.g_console.specs.Parts.{IsReady, seen}
-use Rattle.g_console.specs.Puts.{FaultCause}
-use Rattle.g_console.specs.System.{Down, SystemBelongs, SystemFacts, Up, devices_in}
+use Rattle.g_console.specs.System.{Down, SystemBelongs, SystemFacts, Up}
 use Rattle.g_ticks.specs.Parts.{KeepsRun}
 use Rattle.g_ticks.specs.Turning.{EndsTurn, LeftBy}
 use Rattle.g_ticks.proofs.RanLemmas.{StaysOver}

@@ -1,9 +1,9 @@
 -- A write to a reel mounts and unmounts none, so that what jobs have left to do is as it was.
-use Rattle.std.proofs.Common.{◌≡◌, ◌+◌, ◌-◌, ◌==◌, ℕ, Bool, true, false, List, [], ◌∷◌, Option, Some, None, sum_by, refl, sym, ◌∙◌, ap, subst, cond, if◌then◌else◌, arith}
+use Rattle.std.proofs.Common.{◌≡◌, ◌+◌, ◌-◌, ◌==◌, ℕ, Bool, true, false, List, [], ◌∷◌, Option, Some, None, sum_by, refl, ◌∙◌, ap, if◌then◌else◌, arith}
 use Rattle.std.proofs.lemmas.List.Sums.{sum_by-cons}
 use Rattle.g_job.specs.State.{JobState}
 use Rattle.g_tape.specs.Reel.{Reel, Remains, Shortened, Torn, Unchanged, ending, left_by}
-use Rattle.g_tape.specs.Rack.{Rack, changed, is_mounted, reel, with_reel}
+use Rattle.g_tape.specs.Rack.{Rack, is_mounted, reel, with_reel}
 use Rattle.g_ticks.specs.Parts.{may_step, reel_there, share_in}
 
 module _ (f : Reel → Reel) (mounts : (r : Reel) → (f r).mounted ≡ r.mounted) (named : (r : Reel) → (f r).serial ≡ r.serial) where

@@ -1,6 +1,5 @@
 -- What a turn's calls leave as it was, whether devices tell or not; and which reels a state has mounted.
-use Rattle.std.proofs.Common.{◌≡◌, ◌⊎◌, ℕ, Bool, true, false, List, [], ◌∷◌, map, Option, Some, None, Err, refl, sym, ◌∙◌, ap, subst, inl, inr}
-use Rattle.g_contents.specs.Facts.{OnlineFacts}
+use Rattle.std.proofs.Common.{◌≡◌, ◌⊎◌, ℕ, false, List, [], ◌∷◌, None, Err, refl, sym, ◌∙◌, ap, subst, inl, inr}
 use Rattle.std.proofs.lemmas.Bool.{false≢true}
 use Rattle.g_act.specs.Causes.{IsHonest, IsOther, StopsAt}
 use Rattle.g_act.specs.State.{Broken, Stop, Waits, Work}
@@ -11,13 +10,13 @@ use Rattle.g_plain.specs.declared.faults.StoreFault.TheVariants.{NoMemory, Stopp
 use Rattle.g_state.specs.Answers.{Answers, Belongs, Told}
 use Rattle.g_state.specs.Meaning.{told_reels}
 use Rattle.g_state.specs.Reading.{StandsForState, View, state_up}
-use Rattle.g_state.specs.Up.{DumpFacts, StoreFacts}
+use Rattle.g_state.specs.Up.{StoreFacts}
 use Rattle.g_step.specs.State as state
 use Rattle.g_step.specs.State.{State}
 use Rattle.g_store.proofs.MountLemmas.{mounted_by}
 use Rattle.g_store_calls.proofs.CallLemmas.{same_mounts}
 use Rattle.g_store_calls.proofs.SeenLemmas.{seen}
-use Rattle.g_tape.specs.Rack.{Rack, is_mounted, reel}
+use Rattle.g_tape.specs.Rack.{is_mounted, reel}
 
 -- the store stays over devices of the same sizes, which nobody armed; the same reels are mounted; and it goes on belonging to them
 pub record StaysOver (old new : StoreFacts) : Type 0 where

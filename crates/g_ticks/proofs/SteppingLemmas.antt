@@ -1,6 +1,5 @@
 -- What the devices count in a step of the open dump, by its outcome.
-use Rattle.std.proofs.Common.{◌≡◌, ◌⊎◌, ℕ, ◌+◌, List, Option, Some, None, Result, Ok, Err, refl, sym, ◌∙◌, ap, subst, inl, inr, arith}
-use Rattle.g_base.specs.Counts.{HasRisenBy, Rose, RoseBy}
+use Rattle.std.proofs.Common.{◌≡◌, ℕ, List, Option, Result, Ok, Err, refl, sym, ap, subst, inl, inr, arith}
 use Rattle.g_base.proofs.CountLemmas.{HasRisenBy-Rose, RoseBy-none}
 use Rattle.g_contents.specs.Facts.{OnlineFacts}
 use Rattle.g_dumper.specs.Steps.{Abandoned, FailedWrite, Stepping, WroteBlock}
@@ -16,7 +15,7 @@ use Rattle.g_step.specs.DumpSteps.{Completed, Going, Stepped}
 use Rattle.g_tape.specs.Rack.{Rack}
 use Rattle.g_world.specs.Devices.{Devices}
 use Rattle.g_world.specs.Events.{OutcomeTold}
-use Rattle.g_world.specs.Moves.{EventCounted, Happened}
+use Rattle.g_world.specs.Moves.{EventCounted}
 use Rattle.g_world.proofs.CountLemmas.{happened_same, none_rose}
 
 abbrev both : OnlineFacts → Rack → Devices

@@ -1,13 +1,11 @@
 -- A TURN'S PART of a tick, from the choice and from how the turn was taken.
-use Rattle.std.proofs.Common.{◌≡◌, ◌⊎◌, ℕ, true, false, List, [], ◌++◌, Option, Some, None, refl, sym, ◌∙◌, ap, subst, inl, inr}
+use Rattle.std.proofs.Common.{◌≡◌, ℕ, List, Option, Some, None, refl, sym, subst, inl, inr}
 use Rattle.std.specs.Fn.{Shared}
 use denote.Ref.{Bor}
 use Rattle.g_budget.specs.declared.tariff.Charge.{Charge}
 use Rattle.g_budget.specs.declared.tariff.Usage.{Usage}
 use Rattle.g_sched.specs.declared.rule.Standing.{Standing}
-use Rattle.g_job.specs.State.{JobState}
 use Rattle.g_job.specs.Turns.{turn_work}
-use Rattle.g_job.specs.declared.turn.Turn.TheVariants as turns
 use Rattle.g_job.proofs.TurnBounds.{turn_honest}
 use Rattle.g_state.specs.Up.{StoreFacts}
 use Rattle.g_step.specs.State as state

@@ -1,6 +1,6 @@
 -- The two parts of a tick, one behind the other.
-use Rattle.std.proofs.Common.{◌≡◌, ◌⊎◌, ◌+◌, ◌≤◌, ◌++◌, ℕ, Bool, true, false, List, [], ◌∷◌, Option, Some, None, Result, Ok, Err, append_assoc, append-nil, is_some, length, take, refl, sym, ◌∙◌, ap, subst, inl, inr, arith, if◌then◌else◌}
-use Rattle.std.specs.Prelude.{◌||◌, not, nat_le}
+use Rattle.std.proofs.Common.{◌≡◌, ◌+◌, ◌≤◌, ◌++◌, ℕ, Bool, true, false, List, [], ◌∷◌, Option, Some, None, Result, Ok, Err, append_assoc, append-nil, is_some, length, take, refl, sym, ◌∙◌, ap, subst, inl, inr, arith, if◌then◌else◌}
+use Rattle.std.specs.Prelude.{◌||◌}
 use Rattle.std.proofs.lemmas.List.{length-append}
 use Rattle.std.proofs.Math.Seq.{take-append-add}
 use Rattle.std.specs.Fn.{Shared}
@@ -15,15 +15,15 @@ use Rattle.g_state.specs.Up.{StoreFacts}
 use Rattle.g_step.specs.DumpSteps.{Completed, Going, Stepped as DumpStepped}
 use Rattle.g_step.specs.State.{OpenDump, State}
 use Rattle.g_world.specs.Devices.{Devices}
-use Rattle.g_world.specs.Moves.{Dumped, Move, MovesCounted, Run, dump_told}
-use Rattle.g_world.specs.World.{Between, KeepsLines, Phase, Stepped, Turned, World, is_due, is_dumping, nothing_steps}
+use Rattle.g_world.specs.Moves.{Dumped, Move, MovesCounted, dump_told}
+use Rattle.g_world.specs.World.{KeepsLines, World, is_due, is_dumping}
 use Rattle.g_world.proofs.CountLemmas.{event_none, move_counted, moves_then}
 use Rattle.g_world.proofs.CountedTurnLemmas.{keeps_itself}
 use Rattle.g_world.proofs.TickLemmas.{dump_keeps_lines}
 use Rattle.g_world.proofs.TurnLemmas.{run_append}
 use Rattle.g_crew.specs.Crew.{CrewState}
 use Rattle.g_console.specs.declared.progress.Failure.{Failure}
-use Rattle.g_console.specs.Parts.{Matches, Seen, seen}
+use Rattle.g_console.specs.Parts.{Seen, seen}
 use Rattle.g_console.specs.Puts.{FaultCause}
 use Rattle.g_console.specs.System.{Down, StandsAs, SystemFacts, Up, devices_in}
 use Rattle.g_ticks.proofs.DumpLemmas.{one_if}

@@ -1,6 +1,6 @@
 -- A TURN, as moves of a run, from every world that is what is at hand; and what holds of every device.
-use Rattle.std.proofs.Common.{◌≡◌, ◌⊎◌, ◌<◌, ◌≤◌, ◌+◌, ℕ, Bool, true, false, List, [], ◌∷◌, ◌++◌, map, Option, Some, None, slice_get, refl, sym, ◌∙◌, ap, subst, inl, inr, append-nil, arith}
-use Rattle.std.specs.Prelude.{◌↔◌, ◌&&◌, codes, length, not}
+use Rattle.std.proofs.Common.{◌≡◌, ◌⊎◌, ◌<◌, ◌≤◌, ℕ, Bool, true, false, List, [], ◌++◌, map, Option, Some, None, slice_get, refl, sym, ◌∙◌, ap, subst, inl, inr, append-nil, arith}
+use Rattle.std.specs.Prelude.{◌↔◌, ◌&&◌, codes, not}
 use Rattle.std.specs.Fmt.{decimal}
 use Rattle.std.specs.Fn.{Shared}
 use denote.Ref.{Bor}
@@ -11,8 +11,8 @@ use Rattle.g_budget.specs.declared.tariff.Charge.{Charge}
 use Rattle.g_budget.specs.declared.tariff.Usage.{Usage}
 use Rattle.g_sched.specs.declared.rule.Standing.{Standing}
 use Rattle.g_sched.specs.Choice.{IsChosen}
-use Rattle.g_io.specs.Streams.{HasPutPart, with_more}
-use Rattle.g_plain.specs.Asks.{Asks, Gives, RanInPart}
+use Rattle.g_io.specs.Streams.{with_more}
+use Rattle.g_plain.specs.Asks.{Gives, RanInPart}
 use Rattle.g_job.specs.Begun.{standing_of}
 use Rattle.g_job.specs.Spends.{SpendsBy}
 use Rattle.g_job.specs.State.{JobState}
@@ -25,11 +25,11 @@ use Rattle.g_state.specs.Meaning.{told_reels}
 use Rattle.g_state.specs.Up.{StoreFacts}
 use Rattle.g_step.specs.State.{State}
 use Rattle.g_store.proofs.ArmLemmas.{spent_stands}
-use Rattle.g_world.specs.Accounts.{Opened, settled}
-use Rattle.g_world.specs.Devices.{Devices, StandFor}
-use Rattle.g_world.specs.Moves.{Move, MovesCounted, Run}
-use Rattle.g_world.specs.Texts.{broken_files, job_text, operator_line}
-use Rattle.g_world.specs.World.{Between, KeepsLines, Stepped, Turned, World, able, has_none, is_due, is_dumping, job_of, nothing_steps, with_job, without_job}
+use Rattle.g_world.specs.Accounts.{settled}
+use Rattle.g_world.specs.Devices.{Devices}
+use Rattle.g_world.specs.Moves.{Move, MovesCounted}
+use Rattle.g_world.specs.Texts.{job_text, operator_line}
+use Rattle.g_world.specs.World.{Between, Stepped, World, able, has_none, is_dumping, job_of, nothing_steps, with_job, without_job}
 use Rattle.g_world.proofs.CountLemmas.{event_none}
 use Rattle.g_world.proofs.CountedTurnLemmas.{keeps_itself, turned_world}
 use Rattle.g_world.proofs.CrewLemmas.{found_same, one_job}
@@ -44,15 +44,14 @@ use Rattle.g_crew.specs.Turn.{TakesTurn}
 use Rattle.g_console.specs.declared.progress.Failure.{Failure}
 use Rattle.g_console.specs.declared.progress.Failure.TheVariants.{Memory}
 use Rattle.g_console.specs.Parts.{IsReady, Matches, Seen, seen}
-use Rattle.g_console.specs.Puts.{FaultCause, Puts, PutsBy}
-use Rattle.g_console.specs.System.{Down, StandsAs, SystemBelongs, SystemFacts, Up, devices_in}
+use Rattle.g_console.specs.Puts.{Puts, PutsBy}
+use Rattle.g_console.specs.System.{Down, StandsAs, SystemFacts, Up, devices_in}
 use Rattle.g_console.proofs.CauseLemmas.{counted_by}
 use Rattle.g_console.proofs.UpLemmas.{of_cause}
 use Rattle.g_console.proofs.UserLemmas.{have_rows}
-use Rattle.g_ticks.specs.Parts.{Comes, GoesBy, IsThrough, KeepsRun, MayTurn}
-use Rattle.g_ticks.specs.Turning.{EndsTurn, LeftBy, Takes, TookPart, TookTurn}
+use Rattle.g_ticks.specs.Parts.{Comes, GoesBy, IsThrough, MayTurn}
+use Rattle.g_ticks.specs.Turning.{EndsTurn, LeftBy, TookTurn}
 use Rattle.g_ticks.proofs.NumberedLemmas.{numbered_is, open_with, open_without, without_with}
-use Rattle.g_ticks.proofs.RanLemmas.{StaysOver, part_stays, ran_stays}
 
 -- what a call's devices count
 counts : CausesCount

@@ -1,11 +1,10 @@
-use Rattle.std.proofs.Common.{◌≡◌, ◌++◌, Err, Ok, Result, sym, ◌∙◌, ap, subst}
+use Rattle.std.proofs.Common.{◌++◌, Err, Ok, Result, sym, ◌∙◌, ap, subst}
 use Rattle.std.specs.Prelude.{codes}
 use Rattle.std.proofs.lemmas.Bool.{false≢true}
 use Rattle.g_dumper.specs.declared.dump.DumpStep.{DumpStep}
 use Rattle.g_dumper.specs.Steps.{stepped}
 use Rattle.g_monitor.specs.Refusals.{fault_line}
 use Rattle.g_plain.specs.declared.faults.StoreFault.{StoreFault}
-use Rattle.g_plain.specs.declared.faults.StoreFault.TheVariants.{Stopped}
 use Rattle.g_step.specs.DumpSteps.{Stepped}
 use Rattle.g_store.specs.Dumping.{StepsAs}
 use Rattle.g_store.specs.Events.{StepsDump}

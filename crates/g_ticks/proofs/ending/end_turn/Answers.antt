@@ -1,4 +1,3 @@
-use Rattle.std.proofs.Common.{sym, ◌∙◌}
 use Rattle.g_console.specs.System.{facts_of}
 use Rattle.g_job.specs.declared.turn.Turn.TheVariants as turns
 use Rattle.g_ticks.proofs.EndedLemmas.{ends_by, stopped_ends}

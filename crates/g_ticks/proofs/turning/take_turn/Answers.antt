@@ -1,4 +1,3 @@
-use Rattle.std.proofs.Common.{None}
 use Rattle.g_ticks.proofs.RanLemmas.{mounted_some, some_state}
 use Rattle.g_ticks.proofs.TakenLemmas.{nobody_turns, somebody_turns}
 use Rattle.g_ticks.proofs.turning.take_turn.Goals as goal
