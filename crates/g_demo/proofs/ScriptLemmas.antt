@@ -1,11 +1,10 @@
 -- Lines of a script, one behind another.
-use Rattle.std.proofs.Common.{List, [], ap, codes, eqb, append_assoc, arith, refl, replicate, subst, suc, sym, ℕ, ◌%◌, ◌*◌, ◌+◌, ◌++◌, ◌∙◌, ◌∷◌, ◌≡◌, ◌≢◌}
+use Rattle.std.proofs.Common.{List, [], ap, codes, append_assoc, arith, refl, replicate, subst, suc, sym, ℕ, ◌%◌, ◌*◌, ◌+◌, ◌++◌, ◌∙◌, ◌∷◌, ◌≡◌}
 use Rattle.std.specs.Fmt.{decimal}
-use Rattle.std.proofs.lemmas.Bool.{ne_eqb}
 use Rattle.std.proofs.lemmas.List.{append-nil, replicate_more}
 use Rattle.std.proofs.lemmas.List.Concat.{flat_map-append}
 use Rattle.g_lines.specs.Lines.{ended, text_of}
-use Rattle.g_demo.specs.Script.{at_turn, behind_job, behind_round, behind_rounds, behind_three, closing, drawn, file_name, filled_line, job_lines, next, opening, round_lines, rounds_lines, script_text}
+use Rattle.g_demo.specs.Script.{at_turn, behind_job, behind_round, behind_rounds, behind_three, drawn, file_name, filled_line, job_lines, next, round_lines, rounds_lines}
 
 -- the text of lines and of one more
 pub text_of-last : (lines : List (List ℕ)) (line : List ℕ) → text_of lines ++ ended line ≡ text_of (lines ++ line ∷ [])
@@ -113,7 +112,3 @@ round_put t u v i state s1 s2 s3 k c j first second third made lines listed job 
     ∙ ap (λ (n : ℕ). t ++ text_of (job_lines i (drawn 20 (next state)) (n + 1) j)) is_c
     ∙ ap (λ (n : ℕ). t ++ text_of (job_lines i (drawn 20 (next state)) (drawn 40 (next (next state)) + 1) n)) is_j)
     behind
-
--- the whole script
-pub script_put : (t u : List ℕ) (number rounds : ℕ) → t ≡ text_of opening ++ text_of (rounds_lines number rounds) → u ≡ t ++ text_of closing → u ≡ script_text number rounds
-script_put t u number rounds body last = behind_then (text_of opening) t u (rounds_lines number rounds) closing body last ∙ sym (flat_map-append ended opening (rounds_lines number rounds ++ closing))

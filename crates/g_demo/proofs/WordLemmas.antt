@@ -1,5 +1,5 @@
 -- The words of the command line, and the numbers in them.
-use Rattle.std.proofs.Common.{Bool, Err, IsTrue, List, Ok, Option, Result, [], ap, arith, codes, get_or, length, map, refl, subst, suc, sym, true, zero, ℕ, ◌<◌, ◌∙◌, ◌∷◌, ◌≡◌, ◌≢◌, ◌≤◌, ◌⊎◌, ◌^◌, inl, inr}
+use Rattle.std.proofs.Common.{Bool, Err, List, Ok, Result, [], ap, arith, codes, get_or, length, refl, subst, suc, sym, true, zero, ℕ, ◌<◌, ◌∙◌, ◌∷◌, ◌≡◌, ◌≢◌, ◌≤◌, ◌⊎◌, ◌^◌, inl, inr}
 use Rattle.std.specs.Borrow.{Bor}
 use Rattle.std.specs.Fmt.{decimal}
 use Rattle.std.specs.Str.{bytes_eq}
@@ -9,7 +9,7 @@ use Rattle.std.proofs.lemmas.Result.{OkIff-at_ok}
 use Rattle.std.proofs.lemmas.Slice.Eq.{bytes_eq-Decides}
 use Rattle.std.proofs.lemmas.Str.Parse.{IsNumeralModel, digit_at, numerals_by_value, parse_plain, tells_digits}
 use Rattle.g_demo.specs.Plain.{BeginsPlainly}
-use Rattle.g_demo.specs.Words.{AskNothing, IsAsked, IsDemonstration, demo_words, texts_of, words_of}
+use Rattle.g_demo.specs.Words.{IsAsked, IsDemonstration, demo_words, texts_of, words_of}
 use Rattle.g_demo.specs.declared.demonstration.Demonstration.{Demonstration}
 use Rattle.g_demo.specs.declared.words.Asked.{Asked}
 use Rattle.g_demo.specs.declared.words.Asked.TheVariants as asked
@@ -56,26 +56,12 @@ number_found digits r n parses is plain =
 abbrev pub IsNoDemo : List ℕ → List ℕ → List ℕ → Type 0
 IsNoDemo word number rounds = (demo : Demonstration) → IsDemonstration demo → (word ∷ number ∷ rounds ∷ []) ≢ demo_words demo
 
-abbrev pub IsDemoOf : List ℕ → List ℕ → List ℕ → Demonstration → Type 0
-IsDemoOf word number rounds demo = IsDemonstration demo × ((word ∷ number ∷ rounds ∷ []) ≡ demo_words demo)
-
 parts_of : (word number rounds word' number' rounds' : List ℕ) → ◌≡◌ {A = List (List ℕ)} (word ∷ number ∷ rounds ∷ []) (word' ∷ number' ∷ rounds' ∷ [])
     → (word ≡ word') × (number ≡ number') × (rounds ≡ rounds')
 parts_of word number rounds word' number' rounds' e = (cc, cc, cc)
 
-pub no_demo-word : (word number rounds : List ℕ) → word ≢ codes "demo" → IsNoDemo word number rounds
-no_demo-word word number rounds other demo is e = other (parts_of word number rounds (codes "demo") (decimal demo.number) (decimal demo.rounds) e).0
-
-pub no_demo-number : (word number rounds : List ℕ) → IsNoNumber number → IsNoDemo word number rounds
-no_demo-number word number rounds none demo is e =
-    none demo.number is.number (parts_of word number rounds (codes "demo") (decimal demo.number) (decimal demo.rounds) e).1
-
 small_rounds : (rounds : ℕ) → rounds ≤ 1000 → rounds < 2 ^ 32
 small_rounds rounds most = omega arith
-
-pub no_demo-rounds : (word number rounds : List ℕ) → IsNoNumber rounds → IsNoDemo word number rounds
-no_demo-rounds word number rounds none demo is e =
-    none demo.rounds (small_rounds demo.rounds is.most) (parts_of word number rounds (codes "demo") (decimal demo.number) (decimal demo.rounds) e).2
 
 pub no_demo-outside : (word number rounds : List ℕ) (n : ℕ) → n < 2 ^ 32 → rounds ≡ decimal n → (n ≡ 0) ⊎ (1000 < n) → IsNoDemo word number rounds
 no_demo-outside word number rounds n small written outside demo is e =
@@ -85,16 +71,8 @@ no_demo-outside word number rounds n small written outside demo is e =
     let most : demo.rounds ≤ 1000 = is.most in
     elim outside [ inl zero_is ↦ omega (arith, zero_is, one, least) | inr large ↦ omega (arith, large, one, most) ]
 
-three : (word number rounds word' number' rounds' : List ℕ) → word ≡ word' → number ≡ number' → rounds ≡ rounds' → ◌≡◌ {A = List (List ℕ)} (word ∷ number ∷ rounds ∷ []) (word' ∷ number' ∷ rounds' ∷ [])
-three word number rounds word' number' rounds' a b c = cc
-
-pub demo_found : (word number rounds : List ℕ) (n m : ℕ) → word ≡ codes "demo" → n < 2 ^ 32 → number ≡ decimal n → rounds ≡ decimal m → 1 ≤ m → m ≤ 1000
-    → IsDemoOf word number rounds (record { number = n; rounds = m })
-demo_found word number rounds n m is small number_is rounds_is least most =
-    (record { number = small; least = least; most = most }, three word number rounds (codes "demo") (decimal n) (decimal m) is number_is rounds_is)
-
 -- the list of words
-pub one_word : (words : List (Bor (List ℕ))) (d : Bor (List ℕ)) → 1 ≤ length words → length words < 2 → texts_of words ≡ (get_or words 0 d).now ∷ []
+one_word : (words : List (Bor (List ℕ))) (d : Bor (List ℕ)) → 1 ≤ length words → length words < 2 → texts_of words ≡ (get_or words 0 d).now ∷ []
 one_word [] d least most = absurd (omega arith)
 one_word (word ∷ []) d least most = refl
 one_word (word ∷ next ∷ words) d least most = absurd (omega arith)
@@ -102,31 +80,6 @@ one_word (word ∷ next ∷ words) d least most = absurd (omega arith)
 pub run_word : (same : Bool) (words : List (Bor (List ℕ))) (d : Bor (List ℕ)) → 1 ≤ length words → length words < 2 → same ≡ bytes_eq (get_or words 0 d).now (codes "run") → same ≡ true → texts_of words ≡ codes "run" ∷ []
 run_word same words d least most tested is =
     one_word words d least most ∙ ap (λ (w : List ℕ). w ∷ []) ((bytes_eq-Decides (get_or words 0 d).now (codes "run")).0 (sym tested ∙ is))
-
-pub three_words : (words : List (Bor (List ℕ))) (a b c : Bor (List ℕ)) → 3 ≤ length words → length words < 4
-    → texts_of words ≡ (get_or words 0 a).now ∷ (get_or words 1 b).now ∷ (get_or words 2 c).now ∷ []
-three_words [] a b c least most = absurd (omega arith)
-three_words (x ∷ []) a b c least most = absurd (omega arith)
-three_words (x ∷ y ∷ []) a b c least most = absurd (omega arith)
-three_words (x ∷ y ∷ z ∷ []) a b c least most = refl
-three_words (x ∷ y ∷ z ∷ t ∷ words) a b c least most = absurd (omega arith)
-
--- one word that isn't `run`, three that are no demonstration, and another number of words ask for nothing
-pub one_asks_nothing : (word : List ℕ) → word ≢ codes "run" → AskNothing (word ∷ [])
-one_asks_nothing word other asked.Run is e = let same : word ≡ codes "run" = cc in other same
-one_asks_nothing word other (asked.Demo demo) is e = cc
-
-pub three_ask_nothing : (word number rounds : List ℕ) → IsNoDemo word number rounds → AskNothing (word ∷ number ∷ rounds ∷ [])
-three_ask_nothing word number rounds none asked.Run is e = cc
-three_ask_nothing word number rounds none (asked.Demo demo) is e = none demo is e
-
-length_of : (words : List (Bor (List ℕ))) → length (texts_of words) ≡ length words
-length_of [] = refl
-length_of (word ∷ words) = let e = length_of words in omega (arith, e)
-
-pub others_ask_nothing : (words : List (Bor (List ℕ))) → length words ≢ 1 → length words ≢ 3 → AskNothing (texts_of words)
-others_ask_nothing words not_one not_three asked.Run is e = not_one (sym (length_of words) ∙ ap length e)
-others_ask_nothing words not_one not_three (asked.Demo demo) is e = not_three (sym (length_of words) ∙ ap length e)
 
 -- words ask for one thing at most
 pub one_reading : (one other : Asked) → IsAsked one → IsAsked other → words_of one ≡ words_of other → one ≡ other

@@ -1,5 +1,5 @@
 -- The words of the command line, and what they ask for.
-use Rattle.std.specs.Prelude.{List, codes, map, [], ℕ, ◌<◌, ◌^◌, ◌≡◌, ◌≢◌, ◌≤◌, ◌∷◌}
+use Rattle.std.specs.Prelude.{List, codes, map, [], ℕ, ◌<◌, ◌^◌, ◌≢◌, ◌≤◌, ◌∷◌}
 use Rattle.std.specs.Borrow.{Bor}
 use Rattle.std.specs.Fmt.{decimal}
 use Rattle.g_demo.specs.declared.demonstration.Demonstration.{Demonstration}
