@@ -1,3 +1,4 @@
+pub mod DemoLemmas
 pub mod InputLemmas
 pub mod LawLemmas
 pub mod LeaveLemmas

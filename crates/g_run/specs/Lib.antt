@@ -1,3 +1,4 @@
+pub mod Demo
 pub mod Input
 pub mod Laws
 pub mod Over

@@ -2,6 +2,7 @@
 #![tactic(auto)]
 
 mod came;
+mod demo;
 mod input;
 mod law;
 mod lining;

@@ -49,7 +49,7 @@ pub(crate) fn run_script<
 ) -> Over<D, T>
     requires size { (2177 < (D.state disc).size) × ((D.state disc).size ≤ 1048576) }
     requires within { All IsTimedWithin script.lines }
-    requires few { length script.lines ≤ 16777217 }
+    requires few { length script.lines + 1 < 18446744073709551616 }
     requires tariff { IsTariff F.Fn tariff.now }
     requires rule { IsWeighRule U.Fn weigh.now }
     ensures { DidScript F.Fn tariff.now U.Fn weigh.now script.lines script.bad (both (D.state disc) (T.rack tapes)) result.failure
