@@ -25,6 +25,7 @@ use g_tape::Tapes;
 use std::alloc::Global;
 
 /// Both devices behind a script, and why it was cut short, if it was.
+#[derive(Drop)]
 pub(crate) struct Over<D: Disc, T: Tapes> {
     pub(crate) disc: D,
     pub(crate) tapes: T,
