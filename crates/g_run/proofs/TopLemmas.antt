@@ -21,7 +21,7 @@ use Rattle.g_demo.proofs.WordLemmas.{one_reading}
 use Rattle.g_console.specs.Puts.{PutsBy}
 use Rattle.g_run.specs.declared.status.Status.{Status}
 use Rattle.g_run.specs.Demo.{PutsDemo}
-use Rattle.g_run.specs.Top.{EndsAs, EndsBy, EndsDemo, IsThrough, demo_status, status_of, words_status}
+use Rattle.g_run.specs.Top.{EndsAs, EndsBy, EndsDemo, IsQuiet, IsThrough, demo_status, status_of, words_status}
 use Rattle.g_run.proofs.TickedLemmas.{whole_part}
 
 module _ {F U : Type 0} (tariffs : Shared F (Bor Usage × Unit {0}) Charge) (tariff : F) (rules : Shared U (Bor Standing × Unit {0}) ℕ) (rule : U) where
@@ -62,6 +62,11 @@ arms_as left lines said bad said_bad failure old new was is arms =
 pub cut_words : (failure : Option Failure) (d : Devices) (before after : Option (List ℕ)) → PutsBy failure words_line before after → IsCutWords d d before after
 cut_words None d before after put = (refl, whole_part before after words_line put)
 cut_words (Some failure) d before after put = (refl, put)
+
+pub quiet_words : (failure : Option Failure) (d : Devices) (before after : Option (List ℕ)) → PutsBy failure words_line before after → IsQuiet (words_status failure) d d before after
+quiet_words None d before after put = (refl, put)
+quiet_words (Some failures.Output) d before after put = tt
+quiet_words (Some failures.Memory) d before after put = tt
 
 pub words_cut : (failure : Option Failure) → IsThrough (words_status failure) → ⊥
 words_cut None went = went

@@ -101,11 +101,19 @@ pub fn george<
         Some(Asked::Run) => {}
         Some(Asked::Demo(demo)) => {
             let failure = run_demo(alloc, &demo, tariff, weigh, out);
-            return not_begun(demo_status(failure), disc, tapes);
+            return Finish {
+                status: demo_status(failure),
+                disc,
+                tapes,
+            };
         }
         None => {
             let failure = put(out, b"WORDS NOT KNOWN\n");
-            return not_begun(words_status(failure), disc, tapes);
+            return Finish {
+                status: words_status(failure),
+                disc,
+                tapes,
+            };
         }
     }
     let bytes = match read_script(alloc, script) {
@@ -131,7 +139,7 @@ pub fn george<
     }
 }
 
-/// The devices come back as they were handed in.
+/// Nothing was done.
 fn not_begun<D: Disc, T: Tapes>(status: Status, disc: D, tapes: T) -> Finish<D, T>
     ensures { result ≡ record { status = status; disc = disc; tapes = tapes } }
 {
