@@ -1,12 +1,12 @@
 -- What the laws ask of lines and states holds of what is read and of what devices stand for.
-use Rattle.std.proofs.Common.{◌≡◌, ℕ, All, List, Option, map, sym, subst}
+use Rattle.std.proofs.Common.{ℕ, All, List, Option, sym, subst}
 use Rattle.std.proofs.lemmas.List.Elements.{All-map, All-weaker}
 use Rattle.std.specs.Fn.{Shared}
 use denote.Ref.{Bor}
 use Rattle.g_budget.specs.declared.tariff.Charge.{Charge}
 use Rattle.g_budget.specs.declared.tariff.Usage.{Usage}
 use Rattle.g_sched.specs.declared.rule.Standing.{Standing}
-use Rattle.g_script.specs.Script.{Bare, IsBare, IsItem, IsParsed, IsWrittenOperator, Job, WrittenItem, WrittenOperator, operator_said, timed_said}
+use Rattle.g_script.specs.Script.{Bare, IsBare, IsItem, IsParsed, IsWrittenOperator, Job, WrittenOperator, operator_said, timed_said}
 use Rattle.g_script.specs.declared.operator.Operator.{Operator}
 use Rattle.g_script.specs.declared.operator.Operator.TheVariants as line
 use Rattle.g_script.specs.declared.operator.Timed.{Timed}

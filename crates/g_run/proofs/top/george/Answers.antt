@@ -1,8 +1,8 @@
-use Rattle.std.proofs.Common.{◌≡◌, ◌≤◌, length, arith, ◌∙◌, ap, subst, refl, sym}
+use Rattle.std.proofs.Common.{◌≡◌, ◌≤◌, length, arith, ◌∙◌, ap, subst}
 use Rattle.g_lines.specs.Lines.{lines_of}
 use Rattle.g_script.specs.Script.{IsParsed}
 use Rattle.g_run.proofs.ReadingLemmas.{parsed_few, parsed_within}
-use Rattle.g_run.proofs.TopLemmas.{arms_as, cut_words, ends_as, none_armed, words_cut}
+use Rattle.g_run.proofs.TopLemmas.{arms_as, ends_as}
 use Rattle.g_run.proofs.top.george.Goals as goal
 
 pub returns-clause-ends : goal.returns-clause-ends
