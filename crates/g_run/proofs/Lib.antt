@@ -1,4 +1,5 @@
 pub mod InputLemmas
+pub mod LawLemmas
 pub mod LeaveLemmas
 pub mod LineLemmas
 pub mod OverLemmas

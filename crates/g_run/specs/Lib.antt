@@ -1,4 +1,5 @@
 pub mod Input
+pub mod Laws
 pub mod Over
 pub mod Parts
 pub mod Top
