@@ -1,5 +1,5 @@
 -- The lines of a demonstration's script are those of its items, and each may stand in a script.
-use Rattle.std.proofs.Common.{All, Bool, List, [], ap, append_assoc, arith, codes, false, get_or, length, map, refl, replicate, subst, suc, sym, true, zero, if◌then◌else◌, ℕ, ◌%◌, ◌&&◌, ◌*◌, ◌+◌, ◌++◌, ◌/◌, ◌<◌, ◌==◌, ◌^◌, ◌||◌, ◌∙◌, ◌∷◌, ◌≡◌, ◌≢◌, ◌≤◌}
+use Rattle.std.proofs.Common.{All, Bool, List, [], ap, append_assoc, arith, codes, false, get_or, length, map, refl, replicate, subst, suc, sym, true, zero, if◌then◌else◌, ℕ, ◌%◌, ◌&&◌, ◌*◌, ◌+◌, ◌++◌, ◌<◌, ◌==◌, ◌^◌, ◌||◌, ◌∙◌, ◌∷◌, ◌≡◌, ◌≢◌, ◌≤◌}
 use Rattle.std.specs.Prelude.{nat_le}
 use Rattle.std.specs.Fmt.{decimal}
 use Rattle.std.specs.List.{AllByRecursion, list_all}
