@@ -39,6 +39,7 @@ use Rattle.g_console.proofs.LeavesLemmas.{leaves_is, leaves_joined, leaves_none,
 use Rattle.g_console.proofs.LineLemmas.{none_armed, refused_line, was_done, wasnt_done}
 use Rattle.g_console.proofs.UpLemmas.{up_is}
 use Rattle.g_console.proofs.UserLemmas.{user_known}
+use Rattle.g_console.proofs.LabelLemmas.{same_itself}
 
 -- it isn't taken in, and is told why
 pub turned_away_is : (known : Bool) (job : NewJob) (count : ℕ) (c : CrewState) (w : NotTaken) (failure : Option Failure) (c' : CrewState) (before after : Option (List ℕ)) (old new : ℕ)
@@ -125,6 +126,8 @@ module _ (job : NewJob) (s : StoreFacts) (known : Bool) (known_is : (u : State) 
         ready = ready;
         crew = λ none. leaves_joined job c;
         arms = none_armed (job_of_line job) failure (devices_in (Up s)) (devices_in (Up s)) refl refl refl refl;
+        fuses = tt;
+        same = same_itself (devices_in (Up s));
         belongs = λ is. is;
         cause = comes.put.cause;
       })
@@ -136,6 +139,8 @@ module _ (job : NewJob) (s : StoreFacts) (known : Bool) (known_is : (u : State) 
         ready = ready;
         crew = λ none. leaves_same c;
         arms = none_armed (job_of_line job) failure (devices_in (Up s)) (devices_in (Up s)) refl refl refl refl;
+        fuses = tt;
+        same = same_itself (devices_in (Up s));
         belongs = λ is. is;
         cause = refused.put.cause;
       })
@@ -146,6 +151,8 @@ module _ (job : NewJob) (s : StoreFacts) (known : Bool) (known_is : (u : State) 
         ready = ready;
         crew = λ none. leaves_is c c' same;
         arms = none_armed (job_of_line job) (Some Memory) (devices_in (Up s)) (devices_in (Up s)) refl refl refl refl;
+        fuses = tt;
+        same = same_itself (devices_in (Up s));
         belongs = λ was. was;
         cause = still;
       })
@@ -246,6 +253,8 @@ module _ (s : StoreFacts) (c : CrewState) (ready : IsReady (Up s) c) (count : �
     ready = (ready.1, ready.2, refl, refl);
     crew = λ none. leaves_none c;
     arms = none_armed line.Shut failure (devices_in (Up s)) taken_down refl refl refl refl;
+    fuses = tt;
+    same = same_itself (devices_in (Up s));
     belongs = λ is. record { told = is.0; belong = is.1.devices };
     cause = puts.cause;
   }

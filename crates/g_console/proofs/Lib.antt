@@ -1,5 +1,6 @@
 pub mod CauseLemmas
 pub mod JobLemmas
+pub mod LabelLemmas
 pub mod LeavesLemmas
 pub mod LineLemmas
 pub mod ReelLemmas

@@ -25,6 +25,7 @@ use Rattle.g_console.specs.Puts.{FaultCause, Puts, PutsBy}
 use Rattle.g_console.specs.System.{StandsAs, SystemBelongs, SystemFacts, devices_in}
 use Rattle.g_console.specs.Telling.{TellsFault, down_text, refusal_text, without_jobs}
 use Rattle.g_console.proofs.LeavesLemmas.{leaves_same}
+use Rattle.g_console.proofs.LabelLemmas.{no_fuse, same_itself}
 
 -- done, and its text put whole or in part
 pub was_done : (what : Operator) (old new : Seen) (failure : Option Failure) (added : List ℕ) (before after : Option (List ℕ))
@@ -78,6 +79,8 @@ module _ (what : Operator) (no_disc : disc_arms what ≡ 0) (no_tape : tape_arms
     ready = ready;
     crew = λ none. leaves_same c;
     arms = none_armed what failure (devices_in f) (devices_in f) no_disc no_tape refl refl;
+    fuses = no_fuse what no_disc no_tape (devices_in f);
+    same = same_itself (devices_in f);
     belongs = λ is. is;
     cause = puts.cause;
   }

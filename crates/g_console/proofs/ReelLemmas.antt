@@ -24,8 +24,9 @@ use Rattle.g_store.proofs.MountLemmas.{dumps_stay, lacks_by, mounted_by, rows_tu
 use Rattle.g_store.proofs.TurnLemmas.{files_view, rack_view}
 use Rattle.g_world.specs.Devices.{Devices, StandFor}
 use Rattle.g_console.specs.Reels.{MountsOn, StepsReels, UnmountsOn}
-use Rattle.g_console.specs.System.{BelongTogether, Down, Up}
+use Rattle.g_console.specs.System.{BelongTogether, Down, Up, labels}
 use Rattle.g_console.proofs.UpLemmas.{leads_by}
+use Rattle.g_console.proofs.LabelLemmas.{labels_with}
 
 -- A REEL IS TURNED under no store
 module _ (s : ℕ) (is : Bool) (reels : List Reel) (text : ℕ → List ℕ) (shelf : ℕ → List Dump) where
@@ -119,6 +120,7 @@ module _ (s : ℕ) (d : Devices) where
     read_faults = refl;
     write_faults = refl;
     arms = refl;
+    reels = labels_with s (with_mounted is) (λ r. refl) (λ r. refl) d.rack.reels;
     belongs = same_belongs s is d;
     step = λ u stands. (turned_state s is u, (stands.0, stand_turned s is d u stands.1), step u stands.1);
   }
@@ -132,6 +134,7 @@ module _ (s : ℕ) (d : Devices) where
     read_faults = refl;
     write_faults = refl;
     arms = refl;
+    reels = refl;
     belongs = λ was. was;
     step = λ u stands. (u, stands, step u stands.1);
   }
@@ -222,6 +225,7 @@ module _ (s : ℕ) (old new : StoreFacts) (unspent : old.spent ≡ false) where
     read_faults = ap (λ (t : StoreFacts). t.rack.read_faults) same;
     write_faults = ap (λ (t : StoreFacts). t.rack.write_faults) same;
     arms = ap (λ (t : StoreFacts). t.rack.arms) same;
+    reels = ap (λ (t : StoreFacts). labels t.rack.reels) same ∙ labels_with s (with_mounted is) (λ r. refl) (λ r. refl) old.rack.reels;
     belongs = λ was. (event.told was.0, event.belongs was.0 was.1);
     step = λ v stands.
         let leads = event.step stands.told stands.belongs v stands.stands in
@@ -234,6 +238,7 @@ module _ (s : ℕ) (old new : StoreFacts) (unspent : old.spent ≡ false) where
     read_faults = ap (λ (t : StoreFacts). t.rack.read_faults) same;
     write_faults = ap (λ (t : StoreFacts). t.rack.write_faults) same;
     arms = ap (λ (t : StoreFacts). t.rack.arms) same;
+    reels = ap (λ (t : StoreFacts). labels t.rack.reels) same;
     belongs = λ was. (event.told was.0, event.belongs was.0 was.1);
     step = λ v stands.
         let leads = leads_by (λ u k o a n. by u a n) v old new fault (known fault why).0 (event.step stands.told stands.belongs v stands.stands) in

@@ -17,7 +17,7 @@ use Rattle.g_console.specs.declared.progress.Failure.{Failure}
 use Rattle.g_console.specs.Arming.{HasArmed, disc_armed, tape_armed}
 use Rattle.g_console.specs.Parts.{ArmsBy, DidLine, DoesLine, IsReady, Matches, seen}
 use Rattle.g_console.specs.Puts.{Puts}
-use Rattle.g_console.specs.System.{Down, IsNow, StandsAs, SystemBelongs, SystemFacts, Up, devices_in}
+use Rattle.g_console.specs.System.{Down, IsNow, StandsAs, SystemBelongs, SystemFacts, Up, devices_in, SameDevices}
 use Rattle.g_console.proofs.LeavesLemmas.{leaves_same}
 use Rattle.g_console.proofs.LineLemmas.{was_done}
 
@@ -115,6 +115,8 @@ module _ (k : ℕ) (old new : SystemFacts) (c : CrewState) (count : ℕ) where
     crew = λ none. leaves_same c;
     arms = subst (ArmsBy (line.StopDisc k) failure (devices_in old)) (sym armed.devices)
         (record { disc = (1, omega arith, RoseBy-one refl); tape = (0, omega arith, RoseBy-none refl); all = λ through. (RoseBy-one refl, RoseBy-none refl) });
+    fuses = ap (λ (d : Devices). d.disc.fuse) armed.devices;
+    same = subst (λ (d : Devices). SameDevices (devices_in old) d) (sym armed.devices) (record { size = refl; reels = refl });
     belongs = armed.belongs;
     cause = puts.cause;
   }
@@ -133,6 +135,8 @@ module _ (k : ℕ) (old new : SystemFacts) (c : CrewState) (count : ℕ) where
     crew = λ none. leaves_same c;
     arms = subst (ArmsBy (line.StopTape k) failure (devices_in old)) (sym armed.devices)
         (record { disc = (0, omega arith, RoseBy-none refl); tape = (1, omega arith, RoseBy-one refl); all = λ through. (RoseBy-none refl, RoseBy-one refl) });
+    fuses = ap (λ (d : Devices). d.rack.fuse) armed.devices;
+    same = subst (λ (d : Devices). SameDevices (devices_in old) d) (sym armed.devices) (record { size = refl; reels = refl });
     belongs = armed.belongs;
     cause = puts.cause;
   }

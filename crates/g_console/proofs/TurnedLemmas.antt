@@ -24,6 +24,7 @@ use Rattle.g_console.specs.System.{Down, StandsAs, SystemFacts, Up, devices_in}
 use Rattle.g_console.specs.Telling.{refusal_text}
 use Rattle.g_console.proofs.LeavesLemmas.{leaves_same}
 use Rattle.g_console.proofs.LineLemmas.{as_armed, none_armed, was_done}
+use Rattle.g_console.proofs.LabelLemmas.{no_fuse}
 
 -- no count moved
 counted_same : (old new : Devices) → new.disc ≡ old.disc → new.rack.read_faults ≡ old.rack.read_faults → new.rack.write_faults ≡ old.rack.write_faults → new.rack.arms ≡ old.rack.arms
@@ -106,6 +107,8 @@ module _ (what : Operator) (no_disc : disc_arms what ≡ 0) (no_tape : tape_arms
     ready = ready_still old new c is.stays ready;
     crew = λ none. leaves_same c;
     arms = none_armed what failure (devices_in old) (devices_in new) no_disc no_tape (ap (λ (d : DiscState). d.arms) is.disc) is.arms;
+    fuses = no_fuse what no_disc no_tape (devices_in new);
+    same = record { size = ap (λ (d : DiscState). d.size) is.disc; reels = is.reels };
     belongs = is.belongs;
     cause = puts.cause;
   }

@@ -30,11 +30,12 @@ use Rattle.g_crew.specs.Crew.{CrewState}
 use Rattle.g_console.specs.declared.progress.Failure.{Failure}
 use Rattle.g_console.specs.Parts.{ArmsBy, DidLine, DoesLine, IsReady, Matches, Seen, disc_arms, seen, tape_arms}
 use Rattle.g_console.specs.Puts.{Puts}
-use Rattle.g_console.specs.System.{Down, IsNow, StandsAs, SystemBelongs, SystemFacts, Up, devices_in}
+use Rattle.g_console.specs.System.{Down, IsNow, StandsAs, SystemBelongs, SystemFacts, Up, devices_in, SameDevices}
 use Rattle.g_console.specs.Telling.{TellsFault, refusal_text, system_after, without_jobs}
 use Rattle.g_console.proofs.CauseLemmas.{OfDisc, counted_by}
 use Rattle.g_console.proofs.LeavesLemmas.{leaves_same, leaves_told}
 use Rattle.g_console.proofs.LineLemmas.{FaultDone, Faulted, as_armed, none_armed, refused_line, tells_fault, told_of, told_same, was_done}
+use Rattle.g_console.proofs.LabelLemmas.{labels_read, no_fuse}
 
 -- the state of a store that is up is up
 pub up_is : (s : StoreFacts) (u : State) → s.spent ≡ false → StandsForState s u → u.up ≡ true
@@ -111,6 +112,8 @@ module _ {A : Type 0} (what : Operator) (by : State → Holding → Outcome → 
       ready = (running, event.keeps.tied.size, event.keeps.tied.most);
       crew = λ none. leaves_same c;
       arms = none_armed what failure (devices_in (Up old)) (devices_in (Up new)) no_disc no_tape cause.disc.arms cause.tapes.arms;
+      fuses = no_fuse what no_disc no_tape (devices_in (Up new));
+      same = record { size = cause.disc.size; reels = labels_read old.rack.reels new.rack.reels cause.tapes.reels };
       belongs = λ is. (event.told is.0, event.belongs is.0 is.1);
       cause = puts.cause;
     }
@@ -189,6 +192,8 @@ module _ {A : Type 0} (what : Operator) (by : State → Holding → Outcome → 
           arms =
               subst (λ (d : Devices). ArmsBy what failure (devices_in (Up old)) d) (sym (same_devices fault new))
               (none_armed what failure (devices_in (Up old)) (devices_in (Up new)) no_disc no_tape cause.disc.arms cause.tapes.arms);
+          fuses = no_fuse what no_disc no_tape (devices_in system);
+          same = subst (λ (d : Devices). SameDevices (devices_in (Up old)) d) (sym (same_devices fault new)) (record { size = cause.disc.size; reels = labels_read old.rack.reels new.rack.reels cause.tapes.reels });
           belongs = belongs_by fault refl;
           cause = both.1;
         }

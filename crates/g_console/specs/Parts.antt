@@ -13,7 +13,7 @@ use Rattle.g_crew.specs.Crew.{CrewState, IsCrewOf}
 use Rattle.g_crew.specs.Numbers.{AreOpen}
 use Rattle.g_console.specs.declared.progress.Failure.{Failure}
 use Rattle.g_console.specs.Puts.{FaultCause}
-use Rattle.g_console.specs.System.{Down, StandsAs, SystemBelongs, SystemFacts, Up, devices_in}
+use Rattle.g_console.specs.System.{Down, SameDevices, StandsAs, SystemBelongs, SystemFacts, Up, devices_in}
 
 -- what a run has at hand
 pub record Seen : Type 0 where
@@ -79,11 +79,19 @@ pub record LeavesCrew (old new : CrewState) : Type 0 where
   pub jobs : AreOpen old.jobs → AreOpen new.jobs
   pub numbers : new.next_job ≤ old.next_job + 1
 
+-- a STOP line sets the fuse of its device to this number
+abbrev pub FusesBy : Operator → Devices → Type 0
+FusesBy (line.StopDisc k) d = d.disc.fuse ≡ Some k
+FusesBy (line.StopTape k) d = d.rack.fuse ≡ Some k
+FusesBy what d = Unit {0}
+
 -- A PART OF A RUN that does a line
 pub record DidLine (what : Operator) (old : Seen) (failure : Option Failure) (new : Seen) (before after : Option (List ℕ)) (faults faults' : ℕ) : Type 0 where
   pub goes : LineGoes what old failure new before after
   pub ready : IsReady new.system new.crew
   pub crew : failure ≡ None → LeavesCrew old.crew new.crew
   pub arms : ArmsBy what failure (devices_in old.system) (devices_in new.system)
+  pub fuses : FusesBy what (devices_in new.system)
+  pub same : SameDevices (devices_in old.system) (devices_in new.system)
   pub belongs : SystemBelongs old.system → SystemBelongs new.system
   pub cause : FaultCause failure faults faults'

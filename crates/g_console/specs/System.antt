@@ -1,7 +1,8 @@
 -- THE SYSTEM as a run has it: a store that is up, or devices under no store.
-use Rattle.std.specs.Prelude.{◌≡◌, false}
+use Rattle.std.specs.Prelude.{◌≡◌, ℕ, false, List, map}
 use Rattle.g_disc.specs.Disc.{DiscState}
 use Rattle.g_tape.specs.Rack.{Rack}
+use Rattle.g_tape.specs.Reel.{Reel}
 use Rattle.g_step.specs.State.{State}
 use Rattle.g_state.specs.Meaning.{told_reels}
 use Rattle.g_state.specs.Belong.{Belong}
@@ -23,6 +24,15 @@ facts_of disc rack (systems.Down d t) = Down (record { disc = disc d; rack = rac
 abbrev pub devices_in : SystemFacts → Devices
 devices_in (Up s) = record { disc = s.online.disc; rack = s.rack }
 devices_in (Down d) = d
+
+-- the reels of a rack, by serial and capacity
+abbrev pub labels : List Reel → List (ℕ × ℕ)
+labels reels = map (λ r. (r.serial, r.capacity)) reels
+
+-- THE SAME DEVICES: a disc of the same size, and the same reels
+pub record SameDevices (old new : Devices) : Type 0 where
+  pub size : new.disc.size ≡ old.disc.size
+  pub reels : labels new.rack.reels ≡ labels old.rack.reels
 
 -- a store that is up isn't spent
 abbrev pub IsRunning : SystemFacts → Type 0

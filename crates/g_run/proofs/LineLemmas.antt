@@ -53,6 +53,7 @@ line_keeps next old failure new before after faults faults' did still = record {
   ready = λ none. (did.ready, (did.crew none).jobs still);
   numbers = λ none. (did.crew none).numbers;
   arms = line_arms next failure (devices_in old.system) (devices_in new.system) did.arms;
+  same = did.same;
   belongs = did.belongs;
   cause = did.cause;
 }

@@ -24,6 +24,7 @@ use Rattle.g_console.specs.System.{StandsAs, SystemFacts, devices_in}
 use Rattle.g_ticks.specs.Parts.{IsBetween}
 use Rattle.g_ticks.proofs.TickLemmas.{put_on, with_more-append}
 use Rattle.g_run.specs.Parts.{Anything, Arrives, GoesBy, Keeps, Leads}
+use Rattle.g_console.proofs.LabelLemmas.{same_then}
 
 pub with_more-nil : (before : Option (List ℕ)) → with_more before [] ≡ before
 with_more-nil (Some bytes) = ap (λ t. Some t) (append-nil bytes)
@@ -80,6 +81,7 @@ keeps_then a b old mid failure new faults faults1 faults2 first later = record {
       let sum : length (a ++ b) ≡ length a + length b = length-append a b in
       omega (arith, one, two, sum);
   arms = arms_then a b (devices_in old.system) (devices_in mid.system) (devices_in new.system) refl first.arms later.arms;
+  same = same_then (devices_in old.system) (devices_in mid.system) (devices_in new.system) first.same later.same;
   belongs = λ was. later.belongs (first.belongs was);
   cause = subst (λ (n : ℕ). FaultCause failure n faults2) first.cause later.cause;
 }
@@ -92,6 +94,7 @@ keeps_more a b old failure new faults faults' first = record {
   ready = λ none. absurd (some_none failure none);
   numbers = λ none. absurd (some_none failure none);
   arms = arms_more a b (devices_in old.system) (devices_in new.system) (some_none failure) first.arms;
+  same = first.same;
   belongs = first.belongs;
   cause = first.cause;
 }

@@ -14,7 +14,7 @@ use Rattle.g_world.specs.Devices.{Devices, StandFor}
 use Rattle.g_world.specs.Top.{AreArmings}
 use Rattle.g_console.specs.declared.progress.Failure.{Failure}
 use Rattle.g_console.specs.Puts.{FaultCause, Puts}
-use Rattle.g_console.specs.System.{BelongTogether, StandsAs, SystemFacts, devices_in}
+use Rattle.g_console.specs.System.{BelongTogether, SameDevices, StandsAs, SystemFacts, devices_in}
 use Rattle.g_run.specs.Top.{EndsBy}
 
 abbrev pub both : DiscState → Rack → Devices
@@ -34,5 +34,6 @@ module _ {F U : Type 0} (tariffs : Shared F (Bor Usage × Unit {0}) Charge) (tar
   pub record DidScript (lines : List Timed) (bad : Option ℕ) (old : Devices) (failure : Option Failure) (new : Devices) (before after : Option (List ℕ)) (faults faults' : ℕ) : Type 0 where
     pub ends : EndsBy tariffs tariff rules rule failure lines bad old new before after
     pub arms : AreArmings lines (failure ≡ None) old new
+    pub same : SameDevices old new
     pub belongs : BelongTogether old → BelongTogether new
     pub cause : FaultCause failure faults faults'

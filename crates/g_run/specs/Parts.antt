@@ -16,7 +16,7 @@ use Rattle.g_crew.specs.Numbers.{AreOpen}
 use Rattle.g_console.specs.declared.progress.Failure.{Failure}
 use Rattle.g_console.specs.Parts.{IsReady, Matches, Seen}
 use Rattle.g_console.specs.Puts.{FaultCause}
-use Rattle.g_console.specs.System.{StandsAs, SystemBelongs, SystemFacts, devices_in}
+use Rattle.g_console.specs.System.{SameDevices, StandsAs, SystemBelongs, SystemFacts, devices_in}
 use Rattle.g_ticks.specs.Parts.{IsBetween, has_dump, left, some_job_steps}
 
 -- the turn from which on the first of some lines is due
@@ -101,6 +101,7 @@ pub record Keeps (done : List Timed) (old : Seen) (failure : Option Failure) (ne
   pub ready : failure ≡ None → IsReady new.system new.crew × AreOpen new.crew.jobs
   pub numbers : failure ≡ None → new.crew.next_job ≤ old.crew.next_job + length done
   pub arms : AreArmings done (failure ≡ None) (devices_in old.system) (devices_in new.system)
+  pub same : SameDevices (devices_in old.system) (devices_in new.system)
   pub belongs : SystemBelongs old.system → SystemBelongs new.system
   pub cause : FaultCause failure faults faults'
 

@@ -3,7 +3,7 @@ use Rattle.std.proofs.Common.{◌≡◌, ◌+◌, ◌-◌, ◌≤◌, ◌++◌, 
 use Rattle.std.proofs.lemmas.Bool.{false≢true}
 use Rattle.std.specs.Option.{option_map}
 use Rattle.g_contents.specs.Facts.{OnlineFacts}
-use Rattle.g_dumper.specs.Steps.{Stepping}
+use Rattle.g_dumper.specs.Steps.{Stepping, WroteBlock}
 use Rattle.g_incr.specs.Plan.{needs}
 use Rattle.g_io.specs.Streams.{with_more}
 use Rattle.g_job.specs.State.{JobState}
@@ -20,6 +20,7 @@ use Rattle.g_store.specs.Events.{IsStepOfDump, LeadsBy, StepsBy, StepsDump}
 use Rattle.g_store.proofs.ArmLemmas.{spent_stands}
 use Rattle.g_store_calls.proofs.SeenLemmas.{seen as seen_of}
 use Rattle.g_tape.specs.Rack.{Rack, is_mounted, reel}
+use Rattle.g_tape.specs.Reel.{Reel, Remains, Shortened, Torn, Unchanged, ending, left_by}
 use Rattle.g_world.specs.Devices.{Devices}
 use Rattle.g_world.specs.Events.{IsDumpStep}
 use Rattle.g_world.specs.Moves.{EventCounted, dump_told}
@@ -32,12 +33,13 @@ use Rattle.g_crew.specs.Numbers.{AreOpen}
 use Rattle.g_console.specs.declared.progress.Failure.{Failure}
 use Rattle.g_console.specs.Parts.{IsReady, Matches, seen}
 use Rattle.g_console.specs.Puts.{Puts, PutsBy}
-use Rattle.g_console.specs.System.{Down, IsNow, StandsAs, SystemFacts, Up, devices_in}
+use Rattle.g_console.specs.System.{Down, IsNow, StandsAs, SystemFacts, Up, devices_in, labels}
 use Rattle.g_console.specs.Telling.{TellsFault, system_after, without_jobs}
 use Rattle.g_console.proofs.UpLemmas.{not_spent}
 use Rattle.g_ticks.specs.Parts.{DidDump, DumpGoes, Falls, KeepsRun, StepsTo, has_dump, phase_behind, share_in}
 use Rattle.g_ticks.proofs.RackLemmas.{SameMounted, ending_mounts, failing_mounts, shares_still}
 use Rattle.g_ticks.proofs.SteppingLemmas.{stepping_counted}
+use Rattle.g_console.proofs.LabelLemmas.{labels_with, same_itself}
 
 -- a step never wants memory
 steps_lead : (answer : Result Stepped StoreFault) (s : State) (old new : StoreFacts) (dump after : DumpFacts) → Stepping dump old.online old.rack answer after new.online new.rack
@@ -98,6 +100,32 @@ module _ (d e : DumpFacts) (o p : OnlineFacts) (r t : Rack) where
   step_mounts (Err Stopped) (plan, inl (failed, is)) = failing_mounts d.plan.serial (d.plan.place + d.done) failed.how r t (ap (λ (x : Rack). x.reels) failed.rack)
   step_mounts (Err Stopped) (plan, inr (last, wrote, closing)) = ending_mounts d.plan.serial (d.plan.place + d.done) wrote.block r t (ap (λ (x : Rack). x.reels) wrote.rack)
   step_mounts (Err fault) step = absurd step
+
+left_named : (how : Remains) (k : ℕ) (r : Reel) → (left_by how k r).serial ≡ r.serial
+left_named Unchanged k r = refl
+left_named Shortened k r = refl
+left_named (Torn block) k r = refl
+
+left_holds : (how : Remains) (k : ℕ) (r : Reel) → (left_by how k r).capacity ≡ r.capacity
+left_holds Unchanged k r = refl
+left_holds Shortened k r = refl
+left_holds (Torn block) k r = refl
+
+module _ (d e : DumpFacts) (o p : OnlineFacts) (r t : Rack) where
+  wrote_same : WroteBlock d o.pins r t → labels t.reels ≡ labels r.reels
+  wrote_same wrote = ap (λ (x : Rack). labels x.reels) wrote.rack ∙ labels_with d.plan.serial (ending (d.plan.place + d.done) wrote.block) (λ q. refl) (λ q. refl) r.reels
+
+  step_same : (answer : Result Stepped StoreFault) → Stepping d o r answer e p t → (p.disc.size ≡ o.disc.size) × (labels t.reels ≡ labels r.reels)
+  step_same (Ok Going) (more, dump, is, wrote) = (ap (λ (x : OnlineFacts). x.disc.size) is, wrote_same wrote)
+  step_same (Ok (Completed n)) (last, number, plan, wrote, closing) = (closing.causes.size, wrote_same wrote)
+  step_same (Err DiscReadFault) (dump, is, gone) = (ap (λ (x : OnlineFacts). x.disc.size) gone.facts, ap (λ (x : Rack). labels x.reels) is)
+  step_same (Err Stopped) (plan, inl (failed, is)) = (
+    ap (λ (x : OnlineFacts). x.disc.size) is,
+    ap (λ (x : Rack). labels x.reels) failed.rack
+        ∙ labels_with d.plan.serial (left_by failed.how (d.plan.place + d.done)) (left_named failed.how (d.plan.place + d.done)) (left_holds failed.how (d.plan.place + d.done)) r.reels,
+  )
+  step_same (Err Stopped) (plan, inr (last, wrote, closing)) = (closing.causes.size, wrote_same wrote)
+  step_same (Err fault) step = absurd step
 
 -- WHAT THE DUMP HAS LEFT TO DO
 abbrev by_dump : Option DumpFacts → ℕ
@@ -219,6 +247,7 @@ module _ (old new : StoreFacts) (unspent : old.spent ≡ false) (c : CrewState) 
     ready = λ e. ((not_spent new.spent answer event.spent isnt, event.keeps.tied.size, event.keeps.tied.most), taking);
     disc_arms = (step_arms is.dump is.after old.online new.online old.rack new.rack answer is.stepping).0;
     tape_arms = (step_arms is.dump is.after old.online new.online old.rack new.rack answer is.stepping).1;
+    same = let it = step_same is.dump is.after old.online new.online old.rack new.rack answer is.stepping in record { size = it.0; reels = it.1 };
     belongs = λ was. (event.told was.0, event.belongs was.0 was.1);
     cause = puts.cause;
     numbers = λ e. refl;
@@ -296,6 +325,7 @@ module _ (old new : StoreFacts) (unspent : old.spent ≡ false) (c : CrewState) 
       ready = λ e. ((event.keeps.tied.size, event.keeps.tied.most, refl, refl), nobody);
       disc_arms = (step_arms is.dump is.after old.online new.online old.rack new.rack (Err Stopped) is.stepping).0;
       tape_arms = (step_arms is.dump is.after old.online new.online old.rack new.rack (Err Stopped) is.stepping).1;
+      same = let it = step_same is.dump is.after old.online new.online old.rack new.rack (Err Stopped) is.stepping in record { size = it.0; reels = it.1 };
       belongs = λ was. record { told = event.told was.0; belong = (event.belongs was.0 was.1).devices };
       cause = tells.1.cause;
       numbers = λ e. refl;
@@ -318,7 +348,7 @@ pub did_nothing : (old : StoreFacts) (c : CrewState) (count : ℕ) → IsReady (
     → DidDump (seen (Up old) c count) None (seen (Up old) c count) before before faults faults
 did_nothing old c count ready taking none before faults = record {
   goes = λ w m. (w, [], inl (record { none = none_open w m.stands; next_is = refl; same = refl; text = refl }), m, sym (with_more-nil before));
-  keeps = record { ready = λ e. (ready, taking); disc_arms = refl; tape_arms = refl; belongs = λ was. was; cause = refl; numbers = λ e. refl };
+  keeps = record { ready = λ e. (ready, taking); disc_arms = refl; tape_arms = refl; same = same_itself (devices_in (Up old)); belongs = λ was. was; cause = refl; numbers = λ e. refl };
   falls = λ e. let no : has_dump (Up old) ≡ false = ap (λ (d : Option DumpFacts). is_there d) none in
       let zero : one_if (has_dump (Up old)) ≡ one_if false = ap one_if no in omega (arith, zero);
   idle = λ e. refl;

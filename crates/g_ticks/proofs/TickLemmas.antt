@@ -28,6 +28,7 @@ use Rattle.g_console.specs.Puts.{FaultCause}
 use Rattle.g_console.specs.System.{Down, StandsAs, SystemFacts, Up, devices_in}
 use Rattle.g_ticks.proofs.DumpLemmas.{one_if}
 use Rattle.g_ticks.specs.Parts.{Comes, DumpGoes, DidDump, DidTick, DidTurn, DumpComes, Falls, GoesBy, IsThrough, KeepsRun, MayTick, MayTurn, StepsNothing, StepsTo, has_dump, left, some_job_steps}
+use Rattle.g_console.proofs.LabelLemmas.{same_then}
 
 -- TEXTS, one behind the other
 pub with_more-append : (before : Option (List ℕ)) (a b : List ℕ) → with_more (with_more before a) b ≡ with_more before (a ++ b)
@@ -147,6 +148,7 @@ module _ {F U : Type 0} (tariffs : Shared F (Bor Usage × Unit {0}) Charge) (tar
       ready = turned.ready;
       disc_arms = turned.disc_arms ∙ dumped.keeps.disc_arms;
       tape_arms = turned.tape_arms ∙ dumped.keeps.tape_arms;
+      same = same_then (devices_in (Up old)) (devices_in (Up mid)) (devices_in new) dumped.keeps.same turned.same;
       belongs = λ was. turned.belongs (dumped.keeps.belongs was);
       cause = subst (λ (n : ℕ). FaultCause failure n faults2) dumped.keeps.cause turned.cause;
       numbers = λ e. turned.numbers e ∙ dumped.keeps.numbers refl;
