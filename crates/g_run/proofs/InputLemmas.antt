@@ -1,13 +1,10 @@
 -- A source read piece by piece.
-use Rattle.std.proofs.Common.{zero, suc, ◌∷◌, Bool, codes, get_or, IsTrue, ◌≡◌, ◌+◌, ◌-◌, ◌<◌, ◌≤◌, ◌++◌, ℕ, List, [], Option, Some, refl, sym, ◌∙◌, ap, subst, length, take, drop, arith}
+use Rattle.std.proofs.Common.{zero, suc, ◌∷◌, ◌≡◌, ◌+◌, ◌-◌, ◌<◌, ◌≤◌, ◌++◌, ℕ, List, [], Option, Some, refl, sym, ◌∙◌, ap, subst, length, take, drop, arith}
 use Rattle.std.proofs.lemmas.List.{drop-drop, length-append, length-drop, length-take-le, take_all, take_at}
 use Rattle.std.proofs.Math.ListN.{drop_of_length-le}
 use Rattle.std.proofs.Math.Seq.{take-add}
-use Rattle.std.specs.Borrow.{Bor}
-use Rattle.std.specs.Str.{bytes_eq}
-use Rattle.std.proofs.lemmas.Slice.Eq.{bytes_eq-Decides}
 use Rattle.g_io.specs.Streams.{Takes, IsTaken}
-use Rattle.g_run.specs.Input.{HasRead, IsRun}
+use Rattle.g_run.specs.Input.{HasRead}
 
 taken_of : (left text old new : List ℕ) (n : ℕ) (before rest : Option (List ℕ)) → HasRead left text before → Takes before n old new rest →
     IsTaken (drop (length text) left) n old new rest
@@ -57,15 +54,3 @@ read_all left text old new n before rest read takes none =
 -- how much was taken so far
 pub taken_so_far : (left text : List ℕ) (most : ℕ) (rest : Option (List ℕ)) → HasRead left text rest → length text ≤ most → (n : ℕ) × (n ≤ most) × (rest ≡ Some (drop n left))
 taken_so_far left text most rest read few = (length text, few, read.rest_is)
-
-only_word : (a b : List ℕ) → ◌≡◌ {A = List (List ℕ)} (a ∷ []) (b ∷ []) → a ≡ b
-only_word a b e = cc
-
--- one word was compared
-pub one_word : (same : Bool) (words : List (Bor (List ℕ))) (other : Bor (List ℕ)) → 1 ≤ length words → length words < 2 →
-    same ≡ bytes_eq (get_or words 0 other).now (codes "run") → (IsTrue same → IsRun words) × (IsRun words → IsTrue same)
-one_word same [] other least most e = let no : ⊥ = omega arith in absurd no
-one_word same (word ∷ []) other least most e =
-    let decides = bytes_eq-Decides word.now (codes "run") in
-    (λ yes. ap (λ w. w ∷ []) (decides.0 (sym e ∙ yes)), λ run. e ∙ decides.1 (only_word word.now (codes "run") run))
-one_word same (word ∷ next ∷ words) other least most e = let no : ⊥ = omega arith in absurd no

@@ -1,4 +1,6 @@
+pub mod DemoLemmas
 pub mod InputLemmas
+pub mod LawLemmas
 pub mod LeaveLemmas
 pub mod LineLemmas
 pub mod OverLemmas

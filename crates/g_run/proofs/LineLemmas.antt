@@ -1,12 +1,12 @@
 -- A line behind the ticks that come before it, and lines one behind the other.
-use Rattle.std.proofs.Common.{◌≡◌, ◌⊎◌, ◌+◌, ◌≤◌, ◌++◌, ℕ, Bool, true, false, List, [], ◌∷◌, Option, Some, None, filter, length, take, drop, is_some, append_assoc, append-nil, refl, sym, ◌∙◌, ap, subst, inl, inr, arith}
+use Rattle.std.proofs.Common.{◌≡◌, ◌⊎◌, ◌++◌, ℕ, true, false, List, [], ◌∷◌, Option, Some, None, filter, length, drop, is_some, append_assoc, append-nil, refl, sym, ◌∙◌, ap, subst, inl, inr, arith}
 use Rattle.std.specs.Fn.{Shared}
 use denote.Ref.{Bor}
 use Rattle.g_base.specs.Counts.{RoseBy}
 use Rattle.g_budget.specs.declared.tariff.Charge.{Charge}
 use Rattle.g_budget.specs.declared.tariff.Usage.{Usage}
 use Rattle.g_sched.specs.declared.rule.Standing.{Standing}
-use Rattle.g_io.specs.Streams.{HasPutPart, with_more}
+use Rattle.g_io.specs.Streams.{HasPutPart}
 use Rattle.g_script.specs.declared.operator.Operator.{Operator}
 use Rattle.g_script.specs.declared.operator.Operator.TheVariants as line
 use Rattle.g_script.specs.declared.operator.Timed.{Timed}
@@ -21,8 +21,8 @@ use Rattle.g_console.specs.declared.progress.Failure.{Failure}
 use Rattle.g_console.specs.Parts.{ArmsBy, DidLine, DoesLine, DoesNothing, IsReady, LineGoes, Matches, Seen, disc_arms, tape_arms}
 use Rattle.g_console.specs.System.{SystemFacts, devices_in}
 use Rattle.g_ticks.specs.Parts.{IsBetween}
-use Rattle.g_run.specs.Parts.{Anything, Arrives, Breaks, DidAll, DidLines, DidTicks, GoesBy, IsAtRest, Keeps, Leads, PartGoes, turn_of}
-use Rattle.g_run.proofs.LeaveLemmas.{Leaves, line_leaves}
+use Rattle.g_run.specs.Parts.{Anything, Breaks, DidAll, DidLines, DidTicks, GoesBy, IsAtRest, Keeps, Leads}
+use Rattle.g_run.proofs.LeaveLemmas.{line_leaves}
 use Rattle.g_run.proofs.PartLemmas.{arrives_here, goes_then, keeps_more, keeps_then, with_more-nil}
 use Rattle.g_run.proofs.UntilLemmas.{keeps_here}
 

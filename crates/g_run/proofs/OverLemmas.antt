@@ -1,5 +1,5 @@
 -- The end of a run, behind all its lines, and both devices behind it.
-use Rattle.std.proofs.Common.{◌≡◌, ◌⊎◌, ◌+◌, ◌<◌, ◌≤◌, ◌++◌, ℕ, Bool, true, false, List, [], ◌∷◌, Option, Some, None, is_some, append_assoc, refl, sym, ◌∙◌, ap, subst, inl, inr, arith}
+use Rattle.std.proofs.Common.{◌≡◌, ◌⊎◌, ◌+◌, ◌++◌, ℕ, true, false, List, [], ◌∷◌, Option, Some, None, is_some, append_assoc, refl, sym, ◌∙◌, ap, subst, inl, inr, arith}
 use Rattle.std.specs.Prelude.{option_map}
 use Rattle.std.specs.Fn.{Shared}
 use denote.Ref.{Bor}
@@ -15,16 +15,16 @@ use Rattle.g_script.specs.declared.operator.Timed.{Timed}
 use Rattle.g_state.specs.Meaning.{told_reels}
 use Rattle.g_state.specs.Reading.{DevicesStandFor, View, holding_of, state_down, StandsForState}
 use Rattle.g_state.specs.Up.{StoreFacts}
-use Rattle.g_step.specs.CallStep.{Plain, down, no_longer_kept}
+use Rattle.g_step.specs.CallStep.{down, no_longer_kept}
 use Rattle.g_step.specs.State.{Holding, State}
 use Rattle.g_store.proofs.ArmLemmas.{spent_stands}
 use Rattle.g_tape.specs.Rack.{Rack}
 use Rattle.g_tape.specs.Reel.{Reel}
 use Rattle.g_world.specs.Devices.{Devices, StandFor}
-use Rattle.g_world.specs.Moves.{Move, MovesCounted, Over, Run}
+use Rattle.g_world.specs.Moves.{Move, MovesCounted, Over}
 use Rattle.g_world.specs.Texts.{closing, waiting_files}
-use Rattle.g_world.specs.Top.{AreArmings, EndsShort, EndsWhole, RunOf}
-use Rattle.g_world.specs.World.{Between, World, closed, is_due, nothing_steps, start}
+use Rattle.g_world.specs.Top.{AreArmings, EndsShort, RunOf}
+use Rattle.g_world.specs.World.{World, closed, is_due, nothing_steps, start}
 use Rattle.g_world.proofs.CountLemmas.{counted_of, event_none, move_counted, moves_then}
 use Rattle.g_world.proofs.TickLemmas.{over_move}
 use Rattle.g_world.proofs.TurnLemmas.{run_append}
@@ -33,10 +33,9 @@ use Rattle.g_console.specs.declared.progress.Failure.{Failure}
 use Rattle.g_console.specs.Parts.{Matches, Seen, seen}
 use Rattle.g_console.specs.Puts.{FaultCause, Puts, PutsBy}
 use Rattle.g_console.specs.System.{BelongTogether, Down, StandsAs, SystemBelongs, SystemFacts, Up, devices_in}
-use Rattle.g_ticks.specs.Parts.{IsBetween}
 use Rattle.g_ticks.proofs.TickLemmas.{put_on, with_more-append}
 use Rattle.g_run.specs.Over.{ClosesBy, DidScript, TakenDown, both}
-use Rattle.g_run.specs.Parts.{Arrives, Breaks, DidAll, IsAtRest, Keeps, Leads}
+use Rattle.g_run.specs.Parts.{DidAll, IsAtRest, Keeps, Leads}
 use Rattle.g_run.specs.Top.{EndsBy}
 
 -- A STATE OF DEVICES is down already

@@ -1,5 +1,5 @@
 -- Parts of a run, one behind the other.
-use Rattle.std.proofs.Common.{◌≡◌, ◌+◌, ◌≤◌, ◌++◌, ℕ, Bool, List, [], ◌∷◌, Option, Some, None, filter, length, append_assoc, append-nil, refl, sym, ◌∙◌, ap, subst, arith}
+use Rattle.std.proofs.Common.{◌≡◌, ◌+◌, ◌≤◌, ◌++◌, ℕ, Bool, List, [], Option, Some, None, filter, length, append_assoc, append-nil, refl, sym, ◌∙◌, ap, subst, arith}
 use Rattle.std.proofs.lemmas.List.{length-append}
 use Rattle.std.proofs.lemmas.List.Elements.{filter-append}
 use Rattle.std.specs.Fn.{Shared}
@@ -9,7 +9,7 @@ use Rattle.g_base.proofs.CountLemmas.{RoseBy-none, RoseBy-then}
 use Rattle.g_budget.specs.declared.tariff.Charge.{Charge}
 use Rattle.g_budget.specs.declared.tariff.Usage.{Usage}
 use Rattle.g_sched.specs.declared.rule.Standing.{Standing}
-use Rattle.g_io.specs.Streams.{HasPutPart, with_more}
+use Rattle.g_io.specs.Streams.{with_more}
 use Rattle.g_script.specs.declared.operator.Timed.{Timed}
 use Rattle.g_world.specs.Devices.{Devices}
 use Rattle.g_world.specs.Moves.{Move}
@@ -23,7 +23,7 @@ use Rattle.g_console.specs.Puts.{FaultCause}
 use Rattle.g_console.specs.System.{StandsAs, SystemFacts, devices_in}
 use Rattle.g_ticks.specs.Parts.{IsBetween}
 use Rattle.g_ticks.proofs.TickLemmas.{put_on, with_more-append}
-use Rattle.g_run.specs.Parts.{Anything, Arrives, Breaks, GoesBy, Keeps, Leads}
+use Rattle.g_run.specs.Parts.{Anything, Arrives, GoesBy, Keeps, Leads}
 
 pub with_more-nil : (before : Option (List ℕ)) → with_more before [] ≡ before
 with_more-nil (Some bytes) = ap (λ t. Some t) (append-nil bytes)

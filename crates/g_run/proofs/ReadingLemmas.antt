@@ -3,7 +3,7 @@ use Rattle.std.proofs.Common.{◌≡◌, ◌+◌, ◌-◌, ◌≤◌, ◌==◌, 
 use Rattle.std.proofs.lemmas.List.{length-append, length-take}
 use Rattle.std.proofs.lemmas.List.Elements.{All-map, All-weaker}
 use Rattle.g_lines.specs.Lines.{lines_of, onto_first}
-use Rattle.g_script.specs.Script.{Bare, EndsAt, IsBare, IsItem, IsParsed, IsWrittenOperator, Job, WrittenItem, WrittenOperator, behind_head, head_line, item_lines, lines_in, operator_said, timed_said}
+use Rattle.g_script.specs.Script.{Bare, EndsAt, IsBare, IsItem, IsParsed, IsWrittenOperator, Job, WrittenItem, WrittenOperator, behind_head, item_lines, lines_in, operator_said, timed_said}
 use Rattle.g_script.specs.declared.operator.Operator.{Operator}
 use Rattle.g_script.specs.declared.operator.Operator.TheVariants as line
 use Rattle.g_script.specs.declared.operator.Timed.{Timed}

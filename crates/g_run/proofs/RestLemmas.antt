@@ -1,14 +1,12 @@
 -- Whether a tick may begin, by what is at hand and by the world.
-use Rattle.std.proofs.Common.{◌≡◌, ◌⊎◌, ◌+◌, ℕ, Bool, true, false, not, List, [], ◌∷◌, Option, Some, None, filter, is_some, refl, sym, ◌∙◌, ap, subst, inl, inr}
-use Rattle.std.specs.Prelude.{◌&&◌, ◌||◌, option_map, nat_le}
+use Rattle.std.proofs.Common.{◌≡◌, ℕ, Bool, true, false, not, List, [], ◌∷◌, Option, Some, None, filter, is_some, refl, sym, ◌∙◌, ap}
+use Rattle.std.specs.Prelude.{◌&&◌, ◌||◌, option_map}
 use Rattle.g_job.specs.State.{JobState}
 use Rattle.g_script.specs.declared.operator.Timed.{Timed}
-use Rattle.g_state.specs.Meaning.{told_reels}
-use Rattle.g_state.specs.Reading.{open_of, state_up}
+use Rattle.g_state.specs.Reading.{open_of}
 use Rattle.g_state.specs.Up.{DumpFacts, StoreFacts}
-use Rattle.g_step.specs.State.{OpenDump, State}
+use Rattle.g_step.specs.State.{State}
 use Rattle.g_store_calls.proofs.SeenLemmas.{seen as seen_of}
-use Rattle.g_tape.specs.Rack.{Rack}
 use Rattle.g_world.specs.Devices.{Devices}
 use Rattle.g_world.specs.World.{World, able, can_step, has_none, is_due, is_dumping, nothing_steps}
 use Rattle.g_crew.specs.Crew.{CrewState}

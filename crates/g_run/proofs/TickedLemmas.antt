@@ -1,5 +1,5 @@
 -- One tick, and the count behind it.
-use Rattle.std.proofs.Common.{◌≡◌, ◌⊎◌, ◌+◌, ◌≤◌, ◌++◌, ℕ, Bool, true, false, not, List, [], ◌∷◌, Option, Some, None, length, take, refl, sym, ◌∙◌, ap, subst, inl, inr, arith, if◌then◌else◌}
+use Rattle.std.proofs.Common.{◌≡◌, ◌⊎◌, ◌+◌, ◌≤◌, ◌++◌, ℕ, Bool, true, false, not, List, [], ◌∷◌, Option, Some, None, length, refl, sym, ◌∙◌, ap, subst, inl, inr, arith, if◌then◌else◌}
 use Rattle.std.specs.Prelude.{◌||◌}
 use Rattle.std.specs.Fn.{Shared}
 use Rattle.std.proofs.lemmas.List.{take_all}
@@ -11,7 +11,7 @@ use Rattle.g_io.specs.Streams.{HasPutPart, with_more}
 use Rattle.g_script.specs.declared.operator.Timed.{Timed}
 use Rattle.g_state.specs.Up.{StoreFacts}
 use Rattle.g_world.specs.Moves.{Move, Ticked}
-use Rattle.g_world.specs.World.{Between, World, is_due, nothing_steps}
+use Rattle.g_world.specs.World.{Between, World}
 use Rattle.g_world.proofs.CountLemmas.{event_none, move_counted, moves_then}
 use Rattle.g_world.proofs.TickLemmas.{tick_move}
 use Rattle.g_world.proofs.TurnLemmas.{run_append}
@@ -19,11 +19,10 @@ use Rattle.g_crew.specs.Crew.{CrewState}
 use Rattle.g_console.specs.declared.progress.Failure.{Failure}
 use Rattle.g_console.specs.declared.progress.Failure.TheVariants.{Memory}
 use Rattle.g_console.specs.Parts.{IsReady, Matches, Seen, seen}
-use Rattle.g_console.specs.Puts.{FaultCause}
 use Rattle.g_console.specs.System.{SystemFacts, Up, devices_in}
 use Rattle.g_ticks.specs.Parts as ticks
 use Rattle.g_ticks.specs.Parts.{Comes, DidTick, IsBetween, IsThrough, KeepsRun, MayTick, has_dump, left, some_job_steps}
-use Rattle.g_run.specs.Parts.{Anything, Arrives, Breaks, DidOne, Keeps, Leads, PartGoes, is_past, steps_in, turn_of}
+use Rattle.g_run.specs.Parts.{Anything, DidOne, Keeps, Leads, PartGoes, is_past, steps_in, turn_of}
 use Rattle.g_run.proofs.PartLemmas.{none_arm}
 use Rattle.g_run.proofs.RestLemmas.{due_is, nothing_is}
 

@@ -1,5 +1,5 @@
 -- A run that was ended, whole or cut short, as its status tells.
-use Rattle.std.proofs.Common.{◌≡◌, ℕ, List, Option, Some, None, length, refl, sym, ap, subst, inl, inr, arith}
+use Rattle.std.proofs.Common.{◌≡◌, ◌∙◌, ℕ, List, [], ◌∷◌, codes, Option, Some, None, length, refl, sym, ap, subst, inl, inr, arith}
 use Rattle.std.specs.Fn.{Shared}
 use denote.Ref.{Bor}
 use Rattle.g_base.proofs.CountLemmas.{RoseBy-none}
@@ -14,9 +14,14 @@ use Rattle.g_world.specs.Devices.{Devices}
 use Rattle.g_world.specs.Top.{AreArmings, IsCutWords, words_line}
 use Rattle.g_console.specs.declared.progress.Failure.{Failure}
 use Rattle.g_console.specs.declared.progress.Failure.TheVariants as failures
+use Rattle.g_demo.specs.Words.{IsDemonstration, demo_words}
+use Rattle.g_demo.specs.declared.demonstration.Demonstration.{Demonstration}
+use Rattle.g_demo.specs.declared.words.Asked.TheVariants as asked
+use Rattle.g_demo.proofs.WordLemmas.{one_reading}
 use Rattle.g_console.specs.Puts.{PutsBy}
 use Rattle.g_run.specs.declared.status.Status.{Status}
-use Rattle.g_run.specs.Top.{EndsAs, EndsBy, IsThrough, status_of, words_status}
+use Rattle.g_run.specs.Demo.{PutsDemo}
+use Rattle.g_run.specs.Top.{EndsAs, EndsBy, EndsDemo, IsQuiet, IsThrough, demo_status, status_of, words_status}
 use Rattle.g_run.proofs.TickedLemmas.{whole_part}
 
 module _ {F U : Type 0} (tariffs : Shared F (Bor Usage × Unit {0}) Charge) (tariff : F) (rules : Shared U (Bor Standing × Unit {0}) ℕ) (rule : U) where
@@ -58,7 +63,36 @@ pub cut_words : (failure : Option Failure) (d : Devices) (before after : Option 
 cut_words None d before after put = (refl, whole_part before after words_line put)
 cut_words (Some failure) d before after put = (refl, put)
 
+pub quiet_words : (failure : Option Failure) (d : Devices) (before after : Option (List ℕ)) → PutsBy failure words_line before after → IsQuiet (words_status failure) d d before after
+quiet_words None d before after put = (refl, put)
+quiet_words (Some failures.Output) d before after put = tt
+quiet_words (Some failures.Memory) d before after put = tt
+
 pub words_cut : (failure : Option Failure) → IsThrough (words_status failure) → ⊥
 words_cut None went = went
 words_cut (Some failures.Output) went = went
 words_cut (Some failures.Memory) went = went
+
+-- A DEMONSTRATION: the words tell which, and how it ended
+pub one_demo : (one other : Demonstration) → IsDemonstration one → IsDemonstration other → demo_words one ≡ demo_words other → one ≡ other
+one_demo one other is is_other same = by (one_reading (asked.Demo one) (asked.Demo other) is is_other same)
+  where
+    by : asked.Demo one ≡ asked.Demo other → one ≡ other
+    by e = cc
+
+pub run_no_demo : (demo : Demonstration) → codes "run" ∷ [] ≡ demo_words demo → ⊥
+run_no_demo demo e = cc
+
+module _ {F U : Type 0} (tariffs : Shared F (Bor Usage × Unit {0}) Charge) (tariff : F) (rules : Shared U (Bor Standing × Unit {0}) ℕ) (rule : U) where
+  pub demo_ends : (failure : Option Failure) (demo : Demonstration) (before after : Option (List ℕ)) → PutsDemo tariffs tariff rules rule failure demo before after
+      → EndsDemo tariffs tariff rules rule (demo_status failure) demo before after
+  demo_ends None demo before after puts = puts
+  demo_ends (Some failures.Output) demo before after puts = puts
+  demo_ends (Some failures.Memory) demo before after puts = puts
+
+  -- of the demonstration that was found, and so of the one that the words name
+  pub demo_found : (words : List (List ℕ)) (found named : Demonstration) → IsDemonstration found → IsDemonstration named → words ≡ demo_words found → words ≡ demo_words named
+      → (failure : Option Failure) (d : Devices) (before after : Option (List ℕ)) → PutsDemo tariffs tariff rules rule failure found before after
+      → (d ≡ d) × EndsDemo tariffs tariff rules rule (demo_status failure) named before after
+  demo_found words found named is is_named are name failure d before after puts =
+      (refl, subst (λ (it : Demonstration). EndsDemo tariffs tariff rules rule (demo_status failure) it before after) (one_demo found named is is_named (sym are ∙ name)) (demo_ends failure found before after puts))

@@ -1,5 +1,5 @@
 -- Ticks, one behind the other, until a line is due or nothing steps.
-use Rattle.std.proofs.Common.{◌≡◌, ◌⊎◌, ◌+◌, ◌<◌, ◌≤◌, ℕ, Bool, true, false, not, List, [], ◌∷◌, Option, Some, None, refl, sym, ◌∙◌, ap, subst, inl, inr, arith}
+use Rattle.std.proofs.Common.{◌≡◌, ◌⊎◌, ◌+◌, ◌<◌, ◌≤◌, ℕ, Bool, true, false, not, List, [], Option, Some, None, refl, sym, ◌∙◌, ap, subst, inl, inr, arith}
 use Rattle.std.specs.Fn.{Shared}
 use denote.Ref.{Bor}
 use Rattle.g_budget.specs.declared.tariff.Charge.{Charge}
@@ -12,8 +12,7 @@ use Rattle.g_crew.specs.Numbers.{AreOpen}
 use Rattle.g_console.specs.declared.progress.Failure.{Failure}
 use Rattle.g_console.specs.Parts.{IsReady, Matches, Seen, seen}
 use Rattle.g_console.specs.System.{SystemFacts, devices_in}
-use Rattle.g_ticks.specs.Parts.{IsBetween}
-use Rattle.g_run.specs.Parts.{Anything, Arrives, DidOne, DidTicks, IsAtRest, Keeps, PartGoes, is_past, steps_in, turn_of}
+use Rattle.g_run.specs.Parts.{Anything, DidOne, DidTicks, IsAtRest, Keeps, PartGoes, is_past, steps_in, turn_of}
 use Rattle.g_run.proofs.PartLemmas.{arrives_here, goes_then, keeps_then, none_arm}
 use Rattle.g_run.proofs.RestLemmas.{due_is, nothing_is}
 

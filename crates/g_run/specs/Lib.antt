@@ -1,4 +1,6 @@
+pub mod Demo
 pub mod Input
+pub mod Laws
 pub mod Over
 pub mod Parts
 pub mod Top

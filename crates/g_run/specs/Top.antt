@@ -6,6 +6,7 @@ use Rattle.g_base.specs.Counts.{Rose}
 use Rattle.g_budget.specs.declared.tariff.Charge.{Charge}
 use Rattle.g_budget.specs.declared.tariff.Usage.{Usage}
 use Rattle.g_sched.specs.declared.rule.Standing.{Standing}
+use Rattle.g_demo.specs.declared.demonstration.Demonstration.{Demonstration}
 use Rattle.g_io.specs.Streams.{with_more}
 use Rattle.g_lines.specs.Lines.{lines_of}
 use Rattle.g_script.specs.Script.{IsParsed}
@@ -14,6 +15,7 @@ use Rattle.g_world.specs.Devices.{Devices}
 use Rattle.g_world.specs.Top.{EndsShort, EndsWhole, IsCut, words_line}
 use Rattle.g_console.specs.declared.progress.Failure.{Failure}
 use Rattle.g_console.specs.declared.progress.Failure.TheVariants as failures
+use Rattle.g_run.specs.Demo.{PutsDemo}
 use Rattle.g_run.specs.declared.status.Status.{Status}
 use Rattle.g_run.specs.declared.status.Status.TheVariants.{Done, Words, BadScript, ScriptFault, OutputFault, NoMemory, TooLong}
 
@@ -83,6 +85,16 @@ module _ {F U : Type 0} (tariffs : Shared F (Bor Usage × Unit {0}) Charge) (tar
   EndsBy None lines bad old new before after = EndsWhole tariffs tariff rules rule lines bad old new before after
   EndsBy (Some failure) lines bad old new before after = EndsShort tariffs tariff rules rule lines bad old new before after
 
+  -- WHAT STANDS WITH EACH STATUS of a demonstration: no other comes than these
+  abbrev pub EndsDemo : Status → Demonstration → Option (List ℕ) → Option (List ℕ) → Type 0
+  EndsDemo Done demo before after = PutsDemo tariffs tariff rules rule None demo before after
+  EndsDemo OutputFault demo before after = PutsDemo tariffs tariff rules rule (Some failures.Output) demo before after
+  EndsDemo NoMemory demo before after = PutsDemo tariffs tariff rules rule (Some failures.Memory) demo before after
+  EndsDemo Words demo before after = ⊥
+  EndsDemo (BadScript line) demo before after = ⊥
+  EndsDemo ScriptFault demo before after = ⊥
+  EndsDemo TooLong demo before after = ⊥
+
 -- a script that is too long gives no other statuses than these
 abbrev pub IsNotDone : Status → Type 0
 IsNotDone TooLong = Unit {0}
@@ -93,7 +105,7 @@ IsNotDone Words = ⊥
 IsNotDone (BadScript line) = ⊥
 IsNotDone OutputFault = ⊥
 
--- words that aren't known give no other statuses than these
+-- words that ask for nothing give no other statuses than these
 abbrev pub IsOfWords : Status → Type 0
 IsOfWords Words = Unit {0}
 IsOfWords OutputFault = Unit {0}
@@ -134,3 +146,8 @@ abbrev pub words_status : Option Failure → Status
 words_status None = Words
 words_status (Some failures.Output) = OutputFault
 words_status (Some failures.Memory) = NoMemory
+
+abbrev pub demo_status : Option Failure → Status
+demo_status None = Done
+demo_status (Some failures.Output) = OutputFault
+demo_status (Some failures.Memory) = NoMemory

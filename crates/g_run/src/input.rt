@@ -1,7 +1,6 @@
-//! The words of the command line, and the script read whole.
-ghost use Rattle.std.specs.Prelude.{◌≡◌, ◌↔◌, ◌<◌, ◌≤◌, ℕ, List, [], Some, IfOk, IsErrOf, IsTrue, drop, length};
+//! The script read whole.
+ghost use Rattle.std.specs.Prelude.{◌≡◌, ◌<◌, ◌≤◌, ℕ, List, [], Some, IfOk, IsErrOf, drop, length};
 ghost use Rattle.g_base.specs.Counts.{Rose};
-ghost use Rattle.g_run.specs.Input.{IsRun};
 
 use g_io::Source;
 use std::alloc::{AllocError, Global};
@@ -11,16 +10,6 @@ const LIMIT: usize = 16_777_216;
 
 /// How many bytes are taken at a time.
 const PIECE: usize = 4_096;
-
-/// Whether the words are the one word `run`.
-pub fn is_run(words: &[&str]) -> bool
-    ensures { IsTrue result ↔ IsRun words.now }
-{
-    match words {
-        [word] => *word == "run",
-        _ => false,
-    }
-}
 
 /// Why a script wasn't read whole.
 #[derive(Clone, Copy, Debug, PartialEq, Eq)]

@@ -2,7 +2,9 @@
 #![tactic(auto)]
 
 mod came;
+mod demo;
 mod input;
+mod law;
 mod lining;
 mod over;
 mod script;
@@ -12,5 +14,6 @@ mod tests;
 mod ticks;
 mod top;
 
+pub use law::{jobs_of_a_script_end, text_of_a_script_is_one};
 pub use status::Status;
 pub use top::{Finish, george};

@@ -25,6 +25,7 @@ use g_tape::Tapes;
 use std::alloc::Global;
 
 /// Both devices behind a script, and why it was cut short, if it was.
+#[derive(Drop)]
 pub(crate) struct Over<D: Disc, T: Tapes> {
     pub(crate) disc: D,
     pub(crate) tapes: T,
@@ -49,7 +50,7 @@ pub(crate) fn run_script<
 ) -> Over<D, T>
     requires size { (2177 < (D.state disc).size) × ((D.state disc).size ≤ 1048576) }
     requires within { All IsTimedWithin script.lines }
-    requires few { length script.lines ≤ 16777217 }
+    requires few { length script.lines + 1 < 18446744073709551616 }
     requires tariff { IsTariff F.Fn tariff.now }
     requires rule { IsWeighRule U.Fn weigh.now }
     ensures { DidScript F.Fn tariff.now U.Fn weigh.now script.lines script.bad (both (D.state disc) (T.rack tapes)) result.failure

@@ -1,4 +1,4 @@
-//! A run with ample memory: one job, from the script to the printed file.
+//! With ample memory: a run of one job, from the script to the printed file, and a demonstration.
 ghost use Rattle.std.specs.Prelude.{◌≡◌, IfOk};
 ghost use Rattle.g_sched.specs.Rule.{IsInRange};
 
@@ -17,6 +17,9 @@ const SCRIPT: &[u8] =
 
 const TEXT: &[u8] =
     b"0 FORMATTED\n0 JOB 1 ONE IN\nJOB 1 ONE :MASTER\n- INPUT F\nMADE :MASTER.F(1/)\n- LISTFILE F\n| HELLO\n| WORLD\nLISTED :MASTER.F(1/)\n- ENDJOB\nEND 3 UNITS\n";
+
+/// What the demonstration of number 0 and one round prints.
+const SUMMARY: &[u8] = b"DEMO 0 1\nLINES 21\nBYTES 315\nFOLD 3482023973\n";
 
 /// A disc of 4,096 blocks of zeros.
 fn disc(alloc: Global) -> Result<MemoryDisc, Fail>
@@ -59,5 +62,19 @@ fn ample(rt: HostRuntime) -> Result<(), Fail> {
     );
     assert_eq!(rt; finish.status, Status::Done);
     assert!(rt; sink.text() == TEXT);
+
+    let mut sink = MemorySink::new(rt.alloc(), 65_536, Vec::new(rt.alloc()))?;
+    let finish = george(
+        rt.alloc(),
+        &["demo", "0", "1"],
+        &mut source,
+        &mut sink,
+        disc(rt.alloc())?,
+        tapes(rt.alloc())?,
+        &tariff,
+        &weigh,
+    );
+    assert_eq!(rt; finish.status, Status::Done);
+    assert!(rt; sink.text() == SUMMARY);
     Ok(())
 }

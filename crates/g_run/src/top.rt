@@ -3,6 +3,8 @@ ghost use Rattle.std.specs.Prelude.{◌≡◌, ◌<◌, ◌≤◌, ℕ, List, []
 ghost use Rattle.g_base.specs.Counts.{Rose};
 ghost use Rattle.g_budget.specs.Tariff.{IsTariff};
 ghost use Rattle.g_console.specs.System.{BelongTogether};
+ghost use Rattle.g_demo.specs.Words.{AskNothing, IsDemonstration, demo_words, texts_of};
+ghost use Rattle.g_demo.specs.declared.demonstration.Demonstration.{Demonstration};
 ghost use Rattle.g_lines.specs.Lines.{lines_of};
 ghost use Rattle.g_sched.specs.Rule.{IsWeighRule};
 ghost use Rattle.g_script.specs.Script.{IsParsed};
@@ -12,12 +14,14 @@ ghost use Rattle.g_run.specs.Input.{IsRun};
 ghost use Rattle.g_run.specs.Over.{both};
 ghost use Rattle.g_run.specs.Top as top;
 
-use crate::input::{Unread, is_run, read_script};
+use crate::demo::run_demo;
+use crate::input::{Unread, read_script};
 use crate::over::{Over, run_script};
 use crate::status::Status;
 use g_base::NoMemory;
 use g_budget::{Charge, Tariff, Usage};
 use g_console::{Failure, put};
+use g_demo::{Asked, asked_by};
 use g_disc::Disc;
 use g_io::{Sink, Source};
 use g_sched::{Standing, WeighRule};
@@ -36,7 +40,8 @@ pub struct Finish<D: Disc, T: Tapes> {
 /// Runs the script that the source has left, puts its text to the sink and keeps its files on the disc, which has 2,178 to
 /// 1,048,576 blocks, and on the reels of the rack. Jobs are charged by the tariff and take their turns by the weigh rule.
 ///
-/// The words are looked at first. The script is read whole before anything is done (docs/MANUAL.md, "Exit status").
+/// The words are looked at first: `run`, or `demo NUMBER N`, which runs a script that is made from these numbers on devices in
+/// memory and puts the summary of its text. The script is read whole before anything is done (docs/MANUAL.md, "Exit status").
 pub fn george<
     S: Source,
     K: Sink,
@@ -59,7 +64,7 @@ pub fn george<
     requires rule { IsWeighRule U.Fn weigh.now }
 
     // Which statuses come with which words, and when a script is too long.
-    ensures unknown { (IsRun words.now → ⊥) → top.IsOfWords result.status }
+    ensures unknown { AskNothing (texts_of words.now) → top.IsOfWords result.status }
     ensures known { IsRun words.now → top.IsOfRun result.status }
     ensures long { (left : List ℕ) → S.left script.old ≡ Some left → IsRun words.now → 16777216 < length left → top.IsNotDone result.status }
     ensures complete { (left : List ℕ) → S.left script.old ≡ Some left → IsRun words.now → length left ≤ 16777216 →
@@ -68,7 +73,7 @@ pub fn george<
     // What was read of the source.
     ensures unread { (IsRun words.now → ⊥) → S.left script.new ≡ S.left script.old }
     ensures taken { (left : List ℕ) → S.left script.old ≡ Some left → (n : ℕ) × (n ≤ 16777217) × (S.left script.new ≡ Some (drop n left)) }
-    ensures whole { top.IsThrough result.status → (left : List ℕ) → S.left script.old ≡ Some left → S.left script.new ≡ Some [] }
+    ensures whole { IsRun words.now → top.IsThrough result.status → (left : List ℕ) → S.left script.old ≡ Some left → S.left script.new ≡ Some [] }
 
     // Each fault has its cause.
     ensures source { top.SourceCause result.status (S.faults script.old) (S.faults script.new) }
@@ -79,21 +84,37 @@ pub fn george<
     ensures ends { IsRun words.now → (left : List ℕ) → S.left script.old ≡ Some left →
         top.EndsAs F.Fn tariff.now U.Fn weigh.now result.status left (both (D.state disc) (T.rack tapes)) (both (D.state result.disc) (T.rack result.tapes))
         (K.written out.old) (K.written out.new) }
-    ensures words { (IsRun words.now → ⊥)
+    ensures words { AskNothing (texts_of words.now)
         → IsCutWords (both (D.state disc) (T.rack tapes)) (both (D.state result.disc) (T.rack result.tapes)) (K.written out.old) (K.written out.new) }
 
+    // A demonstration: the devices that were handed in come back unchanged, and the summary of its text is put.
+    ensures demo { (demo : Demonstration) → IsDemonstration demo → texts_of words.now ≡ demo_words demo
+        → (both (D.state result.disc) (T.rack result.tapes) ≡ both (D.state disc) (T.rack tapes))
+        × top.EndsDemo F.Fn tariff.now U.Fn weigh.now result.status demo (K.written out.old) (K.written out.new) }
+
     // Of all devices, told or not, and with every status: who was armed, and that disc and rack go on belonging together.
-    ensures arms { (left : List ℕ) → S.left script.old ≡ Some left → (lines : List Timed) (bad : Option ℕ) → IsParsed (lines_of left) lines bad →
+    ensures arms { IsRun words.now → (left : List ℕ) → S.left script.old ≡ Some left → (lines : List Timed) (bad : Option ℕ) → IsParsed (lines_of left) lines bad →
         AreArmings lines (top.IsThrough result.status) (both (D.state disc) (T.rack tapes)) (both (D.state result.disc) (T.rack result.tapes)) }
     ensures belongs { BelongTogether (both (D.state disc) (T.rack tapes)) → BelongTogether (both (D.state result.disc) (T.rack result.tapes)) }
 {
-    if !is_run(words) {
-        let failure = put(out, b"WORDS NOT KNOWN\n");
-        return Finish {
-            status: words_status(failure),
-            disc,
-            tapes,
-        };
+    match asked_by(words) {
+        Some(Asked::Run) => {}
+        Some(Asked::Demo(demo)) => {
+            let failure = run_demo(alloc, &demo, tariff, weigh, out);
+            return Finish {
+                status: demo_status(failure),
+                disc,
+                tapes,
+            };
+        }
+        None => {
+            let failure = put(out, b"WORDS NOT KNOWN\n");
+            return Finish {
+                status: words_status(failure),
+                disc,
+                tapes,
+            };
+        }
     }
     let bytes = match read_script(alloc, script) {
         Ok(bytes) => bytes,
@@ -126,6 +147,17 @@ fn not_begun<D: Disc, T: Tapes>(status: Status, disc: D, tapes: T) -> Finish<D, 
         status,
         disc,
         tapes,
+    }
+}
+
+/// The status of a demonstration.
+fn demo_status(failure: Option<Failure>) -> Status
+    ensures { result ≡ top.demo_status failure }
+{
+    match failure {
+        None => Status::Done,
+        Some(Failure::Output) => Status::OutputFault,
+        Some(Failure::Memory) => Status::NoMemory,
     }
 }
 

@@ -1,4 +1,3 @@
-use Rattle.std.proofs.Common.{refl, sym, ◌∙◌, ap, subst}
 use Rattle.g_run.proofs.LineLemmas.{all_done, all_short}
 use Rattle.g_run.proofs.over.run_lines.Goals as goal
 

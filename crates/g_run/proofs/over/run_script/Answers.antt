@@ -1,4 +1,4 @@
-use Rattle.std.proofs.Common.{refl, sym, ◌∙◌, ap, subst}
+use Rattle.std.proofs.Common.{subst}
 use Rattle.g_crew.specs.Crew.{CrewState}
 use Rattle.g_console.specs.Parts.{seen}
 use Rattle.g_console.specs.System.{Down, facts_of}

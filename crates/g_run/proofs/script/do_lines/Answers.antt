@@ -1,4 +1,4 @@
-use Rattle.std.proofs.Common.{rules, ◌≡◌, ◌+◌, ◌<◌, ◌≤◌, ◌++◌, All, List, [], ◌∷◌, true, false, is_some, append_assoc, length, refl, arith, sym, ◌∙◌, ap, subst}
+use Rattle.std.proofs.Common.{rules, ◌≡◌, ◌+◌, ◌<◌, ◌++◌, All, List, [], ◌∷◌, true, false, is_some, append_assoc, length, refl, arith, sym, ◌∙◌, ap, subst}
 use Rattle.std.proofs.lemmas.List.Elements.{All-tail}
 use Rattle.g_script.specs.declared.operator.Timed.{Timed}
 use Rattle.g_run.specs.Parts.{IsTimedWithin}

@@ -1,4 +1,4 @@
-use Rattle.std.proofs.Common.{◌≡◌, ◌+◌, ◌≤◌, [], length, refl, arith, sym, ◌∙◌, ap, subst}
+use Rattle.std.proofs.Common.{arith}
 use Rattle.g_run.proofs.LineLemmas.{line_done, line_undone}
 use Rattle.g_run.proofs.script.next_line.Goals as goal
 

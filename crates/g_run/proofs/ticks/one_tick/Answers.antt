@@ -1,4 +1,4 @@
-use Rattle.std.proofs.Common.{◌≡◌, true, sym, ◌∙◌, ap, subst}
+use Rattle.std.proofs.Common.{◌≡◌, true, sym, ap, subst}
 use Rattle.g_console.specs.Parts.{IsReady, seen}
 use Rattle.g_console.specs.System.{SystemFacts, Up, facts_of}
 use Rattle.g_run.specs.Parts.{DidOne, steps_in}

@@ -1,4 +1,3 @@
-use Rattle.std.proofs.Common.{sym, ◌∙◌, ap, subst, refl}
 use Rattle.g_run.proofs.UntilLemmas.{ticks_end, ticks_fall, ticks_more, ticks_start}
 use Rattle.g_run.proofs.ticks.until.Goals as goal
 

@@ -1,0 +1,5 @@
+pub mod Plain
+pub mod Script
+pub mod Sink
+pub mod Summary
+pub mod Words

@@ -1,0 +1,39 @@
+-- The summary of a text: its lines, its bytes, and a number into which every byte is folded.
+use Rattle.std.specs.Prelude.{List, codes, if◌then◌else◌, length, [], ℕ, ◌%◌, ◌*◌, ◌+◌, ◌++◌, ◌==◌, ◌^◌, ◌∷◌}
+use Rattle.std.specs.Fmt.{decimal}
+use Rattle.std.specs.List.{count_by, fold}
+use Rattle.g_demo.specs.declared.demonstration.Demonstration.{Demonstration}
+use Rattle.g_demo.specs.declared.summary.Summary.{Summary}
+use Rattle.g_lines.specs.Lines.{text_of}
+
+-- how many bytes 10 it has
+abbrev pub line_count : List ℕ → ℕ
+line_count text = count_by (λ byte. byte == 10) text
+
+-- one byte is folded in
+abbrev pub folded : ℕ → ℕ → ℕ
+folded so_far byte = (31 * so_far + byte) % 2 ^ 32
+
+abbrev pub fold_of : List ℕ → ℕ
+fold_of text = fold folded 0 text
+
+-- THE SUMMARY of a text
+abbrev pub summary_of : List ℕ → Summary
+summary_of text = record { lines = line_count text; bytes = length text; fold = fold_of text }
+
+-- the summary with one byte more
+abbrev pub with_byte : Summary → ℕ → Summary
+with_byte s byte =
+    record { lines = s.lines + (if byte == 10 then 1 else 0); bytes = s.bytes + 1; fold = folded s.fold byte }
+
+-- the four lines that a demonstration prints of it
+abbrev pub summary_lines : Demonstration → Summary → List (List ℕ)
+summary_lines demo summary =
+    (codes "DEMO " ++ decimal demo.number ++ codes " " ++ decimal demo.rounds)
+    ∷ (codes "LINES " ++ decimal summary.lines)
+    ∷ (codes "BYTES " ++ decimal summary.bytes)
+    ∷ (codes "FOLD " ++ decimal summary.fold)
+    ∷ []
+
+abbrev pub summary_text : Demonstration → Summary → List ℕ
+summary_text demo summary = text_of (summary_lines demo summary)

@@ -1,0 +1,21 @@
+//! A demonstration: a script that is made from a number, and the summary of the text of its run; and the words of the
+//! command line that ask for it (docs/DEFINITIONS.md, "A demonstration").
+#![tactic(auto)]
+
+mod demonstration;
+mod draws;
+mod law;
+mod script;
+mod sink;
+mod summary;
+#[cfg(test)]
+mod tests;
+mod text;
+mod words;
+
+pub use demonstration::Demonstration;
+pub use law::words_have_one_reading;
+pub use script::script_of;
+pub use sink::TextSink;
+pub use summary::{Summary, summary_text};
+pub use words::{Asked, asked_by};

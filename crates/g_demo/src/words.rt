@@ -1,0 +1,79 @@
+//! The words of the command line.
+ghost use Rattle.std.specs.Prelude.{◌≡◌, ◌≢◌, ◌<◌, ◌^◌, ◌↔◌, ℕ, IsTrue, MatchOption, [], ◌∷◌};
+ghost use Rattle.std.specs.Fmt.{decimal};
+ghost use Rattle.g_demo.specs.Plain.{BeginsPlainly};
+ghost use Rattle.g_demo.specs.Words.{AskNothing, IsAsked, IsDemonstration, demo_words, texts_of, words_of};
+
+use crate::demonstration::Demonstration;
+
+/// The most rounds of a demonstration.
+const MOST_ROUNDS: u32 = 1_000;
+
+/// What the words of the command line ask for.
+#[derive(Clone, Copy, Debug, PartialEq, Eq)]
+pub enum Asked {
+    /// The script of the source.
+    Run,
+    /// The demonstration of these numbers.
+    Demo(Demonstration),
+}
+
+/// What the words ask for: the word `run` alone, or `demo`, a number below 2^32 and how many rounds, from 1 to 1,000,
+/// both in decimal digits without a sign and without a leading zero. All else asks for nothing.
+pub fn asked_by(words: &[&str]) -> Option<Asked>
+    ensures { MatchOption result (AskNothing (texts_of words.now)) (λ asked. IsAsked asked × (texts_of words.now ≡ words_of asked)) }
+{
+    match words {
+        [word] => if *word == "run" {
+            Some(Asked::Run)
+        } else {
+            None
+        },
+        [word, number, rounds] => match demo_by(word, number, rounds) {
+            Some(demo) => Some(Asked::Demo(demo)),
+            None => None,
+        },
+        _ => None,
+    }
+}
+
+/// The demonstration that three words ask for.
+fn demo_by(word: &str, number: &str, rounds: &str) -> Option<Demonstration>
+    ensures { MatchOption result
+        ((demo : Demonstration) → IsDemonstration demo → (word.now ∷ number.now ∷ rounds.now ∷ []) ≢ demo_words demo)
+        (λ demo. IsDemonstration demo × ((word.now ∷ number.now ∷ rounds.now ∷ []) ≡ demo_words demo)) }
+{
+    if word != "demo" {
+        return None;
+    }
+    let number = number_in(number)?;
+    let rounds = number_in(rounds)?;
+    if rounds == 0 || rounds > MOST_ROUNDS {
+        return None;
+    }
+    Some(Demonstration { number, rounds })
+}
+
+/// The number below 2^32 that these digits are, without a sign and without a leading zero.
+fn number_in(digits: &str) -> Option<u32>
+    ensures { MatchOption result ((n : ℕ) → n < 2 ^ 32 → digits.now ≢ decimal n) (λ n. (n < 2 ^ 32) × (digits.now ≡ decimal n)) }
+{
+    if !begins_plainly(digits.as_bytes()) {
+        return None;
+    }
+    match digits.parse::<u32>() {
+        Ok(number) => Some(number),
+        Err(_) => None,
+    }
+}
+
+/// Whether the first byte is a digit, and the only one if it is 0.
+fn begins_plainly(digits: &[u8]) -> bool
+    ensures { IsTrue result ↔ BeginsPlainly digits.now }
+{
+    match digits {
+        [] => false,
+        [digit] => digit.is_ascii_digit(),
+        [first, _, ..] => b'1' <= *first && *first <= b'9',
+    }
+}

@@ -1,0 +1,95 @@
+//! A demonstration, run over devices in memory.
+ghost use Rattle.std.specs.Prelude.{◌≡◌, ◌+◌, ◌<◌, [], ◌∷◌, IfOk, length};
+ghost use Rattle.g_budget.specs.Tariff.{IsTariff};
+ghost use Rattle.g_console.specs.Puts.{FaultCause, Puts};
+ghost use Rattle.g_demo.specs.Summary as spec;
+ghost use Rattle.g_lines.specs.Lines.{lines_of};
+ghost use Rattle.g_sched.specs.Rule.{IsWeighRule};
+ghost use Rattle.g_script.specs.Script.{IsParsed};
+ghost use Rattle.g_tape.specs.Memory.{IsEmptyRack, memory_of};
+ghost use Rattle.g_run.specs.Demo.{IsDemoText, PutsDemo};
+
+use crate::over::{Over, run_script};
+use g_base::NoMemory;
+use g_budget::{Charge, Tariff, Usage};
+use g_console::{Failure, put_made};
+use g_demo::{Demonstration, Summary, TextSink, script_of, summary_text};
+use g_disc::MemoryDisc;
+use g_io::Sink;
+use g_sched::{Standing, WeighRule};
+use g_script::{Script, parse_script};
+use g_tape::MemoryTapes;
+use std::alloc::Global;
+
+/// Runs a demonstration, and puts the summary of its text. Neither source nor devices have a part in it.
+pub(crate) fn run_demo<K: Sink, F: Fn(&Usage) -> Charge, U: Fn(&Standing) -> u64>(
+    alloc: Global,
+    demo: &Demonstration,
+    tariff: &Tariff<F>,
+    weigh: &WeighRule<U>,
+    out: &mut K,
+) -> Option<Failure>
+    requires tariff { IsTariff F.Fn tariff.now }
+    requires rule { IsWeighRule U.Fn weigh.now }
+    ensures put { PutsDemo F.Fn tariff.now U.Fn weigh.now result demo.now (K.written out.old) (K.written out.new) }
+    ensures cause { FaultCause result (K.faults out.old) (K.faults out.new) }
+{
+    match demo_text(alloc, demo, tariff, weigh) {
+        Ok(sink) => put_summary(alloc, demo, sink.text(), out),
+        Err(NoMemory) => Some(Failure::Memory),
+    }
+}
+
+/// Puts the summary of a text.
+fn put_summary<K: Sink>(
+    alloc: Global,
+    demo: &Demonstration,
+    text: &[u8],
+    out: &mut K,
+) -> Option<Failure>
+    ensures { Puts result (spec.summary_text demo.now (spec.summary_of text.now)) (K.written out.old) (K.written out.new) (K.faults out.old) (K.faults out.new) }
+{
+    let summary = Summary::of_text(text);
+    let made = summary_text(alloc, demo, &summary);
+    put_made(out, made)
+}
+
+/// The text of its run.
+fn demo_text<F: Fn(&Usage) -> Charge, U: Fn(&Standing) -> u64>(
+    alloc: Global,
+    demo: &Demonstration,
+    tariff: &Tariff<F>,
+    weigh: &WeighRule<U>,
+) -> Result<TextSink, NoMemory>
+    requires tariff { IsTariff F.Fn tariff.now }
+    requires rule { IsWeighRule U.Fn weigh.now }
+    ensures { IfOk result (λ sink. IsDemoText F.Fn tariff.now U.Fn weigh.now demo.now sink.text) }
+{
+    let text = script_of(alloc, demo)?;
+    let script = script_in(alloc, text.as_slice())?;
+    let disc = MemoryDisc::new(alloc, 4_096)?;
+    let tapes = one_reel(alloc)?;
+    let mut sink = TextSink::new(alloc);
+    let Over { failure, .. } = run_script(alloc, script, &mut sink, disc, tapes, tariff, weigh);
+    match failure {
+        None => Ok(sink),
+        Some(_) => Err(NoMemory),
+    }
+}
+
+/// What a text says as a script.
+fn script_in(alloc: Global, text: &[u8]) -> Result<Script, NoMemory>
+    ensures parsed { IfOk result (λ script. IsParsed (lines_of text.now) script.lines script.bad) }
+    ensures few { IfOk result (λ script. length script.lines + 1 < 18446744073709551616) }
+{
+    parse_script(alloc, text)
+}
+
+/// A rack of one empty reel.
+fn one_reel(alloc: Global) -> Result<MemoryTapes, NoMemory>
+    ensures { IfOk result (λ tapes. IsEmptyRack ((1, 8192) ∷ []) (memory_of tapes)) }
+{
+    let mut labels = Vec::with_capacity(alloc, 1)?;
+    labels.push((1, 8_192))?;
+    MemoryTapes::new(alloc, labels)
+}
