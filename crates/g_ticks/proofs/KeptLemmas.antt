@@ -13,7 +13,7 @@ use Rattle.g_crew.specs.Numbers.{AreOpen, job_in}
 use Rattle.g_console.specs.declared.progress.Failure.{Failure}
 use Rattle.g_console.specs.declared.progress.Failure.TheVariants.{Memory}
 use Rattle.g_console.specs.Parts.{IsReady, seen}
-use Rattle.g_console.specs.System.{Down, SystemBelongs, SystemFacts, Up, SameDevices}
+use Rattle.g_console.specs.System.{Down, SystemBelongs, SystemFacts, Up, SameDevices, devices_in}
 use Rattle.g_ticks.specs.Parts.{KeepsRun}
 use Rattle.g_ticks.specs.Turning.{EndsTurn, LeftBy}
 use Rattle.g_ticks.proofs.RanLemmas.{StaysOver}
