@@ -1,0 +1,9 @@
+//! Tests of dumps that are written step by step.
+#![tactic(auto)]
+
+#[cfg(test)]
+mod dumps;
+#[cfg(test)]
+mod laid_out;
+#[cfg(test)]
+mod stops;
