@@ -98,6 +98,8 @@ untried_line what no_disc no_tape old new c count same ready failure is text fau
       ready = ready;
       crew = λ none. leaves_same c;
       arms = none_armed what (Some Memory) (devices_in old) (devices_in old) no_disc no_tape refl refl;
+      fuses = no_fuse what no_disc no_tape (devices_in old);
+      same = same_itself (devices_in old);
       belongs = λ is. is;
       cause = refl;
     }
