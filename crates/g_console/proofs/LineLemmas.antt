@@ -82,6 +82,23 @@ module _ (what : Operator) (no_disc : disc_arms what ≡ 0) (no_tape : tape_arms
     cause = puts.cause;
   }
 
+-- NOTHING WAS TRIED, for want of memory
+pub untried_line : (what : Operator) → disc_arms what ≡ 0 → tape_arms what ≡ 0 → (old new : SystemFacts) (c : CrewState) (count : ℕ) → new ≡ old → IsReady old c → (failure : Option Failure) → failure ≡ Some Memory
+    → (text : Option (List ℕ)) (faults : ℕ) → DidLine what (seen old c count) failure (seen new c count) text text faults faults
+untried_line what no_disc no_tape old new c count same ready failure is text faults =
+    subst (λ (f : SystemFacts). DidLine what (seen old c count) failure (seen f c count) text text faults faults) (sym same)
+    (subst (λ (f : Option Failure). DidLine what (seen old c count) f (seen old c count) text text faults faults) (sym is) untried)
+  where
+    untried : DidLine what (seen old c count) (Some Memory) (seen old c count) text text faults faults
+    untried = record {
+      goes = wasnt_done what (seen old c count) (seen old c count) text text (λ w m. record { counted = event_none (devices_in old); stands = m.stands; text = refl });
+      ready = ready;
+      crew = λ none. leaves_same c;
+      arms = none_armed what (Some Memory) (devices_in old) (devices_in old) no_disc no_tape refl refl;
+      belongs = λ is. is;
+      cause = refl;
+    }
+
 -- WHAT A FAULT MAKES OF THE WORLD: a stop takes it down, and any other fault is a refusal
 abbrev pub told_of : StoreFault → State → World → World
 told_of Stopped u w = system_stopped u w

@@ -12,7 +12,7 @@ ghost use Rattle.g_world.specs.Texts.{operator_line};
 use crate::progress::Progress;
 use crate::puts::say_made;
 use crate::stopping::{fails, refused};
-use crate::system::System;
+use crate::system::{Running, System};
 use g_base::NoMemory;
 use g_crew::{Crew, dump_text};
 use g_disc::Disc;
@@ -20,7 +20,6 @@ use g_io::Sink;
 use g_monitor::push_full;
 use g_name::{Full, Path, Text};
 use g_plain::StoreFault;
-use g_store::Store;
 use g_tape::Tapes;
 use std::alloc::Global;
 
@@ -53,7 +52,7 @@ pub fn dump_line<K: Sink, D: Disc, T: Tapes>(
 /// The dump is opened on a store that is up.
 fn open<K: Sink, D: Disc, T: Tapes>(
     alloc: Global,
-    store: Store<D, T>,
+    store: Running<D, T>,
     crew: &mut Crew,
     count: u64,
     serial: u32,
@@ -106,7 +105,7 @@ pub fn migrate_line<K: Sink, D: Disc, T: Tapes>(
 /// The file is taken off the disc of a store that is up.
 fn migrate<K: Sink, D: Disc, T: Tapes>(
     alloc: Global,
-    store: Store<D, T>,
+    store: Running<D, T>,
     crew: &mut Crew,
     count: u64,
     path: &Path,
@@ -127,7 +126,7 @@ fn migrate<K: Sink, D: Disc, T: Tapes>(
 /// The line that tells what was done is put, and the store stays up.
 pub fn stays_up<K: Sink, D: Disc, T: Tapes>(
     alloc: Global,
-    store: Store<D, T>,
+    store: Running<D, T>,
     count: u64,
     made: Result<Text, NoMemory>,
     out: &mut K,

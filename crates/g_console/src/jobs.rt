@@ -12,14 +12,13 @@ ghost use Rattle.g_world.specs.Texts as texts;
 use crate::progress::{Failure, Progress};
 use crate::puts::{refuse, say_made};
 use crate::stopping::{goes_down, refused};
-use crate::system::System;
+use crate::system::{Running, System, take_down};
 use g_base::NoMemory;
 use g_crew::{Crew, NewJob, NotTaken, job_text, push_refusal};
 use g_disc::Disc;
 use g_io::Sink;
 use g_name::{Local, Text};
 use g_plain::StoreFault;
-use g_store::Store;
 use g_tape::Tapes;
 use std::alloc::Global;
 
@@ -133,7 +132,7 @@ pub fn shut_line<K: Sink, D: Disc, T: Tapes>(
 /// A system that is up is shut.
 fn shut<K: Sink, D: Disc, T: Tapes>(
     alloc: Global,
-    store: Store<D, T>,
+    store: Running<D, T>,
     crew: &mut Crew,
     count: u64,
     out: &mut K,
@@ -153,7 +152,7 @@ fn shut<K: Sink, D: Disc, T: Tapes>(
         ),
         None => {
             let failure = goes_down(alloc, crew, count, b"SHUT", out);
-            let (disc, tapes) = store.into_devices();
+            let (disc, tapes) = take_down(store);
             Progress {
                 system: System::Down(disc, tapes),
                 failure,

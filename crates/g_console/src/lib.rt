@@ -19,4 +19,4 @@ pub use puts::{push_told, put, put_made, refuse, say, say_made};
 pub use reels::{mount_line, unmount_line};
 pub use rising::{format_line, restore_line, start_line};
 pub use stopping::{fails, goes_down, tell_fault};
-pub use system::System;
+pub use system::{Running, System, take_down};

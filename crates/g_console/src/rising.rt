@@ -1,10 +1,11 @@
 //! The system comes up: by FORMAT, START or RESTORE.
-ghost use Rattle.std.specs.Prelude.{◌≡◌, ◌++◌, ℕ, List, None, IfOk, codes, false};
+ghost use Rattle.std.specs.Prelude.{◌≡◌, ◌++◌, ℕ, List, None, Some, IfOk, codes, false};
 ghost use Rattle.std.specs.Fmt.{decimal};
 ghost use Rattle.g_console.specs.Parts.{DidLine, IsReady, seen};
 ghost use Rattle.g_console.specs.Puts.{Puts};
 ghost use Rattle.g_console.specs.Opening.{Opens};
 ghost use Rattle.g_console.specs.declared.system.System.TheVariants as systems;
+ghost use Rattle.g_console.specs.System as system;
 ghost use Rattle.g_console.specs.System.{facts_of};
 ghost use Rattle.g_script.specs.declared.operator.Operator.TheVariants as line;
 ghost use Rattle.g_world.specs.Texts.{operator_line};
@@ -12,14 +13,15 @@ ghost use Rattle.g_world.specs.Texts.{operator_line};
 use crate::progress::{Failure, Progress};
 use crate::puts::say_made;
 use crate::stopping::{refused, stays_down};
-use crate::system::System;
+use crate::system::{Running, System};
 use g_base::NoMemory;
+use g_cache::CachedDisc;
 use g_crew::{Crew, started_text};
 use g_disc::Disc;
 use g_io::Sink;
 use g_name::Text;
 use g_plain::StoreFault;
-use g_store::{Store, format, restore, start};
+use g_store::{format, restore, start};
 use g_tape::Tapes;
 use std::alloc::Global;
 
@@ -38,13 +40,33 @@ pub fn format_line<K: Sink, D: Disc, T: Tapes>(
 {
     match system {
         System::Up(store) => { refused(alloc, System::Up(store), count, &StoreFault::Running, out) }
-        System::Down(disc, tapes) => match format(alloc, disc, tapes) {
-            Ok(store) => {
-                let made = Text::from_slice(alloc, b"FORMATTED");
-                comes_up(alloc, store, crew, count, made, out)
-            }
-            Err(answer) => stays_down(alloc, answer, crew, count, out),
+        System::Down(disc, tapes) => match CachedDisc::new(alloc, disc) {
+            Ok(disc) => formats(alloc, disc, tapes, crew, count, out),
+            Err((_, disc)) => without_cache(disc, tapes),
         },
+    }
+}
+
+/// A new filestore is made on a system that is down.
+fn formats<K: Sink, D: Disc, T: Tapes>(
+    alloc: Global,
+    disc: CachedDisc<D>,
+    tapes: T,
+    crew: &mut Crew,
+    count: u64,
+    out: &mut K,
+) -> Progress<D, T>
+    requires ready { IsReady (system.Down (record { disc = D.state disc.disc; rack = T.rack tapes })) crew.old }
+    ensures { DidLine line.Format (seen (system.Down (record { disc = D.state disc.disc; rack = T.rack tapes })) crew.old count) result.failure
+        (seen (facts_of D.state T.rack result.system) crew.new count)
+        (K.written out.old) (K.written out.new) (K.faults out.old) (K.faults out.new) }
+{
+    match format(alloc, disc, tapes) {
+        Ok(store) => {
+            let made = Text::from_slice(alloc, b"FORMATTED");
+            comes_up(alloc, store, crew, count, made, out)
+        }
+        Err(answer) => stays_down(alloc, answer, crew, count, out),
     }
 }
 
@@ -63,13 +85,33 @@ pub fn start_line<K: Sink, D: Disc, T: Tapes>(
 {
     match system {
         System::Up(store) => { refused(alloc, System::Up(store), count, &StoreFault::Running, out) }
-        System::Down(disc, tapes) => match start(alloc, disc, tapes) {
-            Ok((store, adopted)) => {
-                let made = started_text(alloc, adopted);
-                comes_up(alloc, store, crew, count, made, out)
-            }
-            Err(answer) => stays_down(alloc, answer, crew, count, out),
+        System::Down(disc, tapes) => match CachedDisc::new(alloc, disc) {
+            Ok(disc) => starts(alloc, disc, tapes, crew, count, out),
+            Err((_, disc)) => without_cache(disc, tapes),
         },
+    }
+}
+
+/// A system that is down starts.
+fn starts<K: Sink, D: Disc, T: Tapes>(
+    alloc: Global,
+    disc: CachedDisc<D>,
+    tapes: T,
+    crew: &mut Crew,
+    count: u64,
+    out: &mut K,
+) -> Progress<D, T>
+    requires ready { IsReady (system.Down (record { disc = D.state disc.disc; rack = T.rack tapes })) crew.old }
+    ensures { DidLine line.Start (seen (system.Down (record { disc = D.state disc.disc; rack = T.rack tapes })) crew.old count) result.failure
+        (seen (facts_of D.state T.rack result.system) crew.new count)
+        (K.written out.old) (K.written out.new) (K.faults out.old) (K.faults out.new) }
+{
+    match start(alloc, disc, tapes) {
+        Ok((store, adopted)) => {
+            let made = started_text(alloc, adopted);
+            comes_up(alloc, store, crew, count, made, out)
+        }
+        Err(answer) => stays_down(alloc, answer, crew, count, out),
     }
 }
 
@@ -88,20 +130,52 @@ pub fn restore_line<K: Sink, D: Disc, T: Tapes>(
 {
     match system {
         System::Up(store) => { refused(alloc, System::Up(store), count, &StoreFault::Running, out) }
-        System::Down(disc, tapes) => match restore(alloc, disc, tapes) {
-            Ok((store, number)) => {
-                let made = restored(alloc, number);
-                comes_up(alloc, store, crew, count, made, out)
-            }
-            Err(answer) => stays_down(alloc, answer, crew, count, out),
+        System::Down(disc, tapes) => match CachedDisc::new(alloc, disc) {
+            Ok(disc) => restores(alloc, disc, tapes, crew, count, out),
+            Err((_, disc)) => without_cache(disc, tapes),
         },
+    }
+}
+
+/// A system that is down is restored.
+fn restores<K: Sink, D: Disc, T: Tapes>(
+    alloc: Global,
+    disc: CachedDisc<D>,
+    tapes: T,
+    crew: &mut Crew,
+    count: u64,
+    out: &mut K,
+) -> Progress<D, T>
+    requires ready { IsReady (system.Down (record { disc = D.state disc.disc; rack = T.rack tapes })) crew.old }
+    ensures { DidLine line.Restore (seen (system.Down (record { disc = D.state disc.disc; rack = T.rack tapes })) crew.old count) result.failure
+        (seen (facts_of D.state T.rack result.system) crew.new count)
+        (K.written out.old) (K.written out.new) (K.faults out.old) (K.faults out.new) }
+{
+    match restore(alloc, disc, tapes) {
+        Ok((store, number)) => {
+            let made = restored(alloc, number);
+            comes_up(alloc, store, crew, count, made, out)
+        }
+        Err(answer) => stays_down(alloc, answer, crew, count, out),
+    }
+}
+
+/// No memory was found for the cache: nothing is done, and the devices stand as they stood.
+fn without_cache<D: Disc, T: Tapes>(disc: D, tapes: T) -> Progress<D, T>
+    ensures down { result.system ≡ systems.Down disc tapes }
+    ensures failure { result.failure ≡ Some Failure.Memory }
+{
+    let failure = Some(Failure::Memory);
+    Progress {
+        system: System::Down(disc, tapes),
+        failure,
     }
 }
 
 /// The system is up: each user's accounts open, and the line that tells it is put.
 fn comes_up<K: Sink, D: Disc, T: Tapes>(
     alloc: Global,
-    store: Store<D, T>,
+    store: Running<D, T>,
     crew: &mut Crew,
     count: u64,
     made: Result<Text, NoMemory>,

@@ -7,14 +7,15 @@ ghost use Rattle.g_console.specs.Telling.{TellsFault, down_text, refusal_text, s
 
 use crate::progress::{Failure, Progress};
 use crate::puts::{line, put_made, refuse};
-use crate::system::System;
+use crate::system::{Running, System, take_down};
 use g_base::NoMemory;
+use g_cache::CachedDisc;
 use g_crew::Crew;
 use g_disc::Disc;
 use g_io::Sink;
 use g_name::Text;
 use g_plain::StoreFault;
-use g_store::{Refused, Store};
+use g_store::Refused;
 use g_tape::Tapes;
 use std::alloc::Global;
 
@@ -75,21 +76,21 @@ pub fn refused<K: Sink, D: Disc, T: Tapes>(
     Progress { system, failure }
 }
 
-/// The system doesn't come up.
+/// The system doesn't come up: the disc is taken out of the cache that was made for it.
 pub fn stays_down<K: Sink, D: Disc, T: Tapes>(
     alloc: Global,
-    refused: Refused<D, T>,
+    refused: Refused<CachedDisc<D>, T>,
     crew: &mut Crew,
     count: u64,
     out: &mut K,
 ) -> Progress<D, T>
-    ensures down { facts_of D.state T.rack result.system ≡ system.Down (record { disc = D.state refused.disc; rack = T.rack refused.tapes }) }
+    ensures down { facts_of D.state T.rack result.system ≡ system.Down (record { disc = D.state refused.disc.disc; rack = T.rack refused.tapes }) }
     ensures told { TellsFault refused.fault count crew.old result.failure crew.new (K.written out.old) (K.written out.new) (K.faults out.old) (K.faults out.new) }
 {
     let Refused { fault, disc, tapes } = refused;
     let failure = tell_fault(alloc, crew, count, &fault, out);
     Progress {
-        system: System::Down(disc, tapes),
+        system: System::Down(disc.into_disc(), tapes),
         failure,
     }
 }
@@ -97,7 +98,7 @@ pub fn stays_down<K: Sink, D: Disc, T: Tapes>(
 /// A store that is up has answered with this fault: it is up, or, where it was stopped, taken down.
 pub fn fails<K: Sink, D: Disc, T: Tapes>(
     alloc: Global,
-    store: Store<D, T>,
+    store: Running<D, T>,
     fault: StoreFault,
     crew: &mut Crew,
     count: u64,
@@ -112,12 +113,12 @@ pub fn fails<K: Sink, D: Disc, T: Tapes>(
 }
 
 /// The system behind a fault of its store.
-fn behind<D: Disc, T: Tapes>(store: Store<D, T>, fault: &StoreFault) -> System<D, T>
+fn behind<D: Disc, T: Tapes>(store: Running<D, T>, fault: &StoreFault) -> System<D, T>
     ensures { facts_of D.state T.rack result ≡ system_after fault.now store }
 {
     match fault {
         StoreFault::Stopped => {
-            let (disc, tapes) = store.into_devices();
+            let (disc, tapes) = take_down(store);
             System::Down(disc, tapes)
         }
         _ => System::Up(store),

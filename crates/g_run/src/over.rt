@@ -14,7 +14,7 @@ use crate::script::do_lines;
 use crate::ticks::until;
 use g_base::NoMemory;
 use g_budget::{Charge, Tariff, Usage};
-use g_console::{Failure, System, put_made};
+use g_console::{Failure, System, put_made, take_down};
 use g_crew::{Crew, closing_text};
 use g_disc::Disc;
 use g_io::Sink;
@@ -152,7 +152,7 @@ fn taken_down<D: Disc, T: Tapes>(system: System<D, T>) -> (D, T)
     ensures { TakenDown (facts_of D.state T.rack system) (both (D.state result.0) (T.rack result.1)) }
 {
     match system {
-        System::Up(store) => store.into_devices(),
+        System::Up(store) => take_down(store),
         System::Down(disc, tapes) => (disc, tapes),
     }
 }

@@ -11,12 +11,11 @@ ghost use Rattle.g_run.specs.Parts.{DidOne, DidTicks, IsAtRest, is_past, steps_i
 
 use crate::came::Came;
 use g_budget::{Charge, Tariff, Usage};
-use g_console::{Failure, Progress, System};
+use g_console::{Failure, Progress, Running, System};
 use g_crew::Crew;
 use g_disc::Disc;
 use g_io::Sink;
 use g_sched::{Standing, WeighRule};
-use g_store::Store;
 use g_tape::Tapes;
 use g_ticks::tick;
 use std::alloc::Global;
@@ -108,7 +107,7 @@ fn something_steps<D: Disc, T: Tapes>(system: &System<D, T>, crew: &Crew) -> boo
 }
 
 /// Whether a job can step.
-fn job_steps<D: Disc, T: Tapes>(store: &Store<D, T>, crew: &Crew) -> bool
+fn job_steps<D: Disc, T: Tapes>(store: &Running<D, T>, crew: &Crew) -> bool
     ensures { (count : ℕ) → result ≡ some_job_steps (seen (system.Up store.now) crew.now count) }
 {
     crew.can_step(&|serial: u32| store.mounted(serial))

@@ -9,21 +9,20 @@ ghost use Rattle.g_world.specs.Texts.{dump_text};
 ghost use Rattle.g_ticks.specs.Parts.{DidDump};
 
 use g_base::NoMemory;
-use g_console::{Progress, System, fails, push_told, stays_up};
+use g_console::{Progress, Running, System, fails, push_told, stays_up};
 use g_crew::{Crew, dump_text};
 use g_disc::Disc;
 use g_dumper::DumpStep;
 use g_io::Sink;
 use g_name::Text;
 use g_plain::StoreFault;
-use g_store::Store;
 use g_tape::Tapes;
 use std::alloc::Global;
 
 /// A step of the open dump, if there is one, and what is told of it: nothing while it goes on.
 pub(crate) fn dump_step<K: Sink, D: Disc, T: Tapes>(
     alloc: Global,
-    store: Store<D, T>,
+    store: Running<D, T>,
     crew: &mut Crew,
     count: u64,
     out: &mut K,
@@ -46,7 +45,7 @@ pub(crate) fn dump_step<K: Sink, D: Disc, T: Tapes>(
 /// The step of the dump of this number.
 fn step<K: Sink, D: Disc, T: Tapes>(
     alloc: Global,
-    store: Store<D, T>,
+    store: Running<D, T>,
     crew: &mut Crew,
     count: u64,
     number: u64,

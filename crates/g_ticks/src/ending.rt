@@ -10,14 +10,13 @@ ghost use Rattle.g_world.specs.Texts.{operator_line};
 ghost use Rattle.g_ticks.specs.Turning.{EndsTurn, GoesOn, TakenOut};
 
 use g_base::NoMemory;
-use g_console::{Failure, Progress, System, fails, put, stays_up};
+use g_console::{Failure, Progress, Running, System, fails, put, stays_up};
 use g_crew::{Crew, job_text};
 use g_disc::Disc;
 use g_io::Sink;
 use g_job::{Job, Turn};
 use g_name::Text;
 use g_plain::StoreFault;
-use g_store::Store;
 use g_tape::Tapes;
 use std::alloc::Global;
 
@@ -25,7 +24,7 @@ use std::alloc::Global;
 /// stop takes the system down. Accounts open for users that the turn has made, unless it was stopped.
 pub(crate) fn end_turn<K: Sink, D: Disc, T: Tapes>(
     alloc: Global,
-    store: Store<D, T>,
+    store: Running<D, T>,
     crew: &mut Crew,
     count: u64,
     number: u64,
@@ -46,7 +45,7 @@ pub(crate) fn end_turn<K: Sink, D: Disc, T: Tapes>(
 }
 
 /// The job goes on.
-fn goes_on<D: Disc, T: Tapes>(store: Store<D, T>, crew: &mut Crew) -> Progress<D, T>
+fn goes_on<D: Disc, T: Tapes>(store: Running<D, T>, crew: &mut Crew) -> Progress<D, T>
     requires running { store.spent ≡ false }
     ensures { (text : Option (List ℕ)) (faults : ℕ) → GoesOn store [] crew.old result.failure (facts_of D.state T.rack result.system) crew.new text text faults faults }
 {
@@ -65,7 +64,7 @@ fn goes_on<D: Disc, T: Tapes>(store: Store<D, T>, crew: &mut Crew) -> Progress<D
 /// The job waits for this reel.
 fn waits<K: Sink, D: Disc, T: Tapes>(
     alloc: Global,
-    store: Store<D, T>,
+    store: Running<D, T>,
     crew: &mut Crew,
     count: u64,
     number: u64,
@@ -100,7 +99,7 @@ fn wants(alloc: Global, number: u64, serial: u32) -> Result<Text, NoMemory>
 
 /// The job of this number has ended: it is taken out, and its file put.
 fn ends<K: Sink, D: Disc, T: Tapes>(
-    store: Store<D, T>,
+    store: Running<D, T>,
     crew: &mut Crew,
     number: u64,
     out: &mut K,
@@ -118,7 +117,7 @@ fn ends<K: Sink, D: Disc, T: Tapes>(
 
 /// The file of a job that has ended is put.
 fn put_file<K: Sink, D: Disc, T: Tapes>(
-    store: Store<D, T>,
+    store: Running<D, T>,
     crew: &mut Crew,
     job: &Job,
     out: &mut K,

@@ -11,12 +11,11 @@ ghost use Rattle.g_ticks.specs.Parts.{DidTick};
 use crate::dumping::dump_step;
 use crate::turning::take_turn;
 use g_budget::{Charge, Tariff, Usage};
-use g_console::{Progress, System};
+use g_console::{Progress, Running, System};
 use g_crew::Crew;
 use g_disc::Disc;
 use g_io::Sink;
 use g_sched::{Standing, WeighRule};
-use g_store::Store;
 use g_tape::Tapes;
 use std::alloc::Global;
 
@@ -24,7 +23,7 @@ use std::alloc::Global;
 /// that stopped the system, a turn of the job that is chosen, if one can step. The count is the caller's, who raises it.
 pub fn tick<K: Sink, D: Disc, T: Tapes, F: Fn(&Usage) -> Charge, U: Fn(&Standing) -> u64>(
     alloc: Global,
-    store: Store<D, T>,
+    store: Running<D, T>,
     crew: &mut Crew,
     count: u64,
     tariff: &Tariff<F>,

@@ -17,12 +17,11 @@ ghost use Rattle.g_ticks.specs.Turning.{LeftBy, Takes};
 use crate::ending::end_turn;
 use g_base::NoMemory;
 use g_budget::{Charge, Tariff, Usage};
-use g_console::{Failure, Progress, System};
+use g_console::{Failure, Progress, Running, System, take_down};
 use g_crew::Crew;
 use g_disc::Disc;
 use g_io::Sink;
 use g_sched::{Standing, WeighRule};
-use g_store::Store;
 use g_tape::Tapes;
 use std::alloc::Global;
 
@@ -35,7 +34,7 @@ pub(crate) fn take_turn<
     U: Fn(&Standing) -> u64,
 >(
     alloc: Global,
-    store: Store<D, T>,
+    store: Running<D, T>,
     crew: &mut Crew,
     count: u64,
     tariff: &Tariff<F>,
@@ -68,7 +67,7 @@ fn rises(crew: &Crew)
 
 /// The number of the job that goes next.
 fn next_job<D: Disc, T: Tapes, U: Fn(&Standing) -> u64>(
-    store: &Store<D, T>,
+    store: &Running<D, T>,
     crew: &Crew,
     weigh: &WeighRule<U>,
 ) -> Option<u64>
@@ -82,7 +81,7 @@ fn next_job<D: Disc, T: Tapes, U: Fn(&Standing) -> u64>(
 /// A turn of the job of this number.
 fn turn_of<K: Sink, D: Disc, T: Tapes, F: Fn(&Usage) -> Charge>(
     alloc: Global,
-    store: Store<D, T>,
+    store: Running<D, T>,
     crew: &mut Crew,
     count: u64,
     number: u64,
@@ -107,11 +106,11 @@ fn turn_of<K: Sink, D: Disc, T: Tapes, F: Fn(&Usage) -> Charge>(
 }
 
 /// The system of a store that may have been stopped.
-fn behind<D: Disc, T: Tapes>(store: Store<D, T>) -> System<D, T>
+fn behind<D: Disc, T: Tapes>(store: Running<D, T>) -> System<D, T>
     ensures { LeftBy store (facts_of D.state T.rack result) }
 {
     if store.spent() {
-        let (disc, tapes) = store.into_devices();
+        let (disc, tapes) = take_down(store);
         System::Down(disc, tapes)
     } else {
         System::Up(store)

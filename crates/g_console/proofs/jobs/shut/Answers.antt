@@ -20,14 +20,14 @@ returns-in-Some g c =
 pub returns-in-None : goal.returns-in-None
 returns-in-None g c =
     let none = none_dump c.args.store.dump (sym c.dump_number.ensures ∙ c.in-None.is) in
-    subst (λ (d : DiscState). let e : Devices = record { disc = d; rack = g.T.Tapes.rack c.into_devices-disc.result.1 } in
+    subst (λ (d : DiscState). let e : Devices = record { disc = d; rack = g.T.Tapes.rack c.take_down-disc.result.1 } in
     DidLine line.Shut (seen (Up c.args.store) c.args.crew.now c.args.count) c.goes_down-failure.result (seen (Down e) c.goes_down-failure.new.crew c.args.count)
-    (g.K.Sink.written c.args.out.now) (g.K.Sink.written c.goes_down-failure.new.out) (g.K.Sink.faults c.args.out.now) (g.K.Sink.faults c.goes_down-failure.new.out)) (sym c.into_devices-disc.ensures.disc)
+    (g.K.Sink.written c.args.out.now) (g.K.Sink.written c.goes_down-failure.new.out) (g.K.Sink.faults c.args.out.now) (g.K.Sink.faults c.goes_down-failure.new.out)) (sym c.take_down-disc.ensures.disc)
     (subst (λ (r : Rack). let e : Devices = record { disc = c.args.store.online.disc; rack = r } in
     DidLine line.Shut (seen (Up c.args.store) c.args.crew.now c.args.count) c.goes_down-failure.result (seen (Down e) c.goes_down-failure.new.crew c.args.count)
-    (g.K.Sink.written c.args.out.now) (g.K.Sink.written c.goes_down-failure.new.out) (g.K.Sink.faults c.args.out.now) (g.K.Sink.faults c.goes_down-failure.new.out)) (sym c.into_devices-disc.ensures.tapes)
+    (g.K.Sink.written c.args.out.now) (g.K.Sink.written c.goes_down-failure.new.out) (g.K.Sink.faults c.args.out.now) (g.K.Sink.faults c.goes_down-failure.new.out)) (sym c.take_down-disc.ensures.tapes)
     (subst (λ (k : CrewState). let e : Devices = record { disc = c.args.store.online.disc; rack = c.args.store.rack } in
     DidLine line.Shut (seen (Up c.args.store) c.args.crew.now c.args.count) c.goes_down-failure.result (seen (Down e) k c.args.count)
     (g.K.Sink.written c.args.out.now) (g.K.Sink.written c.goes_down-failure.new.out) (g.K.Sink.faults c.args.out.now) (g.K.Sink.faults c.goes_down-failure.new.out)) (sym c.goes_down-failure.ensures.gone)
-    (shut_down c.args.store c.args.crew.now c.requires.ready c.args.count (λ told u stands. c.into_devices-disc.ensures.down told c.requires.ready.0 u stands) none
+    (shut_down c.args.store c.args.crew.now c.requires.ready c.args.count (λ told u stands. c.take_down-disc.ensures.down told c.requires.ready.0 u stands) none
     c.goes_down-failure.result _ _ _ _ c.goes_down-failure.ensures.put)))

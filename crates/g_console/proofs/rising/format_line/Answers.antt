@@ -5,7 +5,10 @@ use Rattle.g_script.specs.declared.operator.Operator.TheVariants as line
 use Rattle.g_world.specs.Devices.{Devices}
 use Rattle.g_console.specs.Parts.{DidLine, IsReady, seen}
 use Rattle.g_console.specs.System.{Down, SystemFacts, Up, facts_of}
-use Rattle.g_console.proofs.RiseLemmas.{formatted_line, unformatted_line, running_line}
+use Rattle.g_disc.specs.Disc.{DiscState}
+use Rattle.g_console.specs.declared.system.System.TheVariants as systems
+use Rattle.g_console.proofs.LineLemmas.{untried_line}
+use Rattle.g_console.proofs.RiseLemmas.{running_line}
 use Rattle.g_console.proofs.rising.format_line.Goals as goal
 
 pub returns-in-Up : goal.returns-in-Up
@@ -18,25 +21,27 @@ returns-in-Up g c =
     (g.K.Sink.written c.args.out.now) (g.K.Sink.written c.refused.new.out) (g.K.Sink.faults c.args.out.now) (g.K.Sink.faults c.refused.new.out)) (sym (ap (facts_of g.D.Disc.state g.T.Tapes.rack) c.refused.ensures.same))
     (running_line line.Format FormatStep (λ r. codes "FORMATTED") (λ o w next it. it) refl refl c.in-Up.store c.args.crew.now ready c.args.count c.refused.result.failure _ _ _ _ c.refused.ensures.put))
 
+pub formats-requires : goal.formats-requires
+formats-requires g c =
+    let at = ap (facts_of g.D.Disc.state g.T.Tapes.rack) c.in-Down.is in
+    let back = sym (ap (λ k. g.D.Disc.state k.disc) c.in-Ok.ensures.empty) in record {
+      ready = subst (λ (d : DiscState). let e : Devices = record { disc = d; rack = g.T.Tapes.rack c.in-Down.tapes } in IsReady (Down e) c.args.crew.now) back
+          (subst (λ (f : SystemFacts). IsReady f c.args.crew.now) at c.requires.ready);
+    }
+
 pub returns-in-Ok : goal.returns-in-Ok
 returns-in-Ok g c =
-    let d : Devices = record { disc = g.D.Disc.state c.in-Down.disc; rack = g.T.Tapes.rack c.in-Down.tapes } in
     let at = ap (facts_of g.D.Disc.state g.T.Tapes.rack) c.in-Down.is in
-    let ready = subst (λ (f : SystemFacts). IsReady f c.args.crew.now) at c.requires.ready in
-    subst (λ (f : SystemFacts). DidLine line.Format (seen f c.args.crew.now c.args.count) c.comes_up.result.failure (seen (facts_of g.D.Disc.state g.T.Tapes.rack c.comes_up.result.system) c.comes_up.new.crew c.args.count)
-    (g.K.Sink.written c.args.out.now) (g.K.Sink.written c.comes_up.new.out) (g.K.Sink.faults c.args.out.now) (g.K.Sink.faults c.comes_up.new.out)) (sym at)
-    (subst (λ (f : SystemFacts). DidLine line.Format (seen (Down d) c.args.crew.now c.args.count) c.comes_up.result.failure (seen f c.comes_up.new.crew c.args.count)
-    (g.K.Sink.written c.args.out.now) (g.K.Sink.written c.comes_up.new.out) (g.K.Sink.faults c.args.out.now) (g.K.Sink.faults c.comes_up.new.out)) (sym (ap (facts_of g.D.Disc.state g.T.Tapes.rack) c.comes_up.ensures.up))
-    (formatted_line (g.D.Disc.state c.in-Down.disc) (g.T.Tapes.rack c.in-Down.tapes) c.args.crew.now c.args.count ready c.comes_up.result.failure c.comes_up.new.crew _ _ _ _ c.in-Ok.store c.in-Ok.ensures.ok c.comes_up.ensures.opened
-    (c.comes_up.ensures.put (codes "FORMATTED") c.from_slice-made.ensures)))
+    subst (λ (f : SystemFacts). DidLine line.Format (seen f c.args.crew.now c.args.count) c.formats.result.failure (seen (facts_of g.D.Disc.state g.T.Tapes.rack c.formats.result.system) c.formats.new.crew c.args.count)
+    (g.K.Sink.written c.args.out.now) (g.K.Sink.written c.formats.new.out) (g.K.Sink.faults c.args.out.now) (g.K.Sink.faults c.formats.new.out)) (sym at)
+    (subst (λ (d : DiscState). let e : Devices = record { disc = d; rack = g.T.Tapes.rack c.in-Down.tapes } in
+    DidLine line.Format (seen (Down e) c.args.crew.now c.args.count) c.formats.result.failure (seen (facts_of g.D.Disc.state g.T.Tapes.rack c.formats.result.system) c.formats.new.crew c.args.count)
+    (g.K.Sink.written c.args.out.now) (g.K.Sink.written c.formats.new.out) (g.K.Sink.faults c.args.out.now) (g.K.Sink.faults c.formats.new.out)) (ap (λ k. g.D.Disc.state k.disc) c.in-Ok.ensures.empty) c.formats.ensures)
 
 pub returns-in-Err : goal.returns-in-Err
 returns-in-Err g c =
-    let d : Devices = record { disc = g.D.Disc.state c.in-Down.disc; rack = g.T.Tapes.rack c.in-Down.tapes } in
     let at = ap (facts_of g.D.Disc.state g.T.Tapes.rack) c.in-Down.is in
-    let ready = subst (λ (f : SystemFacts). IsReady f c.args.crew.now) at c.requires.ready in
-    subst (λ (f : SystemFacts). DidLine line.Format (seen f c.args.crew.now c.args.count) c.stays_down.result.failure (seen (facts_of g.D.Disc.state g.T.Tapes.rack c.stays_down.result.system) c.stays_down.new.crew c.args.count)
-    (g.K.Sink.written c.args.out.now) (g.K.Sink.written c.stays_down.new.out) (g.K.Sink.faults c.args.out.now) (g.K.Sink.faults c.stays_down.new.out)) (sym at)
-    (subst (λ (f : SystemFacts). DidLine line.Format (seen (Down d) c.args.crew.now c.args.count) c.stays_down.result.failure (seen f c.stays_down.new.crew c.args.count)
-    (g.K.Sink.written c.args.out.now) (g.K.Sink.written c.stays_down.new.out) (g.K.Sink.faults c.args.out.now) (g.K.Sink.faults c.stays_down.new.out)) (sym c.stays_down.ensures.down)
-    (unformatted_line (g.D.Disc.state c.in-Down.disc) (g.T.Tapes.rack c.in-Down.tapes) c.args.crew.now c.args.count ready c.stays_down.result.failure c.stays_down.new.crew _ _ _ _ c.in-Err.answer.fault (g.D.Disc.state c.in-Err.answer.disc) (g.T.Tapes.rack c.in-Err.answer.tapes) c.in-Err.ensures.refused c.stays_down.ensures.told))
+    let down = ap (facts_of g.D.Disc.state g.T.Tapes.rack) c.without_cache.ensures.down in
+    let same = ap (λ d. facts_of g.D.Disc.state g.T.Tapes.rack (systems.Down d c.in-Down.tapes)) c.in-Err.ensures.unchanged in
+    untried_line line.Format refl refl (facts_of g.D.Disc.state g.T.Tapes.rack c.args.system) (facts_of g.D.Disc.state g.T.Tapes.rack c.without_cache.result.system) c.args.crew.now c.args.count
+    (down ∙ same ∙ sym at) c.requires.ready c.without_cache.result.failure c.without_cache.ensures.failure _ _

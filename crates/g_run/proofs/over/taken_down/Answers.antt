@@ -6,8 +6,8 @@ use Rattle.g_run.proofs.over.taken_down.Goals as goal
 
 pub returns-in-Up : goal.returns-in-Up
 returns-in-Up g c =
-    subst (λ (f : SystemFacts). TakenDown f (both (g.D.Disc.state c.into_devices.result.0) (g.T.Tapes.rack c.into_devices.result.1))) (sym (ap (facts_of g.D.Disc.state g.T.Tapes.rack) c.in-Up.is))
-    (up_taken_down c.in-Up.store c.into_devices.ensures.down _ _ c.into_devices.ensures.disc c.into_devices.ensures.tapes)
+    subst (λ (f : SystemFacts). TakenDown f (both (g.D.Disc.state c.take_down.result.0) (g.T.Tapes.rack c.take_down.result.1))) (sym (ap (facts_of g.D.Disc.state g.T.Tapes.rack) c.in-Up.is))
+    (up_taken_down c.in-Up.store c.take_down.ensures.down _ _ c.take_down.ensures.disc c.take_down.ensures.tapes)
 
 pub returns-in-Down : goal.returns-in-Down
 returns-in-Down g c =
