@@ -614,3 +614,65 @@ DISPLAY BAD\n\
 - ENTER 0\n\
 TIME UP 9 UNITS\n",
 }];
+
+/// A program that halts with its 64th order. The WHENEVER behind that is said in the same turn, which has no order left for its
+/// command: the program goes on in the next turn, with one order. Two units for the first turn and one for the second.
+pub static EXACT: [Row; 1] = [Row {
+    number: 1,
+    name: "P",
+    user: "MASTER",
+    time: 10,
+    money: 1_000,
+    document: "INPUT P\n\
+00000040\n\
+00000000\n\
+00000000\n\
+00000000\n\
+00000000\n\
+00000000\n\
+00000000\n\
+00000000\n\
+00000000\n\
+00000000\n\
+00000000\n\
+00000000\n\
+00000000\n\
+00000000\n\
+00000000\n\
+00000000\n\
+00000000\n\
+00000000\n\
+00000000\n\
+00000000\n\
+00000000\n\
+14000037\n\
+14140001\n\
+12500025\n\
+07000032\n\
+27000034\n\
+00000000\n\
+00000002\n\
+00000036\n\
+00000002\n\
+00000037\n\
+50512020\n\
+57532020\n\
+////\n\
+LOAD P\n\
+WHENEVER HALTED(HI),RESUME\n\
+ENTER 0\n\
+DISPLAY X",
+    text: "JOB 1 P :MASTER\n\
+- INPUT P\n\
+MADE :MASTER.P(1/)\n\
+- LOAD P\n\
+LOADED 32 WORDS\n\
+- WHENEVER HALTED(HI),RESUME\n\
+- ENTER 0\n\
+HALTED HI\n\
++ RESUME\n\
+DELETED OK\n\
+- DISPLAY X\n\
+DISPLAY X\n\
+END 8 UNITS\n",
+}];

@@ -1,7 +1,7 @@
 //! Whole jobs over a plain store.
 ghost use Rattle.std.specs.Prelude.{◌≡◌, false};
 
-use crate::rows::{DEEP, ENDLESS, LANGUAGE, LAST, PROGRAM, PUT, Row, TRAPS, UNITS, USERS};
+use crate::rows::{DEEP, ENDLESS, EXACT, LANGUAGE, LAST, PROGRAM, PUT, Row, TRAPS, UNITS, USERS};
 use g_budget::{Charge, Tariff, Usage};
 use g_job::{Job, Turn};
 use g_lines::Texts;
@@ -63,6 +63,7 @@ fn jobs(rt: HostRuntime) -> Result<(), Fail> {
     check(&rt, &DEEP)?;
     check(&rt, &PROGRAM)?;
     check(&rt, &ENDLESS)?;
+    check(&rt, &EXACT)?;
     check(&rt, &LANGUAGE)?;
     check(&rt, &UNITS)?;
     check(&rt, &USERS)
