@@ -2,10 +2,6 @@
 #![tactic(auto)]
 
 #[cfg(test)]
-mod calls;
-#[cfg(test)]
-mod laid_out;
-#[cfg(test)]
 mod migrations;
 #[cfg(test)]
 mod refusals;

@@ -2,9 +2,9 @@
 ghost use Rattle.std.specs.Prelude.{◌≡◌, true, Err};
 ghost use Rattle.g_contents.specs.Facts.{IsTied};
 
-use crate::laid_out::{dumped, one_away};
-use crate::retrievals::{fetch, online_with};
+use crate::retrievals::fetch;
 use g_disc::MemoryDisc;
+use g_laid_out::{dumped, one_away, online_with};
 use g_migrate::{migrate, plan_unjam};
 use g_online::Online;
 use g_plain::StoreFault;

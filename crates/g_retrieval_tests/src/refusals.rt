@@ -2,9 +2,9 @@
 ghost use Rattle.std.specs.Prelude.{◌≡◌, OnOk, true};
 ghost use Rattle.g_contents.specs.Facts.{IsTied};
 
-use crate::laid_out::{dumped, nothing_to_take, one_away, one_to_take, without_mark};
-use crate::retrievals::{bring, online_with};
+use crate::retrievals::bring;
 use g_disc::MemoryDisc;
+use g_laid_out::{dumped, nothing_to_take, one_away, one_to_take, online_with, without_mark};
 use g_online::Online;
 use g_plain::StoreFault;
 use g_tape::{MemoryTapes, Tapes};

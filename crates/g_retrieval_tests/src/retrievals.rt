@@ -1,10 +1,10 @@
 //! Files that come back, and why one doesn't.
-ghost use Rattle.std.specs.Prelude.{◌≡◌, ◌≤◌, IfOk, OnOk, true, Err};
+ghost use Rattle.std.specs.Prelude.{◌≡◌, ◌≤◌, OnOk, true, Err};
 ghost use Rattle.g_contents.specs.Facts.{IsTied};
 
-use crate::laid_out::{disc_with, dumped, one_away};
-use g_base::{Block, blocks_for};
+use g_base::blocks_for;
 use g_disc::{Disc, Leave, MemoryDisc};
+use g_laid_out::{disc_with, dumped, one_away, online_with};
 use g_migrate::plan_unjam;
 use g_name::Text;
 use g_online::{Online, OnlineFault};
@@ -13,17 +13,6 @@ use g_retrieve::bring_back;
 use g_tape::{MemoryTapes, Tapes};
 use std::alloc::Global;
 use std::test::Fail;
-
-/// The filestore on a disc with these files.
-pub(crate) fn online_with(alloc: Global, files: &[Block; 5]) -> Result<Online<MemoryDisc>, Fail>
-    ensures live { IfOk result (λ o. o.live ≡ true) }
-    ensures tied { IfOk result (λ o. IsTied o) }
-{
-    match Online::load(alloc, disc_with(alloc, files)?) {
-        Ok(online) => Ok(online),
-        Err((fault, _disc)) => Err(fault.into()),
-    }
-}
 
 /// Brings a file back by a plan of its own, as a store does. `Running`: there is no such file, or it is on the disc.
 pub(crate) fn bring(

@@ -1,7 +1,6 @@
 //! Fetch and Retrieve, as a store answers them.
-use crate::laid_out::{dumped, nothing_to_take, one_away, without_mark};
-use crate::retrievals::online_with;
 use g_base::Block;
+use g_laid_out::{dumped, nothing_to_take, one_away, online_with, without_mark};
 use g_name::{User, parse_path};
 use g_plain::{StoreCall, StoreFault, StoreReply};
 use g_store_calls::{fetch, retrieve};

@@ -1,8 +1,10 @@
 //! A disc of four copy blocks and a reel with one dump, whose blocks were written out by hand.
-ghost use Rattle.std.specs.Prelude.{◌≡◌, ◌<◌, ◌≤◌, IfOk};
+ghost use Rattle.std.specs.Prelude.{◌≡◌, ◌<◌, ◌≤◌, IfOk, true};
+ghost use Rattle.g_contents.specs.Facts.{IsTied};
 
 use g_base::Block;
 use g_disc::{Disc, MemoryDisc};
+use g_online::Online;
 use g_tape::{MemoryTapes, Tapes};
 use std::alloc::Global;
 use std::test::Fail;
@@ -27,7 +29,7 @@ fn record(letter: u8, stamp: u8, len: [u8; 2]) -> Block {
 }
 
 /// The same of a file on tape alone, from this block of reel 9 on.
-pub(crate) fn on_tape(letter: u8, stamp: u8, len: [u8; 2], first: [u8; 4]) -> Block {
+pub fn on_tape(letter: u8, stamp: u8, len: [u8; 2], first: [u8; 4]) -> Block {
     let mut block = record(letter, stamp, len);
     let [a, b, c, d] = first;
     block[51..60].copy_from_slice(&[1, 0, 0, 0, 9, a, b, c, d]);
@@ -35,7 +37,7 @@ pub(crate) fn on_tape(letter: u8, stamp: u8, len: [u8; 2], first: [u8; 4]) -> Bl
 }
 
 /// The same of a file of five bytes in the block 2,048 + `place` of the disc.
-pub(crate) fn on_disc(letter: u8, stamp: u8, place: u8) -> Block {
+pub fn on_disc(letter: u8, stamp: u8, place: u8) -> Block {
     let mut block = record(letter, stamp, [0, 5]);
     block[60..63].copy_from_slice(b"\x01\0\x08");
     block[63] = place;
@@ -43,7 +45,7 @@ pub(crate) fn on_disc(letter: u8, stamp: u8, place: u8) -> Block {
 }
 
 /// The same of one that is on tape too, from block 5 of reel 9 on.
-pub(crate) fn on_both(letter: u8, stamp: u8, place: u8) -> Block {
+pub fn on_both(letter: u8, stamp: u8, place: u8) -> Block {
     let mut block = on_disc(letter, stamp, place);
     block[51..60].copy_from_slice(b"\x01\0\0\0\x09\0\0\0\x05");
     block
@@ -51,7 +53,7 @@ pub(crate) fn on_both(letter: u8, stamp: u8, place: u8) -> Block {
 
 /// F, of 600 bytes, is on tape alone. A, B and C are on the disc and on tape too, the oldest one first, and D is on the disc
 /// alone. No block of the disc is free.
-pub(crate) fn one_away(first: [u8; 4]) -> [Block; 5] {
+pub fn one_away(first: [u8; 4]) -> [Block; 5] {
     [
         on_tape(b'F', 1, [2, 88], first),
         on_both(b'A', 2, 129),
@@ -62,7 +64,7 @@ pub(crate) fn one_away(first: [u8; 4]) -> [Block; 5] {
 }
 
 /// Slot A, which the gate of a blank disc names, with two users and these files; the next stamp is 9, the last dump 7.
-pub(crate) fn disc_with(alloc: Global, files: &[Block; 5]) -> Result<MemoryDisc, Fail>
+pub fn disc_with(alloc: Global, files: &[Block; 5]) -> Result<MemoryDisc, Fail>
     ensures low { IfOk result (λ disc. 2177 < disc.disc.size) }
     ensures high { IfOk result (λ disc. disc.disc.size ≤ 1_048_576) }
 {
@@ -85,9 +87,20 @@ pub(crate) fn disc_with(alloc: Global, files: &[Block; 5]) -> Result<MemoryDisc,
     Ok(disc)
 }
 
+/// The filestore on a disc with these files.
+pub fn online_with(alloc: Global, files: &[Block; 5]) -> Result<Online<MemoryDisc>, Fail>
+    ensures live { IfOk result (λ o. o.live ≡ true) }
+    ensures tied { IfOk result (λ o. IsTied o) }
+{
+    match Online::load(alloc, disc_with(alloc, files)?) {
+        Ok(online) => Ok(online),
+        Err((fault, _disc)) => Err(fault.into()),
+    }
+}
+
 /// Reel 9, mounted, with dump 7 but for its mark: two users, F and G, F's 600 bytes in the blocks 5 and 6, and G's 1,100 in
 /// the blocks 7 to 9.
-pub(crate) fn without_mark(alloc: Global) -> Result<MemoryTapes, Fail> {
+pub fn without_mark(alloc: Global) -> Result<MemoryTapes, Fail> {
     let mut labels = Vec::with_capacity(alloc, 1)?;
     labels.push((9, 11))?;
     let mut tapes = MemoryTapes::new(alloc, labels)?;
@@ -111,7 +124,7 @@ pub(crate) fn without_mark(alloc: Global) -> Result<MemoryTapes, Fail> {
 }
 
 /// The same with its mark.
-pub(crate) fn dumped(alloc: Global) -> Result<MemoryTapes, Fail> {
+pub fn dumped(alloc: Global) -> Result<MemoryTapes, Fail> {
     let mut tapes = without_mark(alloc)?;
     let mut mark = block_of(b"G3MK\0\0\0\0\0\0\0\x07\0\0\0\0\0\0\0\x09");
     mark[511] = 9;
@@ -120,7 +133,7 @@ pub(crate) fn dumped(alloc: Global) -> Result<MemoryTapes, Fail> {
 }
 
 /// G, of 1,100 bytes, is on tape alone. C is on the disc and on tape too, the other three are on the disc alone.
-pub(crate) fn one_to_take() -> [Block; 5] {
+pub fn one_to_take() -> [Block; 5] {
     [
         on_tape(b'G', 2, [4, 76], [0, 0, 0, 7]),
         on_both(b'C', 4, 129),
@@ -131,7 +144,7 @@ pub(crate) fn one_to_take() -> [Block; 5] {
 }
 
 /// The same where C is on the disc alone.
-pub(crate) fn nothing_to_take() -> [Block; 5] {
+pub fn nothing_to_take() -> [Block; 5] {
     [
         on_tape(b'G', 2, [4, 76], [0, 0, 0, 7]),
         on_disc(b'C', 4, 129),
