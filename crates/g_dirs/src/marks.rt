@@ -10,16 +10,19 @@ use std::marker::Model;
 #[derive(Debug, Drop)]
 pub(crate) struct Marks {
     blocks: Vec<bool>,
+    /// From here on no block is marked, so that a look for marks ends here.
+    end: u32,
 }
 
 impl Model for Marks {
-    ghost use Rattle.std.specs.Prelude.{◌≡◌, Bool, List, vec_len};
+    ghost use Rattle.std.specs.Prelude.{◌≡◌, ◌≤◌, ◌<◌, ℕ, Bool, List, Some, false, slice_get, vec_len};
 
     ghost Value = { List Bool };
 
     ghost view = { λ m. m.blocks.items };
 
-    ghost invariant = { λ m. vec_len m.blocks ≡ 1088 };
+    ghost invariant = { λ m. (vec_len m.blocks ≡ 1088) × (m.end ≤ 1088)
+        × ((i : ℕ) → m.end ≤ i → i < 1088 → slice_get m.blocks.items i ≡ Some false) };
 }
 
 impl Marks {
@@ -28,7 +31,10 @@ impl Marks {
         ensures { IfOk result (λ marks. marks ≡ replicate 1088 true) }
     {
         let blocks = vec![in alloc; true; SLOT_BLOCKS as usize]?;
-        Ok(Marks { blocks })
+        Ok(Marks {
+            blocks,
+            end: SLOT_BLOCKS,
+        })
     }
 
     /// Marks block `k`.
@@ -37,6 +43,9 @@ impl Marks {
         ensures { self.new ≡ slice_set self.old k true }
     {
         self.blocks[k as usize] = true;
+        if self.end <= k {
+            self.end = k + 1;
+        }
     }
 
     /// Marks all blocks.
@@ -44,6 +53,7 @@ impl Marks {
         ensures { self.new ≡ replicate 1088 true }
     {
         self.blocks.fill(true);
+        self.end = SLOT_BLOCKS;
     }
 
     /// Takes all marks off.
@@ -51,6 +61,7 @@ impl Marks {
         ensures { self.new ≡ replicate 1088 false }
     {
         self.blocks.fill(false);
+        self.end = 0;
     }
 
     /// The first marked block from `k` on, or 1,088.
@@ -58,7 +69,7 @@ impl Marks {
         requires { k ≤ 1088 }
         ensures { IsNext self.now k result }
     {
-        for j in k..1088 {
+        for j in k..self.end {
             if self.blocks[j as usize] {
                 return j;
             }
