@@ -1,3 +1,4 @@
+pub mod Ahead
 pub mod Finding
 pub mod Layout
 pub mod Notes

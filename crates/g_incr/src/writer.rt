@@ -6,7 +6,7 @@ ghost use Rattle.g_incr.specs.Plan as plan;
 use crate::header::{encode_header, encode_mark};
 use crate::held::is_held;
 use crate::note::{DumpNote, Header};
-use crate::waiting::{blocks_waiting, version_at, waits};
+use crate::waiting::{Ahead, all_ahead, waits};
 use g_base::{Block, BlockList, NoMemory};
 use g_entry::{FileRec, Format, TapeCopy, UserRec, encode_file, encode_user_held};
 use std::alloc::Global;
@@ -20,7 +20,8 @@ pub enum Piece {
     Content { version: usize, part: u32 },
 }
 
-/// A dump that is being written (docs/FORMATS.md). Contracts see it as its plan.
+/// A dump that is being written (docs/FORMATS.md). Contracts see it as its plan. What waits ahead of each file is counted
+/// once, so that no piece costs a walk over the files.
 #[derive(Debug, Drop)]
 pub struct Writer {
     serial: u32,
@@ -30,9 +31,12 @@ pub struct Writer {
     users: Vec<UserRec>,
     held: Vec<u8>,
     files: Vec<FileRec>,
+    ahead: Vec<Ahead>,
 }
 
 impl Model for Writer {
+    ghost use Rattle.std.specs.Prelude.{◌+◌, length};
+    ghost use Rattle.g_incr.specs.Ahead.{AreAhead};
     ghost use Rattle.g_incr.specs.Plan.{IsPlan, Plan};
     ghost use Rattle.g_incr.specs.Pieces.{plan_from};
 
@@ -40,7 +44,8 @@ impl Model for Writer {
 
     ghost view = { λ w. plan_from w.serial w.number w.place w.next_stamp w.users.items w.held.items w.files.items };
 
-    ghost invariant = { λ w. IsPlan (plan_from w.serial w.number w.place w.next_stamp w.users.items w.held.items w.files.items) };
+    ghost invariant = { λ w. IsPlan (plan_from w.serial w.number w.place w.next_stamp w.users.items w.held.items w.files.items)
+        × AreAhead w.files.items (length w.files.items + 1) w.ahead.items };
 }
 
 impl Writer {
@@ -59,6 +64,7 @@ impl Writer {
         requires { plan.IsPlan (plan_from serial number place next_stamp users.now held.now files.now) }
         ensures { IfOk result (λ w. w ≡ plan_from serial number place next_stamp users.now held.now files.now) }
     {
+        let ahead = all_ahead(alloc, files)?;
         let users = copied_users(alloc, users)?;
         let held = copied_numbers(alloc, held)?;
         let files = copied_files(alloc, files)?;
@@ -70,6 +76,7 @@ impl Writer {
             users,
             held,
             files,
+            ahead,
         })
     }
 
@@ -131,7 +138,7 @@ impl Writer {
     {
         let users = self.users.len() as u16;
         let files = self.files.len() as u16;
-        let content = blocks_waiting(self.files.as_slice());
+        let content = self.ahead[self.files.len()].blocks;
         DumpNote {
             number: self.number,
             place: self.place,
@@ -179,7 +186,7 @@ impl Writer {
         requires { i < length self.now.files }
         ensures { IfSome (slice_get self.now.files i) (λ r. result ≡ dumped_rec self.now i r) }
     {
-        let before = blocks_waiting(&self.files.as_slice()[..i as usize]);
+        let before = self.ahead[i as usize].blocks;
         let mut file = self.files[i as usize].copy();
         if waits(&file) {
             let records = self.users.len() as u32 + self.files.len() as u32;
@@ -204,8 +211,13 @@ impl Writer {
         ensures { (i : ℕ) × (part : ℕ) × (result ≡ Piece.Content i part) × plan.IsContentAt self.now k i part }
     {
         let records = self.users.len() as u32 + self.files.len() as u32;
-        let (version, part) = version_at(self.files.as_slice(), k - 1 - records);
-        Piece::Content { version, part }
+        let offset = k - 1 - records;
+        let behind = self.ahead.partition_point(|ahead| ahead.blocks <= offset);
+        let ahead = self.ahead[behind - 1];
+        Piece::Content {
+            version: ahead.versions as usize,
+            part: offset - ahead.blocks,
+        }
     }
 }
 

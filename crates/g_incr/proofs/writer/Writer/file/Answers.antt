@@ -6,10 +6,10 @@ use Rattle.g_incr.proofs.PieceLemmas.{dumped_file, file_piece, numbers_empty, nu
 use Rattle.g_incr.proofs.writer.Writer.file.Goals as goal
 
 pub encode_file-requires-clause-file : goal.encode_file-requires-clause-file
-encode_file-requires-clause-file c = dumped_file c.args.self.now (subst IsPlan c.self.view_is c.self.invariant) c.args.i c.dumped-file.result c.requires c.dumped-file.ensures
+encode_file-requires-clause-file c = dumped_file c.args.self.now (subst IsPlan c.self.view_is c.self.invariant.0) c.args.i c.dumped-file.result c.requires c.dumped-file.ensures
 
 pub encode_file-requires-else-file-eq0-clause-file : goal.encode_file-requires-else-file-eq0-clause-file
-encode_file-requires-else-file-eq0-clause-file c = dumped_file c.args.self.now (subst IsPlan c.self.view_is c.self.invariant) c.args.i c.dumped-file.result c.requires c.dumped-file.ensures
+encode_file-requires-else-file-eq0-clause-file c = dumped_file c.args.self.now (subst IsPlan c.self.view_is c.self.invariant.0) c.args.i c.dumped-file.result c.requires c.dumped-file.ensures
 
 pub returns-then-file-eq0 : goal.returns-then-file-eq0
 returns-then-file-eq0 c =
