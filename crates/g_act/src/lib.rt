@@ -23,6 +23,3 @@ pub use again::Again;
 pub use made::Made;
 pub use stop::Stop;
 pub use work::Work;
-
-#[cfg(test)]
-mod tests;

@@ -6,6 +6,3 @@ mod dump;
 mod step;
 
 pub use dump::{Dump, DumpStep};
-
-#[cfg(test)]
-mod tests;

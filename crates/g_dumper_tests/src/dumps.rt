@@ -4,9 +4,9 @@ ghost use Rattle.g_tape.specs.Memory.{rack_of};
 ghost use Rattle.g_contents.specs.Facts.{IsTied};
 ghost use Rattle.g_state.specs.Up.{IsOpen};
 
-use crate::laid_out::{loaded, one_reel};
 use g_disc::MemoryDisc;
 use g_dumper::{Dump, DumpStep};
+use g_laid_out::{one_reel, online_with_one};
 use g_online::Online;
 use g_plain::StoreFault;
 use g_shelf::completed;
@@ -53,8 +53,18 @@ pub(crate) fn dumped(
 {
     let mut dump = Dump::begin(alloc, online, tapes, 7)?;
     let needs = dump.needs();
+    if dump.serial() != 7 {
+        return Err(StoreFault::NoTape);
+    }
+    let number = dump.number();
     match finish(&mut dump, online, tapes, needs)? {
-        Some(number) => Ok((number, needs)),
+        Some(completed) => {
+            if completed == number {
+                Ok((number, needs))
+            } else {
+                Err(StoreFault::Running)
+            }
+        }
         None => Err(StoreFault::Running),
     }
 }
@@ -87,15 +97,32 @@ fn dumped_twice(
 /// The first dump has two users, a file and its block; the second, with nothing changed since, two users.
 #[test]
 fn dumps_end_to_end(rt: HostRuntime) -> Result<(), Fail> {
-    let mut online = loaded(rt.alloc())?;
-    let mut tapes = one_reel(rt.alloc(), 10)?;
+    let mut online = online_with_one(rt.alloc())?;
+    let mut tapes = one_reel(rt.alloc(), 7, 10)?;
     let [first, second] = dumped_twice(rt.alloc(), &mut online, &mut tapes)?;
     let (dumps, len) = reel_has(rt.alloc(), &mut tapes)?;
     assert!(rt; first == (1, 6) && second == (2, 4) && dumps == 2 && len == 10);
     Ok(())
 }
 
-/// What a third dump needs, and the room that it finds.
+/// What a dump needs, and the room that it finds.
+fn refused(
+    alloc: Global,
+    online: &mut Online<MemoryDisc>,
+    tapes: &mut MemoryTapes,
+) -> Result<(u32, u32), StoreFault>
+    requires live { online.old.live ≡ true }
+    requires pins { online.old.pins ≡ None }
+    requires tied { IsTied online.old }
+{
+    match dumped(alloc, online, tapes) {
+        Ok(_dump) => Err(StoreFault::Running),
+        Err(StoreFault::TapeFull { need, room }) => Ok((need, room)),
+        Err(fault) => Err(fault),
+    }
+}
+
+/// The same behind two dumps.
 fn third(
     alloc: Global,
     online: &mut Online<MemoryDisc>,
@@ -106,19 +133,25 @@ fn third(
     requires tied { IsTied online.old }
 {
     let [_first, _second] = dumped_twice(alloc, online, tapes)?;
-    match dumped(alloc, online, tapes) {
-        Ok(_dump) => Err(StoreFault::Running),
-        Err(StoreFault::TapeFull { need, room }) => Ok((need, room)),
-        Err(fault) => Err(fault),
-    }
+    refused(alloc, online, tapes)
 }
 
 /// It would have as many blocks as the second.
 #[test]
 fn a_full_reel(rt: HostRuntime) -> Result<(), Fail> {
-    let mut online = loaded(rt.alloc())?;
-    let mut tapes = one_reel(rt.alloc(), 13)?;
+    let mut online = online_with_one(rt.alloc())?;
+    let mut tapes = one_reel(rt.alloc(), 7, 13)?;
     let full = third(rt.alloc(), &mut online, &mut tapes)?;
     assert_eq!(rt; full, (4, 3));
+    Ok(())
+}
+
+/// The first dump doesn't fit on a reel of five blocks.
+#[test]
+fn a_short_reel(rt: HostRuntime) -> Result<(), Fail> {
+    let mut online = online_with_one(rt.alloc())?;
+    let mut tapes = one_reel(rt.alloc(), 7, 5)?;
+    let short = refused(rt.alloc(), &mut online, &mut tapes)?;
+    assert_eq!(rt; short, (6, 5));
     Ok(())
 }

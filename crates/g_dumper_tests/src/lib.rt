@@ -4,6 +4,4 @@
 #[cfg(test)]
 mod dumps;
 #[cfg(test)]
-mod laid_out;
-#[cfg(test)]
 mod stops;

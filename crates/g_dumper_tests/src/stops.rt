@@ -2,7 +2,7 @@
 ghost use Rattle.std.specs.Prelude.{◌≤◌};
 
 use crate::dumps::{dumped, reel_has};
-use crate::laid_out::{loaded, one_reel};
+use g_laid_out::{one_reel, online_with_one};
 use g_plain::StoreFault;
 use g_tape::{TapeLeave, Tapes};
 use std::alloc::Global;
@@ -14,8 +14,8 @@ use std::test::Fail;
 fn stopped_at(alloc: Global, k: u32, leave: TapeLeave) -> Result<(usize, u32), Fail>
     requires { 1 ≤ k }
 {
-    let mut online = loaded(alloc)?;
-    let mut tapes = one_reel(alloc, 20)?;
+    let mut online = online_with_one(alloc)?;
+    let mut tapes = one_reel(alloc, 7, 20)?;
     tapes.set_leave(leave);
     tapes.arm(k);
     match dumped(alloc, &mut online, &mut tapes) {

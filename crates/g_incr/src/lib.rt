@@ -25,6 +25,3 @@ pub use writer::{Piece, Writer};
 pub fn plan_gives_dump()
     ensures dump { PlanGivesDump }
 {}
-
-#[cfg(test)]
-mod tests;

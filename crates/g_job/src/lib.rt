@@ -15,6 +15,3 @@ pub use laws::{
     turns_say_why_they_are_over,
 };
 pub use turn::Turn;
-
-#[cfg(test)]
-mod tests;

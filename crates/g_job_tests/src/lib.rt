@@ -3,6 +3,8 @@
 #![tactic(auto)]
 
 #[cfg(test)]
+mod ample;
+#[cfg(test)]
 mod edge;
 #[cfg(test)]
 mod faults;
@@ -14,3 +16,5 @@ mod refusing;
 mod rows;
 #[cfg(test)]
 mod whole;
+#[cfg(test)]
+mod work;

@@ -5,6 +5,6 @@
 mod laid_out;
 
 pub use laid_out::{
-    disc_with, dumped, nothing_to_take, on_both, on_disc, on_tape, one_away, one_to_take,
-    online_with, without_mark,
+    blank, disc_with, dumped, nothing_to_take, on_both, on_disc, on_tape, one_away, one_reel,
+    one_to_take, online_with, online_with_one, without_mark,
 };

@@ -9,8 +9,6 @@ mod line;
 mod parse;
 mod pieces;
 mod reader;
-#[cfg(test)]
-mod tests;
 
 pub use bytes::is_param_letter;
 pub use fault::LangFault;

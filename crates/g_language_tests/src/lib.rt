@@ -3,9 +3,15 @@
 #![tactic(auto)]
 
 #[cfg(test)]
+mod lang;
+#[cfg(test)]
 mod levels;
 #[cfg(test)]
 mod lines;
+#[cfg(test)]
+mod macros;
+#[cfg(test)]
+mod monitor;
 #[cfg(test)]
 mod refusals;
 #[cfg(test)]

@@ -8,8 +8,6 @@ mod fault;
 mod level;
 mod levels;
 mod outcome;
-#[cfg(test)]
-mod tests;
 
 pub use entry::Entry;
 pub use fault::MacroFault;

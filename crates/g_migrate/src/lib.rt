@@ -3,8 +3,6 @@
 
 mod candidates;
 mod migration;
-#[cfg(test)]
-mod tests;
 mod unjamming;
 
 pub use g_online::Unjam;

@@ -9,8 +9,6 @@ mod laws;
 mod listing;
 mod parts;
 mod replies;
-#[cfg(test)]
-mod tests;
 
 pub use errors::{CommandError, push_error};
 pub use faults::{fault_text, push_fault};

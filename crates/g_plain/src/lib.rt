@@ -29,6 +29,3 @@ pub use plain_store::PlainStore;
 pub use questions::Questions;
 pub use refusals::refusal;
 pub use runs::{HoldsTree, StandsFor, runs_are_plain, runs_go_along, runs_have_answers};
-
-#[cfg(test)]
-mod tests;

@@ -11,9 +11,6 @@ ghost use Rattle.g_restore.specs.Reels.{AreAllDumps};
 
 pub use restore::rebuild;
 
-#[cfg(test)]
-mod tests;
-
 /// Where the reels tell what they hold, the dumps that are read of them are all completed dumps.
 pub fn dumps_of_reels()
     ensures all { AreAllDumps }

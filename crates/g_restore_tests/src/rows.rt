@@ -211,19 +211,22 @@ fn has_files(online: &Online<MemoryDisc>, want: &[(u8, u64, u32)]) -> bool
     true
 }
 
-/// The number and the next stamp of a restore on a new disc, and whether it has these files, with all users changed.
+/// The number and the next stamp of a restore on a new disc, how many users it has, and whether it has these files, with all
+/// users changed.
 fn restored(
     alloc: Global,
     tapes: &mut MemoryTapes,
     want: &[(u8, u64, u32)],
-) -> Result<(u64, u64, bool), StoreFault> {
+) -> Result<(u64, u64, usize, bool), StoreFault> {
     let disc = MemoryDisc::new(alloc, 2178)?;
     match rebuild(alloc, disc, tapes) {
         Ok((online, number)) => {
-            let all = online.changed().len() == online.tree().users().len();
+            let users = online.tree().users().len();
+            let all = online.changed().len() == users;
             Ok((
                 number,
                 online.head().next_stamp,
+                users,
                 all && has_files(&online, want),
             ))
         }
@@ -239,6 +242,32 @@ fn refusal(alloc: Global, tapes: &mut MemoryTapes) -> Option<StoreFault> {
     }
 }
 
+/// Dump 7, of two users, whose directories it holds or not.
+fn put_users(tapes: &mut MemoryTapes, held: u8) -> Result<(), Fail> {
+    put(
+        tapes,
+        0,
+        &[
+            header(2, 7, 0, [2, 0, 0]),
+            user(b"MASTER", held),
+            user(b"MACROS", held),
+            mark(7, 0, 2),
+        ],
+    )
+}
+
+#[test]
+fn a_dump_without_files(rt: HostRuntime) -> Result<(), Fail> {
+    let mut tapes = two_reels(rt.alloc())?;
+    tapes.mount(2)?;
+    put_users(&mut tapes, 1)?;
+    assert_eq!(rt; restored(rt.alloc(), &mut tapes, &[]), Ok((7, 10, 2, true)));
+    put_users(&mut tapes, 0)?;
+    let lost = StoreFault::LostDirectory(User::master());
+    assert_eq!(rt; refusal(rt.alloc(), &mut tapes), Some(lost));
+    Ok(())
+}
+
 /// The first dump is of the first format, the second one of the second.
 #[test]
 fn each_directory_from_the_newest_dump(rt: HostRuntime) -> Result<(), Fail> {
@@ -246,7 +275,10 @@ fn each_directory_from_the_newest_dump(rt: HostRuntime) -> Result<(), Fail> {
     tapes.mount(2)?;
     put_two_dumps(&mut tapes)?;
     let want = [(0, 3, 12), (1, 2, 6)];
-    assert_eq!(rt; restored(rt.alloc(), &mut tapes, &want), Ok((2, 10, true)));
+    assert_eq!(rt;
+        restored(rt.alloc(), &mut tapes, &want),
+        Ok((2, 10, 2, true))
+    );
     Ok(())
 }
 
@@ -266,7 +298,10 @@ fn a_directory_that_was_not_held_again(rt: HostRuntime) -> Result<(), Fail> {
         (3, 5, 15),
         (3, 6, 16),
     ];
-    assert_eq!(rt; restored(rt.alloc(), &mut tapes, &want), Ok((3, 10, true)));
+    assert_eq!(rt;
+        restored(rt.alloc(), &mut tapes, &want),
+        Ok((3, 10, 4, true))
+    );
     Ok(())
 }
 

@@ -3,8 +3,6 @@
 
 mod back;
 mod bytes;
-#[cfg(test)]
-mod tests;
 
 pub use back::bring_back;
 pub use bytes::tape_bytes;

@@ -7,8 +7,6 @@ mod number;
 mod operator;
 mod parse;
 mod read;
-#[cfg(test)]
-mod tests;
 
 pub use law::one_reading;
 pub use operator::{Operator, Script, Timed, Timeds};

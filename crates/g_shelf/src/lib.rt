@@ -9,9 +9,6 @@ pub use catalogue::{completed, end_of};
 pub use copy::find_copy;
 pub use last::{first_unmounted, last_dump};
 
-#[cfg(test)]
-mod tests;
-
 ghost use Rattle.g_shelf.specs.Completed.{CompletedAreOne};
 ghost use Rattle.g_shelf.specs.Held.{HeldInOne};
 ghost use Rattle.g_shelf.specs.Quiet.{MarkCompletes, QuietBlocks};

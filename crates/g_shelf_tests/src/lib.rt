@@ -2,4 +2,6 @@
 #![tactic(auto)]
 
 #[cfg(test)]
+mod ample;
+#[cfg(test)]
 mod shelves;

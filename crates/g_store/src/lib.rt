@@ -10,8 +10,6 @@ mod migrating;
 mod mounting;
 mod starting;
 mod store;
-#[cfg(test)]
-mod tests;
 
 pub use laws::making_is_complete;
 pub use making::{Refused, format, restore};

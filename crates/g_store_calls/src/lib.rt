@@ -8,8 +8,6 @@ mod fetching;
 mod putting;
 mod setting;
 mod telling;
-#[cfg(test)]
-mod tests;
 
 pub use answering::{answer, change};
 pub use appending::append;

@@ -2,6 +2,8 @@
 #![tactic(auto)]
 
 #[cfg(test)]
+mod ample;
+#[cfg(test)]
 mod asking;
 #[cfg(test)]
 mod conversing;
@@ -15,6 +17,8 @@ mod events;
 mod offline;
 #[cfg(test)]
 mod operating;
+#[cfg(test)]
+mod replaced;
 #[cfg(test)]
 mod stops;
 #[cfg(test)]

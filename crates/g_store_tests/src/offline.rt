@@ -158,7 +158,7 @@ fn no_room(rt: HostRuntime) -> Result<(), Fail> {
 }
 
 /// Reels 1 and 2 of 7 blocks.
-fn two_reels(alloc: Global) -> Result<MemoryTapes, Fail> {
+pub(crate) fn two_reels(alloc: Global) -> Result<MemoryTapes, Fail> {
     let mut labels = Vec::with_capacity(alloc, 2)?;
     labels.push((1, 7))?;
     labels.push((2, 7))?;

@@ -9,8 +9,6 @@ mod number_list;
 mod output;
 mod scan;
 mod sorted;
-#[cfg(test)]
-mod tests;
 mod tree;
 
 pub use asked::refusal_of;

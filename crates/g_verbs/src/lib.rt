@@ -9,8 +9,6 @@ mod laws;
 mod number;
 mod parameter;
 mod read;
-#[cfg(test)]
-mod tests;
 mod values;
 mod verb;
 

@@ -3,9 +3,9 @@ ghost use Rattle.std.specs.Prelude.{All, IfOk};
 ghost use Rattle.g_entry.specs.declared.format.Format.TheVariants.{Two};
 ghost use Rattle.g_entry.specs.UserFields.{IsUser};
 
-use super::*;
 use g_base::Block;
 use g_entry::{UserRec, users_keep};
+use g_incr::{Piece, Writer, read_blocks, read_dump};
 use g_name::User;
 use g_tape::{MemoryTapes, Tapes};
 use std::alloc::Global;

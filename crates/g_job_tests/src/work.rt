@@ -1,4 +1,5 @@
-use crate::Work;
+//! A turn of one line, with ample memory.
+use g_act::Work;
 use g_lines::Texts;
 use g_macro::Levels;
 use g_name::User;

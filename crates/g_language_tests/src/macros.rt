@@ -1,8 +1,9 @@
+//! Levels of a job with ample memory.
 ghost use Rattle.std.specs.Prelude.{◌<◌, length, IfOk};
 
-use super::*;
 use g_lang::{Command, Line, parse_line};
 use g_lines::Texts;
+use g_macro::{EventNote, Levels, Outcome};
 use std::alloc::Global;
 use std::test::Fail;
 

@@ -2,8 +2,8 @@
 ghost use Rattle.std.specs.Prelude.{◌≡◌};
 ghost use Rattle.g_plain.specs.Rules.{IsWithinLimits};
 
-use crate::{BudgetKind, Filestore, PlainStore, StoreCall, StoreReply, ask};
 use g_name::{Local, Path, Text, User};
+use g_plain::{BudgetKind, Filestore, PlainStore, StoreCall, StoreReply, ask};
 use g_trap::{Mode, Modes};
 use std::alloc::Global;
 use std::process::Abort;

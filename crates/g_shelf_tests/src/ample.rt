@@ -1,7 +1,7 @@
 //! Each call with ample memory, over a dump without files.
-use super::*;
 use g_entry::TapeCopy;
 use g_incr::{DumpNote, ShelfFault};
+use g_shelf::{completed, end_of, find_copy, first_unmounted, last_dump};
 use g_tape::{MemoryTapes, Tapes};
 use std::test::Fail;
 

@@ -1,5 +1,8 @@
 //! Each call is made once with ample memory.
-use crate::*;
+use g_monitor::{
+    CommandError, JobLine, Mark, fault_text, list_text, push_error, push_header, push_job_line,
+    push_marked, reply_text,
+};
 use g_name::{Full, Lang, Local, Text, User};
 use g_plain::{Listing, StoreCall, StoreFault, StoreReply};
 use g_word::Word;

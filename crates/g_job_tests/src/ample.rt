@@ -1,8 +1,8 @@
 //! A job that begins, and a turn of it, with ample memory.
 ghost use Rattle.std.specs.Prelude.{◌≡◌, IfOk, false};
 
-use super::*;
 use g_budget::{Charge, Tariff, Usage};
+use g_job::{Job, Turn};
 use g_lines::Texts;
 use g_name::{Local, User};
 use g_plain::PlainStore;

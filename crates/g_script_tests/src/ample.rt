@@ -1,4 +1,5 @@
-use super::*;
+//! A script of every operator with ample memory.
+use g_script::{one_reading, parse_script};
 use std::test::Fail;
 
 /// Every operator, a job with MONEY and one without, and a last line that lacks its byte 10.

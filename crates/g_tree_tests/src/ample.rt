@@ -2,9 +2,9 @@
 ghost use Rattle.std.specs.Prelude.{◌≡◌, IfOk};
 ghost use Rattle.g_tree.specs.State.{first_user, first_users};
 
-use crate::Tree;
 use g_entry::UserRec;
 use g_name::User;
+use g_tree::Tree;
 use std::alloc::Global;
 use std::test::Fail;
 

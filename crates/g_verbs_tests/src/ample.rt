@@ -1,6 +1,7 @@
-use super::*;
+//! A verb with ample memory.
 use g_lines::Texts;
 use g_name::{Local, Text};
+use g_verbs::{Action, read_verb};
 use std::alloc::Global;
 use std::test::Fail;
 

@@ -1,44 +1,21 @@
-//! Each call with ample memory, over a new filestore.
-ghost use Rattle.std.specs.Prelude.{◌≡◌, true, IfOk};
-ghost use Rattle.g_contents.specs.Facts.{IsTied};
+//! Each call of records with ample memory, over a filestore of one file.
+ghost use Rattle.std.specs.Prelude.{◌≡◌, true};
 ghost use Rattle.g_plain.specs.Rules.{IsWithinLimits};
 ghost use Rattle.g_store_calls.specs.Kinds.{sets_records};
 
-use super::*;
-use g_disc::MemoryDisc;
-use g_entry::Head;
+use g_laid_out::online_with_one;
 use g_name::{Local, Path, User};
-use g_online::Online;
 use g_plain::{BudgetKind, StoreCall, StoreFault, StoreReply};
+use g_store_calls::{change, tell};
 use g_trap::Modes;
-use g_tree::Tree;
 use std::alloc::Global;
 use std::test::Fail;
-
-/// A filestore of the first two users and no file.
-fn formatted(alloc: Global) -> Result<Online<MemoryDisc>, Fail>
-    ensures live { IfOk result (λ o. o.live ≡ true) }
-    ensures tied { IfOk result (λ o. IsTied o) }
-{
-    let disc = MemoryDisc::new(alloc, 2182)?;
-    let tree = Tree::new(alloc)?;
-    let _users = tree.users();
-    let head = Head {
-        next_stamp: 1,
-        last_dump: 0,
-        intent: None,
-    };
-    match Online::fresh(alloc, disc, tree, head) {
-        Ok(online) => Ok(online),
-        Err((fault, _disc)) => Err(fault.into()),
-    }
-}
 
 /// The path of a file that isn't there.
 fn absent() -> Result<Path, Fail> {
     Ok(Path {
         user: None,
-        local: Local::parse(b"F")?,
+        local: Local::parse(b"G")?,
         generation: None,
         lang: None,
     })
@@ -46,7 +23,7 @@ fn absent() -> Result<Path, Fail> {
 
 /// How many files of `MASTER` are told.
 fn listed(alloc: Global) -> Result<Option<usize>, Fail> {
-    let online = formatted(alloc)?;
+    let online = online_with_one(alloc)?;
     let master = User::master();
     let call = StoreCall::List {
         user: master.copy(),
@@ -62,7 +39,7 @@ fn is_done(alloc: Global, call: &StoreCall) -> Result<bool, Fail>
     requires limits { IsWithinLimits call.now }
     requires records { sets_records call.now ≡ true }
 {
-    let mut online = formatted(alloc)?;
+    let mut online = online_with_one(alloc)?;
     let answer = change(alloc, &mut online, &User::master(), call);
     Ok(matches!(&answer, Ok(StoreReply::Done)))
 }
@@ -72,7 +49,7 @@ fn is_missed(alloc: Global, call: &StoreCall) -> Result<bool, Fail>
     requires limits { IsWithinLimits call.now }
     requires records { sets_records call.now ≡ true }
 {
-    let mut online = formatted(alloc)?;
+    let mut online = online_with_one(alloc)?;
     let answer = change(alloc, &mut online, &User::master(), call);
     Ok(matches!(&answer, Err(StoreFault::NoFile)))
 }
@@ -103,7 +80,7 @@ fn is_not_erased(alloc: Global) -> Result<bool, Fail> {
 fn is_not_renamed(alloc: Global) -> Result<bool, Fail> {
     let call = StoreCall::Rename {
         path: absent()?,
-        to: Local::parse(b"G")?,
+        to: Local::parse(b"H")?,
     };
     is_missed(alloc, &call)
 }
@@ -127,9 +104,9 @@ fn is_not_closed(alloc: Global) -> Result<bool, Fail> {
 }
 
 #[test]
-fn ample(rt: HostRuntime) -> Result<(), Fail> {
+fn records(rt: HostRuntime) -> Result<(), Fail> {
     let alloc = rt.alloc();
-    assert_eq!(rt; listed(alloc)?, Some(0));
+    assert_eq!(rt; listed(alloc)?, Some(1));
     let done = is_made(alloc)? && is_set(alloc)?;
     assert!(rt; done);
     let files = is_not_erased(alloc)? && is_not_renamed(alloc)?;

@@ -1,4 +1,5 @@
-use super::*;
+//! A line that is parsed with ample memory.
+use g_lang::{Command, Cond, Label, Test, parse_line};
 use g_lines::Texts;
 use std::test::Fail;
 
