@@ -5,13 +5,13 @@ mod catalogue;
 mod copy;
 mod last;
 
-pub use catalogue::{completed, end_of};
-pub use copy::find_copy;
-pub use last::{first_unmounted, last_dump};
-
 ghost use Rattle.g_shelf.specs.Completed.{CompletedAreOne};
 ghost use Rattle.g_shelf.specs.Held.{HeldInOne};
 ghost use Rattle.g_shelf.specs.Quiet.{MarkCompletes, QuietBlocks};
+
+pub use catalogue::{completed, end_of};
+pub use copy::find_copy;
+pub use last::{first_unmounted, last_dump};
 
 /// A write of the next block of a dump that begins behind the completed ones, whatever it leaves, leaves the completed
 /// dumps as they are, where the block stands before the mark; and a write of the mark leaves them, or adds that dump.
