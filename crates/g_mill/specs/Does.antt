@@ -1,6 +1,11 @@
 -- How a call that does an order answers.
-use Rattle.std.specs.Prelude.{◌≡◌, ℕ, List, Option, Some, None}
+use Rattle.std.specs.Prelude.{◌≡◌, ℕ, Bool, true, false, List, Option, Some, None}
+use Rattle.g_order.specs.declared.functions.Function.{Function}
+use Rattle.g_order.specs.declared.functions.Function.TheVariants.{Transfer, Halt, Display, Delete}
 use Rattle.g_mill.specs.declared.event.Event.{Event}
+use Rattle.g_mill.specs.declared.event.Event.TheVariants.{Ran}
+use Rattle.g_mill.specs.declared.step.Quick.{Quick}
+use Rattle.g_mill.specs.declared.step.Quick.TheVariants as quick
 use Rattle.g_mill.specs.Machine.{Machine, onward}
 use Rattle.g_mill.specs.Effect.{Outcome}
 
@@ -8,6 +13,25 @@ use Rattle.g_mill.specs.Effect.{Outcome}
 abbrev pub Does : Option Event → Machine → Machine → Outcome → Type 0
 Does None old new outcome = (outcome ≡ None) × (new ≡ old)
 Does (Some event) old new outcome = outcome ≡ Some (new, event)
+
+-- the same of an order that tells no more than that it was done
+abbrev pub Done : Bool → Machine → Machine → Outcome → Type 0
+Done false old new outcome = (outcome ≡ None) × (new ≡ old)
+Done true old new outcome = outcome ≡ Some (new, Ran)
+
+-- the same of an order that may be left for another call, which then has changed nothing
+abbrev pub DoesQuick : Quick → Machine → Machine → Outcome → Type 0
+DoesQuick quick.Ran old new outcome = outcome ≡ Some (new, Ran)
+DoesQuick quick.Illegal old new outcome = (outcome ≡ None) × (new ≡ old)
+DoesQuick quick.Left old new outcome = new ≡ old
+
+-- whether orders of this function tell no more than that they were done
+abbrev pub is_plain : Function → Bool
+is_plain Transfer = false
+is_plain Halt = false
+is_plain Display = false
+is_plain Delete = false
+is_plain function = true
 
 -- the text and the program going on behind the order, or, where there is none, the program as it was
 abbrev pub TellsText : Option (List ℕ) → Machine → Machine → Option (List ℕ) → Type 0

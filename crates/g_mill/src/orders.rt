@@ -1,9 +1,9 @@
-//! The orders one by one. Each call answers `None` where its order is illegal, and has changed nothing then.
+//! The orders one by one. A call answers false, or `None`, where its order is illegal, and has changed nothing then.
 
 ghost use Rattle.std.specs.Prelude.{◌≡◌, Some, true, false};
 ghost use Rattle.g_order.specs.Coding.{fields};
 ghost use Rattle.g_order.specs.declared.functions.Function.TheVariants as function;
-ghost use Rattle.g_mill.specs.Does.{Does};
+ghost use Rattle.g_mill.specs.Does.{Does, Done};
 ghost use Rattle.g_mill.specs.Effect.{effect, shifted};
 
 use crate::operations::{is_taken, made, overflow_behind};
@@ -14,95 +14,106 @@ use g_word::Word;
 
 impl Program {
     /// The accumulator becomes what the operation makes of it and the word at the address.
-    pub(crate) fn load_word(&mut self, operation: Operation, order: &Order) -> Option<Event>
-        ensures { Does result self.old self.new
+    pub(crate) fn load_word(&mut self, operation: Operation, order: &Order) -> bool
+        ensures { Done result self.old self.new
             (effect (function.Load operation) self.old (fields order.now)) }
     {
-        let operand = self.operand(order)?;
+        let Some(operand) = self.operand(order) else {
+            return false;
+        };
         let (word, overflow) = made(operation, self.accumulator(order.x), operand);
         self.put_accumulator(order.x, word, overflow);
         self.go_on();
-        Some(Event::Ran)
+        true
     }
 
     /// The word at the address becomes what the operation makes of it and the accumulator.
-    pub(crate) fn store(&mut self, operation: Operation, order: &Order) -> Option<Event>
-        ensures { Does result self.old self.new
+    pub(crate) fn store(&mut self, operation: Operation, order: &Order) -> bool
+        ensures { Done result self.old self.new
             (effect (function.Store operation) self.old (fields order.now)) }
     {
         let address = self.address(order);
-        let old = self.word(address)?;
+        let Some(old) = self.word(address) else {
+            return false;
+        };
         let (word, overflow) = made(operation, old, self.accumulator(order.x));
         self.put(address, word, overflow);
         self.go_on();
-        Some(Event::Ran)
+        true
     }
 
     /// The accumulator becomes what the operation makes of it and the address itself.
-    pub(crate) fn load_number(&mut self, operation: Operation, order: &Order) -> Event
-        ensures { Does (Some result) self.old self.new
+    pub(crate) fn load_number(&mut self, operation: Operation, order: &Order)
+        ensures { Done true self.old self.new
             (effect (function.LoadNumber operation) self.old (fields order.now)) }
     {
         let number = Word::from(self.address(order));
         let (word, overflow) = made(operation, self.accumulator(order.x), number);
         self.put_accumulator(order.x, word, overflow);
         self.go_on();
-        Event::Ran
     }
 
     /// The accumulator becomes a character of the word at the address.
-    pub(crate) fn load_character(&mut self, order: &Order) -> Option<Event>
-        ensures { Does result self.old self.new
+    pub(crate) fn load_character(&mut self, order: &Order) -> bool
+        ensures { Done result self.old self.new
             (effect function.LoadCharacter self.old (fields order.now)) }
     {
-        let operand = self.operand(order)?;
+        let Some(operand) = self.operand(order) else {
+            return false;
+        };
         let character = operand.char_at(self.place(order));
         self.put_accumulator(order.x, Word::from(u16::from(character)), false);
         self.go_on();
-        Some(Event::Ran)
+        true
     }
 
     /// The word at the address becomes 0.
-    pub(crate) fn store_zero(&mut self, order: &Order) -> Option<Event>
-        ensures { Does result self.old self.new
+    pub(crate) fn store_zero(&mut self, order: &Order) -> bool
+        ensures { Done result self.old self.new
             (effect function.StoreZero self.old (fields order.now)) }
     {
         let address = self.address(order);
-        let _old = self.word(address)?;
+        let Some(_old) = self.word(address) else {
+            return false;
+        };
         self.put(address, Word::ZERO, false);
         self.go_on();
-        Some(Event::Ran)
+        true
     }
 
     /// A character of the word at the address becomes the last of the accumulator.
-    pub(crate) fn deposit_character(&mut self, order: &Order) -> Option<Event>
-        ensures { Does result self.old self.new
+    pub(crate) fn deposit_character(&mut self, order: &Order) -> bool
+        ensures { Done result self.old self.new
             (effect function.DepositCharacter self.old (fields order.now)) }
     {
         let address = self.address(order);
-        let old = self.word(address)?;
+        let Some(old) = self.word(address) else {
+            return false;
+        };
         let character = (self.accumulator(order.x).value() % 64) as u8;
         self.put(address, old.with_char(self.place(order), character), false);
         self.go_on();
-        Some(Event::Ran)
+        true
     }
 
     /// The accumulator and the next one become the product of the accumulator and the word at the address.
-    pub(crate) fn multiply(&mut self, order: &Order) -> Option<Event>
-        ensures { Does result self.old self.new
+    pub(crate) fn multiply(&mut self, order: &Order) -> bool
+        ensures { Done result self.old self.new
             (effect function.Multiply self.old (fields order.now)) }
     {
-        let operand = self.operand(order)?;
+        let Some(operand) = self.operand(order) else {
+            return false;
+        };
         let (high, low, overflow) = self.accumulator(order.x).mul_parts(operand);
         self.put_accumulator(order.x, high, false);
         self.put_accumulator((order.x + 1) % 8, low, overflow);
         self.go_on();
-        Some(Event::Ran)
+        true
     }
 
     /// Goes to the address where the condition holds.
-    pub(crate) fn branch(&mut self, condition: Condition, order: &Order) -> Event
-        ensures { Does (Some result) self.old self.new
+    pub(crate) fn branch(&mut self, condition: Condition, order: &Order)
+        ensures { Done true self.old self.new
             (effect (function.Branch condition) self.old (fields order.now)) }
     {
         let overflow = self.overflow();
@@ -113,33 +124,30 @@ impl Program {
             following(self.next())
         };
         self.branch_to(goes_to, overflow_behind(condition, overflow));
-        Event::Ran
     }
 
     /// Goes to a routine, and keeps the address behind the order in the accumulator.
-    pub(crate) fn call(&mut self, order: &Order) -> Event
-        ensures { Does (Some result) self.old self.new
+    pub(crate) fn call(&mut self, order: &Order)
+        ensures { Done true self.old self.new
             (effect function.Call self.old (fields order.now)) }
     {
         let back = following(self.next());
         self.put_accumulator(order.x, Word::from(back), false);
         self.go(order.n);
-        Event::Ran
     }
 
     /// Goes back by the address that the accumulator keeps.
-    pub(crate) fn exit(&mut self, order: &Order) -> Event
-        ensures { Does (Some result) self.old self.new
+    pub(crate) fn exit(&mut self, order: &Order)
+        ensures { Done true self.old self.new
             (effect function.Exit self.old (fields order.now)) }
     {
         let back = self.low_bits(order.x);
         self.go((back + order.n) % LIMIT);
-        Event::Ran
     }
 
     /// Shifts the accumulator, as the address tells.
-    pub(crate) fn shift(&mut self, left: bool, order: &Order) -> Option<Event>
-        ensures { Does result self.old self.new (shifted left self.old (fields order.now)) }
+    pub(crate) fn shift(&mut self, left: bool, order: &Order) -> bool
+        ensures { Done result self.old self.new (shifted left self.old (fields order.now)) }
     {
         let address = self.address(order);
         let places = u32::from(address % 0x400);
@@ -147,16 +155,16 @@ impl Program {
         let word = match address % 0x1000 / 0x400 {
             0 => x.rotate(left, places),
             1 => x.shift(left, places),
-            _ => return None,
+            _ => return false,
         };
         self.put_accumulator(order.x, word, false);
         self.go_on();
-        Some(Event::Ran)
+        true
     }
 
     /// Copies words from where the accumulator tells to where the next one does.
-    pub(crate) fn move_words(&mut self, order: &Order) -> Option<Event>
-        ensures { Does result self.old self.new
+    pub(crate) fn move_words(&mut self, order: &Order) -> bool
+        ensures { Done result self.old self.new
             (effect function.Move self.old (fields order.now)) }
     {
         let low = self.address(order) % 512;
@@ -165,11 +173,11 @@ impl Program {
         let to = self.low_bits((order.x + 1) % 8);
         let size = self.size();
         if u32::from(from + count) > size || u32::from(to + count) > size {
-            return None;
+            return false;
         }
         self.copy_words(from, to, count);
         self.go_on();
-        Some(Event::Ran)
+        true
     }
 
     /// Asks for a transfer with the control area at the address.
