@@ -55,6 +55,7 @@ line_keeps next old failure new before after faults faults' did still = record {
   arms = line_arms next failure (devices_in old.system) (devices_in new.system) did.arms;
   same = did.same;
   belongs = did.belongs;
+  dumps = did.dumps;
   cause = did.cause;
 }
 

@@ -15,6 +15,7 @@ use Rattle.g_console.specs.System.{SystemFacts, devices_in}
 use Rattle.g_run.specs.Parts.{Anything, DidOne, DidTicks, IsAtRest, Keeps, PartGoes, is_past, steps_in, turn_of}
 use Rattle.g_run.proofs.PartLemmas.{arrives_here, goes_then, keeps_then, none_arm}
 use Rattle.g_run.proofs.RestLemmas.{due_is, nothing_is}
+use Rattle.g_console.proofs.GrowLemmas.{grow_itself}
 use Rattle.g_console.proofs.LabelLemmas.{same_itself}
 
 pub keeps_here : (s : Seen) (faults : ℕ) → IsReady s.system s.crew → AreOpen s.crew.jobs → Keeps [] s None s faults faults
@@ -24,6 +25,7 @@ keeps_here s faults ready still = record {
   arms = none_arm (let f : Option Failure = None in f ≡ None) (devices_in s.system) (devices_in s.system) refl refl;
   same = same_itself (devices_in s.system);
   belongs = λ was. was;
+  dumps = λ was. grow_itself (devices_in s.system).rack;
   cause = refl;
 }
 

@@ -16,7 +16,7 @@ use Rattle.g_crew.specs.Numbers.{AreOpen}
 use Rattle.g_console.specs.declared.progress.Failure.{Failure}
 use Rattle.g_console.specs.Parts.{IsReady, Matches, Seen}
 use Rattle.g_console.specs.Puts.{FaultCause}
-use Rattle.g_console.specs.System.{SameDevices, StandsAs, SystemBelongs, SystemFacts, devices_in}
+use Rattle.g_console.specs.System.{DumpsGrow, SameDevices, StandsAs, SystemBelongs, SystemFacts, devices_in}
 use Rattle.g_ticks.specs.Parts.{IsBetween, has_dump, left, some_job_steps}
 
 -- the turn from which on the first of some lines is due
@@ -96,13 +96,14 @@ module _ {F U : Type 0} (tariffs : Shared F (Bor Usage × Unit {0}) Charge) (tar
       (w : World) → Matches w old → IsBetween w → w.lines ≡ lines → GoesBy Rests w rest old failure new before after
 
 -- WHAT HOLDS OF ALL DEVICES behind a part that did some lines: all is ready for the next, unless it failed; the lines armed the devices; disc and
--- rack go on belonging together; and the sink's count moves with its own failure
+-- rack go on belonging together, and completed dumps stay; and the sink's count moves with its own failure
 pub record Keeps (done : List Timed) (old : Seen) (failure : Option Failure) (new : Seen) (faults faults' : ℕ) : Type 0 where
   pub ready : failure ≡ None → IsReady new.system new.crew × AreOpen new.crew.jobs
   pub numbers : failure ≡ None → new.crew.next_job ≤ old.crew.next_job + length done
   pub arms : AreArmings done (failure ≡ None) (devices_in old.system) (devices_in new.system)
   pub same : SameDevices (devices_in old.system) (devices_in new.system)
   pub belongs : SystemBelongs old.system → SystemBelongs new.system
+  pub dumps : SystemBelongs old.system → DumpsGrow (devices_in old.system).rack (devices_in new.system).rack
   pub cause : FaultCause failure faults faults'
 
 module _ {F U : Type 0} (tariffs : Shared F (Bor Usage × Unit {0}) Charge) (tariff : F) (rules : Shared U (Bor Standing × Unit {0}) ℕ) (rule : U) where
