@@ -1,4 +1,5 @@
 pub mod Arming
+pub mod Boxed
 pub mod Jobs
 pub mod Opening
 pub mod Parts

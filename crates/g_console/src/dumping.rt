@@ -11,8 +11,9 @@ ghost use Rattle.g_world.specs.Texts.{operator_line};
 
 use crate::progress::Progress;
 use crate::puts::say_made;
+use crate::running::Running;
 use crate::stopping::{fails, refused};
-use crate::system::{Running, System};
+use crate::system::System;
 use g_base::NoMemory;
 use g_crew::{Crew, dump_text};
 use g_disc::Disc;

@@ -11,8 +11,9 @@ ghost use Rattle.g_world.specs.Texts as texts;
 
 use crate::progress::{Failure, Progress};
 use crate::puts::{refuse, say_made};
+use crate::running::Running;
 use crate::stopping::{goes_down, refused};
-use crate::system::{Running, System, take_down};
+use crate::system::{System, take_down};
 use g_base::NoMemory;
 use g_crew::{Crew, NewJob, NotTaken, job_text, push_refusal};
 use g_disc::Disc;

@@ -8,6 +8,7 @@ mod progress;
 mod puts;
 mod reels;
 mod rising;
+mod running;
 mod stopping;
 mod system;
 
@@ -18,5 +19,6 @@ pub use progress::{Failure, Progress};
 pub use puts::{push_told, put, put_made, refuse, say, say_made};
 pub use reels::{mount_line, unmount_line};
 pub use rising::{format_line, restore_line, start_line};
+pub use running::Running;
 pub use stopping::{fails, goes_down, tell_fault};
-pub use system::{Running, System, take_down};
+pub use system::{System, take_down};

@@ -1,6 +1,7 @@
 //! The system comes up: by FORMAT, START or RESTORE.
-ghost use Rattle.std.specs.Prelude.{◌≡◌, ◌++◌, ℕ, List, None, Some, IfOk, codes, false};
+ghost use Rattle.std.specs.Prelude.{◌≡◌, ◌++◌, ℕ, List, None, Some, [], IfErr, IfOk, codes, false};
 ghost use Rattle.std.specs.Fmt.{decimal};
+ghost use Rattle.g_cache.specs.Cached.{cached_with};
 ghost use Rattle.g_console.specs.Parts.{DidLine, IsReady, seen};
 ghost use Rattle.g_console.specs.Puts.{Puts};
 ghost use Rattle.g_console.specs.Opening.{Opens};
@@ -12,8 +13,9 @@ ghost use Rattle.g_world.specs.Texts.{operator_line};
 
 use crate::progress::{Failure, Progress};
 use crate::puts::say_made;
+use crate::running::{EmptyBox, Running};
 use crate::stopping::{refused, stays_down};
-use crate::system::{Running, System};
+use crate::system::System;
 use g_base::NoMemory;
 use g_cache::CachedDisc;
 use g_crew::{Crew, started_text};
@@ -21,7 +23,7 @@ use g_disc::Disc;
 use g_io::Sink;
 use g_name::Text;
 use g_plain::StoreFault;
-use g_store::{format, restore, start};
+use g_store::{Store, format, restore, start};
 use g_tape::Tapes;
 use std::alloc::Global;
 
@@ -40,9 +42,9 @@ pub fn format_line<K: Sink, D: Disc, T: Tapes>(
 {
     match system {
         System::Up(store) => { refused(alloc, System::Up(store), count, &StoreFault::Running, out) }
-        System::Down(disc, tapes) => match CachedDisc::new(alloc, disc) {
-            Ok(disc) => formats(alloc, disc, tapes, crew, count, out),
-            Err((_, disc)) => without_cache(disc, tapes),
+        System::Down(disc, tapes) => match prepared(alloc, disc) {
+            Ok((place, disc)) => formats(alloc, place, disc, tapes, crew, count, out),
+            Err(disc) => without_memory(disc, tapes),
         },
     }
 }
@@ -50,6 +52,7 @@ pub fn format_line<K: Sink, D: Disc, T: Tapes>(
 /// A new filestore is made on a system that is down.
 fn formats<K: Sink, D: Disc, T: Tapes>(
     alloc: Global,
+    place: EmptyBox<D, T>,
     disc: CachedDisc<D>,
     tapes: T,
     crew: &mut Crew,
@@ -64,9 +67,12 @@ fn formats<K: Sink, D: Disc, T: Tapes>(
     match format(alloc, disc, tapes) {
         Ok(store) => {
             let made = Text::from_slice(alloc, b"FORMATTED");
-            comes_up(alloc, store, crew, count, made, out)
+            comes_up(alloc, place, store, crew, count, made, out)
         }
-        Err(answer) => stays_down(alloc, answer, crew, count, out),
+        Err(answer) => {
+            place.discard();
+            stays_down(alloc, answer, crew, count, out)
+        }
     }
 }
 
@@ -85,9 +91,9 @@ pub fn start_line<K: Sink, D: Disc, T: Tapes>(
 {
     match system {
         System::Up(store) => { refused(alloc, System::Up(store), count, &StoreFault::Running, out) }
-        System::Down(disc, tapes) => match CachedDisc::new(alloc, disc) {
-            Ok(disc) => starts(alloc, disc, tapes, crew, count, out),
-            Err((_, disc)) => without_cache(disc, tapes),
+        System::Down(disc, tapes) => match prepared(alloc, disc) {
+            Ok((place, disc)) => starts(alloc, place, disc, tapes, crew, count, out),
+            Err(disc) => without_memory(disc, tapes),
         },
     }
 }
@@ -95,6 +101,7 @@ pub fn start_line<K: Sink, D: Disc, T: Tapes>(
 /// A system that is down starts.
 fn starts<K: Sink, D: Disc, T: Tapes>(
     alloc: Global,
+    place: EmptyBox<D, T>,
     disc: CachedDisc<D>,
     tapes: T,
     crew: &mut Crew,
@@ -109,9 +116,12 @@ fn starts<K: Sink, D: Disc, T: Tapes>(
     match start(alloc, disc, tapes) {
         Ok((store, adopted)) => {
             let made = started_text(alloc, adopted);
-            comes_up(alloc, store, crew, count, made, out)
+            comes_up(alloc, place, store, crew, count, made, out)
         }
-        Err(answer) => stays_down(alloc, answer, crew, count, out),
+        Err(answer) => {
+            place.discard();
+            stays_down(alloc, answer, crew, count, out)
+        }
     }
 }
 
@@ -130,9 +140,9 @@ pub fn restore_line<K: Sink, D: Disc, T: Tapes>(
 {
     match system {
         System::Up(store) => { refused(alloc, System::Up(store), count, &StoreFault::Running, out) }
-        System::Down(disc, tapes) => match CachedDisc::new(alloc, disc) {
-            Ok(disc) => restores(alloc, disc, tapes, crew, count, out),
-            Err((_, disc)) => without_cache(disc, tapes),
+        System::Down(disc, tapes) => match prepared(alloc, disc) {
+            Ok((place, disc)) => restores(alloc, place, disc, tapes, crew, count, out),
+            Err(disc) => without_memory(disc, tapes),
         },
     }
 }
@@ -140,6 +150,7 @@ pub fn restore_line<K: Sink, D: Disc, T: Tapes>(
 /// A system that is down is restored.
 fn restores<K: Sink, D: Disc, T: Tapes>(
     alloc: Global,
+    place: EmptyBox<D, T>,
     disc: CachedDisc<D>,
     tapes: T,
     crew: &mut Crew,
@@ -154,14 +165,35 @@ fn restores<K: Sink, D: Disc, T: Tapes>(
     match restore(alloc, disc, tapes) {
         Ok((store, number)) => {
             let made = restored(alloc, number);
-            comes_up(alloc, store, crew, count, made, out)
+            comes_up(alloc, place, store, crew, count, made, out)
         }
-        Err(answer) => stays_down(alloc, answer, crew, count, out),
+        Err(answer) => {
+            place.discard();
+            stays_down(alloc, answer, crew, count, out)
+        }
     }
 }
 
-/// No memory was found for the cache: nothing is done, and the devices stand as they stood.
-fn without_cache<D: Disc, T: Tapes>(disc: D, tapes: T) -> Progress<D, T>
+/// What a system that comes up needs memory for: a box for its store, and a cache before its disc. Where there is none, the disc comes
+/// back as it was.
+fn prepared<D: Disc, T: Tapes>(alloc: Global, disc: D) -> Result<(EmptyBox<D, T>, CachedDisc<D>), D>
+    ensures empty { IfOk result (λ p. p.1 ≡ cached_with disc []) }
+    ensures unchanged { IfErr result (λ d. d ≡ disc) }
+{
+    match EmptyBox::new(alloc) {
+        Ok(place) => match CachedDisc::new(alloc, disc) {
+            Ok(disc) => Ok((place, disc)),
+            Err((_, disc)) => {
+                place.discard();
+                Err(disc)
+            }
+        },
+        Err(NoMemory) => Err(disc),
+    }
+}
+
+/// No memory was found for that: nothing is done, and the devices stand as they stood.
+fn without_memory<D: Disc, T: Tapes>(disc: D, tapes: T) -> Progress<D, T>
     ensures down { result.system ≡ systems.Down disc tapes }
     ensures failure { result.failure ≡ Some Failure.Memory }
 {
@@ -175,7 +207,8 @@ fn without_cache<D: Disc, T: Tapes>(disc: D, tapes: T) -> Progress<D, T>
 /// The system is up: each user's accounts open, and the line that tells it is put.
 fn comes_up<K: Sink, D: Disc, T: Tapes>(
     alloc: Global,
-    store: Running<D, T>,
+    place: EmptyBox<D, T>,
+    store: Store<CachedDisc<D>, T>,
     crew: &mut Crew,
     count: u64,
     made: Result<Text, NoMemory>,
@@ -187,6 +220,7 @@ fn comes_up<K: Sink, D: Disc, T: Tapes>(
     ensures put { (what : List ℕ) → IfOk made (λ t. t ≡ what)
         → Puts result.failure (operator_line count what) (K.written out.old) (K.written out.new) (K.faults out.old) (K.faults out.new) }
 {
+    let store = place.filled(store);
     match crew.open_accounts(store.users()) {
         Ok(()) => {
             let failure = say_made(alloc, count, made, out);

@@ -7,7 +7,8 @@ ghost use Rattle.g_console.specs.Telling.{TellsFault, down_text, refusal_text, s
 
 use crate::progress::{Failure, Progress};
 use crate::puts::{line, put_made, refuse};
-use crate::system::{Running, System, take_down};
+use crate::running::Running;
+use crate::system::{System, take_down};
 use g_base::NoMemory;
 use g_cache::CachedDisc;
 use g_crew::Crew;

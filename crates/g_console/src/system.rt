@@ -5,13 +5,9 @@ ghost use Rattle.g_step.specs.CallStep.{down};
 ghost use Rattle.g_state.specs.Meaning.{told_reels};
 ghost use Rattle.g_state.specs.Reading.{DevicesStandFor, StandsForState};
 
-use g_cache::CachedDisc;
+use crate::running::Running;
 use g_disc::Disc;
-use g_store::Store;
 use g_tape::Tapes;
-
-/// A store that is up. It has its disc behind a cache, which is empty when the system comes up.
-pub type Running<D, T> = Store<CachedDisc<D>, T>;
 
 /// The system: up, as a store over its devices, or down, when the devices stand alone. Contracts see it by `facts_of`
 /// (docs/DEFINITIONS.md, "The whole run").

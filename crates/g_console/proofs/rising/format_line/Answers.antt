@@ -41,7 +41,7 @@ returns-in-Ok g c =
 pub returns-in-Err : goal.returns-in-Err
 returns-in-Err g c =
     let at = ap (facts_of g.D.Disc.state g.T.Tapes.rack) c.in-Down.is in
-    let down = ap (facts_of g.D.Disc.state g.T.Tapes.rack) c.without_cache.ensures.down in
+    let down = ap (facts_of g.D.Disc.state g.T.Tapes.rack) c.without_memory.ensures.down in
     let same = ap (λ d. facts_of g.D.Disc.state g.T.Tapes.rack (systems.Down d c.in-Down.tapes)) c.in-Err.ensures.unchanged in
-    untried_line line.Format refl refl (facts_of g.D.Disc.state g.T.Tapes.rack c.args.system) (facts_of g.D.Disc.state g.T.Tapes.rack c.without_cache.result.system) c.args.crew.now c.args.count
-    (down ∙ same ∙ sym at) c.requires.ready c.without_cache.result.failure c.without_cache.ensures.failure _ _
+    untried_line line.Format refl refl (facts_of g.D.Disc.state g.T.Tapes.rack c.args.system) (facts_of g.D.Disc.state g.T.Tapes.rack c.without_memory.result.system) c.args.crew.now c.args.count
+    (down ∙ same ∙ sym at) c.requires.ready c.without_memory.result.failure c.without_memory.ensures.failure _ _
