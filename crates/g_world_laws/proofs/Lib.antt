@@ -1,3 +1,4 @@
 pub mod DumpLemmas
 pub mod OneTreeLemmas
+pub mod ReelLemmas
 pub mod RefusedLemmas

@@ -1,3 +1,4 @@
 pub mod Dumps
 pub mod OneTree
+pub mod Reels
 pub mod Refused

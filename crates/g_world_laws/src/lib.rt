@@ -1,9 +1,10 @@
-//! Laws of every run, beside those of g_world: of a whole run on one tree, of the steps that a dump takes, and of what lines leave
-//! that are refused while the system is down.
+//! Laws of every run, beside those of g_world: of a whole run on one tree, of the steps that a dump takes, of the dumps that are
+//! completed, and of what lines leave that are refused while the system is down.
 #![tactic(auto)]
 
 ghost use Rattle.g_world_laws.specs.Dumps.{DumpsStay, DumpsTakeNeeds};
 ghost use Rattle.g_world_laws.specs.OneTree.{RunsOnOneTree};
+ghost use Rattle.g_world_laws.specs.Reels.{CompletedDumpsStay};
 ghost use Rattle.g_world_laws.specs.Refused.{RefusedLinesLeave, StartStillHasTheTree};
 
 use g_budget::{Charge, Usage};
@@ -46,3 +47,9 @@ pub fn dumps_take_their_needs<F: Fn(&Usage) -> Charge, U: Fn(&Standing) -> u64>(
 {
     dumps_come_to_an_end::<F, U>();
 }
+
+/// In a run each reel keeps its completed dumps, in their order, and others come behind them alone: at most one for each step of a
+/// dump.
+pub fn completed_dumps_stay<F: Fn(&Usage) -> Charge, U: Fn(&Standing) -> u64>()
+    ensures { (tariff : F) (rule : U) → CompletedDumpsStay F.Fn tariff U.Fn rule }
+{}
