@@ -4,7 +4,6 @@ ghost use Rattle.std.specs.Prelude.{◌≡◌, ◌<◌, ◌≤◌, IfOk, false};
 use g_budget::{Charge, Tariff, Usage};
 use g_disc::MemoryDisc;
 use g_job::{Job, Turn};
-use g_laid_out::{blank, one_reel};
 use g_lines::Texts;
 use g_name::{Local, User};
 use g_plain::{Filestore, PlainStore};
@@ -98,9 +97,10 @@ fn formatted(
 fn new_store(alloc: Global) -> Result<Store<MemoryDisc, MemoryTapes>, Fail>
     ensures { IfOk result (λ store. store.spent ≡ false) }
 {
-    let disc = blank(alloc, 4096)?;
-    let tapes = one_reel(alloc, 1, 8192)?;
-    formatted(alloc, disc, tapes)
+    let mut labels = Vec::with_capacity(alloc, 1)?;
+    labels.push((1, 8192))?;
+    let tapes = MemoryTapes::new(alloc, labels)?;
+    formatted(alloc, MemoryDisc::new(alloc, 4096)?, tapes)
 }
 
 /// The monitoring file of the job over a plain store.
