@@ -35,6 +35,7 @@ use Rattle.g_console.specs.Parts.{DidLine, DoesLine, IsReady, Matches, Seen, see
 use Rattle.g_console.specs.Puts.{FaultCause, Puts}
 use Rattle.g_console.specs.System.{Down, Up, devices_in}
 use Rattle.g_console.specs.Telling.{down_text, refusal_text, without_jobs}
+use Rattle.g_console.proofs.GrowLemmas.{grow_itself}
 use Rattle.g_console.proofs.LeavesLemmas.{leaves_is, leaves_joined, leaves_none, leaves_same}
 use Rattle.g_console.proofs.LineLemmas.{none_armed, refused_line, was_done, wasnt_done}
 use Rattle.g_console.proofs.UpLemmas.{up_is}
@@ -129,6 +130,7 @@ module _ (job : NewJob) (s : StoreFacts) (known : Bool) (known_is : (u : State) 
         fuses = tt;
         same = same_itself (devices_in (Up s));
         belongs = 位 is. is;
+        dumps = 位 is. grow_itself s.rack;
         cause = comes.put.cause;
       })
   taken_line failure c' before_text after faults faults' (inr (inl refused)) =
@@ -142,6 +144,7 @@ module _ (job : NewJob) (s : StoreFacts) (known : Bool) (known_is : (u : State) 
         fuses = tt;
         same = same_itself (devices_in (Up s));
         belongs = 位 is. is;
+        dumps = 位 is. grow_itself s.rack;
         cause = refused.put.cause;
       })
   taken_line failure c' before_text after faults faults' (inr (inr (is, same, text, still))) =
@@ -154,6 +157,7 @@ module _ (job : NewJob) (s : StoreFacts) (known : Bool) (known_is : (u : State) 
         fuses = tt;
         same = same_itself (devices_in (Up s));
         belongs = 位 was. was;
+        dumps = 位 was. grow_itself s.rack;
         cause = still;
       })
 
@@ -256,5 +260,6 @@ module _ (s : StoreFacts) (c : CrewState) (ready : IsReady (Up s) c) (count : 鈩
     fuses = tt;
     same = same_itself (devices_in (Up s));
     belongs = 位 is. record { told = is.0; belong = is.1.devices };
+    dumps = 位 is. grow_itself s.rack;
     cause = puts.cause;
   }

@@ -1,4 +1,5 @@
 pub mod CauseLemmas
+pub mod GrowLemmas
 pub mod JobLemmas
 pub mod LabelLemmas
 pub mod LeavesLemmas

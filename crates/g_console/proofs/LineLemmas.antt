@@ -24,6 +24,7 @@ use Rattle.g_console.specs.Parts.{ArmsBy, DidLine, DoesLine, DoesNothing, IsRead
 use Rattle.g_console.specs.Puts.{FaultCause, Puts, PutsBy}
 use Rattle.g_console.specs.System.{StandsAs, SystemBelongs, SystemFacts, devices_in}
 use Rattle.g_console.specs.Telling.{TellsFault, down_text, refusal_text, without_jobs}
+use Rattle.g_console.proofs.GrowLemmas.{grow_itself}
 use Rattle.g_console.proofs.LeavesLemmas.{leaves_same}
 use Rattle.g_console.proofs.LabelLemmas.{no_fuse, same_itself}
 
@@ -82,6 +83,7 @@ module _ (what : Operator) (no_disc : disc_arms what ≡ 0) (no_tape : tape_arms
     fuses = no_fuse what no_disc no_tape (devices_in f);
     same = same_itself (devices_in f);
     belongs = λ is. is;
+    dumps = λ is. grow_itself (devices_in f).rack;
     cause = puts.cause;
   }
 
@@ -101,6 +103,7 @@ untried_line what no_disc no_tape old new c count same ready failure is text fau
       fuses = no_fuse what no_disc no_tape (devices_in old);
       same = same_itself (devices_in old);
       belongs = λ is. is;
+      dumps = λ is. grow_itself (devices_in old).rack;
       cause = refl;
     }
 

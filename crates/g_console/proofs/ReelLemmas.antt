@@ -24,7 +24,8 @@ use Rattle.g_store.proofs.MountLemmas.{dumps_stay, lacks_by, mounted_by, rows_tu
 use Rattle.g_store.proofs.TurnLemmas.{files_view, rack_view}
 use Rattle.g_world.specs.Devices.{Devices, StandFor}
 use Rattle.g_console.specs.Reels.{MountsOn, StepsReels, UnmountsOn}
-use Rattle.g_console.specs.System.{BelongTogether, Down, Up, labels}
+use Rattle.g_console.specs.System.{BelongTogether, Down, DumpsGrow, Up, labels}
+use Rattle.g_console.proofs.GrowLemmas.{grow_itself, grow_turned}
 use Rattle.g_console.proofs.UpLemmas.{leads_by}
 use Rattle.g_console.proofs.LabelLemmas.{labels_with}
 
@@ -122,6 +123,7 @@ module _ (s : ℕ) (d : Devices) where
     arms = refl;
     reels = labels_with s (with_mounted is) (λ r. refl) (λ r. refl) d.rack.reels;
     belongs = same_belongs s is d;
+    dumps = grow_turned s is d.rack;
     step = λ u stands. (turned_state s is u, (stands.0, stand_turned s is d u stands.1), step u stands.1);
   }
 
@@ -136,6 +138,7 @@ module _ (s : ℕ) (d : Devices) where
     arms = refl;
     reels = refl;
     belongs = λ was. was;
+    dumps = grow_itself d.rack;
     step = λ u stands. (u, stands, step u stands.1);
   }
 
@@ -227,6 +230,7 @@ module _ (s : ℕ) (old new : StoreFacts) (unspent : old.spent ≡ false) where
     arms = ap (λ (t : StoreFacts). t.rack.arms) same;
     reels = ap (λ (t : StoreFacts). labels t.rack.reels) same ∙ labels_with s (with_mounted is) (λ r. refl) (λ r. refl) old.rack.reels;
     belongs = λ was. (event.told was.0, event.belongs was.0 was.1);
+    dumps = subst (λ (t : StoreFacts). DumpsGrow old.rack t.rack) (sym same) (grow_turned s is old.rack);
     step = λ v stands.
         let leads = event.step stands.told stands.belongs v stands.stands in
         (leads.after, record { told = event.told stands.told; belongs = event.belongs stands.told stands.belongs; stands = leads.left }, leads.step);
@@ -240,6 +244,7 @@ module _ (s : ℕ) (old new : StoreFacts) (unspent : old.spent ≡ false) where
     arms = ap (λ (t : StoreFacts). t.rack.arms) same;
     reels = ap (λ (t : StoreFacts). labels t.rack.reels) same;
     belongs = λ was. (event.told was.0, event.belongs was.0 was.1);
+    dumps = subst (λ (t : StoreFacts). DumpsGrow old.rack t.rack) (sym same) (grow_itself old.rack);
     step = λ v stands.
         let leads = leads_by (λ u k o a n. by u a n) v old new fault (known fault why).0 (event.step stands.told stands.belongs v stands.stands) in
         (leads.after, record { told = event.told stands.told; belongs = event.belongs stands.told stands.belongs; stands = leads.left }, leads.step);

@@ -36,6 +36,7 @@ use Rattle.g_console.specs.Puts.{Puts}
 use Rattle.g_console.specs.System.{BelongTogether, Down, StandsAs, Up, devices_in}
 use Rattle.g_console.specs.Telling.{TellsFault, refusal_text}
 use Rattle.g_console.proofs.CauseLemmas.{OfDisc, counted_by}
+use Rattle.g_console.proofs.GrowLemmas.{grow_held}
 use Rattle.g_console.proofs.LeavesLemmas.{leaves_opened, leaves_told}
 use Rattle.g_console.proofs.LineLemmas.{FaultDone, Faulted, none_armed, refused_line, tells_fault, told_of, told_same, was_done}
 use Rattle.g_console.proofs.UpLemmas.{up_is}
@@ -146,6 +147,7 @@ module _ {A : Type 0} (what : Operator) (given : Type 0) (by : State → Outcome
       fuses = no_fuse what no_disc no_tape (devices_in (Up new));
       same = record { size = makes.causes.size; reels = labels_read rack.reels new.rack.reels makes.tapes.reels };
       belongs = λ is. (makes.told is.told, makes.belongs is.told (gives is));
+      dumps = λ is. grow_held rack new.rack makes.tapes.reels;
       cause = puts.cause;
     }
 
@@ -222,6 +224,7 @@ module _ {A : Type 0} (what : Operator) (given : Type 0) (by : State → Outcome
         fuses = no_fuse what no_disc no_tape d;
         same = record { size = refuses.causes.size; reels = labels_read rack.reels rack'.reels refuses.tapes.reels };
         belongs = λ is. record { told = refuses.told is.told; belong = refuses.belongs is.told is.belong };
+        dumps = λ is. grow_held rack rack' refuses.tapes.reels;
         cause = both.1;
       }
 

@@ -18,7 +18,8 @@ use Rattle.g_console.specs.declared.progress.Failure.{Failure}
 use Rattle.g_console.specs.Arming.{HasArmed, disc_armed, tape_armed}
 use Rattle.g_console.specs.Parts.{ArmsBy, DidLine, DoesLine, IsReady, Matches, seen}
 use Rattle.g_console.specs.Puts.{Puts}
-use Rattle.g_console.specs.System.{Down, IsNow, StandsAs, SystemBelongs, SystemFacts, Up, devices_in, SameDevices}
+use Rattle.g_console.specs.System.{Down, IsNow, StandsAs, SystemBelongs, SystemFacts, Up, devices_in, DumpsGrow, SameDevices}
+use Rattle.g_console.proofs.GrowLemmas.{grow_held}
 use Rattle.g_console.proofs.LeavesLemmas.{leaves_same}
 use Rattle.g_console.proofs.LineLemmas.{was_done}
 
@@ -119,6 +120,7 @@ module _ (k : ℕ) (old new : SystemFacts) (c : CrewState) (count : ℕ) where
     fuses = ap (λ (d : Devices). d.disc.fuse) armed.devices;
     same = subst (λ (d : Devices). SameDevices (devices_in old) d) (sym armed.devices) (record { size = refl; reels = refl });
     belongs = armed.belongs;
+    dumps = λ was. subst (λ (d : Devices). DumpsGrow (devices_in old).rack d.rack) (sym armed.devices) (grow_held (devices_in old).rack (disc_armed k (devices_in old)).rack refl);
     cause = puts.cause;
   }
 
@@ -139,5 +141,6 @@ module _ (k : ℕ) (old new : SystemFacts) (c : CrewState) (count : ℕ) where
     fuses = ap (λ (d : Devices). d.rack.fuse) armed.devices;
     same = subst (λ (d : Devices). SameDevices (devices_in old) d) (sym armed.devices) (record { size = refl; reels = refl });
     belongs = armed.belongs;
+    dumps = λ was. subst (λ (d : Devices). DumpsGrow (devices_in old).rack d.rack) (sym armed.devices) (grow_held (devices_in old).rack (tape_armed k (devices_in old)).rack refl);
     cause = puts.cause;
   }

@@ -110,5 +110,6 @@ module _ (what : Operator) (no_disc : disc_arms what ≡ 0) (no_tape : tape_arms
     fuses = no_fuse what no_disc no_tape (devices_in new);
     same = record { size = ap (λ (d : DiscState). d.size) is.disc; reels = is.reels };
     belongs = is.belongs;
+    dumps = λ was. is.dumps;
     cause = puts.cause;
   }

@@ -30,9 +30,10 @@ use Rattle.g_crew.specs.Crew.{CrewState}
 use Rattle.g_console.specs.declared.progress.Failure.{Failure}
 use Rattle.g_console.specs.Parts.{ArmsBy, DidLine, DoesLine, IsReady, Matches, Seen, disc_arms, seen, tape_arms}
 use Rattle.g_console.specs.Puts.{Puts}
-use Rattle.g_console.specs.System.{Down, IsNow, StandsAs, SystemBelongs, SystemFacts, Up, devices_in, SameDevices}
+use Rattle.g_console.specs.System.{Down, DumpsGrow, IsNow, StandsAs, SystemBelongs, SystemFacts, Up, devices_in, SameDevices}
 use Rattle.g_console.specs.Telling.{TellsFault, refusal_text, system_after, without_jobs}
 use Rattle.g_console.proofs.CauseLemmas.{OfDisc, counted_by}
+use Rattle.g_console.proofs.GrowLemmas.{grow_held}
 use Rattle.g_console.proofs.LeavesLemmas.{leaves_same, leaves_told}
 use Rattle.g_console.proofs.LineLemmas.{FaultDone, Faulted, as_armed, none_armed, refused_line, tells_fault, told_of, told_same, was_done}
 use Rattle.g_console.proofs.LabelLemmas.{labels_read, no_fuse}
@@ -115,6 +116,7 @@ module _ {A : Type 0} (what : Operator) (by : State → Holding → Outcome → 
       fuses = no_fuse what no_disc no_tape (devices_in (Up new));
       same = record { size = cause.disc.size; reels = labels_read old.rack.reels new.rack.reels cause.tapes.reels };
       belongs = λ is. (event.told is.0, event.belongs is.0 is.1);
+      dumps = λ is. grow_held old.rack new.rack cause.tapes.reels;
       cause = puts.cause;
     }
 
@@ -195,6 +197,7 @@ module _ {A : Type 0} (what : Operator) (by : State → Holding → Outcome → 
           fuses = no_fuse what no_disc no_tape (devices_in system);
           same = subst (λ (d : Devices). SameDevices (devices_in (Up old)) d) (sym (same_devices fault new)) (record { size = cause.disc.size; reels = labels_read old.rack.reels new.rack.reels cause.tapes.reels });
           belongs = belongs_by fault refl;
+          dumps = λ is. subst (λ (d : Devices). DumpsGrow old.rack d.rack) (sym (same_devices fault new)) (grow_held old.rack new.rack cause.tapes.reels);
           cause = both.1;
         }
 

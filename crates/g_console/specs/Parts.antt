@@ -13,7 +13,7 @@ use Rattle.g_crew.specs.Crew.{CrewState, IsCrewOf}
 use Rattle.g_crew.specs.Numbers.{AreOpen}
 use Rattle.g_console.specs.declared.progress.Failure.{Failure}
 use Rattle.g_console.specs.Puts.{FaultCause}
-use Rattle.g_console.specs.System.{Down, SameDevices, StandsAs, SystemBelongs, SystemFacts, Up, devices_in}
+use Rattle.g_console.specs.System.{Down, DumpsGrow, SameDevices, StandsAs, SystemBelongs, SystemFacts, Up, devices_in}
 
 -- what a run has at hand
 pub record Seen : Type 0 where
@@ -94,4 +94,5 @@ pub record DidLine (what : Operator) (old : Seen) (failure : Option Failure) (ne
   pub fuses : FusesBy what (devices_in new.system)
   pub same : SameDevices (devices_in old.system) (devices_in new.system)
   pub belongs : SystemBelongs old.system → SystemBelongs new.system
+  pub dumps : SystemBelongs old.system → DumpsGrow (devices_in old.system).rack (devices_in new.system).rack
   pub cause : FaultCause failure faults faults'

@@ -5,7 +5,7 @@ use Rattle.g_plain.specs.declared.faults.StoreFault.TheVariants.{Stopped}
 use Rattle.g_step.specs.DumpSteps.{MountStep, UnmountStep}
 use Rattle.g_step.specs.State.{State}
 use Rattle.g_world.specs.Devices.{Devices}
-use Rattle.g_console.specs.System.{Down, StandsAs, SystemBelongs, SystemFacts, Up, devices_in, labels}
+use Rattle.g_console.specs.System.{Down, DumpsGrow, StandsAs, SystemBelongs, SystemFacts, Up, devices_in, labels}
 
 -- a store that is up isn't spent, and what is down stays down
 abbrev pub StaysAsUp : SystemFacts → SystemFacts → Type 0
@@ -23,6 +23,7 @@ pub record StepsReels (by : State → Result (Unit {0}) StoreFault → State →
   pub arms : (devices_in new).rack.arms ≡ (devices_in old).rack.arms
   pub reels : labels (devices_in new).rack.reels ≡ labels (devices_in old).rack.reels
   pub belongs : SystemBelongs old → SystemBelongs new
+  pub dumps : DumpsGrow (devices_in old).rack (devices_in new).rack
   pub step : (s : State) → StandsAs old s → (u : State) × StandsAs new u × by s answer u
 
 abbrev pub MountsOn : ℕ → SystemFacts → Result (Unit {0}) StoreFault → SystemFacts → Type 0

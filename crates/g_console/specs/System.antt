@@ -1,8 +1,10 @@
 -- THE SYSTEM as a run has it: a store that is up, or devices under no store.
-use Rattle.std.specs.Prelude.{◌≡◌, ℕ, false, List, map}
+use Rattle.std.specs.Prelude.{◌≡◌, ◌++◌, ℕ, false, List, map}
 use Rattle.g_disc.specs.Disc.{DiscState}
 use Rattle.g_tape.specs.Rack.{Rack}
 use Rattle.g_tape.specs.Reel.{Reel}
+use Rattle.g_incr.specs.Layout.{Dump}
+use Rattle.g_shelf.specs.Completed.{AreShelved}
 use Rattle.g_step.specs.State.{State}
 use Rattle.g_state.specs.Meaning.{told_reels}
 use Rattle.g_state.specs.Belong.{Belong}
@@ -33,6 +35,11 @@ labels reels = map (λ r. (r.serial, r.capacity)) reels
 pub record SameDevices (old new : Devices) : Type 0 where
   pub size : new.disc.size ≡ old.disc.size
   pub reels : labels new.rack.reels ≡ labels old.rack.reels
+
+-- COMPLETED DUMPS STAY: all that are completed on the reels of the one rack are so on those of the other, each whole, and maybe more
+-- behind those of its reel
+pub record DumpsGrow (old new : Rack) : Type 0 where
+  pub grow : (shelf : ℕ → List Dump) → AreShelved shelf (told_reels old) → (more : ℕ → List Dump) × AreShelved (λ s. shelf s ++ more s) (told_reels new)
 
 -- a store that is up isn't spent
 abbrev pub IsRunning : SystemFacts → Type 0

@@ -200,6 +200,7 @@ impl Crew {
         // Without memory a front of its calls was answered.
         ensures err { OnErr result ((job : JobState) × (job_in number self.old.jobs ≡ Some job)
             × RanInPart S.answers job.user store.old (turn_work job) store.new) }
+        ensures gone { OnErr result (self.new ≡ record self.old { jobs = without_job number self.old.jobs }) }
 
         // The reel that it waits for isn't mounted, and it mounts none; a stop spends the store.
         ensures waits { (s : ℕ) → result ≡ Ok (Turn.Wants s) → S.can_wait store.new s ≡ true }

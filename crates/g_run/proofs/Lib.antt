@@ -3,6 +3,7 @@ pub mod InputLemmas
 pub mod LawLemmas
 pub mod LeaveLemmas
 pub mod LineLemmas
+pub mod LittleLemmas
 pub mod OverLemmas
 pub mod PartLemmas
 pub mod ReadingLemmas

@@ -1,5 +1,6 @@
 -- A line behind the ticks that come before it, and lines one behind the other.
-use Rattle.std.proofs.Common.{◌≡◌, ◌⊎◌, ◌++◌, ℕ, true, false, List, [], ◌∷◌, Option, Some, None, filter, length, drop, is_some, append_assoc, append-nil, refl, sym, ◌∙◌, ap, subst, inl, inr, arith}
+use Rattle.std.proofs.Common.{◌≡◌, ◌⊎◌, ◌≤◌, ◌++◌, ℕ, true, false, List, [], ◌∷◌, Option, Some, None, filter, length, drop, is_some, append_assoc, append-nil, refl, sym, ◌∙◌, ap, subst, inl, inr, arith}
+use Rattle.std.proofs.lemmas.List.Elements.{All-cons, All-head, All-nil, All-pop}
 use Rattle.std.specs.Fn.{Shared}
 use denote.Ref.{Bor}
 use Rattle.g_base.specs.Counts.{RoseBy}
@@ -21,7 +22,7 @@ use Rattle.g_console.specs.declared.progress.Failure.{Failure}
 use Rattle.g_console.specs.Parts.{ArmsBy, DidLine, DoesLine, DoesNothing, IsReady, LineGoes, Matches, Seen, disc_arms, tape_arms}
 use Rattle.g_console.specs.System.{SystemFacts, devices_in}
 use Rattle.g_ticks.specs.Parts.{IsBetween}
-use Rattle.g_run.specs.Parts.{Anything, Breaks, DidAll, DidLines, DidTicks, GoesBy, IsAtRest, Keeps, Leads}
+use Rattle.g_run.specs.Parts.{Anything, AreDueBy, Breaks, DidAll, DidLines, DidTicks, GoesBy, IsAtRest, Keeps, Leads}
 use Rattle.g_run.proofs.LeaveLemmas.{line_leaves}
 use Rattle.g_run.proofs.PartLemmas.{arrives_here, goes_then, keeps_more, keeps_then, with_more-nil}
 use Rattle.g_run.proofs.UntilLemmas.{keeps_here}
@@ -55,8 +56,17 @@ line_keeps next old failure new before after faults faults' did still = record {
   arms = line_arms next failure (devices_in old.system) (devices_in new.system) did.arms;
   same = did.same;
   belongs = did.belongs;
+  dumps = did.dumps;
   cause = did.cause;
 }
+
+-- THE COUNT behind a line: its ticks leave it, or come to its turn at most
+late_by : (turn most old mid new : ℕ) → turn ≤ most → old ≤ most → new ≡ mid → (mid ≤ turn) ⊎ (mid ≡ old) → new ≤ most
+late_by turn most old mid new due few same (inl early) = omega (arith, due, same, early)
+late_by turn most old mid new due few same (inr is) = omega (arith, few, same, is)
+
+due_parts : (most : ℕ) (done : List Timed) (next : Timed) → AreDueBy most (done ++ next ∷ []) → AreDueBy most done × (next.turn ≤ most)
+due_parts most done next due = All-pop (λ (t : Timed). t.turn ≤ most) (done ++ next ∷ []) done (Some next) refl due
 
 module _ {F U : Type 0} (tariffs : Shared F (Bor Usage × Unit {0}) Charge) (tariff : F) (rules : Shared U (Bor Standing × Unit {0}) ℕ) (rule : U) where
   -- the world in front of the line's step
@@ -134,15 +144,16 @@ module _ {F U : Type 0} (tariffs : Shared F (Bor Usage × Unit {0}) Charge) (tar
 
   -- A LINE behind its ticks
   pub line_done : (next : Timed) (old mid : Seen) (failure : Option Failure) (new : Seen) (before middle after : Option (List ℕ)) (faults faults1 faults2 : ℕ)
-      → DidTicks tariffs tariff rules rule IsAtRest (Some next.turn) old None mid before middle faults faults1 → DidLine next.what mid failure new middle after faults1 faults2
+      → DidTicks tariffs tariff rules rule IsAtRest (Some next.turn) old None mid before middle faults faults1 → new.count ≡ mid.count → DidLine next.what mid failure new middle after faults1 faults2
       → DidLines tariffs tariff rules rule (next ∷ []) old failure new before after faults faults2
-  line_done next old mid failure new before middle after faults faults1 faults2 ticked did = record {
+  line_done next old mid failure new before middle after faults faults1 faults2 ticked same did = record {
     goes = λ rest w m between is.
         let a = ticked.goes (next ∷ rest) refl w m between is in
         goes_then tariffs tariff rules rule IsAtRest Anything w (next ∷ rest) rest old mid before middle a failure new after
         (line_goes next rest mid failure new middle after did.goes a.next a.matches a.between a.rests a.lines);
     keeps = keeps_then [] (next ∷ []) old mid failure new faults faults1 faults2 ticked.keeps
         (line_keeps next mid failure new middle after faults1 faults2 did (ticked.keeps.ready refl).1);
+    late = λ none most due few. late_by next.turn most old.count mid.count new.count (All-head (λ (t : Timed). t.turn ≤ most) next [] due) few same (ticked.late refl next.turn refl);
   }
 
   -- its ticks failed
@@ -151,6 +162,7 @@ module _ {F U : Type 0} (tariffs : Shared F (Bor Usage × Unit {0}) Charge) (tar
   line_undone next old failure new before after faults faults' ticked = record {
     goes = λ rest w m between is. ticked.goes (next ∷ rest) refl w m between is;
     keeps = keeps_more [] (next ∷ []) old failure new faults faults' ticked.keeps;
+    late = λ none most due few. absurd (let no : ⊥ = cc in no);
   }
 
   -- LINES: none yet
@@ -158,6 +170,7 @@ module _ {F U : Type 0} (tariffs : Shared F (Bor Usage × Unit {0}) Charge) (tar
   lines_start s before faults ready still = record {
     goes = λ rest w m between is. arrives_here tariffs tariff rules rule w rest s before m between is;
     keeps = keeps_here s faults ready still;
+    late = λ none most due few. few;
   }
 
   -- one more
@@ -169,6 +182,9 @@ module _ {F U : Type 0} (tariffs : Shared F (Bor Usage × Unit {0}) Charge) (tar
         let a = first.goes (next ∷ rest) w m between (is ∙ append_assoc done (next ∷ []) rest) in
         goes_then tariffs tariff rules rule Anything Anything w (next ∷ rest) rest s mid before middle a failure new after (one.goes rest a.next a.matches a.between a.lines);
     keeps = keeps_then done (next ∷ []) s mid failure new faults faults1 faults2 first.keeps one.keeps;
+    late = λ none most due few.
+        let (before_it, it) = due_parts most done next due in
+        one.late none most (All-cons (λ (t : Timed). t.turn ≤ most) next [] it (All-nil (λ (t : Timed). t.turn ≤ most))) (first.late refl most before_it few);
   }
 
   -- a failure ends them
@@ -177,6 +193,7 @@ module _ {F U : Type 0} (tariffs : Shared F (Bor Usage × Unit {0}) Charge) (tar
   lines_short done more s failure new before after faults faults' did = record {
     goes = λ rest w m between is. did.goes (more ++ rest) w m between (is ∙ append_assoc done more rest);
     keeps = keeps_more done more s failure new faults faults' did.keeps;
+    late = λ none most due few. absurd (let no : ⊥ = cc in no);
   }
 
   -- where the next one fails they are cut short

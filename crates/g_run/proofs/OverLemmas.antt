@@ -32,7 +32,7 @@ use Rattle.g_crew.specs.Crew.{CrewState}
 use Rattle.g_console.specs.declared.progress.Failure.{Failure}
 use Rattle.g_console.specs.Parts.{Matches, Seen, seen}
 use Rattle.g_console.specs.Puts.{FaultCause, Puts, PutsBy}
-use Rattle.g_console.specs.System.{BelongTogether, Down, StandsAs, SystemBelongs, SystemFacts, Up, devices_in, SameDevices}
+use Rattle.g_console.specs.System.{BelongTogether, Down, DumpsGrow, StandsAs, SystemBelongs, SystemFacts, Up, devices_in, SameDevices}
 use Rattle.g_ticks.proofs.TickLemmas.{put_on, with_more-append}
 use Rattle.g_run.specs.Over.{ClosesBy, DidScript, TakenDown, both}
 use Rattle.g_run.specs.Parts.{DidAll, IsAtRest, Keeps, Leads}
@@ -196,6 +196,9 @@ module _ {F U : Type 0} (tariffs : Shared F (Bor Usage × Unit {0}) Charge) (tar
   same_down : (failure : Option Failure) (faults faults' : ℕ) → Keeps lines before_all failure (seen f c count) faults faults' → SameDevices old new
   same_down failure faults faults' keeps = subst (λ (d : Devices). SameDevices old d) (sym down_is.devices) keeps.same
 
+  dumps_down : (failure : Option Failure) (faults faults' : ℕ) → Keeps lines before_all failure (seen f c count) faults faults' → BelongTogether old → DumpsGrow old.rack new.rack
+  dumps_down failure faults faults' keeps was = subst (λ (d : Devices). DumpsGrow old.rack d.rack) (sym down_is.devices) (keeps.dumps was)
+
   -- A SCRIPT, cut short before its end
   pub script_short : (failure : Failure) (before after : Option (List ℕ)) (faults faults' : ℕ) → DidAll tariffs tariff rules rule lines before_all (Some failure) (seen f c count) before after faults faults'
       → DidScript tariffs tariff rules rule lines bad old (Some failure) new before after faults faults'
@@ -204,6 +207,7 @@ module _ {F U : Type 0} (tariffs : Shared F (Bor Usage × Unit {0}) Charge) (tar
     arms = subst (λ (d : Devices). AreArmings lines ((let g : Option Failure = Some failure in g) ≡ None) old d) (sym down_is.devices) did.keeps.arms;
     same = same_down (Some failure) faults faults' did.keeps;
     belongs = belongs_down (Some failure) faults faults' did.keeps;
+    dumps = dumps_down (Some failure) faults faults' did.keeps;
     cause = did.keeps.cause;
   }
 
@@ -221,6 +225,7 @@ module _ {F U : Type 0} (tariffs : Shared F (Bor Usage × Unit {0}) Charge) (tar
     };
     same = same_down None faults faults1 did.keeps;
     belongs = belongs_down None faults faults1 did.keeps;
+    dumps = dumps_down None faults faults1 did.keeps;
     cause = subst (λ (n : ℕ). FaultCause failure n faults2) did.keeps.cause puts.cause;
   }
     where

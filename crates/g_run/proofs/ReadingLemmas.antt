@@ -22,7 +22,7 @@ within_what (Job name user time money lines) is = (is.time_within, is.money_with
 pub parsed_within : (lines : List (List ℕ)) (said : List Timed) (bad : Option ℕ) → IsParsed lines said bad → All IsTimedWithin said
 parsed_within lines said bad (items, all, is, ends) =
     subst (λ (ls : List Timed). All IsTimedWithin ls) (sym is)
-    (All-map IsTimedWithin timed_said items (All-weaker IsItem (λ item. IsTimedWithin (timed_said item)) (λ item it. within_what item.what it.1) items all))
+    (All-map IsTimedWithin timed_said items (All-weaker IsItem (λ item. IsTimedWithin (timed_said item)) (λ item it. (within_what item.what it.1, it.0)) items all))
 
 -- each item has a line
 lines_least : (items : List WrittenItem) → length items ≤ length (lines_in items)

@@ -1,13 +1,12 @@
 -- One tick, and the count behind it.
-use Rattle.std.proofs.Common.{◌≡◌, ◌⊎◌, ◌+◌, ◌≤◌, ◌++◌, ℕ, Bool, true, false, not, List, [], ◌∷◌, Option, Some, None, length, refl, sym, ◌∙◌, ap, subst, inl, inr, arith, if◌then◌else◌}
+use Rattle.std.proofs.Common.{◌≡◌, ◌+◌, ◌≤◌, ◌++◌, ℕ, Bool, true, false, not, List, [], ◌∷◌, Option, Some, None, refl, sym, ◌∙◌, ap, subst, inl, arith, if◌then◌else◌}
 use Rattle.std.specs.Prelude.{◌||◌}
 use Rattle.std.specs.Fn.{Shared}
-use Rattle.std.proofs.lemmas.List.{take_all}
+use Rattle.std.proofs.lemmas.Bool.{leb-false}
 use denote.Ref.{Bor}
 use Rattle.g_budget.specs.declared.tariff.Charge.{Charge}
 use Rattle.g_budget.specs.declared.tariff.Usage.{Usage}
 use Rattle.g_sched.specs.declared.rule.Standing.{Standing}
-use Rattle.g_io.specs.Streams.{HasPutPart, with_more}
 use Rattle.g_script.specs.declared.operator.Timed.{Timed}
 use Rattle.g_state.specs.Up.{StoreFacts}
 use Rattle.g_world.specs.Moves.{Move, Ticked}
@@ -17,7 +16,6 @@ use Rattle.g_world.proofs.TickLemmas.{tick_move}
 use Rattle.g_world.proofs.TurnLemmas.{run_append}
 use Rattle.g_crew.specs.Crew.{CrewState}
 use Rattle.g_console.specs.declared.progress.Failure.{Failure}
-use Rattle.g_console.specs.declared.progress.Failure.TheVariants.{Memory}
 use Rattle.g_console.specs.Parts.{IsReady, Matches, Seen, seen}
 use Rattle.g_console.specs.System.{SystemFacts, Up, devices_in}
 use Rattle.g_ticks.specs.Parts as ticks
@@ -26,10 +24,6 @@ use Rattle.g_run.specs.Parts.{Anything, DidOne, Keeps, Leads, PartGoes, is_past,
 use Rattle.g_run.proofs.PartLemmas.{none_arm}
 use Rattle.g_run.proofs.RestLemmas.{due_is, nothing_is}
 
--- all of a text is a part of it
-pub whole_part : (before after : Option (List ℕ)) (text : List ℕ) → after ≡ with_more before text → HasPutPart before text after
-whole_part before after text is = (length text, omega arith, is ∙ ap (λ (t : List ℕ). with_more before t) (sym (take_all (length text) text (omega arith))))
-
 keeps_of : (old new : Seen) (failure : Option Failure) (faults faults' : ℕ) → KeepsRun old failure new faults faults' → Keeps [] old failure new faults faults'
 keeps_of old new failure faults faults' keeps = record {
   ready = keeps.ready;
@@ -37,6 +31,7 @@ keeps_of old new failure faults faults' keeps = record {
   arms = none_arm (failure ≡ None) (devices_in old.system) (devices_in new.system) keeps.disc_arms keeps.tape_arms;
   same = keeps.same;
   belongs = keeps.belongs;
+  dumps = keeps.dumps;
   cause = keeps.cause;
 }
 
@@ -88,11 +83,19 @@ module _ {F U : Type 0} (tariffs : Shared F (Bor Usage × Unit {0}) Charge) (tar
         → failure ≡ None → left (seen new c' count) + 1 ≤ left (seen (Up old) c count)
     fall failure falls none = subst (λ (b : Bool). left (seen new c' count) + (if b then 1 else 0) ≤ left (seen (Up old) c count)) steps (falls none)
 
+    -- the turn of the next line hasn't come
+    early : (turn : ℕ) → limit ≡ Some turn → count + 1 ≤ turn
+    early turn is =
+        let before : is_past (Some turn) count ≡ false = subst (λ (l : Option ℕ). is_past l count ≡ false) is undue in
+        let below = leb-false turn count before in
+        omega (arith, below)
+
     -- the tick is over
     pub ticked : DidTick tariffs tariff rules rule (seen (Up old) c count) None (seen new c' count) before after faults faults'
         → DidOne tariffs tariff rules rule limit (seen (Up old) c count) None (seen new c' (count + 1)) before after faults faults'
     ticked did = record {
-      did = record { goes = goes; keeps = keeps };
+      did = record { goes = goes; keeps = keeps; late = λ none turn is. inl (early turn is) };
+      counts = λ none. refl;
       falls = fall None did.falls;
     }
       where
@@ -117,19 +120,20 @@ module _ {F U : Type 0} (tariffs : Shared F (Bor Usage × Unit {0}) Charge) (tar
         keeps : Keeps [] (seen (Up old) c count) None (seen new c' (count + 1)) faults faults'
         keeps =
             let k = keeps_of (seen (Up old) c count) (seen new c' count) None faults faults' did.keeps in
-            record { ready = k.ready; numbers = k.numbers; arms = k.arms; same = k.same; belongs = k.belongs; cause = k.cause }
+            record { ready = k.ready; numbers = k.numbers; arms = k.arms; same = k.same; belongs = k.belongs; dumps = k.dumps; cause = k.cause }
 
     -- the tick isn't over, and the count stands
     module _ (count' : ℕ) where
       short_keeps : (failure : Failure) → KeepsRun (seen (Up old) c count) (Some failure) (seen new c' count) faults faults' → Keeps [] (seen (Up old) c count) (Some failure) (seen new c' count') faults faults'
       short_keeps failure keeps =
           let k = keeps_of (seen (Up old) c count) (seen new c' count) (Some failure) faults faults' keeps in
-          record { ready = k.ready; numbers = k.numbers; arms = k.arms; same = k.same; belongs = k.belongs; cause = k.cause }
+          record { ready = k.ready; numbers = k.numbers; arms = k.arms; same = k.same; belongs = k.belongs; dumps = k.dumps; cause = k.cause }
 
       pub failed : (failure : Failure) → DidTick tariffs tariff rules rule (seen (Up old) c count) (Some failure) (seen new c' count) before after faults faults'
           → DidOne tariffs tariff rules rule limit (seen (Up old) c count) (Some failure) (seen new c' count') before after faults faults'
       failed failure did = record {
-        did = record { goes = goes; keeps = short_keeps failure did.keeps };
+        did = record { goes = goes; keeps = short_keeps failure did.keeps; late = λ none turn is. absurd (let no : ⊥ = cc in no) };
+        counts = λ none. absurd (let no : ⊥ = cc in no);
         falls = fall (Some failure) did.falls;
       }
         where
@@ -138,40 +142,14 @@ module _ {F U : Type 0} (tariffs : Shared F (Bor Usage × Unit {0}) Charge) (tar
               let (moves, next, added, comes, part) = did.goes w m (may_tick w m between (ap turn_of is ∙ at)) in
               record { moves = moves; next = next; added = added; leads = leads_of w (Up old) new moves next added comes; put = part }
 
-      -- the tick's turn is over, but there is no room for its count
-      pub uncounted : DidTick tariffs tariff rules rule (seen (Up old) c count) None (seen new c' count) before after faults faults'
-          → DidOne tariffs tariff rules rule limit (seen (Up old) c count) (Some Memory) (seen new c' count') before after faults faults'
-      uncounted did = record {
-        did = record { goes = goes; keeps = keeps };
-        falls = λ none. absurd (let no : ⊥ = cc in no);
-      }
-        where
-          goes : (lines : List Timed) → turn_of lines ≡ limit → PartGoes tariffs tariff rules rule Anything lines lines (seen (Up old) c count) (Some Memory) (seen new c' count') before after
-          goes lines at w m between is =
-              let (moves, next, added, comes, matches, through, put) = did.goes w m (may_tick w m between (ap turn_of is ∙ at)) in
-              record { moves = moves; next = next; added = added; leads = leads_of w (Up old) new moves next added comes; put = whole_part before after added put }
-
-          keeps : Keeps [] (seen (Up old) c count) (Some Memory) (seen new c' count') faults faults'
-          keeps =
-              let k = keeps_of (seen (Up old) c count) (seen new c' count) None faults faults' did.keeps in record {
-                ready = λ none. k.ready refl;
-                numbers = λ none. k.numbers refl;
-                arms = none_arm (let f : Option Failure = Some Memory in f ≡ None) (devices_in (Up old)) (devices_in new) did.keeps.disc_arms did.keeps.tape_arms;
-                same = k.same;
-                belongs = k.belongs;
-                cause = k.cause;
-              }
-
-    -- BY HOW IT CAME OUT, and whether there was room for its count
+    -- BY HOW IT CAME OUT
     pub one_did : (failure : Option Failure) → DidTick tariffs tariff rules rule (seen (Up old) c count) failure (seen new c' count) before after faults faults' → (came : Option Failure) (n : ℕ)
-        → ((f : Failure) → failure ≡ Some f → (came ≡ Some f) × (n ≡ count)) → (failure ≡ None → ((came ≡ None) × (n ≡ count + 1)) ⊎ ((came ≡ Some Memory) × (n ≡ count)))
-        → DidOne tariffs tariff rules rule limit (seen (Up old) c count) came (seen new c' n) before after faults faults'
-    one_did None did came n some none = by (none refl)
+        → came ≡ failure → (failure ≡ None → n ≡ count + 1) → DidOne tariffs tariff rules rule limit (seen (Up old) c count) came (seen new c' n) before after faults faults'
+    one_did failure did came n is counts =
+        subst (λ (f : Option Failure). DidOne tariffs tariff rules rule limit (seen (Up old) c count) f (seen new c' n) before after faults faults') (sym is) (by failure did counts)
       where
-        by : ((came ≡ None) × (n ≡ count + 1)) ⊎ ((came ≡ Some Memory) × (n ≡ count)) → DidOne tariffs tariff rules rule limit (seen (Up old) c count) came (seen new c' n) before after faults faults'
-        by (inl (is, at)) =
-            subst (λ (f : Option Failure). DidOne tariffs tariff rules rule limit (seen (Up old) c count) f (seen new c' n) before after faults faults') (sym is)
-            (subst (λ (m : ℕ). DidOne tariffs tariff rules rule limit (seen (Up old) c count) None (seen new c' m) before after faults faults') (sym at) (ticked did))
-        by (inr (is, at)) = subst (λ (f : Option Failure). DidOne tariffs tariff rules rule limit (seen (Up old) c count) f (seen new c' n) before after faults faults') (sym is) (uncounted n did)
-    one_did (Some failure) did came n some none =
-        subst (λ (f : Option Failure). DidOne tariffs tariff rules rule limit (seen (Up old) c count) f (seen new c' n) before after faults faults') (sym (some failure refl).0) (failed n failure did)
+        by : (f : Option Failure) → DidTick tariffs tariff rules rule (seen (Up old) c count) f (seen new c' count) before after faults faults' → (f ≡ None → n ≡ count + 1)
+            → DidOne tariffs tariff rules rule limit (seen (Up old) c count) f (seen new c' n) before after faults faults'
+        by None tick more =
+            subst (λ (m : ℕ). DidOne tariffs tariff rules rule limit (seen (Up old) c count) None (seen new c' m) before after faults faults') (sym (more refl)) (ticked tick)
+        by (Some fault) tick more = failed n fault tick

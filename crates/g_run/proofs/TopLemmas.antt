@@ -2,10 +2,12 @@
 use Rattle.std.proofs.Common.{◌≡◌, ◌∙◌, ℕ, List, [], ◌∷◌, codes, Option, Some, None, length, refl, sym, ap, subst, inl, inr, arith}
 use Rattle.std.specs.Fn.{Shared}
 use denote.Ref.{Bor}
+use Rattle.std.proofs.lemmas.List.{take_all}
 use Rattle.g_base.proofs.CountLemmas.{RoseBy-none}
 use Rattle.g_budget.specs.declared.tariff.Charge.{Charge}
 use Rattle.g_budget.specs.declared.tariff.Usage.{Usage}
 use Rattle.g_sched.specs.declared.rule.Standing.{Standing}
+use Rattle.g_io.specs.Streams.{HasPutPart, with_more}
 use Rattle.g_lines.specs.Lines.{lines_of}
 use Rattle.g_script.specs.Script.{IsParsed}
 use Rattle.g_script.specs.declared.operator.Timed.{Timed}
@@ -22,7 +24,6 @@ use Rattle.g_console.specs.Puts.{PutsBy}
 use Rattle.g_run.specs.declared.status.Status.{Status}
 use Rattle.g_run.specs.Demo.{PutsDemo}
 use Rattle.g_run.specs.Top.{EndsAs, EndsBy, EndsDemo, IsQuiet, IsThrough, demo_status, status_of, words_status}
-use Rattle.g_run.proofs.TickedLemmas.{whole_part}
 
 module _ {F U : Type 0} (tariffs : Shared F (Bor Usage × Unit {0}) Charge) (tariff : F) (rules : Shared U (Bor Standing × Unit {0}) ℕ) (rule : U) where
   pub ends_as : (bad : Option ℕ) (failure : Option Failure) (left : List ℕ) (lines : List Timed) (old new : Devices) (before after : Option (List ℕ)) →
@@ -57,6 +58,10 @@ arms_as left lines said bad said_bad failure old new was is arms =
       all_disc = λ went. arms.all_disc (went_through said_bad failure went);
       all_tape = λ went. arms.all_tape (went_through said_bad failure went);
     })
+
+-- all of a text is a part of it
+whole_part : (before after : Option (List ℕ)) (text : List ℕ) → after ≡ with_more before text → HasPutPart before text after
+whole_part before after text is = (length text, omega arith, is ∙ ap (λ (t : List ℕ). with_more before t) (sym (take_all (length text) text (omega arith))))
 
 -- unknown words are told, whole or in part
 pub cut_words : (failure : Option Failure) (d : Devices) (before after : Option (List ℕ)) → PutsBy failure words_line before after → IsCutWords d d before after

@@ -1,6 +1,7 @@
 -- Ticks, one behind the other, until a line is due or nothing steps.
 use Rattle.std.proofs.Common.{◌≡◌, ◌⊎◌, ◌+◌, ◌<◌, ◌≤◌, ℕ, Bool, true, false, not, List, [], Option, Some, None, refl, sym, ◌∙◌, ap, subst, inl, inr, arith}
 use Rattle.std.specs.Fn.{Shared}
+use Rattle.std.proofs.lemmas.Bool.{leb-false}
 use denote.Ref.{Bor}
 use Rattle.g_budget.specs.declared.tariff.Charge.{Charge}
 use Rattle.g_budget.specs.declared.tariff.Usage.{Usage}
@@ -12,10 +13,31 @@ use Rattle.g_crew.specs.Numbers.{AreOpen}
 use Rattle.g_console.specs.declared.progress.Failure.{Failure}
 use Rattle.g_console.specs.Parts.{IsReady, Matches, Seen, seen}
 use Rattle.g_console.specs.System.{SystemFacts, devices_in}
-use Rattle.g_run.specs.Parts.{Anything, DidOne, DidTicks, IsAtRest, Keeps, PartGoes, is_past, steps_in, turn_of}
+use Rattle.g_ticks.specs.Parts.{left}
+use Rattle.g_run.specs.Parts.{Anything, DidOne, DidTicks, HasRoom, IsAtRest, Keeps, PartGoes, is_past, steps_in, turn_of}
 use Rattle.g_run.proofs.PartLemmas.{arrives_here, goes_then, keeps_then, none_arm}
 use Rattle.g_run.proofs.RestLemmas.{due_is, nothing_is}
+use Rattle.g_console.proofs.GrowLemmas.{grow_itself}
 use Rattle.g_console.proofs.LabelLemmas.{same_itself}
+
+-- THE COUNT HAS ROOM for a tick where there is one to be done
+pub room_one : (limit : Option ℕ) (s : Seen) → HasRoom limit s → is_past limit s.count ≡ false → s.count < 18446744073709551615
+room_one None s room undue = omega (arith, room)
+room_one (Some turn) s room undue = let below = leb-false turn s.count undue in omega (arith, room, below)
+
+room_by : (was now n m : ℕ) → was + n < 18446744073709551615 → now ≡ was + 1 → m + 1 ≤ n → now + m < 18446744073709551615
+room_by was now n m room counts falls = omega (arith, room, counts, falls)
+
+-- and behind it
+pub room_then : (limit : Option ℕ) (old new : Seen) → HasRoom limit old → new.count ≡ old.count + 1 → left new + 1 ≤ left old → HasRoom limit new
+room_then None old new room counts falls = room_by old.count new.count (left old) (left new) room counts falls
+room_then (Some turn) old new room counts falls = room
+
+-- the count of one part and then another stays, or comes to the turn at most
+late_then : (turn old mid new : ℕ) → (mid ≤ turn) ⊎ (mid ≡ old) → (new ≤ turn) ⊎ (new ≡ mid) → (new ≤ turn) ⊎ (new ≡ old)
+late_then turn old mid new first (inl most) = inl most
+late_then turn old mid new (inl most) (inr same) = inl (omega (arith, most, same))
+late_then turn old mid new (inr is) (inr same) = inr (same ∙ is)
 
 pub keeps_here : (s : Seen) (faults : ℕ) → IsReady s.system s.crew → AreOpen s.crew.jobs → Keeps [] s None s faults faults
 keeps_here s faults ready still = record {
@@ -24,6 +46,7 @@ keeps_here s faults ready still = record {
   arms = none_arm (let f : Option Failure = None in f ≡ None) (devices_in s.system) (devices_in s.system) refl refl;
   same = same_itself (devices_in s.system);
   belongs = λ was. was;
+  dumps = λ was. grow_itself (devices_in s.system).rack;
   cause = refl;
 }
 
@@ -33,6 +56,7 @@ module _ {F U : Type 0} (tariffs : Shared F (Bor Usage × Unit {0}) Charge) (tar
   ticks_start s before faults ready still = record {
     goes = λ lines at w m between is. arrives_here tariffs tariff rules rule w lines s before m between is;
     keeps = keeps_here s faults ready still;
+    late = λ none turn is. inr refl;
   }
 
   -- one more
@@ -44,13 +68,14 @@ module _ {F U : Type 0} (tariffs : Shared F (Bor Usage × Unit {0}) Charge) (tar
         let a = first.goes lines at w m between is in
         goes_then tariffs tariff rules rule Anything Anything w lines lines s mid before middle a failure new after (one.did.goes lines at a.next a.matches a.between a.lines);
     keeps = keeps_then [] [] s mid failure new faults faults1 faults2 first.keeps one.did.keeps;
+    late = λ none turn is. late_then turn s.count mid.count new.count (first.late refl turn is) (one.did.late none turn is);
   }
 
   -- THE END of them
   pub ticks_end : (s : Seen) (failure : Option Failure) (f : SystemFacts) (c : CrewState) (count : ℕ) (before after : Option (List ℕ)) (faults faults' : ℕ)
       → DidTicks tariffs tariff rules rule Anything limit s failure (seen f c count) before after faults faults'
       → (failure ≡ None → (is_past limit count ≡ true) ⊎ (steps_in (seen f c count) ≡ false)) → DidTicks tariffs tariff rules rule IsAtRest limit s failure (seen f c count) before after faults faults'
-  ticks_end s None f c count before after faults faults' did ends = record { goes = goes; keeps = did.keeps }
+  ticks_end s None f c count before after faults faults' did ends = record { goes = goes; keeps = did.keeps; late = did.late }
     where
       rest : (w : World) → Matches w (seen f c count) → turn_of w.lines ≡ limit → (is_past limit count ≡ true) ⊎ (steps_in (seen f c count) ≡ false) → IsAtRest w
       rest w m at (inl past) = inl (due_is w ∙ ap (λ (l : Option ℕ). is_past l w.count) at ∙ ap (λ (n : ℕ). is_past limit n) m.count ∙ past)
@@ -69,7 +94,7 @@ module _ {F U : Type 0} (tariffs : Shared F (Bor Usage × Unit {0}) Charge) (tar
             rests = rest a.next a.matches (ap turn_of a.lines ∙ at) (ends refl);
             put = a.put;
           }
-  ticks_end s (Some failure) f c count before after faults faults' did ends = record { goes = did.goes; keeps = did.keeps }
+  ticks_end s (Some failure) f c count before after faults faults' did ends = record { goes = did.goes; keeps = did.keeps; late = did.late }
 
 -- what a loop over ticks has left to do
 abbrev pub ticks_left : Option Failure → ℕ → ℕ

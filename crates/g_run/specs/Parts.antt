@@ -1,5 +1,5 @@
 -- PARTS OF A RUN: from each world that is what is at hand between two ticks there are moves to a world that is what is at hand then.
-use Rattle.std.specs.Prelude.{◌≡◌, ◌⊎◌, ℕ, ◌+◌, ◌≤◌, ◌||◌, Bool, true, false, nat_le, List, [], ◌∷◌, ◌++◌, length, Option, Some, None}
+use Rattle.std.specs.Prelude.{◌≡◌, ◌⊎◌, ℕ, ◌+◌, ◌<◌, ◌≤◌, ◌||◌, All, Bool, true, false, nat_le, List, [], ◌∷◌, ◌++◌, length, Option, Some, None}
 use Rattle.std.specs.Fn.{Shared}
 use denote.Ref.{Bor}
 use Rattle.g_budget.specs.declared.tariff.Charge.{Charge}
@@ -16,7 +16,7 @@ use Rattle.g_crew.specs.Numbers.{AreOpen}
 use Rattle.g_console.specs.declared.progress.Failure.{Failure}
 use Rattle.g_console.specs.Parts.{IsReady, Matches, Seen}
 use Rattle.g_console.specs.Puts.{FaultCause}
-use Rattle.g_console.specs.System.{SameDevices, StandsAs, SystemBelongs, SystemFacts, devices_in}
+use Rattle.g_console.specs.System.{DumpsGrow, SameDevices, StandsAs, SystemBelongs, SystemFacts, devices_in}
 use Rattle.g_ticks.specs.Parts.{IsBetween, has_dump, left, some_job_steps}
 
 -- the turn from which on the first of some lines is due
@@ -40,8 +40,18 @@ IsWithin (line.StopDisc k) = 1 ≤ k
 IsWithin (line.StopTape k) = 1 ≤ k
 IsWithin what = Unit {0}
 
+-- and when it is due
 abbrev pub IsTimedWithin : Timed → Type 0
-IsTimedWithin next = IsWithin next.what
+IsTimedWithin next = IsWithin next.what × (next.turn ≤ 1000000000)
+
+-- all due by this count
+abbrev pub AreDueBy : ℕ → List Timed → Type 0
+AreDueBy most lines = All (λ next. next.turn ≤ most) lines
+
+-- THE COUNT HAS ROOM for ticks: up to the turn of the next line, or, behind all lines, for what is left to do
+abbrev pub HasRoom : Option ℕ → Seen → Type 0
+HasRoom None s = s.count + left s < 18446744073709551615
+HasRoom (Some turn) s = turn ≤ 1000000000
 
 -- a line is due, or nothing steps
 abbrev pub IsAtRest : World → Type 0
@@ -96,30 +106,34 @@ module _ {F U : Type 0} (tariffs : Shared F (Bor Usage × Unit {0}) Charge) (tar
       (w : World) → Matches w old → IsBetween w → w.lines ≡ lines → GoesBy Rests w rest old failure new before after
 
 -- WHAT HOLDS OF ALL DEVICES behind a part that did some lines: all is ready for the next, unless it failed; the lines armed the devices; disc and
--- rack go on belonging together; and the sink's count moves with its own failure
+-- rack go on belonging together, and completed dumps stay; and the sink's count moves with its own failure
 pub record Keeps (done : List Timed) (old : Seen) (failure : Option Failure) (new : Seen) (faults faults' : ℕ) : Type 0 where
   pub ready : failure ≡ None → IsReady new.system new.crew × AreOpen new.crew.jobs
   pub numbers : failure ≡ None → new.crew.next_job ≤ old.crew.next_job + length done
   pub arms : AreArmings done (failure ≡ None) (devices_in old.system) (devices_in new.system)
   pub same : SameDevices (devices_in old.system) (devices_in new.system)
   pub belongs : SystemBelongs old.system → SystemBelongs new.system
+  pub dumps : SystemBelongs old.system → DumpsGrow (devices_in old.system).rack (devices_in new.system).rack
   pub cause : FaultCause failure faults faults'
 
 module _ {F U : Type 0} (tariffs : Shared F (Bor Usage × Unit {0}) Charge) (tariff : F) (rules : Shared U (Bor Standing × Unit {0}) ℕ) (rule : U) where
-  -- TICKS, as long as something steps, up to the turn of the next line
+  -- TICKS, as long as something steps, up to the turn of the next line, which the count doesn't pass
   pub record DidTicks (Rests : World → Type 0) (limit : Option ℕ) (old : Seen) (failure : Option Failure) (new : Seen) (before after : Option (List ℕ)) (faults faults' : ℕ) : Type 0 where
     pub goes : (lines : List Timed) → turn_of lines ≡ limit → PartGoes tariffs tariff rules rule Rests lines lines old failure new before after
     pub keeps : Keeps [] old failure new faults faults'
+    pub late : failure ≡ None → (turn : ℕ) → limit ≡ Some turn → (new.count ≤ turn) ⊎ (new.count ≡ old.count)
 
-  -- ONE TICK, and less is left to do
+  -- ONE TICK: the count is one more, and less is left to do
   pub record DidOne (limit : Option ℕ) (old : Seen) (failure : Option Failure) (new : Seen) (before after : Option (List ℕ)) (faults faults' : ℕ) : Type 0 where
     pub did : DidTicks Anything limit old failure new before after faults faults'
+    pub counts : failure ≡ None → new.count ≡ old.count + 1
     pub falls : failure ≡ None → left new + 1 ≤ left old
 
-  -- THESE LINES, each when it is due or nothing steps
+  -- THESE LINES, each when it is due or nothing steps; the count doesn't pass the turns of all
   pub record DidLines (done : List Timed) (old : Seen) (failure : Option Failure) (new : Seen) (before after : Option (List ℕ)) (faults faults' : ℕ) : Type 0 where
     pub goes : (rest : List Timed) → PartGoes tariffs tariff rules rule Anything (done ++ rest) rest old failure new before after
     pub keeps : Keeps done old failure new faults faults'
+    pub late : failure ≡ None → (most : ℕ) → AreDueBy most done → old.count ≤ most → new.count ≤ most
 
   -- ALL OF THEM, and nothing steps behind them
   pub record DidAll (lines : List Timed) (old : Seen) (failure : Option Failure) (new : Seen) (before after : Option (List ℕ)) (faults faults' : ℕ) : Type 0 where

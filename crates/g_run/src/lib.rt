@@ -7,6 +7,7 @@ mod demo;
 mod input;
 mod law;
 mod lining;
+mod little;
 mod over;
 mod script;
 mod status;

@@ -10,6 +10,7 @@ ghost use Rattle.g_run.specs.Over.{ClosesBy, DidScript, TakenDown, both};
 ghost use Rattle.g_run.specs.Parts.{DidAll, IsTimedWithin};
 
 use crate::came::Came;
+use crate::little::little_is_left;
 use crate::script::do_lines;
 use crate::ticks::until;
 use g_base::NoMemory;
@@ -107,7 +108,10 @@ fn run_lines<K: Sink, D: Disc, T: Tapes, F: Fn(&Usage) -> Charge, U: Fn(&Standin
         failure,
     } = do_lines(alloc, lines, system, crew, 0, tariff, weigh, out);
     match failure {
-        None => until(alloc, system, crew, count, None, tariff, weigh, out),
+        None => {
+            little_is_left(&system, crew);
+            until(alloc, system, crew, count, None, tariff, weigh, out)
+        }
         Some(failure) => Came {
             system,
             count,

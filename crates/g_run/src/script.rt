@@ -5,7 +5,7 @@ ghost use Rattle.g_console.specs.Parts.{IsReady, seen};
 ghost use Rattle.g_console.specs.System.{facts_of};
 ghost use Rattle.g_crew.specs.Numbers.{AreOpen};
 ghost use Rattle.g_sched.specs.Rule.{IsWeighRule};
-ghost use Rattle.g_run.specs.Parts.{DidLines, IsTimedWithin, IsWithin};
+ghost use Rattle.g_run.specs.Parts.{DidLines, IsTimedWithin};
 
 use crate::came::Came;
 use crate::lining::do_line;
@@ -85,7 +85,7 @@ fn next_line<K: Sink, D: Disc, T: Tapes, F: Fn(&Usage) -> Charge, U: Fn(&Standin
 ) -> Came<D, T>
     requires ready { IsReady (facts_of D.state T.rack system) crew.old }
     requires open { AreOpen crew.old.jobs }
-    requires within { IsWithin next.what }
+    requires within { IsTimedWithin next }
     requires numbers { crew.old.next_job + 1 < 18446744073709551616 }
     requires tariff { IsTariff F.Fn tariff.now }
     requires rule { IsWeighRule U.Fn weigh.now }

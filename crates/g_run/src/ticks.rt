@@ -1,5 +1,5 @@
 //! Ticks, as long as something can step and no line is due.
-ghost use Rattle.std.specs.Prelude.{◌≡◌, ◌⊎◌, ◌+◌, ℕ, Some, None, true, false};
+ghost use Rattle.std.specs.Prelude.{◌≡◌, ◌⊎◌, ◌+◌, ◌<◌, ℕ, None, true, false};
 ghost use Rattle.g_budget.specs.Tariff.{IsTariff};
 ghost use Rattle.g_console.specs.Parts.{IsReady, seen};
 ghost use Rattle.g_console.specs.System as system;
@@ -7,7 +7,7 @@ ghost use Rattle.g_console.specs.System.{facts_of};
 ghost use Rattle.g_crew.specs.Numbers.{AreOpen};
 ghost use Rattle.g_sched.specs.Rule.{IsWeighRule};
 ghost use Rattle.g_ticks.specs.Parts.{some_job_steps};
-ghost use Rattle.g_run.specs.Parts.{DidOne, DidTicks, IsAtRest, is_past, steps_in};
+ghost use Rattle.g_run.specs.Parts.{DidOne, DidTicks, HasRoom, IsAtRest, is_past, steps_in};
 
 use crate::came::Came;
 use g_budget::{Charge, Tariff, Usage};
@@ -33,6 +33,7 @@ pub(crate) fn until<K: Sink, D: Disc, T: Tapes, F: Fn(&Usage) -> Charge, U: Fn(&
 ) -> Came<D, T>
     requires ready { IsReady (facts_of D.state T.rack system) crew.old }
     requires open { AreOpen crew.old.jobs }
+    requires room { HasRoom limit (seen (facts_of D.state T.rack system) crew.old count) }
     requires tariff { IsTariff F.Fn tariff.now }
     requires rule { IsWeighRule U.Fn weigh.now }
     ensures { DidTicks F.Fn tariff.now U.Fn weigh.now IsAtRest limit (seen (facts_of D.state T.rack system) crew.old count) result.failure
@@ -126,6 +127,7 @@ fn one_tick<K: Sink, D: Disc, T: Tapes, F: Fn(&Usage) -> Charge, U: Fn(&Standing
 ) -> Came<D, T>
     requires ready { IsReady (facts_of D.state T.rack system) crew.old }
     requires open { AreOpen crew.old.jobs }
+    requires room { HasRoom limit (seen (facts_of D.state T.rack system) crew.old count) }
     requires undue { is_past limit count ≡ false }
     requires steps { steps_in (seen (facts_of D.state T.rack system) crew.old count) ≡ true }
     requires tariff { IsTariff F.Fn tariff.now }
@@ -143,41 +145,27 @@ fn one_tick<K: Sink, D: Disc, T: Tapes, F: Fn(&Usage) -> Charge, U: Fn(&Standing
     }
 }
 
-/// Behind a tick the count is one more. Beyond 64 bits there is no room for it, and that counts as want of memory.
+/// Behind a tick the count is one more, and where the tick failed it is what it was.
 fn counted<D: Disc, T: Tapes>(
     system: System<D, T>,
     count: u64,
     failure: Option<Failure>,
 ) -> Came<D, T>
+    requires room { count < 18446744073709551615 }
     ensures system { result.system ≡ system }
-    ensures some { (f : Failure) → failure ≡ Some f → (result.failure ≡ Some f) × (result.count ≡ count) }
-    ensures none { failure ≡ None → ((result.failure ≡ None) × (result.count ≡ count + 1)) ⊎ ((result.failure ≡ Some Failure.Memory) × (result.count ≡ count)) }
+    ensures failure { result.failure ≡ failure }
+    ensures count { failure ≡ None → result.count ≡ count + 1 }
 {
     match failure {
-        None => raised(system, count),
+        None => Came {
+            system,
+            count: count + 1,
+            failure: None,
+        },
         Some(failure) => Came {
             system,
             count,
             failure: Some(failure),
-        },
-    }
-}
-
-/// The count is one more, if there is room for it.
-fn raised<D: Disc, T: Tapes>(system: System<D, T>, count: u64) -> Came<D, T>
-    ensures system { result.system ≡ system }
-    ensures count { ((result.failure ≡ None) × (result.count ≡ count + 1)) ⊎ ((result.failure ≡ Some Failure.Memory) × (result.count ≡ count)) }
-{
-    match count.checked_add(1) {
-        Some(more) => Came {
-            system,
-            count: more,
-            failure: None,
-        },
-        None => Came {
-            system,
-            count,
-            failure: Some(Failure::Memory),
         },
     }
 }

@@ -2,7 +2,7 @@
 ghost use Rattle.std.specs.Prelude.{◌≡◌, ◌<◌, ◌≤◌, ℕ, List, [], Option, Some, drop, length};
 ghost use Rattle.g_base.specs.Counts.{Rose};
 ghost use Rattle.g_budget.specs.Tariff.{IsTariff};
-ghost use Rattle.g_console.specs.System.{BelongTogether, SameDevices};
+ghost use Rattle.g_console.specs.System.{BelongTogether, DumpsGrow, SameDevices};
 ghost use Rattle.g_demo.specs.Words.{AskNothing, IsDemonstration, demo_words, texts_of};
 ghost use Rattle.g_demo.specs.declared.demonstration.Demonstration.{Demonstration};
 ghost use Rattle.g_lines.specs.Lines.{lines_of};
@@ -42,6 +42,7 @@ pub struct Finish<D: Disc, T: Tapes> {
 ///
 /// The words are looked at first: `run`, or `demo NUMBER N`, which runs a script that is made from these numbers on devices in
 /// memory and puts the summary of its text. The script is read whole before anything is done (docs/MANUAL.md, "Exit status").
+#[tactic(auto, using(g_console::proofs::GrowLemmas::grow_itself))]
 pub fn george<
     S: Source,
     K: Sink,
@@ -92,11 +93,15 @@ pub fn george<
         → (both (D.state result.disc) (T.rack result.tapes) ≡ both (D.state disc) (T.rack tapes))
         × top.EndsDemo F.Fn tariff.now U.Fn weigh.now result.status demo (K.written out.old) (K.written out.new) }
 
-    // Of all devices, with every status: who was armed, that they are the same, and that disc and rack go on belonging together.
+    // With every status, of all devices, whether they tell or not: who was armed, and that they are the same.
     ensures arms { IsRun words.now → (left : List ℕ) → S.left script.old ≡ Some left → (lines : List Timed) (bad : Option ℕ) → IsParsed (lines_of left) lines bad →
         AreArmings lines (top.IsThrough result.status) (both (D.state disc) (T.rack tapes)) (both (D.state result.disc) (T.rack result.tapes)) }
     ensures same { SameDevices (both (D.state disc) (T.rack tapes)) (both (D.state result.disc) (T.rack result.tapes)) }
+
+    // With every status, of devices that tell and belong together: they go on doing so, and what was completed on the reels stays
+    // so, each dump whole.
     ensures belongs { BelongTogether (both (D.state disc) (T.rack tapes)) → BelongTogether (both (D.state result.disc) (T.rack result.tapes)) }
+    ensures dumps { BelongTogether (both (D.state disc) (T.rack tapes)) → DumpsGrow (T.rack tapes) (T.rack result.tapes) }
 {
     match asked_by(words) {
         Some(Asked::Run) => {}

@@ -15,7 +15,7 @@ use Rattle.g_state.specs.Up.{DumpFacts, StoreFacts}
 use Rattle.g_step.specs.CallStep.{Outcome}
 use Rattle.g_step.specs.DumpSteps.{Completed, DumpStep, Going, Stepped}
 use Rattle.g_step.specs.State.{Holding, OpenDump, State}
-use Rattle.g_store.specs.Dumping.{LeavesOpen, StepsAs}
+use Rattle.g_store.specs.Dumping.{KeepsDumps, LeavesOpen, StepsAs}
 use Rattle.g_store.specs.Events.{IsStepOfDump, LeadsBy, StepsBy, StepsDump}
 use Rattle.g_store.proofs.ArmLemmas.{spent_stands}
 use Rattle.g_store_calls.proofs.SeenLemmas.{seen as seen_of}
@@ -39,6 +39,7 @@ use Rattle.g_console.proofs.UpLemmas.{not_spent}
 use Rattle.g_ticks.specs.Parts.{DidDump, DumpGoes, Falls, KeepsRun, StepsTo, has_dump, phase_behind, share_in}
 use Rattle.g_ticks.proofs.RackLemmas.{SameMounted, ending_mounts, failing_mounts, shares_still}
 use Rattle.g_ticks.proofs.SteppingLemmas.{stepping_counted}
+use Rattle.g_console.proofs.GrowLemmas.{grow_itself, grow_stepped}
 use Rattle.g_console.proofs.LabelLemmas.{labels_with, same_itself}
 
 -- a step never wants memory
@@ -241,14 +242,15 @@ module _ (old new : StoreFacts) (unspent : old.spent ≡ false) (c : CrewState) 
   abbrev still_mounted : SameMounted old.rack new.rack
   still_mounted = step_mounts is.dump is.after old.online new.online old.rack new.rack answer is.stepping
 
-  pub keeps_up : (answer ≡ Err Stopped → ⊥) → AreOpen c.jobs → (failure : Option Failure) (text : List ℕ) (before after : Option (List ℕ)) (faults faults' : ℕ) → Puts failure text before after faults faults'
+  pub keeps_up : (answer ≡ Err Stopped → ⊥) → KeepsDumps old answer new → AreOpen c.jobs → (failure : Option Failure) (text : List ℕ) (before after : Option (List ℕ)) (faults faults' : ℕ) → Puts failure text before after faults faults'
       → KeepsRun (seen (Up old) c count) failure (seen (Up new) c count) faults faults'
-  keeps_up isnt taking failure text before after faults faults' puts = record {
+  keeps_up isnt stay taking failure text before after faults faults' puts = record {
     ready = λ e. ((not_spent new.spent answer event.spent isnt, event.keeps.tied.size, event.keeps.tied.most), taking);
     disc_arms = (step_arms is.dump is.after old.online new.online old.rack new.rack answer is.stepping).0;
     tape_arms = (step_arms is.dump is.after old.online new.online old.rack new.rack answer is.stepping).1;
     same = let it = step_same is.dump is.after old.online new.online old.rack new.rack answer is.stepping in record { size = it.0; reels = it.1 };
     belongs = λ was. (event.told was.0, event.belongs was.0 was.1);
+    dumps = λ was. grow_stepped old answer new stay was.0 was.1;
     cause = puts.cause;
     numbers = λ e. refl;
   }
@@ -264,11 +266,11 @@ module _ (old new : StoreFacts) (unspent : old.spent ≡ false) (c : CrewState) 
   pub has : has_dump (Up old) ≡ true
   has = ap (λ (d : Option DumpFacts). is_there d) is.dump_is
 
-  pub did_up : (answer ≡ Err Stopped → ⊥) → AreOpen c.jobs → (failure : Option Failure) (before after : Option (List ℕ)) (faults faults' : ℕ) → Puts failure added before after faults faults'
+  pub did_up : (answer ≡ Err Stopped → ⊥) → KeepsDumps old answer new → AreOpen c.jobs → (failure : Option Failure) (before after : Option (List ℕ)) (faults faults' : ℕ) → Puts failure added before after faults faults'
       → DidDump (seen (Up old) c count) failure (seen (Up new) c count) before after faults faults'
-  did_up isnt taking failure before after faults faults' puts = record {
+  did_up isnt stay taking failure before after faults faults' puts = record {
     goes = goes_up isnt failure before after puts.put;
-    keeps = keeps_up isnt taking failure added before after faults faults' puts;
+    keeps = keeps_up isnt stay taking failure added before after faults faults' puts;
     falls = falls_up failure;
     idle = λ e. absurd (false≢true (sym e ∙ has));
   }
@@ -316,7 +318,7 @@ module _ (old new : StoreFacts) (unspent : old.spent ≡ false) (c : CrewState) 
       λ w m. let k = came old new unspent c count (Err Stopped) event is w m.stands in
       (dump_told k.dump.number (Err Stopped) k.state w, added old new unspent c count (Err Stopped) event is, inr (steps_down w m k), put)
 
-  module _ (failure : Option Failure) (c' : CrewState) (before after : Option (List ℕ)) (faults faults' : ℕ) (tells : TellsFault Stopped count c failure c' before after faults faults') where
+  module _ (stay : KeepsDumps old (Err Stopped) new) (failure : Option Failure) (c' : CrewState) (before after : Option (List ℕ)) (faults faults' : ℕ) (tells : TellsFault Stopped count c failure c' before after faults faults') where
     pub stop_goes : DumpGoes (seen (Up old) c count) failure (seen (system_after Stopped new) c' count) before after
     stop_goes = subst (λ (x : CrewState). DumpGoes (seen (Up old) c count) failure (seen (Down devices) x count) before after) (sym tells.0) (goes_down failure before after tells.1.put)
 
@@ -327,6 +329,7 @@ module _ (old new : StoreFacts) (unspent : old.spent ≡ false) (c : CrewState) 
       tape_arms = (step_arms is.dump is.after old.online new.online old.rack new.rack (Err Stopped) is.stepping).1;
       same = let it = step_same is.dump is.after old.online new.online old.rack new.rack (Err Stopped) is.stepping in record { size = it.0; reels = it.1 };
       belongs = λ was. record { told = event.told was.0; belong = (event.belongs was.0 was.1).devices };
+      dumps = λ was. grow_stepped old (Err Stopped) new stay was.0 was.1;
       cause = tells.1.cause;
       numbers = λ e. refl;
     })
@@ -348,7 +351,16 @@ pub did_nothing : (old : StoreFacts) (c : CrewState) (count : ℕ) → IsReady (
     → DidDump (seen (Up old) c count) None (seen (Up old) c count) before before faults faults
 did_nothing old c count ready taking none before faults = record {
   goes = λ w m. (w, [], inl (record { none = none_open w m.stands; next_is = refl; same = refl; text = refl }), m, sym (with_more-nil before));
-  keeps = record { ready = λ e. (ready, taking); disc_arms = refl; tape_arms = refl; same = same_itself (devices_in (Up old)); belongs = λ was. was; cause = refl; numbers = λ e. refl };
+  keeps = record {
+    ready = λ e. (ready, taking);
+    disc_arms = refl;
+    tape_arms = refl;
+    same = same_itself (devices_in (Up old));
+    belongs = λ was. was;
+    dumps = λ was. grow_itself old.rack;
+    cause = refl;
+    numbers = λ e. refl;
+  };
   falls = λ e. let no : has_dump (Up old) ≡ false = ap (λ (d : Option DumpFacts). is_there d) none in
       let zero : one_if (has_dump (Up old)) ≡ one_if false = ap one_if no in omega (arith, zero);
   idle = λ e. refl;
@@ -371,36 +383,36 @@ one_fault fault e = cc
 
 -- a dump that is given up is told by its number
 pub did_lost : (old new : StoreFacts) (unspent : old.spent ≡ false) (c : CrewState) (count number : ℕ) → option_map (λ d. d.plan.number) old.dump ≡ Some number → (fault : StoreFault) → (fault ≡ Stopped → ⊥)
-    → StepsDump old (Err fault) new → StepsAs old (Err fault) new → AreOpen c.jobs → (failure : Option Failure) (before after : Option (List ℕ)) (faults faults' : ℕ)
+    → StepsDump old (Err fault) new → StepsAs old (Err fault) new → KeepsDumps old (Err fault) new → AreOpen c.jobs → (failure : Option Failure) (before after : Option (List ℕ)) (faults faults' : ℕ)
     → Puts failure (operator_line count (dump_text number (codes "LOST " ++ fault_line fault))) before after faults faults' → DidDump (seen (Up old) c count) failure (seen (Up new) c count) before after faults faults'
-did_lost old new unspent c count number number_is fault isnt event is taking failure before after faults faults' puts =
+did_lost old new unspent c count number number_is fault isnt event is stay taking failure before after faults faults' puts =
     let same : number ≡ is.dump.plan.number =
     one_number is.dump.plan.number number (sym (ap (λ (x : Option DumpFacts). option_map (λ d. d.plan.number) x) is.dump_is) ∙ number_is) in
-    did_up old new unspent c count (Err fault) event is (λ e. isnt (one_fault fault e)) taking failure before after faults faults'
+    did_up old new unspent c count (Err fault) event is (λ e. isnt (one_fault fault e)) stay taking failure before after faults faults'
     (subst (λ (t : List ℕ). Puts failure t before after faults faults')
     (ap (λ (n : ℕ). operator_line count (dump_text n (codes "LOST " ++ fault_line fault))) same ∙ sym (lost_added count is.dump.plan.number fault c.jobs isnt)) puts)
 
 -- nothing is told while it goes on
-pub did_going : (old new : StoreFacts) (unspent : old.spent ≡ false) (c : CrewState) (count : ℕ) → StepsDump old (Ok Going) new → StepsAs old (Ok Going) new → AreOpen c.jobs → (before : Option (List ℕ)) (faults : ℕ)
+pub did_going : (old new : StoreFacts) (unspent : old.spent ≡ false) (c : CrewState) (count : ℕ) → StepsDump old (Ok Going) new → StepsAs old (Ok Going) new → KeepsDumps old (Ok Going) new → AreOpen c.jobs → (before : Option (List ℕ)) (faults : ℕ)
     → DidDump (seen (Up old) c count) None (seen (Up new) c count) before before faults faults
-did_going old new unspent c count event is taking before faults =
-    did_up old new unspent c count (Ok Going) event is (λ e. let no : ⊥ = cc in no) taking None before before faults faults (record { put = sym (with_more-nil before); cause = refl })
+did_going old new unspent c count event is stay taking before faults =
+    did_up old new unspent c count (Ok Going) event is (λ e. let no : ⊥ = cc in no) stay taking None before before faults faults (record { put = sym (with_more-nil before); cause = refl })
 
-pub did_completed : (old new : StoreFacts) (unspent : old.spent ≡ false) (c : CrewState) (count n : ℕ) → StepsDump old (Ok (Completed n)) new → StepsAs old (Ok (Completed n)) new → AreOpen c.jobs
+pub did_completed : (old new : StoreFacts) (unspent : old.spent ≡ false) (c : CrewState) (count n : ℕ) → StepsDump old (Ok (Completed n)) new → StepsAs old (Ok (Completed n)) new → KeepsDumps old (Ok (Completed n)) new → AreOpen c.jobs
     → (failure : Option Failure) (before after : Option (List ℕ)) (faults faults' : ℕ) → Puts failure (operator_line count (dump_text n (codes "COMPLETED"))) before after faults faults'
     → DidDump (seen (Up old) c count) failure (seen (Up new) c count) before after faults faults'
-did_completed old new unspent c count n event is taking failure before after faults faults' puts =
-    did_up old new unspent c count (Ok (Completed n)) event is (λ e. let no : ⊥ = cc in no) taking failure before after faults faults' puts
+did_completed old new unspent c count n event is stay taking failure before after faults faults' puts =
+    did_up old new unspent c count (Ok (Completed n)) event is (λ e. let no : ⊥ = cc in no) stay taking failure before after faults faults' puts
 
 pub some_there : (dump : Option DumpFacts) (n : ℕ) → option_map (λ d. d.plan.number) dump ≡ Some n → is_some dump ≡ true
 some_there None n e = absurd (let no : ⊥ = cc in no)
 some_there (Some d) n e = refl
 
 -- a store that was stopped is taken down
-pub did_fails : (old new : StoreFacts) (unspent : old.spent ≡ false) (c : CrewState) (count : ℕ) (fault : StoreFault) → fault ≡ Stopped → StepsDump old (Err fault) new → StepsAs old (Err fault) new
+pub did_fails : (old new : StoreFacts) (unspent : old.spent ≡ false) (c : CrewState) (count : ℕ) (fault : StoreFault) → fault ≡ Stopped → StepsDump old (Err fault) new → StepsAs old (Err fault) new → KeepsDumps old (Err fault) new
     → (failure : Option Failure) (c' : CrewState) (before after : Option (List ℕ)) (faults faults' : ℕ) → TellsFault fault count c failure c' before after faults faults'
     → DidDump (seen (Up old) c count) failure (seen (system_after fault new) c' count) before after faults faults'
-did_fails old new unspent c count fault stop event is failure c' before after faults faults' tells =
+did_fails old new unspent c count fault stop event is stay failure c' before after faults faults' tells =
     subst (λ (f : StoreFault). DidDump (seen (Up old) c count) failure (seen (system_after f new) c' count) before after faults faults') (sym stop)
     (did_stop old new unspent c count (subst (λ (f : StoreFault). StepsDump old (Err f) new) stop event) (subst (λ (f : StoreFault). StepsAs old (Err f) new) stop is)
-    failure c' before after faults faults' (subst (λ (f : StoreFault). TellsFault f count c failure c' before after faults faults') stop tells))
+    (subst (λ (f : StoreFault). KeepsDumps old (Err f) new) stop stay) failure c' before after faults faults' (subst (λ (f : StoreFault). TellsFault f count c failure c' before after faults faults') stop tells))

@@ -13,11 +13,12 @@ use Rattle.g_crew.specs.Numbers.{AreOpen, job_in}
 use Rattle.g_console.specs.declared.progress.Failure.{Failure}
 use Rattle.g_console.specs.declared.progress.Failure.TheVariants.{Memory}
 use Rattle.g_console.specs.Parts.{IsReady, seen}
-use Rattle.g_console.specs.System.{Down, SystemBelongs, SystemFacts, Up, SameDevices, devices_in}
+use Rattle.g_console.specs.System.{Down, DumpsGrow, SystemBelongs, SystemFacts, Up, SameDevices, devices_in}
 use Rattle.g_ticks.specs.Parts.{KeepsRun}
 use Rattle.g_ticks.specs.Turning.{EndsTurn, LeftBy}
 use Rattle.g_ticks.proofs.RanLemmas.{StaysOver}
 use Rattle.g_ticks.proofs.TurningLemmas.{left_devices, numbers_are, open_is, ready_is, same_devices, system_is, text_is, turned_system}
+use Rattle.g_console.proofs.GrowLemmas.{grow_held, grow_itself}
 use Rattle.g_console.proofs.LabelLemmas.{same_itself}
 
 belongs_turned : (turn : Turn) (s : StoreFacts) → SystemBelongs (Up s) → SystemBelongs (turned_system turn s)
@@ -49,6 +50,7 @@ module _ (old new : StoreFacts) (c : CrewState) (count : ℕ) (stays : StaysOver
         tape_arms = ap (λ (d : Devices). d.rack.arms) (same_devices turn new) ∙ stays.tape_arms;
         same = subst (λ (d : Devices). SameDevices (devices_in (Up old)) d) (sym (same_devices turn new)) (record { size = stays.size; reels = stays.reels });
         belongs = λ is. belongs_turned turn new (belongs_on is);
+        dumps = λ is. subst (λ (d : Devices). DumpsGrow old.rack d.rack) (sym (same_devices turn new)) (grow_held old.rack new.rack stays.held);
         cause = (text_is number count old new c job behind there numbers failure system c' before after faults faults' turn ends).cause;
         numbers = λ none. numbers_are number count old new c job behind there numbers failure system c' before after faults faults' turn ends none;
       })
@@ -61,10 +63,20 @@ module _ (old new : StoreFacts) (c : CrewState) (count : ℕ) (stays : StaysOver
     tape_arms = ap (λ (d : Devices). d.rack.arms) (left_devices new system left) ∙ stays.tape_arms;
     same = subst (λ (d : Devices). SameDevices (devices_in (Up old)) d) (sym (left_devices new system left)) (record { size = stays.size; reels = stays.reels });
     belongs = λ is. belongs_left new system left (belongs_on is);
+    dumps = λ is. subst (λ (d : Devices). DumpsGrow old.rack d.rack) (sym (left_devices new system left)) (grow_held old.rack new.rack stays.held);
     cause = refl;
     numbers = λ none. absurd (let no : ⊥ = cc in no);
   }
 
 -- nobody took a turn
 pub none_keeps_run : (s : StoreFacts) (c : CrewState) (count : ℕ) → IsReady (Up s) c → AreOpen c.jobs → (faults : ℕ) → KeepsRun (seen (Up s) c count) None (seen (Up s) c count) faults faults
-none_keeps_run s c count ready still faults = record { ready = λ none. (ready, still); disc_arms = refl; tape_arms = refl; same = same_itself (devices_in (Up s)); belongs = λ is. is; cause = refl; numbers = λ none. refl }
+none_keeps_run s c count ready still faults = record {
+  ready = λ none. (ready, still);
+  disc_arms = refl;
+  tape_arms = refl;
+  same = same_itself (devices_in (Up s));
+  belongs = λ is. is;
+  dumps = λ is. grow_itself s.rack;
+  cause = refl;
+  numbers = λ none. refl;
+}

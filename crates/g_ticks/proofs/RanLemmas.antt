@@ -20,19 +20,20 @@ use Rattle.g_tape.specs.Rack.{is_mounted, reel}
 use Rattle.g_console.specs.System.{labels}
 use Rattle.g_console.proofs.LabelLemmas.{labels_read}
 
--- the store stays over devices of the same sizes, which nobody armed; the same reels are mounted; and it goes on belonging to them
+-- the store stays over devices of the same sizes, which nobody armed; the same reels are mounted, and they hold the same; and it goes on belonging to them
 pub record StaysOver (old new : StoreFacts) : Type 0 where
   pub size : new.online.disc.size ≡ old.online.disc.size
   pub disc_arms : new.online.disc.arms ≡ old.online.disc.arms
   pub tape_arms : new.rack.arms ≡ old.rack.arms
   pub mounted : (serial : ℕ) → is_mounted (reel serial new.rack.reels) ≡ is_mounted (reel serial old.rack.reels)
   pub reels : labels new.rack.reels ≡ labels old.rack.reels
+  pub held : told_reels new.rack ≡ told_reels old.rack
   pub told : Told old → Told new
   pub belongs : Told old → Belongs old → Belongs new
 
 pub stays_itself : (s t : StoreFacts) → t ≡ s → StaysOver s t
 stays_itself s t is = subst (λ (x : StoreFacts). StaysOver s x) (sym is)
-    (record { size = refl; disc_arms = refl; tape_arms = refl; mounted = λ serial. refl; reels = refl; told = λ told. told; belongs = λ told belongs. belongs })
+    (record { size = refl; disc_arms = refl; tape_arms = refl; mounted = λ serial. refl; reels = refl; held = refl; told = λ told. told; belongs = λ told belongs. belongs })
 
 stays_then : (s t u : StoreFacts) → StaysOver s t → StaysOver t u → StaysOver s u
 stays_then s t u one more = record {
@@ -41,6 +42,7 @@ stays_then s t u one more = record {
   tape_arms = more.tape_arms ∙ one.tape_arms;
   mounted = λ serial. more.mounted serial ∙ one.mounted serial;
   reels = more.reels ∙ one.reels;
+  held = more.held ∙ one.held;
   told = λ told. more.told (one.told told);
   belongs = λ told belongs. more.belongs (one.told told) (one.belongs told belongs);
 }
@@ -52,6 +54,7 @@ call_stays old new who call answer is = record {
   tape_arms = is.cause.tapes.arms;
   mounted = λ serial. same_mounts old.rack new.rack is.cause.tapes serial;
   reels = labels_read old.rack.reels new.rack.reels is.cause.tapes.reels;
+  held = is.cause.tapes.reels;
   told = is.told;
   belongs = is.belongs;
 }

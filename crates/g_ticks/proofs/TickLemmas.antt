@@ -28,6 +28,7 @@ use Rattle.g_console.specs.Puts.{FaultCause}
 use Rattle.g_console.specs.System.{Down, StandsAs, SystemFacts, Up, devices_in}
 use Rattle.g_ticks.proofs.DumpLemmas.{one_if}
 use Rattle.g_ticks.specs.Parts.{Comes, DumpGoes, DidDump, DidTick, DidTurn, DumpComes, Falls, GoesBy, IsThrough, KeepsRun, MayTick, MayTurn, StepsNothing, StepsTo, has_dump, left, some_job_steps}
+use Rattle.g_console.proofs.GrowLemmas.{grow_then}
 use Rattle.g_console.proofs.LabelLemmas.{same_then}
 
 -- TEXTS, one behind the other
@@ -150,6 +151,7 @@ module _ {F U : Type 0} (tariffs : Shared F (Bor Usage × Unit {0}) Charge) (tar
       tape_arms = turned.tape_arms ∙ dumped.keeps.tape_arms;
       same = same_then (devices_in (Up old)) (devices_in (Up mid)) (devices_in new) dumped.keeps.same turned.same;
       belongs = λ was. turned.belongs (dumped.keeps.belongs was);
+      dumps = λ was. grow_then old.rack mid.rack (devices_in new).rack (dumped.keeps.dumps was) (turned.dumps (dumped.keeps.belongs was));
       cause = subst (λ (n : ℕ). FaultCause failure n faults2) dumped.keeps.cause turned.cause;
       numbers = λ e. turned.numbers e ∙ dumped.keeps.numbers refl;
     }

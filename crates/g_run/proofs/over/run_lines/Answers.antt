@@ -1,4 +1,9 @@
+use Rattle.std.proofs.Common.{◌≤◌, arith}
+use Rattle.std.proofs.lemmas.List.Elements.{All-weaker}
+use Rattle.g_script.specs.declared.operator.Timed.{Timed}
+use Rattle.g_run.specs.Parts.{IsTimedWithin}
 use Rattle.g_run.proofs.LineLemmas.{all_done, all_short}
+use Rattle.g_run.proofs.LittleLemmas.{room_left}
 use Rattle.g_run.proofs.over.run_lines.Goals as goal
 
 pub returns-in-None : goal.returns-in-None
@@ -10,3 +15,8 @@ pub returns-in-Some : goal.returns-in-Some
 returns-in-Some g c =
     let first = rw c.in-Some.is at c.do_lines-system.ensures in
     all_short g.F.Fn c.args.tariff.now g.U.Fn c.args.weigh.now c.args.lines _ c.in-Some.failure _ _ _ _ _ first
+
+pub until-requires-clause-room : goal.until-requires-clause-room
+until-requires-clause-room g c =
+    room_left c.do_lines-system.result.count _ (c.do_lines-system.ensures.late c.in-None.is 1000000000 (All-weaker IsTimedWithin (λ (t : Timed). t.turn ≤ 1000000000) (λ t is. is.1) c.args.lines c.requires.within) (omega arith))
+    (c.little_is_left.ensures c.do_lines-system.result.count)

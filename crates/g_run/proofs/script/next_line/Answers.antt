@@ -1,11 +1,11 @@
-use Rattle.std.proofs.Common.{arith}
+use Rattle.std.proofs.Common.{arith, refl}
 use Rattle.g_run.proofs.LineLemmas.{line_done, line_undone}
 use Rattle.g_run.proofs.script.next_line.Goals as goal
 
 pub returns-in-None : goal.returns-in-None
 returns-in-None g c =
     let ticked = rw c.in-None.is at c.until-system.ensures in
-    line_done g.F.Fn c.args.tariff.now g.U.Fn c.args.weigh.now c.args.next _ _ c.do_line-system.result.failure _ _ _ _ _ _ _ ticked c.do_line-system.ensures
+    line_done g.F.Fn c.args.tariff.now g.U.Fn c.args.weigh.now c.args.next _ _ c.do_line-system.result.failure _ _ _ _ _ _ _ ticked refl c.do_line-system.ensures
 
 pub returns-in-Some : goal.returns-in-Some
 returns-in-Some g c =

@@ -6,7 +6,7 @@ use Rattle.g_dumper.specs.Steps.{stepped}
 use Rattle.g_monitor.specs.Refusals.{fault_line}
 use Rattle.g_plain.specs.declared.faults.StoreFault.{StoreFault}
 use Rattle.g_step.specs.DumpSteps.{Stepped}
-use Rattle.g_store.specs.Dumping.{StepsAs}
+use Rattle.g_store.specs.Dumping.{KeepsDumps, StepsAs}
 use Rattle.g_store.specs.Events.{StepsDump}
 use Rattle.g_world.specs.Texts.{dump_text}
 use Rattle.g_console.specs.Parts.{seen}
@@ -22,16 +22,18 @@ pub returns-in-Ok-Going : goal.returns-in-Ok-Going
 returns-in-Ok-Going g c =
     let event = subst (λ (x : DumpStep). StepsDump c.args.store (Ok (stepped x)) c.dump_step.new.self) c.in-Ok-Going.field-0-is c.in-Ok-Going.ensures.event in
     let steps = subst (λ (x : DumpStep). StepsAs c.args.store (Ok (stepped x)) c.dump_step.new.self) c.in-Ok-Going.field-0-is c.in-Ok-Going.ensures.steps in
-    did_going c.args.store c.dump_step.new.self c.requires.ready.0 c.args.crew.now c.args.count event steps c.requires.open (g.K.Sink.written c.args.out.now) (g.K.Sink.faults c.args.out.now)
+    let stay = subst (λ (x : DumpStep). KeepsDumps c.args.store (Ok (stepped x)) c.dump_step.new.self) c.in-Ok-Going.field-0-is c.in-Ok-Going.ensures.dumps in
+    did_going c.args.store c.dump_step.new.self c.requires.ready.0 c.args.crew.now c.args.count event steps stay c.requires.open (g.K.Sink.written c.args.out.now) (g.K.Sink.faults c.args.out.now)
 
 pub returns-in-Ok-Completed : goal.returns-in-Ok-Completed
 returns-in-Ok-Completed g c =
     let event = subst (λ (x : DumpStep). StepsDump c.args.store (Ok (stepped x)) c.dump_step.new.self) c.in-Ok-Completed.field-0-is c.in-Ok-Completed.ensures.event in
     let steps = subst (λ (x : DumpStep). StepsAs c.args.store (Ok (stepped x)) c.dump_step.new.self) c.in-Ok-Completed.field-0-is c.in-Ok-Completed.ensures.steps in
+    let stay = subst (λ (x : DumpStep). KeepsDumps c.args.store (Ok (stepped x)) c.dump_step.new.self) c.in-Ok-Completed.field-0-is c.in-Ok-Completed.ensures.dumps in
     subst (λ (f : SystemFacts). DidDump (seen (Up c.args.store) c.args.crew.now c.args.count) c.stays_up.result.failure (seen f c.args.crew.now c.args.count)
     (g.K.Sink.written c.args.out.now) (g.K.Sink.written c.stays_up.new.out) (g.K.Sink.faults c.args.out.now) (g.K.Sink.faults c.stays_up.new.out))
     (sym (ap (facts_of g.D.Disc.state g.T.Tapes.rack) c.stays_up.ensures.up))
-    (did_completed c.args.store c.dump_step.new.self c.requires.ready.0 c.args.crew.now c.args.count c.in-Ok-Completed.done event steps c.requires.open c.stays_up.result.failure (g.K.Sink.written c.args.out.now) (g.K.Sink.written c.stays_up.new.out) (g.K.Sink.faults c.args.out.now) (g.K.Sink.faults c.stays_up.new.out)
+    (did_completed c.args.store c.dump_step.new.self c.requires.ready.0 c.args.crew.now c.args.count c.in-Ok-Completed.done event steps stay c.requires.open c.stays_up.result.failure (g.K.Sink.written c.args.out.now) (g.K.Sink.written c.stays_up.new.out) (g.K.Sink.faults c.args.out.now) (g.K.Sink.faults c.stays_up.new.out)
     (c.stays_up.ensures.put (dump_text c.in-Ok-Completed.done (codes "COMPLETED")) c.dump_text.ensures))
 
 pub returns-then-spent : goal.returns-then-spent
@@ -41,7 +43,7 @@ returns-then-spent g c =
     (sym c.fails.ensures.after)
     (did_fails c.args.store c.dump_step.new.self c.requires.ready.0 c.args.crew.now c.args.count c.in-Err.fault
     (one_fault c.in-Err.fault (c.in-Err.ensures.event.spent.0 (sym c.spent.ensures ∙ c.if-spent.true)))
-    c.in-Err.ensures.event c.in-Err.ensures.steps c.fails.result.failure c.fails.new.crew (g.K.Sink.written c.args.out.now) (g.K.Sink.written c.fails.new.out) (g.K.Sink.faults c.args.out.now) (g.K.Sink.faults c.fails.new.out) c.fails.ensures.told)
+    c.in-Err.ensures.event c.in-Err.ensures.steps c.in-Err.ensures.dumps c.fails.result.failure c.fails.new.crew (g.K.Sink.written c.args.out.now) (g.K.Sink.written c.fails.new.out) (g.K.Sink.faults c.args.out.now) (g.K.Sink.faults c.fails.new.out) c.fails.ensures.told)
 
 pub returns-else-spent : goal.returns-else-spent
 returns-else-spent g c =
@@ -50,5 +52,5 @@ returns-else-spent g c =
     (sym (ap (facts_of g.D.Disc.state g.T.Tapes.rack) c.stays_up-else-spent.ensures.up))
     (did_lost c.args.store c.dump_step.new.self c.requires.ready.0 c.args.crew.now c.args.count c.args.number c.requires.number c.in-Err.fault
     (λ stop. false≢true (sym (sym c.spent.ensures ∙ c.if-spent.false) ∙ c.in-Err.ensures.event.spent.1 (ap (λ (f : StoreFault). let x : Result Stepped StoreFault = Err f in x) stop)))
-    c.in-Err.ensures.event c.in-Err.ensures.steps c.requires.open c.stays_up-else-spent.result.failure (g.K.Sink.written c.args.out.now) (g.K.Sink.written c.stays_up-else-spent.new.out) (g.K.Sink.faults c.args.out.now) (g.K.Sink.faults c.stays_up-else-spent.new.out)
+    c.in-Err.ensures.event c.in-Err.ensures.steps c.in-Err.ensures.dumps c.requires.open c.stays_up-else-spent.result.failure (g.K.Sink.written c.args.out.now) (g.K.Sink.written c.stays_up-else-spent.new.out) (g.K.Sink.faults c.args.out.now) (g.K.Sink.faults c.stays_up-else-spent.new.out)
     (c.stays_up-else-spent.ensures.put (dump_text c.args.number (codes "LOST " ++ fault_line c.in-Err.fault)) c.lost.ensures))

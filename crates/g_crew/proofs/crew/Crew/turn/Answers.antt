@@ -12,7 +12,7 @@ use Rattle.g_crew.specs.Turn.{TakesTurn}
 use Rattle.g_crew.proofs.NumberLemmas.{AreJobs-remove, AreJobs-set, IsOnly-at, remove-set}
 use Rattle.g_crew.proofs.TakingLemmas.{crew_is}
 use Rattle.g_crew.proofs.crew.Crew.turn.Goals as goal
-use Rattle.g_world.specs.World.{with_job}
+use Rattle.g_world.specs.World.{with_job, without_job}
 
 pub invariant_of-self : goal.invariant_of-self
 invariant_of-self g c =
@@ -77,3 +77,14 @@ returns-in-Err-clause-err g c =
       ap (λ (v : CrewState). job_in c.args.number v.jobs) (sym c.self.view_is) ∙ ap (λ n. job_in n items) (sym p.named) ∙ only.found,
       subst (λ (j : JobState). RanInPart g.S.Filestore.answers j.user c.args.store.now (turn_work j) c.turn.new.store) same c.in-Err.ensures.err,
     )
+
+pub returns-in-Err-clause-gone : goal.returns-in-Err-clause-gone
+returns-in-Err-clause-gone g c =
+    let p = c.in-Some.ensures in
+    let items = c.self.inside.jobs.items in
+    let there : slice_get items c.in-Some.place ≡ Some p.job = ap (λ (js : List JobState). slice_get js c.in-Some.place) (sym c.deref.ensures.value) ∙ p.there in
+    let only = IsOnly-at 1 items c.self.inside.next_job c.in-Some.place p.job c.self.invariant.rise there in
+    let target : CrewState = record { jobs = without_job c.args.number c.args.self.now.jobs; accounts = c.args.self.now.accounts; next_job = c.args.self.now.next_job } in
+    crew_is target _ _ _
+    (c.remove.ensures.items ∙ remove-set items c.in-Some.place c.turn.new.self ∙ sym only.gone ∙ ap (λ n. without_job n items) p.named ∙ ap (λ (v : CrewState). without_job c.args.number v.jobs) c.self.view_is)
+    (ap (λ (v : CrewState). v.accounts) c.self.view_is) (ap (λ (v : CrewState). v.next_job) c.self.view_is)

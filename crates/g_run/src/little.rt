@@ -1,0 +1,31 @@
+//! How much there may be left to do, of all devices.
+ghost use Rattle.std.specs.Prelude.{◌≤◌, ℕ};
+ghost use Rattle.g_console.specs.Parts.{seen};
+ghost use Rattle.g_console.specs.System.{facts_of};
+ghost use Rattle.g_ticks.specs.Parts.{dump_left, left};
+
+use g_console::System;
+use g_crew::Crew;
+use g_disc::Disc;
+use g_tape::Tapes;
+
+/// Says that no more than this is left to do: 64 jobs have at most 1,000,000 units each, and an open dump has fewer than 2^32
+/// blocks. Nothing is done.
+pub(crate) fn little_is_left<D: Disc, T: Tapes>(system: &System<D, T>, crew: &Crew)
+    ensures { (count : ℕ) → left (seen (facts_of D.state T.rack system.now) crew.now count) ≤ 4358967360 }
+{
+    let _jobs = crew.jobs();
+    dump_is_short(system);
+}
+
+/// Says that of an open dump.
+fn dump_is_short<D: Disc, T: Tapes>(system: &System<D, T>)
+    ensures { dump_left (facts_of D.state T.rack system.now) ≤ 4294967296 }
+{
+    match system {
+        System::Up(store) => {
+            let _blocks = store.dump_blocks();
+        }
+        System::Down(_, _) => {}
+    }
+}
