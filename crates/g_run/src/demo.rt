@@ -3,12 +3,14 @@ ghost use Rattle.std.specs.Prelude.{◌≡◌, ◌+◌, ◌<◌, [], ◌∷◌, 
 ghost use Rattle.g_budget.specs.Tariff.{IsTariff};
 ghost use Rattle.g_console.specs.Puts.{FaultCause, Puts};
 ghost use Rattle.g_demo.specs.Summary as spec;
+ghost use Rattle.g_disc.specs.Memory.{blank};
 ghost use Rattle.g_lines.specs.Lines.{lines_of};
 ghost use Rattle.g_sched.specs.Rule.{IsWeighRule};
 ghost use Rattle.g_script.specs.Script.{IsParsed};
 ghost use Rattle.g_tape.specs.Memory.{IsEmptyRack, memory_of};
 ghost use Rattle.g_run.specs.Demo.{IsDemoText, PutsDemo};
 
+use crate::boxed_disc::BoxedDisc;
 use crate::over::{Over, run_script};
 use g_base::NoMemory;
 use g_budget::{Charge, Tariff, Usage};
@@ -67,7 +69,7 @@ fn demo_text<F: Fn(&Usage) -> Charge, U: Fn(&Standing) -> u64>(
 {
     let text = script_of(alloc, demo)?;
     let script = script_in(alloc, text.as_slice())?;
-    let disc = MemoryDisc::new(alloc, 4_096)?;
+    let disc = zero_disc(alloc)?;
     let tapes = one_reel(alloc)?;
     let mut sink = TextSink::new(alloc);
     let Over { failure, .. } = run_script(alloc, script, &mut sink, disc, tapes, tariff, weigh);
@@ -83,6 +85,17 @@ fn script_in(alloc: Global, text: &[u8]) -> Result<Script, NoMemory>
     ensures few { IfOk result (λ script. length script.lines + 1 < 18446744073709551616) }
 {
     parse_script(alloc, text)
+}
+
+/// A disc of zeros, in a box.
+fn zero_disc(alloc: Global) -> Result<BoxedDisc<MemoryDisc>, NoMemory>
+    ensures { IfOk result (λ b. b.disc.value ≡ blank 4096) }
+{
+    let disc = MemoryDisc::new(alloc, 4_096)?;
+    match Box::new(alloc, disc) {
+        Ok(disc) => Ok(BoxedDisc { disc }),
+        Err(_) => Err(NoMemory),
+    }
 }
 
 /// A rack of one empty reel.

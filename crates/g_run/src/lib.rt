@@ -1,6 +1,7 @@
 //! The run: a script read whole, its lines done when they are due, a tick as long as something can step, and its text put.
 #![tactic(auto)]
 
+mod boxed_disc;
 mod came;
 mod demo;
 mod input;

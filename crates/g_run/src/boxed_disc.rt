@@ -1,0 +1,29 @@
+//! A disc in a box.
+use g_base::{Block, ReadFailed, WriteFailed};
+use g_disc::Disc;
+
+/// A disc in a box. A system that is down holds its devices themselves, and is handed on by value: so what moves is a pointer.
+#[derive(Drop)]
+pub(crate) struct BoxedDisc<D: Disc> {
+    pub(crate) disc: Box<D>,
+}
+
+impl<D: Disc> Disc for BoxedDisc<D> {
+    ghost state = { λ b. D.state b.disc.value };
+
+    fn size(&self) -> u32 {
+        self.disc.size()
+    }
+
+    fn read(&mut self, k: u32, into: &mut Block) -> Result<(), ReadFailed> {
+        self.disc.read(k, into)
+    }
+
+    fn write(&mut self, k: u32, from: &Block) -> Result<(), WriteFailed> {
+        self.disc.write(k, from)
+    }
+
+    fn arm(&mut self, k: u32) {
+        self.disc.arm(k);
+    }
+}
