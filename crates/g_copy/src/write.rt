@@ -7,7 +7,7 @@ ghost use Rattle.g_copy.specs.Copy.{Holds, IsCopy, OnlyAt};
 
 use crate::copy::DiscCopy;
 use crate::fault::CopyFault;
-use g_base::{Block, BlockWriter};
+use g_base::Block;
 use g_disc::Disc;
 
 /// Writes the bytes into the blocks of the copy, with zeros behind the last of them. It takes no
@@ -42,7 +42,15 @@ fn block_of(bytes: &[u8], i: usize) -> Block
 {
     let start = (512 * i).min(bytes.len());
     let end = (start + 512).min(bytes.len());
-    let mut writer = BlockWriter::new();
-    writer.put_bytes(&bytes[start..end]);
-    writer.finish()
+    padded_block(&bytes[start..end])
+}
+
+/// A block of these bytes, with zeros behind them.
+fn padded_block(bytes: &[u8]) -> Block
+    requires { length bytes.now ≤ 512 }
+    ensures { result ≡ padded 512 bytes.now }
+{
+    let mut block = [0; 512];
+    block[..bytes.len()].copy_from_slice(bytes);
+    block
 }

@@ -2,6 +2,7 @@
 ghost use Rattle.std.specs.Prelude.{◌≡◌, ◌≢◌, ◌<◌, ◌↔◌, [], ◌∷◌, ◌++◌, length, All, IfNone, IsTrue, MatchOption};
 ghost use Rattle.g_lines.specs.Lines.{lines_of};
 
+use memchr::memchr;
 use std::marker::Model;
 
 /// The lines of a text that are still to come, without their bytes 10.
@@ -66,10 +67,8 @@ fn split_at_byte(text: &[u8], byte: u8) -> Option<(&[u8], &[u8])>
         (All (λ b. b ≢ byte) text.now)
         (λ parts. (text.now ≡ parts.0.now ++ byte ∷ parts.1.now) × All (λ b. b ≢ byte) parts.0.now) }
 {
-    for (i, b) in text.iter().enumerate() {
-        if *b == byte {
-            return Some((&text[..i], &text[i + 1..]));
-        }
+    match memchr(byte, text) {
+        Some(i) => Some((&text[..i], &text[i + 1..])),
+        None => None,
     }
-    None
 }

@@ -1,5 +1,5 @@
 //! Files and directories as they are listed.
-ghost use Rattle.std.specs.Prelude.{◌≡◌, ◌++◌, map, IfOk, OnOk};
+ghost use Rattle.std.specs.Prelude.{◌≡◌, ◌++◌, map, IfOk, IsTrue, OnOk};
 ghost use Rattle.g_lines.specs.Lines.{text_of};
 ghost use Rattle.g_monitor.specs.Listing.{shown, shown_line, listed_lines, row_line};
 
@@ -26,10 +26,20 @@ pub fn push_shown(text: &mut Text, line: &[u8]) -> Result<(), NoMemory>
     ensures { OnOk result (text.new ≡ text.old ++ shown_line line.now) }
 {
     text.extend(b"| ")?;
+    if are_printed(line) {
+        return text.extend(line);
+    }
     for byte in line {
         text.push(shown(*byte))?;
     }
     Ok(())
+}
+
+/// Whether each byte can be printed, so that the line is shown as it is.
+fn are_printed(line: &[u8]) -> bool
+    ensures { IsTrue result → map shown line.now ≡ line.now }
+{
+    line.iter().all(|byte| (32..=126).contains(byte))
 }
 
 /// Puts a file with its length in bytes behind the text, as the listing of a directory has it, without a byte 10. Where

@@ -42,9 +42,10 @@ fn is_version_of(users: &[UserRec], name: &Full, file: &FileRec) -> bool
     requires { file.now.owner < length users.now }
     ensures { result ≡ is_version_of name.now (full_of users.now file.now) }
 {
-    name.user == users[file.owner as usize].user
-        && name.local == file.local
+    // Names differ most in their local part.
+    name.local == file.local
         && name.lang == file.lang
+        && name.user == users[file.owner as usize].user
 }
 
 /// The greatest generation of the files of this user, local name and language, or 0.

@@ -5,5 +5,5 @@ use Rattle.g_copy.proofs.write.block_of.Goals as goal
 
 pub returns : goal.returns
 returns c =
-    c.finish.ensures
-    ∙ ap (padded 512) (c.put_bytes.ensures ∙ rw (c.new-writer.ensures, c.min-end.ensures, c.min-start.ensures) (block-clipped c.args.bytes.now c.args.i))
+    c.padded_block.ensures
+    ∙ ap (padded 512) (rw (c.min-end.ensures, c.min-start.ensures) (block-clipped c.args.bytes.now c.args.i))
