@@ -1,8 +1,8 @@
 -- WHAT DEVICES COUNT in an event, by its answer.
 use Rattle.std.proofs.Common.{◌≡◌, ℕ, refl, sym, ◌∙◌, ap, arith}
 use Rattle.std.specs.Prelude.{Result, Err}
-use Rattle.g_base.specs.Counts.{HasRisenBy, Rose, RoseBy}
-use Rattle.g_base.proofs.CountLemmas.{HasRisenBy-Rose, HasRisenBy-none, RoseBy-none}
+use Rattle.g_base.specs.Counts.{Rose, RoseBy}
+use Rattle.g_base.proofs.CountLemmas.{HasRisenBy-Rose, RoseBy-none}
 use Rattle.g_disc.specs.Disc.{Causes}
 use Rattle.g_plain.specs.declared.faults.StoreFault.{StoreFault}
 use Rattle.g_plain.specs.declared.faults.StoreFault.TheVariants.{DiscReadFault, Stopped, TapeReadFault}
@@ -10,6 +10,7 @@ use Rattle.g_step.specs.CallStep.{Cut, DiscRead, Outcome, Plain, TapeRead}
 use Rattle.g_world.specs.Devices.{Devices}
 use Rattle.g_world.specs.Events.{OutcomeTold}
 use Rattle.g_world.specs.Moves.{EventCounted, cuts_in, disc_reads_in, tape_reads_in}
+use Rattle.g_world.proofs.CountLemmas.{disc_failed, none_failed, none_rose}
 
 -- an event that writes no tape: each count moves with its own answer
 pub record OfDisc {A : Type 0} (answer : Result A StoreFault) (old new : Devices) : Type 0 where
@@ -18,9 +19,6 @@ pub record OfDisc {A : Type 0} (answer : Result A StoreFault) (old new : Devices
   pub tape_writes : new.rack.write_faults ≡ old.rack.write_faults
   pub tape_read : answer ≡ Err TapeReadFault → Rose old.rack.read_faults new.rack.read_faults
   pub tape_read_only : (answer ≡ Err TapeReadFault → ⊥) → new.rack.read_faults ≡ old.rack.read_faults
-
-none_rose : (a b : ℕ) → b ≡ a → HasRisenBy 0 a b
-none_rose a b e = HasRisenBy-none (omega (arith, e))
 
 one_zero : {X : Type 0} → ◌≡◌ {A = ℕ} 1 0 → X
 one_zero e = let no : ⊥ = omega arith in absurd no
@@ -33,7 +31,7 @@ module _ {A : Type 0} (answer : Result A StoreFault) (old new : Devices) (is : O
       let cut = is.disc.writes_kept (λ e. let no : ◌≡◌ {A = Outcome} Plain Cut = told.cut e in cc) in record {
         disc_reads_rose = none_rose old.disc.read_faults new.disc.read_faults disc;
         tape_reads_rose = none_rose old.rack.read_faults new.rack.read_faults tape;
-        cuts_rose = (0, 0, refl, none_rose old.disc.write_faults new.disc.write_faults cut, none_rose old.rack.write_faults new.rack.write_faults is.tape_writes);
+        cuts_rose = none_failed old new cut is.tape_writes;
         no_disc_read = λ e. disc;
         no_tape_read = λ e. tape;
         no_cut = λ e. (cut, is.tape_writes);
@@ -45,7 +43,7 @@ module _ {A : Type 0} (answer : Result A StoreFault) (old new : Devices) (is : O
       let cut = is.disc.writes_kept (λ e. let no : ◌≡◌ {A = Outcome} DiscRead Cut = told.cut e in cc) in record {
         disc_reads_rose = HasRisenBy-Rose (is.disc.reads_rose told.told);
         tape_reads_rose = none_rose old.rack.read_faults new.rack.read_faults tape;
-        cuts_rose = (0, 0, refl, none_rose old.disc.write_faults new.disc.write_faults cut, none_rose old.rack.write_faults new.rack.write_faults is.tape_writes);
+        cuts_rose = none_failed old new cut is.tape_writes;
         no_disc_read = λ e. one_zero e;
         no_tape_read = λ e. tape;
         no_cut = λ e. (cut, is.tape_writes);
@@ -57,7 +55,7 @@ module _ {A : Type 0} (answer : Result A StoreFault) (old new : Devices) (is : O
       let cut = is.disc.writes_kept (λ e. let no : ◌≡◌ {A = Outcome} TapeRead Cut = told.cut e in cc) in record {
         disc_reads_rose = none_rose old.disc.read_faults new.disc.read_faults disc;
         tape_reads_rose = HasRisenBy-Rose (is.tape_read told.told);
-        cuts_rose = (0, 0, refl, none_rose old.disc.write_faults new.disc.write_faults cut, none_rose old.rack.write_faults new.rack.write_faults is.tape_writes);
+        cuts_rose = none_failed old new cut is.tape_writes;
         no_disc_read = λ e. disc;
         no_tape_read = λ e. one_zero e;
         no_cut = λ e. (cut, is.tape_writes);
@@ -69,7 +67,7 @@ module _ {A : Type 0} (answer : Result A StoreFault) (old new : Devices) (is : O
       let tape = is.tape_read_only (λ e. let no : ◌≡◌ {A = Outcome} Cut TapeRead = told.tape_read e in cc) in record {
         disc_reads_rose = none_rose old.disc.read_faults new.disc.read_faults disc;
         tape_reads_rose = none_rose old.rack.read_faults new.rack.read_faults tape;
-        cuts_rose = (1, 0, refl, HasRisenBy-Rose (is.disc.writes_rose told.told), none_rose old.rack.write_faults new.rack.write_faults is.tape_writes);
+        cuts_rose = disc_failed old new (is.disc.writes_rose told.told) is.tape_writes;
         no_disc_read = λ e. disc;
         no_tape_read = λ e. tape;
         no_cut = λ e. one_zero e;

@@ -12,6 +12,7 @@ use Rattle.g_world.specs.Devices.{Devices}
 use Rattle.g_world.specs.Moves.{EventCounted}
 use Rattle.g_world.specs.Texts.{operator_line}
 use Rattle.g_world.specs.World.{World, says}
+use Rattle.g_world.proofs.CountLemmas.{none_failed}
 use Rattle.g_crew.specs.Crew.{CrewState}
 use Rattle.g_console.specs.declared.progress.Failure.{Failure}
 use Rattle.g_console.specs.Arming.{HasArmed, disc_armed, tape_armed}
@@ -57,7 +58,7 @@ disc_counted : (k : ℕ) (d : Devices) → EventCounted Plain 1 0 d (disc_armed 
 disc_counted k d = record {
   disc_reads_rose = none_rose d.disc.read_faults;
   tape_reads_rose = none_rose d.rack.read_faults;
-  cuts_rose = (0, 0, refl, none_rose d.disc.write_faults, none_rose d.rack.write_faults);
+  cuts_rose = none_failed d (disc_armed k d) refl refl;
   no_disc_read = λ e. refl;
   no_tape_read = λ e. refl;
   no_cut = λ e. (refl, refl);
@@ -69,7 +70,7 @@ tape_counted : (k : ℕ) (d : Devices) → EventCounted Plain 0 1 d (tape_armed 
 tape_counted k d = record {
   disc_reads_rose = none_rose d.disc.read_faults;
   tape_reads_rose = none_rose d.rack.read_faults;
-  cuts_rose = (0, 0, refl, none_rose d.disc.write_faults, none_rose d.rack.write_faults);
+  cuts_rose = none_failed d (tape_armed k d) refl refl;
   no_disc_read = λ e. refl;
   no_tape_read = λ e. refl;
   no_cut = λ e. (refl, refl);

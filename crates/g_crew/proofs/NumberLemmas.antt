@@ -1,11 +1,12 @@
 -- Jobs by number: the order of numbers is kept, and a job at a place is the one of its number.
-use Rattle.std.proofs.Common.{◌≡◌, ◌+◌, ◌<◌, ◌≤◌, ◌∙◌, ◌==◌, ◌++◌, ◌∷◌, [], Bool, List, None, Some, ap, arith, cond, eq-eqb, false, filter, length, length-set, ne_eqb, not, refl, set, slice_get, subst, suc, sym, true, zero, ℕ}
+use Rattle.std.proofs.Common.{◌≡◌, ◌+◌, ◌<◌, ◌≤◌, ◌∙◌, ◌==◌, ◌++◌, ◌∷◌, [], All, Bool, List, None, Some, ap, arith, cond, eq-eqb, false, filter, length, length-set, ne_eqb, not, refl, set, slice_get, subst, suc, sym, true, zero, ℕ}
 use Rattle.std.specs.List.{remove}
 use Rattle.std.proofs.lemmas.Bool.{cond_both}
 use Rattle.std.proofs.lemmas.List.{drop-set-lt, length_push, take-set}
 use Rattle.std.proofs.lemmas.List.Edits.{length-remove}
-use Rattle.std.proofs.lemmas.Option.{none-some, same_Some, slice_get_within}
-use Rattle.g_crew.specs.Numbers.{AreJobs, Rise, job_in}
+use Rattle.std.proofs.lemmas.List.Elements.{All-filter, All-get_or, All-nil, All-push, All-set}
+use Rattle.std.proofs.lemmas.Option.{get_or_from_slice_get, none-some, same_Some, slice_get_within}
+use Rattle.g_crew.specs.Numbers.{AreJobs, IsAllowed, Rise, job_in}
 use Rattle.g_job.specs.State.{JobState}
 use Rattle.g_crew.proofs.AccountLemmas.{cond_none}
 use Rattle.g_world.specs.World.{with_job, without_job}
@@ -139,19 +140,32 @@ AreJobs-remove jobs next place j are there =
     record {
       few = omega (arith, are.few, length-remove jobs place (slice_get_within jobs place j there));
       rise = subst (λ ks. Rise 1 ks next) only.gone (Rise-filter (λ (k : JobState). not (k.number == j.number)) 1 jobs next are.rise);
+      allowed = subst (λ ks. All IsAllowed ks) only.gone (All-filter (λ (k : JobState). not (k.number == j.number)) IsAllowed jobs are.allowed);
     }
 
 -- with a job behind the others
-pub AreJobs-push : (jobs : List JobState) (next : ℕ) (j : JobState) → AreJobs jobs next → length jobs < 64 → j.number ≡ next → AreJobs (jobs ++ j ∷ []) (next + 1)
-AreJobs-push jobs next j are room is = record { few = omega (arith, room, length_push jobs j); rise = Rise-push 1 jobs next j are.rise is }
+pub AreJobs-push : (jobs : List JobState) (next : ℕ) (j : JobState) → AreJobs jobs next → length jobs < 64 → j.number ≡ next → IsAllowed j → AreJobs (jobs ++ j ∷ []) (next + 1)
+AreJobs-push jobs next j are room is allowed = record {
+  few = omega (arith, room, length_push jobs j);
+  rise = Rise-push 1 jobs next j are.rise is;
+  allowed = All-push IsAllowed jobs j are.allowed allowed;
+}
 
--- with another in the place of one of the same number
-pub AreJobs-set : (jobs : List JobState) (next place : ℕ) (j k : JobState) → AreJobs jobs next → slice_get jobs place ≡ Some j → k.number ≡ j.number → AreJobs (set jobs place k) next
-AreJobs-set jobs next place j k are there is = record { few = omega (arith, are.few, length-set jobs place k); rise = Rise-set 1 jobs next place j k are.rise there is }
+-- with another in the place of one of the same number and allowance
+pub AreJobs-set : (jobs : List JobState) (next place : ℕ) (j k : JobState) → AreJobs jobs next → slice_get jobs place ≡ Some j → k.number ≡ j.number → k.allowance ≡ j.allowance
+    → AreJobs (set jobs place k) next
+AreJobs-set jobs next place j k are there is same = record {
+  few = omega (arith, are.few, length-set jobs place k);
+  rise = Rise-set 1 jobs next place j k are.rise there is;
+  allowed = All-set IsAllowed jobs place k (subst (λ (n : ℕ). n ≤ 1000000) (sym same) here) are.allowed;
+}
+  where
+    here : IsAllowed j
+    here = subst IsAllowed (get_or_from_slice_get jobs place j j there) (All-get_or IsAllowed jobs place j (slice_get_within jobs place j there) are.allowed)
 
 -- with nobody
 pub AreJobs-none : (jobs : List JobState) (next : ℕ) → AreJobs jobs next → AreJobs [] next
-AreJobs-none jobs next are = record { few = omega arith; rise = Rise-next 1 jobs next are.rise }
+AreJobs-none jobs next are = record { few = omega arith; rise = Rise-next 1 jobs next are.rise; allowed = All-nil IsAllowed }
 
 -- what was written at a place is taken out there
 pub remove-set : (jobs : List JobState) (place : ℕ) (j : JobState) → remove (set jobs place j) place ≡ remove jobs place

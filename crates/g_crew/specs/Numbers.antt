@@ -11,10 +11,15 @@ abbrev pub Rise : ℕ → List JobState → ℕ → Type 0
 Rise low [] next = low ≤ next
 Rise low (j ∷ jobs) next = (low ≤ j.number) × Rise (j.number + 1) jobs next
 
--- THE RULES OF A CREW: at most 64 jobs, in order of their numbers, which are given from 1 on
+-- an allowance of at most 1,000,000 units of TIME
+abbrev pub IsAllowed : JobState → Type 0
+IsAllowed j = j.allowance ≤ 1000000
+
+-- THE RULES OF A CREW: at most 64 jobs, in order of their numbers, which are given from 1 on, each with an allowance that a job may have
 pub record AreJobs (jobs : List JobState) (next : ℕ) : Type 0 where
   pub few : length jobs ≤ 64
   pub rise : Rise 1 jobs next
+  pub allowed : All IsAllowed jobs
 
 -- every job can take a turn
 abbrev pub AreOpen : List JobState → Type 0

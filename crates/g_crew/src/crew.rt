@@ -131,6 +131,7 @@ impl Crew {
     fn push(&mut self, job: Job) -> Result<u64, NotTaken>
         requires few { length self.old.jobs < 64 }
         requires next { job.number ≡ self.old.next_job }
+        requires allowed { job.allowance ≤ 1000000 }
         requires numbers { self.old.next_job + 1 < 18446744073709551616 }
         ensures ok { IfOk result (λ number. (number ≡ self.old.next_job) × (self.new ≡ record self.old {
           jobs = self.old.jobs ++ job ∷ [];

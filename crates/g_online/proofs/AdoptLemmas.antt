@@ -11,7 +11,7 @@ use Rattle.g_entry.specs.declared.file_rec.TapeCopy.{TapeCopy}
 use Rattle.g_entry.specs.declared.head.Head.{Head}
 use Rattle.g_entry.specs.declared.user_rec.UserRec.{UserRec}
 use Rattle.g_dirs.specs.Directory.{AreCopies, Directory, FileEntry, IsCopyOf, all_places, copy_at, entries_of, places_of}
-use Rattle.g_dirs.specs.Pages.{Covers, Remembered, all_marked}
+use Rattle.g_dirs.specs.Pages.{Covers, KeepsPages, Remembered, all_marked}
 use Rattle.g_slots.specs.declared.side.Side.{Side}
 use Rattle.g_tree.specs.Records.{IsRecords}
 use Rattle.g_contents.specs.Contents.{copied_rec, copy_of}
@@ -110,7 +110,7 @@ pins_none held size next then_next None old new touched none are = are
 pins_none held size next then_next (Some pins) old new touched none are = (let no : ⊥ = cc in absurd no)
 
 -- READY
-abbrev adopted : ℕ → Tapes → Memory → Remembered → Memory
+abbrev pub adopted : ℕ → Tapes → Memory → Remembered → Memory
 adopted last copies m pages = record m {
   head = head_after (is_some m.pins) (record m.head { last_dump = last });
   files = map (copied_rec copies) m.files;
@@ -118,17 +118,15 @@ adopted last copies m pages = record m {
 }
 
 adopt_set_ready : (last : ℕ) (copies : Tapes) (before : DiscState) (m : Memory) (pages : Remembered) (o : OnlineFacts) → facts_of before m ≡ o → IsKept before m → IsAllowed (Adopt last copies) o
-    → pages ≡ all_marked m.pages → StillRemembers m.pages pages → ((side : Side) (d : Directory) → Covers d side pages)
+    → KeepsPages m.pages pages → StillRemembers m.pages pages → ((side : Side) → Covers (directory_in m) side m.pages → Covers (directory_in (adopted last copies m pages)) side pages)
     → IsReady (Adopt last copies) before m (adopted last copies m pages)
-adopt_set_ready last copies before m pages o is kept allowed marks remembers covers =
+adopt_set_ready last copies before m pages o is kept allowed same remembers covers =
     let n : Memory = adopted last copies m pages in
     let was : IsAgreed before m = kept.agreed (allowed_live (Adopt last copies) before m o is allowed) in
     let fits = (allowed_here (Adopt last copies) before m o is allowed).fits in
     let old : List FileEntry = entries_of m.files m.online in
     let new : List FileEntry = entries_of (map (copied_rec copies) m.files) m.online in
-    make_ready (Adopt last copies) before m n o is kept allowed refl refl refl refl refl
-    (record { a = ap (λ (p : Remembered). p.a) marks; b = ap (λ (p : Remembered). p.b) marks })
-    remembers (λ s covered. covers s (directory_in n))
+    make_ready (Adopt last copies) before m n o is kept allowed refl refl refl refl refl same remembers covers
     refl (touched_stays before.held before.size m.head.next_stamp old m.touched m.pins was.pins)
     (adopt_contents before.held (is_some m.pins) m.head m.users m.files m.online last copies)
     (copies_noted copies m.online m.files was.copies)
@@ -142,15 +140,27 @@ adopt_set_ready last copies before m pages o is kept allowed marks remembers cov
     })
     (pins_none before.held before.size m.head.next_stamp n.head.next_stamp m.pins old new m.touched fits.0 was.pins)
 
+-- where what has changed is marked
+pub noted_ready : (last : ℕ) (copies listed : Tapes) (before : DiscState) (m : Memory) (pinned : Bool) (head : Head) (users : List UserRec) (files : List FileRec) (pages : Remembered) (o : OnlineFacts)
+    → listed ≡ copies → pinned ≡ is_some m.pins → head ≡ head_after pinned (record m.head { last_dump = last }) → users ≡ m.users → files ≡ map (copied_rec listed) m.files
+    → facts_of before m ≡ o → IsKept before m → IsAllowed (Adopt last copies) o
+    → KeepsPages m.pages pages → StillRemembers m.pages pages → ((side : Side) → Covers (directory_in m) side m.pages → Covers (directory_in (adopted last copies m pages)) side pages)
+    → IsReady (Adopt last copies) before m (record m { head = head; users = users; files = files; pages = pages })
+noted_ready last copies listed before m pinned head users files pages o listed_is pinned_is heads users_are files_are is kept allowed same remembers covers =
+    let top : head ≡ head_after (is_some m.pins) (record m.head { last_dump = last }) = heads ∙ ap (λ (b : Bool). head_after b (record m.head { last_dump = last })) pinned_is in
+    let them : files ≡ map (copied_rec copies) m.files = files_are ∙ ap (λ (cs : Tapes). map (copied_rec cs) m.files) listed_is in
+    subst (IsReady (Adopt last copies) before m) (λ i. record m { head = (sym top) i; users = (sym users_are) i; files = (sym them) i; pages = pages })
+    (adopt_set_ready last copies before m pages o is kept allowed same remembers covers)
+
+-- where all is marked
 pub adopt_ready : (last : ℕ) (copies listed : Tapes) (before : DiscState) (m : Memory) (pinned : Bool) (head : Head) (users : List UserRec) (files : List FileRec) (pages : Remembered) (o : OnlineFacts)
     → listed ≡ copies → pinned ≡ is_some m.pins → head ≡ head_after pinned (record m.head { last_dump = last }) → users ≡ m.users → files ≡ map (copied_rec listed) m.files
     → facts_of before m ≡ o → IsKept before m → IsAllowed (Adopt last copies) o → pages ≡ all_marked m.pages → StillRemembers m.pages pages → ((side : Side) (d : Directory) → Covers d side pages)
     → IsReady (Adopt last copies) before m (record m { head = head; users = users; files = files; pages = pages })
 adopt_ready last copies listed before m pinned head users files pages o listed_is pinned_is heads users_are files_are is kept allowed marks remembers covers =
-    let top : head ≡ head_after (is_some m.pins) (record m.head { last_dump = last }) = heads ∙ ap (λ (b : Bool). head_after b (record m.head { last_dump = last })) pinned_is in
-    let them : files ≡ map (copied_rec copies) m.files = files_are ∙ ap (λ (cs : Tapes). map (copied_rec cs) m.files) listed_is in
-    subst (IsReady (Adopt last copies) before m) (λ i. record m { head = (sym top) i; users = (sym users_are) i; files = (sym them) i; pages = pages })
-    (adopt_set_ready last copies before m pages o is kept allowed marks remembers covers)
+    noted_ready last copies listed before m pinned head users files pages o listed_is pinned_is heads users_are files_are is kept allowed
+    (record { a = ap (λ (p : Remembered). p.a) marks; b = ap (λ (p : Remembered). p.b) marks })
+    remembers (λ s covered. covers s (directory_in (adopted last copies m pages)))
 
 -- what the tree asks for
 pub adopt_rules : (last : ℕ) (copies listed : Tapes) (before : DiscState) (m : Memory) (o : OnlineFacts) → listed ≡ copies → facts_of before m ≡ o → IsKept before m → IsAllowed (Adopt last copies) o

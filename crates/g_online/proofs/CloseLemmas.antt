@@ -14,8 +14,8 @@ use Rattle.g_entry.specs.declared.file_rec.TapeCopy.{TapeCopy}
 use Rattle.g_entry.specs.declared.user_rec.UserRec.{UserRec}
 use Rattle.g_slots.specs.declared.side.Side.{Side}
 use Rattle.g_dirs.specs.Commit.{OldOrNew}
-use Rattle.g_dirs.specs.Directory.{Directory, FileEntry, copy_at, directory_of, entries_of}
-use Rattle.g_dirs.specs.Pages.{Covers, Remembered, all_marked}
+use Rattle.g_dirs.specs.Directory.{FileEntry, copy_at, directory_of, entries_of}
+use Rattle.g_dirs.specs.Pages.{Remembered, marked}
 use Rattle.g_tree.specs.Records.{IsRecords}
 use Rattle.g_contents.specs.Contents.{Contents, Holds, copied_rec, copy_of, has, with_copies, with_intent}
 use Rattle.g_contents.specs.Facts.{OnlineFacts, Pin, noted}
@@ -27,14 +27,17 @@ use Rattle.g_online.specs.Allowed.{IsAllowed, KeepsRules}
 use Rattle.g_online.specs.Change.{changed, closed, unjammed}
 use Rattle.g_online.specs.Committed.{HasCommitted, commit_blocks}
 use Rattle.g_online.specs.Done.{HasChanged, HasClosed, HasStopped, IsApplied, StoppedClosing}
-use Rattle.g_online.specs.Dumped.{lost_places, noted_in, pinned_in}
+use Rattle.g_online.specs.Dumped.{MarksMade, lost_places, noted_in, pinned_in}
 use Rattle.g_online.specs.Kept.{AreNoted, AreWhole, IsFileOf, IsKept, IsPinned, Memory, PinsAre, WaitsFor, WaitsPinned, directory_in, facts_of, has_stamp, pin_of, pins_of}
 use Rattle.g_online.specs.Pins.{IsClosing}
-use Rattle.g_online.proofs.AdoptLemmas.{adopt_ready, adopt_rules}
+use Rattle.g_online.proofs.AdoptLemmas.{adopt_rules, noted_ready}
+use Rattle.g_online.proofs.CloseMarkLemmas.{covers_noted}
 use Rattle.g_online.proofs.PinLostLemmas.{gone_kept, let_go, lost_blocks, no_numbers}
-use Rattle.g_online.proofs.ReadyLemmas.{StillRemembers}
+use Rattle.g_online.proofs.ReadyLemmas.{CoversBut, StillRemembers}
+use Rattle.g_online.proofs.RecordLemmas.{keeps_marked, keeps_then}
 use Rattle.g_online.proofs.StepLemmas.{IsReady, applied, kept_behind, pins_told}
 use Rattle.g_online.proofs.TieLemmas.{all_files, tied}
+use Rattle.g_online.proofs.UnloadLemmas.{remembers_pages}
 
 abbrev Tapes : Type 0
 Tapes = List (ℕ × TapeCopy)
@@ -176,11 +179,15 @@ module _ (last : ℕ) (before : DiscState) (m : Memory) (may : IsToClose last be
     abbrev pub shut : List UserRec → List FileRec → Remembered → Memory
     shut users noted_files pages = record gone { head = record m.head { last_dump = last; intent = None }; users = users; files = noted_files; pages = pages }
 
-    pub close_ready : (users : List UserRec) (noted_files : List FileRec) (pages : Remembered) → users ≡ m.users → noted_files ≡ map (copied_rec (noted_in pins)) m.files
-        → pages ≡ all_marked m.pages → StillRemembers m.pages pages → ((side : Side) (d : Directory) → Covers d side pages) → IsReady (Adopt last (noted_in pins)) before gone (shut users noted_files pages)
-    close_ready users noted_files pages users_are noted_are marks remembers covers =
-        adopt_ready last (noted_in pins) (noted_in pins) before gone false (record m.head { last_dump = last; intent = None }) users noted_files pages (facts_of before gone)
-        refl refl refl users_are noted_are refl gone_is allowed marks remembers covers
+    pub close_ready : (users : List UserRec) (noted_files : List FileRec) (first pages : Remembered) → users ≡ m.users → noted_files ≡ map (copied_rec (noted_in pins)) m.files
+        → first ≡ marked 0 m.pages → StillRemembers m.pages first → CoversBut 0 m.pages first → MarksMade (copied_rec (noted_in pins)) m.files first pages
+        → IsReady (Adopt last (noted_in pins)) before gone (shut users noted_files pages)
+    close_ready users noted_files first pages users_are noted_are head_marked remembers covers marks =
+        noted_ready last (noted_in pins) (noted_in pins) before gone false (record m.head { last_dump = last; intent = None }) users noted_files pages (facts_of before gone)
+        refl refl refl users_are noted_are refl gone_is allowed
+        (keeps_then m.pages first pages (keeps_marked 0 m.pages first head_marked) marks.pages)
+        (λ b was. remembers_pages first pages marks.pages b (remembers b was))
+        (λ s was. covers_noted (noted_in pins) s m.head (record m.head { last_dump = last; intent = None }) m.users m.files m.online m.pages first pages covers marks was)
 
     -- who counts as changed behind it
     close_noted : (users : List UserRec) (noted_files : List FileRec) (all touched : List ℕ) → users ≡ m.users → noted_files ≡ map (copied_rec (noted_in pins)) m.files → all ≡ m.touched → touched ≡ []
@@ -194,14 +201,15 @@ module _ (last : ℕ) (before : DiscState) (m : Memory) (may : IsToClose last be
         (subst (λ (ns : List ℕ). AreNoted (length m.users) (entries_of (map (copied_rec (noted_in (pinned_in m.pins))) m.files) m.online) m.touched ns) (sym none)
         (noted_closed (length m.users) before.size m.head.next_stamp m.files m.online m.changed m.touched m.pins may.some was.noted was.pins)))))
 
-    module _ (users : List UserRec) (noted_files : List FileRec) (marks : Remembered) (all touched : List ℕ) (users_are : users ≡ m.users) (noted_are : noted_files ≡ map (copied_rec (noted_in pins)) m.files)
-        (marks_are : marks ≡ all_marked m.pages) (remembers : StillRemembers m.pages marks) (covers : (side : Side) (d : Directory) → Covers d side marks) (all_is : all ≡ m.touched) (none : touched ≡ [])
+    module _ (users : List UserRec) (noted_files : List FileRec) (first marks : Remembered) (all touched : List ℕ) (users_are : users ≡ m.users) (noted_are : noted_files ≡ map (copied_rec (noted_in pins)) m.files)
+        (head_marked : first ≡ marked 0 m.pages) (remembers : StillRemembers m.pages first) (covers : CoversBut 0 m.pages first) (makes : MarksMade (copied_rec (noted_in pins)) m.files first marks)
+        (all_is : all ≡ m.touched) (none : touched ≡ [])
         (after : DiscState) (next : Side) (pages : Remembered) (live : Bool) where
       abbrev behind : Memory
       behind = record (shut users noted_files marks) { side = next; pages = pages; live = live }
 
       ready : IsReady (Adopt last (noted_in pins)) before gone (shut users noted_files marks)
-      ready = close_ready users noted_files marks users_are noted_are marks_are remembers covers
+      ready = close_ready users noted_files first marks users_are noted_are head_marked remembers covers makes
 
       pub closed_kept : (result : Result (Unit {0}) OnlineFault) (online : List (ℕ × DiscCopy)) → online ≡ m.online
           → OnOk result (HasCommitted (directory_of (record m.head { last_dump = last; intent = None }) users noted_files online) before after m.side next marks pages) → {k : ℕ} → WritesOnly k before after result

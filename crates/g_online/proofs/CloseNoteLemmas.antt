@@ -4,7 +4,7 @@ use Rattle.std.specs.Prelude.{Contains}
 use Rattle.std.specs.FinMap as finmap
 use Rattle.std.specs.FinMap.{get-from_entries, nat_cmp-IsAntisymmetric}
 use Rattle.std.specs.Option.{option_map}
-use Rattle.std.proofs.lemmas.Bool.{cases_eq, cases_order, cond-false, cond-true, eq-eqb, le-ltb, lt-ltb, ne_eqb}
+use Rattle.std.proofs.lemmas.Bool.{cases_Bool, cases_eq, cases_order, cond-false, cond-true, eq-eqb, le-ltb, lt-ltb, ne_eqb}
 use Rattle.std.proofs.lemmas.Cmp.{nat_cmp_total}
 use Rattle.std.proofs.lemmas.List.{get_or-map, length-map}
 use Rattle.std.proofs.lemmas.List.Elements.{All-head, All-map, All-tail, Contains-get_or}
@@ -46,6 +46,35 @@ noted_found pins k stamp old p within is same =
     ap (λ (rest : List Pinned). copy_of (noted_in rest) stamp old) (drop-cons pins k p within ∙ ap (λ (q : Pinned). q ∷ drop (suc k) pins) (sym is))
     ∙ cond-true (p.stamp == stamp) (Some p.copy) (copy_of (noted_in (drop (suc k) pins)) stamp old) (eq-eqb p.stamp stamp same)
 
+-- a place that is noted is found whatever there was
+pub noted_some : (copies : Tapes) (stamp : ℕ) (old : Option TapeCopy) (copy : TapeCopy) → Some copy ≡ copy_of copies stamp None → Some copy ≡ copy_of copies stamp old
+noted_some [] stamp old copy is = (let no : ⊥ = cc in absurd no)
+noted_some (c ∷ cs) stamp old copy is = by_first (cases_Bool (c.0 == stamp)) (noted_some cs stamp old copy)
+  where
+    by_first : ((c.0 == stamp) ≡ true) ⊎ ((c.0 == stamp) ≡ false) → (Some copy ≡ copy_of cs stamp None → Some copy ≡ copy_of cs stamp old) → Some copy ≡ copy_of (c ∷ cs) stamp old
+    by_first (inl here) rest =
+        is ∙ cond-true (c.0 == stamp) (Some c.1) (copy_of cs stamp None) here ∙ sym (cond-true (c.0 == stamp) (Some c.1) (copy_of cs stamp old) here)
+    by_first (inr away) rest =
+        rest (is ∙ cond-false (c.0 == stamp) (Some c.1) (copy_of cs stamp None) away) ∙ sym (cond-false (c.0 == stamp) (Some c.1) (copy_of cs stamp old) away)
+
+pub noted_none : (copies : Tapes) (stamp : ℕ) (old : Option TapeCopy) → (let none : Option TapeCopy = None in none ≡ copy_of copies stamp None) → copy_of copies stamp old ≡ old
+noted_none [] stamp old none = refl
+noted_none (c ∷ cs) stamp old none = by_first (cases_Bool (c.0 == stamp)) (noted_none cs stamp old)
+  where
+    by_first : ((c.0 == stamp) ≡ true) ⊎ ((c.0 == stamp) ≡ false) → ((let nothing : Option TapeCopy = None in nothing ≡ copy_of cs stamp None) → copy_of cs stamp old ≡ old) → copy_of (c ∷ cs) stamp old ≡ old
+    by_first (inl here) rest =
+        let it : (let nothing : Option TapeCopy = None in nothing ≡ Some c.1) = none ∙ cond-true (c.0 == stamp) (Some c.1) (copy_of cs stamp None) here in
+        (let no : ⊥ = cc in absurd no)
+    by_first (inr away) rest =
+        cond-false (c.0 == stamp) (Some c.1) (copy_of cs stamp old) away ∙ rest (none ∙ cond-false (c.0 == stamp) (Some c.1) (copy_of cs stamp None) away)
+
+-- the record of a file for which none is noted stays, and another's has it
+pub made_some : (copies : Tapes) (r : FileRec) (copy : TapeCopy) → Some copy ≡ copy_of copies r.stamp None → (let s : FileRec = record r { tape = Some copy } in s) ≡ copied_rec copies r
+made_some copies r copy is = ap (λ (t : Option TapeCopy). let s : FileRec = record r { tape = t } in s) (noted_some copies r.stamp r.tape copy is)
+
+pub made_none : (copies : Tapes) (r : FileRec) → (let none : Option TapeCopy = None in none ≡ copy_of copies r.stamp None) → copied_rec copies r ≡ r
+made_none copies r none = ap (λ (t : Option TapeCopy). let s : FileRec = record r { tape = t } in s) (noted_none copies r.stamp r.tape none)
+
 -- LISTS that are made of lists
 pub map_same : {A B : Type 0} (f g : A → B) (xs : List A) → All (λ x. f x ≡ g x) xs → map f xs ≡ map g xs
 map_same f g [] same = refl
@@ -73,17 +102,17 @@ taped : (r : FileRec) (a b : Option TapeCopy) → a ≡ b → (let s : FileRec =
 taped r a b same = ap (λ (t : Option TapeCopy). let s : FileRec = record r { tape = t } in s) same
 
 module _ (copies : Tapes) where
-  none_noted : (r : FileRec) → r ≡ noted_below copies 0 r
+  pub none_noted : (r : FileRec) → r ≡ noted_below copies 0 r
   none_noted r =
       sym (taped r (if nat_lt r.number 0 then copy_of copies r.stamp r.tape else r.tape) r.tape (cond-false (nat_lt r.number 0) (copy_of copies r.stamp r.tape) r.tape (le-ltb r.number 0 (omega arith))))
 
-  all_noted : (number : ℕ) (r : FileRec) → r.number < number → noted_below copies number r ≡ copied_rec copies r
+  pub all_noted : (number : ℕ) (r : FileRec) → r.number < number → noted_below copies number r ≡ copied_rec copies r
   all_noted number r below =
       taped r (if nat_lt r.number number then copy_of copies r.stamp r.tape else r.tape) (copy_of copies r.stamp r.tape)
       (cond-true (nat_lt r.number number) (copy_of copies r.stamp r.tape) r.tape (lt-ltb r.number number below))
 
   -- one more
-  more_noted : (number : ℕ) (r : FileRec) → noted_at copies number (noted_below copies number r) ≡ noted_below copies (number + 1) r
+  pub more_noted : (number : ℕ) (r : FileRec) → noted_at copies number (noted_below copies number r) ≡ noted_below copies (number + 1) r
   more_noted number r =
       let C : Option TapeCopy = copy_of copies r.stamp r.tape in
       let below : Option TapeCopy = if nat_lt r.number number then C else r.tape in
@@ -172,15 +201,16 @@ noting_all copies number old new all was rules =
     (λ k d within. all_noted copies number (get_or old.files k d) (let below = rules.numbers.below k d within in omega (arith, below, all)))
 
 -- ONE FILE
-module _ (copies : Tapes) (users : List UserRec) (files : List FileRec) (rules : IsRecords users files) (number : ℕ) where
+module _ (copies : Tapes) (number : ℕ) where
   here_noted : (s : FileRec) → s.number ≡ number → noted_at copies number s ≡ copied_rec copies s
   here_noted s same =
       taped s (if s.number == number then copy_of copies s.stamp s.tape else s.tape) (copy_of copies s.stamp s.tape) (cond-true (s.number == number) (copy_of copies s.stamp s.tape) s.tape (eq-eqb s.number number same))
 
-  other_noted : (s : FileRec) → s.number ≢ number → noted_at copies number s ≡ s
+  pub other_noted : (s : FileRec) → s.number ≢ number → noted_at copies number s ≡ s
   other_noted s other =
       taped s (if s.number == number then copy_of copies s.stamp s.tape else s.tape) s.tape (cond-false (s.number == number) (copy_of copies s.stamp s.tape) s.tape (ne_eqb s.number number other))
 
+module _ (copies : Tapes) (users : List UserRec) (files : List FileRec) (rules : IsRecords users files) (number : ℕ) where
   no_number : (r : FileRec) → (let none : Option FileRec = None in none ≡ Some r) → ⊥
   no_number r e = cc
 
@@ -189,7 +219,7 @@ module _ (copies : Tapes) (users : List UserRec) (files : List FileRec) (rules :
   none_at none =
       map_itself files
       ∙ map_same (λ r. r) (noted_at copies number) files
-      (λ k d within. sym (other_noted (get_or files k d) (λ same. no_number (get_or files k d) (none ∙ number_found users files rules number (get_or files k d) (Contains-get_or files k d within) same))))
+      (λ k d within. sym (other_noted copies number (get_or files k d) (λ same. no_number (get_or files k d) (none ∙ number_found users files rules number (get_or files k d) (Contains-get_or files k d within) same))))
 
   -- there is one
   file_there : (r : FileRec) → (let one : Option FileRec = Some r in one ≡ finmap.get (by_number files) number) → Contains files r × (r.number ≡ number)
@@ -210,9 +240,23 @@ module _ (copies : Tapes) (users : List UserRec) (files : List FileRec) (rules :
       by_number s in_it (inl same) =
           cond-true (s.number == r.number) (copied_rec copies r) s (eq-eqb s.number r.number (same ∙ sym at))
           ∙ ap (copied_rec copies) (one_of_key (λ (t : FileRec). t.number) files r s (numbered_apart files rules.numbers number) there in_it (at ∙ sym same))
-          ∙ sym (here_noted s same)
+          ∙ sym (here_noted copies number s same)
       by_number s in_it (inr other) =
-          cond-false (s.number == r.number) (copied_rec copies r) s (ne_eqb s.number r.number (λ same. other (same ∙ at))) ∙ sym (other_noted s other)
+          cond-false (s.number == r.number) (copied_rec copies r) s (ne_eqb s.number r.number (λ same. other (same ∙ at))) ∙ sym (other_noted copies number s other)
+
+  -- none is noted for it
+  pub kept_here : (r : FileRec) → (let one : Option FileRec = Some r in one ≡ finmap.get (by_number files) number) → copied_rec copies r ≡ r → files ≡ map (noted_at copies number) files
+  kept_here r found same =
+      map_itself files
+      ∙ map_same (λ r. r) (noted_at copies number) files
+      (λ k d within. by_case (get_or files k d) (Contains-get_or files k d within) (cases_eq (get_or files k d).number number))
+    where
+      by_case : (s : FileRec) → Contains files s → (s.number ≡ number) ⊎ (s.number ≡ number → ⊥) → s ≡ noted_at copies number s
+      by_case s in_it (inl at) =
+          let there = file_there r found in
+          let it : r ≡ s = one_of_key (λ (t : FileRec). t.number) files r s (numbered_apart files rules.numbers number) there.0 in_it (there.1 ∙ sym at) in
+          subst (λ (t : FileRec). t ≡ copied_rec copies t) it (sym same) ∙ sym (here_noted copies number s at)
+      by_case s in_it (inr other) = sym (other_noted copies number s other)
 
   named_itself : (r : FileRec) → Contains files r → number_of users files (full_of users r) ≡ Some r.number
   named_itself r there =

@@ -28,6 +28,7 @@ pub mod AdoptLemmas
 pub mod PinLostLemmas
 pub mod PinBlockLemmas
 pub mod CloseNoteLemmas
+pub mod CloseMarkLemmas
 pub mod CloseLemmas
 pub mod PinPutLemmas
 pub mod PinWaitLemmas

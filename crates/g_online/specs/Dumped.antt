@@ -1,11 +1,13 @@
 -- WHAT IS KEPT IN MEMORY of the versions of a dump.
-use Rattle.std.specs.Prelude.{◌≡◌, ℕ, zero, suc, ◌+◌, ◌==◌, ◌&&◌, nat_lt, Bool, List, [], ◌∷◌, ◌++◌, map, filter, Option, Some, None, is_none, slice_get, if◌then◌else◌}
+use Rattle.std.specs.Prelude.{◌≡◌, ℕ, zero, suc, ◌+◌, ◌==◌, ◌&&◌, nat_lt, Bool, false, List, [], ◌∷◌, ◌++◌, map, filter, All, Option, Some, None, is_none, slice_get, if◌then◌else◌}
 use Rattle.std.specs.List.{flat_map, list_any}
 use Rattle.g_base.specs.Block.{blocks_for}
 use Rattle.g_copy.specs.declared.copy.DiscCopy.{DiscCopy}
 use Rattle.g_entry.specs.declared.file_rec.FileRec.{FileRec}
 use Rattle.g_entry.specs.declared.file_rec.TapeCopy.{TapeCopy}
+use Rattle.g_slots.specs.declared.side.Side.{Side}
 use Rattle.g_dirs.specs.Directory.{copy_at}
+use Rattle.g_dirs.specs.Pages.{KeepsPages, Remembered, marks_of}
 use Rattle.g_contents.specs.Contents.{copy_of}
 use Rattle.g_online.specs.declared.pinned.Pinned.{Pinned}
 use Rattle.g_online.specs.Kept.{copy_places}
@@ -37,6 +39,11 @@ noted_in pins = map (λ p. (p.stamp, p.copy)) pins
 -- the record with the copy that is noted for its version, if it has this number
 abbrev pub noted_at : List (ℕ × TapeCopy) → ℕ → FileRec → FileRec
 noted_at copies number r = record r { tape = if r.number == number then copy_of copies r.stamp r.tape else r.tape }
+
+-- the records of these files that are made others are marked in both slots, and nothing else has changed: a block without a mark had none before
+pub record MarksMade (made : FileRec → FileRec) (files : List FileRec) (old new : Remembered) : Type 0 where
+  pub pages : KeepsPages old new
+  pub free : (side : Side) (k : ℕ) → slice_get (marks_of side new) k ≡ Some false → (slice_get (marks_of side old) k ≡ Some false) × All (λ r. k ≡ 64 + r.number → made r ≡ r) files
 
 -- WHICH VERSIONS WAIT, by owner and then by number
 abbrev pub is_waiting : FileRec → Bool

@@ -1,10 +1,10 @@
 //! The commit that closes a dump.
-ghost use Rattle.std.specs.Prelude.{◌≡◌, is_some, map, true};
+ghost use Rattle.std.specs.Prelude.{◌≡◌, ◌<◌, IfNone, IfSome, None, is_some, map, true};
 ghost use Rattle.g_tree.specs.Records.{IsRecords};
 ghost use Rattle.g_contents.specs.Contents.{copied_rec, copy_of};
 ghost use Rattle.g_online.specs.Allowed.{KeepsRules};
 ghost use Rattle.g_online.specs.Change.{closed};
-ghost use Rattle.g_online.specs.Dumped.{noted_at, noted_in};
+ghost use Rattle.g_online.specs.Dumped.{MarksMade, noted_at, noted_in};
 ghost use Rattle.g_online.specs.Pins.{IsClosing};
 
 use crate::commit::commit;
@@ -12,6 +12,8 @@ use crate::numbers::UserNumbers;
 use crate::pinned::Pinned;
 use crate::pins::{give_lost, pinned_versions};
 use crate::{Online, OnlineFault};
+use g_base::FIRST_FILE_BLOCK;
+use g_dirs::Pages;
 use g_disc::Disc;
 use g_entry::{FileRec, Head, TapeCopy};
 use g_tree::Tree;
@@ -31,7 +33,8 @@ impl<D: Disc> Online<D> {
     {
         let pins = pinned_versions(&self.pins);
         give_lost(&mut self.pool, pins, self.tree.files());
-        note_copies(&mut self.tree, pins);
+        self.pages.changed(0);
+        note_copies(&mut self.tree, &mut self.pages, pins);
         self.head = Head {
             last_dump: last,
             intent: None,
@@ -39,7 +42,6 @@ impl<D: Disc> Online<D> {
         };
         self.pins = None;
         self.changed = mem::replace(&mut self.touched, UserNumbers::new());
-        self.pages.all_changed();
         commit(
             &mut self.disc,
             &mut self.slots,
@@ -52,49 +54,59 @@ impl<D: Disc> Online<D> {
     }
 }
 
-/// Puts the noted places on tape into the records of those versions that are still there.
-fn note_copies(tree: &mut Tree, pins: &[Pinned])
+/// Puts the noted places on tape into the records of those versions that are still there, and marks just these records.
+fn note_copies(tree: &mut Tree, pages: &mut Pages, pins: &[Pinned])
     requires { IsRecords tree.old.users (map (copied_rec (noted_in pins.now)) tree.old.files) }
     ensures users { tree.new.users ≡ tree.old.users }
     ensures files { tree.new.files ≡ map (copied_rec (noted_in pins.now)) tree.old.files }
+    ensures marks { MarksMade (copied_rec (noted_in pins.now)) tree.old.files pages.old pages.new }
 {
     let _files = tree.files();
     for number in 0..1024 {
-        note_copy(tree, pins, number);
+        note_copy(tree, pages, pins, number);
     }
 }
 
 /// The same of the file of this number, if there is one.
-fn note_copy(tree: &mut Tree, pins: &[Pinned], number: u16)
-    requires { IsRecords tree.old.users (map (noted_at (noted_in pins.now) number) tree.old.files) }
+fn note_copy(tree: &mut Tree, pages: &mut Pages, pins: &[Pinned], number: u16)
+    requires below { number < 1024 }
+    requires rules { IsRecords tree.old.users (map (noted_at (noted_in pins.now) number) tree.old.files) }
     ensures users { tree.new.users ≡ tree.old.users }
     ensures files { tree.new.files ≡ map (noted_at (noted_in pins.now) number) tree.old.files }
+    ensures marks { MarksMade (noted_at (noted_in pins.now) number) tree.old.files pages.old pages.new }
 {
     let Some(file) = tree.file_at(number) else {
         return;
     };
-    let noted = with_copy(file, pins);
+    let Some(noted) = with_copy(file, pins) else {
+        return;
+    };
     tree.put(noted);
+    pages.changed(FIRST_FILE_BLOCK + u32::from(number));
 }
 
-/// The record with the place on tape that is noted for its version, or else as it was.
-fn with_copy(file: &FileRec, pins: &[Pinned]) -> FileRec
-    ensures { result ≡ copied_rec (noted_in pins.now) file.now }
+/// The record with the place on tape that is noted for its version; none where it stays as it is.
+fn with_copy(file: &FileRec, pins: &[Pinned]) -> Option<FileRec>
+    ensures some { IfSome result (λ noted. noted ≡ copied_rec (noted_in pins.now) file.now) }
+    ensures none { IfNone result (copied_rec (noted_in pins.now) file.now ≡ file.now) }
 {
-    FileRec {
-        tape: noted_copy(pins, file.stamp, file.tape),
-        ..file.copy()
+    match noted_copy(pins, file.stamp) {
+        Some(copy) => Some(FileRec {
+            tape: Some(copy),
+            ..file.copy()
+        }),
+        None => None,
     }
 }
 
-/// The place that is noted for this stamp, or else the one there was.
-fn noted_copy(pins: &[Pinned], stamp: u64, old: Option<TapeCopy>) -> Option<TapeCopy>
-    ensures { result ≡ copy_of (noted_in pins.now) stamp old }
+/// The place that is noted for this stamp.
+fn noted_copy(pins: &[Pinned], stamp: u64) -> Option<TapeCopy>
+    ensures { result ≡ copy_of (noted_in pins.now) stamp None }
 {
     for pin in pins {
         if pin.stamp == stamp {
             return Some(pin.copy);
         }
     }
-    old
+    None
 }

@@ -1,9 +1,10 @@
 //! The store, and what is told of it without asking a device.
-ghost use Rattle.std.specs.Prelude.{◌≡◌, ◌≤◌, ℕ, List, false, true, Some, None, is_some, option_map};
+ghost use Rattle.std.specs.Prelude.{◌≡◌, ◌≤◌, ℕ, List, false, true, Some, None, is_some, option_map, unwrap_or};
 ghost use Rattle.std.specs.FinMap as finmap;
 ghost use Rattle.g_base.specs.Counts.{one_more};
 ghost use Rattle.g_tape.specs.Rack.{is_mounted, reel};
 ghost use Rattle.g_tree.specs.Records.{users_by_name};
+ghost use Rattle.g_incr.specs.Plan.{needs};
 ghost use Rattle.g_step.specs.State.{State};
 ghost use Rattle.g_step.specs.CallStep.{down};
 ghost use Rattle.g_state.specs.Meaning.{told_reels};
@@ -56,6 +57,16 @@ impl<D: Disc, T: Tapes> Store<D, T> {
         match &self.dump {
             Some(dump) => Some(dump.number()),
             None => None,
+        }
+    }
+
+    /// How many blocks of tape the open dump takes, 0 where none is open.
+    pub fn dump_blocks(&self) -> u32
+        ensures { result ≡ unwrap_or (option_map (λ d. needs d.plan) self.now.dump) 0 }
+    {
+        match &self.dump {
+            Some(dump) => dump.needs(),
+            None => 0,
         }
     }
 

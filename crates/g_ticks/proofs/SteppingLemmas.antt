@@ -16,7 +16,7 @@ use Rattle.g_tape.specs.Rack.{Rack}
 use Rattle.g_world.specs.Devices.{Devices}
 use Rattle.g_world.specs.Events.{OutcomeTold}
 use Rattle.g_world.specs.Moves.{EventCounted}
-use Rattle.g_world.proofs.CountLemmas.{happened_same, none_rose}
+use Rattle.g_world.proofs.CountLemmas.{disc_failed, happened_same, none_failed, none_rose, rack_failed}
 
 abbrev both : OnlineFacts → Rack → Devices
 both o r = record { disc = o.disc; rack = r }
@@ -60,7 +60,7 @@ module _ (d d2 : DumpFacts) (o o2 : OnlineFacts) (r r2 : Rack) where
       record {
         disc_reads_rose = HasRisenBy-Rose gone.rose;
         tape_reads_rose = none_rose r.read_faults r2.read_faults (ap (λ (x : Rack). x.read_faults) is);
-        cuts_rose = (0, 0, refl, none_rose o.disc.write_faults o2.disc.write_faults writes, none_rose r.write_faults r2.write_faults (ap (λ (x : Rack). x.write_faults) is));
+        cuts_rose = none_failed (both o r) (both o2 r2) writes (ap (λ (x : Rack). x.write_faults) is);
         no_disc_read = λ e. one_zero e;
         no_tape_read = λ e. ap (λ (x : Rack). x.read_faults) is;
         no_cut = λ e. (writes, ap (λ (x : Rack). x.write_faults) is);
@@ -74,7 +74,7 @@ module _ (d d2 : DumpFacts) (o o2 : OnlineFacts) (r r2 : Rack) where
       record {
         disc_reads_rose = none_rose o.disc.read_faults o2.disc.read_faults (ap (λ (x : OnlineFacts). x.disc.read_faults) is);
         tape_reads_rose = none_rose r.read_faults r2.read_faults reads;
-        cuts_rose = (0, 1, refl, none_rose o.disc.write_faults o2.disc.write_faults (ap (λ (x : OnlineFacts). x.disc.write_faults) is), HasRisenBy-Rose failed.rose);
+        cuts_rose = rack_failed (both o r) (both o2 r2) (ap (λ (x : OnlineFacts). x.disc.write_faults) is) failed.rose;
         no_disc_read = λ e. ap (λ (x : OnlineFacts). x.disc.read_faults) is;
         no_tape_read = λ e. reads;
         no_cut = λ e. one_zero e;
@@ -86,7 +86,7 @@ module _ (d d2 : DumpFacts) (o o2 : OnlineFacts) (r r2 : Rack) where
   disc_cut n wrote closing = record {
     disc_reads_rose = none_rose o.disc.read_faults o2.disc.read_faults (closing.causes.reads_kept (λ x. x));
     tape_reads_rose = none_rose r.read_faults r2.read_faults (block_reads d o.pins r r2 wrote);
-    cuts_rose = (1, 0, refl, HasRisenBy-Rose (closing.causes.writes_rose refl), none_rose r.write_faults r2.write_faults (block_writes d o.pins r r2 wrote));
+    cuts_rose = disc_failed (both o r) (both o2 r2) (closing.causes.writes_rose refl) (block_writes d o.pins r r2 wrote);
     no_disc_read = λ e. closing.causes.reads_kept (λ x. x);
     no_tape_read = λ e. block_reads d o.pins r r2 wrote;
     no_cut = λ e. one_zero e;

@@ -1,14 +1,51 @@
 -- What the devices count, event by event.
 use Rattle.std.proofs.Common.{◌≡◌, ℕ, ◌+◌, ◌++◌, List, [], ◌∷◌, refl, sym, ◌∙◌, subst, arith}
-use Rattle.g_base.specs.Counts.{HasRisenBy}
-use Rattle.g_base.proofs.CountLemmas.{HasRisenBy-none, HasRisenBy-then, RoseBy-none, RoseBy-then}
+use Rattle.g_base.specs.Counts.{HasRisenBy, Rose}
+use Rattle.g_base.proofs.CountLemmas.{HasRisenBy-Rose, HasRisenBy-none, HasRisenBy-then, RoseBy-none, RoseBy-then}
 use Rattle.g_step.specs.CallStep.{Outcome}
 use Rattle.g_world.specs.Devices.{Devices}
-use Rattle.g_world.specs.Moves.{Counted, EventCounted, Happened, Move, MovesCounted, counted, cuts_in, disc_reads_in, outcome_of, tape_reads_in}
+use Rattle.g_world.specs.Moves.{Counted, EventCounted, Happened, Move, MovesCounted, WritesFailed, counted, cuts_in, disc_reads_in, outcome_of, tape_reads_in}
 use Rattle.g_world.specs.World.{World}
 
 pub none_rose : (a b : ℕ) → b ≡ a → HasRisenBy 0 a b
 none_rose a b e = HasRisenBy-none (omega (arith, e))
+
+one_zero : {X : Type 0} → ◌≡◌ {A = ℕ} 1 0 → X
+one_zero e = let no : ⊥ = omega arith in absurd no
+
+-- no write failed; one of the disc did; one of the rack did
+pub none_failed : (old new : Devices) → new.disc.write_faults ≡ old.disc.write_faults → new.rack.write_faults ≡ old.rack.write_faults → WritesFailed 0 old new
+none_failed old new disc rack = record {
+  of_disc = 0;
+  of_rack = 0;
+  together = refl;
+  disc_rose = none_rose old.disc.write_faults new.disc.write_faults disc;
+  rack_rose = none_rose old.rack.write_faults new.rack.write_faults rack;
+  no_disc = λ e. disc;
+  no_rack = λ e. rack;
+}
+
+pub disc_failed : (old new : Devices) → Rose old.disc.write_faults new.disc.write_faults → new.rack.write_faults ≡ old.rack.write_faults → WritesFailed 1 old new
+disc_failed old new rose rack = record {
+  of_disc = 1;
+  of_rack = 0;
+  together = refl;
+  disc_rose = HasRisenBy-Rose rose;
+  rack_rose = none_rose old.rack.write_faults new.rack.write_faults rack;
+  no_disc = λ e. one_zero e;
+  no_rack = λ e. rack;
+}
+
+pub rack_failed : (old new : Devices) → new.disc.write_faults ≡ old.disc.write_faults → Rose old.rack.write_faults new.rack.write_faults → WritesFailed 1 old new
+rack_failed old new disc rose = record {
+  of_disc = 0;
+  of_rack = 1;
+  together = refl;
+  disc_rose = none_rose old.disc.write_faults new.disc.write_faults disc;
+  rack_rose = HasRisenBy-Rose rose;
+  no_disc = λ e. disc;
+  no_rack = λ e. one_zero e;
+}
 
 -- devices that no event took part in, and devices that are alike but for what they hold
 pub happened_same : (old new : Devices) → new.disc.read_faults ≡ old.disc.read_faults → new.disc.write_faults ≡ old.disc.write_faults → new.disc.arms ≡ old.disc.arms
@@ -16,7 +53,7 @@ pub happened_same : (old new : Devices) → new.disc.read_faults ≡ old.disc.re
 happened_same old new disc_reads disc_writes disc_arms tape_reads tape_writes tape_arms = record {
   disc_reads_rose = none_rose old.disc.read_faults new.disc.read_faults disc_reads;
   tape_reads_rose = none_rose old.rack.read_faults new.rack.read_faults tape_reads;
-  cuts_rose = (0, 0, refl, none_rose old.disc.write_faults new.disc.write_faults disc_writes, none_rose old.rack.write_faults new.rack.write_faults tape_writes);
+  cuts_rose = none_failed old new disc_writes tape_writes;
   no_disc_read = λ e. disc_reads;
   no_tape_read = λ e. tape_reads;
   no_cut = λ e. (disc_writes, tape_writes);
@@ -34,23 +71,32 @@ second_zero : (a b : ℕ) → a + b ≡ 0 → b ≡ 0
 second_zero a b e = omega (arith, e)
 
 -- ONE PART BEHIND THE OTHER
+failed_then : (m n : ℕ) (old now new : Devices) → WritesFailed m old now → WritesFailed n now new → WritesFailed (m + n) old new
+failed_then m n old now new was is = record {
+  of_disc = was.of_disc + is.of_disc;
+  of_rack = was.of_rack + is.of_rack;
+  together = let first = was.together in let second = is.together in omega (arith, first, second);
+  disc_rose = HasRisenBy-then was.disc_rose is.disc_rose;
+  rack_rose = HasRisenBy-then was.rack_rose is.rack_rose;
+  no_disc = λ e. is.no_disc (second_zero was.of_disc is.of_disc e) ∙ was.no_disc (first_zero was.of_disc is.of_disc e);
+  no_rack = λ e. is.no_rack (second_zero was.of_rack is.of_rack e) ∙ was.no_rack (first_zero was.of_rack is.of_rack e);
+}
+
 pub happened_then : (a b c d t a' b' c' d' t' : ℕ) (old now new : Devices) → Happened a b c d t old now → Happened a' b' c' d' t' now new
     → Happened (a + a') (b + b') (c + c') (d + d') (t + t') old new
-happened_then a b c d t a' b' c' d' t' old now new was is =
-    let (i, j, sum, disc_was, tape_was) = was.cuts_rose in
-    let (i', j', sum', disc_is, tape_is) = is.cuts_rose in record {
-      disc_reads_rose = HasRisenBy-then was.disc_reads_rose is.disc_reads_rose;
-      tape_reads_rose = HasRisenBy-then was.tape_reads_rose is.tape_reads_rose;
-      cuts_rose = (i + i', j + j', omega (arith, sum, sum'), HasRisenBy-then disc_was disc_is, HasRisenBy-then tape_was tape_is);
-      no_disc_read = λ e. is.no_disc_read (second_zero a a' e) ∙ was.no_disc_read (first_zero a a' e);
-      no_tape_read = λ e. is.no_tape_read (second_zero b b' e) ∙ was.no_tape_read (first_zero b b' e);
-      no_cut = λ e.
-          let now_is = is.no_cut (second_zero c c' e) in
-          let then_is = was.no_cut (first_zero c c' e) in
-          (now_is.0 ∙ then_is.0, now_is.1 ∙ then_is.1);
-      disc_armed = RoseBy-then was.disc_armed is.disc_armed;
-      tape_armed = RoseBy-then was.tape_armed is.tape_armed;
-    }
+happened_then a b c d t a' b' c' d' t' old now new was is = record {
+  disc_reads_rose = HasRisenBy-then was.disc_reads_rose is.disc_reads_rose;
+  tape_reads_rose = HasRisenBy-then was.tape_reads_rose is.tape_reads_rose;
+  cuts_rose = failed_then c c' old now new was.cuts_rose is.cuts_rose;
+  no_disc_read = λ e. is.no_disc_read (second_zero a a' e) ∙ was.no_disc_read (first_zero a a' e);
+  no_tape_read = λ e. is.no_tape_read (second_zero b b' e) ∙ was.no_tape_read (first_zero b b' e);
+  no_cut = λ e.
+      let now_is = is.no_cut (second_zero c c' e) in
+      let then_is = was.no_cut (first_zero c c' e) in
+      (now_is.0 ∙ then_is.0, now_is.1 ∙ then_is.1);
+  disc_armed = RoseBy-then was.disc_armed is.disc_armed;
+  tape_armed = RoseBy-then was.tape_armed is.tape_armed;
+}
 
 pub counted_append : (f : Outcome → ℕ) (moves more : List Move) → counted f (moves ++ more) ≡ counted f moves + counted f more
 counted_append f [] more = omega arith

@@ -117,12 +117,23 @@ abbrev pub counted : (Outcome → ℕ) → List Move → ℕ
 counted f [] = 0
 counted f (move ∷ moves) = f (outcome_of move) + counted f moves
 
+-- So many writes failed. Each was one device's: some the disc's, the others the rack's; and where none was a device's, its
+-- count stands still.
+pub record WritesFailed (n : ℕ) (old new : Devices) : Type 0 where
+  pub of_disc : ℕ
+  pub of_rack : ℕ
+  pub together : of_disc + of_rack ≡ n
+  pub disc_rose : HasRisenBy of_disc old.disc.write_faults new.disc.write_faults
+  pub rack_rose : HasRisenBy of_rack old.rack.write_faults new.rack.write_faults
+  pub no_disc : of_disc ≡ 0 → new.disc.write_faults ≡ old.disc.write_faults
+  pub no_rack : of_rack ≡ 0 → new.rack.write_faults ≡ old.rack.write_faults
+
 -- A run has at most as many failed reads of each device, and failed writes of both, as the counts rose; a count that
 -- moved has one. Each STOP line that was done armed its device once, and nobody else did.
 pub record Counted (moves : List Move) (last : World) (old new : Devices) : Type 0 where
   pub disc_reads : HasRisenBy (counted disc_reads_in moves) old.disc.read_faults new.disc.read_faults
   pub tape_reads : HasRisenBy (counted tape_reads_in moves) old.rack.read_faults new.rack.read_faults
-  pub cuts : (i : ℕ) × (j : ℕ) × (i + j ≡ counted cuts_in moves) × HasRisenBy i old.disc.write_faults new.disc.write_faults × HasRisenBy j old.rack.write_faults new.rack.write_faults
+  pub cuts : WritesFailed (counted cuts_in moves) old new
   pub no_disc_read : counted disc_reads_in moves ≡ 0 → new.disc.read_faults ≡ old.disc.read_faults
   pub no_tape_read : counted tape_reads_in moves ≡ 0 → new.rack.read_faults ≡ old.rack.read_faults
   pub no_cut : counted cuts_in moves ≡ 0 → (new.disc.write_faults ≡ old.disc.write_faults) × (new.rack.write_faults ≡ old.rack.write_faults)
@@ -133,7 +144,7 @@ pub record Counted (moves : List Move) (last : World) (old new : Devices) : Type
 pub record Happened (disc_reads tape_reads cuts disc_arms tape_arms : ℕ) (old new : Devices) : Type 0 where
   pub disc_reads_rose : HasRisenBy disc_reads old.disc.read_faults new.disc.read_faults
   pub tape_reads_rose : HasRisenBy tape_reads old.rack.read_faults new.rack.read_faults
-  pub cuts_rose : (i : ℕ) × (j : ℕ) × (i + j ≡ cuts) × HasRisenBy i old.disc.write_faults new.disc.write_faults × HasRisenBy j old.rack.write_faults new.rack.write_faults
+  pub cuts_rose : WritesFailed cuts old new
   pub no_disc_read : disc_reads ≡ 0 → new.disc.read_faults ≡ old.disc.read_faults
   pub no_tape_read : tape_reads ≡ 0 → new.rack.read_faults ≡ old.rack.read_faults
   pub no_cut : cuts ≡ 0 → (new.disc.write_faults ≡ old.disc.write_faults) × (new.rack.write_faults ≡ old.rack.write_faults)

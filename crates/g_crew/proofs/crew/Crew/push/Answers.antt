@@ -8,4 +8,5 @@ pub invariant_of-self : goal.invariant_of-self
 invariant_of-self c =
     rw c.in-Ok.ensures.items
     (AreJobs-push c.self.inside.jobs.items c.self.inside.next_job c.args.job c.self.invariant
-    (omega (arith, c.requires.few, ap (λ (v : CrewState). length v.jobs) c.self.view_is)) (c.requires.next ∙ sym (ap (λ (v : CrewState). v.next_job) c.self.view_is)))
+    (omega (arith, c.requires.few, ap (λ (v : CrewState). length v.jobs) c.self.view_is)) (c.requires.next ∙ sym (ap (λ (v : CrewState). v.next_job) c.self.view_is))
+    c.requires.allowed)

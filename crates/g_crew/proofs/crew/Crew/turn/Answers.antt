@@ -21,6 +21,7 @@ invariant_of-self g c =
     let there : slice_get items c.in-Some.place ≡ Some p.job = ap (λ (js : List JobState). slice_get js c.in-Some.place) (sym c.deref.ensures.value) ∙ p.there in
     let same : c.index_mut.result.now ≡ p.job = c.index_mut.ensures.value ∙ get_or_from_slice_get items c.in-Some.place p.job c.index_mut.result.now there in
     AreJobs-set items c.self.inside.next_job c.in-Some.place p.job c.turn.new.self c.self.invariant there (c.in-Ok.ensures.spends.0 ∙ ap (λ (j : JobState). j.number) same)
+    (c.in-Ok.ensures.spends.1 ∙ ap (λ (j : JobState). j.allowance) same)
 
 pub remove-requires : goal.remove-requires
 remove-requires g c =

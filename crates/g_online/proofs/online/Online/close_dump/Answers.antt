@@ -25,7 +25,7 @@ commit-requires-clause-marked g c =
     marked_for (Adopt c.args.last (noted_in c.pinned_versions-pins.result.now)) (g.D.Disc.state c.self.inside.disc) _ _
     (close_ready c.args.last (g.D.Disc.state c.self.inside.disc) _ (to_close c.args.last (g.D.Disc.state c.self.inside.disc) _ c.args.self.now c.self.view_is c.self.invariant c.requires.live c.requires.pinned c.requires.rules)
     c.files.result.now c.pinned_versions-pins.result.now c.files.ensures.value c.pinned_versions-pins.ensures c.give_lost.new.pool c.give_lost.ensures
-    c.note_copies.new.tree.users c.note_copies.new.tree.files c.all_changed.new.self c.note_copies.ensures.users c.note_copies.ensures.files c.all_changed.ensures.marks c.all_changed.ensures.remembers c.all_changed.ensures.covers)
+    c.note_copies.new.tree.users c.note_copies.new.tree.files c.changed.new.self c.note_copies.new.pages c.note_copies.ensures.users c.note_copies.ensures.files c.changed.ensures.marks c.changed.ensures.remembers c.changed.ensures.covers c.note_copies.ensures.marks)
     c.deref.result.now c.deref.ensures.value
 
 pub commit-requires-clause-copies : goal.commit-requires-clause-copies
@@ -33,14 +33,14 @@ commit-requires-clause-copies g c =
     copies_for (Adopt c.args.last (noted_in c.pinned_versions-pins.result.now)) (g.D.Disc.state c.self.inside.disc) _ _
     (close_ready c.args.last (g.D.Disc.state c.self.inside.disc) _ (to_close c.args.last (g.D.Disc.state c.self.inside.disc) _ c.args.self.now c.self.view_is c.self.invariant c.requires.live c.requires.pinned c.requires.rules)
     c.files.result.now c.pinned_versions-pins.result.now c.files.ensures.value c.pinned_versions-pins.ensures c.give_lost.new.pool c.give_lost.ensures
-    c.note_copies.new.tree.users c.note_copies.new.tree.files c.all_changed.new.self c.note_copies.ensures.users c.note_copies.ensures.files c.all_changed.ensures.marks c.all_changed.ensures.remembers c.all_changed.ensures.covers)
+    c.note_copies.new.tree.users c.note_copies.new.tree.files c.changed.new.self c.note_copies.new.pages c.note_copies.ensures.users c.note_copies.ensures.files c.changed.ensures.marks c.changed.ensures.remembers c.changed.ensures.covers c.note_copies.ensures.marks)
     c.deref.result.now c.deref.ensures.value
 
 pub invariant_of-self : goal.invariant_of-self
 invariant_of-self g c =
     closed_kept c.args.last (g.D.Disc.state c.self.inside.disc) _ (to_close c.args.last (g.D.Disc.state c.self.inside.disc) _ c.args.self.now c.self.view_is c.self.invariant c.requires.live c.requires.pinned c.requires.rules)
     c.files.result.now c.pinned_versions-pins.result.now c.files.ensures.value c.pinned_versions-pins.ensures c.give_lost.new.pool c.give_lost.ensures
-    c.note_copies.new.tree.users c.note_copies.new.tree.files c.all_changed.new.self c.replace-self-inside.result c.replace-self-inside.new.dest c.note_copies.ensures.users c.note_copies.ensures.files c.all_changed.ensures.marks c.all_changed.ensures.remembers c.all_changed.ensures.covers
+    c.note_copies.new.tree.users c.note_copies.new.tree.files c.changed.new.self c.note_copies.new.pages c.replace-self-inside.result c.replace-self-inside.new.dest c.note_copies.ensures.users c.note_copies.ensures.files c.changed.ensures.marks c.changed.ensures.remembers c.changed.ensures.covers c.note_copies.ensures.marks
     c.replace-self-inside.ensures.value (c.replace-self-inside.ensures.after ∙ c.new.ensures) (g.D.Disc.state c.commit.new.disc) c.commit.new.slots c.commit.new.pages c.commit.new.live
     c.commit.result c.deref.result.now c.deref.ensures.value c.commit.ensures.ok c.commit.ensures.counts c.commit.ensures.whole c.commit.ensures.lives c.commit.ensures.dies
 
@@ -48,7 +48,7 @@ pub returns : goal.returns
 returns g c =
     closing_is c.args.last (g.D.Disc.state c.self.inside.disc) _ (to_close c.args.last (g.D.Disc.state c.self.inside.disc) _ c.args.self.now c.self.view_is c.self.invariant c.requires.live c.requires.pinned c.requires.rules)
     c.files.result.now c.pinned_versions-pins.result.now c.files.ensures.value c.pinned_versions-pins.ensures c.give_lost.new.pool c.give_lost.ensures
-    c.note_copies.new.tree.users c.note_copies.new.tree.files c.all_changed.new.self c.replace-self-inside.result c.replace-self-inside.new.dest c.note_copies.ensures.users c.note_copies.ensures.files c.all_changed.ensures.marks c.all_changed.ensures.remembers c.all_changed.ensures.covers
+    c.note_copies.new.tree.users c.note_copies.new.tree.files c.changed.new.self c.note_copies.new.pages c.replace-self-inside.result c.replace-self-inside.new.dest c.note_copies.ensures.users c.note_copies.ensures.files c.changed.ensures.marks c.changed.ensures.remembers c.changed.ensures.covers c.note_copies.ensures.marks
     c.replace-self-inside.ensures.value (c.replace-self-inside.ensures.after ∙ c.new.ensures) (g.D.Disc.state c.commit.new.disc) c.commit.new.slots c.commit.new.pages c.commit.new.live
     c.args.self.now c.self.view_is c.commit.result c.deref.result.now c.deref.ensures.value c.commit.ensures.ok c.commit.ensures.stopped c.commit.ensures.counts c.commit.ensures.whole c.commit.ensures.only
     c.commit.ensures.lives c.commit.ensures.dies
