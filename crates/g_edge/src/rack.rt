@@ -1,5 +1,5 @@
 //! A rack in a folder: a file `SERIAL.tape` for each reel.
-ghost use Rattle.std.specs.Prelude.{◌<◌, ◌≤◌, ◌↔◌, All, IfOk, IsTrue, OnOk};
+ghost use Rattle.std.specs.Prelude.{◌≡◌, ◌<◌, ◌≤◌, ◌↔◌, ◌++◌, [], ◌∷◌, All, IfOk, IsTrue, OnOk};
 ghost use Rattle.g_tape.specs.Rack.{AreReels};
 ghost use Rattle.g_tape.specs.Reel.{IsReel};
 
@@ -127,7 +127,8 @@ fn open_reel(rt: &HostRuntime, folder: &str, serial: Serial) -> io::Result<FileR
 fn put_behind(reels: &mut Vec<FileReel>, reel: FileReel) -> io::Result<()>
     requires rack { AreReels reels.old.items }
     requires reel { IsReel reel }
-    ensures { OnOk result (AreReels reels.new.items) }
+    ensures rack { OnOk result (AreReels reels.new.items) }
+    ensures behind { OnOk result (reels.new.items ≡ reels.old.items ++ reel ∷ []) }
 {
     if reels.len() >= MAX_REELS || !is_above(reel.serial(), reels) {
         return Err(Error::from(ErrorKind::InvalidData));

@@ -5,8 +5,8 @@ use Rattle.g_tape.specs.Rack.{AreReels}
 use Rattle.g_edge.proofs.FileRack.{AreReels-push}
 use Rattle.g_edge.proofs.rack.put_behind.Goals as goal
 
-pub returns : goal.returns
-returns c =
+pub returns-clause-rack : goal.returns-clause-rack
+returns-clause-rack c =
     let room : length c.args.reels.now.items < 16 = search (rules, arith) in
     let above : All (λ (other : Reel). other.serial < c.args.reel.serial) c.args.reels.now.items = search (rules, arith) in
     let items : c.push.new.self.items ≡ c.args.reels.now.items ++ c.args.reel ∷ [] = search (rules, arith) in
