@@ -14,7 +14,7 @@ use std::test::Fail;
 /// What a store tells: how many users it has, the TIME of MASTER and the MONEY of MACROS, the number of the open dump, and
 /// whether reel 2 is mounted.
 #[derive(Clone, Copy, Debug, PartialEq, Eq)]
-struct Told {
+struct Facts {
     users: usize,
     time: Option<u64>,
     money: Option<u64>,
@@ -22,11 +22,11 @@ struct Told {
     mounted: bool,
 }
 
-fn told(store: &Store<MemoryDisc, MemoryTapes>) -> Option<Told> {
+fn told(store: &Store<MemoryDisc, MemoryTapes>) -> Option<Facts> {
     if store.spent() {
         return None;
     }
-    Some(Told {
+    Some(Facts {
         users: store.users().len(),
         time: store.user_time(&User::master()),
         money: store.user_money(&User::macros()),
@@ -36,7 +36,7 @@ fn told(store: &Store<MemoryDisc, MemoryTapes>) -> Option<Told> {
 }
 
 /// None: the system is down.
-fn told_by(system: &System) -> Option<Told> {
+fn told_by(system: &System) -> Option<Facts> {
     match system {
         System::Up(store) => told(store),
         System::Down(_disc, _tapes) => None,
@@ -55,7 +55,7 @@ fn what_is_told(rt: HostRuntime) -> Result<(), Fail> {
     let system = new_devices(rt.alloc())?;
     let events = [Event::Format, Event::Shut, Event::Start, Event::Mount(2)];
     let system = work(&rt, rt.alloc(), system, &events);
-    let wanted = Told {
+    let wanted = Facts {
         users: 2,
         time: Some(1_000_000),
         money: Some(1_000_000),
