@@ -138,23 +138,6 @@ pub(crate) fn bring_back(
     online.apply(alloc, &change)
 }
 
-/// No intent, as before, so many times. Behind a load nothing is remembered of the slots: the first two write all of one.
-pub(crate) fn warm(online: &mut Online<Counted>, times: u32) -> Result<(), OnlineFault>
-    requires live { online.old.live ≡ true }
-    requires tied { IsTied online.old }
-    ensures live { OnOk result (online.new.live ≡ true) }
-    ensures pins { OnOk result (online.new.pins ≡ online.old.pins) }
-    ensures tied { IsTied online.new }
-{
-    for _ in 0..times {
-        match no_intent(online) {
-            Ok(()) => {}
-            Err(fault) => return Err(fault),
-        }
-    }
-    Ok(())
-}
-
 /// No intent, as before.
 pub(crate) fn no_intent(online: &mut Online<Counted>) -> Result<(), OnlineFault>
     requires live { online.old.live ≡ true }
@@ -175,6 +158,7 @@ pub(crate) fn bytes_of(
     requires live { online.old.live ≡ true }
     requires tied { IsTied online.old }
     ensures live { online.new.live ≡ true }
+    ensures pins { online.new.pins ≡ online.old.pins }
     ensures tied { IsTied online.new }
 {
     let Some(_file) = online.tree().file_at(number) else {

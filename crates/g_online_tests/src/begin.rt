@@ -52,7 +52,7 @@ fn the_first_commit_by_hand(rt: HostRuntime) -> Result<(), Fail> {
         Ok(online) => online,
         Err((fault, _disc)) => return Err(fault.into()),
     };
-    assert_eq!(rt; online.changed(), [0, 1].as_slice());
+    assert!(rt; online.changed() == [0, 1].as_slice());
     let mut disc = online.into_disc();
     assert!(rt; are_blocks(&mut disc, &FIRST));
     assert!(rt; 2177 < disc.size());
@@ -81,8 +81,8 @@ fn loading_reads_alone(rt: HostRuntime) -> Result<(), Fail> {
         Ok(online) => online,
         Err((fault, _disc)) => return Err(fault.into()),
     };
-    assert_eq!(rt; (online.room(), online.tree().users().len()), (5, 2));
-    assert_eq!(rt; (online.head().next_stamp, online.head().last_dump), (1, 0));
+    assert!(rt; (online.room(), online.tree().users().len()) == (5, 2));
+    assert!(rt; (online.head().next_stamp, online.head().last_dump) == (1, 0));
     let mut disc = online.into_disc();
     assert!(rt; 2177 < disc.size());
     assert!(rt; disc.write(2177, &[0; 512]).is_err());

@@ -1,10 +1,9 @@
-//! Discs in memory whose blocks were written out by hand, and filestores that are loaded from them.
-ghost use Rattle.std.specs.Prelude.{◌≡◌, ◌<◌, ◌≤◌, IfOk, None, true};
-ghost use Rattle.g_contents.specs.Facts.{IsTied};
+//! Discs in memory whose blocks were written out by hand.
+ghost use Rattle.std.specs.Prelude.{◌≡◌, IfOk, None};
 
 use g_base::{Block, ReadFailed, WriteFailed};
 use g_disc::{Disc, Leave, MemoryDisc};
-use g_online::{Online, OnlineFault};
+use g_online::OnlineFault;
 use std::alloc::Global;
 
 /// The blocks of the first two users.
@@ -124,31 +123,4 @@ pub(crate) fn laid_out(
         }
     }
     Ok(Counted { disc, writes: 0 })
-}
-
-/// The filestore that the disc holds.
-pub(crate) fn loaded(alloc: Global, disc: Counted) -> Result<Online<Counted>, OnlineFault>
-    requires low { 2177 < disc.disc.disc.size }
-    requires high { disc.disc.disc.size ≤ 1_048_576 }
-    ensures live { IfOk result (λ o. o.live ≡ true) }
-    ensures none { IfOk result (λ o. o.pins ≡ None) }
-    ensures tied { IfOk result (λ o. IsTied o) }
-{
-    match Online::load(alloc, disc) {
-        Ok(online) => Ok(online),
-        Err((fault, _disc)) => Err(fault),
-    }
-}
-
-/// The filestore that its disc holds now.
-pub(crate) fn loaded_again(
-    alloc: Global,
-    online: Online<Counted>,
-) -> Result<Online<Counted>, OnlineFault>
-    requires { IsTied online }
-    ensures live { IfOk result (λ o. o.live ≡ true) }
-    ensures none { IfOk result (λ o. o.pins ≡ None) }
-    ensures tied { IfOk result (λ o. IsTied o) }
-{
-    loaded(alloc, online.into_disc())
 }

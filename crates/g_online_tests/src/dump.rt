@@ -1,12 +1,8 @@
 //! The commit that closes a dump, over filestores that were written out by hand, of no file and of one.
-ghost use Rattle.std.specs.Prelude.{◌≡◌, All, IfOk, IfSome, None, OnOk, is_some, true};
-ghost use Rattle.g_contents.specs.Facts.{IsTied};
-ghost use Rattle.g_entry.specs.FileFields.{IsCopy};
-
-use crate::asked::put_again;
-use crate::discs::{Counted, MACROS, MASTER, are_blocks, laid_out, loaded, loaded_again};
-use g_disc::Disc;
-use g_online::{Online, OnlineFault};
+use crate::bench::Bench;
+use crate::discs::{MACROS, MASTER, are_blocks};
+use crate::making::Asked;
+use g_online::OnlineFault;
 use std::alloc::Global;
 use std::test::Fail;
 
@@ -52,67 +48,29 @@ static DUMPED: [(u32, &[u8]); 2] = [
     (2_177, b"HELLO"),
 ];
 
-/// Pins what waits, of one file at most.
-fn pin(alloc: Global, online: &mut Online<Counted>) -> Result<(), OnlineFault>
-    requires live { online.old.live ≡ true }
-    requires none { online.old.pins ≡ None }
-    requires tied { IsTied online.old }
-    ensures live { OnOk result (online.new.live ≡ true) }
-    ensures some { OnOk result (is_some online.new.pins ≡ true) }
-    ensures copies { OnOk result (IfSome online.new.pins (All (λ p. IsCopy p.copy))) }
-    ensures tied { IsTied online.new }
-{
-    let count = online.tree().files().len();
-    if count > 1 {
-        return Err(OnlineFault::NoFilestore);
+/// A filestore on these blocks behind a closing.
+fn closed(alloc: Global, rows: &[(u32, &[u8])], how: Asked) -> Result<Bench, OnlineFault> {
+    let mut bench = Bench::laid_out(alloc, 2182, rows)?;
+    bench.make(alloc, how)?;
+    Ok(bench)
+}
+
+/// Whether the next stamp is 3, the last dump number 5, and none is open.
+fn is_closed(bench: &Bench) -> bool {
+    match bench.told() {
+        Some(told) => told.next_stamp == 3 && told.last_dump == 5 && !told.is_open,
+        None => false,
     }
-    match online.pin(alloc, 7, 1) {
-        Ok(()) => Ok(()),
-        Err(_) => Err(OnlineFault::NoMemory),
-    }
-}
-
-/// Closes dump 5.
-fn close(online: &mut Online<Counted>) -> Result<(), OnlineFault>
-    requires live { online.old.live ≡ true }
-    requires some { is_some online.old.pins ≡ true }
-    requires copies { IfSome online.old.pins (All (λ p. IsCopy p.copy)) }
-    requires tied { IsTied online.old }
-    ensures live { OnOk result (online.new.live ≡ true) }
-    ensures none { OnOk result (online.new.pins ≡ None) }
-    ensures tied { IsTied online.new }
-{
-    online.close_dump(5)
-}
-
-/// Whether the head is so.
-fn is_head(online: &Online<Counted>, last: u64, is_open: bool) -> bool
-    requires { online.now.live ≡ true }
-{
-    let head = online.head();
-    head.next_stamp == 3 && head.last_dump == last && head.intent.is_some() == is_open
-}
-
-/// A filestore whose dump was closed.
-fn closed(alloc: Global, rows: &[(u32, &[u8])]) -> Result<Online<Counted>, OnlineFault>
-    ensures live { IfOk result (λ o. o.live ≡ true) }
-    ensures none { IfOk result (λ o. o.pins ≡ None) }
-    ensures tied { IfOk result (λ o. IsTied o) }
-{
-    let mut online = loaded(alloc, laid_out(alloc, 2182, rows)?)?;
-    pin(alloc, &mut online)?;
-    close(&mut online)?;
-    Ok(online)
 }
 
 /// The closing writes all of the other slot, since nothing is remembered of it, and the gate: 1,089 writes. The intent goes,
 /// the number is the last dump's, and nobody counts as changed; the old slot is as it was.
 #[test]
 fn a_closing_by_hand(rt: HostRuntime) -> Result<(), Fail> {
-    let online = closed(rt.alloc(), &OPEN)?;
-    assert!(rt; online.changed().is_empty());
-    assert!(rt; is_head(&online, 5, false));
-    let mut disc = online.into_disc();
+    let bench = closed(rt.alloc(), &OPEN, Asked::Close)?;
+    assert!(rt; bench.changed().is_empty());
+    assert!(rt; is_closed(&bench));
+    let mut disc = bench.into_disc();
     assert!(rt; disc.writes == 1_089);
     assert!(rt; are_blocks(&mut disc.disc, &OPEN) && are_blocks(&mut disc.disc, &CLOSED));
     Ok(())
@@ -121,51 +79,34 @@ fn a_closing_by_hand(rt: HostRuntime) -> Result<(), Fail> {
 /// The version that was pinned has its copy on tape behind the closing.
 #[test]
 fn a_version_by_hand(rt: HostRuntime) -> Result<(), Fail> {
-    let online = closed(rt.alloc(), &WAITING)?;
-    assert!(rt; online.changed().is_empty());
-    assert!(rt; online.room() == 4);
-    let mut disc = online.into_disc();
+    let bench = closed(rt.alloc(), &WAITING, Asked::Close)?;
+    assert!(rt; bench.changed().is_empty());
+    assert!(rt; bench.room() == Some(4));
+    let mut disc = bench.into_disc();
     assert!(rt; disc.writes == 1_089);
     assert!(rt; are_blocks(&mut disc.disc, &CLOSED) && are_blocks(&mut disc.disc, &DUMPED));
     Ok(())
-}
-
-/// A filestore whose dump was closed when the version that was pinned had been replaced.
-fn closed_behind(alloc: Global) -> Result<Online<Counted>, OnlineFault>
-    ensures live { IfOk result (λ o. o.live ≡ true) }
-    ensures tied { IfOk result (λ o. IsTied o) }
-{
-    let mut online = loaded(alloc, laid_out(alloc, 2182, &WAITING)?)?;
-    pin(alloc, &mut online)?;
-    put_again(alloc, &mut online, 0, b"AGAIN")?;
-    close(&mut online)?;
-    Ok(online)
 }
 
 /// A version that was replaced meanwhile goes at the closing, and its block is free. The new one has no copy on tape, and its
 /// owner counts as changed.
 #[test]
 fn a_replaced_version(rt: HostRuntime) -> Result<(), Fail> {
-    let online = closed_behind(rt.alloc())?;
-    assert!(rt; online.changed() == [0].as_slice());
-    assert!(rt; online.room() == 4);
-    let online = loaded_again(rt.alloc(), online)?;
-    let waits = online
-        .tree()
-        .file_at(0)
-        .is_some_and(|file| file.tape.is_none());
-    assert!(rt; waits);
+    let bench = closed(rt.alloc(), &WAITING, Asked::CloseBehind(b"AGAIN"))?;
+    assert!(rt; bench.changed() == [0].as_slice());
+    assert!(rt; bench.room() == Some(4));
+    let bench = bench.loaded_again(rt.alloc())?;
+    assert!(rt; bench.file(0) == Some((5, true, false)));
     Ok(())
 }
 
 /// Loaded again, the dump is closed; another closing is stopped at its first write.
 #[test]
 fn a_closing_that_stops(rt: HostRuntime) -> Result<(), Fail> {
-    let online = closed(rt.alloc(), &OPEN)?;
-    let mut online = loaded_again(rt.alloc(), online)?;
-    assert!(rt; is_head(&online, 5, false));
-    pin(rt.alloc(), &mut online)?;
-    online.arm(1);
-    assert!(rt; close(&mut online) == Err(OnlineFault::Stopped));
+    let bench = closed(rt.alloc(), &OPEN, Asked::Close)?;
+    let mut bench = bench.loaded_again(rt.alloc())?;
+    assert!(rt; is_closed(&bench));
+    bench.arm(1);
+    assert!(rt; bench.make(rt.alloc(), Asked::Close) == Err(OnlineFault::Stopped));
     Ok(())
 }

@@ -1,12 +1,9 @@
 //! A filestore of format 1, which its first commit turns over into format 2.
-ghost use Rattle.std.specs.Prelude.{◌≡◌, ◌≤◌, IfOk, OnOk, true};
-ghost use Rattle.g_contents.specs.Facts.{IsTied};
-
-use crate::asked::{bytes_of, put_again};
-use crate::discs::{Counted, Cut, MACROS, MASTER, are_blocks, laid_out, loaded, loaded_again};
+use crate::bench::Bench;
+use crate::discs::{Cut, MACROS, MASTER, are_blocks, laid_out};
+use crate::making::Asked;
 use g_disc::Disc;
-use g_name::Text;
-use g_online::{Online, OnlineFault};
+use g_online::OnlineFault;
 use std::alloc::Global;
 use std::test::Fail;
 
@@ -49,41 +46,26 @@ static NEW: [(u32, &[u8]); 6] = [
     (2_178, b"WORLD"),
 ];
 
-/// The filestore. Its next change is stopped at the 1,090th write, that of the gate: one block of bytes and the whole of a
+/// The filestore behind a change that was stopped at the 1,090th write, that of the gate: one block of bytes and the whole of a
 /// slot, of which nothing is remembered, come before. The write leaves this.
-fn begun(alloc: Global, cut: Cut) -> Result<Online<Counted>, OnlineFault>
-    ensures live { IfOk result (λ o. o.live ≡ true) }
-    ensures tied { IfOk result (λ o. IsTied o) }
-{
+fn stopped(alloc: Global, cut: Cut) -> Result<Bench, OnlineFault> {
     let mut disc = laid_out(alloc, 2182, &OLD)?;
     disc.disc.set_leave(cut.leave());
     disc.arm(1_090);
-    loaded(alloc, disc)
-}
-
-/// Whether a text is there, and these bytes.
-fn is_text(text: Option<&Text>, bytes: &[u8]) -> bool {
-    match text {
-        Some(text) => text.as_slice() == bytes,
-        None => false,
+    let mut bench = Bench::on(alloc, disc)?;
+    match bench.make(alloc, Asked::Put(1, b"WORLD")) {
+        Err(OnlineFault::Stopped) => Ok(bench),
+        _ => Err(OnlineFault::NoFilestore),
     }
 }
 
-/// How long G is when the disc is loaded again behind a stop at the gate; nothing where the change wasn't stopped, or where F
-/// isn't what it was.
+/// How long G is when the disc is loaded again behind a stop at the gate; nothing where F isn't what it was.
 fn left(alloc: Global, cut: Cut) -> Result<Option<u32>, OnlineFault> {
-    let mut online = begun(alloc, cut)?;
-    match put_again(alloc, &mut online, 1, b"WORLD") {
-        Err(OnlineFault::Stopped) => {}
-        _ => return Ok(None),
-    }
-    let mut online = loaded_again(alloc, online)?;
-    let len = match online.tree().file_at(1) {
-        Some(file) => file.len,
-        None => return Ok(None),
+    let mut bench = stopped(alloc, cut)?.loaded_again(alloc)?;
+    let Some((len, _, _)) = bench.file(1) else {
+        return Ok(None);
     };
-    let text = bytes_of(alloc, &mut online, 0)?;
-    if is_text(text.as_ref(), b"HELLO") {
+    if bench.has(alloc, 0, b"HELLO")? {
         Ok(Some(len))
     } else {
         Ok(None)
@@ -102,10 +84,7 @@ fn turned_over(rt: HostRuntime) -> Result<(), Fail> {
 /// The blocks of both slots behind the cut: the old slot is as it was, and the new one is whole.
 #[test]
 fn both_slots_by_hand(rt: HostRuntime) -> Result<(), Fail> {
-    let mut online = begun(rt.alloc(), Cut::Old)?;
-    let answer = put_again(rt.alloc(), &mut online, 1, b"WORLD");
-    assert!(rt; answer == Err(OnlineFault::Stopped));
-    let mut disc = online.into_disc();
+    let mut disc = stopped(rt.alloc(), Cut::Old)?.into_disc();
     assert!(rt; are_blocks(&mut disc.disc, &OLD));
     assert!(rt; are_blocks(&mut disc.disc, &NEW));
     Ok(())

@@ -1,12 +1,12 @@
 //! Block numbers past 65,535: a disc of 70,000 blocks whose first 63,232 copy blocks are in use.
-ghost use Rattle.std.specs.Prelude.{◌≡◌, ◌+◌, ◌*◌, ◌<◌, ◌≤◌, ◌^◌, IfOk, OnOk, true};
-ghost use Rattle.g_contents.specs.Facts.{IsTied};
+ghost use Rattle.std.specs.Prelude.{◌≡◌, ◌+◌, ◌*◌, ◌<◌, ◌≤◌, ◌^◌};
 
-use crate::asked::{bytes_of, put_again};
-use crate::discs::{Counted, MACROS, MASTER, block_of, is_block, laid_out, loaded, loaded_again};
+use crate::bench::Bench;
+use crate::discs::{MACROS, MASTER, block_of, is_block, laid_out};
+use crate::making::Asked;
 use g_base::Block;
 use g_disc::{Disc, MemoryDisc};
-use g_online::{Online, OnlineFault};
+use g_online::OnlineFault;
 use std::alloc::Global;
 use std::test::Fail;
 
@@ -71,49 +71,30 @@ fn fill(disc: &mut MemoryDisc) -> Result<(), OnlineFault>
 }
 
 /// The filestore on a disc of this size.
-fn begun(alloc: Global, size: u32) -> Result<Online<Counted>, OnlineFault>
-    requires low { 2177 < size }
-    requires high { size ≤ 1_048_576 }
-    ensures live { IfOk result (λ o. o.live ≡ true) }
-    ensures tied { IfOk result (λ o. IsTied o) }
-{
+fn begun(alloc: Global, size: u32) -> Result<Bench, OnlineFault> {
     let mut disc = laid_out(alloc, size, &ROWS)?;
     fill(&mut disc.disc)?;
-    loaded(alloc, disc)
+    Bench::on(alloc, disc)
 }
 
 /// A new version of E, of 128 blocks.
-fn put_e(alloc: Global, online: &mut Online<Counted>) -> Result<(), OnlineFault>
-    requires live { online.old.live ≡ true }
-    requires tied { IsTied online.old }
-    ensures live { OnOk result (online.new.live ≡ true) }
-    ensures tied { IsTied online.new }
-{
-    let bytes = vec![in alloc; 7; 65_536]?;
-    put_again(alloc, online, 494, bytes.as_slice())
-}
+const PUT_E: Asked = Asked::Fill(494, 7, 65_536);
 
 /// On a disc of 65,536 blocks one is lacking.
 #[test]
 fn one_block_is_lacking(rt: HostRuntime) -> Result<(), Fail> {
-    let mut online = begun(rt.alloc(), 65_536)?;
-    let answer = put_e(rt.alloc(), &mut online);
-    assert!(rt;
-        answer
-            == Err(OnlineFault::DiscFull {
-                need: 128,
-                room: 127
-            })
-    );
+    let mut bench = begun(rt.alloc(), 65_536)?;
+    let lacking = OnlineFault::DiscFull {
+        need: 128,
+        room: 127,
+    };
+    assert!(rt; bench.make(rt.alloc(), PUT_E) == Err(lacking));
     Ok(())
 }
 
 /// Whether E reads as it was put.
-fn is_read(alloc: Global, online: &mut Online<Counted>) -> Result<bool, OnlineFault>
-    requires live { online.old.live ≡ true }
-    requires tied { IsTied online.old }
-{
-    match bytes_of(alloc, online, 494)? {
+fn is_read(alloc: Global, bench: &mut Bench) -> Result<bool, OnlineFault> {
+    match bench.bytes(alloc, 494)? {
         Some(text) => {
             let all = text.as_slice().iter().all(|byte| *byte == 7);
             Ok(all && text.as_slice().len() == 65_536)
@@ -126,12 +107,12 @@ fn is_read(alloc: Global, online: &mut Online<Counted>) -> Result<bool, OnlineFa
 /// loaded again.
 #[test]
 fn past_two_bytes(rt: HostRuntime) -> Result<(), Fail> {
-    let mut online = begun(rt.alloc(), 70_000)?;
-    put_e(rt.alloc(), &mut online)?;
-    let mut online = loaded_again(rt.alloc(), online)?;
-    assert!(rt; online.room() == 70_000 - 2_177 - 63_232 - 128);
-    assert!(rt; is_read(rt.alloc(), &mut online)?);
-    let mut disc = online.into_disc();
+    let mut bench = begun(rt.alloc(), 70_000)?;
+    bench.make(rt.alloc(), PUT_E)?;
+    let mut bench = bench.loaded_again(rt.alloc())?;
+    assert!(rt; bench.room() == Some(70_000 - 2_177 - 63_232 - 128));
+    assert!(rt; is_read(rt.alloc(), &mut bench)?);
+    let mut disc = bench.into_disc();
     assert!(rt; is_block(&mut disc.disc, 65_536, &[7; 512]));
     assert!(rt; is_block(&mut disc.disc, 65_537, &[]));
     Ok(())

@@ -6,6 +6,8 @@ mod asked;
 #[cfg(test)]
 mod begin;
 #[cfg(test)]
+mod bench;
+#[cfg(test)]
 mod changes;
 #[cfg(test)]
 mod discs;
@@ -15,6 +17,8 @@ mod dump;
 mod formats;
 #[cfg(test)]
 mod large;
+#[cfg(test)]
+mod making;
 #[cfg(test)]
 mod put;
 #[cfg(test)]

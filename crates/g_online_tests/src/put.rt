@@ -1,11 +1,8 @@
 //! New versions of the one file of a small filestore whose blocks were written out by hand: what they write, and where.
-ghost use Rattle.std.specs.Prelude.{◌≡◌, IfOk, true};
-ghost use Rattle.g_contents.specs.Facts.{IsTied};
-
-use crate::asked::put_again;
-use crate::discs::{Counted, MACROS, MASTER, are_blocks, laid_out, loaded};
-use g_online::{Online, OnlineFault};
-use std::alloc::Global;
+use crate::bench::Bench;
+use crate::discs::{MACROS, MASTER, are_blocks};
+use crate::making::Asked;
+use g_online::OnlineFault;
 use std::test::Fail;
 
 /// The two users, and file 0, F, of 5 bytes at block 2,177. The next stamp is 2.
@@ -29,27 +26,24 @@ static AFTER: [(u32, &[u8]); 4] = [
 ];
 
 /// Three versions, each in the place of the one before it.
-fn put_three(alloc: Global) -> Result<Online<Counted>, OnlineFault>
-    ensures live { IfOk result (λ o. o.live ≡ true) }
-    ensures tied { IfOk result (λ o. IsTied o) }
-{
-    let mut online = loaded(alloc, laid_out(alloc, 2182, &ROWS)?)?;
-    put_again(alloc, &mut online, 0, &[1; 600])?;
-    put_again(alloc, &mut online, 0, &[2; 512])?;
-    put_again(alloc, &mut online, 0, &[3; 512])?;
-    Ok(online)
-}
+const VERSIONS: [Asked; 3] = [
+    Asked::Put(0, &[1; 600]),
+    Asked::Put(0, &[2; 512]),
+    Asked::Put(0, &[3; 512]),
+];
 
 /// The first two commits write all of a slot, since nothing is remembered of it: 1,088 blocks, the gate and the bytes. The
 /// third writes the head, the record, the gate and one block of bytes. Each version goes into the least free blocks, and
 /// those of the one before it are free behind its commit. A version that finds no room writes nothing.
 #[test]
 fn versions_by_hand(rt: HostRuntime) -> Result<(), Fail> {
-    let mut online = put_three(rt.alloc())?;
-    assert!(rt; online.room() == 4);
-    let answer = put_again(rt.alloc(), &mut online, 0, &[4; 2049]);
+    let alloc = rt.alloc();
+    let mut bench = Bench::laid_out(alloc, 2182, &ROWS)?;
+    bench.make_all(alloc, &VERSIONS)?;
+    assert!(rt; bench.room() == Some(4));
+    let answer = bench.make(alloc, Asked::Put(0, &[4; 2049]));
     assert!(rt; answer == Err(OnlineFault::DiscFull { need: 5, room: 4 }));
-    let mut disc = online.into_disc();
+    let mut disc = bench.into_disc();
     assert!(rt; disc.writes == 1_091 + 1_090 + 4);
     assert!(rt; are_blocks(&mut disc.disc, &AFTER));
     Ok(())

@@ -37,16 +37,16 @@ fn ample(rt: HostRuntime) -> Result<(), Fail> {
     };
     let notes = completed(alloc, &mut tapes, 9)?;
     assert!(rt; notes.as_slice() == [note].as_slice());
-    assert_eq!(rt; end_of(alloc, &mut tapes, 9), Ok(4));
+    assert!(rt; end_of(alloc, &mut tapes, 9) == Ok(4));
     let last = match first_unmounted(&tapes) {
         None => last_dump(alloc, &mut tapes),
         Some(_) => Err(ShelfFault::NotMounted),
     };
-    assert_eq!(rt; last, Ok(Some((9, note))));
+    assert!(rt; last == Ok(Some((9, note))));
     let copy = TapeCopy {
         serial: 9,
         first: 3,
     };
-    assert_eq!(rt; find_copy(alloc, &mut tapes, &copy, 1), Ok(false));
+    assert!(rt; find_copy(alloc, &mut tapes, &copy, 1) == Ok(false));
     Ok(())
 }

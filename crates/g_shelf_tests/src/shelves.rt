@@ -126,8 +126,8 @@ fn two_dumps_end_to_end(rt: HostRuntime) -> Result<(), Fail> {
     let mut tapes = reels_with(&rt, alloc, &[(1, 0, 1), (1, 6, 2)])?;
     let notes = completed(alloc, &mut tapes, 1)?;
     assert!(rt; notes.as_slice() == [note(1, 0), note(2, 6)].as_slice());
-    assert_eq!(rt; end_of(alloc, &mut tapes, 1), Ok(12));
-    assert_eq!(rt; end_of(alloc, &mut tapes, 2), Ok(0));
+    assert!(rt; end_of(alloc, &mut tapes, 1) == Ok(12));
+    assert!(rt; end_of(alloc, &mut tapes, 2) == Ok(0));
     Ok(())
 }
 
@@ -136,7 +136,7 @@ fn a_number_that_does_not_rise_ends_the_list(rt: HostRuntime) -> Result<(), Fail
     let alloc = rt.alloc();
     for (number, end) in [(2, 6), (3, 12)] {
         let mut tapes = reels_with(&rt, alloc, &[(1, 0, 2), (1, 6, number)])?;
-        assert_eq!(rt; end_of(alloc, &mut tapes, 1), Ok(end));
+        assert!(rt; end_of(alloc, &mut tapes, 1) == Ok(end));
     }
     Ok(())
 }
@@ -146,16 +146,16 @@ fn a_dump_without_its_mark_ends_the_list(rt: HostRuntime) -> Result<(), Fail> {
     let alloc = rt.alloc();
     let mut tapes = reels_with(&rt, alloc, &[(1, 0, 1)])?;
     put_front(&rt, &mut tapes, 1, 6, 2)?;
-    assert_eq!(rt; end_of(alloc, &mut tapes, 1), Ok(6));
+    assert!(rt; end_of(alloc, &mut tapes, 1) == Ok(6));
     // Half a mark is none.
     let mut half = block_of(&rt, &MARK);
     half[11] = 2;
     half[15] = 6;
     tapes.write(1, 11, &half)?;
-    assert_eq!(rt; end_of(alloc, &mut tapes, 1), Ok(6));
+    assert!(rt; end_of(alloc, &mut tapes, 1) == Ok(6));
     half[508..].copy_from_slice(&COUNT);
     tapes.write(1, 11, &half)?;
-    assert_eq!(rt; end_of(alloc, &mut tapes, 1), Ok(12));
+    assert!(rt; end_of(alloc, &mut tapes, 1) == Ok(12));
     Ok(())
 }
 
@@ -163,7 +163,7 @@ fn a_dump_without_its_mark_ends_the_list(rt: HostRuntime) -> Result<(), Fail> {
 fn the_last_dump_over_reels(rt: HostRuntime) -> Result<(), Fail> {
     let alloc = rt.alloc();
     let mut tapes = two_reels(alloc)?;
-    assert_eq!(rt; last(alloc, &mut tapes), Ok(None));
+    assert!(rt; last(alloc, &mut tapes) == Ok(None));
     // A dump's reel, first block and number, and then the last one.
     let rows = [
         ((2, 0, 3), (2, note(3, 0))),
@@ -173,7 +173,7 @@ fn the_last_dump_over_reels(rt: HostRuntime) -> Result<(), Fail> {
     ];
     for ((serial, place, number), want) in rows {
         put_dump(&rt, &mut tapes, serial, place, number)?;
-        assert_eq!(rt; last(alloc, &mut tapes), Ok(Some(want)));
+        assert!(rt; last(alloc, &mut tapes) == Ok(Some(want)));
     }
     Ok(())
 }
@@ -196,18 +196,16 @@ fn which_blocks_are_held(rt: HostRuntime) -> Result<(), Fail> {
     ];
     for (first, blocks, held, _) in rows {
         let copy = TapeCopy { serial: 1, first };
-        assert_eq!(rt;
-            find_copy(alloc, &mut tapes, &copy, blocks),
-            Ok(held),
+        assert!(rt;
+            find_copy(alloc, &mut tapes, &copy, blocks) == Ok(held),
             "{first}"
         );
     }
     put_dump(&rt, &mut tapes, 1, 6, 2)?;
     for (first, blocks, _, held) in rows {
         let copy = TapeCopy { serial: 1, first };
-        assert_eq!(rt;
-            find_copy(alloc, &mut tapes, &copy, blocks),
-            Ok(held),
+        assert!(rt;
+            find_copy(alloc, &mut tapes, &copy, blocks) == Ok(held),
             "{first}"
         );
     }
@@ -220,12 +218,12 @@ fn reels_that_are_not_read(rt: HostRuntime) -> Result<(), Fail> {
     let mut tapes = reels_with(&rt, alloc, &[(1, 0, 1), (1, 6, 2)])?;
     // A read in the second dump fails, and the next time none does.
     tapes.fail_reads([8].to_vec(alloc)?);
-    assert_eq!(rt; end_of(alloc, &mut tapes, 1), Err(ShelfFault::ReadFault));
-    assert_eq!(rt; end_of(alloc, &mut tapes, 1), Ok(12));
-    assert_eq!(rt; first_unmounted(&tapes), None);
+    assert!(rt; end_of(alloc, &mut tapes, 1) == Err(ShelfFault::ReadFault));
+    assert!(rt; end_of(alloc, &mut tapes, 1) == Ok(12));
+    assert!(rt; first_unmounted(&tapes) == None);
     tapes.unmount(2)?;
-    assert_eq!(rt; first_unmounted(&tapes), Some(2));
-    assert_eq!(rt; end_of(alloc, &mut tapes, 2), Err(ShelfFault::NotMounted));
-    assert_eq!(rt; end_of(alloc, &mut tapes, 3), Err(ShelfFault::NoTape));
+    assert!(rt; first_unmounted(&tapes) == Some(2));
+    assert!(rt; end_of(alloc, &mut tapes, 2) == Err(ShelfFault::NotMounted));
+    assert!(rt; end_of(alloc, &mut tapes, 3) == Err(ShelfFault::NoTape));
     Ok(())
 }

@@ -1,5 +1,0 @@
-//! Tests of general restore, from dumps that were written out by hand.
-#![tactic(auto)]
-
-#[cfg(test)]
-mod rows;

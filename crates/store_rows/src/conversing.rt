@@ -1,0 +1,142 @@
+//! A conversation of some hundred calls, with dumps, migrations and starts in it, beside a plain store.
+use crate::asking::asked;
+use crate::events::{Ask, Event};
+use crate::rows::{play, told};
+use crate::setting::Setting;
+use crate::system::{System, happens};
+use anyhow::anyhow;
+use g_plain::PlainStore;
+use std::alloc::Global;
+
+/// Numbers that look like chance, each made of the one before.
+#[derive(Drop)]
+struct Dice {
+    state: u32,
+}
+
+impl Dice {
+    /// A number below this one, 0 below 0.
+    fn roll(&mut self, below: u8) -> u8 {
+        self.state = self
+            .state
+            .wrapping_mul(1_664_525)
+            .wrapping_add(1_013_904_223);
+        let [top, ..] = self.state.to_be_bytes();
+        match top.checked_rem(below) {
+            Some(left) => left,
+            None => 0,
+        }
+    }
+}
+
+/// One of four files, or a version of one of two.
+fn path(roll: u8) -> &'static str {
+    match roll {
+        0 => ":MASTER.A",
+        1 => ":MASTER.B",
+        2 => ":MASTER.C",
+        3 => ":MASTER.D",
+        4 => ":MASTER.E(1/)",
+        _ => ":MASTER.F(1/)",
+    }
+}
+
+/// A call of MASTER.
+fn drawn_call(dice: &mut Dice) -> Ask<'static> {
+    let name = path(dice.roll(6));
+    let letter = dice.roll(200);
+    let len = usize::from(dice.roll(250)).wrapping_mul(7);
+    match dice.roll(9) {
+        0..=3 => Ask::Put(name, letter, len),
+        4 => Ask::Append(name, letter, len),
+        5 => Ask::Erase(name),
+        6 => Ask::List("MASTER"),
+        _ => Ask::Fetch(name),
+    }
+}
+
+/// What an operator does.
+fn drawn_event(dice: &mut Dice) -> Event<'static> {
+    match dice.roll(40) {
+        0..=4 => Event::Open(1),
+        5..=14 => Event::Migrate(path(dice.roll(6))),
+        15 => Event::Shut,
+        _ => Event::Step,
+    }
+}
+
+/// What the operator does, whatever comes of it, and a start where the system is down.
+fn operate(alloc: Global, system: System, dice: &mut Dice) -> System {
+    let mut system = system;
+    for _ in 0..6 {
+        let (next, _answer) = happens(alloc, system, &drawn_event(dice));
+        system = match next {
+            System::Up(store) => System::Up(store),
+            System::Down(disc, tapes) => {
+                let (again, _answer) = happens(alloc, System::Down(disc, tapes), &Event::Start);
+                again
+            }
+        };
+    }
+    system
+}
+
+/// A call that both stores answer alike.
+fn ask_both(
+    alloc: Global,
+    system: System,
+    plain: &mut PlainStore,
+    ask: Ask<'static>,
+) -> anyhow::Result<System> {
+    let wanted = told(alloc, &asked(alloc, plain, "MASTER", &ask))?;
+    let (next, outcome) = happens(alloc, system, &Event::Ask("MASTER", ask));
+    let seen = told(alloc, &outcome)?;
+    if seen.as_str() == wanted.as_str() {
+        Ok(next)
+    } else {
+        Err(anyhow!("{} and not {}", seen.as_str(), wanted.as_str()))
+    }
+}
+
+/// What is dumped at the end is restored whole.
+fn restore(alloc: Global, system: System, plain: &mut PlainStore) -> anyhow::Result<()> {
+    let mut system = system;
+    for event in [
+        Event::Finish,
+        Event::Open(1),
+        Event::Finish,
+        Event::Shut,
+        Event::Restore,
+    ] {
+        let (next, _answer) = happens(alloc, system, &event);
+        system = next;
+    }
+    system = ask_both(alloc, system, plain, Ask::List("MASTER"))?;
+    for roll in 0..6 {
+        system = ask_both(alloc, system, plain, Ask::Fetch(path(roll)))?;
+    }
+    Ok(())
+}
+
+/// The system answers as the plain store does, and behind the restore too.
+fn converse(alloc: Global) -> anyhow::Result<()> {
+    let mut plain = PlainStore::new(alloc)?;
+    let mut dice = Dice { state: 7 };
+    let system = Setting::parse("as_a_plain_store")?.system(alloc)?;
+    let mut system = play(alloc, system, "format\nmount 1")?;
+    for _ in 0..150 {
+        let ask = drawn_call(&mut dice);
+        system = ask_both(alloc, system, &mut plain, ask)?;
+        system = operate(alloc, system, &mut dice);
+    }
+    restore(alloc, system, &mut plain)
+}
+
+/// Prints what became of the conversation.
+pub(crate) fn run(rt: &HostRuntime) -> anyhow::Result<()> {
+    match converse(rt.alloc()) {
+        Ok(()) => println!(rt; "as_a_plain_store as it should be")?,
+        Err(why) => println!(rt; "as_a_plain_store differs: {why}")?,
+    }
+    Ok(())
+}

@@ -1,0 +1,75 @@
+//! What happens to a system, and what is told of it.
+
+/// An event of a system. Users, paths and files are given by their names; a file's bytes are so many times one letter.
+#[derive(Drop)]
+pub(crate) enum Event<'a> {
+    Format,
+    Start,
+    Restore,
+    Shut,
+    Mount(u32),
+    Unmount(u32),
+    /// The disc's write of this number from here on fails.
+    StopDisc(u32),
+    /// The tapes' write of this number from here on fails.
+    StopTape(u32),
+    /// The disc's read of this number, counted from the making of the disc, fails.
+    Unread(u32),
+    /// A dump is opened on the reel.
+    Open(u32),
+    /// A step of the open dump.
+    Step,
+    /// Steps of the open dump until it is completed.
+    Finish,
+    Migrate(&'a str),
+    /// How many blocks the reel has.
+    Length(u32),
+    /// The first block of the copy of a file, by its place among the files, in the dump of reel 1 that begins at this block.
+    Noted(u32, usize),
+    /// What the store tells of itself.
+    Told,
+    /// A call of a user.
+    Ask(&'a str, Ask<'a>),
+}
+
+/// A call of a user.
+#[derive(Drop)]
+pub(crate) enum Ask<'a> {
+    /// A user with so many blocks of SPACE.
+    NewUser(&'a str, u16),
+    Put(&'a str, u8, usize),
+    Append(&'a str, u8, usize),
+    Fetch(&'a str),
+    Retrieve(&'a str),
+    Erase(&'a str),
+    /// How many files a user has.
+    List(&'a str),
+}
+
+/// What is told of an event that isn't refused.
+#[derive(Debug, Drop)]
+pub(crate) enum Answer {
+    Done,
+    /// The number of a dump.
+    Dump(u64),
+    /// The number of a dump, and how many of its steps there were.
+    Completed(u64, u32),
+    /// How many blocks, or the first of them.
+    Blocks(u32),
+    /// How many files.
+    Files(usize),
+    /// So many bytes, and the last of them, 0 where there is none.
+    Bytes(usize, char),
+    Facts(Facts),
+}
+
+/// What a store tells: how many users it has, the TIME of MASTER and the MONEY of MACROS, the number of the open dump, and
+/// whether reel 2 is mounted.
+#[derive(Debug, Drop)]
+pub(crate) struct Facts {
+    pub(crate) users: usize,
+    pub(crate) time: Option<u64>,
+    pub(crate) money: Option<u64>,
+    pub(crate) dump: Option<u64>,
+    pub(crate) mounted: bool,
+}

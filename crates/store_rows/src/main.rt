@@ -1,0 +1,38 @@
+//! The rows of the whole store: its events and calls one behind the other, over a disc and reels in memory. The files beside
+//! it have them; a line is printed for each, with what differs.
+#![tactic(auto)]
+
+mod asking;
+mod conversing;
+mod down;
+mod events;
+mod jobs;
+mod operating;
+mod reading;
+mod rows;
+mod setting;
+mod stops;
+mod system;
+
+use std::fs;
+use std::test::Fail;
+
+fn main(rt: HostRuntime) -> Result<(), Fail> {
+    for name in [
+        "ample.rows",
+        "dumps.rows",
+        "offline.rows",
+        "replaced.rows",
+        "stops.rows",
+    ] {
+        let text = fs::read_to_string(&rt, name)?;
+        rows::run(&rt, text.as_str())?;
+    }
+    let before = fs::read_to_string(&rt, "makes_room.rows")?;
+    stops::run(&rt, before.as_str())?;
+    conversing::run(&rt)?;
+    let document = fs::read_to_string(&rt, "deep.job")?;
+    let text = fs::read_to_string(&rt, "deep.text")?;
+    jobs::run(&rt, document.as_str(), text.as_str())?;
+    Ok(())
+}

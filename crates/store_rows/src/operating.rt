@@ -1,0 +1,118 @@
+//! What an operator does to a store that is up.
+ghost use Rattle.std.specs.Prelude.{◌≡◌, false};
+
+use crate::events::{Answer, Event, Facts};
+use crate::rows::Outcome;
+use g_disc::MemoryDisc;
+use g_dumper::DumpStep;
+use g_name::{User, parse_path};
+use g_plain::StoreFault;
+use g_store::Store;
+use g_tape::MemoryTapes;
+use std::alloc::Global;
+
+/// What comes of an event that is no call. `Running`: it isn't one of a system that is up.
+pub(crate) fn operated(
+    alloc: Global,
+    store: &mut Store<MemoryDisc, MemoryTapes>,
+    event: &Event,
+) -> Outcome
+    requires running { store.old.spent ≡ false }
+{
+    match event {
+        Event::Mount(serial) => done(store.mount(*serial)),
+        Event::Unmount(serial) => done(store.unmount(*serial)),
+        Event::Open(serial) => opened(alloc, store, *serial),
+        Event::Step => stepped(store),
+        Event::Finish => finished(store),
+        Event::Migrate(path) => migrated(alloc, store, path),
+        Event::StopDisc(k) => stop_disc(store, *k),
+        Event::StopTape(k) => stop_tape(store, *k),
+        Event::Told => Ok(Answer::Facts(told(store))),
+        _ => Err(StoreFault::Running),
+    }
+}
+
+/// What the store tells of itself.
+fn told(store: &Store<MemoryDisc, MemoryTapes>) -> Facts
+    requires running { store.now.spent ≡ false }
+{
+    Facts {
+        users: store.users().len(),
+        time: store.user_time(&User::master()),
+        money: store.user_money(&User::macros()),
+        dump: store.dump_number(),
+        mounted: store.mounted(2),
+    }
+}
+
+fn stop_disc(store: &mut Store<MemoryDisc, MemoryTapes>, k: u32) -> Outcome {
+    if k < 1 {
+        return Err(StoreFault::Running);
+    }
+    store.arm_disc(k);
+    Ok(Answer::Done)
+}
+
+fn stop_tape(store: &mut Store<MemoryDisc, MemoryTapes>, k: u32) -> Outcome {
+    if k < 1 {
+        return Err(StoreFault::Running);
+    }
+    store.arm_tape(k);
+    Ok(Answer::Done)
+}
+
+fn done(answer: Result<(), StoreFault>) -> Outcome {
+    match answer {
+        Ok(()) => Ok(Answer::Done),
+        Err(fault) => Err(fault),
+    }
+}
+
+fn opened(alloc: Global, store: &mut Store<MemoryDisc, MemoryTapes>, serial: u32) -> Outcome
+    requires running { store.old.spent ≡ false }
+{
+    match store.open_dump(alloc, serial) {
+        Ok(number) => Ok(Answer::Dump(number)),
+        Err(fault) => Err(fault),
+    }
+}
+
+fn migrated(alloc: Global, store: &mut Store<MemoryDisc, MemoryTapes>, path: &str) -> Outcome
+    requires running { store.old.spent ≡ false }
+{
+    let Ok(path) = parse_path(path.as_bytes()) else {
+        return Err(StoreFault::NoFile);
+    };
+    match store.migrate(alloc, &path) {
+        Ok(_full) => Ok(Answer::Done),
+        Err(fault) => Err(fault),
+    }
+}
+
+/// A step of the open dump, `NoDump` where none is open.
+fn stepped(store: &mut Store<MemoryDisc, MemoryTapes>) -> Outcome {
+    if store.spent() {
+        return Err(StoreFault::NotStarted);
+    }
+    if store.dump_number().is_none() {
+        return Err(StoreFault::NoDump);
+    }
+    match store.dump_step() {
+        Ok(DumpStep::Going) => Ok(Answer::Done),
+        Ok(DumpStep::Completed(number)) => Ok(Answer::Dump(number)),
+        Err(fault) => Err(fault),
+    }
+}
+
+/// Steps of the open dump until it is completed, which is before the thousandth.
+fn finished(store: &mut Store<MemoryDisc, MemoryTapes>) -> Outcome {
+    for count in 1..1000u32 {
+        match stepped(store) {
+            Ok(Answer::Dump(number)) => return Ok(Answer::Completed(number, count)),
+            Ok(_) => {}
+            Err(fault) => return Err(fault),
+        }
+    }
+    Err(StoreFault::Running)
+}

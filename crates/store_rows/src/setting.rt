@@ -1,0 +1,127 @@
+//! The devices that a row begins with.
+use crate::system::System;
+use anyhow::anyhow;
+use g_disc::{Leave, MemoryDisc};
+use g_laid_out::{disc_with, dumped, one_away};
+use g_tape::{MemoryTapes, TapeLeave};
+use std::alloc::Global;
+use std::test::Fail;
+
+/// The name of a row, and what differs from a blank disc of 4,096 blocks and one empty reel of 8,192, whose writes that fail
+/// leave what was there.
+#[derive(Drop)]
+pub(crate) struct Setting<'a> {
+    pub(crate) name: &'a str,
+    blocks: u32,
+    reels: u32,
+    capacity: u32,
+    leave: &'a str,
+    tape_leave: &'a str,
+    /// Whether disc and reel were written out by hand instead.
+    by_hand: bool,
+}
+
+impl<'a> Setting<'a> {
+    /// Reads a row's first line: its name, and settings `key=value`.
+    pub(crate) fn parse(line: &'a str) -> anyhow::Result<Setting<'a>> {
+        let mut words = line.split_whitespace();
+        let Some(name) = words.next() else {
+            return Err(anyhow!("no row: {line}"));
+        };
+        let mut setting = Setting {
+            name,
+            blocks: 4_096,
+            reels: 1,
+            capacity: 8_192,
+            leave: "old",
+            tape_leave: "old",
+            by_hand: false,
+        };
+        for word in words {
+            let Some((key, value)) = word.split_once('=') else {
+                return Err(anyhow!("no setting: {word}"));
+            };
+            setting.set(key, value)?;
+        }
+        Ok(setting)
+    }
+
+    fn set(&mut self, key: &str, value: &'a str) -> anyhow::Result<()> {
+        if key == "leave" {
+            self.leave = value;
+        } else if key == "tape_leave" {
+            self.tape_leave = value;
+        } else if key == "disc" && value == "by_hand" {
+            self.by_hand = true;
+        } else if key == "disc" {
+            self.blocks = value.parse()?;
+        } else if key == "reels" {
+            self.reels = value.parse()?;
+        } else if key == "capacity" {
+            self.capacity = value.parse()?;
+        } else {
+            return Err(anyhow!("no setting: {key}"));
+        }
+        Ok(())
+    }
+
+    /// The devices, with no filestore that is up.
+    pub(crate) fn system(&self, alloc: Global) -> anyhow::Result<System> {
+        let mut disc = MemoryDisc::new(alloc, self.blocks)?;
+        disc.set_leave(leave_of(self.leave)?);
+        let mut tapes = self.tapes(alloc)?;
+        tapes.set_leave(tape_leave_of(self.tape_leave)?);
+        Ok(System::Down(disc, tapes))
+    }
+
+    fn tapes(&self, alloc: Global) -> anyhow::Result<MemoryTapes> {
+        let capacity = self.capacity;
+        if capacity < 2 || capacity > 65_536 {
+            return Err(anyhow!("no reel has so many blocks: {capacity}"));
+        }
+        let reels = if self.reels == 2 {
+            vec![in alloc; (1, capacity), (2, capacity)]?
+        } else {
+            vec![in alloc; (1, capacity)]?
+        };
+        Ok(MemoryTapes::new(alloc, reels)?)
+    }
+
+    /// The same over the disc and the reel that were written out by hand, where the row asks for them.
+    pub(crate) fn any_system(&self, alloc: Global) -> Result<System, Fail> {
+        if !self.by_hand {
+            return Ok(self.system(alloc)?);
+        }
+        let mut disc = disc_with(alloc, &one_away([0, 0, 0, 5]))?;
+        disc.set_leave(leave_of(self.leave)?);
+        Ok(System::Down(disc, dumped(alloc)?))
+    }
+}
+
+/// What writes of the disc leave that fail: `old`, `half`, `whole`, or a block of one byte.
+fn leave_of(word: &str) -> anyhow::Result<Leave> {
+    if word == "old" {
+        Ok(Leave::Old)
+    } else if word == "half" {
+        Ok(Leave::Half)
+    } else if word == "whole" {
+        Ok(Leave::Whole)
+    } else {
+        Ok(Leave::These([word.parse()?; 512]))
+    }
+}
+
+/// The same of the tapes: `old`, `cut`, `half` or `whole`.
+fn tape_leave_of(word: &str) -> anyhow::Result<TapeLeave> {
+    if word == "old" {
+        Ok(TapeLeave::Old)
+    } else if word == "cut" {
+        Ok(TapeLeave::Cut)
+    } else if word == "half" {
+        Ok(TapeLeave::Half)
+    } else if word == "whole" {
+        Ok(TapeLeave::Whole)
+    } else {
+        Err(anyhow!("nothing is left so: {word}"))
+    }
+}
