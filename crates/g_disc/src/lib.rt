@@ -3,8 +3,6 @@
 
 mod disc;
 mod memory;
-#[cfg(test)]
-mod tests;
 
 pub use disc::Disc;
 pub use g_base::{ReadFailed, WriteFailed};
