@@ -9,8 +9,6 @@ mod marks;
 mod pages;
 mod read;
 mod rules;
-#[cfg(test)]
-mod tests;
 mod write;
 
 pub use dirs::Dirs;

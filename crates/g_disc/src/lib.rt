@@ -4,8 +4,6 @@
 mod blocks;
 mod disc;
 mod memory;
-#[cfg(test)]
-mod tests;
 
 pub use disc::Disc;
 pub use g_base::{ReadFailed, WriteFailed};

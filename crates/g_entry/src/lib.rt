@@ -9,8 +9,6 @@ mod head_block;
 mod put;
 mod rules;
 mod take;
-#[cfg(test)]
-mod tests;
 mod user_block;
 mod user_rec;
 

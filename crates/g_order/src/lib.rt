@@ -8,6 +8,3 @@ mod orders;
 pub use coding::{Illegal, decode, encode, has_branch, read_branch, read_order, read_plain};
 pub use functions::{Condition, Function, Operation, function_of};
 pub use orders::{Order, is_branch};
-
-#[cfg(test)]
-mod tests;
