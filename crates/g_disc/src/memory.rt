@@ -1,5 +1,5 @@
 //! A disc in memory, whose failures are set beforehand.
-ghost use Rattle.std.specs.Prelude.{◌≡◌, ◌<◌, ◌≤◌, IfOk, Some, replicate};
+ghost use Rattle.std.specs.Prelude.{◌≡◌, ◌<◌, ◌≤◌, IfOk, Some};
 ghost use Rattle.g_base.specs.Counts.{one_more};
 ghost use Rattle.g_disc.specs.Memory.{MemoryReads, MemoryWrites, blank, left_by};
 
