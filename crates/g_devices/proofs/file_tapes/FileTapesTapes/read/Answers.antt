@@ -3,8 +3,8 @@ use Rattle.g_tape.specs.Reel.{Reel}
 use Rattle.g_tape.specs.Rack.{Rack, refuses_read}
 use Rattle.g_tape.specs.Place.{IsPlaceOf}
 use Rattle.g_tape.proofs.MemoryLemmas.{same-place}
-use Rattle.g_edge.proofs.FileRack.{read_done}
-use Rattle.g_edge.proofs.file_tapes.FileTapesTapes.read.Goals as goal
+use Rattle.g_devices.proofs.FileRack.{read_done}
+use Rattle.g_devices.proofs.file_tapes.FileTapesTapes.read.Goals as goal
 
 pub returns-in-Ok : goal.returns-in-Ok
 returns-in-Ok c =

@@ -1,6 +1,6 @@
 //! Standard input and output, which a signal may interrupt.
-use crate::streams::{StdSink, StdSource};
 use g_base::{ReadFailed, WriteFailed};
+use g_devices::{StdSink, StdSource};
 use g_io::{Sink, Source};
 use std::io::{self, Error, ErrorKind, Read, Write};
 use std::test::Fail;

@@ -3,7 +3,7 @@ use Rattle.std.proofs.Common.{sym, ap, ◌∙◌, arith}
 use Rattle.std.proofs.lemmas.List.{get_or_default}
 use Rattle.g_tape.specs.Reel.{Reel}
 use Rattle.g_tape.proofs.PlaceLemmas.{reel-none, reel-first}
-use Rattle.g_edge.proofs.file_tapes.place_of.Goals as goal
+use Rattle.g_devices.proofs.file_tapes.place_of.Goals as goal
 
 pub returns-then-serial : goal.returns-then-serial
 returns-then-serial c =

@@ -1,6 +1,6 @@
 //! A rack in a folder.
-use crate::rack::open_rack;
 use g_base::Block;
+use g_devices::open_rack;
 use g_tape::{TapeFault, Tapes};
 use std::fs::{self, File};
 use std::io::ErrorKind;
@@ -15,7 +15,7 @@ fn mark() -> Block {
 
 #[test]
 fn reels_end_where_they_were_written(rt: HostRuntime) -> Result<(), Fail> {
-    let (folder, reel) = ("g_edge_reels.tapes", "g_edge_reels.tapes/2.tape");
+    let (folder, reel) = ("g_devices_reels.tapes", "g_devices_reels.tapes/2.tape");
     let mut tapes = open_rack(&rt, folder)?;
     assert!(rt; tapes.reels() == 2);
     assert_eq!(rt; (tapes.serial(0), tapes.serial(1)), (1, 2));
@@ -63,11 +63,11 @@ fn reels_end_where_they_were_written(rt: HostRuntime) -> Result<(), Fail> {
 
 #[test]
 fn a_rack_is_one_runs_alone(rt: HostRuntime) -> Result<(), Fail> {
-    let folder = "g_edge_taken.tapes";
+    let folder = "g_devices_taken.tapes";
     // What a run left that was cut off while it made the folder.
-    fs::create_dir(&rt, "g_edge_taken.tapes.new")?;
+    fs::create_dir(&rt, "g_devices_taken.tapes.new")?;
     let tapes = open_rack(&rt, folder)?;
-    assert!(rt; !fs::exists(&rt, "g_edge_taken.tapes.new")?);
+    assert!(rt; !fs::exists(&rt, "g_devices_taken.tapes.new")?);
     assert_eq!(rt;
         open_rack(&rt, folder).err().map(|e| e.kind()),
         Some(ErrorKind::WouldBlock)
@@ -80,7 +80,7 @@ fn a_rack_is_one_runs_alone(rt: HostRuntime) -> Result<(), Fail> {
 
 #[test]
 fn only_reels_are_in_the_rack(rt: HostRuntime) -> Result<(), Fail> {
-    let folder = "g_edge_names.tapes";
+    let folder = "g_devices_names.tapes";
     fs::create_dir(&rt, folder)?;
     for name in ["0", "01", "+3", "x", "1000000", "", "4.tape.bak"] {
         let path = format!(in rt.alloc(); "{folder}/{name}.tape")?;
@@ -103,14 +103,14 @@ fn only_reels_are_in_the_rack(rt: HostRuntime) -> Result<(), Fail> {
         (8_192 * 512 + 1, false),
         (8_193 * 512, false),
     ] {
-        File::create(&rt, "g_edge_names.tapes/3.tape")?.set_len(bytes)?;
+        File::create(&rt, "g_devices_names.tapes/3.tape")?.set_len(bytes)?;
         assert_eq!(rt; open_rack(&rt, folder).is_ok(), fits, "{bytes} bytes");
         assert_eq!(rt;
-            fs::metadata(&rt, "g_edge_names.tapes/3.tape")?.len(),
+            fs::metadata(&rt, "g_devices_names.tapes/3.tape")?.len(),
             bytes
         );
     }
-    File::create(&rt, "g_edge_names.tapes/3.tape")?.set_len(0)?;
+    File::create(&rt, "g_devices_names.tapes/3.tape")?.set_len(0)?;
     for (serial, fits) in [(114, true), (115, false)] {
         for reel in 102..=serial {
             let path = format!(in rt.alloc(); "{folder}/{reel}.tape")?;

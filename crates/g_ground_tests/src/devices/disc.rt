@@ -1,11 +1,7 @@
 //! The image of a disc.
-use crate::file_disc::open_image;
-use crate::rack::open_rack;
-use crate::rules::run_by_rules;
 use g_base::WriteFailed;
+use g_devices::open_image;
 use g_disc::Disc;
-use g_io::{MemorySink, MemorySource};
-use g_run::Status;
 use std::fs::{self, File};
 use std::io::ErrorKind;
 use std::test::Fail;
@@ -28,7 +24,7 @@ fn used_blocks(image: &[u8]) -> usize {
 
 #[test]
 fn blocks_lie_where_they_belong(rt: HostRuntime) -> Result<(), Fail> {
-    let name = "g_edge_blocks.disc";
+    let name = "g_devices_blocks.disc";
     let mut disc = open_image(&rt, name)?;
     assert_eq!(rt; disc.size(), 4_096);
     let image = fs::read(&rt, name)?;
@@ -54,11 +50,11 @@ fn blocks_lie_where_they_belong(rt: HostRuntime) -> Result<(), Fail> {
 
 #[test]
 fn an_image_is_one_runs_alone(rt: HostRuntime) -> Result<(), Fail> {
-    let name = "g_edge_taken.disc";
+    let name = "g_devices_taken.disc";
     // What a run left that was cut off while it made the image is in no way of the next, and is no image.
-    fs::write(&rt, "g_edge_taken.disc.new", "cut")?;
+    fs::write(&rt, "g_devices_taken.disc.new", "cut")?;
     let disc = open_image(&rt, name)?;
-    assert!(rt; !fs::exists(&rt, "g_edge_taken.disc.new")?);
+    assert!(rt; !fs::exists(&rt, "g_devices_taken.disc.new")?);
     assert_eq!(rt; used_blocks(&fs::read(&rt, name)?), 0);
     assert_eq!(rt;
         open_image(&rt, name).err().map(|e| e.kind()),
@@ -72,7 +68,7 @@ fn an_image_is_one_runs_alone(rt: HostRuntime) -> Result<(), Fail> {
 
 #[test]
 fn sizes_that_no_disc_has_are_refused(rt: HostRuntime) -> Result<(), Fail> {
-    let name = "g_edge_sizes.disc";
+    let name = "g_devices_sizes.disc";
     let rows = [
         (0, false),
         (2_177 * 512, false),
@@ -88,43 +84,5 @@ fn sizes_that_no_disc_has_are_refused(rt: HostRuntime) -> Result<(), Fail> {
         assert_eq!(rt; fs::metadata(&rt, name)?.len(), bytes);
     }
     fs::remove_file(&rt, name)?;
-    Ok(())
-}
-
-/// The records of a new filestore's users, MASTER and MACROS, as far as they aren't zeros.
-const MASTER: &[u8] = b"\x01\x06MASTER\0\0\0\0\0\0\0\0\0\xff\xff\0\0\0\0\0\x0fB@\0\0\0\0\0\0\x0fB@";
-
-const MACROS: &[u8] = b"\x01\x06MACROS\0\0\0\0\0\0\0\0\0\xff\xff\0\0\0\0\0\x0fB@\0\0\0\0\0\0\x0fB@";
-
-#[test]
-fn the_image_of_the_first_script(rt: HostRuntime) -> Result<(), Fail> {
-    let script =
-        "0 FORMAT\n0 JOB ONE,:MASTER,TIME 10\nINPUT F\nHELLO\nWORLD\n////\nLISTFILE F\nENDJOB\n****\n";
-    let (name, folder) = ("g_edge_first.disc", "g_edge_first.tapes");
-    let disc = open_image(&rt, name)?;
-    let tapes = open_rack(&rt, folder)?;
-    let bytes = Vec::from_slice(rt.alloc(), script.as_bytes())?;
-    let mut source = MemorySource::new(bytes, Vec::new(rt.alloc()));
-    let mut sink = MemorySink::new(rt.alloc(), 1_000, Vec::new(rt.alloc()))?;
-    let finish = run_by_rules(rt.alloc(), &["run"], &mut source, &mut sink, disc, tapes);
-    assert_eq!(rt; finish.status, Status::Done);
-    let image = fs::read(&rt, name)?;
-    // Slot A is current, with one file; slot B is as FORMAT made it. Each has its head, and behind it the two users.
-    assert!(rt; holds(&image, 0, b""));
-    assert!(rt; holds(&image, 1, b"G3SL\0\x02\0\0\0\0\0\0\0\x02"));
-    assert!(rt; holds(&image, 1_089, b"G3SL\0\x02\0\0\0\0\0\0\0\x01"));
-    for slot in [1, 1_089] {
-        assert!(rt; holds(&image, slot + 1, MASTER) && holds(&image, slot + 2, MACROS));
-    }
-    let mut file = [0; 64];
-    file[..20].copy_from_slice(b"\x01\0\x01F\0\0\0\0\0\0\0\0\0\0\0\0\x01   ");
-    file[20..34].copy_from_slice(b" \0\0\0\0\0\0\0\x01\0\0\0\x0c\x1f");
-    file[60..].copy_from_slice(b"\x01\0\x08\x81");
-    assert!(rt; holds(&image, 65, &file));
-    assert!(rt; holds(&image, 2_177, b"HELLO\nWORLD\n"));
-    assert_eq!(rt; (image.len(), used_blocks(&image)), (2_097_152, 8));
-    assert_eq!(rt; fs::metadata(&rt, "g_edge_first.tapes/2.tape")?.len(), 0);
-    fs::remove_file(&rt, name)?;
-    fs::remove_dir_all(&rt, folder)?;
     Ok(())
 }

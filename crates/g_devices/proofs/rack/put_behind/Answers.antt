@@ -2,8 +2,8 @@ use Rattle.std.proofs.Common.{rules, arith, ◌≡◌, ◌<◌, List, [], ◌∷
 use Rattle.std.specs.Prelude.{All}
 use Rattle.g_tape.specs.Reel.{Reel}
 use Rattle.g_tape.specs.Rack.{AreReels}
-use Rattle.g_edge.proofs.FileRack.{AreReels-push}
-use Rattle.g_edge.proofs.rack.put_behind.Goals as goal
+use Rattle.g_devices.proofs.FileRack.{AreReels-push}
+use Rattle.g_devices.proofs.rack.put_behind.Goals as goal
 
 pub returns-clause-rack : goal.returns-clause-rack
 returns-clause-rack c =

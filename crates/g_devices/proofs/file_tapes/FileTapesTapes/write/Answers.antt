@@ -4,8 +4,8 @@ use Rattle.g_tape.specs.Rack.{Rack, refuses_write}
 use Rattle.g_tape.specs.Place.{IsPlaceOf}
 use Rattle.g_tape.proofs.MemoryLemmas.{same-place}
 use Rattle.g_tape.proofs.RackLemmas.{AreReels-set}
-use Rattle.g_edge.proofs.FileRack.{write_done, write_failed}
-use Rattle.g_edge.proofs.file_tapes.FileTapesTapes.write.Goals as goal
+use Rattle.g_devices.proofs.FileRack.{write_done, write_failed}
+use Rattle.g_devices.proofs.file_tapes.FileTapesTapes.write.Goals as goal
 
 pub invariant_of-self : goal.invariant_of-self
 invariant_of-self c =

@@ -23,7 +23,7 @@ pub struct FileTapes {
 
 impl FileTapes {
     /// The rack of these reels, in rising serial, which lie in this folder.
-    pub fn new(folder: File, reels: Vec<FileReel>) -> FileTapes
+    pub(crate) fn new(folder: File, reels: Vec<FileReel>) -> FileTapes
         requires { AreReels reels.items }
     {
         FileTapes {

@@ -4,7 +4,7 @@ use Rattle.g_tape.specs.Rack.{Rack, refuses_unmount}
 use Rattle.g_tape.specs.Place.{IsPlaceOf}
 use Rattle.g_tape.proofs.MemoryLemmas.{at-place}
 use Rattle.g_tape.proofs.RackLemmas.{AreReels-set, with_reel-place}
-use Rattle.g_edge.proofs.file_tapes.FileTapesTapes.unmount.Goals as goal
+use Rattle.g_devices.proofs.file_tapes.FileTapesTapes.unmount.Goals as goal
 
 pub invariant_of-self : goal.invariant_of-self
 invariant_of-self c =

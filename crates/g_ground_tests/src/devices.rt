@@ -3,9 +3,7 @@ mod disc;
 mod rack;
 mod streams;
 
-use crate::file_disc::open_image;
-use crate::rack::open_rack;
-use crate::words::{texts_of, words_of};
+use g_devices::{open_image, open_rack, texts_of, words_of};
 use g_tape::Tapes;
 use std::fs;
 use std::test::Fail;
@@ -15,9 +13,9 @@ use std::test::Fail;
 fn ample(rt: HostRuntime) -> Result<(), Fail> {
     let words = words_of(&rt)?;
     assert_eq!(rt; texts_of(rt.alloc(), &words)?.len(), words.len());
-    assert_eq!(rt; open_image(&rt, "g_edge_ample.disc")?.size, 4_096);
-    assert_eq!(rt; open_rack(&rt, "g_edge_ample.tapes")?.reels(), 2);
-    fs::remove_file(&rt, "g_edge_ample.disc")?;
-    fs::remove_dir_all(&rt, "g_edge_ample.tapes")?;
+    assert_eq!(rt; open_image(&rt, "g_devices_ample.disc")?.size, 4_096);
+    assert_eq!(rt; open_rack(&rt, "g_devices_ample.tapes")?.reels(), 2);
+    fs::remove_file(&rt, "g_devices_ample.disc")?;
+    fs::remove_dir_all(&rt, "g_devices_ample.tapes")?;
     Ok(())
 }
