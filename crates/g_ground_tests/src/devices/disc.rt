@@ -1,25 +1,28 @@
 //! The image of a disc.
-use g_base::WriteFailed;
+use g_base::{Block, WriteFailed};
 use g_devices::open_image;
 use g_disc::Disc;
+use std::alloc::Global;
 use std::fs::{self, File};
 use std::io::ErrorKind;
 use std::test::Fail;
 
-/// Whether block k of an image is these bytes with zeros behind them.
-fn holds(image: &[u8], k: usize, bytes: &[u8]) -> bool {
-    match image.chunks(512).nth(k) {
-        Some(block) => block.starts_with(bytes) && block.iter().skip(bytes.len()).all(|&b| b == 0),
-        None => false,
+/// An image of 4,096 blocks, of which these aren't zeros.
+fn image_of(alloc: Global, blocks: &[(usize, Block)]) -> Result<Vec<u8>, Fail> {
+    let mut image = vec![in alloc; 0; 2_097_152]?;
+    for (k, block) in blocks {
+        if *k >= 4_096 || image.len() != 2_097_152 {
+            return Err("no block of the image".into());
+        }
+        image[512 * *k..512 * *k + 512].copy_from_slice(block);
     }
+    Ok(image)
 }
 
-/// How many blocks of an image aren't zeros.
-fn used_blocks(image: &[u8]) -> usize {
-    image
-        .chunks(512)
-        .filter(|block| block.iter().any(|&b| b != 0))
-        .count()
+/// Whether an image holds these blocks, and zeros else.
+fn holds(rt: &HostRuntime, name: &str, blocks: &[(usize, Block)]) -> Result<bool, Fail> {
+    let image = fs::read(rt, name)?;
+    Ok(image == image_of(rt.alloc(), blocks)?)
 }
 
 #[test]
@@ -27,20 +30,17 @@ fn blocks_lie_where_they_belong(rt: HostRuntime) -> Result<(), Fail> {
     let name = "g_devices_blocks.disc";
     let mut disc = open_image(&rt, name)?;
     assert_eq!(rt; disc.size(), 4_096);
-    let image = fs::read(&rt, name)?;
-    assert_eq!(rt; (image.len(), used_blocks(&image)), (2_097_152, 0));
+    assert!(rt; holds(&rt, name, &[])?);
     disc.write(0, &[1; 512])?;
     disc.write(7, &[8; 512])?;
     disc.write(2_177, &[130; 512])?;
     disc.arm(2);
     disc.write(8, &[5; 512])?;
     assert_eq!(rt; disc.write(7, &[6; 512]), Err(WriteFailed));
-    let image = fs::read(&rt, name)?;
-    assert_eq!(rt; (image.len(), used_blocks(&image)), (2_097_152, 4));
-    assert!(rt; holds(&image, 0, &[1; 512]) && holds(&image, 2_177, &[130; 512]));
     let mut torn = [8; 512];
     torn[..256].copy_from_slice(&[6; 256]);
-    assert!(rt; holds(&image, 7, &torn) && holds(&image, 8, &[5; 512]));
+    let blocks = [(0, [1; 512]), (7, torn), (8, [5; 512]), (2_177, [130; 512])];
+    assert!(rt; holds(&rt, name, &blocks)?);
     let mut block = [0; 512];
     disc.read(7, &mut block)?;
     assert!(rt; block == torn);
@@ -48,14 +48,14 @@ fn blocks_lie_where_they_belong(rt: HostRuntime) -> Result<(), Fail> {
     Ok(())
 }
 
+/// What a run left that was cut off while it made the image is in no way of the next, and is no image.
 #[test]
 fn an_image_is_one_runs_alone(rt: HostRuntime) -> Result<(), Fail> {
     let name = "g_devices_taken.disc";
-    // What a run left that was cut off while it made the image is in no way of the next, and is no image.
     fs::write(&rt, "g_devices_taken.disc.new", "cut")?;
     let disc = open_image(&rt, name)?;
     assert!(rt; !fs::exists(&rt, "g_devices_taken.disc.new")?);
-    assert_eq!(rt; used_blocks(&fs::read(&rt, name)?), 0);
+    assert!(rt; holds(&rt, name, &[])?);
     assert_eq!(rt;
         open_image(&rt, name).err().map(|e| e.kind()),
         Some(ErrorKind::WouldBlock)
