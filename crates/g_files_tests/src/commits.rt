@@ -59,13 +59,22 @@ fn is_same(read: &Dirs, want: &Dirs) -> bool {
         && are_same(&read.online, &want.online)
 }
 
+fn is_same_copy(one: &(u16, DiscCopy), other: &(u16, DiscCopy)) -> bool {
+    one.0 == other.0
+        && one.1.len == other.1.len
+        && one.1.blocks.as_slice() == other.1.blocks.as_slice()
+}
+
 fn are_same(copies: &[(u16, DiscCopy)], others: &[(u16, DiscCopy)]) -> bool {
-    copies.len() == others.len()
-        && copies.iter().zip(others).all(|(one, other)| {
-            one.0 == other.0
-                && one.1.len == other.1.len
-                && one.1.blocks.as_slice() == other.1.blocks.as_slice()
-        })
+    if copies.len() != others.len() {
+        return false;
+    }
+    for i in 0..copies.len() {
+        if !is_same_copy(&copies[i], &others[i]) {
+            return false;
+        }
+    }
+    true
 }
 
 /// How many files the directory has then, behind how many the last one's block was stored before, if it was, and how many

@@ -27,23 +27,22 @@ const FILE: [u8; 64] =
 /// Bytes of a slot that differ from those with so many files: the block, the place in it, and the bytes.
 pub type Changed<'a> = (u32, usize, &'a [u8]);
 
+/// The block with these bytes from a place on, where they fit there.
+fn with_bytes(block: &Block, at: usize, bytes: &[u8]) -> Block {
+    let mut changed = *block;
+    if at <= 512 && bytes.len() <= 512 - at {
+        changed[at..at + bytes.len()].copy_from_slice(bytes);
+    }
+    changed
+}
+
 /// The bytes with zeros behind them.
 fn block_of(bytes: &[u8]) -> Block {
-    let mut block = [0; 512];
-    for (at, byte) in bytes.iter().enumerate() {
-        if at < 512 {
-            block[at] = *byte;
-        }
-    }
-    block
+    with_bytes(&[0; 512], 0, bytes)
 }
 
 fn with_byte(block: &Block, at: usize, byte: u8) -> Block {
-    let mut changed = *block;
-    if at < 512 {
-        changed[at] = byte;
-    }
-    changed
+    with_bytes(block, at, &[byte])
 }
 
 /// The head where so many files were put.
@@ -78,14 +77,6 @@ fn changed_block(files: u8, k: u32, changes: &[Changed]) -> Block {
         }
     }
     block
-}
-
-fn with_bytes(block: &Block, at: usize, bytes: &[u8]) -> Block {
-    let mut changed = *block;
-    for (i, byte) in bytes.iter().enumerate() {
-        changed = with_byte(&changed, at.saturating_add(i), *byte);
-    }
-    changed
 }
 
 /// Block `k` of the slot with so many files.

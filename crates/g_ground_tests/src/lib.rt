@@ -15,6 +15,8 @@ mod copies;
 #[cfg(test)]
 mod demonstrations;
 #[cfg(test)]
+mod devices;
+#[cfg(test)]
 mod discs;
 #[cfg(test)]
 mod lines;

@@ -6,9 +6,11 @@ use std::test::Fail;
 #[test]
 fn ample(rt: HostRuntime) -> Result<(), Fail> {
     let texts = Texts::of_text(rt.alloc(), b"A\n\nB")?;
-    assert_eq!(rt; texts.len(), 3);
-    for (text, line) in texts.rows().iter().zip([b"A".as_slice(), b"", b"B"]) {
-        assert_eq!(rt; text.as_slice(), line);
-    }
+    let [first, second, third] = texts.rows() else {
+        panic!(rt; "three lines");
+    };
+    assert_eq!(rt; first.as_slice(), b"A".as_slice());
+    assert_eq!(rt; second.as_slice(), b"".as_slice());
+    assert_eq!(rt; third.as_slice(), b"B".as_slice());
     Ok(())
 }

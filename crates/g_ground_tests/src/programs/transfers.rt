@@ -31,10 +31,8 @@ fn path() -> Result<Path, Fail> {
     })
 }
 
-/// A program of 128 words with its units, none of them assigned.
-fn bench(alloc: Global) -> Result<(Program, Units), Fail> {
-    Ok((loaded(alloc, b"00000200\n")?, Units::new(alloc)?))
-}
+/// A program of 128 words.
+const FILE: &[u8] = b"00000200\n";
 
 /// Puts cards into the reader.
 fn read_from(alloc: Global, units: &mut Units, cards: &[u8]) -> Result<(), Fail> {
@@ -60,8 +58,10 @@ fn punch_on(units: &mut Units) -> Result<(), Fail> {
 
 /// What a unit gives back.
 fn output(units: &mut Units, unit: Unit) -> Result<Text, Fail> {
-    let (_path, text) = units.release(unit)?.ok_or("an output")?;
-    Ok(text)
+    match units.release(unit)? {
+        Some((_path, text)) => Ok(text),
+        None => Err("no output".into()),
+    }
 }
 
 fn is_given_back(units: &mut Units) -> Result<bool, Fail> {
@@ -94,7 +94,8 @@ static READ: [(u32, u32, u32, u32); 4] = [
 
 #[test]
 fn readers(rt: HostRuntime) -> Result<(), Fail> {
-    let (mut program, mut units) = bench(rt.alloc())?;
+    let mut program = loaded(rt.alloc(), FILE)?;
+    let mut units = Units::new(rt.alloc())?;
     area(&rt, &mut program, 0, 4, 100);
     transfer(&mut units, &mut program)?;
     shows(&rt, &program, 41, 2);
@@ -114,7 +115,8 @@ fn readers(rt: HostRuntime) -> Result<(), Fail> {
 /// A line, and one of spaces alone.
 #[test]
 fn printers(rt: HostRuntime) -> Result<(), Fail> {
-    let (mut program, mut units) = bench(rt.alloc())?;
+    let mut program = loaded(rt.alloc(), FILE)?;
+    let mut units = Units::new(rt.alloc())?;
     print_on(&mut units)?;
     put(&rt, &mut program, 100, 0o41202020);
     area(&rt, &mut program, 9, 3, 100);
@@ -130,7 +132,8 @@ fn printers(rt: HostRuntime) -> Result<(), Fail> {
 /// 409 times 160 characters and 96 of them fill a punch.
 #[test]
 fn punches(rt: HostRuntime) -> Result<(), Fail> {
-    let (mut program, mut units) = bench(rt.alloc())?;
+    let mut program = loaded(rt.alloc(), FILE)?;
+    let mut units = Units::new(rt.alloc())?;
     punch_on(&mut units)?;
     area(&rt, &mut program, 17, 160, 60);
     for _ in 0..409 {
@@ -170,7 +173,8 @@ fn is_illegal(units: &mut Units, program: &mut Program, at: u16) -> bool {
 
 #[test]
 fn illegal_areas(rt: HostRuntime) -> Result<(), Fail> {
-    let (mut program, mut units) = bench(rt.alloc())?;
+    let mut program = loaded(rt.alloc(), FILE)?;
+    let mut units = Units::new(rt.alloc())?;
     program.enter(5);
     for (unit, count, buffer, at) in &ILLEGAL {
         area(&rt, &mut program, *unit, *count, *buffer);
@@ -223,7 +227,8 @@ fn halts(
 
 #[test]
 fn orders_with_transfers(rt: HostRuntime) -> Result<(), Fail> {
-    let (mut program, mut units) = bench(rt.alloc())?;
+    let mut program = loaded(rt.alloc(), FILE)?;
+    let mut units = Units::new(rt.alloc())?;
     punch_on(&mut units)?;
     put_words(&rt, &mut program, &ORDERS);
     program.enter(0);
@@ -251,7 +256,8 @@ fn is_free(units: &mut Units) -> bool {
 /// A transfer to the punch, and the same by PERI 40.
 #[test]
 fn ample(rt: HostRuntime) -> Result<(), Fail> {
-    let (mut program, mut units) = bench(rt.alloc())?;
+    let mut program = loaded(rt.alloc(), FILE)?;
+    let mut units = Units::new(rt.alloc())?;
     assert!(rt; !units.assigned(PUNCH));
     punch_on(&mut units)?;
     assert!(rt; units.assigned(PUNCH));
