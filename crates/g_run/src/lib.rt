@@ -11,8 +11,6 @@ mod little;
 mod over;
 mod script;
 mod status;
-#[cfg(test)]
-mod tests;
 mod ticks;
 mod top;
 
