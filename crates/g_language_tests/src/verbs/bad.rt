@@ -1,5 +1,5 @@
 //! Lines whose verb has a bad parameter, with its number.
-use crate::{bad_files, bad_jobs, bad_users};
+use super::{bad_files, bad_jobs, bad_users};
 use g_lang::{Command, Line, parse_line};
 use g_verbs::{VerbFault, read_verb};
 use std::alloc::Global;

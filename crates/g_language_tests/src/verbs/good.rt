@@ -1,6 +1,6 @@
 //! Lines whose verb is good, and what they ask for.
-use crate::good_lines;
-use crate::said::said;
+use super::good_lines;
+use super::said::said;
 use g_lang::{Command, Line, parse_line};
 use g_verbs::{Action, read_verb};
 use std::alloc::Global;
