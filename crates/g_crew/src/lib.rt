@@ -14,6 +14,3 @@ pub use account::Account;
 pub use crew::Crew;
 pub use taking::{NewJob, NotTaken, push_refusal};
 pub use texts::{closing_text, dump_text, job_text, push_operator_line, started_text, tape_text};
-
-#[cfg(test)]
-mod tests;

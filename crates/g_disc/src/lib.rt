@@ -1,6 +1,7 @@
 //! Discs: blocks that are read and written one at a time, with counts of what failed and a fuse.
 #![tactic(auto)]
 
+mod blocks;
 mod disc;
 mod memory;
 

@@ -14,6 +14,7 @@ use g_word::Word;
 
 impl Program {
     /// The low 15 bits of an accumulator.
+    #[inline(always)]
     pub(crate) fn low_bits(&self, x: u8) -> u16
         requires { x < 8 }
         ensures value { result ≡ machine.word_at self.now x % 2 ^ 15 }
@@ -23,6 +24,7 @@ impl Program {
     }
 
     /// The address of an order.
+    #[inline(always)]
     pub(crate) fn address(&self, order: &Order) -> u16
         ensures value { result ≡ machine.address self.now (fields order.now) }
         ensures in_range { result < 2 ^ 15 }
@@ -35,6 +37,7 @@ impl Program {
     }
 
     /// The word at the address of an order, if the program has it.
+    #[inline(always)]
     pub(crate) fn operand(&self, order: &Order) -> Option<Word>
         ensures { result ≡ machine.operand self.now (fields order.now) }
     {

@@ -14,6 +14,7 @@ use g_word::Word;
 
 impl Program {
     /// The accumulator becomes what the operation makes of it and the word at the address.
+    #[inline(always)]
     pub(crate) fn load_word(&mut self, operation: Operation, order: &Order) -> bool
         ensures { Done result self.old self.new
             (effect (function.Load operation) self.old (fields order.now)) }
@@ -28,6 +29,7 @@ impl Program {
     }
 
     /// The word at the address becomes what the operation makes of it and the accumulator.
+    #[inline(always)]
     pub(crate) fn store(&mut self, operation: Operation, order: &Order) -> bool
         ensures { Done result self.old self.new
             (effect (function.Store operation) self.old (fields order.now)) }
@@ -43,6 +45,7 @@ impl Program {
     }
 
     /// The accumulator becomes what the operation makes of it and the address itself.
+    #[inline(always)]
     pub(crate) fn load_number(&mut self, operation: Operation, order: &Order)
         ensures { Done true self.old self.new
             (effect (function.LoadNumber operation) self.old (fields order.now)) }
@@ -54,6 +57,7 @@ impl Program {
     }
 
     /// The accumulator becomes a character of the word at the address.
+    #[inline(never)]
     pub(crate) fn load_character(&mut self, order: &Order) -> bool
         ensures { Done result self.old self.new
             (effect function.LoadCharacter self.old (fields order.now)) }
@@ -68,6 +72,7 @@ impl Program {
     }
 
     /// The word at the address becomes 0.
+    #[inline(always)]
     pub(crate) fn store_zero(&mut self, order: &Order) -> bool
         ensures { Done result self.old self.new
             (effect function.StoreZero self.old (fields order.now)) }
@@ -82,6 +87,7 @@ impl Program {
     }
 
     /// A character of the word at the address becomes the last of the accumulator.
+    #[inline(never)]
     pub(crate) fn deposit_character(&mut self, order: &Order) -> bool
         ensures { Done result self.old self.new
             (effect function.DepositCharacter self.old (fields order.now)) }
@@ -97,6 +103,7 @@ impl Program {
     }
 
     /// The accumulator and the next one become the product of the accumulator and the word at the address.
+    #[inline(never)]
     pub(crate) fn multiply(&mut self, order: &Order) -> bool
         ensures { Done result self.old self.new
             (effect function.Multiply self.old (fields order.now)) }
@@ -112,6 +119,7 @@ impl Program {
     }
 
     /// Goes to the address where the condition holds.
+    #[inline(always)]
     pub(crate) fn branch(&mut self, condition: Condition, order: &Order)
         ensures { Done true self.old self.new
             (effect (function.Branch condition) self.old (fields order.now)) }
@@ -127,6 +135,7 @@ impl Program {
     }
 
     /// Goes to a routine, and keeps the address behind the order in the accumulator.
+    #[inline(always)]
     pub(crate) fn call(&mut self, order: &Order)
         ensures { Done true self.old self.new
             (effect function.Call self.old (fields order.now)) }
@@ -137,6 +146,7 @@ impl Program {
     }
 
     /// Goes back by the address that the accumulator keeps.
+    #[inline(always)]
     pub(crate) fn exit(&mut self, order: &Order)
         ensures { Done true self.old self.new
             (effect function.Exit self.old (fields order.now)) }
@@ -146,6 +156,7 @@ impl Program {
     }
 
     /// Shifts the accumulator, as the address tells.
+    #[inline(never)]
     pub(crate) fn shift(&mut self, left: bool, order: &Order) -> bool
         ensures { Done result self.old self.new (shifted left self.old (fields order.now)) }
     {
@@ -163,6 +174,7 @@ impl Program {
     }
 
     /// Copies words from where the accumulator tells to where the next one does.
+    #[inline(never)]
     pub(crate) fn move_words(&mut self, order: &Order) -> bool
         ensures { Done result self.old self.new
             (effect function.Move self.old (fields order.now)) }

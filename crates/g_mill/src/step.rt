@@ -1,13 +1,17 @@
 //! The order step: one order of a program.
 
-ghost use Rattle.std.specs.Prelude.{◌≡◌, ◌<◌, true, option_and_then};
+ghost use Rattle.std.specs.Prelude.{◌≡◌, ◌≢◌, ◌<◌, ◌≤◌, true, false, option_and_then};
 ghost use Rattle.g_order.specs.Order.{decoded};
 ghost use Rattle.g_order.specs.Coding.{fields};
+ghost use Rattle.g_order.specs.declared.functions.Function.TheVariants as function;
 ghost use Rattle.g_mill.specs.Does.{Does, DoesQuick, Done, is_plain};
 ghost use Rattle.g_mill.specs.Effect.{effect, order, performed};
+ghost use Rattle.g_mill.specs.Running.{RunsOne, RunsTo};
 
 use crate::{Event, Program};
-use g_order::{Function, Order, read_order};
+use g_order::{
+    Condition, Function, Operation, Order, has_branch, read_branch, read_order, read_plain,
+};
 use g_word::Word;
 
 /// What came of an order.
@@ -16,7 +20,7 @@ enum Quick {
     Ran,
     /// It is illegal. Nothing changed.
     Illegal,
-    /// It tells more than that it was done. Nothing changed yet.
+    /// It tells more than that it was done, if it isn't illegal. Nothing changed yet.
     Left,
 }
 
@@ -45,17 +49,53 @@ impl Program {
         }
     }
 
+    /// Does the next orders, at most so many, as long as they tell no more than that they were done; answers how many.
+    /// An order that tells more, or that is illegal, is left for `step`.
+    pub fn run(&mut self, most: u32) -> u32
+        ensures most { result ≤ most }
+        ensures ran { RunsTo result self.old self.new }
+        ensures stops { result < most → (order self.new).1 ≢ Event.Ran }
+    {
+        for done in 0..most {
+            if !self.run_one() {
+                return done;
+            }
+        }
+        most
+    }
+
+    /// Does the next order if it tells no more than that it was done; answers whether it does.
+    #[inline(always)]
+    fn run_one(&mut self) -> bool
+        ensures { RunsOne result self.old self.new }
+    {
+        let Some(word) = self.word(self.next()) else {
+            return false;
+        };
+        match self.quick(word) {
+            Quick::Ran => true,
+            Quick::Illegal | Quick::Left => false,
+        }
+    }
+
     /// Does the order of a word, if it tells no more than that it was done. What is told is small, since most orders
-    /// are such.
+    /// are such; and branches are told from other orders first, so that what only these have costs branches nothing.
     #[inline(always)]
     fn quick(&mut self, word: Word) -> Quick
         ensures { DoesQuick result self.old self.new
             (option_and_then (performed self.old) (decoded word)) }
     {
-        let Some((function, order)) = read_order(word) else {
-            return Quick::Illegal;
-        };
-        self.quickly(function, &order)
+        if has_branch(word) {
+            match read_branch(word) {
+                Some((function, order)) => self.quickly(function, &order),
+                None => Quick::Illegal,
+            }
+        } else {
+            match read_plain(word) {
+                Some((function, order)) => self.quickly(function, &order),
+                None => Quick::Illegal,
+            }
+        }
     }
 
     /// The same with the function of the order.
@@ -84,15 +124,16 @@ impl Program {
     }
 
     /// Does what a function makes of an order that tells no more than that it was done; false where the order is illegal.
+    #[inline(always)]
     fn perform(&mut self, function: Function, order: &Order) -> bool
         requires { is_plain function ≡ true }
         ensures { Done result self.old self.new (effect function self.old (fields order.now)) }
     {
         match function {
-            Function::Load(operation) => self.load_word(operation, order),
-            Function::Store(operation) => self.store(operation, order),
+            Function::Load(operation) => self.load_by(operation, order),
+            Function::Store(operation) => self.store_by(operation, order),
             Function::LoadNumber(operation) => {
-                self.load_number(operation, order);
+                self.load_number_by(operation, order);
                 true
             }
             Function::LoadCharacter => self.load_character(order),
@@ -100,7 +141,7 @@ impl Program {
             Function::DepositCharacter => self.deposit_character(order),
             Function::Multiply => self.multiply(order),
             Function::Branch(condition) => {
-                self.branch(condition, order);
+                self.branch_by(condition, order);
                 true
             }
             Function::Call => {
@@ -124,6 +165,76 @@ impl Program {
         }
     }
 
+    /// `load_word`, written out for each operation, which then isn't asked for once more.
+    #[inline(always)]
+    fn load_by(&mut self, operation: Operation, order: &Order) -> bool
+        ensures { Done result self.old self.new
+            (effect (function.Load operation) self.old (fields order.now)) }
+    {
+        match operation {
+            Operation::Take => self.load_word(Operation::Take, order),
+            Operation::Add => self.load_word(Operation::Add, order),
+            Operation::Negate => self.load_word(Operation::Negate, order),
+            Operation::Subtract => self.load_word(Operation::Subtract, order),
+            Operation::And => self.load_word(Operation::And, order),
+            Operation::Or => self.load_word(Operation::Or, order),
+            Operation::Differ => self.load_word(Operation::Differ, order),
+        }
+    }
+
+    /// `store`, written out for each operation.
+    #[inline(always)]
+    fn store_by(&mut self, operation: Operation, order: &Order) -> bool
+        ensures { Done result self.old self.new
+            (effect (function.Store operation) self.old (fields order.now)) }
+    {
+        match operation {
+            Operation::Take => self.store(Operation::Take, order),
+            Operation::Add => self.store(Operation::Add, order),
+            Operation::Negate => self.store(Operation::Negate, order),
+            Operation::Subtract => self.store(Operation::Subtract, order),
+            Operation::And => self.store(Operation::And, order),
+            Operation::Or => self.store(Operation::Or, order),
+            Operation::Differ => self.store(Operation::Differ, order),
+        }
+    }
+
+    /// `load_number`, written out for each operation.
+    #[inline(always)]
+    fn load_number_by(&mut self, operation: Operation, order: &Order)
+        ensures { Done true self.old self.new
+            (effect (function.LoadNumber operation) self.old (fields order.now)) }
+    {
+        match operation {
+            Operation::Take => self.load_number(Operation::Take, order),
+            Operation::Add => self.load_number(Operation::Add, order),
+            Operation::Negate => self.load_number(Operation::Negate, order),
+            Operation::Subtract => self.load_number(Operation::Subtract, order),
+            Operation::And => self.load_number(Operation::And, order),
+            Operation::Or => self.load_number(Operation::Or, order),
+            Operation::Differ => self.load_number(Operation::Differ, order),
+        }
+    }
+
+    /// `branch`, written out for each condition.
+    #[inline(always)]
+    fn branch_by(&mut self, condition: Condition, order: &Order)
+        ensures { Done true self.old self.new
+            (effect (function.Branch condition) self.old (fields order.now)) }
+    {
+        match condition {
+            Condition::Zero => self.branch(Condition::Zero, order),
+            Condition::NotZero => self.branch(Condition::NotZero, order),
+            Condition::NotNegative => self.branch(Condition::NotNegative, order),
+            Condition::Negative => self.branch(Condition::Negative, order),
+            Condition::Always => self.branch(Condition::Always, order),
+            Condition::Overflow => self.branch(Condition::Overflow, order),
+            Condition::OverflowReset => self.branch(Condition::OverflowReset, order),
+            Condition::NoOverflow => self.branch(Condition::NoOverflow, order),
+            Condition::NoOverflowReset => self.branch(Condition::NoOverflowReset, order),
+        }
+    }
+
     /// Does what a function makes of an order; `None` where the order is illegal.
     fn tell(&mut self, function: Function, order: &Order) -> Option<Event>
         ensures { Does result self.old self.new (effect function self.old (fields order.now)) }
@@ -138,6 +249,7 @@ impl Program {
     }
 
     /// Does an order that tells no more than that it was done, and tells that.
+    #[inline(never)]
     fn told(&mut self, function: Function, order: &Order) -> Option<Event>
         requires { is_plain function ≡ true }
         ensures { Does result self.old self.new (effect function self.old (fields order.now)) }
