@@ -3,6 +3,7 @@
 
 mod dirs;
 mod fault;
+mod known;
 mod laws;
 mod listing;
 mod marks;

@@ -8,6 +8,7 @@ mod head;
 mod head_block;
 mod put;
 mod rules;
+mod same;
 mod take;
 mod user_block;
 mod user_rec;

@@ -2,6 +2,7 @@
 #![tactic(auto)]
 
 mod boxed_disc;
+mod boxed_tapes;
 mod came;
 mod demo;
 mod input;
@@ -11,8 +12,6 @@ mod little;
 mod over;
 mod script;
 mod status;
-#[cfg(test)]
-mod tests;
 mod ticks;
 mod top;
 

@@ -1,11 +1,11 @@
-//! With ample memory: a run of one job, from the script to the printed file, and a demonstration.
+//! The top call: a run of one job, from the script to the printed file, and a demonstration.
 ghost use Rattle.std.specs.Prelude.{◌≡◌, IfOk};
 ghost use Rattle.g_sched.specs.Rule.{IsInRange};
 
-use crate::{Status, george};
 use g_budget::{Charge, Tariff, Usage};
 use g_disc::MemoryDisc;
 use g_io::{MemorySink, MemorySource};
+use g_run::{Status, george};
 use g_sched::{Standing, WeighRule};
 use g_tape::MemoryTapes;
 use std::alloc::Global;

@@ -1,0 +1,42 @@
+//! A crew, and a job from its line to its end.
+use g_crew::{Crew, NewJob, push_operator_line};
+use g_entry::UserRec;
+use g_lines::Texts;
+use g_name::{Local, Text, User};
+use std::test::Fail;
+
+/// A job from its line to its end, with ample memory.
+#[test]
+fn ample(rt: HostRuntime) -> Result<(), Fail> {
+    let name = Local::new(b"A").ok_or("no name")?;
+    let mut crew = Crew::new(rt.alloc());
+    let master = UserRec {
+        number: 0,
+        user: User::master(),
+        superior: 0,
+        space: 100,
+        time: 50,
+        money: 20,
+    };
+    crew.open_accounts(&[master])?;
+    let job = NewJob {
+        name,
+        user: User::master(),
+        time: 40,
+        money: 10,
+        lines: Texts::new(rt.alloc()),
+    };
+    let number = crew.take_in(rt.alloc(), true, job)?;
+    assert_eq!(rt; number, 1);
+    let mut text = Text::new(rt.alloc());
+    push_operator_line(rt.alloc(), &mut text, 0, b"JOB 1 A IN")?;
+    crew.push_broken_files(&mut text)?;
+    assert_eq!(rt;
+        text.as_slice(),
+        b"0 JOB 1 A IN\nJOB 1 A :MASTER\nBREAK\n".as_slice()
+    );
+    let job = crew.end(number).ok_or("no job")?;
+    assert_eq!(rt; job.monitor(), b"JOB 1 A :MASTER\n".as_slice());
+    assert!(rt; crew.jobs().is_empty());
+    Ok(())
+}
