@@ -198,9 +198,6 @@ impl Job {
     }
 }
 
-/// The bytes for which a monitoring file has room from its first line on, so that it doesn't grow bit by bit.
-const ROOM: usize = 256;
-
 /// The first line of a monitoring file, with its byte 10.
 #[tactic(auto, using(crate::proofs::HeaderLemmas::word_short, crate::proofs::HeaderLemmas::header_short))]
 fn first_line(alloc: Global, number: u64, name: &Local, user: &User) -> Result<Text, NoMemory>
@@ -209,7 +206,7 @@ fn first_line(alloc: Global, number: u64, name: &Local, user: &User) -> Result<T
 {
     let is_short = name.as_slice().len() <= 12 && user.as_slice().len() <= 12;
     prove!(is_short);
-    let mut text = Text::from(Vec::with_capacity(alloc, ROOM)?);
+    let mut text = Text::new(alloc);
     push_header(alloc, &mut text, number, name, user)?;
     text.push(b'\n')?;
     Ok(text)

@@ -1,10 +1,10 @@
 -- Orders one behind the other: one more behind them, and what an order that tells more isn't.
-use Rattle.std.proofs.Common.{◌≡◌, ℕ, zero, suc, Bool, true, false, Option, Some, None, refl, sym, ap, subst, ◌∙◌}
+use Rattle.std.proofs.Common.{◌≡◌, ℕ, zero, suc, ◌<◌, ◌≤◌, Bool, true, false, Option, Some, None, refl, sym, ap, subst, ◌∙◌, arith}
 use Rattle.std.specs.Prelude.{◌≢◌, List, nat_lt, option_and_then, unwrap_or, slice_get, if◌then◌else◌}
 use Rattle.std.specs.Option.{option_map}
-use Rattle.std.proofs.lemmas.Bool.{ltb-true, lt-ltb, true≢false}
+use Rattle.std.proofs.lemmas.Bool.{ltb-true, lt-ltb, true≢false, false_from_ne_true}
 use Rattle.std.proofs.lemmas.Option.{slice_get_within, slice_get-get_or, get_or_from_slice_get, none-some}
-use Rattle.g_order.specs.Order.{Fields, decoded}
+use Rattle.g_order.specs.Order.{Fields, are_operands, decoded, fields_of, is_order}
 use Rattle.g_order.specs.Table.{function_of}
 use Rattle.g_order.specs.declared.functions.Function.{Function}
 use Rattle.g_order.specs.declared.functions.Function.TheVariants.{Load, Store, LoadNumber, LoadCharacter, StoreZero, DepositCharacter, Multiply, Branch, Call, Exit, ShiftLeft, ShiftRight, Null, Move, Transfer, Halt, Display, Delete}
@@ -71,6 +71,25 @@ pub past_end : (s : Machine) → slice_get s.words s.next ≡ None → (order s)
 past_end s none =
     chosen (nat_lt s.next (size s)) _ _ (λ below. absurd (none-some _ (sym none ∙ slice_get-get_or s.words s.next 0 (ltb-true _ _ below)))) (other (Illegal 0 s.next) refl)
 
+if_false : (b : Bool) (x y : Machine × Event) → b ≡ false → (if b then x else y) ≡ y
+if_false true x y is = absurd (true≢false is)
+if_false false x y is = refl
+
+pub past_order : (s : Machine) → slice_get s.words s.next ≡ None → order s ≡ (s, Illegal 0 s.next)
+past_order s none =
+    if_false (nat_lt s.next (size s)) _ _ (false_from_ne_true _ (λ below. none-some _ (sym none ∙ slice_get-get_or s.words s.next 0 (ltb-true _ _ below))))
+
+-- one order or none, by how many they are
+pub one_ran : (count : ℕ) (old new : Machine) → RunsTo count old new → count ≡ 1 → order old ≡ (new, Ran)
+one_ran count old new runs is =
+    let one : RunsTo 1 old new = subst (λ (n : ℕ). RunsTo n old new) is runs in
+    ap (λ (told : Event). let both : Machine × Event = ((order old).0, told) in both) one.0 ∙ ap (λ (p : Machine). let both : Machine × Event = (p, Ran) in both) (sym one.1)
+
+pub none_ran : (count : ℕ) (old new : Machine) → RunsTo count old new → count ≤ 1 → count ≢ 1 → new ≡ old
+none_ran zero old new runs most isnt = runs
+none_ran (suc zero) old new runs most isnt = absurd (isnt refl)
+none_ran (suc (suc count)) old new runs most isnt = let never : ⊥ = omega (arith, most) in absurd never
+
 -- the order of the word that the program has at its next address
 there : (s : Machine) (word : ℕ) → slice_get s.words s.next ≡ Some word → order s ≡ obeyed s word
 there s word is =
@@ -95,6 +114,18 @@ illegal_there s same word is unchanged none =
     let outcome : option_and_then (performed s) (decoded word) ≡ None = subst (λ (m : Machine). option_and_then (performed m) (decoded word) ≡ None) unchanged none in
     there s word is ∙ ap (λ (o : Outcome). unwrap_or o (s, Illegal word s.next)) outcome
 
--- what the order of a word leaves, by its function
-pub performed_by : (s : Machine) (word : ℕ) (o : Fields) (function : Function) → decoded word ≡ Some o → function_of o.f o.x ≡ Some function → option_and_then (performed s) (decoded word) ≡ effect function s o
-performed_by s word o function is row = ap (option_and_then (performed s)) is ∙ ap (option_and_then (λ (found : Function). effect found s o)) row
+-- the order of a word with these fields, whose function the table has, and a word whose fields no row has
+pub known_order : (s : Machine) (word x f m n : ℕ) (function : Function) → fields_of word ≡ record { x = x; f = f; m = m; n = n } → x < 8 → are_operands f m n ≡ true → function_of f x ≡ Some function
+    → option_and_then (performed s) (decoded word) ≡ effect function s (record { x = x; f = f; m = m; n = n })
+known_order s word x f m n function fields small operands row =
+    let o : Fields = record { x = x; f = f; m = m; n = n } in
+    let valid : is_order x f m n ≡ true = rw (lt-ltb x 8 small, row, operands) refl in
+    let is : decoded word ≡ Some o = ap (λ (p : Fields). if is_order p.x p.f p.m p.n then Some p else None) fields ∙ ap (λ (b : Bool). if b then Some o else None) valid in
+    ap (option_and_then (performed s)) is ∙ ap (option_and_then (λ (found : Function). effect found s o)) row
+
+pub no_order : (s : Machine) (word x f m n : ℕ) → fields_of word ≡ record { x = x; f = f; m = m; n = n } → x < 8 → function_of f x ≡ None → option_and_then (performed s) (decoded word) ≡ None
+no_order s word x f m n fields small row =
+    let o : Fields = record { x = x; f = f; m = m; n = n } in
+    let invalid : is_order x f m n ≡ false = rw (lt-ltb x 8 small, row) refl in
+    let is : decoded word ≡ None = ap (λ (p : Fields). if is_order p.x p.f p.m p.n then Some p else None) fields ∙ ap (λ (b : Bool). if b then Some o else None) invalid in
+    ap (option_and_then (performed s)) is

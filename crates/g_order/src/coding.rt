@@ -84,10 +84,11 @@ pub fn read_plain(word: Word) -> Option<(Function, Order)>
 
 /// X, F and N of a word with the function number of a branch, whether an order has them or not.
 #[inline(always)]
-fn split_branch(word: Word) -> (u8, u8, u16)
+pub fn split_branch(word: Word) -> (u8, u8, u16)
     requires { is_branch (word / 2 ^ 14 % 2 ^ 7) ≡ true }
     ensures fields { fields_of word ≡ record { x = result.0; f = result.1; m = 0; n = result.2 } }
     ensures x { result.0 < 8 }
+    ensures n { result.2 < 2 ^ 15 }
     ensures operands { are_operands result.1 0 result.2 ≡ true }
 {
     let bits = word.value();
@@ -97,10 +98,12 @@ fn split_branch(word: Word) -> (u8, u8, u16)
 
 /// X, F, M and N of any other word, whether an order has them or not.
 #[inline(always)]
-fn split_plain(word: Word) -> (u8, u8, u8, u16)
+pub fn split_plain(word: Word) -> (u8, u8, u8, u16)
     requires { is_branch (word / 2 ^ 14 % 2 ^ 7) ≡ false }
     ensures fields { fields_of word ≡ record { x = result.0; f = result.1; m = result.2; n = result.3 } }
     ensures x { result.0 < 8 }
+    ensures m { result.2 < 4 }
+    ensures n { result.3 < 2 ^ 12 }
     ensures operands { are_operands result.1 result.2 result.3 ≡ true }
 {
     let bits = word.value();

@@ -5,6 +5,9 @@ mod coding;
 mod functions;
 mod orders;
 
-pub use coding::{Illegal, decode, encode, has_branch, read_branch, read_order, read_plain};
+pub use coding::{
+    Illegal, decode, encode, has_branch, read_branch, read_order, read_plain, split_branch,
+    split_plain,
+};
 pub use functions::{Condition, Function, Operation, function_of};
 pub use orders::{Order, is_branch};

@@ -8,7 +8,7 @@ loop-byte-init c = (omega arith, (λ yes k below. absurd (omega (arith, below)),
 pub loop-byte-preserved : goal.loop-byte-preserved
 loop-byte-preserved c = (
   omega arith,
-  plain_more c.loop-byte.byte-index c.args.line.now c.byte-item.result c.loop-byte.printed c.still_printed-printed.result c.loop-byte-test.true c.byte-item.is c.loop-byte.invariant.1 c.still_printed-printed.ensures,
+  plain_more c.loop-byte.byte-index c.args.line.now c.loop-byte.printed c.still_printed-printed.result c.loop-byte.invariant.1 c.still_printed-printed.ensures,
 )
 
 pub returns : goal.returns
