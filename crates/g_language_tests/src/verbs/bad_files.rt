@@ -1,189 +1,189 @@
-//! Verbs with files, with the number of the parameter that is bad.
+//! Verbs with files: in each row the number of the parameter that is bad, and the line.
 
 /// Each verb with files: each of its places bad, empty or lacking, and one parameter too many.
-pub static VERBS: [(&str, usize); 77] = [
-    // INPUT file
-    ("INPUT", 1),
-    ("INPUT f", 1),
-    ("INPUT ,F", 1),
-    ("INPUT F,G", 2),
-    ("INPUT F,", 2),
-    ("INPUT f,G", 1),
-    ("INPUT ,", 1),
-    ("7 INPUT", 1),
-    ("INPUT    ", 1),
-    // COPY file,file
-    ("COPY", 1),
-    ("COPY F", 2),
-    ("COPY f,G", 1),
-    ("COPY F,g", 2),
-    ("COPY ,G", 1),
-    ("COPY ,F", 1),
-    ("COPY F,", 2),
-    ("COPY F,G,H", 3),
-    ("COPY F,G,", 3),
-    ("COPY f,g", 1),
-    ("COPY f", 1),
-    ("COPY F,g,H", 2),
-    ("COPY ,", 1),
-    ("COPY F,,H", 2),
-    ("1A COPY  F , g", 2),
-    ("COPY F(0),G", 1),
-    ("COPY F,G(4096)", 2),
-    // APPEND file,file
-    ("APPEND", 1),
-    ("APPEND F", 2),
-    ("APPEND 1,G", 1),
-    ("APPEND F,1", 2),
-    ("APPEND ,G", 1),
-    ("APPEND F,", 2),
-    ("APPEND F,G,H", 3),
-    ("APPEND F,G,", 3),
-    ("APPEND 1,2", 1),
-    ("APPEND 1", 1),
-    ("APPEND F,1,H", 2),
-    ("APPEND ,", 1),
-    ("APPEND :A,G", 1),
-    ("APPEND F,:A", 2),
-    // ERASE file
-    ("ERASE", 1),
-    ("ERASE F-g", 1),
-    ("ERASE ,F", 1),
-    ("ERASE F,G", 2),
-    ("ERASE F,", 2),
-    ("ERASE ,", 1),
-    ("ERASE F,G,H", 2),
-    // RENAME file,local
-    ("RENAME", 1),
-    ("RENAME F", 2),
-    ("RENAME f,G", 1),
-    ("RENAME F,g", 2),
-    ("RENAME ,G", 1),
-    ("RENAME F,", 2),
-    ("RENAME F,G,H", 3),
-    ("RENAME F,G,", 3),
-    ("RENAME f,g", 1),
-    ("RENAME f", 1),
-    ("RENAME F,g,H", 2),
-    ("RENAME ,", 1),
-    // LISTFILE file
-    ("LISTFILE", 1),
-    ("LISTFILE :MASTER", 1),
-    ("LISTFILE ,F", 1),
-    ("LISTFILE F,G", 2),
-    ("LISTFILE F,", 2),
-    ("LISTFILE ,", 1),
-    // RETRIEVE file
-    ("RETRIEVE", 1),
-    ("RETRIEVE F/G", 1),
-    ("RETRIEVE ,F", 1),
-    ("RETRIEVE F,G", 2),
-    ("RETRIEVE F,", 2),
-    ("RETRIEVE ,", 1),
-    // LOAD file
-    ("LOAD", 1),
-    ("LOAD F(4096)", 1),
-    ("LOAD ,F", 1),
-    ("LOAD F,F", 2),
-    ("LOAD F,", 2),
-    ("LOAD ,", 1),
-];
+pub static VERBS: &str = "\
+# INPUT file\n\
+1 INPUT\n\
+1 INPUT f\n\
+1 INPUT ,F\n\
+2 INPUT F,G\n\
+2 INPUT F,\n\
+1 INPUT f,G\n\
+1 INPUT ,\n\
+1 7 INPUT\n\
+1 INPUT    \n\
+# COPY file,file\n\
+1 COPY\n\
+2 COPY F\n\
+1 COPY f,G\n\
+2 COPY F,g\n\
+1 COPY ,G\n\
+1 COPY ,F\n\
+2 COPY F,\n\
+3 COPY F,G,H\n\
+3 COPY F,G,\n\
+1 COPY f,g\n\
+1 COPY f\n\
+2 COPY F,g,H\n\
+1 COPY ,\n\
+2 COPY F,,H\n\
+2 1A COPY  F , g\n\
+1 COPY F(0),G\n\
+2 COPY F,G(4096)\n\
+# APPEND file,file\n\
+1 APPEND\n\
+2 APPEND F\n\
+1 APPEND 1,G\n\
+2 APPEND F,1\n\
+1 APPEND ,G\n\
+2 APPEND F,\n\
+3 APPEND F,G,H\n\
+3 APPEND F,G,\n\
+1 APPEND 1,2\n\
+1 APPEND 1\n\
+2 APPEND F,1,H\n\
+1 APPEND ,\n\
+1 APPEND :A,G\n\
+2 APPEND F,:A\n\
+# ERASE file\n\
+1 ERASE\n\
+1 ERASE F-g\n\
+1 ERASE ,F\n\
+2 ERASE F,G\n\
+2 ERASE F,\n\
+1 ERASE ,\n\
+2 ERASE F,G,H\n\
+# RENAME file,local\n\
+1 RENAME\n\
+2 RENAME F\n\
+1 RENAME f,G\n\
+2 RENAME F,g\n\
+1 RENAME ,G\n\
+2 RENAME F,\n\
+3 RENAME F,G,H\n\
+3 RENAME F,G,\n\
+1 RENAME f,g\n\
+1 RENAME f\n\
+2 RENAME F,g,H\n\
+1 RENAME ,\n\
+# LISTFILE file\n\
+1 LISTFILE\n\
+1 LISTFILE :MASTER\n\
+1 LISTFILE ,F\n\
+2 LISTFILE F,G\n\
+2 LISTFILE F,\n\
+1 LISTFILE ,\n\
+# RETRIEVE file\n\
+1 RETRIEVE\n\
+1 RETRIEVE F/G\n\
+1 RETRIEVE ,F\n\
+2 RETRIEVE F,G\n\
+2 RETRIEVE F,\n\
+1 RETRIEVE ,\n\
+# LOAD file\n\
+1 LOAD\n\
+1 LOAD F(4096)\n\
+1 LOAD ,F\n\
+2 LOAD F,F\n\
+2 LOAD F,\n\
+1 LOAD ,\n\
+";
 
 /// Texts that are no file.
-pub static FILES: [(&str, usize); 72] = [
-    // its local name
-    ("ERASE f", 1),
-    ("ERASE Ff", 1),
-    ("ERASE 1F", 1),
-    ("ERASE -F", 1),
-    ("ERASE F_G", 1),
-    ("ERASE F G", 1),
-    ("ERASE F.G", 1),
-    ("ERASE A.F", 1),
-    ("ERASE ABCDEFGHIJKLM", 1),
-    ("ERASE 7", 1),
-    ("ERASE *CR0", 1),
-    ("ERASE %A", 1),
-    ("ERASE F~", 1),
-    ("ERASE (F)", 1),
-    ("ERASE F/", 1),
-    ("ERASE F/ABC", 1),
-    // its user
-    ("ERASE :A", 1),
-    ("ERASE :A.", 1),
-    ("ERASE :.F", 1),
-    ("ERASE ::A.F", 1),
-    ("ERASE :a.F", 1),
-    ("ERASE :1.F", 1),
-    ("ERASE :-A.F", 1),
-    ("ERASE :A B.F", 1),
-    ("ERASE : A.F", 1),
-    ("ERASE :A .F", 1),
-    ("ERASE :A. F", 1),
-    ("ERASE :A..F", 1),
-    ("ERASE :A.F.G", 1),
-    ("ERASE :A:F", 1),
-    ("ERASE :ABCDEFGHIJKLM.F", 1),
-    ("ERASE :A.f", 1),
-    ("ERASE :A.(1)", 1),
-    ("ERASE :A(1).F", 1),
-    ("ERASE :", 1),
-    ("ERASE .F", 1),
-    // its generation
-    ("ERASE F()", 1),
-    ("ERASE F(0)", 1),
-    ("ERASE F(00)", 1),
-    ("ERASE F(01)", 1),
-    ("ERASE F(0001)", 1),
-    ("ERASE F(4096)", 1),
-    ("ERASE F(9999)", 1),
-    ("ERASE F(10000)", 1),
-    ("ERASE F(65537)", 1),
-    ("ERASE F(+1)", 1),
-    ("ERASE F(-1)", 1),
-    ("ERASE F(A)", 1),
-    ("ERASE F(1A)", 1),
-    ("ERASE F( 1)", 1),
-    ("ERASE F(1 )", 1),
-    ("ERASE F (1)", 1),
-    ("ERASE F((1))", 1),
-    ("ERASE F(1)(1)", 1),
-    ("ERASE F(1)G", 1),
-    ("ERASE F(1,2)", 1),
-    ("ERASE (1)", 1),
-    ("ERASE :A.F(0)", 1),
-    // its language
-    ("ERASE F(/ABCDE)", 1),
-    ("ERASE F(1/ABCDE)", 1),
-    ("ERASE F(/a)", 1),
-    ("ERASE F(/A B)", 1),
-    ("ERASE F(/ A)", 1),
-    ("ERASE F(/A )", 1),
-    ("ERASE F(1/A/B)", 1),
-    ("ERASE F(//)", 1),
-    ("ERASE F(1 /A)", 1),
-    ("ERASE F(0/A)", 1),
-    ("ERASE F(/A,)", 1),
-    ("ERASE F(/A.)", 1),
-    ("ERASE F(A/)", 1),
-    ("ERASE F(/A)B", 1),
-];
+pub static FILES: &str = "\
+# its local name\n\
+1 ERASE f\n\
+1 ERASE Ff\n\
+1 ERASE 1F\n\
+1 ERASE -F\n\
+1 ERASE F_G\n\
+1 ERASE F G\n\
+1 ERASE F.G\n\
+1 ERASE A.F\n\
+1 ERASE ABCDEFGHIJKLM\n\
+1 ERASE 7\n\
+1 ERASE *CR0\n\
+1 ERASE %A\n\
+1 ERASE F~\n\
+1 ERASE (F)\n\
+1 ERASE F/\n\
+1 ERASE F/ABC\n\
+# its user\n\
+1 ERASE :A\n\
+1 ERASE :A.\n\
+1 ERASE :.F\n\
+1 ERASE ::A.F\n\
+1 ERASE :a.F\n\
+1 ERASE :1.F\n\
+1 ERASE :-A.F\n\
+1 ERASE :A B.F\n\
+1 ERASE : A.F\n\
+1 ERASE :A .F\n\
+1 ERASE :A. F\n\
+1 ERASE :A..F\n\
+1 ERASE :A.F.G\n\
+1 ERASE :A:F\n\
+1 ERASE :ABCDEFGHIJKLM.F\n\
+1 ERASE :A.f\n\
+1 ERASE :A.(1)\n\
+1 ERASE :A(1).F\n\
+1 ERASE :\n\
+1 ERASE .F\n\
+# its generation\n\
+1 ERASE F()\n\
+1 ERASE F(0)\n\
+1 ERASE F(00)\n\
+1 ERASE F(01)\n\
+1 ERASE F(0001)\n\
+1 ERASE F(4096)\n\
+1 ERASE F(9999)\n\
+1 ERASE F(10000)\n\
+1 ERASE F(65537)\n\
+1 ERASE F(+1)\n\
+1 ERASE F(-1)\n\
+1 ERASE F(A)\n\
+1 ERASE F(1A)\n\
+1 ERASE F( 1)\n\
+1 ERASE F(1 )\n\
+1 ERASE F (1)\n\
+1 ERASE F((1))\n\
+1 ERASE F(1)(1)\n\
+1 ERASE F(1)G\n\
+1 ERASE F(1,2)\n\
+1 ERASE (1)\n\
+1 ERASE :A.F(0)\n\
+# its language\n\
+1 ERASE F(/ABCDE)\n\
+1 ERASE F(1/ABCDE)\n\
+1 ERASE F(/a)\n\
+1 ERASE F(/A B)\n\
+1 ERASE F(/ A)\n\
+1 ERASE F(/A )\n\
+1 ERASE F(1/A/B)\n\
+1 ERASE F(//)\n\
+1 ERASE F(1 /A)\n\
+1 ERASE F(0/A)\n\
+1 ERASE F(/A,)\n\
+1 ERASE F(/A.)\n\
+1 ERASE F(A/)\n\
+1 ERASE F(/A)B\n\
+";
 
 /// Texts that are no local name.
-pub static NAMES: [(&str, usize); 15] = [
-    ("RENAME F,:A.G", 2),
-    ("RENAME F,:G", 2),
-    ("RENAME F,G(2)", 2),
-    ("RENAME F,G(/ABC)", 2),
-    ("RENAME F,G(2/)", 2),
-    ("RENAME F,Gg", 2),
-    ("RENAME F,1G", 2),
-    ("RENAME F,-G", 2),
-    ("RENAME F,G H", 2),
-    ("RENAME F,G.H", 2),
-    ("RENAME F,G_H", 2),
-    ("RENAME F,(G)", 2),
-    ("RENAME F,ABCDEFGHIJKLM", 2),
-    ("RENAME F,*LP0", 2),
-    ("RENAME F,7", 2),
-];
+pub static NAMES: &str = "\
+2 RENAME F,:A.G\n\
+2 RENAME F,:G\n\
+2 RENAME F,G(2)\n\
+2 RENAME F,G(/ABC)\n\
+2 RENAME F,G(2/)\n\
+2 RENAME F,Gg\n\
+2 RENAME F,1G\n\
+2 RENAME F,-G\n\
+2 RENAME F,G H\n\
+2 RENAME F,G.H\n\
+2 RENAME F,G_H\n\
+2 RENAME F,(G)\n\
+2 RENAME F,ABCDEFGHIJKLM\n\
+2 RENAME F,*LP0\n\
+2 RENAME F,7\n\
+";

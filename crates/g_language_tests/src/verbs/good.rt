@@ -17,19 +17,28 @@ fn asked(alloc: Global, line: &str) -> Result<Action, Fail> {
     Ok(action)
 }
 
-/// Reads the lines of a table, each of which asks for this.
-fn check(rt: &(impl Abort + AllocGlobal), rows: &[(&str, &str)]) -> Result<(), Fail> {
-    for (line, wanted) in rows {
-        let action = asked(rt.alloc(), line)?;
-        let told = said(rt.alloc(), &action)?;
-        assert!(rt; told.as_slice() == wanted.as_bytes(), "in {line}");
+/// Compares a row: what a line asks for, and the line.
+fn compare(rt: &(impl Abort + AllocGlobal), row: &str) -> Result<(), Fail> {
+    let (wanted, line) = row.split_once(" <= ").ok_or("no row")?;
+    let action = asked(rt.alloc(), line)?;
+    let told = said(rt.alloc(), &action)?;
+    assert!(rt; told.as_slice() == wanted.as_bytes(), "in {line}");
+    Ok(())
+}
+
+/// Compares the rows of a table, but for the lines that begin with `#`.
+fn check(rt: &(impl Abort + AllocGlobal), rows: &str) -> Result<(), Fail> {
+    for row in rows.lines() {
+        if !row.starts_with('#') {
+            compare(rt, row)?;
+        }
     }
     Ok(())
 }
 
 #[test]
 fn each_verb(rt: HostRuntime) -> Result<(), Fail> {
-    check(&rt, &good_lines::FILES)?;
-    check(&rt, &good_lines::USERS)?;
-    check(&rt, &good_lines::JOBS)
+    check(&rt, good_lines::FILES)?;
+    check(&rt, good_lines::USERS)?;
+    check(&rt, good_lines::JOBS)
 }
