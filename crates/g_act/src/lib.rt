@@ -11,6 +11,7 @@ mod listing;
 mod macros;
 mod made;
 mod releases;
+mod room;
 mod runs;
 mod say;
 mod stop;

@@ -10,6 +10,7 @@ ghost use Rattle.g_name.specs.declared.path.Path.{Path};
 ghost use Rattle.g_plain.specs.Replies.{IsReplyTo};
 ghost use Rattle.g_trap.specs.declared.mode_set.Mode.{Mode};
 
+use crate::room::make_room;
 use crate::work::Work;
 use g_base::NoMemory;
 use g_lines::Lines;
@@ -149,6 +150,18 @@ impl Work {
         Ok(())
     }
 
+    /// Makes room for the lines of a file, where they are some 30 bytes long or longer.
+    fn make_room_for(&mut self, alloc: Global, bytes: &[u8]) -> Result<(), NoMemory>
+        ensures { self.new ≡ self.old }
+    {
+        let len = bytes.len();
+        make_room(
+            alloc,
+            &mut self.text,
+            len.saturating_add(len / 16).saturating_add(64),
+        )
+    }
+
     /// LISTFILE, with the bytes of the file.
     pub(crate) fn list_bytes(
         &mut self,
@@ -163,6 +176,7 @@ impl Work {
         ensures blocks { OnOk result (self.new.blocks ≡ self.old.blocks) }
     {
         self.done();
+        self.make_room_for(alloc, bytes)?;
         self.say_lines(alloc, room, bytes)?;
         if self.is_over() {
             return Ok(());

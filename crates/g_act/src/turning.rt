@@ -12,6 +12,7 @@ ghost use Rattle.g_plain.specs.Asks.{RanInPart};
 
 use crate::again::Again;
 use crate::made::Made;
+use crate::room::empty;
 use crate::work::Work;
 use g_base::NoMemory;
 use g_macro::MacroFault;
@@ -22,7 +23,8 @@ use std::alloc::Global;
 use std::mem;
 
 impl Work {
-    /// A turn begins, with nothing made yet; the desk is as the last one left it, with its 16 places for output.
+    /// A turn begins, with nothing made yet, in the room of the text that is there; the desk is as the last one left it,
+    /// with its 16 places for output. It takes no memory.
     pub fn begin(&mut self, alloc: Global)
         ensures ok { self.new ≡ record {
           desk = self.old.desk;
@@ -39,12 +41,20 @@ impl Work {
             kind: Kind::Lp,
             number: 0,
         });
-        self.text = Text::new(alloc);
+        empty(alloc, &mut self.text);
         self.orders = 0;
         self.blocks = 0;
         self.sets = false;
         self.again = None;
         self.stop = None;
+    }
+
+    /// Takes back a text that was handed over, for its room alone: the next turn begins with it, and takes memory only
+    /// where it makes more.
+    pub fn take_back(&mut self, text: Text)
+        ensures { self.new ≡ record self.old { text = text } }
+    {
+        self.text = text;
     }
 
     /// Hands over what the turn has made, all but the desk, which stays. It takes no memory.

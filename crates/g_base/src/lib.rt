@@ -12,8 +12,6 @@ mod fuse;
 mod limits;
 mod memory;
 mod reader;
-#[cfg(test)]
-mod tests;
 mod writer;
 
 pub use block::{Block, blocks_for};

@@ -6,6 +6,3 @@ mod pool;
 
 pub use g_base::{FIRST_COPY_BLOCK, MAX_DISC_BLOCKS};
 pub use pool::{Pool, PoolFault};
-
-#[cfg(test)]
-mod tests;

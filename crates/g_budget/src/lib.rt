@@ -7,6 +7,3 @@ mod tariff;
 
 pub use account::{Account, NoMoney, NoTime, Refusal, account_adds_up};
 pub use tariff::{Charge, MAX_BLOCKS, MAX_ORDERS, Tariff, Usage};
-
-#[cfg(test)]
-mod tests;

@@ -2,7 +2,5 @@
 #![tactic(auto)]
 
 mod cached_disc;
-#[cfg(test)]
-mod tests;
 
 pub use cached_disc::CachedDisc;

@@ -6,8 +6,6 @@ mod fault;
 mod laws;
 mod read;
 mod store;
-#[cfg(test)]
-mod tests;
 mod write;
 
 pub use copy::DiscCopy;

@@ -8,8 +8,6 @@ mod law;
 mod script;
 mod sink;
 mod summary;
-#[cfg(test)]
-mod tests;
 mod text;
 mod words;
 

@@ -1,6 +1,7 @@
 pub mod CopyLemmas
 pub mod ListingLemmas
 pub mod EntryLemmas
+pub mod MarkLemmas
 pub mod PageLemmas
 pub mod Parts
 pub mod QuietLemmas

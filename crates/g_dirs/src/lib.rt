@@ -3,14 +3,13 @@
 
 mod dirs;
 mod fault;
+mod known;
 mod laws;
 mod listing;
 mod marks;
 mod pages;
 mod read;
 mod rules;
-#[cfg(test)]
-mod tests;
 mod write;
 
 pub use dirs::Dirs;

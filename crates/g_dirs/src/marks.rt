@@ -1,5 +1,5 @@
 //! A mark at each block of a slot that may have to be written.
-ghost use Rattle.std.specs.Prelude.{◌≡◌, ◌<◌, ◌≤◌, IfOk, false, replicate, slice_set, true};
+ghost use Rattle.std.specs.Prelude.{◌≡◌, ℕ, ◌<◌, ◌≤◌, IfOk, Some, false, length, replicate, slice_get, slice_set, true};
 ghost use Rattle.g_dirs.specs.Marks.{IsNext};
 
 use g_base::{NoMemory, SLOT_BLOCKS};
@@ -60,7 +60,7 @@ impl Marks {
     pub(crate) fn clear(&mut self)
         ensures { self.new ≡ replicate 1088 false }
     {
-        self.blocks.fill(false);
+        unmark(&mut self.blocks, self.end as usize);
         self.end = 0;
     }
 
@@ -76,4 +76,13 @@ impl Marks {
         }
         1088
     }
+}
+
+/// Takes the marks off that stand before `end`, behind which there are none.
+fn unmark(blocks: &mut [bool], end: usize)
+    requires within { end ≤ length blocks.old }
+    requires behind { (i : ℕ) → end ≤ i → i < length blocks.old → slice_get blocks.old i ≡ Some false }
+    ensures { blocks.new ≡ replicate (length blocks.old) false }
+{
+    blocks[..end].fill(false);
 }

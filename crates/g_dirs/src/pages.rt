@@ -9,9 +9,10 @@ ghost use Rattle.g_dirs.specs.Pages.{Covers, LosesMarks, Remembers, RemembersPag
 ghost use Rattle.g_dirs.specs.Writing.{IsEncodable};
 
 use crate::Listing;
+use crate::known::Known;
 use crate::marks::Marks;
 use g_base::{Block, NoMemory};
-use g_slots::{SLOT_BLOCKS, Side};
+use g_slots::Side;
 use std::alloc::Global;
 use std::marker::Model;
 
@@ -20,21 +21,18 @@ use std::marker::Model;
 /// Contracts see two lists for each slot.
 #[derive(Debug, Drop)]
 pub struct Pages {
-    a: Vec<Option<Block>>,
-    b: Vec<Option<Block>>,
+    a: Known,
+    b: Known,
     marks_a: Marks,
     marks_b: Marks,
 }
 
 impl Model for Pages {
-    ghost use Rattle.std.specs.Prelude.{◌≡◌, vec_len};
     ghost use Rattle.g_dirs.specs.Pages.{Remembered};
 
     ghost Value = { Remembered };
 
-    ghost view = { λ p. record { a = p.a.items; b = p.b.items; marks_a = p.marks_a; marks_b = p.marks_b } };
-
-    ghost invariant = { λ p. (vec_len p.a ≡ 1088) × (vec_len p.b ≡ 1088) };
+    ghost view = { λ p. record { a = p.a; b = p.b; marks_a = p.marks_a; marks_b = p.marks_b } };
 }
 
 impl Pages {
@@ -44,8 +42,8 @@ impl Pages {
         ensures stands { IfOk result (λ pages. (blocks : List (List ℕ)) → Remembers pages blocks) }
     {
         Ok(Pages {
-            a: blank(alloc)?,
-            b: blank(alloc)?,
+            a: Known::nothing(alloc)?,
+            b: Known::nothing(alloc)?,
             marks_a: Marks::new(alloc)?,
             marks_b: Marks::new(alloc)?,
         })
@@ -115,13 +113,9 @@ impl Pages {
         requires { k < 1088 }
         ensures { result ≡ is_remembered (pages_of side self.now) k block.now }
     {
-        let pages = match side {
-            Side::A => &self.a,
-            Side::B => &self.b,
-        };
-        match &pages[k as usize] {
-            Some(page) => *page == *block,
-            None => false,
+        match side {
+            Side::A => self.a.holds(k, block),
+            Side::B => self.b.holds(k, block),
         }
     }
 
@@ -131,19 +125,8 @@ impl Pages {
         ensures { RemembersPage side k block.now self.old self.new }
     {
         match side {
-            Side::A => self.a[k as usize] = Some(*block),
-            Side::B => self.b[k as usize] = Some(*block),
+            Side::A => self.a.set(k, block),
+            Side::B => self.b.set(k, block),
         }
     }
-}
-
-/// 1,088 blocks of which nothing is known.
-fn blank(alloc: Global) -> Result<Vec<Option<Block>>, NoMemory>
-    ensures { IfOk result (λ pages. pages.items ≡ replicate 1088 None) }
-{
-    let mut pages = Vec::with_capacity(alloc, SLOT_BLOCKS as usize)?;
-    for _page in 0..SLOT_BLOCKS {
-        pages.push(None)?;
-    }
-    Ok(pages)
 }

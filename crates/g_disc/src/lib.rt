@@ -1,10 +1,9 @@
 //! Discs: blocks that are read and written one at a time, with counts of what failed and a fuse.
 #![tactic(auto)]
 
+mod blocks;
 mod disc;
 mod memory;
-#[cfg(test)]
-mod tests;
 
 pub use disc::Disc;
 pub use g_base::{ReadFailed, WriteFailed};

@@ -1,8 +1,9 @@
 //! A disc in memory, whose failures are set beforehand.
-ghost use Rattle.std.specs.Prelude.{◌≡◌, ◌<◌, ◌≤◌, IfOk, Some, replicate};
+ghost use Rattle.std.specs.Prelude.{◌≡◌, ◌<◌, ◌≤◌, IfOk, Some};
 ghost use Rattle.g_base.specs.Counts.{one_more};
 ghost use Rattle.g_disc.specs.Memory.{MemoryReads, MemoryWrites, blank, left_by};
 
+use crate::blocks::Blocks;
 use crate::disc::Disc;
 use g_base::{Block, Fuse, NoMemory, ReadFailed, WriteFailed, raised};
 use std::alloc::Global;
@@ -24,7 +25,7 @@ pub enum Leave {
 /// A disc in memory. Nothing fails but the write at which its fuse is 1 and the reads that are named.
 #[derive(Drop)]
 pub struct MemoryDisc {
-    blocks: Vec<Block>,
+    blocks: Blocks,
     leave: Leave,
     fail: Vec<u64>,
     reads: u64,
@@ -36,7 +37,7 @@ pub struct MemoryDisc {
 }
 
 impl Model for MemoryDisc {
-    ghost use Rattle.std.specs.Prelude.{◌<◌, ◌^◌, All, Some, vec_len};
+    ghost use Rattle.std.specs.Prelude.{◌<◌, ◌^◌, All, Some, length};
     ghost use Rattle.g_base.specs.Block.{IsBlock};
     ghost use Rattle.g_disc.specs.Memory.{Memory};
 
@@ -44,8 +45,8 @@ impl Model for MemoryDisc {
 
     ghost view = { λ m. record {
       disc = record {
-        held = Some m.blocks.items;
-        size = vec_len m.blocks;
+        held = Some m.blocks;
+        size = length m.blocks;
         read_faults = m.read_faults;
         write_faults = m.write_faults;
         writes = m.writes;
@@ -57,7 +58,7 @@ impl Model for MemoryDisc {
       reads = m.reads;
     } };
 
-    ghost invariant = { λ m. (vec_len m.blocks < 2 ^ 32) × All IsBlock m.blocks.items };
+    ghost invariant = { λ m. (length m.blocks < 2 ^ 32) × All IsBlock m.blocks };
 }
 
 impl MemoryDisc {
@@ -67,7 +68,7 @@ impl MemoryDisc {
         ensures { IfOk result (λ m. m ≡ blank blocks) }
     {
         Ok(MemoryDisc {
-            blocks: zero_blocks(alloc, blocks)?,
+            blocks: Blocks::new(alloc, blocks)?,
             leave: Leave::Old,
             fail: Vec::new(alloc),
             reads: 0,
@@ -99,7 +100,7 @@ impl Disc for MemoryDisc {
     ghost state = { λ m. m.disc };
 
     fn size(&self) -> u32 {
-        self.blocks.len() as u32
+        self.blocks.count()
     }
 
     fn read(&mut self, k: u32, into: &mut Block) -> Result<(), ReadFailed>
@@ -111,7 +112,7 @@ impl Disc for MemoryDisc {
             self.read_faults = raised(self.read_faults);
             return Err(ReadFailed);
         }
-        *into = self.blocks[k as usize];
+        *into = self.blocks.get(k);
         Ok(())
     }
 
@@ -122,11 +123,11 @@ impl Disc for MemoryDisc {
         self.writes = raised(self.writes);
         if self.fuse.burn() {
             self.write_faults = raised(self.write_faults);
-            let left = left_of(&self.leave, &self.blocks[k as usize], from);
-            self.blocks[k as usize] = left;
+            let left = left_of(&self.leave, &self.blocks.get(k), from);
+            self.blocks.set(k, &left);
             return Err(WriteFailed);
         }
-        self.blocks[k as usize] = *from;
+        self.blocks.set(k, from);
         Ok(())
     }
 
@@ -140,17 +141,6 @@ impl Disc for MemoryDisc {
         self.fuse.arm(k);
         self.arms = raised(self.arms);
     }
-}
-
-/// So many blocks of zeros.
-fn zero_blocks(alloc: Global, count: u32) -> Result<Vec<Block>, NoMemory>
-    ensures { IfOk result (λ blocks. blocks.items ≡ replicate count (replicate 512 0)) }
-{
-    let mut blocks = Vec::with_capacity(alloc, count as usize)?;
-    for _block in 0..count {
-        blocks.push([0; 512])?;
-    }
-    Ok(blocks)
 }
 
 /// What a failing write of `new` leaves of `old`.

@@ -1,31 +1,19 @@
-//! The trusted edge of the program: standard input and output, the image of the disc, the rack of tapes in a folder,
-//! the words and the exit status; and the rules by which its jobs pay and take turns.
+//! The program on the devices of a real machine, with the words and the exit status; and the rules by which its jobs pay
+//! and take turns.
 #![tactic(auto)]
 
-mod blocks;
-mod claim;
-mod file_disc;
-mod file_reel;
-mod file_tapes;
-mod rack;
 mod rules;
-mod streams;
-#[cfg(test)]
-mod tests;
-mod words;
 
 ghost use Rattle.std.specs.Prelude.{◌<◌, ◌≤◌, IfOk};
 
-use file_disc::{FileDisc, open_image};
-use file_tapes::FileTapes;
+use g_devices::{
+    FileDisc, FileTapes, StdSink, StdSource, open_image, open_rack, texts_of, words_of,
+};
 use g_run::{Finish, Status};
-use rack::open_rack;
 pub use rules::run_by_rules;
 use std::fs::File;
 use std::io::{self, ErrorKind};
 use std::process::ExitCode;
-use streams::{StdSink, StdSource};
-use words::{texts_of, words_of};
 
 /// The exit status where the image or the rack can't be used.
 const NO_IMAGE: u8 = 7;

@@ -3,3 +3,4 @@ pub mod RecordLemmas
 pub mod OneEncoding
 pub mod NameLemmas
 pub mod RuleLemmas
+pub mod SameLemmas

@@ -7,6 +7,7 @@ ghost use Rattle.g_entry.specs.FileFields.{IsFile, IsCopy, AreSets, ArePlaces, l
 ghost use Rattle.g_entry.specs.Formats.{is_place};
 
 use crate::put::{put_copy, put_lang, put_online, put_traps, put_word};
+use crate::same::is_same;
 use crate::take::{take_copy, take_lang, take_local, take_places, take_traps};
 use crate::{FileRec, Format, TapeCopy};
 use g_base::{Block, BlockList, BlockReader, BlockWriter, blocks_for};
@@ -103,7 +104,7 @@ pub fn decode_file_in(
     let (r, online) = fields_of(format, b, number)?;
     if keeps_file(&r)
         && keep_places(format, r.len, online.as_ref())
-        && encode_file_in(format, &r, online.as_ref()) == *b
+        && is_same(&encode_file_in(format, &r, online.as_ref()), b)
     {
         Some((r, online))
     } else {

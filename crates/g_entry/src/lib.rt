@@ -8,9 +8,8 @@ mod head;
 mod head_block;
 mod put;
 mod rules;
+mod same;
 mod take;
-#[cfg(test)]
-mod tests;
 mod user_block;
 mod user_rec;
 

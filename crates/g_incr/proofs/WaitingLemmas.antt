@@ -1,9 +1,12 @@
 -- What waits ahead of each file of a plan, and the version that has a block of content.
-use Rattle.std.proofs.Common.{◌≡◌, ◌⊎◌, inl, inr, ℕ, ◌+◌, ◌-◌, ◌*◌, ◌<◌, ◌≤◌, true, false, List, [], ◌∷◌, ◌++◌, length, take, drop, get_or, refl, sym, ◌∙◌, ap, arith, slice_get, subst}
-use Rattle.std.specs.List.Sorted.{IsNonDecreasingBy, IsPartitionPoint}
+use Rattle.std.proofs.Common.{◌≡◌, ◌⊎◌, inl, inr, ℕ, ◌+◌, ◌-◌, ◌*◌, ◌<◌, ◌≤◌, true, false, List, [], ◌∷◌, ◌++◌, length, take, drop, get_or, refl, sym, ◌∙◌, ap, arith, leb, slice_get, subst, Bool}
+use denote.Ref.{Bor}
+use denote.Param.Members.{Mut}
+use Rattle.std.specs.Fn.{Called, ComputesKey}
+use Rattle.std.specs.List.Sorted.{IsNonDecreasingBy, IsPartitionPoint, IsPartitionedBy}
 use Rattle.std.proofs.lemmas.Bool.{cases_Bool, cases_lt, cond-false, cond-true, leb-false, leb-true}
-use Rattle.std.proofs.Common.{leb}
 use Rattle.std.proofs.lemmas.List.{append-nil, get_or_append_left, get_or_push, length-append, length_push, take-append-drop, take-take, take_all, take_at, take_more}
+use Rattle.std.proofs.lemmas.List.Sorted.{IsPartitionPoint-from_clause, IsPartitionedBy-leb}
 use Rattle.std.proofs.lemmas.List.Elements.{filter-append}
 use Rattle.std.proofs.lemmas.List.Sums.{sum_by-append, sum_by-cons}
 use Rattle.std.proofs.lemmas.Option.{get_or_from_slice_get}
@@ -160,3 +163,15 @@ module _ (files : List FileRec) (all : List Ahead) (offset : ℕ) (so : AreAhead
           let low = leb-true _ _ (front (length files) (record { versions = 0; blocks = 0 }) (omega arith) is) in
           let no : ⊥ = omega (arith, last, low, below) in absurd no
       by_last (inr is) last = is
+
+-- from the clause of `partition_point` over these counts
+pub search_found : {F : Type 0} {g : Mut F (Bor Ahead × Unit {0}) Bool} {f : F} (files : List FileRec) (all items : List Ahead) (offset j : ℕ) → all ≡ items → AreAhead files (length files + 1) items
+    → offset < blocks_of (waiting files) → j ≤ length all
+    → ((q : Ahead → Bool) → ComputesKey g q f → IsPartitionedBy q all → IsPartitionPoint (λ (a : Ahead). q a ≡ true) (λ (a : Ahead). q a ≡ false) all j)
+    → ((a : Bor Ahead × Unit {0}) (r : Bool) (f' : F) → Called g f a r f' → (r ≡ leb a.0.now.blocks offset) × (f' ≡ f))
+    → IsBehind files items offset j
+search_found {g = g} {f = f} files all items offset j same so below most clause calls =
+    subst (λ (l : List Ahead). IsBehind files l offset j) same
+    (let here = subst (AreAhead files (length files + 1)) (sym same) so in
+    let parted = IsPartitionedBy-leb (λ (a : Ahead). a.blocks) all offset (ahead_rises files (length files + 1) all here) in
+    behind_found files all offset here j below most (IsPartitionPoint-from_clause (λ (a : Ahead). leb a.blocks offset) {g = g} {f = f} all j clause parted calls))

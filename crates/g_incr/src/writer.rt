@@ -93,6 +93,7 @@ impl Writer {
         requires { k < plan.needs self.now }
         ensures ready { result ≡ Piece.Ready → plan.IsReadyAt self.now k into.new }
         ensures content { (i part : ℕ) → result ≡ Piece.Content i part → plan.IsContentAt self.now k i part }
+        ensures kept { (i part : ℕ) → result ≡ Piece.Content i part → into.new ≡ into.old }
     {
         match self.ready(k) {
             Some(block) => {

@@ -3,8 +3,6 @@
 
 mod memory;
 mod stream;
-#[cfg(test)]
-mod tests;
 
 pub use memory::{MemorySink, MemorySource};
 pub use stream::{Sink, Source};

@@ -75,9 +75,20 @@ impl Job {
         };
         let charge = tariff.charge(&usage);
         match self.settle(alloc, &made.text, charge, made.stop) {
-            Ok(turn) => Ok(turn),
+            Ok(turn) => {
+                self.take_back(made.text);
+                Ok(turn)
+            }
             Err(NoMemory) => Err(NoMemory),
         }
+    }
+
+    /// Takes back the text of a turn, for the room that the next one's has then. It has no more bytes than the
+    /// monitoring file, which keeps them.
+    fn take_back(&mut self, text: Text)
+        ensures { self.new ≡ self.old }
+    {
+        self.work.take_back(text);
     }
 
     /// The job waits for the reel of this serial, and goes on with this then.

@@ -3,8 +3,6 @@
 
 mod laws;
 mod lines;
-#[cfg(test)]
-mod tests;
 mod texts;
 
 pub use laws::lines_are_those_of_their_text;

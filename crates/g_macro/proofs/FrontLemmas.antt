@@ -1,13 +1,14 @@
 -- The front of a text, byte after byte, and a line with its parameters put in, piece after piece.
 use Rattle.std.proofs.Common.{Bool, List, [], ap, append-nil, append_assoc, arith, drop, drop-drop, drop_of_length-le, eq-eqb, false, get_or, le-ltb, leb-true, length, length-append, length-drop, length-take, lt-ltb, nat_le, nat_lt, ne_eqb, refl, subst, sym, take, take-add, take_all, true, ℕ, ◌++◌, ◌+◌, ◌-◌, ◌<◌, ◌==◌, ◌||◌, ◌∙◌, ◌∷◌, ◌≡◌, ◌≤◌}
-use Rattle.std.proofs.lemmas.Bool.{and_from, and_left, and_parts, and_right, cond_both, or_from, or_right}
+use Rattle.std.proofs.lemmas.Bool.{and_from, and_left, and_parts, and_right, cond_both, or_from, or_parts, or_right}
 use Rattle.std.proofs.lemmas.List.{take-append-le}
+use Rattle.std.specs.List.{list_any}
 use Rattle.std.specs.Prelude.{if◌then◌else◌}
 use Rattle.g_lang.specs.Conditions.{is_param_letter}
-use Rattle.g_lang.specs.How.{behind, step}
 use Rattle.g_macro.proofs.StackLemmas.{pushed}
 use Rattle.g_macro.specs.Expansion.{expand, filled, first_filled, first_taken, is_asked, is_filled, param_of, substituted}
-use Rattle.g_macro.specs.Fronts.{Holds}
+use Rattle.g_macro.specs.Fronts.{Holds, IsFilled}
+use Rattle.g_macro.specs.declared.expansion.Filled.{Filled}
 use Rattle.g_macro.specs.declared.expansion.Front.{Front}
 
 -- the front is full: what comes is cut off
@@ -123,3 +124,18 @@ pub letter-inside : (letter count : ℕ) → is_param_letter letter ≡ true →
 letter-inside letter count is all =
     let high : letter ≤ 88 = leb-true letter 88 (and_parts (nat_le 65 letter) (nat_le letter 88) is).1 in
     omega (arith, high, all)
+
+-- a line without `%` stays as it is
+expand-plain : (params : List (List ℕ)) (done line : List ℕ) → list_any (λ (c : ℕ). c == 37) line ≡ false → expand params done line ≡ line
+expand-plain params done [] none = refl
+expand-plain params done (c ∷ []) none = refl
+expand-plain params done (c ∷ d ∷ rest) none =
+    let both = or_parts (c == 37) (list_any (λ (b : ℕ). b == 37) (d ∷ rest)) none in
+    let isnt : is_filled c d ≡ false = and_left (c == 37) (d == 37 || is_param_letter d) both.0 in
+    rw isnt (ap (λ (ts : List ℕ). c ∷ ts) (expand-plain params (done ++ c ∷ []) (d ∷ rest) both.1))
+
+pub filled-plain : (params : List (List ℕ)) (line text : List ℕ) → length line ≤ 240 → list_any (λ (c : ℕ). c == 37) line ≡ false → text ≡ line
+    → IsFilled (substituted params line) (record { text = text; is_cut = false })
+filled-plain params line text short none is =
+    subst (λ (ts : List ℕ). let filled : Filled = record { text = text; is_cut = false } in IsFilled ts filled) (sym (expand-plain params [] line none))
+    (is ∙ sym (take_all 240 line short), sym (le-ltb 240 (length line) short))

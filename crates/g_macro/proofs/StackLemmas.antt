@@ -6,12 +6,12 @@ use Rattle.std.proofs.lemmas.List.{get_or_default, length-reverse, reverse-appen
 use Rattle.std.specs.Prelude.{if◌then◌else◌}
 use Rattle.g_lang.specs.declared.line.Cond.{Cond}
 use Rattle.g_macro.specs.Expansion.{substituted}
-use Rattle.g_macro.specs.Fronts.{Holds}
+use Rattle.g_macro.specs.Fronts.{IsFilled}
 use Rattle.g_macro.specs.LevelReplies.{KeepsIn, is_full_in}
 use Rattle.g_macro.specs.Levels.{Level, Line, Nothing, Stack, Taken, TooLong, as_taken, changed, current, entry_kept, entry_that_holds, fired, first_level, has_line, holds, is_last, line_at, line_taken, live, next_line, take_line, with_current}
 use Rattle.g_macro.specs.Replies.{Keeps, TakesLine}
 use Rattle.g_macro.specs.declared.entry.Entry.{Entry}
-use Rattle.g_macro.specs.declared.expansion.Front.{Front}
+use Rattle.g_macro.specs.declared.expansion.Filled.{Filled}
 use Rattle.g_macro.specs.declared.fault.MacroFault.{MacroFault}
 use Rattle.g_macro.specs.declared.outcome.Outcome.{Outcome}
 use Rattle.g_macro.specs.declared.fault.MacroFault.TheVariants as fault
@@ -134,26 +134,26 @@ keeps-top items held n old new cond command now (Err fault.NoLabel) was last is 
 keeps-top items held n old new cond command now (Err (fault.TooLong text)) was last is keeps = keeps
 
 -- the line that is taken
-taken_as : (text : List ℕ) (front : Front) → Holds text front → as_taken text ≡ (if front.is_cut then TooLong front.bytes.items else Line front.bytes.items)
-taken_as text front holds =
+taken_as : (text : List ℕ) (filled : Filled) → IsFilled text filled → as_taken text ≡ (if filled.is_cut then TooLong filled.text else Line filled.text)
+taken_as text filled holds =
     ⊎_elim
     (λ short.
-    let is : front.is_cut ≡ false = holds.1 ∙ le-ltb 240 (length text) short in
-    let all : front.bytes.items ≡ text = holds.0 ∙ take_all 240 text short in
+    let is : filled.is_cut ≡ false = holds.1 ∙ le-ltb 240 (length text) short in
+    let all : filled.text ≡ text = holds.0 ∙ take_all 240 text short in
     rw (le-leb (length text) 240 short, is, all) refl)
     (λ long.
-    let is : front.is_cut ≡ true = holds.1 ∙ lt-ltb 240 (length text) long in
+    let is : filled.is_cut ≡ true = holds.1 ∙ lt-ltb 240 (length text) long in
     rw (lt-leb (length text) 240 long, is, holds.0) refl)
     (shorter (length text))
   where
     shorter : (n : ℕ) → (n ≤ 240) ⊎ (240 < n)
     shorter n = ⊎_elim (λ long. inr long) (λ short. inl short) (cases_lt 240 n)
 
-pub line-next : (items : List Level) (held : Bool) (n : ℕ) (old new : Level) (front : Front) (now : Stack) → record { levels = reverse items; held = held } ≡ now
+pub line-next : (items : List Level) (held : Bool) (n : ℕ) (old new : Level) (filled : Filled) (now : Stack) → record { levels = reverse items; held = held } ≡ now
     → 0 < n → n ≤ length items → live held (reverse items) ≡ reverse (take n items) → old ≡ get_or items (n - 1) old → has_line old ≡ true → new ≡ line_taken old
-    → Holds (substituted old.params (line_at old)) front
-    → next_line now ≡ ((if front.is_cut then TooLong front.bytes.items else Line front.bytes.items), record { levels = reverse (set (take n items) (n - 1) new); held = held })
-line-next items held n old new front now was some within lives is line same holds =
+    → IsFilled (substituted old.params (line_at old)) filled
+    → next_line now ≡ ((if filled.is_cut then TooLong filled.text else Line filled.text), record { levels = reverse (set (take n items) (n - 1) new); held = held })
+line-next items held n old new filled now was some within lives is line same holds =
     let back : n - 1 + 1 ≡ n = omega (arith, some) in
     let inside : n - 1 < length items = omega (arith, some, within) in
     let below = reverse (take (n - 1) items) in
@@ -164,7 +164,7 @@ line-next items held n old new front now was some within lives is line same hold
     top-set (take n items) (n - 1) new (back ∙ sym short) ∙ ap (λ (ls : List Level). new ∷ reverse ls) (take-take (n - 1) n items (omega (arith, some)))
     ∙ ap (λ (l : Level). l ∷ below) same in
     ap next_line (sym was) ∙ ap (take_line held) (lives ∙ cut)
-    ∙ rw (line, stays, taken_as (substituted old.params (line_at old)) front holds) refl
+    ∙ rw (line, stays, taken_as (substituted old.params (line_at old)) filled holds) refl
 
 pub none-next : (items : List Level) (held : Bool) (n : ℕ) (old : Level) (now : Stack) → record { levels = reverse items; held = held } ≡ now
     → 0 < n → n ≤ length items → live held (reverse items) ≡ reverse (take n items) → old ≡ get_or items (n - 1) old → has_line old ≡ false
@@ -181,18 +181,18 @@ none-next items held n old now was some within lives is none =
 pub pushed : (items : List Level) (level : Level) → reverse (items ++ level ∷ []) ≡ level ∷ reverse items
 pushed items level = reverse-append items (level ∷ [])
 
-pub takes-line : (now new : Stack) (front : Front) (r : Result (Option (List ℕ)) MacroFault)
-    → next_line now ≡ ((if front.is_cut then TooLong front.bytes.items else Line front.bytes.items), new)
-    → ((front.is_cut ≡ true) × (r ≡ Err (fault.TooLong front.bytes.items))) ⊎ ((front.is_cut ≡ false) × (r ≡ Ok (Some front.bytes.items))) → TakesLine now new r
-takes-line now new front r next (inl long) =
-    subst (TakesLine now new) (sym long.1) (next ∙ (let e : ◌≡◌ {A = Taken × Stack} ((if front.is_cut then TooLong front.bytes.items else Line front.bytes.items), new) (TooLong front.bytes.items, new) = rw long.0 refl in e))
-takes-line now new front r next (inr short) =
-    subst (TakesLine now new) (sym short.1) (next ∙ (let e : ◌≡◌ {A = Taken × Stack} ((if front.is_cut then TooLong front.bytes.items else Line front.bytes.items), new) (Line front.bytes.items, new) = rw short.0 refl in e))
+pub takes-line : (now new : Stack) (filled : Filled) (r : Result (Option (List ℕ)) MacroFault)
+    → next_line now ≡ ((if filled.is_cut then TooLong filled.text else Line filled.text), new)
+    → ((filled.is_cut ≡ true) × (r ≡ Err (fault.TooLong filled.text))) ⊎ ((filled.is_cut ≡ false) × (r ≡ Ok (Some filled.text))) → TakesLine now new r
+takes-line now new filled r next (inl long) =
+    subst (TakesLine now new) (sym long.1) (next ∙ (let e : ◌≡◌ {A = Taken × Stack} ((if filled.is_cut then TooLong filled.text else Line filled.text), new) (TooLong filled.text, new) = rw long.0 refl in e))
+takes-line now new filled r next (inr short) =
+    subst (TakesLine now new) (sym short.1) (next ∙ (let e : ◌≡◌ {A = Taken × Stack} ((if filled.is_cut then TooLong filled.text else Line filled.text), new) (Line filled.text, new) = rw short.0 refl in e))
 
 -- a line that is there is none of nothing
-pub some-next : (now new : Stack) (front : Front) → next_line now ≡ ((if front.is_cut then TooLong front.bytes.items else Line front.bytes.items), new) → (next_line now).0 ≡ Nothing → ⊥
-some-next now new front next none =
-    not_nothing front.is_cut front.bytes.items (ap (λ (p : Taken × Stack). p.0) (sym next) ∙ none)
+pub some-next : (now new : Stack) (filled : Filled) → next_line now ≡ ((if filled.is_cut then TooLong filled.text else Line filled.text), new) → (next_line now).0 ≡ Nothing → ⊥
+some-next now new filled next none =
+    not_nothing filled.is_cut filled.text (ap (λ (p : Taken × Stack). p.0) (sym next) ∙ none)
   where
     not_nothing : (b : Bool) (t : List ℕ) → ◌≡◌ {A = Taken} (if b then TooLong t else Line t) Nothing → ⊥
     not_nothing true t is = cc

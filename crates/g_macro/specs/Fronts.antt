@@ -1,7 +1,11 @@
 -- The front of a text as the code keeps it.
 use Rattle.std.specs.Prelude.{List, length, nat_lt, take, ℕ, ◌≡◌}
+use Rattle.g_macro.specs.declared.expansion.Filled.{Filled}
 use Rattle.g_macro.specs.declared.expansion.Front.{Front}
 
 -- its first 240 bytes, and whether there are more
 abbrev pub Holds : List ℕ → Front → Type 0
 Holds text front = (front.bytes.items ≡ take 240 text) × (front.is_cut ≡ nat_lt 240 (length text))
+
+abbrev pub IsFilled : List ℕ → Filled → Type 0
+IsFilled text filled = (filled.text ≡ take 240 text) × (filled.is_cut ≡ nat_lt 240 (length text))

@@ -1,11 +1,23 @@
-//! Parameters put into a line. It takes no memory.
-ghost use Rattle.std.specs.Prelude.{◌≡◌, ◌++◌, ◌∷◌, ◌≤◌, [], ℕ, List, length};
+//! Parameters put into a line.
+ghost use Rattle.std.specs.Prelude.{◌≡◌, ◌++◌, ◌∷◌, ◌≤◌, [], ℕ, List, length, IfOk};
 ghost use Rattle.g_macro.specs.Expansion as expansion;
-ghost use Rattle.g_macro.specs.Fronts.{Holds};
+ghost use Rattle.g_macro.specs.Fronts.{Holds, IsFilled};
 
 use arrayvec::ArrayVec;
+use g_base::NoMemory;
 use g_lang::is_param_letter;
 use g_name::Text;
+use std::alloc::Global;
+
+/// The most bytes of a line.
+const MOST: usize = 240;
+
+/// A line once the parameters are put in: its first bytes, up to 240, and whether it is longer.
+#[derive(Debug, Drop)]
+pub struct Filled {
+    pub text: Text,
+    pub is_cut: bool,
+}
 
 /// The front of a text, up to 240 bytes, and whether the text is longer.
 #[derive(Debug, Drop)]
@@ -43,8 +55,28 @@ impl Front {
     }
 }
 
-/// The front of a line once the parameters are put in.
-pub fn expand(params: &[Text], line: &[u8]) -> Front
+/// A line once the parameters are put in. One that has no `%` is copied as it stands.
+pub fn fill_in(alloc: Global, params: &[Text], line: &[u8]) -> Result<Filled, NoMemory>
+    requires { length params.now ≡ 24 }
+    ensures { IfOk result (IsFilled (expansion.substituted params.now line.now)) }
+{
+    if line.len() <= MOST && !line.contains(&b'%') {
+        let text = Text::from_slice(alloc, line)?;
+        return Ok(Filled {
+            text,
+            is_cut: false,
+        });
+    }
+    let front = expand(params, line);
+    let text = Text::from_slice(alloc, front.bytes.as_slice())?;
+    Ok(Filled {
+        text,
+        is_cut: front.is_cut,
+    })
+}
+
+/// The front of a line once the parameters are put in. It takes no memory.
+fn expand(params: &[Text], line: &[u8]) -> Front
     requires { length params.now ≡ 24 }
     ensures { Holds (expansion.substituted params.now line.now) result }
 {

@@ -4,13 +4,13 @@ ghost use Rattle.g_lang.specs.Conditions.{IsLetter};
 ghost use Rattle.g_lang.specs.Lines.{IsCommandText};
 ghost use Rattle.g_macro.specs.Asked as asked;
 ghost use Rattle.g_macro.specs.Expansion.{substituted, param_of};
-ghost use Rattle.g_macro.specs.Fronts.{Holds};
+ghost use Rattle.g_macro.specs.Fronts.{IsFilled};
 ghost use Rattle.g_macro.specs.Levels as levels;
 ghost use Rattle.g_macro.specs.LevelReplies.{KeepsIn};
 ghost use Rattle.g_lines.specs.Lines.{text_of};
 
 use crate::entry::Entry;
-use crate::expansion::{Front, expand};
+use crate::expansion::{Filled, fill_in};
 use crate::{MacroFault, Outcome};
 use g_base::NoMemory;
 use g_lang::{Cond, Label, Test, label_of};
@@ -76,13 +76,13 @@ impl Level {
         self.taken < self.lines.len()
     }
 
-    /// The front of the next line, with the parameters put in.
-    pub fn next_front(&self) -> Front
+    /// The next line, with the parameters put in.
+    pub fn next_line(&self, alloc: Global) -> Result<Filled, NoMemory>
         requires { levels.has_line self.now ≡ true }
-        ensures { Holds (substituted self.now.params (levels.line_at self.now)) result }
+        ensures { IfOk result (IsFilled (substituted self.now.params (levels.line_at self.now))) }
     {
         let line = &self.lines.rows()[self.taken];
-        expand(self.params.as_slice(), line.as_slice())
+        fill_in(alloc, self.params.as_slice(), line.as_slice())
     }
 
     /// Counts the next line as taken.
@@ -188,6 +188,7 @@ fn filled_up(alloc: Global, params: Vec<Text>) -> Result<Vec<Text>, NoMemory>
     ensures { IfOk result (λ all. all.items ≡ levels.padded params.items) }
 {
     let mut all = params;
+    all.reserve(PARAMS)?;
     for _ in all.len()..PARAMS {
         all.push(Text::new(alloc))?;
     }
@@ -207,11 +208,20 @@ fn closing_place(lines: &[Text]) -> usize
     lines.len()
 }
 
+/// How many bytes the lines take with their bytes 10, for the room of a text; or the greatest number there is.
+fn joined_len(lines: &[Text]) -> usize {
+    let mut len = lines.len();
+    for line in lines {
+        len = len.saturating_add(line.as_slice().len());
+    }
+    len
+}
+
 /// The lines, each with its byte 10.
 fn joined(alloc: Global, lines: &[Text]) -> Result<Text, NoMemory>
     ensures { IfOk result (λ text. text ≡ text_of lines.now) }
 {
-    let mut text = Text::new(alloc);
+    let mut text = Text::from(Vec::with_capacity(alloc, joined_len(lines))?);
     for line in lines {
         text.extend(line.as_slice())?;
         text.push(b'\n')?;

@@ -63,14 +63,13 @@ impl Levels {
             self.levels.truncate(live);
             return Ok(None);
         }
-        let front = self.levels[live - 1].next_front();
-        let text = Text::from_slice(alloc, front.bytes.as_slice())?;
+        let filled = self.levels[live - 1].next_line(alloc)?;
         self.levels.truncate(live);
         self.levels[live - 1].take_line();
-        if front.is_cut {
-            Err(MacroFault::TooLong(text))
+        if filled.is_cut {
+            Err(MacroFault::TooLong(filled.text))
         } else {
-            Ok(Some(text))
+            Ok(Some(filled.text))
         }
     }
 

@@ -1,5 +1,5 @@
 -- How a call that does an order answers.
-use Rattle.std.specs.Prelude.{◌≡◌, ℕ, Bool, true, false, List, Option, Some, None}
+use Rattle.std.specs.Prelude.{⊤, ◌≡◌, ◌≢◌, ℕ, Bool, true, false, List, Option, Some, None}
 use Rattle.g_order.specs.declared.functions.Function.{Function}
 use Rattle.g_order.specs.declared.functions.Function.TheVariants.{Transfer, Halt, Display, Delete}
 use Rattle.g_mill.specs.declared.event.Event.{Event}
@@ -19,11 +19,16 @@ abbrev pub Done : Bool → Machine → Machine → Outcome → Type 0
 Done false old new outcome = (outcome ≡ None) × (new ≡ old)
 Done true old new outcome = outcome ≡ Some (new, Ran)
 
--- the same of an order that may be left for another call, which then has changed nothing
+-- it isn't an order that tells no more than that it was done
+abbrev pub TellsMore : Outcome → Type 0
+TellsMore None = ⊤
+TellsMore (Some both) = both.1 ≢ Ran
+
+-- the same of an order that may be left for another call, since it tells more; nothing has changed then
 abbrev pub DoesQuick : Quick → Machine → Machine → Outcome → Type 0
 DoesQuick quick.Ran old new outcome = outcome ≡ Some (new, Ran)
 DoesQuick quick.Illegal old new outcome = (outcome ≡ None) × (new ≡ old)
-DoesQuick quick.Left old new outcome = new ≡ old
+DoesQuick quick.Left old new outcome = (new ≡ old) × TellsMore outcome
 
 -- whether orders of this function tell no more than that they were done
 abbrev pub is_plain : Function → Bool

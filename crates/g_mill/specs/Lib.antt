@@ -3,3 +3,4 @@ pub mod Effect
 pub mod Loading
 pub mod Lines
 pub mod Machine
+pub mod Running

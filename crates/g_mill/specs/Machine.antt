@@ -10,6 +10,10 @@ pub record Machine : Type 0 where
   pub next : ℕ
   pub overflow : Bool
 
+-- an order as far as its effect looks at it once its function is known
+abbrev pub operands : ℕ → ℕ → ℕ → Fields
+operands x m n = record { x = x; f = 0; m = m; n = n }
+
 -- how many words the program has
 abbrev pub size : Machine → ℕ
 size s = length s.words

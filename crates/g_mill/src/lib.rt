@@ -14,6 +14,3 @@ pub use event::{Event, Text40};
 pub use lines::split_line;
 pub use loading::{LoadFault, load};
 pub use program::Program;
-
-#[cfg(test)]
-mod tests;

@@ -14,6 +14,7 @@ use g_word::Word;
 
 impl Program {
     /// The low 15 bits of an accumulator.
+    #[inline(always)]
     pub(crate) fn low_bits(&self, x: u8) -> u16
         requires { x < 8 }
         ensures value { result ≡ machine.word_at self.now x % 2 ^ 15 }
@@ -23,22 +24,28 @@ impl Program {
     }
 
     /// The address of an order.
-    pub(crate) fn address(&self, order: &Order) -> u16
-        ensures value { result ≡ machine.address self.now (fields order.now) }
+    #[inline(always)]
+    pub(crate) fn address(&self, m: u8, n: u16) -> u16
+        requires m { m < 4 }
+        requires n { n < 2 ^ 15 }
+        ensures value { result ≡ machine.address self.now (machine.operands 0 m n) }
         ensures in_range { result < 2 ^ 15 }
     {
-        if order.m == 0 {
-            order.n
+        if m == 0 {
+            n
         } else {
-            (order.n + self.low_bits(order.m)) % LIMIT
+            (n + self.low_bits(m)) % LIMIT
         }
     }
 
     /// The word at the address of an order, if the program has it.
-    pub(crate) fn operand(&self, order: &Order) -> Option<Word>
-        ensures { result ≡ machine.operand self.now (fields order.now) }
+    #[inline(always)]
+    pub(crate) fn operand(&self, m: u8, n: u16) -> Option<Word>
+        requires m { m < 4 }
+        requires n { n < 2 ^ 15 }
+        ensures { result ≡ machine.operand self.now (machine.operands 0 m n) }
     {
-        self.word(self.address(order))
+        self.word(self.address(m, n))
     }
 
     /// The place of the character that an order means.
@@ -84,7 +91,7 @@ impl Program {
         ensures { TellsText result self.old self.new
             (machine.text_at self.old (machine.address self.old (fields order.now))) }
     {
-        let area = self.address(order);
+        let area = self.address(order.m, order.n);
         let text = self.text(area)?;
         self.go_on();
         Some(text)

@@ -7,6 +7,7 @@ use g_order::{Condition, Operation};
 use g_word::Word;
 
 /// The word that an operation makes of an old word and an operand, and whether the result is out of range.
+#[inline(always)]
 pub(crate) fn made(operation: Operation, old: Word, operand: Word) -> (Word, bool)
     ensures value { result.0 ≡ effect.made operation old operand }
     ensures overflow { result.1 ≡ effect.overflows operation old operand }
@@ -23,6 +24,7 @@ pub(crate) fn made(operation: Operation, old: Word, operand: Word) -> (Word, boo
 }
 
 /// Whether a branch is taken, by the accumulator and overflow.
+#[inline(always)]
 pub(crate) fn is_taken(condition: Condition, x: Word, overflow: bool) -> bool
     ensures { result ≡ effect.is_taken condition x overflow }
 {
@@ -38,6 +40,7 @@ pub(crate) fn is_taken(condition: Condition, x: Word, overflow: bool) -> bool
 }
 
 /// Overflow behind the test of a branch.
+#[inline(always)]
 pub(crate) fn overflow_behind(condition: Condition, overflow: bool) -> bool
     ensures { result ≡ effect.overflow_behind condition overflow }
 {

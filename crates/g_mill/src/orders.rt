@@ -1,10 +1,11 @@
 //! The orders one by one. A call answers false, or `None`, where its order is illegal, and has changed nothing then.
 
-ghost use Rattle.std.specs.Prelude.{◌≡◌, Some, true, false};
+ghost use Rattle.std.specs.Prelude.{◌≡◌, ◌<◌, ◌^◌, Some, true, false};
 ghost use Rattle.g_order.specs.Coding.{fields};
 ghost use Rattle.g_order.specs.declared.functions.Function.TheVariants as function;
 ghost use Rattle.g_mill.specs.Does.{Does, Done};
 ghost use Rattle.g_mill.specs.Effect.{effect, shifted};
+ghost use Rattle.g_mill.specs.Machine.{operands};
 
 use crate::operations::{is_taken, made, overflow_behind};
 use crate::program::{LIMIT, following};
@@ -14,51 +15,64 @@ use g_word::Word;
 
 impl Program {
     /// The accumulator becomes what the operation makes of it and the word at the address.
-    pub(crate) fn load_word(&mut self, operation: Operation, order: &Order) -> bool
+    #[inline(always)]
+    pub(crate) fn load_word(&mut self, operation: Operation, x: u8, m: u8, n: u16) -> bool
+        requires x { x < 8 }
+        requires m { m < 4 }
+        requires n { n < 2 ^ 15 }
         ensures { Done result self.old self.new
-            (effect (function.Load operation) self.old (fields order.now)) }
+            (effect (function.Load operation) self.old (operands x m n)) }
     {
-        let Some(operand) = self.operand(order) else {
+        let Some(operand) = self.operand(m, n) else {
             return false;
         };
-        let (word, overflow) = made(operation, self.accumulator(order.x), operand);
-        self.put_accumulator(order.x, word, overflow);
+        let (word, overflow) = made(operation, self.accumulator(x), operand);
+        self.put_accumulator(x, word, overflow);
         self.go_on();
         true
     }
 
     /// The word at the address becomes what the operation makes of it and the accumulator.
-    pub(crate) fn store(&mut self, operation: Operation, order: &Order) -> bool
+    #[inline(always)]
+    pub(crate) fn store(&mut self, operation: Operation, x: u8, m: u8, n: u16) -> bool
+        requires x { x < 8 }
+        requires m { m < 4 }
+        requires n { n < 2 ^ 15 }
         ensures { Done result self.old self.new
-            (effect (function.Store operation) self.old (fields order.now)) }
+            (effect (function.Store operation) self.old (operands x m n)) }
     {
-        let address = self.address(order);
+        let address = self.address(m, n);
         let Some(old) = self.word(address) else {
             return false;
         };
-        let (word, overflow) = made(operation, old, self.accumulator(order.x));
+        let (word, overflow) = made(operation, old, self.accumulator(x));
         self.put(address, word, overflow);
         self.go_on();
         true
     }
 
     /// The accumulator becomes what the operation makes of it and the address itself.
-    pub(crate) fn load_number(&mut self, operation: Operation, order: &Order)
+    #[inline(always)]
+    pub(crate) fn load_number(&mut self, operation: Operation, x: u8, m: u8, n: u16)
+        requires x { x < 8 }
+        requires m { m < 4 }
+        requires n { n < 2 ^ 15 }
         ensures { Done true self.old self.new
-            (effect (function.LoadNumber operation) self.old (fields order.now)) }
+            (effect (function.LoadNumber operation) self.old (operands x m n)) }
     {
-        let number = Word::from(self.address(order));
-        let (word, overflow) = made(operation, self.accumulator(order.x), number);
-        self.put_accumulator(order.x, word, overflow);
+        let number = Word::from(self.address(m, n));
+        let (word, overflow) = made(operation, self.accumulator(x), number);
+        self.put_accumulator(x, word, overflow);
         self.go_on();
     }
 
     /// The accumulator becomes a character of the word at the address.
+    #[inline(never)]
     pub(crate) fn load_character(&mut self, order: &Order) -> bool
         ensures { Done result self.old self.new
             (effect function.LoadCharacter self.old (fields order.now)) }
     {
-        let Some(operand) = self.operand(order) else {
+        let Some(operand) = self.operand(order.m, order.n) else {
             return false;
         };
         let character = operand.char_at(self.place(order));
@@ -68,11 +82,14 @@ impl Program {
     }
 
     /// The word at the address becomes 0.
-    pub(crate) fn store_zero(&mut self, order: &Order) -> bool
+    #[inline(always)]
+    pub(crate) fn store_zero(&mut self, m: u8, n: u16) -> bool
+        requires m { m < 4 }
+        requires n { n < 2 ^ 15 }
         ensures { Done result self.old self.new
-            (effect function.StoreZero self.old (fields order.now)) }
+            (effect function.StoreZero self.old (operands 0 m n)) }
     {
-        let address = self.address(order);
+        let address = self.address(m, n);
         let Some(_old) = self.word(address) else {
             return false;
         };
@@ -82,11 +99,12 @@ impl Program {
     }
 
     /// A character of the word at the address becomes the last of the accumulator.
+    #[inline(never)]
     pub(crate) fn deposit_character(&mut self, order: &Order) -> bool
         ensures { Done result self.old self.new
             (effect function.DepositCharacter self.old (fields order.now)) }
     {
-        let address = self.address(order);
+        let address = self.address(order.m, order.n);
         let Some(old) = self.word(address) else {
             return false;
         };
@@ -97,11 +115,12 @@ impl Program {
     }
 
     /// The accumulator and the next one become the product of the accumulator and the word at the address.
+    #[inline(never)]
     pub(crate) fn multiply(&mut self, order: &Order) -> bool
         ensures { Done result self.old self.new
             (effect function.Multiply self.old (fields order.now)) }
     {
-        let Some(operand) = self.operand(order) else {
+        let Some(operand) = self.operand(order.m, order.n) else {
             return false;
         };
         let (high, low, overflow) = self.accumulator(order.x).mul_parts(operand);
@@ -112,44 +131,50 @@ impl Program {
     }
 
     /// Goes to the address where the condition holds.
-    pub(crate) fn branch(&mut self, condition: Condition, order: &Order)
+    #[inline(always)]
+    pub(crate) fn branch(&mut self, condition: Condition, x: u8, n: u16)
+        requires x { x < 8 }
+        requires n { n < 2 ^ 15 }
         ensures { Done true self.old self.new
-            (effect (function.Branch condition) self.old (fields order.now)) }
+            (effect (function.Branch condition) self.old (operands x 0 n)) }
     {
         let overflow = self.overflow();
-        let taken = is_taken(condition, self.accumulator(order.x), overflow);
-        let goes_to = if taken {
-            order.n
-        } else {
-            following(self.next())
-        };
+        let taken = is_taken(condition, self.accumulator(x), overflow);
+        let goes_to = if taken { n } else { following(self.next()) };
         self.branch_to(goes_to, overflow_behind(condition, overflow));
     }
 
     /// Goes to a routine, and keeps the address behind the order in the accumulator.
-    pub(crate) fn call(&mut self, order: &Order)
+    #[inline(always)]
+    pub(crate) fn call(&mut self, x: u8, n: u16)
+        requires x { x < 8 }
+        requires n { n < 2 ^ 15 }
         ensures { Done true self.old self.new
-            (effect function.Call self.old (fields order.now)) }
+            (effect function.Call self.old (operands x 0 n)) }
     {
         let back = following(self.next());
-        self.put_accumulator(order.x, Word::from(back), false);
-        self.go(order.n);
+        self.put_accumulator(x, Word::from(back), false);
+        self.go(n);
     }
 
     /// Goes back by the address that the accumulator keeps.
-    pub(crate) fn exit(&mut self, order: &Order)
+    #[inline(always)]
+    pub(crate) fn exit(&mut self, x: u8, n: u16)
+        requires x { x < 8 }
+        requires n { n < 2 ^ 15 }
         ensures { Done true self.old self.new
-            (effect function.Exit self.old (fields order.now)) }
+            (effect function.Exit self.old (operands x 0 n)) }
     {
-        let back = self.low_bits(order.x);
-        self.go((back + order.n) % LIMIT);
+        let back = self.low_bits(x);
+        self.go((back + n) % LIMIT);
     }
 
     /// Shifts the accumulator, as the address tells.
+    #[inline(never)]
     pub(crate) fn shift(&mut self, left: bool, order: &Order) -> bool
         ensures { Done result self.old self.new (shifted left self.old (fields order.now)) }
     {
-        let address = self.address(order);
+        let address = self.address(order.m, order.n);
         let places = u32::from(address % 0x400);
         let x = self.accumulator(order.x);
         let word = match address % 0x1000 / 0x400 {
@@ -163,11 +188,12 @@ impl Program {
     }
 
     /// Copies words from where the accumulator tells to where the next one does.
+    #[inline(never)]
     pub(crate) fn move_words(&mut self, order: &Order) -> bool
         ensures { Done result self.old self.new
             (effect function.Move self.old (fields order.now)) }
     {
-        let low = self.address(order) % 512;
+        let low = self.address(order.m, order.n) % 512;
         let count = if low == 0 { 512 } else { low };
         let from = self.low_bits(order.x);
         let to = self.low_bits((order.x + 1) % 8);
@@ -185,7 +211,7 @@ impl Program {
         ensures { Does (Some result) self.old self.new
             (effect function.Transfer self.old (fields order.now)) }
     {
-        let area = self.address(order);
+        let area = self.address(order.m, order.n);
         self.go_on();
         Event::Peri { area }
     }

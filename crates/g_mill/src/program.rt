@@ -54,6 +54,7 @@ impl Program {
     }
 
     /// The word at an address, or `None` where the program has none there.
+    #[inline(always)]
     pub fn word(&self, address: u16) -> Option<Word>
         ensures { result ≡ slice_get self.now.words address }
     {
@@ -93,6 +94,7 @@ impl Program {
     }
 
     /// The address of the next order.
+    #[inline(always)]
     pub fn next(&self) -> u16
         ensures value { result ≡ self.now.next }
         ensures in_range { result < 2 ^ 15 }
@@ -101,6 +103,7 @@ impl Program {
     }
 
     /// Whether overflow is set.
+    #[inline(always)]
     pub fn overflow(&self) -> bool
         ensures { result ≡ self.now.overflow }
     {
@@ -124,6 +127,7 @@ impl Program {
     }
 
     /// Puts a word at an address as the result of an order, with overflow set where it was out of range.
+    #[inline(always)]
     pub(crate) fn put(&mut self, address: u16, word: Word, overflow: bool)
         requires { address < size self.old }
         ensures { self.new ≡ result_at self.old address word overflow }
@@ -135,6 +139,7 @@ impl Program {
     }
 
     /// Puts a word into an accumulator as the result of an order, with overflow set where it was out of range.
+    #[inline(always)]
     pub(crate) fn put_accumulator(&mut self, x: u8, word: Word, overflow: bool)
         requires { x < 8 }
         ensures { self.new ≡ result_at self.old x word overflow }
@@ -145,6 +150,7 @@ impl Program {
     }
 
     /// Goes on at an address.
+    #[inline(always)]
     pub(crate) fn go(&mut self, address: u16)
         requires { address < 2 ^ 15 }
         ensures { self.new ≡ going_to self.old address }
@@ -153,6 +159,7 @@ impl Program {
     }
 
     /// Goes on behind the order that was done.
+    #[inline(always)]
     pub(crate) fn go_on(&mut self)
         ensures { self.new ≡ onward self.old }
     {
@@ -160,6 +167,7 @@ impl Program {
     }
 
     /// Goes on at an address with this overflow.
+    #[inline(always)]
     pub(crate) fn branch_to(&mut self, address: u16, overflow: bool)
         requires { address < 2 ^ 15 }
         ensures { self.new ≡ record self.old { next = address; overflow = overflow } }
@@ -169,6 +177,7 @@ impl Program {
     }
 
     /// An accumulator.
+    #[inline(always)]
     pub(crate) fn accumulator(&self, x: u8) -> Word
         requires { x < 8 }
         ensures { result ≡ word_at self.now x }
@@ -199,6 +208,7 @@ fn copy_words(words: &mut [Word], from: usize, to: usize, count: usize)
 }
 
 /// The address behind one.
+#[inline(always)]
 pub(crate) fn following(address: u16) -> u16
     requires { address < 2 ^ 15 }
     ensures value { result ≡ following address }

@@ -35,11 +35,16 @@ pub fn push_shown(text: &mut Text, line: &[u8]) -> Result<(), NoMemory>
     Ok(())
 }
 
-/// Whether each byte can be printed, so that the line is shown as it is.
+/// Whether each byte can be printed, so that the line is shown as it is. It looks at all of them, which takes less time
+/// than to look for the first that can't be.
 fn are_printed(line: &[u8]) -> bool
     ensures { IsTrue result → map shown line.now ≡ line.now }
 {
-    line.iter().all(|byte| (32..=126).contains(byte))
+    let mut printed = true;
+    for byte in line {
+        printed = printed & (shown(*byte) == *byte);
+    }
+    printed
 }
 
 /// Puts a file with its length in bytes behind the text, as the listing of a directory has it, without a byte 10. Where

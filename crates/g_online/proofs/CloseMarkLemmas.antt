@@ -1,5 +1,5 @@
 -- The records that a closing changes are marked, one by one, and so all that it changes of the directory.
-use Rattle.std.proofs.Common.{◌≡◌, ◌≢◌, ◌⊎◌, ℕ, ◌+◌, ◌-◌, ◌<◌, ◌≤◌, ◌==◌, Bool, false, List, [], ◌∷◌, length, get_or, map, Option, Some, All, refl, sym, ◌∙◌, ap, subst, arith, inl, inr, slice_get, if◌then◌else◌}
+use Rattle.std.proofs.Common.{◌≡◌, ◌≢◌, ◌⊎◌, ℕ, ◌+◌, ◌-◌, ◌≤◌, ◌==◌, List, [], ◌∷◌, get_or, map, Option, Some, All, refl, sym, ◌∙◌, ap, subst, arith, inl, inr, slice_get, if◌then◌else◌}
 use Rattle.std.proofs.lemmas.Bool.{cases_eq, cond-false, cond-true, eq-eqb, ne_eqb}
 use Rattle.std.proofs.lemmas.List.{get_or-map, get_or_default, length-map}
 use Rattle.std.proofs.lemmas.List.Elements.{All-head, All-tail}
@@ -10,7 +10,7 @@ use Rattle.g_entry.specs.declared.user_rec.UserRec.{UserRec}
 use Rattle.g_slots.specs.declared.side.Side.{Side}
 use Rattle.g_dirs.specs.Directory.{Directory, FileEntry, copy_at, directory_of, entries_of}
 use Rattle.g_dirs.specs.Image.{entry_at}
-use Rattle.g_dirs.specs.Pages.{Covers, KeepsPages, Remembered, marked}
+use Rattle.g_dirs.specs.Pages.{Covers, Remembered, marked}
 use Rattle.g_dirs.proofs.PageLemmas.{same_pages_of}
 use Rattle.g_tree.specs.Records.{IsRecords}
 use Rattle.g_contents.specs.Contents.{copied_rec}

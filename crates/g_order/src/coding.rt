@@ -1,7 +1,7 @@
 //! The words that hold orders, both ways.
 
-ghost use Rattle.std.specs.Prelude.{◌≡◌, ◌<◌, ◌^◌, Some, None, true, MatchOption, MatchResult, IsOkAnd, IfSome, IfOk, IfErr, IsTrue};
-ghost use Rattle.g_order.specs.Order.{Fields, are_operands, fields_of, is_order, decoded, word_of};
+ghost use Rattle.std.specs.Prelude.{◌≡◌, ◌<◌, ◌^◌, ◌/◌, ◌%◌, Some, None, true, false, MatchOption, MatchResult, IsOkAnd, IfSome, IfOk, IfErr, IsTrue};
+ghost use Rattle.g_order.specs.Order.{Fields, are_operands, fields_of, is_branch, is_order, decoded, word_of};
 ghost use Rattle.g_order.specs.Coding.{fields};
 ghost use Rattle.g_order.specs.Table.{function_of};
 
@@ -41,28 +41,75 @@ pub fn read_order(word: Word) -> Option<(Function, Order)>
     ensures order { MatchOption result (decoded word ≡ None) (λ r. decoded word ≡ Some (fields r.1)) }
     ensures function { IfSome result (λ r. function_of r.1.f r.1.x ≡ Some r.0) }
 {
-    let (x, f, m, n) = split(word);
+    if has_branch(word) {
+        read_branch(word)
+    } else {
+        read_plain(word)
+    }
+}
+
+/// Whether a word has the function number of a branch.
+#[inline(always)]
+pub fn has_branch(word: Word) -> bool
+    ensures { result ≡ is_branch (word / 2 ^ 14 % 2 ^ 7) }
+{
+    is_branch(((word.value() >> 14) % 0x80) as u8)
+}
+
+/// `read_order` for a word with the function number of a branch, whose order has no modifier.
+#[inline(always)]
+pub fn read_branch(word: Word) -> Option<(Function, Order)>
+    requires { is_branch (word / 2 ^ 14 % 2 ^ 7) ≡ true }
+    ensures order { MatchOption result (decoded word ≡ None) (λ r. decoded word ≡ Some (fields r.1)) }
+    ensures function { IfSome result (λ r. function_of r.1.f r.1.x ≡ Some r.0) }
+{
+    let (x, f, n) = split_branch(word);
+    match function_of(f, x) {
+        Some(function) => Some((function, Order { x, f, m: 0, n })),
+        None => None,
+    }
+}
+
+/// `read_order` for any other word.
+#[inline(always)]
+pub fn read_plain(word: Word) -> Option<(Function, Order)>
+    requires { is_branch (word / 2 ^ 14 % 2 ^ 7) ≡ false }
+    ensures order { MatchOption result (decoded word ≡ None) (λ r. decoded word ≡ Some (fields r.1)) }
+    ensures function { IfSome result (λ r. function_of r.1.f r.1.x ≡ Some r.0) }
+{
+    let (x, f, m, n) = split_plain(word);
     let function = function_of(f, x)?;
     Some((function, Order { x, f, m, n }))
 }
 
-/// X, F, M and N of a word, whether an order has them or not.
+/// X, F and N of a word with the function number of a branch, whether an order has them or not.
 #[inline(always)]
-fn split(word: Word) -> (u8, u8, u8, u16)
+pub fn split_branch(word: Word) -> (u8, u8, u16)
+    requires { is_branch (word / 2 ^ 14 % 2 ^ 7) ≡ true }
+    ensures fields { fields_of word ≡ record { x = result.0; f = result.1; m = 0; n = result.2 } }
+    ensures x { result.0 < 8 }
+    ensures n { result.2 < 2 ^ 15 }
+    ensures operands { are_operands result.1 0 result.2 ≡ true }
+{
+    let bits = word.value();
+    let f = ((bits >> 15) % 0x40) as u8 * 2;
+    ((bits >> 21) as u8, f, (bits % 0x8000) as u16)
+}
+
+/// X, F, M and N of any other word, whether an order has them or not.
+#[inline(always)]
+pub fn split_plain(word: Word) -> (u8, u8, u8, u16)
+    requires { is_branch (word / 2 ^ 14 % 2 ^ 7) ≡ false }
     ensures fields { fields_of word ≡ record { x = result.0; f = result.1; m = result.2; n = result.3 } }
     ensures x { result.0 < 8 }
+    ensures m { result.2 < 4 }
+    ensures n { result.3 < 2 ^ 12 }
     ensures operands { are_operands result.1 result.2 result.3 ≡ true }
 {
     let bits = word.value();
-    let x = (bits >> 21) as u8;
     let f = ((bits >> 14) % 0x80) as u8;
-    if is_branch(f) {
-        let f = ((bits >> 15) % 0x40) as u8 * 2;
-        (x, f, 0, (bits % 0x8000) as u16)
-    } else {
-        let m = ((bits >> 12) % 4) as u8;
-        (x, f, m, (bits % 0x1000) as u16)
-    }
+    let m = ((bits >> 12) % 4) as u8;
+    ((bits >> 21) as u8, f, m, (bits % 0x1000) as u16)
 }
 
 /// The word of an order.

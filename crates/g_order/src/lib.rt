@@ -5,9 +5,9 @@ mod coding;
 mod functions;
 mod orders;
 
-pub use coding::{Illegal, decode, encode, read_order};
+pub use coding::{
+    Illegal, decode, encode, has_branch, read_branch, read_order, read_plain, split_branch,
+    split_plain,
+};
 pub use functions::{Condition, Function, Operation, function_of};
 pub use orders::{Order, is_branch};
-
-#[cfg(test)]
-mod tests;

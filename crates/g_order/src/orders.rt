@@ -54,6 +54,7 @@ impl Order {
 }
 
 /// Whether orders with this F are branches, whose N has 15 bits.
+#[inline(always)]
 pub fn is_branch(f: u8) -> bool
     ensures { result ≡ is_branch f }
 {

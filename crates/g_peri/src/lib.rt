@@ -12,6 +12,3 @@ mod units;
 pub use ordered::OrderEvent;
 pub use unit::{Kind, Unit};
 pub use units::{PeriFault, UnitFault, Units};
-
-#[cfg(test)]
-mod tests;

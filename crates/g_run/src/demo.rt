@@ -11,6 +11,7 @@ ghost use Rattle.g_tape.specs.Memory.{IsEmptyRack, memory_of};
 ghost use Rattle.g_run.specs.Demo.{IsDemoText, PutsDemo};
 
 use crate::boxed_disc::BoxedDisc;
+use crate::boxed_tapes::BoxedTapes;
 use crate::over::{Over, run_script};
 use g_base::NoMemory;
 use g_budget::{Charge, Tariff, Usage};
@@ -98,8 +99,19 @@ fn zero_disc(alloc: Global) -> Result<BoxedDisc<MemoryDisc>, NoMemory>
     }
 }
 
-/// A rack of one empty reel.
-fn one_reel(alloc: Global) -> Result<MemoryTapes, NoMemory>
+/// A rack of one empty reel, in a box.
+fn one_reel(alloc: Global) -> Result<BoxedTapes<MemoryTapes>, NoMemory>
+    ensures { IfOk result (λ b. IsEmptyRack ((1, 8192) ∷ []) (memory_of b.tapes.value)) }
+{
+    let tapes = bare_reel(alloc)?;
+    match Box::new(alloc, tapes) {
+        Ok(tapes) => Ok(BoxedTapes { tapes }),
+        Err(_) => Err(NoMemory),
+    }
+}
+
+/// The same without its box.
+fn bare_reel(alloc: Global) -> Result<MemoryTapes, NoMemory>
     ensures { IfOk result (λ tapes. IsEmptyRack ((1, 8192) ∷ []) (memory_of tapes)) }
 {
     let mut labels = Vec::with_capacity(alloc, 1)?;

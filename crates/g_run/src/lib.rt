@@ -2,6 +2,7 @@
 #![tactic(auto)]
 
 mod boxed_disc;
+mod boxed_tapes;
 mod came;
 mod demo;
 mod input;

@@ -7,6 +7,3 @@ mod rule;
 
 pub use choice::choose;
 pub use rule::{MAX_ALLOWANCE, MAX_WEIGHT, Standing, WeighRule};
-
-#[cfg(test)]
-mod tests;

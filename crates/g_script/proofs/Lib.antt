@@ -3,3 +3,4 @@ pub mod ItemLemmas
 pub mod OneReading
 pub mod PieceLemmas
 pub mod ReadLemmas
+pub mod PrintedLemmas

@@ -94,9 +94,20 @@ fn is_printed(line: &[u8]) -> bool
     line.len() <= MOST_LINE && are_printed(line)
 }
 
-/// Whether each byte is one from space to tilde.
+/// Whether each byte is one from space to tilde. It looks at all bytes: without a way out of the loop a compiler takes many at a time.
 fn are_printed(line: &[u8]) -> bool
     ensures { IsTrue result ↔ All (λ byte. (32 ≤ byte) × (byte ≤ 126)) line.now }
 {
-    line.iter().all(|byte| (b' '..=b'~').contains(byte))
+    let mut printed = true;
+    for byte in line {
+        printed = still_printed(printed, *byte);
+    }
+    printed
+}
+
+/// Whether all so far were from space to tilde, and this byte is.
+fn still_printed(printed: bool, byte: u8) -> bool
+    ensures { IsTrue result ↔ (IsTrue printed × ((32 ≤ byte) × (byte ≤ 126))) }
+{
+    printed & (b' ' <= byte) & (byte <= b'~')
 }

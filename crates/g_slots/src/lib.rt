@@ -5,8 +5,6 @@
 mod fault;
 mod side;
 mod slots;
-#[cfg(test)]
-mod tests;
 
 pub use fault::SlotFault;
 pub use g_base::SLOT_BLOCKS;

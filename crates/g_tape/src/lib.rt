@@ -14,6 +14,3 @@ pub use leave::{TapeLeave, half_of};
 pub use memory::MemoryTapes;
 pub use reel_state::ReelState;
 pub use tapes::{Tapes, reads_only_read};
-
-#[cfg(test)]
-mod tests;

@@ -1,5 +1,5 @@
-//! One reel in memory: a store of as many blocks as its capacity, of which the first are on the reel.
-ghost use Rattle.std.specs.Prelude.{◌≡◌, ◌+◌, ◌<◌, ◌≤◌, IfOk, None, Some, map, replicate, slice_get};
+//! One reel in memory: a store with room for as many blocks as its capacity, of which the first are on the reel.
+ghost use Rattle.std.specs.Prelude.{◌≡◌, ◌<◌, ◌≤◌, [], ◌∷◌, ◌++◌, IfOk, None, Some, map, slice_get, take, vec_capacity, vec_len};
 ghost use Rattle.std.specs.Option.{ForSome};
 ghost use Rattle.g_tape.specs.Rack.{refuses_unmount, refuses_read, refuses_write};
 ghost use Rattle.g_tape.specs.Leave.{remains_of};
@@ -21,8 +21,7 @@ pub struct MemoryReel {
 }
 
 impl Model for MemoryReel {
-    ghost use Rattle.std.specs.Prelude.{◌≡◌, ◌≤◌, All, Some, length, take};
-    ghost use Rattle.g_base.specs.Block.{IsBlock};
+    ghost use Rattle.std.specs.Prelude.{◌≡◌, ◌≤◌, Some, length, take, vec_capacity, vec_len};
     ghost use Rattle.g_tape.specs.Reel.{Reel};
 
     ghost Value = { Reel };
@@ -33,17 +32,18 @@ impl Model for MemoryReel {
     } };
 
     ghost invariant = { λ r. (r.state.len ≤ r.state.capacity)
-        × (length r.store.items ≡ r.state.capacity) × (length r.times.items ≡ r.state.capacity) };
+        × (r.state.len ≤ vec_len r.store) × (r.state.capacity ≤ vec_capacity r.store) × (length r.times.items ≡ r.state.capacity) };
 }
 
 impl MemoryReel {
-    /// An empty reel, which isn't mounted. It takes the memory of its whole capacity.
+    /// An empty reel, which isn't mounted. It takes the memory of its whole capacity, and touches
+    /// that of a block when it is written.
     pub fn new(alloc: Global, serial: u32, capacity: u32) -> Result<MemoryReel, NoMemory>
         ensures { IfOk result (λ r. r ≡ empty_reel serial capacity) }
     {
         Ok(MemoryReel {
             state: ReelState::new(serial, capacity, 0),
-            store: zero_blocks(alloc, capacity)?,
+            store: Vec::with_capacity(alloc, capacity as usize)?,
             times: vec![in alloc; 0; capacity as usize]?,
         })
     }
@@ -117,7 +117,7 @@ impl MemoryReel {
         ensures value { self.new ≡ ending k block.now self.old }
         ensures keeps { IsReel self.old → IsReel self.new }
     {
-        self.store[k as usize] = *block;
+        put_last(&mut self.store, k as usize, block);
         self.state.end_with(k);
     }
 
@@ -147,15 +147,18 @@ impl MemoryReel {
     }
 }
 
-/// So many blocks of zeros.
-fn zero_blocks(alloc: Global, count: u32) -> Result<Vec<Block>, NoMemory>
-    ensures { IfOk result (λ blocks. blocks.items ≡ replicate count (replicate 512 0)) }
+/// Drops the blocks from k on, and puts this one there. There is room for it.
+fn put_last(store: &mut Vec<Block>, k: usize, block: &Block)
+    requires place { k ≤ vec_len store.old }
+    requires room { k < vec_capacity store.old }
+    ensures items { store.new.items ≡ take k store.old.items ++ block.now ∷ [] }
+    ensures capacity { vec_capacity store.old ≤ vec_capacity store.new }
 {
-    let mut blocks = Vec::with_capacity(alloc, count as usize)?;
-    for _block in 0..count {
-        blocks.push([0; 512])?;
+    store.truncate(k);
+    match store.push(*block) {
+        Ok(()) => {}
+        Err(_) => unreachable!(),
     }
-    Ok(blocks)
 }
 
 /// The empty reels of these serials and capacities, in their order.

@@ -6,6 +6,3 @@ mod trap_list;
 
 pub use mode_set::{Mode, Modes};
 pub use trap_list::{Traps, TrapsFull};
-
-#[cfg(test)]
-mod tests;

@@ -6,6 +6,3 @@ mod words;
 
 pub use characters::{byte_of, code_of};
 pub use words::Word;
-
-#[cfg(test)]
-mod tests;

@@ -1,4 +1,4 @@
-use Rattle.std.proofs.Common.{◌≡◌, ◌∙◌, ◌++◌, ap, sym, subst, drop, take, List, ℕ}
+use Rattle.std.proofs.Common.{◌≡◌, ◌∙◌, ◌++◌, ap, subst, drop, take, List, ℕ}
 use Rattle.g_macro.specs.Expansion.{first_filled, first_taken}
 use Rattle.g_macro.specs.Fronts.{Holds}
 use Rattle.g_macro.proofs.FrontLemmas.{up_to-more}

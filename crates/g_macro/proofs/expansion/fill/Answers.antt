@@ -1,4 +1,4 @@
-use Rattle.std.proofs.Common.{◌≡◌, ◌∙◌, ◌++◌, ◌∷◌, [], ◌-◌, ◌<◌, ◌≤◌, ap, sym, subst, append_assoc, arith, get_or, length, List, ℕ}
+use Rattle.std.proofs.Common.{◌≡◌, ◌∙◌, ◌++◌, ◌∷◌, [], ◌-◌, ◌<◌, ap, sym, subst, append_assoc, get_or, length, List, ℕ}
 use Rattle.std.proofs.lemmas.List.{get_or_default}
 use Rattle.g_macro.specs.Fronts.{Holds}
 use Rattle.g_macro.specs.Expansion.{param_of, first_filled}

@@ -1,4 +1,4 @@
-use Rattle.std.proofs.Common.{◌≡◌, ◌∙◌, ◌∷◌, ◌++◌, ◌+◌, ◌-◌, [], ap, replicate, List, ℕ}
+use Rattle.std.proofs.Common.{◌∙◌, ◌∷◌, ◌++◌, ◌+◌, ◌-◌, [], ap, replicate, List, ℕ}
 use Rattle.g_macro.proofs.LevelLemmas.{fill-step}
 use Rattle.g_macro.proofs.level.filled_up.Goals as goal
 

@@ -12,5 +12,5 @@ pub returns-in-None : goal.returns-in-None
 returns-in-None g c =
     let ends = rw c.in-None.is at c.run_script-failure.ensures.ends in
     demo_text_is g.F.Fn c.args.tariff.now g.U.Fn c.args.weigh.now c.args.demo.now c.run_script-failure.new.out.text c.as_slice.result.now c.in_ok-script.script.lines c.in_ok-script.script.bad
-    c.in_ok-disc.disc.disc.value (memory_of c.in_ok-tapes.tapes) _ c.new-sink.result.text (c.as_slice.ensures ∙ c.in_ok-text.ensures) c.in_ok-script.ensures.parsed c.in_ok-disc.ensures c.in_ok-tapes.ensures
+    c.in_ok-disc.disc.disc.value (memory_of c.in_ok-tapes.tapes.tapes.value) _ c.new-sink.result.text (c.as_slice.ensures ∙ c.in_ok-text.ensures) c.in_ok-script.ensures.parsed c.in_ok-disc.ensures c.in_ok-tapes.ensures
     (ap (λ (v : TextSinkView). v.text) c.new-sink.ensures) ends

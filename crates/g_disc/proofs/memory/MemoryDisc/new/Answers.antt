@@ -8,9 +8,8 @@ use Rattle.g_disc.proofs.memory.MemoryDisc.new.Goals as goal
 
 pub invariant_of-result : goal.invariant_of-result
 invariant_of-result c =
-    let blocks = c.in_ok-zero_blocks.field-0 in
-    let zeros = c.in_ok-zero_blocks.ensures in
+    let zeros = c.in_ok-new.ensures in
     let few = c.ranges.blocks in
     let long = length-replicate c.args.blocks (replicate {A = ℕ} 512 0) in
     let counted = ap length zeros in
-    (omega (arith, blocks.ok.0), subst (All IsBlock) (sym zeros) (All-replicate IsBlock c.args.blocks (replicate 512 0) IsBlock-zeros))
+    (omega arith, subst (All IsBlock) (sym zeros) (All-replicate IsBlock c.args.blocks (replicate 512 0) IsBlock-zeros))

@@ -1,4 +1,4 @@
-use Rattle.std.proofs.Common.{◌≡◌, ◌∙◌, ◌<◌, ◌≤◌, sym, arith, eqb-true, length}
+use Rattle.std.proofs.Common.{◌<◌, sym, arith, eqb-true, length}
 use Rattle.std.proofs.lemmas.Bool.{eqb-false}
 use Rattle.g_macro.proofs.FrontLemmas.{push-cut, push-more}
 use Rattle.g_macro.proofs.expansion.Front.push.Goals as goal

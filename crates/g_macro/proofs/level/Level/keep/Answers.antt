@@ -1,9 +1,9 @@
-use Rattle.std.proofs.Common.{◌≡◌, ◌∙◌, ◌∷◌, ◌++◌, ◌<◌, ◌≤◌, [], All, Some, None, ap, sym, subst, refl, arith, length, length-set, length-append, set, List, ℕ}
+use Rattle.std.proofs.Common.{◌≡◌, ◌∙◌, ◌∷◌, ◌++◌, ◌<◌, ◌≤◌, [], All, Some, None, ap, sym, subst, refl, arith, length, length-set, length-append, List}
 use Rattle.std.proofs.lemmas.List.Elements.{All-set, All-push}
 use Rattle.g_lang.specs.Lines.{IsCommandText}
 use Rattle.g_macro.specs.Levels.{Level, entry_kept, has_cond, place_of_cond}
 use Rattle.g_macro.specs.declared.entry.Entry.{Entry}
-use Rattle.g_macro.proofs.LevelLemmas.{place-within, kept-none, kept-some, not-full, has-room, full-in, with_command}
+use Rattle.g_macro.proofs.LevelLemmas.{place-within, kept-none, kept-some, not-full, has-room, full-in}
 use Rattle.g_macro.proofs.level.Level.keep.Goals as goal
 
 pub index_mut-requires : goal.index_mut-requires

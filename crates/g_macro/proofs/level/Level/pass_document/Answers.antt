@@ -1,4 +1,4 @@
-use Rattle.std.proofs.Common.{◌≡◌, ◌∙◌, ◌+◌, ◌-◌, ap, inl, inr, drop, take, length, List, ℕ}
+use Rattle.std.proofs.Common.{◌≡◌, ◌∙◌, ◌+◌, ◌-◌, ap, inl, inr, drop, take, length, ℕ}
 use Rattle.g_macro.specs.Levels.{Level, passed, past_document}
 use Rattle.g_macro.proofs.LevelLemmas.{passed-by, tail-all}
 use Rattle.g_macro.proofs.level.Level.pass_document.Goals as goal

@@ -1,4 +1,4 @@
-use Rattle.std.proofs.Common.{◌≡◌, ◌∙◌, ◌-◌, ap, sym}
+use Rattle.std.proofs.Common.{◌∙◌, ◌-◌, ap, sym}
 use Rattle.g_lines.specs.Lines.{text_of}
 use Rattle.g_macro.specs.Levels.{Level, before_closing, lines_left, past_document}
 use Rattle.g_macro.proofs.StackLemmas.{top-changed, top-current, top-place}

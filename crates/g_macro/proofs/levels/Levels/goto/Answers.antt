@@ -1,4 +1,4 @@
-use Rattle.std.proofs.Common.{◌≡◌, ◌∙◌, ◌-◌, ap, sym}
+use Rattle.std.proofs.Common.{◌∙◌, ◌-◌, ap, sym}
 use Rattle.g_macro.specs.Levels.{Level, line_of_label, at_line}
 use Rattle.g_macro.proofs.StackLemmas.{top-changed, top-current, top-place}
 use Rattle.g_macro.proofs.levels.Levels.goto.Goals as goal

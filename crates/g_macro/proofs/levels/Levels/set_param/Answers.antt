@@ -1,4 +1,4 @@
-use Rattle.std.proofs.Common.{◌≡◌, ◌∙◌, ◌-◌}
+use Rattle.std.proofs.Common.{◌∙◌, ◌-◌}
 use Rattle.g_macro.specs.Levels.{param_set}
 use Rattle.g_macro.proofs.StackLemmas.{top-changed, top-place}
 use Rattle.g_macro.proofs.levels.Levels.set_param.Goals as goal

@@ -1,4 +1,4 @@
-use Rattle.std.proofs.Common.{◌≡◌, ◌∙◌, ◌-◌}
+use Rattle.std.proofs.Common.{◌∙◌, ◌-◌}
 use Rattle.g_macro.proofs.StackLemmas.{keeps-top, top-place}
 use Rattle.g_macro.proofs.levels.Levels.whenever.Goals as goal
 

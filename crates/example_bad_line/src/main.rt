@@ -1,8 +1,0 @@
-//! The program on a script whose second line is bad: its standard input and what it must print stand beside.
-#![tactic(auto)]
-
-use std::process::ExitCode;
-
-fn main(rt: HostRuntime) -> ExitCode {
-    g_edge::run_program(&rt)
-}

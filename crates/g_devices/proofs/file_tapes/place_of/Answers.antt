@@ -1,0 +1,16 @@
+-- The reel found is the first of its serial; where the loop ends none has it.
+use Rattle.std.proofs.Common.{sym, ap, ◌∙◌, arith}
+use Rattle.std.proofs.lemmas.List.{get_or_default}
+use Rattle.g_tape.specs.Reel.{Reel}
+use Rattle.g_tape.proofs.PlaceLemmas.{reel-none, reel-first}
+use Rattle.g_devices.proofs.file_tapes.place_of.Goals as goal
+
+pub returns-then-serial : goal.returns-then-serial
+returns-then-serial c =
+    reel-first _ _ _ c.loop-i-test.true
+    (λ d. ap (λ (r : Reel). r.serial) (get_or_default _ _ d _ c.loop-i-test.true ∙ sym c.index-reels-i.is) ∙ sym c.serial.ensures
+    ∙ c.if-serial.true)
+    c.loop-i.invariant
+
+pub returns : goal.returns
+returns c = reel-none _ _ (λ k d h. c.loop-i.invariant k d (omega (arith, h, c.loop-i-test.false)))

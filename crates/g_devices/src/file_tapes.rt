@@ -1,0 +1,164 @@
+//! A rack over files, one for each reel. It tells no content, and counts each failure.
+ghost use Rattle.std.specs.Prelude.{◌≡◌, ◌≤◌, None, Some, MatchOption, true, false};
+ghost use Rattle.g_base.specs.Counts.{one_more};
+ghost use Rattle.g_tape.specs.Place.{IsPlaceOf};
+ghost use Rattle.g_tape.specs.Rack.{AreReels, reel};
+
+use crate::file_reel::FileReel;
+use g_base::{Block, Fuse, raised};
+use g_tape::{TapeFault, Tapes, half_of};
+use std::fs::File;
+
+/// A rack over open files, whose folder is locked as long as this lives.
+#[derive(Drop)]
+pub struct FileTapes {
+    folder: File,
+    reels: Vec<FileReel>,
+    read_faults: u64,
+    write_faults: u64,
+    fuse: Fuse,
+    arms: u64,
+    ghost well_formed: { AreReels reels.items },
+}
+
+impl FileTapes {
+    /// The rack of these reels, in rising serial, which lie in this folder.
+    pub(crate) fn new(folder: File, reels: Vec<FileReel>) -> FileTapes
+        requires { AreReels reels.items }
+    {
+        FileTapes {
+            folder,
+            reels,
+            read_faults: 0,
+            write_faults: 0,
+            fuse: Fuse::new(),
+            arms: 0,
+        }
+    }
+
+    /// Brings all that was written to the device, at the end of a run. Where a reel can't be brought there
+    /// nothing is lost that was promised, since each completed dump was brought there with its mark.
+    pub fn sync(&self) {
+        for reel in &self.reels {
+            let _synced = reel.sync();
+        }
+    }
+}
+
+impl Tapes for FileTapes {
+    ghost rack = { λ t. record {
+      reels = t.reels.items;
+      read_faults = t.read_faults;
+      write_faults = t.write_faults;
+      fuse = t.fuse;
+      arms = t.arms;
+    } };
+
+    fn reels(&self) -> usize {
+        self.reels.len()
+    }
+
+    fn serial(&self, i: usize) -> u32 {
+        self.reels[i].serial()
+    }
+
+    fn mounted(&self, serial: u32) -> bool {
+        match place_of(&self.reels, serial) {
+            Some(place) => self.reels[place].is_mounted(),
+            None => false,
+        }
+    }
+
+    fn capacity(&self, serial: u32) -> Result<u32, TapeFault> {
+        match place_of(&self.reels, serial) {
+            Some(place) => Ok(self.reels[place].capacity()),
+            None => Err(TapeFault::NoTape),
+        }
+    }
+
+    fn length(&self, serial: u32) -> Result<u32, TapeFault> {
+        match place_of(&self.reels, serial) {
+            Some(place) => Ok(self.reels[place].len()),
+            None => Err(TapeFault::NoTape),
+        }
+    }
+
+    fn mount(&mut self, serial: u32) -> Result<(), TapeFault> {
+        let Some(place) = place_of(&self.reels, serial) else {
+            return Err(TapeFault::NoTape);
+        };
+        self.reels[place].set_mounted(true);
+        Ok(())
+    }
+
+    /// Brings the reel's blocks to the device first. Where that fails nothing is lost that was promised,
+    /// since each completed dump was brought there with its mark.
+    fn unmount(&mut self, serial: u32) -> Result<(), TapeFault> {
+        let Some(place) = place_of(&self.reels, serial) else {
+            return Err(TapeFault::NoTape);
+        };
+        if let Some(fault) = self.reels[place].refuses_unmount() {
+            return Err(fault);
+        }
+        let _synced = self.reels[place].sync();
+        self.reels[place].set_mounted(false);
+        Ok(())
+    }
+
+    fn read(&mut self, serial: u32, k: u32, into: &mut Block) -> Result<(), TapeFault> {
+        let Some(place) = place_of(&self.reels, serial) else {
+            return Err(TapeFault::NoTape);
+        };
+        if let Some(fault) = self.reels[place].refuses_read(k) {
+            return Err(fault);
+        }
+        match self.reels[place].read(k, into) {
+            Ok(()) => Ok(()),
+            Err(_) => {
+                self.read_faults = raised(self.read_faults);
+                Err(TapeFault::ReadFailed)
+            }
+        }
+    }
+
+    /// At an armed write half of the block is written, with zeros behind it.
+    fn write(&mut self, serial: u32, k: u32, from: &Block) -> Result<(), TapeFault> {
+        let Some(place) = place_of(&self.reels, serial) else {
+            return Err(TapeFault::NoTape);
+        };
+        if let Some(fault) = self.reels[place].refuses_write(k) {
+            return Err(fault);
+        }
+        if self.fuse.burn() {
+            self.write_faults = raised(self.write_faults);
+            let _left = self.reels[place].end_with(k, &half_of(from));
+            return Err(TapeFault::WriteFailed);
+        }
+        match self.reels[place].end_with(k, from) {
+            Ok(()) => Ok(()),
+            Err(_) => {
+                self.write_faults = raised(self.write_faults);
+                Err(TapeFault::WriteFailed)
+            }
+        }
+    }
+
+    fn arm(&mut self, k: u32) {
+        self.fuse.arm(k);
+        self.arms = raised(self.arms);
+    }
+
+    ghost well_formed = { λ t. t.well_formed };
+}
+
+/// The place of the reel, if it is there.
+fn place_of(reels: &[FileReel], serial: u32) -> Option<usize>
+    ensures { MatchOption result (reel serial reels.now ≡ None) (IsPlaceOf serial reels.now) }
+{
+    for (i, reel) in reels.iter().enumerate() {
+        if reel.serial() == serial {
+            return Some(i);
+        }
+    }
+    None
+}

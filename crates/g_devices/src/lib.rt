@@ -1,0 +1,18 @@
+//! The devices of a real machine: the image of a disc, the rack of tapes in a folder, standard input and output as source
+//! and sink, and the words of the command line.
+#![tactic(auto)]
+
+mod blocks;
+mod claim;
+mod file_disc;
+mod file_reel;
+mod file_tapes;
+mod rack;
+mod streams;
+mod words;
+
+pub use file_disc::{FileDisc, open_image};
+pub use file_tapes::FileTapes;
+pub use rack::open_rack;
+pub use streams::{StdSink, StdSource};
+pub use words::{texts_of, words_of};

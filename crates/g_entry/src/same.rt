@@ -1,0 +1,21 @@
+//! Whether two blocks are the same.
+ghost use Rattle.std.specs.Prelude.{◌≡◌, ◌↔◌, IsTrue, length};
+
+/// Whether two texts of one length are the same. It looks at all bytes: without a way out of the loop a compiler takes many at a time.
+pub(crate) fn is_same(one: &[u8], other: &[u8]) -> bool
+    requires { length one.now ≡ length other.now }
+    ensures { IsTrue result ↔ (one.now ≡ other.now) }
+{
+    let mut same = true;
+    for i in 0..one.len() {
+        same = still_same(same, one[i], other[i]);
+    }
+    same
+}
+
+/// Whether all were the same, and these two are.
+fn still_same(same: bool, one: u8, other: u8) -> bool
+    ensures { IsTrue result ↔ (IsTrue same × (one ≡ other)) }
+{
+    same & (one == other)
+}

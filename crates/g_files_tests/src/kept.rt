@@ -1,0 +1,124 @@
+//! A disc with what its user keeps from one commit to the next, and commits of directories that were laid out by hand.
+use crate::slots::{Changed, directory};
+use g_base::{Block, ReadFailed, WriteFailed};
+use g_dirs::{DirsFault, Pages, write_changed, write_dirs};
+use g_disc::{Disc, Leave, MemoryDisc};
+use g_slots::Slots;
+use std::alloc::Global;
+use std::process::Abort;
+use std::test::Fail;
+
+/// A disc of 2,181 blocks that notes which of them are written, in order. Contracts aren't told what it holds, so that a
+/// commit asks nothing of it but its size.
+#[derive(Drop)]
+pub struct Noted {
+    pub disc: MemoryDisc,
+    pub written: Vec<u32>,
+}
+
+impl Disc for Noted {
+    ghost use Rattle.std.specs.Prelude.{None};
+
+    ghost state = { λ n. record {
+      held = None;
+      size = n.disc.disc.size;
+      read_faults = n.disc.disc.read_faults;
+      write_faults = n.disc.disc.write_faults;
+      writes = n.disc.disc.writes;
+      fuse = n.disc.disc.fuse;
+      arms = n.disc.disc.arms;
+    } };
+
+    fn size(&self) -> u32 {
+        self.disc.size()
+    }
+
+    fn read(&mut self, k: u32, into: &mut Block) -> Result<(), ReadFailed> {
+        self.disc.read(k, into)
+    }
+
+    fn write(&mut self, k: u32, from: &Block) -> Result<(), WriteFailed> {
+        let _noted = self.written.push(k);
+        self.disc.write(k, from)
+    }
+
+    fn arm(&mut self, k: u32) {
+        self.disc.arm(k);
+    }
+}
+
+/// A disc with what its user keeps from one commit to the next.
+#[derive(Drop)]
+pub struct Kept {
+    pub disc: Noted,
+    pub slots: Slots,
+    pub pages: Pages,
+}
+
+/// Which of the two commits.
+#[derive(Clone, Copy)]
+pub enum Way {
+    Whole,
+    Changed,
+}
+
+/// A directory by its number of files and by what differs, and the blocks that are marked before its commit.
+#[derive(Clone, Copy)]
+pub struct Step<'a> {
+    pub files: u8,
+    pub differs: &'a [Changed<'a>],
+    pub marks: &'a [u32],
+}
+
+/// A disc of zeros.
+pub fn blank(alloc: Global) -> Result<Kept, Fail> {
+    let mut disc = Noted {
+        disc: MemoryDisc::new(alloc, 2_181)?,
+        written: Vec::new(alloc),
+    };
+    Ok(Kept {
+        slots: Slots::find(&mut disc)?,
+        disc,
+        pages: Pages::new(alloc)?,
+    })
+}
+
+/// Marks what a step marks.
+fn mark(rt: &impl Abort, pages: &mut Pages, marks: &[u32]) {
+    for k in marks {
+        assert!(rt; *k < 1_088);
+        pages.changed(*k);
+    }
+}
+
+/// Commits the directory of a step. The answer is the commit's.
+pub fn commit(
+    rt: &impl Abort,
+    alloc: Global,
+    way: Way,
+    kept: &mut Kept,
+    step: &Step,
+) -> Result<Result<(), DirsFault>, Fail> {
+    let dirs = directory(rt, alloc, step.files, step.differs)?;
+    let listing = dirs.listing();
+    mark(rt, &mut kept.pages, step.marks);
+    assert!(rt; kept.disc.size() == 2_181);
+    match way {
+        Way::Whole => Ok(write_dirs(&mut kept.disc, &mut kept.slots, &listing, &mut kept.pages)),
+        Way::Changed => {
+            assert!(rt; kept.pages.covers(kept.slots.side().other(), &listing));
+            Ok(write_changed(&mut kept.disc, &mut kept.slots, &listing, &mut kept.pages))
+        }
+    }
+}
+
+/// What a failing write leaves, by its number: the old block, half of the new one, the new one, or bytes of its own.
+pub fn leave_of(number: usize) -> Leave {
+    match number {
+        0 => Leave::Old,
+        1 => Leave::Half,
+        2 => Leave::Whole,
+        3 => Leave::These([255; 512]),
+        _ => Leave::These([2; 512]),
+    }
+}

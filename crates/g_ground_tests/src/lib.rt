@@ -1,0 +1,40 @@
+//! Tests of the crates at the ground and of programs: rows that were worked out by hand, and each call that takes memory
+//! once.
+#![tactic(auto)]
+
+#[cfg(test)]
+mod base;
+#[cfg(test)]
+mod budgets;
+#[cfg(test)]
+mod caches;
+#[cfg(test)]
+mod choices;
+#[cfg(test)]
+mod copies;
+#[cfg(test)]
+mod demonstrations;
+#[cfg(test)]
+mod devices;
+#[cfg(test)]
+mod discs;
+#[cfg(test)]
+mod lines;
+#[cfg(test)]
+mod names;
+#[cfg(test)]
+mod orders;
+#[cfg(test)]
+mod pools;
+#[cfg(test)]
+mod programs;
+#[cfg(test)]
+mod records;
+#[cfg(test)]
+mod streams;
+#[cfg(test)]
+mod tapes;
+#[cfg(test)]
+mod traps;
+#[cfg(test)]
+mod words;

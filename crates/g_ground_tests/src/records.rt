@@ -1,0 +1,236 @@
+//! One record of each kind in each format, against bytes that were written out by hand.
+use g_base::{Block, BlockList};
+use g_entry::{
+    FileRec, Format, Head, Intent, TapeCopy, UserRec, decode_file, decode_file_1, decode_head,
+    decode_head_1, decode_user, decode_user_1, decode_user_held, empty_block, encode_file,
+    encode_file_1, encode_head, encode_head_1, encode_user, encode_user_1, encode_user_held,
+    files_keep, users_keep,
+};
+use g_name::{Lang, Local, User};
+use g_trap::{Modes, Traps};
+use std::test::Fail;
+
+/// A user's block up to its last field; in the first format the last 8 bytes are zero.
+const USER: [u8; 36] =
+    *b"\x01\x02AB\0\0\0\0\0\0\0\0\0\0\x01\0\0\xff\xff\0\0\0\0\0\x0f\x42\x40\0\0\0\0\0\0\x0f\x42\x40";
+
+/// A file's block up to its block numbers.
+const FILE: [u8; 61] =
+    *b"\x01\x02\x01F\0\0\0\0\0\0\0\0\0\0\0\x01\x02A1  \x01\x02\x03\x04\x05\x06\x07\x08\0\0\x02\x01\x1f\x02\x00\x10\x01\x02\0\0\0\0\0\0\0\0\0\0\0\0\x01\x00\x0f\x42\x3f\x01\x02\x03\x04\x01";
+
+/// A head's block in the second format, with an intent.
+const HEAD: [u8; 39] =
+    *b"G3SL\x00\x02\x01\x02\x03\x04\x05\x06\x07\x08\0\0\0\0\0\0\0\x07\x01\x00\x0f\x42\x3f\x01\x02\x03\x04\0\0\0\0\0\0\0\x08";
+
+/// The pieces one behind the other, with zeros behind them.
+fn block_of(pieces: [&[u8]; 2]) -> Block {
+    let mut block = [0; 512];
+    let mut at = 0;
+    for piece in pieces {
+        for byte in piece {
+            if at < 512 {
+                block[at] = *byte;
+                at += 1;
+            }
+        }
+    }
+    block
+}
+
+fn with_byte(block: &Block, at: usize, byte: u8) -> Block {
+    let mut changed = *block;
+    if at < 512 {
+        changed[at] = byte;
+    }
+    changed
+}
+
+#[test]
+fn users(rt: HostRuntime) -> Result<(), Fail> {
+    let block = block_of([&USER, b""]);
+    let user = decode_user(&block, 2).ok_or("a user")?;
+    let same = UserRec {
+        number: 2,
+        user: User::parse(b":AB")?,
+        superior: 1,
+        space: 65_535,
+        time: 1_000_000,
+        money: 1_000_000,
+    };
+    assert_eq!(rt; user, same);
+    assert!(rt; encode_user(&user) == block);
+    let first = block_of([&USER[..28], b""]);
+    let user = decode_user_1(&first, 2).ok_or("a user")?;
+    assert_eq!(rt; user, same);
+    assert!(rt; encode_user_1(&user) == first);
+    for (at, byte) in [
+        (0, 0),
+        (1, 0),
+        (1, 13),
+        (1, 1),
+        (2, b'a'),
+        (13, b'A'),
+        (16, 1),
+        (19, 1),
+        (27, 1),
+        (511, 1),
+    ] {
+        assert_eq!(rt;
+            decode_user(&with_byte(&block, at, byte), 2),
+            None,
+            "byte {at} {byte}"
+        );
+    }
+    assert_eq!(rt; decode_user_1(&block, 2), None);
+    assert_eq!(rt; decode_user(&empty_block(), 2), None);
+    Ok(())
+}
+
+#[test]
+fn users_in_a_dump(rt: HostRuntime) -> Result<(), Fail> {
+    let block = block_of([&USER, b""]);
+    // The byte that says whether the user is held, and the answer.
+    for (byte, want) in [(0, Some(false)), (1, Some(true)), (2, None), (255, None)] {
+        let written = with_byte(&block, 27, byte);
+        let found = decode_user_held(Format::Two, &written, 2);
+        assert_eq!(rt; found.is_some(), want.is_some(), "byte {byte}");
+        if let Some((user, held)) = found {
+            assert_eq!(rt; Some(held), want, "byte {byte}");
+            assert!(rt; encode_user_held(Format::Two, &user, held) == written);
+        }
+    }
+    let first = with_byte(&block_of([&USER[..28], b""]), 27, 1);
+    let (user, held) = decode_user_held(Format::One, &first, 2).ok_or("a user")?;
+    assert!(rt; held && user.money == 1_000_000);
+    Ok(())
+}
+
+fn first_user(number: u8, name: &[u8]) -> Result<UserRec, Fail> {
+    Ok(UserRec {
+        number,
+        user: User::parse(name)?,
+        superior: 0,
+        space: 0,
+        time: 0,
+        money: 0,
+    })
+}
+
+#[test]
+fn files(rt: HostRuntime) -> Result<(), Fail> {
+    let block = block_of([&FILE, b"\x00\x08\x81\x00\xff\xff"]);
+    let (file, online) = decode_file(&block, 5).ok_or("a file")?;
+    let read = Modes::from_bits(16).ok_or("READ")?;
+    let execute = Modes::from_bits(2).ok_or("EXECUTE")?;
+    let same = FileRec {
+        number: 5,
+        owner: 2,
+        local: Local::parse(b"F")?,
+        generation: 258,
+        lang: Lang::new(b"A1").ok_or("a language")?,
+        stamp: 0x0102_0304_0506_0708,
+        len: 513,
+        traps: Traps::of(Modes::all(), &[(0, read), (1, execute)]).ok_or("traps")?,
+        tape: Some(TapeCopy {
+            serial: 999_999,
+            first: 0x0102_0304,
+        }),
+    };
+    assert_eq!(rt; file, same);
+    assert_eq!(rt; online, BlockList::from_slice(&[2_177, 65_535]));
+    assert!(rt; encode_file(&file, online.as_ref()) == block);
+    let first = block_of([&FILE, b"\x08\x81\xff\xff"]);
+    let (file, online) = decode_file_1(&first, 5).ok_or("a file")?;
+    assert_eq!(rt; file, same);
+    assert_eq!(rt; online, BlockList::from_slice(&[2_177, 65_535]));
+    assert!(rt; encode_file_1(&file, online.as_ref()) == first);
+    for (at, byte) in [
+        (0, 2),
+        (2, 2),
+        (3, b'1'),
+        (14, b'A'),
+        (15, 16),
+        (17, b' '),
+        (20, b'a'),
+        (21, 64),
+        (30, 1),
+        (33, 32),
+        (34, 1),
+        (34, 9),
+        (35, 2),
+        (36, 0),
+        (37, 0),
+        (50, 1),
+        (51, 0),
+        (53, 16),
+        (60, 0),
+        (67, 1),
+    ] {
+        assert!(rt;
+            decode_file(&with_byte(&block, at, byte), 5).is_none(),
+            "byte {at} {byte}"
+        );
+    }
+    assert!(rt; decode_file(&empty_block(), 5).is_none());
+    Ok(())
+}
+
+#[test]
+fn heads(rt: HostRuntime) -> Result<(), Fail> {
+    let block = block_of([&HEAD, b""]);
+    let head = decode_head(&block).ok_or("a head")?;
+    let same = Head {
+        next_stamp: 0x0102_0304_0506_0708,
+        last_dump: 7,
+        intent: Some(Intent {
+            serial: 999_999,
+            place: 0x0102_0304,
+            number: 8,
+        }),
+    };
+    assert_eq!(rt; head, same);
+    assert!(rt; encode_head(&head) == block);
+    let first = with_byte(&block, 5, 1);
+    let head = decode_head_1(&first).ok_or("a head")?;
+    assert_eq!(rt; head, same);
+    assert!(rt; encode_head_1(&head) == first);
+    assert_eq!(rt; decode_head(&first), None);
+    assert_eq!(rt; decode_head_1(&block), None);
+    for (at, byte) in [
+        (0, 0),
+        (4, 1),
+        (6, 64),
+        (21, 6),
+        (22, 0),
+        (22, 2),
+        (24, 16),
+        (38, 7),
+        (39, 1),
+    ] {
+        assert_eq!(rt;
+            decode_head(&with_byte(&block, at, byte)),
+            None,
+            "byte {at} {byte}"
+        );
+    }
+    Ok(())
+}
+
+#[test]
+fn ample(rt: HostRuntime) -> Result<(), Fail> {
+    let user = decode_user(&block_of([&USER, b""]), 3).ok_or("a user")?;
+    assert_eq!(rt; user.copy(), user);
+    let (file, _online) = decode_file(&block_of([&FILE, b"\x00\x08\x81\x00\x08\x82"]), 6).ok_or(
+        "a file",
+    )?;
+    assert_eq!(rt; file.copy(), file);
+    let users = [first_user(0, b":MASTER")?, first_user(1, b":MACROS")?];
+    assert!(rt; users_keep(rt.alloc(), &users)?);
+    let swapped = [first_user(0, b":MACROS")?, first_user(1, b":MASTER")?];
+    assert!(rt; !users_keep(rt.alloc(), &swapped)?);
+    // Its owner is user 2, and users 0 and 1 are trapped.
+    let files = [file];
+    assert!(rt; files_keep(rt.alloc(), 3, &files)?);
+    assert!(rt; !files_keep(rt.alloc(), 2, &files)?);
+    Ok(())
+}

@@ -1,0 +1,131 @@
+-- Orders one behind the other: one more behind them, and what an order that tells more isn't.
+use Rattle.std.proofs.Common.{◌≡◌, ℕ, zero, suc, ◌<◌, ◌≤◌, Bool, true, false, Option, Some, None, refl, sym, ap, subst, ◌∙◌, arith}
+use Rattle.std.specs.Prelude.{◌≢◌, List, nat_lt, option_and_then, unwrap_or, slice_get, if◌then◌else◌}
+use Rattle.std.specs.Option.{option_map}
+use Rattle.std.proofs.lemmas.Bool.{ltb-true, lt-ltb, true≢false, false_from_ne_true}
+use Rattle.std.proofs.lemmas.Option.{slice_get_within, slice_get-get_or, get_or_from_slice_get, none-some}
+use Rattle.g_order.specs.Order.{Fields, are_operands, decoded, fields_of, is_order}
+use Rattle.g_order.specs.Table.{function_of}
+use Rattle.g_order.specs.declared.functions.Function.{Function}
+use Rattle.g_order.specs.declared.functions.Function.TheVariants.{Load, Store, LoadNumber, LoadCharacter, StoreZero, DepositCharacter, Multiply, Branch, Call, Exit, ShiftLeft, ShiftRight, Null, Move, Transfer, Halt, Display, Delete}
+use Rattle.g_mill.specs.declared.event.Event.{Event}
+use Rattle.g_mill.specs.declared.event.Event.TheVariants.{Ran, Peri, Halted, Displayed, Deleted, Illegal}
+use Rattle.g_mill.specs.Machine.{Machine, size, address, text_at}
+use Rattle.g_mill.specs.Effect.{Outcome, effect, performed, obeyed, order}
+use Rattle.g_mill.specs.Does.{TellsMore, is_plain}
+use Rattle.g_mill.specs.Running.{RunsTo}
+
+-- one more order behind the others
+pub runs_more : (count : ℕ) (old mid new : Machine) → RunsTo count old mid → order mid ≡ (new, Ran) → RunsTo (suc count) old new
+runs_more zero old mid new is one =
+    let there : order old ≡ (new, Ran) = subst (λ (m : Machine). order m ≡ (new, Ran)) is one in
+    (ap (λ (both : Machine × Event). both.1) there, sym (ap (λ (both : Machine × Event). both.0) there))
+runs_more (suc count) old mid new runs one = (runs.0, runs_more count (order old).0 mid new runs.1 one)
+
+abbrev is_ran : Event → Bool
+is_ran Ran = true
+is_ran (Peri area) = false
+is_ran (Halted text) = false
+is_ran (Displayed text) = false
+is_ran (Deleted text) = false
+is_ran (Illegal word at) = false
+
+other : (event : Event) → is_ran event ≡ false → event ≢ Ran
+other event isnt is = true≢false (sym (ap is_ran is) ∙ isnt)
+
+text_more : (tell : List ℕ → Machine × Event) (text : Option (List ℕ)) → ((t : List ℕ) → is_ran (tell t).1 ≡ false) → TellsMore (option_map tell text)
+text_more tell None isnt = tt
+text_more tell (Some text) isnt = other (tell text).1 (isnt text)
+
+-- an order whose function isn't plain tells more than that it was done
+pub not_plain : (function : Function) (s : Machine) (o : Fields) → is_plain function ≡ false → TellsMore (effect function s o)
+not_plain (Load operation) s o isnt = absurd (true≢false isnt)
+not_plain (Store operation) s o isnt = absurd (true≢false isnt)
+not_plain (LoadNumber operation) s o isnt = absurd (true≢false isnt)
+not_plain LoadCharacter s o isnt = absurd (true≢false isnt)
+not_plain StoreZero s o isnt = absurd (true≢false isnt)
+not_plain DepositCharacter s o isnt = absurd (true≢false isnt)
+not_plain Multiply s o isnt = absurd (true≢false isnt)
+not_plain (Branch condition) s o isnt = absurd (true≢false isnt)
+not_plain Call s o isnt = absurd (true≢false isnt)
+not_plain Exit s o isnt = absurd (true≢false isnt)
+not_plain ShiftLeft s o isnt = absurd (true≢false isnt)
+not_plain ShiftRight s o isnt = absurd (true≢false isnt)
+not_plain Null s o isnt = absurd (true≢false isnt)
+not_plain Move s o isnt = absurd (true≢false isnt)
+not_plain Transfer s o isnt = other (Peri (address s o)) refl
+not_plain Halt s o isnt = text_more _ (text_at s (address s o)) (λ t. refl)
+not_plain Display s o isnt = text_more _ (text_at s (address s o)) (λ t. refl)
+not_plain Delete s o isnt = text_more _ (text_at s (address s o)) (λ t. refl)
+
+chosen : (b : Bool) (x y : Machine × Event) → (b ≡ true → x.1 ≢ Ran) → y.1 ≢ Ran → (if b then x else y).1 ≢ Ran
+chosen true x y hx hy = hx refl
+chosen false x y hx hy = hy
+
+if_true : (b : Bool) (x y : Machine × Event) → b ≡ true → (if b then x else y) ≡ x
+if_true true x y is = refl
+if_true false x y is = absurd (true≢false (sym is))
+
+-- past the end of the program there is no order
+pub past_end : (s : Machine) → slice_get s.words s.next ≡ None → (order s).1 ≢ Ran
+past_end s none =
+    chosen (nat_lt s.next (size s)) _ _ (λ below. absurd (none-some _ (sym none ∙ slice_get-get_or s.words s.next 0 (ltb-true _ _ below)))) (other (Illegal 0 s.next) refl)
+
+if_false : (b : Bool) (x y : Machine × Event) → b ≡ false → (if b then x else y) ≡ y
+if_false true x y is = absurd (true≢false is)
+if_false false x y is = refl
+
+pub past_order : (s : Machine) → slice_get s.words s.next ≡ None → order s ≡ (s, Illegal 0 s.next)
+past_order s none =
+    if_false (nat_lt s.next (size s)) _ _ (false_from_ne_true _ (λ below. none-some _ (sym none ∙ slice_get-get_or s.words s.next 0 (ltb-true _ _ below))))
+
+-- one order or none, by how many they are
+pub one_ran : (count : ℕ) (old new : Machine) → RunsTo count old new → count ≡ 1 → order old ≡ (new, Ran)
+one_ran count old new runs is =
+    let one : RunsTo 1 old new = subst (λ (n : ℕ). RunsTo n old new) is runs in
+    ap (λ (told : Event). let both : Machine × Event = ((order old).0, told) in both) one.0 ∙ ap (λ (p : Machine). let both : Machine × Event = (p, Ran) in both) (sym one.1)
+
+pub none_ran : (count : ℕ) (old new : Machine) → RunsTo count old new → count ≤ 1 → count ≢ 1 → new ≡ old
+none_ran zero old new runs most isnt = runs
+none_ran (suc zero) old new runs most isnt = absurd (isnt refl)
+none_ran (suc (suc count)) old new runs most isnt = let never : ⊥ = omega (arith, most) in absurd never
+
+-- the order of the word that the program has at its next address
+there : (s : Machine) (word : ℕ) → slice_get s.words s.next ≡ Some word → order s ≡ obeyed s word
+there s word is =
+    if_true (nat_lt s.next (size s)) _ _ (lt-ltb _ _ (slice_get_within s.words s.next word is)) ∙ ap (obeyed s) (get_or_from_slice_get s.words s.next word 0 is)
+
+more : (s : Machine) (word : ℕ) (outcome : Outcome) → TellsMore outcome → (unwrap_or outcome (s, Illegal word s.next)).1 ≢ Ran
+more s word None tells = other (Illegal word s.next) refl
+more s word (Some both) tells = tells
+
+pub more_there : (s : Machine) (word : ℕ) → slice_get s.words s.next ≡ Some word → TellsMore (option_and_then (performed s) (decoded word)) → (order s).1 ≢ Ran
+more_there s word is tells =
+    subst (λ (both : Machine × Event). both.1 ≢ Ran) (sym (there s word is)) (more s word (option_and_then (performed s) (decoded word)) tells)
+
+-- what the order of that word leaves, and what it leaves where it is illegal
+pub told_there : (s same new : Machine) (word : ℕ) (event : Event) → slice_get s.words s.next ≡ Some word → same ≡ s → option_and_then (performed same) (decoded word) ≡ Some (new, event) → order s ≡ (new, event)
+told_there s same new word event is unchanged told =
+    let outcome : option_and_then (performed s) (decoded word) ≡ Some (new, event) = subst (λ (m : Machine). option_and_then (performed m) (decoded word) ≡ Some (new, event)) unchanged told in
+    there s word is ∙ ap (λ (o : Outcome). unwrap_or o (s, Illegal word s.next)) outcome
+
+pub illegal_there : (s same : Machine) (word : ℕ) → slice_get s.words s.next ≡ Some word → same ≡ s → option_and_then (performed same) (decoded word) ≡ None → order s ≡ (s, Illegal word s.next)
+illegal_there s same word is unchanged none =
+    let outcome : option_and_then (performed s) (decoded word) ≡ None = subst (λ (m : Machine). option_and_then (performed m) (decoded word) ≡ None) unchanged none in
+    there s word is ∙ ap (λ (o : Outcome). unwrap_or o (s, Illegal word s.next)) outcome
+
+-- the order of a word with these fields, whose function the table has, and a word whose fields no row has
+pub known_order : (s : Machine) (word x f m n : ℕ) (function : Function) → fields_of word ≡ record { x = x; f = f; m = m; n = n } → x < 8 → are_operands f m n ≡ true → function_of f x ≡ Some function
+    → option_and_then (performed s) (decoded word) ≡ effect function s (record { x = x; f = f; m = m; n = n })
+known_order s word x f m n function fields small operands row =
+    let o : Fields = record { x = x; f = f; m = m; n = n } in
+    let valid : is_order x f m n ≡ true = rw (lt-ltb x 8 small, row, operands) refl in
+    let is : decoded word ≡ Some o = ap (λ (p : Fields). if is_order p.x p.f p.m p.n then Some p else None) fields ∙ ap (λ (b : Bool). if b then Some o else None) valid in
+    ap (option_and_then (performed s)) is ∙ ap (option_and_then (λ (found : Function). effect found s o)) row
+
+pub no_order : (s : Machine) (word x f m n : ℕ) → fields_of word ≡ record { x = x; f = f; m = m; n = n } → x < 8 → function_of f x ≡ None → option_and_then (performed s) (decoded word) ≡ None
+no_order s word x f m n fields small row =
+    let o : Fields = record { x = x; f = f; m = m; n = n } in
+    let invalid : is_order x f m n ≡ false = rw (lt-ltb x 8 small, row) refl in
+    let is : decoded word ≡ None = ap (λ (p : Fields). if is_order p.x p.f p.m p.n then Some p else None) fields ∙ ap (λ (b : Bool). if b then Some o else None) invalid in
+    ap (option_and_then (performed s)) is

@@ -1,0 +1,50 @@
+use Rattle.std.proofs.Common.{◌≡◌, Some, None, refl, ◌∙◌, sym, ap}
+use Rattle.std.specs.Prelude.{slice_get}
+use Rattle.g_mill.specs.declared.event.Event.{Event}
+use Rattle.g_mill.specs.declared.event.Event.TheVariants.{Illegal}
+use Rattle.g_mill.specs.Machine.{Machine}
+use Rattle.g_mill.specs.Effect.{order}
+use Rattle.g_mill.proofs.RunningLaws.{none_ran, past_order, told_there, illegal_there}
+use Rattle.g_mill.proofs.program.Program.step.Goals as goal
+
+pub returns-in_default-clause-machine : goal.returns-in_default-clause-machine
+returns-in_default-clause-machine c =
+    let s = c.run.new.self in
+    let stays : s ≡ c.args.self.now = none_ran c.run.result c.args.self.now s c.run.ensures.ran c.run.ensures.most c.if-run-eq1.false in
+    let none : slice_get s.words s.next ≡ None = ap (slice_get s.words) (sym c.next-at.ensures.value) ∙ sym c.word.ensures ∙ c.in_default.is in
+    sym (ap (λ (both : Machine × Event). both.0) (past_order s none)) ∙ ap (λ (m : Machine). (order m).0) stays
+
+pub returns-in_default-clause-event : goal.returns-in_default-clause-event
+returns-in_default-clause-event c =
+    let s = c.run.new.self in
+    let stays : s ≡ c.args.self.now = none_ran c.run.result c.args.self.now s c.run.ensures.ran c.run.ensures.most c.if-run-eq1.false in
+    let none : slice_get s.words s.next ≡ None = ap (slice_get s.words) (sym c.next-at.ensures.value) ∙ sym c.word.ensures ∙ c.in_default.is in
+    ap (Illegal 0) c.next-at.ensures.value ∙ sym (ap (λ (both : Machine × Event). both.1) (past_order s none)) ∙ ap (λ (m : Machine). (order m).1) stays
+
+pub returns-in-Some-obey-clause-machine : goal.returns-in-Some-obey-clause-machine
+returns-in-Some-obey-clause-machine c =
+    let s = c.run.new.self in
+    let stays : s ≡ c.args.self.now = none_ran c.run.result c.args.self.now s c.run.ensures.ran c.run.ensures.most c.if-run-eq1.false in
+    let is : slice_get s.words s.next ≡ Some c.in-Some.word = ap (slice_get s.words) (sym c.next-at.ensures.value) ∙ sym c.word.ensures ∙ c.in-Some.is in
+    sym (ap (λ (both : Machine × Event). both.0) (told_there s s c.obey.new.self c.in-Some.word c.in-Some-obey.event is refl c.in-Some-obey.ensures)) ∙ ap (λ (m : Machine). (order m).0) stays
+
+pub returns-in-Some-obey-clause-event : goal.returns-in-Some-obey-clause-event
+returns-in-Some-obey-clause-event c =
+    let s = c.run.new.self in
+    let stays : s ≡ c.args.self.now = none_ran c.run.result c.args.self.now s c.run.ensures.ran c.run.ensures.most c.if-run-eq1.false in
+    let is : slice_get s.words s.next ≡ Some c.in-Some.word = ap (slice_get s.words) (sym c.next-at.ensures.value) ∙ sym c.word.ensures ∙ c.in-Some.is in
+    sym (ap (λ (both : Machine × Event). both.1) (told_there s s c.obey.new.self c.in-Some.word c.in-Some-obey.event is refl c.in-Some-obey.ensures)) ∙ ap (λ (m : Machine). (order m).1) stays
+
+pub returns-in-None-clause-machine : goal.returns-in-None-clause-machine
+returns-in-None-clause-machine c =
+    let s = c.run.new.self in
+    let stays : s ≡ c.args.self.now = none_ran c.run.result c.args.self.now s c.run.ensures.ran c.run.ensures.most c.if-run-eq1.false in
+    let is : slice_get s.words s.next ≡ Some c.in-Some.word = ap (slice_get s.words) (sym c.next-at.ensures.value) ∙ sym c.word.ensures ∙ c.in-Some.is in
+    c.in-None.ensures.1 ∙ sym (ap (λ (both : Machine × Event). both.0) (illegal_there s s c.in-Some.word is refl c.in-None.ensures.0)) ∙ ap (λ (m : Machine). (order m).0) stays
+
+pub returns-in-None-clause-event : goal.returns-in-None-clause-event
+returns-in-None-clause-event c =
+    let s = c.run.new.self in
+    let stays : s ≡ c.args.self.now = none_ran c.run.result c.args.self.now s c.run.ensures.ran c.run.ensures.most c.if-run-eq1.false in
+    let is : slice_get s.words s.next ≡ Some c.in-Some.word = ap (slice_get s.words) (sym c.next-at.ensures.value) ∙ sym c.word.ensures ∙ c.in-Some.is in
+    ap (Illegal c.in-Some.word) c.next-at.ensures.value ∙ sym (ap (λ (both : Machine × Event). both.1) (illegal_there s s c.in-Some.word is refl c.in-None.ensures.0)) ∙ ap (λ (m : Machine). (order m).1) stays
