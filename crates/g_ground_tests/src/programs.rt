@@ -109,7 +109,30 @@ fn orders(rt: HostRuntime) -> Result<(), Fail> {
     check_all(&rt, &edges::EDGES)
 }
 
-/// A program of 32,768 words, loaded and stepped once.
+/// Does so many orders at most, of which these were done, and goes on there.
+fn runs(rt: &impl Abort, program: &mut Program, most: u32, done: u32, next: u16) {
+    assert_eq!(rt; program.run(most), done);
+    assert_eq!(rt; program.next(), next);
+}
+
+/// At its entry 0 it takes 1 off its first accumulator, 2 at first, until that is 0, and then asks for a transfer.
+static COUNTING: &[u8] = b"00000040\n00000002\n\
+    00000000\n00000000\n00000000\n00000000\n00000000\n00000000\n00000000\n00000000\n\
+    00000000\n00000000\n00000000\n00000000\n00000000\n00000000\n00000000\n00000000\n\
+    00000000\n00000000\n00000000\n04140001\n02500024\n06740010\n";
+
+#[test]
+fn orders_at_one_stretch(rt: HostRuntime) -> Result<(), Fail> {
+    let mut program = loaded(rt.alloc(), COUNTING)?;
+    program.enter(0);
+    runs(&rt, &mut program, 3, 3, 21);
+    runs(&rt, &mut program, 64, 1, 22);
+    shows(&rt, &program, 0, 0);
+    steps(&rt, &mut program, &Event::Peri { area: 8 }, 23);
+    Ok(())
+}
+
+/// A program of 32,768 words, loaded and stepped once; its first order is none, so that a run does nothing.
 #[test]
 fn ample(rt: HostRuntime) -> Result<(), Fail> {
     let mut program = loaded(rt.alloc(), b"00100000\n12345670\n77777777\n")?;
@@ -120,6 +143,7 @@ fn ample(rt: HostRuntime) -> Result<(), Fail> {
     assert_eq!(rt; program.word(32768), None);
     assert_eq!(rt; (program.next(), program.overflow()), (0, false));
     // no order has the function 047
+    runs(&rt, &mut program, 64, 0, 0);
     let word = word(&rt, 0o12345670);
     steps(&rt, &mut program, &Event::Illegal { word, at: 0 }, 0);
     Ok(())

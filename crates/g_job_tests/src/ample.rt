@@ -1,21 +1,53 @@
-//! A job that begins, and a turn of it, with ample memory.
+//! A turn of one line, and a job that begins and a turn of it, with ample memory.
 ghost use Rattle.std.specs.Prelude.{◌≡◌, IfOk, false};
 
+use g_act::{Made, Work};
 use g_budget::{Charge, Tariff, Usage};
 use g_job::{Job, Turn};
 use g_lines::Texts;
+use g_macro::Levels;
 use g_name::{Local, User};
+use g_peri::Units;
 use g_plain::PlainStore;
 use std::alloc::Global;
+use std::process::Abort;
 use std::test::Fail;
 
-/// A job of one line.
-fn one_line(alloc: Global) -> Result<Job, Fail>
+/// The work of a document.
+fn work_of(alloc: Global, document: &[u8]) -> Result<Work, Fail> {
+    let levels = Levels::new(alloc, Texts::of_text(alloc, document)?)?;
+    Ok(Work::new(alloc, levels, Units::new(alloc)?))
+}
+
+/// What a turn of a document makes over a new store.
+fn made_of(alloc: Global, document: &[u8]) -> Result<Made, Fail> {
+    let mut work = work_of(alloc, document)?;
+    let mut store = PlainStore::new(alloc)?;
+    work.begin(alloc);
+    work.go(alloc, &mut store, &User::master(), 1_000, None)?;
+    Ok(work.take_made(alloc))
+}
+
+/// A turn of one line.
+#[test]
+fn ample_work(rt: HostRuntime) -> Result<(), Fail> {
+    let made = made_of(rt.alloc(), b"DISPLAY X\n")?;
+    assert_eq!(rt;
+        made.text.as_slice(),
+        b"- DISPLAY X\nDISPLAY X\n".as_slice()
+    );
+    assert_eq!(rt; (made.orders, made.blocks), (0, 0));
+    assert!(rt; made.stop.is_none());
+    Ok(())
+}
+
+/// A job of one document.
+fn begun(alloc: Global, document: &[u8]) -> Result<Job, Fail>
     ensures { IfOk result (λ job. job.over ≡ false) }
 {
     let name = Local::new(b"DEEP").ok_or("no name")?;
     let user = User::new(b"MASTER").ok_or("no user")?;
-    let lines = Texts::of_text(alloc, b"DISPLAY X")?;
+    let lines = Texts::of_text(alloc, document)?;
     let job = Job::new(alloc, 1, name, user, 20, 1_000, lines)?;
     Ok(job)
 }
@@ -33,14 +65,19 @@ fn turned(alloc: Global, job: &mut Job) -> Result<Turn, Fail>
     Ok(turn)
 }
 
-#[test]
-fn ample(rt: HostRuntime) -> Result<(), Fail> {
-    let mut job = one_line(rt.alloc())?;
+/// Compares what a job that begins tells.
+fn begins(rt: &impl Abort, job: &Job) {
     assert_eq!(rt; job.monitor(), b"JOB 1 DEEP :MASTER\n".as_slice());
     assert_eq!(rt; job.wants(), None);
     let standing = job.standing();
-    assert_eq!(rt; standing.allowance, 20);
-    assert_eq!(rt; standing.used, 0);
+    assert_eq!(rt; (standing.allowance, standing.used), (20, 0));
+}
+
+/// A job of one line, and a turn of it.
+#[test]
+fn ample(rt: HostRuntime) -> Result<(), Fail> {
+    let mut job = begun(rt.alloc(), b"DISPLAY X")?;
+    begins(&rt, &job);
     let turn = turned(rt.alloc(), &mut job)?;
     assert_eq!(rt; turn, Turn::Ran { units: 1, money: 0 });
     assert_eq!(rt;

@@ -1,9 +1,7 @@
 //! Monitoring files at their limit of 1,048,576 bytes.
-use crate::whole::finish;
-use g_job::Job;
-use g_lines::Texts;
-use g_name::{Local, Text, User};
-use g_plain::PlainStore;
+use crate::refusing::Refusing;
+use crate::running::{Begin, run};
+use g_name::Text;
 use std::alloc::Global;
 use std::process::Abort;
 use std::test::Fail;
@@ -95,17 +93,27 @@ fn document_of(alloc: Global, edge: &Edge) -> Result<Text, Fail> {
     Ok(document)
 }
 
+/// The job of each edge.
+const BEGIN: Begin<'static> = Begin {
+    number: 1,
+    name: "A",
+    user: "MASTER",
+    time: 1_000,
+    money: 1_000,
+};
+
+/// Whether the monitoring file of the document of an edge ends as it says.
+fn is_full(alloc: Global, edge: &Edge) -> Result<bool, Fail> {
+    let mut store = Refusing::none(alloc)?;
+    let document = document_of(alloc, edge)?;
+    let ended = run(alloc, &mut store, &BEGIN, document.as_slice())?;
+    Ok(ended.text.as_slice().ends_with(edge.end.as_bytes()))
+}
+
 #[test]
 fn full_files(rt: HostRuntime) -> Result<(), Fail> {
     for edge in &EDGES {
-        let mut store = PlainStore::new(rt.alloc())?;
-        let document = document_of(rt.alloc(), edge)?;
-        let lines = Texts::of_text(rt.alloc(), document.as_slice())?;
-        let name = Local::new(b"A").ok_or("no name")?;
-        let user = User::new(b"MASTER").ok_or("no user")?;
-        let mut job = Job::new(rt.alloc(), 1, name, user, 1_000, 1_000, lines)?;
-        finish(&rt, &mut store, &mut job)?;
-        assert!(rt; job.monitor().ends_with(edge.end.as_bytes()));
+        assert!(rt; is_full(rt.alloc(), edge)?);
     }
     Ok(())
 }

@@ -1,12 +1,7 @@
 //! Turns over a store that refuses numbered calls.
-ghost use Rattle.std.specs.Prelude.{◌≡◌, false};
-
 use crate::refusing::{Refusal, Refusing};
-use g_budget::{Charge, Tariff, Usage};
-use g_job::{Job, Turn};
-use g_lines::Texts;
-use g_name::{Local, User};
-use g_plain::PlainStore;
+use crate::running::{Begin, run};
+use g_job::Turn;
 use std::process::Abort;
 use std::test::Fail;
 
@@ -143,52 +138,22 @@ ASSIGNED\n",
     },
 ];
 
-/// Takes turns until the job ends, and counts those that wait.
-fn finish(
-    rt: &(impl Abort + AllocGlobal),
-    store: &mut Refusing,
-    job: &mut Job,
-) -> Result<(u64, Turn), Fail>
-    requires open { job.old.over ≡ false }
-    requires running { store.old.spent ≡ false }
-{
-    let tariff = Tariff::new(|usage: &Usage| Charge {
-        units: 1 + u64::from(usage.orders / 64) + u64::from(usage.blocks / 64),
-        money: u64::from(usage.blocks / 64),
-    });
-    let mut waits = 0;
-    for _ in 0..1_000u64 {
-        let turn = job.turn(rt.alloc(), store, &tariff)?;
-        match turn {
-            Turn::Ran { units: _, money: _ } => {}
-            Turn::Wants { serial: _ } => waits += 1,
-            Turn::Ended { units: _, money: _ } | Turn::Broken => return Ok((waits, turn)),
-        }
-        if store.spent {
-            return Err("a stop that was not told".into());
-        }
-    }
-    Err("too many turns".into())
-}
+/// The job of each case.
+const BEGIN: Begin<'static> = Begin {
+    number: 1,
+    name: "A",
+    user: "MASTER",
+    time: 20,
+    money: 1_000,
+};
 
 /// Runs a case.
 fn check(rt: &(impl Abort + AllocGlobal), case: &Case) -> Result<(), Fail> {
-    let mut store = Refusing {
-        store: PlainStore::new(rt.alloc())?,
-        calls: 0,
-        from: case.from,
-        until: case.until,
-        how: case.how,
-        spent: false,
-    };
-    let name = Local::new(b"A").ok_or("no name")?;
-    let user = User::new(b"MASTER").ok_or("no user")?;
-    let lines = Texts::of_text(rt.alloc(), case.document.as_bytes())?;
-    let mut job = Job::new(rt.alloc(), 1, name, user, 20, 1_000, lines)?;
-    let (waits, end) = finish(rt, &mut store, &mut job)?;
-    assert_eq!(rt; job.monitor(), case.text.as_bytes());
-    assert_eq!(rt; waits, case.waits);
-    assert_eq!(rt; end, case.end);
+    let mut store = Refusing::new(rt.alloc(), case.from, case.until, case.how)?;
+    let ended = run(rt.alloc(), &mut store, &BEGIN, case.document.as_bytes())?;
+    assert_eq!(rt; ended.text.as_slice(), case.text.as_bytes());
+    assert_eq!(rt; ended.waits, case.waits);
+    assert_eq!(rt; ended.turn, case.end);
     Ok(())
 }
 

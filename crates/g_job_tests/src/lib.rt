@@ -15,6 +15,6 @@ mod refusing;
 #[cfg(test)]
 mod rows;
 #[cfg(test)]
-mod whole;
+mod running;
 #[cfg(test)]
-mod work;
+mod whole;

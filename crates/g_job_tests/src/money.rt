@@ -1,10 +1,8 @@
 //! MONEY that is used up.
 use crate::edge::push_line;
-use crate::whole::finish;
-use g_job::Job;
-use g_lines::Texts;
-use g_name::{Local, Text, User};
-use g_plain::PlainStore;
+use crate::refusing::Refusing;
+use crate::running::{Begin, run};
+use g_name::Text;
 use std::alloc::Global;
 use std::process::Abort;
 use std::test::Fail;
@@ -31,33 +29,41 @@ fn document(alloc: Global) -> Result<Text, Fail> {
     Ok(document)
 }
 
-/// Runs a job of the user MASTER to its end, and compares its monitoring file.
-fn check(
-    rt: &(impl Abort + AllocGlobal),
-    store: &mut PlainStore,
+/// Whether a job of the user MASTER has this monitoring file at its end.
+fn is_told(
+    alloc: Global,
+    store: &mut Refusing,
     number: u64,
     money: u64,
     document: &[u8],
     text: &str,
-) -> Result<(), Fail> {
-    let name = Local::new(b"C").ok_or("no name")?;
-    let user = User::new(b"MASTER").ok_or("no user")?;
-    let lines = Texts::of_text(rt.alloc(), document)?;
-    assert!(rt; money <= 1_000_000);
-    let mut job = Job::new(rt.alloc(), number, name, user, 100, money, lines)?;
-    finish(rt, store, &mut job)?;
-    assert_eq!(rt; job.monitor(), text.as_bytes());
+) -> Result<bool, Fail> {
+    let begin = Begin {
+        number,
+        name: "C",
+        user: "MASTER",
+        time: 100,
+        money,
+    };
+    let ended = run(alloc, store, &begin, document)?;
+    Ok(ended.text.as_slice() == text.as_bytes())
+}
+
+/// Puts the file with a first job, and copies it with another.
+fn check(rt: &(impl Abort + AllocGlobal), money: u64, text: &str) -> Result<(), Fail> {
+    let mut store = Refusing::none(rt.alloc())?;
+    let file = document(rt.alloc())?;
+    let made = "JOB 1 C :MASTER\n- INPUT F\nMADE :MASTER.F(1/)\nEND 4 UNITS\n";
+    assert!(rt; is_told(rt.alloc(), &mut store, 1, 1_000, file.as_slice(), made)?);
+    let copy = b"COPY F,G\nDISPLAY X";
+    assert!(rt; is_told(rt.alloc(), &mut store, 2, money, copy, text)?);
     Ok(())
 }
 
 #[test]
 fn money_up(rt: HostRuntime) -> Result<(), Fail> {
     for (money, text) in &COPIES {
-        let mut store = PlainStore::new(rt.alloc())?;
-        let file = document(rt.alloc())?;
-        let made = "JOB 1 C :MASTER\n- INPUT F\nMADE :MASTER.F(1/)\nEND 4 UNITS\n";
-        check(&rt, &mut store, 1, 1_000, file.as_slice(), made)?;
-        check(&rt, &mut store, 2, *money, b"COPY F,G\nDISPLAY X", text)?;
+        check(&rt, *money, text)?;
     }
     Ok(())
 }

@@ -2,6 +2,7 @@
 use g_name::User;
 use g_plain::{Filestore, PlainStore, StoreCall, StoreFault, StoreReply};
 use std::alloc::Global;
+use std::test::Fail;
 
 /// How a call is refused.
 #[derive(Clone, Copy)]
@@ -23,6 +24,25 @@ pub struct Refusing {
     pub until: u64,
     pub how: Refusal,
     pub spent: bool,
+}
+
+impl Refusing {
+    /// A new plain store whose calls are refused so, from the number `from` on and up to `until`.
+    pub fn new(alloc: Global, from: u64, until: u64, how: Refusal) -> Result<Refusing, Fail> {
+        Ok(Refusing {
+            store: PlainStore::new(alloc)?,
+            calls: 0,
+            from,
+            until,
+            how,
+            spent: false,
+        })
+    }
+
+    /// A new plain store that refuses no call.
+    pub fn none(alloc: Global) -> Result<Refusing, Fail> {
+        Refusing::new(alloc, 0, 0, Refusal::Read)
+    }
 }
 
 impl Filestore for Refusing {

@@ -140,8 +140,7 @@ fn labels(rt: HostRuntime) -> Result<(), Fail> {
 #[test]
 fn documents(rt: HostRuntime) -> Result<(), Fail> {
     let mut levels = begun(rt.alloc(), b"A\n%A\n////\nEND")?;
-    let document = levels.document(rt.alloc())?;
-    assert!(rt; document.as_slice() == b"A\n%A\n".as_slice());
+    assert!(rt; begins_with(rt.alloc(), &mut levels, b"A\n%A\n")?);
     assert!(rt; next_is(rt.alloc(), &mut levels, b"END")?);
     Ok(())
 }
@@ -197,5 +196,55 @@ fn the_deepest_macro(rt: HostRuntime) -> Result<(), Fail> {
     assert!(rt; is_deepest(rt.alloc(), &mut levels)?);
     assert!(rt; fires(rt.alloc(), &mut levels, b"GOTO 9ER")?);
     assert!(rt; next_is(rt.alloc(), &mut levels, b"DISPLAY NOT HERE")?);
+    Ok(())
+}
+
+/// Lets the command of a WHENEVER wait in the level of the next line, which is this one.
+fn let_wait_behind(
+    alloc: Global,
+    levels: &mut Levels,
+    next: &[u8],
+    line: &[u8],
+) -> Result<(), Fail> {
+    let Line { label: _, command } = parse_line(alloc, line)?;
+    let Command::Whenever { cond, command } = command else {
+        return Err("another command".into());
+    };
+    let Some(told) = levels.next_line(alloc)? else {
+        return Err("no line".into());
+    };
+    if told.as_slice() != next {
+        return Err("another line".into());
+    }
+    levels.whenever(cond, command)?;
+    Ok(())
+}
+
+/// Whether the document of an INPUT that is met first is this.
+fn begins_with(alloc: Global, levels: &mut Levels, text: &[u8]) -> Result<bool, Fail>
+    requires { 0 < length levels.old.levels }
+{
+    let document = levels.document(alloc)?;
+    Ok(document.as_slice() == text)
+}
+
+/// A document with a macro that is called, a command that waits and is done, with ample memory.
+#[test]
+fn ample(rt: HostRuntime) -> Result<(), Fail> {
+    let mut levels = begun(rt.alloc(), b"A\n////\nM X")?;
+    assert!(rt; begins_with(rt.alloc(), &mut levels, b"A\n")?);
+    let_wait_behind(
+        rt.alloc(),
+        &mut levels,
+        b"M X",
+        b"WHENEVER COMMAND ERROR,END",
+    )?;
+    levels.call(
+        rt.alloc(),
+        one(rt.alloc(), b"DISPLAY %A")?,
+        one(rt.alloc(), b"X")?,
+    )?;
+    assert!(rt; next_is(rt.alloc(), &mut levels, b"DISPLAY X")?);
+    assert!(rt; fires(rt.alloc(), &mut levels, b"END")?);
     Ok(())
 }

@@ -1,5 +1,4 @@
-//! Tests of the command language: lines that are in it and lines that aren't, by hand from the grammar, what levels make
-//! of them, and every text.
+//! Tests of lines, of levels, of verbs, of scripts and of what is printed, from the language's rules by hand.
 #![tactic(auto)]
 
 #[cfg(test)]
@@ -9,10 +8,12 @@ mod levels;
 #[cfg(test)]
 mod lines;
 #[cfg(test)]
-mod macros;
-#[cfg(test)]
 mod monitor;
 #[cfg(test)]
 mod refusals;
 #[cfg(test)]
 mod replies;
+#[cfg(test)]
+mod scripts;
+#[cfg(test)]
+mod verbs;

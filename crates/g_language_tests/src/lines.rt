@@ -188,11 +188,12 @@ fn is_verb(command: &Command, verb: &[u8], params: &[&[u8]], rest: &[u8]) -> boo
 }
 
 fn are_params(told: &Texts, params: &[&[u8]]) -> bool {
+    let told = told.rows();
     if told.len() != params.len() {
         return false;
     }
-    for (told, param) in told.rows().iter().zip(params.iter()) {
-        if told.as_slice() != *param {
+    for i in 0..told.len() {
+        if told[i].as_slice() != params[i] {
             return false;
         }
     }

@@ -1,15 +1,14 @@
 //! A script of every operator with ample memory.
-use g_script::{one_reading, parse_script};
+use super::read;
+use g_script::one_reading;
 use std::test::Fail;
 
 /// Every operator, a job with MONEY and one without, and a last line that lacks its byte 10.
 #[test]
 fn ample(rt: HostRuntime) -> Result<(), Fail> {
+    one_reading();
     let bytes =
         b"0 FORMAT\n7 START\n7 RESTORE\n8 MOUNT 1\n8 UNMOUNT 999999\n9 DUMP 2\n9 MIGRATE :A.F(2)\n10 STOP DISC 1\n10 STOP TAPE 1000000000\n0 JOB ONE,:MASTER,TIME 10\nENDJOB\n\n****\n1000000000 JOB TWO,:A,TIME 1000000,MONEY 0\n****\n3 SHUT";
-    one_reading();
-    let script = parse_script(rt.alloc(), bytes)?;
-    assert_eq!(rt; script.bad, None);
-    assert_eq!(rt; script.lines.rows().len(), 12);
+    assert_eq!(rt; read(rt.alloc(), bytes)?, (12, None));
     Ok(())
 }

@@ -1,0 +1,104 @@
+//! First lines, good and bad.
+use super::read;
+use std::alloc::Global;
+use std::test::Fail;
+
+/// Scripts of one line, and whether it is one.
+static LINES: [(&[u8], bool); 48] = [
+    (b"0 FORMAT\n", true),
+    (b"0 START", true),
+    (b"1000000000 RESTORE\n", true),
+    (b"5 SHUT\n", true),
+    (b"5 MOUNT 1\n", true),
+    (b"5 UNMOUNT 999999\n", true),
+    (b"5 DUMP 10\n", true),
+    (b"5 MIGRATE F\n", true),
+    (b"5 MIGRATE :A.F(4095/ABCD)\n", true),
+    (b"5 STOP DISC 1\n", true),
+    (b"5 STOP TAPE 1000000000\n", true),
+    (b"\n", false),
+    (b" \n", false),
+    (b"0\n", false),
+    (b"0 \n", false),
+    (b"FORMAT\n", false),
+    (b" 0 FORMAT\n", false),
+    (b"0  FORMAT\n", false),
+    (b"0 FORMAT \n", false),
+    (b"0 FORMATT\n", false),
+    (b"0 format\n", false),
+    (b"00 FORMAT\n", false),
+    (b"01 FORMAT\n", false),
+    (b"+1 FORMAT\n", false),
+    (b"-1 FORMAT\n", false),
+    (b"1000000001 FORMAT\n", false),
+    (b"18446744073709551616 FORMAT\n", false),
+    (b"0 FORMAT 1\n", false),
+    (b"0 MOUNT\n", false),
+    (b"0 MOUNT \n", false),
+    (b"0 MOUNT 0\n", false),
+    (b"0 MOUNT 01\n", false),
+    (b"0 MOUNT  1\n", false),
+    (b"0 MOUNT 1 \n", false),
+    (b"0 MOUNT 1000000\n", false),
+    (b"0 UNMOUNT 0\n", false),
+    (b"0 DUMP 1000000\n", false),
+    (b"0 MIGRATE \n", false),
+    (b"0 MIGRATE f\n", false),
+    (b"0 MIGRATE F(0)\n", false),
+    (b"0 MIGRATE F \n", false),
+    (b"0 STOP\n", false),
+    (b"0 STOP DISC\n", false),
+    (b"0 STOP DISC 0\n", false),
+    (b"0 STOP DISC 1000000001\n", false),
+    (b"0 STOP TAPE 0\n", false),
+    (b"0 STOP REEL 1\n", false),
+    (b"****\n", false),
+];
+
+/// First lines of jobs, each with an empty document, and whether it is one.
+static JOBS: [(&[u8], bool); 27] = [
+    (b"0 JOB A,:B,TIME 1\n****\n", true),
+    (b"0 JOB A,:B,TIME 1000000\n****", true),
+    (b"0 JOB A,:B,TIME 1,MONEY 0\n****\n", true),
+    (b"0 JOB A,:B,TIME 1,MONEY 1000000\n****\n", true),
+    (b"0 JOB ABCDEFGHIJKL,:ABCDEFGHIJKL,TIME 1\n****\n", true),
+    (b"0 JOB A,:B,TIME 0\n****\n", false),
+    (b"0 JOB A,:B,TIME 01\n****\n", false),
+    (b"0 JOB A,:B,TIME +1\n****\n", false),
+    (b"0 JOB A,:B,TIME 1000001\n****\n", false),
+    (b"0 JOB A,:B,TIME 1 \n****\n", false),
+    (b"0 JOB A,:B,TIME 1,\n****\n", false),
+    (b"0 JOB A,:B,TIME 1,MONEY\n****\n", false),
+    (b"0 JOB A,:B,TIME 1,MONEY \n****\n", false),
+    (b"0 JOB A,:B,TIME 1,MONEY 1000001\n****\n", false),
+    (b"0 JOB A,:B,TIME 1,MONEY 00\n****\n", false),
+    (b"0 JOB A,:B,TIME 1, MONEY 1\n****\n", false),
+    (b"0 JOB A,:B,TIME 1,MONEY 1,\n****\n", false),
+    (b"0 JOB A,:B,MONEY 1,TIME 1\n****\n", false),
+    (b"0 JOB A,:B,TIME\n****\n", false),
+    (b"0 JOB A,:B\n****\n", false),
+    (b"0 JOB A,B,TIME 1\n****\n", false),
+    (b"0 JOB A,:,TIME 1\n****\n", false),
+    (b"0 JOB ,:B,TIME 1\n****\n", false),
+    (b"0 JOB a,:B,TIME 1\n****\n", false),
+    (b"0 JOB A, :B,TIME 1\n****\n", false),
+    (b"0 JOB ABCDEFGHIJKLM,:B,TIME 1\n****\n", false),
+    (b"0 JOB  A,:B,TIME 1\n****\n", false),
+];
+
+/// Whether a script has no bad line, and whether it has an item; or else its first line is bad, and it has none.
+fn is_good(alloc: Global, script: &[u8]) -> Result<Option<bool>, Fail> {
+    match read(alloc, script)? {
+        (1, None) => Ok(Some(true)),
+        (0, Some(1)) => Ok(Some(false)),
+        _ => Ok(None),
+    }
+}
+
+#[test]
+fn first_lines(rt: HostRuntime) -> Result<(), Fail> {
+    for (script, good) in LINES.iter().chain(JOBS.iter()) {
+        assert_eq!(rt; is_good(rt.alloc(), script)?, Some(*good), "of a line");
+    }
+    Ok(())
+}

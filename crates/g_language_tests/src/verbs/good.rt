@@ -1,0 +1,44 @@
+//! Lines whose verb is good, and what they ask for.
+use super::good_lines;
+use super::said::said;
+use g_lang::{Command, Line, parse_line};
+use g_verbs::{Action, read_verb};
+use std::alloc::Global;
+use std::process::Abort;
+use std::test::Fail;
+
+/// What a line's verb asks for.
+fn asked(alloc: Global, line: &str) -> Result<Action, Fail> {
+    let Line { label: _, command } = parse_line(alloc, line.as_bytes())?;
+    let Command::Verb { name, params, rest } = command else {
+        return Err("no verb".into());
+    };
+    let action = read_verb(&name, params, rest)?;
+    Ok(action)
+}
+
+/// Compares a row: what a line asks for, and the line.
+fn compare(rt: &(impl Abort + AllocGlobal), row: &str) -> Result<(), Fail> {
+    let (wanted, line) = row.split_once(" <= ").ok_or("no row")?;
+    let action = asked(rt.alloc(), line)?;
+    let told = said(rt.alloc(), &action)?;
+    assert!(rt; told.as_slice() == wanted.as_bytes(), "in {line}");
+    Ok(())
+}
+
+/// Compares the rows of a table, but for the lines that begin with `#`.
+fn check(rt: &(impl Abort + AllocGlobal), rows: &str) -> Result<(), Fail> {
+    for row in rows.lines() {
+        if !row.starts_with('#') {
+            compare(rt, row)?;
+        }
+    }
+    Ok(())
+}
+
+#[test]
+fn each_verb(rt: HostRuntime) -> Result<(), Fail> {
+    check(&rt, good_lines::FILES)?;
+    check(&rt, good_lines::USERS)?;
+    check(&rt, good_lines::JOBS)
+}
