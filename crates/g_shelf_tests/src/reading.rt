@@ -127,7 +127,10 @@ fn a_changed_byte_is_no_other_dump(rt: HostRuntime) -> Result<(), Fail> {
             let mut tapes = rack_of(rt.alloc(), &blocks)?;
             let found = read_dump(rt.alloc(), &mut tapes, 1, 0)?;
             // Blocks 5 and 6 are content.
-            assert!(rt; found.is_some() == (k == 5 || k == 6), "block {k} byte {at}");
+            assert!(rt;
+                found.is_some() == (k == 5 || k == 6),
+                "block {k} byte {at}"
+            );
         }
     }
     Ok(())
