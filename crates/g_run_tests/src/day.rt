@@ -1,7 +1,8 @@
 //! A day of the operator's lines and of ticks, with the text that is put.
 ghost use Rattle.std.specs.Prelude.{◌≡◌, ◌<◌, ◌≤◌, [], IfOk};
+ghost use Rattle.g_console.specs.Parts.{IsReady};
 ghost use Rattle.g_console.specs.System.{facts_of};
-ghost use Rattle.g_run_tests.specs.Live.{IsLive};
+ghost use Rattle.g_crew.specs.Numbers.{AreOpen};
 
 use crate::lines::{
     came_in, dump_opened, formatted, migrated, mounted, restored, shut, started, stop_disc,
@@ -39,7 +40,6 @@ END 2 UNITS\n\
 8 REFUSED 2 NO FILE\n";
 
 /// A new filestore, and a job that comes in and is over behind two ticks.
-#[tactic(auto, using(crate::proofs::LiveLemmas::live_anew))]
 fn job_over<K: Sink, D: Disc + Drop, T: Tapes + Drop>(
     alloc: Global,
     disc: D,
@@ -50,7 +50,8 @@ fn job_over<K: Sink, D: Disc + Drop, T: Tapes + Drop>(
     requires low { 2177 < (D.state disc).size }
     requires high { (D.state disc).size ≤ 1048576 }
     requires new { crew.old ≡ record { jobs = []; accounts = []; next_job = 1 } }
-    ensures { IfOk result (λ s. IsLive (facts_of D.state T.rack s) crew.new) }
+    ensures ready { IfOk result (λ s. IsReady (facts_of D.state T.rack s) crew.new) }
+    ensures open { IfOk result (λ s. AreOpen crew.new.jobs) }
 {
     let system = formatted(alloc, System::Down(disc, tapes), crew, out)?;
     let system = came_in(alloc, system, crew, out)?;
@@ -65,8 +66,10 @@ fn dumped<K: Sink, D: Disc + Drop, T: Tapes + Drop>(
     crew: &mut Crew,
     out: &mut K,
 ) -> Result<System<D, T>, Fail>
-    requires live { IsLive (facts_of D.state T.rack system) crew.old }
-    ensures { IfOk result (λ s. IsLive (facts_of D.state T.rack s) crew.new) }
+    requires ready { IsReady (facts_of D.state T.rack system) crew.old }
+    requires open { AreOpen crew.old.jobs }
+    ensures ready { IfOk result (λ s. IsReady (facts_of D.state T.rack s) crew.new) }
+    ensures open { IfOk result (λ s. AreOpen crew.new.jobs) }
 {
     let system = dump_opened(alloc, system, crew, out)?;
     let system = two_ticks(alloc, system, crew, 2, out)?;
@@ -82,8 +85,10 @@ fn down_and_up<K: Sink, D: Disc + Drop, T: Tapes + Drop>(
     crew: &mut Crew,
     out: &mut K,
 ) -> Result<System<D, T>, Fail>
-    requires live { IsLive (facts_of D.state T.rack system) crew.old }
-    ensures { IfOk result (λ s. IsLive (facts_of D.state T.rack s) crew.new) }
+    requires ready { IsReady (facts_of D.state T.rack system) crew.old }
+    requires open { AreOpen crew.old.jobs }
+    ensures ready { IfOk result (λ s. IsReady (facts_of D.state T.rack s) crew.new) }
+    ensures open { IfOk result (λ s. AreOpen crew.new.jobs) }
 {
     let system = shut(alloc, system, crew, out)?;
     let system = started(alloc, system, crew, out)?;

@@ -1,7 +1,8 @@
 //! The operator's lines, each on a system that is ready for it.
 ghost use Rattle.std.specs.Prelude.{◌≡◌, ◌+◌, ◌<◌, ◌≤◌, IfOk, None};
+ghost use Rattle.g_console.specs.Parts.{IsReady};
 ghost use Rattle.g_console.specs.System.{facts_of};
-ghost use Rattle.g_run_tests.specs.Live.{IsLive};
+ghost use Rattle.g_crew.specs.Numbers.{AreOpen};
 
 use g_console::{
     Failure, Progress, System, dump_line, format_line, job_line, migrate_line, mount_line,
@@ -28,15 +29,16 @@ pub(crate) fn went(failure: Option<Failure>) -> Result<(), Fail>
 }
 
 /// FORMAT, before any tick.
-#[tactic(auto, using(crate::proofs::LiveLemmas::live_behind))]
 pub(crate) fn formatted<K: Sink, D: Disc + Drop, T: Tapes + Drop>(
     alloc: Global,
     system: System<D, T>,
     crew: &mut Crew,
     out: &mut K,
 ) -> Result<System<D, T>, Fail>
-    requires live { IsLive (facts_of D.state T.rack system) crew.old }
-    ensures live { IfOk result (λ s. IsLive (facts_of D.state T.rack s) crew.new) }
+    requires ready { IsReady (facts_of D.state T.rack system) crew.old }
+    requires open { AreOpen crew.old.jobs }
+    ensures ready { IfOk result (λ s. IsReady (facts_of D.state T.rack s) crew.new) }
+    ensures open { IfOk result (λ s. AreOpen crew.new.jobs) }
     ensures numbers { IfOk result (λ s. crew.new.next_job ≤ crew.old.next_job + 1) }
 {
     let Progress { system, failure } = format_line(alloc, system, crew, 0, out);
@@ -45,16 +47,17 @@ pub(crate) fn formatted<K: Sink, D: Disc + Drop, T: Tapes + Drop>(
 }
 
 /// JOB: one that makes a file of one line.
-#[tactic(auto, using(crate::proofs::LiveLemmas::live_behind))]
 pub(crate) fn came_in<K: Sink, D: Disc + Drop, T: Tapes + Drop>(
     alloc: Global,
     system: System<D, T>,
     crew: &mut Crew,
     out: &mut K,
 ) -> Result<System<D, T>, Fail>
-    requires live { IsLive (facts_of D.state T.rack system) crew.old }
+    requires ready { IsReady (facts_of D.state T.rack system) crew.old }
+    requires open { AreOpen crew.old.jobs }
     requires numbers { crew.old.next_job + 1 < 18446744073709551616 }
-    ensures { IfOk result (λ s. IsLive (facts_of D.state T.rack s) crew.new) }
+    ensures ready { IfOk result (λ s. IsReady (facts_of D.state T.rack s) crew.new) }
+    ensures open { IfOk result (λ s. AreOpen crew.new.jobs) }
 {
     let job = NewJob {
         name: Local::new(b"A").ok_or("no name")?,
@@ -69,15 +72,14 @@ pub(crate) fn came_in<K: Sink, D: Disc + Drop, T: Tapes + Drop>(
 }
 
 /// MOUNT, on a system that is up.
-#[tactic(auto, using(crate::proofs::LiveLemmas::live_behind))]
 pub(crate) fn mounted<K: Sink, D: Disc + Drop, T: Tapes + Drop>(
     alloc: Global,
     system: System<D, T>,
     crew: &Crew,
     out: &mut K,
 ) -> Result<System<D, T>, Fail>
-    requires live { IsLive (facts_of D.state T.rack system) crew.now }
-    ensures { IfOk result (λ s. IsLive (facts_of D.state T.rack s) crew.now) }
+    requires ready { IsReady (facts_of D.state T.rack system) crew.now }
+    ensures { IfOk result (λ s. IsReady (facts_of D.state T.rack s) crew.now) }
 {
     let mut system = system;
     let failure = mount_line(alloc, &mut system, 0, 1, out);
@@ -86,15 +88,16 @@ pub(crate) fn mounted<K: Sink, D: Disc + Drop, T: Tapes + Drop>(
 }
 
 /// DUMP.
-#[tactic(auto, using(crate::proofs::LiveLemmas::live_behind))]
 pub(crate) fn dump_opened<K: Sink, D: Disc + Drop, T: Tapes + Drop>(
     alloc: Global,
     system: System<D, T>,
     crew: &mut Crew,
     out: &mut K,
 ) -> Result<System<D, T>, Fail>
-    requires live { IsLive (facts_of D.state T.rack system) crew.old }
-    ensures { IfOk result (λ s. IsLive (facts_of D.state T.rack s) crew.new) }
+    requires ready { IsReady (facts_of D.state T.rack system) crew.old }
+    requires open { AreOpen crew.old.jobs }
+    ensures ready { IfOk result (λ s. IsReady (facts_of D.state T.rack s) crew.new) }
+    ensures open { IfOk result (λ s. AreOpen crew.new.jobs) }
 {
     let Progress { system, failure } = dump_line(alloc, system, crew, 2, 1, out);
     went(failure)?;
@@ -102,32 +105,36 @@ pub(crate) fn dump_opened<K: Sink, D: Disc + Drop, T: Tapes + Drop>(
 }
 
 /// MIGRATE.
-#[tactic(auto, using(crate::proofs::LiveLemmas::live_behind))]
 pub(crate) fn migrated<K: Sink, D: Disc + Drop, T: Tapes + Drop>(
     alloc: Global,
     system: System<D, T>,
     crew: &mut Crew,
     out: &mut K,
 ) -> Result<System<D, T>, Fail>
-    requires live { IsLive (facts_of D.state T.rack system) crew.old }
-    ensures { IfOk result (λ s. IsLive (facts_of D.state T.rack s) crew.new) }
+    requires ready { IsReady (facts_of D.state T.rack system) crew.old }
+    requires open { AreOpen crew.old.jobs }
+    ensures ready { IfOk result (λ s. IsReady (facts_of D.state T.rack s) crew.new) }
+    ensures open { IfOk result (λ s. AreOpen crew.new.jobs) }
 {
-    let path = parse_path(b":MASTER.F").ok().ok_or("no path")?;
+    let Ok(path) = parse_path(b":MASTER.F") else {
+        return Err("no path".into());
+    };
     let Progress { system, failure } = migrate_line(alloc, system, crew, 8, &path, out);
     went(failure)?;
     Ok(system)
 }
 
 /// SHUT.
-#[tactic(auto, using(crate::proofs::LiveLemmas::live_behind))]
 pub(crate) fn shut<K: Sink, D: Disc + Drop, T: Tapes + Drop>(
     alloc: Global,
     system: System<D, T>,
     crew: &mut Crew,
     out: &mut K,
 ) -> Result<System<D, T>, Fail>
-    requires live { IsLive (facts_of D.state T.rack system) crew.old }
-    ensures { IfOk result (λ s. IsLive (facts_of D.state T.rack s) crew.new) }
+    requires ready { IsReady (facts_of D.state T.rack system) crew.old }
+    requires open { AreOpen crew.old.jobs }
+    ensures ready { IfOk result (λ s. IsReady (facts_of D.state T.rack s) crew.new) }
+    ensures open { IfOk result (λ s. AreOpen crew.new.jobs) }
 {
     let Progress { system, failure } = shut_line(alloc, system, crew, 8, out);
     went(failure)?;
@@ -135,15 +142,16 @@ pub(crate) fn shut<K: Sink, D: Disc + Drop, T: Tapes + Drop>(
 }
 
 /// START.
-#[tactic(auto, using(crate::proofs::LiveLemmas::live_behind))]
 pub(crate) fn started<K: Sink, D: Disc + Drop, T: Tapes + Drop>(
     alloc: Global,
     system: System<D, T>,
     crew: &mut Crew,
     out: &mut K,
 ) -> Result<System<D, T>, Fail>
-    requires live { IsLive (facts_of D.state T.rack system) crew.old }
-    ensures { IfOk result (λ s. IsLive (facts_of D.state T.rack s) crew.new) }
+    requires ready { IsReady (facts_of D.state T.rack system) crew.old }
+    requires open { AreOpen crew.old.jobs }
+    ensures ready { IfOk result (λ s. IsReady (facts_of D.state T.rack s) crew.new) }
+    ensures open { IfOk result (λ s. AreOpen crew.new.jobs) }
 {
     let Progress { system, failure } = start_line(alloc, system, crew, 8, out);
     went(failure)?;
@@ -151,15 +159,16 @@ pub(crate) fn started<K: Sink, D: Disc + Drop, T: Tapes + Drop>(
 }
 
 /// RESTORE.
-#[tactic(auto, using(crate::proofs::LiveLemmas::live_behind))]
 pub(crate) fn restored<K: Sink, D: Disc + Drop, T: Tapes + Drop>(
     alloc: Global,
     system: System<D, T>,
     crew: &mut Crew,
     out: &mut K,
 ) -> Result<System<D, T>, Fail>
-    requires live { IsLive (facts_of D.state T.rack system) crew.old }
-    ensures { IfOk result (λ s. IsLive (facts_of D.state T.rack s) crew.new) }
+    requires ready { IsReady (facts_of D.state T.rack system) crew.old }
+    requires open { AreOpen crew.old.jobs }
+    ensures ready { IfOk result (λ s. IsReady (facts_of D.state T.rack s) crew.new) }
+    ensures open { IfOk result (λ s. AreOpen crew.new.jobs) }
 {
     let Progress { system, failure } = restore_line(alloc, system, crew, 8, out);
     went(failure)?;
@@ -167,15 +176,14 @@ pub(crate) fn restored<K: Sink, D: Disc + Drop, T: Tapes + Drop>(
 }
 
 /// UNMOUNT.
-#[tactic(auto, using(crate::proofs::LiveLemmas::live_behind))]
 pub(crate) fn unmounted<K: Sink, D: Disc + Drop, T: Tapes + Drop>(
     alloc: Global,
     system: System<D, T>,
     crew: &Crew,
     out: &mut K,
 ) -> Result<System<D, T>, Fail>
-    requires live { IsLive (facts_of D.state T.rack system) crew.now }
-    ensures { IfOk result (λ s. IsLive (facts_of D.state T.rack s) crew.now) }
+    requires ready { IsReady (facts_of D.state T.rack system) crew.now }
+    ensures { IfOk result (λ s. IsReady (facts_of D.state T.rack s) crew.now) }
 {
     let mut system = system;
     let failure = unmount_line(alloc, &mut system, 8, 1, out);
@@ -184,15 +192,14 @@ pub(crate) fn unmounted<K: Sink, D: Disc + Drop, T: Tapes + Drop>(
 }
 
 /// STOP DISC.
-#[tactic(auto, using(crate::proofs::LiveLemmas::live_behind))]
 pub(crate) fn stop_disc<K: Sink, D: Disc + Drop, T: Tapes + Drop>(
     alloc: Global,
     system: System<D, T>,
     crew: &Crew,
     out: &mut K,
 ) -> Result<System<D, T>, Fail>
-    requires live { IsLive (facts_of D.state T.rack system) crew.now }
-    ensures { IfOk result (λ s. IsLive (facts_of D.state T.rack s) crew.now) }
+    requires ready { IsReady (facts_of D.state T.rack system) crew.now }
+    ensures { IfOk result (λ s. IsReady (facts_of D.state T.rack s) crew.now) }
 {
     let mut system = system;
     let failure = stop_disc_line(alloc, &mut system, 8, 5, out);
@@ -201,15 +208,14 @@ pub(crate) fn stop_disc<K: Sink, D: Disc + Drop, T: Tapes + Drop>(
 }
 
 /// STOP TAPE.
-#[tactic(auto, using(crate::proofs::LiveLemmas::live_behind))]
 pub(crate) fn stop_tape<K: Sink, D: Disc + Drop, T: Tapes + Drop>(
     alloc: Global,
     system: System<D, T>,
     crew: &Crew,
     out: &mut K,
 ) -> Result<System<D, T>, Fail>
-    requires live { IsLive (facts_of D.state T.rack system) crew.now }
-    ensures { IfOk result (λ s. IsLive (facts_of D.state T.rack s) crew.now) }
+    requires ready { IsReady (facts_of D.state T.rack system) crew.now }
+    ensures { IfOk result (λ s. IsReady (facts_of D.state T.rack s) crew.now) }
 {
     let mut system = system;
     let failure = stop_tape_line(alloc, &mut system, 8, 5, out);

@@ -20,20 +20,39 @@ pub(crate) fn stays<K: Sink, D: Disc + Drop, T: Tapes + Drop>(
     crew: &mut Crew,
     out: &mut K,
 ) -> Result<(), Fail> {
-    let System::Up(store) = system else {
-        return Err("the system is down".into());
-    };
-    let made = Text::from_slice(alloc, b"DISPLAY");
-    let Progress { system, failure } = stays_up(alloc, store, 8, made, out);
-    went(failure)?;
-    let System::Up(store) = system else {
-        return Err("the system went down".into());
-    };
-    let Progress {
-        system: _system,
-        failure,
-    } = fails(alloc, store, StoreFault::NoFile, crew, 8, out);
-    went(failure)
+    match system {
+        System::Up(store) => {
+            let made = Text::from_slice(alloc, b"DISPLAY");
+            let Progress { system, failure } = stays_up(alloc, store, 8, made, out);
+            went(failure)?;
+            fault_told(alloc, system, crew, out)
+        }
+        System::Down(_disc, _tapes) => Err("the system is down".into()),
+    }
+}
+
+/// The fault that there is no such file is told of a store that is up.
+fn fault_told<K: Sink, D: Disc + Drop, T: Tapes + Drop>(
+    alloc: Global,
+    system: System<D, T>,
+    crew: &mut Crew,
+    out: &mut K,
+) -> Result<(), Fail> {
+    match system {
+        System::Up(store) => {
+            let Progress { system, failure } = fails(
+                alloc,
+                store,
+                StoreFault::NoFile,
+                crew,
+                8,
+                out,
+            );
+            drop(system);
+            went(failure)
+        }
+        System::Down(_disc, _tapes) => Err("the system went down".into()),
+    }
 }
 
 /// What each call of this test puts, in order.

@@ -1,7 +1,8 @@
 //! Ticks, by the rules of the program.
 ghost use Rattle.std.specs.Prelude.{◌≡◌, ◌<◌, IfOk};
+ghost use Rattle.g_console.specs.Parts.{IsReady};
 ghost use Rattle.g_console.specs.System.{facts_of};
-ghost use Rattle.g_run_tests.specs.Live.{IsLive};
+ghost use Rattle.g_crew.specs.Numbers.{AreOpen};
 ghost use Rattle.g_sched.specs.Rule.{IsInRange};
 
 use crate::lines::went;
@@ -17,7 +18,6 @@ use std::alloc::Global;
 use std::test::Fail;
 
 /// A tick of a system that is up.
-#[tactic(auto, using(crate::proofs::LiveLemmas::live_ticked))]
 fn ticked<K: Sink, D: Disc + Drop, T: Tapes + Drop>(
     alloc: Global,
     system: System<D, T>,
@@ -25,12 +25,11 @@ fn ticked<K: Sink, D: Disc + Drop, T: Tapes + Drop>(
     count: u64,
     out: &mut K,
 ) -> Result<System<D, T>, Fail>
-    requires live { IsLive (facts_of D.state T.rack system) crew.old }
-    ensures { IfOk result (λ s. IsLive (facts_of D.state T.rack s) crew.new) }
+    requires ready { IsReady (facts_of D.state T.rack system) crew.old }
+    requires open { AreOpen crew.old.jobs }
+    ensures ready { IfOk result (λ s. IsReady (facts_of D.state T.rack s) crew.new) }
+    ensures open { IfOk result (λ s. AreOpen crew.new.jobs) }
 {
-    let System::Up(store) = system else {
-        return Err("the system is down".into());
-    };
     let tariff = Tariff::new(|usage: &Usage| Charge {
         units: 1 + u64::from(usage.orders / 64) + u64::from(usage.blocks / 64),
         money: u64::from(usage.blocks / 64),
@@ -40,9 +39,16 @@ fn ticked<K: Sink, D: Disc + Drop, T: Tapes + Drop>(
             requires { IsInRange standing.now }
         { standing.used * 1_000_000 / standing.allowance },
     );
-    let Progress { system, failure } = tick(alloc, store, crew, count, &tariff, &weigh, out);
-    went(failure)?;
-    Ok(system)
+    match system {
+        System::Up(store) => {
+            let Progress { system, failure } = tick(
+                alloc, store, crew, count, &tariff, &weigh, out,
+            );
+            went(failure)?;
+            Ok(system)
+        }
+        System::Down(_disc, _tapes) => Err("the system is down".into()),
+    }
 }
 
 /// Two ticks, the first at this count.
@@ -53,9 +59,11 @@ pub(crate) fn two_ticks<K: Sink, D: Disc + Drop, T: Tapes + Drop>(
     count: u64,
     out: &mut K,
 ) -> Result<System<D, T>, Fail>
-    requires live { IsLive (facts_of D.state T.rack system) crew.old }
+    requires ready { IsReady (facts_of D.state T.rack system) crew.old }
+    requires open { AreOpen crew.old.jobs }
     requires few { count < 100 }
-    ensures { IfOk result (λ s. IsLive (facts_of D.state T.rack s) crew.new) }
+    ensures ready { IfOk result (λ s. IsReady (facts_of D.state T.rack s) crew.new) }
+    ensures open { IfOk result (λ s. AreOpen crew.new.jobs) }
 {
     let system = ticked(alloc, system, crew, count, out)?;
     ticked(alloc, system, crew, count + 1, out)
