@@ -3,7 +3,7 @@ use Rattle.std.proofs.Common.{◌≡◌, ◌≤◌, false}
 use Rattle.g_job_tests.proofs.running.finish.Given as goal
 
 abbrev pub invariant-loop : goal.invariant-loop
-invariant-loop g l = record {
+invariant-loop l = record {
   goes : l.job.over ≡ false;
   waits : l.waits ≤ l.counter;
 }
