@@ -18,7 +18,7 @@ use std::test::Fail;
 type Fields = (u8, u8, u8, u16);
 
 /// Two words with their addresses.
-type Words = [(u16, u32); 2];
+type Words = ((u16, u32), (u16, u32));
 
 /// An order, two words before it, overflow before it; two words, the next address and overflow behind it. An order that
 /// leaves the next address at 21 must be illegal.
@@ -48,6 +48,12 @@ fn put_words(rt: &impl Abort, program: &mut Program, words: &[(u16, u32)]) {
     for (address, bits) in words {
         put(rt, program, *address, *bits);
     }
+}
+
+fn put_both(rt: &impl Abort, program: &mut Program, words: &Words) {
+    let (one, other) = *words;
+    put(rt, program, one.0, one.1);
+    put(rt, program, other.0, other.1);
 }
 
 fn put_order(rt: &impl Abort, program: &mut Program, address: u16, fields: &Fields) {
@@ -81,15 +87,15 @@ fn check(rt: &impl Abort, program: &mut Program, row: &Row) {
     let (fields, before, overflow, after, next, overflow_after) = row;
     // ADN 7 1 on the greatest number, or NULL
     let first = if *overflow { 0o74040001 } else { 0o05140000 };
-    put_words(rt, program, &[(7, 0o37777777), (20, first)]);
+    put_both(rt, program, &((7, 0o37777777), (20, first)));
     put_order(rt, program, 21, fields);
-    put_words(rt, program, before);
+    put_both(rt, program, before);
     program.enter(0);
     steps(rt, program, &Event::Ran, 21);
     steps(rt, program, &told(rt, fields, *next), *next);
-    for (address, bits) in after {
-        shows(rt, program, *address, *bits);
-    }
+    let (one, other) = *after;
+    shows(rt, program, one.0, one.1);
+    shows(rt, program, other.0, other.1);
     assert_eq!(rt; program.overflow(), *overflow_after);
 }
 

@@ -36,7 +36,7 @@ fn left_by(alloc: Global, write: u32, leave: Leave) -> Result<(bool, bool, bool)
     }
     let rig = rig.loaded_again(alloc)?;
     match rig.places() {
-        Some(([file, first, second, _, _], _)) => Ok((file, first, second)),
+        Some((online, _room)) => Ok((online[0], online[1], online[2])),
         None => Err("no filestore".into()),
     }
 }
