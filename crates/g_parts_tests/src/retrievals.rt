@@ -35,10 +35,7 @@ fn left_by(alloc: Global, write: u32, leave: Leave) -> Result<(bool, bool, bool)
         _ => return Err("a retrieval that isn't stopped".into()),
     }
     let rig = rig.loaded_again(alloc)?;
-    match rig.places() {
-        Some((online, _room)) => Ok((online[0], online[1], online[2])),
-        None => Err("no filestore".into()),
-    }
+    Ok((rig.is_there(0), rig.is_there(1), rig.is_there(2)))
 }
 
 /// The commit that takes A and B off writes 1,089 blocks, then two have F's bytes, and the commit that brings it back

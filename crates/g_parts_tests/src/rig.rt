@@ -107,6 +107,14 @@ impl Rig {
         read(alloc, &mut self.online, number)
     }
 
+    /// Whether a file is on the disc. Not where a write has failed.
+    pub(crate) fn is_there(&self, number: u16) -> bool {
+        if self.stopped {
+            return false;
+        }
+        self.online.is_online(number)
+    }
+
     /// Which of the first five files are on the disc, and how many blocks are free. None where a write has failed.
     pub(crate) fn places(&self) -> Option<([bool; 5], u32)> {
         if self.stopped {
