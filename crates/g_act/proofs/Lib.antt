@@ -4,6 +4,7 @@ pub mod CommandLemmas
 pub mod HonestLemmas
 pub mod KeptLemmas
 pub mod OrderLemmas
+pub mod PlainLemmas
 pub mod ReadyLemmas
 pub mod ReleaseLemmas
 pub mod RunBounds

@@ -1,5 +1,5 @@
 //! Runs of the job's program: up to 64 orders in a turn, with their transfers and their lines.
-ghost use Rattle.std.specs.Prelude.{◌≡◌, ◌≤◌, ◌<◌, IfOk, OnOk};
+ghost use Rattle.std.specs.Prelude.{◌≡◌, ℕ, ◌≤◌, ◌<◌, IfOk, OnOk};
 ghost use Rattle.g_act.specs.Runs as runs;
 ghost use Rattle.g_act.specs.Values.{order_as, Stepped};
 
@@ -63,6 +63,10 @@ impl Work {
         ensures blocks { OnOk result (self.new.blocks ≡ self.old.blocks) }
     {
         while self.orders < MOST {
+            self.run_plain();
+            if self.orders >= MOST {
+                return Ok(());
+            }
             let goes = self.one_order(alloc, room)?;
             if !goes || self.is_over() {
                 return Ok(());
@@ -71,7 +75,24 @@ impl Work {
         Ok(())
     }
 
+    /// Runs orders that tell no more than that they were done, as far as the turn's last. Where the work is over it runs
+    /// none, since the next order is the last then.
+    fn run_plain(&mut self)
+        requires few { self.old.orders < 64 }
+        ensures same { (room : ℕ) → runs.goes_on room self.new ≡ runs.goes_on room self.old }
+        ensures more { self.old.orders ≤ self.new.orders }
+        ensures blocks { self.new.blocks ≡ self.old.blocks }
+    {
+        if self.is_over() {
+            return;
+        }
+        if let Some(program) = &mut self.program {
+            self.orders += program.run(MOST - self.orders);
+        }
+    }
+
     /// Does the next order and says its line; answers whether the run goes on. Without a program it doesn't.
+    #[inline(never)]
     fn one_order(&mut self, alloc: Global, room: usize) -> Result<bool, NoMemory>
         requires few { self.old.orders < 64 }
         ensures ok { IfOk result (λ goes.

@@ -1,6 +1,6 @@
 -- Orders one behind the other: one more behind them, and what an order that tells more isn't.
-use Rattle.std.proofs.Common.{◌≡◌, ℕ, zero, suc, ◌<◌, ◌≤◌, Bool, true, false, Option, Some, None, refl, sym, ap, subst, ◌∙◌, arith}
-use Rattle.std.specs.Prelude.{◌≢◌, List, nat_lt, option_and_then, unwrap_or, slice_get, if◌then◌else◌}
+use Rattle.std.proofs.Common.{◌≡◌, ℕ, zero, suc, ◌+◌, ◌/◌, ◌%◌, ◌^◌, ◌<◌, ◌≤◌, Bool, true, false, Option, Some, None, refl, sym, ap, subst, ◌∙◌, arith}
+use Rattle.std.specs.Prelude.{◌≢◌, List, nat_lt, option_and_then, unwrap_or, slice_get, ◌==◌, if◌then◌else◌, ⊤}
 use Rattle.std.specs.Option.{option_map}
 use Rattle.std.proofs.lemmas.Bool.{ltb-true, lt-ltb, true≢false, false_from_ne_true}
 use Rattle.std.proofs.lemmas.Option.{slice_get_within, slice_get-get_or, get_or_from_slice_get, none-some}
@@ -10,9 +10,9 @@ use Rattle.g_order.specs.declared.functions.Function.{Function}
 use Rattle.g_order.specs.declared.functions.Function.TheVariants.{Load, Store, LoadNumber, LoadCharacter, StoreZero, DepositCharacter, Multiply, Branch, Call, Exit, ShiftLeft, ShiftRight, Null, Move, Transfer, Halt, Display, Delete}
 use Rattle.g_mill.specs.declared.event.Event.{Event}
 use Rattle.g_mill.specs.declared.event.Event.TheVariants.{Ran, Peri, Halted, Displayed, Deleted, Illegal}
-use Rattle.g_mill.specs.Machine.{Machine, size, address, text_at}
-use Rattle.g_mill.specs.Effect.{Outcome, effect, performed, obeyed, order}
-use Rattle.g_mill.specs.Does.{TellsMore, is_plain}
+use Rattle.g_mill.specs.Machine.{Machine, size, address, operand, text_at, going_to}
+use Rattle.g_mill.specs.Effect.{Outcome, effect, shifted, performed, obeyed, order}
+use Rattle.g_mill.specs.Does.{TellsMore}
 use Rattle.g_mill.specs.Running.{RunsTo}
 
 -- one more order behind the others
@@ -37,6 +37,14 @@ text_more : (tell : List ℕ → Machine × Event) (text : Option (List ℕ)) �
 text_more tell None isnt = tt
 text_more tell (Some text) isnt = other (tell text).1 (isnt text)
 
+-- whether orders of this function tell no more than that they were done
+abbrev pub is_plain : Function → Bool
+is_plain Transfer = false
+is_plain Halt = false
+is_plain Display = false
+is_plain Delete = false
+is_plain function = true
+
 -- an order whose function isn't plain tells more than that it was done
 pub not_plain : (function : Function) (s : Machine) (o : Fields) → is_plain function ≡ false → TellsMore (effect function s o)
 not_plain (Load operation) s o isnt = absurd (true≢false isnt)
@@ -57,6 +65,60 @@ not_plain Transfer s o isnt = other (Peri (address s o)) refl
 not_plain Halt s o isnt = text_more _ (text_at s (address s o)) (λ t. refl)
 not_plain Display s o isnt = text_more _ (text_at s (address s o)) (λ t. refl)
 not_plain Delete s o isnt = text_more _ (text_at s (address s o)) (λ t. refl)
+
+-- what an order was that isn't illegal, where it tells no more than that it was done
+abbrev JustRan : Outcome → Type 0
+JustRan None = ⊤
+JustRan (Some both) = both.1 ≡ Ran
+
+record Runs (outcome : Outcome) : Type 0 where
+  just : JustRan outcome
+
+through : {X : Type 0} (g : X → Outcome) (v : Option X) → ((x : X) → Runs (g x)) → Runs (option_and_then g v)
+through g None h = record { just = tt }
+through g (Some x) h = h x
+
+either : (b : Bool) (x y : Outcome) → Runs x → Runs y → Runs (if b then x else y)
+either true x y hx hy = hx
+either false x y hx hy = hy
+
+ran : (p : Machine) → Runs (Some (p, Ran))
+ran p = record { just = refl }
+
+nothing : Runs None
+nothing = record { just = tt }
+
+runs_shifted : (left : Bool) (s : Machine) (o : Fields) → Runs (shifted left s o)
+runs_shifted left s o = (let kind = address s o % 2 ^ 12 / 2 ^ 10 in
+    either (kind == 0) _ _ (ran _) (either (kind == 1) _ _ (ran _) nothing))
+
+plain_runs : (function : Function) (s : Machine) (o : Fields) → is_plain function ≡ true → Runs (effect function s o)
+plain_runs (Load operation) s o is = through _ (operand s o) (λ n. ran _)
+plain_runs (Store operation) s o is = through _ (operand s o) (λ n. ran _)
+plain_runs (LoadNumber operation) s o is = ran _
+plain_runs LoadCharacter s o is = through _ (operand s o) (λ n. ran _)
+plain_runs StoreZero s o is = through _ (operand s o) (λ n. ran _)
+plain_runs DepositCharacter s o is = through _ (operand s o) (λ n. ran _)
+plain_runs Multiply s o is = through _ (operand s o) (λ n. ran _)
+plain_runs (Branch condition) s o is = ran _
+plain_runs Call s o is = ran _
+plain_runs Exit s o is = ran _
+plain_runs ShiftLeft s o is = runs_shifted true s o
+plain_runs ShiftRight s o is = runs_shifted false s o
+plain_runs Null s o is = ran _
+plain_runs Move s o is = either _ _ _ (ran _) nothing
+plain_runs Transfer s o is = absurd (true≢false (sym is))
+plain_runs Halt s o is = absurd (true≢false (sym is))
+plain_runs Display s o is = absurd (true≢false (sym is))
+plain_runs Delete s o is = absurd (true≢false (sym is))
+
+neither : (outcome : Outcome) → Runs outcome → TellsMore outcome → outcome ≡ None
+neither None runs tells = refl
+neither (Some both) runs tells = absurd (tells runs.just)
+
+-- an order of a plain function that isn't one that was done is illegal
+pub illegal_else : (function : Function) (s : Machine) (o : Fields) → is_plain function ≡ true → TellsMore (effect function s o) → effect function s o ≡ None
+illegal_else function s o is tells = neither (effect function s o) (plain_runs function s o is) tells
 
 chosen : (b : Bool) (x y : Machine × Event) → (b ≡ true → x.1 ≢ Ran) → y.1 ≢ Ran → (if b then x else y).1 ≢ Ran
 chosen true x y hx hy = hx refl
@@ -89,6 +151,11 @@ pub none_ran : (count : ℕ) (old new : Machine) → RunsTo count old new → co
 none_ran zero old new runs most isnt = runs
 none_ran (suc zero) old new runs most isnt = absurd (isnt refl)
 none_ran (suc (suc count)) old new runs most isnt = let never : ⊥ = omega (arith, most) in absurd never
+
+pub no_more : (count : ℕ) → count ≤ 1 → count ≢ 1 → count < 1
+no_more zero most isnt = omega arith
+no_more (suc zero) most isnt = absurd (isnt refl)
+no_more (suc (suc count)) most isnt = let never : ⊥ = omega (arith, most) in absurd never
 
 -- the order of the word that the program has at its next address
 there : (s : Machine) (word : ℕ) → slice_get s.words s.next ≡ Some word → order s ≡ obeyed s word
@@ -129,3 +196,22 @@ no_order s word x f m n fields small row =
     let invalid : is_order x f m n ≡ false = rw (lt-ltb x 8 small, row) refl in
     let is : decoded word ≡ None = ap (λ (p : Fields). if is_order p.x p.f p.m p.n then Some p else None) fields ∙ ap (λ (b : Bool). if b then Some o else None) invalid in
     ap (option_and_then (performed s)) is
+
+-- what the order of a word leaves, by its function
+pub performed_by : (s : Machine) (word : ℕ) (o : Fields) (function : Function) → decoded word ≡ Some o → function_of o.f o.x ≡ Some function → option_and_then (performed s) (decoded word) ≡ effect function s o
+performed_by s word o function is row = ap (option_and_then (performed s)) is ∙ ap (option_and_then (λ (found : Function). effect found s o)) row
+
+more_by : (s : Machine) (word : ℕ) (outcome : Outcome) → (unwrap_or outcome (s, Illegal word s.next)).1 ≢ Ran → TellsMore outcome
+more_by s word None isnt = tt
+more_by s word (Some both) isnt = isnt
+
+-- the order of the word at the next address, which isn't one that just ran
+pub tells_there : (s : Machine) (word : ℕ) → slice_get s.words s.next ≡ Some word → (order s).1 ≢ Ran → TellsMore (option_and_then (performed s) (decoded word))
+tells_there s word is isnt =
+    more_by s word (option_and_then (performed s) (decoded word)) (subst (λ (both : Machine × Event). both.1 ≢ Ran) (there s word is) isnt)
+
+-- one more order, that stood at an address and is told where it goes on
+pub runs_more_at : (count at : ℕ) (old mid new : Machine) (next : ℕ) → RunsTo count old (going_to mid at) → order (going_to mid at) ≡ (going_to new next, Ran) → RunsTo (count + 1) old (going_to new next)
+runs_more_at count at old mid new next runs one =
+    let more : suc count ≡ count + 1 = omega arith in
+    subst (λ (n : ℕ). RunsTo n old (going_to new next)) more (runs_more count old (going_to mid at) (going_to new next) runs one)

@@ -1,7 +1,7 @@
 -- Orders of a program that tell no more than that they were done.
-use Rattle.std.specs.Prelude.{◌≡◌, ◌≢◌, ℕ, zero, suc, Bool, true, false}
+use Rattle.std.specs.Prelude.{◌≡◌, ◌≢◌, ◌<◌, ◌^◌, ℕ, zero, suc, Option, Some, None}
 use Rattle.g_mill.specs.declared.event.Event.TheVariants.{Ran}
-use Rattle.g_mill.specs.Machine.{Machine}
+use Rattle.g_mill.specs.Machine.{Machine, going_to}
 use Rattle.g_mill.specs.Effect.{order}
 
 -- so many orders one behind the other lead from a program to another, and each tells no more than that it was done
@@ -9,7 +9,8 @@ abbrev pub RunsTo : ℕ → Machine → Machine → Type 0
 RunsTo zero old new = new ≡ old
 RunsTo (suc count) old new = ((order old).1 ≡ Ran) × RunsTo count (order old).0 new
 
--- how a call answers that does the next order where that tells no more than that it was done, and else nothing
-abbrev pub RunsOne : Bool → Machine → Machine → Type 0
-RunsOne false old new = (new ≡ old) × ((order old).1 ≢ Ran)
-RunsOne true old new = order old ≡ (new, Ran)
+-- how a call answers that does the order at an address where that tells no more than that it was done, and else
+-- nothing: where the program goes on, which isn't told to the program yet
+abbrev pub RunsOne : Option ℕ → ℕ → Machine → Machine → Type 0
+RunsOne None at old new = (new ≡ old) × ((order (going_to old at)).1 ≢ Ran)
+RunsOne (Some next) at old new = (order (going_to old at) ≡ (going_to new next, Ran)) × (next < 2 ^ 15)

@@ -166,13 +166,11 @@ impl Program {
         self.next = following(self.next);
     }
 
-    /// Goes on at an address with this overflow.
+    /// Sets or clears overflow.
     #[inline(always)]
-    pub(crate) fn branch_to(&mut self, address: u16, overflow: bool)
-        requires { address < 2 ^ 15 }
-        ensures { self.new ≡ record self.old { next = address; overflow = overflow } }
+    pub(crate) fn set_overflow(&mut self, overflow: bool)
+        ensures { self.new ≡ record self.old { overflow = overflow } }
     {
-        self.next = address;
         self.overflow = overflow;
     }
 

@@ -4,7 +4,7 @@ use Rattle.g_mill.specs.declared.event.Event.{Event}
 use Rattle.g_mill.specs.declared.event.Event.TheVariants.{Illegal}
 use Rattle.g_mill.specs.Machine.{Machine}
 use Rattle.g_mill.specs.Effect.{order}
-use Rattle.g_mill.proofs.RunningLaws.{none_ran, past_order, told_there, illegal_there}
+use Rattle.g_mill.proofs.RunningLaws.{none_ran, no_more, past_order, tells_there, told_there, illegal_there}
 use Rattle.g_mill.proofs.program.Program.step.Goals as goal
 
 pub returns-in_default-clause-machine : goal.returns-in_default-clause-machine
@@ -48,3 +48,9 @@ returns-in-None-clause-event c =
     let stays : s ≡ c.args.self.now = none_ran c.run.result c.args.self.now s c.run.ensures.ran c.run.ensures.most c.if-run-eq1.false in
     let is : slice_get s.words s.next ≡ Some c.in-Some.word = ap (slice_get s.words) (sym c.next-at.ensures.value) ∙ sym c.word.ensures ∙ c.in-Some.is in
     ap (Illegal c.in-Some.word) c.next-at.ensures.value ∙ sym (ap (λ (both : Machine × Event). both.1) (illegal_there s s c.in-Some.word is refl c.in-None.ensures.0)) ∙ ap (λ (m : Machine). (order m).1) stays
+
+pub obey-requires : goal.obey-requires
+obey-requires c =
+    let s = c.run.new.self in
+    let is : slice_get s.words s.next ≡ Some c.in-Some.word = ap (slice_get s.words) (sym c.next-at.ensures.value) ∙ sym c.word.ensures ∙ c.in-Some.is in
+    tells_there s c.in-Some.word is (c.run.ensures.stops (no_more c.run.result c.run.ensures.most c.if-run-eq1.false))
