@@ -1,11 +1,12 @@
 //! The block of a file, written and read.
-ghost use Rattle.std.specs.Prelude.{◌≡◌, ◌≤◌, ◌↔◌, ◌++◌, ℕ, List, Option, true, IsTrue, IfSome, IfNone, Some, length, nat_lt};
+ghost use Rattle.std.specs.Prelude.{◌≡◌, ◌≤◌, ◌==◌, ◌↔◌, [], ◌++◌, ℕ, List, Option, true, IsTrue, IfSome, IfNone, Some, length, nat_lt, if◌then◌else◌};
 ghost use Rattle.std.specs.List.{list_all};
 ghost use Rattle.std.specs.Option.{option_copied};
 ghost use Rattle.g_trap.specs.TrapList.{IsOthers};
 ghost use Rattle.g_entry.specs.FileFields.{IsFile, IsCopy, AreSets, ArePlaces, lacks, file_block, on_tape, online_fields};
 ghost use Rattle.g_entry.specs.Formats.{is_place};
 
+use crate::compare::{both, come, rec_comes, zeros_come};
 use crate::put::{put_copy, put_lang, put_online, put_traps, put_word};
 use crate::same::is_same;
 use crate::take::{take_copy, take_lang, take_local, take_places, take_traps};
@@ -130,12 +131,55 @@ pub fn decode_file_on_tape(format: Format, b: &Block, number: u16) -> Option<Fil
     ensures found { IfSome result (λ r. (r.number ≡ number) × IsFile r × (b.now ≡ file_block format r (on_tape r))) }
     ensures none { IfNone result ((r : FileRec) → r.number ≡ number → IsFile r → b.now ≡ file_block format r (on_tape r) → ⊥) }
 {
-    let r = rec_of(b, number)?;
-    if keeps_file(&r) && is_same(&encode_on_tape(format, &r), b) {
+    let r = file_of_fields(b, number)?;
+    if stands_on_tape(format, &r, b) {
         Some(r)
     } else {
         None
     }
+}
+
+/// Whether it is the block of this file on tape. Nearly all files trap nobody, and need no block written to compare.
+fn stands_on_tape(format: Format, r: &FileRec, b: &Block) -> bool
+    requires { IsFile r.now }
+    ensures { IsTrue result ↔ (b.now ≡ file_block format r.now (on_tape r.now)) }
+{
+    if r.traps.others().is_empty() {
+        fields_stand(r, b)
+    } else {
+        is_same(&encode_on_tape(format, r), b)
+    }
+}
+
+/// Whether it is the block on tape of this file, which traps nobody.
+fn fields_stand(r: &FileRec, b: &Block) -> bool
+    requires file { IsFile r.now }
+    requires nobody { r.now.traps.others ≡ [] }
+    ensures { (format : Format) → IsTrue result ↔ (b.now ≡ file_block format r.now (on_tape r.now)) }
+{
+    let mut reader = BlockReader::new(b);
+    let fields = rec_comes(&mut reader, r);
+    let flag = [online_flag(r.len)];
+    let online = come(&mut reader, &flag);
+    let zeros = zeros_come(&mut reader, 451);
+    both(fields, both(online, zeros))
+}
+
+fn online_flag(len: u32) -> u8
+    ensures { result ≡ (if len == 0 then 1 else 0) }
+{
+    if len == 0 { 1 } else { 0 }
+}
+
+/// What stands in the fields of a file's block before the block numbers, where it is within the limits: what was
+/// written. Of other bytes nothing is said; the caller compares.
+fn file_of_fields(b: &Block, number: u16) -> Option<FileRec>
+    ensures file { IfSome result (λ r. (r.number ≡ number) × IsFile r) }
+    ensures again { (format : Format) (r : FileRec) (online : Option (List ℕ)) → r.number ≡ number → IsFile r
+        → b.now ≡ file_block format r online → result ≡ Some r }
+{
+    let r = rec_of(b, number)?;
+    if keeps_file(&r) { Some(r) } else { None }
 }
 
 /// The block of a file on tape.

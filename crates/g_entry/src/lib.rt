@@ -1,6 +1,7 @@
 //! The records of a filestore, each in a block of its own: users, files, and the head of a directory.
 #![tactic(auto)]
 
+mod compare;
 mod file_block;
 mod file_rec;
 mod format;
