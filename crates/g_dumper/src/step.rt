@@ -1,5 +1,5 @@
 //! The steps of a dump.
-ghost use Rattle.std.specs.Prelude.{◌≡◌, ℕ, ◌<◌, IfNone, IfSome, List, None, Ok, Some, true};
+ghost use Rattle.std.specs.Prelude.{◌≡◌, ℕ, ◌<◌, List, None, Ok, OnErr, OnOk, Some, true};
 ghost use Rattle.g_contents.specs.Facts.{IsTied, Pin};
 ghost use Rattle.g_incr.specs.Plan.{first_content, needs, waiting};
 ghost use Rattle.g_state.specs.Up.{ArePinned, IsOpen};
@@ -8,7 +8,7 @@ ghost use Rattle.g_dumper.specs.Keeps.{CompletesOpening, KeepsStore, behind_step
 ghost use Rattle.g_dumper.specs.Steps.{Abandoned, IsNextBlock, Stepping, stepped_of};
 
 use crate::dump::{Dump, DumpStep};
-use g_base::Block;
+use g_base::{Block, ReadFailed};
 use g_disc::Disc;
 use g_incr::{Piece, Writer};
 use g_online::Online;
@@ -52,10 +52,11 @@ impl Dump {
         ensures open { stepped_of result ≡ Ok Going → IsOpen self.new online.new (T.rack tapes.new) }
         ensures tied { IsTied online.new }
     {
-        let block = match next_block(&self.writer, self.done, online) {
-            Some(block) => block,
-            None => return Err(StoreFault::DiscReadFault),
-        };
+        let mut block: Block = [0; 512];
+        match next_block(&self.writer, self.done, online, &mut block) {
+            Ok(()) => {}
+            Err(ReadFailed) => return Err(StoreFault::DiscReadFault),
+        }
         let at = self.place + self.done;
         match tapes.write(self.serial, at, &block) {
             Ok(()) => {}
@@ -72,27 +73,31 @@ impl Dump {
     }
 }
 
-/// The next block of the dump. None: a block of a version couldn't be read, and the versions wait no more.
-fn next_block<D: Disc>(writer: &Writer, done: u32, online: &mut Online<D>) -> Option<Block>
+/// Puts the next block of the dump into `into`. `ReadFailed`: a block of a version couldn't be read, and the versions wait
+/// no more; what `into` holds then is not said.
+fn next_block<D: Disc>(
+    writer: &Writer,
+    done: u32,
+    online: &mut Online<D>,
+    into: &mut Block,
+) -> Result<(), ReadFailed>
     requires within { done < needs writer.now }
     requires live { online.old.live ≡ true }
     requires pinned { (pins : List Pin) × (online.old.pins ≡ Some pins)
         × ArePinned writer.now.serial (first_content writer.now) (waiting writer.now.files) pins }
     requires tied { IsTied online.old }
-    ensures block { IfSome result (λ block.
-        IsNextBlock (record { plan = writer.now; done = done }) online.old.pins block) }
-    ensures same { IfSome result (λ _. online.new ≡ online.old) }
-    ensures given_up { IfNone result (Abandoned (record { plan = writer.now; done = done }) online.old online.new) }
+    ensures block { OnOk result (IsNextBlock (record { plan = writer.now; done = done }) online.old.pins into.new) }
+    ensures same { OnOk result (online.new ≡ online.old) }
+    ensures given_up { OnErr result (Abandoned (record { plan = writer.now; done = done }) online.old online.new) }
     ensures tied { IsTied online.new }
 {
-    let mut block: Block = [0; 512];
-    match writer.piece(done, &mut block) {
-        Piece::Ready => Some(block),
-        Piece::Content { version, part } => match online.pinned_block(version, part, &mut block) {
-            Ok(()) => Some(block),
+    match writer.piece(done, into) {
+        Piece::Ready => Ok(()),
+        Piece::Content { version, part } => match online.pinned_block(version, part, into) {
+            Ok(()) => Ok(()),
             Err(_) => {
                 online.unpin();
-                None
+                Err(ReadFailed)
             }
         },
     }

@@ -26,7 +26,7 @@ pub returns-then-self-needs-clause-open : goal.returns-then-self-needs-clause-op
 returns-then-self-needs-clause-open g c = λ _.
     let d : DumpFacts = record { plan = c.self.inside.writer; done = c.self.inside.done } in
     let is = subst (λ (e : DumpFacts). IsOpen e c.args.online.now (g.T.Tapes.rack c.args.tapes.now)) (sym c.self.view_is) c.requires.open in
-    goes_on d _ _ _ _ _ _ _ (g.met.T.Tapes.well_formed _) is c.in-Some.ensures.same c.self.invariant.serial_is c.self.invariant.place_is c.in-Some.ensures.block c.in-Ok.ensures.2
+    goes_on d _ _ _ _ _ _ _ (g.met.T.Tapes.well_formed _) is c.in-Ok.ensures.same c.self.invariant.serial_is c.self.invariant.place_is c.in-Ok.ensures.block c.in-Ok-write.ensures.2
     (subst (λ n. c.self.inside.done + 1 < n) c.needs.ensures c.if-self-needs.true)
 
 pub close_dump-requires-clause-rules : goal.close_dump-requires-clause-rules
@@ -34,5 +34,5 @@ close_dump-requires-clause-rules g c =
     let d : DumpFacts = record { plan = c.self.inside.writer; done = c.self.inside.done } in
     let is = subst (λ (e : DumpFacts). IsOpen e c.args.online.now (g.T.Tapes.rack c.args.tapes.now)) (sym c.self.view_is) c.requires.open in
     subst (λ n. KeepsRules (closed n c.next_block.new.online)) (sym c.self.invariant.number_is)
-    (subst (λ (o : OnlineFacts). KeepsRules (closed d.plan.number o)) (sym c.in-Some.ensures.same)
+    (subst (λ (o : OnlineFacts). KeepsRules (closed d.plan.number o)) (sym c.in-Ok.ensures.same)
     (closing_rules d _ _ (g.met.T.Tapes.well_formed _) c.requires.live c.requires.tied c.self.invariant.rules is))
