@@ -4,6 +4,7 @@ pub mod Parts
 pub mod Rules
 pub mod Commit
 pub mod Pages
+pub mod Known
 pub mod Marks
 pub mod Writing
 pub mod Quiet

@@ -1,6 +1,7 @@
 //! What is known of the blocks of a slot.
-ghost use Rattle.std.specs.Prelude.{◌≡◌, ◌≢◌, ◌+◌, ◌-◌, ◌<◌, ◌≤◌, ◌++◌, ℕ, IfOk, None, Some, length, replicate, slice_get, vec_capacity};
-ghost use Rattle.g_dirs.specs.Pages.{is_page, is_remembered};
+ghost use Rattle.std.specs.Prelude.{◌≡◌, ◌≢◌, ◌+◌, ◌-◌, ◌<◌, ◌≤◌, ◌++◌, ℕ, IfOk, None, Some, length, replicate, slice_get, slice_index_or, vec_capacity};
+ghost use Rattle.std.specs.Str.{bytes_eq};
+ghost use Rattle.g_dirs.specs.Pages.{is_remembered};
 
 use g_base::{Block, NoMemory};
 use g_slots::SLOT_BLOCKS;
@@ -8,20 +9,23 @@ use std::alloc::Global;
 use std::marker::Model;
 
 /// What each of the 1,088 blocks of a slot holds, as far as it is known. Contracts see all of them. The memory for all is
-/// taken at once, and what is behind the last block that is known isn't touched.
+/// taken at once. Nearly all blocks of a slot are zeros: those behind the last one that isn't are remembered without their
+/// bytes, and the memory there isn't touched.
 #[derive(Debug, Drop)]
 pub(crate) struct Known {
-    blocks: Vec<Option<Block>>,
+    known: Vec<bool>,
+    blocks: Vec<Block>,
 }
 
 impl Model for Known {
-    ghost use Rattle.std.specs.Prelude.{ℕ, ◌≤◌, ◌-◌, ◌++◌, List, Option, None, length, replicate, vec_capacity};
+    ghost use Rattle.std.specs.Prelude.{◌≡◌, ℕ, ◌≤◌, List, Option, length, vec_capacity};
+    ghost use Rattle.g_dirs.specs.Known.{seen};
 
     ghost Value = { List (Option (List ℕ)) };
 
-    ghost view = { λ k. k.blocks.items ++ replicate (1088 - length k.blocks.items) None };
+    ghost view = { λ k. seen k.known.items k.blocks.items };
 
-    ghost invariant = { λ k. (length k.blocks.items ≤ 1088) × (1088 ≤ vec_capacity k.blocks) };
+    ghost invariant = { λ k. (length k.known.items ≡ 1088) × (1088 ≤ vec_capacity k.blocks) };
 }
 
 impl Known {
@@ -29,8 +33,9 @@ impl Known {
     pub(crate) fn nothing(alloc: Global) -> Result<Known, NoMemory>
         ensures { IfOk result (λ known. known ≡ replicate 1088 None) }
     {
+        let known = vec![in alloc; false; SLOT_BLOCKS as usize]?;
         let blocks = Vec::with_capacity(alloc, SLOT_BLOCKS as usize)?;
-        Ok(Known { blocks })
+        Ok(Known { known, blocks })
     }
 
     /// Whether block `k` is known to be this one.
@@ -38,9 +43,11 @@ impl Known {
         requires { k < 1088 }
         ensures { result ≡ is_remembered self.now k block.now }
     {
-        match self.blocks.get(k as usize) {
-            Some(known) => is_block(known, block),
-            None => false,
+        let k = k as usize;
+        if self.known[k] {
+            is_at(&self.blocks, k, block)
+        } else {
+            false
         }
     }
 
@@ -51,31 +58,52 @@ impl Known {
         ensures rest { (j : ℕ) → j ≢ k → slice_get self.new j ≡ slice_get self.old j }
     {
         let k = k as usize;
-        reach(&mut self.blocks, k);
-        self.blocks[k] = Some(*block);
+        self.known[k] = true;
+        put(&mut self.blocks, k, block);
     }
 }
 
-/// Whether what is known of a block is this one.
-fn is_block(known: &Option<Block>, block: &Block) -> bool
-    ensures { result ≡ is_page block.now (Some known.now) }
+/// Whether this block is kept at place `k`, where those behind the end are zeros.
+fn is_at(blocks: &[Block], k: usize, block: &Block) -> bool
+    ensures { result ≡ bytes_eq (slice_index_or blocks.now k (replicate 512 0)) block.now }
 {
-    match known {
-        Some(page) => *page == *block,
-        None => false,
+    match blocks.get(k) {
+        Some(kept) => *kept == *block,
+        None => is_zeros(block),
     }
 }
 
-/// Fills up with blocks of which nothing is known, so that there is a block `k`. There is room for it.
-fn reach(blocks: &mut Vec<Option<Block>>, k: usize)
+fn is_zeros(block: &Block) -> bool
+    ensures { result ≡ bytes_eq (replicate 512 0) block.now }
+{
+    [0; 512] == *block
+}
+
+/// Keeps a block at place `k`. There is room for it, and zeros behind the end aren't written.
+fn put(blocks: &mut Vec<Block>, k: usize, block: &Block)
     requires { k < vec_capacity blocks.old }
-    ensures items { blocks.new.items ≡ blocks.old.items ++ replicate (k + 1 - length blocks.old.items) None }
+    ensures here { slice_index_or blocks.new.items k (replicate 512 0) ≡ block.now }
+    ensures rest { (j : ℕ) → j ≢ k
+        → slice_index_or blocks.new.items j (replicate 512 0) ≡ slice_index_or blocks.old.items j (replicate 512 0) }
+    ensures capacity { vec_capacity blocks.old ≤ vec_capacity blocks.new }
+{
+    if blocks.len() <= k && is_zeros(block) {
+        return;
+    }
+    reach(blocks, k);
+    blocks[k] = *block;
+}
+
+/// Fills up with zeros, so that there is a block `k`. There is room for it.
+fn reach(blocks: &mut Vec<Block>, k: usize)
+    requires { k < vec_capacity blocks.old }
+    ensures items { blocks.new.items ≡ blocks.old.items ++ replicate (k + 1 - length blocks.old.items) (replicate 512 0) }
     ensures capacity { vec_capacity blocks.old ≤ vec_capacity blocks.new }
 {
     if k < blocks.len() {
         return;
     }
-    match blocks.resize(k + 1, None) {
+    match blocks.resize(k + 1, [0; 512]) {
         Ok(()) => {}
         Err(_) => unreachable!(),
     }

@@ -51,6 +51,17 @@ impl Blocks {
         }
     }
 
+    /// Copies block k to where it is wanted, once.
+    pub(crate) fn read(&self, k: u32, into: &mut Block)
+        requires { k < length self.now }
+        ensures { slice_get self.now k ≡ Some into.new }
+    {
+        match self.written.get(k as usize) {
+            Some(block) => *into = *block,
+            None => *into = [0; 512],
+        }
+    }
+
     /// Replaces block k. It takes no memory.
     pub(crate) fn set(&mut self, k: u32, block: &Block)
         requires { k < length self.old }

@@ -112,7 +112,7 @@ impl Disc for MemoryDisc {
             self.read_faults = raised(self.read_faults);
             return Err(ReadFailed);
         }
-        *into = self.blocks.get(k);
+        self.blocks.read(k, into);
         Ok(())
     }
 

@@ -11,6 +11,7 @@ use crate::reel_state::ReelState;
 use g_base::{Block, NoMemory, raised};
 use std::alloc::Global;
 use std::marker::Model;
+use std::slice::from_ref;
 
 /// A reel whose content is told. Contracts see it as such.
 #[derive(Drop)]
@@ -155,7 +156,7 @@ fn put_last(store: &mut Vec<Block>, k: usize, block: &Block)
     ensures capacity { vec_capacity store.old ≤ vec_capacity store.new }
 {
     store.truncate(k);
-    match store.push(*block) {
+    match store.extend_from_slice(from_ref(block)) {
         Ok(()) => {}
         Err(_) => unreachable!(),
     }

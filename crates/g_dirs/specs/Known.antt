@@ -1,0 +1,8 @@
+-- What is known of the blocks of a slot, of which those behind the last that is kept are zeros.
+use Rattle.std.specs.Prelude.{ℕ, Bool, List, [], ◌∷◌, Option, Some, None, replicate, if◌then◌else◌}
+
+-- what each block holds, where that is known
+abbrev pub seen : List Bool → List (List ℕ) → List (Option (List ℕ))
+seen [] blocks = []
+seen (is ∷ known) [] = (if is then Some (replicate 512 0) else None) ∷ seen known []
+seen (is ∷ known) (block ∷ blocks) = (if is then Some block else None) ∷ seen known blocks
