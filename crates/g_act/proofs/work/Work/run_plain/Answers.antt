@@ -10,5 +10,5 @@ returns-in-Some-clause-same c = λ room.
     let same : (the_view c.self.inside).orders ≡ c.args.self.now.orders = ap (λ (w : Work). w.orders) c.self.view_is in
     let most = c.run.ensures.most in
     let few : (the_view c.self.inside).orders + c.run.result ≤ 64 = omega (arith, before, same, most) in
-    run_plainly room c.run.result (the_view c.self.inside) c.args.self.now c.in-Some.program c.run.new.program c.self.view_is few c.in-Some.is
+    run_plainly room c.run.result (the_view c.self.inside) c.args.self.now c.in-Some.program c.run.new.self c.self.view_is few c.in-Some.is
     (sym c.is_over.ensures ∙ c.if-is_over.false) c.run.ensures.ran
