@@ -1,6 +1,6 @@
 //! The worked rows of the pool, and the lines of a text.
 use g_blocks::{FIRST_COPY_BLOCK, MAX_DISC_BLOCKS, Pool, PoolFault};
-use g_lines::Texts;
+use g_lines::Document;
 
 #[test]
 fn ample(rt: HostRuntime) {
@@ -27,11 +27,8 @@ fn ample(rt: HostRuntime) {
 /// A text without its last byte 10 has the same lines.
 #[test]
 fn lines(rt: HostRuntime) {
-    let texts = Texts::of_text(rt.alloc(), b"A\n\nB").expect(&rt, "memory");
-    let [first, second, third] = texts.rows() else {
-        panic!(rt; "three lines");
-    };
-    assert!(rt; first.as_slice() == b"A".as_slice());
-    assert!(rt; second.as_slice() == b"".as_slice());
-    assert!(rt; third.as_slice() == b"B".as_slice());
+    let ended = Document::of_text(rt.alloc(), b"A\n\nB\n").expect(&rt, "memory");
+    let other = Document::of_text(rt.alloc(), b"A\n\nB").expect(&rt, "memory");
+    assert!(rt; ended.as_text() == b"A\n\nB\n".as_slice());
+    assert!(rt; other.as_text() == ended.as_text());
 }
