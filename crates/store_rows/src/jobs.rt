@@ -7,7 +7,7 @@ use crate::system::System;
 use anyhow::anyhow;
 use g_budget::{Charge, Tariff, Usage};
 use g_job::{Job, Turn};
-use g_lines::Texts;
+use g_lines::Document;
 use g_name::{Local, User};
 use g_plain::{Filestore, PlainStore};
 use std::alloc::Global;
@@ -41,7 +41,7 @@ fn ended<S: Filestore>(alloc: Global, store: &mut S, document: &[u8]) -> anyhow:
     let Some(name) = Local::new(b"DEEP") else {
         return Err(anyhow!("no name"));
     };
-    let lines = Texts::of_text(alloc, document)?;
+    let lines = Document::of_text(alloc, document)?;
     let mut job = Job::new(alloc, 1, name, User::master(), 20, 1_000, lines)?;
     finish(alloc, store, &mut job)?;
     Ok(job)
