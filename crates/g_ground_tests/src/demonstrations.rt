@@ -1,10 +1,10 @@
 //! The demonstration of number 0 with one round, and the words of the command line.
 use g_base::WriteFailed;
 use g_demo::{
-    Asked, Demonstration, Summary, TextSink, asked_by, script_of, summary_text,
+    Asked, Demonstration, Summary, SummarySink, asked_by, script_of, summary_text,
     words_have_one_reading,
 };
-use g_io::Sink;
+use g_io::{MemorySink, Sink};
 use g_name::Text;
 use std::test::Fail;
 
@@ -21,7 +21,7 @@ fn ample(rt: HostRuntime) -> Result<(), Fail> {
         rounds: 1,
     };
     let script = script_of(rt.alloc(), &demo)?;
-    let mut sink = TextSink::new(rt.alloc());
+    let mut sink = MemorySink::new(rt.alloc(), 2_048, Vec::new(rt.alloc()))?;
     assert_eq!(rt;
         put_into(
             &mut sink,
@@ -46,6 +46,9 @@ fn ample(rt: HostRuntime) -> Result<(), Fail> {
         Ok(())
     );
     assert!(rt; script.as_slice() == sink.text());
+    let mut sink = SummarySink::new();
+    assert_eq!(rt; put_into(&mut sink, script.as_slice()), Ok(()));
+    assert_eq!(rt; sink.summary(), Summary::of_text(script.as_slice()));
 
     let mut summary = Summary::new();
     summary.add(b"A\n");
