@@ -4,3 +4,4 @@ pub mod OneEncoding
 pub mod NameLemmas
 pub mod RuleLemmas
 pub mod SameLemmas
+pub mod ComingLemmas

@@ -126,7 +126,7 @@ pub file_peeled : (format : Format) (r : FileRec) (online : Option (List ℕ)) �
 unfolding file_fields padded
 file_peeled format r online = simp append_assoc
 
-pub record FileRead (r : FileRec) (places : Option (List ℕ)) (owner : ℕ) (local : Option (List ℕ)) (generation : ℕ) (lang : Option (List ℕ)) (stamp len : ℕ) (traps : Option TrapList) (tape : Option TapeCopy) (online : Option (List ℕ)) : Type 0 where
+pub record FileRead (r : FileRec) (owner : ℕ) (local : Option (List ℕ)) (generation : ℕ) (lang : Option (List ℕ)) (stamp len : ℕ) (traps : Option TrapList) (tape : Option TapeCopy) : Type 0 where
   pub owned : owner ≡ r.owner
   pub name : local ≡ Some r.local
   pub version : generation ≡ r.generation
@@ -135,21 +135,19 @@ pub record FileRead (r : FileRec) (places : Option (List ℕ)) (owner : ℕ) (lo
   pub size : len ≡ r.len
   pub trapped : traps ≡ Some r.traps
   pub copy : tape ≡ r.tape
-  pub blocks : online ≡ places
 
-pub file_read : (format : Format) (r : FileRec) (places : Option (List ℕ)) (b m0 m1 m2 m3 m4 m5 m6 m7 m8 m9 : List ℕ) (used owner generation stamp len : ℕ)
-    (local lang : Option (List ℕ)) (traps : Option TrapList) (tape : Option TapeCopy) (online : Option (List ℕ))
-    → IsFile r → IfSome places (ArePlaces format r.len) → b ≡ file_block format r places → m0 ≡ b → m0 ≡ used ∷ m1 → m1 ≡ owner ∷ m2 → TakesWord m2 local m3
+-- the fields before the block numbers
+pub rec_read : (format : Format) (r : FileRec) (places : Option (List ℕ)) (m0 m1 m2 m3 m4 m5 m6 m7 m8 m9 : List ℕ) (used owner generation stamp len : ℕ)
+    (local lang : Option (List ℕ)) (traps : Option TrapList) (tape : Option TapeCopy)
+    → IsFile r → m0 ≡ file_block format r places → m0 ≡ used ∷ m1 → m1 ≡ owner ∷ m2 → TakesWord m2 local m3
     → Takes (2 ^ 16) 2 m3 generation m4
     → ((l rest : List ℕ) → is_lang l ≡ true → m4 ≡ lang_field l ++ rest → (lang ≡ Some l) × (m5 ≡ rest))
     → Takes (2 ^ 64) 8 m5 stamp m6 → Takes (2 ^ 32) 4 m6 len m7
     → ((t : TrapList) (rest : List ℕ) → IsOthers t.others → AreSets t → m7 ≡ t.owner ∷ length t.others ∷ (pair_fields t.others ++ rest) → (traps ≡ Some t) × (m8 ≡ rest))
     → ((c : Option TapeCopy) (rest : List ℕ) → IfSome c IsCopy → m8 ≡ copy_fields c ++ rest → (tape ≡ c) × (m9 ≡ rest))
-    → ((o : Option (List ℕ)) (rest : List ℕ) → len ≤ 65536 → IfSome o (ArePlaces format len) → m9 ≡ online_fields format o ++ rest → online ≡ o)
-    → FileRead r places owner local generation lang stamp len traps tape online
-file_read format r places b m0 m1 m2 m3 m4 m5 m6 m7 m8 m9 used owner generation stamp len local lang traps tape online is are here from t0 t1 t2 t3 t4 t5 t6 t7 t8 t9 =
-    let zeros = file_zeros format r places in
-    let r9 : List ℕ = online_fields format places ++ zeros in
+    → (FileRead r owner local generation lang stamp len traps tape) × (m9 ≡ online_fields format places ++ file_zeros format r places)
+rec_read format r places m0 m1 m2 m3 m4 m5 m6 m7 m8 m9 used owner generation stamp len local lang traps tape is here t0 t1 t2 t3 t4 t5 t6 t7 t8 =
+    let r9 : List ℕ = online_fields format places ++ file_zeros format r places in
     let r8 : List ℕ = copy_fields r.tape ++ r9 in
     let r7 : List ℕ = r.traps.owner ∷ length r.traps.others ∷ (pair_fields r.traps.others ++ r8) in
     let r6 : List ℕ = number 4 r.len ++ r7 in
@@ -160,7 +158,7 @@ file_read format r places b m0 m1 m2 m3 m4 m5 m6 m7 m8 m9 used owner generation 
     let in_generation = is.most_generation in
     let in_stamp = is.stamp in
     let in_len = is.len in
-    let s0 = same_byte used 1 m1 (r.owner ∷ r2) (sym t0 ∙ from ∙ here ∙ file_peeled format r places) in
+    let s0 = same_byte used 1 m1 (r.owner ∷ r2) (sym t0 ∙ here ∙ file_peeled format r places) in
     let s1 = same_byte owner r.owner m2 r2 (sym t1 ∙ s0.1) in
     let s2 = t2 r.local r3 is.local s1.1 in
     let s3 = t3 r.generation r4 (omega arith) s2.1 in
@@ -169,29 +167,23 @@ file_read format r places b m0 m1 m2 m3 m4 m5 m6 m7 m8 m9 used owner generation 
     let s6 = t6 r.len r7 (omega arith) s5.1 in
     let s7 = t7 r.traps r8 is.others is.sets s6.1 in
     let s8 = t8 r.tape r9 is.tape s7.1 in
-    let same_len : r.len ≡ len = sym s6.0 in
-    let short : len ≤ 65536 = omega arith in
-    let s9 = t9 places zeros short (subst (λ (n : ℕ). IfSome places (ArePlaces format n)) same_len are) s8.1 in
-    record { owned = s1.0; name = s2.0; version = s3.0; language = s4.0; made = s5.0; size = s6.0; trapped = s7.0; copy = s8.0; blocks = s9 }
+    (record { owned = s1.0; name = s2.0; version = s3.0; language = s4.0; made = s5.0; size = s6.0; trapped = s7.0; copy = s8.0 }, s8.1)
 
-pub same_file : (r : FileRec) (number owner : ℕ) (local : List ℕ) (generation : ℕ) (lang : List ℕ) (stamp len : ℕ) (traps : TrapList) (tape : Option TapeCopy) (online places : Option (List ℕ))
-    → r.number ≡ number → FileRead r places owner (Some local) generation (Some lang) stamp len (Some traps) tape online
-    → (let made : FileRec = record { number = number; owner = owner; local = local; generation = generation; lang = lang; stamp = stamp; len = len; traps = traps; tape = tape } in let one : FileRec × Option (List ℕ) = (made, online) in let other : FileRec × Option (List ℕ) = (r, places) in one ≡ other)
-same_file r numbered_as owner local generation lang stamp len traps tape online places numbered read =
+pub same_file : (r : FileRec) (number owner : ℕ) (local : List ℕ) (generation : ℕ) (lang : List ℕ) (stamp len : ℕ) (traps : TrapList) (tape : Option TapeCopy)
+    → r.number ≡ number → FileRead r owner (Some local) generation (Some lang) stamp len (Some traps) tape
+    → (let made : FileRec = record { number = number; owner = owner; local = local; generation = generation; lang = lang; stamp = stamp; len = len; traps = traps; tape = tape } in made ≡ r)
+same_file r numbered_as owner local generation lang stamp len traps tape numbered read =
     let made : FileRec = record { number = numbered_as; owner = owner; local = local; generation = generation; lang = lang; stamp = stamp; len = len; traps = traps; tape = tape } in
     let same : FileRec = record { number = r.number; owner = r.owner; local = r.local; generation = r.generation; lang = r.lang; stamp = r.stamp; len = r.len; traps = r.traps; tape = r.tape } in
     let owned = read.owned in let name = read.name in let version = read.version in let language = read.language in let stamped = read.made in
     let size = read.size in let trapped = read.trapped in let copy = read.copy in
-    let equal : made ≡ same = cc in
-    let first : FileRec → FileRec × Option (List ℕ) = λ f. (f, online) in
-    let second : Option (List ℕ) → FileRec × Option (List ℕ) = λ o. (r, o) in
-    ap first equal ∙ ap second read.blocks
+    let equal : made ≡ same = cc in equal
 
 -- with the names and traps that were there
-pub found_file : (r : FileRec) (places : Option (List ℕ)) (owner : ℕ) (local : Option (List ℕ)) (generation : ℕ) (lang : Option (List ℕ)) (stamp len : ℕ) (traps : Option TrapList) (tape : Option TapeCopy) (online : Option (List ℕ))
+pub found_file : (r : FileRec) (owner : ℕ) (local : Option (List ℕ)) (generation : ℕ) (lang : Option (List ℕ)) (stamp len : ℕ) (traps : Option TrapList) (tape : Option TapeCopy)
     (local_is lang_is : List ℕ) (traps_are : TrapList) → local ≡ Some local_is → lang ≡ Some lang_is → traps ≡ Some traps_are
-    → FileRead r places owner local generation lang stamp len traps tape online → FileRead r places owner (Some local_is) generation (Some lang_is) stamp len (Some traps_are) tape online
-found_file r places owner local generation lang stamp len traps tape online local_is lang_is traps_are has_local has_lang has_traps read = record {
+    → FileRead r owner local generation lang stamp len traps tape → FileRead r owner (Some local_is) generation (Some lang_is) stamp len (Some traps_are) tape
+found_file r owner local generation lang stamp len traps tape local_is lang_is traps_are has_local has_lang has_traps read = record {
   owned = read.owned;
   name = sym has_local ∙ read.name;
   version = read.version;
@@ -200,9 +192,20 @@ found_file r places owner local generation lang stamp len traps tape online loca
   size = read.size;
   trapped = sym has_traps ∙ read.trapped;
   copy = read.copy;
-  blocks = read.blocks;
 }
 
 -- what wasn't there, and yet was taken
 pub not_there : {A : Type 0} (taken : Option A) (x : A) → taken ≡ None → taken ≡ Some x → ⊥
 not_there taken x none some = cc
+
+-- the record, and the block numbers behind it
+pub file_whole : (format : Format) (r s : FileRec) (online places : Option (List ℕ)) (found : Option FileRec) (left zeros : List ℕ) → found ≡ Some s → found ≡ Some r
+    → IsFile r → IfSome places (ArePlaces format r.len) → left ≡ online_fields format places ++ zeros
+    → ((o : Option (List ℕ)) (behind : List ℕ) → s.len ≤ 65536 → IfSome o (ArePlaces format s.len) → left ≡ online_fields format o ++ behind → online ≡ o)
+    → (let one : Option (FileRec × Option (List ℕ)) = Some (s, online) in let other : Option (FileRec × Option (List ℕ)) = Some (r, places) in one ≡ other)
+file_whole format r s online places found left zeros has here is are behind taken =
+    let same : s ≡ r = cc in
+    let len : r.len ≡ s.len = sym (ap (λ (f : FileRec). f.len) same) in
+    let short : s.len ≤ 65536 = subst (λ (n : ℕ). n ≤ 65536) len is.len in
+    let there = taken places zeros short (subst (λ (n : ℕ). IfSome places (ArePlaces format n)) len are) behind in
+    ap (λ (f : FileRec). Some (f, online)) same ∙ ap (λ (o : Option (List ℕ)). Some (r, o)) there

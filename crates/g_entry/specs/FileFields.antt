@@ -1,5 +1,5 @@
 -- The block of a file.
-use Rattle.std.specs.Prelude.{◌≡◌, ℕ, ◌-◌, ◌^◌, ◌<◌, ◌≤◌, ◌==◌, Bool, true, not, nat_lt, List, [], ◌∷◌, ◌++◌, length, Option, Some, None, IfSome, replicate}
+use Rattle.std.specs.Prelude.{◌≡◌, ℕ, ◌-◌, ◌^◌, ◌<◌, ◌≤◌, ◌==◌, Bool, true, not, nat_lt, List, [], ◌∷◌, ◌++◌, length, Option, Some, None, IfSome, replicate, if◌then◌else◌}
 use Rattle.std.specs.List.{flat_map, list_all}
 use Rattle.g_base.specs.Block.{blocks_for}
 use Rattle.g_base.specs.Fields.{number, padded}
@@ -66,3 +66,7 @@ file_fields format r online =
 
 abbrev pub file_block : Format → FileRec → Option (List ℕ) → List ℕ
 file_block format r online = padded 512 (file_fields format r online)
+
+-- on tape a file has no block numbers, and an empty file is online
+abbrev pub on_tape : FileRec → Option (List ℕ)
+on_tape r = if r.len == 0 then Some [] else None

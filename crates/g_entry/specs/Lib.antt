@@ -5,3 +5,4 @@ pub mod Rules
 pub mod UserFields
 pub mod FileNames
 pub mod OneByOne
+pub mod Coming

@@ -1,11 +1,12 @@
 //! The block of a file, written and read.
-ghost use Rattle.std.specs.Prelude.{◌≡◌, ◌↔◌, ℕ, List, Option, true, IsTrue, IfSome, IfNone, Some, nat_lt};
+ghost use Rattle.std.specs.Prelude.{◌≡◌, ◌≤◌, ◌==◌, ◌↔◌, [], ◌++◌, ℕ, List, Option, true, IsTrue, IfSome, IfNone, Some, length, nat_lt, if◌then◌else◌};
 ghost use Rattle.std.specs.List.{list_all};
 ghost use Rattle.std.specs.Option.{option_copied};
 ghost use Rattle.g_trap.specs.TrapList.{IsOthers};
-ghost use Rattle.g_entry.specs.FileFields.{IsFile, IsCopy, AreSets, ArePlaces, lacks, file_block};
+ghost use Rattle.g_entry.specs.FileFields.{IsFile, IsCopy, AreSets, ArePlaces, lacks, file_block, on_tape, online_fields};
 ghost use Rattle.g_entry.specs.Formats.{is_place};
 
+use crate::compare::{both, come, rec_comes, zeros_come};
 use crate::put::{put_copy, put_lang, put_online, put_traps, put_word};
 use crate::same::is_same;
 use crate::take::{take_copy, take_lang, take_local, take_places, take_traps};
@@ -119,17 +120,109 @@ fn fields_of(format: Format, b: &Block, number: u16) -> Option<(FileRec, Option<
         → IfSome online (ArePlaces format r.len) → b.now ≡ file_block format r online → result ≡ Some (r, online) }
 {
     let mut reader = BlockReader::new(b);
+    let r = take_rec(&mut reader, number)?;
+    let online = take_places(&mut reader, format, r.len);
+    Some((r, online))
+}
+
+/// The file of this number whose block on tape it is. There it has no block numbers, and an empty file is online. None
+/// exactly where no file has that block.
+pub fn decode_file_on_tape(format: Format, b: &Block, number: u16) -> Option<FileRec>
+    ensures found { IfSome result (λ r. (r.number ≡ number) × IsFile r × (b.now ≡ file_block format r (on_tape r))) }
+    ensures none { IfNone result ((r : FileRec) → r.number ≡ number → IsFile r → b.now ≡ file_block format r (on_tape r) → ⊥) }
+{
+    let r = file_of_fields(b, number)?;
+    if stands_on_tape(format, &r, b) {
+        Some(r)
+    } else {
+        None
+    }
+}
+
+/// Whether it is the block of this file on tape. Nearly all files trap nobody, and need no block written to compare.
+fn stands_on_tape(format: Format, r: &FileRec, b: &Block) -> bool
+    requires { IsFile r.now }
+    ensures { IsTrue result ↔ (b.now ≡ file_block format r.now (on_tape r.now)) }
+{
+    if r.traps.others().is_empty() {
+        fields_stand(r, b)
+    } else {
+        is_same(&encode_on_tape(format, r), b)
+    }
+}
+
+/// Whether it is the block on tape of this file, which traps nobody.
+fn fields_stand(r: &FileRec, b: &Block) -> bool
+    requires file { IsFile r.now }
+    requires nobody { r.now.traps.others ≡ [] }
+    ensures { (format : Format) → IsTrue result ↔ (b.now ≡ file_block format r.now (on_tape r.now)) }
+{
+    let mut reader = BlockReader::new(b);
+    let fields = rec_comes(&mut reader, r);
+    let flag = [online_flag(r.len)];
+    let online = come(&mut reader, &flag);
+    let zeros = zeros_come(&mut reader, 451);
+    both(fields, both(online, zeros))
+}
+
+fn online_flag(len: u32) -> u8
+    ensures { result ≡ (if len == 0 then 1 else 0) }
+{
+    if len == 0 { 1 } else { 0 }
+}
+
+/// What stands in the fields of a file's block before the block numbers, where it is within the limits: what was
+/// written. Of other bytes nothing is said; the caller compares.
+fn file_of_fields(b: &Block, number: u16) -> Option<FileRec>
+    ensures file { IfSome result (λ r. (r.number ≡ number) × IsFile r) }
+    ensures again { (format : Format) (r : FileRec) (online : Option (List ℕ)) → r.number ≡ number → IsFile r
+        → b.now ≡ file_block format r online → result ≡ Some r }
+{
+    let r = rec_of(b, number)?;
+    if keeps_file(&r) { Some(r) } else { None }
+}
+
+/// The block of a file on tape.
+fn encode_on_tape(format: Format, r: &FileRec) -> Block
+    requires file { IsFile r.now }
+    ensures { result ≡ file_block format r.now (on_tape r.now) }
+{
+    if r.len == 0 {
+        encode_file_in(format, r, Some(&BlockList::new()))
+    } else {
+        encode_file_in(format, r, None)
+    }
+}
+
+/// What stands in the fields of a file's block before the block numbers.
+fn rec_of(b: &Block, number: u16) -> Option<FileRec>
+    ensures number { IfSome result (λ r. r.number ≡ number) }
+    ensures again { (format : Format) (r : FileRec) (online : Option (List ℕ)) → r.number ≡ number → IsFile r
+        → b.now ≡ file_block format r online → result ≡ Some r }
+{
+    let mut reader = BlockReader::new(b);
+    take_rec(&mut reader, number)
+}
+
+/// The fields of a file before its block numbers.
+fn take_rec(reader: &mut BlockReader, number: u16) -> Option<FileRec>
+    requires { length reader.old ≡ 512 }
+    ensures left { 385 ≤ length reader.new }
+    ensures number { IfSome result (λ r. r.number ≡ number) }
+    ensures again { (format : Format) (r : FileRec) (online : Option (List ℕ)) → r.number ≡ number → IsFile r
+        → reader.old ≡ file_block format r online
+        → (zeros : List ℕ) × (result ≡ Some r) × (reader.new ≡ online_fields format online ++ zeros) }
+{
     let _used = reader.take_u8();
     let owner = reader.take_u8();
-    let local = take_local(&mut reader);
+    let local = take_local(reader);
     let generation = reader.take_u16();
-    let lang = take_lang(&mut reader);
+    let lang = take_lang(reader);
     let stamp = reader.take_u64();
     let len = reader.take_u32();
-    let traps = take_traps(&mut reader);
-    let tape = take_copy(&mut reader);
-    let online = take_places(&mut reader, format, len);
-    let r = FileRec {
+    let traps = take_traps(reader);
+    let tape = take_copy(reader);
+    Some(FileRec {
         number,
         owner,
         local: local?,
@@ -139,8 +232,7 @@ fn fields_of(format: Format, b: &Block, number: u16) -> Option<(FileRec, Option<
         len,
         traps: traps?,
         tape,
-    };
-    Some((r, online))
+    })
 }
 
 fn keeps_file(r: &FileRec) -> bool

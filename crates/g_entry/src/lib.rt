@@ -1,6 +1,7 @@
 //! The records of a filestore, each in a block of its own: users, files, and the head of a directory.
 #![tactic(auto)]
 
+mod compare;
 mod file_block;
 mod file_rec;
 mod format;
@@ -14,7 +15,8 @@ mod user_block;
 mod user_rec;
 
 pub use file_block::{
-    decode_file, decode_file_1, decode_file_in, encode_file, encode_file_1, encode_file_in,
+    decode_file, decode_file_1, decode_file_in, decode_file_on_tape, encode_file, encode_file_1,
+    encode_file_in,
 };
 pub use file_rec::{FileRec, TapeCopy};
 pub use format::{Format, empty_block};
@@ -23,6 +25,7 @@ pub use head_block::{
     decode_head, decode_head_1, decode_head_in, encode_head, encode_head_1, encode_head_in,
 };
 pub use rules::{files_keep, stamps_are_below, users_keep};
+pub use same::is_same;
 pub use user_block::{
     decode_user, decode_user_1, decode_user_held, decode_user_in, encode_user, encode_user_1,
     encode_user_held, encode_user_in,

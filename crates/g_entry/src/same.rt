@@ -1,8 +1,9 @@
 //! Whether two blocks are the same.
 ghost use Rattle.std.specs.Prelude.{◌≡◌, ◌↔◌, IsTrue, length};
 
-/// Whether two texts of one length are the same. It looks at all bytes: without a way out of the loop a compiler takes many at a time.
-pub(crate) fn is_same(one: &[u8], other: &[u8]) -> bool
+/// Whether two texts of one length, as two blocks, are the same. It looks at all bytes: without a way out of the loop a
+/// compiler takes many at a time.
+pub fn is_same(one: &[u8], other: &[u8]) -> bool
     requires { length one.now ≡ length other.now }
     ensures { IsTrue result ↔ (one.now ≡ other.now) }
 {

@@ -4,6 +4,7 @@ ghost use Rattle.g_entry.specs.Formats.{IsMoney};
 ghost use Rattle.g_entry.specs.UserFields.{IsUser, held_byte, user_block};
 
 use crate::put::{put_money, put_word};
+use crate::same::is_same;
 use crate::take::{take_money, take_user};
 use crate::{Format, UserRec};
 use g_base::{Block, BlockReader, BlockWriter};
@@ -116,7 +117,7 @@ pub fn decode_user_held(format: Format, b: &Block, number: u8) -> Option<(UserRe
         → b.now ≡ user_block format (held_byte held) r → result ≡ Some (r, held) }
 {
     let (r, held) = fields_of(format, b, number)?;
-    if keeps_limits(format, &r) && encode_user_held(format, &r, held) == *b {
+    if keeps_limits(format, &r) && is_same(&encode_user_held(format, &r, held), b) {
         Some((r, held))
     } else {
         None

@@ -3,14 +3,12 @@ use crate::kept::{Kept, Step, Way, blank, commit, leave_of};
 use crate::reading::read;
 use crate::slots::{directory, slot_block};
 use g_blocks::Pool;
-use g_copy::{DiscCopy, store_copy};
-use g_dirs::{Dirs, DirsFault};
+use g_copy::store_copy;
+use g_dirs::DirsFault;
 use g_disc::Disc;
 use g_entry::empty_block;
-use g_slots::{SLOT_BLOCKS, Side, SlotFault, Slots};
-use std::alloc::Global;
+use g_slots::{SLOT_BLOCKS, Side, Slots};
 use std::process::Abort;
-use std::test::Fail;
 
 /// The directory with so many files.
 fn step(files: u8) -> Step<'static> {
@@ -22,59 +20,23 @@ fn step(files: u8) -> Step<'static> {
 }
 
 /// Stores a file's bytes, where they are to be behind those of so many earlier files.
-fn store(rt: &impl Abort, alloc: Global, kept: &mut Kept, earlier: u32) -> Result<(), Fail> {
-    let mut pool = Pool::new(alloc, 2_181, &[])?;
-    let _earlier = pool.take(alloc, earlier)?;
+fn store(rt: &(impl Abort + AllocGlobal), kept: &mut Kept, earlier: u32) {
+    let mut pool = Pool::new(rt.alloc(), 2_181, &[]).expect(rt, "memory");
+    let _earlier = pool.take(rt.alloc(), earlier).expect(rt, "blocks");
     assert!(rt; kept.disc.size() == 2_181);
-    let _copy = store_copy(alloc, &mut kept.disc, &mut pool, b"HELLO")?;
-    Ok(())
+    let _copy = store_copy(rt.alloc(), &mut kept.disc, &mut pool, b"HELLO").expect(rt, "a copy");
 }
 
-/// Whether the current slot is the one with so many files, block by block.
-fn stands(rt: &impl Abort, kept: &mut Kept, files: u8) -> Result<bool, SlotFault> {
+/// Compares the current slot with the one with so many files, block by block.
+fn compare(rt: &impl Abort, kept: &mut Kept, files: u8) {
     assert!(rt; 2_177 < kept.disc.size());
-    let slots = Slots::find(&mut kept.disc)?;
+    let slots = Slots::find(&mut kept.disc).expect(rt, "slots");
     let mut block = empty_block();
     for k in 0..SLOT_BLOCKS {
         assert!(rt; 2_177 < kept.disc.size());
-        slots.read(&mut kept.disc, k, &mut block)?;
-        if block != slot_block(files, k) {
-            return Ok(false);
-        }
+        assert!(rt; slots.read(&mut kept.disc, k, &mut block) == Ok(()));
+        assert!(rt; block == slot_block(files, k), "block {k} of {files} files");
     }
-    Ok(true)
-}
-
-/// Whether the disc stands for the directory with so many files.
-fn reads_as(rt: &impl Abort, alloc: Global, kept: &mut Kept, files: u8) -> Result<bool, DirsFault> {
-    let read = read(rt, alloc, &mut kept.disc)?;
-    let want = directory(rt, alloc, files, &[])?;
-    Ok(is_same(&read, &want))
-}
-
-fn is_same(read: &Dirs, want: &Dirs) -> bool {
-    read.head == want.head
-        && read.users.as_slice() == want.users.as_slice()
-        && read.files.as_slice() == want.files.as_slice()
-        && are_same(&read.online, &want.online)
-}
-
-fn is_same_copy(one: &(u16, DiscCopy), other: &(u16, DiscCopy)) -> bool {
-    one.0 == other.0
-        && one.1.len == other.1.len
-        && one.1.blocks.as_slice() == other.1.blocks.as_slice()
-}
-
-fn are_same(copies: &[(u16, DiscCopy)], others: &[(u16, DiscCopy)]) -> bool {
-    if copies.len() != others.len() {
-        return false;
-    }
-    for i in 0..copies.len() {
-        if !is_same_copy(&copies[i], &others[i]) {
-            return false;
-        }
-    }
-    true
 }
 
 /// How many files the directory has then, behind how many the last one's block was stored before, if it was, and how many
@@ -90,31 +52,19 @@ static WRITES: [(u8, Option<u32>, usize); 7] = [
     (2, None, 3),
 ];
 
-/// Commits the directory with so many files, and gives how many blocks were written.
-fn written(
-    rt: &impl Abort,
-    alloc: Global,
-    kept: &mut Kept,
-    files: u8,
-    stored: Option<u32>,
-) -> Result<usize, Fail> {
-    let before = kept.disc.written.len();
-    if let Some(earlier) = stored {
-        store(rt, alloc, kept, earlier)?;
-    }
-    commit(rt, alloc, Way::Whole, kept, &step(files))??;
-    Ok(kept.disc.written.len().wrapping_sub(before))
-}
-
 #[test]
-fn a_commit_writes_what_is_new(rt: HostRuntime) -> Result<(), Fail> {
-    let mut kept = blank(rt.alloc())?;
+fn a_commit_writes_what_is_new(rt: HostRuntime) {
+    let mut kept = blank(&rt);
     for (files, stored, writes) in &WRITES {
-        let count = written(&rt, rt.alloc(), &mut kept, *files, *stored)?;
-        assert_eq!(rt; count, *writes, "{files} files");
-        assert_eq!(rt; stands(&rt, &mut kept, *files), Ok(true), "{files} files");
+        let before = kept.disc.written.len();
+        if let Some(earlier) = stored {
+            store(&rt, &mut kept, *earlier);
+        }
+        assert!(rt; commit(&rt, Way::Whole, &mut kept, &step(*files)) == Ok(()));
+        let count = kept.disc.written.len().wrapping_sub(before);
+        assert!(rt; count == *writes, "{files} files");
+        compare(&rt, &mut kept, *files);
     }
-    Ok(())
 }
 
 /// How many writes go well before the one that fails, what that one leaves, by its number, and whether the new directory
@@ -132,48 +82,58 @@ static STOPS: [(u16, usize, bool); 10] = [
     (1_088, 3, false),
 ];
 
+/// Whether the disc stands for the directory with so many files.
+fn reads_as(rt: &(impl Abort + AllocGlobal), kept: &mut Kept, files: u8) -> bool {
+    let read = read(rt, &mut kept.disc).expect(rt, "a directory");
+    let want = directory(rt, files, &[]);
+    if read.head != want.head
+        || read.users.as_slice() != want.users.as_slice()
+        || read.files.as_slice() != want.files.as_slice()
+        || read.online.len() != want.online.len()
+    {
+        return false;
+    }
+    for i in 0..read.online.len() {
+        let (number, copy) = &read.online[i];
+        let (other, same) = &want.online[i];
+        if number != other
+            || copy.len != same.len
+            || copy.blocks.as_slice() != same.blocks.as_slice()
+        {
+            return false;
+        }
+    }
+    true
+}
+
 /// A disc with no file, behind a commit with one that stops there.
-fn stopped(rt: &impl Abort, alloc: Global, before: u16, leaves: usize) -> Result<Kept, Fail> {
-    let mut kept = blank(alloc)?;
-    commit(rt, alloc, Way::Whole, &mut kept, &step(0))??;
+fn stopped(rt: &(impl Abort + AllocGlobal), before: u16, leaves: usize) -> Kept {
+    let mut kept = blank(rt);
+    assert!(rt; commit(rt, Way::Whole, &mut kept, &step(0)) == Ok(()));
     kept.disc.disc.set_leave(leave_of(leaves));
     kept.disc.arm(u32::from(before) + 1);
-    let answer = commit(rt, alloc, Way::Whole, &mut kept, &step(1))?;
-    assert_eq!(rt; answer, Err(DirsFault::Stopped), "at {before}");
-    Ok(kept)
+    assert!(rt; commit(rt, Way::Whole, &mut kept, &step(1)) == Err(DirsFault::Stopped));
+    kept
 }
 
 #[test]
-fn a_stopped_commit_is_old_or_new(rt: HostRuntime) -> Result<(), Fail> {
+fn a_stopped_commit_is_old_or_new(rt: HostRuntime) {
     for (before, leaves, new) in &STOPS {
-        let mut kept = stopped(&rt, rt.alloc(), *before, *leaves)?;
-        assert_eq!(rt;
-            reads_as(&rt, rt.alloc(), &mut kept, 1),
-            Ok(*new),
-            "at {before}"
-        );
-        assert_eq!(rt;
-            reads_as(&rt, rt.alloc(), &mut kept, 0),
-            Ok(!*new),
-            "at {before}"
-        );
+        let mut kept = stopped(&rt, *before, *leaves);
+        assert!(rt; reads_as(&rt, &mut kept, 1) == *new, "at {before}");
+        assert!(rt; reads_as(&rt, &mut kept, 0) != *new, "at {before}");
     }
-    Ok(())
 }
 
-/// A directory without files, and whether a commit of it needs no marks before the first one.
-fn is_new(rt: &impl Abort, alloc: Global, kept: &Kept) -> Result<bool, Fail> {
-    let dirs = directory(rt, alloc, 0, &[])?;
-    let told = (dirs.head.next_stamp, dirs.users.len(), dirs.files.len());
-    Ok(told == (1, 2, 0) && kept.pages.covers(Side::B, &dirs.listing()))
-}
-
-/// Each call that takes memory, once, with ample memory. Before the first commit no block of either slot is remembered, so
-/// each slot is written whole; behind it all are, and the gate alone is written.
+/// Each call that takes memory, once, with ample memory. A commit of a directory without files needs no marks before the
+/// first one: then no block of either slot is remembered, so each slot is written whole; behind it all are, and the gate
+/// alone is written.
 #[test]
-fn ample(rt: HostRuntime) -> Result<(), Fail> {
-    let mut kept = blank(rt.alloc())?;
-    assert!(rt; is_new(&rt, rt.alloc(), &kept)?);
+fn ample(rt: HostRuntime) {
+    let mut kept = blank(&rt);
+    let dirs = directory(&rt, 0, &[]);
+    assert!(rt; dirs.head.next_stamp == 1 && dirs.users.len() == 2 && dirs.files.len() == 0);
+    assert!(rt; kept.pages.covers(Side::B, &dirs.listing()));
     let marked = Step {
         files: 0,
         differs: &[],
@@ -185,10 +145,9 @@ fn ample(rt: HostRuntime) -> Result<(), Fail> {
         (Way::Changed, 1_089),
         (Way::Changed, 1),
     ] {
-        commit(&rt, rt.alloc(), way, &mut kept, &marked)??;
+        assert!(rt; commit(&rt, way, &mut kept, &marked) == Ok(()));
         let count = kept.disc.written.len();
-        assert_eq!(rt; count.wrapping_sub(before), writes);
+        assert!(rt; count.wrapping_sub(before) == writes);
         before = count;
     }
-    Ok(())
 }

@@ -7,13 +7,12 @@ use g_disc::{Disc, MemoryDisc};
 use g_slots::{SLOT_BLOCKS, SlotFault, Slots};
 use std::alloc::Global;
 use std::process::Abort;
-use std::test::Fail;
 
-fn blank(alloc: Global) -> Result<Noted, NoMemory> {
-    Ok(Noted {
-        disc: MemoryDisc::new(alloc, 2_178)?,
-        written: Vec::new(alloc),
-    })
+fn blank(rt: &(impl Abort + AllocGlobal)) -> Noted {
+    Noted {
+        disc: MemoryDisc::new(rt.alloc(), 2_178).expect(rt, "memory"),
+        written: Vec::new(rt.alloc()),
+    }
 }
 
 fn filled(alloc: Global, fill: u8) -> Result<Vec<Block>, NoMemory>
@@ -27,13 +26,13 @@ fn commit_filled(
     rt: &(impl Abort + AllocGlobal),
     disc: &mut Noted,
     fill: u8,
-) -> Result<Result<(), SlotFault>, NoMemory> {
-    let image = filled(rt.alloc(), fill)?;
+) -> Result<(), SlotFault> {
+    let Ok(image) = filled(rt.alloc(), fill) else {
+        panic!(rt; "memory");
+    };
     assert!(rt; 2_177 < disc.size());
-    match Slots::find(disc) {
-        Ok(mut slots) => Ok(slots.commit(disc, &image)),
-        Err(fault) => Ok(Err(fault)),
-    }
+    let mut slots = Slots::find(disc)?;
+    slots.commit(disc, &image)
 }
 
 /// Whether every byte of the current slot is `fill`.
@@ -65,42 +64,31 @@ static STOPS: [(u16, usize, bool); 9] = [
     (1_088, 3, true),
 ];
 
-/// A disc of zeros behind a commit that stops there.
-fn stopped(rt: &(impl Abort + AllocGlobal), before: u16, leaves: usize) -> Result<Noted, Fail> {
-    let mut disc = blank(rt.alloc())?;
-    disc.disc.set_leave(leave_of(leaves));
-    disc.arm(u32::from(before) + 1);
-    let answer = commit_filled(rt, &mut disc, 7)?;
-    assert_eq!(rt; answer, Err(SlotFault::Stopped), "at {before}");
-    Ok(disc)
-}
-
 #[test]
-fn a_stopped_commit_is_old_or_new(rt: HostRuntime) -> Result<(), Fail> {
+fn a_stopped_commit_is_old_or_new(rt: HostRuntime) {
     for (before, leaves, new) in &STOPS {
-        let mut disc = stopped(&rt, *before, *leaves)?;
-        assert_eq!(rt; stands(&rt, &mut disc, 7), Ok(*new), "at {before}");
-        assert_eq!(rt; stands(&rt, &mut disc, 0), Ok(!*new), "at {before}");
+        let mut disc = blank(&rt);
+        disc.disc.set_leave(leave_of(*leaves));
+        disc.arm(u32::from(*before) + 1);
+        assert!(rt;
+            commit_filled(&rt, &mut disc, 7) == Err(SlotFault::Stopped),
+            "at {before}"
+        );
+        assert!(rt; stands(&rt, &mut disc, 7) == Ok(*new), "at {before}");
+        assert!(rt; stands(&rt, &mut disc, 0) == Ok(!*new), "at {before}");
     }
-    Ok(())
-}
-
-/// The disc behind three commits.
-fn thrice(rt: &(impl Abort + AllocGlobal)) -> Result<Noted, Fail> {
-    let mut disc = blank(rt.alloc())?;
-    for fill in [1, 2, 3] {
-        assert_eq!(rt; commit_filled(rt, &mut disc, fill)?, Ok(()));
-        assert_eq!(rt; stands(rt, &mut disc, fill), Ok(true));
-    }
-    Ok(disc)
 }
 
 /// Three commits read the gate, and each look reads it and 1,088 blocks; the next look fails in its middle.
 #[test]
-fn commits_take_turns(rt: HostRuntime) -> Result<(), Fail> {
-    let mut disc = thrice(&rt)?;
-    disc.disc.fail_reads(vec![in rt.alloc(); 3 * 1_090 + 500]?);
-    assert_eq!(rt; stands(&rt, &mut disc, 3), Err(SlotFault::ReadFault));
-    assert_eq!(rt; stands(&rt, &mut disc, 3), Ok(true));
-    Ok(())
+fn commits_take_turns(rt: HostRuntime) {
+    let mut disc = blank(&rt);
+    for fill in [1, 2, 3] {
+        assert!(rt; commit_filled(&rt, &mut disc, fill) == Ok(()));
+        assert!(rt; stands(&rt, &mut disc, fill) == Ok(true));
+    }
+    let fails = vec![in rt.alloc(); 3 * 1_090 + 500].expect(&rt, "memory");
+    disc.disc.fail_reads(fails);
+    assert!(rt; stands(&rt, &mut disc, 3) == Err(SlotFault::ReadFault));
+    assert!(rt; stands(&rt, &mut disc, 3) == Ok(true));
 }

@@ -4,9 +4,7 @@ use g_base::{Block, ReadFailed, WriteFailed};
 use g_dirs::{DirsFault, Pages, write_changed, write_dirs};
 use g_disc::{Disc, Leave, MemoryDisc};
 use g_slots::Slots;
-use std::alloc::Global;
 use std::process::Abort;
-use std::test::Fail;
 
 /// A disc of 2,181 blocks that notes which of them are written, in order. Contracts aren't told what it holds, so that a
 /// commit asks nothing of it but its size.
@@ -71,43 +69,37 @@ pub struct Step<'a> {
 }
 
 /// A disc of zeros.
-pub fn blank(alloc: Global) -> Result<Kept, Fail> {
+pub fn blank(rt: &(impl Abort + AllocGlobal)) -> Kept {
     let mut disc = Noted {
-        disc: MemoryDisc::new(alloc, 2_181)?,
-        written: Vec::new(alloc),
+        disc: MemoryDisc::new(rt.alloc(), 2_181).expect(rt, "memory"),
+        written: Vec::new(rt.alloc()),
     };
-    Ok(Kept {
-        slots: Slots::find(&mut disc)?,
+    Kept {
+        slots: Slots::find(&mut disc).expect(rt, "slots"),
         disc,
-        pages: Pages::new(alloc)?,
-    })
-}
-
-/// Marks what a step marks.
-fn mark(rt: &impl Abort, pages: &mut Pages, marks: &[u32]) {
-    for k in marks {
-        assert!(rt; *k < 1_088);
-        pages.changed(*k);
+        pages: Pages::new(rt.alloc()).expect(rt, "memory"),
     }
 }
 
-/// Commits the directory of a step. The answer is the commit's.
+/// Marks what a step marks, and commits its directory. The answer is the commit's.
 pub fn commit(
-    rt: &impl Abort,
-    alloc: Global,
+    rt: &(impl Abort + AllocGlobal),
     way: Way,
     kept: &mut Kept,
     step: &Step,
-) -> Result<Result<(), DirsFault>, Fail> {
-    let dirs = directory(rt, alloc, step.files, step.differs)?;
+) -> Result<(), DirsFault> {
+    for k in step.marks {
+        assert!(rt; *k < 1_088);
+        kept.pages.changed(*k);
+    }
+    let dirs = directory(rt, step.files, step.differs);
     let listing = dirs.listing();
-    mark(rt, &mut kept.pages, step.marks);
     assert!(rt; kept.disc.size() == 2_181);
     match way {
-        Way::Whole => Ok(write_dirs(&mut kept.disc, &mut kept.slots, &listing, &mut kept.pages)),
+        Way::Whole => write_dirs(&mut kept.disc, &mut kept.slots, &listing, &mut kept.pages),
         Way::Changed => {
             assert!(rt; kept.pages.covers(kept.slots.side().other(), &listing));
-            Ok(write_changed(&mut kept.disc, &mut kept.slots, &listing, &mut kept.pages))
+            write_changed(&mut kept.disc, &mut kept.slots, &listing, &mut kept.pages)
         }
     }
 }

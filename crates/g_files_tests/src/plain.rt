@@ -1,15 +1,12 @@
 //! Worked calls on a new plain store, with the replies and faults that the rules give.
-ghost use Rattle.std.specs.Prelude.{IfOk};
 ghost use Rattle.g_plain.specs.Rules.{IsWithinLimits};
 
-use g_name::{Local, Text, User, parse_path};
+use g_name::{Local, Path, Text, User, parse_path};
 use g_plain::{
     BudgetKind, Filestore, PlainStore, StoreCall, StoreFault, StoreReply, ask, runs_are_plain,
 };
 use g_trap::{Mode, Modes};
-use std::alloc::Global;
 use std::process::Abort;
-use std::test::Fail;
 
 /// A call by its paths, users and names.
 #[derive(Clone, Copy)]
@@ -51,94 +48,89 @@ type Row<'a> = (&'a [u8], Asked<'a>, Wanted);
 
 const GRANTED: Wanted = Wanted::Granted(None);
 
-fn user(name: &[u8]) -> Result<User, Fail> {
-    Ok(User::new(name).ok_or("a user")?)
+fn user(rt: &impl Abort, name: &[u8]) -> User {
+    User::new(name).expect(rt, "a user")
 }
 
-fn text(alloc: Global, len: usize) -> Result<Text, Fail> {
-    Ok(Text::from(vec![in alloc; b'X'; len]?))
+fn path(rt: &impl Abort, text: &[u8]) -> Path {
+    parse_path(text).expect(rt, "a path")
 }
 
-fn modes(bits: u8) -> Result<Modes, Fail> {
-    Ok(Modes::from_bits(bits).ok_or("modes")?)
+fn text(rt: &(impl Abort + AllocGlobal), len: usize) -> Text {
+    let bytes = vec![in rt.alloc(); b'X'; len].expect(rt, "memory");
+    Text::from(bytes)
+}
+
+fn modes(rt: &impl Abort, bits: u8) -> Modes {
+    Modes::from_bits(bits).expect(rt, "modes")
 }
 
 /// The call on a file.
-fn call_of(alloc: Global, asked: &Asked) -> Result<StoreCall, Fail>
-    ensures { IfOk result IsWithinLimits }
+fn call_of(rt: &(impl Abort + AllocGlobal), asked: &Asked) -> StoreCall
+    ensures { IsWithinLimits result }
 {
     match asked {
-        Asked::Put(path, len) => Ok(StoreCall::Put {
-            path: parse_path(path)?,
-            bytes: text(alloc, *len)?,
-        }),
-        Asked::Append(path, len) => Ok(StoreCall::Append {
-            path: parse_path(path)?,
-            bytes: text(alloc, *len)?,
-        }),
-        Asked::Read(path) => Ok(StoreCall::Fetch {
-            path: parse_path(path)?,
+        Asked::Put(name, len) => StoreCall::Put {
+            path: path(rt, name),
+            bytes: text(rt, *len),
+        },
+        Asked::Append(name, len) => StoreCall::Append {
+            path: path(rt, name),
+            bytes: text(rt, *len),
+        },
+        Asked::Read(name) => StoreCall::Fetch {
+            path: path(rt, name),
             mode: Mode::Read,
-        }),
-        Asked::Rename(path, to) => Ok(StoreCall::Rename {
-            path: parse_path(path)?,
-            to: Local::new(to).ok_or("a local name")?,
-        }),
-        Asked::Retrieve(path) => Ok(StoreCall::Retrieve {
-            path: parse_path(path)?,
-        }),
-        Asked::Erase(path) => Ok(StoreCall::Erase {
-            path: parse_path(path)?,
-        }),
-        _ => call_on_users(asked),
+        },
+        Asked::Rename(name, to) => StoreCall::Rename {
+            path: path(rt, name),
+            to: Local::new(to).expect(rt, "a local name"),
+        },
+        Asked::Retrieve(name) => StoreCall::Retrieve {
+            path: path(rt, name),
+        },
+        Asked::Erase(name) => StoreCall::Erase {
+            path: path(rt, name),
+        },
+        _ => call_on_users(rt, asked),
     }
 }
 
 /// The call on users or traps.
-fn call_on_users(asked: &Asked) -> Result<StoreCall, Fail>
-    ensures { IfOk result IsWithinLimits }
+fn call_on_users(rt: &impl Abort, asked: &Asked) -> StoreCall
+    ensures { IsWithinLimits result }
 {
     match asked {
-        Asked::NewUser(name, space, time, money) => new_user(name, *space, *time, *money),
-        Asked::Budget(name, amount) => budget(name, *amount),
-        Asked::TrapGo(path, about, bits) => Ok(StoreCall::TrapGo {
-            path: parse_path(path)?,
-            user: user(about)?,
-            modes: modes(*bits)?,
-        }),
-        Asked::TrapStop(path, about, bits) => Ok(StoreCall::TrapStop {
-            path: parse_path(path)?,
-            user: user(about)?,
-            modes: modes(*bits)?,
-        }),
-        Asked::TrapCheck(path, about) => Ok(StoreCall::TrapCheck {
-            path: parse_path(path)?,
-            user: user(about)?,
-        }),
-        Asked::List(name) => Ok(StoreCall::List { user: user(name)? }),
-        _ => Err("no call".into()),
+        Asked::NewUser(name, space, time, money) => StoreCall::NewUser {
+            user: user(rt, name),
+            space: u32::from(*space),
+            time: u64::from(*time),
+            money: u64::from(*money),
+        },
+        Asked::Budget(name, amount) => StoreCall::Budget {
+            user: user(rt, name),
+            kind: BudgetKind::Money,
+            amount: u64::from(*amount),
+        },
+        Asked::TrapGo(name, about, bits) => StoreCall::TrapGo {
+            path: path(rt, name),
+            user: user(rt, about),
+            modes: modes(rt, *bits),
+        },
+        Asked::TrapStop(name, about, bits) => StoreCall::TrapStop {
+            path: path(rt, name),
+            user: user(rt, about),
+            modes: modes(rt, *bits),
+        },
+        Asked::TrapCheck(name, about) => StoreCall::TrapCheck {
+            path: path(rt, name),
+            user: user(rt, about),
+        },
+        Asked::List(name) => StoreCall::List {
+            user: user(rt, name),
+        },
+        _ => panic!(rt; "no call on users"),
     }
-}
-
-fn new_user(name: &[u8], space: u16, time: u16, money: u16) -> Result<StoreCall, Fail>
-    ensures { IfOk result IsWithinLimits }
-{
-    Ok(StoreCall::NewUser {
-        user: user(name)?,
-        space: u32::from(space),
-        time: u64::from(time),
-        money: u64::from(money),
-    })
-}
-
-fn budget(name: &[u8], amount: u16) -> Result<StoreCall, Fail>
-    ensures { IfOk result IsWithinLimits }
-{
-    Ok(StoreCall::Budget {
-        user: user(name)?,
-        kind: BudgetKind::Money,
-        amount: u64::from(amount),
-    })
 }
 
 /// What a reply says, as a number: the bits of modes, how many bytes there are, or the length of the first file of a
@@ -185,21 +177,19 @@ fn compare(
     who: &[u8],
     asked: &Asked,
     wanted: &Wanted,
-) -> Result<(), Fail> {
-    let name = user(who)?;
-    let call = call_of(rt.alloc(), asked)?;
-    let answer = store.call(rt.alloc(), &name, &call);
-    assert!(rt; is_wanted(&answer, wanted), "{who:?}: {answer:?}");
-    Ok(())
+) {
+    let call = call_of(rt, asked);
+    let answer = store.call(rt.alloc(), &user(rt, who), &call);
+    assert!(rt; is_wanted(&answer, wanted), "{who:?}");
 }
 
 /// Makes these calls of a new filestore, in order.
-fn compare_all(rt: &(impl Abort + AllocGlobal), rows: &[Row]) -> Result<PlainStore, Fail> {
-    let mut store = PlainStore::new(rt.alloc())?;
+fn compare_all(rt: &(impl Abort + AllocGlobal), rows: &[Row]) -> PlainStore {
+    let mut store = PlainStore::new(rt.alloc()).expect(rt, "memory");
     for (who, asked, wanted) in rows {
-        compare(rt, &mut store, who, asked, wanted)?;
+        compare(rt, &mut store, who, asked, wanted);
     }
-    Ok(store)
+    store
 }
 
 /// `A`, who has one block of SPACE, and a file of `A` that is closed to others.
@@ -221,15 +211,14 @@ static SIZES: [(&[u8], &[u8], &[u8], usize, u8, u8); 7] = [
 
 /// The faults of a put and of an append come in order.
 #[test]
-fn order_of_sizes(rt: HostRuntime) -> Result<(), Fail> {
-    let mut store = compare_all(&rt, &WITH_A_FILE)?;
+fn order_of_sizes(rt: HostRuntime) {
+    let mut store = compare_all(&rt, &WITH_A_FILE);
     for (who, version, path, len, put, append) in &SIZES {
         let asked = Asked::Put(version, *len);
-        compare(&rt, &mut store, who, &asked, &Wanted::RefusedBy(*put))?;
+        compare(&rt, &mut store, who, &asked, &Wanted::RefusedBy(*put));
         let asked = Asked::Append(path, *len);
-        compare(&rt, &mut store, who, &asked, &Wanted::RefusedBy(*append))?;
+        compare(&rt, &mut store, who, &asked, &Wanted::RefusedBy(*append));
     }
-    Ok(())
 }
 
 /// Who calls, of which file, and about whom; the fault of letting that user in, of asking, and of renaming the file to
@@ -245,17 +234,16 @@ static TRAPS: [(&[u8], &[u8], &[u8], &[u8], u8, u8, u8); 6] = [
 
 /// The faults of calls about traps and names come in order.
 #[test]
-fn order_of_traps(rt: HostRuntime) -> Result<(), Fail> {
-    let mut store = compare_all(&rt, &WITH_A_FILE)?;
+fn order_of_traps(rt: HostRuntime) {
+    let mut store = compare_all(&rt, &WITH_A_FILE);
     for (who, path, name, about, go, check, rename) in &TRAPS {
         let asked = Asked::TrapGo(path, about, 31);
-        compare(&rt, &mut store, who, &asked, &Wanted::RefusedBy(*go))?;
+        compare(&rt, &mut store, who, &asked, &Wanted::RefusedBy(*go));
         let asked = Asked::TrapCheck(path, about);
-        compare(&rt, &mut store, who, &asked, &Wanted::RefusedBy(*check))?;
+        compare(&rt, &mut store, who, &asked, &Wanted::RefusedBy(*check));
         let asked = Asked::Rename(path, name);
-        compare(&rt, &mut store, who, &asked, &Wanted::RefusedBy(*rename))?;
+        compare(&rt, &mut store, who, &asked, &Wanted::RefusedBy(*rename));
     }
-    Ok(())
 }
 
 /// SPACE is counted in whole blocks, over all of a user's files.
@@ -314,7 +302,7 @@ static USERS: [Row<'static>; 6] = [
 
 /// Calls of new filestores, those with ample memory among them.
 #[test]
-fn calls(rt: HostRuntime) -> Result<(), Fail> {
+fn calls(rt: HostRuntime) {
     for rows in [
         SPACE.as_slice(),
         GENERATIONS.as_slice(),
@@ -322,26 +310,19 @@ fn calls(rt: HostRuntime) -> Result<(), Fail> {
         FILES.as_slice(),
         USERS.as_slice(),
     ] {
-        let store = compare_all(&rt, rows)?;
+        let store = compare_all(&rt, rows);
         assert!(rt; !store.spent());
     }
-    Ok(())
-}
-
-/// How many bytes a file of `MASTER` has, by a call that asks for no more than an answer.
-fn asked_for(alloc: Global, store: &mut PlainStore, path: &[u8]) -> Result<Option<usize>, Fail> {
-    let call = call_of(alloc, &Asked::Read(path))?;
-    let answer = ask(alloc, store, &User::master(), &call)?;
-    Ok(answer.as_ref().ok().and_then(told))
 }
 
 /// A file is read by `ask`, with ample memory.
 #[test]
-fn ample(rt: HostRuntime) -> Result<(), Fail> {
-    let mut store = compare_all(&rt, &WITH_A_FILE)?;
-    compare(&rt, &mut store, b"MASTER", &Asked::Put(b"F", 5), &GRANTED)?;
-    assert_eq!(rt; asked_for(rt.alloc(), &mut store, b"F")?, Some(5));
-    Ok(())
+fn ample(rt: HostRuntime) {
+    let mut store = compare_all(&rt, &WITH_A_FILE);
+    compare(&rt, &mut store, b"MASTER", &Asked::Put(b"F", 5), &GRANTED);
+    let call = call_of(&rt, &Asked::Read(b"F"));
+    let answer = ask(rt.alloc(), &mut store, &User::master(), &call).expect(&rt, "an answer");
+    assert!(rt; is_wanted(&answer, &Wanted::Granted(Some(5))));
 }
 
 /// What is run over the plain store is asked of a plain tree.

@@ -3,13 +3,14 @@ ghost use Rattle.std.specs.Prelude.{◌≡◌, ◌+◌, IfOk, None, []};
 ghost use Rattle.g_tree.specs.Records.{IsRecords};
 ghost use Rattle.g_tree.specs.State.{first_user, first_users};
 
+use g_base::NoMemory;
 use g_entry::{FileRec, UserRec};
-use g_name::{Lang, Local, Path, Text, User};
+use g_name::{Lang, Local, Text, User, parse_path};
 use g_plain::{StoreCall, StoreFault};
 use g_trap::{Mode, Modes, Traps};
 use g_tree::{Output, Tree, refusal_of};
 use std::alloc::Global;
-use std::test::Fail;
+use std::process::Abort;
 
 fn user(number: u8, user: User) -> UserRec
     ensures { result ≡ first_user number user }
@@ -25,7 +26,7 @@ fn user(number: u8, user: User) -> UserRec
 }
 
 /// The users of a new filestore.
-fn users(alloc: Global) -> Result<Vec<UserRec>, Fail>
+fn users(alloc: Global) -> Result<Vec<UserRec>, NoMemory>
     ensures { IfOk result (λ users. users.items ≡ first_users) }
 {
     let mut users = Vec::new(alloc);
@@ -35,9 +36,9 @@ fn users(alloc: Global) -> Result<Vec<UserRec>, Fail>
 }
 
 /// The first version of a file of `MASTER`.
-fn file(number: u16, name: &[u8], generation: u16, len: u32) -> Result<FileRec, Fail>
-    ensures { IfOk result
-        (λ r. r ≡ record {
+fn file(rt: &impl Abort, number: u16, name: &[u8], generation: u16, len: u32) -> FileRec
+    ensures { result
+        ≡ record {
           number = number;
           owner = 0;
           local = name.now;
@@ -47,10 +48,12 @@ fn file(number: u16, name: &[u8], generation: u16, len: u32) -> Result<FileRec, 
           len = len;
           tape = None;
           traps = record { owner = 31; others = [] };
-        }) }
+        } }
 {
-    let local = Local::new(name).ok_or("a local name")?;
-    Ok(FileRec {
+    let Some(local) = Local::new(name) else {
+        panic!(rt; "a local name");
+    };
+    FileRec {
         number,
         owner: 0,
         local,
@@ -60,107 +63,112 @@ fn file(number: u16, name: &[u8], generation: u16, len: u32) -> Result<FileRec, 
         len,
         traps: Traps::fresh(),
         tape: None,
-    })
-}
-
-/// The path of a local name of this user, or of the caller.
-fn path(user: Option<User>, name: &[u8], generation: Option<u16>) -> Result<Path, Fail> {
-    let local = Local::new(name).ok_or("a local name")?;
-    let generation = generation.filter(|g| 1 <= *g && *g <= 4095);
-    Ok(Path {
-        user,
-        local,
-        generation,
-        lang: None,
-    })
+    }
 }
 
 /// Three files whose names aren't in the order of their numbers.
-fn files(alloc: Global) -> Result<Vec<FileRec>, Fail>
+fn files(rt: &(impl Abort + AllocGlobal)) -> Result<Vec<FileRec>, NoMemory>
     ensures { IfOk result (λ files. IsRecords first_users files.items) }
 {
-    let mut files = Vec::new(alloc);
-    files.push(file(0, b"B", 1, 513)?)?;
-    files.push(file(3, b"A", 9, 1)?)?;
-    files.push(file(4, b"A", 10, 0)?)?;
+    let mut files = Vec::new(rt.alloc());
+    files.push(file(rt, 0, b"B", 1, 513))?;
+    files.push(file(rt, 3, b"A", 9, 1))?;
+    files.push(file(rt, 4, b"A", 10, 0))?;
     Ok(files)
 }
 
-/// An absent generation is the greatest there is for input, and for output one more.
+/// The tree of the three files.
+fn tree(rt: &(impl Abort + AllocGlobal)) -> Result<Tree, NoMemory> {
+    let users = users(rt.alloc())?;
+    let files = files(rt)?;
+    Tree::from_records(rt.alloc(), users, files)
+}
+
+/// A caller and a path, the file that is found, and what output would make: an absent generation is the greatest there is
+/// for input, and for output one more.
+static NAMES: [(u8, &[u8], Option<u16>, Output); 7] = [
+    (0, b"A", Some(4), Output::Fresh { generation: 11 }),
+    (0, b"A(9)", Some(3), Output::Replace(3)),
+    (0, b"A(8)", None, Output::Fresh { generation: 8 }),
+    (0, b"B", Some(0), Output::Fresh { generation: 2 }),
+    (0, b"C", None, Output::Fresh { generation: 1 }),
+    (1, b"A", None, Output::Fresh { generation: 1 }),
+    (2, b"A(9)", None, Output::Fresh { generation: 9 }),
+];
+
 #[test]
-fn names(rt: HostRuntime) -> Result<(), Fail> {
-    let alloc = rt.alloc();
-    let tree = Tree::from_records(alloc, users(alloc)?, files(alloc)?)?;
-    for (owner, name, generation, found, output) in [
-        (0, b"A", None, Some(4), Output::Fresh { generation: 11 }),
-        (0, b"A", Some(9), Some(3), Output::Replace(3)),
-        (0, b"A", Some(8), None, Output::Fresh { generation: 8 }),
-        (0, b"B", None, Some(0), Output::Fresh { generation: 2 }),
-        (0, b"C", None, None, Output::Fresh { generation: 1 }),
-        (1, b"A", None, None, Output::Fresh { generation: 1 }),
-        (2, b"A", Some(9), None, Output::Fresh { generation: 9 }),
-    ] {
-        let path = path(None, name, generation)?;
-        assert_eq!(rt; tree.find(owner, &path), found);
-        assert_eq!(rt; tree.output(owner, &path), output);
+fn names(rt: HostRuntime) {
+    let tree = tree(&rt).expect(&rt, "memory");
+    for (owner, name, found, output) in &NAMES {
+        let path = parse_path(name).expect(&rt, "a path");
+        assert!(rt; tree.find(*owner, &path) == *found);
+        assert!(rt; tree.output(*owner, &path) == *output);
     }
-    assert_eq!(rt; tree.listing(alloc, 0)?.as_slice(), [3, 4, 0].as_slice());
-    assert_eq!(rt; tree.used(0), 3);
-    assert_eq!(rt; tree.used(1), 0);
-    Ok(())
+    let listing = tree.listing(rt.alloc(), 0).expect(&rt, "memory");
+    assert!(rt; listing.as_slice() == [3, 4, 0].as_slice());
+    assert!(rt; tree.used(0) == 3 && tree.used(1) == 0);
 }
 
-/// The refusal of a call on the three files, where the next stamp is 9.
-fn refused(alloc: Global, who: &User, call: &StoreCall) -> Result<Option<StoreFault>, Fail> {
-    let tree = Tree::from_records(alloc, users(alloc)?, files(alloc)?)?;
-    Ok(refusal_of(&tree, 9, who, call))
+/// The refusal of a call on the three files, where the next stamp is 9: of `MACROS`, and of `MASTER`.
+fn compare(
+    rt: &(impl Abort + AllocGlobal),
+    call: &StoreCall,
+    macros: Option<StoreFault>,
+    master: Option<StoreFault>,
+) {
+    let tree = tree(rt).expect(rt, "memory");
+    assert!(rt; refusal_of(&tree, 9, &User::macros(), call) == macros);
+    assert!(rt; refusal_of(&tree, 9, &User::master(), call) == master);
 }
 
-/// Calls of `MACROS` on the files of `MASTER`, and of `MASTER` on its own.
+/// Calls of `MACROS` and of `MASTER` on the files of `MASTER`.
 #[test]
-fn refusals(rt: HostRuntime) -> Result<(), Fail> {
-    let alloc = rt.alloc();
-    let (master, macros) = (User::master(), User::macros());
+fn refusals(rt: HostRuntime) {
     let fetch = StoreCall::Fetch {
-        path: path(Some(User::master()), b"B", None)?,
+        path: parse_path(b":MASTER.B").expect(&rt, "a path"),
         mode: Mode::Read,
     };
-    assert_eq!(rt;
-        refused(alloc, &macros, &fetch)?,
-        Some(StoreFault::Trapped(Mode::Read))
-    );
-    assert_eq!(rt; refused(alloc, &master, &fetch)?, None);
+    compare(&rt, &fetch, Some(StoreFault::Trapped(Mode::Read)), None);
+    let bytes = vec![in rt.alloc(); b'X'; 65537].expect(&rt, "memory");
     let put = StoreCall::Put {
-        path: path(Some(User::master()), b"A", Some(8))?,
-        bytes: Text::from(vec![in alloc; b'X'; 65537]?),
+        path: parse_path(b":MASTER.A(8)").expect(&rt, "a path"),
+        bytes: Text::from(bytes),
     };
-    assert_eq!(rt; refused(alloc, &macros, &put)?, Some(StoreFault::NotOwner));
-    assert_eq!(rt;
-        refused(alloc, &master, &put)?,
-        Some(StoreFault::TooLong(65537))
+    compare(
+        &rt,
+        &put,
+        Some(StoreFault::NotOwner),
+        Some(StoreFault::TooLong(65537)),
     );
     let trap = StoreCall::TrapGo {
-        path: path(None, b"A", Some(9))?,
+        path: parse_path(b"A(9)").expect(&rt, "a path"),
         user: User::macros(),
         modes: Modes::all(),
     };
-    assert_eq!(rt; refused(alloc, &macros, &trap)?, Some(StoreFault::NoFile));
-    assert_eq!(rt; refused(alloc, &master, &trap)?, None);
+    compare(&rt, &trap, Some(StoreFault::NoFile), None);
     let erase = StoreCall::Erase {
-        path: path(None, b"C", None)?,
+        path: parse_path(b"C").expect(&rt, "a path"),
     };
-    assert_eq!(rt; refused(alloc, &master, &erase)?, Some(StoreFault::NoFile));
-    Ok(())
+    compare(
+        &rt,
+        &erase,
+        Some(StoreFault::NoFile),
+        Some(StoreFault::NoFile),
+    );
 }
 
 /// The records of a new filestore are those of a new tree, and no file is listed.
 #[test]
-fn ample(rt: HostRuntime) -> Result<(), Fail> {
-    let alloc = rt.alloc();
-    let mut tree = Tree::from_records(alloc, users(alloc)?, Vec::new(alloc))?;
-    assert_eq!(rt; Tree::new(alloc)?.users(), tree.users());
-    assert_eq!(rt; tree.listing(alloc, 0)?.as_slice().len(), 0);
-    tree.reserve()?;
-    assert_eq!(rt; tree.files().len(), 0);
-    Ok(())
+fn ample(rt: HostRuntime) {
+    let Ok(users) = users(rt.alloc()) else {
+        panic!(rt; "memory");
+    };
+    let made = Tree::from_records(rt.alloc(), users, Vec::new(rt.alloc()));
+    let mut tree = made.expect(&rt, "memory");
+    let new = Tree::new(rt.alloc()).expect(&rt, "memory");
+    assert!(rt; new.users() == tree.users());
+    let listing = tree.listing(rt.alloc(), 0).expect(&rt, "memory");
+    assert!(rt; listing.as_slice().len() == 0);
+    assert!(rt; tree.reserve() == Ok(()));
+    assert!(rt; tree.files().len() == 0);
 }

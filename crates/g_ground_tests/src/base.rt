@@ -1,43 +1,35 @@
-//! Blocks of a text, counts and fuses by rows that were worked out by hand, and the calls that may take
-//! memory.
+//! Blocks of a text, counts, fuses and the fields of a block by rows that were worked out by hand.
 use g_base::{Block, BlockList, BlockReader, BlockWriter, Fuse, are_distinct, blocks_for, raised};
-use std::test::Fail;
+
+/// Pairs whose first numbers are distinct, or not.
+static PAIRS: [(&[(u8, u8)], bool); 3] = [
+    (&[(1, 2), (1, 3), (2, 2)], false),
+    (&[(2, 1), (3, 1), (2, 2)], false),
+    (&[(12, 1), (13, 1), (22, 2)], true),
+];
 
 #[test]
-fn ample(rt: HostRuntime) -> Result<(), Fail> {
-    let rows = [(1u8, 2u64), (1, 3), (2, 2)];
-    assert!(rt; !are_distinct(rt.alloc(), &rows, |row| row.0)?);
-    assert!(rt; !are_distinct(rt.alloc(), &rows, |row| row.1)?);
-    assert!(rt; are_distinct(rt.alloc(), &rows, |row| *row)?);
+fn ample(rt: HostRuntime) {
+    for (pairs, distinct) in &PAIRS {
+        let told = are_distinct(rt.alloc(), pairs, |pair| pair.0);
+        assert!(rt; told == Ok(*distinct));
+    }
     let mut places = BlockList::new();
     places.push(2_177);
-    assert_eq!(rt; places.copy().as_slice(), [2_177].as_slice());
-    assert_eq!(rt; BlockList::from_slice(&[0; 129]), None);
-    Ok(())
-}
-
-#[test]
-fn blocks_of_texts(rt: HostRuntime) {
+    assert!(rt; places.copy().as_slice() == [2_177].as_slice());
+    assert!(rt; BlockList::from_slice(&[0; 129]) == None);
     for (len, want) in [(0, 0), (1, 1), (511, 1), (512, 1), (513, 2), (65_536, 128)] {
-        assert_eq!(rt; blocks_for(len), want, "at {len}");
+        assert!(rt; blocks_for(len) == want, "at {len}");
     }
-}
-
-#[test]
-fn counts_end(rt: HostRuntime) {
     for (count, want) in [(0, 1), (u64::MAX - 1, u64::MAX), (u64::MAX, u64::MAX)] {
-        assert_eq!(rt; raised(count), want, "at {count}");
+        assert!(rt; raised(count) == want, "at {count}");
     }
-}
-
-#[test]
-fn the_third_write_fails(rt: HostRuntime) {
     let mut fuse = Fuse::new();
     assert!(rt; !fuse.burn());
     fuse.arm(9);
     fuse.arm(3);
     for fails in [false, false, true, false, false] {
-        assert_eq!(rt; fuse.burn(), fails);
+        assert!(rt; fuse.burn() == fails);
     }
 }
 
@@ -57,21 +49,18 @@ fn written() -> Block {
     writer.finish()
 }
 
+/// Fields are written and read highest byte first.
 #[test]
-fn fields_are_written_highest_byte_first(rt: HostRuntime) {
+fn fields(rt: HostRuntime) {
     let mut block = [0; 512];
     block[..24].copy_from_slice(&FIELDS);
     assert!(rt; written() == block);
-}
-
-#[test]
-fn fields_are_read_highest_byte_first(rt: HostRuntime) {
     let mut reader = BlockReader::new(&FIELDS);
-    assert_eq!(rt; reader.take_bytes(2), b"G3".as_slice());
-    assert_eq!(rt; reader.take_u8(), 7);
-    assert_eq!(rt; reader.take_u16(), 0x0102);
-    assert_eq!(rt; reader.take_u24(), 0x03_0405);
-    assert_eq!(rt; reader.take_bytes(4), b"AB\x00\x00".as_slice());
-    assert_eq!(rt; reader.take_u32(), 0x0607_0809);
-    assert_eq!(rt; reader.take_u64(), 0x0a0b_0c0d_0e0f_1011);
+    assert!(rt; reader.take_bytes(2) == b"G3".as_slice());
+    assert!(rt; reader.take_u8() == 7);
+    assert!(rt; reader.take_u16() == 0x0102);
+    assert!(rt; reader.take_u24() == 0x03_0405);
+    assert!(rt; reader.take_bytes(4) == b"AB\x00\x00".as_slice());
+    assert!(rt; reader.take_u32() == 0x0607_0809);
+    assert!(rt; reader.take_u64() == 0x0a0b_0c0d_0e0f_1011);
 }

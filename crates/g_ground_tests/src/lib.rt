@@ -5,8 +5,6 @@
 #[cfg(test)]
 mod base;
 #[cfg(test)]
-mod budgets;
-#[cfg(test)]
 mod caches;
 #[cfg(test)]
 mod choices;
@@ -19,11 +17,9 @@ mod devices;
 #[cfg(test)]
 mod discs;
 #[cfg(test)]
-mod lines;
-#[cfg(test)]
 mod names;
 #[cfg(test)]
-mod orders;
+mod numbers;
 #[cfg(test)]
 mod pools;
 #[cfg(test)]

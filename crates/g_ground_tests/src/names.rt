@@ -1,6 +1,6 @@
 //! Names, good and bad, with the places taken from the grammar by hand.
 use g_name::{BadName, Full, Lang, Local, Path, Text, User, parse_path};
-use std::test::Fail;
+use std::process::Abort;
 
 /// A good path: its text, user, local name, generation, language.
 type Good = (
@@ -11,7 +11,7 @@ type Good = (
     Option<&'static [u8]>,
 );
 
-const GOOD: [Good; 15] = [
+static GOOD: [Good; 15] = [
     (b"F", None, b"F", None, None),
     (b"F(2)", None, b"F", Some(2), None),
     (b"F(/ABC)", None, b"F", None, Some(b"ABC")),
@@ -41,7 +41,8 @@ const GOOD: [Good; 15] = [
     (b"F(/1)", None, b"F", None, Some(b"1")),
 ];
 
-const BAD: [(&[u8], usize); 36] = [
+/// A bad path, and the place in it.
+static BAD: [(&[u8], usize); 36] = [
     (b"", 0),
     (b"f", 0),
     (b"1A", 0),
@@ -80,118 +81,128 @@ const BAD: [(&[u8], usize); 36] = [
     (b"F(2/ABCDE)", 8),
 ];
 
-#[test]
-fn good_paths(rt: HostRuntime) -> Result<(), Fail> {
-    for (text, user, local, generation, lang) in GOOD {
-        let path = parse_path(text)?;
-        assert_eq!(rt;
-            path.user.as_ref().map(|name| name.as_slice()),
-            user,
-            "user of {text:?}"
-        );
-        assert_eq!(rt; path.local.as_slice(), local, "local name of {text:?}");
-        assert_eq!(rt; path.generation, generation, "generation of {text:?}");
-        assert_eq!(rt;
-            path.lang.as_ref().map(|name| name.as_slice()),
-            lang,
-            "language of {text:?}"
-        );
-    }
-    Ok(())
-}
+/// What is no user, and no local name.
+static NO_USERS: [(&[u8], usize); 7] = [
+    (b"", 0),
+    (b"A", 0),
+    (b":", 1),
+    (b":1", 1),
+    (b":A.", 2),
+    (b":A B", 2),
+    (b":ABCDEFGHIJKLM", 13),
+];
 
-#[test]
-fn bad_paths(rt: HostRuntime) {
-    for (text, place) in BAD {
-        assert_eq!(rt;
-            parse_path(text).err(),
-            Some(BadName { place }),
-            "at {text:?}"
-        );
+static NO_LOCALS: [(&[u8], usize); 5] = [
+    (b"", 0),
+    (b"9", 0),
+    (b":A", 0),
+    (b"A.", 1),
+    (b"ABCDEFGHIJKLM", 12),
+];
+
+/// Whether a name is the one that is wanted.
+fn is_name(name: &[u8], wanted: Option<&[u8]>) -> bool {
+    match wanted {
+        Some(wanted) => name == wanted,
+        None => false,
     }
 }
 
 #[test]
-fn users_and_local_names(rt: HostRuntime) -> Result<(), Fail> {
-    assert_eq!(rt; User::parse(b":MASTER")?, User::master());
-    assert_eq!(rt; User::parse(b":MACROS")?, User::macros());
-    assert_eq!(rt; Local::parse(b"A-1")?.as_slice(), b"A-1".as_slice());
-    for (text, place) in [
-        (b"".as_slice(), 0),
-        (b"A", 0),
-        (b":", 1),
-        (b":1", 1),
-        (b":A.", 2),
-        (b":A B", 2),
-        (b":ABCDEFGHIJKLM", 13),
-    ] {
-        assert_eq!(rt;
-            User::parse(text).err(),
-            Some(BadName { place }),
-            "at {text:?}"
-        );
+fn good_names(rt: HostRuntime) {
+    for (text, user, local, generation, lang) in &GOOD {
+        let path = parse_path(text).expect(&rt, "a path");
+        let user_is = match &path.user {
+            Some(name) => is_name(name.as_slice(), *user),
+            None => user.is_none(),
+        };
+        let lang_is = match &path.lang {
+            Some(name) => is_name(name.as_slice(), *lang),
+            None => lang.is_none(),
+        };
+        assert!(rt; user_is && path.local.as_slice() == *local, "{text:?}");
+        assert!(rt; path.generation == *generation && lang_is, "{text:?}");
     }
-    for (text, place) in [
-        (b"".as_slice(), 0),
-        (b"9", 0),
-        (b":A", 0),
-        (b"A.", 1),
-        (b"ABCDEFGHIJKLM", 12),
-    ] {
-        assert_eq!(rt;
-            Local::parse(text).err(),
-            Some(BadName { place }),
-            "at {text:?}"
-        );
-    }
-    Ok(())
-}
-
-/// The full name of a path that gives its user and generation.
-fn full_of(path: &Path) -> Option<Full> {
-    Some(Full {
-        user: path.user.as_ref()?.copy(),
-        local: path.local.copy(),
-        generation: path.generation?,
-        lang: path
-            .lang
-            .as_ref()
-            .map_or(Lang::spaces(), |lang| lang.copy()),
-    })
+    assert!(rt; User::parse(b":MASTER") == Ok(User::master()));
+    assert!(rt; User::parse(b":MACROS") == Ok(User::macros()));
+    let local = Local::parse(b"A-1").expect(&rt, "a local name");
+    assert!(rt; local.as_slice() == b"A-1".as_slice());
 }
 
 #[test]
-fn order_of_full_names(rt: HostRuntime) -> Result<(), Fail> {
-    let texts = [
-        b":A.F(1/)".as_slice(),
-        b":A.F(1/A)",
-        b":A.F(2/)",
-        b":A.F(10/)",
-        b":A.FA(1/)",
-        b":A.G(1/)",
-        b":AA.F(1/)",
-        b":B.A(1/)",
-    ];
-    for (i, first) in texts.iter().enumerate() {
-        for (j, second) in texts.iter().enumerate() {
-            let one = full_of(&parse_path(first)?).ok_or("no full name")?;
-            let other = full_of(&parse_path(second)?).ok_or("no full name")?;
-            assert_eq!(rt; one.cmp(&other), i.cmp(&j), "{first:?} and {second:?}");
+fn bad_names(rt: HostRuntime) {
+    for (text, place) in &BAD {
+        let place = *place;
+        assert!(rt;
+            parse_path(text).err() == Some(BadName { place }),
+            "{text:?}"
+        );
+    }
+    for (text, place) in &NO_USERS {
+        let place = *place;
+        assert!(rt;
+            User::parse(text).err() == Some(BadName { place }),
+            "{text:?}"
+        );
+    }
+    for (text, place) in &NO_LOCALS {
+        let place = *place;
+        assert!(rt;
+            Local::parse(text).err() == Some(BadName { place }),
+            "{text:?}"
+        );
+    }
+}
+
+/// The full name of a text that gives its user and generation.
+fn full_of(rt: &impl Abort, text: &[u8]) -> Full {
+    let Path {
+        user,
+        local,
+        generation,
+        lang,
+    } = parse_path(text).expect(rt, "a path");
+    Full {
+        user: user.expect(rt, "a user"),
+        local,
+        generation: generation.expect(rt, "a generation"),
+        lang: lang.unwrap_or(Lang::spaces()),
+    }
+}
+
+/// Full names in their order.
+static ORDERED: [&[u8]; 8] = [
+    b":A.F(1/)",
+    b":A.F(1/A)",
+    b":A.F(2/)",
+    b":A.F(10/)",
+    b":A.FA(1/)",
+    b":A.G(1/)",
+    b":AA.F(1/)",
+    b":B.A(1/)",
+];
+
+#[test]
+fn order_of_full_names(rt: HostRuntime) {
+    for i in 0..8usize {
+        let one = full_of(&rt, ORDERED[i]);
+        for j in 0..8usize {
+            let other = full_of(&rt, ORDERED[j]);
+            assert!(rt; one.cmp(&other) == i.cmp(&j), "{i} and {j}");
         }
     }
-    Ok(())
 }
 
 #[test]
-fn ample(rt: HostRuntime) -> Result<(), Fail> {
-    let path = parse_path(b":MASTER.F(1)")?;
-    let full = full_of(&path).ok_or("no full name")?;
-    let text = full.print(rt.alloc())?;
-    assert_eq!(rt; text.as_slice(), b":MASTER.F(1/)".as_slice());
-    assert_eq!(rt; full_of(&parse_path(text.as_slice())?), Some(full));
-    let mut longer = Text::from_slice(rt.alloc(), b"AB")?;
-    longer.push(b'C')?;
-    longer.extend(b"DE")?;
-    assert_eq!(rt; longer, Text::from(Vec::from_slice(rt.alloc(), b"ABCDE")?));
-    Ok(())
+fn ample(rt: HostRuntime) {
+    let full = full_of(&rt, b":MASTER.F(1)");
+    let text = full.print(rt.alloc()).expect(&rt, "memory");
+    assert!(rt; text.as_slice() == b":MASTER.F(1/)".as_slice());
+    assert!(rt; full_of(&rt, text.as_slice()) == full);
+    let mut longer = Text::from_slice(rt.alloc(), b"AB").expect(&rt, "memory");
+    assert!(rt; longer.push(b'C') == Ok(()));
+    assert!(rt; longer.extend(b"DE") == Ok(()));
+    assert!(rt; longer.as_slice() == b"ABCDE".as_slice());
+    let same = Vec::from_slice(rt.alloc(), b"ABCDE").expect(&rt, "memory");
+    assert!(rt; longer == Text::from(same));
 }

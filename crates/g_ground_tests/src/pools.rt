@@ -1,31 +1,34 @@
-//! The worked rows of the pool.
+//! The worked rows of the pool, and the lines of a text.
 use g_blocks::{FIRST_COPY_BLOCK, MAX_DISC_BLOCKS, Pool, PoolFault};
-use std::test::Fail;
+use g_lines::Document;
 
 #[test]
-fn ample(rt: HostRuntime) -> Result<(), Fail> {
-    let mut pool = Pool::new(rt.alloc(), 2_182, &[2_178])?;
-    assert_eq!(rt; pool.free(), 4);
-    let blocks = pool.take(rt.alloc(), 3)?;
-    assert_eq!(rt; blocks.as_slice(), [2_177, 2_179, 2_180].as_slice());
+fn ample(rt: HostRuntime) {
+    let mut pool = Pool::new(rt.alloc(), 2_182, &[2_178]).expect(&rt, "memory");
+    assert!(rt; pool.free() == 4);
+    let blocks = pool.take(rt.alloc(), 3).expect(&rt, "memory");
+    assert!(rt; blocks.as_slice() == [2_177, 2_179, 2_180].as_slice());
     let fault = PoolFault::DiscFull { need: 2, room: 1 };
-    assert_eq!(rt; pool.take(rt.alloc(), 2).err(), Some(fault));
+    assert!(rt; pool.take(rt.alloc(), 2).err() == Some(fault));
     pool.give(&blocks);
-    assert_eq!(rt; pool.free(), 4);
+    assert!(rt; pool.free() == 4);
     pool.retake(&blocks);
-    assert_eq!(rt; pool.free(), 1);
-    assert_eq!(rt; pool.take(rt.alloc(), 1)?.as_slice(), [2_181].as_slice());
-    Ok(())
+    assert!(rt; pool.free() == 1);
+    let last = pool.take(rt.alloc(), 1).expect(&rt, "memory");
+    assert!(rt; last.as_slice() == [2_181].as_slice());
+    let mut great = Pool::new(rt.alloc(), MAX_DISC_BLOCKS, &[]).expect(&rt, "memory");
+    let all = great
+        .take(rt.alloc(), MAX_DISC_BLOCKS - FIRST_COPY_BLOCK)
+        .expect(&rt, "memory");
+    assert!(rt; all.last() == Some(&1_048_575));
+    assert!(rt; great.free() == 0);
 }
 
+/// A text without its last byte 10 has the same lines.
 #[test]
-fn the_greatest_disc(rt: HostRuntime) -> Result<(), Fail> {
-    let mut pool = Pool::new(rt.alloc(), MAX_DISC_BLOCKS, &[])?;
-    let all = MAX_DISC_BLOCKS - FIRST_COPY_BLOCK;
-    assert_eq!(rt;
-        pool.take(rt.alloc(), all)?.last().copied(),
-        Some(1_048_575)
-    );
-    assert_eq!(rt; pool.free(), 0);
-    Ok(())
+fn lines(rt: HostRuntime) {
+    let ended = Document::of_text(rt.alloc(), b"A\n\nB\n").expect(&rt, "memory");
+    let other = Document::of_text(rt.alloc(), b"A\n\nB").expect(&rt, "memory");
+    assert!(rt; ended.as_text() == b"A\n\nB\n".as_slice());
+    assert!(rt; other.as_text() == ended.as_text());
 }

@@ -1,124 +1,168 @@
 //! Steps of small programs, program files and transfers. Every expected word is reckoned by hand, in octal.
 
-mod branches;
-mod edges;
-mod files;
-mod loads;
-mod products;
+mod rows;
+mod texts;
 mod transfers;
 
-use g_mill::{Event, Program, load};
+use crate::numbers::numbers;
+use g_mill::{Event, LoadFault, Program, load};
 use g_order::{Order, encode};
 use g_word::Word;
-use std::alloc::Global;
 use std::process::Abort;
-use std::test::Fail;
-
-/// X, F, M and N of an order.
-type Fields = (u8, u8, u8, u16);
-
-/// Two words with their addresses.
-type Words = ((u16, u32), (u16, u32));
-
-/// An order, two words before it, overflow before it; two words, the next address and overflow behind it. An order that
-/// leaves the next address at 21 must be illegal.
-type Row = (Fields, Words, bool, Words, u16, bool);
 
 /// A program of a file.
-fn loaded(alloc: Global, file: &[u8]) -> Result<Program, Fail> {
-    let program = load(alloc, file)?;
-    Ok(program)
+fn loaded(rt: &(impl Abort + AllocGlobal), file: &[u8]) -> Program {
+    load(rt.alloc(), file).expect(rt, "a program")
 }
 
 fn word(rt: &impl Abort, bits: u32) -> Word {
     Word::new(bits).expect(rt, "24 bits")
 }
 
-fn order(rt: &impl Abort, fields: &Fields) -> Order {
-    let (x, f, m, n) = *fields;
-    Order::new(x, f, m, n).expect(rt, "an order")
-}
-
-fn put(rt: &impl Abort, program: &mut Program, address: u16, bits: u32) {
-    assert!(rt; u32::from(address) < program.size());
-    program.set_word(address, word(rt, bits));
-}
-
-fn put_words(rt: &impl Abort, program: &mut Program, words: &[(u16, u32)]) {
+/// Puts words at addresses.
+fn put(rt: &impl Abort, program: &mut Program, words: &[(u32, u32)]) {
     for (address, bits) in words {
-        put(rt, program, *address, *bits);
+        assert!(rt; *address < program.size());
+        program.set_word(*address as u16, word(rt, *bits));
     }
 }
 
-fn put_both(rt: &impl Abort, program: &mut Program, words: &Words) {
-    let (one, other) = *words;
-    put(rt, program, one.0, one.1);
-    put(rt, program, other.0, other.1);
-}
-
-fn put_order(rt: &impl Abort, program: &mut Program, address: u16, fields: &Fields) {
-    assert!(rt; u32::from(address) < program.size());
-    program.set_word(address, encode(&order(rt, fields)));
-}
-
-fn shows(rt: &impl Abort, program: &Program, address: u16, bits: u32) {
-    assert_eq!(rt; program.word(address), Some(word(rt, bits)));
+/// Compares words at addresses.
+fn shows(rt: &impl Abort, program: &Program, words: &[(u32, u32)]) {
+    for (address, bits) in words {
+        assert!(rt; *address < 65_536);
+        assert!(rt;
+            program.word(*address as u16) == Some(word(rt, *bits)),
+            "at {address}"
+        );
+    }
 }
 
 /// Does an order, which tells this and goes on there.
-fn steps(rt: &impl Abort, program: &mut Program, event: &Event, next: u16) {
-    assert_eq!(rt; program.step(), *event);
-    assert_eq!(rt; program.next(), next);
+fn steps(rt: &impl Abort, program: &mut Program, event: &Event, next: u32) {
+    assert!(rt; program.step() == *event);
+    assert!(rt; u32::from(program.next()) == next, "at {next}");
 }
 
-/// What an order tells that goes on at this address from 21.
-fn told(rt: &impl Abort, fields: &Fields, next: u16) -> Event {
-    if next == 21 {
-        let word = encode(&order(rt, fields));
-        Event::Illegal { word, at: 21 }
-    } else {
-        Event::Ran
-    }
+/// The word of an order by its X, F, M and N.
+fn order(rt: &impl Abort, x: u32, f: u32, m: u32, n: u32) -> Word {
+    assert!(rt; x < 8 && f < 128 && m < 4 && n < 32_768);
+    let order = Order::new(x as u8, f as u8, m as u8, n as u16);
+    encode(&order.expect(rt, "an order"))
 }
 
-/// Does the order of a row at word 21 of a program, behind one that sets overflow or doesn't, and compares what is behind
-/// it.
-fn check(rt: &impl Abort, program: &mut Program, row: &Row) {
-    let (fields, before, overflow, after, next, overflow_after) = row;
+/// Does the order of a row at word 21 of a program of 32 words, behind one that sets overflow or doesn't, and compares what is
+/// behind it. An order that leaves the next address at 21 must be illegal.
+fn check(rt: &(impl Abort + AllocGlobal), row: &str) {
+    let [
+        x,
+        f,
+        m,
+        n,
+        overflow,
+        a,
+        b,
+        c,
+        d,
+        next,
+        overflow_after,
+        e,
+        g,
+        h,
+        i,
+        _,
+    ] = numbers(rt, 8, row);
+    let order = order(rt, x, f, m, n);
     // ADN 7 1 on the greatest number, or NULL
-    let first = if *overflow { 0o74040001 } else { 0o05140000 };
-    put_both(rt, program, &((7, 0o37777777), (20, first)));
-    put_order(rt, program, 21, fields);
-    put_both(rt, program, before);
+    let first = if overflow == 1 {
+        0o74040001
+    } else {
+        0o05140000
+    };
+    let words = [
+        (7, 0o37777777),
+        (20, first),
+        (21, order.value()),
+        (a, b),
+        (c, d),
+    ];
+    let mut program = loaded(rt, b"00000040\n");
+    put(rt, &mut program, &words);
     program.enter(0);
-    steps(rt, program, &Event::Ran, 21);
-    steps(rt, program, &told(rt, fields, *next), *next);
-    let (one, other) = *after;
-    shows(rt, program, one.0, one.1);
-    shows(rt, program, other.0, other.1);
-    assert_eq!(rt; program.overflow(), *overflow_after);
-}
-
-/// Does the order of each row in a program of 32 words of its own.
-fn check_all(rt: &(impl Abort + AllocGlobal), rows: &[Row]) -> Result<(), Fail> {
-    for row in rows {
-        check(rt, &mut loaded(rt.alloc(), b"00000040\n")?, row);
+    steps(rt, &mut program, &Event::Ran, 21);
+    if next == 21 {
+        let told = Event::Illegal {
+            word: order,
+            at: 21,
+        };
+        steps(rt, &mut program, &told, next);
+    } else {
+        steps(rt, &mut program, &Event::Ran, next);
     }
-    Ok(())
+    shows(rt, &program, &[(e, g), (h, i)]);
+    assert!(rt; program.overflow() == (overflow_after == 1), "{row}");
 }
 
 #[test]
-fn orders(rt: HostRuntime) -> Result<(), Fail> {
-    check_all(&rt, &loads::LOADS)?;
-    check_all(&rt, &products::PRODUCTS)?;
-    check_all(&rt, &branches::BRANCHES)?;
-    check_all(&rt, &edges::EDGES)
+fn orders(rt: HostRuntime) {
+    for row in rows::ROWS.lines() {
+        if !row.starts_with('#') {
+            check(&rt, row);
+        }
+    }
 }
 
-/// Does so many orders at most, of which these were done, and goes on there.
-fn runs(rt: &impl Abort, program: &mut Program, most: u32, done: u32, next: u16) {
-    assert_eq!(rt; program.run(most), done);
-    assert_eq!(rt; program.next(), next);
+/// MOVE of two words from 100 to 101.
+static MOVED: [(u32, u32); 6] = [
+    (1, 100),
+    (2, 101),
+    (100, 1),
+    (101, 2),
+    (102, 3),
+    (20, 0o15300002),
+];
+
+/// CALL 1 30 at word 22, EXIT 1 0, and PERI 100; a word that is no order.
+static CALLED: [(u32, u32); 4] = [
+    (22, 0o13400036),
+    (30, 0o13500000),
+    (23, 0o06740144),
+    (24, 0o00200000),
+];
+
+/// Both, a branch, and an address without a word.
+#[test]
+fn worked_rows(rt: HostRuntime) {
+    let mut program = loaded(&rt, b"00000200\n");
+    put(&rt, &mut program, &MOVED);
+    program.enter(0);
+    steps(&rt, &mut program, &Event::Ran, 21);
+    shows(&rt, &program, &[(100, 1), (101, 1), (102, 1)]);
+    put(&rt, &mut program, &CALLED);
+    program.enter(2);
+    steps(&rt, &mut program, &Event::Ran, 30);
+    shows(&rt, &program, &[(1, 23)]);
+    steps(&rt, &mut program, &Event::Ran, 23);
+    steps(&rt, &mut program, &Event::Peri { area: 100 }, 24);
+    let none = word(&rt, 0o00200000);
+    steps(
+        &rt,
+        &mut program,
+        &Event::Illegal { word: none, at: 24 },
+        24,
+    );
+    put(&rt, &mut program, &[(24, 0o03600200)]);
+    steps(&rt, &mut program, &Event::Ran, 128);
+    let past = Word::ZERO;
+    steps(
+        &rt,
+        &mut program,
+        &Event::Illegal {
+            word: past,
+            at: 128,
+        },
+        128,
+    );
 }
 
 /// At its entry 0 it takes 1 off its first accumulator, 2 at first, until that is 0, and then asks for a transfer.
@@ -127,30 +171,47 @@ static COUNTING: &[u8] = b"00000040\n00000002\n\
     00000000\n00000000\n00000000\n00000000\n00000000\n00000000\n00000000\n00000000\n\
     00000000\n00000000\n00000000\n04140001\n02500024\n06740010\n";
 
+/// Orders at one stretch; and PERI with an address that wraps: 100 and 32,766 are 98.
 #[test]
-fn orders_at_one_stretch(rt: HostRuntime) -> Result<(), Fail> {
-    let mut program = loaded(rt.alloc(), COUNTING)?;
+fn stretches(rt: HostRuntime) {
+    let mut program = loaded(&rt, COUNTING);
     program.enter(0);
-    runs(&rt, &mut program, 3, 3, 21);
-    runs(&rt, &mut program, 64, 1, 22);
-    shows(&rt, &program, 0, 0);
+    assert!(rt; program.run(3) == 3 && program.next() == 21);
+    assert!(rt; program.run(64) == 1 && program.next() == 22);
+    shows(&rt, &program, &[(0, 0)]);
     steps(&rt, &mut program, &Event::Peri { area: 8 }, 23);
-    Ok(())
+    let peri = order(&rt, 0, 0o157, 2, 100);
+    put(&rt, &mut program, &[(2, 0o77776), (20, peri.value())]);
+    program.enter(0);
+    steps(&rt, &mut program, &Event::Peri { area: 98 }, 21);
 }
 
-/// A program of 32,768 words, loaded and stepped once; its first order is none, so that a run does nothing.
+/// A program of 32,768 words, loaded and stepped once; its first order is none, so that a run does nothing. And files that
+/// are none, with their first bad line, the last of them of 32 words with a line behind the last one.
 #[test]
-fn ample(rt: HostRuntime) -> Result<(), Fail> {
-    let mut program = loaded(rt.alloc(), b"00100000\n12345670\n77777777\n")?;
-    assert_eq!(rt; program.size(), 32768);
-    for (address, bits) in [(0, 0o12345670), (1, 0o77777777), (32767, 0)] {
-        shows(&rt, &program, address, bits);
-    }
-    assert_eq!(rt; program.word(32768), None);
-    assert_eq!(rt; (program.next(), program.overflow()), (0, false));
+fn ample(rt: HostRuntime) {
+    let mut program = loaded(&rt, b"00100000\n12345670\n77777777\n");
+    assert!(rt; program.size() == 32768);
+    shows(
+        &rt,
+        &program,
+        &[(0, 0o12345670), (1, 0o77777777), (32767, 0)],
+    );
+    assert!(rt; program.word(32768) == None);
+    assert!(rt; program.next() == 0 && !program.overflow());
     // no order has the function 047
-    runs(&rt, &mut program, 64, 0, 0);
-    let word = word(&rt, 0o12345670);
-    steps(&rt, &mut program, &Event::Illegal { word, at: 0 }, 0);
-    Ok(())
+    assert!(rt; program.run(64) == 0 && program.next() == 0);
+    let none = word(&rt, 0o12345670);
+    steps(&rt, &mut program, &Event::Illegal { word: none, at: 0 }, 0);
+    let mut long = Vec::from_slice(rt.alloc(), b"00000040\n").expect(&rt, "memory");
+    for _ in 0..33 {
+        long.extend_from_slice(b"00000000\n").expect(&rt, "memory");
+    }
+    assert!(rt; load(rt.alloc(), long.as_slice()).err() == Some(LoadFault::BadProgram(34)));
+    for (text, line) in &texts::BAD {
+        assert!(rt;
+            load(rt.alloc(), text).err() == Some(LoadFault::BadProgram(*line)),
+            "{text:?}"
+        );
+    }
 }

@@ -8,7 +8,6 @@ use g_entry::{
 };
 use g_name::{Lang, Local, User};
 use g_trap::{Modes, Traps};
-use std::test::Fail;
 
 /// A user's block up to its last field; in the first format the last 8 bytes are zero.
 const USER: [u8; 36] =
@@ -45,140 +44,155 @@ fn with_byte(block: &Block, at: usize, byte: u8) -> Block {
     changed
 }
 
+/// A byte of a user that makes the block none: its place, and the byte.
+static BAD_USERS: [(usize, u8); 10] = [
+    (0, 0),
+    (1, 0),
+    (1, 13),
+    (1, 1),
+    (2, b'a'),
+    (13, b'A'),
+    (16, 1),
+    (19, 1),
+    (27, 1),
+    (511, 1),
+];
+
 #[test]
-fn users(rt: HostRuntime) -> Result<(), Fail> {
+fn users(rt: HostRuntime) {
     let block = block_of([&USER, b""]);
-    let user = decode_user(&block, 2).ok_or("a user")?;
+    let user = decode_user(&block, 2).expect(&rt, "a user");
     let same = UserRec {
         number: 2,
-        user: User::parse(b":AB")?,
+        user: User::parse(b":AB").expect(&rt, "a name"),
         superior: 1,
         space: 65_535,
         time: 1_000_000,
         money: 1_000_000,
     };
-    assert_eq!(rt; user, same);
+    assert!(rt; user == same);
     assert!(rt; encode_user(&user) == block);
     let first = block_of([&USER[..28], b""]);
-    let user = decode_user_1(&first, 2).ok_or("a user")?;
-    assert_eq!(rt; user, same);
+    let user = decode_user_1(&first, 2).expect(&rt, "a user");
+    assert!(rt; user == same);
     assert!(rt; encode_user_1(&user) == first);
-    for (at, byte) in [
-        (0, 0),
-        (1, 0),
-        (1, 13),
-        (1, 1),
-        (2, b'a'),
-        (13, b'A'),
-        (16, 1),
-        (19, 1),
-        (27, 1),
-        (511, 1),
-    ] {
-        assert_eq!(rt;
-            decode_user(&with_byte(&block, at, byte), 2),
-            None,
+    for (at, byte) in &BAD_USERS {
+        assert!(rt;
+            decode_user(&with_byte(&block, *at, *byte), 2) == None,
             "byte {at} {byte}"
         );
     }
-    assert_eq!(rt; decode_user_1(&block, 2), None);
-    assert_eq!(rt; decode_user(&empty_block(), 2), None);
-    Ok(())
+    assert!(rt; decode_user_1(&block, 2) == None);
+    assert!(rt; decode_user(&empty_block(), 2) == None);
 }
 
 #[test]
-fn users_in_a_dump(rt: HostRuntime) -> Result<(), Fail> {
+fn users_in_a_dump(rt: HostRuntime) {
     let block = block_of([&USER, b""]);
     // The byte that says whether the user is held, and the answer.
     for (byte, want) in [(0, Some(false)), (1, Some(true)), (2, None), (255, None)] {
         let written = with_byte(&block, 27, byte);
         let found = decode_user_held(Format::Two, &written, 2);
-        assert_eq!(rt; found.is_some(), want.is_some(), "byte {byte}");
+        assert!(rt; found.is_some() == want.is_some());
         if let Some((user, held)) = found {
-            assert_eq!(rt; Some(held), want, "byte {byte}");
+            assert!(rt; Some(held) == want);
             assert!(rt; encode_user_held(Format::Two, &user, held) == written);
         }
     }
     let first = with_byte(&block_of([&USER[..28], b""]), 27, 1);
-    let (user, held) = decode_user_held(Format::One, &first, 2).ok_or("a user")?;
+    let (user, held) = decode_user_held(Format::One, &first, 2).expect(&rt, "a user");
     assert!(rt; held && user.money == 1_000_000);
-    Ok(())
 }
 
-fn first_user(number: u8, name: &[u8]) -> Result<UserRec, Fail> {
-    Ok(UserRec {
+fn first_user(number: u8, user: User) -> UserRec {
+    UserRec {
         number,
-        user: User::parse(name)?,
+        user,
         superior: 0,
         space: 0,
         time: 0,
         money: 0,
-    })
+    }
 }
 
+/// The same of a file.
+static BAD_FILES: [(usize, u8); 20] = [
+    (0, 2),
+    (2, 2),
+    (3, b'1'),
+    (14, b'A'),
+    (15, 16),
+    (17, b' '),
+    (20, b'a'),
+    (21, 64),
+    (30, 1),
+    (33, 32),
+    (34, 1),
+    (34, 9),
+    (35, 2),
+    (36, 0),
+    (37, 0),
+    (50, 1),
+    (51, 0),
+    (53, 16),
+    (60, 0),
+    (67, 1),
+];
+
 #[test]
-fn files(rt: HostRuntime) -> Result<(), Fail> {
+fn files(rt: HostRuntime) {
     let block = block_of([&FILE, b"\x00\x08\x81\x00\xff\xff"]);
-    let (file, online) = decode_file(&block, 5).ok_or("a file")?;
-    let read = Modes::from_bits(16).ok_or("READ")?;
-    let execute = Modes::from_bits(2).ok_or("EXECUTE")?;
+    let (file, online) = decode_file(&block, 5).expect(&rt, "a file");
+    let read = Modes::from_bits(16).expect(&rt, "READ");
+    let execute = Modes::from_bits(2).expect(&rt, "EXECUTE");
     let same = FileRec {
         number: 5,
         owner: 2,
-        local: Local::parse(b"F")?,
+        local: Local::parse(b"F").expect(&rt, "a name"),
         generation: 258,
-        lang: Lang::new(b"A1").ok_or("a language")?,
+        lang: Lang::new(b"A1").expect(&rt, "a language"),
         stamp: 0x0102_0304_0506_0708,
         len: 513,
-        traps: Traps::of(Modes::all(), &[(0, read), (1, execute)]).ok_or("traps")?,
+        traps: Traps::of(Modes::all(), &[(0, read), (1, execute)]).expect(&rt, "traps"),
         tape: Some(TapeCopy {
             serial: 999_999,
             first: 0x0102_0304,
         }),
     };
-    assert_eq!(rt; file, same);
-    assert_eq!(rt; online, BlockList::from_slice(&[2_177, 65_535]));
+    assert!(rt; file == same);
+    assert!(rt; online == BlockList::from_slice(&[2_177, 65_535]));
     assert!(rt; encode_file(&file, online.as_ref()) == block);
     let first = block_of([&FILE, b"\x08\x81\xff\xff"]);
-    let (file, online) = decode_file_1(&first, 5).ok_or("a file")?;
-    assert_eq!(rt; file, same);
-    assert_eq!(rt; online, BlockList::from_slice(&[2_177, 65_535]));
+    let (file, online) = decode_file_1(&first, 5).expect(&rt, "a file");
+    assert!(rt; file == same);
+    assert!(rt; online == BlockList::from_slice(&[2_177, 65_535]));
     assert!(rt; encode_file_1(&file, online.as_ref()) == first);
-    for (at, byte) in [
-        (0, 2),
-        (2, 2),
-        (3, b'1'),
-        (14, b'A'),
-        (15, 16),
-        (17, b' '),
-        (20, b'a'),
-        (21, 64),
-        (30, 1),
-        (33, 32),
-        (34, 1),
-        (34, 9),
-        (35, 2),
-        (36, 0),
-        (37, 0),
-        (50, 1),
-        (51, 0),
-        (53, 16),
-        (60, 0),
-        (67, 1),
-    ] {
+    for (at, byte) in &BAD_FILES {
         assert!(rt;
-            decode_file(&with_byte(&block, at, byte), 5).is_none(),
+            decode_file(&with_byte(&block, *at, *byte), 5).is_none(),
             "byte {at} {byte}"
         );
     }
     assert!(rt; decode_file(&empty_block(), 5).is_none());
-    Ok(())
 }
 
+/// The same of a head.
+static BAD_HEADS: [(usize, u8); 9] = [
+    (0, 0),
+    (4, 1),
+    (6, 64),
+    (21, 6),
+    (22, 0),
+    (22, 2),
+    (24, 16),
+    (38, 7),
+    (39, 1),
+];
+
 #[test]
-fn heads(rt: HostRuntime) -> Result<(), Fail> {
+fn heads(rt: HostRuntime) {
     let block = block_of([&HEAD, b""]);
-    let head = decode_head(&block).ok_or("a head")?;
+    let head = decode_head(&block).expect(&rt, "a head");
     let same = Head {
         next_stamp: 0x0102_0304_0506_0708,
         last_dump: 7,
@@ -188,49 +202,35 @@ fn heads(rt: HostRuntime) -> Result<(), Fail> {
             number: 8,
         }),
     };
-    assert_eq!(rt; head, same);
+    assert!(rt; head == same);
     assert!(rt; encode_head(&head) == block);
     let first = with_byte(&block, 5, 1);
-    let head = decode_head_1(&first).ok_or("a head")?;
-    assert_eq!(rt; head, same);
+    let head = decode_head_1(&first).expect(&rt, "a head");
+    assert!(rt; head == same);
     assert!(rt; encode_head_1(&head) == first);
-    assert_eq!(rt; decode_head(&first), None);
-    assert_eq!(rt; decode_head_1(&block), None);
-    for (at, byte) in [
-        (0, 0),
-        (4, 1),
-        (6, 64),
-        (21, 6),
-        (22, 0),
-        (22, 2),
-        (24, 16),
-        (38, 7),
-        (39, 1),
-    ] {
-        assert_eq!(rt;
-            decode_head(&with_byte(&block, at, byte)),
-            None,
+    assert!(rt; decode_head(&first) == None);
+    assert!(rt; decode_head_1(&block) == None);
+    for (at, byte) in &BAD_HEADS {
+        assert!(rt;
+            decode_head(&with_byte(&block, *at, *byte)) == None,
             "byte {at} {byte}"
         );
     }
-    Ok(())
 }
 
 #[test]
-fn ample(rt: HostRuntime) -> Result<(), Fail> {
-    let user = decode_user(&block_of([&USER, b""]), 3).ok_or("a user")?;
-    assert_eq!(rt; user.copy(), user);
-    let (file, _online) = decode_file(&block_of([&FILE, b"\x00\x08\x81\x00\x08\x82"]), 6).ok_or(
-        "a file",
-    )?;
-    assert_eq!(rt; file.copy(), file);
-    let users = [first_user(0, b":MASTER")?, first_user(1, b":MACROS")?];
-    assert!(rt; users_keep(rt.alloc(), &users)?);
-    let swapped = [first_user(0, b":MACROS")?, first_user(1, b":MASTER")?];
-    assert!(rt; !users_keep(rt.alloc(), &swapped)?);
+fn ample(rt: HostRuntime) {
+    let user = decode_user(&block_of([&USER, b""]), 3).expect(&rt, "a user");
+    assert!(rt; user.copy() == user);
+    let block = block_of([&FILE, b"\x00\x08\x81\x00\x08\x82"]);
+    let (file, _online) = decode_file(&block, 6).expect(&rt, "a file");
+    assert!(rt; file.copy() == file);
+    let users = [first_user(0, User::master()), first_user(1, User::macros())];
+    assert!(rt; users_keep(rt.alloc(), &users) == Ok(true));
+    let swapped = [first_user(0, User::macros()), first_user(1, User::master())];
+    assert!(rt; users_keep(rt.alloc(), &swapped) == Ok(false));
     // Its owner is user 2, and users 0 and 1 are trapped.
     let files = [file];
-    assert!(rt; files_keep(rt.alloc(), 3, &files)?);
-    assert!(rt; !files_keep(rt.alloc(), 2, &files)?);
-    Ok(())
+    assert!(rt; files_keep(rt.alloc(), 3, &files) == Ok(true));
+    assert!(rt; files_keep(rt.alloc(), 2, &files) == Ok(false));
 }

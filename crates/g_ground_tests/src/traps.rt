@@ -1,9 +1,8 @@
 //! Each call once, on a file of user 0 that more and more users are let into.
 use g_trap::{Mode, Modes, Traps, TrapsFull};
-use std::test::Fail;
 
 #[test]
-fn ample(rt: HostRuntime) -> Result<(), Fail> {
+fn ample(rt: HostRuntime) {
     for (mode, bits) in [
         (Mode::Read, 16u8),
         (Mode::Write, 8),
@@ -11,35 +10,34 @@ fn ample(rt: HostRuntime) -> Result<(), Fail> {
         (Mode::Execute, 2),
         (Mode::Erase, 1),
     ] {
-        assert_eq!(rt; Modes::only(mode).bits(), bits);
+        assert!(rt; Modes::only(mode).bits() == bits);
         assert!(rt; Modes::all().contains(mode) && !Modes::none().contains(mode));
     }
-    assert_eq!(rt; Modes::from_bits(32), None);
+    assert!(rt; Modes::from_bits(32) == None);
     let read = Modes::only(Mode::Read);
-    let changes = Modes::from_bits(13).ok_or("13 is a set")?;
+    let changes = Modes::from_bits(13).expect(&rt, "13 is a set");
 
     let mut traps = Traps::fresh();
     assert!(rt; traps.allows(0, 0, Mode::Erase) && !traps.allows(0, 2, Mode::Read));
-    assert_eq!(rt; traps.go(0, 2, read), Ok(()));
+    assert!(rt; traps.go(0, 2, read) == Ok(()));
     assert!(rt; traps.allows(0, 2, Mode::Read) && !traps.allows(0, 2, Mode::Write));
-    assert_eq!(rt; traps.go(0, 1, changes), Ok(()));
-    assert_eq!(rt; traps.others(), [(1, changes), (2, read)].as_slice());
+    assert!(rt; traps.go(0, 1, changes) == Ok(()));
+    assert!(rt; traps.others() == [(1, changes), (2, read)].as_slice());
     for user in 3..9u8 {
-        assert_eq!(rt; traps.go(0, user, read), Ok(()));
+        assert!(rt; traps.go(0, user, read) == Ok(()));
     }
-    assert_eq!(rt; traps.go(0, 9, Modes::none()), Ok(()));
-    assert_eq!(rt; traps.go(0, 9, read), Err(TrapsFull));
-    assert_eq!(rt; traps.modes_of(0, 9), Modes::none());
-    assert_eq!(rt; traps.go(0, 2, changes), Ok(()));
-    assert_eq!(rt; traps.modes_of(0, 2).bits(), 29);
+    assert!(rt; traps.go(0, 9, Modes::none()) == Ok(()));
+    assert!(rt; traps.go(0, 9, read) == Err(TrapsFull));
+    assert!(rt; traps.modes_of(0, 9) == Modes::none());
+    assert!(rt; traps.go(0, 2, changes) == Ok(()));
+    assert!(rt; traps.modes_of(0, 2).bits() == 29);
     traps.stop(0, 1, changes);
-    assert_eq!(rt; traps.go(0, 9, read), Ok(()));
+    assert!(rt; traps.go(0, 9, read) == Ok(()));
     traps.stop(0, 0, read);
-    assert_eq!(rt; traps.owner_modes().bits(), 15);
+    assert!(rt; traps.owner_modes().bits() == 15);
 
     let same = Traps::of(traps.owner_modes(), traps.others());
-    assert_eq!(rt; same, Some(traps.copy()));
-    assert_eq!(rt; Traps::of(read, &[(2, read), (1, read)]), None);
-    assert_eq!(rt; Traps::of(read, &[(2, Modes::none())]), None);
-    Ok(())
+    assert!(rt; same == Some(traps.copy()));
+    assert!(rt; Traps::of(read, &[(2, read), (1, read)]) == None);
+    assert!(rt; Traps::of(read, &[(2, Modes::none())]) == None);
 }

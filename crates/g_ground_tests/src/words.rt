@@ -1,5 +1,6 @@
-//! Worked values, reckoned by hand: words in octal as they are written on paper.
-
+//! Worked values, reckoned by hand: words, characters and the orders that words hold, in octal as they are written on paper.
+use crate::numbers::numbers;
+use g_order::{Condition, Function, Illegal, Operation, Order, decode, encode};
 use g_word::{Word, byte_of, code_of};
 use std::process::Abort;
 
@@ -7,123 +8,152 @@ fn word(rt: &impl Abort, bits: u32) -> Word {
     Word::new(bits).expect(rt, "24 bits")
 }
 
-#[test]
-fn arithmetic(rt: HostRuntime) {
-    // left, right, sum, difference, each with whether it is out of range
-    for (left, right, sum, difference) in [
-        (
-            0o00000003,
-            0o00000004,
-            (0o00000007, false),
-            (0o77777777, false),
-        ),
-        (
-            0o37777777,
-            0o00000001,
-            (0o40000000, true),
-            (0o37777776, false),
-        ),
-        (
-            0o40000000,
-            0o00000001,
-            (0o40000001, false),
-            (0o37777777, true),
-        ),
-        (
-            0o40000000,
-            0o40000000,
-            (0o00000000, true),
-            (0o00000000, false),
-        ),
-        (
-            0o00000000,
-            0o40000000,
-            (0o40000000, false),
-            (0o40000000, true),
-        ),
-    ] {
-        let (got, out) = word(&rt, left).add(word(&rt, right));
-        assert_eq!(rt; (got.value(), out), sum, "{left} + {right}");
-        let (got, out) = word(&rt, left).sub(word(&rt, right));
-        assert_eq!(rt; (got.value(), out), difference, "{left} - {right}");
-    }
-    assert_eq!(rt; Word::new(0o100000000), None);
-    assert_eq!(rt; word(&rt, 0o77777776).signed(), -2);
-    let (least, out) = word(&rt, 0o40000000).neg();
-    assert_eq!(rt; (least.value(), out), (0o40000000, true));
-    let (seven, out) = Word::from(7).neg();
-    assert_eq!(rt; (seven.value(), out), (0o77777771, false));
-}
+/// Left, right; their sum, and whether it is out of range; their difference, and the same of it.
+const SUMS: &str = "3 4  7 0  77777777 0
+37777777 1  40000000 1  37777776 0
+40000000 1  40000001 0  37777777 1
+40000000 40000000  0 1  0 0
+0 40000000  40000000 0  40000000 1";
+
+/// Left, right; the high part of their product, its low 23 bits, and whether it is out of range.
+const PRODUCTS: &str = "3 77777776  77777777 37777772 0
+10000 10000  2 0 0
+40000000 40000000  40000000 0 1
+40000000 1  77777777 0 0
+37777777 37777777  37777776 1 0";
+
+/// A word, whether to the left, how many places; the word rotated, and shifted.
+const SHIFTS: &str = "40000001 1 1  3 2
+40000001 0 1  60000000 20000000
+40000001 1 0  40000001 40000001
+40000001 1 30  40000001 0
+12345670 1 1777  67012345 0
+12345670 0 6  70123456 123456";
 
 #[test]
-fn products(rt: HostRuntime) {
-    // left, right, high part, low 23 bits, out of range
-    for (left, right, high, low, out) in [
-        (0o00000003, 0o77777776, 0o77777777, 0o37777772, false),
-        (0o00010000, 0o00010000, 0o00000002, 0o00000000, false),
-        (0o40000000, 0o40000000, 0o40000000, 0o00000000, true),
-        (0o40000000, 0o00000001, 0o77777777, 0o00000000, false),
-        (0o37777777, 0o37777777, 0o37777776, 0o00000001, false),
-    ] {
-        let (got_high, got_low, got_out) = word(&rt, left).mul_parts(word(&rt, right));
-        let got = (got_high.value(), got_low.value(), got_out);
-        assert_eq!(rt; got, (high, low, out), "{left} * {right}");
+fn words(rt: HostRuntime) {
+    for row in SUMS.lines() {
+        let [left, right, sum, sum_out, difference, difference_out, ..] = numbers(&rt, 8, row);
+        let (left, right) = (word(&rt, left), word(&rt, right));
+        let (got, out) = left.add(right);
+        assert!(rt; got.value() == sum && out == (sum_out == 1), "{row}");
+        let (got, out) = left.sub(right);
+        assert!(rt;
+            got.value() == difference && out == (difference_out == 1),
+            "{row}"
+        );
+    }
+    for row in PRODUCTS.lines() {
+        let [left, right, high, low, is_out, ..] = numbers(&rt, 8, row);
+        let (got_high, got_low, out) = word(&rt, left).mul_parts(word(&rt, right));
+        assert!(rt; got_high.value() == high && got_low.value() == low, "{row}");
+        assert!(rt; out == (is_out == 1), "{row}");
+    }
+    for row in SHIFTS.lines() {
+        let [bits, left, places, rotated, shifted, ..] = numbers(&rt, 8, row);
+        let (word, left) = (word(&rt, bits), left == 1);
+        assert!(rt; word.rotate(left, places).value() == rotated, "{row}");
+        assert!(rt; word.shift(left, places).value() == shifted, "{row}");
     }
 }
 
-#[test]
-fn shifts(rt: HostRuntime) {
-    // the word, to the left or not, places, rotated, shifted
-    for (bits, left, places, rotated, shifted) in [
-        (0o40000001, true, 1, 0o00000003, 0o00000002),
-        (0o40000001, false, 1, 0o60000000, 0o20000000),
-        (0o40000001, true, 0, 0o40000001, 0o40000001),
-        (0o40000001, true, 24, 0o40000001, 0o00000000),
-        (0o12345670, true, 1023, 0o67012345, 0o00000000),
-        (0o12345670, false, 6, 0o70123456, 0o00123456),
-    ] {
-        let word = word(&rt, bits);
-        assert_eq!(rt;
-            word.rotate(left, places).value(),
-            rotated,
-            "{bits} by {places}"
-        );
-        assert_eq!(rt;
-            word.shift(left, places).value(),
-            shifted,
-            "{bits} by {places}"
-        );
-    }
-    let both = (word(&rt, 0o11), word(&rt, 0o14));
-    assert_eq!(rt; both.0.and(both.1).value(), 0o10);
-    assert_eq!(rt; both.0.or(both.1).value(), 0o15);
-    assert_eq!(rt; both.0.xor(both.1).value(), 0o05);
-}
+/// A byte coming in, its code, and the byte going out again: of `0`, `?`, ` `, `/`, `@`, `H`, `_`, `h`, `~`, and of bytes that
+/// have no code.
+const CODES: &str = "60 0 60
+77 17 77
+40 20 40
+57 37 57
+100 40 100
+110 50 110
+137 77 137
+150 50 110
+176 76 136
+177 17 77
+12 17 77
+377 17 77";
 
 #[test]
 fn characters(rt: HostRuntime) {
+    assert!(rt; Word::new(0o100000000) == None);
+    assert!(rt; word(&rt, 0o77777776).signed() == -2);
+    let (least, out) = word(&rt, 0o40000000).neg();
+    assert!(rt; least.value() == 0o40000000 && out);
+    let (seven, out) = Word::from(7).neg();
+    assert!(rt; seven.value() == 0o77777771 && !out);
+    let (one, other) = (word(&rt, 0o11), word(&rt, 0o14));
+    assert!(rt; one.and(other).value() == 0o10 && one.or(other).value() == 0o15);
+    assert!(rt; one.xor(other).value() == 0o05);
     let text = word(&rt, 0o50512021);
-    for (position, code) in [(0, 0o50), (1, 0o51), (2, 0o20), (3, 0o21)] {
-        assert_eq!(rt; text.char_at(position), code);
+    assert!(rt; text.char_at(0) == 0o50 && text.char_at(1) == 0o51);
+    assert!(rt; text.char_at(2) == 0o20 && text.char_at(3) == 0o21);
+    assert!(rt; text.with_char(0, 0o77).value() == 0o77512021);
+    assert!(rt; text.with_char(3, 0).value() == 0o50512000);
+    for row in CODES.lines() {
+        let [byte, code, out, ..] = numbers(&rt, 8, row);
+        assert!(rt; byte < 256);
+        let told = code_of(byte as u8);
+        assert!(rt;
+            u32::from(told) == code && u32::from(byte_of(told)) == out,
+            "{row}"
+        );
     }
-    assert_eq!(rt; text.with_char(0, 0o77).value(), 0o77512021);
-    assert_eq!(rt; text.with_char(3, 0).value(), 0o50512000);
-    // a byte coming in, its code, and the byte going out again
-    for (byte, code, out) in [
-        (b'0', 0, b'0'),
-        (b'?', 15, b'?'),
-        (b' ', 16, b' '),
-        (b'/', 31, b'/'),
-        (b'@', 32, b'@'),
-        (b'H', 0o50, b'H'),
-        (b'_', 63, b'_'),
-        (b'h', 0o50, b'H'),
-        (b'~', 62, b'^'),
-        (0x7f, 15, b'?'),
-        (10, 15, b'?'),
-        (255, 15, b'?'),
+}
+
+/// A word, the X, F, M and N of its order, and what that does.
+static ORDERS: [(u32, u8, u8, u8, u16, Function); 9] = [
+    (0o10020024, 1, 0o000, 2, 20, Function::Load(Operation::Take)),
+    (
+        0o03600024,
+        0,
+        0o074,
+        0,
+        20,
+        Function::Branch(Condition::Always),
+    ),
+    (
+        0o43600024,
+        4,
+        0o074,
+        0,
+        20,
+        Function::Branch(Condition::NoOverflowReset),
+    ),
+    (
+        0o02477777,
+        0,
+        0o050,
+        0,
+        0o77777,
+        Function::Branch(Condition::Zero),
+    ),
+    (0o73440000, 7, 0o070, 0, 0o40000, Function::Call),
+    (0o75176543, 7, 0o123, 3, 0o6543, Function::Null),
+    (0o14504000, 1, 0o112, 0, 0o4000, Function::ShiftRight),
+    (0o07000030, 0, 0o160, 0, 0o30, Function::Halt),
+    (0o27000032, 2, 0o160, 0, 0o32, Function::Delete),
+];
+
+#[test]
+fn orders(rt: HostRuntime) {
+    for (bits, x, f, m, n, function) in &ORDERS {
+        let word = word(&rt, *bits);
+        let order = decode(word).expect(&rt, "an order");
+        assert!(rt;
+            order.x == *x && order.f == *f && order.m == *m && order.n == *n,
+            "{bits}"
+        );
+        assert!(rt;
+            order.function() == *function && encode(&order) == word,
+            "{bits}"
+        );
+    }
+    // words that no row has: 004, 060, 074 with X 5, 077, 160 with X 3, 177
+    for bits in [
+        0o00200000, 0o03000000, 0o53600000, 0o03760000, 0o37000000, 0o07740000,
     ] {
-        assert_eq!(rt; code_of(byte), code, "{byte}");
-        assert_eq!(rt; byte_of(code), out, "{code}");
+        let word = word(&rt, bits);
+        assert!(rt; decode(word) == Err(Illegal(word)), "{bits}");
     }
+    assert!(rt; Order::new(0, 0o074, 1, 0) == None);
+    assert!(rt; Order::new(0, 0o000, 0, 0x1000) == None);
 }

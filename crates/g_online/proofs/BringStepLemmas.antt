@@ -117,6 +117,7 @@ pub bring_needing : (number : ℕ) (bytes unjam : List ℕ) → IsNeeding unjam 
 bring_needing number bytes unjam = record {
   two = bring_two number bytes unjam;
   same = λ none. ap (Bring number bytes) (sym none);
+  takes = refl;
   fits = λ o allowed. allowed.fits.1;
   behind = λ o p allowed first told. bring_behind number bytes unjam o p allowed first told;
 }

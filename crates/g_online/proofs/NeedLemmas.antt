@@ -143,7 +143,7 @@ module _ (bytes : ℕ) (listed : List ℕ) (inner outer : Change) (o : OnlineFac
       let room : free_count m.pool + length (places_off listed m.online) ≡ room_for outer o = room_told listed inner outer asked.needing before m o asked.view asked.kept asked.allowed in
       let back : record m { pool = pool } ≡ m = λ i. record m { pool = same i } in (
         subst (IsKept before) (sym back) asked.kept,
-        refused outer before m (record m { pool = pool }) o e asked.view asked.kept refl (refused_not e (blocks_for bytes) (free_count m.pool + length (places_off listed m.online)) only)
+        refused outer before m (record m { pool = pool }) o e asked.view asked.kept refl (refused_not e (blocks_for bytes) (free_count m.pool + length (places_off listed m.online)) only) asked.needing.takes
             (full_refused e (need_of outer) (room_for outer o) (full_here {T = DiscCopy} (Err e) (blocks_for bytes) (free_count m.pool + length (places_off listed m.online)) (need_of outer) (room_for outer o) (sym asked_need) room full))
             (subst (λ (k : ℕ). (e ≡ NoMemory) ⊎ (e ≡ DiscFull (need_of outer) k)) room
             (subst (λ (j : ℕ). (e ≡ NoMemory) ⊎ (e ≡ DiscFull j (free_count m.pool + length (places_off listed m.online)))) (sym asked_need) only)),

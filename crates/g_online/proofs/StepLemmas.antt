@@ -2,6 +2,7 @@
 use Rattle.std.proofs.Common.{◌≡◌, ℕ, ◌+◌, Bool, true, false, List, [], Option, Some, None, Result, Ok, Err, refl, sym, ◌∙◌, ap, subst, arith, inl, inr, if◌then◌else◌}
 use Rattle.std.specs.Prelude.{is_some, length, ◌<◌, ◌⊎◌, ◌↔◌, ◌≢◌, IsErrOf, OnErr, OnOk}
 use Rattle.std.specs.Option.{ForSome}
+use Rattle.std.proofs.lemmas.Bool.{true≢false}
 use Rattle.g_base.specs.Counts.{RoseBy}
 use Rattle.g_base.specs.Told.{Changes}
 use Rattle.g_base.proofs.CountLemmas.{RoseBy-none, RoseBy-then}
@@ -22,7 +23,7 @@ use Rattle.g_online.specs.declared.change.Change.{Change}
 use Rattle.g_online.specs.declared.fault.OnlineFault.{OnlineFault}
 use Rattle.g_online.specs.declared.fault.OnlineFault.TheVariants.{DiscFull, NoMemory, Stopped}
 use Rattle.g_online.specs.declared.pinned.Pinned.{Pinned}
-use Rattle.g_online.specs.Change.{changed as changed_to, changed_after, touched_after, need_of, touches, with_all}
+use Rattle.g_online.specs.Change.{changed as changed_to, changed_after, touched_after, need_of, takes_memory, touches, with_all}
 use Rattle.g_online.specs.Committed.{HasCommitted, IsMarked, commit_blocks}
 use Rattle.g_online.specs.Done.{AfterStop, HasChanged, IsApplied, commits_of, room_for}
 use Rattle.g_online.specs.Kept.{AreNoted, AreWhole, IsKept, IsPooled, Memory, PinsAre, directory_in, facts_of, pins_of}
@@ -100,10 +101,10 @@ pub copies_for : (change : Change) {origin : DiscState} (before : DiscState) (m 
 copies_for change before m n ready online same = subst (AreCopies n.files) (sym same) ready.copies
 
 -- REFUSED: nothing has changed
-pub refused : (change : Change) (disc : DiscState) (m n : Memory) (o : OnlineFacts) (e : OnlineFault) → facts_of disc m ≡ o → IsKept disc m → facts_of disc n ≡ facts_of disc m → e ≢ Stopped
+pub refused : (change : Change) (disc : DiscState) (m n : Memory) (o : OnlineFacts) (e : OnlineFault) → facts_of disc m ≡ o → IsKept disc m → facts_of disc n ≡ facts_of disc m → e ≢ Stopped → takes_memory change ≡ true
     → (IsErrOf {T = Unit {0}} (Err e) (DiscFull (need_of change) (room_for change o)) ↔ (room_for change o < need_of change)) → (e ≡ NoMemory) ⊎ (e ≡ DiscFull (need_of change) (room_for change o))
     → IsApplied change o (facts_of disc n) (Err e)
-refused change disc m n o e is kept same not full only =
+refused change disc m n o e is kept same not takes full only =
     let now : facts_of disc n ≡ o = same ∙ is in
     let here : (facts_of disc n).disc ≡ o.disc = ap (λ (f : OnlineFacts). f.disc) now in
     record {
@@ -111,6 +112,7 @@ refused change disc m n o e is kept same not full only =
       stopped = λ no. absurd (not (inside e no));
       same = λ other. now;
       full = full;
+      memory = λ none no. true≢false (sym takes ∙ none);
       causes = subst (λ (d : DiscState). Causes ⊥ (◌≡◌ {A = Result (Unit {0}) OnlineFault} (Err e) (Err Stopped)) d disc) here (Causes-none disc (λ no. no) (λ no. not (inside e no)));
       tied = subst IsTied (sym same) (tied disc m kept);
       told = ap (λ (d : DiscState). is_some d.held) here;
@@ -121,9 +123,9 @@ refused change disc m n o e is kept same not full only =
     inside f wrong = cc
 
 -- without memory nothing has changed
-pub not_applied : (change : Change) (disc : DiscState) (m n : Memory) (o : OnlineFacts) → facts_of disc m ≡ o → IsKept disc m → n ≡ m → need_of change ≡ 0 → IsApplied change o (facts_of disc n) (Err NoMemory)
-not_applied change disc m n o is kept same need =
-    refused change disc m n o NoMemory is kept (ap (facts_of disc) same) (λ no. (let never : ⊥ = cc in never))
+pub not_applied : (change : Change) (disc : DiscState) (m n : Memory) (o : OnlineFacts) → facts_of disc m ≡ o → IsKept disc m → n ≡ m → takes_memory change ≡ true → need_of change ≡ 0 → IsApplied change o (facts_of disc n) (Err NoMemory)
+not_applied change disc m n o is kept same takes need =
+    refused change disc m n o NoMemory is kept (ap (facts_of disc) same) (λ no. (let never : ⊥ = cc in never)) takes
     (λ no. (let never : ⊥ = cc in absurd never), λ less. (let no : ⊥ = omega (arith, less, need) in absurd no)) (inl refl)
 
 -- what the change makes of what was there before the bytes were written
@@ -211,6 +213,7 @@ module _ (change : Change) {origin : DiscState} (before after : DiscState) (m n 
         stopped = λ no. (let never : ⊥ = cc in absurd never);
         same = tt;
         full = never_full (Ok u) (λ no. (let never : ⊥ = cc in never));
+        memory = λ none no. (let never : ⊥ = cc in never);
         causes = Causes-then (λ no. no) (λ no. no) ready.beside.causes well;
         tied = tied after (written n next pages) (done_kept done counts.size whole);
         told = told_same done.content;
@@ -267,6 +270,7 @@ module _ (change : Change) {origin : DiscState} (before after : DiscState) (m n 
         stopped = λ same. record { live = refl; holds = stop_holds content };
         same = λ other. absurd (other refl);
         full = never_full (Err Stopped) (λ no. (let never : ⊥ = cc in never));
+        memory = λ none no. (let never : ⊥ = cc in never);
         causes = Causes-then (λ no. no) (λ no. no) ready.beside.causes ill;
         tied = tied after (stopped n next pages) (stopped_kept counts.size whole);
         told = told_same content;

@@ -17,9 +17,9 @@ use Rattle.g_contents.specs.Facts.{Layout, OnlineFacts}
 use Rattle.g_online.specs.declared.change.Change.{Change}
 use Rattle.g_online.specs.declared.change.Change.TheVariants.{PutFile, Unload}
 use Rattle.g_online.specs.declared.fault.OnlineFault.{OnlineFault}
-use Rattle.g_online.specs.declared.fault.OnlineFault.TheVariants.{DiscFull, Stopped}
+use Rattle.g_online.specs.declared.fault.OnlineFault.TheVariants.{DiscFull, NoMemory, Stopped}
 use Rattle.g_online.specs.Allowed.{AreUnjammable, IsAllowed, KeepsRules}
-use Rattle.g_online.specs.Change.{changed, need_of, told_bytes, touches, unjammed, unjammed_by, with_all}
+use Rattle.g_online.specs.Change.{changed, need_of, takes_memory, told_bytes, touches, unjammed, unjammed_by, with_all}
 use Rattle.g_online.specs.Done.{AfterStop, HasChanged, IsApplied, commits_of, room_for}
 
 -- which answer it was
@@ -38,6 +38,9 @@ not_stopped u is = cc
 
 pub not_full : (e : OnlineFault) (k n : ℕ) → e ≡ Stopped → (let r : Result (Unit {0}) OnlineFault = Err e in r ≡ Err (DiscFull k n)) → ⊥
 not_full e k n stopped is = cc
+
+pub not_memory : (e : OnlineFault) → e ≡ Stopped → (let r : Result (Unit {0}) OnlineFault = Err e in r ≡ Err NoMemory) → ⊥
+not_memory e stopped is = cc
 
 -- no file is taken off
 pub taken_none : (files : List File) → taken_off [] files ≡ files
@@ -132,6 +135,7 @@ module _ (unjam : List ℕ) (inner outer : Change) (two : IsTwo unjam inner oute
     stopped = λ no. (let never : ⊥ = cc in absurd never);
     same = tt;
     full = (λ no. (let never : ⊥ = cc in absurd never), λ less. absurd (room less));
+    memory = λ none no. (let never : ⊥ = cc in never);
     causes = Causes-then (λ no. no) (not_stopped u) first.causes second.causes;
     tied = second.tied;
     told = second.told ∙ first.told;
@@ -142,6 +146,7 @@ module _ (unjam : List ℕ) (inner outer : Change) (two : IsTwo unjam inner oute
     stopped = λ at. record { live = (second.stopped at).live; holds = λ blocks told. two_after o p q first.ok first.told blocks ((second.stopped at).holds blocks told) };
     same = λ other. absurd (other stops);
     full = (λ no. absurd (not_full e (need_of outer) (room_for outer o) stops no), λ less. absurd (room less));
+    memory = λ none no. not_memory e stops no;
     causes = Causes-then (λ no. no) (not_stopped u) first.causes second.causes;
     tied = second.tied;
     told = second.told ∙ first.told;
@@ -155,6 +160,7 @@ module _ (unjam : List ℕ) (inner outer : Change) (two : IsTwo unjam inner oute
     stopped = λ at. record { live = (first.stopped at).live; holds = λ blocks told. first_after o blocks ((first.stopped at).holds blocks told) };
     same = λ other. absurd (other stops);
     full = (λ no. absurd (not_full e (need_of outer) (room_for outer o) stops no), λ less. absurd (room less));
+    memory = λ none no. not_memory e stops no;
     causes = first.causes;
     tied = first.tied;
     told = first.told;
@@ -259,6 +265,7 @@ allowed_behind rec bytes unjam o p allowed first told =
 pub record IsNeeding (unjam : List ℕ) (inner outer : Change) : Type 0 where
   pub two : IsTwo unjam inner outer
   pub same : unjam ≡ [] → inner ≡ outer
+  pub takes : takes_memory outer ≡ true
   pub fits : (o : OnlineFacts) → IsAllowed outer o → AreUnjammable o.contents.files unjam
   pub behind : (o p : OnlineFacts) → IsAllowed outer o → HasChanged (Unload unjam) o p → is_some p.disc.held ≡ is_some o.disc.held → IsAllowed inner p
 
@@ -266,6 +273,7 @@ pub put_needing : (rec : FileRec) (bytes unjam : List ℕ) → IsNeeding unjam (
 put_needing rec bytes unjam = record {
   two = put_two rec bytes unjam;
   same = λ none. ap (PutFile rec bytes) (sym none);
+  takes = refl;
   fits = λ o allowed. allowed.fits.3;
   behind = λ o p allowed first told. allowed_behind rec bytes unjam o p allowed first told;
 }

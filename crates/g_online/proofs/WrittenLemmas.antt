@@ -21,7 +21,7 @@ use Rattle.g_online.proofs.BesideLemmas.{beside_contents, beside_holds, beside_k
 use Rattle.g_online.proofs.RoomLemmas.{room_is}
 use Rattle.g_online.proofs.StepLemmas.{IsBeside, both_told}
 use Rattle.g_online.proofs.TieLemmas.{tied}
-use Rattle.g_online.proofs.TwoLemmas.{not_full, taken_none}
+use Rattle.g_online.proofs.TwoLemmas.{not_full, not_memory, taken_none}
 use Rattle.g_online.proofs.UnjamLemmas.{IsUnjammed}
 
 -- THE NEW COPY: its blocks are free ones, each once, as many as its bytes need
@@ -70,6 +70,7 @@ module _ (inner : Change) (unjam : List ℕ) (bytes : ℕ) (copy : DiscCopy) (o 
       stopped = λ at. record { live = refl; holds = λ blocks told. record { one = inl (beside_holds origin before m copy.blocks un.kept un.live new.free only size blocks told) } };
       same = λ other. absurd (other is);
       full = (λ no. absurd (not_full e (need_of inner) (room_for inner (facts_of origin m)) is no), λ less. absurd (there_is_room less));
+      memory = λ none no. not_memory e is no;
       causes = Causes-WritesOnly_err (λ no. no) (ap refusal is) counts;
       tied = tied before (record m { live = false }) stop_kept;
       told = both_told origin.held before.held only;

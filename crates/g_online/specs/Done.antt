@@ -9,7 +9,7 @@ use Rattle.g_contents.specs.Facts.{IsTied, OnlineFacts, room_with}
 use Rattle.g_online.specs.declared.change.Change.{Change}
 use Rattle.g_online.specs.declared.fault.OnlineFault.{OnlineFault}
 use Rattle.g_online.specs.declared.fault.OnlineFault.TheVariants.{DiscFull, NoMemory, Stopped}
-use Rattle.g_online.specs.Change.{changed as changed_to, unjammed, unjammed_by, need_of, changed_after, touched_after, closed}
+use Rattle.g_online.specs.Change.{changed as changed_to, unjammed, unjammed_by, need_of, takes_memory, changed_after, touched_after, closed}
 
 -- the commits of a change: one, and one before it where files are taken off the disc
 abbrev pub commits_of : Change → ℕ
@@ -55,12 +55,13 @@ abbrev pub room_for : Change → OnlineFacts → ℕ
 room_for change o = room_with (taken_off (unjammed_by change) o.contents.files) o
 
 -- HOW A CHANGE IS ANSWERED: done; or stopped at one of its writes; or refused, and all is as it was, the counts too. Room is
--- refused just where the blocks that it needs would not be free; memory may be wanting anywhere else.
+-- refused just where the blocks that it needs would not be free; memory may be wanting anywhere else, if the change takes any.
 pub record IsApplied (change : Change) (old new : OnlineFacts) (result : Result (Unit {0}) OnlineFault) : Type 0 where
   pub ok : OnOk result (HasChanged change old new)
   pub stopped : result ≡ Err Stopped → HasStopped change old new
   pub same : IfErr result (λ e. e ≢ Stopped → new ≡ old)
   pub full : IsErrOf result (DiscFull (need_of change) (room_for change old)) ↔ (room_for change old < need_of change)
+  pub memory : takes_memory change ≡ false → result ≡ Err NoMemory → ⊥
   pub causes : Causes ⊥ (result ≡ Err Stopped) old.disc new.disc
   pub tied : IsTied new
   pub told : is_some new.disc.held ≡ is_some old.disc.held

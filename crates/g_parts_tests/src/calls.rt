@@ -1,114 +1,92 @@
 //! Fetch and Retrieve, as a store answers them.
+use crate::rig::reel;
 use g_base::Block;
-use g_laid_out::{dumped, nothing_to_take, one_away, online_with, without_mark};
+use g_laid_out::{nothing_to_take, one_away, online_with, without_mark};
 use g_name::{User, parse_path};
 use g_plain::{StoreCall, StoreFault, StoreReply};
 use g_store_calls::{fetch, retrieve};
 use g_tape::{MemoryTapes, Tapes};
 use g_trap::Mode;
-use std::alloc::Global;
-use std::test::Fail;
+use std::process::Abort;
 
 /// What is told of a call.
-#[derive(Drop, PartialEq)]
-enum Answer {
-    /// So many bytes, the first and the last of them.
-    Bytes(usize, u8, u8),
-    Retrieved,
-    Waits(u32),
-    Lost(u32),
-    Full { need: u32, room: u32 },
-    NoFile,
-}
-
-/// The answer in short. An answer of another kind fails the test.
-fn told(answer: Result<StoreReply, StoreFault>) -> Result<Answer, Fail> {
-    match answer {
-        Ok(StoreReply::Bytes { bytes, .. }) => {
-            let bytes = bytes.as_slice();
-            match (bytes.first(), bytes.last()) {
-                (Some(first), Some(last)) => Ok(Answer::Bytes(bytes.len(), *first, *last)),
-                _ => Err("no bytes".into()),
-            }
-        }
-        Ok(StoreReply::Retrieved(_)) => Ok(Answer::Retrieved),
-        Ok(_) => Err("a reply of another kind".into()),
-        Err(StoreFault::WaitTape(serial)) => Ok(Answer::Waits(serial)),
-        Err(StoreFault::NoCopy(_, serial)) => Ok(Answer::Lost(serial)),
-        Err(StoreFault::DiscFull { need, room }) => Ok(Answer::Full { need, room }),
-        Err(StoreFault::NoFile) => Ok(Answer::NoFile),
-        Err(fault) => Err(fault.into()),
-    }
-}
+type Answer = Result<StoreReply, StoreFault>;
 
 /// The answer to a `Fetch` by `MASTER`.
 fn fetched(
-    alloc: Global,
+    rt: &(impl Abort + AllocGlobal),
     files: &[Block; 5],
     tapes: &mut MemoryTapes,
     path: &[u8],
-) -> Result<Answer, Fail> {
-    let mut online = online_with(alloc, files)?;
+) -> Answer {
+    let Ok(mut online) = online_with(rt.alloc(), files) else {
+        panic!(rt; "no filestore");
+    };
     let call = StoreCall::Fetch {
-        path: parse_path(path)?,
+        path: parse_path(path).expect(rt, "a path"),
         mode: Mode::Read,
     };
-    told(fetch(alloc, &mut online, tapes, &User::master(), &call))
+    fetch(rt.alloc(), &mut online, tapes, &User::master(), &call)
 }
 
 /// The same to a `Retrieve`.
 fn retrieved(
-    alloc: Global,
+    rt: &(impl Abort + AllocGlobal),
     files: &[Block; 5],
     tapes: &mut MemoryTapes,
     path: &[u8],
-) -> Result<Answer, Fail> {
-    let mut online = online_with(alloc, files)?;
-    let call = StoreCall::Retrieve {
-        path: parse_path(path)?,
+) -> Answer {
+    let Ok(mut online) = online_with(rt.alloc(), files) else {
+        panic!(rt; "no filestore");
     };
-    told(retrieve(alloc, &mut online, tapes, &User::master(), &call))
+    let call = StoreCall::Retrieve {
+        path: parse_path(path).expect(rt, "a path"),
+    };
+    retrieve(rt.alloc(), &mut online, tapes, &User::master(), &call)
 }
 
-/// F is on tape alone, D on the disc.
-#[test]
-fn ample(rt: HostRuntime) -> Result<(), Fail> {
-    let mut tapes = dumped(rt.alloc())?;
-    let files = one_away([0, 0, 0, 5]);
-    let from_tape = fetched(rt.alloc(), &files, &mut tapes, b"F")?;
-    assert!(rt; from_tape == Answer::Bytes(600, b'u', b'v'));
-    let from_disc = fetched(rt.alloc(), &files, &mut tapes, b"D")?;
-    assert!(rt; from_disc == Answer::Bytes(5, 0, 0));
-    let back = retrieved(rt.alloc(), &files, &mut tapes, b"F")?;
-    assert!(rt; back == Answer::Retrieved);
-    Ok(())
+/// Whether an answer is so many bytes, with this first and this last one.
+fn are_bytes(answer: &Answer, len: usize, first: u8, last: u8) -> bool {
+    match answer {
+        Ok(StoreReply::Bytes { bytes, .. }) => {
+            let bytes = bytes.as_slice();
+            bytes.len() == len && bytes.first() == Some(&first) && bytes.last() == Some(&last)
+        }
+        _ => false,
+    }
 }
 
-/// A reel that isn't mounted is waited for, but not for a file on the disc.
+fn is_retrieved(answer: &Answer) -> bool {
+    matches!(answer, Ok(StoreReply::Retrieved(_)))
+}
+
+/// F is on tape alone, D on the disc. A reel that isn't mounted is waited for, but not for a file on the disc.
 #[test]
-fn calls_wait(rt: HostRuntime) -> Result<(), Fail> {
-    let mut tapes = dumped(rt.alloc())?;
-    tapes.unmount(9)?;
+fn ample(rt: HostRuntime) {
+    let mut tapes = reel(&rt);
     let files = one_away([0, 0, 0, 5]);
-    let fetched = fetched(rt.alloc(), &files, &mut tapes, b"F")?;
-    assert!(rt; fetched == Answer::Waits(9));
-    let back = retrieved(rt.alloc(), &files, &mut tapes, b"F")?;
-    assert!(rt; back == Answer::Waits(9));
-    let there = retrieved(rt.alloc(), &files, &mut tapes, b"D")?;
-    assert!(rt; there == Answer::Retrieved);
-    Ok(())
+    assert!(rt; are_bytes(&fetched(&rt, &files, &mut tapes, b"F"), 600, b'u', b'v'));
+    assert!(rt; are_bytes(&fetched(&rt, &files, &mut tapes, b"D"), 5, 0, 0));
+    assert!(rt; is_retrieved(&retrieved(&rt, &files, &mut tapes, b"F")));
+    assert!(rt; tapes.unmount(9) == Ok(()));
+    let wait = Some(StoreFault::WaitTape(9));
+    assert!(rt; fetched(&rt, &files, &mut tapes, b"F").err() == wait);
+    assert!(rt; retrieved(&rt, &files, &mut tapes, b"F").err() == wait);
+    assert!(rt; is_retrieved(&retrieved(&rt, &files, &mut tapes, b"D")));
 }
 
 /// No such file; a dump without its mark; and a disc where nothing can go.
 #[test]
-fn calls_are_refused(rt: HostRuntime) -> Result<(), Fail> {
-    let mut tapes = dumped(rt.alloc())?;
-    let absent = fetched(rt.alloc(), &nothing_to_take(), &mut tapes, b"F")?;
-    assert!(rt; absent == Answer::NoFile);
-    let full = fetched(rt.alloc(), &nothing_to_take(), &mut tapes, b"G")?;
-    assert!(rt; full == Answer::Full { need: 3, room: 0 });
-    let mut torn = without_mark(rt.alloc())?;
-    let lost = retrieved(rt.alloc(), &one_away([0, 0, 0, 5]), &mut torn, b"F")?;
-    assert!(rt; lost == Answer::Lost(9));
-    Ok(())
+fn calls_are_refused(rt: HostRuntime) {
+    let mut tapes = reel(&rt);
+    let files = nothing_to_take();
+    let absent = fetched(&rt, &files, &mut tapes, b"F").err();
+    assert!(rt; absent == Some(StoreFault::NoFile));
+    let full = fetched(&rt, &files, &mut tapes, b"G").err();
+    assert!(rt; full == Some(StoreFault::DiscFull { need: 3, room: 0 }));
+    let Ok(mut torn) = without_mark(rt.alloc()) else {
+        panic!(rt; "no reel");
+    };
+    let lost = retrieved(&rt, &one_away([0, 0, 0, 5]), &mut torn, b"F");
+    assert!(rt; matches!(&lost, Err(StoreFault::NoCopy(_, 9))));
 }

@@ -1,4 +1,4 @@
-//! Dumps from end to end, and reels that are too short for one.
+//! Dumps from end to end, reels that are too short for one, and a dump that is stopped at each of its writes of tape.
 ghost use Rattle.std.specs.Prelude.{◌≡◌, IfOk, IfSome, None, true};
 ghost use Rattle.g_tape.specs.Memory.{rack_of};
 ghost use Rattle.g_contents.specs.Facts.{IsTied};
@@ -10,10 +10,10 @@ use g_laid_out::{one_reel, online_with_one};
 use g_online::Online;
 use g_plain::StoreFault;
 use g_shelf::completed;
-use g_tape::{MemoryTapes, Tapes};
+use g_tape::{MemoryTapes, TapeLeave, Tapes};
 use std::alloc::Global;
 use std::marker::Model;
-use std::test::Fail;
+use std::process::Abort;
 
 /// A filestore of one file of one byte beside reel 7, and whether a dump was refused, behind which none is begun.
 #[derive(Drop)]
@@ -36,13 +36,28 @@ impl Model for Dumper {
 }
 
 impl Dumper {
-    pub(crate) fn new(alloc: Global, tapes: MemoryTapes) -> Result<Dumper, Fail> {
-        let online = online_with_one(alloc)?;
-        Ok(Dumper {
-            online,
-            tapes,
-            refused: false,
-        })
+    /// Reel 7 has room for so many blocks. Its write of this number fails, if any, and leaves that.
+    pub(crate) fn new(
+        rt: &(impl Abort + AllocGlobal),
+        capacity: u32,
+        stop: Option<(u32, TapeLeave)>,
+    ) -> Dumper {
+        let Ok(mut tapes) = one_reel(rt.alloc(), 7, capacity) else {
+            panic!(rt; "no reel");
+        };
+        if let Some((write, leave)) = stop {
+            assert!(rt; 1 <= write);
+            tapes.set_leave(leave);
+            tapes.arm(write);
+        }
+        match online_with_one(rt.alloc()) {
+            Ok(online) => Dumper {
+                online,
+                tapes,
+                refused: false,
+            },
+            Err(_) => panic!(rt; "no filestore"),
+        }
     }
 
     /// A whole dump: its number, and how many blocks it took.
@@ -60,10 +75,9 @@ impl Dumper {
     }
 
     /// How many completed dumps the reel has, and how many blocks.
-    pub(crate) fn reel(&mut self, alloc: Global) -> Result<(usize, u32), Fail> {
-        let notes = completed(alloc, &mut self.tapes, 7)?;
-        let len = self.tapes.length(7)?;
-        Ok((notes.len(), len))
+    pub(crate) fn reel(&mut self, rt: &(impl Abort + AllocGlobal)) -> (usize, u32) {
+        let notes = completed(rt.alloc(), &mut self.tapes, 7).expect(rt, "a catalogue");
+        (notes.len(), self.tapes.length(7).expect(rt, "a reel"))
     }
 }
 
@@ -124,30 +138,45 @@ fn dumped(
 
 /// The first dump has two users, a file and its block; the second, with nothing changed since, two users.
 #[test]
-fn dumps_end_to_end(rt: HostRuntime) -> Result<(), Fail> {
-    let alloc = rt.alloc();
-    let mut dumper = Dumper::new(alloc, one_reel(alloc, 7, 10)?)?;
-    let dumps = [dumper.dump(alloc)?, dumper.dump(alloc)?];
-    assert!(rt; dumps == [(1, 6), (2, 4)]);
-    assert!(rt; dumper.reel(alloc)? == (2, 10));
-    Ok(())
+fn dumps_end_to_end(rt: HostRuntime) {
+    let mut dumper = Dumper::new(&rt, 10, None);
+    assert!(rt; dumper.dump(rt.alloc()) == Ok((1, 6)));
+    assert!(rt; dumper.dump(rt.alloc()) == Ok((2, 4)));
+    assert!(rt; dumper.reel(&rt) == (2, 10));
 }
 
-/// A third dump would have as many blocks as the second: what it needs, and the room that it finds.
+/// On a reel of 13 blocks a third dump would have as many blocks as the second: what it needs, and the room that it finds. The
+/// first dump doesn't fit on a reel of five blocks.
 #[test]
-fn a_full_reel(rt: HostRuntime) -> Result<(), Fail> {
-    let alloc = rt.alloc();
-    let mut dumper = Dumper::new(alloc, one_reel(alloc, 7, 13)?)?;
-    let _dumps = [dumper.dump(alloc)?, dumper.dump(alloc)?];
-    assert!(rt; dumper.dump(alloc).err() == Some(StoreFault::TapeFull { need: 4, room: 3 }));
-    Ok(())
+fn full_reels(rt: HostRuntime) {
+    let mut dumper = Dumper::new(&rt, 13, None);
+    assert!(rt; dumper.dump(rt.alloc()).is_ok() && dumper.dump(rt.alloc()).is_ok());
+    let full = StoreFault::TapeFull { need: 4, room: 3 };
+    assert!(rt; dumper.dump(rt.alloc()) == Err(full));
+    let mut dumper = Dumper::new(&rt, 5, None);
+    let full = StoreFault::TapeFull { need: 6, room: 5 };
+    assert!(rt; dumper.dump(rt.alloc()) == Err(full));
 }
 
-/// The first dump doesn't fit on a reel of five blocks.
+/// Compares what a dump of six blocks leaves whose `k`-th write of tape fails and leaves this: how many dumps are completed, and
+/// how many blocks the reel has.
+fn compare(rt: &(impl Abort + AllocGlobal), k: u32, leave: TapeLeave, dumps: usize, length: u32) {
+    let mut dumper = Dumper::new(rt, 20, Some((k, leave)));
+    assert!(rt;
+        dumper.dump(rt.alloc()) == Err(StoreFault::Stopped),
+        "write {k}"
+    );
+    assert!(rt; dumper.reel(rt) == (dumps, length), "write {k}");
+}
+
+/// Only the whole mark completes it.
 #[test]
-fn a_short_reel(rt: HostRuntime) -> Result<(), Fail> {
-    let alloc = rt.alloc();
-    let mut dumper = Dumper::new(alloc, one_reel(alloc, 7, 5)?)?;
-    assert!(rt; dumper.dump(alloc).err() == Some(StoreFault::TapeFull { need: 6, room: 5 }));
-    Ok(())
+fn stopped_at_each_write(rt: HostRuntime) {
+    for k in 1..7 {
+        let marked = if k == 6 { 1 } else { 0 };
+        compare(&rt, k, TapeLeave::Old, 0, k - 1);
+        compare(&rt, k, TapeLeave::Cut, 0, k - 1);
+        compare(&rt, k, TapeLeave::Half, 0, k);
+        compare(&rt, k, TapeLeave::Whole, marked, k);
+    }
 }

@@ -7,8 +7,6 @@ mod calls;
 #[cfg(test)]
 mod copies;
 #[cfg(test)]
-mod dump_stops;
-#[cfg(test)]
 mod dumps;
 #[cfg(test)]
 mod migrations;

@@ -4,114 +4,77 @@ ghost use Rattle.g_plain.specs.Rules.{IsWithinLimits};
 ghost use Rattle.g_store_calls.specs.Kinds.{sets_records};
 
 use g_laid_out::online_with_one;
-use g_name::{Local, Path, User};
+use g_name::{Local, Path, User, parse_path};
 use g_plain::{BudgetKind, StoreCall, StoreFault, StoreReply};
 use g_store_calls::{change, tell};
 use g_trap::Modes;
-use std::alloc::Global;
-use std::test::Fail;
+use std::process::Abort;
 
-/// The path of a file that isn't there.
-fn absent() -> Result<Path, Fail> {
-    Ok(Path {
-        user: None,
-        local: Local::parse(b"G")?,
-        generation: None,
-        lang: None,
-    })
-}
-
-/// How many files of `MASTER` are told.
-fn listed(alloc: Global) -> Result<Option<usize>, Fail> {
-    let online = online_with_one(alloc)?;
-    let master = User::master();
-    let call = StoreCall::List {
-        user: master.copy(),
+/// Makes a call of `MASTER`, which is done, or finds no file.
+fn compare(rt: &(impl Abort + AllocGlobal), call: &StoreCall, is_done: bool)
+    requires limits { IsWithinLimits call.now }
+    requires records { sets_records call.now ≡ true }
+{
+    let Ok(mut online) = online_with_one(rt.alloc()) else {
+        panic!(rt; "no filestore");
     };
-    match tell(alloc, &online, &master, &call) {
-        Ok(StoreReply::Listing(listing)) => Ok(Some(listing.rows().len())),
-        _ => Ok(None),
+    match change(rt.alloc(), &mut online, &User::master(), call) {
+        Ok(StoreReply::Done) => assert!(rt; is_done),
+        Err(StoreFault::NoFile) => assert!(rt; !is_done),
+        _ => panic!(rt; "another answer"),
     }
 }
 
-/// Whether `MASTER`'s call is done.
-fn is_done(alloc: Global, call: &StoreCall) -> Result<bool, Fail>
-    requires limits { IsWithinLimits call.now }
-    requires records { sets_records call.now ≡ true }
-{
-    let mut online = online_with_one(alloc)?;
-    let answer = change(alloc, &mut online, &User::master(), call);
-    Ok(matches!(&answer, Ok(StoreReply::Done)))
-}
-
-/// Whether `MASTER`'s call finds no file.
-fn is_missed(alloc: Global, call: &StoreCall) -> Result<bool, Fail>
-    requires limits { IsWithinLimits call.now }
-    requires records { sets_records call.now ≡ true }
-{
-    let mut online = online_with_one(alloc)?;
-    let answer = change(alloc, &mut online, &User::master(), call);
-    Ok(matches!(&answer, Err(StoreFault::NoFile)))
-}
-
-fn is_made(alloc: Global) -> Result<bool, Fail> {
-    let call = StoreCall::NewUser {
-        user: User::parse(b":ALBERT")?,
+#[test]
+fn users(rt: HostRuntime) {
+    let user = StoreCall::NewUser {
+        user: User::parse(b":ALBERT").expect(&rt, "a user"),
         space: 5,
         time: 6,
         money: 7,
     };
-    is_done(alloc, &call)
-}
-
-fn is_set(alloc: Global) -> Result<bool, Fail> {
-    let call = StoreCall::Budget {
+    compare(&rt, &user, true);
+    let money = StoreCall::Budget {
         user: User::macros(),
         kind: BudgetKind::Money,
         amount: 8,
     };
-    is_done(alloc, &call)
-}
-
-fn is_not_erased(alloc: Global) -> Result<bool, Fail> {
-    is_missed(alloc, &StoreCall::Erase { path: absent()? })
-}
-
-fn is_not_renamed(alloc: Global) -> Result<bool, Fail> {
-    let call = StoreCall::Rename {
-        path: absent()?,
-        to: Local::parse(b"H")?,
+    compare(&rt, &money, true);
+    let Ok(online) = online_with_one(rt.alloc()) else {
+        panic!(rt; "no filestore");
     };
-    is_missed(alloc, &call)
+    let list = StoreCall::List {
+        user: User::master(),
+    };
+    match tell(rt.alloc(), &online, &User::master(), &list) {
+        Ok(StoreReply::Listing(listing)) => assert!(rt; listing.rows().len() == 1),
+        _ => panic!(rt; "no listing"),
+    }
 }
 
-fn is_not_opened(alloc: Global) -> Result<bool, Fail> {
-    let call = StoreCall::TrapGo {
-        path: absent()?,
-        user: User::macros(),
-        modes: Modes::all(),
-    };
-    is_missed(alloc, &call)
-}
-
-fn is_not_closed(alloc: Global) -> Result<bool, Fail> {
-    let call = StoreCall::TrapStop {
-        path: absent()?,
-        user: User::macros(),
-        modes: Modes::all(),
-    };
-    is_missed(alloc, &call)
+/// The path of a file that isn't there.
+fn absent(rt: &impl Abort) -> Path {
+    parse_path(b"G").expect(rt, "a path")
 }
 
 #[test]
-fn records(rt: HostRuntime) -> Result<(), Fail> {
-    let alloc = rt.alloc();
-    assert!(rt; listed(alloc)? == Some(1));
-    let done = is_made(alloc)? && is_set(alloc)?;
-    assert!(rt; done);
-    let files = is_not_erased(alloc)? && is_not_renamed(alloc)?;
-    assert!(rt; files);
-    let traps = is_not_opened(alloc)? && is_not_closed(alloc)?;
-    assert!(rt; traps);
-    Ok(())
+fn files(rt: HostRuntime) {
+    compare(&rt, &StoreCall::Erase { path: absent(&rt) }, false);
+    let rename = StoreCall::Rename {
+        path: absent(&rt),
+        to: Local::parse(b"H").expect(&rt, "a local name"),
+    };
+    compare(&rt, &rename, false);
+    let open = StoreCall::TrapGo {
+        path: absent(&rt),
+        user: User::macros(),
+        modes: Modes::all(),
+    };
+    compare(&rt, &open, false);
+    let close = StoreCall::TrapStop {
+        path: absent(&rt),
+        user: User::macros(),
+        modes: Modes::all(),
+    };
+    compare(&rt, &close, false);
 }

@@ -1,100 +1,61 @@
 //! Why a file doesn't come back, and that it does behind such a refusal.
-use crate::rig::Rig;
+use crate::rig::{Rig, reel};
 use g_base::Block;
-use g_laid_out::{dumped, nothing_to_take, one_away, one_to_take, without_mark};
+use g_laid_out::{nothing_to_take, one_away, one_to_take, without_mark};
 use g_plain::StoreFault;
 use g_tape::{MemoryTapes, Tapes};
-use std::alloc::Global;
-use std::test::Fail;
+use std::process::Abort;
 
-/// Why F doesn't come back where its copy is said to begin at this block of the reel.
-fn refusal_from(
-    alloc: Global,
-    first: [u8; 4],
-    tapes: MemoryTapes,
-) -> Result<Option<StoreFault>, Fail> {
-    let mut rig = Rig::new(alloc, &one_away(first), tapes)?;
-    Ok(rig.bring(alloc, 0).err())
-}
-
-/// Whether F's copy is said to be lost, and is of reel 9.
-fn is_lost(alloc: Global, first: [u8; 4], tapes: MemoryTapes) -> Result<bool, Fail> {
-    match refusal_from(alloc, first, tapes)? {
-        Some(StoreFault::NoCopy(_, serial)) => Ok(serial == 9),
-        _ => Ok(false),
+/// Whether F's copy, which is said to begin at this block of reel 9, is lost.
+fn is_lost(rt: &(impl Abort + AllocGlobal), first: [u8; 4], tapes: MemoryTapes) -> bool {
+    let mut rig = Rig::new(rt, &one_away(first), tapes);
+    match rig.bring(rt.alloc(), 0) {
+        Err(StoreFault::NoCopy(_full, serial)) => serial == 9,
+        _ => false,
     }
 }
 
-/// The reel isn't mounted.
+/// The reel isn't mounted. Then a read of the copy's second block fails, and then the file comes back all the same: the reads
+/// of the catalogue are those of header, mark, four records, and of the block behind the dump.
 #[test]
-fn it_waits(rt: HostRuntime) -> Result<(), Fail> {
-    let mut tapes = dumped(rt.alloc())?;
-    tapes.unmount(9)?;
-    let refusal = refusal_from(rt.alloc(), [0, 0, 0, 5], tapes)?;
-    assert!(rt; refusal == Some(StoreFault::WaitTape(9)));
-    Ok(())
+fn it_waits(rt: HostRuntime) {
+    let mut tapes = reel(&rt);
+    assert!(rt; tapes.unmount(9) == Ok(()));
+    let mut rig = Rig::new(&rt, &one_away([0, 0, 0, 5]), tapes);
+    assert!(rt; rig.bring(rt.alloc(), 0).err() == Some(StoreFault::WaitTape(9)));
+    let mut tapes = reel(&rt);
+    tapes.fail_reads([9].to_vec(rt.alloc()).expect(&rt, "memory"));
+    let mut rig = Rig::new(&rt, &one_away([0, 0, 0, 5]), tapes);
+    assert!(rt; rig.bring(rt.alloc(), 0).err() == Some(StoreFault::TapeReadFault));
+    let text = rig.bring(rt.alloc(), 0).expect(&rt, "a text");
+    assert!(rt; text.as_slice().len() == 600);
 }
 
-/// A read of the copy's second block fails, and then the file comes back all the same. The reads of the catalogue are those
-/// of header, mark, four records, and of the block behind the dump.
+/// Copies that no completed dump holds: at the last block of all, past the end of the reel, in the mark, and near the end of
+/// numbers; and in a dump without its mark.
 #[test]
-fn a_read_fails(rt: HostRuntime) -> Result<(), Fail> {
-    let alloc = rt.alloc();
-    let mut tapes = dumped(alloc)?;
-    tapes.fail_reads([9].to_vec(alloc)?);
-    let mut rig = Rig::new(alloc, &one_away([0, 0, 0, 5]), tapes)?;
-    assert!(rt; rig.bring(alloc, 0).err() == Some(StoreFault::TapeReadFault));
-    assert!(rt; rig.bring(alloc, 0)?.as_slice().len() == 600);
-    Ok(())
-}
-
-/// Copies that no completed dump holds: at the last block of all, past the end of the reel, and in the mark.
-#[test]
-fn lost_copies(rt: HostRuntime) -> Result<(), Fail> {
+fn lost_copies(rt: HostRuntime) {
     for last in [11, 10, 9] {
-        let tapes = dumped(rt.alloc())?;
-        assert!(rt; is_lost(rt.alloc(), [0, 0, 0, last], tapes)?, "{last}");
+        assert!(rt; is_lost(&rt, [0, 0, 0, last], reel(&rt)), "{last}");
     }
-    Ok(())
+    assert!(rt; is_lost(&rt, [255; 4], reel(&rt)));
+    let Ok(torn) = without_mark(rt.alloc()) else {
+        panic!(rt; "no reel");
+    };
+    assert!(rt; is_lost(&rt, [0, 0, 0, 5], torn));
 }
 
+/// Compares the room that is found for G, of three blocks, which are more than that: nothing goes off the disc then.
+fn compare(rt: &(impl Abort + AllocGlobal), files: &[Block; 5], room: u32) {
+    let mut rig = Rig::new(rt, files, reel(rt));
+    let full = StoreFault::DiscFull { need: 3, room };
+    assert!(rt; rig.bring(rt.alloc(), 0).err() == Some(full));
+    assert!(rt; rig.places() == Some(([false, true, true, true, true], 0)));
+}
+
+/// Where only C can go, it stays, and where nothing can go, there is no room at all.
 #[test]
-fn a_copy_near_the_end_of_numbers(rt: HostRuntime) -> Result<(), Fail> {
-    let tapes = dumped(rt.alloc())?;
-    assert!(rt; is_lost(rt.alloc(), [255; 4], tapes)?);
-    Ok(())
-}
-
-#[test]
-fn a_dump_without_its_mark(rt: HostRuntime) -> Result<(), Fail> {
-    let tapes = without_mark(rt.alloc())?;
-    assert!(rt; is_lost(rt.alloc(), [0, 0, 0, 5], tapes)?);
-    Ok(())
-}
-
-/// What G, of three blocks, is refused for, and which files are on the disc then.
-fn full(
-    alloc: Global,
-    files: &[Block; 5],
-) -> Result<(Option<StoreFault>, Option<([bool; 5], u32)>), Fail> {
-    let mut rig = Rig::new(alloc, files, dumped(alloc)?)?;
-    let refusal = rig.bring(alloc, 0).err();
-    Ok((refusal, rig.places()))
-}
-
-/// Three blocks are needed and only C can go, so it stays.
-#[test]
-fn a_full_disc(rt: HostRuntime) -> Result<(), Fail> {
-    let (refusal, places) = full(rt.alloc(), &one_to_take())?;
-    assert!(rt; refusal == Some(StoreFault::DiscFull { need: 3, room: 1 }));
-    assert!(rt; places == Some(([false, true, true, true, true], 0)));
-    Ok(())
-}
-
-/// Where nothing can go, there is no room at all.
-#[test]
-fn nothing_can_go(rt: HostRuntime) -> Result<(), Fail> {
-    let (refusal, _places) = full(rt.alloc(), &nothing_to_take())?;
-    assert!(rt; refusal == Some(StoreFault::DiscFull { need: 3, room: 0 }));
-    Ok(())
+fn a_full_disc(rt: HostRuntime) {
+    compare(&rt, &one_to_take(), 1);
+    compare(&rt, &nothing_to_take(), 0);
 }

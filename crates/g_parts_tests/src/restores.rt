@@ -1,7 +1,9 @@
 //! Restores from reels of dumps that were written out by hand.
-ghost use Rattle.std.specs.Prelude.{◌≡◌, ◌≤◌, true};
+ghost use Rattle.std.specs.Prelude.{◌≤◌};
 
+use g_base::{Block, NoMemory};
 use g_disc::{Disc, Leave, MemoryDisc};
+use g_entry::FileRec;
 use g_name::{Full, Lang, Local, User};
 use g_online::Online;
 use g_plain::StoreFault;
@@ -9,398 +11,275 @@ use g_restore::rebuild;
 use g_tape::{MemoryTapes, Tapes};
 use std::alloc::Global;
 use std::process::Abort;
-use std::test::Fail;
-
-/// The text of a block of content.
-const TEXT: [u8; 512] = [72; 512];
 
 /// Reels 1 and 2 of forty blocks each, the first one mounted.
-fn two_reels(alloc: Global) -> Result<MemoryTapes, Fail> {
+fn two_reels(alloc: Global) -> Result<MemoryTapes, NoMemory> {
     let mut labels = Vec::with_capacity(alloc, 2)?;
     labels.push((1, 40))?;
     labels.push((2, 40))?;
     let mut tapes = MemoryTapes::new(alloc, labels)?;
-    tapes.mount(1)?;
+    let _mounted = tapes.mount(1);
     Ok(tapes)
 }
 
-/// The header of a dump with next stamp 10; `count` are its users, files and blocks of content.
-fn header(format: u8, number: u8, place: u8, count: [u8; 3]) -> [u8; 512] {
-    let [users, files, content] = count;
+/// The block of a line: zeros but for its fields `place=number` and `place=letters`, or a text.
+fn block_of(rt: &impl Abort, line: &str) -> Block {
+    if line == "text" {
+        return [72; 512];
+    }
     let mut block = [0; 512];
-    block[..4].copy_from_slice(b"G3HD");
-    block[5] = format;
-    block[13] = number;
-    block[17] = place;
-    block[21] = users.wrapping_add(files).wrapping_add(content);
-    block[23] = users;
-    block[25] = files;
-    block[33] = 10;
+    for field in line.split_whitespace() {
+        let (place, value) = field.split_once('=').expect(rt, "a field");
+        let at: usize = place.parse().expect(rt, "a place");
+        let letters = value.as_bytes();
+        assert!(rt; at < 512 && letters.len() <= 512 - at);
+        match value.parse() {
+            Ok(byte) => block[at] = byte,
+            Err(_) => block[at..at + letters.len()].copy_from_slice(letters),
+        }
+    }
     block
 }
 
-/// A user without SPACE and TIME, whose directory is held or not; in the first format MONEY isn't written.
-fn user(name: &[u8; 6], held: u8) -> [u8; 512] {
-    let mut block = [0; 512];
-    block[0] = 1;
-    block[1] = 6;
-    block[2..8].copy_from_slice(name);
-    block[27] = held;
-    block
-}
-
-/// A file of five bytes whose copy begins at this block of reel 1. Its name is one letter.
-fn file(owner: u8, letter: u8, stamp: u8, first: u8) -> [u8; 512] {
-    let mut block = [0; 512];
-    block[0] = 1;
-    block[1] = owner;
-    block[2] = 1;
-    block[3] = letter;
-    block[16] = 1;
-    block[17..21].copy_from_slice(b"    ");
-    block[28] = stamp;
-    block[32] = 5;
-    block[33] = 31;
-    block[51] = 1;
-    block[55] = 1;
-    block[59] = first;
-    block
-}
-
-fn mark(number: u8, place: u8, count: u8) -> [u8; 512] {
-    let mut block = [0; 512];
-    block[..4].copy_from_slice(b"G3MK");
-    block[11] = number;
-    block[15] = place;
-    block[19] = count;
-    block[511] = count;
-    block
-}
-
-/// Writes these blocks on reel 1, the first of them as block `at`.
-fn put(tapes: &mut MemoryTapes, at: u32, blocks: &[[u8; 512]]) -> Result<(), Fail> {
-    let mut at = at;
-    for block in blocks {
-        tapes.write(1, at, block)?;
+/// Reels 1 and 2, both mounted, the first of them with the blocks of these lines.
+fn reels(rt: &(impl Abort + AllocGlobal), lines: &str) -> MemoryTapes {
+    let mut tapes = two_reels(rt.alloc()).expect(rt, "memory");
+    assert!(rt; tapes.mount(2) == Ok(()));
+    let mut at = 0u32;
+    for line in lines.lines() {
+        assert!(rt; tapes.write(1, at, &block_of(rt, line)) == Ok(()), "{line}");
         at = at.wrapping_add(1);
     }
-    Ok(())
+    tapes
 }
 
-/// Dump 1, of the first format, at block 0 of reel 1: both users' directories, with a file each, whose bytes are blocks 5
-/// and 6. Dump 2 behind it holds the first user's alone, whose file was replaced, with its bytes in block 12.
-fn put_two_dumps(tapes: &mut MemoryTapes) -> Result<(), Fail> {
-    put(
-        tapes,
-        0,
-        &[
-            header(1, 1, 0, [2, 2, 2]),
-            user(b"MASTER", 1),
-            user(b"MACROS", 1),
-            file(0, b'F', 1, 5),
-            file(1, b'G', 2, 6),
-            TEXT,
-            TEXT,
-            mark(1, 0, 6),
-        ],
-    )?;
-    put(
-        tapes,
-        8,
-        &[
-            header(2, 2, 8, [2, 1, 1]),
-            user(b"MASTER", 1),
-            user(b"MACROS", 0),
-            file(0, b'F', 3, 12),
-            TEXT,
-            mark(2, 8, 4),
-        ],
-    )
-}
+// A dump begins with its header: in its bytes 5 the format, 13 the number, 17 its place on the reel, 21 how many blocks there
+// are between header and mark, 23 users, 25 files, 33 the next stamp. Then come its users: in byte 27 whether the directory is
+// held. Then its files, of five bytes: in byte 1 the owner, 3 the name, 28 the stamp, 59 the block of reel 1 at which the copy
+// begins. Then texts, and the mark: in byte 11 the number, 15 the place, 19 and 511 how many blocks there are before it.
 
-/// The user blocks of four users, of whom those with number 2 and below `held` are held.
-fn four_users(held: [u8; 4]) -> [[u8; 512]; 4] {
-    let [master, macros, third, fourth] = held;
-    [
-        user(b"MASTER", master),
-        user(b"MACROS", macros),
-        user(b"ALBERT", third),
-        user(b"BERTHA", fourth),
-    ]
-}
+/// Dump 7, of two users, whose directories it holds.
+const HELD: &str = "0=G3HD 5=2 13=7 21=2 23=2 33=10
+0=1 1=6 2=MASTER 27=1
+0=1 1=6 2=MACROS 27=1
+0=G3MK 11=7 19=2 511=2";
 
-/// Three files each of users 2 and 3, in eighteen blocks from block 0 on: all directories are held.
-fn put_all(tapes: &mut MemoryTapes) -> Result<(), Fail> {
-    put(tapes, 0, &[header(2, 1, 0, [4, 6, 6])])?;
-    put(tapes, 1, &four_users([1, 1, 1, 1]))?;
-    put(
-        tapes,
-        5,
-        &[
-            file(2, b'F', 1, 11),
-            file(2, b'G', 2, 12),
-            file(2, b'H', 3, 13),
-            file(3, b'F', 4, 14),
-            file(3, b'G', 5, 15),
-            file(3, b'H', 6, 16),
-        ],
-    )?;
-    put(
-        tapes,
-        11,
-        &[TEXT, TEXT, TEXT, TEXT, TEXT, TEXT, mark(1, 0, 16)],
-    )
-}
+/// The same where it holds none.
+const NOT_HELD: &str = "0=G3HD 5=2 13=7 21=2 23=2 33=10
+0=1 1=6 2=MASTER
+0=1 1=6 2=MACROS
+0=G3MK 11=7 19=2 511=2";
 
-/// Dump 2 in ten blocks from `at` on, where user 2 has replaced a file and no other directory is held, and dump 3 in six
-/// blocks, which holds none.
-fn put_changes(tapes: &mut MemoryTapes, at: u8) -> Result<(), Fail> {
-    let content = at.wrapping_add(8);
-    let third = at.wrapping_add(10);
-    put(tapes, u32::from(at), &[header(2, 2, at, [4, 3, 1])])?;
-    put(
-        tapes,
-        u32::from(at.wrapping_add(1)),
-        &four_users([0, 0, 1, 0]),
-    )?;
-    put(
-        tapes,
-        u32::from(at.wrapping_add(5)),
-        &[
-            file(2, b'F', 7, content),
-            file(2, b'G', 2, 12),
-            file(2, b'H', 3, 13),
-            TEXT,
-            mark(2, at, 8),
-            header(2, 3, third, [4, 0, 0]),
-        ],
-    )?;
-    put(
-        tapes,
-        u32::from(third.wrapping_add(1)),
-        &four_users([0, 0, 0, 0]),
-    )?;
-    put(
-        tapes,
-        u32::from(third.wrapping_add(5)),
-        &[mark(3, third, 4)],
-    )
-}
+/// Dump 1, of the first format: both users' directories, with a file each, whose bytes are blocks 5 and 6. Dump 2 behind it
+/// holds the first user's alone, whose file was replaced, with its bytes in block 12.
+const TWO_DUMPS: &str = "0=G3HD 5=1 13=1 21=6 23=2 25=2 33=10
+0=1 1=6 2=MASTER 27=1
+0=1 1=6 2=MACROS 27=1
+0=1 2=1 3=F 16=1 17=32 18=32 19=32 20=32 28=1 32=5 33=31 51=1 55=1 59=5
+0=1 1=1 2=1 3=G 16=1 17=32 18=32 19=32 20=32 28=2 32=5 33=31 51=1 55=1 59=6
+text
+text
+0=G3MK 11=1 19=6 511=6
+0=G3HD 5=2 13=2 17=8 21=4 23=2 25=1 33=10
+0=1 1=6 2=MASTER 27=1
+0=1 1=6 2=MACROS
+0=1 2=1 3=F 16=1 17=32 18=32 19=32 20=32 28=3 32=5 33=31 51=1 55=1 59=12
+text
+0=G3MK 11=2 15=8 19=4 511=4";
 
-/// Whether the files are these, numbered from 0: owner, stamp, and the first block of the copy.
-fn has_files(online: &Online<MemoryDisc>, want: &[(u8, u64, u32)]) -> bool
-    requires live { online.now.live ≡ true }
-{
-    let files = online.tree().files();
-    if files.len() != want.len() {
-        return false;
-    }
-    for (i, (file, (owner, stamp, first))) in files.iter().zip(want).enumerate() {
-        let at = match file.tape {
-            Some(copy) => copy.first,
-            None => 0,
-        };
-        if usize::from(file.number) != i
-            || file.owner != *owner
-            || file.stamp != *stamp
-            || at != *first
-        {
-            return false;
-        }
-    }
-    true
-}
+/// Dump 1 of four users, all of whose directories it holds, with three files each of users 2 and 3. Dump 2 behind it holds that
+/// of user 2 alone, who has replaced a file, and dump 3 none.
+const CHANGES: &str = "0=G3HD 5=2 13=1 21=16 23=4 25=6 33=10
+0=1 1=6 2=MASTER 27=1
+0=1 1=6 2=MACROS 27=1
+0=1 1=6 2=ALBERT 27=1
+0=1 1=6 2=BERTHA 27=1
+0=1 1=2 2=1 3=F 16=1 17=32 18=32 19=32 20=32 28=1 32=5 33=31 51=1 55=1 59=11
+0=1 1=2 2=1 3=G 16=1 17=32 18=32 19=32 20=32 28=2 32=5 33=31 51=1 55=1 59=12
+0=1 1=2 2=1 3=H 16=1 17=32 18=32 19=32 20=32 28=3 32=5 33=31 51=1 55=1 59=13
+0=1 1=3 2=1 3=F 16=1 17=32 18=32 19=32 20=32 28=4 32=5 33=31 51=1 55=1 59=14
+0=1 1=3 2=1 3=G 16=1 17=32 18=32 19=32 20=32 28=5 32=5 33=31 51=1 55=1 59=15
+0=1 1=3 2=1 3=H 16=1 17=32 18=32 19=32 20=32 28=6 32=5 33=31 51=1 55=1 59=16
+text
+text
+text
+text
+text
+text
+0=G3MK 11=1 19=16 511=16
+0=G3HD 5=2 13=2 17=18 21=8 23=4 25=3 33=10
+0=1 1=6 2=MASTER
+0=1 1=6 2=MACROS
+0=1 1=6 2=ALBERT 27=1
+0=1 1=6 2=BERTHA
+0=1 1=2 2=1 3=F 16=1 17=32 18=32 19=32 20=32 28=7 32=5 33=31 51=1 55=1 59=26
+0=1 1=2 2=1 3=G 16=1 17=32 18=32 19=32 20=32 28=2 32=5 33=31 51=1 55=1 59=12
+0=1 1=2 2=1 3=H 16=1 17=32 18=32 19=32 20=32 28=3 32=5 33=31 51=1 55=1 59=13
+text
+0=G3MK 11=2 15=18 19=8 511=8
+0=G3HD 5=2 13=3 17=28 21=4 23=4 33=10
+0=1 1=6 2=MASTER
+0=1 1=6 2=MACROS
+0=1 1=6 2=ALBERT
+0=1 1=6 2=BERTHA
+0=G3MK 11=3 15=28 19=4 511=4";
 
-/// The number and the next stamp of a restore on a new disc, how many users it has, and whether it has these files, with all
-/// users changed.
-fn restored(
-    alloc: Global,
-    tapes: &mut MemoryTapes,
-    want: &[(u8, u64, u32)],
-) -> Result<(u64, u64, usize, bool), StoreFault> {
-    let disc = MemoryDisc::new(alloc, 2178)?;
-    match rebuild(alloc, disc, tapes) {
-        Ok((online, number)) => {
-            let users = online.tree().users().len();
-            let all = online.changed().len() == users;
-            Ok((
-                number,
-                online.head().next_stamp,
-                users,
-                all && has_files(&online, want),
-            ))
-        }
-        Err((fault, _disc)) => Err(fault),
-    }
-}
+/// Dump 1, of four users and no file, which holds the directories of the first two.
+const TWO_OF_FOUR: &str = "0=G3HD 5=2 13=1 21=4 23=4 33=10
+0=1 1=6 2=MASTER 27=1
+0=1 1=6 2=MACROS 27=1
+0=1 1=6 2=ALBERT
+0=1 1=6 2=BERTHA
+0=G3MK 11=1 19=4 511=4";
+
+/// Dump 1, of four users and no file, which holds nobody, and dumps 2 and 3 as before.
+const NOBODY: &str = "0=G3HD 5=2 13=1 21=4 23=4 33=10
+0=1 1=6 2=MASTER
+0=1 1=6 2=MACROS
+0=1 1=6 2=ALBERT
+0=1 1=6 2=BERTHA
+0=G3MK 11=1 19=4 511=4
+0=G3HD 5=2 13=2 17=6 21=8 23=4 25=3 33=10
+0=1 1=6 2=MASTER
+0=1 1=6 2=MACROS
+0=1 1=6 2=ALBERT 27=1
+0=1 1=6 2=BERTHA
+0=1 1=2 2=1 3=F 16=1 17=32 18=32 19=32 20=32 28=7 32=5 33=31 51=1 55=1 59=14
+0=1 1=2 2=1 3=G 16=1 17=32 18=32 19=32 20=32 28=2 32=5 33=31 51=1 55=1 59=12
+0=1 1=2 2=1 3=H 16=1 17=32 18=32 19=32 20=32 28=3 32=5 33=31 51=1 55=1 59=13
+text
+0=G3MK 11=2 15=6 19=8 511=8
+0=G3HD 5=2 13=3 17=16 21=4 23=4 33=10
+0=1 1=6 2=MASTER
+0=1 1=6 2=MACROS
+0=1 1=6 2=ALBERT
+0=1 1=6 2=BERTHA
+0=G3MK 11=3 15=16 19=4 511=4";
+
+/// Dump 1, whose copies of two users' files lie nowhere; the first user's file stands first.
+const NO_COPIES: &str = "0=G3HD 5=2 13=1 21=4 23=2 25=2 33=10
+0=1 1=6 2=MASTER 27=1
+0=1 1=6 2=MACROS 27=1
+0=1 2=1 3=F 16=1 17=32 18=32 19=32 20=32 28=1 32=5 33=31 51=1 55=1 59=19
+0=1 1=1 2=1 3=G 16=1 17=32 18=32 19=32 20=32 28=2 32=5 33=31 51=1 55=1 59=18
+0=G3MK 11=1 19=4 511=4";
 
 /// The refusal of a restore on a new disc, if there is one.
-fn refusal(alloc: Global, tapes: &mut MemoryTapes) -> Option<StoreFault> {
-    match restored(alloc, tapes, &[]) {
-        Ok(_) => None,
-        Err(fault) => Some(fault),
+fn refusal(rt: &(impl Abort + AllocGlobal), tapes: &mut MemoryTapes) -> Option<StoreFault> {
+    let disc = MemoryDisc::new(rt.alloc(), 2178).expect(rt, "memory");
+    match rebuild(rt.alloc(), disc, tapes) {
+        Ok((_online, _number)) => None,
+        Err((fault, _disc)) => Some(fault),
     }
 }
 
-/// Dump 7, of two users, whose directories it holds or not.
-fn put_users(tapes: &mut MemoryTapes, held: u8) -> Result<(), Fail> {
-    put(
-        tapes,
-        0,
+/// Compares files, which are numbered from 0: owner, stamp, and the first block of the copy.
+fn compare_files(rt: &impl Abort, files: &[FileRec], want: &[(u8, u64, u32)]) {
+    assert!(rt; files.len() == want.len());
+    for i in 0..files.len() {
+        let (owner, stamp, first) = want[i];
+        let file = &files[i];
+        assert!(rt; usize::from(file.number) == i && file.owner == owner && file.stamp == stamp);
+        let copy = file.tape.expect(rt, "a copy");
+        assert!(rt; copy.first == first);
+    }
+}
+
+/// Reel 1, how many blocks it has, the number of the dump that is restored, how many users there are, and the files.
+static RESTORED: [(&str, u32, u64, usize, &[(u8, u64, u32)]); 3] = [
+    (HELD, 4, 7, 2, &[]),
+    (TWO_DUMPS, 14, 2, 2, &[(0, 3, 12), (1, 2, 6)]),
+    (
+        CHANGES,
+        34,
+        3,
+        4,
         &[
-            header(2, 7, 0, [2, 0, 0]),
-            user(b"MASTER", held),
-            user(b"MACROS", held),
-            mark(7, 0, 2),
+            (2, 7, 26),
+            (2, 2, 12),
+            (2, 3, 13),
+            (3, 4, 14),
+            (3, 5, 15),
+            (3, 6, 16),
         ],
-    )
+    ),
+];
+
+/// Each directory comes from the newest dump that holds it; all users are changed then.
+#[test]
+fn each_directory_from_the_newest_dump(rt: HostRuntime) {
+    for (lines, length, number, users, files) in &RESTORED {
+        let mut tapes = reels(&rt, lines);
+        assert!(rt; tapes.length(1) == Ok(*length));
+        let disc = MemoryDisc::new(rt.alloc(), 2178).expect(&rt, "memory");
+        let Ok((online, told)) = rebuild(rt.alloc(), disc, &mut tapes) else {
+            panic!(rt; "no restore of dump {number}");
+        };
+        assert!(rt; told == *number && online.head().next_stamp == 10);
+        assert!(rt; online.tree().users().len() == *users && online.changed().len() == *users);
+        compare_files(&rt, online.tree().files(), files);
+    }
 }
 
+/// Directories and copies that are lost: the first one is told.
 #[test]
-fn a_dump_without_files(rt: HostRuntime) -> Result<(), Fail> {
-    let mut tapes = two_reels(rt.alloc())?;
-    tapes.mount(2)?;
-    put_users(&mut tapes, 1)?;
-    assert!(rt; restored(rt.alloc(), &mut tapes, &[]) == Ok((7, 10, 2, true)));
-    put_users(&mut tapes, 0)?;
-    let lost = StoreFault::LostDirectory(User::master());
-    assert!(rt; refusal(rt.alloc(), &mut tapes) == Some(lost));
-    Ok(())
-}
-
-/// The first dump is of the first format, the second one of the second.
-#[test]
-fn each_directory_from_the_newest_dump(rt: HostRuntime) -> Result<(), Fail> {
-    let mut tapes = two_reels(rt.alloc())?;
-    tapes.mount(2)?;
-    put_two_dumps(&mut tapes)?;
-    let want = [(0, 3, 12), (1, 2, 6)];
-    assert!(rt; restored(rt.alloc(), &mut tapes, &want) == Ok((2, 10, 2, true)));
-    Ok(())
-}
-
-/// The directory that didn't change comes from the first dump, the other one from the second.
-#[test]
-fn a_directory_that_was_not_held_again(rt: HostRuntime) -> Result<(), Fail> {
-    let mut tapes = two_reels(rt.alloc())?;
-    tapes.mount(2)?;
-    put_all(&mut tapes)?;
-    put_changes(&mut tapes, 18)?;
-    assert!(rt; tapes.length(1)? == 34);
-    let want = [
-        (2, 7, 26),
-        (2, 2, 12),
-        (2, 3, 13),
-        (3, 4, 14),
-        (3, 5, 15),
-        (3, 6, 16),
-    ];
-    assert!(rt; restored(rt.alloc(), &mut tapes, &want) == Ok((3, 10, 4, true)));
-    Ok(())
-}
-
-/// A dump of four users and no file, and the same two dumps behind one that holds nobody.
-#[test]
-fn the_first_lost_directory(rt: HostRuntime) -> Result<(), Fail> {
-    let mut tapes = two_reels(rt.alloc())?;
-    tapes.mount(2)?;
-    put(&mut tapes, 0, &[header(2, 1, 0, [4, 0, 0])])?;
-    put(&mut tapes, 1, &four_users([1, 1, 0, 0]))?;
-    put(&mut tapes, 5, &[mark(1, 0, 4)])?;
-    let third = StoreFault::LostDirectory(User::parse(b":ALBERT")?);
-    assert!(rt; refusal(rt.alloc(), &mut tapes) == Some(third));
-    put(&mut tapes, 1, &four_users([0, 0, 0, 0]))?;
-    put(&mut tapes, 5, &[mark(1, 0, 4)])?;
-    put_changes(&mut tapes, 6)?;
+fn what_is_lost(rt: HostRuntime) {
     let first = StoreFault::LostDirectory(User::master());
-    assert!(rt; refusal(rt.alloc(), &mut tapes) == Some(first));
-    Ok(())
-}
-
-/// The copies of two users' files lie nowhere; the first user's file stands first.
-#[test]
-fn the_first_lost_copy(rt: HostRuntime) -> Result<(), Fail> {
-    let mut tapes = two_reels(rt.alloc())?;
-    tapes.mount(2)?;
-    let blocks = [
-        header(2, 1, 0, [2, 2, 0]),
-        user(b"MASTER", 1),
-        user(b"MACROS", 1),
-        file(0, b'F', 1, 19),
-        file(1, b'G', 2, 18),
-        mark(1, 0, 4),
-    ];
-    put(&mut tapes, 0, &blocks)?;
+    assert!(rt; refusal(&rt, &mut reels(&rt, NOT_HELD)) == Some(first));
+    let third = StoreFault::LostDirectory(User::parse(b":ALBERT").expect(&rt, "a user"));
+    assert!(rt; refusal(&rt, &mut reels(&rt, TWO_OF_FOUR)) == Some(third));
+    let first = StoreFault::LostDirectory(User::master());
+    assert!(rt; refusal(&rt, &mut reels(&rt, NOBODY)) == Some(first));
     let full = Full {
         user: User::master(),
-        local: Local::parse(b"F")?,
+        local: Local::parse(b"F").expect(&rt, "a local name"),
         generation: 1,
         lang: Lang::spaces(),
     };
     let lost = StoreFault::LostCopy(full, 1);
-    assert!(rt; refusal(rt.alloc(), &mut tapes) == Some(lost));
-    Ok(())
+    assert!(rt; refusal(&rt, &mut reels(&rt, NO_COPIES)) == Some(lost));
 }
 
 #[test]
-fn refusals_of_the_reels(rt: HostRuntime) -> Result<(), Fail> {
-    let mut tapes = two_reels(rt.alloc())?;
-    put_two_dumps(&mut tapes)?;
-    let second = StoreFault::RackNotMounted(2);
-    assert!(rt; refusal(rt.alloc(), &mut tapes) == Some(second));
-    let mut tapes = two_reels(rt.alloc())?;
-    tapes.mount(2)?;
-    assert!(rt; refusal(rt.alloc(), &mut tapes) == Some(StoreFault::NoDump));
-    put_two_dumps(&mut tapes)?;
-    tapes.fail_reads([3].to_vec(rt.alloc())?);
-    let unread = StoreFault::TapeReadFault;
-    assert!(rt; refusal(rt.alloc(), &mut tapes) == Some(unread));
-    Ok(())
+fn refusals_of_the_reels(rt: HostRuntime) {
+    let mut tapes = reels(&rt, TWO_DUMPS);
+    assert!(rt; tapes.unmount(2) == Ok(()));
+    assert!(rt; refusal(&rt, &mut tapes) == Some(StoreFault::RackNotMounted(2)));
+    assert!(rt; refusal(&rt, &mut reels(&rt, "")) == Some(StoreFault::NoDump));
+    let mut tapes = reels(&rt, TWO_DUMPS);
+    tapes.fail_reads([3].to_vec(rt.alloc()).expect(&rt, "memory"));
+    assert!(rt; refusal(&rt, &mut tapes) == Some(StoreFault::TapeReadFault));
 }
 
 /// What a disc holds after a restore whose `k`-th write failed: how many files, if there is a filestore.
-fn after_stop(rt: &impl Abort, alloc: Global, k: u32, leave: Leave) -> Result<Option<usize>, Fail>
+fn after_stop(rt: &(impl Abort + AllocGlobal), k: u32, leave: Leave) -> Option<usize>
     requires { 1 ≤ k }
 {
-    let mut tapes = two_reels(alloc)?;
-    tapes.mount(2)?;
-    put_two_dumps(&mut tapes)?;
-    let mut disc = MemoryDisc::new(alloc, 2178)?;
+    let mut tapes = reels(rt, TWO_DUMPS);
+    let mut disc = MemoryDisc::new(rt.alloc(), 2178).expect(rt, "memory");
     disc.set_leave(leave);
     disc.arm(k);
-    match rebuild(alloc, disc, &mut tapes) {
-        Ok(_) => Err("no write failed".into()),
-        Err((fault, disc)) => {
-            assert!(rt; fault == StoreFault::Stopped);
-            assert!(rt; 2177 < disc.size());
-            assert!(rt; disc.size() < 3000);
-            match Online::load(alloc, disc) {
-                Ok(online) => Ok(Some(online.tree().files().len())),
-                Err(_) => Ok(None),
-            }
-        }
+    let Err((fault, disc)) = rebuild(rt.alloc(), disc, &mut tapes) else {
+        panic!(rt; "no write failed");
+    };
+    assert!(rt; fault == StoreFault::Stopped);
+    assert!(rt; 2177 < disc.size() && disc.size() < 3000);
+    match Online::load(rt.alloc(), disc) {
+        Ok(online) => Some(online.tree().files().len()),
+        Err((_fault, _disc)) => None,
     }
 }
 
-/// The refusal of a restore on a disc whose first read fails.
-fn unread(alloc: Global) -> Result<Option<StoreFault>, Fail> {
-    let mut tapes = two_reels(alloc)?;
-    tapes.mount(2)?;
-    put_two_dumps(&mut tapes)?;
-    let mut disc = MemoryDisc::new(alloc, 2178)?;
-    disc.fail_reads([1].to_vec(alloc)?);
-    match rebuild(alloc, disc, &mut tapes) {
-        Ok(_) => Ok(None),
-        Err((fault, _disc)) => Ok(Some(fault)),
-    }
-}
-
-/// The write of the gate is the last one.
+/// The write of the gate is the last one; and a disc whose first read fails.
 #[test]
-fn refusals_of_the_disc(rt: HostRuntime) -> Result<(), Fail> {
-    assert!(rt; after_stop(&rt, rt.alloc(), 7, Leave::Whole)? == None);
-    assert!(rt; after_stop(&rt, rt.alloc(), 1089, Leave::Old)? == None);
-    assert!(rt; after_stop(&rt, rt.alloc(), 1089, Leave::Whole)? == Some(2));
-    assert!(rt; unread(rt.alloc())? == Some(StoreFault::DiscReadFault));
-    Ok(())
+fn refusals_of_the_disc(rt: HostRuntime) {
+    assert!(rt; after_stop(&rt, 7, Leave::Whole) == None);
+    assert!(rt; after_stop(&rt, 1089, Leave::Old) == None);
+    assert!(rt; after_stop(&rt, 1089, Leave::Whole) == Some(2));
+    let mut disc = MemoryDisc::new(rt.alloc(), 2178).expect(&rt, "memory");
+    disc.fail_reads([1].to_vec(rt.alloc()).expect(&rt, "memory"));
+    let Err((fault, _disc)) = rebuild(rt.alloc(), disc, &mut reels(&rt, TWO_DUMPS)) else {
+        panic!(rt; "a disc that can't be read");
+    };
+    assert!(rt; fault == StoreFault::DiscReadFault);
 }

@@ -5,16 +5,16 @@ ghost use Rattle.g_contents.specs.Facts.{IsTied};
 
 use g_base::{Block, blocks_for};
 use g_disc::{Disc, MemoryDisc};
-use g_laid_out::disc_with;
+use g_laid_out::{disc_with, dumped};
 use g_migrate::{Unjam, migrate, plan_unjam};
 use g_name::Text;
 use g_online::{Online, OnlineFault};
 use g_plain::StoreFault;
 use g_retrieve::bring_back;
-use g_tape::{MemoryTapes, Tapes};
+use g_tape::{MemoryTapes, TapeFault, Tapes};
 use std::alloc::Global;
 use std::marker::Model;
-use std::test::Fail;
+use std::process::Abort;
 
 /// The filestore, the reel, and whether a write of the disc has failed, behind which no call is made.
 #[derive(Drop)]
@@ -37,29 +37,34 @@ impl Model for Rig {
 
 impl Rig {
     /// The filestore of a disc with these files.
-    pub(crate) fn new(alloc: Global, files: &[Block; 5], tapes: MemoryTapes) -> Result<Rig, Fail> {
-        Rig::on(alloc, disc_with(alloc, files)?, tapes)
+    pub(crate) fn new(
+        rt: &(impl Abort + AllocGlobal),
+        files: &[Block; 5],
+        tapes: MemoryTapes,
+    ) -> Rig {
+        match disc_with(rt.alloc(), files) {
+            Ok(disc) => Rig::on(rt, disc, tapes),
+            Err(_) => panic!(rt; "no disc"),
+        }
     }
 
     /// The filestore that the disc holds.
-    pub(crate) fn on(alloc: Global, disc: MemoryDisc, tapes: MemoryTapes) -> Result<Rig, Fail> {
-        if disc.size() <= 2177 || disc.size() > 1_048_576 {
-            return Err("another disc".into());
-        }
-        match Online::load(alloc, disc) {
-            Ok(online) => Ok(Rig {
+    pub(crate) fn on(rt: &(impl Abort + AllocGlobal), disc: MemoryDisc, tapes: MemoryTapes) -> Rig {
+        assert!(rt; 2177 < disc.size() && disc.size() <= 1_048_576);
+        match Online::load(rt.alloc(), disc) {
+            Ok(online) => Rig {
                 online,
                 tapes,
                 stopped: false,
-            }),
-            Err((fault, _disc)) => Err(fault.into()),
+            },
+            Err((_fault, _disc)) => panic!(rt; "no filestore"),
         }
     }
 
     /// The filestore that the disc holds now, whatever became of it.
-    pub(crate) fn loaded_again(self, alloc: Global) -> Result<Rig, Fail> {
+    pub(crate) fn loaded_again(self, rt: &(impl Abort + AllocGlobal)) -> Rig {
         let Rig { online, tapes, .. } = self;
-        Rig::on(alloc, online.into_disc(), tapes)
+        Rig::on(rt, online.into_disc(), tapes)
     }
 
     /// Brings a file back by a plan of its own, as a store does. `Running`: there is no such file, it is on the disc, or a write
@@ -94,9 +99,8 @@ impl Rig {
     }
 
     /// Takes the reel down.
-    pub(crate) fn unmount(&mut self) -> Result<(), Fail> {
-        self.tapes.unmount(9)?;
-        Ok(())
+    pub(crate) fn unmount(&mut self) -> Result<(), TapeFault> {
+        self.tapes.unmount(9)
     }
 
     /// The bytes of a file on the disc. `NoFilestore`: it isn't there, or a write has failed.
@@ -139,6 +143,14 @@ impl Rig {
             Ok(plan) => Ok(plan),
             Err(_) => Err(StoreFault::NoMemory),
         }
+    }
+}
+
+/// Reel 9 with its dump.
+pub(crate) fn reel(rt: &(impl Abort + AllocGlobal)) -> MemoryTapes {
+    match dumped(rt.alloc()) {
+        Ok(tapes) => tapes,
+        Err(_) => panic!(rt; "no dump"),
     }
 }
 

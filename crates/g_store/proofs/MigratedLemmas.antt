@@ -121,6 +121,7 @@ module _ (path : Path) (t : StoreFacts) (unspent : t.spent ≡ false) (keeps : I
         wrote;
     cause = no_cause t fault disc tape stop;
     dump = λ _. refl;
+    same = λ _. refl;
     exact = λ text. exact_some _ t fault (is text []);
     done = tt;
     stopped = λ is. absurd (stop (let same : fault ≡ Stopped = cc in same));
@@ -170,6 +171,7 @@ module _ (path : Path) (t : StoreFacts) (unspent : t.spent ≡ false) (keeps : I
         event = refused (MigratesBy path) (λ full. 1) t unspent NoMemory (λ e. let no : ⊥ = cc in no) keeps (λ u here. here) (none_written t);
         cause = no_cause t NoMemory (λ e. let no : ⊥ = cc in no) (λ e. let no : ⊥ = cc in no) (λ e. let no : ⊥ = cc in no);
         dump = λ _. refl;
+        same = λ _. refl;
         exact = λ text. exact_none _ t t (Err NoMemory) (granted Plain text []) (inr refl);
         done = tt;
         stopped = λ is. absurd (let no : ⊥ = cc in no);
@@ -268,6 +270,7 @@ module _ (path : Path) (t : StoreFacts) (unspent : t.spent ≡ false) (keeps : I
               writes = λ fault is other. absurd (let no : ⊥ = cc in no);
             };
             dump = λ _. refl;
+            same = tt;
             exact = λ text. exact_none _ t after (Ok full) (granted Plain text []) tt;
             done = record { number = f.rec.number; named = is.named; leaves = done };
             stopped = λ is. absurd (let no : ⊥ = cc in no);
@@ -353,6 +356,7 @@ module _ (path : Path) (t : StoreFacts) (unspent : t.spent ≡ false) (keeps : I
               writes = λ fault is other. absurd (other (let it : fault ≡ Stopped = cc in it));
             };
             dump = λ none. absurd (none refl);
+            same = λ other. absurd (other refl);
             exact = λ text. exact_none _ t spent (Err Stopped) (granted Plain text []) (inl refl);
             done = tt;
             stopped = λ _. (full, record { number = f.rec.number; named = is.named; leaves = stopped });

@@ -384,6 +384,7 @@ module _ (serial : ℕ) (o : OnlineFacts) (rack : Rack) (on : Reel) (on_is : ree
           writes = λ fault is other. absurd (let no : ⊥ = cc in no);
         };
         dump = λ fault is other. absurd (let no : ⊥ = cc in no);
+        same = tt;
         exact = exact_none (Ok d.plan.number) (up_with new after (Some d)) tt;
         number = λ n is. (let same : n ≡ d.plan.number = cc in same) ∙ number;
         full = λ need room is. absurd (let no : ⊥ = cc in no);
@@ -436,6 +437,7 @@ module _ (serial : ℕ) (o : OnlineFacts) (rack : Rack) (on : Reel) (on_is : ree
         writes = λ f yes no. ap (λ (x : OnlineFacts). x.disc.writes) is;
       };
       dump = λ f yes no. refl;
+      same = λ _. is;
       exact = exact_none (Err fault) behind others;
       number = λ n yes. absurd (let no : ⊥ = cc in no);
       full = full;
@@ -711,6 +713,7 @@ module _ (serial : ℕ) (o : OnlineFacts) (rack : Rack) (on : Reel) (on_is : ree
           writes = λ f yes other. absurd (other (let it : f ≡ Stopped = cc in it));
         };
         dump = λ f yes other. absurd (other (let it : f ≡ Stopped = cc in it));
+        same = λ other. absurd (other refl);
         exact = exact_none (Err Stopped) (spent_with new after) (inr (inr (inl refl)));
         number = λ n no. absurd (let it : ⊥ = cc in it);
         full = λ need room no. absurd (let it : ⊥ = cc in it);
@@ -876,6 +879,7 @@ module _ (serial : ℕ) (t : StoreFacts) (unspent : t.spent ≡ false) (keeps : 
       writes = λ f yes other. refl;
     };
     dump = λ f yes other. refl;
+    same = λ _. refl;
     exact = record {
       refused = subst (λ (x : Option StoreFault). IfSome x (λ f. (let r : Result ℕ StoreFault = Err fault in r ≡ Err f) × (t ≡ t))) (sym is) (refl, refl);
       granted = λ none. absurd (none-some fault (sym none ∙ is));

@@ -1,5 +1,5 @@
 -- HOW A STORE ANSWERS THE EVENTS OF THE OPERATOR.
-use Rattle.std.specs.Prelude.{◌≡◌, ◌≢◌, ◌⊎◌, ℕ, ◌+◌, ◌<◌, ◌≤◌, ◌↔◌, true, false, [], ◌∷◌, List, Some, IfOk, Result, Ok, Err}
+use Rattle.std.specs.Prelude.{◌≡◌, ◌≢◌, ◌⊎◌, ℕ, ◌+◌, ◌<◌, ◌≤◌, ◌↔◌, true, false, [], ◌∷◌, List, Some, IfErr, IfOk, Result, Ok, Err}
 use Rattle.g_name.specs.declared.full.Full.{Full}
 use Rattle.g_name.specs.declared.path.Path.{Path}
 use Rattle.g_tape.specs.Reel.{with_mounted}
@@ -55,11 +55,13 @@ pub record AnswersEvent {A : Type 0} (by : State → Holding → Outcome → Res
 abbrev pub IsOfOpening : StoreFault → Type 0
 IsOfOpening fault = (fault ≡ TapeReadFault) ⊎ (((need room : ℕ) × (fault ≡ TapeFull need room)) ⊎ ((fault ≡ Stopped) ⊎ (fault ≡ NoMemory)))
 
--- opening a dump: one commit (and g_dumper's `Begins`); it answers the number behind the last one
+-- Opening a dump: one commit (and g_dumper's `Begins`); it answers the number behind the last one. Refused, what is online is as it
+-- was; only, where memory was wanting, nobody may count as touched any more.
 pub record Opens (serial : ℕ) (old : StoreFacts) (answer : Result ℕ StoreFault) (new : StoreFacts) : Type 0 where
   pub event : AnswersEvent (λ s k o a n. OpenStep s k serial o a n) (λ number. 1) old answer new
   pub cause : HasCause old new answer
   pub dump : (fault : StoreFault) → answer ≡ Err fault → fault ≢ Stopped → new.dump ≡ old.dump
+  pub same : IfErr answer (λ e. e ≢ Stopped → new.online ≡ record old.online { touched = new.online.touched })
   pub exact : IsExact (open_refuses serial old) IsOfOpening old answer new
   pub number : (n : ℕ) → answer ≡ Ok n → n ≡ old.online.contents.head.last_dump + 1
   pub full : (need room : ℕ) → answer ≡ Err (TapeFull need room)
@@ -93,6 +95,7 @@ pub record Migrates (path : Path) (old : StoreFacts) (answer : Result Full Store
   pub event : AnswersEvent (λ s k o a n. MigrateStep s k path.user (input_name k.tree [] path) o a n) (λ full. 1) old answer new
   pub cause : HasCause old new answer
   pub dump : (answer ≡ Err Stopped → ⊥) → new.dump ≡ old.dump
+  pub same : IfErr answer (λ e. e ≢ Stopped → new ≡ old)
   pub exact : (text : ℕ → List ℕ)
       → (let k = holding_of text [] old.online.contents in IsExact (migrate_refuses k path.user (input_name k.tree [] path) Plain) IsOfMigration old answer new)
   pub done : IfOk answer (Unloads path (λ change. HasChanged change old.online new.online) old.online)

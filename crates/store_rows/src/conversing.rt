@@ -1,15 +1,14 @@
 //! A conversation of some hundred calls, with dumps, migrations and starts in it, beside a plain store.
 use crate::asking::asked;
-use crate::events::{Ask, Event};
-use crate::rows::{play, told};
+use crate::events::{Ask, Device, Event};
+use crate::rows::{Wrong, play, told};
 use crate::setting::Setting;
 use crate::system::{System, happens};
-use anyhow::anyhow;
 use g_plain::PlainStore;
 use std::alloc::Global;
 
 /// Numbers that look like chance, each made of the one before.
-#[derive(Drop)]
+#[derive(Clone, Copy)]
 struct Dice {
     state: u32,
 }
@@ -58,7 +57,7 @@ fn drawn_call(dice: &mut Dice) -> Ask<'static> {
 /// What an operator does.
 fn drawn_event(dice: &mut Dice) -> Event<'static> {
     match dice.roll(40) {
-        0..=4 => Event::Open(1),
+        0..=4 => Event::Device(Device::Open, 1),
         5..=14 => Event::Migrate(path(dice.roll(6))),
         15 => Event::Shut,
         _ => Event::Step,
@@ -83,60 +82,61 @@ fn operate(alloc: Global, system: System, dice: &mut Dice) -> System {
 
 /// A call that both stores answer alike.
 fn ask_both(
-    alloc: Global,
+    rt: &HostRuntime,
     system: System,
     plain: &mut PlainStore,
     ask: Ask<'static>,
-) -> anyhow::Result<System> {
-    let wanted = told(alloc, &asked(alloc, plain, "MASTER", &ask))?;
-    let (next, outcome) = happens(alloc, system, &Event::Ask("MASTER", ask));
-    let seen = told(alloc, &outcome)?;
+) -> Result<System, Wrong> {
+    let wanted = told(rt.alloc(), &asked(rt.alloc(), plain, "MASTER", &ask))?;
+    let (next, outcome) = happens(rt.alloc(), system, &Event::Ask("MASTER", ask));
+    let seen = told(rt.alloc(), &outcome)?;
     if seen.as_str() == wanted.as_str() {
         Ok(next)
     } else {
-        Err(anyhow!("{} and not {}", seen.as_str(), wanted.as_str()))
+        println!(rt; "{} and not {}", seen.as_str(), wanted.as_str())?;
+        Err(Wrong("another answer"))
     }
 }
 
 /// What is dumped at the end is restored whole.
-fn restore(alloc: Global, system: System, plain: &mut PlainStore) -> anyhow::Result<()> {
+fn restore(rt: &HostRuntime, system: System, plain: &mut PlainStore) -> Result<(), Wrong> {
     let mut system = system;
     for event in [
         Event::Finish,
-        Event::Open(1),
+        Event::Device(Device::Open, 1),
         Event::Finish,
         Event::Shut,
         Event::Restore,
     ] {
-        let (next, _answer) = happens(alloc, system, &event);
+        let (next, _answer) = happens(rt.alloc(), system, &event);
         system = next;
     }
-    system = ask_both(alloc, system, plain, Ask::List("MASTER"))?;
+    system = ask_both(rt, system, plain, Ask::List("MASTER"))?;
     for roll in 0..6 {
-        system = ask_both(alloc, system, plain, Ask::Fetch(path(roll)))?;
+        system = ask_both(rt, system, plain, Ask::Fetch(path(roll)))?;
     }
     Ok(())
 }
 
 /// The system answers as the plain store does, and behind the restore too.
-fn converse(alloc: Global) -> anyhow::Result<()> {
-    let mut plain = PlainStore::new(alloc)?;
+fn converse(rt: &HostRuntime) -> Result<(), Wrong> {
+    let mut plain = PlainStore::new(rt.alloc())?;
     let mut dice = Dice { state: 7 };
-    let system = Setting::parse("as_a_plain_store")?.system(alloc)?;
-    let mut system = play(alloc, system, "format\nmount 1")?;
+    let system = Setting::parse("as_a_plain_store")?.system(rt.alloc())?;
+    let mut system = play(rt, system, "format\nmount 1")?;
     for _ in 0..150 {
         let ask = drawn_call(&mut dice);
-        system = ask_both(alloc, system, &mut plain, ask)?;
-        system = operate(alloc, system, &mut dice);
+        system = ask_both(rt, system, &mut plain, ask)?;
+        system = operate(rt.alloc(), system, &mut dice);
     }
-    restore(alloc, system, &mut plain)
+    restore(rt, system, &mut plain)
 }
 
 /// Prints what became of the conversation.
-pub(crate) fn run(rt: &HostRuntime) -> anyhow::Result<()> {
-    match converse(rt.alloc()) {
+pub(crate) fn run(rt: &HostRuntime) -> Result<(), Wrong> {
+    match converse(rt) {
         Ok(()) => println!(rt; "as_a_plain_store as it should be")?,
-        Err(why) => println!(rt; "as_a_plain_store differs: {why}")?,
+        Err(why) => println!(rt; "as_a_plain_store differs: {}", why.0)?,
     }
     Ok(())
 }

@@ -1,7 +1,7 @@
 //! Events of a system that is down: its devices alone.
 ghost use Rattle.std.specs.Prelude.{◌<◌, ◌≤◌};
 
-use crate::events::{Answer, Event};
+use crate::events::{Answer, Device, Event};
 use crate::rows::Outcome;
 use crate::system::System;
 use g_disc::{Disc, MemoryDisc};
@@ -80,11 +80,14 @@ fn turned(
     event: &Event,
 ) -> (System, Outcome) {
     let answer = match event {
-        Event::StopDisc(k) => stop_disc(&mut disc, *k),
-        Event::Unread(call) => unread(alloc, &mut disc, *call),
-        Event::Mount(serial) => mounted(&mut tapes, *serial),
-        Event::Unmount(serial) => unmounted(&mut tapes, *serial),
-        Event::Length(serial) => length(&tapes, *serial),
+        Event::Device(device, number) => match device {
+            Device::StopDisc => stop_disc(&mut disc, *number),
+            Device::Unread => unread(alloc, &mut disc, *number),
+            Device::Mount => mounted(&mut tapes, *number),
+            Device::Unmount => unmounted(&mut tapes, *number),
+            Device::Length => length(&tapes, *number),
+            _ => Err(StoreFault::NotStarted),
+        },
         Event::Noted(place, i) => noted(alloc, &mut tapes, *place, *i),
         _ => Err(StoreFault::NotStarted),
     };

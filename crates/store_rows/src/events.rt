@@ -1,29 +1,19 @@
 //! What happens to a system, and what is told of it.
 
 /// An event of a system. Users, paths and files are given by their names; a file's bytes are so many times one letter.
-#[derive(Drop)]
+#[derive(Clone, Copy)]
 pub(crate) enum Event<'a> {
     Format,
     Start,
     Restore,
     Shut,
-    Mount(u32),
-    Unmount(u32),
-    /// The disc's write of this number from here on fails.
-    StopDisc(u32),
-    /// The tapes' write of this number from here on fails.
-    StopTape(u32),
-    /// The disc's read of this number, counted from the making of the disc, fails.
-    Unread(u32),
-    /// A dump is opened on the reel.
-    Open(u32),
+    /// A device is turned or asked.
+    Device(Device, u32),
     /// A step of the open dump.
     Step,
     /// Steps of the open dump until it is completed.
     Finish,
     Migrate(&'a str),
-    /// How many blocks the reel has.
-    Length(u32),
     /// The first block of the copy of a file, by its place among the files, in the dump of reel 1 that begins at this block.
     Noted(u32, usize),
     /// What the store tells of itself.
@@ -32,8 +22,25 @@ pub(crate) enum Event<'a> {
     Ask(&'a str, Ask<'a>),
 }
 
+/// What a device is turned to, or asked for, by a number.
+#[derive(Clone, Copy)]
+pub(crate) enum Device {
+    Mount,
+    Unmount,
+    /// The disc's write of this number from here on fails.
+    StopDisc,
+    /// The tapes' write of this number from here on fails.
+    StopTape,
+    /// The disc's read of this number, counted from the making of the disc, fails.
+    Unread,
+    /// A dump is opened on the reel.
+    Open,
+    /// How many blocks the reel has.
+    Length,
+}
+
 /// A call of a user.
-#[derive(Drop)]
+#[derive(Clone, Copy)]
 pub(crate) enum Ask<'a> {
     /// A user with so many blocks of SPACE.
     NewUser(&'a str, u16),
@@ -47,7 +54,7 @@ pub(crate) enum Ask<'a> {
 }
 
 /// What is told of an event that isn't refused.
-#[derive(Debug, Drop)]
+#[derive(Clone, Copy, Debug)]
 pub(crate) enum Answer {
     Done,
     /// The number of a dump.
@@ -65,7 +72,7 @@ pub(crate) enum Answer {
 
 /// What a store tells: how many users it has, the TIME of MASTER and the MONEY of MACROS, the number of the open dump, and
 /// whether reel 2 is mounted.
-#[derive(Debug, Drop)]
+#[derive(Clone, Copy, Debug)]
 pub(crate) struct Facts {
     pub(crate) users: usize,
     pub(crate) time: Option<u64>,

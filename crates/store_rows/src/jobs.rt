@@ -1,10 +1,9 @@
 //! A job says the same over a plain store and over the whole one.
 ghost use Rattle.std.specs.Prelude.{◌≡◌, false};
 
-use crate::rows::play;
+use crate::rows::{Wrong, play};
 use crate::setting::Setting;
 use crate::system::System;
-use anyhow::anyhow;
 use g_budget::{Charge, Tariff, Usage};
 use g_job::{Job, Turn};
 use g_lines::Texts;
@@ -13,7 +12,7 @@ use g_plain::{Filestore, PlainStore};
 use std::alloc::Global;
 
 /// Takes turns until the job ends.
-fn finish<S: Filestore>(alloc: Global, store: &mut S, job: &mut Job) -> anyhow::Result<()>
+fn finish<S: Filestore>(alloc: Global, store: &mut S, job: &mut Job) -> Result<(), Wrong>
     requires open { job.old.over ≡ false }
     requires running { S.is_spent store.old ≡ false }
 {
@@ -25,21 +24,21 @@ fn finish<S: Filestore>(alloc: Global, store: &mut S, job: &mut Job) -> anyhow::
         match job.turn(alloc, store, &tariff)? {
             Turn::Ran { units: _, money: _ } => {}
             Turn::Ended { units: _, money: _ } => return Ok(()),
-            Turn::Wants { serial: _ } | Turn::Broken => return Err(anyhow!("no end")),
+            Turn::Wants { serial: _ } | Turn::Broken => return Err(Wrong("no end")),
         }
         if store.spent() {
-            return Err(anyhow!("a stop that was not told"));
+            return Err(Wrong("a stop that was not told"));
         }
     }
-    Err(anyhow!("too many turns"))
+    Err(Wrong("too many turns"))
 }
 
 /// A job with this document at its end.
-fn ended<S: Filestore>(alloc: Global, store: &mut S, document: &[u8]) -> anyhow::Result<Job>
+fn ended<S: Filestore>(alloc: Global, store: &mut S, document: &[u8]) -> Result<Job, Wrong>
     requires { S.is_spent store.old ≡ false }
 {
     let Some(name) = Local::new(b"DEEP") else {
-        return Err(anyhow!("no name"));
+        return Err(Wrong("no name"));
     };
     let lines = Texts::of_text(alloc, document)?;
     let mut job = Job::new(alloc, 1, name, User::master(), 20, 1_000, lines)?;
@@ -48,29 +47,29 @@ fn ended<S: Filestore>(alloc: Global, store: &mut S, document: &[u8]) -> anyhow:
 }
 
 /// The job over a plain store.
-fn over_plain(alloc: Global, document: &[u8]) -> anyhow::Result<Job> {
+fn over_plain(alloc: Global, document: &[u8]) -> Result<Job, Wrong> {
     let mut plain = PlainStore::new(alloc)?;
     ended(alloc, &mut plain, document)
 }
 
 /// The same over the whole one, on a new disc.
-fn over_whole(alloc: Global, document: &[u8]) -> anyhow::Result<Job> {
-    let system = Setting::parse("one_job_over_both")?.system(alloc)?;
-    match play(alloc, system, "format")? {
+fn over_whole(rt: &HostRuntime, document: &[u8]) -> Result<Job, Wrong> {
+    let system = Setting::parse("one_job_over_both")?.system(rt.alloc())?;
+    match play(rt, system, "format")? {
         System::Up(mut store) => {
             if store.spent() {
-                return Err(anyhow!("a store that is spent"));
+                return Err(Wrong("a store that is spent"));
             }
-            ended(alloc, &mut store, document)
+            ended(rt.alloc(), &mut store, document)
         }
-        System::Down(_disc, _tapes) => Err(anyhow!("no store")),
+        System::Down(_disc, _tapes) => Err(Wrong("no store")),
     }
 }
 
 /// Compares what both say with this text: the ninth level is too deep, and a WHENEVER goes on behind that.
-pub(crate) fn run(rt: &HostRuntime, document: &str, text: &str) -> anyhow::Result<()> {
+pub(crate) fn run(rt: &HostRuntime, document: &str, text: &str) -> Result<(), Wrong> {
     let plain = over_plain(rt.alloc(), document.as_bytes())?;
-    let whole = over_whole(rt.alloc(), document.as_bytes())?;
+    let whole = over_whole(rt, document.as_bytes())?;
     if plain.monitor() == text.as_bytes() && whole.monitor() == text.as_bytes() {
         println!(rt; "one_job_over_both as it should be")?;
     } else {

@@ -1,7 +1,7 @@
 //! What an operator does to a store that is up.
 ghost use Rattle.std.specs.Prelude.{◌≡◌, false};
 
-use crate::events::{Answer, Event, Facts};
+use crate::events::{Answer, Device, Event, Facts};
 use crate::rows::Outcome;
 use g_disc::MemoryDisc;
 use g_dumper::DumpStep;
@@ -20,14 +20,17 @@ pub(crate) fn operated(
     requires running { store.old.spent ≡ false }
 {
     match event {
-        Event::Mount(serial) => done(store.mount(*serial)),
-        Event::Unmount(serial) => done(store.unmount(*serial)),
-        Event::Open(serial) => opened(alloc, store, *serial),
+        Event::Device(device, number) => match device {
+            Device::Mount => done(store.mount(*number)),
+            Device::Unmount => done(store.unmount(*number)),
+            Device::Open => opened(alloc, store, *number),
+            Device::StopDisc => stop_disc(store, *number),
+            Device::StopTape => stop_tape(store, *number),
+            _ => Err(StoreFault::Running),
+        },
         Event::Step => stepped(store),
         Event::Finish => finished(store),
         Event::Migrate(path) => migrated(alloc, store, path),
-        Event::StopDisc(k) => stop_disc(store, *k),
-        Event::StopTape(k) => stop_tape(store, *k),
         Event::Told => Ok(Answer::Facts(told(store))),
         _ => Err(StoreFault::Running),
     }

@@ -1,9 +1,31 @@
 //! The event of a line.
-use crate::events::{Ask, Event};
-use anyhow::anyhow;
+use crate::events::{Ask, Device, Event};
+use crate::rows::Wrong;
+
+/// The events that are one word.
+static BARE: [(&str, Event<'static>); 7] = [
+    ("format", Event::Format),
+    ("start", Event::Start),
+    ("restore", Event::Restore),
+    ("shut", Event::Shut),
+    ("step", Event::Step),
+    ("finish", Event::Finish),
+    ("told", Event::Told),
+];
+
+/// Those with a number.
+static DEVICES: [(&str, Device); 7] = [
+    ("mount", Device::Mount),
+    ("unmount", Device::Unmount),
+    ("open", Device::Open),
+    ("length", Device::Length),
+    ("stop_disc", Device::StopDisc),
+    ("stop_tape", Device::StopTape),
+    ("unread", Device::Unread),
+];
 
 /// The event that these words are.
-pub(crate) fn event_of<'a>(line: &'a str) -> anyhow::Result<Event<'a>> {
+pub(crate) fn event_of<'a>(line: &'a str) -> Result<Event<'a>, Wrong> {
     let Some((name, rest)) = line.split_once(' ') else {
         return bare(line);
     };
@@ -21,55 +43,30 @@ pub(crate) fn event_of<'a>(line: &'a str) -> anyhow::Result<Event<'a>> {
 }
 
 /// What stands before and behind the first space.
-fn halves<'a>(text: &'a str) -> anyhow::Result<(&'a str, &'a str)> {
-    match text.split_once(' ') {
-        Some((one, other)) => Ok((one, other)),
-        None => Err(anyhow!("no second word: {text}")),
-    }
+fn halves<'a>(text: &'a str) -> Result<(&'a str, &'a str), Wrong> {
+    text.split_once(' ').ok_or(Wrong("no second word"))
 }
 
-fn bare(name: &str) -> anyhow::Result<Event<'static>> {
-    if name == "format" {
-        Ok(Event::Format)
-    } else if name == "start" {
-        Ok(Event::Start)
-    } else if name == "restore" {
-        Ok(Event::Restore)
-    } else if name == "shut" {
-        Ok(Event::Shut)
-    } else if name == "step" {
-        Ok(Event::Step)
-    } else if name == "finish" {
-        Ok(Event::Finish)
-    } else if name == "told" {
-        Ok(Event::Told)
-    } else {
-        Err(anyhow!("no event: {name}"))
+fn bare(name: &str) -> Result<Event<'static>, Wrong> {
+    for (known, event) in &BARE {
+        if *known == name {
+            return Ok(*event);
+        }
     }
+    Err(Wrong("no event"))
 }
 
-fn numbered(name: &str, number: u32) -> anyhow::Result<Event<'static>> {
-    if name == "mount" {
-        Ok(Event::Mount(number))
-    } else if name == "unmount" {
-        Ok(Event::Unmount(number))
-    } else if name == "open" {
-        Ok(Event::Open(number))
-    } else if name == "length" {
-        Ok(Event::Length(number))
-    } else if name == "stop_disc" {
-        Ok(Event::StopDisc(number))
-    } else if name == "stop_tape" {
-        Ok(Event::StopTape(number))
-    } else if name == "unread" {
-        Ok(Event::Unread(number))
-    } else {
-        Err(anyhow!("no event with a number: {name}"))
+fn numbered(name: &str, number: u32) -> Result<Event<'static>, Wrong> {
+    for (known, device) in &DEVICES {
+        if *known == name {
+            return Ok(Event::Device(*device, number));
+        }
     }
+    Err(Wrong("no event with a number"))
 }
 
 /// A call by its name and what it is about.
-fn call_of<'a>(text: &'a str) -> anyhow::Result<Ask<'a>> {
+fn call_of<'a>(text: &'a str) -> Result<Ask<'a>, Wrong> {
     let (call, rest) = halves(text)?;
     if call == "fetch" {
         Ok(Ask::Fetch(rest))
@@ -83,26 +80,23 @@ fn call_of<'a>(text: &'a str) -> anyhow::Result<Ask<'a>> {
         let (name, space) = halves(rest)?;
         Ok(Ask::NewUser(name, space.parse()?))
     } else {
-        let (path, bytes) = halves(rest)?;
-        let (letter, len) = halves(bytes)?;
-        call_with_bytes(call, path, letter, len.parse()?)
+        call_with_bytes(call, rest)
     }
 }
 
-fn call_with_bytes<'a>(
-    call: &str,
-    path: &'a str,
-    letter: &str,
-    len: usize,
-) -> anyhow::Result<Ask<'a>> {
+/// A call with a file's bytes: its path, their letter and how many they are.
+fn call_with_bytes<'a>(call: &str, rest: &'a str) -> Result<Ask<'a>, Wrong> {
+    let (path, bytes) = halves(rest)?;
+    let (letter, len) = halves(bytes)?;
     let Some(letter) = letter.as_bytes().first() else {
-        return Err(anyhow!("no letter for {path}"));
+        return Err(Wrong("no letter"));
     };
+    let len = len.parse()?;
     if call == "put" {
         Ok(Ask::Put(path, *letter, len))
     } else if call == "append" {
         Ok(Ask::Append(path, *letter, len))
     } else {
-        Err(anyhow!("no call: {call}"))
+        Err(Wrong("no call"))
     }
 }

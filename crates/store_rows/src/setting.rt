@@ -1,6 +1,6 @@
 //! The devices that a row begins with.
+use crate::rows::Wrong;
 use crate::system::System;
-use anyhow::anyhow;
 use g_disc::{Leave, MemoryDisc};
 use g_laid_out::{disc_with, dumped, one_away};
 use g_tape::{MemoryTapes, TapeLeave};
@@ -9,7 +9,7 @@ use std::test::Fail;
 
 /// The name of a row, and what differs from a blank disc of 4,096 blocks and one empty reel of 8,192, whose writes that fail
 /// leave what was there.
-#[derive(Drop)]
+#[derive(Clone, Copy)]
 pub(crate) struct Setting<'a> {
     pub(crate) name: &'a str,
     blocks: u32,
@@ -23,10 +23,10 @@ pub(crate) struct Setting<'a> {
 
 impl<'a> Setting<'a> {
     /// Reads a row's first line: its name, and settings `key=value`.
-    pub(crate) fn parse(line: &'a str) -> anyhow::Result<Setting<'a>> {
+    pub(crate) fn parse(line: &'a str) -> Result<Setting<'a>, Wrong> {
         let mut words = line.split_whitespace();
         let Some(name) = words.next() else {
-            return Err(anyhow!("no row: {line}"));
+            return Err(Wrong("no row"));
         };
         let mut setting = Setting {
             name,
@@ -39,14 +39,14 @@ impl<'a> Setting<'a> {
         };
         for word in words {
             let Some((key, value)) = word.split_once('=') else {
-                return Err(anyhow!("no setting: {word}"));
+                return Err(Wrong("no setting"));
             };
             setting.set(key, value)?;
         }
         Ok(setting)
     }
 
-    fn set(&mut self, key: &str, value: &'a str) -> anyhow::Result<()> {
+    fn set(&mut self, key: &str, value: &'a str) -> Result<(), Wrong> {
         if key == "leave" {
             self.leave = value;
         } else if key == "tape_leave" {
@@ -60,13 +60,13 @@ impl<'a> Setting<'a> {
         } else if key == "capacity" {
             self.capacity = value.parse()?;
         } else {
-            return Err(anyhow!("no setting: {key}"));
+            return Err(Wrong("no setting"));
         }
         Ok(())
     }
 
     /// The devices, with no filestore that is up.
-    pub(crate) fn system(&self, alloc: Global) -> anyhow::Result<System> {
+    pub(crate) fn system(&self, alloc: Global) -> Result<System, Wrong> {
         let mut disc = MemoryDisc::new(alloc, self.blocks)?;
         disc.set_leave(leave_of(self.leave)?);
         let mut tapes = self.tapes(alloc)?;
@@ -74,10 +74,10 @@ impl<'a> Setting<'a> {
         Ok(System::Down(disc, tapes))
     }
 
-    fn tapes(&self, alloc: Global) -> anyhow::Result<MemoryTapes> {
+    fn tapes(&self, alloc: Global) -> Result<MemoryTapes, Wrong> {
         let capacity = self.capacity;
         if capacity < 2 || capacity > 65_536 {
-            return Err(anyhow!("no reel has so many blocks: {capacity}"));
+            return Err(Wrong("no reel has so many blocks"));
         }
         let reels = if self.reels == 2 {
             vec![in alloc; (1, capacity), (2, capacity)]?
@@ -99,7 +99,7 @@ impl<'a> Setting<'a> {
 }
 
 /// What writes of the disc leave that fail: `old`, `half`, `whole`, or a block of one byte.
-fn leave_of(word: &str) -> anyhow::Result<Leave> {
+fn leave_of(word: &str) -> Result<Leave, Wrong> {
     if word == "old" {
         Ok(Leave::Old)
     } else if word == "half" {
@@ -112,7 +112,7 @@ fn leave_of(word: &str) -> anyhow::Result<Leave> {
 }
 
 /// The same of the tapes: `old`, `cut`, `half` or `whole`.
-fn tape_leave_of(word: &str) -> anyhow::Result<TapeLeave> {
+fn tape_leave_of(word: &str) -> Result<TapeLeave, Wrong> {
     if word == "old" {
         Ok(TapeLeave::Old)
     } else if word == "cut" {
@@ -122,6 +122,6 @@ fn tape_leave_of(word: &str) -> anyhow::Result<TapeLeave> {
     } else if word == "whole" {
         Ok(TapeLeave::Whole)
     } else {
-        Err(anyhow!("nothing is left so: {word}"))
+        Err(Wrong("nothing is left so"))
     }
 }

@@ -1,10 +1,10 @@
 //! A rack in a folder.
+use super::{len_of, make};
 use g_base::Block;
 use g_devices::open_rack;
 use g_tape::{TapeFault, Tapes};
-use std::fs::{self, File};
-use std::io::ErrorKind;
-use std::test::Fail;
+use std::fs;
+use std::io::{self, ErrorKind};
 
 /// The file of a dump's mark, as far as its first bytes, with 7 behind them.
 fn mark() -> Block {
@@ -14,106 +14,103 @@ fn mark() -> Block {
 }
 
 #[test]
-fn reels_end_where_they_were_written(rt: HostRuntime) -> Result<(), Fail> {
+fn reels_end_where_they_were_written(rt: HostRuntime) {
     let (folder, reel) = ("g_devices_reels.tapes", "g_devices_reels.tapes/2.tape");
-    let mut tapes = open_rack(&rt, folder)?;
-    assert!(rt; tapes.reels() == 2);
-    assert_eq!(rt; (tapes.serial(0), tapes.serial(1)), (1, 2));
-    assert_eq!(rt;
-        (tapes.capacity(2), tapes.length(2), tapes.mounted(2)),
-        (Ok(8_192), Ok(0), false)
-    );
-    assert_eq!(rt; tapes.write(8, 0, &[1; 512]), Err(TapeFault::NoTape));
-    assert_eq!(rt; tapes.write(2, 0, &[1; 512]), Err(TapeFault::NotMounted));
-    tapes.mount(2)?;
+    let mut tapes = open_rack(&rt, folder).expect(&rt, "a rack");
+    assert!(rt; tapes.reels() == 2 && tapes.serial(0) == 1 && tapes.serial(1) == 2);
+    assert!(rt; tapes.capacity(2) == Ok(8_192));
+    assert!(rt; tapes.length(2) == Ok(0) && !tapes.mounted(2));
+    assert!(rt; tapes.write(8, 0, &[1; 512]) == Err(TapeFault::NoTape));
+    assert!(rt; tapes.write(2, 0, &[1; 512]) == Err(TapeFault::NotMounted));
+    tapes.mount(2).expect(&rt, "a reel");
     for k in 0..4 {
-        tapes.write(2, k, &[k as u8; 512])?;
-        assert_eq!(rt; fs::metadata(&rt, reel)?.len(), 512 * (u64::from(k) + 1));
+        assert!(rt; tapes.write(2, k, &[k as u8; 512]) == Ok(()));
+        assert!(rt; len_of(&rt, reel).expect(&rt, "a file") == 512 * (u64::from(k) + 1));
     }
     // A write cuts what stands behind it, and one that fails leaves half of its block.
-    tapes.write(2, 2, &mark())?;
-    assert_eq!(rt; fs::metadata(&rt, reel)?.len(), 1_536);
+    assert!(rt; tapes.write(2, 2, &mark()) == Ok(()));
+    assert!(rt; len_of(&rt, reel).expect(&rt, "a file") == 1_536);
     tapes.arm(1);
-    assert_eq!(rt; tapes.write(2, 1, &[5; 512]), Err(TapeFault::WriteFailed));
-    assert_eq!(rt; tapes.length(2), Ok(2));
-    let bytes = fs::read(&rt, reel)?;
+    assert!(rt; tapes.write(2, 1, &[5; 512]) == Err(TapeFault::WriteFailed));
+    assert!(rt; tapes.length(2) == Ok(2));
     let mut torn = [0; 1_024];
     torn[512..768].copy_from_slice(&[5; 256]);
-    assert!(rt; bytes.as_slice() == torn.as_slice());
-    let mut block = [9; 512];
-    assert_eq!(rt; tapes.read(2, 2, &mut block), Err(TapeFault::End));
-    tapes.unmount(2)?;
+    assert!(rt; fs::read(&rt, reel).expect(&rt, "a file").as_slice() == torn.as_slice());
+    assert!(rt; tapes.read(2, 2, &mut [9; 512]) == Err(TapeFault::End));
+    tapes.unmount(2).expect(&rt, "a reel");
     drop(tapes);
     // Another run finds what this one left.
-    let mut tapes = open_rack(&rt, folder)?;
-    assert_eq!(rt;
-        (tapes.length(1), tapes.length(2), tapes.mounted(2)),
-        (Ok(0), Ok(2), false)
-    );
-    tapes.mount(2)?;
-    tapes.read(2, 1, &mut block)?;
+    let mut tapes = open_rack(&rt, folder).expect(&rt, "a rack");
+    assert!(rt; tapes.length(1) == Ok(0) && tapes.length(2) == Ok(2) && !tapes.mounted(2));
+    tapes.mount(2).expect(&rt, "a reel");
+    let mut block = [9; 512];
+    tapes.read(2, 1, &mut block).expect(&rt, "a read");
     assert!(rt; block[255] == 5 && block[256] == 0);
-    fs::remove_dir_all(&rt, folder)?;
-    Ok(())
+    fs::remove_dir_all(&rt, folder).expect(&rt, "a folder");
 }
 
 #[test]
-fn a_rack_is_one_runs_alone(rt: HostRuntime) -> Result<(), Fail> {
+fn a_rack_is_one_runs_alone(rt: HostRuntime) {
     let folder = "g_devices_taken.tapes";
     // What a run left that was cut off while it made the folder.
-    fs::create_dir(&rt, "g_devices_taken.tapes.new")?;
-    let tapes = open_rack(&rt, folder)?;
-    assert!(rt; !fs::exists(&rt, "g_devices_taken.tapes.new")?);
-    assert_eq!(rt;
-        open_rack(&rt, folder).err().map(|e| e.kind()),
-        Some(ErrorKind::WouldBlock)
-    );
+    fs::create_dir(&rt, "g_devices_taken.tapes.new").expect(&rt, "a folder");
+    let tapes = open_rack(&rt, folder).expect(&rt, "a rack");
+    assert!(rt; !fs::exists(&rt, "g_devices_taken.tapes.new").expect(&rt, "an answer"));
+    let Err(taken) = open_rack(&rt, folder) else {
+        panic!(rt; "a rack of two runs");
+    };
+    assert!(rt; taken.kind() == ErrorKind::WouldBlock);
     drop(tapes);
     assert!(rt; open_rack(&rt, folder).is_ok());
-    fs::remove_dir_all(&rt, folder)?;
-    Ok(())
+    fs::remove_dir_all(&rt, folder).expect(&rt, "a folder");
+}
+
+const FOLDER: &str = "g_devices_names.tapes";
+
+/// Names that no reel has.
+static NO_REELS: [&str; 7] = ["0", "01", "+3", "x", "1000000", "", "4.tape.bak"];
+
+/// How many bytes a file has, and whether it is a reel.
+static SIZES: [(u64, bool); 4] = [
+    (511, false),
+    (8_192 * 512, true),
+    (8_192 * 512 + 1, false),
+    (8_193 * 512, false),
+];
+
+/// Makes a file of the folder, of so many zeros.
+fn make_reel(rt: &HostRuntime, name: &str, bytes: u64) -> io::Result<()> {
+    let path = format!(in rt.alloc(); "{FOLDER}/{name}.tape")?;
+    make(rt, path.as_str(), bytes)
 }
 
 #[test]
-fn only_reels_are_in_the_rack(rt: HostRuntime) -> Result<(), Fail> {
-    let folder = "g_devices_names.tapes";
-    fs::create_dir(&rt, folder)?;
-    for name in ["0", "01", "+3", "x", "1000000", "", "4.tape.bak"] {
-        let path = format!(in rt.alloc(); "{folder}/{name}.tape")?;
-        fs::write(&rt, path.as_str(), "no reel")?;
+fn only_reels_are_in_the_rack(rt: HostRuntime) {
+    fs::create_dir(&rt, FOLDER).expect(&rt, "a folder");
+    for name in &NO_REELS {
+        make_reel(&rt, name, 7).expect(&rt, "a file");
     }
-    for serial in [999_999, 20, 3] {
-        let path = format!(in rt.alloc(); "{folder}/{serial}.tape")?;
-        File::create(&rt, path.as_str())?.set_len(512)?;
+    for name in ["999999", "20", "3"] {
+        make_reel(&rt, name, 512).expect(&rt, "a file");
     }
-    let tapes = open_rack(&rt, folder)?;
+    let tapes = open_rack(&rt, FOLDER).expect(&rt, "a rack");
     assert!(rt; tapes.reels() == 3);
-    assert_eq!(rt;
-        (tapes.serial(0), tapes.serial(1), tapes.serial(2)),
-        (3, 20, 999_999)
-    );
+    assert!(rt; tapes.serial(0) == 3 && tapes.serial(1) == 20 && tapes.serial(2) == 999_999);
     drop(tapes);
-    for (bytes, fits) in [
-        (511, false),
-        (8_192 * 512, true),
-        (8_192 * 512 + 1, false),
-        (8_193 * 512, false),
-    ] {
-        File::create(&rt, "g_devices_names.tapes/3.tape")?.set_len(bytes)?;
-        assert_eq!(rt; open_rack(&rt, folder).is_ok(), fits, "{bytes} bytes");
-        assert_eq!(rt;
-            fs::metadata(&rt, "g_devices_names.tapes/3.tape")?.len(),
-            bytes
+    for (bytes, fits) in &SIZES {
+        make_reel(&rt, "3", *bytes).expect(&rt, "a file");
+        assert!(rt; open_rack(&rt, FOLDER).is_ok() == *fits, "{bytes} bytes");
+        let len = len_of(&rt, "g_devices_names.tapes/3.tape").expect(&rt, "a file");
+        assert!(rt; len == *bytes, "{bytes} bytes");
+    }
+    make_reel(&rt, "3", 0).expect(&rt, "a file");
+    for serial in 102..=115u32 {
+        let name = serial.to_string(rt.alloc()).expect(&rt, "memory");
+        make_reel(&rt, name.as_str(), 0).expect(&rt, "a file");
+        assert!(rt;
+            open_rack(&rt, FOLDER).is_ok() == (serial < 115),
+            "up to {serial}"
         );
     }
-    File::create(&rt, "g_devices_names.tapes/3.tape")?.set_len(0)?;
-    for (serial, fits) in [(114, true), (115, false)] {
-        for reel in 102..=serial {
-            let path = format!(in rt.alloc(); "{folder}/{reel}.tape")?;
-            File::create(&rt, path.as_str())?;
-        }
-        assert_eq!(rt; open_rack(&rt, folder).is_ok(), fits, "up to {serial}");
-    }
-    fs::remove_dir_all(&rt, folder)?;
-    Ok(())
+    fs::remove_dir_all(&rt, FOLDER).expect(&rt, "a folder");
 }

@@ -1,48 +1,13 @@
-use Rattle.std.proofs.Common.{ℕ, List, Option, Some, ap}
-use Rattle.g_entry.specs.declared.file_rec.FileRec.{FileRec}
-use Rattle.g_entry.proofs.RecordLemmas.{file_read, found_file, same_file, not_there}
+use Rattle.std.proofs.Common.{◌∙◌}
+use Rattle.g_entry.proofs.RecordLemmas.{file_whole, not_there}
 use Rattle.g_entry.proofs.file_block.fields_of.Goals as goal
 
-pub returns-in_err-local-clause-again : goal.returns-in_err-local-clause-again
-returns-in_err-local-clause-again c = λ r online numbered is are here.
-    let read = file_read c.args.format r online c.args.b.now c.new-reader.result c.take_u8-used.new.self c.take_u8-owner.new.self c.take_local-local.new.reader c.take_u16-generation.new.self c.take_lang-lang.new.reader
-    c.take_u64-stamp.new.self c.take_u32-len.new.self c.take_traps-traps.new.reader c.take_copy-tape.new.reader
-    c.take_u8-used.result c.take_u8-owner.result c.take_u16-generation.result c.take_u64-stamp.result c.take_u32-len.result
-    c.take_local-local.result c.take_lang-lang.result c.take_traps-traps.result c.take_copy-tape.result c.take_places-online.result
-    is are here c.new-reader.ensures c.take_u8-used.ensures c.take_u8-owner.ensures c.take_local-local.ensures.again c.take_u16-generation.ensures.again c.take_lang-lang.ensures.again
-    c.take_u64-stamp.ensures.again c.take_u32-len.ensures.again c.take_traps-traps.ensures.again c.take_copy-tape.ensures.again c.take_places-online.ensures in
-    absurd (not_there c.take_local-local.result r.local c.in_err-local.was read.name)
-
-pub returns-in_err-lang-clause-again : goal.returns-in_err-lang-clause-again
-returns-in_err-lang-clause-again c = λ r online numbered is are here.
-    let read = file_read c.args.format r online c.args.b.now c.new-reader.result c.take_u8-used.new.self c.take_u8-owner.new.self c.take_local-local.new.reader c.take_u16-generation.new.self c.take_lang-lang.new.reader
-    c.take_u64-stamp.new.self c.take_u32-len.new.self c.take_traps-traps.new.reader c.take_copy-tape.new.reader
-    c.take_u8-used.result c.take_u8-owner.result c.take_u16-generation.result c.take_u64-stamp.result c.take_u32-len.result
-    c.take_local-local.result c.take_lang-lang.result c.take_traps-traps.result c.take_copy-tape.result c.take_places-online.result
-    is are here c.new-reader.ensures c.take_u8-used.ensures c.take_u8-owner.ensures c.take_local-local.ensures.again c.take_u16-generation.ensures.again c.take_lang-lang.ensures.again
-    c.take_u64-stamp.ensures.again c.take_u32-len.ensures.again c.take_traps-traps.ensures.again c.take_copy-tape.ensures.again c.take_places-online.ensures in
-    absurd (not_there c.take_lang-lang.result r.lang c.in_err-lang.was read.language)
-
-pub returns-in_err-traps-clause-again : goal.returns-in_err-traps-clause-again
-returns-in_err-traps-clause-again c = λ r online numbered is are here.
-    let read = file_read c.args.format r online c.args.b.now c.new-reader.result c.take_u8-used.new.self c.take_u8-owner.new.self c.take_local-local.new.reader c.take_u16-generation.new.self c.take_lang-lang.new.reader
-    c.take_u64-stamp.new.self c.take_u32-len.new.self c.take_traps-traps.new.reader c.take_copy-tape.new.reader
-    c.take_u8-used.result c.take_u8-owner.result c.take_u16-generation.result c.take_u64-stamp.result c.take_u32-len.result
-    c.take_local-local.result c.take_lang-lang.result c.take_traps-traps.result c.take_copy-tape.result c.take_places-online.result
-    is are here c.new-reader.ensures c.take_u8-used.ensures c.take_u8-owner.ensures c.take_local-local.ensures.again c.take_u16-generation.ensures.again c.take_lang-lang.ensures.again
-    c.take_u64-stamp.ensures.again c.take_u32-len.ensures.again c.take_traps-traps.ensures.again c.take_copy-tape.ensures.again c.take_places-online.ensures in
-    absurd (not_there c.take_traps-traps.result r.traps c.in_err-traps.was read.trapped)
+pub returns-in_err-r-clause-again : goal.returns-in_err-r-clause-again
+returns-in_err-r-clause-again c = λ r online numbered is are here.
+    let (zeros, there, behind) = c.take_rec.ensures.again c.args.format r online numbered is (c.new-reader.ensures ∙ here) in
+    absurd (not_there c.take_rec.result r c.in_err-r.was there)
 
 pub returns-clause-again : goal.returns-clause-again
 returns-clause-again c = λ r online numbered is are here.
-    let read = file_read c.args.format r online c.args.b.now c.new-reader.result c.take_u8-used.new.self c.take_u8-owner.new.self c.take_local-local.new.reader c.take_u16-generation.new.self c.take_lang-lang.new.reader
-    c.take_u64-stamp.new.self c.take_u32-len.new.self c.take_traps-traps.new.reader c.take_copy-tape.new.reader
-    c.take_u8-used.result c.take_u8-owner.result c.take_u16-generation.result c.take_u64-stamp.result c.take_u32-len.result
-    c.take_local-local.result c.take_lang-lang.result c.take_traps-traps.result c.take_copy-tape.result c.take_places-online.result
-    is are here c.new-reader.ensures c.take_u8-used.ensures c.take_u8-owner.ensures c.take_local-local.ensures.again c.take_u16-generation.ensures.again c.take_lang-lang.ensures.again
-    c.take_u64-stamp.ensures.again c.take_u32-len.ensures.again c.take_traps-traps.ensures.again c.take_copy-tape.ensures.again c.take_places-online.ensures in
-    let there = found_file r online c.take_u8-owner.result c.take_local-local.result c.take_u16-generation.result c.take_lang-lang.result c.take_u64-stamp.result c.take_u32-len.result c.take_traps-traps.result c.take_copy-tape.result c.take_places-online.result
-    c.in_ok-local.field-0 c.in_ok-lang.field-0 c.in_ok-traps.field-0 c.in_ok-local.was c.in_ok-lang.was c.in_ok-traps.was read in
-    let whole : FileRec × Option (List ℕ) → Option (FileRec × Option (List ℕ)) = λ found. Some found in
-    ap whole (same_file r c.args.number c.take_u8-owner.result c.in_ok-local.field-0 c.take_u16-generation.result c.in_ok-lang.field-0 c.take_u64-stamp.result c.take_u32-len.result c.in_ok-traps.field-0 c.take_copy-tape.result
-    c.take_places-online.result online numbered there)
+    let (zeros, there, behind) = c.take_rec.ensures.again c.args.format r online numbered is (c.new-reader.ensures ∙ here) in
+    file_whole c.args.format r c.in_ok-r.r c.take_places-online.result online c.take_rec.result c.take_rec.new.reader zeros c.in_ok-r.was there is are behind c.take_places-online.ensures

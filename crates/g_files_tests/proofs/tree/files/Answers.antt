@@ -9,8 +9,8 @@ pub returns : goal.returns
 returns c =
     let items : c.push-3.new.self.items ≡ one ∷ two ∷ last ∷ [] =
     c.in_ok-push-3.ensures.items
-    ∙ ap (λ xs. xs ++ c.in_ok-file-3.field-0 ∷ [])
+    ∙ ap (λ xs. xs ++ c.file-3.result ∷ [])
     (c.in_ok-push-2.ensures.items
-    ∙ ap (λ xs. xs ++ c.in_ok-file-2.field-0 ∷ []) (c.in_ok-push.ensures.items ∙ ap (λ xs. xs ++ c.in_ok-file.field-0 ∷ []) c.new-files.ensures.items))
-    ∙ (λ i. c.in_ok-file.ensures i ∷ c.in_ok-file-2.ensures i ∷ c.in_ok-file-3.ensures i ∷ []) in
+    ∙ ap (λ xs. xs ++ c.file-2.result ∷ []) (c.in_ok-push.ensures.items ∙ ap (λ xs. xs ++ c.file.result ∷ []) c.new-files.ensures.items))
+    ∙ (λ i. c.file.ensures i ∷ c.file-2.ensures i ∷ c.file-3.ensures i ∷ []) in
     subst (IsRecords first_users) (sym items) files_rules

@@ -23,7 +23,7 @@ returns-in-Err g c =
       live = c.self.inside.live;
     } in
     not_applied (AddUser c.args.user.now) (g.D.Disc.state c.self.inside.disc) m (record m { users = c.reserve.new.self.users; files = c.reserve.new.self.files }) c.args.self.now c.self.view_is c.self.invariant
-    (λ i. record m { users = c.reserve.ensures.users i; files = c.reserve.ensures.files i }) refl
+    (λ i. record m { users = c.reserve.ensures.users i; files = c.reserve.ensures.files i }) refl refl
 
 pub add_user-requires-clause-rules : goal.add_user-requires-clause-rules
 add_user-requires-clause-rules g c =

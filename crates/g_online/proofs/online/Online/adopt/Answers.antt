@@ -14,7 +14,7 @@ noted-requires g c = adopt_rules c.args.last c.args.copies.now c.as_slice.result
 pub returns-in-Err : goal.returns-in-Err
 returns-in-Err g c =
     subst (λ (o : OnlineFacts). IsApplied (Adopt c.args.last c.args.copies.now) c.args.self.now o (Err NoMemory)) c.self.view_is
-    (not_applied (Adopt c.args.last c.args.copies.now) (g.D.Disc.state c.self.inside.disc) _ _ c.args.self.now c.self.view_is c.self.invariant refl refl)
+    (not_applied (Adopt c.args.last c.args.copies.now) (g.D.Disc.state c.self.inside.disc) _ _ c.args.self.now c.self.view_is c.self.invariant refl refl refl)
 
 pub commit-requires-clause-marked : goal.commit-requires-clause-marked
 commit-requires-clause-marked g c =

@@ -23,7 +23,7 @@ returns-in-Err g c =
       live = c.self.inside.live;
     } in
     not_applied (SetFile c.args.rec.now) (g.D.Disc.state c.self.inside.disc) m (record m { users = c.reserve.new.self.users; files = c.reserve.new.self.files }) c.args.self.now c.self.view_is c.self.invariant
-    (λ i. record m { users = c.reserve.ensures.users i; files = c.reserve.ensures.files i }) refl
+    (λ i. record m { users = c.reserve.ensures.users i; files = c.reserve.ensures.files i }) refl refl
 
 pub put-requires-clause-rules : goal.put-requires-clause-rules
 put-requires-clause-rules g c =

@@ -1,0 +1,105 @@
+//! Compares the fields of a block with those of a record, one behind the other.
+ghost use Rattle.std.specs.Prelude.{◌≡◌, ◌↔◌, ◌+◌, ◌≤◌, [], ◌∷◌, IsTrue, length, replicate};
+ghost use Rattle.g_base.specs.Fields.{padded};
+ghost use Rattle.g_entry.specs.Coming.{Comes, rec_fields};
+ghost use Rattle.g_entry.specs.FileFields.{IsFile, copy_fields, lang_field};
+
+use crate::same::is_same;
+use crate::{FileRec, TapeCopy};
+use g_base::BlockReader;
+use g_name::Lang;
+
+/// Reads as many bytes as these, and tells whether they are the same.
+pub fn come(reader: &mut BlockReader, bytes: &[u8]) -> bool
+    requires { length bytes.now ≤ length reader.old }
+    ensures { Comes bytes.now reader.old reader.new result }
+{
+    let taken = reader.take_bytes(bytes.len());
+    is_same(taken, bytes)
+}
+
+/// Reads so many bytes, and tells whether they are zeros.
+pub fn zeros_come(reader: &mut BlockReader, count: usize) -> bool
+    requires few { count ≤ 512 }
+    requires within { count ≤ length reader.old }
+    ensures { Comes (replicate count 0) reader.old reader.new result }
+{
+    let zeros = [0; 512];
+    come(reader, &zeros[..count])
+}
+
+/// Whether both are.
+pub fn both(one: bool, other: bool) -> bool
+    ensures { IsTrue result ↔ (IsTrue one × IsTrue other) }
+{
+    one & other
+}
+
+/// The length of a word, and a field of 12 bytes with it.
+fn word_comes(reader: &mut BlockReader, word: &[u8]) -> bool
+    requires fits { length word.now ≤ 12 }
+    requires within { 13 ≤ length reader.old }
+    ensures comes { Comes (length word.now ∷ padded 12 word.now) reader.old reader.new result }
+    ensures left { length reader.old ≡ 13 + length reader.new }
+{
+    let len = [word.len() as u8];
+    let counted = come(reader, &len);
+    let same = come(reader, word);
+    let zeros = zeros_come(reader, 12 - word.len());
+    both(counted, both(same, zeros))
+}
+
+/// The four characters of a language, with the spaces behind it.
+fn lang_comes(reader: &mut BlockReader, lang: &Lang) -> bool
+    requires { 4 ≤ length reader.old }
+    ensures comes { Comes (lang_field lang.now) reader.old reader.new result }
+    ensures left { length reader.old ≡ 4 + length reader.new }
+{
+    let characters = lang.as_slice();
+    let spaces = [b' '; 4];
+    let same = come(reader, characters);
+    let behind = come(reader, &spaces[characters.len()..]);
+    both(same, behind)
+}
+
+/// A tape copy, or zeros in its place.
+fn copy_comes(reader: &mut BlockReader, copy: Option<TapeCopy>) -> bool
+    requires { 9 ≤ length reader.old }
+    ensures comes { Comes (copy_fields copy) reader.old reader.new result }
+    ensures left { length reader.old ≡ 9 + length reader.new }
+{
+    match copy {
+        None => zeros_come(reader, 9),
+        Some(copy) => {
+            let flag = [1];
+            let there = come(reader, &flag);
+            let serial = come(reader, &copy.serial.to_be_bytes());
+            let first = come(reader, &copy.first.to_be_bytes());
+            both(there, both(serial, first))
+        }
+    }
+}
+
+/// The fields of a file that traps nobody, up to the block numbers.
+pub fn rec_comes(reader: &mut BlockReader, r: &FileRec) -> bool
+    requires file { IsFile r.now }
+    requires nobody { r.now.traps.others ≡ [] }
+    requires within { length reader.old ≡ 512 }
+    ensures comes { Comes (rec_fields r.now) reader.old reader.new result }
+    ensures left { length reader.old ≡ 60 + length reader.new }
+{
+    let head = [1, r.owner];
+    let used = come(reader, &head);
+    let local = word_comes(reader, r.local.as_slice());
+    let generation = come(reader, &r.generation.to_be_bytes());
+    let lang = lang_comes(reader, &r.lang);
+    let stamp = come(reader, &r.stamp.to_be_bytes());
+    let len = come(reader, &r.len.to_be_bytes());
+    let modes = [r.traps.owner_modes().bits(), 0];
+    let traps = come(reader, &modes);
+    let others = zeros_come(reader, 16);
+    let copy = copy_comes(reader, r.tape);
+    let front = both(used, both(local, both(generation, lang)));
+    let back = both(stamp, both(len, both(traps, both(others, copy))));
+    both(front, back)
+}
