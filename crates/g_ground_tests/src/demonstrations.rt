@@ -1,9 +1,10 @@
 //! The demonstration of number 0 with one round, and the words of the command line.
 use crate::streams::put_into;
 use g_demo::{
-    Asked, Demonstration, Summary, TextSink, asked_by, script_of, summary_text,
+    Asked, Demonstration, Summary, SummarySink, asked_by, script_of, summary_text,
     words_have_one_reading,
 };
+use g_io::MemorySink;
 
 /// Its draws are 10, 16 and 8: the file F10 has 17 lines, and F8 is listed.
 #[test]
@@ -14,7 +15,7 @@ fn ample(rt: HostRuntime) {
         rounds: 1,
     };
     let script = script_of(rt.alloc(), &demo).expect(&rt, "memory");
-    let mut sink = TextSink::new(rt.alloc());
+    let mut sink = MemorySink::new(rt.alloc(), 2_048, Vec::new(rt.alloc())).expect(&rt, "memory");
     assert!(rt;
         put_into(
             &mut sink,
@@ -36,6 +37,9 @@ fn ample(rt: HostRuntime) {
         ) == Ok(())
     );
     assert!(rt; script.as_slice() == sink.text());
+    let mut sink = SummarySink::new();
+    assert!(rt; put_into(&mut sink, script.as_slice()) == Ok(()));
+    assert!(rt; sink.summary() == Summary::of_text(script.as_slice()));
 
     let mut summary = Summary::new();
     summary.add(b"A\n");
