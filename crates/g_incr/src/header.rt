@@ -6,7 +6,7 @@ ghost use Rattle.g_incr.specs.Notes.{IsHeaderOf, IsInLimits, IsNoteOf};
 
 use crate::note::{DumpNote, Header};
 use g_base::{Block, BlockReader, BlockWriter};
-use g_entry::Format;
+use g_entry::{Format, is_same};
 
 /// The header of every dump of which it tells.
 #[tactic(auto, using(g_base::proofs::FieldLemmas::length_fields))]
@@ -39,7 +39,7 @@ pub(crate) fn decode_header(b: &Block, place: u32) -> Option<Header>
         format: format_of(format)?,
         note,
     };
-    if note.place == place && are_in_limits(&note) && encode_header(&header) == *b {
+    if note.place == place && are_in_limits(&note) && is_same(&encode_header(&header), b) {
         Some(header)
     } else {
         None

@@ -12,6 +12,7 @@ use crate::note::{DumpDir, DumpNote, Header};
 use crate::records::records_in;
 use crate::tape::{read_block, read_blocks};
 use g_base::Block;
+use g_entry::is_same;
 use g_tape::Tapes;
 use std::alloc::Global;
 
@@ -89,7 +90,7 @@ fn is_mark(block: &Block, n: &DumpNote) -> bool
     ensures found { IsTrue result → (d : Dump) → IsNoteOf d n.now → block.now ≡ mark_block d }
     ensures again { (d : Dump) → IsNoteOf d n.now → block.now ≡ mark_block d → IsTrue result }
 {
-    *block == encode_mark(n)
+    is_same(&encode_mark(n), block)
 }
 
 /// The records behind the header. None exactly where there are none that a dump with this header has.

@@ -1,16 +1,14 @@
 //! The records of a dump, from the blocks between its header and its content.
-ghost use Rattle.std.specs.Prelude.{◌≡◌, ◌↔◌, ℕ, ◌+◌, ◌≤◌, [], ◌∷◌, ◌++◌, All, IfNone, IfOk, IfSome, IsTrue, List, OnOk, if◌then◌else◌, length, option_copied};
+ghost use Rattle.std.specs.Prelude.{◌≡◌, ℕ, ◌+◌, ◌≤◌, [], ◌∷◌, ◌++◌, All, IfNone, IfOk, IfSome, List, OnOk, if◌then◌else◌, length};
 ghost use Rattle.g_entry.specs.declared.file_rec.FileRec.{FileRec};
 ghost use Rattle.g_entry.specs.declared.user_rec.UserRec.{UserRec};
-ghost use Rattle.g_entry.specs.FileFields.{IsFile, file_block};
-ghost use Rattle.g_incr.specs.Layout.{numbers_in};
 ghost use Rattle.g_incr.specs.Notes.{IsInLimits};
 ghost use Rattle.g_incr.specs.Records.{AreFilesIn, AreUsersIn, HasRecords};
 
 use crate::note::{DumpDir, Header};
 use crate::rules::keeps_rules;
-use g_base::{Block, BlockList, NoMemory};
-use g_entry::{FileRec, Format, UserRec, decode_file_in, decode_user_held};
+use g_base::{Block, NoMemory};
+use g_entry::{FileRec, Format, UserRec, decode_file_on_tape, decode_user_held};
 use std::alloc::Global;
 
 /// The records in these blocks, the users' and behind them the files'. None exactly where they are not those of a dump with
@@ -63,8 +61,8 @@ fn users_in(
     ensures found { IfOk result (λ o. IfSome o (λ f. AreUsersIn format f.0.items f.1.items blocks.now)) }
     ensures none { IfOk result (λ o. IfNone o ((users : List UserRec) (held : List ℕ) → AreUsersIn format users held blocks.now → ⊥)) }
 {
-    let mut users = Vec::new(alloc);
-    let mut held = Vec::new(alloc);
+    let mut users = Vec::with_capacity(alloc, blocks.len())?;
+    let mut held = Vec::with_capacity(alloc, blocks.len())?;
     for (number, block) in blocks.iter().enumerate() {
         match decode_user_held(format, block, number as u8) {
             Some((user, is_held)) => match add_user(user, is_held, &mut users, &mut held) {
@@ -104,9 +102,9 @@ fn files_in(
     ensures found { IfOk result (λ o. IfSome o (λ files. AreFilesIn format files.items blocks.now)) }
     ensures none { IfOk result (λ o. IfNone o ((files : List FileRec) → AreFilesIn format files blocks.now → ⊥)) }
 {
-    let mut files = Vec::new(alloc);
+    let mut files = Vec::with_capacity(alloc, blocks.len())?;
     for (number, block) in blocks.iter().enumerate() {
-        match file_in(format, block, number as u16) {
+        match decode_file_on_tape(format, block, number as u16) {
             Some(file) => match files.push(file) {
                 Ok(()) => {}
                 Err(_) => return Err(NoMemory),
@@ -115,31 +113,4 @@ fn files_in(
         }
     }
     Ok(Some(files))
-}
-
-/// The file whose block on tape it is. There it has no block numbers, and an empty file is online.
-fn file_in(format: Format, block: &Block, number: u16) -> Option<FileRec>
-    ensures found { IfSome result (λ r. (r.number ≡ number) × IsFile r × (block.now ≡ file_block format r (numbers_in r))) }
-    ensures none { IfNone result ((r : FileRec) → r.number ≡ number → IsFile r
-        → block.now ≡ file_block format r (numbers_in r) → ⊥) }
-{
-    match decode_file_in(format, block, number) {
-        Some((file, online)) => {
-            if is_on_tape(&file, online.as_ref()) {
-                Some(file)
-            } else {
-                None
-            }
-        }
-        None => None,
-    }
-}
-
-fn is_on_tape(r: &FileRec, online: Option<&BlockList>) -> bool
-    ensures { IsTrue result ↔ (option_copied online.entry ≡ numbers_in r.now) }
-{
-    match online {
-        Some(places) => r.len == 0 && places.as_slice().is_empty(),
-        None => r.len != 0,
-    }
 }

@@ -74,7 +74,10 @@ pub fn read_blocks<T: Tapes>(
         Ok(()) => {}
         Err(fault) => return Err(fault),
     }
-    let mut blocks = Vec::new(alloc);
+    let mut blocks = match Vec::with_capacity(alloc, count.min(1_087) as usize) {
+        Ok(blocks) => blocks,
+        Err(_) => return Err(ShelfFault::NoMemory),
+    };
     for k in from..from + count {
         let block = match read_block(tapes, serial, k) {
             Ok(Some(block)) => block,

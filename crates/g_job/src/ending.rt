@@ -211,11 +211,22 @@ fn add(monitor: &mut Text, text: &Text, last: &Option<Text>) -> Result<(), NoMem
     ensures ok { OnOk result (monitor.new ≡ with_last (monitor.old ++ text.now) last.now) }
     ensures err { OnErr result (length monitor.new ≤ length monitor.old + length text.now) }
 {
-    monitor.extend(text.as_slice())?;
+    add_text(monitor, text)?;
     if let Some(line) = last {
         monitor.extend(line.as_slice())?;
     }
     Ok(())
+}
+
+/// Puts a text behind a monitoring file, unless it is empty, as that of most turns of a program is.
+fn add_text(monitor: &mut Text, text: &Text) -> Result<(), NoMemory>
+    ensures ok { OnOk result (monitor.new ≡ monitor.old ++ text.now) }
+    ensures err { OnErr result (monitor.new ≡ monitor.old) }
+{
+    if text.as_slice().is_empty() {
+        return Ok(());
+    }
+    monitor.extend(text.as_slice())
 }
 
 /// What the turn answers: that the job goes on, or has ended.

@@ -6,7 +6,7 @@ ghost use Rattle.g_job.specs.Turns.{turn_work};
 ghost use Rattle.g_plain.specs.Asks.{RanInPart};
 
 use crate::job::Job;
-use g_act::Made;
+use g_act::{Again, Made};
 use g_base::NoMemory;
 use g_plain::Filestore;
 use std::alloc::Global;
@@ -32,7 +32,7 @@ impl Job {
         ensures same_waits { (s : ℕ) → S.can_wait store.new s ≡ S.can_wait store.old s }
     {
         let room = MOST - self.monitor.as_slice().len();
-        let again = self.again.take();
+        let again = take_again(&mut self.again);
         self.wants = None;
         self.work.begin(alloc);
         match self.work.go(alloc, store, &self.user, room, again) {
@@ -40,4 +40,12 @@ impl Job {
             Err(NoMemory) => Err(NoMemory),
         }
     }
+}
+
+/// What the job waits with, which it does no more. It is large, and mostly nothing: so it is moved only where it is there.
+fn take_again(again: &mut Option<Again>) -> Option<Again>
+    ensures value { result ≡ again.old }
+    ensures none { again.new ≡ None }
+{
+    if again.is_some() { again.take() } else { None }
 }

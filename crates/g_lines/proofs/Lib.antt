@@ -1,1 +1,3 @@
+pub mod CursorLemmas
+pub mod DocumentLemmas
 pub mod LineLemmas

@@ -30,7 +30,7 @@ onto_first_some : (b : ℕ) (lines : List (List ℕ)) → onto_first b lines ≡
 onto_first_some b [] e = cc
 onto_first_some b (line ∷ lines) e = cc
 
-lines_of_some : (b : ℕ) (text : List ℕ) → lines_of (b ∷ text) ≡ [] → ⊥
+pub lines_of_some : (b : ℕ) (text : List ℕ) → lines_of (b ∷ text) ≡ [] → ⊥
 lines_of_some b text e =
     cond_both (eqb b 10) ([] ∷ lines_of text) (onto_first b (lines_of text)) (λ (ls : List (List ℕ)). ls ≡ [] → ⊥) (λ is f. cc) (λ is f. onto_first_some b (lines_of text) f) e
 
@@ -55,7 +55,7 @@ ended_some : (text : List ℕ) → lines_of (ended text) ≡ [] → ⊥
 ended_some [] e = lines_of_some 10 [] e
 ended_some (b ∷ text) e = lines_of_some b (ended text) e
 
-onto_text : (b : ℕ) (lines : List (List ℕ)) → (lines ≡ [] → ⊥) → text_of (onto_first b lines) ≡ b ∷ text_of lines
+pub onto_text : (b : ℕ) (lines : List (List ℕ)) → (lines ≡ [] → ⊥) → text_of (onto_first b lines) ≡ b ∷ text_of lines
 onto_text b [] some = absurd (some refl)
 onto_text b (line ∷ lines) some = refl
 

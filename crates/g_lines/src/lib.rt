@@ -1,10 +1,14 @@
-//! The lines of texts, and lists of texts that own them (docs/DEFINITIONS.md, "The script", *Lines*).
+//! The lines of texts, documents and lists of texts that own them (docs/DEFINITIONS.md, "The script", *Lines*).
 #![tactic(auto)]
 
+mod cursor;
+mod document;
 mod laws;
 mod lines;
 mod texts;
 
+pub use cursor::Cursor;
+pub use document::Document;
 pub use laws::lines_are_those_of_their_text;
 pub use lines::Lines;
 pub use texts::Texts;

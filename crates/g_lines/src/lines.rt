@@ -35,6 +35,13 @@ impl<'a> Lines<'a> {
         self.rest.is_empty()
     }
 
+    /// The text that is still to come.
+    pub fn rest(&self) -> &'a [u8]
+        ensures { lines_of result.now ≡ self.now }
+    {
+        self.rest
+    }
+
     /// Takes the next line.
     pub fn next(&mut self) -> Option<&'a [u8]>
         ensures line { MatchOption result (self.old ≡ []) (λ line. self.old ≡ line.now ∷ self.new) }
@@ -51,7 +58,7 @@ impl<'a> Lines<'a> {
 }
 
 /// The first line of a text, and what comes behind its byte 10.
-fn split_line(text: &[u8]) -> (&[u8], &[u8])
+pub fn split_line(text: &[u8]) -> (&[u8], &[u8])
     requires { 0 < length text.now }
     ensures { lines_of text.now ≡ result.0.now ∷ lines_of result.1.now }
 {

@@ -1,8 +1,6 @@
 //! Lists of texts.
-ghost use Rattle.std.specs.Prelude.{◌≡◌, [], ◌∷◌, ◌++◌, length, IfOk, OnOk, OnErr};
-ghost use Rattle.g_lines.specs.Lines.{lines_of};
+ghost use Rattle.std.specs.Prelude.{◌≡◌, [], ◌∷◌, ◌++◌, length, OnOk, OnErr};
 
-use crate::lines::Lines;
 use g_base::NoMemory;
 use g_name::Text;
 use std::alloc::Global;
@@ -30,18 +28,6 @@ impl Texts {
         Texts {
             texts: Vec::new(alloc),
         }
-    }
-
-    /// The lines of a text, each without its byte 10.
-    pub fn of_text(alloc: Global, text: &[u8]) -> Result<Texts, NoMemory>
-        ensures { IfOk result (λ lines. lines ≡ lines_of text.now) }
-    {
-        let mut texts = Texts::new(alloc);
-        let mut lines = Lines::new(text);
-        while let Some(line) = lines.next() {
-            texts.push(Text::from_slice(alloc, line)?)?;
-        }
-        Ok(texts)
     }
 
     /// How many texts there are.

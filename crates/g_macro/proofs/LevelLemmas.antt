@@ -1,13 +1,10 @@
 -- What a call of one level leaves.
-use Rattle.std.proofs.Common.{IfSome, List, None, Option, Some, [], ap, append_assoc, arith, cond, drop, false, get_or, inl, inr, le-leb, le-ltb, length, length-drop, lt-ltb, nat_le, not, option_map, refl, replicate, set, suc, sym, take, true, zero, ℕ, ◌++◌, ◌+◌, ◌-◌, ◌<◌, ◌∙◌, ◌∷◌, ◌≡◌, ◌≤◌, ◌⊎◌}
-use Rattle.std.proofs.Math.Seq.{take-length}
+use Rattle.std.proofs.Common.{IfSome, List, None, Option, Some, [], ap, append_assoc, arith, cond, false, get_or, le-leb, length, nat_le, not, option_map, refl, replicate, set, suc, sym, true, zero, ℕ, ◌++◌, ◌+◌, ◌-◌, ◌<◌, ◌∙◌, ◌∷◌, ◌≡◌, ◌≤◌}
 use Rattle.std.proofs.lemmas.Bool.{and_from, and_left, and_right, cond_both, lt-leb, not_from_false, not_from_true, or_from, or_left, or_right}
 use Rattle.g_lang.specs.Conditions.{same_cond}
 use Rattle.g_lang.specs.declared.line.Cond.{Cond}
-use Rattle.g_lines.specs.Lines.{text_of}
-use Rattle.g_macro.proofs.PlaceLemmas.{before-taken, passed-is}
 use Rattle.g_macro.specs.LevelReplies.{is_full_in}
-use Rattle.g_macro.specs.Levels.{Level, before_closing, has_cond, passed, place_of_cond, with_entry}
+use Rattle.g_macro.specs.Levels.{Level, has_cond, place_of_cond, with_entry}
 use Rattle.g_macro.specs.declared.entry.Entry.{Entry}
 
 -- empty parameters behind the others
@@ -15,26 +12,6 @@ pub fill-step : (all : List (List ℕ)) (n : ℕ) → n < 24 → (all ++ [] ∷ 
 fill-step all n more =
     let e : 24 - n ≡ suc (24 - (n + 1)) = omega (arith, more) in
     append_assoc all ([] ∷ []) (replicate (24 - (n + 1)) []) ∙ ap (λ (k : ℕ). all ++ replicate k []) (sym e)
-
--- the rest of a list, as it is cut
-pub tail-all : {A : Type 0} (t : List A) (k : ℕ) → take (length t - k) (drop k t) ≡ drop k t
-tail-all t k = ap (λ (n : ℕ). take n (drop k t)) (sym (length-drop k t)) ∙ take-length (drop k t)
-
-pub document-is : (lines rows : List (List ℕ)) (taken place : ℕ) → rows ≡ lines → place ≡ length (before_closing (take (length rows - taken) (drop taken rows)))
-    → text_of (take place (take (length rows - taken) (drop taken rows))) ≡ text_of (before_closing (drop taken lines))
-document-is lines rows taken place same is =
-    let left = take (length rows - taken) (drop taken rows) in
-    ap (λ (n : ℕ). text_of (take n left)) is ∙ ap text_of (before-taken left)
-    ∙ ap (λ (ls : List (List ℕ)). text_of (before_closing ls)) (tail-all rows taken ∙ ap (drop taken) same)
-
-pub passed-by : (lines : List (List ℕ)) (place n : ℕ) → place ≡ length (before_closing lines)
-    → ((place < length lines) × (n ≡ place + 1)) ⊎ ((length lines ≤ place) × (n ≡ place)) → n ≡ passed lines
-passed-by lines place n is (inl here) =
-    let less : length (before_closing lines) < length lines = let h = here.0 in omega (arith, h, is) in
-    here.1 ∙ rw (passed-is lines, lt-ltb (length (before_closing lines)) (length lines) less) (ap (λ (k : ℕ). k + 1) is)
-passed-by lines place n is (inr none) =
-    let more : length lines ≤ length (before_closing lines) = let h = none.0 in omega (arith, h, is) in
-    none.1 ∙ rw (passed-is lines, le-ltb (length (before_closing lines)) (length lines) more) is
 
 -- an entry with this condition, or none
 pub place-within : (cond : Cond) (entries : List Entry) (o : Option ℕ) → place_of_cond cond entries ≡ o → IfSome o (λ n. n < length entries)

@@ -1,10 +1,12 @@
 -- Loops that look for a line or an entry.
-use Rattle.std.proofs.Common.{List, None, Option, Some, [], ap, arith, cond, drop, drop-cons, drop_of_length-le, false, get_or, le-ltb, length, lt-ltb, nat_lt, option_map, refl, suc, sym, take, true, ℕ, ⊎_elim, ◌+◌, ◌<◌, ◌∙◌, ◌∷◌, ◌≡◌, ◌≤◌}
-use Rattle.std.proofs.lemmas.Bool.{cases_lt, cond_both}
-use Rattle.std.specs.Prelude.{if◌then◌else◌}
+use Rattle.std.proofs.Common.{List, None, Option, Some, [], ap, append_assoc, arith, cond, drop, drop-cons, drop_of_length-le, false, get_or, length, option_map, refl, suc, sym, take, true, ℕ, ◌++◌, ◌+◌, ◌<◌, ◌∙◌, ◌∷◌, ◌≡◌, ◌≤◌}
+use Rattle.std.proofs.lemmas.Bool.{cond_both}
+use Rattle.std.proofs.lemmas.List.{drop_all, drop_more, length-append, take_at}
+use Rattle.std.specs.Prelude.{slice_index_or}
 use Rattle.g_lang.specs.Conditions.{same_cond}
-use Rattle.g_lang.specs.How.{closing}
 use Rattle.g_lang.specs.declared.line.Cond.{Cond}
+use Rattle.g_lines.specs.Documents.{Taking, lines_left, with_taken}
+use Rattle.g_lines.specs.Lines.{ended, lines_of, text_of}
 use Rattle.g_macro.specs.Levels.{before_closing, has_label, is_closing, line_of_label, passed, place_of_cond}
 use Rattle.g_macro.specs.declared.entry.Entry.{Entry}
 
@@ -16,31 +18,28 @@ map-map f g h None same = refl
 map-map f g h (Some n) same = ap (λ (m : ℕ). let o : Option ℕ = Some m in o) (same n)
 
 -- lines with a label
-pub label-step : (label : List ℕ) (lines : List (List ℕ)) (i : ℕ) (line : List ℕ) → i < length lines → line ≡ get_or lines i line → has_label label line ≡ false
-    → option_map (λ n. i + n) (line_of_label label (drop i lines)) ≡ option_map (λ n. i + 1 + n) (line_of_label label (drop (i + 1) lines))
-label-step label lines i line inside is other =
-    let next : i + 1 ≡ suc i = omega arith in
-    let cut : drop i lines ≡ line ∷ drop (i + 1) lines = rw next (drop-cons lines i line inside ∙ ap (λ (l : List ℕ). l ∷ drop (suc i) lines) (sym is)) in
-    ap (λ (ls : List (List ℕ)). option_map (λ n. i + n) (line_of_label label ls)) cut
-    ∙ rw other (map-map (λ n. i + n) (λ n. 1 + n) (λ n. i + 1 + n) (line_of_label label (drop (i + 1) lines)) (λ n. omega arith))
+pub label-next : (label : List ℕ) (lines left more : List (List ℕ)) (line : List ℕ) (i : ℕ) → line_of_label label lines ≡ option_map (λ n. i + n) (line_of_label label left)
+    → left ≡ line ∷ more → has_label label line ≡ false → line_of_label label lines ≡ option_map (λ n. i + 1 + n) (line_of_label label more)
+label-next label lines left more line i so_far is other =
+    so_far ∙ ap (λ (ls : List (List ℕ)). option_map (λ n. i + n) (line_of_label label ls)) is
+    ∙ rw other (map-map (λ n. i + n) (λ n. 1 + n) (λ n. i + 1 + n) (line_of_label label more) (λ n. omega arith))
 
-pub label-stop : (label : List ℕ) (lines : List (List ℕ)) (i : ℕ) (line : List ℕ) → i < length lines → line ≡ get_or lines i line → has_label label line ≡ true
-    → option_map (λ n. i + n) (line_of_label label (drop i lines)) ≡ Some i
-label-stop label lines i line inside is same =
-    let next : i + 1 ≡ suc i = omega arith in
+pub label-found : (label : List ℕ) (lines left more : List (List ℕ)) (line : List ℕ) (i : ℕ) → line_of_label label lines ≡ option_map (λ n. i + n) (line_of_label label left)
+    → left ≡ line ∷ more → has_label label line ≡ true → line_of_label label lines ≡ Some i
+label-found label lines left more line i so_far is same =
     let zero_more : i + 0 ≡ i = omega arith in
-    let cut : drop i lines ≡ line ∷ drop (i + 1) lines = rw next (drop-cons lines i line inside ∙ ap (λ (l : List ℕ). l ∷ drop (suc i) lines) (sym is)) in
-    ap (λ (ls : List (List ℕ)). option_map (λ n. i + n) (line_of_label label ls)) cut
+    so_far ∙ ap (λ (ls : List (List ℕ)). option_map (λ n. i + n) (line_of_label label ls)) is
     ∙ rw same (ap (λ (m : ℕ). let o : Option ℕ = Some m in o) zero_more)
 
-pub label-none : (label : List ℕ) (lines : List (List ℕ)) (i : ℕ) → length lines ≤ i → option_map (λ n. i + n) (line_of_label label (drop i lines)) ≡ None
-label-none label lines i all = ap (λ (ls : List (List ℕ)). option_map (λ n. i + n) (line_of_label label ls)) (drop_of_length-le lines {i = i} all)
+pub label-none : (label : List ℕ) (lines left : List (List ℕ)) (i : ℕ) → line_of_label label lines ≡ option_map (λ n. i + n) (line_of_label label left)
+    → left ≡ [] → line_of_label label lines ≡ None
+label-none label lines left i so_far none = so_far ∙ ap (λ (ls : List (List ℕ)). option_map (λ n. i + n) (line_of_label label ls)) none
 
 same-id : (o : Option ℕ) → o ≡ option_map (λ n. 0 + n) o
 same-id None = refl
 same-id (Some n) = ap (λ (m : ℕ). let o : Option ℕ = Some m in o) (let e : n ≡ 0 + n = omega arith in e)
 
-pub label-first : (label : List ℕ) (lines : List (List ℕ)) → line_of_label label lines ≡ option_map (λ n. 0 + n) (line_of_label label (drop 0 lines))
+pub label-first : (label : List ℕ) (lines : List (List ℕ)) → line_of_label label lines ≡ option_map (λ n. 0 + n) (line_of_label label lines)
 label-first label lines = same-id (line_of_label label lines)
 
 -- entries with a condition
@@ -67,41 +66,76 @@ cond-none cond entries i all = ap (λ (es : List Entry). option_map (λ n. i + n
 pub cond-first : (cond : Cond) (entries : List Entry) → place_of_cond cond entries ≡ option_map (λ n. 0 + n) (place_of_cond cond (drop 0 entries))
 cond-first cond entries = same-id (place_of_cond cond entries)
 
--- the place of `////`
-pub closing-step : (lines : List (List ℕ)) (i : ℕ) (line : List ℕ) → i < length lines → line ≡ get_or lines i line → is_closing line ≡ false
-    → i + length (before_closing (drop i lines)) ≡ i + 1 + length (before_closing (drop (i + 1) lines))
-closing-step lines i line inside is other =
-    let next : i + 1 ≡ suc i = omega arith in
-    let cut : drop i lines ≡ line ∷ drop (i + 1) lines = rw next (drop-cons lines i line inside ∙ ap (λ (l : List ℕ). l ∷ drop (suc i) lines) (sym is)) in
-    ap (λ (ls : List (List ℕ)). i + length (before_closing ls)) cut ∙ rw other (omega arith)
+-- the bytes before `////`
+pub close-next : (all left more : List (List ℕ)) (line : List ℕ) (i : ℕ) → i + length (text_of (before_closing left)) ≡ length (text_of (before_closing all)) → left ≡ line ∷ more → is_closing line ≡ false
+    → i + (length line + 1) + length (text_of (before_closing more)) ≡ length (text_of (before_closing all))
+close-next all left more line i so_far is other =
+    let here : before_closing left ≡ line ∷ before_closing more = ap before_closing is ∙ rw other refl in
+    omega (arith, so_far, ap (λ (ls : List (List ℕ)). length (text_of ls)) here, length-append (ended line) (text_of (before_closing more)), length-append line (10 ∷ []))
 
-pub closing-stop : (lines : List (List ℕ)) (i : ℕ) (line : List ℕ) → i < length lines → line ≡ get_or lines i line → is_closing line ≡ true
-    → i + length (before_closing (drop i lines)) ≡ i
-closing-stop lines i line inside is closing =
-    let next : i + 1 ≡ suc i = omega arith in
-    let cut : drop i lines ≡ line ∷ drop (i + 1) lines = rw next (drop-cons lines i line inside ∙ ap (λ (l : List ℕ). l ∷ drop (suc i) lines) (sym is)) in
-    ap (λ (ls : List (List ℕ)). i + length (before_closing ls)) cut ∙ rw closing (omega arith)
+pub close-stop : (all left more : List (List ℕ)) (line : List ℕ) (i : ℕ) → i + length (text_of (before_closing left)) ≡ length (text_of (before_closing all)) → left ≡ line ∷ more → is_closing line ≡ true
+    → i ≡ length (text_of (before_closing all))
+close-stop all left more line i so_far is closing =
+    let here : before_closing left ≡ [] = ap before_closing is ∙ rw closing refl in
+    omega (arith, so_far, ap (λ (ls : List (List ℕ)). length (text_of ls)) here)
 
-pub closing-none : (lines : List (List ℕ)) (i : ℕ) → length lines ≤ i → i + length (before_closing (drop i lines)) ≡ i
-closing-none lines i all = ap (λ (ls : List (List ℕ)). i + length (before_closing ls)) (drop_of_length-le lines {i = i} all) ∙ (let e : i + 0 ≡ i = omega arith in e)
+pub close-none : (all left : List (List ℕ)) (i : ℕ) → i + length (text_of (before_closing left)) ≡ length (text_of (before_closing all)) → left ≡ []
+    → i ≡ length (text_of (before_closing all))
+close-none all left i so_far none = omega (arith, so_far, ap (λ (ls : List (List ℕ)). length (text_of (before_closing ls))) none)
 
-pub before-taken : (lines : List (List ℕ)) → take (length (before_closing lines)) lines ≡ before_closing lines
-before-taken [] = refl
-before-taken (line ∷ lines) =
-    cond_both (is_closing line) [] (line ∷ before_closing lines) (λ (ls : List (List ℕ)). take (length ls) (line ∷ lines) ≡ ls)
-    (λ _. refl) (λ _. ap (λ (ls : List (List ℕ)). line ∷ ls) (before-taken lines))
+-- and the bytes of all lines
+pub long-next : (left more : List (List ℕ)) (line : List ℕ) (i total : ℕ) → i + length (text_of left) ≡ total → left ≡ line ∷ more → i + (length line + 1) + length (text_of more) ≡ total
+long-next left more line i total so_far is =
+    omega (arith, so_far, ap (λ (ls : List (List ℕ)). length (text_of ls)) is, length-append (ended line) (text_of more), length-append line (10 ∷ []))
 
-pub passed-is : (lines : List (List ℕ)) → passed lines ≡ (if nat_lt (length (before_closing lines)) (length lines) then length (before_closing lines) + 1 else length (before_closing lines))
-passed-is [] = refl
-passed-is (line ∷ lines) =
-    cond_both (is_closing line) [] (line ∷ before_closing lines)
-    (λ (ls : List (List ℕ)). (if is_closing line then 1 else 1 + passed lines) ≡ (if nat_lt (length ls) (length (line ∷ lines)) then length ls + 1 else length ls))
-    (λ is. rw is (let t : nat_lt 0 (length (line ∷ lines)) ≡ true = lt-ltb 0 (length (line ∷ lines)) (omega arith) in rw t refl))
-    (λ isnt. rw isnt (ap (λ (n : ℕ). 1 + n) (passed-is lines) ∙ one_more (length (before_closing lines)) (length lines)))
-  where
-    one_more : (a b : ℕ) → 1 + (if nat_lt a b then a + 1 else a) ≡ (if nat_lt (suc a) (suc b) then suc a + 1 else suc a)
-    one_more a b =
-        ⊎_elim
-        (λ less. let l = lt-ltb a b less in let m = lt-ltb (suc a) (suc b) (omega (arith, less)) in rw (l, m) (omega arith))
-        (λ more. let l = le-ltb a b more in let m = le-ltb (suc a) (suc b) (omega (arith, more)) in rw (l, m) (omega arith))
-        (cases_lt a b)
+-- what stands before `////` is at the front
+before_in : (lines : List (List ℕ)) → (rest : List ℕ) × (text_of lines ≡ text_of (before_closing lines) ++ rest)
+before_in [] = ([], refl)
+before_in (line ∷ lines) =
+    cond_both (is_closing line) [] (line ∷ before_closing lines) (λ (ls : List (List ℕ)). (rest : List ℕ) × (text_of (line ∷ lines) ≡ text_of ls ++ rest))
+    (λ _. (text_of (line ∷ lines), refl))
+    (λ _. let (rest, e) = before_in lines in (rest, ap (λ (bs : List ℕ). ended line ++ bs) e ∙ sym (append_assoc (ended line) (text_of (before_closing lines)) rest)))
+
+pub before-taken : (lines : List (List ℕ)) → take (length (text_of (before_closing lines))) (text_of lines) ≡ text_of (before_closing lines)
+before-taken lines =
+    let (rest, e) = before_in lines in
+    ap (take (length (text_of (before_closing lines)))) e ∙ take_at (text_of (before_closing lines)) rest (length (text_of (before_closing lines))) refl
+
+pub before-short : (lines : List (List ℕ)) → length (text_of (before_closing lines)) ≤ length (text_of lines)
+before-short lines = let (rest, e) = before_in lines in omega (arith, ap length e, length-append (text_of (before_closing lines)) rest)
+
+pub document-is : (left : List ℕ) (lines : List (List ℕ)) (place : ℕ) → left ≡ text_of lines → lines_of left ≡ lines → place ≡ length (text_of (before_closing (lines_of left)))
+    → take place left ≡ text_of (before_closing lines)
+document-is left lines place whole same is =
+    ap (λ (n : ℕ). take n left) (is ∙ ap (λ (ls : List (List ℕ)). length (text_of (before_closing ls))) same)
+    ∙ ap (take (length (text_of (before_closing lines)))) whole ∙ before-taken lines
+
+pub document-inside : (left : List ℕ) (lines : List (List ℕ)) (place : ℕ) → left ≡ text_of lines → lines_of left ≡ lines → place ≡ length (text_of (before_closing (lines_of left)))
+    → place ≤ length left
+document-inside left lines place whole same is =
+    omega (arith, is, ap (λ (ls : List (List ℕ)). length (text_of (before_closing ls))) same, ap length whole, before-short lines)
+
+-- lines passed by
+pub passed-within : (lines : List (List ℕ)) → passed lines ≤ length lines
+passed-within [] = omega arith
+passed-within (line ∷ lines) =
+    let within = passed-within lines in
+    cond_both (is_closing line) 1 (1 + passed lines) (λ (n : ℕ). n ≤ length (line ∷ lines)) (λ _. omega arith) (λ _. omega (arith, within))
+
+pub passed-last : (t : Taking) → t.taken < length t.lines → is_closing (slice_index_or t.lines t.taken []) ≡ true → with_taken (t.taken + 1) t ≡ with_taken (t.taken + passed (lines_left t)) t
+passed-last t inside closing =
+    let cut : lines_left t ≡ get_or t.lines t.taken [] ∷ drop (t.taken + 1) t.lines = drop_more t.lines t.taken [] inside in
+    let one : passed (lines_left t) ≡ 1 = ap passed cut ∙ rw closing refl in
+    ap (λ (n : ℕ). with_taken (t.taken + n) t) (sym one)
+
+pub passed-more : (t : Taking) → t.taken < length t.lines → is_closing (slice_index_or t.lines t.taken []) ≡ false
+    → with_taken (t.taken + 1 + passed (drop (t.taken + 1) t.lines)) t ≡ with_taken (t.taken + passed (lines_left t)) t
+passed-more t inside other =
+    let cut : lines_left t ≡ get_or t.lines t.taken [] ∷ drop (t.taken + 1) t.lines = drop_more t.lines t.taken [] inside in
+    let one : passed (lines_left t) ≡ 1 + passed (drop (t.taken + 1) t.lines) = ap passed cut ∙ rw other refl in
+    ap (λ (n : ℕ). with_taken n t) (omega (arith, one))
+
+pub passed-none : (t : Taking) → length t.lines ≤ t.taken → t ≡ with_taken (t.taken + passed (lines_left t)) t
+passed-none t all =
+    let none : passed (lines_left t) ≡ 0 = ap passed (drop_all t.taken t.lines all) in
+    ap (λ (n : ℕ). with_taken n t) (omega (arith, none))

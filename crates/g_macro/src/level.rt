@@ -1,5 +1,5 @@
 //! One level: the lines of a document or a macro, its parameters, and the commands that wait in it.
-ghost use Rattle.std.specs.Prelude.{◌≡◌, ◌++◌, ◌+◌, ◌-◌, ◌<◌, ◌≤◌, true, false, None, Some, drop, length, IfOk, IfSome, MatchOption, slice_index_or};
+ghost use Rattle.std.specs.Prelude.{◌≡◌, ◌++◌, ◌+◌, ◌-◌, ◌<◌, ◌≤◌, ◌^◌, true, false, None, Some, drop, length, IfOk, IfSome, MatchOption, slice_index_or};
 ghost use Rattle.g_lang.specs.Conditions.{IsLetter};
 ghost use Rattle.g_lang.specs.Lines.{IsCommandText};
 ghost use Rattle.g_macro.specs.Asked as asked;
@@ -7,14 +7,15 @@ ghost use Rattle.g_macro.specs.Expansion.{substituted, param_of};
 ghost use Rattle.g_macro.specs.Fronts.{IsFilled};
 ghost use Rattle.g_macro.specs.Levels as levels;
 ghost use Rattle.g_macro.specs.LevelReplies.{KeepsIn};
-ghost use Rattle.g_lines.specs.Lines.{text_of};
+ghost use Rattle.g_lines.specs.Documents.{IsWhole, lines_left, with_taken};
+ghost use Rattle.g_lines.specs.Lines.{lines_of, text_of};
 
 use crate::entry::Entry;
 use crate::expansion::{Filled, fill_in};
 use crate::{MacroFault, Outcome};
 use g_base::NoMemory;
 use g_lang::{Cond, Label, Test, label_of};
-use g_lines::Texts;
+use g_lines::{Cursor, Document, Lines, Texts};
 use g_name::Text;
 use std::alloc::Global;
 use std::marker::Model;
@@ -28,9 +29,8 @@ const ENTRIES: usize = 16;
 /// A level. Contracts see its lines, its 24 parameters, how many lines were taken, and the commands that wait.
 #[derive(Debug, Drop)]
 pub struct Level {
-    lines: Texts,
+    cursor: Cursor,
     params: Vec<Text>,
-    taken: usize,
     entries: Vec<Entry>,
 }
 
@@ -40,31 +40,30 @@ impl Model for Level {
     ghost Value = { levels.Level };
 
     ghost view = { λ l. record {
-      lines = l.lines;
+      lines = l.cursor.lines;
       params = l.params.items;
-      taken = l.taken;
+      taken = l.cursor.taken;
       entries = l.entries.items;
     } };
 
     ghost invariant = { λ l. levels.IsLevel (record {
-      lines = l.lines;
+      lines = l.cursor.lines;
       params = l.params.items;
-      taken = l.taken;
+      taken = l.cursor.taken;
       entries = l.entries.items;
     }) };
 }
 
 impl Level {
     /// A level of which no line was taken, with these parameters; the others are empty.
-    pub fn new(alloc: Global, lines: Texts, params: Texts) -> Result<Level, NoMemory>
+    pub fn new(alloc: Global, lines: Document, params: Texts) -> Result<Level, NoMemory>
         requires { length params ≤ 24 }
         ensures { IfOk result (λ level. level ≡ levels.level_of lines params) }
     {
         let params = filled_up(alloc, Vec::from(params))?;
         Ok(Level {
-            lines,
+            cursor: Cursor::new(lines),
             params,
-            taken: 0,
             entries: Vec::new(alloc),
         })
     }
@@ -73,7 +72,7 @@ impl Level {
     pub fn has_line(&self) -> bool
         ensures { result ≡ levels.has_line self.now }
     {
-        self.taken < self.lines.len()
+        self.cursor.has_line()
     }
 
     /// The next line, with the parameters put in.
@@ -81,8 +80,7 @@ impl Level {
         requires { levels.has_line self.now ≡ true }
         ensures { IfOk result (IsFilled (substituted self.now.params (levels.line_at self.now))) }
     {
-        let line = &self.lines.rows()[self.taken];
-        fill_in(alloc, self.params.as_slice(), line.as_slice())
+        fill_in(alloc, self.params.as_slice(), self.cursor.line())
     }
 
     /// Counts the next line as taken.
@@ -90,27 +88,22 @@ impl Level {
         requires { levels.has_line self.old ≡ true }
         ensures { self.new ≡ levels.line_taken self.old }
     {
-        let count = self.lines.len();
-        prove!(self.taken < count);
-        self.taken += 1;
+        self.cursor.take_line();
     }
 
     /// The lines up to `////` or to the end, each with its byte 10.
     pub fn document(&self, alloc: Global) -> Result<Text, NoMemory>
         ensures { IfOk result (λ text. text ≡ text_of (levels.before_closing (levels.lines_left self.now))) }
     {
-        let left = &self.lines.rows()[self.taken..];
-        joined(alloc, &left[..closing_place(left)])
+        let left = self.cursor.left();
+        Text::from_slice(alloc, &left[..closing_place(left)])
     }
 
     /// Passes by the lines up to `////`, which is passed too, or to the end.
     pub fn pass_document(&mut self)
         ensures { self.new ≡ levels.past_document self.old }
     {
-        let left = &self.lines.rows()[self.taken..];
-        let place = closing_place(left);
-        let passed = if place < left.len() { place + 1 } else { place };
-        self.taken += passed;
+        pass_closing(&mut self.cursor);
     }
 
     /// The first line that has this label.
@@ -119,12 +112,7 @@ impl Level {
         ensures within { MatchOption result (levels.line_of_label label.now self.now.lines ≡ None)
             (λ place. place < length self.now.lines) }
     {
-        for (place, line) in self.lines.rows().iter().enumerate() {
-            if has_label(line.as_slice(), label) {
-                return Some(place);
-            }
-        }
-        None
+        place_of_label(&mut self.cursor.all(), label)
     }
 
     /// Goes on at this line.
@@ -132,7 +120,7 @@ impl Level {
         requires { place < length self.old.lines }
         ensures { self.new ≡ levels.at_line place self.old }
     {
-        self.taken = place;
+        self.cursor.go_to(place);
     }
 
     /// Lets a command wait for a condition.
@@ -195,38 +183,49 @@ fn filled_up(alloc: Global, params: Vec<Text>) -> Result<Vec<Text>, NoMemory>
     Ok(all)
 }
 
-/// The place of the first `////`, or how many lines there are.
-fn closing_place(lines: &[Text]) -> usize
-    ensures place { result ≡ length (levels.before_closing lines.now) }
-    ensures within { result ≤ length lines.now }
+/// How many bytes stand before the first `////` of these lines, or before their end.
+fn closing_place(left: &[u8]) -> usize
+    requires { IsWhole left.now }
+    ensures { result ≡ length (text_of (levels.before_closing (lines_of left.now))) }
 {
-    for (place, line) in lines.iter().enumerate() {
-        if line.as_slice() == b"////".as_slice() {
+    let mut lines = Lines::new(left);
+    let mut place = 0;
+    while let Some(line) = lines.next() {
+        if line == b"////".as_slice() {
             return place;
         }
+        place += line.len() + 1;
     }
-    lines.len()
+    place
 }
 
-/// How many bytes the lines take with their bytes 10, for the room of a text; or the greatest number there is.
-fn joined_len(lines: &[Text]) -> usize {
-    let mut len = lines.len();
-    for line in lines {
-        len = len.saturating_add(line.as_slice().len());
-    }
-    len
-}
-
-/// The lines, each with its byte 10.
-fn joined(alloc: Global, lines: &[Text]) -> Result<Text, NoMemory>
-    ensures { IfOk result (λ text. text ≡ text_of lines.now) }
+/// Takes the lines up to `////`, which is taken too, or to the end.
+fn pass_closing(cursor: &mut Cursor)
+    ensures { cursor.new ≡ with_taken (cursor.old.taken + levels.passed (lines_left cursor.old)) cursor.old }
 {
-    let mut text = Text::from(Vec::with_capacity(alloc, joined_len(lines))?);
-    for line in lines {
-        text.extend(line.as_slice())?;
-        text.push(b'\n')?;
+    while cursor.has_line() {
+        let closes = cursor.line() == b"////".as_slice();
+        cursor.take_line();
+        if closes {
+            return;
+        }
     }
-    Ok(text)
+}
+
+/// The place of the first of these lines that has this label.
+fn place_of_label(lines: &mut Lines, label: &Label) -> Option<usize>
+    requires { length lines.old < 2 ^ 63 }
+    ensures same { result ≡ levels.line_of_label label.now lines.old }
+    ensures within { MatchOption result (levels.line_of_label label.now lines.old ≡ None) (λ place. place < length lines.old) }
+{
+    let mut place = 0;
+    while let Some(line) = lines.next() {
+        if has_label(line, label) {
+            return Some(place);
+        }
+        place += 1;
+    }
+    None
 }
 
 /// Whether a line has this label.

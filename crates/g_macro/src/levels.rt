@@ -9,7 +9,7 @@ use crate::entry::Entry;
 use crate::level::Level;
 use crate::{MacroFault, Outcome};
 use g_lang::{Cond, Label};
-use g_lines::Texts;
+use g_lines::{Document, Texts};
 use g_name::Text;
 use std::alloc::Global;
 use std::marker::Model;
@@ -39,7 +39,7 @@ impl Model for Levels {
 
 impl Levels {
     /// The levels of a job that begins: its document alone.
-    pub fn new(alloc: Global, lines: Texts) -> Result<Levels, MacroFault>
+    pub fn new(alloc: Global, lines: Document) -> Result<Levels, MacroFault>
         ensures { replies.IsNew lines result }
     {
         let level = Level::new(alloc, lines, Texts::new(alloc))?;
@@ -86,7 +86,7 @@ impl Levels {
     }
 
     /// Puts a macro's level on top. There are 8 levels at most.
-    pub fn call(&mut self, alloc: Global, lines: Texts, params: Texts) -> Result<(), MacroFault>
+    pub fn call(&mut self, alloc: Global, lines: Document, params: Texts) -> Result<(), MacroFault>
         requires { length params ≤ 24 }
         ensures { replies.Calls lines params self.old self.new result }
     {

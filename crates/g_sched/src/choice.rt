@@ -5,12 +5,12 @@ ghost use Rattle.std.specs.Prelude.{◌≡◌, ◌⊎◌, ◌<◌, ◌≤◌, �
 
 use crate::rule::{Standing, WeighRule};
 
-/// A standing's place in the list, with what it is chosen by.
-#[derive(Clone, Copy)]
-struct Candidate {
-    place: usize,
-    weight: u64,
-    number: u64,
+/// The place of a standing among those that can be chosen, with what it is chosen by: its weight, and the number of its job.
+#[derive(Clone, Copy, Debug, PartialEq, Eq)]
+pub struct Candidate {
+    pub place: usize,
+    pub weight: u64,
+    pub number: u64,
 }
 
 impl Candidate {
@@ -44,8 +44,9 @@ pub fn choose<U: Fn(&Standing) -> u64>(rule: &WeighRule<U>, list: &[Standing]) -
     best.map(|candidate| candidate.place)
 }
 
-/// Which of two goes first: the one found before stays where the other doesn't go before it.
-fn earlier(best: Option<Candidate>, candidate: Candidate) -> Candidate
+/// Which of two goes first: the best of those seen before stays where the next one doesn't go before it. So one pass finds the
+/// first of a list that is never made, as `choose` does of one that is there.
+pub fn earlier(best: Option<Candidate>, candidate: Candidate) -> Candidate
     ensures one { (result ≡ candidate) ⊎ (best ≡ Some result) }
     ensures before { IsNoLater result.weight result.number candidate.weight candidate.number }
     ensures before_best { IfSome best

@@ -5,5 +5,5 @@
 mod choice;
 mod rule;
 
-pub use choice::choose;
+pub use choice::{Candidate, choose, earlier};
 pub use rule::{MAX_ALLOWANCE, MAX_WEIGHT, Standing, WeighRule};

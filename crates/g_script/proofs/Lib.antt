@@ -1,6 +1,7 @@
+pub mod DocumentLemmas
 pub mod HeadLemmas
 pub mod ItemLemmas
 pub mod OneReading
 pub mod PieceLemmas
-pub mod ReadLemmas
 pub mod PrintedLemmas
+pub mod ReadLemmas

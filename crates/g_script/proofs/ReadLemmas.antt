@@ -1,11 +1,11 @@
 -- What is read of one item, and of a script so far.
 use Rattle.std.proofs.Common.{All, List, Option, Some, None, [], ap, arith, inl, inr, length, map, refl, subst, suc, sym, take, ℕ, ◌++◌, ◌+◌, ◌-◌, ◌<◌, ◌∙◌, ◌∷◌, ◌≡◌, ◌≤◌}
-use Rattle.std.specs.Prelude.{unwrap_or, ◌==◌}
-use Rattle.std.proofs.lemmas.Bool.{cond_both}
+use Rattle.std.specs.Prelude.{unwrap_or}
 use Rattle.std.proofs.lemmas.List.{append-nil, append_assoc, length-append, map-append, take_at}
 use Rattle.std.proofs.lemmas.List.Concat.{flat_map-append}
 use Rattle.std.proofs.lemmas.List.Elements.{All-from_recursion, All-push, recursion_from_All}
-use Rattle.g_lines.specs.Lines.{lines_of, onto_first}
+use Rattle.g_lines.proofs.DocumentLemmas.{lines_few}
+use Rattle.g_lines.specs.Lines.{lines_of}
 use Rattle.g_script.proofs.HeadLemmas.{head-sound, item_with}
 use Rattle.g_script.proofs.ItemLemmas.{begins_behind, end_line, no_head, no_line}
 use Rattle.g_script.specs.How.{head_read}
@@ -54,16 +54,16 @@ module _ (first : List ℕ) (lines : List (List ℕ)) (head : Head) (name user :
   own_read : head_read first ≡ Some own
   own_read = read_as first head (what.Job name user time money) read is
 
-  pub read_job : (rest texts : List (List ℕ)) (paid count : ℕ) → All IsDocumentLine texts × (lines ≡ texts ++ end_line ∷ rest) → paid ≡ unwrap_or money 1000 → count ≡ length texts
+  pub read_job : (rest texts : List (List ℕ)) (paid count : ℕ) → All IsDocumentLine texts × (lines ≡ texts ++ end_line ∷ rest) × (count ≡ length texts) → paid ≡ unwrap_or money 1000
       → IsTaken (first ∷ lines) rest (record { turn = head.turn; what = line.Job name user time paid texts }) (count + 2)
-  read_job rest texts paid count document cost counted =
+  read_job rest texts paid count document cost =
       let sound = head-sound first own own_read texts document.0 in
       record {
         item = item_with own texts;
         is_item = sound.0;
         is_said = ap (λ (m : ℕ). let t : Timed = record { turn = head.turn; what = line.Job name user time m texts } in t) cost;
         all = ap (λ (l : List ℕ). l ∷ lines) sound.1 ∙ ap (λ (ls : List (List ℕ)). head_line (item_with own texts) ∷ ls) (document.1 ∙ sym (append_assoc texts (end_line ∷ []) rest));
-        counted = omega (arith, counted, length-append texts (end_line ∷ []));
+        counted = omega (arith, document.2, length-append texts (end_line ∷ []));
       }
 
   open_job : (texts : List (List ℕ)) → All IsDocumentLine texts → (item : WrittenItem) × IsItem item × ((first ∷ texts) ++ end_line ∷ [] ≡ item_lines item)
@@ -148,18 +148,7 @@ front_next lines rest behind said next before count front taken =
       counted = omega (arith, front.counted, taken.counted, ap length more, length-append (lines_in front.items) (item_lines taken.item));
     }
 
--- there are no more lines than bytes
-onto_few : (byte : ℕ) (lines : List (List ℕ)) → length (onto_first byte lines) ≤ 1 + length lines
-onto_few byte [] = omega arith
-onto_few byte (l ∷ lines) = omega arith
-
-pub lines_few : (text : List ℕ) → length (lines_of text) ≤ length text
-lines_few [] = omega arith
-lines_few (byte ∷ text) =
-    let fewer = lines_few text in
-    cond_both (byte == 10) ([] ∷ lines_of text) (onto_first byte (lines_of text)) (λ (ls : List (List ℕ)). length ls ≤ length (byte ∷ text)) (λ is. omega (arith, fewer))
-    (λ other. omega (arith, fewer, onto_few byte (lines_of text)))
-
+-- no more lines are left than bytes
 pub front_few : (text : List ℕ) (said : List Timed) (rest : List (List ℕ)) (before : ℕ) → IsFront (lines_of text) said rest before → before + length rest ≤ length text
 front_few text said rest before front = omega (arith, lines_few text, ap length front.all, front.counted, length-append (lines_in front.items) rest)
 
@@ -172,3 +161,6 @@ taken_less lines rest said count taken = omega (arith, ap length taken.all, leng
 pub bad_few : (lines : List (List ℕ)) (k : ℕ) → IsBadLine lines [] k → k ≤ 1 + length lines
 bad_few lines k (begun, inl bad) = omega (arith, bad.within)
 bad_few lines k (begun, inr unclosed) = omega (arith, unclosed.job_line)
+
+pub document_few : (lines rest texts : List (List ℕ)) (count : ℕ) → All IsDocumentLine texts × (lines ≡ texts ++ end_line ∷ rest) × (count ≡ length texts) → count + 1 ≤ length lines
+document_few lines rest texts count document = omega (arith, document.2, ap length document.1, length-append texts (end_line ∷ rest))

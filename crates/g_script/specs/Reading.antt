@@ -20,7 +20,7 @@ pub record IsBadIn (lines : List (List ℕ)) (k : ℕ) : Type 0 where
 
 -- what lines are as those of a document, and which of them are left
 abbrev pub IsDocumentRead : List (List ℕ) → List (List ℕ) → DocumentRead → Type 0
-IsDocumentRead lines rest (document.Whole texts) = All IsDocumentLine texts × (lines ≡ texts ++ codes "****" ∷ rest)
+IsDocumentRead lines rest (document.Whole texts count) = All IsDocumentLine texts × (lines ≡ texts ++ codes "****" ∷ rest) × (count ≡ length texts)
 IsDocumentRead lines rest (document.BadAt k) = IsBadIn lines k
 IsDocumentRead lines rest document.Open = All IsDocumentLine lines
 

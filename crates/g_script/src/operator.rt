@@ -2,7 +2,7 @@
 ghost use Rattle.std.specs.Prelude.{◌≡◌, [], ◌∷◌, ◌++◌, OnOk, OnErr};
 
 use g_base::NoMemory;
-use g_lines::Texts;
+use g_lines::Document;
 use g_name::{Local, Path, User};
 use std::alloc::Global;
 use std::marker::Model;
@@ -20,7 +20,7 @@ pub enum Operator {
         user: User,
         time: u64,
         money: u64,
-        lines: Texts,
+        lines: Document,
     },
     /// The reel of this serial, 1 to 999,999, as in the next two.
     Mount(u32),

@@ -6,8 +6,7 @@ ghost use Rattle.g_script.specs.Script.{IsPrinted};
 use crate::head::{Head, What, head_of};
 use crate::{Operator, Timed};
 use g_base::NoMemory;
-use g_lines::{Lines, Texts};
-use g_name::Text;
+use g_lines::{Document, Lines};
 use std::alloc::Global;
 
 /// The most bytes of a line.
@@ -19,10 +18,10 @@ const END_OF_DOCUMENT: &[u8] = b"****";
 /// The MONEY of a job whose line names none.
 const USUAL_MONEY: u64 = 1_000;
 
-/// What lines are as those of a document: its lines up to the one that ends it; a bad line, the k-th; or no end.
+/// What lines are as those of a document: its lines up to the one that ends it, and how many; a bad line, the k-th; or no end.
 #[derive(Debug, Drop)]
 pub enum DocumentRead {
-    Whole(Texts),
+    Whole(Document, u64),
     BadAt(u64),
     Open,
 }
@@ -51,17 +50,16 @@ pub fn read_item(alloc: Global, line: &[u8], lines: &mut Lines) -> Result<ItemRe
             time,
             money,
         } => match read_document(alloc, lines)? {
-            DocumentRead::Whole(texts) => {
-                let count = texts.len() as u64 + 2;
+            DocumentRead::Whole(document, count) => {
                 let money = money.unwrap_or(USUAL_MONEY);
                 let what = Operator::Job {
                     name,
                     user,
                     time,
                     money,
-                    lines: texts,
+                    lines: document,
                 };
-                Ok(ItemRead::Taken(Timed { turn, what }, count))
+                Ok(ItemRead::Taken(Timed { turn, what }, count + 2))
             }
             DocumentRead::BadAt(k) => Ok(ItemRead::BadAt(k + 1)),
             DocumentRead::Open => Ok(ItemRead::BadAt(1)),
@@ -74,15 +72,19 @@ fn read_document(alloc: Global, lines: &mut Lines) -> Result<DocumentRead, NoMem
     requires { length lines.old < 2 ^ 63 }
     ensures { IfOk result (λ read. IsDocumentRead lines.old lines.new read) }
 {
-    let mut texts = Texts::new(alloc);
+    let text = lines.rest();
+    let mut count: u64 = 0;
+    let mut bytes = 0;
     while let Some(line) = lines.next() {
         if line == END_OF_DOCUMENT {
-            return Ok(DocumentRead::Whole(texts));
+            let document = Document::of_text(alloc, &text[..bytes])?;
+            return Ok(DocumentRead::Whole(document, count));
         }
         if !is_printed(line) {
-            return Ok(DocumentRead::BadAt(texts.len() as u64 + 1));
+            return Ok(DocumentRead::BadAt(count + 1));
         }
-        texts.push(Text::from_slice(alloc, line)?)?;
+        bytes += line.len() + 1;
+        count += 1;
     }
     Ok(DocumentRead::Open)
 }

@@ -10,14 +10,14 @@ returns-in-Bare c = read_bare c.args.line.now c.args.lines.now c.in-Some.head c.
 pub returns-in-Whole : goal.returns-in-Whole
 returns-in-Whole c =
     read_job c.args.line.now c.args.lines.now c.in-Some.head c.in-Job.name c.in-Job.user c.in-Job.time c.in-Job.money c.in-Some.ensures c.in-Job.is
-    c.read_document.new.lines c.in-Whole.texts c.unwrap_or-money.result c.len.result (rw c.in-Whole.is at c.in_ok-texts-in-Job.ensures) c.unwrap_or-money.ensures c.len.ensures
+    c.read_document.new.lines c.in-Whole.document c.unwrap_or-money.result c.in-Whole.count (rw c.in-Whole.is at c.in_ok-document-in-Job.ensures) c.unwrap_or-money.ensures
 
 pub returns-in-BadAt : goal.returns-in-BadAt
 returns-in-BadAt c =
     read_bad c.args.line.now c.args.lines.now c.in-Some.head c.in-Job.name c.in-Job.user c.in-Job.time c.in-Job.money c.in-Some.ensures c.in-Job.is
-    c.in-BadAt.k (rw c.in-BadAt.is at c.in_ok-texts-in-Job.ensures)
+    c.in-BadAt.k (rw c.in-BadAt.is at c.in_ok-document-in-Job.ensures)
 
 pub returns-in-Open : goal.returns-in-Open
 returns-in-Open c =
     read_open c.args.line.now c.args.lines.now c.in-Some.head c.in-Job.name c.in-Job.user c.in-Job.time c.in-Job.money c.in-Some.ensures c.in-Job.is
-    (rw c.in-Open.is at c.in_ok-texts-in-Job.ensures)
+    (rw c.in-Open.is at c.in_ok-document-in-Job.ensures)

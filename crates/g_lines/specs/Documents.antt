@@ -1,0 +1,26 @@
+-- Documents: lines one behind the other in one text, and how many of them were taken.
+use Rattle.std.specs.Prelude.{ℕ, List, drop, length, take, ◌≡◌, ◌≤◌}
+use Rattle.g_lines.specs.Lines.{lines_of, text_of}
+
+-- the text in which each of its lines has its byte 10
+abbrev pub IsWhole : List ℕ → Type 0
+IsWhole text = text_of (lines_of text) ≡ text
+
+-- the lines, and how many of them were taken
+pub record Taking : Type 0 where
+  pub lines : List (List ℕ)
+  pub taken : ℕ
+
+abbrev pub untaken : List (List ℕ) → Taking
+untaken lines = record { lines = lines; taken = 0 }
+
+abbrev pub with_taken : ℕ → Taking → Taking
+with_taken taken t = record { lines = t.lines; taken = taken }
+
+abbrev pub lines_left : Taking → List (List ℕ)
+lines_left t = drop t.taken t.lines
+
+-- how many bytes the lines that were taken have, with their bytes 10
+pub record IsPlace (lines : List (List ℕ)) (taken : ℕ) (at : ℕ) : Type 0 where
+  pub within : taken ≤ length lines
+  pub bytes : at ≡ length (text_of (take taken lines))
