@@ -1,9 +1,9 @@
 //! The demonstration of number 0 with one round, and the words of the command line.
 use crate::streams::put_into;
 use g_demo::{
-    Asked, Demonstration, Summary, TextSink, asked_by, script_of, summary_text,
-    words_have_one_reading,
+    Asked, Demonstration, Summary, asked_by, script_of, summary_text, words_have_one_reading,
 };
+use g_io::MemorySink;
 
 /// Its draws are 10, 16 and 8: the file F10 has 17 lines, and F8 is listed.
 #[test]
@@ -14,7 +14,8 @@ fn ample(rt: HostRuntime) {
         rounds: 1,
     };
     let script = script_of(rt.alloc(), &demo).expect(&rt, "memory");
-    let mut sink = TextSink::new(rt.alloc());
+    let fails = Vec::new(rt.alloc());
+    let mut sink = MemorySink::new(rt.alloc(), 2_048, fails).expect(&rt, "memory");
     assert!(rt;
         put_into(
             &mut sink,
