@@ -1,3 +1,4 @@
 pub mod ScriptLemmas
 pub mod SummaryLemmas
+mod Walks
 pub mod WordLemmas

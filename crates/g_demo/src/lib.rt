@@ -9,11 +9,12 @@ mod script;
 mod sink;
 mod summary;
 mod text;
+mod told;
 mod words;
 
 pub use demonstration::Demonstration;
 pub use law::words_have_one_reading;
 pub use script::script_of;
-pub use sink::TextSink;
+pub use sink::SummarySink;
 pub use summary::{Summary, summary_text};
 pub use words::{Asked, asked_by};

@@ -1,5 +1,5 @@
 //! The script of a demonstration, line by line.
-ghost use Rattle.std.specs.Prelude.{◌≡◌, ◌≤◌, ◌^◌, ◌+◌, ◌%◌, ◌++◌, ℕ, IfOk, OnOk, replicate};
+ghost use Rattle.std.specs.Prelude.{◌≡◌, ◌≤◌, ◌^◌, ◌+◌, ◌%◌, ◌++◌, ℕ, IfOk, OnOk, [], replicate};
 ghost use Rattle.g_demo.specs.Script.{behind_job, behind_round, behind_three, filled_line, job_lines, round_lines, rounds_lines, script_text};
 ghost use Rattle.g_lines.specs.Lines.{text_of};
 
@@ -14,11 +14,21 @@ use std::alloc::Global;
 pub fn script_of(alloc: Global, demo: &Demonstration) -> Result<Text, NoMemory>
     ensures { IfOk result (λ text. text ≡ script_text demo.now.number demo.now.rounds) }
 {
-    let mut text = Text::from_slice(alloc, b"0 FORMAT\n0 MOUNT 1\n")?;
+    let mut text = with_room(alloc, demo.rounds)?;
+    text.extend(b"0 FORMAT\n0 MOUNT 1\n")?;
     push_rounds(alloc, &mut text, demo.number, demo.rounds)?;
     text.extend(b"1000000000 DUMP 1\n1000000000 SHUT\n1000000000 RESTORE\n")?;
     text.extend(b"1000000000 JOB END,:MASTER,TIME 100\nLISTDIR\nENDJOB\n****\n")?;
     Ok(text)
+}
+
+/// An empty text with room for the script of so many rounds: each of the first thousand has at most 2,545 bytes, of which
+/// its 40 lines of 61 are 2,440.
+fn with_room(alloc: Global, rounds: u32) -> Result<Text, NoMemory>
+    ensures { IfOk result (λ text. text ≡ []) }
+{
+    let bytes = Vec::with_capacity(alloc, 2_545 * rounds as usize + 128)?;
+    Ok(Text::from(bytes))
 }
 
 /// Puts the lines of the rounds behind the text.

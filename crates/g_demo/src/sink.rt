@@ -1,64 +1,71 @@
-//! A sink that keeps its text in memory, as much as it is.
+//! A sink that keeps of its text the summary alone.
 ghost use Rattle.std.specs.Prelude.{◌≡◌, [], OnOk, OnErr, Some};
-ghost use Rattle.g_demo.specs.Sink.{TextSinkView};
+ghost use Rattle.g_demo.specs.Summary as spec;
+ghost use Rattle.g_demo.specs.Sink.{SummarySinkView};
 ghost use Rattle.g_io.specs.Streams.{with_more, HasPutPart, CountsFault};
 
-use g_base::{NoMemory, WriteFailed, raised};
+use crate::summary::Summary;
+use crate::told::Told;
+use g_base::{WriteFailed, raised};
 use g_io::Sink;
-use g_name::Text;
-use std::alloc::Global;
 use std::marker::Model;
 
-/// A sink into memory that takes memory as its text grows, and fails where there is none.
+/// A sink that takes no memory: each piece goes into the summary of the text and is gone. Contracts see the whole text, and
+/// how many calls failed.
 #[derive(Drop)]
-pub struct TextSink {
-    text: Text,
+pub struct SummarySink {
+    summary: Summary,
     faults: u64,
+    told: Told,
 }
 
-impl Model for TextSink {
-    ghost Value = { TextSinkView };
+impl Model for SummarySink {
+    ghost Value = { SummarySinkView };
 
-    ghost view = { λ s. record { text = s.text; faults = s.faults } };
+    ghost view = { λ s. record { text = s.told.text; faults = s.faults } };
+
+    // What the code keeps is the summary of what proofs read.
+    ghost invariant = { λ s. s.summary ≡ spec.summary_of s.told.text };
 }
 
-impl TextSink {
-    /// An empty sink, which takes no memory yet.
-    pub fn new(alloc: Global) -> TextSink
+impl SummarySink {
+    /// A sink that nothing was written to.
+    pub fn new() -> SummarySink
         ensures { result ≡ record { text = []; faults = 0 } }
     {
-        TextSink {
-            text: Text::new(alloc),
+        SummarySink {
+            summary: Summary::new(),
             faults: 0,
+            told: Told::new(),
         }
     }
 
-    /// What was written.
-    pub fn text(&self) -> &[u8]
-        ensures { result.now ≡ self.now.text }
+    /// The summary of what was written.
+    pub fn summary(&self) -> Summary
+        ensures { result ≡ spec.summary_of self.now.text }
     {
-        self.text.as_slice()
+        self.summary
     }
 }
 
-impl Sink for TextSink {
+impl Sink for SummarySink {
     ghost written = { λ s. Some s.text };
 
     ghost faults = { λ s. s.faults };
 
-    /// As the trait says; besides, a failing call appends nothing.
+    /// As the trait says; besides, a failing call appends nothing. It fails where the text would come to 2^64 bytes.
     fn put(&mut self, piece: &[u8]) -> Result<(), WriteFailed>
         ensures put { OnOk result (Some self.new.text ≡ with_more (Some self.old.text) piece.now) }
         ensures part { OnErr result (HasPutPart (Some self.old.text) piece.now (Some self.new.text)) }
         ensures nothing { OnErr result (self.new.text ≡ self.old.text) }
         ensures cause { CountsFault result self.old.faults self.new.faults }
     {
-        match self.text.extend(piece) {
-            Ok(()) => Ok(()),
-            Err(NoMemory) => {
-                self.faults = raised(self.faults);
-                Err(WriteFailed)
-            }
+        if u64::MAX - self.summary.bytes < piece.len() as u64 {
+            self.faults = raised(self.faults);
+            return Err(WriteFailed);
         }
+        self.summary.add(piece);
+        self.told = self.told.then(piece);
+        Ok(())
     }
 }

@@ -1,7 +1,8 @@
 //! The demonstration of number 0 with one round, and the words of the command line.
 use crate::streams::put_into;
 use g_demo::{
-    Asked, Demonstration, Summary, asked_by, script_of, summary_text, words_have_one_reading,
+    Asked, Demonstration, Summary, SummarySink, asked_by, script_of, summary_text,
+    words_have_one_reading,
 };
 use g_io::MemorySink;
 
@@ -14,8 +15,7 @@ fn ample(rt: HostRuntime) {
         rounds: 1,
     };
     let script = script_of(rt.alloc(), &demo).expect(&rt, "memory");
-    let fails = Vec::new(rt.alloc());
-    let mut sink = MemorySink::new(rt.alloc(), 2_048, fails).expect(&rt, "memory");
+    let mut sink = MemorySink::new(rt.alloc(), 2_048, Vec::new(rt.alloc())).expect(&rt, "memory");
     assert!(rt;
         put_into(
             &mut sink,
@@ -37,6 +37,9 @@ fn ample(rt: HostRuntime) {
         ) == Ok(())
     );
     assert!(rt; script.as_slice() == sink.text());
+    let mut sink = SummarySink::new();
+    assert!(rt; put_into(&mut sink, script.as_slice()) == Ok(()));
+    assert!(rt; sink.summary() == Summary::of_text(script.as_slice()));
 
     let mut summary = Summary::new();
     summary.add(b"A\n");

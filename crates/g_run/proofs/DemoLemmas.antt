@@ -29,15 +29,15 @@ module _ {F U : Type 0} (tariffs : Shared F (Bor Usage × Unit {0}) Charge) (tar
   puts_demo demo text is (Some failure) before after put = inr (text, is, put)
 
   -- what was run, over what, and to where
-  pub demo_text_is : (demo : Demonstration) (text script : List ℕ) (lines : List Timed) (bad : Option ℕ) (d : disc.Memory) (tapes : Memory) (new : Devices) (before : List ℕ)
-      → script ≡ script_text demo.number demo.rounds → IsParsed (lines_of script) lines bad → d ≡ blank 4096 → IsEmptyRack ((1, 8192) ∷ []) tapes → before ≡ []
+  pub demo_text_is : (demo : Demonstration) (text : List ℕ) (lines : List Timed) (bad : Option ℕ) (d : disc.Memory) (tapes : Memory) (new : Devices) (before : List ℕ)
+      → IsParsed (lines_of (script_text demo.number demo.rounds)) lines bad → d ≡ blank 4096 → IsEmptyRack ((1, 8192) ∷ []) tapes → before ≡ []
       → EndsWhole tariffs tariff rules rule lines bad (both d.disc tapes.rack) new (Some before) (Some text) → IsDemoText tariffs tariff rules rule demo text
-  demo_text_is demo text script lines bad d tapes new before is parsed blank_is empty none ends = record {
+  demo_text_is demo text lines bad d tapes new before parsed blank_is empty none ends = record {
     old = both d.disc tapes.rack;
     new = new;
     fresh = record { memory = tapes; disc = ap (λ (m : disc.Memory). m.disc) blank_is; rack = refl; empty = empty };
     lines = lines;
     bad = bad;
-    parsed = subst (λ (t : List ℕ). IsParsed (lines_of t) lines bad) is parsed;
+    parsed = parsed;
     ends = subst (λ (t : List ℕ). EndsWhole tariffs tariff rules rule lines bad (both d.disc tapes.rack) new (Some t) (Some text)) none ends;
   }

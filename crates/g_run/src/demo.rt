@@ -2,6 +2,7 @@
 ghost use Rattle.std.specs.Prelude.{◌≡◌, ◌+◌, ◌<◌, [], ◌∷◌, IfOk, length};
 ghost use Rattle.g_budget.specs.Tariff.{IsTariff};
 ghost use Rattle.g_console.specs.Puts.{FaultCause, Puts};
+ghost use Rattle.g_demo.specs.Script.{script_text};
 ghost use Rattle.g_demo.specs.Summary as spec;
 ghost use Rattle.g_disc.specs.Memory.{blank};
 ghost use Rattle.g_lines.specs.Lines.{lines_of};
@@ -16,7 +17,7 @@ use crate::over::{Over, run_script};
 use g_base::NoMemory;
 use g_budget::{Charge, Tariff, Usage};
 use g_console::{Failure, put_made};
-use g_demo::{Demonstration, Summary, TextSink, script_of, summary_text};
+use g_demo::{Demonstration, SummarySink, script_of, summary_text};
 use g_disc::MemoryDisc;
 use g_io::Sink;
 use g_sched::{Standing, WeighRule};
@@ -37,42 +38,41 @@ pub(crate) fn run_demo<K: Sink, F: Fn(&Usage) -> Charge, U: Fn(&Standing) -> u64
     ensures put { PutsDemo F.Fn tariff.now U.Fn weigh.now result demo.now (K.written out.old) (K.written out.new) }
     ensures cause { FaultCause result (K.faults out.old) (K.faults out.new) }
 {
-    match demo_text(alloc, demo, tariff, weigh) {
-        Ok(sink) => put_summary(alloc, demo, sink.text(), out),
+    match demo_run(alloc, demo, tariff, weigh) {
+        Ok(sink) => put_summary(alloc, demo, &sink, out),
         Err(NoMemory) => Some(Failure::Memory),
     }
 }
 
-/// Puts the summary of a text.
+/// Puts the summary of what a sink was given.
 fn put_summary<K: Sink>(
     alloc: Global,
     demo: &Demonstration,
-    text: &[u8],
+    sink: &SummarySink,
     out: &mut K,
 ) -> Option<Failure>
-    ensures { Puts result (spec.summary_text demo.now (spec.summary_of text.now)) (K.written out.old) (K.written out.new) (K.faults out.old) (K.faults out.new) }
+    ensures { Puts result (spec.summary_text demo.now (spec.summary_of sink.now.text)) (K.written out.old) (K.written out.new) (K.faults out.old) (K.faults out.new) }
 {
-    let summary = Summary::of_text(text);
+    let summary = sink.summary();
     let made = summary_text(alloc, demo, &summary);
     put_made(out, made)
 }
 
-/// The text of its run.
-fn demo_text<F: Fn(&Usage) -> Charge, U: Fn(&Standing) -> u64>(
+/// The sink that its run has put its text to.
+fn demo_run<F: Fn(&Usage) -> Charge, U: Fn(&Standing) -> u64>(
     alloc: Global,
     demo: &Demonstration,
     tariff: &Tariff<F>,
     weigh: &WeighRule<U>,
-) -> Result<TextSink, NoMemory>
+) -> Result<SummarySink, NoMemory>
     requires tariff { IsTariff F.Fn tariff.now }
     requires rule { IsWeighRule U.Fn weigh.now }
     ensures { IfOk result (λ sink. IsDemoText F.Fn tariff.now U.Fn weigh.now demo.now sink.text) }
 {
-    let text = script_of(alloc, demo)?;
-    let script = script_in(alloc, text.as_slice())?;
+    let script = demo_script(alloc, demo)?;
     let disc = zero_disc(alloc)?;
     let tapes = one_reel(alloc)?;
-    let mut sink = TextSink::new(alloc);
+    let mut sink = SummarySink::new();
     let Over { failure, .. } = run_script(alloc, script, &mut sink, disc, tapes, tariff, weigh);
     match failure {
         None => Ok(sink),
@@ -80,12 +80,13 @@ fn demo_text<F: Fn(&Usage) -> Charge, U: Fn(&Standing) -> u64>(
     }
 }
 
-/// What a text says as a script.
-fn script_in(alloc: Global, text: &[u8]) -> Result<Script, NoMemory>
-    ensures parsed { IfOk result (λ script. IsParsed (lines_of text.now) script.lines script.bad) }
+/// Its script. The text that it is read from is gone before the run begins.
+fn demo_script(alloc: Global, demo: &Demonstration) -> Result<Script, NoMemory>
+    ensures parsed { IfOk result (λ script. IsParsed (lines_of (script_text demo.now.number demo.now.rounds)) script.lines script.bad) }
     ensures few { IfOk result (λ script. length script.lines + 1 < 18446744073709551616) }
 {
-    parse_script(alloc, text)
+    let text = script_of(alloc, demo)?;
+    parse_script(alloc, text.as_slice())
 }
 
 /// A disc of zeros, in a box.

@@ -4,4 +4,4 @@ use Rattle.g_run.proofs.demo.run_demo.Goals as goal
 pub returns-in-Ok-clause-put : goal.returns-in-Ok-clause-put
 returns-in-Ok-clause-put g c =
     puts_demo g.F.Fn c.args.tariff.now g.U.Fn c.args.weigh.now c.args.demo.now c.in-Ok.sink.text c.in-Ok.ensures c.put_summary.result _ _
-    (rw c.text.ensures at c.put_summary.ensures.put)
+    c.put_summary.ensures.put
