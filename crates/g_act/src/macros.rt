@@ -11,7 +11,7 @@ ghost use Rattle.g_plain.specs.declared.calls.StoreCall.TheVariants as call;
 use crate::asking::ask_any;
 use crate::work::Work;
 use g_base::NoMemory;
-use g_lines::Texts;
+use g_lines::{Document, Texts};
 use g_macro::MacroFault;
 use g_monitor::CommandError;
 use g_name::{Local, Path, User};
@@ -145,7 +145,7 @@ impl Work {
         ensures blocks { OnOk result (self.new.blocks ≤ self.old.blocks + 128) }
     {
         self.count_bytes(bytes.len());
-        let lines = Texts::of_text(alloc, bytes)?;
+        let lines = Document::of_text(alloc, bytes)?;
         match self.levels.call(alloc, lines, params) {
             Ok(()) => {
                 self.done();

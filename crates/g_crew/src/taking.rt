@@ -9,7 +9,7 @@ use crate::choice::MOST_JOBS;
 use crate::texts::{push_number, push_numbers};
 use g_base::NoMemory;
 use g_job::Job;
-use g_lines::Texts;
+use g_lines::Document;
 use g_name::{Local, Text, User};
 use std::alloc::Global;
 use thiserror::Error;
@@ -21,7 +21,7 @@ pub struct NewJob {
     pub user: User,
     pub time: u64,
     pub money: u64,
-    pub lines: Texts,
+    pub lines: Document,
 }
 
 /// Why a job isn't taken in. Nothing is changed then.

@@ -1,19 +1,12 @@
 //! Blocks of a text, counts, fuses and the fields of a block by rows that were worked out by hand.
 use g_base::{Block, BlockList, BlockReader, BlockWriter, Fuse, are_distinct, blocks_for, raised};
 
-/// Pairs whose first numbers are distinct, or not.
-static PAIRS: [(&[(u8, u8)], bool); 3] = [
-    (&[(1, 2), (1, 3), (2, 2)], false),
-    (&[(2, 1), (3, 1), (2, 2)], false),
-    (&[(12, 1), (13, 1), (22, 2)], true),
-];
-
 #[test]
 fn ample(rt: HostRuntime) {
-    for (pairs, distinct) in &PAIRS {
-        let told = are_distinct(rt.alloc(), pairs, |pair| pair.0);
-        assert!(rt; told == Ok(*distinct));
-    }
+    let rows = [(1u8, 2u64), (1, 3), (2, 2)];
+    assert!(rt; are_distinct(rt.alloc(), &rows, |row| row.0) == Ok(false));
+    assert!(rt; are_distinct(rt.alloc(), &rows, |row| row.1) == Ok(false));
+    assert!(rt; are_distinct(rt.alloc(), &rows, |row| *row) == Ok(true));
     let mut places = BlockList::new();
     places.push(2_177);
     assert!(rt; places.copy().as_slice() == [2_177].as_slice());

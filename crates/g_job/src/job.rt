@@ -19,7 +19,7 @@ use crate::turn::Turn;
 use g_act::{Again, Work};
 use g_base::NoMemory;
 use g_budget::{Charge, Tariff, Usage};
-use g_lines::Texts;
+use g_lines::Document;
 use g_macro::Levels;
 use g_monitor::push_header;
 use g_name::{Local, Text, User};
@@ -76,7 +76,7 @@ impl Job {
         user: User,
         allowance: u64,
         money: u64,
-        lines: Texts,
+        lines: Document,
     ) -> Result<Job, NoMemory>
         requires allowance { (1 ≤ allowance) × (allowance ≤ 1000000) }
         requires money { money ≤ 1000000 }

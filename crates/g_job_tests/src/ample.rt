@@ -4,7 +4,7 @@ ghost use Rattle.std.specs.Prelude.{◌≡◌, IfOk, false};
 use g_act::{Made, Work};
 use g_budget::{Charge, Tariff, Usage};
 use g_job::{Job, Turn};
-use g_lines::Texts;
+use g_lines::Document;
 use g_macro::Levels;
 use g_name::{Local, User};
 use g_peri::Units;
@@ -15,7 +15,7 @@ use std::test::Fail;
 
 /// The work of a document.
 fn work_of(alloc: Global, document: &[u8]) -> Result<Work, Fail> {
-    let levels = Levels::new(alloc, Texts::of_text(alloc, document)?)?;
+    let levels = Levels::new(alloc, Document::of_text(alloc, document)?)?;
     Ok(Work::new(alloc, levels, Units::new(alloc)?))
 }
 
@@ -47,7 +47,7 @@ fn begun(alloc: Global, document: &[u8]) -> Result<Job, Fail>
 {
     let name = Local::new(b"DEEP").ok_or("no name")?;
     let user = User::new(b"MASTER").ok_or("no user")?;
-    let lines = Texts::of_text(alloc, document)?;
+    let lines = Document::of_text(alloc, document)?;
     let job = Job::new(alloc, 1, name, user, 20, 1_000, lines)?;
     Ok(job)
 }

@@ -2,7 +2,7 @@
 ghost use Rattle.std.specs.Prelude.{◌≡◌, ◌<◌, length, IfOk};
 
 use g_lang::{Command, Label, Line, parse_line};
-use g_lines::Texts;
+use g_lines::{Document, Texts};
 use g_macro::{EventNote, Levels, MacroFault, Outcome};
 use g_name::Text;
 use std::alloc::Global;
@@ -42,6 +42,13 @@ fn one(alloc: Global, line: &[u8]) -> Result<Texts, Fail>
     Ok(list)
 }
 
+/// A document of one line.
+fn lone(alloc: Global, line: &[u8]) -> Result<Document, Fail> {
+    let mut text = Text::from_slice(alloc, line)?;
+    text.push(b'\n')?;
+    Ok(Document::of_text(alloc, text.as_slice())?)
+}
+
 fn two(alloc: Global, first: &[u8], second: &[u8]) -> Result<Texts, Fail>
     ensures { IfOk result (λ list. length list ≡ 2) }
 {
@@ -54,7 +61,7 @@ fn two(alloc: Global, first: &[u8], second: &[u8]) -> Result<Texts, Fail>
 fn begun(alloc: Global, document: &[u8]) -> Result<Levels, Fail>
     ensures { IfOk result (λ levels. 0 < length levels.levels) }
 {
-    let levels = Levels::new(alloc, Texts::of_text(alloc, document)?)?;
+    let levels = Levels::new(alloc, Document::of_text(alloc, document)?)?;
     Ok(levels)
 }
 
@@ -77,7 +84,7 @@ fn next_is_cut(alloc: Global, levels: &mut Levels, front: &[u8]) -> bool {
 /// Whether the line of a macro with two parameters becomes this one.
 fn becomes(alloc: Global, a: &[u8], b: &[u8], line: &[u8], filled: &[u8]) -> Result<bool, Fail> {
     let mut levels = begun(alloc, b"")?;
-    levels.call(alloc, one(alloc, line)?, two(alloc, a, b)?)?;
+    levels.call(alloc, lone(alloc, line)?, two(alloc, a, b)?)?;
     next_is(alloc, &mut levels, filled)
 }
 
@@ -94,7 +101,7 @@ fn with_parameter(alloc: Global, param: &[u8]) -> Result<Levels, Fail> {
     let mut levels = begun(alloc, b"")?;
     levels.call(
         alloc,
-        Texts::of_text(alloc, b"%A\n%AB\nEND")?,
+        Document::of_text(alloc, b"%A\n%AB\nEND")?,
         one(alloc, param)?,
     )?;
     Ok(levels)
@@ -163,14 +170,14 @@ fn deepen(alloc: Global, levels: &mut Levels) -> Result<bool, Fail> {
         if !next_is(alloc, levels, b"M")? {
             return Ok(false);
         }
-        levels.call(alloc, one(alloc, b"M")?, Texts::new(alloc))?;
+        levels.call(alloc, lone(alloc, b"M")?, Texts::new(alloc))?;
     }
     next_is(alloc, levels, b"M")
 }
 
 /// Whether another macro would be too deep.
 fn is_deepest(alloc: Global, levels: &mut Levels) -> Result<bool, Fail> {
-    let deep = levels.call(alloc, one(alloc, b"M")?, Texts::new(alloc));
+    let deep = levels.call(alloc, lone(alloc, b"M")?, Texts::new(alloc));
     Ok(matches!(deep, Err(MacroFault::TooDeep)))
 }
 
@@ -241,7 +248,7 @@ fn ample(rt: HostRuntime) -> Result<(), Fail> {
     )?;
     levels.call(
         rt.alloc(),
-        one(rt.alloc(), b"DISPLAY %A")?,
+        lone(rt.alloc(), b"DISPLAY %A")?,
         one(rt.alloc(), b"X")?,
     )?;
     assert!(rt; next_is(rt.alloc(), &mut levels, b"DISPLAY X")?);

@@ -247,7 +247,7 @@ fn refusals_of_the_reels(rt: HostRuntime) {
     assert!(rt; refusal(&rt, &mut tapes) == Some(StoreFault::RackNotMounted(2)));
     assert!(rt; refusal(&rt, &mut reels(&rt, "")) == Some(StoreFault::NoDump));
     let mut tapes = reels(&rt, TWO_DUMPS);
-    tapes.fail_reads([3].to_vec(rt.alloc()).expect(&rt, "memory"));
+    tapes.fail_reads([1].to_vec(rt.alloc()).expect(&rt, "memory"));
     assert!(rt; refusal(&rt, &mut tapes) == Some(StoreFault::TapeReadFault));
 }
 

@@ -1,7 +1,7 @@
 //! A crew, and a job from its line to its end.
 use g_crew::{Crew, NewJob, push_operator_line};
 use g_entry::UserRec;
-use g_lines::Texts;
+use g_lines::Document;
 use g_name::{Local, Text, User};
 use std::test::Fail;
 
@@ -24,7 +24,7 @@ fn ample(rt: HostRuntime) -> Result<(), Fail> {
         user: User::master(),
         time: 40,
         money: 10,
-        lines: Texts::new(rt.alloc()),
+        lines: Document::new(rt.alloc()),
     };
     let number = crew.take_in(rt.alloc(), true, job)?;
     assert_eq!(rt; number, 1);

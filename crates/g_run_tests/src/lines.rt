@@ -11,7 +11,7 @@ use g_console::{
 use g_crew::{Crew, NewJob};
 use g_disc::Disc;
 use g_io::Sink;
-use g_lines::Texts;
+use g_lines::Document;
 use g_name::{Local, User, parse_path};
 use g_tape::Tapes;
 use std::alloc::Global;
@@ -64,7 +64,7 @@ pub(crate) fn came_in<K: Sink, D: Disc + Drop, T: Tapes + Drop>(
         user: User::master(),
         time: 10,
         money: 0,
-        lines: Texts::of_text(alloc, b"INPUT F\nHELLO\n////\n")?,
+        lines: Document::of_text(alloc, b"INPUT F\nHELLO\n////\n")?,
     };
     let failure = job_line(alloc, &system, crew, 0, job, out);
     went(failure)?;

@@ -6,7 +6,7 @@ use crate::setting::Setting;
 use crate::system::System;
 use g_budget::{Charge, Tariff, Usage};
 use g_job::{Job, Turn};
-use g_lines::Texts;
+use g_lines::Document;
 use g_name::{Local, User};
 use g_plain::{Filestore, PlainStore};
 use std::alloc::Global;
@@ -40,7 +40,7 @@ fn ended<S: Filestore>(alloc: Global, store: &mut S, document: &[u8]) -> Result<
     let Some(name) = Local::new(b"DEEP") else {
         return Err(Wrong("no name"));
     };
-    let lines = Texts::of_text(alloc, document)?;
+    let lines = Document::of_text(alloc, document)?;
     let mut job = Job::new(alloc, 1, name, User::master(), 20, 1_000, lines)?;
     finish(alloc, store, &mut job)?;
     Ok(job)
