@@ -4,6 +4,8 @@ use Rattle.std.specs.Prelude.{option_map}
 use Rattle.std.specs.Fn.{Shared}
 use denote.Ref.{Bor}
 use Rattle.std.proofs.lemmas.Bool.{cases_Bool}
+use Rattle.std.proofs.lemmas.Option.{none-some}
+use Rattle.g_base.proofs.CountLemmas.{RoseBy-none}
 use Rattle.g_budget.specs.declared.tariff.Charge.{Charge}
 use Rattle.g_budget.specs.declared.tariff.Usage.{Usage}
 use Rattle.g_sched.specs.declared.rule.Standing.{Standing}
@@ -30,6 +32,8 @@ use Rattle.g_world.proofs.TickLemmas.{over_move}
 use Rattle.g_world.proofs.TurnLemmas.{run_append}
 use Rattle.g_crew.specs.Crew.{CrewState}
 use Rattle.g_console.specs.declared.progress.Failure.{Failure}
+use Rattle.g_console.specs.declared.progress.Failure.TheVariants as failures
+use Rattle.g_console.proofs.GrowLemmas.{grow_itself}
 use Rattle.g_console.specs.Parts.{Matches, Seen, seen}
 use Rattle.g_console.specs.Puts.{FaultCause, Puts, PutsBy}
 use Rattle.g_console.specs.System.{BelongTogether, Down, DumpsGrow, StandsAs, SystemBelongs, SystemFacts, Up, devices_in, SameDevices}
@@ -37,6 +41,7 @@ use Rattle.g_ticks.proofs.TickLemmas.{put_on, with_more-append}
 use Rattle.g_run.specs.Over.{ClosesBy, DidScript, TakenDown, both}
 use Rattle.g_run.specs.Parts.{DidAll, IsAtRest, Keeps, Leads}
 use Rattle.g_run.specs.Top.{EndsBy}
+use Rattle.g_run.proofs.PartLemmas.{with_more-nil}
 
 -- A STATE OF DEVICES is down already
 kept_nothing : (text : ℕ → List ℕ) (c : Option Contents) → option_map no_longer_kept (option_map (holding_of text []) c) ≡ option_map (holding_of text []) c
@@ -241,3 +246,39 @@ module _ {F U : Type 0} (tariffs : Shared F (Bor Usage × Unit {0}) Charge) (tar
       subst (λ (g : Option Failure). DidScript tariffs tariff rules rule lines bad old g new before after faults faults2) (sym is)
       (subst (λ (t : Option (List ℕ)). DidScript tariffs tariff rules rule lines bad old (Some came) new before t faults faults2) (sym same)
       (subst (λ (n : ℕ). DidScript tariffs tariff rules rule lines bad old (Some came) new before middle faults n) (sym still) (script_short came before middle faults faults1 did)))
+
+-- NOTHING WAS DONE, for want of memory
+module _ {F U : Type 0} (tariffs : Shared F (Bor Usage × Unit {0}) Charge) (tariff : F) (rules : Shared U (Bor Standing × Unit {0}) ℕ) (rule : U) (lines : List Timed) (bad : Option ℕ) where
+  pub nothing_done : (old new : Devices) (before : Option (List ℕ)) (faults : ℕ) → new ≡ old
+      → DidScript tariffs tariff rules rule lines bad old (Some failures.Memory) new before before faults faults
+  nothing_done old new before faults same =
+      subst (λ (d : Devices). DidScript tariffs tariff rules rule lines bad old (Some failures.Memory) d before before faults faults) (sym same) (record {
+        ends = λ s is_down stands. (
+          [],
+          start lines bad s,
+          record { run = refl; counted = counted_of [] (start lines bad s) old old (event_none old); stands = devices_down old s stands },
+          (0, omega arith, sym (with_more-nil before)),
+        );
+        arms = record {
+          disc = (0, omega arith, RoseBy-none refl);
+          tape = (0, omega arith, RoseBy-none refl);
+          all_disc = λ through. absurd (none-some failures.Memory (sym through));
+          all_tape = λ through. absurd (none-some failures.Memory (sym through));
+        };
+        same = record { size = refl; reels = refl };
+        belongs = λ is. is;
+        dumps = λ is. grow_itself old.rack;
+        cause = refl;
+      })
+
+  -- the same script between equal devices
+  pub carried : (old was new now : Devices) (failure came : Option Failure) (before after : Option (List ℕ)) (faults faults' : ℕ) → was ≡ old → now ≡ new → came ≡ failure
+      → DidScript tariffs tariff rules rule lines bad was failure new before after faults faults' → DidScript tariffs tariff rules rule lines bad old came now before after faults faults'
+  carried old was new now failure came before after faults faults' begins ends fails did =
+      subst (λ (d : Devices). DidScript tariffs tariff rules rule lines bad d came now before after faults faults') begins
+      (subst (λ (d : Devices). DidScript tariffs tariff rules rule lines bad was came d before after faults faults') (sym ends)
+      (subst (λ (f : Option Failure). DidScript tariffs tariff rules rule lines bad was f new before after faults faults') (sym fails) did))
+
+-- devices by disc and rack
+pub both_is : (d e : DiscState) (r q : Rack) → d ≡ e → r ≡ q → both d r ≡ both e q
+both_is d e r q discs racks = ap (λ (x : DiscState). both x r) discs ∙ ap (λ (x : Rack). both e x) racks

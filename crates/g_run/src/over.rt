@@ -1,5 +1,5 @@
 //! A script that was read, done to its end.
-ghost use Rattle.std.specs.Prelude.{◌≡◌, ◌+◌, ◌≤◌, ◌<◌, ◌++◌, All, IfOk, length};
+ghost use Rattle.std.specs.Prelude.{◌≡◌, ◌+◌, ◌≤◌, ◌<◌, ◌++◌, All, IfErr, IfOk, length};
 ghost use Rattle.g_budget.specs.Tariff.{IsTariff};
 ghost use Rattle.g_console.specs.Parts.{IsReady, seen};
 ghost use Rattle.g_console.specs.System.{facts_of};
@@ -9,6 +9,8 @@ ghost use Rattle.g_world.specs.Texts as texts;
 ghost use Rattle.g_run.specs.Over.{ClosesBy, DidScript, TakenDown, both};
 ghost use Rattle.g_run.specs.Parts.{DidAll, IsTimedWithin};
 
+use crate::boxed_disc::BoxedDisc;
+use crate::boxed_tapes::BoxedTapes;
 use crate::came::Came;
 use crate::little::little_is_left;
 use crate::script::do_lines;
@@ -23,7 +25,7 @@ use g_name::Text;
 use g_sched::{Standing, WeighRule};
 use g_script::{Script, Timeds};
 use g_tape::Tapes;
-use std::alloc::Global;
+use std::alloc::{AllocFailed, Global};
 
 /// Both devices behind a script, and why it was cut short, if it was.
 #[derive(Drop)]
@@ -78,6 +80,79 @@ pub(crate) fn run_script<
     Over {
         disc,
         tapes,
+        failure,
+    }
+}
+
+/// The same over devices that are put into boxes for it: a run hands its system on at every tick, and of a system that is down
+/// then two pointers move. Without memory for the boxes nothing is done.
+pub(crate) fn run_boxed<
+    K: Sink,
+    D: Disc,
+    T: Tapes,
+    F: Fn(&Usage) -> Charge,
+    U: Fn(&Standing) -> u64,
+>(
+    alloc: Global,
+    script: Script,
+    out: &mut K,
+    disc: D,
+    tapes: T,
+    tariff: &Tariff<F>,
+    weigh: &WeighRule<U>,
+) -> Over<D, T>
+    requires size { (2177 < (D.state disc).size) × ((D.state disc).size ≤ 1048576) }
+    requires within { All IsTimedWithin script.lines }
+    requires few { length script.lines + 1 < 18446744073709551616 }
+    requires tariff { IsTariff F.Fn tariff.now }
+    requires rule { IsWeighRule U.Fn weigh.now }
+    ensures { DidScript F.Fn tariff.now U.Fn weigh.now script.lines script.bad (both (D.state disc) (T.rack tapes)) result.failure
+        (both (D.state result.disc) (T.rack result.tapes))
+        (K.written out.old) (K.written out.new) (K.faults out.old) (K.faults out.new) }
+{
+    match in_boxes(alloc, disc, tapes) {
+        Ok((disc, tapes)) => unboxed(run_script(alloc, script, out, disc, tapes, tariff, weigh)),
+        Err((disc, tapes)) => Over {
+            disc,
+            tapes,
+            failure: Some(Failure::Memory),
+        },
+    }
+}
+
+/// Both devices in boxes; without memory for them they come back as they are.
+fn in_boxes<D: Disc, T: Tapes>(
+    alloc: Global,
+    disc: D,
+    tapes: T,
+) -> Result<(BoxedDisc<D>, BoxedTapes<T>), (D, T)>
+    ensures ok { IfOk result (λ boxes. (D.state boxes.0.disc.value ≡ D.state disc) × (T.rack boxes.1.tapes.value ≡ T.rack tapes)) }
+    ensures err { IfErr result (λ devices. (D.state devices.0 ≡ D.state disc) × (T.rack devices.1 ≡ T.rack tapes)) }
+{
+    let disc = match Box::new(alloc, disc) {
+        Ok(disc) => BoxedDisc { disc },
+        Err(AllocFailed { value }) => return Err((value, tapes)),
+    };
+    match Box::new(alloc, tapes) {
+        Ok(tapes) => Ok((disc, BoxedTapes { tapes })),
+        Err(AllocFailed { value }) => Err((Box::into_inner(disc.disc), value)),
+    }
+}
+
+/// The end of a script, with the devices out of their boxes.
+fn unboxed<D: Disc, T: Tapes>(over: Over<BoxedDisc<D>, BoxedTapes<T>>) -> Over<D, T>
+    ensures disc { D.state result.disc ≡ D.state over.disc.disc.value }
+    ensures tapes { T.rack result.tapes ≡ T.rack over.tapes.tapes.value }
+    ensures failure { result.failure ≡ over.failure }
+{
+    let Over {
+        disc,
+        tapes,
+        failure,
+    } = over;
+    Over {
+        disc: Box::into_inner(disc.disc),
+        tapes: Box::into_inner(tapes.tapes),
         failure,
     }
 }

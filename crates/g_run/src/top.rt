@@ -16,7 +16,7 @@ ghost use Rattle.g_run.specs.Top as top;
 
 use crate::demo::run_demo;
 use crate::input::{Unread, read_script};
-use crate::over::{Over, run_script};
+use crate::over::{Over, run_boxed};
 use crate::status::Status;
 use g_base::NoMemory;
 use g_budget::{Charge, Tariff, Usage};
@@ -137,7 +137,7 @@ pub fn george<
         disc,
         tapes,
         failure,
-    } = run_script(alloc, parsed, out, disc, tapes, tariff, weigh);
+    } = run_boxed(alloc, parsed, out, disc, tapes, tariff, weigh);
     Finish {
         status: run_status(bad, failure),
         disc,
