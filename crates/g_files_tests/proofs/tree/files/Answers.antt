@@ -6,7 +6,7 @@ use Rattle.g_files_tests.proofs.RowLemmas.{one, two, last, files_rules}
 use Rattle.g_files_tests.proofs.tree.files.Goals as goal
 
 pub returns : goal.returns
-returns c =
+returns g c =
     let items : c.push-3.new.self.items ≡ one ∷ two ∷ last ∷ [] =
     c.in_ok-push-3.ensures.items
     ∙ ap (λ xs. xs ++ c.file-3.result ∷ [])
