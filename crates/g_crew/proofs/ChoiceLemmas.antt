@@ -1,21 +1,21 @@
 -- The jobs that can step, one after another.
-use Rattle.std.proofs.Common.{◌≡◌, ◌+◌, ◌<◌, ◌∙◌, ◌++◌, ◌∷◌, [], Bool, List, None, Option, Some, ap, arith, cond, false, get_or, length, map, not, refl, set, slice_get, subst, sym, suc, take, true, zero, ℕ}
-use Rattle.std.specs.Fn.{Shared}
-use Rattle.std.specs.List.{All}
+use Rattle.std.proofs.Common.{◌≡◌, ◌+◌, ◌<◌, ◌≤◌, ◌∙◌, ◌++◌, ◌∷◌, ◌⊎◌, [], Bool, IfSome, List, None, Option, Some, ap, arith, cond, false, get_or, length, map, not, refl, slice_get, sym, suc, take, true, zero, ℕ}
+use Rattle.std.specs.Fn.{FnReturnsAt, Shared}
 use Rattle.std.specs.Option.{option_map}
 use denote.Ref.{Bor}
 use Rattle.std.proofs.lemmas.Bool.{cond_both}
-use Rattle.std.proofs.lemmas.List.{map-append, take_more_set}
-use Rattle.std.proofs.lemmas.List.Elements.{All-push, filter_more}
-use Rattle.std.proofs.lemmas.Option.{none-some, same_Some, slice_get-map}
+use Rattle.std.proofs.lemmas.List.{length-map, length_push, take_all}
+use Rattle.std.proofs.lemmas.List.Elements.{filter_more}
+use Rattle.std.proofs.lemmas.Option.{none-some, same_Some, slice_get-map, slice_get_read}
+use Rattle.g_sched.specs.declared.choice.Candidate.{Candidate}
 use Rattle.g_sched.specs.declared.rule.Standing.{Standing}
-use Rattle.g_sched.specs.Choice.{IsChosen}
-use Rattle.g_sched.specs.Rule.{IsInRange}
+use Rattle.g_sched.specs.Choice.{IsNoLater}
+use Rattle.g_sched.proofs.Least.{IsBestOf, IsChosen-from_least, IsLeast-more}
 use Rattle.g_job.specs.Begun.{standing_of}
 use Rattle.g_job.specs.State.{JobState}
 use Rattle.g_step.specs.State.{State}
 use Rattle.g_world.specs.World.{can_step, has_none}
-use Rattle.g_crew.specs.Choice.{Chooses, able_in}
+use Rattle.g_crew.specs.Choice.{Chooses, IsFirst, able_in}
 use Rattle.g_crew.specs.Numbers.{Rise, job_in}
 use Rattle.g_crew.proofs.NumberLemmas.{found-able}
 
@@ -39,16 +39,6 @@ able-same s jobs i j within is not_able =
     ∙ ap (λ (x : JobState). able_in s (take i jobs) ++ cond (can_step s x) (x ∷ []) []) (sym is)
     ∙ ap (λ (b : Bool). able_in s (take i jobs) ++ cond b (j ∷ []) []) not_able ∙ append_nil (able_in s (take i jobs))
 
--- its standing was written behind the others
-pub standings-more : (s : State) (jobs : List JobState) (i : ℕ) (j : JobState) (standings : List Standing) (able : ℕ) (new : Standing)
-    → i < length jobs → j ≡ get_or jobs i j → can_step s j ≡ true → able < length standings → new ≡ standing_of j
-    → take able standings ≡ map standing_of (able_in s (take i jobs))
-    → take (able + 1) (set standings able new) ≡ map standing_of (able_in s (take (i + 1) jobs))
-standings-more s jobs i j standings able new within is can room value so_far =
-    take_more_set standings able new room ∙ (λ k. so_far k ++ value k ∷ [])
-    ∙ sym (map-append standing_of (able_in s (take i jobs)) (j ∷ []))
-    ∙ ap (map standing_of) (sym (able-more s jobs i j within is can))
-
 -- one that can step is among those that can
 pub able-one : (s : State) (jobs : List JobState) (place : ℕ) (j : JobState) → slice_get jobs place ≡ Some j → can_step s j ≡ true → true ≡ not (has_none (able_in s jobs))
 able-one s [] place j there can = absurd (none-some j there)
@@ -58,42 +48,79 @@ able-one s (m ∷ jobs) zero j there can =
 able-one s (m ∷ jobs) (suc place) j there can =
     cond_both (can_step s m) (m ∷ able_in s jobs) (able_in s jobs) (λ ks. true ≡ not (has_none ks)) (λ able. refl) (λ not_able. able-one s jobs place j there can)
 
--- the standings so far stay in range
-pub in_range-more : (standings : List Standing) (able : ℕ) (new : Standing) → able < length standings → All IsInRange (take able standings) → IsInRange new
-    → All IsInRange (take (able + 1) (set standings able new))
-in_range-more standings able new room all is =
-    subst (λ (ss : List Standing). All IsInRange ss) (sym (take_more_set standings able new room)) (All-push IsInRange (take able standings) new all is)
-
-has_none-nil : (jobs : List JobState) → map standing_of jobs ≡ [] → has_none jobs ≡ true
-has_none-nil [] e = refl
-has_none-nil (j ∷ jobs) e = absurd (cons_nil (standing_of j) (map standing_of jobs) e)
+-- it stands behind those before it that can
+able-at : (s : State) (jobs : List JobState) (i : ℕ) (j : JobState) → slice_get jobs i ≡ Some j → can_step s j ≡ true
+    → slice_get (able_in s jobs) (length (able_in s (take i jobs))) ≡ Some j
+able-at s [] i j there can = absurd (none-some j there)
+able-at s (m ∷ jobs) zero j there can =
+    let can' : can_step s m ≡ true = ap (can_step s) (same_Some m j there) ∙ can in
+    ap (λ (b : Bool). slice_get (cond b (m ∷ able_in s jobs) (able_in s jobs)) 0) can' ∙ there
+able-at s (m ∷ jobs) (suc i) j there can =
+    behind (can_step s m) (able_in s jobs) (able_in s (take i jobs)) m j (able-at s jobs i j there can)
   where
-    cons_nil : (x : Standing) (xs : List Standing) → x ∷ xs ≡ [] → ⊥
-    cons_nil x xs e = search arith
+    behind : (b : Bool) (ks before : List JobState) (m j : JobState) → slice_get ks (length before) ≡ Some j
+        → slice_get (cond b (m ∷ ks) ks) (length (cond b (m ∷ before) before)) ≡ Some j
+    behind true ks before m j there = there
+    behind false ks before m j there = there
+
+has_none-empty : (jobs : List JobState) → length jobs ≡ 0 → has_none jobs ≡ true
+has_none-empty [] e = refl
+has_none-empty (j ∷ jobs) e = absurd (omega (arith, e))
 
 map_some : (o : Option JobState) (x : Standing) → option_map standing_of o ≡ Some x → (j : JobState) × (o ≡ Some j) × (standing_of j ≡ x)
 map_some None x e = absurd (none-some x e)
 map_some (Some j) x e = (j, refl, same_Some (standing_of j) x e)
 
 module _ {U : Type 0} (rules : Shared U (Bor Standing × Unit {0}) ℕ) (rule : U) where
-  -- nobody is chosen of nobody
-  pub Chooses-none : (s : State) (jobs : List JobState) (standings : List Standing) → standings ≡ map standing_of (able_in s jobs) → standings ≡ []
-      → Chooses rules rule jobs (able_in s jobs) None
-  Chooses-none s jobs standings are none = has_none-nil (able_in s jobs) (sym are ∙ none)
+  -- of the jobs so far so many can step, and this is the best of them
+  abbrev pub IsSeen : State → List JobState → ℕ → ℕ → Option Candidate → Type 0
+  IsSeen s jobs i able first =
+      (able ≡ length (able_in s (take i jobs))) × IsBestOf rules rule (map standing_of (able_in s jobs)) able first
 
-  -- the number of the chosen standing is that of the chosen job
-  pub Chooses-some : (s : State) (low : ℕ) (jobs : List JobState) (next : ℕ) (standings : List Standing) (place : ℕ) (chosen : Standing) → Rise low jobs next
-      → standings ≡ map standing_of (able_in s jobs) → IsChosen rules rule standings place → slice_get standings place ≡ Some chosen
-      → Chooses rules rule jobs (able_in s jobs) (Some chosen.number)
-  Chooses-some s low jobs next standings place chosen rise are is there =
-      let read : option_map standing_of (slice_get (able_in s jobs) place) ≡ Some chosen =
-      sym (slice_get-map standing_of (able_in s jobs) place) ∙ ap (λ (ss : List Standing). slice_get ss place) (sym are) ∙ there in
-      let (job, at, stands) = map_some (slice_get (able_in s jobs) place) chosen read in
-      let numbers : job.number ≡ chosen.number = ap (λ (x : Standing). x.number) stands in (
-        place,
+  -- one more that can step, and the earlier of it and the best before
+  pub seen-more : (s : State) (jobs : List JobState) (i able : ℕ) (j : JobState) (first : Option Candidate) (weight : ℕ) (kept : Candidate)
+      → i < length jobs → j ≡ get_or jobs i j → can_step s j ≡ true → FnReturnsAt rules rule (standing_of j) weight
+      → (kept ≡ record { place = able; weight = weight; number = j.number }) ⊎ (first ≡ Some kept)
+      → IsNoLater kept.weight kept.number weight j.number → IfSome first (λ b. IsNoLater kept.weight kept.number b.weight b.number)
+      → IsSeen s jobs i able first → IsSeen s jobs (i + 1) (able + 1) (Some kept)
+  seen-more s jobs i able j first weight kept within is can weighs one before before_best (count, best) =
+      let there : slice_get jobs i ≡ Some j = slice_get_read jobs _ i j refl within is in
+      let at : slice_get (map standing_of (able_in s jobs)) able ≡ Some (standing_of j) =
+      slice_get-map standing_of (able_in s jobs) able ∙ ap (option_map standing_of)
+      (ap (λ (n : ℕ). slice_get (able_in s jobs) n) count ∙ able-at s jobs i j there can) in (
+        ap (λ (n : ℕ). n + 1) count ∙ sym (length_push (able_in s (take i jobs)) j) ∙ ap length (sym (able-more s jobs i j within is can)),
+        IsLeast-more rules rule (map standing_of (able_in s jobs)) able first (standing_of j) weight kept best at weighs one before before_best,
+      )
+
+  -- one that can't step
+  pub seen-same : (s : State) (jobs : List JobState) (i able : ℕ) (j : JobState) (first : Option Candidate)
+      → i < length jobs → j ≡ get_or jobs i j → can_step s j ≡ false → IsSeen s jobs i able first → IsSeen s jobs (i + 1) able first
+  seen-same s jobs i able j first within is not_able (count, best) = (count ∙ ap length (sym (able-same s jobs i j within is not_able)), best)
+
+  -- all were seen
+  pub seen-whole : (s : State) (jobs : List JobState) (i able : ℕ) (first : Option Candidate) → length jobs ≤ i
+      → IsSeen s jobs i able first → IsFirst rules rule (able_in s jobs) first
+  seen-whole s jobs i able None whole (count, none) =
+      has_none-empty (able_in s jobs) (sym (ap (λ (ks : List JobState). length (able_in s ks)) (take_all i jobs whole)) ∙ sym count ∙ none)
+  seen-whole s jobs i able (Some c) whole (count, best) =
+      let counted : length (able_in s jobs) ≡ able = sym (ap (λ (ks : List JobState). length (able_in s ks)) (take_all i jobs whole)) ∙ sym count in
+      let long : length (map standing_of (able_in s jobs)) ≤ able = omega (arith, length-map (able_in s jobs) standing_of, counted) in
+      let read : option_map standing_of (slice_get (able_in s jobs) c.place) ≡ Some best.standing =
+      sym (slice_get-map standing_of (able_in s jobs) c.place) ∙ best.there in
+      let (job, at, stands) = map_some (slice_get (able_in s jobs) c.place) best.standing read in (
+        IsChosen-from_least rules rule (map standing_of (able_in s jobs)) able c best long,
+        (job, at, ap (λ (x : Standing). x.number) stands ∙ best.number),
+      )
+
+  -- the first of those that can step is chosen
+  pub Chooses-first : (s : State) (low : ℕ) (jobs : List JobState) (next : ℕ) (c : Candidate) → Rise low jobs next
+      → IsFirst rules rule (able_in s jobs) (Some c) → Chooses rules rule jobs (able_in s jobs) (Some c.number)
+  Chooses-first s low jobs next c rise (chosen, first) =
+      let (job, at, numbers) = first in (
+        c.place,
         job,
-        subst (λ ss. IsChosen rules rule ss place) are is,
+        chosen,
         at,
         numbers,
-        ap (λ (n : ℕ). job_in n jobs) (sym numbers) ∙ found-able (can_step s) low jobs next place job rise at,
+        ap (λ (n : ℕ). job_in n jobs) (sym numbers) ∙ found-able (can_step s) low jobs next c.place job rise at,
       )

@@ -1,7 +1,8 @@
 -- The choice of the next job.
-use Rattle.std.specs.Prelude.{◌≡◌, ℕ, Bool, true, List, map, filter, Option, Some, None, slice_get}
+use Rattle.std.specs.Prelude.{◌≡◌, ℕ, Bool, true, List, map, filter, Option, Some, None, MatchOption, slice_get}
 use Rattle.std.specs.Fn.{Shared}
 use denote.Ref.{Bor}
+use Rattle.g_sched.specs.declared.choice.Candidate.{Candidate}
 use Rattle.g_sched.specs.declared.rule.Standing.{Standing}
 use Rattle.g_sched.specs.Choice.{IsChosen}
 use Rattle.g_job.specs.Begun.{standing_of}
@@ -24,3 +25,9 @@ module _ {U : Type 0} (rules : Shared U (Bor Standing × Unit {0}) ℕ) (rule : 
   Chooses jobs able None = has_none able ≡ true
   Chooses jobs able (Some number) = (place : ℕ) × (job : JobState) × IsChosen rules rule (map standing_of able) place
       × (slice_get able place ≡ Some job) × (job.number ≡ number) × (job_in number jobs ≡ Some job)
+
+  -- nobody where there is none of them; else the one that the rule chooses, with its number
+  abbrev pub IsFirst : List JobState → Option Candidate → Type 0
+  IsFirst able first =
+      MatchOption first (has_none able ≡ true) (λ c.
+      IsChosen rules rule (map standing_of able) c.place × ((job : JobState) × (slice_get able c.place ≡ Some job) × (job.number ≡ c.number)))

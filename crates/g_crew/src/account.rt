@@ -3,6 +3,7 @@ ghost use Rattle.std.specs.Prelude.{◌≡◌, ◌++◌, List, MatchOption, None
 ghost use Rattle.g_crew.specs.Accounts.{charged, kept_for};
 ghost use Rattle.g_crew.specs.Keeping.{IsLeft, IsPlaceFor, Opens, empty_for, less_held};
 
+use crate::same::same_user;
 use g_base::NoMemory;
 use g_entry::UserRec;
 use g_job::Job;
@@ -23,7 +24,7 @@ pub(crate) fn place_for(accounts: &[Account], user: &User) -> Option<usize>
         (IsPlaceFor accounts.now user.now) }
 {
     for (place, account) in accounts.iter().enumerate() {
-        if account.user == *user {
+        if same_user(&account.user, user) {
             return Some(place);
         }
     }
@@ -34,7 +35,7 @@ pub(crate) fn place_for(accounts: &[Account], user: &User) -> Option<usize>
 fn has_account(accounts: &[Account], place: usize, user: &User) -> bool
     ensures { result ≡ is_some (kept_for accounts.now user.now) }
 {
-    if place < accounts.len() && accounts[place].user == *user {
+    if place < accounts.len() && same_user(&accounts[place].user, user) {
         return true;
     }
     place_for(accounts, user).is_some()
@@ -92,7 +93,7 @@ fn account_for(accounts: &[Account], user: &User) -> Account
 fn less_held(left: Account, job: &Job, user: &User) -> Account
     ensures { result ≡ less_held user.now job.now left }
 {
-    if *job.user() == *user {
+    if same_user(job.user(), user) {
         Account {
             user: left.user,
             time: left.time.saturating_sub(job.standing().allowance),

@@ -1,24 +1,17 @@
 //! Which job goes next.
-ghost use Rattle.std.specs.Prelude.{◌≡◌, ◌≤◌, All, length, map, not, take};
-ghost use Rattle.g_crew.specs.Choice.{TellsMounted, able_in};
+ghost use Rattle.std.specs.Prelude.{◌≡◌, not};
+ghost use Rattle.std.specs.Fn.{FnReturnsAt};
+ghost use Rattle.g_crew.specs.Choice.{IsFirst, TellsMounted, able_in};
 ghost use Rattle.g_job.specs.Begun.{standing_of};
-ghost use Rattle.g_sched.specs.Rule.{IsInRange};
+ghost use Rattle.g_sched.specs.Rule.{IsWeighRule};
 ghost use Rattle.g_step.specs.State.{State};
 ghost use Rattle.g_world.specs.World.{can_step, has_none};
 
 use g_job::Job;
-use g_sched::Standing;
+use g_sched::{Candidate, Standing, WeighRule, earlier};
 
 /// The most jobs that there are at a time.
 pub(crate) const MOST_JOBS: usize = 64;
-
-/// Nobody's standing.
-pub(crate) const NOBODY: Standing = Standing {
-    number: 0,
-    used: 0,
-    allowance: 1,
-    turns: 0,
-};
 
 /// Whether the job can step: it waits for no reel, or for one that is mounted.
 pub(crate) fn can_step<M: Fn(u32) -> bool>(job: &Job, mounted: &M) -> bool
@@ -44,25 +37,37 @@ pub(crate) fn one_can_step<M: Fn(u32) -> bool>(jobs: &[Job], mounted: &M) -> boo
     false
 }
 
-/// Writes the standings of the jobs that can step, in their order, and counts them.
-pub(crate) fn standings_of<M: Fn(u32) -> bool>(
+/// What this job would be chosen by: its standing's weight by the rule and its number, as the next of those that can step.
+fn candidate<U: Fn(&Standing) -> u64>(job: &Job, place: usize, weigh: &WeighRule<U>) -> Candidate
+    requires rule { IsWeighRule U.Fn weigh.now }
+    ensures value { result ≡ record { place = place; weight = result.weight; number = job.now.number } }
+    ensures weighed { FnReturnsAt U.Fn weigh.now (standing_of job.now) result.weight }
+{
+    let standing = job.standing();
+    Candidate {
+        place,
+        weight: weigh.weight(&standing),
+        number: standing.number,
+    }
+}
+
+/// The first of the jobs that can step, by the rule and then by number. Its place is that among those that can step.
+pub(crate) fn first_of<U: Fn(&Standing) -> u64, M: Fn(u32) -> bool>(
     jobs: &[Job],
+    weigh: &WeighRule<U>,
     mounted: &M,
-    standings: &mut [Standing; 64],
-) -> usize
+) -> Option<Candidate>
+    requires rule { IsWeighRule U.Fn weigh.now }
     requires callable { M.IsAlwaysCallable mounted.now }
-    requires few { length jobs.now ≤ 64 }
-    ensures few { result ≤ 64 }
-    ensures able { (s : State) → TellsMounted M.Fn mounted.now s
-        → take result standings.new ≡ map standing_of (able_in s jobs.now) }
-    ensures in_range { All IsInRange (take result standings.new) }
+    ensures { (s : State) → TellsMounted M.Fn mounted.now s → IsFirst U.Fn weigh.now (able_in s jobs.now) result }
 {
     let mut able = 0;
+    let mut first: Option<Candidate> = None;
     for job in jobs {
         if can_step(job, mounted) {
-            standings[able] = job.standing();
+            first = Some(earlier(first, candidate(job, able, weigh)));
             able += 1;
         }
     }
-    able
+    first
 }

@@ -1,5 +1,6 @@
 //! The crew.
 ghost use Rattle.std.specs.Prelude.{◌≡◌, ◌↔◌, ◌+◌, ◌<◌, ◌≤◌, ◌≢◌, ◌++◌, ℕ, [], ◌∷◌, Bool, true, false, not, List, Ok, Err, None, Some, IfOk, IfSome, OnErr, OnOk, length};
+ghost use Rattle.std.specs.List.{remove};
 ghost use Rattle.g_budget.specs.Tariff.{IsTariff};
 ghost use Rattle.g_crew.specs.Accounts.{AreKept, HaveRows};
 ghost use Rattle.g_crew.specs.Choice.{Chooses, TellsMounted, able_in};
@@ -17,7 +18,7 @@ ghost use Rattle.g_world.specs.Accounts.{Opened, rows_of, settled, with_new};
 ghost use Rattle.g_world.specs.World.{has_none, with_job, without_job};
 
 use crate::account::{Account, charge, open_each};
-use crate::choice::{MOST_JOBS, NOBODY, one_can_step, standings_of};
+use crate::choice::{first_of, one_can_step};
 use crate::place::place_of;
 use crate::taking::{NewJob, NotTaken, refusal};
 use g_base::NoMemory;
@@ -25,7 +26,7 @@ use g_budget::{Charge, Tariff, Usage};
 use g_entry::UserRec;
 use g_job::{Job, Turn};
 use g_plain::Filestore;
-use g_sched::{Standing, WeighRule, choose};
+use g_sched::{Standing, WeighRule};
 use std::alloc::Global;
 use std::marker::Model;
 
@@ -170,11 +171,8 @@ impl Crew {
         ensures { (s : State) → TellsMounted M.Fn mounted.now s
             → Chooses U.Fn weigh.now self.now.jobs (able_in s self.now.jobs) result }
     {
-        let mut standings = [NOBODY; MOST_JOBS];
-        let able = standings_of(self.jobs(), mounted, &mut standings);
-        let standings = &standings[..able];
-        match choose(weigh, standings) {
-            Some(place) => Some(standings[place].number),
+        match first_of(self.jobs(), weigh, mounted) {
+            Some(first) => Some(first.number),
             None => None,
         }
     }
@@ -213,7 +211,7 @@ impl Crew {
         match self.jobs[place].turn(alloc, store, tariff) {
             Ok(turn) => Ok(turn),
             Err(NoMemory) => {
-                self.jobs.remove(place);
+                let_go(&mut self.jobs, place);
                 Err(NoMemory)
             }
         }
@@ -252,4 +250,14 @@ impl Crew {
     {
         self.jobs.as_slice()
     }
+}
+
+/// Takes the job at this place out. A turn seldom comes to it, and a function of its own keeps the room of a whole job out of
+/// each turn.
+#[inline(never)]
+fn let_go(jobs: &mut Vec<Job>, place: usize)
+    requires { place < length jobs.old.items }
+    ensures { jobs.new.items ≡ remove jobs.old.items place }
+{
+    jobs.remove(place);
 }

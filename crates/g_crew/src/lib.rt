@@ -7,6 +7,7 @@ mod choice;
 mod crew;
 mod files;
 mod place;
+mod same;
 mod taking;
 mod texts;
 

@@ -142,29 +142,40 @@ static STEPS: [(Step<'static>, &[u32], usize, &[u32], usize); 5] = [
     (THE_HEAD, &[1_089, 0], 1, &[1, 0], 0),
 ];
 
+/// Compares a step behind two commits of a directory of the second format.
+fn compare_step(rt: &(impl Abort + AllocGlobal), step: &Step, writes: &[u32], leaves: usize) {
+    let row = Row {
+        first: AS_IT_IS,
+        earlier: &[],
+        last: *step,
+        writes,
+        leaves,
+    };
+    compare(rt, &row);
+}
+
+/// Compares a step behind the same one and two commits of a directory of the first format, into the slot that doesn't
+/// hold it yet.
+fn compare_other_slot(rt: &(impl Abort + AllocGlobal), step: &Step, writes: &[u32], leaves: usize) {
+    let row = Row {
+        first: OF_THE_FIRST_FORMAT,
+        earlier: &[*step],
+        last: Step {
+            files: step.files,
+            differs: step.differs,
+            marks: &[],
+        },
+        writes,
+        leaves,
+    };
+    compare(rt, &row);
+}
+
 #[test]
 fn a_step_in_either_slot(rt: HostRuntime) {
     for (step, writes, leaves, other_writes, other_leaves) in &STEPS {
-        let row = Row {
-            first: AS_IT_IS,
-            earlier: &[],
-            last: *step,
-            writes,
-            leaves: *leaves,
-        };
-        compare(&rt, &row);
-        let again = Row {
-            first: OF_THE_FIRST_FORMAT,
-            earlier: &[*step],
-            last: Step {
-                files: step.files,
-                differs: step.differs,
-                marks: &[],
-            },
-            writes: other_writes,
-            leaves: *other_leaves,
-        };
-        compare(&rt, &again);
+        compare_step(&rt, step, writes, *leaves);
+        compare_other_slot(&rt, step, other_writes, *other_leaves);
     }
 }
 

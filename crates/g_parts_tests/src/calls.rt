@@ -19,8 +19,9 @@ fn fetched(
     tapes: &mut MemoryTapes,
     path: &[u8],
 ) -> Answer {
-    let Ok(mut online) = online_with(rt.alloc(), files) else {
-        panic!(rt; "no filestore");
+    let mut online = match online_with(rt.alloc(), files) {
+        Ok(online) => online,
+        Err(_) => panic!(rt; "no filestore"),
     };
     let call = StoreCall::Fetch {
         path: parse_path(path).expect(rt, "a path"),
@@ -36,8 +37,9 @@ fn retrieved(
     tapes: &mut MemoryTapes,
     path: &[u8],
 ) -> Answer {
-    let Ok(mut online) = online_with(rt.alloc(), files) else {
-        panic!(rt; "no filestore");
+    let mut online = match online_with(rt.alloc(), files) {
+        Ok(online) => online,
+        Err(_) => panic!(rt; "no filestore"),
     };
     let call = StoreCall::Retrieve {
         path: parse_path(path).expect(rt, "a path"),
@@ -84,8 +86,9 @@ fn calls_are_refused(rt: HostRuntime) {
     assert!(rt; absent == Some(StoreFault::NoFile));
     let full = fetched(&rt, &files, &mut tapes, b"G").err();
     assert!(rt; full == Some(StoreFault::DiscFull { need: 3, room: 0 }));
-    let Ok(mut torn) = without_mark(rt.alloc()) else {
-        panic!(rt; "no reel");
+    let mut torn = match without_mark(rt.alloc()) {
+        Ok(torn) => torn,
+        Err(_) => panic!(rt; "no reel"),
     };
     let lost = retrieved(&rt, &one_away([0, 0, 0, 5]), &mut torn, b"F");
     assert!(rt; matches!(&lost, Err(StoreFault::NoCopy(_, 9))));

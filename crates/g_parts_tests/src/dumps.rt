@@ -42,8 +42,9 @@ impl Dumper {
         capacity: u32,
         stop: Option<(u32, TapeLeave)>,
     ) -> Dumper {
-        let Ok(mut tapes) = one_reel(rt.alloc(), 7, capacity) else {
-            panic!(rt; "no reel");
+        let mut tapes = match one_reel(rt.alloc(), 7, capacity) {
+            Ok(tapes) => tapes,
+            Err(_) => panic!(rt; "no reel"),
         };
         if let Some((write, leave)) = stop {
             assert!(rt; 1 <= write);

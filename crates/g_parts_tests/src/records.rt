@@ -15,8 +15,9 @@ fn compare(rt: &(impl Abort + AllocGlobal), call: &StoreCall, is_done: bool)
     requires limits { IsWithinLimits call.now }
     requires records { sets_records call.now ≡ true }
 {
-    let Ok(mut online) = online_with_one(rt.alloc()) else {
-        panic!(rt; "no filestore");
+    let mut online = match online_with_one(rt.alloc()) {
+        Ok(online) => online,
+        Err(_) => panic!(rt; "no filestore"),
     };
     match change(rt.alloc(), &mut online, &User::master(), call) {
         Ok(StoreReply::Done) => assert!(rt; is_done),
@@ -40,8 +41,9 @@ fn users(rt: HostRuntime) {
         amount: 8,
     };
     compare(&rt, &money, true);
-    let Ok(online) = online_with_one(rt.alloc()) else {
-        panic!(rt; "no filestore");
+    let online = match online_with_one(rt.alloc()) {
+        Ok(online) => online,
+        Err(_) => panic!(rt; "no filestore"),
     };
     let list = StoreCall::List {
         user: User::master(),

@@ -39,8 +39,9 @@ fn lost_copies(rt: HostRuntime) {
         assert!(rt; is_lost(&rt, [0, 0, 0, last], reel(&rt)), "{last}");
     }
     assert!(rt; is_lost(&rt, [255; 4], reel(&rt)));
-    let Ok(torn) = without_mark(rt.alloc()) else {
-        panic!(rt; "no reel");
+    let torn = match without_mark(rt.alloc()) {
+        Ok(torn) => torn,
+        Err(_) => panic!(rt; "no reel"),
     };
     assert!(rt; is_lost(&rt, [0, 0, 0, 5], torn));
 }

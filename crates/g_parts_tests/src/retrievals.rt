@@ -21,8 +21,9 @@ fn ample(rt: HostRuntime) {
 
 /// Whether F, A and B are on the disc, once it is loaded again behind a retrieval whose write `write` failed and left this.
 fn left_by(rt: &(impl Abort + AllocGlobal), write: u32, leave: Leave) -> [bool; 3] {
-    let Ok(mut disc) = disc_with(rt.alloc(), &one_away([0, 0, 0, 5])) else {
-        panic!(rt; "no disc");
+    let mut disc = match disc_with(rt.alloc(), &one_away([0, 0, 0, 5])) {
+        Ok(disc) => disc,
+        Err(_) => panic!(rt; "no disc"),
     };
     disc.set_leave(leave);
     assert!(rt; 1 <= write);

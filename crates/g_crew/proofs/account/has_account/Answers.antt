@@ -6,8 +6,8 @@ use Rattle.g_crew.specs.declared.account.Account.{Account}
 use Rattle.g_crew.proofs.AccountLemmas.{kept-some}
 use Rattle.g_crew.proofs.account.has_account.Goals as goal
 
-pub returns-then-eq : goal.returns-then-eq
-returns-then-eq c =
+pub returns-then-same_user : goal.returns-then-same_user
+returns-then-same_user c =
     kept-some c.args.accounts.now c.args.user.now c.args.place c.index-accounts-place.result
     (slice_get_read c.args.accounts.now _ c.args.place c.index-accounts-place.result refl c.if-place-accounts.true c.index-accounts-place.is)
-    (ap (λ (a : Account). same_text a.user c.args.user.now) c.index-accounts-place.is ∙ sym c.eq.ensures ∙ c.if-eq.true)
+    (ap (λ (a : Account). same_text a.user c.args.user.now) c.index-accounts-place.is ∙ sym c.same_user.ensures ∙ c.if-same_user.true)

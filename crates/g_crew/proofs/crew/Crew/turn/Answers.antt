@@ -1,5 +1,5 @@
 -- The job at the place is the one of its number, and stays so.
-use Rattle.std.proofs.Common.{List, Ok, Result, Some, ap, arith, length, slice_get, subst, sym, ◌∙◌, ◌≡◌}
+use Rattle.std.proofs.Common.{List, Ok, Result, Some, ap, arith, length, length-set, slice_get, subst, sym, ◌∙◌, ◌≡◌}
 use Rattle.std.proofs.lemmas.Option.{get_or_from_slice_get, slice_get_within}
 use Rattle.g_base.specs.declared.memory.NoMemory.{NoMemory}
 use Rattle.g_job.specs.State.{JobState}
@@ -23,17 +23,18 @@ invariant_of-self g c =
     AreJobs-set items c.self.inside.next_job c.in-Some.place p.job c.turn.new.self c.self.invariant there (c.in-Ok.ensures.spends.0 ∙ ap (λ (j : JobState). j.number) same)
     (c.in-Ok.ensures.spends.1 ∙ ap (λ (j : JobState). j.allowance) same)
 
-pub remove-requires : goal.remove-requires
-remove-requires g c =
+pub let_go-requires : goal.let_go-requires
+let_go-requires g c =
     let p = c.in-Some.ensures in
-    omega (arith, slice_get_within c.deref.result.now c.in-Some.place p.job p.there, ap length c.deref.ensures.value, c.self.inside.jobs.ok.0)
+    let items = c.self.inside.jobs.items in
+    omega (arith, slice_get_within c.deref.result.now c.in-Some.place p.job p.there, ap length c.deref.ensures.value, length-set items c.in-Some.place c.turn.new.self)
 
 pub invariant_of-self-in-Err : goal.invariant_of-self-in-Err
 invariant_of-self-in-Err g c =
     let p = c.in-Some.ensures in
     let items = c.self.inside.jobs.items in
     let there : slice_get items c.in-Some.place ≡ Some p.job = ap (λ (js : List JobState). slice_get js c.in-Some.place) (sym c.deref.ensures.value) ∙ p.there in
-    rw (c.remove.ensures.items ∙ remove-set items c.in-Some.place c.turn.new.self)
+    rw (c.let_go.ensures ∙ remove-set items c.in-Some.place c.turn.new.self)
     (AreJobs-remove items c.self.inside.next_job c.in-Some.place p.job c.self.invariant there)
 
 pub returns-in-Ok-clause-ok : goal.returns-in-Ok-clause-ok
@@ -86,5 +87,5 @@ returns-in-Err-clause-gone g c =
     let only = IsOnly-at 1 items c.self.inside.next_job c.in-Some.place p.job c.self.invariant.rise there in
     let target : CrewState = record { jobs = without_job c.args.number c.args.self.now.jobs; accounts = c.args.self.now.accounts; next_job = c.args.self.now.next_job } in
     crew_is target _ _ _
-    (c.remove.ensures.items ∙ remove-set items c.in-Some.place c.turn.new.self ∙ sym only.gone ∙ ap (λ n. without_job n items) p.named ∙ ap (λ (v : CrewState). without_job c.args.number v.jobs) c.self.view_is)
+    (c.let_go.ensures ∙ remove-set items c.in-Some.place c.turn.new.self ∙ sym only.gone ∙ ap (λ n. without_job n items) p.named ∙ ap (λ (v : CrewState). without_job c.args.number v.jobs) c.self.view_is)
     (ap (λ (v : CrewState). v.accounts) c.self.view_is) (ap (λ (v : CrewState). v.next_job) c.self.view_is)
