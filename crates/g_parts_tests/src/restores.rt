@@ -31,11 +31,14 @@ fn block_of(rt: &impl Abort, line: &str) -> Block {
     for field in line.split_whitespace() {
         let (place, value) = field.split_once('=').expect(rt, "a field");
         let at: usize = place.parse().expect(rt, "a place");
-        let letters = value.as_bytes();
-        assert!(rt; at < 512 && letters.len() <= 512 - at);
+        assert!(rt; at < 512);
         match value.parse() {
             Ok(byte) => block[at] = byte,
-            Err(_) => block[at..at + letters.len()].copy_from_slice(letters),
+            Err(_) => {
+                let letters = value.as_bytes();
+                assert!(rt; letters.len() <= 512 - at);
+                block[at..at + letters.len()].copy_from_slice(letters);
+            }
         }
     }
     block

@@ -80,9 +80,15 @@ impl<'a> Setting<'a> {
             return Err(Wrong("no reel has so many blocks"));
         }
         let reels = if self.reels == 2 {
-            vec![in alloc; (1, capacity), (2, capacity)]?
+            match vec![in alloc; (1, capacity), (2, capacity)] {
+                Ok(reels) => reels,
+                Err(_) => return Err(Wrong("no memory")),
+            }
         } else {
-            vec![in alloc; (1, capacity)]?
+            match vec![in alloc; (1, capacity)] {
+                Ok(reels) => reels,
+                Err(_) => return Err(Wrong("no memory")),
+            }
         };
         Ok(MemoryTapes::new(alloc, reels)?)
     }
