@@ -4,16 +4,19 @@ use Rattle.std.specs.Prelude.{◌≢◌, List, nat_lt, option_and_then, unwrap_o
 use Rattle.std.specs.Option.{option_map}
 use Rattle.std.proofs.lemmas.Bool.{ltb-true, lt-ltb, true≢false, false_from_ne_true}
 use Rattle.std.proofs.lemmas.Option.{slice_get_within, slice_get-get_or, get_or_from_slice_get, none-some}
-use Rattle.g_order.specs.Order.{Fields, are_operands, decoded, fields_of, is_order}
+use Rattle.g_order.proofs.CodingLaws.{operands_of_word}
+use Rattle.g_order.specs.Order.{Fields, decoded, fields_of, is_order}
 use Rattle.g_order.specs.Table.{function_of}
 use Rattle.g_order.specs.declared.functions.Function.{Function}
 use Rattle.g_order.specs.declared.functions.Function.TheVariants.{Load, Store, LoadNumber, LoadCharacter, StoreZero, DepositCharacter, Multiply, Branch, Call, Exit, ShiftLeft, ShiftRight, Null, Move, Transfer, Halt, Display, Delete}
 use Rattle.g_mill.specs.declared.event.Event.{Event}
 use Rattle.g_mill.specs.declared.event.Event.TheVariants.{Ran, Peri, Halted, Displayed, Deleted, Illegal}
-use Rattle.g_mill.specs.Machine.{Machine, size, address, operand, text_at, going_to}
+use Rattle.g_mill.specs.declared.step.Quick.{Quick}
+use Rattle.g_mill.specs.declared.step.Quick.TheVariants as quick
+use Rattle.g_mill.specs.Machine.{Machine, size, address, operand, text_at, following, going_to, operands}
 use Rattle.g_mill.specs.Effect.{Outcome, effect, shifted, performed, obeyed, order}
-use Rattle.g_mill.specs.Does.{TellsMore}
-use Rattle.g_mill.specs.Running.{RunsTo}
+use Rattle.g_mill.specs.Does.{DoesQuick, TellsMore}
+use Rattle.g_mill.specs.Running.{RunsOne, RunsTo}
 
 -- one more order behind the others
 pub runs_more : (count : ℕ) (old mid new : Machine) → RunsTo count old mid → order mid ≡ (new, Ran) → RunsTo (suc count) old new
@@ -181,20 +184,42 @@ illegal_there s same word is unchanged none =
     let outcome : option_and_then (performed s) (decoded word) ≡ None = subst (λ (m : Machine). option_and_then (performed m) (decoded word) ≡ None) unchanged none in
     there s word is ∙ ap (λ (o : Outcome). unwrap_or o (s, Illegal word s.next)) outcome
 
--- the order of a word with these fields, whose function the table has, and a word whose fields no row has
-pub known_order : (s : Machine) (word x f m n : ℕ) (function : Function) → fields_of word ≡ record { x = x; f = f; m = m; n = n } → x < 8 → are_operands f m n ≡ true → function_of f x ≡ Some function
-    → option_and_then (performed s) (decoded word) ≡ effect function s (record { x = x; f = f; m = m; n = n })
-known_order s word x f m n function fields small operands row =
-    let o : Fields = record { x = x; f = f; m = m; n = n } in
-    let valid : is_order x f m n ≡ true = rw (lt-ltb x 8 small, row, operands) refl in
-    let is : decoded word ≡ Some o = ap (λ (p : Fields). if is_order p.x p.f p.m p.n then Some p else None) fields ∙ ap (λ (b : Bool). if b then Some o else None) valid in
-    ap (option_and_then (performed s)) is ∙ ap (option_and_then (λ (found : Function). effect found s o)) row
+-- an effect looks at X, M and N alone
+effect_by : (function : Function) (s : Machine) (o : Fields) → effect function s o ≡ effect function s (operands o.x o.m o.n)
+effect_by (Load operation) s o = refl
+effect_by (Store operation) s o = refl
+effect_by (LoadNumber operation) s o = refl
+effect_by LoadCharacter s o = refl
+effect_by StoreZero s o = refl
+effect_by DepositCharacter s o = refl
+effect_by Multiply s o = refl
+effect_by (Branch condition) s o = refl
+effect_by Call s o = refl
+effect_by Exit s o = refl
+effect_by ShiftLeft s o = refl
+effect_by ShiftRight s o = refl
+effect_by Null s o = refl
+effect_by Move s o = refl
+effect_by Transfer s o = refl
+effect_by Halt s o = refl
+effect_by Display s o = refl
+effect_by Delete s o = refl
 
-pub no_order : (s : Machine) (word x f m n : ℕ) → fields_of word ≡ record { x = x; f = f; m = m; n = n } → x < 8 → function_of f x ≡ None → option_and_then (performed s) (decoded word) ≡ None
-no_order s word x f m n fields small row =
-    let o : Fields = record { x = x; f = f; m = m; n = n } in
-    let invalid : is_order x f m n ≡ false = rw (lt-ltb x 8 small, row) refl in
-    let is : decoded word ≡ None = ap (λ (p : Fields). if is_order p.x p.f p.m p.n then Some p else None) fields ∙ ap (λ (b : Bool). if b then Some o else None) invalid in
+-- what the order of a word leaves whose function the table has, by the fields that its effect looks at
+pub done_by : (s : Machine) (word x m n : ℕ) (function : Function) → x ≡ (fields_of word).x → x < 8 → function_of (fields_of word).f (fields_of word).x ≡ Some function → m ≡ (fields_of word).m → n ≡ (fields_of word).n
+    → option_and_then (performed s) (decoded word) ≡ effect function s (operands x m n)
+done_by s word x m n function x_is small row m_is n_is =
+    let o = fields_of word in
+    let valid : is_order o.x o.f o.m o.n ≡ true = rw (lt-ltb o.x 8 (subst (λ (k : ℕ). k < 8) x_is small), row, operands_of_word word) refl in
+    let is : decoded word ≡ Some o = ap (λ (b : Bool). if b then Some o else None) valid in
+    ap (option_and_then (performed s)) is ∙ ap (option_and_then (λ (found : Function). effect found s o)) row ∙ effect_by function s o ∙ (rw (x_is, m_is, n_is) refl)
+
+-- nothing, where the table has no row
+pub done_not : (s : Machine) (word x : ℕ) → x ≡ (fields_of word).x → x < 8 → function_of (fields_of word).f (fields_of word).x ≡ None → option_and_then (performed s) (decoded word) ≡ None
+done_not s word x x_is small row =
+    let o = fields_of word in
+    let invalid : is_order o.x o.f o.m o.n ≡ false = rw (lt-ltb o.x 8 (subst (λ (k : ℕ). k < 8) x_is small), row) refl in
+    let is : decoded word ≡ None = ap (λ (b : Bool). if b then Some o else None) invalid in
     ap (option_and_then (performed s)) is
 
 -- what the order of a word leaves, by its function
@@ -215,3 +240,11 @@ pub runs_more_at : (count at : ℕ) (old mid new : Machine) (next : ℕ) → Run
 runs_more_at count at old mid new next runs one =
     let more : suc count ≡ count + 1 = omega arith in
     subst (λ (n : ℕ). RunsTo n old (going_to new next)) more (runs_more count old (going_to mid at) (going_to new next) runs one)
+
+-- what a call answers that does the order of the word that the program has at an address
+pub runs_one : (result : Quick) (at : ℕ) (old new : Machine) (word : ℕ) → slice_get old.words at ≡ Some word → DoesQuick result at old new (option_and_then (performed (going_to old at)) (decoded word)) → RunsOne result at old new
+runs_one quick.Ran at old new word is does = told_there (going_to old at) (going_to old at) (going_to new (following at)) word Ran is refl does
+runs_one (quick.Jumped next) at old new word is does = (told_there (going_to old at) (going_to old at) (going_to new next) word Ran is refl does.0, does.1)
+runs_one (quick.Passed to) at old new word is does = told_there (going_to old at) (going_to old at) (going_to new (following at)) word Ran is refl does
+runs_one quick.Illegal at old new word is does = (does.1, more_there (going_to old at) word is (subst TellsMore (sym does.0) tt))
+runs_one quick.Left at old new word is does = (does.0, more_there (going_to old at) word is does.1)

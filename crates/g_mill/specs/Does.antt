@@ -4,7 +4,7 @@ use Rattle.g_mill.specs.declared.event.Event.{Event}
 use Rattle.g_mill.specs.declared.event.Event.TheVariants.{Ran}
 use Rattle.g_mill.specs.declared.step.Quick.{Quick}
 use Rattle.g_mill.specs.declared.step.Quick.TheVariants as quick
-use Rattle.g_mill.specs.Machine.{Machine, going_to, onward}
+use Rattle.g_mill.specs.Machine.{Machine, following, going_to, onward}
 use Rattle.g_mill.specs.Effect.{Outcome}
 
 -- the event and the program that the order leaves, or, where it is illegal, nothing and the program as it was
@@ -18,12 +18,14 @@ TellsMore None = ⊤
 TellsMore (Some both) = both.1 ≢ Ran
 
 -- The same of an order that tells no more than that it was done, and that may be left for another call, since it tells
--- more; nothing has changed then. The program's own next address isn't looked at: the order has stood at another, for
+-- more; nothing has changed then. The program's own next address isn't looked at: the order has stood at this one, for
 -- which the outcome is, and where the program goes on is answered.
-abbrev pub DoesQuick : Quick → Machine → Machine → Outcome → Type 0
-DoesQuick (quick.Ran next) old new outcome = (outcome ≡ Some (going_to new next, Ran)) × (next < 2 ^ 15)
-DoesQuick quick.Illegal old new outcome = (outcome ≡ None) × (new ≡ old)
-DoesQuick quick.Left old new outcome = (new ≡ old) × TellsMore outcome
+abbrev pub DoesQuick : Quick → ℕ → Machine → Machine → Outcome → Type 0
+DoesQuick quick.Ran at old new outcome = outcome ≡ Some (going_to new (following at), Ran)
+DoesQuick (quick.Jumped next) at old new outcome = (outcome ≡ Some (going_to new next, Ran)) × (next < 2 ^ 15)
+DoesQuick (quick.Passed to) at old new outcome = outcome ≡ Some (going_to new (following at), Ran)
+DoesQuick quick.Illegal at old new outcome = (outcome ≡ None) × (new ≡ old)
+DoesQuick quick.Left at old new outcome = (new ≡ old) × TellsMore outcome
 
 -- the text and the program going on behind the order, or, where there is none, the program as it was
 abbrev pub TellsText : Option (List ℕ) → Machine → Machine → Option (List ℕ) → Type 0

@@ -8,24 +8,24 @@ ghost use Rattle.g_mill.specs.Does.{TellsText};
 
 use crate::Program;
 use crate::event::Text40;
-use crate::program::LIMIT;
+use crate::program::ADDRESSES;
 use g_order::Order;
 use g_word::Word;
 
 impl Program {
     /// The low 15 bits of an accumulator.
     #[inline(always)]
-    pub(crate) fn low_bits(&self, x: u8) -> u16
+    pub(crate) fn low_bits(&self, x: u32) -> u32
         requires { x < 8 }
         ensures value { result ≡ machine.word_at self.now x % 2 ^ 15 }
         ensures in_range { result < 2 ^ 15 }
     {
-        (self.accumulator(x).value() % u32::from(LIMIT)) as u16
+        self.accumulator(x).value() % ADDRESSES
     }
 
     /// The address of an order.
     #[inline(always)]
-    pub(crate) fn address(&self, m: u8, n: u16) -> u16
+    pub(crate) fn address(&self, m: u32, n: u32) -> u32
         requires m { m < 4 }
         requires n { n < 2 ^ 15 }
         ensures value { result ≡ machine.address self.now (machine.operands 0 m n) }
@@ -34,18 +34,18 @@ impl Program {
         if m == 0 {
             n
         } else {
-            (n + self.low_bits(m)) % LIMIT
+            (n + self.low_bits(m)) % ADDRESSES
         }
     }
 
     /// The word at the address of an order, if the program has it.
     #[inline(always)]
-    pub(crate) fn operand(&self, m: u8, n: u16) -> Option<Word>
+    pub(crate) fn operand(&self, m: u32, n: u32) -> Option<Word>
         requires m { m < 4 }
         requires n { n < 2 ^ 15 }
         ensures { result ≡ machine.operand self.now (machine.operands 0 m n) }
     {
-        self.word(self.address(m, n))
+        self.operand_at(self.address(m, n))
     }
 
     /// The place of the character that an order means.
@@ -56,17 +56,17 @@ impl Program {
         if order.m == 0 {
             0
         } else {
-            (self.accumulator(order.m).value() >> 22) as u8
+            (self.accumulator(u32::from(order.m)).value() >> 22) as u8
         }
     }
 
     /// The text that an area of two words tells, if the area and the text stand in the program.
-    pub(crate) fn text(&self, area: u16) -> Option<Text40>
+    pub(crate) fn text(&self, area: u32) -> Option<Text40>
         requires { area < 2 ^ 15 }
         ensures { result ≡ machine.text_at self.now area }
     {
-        let count = self.word(area)?;
-        let from = self.word(area + 1)?;
+        let count = self.operand_at(area)?;
+        let from = self.operand_at(area + 1)?;
         self.text_of(count.value(), from.value())
     }
 
@@ -91,7 +91,7 @@ impl Program {
         ensures { TellsText result self.old self.new
             (machine.text_at self.old (machine.address self.old (fields order.now))) }
     {
-        let area = self.address(order.m, order.n);
+        let area = self.address(u32::from(order.m), u32::from(order.n));
         let text = self.text(area)?;
         self.go_on();
         Some(text)

@@ -9,7 +9,7 @@ ghost use Rattle.g_mill.specs.Effect.{effect, shifted};
 ghost use Rattle.g_mill.specs.Machine.{going_to, operands};
 
 use crate::operations::{is_taken, made, overflow_behind};
-use crate::program::{LIMIT, following};
+use crate::program::{ADDRESSES, following};
 use crate::step::Quick;
 use crate::{Event, Program};
 use g_order::{Condition, Operation, Order};
@@ -18,12 +18,19 @@ use g_word::Word;
 impl Program {
     /// The accumulator becomes what the operation makes of it and the word at the address.
     #[inline(always)]
-    pub(crate) fn load_word(&mut self, at: u16, operation: Operation, x: u8, m: u8, n: u16) -> Quick
+    pub(crate) fn load_word(
+        &mut self,
+        at: u32,
+        operation: Operation,
+        x: u32,
+        m: u32,
+        n: u32,
+    ) -> Quick
         requires at { at < 2 ^ 15 }
         requires x { x < 8 }
         requires m { m < 4 }
         requires n { n < 2 ^ 15 }
-        ensures { DoesQuick result self.old self.new
+        ensures { DoesQuick result at self.old self.new
             (effect (function.Load operation) (going_to self.old at) (operands x m n)) }
     {
         let Some(operand) = self.operand(m, n) else {
@@ -31,193 +38,196 @@ impl Program {
         };
         let (word, overflow) = made(operation, self.accumulator(x), operand);
         self.put_accumulator(x, word, overflow);
-        Quick::Ran(following(at))
+        Quick::Ran
     }
 
     /// The word at the address becomes what the operation makes of it and the accumulator.
     #[inline(always)]
-    pub(crate) fn store(&mut self, at: u16, operation: Operation, x: u8, m: u8, n: u16) -> Quick
+    pub(crate) fn store(&mut self, at: u32, operation: Operation, x: u32, m: u32, n: u32) -> Quick
         requires at { at < 2 ^ 15 }
         requires x { x < 8 }
         requires m { m < 4 }
         requires n { n < 2 ^ 15 }
-        ensures { DoesQuick result self.old self.new
+        ensures { DoesQuick result at self.old self.new
             (effect (function.Store operation) (going_to self.old at) (operands x m n)) }
     {
         let address = self.address(m, n);
-        let Some(old) = self.word(address) else {
+        let Some(old) = self.operand_at(address) else {
             return Quick::Illegal;
         };
         let (word, overflow) = made(operation, old, self.accumulator(x));
         self.put(address, word, overflow);
-        Quick::Ran(following(at))
+        Quick::Ran
     }
 
     /// The accumulator becomes what the operation makes of it and the address itself.
     #[inline(always)]
     pub(crate) fn load_number(
         &mut self,
-        at: u16,
+        at: u32,
         operation: Operation,
-        x: u8,
-        m: u8,
-        n: u16,
+        x: u32,
+        m: u32,
+        n: u32,
     ) -> Quick
         requires at { at < 2 ^ 15 }
         requires x { x < 8 }
         requires m { m < 4 }
         requires n { n < 2 ^ 15 }
-        ensures { DoesQuick result self.old self.new
+        ensures { DoesQuick result at self.old self.new
             (effect (function.LoadNumber operation) (going_to self.old at) (operands x m n)) }
     {
-        let number = Word::from(self.address(m, n));
+        let number = Word::from(self.address(m, n) as u16);
         let (word, overflow) = made(operation, self.accumulator(x), number);
         self.put_accumulator(x, word, overflow);
-        Quick::Ran(following(at))
+        Quick::Ran
     }
 
     /// The accumulator becomes a character of the word at the address.
     #[inline(never)]
-    pub(crate) fn load_character(&mut self, at: u16, order: &Order) -> Quick
+    pub(crate) fn load_character(&mut self, at: u32, order: &Order) -> Quick
         requires at { at < 2 ^ 15 }
-        ensures { DoesQuick result self.old self.new
+        ensures { DoesQuick result at self.old self.new
             (effect function.LoadCharacter (going_to self.old at) (fields order.now)) }
     {
-        let Some(operand) = self.operand(order.m, order.n) else {
+        let Some(operand) = self.operand(u32::from(order.m), u32::from(order.n)) else {
             return Quick::Illegal;
         };
         let character = operand.char_at(self.place(order));
-        self.put_accumulator(order.x, Word::from(u16::from(character)), false);
-        Quick::Ran(following(at))
+        self.put_accumulator(u32::from(order.x), Word::from(u16::from(character)), false);
+        Quick::Ran
     }
 
     /// The word at the address becomes 0.
     #[inline(always)]
-    pub(crate) fn store_zero(&mut self, at: u16, m: u8, n: u16) -> Quick
+    pub(crate) fn store_zero(&mut self, at: u32, m: u32, n: u32) -> Quick
         requires at { at < 2 ^ 15 }
         requires m { m < 4 }
         requires n { n < 2 ^ 15 }
-        ensures { DoesQuick result self.old self.new
+        ensures { DoesQuick result at self.old self.new
             (effect function.StoreZero (going_to self.old at) (operands 0 m n)) }
     {
         let address = self.address(m, n);
-        let Some(_old) = self.word(address) else {
+        let Some(_old) = self.operand_at(address) else {
             return Quick::Illegal;
         };
         self.put(address, Word::ZERO, false);
-        Quick::Ran(following(at))
+        Quick::Ran
     }
 
     /// A character of the word at the address becomes the last of the accumulator.
     #[inline(never)]
-    pub(crate) fn deposit_character(&mut self, at: u16, order: &Order) -> Quick
+    pub(crate) fn deposit_character(&mut self, at: u32, order: &Order) -> Quick
         requires at { at < 2 ^ 15 }
-        ensures { DoesQuick result self.old self.new
+        ensures { DoesQuick result at self.old self.new
             (effect function.DepositCharacter (going_to self.old at) (fields order.now)) }
     {
-        let address = self.address(order.m, order.n);
-        let Some(old) = self.word(address) else {
+        let address = self.address(u32::from(order.m), u32::from(order.n));
+        let Some(old) = self.operand_at(address) else {
             return Quick::Illegal;
         };
-        let character = (self.accumulator(order.x).value() % 64) as u8;
+        let character = (self.accumulator(u32::from(order.x)).value() % 64) as u8;
         self.put(address, old.with_char(self.place(order), character), false);
-        Quick::Ran(following(at))
+        Quick::Ran
     }
 
     /// The accumulator and the next one become the product of the accumulator and the word at the address.
     #[inline(never)]
-    pub(crate) fn multiply(&mut self, at: u16, order: &Order) -> Quick
+    pub(crate) fn multiply(&mut self, at: u32, order: &Order) -> Quick
         requires at { at < 2 ^ 15 }
-        ensures { DoesQuick result self.old self.new
+        ensures { DoesQuick result at self.old self.new
             (effect function.Multiply (going_to self.old at) (fields order.now)) }
     {
-        let Some(operand) = self.operand(order.m, order.n) else {
+        let Some(operand) = self.operand(u32::from(order.m), u32::from(order.n)) else {
             return Quick::Illegal;
         };
-        let (high, low, overflow) = self.accumulator(order.x).mul_parts(operand);
-        self.put_accumulator(order.x, high, false);
-        self.put_accumulator((order.x + 1) % 8, low, overflow);
-        Quick::Ran(following(at))
+        let (high, low, overflow) = self.accumulator(u32::from(order.x)).mul_parts(operand);
+        self.put_accumulator(u32::from(order.x), high, false);
+        self.put_accumulator(u32::from((order.x + 1) % 8), low, overflow);
+        Quick::Ran
     }
 
     /// Goes to the address where the condition holds.
     #[inline(always)]
-    pub(crate) fn branch(&mut self, at: u16, condition: Condition, x: u8, n: u16) -> Quick
+    pub(crate) fn branch(&mut self, at: u32, condition: Condition, x: u32, n: u32) -> Quick
         requires at { at < 2 ^ 15 }
         requires x { x < 8 }
         requires n { n < 2 ^ 15 }
-        ensures { DoesQuick result self.old self.new
+        ensures { DoesQuick result at self.old self.new
             (effect (function.Branch condition) (going_to self.old at) (operands x 0 n)) }
     {
         let overflow = self.overflow();
         let taken = is_taken(condition, self.accumulator(x), overflow);
-        let goes_to = if taken { n } else { following(at) };
         self.set_overflow(overflow_behind(condition, overflow));
-        Quick::Ran(goes_to)
+        if taken {
+            Quick::Jumped(n)
+        } else {
+            Quick::Passed(n)
+        }
     }
 
     /// Goes to a routine, and keeps the address behind the order in the accumulator.
     #[inline(always)]
-    pub(crate) fn call(&mut self, at: u16, x: u8, n: u16) -> Quick
+    pub(crate) fn call(&mut self, at: u32, x: u32, n: u32) -> Quick
         requires at { at < 2 ^ 15 }
         requires x { x < 8 }
         requires n { n < 2 ^ 15 }
-        ensures { DoesQuick result self.old self.new
+        ensures { DoesQuick result at self.old self.new
             (effect function.Call (going_to self.old at) (operands x 0 n)) }
     {
         let back = following(at);
-        self.put_accumulator(x, Word::from(back), false);
-        Quick::Ran(n)
+        self.put_accumulator(x, Word::from(back as u16), false);
+        Quick::Jumped(n)
     }
 
     /// Goes back by the address that the accumulator keeps.
     #[inline(always)]
-    pub(crate) fn exit(&mut self, at: u16, x: u8, n: u16) -> Quick
+    pub(crate) fn exit(&mut self, at: u32, x: u32, n: u32) -> Quick
         requires at { at < 2 ^ 15 }
         requires x { x < 8 }
         requires n { n < 2 ^ 15 }
-        ensures { DoesQuick result self.old self.new
+        ensures { DoesQuick result at self.old self.new
             (effect function.Exit (going_to self.old at) (operands x 0 n)) }
     {
         let back = self.low_bits(x);
-        Quick::Ran((back + n) % LIMIT)
+        Quick::Jumped((back + n) % ADDRESSES)
     }
 
     /// Shifts the accumulator, as the address tells.
     #[inline(never)]
-    pub(crate) fn shift(&mut self, at: u16, left: bool, order: &Order) -> Quick
+    pub(crate) fn shift(&mut self, at: u32, left: bool, order: &Order) -> Quick
         requires at { at < 2 ^ 15 }
-        ensures { DoesQuick result self.old self.new (shifted left (going_to self.old at) (fields order.now)) }
+        ensures { DoesQuick result at self.old self.new (shifted left (going_to self.old at) (fields order.now)) }
     {
-        let address = self.address(order.m, order.n);
-        let places = u32::from(address % 0x400);
-        let x = self.accumulator(order.x);
+        let address = self.address(u32::from(order.m), u32::from(order.n));
+        let places = address % 0x400;
+        let x = self.accumulator(u32::from(order.x));
         let word = match address % 0x1000 / 0x400 {
             0 => x.rotate(left, places),
             1 => x.shift(left, places),
             _ => return Quick::Illegal,
         };
-        self.put_accumulator(order.x, word, false);
-        Quick::Ran(following(at))
+        self.put_accumulator(u32::from(order.x), word, false);
+        Quick::Ran
     }
 
     /// Copies words from where the accumulator tells to where the next one does.
     #[inline(never)]
-    pub(crate) fn move_words(&mut self, at: u16, order: &Order) -> Quick
+    pub(crate) fn move_words(&mut self, at: u32, order: &Order) -> Quick
         requires at { at < 2 ^ 15 }
-        ensures { DoesQuick result self.old self.new
+        ensures { DoesQuick result at self.old self.new
             (effect function.Move (going_to self.old at) (fields order.now)) }
     {
-        let low = self.address(order.m, order.n) % 512;
+        let low = self.address(u32::from(order.m), u32::from(order.n)) % 512;
         let count = if low == 0 { 512 } else { low };
-        let from = self.low_bits(order.x);
-        let to = self.low_bits((order.x + 1) % 8);
+        let from = self.low_bits(u32::from(order.x));
+        let to = self.low_bits(u32::from((order.x + 1) % 8));
         let size = self.size();
-        if u32::from(from + count) > size || u32::from(to + count) > size {
+        if from + count > size || to + count > size {
             return Quick::Illegal;
         }
         self.copy_words(from, to, count);
-        Quick::Ran(following(at))
+        Quick::Ran
     }
 
     /// Asks for a transfer with the control area at the address.
@@ -225,9 +235,9 @@ impl Program {
         ensures { Does (Some result) self.old self.new
             (effect function.Transfer self.old (fields order.now)) }
     {
-        let area = self.address(order.m, order.n);
+        let area = self.address(u32::from(order.m), u32::from(order.n));
         self.go_on();
-        Event::Peri { area }
+        Event::Peri { area: area as u16 }
     }
 
     /// Halts with the text of the area at the address.

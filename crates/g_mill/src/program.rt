@@ -10,6 +10,9 @@ use std::marker::Model;
 /// The words of the longest program, and one more than the greatest address.
 pub const LIMIT: u16 = 0x8000;
 
+/// The same for addresses on which orders reckon.
+pub(crate) const ADDRESSES: u32 = 0x8000;
+
 /// A program of 32 to 32,768 words. Contracts see its words, the address of its next order and its overflow.
 #[derive(Debug, Drop)]
 pub struct Program {
@@ -59,6 +62,14 @@ impl Program {
         ensures { result ≡ slice_get self.now.words address }
     {
         self.words.get(usize::from(address)).copied()
+    }
+
+    /// The same for an address of an order.
+    #[inline(always)]
+    pub(crate) fn operand_at(&self, address: u32) -> Option<Word>
+        ensures { result ≡ slice_get self.now.words address }
+    {
+        self.words.get(address as usize).copied()
     }
 
     /// The word at an address that the program has.
@@ -128,11 +139,11 @@ impl Program {
 
     /// Puts a word at an address as the result of an order, with overflow set where it was out of range.
     #[inline(always)]
-    pub(crate) fn put(&mut self, address: u16, word: Word, overflow: bool)
+    pub(crate) fn put(&mut self, address: u32, word: Word, overflow: bool)
         requires { address < size self.old }
         ensures { self.new ≡ result_at self.old address word overflow }
     {
-        self.words[usize::from(address)] = word;
+        self.words[address as usize] = word;
         if overflow {
             self.overflow = true;
         }
@@ -140,22 +151,22 @@ impl Program {
 
     /// Puts a word into an accumulator as the result of an order, with overflow set where it was out of range.
     #[inline(always)]
-    pub(crate) fn put_accumulator(&mut self, x: u8, word: Word, overflow: bool)
+    pub(crate) fn put_accumulator(&mut self, x: u32, word: Word, overflow: bool)
         requires { x < 8 }
         ensures { self.new ≡ result_at self.old x word overflow }
     {
-        let is_within = u32::from(x) < self.size();
+        let is_within = x < self.size();
         prove!(is_within);
-        self.put(u16::from(x), word, overflow);
+        self.put(x, word, overflow);
     }
 
     /// Goes on at an address.
     #[inline(always)]
-    pub(crate) fn go(&mut self, address: u16)
+    pub(crate) fn go(&mut self, address: u32)
         requires { address < 2 ^ 15 }
         ensures { self.new ≡ going_to self.old address }
     {
-        self.next = address;
+        self.next = address as u16;
     }
 
     /// Goes on behind the order that was done.
@@ -163,7 +174,7 @@ impl Program {
     pub(crate) fn go_on(&mut self)
         ensures { self.new ≡ onward self.old }
     {
-        self.next = following(self.next);
+        self.go(following(u32::from(self.next)));
     }
 
     /// Sets or clears overflow.
@@ -176,21 +187,21 @@ impl Program {
 
     /// An accumulator.
     #[inline(always)]
-    pub(crate) fn accumulator(&self, x: u8) -> Word
+    pub(crate) fn accumulator(&self, x: u32) -> Word
         requires { x < 8 }
         ensures { result ≡ word_at self.now x }
     {
-        self.words[usize::from(x)]
+        self.words[x as usize]
     }
 
     /// Copies words one after another, the first first.
-    pub(crate) fn copy_words(&mut self, from: u16, to: u16, count: u16)
+    pub(crate) fn copy_words(&mut self, from: u32, to: u32, count: u32)
         requires from_within { from + count ≤ size self.old }
         requires to_within { to + count ≤ size self.old }
         ensures { self.new ≡ record self.old { words = copied count self.old.words from to } }
     {
-        let (from, to) = (usize::from(from), usize::from(to));
-        copy_words(self.words.as_mut_slice(), from, to, usize::from(count));
+        let (from, to) = (from as usize, to as usize);
+        copy_words(self.words.as_mut_slice(), from, to, count as usize);
     }
 }
 
@@ -207,10 +218,10 @@ fn copy_words(words: &mut [Word], from: usize, to: usize, count: usize)
 
 /// The address behind one.
 #[inline(always)]
-pub(crate) fn following(address: u16) -> u16
+pub(crate) fn following(address: u32) -> u32
     requires { address < 2 ^ 15 }
     ensures value { result ≡ following address }
     ensures in_range { result < 2 ^ 15 }
 {
-    (address + 1) % LIMIT
+    (address + 1) % ADDRESSES
 }

@@ -1,8 +1,7 @@
 //! The order step: one order of a program.
 
 ghost use Rattle.std.specs.Prelude.{◌≡◌, ◌≢◌, ◌<◌, ◌≤◌, ◌^◌, ◌/◌, ◌%◌, true, false, Some, option_and_then, if◌then◌else◌};
-ghost use Rattle.g_order.specs.Order.{are_operands, decoded, is_branch};
-ghost use Rattle.g_order.specs.Table.{function_of};
+ghost use Rattle.g_order.specs.Order.{decoded};
 ghost use Rattle.g_order.specs.Coding.{fields};
 ghost use Rattle.g_order.specs.declared.functions.Function.TheVariants as function;
 ghost use Rattle.g_mill.specs.Does.{Does, DoesQuick, TellsMore};
@@ -13,15 +12,21 @@ ghost use Rattle.g_mill.specs.Running.{RunsOne, RunsTo};
 use crate::program::following;
 use crate::{Event, Program};
 use g_order::{
-    Condition, Function, Operation, Order, function_of, has_branch, read_order, split_branch,
-    split_plain,
+    Condition, Function, Operation, Order, accumulator_in, branch_operand, function_in,
+    plain_operands, read_order,
 };
 use g_word::Word;
 
 /// What came of an order that stood at an address, and that may tell no more than that it was done.
 pub(crate) enum Quick {
+    /// It was done, and tells no more. The program goes on behind it, which it isn't told yet.
+    Ran,
     /// It was done, and tells no more. The program goes on at this address, which it isn't told yet.
-    Ran(u16),
+    Jumped(u32),
+    /// The same of a branch to this address that isn't taken: the program goes on behind it. It is told with its address, as one
+    /// that is taken is: an address that hangs on the test would have to wait for it, where the processor can guess how a
+    /// test comes out.
+    Passed(u32),
     /// It is illegal. Nothing changed.
     Illegal,
     /// It tells more than that it was done, if it isn't illegal. Nothing changed yet.
@@ -59,11 +64,13 @@ impl Program {
         ensures ran { RunsTo result self.old self.new }
         ensures stops { result < most → (order self.new).1 ≢ Event.Ran }
     {
-        let mut at = self.next();
+        let mut at = u32::from(self.next());
         for done in 0..most {
             match self.run_one(at) {
-                Some(next) => at = next,
-                None => {
+                Quick::Ran => at = following(at),
+                Quick::Jumped(next) => at = next,
+                Quick::Passed(_) => at = following(at),
+                Quick::Illegal | Quick::Left => {
                     self.go(at);
                     return done;
                 }
@@ -76,133 +83,97 @@ impl Program {
     /// Does the order at an address if it tells no more than that it was done, and answers where the program goes on. It
     /// isn't told that, since an address that is kept in memory takes longer than an order.
     #[inline(always)]
-    fn run_one(&mut self, at: u16) -> Option<u16>
+    fn run_one(&mut self, at: u32) -> Quick
         requires { at < 2 ^ 15 }
         ensures { RunsOne result at self.old self.new }
     {
-        let Some(word) = self.word(at) else {
-            return None;
+        let Some(word) = self.operand_at(at) else {
+            return Quick::Illegal;
         };
-        match self.quick(at, word) {
-            Quick::Ran(next) => Some(next),
-            Quick::Illegal | Quick::Left => None,
-        }
+        self.quick(at, word)
     }
 
-    /// Does the order of a word that stands at an address, if it tells no more than that it was done. What is told is
-    /// small, since most orders are such; and branches are told from other orders first, so that what only these have
-    /// costs branches nothing.
+    /// Does the order of a word that stands at an address, if it tells no more than that it was done. The functions that most
+    /// orders have are done by the fields of the word, of which each reads its own; others as orders.
     #[inline(always)]
-    fn quick(&mut self, at: u16, word: Word) -> Quick
+    fn quick(&mut self, at: u32, word: Word) -> Quick
         requires { at < 2 ^ 15 }
-        ensures { DoesQuick result self.old self.new
+        ensures { DoesQuick result at self.old self.new
             (option_and_then (performed (going_to self.old at)) (decoded word)) }
     {
-        if has_branch(word) {
-            self.quick_branch(at, word)
-        } else {
-            self.quick_plain(at, word)
-        }
-    }
-
-    /// The same for a word with the function number of a branch.
-    #[inline(always)]
-    #[tactic(auto, using(crate::proofs::RunningLaws::known_order, crate::proofs::RunningLaws::no_order))]
-    fn quick_branch(&mut self, at: u16, word: Word) -> Quick
-        requires at { at < 2 ^ 15 }
-        requires branch { is_branch (word / 2 ^ 14 % 2 ^ 7) ≡ true }
-        ensures { DoesQuick result self.old self.new
-            (option_and_then (performed (going_to self.old at)) (decoded word)) }
-    {
-        let (x, f, n) = split_branch(word);
-        match function_of(f, x) {
-            Some(function) => self.jump(at, function, x, f, n),
+        let x = accumulator_in(word);
+        match function_in(word) {
+            Some(Function::Load(operation)) => {
+                let (m, n) = plain_operands(word);
+                self.load_by(at, operation, x, m, n)
+            }
+            Some(Function::Store(operation)) => {
+                let (m, n) = plain_operands(word);
+                self.store_by(at, operation, x, m, n)
+            }
+            Some(Function::LoadNumber(operation)) => {
+                let (m, n) = plain_operands(word);
+                self.load_number_by(at, operation, x, m, n)
+            }
+            Some(Function::StoreZero) => {
+                let (m, n) = plain_operands(word);
+                self.store_zero(at, m, n)
+            }
+            Some(Function::Branch(condition)) => {
+                let n = branch_operand(word);
+                self.branch_by(at, condition, x, n)
+            }
+            Some(Function::Call) => {
+                let n = branch_operand(word);
+                self.call(at, x, n)
+            }
+            Some(Function::Exit) => {
+                let n = branch_operand(word);
+                self.exit(at, x, n)
+            }
+            Some(Function::Null) => Quick::Ran,
+            Some(_) => self.perform_word(at, word),
             None => Quick::Illegal,
         }
     }
 
-    /// The same for any other word.
-    #[inline(always)]
-    #[tactic(auto, using(crate::proofs::RunningLaws::known_order, crate::proofs::RunningLaws::no_order))]
-    fn quick_plain(&mut self, at: u16, word: Word) -> Quick
-        requires at { at < 2 ^ 15 }
-        requires plain { is_branch (word / 2 ^ 14 % 2 ^ 7) ≡ false }
-        ensures { DoesQuick result self.old self.new
+    /// The same by the order of the word, which is made in memory.
+    #[inline(never)]
+    #[tactic(auto, using(crate::proofs::RunningLaws::performed_by))]
+    fn perform_word(&mut self, at: u32, word: Word) -> Quick
+        requires { at < 2 ^ 15 }
+        ensures { DoesQuick result at self.old self.new
             (option_and_then (performed (going_to self.old at)) (decoded word)) }
     {
-        let (x, f, m, n) = split_plain(word);
-        match function_of(f, x) {
-            Some(function) => self.work(at, function, x, f, m, n),
-            None => Quick::Illegal,
-        }
-    }
-
-    /// Does a branch, or a call or an exit, by the fields of its word. They aren't put together to an order, since that
-    /// would be made in memory.
-    fn jump(&mut self, at: u16, function: Function, x: u8, f: u8, n: u16) -> Quick
-        requires at { at < 2 ^ 15 }
-        requires row { function_of f x ≡ Some function }
-        requires x { x < 8 }
-        requires n { n < 2 ^ 15 }
-        requires operands { are_operands f 0 n ≡ true }
-        ensures { DoesQuick result self.old self.new
-            (effect function (going_to self.old at) (record { x = x; f = f; m = 0; n = n })) }
-    {
-        match function {
-            Function::Branch(condition) => self.branch_by(at, condition, x, n),
-            Function::Call => self.call(at, x, n),
-            Function::Exit => self.exit(at, x, n),
-            _ => self.perform(at, function, &Order { x, f, m: 0, n }),
-        }
-    }
-
-    /// Does an order of the functions that most orders have, by the fields of its word, and others as orders.
-    fn work(&mut self, at: u16, function: Function, x: u8, f: u8, m: u8, n: u16) -> Quick
-        requires at { at < 2 ^ 15 }
-        requires row { function_of f x ≡ Some function }
-        requires x { x < 8 }
-        requires m { m < 4 }
-        requires n { n < 2 ^ 15 }
-        requires operands { are_operands f m n ≡ true }
-        ensures { DoesQuick result self.old self.new
-            (effect function (going_to self.old at) (record { x = x; f = f; m = m; n = n })) }
-    {
-        match function {
-            Function::Load(operation) => self.load_by(at, operation, x, m, n),
-            Function::Store(operation) => self.store_by(at, operation, x, m, n),
-            Function::LoadNumber(operation) => self.load_number_by(at, operation, x, m, n),
-            Function::StoreZero => self.store_zero(at, m, n),
-            Function::Null => Quick::Ran(following(at)),
-            _ => self.perform(at, function, &Order { x, f, m, n }),
-        }
+        let Some((function, order)) = read_order(word) else {
+            return Quick::Illegal;
+        };
+        self.perform(at, function, &order)
     }
 
     /// Does what a function makes of an order that stands at an address, if that tells no more than that it was done.
     #[inline(never)]
     #[tactic(auto, using(crate::proofs::RunningLaws::not_plain))]
-    fn perform(&mut self, at: u16, function: Function, order: &Order) -> Quick
+    fn perform(&mut self, at: u32, function: Function, order: &Order) -> Quick
         requires { at < 2 ^ 15 }
-        ensures { DoesQuick result self.old self.new
+        ensures { DoesQuick result at self.old self.new
             (effect function (going_to self.old at) (fields order.now)) }
     {
+        let (x, m, n) = (u32::from(order.x), u32::from(order.m), u32::from(order.n));
         match function {
-            Function::Load(operation) => {
-                self.load_word(at, operation, order.x, order.m, order.n)
-            }
-            Function::Store(operation) => self.store(at, operation, order.x, order.m, order.n),
-            Function::LoadNumber(operation) => {
-                self.load_number(at, operation, order.x, order.m, order.n)
-            }
+            Function::Load(operation) => self.load_word(at, operation, x, m, n),
+            Function::Store(operation) => self.store(at, operation, x, m, n),
+            Function::LoadNumber(operation) => self.load_number(at, operation, x, m, n),
             Function::LoadCharacter => self.load_character(at, order),
-            Function::StoreZero => self.store_zero(at, order.m, order.n),
+            Function::StoreZero => self.store_zero(at, m, n),
             Function::DepositCharacter => self.deposit_character(at, order),
             Function::Multiply => self.multiply(at, order),
-            Function::Branch(condition) => self.branch(at, condition, order.x, order.n),
-            Function::Call => self.call(at, order.x, order.n),
-            Function::Exit => self.exit(at, order.x, order.n),
+            Function::Branch(condition) => self.branch(at, condition, x, n),
+            Function::Call => self.call(at, x, n),
+            Function::Exit => self.exit(at, x, n),
             Function::ShiftLeft => self.shift(at, true, order),
             Function::ShiftRight => self.shift(at, false, order),
-            Function::Null => Quick::Ran(following(at)),
+            Function::Null => Quick::Ran,
             Function::Move => self.move_words(at, order),
             Function::Transfer | Function::Halt | Function::Display | Function::Delete =>
                 Quick::Left,
@@ -211,12 +182,12 @@ impl Program {
 
     /// `load_word`, written out for each operation, which then isn't asked for once more.
     #[inline(always)]
-    fn load_by(&mut self, at: u16, operation: Operation, x: u8, m: u8, n: u16) -> Quick
+    fn load_by(&mut self, at: u32, operation: Operation, x: u32, m: u32, n: u32) -> Quick
         requires at { at < 2 ^ 15 }
         requires x { x < 8 }
         requires m { m < 4 }
         requires n { n < 2 ^ 15 }
-        ensures { DoesQuick result self.old self.new
+        ensures { DoesQuick result at self.old self.new
             (effect (function.Load operation) (going_to self.old at) (operands x m n)) }
     {
         match operation {
@@ -232,12 +203,12 @@ impl Program {
 
     /// `store`, written out for each operation.
     #[inline(always)]
-    fn store_by(&mut self, at: u16, operation: Operation, x: u8, m: u8, n: u16) -> Quick
+    fn store_by(&mut self, at: u32, operation: Operation, x: u32, m: u32, n: u32) -> Quick
         requires at { at < 2 ^ 15 }
         requires x { x < 8 }
         requires m { m < 4 }
         requires n { n < 2 ^ 15 }
-        ensures { DoesQuick result self.old self.new
+        ensures { DoesQuick result at self.old self.new
             (effect (function.Store operation) (going_to self.old at) (operands x m n)) }
     {
         match operation {
@@ -253,12 +224,12 @@ impl Program {
 
     /// `load_number`, written out for each operation.
     #[inline(always)]
-    fn load_number_by(&mut self, at: u16, operation: Operation, x: u8, m: u8, n: u16) -> Quick
+    fn load_number_by(&mut self, at: u32, operation: Operation, x: u32, m: u32, n: u32) -> Quick
         requires at { at < 2 ^ 15 }
         requires x { x < 8 }
         requires m { m < 4 }
         requires n { n < 2 ^ 15 }
-        ensures { DoesQuick result self.old self.new
+        ensures { DoesQuick result at self.old self.new
             (effect (function.LoadNumber operation) (going_to self.old at) (operands x m n)) }
     {
         match operation {
@@ -274,11 +245,11 @@ impl Program {
 
     /// `branch`, written out for each condition.
     #[inline(always)]
-    fn branch_by(&mut self, at: u16, condition: Condition, x: u8, n: u16) -> Quick
+    fn branch_by(&mut self, at: u32, condition: Condition, x: u32, n: u32) -> Quick
         requires at { at < 2 ^ 15 }
         requires x { x < 8 }
         requires n { n < 2 ^ 15 }
-        ensures { DoesQuick result self.old self.new
+        ensures { DoesQuick result at self.old self.new
             (effect (function.Branch condition) (going_to self.old at) (operands x 0 n)) }
     {
         match condition {

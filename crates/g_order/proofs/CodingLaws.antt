@@ -1,9 +1,9 @@
 -- The words of orders and the orders of words are each other's.
-use Rattle.std.proofs.Common.{◌≡◌, ℕ, ◌/◌, ◌<◌, ◌≤◌, ◌%◌, ◌^◌, Bool, true, false, ◌&&◌, ◌||◌, refl, ap, ◌∙◌, ◌⊎◌, inl, inr, arith}
+use Rattle.std.proofs.Common.{◌≡◌, ℕ, ◌*◌, ◌-◌, ◌/◌, ◌<◌, ◌≤◌, ◌%◌, ◌^◌, Bool, true, false, ◌&&◌, ◌||◌, refl, ap, ◌∙◌, ◌⊎◌, inl, inr, arith}
 use Rattle.std.specs.Prelude.{Some, is_some, ◌==◌, nat_lt, nat_le, not, if◌then◌else◌}
 use Rattle.std.proofs.lemmas.Bool.{ltb-true, leb-true, eqb-true, le-leb, lt-ltb, and_from}
 use Rattle.g_order.specs.Table.{function_of}
-use Rattle.g_order.specs.Order.{Fields, is_branch, is_order, fields_of, word_of, decoded}
+use Rattle.g_order.specs.Order.{Fields, are_operands, function_number, is_branch, is_order, fields_of, word_of, decoded}
 use Rattle.g_order.proofs.TableLaws.{number_of_row, both_true}
 
 -- the limits of the fields of an order that isn't a branch, and of one that is
@@ -66,3 +66,45 @@ fields_of-word_of o h = elim (limits o h) [ inl p ↦ plain_back o p | inr b ↦
 
 pub decoded-word_of : (o : Fields) → is_order o.x o.f o.m o.n ≡ true → decoded (word_of o) ≡ Some o
 decoded-word_of o h = rw (fields_of-word_of o h, h) refl
+
+-- the number of a word whose upper bits are those of a branch is that of a branch, and else it is those bits
+even_branch : (w : ℕ) → is_branch (w / 2 ^ 14 % 2 ^ 7) ≡ true → is_branch (2 * (w / 2 ^ 15 % 2 ^ 6)) ≡ true
+even_branch w is =
+    let range = both_true (nat_le 0o50 (w / 2 ^ 14 % 2 ^ 7)) (nat_lt (w / 2 ^ 14 % 2 ^ 7) 0o100) is in
+    let low = leb-true _ _ range.0 in
+    let high = ltb-true _ _ range.1 in
+    and_from _ _ (le-leb _ _ (let e : 0o50 ≤ 2 * (w / 2 ^ 15 % 2 ^ 6) = omega (arith, low) in e)) (lt-ltb _ _ (let e : 2 * (w / 2 ^ 15 % 2 ^ 6) < 0o100 = omega (arith, high) in e))
+
+by_bits : (w : ℕ) (b : Bool) → is_branch (w / 2 ^ 14 % 2 ^ 7) ≡ b
+    → (let o : Fields = if b then (record { x = w / 2 ^ 21; f = 2 * (w / 2 ^ 15 % 2 ^ 6); m = 0; n = w % 2 ^ 15 }) else (record { x = w / 2 ^ 21; f = w / 2 ^ 14 % 2 ^ 7; m = w / 2 ^ 12 % 4; n = w % 2 ^ 12 }) in is_branch o.f) ≡ b
+by_bits w true is = even_branch w is
+by_bits w false is = is
+
+pub branch_of_word : (w : ℕ) → is_branch (fields_of w).f ≡ is_branch (w / 2 ^ 14 % 2 ^ 7)
+branch_of_word w = by_bits w (is_branch (w / 2 ^ 14 % 2 ^ 7)) refl
+
+-- the operands of a word are within their limits
+operands_by : (w : ℕ) (b : Bool) → is_branch (w / 2 ^ 14 % 2 ^ 7) ≡ b
+    → (let o : Fields = if b then (record { x = w / 2 ^ 21; f = 2 * (w / 2 ^ 15 % 2 ^ 6); m = 0; n = w % 2 ^ 15 }) else (record { x = w / 2 ^ 21; f = w / 2 ^ 14 % 2 ^ 7; m = w / 2 ^ 12 % 4; n = w % 2 ^ 12 }) in are_operands o.f o.m o.n) ≡ true
+operands_by w true is = rw (even_branch w is) (lt-ltb _ _ (let e : w % 2 ^ 15 < 2 ^ 15 = omega arith in e))
+operands_by w false is = rw is (and_from _ _ (lt-ltb _ _ (let e : w / 2 ^ 12 % 4 < 4 = omega arith in e)) (lt-ltb _ _ (let e : w % 2 ^ 12 < 2 ^ 12 = omega arith in e)))
+
+pub operands_of_word : (w : ℕ) → are_operands (fields_of w).f (fields_of w).m (fields_of w).n ≡ true
+operands_of_word w = operands_by w (is_branch (w / 2 ^ 14 % 2 ^ 7)) refl
+
+-- the function number of a word
+number_by : (w : ℕ) (b : Bool) → is_branch (w / 2 ^ 14 % 2 ^ 7) ≡ b
+    → (if b then w / 2 ^ 14 % 2 ^ 7 - w / 2 ^ 14 % 2 ^ 7 % 2 else w / 2 ^ 14 % 2 ^ 7) ≡ (let o : Fields = if b then (record { x = w / 2 ^ 21; f = 2 * (w / 2 ^ 15 % 2 ^ 6); m = 0; n = w % 2 ^ 15 }) else (record { x = w / 2 ^ 21; f = w / 2 ^ 14 % 2 ^ 7; m = w / 2 ^ 12 % 4; n = w % 2 ^ 12 }) in o.f)
+number_by w true is = omega arith
+number_by w false is = refl
+
+pub number_of_word : (w : ℕ) → function_number (w / 2 ^ 14 % 2 ^ 7) ≡ (fields_of w).f
+number_of_word w = number_by w (is_branch (w / 2 ^ 14 % 2 ^ 7)) refl
+
+-- and its X
+x_by : (w : ℕ) (b : Bool) → w / 2 ^ 21 ≡ (let o : Fields = if b then (record { x = w / 2 ^ 21; f = 2 * (w / 2 ^ 15 % 2 ^ 6); m = 0; n = w % 2 ^ 15 }) else (record { x = w / 2 ^ 21; f = w / 2 ^ 14 % 2 ^ 7; m = w / 2 ^ 12 % 4; n = w % 2 ^ 12 }) in o.x)
+x_by w true = refl
+x_by w false = refl
+
+pub x_of_word : (w : ℕ) → w / 2 ^ 21 ≡ (fields_of w).x
+x_of_word w = x_by w (is_branch (w / 2 ^ 14 % 2 ^ 7))

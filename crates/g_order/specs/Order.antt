@@ -1,5 +1,5 @@
 -- Orders as the fields of a word, both ways.
-use Rattle.std.specs.Prelude.{ℕ, ◌+◌, ◌*◌, ◌/◌, ◌%◌, ◌^◌, ◌==◌, ◌&&◌, Bool, Option, Some, None, is_some, nat_lt, nat_le, if◌then◌else◌}
+use Rattle.std.specs.Prelude.{ℕ, ◌+◌, ◌-◌, ◌*◌, ◌/◌, ◌%◌, ◌^◌, ◌==◌, ◌&&◌, Bool, Option, Some, None, is_some, nat_lt, nat_le, if◌then◌else◌}
 use Rattle.g_order.specs.Table.{function_of}
 
 -- the four fields of an order
@@ -28,6 +28,10 @@ abbrev pub fields_of : ℕ → Fields
 fields_of w =
     let f = w / 2 ^ 14 % 2 ^ 7 in
     if is_branch f then (record { x = w / 2 ^ 21; f = 2 * (w / 2 ^ 15 % 2 ^ 6); m = 0; n = w % 2 ^ 15 }) else (record { x = w / 2 ^ 21; f = f; m = w / 2 ^ 12 % 4; n = w % 2 ^ 12 })
+
+-- the function number of the words that have this number in the seven bits of F: that of a branch is even
+abbrev pub function_number : ℕ → ℕ
+function_number number = if is_branch number then number - number % 2 else number
 
 -- the order of a word, or none where no row of the table has it
 abbrev pub decoded : ℕ → Option Fields

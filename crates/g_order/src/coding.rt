@@ -5,7 +5,7 @@ ghost use Rattle.g_order.specs.Order.{Fields, are_operands, fields_of, is_branch
 ghost use Rattle.g_order.specs.Coding.{fields};
 ghost use Rattle.g_order.specs.Table.{function_of};
 
-use crate::functions::{Function, function_of};
+use crate::functions::{Function, function_at, function_of};
 use crate::orders::{Order, is_branch};
 use g_word::Word;
 use thiserror::Error;
@@ -50,7 +50,7 @@ pub fn read_order(word: Word) -> Option<(Function, Order)>
 
 /// Whether a word has the function number of a branch.
 #[inline(always)]
-pub fn has_branch(word: Word) -> bool
+fn has_branch(word: Word) -> bool
     ensures { result ≡ is_branch (word / 2 ^ 14 % 2 ^ 7) }
 {
     is_branch(((word.value() >> 14) % 0x80) as u8)
@@ -58,13 +58,13 @@ pub fn has_branch(word: Word) -> bool
 
 /// `read_order` for a word with the function number of a branch, whose order has no modifier.
 #[inline(always)]
-pub fn read_branch(word: Word) -> Option<(Function, Order)>
+fn read_branch(word: Word) -> Option<(Function, Order)>
     requires { is_branch (word / 2 ^ 14 % 2 ^ 7) ≡ true }
     ensures order { MatchOption result (decoded word ≡ None) (λ r. decoded word ≡ Some (fields r.1)) }
     ensures function { IfSome result (λ r. function_of r.1.f r.1.x ≡ Some r.0) }
 {
     let (x, f, n) = split_branch(word);
-    match function_of(f, x) {
+    match function_of(u32::from(f), u32::from(x)) {
         Some(function) => Some((function, Order { x, f, m: 0, n })),
         None => None,
     }
@@ -72,19 +72,19 @@ pub fn read_branch(word: Word) -> Option<(Function, Order)>
 
 /// `read_order` for any other word.
 #[inline(always)]
-pub fn read_plain(word: Word) -> Option<(Function, Order)>
+fn read_plain(word: Word) -> Option<(Function, Order)>
     requires { is_branch (word / 2 ^ 14 % 2 ^ 7) ≡ false }
     ensures order { MatchOption result (decoded word ≡ None) (λ r. decoded word ≡ Some (fields r.1)) }
     ensures function { IfSome result (λ r. function_of r.1.f r.1.x ≡ Some r.0) }
 {
     let (x, f, m, n) = split_plain(word);
-    let function = function_of(f, x)?;
+    let function = function_of(u32::from(f), u32::from(x))?;
     Some((function, Order { x, f, m, n }))
 }
 
 /// X, F and N of a word with the function number of a branch, whether an order has them or not.
 #[inline(always)]
-pub fn split_branch(word: Word) -> (u8, u8, u16)
+fn split_branch(word: Word) -> (u8, u8, u16)
     requires { is_branch (word / 2 ^ 14 % 2 ^ 7) ≡ true }
     ensures fields { fields_of word ≡ record { x = result.0; f = result.1; m = 0; n = result.2 } }
     ensures x { result.0 < 8 }
@@ -98,7 +98,7 @@ pub fn split_branch(word: Word) -> (u8, u8, u16)
 
 /// X, F, M and N of any other word, whether an order has them or not.
 #[inline(always)]
-pub fn split_plain(word: Word) -> (u8, u8, u8, u16)
+fn split_plain(word: Word) -> (u8, u8, u8, u16)
     requires { is_branch (word / 2 ^ 14 % 2 ^ 7) ≡ false }
     ensures fields { fields_of word ≡ record { x = result.0; f = result.1; m = result.2; n = result.3 } }
     ensures x { result.0 < 8 }
@@ -110,6 +110,47 @@ pub fn split_plain(word: Word) -> (u8, u8, u8, u16)
     let f = ((bits >> 14) % 0x80) as u8;
     let m = ((bits >> 12) % 4) as u8;
     ((bits >> 21) as u8, f, m, (bits % 0x1000) as u16)
+}
+
+/// X of a word.
+#[inline(always)]
+pub fn accumulator_in(word: Word) -> u32
+    ensures value { result ≡ (fields_of word).x }
+    ensures small { result < 8 }
+{
+    word.value() >> 21
+}
+
+/// What a word does, if it has an order.
+#[inline(always)]
+pub fn function_in(word: Word) -> Option<Function>
+    ensures { result ≡ function_of (fields_of word).f (fields_of word).x }
+{
+    let bits = word.value();
+    function_at((bits >> 14) % 0x80, bits >> 21)
+}
+
+/// M and N of a word whose function isn't that of a branch.
+#[inline(always)]
+pub fn plain_operands(word: Word) -> (u32, u32)
+    requires { is_branch (fields_of word).f ≡ false }
+    ensures m { result.0 ≡ (fields_of word).m }
+    ensures n { result.1 ≡ (fields_of word).n }
+    ensures small { (result.0 < 4) × (result.1 < 2 ^ 12) }
+{
+    let bits = word.value();
+    ((bits >> 12) % 4, bits % 0x1000)
+}
+
+/// N of a word whose function is that of a branch. It has no M.
+#[inline(always)]
+pub fn branch_operand(word: Word) -> u32
+    requires { is_branch (fields_of word).f ≡ true }
+    ensures n { result ≡ (fields_of word).n }
+    ensures small { result < 2 ^ 15 }
+    ensures no_modifier { (fields_of word).m ≡ 0 }
+{
+    word.value() % 0x8000
 }
 
 /// The word of an order.

@@ -1,6 +1,7 @@
 //! The table of function numbers.
 
-ghost use Rattle.std.specs.Prelude.{◌≡◌};
+ghost use Rattle.std.specs.Prelude.{◌≡◌, ◌<◌, ◌^◌, None};
+ghost use Rattle.g_order.specs.Order.{function_number, is_branch};
 ghost use Rattle.g_order.specs.Table as table;
 
 /// What an order makes of an old word and an operand.
@@ -89,7 +90,7 @@ pub enum Function {
 /// The function of orders with this F and X, or `None` where the table has no row for them.
 #[inline(always)]
 #[tactic(auto, unfolding(crate::specs::Table::function_of))]
-pub fn function_of(f: u8, x: u8) -> Option<Function>
+pub fn function_of(f: u32, x: u32) -> Option<Function>
     ensures { result ≡ table.function_of f x }
 {
     let function = match f {
@@ -136,8 +137,44 @@ pub fn function_of(f: u8, x: u8) -> Option<Function>
     Some(function)
 }
 
+/// The function of the words that have this number in the seven bits of F, and this X. The last of these bits belongs to the
+/// address of a branch, so that a branch has two such numbers: its own, and the odd one behind it where its address is 2^14
+/// or more, as few are.
+#[inline(always)]
+pub(crate) fn function_at(number: u32, x: u32) -> Option<Function>
+    requires number { number < 2 ^ 7 }
+    requires x { x < 8 }
+    ensures { result ≡ table.function_of (function_number number) x }
+{
+    match function_of(number, x) {
+        Some(function) => Some(function),
+        None => far_branch(number, x),
+    }
+}
+
+/// The function of the words that have this number, which no row of the table has.
+fn far_branch(number: u32, x: u32) -> Option<Function>
+    requires number { number < 2 ^ 7 }
+    requires x { x < 8 }
+    requires none { table.function_of number x ≡ None }
+    ensures { result ≡ table.function_of (function_number number) x }
+{
+    if number % 2 == 1 && is_branch(number) {
+        function_of(number - 1, x)
+    } else {
+        None
+    }
+}
+
+/// Whether a number is that of a branch.
+fn is_branch(number: u32) -> bool
+    ensures { result ≡ is_branch number }
+{
+    (0o050..0o100).contains(&number)
+}
+
 /// The orders of F 074.
-fn branch_by_x(x: u8) -> Option<Function>
+fn branch_by_x(x: u32) -> Option<Function>
     ensures { result ≡ table.row table.branches_by_x x }
 {
     let condition = match x {
@@ -152,7 +189,7 @@ fn branch_by_x(x: u8) -> Option<Function>
 }
 
 /// The orders of F 160.
-fn text_by_x(x: u8) -> Option<Function>
+fn text_by_x(x: u32) -> Option<Function>
     ensures { result ≡ table.row table.texts_by_x x }
 {
     match x {

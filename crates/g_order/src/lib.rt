@@ -6,8 +6,8 @@ mod functions;
 mod orders;
 
 pub use coding::{
-    Illegal, decode, encode, has_branch, read_branch, read_order, read_plain, split_branch,
-    split_plain,
+    Illegal, accumulator_in, branch_operand, decode, encode, function_in, plain_operands,
+    read_order,
 };
 pub use functions::{Condition, Function, Operation, function_of};
 pub use orders::{Order, is_branch};

@@ -35,7 +35,7 @@ impl Order {
         } else {
             m < 4 && n < 0x1000
         };
-        if x < 8 && fits && function_of(f, x).is_some() {
+        if x < 8 && fits && function_of(u32::from(f), u32::from(x)).is_some() {
             Some(Order { x, f, m, n })
         } else {
             None
@@ -46,7 +46,7 @@ impl Order {
     pub fn function(&self) -> Function
         ensures { table.function_of self.now.f self.now.x ≡ Some result }
     {
-        match function_of(self.f, self.x) {
+        match function_of(u32::from(self.f), u32::from(self.x)) {
             Some(function) => function,
             None => unreachable!(),
         }
