@@ -1,5 +1,5 @@
 -- The place in a document behind the lines that were taken.
-use Rattle.std.proofs.Common.{◌≡◌, ◌<◌, ◌≤◌, ◌+◌, ◌-◌, ℕ, List, [], ◌∷◌, ◌++◌, ⊎_elim, length, get_or, take, drop, take_all, le-ltb, lt-ltb, nat_lt, sym, ap, ◌∙◌, refl, arith}
+use Rattle.std.proofs.Common.{◌≡◌, ◌<◌, ◌≤◌, ◌+◌, ◌-◌, ℕ, List, [], ◌∷◌, ◌++◌, ⊎_elim, length, get_or, take, drop, take-add, take_all, le-ltb, lt-ltb, nat_lt, sym, ap, ◌∙◌, refl, arith}
 use Rattle.std.proofs.lemmas.Bool.{cases_lt}
 use Rattle.std.proofs.lemmas.List.{drop_at, drop-drop, drop_more, get_or-drop, length-append, length-drop, take-append-drop, take_more, take_rest}
 use Rattle.std.proofs.lemmas.List.Concat.{flat_map-append}
@@ -34,6 +34,17 @@ place_next lines taken at line place inside is = record {
   within = omega (arith, inside);
   bytes = omega (arith, place.bytes, bytes_more lines taken line inside is);
 }
+
+-- the place behind some more lines
+pub place_pass : (lines : List (List ℕ)) (taken at count bytes : ℕ) → IsPlace lines taken at → count ≤ length (drop taken lines) → bytes ≡ length (text_of (take count (drop taken lines)))
+    → IsPlace lines (taken + count) (at + bytes)
+place_pass lines taken at count bytes place within is =
+    let cut : text_of (take (taken + count) lines) ≡ text_of (take taken lines) ++ text_of (take count (drop taken lines)) =
+    ap text_of (take-add taken count lines) ∙ flat_map-append ended (take taken lines) (take count (drop taken lines)) in
+    record {
+      within = omega (arith, place.within, within, length-drop taken lines);
+      bytes = omega (arith, place.bytes, is, ap length cut, length-append (text_of (take taken lines)) (text_of (take count (drop taken lines))));
+    }
 
 pub left_some : (lines : List (List ℕ)) (taken : ℕ) → taken < length lines → 0 < length (text_of (drop taken lines))
 left_some lines taken inside =

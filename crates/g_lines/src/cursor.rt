@@ -84,6 +84,17 @@ impl Cursor {
         self.taken += 1;
     }
 
+    /// Counts so many lines more as taken, which have so many bytes with their bytes 10.
+    pub fn pass(&mut self, lines: usize, bytes: usize)
+        requires within { lines ≤ length (lines_left self.old) }
+        requires bytes { bytes ≡ length (text_of (take lines (lines_left self.old))) }
+        ensures { self.new ≡ with_taken (self.old.taken + lines) self.old }
+    {
+        let _text = self.document.as_text();
+        self.at += bytes;
+        self.taken += lines;
+    }
+
     /// Counts so many lines as taken, and no others.
     pub fn go_to(&mut self, taken: usize)
         requires { taken ≤ length self.old.lines }

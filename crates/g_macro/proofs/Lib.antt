@@ -1,4 +1,5 @@
 pub mod FrontLemmas
 pub mod LevelLemmas
 pub mod PlaceLemmas
+pub mod SpanLemmas
 pub mod StackLemmas

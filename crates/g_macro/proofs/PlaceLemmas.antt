@@ -1,11 +1,9 @@
 -- Loops that look for a line or an entry.
 use Rattle.std.proofs.Common.{List, None, Option, Some, [], ap, append_assoc, arith, cond, drop, drop-cons, drop_of_length-le, false, get_or, length, option_map, refl, suc, sym, take, true, ℕ, ◌++◌, ◌+◌, ◌<◌, ◌∙◌, ◌∷◌, ◌≡◌, ◌≤◌}
 use Rattle.std.proofs.lemmas.Bool.{cond_both}
-use Rattle.std.proofs.lemmas.List.{drop_all, drop_more, length-append, take_at}
-use Rattle.std.specs.Prelude.{slice_index_or}
+use Rattle.std.proofs.lemmas.List.{length-append, take_at}
 use Rattle.g_lang.specs.Conditions.{same_cond}
 use Rattle.g_lang.specs.declared.line.Cond.{Cond}
-use Rattle.g_lines.specs.Documents.{Taking, lines_left, with_taken}
 use Rattle.g_lines.specs.Lines.{ended, lines_of, text_of}
 use Rattle.g_macro.specs.Levels.{before_closing, has_label, is_closing, line_of_label, passed, place_of_cond}
 use Rattle.g_macro.specs.declared.entry.Entry.{Entry}
@@ -83,11 +81,6 @@ pub close-none : (all left : List (List ℕ)) (i : ℕ) → i + length (text_of 
     → i ≡ length (text_of (before_closing all))
 close-none all left i so_far none = omega (arith, so_far, ap (λ (ls : List (List ℕ)). length (text_of (before_closing ls))) none)
 
--- and the bytes of all lines
-pub long-next : (left more : List (List ℕ)) (line : List ℕ) (i total : ℕ) → i + length (text_of left) ≡ total → left ≡ line ∷ more → i + (length line + 1) + length (text_of more) ≡ total
-long-next left more line i total so_far is =
-    omega (arith, so_far, ap (λ (ls : List (List ℕ)). length (text_of ls)) is, length-append (ended line) (text_of more), length-append line (10 ∷ []))
-
 -- what stands before `////` is at the front
 before_in : (lines : List (List ℕ)) → (rest : List ℕ) × (text_of lines ≡ text_of (before_closing lines) ++ rest)
 before_in [] = ([], refl)
@@ -121,21 +114,3 @@ passed-within [] = omega arith
 passed-within (line ∷ lines) =
     let within = passed-within lines in
     cond_both (is_closing line) 1 (1 + passed lines) (λ (n : ℕ). n ≤ length (line ∷ lines)) (λ _. omega arith) (λ _. omega (arith, within))
-
-pub passed-last : (t : Taking) → t.taken < length t.lines → is_closing (slice_index_or t.lines t.taken []) ≡ true → with_taken (t.taken + 1) t ≡ with_taken (t.taken + passed (lines_left t)) t
-passed-last t inside closing =
-    let cut : lines_left t ≡ get_or t.lines t.taken [] ∷ drop (t.taken + 1) t.lines = drop_more t.lines t.taken [] inside in
-    let one : passed (lines_left t) ≡ 1 = ap passed cut ∙ rw closing refl in
-    ap (λ (n : ℕ). with_taken (t.taken + n) t) (sym one)
-
-pub passed-more : (t : Taking) → t.taken < length t.lines → is_closing (slice_index_or t.lines t.taken []) ≡ false
-    → with_taken (t.taken + 1 + passed (drop (t.taken + 1) t.lines)) t ≡ with_taken (t.taken + passed (lines_left t)) t
-passed-more t inside other =
-    let cut : lines_left t ≡ get_or t.lines t.taken [] ∷ drop (t.taken + 1) t.lines = drop_more t.lines t.taken [] inside in
-    let one : passed (lines_left t) ≡ 1 + passed (drop (t.taken + 1) t.lines) = ap passed cut ∙ rw other refl in
-    ap (λ (n : ℕ). with_taken n t) (omega (arith, one))
-
-pub passed-none : (t : Taking) → length t.lines ≤ t.taken → t ≡ with_taken (t.taken + passed (lines_left t)) t
-passed-none t all =
-    let none : passed (lines_left t) ≡ 0 = ap passed (drop_all t.taken t.lines all) in
-    ap (λ (n : ℕ). with_taken n t) (omega (arith, none))

@@ -4,3 +4,4 @@ pub mod Fronts
 pub mod LevelReplies
 pub mod Levels
 pub mod Replies
+pub mod Spans

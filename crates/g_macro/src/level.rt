@@ -1,5 +1,5 @@
 //! One level: the lines of a document or a macro, its parameters, and the commands that wait in it.
-ghost use Rattle.std.specs.Prelude.{◌≡◌, ◌++◌, ◌+◌, ◌-◌, ◌<◌, ◌≤◌, ◌^◌, true, false, None, Some, drop, length, IfOk, IfSome, MatchOption, slice_index_or};
+ghost use Rattle.std.specs.Prelude.{◌≡◌, ◌++◌, ◌+◌, ◌-◌, ◌<◌, ◌≤◌, ◌^◌, true, false, None, Some, drop, length, IfOk, IfSome, MatchOption, OnErr, OnOk, slice_index_or};
 ghost use Rattle.g_lang.specs.Conditions.{IsLetter};
 ghost use Rattle.g_lang.specs.Lines.{IsCommandText};
 ghost use Rattle.g_macro.specs.Asked as asked;
@@ -7,8 +7,9 @@ ghost use Rattle.g_macro.specs.Expansion.{substituted, param_of};
 ghost use Rattle.g_macro.specs.Fronts.{IsFilled};
 ghost use Rattle.g_macro.specs.Levels as levels;
 ghost use Rattle.g_macro.specs.LevelReplies.{KeepsIn};
-ghost use Rattle.g_lines.specs.Documents.{IsWhole, lines_left, with_taken};
+ghost use Rattle.g_lines.specs.Documents.{IsWhole};
 ghost use Rattle.g_lines.specs.Lines.{lines_of, text_of};
+ghost use Rattle.g_macro.specs.Spans.{IsSpan};
 
 use crate::entry::Entry;
 use crate::expansion::{Filled, fill_in};
@@ -91,19 +92,18 @@ impl Level {
         self.cursor.take_line();
     }
 
-    /// The lines up to `////` or to the end, each with its byte 10.
-    pub fn document(&self, alloc: Global) -> Result<Text, NoMemory>
-        ensures { IfOk result (λ text. text ≡ text_of (levels.before_closing (levels.lines_left self.now))) }
+    /// Takes the lines up to `////`, which is taken too, or to the end, and gives those in front of it, each with its byte
+    /// 10. Without memory nothing changes.
+    pub fn take_document(&mut self, alloc: Global) -> Result<Text, NoMemory>
+        ensures text { IfOk result (λ text. text ≡ text_of (levels.before_closing (levels.lines_left self.old))) }
+        ensures ok { OnOk result (self.new ≡ levels.past_document self.old) }
+        ensures err { OnErr result (self.new ≡ self.old) }
     {
         let left = self.cursor.left();
-        Text::from_slice(alloc, &left[..closing_place(left)])
-    }
-
-    /// Passes by the lines up to `////`, which is passed too, or to the end.
-    pub fn pass_document(&mut self)
-        ensures { self.new ≡ levels.past_document self.old }
-    {
-        pass_closing(&mut self.cursor);
+        let span = span_of(left);
+        let text = Text::from_slice(alloc, &left[..span.document])?;
+        self.cursor.pass(span.lines, span.bytes);
+        Ok(text)
     }
 
     /// The first line that has this label.
@@ -183,32 +183,40 @@ fn filled_up(alloc: Global, params: Vec<Text>) -> Result<Vec<Text>, NoMemory>
     Ok(all)
 }
 
-/// How many bytes stand before the first `////` of these lines, or before their end.
-fn closing_place(left: &[u8]) -> usize
-    requires { IsWhole left.now }
-    ensures { result ≡ length (text_of (levels.before_closing (lines_of left.now))) }
-{
-    let mut lines = Lines::new(left);
-    let mut place = 0;
-    while let Some(line) = lines.next() {
-        if line == b"////".as_slice() {
-            return place;
-        }
-        place += line.len() + 1;
-    }
-    place
+/// How far a document goes.
+#[derive(Clone, Copy)]
+pub(crate) struct Span {
+    /// How many bytes its lines have, with their bytes 10.
+    pub(crate) document: usize,
+    /// How many lines are taken for it, `////` with them.
+    pub(crate) lines: usize,
+    /// How many bytes these have.
+    pub(crate) bytes: usize,
 }
 
-/// Takes the lines up to `////`, which is taken too, or to the end.
-fn pass_closing(cursor: &mut Cursor)
-    ensures { cursor.new ≡ with_taken (cursor.old.taken + levels.passed (lines_left cursor.old)) cursor.old }
+/// How far the document goes that begins with these lines: to the first `////`, or to their end.
+fn span_of(left: &[u8]) -> Span
+    requires { IsWhole left.now }
+    ensures { IsSpan (lines_of left.now) result }
 {
-    while cursor.has_line() {
-        let closes = cursor.line() == b"////".as_slice();
-        cursor.take_line();
-        if closes {
-            return;
+    let mut lines = Lines::new(left);
+    let mut document = 0;
+    let mut count = 0;
+    while let Some(line) = lines.next() {
+        count += 1;
+        if line == b"////".as_slice() {
+            return Span {
+                document,
+                lines: count,
+                bytes: document + line.len() + 1,
+            };
         }
+        document += line.len() + 1;
+    }
+    Span {
+        document,
+        lines: count,
+        bytes: document,
     }
 }
 

@@ -80,8 +80,7 @@ impl Levels {
         ensures { replies.TakesDocument self.old self.new result }
     {
         let top = self.levels.len() - 1;
-        let text = self.levels[top].document(alloc)?;
-        self.levels[top].pass_document();
+        let text = self.levels[top].take_document(alloc)?;
         Ok(text)
     }
 
