@@ -65,14 +65,16 @@ impl Program {
         ensures stops { result < most → (order self.new).1 ≢ Event.Ran }
     {
         let mut at = u32::from(self.next());
-        for done in 0..most {
+        // The count has 64 bits, since no test of the loop crosses a border of 32 bytes of code then, as it is laid out. Some
+        // processors decode those that do anew at every order, and an order takes a quarter longer.
+        for done in 0..u64::from(most) {
             match self.run_one(at) {
                 Quick::Ran => at = following(at),
                 Quick::Jumped(next) => at = next,
                 Quick::Passed(_) => at = following(at),
                 Quick::Illegal | Quick::Left => {
                     self.go(at);
-                    return done;
+                    return done as u32;
                 }
             }
         }
