@@ -4,6 +4,7 @@ pub mod ChangeLemmas
 pub mod FaultLemmas
 pub mod FirstLemmas
 pub mod FreeLemmas
+pub mod GrantLemmas
 pub mod IndexLemmas
 pub mod LawLemmas
 pub mod ListLemmas
