@@ -1,6 +1,7 @@
 -- Lemmas on maps, and from records to the tree.
 pub mod AnswerLemmas
 pub mod ChangeLemmas
+pub mod CountLemmas
 pub mod FaultLemmas
 pub mod FirstLemmas
 pub mod FreeLemmas

@@ -3,6 +3,7 @@
 #![tactic(auto)]
 
 mod asked;
+mod counts;
 mod index;
 mod laws;
 mod number_list;
