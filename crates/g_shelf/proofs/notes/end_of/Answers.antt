@@ -1,6 +1,6 @@
 use Rattle.std.proofs.Common.{◌∙◌, arith}
 use Rattle.g_shelf.proofs.ReadLemmas.{end_low, noted_end}
-use Rattle.g_shelf.proofs.catalogue.end_of.Goals as goal
+use Rattle.g_shelf.proofs.notes.end_of.Goals as goal
 
 pub behind-requires : goal.behind-requires
 behind-requires g c =
