@@ -1,6 +1,6 @@
 -- The generation that is left takes the place of the one before, or none does.
-use Rattle.std.proofs.Common.{◌∙◌, ap, sym, subst, cond}
-use Rattle.std.specs.FinMap.{insert, remove, get}
+use Rattle.std.proofs.Common.{◌∙◌, ap, sym, cond}
+use Rattle.std.specs.FinMap.{insert, remove}
 use Rattle.g_plain.specs.PlainTree.{is_version_of}
 use Rattle.g_tree.specs.State.{newest_in}
 use Rattle.g_tree.proofs.CountLemmas.{newest_inserted, newest_removed}

@@ -1,7 +1,7 @@
 -- A greater generation than the one that is remembered takes its place.
 use Rattle.g_tree.proofs.CountLemmas.{newest_rises}
 use Rattle.g_tree.proofs.counts.Counts.rise.Goals as goal
-use Rattle.std.proofs.Common.{◌∙◌, ◌<◌, ap, sym, subst}
+use Rattle.std.proofs.Common.{◌∙◌, ◌<◌, ap, subst}
 use Rattle.std.specs.FinMap.{insert}
 
 pub returns-then-newest-full-clause-generations : goal.returns-then-newest-full-clause-generations

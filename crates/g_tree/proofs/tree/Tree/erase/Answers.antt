@@ -6,7 +6,7 @@ use Rattle.std.specs.FinMap.{get}
 use Rattle.std.proofs.lemmas.List.{get_or_default}
 use Rattle.g_base.specs.Block.{blocks_for}
 use Rattle.g_tree.specs.Records.{IsRecords, full_of, tree_of, by_number}
-use Rattle.g_tree.specs.State.{AreNewest, AreUsed, IsKept, without_file}
+use Rattle.g_tree.specs.State.{AreNewest, AreUsed, without_file}
 use Rattle.g_tree.specs.Answers.{newest_of}
 use Rattle.g_tree.specs.Places.{StandsAt, FitsAt}
 use Rattle.g_tree.proofs.PlaceLemmas.{fits_none}

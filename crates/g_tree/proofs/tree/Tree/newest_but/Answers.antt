@@ -1,8 +1,7 @@
 -- The newest stays where the file isn't it, and is the version before where that is there.
-use Rattle.std.proofs.Common.{◌≡◌, ◌≢◌, ◌+◌, ◌-◌, ℕ, get_or, sym, ap, ◌∙◌, arith}
+use Rattle.std.proofs.Common.{◌≡◌, ◌+◌, ◌-◌, get_or, sym, ap, ◌∙◌, arith}
 use Rattle.std.proofs.lemmas.List.{get_or_default}
-use Rattle.g_entry.specs.declared.file_rec.FileRec.{FileRec}
-use Rattle.g_tree.specs.Records.{full_of, number_of}
+use Rattle.g_tree.specs.Records.{number_of}
 use Rattle.g_tree.proofs.FreeLemmas.{no_file}
 use Rattle.g_tree.proofs.CountLemmas.{at_generation, generation_some, newest_kept, newest_next, newest_before}
 use Rattle.g_tree.proofs.tree.Tree.newest_but.Goals as goal

@@ -1,7 +1,6 @@
 -- The one file goes with its name, its version and its blocks, and the other comes with its own.
-use Rattle.std.proofs.Common.{◌≡◌, ◌<◌, ◌≤◌, ◌-◌, length, get_or, sym, ap, subst, ◌∙◌, arith}
+use Rattle.std.proofs.Common.{◌≡◌, ◌≤◌, ◌-◌, get_or, sym, ap, subst, ◌∙◌}
 use Rattle.std.proofs.Math.ListN.{set}
-use Rattle.std.proofs.lemmas.List.{length-set}
 use Rattle.std.specs.List.{remove as remove_at}
 use Rattle.std.specs.FinMap.{insert, remove}
 use Rattle.g_base.specs.Block.{blocks_for}

@@ -1,5 +1,5 @@
 -- Another name than the one before has room, and the same name needs none.
-use Rattle.std.proofs.Common.{◌≡◌, ◌≤◌, refl, sym, ap, subst, ◌∙◌}
+use Rattle.std.proofs.Common.{◌≡◌, sym, ap, subst, ◌∙◌}
 use Rattle.g_tree.specs.Records.{full_of, number_of}
 use Rattle.g_tree.specs.Places.{StandsAt}
 use Rattle.g_tree.proofs.PutLemmas.{named_stands, names_differ, still_room}

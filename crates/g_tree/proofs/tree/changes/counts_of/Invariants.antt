@@ -1,5 +1,5 @@
 -- What is remembered of the files so far, and room for the names of the others.
-use Rattle.std.proofs.Common.{◌≡◌, ◌+◌, ◌≤◌, take, length}
+use Rattle.std.proofs.Common.{◌+◌, ◌≤◌, take, length}
 use Rattle.g_tree.specs.State.{AreNewest, AreUsed}
 use Rattle.g_tree.proofs.tree.changes.counts_of.Given as goal
 

@@ -1,5 +1,5 @@
 -- The files in front of the gap have the numbers from 0 on, and the one at the end hasn't that of its place.
-use Rattle.std.proofs.Common.{◌≡◌, ◌≢◌, ◌<◌, ◌≤◌, ◌-◌, length, get_or}
+use Rattle.std.proofs.Common.{◌≢◌, ◌<◌, ◌≤◌, ◌-◌, length, get_or}
 use Rattle.g_entry.specs.declared.file_rec.FileRec.{FileRec}
 use Rattle.g_tree.proofs.FreeLemmas.{IsFilled}
 use Rattle.g_tree.proofs.tree.changes.free_in.Given as goal
