@@ -30,6 +30,7 @@ pub mod PinBlockLemmas
 pub mod CloseNoteLemmas
 pub mod CloseMarkLemmas
 pub mod CloseLemmas
+pub mod AdoptedLemmas
 pub mod PinPutLemmas
 pub mod PinWaitLemmas
 pub mod PinLemmas

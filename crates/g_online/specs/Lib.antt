@@ -10,3 +10,4 @@ pub mod Pins
 pub mod Dumped
 pub mod Put
 pub mod Room
+pub mod Ready
