@@ -10,24 +10,24 @@ ghost use Rattle.g_restore.specs.Steps.{IsFolded, IsOfDumps};
 use crate::dumps::Found;
 use crate::gather::{gather, greatest};
 use crate::places::first_lost;
-use g_base::NoMemory;
 use g_entry::{FileRec, UserRec};
+use g_incr::copied_users;
 use g_name::Full;
 use g_plain::StoreFault;
 use std::alloc::Global;
 
 /// The users and the next stamp of the last dump, its number, and the files of all users.
 #[derive(Drop)]
-pub(crate) struct Dumped {
-    pub(crate) number: u64,
-    pub(crate) next_stamp: u64,
-    pub(crate) users: Vec<UserRec>,
-    pub(crate) files: Vec<FileRec>,
+pub struct Dumped {
+    pub number: u64,
+    pub next_stamp: u64,
+    pub users: Vec<UserRec>,
+    pub files: Vec<FileRec>,
 }
 
 /// The directory that these dumps give together: the users of the one of greatest number, and of each user the files of the
 /// newest one that holds them. `NoDump` where there is none, `LostDirectory` and `LostCopy` as `rebuild` says; `NoMemory`.
-pub(crate) fn fold(alloc: Global, found: &[Found]) -> Result<Dumped, StoreFault>
+pub fn fold(alloc: Global, found: &[Found]) -> Result<Dumped, StoreFault>
     requires few { All HasFew found.now }
     ensures none { result ≡ Err StoreFault.NoDump → found.now ≡ [] }
     ensures lost { (dumps : List Dump) → AreKnown found.now dumps → AreApart dumps → NamesLost dumps result }
@@ -72,14 +72,4 @@ fn full_of(users: &[UserRec], file: &FileRec) -> Full
         generation: file.generation,
         lang: file.lang.copy(),
     }
-}
-
-fn copied_users(alloc: Global, users: &[UserRec]) -> Result<Vec<UserRec>, NoMemory>
-    ensures { IfOk result (λ copied. copied.items ≡ users.now) }
-{
-    let mut copied = Vec::with_capacity(alloc, users.len())?;
-    for user in users {
-        copied.push(user.copy())?;
-    }
-    Ok(copied)
 }

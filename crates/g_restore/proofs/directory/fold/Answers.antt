@@ -1,9 +1,9 @@
 use Rattle.std.proofs.Common.{◌∙◌, Err, ap, get_or, refl}
 use Rattle.g_restore.specs.declared.dumps.Found.{Found}
-use Rattle.g_restore.specs.declared.fold.Dumped.{Dumped}
+use Rattle.g_restore.specs.declared.directory.Dumped.{Dumped}
 use Rattle.g_restore.proofs.FoldLemmas.{folds, names_copy, names_directory, names_held}
 use Rattle.g_restore.proofs.KnownLemmas.{none_there}
-use Rattle.g_restore.proofs.fold.fold.Goals as goal
+use Rattle.g_restore.proofs.directory.fold.Goals as goal
 
 pub returns-in-None-clause-none : goal.returns-in-None-clause-none
 returns-in-None-clause-none c = λ is. none_there _ c.in-None.ensures
