@@ -1,6 +1,7 @@
 pub mod Change
 pub mod Allowed
 pub mod Done
+pub mod Faults
 pub mod Kept
 pub mod Committed
 pub mod Copies
