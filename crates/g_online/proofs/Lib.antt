@@ -22,6 +22,7 @@ pub mod FileLemmas
 pub mod EraseLemmas
 pub mod ForgetLemmas
 pub mod BegunLemmas
+pub mod PoolLemmas
 pub mod OffLemmas
 pub mod UnloadLemmas
 pub mod AdoptLemmas
@@ -37,10 +38,10 @@ pub mod PinLemmas
 pub mod PutLemmas
 pub mod BesideLemmas
 pub mod InsertLemmas
-pub mod RetakeLemmas
 pub mod TwoLemmas
 pub mod UnjamLemmas
 pub mod PutStepLemmas
 pub mod NeedLemmas
 pub mod WrittenLemmas
 pub mod BringStepLemmas
+pub mod NewBytesLemmas
