@@ -15,7 +15,6 @@ mod room;
 mod runs;
 mod say;
 mod stop;
-mod trimming;
 mod turning;
 mod uses;
 mod work;

@@ -12,10 +12,9 @@ ghost use Rattle.g_monitor.specs.declared.job_lines.Mark.TheVariants as mark;
 ghost use Rattle.g_plain.specs.Asks.{Gives, RanInPart, and_then};
 
 use crate::again::Again;
-use crate::trimming::trimmed;
 use crate::work::Work;
 use g_base::NoMemory;
-use g_lang::{LangFault, Line, parse_line};
+use g_lang::{LangFault, Line, parse_line, trimmed};
 use g_monitor::{CommandError, Mark};
 use g_name::{Text, User};
 use g_plain::Filestore;
