@@ -3,6 +3,7 @@
 
 mod acts;
 mod again;
+mod asker;
 mod asking;
 mod command;
 mod fetching;
@@ -20,6 +21,7 @@ mod uses;
 mod work;
 
 pub use again::Again;
+pub use asker::Asker;
 pub use made::Made;
 pub use stop::Stop;
 pub use work::Work;
