@@ -22,6 +22,11 @@ use Rattle.g_plain.specs.Asks.{Answer, Asks, RanInPart}
 use Rattle.g_plain.specs.declared.calls.StoreCall.{StoreCall}
 use Rattle.std.specs.Prelude.{nat_lt, if◌then◌else◌, ◌++◌, ◌+◌}
 
+-- what is so behind an error whatever came of it
+pub on_err : {T E P : Type 0} (r : Result T E) → P → OnErr r P
+on_err (Ok x) p = tt
+on_err (Err e) p = p
+
 -- nothing was asked before memory was wanting
 pub err_none : {S : Type 0} (answers : S → List ℕ → StoreCall → Answer → S → Type 0) (who : List ℕ) (p : Asks Work) (old : S) (r : Result (Unit {0}) NoMemory)
     → OnErr r (RanInPart answers who old p old)

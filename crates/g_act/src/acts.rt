@@ -13,6 +13,7 @@ ghost use Rattle.g_plain.specs.Asks.{RanInPart};
 ghost use Rattle.g_plain.specs.Rules.{IsWithinLimits};
 ghost use Rattle.g_verbs.specs.Verbs as verbs;
 
+use crate::asker::Asker;
 use crate::uses::Use;
 use crate::work::Work;
 use g_base::NoMemory;
@@ -76,10 +77,8 @@ impl Work {
     /// Does what a verb with its parameters asks for, of the user `who`; `by` tells that a WHENEVER does it.
     pub(crate) fn act<S: Filestore>(
         &mut self,
-        alloc: Global,
         store: &mut S,
-        who: &User,
-        room: usize,
+        asker: &Asker<'_>,
         by: bool,
         action: Action,
     ) -> Result<(), NoMemory>
@@ -88,33 +87,25 @@ impl Work {
         requires few { self.old.blocks ≤ 2048 }
         requires level { 0 < length self.old.desk.levels.levels }
         requires sound { verbs.IsSound action }
-        ensures ok { OnOk result (RanWell S.answers S.is_spent S.can_wait who.now store.old
-            (actions.act room who.now by action self.old) self.new store.new) }
-        ensures err { OnErr result (RanInPart S.answers who.now store.old
-            (actions.act room who.now by action self.old) store.new) }
+        ensures ok { OnOk result (RanWell S.answers S.is_spent S.can_wait asker.now.who.now store.old
+            (actions.act asker.now.room asker.now.who.now by action self.old) self.new store.new) }
+        ensures err { OnErr result (RanInPart S.answers asker.now.who.now store.old
+            (actions.act asker.now.room asker.now.who.now by action self.old) store.new) }
         ensures live { OnOk result (said.is_over self.new ≡ false → S.is_spent store.new ≡ false) }
         ensures same_waits { (s : ℕ) → S.can_wait store.new s ≡ S.can_wait store.old s }
         ensures blocks { OnOk result (self.new.blocks ≤ self.old.blocks + 2048) }
     {
-        match call_of(action, who) {
-            Ok(call) => match self.one_call(alloc, store, who, room, &call) {
-                Ok(()) => Ok(()),
-                Err(NoMemory) => Err(NoMemory),
-            },
-            Err(action) => match self.act_otherwise(alloc, store, who, room, by, action) {
-                Ok(()) => Ok(()),
-                Err(NoMemory) => Err(NoMemory),
-            },
+        match call_of(action, asker.who) {
+            Ok(call) => self.one_call(store, asker, &call),
+            Err(action) => self.act_otherwise(store, asker, by, action),
         }
     }
 
     /// Does what a verb asks for that isn't one call alone.
     fn act_otherwise<S: Filestore>(
         &mut self,
-        alloc: Global,
         store: &mut S,
-        who: &User,
-        room: usize,
+        asker: &Asker<'_>,
         by: bool,
         action: Action,
     ) -> Result<(), NoMemory>
@@ -124,42 +115,36 @@ impl Work {
         requires level { 0 < length self.old.desk.levels.levels }
         requires sound { verbs.IsSound action }
         requires kind { actions.is_one_call action ≡ false }
-        ensures ok { OnOk result (RanWell S.answers S.is_spent S.can_wait who.now store.old
-            (actions.act room who.now by action self.old) self.new store.new) }
-        ensures err { OnErr result (RanInPart S.answers who.now store.old
-            (actions.act room who.now by action self.old) store.new) }
+        ensures ok { OnOk result (RanWell S.answers S.is_spent S.can_wait asker.now.who.now store.old
+            (actions.act asker.now.room asker.now.who.now by action self.old) self.new store.new) }
+        ensures err { OnErr result (RanInPart S.answers asker.now.who.now store.old
+            (actions.act asker.now.room asker.now.who.now by action self.old) store.new) }
         ensures live { OnOk result (said.is_over self.new ≡ false → S.is_spent store.new ≡ false) }
         ensures same_waits { (s : ℕ) → S.can_wait store.new s ≡ S.can_wait store.old s }
         ensures blocks { OnOk result (self.new.blocks ≤ self.old.blocks + 2048) }
     {
         match action {
-            Action::Input { file } => self.input(alloc, store, who, room, file),
+            Action::Input { file } => self.input(store, asker, file),
             Action::Copy { from, to } => {
-                self.fetch(alloc, store, who, room, from, Mode::Read, Use::Put(to))
+                self.fetch(store, asker, from, Mode::Read, Use::Put(to))
             }
             Action::Append { from, to } => {
-                self.fetch(alloc, store, who, room, from, Mode::Read, Use::Append(to))
+                self.fetch(store, asker, from, Mode::Read, Use::Append(to))
             }
-            Action::ListFile { file } => {
-                self.fetch(alloc, store, who, room, file, Mode::Read, Use::List)
-            }
-            Action::Load { file } => {
-                self.fetch(alloc, store, who, room, file, Mode::Execute, Use::Load)
-            }
-            Action::Enter { n } => self.enter(alloc, room, by, n as u8),
-            Action::Resume => self.resume(alloc, room, by),
-            Action::Assign { unit, file } => self.assign(alloc, store, who, room, unit, file),
-            Action::Release { unit } => self.release(alloc, store, who, room, unit),
-            Action::Delete => self.delete(alloc, store, who, room),
+            Action::ListFile { file } => { self.fetch(store, asker, file, Mode::Read, Use::List) }
+            Action::Load { file } => { self.fetch(store, asker, file, Mode::Execute, Use::Load) }
+            Action::Enter { n } => self.enter(asker.alloc, asker.room, by, n as u8),
+            Action::Resume => self.resume(asker.alloc, asker.room, by),
+            Action::Assign { unit, file } => self.assign(store, asker, unit, file),
+            Action::Release { unit } => self.release(store, asker, unit),
+            Action::Delete => self.delete(store, asker),
             Action::SetParam { letter, text } => {
-                self.set_param(alloc, letter, text);
+                self.set_param(asker.alloc, letter, text);
                 Ok(())
             }
-            Action::Display { text } => self.display(alloc, room, text.as_slice()),
-            Action::EndJob => self.end_job(alloc, store, who, room),
-            Action::Macro { name, params } => {
-                self.look_up(alloc, store, who, room, &name, params)
-            }
+            Action::Display { text } => self.display(asker.alloc, asker.room, text.as_slice()),
+            Action::EndJob => self.end_job(store, asker),
+            Action::Macro { name, params } => { self.look_up(store, asker, &name, params) }
             _ => unreachable!(),
         }
     }
@@ -167,28 +152,23 @@ impl Work {
     /// INPUT: the lines up to `////` are put, and passed over whatever that answers.
     fn input<S: Filestore>(
         &mut self,
-        alloc: Global,
         store: &mut S,
-        who: &User,
-        room: usize,
+        asker: &Asker<'_>,
         file: Path,
     ) -> Result<(), NoMemory>
         requires running { S.is_spent store.old ≡ false }
         requires few { self.old.blocks ≤ 4096 }
         requires level { 0 < length self.old.desk.levels.levels }
-        ensures ok { OnOk result (RanWell S.answers S.is_spent S.can_wait who.now store.old
-            (actions.input room file self.old) self.new store.new) }
-        ensures err { OnErr result (RanInPart S.answers who.now store.old
-            (actions.input room file self.old) store.new) }
+        ensures ok { OnOk result (RanWell S.answers S.is_spent S.can_wait asker.now.who.now store.old
+            (actions.input asker.now.room file self.old) self.new store.new) }
+        ensures err { OnErr result (RanInPart S.answers asker.now.who.now store.old
+            (actions.input asker.now.room file self.old) store.new) }
         ensures live { OnOk result (said.is_over self.new ≡ false → S.is_spent store.new ≡ false) }
         ensures same_waits { (s : ℕ) → S.can_wait store.new s ≡ S.can_wait store.old s }
         ensures blocks { OnOk result (self.new.blocks ≤ self.old.blocks + 128) }
     {
-        match self.levels.document(alloc) {
-            Ok(bytes) => match self.put(alloc, store, who, room, true, file, bytes) {
-                Ok(()) => Ok(()),
-                Err(NoMemory) => Err(NoMemory),
-            },
+        match self.levels.document(asker.alloc) {
+            Ok(bytes) => self.put(store, asker, true, file, bytes),
             Err(_) => Err(NoMemory),
         }
     }

@@ -9,6 +9,7 @@ ghost use Rattle.g_plain.specs.Asks.{RanInPart};
 ghost use Rattle.g_plain.specs.Replies.{IsReplyTo};
 ghost use Rattle.g_plain.specs.Rules.{IsWithinLimits};
 
+use crate::asker::Asker;
 use crate::work::Work;
 use g_base::NoMemory;
 use g_name::{Full, Path, Text, User};
@@ -38,32 +39,24 @@ impl Work {
     /// A verb of one call that hands over no bytes: its reply is said.
     pub(crate) fn one_call<S: Filestore>(
         &mut self,
-        alloc: Global,
         store: &mut S,
-        who: &User,
-        room: usize,
+        asker: &Asker<'_>,
         call: &StoreCall,
     ) -> Result<(), NoMemory>
         requires running { S.is_spent store.old ≡ false }
         requires open { said.is_over self.old ≡ false }
         requires limits { IsWithinLimits call.now }
-        ensures ok { OnOk result (RanWell S.answers S.is_spent S.can_wait who.now store.old
-            (asking.one_call room call.now self.old) self.new store.new) }
-        ensures err { OnErr result (RanInPart S.answers who.now store.old
-            (asking.one_call room call.now self.old) store.new) }
+        ensures ok { OnOk result (RanWell S.answers S.is_spent S.can_wait asker.now.who.now store.old
+            (asking.one_call asker.now.room call.now self.old) self.new store.new) }
+        ensures err { OnErr result (RanInPart S.answers asker.now.who.now store.old
+            (asking.one_call asker.now.room call.now self.old) store.new) }
         ensures live { OnOk result (said.is_over self.new ≡ false → S.is_spent store.new ≡ false) }
         ensures same_waits { (s : ℕ) → S.can_wait store.new s ≡ S.can_wait store.old s }
         ensures blocks { OnOk result (self.new.blocks ≡ self.old.blocks) }
     {
-        match ask_any(alloc, store, who, call) {
-            Ok(Ok(reply)) => match self.grant(alloc, room, call, &reply) {
-                Ok(()) => Ok(()),
-                Err(NoMemory) => Err(NoMemory),
-            },
-            Ok(Err(fault)) => match self.refuse(alloc, room, &fault) {
-                Ok(()) => Ok(()),
-                Err(NoMemory) => Err(NoMemory),
-            },
+        match ask_any(asker.alloc, store, asker.who, call) {
+            Ok(Ok(reply)) => self.grant(asker.alloc, asker.room, call, &reply),
+            Ok(Err(fault)) => self.refuse(asker.alloc, asker.room, &fault),
             Err(NoMemory) => Err(NoMemory),
         }
     }
@@ -91,40 +84,32 @@ impl Work {
     /// stands.
     pub(crate) fn put<S: Filestore>(
         &mut self,
-        alloc: Global,
         store: &mut S,
-        who: &User,
-        room: usize,
+        asker: &Asker<'_>,
         comes_well: bool,
         path: Path,
         bytes: Text,
     ) -> Result<(), NoMemory>
         requires running { S.is_spent store.old ≡ false }
         requires few { self.old.blocks ≤ 4096 }
-        ensures ok { OnOk result (RanWell S.answers S.is_spent S.can_wait who.now store.old
-            (asking.put room comes_well path bytes self.old) self.new store.new) }
-        ensures err { OnErr result (RanInPart S.answers who.now store.old
-            (asking.put room comes_well path bytes self.old) store.new) }
+        ensures ok { OnOk result (RanWell S.answers S.is_spent S.can_wait asker.now.who.now store.old
+            (asking.put asker.now.room comes_well path bytes self.old) self.new store.new) }
+        ensures err { OnErr result (RanInPart S.answers asker.now.who.now store.old
+            (asking.put asker.now.room comes_well path bytes self.old) store.new) }
         ensures live { OnOk result (said.is_over self.new ≡ false → S.is_spent store.new ≡ false) }
         ensures same_waits { (s : ℕ) → S.can_wait store.new s ≡ S.can_wait store.old s }
         ensures blocks { OnOk result (self.new.blocks ≤ self.old.blocks + 128) }
     {
         let len = bytes.as_slice().len();
         let call = StoreCall::Put { path, bytes };
-        match ask_any(alloc, store, who, &call) {
+        match ask_any(asker.alloc, store, asker.who, &call) {
             Ok(Ok(reply)) => match reply {
                 StoreReply::Made(full) => {
-                    match self.say_handed(alloc, room, comes_well, len, b"MADE ", &full) {
-                        Ok(()) => Ok(()),
-                        Err(NoMemory) => Err(NoMemory),
-                    }
+                    self.say_handed(asker.alloc, asker.room, comes_well, len, b"MADE ", &full)
                 }
                 _ => Ok(()),
             },
-            Ok(Err(fault)) => match self.refuse(alloc, room, &fault) {
-                Ok(()) => Ok(()),
-                Err(NoMemory) => Err(NoMemory),
-            },
+            Ok(Err(fault)) => self.refuse(asker.alloc, asker.room, &fault),
             Err(NoMemory) => Err(NoMemory),
         }
     }
@@ -132,39 +117,31 @@ impl Work {
     /// Puts bytes behind those of a file.
     pub(crate) fn append<S: Filestore>(
         &mut self,
-        alloc: Global,
         store: &mut S,
-        who: &User,
-        room: usize,
+        asker: &Asker<'_>,
         path: Path,
         bytes: Text,
     ) -> Result<(), NoMemory>
         requires running { S.is_spent store.old ≡ false }
         requires few { self.old.blocks ≤ 4096 }
-        ensures ok { OnOk result (RanWell S.answers S.is_spent S.can_wait who.now store.old
-            (asking.append room path bytes self.old) self.new store.new) }
-        ensures err { OnErr result (RanInPart S.answers who.now store.old
-            (asking.append room path bytes self.old) store.new) }
+        ensures ok { OnOk result (RanWell S.answers S.is_spent S.can_wait asker.now.who.now store.old
+            (asking.append asker.now.room path bytes self.old) self.new store.new) }
+        ensures err { OnErr result (RanInPart S.answers asker.now.who.now store.old
+            (asking.append asker.now.room path bytes self.old) store.new) }
         ensures live { OnOk result (said.is_over self.new ≡ false → S.is_spent store.new ≡ false) }
         ensures same_waits { (s : ℕ) → S.can_wait store.new s ≡ S.can_wait store.old s }
         ensures blocks { OnOk result (self.new.blocks ≤ self.old.blocks + 128) }
     {
         let len = bytes.as_slice().len();
         let call = StoreCall::Append { path, bytes };
-        match ask_any(alloc, store, who, &call) {
+        match ask_any(asker.alloc, store, asker.who, &call) {
             Ok(Ok(reply)) => match reply {
                 StoreReply::Appended(full) => {
-                    match self.say_handed(alloc, room, true, len, b"APPENDED ", &full) {
-                        Ok(()) => Ok(()),
-                        Err(NoMemory) => Err(NoMemory),
-                    }
+                    self.say_handed(asker.alloc, asker.room, true, len, b"APPENDED ", &full)
                 }
                 _ => Ok(()),
             },
-            Ok(Err(fault)) => match self.refuse(alloc, room, &fault) {
-                Ok(()) => Ok(()),
-                Err(NoMemory) => Err(NoMemory),
-            },
+            Ok(Err(fault)) => self.refuse(asker.alloc, asker.room, &fault),
             Err(NoMemory) => Err(NoMemory),
         }
     }

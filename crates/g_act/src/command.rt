@@ -11,13 +11,14 @@ ghost use Rattle.g_plain.specs.Asks.{RanInPart};
 ghost use Rattle.g_monitor.specs.declared.errors.CommandError.TheVariants as errors;
 ghost use Rattle.g_verbs.specs.How.{action_read};
 
+use crate::asker::Asker;
 use crate::work::Work;
 use g_base::NoMemory;
 use g_lang::{Command, Cond, Label};
 use g_lines::Texts;
 use g_macro::MacroFault;
 use g_monitor::CommandError;
-use g_name::{Local, Text, User};
+use g_name::{Local, Text};
 use g_plain::Filestore;
 use g_verbs::{VerbFault, read_verb};
 use std::alloc::Global;
@@ -27,10 +28,8 @@ impl Work {
     /// of a label alone, and behind an IF whose condition doesn't hold.
     pub(crate) fn do_command<S: Filestore>(
         &mut self,
-        alloc: Global,
         store: &mut S,
-        who: &User,
-        room: usize,
+        asker: &Asker<'_>,
         by: bool,
         command: Command,
     ) -> Result<(), NoMemory>
@@ -39,19 +38,16 @@ impl Work {
         requires few { self.old.blocks ≤ 2048 }
         requires level { 0 < length self.old.desk.levels.levels }
         requires spoken { IfSome (command_said command) IsSpoken }
-        ensures ok { OnOk result (RanWell S.answers S.is_spent S.can_wait who.now store.old
-            (commands.done_if room who.now by (command_said command) self.old) self.new store.new) }
-        ensures err { OnErr result (RanInPart S.answers who.now store.old
-            (commands.done_if room who.now by (command_said command) self.old) store.new) }
+        ensures ok { OnOk result (RanWell S.answers S.is_spent S.can_wait asker.now.who.now store.old
+            (commands.done_if asker.now.room asker.now.who.now by (command_said command) self.old) self.new store.new) }
+        ensures err { OnErr result (RanInPart S.answers asker.now.who.now store.old
+            (commands.done_if asker.now.room asker.now.who.now by (command_said command) self.old) store.new) }
         ensures live { OnOk result (said.is_over self.new ≡ false → S.is_spent store.new ≡ false) }
         ensures same_waits { (s : ℕ) → S.can_wait store.new s ≡ S.can_wait store.old s }
         ensures blocks { OnOk result (self.new.blocks ≤ self.old.blocks + 2048) }
     {
         match self.met(command) {
-            Some(command) => match self.command(alloc, store, who, room, by, command) {
-                Ok(()) => Ok(()),
-                Err(NoMemory) => Err(NoMemory),
-            },
+            Some(command) => self.command(store, asker, by, command),
             None => Ok(()),
         }
     }
@@ -79,10 +75,8 @@ impl Work {
     /// Does a command that stands behind no condition.
     fn command<S: Filestore>(
         &mut self,
-        alloc: Global,
         store: &mut S,
-        who: &User,
-        room: usize,
+        asker: &Asker<'_>,
         by: bool,
         command: Command,
     ) -> Result<(), NoMemory>
@@ -92,28 +86,24 @@ impl Work {
         requires level { 0 < length self.old.desk.levels.levels }
         requires spoken { IfSome (command_said command) IsSpoken }
         requires bare { IsBare command }
-        ensures ok { OnOk result (RanWell S.answers S.is_spent S.can_wait who.now store.old
-            (commands.done_if room who.now by (command_said command) self.old) self.new store.new) }
-        ensures err { OnErr result (RanInPart S.answers who.now store.old
-            (commands.done_if room who.now by (command_said command) self.old) store.new) }
+        ensures ok { OnOk result (RanWell S.answers S.is_spent S.can_wait asker.now.who.now store.old
+            (commands.done_if asker.now.room asker.now.who.now by (command_said command) self.old) self.new store.new) }
+        ensures err { OnErr result (RanInPart S.answers asker.now.who.now store.old
+            (commands.done_if asker.now.room asker.now.who.now by (command_said command) self.old) store.new) }
         ensures live { OnOk result (said.is_over self.new ≡ false → S.is_spent store.new ≡ false) }
         ensures same_waits { (s : ℕ) → S.can_wait store.new s ≡ S.can_wait store.old s }
         ensures blocks { OnOk result (self.new.blocks ≤ self.old.blocks + 2048) }
     {
         match command {
-            Command::Goto(label) => match self.go_to(alloc, room, &label) {
-                Ok(()) => Ok(()),
-                Err(NoMemory) => Err(NoMemory),
-            },
-            Command::Whenever { cond, command } => match self.keep(alloc, room, cond, command) {
-                Ok(()) => Ok(()),
-                Err(NoMemory) => Err(NoMemory),
-            },
+            Command::Goto(label) => self.go_to(asker.alloc, asker.room, &label),
+            Command::Whenever { cond, command } => self.keep(
+                asker.alloc,
+                asker.room,
+                cond,
+                command,
+            ),
             Command::Verb { name, params, rest } => {
-                match self.verb(alloc, store, who, room, by, &name, params, rest) {
-                    Ok(()) => Ok(()),
-                    Err(NoMemory) => Err(NoMemory),
-                }
+                self.verb(store, asker, by, &name, params, rest)
             }
             Command::Blank | Command::If { .. } => Ok(()),
         }
@@ -159,10 +149,8 @@ impl Work {
     /// A verb, or a macro.
     fn verb<S: Filestore>(
         &mut self,
-        alloc: Global,
         store: &mut S,
-        who: &User,
-        room: usize,
+        asker: &Asker<'_>,
         by: bool,
         name: &Local,
         params: Texts,
@@ -172,26 +160,20 @@ impl Work {
         requires open { said.is_over self.old ≡ false }
         requires few { self.old.blocks ≤ 2048 }
         requires level { 0 < length self.old.desk.levels.levels }
-        ensures ok { OnOk result (RanWell S.answers S.is_spent S.can_wait who.now store.old
-            (commands.acted room who.now by name.now (action_read name.now params rest) self.old)
+        ensures ok { OnOk result (RanWell S.answers S.is_spent S.can_wait asker.now.who.now store.old
+            (commands.acted asker.now.room asker.now.who.now by name.now (action_read name.now params rest) self.old)
             self.new store.new) }
-        ensures err { OnErr result (RanInPart S.answers who.now store.old
-            (commands.acted room who.now by name.now (action_read name.now params rest) self.old)
+        ensures err { OnErr result (RanInPart S.answers asker.now.who.now store.old
+            (commands.acted asker.now.room asker.now.who.now by name.now (action_read name.now params rest) self.old)
             store.new) }
         ensures live { OnOk result (said.is_over self.new ≡ false → S.is_spent store.new ≡ false) }
         ensures same_waits { (s : ℕ) → S.can_wait store.new s ≡ S.can_wait store.old s }
         ensures blocks { OnOk result (self.new.blocks ≤ self.old.blocks + 2048) }
     {
         match read_verb(name, params, rest) {
-            Ok(action) => match self.act(alloc, store, who, room, by, action) {
-                Ok(()) => Ok(()),
-                Err(NoMemory) => Err(NoMemory),
-            },
+            Ok(action) => self.act(store, asker, by, action),
             Err(VerbFault::BadParameter(index)) => {
-                match self.bad_parameter(alloc, room, name, index) {
-                    Ok(()) => Ok(()),
-                    Err(NoMemory) => Err(NoMemory),
-                }
+                self.bad_parameter(asker.alloc, asker.room, name, index)
             }
         }
     }

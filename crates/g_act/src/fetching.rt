@@ -9,13 +9,14 @@ ghost use Rattle.g_peri.specs.Held as held;
 ghost use Rattle.g_plain.specs.Asks.{RanInPart};
 ghost use Rattle.g_trap.specs.declared.mode_set.Mode.{Mode};
 
+use crate::asker::Asker;
 use crate::asking::ask_any;
 use crate::uses::Use;
 use crate::work::Work;
 use g_base::NoMemory;
 use g_mill::{LoadFault, Program, load};
 use g_monitor::{CommandError, JobLine};
-use g_name::{Full, Path, Text, User};
+use g_name::{Full, Path, Text};
 use g_peri::{Kind, Unit};
 use g_plain::{Filestore, StoreCall, StoreReply};
 use g_trap::Mode;
@@ -25,10 +26,8 @@ impl Work {
     /// Fetches a file, and uses its bytes.
     pub(crate) fn fetch<S: Filestore>(
         &mut self,
-        alloc: Global,
         store: &mut S,
-        who: &User,
-        room: usize,
+        asker: &Asker<'_>,
         path: Path,
         mode: Mode,
         use_for: Use,
@@ -37,29 +36,23 @@ impl Work {
         requires open { said.is_over self.old ≡ false }
         requires few { self.old.blocks ≤ 2048 }
         requires free { uses.IsFree (use_of use_for) self.old.desk.units }
-        ensures ok { OnOk result (RanWell S.answers S.is_spent S.can_wait who.now store.old
-            (uses.fetch room path mode (use_of use_for) self.old) self.new store.new) }
-        ensures err { OnErr result (RanInPart S.answers who.now store.old
-            (uses.fetch room path mode (use_of use_for) self.old) store.new) }
+        ensures ok { OnOk result (RanWell S.answers S.is_spent S.can_wait asker.now.who.now store.old
+            (uses.fetch asker.now.room path mode (use_of use_for) self.old) self.new store.new) }
+        ensures err { OnErr result (RanInPart S.answers asker.now.who.now store.old
+            (uses.fetch asker.now.room path mode (use_of use_for) self.old) store.new) }
         ensures live { OnOk result (said.is_over self.new ≡ false → S.is_spent store.new ≡ false) }
         ensures same_waits { (s : ℕ) → S.can_wait store.new s ≡ S.can_wait store.old s }
         ensures blocks { OnOk result (self.new.blocks ≤ self.old.blocks + 256) }
     {
         let call = StoreCall::Fetch { path, mode };
-        match ask_any(alloc, store, who, &call) {
+        match ask_any(asker.alloc, store, asker.who, &call) {
             Ok(Ok(reply)) => match reply {
                 StoreReply::Bytes { full, bytes } => {
-                    match self.use_fetched(alloc, store, who, room, use_for, full, bytes) {
-                        Ok(()) => Ok(()),
-                        Err(NoMemory) => Err(NoMemory),
-                    }
+                    self.use_fetched(store, asker, use_for, full, bytes)
                 }
                 _ => Ok(()),
             },
-            Ok(Err(fault)) => match self.refuse(alloc, room, &fault) {
-                Ok(()) => Ok(()),
-                Err(NoMemory) => Err(NoMemory),
-            },
+            Ok(Err(fault)) => self.refuse(asker.alloc, asker.room, &fault),
             Err(NoMemory) => Err(NoMemory),
         }
     }
@@ -67,10 +60,8 @@ impl Work {
     /// Uses bytes that were fetched; their blocks count.
     fn use_fetched<S: Filestore>(
         &mut self,
-        alloc: Global,
         store: &mut S,
-        who: &User,
-        room: usize,
+        asker: &Asker<'_>,
         use_for: Use,
         full: Full,
         bytes: Text,
@@ -81,12 +72,12 @@ impl Work {
         requires free { uses.IsFree (use_of use_for) self.old.desk.units }
         requires short { length bytes ≤ 65536 }
         ensures ok { (path : Path) (m : Mode) → OnOk result
-            (RanWell S.answers S.is_spent S.can_wait who.now store.old
-            (uses.use_bytes room path m (use_of use_for) full bytes
+            (RanWell S.answers S.is_spent S.can_wait asker.now.who.now store.old
+            (uses.use_bytes asker.now.room path m (use_of use_for) full bytes
             (said.with_bytes (length bytes) self.old)) self.new store.new) }
         ensures err { (path : Path) (m : Mode) → OnErr result
-            (RanInPart S.answers who.now store.old
-            (uses.use_bytes room path m (use_of use_for) full bytes
+            (RanInPart S.answers asker.now.who.now store.old
+            (uses.use_bytes asker.now.room path m (use_of use_for) full bytes
             (said.with_bytes (length bytes) self.old)) store.new) }
         ensures live { OnOk result (said.is_over self.new ≡ false → S.is_spent store.new ≡ false) }
         ensures same_waits { (s : ℕ) → S.can_wait store.new s ≡ S.can_wait store.old s }
@@ -94,27 +85,12 @@ impl Work {
     {
         self.count_bytes(bytes.as_slice().len());
         match use_for {
-            Use::Put(to) => match self.put(alloc, store, who, room, true, to, bytes) {
-                Ok(()) => Ok(()),
-                Err(NoMemory) => Err(NoMemory),
-            },
-            Use::Append(to) => match self.append(alloc, store, who, room, to, bytes) {
-                Ok(()) => Ok(()),
-                Err(NoMemory) => Err(NoMemory),
-            },
-            Use::List => match self.list_bytes(alloc, room, &full, bytes.as_slice()) {
-                Ok(()) => Ok(()),
-                Err(NoMemory) => Err(NoMemory),
-            },
-            Use::Load => match self.load_bytes(alloc, room, bytes.as_slice()) {
-                Ok(()) => Ok(()),
-                Err(NoMemory) => Err(NoMemory),
-            },
+            Use::Put(to) => self.put(store, asker, true, to, bytes),
+            Use::Append(to) => self.append(store, asker, to, bytes),
+            Use::List => self.list_bytes(asker.alloc, asker.room, &full, bytes.as_slice()),
+            Use::Load => self.load_bytes(asker.alloc, asker.room, bytes.as_slice()),
             Use::Assign { unit, file } => {
-                match self.assign_reader(alloc, room, unit, file, bytes) {
-                    Ok(()) => Ok(()),
-                    Err(NoMemory) => Err(NoMemory),
-                }
+                self.assign_reader(asker.alloc, asker.room, unit, file, bytes)
             }
         }
     }
@@ -125,15 +101,9 @@ impl Work {
         ensures blocks { OnOk result (self.new.blocks ≡ self.old.blocks) }
     {
         match load(alloc, bytes) {
-            Ok(program) => match self.take_program(alloc, room, program) {
-                Ok(()) => Ok(()),
-                Err(NoMemory) => Err(NoMemory),
-            },
+            Ok(program) => self.take_program(alloc, room, program),
             Err(LoadFault::BadProgram(line)) => {
-                match self.in_error(alloc, room, CommandError::BadProgram(line)) {
-                    Ok(()) => Ok(()),
-                    Err(NoMemory) => Err(NoMemory),
-                }
+                self.in_error(alloc, room, CommandError::BadProgram(line))
             }
             Err(LoadFault::NoMemory) => Err(NoMemory),
         }
@@ -196,41 +166,30 @@ impl Work {
     /// ASSIGN: a card reader to the lines of a file, a printer or a punch to the path of its output.
     pub(crate) fn assign<S: Filestore>(
         &mut self,
-        alloc: Global,
         store: &mut S,
-        who: &User,
-        room: usize,
+        asker: &Asker<'_>,
         unit: Unit,
         file: Path,
     ) -> Result<(), NoMemory>
         requires running { S.is_spent store.old ≡ false }
         requires open { said.is_over self.old ≡ false }
         requires few { self.old.blocks ≤ 2048 }
-        ensures ok { OnOk result (RanWell S.answers S.is_spent S.can_wait who.now store.old
-            (uses.assign room unit file self.old) self.new store.new) }
-        ensures err { OnErr result (RanInPart S.answers who.now store.old
-            (uses.assign room unit file self.old) store.new) }
+        ensures ok { OnOk result (RanWell S.answers S.is_spent S.can_wait asker.now.who.now store.old
+            (uses.assign asker.now.room unit file self.old) self.new store.new) }
+        ensures err { OnErr result (RanInPart S.answers asker.now.who.now store.old
+            (uses.assign asker.now.room unit file self.old) store.new) }
         ensures live { OnOk result (said.is_over self.new ≡ false → S.is_spent store.new ≡ false) }
         ensures same_waits { (s : ℕ) → S.can_wait store.new s ≡ S.can_wait store.old s }
         ensures blocks { OnOk result (self.new.blocks ≤ self.old.blocks + 256) }
     {
         if self.units.assigned(unit) {
-            match self.in_error(alloc, room, CommandError::InUse) {
-                Ok(()) => Ok(()),
-                Err(NoMemory) => Err(NoMemory),
-            }
+            self.in_error(asker.alloc, asker.room, CommandError::InUse)
         } else if is_reader(unit.kind) {
             let path = file.copy();
             let use_for = Use::Assign { unit, file };
-            match self.fetch(alloc, store, who, room, path, Mode::Read, use_for) {
-                Ok(()) => Ok(()),
-                Err(NoMemory) => Err(NoMemory),
-            }
+            self.fetch(store, asker, path, Mode::Read, use_for)
         } else {
-            match self.keep_output(alloc, room, unit, file) {
-                Ok(()) => Ok(()),
-                Err(NoMemory) => Err(NoMemory),
-            }
+            self.keep_output(asker.alloc, asker.room, unit, file)
         }
     }
 }

@@ -3,6 +3,7 @@
 
 mod acts;
 mod again;
+mod asker;
 mod asking;
 mod command;
 mod fetching;
@@ -15,12 +16,12 @@ mod room;
 mod runs;
 mod say;
 mod stop;
-mod trimming;
 mod turning;
 mod uses;
 mod work;
 
 pub use again::Again;
+pub use asker::Asker;
 pub use made::Made;
 pub use stop::Stop;
 pub use work::Work;

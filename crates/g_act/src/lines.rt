@@ -12,12 +12,12 @@ ghost use Rattle.g_monitor.specs.declared.job_lines.Mark.TheVariants as mark;
 ghost use Rattle.g_plain.specs.Asks.{Gives, RanInPart, and_then};
 
 use crate::again::Again;
-use crate::trimming::trimmed;
+use crate::asker::Asker;
 use crate::work::Work;
 use g_base::NoMemory;
-use g_lang::{LangFault, Line, parse_line};
+use g_lang::{LangFault, Line, parse_line, trimmed};
 use g_monitor::{CommandError, Mark};
-use g_name::{Text, User};
+use g_name::Text;
 use g_plain::Filestore;
 use std::alloc::Global;
 
@@ -25,31 +25,26 @@ impl Work {
     /// Does a line that was taken: its echo, its command, and the WHENEVER behind it.
     pub(crate) fn line<S: Filestore>(
         &mut self,
-        alloc: Global,
         store: &mut S,
-        who: &User,
-        room: usize,
+        asker: &Asker<'_>,
         text: Text,
     ) -> Result<(), NoMemory>
         requires running { S.is_spent store.old ≡ false }
         requires few { self.old.blocks ≡ 0 }
         requires level { 0 < length self.old.desk.levels.levels }
-        ensures ok { OnOk result (RanWell S.answers S.is_spent S.can_wait who.now store.old
-            (lines.line room who.now text self.old) self.new store.new) }
-        ensures err { OnErr result (RanInPart S.answers who.now store.old
-            (lines.line room who.now text self.old) store.new) }
+        ensures ok { OnOk result (RanWell S.answers S.is_spent S.can_wait asker.now.who.now store.old
+            (lines.line asker.now.room asker.now.who.now text self.old) self.new store.new) }
+        ensures err { OnErr result (RanInPart S.answers asker.now.who.now store.old
+            (lines.line asker.now.room asker.now.who.now text self.old) store.new) }
         ensures same_waits { (s : ℕ) → S.can_wait store.new s ≡ S.can_wait store.old s }
         ensures ready { OnOk result (IsReady self.new) }
     {
-        let read = read_line(alloc, text.as_slice())?;
-        self.say_line(alloc, room, text)?;
+        let read = read_line(asker.alloc, text.as_slice())?;
+        self.say_line(asker.alloc, asker.room, text)?;
         if self.is_over() {
             return Ok(());
         }
-        match self.behind_echo(alloc, store, who, room, read) {
-            Ok(()) => Ok(()),
-            Err(NoMemory) => Err(NoMemory),
-        }
+        self.behind_echo(store, asker, read)
     }
 
     /// Says the echo of a line; where its command waits, the turn is gone on with at this line.
@@ -68,10 +63,8 @@ impl Work {
     /// The command of a line behind its echo, and the WHENEVER behind it.
     fn behind_echo<S: Filestore>(
         &mut self,
-        alloc: Global,
         store: &mut S,
-        who: &User,
-        room: usize,
+        asker: &Asker<'_>,
         read: Result<Line, usize>,
     ) -> Result<(), NoMemory>
         requires running { S.is_spent store.old ≡ false }
@@ -80,33 +73,25 @@ impl Work {
         requires level { 0 < length self.old.desk.levels.levels }
         requires read { IsReadWell read }
         requires ready { IsReady self.old }
-        ensures ok { OnOk result (RanWell S.answers S.is_spent S.can_wait who.now store.old
-            (and_then said.is_over (lines.does_line room who.now (read_as read) self.old) (lines.may_fire room who.now)) self.new store.new) }
-        ensures err { OnErr result (RanInPart S.answers who.now store.old
-            (and_then said.is_over (lines.does_line room who.now (read_as read) self.old) (lines.may_fire room who.now)) store.new) }
+        ensures ok { OnOk result (RanWell S.answers S.is_spent S.can_wait asker.now.who.now store.old
+            (and_then said.is_over (lines.does_line asker.now.room asker.now.who.now (read_as read) self.old) (lines.may_fire asker.now.room asker.now.who.now)) self.new store.new) }
+        ensures err { OnErr result (RanInPart S.answers asker.now.who.now store.old
+            (and_then said.is_over (lines.does_line asker.now.room asker.now.who.now (read_as read) self.old) (lines.may_fire asker.now.room asker.now.who.now)) store.new) }
         ensures same_waits { (s : ℕ) → S.can_wait store.new s ≡ S.can_wait store.old s }
         ensures ready { OnOk result (IsReady self.new) }
     {
-        match self.do_line(alloc, store, who, room, read) {
-            Ok(()) => {}
-            Err(NoMemory) => return Err(NoMemory),
-        }
+        self.do_line(store, asker, read)?;
         if self.is_over() {
             return Ok(());
         }
-        match self.may_fire(alloc, store, who, room) {
-            Ok(()) => Ok(()),
-            Err(NoMemory) => Err(NoMemory),
-        }
+        self.may_fire(store, asker)
     }
 
     /// The command of a line, or the error of a bad one.
     fn do_line<S: Filestore>(
         &mut self,
-        alloc: Global,
         store: &mut S,
-        who: &User,
-        room: usize,
+        asker: &Asker<'_>,
         read: Result<Line, usize>,
     ) -> Result<(), NoMemory>
         requires running { S.is_spent store.old ≡ false }
@@ -115,110 +100,85 @@ impl Work {
         requires level { 0 < length self.old.desk.levels.levels }
         requires read { IsReadWell read }
         requires ready { IsReady self.old }
-        ensures ok { OnOk result (RanWell S.answers S.is_spent S.can_wait who.now store.old
-            (lines.does_line room who.now (read_as read) self.old) self.new store.new) }
-        ensures err { OnErr result (RanInPart S.answers who.now store.old
-            (lines.does_line room who.now (read_as read) self.old) store.new) }
+        ensures ok { OnOk result (RanWell S.answers S.is_spent S.can_wait asker.now.who.now store.old
+            (lines.does_line asker.now.room asker.now.who.now (read_as read) self.old) self.new store.new) }
+        ensures err { OnErr result (RanInPart S.answers asker.now.who.now store.old
+            (lines.does_line asker.now.room asker.now.who.now (read_as read) self.old) store.new) }
         ensures live { OnOk result (said.is_over self.new ≡ false → S.is_spent store.new ≡ false) }
         ensures same_waits { (s : ℕ) → S.can_wait store.new s ≡ S.can_wait store.old s }
         ensures blocks { OnOk result (self.new.blocks ≤ self.old.blocks + 2048) }
         ensures ready { OnOk result (IsReady self.new) }
     {
         match read {
-            Ok(line) => match self.do_command(alloc, store, who, room, false, line.command) {
-                Ok(()) => Ok(()),
-                Err(NoMemory) => Err(NoMemory),
-            },
-            Err(place) => match self.in_error(alloc, room, CommandError::BadLine(place)) {
-                Ok(()) => Ok(()),
-                Err(NoMemory) => Err(NoMemory),
-            },
+            Ok(line) => self.do_command(store, asker, false, line.command),
+            Err(place) => self.in_error(asker.alloc, asker.room, CommandError::BadLine(place)),
         }
     }
 
     /// Does a line above 240 bytes, of which these are the first 240: it is bad.
     pub(crate) fn long_line<S: Filestore>(
         &mut self,
-        alloc: Global,
         store: &mut S,
-        who: &User,
-        room: usize,
+        asker: &Asker<'_>,
         front: Text,
     ) -> Result<(), NoMemory>
         requires running { S.is_spent store.old ≡ false }
         requires few { self.old.blocks ≤ 2048 }
         requires ready { IsReady self.old }
-        ensures ok { OnOk result (RanWell S.answers S.is_spent S.can_wait who.now store.old
-            (lines.long_line room who.now front self.old) self.new store.new) }
-        ensures err { OnErr result (RanInPart S.answers who.now store.old
-            (lines.long_line room who.now front self.old) store.new) }
+        ensures ok { OnOk result (RanWell S.answers S.is_spent S.can_wait asker.now.who.now store.old
+            (lines.long_line asker.now.room asker.now.who.now front self.old) self.new store.new) }
+        ensures err { OnErr result (RanInPart S.answers asker.now.who.now store.old
+            (lines.long_line asker.now.room asker.now.who.now front self.old) store.new) }
         ensures same_waits { (s : ℕ) → S.can_wait store.new s ≡ S.can_wait store.old s }
         ensures ready { OnOk result (IsReady self.new) }
     {
-        self.say_marked(alloc, room, Mark::Taken, front.as_slice())?;
+        self.say_marked(asker.alloc, asker.room, Mark::Taken, front.as_slice())?;
         if self.is_over() {
             return Ok(());
         }
-        match self.too_long(alloc, store, who, room) {
-            Ok(()) => Ok(()),
-            Err(NoMemory) => Err(NoMemory),
-        }
+        self.too_long(store, asker)
     }
 
     /// The error of a line above 240 bytes, and the WHENEVER behind it.
-    fn too_long<S: Filestore>(
-        &mut self,
-        alloc: Global,
-        store: &mut S,
-        who: &User,
-        room: usize,
-    ) -> Result<(), NoMemory>
+    fn too_long<S: Filestore>(&mut self, store: &mut S, asker: &Asker<'_>) -> Result<(), NoMemory>
         requires running { S.is_spent store.old ≡ false }
         requires few { self.old.blocks ≤ 2048 }
         requires ready { IsReady self.old }
-        ensures ok { OnOk result (RanWell S.answers S.is_spent S.can_wait who.now store.old
-            (lines.too_long room who.now self.old) self.new store.new) }
-        ensures err { OnErr result (RanInPart S.answers who.now store.old
-            (lines.too_long room who.now self.old) store.new) }
+        ensures ok { OnOk result (RanWell S.answers S.is_spent S.can_wait asker.now.who.now store.old
+            (lines.too_long asker.now.room asker.now.who.now self.old) self.new store.new) }
+        ensures err { OnErr result (RanInPart S.answers asker.now.who.now store.old
+            (lines.too_long asker.now.room asker.now.who.now self.old) store.new) }
         ensures same_waits { (s : ℕ) → S.can_wait store.new s ≡ S.can_wait store.old s }
         ensures ready { OnOk result (IsReady self.new) }
     {
-        self.in_error(alloc, room, CommandError::BadLine(240))?;
+        self.in_error(asker.alloc, asker.room, CommandError::BadLine(240))?;
         if self.is_over() {
             return Ok(());
         }
-        match self.may_fire(alloc, store, who, room) {
-            Ok(()) => Ok(()),
-            Err(NoMemory) => Err(NoMemory),
-        }
+        self.may_fire(store, asker)
     }
 
     /// Does the WHENEVER behind a command that set the outcome, if one fires.
     pub(crate) fn may_fire<S: Filestore>(
         &mut self,
-        alloc: Global,
         store: &mut S,
-        who: &User,
-        room: usize,
+        asker: &Asker<'_>,
     ) -> Result<(), NoMemory>
         requires running { S.is_spent store.old ≡ false }
         requires few { self.old.blocks ≤ 2048 }
         requires ready { IsReady self.old }
-        ensures ok { OnOk result (RanWell S.answers S.is_spent S.can_wait who.now store.old
-            (lines.may_fire room who.now self.old) self.new store.new) }
-        ensures err { OnErr result (RanInPart S.answers who.now store.old
-            (lines.may_fire room who.now self.old) store.new) }
+        ensures ok { OnOk result (RanWell S.answers S.is_spent S.can_wait asker.now.who.now store.old
+            (lines.may_fire asker.now.room asker.now.who.now self.old) self.new store.new) }
+        ensures err { OnErr result (RanInPart S.answers asker.now.who.now store.old
+            (lines.may_fire asker.now.room asker.now.who.now self.old) store.new) }
         ensures same_waits { (s : ℕ) → S.can_wait store.new s ≡ S.can_wait store.old s }
         ensures ready { OnOk result (IsReady self.new) }
     {
         if !self.sets {
             return Ok(());
         }
-        match self.take_fired(alloc)? {
-            Some(text) => match self.fires(alloc, store, who, room, text) {
-                Ok(()) => Ok(()),
-                Err(NoMemory) => Err(NoMemory),
-            },
+        match self.take_fired(asker.alloc)? {
+            Some(text) => self.fires(store, asker, text),
             None => Ok(()),
         }
     }
@@ -237,10 +197,8 @@ impl Work {
     /// Says a command that fires, in its own level, and does it.
     fn fires<S: Filestore>(
         &mut self,
-        alloc: Global,
         store: &mut S,
-        who: &User,
-        room: usize,
+        asker: &Asker<'_>,
         text: Text,
     ) -> Result<(), NoMemory>
         requires running { S.is_spent store.old ≡ false }
@@ -248,30 +206,25 @@ impl Work {
         requires level { 0 < length self.old.desk.levels.levels }
         requires command { IsCommandText text }
         requires ready { IsReady self.old }
-        ensures ok { OnOk result (RanWell S.answers S.is_spent S.can_wait who.now store.old
-            (and_then said.is_over (Gives (said.say room (marked mark.Fired text) self.old)) (lines.does_fired room who.now text)) self.new store.new) }
-        ensures err { OnErr result (RanInPart S.answers who.now store.old
-            (and_then said.is_over (Gives (said.say room (marked mark.Fired text) self.old)) (lines.does_fired room who.now text)) store.new) }
+        ensures ok { OnOk result (RanWell S.answers S.is_spent S.can_wait asker.now.who.now store.old
+            (and_then said.is_over (Gives (said.say asker.now.room (marked mark.Fired text) self.old)) (lines.does_fired asker.now.room asker.now.who.now text)) self.new store.new) }
+        ensures err { OnErr result (RanInPart S.answers asker.now.who.now store.old
+            (and_then said.is_over (Gives (said.say asker.now.room (marked mark.Fired text) self.old)) (lines.does_fired asker.now.room asker.now.who.now text)) store.new) }
         ensures same_waits { (s : ℕ) → S.can_wait store.new s ≡ S.can_wait store.old s }
         ensures ready { OnOk result (IsReady self.new) }
     {
-        self.say_marked(alloc, room, Mark::Fired, text.as_slice())?;
+        self.say_marked(asker.alloc, asker.room, Mark::Fired, text.as_slice())?;
         if self.is_over() {
             return Ok(());
         }
-        match self.do_fired(alloc, store, who, room, text) {
-            Ok(()) => Ok(()),
-            Err(NoMemory) => Err(NoMemory),
-        }
+        self.do_fired(store, asker, text)
     }
 
     /// Does the command of a WHENEVER behind its line; where it waits, the turn is gone on with at this command.
     pub(crate) fn do_fired<S: Filestore>(
         &mut self,
-        alloc: Global,
         store: &mut S,
-        who: &User,
-        room: usize,
+        asker: &Asker<'_>,
         text: Text,
     ) -> Result<(), NoMemory>
         requires running { S.is_spent store.old ≡ false }
@@ -279,19 +232,16 @@ impl Work {
         requires few { self.old.blocks ≤ 2048 }
         requires level { 0 < length self.old.desk.levels.levels }
         requires command { IsCommandText text }
-        ensures ok { OnOk result (RanWell S.answers S.is_spent S.can_wait who.now store.old
-            (lines.does_fired room who.now text self.old) self.new store.new) }
-        ensures err { OnErr result (RanInPart S.answers who.now store.old
-            (lines.does_fired room who.now text self.old) store.new) }
+        ensures ok { OnOk result (RanWell S.answers S.is_spent S.can_wait asker.now.who.now store.old
+            (lines.does_fired asker.now.room asker.now.who.now text self.old) self.new store.new) }
+        ensures err { OnErr result (RanInPart S.answers asker.now.who.now store.old
+            (lines.does_fired asker.now.room asker.now.who.now text self.old) store.new) }
         ensures same_waits { (s : ℕ) → S.can_wait store.new s ≡ S.can_wait store.old s }
         ensures ready { OnOk result (IsReady self.new) }
     {
-        let read = read_line(alloc, text.as_slice())?;
-        self.keep_command(alloc, text)?;
-        match self.do_read(alloc, store, who, room, read) {
-            Ok(()) => Ok(()),
-            Err(NoMemory) => Err(NoMemory),
-        }
+        let read = read_line(asker.alloc, text.as_slice())?;
+        self.keep_command(asker.alloc, text)?;
+        self.do_read(store, asker, read)
     }
 
     /// Keeps the command of a WHENEVER, with what the line before it left.
@@ -311,10 +261,8 @@ impl Work {
     /// Does the command of a WHENEVER that was read. Its text is that of a command, so it was read well.
     fn do_read<S: Filestore>(
         &mut self,
-        alloc: Global,
         store: &mut S,
-        who: &User,
-        room: usize,
+        asker: &Asker<'_>,
         read: Result<Line, usize>,
     ) -> Result<(), NoMemory>
         requires running { S.is_spent store.old ≡ false }
@@ -323,18 +271,15 @@ impl Work {
         requires level { 0 < length self.old.desk.levels.levels }
         requires read { IsReadWell read }
         requires ready { IsReady self.old }
-        ensures ok { OnOk result (RanWell S.answers S.is_spent S.can_wait who.now store.old
-            (lines.does_read room who.now (read_as read) self.old) self.new store.new) }
-        ensures err { OnErr result (RanInPart S.answers who.now store.old
-            (lines.does_read room who.now (read_as read) self.old) store.new) }
+        ensures ok { OnOk result (RanWell S.answers S.is_spent S.can_wait asker.now.who.now store.old
+            (lines.does_read asker.now.room asker.now.who.now (read_as read) self.old) self.new store.new) }
+        ensures err { OnErr result (RanInPart S.answers asker.now.who.now store.old
+            (lines.does_read asker.now.room asker.now.who.now (read_as read) self.old) store.new) }
         ensures same_waits { (s : ℕ) → S.can_wait store.new s ≡ S.can_wait store.old s }
         ensures ready { OnOk result (IsReady self.new) }
     {
         match read {
-            Ok(line) => match self.do_command(alloc, store, who, room, true, line.command) {
-                Ok(()) => Ok(()),
-                Err(NoMemory) => Err(NoMemory),
-            },
+            Ok(line) => self.do_command(store, asker, true, line.command),
             Err(_) => Ok(()),
         }
     }

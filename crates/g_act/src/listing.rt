@@ -37,7 +37,7 @@ impl Work {
         ensures blocks { OnOk result (self.new.blocks ≡ self.old.blocks) }
     {
         let start = self.text.as_slice().len();
-        push_row(alloc, &mut self.text, row)?;
+        push_row(&mut self.text, row)?;
         self.end_line(alloc, room, start)?;
         Ok(())
     }
@@ -85,7 +85,7 @@ impl Work {
         ensures blocks { OnOk result (self.new.blocks ≡ self.old.blocks) }
     {
         let start = self.text.as_slice().len();
-        push_last(alloc, &mut self.text, call, reply)?;
+        push_last(&mut self.text, call, reply)?;
         self.end_line(alloc, room, start)?;
         Ok(())
     }
@@ -145,7 +145,7 @@ impl Work {
     {
         let start = self.text.as_slice().len();
         self.text.extend(words)?;
-        push_full(alloc, &mut self.text, full)?;
+        push_full(&mut self.text, full)?;
         self.end_line(alloc, room, start)?;
         Ok(())
     }

@@ -8,6 +8,7 @@ ghost use Rattle.g_plain.specs.Asks.{RanInPart};
 ghost use Rattle.g_trap.specs.declared.mode_set.Mode.TheVariants as mode;
 ghost use Rattle.g_plain.specs.declared.calls.StoreCall.TheVariants as call;
 
+use crate::asker::Asker;
 use crate::asking::ask_any;
 use crate::work::Work;
 use g_base::NoMemory;
@@ -38,29 +39,27 @@ impl Work {
     /// Looks for a macro in the job's own directory, else in that of MACROS, and calls it.
     pub(crate) fn look_up<S: Filestore>(
         &mut self,
-        alloc: Global,
         store: &mut S,
-        who: &User,
-        room: usize,
+        asker: &Asker<'_>,
         name: &Local,
         params: Texts,
     ) -> Result<(), NoMemory>
         requires running { S.is_spent store.old ≡ false }
         requires few { self.old.blocks ≤ 4096 }
         requires params { length params ≤ 24 }
-        ensures ok { OnOk result (RanWell S.answers S.is_spent S.can_wait who.now store.old
-            (macros.look_up room name.now params self.old) self.new store.new) }
-        ensures err { OnErr result (RanInPart S.answers who.now store.old
-            (macros.look_up room name.now params self.old) store.new) }
+        ensures ok { OnOk result (RanWell S.answers S.is_spent S.can_wait asker.now.who.now store.old
+            (macros.look_up asker.now.room name.now params self.old) self.new store.new) }
+        ensures err { OnErr result (RanInPart S.answers asker.now.who.now store.old
+            (macros.look_up asker.now.room name.now params self.old) store.new) }
         ensures live { OnOk result (said.is_over self.new ≡ false → S.is_spent store.new ≡ false) }
         ensures same_waits { (s : ℕ) → S.can_wait store.new s ≡ S.can_wait store.old s }
         ensures blocks { OnOk result (self.new.blocks ≤ self.old.blocks + 128) }
     {
         let call = look_for(None, name);
-        match ask_any(alloc, store, who, &call) {
+        match ask_any(asker.alloc, store, asker.who, &call) {
             Ok(Ok(reply)) => match reply {
                 StoreReply::Bytes { bytes, .. } => {
-                    match self.call_macro(alloc, room, params, bytes.as_slice()) {
+                    match self.call_macro(asker.alloc, asker.room, params, bytes.as_slice()) {
                         Ok(()) => Ok(()),
                         Err(NoMemory) => Err(NoMemory),
                     }
@@ -68,16 +67,8 @@ impl Work {
                 _ => Ok(()),
             },
             Ok(Err(fault)) => match fault {
-                StoreFault::NoFile => {
-                    match self.look_up_shared(alloc, store, who, room, name, params) {
-                        Ok(()) => Ok(()),
-                        Err(NoMemory) => Err(NoMemory),
-                    }
-                }
-                other => match self.refuse(alloc, room, &other) {
-                    Ok(()) => Ok(()),
-                    Err(NoMemory) => Err(NoMemory),
-                },
+                StoreFault::NoFile => self.look_up_shared(store, asker, name, params),
+                other => self.refuse(asker.alloc, asker.room, &other),
             },
             Err(NoMemory) => Err(NoMemory),
         }
@@ -86,29 +77,27 @@ impl Work {
     /// Looks for a macro in the directory of MACROS, and calls it.
     fn look_up_shared<S: Filestore>(
         &mut self,
-        alloc: Global,
         store: &mut S,
-        who: &User,
-        room: usize,
+        asker: &Asker<'_>,
         name: &Local,
         params: Texts,
     ) -> Result<(), NoMemory>
         requires running { S.is_spent store.old ≡ false }
         requires few { self.old.blocks ≤ 4096 }
         requires params { length params ≤ 24 }
-        ensures ok { OnOk result (RanWell S.answers S.is_spent S.can_wait who.now store.old
-            (macros.look_up_shared room name.now params self.old) self.new store.new) }
-        ensures err { OnErr result (RanInPart S.answers who.now store.old
-            (macros.look_up_shared room name.now params self.old) store.new) }
+        ensures ok { OnOk result (RanWell S.answers S.is_spent S.can_wait asker.now.who.now store.old
+            (macros.look_up_shared asker.now.room name.now params self.old) self.new store.new) }
+        ensures err { OnErr result (RanInPart S.answers asker.now.who.now store.old
+            (macros.look_up_shared asker.now.room name.now params self.old) store.new) }
         ensures live { OnOk result (said.is_over self.new ≡ false → S.is_spent store.new ≡ false) }
         ensures same_waits { (s : ℕ) → S.can_wait store.new s ≡ S.can_wait store.old s }
         ensures blocks { OnOk result (self.new.blocks ≤ self.old.blocks + 128) }
     {
         let call = look_for(Some(User::macros()), name);
-        match ask_any(alloc, store, who, &call) {
+        match ask_any(asker.alloc, store, asker.who, &call) {
             Ok(Ok(reply)) => match reply {
                 StoreReply::Bytes { bytes, .. } => {
-                    match self.call_macro(alloc, room, params, bytes.as_slice()) {
+                    match self.call_macro(asker.alloc, asker.room, params, bytes.as_slice()) {
                         Ok(()) => Ok(()),
                         Err(NoMemory) => Err(NoMemory),
                     }
@@ -116,14 +105,12 @@ impl Work {
                 _ => Ok(()),
             },
             Ok(Err(fault)) => match fault {
-                StoreFault::NoFile => match self.in_error(alloc, room, CommandError::UnknownVerb) {
-                    Ok(()) => Ok(()),
-                    Err(NoMemory) => Err(NoMemory),
-                },
-                other => match self.refuse(alloc, room, &other) {
-                    Ok(()) => Ok(()),
-                    Err(NoMemory) => Err(NoMemory),
-                },
+                StoreFault::NoFile => self.in_error(
+                    asker.alloc,
+                    asker.room,
+                    CommandError::UnknownVerb,
+                ),
+                other => self.refuse(asker.alloc, asker.room, &other),
             },
             Err(NoMemory) => Err(NoMemory),
         }
@@ -151,10 +138,7 @@ impl Work {
                 self.done();
                 Ok(())
             }
-            Err(MacroFault::TooDeep) => match self.in_error(alloc, room, CommandError::TooDeep) {
-                Ok(()) => Ok(()),
-                Err(NoMemory) => Err(NoMemory),
-            },
+            Err(MacroFault::TooDeep) => self.in_error(alloc, room, CommandError::TooDeep),
             Err(_) => Err(NoMemory),
         }
     }

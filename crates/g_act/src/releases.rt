@@ -6,14 +6,14 @@ ghost use Rattle.g_act.specs.Steps.{RanWell};
 ghost use Rattle.g_peri.specs.Held as held;
 ghost use Rattle.g_plain.specs.Asks.{RanInPart};
 
+use crate::asker::Asker;
 use crate::stop::Stop;
 use crate::work::Work;
 use g_base::NoMemory;
 use g_monitor::{CommandError, JobLine};
-use g_name::{Path, Text, User};
+use g_name::{Path, Text};
 use g_peri::{Kind, Unit};
 use g_plain::Filestore;
-use std::alloc::Global;
 
 /// How many card readers there are.
 const READERS: u8 = 8;
@@ -44,64 +44,48 @@ impl Work {
     /// RELEASE: the output of a printer or a punch is put.
     pub(crate) fn release<S: Filestore>(
         &mut self,
-        alloc: Global,
         store: &mut S,
-        who: &User,
-        room: usize,
+        asker: &Asker<'_>,
         unit: Unit,
     ) -> Result<(), NoMemory>
         requires running { S.is_spent store.old ≡ false }
         requires few { self.old.blocks ≤ 4096 }
-        ensures ok { OnOk result (RanWell S.answers S.is_spent S.can_wait who.now store.old
-            (releases.release room unit self.old) self.new store.new) }
-        ensures err { OnErr result (RanInPart S.answers who.now store.old
-            (releases.release room unit self.old) store.new) }
+        ensures ok { OnOk result (RanWell S.answers S.is_spent S.can_wait asker.now.who.now store.old
+            (releases.release asker.now.room unit self.old) self.new store.new) }
+        ensures err { OnErr result (RanInPart S.answers asker.now.who.now store.old
+            (releases.release asker.now.room unit self.old) store.new) }
         ensures live { OnOk result (said.is_over self.new ≡ false → S.is_spent store.new ≡ false) }
         ensures same_waits { (s : ℕ) → S.can_wait store.new s ≡ S.can_wait store.old s }
         ensures blocks { OnOk result (self.new.blocks ≤ self.old.blocks + 128) }
     {
         match self.units.release(unit) {
-            Ok(output) => match self.give_back(alloc, store, who, room, output) {
-                Ok(()) => Ok(()),
-                Err(NoMemory) => Err(NoMemory),
-            },
-            Err(_) => match self.in_error(alloc, room, CommandError::NotAssigned) {
-                Ok(()) => Ok(()),
-                Err(NoMemory) => Err(NoMemory),
-            },
+            Ok(output) => self.give_back(store, asker, output),
+            Err(_) => self.in_error(asker.alloc, asker.room, CommandError::NotAssigned),
         }
     }
 
     /// Puts what a unit gives back, if it gives something back.
     fn give_back<S: Filestore>(
         &mut self,
-        alloc: Global,
         store: &mut S,
-        who: &User,
-        room: usize,
+        asker: &Asker<'_>,
         output: Option<(Path, Text)>,
     ) -> Result<(), NoMemory>
         requires running { S.is_spent store.old ≡ false }
         requires few { self.old.blocks ≤ 4096 }
-        ensures ok { OnOk result (RanWell S.answers S.is_spent S.can_wait who.now store.old
-            (releases.given_back room output self.old) self.new store.new) }
-        ensures err { OnErr result (RanInPart S.answers who.now store.old
-            (releases.given_back room output self.old) store.new) }
+        ensures ok { OnOk result (RanWell S.answers S.is_spent S.can_wait asker.now.who.now store.old
+            (releases.given_back asker.now.room output self.old) self.new store.new) }
+        ensures err { OnErr result (RanInPart S.answers asker.now.who.now store.old
+            (releases.given_back asker.now.room output self.old) store.new) }
         ensures live { OnOk result (said.is_over self.new ≡ false → S.is_spent store.new ≡ false) }
         ensures same_waits { (s : ℕ) → S.can_wait store.new s ≡ S.can_wait store.old s }
         ensures blocks { OnOk result (self.new.blocks ≤ self.old.blocks + 128) }
     {
         match output {
-            Some((path, bytes)) => match self.put(alloc, store, who, room, true, path, bytes) {
-                Ok(()) => Ok(()),
-                Err(NoMemory) => Err(NoMemory),
-            },
+            Some((path, bytes)) => self.put(store, asker, true, path, bytes),
             None => {
                 self.done();
-                match self.say_job_line(alloc, room, JobLine::Released) {
-                    Ok(()) => Ok(()),
-                    Err(NoMemory) => Err(NoMemory),
-                }
+                self.say_job_line(asker.alloc, asker.room, JobLine::Released)
             }
         }
     }
@@ -149,30 +133,25 @@ impl Work {
     /// Releases the printer or the punch at a place, and puts its output, if it is assigned.
     fn release_place<S: Filestore>(
         &mut self,
-        alloc: Global,
         store: &mut S,
-        who: &User,
-        room: usize,
+        asker: &Asker<'_>,
         place: u8,
     ) -> Result<(), NoMemory>
         requires running { S.is_spent store.old ≡ false }
         requires few { self.old.blocks ≤ 4096 }
         requires place { place < 16 }
-        ensures ok { OnOk result (RanWell S.answers S.is_spent S.can_wait who.now store.old
-            (releases.release_one room place (held.at_place self.old.desk.units.writers place)
+        ensures ok { OnOk result (RanWell S.answers S.is_spent S.can_wait asker.now.who.now store.old
+            (releases.release_one asker.now.room place (held.at_place self.old.desk.units.writers place)
             self.old) self.new store.new) }
-        ensures err { OnErr result (RanInPart S.answers who.now store.old
-            (releases.release_one room place (held.at_place self.old.desk.units.writers place)
+        ensures err { OnErr result (RanInPart S.answers asker.now.who.now store.old
+            (releases.release_one asker.now.room place (held.at_place self.old.desk.units.writers place)
             self.old) store.new) }
         ensures live { OnOk result (said.is_over self.new ≡ false → S.is_spent store.new ≡ false) }
         ensures same_waits { (s : ℕ) → S.can_wait store.new s ≡ S.can_wait store.old s }
         ensures blocks { OnOk result (self.new.blocks ≤ self.old.blocks + 128) }
     {
         match self.take_output(place) {
-            Some((path, bytes)) => match self.put(alloc, store, who, room, false, path, bytes) {
-                Ok(()) => Ok(()),
-                Err(NoMemory) => Err(NoMemory),
-            },
+            Some((path, bytes)) => self.put(store, asker, false, path, bytes),
             None => Ok(()),
         }
     }
@@ -180,25 +159,23 @@ impl Work {
     /// Releases all units, the readers, the printers, the punches, each by their numbers.
     fn release_all<S: Filestore>(
         &mut self,
-        alloc: Global,
         store: &mut S,
-        who: &User,
-        room: usize,
+        asker: &Asker<'_>,
     ) -> Result<(), NoMemory>
         requires running { S.is_spent store.old ≡ false }
         requires open { said.is_over self.old ≡ false }
         requires few { self.old.blocks ≤ 2048 }
-        ensures ok { OnOk result (RanWell S.answers S.is_spent S.can_wait who.now store.old
-            (releases.release_all room self.old) self.new store.new) }
-        ensures err { OnErr result (RanInPart S.answers who.now store.old
-            (releases.release_all room self.old) store.new) }
+        ensures ok { OnOk result (RanWell S.answers S.is_spent S.can_wait asker.now.who.now store.old
+            (releases.release_all asker.now.room self.old) self.new store.new) }
+        ensures err { OnErr result (RanInPart S.answers asker.now.who.now store.old
+            (releases.release_all asker.now.room self.old) store.new) }
         ensures live { OnOk result (said.is_over self.new ≡ false → S.is_spent store.new ≡ false) }
         ensures same_waits { (s : ℕ) → S.can_wait store.new s ≡ S.can_wait store.old s }
         ensures blocks { OnOk result (self.new.blocks ≤ self.old.blocks + 2048) }
     {
         self.release_readers();
         for place in 0..WRITERS {
-            match self.release_place(alloc, store, who, room, place) {
+            match self.release_place(store, asker, place) {
                 Ok(()) => {}
                 Err(NoMemory) => return Err(NoMemory),
             }
@@ -212,24 +189,22 @@ impl Work {
     /// The job is done, behind the release of its units.
     pub(crate) fn end_job<S: Filestore>(
         &mut self,
-        alloc: Global,
         store: &mut S,
-        who: &User,
-        room: usize,
+        asker: &Asker<'_>,
     ) -> Result<(), NoMemory>
         requires running { S.is_spent store.old ≡ false }
         requires open { said.is_over self.old ≡ false }
         requires few { self.old.blocks ≤ 2048 }
-        ensures ok { OnOk result (RanWell S.answers S.is_spent S.can_wait who.now store.old
-            (releases.end_job room self.old) self.new store.new) }
-        ensures err { OnErr result (RanInPart S.answers who.now store.old
-            (releases.end_job room self.old) store.new) }
+        ensures ok { OnOk result (RanWell S.answers S.is_spent S.can_wait asker.now.who.now store.old
+            (releases.end_job asker.now.room self.old) self.new store.new) }
+        ensures err { OnErr result (RanInPart S.answers asker.now.who.now store.old
+            (releases.end_job asker.now.room self.old) store.new) }
         ensures live { OnOk result (said.is_over self.new ≡ false → S.is_spent store.new ≡ false) }
         ensures same_waits { (s : ℕ) → S.can_wait store.new s ≡ S.can_wait store.old s }
         ensures blocks { OnOk result (self.new.blocks ≤ self.old.blocks + 2048) }
     {
         self.done();
-        match self.release_all(alloc, store, who, room) {
+        match self.release_all(store, asker) {
             Ok(()) => {
                 if self.is_over() {
                     return Ok(());
@@ -245,32 +220,24 @@ impl Work {
     /// released.
     pub(crate) fn delete<S: Filestore>(
         &mut self,
-        alloc: Global,
         store: &mut S,
-        who: &User,
-        room: usize,
+        asker: &Asker<'_>,
     ) -> Result<(), NoMemory>
         requires running { S.is_spent store.old ≡ false }
         requires open { said.is_over self.old ≡ false }
         requires few { self.old.blocks ≤ 2048 }
-        ensures ok { OnOk result (RanWell S.answers S.is_spent S.can_wait who.now store.old
-            (releases.delete room self.old.desk.program self.old) self.new store.new) }
-        ensures err { OnErr result (RanInPart S.answers who.now store.old
-            (releases.delete room self.old.desk.program self.old) store.new) }
+        ensures ok { OnOk result (RanWell S.answers S.is_spent S.can_wait asker.now.who.now store.old
+            (releases.delete asker.now.room self.old.desk.program self.old) self.new store.new) }
+        ensures err { OnErr result (RanInPart S.answers asker.now.who.now store.old
+            (releases.delete asker.now.room self.old.desk.program self.old) store.new) }
         ensures live { OnOk result (said.is_over self.new ≡ false → S.is_spent store.new ≡ false) }
         ensures same_waits { (s : ℕ) → S.can_wait store.new s ≡ S.can_wait store.old s }
         ensures blocks { OnOk result (self.new.blocks ≤ self.old.blocks + 2048) }
     {
         if self.program.is_none() {
-            match self.in_error(alloc, room, CommandError::NoProgram) {
-                Ok(()) => Ok(()),
-                Err(NoMemory) => Err(NoMemory),
-            }
+            self.in_error(asker.alloc, asker.room, CommandError::NoProgram)
         } else {
-            match self.drop_program(alloc, store, who, room) {
-                Ok(()) => Ok(()),
-                Err(NoMemory) => Err(NoMemory),
-            }
+            self.drop_program(store, asker)
         }
     }
 
@@ -285,33 +252,28 @@ impl Work {
     /// Drops the program, releases the units, and tells it.
     fn drop_program<S: Filestore>(
         &mut self,
-        alloc: Global,
         store: &mut S,
-        who: &User,
-        room: usize,
+        asker: &Asker<'_>,
     ) -> Result<(), NoMemory>
         requires running { S.is_spent store.old ≡ false }
         requires open { said.is_over self.old ≡ false }
         requires few { self.old.blocks ≤ 2048 }
-        ensures ok { OnOk result (RanWell S.answers S.is_spent S.can_wait who.now store.old
-            (releases.drop_program room self.old) self.new store.new) }
-        ensures err { OnErr result (RanInPart S.answers who.now store.old
-            (releases.drop_program room self.old) store.new) }
+        ensures ok { OnOk result (RanWell S.answers S.is_spent S.can_wait asker.now.who.now store.old
+            (releases.drop_program asker.now.room self.old) self.new store.new) }
+        ensures err { OnErr result (RanInPart S.answers asker.now.who.now store.old
+            (releases.drop_program asker.now.room self.old) store.new) }
         ensures live { OnOk result (said.is_over self.new ≡ false → S.is_spent store.new ≡ false) }
         ensures same_waits { (s : ℕ) → S.can_wait store.new s ≡ S.can_wait store.old s }
         ensures blocks { OnOk result (self.new.blocks ≤ self.old.blocks + 2048) }
     {
         self.forget_program();
         self.done();
-        match self.release_all(alloc, store, who, room) {
+        match self.release_all(store, asker) {
             Ok(()) => {
                 if self.is_over() {
                     return Ok(());
                 }
-                match self.say_job_line(alloc, room, JobLine::Deleted) {
-                    Ok(()) => Ok(()),
-                    Err(NoMemory) => Err(NoMemory),
-                }
+                self.say_job_line(asker.alloc, asker.room, JobLine::Deleted)
             }
             Err(NoMemory) => Err(NoMemory),
         }

@@ -96,7 +96,7 @@ impl Work {
         ensures blocks { OnOk result (self.new.blocks ≡ self.old.blocks) }
     {
         let start = self.text.as_slice().len();
-        push_job_line(alloc, &mut self.text, line)?;
+        push_job_line(&mut self.text, line)?;
         self.end_line(alloc, room, start)?;
         Ok(())
     }
@@ -114,7 +114,7 @@ impl Work {
         self.comes_out(true, EventNote::None);
         let start = self.text.as_slice().len();
         self.text.extend(b"ERROR ")?;
-        push_error(alloc, &mut self.text, error)?;
+        push_error(&mut self.text, error)?;
         self.end_line(alloc, room, start)?;
         Ok(())
     }
@@ -129,7 +129,7 @@ impl Work {
         self.comes_out(true, EventNote::None);
         let start = self.text.as_slice().len();
         self.text.extend(b"ERROR ")?;
-        push_fault(alloc, &mut self.text, fault)?;
+        push_fault(&mut self.text, fault)?;
         self.end_line(alloc, room, start)?;
         Ok(())
     }

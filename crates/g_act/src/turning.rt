@@ -11,12 +11,13 @@ ghost use Rattle.g_macro.specs.Levels.{next_line};
 ghost use Rattle.g_plain.specs.Asks.{RanInPart};
 
 use crate::again::Again;
+use crate::asker::Asker;
 use crate::made::Made;
 use crate::room::empty;
 use crate::work::Work;
 use g_base::NoMemory;
 use g_macro::MacroFault;
-use g_name::{Text, User};
+use g_name::Text;
 use g_peri::{Kind, Unit};
 use g_plain::Filestore;
 use std::alloc::Global;
@@ -77,10 +78,8 @@ impl Work {
     /// Where memory is wanting, the store has answered a front of the turn's calls, and nothing is known of the work.
     pub fn go<S: Filestore>(
         &mut self,
-        alloc: Global,
         store: &mut S,
-        who: &User,
-        room: usize,
+        asker: &Asker<'_>,
         pending: Option<Again>,
     ) -> Result<(), NoMemory>
         requires running { S.is_spent store.old ≡ false }
@@ -91,18 +90,15 @@ impl Work {
         requires command { IfSome (option_map pending_of pending) IsAgain }
         requires level { is_some (option_map pending_of pending) ≡ true
             → 0 < length self.old.desk.levels.levels }
-        ensures ok { OnOk result (RanWell S.answers S.is_spent S.can_wait who.now store.old
-            (turns.begins room who.now (option_map pending_of pending) self.old) self.new store.new) }
-        ensures err { OnErr result (RanInPart S.answers who.now store.old
-            (turns.begins room who.now (option_map pending_of pending) self.old) store.new) }
+        ensures ok { OnOk result (RanWell S.answers S.is_spent S.can_wait asker.now.who.now store.old
+            (turns.begins asker.now.room asker.now.who.now (option_map pending_of pending) self.old) self.new store.new) }
+        ensures err { OnErr result (RanInPart S.answers asker.now.who.now store.old
+            (turns.begins asker.now.room asker.now.who.now (option_map pending_of pending) self.old) store.new) }
         ensures same_waits { (s : ℕ) → S.can_wait store.new s ≡ S.can_wait store.old s }
         ensures ready { OnOk result (IsReady self.new) }
     {
         match pending {
-            Some(Again::Line(text)) => match self.line(alloc, store, who, room, text) {
-                Ok(()) => Ok(()),
-                Err(NoMemory) => Err(NoMemory),
-            },
+            Some(Again::Line(text)) => self.line(store, asker, text),
             Some(
                 Again::Command {
                     text,
@@ -112,15 +108,9 @@ impl Work {
                 },
             ) => {
                 self.begin_behind(text, orders, blocks);
-                match self.do_fired(alloc, store, who, room, command) {
-                    Ok(()) => Ok(()),
-                    Err(NoMemory) => Err(NoMemory),
-                }
+                self.do_fired(store, asker, command)
             }
-            None => match self.run_or_take(alloc, store, who, room) {
-                Ok(()) => Ok(()),
-                Err(NoMemory) => Err(NoMemory),
-            },
+            None => self.run_or_take(store, asker),
         }
     }
 
@@ -136,99 +126,71 @@ impl Work {
     /// Goes on with a run of the program that isn't over, else takes a line.
     fn run_or_take<S: Filestore>(
         &mut self,
-        alloc: Global,
         store: &mut S,
-        who: &User,
-        room: usize,
+        asker: &Asker<'_>,
     ) -> Result<(), NoMemory>
         requires running { S.is_spent store.old ≡ false }
         requires open { said.is_over self.old ≡ false }
         requires few { self.old.blocks ≡ 0 }
         requires fresh { self.old.again ≡ None }
-        ensures ok { OnOk result (RanWell S.answers S.is_spent S.can_wait who.now store.old
-            (turns.runs_or_takes room who.now self.old.desk.running self.old) self.new store.new) }
-        ensures err { OnErr result (RanInPart S.answers who.now store.old
-            (turns.runs_or_takes room who.now self.old.desk.running self.old) store.new) }
+        ensures ok { OnOk result (RanWell S.answers S.is_spent S.can_wait asker.now.who.now store.old
+            (turns.runs_or_takes asker.now.room asker.now.who.now self.old.desk.running self.old) self.new store.new) }
+        ensures err { OnErr result (RanInPart S.answers asker.now.who.now store.old
+            (turns.runs_or_takes asker.now.room asker.now.who.now self.old.desk.running self.old) store.new) }
         ensures same_waits { (s : ℕ) → S.can_wait store.new s ≡ S.can_wait store.old s }
         ensures ready { OnOk result (IsReady self.new) }
     {
         match self.running {
-            Some(by) => match self.run_on(alloc, store, who, room, by) {
-                Ok(()) => Ok(()),
-                Err(NoMemory) => Err(NoMemory),
-            },
-            None => match self.take(alloc, store, who, room) {
-                Ok(()) => Ok(()),
-                Err(NoMemory) => Err(NoMemory),
-            },
+            Some(by) => self.run_on(store, asker, by),
+            None => self.take(store, asker),
         }
     }
 
     /// A run of the program goes on; a WHENEVER follows its end, unless one began it.
     fn run_on<S: Filestore>(
         &mut self,
-        alloc: Global,
         store: &mut S,
-        who: &User,
-        room: usize,
+        asker: &Asker<'_>,
         by: bool,
     ) -> Result<(), NoMemory>
         requires running { S.is_spent store.old ≡ false }
         requires few { self.old.blocks ≡ 0 }
         requires fresh { self.old.again ≡ None }
-        ensures ok { OnOk result (RanWell S.answers S.is_spent S.can_wait who.now store.old
-            (turns.runs_on room who.now by self.old) self.new store.new) }
-        ensures err { OnErr result (RanInPart S.answers who.now store.old
-            (turns.runs_on room who.now by self.old) store.new) }
+        ensures ok { OnOk result (RanWell S.answers S.is_spent S.can_wait asker.now.who.now store.old
+            (turns.runs_on asker.now.room asker.now.who.now by self.old) self.new store.new) }
+        ensures err { OnErr result (RanInPart S.answers asker.now.who.now store.old
+            (turns.runs_on asker.now.room asker.now.who.now by self.old) store.new) }
         ensures same_waits { (s : ℕ) → S.can_wait store.new s ≡ S.can_wait store.old s }
         ensures ready { OnOk result (IsReady self.new) }
     {
-        self.go_on(alloc, room)?;
+        self.go_on(asker.alloc, asker.room)?;
         if self.is_over() {
             return Ok(());
         }
         if by {
             return Ok(());
         }
-        match self.may_fire(alloc, store, who, room) {
-            Ok(()) => Ok(()),
-            Err(NoMemory) => Err(NoMemory),
-        }
+        self.may_fire(store, asker)
     }
 
     /// Takes a line and does it; with no line left the job ends.
-    fn take<S: Filestore>(
-        &mut self,
-        alloc: Global,
-        store: &mut S,
-        who: &User,
-        room: usize,
-    ) -> Result<(), NoMemory>
+    fn take<S: Filestore>(&mut self, store: &mut S, asker: &Asker<'_>) -> Result<(), NoMemory>
         requires running { S.is_spent store.old ≡ false }
         requires open { said.is_over self.old ≡ false }
         requires few { self.old.blocks ≡ 0 }
         requires fresh { self.old.again ≡ None }
-        ensures ok { OnOk result (RanWell S.answers S.is_spent S.can_wait who.now store.old
-            (turns.takes_line room who.now (next_line self.old.desk.levels) self.old)
+        ensures ok { OnOk result (RanWell S.answers S.is_spent S.can_wait asker.now.who.now store.old
+            (turns.takes_line asker.now.room asker.now.who.now (next_line self.old.desk.levels) self.old)
             self.new store.new) }
-        ensures err { OnErr result (RanInPart S.answers who.now store.old
-            (turns.takes_line room who.now (next_line self.old.desk.levels) self.old) store.new) }
+        ensures err { OnErr result (RanInPart S.answers asker.now.who.now store.old
+            (turns.takes_line asker.now.room asker.now.who.now (next_line self.old.desk.levels) self.old) store.new) }
         ensures same_waits { (s : ℕ) → S.can_wait store.new s ≡ S.can_wait store.old s }
         ensures ready { OnOk result (IsReady self.new) }
     {
-        match self.take_line(alloc)? {
-            Next::Line(text) => match self.line(alloc, store, who, room, text) {
-                Ok(()) => Ok(()),
-                Err(NoMemory) => Err(NoMemory),
-            },
-            Next::TooLong(front) => match self.long_line(alloc, store, who, room, front) {
-                Ok(()) => Ok(()),
-                Err(NoMemory) => Err(NoMemory),
-            },
-            Next::Nothing => match self.end_job(alloc, store, who, room) {
-                Ok(()) => Ok(()),
-                Err(NoMemory) => Err(NoMemory),
-            },
+        match self.take_line(asker.alloc)? {
+            Next::Line(text) => self.line(store, asker, text),
+            Next::TooLong(front) => self.long_line(store, asker, front),
+            Next::Nothing => self.end_job(store, asker),
         }
     }
 

@@ -148,6 +148,6 @@ fn migrated(alloc: Global, full: &Full) -> Result<Text, NoMemory>
     ensures { IfOk result (λ text. text ≡ codes "MIGRATED " ++ full_text full.now) }
 {
     let mut text = Text::from_slice(alloc, b"MIGRATED ")?;
-    push_full(alloc, &mut text, full)?;
+    push_full(&mut text, full)?;
     Ok(text)
 }

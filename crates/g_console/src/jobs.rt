@@ -101,7 +101,7 @@ fn refusal(alloc: Global, why: NotTaken) -> Result<Text, NoMemory>
     ensures { IfOk result (λ text. text ≡ codes "REFUSED " ++ refusal_line why) }
 {
     let mut text = Text::from_slice(alloc, b"REFUSED ")?;
-    push_refusal(alloc, &mut text, why)?;
+    push_refusal(&mut text, why)?;
     Ok(text)
 }
 

@@ -77,7 +77,7 @@ pub(crate) fn line(alloc: Global, count: u64, what: &[u8]) -> Result<Text, NoMem
     ensures { IfOk result (λ text. text ≡ operator_line count what.now) }
 {
     let mut text = Text::new(alloc);
-    push_operator_line(alloc, &mut text, count, what)?;
+    push_operator_line(&mut text, count, what)?;
     Ok(text)
 }
 
@@ -86,18 +86,18 @@ fn refusal(alloc: Global, fault: &StoreFault) -> Result<Text, NoMemory>
     ensures { IfOk result (λ text. text ≡ codes "REFUSED " ++ fault_line fault.now) }
 {
     let mut text = Text::from_slice(alloc, b"REFUSED ")?;
-    push_told(alloc, &mut text, fault)?;
+    push_told(&mut text, fault)?;
     Ok(text)
 }
 
 /// Puts number and text of a fault behind the text. Of a wait, a stop and want of memory there is nothing to tell.
-pub fn push_told(alloc: Global, text: &mut Text, fault: &StoreFault) -> Result<(), NoMemory>
+pub fn push_told(text: &mut Text, fault: &StoreFault) -> Result<(), NoMemory>
     ensures { OnOk result (text.new ≡ text.old ++ fault_line fault.now) }
 {
     match fault {
         StoreFault::WaitTape(_) => Ok(()),
         StoreFault::Stopped => Ok(()),
         StoreFault::NoMemory => Ok(()),
-        _ => push_fault(alloc, text, fault),
+        _ => push_fault(text, fault),
     }
 }

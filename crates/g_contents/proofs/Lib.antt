@@ -1,2 +1,3 @@
 pub mod CommitLemmas
 pub mod HoldLemmas
+pub mod PartLemmas

@@ -4,28 +4,27 @@ ghost use Rattle.g_lines.specs.Lines.{ended};
 ghost use Rattle.g_world.specs.Texts.{broken_files, waiting_files, waiting_line};
 
 use crate::crew::Crew;
-use crate::texts::push_number;
 use g_base::NoMemory;
 use g_job::Job;
+use g_monitor::push_number;
 use g_name::Text;
-use std::alloc::Global;
 
 /// Puts the line of the reel that a job waits for behind the text; an empty one where it waits for none.
-fn push_reel(alloc: Global, text: &mut Text, wants: Option<u32>) -> Result<(), NoMemory>
+fn push_reel(text: &mut Text, wants: Option<u32>) -> Result<(), NoMemory>
     ensures { OnOk result (text.new ≡ text.old ++ waiting_line wants) }
 {
     match wants {
-        Some(serial) => push_number(alloc, text, b"WAITING TAPE ", u64::from(serial)),
+        Some(serial) => push_number(text, b"WAITING TAPE ", u64::from(serial)),
         None => text.extend(b""),
     }
 }
 
 /// Puts a job's file and the line of the reel that it waits for behind the text.
-fn push_waiting(alloc: Global, text: &mut Text, job: &Job) -> Result<(), NoMemory>
+fn push_waiting(text: &mut Text, job: &Job) -> Result<(), NoMemory>
     ensures { OnOk result (text.new ≡ text.old ++ (job.now.monitor ++ ended (waiting_line job.now.wants))) }
 {
     text.extend(job.monitor())?;
-    push_reel(alloc, text, job.wants())?;
+    push_reel(text, job.wants())?;
     text.push(b'\n')
 }
 
@@ -48,11 +47,11 @@ fn push_each_broken(text: &mut Text, jobs: &[Job]) -> Result<(), NoMemory>
 }
 
 /// Each of these jobs' file with the line of the reel that it waits for.
-fn push_each_waiting(alloc: Global, text: &mut Text, jobs: &[Job]) -> Result<(), NoMemory>
+fn push_each_waiting(text: &mut Text, jobs: &[Job]) -> Result<(), NoMemory>
     ensures { OnOk result (text.new ≡ text.old ++ waiting_files jobs.now) }
 {
     for job in jobs {
-        push_waiting(alloc, text, job)?;
+        push_waiting(text, job)?;
     }
     Ok(())
 }
@@ -69,9 +68,9 @@ impl Crew {
     /// Puts the monitoring files of all jobs behind the text, in order of number, each with the last line `WAITING TAPE` and
     /// the serial of the reel that it waits for: what stands at the end of a run. Where memory is wanting, a front of it may
     /// stand there.
-    pub fn push_waiting_files(&self, alloc: Global, text: &mut Text) -> Result<(), NoMemory>
+    pub fn push_waiting_files(&self, text: &mut Text) -> Result<(), NoMemory>
         ensures { OnOk result (text.new ≡ text.old ++ waiting_files self.now.jobs) }
     {
-        push_each_waiting(alloc, text, self.jobs())
+        push_each_waiting(text, self.jobs())
     }
 }

@@ -6,10 +6,10 @@ ghost use Rattle.g_job.specs.Begun.{job_begun};
 
 use crate::account::{Account, left_for};
 use crate::choice::MOST_JOBS;
-use crate::texts::{push_number, push_numbers};
 use g_base::NoMemory;
 use g_job::Job;
 use g_lines::Document;
+use g_monitor::push_numbers;
 use g_name::{Local, Text, User};
 use std::alloc::Global;
 use thiserror::Error;
@@ -101,15 +101,15 @@ pub(crate) fn refusal(
 
 /// Puts number and text of a refusal behind the text, without a byte 10 (`docs/MANUAL.md`, "Texts of jobs and refusals").
 /// Where memory is wanting, a front of it may stand there.
-pub fn push_refusal(alloc: Global, text: &mut Text, why: NotTaken) -> Result<(), NoMemory>
+pub fn push_refusal(text: &mut Text, why: NotTaken) -> Result<(), NoMemory>
     requires { IsPrinted why }
     ensures { OnOk result (text.new ≡ text.old ++ refusal_line why) }
 {
     match why {
         NotTaken::NoUser => text.extend(b"1 NO USER"),
         NotTaken::JobsFull => text.extend(b"41 JOBS FULL"),
-        NotTaken::NoTime { ask, left } => push_numbers(alloc, text, b"40 NO TIME ", ask, left),
-        NotTaken::NoMoney { ask, left } => push_numbers(alloc, text, b"42 NO MONEY ", ask, left),
+        NotTaken::NoTime { ask, left } => push_numbers(text, b"40 NO TIME ", ask, left),
+        NotTaken::NoMoney { ask, left } => push_numbers(text, b"42 NO MONEY ", ask, left),
         NotTaken::NoMemory => unreachable!(),
     }
 }

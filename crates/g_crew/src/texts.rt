@@ -1,60 +1,20 @@
 //! The texts that the operator reads (`docs/DEFINITIONS.md`, "A run of the whole program").
 ghost use Rattle.std.specs.Prelude.{◌≡◌, ◌++◌, IfOk, OnOk, codes};
 ghost use Rattle.std.specs.Fmt.{decimal};
-ghost use Rattle.g_monitor.specs.Parts.{with_number, with_numbers};
 ghost use Rattle.g_world.specs.Texts.{closing, dump_text, job_text, operator_line, started_text, tape_text};
 
 use g_base::NoMemory;
+use g_lines::push_decimal;
+use g_monitor::push_number;
 use g_name::Text;
 use std::alloc::Global;
 
-/// Puts a number in decimal digits behind the text.
-fn push_decimal(alloc: Global, text: &mut Text, number: u64) -> Result<(), NoMemory>
-    ensures { OnOk result (text.new ≡ text.old ++ decimal number) }
-{
-    let digits = number.to_string(alloc)?;
-    text.extend(digits.as_bytes())
-}
-
-/// Puts some words and a number behind the text.
-pub(crate) fn push_number(
-    alloc: Global,
-    text: &mut Text,
-    words: &[u8],
-    number: u64,
-) -> Result<(), NoMemory>
-    ensures { OnOk result (text.new ≡ text.old ++ with_number words.now number) }
-{
-    text.extend(words)?;
-    push_decimal(alloc, text, number)
-}
-
-/// Puts some words and two numbers behind the text.
-pub(crate) fn push_numbers(
-    alloc: Global,
-    text: &mut Text,
-    words: &[u8],
-    first: u64,
-    second: u64,
-) -> Result<(), NoMemory>
-    ensures { OnOk result (text.new ≡ text.old ++ with_numbers words.now first second) }
-{
-    push_number(alloc, text, words, first)?;
-    text.extend(b" ")?;
-    push_decimal(alloc, text, second)
-}
-
 /// Puts a line of the operator's behind the text: the count of turns, a space, what happened, and the line's byte 10. Where
 /// memory is wanting, a front of it may stand there.
-pub fn push_operator_line(
-    alloc: Global,
-    text: &mut Text,
-    count: u64,
-    what: &[u8],
-) -> Result<(), NoMemory>
+pub fn push_operator_line(text: &mut Text, count: u64, what: &[u8]) -> Result<(), NoMemory>
     ensures { OnOk result (text.new ≡ text.old ++ operator_line count what.now) }
 {
-    push_decimal(alloc, text, count)?;
+    push_decimal(text, count)?;
     text.extend(b" ")?;
     text.extend(what)?;
     text.push(b'\n')
@@ -65,7 +25,7 @@ fn numbered(alloc: Global, words: &[u8], number: u64, how: &[u8]) -> Result<Text
     ensures { IfOk result (λ text. text ≡ ((words.now ++ decimal number) ++ codes " ") ++ how.now) }
 {
     let mut text = Text::new(alloc);
-    push_number(alloc, &mut text, words, number)?;
+    push_number(&mut text, words, number)?;
     text.extend(b" ")?;
     text.extend(how)?;
     Ok(text)
@@ -97,7 +57,7 @@ fn adopted_text(alloc: Global, number: u64) -> Result<Text, NoMemory>
     ensures { IfOk result (λ text. text ≡ (codes "STARTED DUMP " ++ decimal number) ++ codes " ADOPTED") }
 {
     let mut text = Text::new(alloc);
-    push_number(alloc, &mut text, b"STARTED DUMP ", number)?;
+    push_number(&mut text, b"STARTED DUMP ", number)?;
     text.extend(b" ADOPTED")?;
     Ok(text)
 }
@@ -118,7 +78,7 @@ pub fn closing_text(alloc: Global, bad: Option<u64>) -> Result<Text, NoMemory>
 {
     let mut text = Text::new(alloc);
     if let Some(line) = bad {
-        push_number(alloc, &mut text, b"SCRIPT LINE ", line)?;
+        push_number(&mut text, b"SCRIPT LINE ", line)?;
         text.push(b'\n')?;
     }
     Ok(text)

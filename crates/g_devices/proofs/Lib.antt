@@ -1,1 +1,2 @@
 mod FileRack
+mod ReelEnds

@@ -14,11 +14,13 @@ pub fn start_of(k: u32) -> u64
     u64::from(k) * BLOCK_BYTES
 }
 
-/// How many blocks the file has, or `InvalidData` where they aren't whole or more than a disc or a reel can have.
+/// How many blocks the file has, or `InvalidData` where it is no plain file, or where they aren't whole or more than a disc
+/// or a reel can have.
 pub fn blocks_in(file: &File) -> io::Result<u32> {
-    let bytes = file.metadata()?.len();
+    let about = file.metadata()?;
+    let bytes = about.len();
     match u32::try_from(bytes / BLOCK_BYTES) {
-        Ok(blocks) if bytes % BLOCK_BYTES == 0 => Ok(blocks),
+        Ok(blocks) if about.is_file() && bytes % BLOCK_BYTES == 0 => Ok(blocks),
         _ => Err(Error::from(ErrorKind::InvalidData)),
     }
 }

@@ -1,11 +1,11 @@
 //! One reel in a file of whole blocks. It tells no content: only its length is known, as a number.
 ghost use Rattle.std.specs.Prelude.{◌≡◌, ℕ, ◌+◌, ◌^◌, ◌<◌, ◌≤◌, List, None, Some, false};
 ghost use Rattle.g_tape.specs.Rack.{refuses_read, refuses_unmount, refuses_write};
-ghost use Rattle.g_tape.specs.Reel.{IsReel, ending, with_mounted};
+ghost use Rattle.g_tape.specs.Reel.{IsReel, ending, untold_reel, with_mounted};
 
 use crate::blocks::start_of;
 use g_base::Block;
-use g_tape::TapeFault;
+use g_tape::{ReelState, TapeFault};
 use std::fs::File;
 use std::io;
 use std::marker::Model;
@@ -14,119 +14,85 @@ use std::os::unix::fs::FileExt;
 /// What the last block of a dump, its mark, begins with (docs/FORMATS.md, "Tapes").
 const MARK: &[u8] = b"G3MK";
 
-/// A reel over an open file. Contracts see it as a reel of which nothing is told.
+/// A reel over an open file, which is locked as long as this lives. Contracts see it as a reel of which nothing is told.
 #[derive(Drop)]
 pub struct FileReel {
     file: File,
-    serial: u32,
-    capacity: u32,
-    len: u32,
-    mounted: bool,
+    state: ReelState,
 }
 
 impl Model for FileReel {
-    ghost use Rattle.std.specs.Prelude.{None};
+    ghost use Rattle.std.specs.Prelude.{◌≡◌, None};
     ghost use Rattle.g_tape.specs.Reel.{Reel};
 
     ghost Value = { Reel };
 
-    ghost view = { λ r. record {
-      serial = r.serial;
-      capacity = r.capacity;
-      len = r.len;
-      mounted = r.mounted;
-      blocks = None;
-      times_read = None;
-    } };
+    ghost view = { λ r. r.state };
+
+    ghost invariant = { λ r. (r.state.blocks ≡ None) × (r.state.times_read ≡ None) };
 }
 
 impl FileReel {
     /// The reel of `len` blocks in this file, which isn't mounted.
     pub fn new(file: File, serial: u32, capacity: u32, len: u32) -> FileReel
-        ensures { result ≡ record {
-          serial = serial;
-          capacity = capacity;
-          len = len;
-          mounted = false;
-          blocks = None;
-          times_read = None;
-        } }
+        ensures { result ≡ untold_reel serial capacity len }
     {
         FileReel {
             file,
-            serial,
-            capacity,
-            len,
-            mounted: false,
+            state: ReelState::new(serial, capacity, len),
         }
     }
 
     pub fn serial(&self) -> u32
         ensures { result ≡ self.now.serial }
     {
-        self.serial
+        self.state.serial()
     }
 
     pub fn capacity(&self) -> u32
         ensures { result ≡ self.now.capacity }
     {
-        self.capacity
+        self.state.capacity()
     }
 
     pub fn len(&self) -> u32
         ensures { result ≡ self.now.len }
     {
-        self.len
+        self.state.len()
     }
 
     pub fn is_mounted(&self) -> bool
         ensures { result ≡ self.now.mounted }
     {
-        self.mounted
+        self.state.is_mounted()
     }
 
     /// Why an unmount is refused, if it is.
     pub fn refuses_unmount(&self) -> Option<TapeFault>
         ensures { result ≡ refuses_unmount (Some self.now) }
     {
-        if self.mounted {
-            None
-        } else {
-            Some(TapeFault::NotMounted)
-        }
+        self.state.refuses_unmount()
     }
 
     /// Why a read of block k is refused, if it is.
     pub fn refuses_read(&self, k: u32) -> Option<TapeFault>
         ensures { result ≡ refuses_read k (Some self.now) }
     {
-        if !self.mounted {
-            Some(TapeFault::NotMounted)
-        } else if k < self.len {
-            None
-        } else {
-            Some(TapeFault::End)
-        }
+        self.state.refuses_read(k)
     }
 
     /// Why a write of block k is refused, if it is.
     pub fn refuses_write(&self, k: u32) -> Option<TapeFault>
         ensures { result ≡ refuses_write k (Some self.now) }
     {
-        if !self.mounted {
-            Some(TapeFault::NotMounted)
-        } else if self.len < k || !(k < self.capacity) {
-            Some(TapeFault::End)
-        } else {
-            None
-        }
+        self.state.refuses_write(k)
     }
 
     pub fn set_mounted(&mut self, mounted: bool)
         ensures value { self.new ≡ with_mounted mounted self.old }
         ensures keeps { IsReel self.old → IsReel self.new }
     {
-        self.mounted = mounted;
+        self.state.set_mounted(mounted);
     }
 
     /// Reads block k.
@@ -147,13 +113,22 @@ impl FileReel {
         ensures value { (block : List ℕ) → self.new ≡ ending k block self.old }
         ensures keeps { IsReel self.old → IsReel self.new }
     {
-        self.len = k + 1;
+        self.end_at(k);
         let completes = bytes.starts_with(MARK);
         if completes {
             self.sync()?;
         }
         self.append(k, bytes)?;
         if completes { self.sync() } else { Ok(()) }
+    }
+
+    /// Counts block k as the last one.
+    fn end_at(&mut self, k: u32)
+        requires free { refuses_write k (Some self.old) ≡ None }
+        ensures value { (block : List ℕ) → self.new ≡ ending k block self.old }
+        ensures keeps { IsReel self.old → IsReel self.new }
+    {
+        self.state.end_with(k);
     }
 
     /// Cuts the file at block k, makes room for one block and writes these bytes into it, so that it is

@@ -4,11 +4,13 @@ ghost use Rattle.g_tape.specs.Rack.{AreReels};
 ghost use Rattle.g_tape.specs.Reel.{IsReel};
 
 use crate::blocks::blocks_in;
-use crate::claim::{claim, sync_folder};
+use crate::claim::claim;
 use crate::file_reel::FileReel;
 use crate::file_tapes::FileTapes;
+use crate::names::{open_folder, open_plain};
+use crate::new_rack::make_folder;
 use g_base::{MAX_REELS, MAX_SERIAL};
-use std::fs::{self, File, OpenOptions};
+use std::fs::{self, File};
 use std::io::{self, Error, ErrorKind};
 
 /// How many blocks each reel can hold.
@@ -25,10 +27,13 @@ struct Serial {
 /// 999,999 without a leading zero, is a reel that can hold 8,192 blocks; none is mounted. Other names are
 /// passed by. Where there is no such folder it is made, with the empty reels 1 and 2.
 ///
-/// The error is `WouldBlock` where another run has the rack, and `InvalidData` where there are more than 16
-/// reels, or where one isn't whole blocks, at most 8,192; else it is the system's. What was there stays.
+/// The error is `WouldBlock` where another run has the rack, or a file that is one of its reels, or where two reels are
+/// one file, or one is the image of this run; `NotADirectory` where there is no folder, and `InvalidInput` where a reel
+/// is no plain file; `InvalidData` where there are more than 16 reels, or where one isn't whole blocks, at most 8,192;
+/// else it is the system's, or `AlreadyExists` where the name is a link to nowhere, or where under the name that a rack
+/// has in its making lies what no making left. What was there stays.
 pub fn open_rack(rt: &HostRuntime, folder: &str) -> io::Result<FileTapes> {
-    let opened = open_folder(rt, folder)?;
+    let opened = open_or_make(rt, folder)?;
     claim(&opened)?;
     let mut serials = serials_in(rt, folder)?;
     serials.sort_by_key(|serial| serial.number)?;
@@ -41,39 +46,14 @@ pub fn open_rack(rt: &HostRuntime, folder: &str) -> io::Result<FileTapes> {
 }
 
 /// Opens the folder of a rack, or makes it.
-fn open_folder(rt: &HostRuntime, folder: &str) -> io::Result<File> {
-    match File::open(rt, folder) {
+fn open_or_make(rt: &HostRuntime, folder: &str) -> io::Result<File> {
+    match open_folder(rt, folder) {
         Err(fault) if fault.kind() == ErrorKind::NotFound => {
             make_folder(rt, folder)?;
-            File::open(rt, folder)
+            open_folder(rt, folder)
         }
         opened => opened,
     }
-}
-
-/// Makes the folder of a rack under another name, and gives it the right one when its reels are there. The
-/// folder of a rack that another run made meanwhile stays, since a folder with files isn't replaced.
-fn make_folder(rt: &HostRuntime, folder: &str) -> io::Result<()> {
-    let unready = format!(in rt.alloc(); "{folder}.new")?;
-    match fs::create_dir(rt, unready.as_str()) {
-        Err(fault) if fault.kind() != ErrorKind::AlreadyExists => return Err(fault),
-        _ => {}
-    }
-    for serial in 1..3 {
-        make_reel(rt, unready.as_str(), serial)?;
-    }
-    sync_folder(rt, unready.as_str())?;
-    fs::rename(rt, unready.as_str(), folder)?;
-    sync_folder(rt, ".")
-}
-
-/// Makes the file of an empty reel.
-fn make_reel(rt: &HostRuntime, folder: &str, serial: u32) -> io::Result<()> {
-    let path = format!(in rt.alloc(); "{folder}/{serial}.tape")?;
-    let mut how = OpenOptions::new();
-    how.write(true).create(true);
-    let _file = how.open(rt, path.as_str())?;
-    Ok(())
 }
 
 /// The serials of the files in the folder that are reels, in any order.
@@ -107,15 +87,14 @@ fn serial_in(name: &str) -> Option<Serial> {
     Some(Serial { number })
 }
 
-/// Opens the file of a reel.
+/// Opens the file of a reel, for this run and this serial alone.
 fn open_reel(rt: &HostRuntime, folder: &str, serial: Serial) -> io::Result<FileReel>
     ensures { IfOk result IsReel }
 {
     let number = serial.number;
     let path = format!(in rt.alloc(); "{folder}/{number}.tape")?;
-    let mut how = OpenOptions::new();
-    how.read(true).write(true);
-    let file = how.open(rt, path.as_str())?;
+    let file = open_plain(rt, path.as_str())?;
+    claim(&file)?;
     let len = blocks_in(&file)?;
     if len > CAPACITY {
         return Err(Error::from(ErrorKind::InvalidData));

@@ -15,8 +15,6 @@ use Rattle.g_plain.specs.declared.faults.StoreFault.TheVariants.{CountersSpent, 
 use Rattle.g_contents.specs.Commits.{Commits}
 use Rattle.g_contents.specs.Contents.{Holds, recs_in, with_intent}
 use Rattle.g_contents.specs.Facts.{OnlineFacts}
-use Rattle.g_incr.specs.declared.fault.ShelfFault.{ShelfFault}
-use Rattle.g_incr.specs.declared.fault.ShelfFault.TheVariants as shelf
 use Rattle.g_incr.specs.Layout.{Dump}
 use Rattle.g_incr.specs.Plan.{IsPlan, Plan, first_content, needs}
 use Rattle.g_online.specs.Pins.{HasPinned}
@@ -90,13 +88,6 @@ abbrev pub LeftByRefusal : StoreFault → OnlineFacts → OnlineFacts → Type 0
 LeftByRefusal Stopped old new = Unit {0}
 LeftByRefusal NoMemory old new = new ≡ record old { touched = new.touched }
 LeftByRefusal fault old new = new ≡ old
-
--- what a refusal to read a reel is to the store
-abbrev pub as_refusal : ShelfFault → StoreFault
-as_refusal shelf.NoTape = NoTape
-as_refusal shelf.NotMounted = NotMounted
-as_refusal shelf.ReadFault = TapeReadFault
-as_refusal shelf.NoMemory = NoMemory
 
 -- THE DUMP OF THIS PLAN IS OPENED in memory and on the disc: the versions that wait are pinned, and one commit has put in the intent
 pub record HasOpened (plan : Plan) (old new : OnlineFacts) : Type 0 where

@@ -7,14 +7,14 @@ ghost use Rattle.g_tape.specs.Reads.{OnlyReads};
 ghost use Rattle.g_contents.specs.Facts.{IsTied};
 ghost use Rattle.g_incr.specs.Plan as plan;
 ghost use Rattle.g_state.specs.Meaning.{files_of};
-ghost use Rattle.g_dumper.specs.Beginning.{Begins, HasOpened, LeftByRefusal, RefusesOpening, StoppedAtIntent, StoppedOpening, as_refusal, held_of, plan_of};
+ghost use Rattle.g_dumper.specs.Beginning.{Begins, HasOpened, LeftByRefusal, RefusesOpening, StoppedAtIntent, StoppedOpening, held_of, plan_of};
 ghost use Rattle.g_dumper.specs.Keeps.{KeepsStore, behind_opening, up_with};
 
 use crate::dump::Dump;
 use g_base::NoMemory;
 use g_disc::Disc;
 use g_entry::{FileRec, Intent};
-use g_incr::{ShelfFault, Writer};
+use g_incr::Writer;
 use g_online::{Online, OnlineFault};
 use g_plain::StoreFault;
 use g_shelf::end_of;
@@ -22,7 +22,7 @@ use g_tape::Tapes;
 use std::alloc::Global;
 
 /// The greatest number that a dump may have.
-const LAST_NUMBER: u64 = 4_611_686_018_427_387_903;
+pub const LAST_NUMBER: u64 = 4_611_686_018_427_387_903;
 
 impl Dump {
     /// Opens a dump on the reel, behind its completed dumps: it will hold all users as they are, the files of the changed
@@ -75,7 +75,7 @@ fn begin_dump<D: Disc, T: Tapes>(
     }
     let place = match end_of(alloc, tapes, serial) {
         Ok(place) => place,
-        Err(fault) => return Err(refusal(fault)),
+        Err(fault) => return Err(fault.into()),
     };
     let (writer, first) = match planned(alloc, online, serial, place) {
         Ok(planned) => planned,
@@ -118,7 +118,7 @@ fn planned<D: Disc>(
         head.next_stamp,
         users,
         held,
-        files.as_slice(),
+        files,
     ) {
         Ok(writer) => Ok((writer, first)),
         Err(_) => Err(NoMemory),
@@ -175,8 +175,8 @@ fn open<D: Disc>(
     }
 }
 
-/// The files of these users, one user behind the other.
-fn held_files(alloc: Global, files: &[FileRec], held: &[u8]) -> Result<Vec<FileRec>, NoMemory>
+/// The files of these users, one user behind the other, as `Writer::new` takes them.
+pub fn held_files(alloc: Global, files: &[FileRec], held: &[u8]) -> Result<Vec<FileRec>, NoMemory>
     ensures { IfOk result (λ all. all.items ≡ held_of held.now files.now) }
 {
     let mut all = Vec::new(alloc);
@@ -211,17 +211,5 @@ fn room_behind<T: Tapes>(tapes: &T, serial: u32, place: u32) -> u32
     match tapes.capacity(serial) {
         Ok(capacity) => capacity.saturating_sub(place),
         Err(_) => 0,
-    }
-}
-
-/// What a refusal of a reader of tape is to the store.
-fn refusal(fault: ShelfFault) -> StoreFault
-    ensures { result ≡ as_refusal fault }
-{
-    match fault {
-        ShelfFault::NoTape => StoreFault::NoTape,
-        ShelfFault::NotMounted => StoreFault::NotMounted,
-        ShelfFault::ReadFault => StoreFault::TapeReadFault,
-        ShelfFault::NoMemory => StoreFault::NoMemory,
     }
 }

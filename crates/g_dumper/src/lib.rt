@@ -5,4 +5,5 @@ mod begin;
 mod dump;
 mod step;
 
+pub use begin::{LAST_NUMBER, held_files};
 pub use dump::{Dump, DumpStep};

@@ -117,8 +117,8 @@ fn compare(
     master: Option<StoreFault>,
 ) {
     let tree = tree(rt).expect(rt, "memory");
-    assert!(rt; refusal_of(&tree, 9, &User::macros(), call) == macros);
-    assert!(rt; refusal_of(&tree, 9, &User::master(), call) == master);
+    assert!(rt; refusal_of(&tree, 9, &User::macros(), call).err() == macros);
+    assert!(rt; refusal_of(&tree, 9, &User::master(), call).err() == master);
 }
 
 /// Calls of `MACROS` and of `MASTER` on the files of `MASTER`.

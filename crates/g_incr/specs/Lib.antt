@@ -1,4 +1,5 @@
 pub mod Ahead
+pub mod Faults
 pub mod Finding
 pub mod Layout
 pub mod Notes

@@ -1,5 +1,6 @@
 //! Why a reel could not be read.
 use g_base::NoMemory;
+use g_plain::StoreFault;
 use std::alloc::AllocError;
 use thiserror::Error;
 
@@ -39,5 +40,22 @@ impl From<NoMemory> for ShelfFault {
 
     fn from(_e: NoMemory) -> ShelfFault {
         ShelfFault::NoMemory
+    }
+}
+
+/// What the fault is to a store that hands it on as it is.
+impl From<ShelfFault> for StoreFault {
+    ghost use Rattle.std.specs.Prelude.{◌≡◌};
+    ghost use Rattle.g_incr.specs.Faults.{store_fault};
+
+    ghost from_gives = { λ fault e. e ≡ store_fault fault };
+
+    fn from(fault: ShelfFault) -> StoreFault {
+        match fault {
+            ShelfFault::NoTape => StoreFault::NoTape,
+            ShelfFault::NotMounted => StoreFault::NotMounted,
+            ShelfFault::ReadFault => StoreFault::TapeReadFault,
+            ShelfFault::NoMemory => StoreFault::NoMemory,
+        }
     }
 }

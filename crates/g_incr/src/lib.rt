@@ -19,7 +19,7 @@ pub use fault::ShelfFault;
 pub use note::{DumpDir, DumpNote};
 pub use read::read_dump;
 pub use tape::{read_block, read_blocks};
-pub use writer::{Piece, Writer};
+pub use writer::{Piece, Writer, copied_users};
 
 /// A plan gives a dump that keeps the rules of a dump, whatever the content.
 pub fn plan_gives_dump()

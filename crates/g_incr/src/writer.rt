@@ -50,7 +50,7 @@ impl Model for Writer {
 
 impl Writer {
     /// The writer of the dump of this number that begins at block `place` of the reel. It holds all users and the files of
-    /// those whose numbers are in `held`, by owner, then by number, as they are on the disc now.
+    /// those whose numbers are in `held`, by owner, then by number, as they are on the disc now: these it takes over.
     pub fn new(
         alloc: Global,
         serial: u32,
@@ -59,15 +59,14 @@ impl Writer {
         next_stamp: u64,
         users: &[UserRec],
         held: &[u8],
-        files: &[FileRec],
+        files: Vec<FileRec>,
     ) -> Result<Writer, NoMemory>
-        requires { plan.IsPlan (plan_from serial number place next_stamp users.now held.now files.now) }
-        ensures { IfOk result (λ w. w ≡ plan_from serial number place next_stamp users.now held.now files.now) }
+        requires { plan.IsPlan (plan_from serial number place next_stamp users.now held.now files.items) }
+        ensures { IfOk result (λ w. w ≡ plan_from serial number place next_stamp users.now held.now files.items) }
     {
-        let ahead = all_ahead(alloc, files)?;
+        let ahead = all_ahead(alloc, files.as_slice())?;
         let users = copied_users(alloc, users)?;
-        let held = copied_numbers(alloc, held)?;
-        let files = copied_files(alloc, files)?;
+        let held = held.to_vec(alloc)?;
         Ok(Writer {
             serial,
             place,
@@ -222,7 +221,8 @@ impl Writer {
     }
 }
 
-fn copied_users(alloc: Global, users: &[UserRec]) -> Result<Vec<UserRec>, NoMemory>
+/// The records of these users once more.
+pub fn copied_users(alloc: Global, users: &[UserRec]) -> Result<Vec<UserRec>, NoMemory>
     ensures { IfOk result (λ copied. copied.items ≡ users.now) }
 {
     let mut copied = Vec::with_capacity(alloc, users.len())?;
@@ -230,20 +230,4 @@ fn copied_users(alloc: Global, users: &[UserRec]) -> Result<Vec<UserRec>, NoMemo
         copied.push(user.copy())?;
     }
     Ok(copied)
-}
-
-fn copied_files(alloc: Global, files: &[FileRec]) -> Result<Vec<FileRec>, NoMemory>
-    ensures { IfOk result (λ copied. copied.items ≡ files.now) }
-{
-    let mut copied = Vec::with_capacity(alloc, files.len())?;
-    for file in files {
-        copied.push(file.copy())?;
-    }
-    Ok(copied)
-}
-
-fn copied_numbers(alloc: Global, numbers: &[u8]) -> Result<Vec<u8>, NoMemory>
-    ensures { IfOk result (λ copied. copied.items ≡ numbers.now) }
-{
-    Ok(numbers.to_vec(alloc)?)
 }

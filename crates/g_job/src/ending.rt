@@ -201,7 +201,7 @@ fn line_text(alloc: Global, line: Option<JobLine>) -> Result<Option<Text>, NoMem
         return Ok(None);
     };
     let mut text = Text::new(alloc);
-    push_job_line(alloc, &mut text, line)?;
+    push_job_line(&mut text, line)?;
     text.push(b'\n')?;
     Ok(Some(text))
 }

@@ -207,7 +207,7 @@ fn first_line(alloc: Global, number: u64, name: &Local, user: &User) -> Result<T
     let is_short = name.as_slice().len() <= 12 && user.as_slice().len() <= 12;
     prove!(is_short);
     let mut text = Text::new(alloc);
-    push_header(alloc, &mut text, number, name, user)?;
+    push_header(&mut text, number, name, user)?;
     text.push(b'\n')?;
     Ok(text)
 }

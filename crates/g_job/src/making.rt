@@ -6,7 +6,7 @@ ghost use Rattle.g_job.specs.Turns.{turn_work};
 ghost use Rattle.g_plain.specs.Asks.{RanInPart};
 
 use crate::job::Job;
-use g_act::{Again, Made};
+use g_act::{Again, Asker, Made};
 use g_base::NoMemory;
 use g_plain::Filestore;
 use std::alloc::Global;
@@ -35,7 +35,12 @@ impl Job {
         let again = take_again(&mut self.again);
         self.wants = None;
         self.work.begin(alloc);
-        match self.work.go(alloc, store, &self.user, room, again) {
+        let asker = Asker {
+            alloc,
+            who: &self.user,
+            room,
+        };
+        match self.work.go(store, &asker, again) {
             Ok(()) => Ok(self.work.take_made(alloc)),
             Err(NoMemory) => Err(NoMemory),
         }

@@ -3,6 +3,7 @@ pub mod PartLemmas
 pub mod PieceLemmas
 pub mod PlaceLemmas
 pub mod ReadLemmas
+pub mod ReaderLemmas
 pub mod ReadingLemmas
 pub mod RestLemmas
 pub mod SameLemmas

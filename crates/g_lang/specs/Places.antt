@@ -1,5 +1,5 @@
 -- Where the code's reader stands, as a state of the reader of lines.
-use Rattle.std.specs.Prelude.{◌≡◌, ℕ, Option, Some, None}
+use Rattle.std.specs.Prelude.{◌≡◌, ◌≤◌, ℕ, List, Option, Some, None, drop, length}
 use Rattle.g_lang.specs.How as how
 use Rattle.g_lang.specs.How.{State, Next}
 use Rattle.g_lang.specs.declared.reader.Behind.{Behind}
@@ -13,28 +13,38 @@ next_of behind.Comma = how.AComma
 next_of behind.Text = how.AText
 next_of (behind.Letter equals) = how.ALetter equals
 
-abbrev pub state_of : Place → State
-state_of place.Front = how.Front
-state_of (place.Label count) = how.InLabel count
-state_of place.Gap = how.Gap
-state_of (place.Word word inner) = how.Word word.items inner
-state_of (place.Condition negated) = how.ATestFrom negated
-state_of (place.Fixed byte rest next) = how.Fixed byte rest.now (next_of next)
-state_of (place.Letter equals) = how.Letter equals
-state_of place.Text = how.InText
-state_of place.BeforeComma = how.BeforeComma
-state_of place.BeforeLabel = how.ALabel
-state_of (place.Goto count) = how.InGoto count
-state_of place.Back = how.Back
-state_of place.VerbGap = how.VerbGap
-state_of (place.Params depth) = how.Params depth
+-- a word's first byte stands at this place of the text; 0 where the reader stands in none
+abbrev pub word_start : Place → ℕ
+word_start (place.Word start inner) = start
+word_start here = 0
+
+-- the state behind a text
+abbrev pub state_of : List ℕ → Place → State
+state_of text place.Front = how.Front
+state_of text (place.Label count) = how.InLabel count
+state_of text place.Gap = how.Gap
+state_of text (place.Word start inner) = how.Word (drop start text) inner
+state_of text (place.Condition negated) = how.ATestFrom negated
+state_of text (place.Fixed byte rest next) = how.Fixed byte rest.now (next_of next)
+state_of text (place.Letter equals) = how.Letter equals
+state_of text place.Text = how.InText
+state_of text place.BeforeComma = how.BeforeComma
+state_of text place.BeforeLabel = how.ALabel
+state_of text (place.Goto count) = how.InGoto count
+state_of text place.Back = how.Back
+state_of text place.VerbGap = how.VerbGap
+state_of text (place.Params depth) = how.Params depth
 
 -- within so many brackets
 abbrev pub depth_of : State → ℕ
 depth_of (how.Params depth) = depth
 depth_of s = 0
 
--- the reader goes on as it should
-abbrev pub Steps : Option State → Option Place → Type 0
-Steps expected None = expected ≡ None
-Steps expected (Some here) = expected ≡ Some (state_of here)
+-- the reader goes on as it should, behind this text
+abbrev pub Steps : Option State → List ℕ → Option Place → Type 0
+Steps expected text None = expected ≡ None
+Steps expected text (Some here) = (expected ≡ Some (state_of text here)) × (word_start here ≤ length text)
+
+-- and so behind any text
+abbrev pub Goes : Option State → Option Place → Type 0
+Goes expected result = (text : List ℕ) → Steps expected text result

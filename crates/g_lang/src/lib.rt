@@ -16,3 +16,4 @@ pub use label::Label;
 pub use laws::{lines_are_read_by_the_grammar, same_conditions_are_equal};
 pub use line::{Command, Cond, Line, Test};
 pub use parse::{is_input_line, label_of, parse_line};
+pub use pieces::{behind, trimmed};

@@ -6,7 +6,7 @@ ghost use Rattle.g_lang.specs.Said.{Reads, IsReadAs, command_said, line_said, is
 ghost use Rattle.g_lang.specs.Texts.{HasCommands, IsVerbText};
 ghost use Rattle.g_lang.specs.Words.{label_in};
 
-use crate::bytes::is_label;
+use crate::bytes::{is_digit, is_label};
 use crate::pieces::{
     behind, split_at_comma, split_condition, split_word, trimmed, without_front, without_last,
 };
@@ -21,8 +21,15 @@ use std::alloc::Global;
 pub fn label_of(text: &[u8]) -> Option<Label>
     ensures { result ≡ label_in text.now }
 {
-    let (word, _) = split_word(without_front(text));
-    Label::new(word)
+    let line = without_front(text);
+    // Most lines have no label: the first byte tells it.
+    match line.split_first() {
+        Some((first, _)) if is_digit(*first) => {
+            let (word, _) = split_word(line);
+            Label::new(word)
+        }
+        _ => None,
+    }
 }
 
 /// What a line says (`docs/DEFINITIONS.md`, "Lines of the command language").

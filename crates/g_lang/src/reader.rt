@@ -1,11 +1,10 @@
 //! A reader of lines that takes one byte after another: it tells where a text goes wrong, and takes no memory.
-ghost use Rattle.std.specs.Prelude.{◌≡◌, ◌^◌, ◌<◌};
+ghost use Rattle.std.specs.Prelude.{◌≡◌, ◌^◌, ◌<◌, ◌≤◌, ◌∷◌, ◌++◌, [], List, drop, length, ℕ};
 ghost use Rattle.g_name.specs.Words.{extends as extends_word};
 ghost use Rattle.g_lang.specs.How as how;
-ghost use Rattle.g_lang.specs.Places.{Steps, state_of, next_of, depth_of};
+ghost use Rattle.g_lang.specs.Places.{Goes, Steps, state_of, next_of, depth_of, word_start};
 
 use crate::bytes::{is_digit, is_letter, is_name_char, is_param_letter, is_printed};
-use arrayvec::ArrayVec;
 
 /// What comes behind a fixed text of a condition.
 #[derive(Clone, Copy, Debug)]
@@ -18,7 +17,7 @@ enum Behind {
 }
 
 /// Where in a line the reader stands.
-#[derive(Debug, Drop)]
+#[derive(Clone, Copy, Debug)]
 enum Place {
     /// In the spaces in front.
     Front,
@@ -26,9 +25,9 @@ enum Place {
     Label(usize),
     /// Behind a label and a space.
     Gap,
-    /// In the first word of a command; whether it stands behind a condition.
+    /// In the first word of a command, which begins at this byte of the text; whether it stands behind a condition.
     Word {
-        word: ArrayVec<u8, 12>,
+        start: usize,
         inner: bool,
     },
     /// Before a condition; whether NOT stands before it.
@@ -67,12 +66,12 @@ pub fn wrong_place(text: &[u8]) -> Option<usize>
 {
     let mut place = Place::Front;
     for (at, byte) in text.iter().enumerate() {
-        match place.step(*byte) {
+        match place.step(&text[..at], *byte) {
             Some(next) => place = next,
             None => return Some(at),
         }
     }
-    if place.may_end() {
+    if place.may_end(text) {
         None
     } else {
         Some(text.len())
@@ -81,15 +80,16 @@ pub fn wrong_place(text: &[u8]) -> Option<usize>
 
 impl Place {
     /// The place behind the next byte, if some line goes on with it.
-    fn step(self, byte: u8) -> Option<Place>
-        requires { depth_of (state_of self) < 2 ^ 63 }
-        ensures { Steps (how.step byte (state_of self)) result }
+    fn step(self, before: &[u8], byte: u8) -> Option<Place>
+        requires depth { depth_of (state_of before.now self) < 2 ^ 63 }
+        requires word { word_start self ≤ length before.now }
+        ensures { Steps (how.step byte (state_of before.now self)) (before.now ++ byte ∷ []) result }
     {
         match self {
-            Place::Front => in_front(byte),
+            Place::Front => in_front(before, byte),
             Place::Label(count) => in_label(count, byte),
-            Place::Gap => in_gap(byte),
-            Place::Word { word, inner } => in_word(word, inner, byte),
+            Place::Gap => in_gap(before, byte),
+            Place::Word { start, inner } => in_word(start, inner, before, byte),
             Place::Condition { negated } => in_condition(negated, byte),
             Place::Fixed {
                 byte: first,
@@ -98,7 +98,7 @@ impl Place {
             } => in_fixed(first, rest, behind, byte),
             Place::Letter { equals } => in_letter(equals, byte),
             Place::Text => in_text(byte),
-            Place::BeforeComma => in_comma(byte),
+            Place::BeforeComma => in_comma(before, byte),
             Place::BeforeLabel => in_before_label(byte),
             Place::Goto(count) => in_goto(count, byte),
             Place::Back => in_back(byte),
@@ -107,9 +107,10 @@ impl Place {
         }
     }
 
-    /// Whether a line may end here.
-    fn may_end(&self) -> bool
-        ensures { result ≡ how.may_end (state_of self.now) }
+    /// Whether a line may end here, behind this text.
+    fn may_end(self, text: &[u8]) -> bool
+        requires { word_start self ≤ length text.now }
+        ensures { result ≡ how.may_end (state_of text.now self) }
     {
         match self {
             Place::Front
@@ -118,8 +119,8 @@ impl Place {
             | Place::Goto(_)
             | Place::Back
             | Place::VerbGap => true,
-            Place::Word { word, inner } => is_whole_verb(word.as_slice(), *inner),
-            Place::Params(depth) => *depth == 0,
+            Place::Word { start, inner } => is_whole_verb(&text[start..], inner),
+            Place::Params(depth) => depth == 0,
             Place::Condition { .. }
             | Place::Fixed { .. }
             | Place::Letter { .. }
@@ -130,8 +131,8 @@ impl Place {
     }
 }
 
-fn in_front(byte: u8) -> Option<Place>
-    ensures { Steps (how.step byte how.Front) result }
+fn in_front(before: &[u8], byte: u8) -> Option<Place>
+    ensures { Steps (how.step byte how.Front) (before.now ++ byte ∷ []) result }
 {
     if byte == b' ' {
         return Some(Place::Front);
@@ -139,11 +140,11 @@ fn in_front(byte: u8) -> Option<Place>
     if is_digit(byte) {
         return Some(Place::Label(1));
     }
-    in_word(ArrayVec::new(), false, byte)
+    in_word(before.len(), false, before, byte)
 }
 
 fn in_label(length: usize, byte: u8) -> Option<Place>
-    ensures { Steps (how.step byte (how.InLabel length)) result }
+    ensures { Goes (how.step byte (how.InLabel length)) result }
 {
     if is_name_char(byte) && length < 12 {
         return Some(Place::Label(length + 1));
@@ -151,24 +152,26 @@ fn in_label(length: usize, byte: u8) -> Option<Place>
     if byte == b' ' { Some(Place::Gap) } else { None }
 }
 
-fn in_gap(byte: u8) -> Option<Place>
-    ensures { Steps (how.step byte how.Gap) result }
+fn in_gap(before: &[u8], byte: u8) -> Option<Place>
+    ensures { Steps (how.step byte how.Gap) (before.now ++ byte ∷ []) result }
 {
     if byte == b' ' {
         return Some(Place::Gap);
     }
-    in_word(ArrayVec::new(), false, byte)
+    in_word(before.len(), false, before, byte)
 }
 
-fn in_word(mut word: ArrayVec<u8, 12>, inner: bool, byte: u8) -> Option<Place>
-    ensures { Steps (how.in_word word.items inner byte) result }
+/// In the word that begins at this byte of what stands before.
+fn in_word(start: usize, inner: bool, before: &[u8], byte: u8) -> Option<Place>
+    requires { start ≤ length before.now }
+    ensures { Steps (how.in_word (drop start before.now) inner byte) (before.now ++ byte ∷ []) result }
 {
-    if extends(word.as_slice(), byte) {
-        word.push(byte);
-        return Some(Place::Word { word, inner });
+    let word = &before[start..];
+    if extends(word, byte) {
+        return Some(Place::Word { start, inner });
     }
     if byte == b' ' && !word.is_empty() {
-        behind_word(word.as_slice(), inner)
+        behind_word(word, inner)
     } else {
         None
     }
@@ -185,7 +188,7 @@ fn extends(word: &[u8], byte: u8) -> bool
 }
 
 fn behind_word(word: &[u8], inner: bool) -> Option<Place>
-    ensures { Steps (how.state_behind_word word.now inner) result }
+    ensures { Goes (how.state_behind_word word.now inner) result }
 {
     if word == b"IF".as_slice() || word == b"WHENEVER".as_slice() {
         return Some(Place::Condition { negated: false });
@@ -211,7 +214,7 @@ fn is_whole_verb(word: &[u8], inner: bool) -> bool
 }
 
 fn in_condition(negated: bool, byte: u8) -> Option<Place>
-    ensures { Steps (how.test_from negated byte) result }
+    ensures { Goes (how.test_from negated byte) result }
 {
     match byte {
         b'N' if !negated => Some(fixed(b"OT ", Behind::Test)),
@@ -228,7 +231,8 @@ fn in_condition(negated: bool, byte: u8) -> Option<Place>
 
 /// In a fixed text, or behind it where it is empty.
 fn fixed(text: &'static [u8], behind: Behind) -> Place
-    ensures { state_of result ≡ how.fixed text.now (next_of behind) }
+    ensures state { (before : List ℕ) → state_of before result ≡ how.fixed text.now (next_of behind) }
+    ensures word { word_start result ≡ 0 }
 {
     match text.split_first() {
         Some((byte, rest)) => Place::Fixed {
@@ -241,7 +245,8 @@ fn fixed(text: &'static [u8], behind: Behind) -> Place
 }
 
 fn behind_fixed(behind: Behind) -> Place
-    ensures { state_of result ≡ how.behind_fixed (next_of behind) }
+    ensures state { (text : List ℕ) → state_of text result ≡ how.behind_fixed (next_of behind) }
+    ensures word { word_start result ≡ 0 }
 {
     match behind {
         Behind::Test => Place::Condition { negated: true },
@@ -252,7 +257,7 @@ fn behind_fixed(behind: Behind) -> Place
 }
 
 fn in_fixed(first: u8, rest: &'static [u8], behind: Behind, byte: u8) -> Option<Place>
-    ensures { Steps (how.step byte (how.Fixed first rest.now (next_of behind))) result }
+    ensures { Goes (how.step byte (how.Fixed first rest.now (next_of behind))) result }
 {
     if byte == first {
         Some(fixed(rest, behind))
@@ -262,7 +267,7 @@ fn in_fixed(first: u8, rest: &'static [u8], behind: Behind, byte: u8) -> Option<
 }
 
 fn in_letter(equals: bool, byte: u8) -> Option<Place>
-    ensures { Steps (how.step byte (how.Letter equals)) result }
+    ensures { Goes (how.step byte (how.Letter equals)) result }
 {
     if !is_param_letter(byte) {
         return None;
@@ -275,7 +280,7 @@ fn in_letter(equals: bool, byte: u8) -> Option<Place>
 }
 
 fn in_text(byte: u8) -> Option<Place>
-    ensures { Steps (how.step byte how.InText) result }
+    ensures { Goes (how.step byte how.InText) result }
 {
     if byte == b')' {
         return Some(Place::BeforeComma);
@@ -287,20 +292,20 @@ fn in_text(byte: u8) -> Option<Place>
     }
 }
 
-fn in_comma(byte: u8) -> Option<Place>
-    ensures { Steps (how.step byte how.BeforeComma) result }
+fn in_comma(before: &[u8], byte: u8) -> Option<Place>
+    ensures { Steps (how.step byte how.BeforeComma) (before.now ++ byte ∷ []) result }
 {
     if byte != b',' {
         return None;
     }
     Some(Place::Word {
-        word: ArrayVec::new(),
+        start: before.len() + 1,
         inner: true,
     })
 }
 
 fn in_before_label(byte: u8) -> Option<Place>
-    ensures { Steps (how.step byte how.ALabel) result }
+    ensures { Goes (how.step byte how.ALabel) result }
 {
     if is_digit(byte) {
         Some(Place::Goto(1))
@@ -310,7 +315,7 @@ fn in_before_label(byte: u8) -> Option<Place>
 }
 
 fn in_goto(count: usize, byte: u8) -> Option<Place>
-    ensures { Steps (how.step byte (how.InGoto count)) result }
+    ensures { Goes (how.step byte (how.InGoto count)) result }
 {
     if is_name_char(byte) && count < 12 {
         return Some(Place::Goto(count + 1));
@@ -319,7 +324,7 @@ fn in_goto(count: usize, byte: u8) -> Option<Place>
 }
 
 fn in_back(byte: u8) -> Option<Place>
-    ensures { Steps (how.step byte how.Back) result }
+    ensures { Goes (how.step byte how.Back) result }
 {
     if byte == b' ' {
         Some(Place::Back)
@@ -329,7 +334,7 @@ fn in_back(byte: u8) -> Option<Place>
 }
 
 fn in_verb_gap(byte: u8) -> Option<Place>
-    ensures { Steps (how.step byte how.VerbGap) result }
+    ensures { Goes (how.step byte how.VerbGap) result }
 {
     if byte == b' ' {
         return Some(Place::VerbGap);
@@ -339,7 +344,7 @@ fn in_verb_gap(byte: u8) -> Option<Place>
 
 fn in_params(depth: usize, byte: u8) -> Option<Place>
     requires { depth < 2 ^ 63 }
-    ensures { Steps (how.in_params depth byte) result }
+    ensures { Goes (how.in_params depth byte) result }
 {
     match byte {
         b'(' => Some(Place::Params(depth + 1)),

@@ -36,19 +36,19 @@ fn refused(alloc: Global) -> Result<Text, Fail> {
 }
 
 /// The header of a job's file.
-fn push_head(alloc: Global, text: &mut Text) -> Result<(), Fail> {
+fn push_head(text: &mut Text) -> Result<(), Fail> {
     let job = Local::new(b"J").ok_or("a name")?;
-    push_header(alloc, text, 7, &job, &User::master())?;
+    push_header(text, 7, &job, &User::master())?;
     text.push(b'\n')?;
     Ok(())
 }
 
 /// A line that was taken, and what became of a program.
-fn push_lines(alloc: Global, text: &mut Text) -> Result<(), Fail> {
+fn push_lines(text: &mut Text) -> Result<(), Fail> {
     push_marked(text, Mark::Taken, b"X")?;
     text.push(b'\n')?;
     let word = Word::new(0o1234567).ok_or("a word")?;
-    push_job_line(alloc, text, JobLine::Illegal { word, at: 100 })?;
+    push_job_line(text, JobLine::Illegal { word, at: 100 })?;
     Ok(())
 }
 
@@ -68,10 +68,10 @@ fn ample(rt: HostRuntime) -> Result<(), Fail> {
 #[test]
 fn lines_of_a_job(rt: HostRuntime) -> Result<(), Fail> {
     let mut text = Text::new(rt.alloc());
-    push_error(rt.alloc(), &mut text, CommandError::BadLine(15))?;
+    push_error(&mut text, CommandError::BadLine(15))?;
     text.push(b'\n')?;
-    push_head(rt.alloc(), &mut text)?;
-    push_lines(rt.alloc(), &mut text)?;
+    push_head(&mut text)?;
+    push_lines(&mut text)?;
     let lines = b"50 BAD LINE 15\nJOB 7 J :MASTER\n- X\nILLEGAL 01234567 AT 100";
     assert!(rt; text.as_slice() == lines.as_slice());
     Ok(())

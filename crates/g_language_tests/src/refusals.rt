@@ -179,7 +179,7 @@ static ERRORS: [(CommandError, &[u8]); 11] = [
 fn errors(rt: HostRuntime) -> Result<(), Fail> {
     for (error, text) in ERRORS.iter() {
         let mut told = Text::new(rt.alloc());
-        push_error(rt.alloc(), &mut told, *error)?;
+        push_error(&mut told, *error)?;
         assert!(rt; told.as_slice() == *text, "{error:?}");
     }
     Ok(())

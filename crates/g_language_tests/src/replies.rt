@@ -218,7 +218,7 @@ const LINES: [(JobLine, &[u8]); 10] = [
 fn job_lines(rt: HostRuntime) -> Result<(), Fail> {
     for (line, text) in LINES {
         let mut told = Text::new(rt.alloc());
-        push_job_line(rt.alloc(), &mut told, line)?;
+        push_job_line(&mut told, line)?;
         assert!(rt; told.as_slice() == text, "{line:?}");
     }
     Ok(())
@@ -228,7 +228,7 @@ fn job_lines(rt: HostRuntime) -> Result<(), Fail> {
 fn illegal_order(rt: HostRuntime) -> Result<(), Fail> {
     let word = Word::new(0o70123456).ok_or("a word")?;
     let mut told = Text::new(rt.alloc());
-    push_job_line(rt.alloc(), &mut told, JobLine::Illegal { word, at: 32767 })?;
+    push_job_line(&mut told, JobLine::Illegal { word, at: 32767 })?;
     assert!(rt; told.as_slice() == b"ILLEGAL 70123456 AT 32767".as_slice());
     Ok(())
 }
@@ -257,13 +257,7 @@ fn marks(rt: HostRuntime) -> Result<(), Fail> {
 fn first_line(rt: HostRuntime) -> Result<(), Fail> {
     let mut told = Text::new(rt.alloc());
     let name = Local::new(b"ONE").ok_or("a name")?;
-    push_header(
-        rt.alloc(),
-        &mut told,
-        18446744073709551615,
-        &name,
-        &User::master(),
-    )?;
+    push_header(&mut told, 18446744073709551615, &name, &User::master())?;
     assert!(rt; told.as_slice() == b"JOB 18446744073709551615 ONE :MASTER".as_slice());
     Ok(())
 }

@@ -1,12 +1,14 @@
 -- A text and its lines, each with its byte 10.
 use Rattle.std.proofs.Common.{◌≡◌, ◌≢◌, ◌==◌, Bool, true, false, eqb, eqb-true, eq-eqb, ◌<◌, ◌≤◌, ◌+◌, ◌-◌, ℕ, List, [], ◌∷◌, ◌++◌, ◌⊎◌, inl, inr, length, get_or, take, not, suc, zero, All, if◌then◌else◌, sym, ap, subst, ◌∙◌, refl, arith}
+use Rattle.std.proofs.Common.{Err, Ok, Result}
 use Rattle.std.specs.List.{AllByRecursion}
+use Rattle.std.specs.Prelude.{OnErr, OnOk}
 use Rattle.std.proofs.lemmas.Bool.{cond_both, eqb-false, false≢true}
 use Rattle.std.proofs.lemmas.List.{append-nil, length-append, take_at, take-append-le}
 use Rattle.std.proofs.lemmas.List.Concat.{flat_map-append}
 use Rattle.std.proofs.lemmas.List.Elements.{All-cons, All-nil, All-from_recursion}
 use Rattle.g_lines.proofs.LineLemmas.{lines-last, lines_of_some, onto_text, text-lines}
-use Rattle.g_lines.specs.Documents.{IsWhole}
+use Rattle.g_lines.specs.Documents.{IsOneLine, IsWhole}
 use Rattle.g_lines.specs.Lines.{ended, lines_of, onto_first, text_of}
 
 -- no byte 10 in any line
@@ -160,3 +162,32 @@ text_more lines line =
 pub front_long : (text : List ℕ) (lines more : List (List ℕ)) → lines_of text ≡ lines ++ more → length (text_of lines) ≤ length text + 1
 front_long text lines more e =
     omega (arith, back_long text, ap length (ap text_of e ∙ flat_map-append ended lines more), length-append (text_of lines) (text_of more))
+
+-- A LINE IS PUT BEHIND A TEXT whose lines have their bytes 10: it is the last of its lines, with its byte 10
+pub line_behind : (text line : List ℕ) → IsWhole text → IsOneLine line → (lines_of (text ++ ended line) ≡ lines_of text ++ line ∷ []) × IsWhole (text ++ ended line)
+line_behind text line whole one =
+    let lines = lines_of text in
+    let joined : text_of (lines ++ line ∷ []) ≡ text ++ ended line = text_more-is text line whole in
+    let apart : AreOneLines (lines ++ line ∷ []) = one_behind lines line (lines_one text) one in
+    let back : lines_of (text_of (lines ++ line ∷ [])) ≡ lines ++ line ∷ [] =
+    text-lines (lines ++ line ∷ []) (All-from_recursion (λ (l : List ℕ). All (λ b. b ≢ 10) l) (lines ++ line ∷ []) apart) in
+    let read : lines_of (text ++ ended line) ≡ lines ++ line ∷ [] = ap lines_of (sym joined) ∙ back in
+    (read, ap text_of read ∙ joined)
+  where
+    text_more-is : (text line : List ℕ) → IsWhole text → text_of (lines_of text ++ line ∷ []) ≡ text ++ ended line
+    text_more-is text line whole = flat_map-append ended (lines_of text) (line ∷ []) ∙ ap (λ (t : List ℕ). t ++ text_of (line ∷ [])) whole ∙ ap (λ (t : List ℕ). text ++ t) (append-nil (ended line))
+
+    one_behind : (lines : List (List ℕ)) (line : List ℕ) → AreOneLines lines → IsOneLine line → AreOneLines (lines ++ line ∷ [])
+    one_behind [] line are one = (one, tt)
+    one_behind (l ∷ lines) line are one = (are.0, one_behind lines line are.1 one)
+
+-- what a text is that a line was put behind, or that stayed as it was
+pub pushed_whole : {A E : Type 0} (r : Result A E) (text line bytes new : List ℕ) → IsWhole text → IsOneLine line → bytes ≡ ended line → OnOk r (new ≡ text ++ bytes) → OnErr r (new ≡ text) → IsWhole new
+pushed_whole (Ok x) text line bytes new whole one is ok err = subst IsWhole (sym (ok ∙ ap (λ (t : List ℕ). text ++ t) is)) (line_behind text line whole one).1
+pushed_whole (Err e) text line bytes new whole one is ok err = subst IsWhole (sym err) whole
+
+pub pushed_lines : {A E : Type 0} (r : Result A E) (text line bytes new : List ℕ) (lines : List (List ℕ)) → IsWhole text → IsOneLine line → bytes ≡ ended line → lines_of text ≡ lines
+    → OnOk r (new ≡ text ++ bytes) → OnOk r (lines_of new ≡ lines ++ line ∷ [])
+pushed_lines (Ok x) text line bytes new lines whole one is same ok =
+    ap lines_of (ok ∙ ap (λ (t : List ℕ). text ++ t) is) ∙ (line_behind text line whole one).0 ∙ ap (λ (ls : List (List ℕ)). ls ++ line ∷ []) same
+pushed_lines (Err e) text line bytes new lines whole one is same ok = tt

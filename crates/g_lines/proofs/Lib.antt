@@ -1,3 +1,4 @@
 pub mod CursorLemmas
 pub mod DocumentLemmas
 pub mod LineLemmas
+pub mod NumberLemmas

@@ -6,15 +6,15 @@ use Rattle.std.proofs.lemmas.List.Elements.{recursion_from_All}
 use Rattle.std.specs.Prelude.{if◌then◌else◌}
 use Rattle.g_lines.specs.Lines.{ended, lines_of, onto_first, text_of}
 
--- a line without a byte 10
-abbrev pub IsOneLine : List ℕ → Type 0
-IsOneLine line = AllByRecursion (λ b. b ≢ 10) line
+-- a line without a byte 10, byte by byte
+abbrev pub HasNoEnd : List ℕ → Type 0
+HasNoEnd line = AllByRecursion (λ b. b ≢ 10) line
 
-pub lines_of-line : (line rest : List ℕ) → IsOneLine line → lines_of (line ++ 10 ∷ rest) ≡ line ∷ lines_of rest
+pub lines_of-line : (line rest : List ℕ) → HasNoEnd line → lines_of (line ++ 10 ∷ rest) ≡ line ∷ lines_of rest
 lines_of-line [] rest one = refl
 lines_of-line (b ∷ line) rest one = rw (ne_eqb b 10 one.0, lines_of-line line rest one.1) refl
 
-pub lines_of-last : (b : ℕ) (line : List ℕ) → IsOneLine (b ∷ line) → lines_of (b ∷ line) ≡ (b ∷ line) ∷ []
+pub lines_of-last : (b : ℕ) (line : List ℕ) → HasNoEnd (b ∷ line) → lines_of (b ∷ line) ≡ (b ∷ line) ∷ []
 lines_of-last b [] one = rw (ne_eqb b 10 one.0) refl
 lines_of-last b (c ∷ line) one = rw (ne_eqb b 10 one.0, lines_of-last c line one.1) refl
 

@@ -1,10 +1,14 @@
 -- Documents: lines one behind the other in one text, and how many of them were taken.
-use Rattle.std.specs.Prelude.{ℕ, List, drop, length, take, ◌≡◌, ◌≤◌}
+use Rattle.std.specs.Prelude.{All, ℕ, List, [], drop, length, take, ◌++◌, ◌≡◌, ◌≢◌, ◌≤◌, ◌∷◌}
 use Rattle.g_lines.specs.Lines.{lines_of, text_of}
 
 -- the text in which each of its lines has its byte 10
 abbrev pub IsWhole : List ℕ → Type 0
 IsWhole text = text_of (lines_of text) ≡ text
+
+-- one line: it has no byte 10
+abbrev pub IsOneLine : List ℕ → Type 0
+IsOneLine line = All (λ byte. byte ≢ 10) line
 
 -- the lines, and how many of them were taken
 pub record Taking : Type 0 where
@@ -16,6 +20,10 @@ untaken lines = record { lines = lines; taken = 0 }
 
 abbrev pub with_taken : ℕ → Taking → Taking
 with_taken taken t = record { lines = t.lines; taken = taken }
+
+-- a line more behind the others, of which as many were taken as before
+abbrev pub with_line : List ℕ → Taking → Taking
+with_line line t = record { lines = t.lines ++ line ∷ []; taken = t.taken }
 
 abbrev pub lines_left : Taking → List (List ℕ)
 lines_left t = drop t.taken t.lines

@@ -1,10 +1,12 @@
 //! The lines of a document, taken one after the other.
-ghost use Rattle.std.specs.Prelude.{◌≡◌, ◌<◌, ◌≤◌, ◌+◌, ◌^◌, [], length, nat_lt, slice_index_or, take};
-ghost use Rattle.g_lines.specs.Documents.{IsWhole, lines_left, untaken, with_taken};
+ghost use Rattle.std.specs.Prelude.{◌≡◌, ◌<◌, ◌≤◌, ◌+◌, [], length, nat_lt, slice_index_or, take, OnErr, OnOk};
+ghost use Rattle.g_lines.specs.Documents.{IsOneLine, lines_left, untaken, with_line, with_taken};
 ghost use Rattle.g_lines.specs.Lines.{lines_of, text_of};
 
 use crate::document::Document;
-use crate::lines::{Lines, split_line};
+use crate::lines::split_line;
+use g_base::NoMemory;
+use g_name::Text;
 use std::marker::Model;
 
 /// A document of which lines are taken. Contracts see the lines, and how many of them were taken.
@@ -48,12 +50,12 @@ impl Cursor {
         self.at < self.document.as_text().len()
     }
 
-    /// All lines, which are less than 2^63.
-    pub fn all(&self) -> Lines
-        ensures same { result ≡ self.now.lines }
-        ensures few { length self.now.lines < 2 ^ 63 }
+    /// The text of all lines, each with its byte 10.
+    pub fn all(&self) -> &[u8]
+        ensures text { result.now ≡ text_of self.now.lines }
+        ensures lines { lines_of result.now ≡ self.now.lines }
     {
-        Lines::new(self.document.as_text())
+        self.document.as_text()
     }
 
     /// The text of the lines that are left, each with its byte 10.
@@ -95,28 +97,22 @@ impl Cursor {
         self.taken += lines;
     }
 
-    /// Counts so many lines as taken, and no others.
-    pub fn go_to(&mut self, taken: usize)
-        requires { taken ≤ length self.old.lines }
-        ensures { self.new ≡ with_taken taken self.old }
+    /// Counts so many lines as taken, and no others; they have so many bytes with their bytes 10.
+    pub fn go_to(&mut self, lines: usize, bytes: usize)
+        requires within { lines ≤ length self.old.lines }
+        requires bytes { bytes ≡ length (text_of (take lines self.old.lines)) }
+        ensures { self.new ≡ with_taken lines self.old }
     {
-        self.at = bytes_of(self.document.as_text(), taken);
-        self.taken = taken;
+        self.taken = lines;
+        self.at = bytes;
     }
-}
 
-/// How many bytes the first lines of a text have, with their bytes 10.
-fn bytes_of(text: &[u8], count: usize) -> usize
-    requires { IsWhole text.now }
-    ensures { result ≡ length (text_of (take count (lines_of text.now))) }
-{
-    let mut lines = Lines::new(text);
-    let mut bytes = 0;
-    for _ in 0..count {
-        let Some(line) = lines.next() else {
-            return bytes;
-        };
-        bytes += line.len() + 1;
+    /// Puts a line behind the others; without memory nothing changes.
+    pub fn add_line(&mut self, line: Text) -> Result<(), NoMemory>
+        requires { IsOneLine line }
+        ensures ok { OnOk result (self.new ≡ with_line line self.old) }
+        ensures err { OnErr result (self.new ≡ self.old) }
+    {
+        self.document.push(line)
     }
-    bytes
 }

@@ -1,6 +1,6 @@
 //! Lines one behind the other in one text.
-ghost use Rattle.std.specs.Prelude.{◌≡◌, [], IfOk, OnOk, IsTrue, IsFalse};
-ghost use Rattle.g_lines.specs.Documents.{IsWhole};
+ghost use Rattle.std.specs.Prelude.{◌≡◌, ◌∷◌, ◌++◌, [], IfOk, OnErr, OnOk, IsTrue, IsFalse};
+ghost use Rattle.g_lines.specs.Documents.{IsOneLine, IsWhole};
 ghost use Rattle.g_lines.specs.Lines.{ended, lines_of, text_of};
 
 use g_base::NoMemory;
@@ -44,6 +44,17 @@ impl Document {
         copy.extend(text)?;
         end_last(&mut copy)?;
         Ok(Document { text: copy })
+    }
+
+    /// Puts a line behind the others; without memory the document stays as it was.
+    pub fn push(&mut self, line: Text) -> Result<(), NoMemory>
+        requires { IsOneLine line }
+        ensures ok { OnOk result (self.new ≡ self.old ++ line ∷ []) }
+        ensures err { OnErr result (self.new ≡ self.old) }
+    {
+        let mut ended = line;
+        ended.push(b'\n')?;
+        self.text.extend(ended.as_slice())
     }
 
     /// The text of the lines, each with its byte 10.

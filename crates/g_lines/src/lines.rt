@@ -69,7 +69,7 @@ pub fn split_line(text: &[u8]) -> (&[u8], &[u8])
 }
 
 /// What stands before and behind the first byte of that value.
-fn split_at_byte(text: &[u8], byte: u8) -> Option<(&[u8], &[u8])>
+pub fn split_at_byte(text: &[u8], byte: u8) -> Option<(&[u8], &[u8])>
     ensures split { MatchOption result
         (All (λ b. b ≢ byte) text.now)
         (λ parts. (text.now ≡ parts.0.now ++ byte ∷ parts.1.now) × All (λ b. b ≢ byte) parts.0.now) }

@@ -126,7 +126,7 @@ letter-inside letter count is all =
     omega (arith, high, all)
 
 -- a line without `%` stays as it is
-expand-plain : (params : List (List ℕ)) (done line : List ℕ) → list_any (λ (c : ℕ). c == 37) line ≡ false → expand params done line ≡ line
+pub expand-plain : (params : List (List ℕ)) (done line : List ℕ) → list_any (λ (c : ℕ). c == 37) line ≡ false → expand params done line ≡ line
 expand-plain params done [] none = refl
 expand-plain params done (c ∷ []) none = refl
 expand-plain params done (c ∷ d ∷ rest) none =

@@ -1,4 +1,6 @@
 pub mod FrontLemmas
+pub mod HoldingLemmas
+pub mod LabelLemmas
 pub mod LevelLemmas
 pub mod PlaceLemmas
 pub mod SpanLemmas

@@ -1,6 +1,7 @@
 -- How the calls of the levels answer.
 use Rattle.std.specs.Prelude.{Err, List, None, Ok, Option, Result, Some, false, true, ℕ, ⊤, ◌≡◌, ◌≢◌}
 use Rattle.g_lang.specs.declared.line.Cond.{Cond}
+use Rattle.g_macro.specs.Holding.{with_typed}
 use Rattle.g_macro.specs.Levels.{Line, Nothing, Stack, TooLong, begun, called, current, document_of, document_passed, fired, gone_to, is_deepest, is_full_for, line_of_label, next_line, with_whenever}
 use Rattle.g_macro.specs.declared.fault.MacroFault.{MacroFault}
 use Rattle.g_macro.specs.declared.outcome.Outcome.{Outcome}
@@ -17,6 +18,11 @@ TakesLine old new (Ok (Some text)) = next_line old ≡ (Line text, new)
 TakesLine old new (Err (fault.TooLong front)) = next_line old ≡ (TooLong front, new)
 TakesLine old new (Err fault.NoMemory) = ((next_line old).0 ≢ Nothing) × (new ≡ old)
 TakesLine old new (Err refusal) = ⊥
+
+abbrev pub Adds : List ℕ → Stack → Stack → Result (Unit {0}) MacroFault → Type 0
+Adds line old new (Ok done) = new ≡ with_typed line old
+Adds line old new (Err fault.NoMemory) = new ≡ old
+Adds line old new (Err refusal) = ⊥
 
 abbrev pub TakesDocument : Stack → Stack → Result (List ℕ) MacroFault → Type 0
 TakesDocument old new (Ok text) = (text ≡ document_of old) × (new ≡ document_passed old)

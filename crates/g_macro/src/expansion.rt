@@ -2,10 +2,12 @@
 ghost use Rattle.std.specs.Prelude.{◌≡◌, ◌++◌, ◌∷◌, ◌≤◌, [], ℕ, List, length, IfOk};
 ghost use Rattle.g_macro.specs.Expansion as expansion;
 ghost use Rattle.g_macro.specs.Fronts.{Holds, IsFilled};
+ghost use Rattle.g_macro.specs.Holding.{takes_input};
+ghost use Rattle.g_macro.specs.Levels.{as_taken};
 
 use arrayvec::ArrayVec;
 use g_base::NoMemory;
-use g_lang::is_param_letter;
+use g_lang::{is_input_line, is_param_letter};
 use g_name::Text;
 use std::alloc::Global;
 
@@ -73,6 +75,19 @@ pub fn fill_in(alloc: Global, params: &[Text], line: &[u8]) -> Result<Filled, No
         text,
         is_cut: front.is_cut,
     })
+}
+
+/// Whether the verb of a line is INPUT once the parameters are put in; a line that is longer than 240 bytes then is none.
+/// It takes no memory.
+pub fn is_input(params: &[Text], line: &[u8]) -> bool
+    requires { length params.now ≡ 24 }
+    ensures { result ≡ takes_input (as_taken (expansion.substituted params.now line.now)) }
+{
+    if line.len() <= MOST && !line.contains(&b'%') {
+        return is_input_line(line);
+    }
+    let front = expand(params, line);
+    !front.is_cut && is_input_line(front.bytes.as_slice())
 }
 
 /// The front of a line once the parameters are put in. It takes no memory.

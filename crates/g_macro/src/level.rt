@@ -1,18 +1,20 @@
 //! One level: the lines of a document or a macro, its parameters, and the commands that wait in it.
-ghost use Rattle.std.specs.Prelude.{◌≡◌, ◌++◌, ◌+◌, ◌-◌, ◌<◌, ◌≤◌, ◌^◌, true, false, None, Some, drop, length, IfOk, IfSome, MatchOption, OnErr, OnOk, slice_index_or};
+ghost use Rattle.std.specs.List.{list_any};
+ghost use Rattle.std.specs.Prelude.{◌≡◌, ◌++◌, ◌+◌, ◌-◌, ◌<◌, ◌≤◌, true, false, None, Some, drop, length, IfOk, IfSome, MatchOption, OnErr, OnOk, slice_index_or, take};
 ghost use Rattle.g_lang.specs.Conditions.{IsLetter};
 ghost use Rattle.g_lang.specs.Lines.{IsCommandText};
 ghost use Rattle.g_macro.specs.Asked as asked;
 ghost use Rattle.g_macro.specs.Expansion.{substituted, param_of};
 ghost use Rattle.g_macro.specs.Fronts.{IsFilled};
+ghost use Rattle.g_macro.specs.Holding as holding;
 ghost use Rattle.g_macro.specs.Levels as levels;
 ghost use Rattle.g_macro.specs.LevelReplies.{KeepsIn};
-ghost use Rattle.g_lines.specs.Documents.{IsWhole};
+ghost use Rattle.g_lines.specs.Documents.{IsOneLine, IsWhole};
 ghost use Rattle.g_lines.specs.Lines.{lines_of, text_of};
-ghost use Rattle.g_macro.specs.Spans.{IsSpan};
+ghost use Rattle.g_macro.specs.Spans.{IsLinePlace, IsSpan};
 
 use crate::entry::Entry;
-use crate::expansion::{Filled, fill_in};
+use crate::expansion::{Filled, fill_in, is_input};
 use crate::{MacroFault, Outcome};
 use g_base::NoMemory;
 use g_lang::{Cond, Label, Test, label_of};
@@ -106,21 +108,41 @@ impl Level {
         Ok(text)
     }
 
-    /// The first line that has this label.
-    pub fn line_of(&self, label: &Label) -> Option<usize>
-        ensures same { result ≡ levels.line_of_label label.now self.now.lines }
-        ensures within { MatchOption result (levels.line_of_label label.now self.now.lines ≡ None)
-            (λ place. place < length self.now.lines) }
+    /// Where the first line stands that has this label.
+    pub fn line_of(&self, label: &Label) -> Option<LinePlace>
+        ensures { MatchOption result (levels.line_of_label label.now self.now.lines ≡ None)
+            (λ place. IsLinePlace label.now self.now.lines place) }
     {
-        place_of_label(&mut self.cursor.all(), label)
+        place_of_label(self.cursor.all(), label)
     }
 
     /// Goes on at this line.
-    pub fn go_to(&mut self, place: usize)
-        requires { place < length self.old.lines }
-        ensures { self.new ≡ levels.at_line place self.old }
+    pub fn go_to(&mut self, place: LinePlace)
+        requires within { place.lines < length self.old.lines }
+        requires bytes { place.bytes ≡ length (text_of (take place.lines self.old.lines)) }
+        ensures { self.new ≡ levels.at_line place.lines self.old }
     {
-        self.cursor.go_to(place);
+        self.cursor.go_to(place.lines, place.bytes);
+    }
+
+    /// Puts a line behind the others; without memory nothing changes.
+    pub fn add_line(&mut self, line: Text) -> Result<(), NoMemory>
+        requires { IsOneLine line }
+        ensures ok { OnOk result (self.new ≡ holding.line_added line self.old) }
+        ensures err { OnErr result (self.new ≡ self.old) }
+    {
+        self.cursor.add_line(line)
+    }
+
+    /// Whether the next line may be taken while lines may still come: one is left, and it is no INPUT, or its document
+    /// ends with `////`. It takes no memory.
+    pub fn is_ready(&self) -> bool
+        ensures { result ≡ holding.line_ready self.now }
+    {
+        if !self.cursor.has_line() {
+            return false;
+        }
+        !is_input(self.params.as_slice(), self.cursor.line()) || is_closed(self.cursor.left())
     }
 
     /// Lets a command wait for a condition.
@@ -194,6 +216,27 @@ pub(crate) struct Span {
     pub(crate) bytes: usize,
 }
 
+/// Where a line stands: how many lines are before it, and how many bytes these have, with their bytes 10.
+#[derive(Clone, Copy)]
+pub struct LinePlace {
+    pub lines: usize,
+    pub bytes: usize,
+}
+
+/// Whether `////` stands behind the first of these lines.
+fn is_closed(left: &[u8]) -> bool
+    ensures { result ≡ list_any levels.is_closing (drop 1 (lines_of left.now)) }
+{
+    let mut lines = Lines::new(left);
+    let _first = lines.next();
+    while let Some(line) = lines.next() {
+        if line == b"////".as_slice() {
+            return true;
+        }
+    }
+    false
+}
+
 /// How far the document goes that begins with these lines: to the first `////`, or to their end.
 fn span_of(left: &[u8]) -> Span
     requires { IsWhole left.now }
@@ -220,18 +263,24 @@ fn span_of(left: &[u8]) -> Span
     }
 }
 
-/// The place of the first of these lines that has this label.
-fn place_of_label(lines: &mut Lines, label: &Label) -> Option<usize>
-    requires { length lines.old < 2 ^ 63 }
-    ensures same { result ≡ levels.line_of_label label.now lines.old }
-    ensures within { MatchOption result (levels.line_of_label label.now lines.old ≡ None) (λ place. place < length lines.old) }
+/// Where the first of these lines stands that has this label.
+fn place_of_label(text: &[u8], label: &Label) -> Option<LinePlace>
+    requires { IsWhole text.now }
+    ensures { MatchOption result (levels.line_of_label label.now (lines_of text.now) ≡ None)
+        (λ place. IsLinePlace label.now (lines_of text.now) place) }
 {
-    let mut place = 0;
+    let mut lines = Lines::new(text);
+    let mut count = 0;
+    let mut bytes = 0;
     while let Some(line) = lines.next() {
         if has_label(line, label) {
-            return Some(place);
+            return Some(LinePlace {
+                lines: count,
+                bytes,
+            });
         }
-        place += 1;
+        count += 1;
+        bytes += line.len() + 1;
     }
     None
 }

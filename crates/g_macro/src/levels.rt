@@ -1,7 +1,10 @@
 //! The levels of a job.
+ghost use Rattle.std.specs.List.{list_any};
 ghost use Rattle.std.specs.Prelude.{◌≡◌, ◌<◌, ◌≤◌, None, Some, length, reverse, take, IfOk, IfSome, IsSome, MatchOption};
 ghost use Rattle.g_lang.specs.Conditions.{IsLetter};
 ghost use Rattle.g_lang.specs.Lines.{IsCommandText};
+ghost use Rattle.g_lines.specs.Documents.{IsOneLine};
+ghost use Rattle.g_macro.specs.Holding as holding;
 ghost use Rattle.g_macro.specs.Levels as levels;
 ghost use Rattle.g_macro.specs.Replies as replies;
 
@@ -133,6 +136,40 @@ impl Levels {
         self.levels[top].set_param(letter, value);
     }
 
+    /// Holds the document open for lines to come.
+    pub fn hold(&mut self)
+        ensures { self.new ≡ holding.held_open self.old }
+    {
+        self.held = true;
+    }
+
+    /// No more lines come: the document isn't held open any longer.
+    pub fn finish(&mut self)
+        ensures { self.new ≡ holding.finished self.old }
+    {
+        self.held = false;
+    }
+
+    /// Puts a line behind the document's others; without memory nothing changes. Where no level is left it is dropped.
+    pub fn add_line(&mut self, line: Text) -> Result<(), MacroFault>
+        requires { IsOneLine line }
+        ensures { replies.Adds line self.old self.new result }
+    {
+        if self.levels.is_empty() {
+            return Ok(());
+        }
+        self.levels[0].add_line(line)?;
+        Ok(())
+    }
+
+    /// Whether the levels can go on: no lines are to come, a level above the document has a line left, or the document
+    /// has one that may be taken already. It takes no memory.
+    pub fn ready(&self) -> bool
+        ensures { result ≡ holding.are_ready self.now }
+    {
+        !self.held || is_some_ready(self.levels.as_slice())
+    }
+
     /// Whether a condition holds, by the parameters of the current level.
     pub fn holds(&self, cond: &Cond, outcome: &Outcome) -> bool
         requires { 0 < length self.now.levels }
@@ -171,6 +208,23 @@ fn live_levels(all: &[Level], held: bool) -> usize
         live -= 1;
     }
     0
+}
+
+/// Whether a level above the document has a line left, or the document has one that may be taken.
+fn is_some_ready(all: &[Level]) -> bool
+    ensures { result ≡ holding.some_ready (reverse all.now) }
+{
+    match all.split_first() {
+        Some((document, above)) => have_line(above) || document.is_ready(),
+        None => false,
+    }
+}
+
+/// Whether one of these levels has a line left.
+fn have_line(all: &[Level]) -> bool
+    ensures { result ≡ list_any levels.has_line all.now }
+{
+    all.iter().any(|level| level.has_line())
 }
 
 /// The first entry that holds, from the topmost level down, and how many levels stay.

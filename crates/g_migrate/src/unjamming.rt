@@ -24,6 +24,33 @@ pub fn plan_unjam<D: Disc>(alloc: Global, online: &Online<D>, need: u32) -> Resu
     ensures room { IfOk result (λ u. IsRoomWithout online.now u.take u.room) }
     ensures none { IfOk result (λ u. need ≤ room_of online.now → (u.take ≡ []) × (u.room ≡ room_of online.now)) }
 {
+    let room = online.room();
+    if need <= room {
+        return Ok(nothing_taken(alloc, room));
+    }
+    plan_by_age(alloc, online, need)
+}
+
+/// The plan that takes nothing.
+fn nothing_taken(alloc: Global, room: u32) -> Unjam
+    ensures take { result.take ≡ [] }
+    ensures room { result.room ≡ room }
+{
+    Unjam {
+        take: NumberList::new(alloc),
+        room,
+    }
+}
+
+/// The same, whether or not there is room enough already.
+fn plan_by_age<D: Disc>(alloc: Global, online: &Online<D>, need: u32) -> Result<Unjam, NoMemory>
+    requires live { online.now.live ≡ true }
+    requires tied { IsTied online.now }
+    ensures plan { IfOk result (λ u. IsUnjamPlan need online.now u.take u.room) }
+    ensures order { IfOk result (λ u. AllPairs (IsOlder online.now.contents.files) u.take) }
+    ensures room { IfOk result (λ u. IsRoomWithout online.now u.take u.room) }
+    ensures none { IfOk result (λ u. need ≤ room_of online.now → (u.take ≡ []) × (u.room ≡ room_of online.now)) }
+{
     let mut candidates = candidates(alloc, online)?;
     sort_by_age(&mut candidates);
     take_first(alloc, &candidates, online.room(), need)

@@ -5,7 +5,7 @@ use Rattle.g_monitor.specs.declared.job_lines.JobLine.{JobLine}
 use Rattle.g_monitor.specs.declared.job_lines.JobLine.TheVariants as line
 use Rattle.g_monitor.specs.declared.job_lines.Mark.{Mark}
 use Rattle.g_monitor.specs.declared.job_lines.Mark.TheVariants as mark
-use Rattle.g_monitor.specs.Parts.{octal_digits}
+use Rattle.g_word.specs.Octal.{octal_digits}
 
 -- the first line
 abbrev pub header : ℕ → List ℕ → List ℕ → List ℕ

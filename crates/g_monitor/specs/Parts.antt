@@ -1,5 +1,5 @@
 -- The parts of lines. No line here has its byte 10.
-use Rattle.std.specs.Prelude.{ℕ, zero, suc, ◌+◌, ◌/◌, ◌%◌, ◌^◌, List, [], ◌∷◌, ◌++◌, codes, if◌then◌else◌}
+use Rattle.std.specs.Prelude.{ℕ, List, [], ◌∷◌, ◌++◌, codes, if◌then◌else◌}
 use Rattle.std.specs.Fmt.{decimal}
 use Rattle.g_name.specs.declared.full.Full.{Full}
 use Rattle.g_name.specs.Names.{name_text, full_name}
@@ -25,11 +25,6 @@ shown_mode modes mode letter = if allows modes mode then letter else 46
 unfoldable pub modes_text : ℕ → List ℕ
 modes_text modes =
     shown_mode modes Read 82 ∷ shown_mode modes Write 87 ∷ shown_mode modes Append 65 ∷ shown_mode modes Execute 88 ∷ shown_mode modes Erase 69 ∷ []
-
--- the last octal digits of a word, so many of them
-unfoldable pub octal_digits : ℕ → ℕ → List ℕ
-octal_digits zero word = []
-octal_digits (suc n) word = (48 + word / 8 ^ n % 8) ∷ octal_digits n word
 
 -- some words and a number, or two with a space between them
 abbrev pub with_number : List ℕ → ℕ → List ℕ

@@ -5,7 +5,6 @@ ghost use Rattle.g_monitor.specs.Refusals.{error_line, error_number};
 use crate::parts::push_number;
 use g_base::NoMemory;
 use g_name::Text;
-use std::alloc::Global;
 use thiserror::Error;
 
 /// Why a command of a job isn't done, where no call of a store says so.
@@ -70,25 +69,20 @@ impl CommandError {
 
 /// Puts number and text of an error behind the text, without a byte 10 (`docs/MANUAL.md`, "Texts of jobs and refusals").
 /// Where memory is wanting, a front of it may stand there.
-pub fn push_error(alloc: Global, text: &mut Text, error: CommandError) -> Result<(), NoMemory>
+pub fn push_error(text: &mut Text, error: CommandError) -> Result<(), NoMemory>
     ensures { OnOk result (text.new ≡ text.old ++ error_line error) }
 {
     match error {
-        CommandError::BadLine(place) => push_number(alloc, text, b"50 BAD LINE ", place as u64),
+        CommandError::BadLine(place) => push_number(text, b"50 BAD LINE ", place as u64),
         CommandError::UnknownVerb => text.extend(b"51 UNKNOWN VERB"),
         CommandError::TooDeep => text.extend(b"52 TOO DEEP"),
         CommandError::NoLabel => text.extend(b"53 NO LABEL"),
         CommandError::NoProgram => text.extend(b"54 NO PROGRAM"),
         CommandError::NotHalted => text.extend(b"55 NOT HALTED"),
-        CommandError::BadProgram(line) => push_number(alloc, text, b"56 BAD PROGRAM ", line as u64),
+        CommandError::BadProgram(line) => push_number(text, b"56 BAD PROGRAM ", line as u64),
         CommandError::NotAssigned => text.extend(b"57 NOT ASSIGNED"),
         CommandError::InUse => text.extend(b"58 IN USE"),
-        CommandError::BadParameter(index) => push_number(
-            alloc,
-            text,
-            b"59 BAD PARAMETER ",
-            index as u64,
-        ),
+        CommandError::BadParameter(index) => push_number(text, b"59 BAD PARAMETER ", index as u64),
         CommandError::WheneversFull => text.extend(b"60 WHENEVERS FULL"),
     }
 }

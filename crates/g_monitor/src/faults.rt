@@ -10,7 +10,7 @@ use std::alloc::Global;
 
 /// Puts number and text of a fault behind the text, without a byte 10. Where memory is wanting, a front of it may stand
 /// there.
-pub fn push_fault(alloc: Global, text: &mut Text, fault: &StoreFault) -> Result<(), NoMemory>
+pub fn push_fault(text: &mut Text, fault: &StoreFault) -> Result<(), NoMemory>
     requires printed { IsPrinted fault.now }
     ensures { OnOk result (text.new ≡ text.old ++ fault_line fault.now) }
 {
@@ -21,25 +21,22 @@ pub fn push_fault(alloc: Global, text: &mut Text, fault: &StoreFault) -> Result<
         StoreFault::Trapped(mode) => push_words(text, b"4 TRAPPED ", mode_word(*mode)),
         StoreFault::NoGeneration => text.extend(b"5 NO GENERATION"),
         StoreFault::OverSpace { need, left } => push_numbers(
-            alloc,
             text,
             b"6 OVER SPACE ",
             u64::from(*need),
             u64::from(*left),
         ),
-        StoreFault::TooLong(len) => push_number(alloc, text, b"7 TOO LONG ", *len),
+        StoreFault::TooLong(len) => push_number(text, b"7 TOO LONG ", *len),
         StoreFault::DirectoryFull => text.extend(b"8 DIRECTORY FULL"),
         StoreFault::UsersFull => text.extend(b"9 USERS FULL"),
         StoreFault::TrapsFull => text.extend(b"10 TRAPS FULL"),
         StoreFault::NoCopy(full, serial) => push_copy(
-            alloc,
             text,
             b"12 NO COPY ",
             full,
             u64::from(*serial),
         ),
         StoreFault::DiscFull { need, room } => push_numbers(
-            alloc,
             text,
             b"13 DISC FULL ",
             u64::from(*need),
@@ -52,31 +49,23 @@ pub fn push_fault(alloc: Global, text: &mut Text, fault: &StoreFault) -> Result<
         StoreFault::NotStarted => text.extend(b"20 NOT STARTED"),
         StoreFault::NotMounted => text.extend(b"21 NOT MOUNTED"),
         StoreFault::TapeFull { need, room } => push_numbers(
-            alloc,
             text,
             b"22 TAPE FULL ",
             u64::from(*need),
             u64::from(*room),
         ),
-        StoreFault::DumpOpen(number) => push_number(alloc, text, b"23 DUMP OPEN ", *number),
+        StoreFault::DumpOpen(number) => push_number(text, b"23 DUMP OPEN ", *number),
         StoreFault::NoTape => text.extend(b"24 NO TAPE"),
         StoreFault::NoFilestore => text.extend(b"25 NO FILESTORE"),
         StoreFault::NoDump => text.extend(b"26 NO DUMP"),
         StoreFault::RackNotMounted(serial) => push_number(
-            alloc,
             text,
             b"27 RACK NOT MOUNTED ",
             u64::from(*serial),
         ),
-        StoreFault::MountFirst(serial) => push_number(
-            alloc,
-            text,
-            b"28 MOUNT FIRST ",
-            u64::from(*serial),
-        ),
+        StoreFault::MountFirst(serial) => push_number(text, b"28 MOUNT FIRST ", u64::from(*serial)),
         StoreFault::TapeBusy => text.extend(b"29 TAPE BUSY"),
         StoreFault::LostCopy(full, serial) => push_copy(
-            alloc,
             text,
             b"30 LOST COPY ",
             full,
@@ -86,7 +75,6 @@ pub fn push_fault(alloc: Global, text: &mut Text, fault: &StoreFault) -> Result<
         StoreFault::Offline => text.extend(b"32 OFFLINE"),
         StoreFault::Running => text.extend(b"33 RUNNING"),
         StoreFault::RackNotEmpty(serial) => push_number(
-            alloc,
             text,
             b"34 RACK NOT EMPTY ",
             u64::from(*serial),
@@ -97,7 +85,6 @@ pub fn push_fault(alloc: Global, text: &mut Text, fault: &StoreFault) -> Result<
             user.as_slice(),
         ),
         StoreFault::ReelNotFree(serial) => push_number(
-            alloc,
             text,
             b"36 REEL NOT FREE ",
             u64::from(*serial),
@@ -112,6 +99,6 @@ pub fn fault_text(alloc: Global, fault: &StoreFault) -> Result<Text, NoMemory>
     ensures { IfOk result (λ text. text ≡ fault_line fault.now) }
 {
     let mut text = Text::new(alloc);
-    push_fault(alloc, &mut text, fault)?;
+    push_fault(&mut text, fault)?;
     Ok(text)
 }

@@ -4,11 +4,11 @@ ghost use Rattle.std.specs.Fmt.{decimal};
 ghost use Rattle.g_monitor.specs.JobLines.{header, mark_text, marked, job_line};
 ghost use Rattle.g_monitor.specs.declared.job_lines.JobLine.TheVariants as line;
 
-use crate::parts::{push_decimal, push_number, push_octal, push_words};
+use crate::parts::{push_number, push_octal, push_words};
 use g_base::NoMemory;
+use g_lines::push_decimal;
 use g_name::{Local, Text, User};
 use g_word::Word;
-use std::alloc::Global;
 
 /// What stands in front of a text.
 #[derive(Clone, Copy, Debug, PartialEq, Eq)]
@@ -56,16 +56,10 @@ pub enum JobLine {
 
 /// Puts the first line of a monitoring file behind the text, without a byte 10. Where memory is wanting, a front of it
 /// may stand there.
-pub fn push_header(
-    alloc: Global,
-    text: &mut Text,
-    number: u64,
-    name: &Local,
-    user: &User,
-) -> Result<(), NoMemory>
+pub fn push_header(text: &mut Text, number: u64, name: &Local, user: &User) -> Result<(), NoMemory>
     ensures { OnOk result (text.new ≡ text.old ++ header number name.now user.now) }
 {
-    push_number(alloc, text, b"JOB ", number)?;
+    push_number(text, b"JOB ", number)?;
     text.extend(b" ")?;
     text.extend(name.as_slice())?;
     text.extend(b" :")?;
@@ -95,50 +89,39 @@ pub fn push_marked(text: &mut Text, mark: Mark, rest: &[u8]) -> Result<(), NoMem
 }
 
 /// Puts a number between words behind the text.
-fn push_between(
-    alloc: Global,
-    text: &mut Text,
-    before: &[u8],
-    number: u64,
-    behind: &[u8],
-) -> Result<(), NoMemory>
+fn push_between(text: &mut Text, before: &[u8], number: u64, behind: &[u8]) -> Result<(), NoMemory>
     ensures { OnOk result (text.new ≡ text.old ++ ((before.now ++ decimal number) ++ behind.now)) }
 {
-    push_number(alloc, text, before, number)?;
+    push_number(text, before, number)?;
     text.extend(behind)
 }
 
 /// Puts the line of an illegal order behind the text.
-fn push_illegal(alloc: Global, text: &mut Text, word: Word, at: u16) -> Result<(), NoMemory>
+fn push_illegal(text: &mut Text, word: Word, at: u16) -> Result<(), NoMemory>
     ensures { OnOk result (text.new ≡ text.old ++ job_line (line.Illegal word at)) }
 {
     text.extend(b"ILLEGAL ")?;
     push_octal(text, word)?;
     text.extend(b" AT ")?;
-    push_decimal(alloc, text, u64::from(at))
+    push_decimal(text, u64::from(at))
 }
 
 /// Puts a line of words and numbers behind the text, without a byte 10. Where memory is wanting, a front of it may stand
 /// there.
-pub fn push_job_line(alloc: Global, text: &mut Text, line: JobLine) -> Result<(), NoMemory>
+pub fn push_job_line(text: &mut Text, line: JobLine) -> Result<(), NoMemory>
     ensures { OnOk result (text.new ≡ text.old ++ job_line line) }
 {
     match line {
-        JobLine::Loaded(size) => push_between(alloc, text, b"LOADED ", u64::from(size), b" WORDS"),
-        JobLine::Illegal { word, at } => push_illegal(alloc, text, word, at),
+        JobLine::Loaded(size) => push_between(text, b"LOADED ", u64::from(size), b" WORDS"),
+        JobLine::Illegal { word, at } => push_illegal(text, word, at),
         JobLine::Assigned => text.extend(b"ASSIGNED"),
         JobLine::Released => text.extend(b"RELEASED"),
         JobLine::Deleted => text.extend(b"DELETED"),
-        JobLine::End(units) => push_between(alloc, text, b"END ", units, b" UNITS"),
-        JobLine::TimeUp(units) => push_between(alloc, text, b"TIME UP ", units, b" UNITS"),
-        JobLine::MoneyUp(money) => push_between(alloc, text, b"MONEY UP ", money, b" MONEY"),
+        JobLine::End(units) => push_between(text, b"END ", units, b" UNITS"),
+        JobLine::TimeUp(units) => push_between(text, b"TIME UP ", units, b" UNITS"),
+        JobLine::MoneyUp(money) => push_between(text, b"MONEY UP ", money, b" MONEY"),
         JobLine::Full => text.extend(b"MONITORING FILE FULL"),
         JobLine::Break => text.extend(b"BREAK"),
-        JobLine::WaitingTape(serial) => push_number(
-            alloc,
-            text,
-            b"WAITING TAPE ",
-            u64::from(serial),
-        ),
+        JobLine::WaitingTape(serial) => push_number(text, b"WAITING TAPE ", u64::from(serial)),
     }
 }

@@ -15,5 +15,5 @@ pub use faults::{fault_text, push_fault};
 pub use job_lines::{JobLine, Mark, push_header, push_job_line, push_marked};
 pub use laws::refusals_begin_with_their_numbers;
 pub use listing::{list_text, push_row, push_shown};
-pub use parts::{mode_word, push_full};
+pub use parts::{mode_word, push_full, push_number, push_numbers};
 pub use replies::{push_last, reply_text};

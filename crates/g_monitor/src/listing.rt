@@ -3,9 +3,9 @@ ghost use Rattle.std.specs.Prelude.{◌≡◌, ◌++◌, map, IfOk, IsTrue, OnOk
 ghost use Rattle.g_lines.specs.Lines.{text_of};
 ghost use Rattle.g_monitor.specs.Listing.{shown, shown_line, listed_lines, row_line};
 
-use crate::parts::{push_decimal, push_words};
+use crate::parts::push_words;
 use g_base::NoMemory;
-use g_lines::Lines;
+use g_lines::{Lines, push_decimal};
 use g_name::{Full, Text};
 use std::alloc::Global;
 
@@ -49,17 +49,17 @@ fn are_printed(line: &[u8]) -> bool
 
 /// Puts a file with its length in bytes behind the text, as the listing of a directory has it, without a byte 10. Where
 /// memory is wanting, a front of it may stand there.
-pub fn push_row(alloc: Global, text: &mut Text, row: &(Full, u32)) -> Result<(), NoMemory>
+pub fn push_row(text: &mut Text, row: &(Full, u32)) -> Result<(), NoMemory>
     ensures { OnOk result (text.new ≡ text.old ++ row_line row.now) }
 {
     let (full, len) = row;
     push_words(text, b"| ", full.local.as_slice())?;
     text.extend(b"(")?;
-    push_decimal(alloc, text, u64::from(full.generation))?;
+    push_decimal(text, u64::from(full.generation))?;
     text.extend(b"/")?;
     text.extend(full.lang.as_slice())?;
     text.extend(b") ")?;
-    push_decimal(alloc, text, u64::from(*len))
+    push_decimal(text, u64::from(*len))
 }
 
 /// Puts the lines of a file behind the text, each with its byte 10.
@@ -77,15 +77,11 @@ pub(crate) fn push_list(text: &mut Text, bytes: &[u8]) -> Result<(), NoMemory>
 
 /// Puts the files of a directory behind the text, each on its line with its byte 10.
 #[tactic(auto, using(crate::proofs::LineLemmas::line_behind))]
-pub(crate) fn push_rows(
-    alloc: Global,
-    text: &mut Text,
-    rows: &[(Full, u32)],
-) -> Result<(), NoMemory>
+pub(crate) fn push_rows(text: &mut Text, rows: &[(Full, u32)]) -> Result<(), NoMemory>
     ensures { OnOk result (text.new ≡ text.old ++ text_of (map row_line rows.now)) }
 {
     for row in rows {
-        push_row(alloc, text, row)?;
+        push_row(text, row)?;
         text.push(b'\n')?;
     }
     Ok(())

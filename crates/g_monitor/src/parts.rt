@@ -1,13 +1,13 @@
 //! The parts of lines: numbers, full names, modes and words of a program.
-ghost use Rattle.std.specs.Prelude.{◌≡◌, ◌+◌, ◌/◌, ◌%◌, ◌<◌, ◌++◌, OnOk};
-ghost use Rattle.std.specs.Fmt.{decimal};
-ghost use Rattle.g_monitor.specs.Parts.{mode_word, full_text, shown_mode, modes_text, octal_digits, with_number, with_numbers, with_copy};
+ghost use Rattle.std.specs.Prelude.{◌≡◌, ◌++◌, OnOk};
+ghost use Rattle.g_word.specs.Octal.{octal_digits};
+ghost use Rattle.g_monitor.specs.Parts.{mode_word, full_text, shown_mode, modes_text, with_number, with_numbers, with_copy};
 
 use g_base::NoMemory;
+use g_lines::push_decimal;
 use g_name::{Full, Text};
 use g_trap::{Mode, Modes};
 use g_word::Word;
-use std::alloc::Global;
 
 /// The word for a mode, as commands and texts write it.
 pub fn mode_word(mode: Mode) -> &'static [u8]
@@ -23,53 +23,40 @@ pub fn mode_word(mode: Mode) -> &'static [u8]
 }
 
 /// Puts the text of a full name behind the text. Where memory is wanting, a front of it may stand there.
-pub fn push_full(alloc: Global, text: &mut Text, full: &Full) -> Result<(), NoMemory>
+pub fn push_full(text: &mut Text, full: &Full) -> Result<(), NoMemory>
     ensures { OnOk result (text.new ≡ text.old ++ full_text full.now) }
 {
-    let name = full.print(alloc)?;
-    text.extend(name.as_slice())
-}
-
-/// Puts a number in decimal digits behind the text.
-pub(crate) fn push_decimal(alloc: Global, text: &mut Text, number: u64) -> Result<(), NoMemory>
-    ensures { OnOk result (text.new ≡ text.old ++ decimal number) }
-{
-    let digits = number.to_string(alloc)?;
-    text.extend(digits.as_bytes())
+    text.push(b':')?;
+    text.extend(full.user.as_slice())?;
+    text.push(b'.')?;
+    text.extend(full.local.as_slice())?;
+    text.push(b'(')?;
+    push_decimal(text, u64::from(full.generation))?;
+    text.push(b'/')?;
+    text.extend(full.lang.as_slice())?;
+    text.push(b')')
 }
 
 /// Puts some words and a number behind the text.
-pub(crate) fn push_number(
-    alloc: Global,
-    text: &mut Text,
-    words: &[u8],
-    number: u64,
-) -> Result<(), NoMemory>
+pub fn push_number(text: &mut Text, words: &[u8], number: u64) -> Result<(), NoMemory>
     ensures { OnOk result (text.new ≡ text.old ++ with_number words.now number) }
 {
     text.extend(words)?;
-    push_decimal(alloc, text, number)
+    push_decimal(text, number)
 }
 
 /// Puts some words and two numbers behind the text.
-pub(crate) fn push_numbers(
-    alloc: Global,
-    text: &mut Text,
-    words: &[u8],
-    first: u64,
-    second: u64,
-) -> Result<(), NoMemory>
+pub fn push_numbers(text: &mut Text, words: &[u8], first: u64, second: u64) -> Result<(), NoMemory>
     ensures { OnOk result (text.new ≡ text.old ++ with_numbers words.now first second) }
 {
     text.extend(words)?;
-    push_decimal(alloc, text, first)?;
+    push_decimal(text, first)?;
     text.extend(b" ")?;
-    push_decimal(alloc, text, second)
+    push_decimal(text, second)
 }
 
 /// Puts some words, a full name and a number behind the text.
 pub(crate) fn push_copy(
-    alloc: Global,
     text: &mut Text,
     words: &[u8],
     full: &Full,
@@ -78,9 +65,9 @@ pub(crate) fn push_copy(
     ensures { OnOk result (text.new ≡ text.old ++ with_copy words.now full.now number) }
 {
     text.extend(words)?;
-    push_full(alloc, text, full)?;
+    push_full(text, full)?;
     text.extend(b" ")?;
-    push_decimal(alloc, text, number)
+    push_decimal(text, number)
 }
 
 /// Puts words and a text behind the text.
@@ -92,16 +79,11 @@ pub(crate) fn push_words(text: &mut Text, words: &[u8], rest: &[u8]) -> Result<(
 }
 
 /// Puts words and a full name behind the text.
-pub(crate) fn push_named(
-    alloc: Global,
-    text: &mut Text,
-    words: &[u8],
-    full: &Full,
-) -> Result<(), NoMemory>
+pub(crate) fn push_named(text: &mut Text, words: &[u8], full: &Full) -> Result<(), NoMemory>
     ensures { OnOk result (text.new ≡ text.old ++ (words.now ++ full_text full.now)) }
 {
     text.extend(words)?;
-    push_full(alloc, text, full)
+    push_full(text, full)
 }
 
 /// The letter of a mode, or a dot where it is closed.
@@ -125,28 +107,9 @@ pub(crate) fn push_modes(text: &mut Text, modes: Modes) -> Result<(), NoMemory>
     ])
 }
 
-/// The octal digit of a number that stands at this power of eight.
-fn octal_digit(number: u32, power: u32) -> u8
-    requires { 0 < power }
-    ensures { result ≡ 48 + number / power % 8 }
-{
-    b'0' + (number / power % 8) as u8
-}
-
 /// Puts a word in eight octal digits behind the text.
-#[tactic(auto, unfolding(crate::specs::Parts::octal_digits))]
 pub(crate) fn push_octal(text: &mut Text, word: Word) -> Result<(), NoMemory>
     ensures { OnOk result (text.new ≡ text.old ++ octal_digits 8 word) }
 {
-    let number = word.value();
-    text.extend(&[
-        octal_digit(number, 0o1000_0000),
-        octal_digit(number, 0o100_0000),
-        octal_digit(number, 0o10_0000),
-        octal_digit(number, 0o1_0000),
-        octal_digit(number, 0o1000),
-        octal_digit(number, 0o100),
-        octal_digit(number, 0o10),
-        octal_digit(number, 1),
-    ])
+    text.extend(&word.octal())
 }

@@ -25,55 +25,45 @@ fn push_done(text: &mut Text, call: &StoreCall) -> Result<(), NoMemory>
 }
 
 /// Puts the last line of a listing of so many files behind the text.
-fn push_count(
-    alloc: Global,
-    text: &mut Text,
-    call: &StoreCall,
-    count: usize,
-) -> Result<(), NoMemory>
+fn push_count(text: &mut Text, call: &StoreCall, count: usize) -> Result<(), NoMemory>
     ensures { OnOk result (text.new ≡ text.old ++ (((codes "LISTED :" ++ listed_user call.now) ++ codes " ") ++ decimal count)) }
 {
     text.extend(b"LISTED :")?;
     if let StoreCall::List { user } = call {
         text.extend(user.as_slice())?;
     }
-    push_number(alloc, text, b" ", count as u64)
+    push_number(text, b" ", count as u64)
 }
 
 /// Puts the last line of a granted call behind the text, without its byte 10. Where memory is wanting, a front of it may
 /// stand there.
-pub fn push_last(
-    alloc: Global,
-    text: &mut Text,
-    call: &StoreCall,
-    reply: &StoreReply,
-) -> Result<(), NoMemory>
+pub fn push_last(text: &mut Text, call: &StoreCall, reply: &StoreReply) -> Result<(), NoMemory>
     requires kind { IsReplyTo call.now reply.now }
     ensures { OnOk result (text.new ≡ text.old ++ last_line call.now reply.now) }
 {
     match reply {
         StoreReply::Done => push_done(text, call),
-        StoreReply::Made(full) => push_named(alloc, text, b"MADE ", full),
-        StoreReply::Appended(full) => push_named(alloc, text, b"APPENDED ", full),
-        StoreReply::Bytes { full, .. } => push_named(alloc, text, b"LISTED ", full),
-        StoreReply::Erased(full) => push_named(alloc, text, b"ERASED ", full),
-        StoreReply::Renamed(full) => push_named(alloc, text, b"RENAMED ", full),
-        StoreReply::Listing(listing) => push_count(alloc, text, call, listing.rows().len()),
+        StoreReply::Made(full) => push_named(text, b"MADE ", full),
+        StoreReply::Appended(full) => push_named(text, b"APPENDED ", full),
+        StoreReply::Bytes { full, .. } => push_named(text, b"LISTED ", full),
+        StoreReply::Erased(full) => push_named(text, b"ERASED ", full),
+        StoreReply::Renamed(full) => push_named(text, b"RENAMED ", full),
+        StoreReply::Listing(listing) => push_count(text, call, listing.rows().len()),
         StoreReply::Modes(modes) => {
             text.extend(b"TRAPS ")?;
             push_modes(text, *modes)
         }
-        StoreReply::Retrieved(full) => push_named(alloc, text, b"RETRIEVED ", full),
+        StoreReply::Retrieved(full) => push_named(text, b"RETRIEVED ", full),
     }
 }
 
 /// Puts what stands above the last line behind the text, each line with its byte 10.
-fn push_above(alloc: Global, text: &mut Text, reply: &StoreReply) -> Result<(), NoMemory>
+fn push_above(text: &mut Text, reply: &StoreReply) -> Result<(), NoMemory>
     ensures { OnOk result (text.new ≡ text.old ++ text_of (lines_above reply.now)) }
 {
     match reply {
         StoreReply::Bytes { bytes, .. } => push_list(text, bytes.as_slice()),
-        StoreReply::Listing(listing) => push_rows(alloc, text, listing.rows()),
+        StoreReply::Listing(listing) => push_rows(text, listing.rows()),
         _ => Ok(()),
     }
 }
@@ -86,8 +76,8 @@ pub fn reply_text(alloc: Global, call: &StoreCall, reply: &StoreReply) -> Result
     ensures { IfOk result (λ text. text ≡ text_of (reply_lines call.now reply.now)) }
 {
     let mut text = Text::new(alloc);
-    push_above(alloc, &mut text, reply)?;
-    push_last(alloc, &mut text, call, reply)?;
+    push_above(&mut text, reply)?;
+    push_last(&mut text, call, reply)?;
     text.push(b'\n')?;
     Ok(text)
 }

@@ -123,7 +123,7 @@ bring_needing number bytes unjam = record {
 }
 
 -- THE FILE that is brought back: it isn't on the disc, so it has a copy on tape
-record IsOff (number len : ℕ) (m : Memory) : Type 0 where
+pub record IsOff (number len : ℕ) (m : Memory) : Type 0 where
   pub file : FileRec
   pub number_is : file.number ≡ number
   pub there : Contains m.files file
@@ -199,7 +199,7 @@ set_none r0 (r ∷ files) all =
 abbrev brought_in : Bool → Memory → ℕ → DiscCopy → List Bool → Remembered → Memory
 brought_in pinned m number copy pool pages = record m { head = head_after pinned m.head; online = with_copy_at (number, copy) m.online; pool = pool; pages = pages }
 
-is_off : (number : ℕ) (bytes : List ℕ) (origin : DiscState) (m : Memory) → IsKept origin m → m.live ≡ true → IsAllowed (Bring number bytes []) (facts_of origin m) → IsOff number (length bytes) m
+pub is_off : (number : ℕ) (bytes : List ℕ) (origin : DiscState) (m : Memory) → IsKept origin m → m.live ≡ true → IsAllowed (Bring number bytes []) (facts_of origin m) → IsOff number (length bytes) m
 is_off number bytes origin m kept live allowed =
     let f = allowed.fits.0 in
     let found = found_off origin.held f.0 m.files m.online f.1 f.3 in
@@ -363,16 +363,7 @@ module _ (number : ℕ) (bytes unjam : List ℕ) (copy : DiscCopy) (o : OnlineFa
       subst (IsReadyFrom (Bring number bytes []) origin before m) (λ i. record m { head = (sym top) i; online = (sym online_is) i; pool = mid; pages = pages })
       (bring_set_ready mid first pages taken kept_pages remembers covers covers')
 
--- WHAT IS ASKED FOR, by the bytes and the list as the code has them
-pub bring_asked : (number len : ℕ) (bytes text numbers listed : List ℕ) (o : OnlineFacts) (before : DiscState) (m : Memory) → len ≡ length text → text ≡ bytes → listed ≡ numbers → facts_of before m ≡ o → IsKept before m → IsAllowed (Bring number bytes numbers) o
-    → IsAsked len listed (Bring number text []) (Bring number text listed) o before m
-bring_asked number len bytes text numbers listed o before m len_is text_is listed_is view kept allowed =
-    let here : IsAllowed (Bring number text listed) o = subst (λ (c : Change). IsAllowed c o) (λ i. Bring number ((sym text_is) i) ((sym listed_is) i)) allowed in
-    record { needing = bring_needing number text listed; needs = record { need = ap blocks_for (sym len_is); none = refl }; view = view; kept = kept; allowed = here }
-
-pub bring_answer : (number : ℕ) (bytes text numbers listed : List ℕ) (o q : OnlineFacts) (r : Result (Unit {0}) OnlineFault) → text ≡ bytes → listed ≡ numbers → IsApplied (Bring number text listed) o q r → IsApplied (Bring number bytes numbers) o q r
-bring_answer number bytes text numbers listed o q r text_is listed_is = subst (λ (c : Change). IsApplied c o q r) (λ i. Bring number (text_is i) (listed_is i))
-
+-- its numbers
 pub bring_short : (number : ℕ) (bytes numbers : List ℕ) (before : DiscState) (m : Memory) (o : OnlineFacts) → facts_of before m ≡ o → IsKept before m → IsAllowed (Bring number bytes numbers) o → (length bytes ≤ 65536) × (number < 1024)
 bring_short number bytes numbers before m o view kept allowed =
     let was = (kept.agreed (allowed_live (Bring number bytes numbers) before m o view allowed)).stored in
@@ -385,6 +376,3 @@ bring_short number bytes numbers before m o view kept allowed =
       subst (λ (k : ℕ). k ≤ 65536) (ap (λ (r : FileRec). r.len) found.is ∙ f.4) short,
       subst (λ (k : ℕ). k < 1024) (ap (λ (r : FileRec). r.number) found.is ∙ f.2) less,
     )
-
-pub block_of_file : (number k : ℕ) → k ≡ number → number < 1024 → 64 + k < 1088
-block_of_file number k at less = omega (arith, at, less)

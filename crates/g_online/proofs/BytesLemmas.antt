@@ -1,9 +1,10 @@
 -- What the copies in memory say of the files.
-use Rattle.std.proofs.Common.{◌≡◌, ◌≢◌, ℕ, suc, true, List, [], ◌∷◌, ◌++◌, length, take, map, Option, Some, None, All, AllPairs, refl, sym, ◌∙◌, ap, subst, arith, option_map}
-use Rattle.std.specs.Prelude.{Contains, IfSome, is_some}
+use Rattle.std.proofs.Common.{◌≡◌, ◌≢◌, ℕ, suc, true, List, [], ◌∷◌, ◌++◌, length, take, get_or, map, Option, Some, None, All, AllPairs, refl, sym, ◌∙◌, ap, subst, arith, option_map, slice_get}
+use Rattle.std.specs.Prelude.{◌<◌, Contains, IfSome, is_some, slice_index_or}
 use Rattle.std.specs.Option.{ForSome}
-use Rattle.std.proofs.lemmas.List.Elements.{All-cons, All-contains, All-head, All-tail}
-use Rattle.g_base.specs.Block.{blocks_for}
+use Rattle.std.proofs.lemmas.List.Elements.{All-cons, All-contains, All-head, All-tail, All-weaker}
+use Rattle.std.proofs.lemmas.Option.{slice_get-get_or}
+use Rattle.g_base.specs.Block.{IsBlock, blocks_for}
 use Rattle.g_blocks.specs.Pool.{IsInArea}
 use Rattle.g_copy.specs.declared.copy.DiscCopy.{DiscCopy}
 use Rattle.g_copy.specs.Copy.{IsCopy, blocks_at, bytes_at}
@@ -12,9 +13,12 @@ use Rattle.g_entry.specs.declared.file_rec.FileRec.{FileRec}
 use Rattle.g_dirs.specs.Directory.{FileEntry, IsCopyOf, LiesSomewhere, all_places, copy_at, entries_of, places_of}
 use Rattle.g_contents.specs.Contents.{File, file_of}
 use Rattle.g_contents.specs.Facts.{OnlineFacts}
-use Rattle.g_online.specs.Kept.{IsKept, Memory, facts_of}
+use Rattle.g_contents.specs.Parts.{IsPart}
+use Rattle.g_contents.proofs.PartLemmas.{blocks_are_parts}
+use Rattle.g_online.specs.Kept.{AreWhole, IsKept, Memory, copy_places, facts_of}
 use Rattle.g_online.proofs.ReadyLemmas.{pairs_left}
 use Rattle.g_online.proofs.SameLemmas.{left_part, right_part}
+use Rattle.g_online.proofs.TieLemmas.{block_at}
 
 -- the copy of this number is the file's
 pub record IsItsCopy (held : Option (List (List ℕ))) (online : List (ℕ × DiscCopy)) (size : ℕ) (f : File) : Type 0 where
@@ -71,6 +75,29 @@ told_text F (Some blocks) bytes text is each = λ b told. sym (each blocks refl)
     inside_text : (a b : List ℕ) → (let one : Option (List ℕ) = Some a in one ≡ Some b) → a ≡ b
     inside_text a b e = cc
 
+-- A BLOCK of a copy
+part_there : (size len part : ℕ) (found : Option DiscCopy) → is_some found ≡ true → ((copy : DiscCopy) → found ≡ Some copy → IsCopy size copy) → ((copy : DiscCopy) → found ≡ Some copy → copy.len ≡ len) → part < blocks_for len
+    → (place : ℕ) × (slice_get (copy_places found) part ≡ Some place) × (place < size)
+part_there size len part None some is long within = (let no : ⊥ = cc in absurd no)
+part_there size len part (Some copy) some is long within =
+    let it : IsCopy size copy = is copy refl in
+    let less : part < length copy.blocks = subst (λ (n : ℕ). part < n) (sym (it.count ∙ ap blocks_for (long copy refl))) within in
+    (get_or copy.blocks part 0, slice_get-get_or copy.blocks part 0 less, (it.area part 0 less).high)
+
+part_of : (held : Option (List (List ℕ))) (size part place : ℕ) (into : List ℕ) (found : Option DiscCopy) (bytes : Option (List ℕ)) → ForSome held (AreWhole size) → ((copy : DiscCopy) → found ≡ Some copy → IsCopy size copy)
+    → ((copy : DiscCopy) → found ≡ Some copy → bytes ≡ option_map (bytes_at copy.blocks copy.len) held) → slice_get (copy_places found) part ≡ Some place
+    → ForSome held (λ blocks. slice_get blocks place ≡ Some into) → ForSome bytes (λ text. IsPart text part into)
+part_of held size part place into None bytes whole is bytes_are there read = (let no : ⊥ = cc in absurd no)
+part_of None size part place into (Some copy) bytes whole is bytes_are there read = λ text told.
+    (let wrong : (let none : Option (List ℕ) = None in none ≡ Some text) = sym (bytes_are copy refl) ∙ told in let no : ⊥ = cc in absurd no)
+part_of (Some blocks) size part place into (Some copy) bytes whole is bytes_are there read = λ text told.
+    subst (λ (t : List ℕ). IsPart t part into) (same_text (bytes_at copy.blocks copy.len blocks) text (sym (bytes_are copy refl) ∙ told))
+    (blocks_are_parts blocks copy.blocks copy.len part place into
+    (All-weaker (IsInArea size) (λ k. IsBlock (slice_index_or blocks k [])) (block_at size blocks (whole blocks refl)) copy.blocks (is copy refl).area) there (read blocks refl))
+  where
+    same_text : (a b : List ℕ) → (let one : Option (List ℕ) = Some a in one ≡ Some b) → a ≡ b
+    same_text a b e = cc
+
 -- FOR A CALL of a file by its number
 module _ (disc : DiscState) (m : Memory) (o : OnlineFacts) (is : facts_of disc m ≡ o) (kept : IsKept disc m) (live : m.live ≡ true) (number : ℕ) (online : List (ℕ × DiscCopy)) (same : online ≡ m.online) where
   each_copy : All (IsItsCopy disc.held m.online disc.size) o.contents.files
@@ -115,3 +142,34 @@ module _ (disc : DiscState) (m : Memory) (o : OnlineFacts) (is : facts_of disc m
 
       take_none : (xs : List ℕ) → take copy.len xs ≡ []
       take_none xs = ap (λ (n : ℕ). take n xs) none ∙ no_more xs
+
+  -- where a block of the file lies
+  module _ (part : ℕ) where
+    place_there : (f : File) → Contains o.contents.files f → f.rec.number ≡ number → f.online ≡ true → part < blocks_for f.rec.len
+        → (place : ℕ) × (slice_get (copy_places (copy_at online number)) part ≡ Some place) × (place < disc.size)
+    place_there f there at on within =
+        part_there disc.size f.rec.len part (copy_at online number) (online_is_there (copy_at online number) refl f there at ∙ on)
+        (λ copy found. copy_is copy (sym found) f there at) (λ copy found. len_is copy (sym found) f there at) within
+
+    pub part_no : (f : File) → Contains o.contents.files f → f.rec.number ≡ number → f.online ≡ true → part < blocks_for f.rec.len
+        → (let none : Option ℕ = None in none ≡ slice_get (copy_places (copy_at online number)) part) → ⊥
+    part_no f there at on within none =
+        let it = place_there f there at on within in
+        let wrong : (let none_one : Option ℕ = None in none_one ≡ Some it.0) = none ∙ it.1 in
+        (let no : ⊥ = cc in no)
+
+    pub part_within : (f : File) → Contains o.contents.files f → f.rec.number ≡ number → f.online ≡ true → part < blocks_for f.rec.len
+        → (place : ℕ) → (let one : Option ℕ = Some place in one ≡ slice_get (copy_places (copy_at online number)) part) → place < disc.size
+    part_within f there at on within place found =
+        let it = place_there f there at on within in
+        subst (λ (k : ℕ). k < disc.size) (sym (same_place place it.0 (found ∙ it.1))) it.2
+      where
+        same_place : (j k : ℕ) → (let one : Option ℕ = Some j in one ≡ Some k) → j ≡ k
+        same_place j k e = cc
+
+    -- what was read there
+    pub part_read : (place : ℕ) (into : List ℕ) → (let one : Option ℕ = Some place in one ≡ slice_get (copy_places (copy_at online number)) part) → ForSome disc.held (λ blocks. slice_get blocks place ≡ Some into)
+        → (f : File) → Contains o.contents.files f → f.rec.number ≡ number → ForSome f.bytes (λ text. IsPart text part into)
+    part_read place into found read f there at =
+        part_of disc.held disc.size part place into (copy_at online number) f.bytes kept.whole (λ copy is_it. copy_is copy (sym is_it) f there at)
+        (λ copy is_it. (one_copy f there).bytes copy (copy_there f at ∙ is_it)) (sym found) read

@@ -105,10 +105,10 @@ noted_closed users size next files online changed touched (Some pins) some was a
 }
 
 -- THE SAME MEMORY, but for who counts as changed
-abbrev counted : List ℕ → List ℕ → Memory → Memory
+abbrev pub counted : List ℕ → List ℕ → Memory → Memory
 counted all touched m = record m { changed = all; touched = touched }
 
-counted_kept : (disc : DiscState) (m : Memory) (all touched : List ℕ) → IsKept disc m → m.pins ≡ None → touched ≡ [] → (m.live ≡ true → AreNoted (length m.users) (directory_in m).files all touched) → IsKept disc (counted all touched m)
+pub counted_kept : (disc : DiscState) (m : Memory) (all touched : List ℕ) → IsKept disc m → m.pins ≡ None → touched ≡ [] → (m.live ≡ true → AreNoted (length m.users) (directory_in m).files all touched) → IsKept disc (counted all touched m)
 counted_kept disc m all touched kept none nobody noted_are = record {
   size = kept.size;
   most = kept.most;

@@ -22,6 +22,7 @@ pub mod FileLemmas
 pub mod EraseLemmas
 pub mod ForgetLemmas
 pub mod BegunLemmas
+pub mod PoolLemmas
 pub mod OffLemmas
 pub mod UnloadLemmas
 pub mod AdoptLemmas
@@ -30,16 +31,17 @@ pub mod PinBlockLemmas
 pub mod CloseNoteLemmas
 pub mod CloseMarkLemmas
 pub mod CloseLemmas
+pub mod AdoptedLemmas
 pub mod PinPutLemmas
 pub mod PinWaitLemmas
 pub mod PinLemmas
 pub mod PutLemmas
 pub mod BesideLemmas
 pub mod InsertLemmas
-pub mod RetakeLemmas
 pub mod TwoLemmas
 pub mod UnjamLemmas
 pub mod PutStepLemmas
 pub mod NeedLemmas
 pub mod WrittenLemmas
 pub mod BringStepLemmas
+pub mod NewBytesLemmas

@@ -7,7 +7,7 @@ use Rattle.std.proofs.lemmas.List.{append-nil, get_or-take, get_or_default, leng
 use Rattle.std.proofs.lemmas.List.Kept.{AllPairs-filter}
 use Rattle.std.proofs.lemmas.List.Elements.{All-append, All-cons, All-contains, All-contains_itself, All-head, All-tail, All-weaker, Contains-append_left, Contains-append_right}
 use Rattle.std.proofs.lemmas.Option.{slice_get_within}
-use Rattle.g_blocks.specs.Pool.{HasGiven, IsFree, IsTaken}
+use Rattle.g_blocks.specs.Pool.{HasGiven, IsTaken}
 use Rattle.g_copy.specs.declared.copy.DiscCopy.{DiscCopy}
 use Rattle.g_copy.proofs.Blocks.{slice_get-set_other}
 use Rattle.g_slots.specs.declared.side.Side.{Side}
@@ -20,44 +20,8 @@ use Rattle.g_online.specs.Copies.{without_copies, without_copy}
 use Rattle.g_online.specs.Kept.{copy_places}
 use Rattle.g_online.specs.Off.{MarksFiles, places_off}
 use Rattle.g_online.proofs.CopyLemmas.{copy_at-passing}
-use Rattle.g_online.proofs.UseLemmas.{left_all, left_apart, parts_apart, right_all, right_apart}
-
--- GIVING BACK twice
-pub given_then : (xs ys : List ℕ) (p q r : List Bool) → AllPairs (λ j k. j ≢ k) (xs ++ ys) → HasGiven xs p q → HasGiven ys q r → HasGiven (xs ++ ys) p r
-given_then xs ys p q r apart first second = record {
-  changes = record {
-    size = second.changes.size ∙ first.changes.size;
-    others = λ place away.
-        second.changes.others place (λ there. away (Contains-append_right xs ys (2177 + place) there))
-        ∙ first.changes.others place (λ there. away (Contains-append_left xs ys (2177 + place) there));
-  };
-  free = All-append (IsFree r) xs ys (All-weaker (Contains xs) (IsFree r) still xs (All-contains_itself xs)) second.free;
-  count = (let a = first.count in let b = second.count in omega (arith, a, b, length-append xs ys));
-}
-  where
-    still : (k : ℕ) → Contains xs k → IsFree r k
-    still k there =
-        let f = All-contains (IsFree q) xs k first.free there in
-        let low = f.low in
-        let number : 2177 + (k - 2177) ≡ k = omega arith in
-        record {
-          low = low;
-          flag = second.changes.others (k - 2177) (λ other. parts_apart xs ys k apart there (subst (Contains ys) number other)) ∙ f.flag;
-        }
-
-pub given_none : (p : List Bool) → HasGiven [] p p
-given_none p = record { changes = record { size = refl; others = λ place away. refl }; free = λ k d within. absurd (omega arith); count = omega arith }
-
--- what isn't given back stays taken
-pub still_taken : (xs ys : List ℕ) (p q : List Bool) → AllPairs (λ j k. j ≢ k) (xs ++ ys) → HasGiven xs p q → All (IsTaken p) ys → All (IsTaken q) ys
-still_taken xs ys p q apart given all = All-weaker (Contains ys) (IsTaken q) still ys (All-contains_itself ys)
-  where
-    still : (k : ℕ) → Contains ys k → IsTaken q k
-    still k there =
-        let t = All-contains (IsTaken p) ys k all there in
-        let low = t.low in
-        let number : 2177 + (k - 2177) ≡ k = omega arith in
-        record { low = low; flag = given.changes.others (k - 2177) (λ other. parts_apart xs ys k apart (subst (Contains xs) number other) there) ∙ t.flag }
+use Rattle.g_online.proofs.PoolLemmas.{given_none, given_then, still_taken}
+use Rattle.g_online.proofs.UseLemmas.{left_all, left_apart, right_all, right_apart}
 
 -- THE LIST OF COPIES without one more
 has_push : (ns : List ℕ) (n m : ℕ) → has (ns ++ n ∷ []) m ≡ (has ns m || (n == m))
@@ -200,10 +164,6 @@ module _ (numbers : List ℕ) (i : ℕ) (within : i < length numbers) where
   pub front_taken : (online : List (ℕ × DiscCopy)) (pool : List Bool) → All (IsTaken pool) (places_off numbers online) → All (IsTaken pool) (places_off (take i numbers ++ get_or numbers i 0 ∷ []) online)
   front_taken online pool taken =
       left_all (IsTaken pool) (places_off (take i numbers ++ get_or numbers i 0 ∷ []) online) (places_off (drop (i + 1) numbers) online) (subst (All (IsTaken pool)) (front_places online) taken)
-
-  pub front_free : (online : List (ℕ × DiscCopy)) (pool : List Bool) → All (IsFree pool) (places_off numbers online) → All (IsFree pool) (places_off (take i numbers ++ get_or numbers i 0 ∷ []) online)
-  front_free online pool free =
-      left_all (IsFree pool) (places_off (take i numbers ++ get_or numbers i 0 ∷ []) online) (places_off (drop (i + 1) numbers) online) (subst (All (IsFree pool)) (front_places online) free)
 
   pub front_away : AllPairs (λ m n. m ≢ n) numbers → All (λ m. m ≢ get_or numbers i 0) (take i numbers)
   front_away once = λ k d inside. λ same.

@@ -12,48 +12,7 @@ use Rattle.g_contents.specs.Facts.{AreNumbers, OnlineFacts}
 use Rattle.g_online.specs.declared.pinned.Pinned.{Pinned}
 use Rattle.g_online.specs.Dumped.{is_filed, lost_of, lost_places, pinned_in}
 use Rattle.g_online.specs.Kept.{IsKept, IsPooled, Memory, directory_in, facts_of, is_current, orphans, used_places}
-use Rattle.g_online.proofs.OffLemmas.{given_then, still_taken}
 use Rattle.g_online.proofs.UseLemmas.{IsUsed, left_all, left_apart, may_give, right_all, right_apart, same_swap, used_given, used_same}
-
--- ONE VERSION after the other
-lost_append : (files : List FileRec) (xs ys : List Pinned) → lost_places files (xs ++ ys) ≡ lost_places files xs ++ lost_places files ys
-lost_append files [] ys = refl
-lost_append files (x ∷ xs) ys =
-    ap (λ (l : List ℕ). lost_of files x ++ l) (lost_append files xs ys) ∙ sym (append_assoc (lost_of files x) (lost_places files xs) (lost_places files ys))
-
-lost_push : (files : List FileRec) (xs : List Pinned) (p : Pinned) → lost_places files (xs ++ p ∷ []) ≡ lost_places files xs ++ lost_of files p
-lost_push files xs p = lost_append files xs (p ∷ []) ∙ ap (λ (l : List ℕ). lost_places files xs ++ l) (append-nil (lost_of files p))
-
-module _ (files : List FileRec) (pins : List Pinned) (k : ℕ) (p : Pinned) (within : k < length pins) (is : p ≡ get_or pins k p) where
-  lost_further : lost_places files (take (k + 1) pins) ≡ lost_places files (take k pins) ++ lost_of files p
-  lost_further =
-      ap (lost_places files) (take_more pins k p within ∙ ap (λ (q : Pinned). take k pins ++ q ∷ []) (sym is)) ∙ lost_push files (take k pins) p
-
-  lost_front : lost_places files pins ≡ (lost_places files (take k pins) ++ lost_of files p) ++ lost_places files (drop (k + 1) pins)
-  lost_front =
-      ap (lost_places files) (sym (take-append-drop (k + 1) pins)) ∙ lost_append files (take (k + 1) pins) (drop (k + 1) pins)
-      ∙ ap (λ (l : List ℕ). l ++ lost_places files (drop (k + 1) pins)) lost_further
-
-  front_apart : AllPairs (λ i j. i ≢ j) (lost_places files pins) → AllPairs (λ i j. i ≢ j) (lost_places files (take k pins) ++ lost_of files p)
-  front_apart apart =
-      left_apart (lost_places files (take k pins) ++ lost_of files p) (lost_places files (drop (k + 1) pins)) (subst (AllPairs (λ (i : ℕ) j. i ≢ j)) lost_front apart)
-
-  -- what giving back the next one's asks for
-  pub next_apart : AllPairs (λ i j. i ≢ j) (lost_places files pins) → AllPairs (λ i j. i ≢ j) (lost_of files p)
-  next_apart apart = right_apart (lost_places files (take k pins)) (lost_of files p) (front_apart apart)
-
-  pub next_taken : (pool given : List Bool) → AllPairs (λ i j. i ≢ j) (lost_places files pins) → All (IsTaken pool) (lost_places files pins) → HasGiven (lost_places files (take k pins)) pool given
-      → All (IsTaken given) (lost_of files p)
-  next_taken pool given apart taken gives =
-      still_taken (lost_places files (take k pins)) (lost_of files p) pool given (front_apart apart) gives
-      (right_all (IsTaken pool) (lost_places files (take k pins)) (lost_of files p)
-      (left_all (IsTaken pool) (lost_places files (take k pins) ++ lost_of files p) (lost_places files (drop (k + 1) pins)) (subst (All (IsTaken pool)) lost_front taken)))
-
-  pub lost_more : (pool given rest : List Bool) → AllPairs (λ i j. i ≢ j) (lost_places files pins) → HasGiven (lost_places files (take k pins)) pool given → HasGiven (lost_of files p) given rest
-      → HasGiven (lost_places files (take (k + 1) pins)) pool rest
-  lost_more pool given rest apart gives more =
-      subst (λ (l : List ℕ). HasGiven l pool rest) (sym lost_further)
-      (given_then (lost_places files (take k pins)) (lost_of files p) pool given rest (front_apart apart) gives more)
 
 -- these are the blocks that no file has
 filed_is : (files : List FileRec) (online : List (ℕ × DiscCopy)) (s : ℕ) → is_current (entries_of files online) s ≡ is_filed files s

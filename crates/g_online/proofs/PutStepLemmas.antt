@@ -250,22 +250,6 @@ module _ (rec : FileRec) (bytes unjam : List ℕ) (copy : DiscCopy) (o : OnlineF
       })
       (put_set_ready mid pool keeps first pages taken is gives kept_pages remembers covers covers' owner)
 
--- WHAT IS ASKED FOR, by the bytes and the list as the code has them
-pub put_asked : (rec : FileRec) (bytes text numbers listed : List ℕ) (o : OnlineFacts) (before : DiscState) (m : Memory) → text ≡ bytes → listed ≡ numbers → facts_of before m ≡ o → IsKept before m → IsAllowed (PutFile rec bytes numbers) o
-    → IsAsked rec.len listed (PutFile rec text []) (PutFile rec text listed) o before m
-put_asked rec bytes text numbers listed o before m text_is listed_is view kept allowed =
-    let here : IsAllowed (PutFile rec text listed) o = subst (λ (c : Change). IsAllowed c o) (λ i. PutFile rec ((sym text_is) i) ((sym listed_is) i)) allowed in
-    record { needing = put_needing rec text listed; needs = record { need = ap blocks_for (sym here.fits.2); none = refl }; view = view; kept = kept; allowed = here }
-
-pub put_short : (rec : FileRec) (bytes numbers : List ℕ) (o : OnlineFacts) → IsAllowed (PutFile rec bytes numbers) o → rec.len ≤ 65536
-put_short rec bytes numbers o allowed = (is_new rec bytes numbers o allowed).file.len
-
-pub put_answer : (rec : FileRec) (bytes text numbers listed : List ℕ) (o q : OnlineFacts) (r : Result (Unit {0}) OnlineFault) → text ≡ bytes → listed ≡ numbers → IsApplied (PutFile rec text listed) o q r → IsApplied (PutFile rec bytes numbers) o q r
-put_answer rec bytes text numbers listed o q r text_is listed_is = subst (λ (c : Change). IsApplied c o q r) (λ i. PutFile rec (text_is i) (listed_is i))
-
 -- its numbers
-pub block_below : (rec : FileRec) (k : ℕ) → k ≡ rec.number → rec.number < 1024 → 64 + k < 1088
-block_below rec k at less = omega (arith, at, less)
-
 pub owner_below : (rec : FileRec) (users : List UserRec) → IsNew rec users → rec.owner < 63
 owner_below rec users new = let less = new.owner in let few = new.few in omega (arith, less, few)

@@ -41,7 +41,7 @@ all_files P held files all =
     (All-weaker (λ (f : FileEntry). P f.0) (λ (f : FileEntry). P (file_of held f).rec) (λ f is. subst P (sym (rec_of held f)) is) files all)
 
 -- a block of the area is one of the disc's
-block_at : (size : ℕ) (blocks : List (List ℕ)) → AreWhole size blocks → (k : ℕ) → IsInArea size k → IsBlock (slice_index_or blocks k [])
+pub block_at : (size : ℕ) (blocks : List (List ℕ)) → AreWhole size blocks → (k : ℕ) → IsInArea size k → IsBlock (slice_index_or blocks k [])
 block_at size blocks whole k area = let high = area.high in whole.1 k [] (omega (arith, whole.0))
 
 pin_tied : (held : Option (List (List ℕ))) (size next : ℕ) (files : List FileEntry) (p : Pinned) → ForSome held (AreWhole size) → IsPinned size next files p

@@ -1,6 +1,7 @@
 pub mod Change
 pub mod Allowed
 pub mod Done
+pub mod Faults
 pub mod Kept
 pub mod Committed
 pub mod Copies
@@ -10,3 +11,4 @@ pub mod Pins
 pub mod Dumped
 pub mod Put
 pub mod Room
+pub mod Ready

@@ -1,5 +1,5 @@
 -- NEW BYTES: where they find room, and what is done before they are written.
-use Rattle.std.specs.Prelude.{◌≡◌, ℕ, Bool, false, List, Option, Some, None, Result, Ok, Err, OnOk, OnErr}
+use Rattle.std.specs.Prelude.{◌≡◌, ℕ, ◌+◌, Bool, false, List, Option, Some, None, Result, Ok, Err, OnOk, OnErr, if◌then◌else◌}
 use Rattle.std.specs.Option.{ForSome}
 use Rattle.g_base.specs.Block.{blocks_for}
 use Rattle.g_base.specs.Told.{Changes}
@@ -13,12 +13,38 @@ use Rattle.g_slots.specs.declared.side.Side.{Side}
 use Rattle.g_dirs.specs.Commit.{OldOrNew}
 use Rattle.g_dirs.specs.Directory.{Directory, directory_of}
 use Rattle.g_dirs.specs.Pages.{KeepsPages, Remembered}
+use Rattle.g_tree.specs.State.{with_file}
+use Rattle.g_contents.specs.Contents.{with_number}
+use Rattle.g_online.specs.declared.change.Change.{Change}
+use Rattle.g_online.specs.declared.change.Change.TheVariants.{Bring, PutFile}
 use Rattle.g_online.specs.declared.fault.OnlineFault.{OnlineFault}
 use Rattle.g_online.specs.declared.fault.OnlineFault.TheVariants.{Stopped}
 use Rattle.g_online.specs.declared.pinned.Pinned.{Pinned}
 use Rattle.g_online.specs.Committed.{HasCommitted, IsMarked, commit_blocks}
 use Rattle.g_online.specs.Copies.{without_copies}
 use Rattle.g_online.specs.Kept.{AreWhole, head_after, is_pinned}
+
+-- A CHANGE WITH NEW BYTES: they are those of a new version, or of the file of this number, which has them on tape alone
+abbrev pub with_bytes : Option FileRec → ℕ → List ℕ → List ℕ → Change
+with_bytes (Some rec) number bytes unjam = PutFile rec bytes unjam
+with_bytes None number bytes unjam = Bring number bytes unjam
+
+-- what the record of a new version changes, if there is one: the head, the records, and the users who are changed or touched
+abbrev pub stamped : Option FileRec → Head → Head
+stamped (Some rec) head = record head { next_stamp = head.next_stamp + 1 }
+stamped None head = head
+
+abbrev pub recs_with : Option FileRec → List FileRec → List FileRec
+recs_with (Some rec) files = with_file rec files
+recs_with None files = files
+
+abbrev pub users_with : Option FileRec → List ℕ → List ℕ
+users_with (Some rec) numbers = with_number rec.owner numbers
+users_with None numbers = numbers
+
+abbrev pub noted_for : Bool → Option FileRec → List ℕ → List ℕ
+noted_for pinned (Some rec) numbers = if pinned then with_number rec.owner numbers else numbers
+noted_for pinned None numbers = numbers
 
 -- whether the version of a file, where there is one, is pinned
 abbrev pub is_pinned_at : Option (List Pinned) → Option FileRec → Bool

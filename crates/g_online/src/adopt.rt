@@ -45,7 +45,11 @@ impl<D: Disc> Online<D> {
 }
 
 /// The tree of the same users and of the files with these copies.
-fn noted(alloc: Global, tree: &Tree, copies: &[(u64, TapeCopy)]) -> Result<Tree, NoMemory>
+pub(crate) fn noted(
+    alloc: Global,
+    tree: &Tree,
+    copies: &[(u64, TapeCopy)],
+) -> Result<Tree, NoMemory>
     requires { IsRecords tree.now.users (map (copied_rec copies.now) tree.now.files) }
     ensures users { IfOk result (λ t. t.users ≡ tree.now.users) }
     ensures files { IfOk result (λ t. t.files ≡ map (copied_rec copies.now) tree.now.files) }

@@ -1,13 +1,18 @@
-//! The bytes of a file that is on the disc.
-ghost use Rattle.std.specs.Prelude.{◌≡◌, ◌⊎◌, ◌<◌, true, Contains, Err, IfErr, IfOk, length};
+//! The bytes of a file that is on the disc, whole or by the block.
+ghost use Rattle.std.specs.Prelude.{◌≡◌, ◌⊎◌, ◌<◌, AllPairs, true, Contains, Err, IfErr, IfOk, OnErr, OnOk, length, slice_get};
 ghost use Rattle.std.specs.Option.{ForSome};
+ghost use Rattle.g_base.specs.Block.{blocks_for};
 ghost use Rattle.g_disc.specs.Disc.{ReadsByCause};
+ghost use Rattle.g_dirs.specs.Directory.{copy_at};
 ghost use Rattle.g_contents.specs.Contents.{File};
 ghost use Rattle.g_contents.specs.Facts.{IsTied};
+ghost use Rattle.g_contents.specs.Parts.{IsPart};
+ghost use Rattle.g_online.specs.Kept.{copy_places};
 
 use crate::copies::copy_of;
 use crate::{Online, OnlineFault};
-use g_copy::{CopyFault, read_copy};
+use g_base::Block;
+use g_copy::{CopyFault, DiscCopy, read_copy};
 use g_disc::Disc;
 use g_name::Text;
 use std::alloc::Global;
@@ -41,5 +46,44 @@ impl<D: Disc> Online<D> {
             Err(CopyFault::ReadFault) => Err(OnlineFault::ReadFault),
             Err(_) => Err(OnlineFault::NoMemory),
         }
+    }
+
+    /// Reads block `part` of the file of this number, counted from 0; the file is on the disc and has that block. What
+    /// stands in `into` behind the file's end is not said. Nothing changes but the count of failed reads. Where it answers
+    /// `ReadFault`, nothing is known of `into`.
+    pub fn file_block(
+        &mut self,
+        number: u16,
+        part: u32,
+        into: &mut Block,
+    ) -> Result<(), OnlineFault>
+        requires live { self.old.live ≡ true }
+        requires there { (f : File) × Contains self.old.contents.files f × (f.rec.number ≡ number)
+            × (f.online ≡ true) × (part < blocks_for f.rec.len) }
+        ensures block { OnOk result ((f : File) → Contains self.old.contents.files f
+            → f.rec.number ≡ number → ForSome f.bytes (λ text. IsPart text part into.new)) }
+        ensures same { self.new ≡ record self.old { disc = self.new.disc } }
+        ensures reads { ReadsByCause (result ≡ Err OnlineFault.ReadFault) self.old.disc self.new.disc }
+        ensures tied { IsTied self.new }
+        ensures only { OnErr result (result ≡ Err OnlineFault.ReadFault) }
+    {
+        let Some(place) = place_of_part(&self.online, number, part) else {
+            unreachable!()
+        };
+        match self.disc.read(place, into) {
+            Ok(()) => Ok(()),
+            Err(_) => Err(OnlineFault::ReadFault),
+        }
+    }
+}
+
+/// Where block `part` of the file of this number lies.
+fn place_of_part(online: &[(u16, DiscCopy)], number: u16, part: u32) -> Option<u32>
+    requires { AllPairs (λ c d. c.0 < d.0) online.now }
+    ensures { result ≡ slice_get (copy_places (copy_at online.now number)) part }
+{
+    match copy_of(online, number) {
+        Some(copy) => copy.blocks.as_slice().get(part as usize).copied(),
+        None => None,
     }
 }

@@ -1,5 +1,6 @@
 //! What can stand in the way of the filestore.
 use g_base::NoMemory;
+use g_plain::StoreFault;
 use std::alloc::AllocError;
 use thiserror::Error;
 
@@ -43,5 +44,23 @@ impl From<NoMemory> for OnlineFault {
 
     fn from(_e: NoMemory) -> OnlineFault {
         OnlineFault::NoMemory
+    }
+}
+
+impl From<OnlineFault> for StoreFault {
+    ghost use Rattle.std.specs.Prelude.{◌≡◌};
+    ghost use Rattle.g_online.specs.Faults.{store_fault_of};
+
+    ghost from_gives = { λ fault e. e ≡ store_fault_of fault };
+
+    /// The fault as a store tells it.
+    fn from(fault: OnlineFault) -> StoreFault {
+        match fault {
+            OnlineFault::DiscFull { need, room } => StoreFault::DiscFull { need, room },
+            OnlineFault::ReadFault => StoreFault::DiscReadFault,
+            OnlineFault::Stopped => StoreFault::Stopped,
+            OnlineFault::NoFilestore => StoreFault::NoFilestore,
+            OnlineFault::NoMemory => StoreFault::NoMemory,
+        }
     }
 }

@@ -18,10 +18,12 @@ mod online;
 mod pinned;
 mod pins;
 mod put;
+mod ready;
 mod records;
 mod unjam;
 
 pub use change::{Change, CopyList};
 pub use fault::OnlineFault;
 pub use online::Online;
+pub use ready::Ready;
 pub use unjam::Unjam;

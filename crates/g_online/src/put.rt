@@ -1,5 +1,5 @@
 //! New bytes: they find room and are written beside all that the disc holds, before a commit names them.
-ghost use Rattle.std.specs.Prelude.{◌≡◌, ◌≢◌, ◌⊎◌, ◌↔◌, ◌+◌, ◌<◌, ◌≤◌, ◌^◌, All, AllPairs, Err, IfErr, IfOk, IsErrOf, Ok, OnErr, OnOk, [], false, length, option_map, true, vec_len};
+ghost use Rattle.std.specs.Prelude.{◌≡◌, ◌≢◌, ◌⊎◌, ◌↔◌, ◌+◌, ◌<◌, ◌≤◌, ◌^◌, All, AllPairs, Err, IfErr, IfOk, IfSome, IsErrOf, Ok, OnErr, OnOk, [], false, length, option_map, true, vec_len};
 ghost use Rattle.std.specs.Option.{ForSome, option_copied};
 ghost use Rattle.std.specs.Vec.{vec_capacity};
 ghost use Rattle.std.specs.FinMap as finmap;
@@ -9,7 +9,8 @@ ghost use Rattle.g_blocks.specs.Pool.{AreLeastFree, HasGiven, HasTaken, IsFree, 
 ghost use Rattle.g_copy.specs.Copy.{Holds, IsCopy, OnlyAt};
 ghost use Rattle.g_disc.specs.Disc.{WritesOnly};
 ghost use Rattle.g_entry.specs.declared.format.Format.TheVariants.{Two};
-ghost use Rattle.g_tree.specs.Records.{by_number};
+ghost use Rattle.g_tree.specs.Records.{IsRecords, by_number};
+ghost use Rattle.g_tree.specs.State.{with_file};
 ghost use Rattle.g_dirs.specs.Directory.{AreCopies, AreRecords, IsDirectory, copy_at, directory_of};
 ghost use Rattle.g_dirs.specs.Pages.{marked};
 ghost use Rattle.g_online.specs.Allowed.{IsAllowed};
@@ -18,12 +19,13 @@ ghost use Rattle.g_online.specs.Copies.{with_copy_at, without_copies, without_co
 ghost use Rattle.g_online.specs.Done.{IsApplied};
 ghost use Rattle.g_online.specs.Kept.{AreWhole, GivesUnless, copy_places, head_after};
 ghost use Rattle.g_online.specs.Off.{MarksFiles, places_off};
-ghost use Rattle.g_online.specs.Put.{IsUntouched, TakesBeside, TakesFilesOff, is_pinned_at};
+ghost use Rattle.g_online.specs.Put.{IsUntouched, TakesBeside, TakesFilesOff, is_pinned_at, noted_for, recs_with, stamped, users_with, with_bytes};
 
 use crate::change::Change;
 use crate::commit::commit;
 use crate::copies::{copy_of, put_copy};
 use crate::erase::{forget_copy, give_unless, is_kept};
+use crate::numbers::UserNumbers;
 use crate::pinned::Pinned;
 use crate::records::{kept_head, note};
 use crate::{Online, OnlineFault};
@@ -52,6 +54,23 @@ impl<D: Disc> Online<D> {
         requires allowed { IsAllowed (Change.PutFile rec.now bytes.now unjam.now) self.old }
         ensures { IsApplied (Change.PutFile rec.now bytes.now unjam.now) self.old self.new result }
     {
+        self.with_new_copy(alloc, rec.number, Some(rec.copy()), bytes, unjam)
+    }
+
+    /// Puts bytes into blocks of their own and makes them those of the file of this number: of the version of this record,
+    /// or, without one, of the version that has them on tape. What `Change::PutFile` or `Change::Bring` says.
+    pub(crate) fn with_new_copy(
+        &mut self,
+        alloc: Global,
+        number: u16,
+        rec: Option<FileRec>,
+        bytes: &Text,
+        unjam: &NumberList,
+    ) -> Result<(), OnlineFault>
+        requires number { IfSome rec (λ r. r.number ≡ number) }
+        requires allowed { IsAllowed (with_bytes rec number bytes.now unjam.now) self.old }
+        ensures { IsApplied (with_bytes rec number bytes.now unjam.now) self.old self.new result }
+    {
         let numbers = unjam.as_slice();
         let content = bytes.as_slice();
         let copy = match make_ready(
@@ -60,7 +79,7 @@ impl<D: Disc> Online<D> {
             &mut self.tree,
             &mut self.online,
             numbers,
-            rec.len,
+            content.len() as u32,
         ) {
             Ok(copy) => copy,
             Err(fault) => return Err(fault),
@@ -84,13 +103,18 @@ impl<D: Disc> Online<D> {
             Ok(()) => {}
             Err(fault) => return Err(fault),
         }
-        let keeps = is_kept_at(&self.pins, &self.tree, rec.number);
-        replace_copy(keeps, &mut self.pool, &mut self.online, rec.number, copy);
-        self.head = next_head(&self.head, pinned);
+        let keeps = is_kept_at(&self.pins, &self.tree, number);
+        replace_copy(keeps, &mut self.pool, &mut self.online, number, copy);
+        self.head = kept_head(&stamped(&self.head, &rec), pinned);
         self.pages.changed(0);
-        self.tree.put(rec.copy());
-        self.pages.changed(FIRST_FILE_BLOCK + u32::from(rec.number));
-        note(&mut self.changed, &mut self.touched, pinned, rec.owner);
+        self.pages.changed(FIRST_FILE_BLOCK + u32::from(number));
+        put_record(
+            &mut self.tree,
+            &mut self.changed,
+            &mut self.touched,
+            pinned,
+            rec,
+        );
         commit(
             &mut self.disc,
             &mut self.slots,
@@ -105,7 +129,7 @@ impl<D: Disc> Online<D> {
 
 /// Sees to blocks and memory for a new copy of `len` bytes. The blocks of the files that are to be taken off are given back
 /// for it. Where it refuses, all is as before.
-pub(crate) fn make_ready(
+fn make_ready(
     alloc: Global,
     pool: &mut Pool,
     tree: &mut Tree,
@@ -249,7 +273,7 @@ fn retake_copy(pool: &mut Pool, copy: Option<&DiscCopy>)
 }
 
 /// Takes these files off the disc by one commit, if there are any. Their blocks aren't looked at.
-pub(crate) fn unjam_first<D: Disc>(
+fn unjam_first<D: Disc>(
     disc: &mut D,
     slots: &mut Slots,
     pages: &mut Pages,
@@ -314,7 +338,7 @@ fn forget_one(pages: &mut Pages, online: &mut Vec<(u16, DiscCopy)>, number: u16)
 }
 
 /// Writes the bytes into the blocks of their copy. Where a write fails the filestore is live no more.
-pub(crate) fn write_new<D: Disc>(
+fn write_new<D: Disc>(
     disc: &mut D,
     live: &mut bool,
     copy: &DiscCopy,
@@ -376,14 +400,40 @@ fn replace_copy(
     put_copy(online, number, copy);
 }
 
-/// The head of the commit of a new version: the next stamp is one more.
-fn next_head(head: &Head, pinned: bool) -> Head
+/// The head behind the record of a new version, if there is one: the next stamp is one more.
+fn stamped(head: &Head, rec: &Option<FileRec>) -> Head
     requires { head.now.next_stamp ≤ 2 ^ 62 }
-    ensures { result ≡ head_after pinned (record head.now { next_stamp = head.now.next_stamp + 1 }) }
+    ensures { result ≡ stamped rec.now head.now }
 {
-    let next = Head {
-        next_stamp: head.next_stamp + 1,
-        ..*head
+    match rec {
+        Some(_rec) => Head {
+            next_stamp: head.next_stamp + 1,
+            ..*head
+        },
+        None => *head,
+    }
+}
+
+/// Puts the record of a new version in, if there is one, and notes that the directory of its owner has changed.
+fn put_record(
+    tree: &mut Tree,
+    changed: &mut UserNumbers,
+    touched: &mut UserNumbers,
+    pinned: bool,
+    rec: Option<FileRec>,
+)
+    requires room { 1 ≤ tree.old.spare }
+    requires rules { IfSome rec (λ r. IsRecords tree.old.users (with_file r tree.old.files)) }
+    requires owner { IfSome rec (λ r. r.owner < 63) }
+    ensures users { tree.new.users ≡ tree.old.users }
+    ensures files { tree.new.files ≡ recs_with rec tree.old.files }
+    ensures changed { changed.new ≡ users_with rec changed.old }
+    ensures touched { touched.new ≡ noted_for pinned rec touched.old }
+{
+    let Some(rec) = rec else {
+        return;
     };
-    kept_head(&next, pinned)
+    let owner = rec.owner;
+    tree.put(rec);
+    note(changed, touched, pinned, owner);
 }

@@ -2,6 +2,7 @@
 pub mod Asks
 pub mod Codes
 pub mod Faults
+pub mod Grants
 pub mod Plainly
 pub mod PlainHolds
 pub mod PlainStep

@@ -27,5 +27,5 @@ pub use laws::{plain_refusal_changes_nothing, plain_step_keeps_rules};
 pub use names::named;
 pub use plain_store::PlainStore;
 pub use questions::Questions;
-pub use refusals::refusal;
+pub use refusals::{CallName, granted_name, refusal};
 pub use runs::{HoldsTree, StandsFor, runs_are_plain, runs_go_along, runs_have_answers};

@@ -1,9 +1,11 @@
-//! Why a call is refused: the tests of each call, in the order in which its faults come.
-ghost use Rattle.std.specs.Prelude.{◌≡◌, ℕ, List, [], ◌∷◌, true};
+//! Why a call is refused: the tests of each call, in the order in which its faults come. The name that
+//! its path gives is looked up once, and handed on.
+ghost use Rattle.std.specs.Prelude.{◌≡◌, ℕ, List, [], ◌∷◌, None, Some, true};
 ghost use Rattle.g_plain.specs.declared.calls.BudgetKind.{BudgetKind};
 ghost use Rattle.g_plain.specs.PlainTree as plain;
-ghost use Rattle.g_plain.specs.PlainStep.{first_fault, fault_in, fault_of};
+ghost use Rattle.g_plain.specs.PlainStep.{Checks, checks, first_fault, fault_in, fault_of};
 ghost use Rattle.g_plain.specs.PlainStep.{input_checks, size_checks, spent_check};
+ghost use Rattle.g_plain.specs.Grants.{fault_or, granted_by, granted_of};
 
 use crate::names::with_local;
 use crate::{Questions, StoreCall, StoreFault};
@@ -11,27 +13,86 @@ use g_base::blocks_for;
 use g_name::{Full, Local, Path, Text, User};
 use g_trap::{Mode, Modes};
 
+/// The full name that a call gives its file.
+#[derive(Debug, Drop)]
+pub enum CallName {
+    /// The call names no file.
+    Nothing,
+    /// The name of a file for input.
+    Input(Full),
+    /// The name of a file for output, of `Put`.
+    Output(Full),
+}
+
 /// The fault of a call, or None where it is granted. A caller who isn't there is NoUser, first of
 /// all.
 pub fn refusal<Q: Questions>(questions: &Q, who: &User, call: &StoreCall) -> Option<StoreFault>
     ensures { result ≡ fault_of (Q.tree questions.now) who.now call.now }
 {
+    match granted_name(questions, who, call) {
+        Ok(_name) => None,
+        Err(fault) => Some(fault),
+    }
+}
+
+/// The full name that a granted call gives its file. Else the call's fault, as `refusal` tells it.
+pub fn granted_name<Q: Questions>(
+    questions: &Q,
+    who: &User,
+    call: &StoreCall,
+) -> Result<CallName, StoreFault>
+    ensures { result ≡ granted_of (Q.tree questions.now) who.now call.now }
+{
     if !questions.has_user(who) {
-        return Some(StoreFault::NoUser);
+        return Err(StoreFault::NoUser);
     }
     match call {
-        StoreCall::NewUser { user, .. } => new_user(questions, user),
-        StoreCall::Budget { user, .. } => budget(questions, who, user),
-        StoreCall::Put { path, bytes } => put(questions, who, path, bytes),
-        StoreCall::Append { path, bytes } => append(questions, who, path, bytes),
-        StoreCall::Fetch { path, mode } => trapped(questions, who, path, *mode),
-        StoreCall::Erase { path } => trapped(questions, who, path, Mode::Erase),
-        StoreCall::Rename { path, to } => rename(questions, who, path, to),
-        StoreCall::List { user } => list(questions, who, user),
-        StoreCall::TrapGo { path, user, modes } => trap_go(questions, who, path, user, *modes),
-        StoreCall::TrapStop { path, user, .. } => trap_stop(questions, who, path, user),
-        StoreCall::TrapCheck { path, user } => trap_check(questions, who, path, user),
-        StoreCall::Retrieve { path } => trapped(questions, who, path, Mode::Read),
+        StoreCall::NewUser { user, .. } => nameless(new_user(questions, user)),
+        StoreCall::Budget { user, .. } => nameless(budget(questions, who, user)),
+        StoreCall::List { user } => nameless(list(questions, who, user)),
+        StoreCall::Put { path, bytes } => output(put(questions, who, path, bytes)),
+        StoreCall::Append { path, bytes } => input(append(questions, who, path, bytes)),
+        StoreCall::Fetch { path, mode } => input(open_to(questions, who, path, *mode)),
+        StoreCall::Erase { path } => input(open_to(questions, who, path, Mode::Erase)),
+        StoreCall::Rename { path, to } => input(rename(questions, who, path, to)),
+        StoreCall::TrapGo { path, user, modes } => {
+            input(trap_go(questions, who, path, user, *modes))
+        }
+        StoreCall::TrapStop { path, user, .. } => input(trap_stop(questions, who, path, user)),
+        StoreCall::TrapCheck { path, user } => input(trap_check(questions, who, path, user)),
+        StoreCall::Retrieve { path } => input(open_to(questions, who, path, Mode::Read)),
+    }
+}
+
+/// What is granted to a call that names no file.
+fn nameless(fault: Option<StoreFault>) -> Result<CallName, StoreFault>
+    ensures { result ≡ fault_or fault CallName.Nothing }
+{
+    match fault {
+        Some(fault) => Err(fault),
+        None => Ok(CallName::Nothing),
+    }
+}
+
+/// What is granted to a call that names a file for input.
+fn input(named: Result<Full, StoreFault>) -> Result<CallName, StoreFault>
+    ensures { (checks : Checks) (full : Full) → named ≡ granted_by checks full
+        → result ≡ granted_by checks (CallName.Input full) }
+{
+    match named {
+        Ok(full) => Ok(CallName::Input(full)),
+        Err(fault) => Err(fault),
+    }
+}
+
+/// What is granted to a call that names a file for output.
+fn output(named: Result<Full, StoreFault>) -> Result<CallName, StoreFault>
+    ensures { (checks : Checks) (full : Full) → named ≡ granted_by checks full
+        → result ≡ granted_by checks (CallName.Output full) }
+{
+    match named {
+        Ok(full) => Ok(CallName::Output(full)),
+        Err(fault) => Err(fault),
     }
 }
 
@@ -80,25 +141,51 @@ fn list<Q: Questions>(questions: &Q, who: &User, user: &User) -> Option<StoreFau
 
 /// The owner has to be there, and a generation to be left; the file has to be open to the caller, or
 /// new and the caller's own; the bytes have to be few enough, and a file and a stamp to be left.
-fn put<Q: Questions>(questions: &Q, who: &User, path: &Path, bytes: &Text) -> Option<StoreFault>
+fn put<Q: Questions>(
+    questions: &Q,
+    who: &User,
+    path: &Path,
+    bytes: &Text,
+) -> Result<Full, StoreFault>
     requires { plain.has_user (Q.tree questions.now) who.now ≡ true }
-    ensures { result ≡ fault_in (Q.tree questions.now) who.now (StoreCall.Put path.now bytes.now) }
+    ensures { let t = Q.tree questions.now in
+        result ≡ granted_by (checks t who.now (StoreCall.Put path.now bytes.now))
+        (plain.output_name t who.now path.now) }
 {
     let full = questions.output_name(who, path);
+    match put_fault(questions, who, path, bytes, &full) {
+        Some(fault) => Err(fault),
+        None => Ok(full),
+    }
+}
+
+/// The fault of a `Put` whose path gives this name for output.
+fn put_fault<Q: Questions>(
+    questions: &Q,
+    who: &User,
+    path: &Path,
+    bytes: &Text,
+    full: &Full,
+) -> Option<StoreFault>
+    requires caller { plain.has_user (Q.tree questions.now) who.now ≡ true }
+    requires named { full.now ≡ plain.output_name (Q.tree questions.now) who.now path.now }
+    ensures { result ≡ fault_in (Q.tree questions.now) who.now (StoreCall.Put path.now bytes.now) }
+{
     if !questions.has_user(&full.user) {
         return Some(StoreFault::NoUser);
     }
-    if path.generation.is_none() && questions.newest(who, path) == 4095 {
+    // Without a generation the path gives the one behind the greatest.
+    if path.generation.is_none() && full.generation == 4096 {
         return Some(StoreFault::NoGeneration);
     }
-    let there = questions.has_file(&full);
-    if there && !questions.modes_of(&full, who).contains(Mode::Write) {
+    let there = questions.has_file(full);
+    if there && !questions.modes_of(full, who).contains(Mode::Write) {
         return Some(StoreFault::Trapped(Mode::Write));
     }
     if !there && *who != full.user {
         return Some(StoreFault::NotOwner);
     }
-    let over = over_size(questions, &full, bytes.as_slice().len() as u64);
+    let over = over_size(questions, full, bytes.as_slice().len() as u64);
     if over.is_some() {
         return over;
     }
@@ -109,39 +196,52 @@ fn put<Q: Questions>(questions: &Q, who: &User, path: &Path, bytes: &Text) -> Op
 }
 
 /// The file has to be open to the caller, all bytes to be few enough, and a stamp to be left.
-fn append<Q: Questions>(questions: &Q, who: &User, path: &Path, bytes: &Text) -> Option<StoreFault>
+fn append<Q: Questions>(
+    questions: &Q,
+    who: &User,
+    path: &Path,
+    bytes: &Text,
+) -> Result<Full, StoreFault>
     requires { plain.has_user (Q.tree questions.now) who.now ≡ true }
-    ensures { result
-        ≡ fault_in (Q.tree questions.now) who.now (StoreCall.Append path.now bytes.now) }
+    ensures { let t = Q.tree questions.now in
+        result ≡ granted_by (checks t who.now (StoreCall.Append path.now bytes.now))
+        (plain.input_name t who.now path.now) }
 {
-    let closed = trapped(questions, who, path, Mode::Append);
-    if closed.is_some() {
-        return closed;
-    }
-    let full = questions.input_name(who, path);
+    let full = match open_to(questions, who, path, Mode::Append) {
+        Ok(full) => full,
+        Err(fault) => return Err(fault),
+    };
     let size = u64::from(questions.len_of(&full)) + bytes.as_slice().len() as u64;
-    let over = over_size(questions, &full, size);
-    if over.is_some() {
-        return over;
+    if let Some(fault) = over_size(questions, &full, size) {
+        return Err(fault);
     }
-    spent(questions)
+    match spent(questions) {
+        Some(fault) => Err(fault),
+        None => Ok(full),
+    }
 }
 
 /// The file has to be the caller's, and its new name to be free.
-fn rename<Q: Questions>(questions: &Q, who: &User, path: &Path, to: &Local) -> Option<StoreFault>
-    ensures { result ≡ fault_in (Q.tree questions.now) who.now (StoreCall.Rename path.now to.now) }
+fn rename<Q: Questions>(
+    questions: &Q,
+    who: &User,
+    path: &Path,
+    to: &Local,
+) -> Result<Full, StoreFault>
+    ensures { let t = Q.tree questions.now in
+        result ≡ granted_by (checks t who.now (StoreCall.Rename path.now to.now))
+        (plain.input_name t who.now path.now) }
 {
-    let absent = missing(questions, who, path);
-    if absent.is_some() {
-        return absent;
-    }
-    let full = questions.input_name(who, path);
+    let full = match present(questions, who, path) {
+        Ok(full) => full,
+        Err(fault) => return Err(fault),
+    };
     if *who != full.user {
-        Some(StoreFault::NotOwner)
+        Err(StoreFault::NotOwner)
     } else if questions.has_file(&with_local(&full, to)) {
-        Some(StoreFault::Exists)
+        Err(StoreFault::Exists)
     } else {
-        None
+        Ok(full)
     }
 }
 
@@ -152,19 +252,19 @@ fn trap_go<Q: Questions>(
     path: &Path,
     user: &User,
     modes: Modes,
-) -> Option<StoreFault>
-    ensures { result
-        ≡ fault_in (Q.tree questions.now) who.now (StoreCall.TrapGo path.now user.now modes) }
+) -> Result<Full, StoreFault>
+    ensures { let t = Q.tree questions.now in
+        result ≡ granted_by (checks t who.now (StoreCall.TrapGo path.now user.now modes))
+        (plain.input_name t who.now path.now) }
 {
-    let refused = trap_stop(questions, who, path, user);
-    if refused.is_some() {
-        return refused;
-    }
-    let full = questions.input_name(who, path);
+    let full = match trap_stop(questions, who, path, user) {
+        Ok(full) => full,
+        Err(fault) => return Err(fault),
+    };
     if questions.is_ninth(&full, user, modes) {
-        Some(StoreFault::TrapsFull)
+        Err(StoreFault::TrapsFull)
     } else {
-        None
+        Ok(full)
     }
 }
 
@@ -174,20 +274,21 @@ fn trap_stop<Q: Questions>(
     who: &User,
     path: &Path,
     user: &User,
-) -> Option<StoreFault>
-    ensures { (modes : ℕ) → result
-        ≡ fault_in (Q.tree questions.now) who.now (StoreCall.TrapStop path.now user.now modes) }
+) -> Result<Full, StoreFault>
+    ensures { (modes : ℕ) → let t = Q.tree questions.now in
+        result ≡ granted_by (checks t who.now (StoreCall.TrapStop path.now user.now modes))
+        (plain.input_name t who.now path.now) }
 {
-    let absent = missing(questions, who, path);
-    if absent.is_some() {
-        return absent;
-    }
+    let full = match present(questions, who, path) {
+        Ok(full) => full,
+        Err(fault) => return Err(fault),
+    };
     if !questions.has_user(user) {
-        Some(StoreFault::NoUser)
-    } else if *who != questions.input_name(who, path).user {
-        Some(StoreFault::NotOwner)
+        Err(StoreFault::NoUser)
+    } else if *who != full.user {
+        Err(StoreFault::NotOwner)
     } else {
-        None
+        Ok(full)
     }
 }
 
@@ -197,51 +298,60 @@ fn trap_check<Q: Questions>(
     who: &User,
     path: &Path,
     user: &User,
-) -> Option<StoreFault>
-    ensures { result
-        ≡ fault_in (Q.tree questions.now) who.now (StoreCall.TrapCheck path.now user.now) }
+) -> Result<Full, StoreFault>
+    ensures { let t = Q.tree questions.now in
+        result ≡ granted_by (checks t who.now (StoreCall.TrapCheck path.now user.now))
+        (plain.input_name t who.now path.now) }
 {
-    let absent = missing(questions, who, path);
-    if absent.is_some() {
-        return absent;
-    }
+    let full = match present(questions, who, path) {
+        Ok(full) => full,
+        Err(fault) => return Err(fault),
+    };
     if !questions.has_user(user) {
-        Some(StoreFault::NoUser)
-    } else if *who != questions.input_name(who, path).user && *who != *user {
-        Some(StoreFault::NotOwner)
+        Err(StoreFault::NoUser)
+    } else if *who != full.user && *who != *user {
+        Err(StoreFault::NotOwner)
     } else {
-        None
+        Ok(full)
     }
 }
 
-/// Whom the name of a file for input names has to be there, and the file.
-fn missing<Q: Questions>(questions: &Q, who: &User, path: &Path) -> Option<StoreFault>
-    ensures { result ≡ first_fault (input_checks (Q.tree questions.now) who.now path.now) }
+/// The file that a path names for input; whom its name names has to be there, and the file.
+fn present<Q: Questions>(questions: &Q, who: &User, path: &Path) -> Result<Full, StoreFault>
+    ensures { let t = Q.tree questions.now in
+        result ≡ granted_by (input_checks t who.now path.now)
+        (plain.input_name t who.now path.now) }
 {
     let full = questions.input_name(who, path);
     if !questions.has_user(&full.user) {
-        Some(StoreFault::NoUser)
+        Err(StoreFault::NoUser)
     } else if !questions.has_file(&full) {
-        Some(StoreFault::NoFile)
+        Err(StoreFault::NoFile)
     } else {
-        None
+        Ok(full)
     }
 }
 
-/// The file has to be there, and open to the caller in this mode.
-fn trapped<Q: Questions>(questions: &Q, who: &User, path: &Path, mode: Mode) -> Option<StoreFault>
+/// The file that a path names for input, which has to be there, and open to the caller in this mode.
+fn open_to<Q: Questions>(
+    questions: &Q,
+    who: &User,
+    path: &Path,
+    mode: Mode,
+) -> Result<Full, StoreFault>
     requires { plain.has_user (Q.tree questions.now) who.now ≡ true }
-    ensures { result ≡ fault_in (Q.tree questions.now) who.now (StoreCall.Fetch path.now mode) }
+    ensures { let t = Q.tree questions.now in
+        result ≡ granted_by (checks t who.now (StoreCall.Fetch path.now mode))
+        (plain.input_name t who.now path.now) }
 {
-    let absent = missing(questions, who, path);
-    if absent.is_some() {
-        return absent;
-    }
-    let full = questions.input_name(who, path);
+    let full = match present(questions, who, path) {
+        Ok(full) => full,
+        Err(fault) => return Err(fault),
+    };
     if questions.modes_of(&full, who).contains(mode) {
-        None
+        Ok(full)
     } else {
-        Some(StoreFault::Trapped(mode))
+        Err(StoreFault::Trapped(mode))
     }
 }
 

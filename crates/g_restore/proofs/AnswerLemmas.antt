@@ -14,7 +14,7 @@ use Rattle.g_incr.specs.Layout.{Dump}
 use Rattle.g_shelf.specs.Completed.{all_dumps}
 use Rattle.g_state.specs.Meaning.{told_reels}
 use Rattle.g_online.specs.Begun.{AsBeforeOr, HasMade, first_contents}
-use Rattle.g_restore.specs.declared.fold.Dumped.{Dumped}
+use Rattle.g_restore.specs.declared.directory.Dumped.{Dumped}
 use Rattle.g_restore.specs.Lost.{LostIsNamed, NamesLost}
 use Rattle.g_restore.specs.Restored.{IsOfDisc, IsOfReels, IsRestored, KeepsBelonging, NothingIsLost, answer_of}
 use Rattle.g_restore.specs.Steps.{IsGiven, head_of}

@@ -7,17 +7,18 @@ use Rattle.g_tape.specs.Reel.{Reel}
 use Rattle.g_plain.specs.declared.faults.StoreFault.{StoreFault}
 use Rattle.g_plain.specs.declared.faults.StoreFault.TheVariants.{LostCopy, LostDirectory, NoDump, NoMemory, RackNotMounted, TapeReadFault}
 use Rattle.g_incr.specs.declared.fault.ShelfFault.{ShelfFault}
+use Rattle.g_incr.specs.Faults.{store_fault}
 use Rattle.g_incr.specs.declared.fault.ShelfFault.TheVariants as shelf
 use Rattle.g_incr.specs.Layout.{Dump}
 use Rattle.g_shelf.specs.Completed.{all_dumps}
 use Rattle.g_restore.specs.declared.dumps.Found.{Found}
-use Rattle.g_restore.specs.declared.fold.Dumped.{Dumped}
+use Rattle.g_restore.specs.declared.directory.Dumped.{Dumped}
 use Rattle.g_restore.specs.Gathered.{HasFew}
 use Rattle.g_restore.specs.Known.{AreKnown, known, known_of}
 use Rattle.g_restore.specs.Lost.{AreApart, LostIsNamed, NamesLost}
 use Rattle.g_restore.specs.Reels.{AreOnReels}
 use Rattle.g_restore.specs.Restored.{IsOfReels}
-use Rattle.g_restore.specs.Steps.{IsFolded, IsGiven, IsOfDumps, by_shelf}
+use Rattle.g_restore.specs.Steps.{IsFolded, IsGiven, IsOfDumps}
 use Rattle.g_restore.proofs.FoldLemmas.{can_be_made}
 use Rattle.g_restore.proofs.KnownLemmas.{have_few, no_dumps}
 use Rattle.g_restore.proofs.ReelLemmas.{all_of_reels, all_rules, on_unread}
@@ -51,13 +52,13 @@ is_given rs found dumps d on same folds =
     record { dumps = dumps; are = on_unread rs dumps on; folded = is; can = can_be_made dumps (all_rules rs dumps on) d is }
 
 -- a refusal of a reader of tape names nothing
-shelf_names : (A : Type 0) (dumps : List Dump) (fault : ShelfFault) → NamesLost {A = A} dumps (Err (by_shelf fault))
+shelf_names : (A : Type 0) (dumps : List Dump) (fault : ShelfFault) → NamesLost {A = A} dumps (Err (store_fault fault))
 shelf_names A dumps shelf.NoTape = tt
 shelf_names A dumps shelf.NotMounted = tt
 shelf_names A dumps shelf.ReadFault = tt
 shelf_names A dumps shelf.NoMemory = tt
 
-pub shelf_named : (A : Type 0) (reels : List Reel) (fault : ShelfFault) → LostIsNamed {A = A} reels (Err (by_shelf fault))
+pub shelf_named : (A : Type 0) (reels : List Reel) (fault : ShelfFault) → LostIsNamed {A = A} reels (Err (store_fault fault))
 shelf_named A reels fault told shelf shelved apart = shelf_names A (all_dumps shelf reels) fault
 
 -- WHAT WAS FOLDED of the dumps that were read
@@ -112,35 +113,35 @@ pub is_one : {A : Type 0} (fault : ShelfFault) → (◌≡◌ {A = Result A Shel
 is_one fault (inl is) = inl (let same : fault ≡ shelf.ReadFault = cc in same)
 is_one fault (inr is) = inr (let same : fault ≡ shelf.NoMemory = cc in same)
 
-pub shelf_of_reels : (fault : ShelfFault) → IsOne fault → IsOfReels (by_shelf fault)
-shelf_of_reels fault (inl is) = subst (λ (f : ShelfFault). IsOfReels (by_shelf f)) (sym is) tt
-shelf_of_reels fault (inr is) = subst (λ (f : ShelfFault). IsOfReels (by_shelf f)) (sym is) tt
+pub shelf_of_reels : (fault : ShelfFault) → IsOne fault → IsOfReels (store_fault fault)
+shelf_of_reels fault (inl is) = subst (λ (f : ShelfFault). IsOfReels (store_fault f)) (sym is) tt
+shelf_of_reels fault (inr is) = subst (λ (f : ShelfFault). IsOfReels (store_fault f)) (sym is) tt
 
 -- so it isn't that no dump is there, nor that a reel isn't mounted
-not_these : (fault : ShelfFault) → IsOne fault → (y : StoreFault) → (y ≡ TapeReadFault → ⊥) → (y ≡ NoMemory → ⊥) → by_shelf fault ≡ y → ⊥
-not_these fault (inl is) y not_read not_memory same = not_read (sym same ∙ ap by_shelf is)
-not_these fault (inr is) y not_read not_memory same = not_memory (sym same ∙ ap by_shelf is)
+not_these : (fault : ShelfFault) → IsOne fault → (y : StoreFault) → (y ≡ TapeReadFault → ⊥) → (y ≡ NoMemory → ⊥) → store_fault fault ≡ y → ⊥
+not_these fault (inl is) y not_read not_memory same = not_read (sym same ∙ ap store_fault is)
+not_these fault (inr is) y not_read not_memory same = not_memory (sym same ∙ ap store_fault is)
 
 pub shelf_up : {A : Type 0} (fault : ShelfFault) (first : Option ℕ) → None ≡ first → IsOne fault
-    → (serial : ℕ) → (◌≡◌ {A = Result A StoreFault} (Err (by_shelf fault)) (Err (RackNotMounted serial))) ↔ (first ≡ Some serial)
+    → (serial : ℕ) → (◌≡◌ {A = Result A StoreFault} (Err (store_fault fault)) (Err (RackNotMounted serial))) ↔ (first ≡ Some serial)
 shelf_up fault first up one serial = (
-  λ is. absurd (not_these fault one (RackNotMounted serial) (λ e. let no : ⊥ = cc in no) (λ e. let no : ⊥ = cc in no) (same_err (by_shelf fault) (RackNotMounted serial) is)),
+  λ is. absurd (not_these fault one (RackNotMounted serial) (λ e. let no : ⊥ = cc in no) (λ e. let no : ⊥ = cc in no) (same_err (store_fault fault) (RackNotMounted serial) is)),
   λ is. let no : ⊥ = cc in absurd no,
 )
 
-pub shelf_some : {A : Type 0} (fault : ShelfFault) → IsOne fault → ◌≡◌ {A = Result A StoreFault} (Err (by_shelf fault)) (Err NoDump) → ⊥
-shelf_some fault one is = not_these fault one NoDump (λ e. let no : ⊥ = cc in no) (λ e. let no : ⊥ = cc in no) (same_err (by_shelf fault) NoDump is)
+pub shelf_some : {A : Type 0} (fault : ShelfFault) → IsOne fault → ◌≡◌ {A = Result A StoreFault} (Err (store_fault fault)) (Err NoDump) → ⊥
+shelf_some fault one is = not_these fault one NoDump (λ e. let no : ⊥ = cc in no) (λ e. let no : ⊥ = cc in no) (same_err (store_fault fault) NoDump is)
 
 pub shelf_kept : {A B : Type 0} (fault : ShelfFault) (old new : ℕ) → ((◌≡◌ {A = Result A ShelfFault} (Err fault) (Err shelf.ReadFault) → ⊥) → new ≡ old)
-    → (◌≡◌ {A = Result B StoreFault} (Err (by_shelf fault)) (Err TapeReadFault) → ⊥) → new ≡ old
-shelf_kept fault old new kept other = kept (λ is. let same : fault ≡ shelf.ReadFault = cc in other (ap (λ (f : ShelfFault). Err (by_shelf f)) same))
+    → (◌≡◌ {A = Result B StoreFault} (Err (store_fault fault)) (Err TapeReadFault) → ⊥) → new ≡ old
+shelf_kept fault old new kept other = kept (λ is. let same : fault ≡ shelf.ReadFault = cc in other (ap (λ (f : ShelfFault). Err (store_fault f)) same))
 
-read_of : (fault : ShelfFault) → by_shelf fault ≡ TapeReadFault → fault ≡ shelf.ReadFault
+read_of : (fault : ShelfFault) → store_fault fault ≡ TapeReadFault → fault ≡ shelf.ReadFault
 read_of shelf.ReadFault is = refl
 read_of shelf.NoTape is = cc
 read_of shelf.NotMounted is = cc
 read_of shelf.NoMemory is = cc
 
 pub shelf_rose : {A B : Type 0} (fault : ShelfFault) (old new : ℕ) → (◌≡◌ {A = Result A ShelfFault} (Err fault) (Err shelf.ReadFault) → Rose old new)
-    → ◌≡◌ {A = Result B StoreFault} (Err (by_shelf fault)) (Err TapeReadFault) → Rose old new
-shelf_rose fault old new rose is = rose (ap Err (read_of fault (same_err (by_shelf fault) TapeReadFault is)))
+    → ◌≡◌ {A = Result B StoreFault} (Err (store_fault fault)) (Err TapeReadFault) → Rose old new
+shelf_rose fault old new rose is = rose (ap Err (read_of fault (same_err (store_fault fault) TapeReadFault is)))

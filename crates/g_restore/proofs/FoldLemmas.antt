@@ -19,7 +19,7 @@ use Rattle.g_incr.specs.Layout.{Dump, IsDump}
 use Rattle.g_incr.specs.Plan.{numbered_from, with_number}
 use Rattle.g_state.specs.Meaning.{DumpedDirectory, Gathers, IsGreatest, files_in, files_of}
 use Rattle.g_restore.specs.declared.dumps.Found.{Found}
-use Rattle.g_restore.specs.declared.fold.Dumped.{Dumped}
+use Rattle.g_restore.specs.declared.directory.Dumped.{Dumped}
 use Rattle.g_restore.specs.Gathered.{AreGathered, IsBest, IsFirstBad}
 use Rattle.g_restore.specs.Known.{AreKnown, Known, known, known_of}
 use Rattle.g_restore.specs.Lost.{AreApart, GoTogether, HasPlace, IsFirstLost, IsLostDirectory, NamesLost}

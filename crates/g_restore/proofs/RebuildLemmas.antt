@@ -26,7 +26,7 @@ use Rattle.g_online.specs.declared.fault.OnlineFault.{OnlineFault}
 use Rattle.g_online.specs.declared.fault.OnlineFault.TheVariants as online
 use Rattle.g_online.specs.Begun.{AsBeforeOr, HasMade, first_contents, first_file}
 use Rattle.g_online.specs.Change.{told_bytes}
-use Rattle.g_restore.specs.declared.fold.Dumped.{Dumped}
+use Rattle.g_restore.specs.declared.directory.Dumped.{Dumped}
 use Rattle.g_restore.specs.Lost.{LostIsNamed, NamesLost}
 use Rattle.g_restore.specs.Reels.{AreOnReels}
 use Rattle.g_restore.specs.Restored.{IsOfDisc, IsOfReels, IsRestored, answer_of}

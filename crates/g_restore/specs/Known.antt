@@ -1,16 +1,10 @@
 -- WHAT IS KNOWN of dumps in memory: all but their content.
-use Rattle.std.specs.Prelude.{◌≡◌, ℕ, ◌≤◌, List, ◌++◌, map, All}
-use Rattle.std.specs.Option.{ForSome}
+use Rattle.std.specs.Prelude.{◌≡◌, ℕ, List, map, All}
 use Rattle.g_entry.specs.declared.file_rec.FileRec.{FileRec}
 use Rattle.g_entry.specs.declared.user_rec.UserRec.{UserRec}
-use Rattle.g_tape.specs.Rack.{Rack}
-use Rattle.g_tape.specs.Reads.{blocks_of}
-use Rattle.g_incr.specs.declared.note.DumpDir.{DumpDir}
 use Rattle.g_incr.specs.declared.note.DumpNote.{DumpNote}
 use Rattle.g_incr.specs.Layout.{Dump, IsDump}
-use Rattle.g_incr.specs.Reading.{IsFound}
-use Rattle.g_shelf.specs.Completed.{AreCompleted}
-use Rattle.g_shelf.specs.Found.{AreInRow, note_of}
+use Rattle.g_shelf.specs.Found.{note_of}
 use Rattle.g_restore.specs.declared.dumps.Found.{Found}
 
 -- what is known of a dump without its content
@@ -31,15 +25,3 @@ known f = record { serial = f.serial; note = f.dir.note; users = f.dir.users.ite
 pub record AreKnown (found : List Found) (dumps : List Dump) : Type 0 where
   pub same : map known found ≡ map known_of dumps
   pub rules : All IsDump dumps
-
--- those of one reel were put behind others
-pub record AreMore (serial : ℕ) (rack : Rack) (before after : List Found) : Type 0 where
-  pub dumps : List Dump
-  pub row : AreInRow serial 0 0 dumps
-  pub completed : ForSome (blocks_of serial rack) (λ blocks. AreCompleted serial blocks dumps)
-  pub known_are : map known after ≡ map known before ++ map known_of dumps
-
--- the next dump of a reel, of this number or a greater one
-pub record IsNextFound (serial at least : ℕ) (rack : Rack) (dir : DumpDir) : Type 0 where
-  pub found : IsFound serial at rack dir
-  pub number : least ≤ dir.note.number

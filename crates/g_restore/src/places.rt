@@ -1,13 +1,12 @@
 //! Whether the bytes of files are still on tape.
 ghost use Rattle.std.specs.Prelude.{◌≡◌, ◌↔◌, All, IfNone, IfSome, IsTrue, Some};
 ghost use Rattle.g_base.specs.Block.{blocks_for};
-ghost use Rattle.g_shelf.specs.Next.{Holds};
 ghost use Rattle.g_restore.specs.Places.{AnyHas, HasBlocks, IsFirstNotHeld, IsHeld};
 
 use crate::dumps::Found;
 use g_base::blocks_for;
 use g_entry::{FileRec, TapeCopy};
-use g_incr::DumpNote;
+use g_shelf::holds;
 
 /// The first of the files of whose copy not every block is content of one of the dumps: its place, and the copy.
 pub(crate) fn first_lost(found: &[Found], files: &[FileRec]) -> Option<(usize, TapeCopy)>
@@ -41,8 +40,8 @@ fn lost_copy(found: &[Found], r: &FileRec) -> Option<TapeCopy>
     }
 }
 
-/// Whether so many blocks from the copy's first one on are content of one of the dumps.
-fn any_has(found: &[Found], copy: &TapeCopy, blocks: u32) -> bool
+/// Whether so many blocks from the copy's first one on are content of one of the dumps, which may be of several reels.
+pub fn any_has(found: &[Found], copy: &TapeCopy, blocks: u32) -> bool
     ensures { IsTrue result ↔ AnyHas found.now copy.now blocks }
 {
     for one in found {
@@ -57,13 +56,4 @@ fn has_blocks(one: &Found, copy: &TapeCopy, blocks: u32) -> bool
     ensures { IsTrue result ↔ HasBlocks copy.now blocks one.now }
 {
     one.serial == copy.serial && holds(&one.dir.note, copy.first, blocks)
-}
-
-/// Whether the dump's content has all these blocks. The sums are of 64 bits, since a copy may name any block.
-fn holds(note: &DumpNote, first: u32, blocks: u32) -> bool
-    ensures { IsTrue result ↔ Holds note.now first blocks }
-{
-    let content = u64::from(note.place) + 1 + u64::from(note.users) + u64::from(note.files);
-    let mark = u64::from(note.place) + 1 + u64::from(note.count);
-    content <= u64::from(first) && u64::from(first) + u64::from(blocks) <= mark
 }

@@ -15,13 +15,12 @@ ghost use Rattle.g_online.specs.Begun.{AsBeforeOr, HasMade, first_contents};
 ghost use Rattle.g_restore.specs.Reels.{AreOnReels};
 ghost use Rattle.g_restore.specs.Lost.{LostIsNamed};
 ghost use Rattle.g_restore.specs.Restored.{IsOfDisc, IsOfReels, IsRestored, KeepsBelonging, NothingIsLost, answer_of};
-ghost use Rattle.g_restore.specs.Steps.{CanBeMade, IsGiven, by_online, by_shelf, head_of};
+ghost use Rattle.g_restore.specs.Steps.{CanBeMade, IsGiven, by_online, head_of};
 
+use crate::directory::{Dumped, fold};
 use crate::dumps::read_rack;
-use crate::fold::{Dumped, fold};
 use g_disc::Disc;
 use g_entry::Head;
-use g_incr::ShelfFault;
 use g_online::{Online, OnlineFault};
 use g_plain::StoreFault;
 use g_shelf::first_unmounted;
@@ -104,19 +103,7 @@ fn dumped_directory<T: Tapes>(alloc: Global, tapes: &mut T) -> Result<Dumped, St
     }
     match read_rack(alloc, tapes) {
         Ok(found) => fold(alloc, found.as_slice()),
-        Err(fault) => Err(tape_refusal(fault)),
-    }
-}
-
-/// What a refusal of a reader of tape is to the store.
-fn tape_refusal(fault: ShelfFault) -> StoreFault
-    ensures { result ≡ by_shelf fault }
-{
-    match fault {
-        ShelfFault::NoTape => StoreFault::NoTape,
-        ShelfFault::NotMounted => StoreFault::NotMounted,
-        ShelfFault::ReadFault => StoreFault::TapeReadFault,
-        ShelfFault::NoMemory => StoreFault::NoMemory,
+        Err(fault) => Err(fault.into()),
     }
 }
 

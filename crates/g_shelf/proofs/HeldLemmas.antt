@@ -1,8 +1,8 @@
 -- Blocks that are held lie in the content of one dump, whose note tells it.
-use Rattle.std.proofs.Common.{◌≡◌, ◌⊎◌, ◌↔◌, ℕ, zero, suc, ◌+◌, ◌-◌, ◌<◌, ◌≤◌, Bool, List, [], ◌∷◌, length, refl, sym, ◌∙◌, ap, arith, inl, inr, map, subst}
+use Rattle.std.proofs.Common.{◌≡◌, ◌⊎◌, ◌↔◌, ℕ, zero, suc, ◌+◌, ◌-◌, ◌<◌, ◌≤◌, Bool, List, [], ◌∷◌, length, refl, sym, ap, arith, inl, inr, map, subst}
 use Rattle.std.specs.Prelude.{Contains, IsTrue}
 use Rattle.std.specs.Option.{ForSome}
-use Rattle.std.proofs.lemmas.Bool.{cases_eq, cases_lt}
+use Rattle.std.proofs.lemmas.Bool.{cases_lt}
 use Rattle.g_entry.specs.declared.file_rec.TapeCopy.{TapeCopy}
 use Rattle.g_tape.specs.Rack.{Rack, reel}
 use Rattle.g_incr.specs.declared.note.DumpNote.{DumpNote}
@@ -59,14 +59,13 @@ has_note (e ∷ es) d (suc i, within, is) =
     (suc j, omega (arith, inside), at_j)
 
 -- the test of the notes is that of the dumps
-pub copy_found : (ds : List Dump) (notes items : List DumpNote) (copy : TapeCopy) (blocks : ℕ) (is : Bool) → AreInRow copy.serial 0 0 ds → notes ≡ map note_of ds → items ≡ notes
-    → (IsTrue is ↔ ((blocks ≡ 0) ⊎ AnyHolds items copy.first blocks)) → IsTrue is ↔ AreHeld ds copy blocks
-copy_found ds notes items copy blocks is row notes_are items_are tests = (λ yes_is. all (tests.0 yes_is), λ held. tests.1 (one (cases_eq blocks 0) held))
+pub copy_found : (ds : List Dump) (notes : List DumpNote) (copy : TapeCopy) (blocks : ℕ) (is : Bool) → (blocks ≡ 0 → ⊥) → (IsTrue is ↔ AnyHolds notes copy.first blocks)
+    → notes ≡ map note_of ds → AreInRow copy.serial 0 0 ds → IsTrue is ↔ AreHeld ds copy blocks
+copy_found ds notes copy blocks is some tests notes_are row = (λ yes_is. each (tests.0 yes_is), λ held. tests.1 (one held))
   where
-    all : (blocks ≡ 0) ⊎ AnyHolds items copy.first blocks → AreHeld ds copy blocks
-    all (inl none) k below = let no : ⊥ = omega (arith, none, below) in absurd no
-    all (inr any) k below =
-        let (d, there, same) = noted ds any.note (subst (λ (ns : List DumpNote). Contains ns any.note) (items_are ∙ notes_are) any.there) in
+    each : AnyHolds notes copy.first blocks → AreHeld ds copy blocks
+    each any k below =
+        let (d, there, same) = noted ds any.note (subst (λ (ns : List DumpNote). Contains ns any.note) notes_are any.there) in
         let place : any.note.place ≡ d.place = ap (λ (n : DumpNote). n.place) same in
         let count : any.note.count ≡ count_of d = ap (λ (n : DumpNote). n.count) same in
         let users : any.note.users ≡ length d.users = ap (λ (n : DumpNote). n.users) same in
@@ -75,17 +74,16 @@ copy_found ds notes items copy blocks is row notes_are items_are tests = (λ yes
         let to = any.holds.to in
         record { dump = d; there = there; on = (in_row copy.serial 0 0 ds row d there).on; from = omega arith; to = omega (arith, below) }
 
-    one : (blocks ≡ 0) ⊎ (blocks ≡ 0 → ⊥) → AreHeld ds copy blocks → (blocks ≡ 0) ⊎ AnyHolds items copy.first blocks
-    one (inl none) held = inl none
-    one (inr some) held =
+    one : AreHeld ds copy blocks → AnyHolds notes copy.first blocks
+    one held =
         let lies = held_in_row copy.serial ds copy blocks row (omega (arith, some)) held in
         let from = lies.from in
         let to = lies.to in
-        inr (record {
+        record {
           note = note_of lies.dump;
-          there = subst (λ (ns : List DumpNote). Contains ns (note_of lies.dump)) (sym (items_are ∙ notes_are)) (has_note ds lies.dump lies.there);
+          there = subst (λ (ns : List DumpNote). Contains ns (note_of lies.dump)) (sym notes_are) (has_note ds lies.dump lies.there);
           holds = record { from = omega arith; to = omega arith };
-        })
+        }
 
 -- and what is held lies on the reel
 pub held_fits : (copy : TapeCopy) (blocks : ℕ) (dumps : List Dump) (old new : Rack) → AreRead copy.serial dumps old new → 0 < blocks → AreHeld dumps copy blocks

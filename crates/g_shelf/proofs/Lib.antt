@@ -1,7 +1,10 @@
 pub mod HeldLemmas
 pub mod LastLemmas
+pub mod ListedLemmas
 pub mod MarkLemmas
 pub mod OneLemmas
 pub mod QuietLemmas
+pub mod RackLemmas
 pub mod ReadLemmas
 pub mod RowLemmas
+pub mod WalkLemmas

@@ -1,27 +1,25 @@
--- What the readers of a reel hand on, and the dumps that were read so far.
-use Rattle.std.proofs.Common.{◌≡◌, ◌↔◌, ℕ, ◌+◌, ◌-◌, ◌<◌, ◌≤◌, List, [], ◌∷◌, ◌++◌, length, Option, Some, None, Result, Ok, Err, refl, sym, ◌∙◌, ap, arith, slice_get, subst, map, All}
+-- What the readers of a reel hand on, and where the dumps that were read end.
+use Rattle.std.proofs.Common.{◌≡◌, ◌↔◌, ℕ, ◌+◌, ◌-◌, ◌<◌, ◌≤◌, List, length, Option, Some, None, Result, Ok, Err, refl, sym, ◌∙◌, ap, arith, slice_get, subst, map}
 use Rattle.std.specs.Prelude.{option_map}
 use Rattle.std.specs.Option.{ForSome}
-use Rattle.std.proofs.lemmas.List.{append-nil, append_assoc, length-map, map-append}
+use Rattle.std.proofs.lemmas.List.{length-map}
 use Rattle.std.proofs.lemmas.Option.{same_Some, slice_get-map}
 use Rattle.g_base.specs.Counts.{Rose}
-use Rattle.std.proofs.lemmas.List.Elements.{All-nil, All-push, All-weaker}
 use Rattle.g_tape.specs.declared.fault.TapeFault.TheVariants as tape
 use Rattle.g_tape.specs.Rack.{AreReels, Rack, reel, refuses_unmount}
 use Rattle.g_tape.specs.Reads.{OnlyReads, blocks_of, unread}
 use Rattle.g_tape.specs.Reel.{Reel}
-use Rattle.g_tape.proofs.ReadLemmas.{blocks_after_reads, is_reel, more_reads, nothing_read, read_then, reel_after_reads, then_read}
+use Rattle.g_tape.proofs.ReadLemmas.{is_reel, more_reads, read_then, reel_after_reads, then_read}
 use Rattle.g_incr.specs.declared.fault.ShelfFault.{ShelfFault}
 use Rattle.g_incr.specs.declared.fault.ShelfFault.TheVariants.{NoTape, NotMounted, ReadFault, NoMemory}
 use Rattle.g_incr.specs.declared.note.DumpDir.{DumpDir}
 use Rattle.g_incr.specs.declared.note.DumpNote.{DumpNote}
-use Rattle.g_incr.specs.Layout.{Dump, count_of, ends}
+use Rattle.g_incr.specs.Layout.{Dump, count_of}
 use Rattle.g_incr.specs.Reading.{HasReadDump, IsFound, ReadsReel}
-use Rattle.g_shelf.specs.Completed.{AreNext, IsNext, end_of, number_behind}
+use Rattle.g_shelf.specs.Completed.{IsNext, end_of}
 use Rattle.g_shelf.specs.Found.{AreInRow, AreRead, note_of}
-use Rattle.g_shelf.specs.Next.{IsRead}
 use Rattle.g_shelf.proofs.OneLemmas.{same_next}
-use Rattle.g_shelf.proofs.RowLemmas.{end_then, number_then, row_then, top}
+use Rattle.g_shelf.proofs.RowLemmas.{top}
 
 -- a reel that neither refusal is due for is there
 stands_there : (o : Option Reel) → (refuses_unmount o ≡ Some tape.NoTape → ⊥) → (refuses_unmount o ≡ Some tape.NotMounted → ⊥) → (r : Reel) × (o ≡ Some r)
@@ -125,90 +123,6 @@ ends_low serial at x old new dir are reads found =
     let place = found.dir_is.note.place in
     let count = found.dir_is.note.count in
     omega arith
-
--- THE DUMPS READ SO FAR
-pub record SoFar (serial at least : ℕ) (notes : List DumpNote) (old new : Rack) : Type 0 where
-  pub dumps : List Dump
-  pub notes_are : notes ≡ map note_of dumps
-  pub row : AreInRow serial 0 0 dumps
-  pub end_is : at ≡ end_of dumps
-  pub least_is : least ≡ number_behind 0 dumps
-  pub completed : ForSome (blocks_of serial old) (λ blocks. (es : List Dump) → AreNext serial blocks at least es → AreNext serial blocks 0 0 (dumps ++ es))
-  pub fits : ForSome (reel serial old.reels) (λ r. end_of dumps ≤ r.len)
-  pub read : All (λ d. HasReadDump serial (note_of d) old new) dumps
-  pub only : OnlyReads old new
-  pub kept : new.read_faults ≡ old.read_faults
-  pub low : at ≤ 65536
-
-pub nothing_yet : (serial : ℕ) (rack : Rack) → SoFar serial 0 0 [] rack rack
-nothing_yet serial rack = record {
-  dumps = [];
-  notes_are = refl;
-  row = tt;
-  end_is = refl;
-  least_is = refl;
-  completed = λ blocks told es are. are;
-  fits = λ r is. omega arith;
-  read = All-nil (λ (d : Dump). HasReadDump serial (note_of d) rack rack);
-  only = nothing_read rack;
-  kept = refl;
-  low = omega arith;
-}
-
-pub one_more_dump : {A : Type 0} (serial at least : ℕ) (notes : List DumpNote) (old mid new : Rack) (x : A) (note : DumpNote) → SoFar serial at least notes old mid → ReadsReel serial (Ok x) mid new
-    → (d : Dump) × IsRead serial at least d mid new × (note ≡ note_of d) → note.place + note.count + 2 ≤ 65536
-    → SoFar serial (note.place + note.count + 2) (note.number + 1) (notes ++ note ∷ []) old new
-one_more_dump serial at least notes old mid new x note so reads (d, read, is) low =
-    let follows = read.follows in
-    let end_is = so.end_is in
-    let least_is = so.least_is in
-    let number = follows.number in
-    let place_is : note.place ≡ d.place = ap (λ (n : DumpNote). n.place) is in
-    let count_is : note.count ≡ count_of d = ap (λ (n : DumpNote). n.count) is in
-    let number_is : note.number ≡ d.number = ap (λ (n : DumpNote). n.number) is in
-    let ends_is : note.place + note.count + 2 ≡ ends d = omega arith in
-    let next_is : note.number + 1 ≡ d.number + 1 = omega arith in
-    let end : end_of (so.dumps ++ d ∷ []) ≡ ends d = end_then 0 so.dumps d in
-    record {
-      dumps = so.dumps ++ d ∷ [];
-      notes_are = ap (λ (ns : List DumpNote). ns ++ note ∷ []) so.notes_are ∙ ap (λ (n : DumpNote). map note_of so.dumps ++ n ∷ []) is ∙ sym (map-append note_of so.dumps (d ∷ []));
-      row = row_then serial 0 0 so.dumps d so.row (record { on = follows.on; place = follows.place ∙ end_is; number = omega arith; rules = follows.rules });
-      end_is = ends_is ∙ sym end;
-      least_is = next_is ∙ sym (number_then 0 so.dumps d);
-      completed = λ blocks told es are.
-          let told_mid = blocks_after_reads serial old mid so.only ∙ told in
-          let here : IsNext serial blocks at least d = record { on = follows.on; place = follows.place; number = number; stands = read.stands blocks told_mid } in
-          let rest : AreNext serial blocks (ends d) (d.number + 1) es =
-          subst (λ (n : ℕ). AreNext serial blocks (ends d) n es) next_is (subst (λ (n : ℕ). AreNext serial blocks n (note.number + 1) es) ends_is are) in
-          subst (AreNext serial blocks 0 0) (sym (append_assoc so.dumps (d ∷ []) es)) (so.completed blocks told (d ∷ es) (here, rest));
-      fits = λ r at_r.
-          let fits = len-unread (reel serial mid.reels) (reel serial old.reels) (ends d) (reel_after_reads serial old mid so.only) read.fits r at_r in
-          omega arith;
-      read = All-push (λ (e : Dump). HasReadDump serial (note_of e) old new) so.dumps d
-          (All-weaker (λ (e : Dump). HasReadDump serial (note_of e) old mid) (λ (e : Dump). HasReadDump serial (note_of e) old new)
-          (λ e has. read_dump_then serial (note_of e) old mid new has reads.only) so.dumps so.read)
-          (then_read_dump serial (note_of d) old mid new so.only read.read);
-      only = more_reads old mid new so.only reads.only;
-      kept = reads.kept (λ wrong. let no : ⊥ = cc in no) ∙ so.kept;
-      low = low;
-    }
-
-pub all_read : {A : Type 0} (serial at least : ℕ) (notes : List DumpNote) (old mid new : Rack) (x : A) → SoFar serial at least notes old mid → ReadsReel serial (Ok x) mid new
-    → ForSome (blocks_of serial mid) (λ blocks. (d : Dump) → IsNext serial blocks at least d → ⊥)
-    → (dumps : List Dump) × AreRead serial dumps old new × (notes ≡ map note_of dumps)
-all_read serial at least notes old mid new x so reads none = (
-  so.dumps,
-  record {
-    row = so.row;
-    completed = λ blocks told. record {
-      are = subst (AreNext serial blocks 0 0) (append-nil so.dumps) (so.completed blocks told [] (none blocks (blocks_after_reads serial old mid so.only ∙ told)));
-    };
-    fits = so.fits;
-    read = All-weaker (λ (e : Dump). HasReadDump serial (note_of e) old mid) (λ (e : Dump). HasReadDump serial (note_of e) old new)
-        (λ e has. read_dump_then serial (note_of e) old mid new has reads.only) so.dumps so.read;
-  },
-  so.notes_are,
-)
 
 -- THE LAST OF THEM
 pub last-map : (ds : List Dump) → slice_get (map note_of ds) (length (map note_of ds) - 1) ≡ option_map note_of (slice_get ds (length ds - 1))

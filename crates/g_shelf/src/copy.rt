@@ -1,14 +1,14 @@
 //! Whether a file's copy on tape is still there.
-ghost use Rattle.std.specs.Prelude.{◌≡◌, ◌↔◌, ◌⊎◌, ◌+◌, ◌<◌, ◌≤◌, IfOk, IsTrue, List};
+ghost use Rattle.std.specs.Prelude.{◌≡◌, ◌↔◌, ◌+◌, ◌<◌, ◌≤◌, IfOk, IsTrue, List, map};
 ghost use Rattle.std.specs.Option.{ForSome};
 ghost use Rattle.g_tape.specs.Rack.{reel};
 ghost use Rattle.g_incr.specs.Layout.{Dump};
 ghost use Rattle.g_incr.specs.Reading.{ReadsReel};
-ghost use Rattle.g_shelf.specs.Found.{AreRead};
+ghost use Rattle.g_shelf.specs.Found.{AreInRow, AreRead, note_of};
 ghost use Rattle.g_shelf.specs.Held.{AreHeld};
 ghost use Rattle.g_shelf.specs.Next.{AnyHolds, Holds};
 
-use crate::catalogue::completed;
+use crate::notes::completed;
 use g_entry::TapeCopy;
 use g_incr::{DumpNote, ShelfFault};
 use g_tape::Tapes;
@@ -29,14 +29,16 @@ pub fn find_copy<T: Tapes>(
         ForSome (reel copy.now.serial (T.rack tapes.old).reels) (λ r. copy.now.first + blocks ≤ r.len)) }
 {
     let notes = completed(alloc, tapes, copy.serial)?;
-    Ok(are_held(notes.as_slice(), copy.first, blocks))
+    Ok(is_held(notes.as_slice(), copy, blocks))
 }
 
-/// Whether there are no such blocks, or the content of one of the dumps has all of them.
-fn are_held(notes: &[DumpNote], first: u32, blocks: u32) -> bool
-    ensures { IsTrue result ↔ ((blocks ≡ 0) ⊎ AnyHolds notes.now first blocks) }
+/// Whether all of so many blocks, from the copy's first one on, are content of these dumps, which are those of the copy's
+/// reel. It reads nothing.
+pub fn is_held(notes: &[DumpNote], copy: &TapeCopy, blocks: u32) -> bool
+    ensures { (dumps : List Dump) → notes.now ≡ map note_of dumps → AreInRow copy.now.serial 0 0 dumps
+        → IsTrue result ↔ AreHeld dumps copy.now blocks }
 {
-    blocks == 0 || any_holds(notes, first, blocks)
+    blocks == 0 || any_holds(notes, copy.first, blocks)
 }
 
 /// Whether the content of one of the dumps has all these blocks.
@@ -52,7 +54,7 @@ fn any_holds(notes: &[DumpNote], first: u32, blocks: u32) -> bool
 }
 
 /// Whether the dump's content has all these blocks. The sums are of 64 bits, since a copy may name any block.
-fn holds(note: &DumpNote, first: u32, blocks: u32) -> bool
+pub fn holds(note: &DumpNote, first: u32, blocks: u32) -> bool
     ensures { IsTrue result ↔ Holds note.now first blocks }
 {
     let content = u64::from(note.place) + 1 + u64::from(note.users) + u64::from(note.files);

@@ -7,7 +7,7 @@ ghost use Rattle.g_incr.specs.Reading.{HasReadDump};
 ghost use Rattle.g_shelf.specs.Last.{HaveNone, IsLast, first_unmounted};
 ghost use Rattle.g_shelf.specs.Next.{later};
 
-use crate::catalogue::completed;
+use crate::notes::completed;
 use g_incr::{DumpNote, ShelfFault};
 use g_tape::Tapes;
 use std::alloc::Global;

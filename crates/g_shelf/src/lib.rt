@@ -1,17 +1,21 @@
-//! The completed dumps of a reel, the last dump of a rack, and which writes of a tape change them.
+//! The completed dumps of a reel and of a rack, the last of them, and which writes of a tape change them.
 #![tactic(auto)]
 
-mod catalogue;
 mod copy;
 mod last;
+mod notes;
+mod rack;
+mod walk;
 
 ghost use Rattle.g_shelf.specs.Completed.{CompletedAreOne};
 ghost use Rattle.g_shelf.specs.Held.{HeldInOne};
 ghost use Rattle.g_shelf.specs.Quiet.{MarkCompletes, QuietBlocks};
 
-pub use catalogue::{completed, end_of};
-pub use copy::find_copy;
+pub use copy::{find_copy, holds, is_held};
 pub use last::{first_unmounted, last_dump};
+pub use notes::{completed, end_of};
+pub use rack::{Listed, Notes, catalogue};
+pub use walk::{OfDump, read_reel};
 
 /// A write of the next block of a dump that begins behind the completed ones, whatever it leaves, leaves the completed
 /// dumps as they are, where the block stands before the mark; and a write of the mark leaves them, or adds that dump.

@@ -1,7 +1,7 @@
 //! Each call with ample memory, over a dump without files.
 use g_entry::TapeCopy;
 use g_incr::{DumpNote, ShelfFault};
-use g_shelf::{completed, end_of, find_copy, first_unmounted, last_dump};
+use g_shelf::{catalogue, completed, end_of, find_copy, first_unmounted, is_held, last_dump};
 use g_tape::{MemoryTapes, Tapes};
 use std::test::Fail;
 
@@ -48,5 +48,14 @@ fn ample(rt: HostRuntime) -> Result<(), Fail> {
         first: 3,
     };
     assert!(rt; find_copy(alloc, &mut tapes, &copy, 1) == Ok(false));
+    let lists = match first_unmounted(&tapes) {
+        None => catalogue(alloc, &mut tapes)?,
+        Some(_) => return Err("a reel that isn't mounted".into()),
+    };
+    assert!(rt; lists.len() == 1);
+    let list = lists.first().ok_or("a list")?;
+    assert!(rt; list.serial == 9 && list.notes.as_slice() == [note].as_slice());
+    assert!(rt; !is_held(list.notes.as_slice(), &copy, 1));
+    assert!(rt; is_held(list.notes.as_slice(), &copy, 0));
     Ok(())
 }

@@ -38,7 +38,16 @@ fn ample(rt: HostRuntime) -> Result<(), Fail> {
     let users = two_users(rt.alloc())?;
     let keep = users_keep(rt.alloc(), users.as_slice())?;
     assert!(rt; keep);
-    let writer = Writer::new(rt.alloc(), 1, 4, 0, 7, users.as_slice(), &[0], &[])?;
+    let writer = Writer::new(
+        rt.alloc(),
+        1,
+        4,
+        0,
+        7,
+        users.as_slice(),
+        &[0],
+        Vec::new(rt.alloc()),
+    )?;
     assert!(rt; writer.needs() == 4);
     let mut labels = Vec::with_capacity(rt.alloc(), 1)?;
     labels.push((1, 4))?;

@@ -86,6 +86,6 @@ fn lost(alloc: Global, number: u64, fault: &StoreFault) -> Result<Text, NoMemory
     ensures { IfOk result (λ text. text ≡ dump_text number (codes "LOST " ++ fault_line fault.now)) }
 {
     let mut how = Text::from_slice(alloc, b"LOST ")?;
-    push_told(alloc, &mut how, fault)?;
+    push_told(&mut how, fault)?;
     dump_text(alloc, number, how.as_slice())
 }

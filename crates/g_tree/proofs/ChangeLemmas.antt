@@ -18,12 +18,12 @@ use Rattle.g_entry.specs.FileFields.{IsFile}
 use Rattle.g_entry.specs.Rules.{SameName}
 use Rattle.g_plain.specs.PlainTree.{FileRow}
 use Rattle.g_tree.specs.Records.{IsRecords, full_of, file_row_of, tree_of}
-use Rattle.g_tree.specs.State.{IsIndexed, without_file, without_number}
+use Rattle.g_tree.specs.State.{without_file, without_number}
 use Rattle.g_tree.specs.Places.{StandsAt}
 use Rattle.g_tree.proofs.PlaceLemmas.{numbered_apart, stands_found}
 use Rattle.g_tree.proofs.MapLemmas.{keyed, AreApart, none_found, find_valued, with_value, made_without}
 use Rattle.g_tree.proofs.ListLemmas.{map_of_map, filter_whole, around}
-use Rattle.g_tree.proofs.RecordLemmas.{names_apart}
+use Rattle.g_tree.proofs.RecordLemmas.{IsIndexed, names_apart}
 
 -- an element is none of those before it
 pub before_apart : {A K : Type 0} (key : A → K) (xs : List A) (i : ℕ) (d : A) → AreApart key xs → i < length xs → All (λ y. key (get_or xs i d) ≢ key y) (take i xs)

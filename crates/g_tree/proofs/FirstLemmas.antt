@@ -1,5 +1,5 @@
 -- The tree of a new filestore.
-use Rattle.std.proofs.Common.{◌≡◌, ℕ, Bool, true, false, cond, List, [], Option, Some, refl, sym, ap, ◌∙◌, codes}
+use Rattle.std.proofs.Common.{◌≡◌, ℕ, Bool, true, false, cond, List, [], Option, Some, Result, Ok, Err, IfOk, refl, sym, ap, ◌∙◌, codes}
 use Rattle.std.specs.Ordering.{eq_by_cmp}
 use Rattle.std.specs.FinMap.{FinMap, get, insert, empty, same_map, get-insert}
 use Rattle.g_name.specs.Order.{text_cmp}
@@ -8,7 +8,7 @@ use Rattle.g_entry.specs.declared.file_rec.FileRec.{FileRec}
 use Rattle.g_plain.specs.PlainTree.{UserRow, formatted}
 use Rattle.g_plain.proofs.TextMaps.{text_total, text_exact}
 use Rattle.g_tree.specs.Records.{tree_of}
-use Rattle.g_tree.specs.State.{first_users}
+use Rattle.g_tree.specs.State.{TreeState, first_users}
 
 either : (a b : Bool) (x y : Option UserRow) → cond a x (cond b x y) ≡ cond b x (cond a x y)
 either true true x y = refl
@@ -31,3 +31,8 @@ unfolding first_row
 first_tree users files us fs bytes =
     (λ i. tree_of (us i) (fs i) bytes 1)
     ∙ ap (λ m. record { users = m; files = empty; next = 1 }) (both_ways empty (codes "MACROS") (codes "MASTER") first_row)
+
+pub first_made : {E : Type 0} (made : Result TreeState E) (users : List UserRec) (files : List FileRec) → IfOk made (λ t. t.users ≡ users) → IfOk made (λ t. t.files ≡ files) → users ≡ first_users → files ≡ []
+    → IfOk made (λ t. (bytes : FileRec → List ℕ) → tree_of t.users t.files bytes 1 ≡ formatted)
+first_made (Ok t) users files us fs is none = λ bytes. first_tree t.users t.files (us ∙ is) (fs ∙ none) bytes
+first_made (Err e) users files us fs is none = tt

@@ -1,5 +1,5 @@
 -- The least number that no file has.
-use Rattle.std.proofs.Common.{◌≡◌, ◌≢◌, ℕ, zero, suc, ◌<◌, ◌≤◌, true, List, [], length, get_or, None, is_some, sym, ap, subst, ◌∙◌, arith, inl, inr}
+use Rattle.std.proofs.Common.{◌≡◌, ◌≢◌, ℕ, zero, suc, ◌+◌, ◌-◌, ◌<◌, ◌≤◌, true, List, [], length, get_or, None, is_some, sym, ap, subst, ◌∙◌, arith, inl, inr}
 use Rattle.std.specs.FinMap.{get}
 use Rattle.std.proofs.lemmas.Bool.{cases_lt}
 use Rattle.std.proofs.lemmas.List.{get_or_default}
@@ -8,7 +8,7 @@ use Rattle.g_entry.specs.Rules.{AreNumbered}
 use Rattle.g_tree.specs.Records.{by_number}
 use Rattle.g_tree.proofs.PlaceLemmas.{stands_found, fits_none}
 
-no_file : FileRec
+pub no_file : FileRec
 no_file = record { number = 0; owner = 0; local = []; generation = 0; lang = []; stamp = 0; len = 0; traps = record { owner = 0; others = [] }; tape = None }
 
 -- the first n files have the numbers from 0 on
@@ -22,6 +22,28 @@ module _ (files : List FileRec) (is : AreNumbered files) where
       let before = number_ge i d (omega arith) in
       let rising = is.rising i (suc i) d (omega arith) within in
       omega (arith, before, rising)
+
+  -- from a file whose number is that of its place to the first all are filled
+  number_le : (i j : ℕ) (d : FileRec) → i + j < length files → (get_or files i d).number + j ≤ (get_or files (i + j) d).number
+  number_le i zero d within =
+      let on : i + 0 ≡ i = omega arith in
+      let same = ap (λ k. (get_or files k d).number) on in
+      omega (arith, same)
+  number_le i (suc j) d within =
+      let before = number_le i j d (omega arith) in
+      let rising = is.rising (i + j) (i + suc j) d (omega arith) within in
+      omega (arith, before, rising)
+
+  pub filled_until : (m : ℕ) (r : FileRec) → m < length files → r ≡ get_or files m r → r.number ≡ m → IsFilled files (m + 1)
+  filled_until m r within here is_place = λ k d below.
+      let least = number_ge k d (omega arith) in
+      let on : k + (m - k) ≡ m = omega arith in
+      let most : (get_or files k d).number + (m - k) ≤ (get_or files m d).number = subst (λ n. (get_or files k d).number + (m - k) ≤ (get_or files n d).number) on (number_le k (m - k) d (omega arith)) in
+      let same : (get_or files m d).number ≡ m = ap (λ s. s.number) (get_or_default files m d r within) ∙ ap (λ s. s.number) (sym here) ∙ is_place in
+      omega (arith, least, most, same)
+
+  pub other_at : (m : ℕ) (r : FileRec) → m < length files → r ≡ get_or files m r → r.number ≢ m → (d : FileRec) → (get_or files m d).number ≢ m
+  other_at m r within here other = λ d e. other (ap (λ s. s.number) here ∙ ap (λ s. s.number) (get_or_default files m r d within) ∙ e)
 
   module _ (n : ℕ) (filled : IsFilled files n) where
     pub filled_least : n ≤ length files → (lower : ℕ) → lower < n → is_some (get (by_number files) lower) ≡ true
@@ -63,4 +85,19 @@ module _ (files : List FileRec) (is : AreNumbered files) where
         elim (cases_lt 1024 (length files)) as (λ _. length files ≡ 1024) [
           | inl more ↦ let least = number_ge 1024 no_file more in let greatest = is.below 1024 no_file more in absurd (omega (arith, least, greatest))
           | inr few ↦ omega arith
+        ]
+
+    -- where a search among the files ended
+    pub free_at : (n < length files → (d : FileRec) → (get_or files n d).number ≢ n) → n ≤ length files → n < 1024 → (n < 1024) × (get (by_number files) n ≡ None)
+    free_at other within few =
+        elim (cases_lt n (length files)) as (λ _. (n < 1024) × (get (by_number files) n ≡ None)) [
+          | inl less ↦ filled_gap (get_or files n no_file) less (get_or_default files n no_file (get_or files n no_file) less) (other less no_file)
+          | inr end ↦ filled_end (omega arith) few
+        ]
+
+    pub none_free : n ≤ length files → 1024 ≤ n → length files ≡ 1024
+    none_free within many =
+        elim (cases_lt n (length files)) as (λ _. length files ≡ 1024) [
+          | inl less ↦ let least = number_ge n no_file less in let greatest = is.below n no_file less in absurd (omega (arith, least, greatest))
+          | inr end ↦ filled_full (omega arith) many
         ]

@@ -1,5 +1,5 @@
 -- The index of names, whose look-ups go by equality, as a map in their order.
-use Rattle.std.proofs.Common.{◌≡◌, Bool, cond, List, [], ◌∷◌, Some, None, refl, sym, ap, ◌∙◌}
+use Rattle.std.proofs.Common.{◌≡◌, Bool, cond, List, [], ◌∷◌, Option, Some, None, IsSome, refl, sym, ap, subst, ◌∙◌}
 use Rattle.std.specs.Map.{lookup}
 use Rattle.std.specs.BTreeMap.{is_at}
 use Rattle.std.specs.FinMap.{get, insert, remove, from_entries}
@@ -30,3 +30,6 @@ module _ {X : Type 0} where
   indexed_remove es fs k is =
       made_remove full_total full_exact es fs k
       (λ q. sym (by_order q fs) ∙ is q ∙ ap (λ b. cond b None (lookup (full_eq q) es)) (full_ties k q) ∙ ap (cond (is_at (full_cmp k) q) None) (by_order q es))
+
+pub found_there : {X : Type 0} (x : X) (o : Option X) → Some x ≡ o → IsSome o
+found_there x o e = subst IsSome e refl

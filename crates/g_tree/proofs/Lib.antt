@@ -1,9 +1,11 @@
 -- Lemmas on maps, and from records to the tree.
 pub mod AnswerLemmas
 pub mod ChangeLemmas
+pub mod CountLemmas
 pub mod FaultLemmas
 pub mod FirstLemmas
 pub mod FreeLemmas
+pub mod GrantLemmas
 pub mod IndexLemmas
 pub mod LawLemmas
 pub mod ListLemmas

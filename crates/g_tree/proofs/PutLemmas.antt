@@ -15,17 +15,18 @@ use Rattle.g_name.specs.Order.{full_cmp, full_eq}
 use Rattle.g_name.proofs.Order.{full_total, full_ties}
 use Rattle.g_entry.specs.declared.user_rec.UserRec.{UserRec}
 use Rattle.g_entry.specs.declared.file_rec.FileRec.{FileRec}
+use Rattle.g_entry.specs.FileFields.{IsFile}
 use Rattle.g_entry.specs.Rules.{AreNumbered}
 use Rattle.g_plain.specs.PlainTree.{FileRow, Tree}
 use Rattle.g_plain.proofs.TextMaps.{full_exact}
 use Rattle.g_plain.proofs.Found.{same_some, tied_are}
 use Rattle.std.proofs.lemmas.Cmp.{nat_cmp_total}
 use Rattle.g_tree.specs.Records.{IsRecords, full_of, file_row_of, tree_of, by_name, by_number, number_of}
-use Rattle.g_tree.specs.State.{IsIndexed, with_file, without_number}
+use Rattle.g_tree.specs.State.{with_file, without_number}
 use Rattle.g_tree.specs.Places.{StandsAt, FitsAt}
 use Rattle.g_tree.proofs.ListLemmas.{pairs_first, pairs_rest, contains_first, filter_none, filter_whole, around}
 use Rattle.g_tree.proofs.MapLemmas.{keyed, AreApart, none_found, found_one, found_itself, find_valued, made_middle, made_without}
-use Rattle.g_tree.proofs.RecordLemmas.{valued, names_apart}
+use Rattle.g_tree.proofs.RecordLemmas.{IsIndexed, valued, names_apart}
 use Rattle.g_tree.proofs.PlaceLemmas.{numbered_apart, stands_found, fits_none}
 
 module _ {A : Type 0} where
@@ -247,6 +248,11 @@ module _ (users : List UserRec) (bytes : FileRec → List ℕ) (next : ℕ) wher
       ap (λ m. record (tree_of users files bytes next) { files = m })
       (rows_other users row files place old file at.within (get_or_default files place file old at.within) (names_apart users files is) (names_apart users (set files place file) rules)
       ∙ ap (λ o. insert (without_found users rows o) (full_of users file) (row file)) (sym (stands_found files is.numbers file.number place file at)))
+
+-- a file among others keeps the rules of a file
+pub file_ruled : (users : List UserRec) (files : List FileRec) (file : FileRec) → IsRecords users (with_file file files) → IsFile file
+file_ruled users files file is =
+    All-contains IsFile (with_file file files) file is.each_file (Contains-append_right (filter (is_lower file) files) (file ∷ filter (is_greater file) files) file (contains_first file (filter (is_greater file) files)))
 
 -- an owner of a file among others is there
 pub owner_there : (users : List UserRec) (files : List FileRec) (file : FileRec) → IsRecords users (with_file file files) → file.owner < length users

@@ -1,5 +1,5 @@
 -- How a changed or a new user changes the tree that records stand for.
-use Rattle.std.proofs.Common.{◌≡◌, ◌≢◌, ℕ, suc, ◌+◌, ◌<◌, ◌≤◌, List, [], ◌∷◌, ◌++◌, length, map, take, drop, get_or, Some, None, slice_get, refl, sym, ap, subst, ◌∙◌, arith, inl, inr}
+use Rattle.std.proofs.Common.{◌≡◌, ◌≢◌, ℕ, suc, ◌+◌, ◌<◌, ◌≤◌, List, [], ◌∷◌, ◌++◌, length, map, filter, fold, max, take, drop, get_or, Some, None, slice_get, refl, sym, ap, subst, ◌∙◌, arith, inl, inr}
 use Rattle.std.proofs.Math.ListN.{set}
 use Rattle.std.specs.List.{All, slice_index_or}
 use Rattle.std.specs.Option.{option_map}
@@ -14,11 +14,11 @@ use Rattle.g_trap.specs.TrapList.{TrapList}
 use Rattle.g_entry.specs.declared.user_rec.UserRec.{UserRec}
 use Rattle.g_entry.specs.declared.file_rec.FileRec.{FileRec}
 use Rattle.g_entry.specs.Rules.{AreUsers}
-use Rattle.g_plain.specs.PlainTree.{UserRow, FileRow, Tree}
+use Rattle.g_plain.specs.PlainTree.{UserRow, FileRow, Tree, is_version_of}
 use Rattle.g_plain.proofs.TextMaps.{text_total, text_exact}
 use Rattle.g_tree.specs.Records.{IsRecords, name_of, full_of, traps_named, user_row_of, file_row_of, tree_of}
-use Rattle.g_tree.specs.State.{IsIndexed}
-use Rattle.g_tree.proofs.ListLemmas.{map_of_map, around}
+use Rattle.g_tree.specs.State.{IsKept}
+use Rattle.g_tree.proofs.ListLemmas.{map_of_map, around, filter_same_on}
 use Rattle.g_tree.proofs.MapLemmas.{keyed, with_value, AreApart, none_found, find_valued, made_middle, made_other}
 use Rattle.g_tree.proofs.RecordLemmas.{name_at}
 use Rattle.g_tree.proofs.PutLemmas.{apart_before}
@@ -40,6 +40,9 @@ full_by ns r = record { user = named ns r.owner; local = r.local; generation = r
 
 abbrev numbers_by : List (List ℕ) → List FileRec → FinMap full_cmp ℕ
 numbers_by ns files = from_entries {R = full_cmp} (map (λ r. (full_by ns r, r.number)) files)
+
+abbrev newest_by : List (List ℕ) → Full → List FileRec → ℕ
+newest_by ns full files = fold max 0 (map (λ r. r.generation) (filter (λ r. is_version_of full (full_by ns r)) files))
 
 abbrev user_row_by : List (List ℕ) → UserRec → UserRow
 user_row_by ns u = record { superior = named ns u.superior; space = u.space; time = u.time; money = u.money }
@@ -105,10 +108,12 @@ module _ (users : List UserRec) (files : List FileRec) (n : ℕ) (u : UserRec) (
   names_kept : names (set users n u) ≡ names users
   names_kept = map-set (λ v. v.user) users n u ∙ ap (set (names users) n) (sym same) ∙ set-get_or (names users) n []
 
-  pub indexed_set : (numbers : FinMap full_cmp ℕ) → IsIndexed users files numbers → IsRecords (set users n u) files → IsIndexed (set users n u) files numbers
-  indexed_set numbers is rules = record {
+  pub kept_set : (numbers generations : FinMap full_cmp ℕ) (blocks : List ℕ) → IsKept users files numbers generations blocks → IsRecords (set users n u) files → IsKept (set users n u) files numbers generations blocks
+  kept_set numbers generations blocks is rules = record {
     records = rules;
     index = is.index ∙ ap (λ ns. numbers_by ns files) (sym names_kept);
+    newest = λ full. is.newest full ∙ ap (λ ns. newest_by ns full files) (sym names_kept);
+    used = is.used;
   }
 
   pub tree_set : (bytes : FileRec → List ℕ) (next : ℕ) → n < length users → IsRecords (set users n u) files
@@ -154,13 +159,18 @@ module _ (users : List UserRec) (files : List FileRec) (u : UserRec) (is : IsRec
       (λ j e inside i. (name_kept (get_or r.traps.others j e).0 (is.among_files.trapped k d within j e inside) i, (get_or r.traps.others j e).1)) in
       λ i. from_entries {R = text_cmp} ((name_kept r.owner (is.among_files.owners k d within) i, r.traps.owner) ∷ others i)
 
-  pub indexed_more : (numbers : FinMap full_cmp ℕ) → IsIndexed users files numbers → IsRecords (users ++ u ∷ []) files → IsIndexed (users ++ u ∷ []) files numbers
-  indexed_more numbers indexed rules = record {
+  pub kept_more : (numbers generations : FinMap full_cmp ℕ) (blocks : List ℕ) → IsKept users files numbers generations blocks → IsRecords (users ++ u ∷ []) files → IsKept (users ++ u ∷ []) files numbers generations blocks
+  kept_more numbers generations blocks kept rules = record {
     records = rules;
     index =
-        indexed.index
+        kept.index
         ∙ ap (λ es. from_entries {R = full_cmp} es)
         (map_same_on (λ r. (full_of users r, r.number)) (λ r. (full_of (users ++ u ∷ []) r, r.number)) files (λ k d within i. (sym (full_kept k d within) i, (get_or files k d).number)));
+    newest = λ full.
+        kept.newest full
+        ∙ ap (λ rs. fold max 0 (map (λ (r : FileRec). r.generation) rs))
+        (filter_same_on (λ r. is_version_of full (full_of users r)) (λ r. is_version_of full (full_of (users ++ u ∷ []) r)) files (λ k d within. ap (is_version_of full) (sym (full_kept k d within))));
+    used = kept.used;
   }
 
   pub tree_more : (bytes : FileRec → List ℕ) (next : ℕ) → IsRecords (users ++ u ∷ []) files

@@ -1,11 +1,14 @@
 -- What contracts see of a tree in memory, and how its records change.
-use Rattle.std.specs.Prelude.{◌≡◌, ℕ, ◌==◌, not, nat_lt, List, [], ◌∷◌, ◌++◌, map, filter, codes, Some, None}
+use Rattle.std.specs.Prelude.{◌≡◌, ℕ, ◌==◌, not, nat_lt, List, [], ◌∷◌, ◌++◌, map, filter, length, sum_by, slice_index_or, codes, Some, None, unwrap_or, if◌then◌else◌}
 use Rattle.std.specs.FinMap.{FinMap, get, remove, from_entries}
+use Rattle.g_base.specs.Block.{blocks_for}
+use Rattle.g_name.specs.declared.full.Full.{Full}
 use Rattle.g_name.specs.Order.{full_cmp}
 use Rattle.g_entry.specs.declared.user_rec.UserRec.{UserRec}
 use Rattle.g_entry.specs.declared.file_rec.FileRec.{FileRec}
-use Rattle.g_plain.specs.PlainTree.{FileRow}
+use Rattle.g_plain.specs.PlainTree.{FileRow, is_version_of}
 use Rattle.g_tree.specs.Records.{IsRecords, full_of, by_number}
+use Rattle.g_tree.specs.Answers.{newest_of}
 
 -- users by number, files in order of number, and how many more of either fit without taking memory
 pub record TreeState : Type 0 where
@@ -18,10 +21,37 @@ pub record IndexState : Type 0 where
   pub numbers : FinMap full_cmp ℕ
   pub spare : ℕ
 
--- what is always so of the records with the index beside them
-pub record IsIndexed (users : List UserRec) (files : List FileRec) (numbers : FinMap full_cmp ℕ) : Type 0 where
+-- what all versions of a file are found by
+abbrev pub versions_of : Full → Full
+versions_of full = record full { generation = 0 }
+
+-- the greatest generation of a file's versions among those that are remembered, or 0
+abbrev pub newest_in : FinMap full_cmp ℕ → Full → ℕ
+newest_in generations full = unwrap_or (get generations (versions_of full)) 0
+
+-- what is remembered when the greatest generation of a file's versions is another
+abbrev pub HasNewest : FinMap full_cmp ℕ → FinMap full_cmp ℕ → Full → ℕ → Type 0
+HasNewest old new full newest = (other : Full) → newest_in new other ≡ (if is_version_of other full then newest else newest_in old other)
+
+-- the blocks of the files of an owner
+abbrev pub used_of : List FileRec → ℕ → ℕ
+used_of files owner = sum_by (λ r. if r.owner == owner then blocks_for r.len else 0) files
+
+-- the greatest generations that are remembered are those of the files
+abbrev pub AreNewest : List UserRec → List FileRec → FinMap full_cmp ℕ → Type 0
+AreNewest users files generations = (full : Full) → newest_in generations full ≡ newest_of users full files
+
+-- each owner's blocks are a number
+pub record AreUsed (files : List FileRec) (blocks : List ℕ) : Type 0 where
+  pub places : length blocks ≡ 63
+  pub each : (owner : ℕ) → slice_index_or blocks owner 0 ≡ used_of files owner
+
+-- what is always so of the records with all that is remembered of them
+pub record IsKept (users : List UserRec) (files : List FileRec) (numbers generations : FinMap full_cmp ℕ) (blocks : List ℕ) : Type 0 where
   pub records : IsRecords users files
   pub index : numbers ≡ from_entries (map (λ r. (full_of users r, r.number)) files)
+  pub newest : AreNewest users files generations
+  pub used : AreUsed files blocks
 
 -- the users of a new filestore
 abbrev pub first_user : ℕ → List ℕ → UserRec

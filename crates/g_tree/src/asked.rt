@@ -1,16 +1,30 @@
 //! Whether a call is refused, asked of records: by their numbers, and by no byte of a file.
-ghost use Rattle.std.specs.Prelude.{◌≡◌, ◌≤◌, ℕ, List, length};
+ghost use Rattle.std.specs.Prelude.{◌≡◌, ◌≤◌, ℕ, List, length, IfOk, true};
+ghost use Rattle.std.specs.Result.{result_err};
 ghost use Rattle.g_entry.specs.declared.file_rec.FileRec.{FileRec};
-ghost use Rattle.g_plain.specs.PlainTree.{file_row};
+ghost use Rattle.g_plain.specs.Grants.{name_in};
+ghost use Rattle.g_plain.specs.PlainTree.{file_row, has_file};
 ghost use Rattle.g_plain.specs.PlainStep.{fault_of};
-ghost use Rattle.g_tree.specs.Records.{HasLengths, tree_of};
-ghost use Rattle.g_tree.specs.Asked.{zeros};
+ghost use Rattle.g_tree.specs.Records.{ForTree, HasLengths, tree_of};
+ghost use Rattle.g_tree.specs.Asked.{IsGranted, zeros};
 
 use crate::Tree;
 use g_base::blocks_for;
 use g_name::{Full, Path, User};
-use g_plain::{Questions, StoreCall, StoreFault, named, refusal};
+use g_plain::{CallName, Questions, StoreCall, StoreFault, granted_name, named};
 use g_trap::Modes;
+
+/// What a call is granted that isn't refused: the file that its path names.
+#[derive(Debug, Drop)]
+pub enum Granted {
+    /// The call names no file.
+    Nothing,
+    /// The number of the file that the path names for input, which is there, and its full name.
+    Input { number: u16, full: Full },
+    /// The full name that the path of `Put` gives for output, and the number of the file of that
+    /// name, if there is one.
+    Output { number: Option<u16>, full: Full },
+}
 
 /// Records, and the stamp of the next version.
 #[derive(Drop)]
@@ -71,13 +85,17 @@ impl<'a> Questions for Records<'a> {
     }
 
     fn input_name(&self, who: &User, path: &Path) -> Full {
-        let newest = self.newest(who, path);
-        named(who, path, path.generation.unwrap_or(newest))
+        match path.generation {
+            Some(generation) => named(who, path, generation),
+            None => named(who, path, self.newest(who, path)),
+        }
     }
 
     fn output_name(&self, who: &User, path: &Path) -> Full {
-        let newest = self.newest(who, path);
-        named(who, path, path.generation.unwrap_or(newest + 1))
+        match path.generation {
+            Some(generation) => named(who, path, generation),
+            None => named(who, path, self.newest(who, path) + 1),
+        }
     }
 
     fn len_of(&self, full: &Full) -> u32 {
@@ -118,14 +136,46 @@ impl<'a> Questions for Records<'a> {
     }
 }
 
-/// Why a call is refused, or None where it is granted: what the plain step answers on the tree that
-/// the records stand for, whatever bytes of these lengths its files have. `next` is the stamp of the
-/// next version.
-pub fn refusal_of(tree: &Tree, next: u64, who: &User, call: &StoreCall) -> Option<StoreFault>
-    ensures { (bytes : FileRec → List ℕ) → HasLengths tree.now.files bytes
-        → result ≡ fault_of (tree_of tree.now.users tree.now.files bytes next) who.now call.now }
+/// What a call is granted, or why it is refused: the fault that the plain step answers on the tree
+/// that the records stand for, whatever bytes of these lengths its files have. `next` is the stamp
+/// of the next version. The path is looked up once, by the plain step's rules for input and output.
+pub fn refusal_of(
+    tree: &Tree,
+    next: u64,
+    who: &User,
+    call: &StoreCall,
+) -> Result<Granted, StoreFault>
+    ensures refused { (bytes : FileRec → List ℕ) → HasLengths tree.now.files bytes
+        → result_err result
+        ≡ fault_of (tree_of tree.now.users tree.now.files bytes next) who.now call.now }
+    ensures granted { IfOk result (λ granted. ForTree tree.now.users tree.now.files
+        (λ t. IsGranted tree.now.users tree.now.files (name_in t who.now call.now) granted)) }
 {
     // That the records keep their rules is known from here.
     let _users = tree.users();
-    refusal(&Records { tree, next }, who, call)
+    match granted_name(&Records { tree, next }, who, call) {
+        Ok(CallName::Nothing) => Ok(Granted::Nothing),
+        Ok(CallName::Input(full)) => Ok(input(tree, full)),
+        Ok(CallName::Output(full)) => Ok(output(tree, full)),
+        Err(fault) => Err(fault),
+    }
+}
+
+/// The file of this name, which is there.
+fn input(tree: &Tree, full: Full) -> Granted
+    requires { ForTree tree.now.users tree.now.files (λ t. has_file t full ≡ true) }
+    ensures { IsGranted tree.now.users tree.now.files (CallName.Input full) result }
+{
+    match tree.number_of(&full) {
+        Some(number) => Granted::Input { number, full },
+        None => unreachable!(),
+    }
+}
+
+/// The file of this name, if there is one.
+fn output(tree: &Tree, full: Full) -> Granted
+    ensures { IsGranted tree.now.users tree.now.files (CallName.Output full) result }
+{
+    let number = tree.number_of(&full);
+    Granted::Output { number, full }
 }

@@ -1,5 +1,5 @@
 //! The numbers of files by full name.
-ghost use Rattle.std.specs.Prelude.{◌≡◌, ℕ, ◌+◌, ◌≤◌, OnOk};
+ghost use Rattle.std.specs.Prelude.{◌≡◌, ℕ, ◌+◌, ◌≤◌, OnOk, is_some, true};
 ghost use Rattle.std.specs.FinMap as finmap;
 
 use g_base::NoMemory;
@@ -66,6 +66,18 @@ impl Index {
         match self.numbers.insert(full, number) {
             Ok(_old) => {}
             Err(_) => unreachable!(),
+        }
+    }
+
+    /// Sets the number of a name that is there, which takes no room.
+    pub fn replace(&mut self, full: &Full, number: u16)
+        requires { is_some (finmap.get self.old.numbers full.now) ≡ true }
+        ensures numbers { self.new.numbers ≡ finmap.insert self.old.numbers full.now number }
+        ensures spare { self.new.spare ≡ self.old.spare }
+    {
+        match self.numbers.get_mut(full) {
+            Some(there) => *there = number,
+            None => unreachable!(),
         }
     }
 

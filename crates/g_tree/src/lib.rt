@@ -3,6 +3,7 @@
 #![tactic(auto)]
 
 mod asked;
+mod counts;
 mod index;
 mod laws;
 mod number_list;
@@ -11,7 +12,7 @@ mod scan;
 mod sorted;
 mod tree;
 
-pub use asked::refusal_of;
+pub use asked::{Granted, refusal_of};
 pub use laws::{
     bytes_go_by_record, records_change_the_tree, records_make_a_tree, refusals_go_by_length,
     rows_are_of_records, traps_go_by_name, users_go_by_name,

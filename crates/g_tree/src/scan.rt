@@ -1,7 +1,6 @@
 //! What is read off the records of users and files, one after another.
-ghost use Rattle.std.specs.Prelude.{◌≡◌, ◌<◌, ◌≤◌, ◌*◌, ◌==◌, ◌&&◌, map, filter, sum_by, length, All, IfOk, IfErr, if◌then◌else◌};
+ghost use Rattle.std.specs.Prelude.{◌≡◌, ◌<◌, ◌==◌, ◌&&◌, map, filter, remove, length, All, IfOk, IfErr};
 ghost use Rattle.std.specs.FinMap as finmap;
-ghost use Rattle.g_base.specs.Block.{blocks_for};
 ghost use Rattle.g_name.specs.Order.{full_cmp};
 ghost use Rattle.g_plain.specs.PlainTree.{is_version_of};
 ghost use Rattle.g_entry.specs.Rules.{AreNumbered};
@@ -10,7 +9,7 @@ ghost use Rattle.g_tree.specs.Places.{StandsAt, FitsAt};
 ghost use Rattle.g_tree.specs.Answers.{newest_of};
 
 use crate::sorted::Sorted;
-use g_base::{NoMemory, blocks_for};
+use g_base::NoMemory;
 use g_entry::{FileRec, UserRec};
 use g_name::Full;
 use std::alloc::Global;
@@ -62,21 +61,14 @@ pub fn newest_of(users: &[UserRec], name: &Full, files: &[FileRec]) -> u16
     newest
 }
 
-/// The blocks of an owner's files.
-pub fn used_by(owner: u8, files: &[FileRec]) -> u32
-    requires few { length files.now ≤ 1024 }
-    requires lengths { All (λ r. r.len ≤ 65536) files.now }
-    ensures used { result
-        ≡ sum_by (λ r. if r.owner == owner then blocks_for r.len else 0) files.now }
-    ensures few { result ≤ 128 * length files.now }
+/// The greatest generation of the versions of a file among the files but the one at this place.
+pub fn newest_besides(users: &[UserRec], name: &Full, files: &[FileRec], place: usize) -> u16
+    requires owners { All (λ r. r.owner < length users.now) files.now }
+    requires there { place < length files.now }
+    ensures { result ≡ newest_of users.now name.now (remove files.now place) }
 {
-    let mut used = 0;
-    for file in files {
-        if file.owner == owner {
-            used += blocks_for(file.len);
-        }
-    }
-    used
+    let before = newest_of(users, name, &files[..place]);
+    before.max(newest_of(users, name, &files[place + 1..]))
 }
 
 /// The numbers of an owner's files by full name.

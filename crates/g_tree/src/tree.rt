@@ -1,17 +1,18 @@
 //! The users and files of a filestore, and what is asked of them.
-ghost use Rattle.std.specs.Prelude.{◌≡◌, ℕ, ◌≤◌, ◌*◌, List, IfOk, IfSome, IfNone, is_some, slice_get, []};
+ghost use Rattle.std.specs.Prelude.{◌≡◌, ℕ, ◌≤◌, ◌*◌, List, IfOk, IfSome, IfNone, is_some, slice_get, slice_index_or, length, remove, ◌<◌, []};
 ghost use Rattle.std.specs.Option.{option_copied};
 ghost use Rattle.std.specs.FinMap as finmap;
 ghost use Rattle.g_plain.specs.PlainTree as tree;
-ghost use Rattle.g_tree.specs.Records.{IsRecords, ForTree, HasLengths, name_of, name_of_file, tree_of, users_by_name, by_number, number_of};
+ghost use Rattle.g_tree.specs.Records.{IsRecords, ForTree, HasLengths, name_of, name_of_file, full_of, tree_of, users_by_name, by_number, number_of};
 ghost use Rattle.g_tree.specs.State.{first_user, first_users};
 ghost use Rattle.g_tree.specs.Answers.{IsOutput, IsFileOrNew, newest_of, listed};
 
 mod changes;
 mod rights;
 
+use crate::counts::Counts;
 use crate::index::Index;
-use crate::scan::{newest_of, place_of, sorted_of, used_by};
+use crate::scan::{newest_besides, place_of, sorted_of};
 use crate::{NumberList, Output};
 use g_base::NoMemory;
 use g_entry::{FileRec, UserRec};
@@ -28,12 +29,13 @@ pub struct Tree {
     users: Vec<UserRec>,
     files: Vec<FileRec>,
     index: Index,
+    counts: Counts,
 }
 
 impl Model for Tree {
     ghost use Rattle.std.specs.Prelude.{◌-◌, min, vec_len};
     ghost use Rattle.std.specs.Vec.{vec_capacity};
-    ghost use Rattle.g_tree.specs.State.{TreeState, IsIndexed};
+    ghost use Rattle.g_tree.specs.State.{TreeState, IsKept};
 
     ghost Value = { TreeState };
 
@@ -41,10 +43,12 @@ impl Model for Tree {
       users = t.users.items;
       files = t.files.items;
       spare = min (vec_capacity t.users - vec_len t.users)
-          (min (vec_capacity t.files - vec_len t.files) t.index.spare);
+          (min (vec_capacity t.files - vec_len t.files)
+          (min t.index.spare t.counts.generations.spare));
     } };
 
-    ghost invariant = { λ t. IsIndexed t.users.items t.files.items t.index.numbers };
+    ghost invariant = { λ t. IsKept t.users.items t.files.items t.index.numbers
+        t.counts.generations.numbers t.counts.blocks.items };
 }
 
 impl Tree {
@@ -58,11 +62,7 @@ impl Tree {
         let mut users = Vec::new(alloc);
         users.push(first_user(0, User::master()))?;
         users.push(first_user(1, User::macros()))?;
-        Ok(Tree {
-            users,
-            files: Vec::new(alloc),
-            index: Index::new(alloc),
-        })
+        Tree::from_records(alloc, users, Vec::new(alloc))
     }
 
     /// The record of the user of this name.
@@ -179,7 +179,7 @@ impl Tree {
             (name_of self.now.users owner) }
         ensures few { result ≤ 131072 }
     {
-        used_by(owner, self.files.as_slice())
+        self.counts.used(owner)
     }
 
     /// The numbers of the files of the owner of this number, in full-name order.
@@ -268,7 +268,30 @@ impl Tree {
         ensures few { result ≤ 4095 }
         ensures records { IsRecords self.now.users self.now.files }
     {
-        newest_of(self.users.as_slice(), name, self.files.as_slice())
+        self.counts.newest(name)
+    }
+
+    /// The greatest generation of the versions of the file at this place, but of itself.
+    fn newest_but(&self, place: usize, full: &Full) -> u16
+        requires there { place < length self.now.files }
+        requires named { (d : FileRec) → full.now
+            ≡ full_of self.now.users (slice_index_or self.now.files place d) }
+        ensures { result ≡ newest_of self.now.users full.now (remove self.now.files place) }
+    {
+        let newest = self.newest(full);
+        if newest != full.generation {
+            return newest;
+        }
+        // Most often the version before is there, or there is no other.
+        let generation = newest - 1;
+        let before = Full {
+            generation,
+            ..full.copy()
+        };
+        if generation == 0 || self.number_of(&before).is_some() {
+            return generation;
+        }
+        newest_besides(self.users.as_slice(), full, self.files.as_slice(), place)
     }
 }
 

@@ -1,7 +1,8 @@
-//! Words of 24 bits, and the characters of six bits that stand in them.
+//! Words of 24 bits, the characters of six bits that stand in them, and their octal digits.
 #![tactic(auto)]
 
 mod characters;
+mod octal;
 mod words;
 
 pub use characters::{byte_of, code_of};

@@ -40,13 +40,20 @@ fn blocks_lie_where_they_belong(rt: HostRuntime) {
     fs::remove_file(&rt, name).expect(&rt, "a file");
 }
 
-/// What a run left that was cut off while it made the image is in no way of the next, and is no image.
+/// What a run left that was cut off while it made the image is in no way of the next, and is no image; anything else
+/// of that name stays.
 #[test]
 fn an_image_is_one_runs_alone(rt: HostRuntime) {
-    let name = "g_devices_taken.disc";
-    fs::write(&rt, "g_devices_taken.disc.new", "cut").expect(&rt, "a file");
+    let (name, unready) = ("g_devices_taken.disc", "g_devices_taken.disc.new");
+    fs::write(&rt, unready, "cut").expect(&rt, "a file");
+    let Err(other) = open_image(&rt, name) else {
+        panic!(rt; "an image over another file");
+    };
+    assert!(rt; other.kind() == ErrorKind::AlreadyExists);
+    assert!(rt; fs::read(&rt, unready).expect(&rt, "a file").as_slice() == b"cut");
+    make(&rt, unready, 700).expect(&rt, "a file");
     let disc = open_image(&rt, name).expect(&rt, "an image");
-    assert!(rt; !fs::exists(&rt, "g_devices_taken.disc.new").expect(&rt, "an answer"));
+    assert!(rt; !fs::exists(&rt, unready).expect(&rt, "an answer"));
     assert!(rt; holds(&rt, name, &[]).expect(&rt, "a file"));
     let Err(taken) = open_image(&rt, name) else {
         panic!(rt; "an image of two runs");

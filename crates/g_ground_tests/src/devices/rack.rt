@@ -51,17 +51,29 @@ fn reels_end_where_they_were_written(rt: HostRuntime) {
 
 #[test]
 fn a_rack_is_one_runs_alone(rt: HostRuntime) {
-    let folder = "g_devices_taken.tapes";
-    // What a run left that was cut off while it made the folder.
-    fs::create_dir(&rt, "g_devices_taken.tapes.new").expect(&rt, "a folder");
+    let (folder, unready) = ("g_devices_taken.tapes", "g_devices_taken.tapes.new");
+    // What no run left while it made the folder stays, and what one left that was cut off is used.
+    fs::create_dir(&rt, unready).expect(&rt, "a folder");
+    make(&rt, "g_devices_taken.tapes.new/2.tape", 512).expect(&rt, "a file");
+    let Err(other) = open_rack(&rt, folder) else {
+        panic!(rt; "a rack over other files");
+    };
+    assert!(rt; other.kind() == ErrorKind::AlreadyExists);
+    make(&rt, "g_devices_taken.tapes.new/2.tape", 0).expect(&rt, "a file");
     let tapes = open_rack(&rt, folder).expect(&rt, "a rack");
-    assert!(rt; !fs::exists(&rt, "g_devices_taken.tapes.new").expect(&rt, "an answer"));
+    assert!(rt; !fs::exists(&rt, unready).expect(&rt, "an answer"));
     let Err(taken) = open_rack(&rt, folder) else {
         panic!(rt; "a rack of two runs");
     };
     assert!(rt; taken.kind() == ErrorKind::WouldBlock);
     drop(tapes);
     assert!(rt; open_rack(&rt, folder).is_ok());
+    // One file is no two reels.
+    fs::hard_link(&rt, "g_devices_taken.tapes/2.tape", "g_devices_taken.tapes/3.tape").expect(&rt, "a name");
+    let Err(twice) = open_rack(&rt, folder) else {
+        panic!(rt; "a file that is two reels");
+    };
+    assert!(rt; twice.kind() == ErrorKind::WouldBlock);
     fs::remove_dir_all(&rt, folder).expect(&rt, "a folder");
 }
 

@@ -1,11 +1,12 @@
 //! Trees from records, and how records change.
-ghost use Rattle.std.specs.Prelude.{◌≡◌, ◌⊎◌, ℕ, ◌+◌, ◌<◌, ◌≤◌, true, List, [], ◌∷◌, ◌++◌, OnOk, OnErr, IfOk, IfSome, IfNone, Some, None, length, map, slice_set, is_some};
+ghost use Rattle.std.specs.Prelude.{◌≡◌, ◌⊎◌, ℕ, ◌+◌, ◌<◌, ◌≤◌, true, List, [], ◌∷◌, ◌++◌, OnOk, OnErr, IfOk, IfSome, IfNone, Some, None, length, map, slice_set, slice_index_or, is_some};
 ghost use Rattle.std.specs.FinMap as finmap;
 ghost use Rattle.g_entry.specs.Rules.{AreNumbered};
 ghost use Rattle.g_tree.specs.Records.{IsRecords, name_of, full_of, user_row_of, file_row_of, tree_of, by_number, number_of};
 ghost use Rattle.g_tree.specs.Places.{StandsAt};
-ghost use Rattle.g_tree.specs.State.{with_file, without_file, without_number};
+ghost use Rattle.g_tree.specs.State.{AreNewest, AreUsed, with_file, without_file, without_number};
 
+use crate::counts::Counts;
 use crate::index::Index;
 use crate::scan::{full_of, place_of};
 use crate::tree::Tree;
@@ -26,10 +27,12 @@ impl Tree {
         ensures files { IfOk result (λ t. t.files ≡ files.items) }
     {
         let index = index_of(alloc, users.as_slice(), files.as_slice())?;
+        let counts = counts_of(alloc, users.as_slice(), files.as_slice())?;
         Ok(Tree {
             users,
             files,
             index,
+            counts,
         })
     }
 
@@ -43,7 +46,8 @@ impl Tree {
     {
         self.users.reserve(1)?;
         self.files.reserve(1)?;
-        self.index.reserve(1)
+        self.index.reserve(1)?;
+        self.counts.reserve(1)
     }
 
     /// Puts a user behind the others, whose number is the least unused one.
@@ -110,6 +114,8 @@ impl Tree {
         match place_of(self.files.as_slice(), file.number) {
             Ok(place) => self.replace(place, full, file),
             Err(place) => {
+                self.counts.rise(&full);
+                self.counts.take(file.owner, file.len);
                 self.index.insert(full, file.number);
                 if self.files.insert(place, file).is_err() {
                     unreachable!()
@@ -133,9 +139,48 @@ impl Tree {
     {
         let old = full_of(self.users.as_slice(), &self.files[place]);
         if old != full {
-            self.index.remove(&old);
-            self.index.insert(full, file.number);
+            self.rename(place, &old, full, file);
+        } else {
+            self.renew(place, file);
         }
+    }
+
+    /// Puts a file in the place of the one of its number, which has the same full name.
+    fn renew(&mut self, place: usize, file: FileRec)
+        requires at { StandsAt self.old.files file.number place }
+        requires name { (d : FileRec) → full_of self.old.users (slice_index_or self.old.files place d)
+            ≡ full_of self.old.users file }
+        requires rules { IsRecords self.old.users (slice_set self.old.files place file) }
+        ensures users { self.new.users ≡ self.old.users }
+        ensures files { self.new.files ≡ slice_set self.old.files place file }
+        ensures spare { self.new.spare ≡ self.old.spare }
+    {
+        let old = &self.files[place];
+        self.counts.give(old.owner, old.len);
+        self.counts.take(file.owner, file.len);
+        self.files[place] = file;
+    }
+
+    /// Puts a file in the place of the one of its number, whose full name is another.
+    fn rename(&mut self, place: usize, old: &Full, full: Full, file: FileRec)
+        requires at { StandsAt self.old.files file.number place }
+        requires was { (d : FileRec) → old.now
+            ≡ full_of self.old.users (slice_index_or self.old.files place d) }
+        requires name { full ≡ full_of self.old.users file }
+        requires room { 1 ≤ self.old.spare }
+        requires rules { IsRecords self.old.users (slice_set self.old.files place file) }
+        ensures users { self.new.users ≡ self.old.users }
+        ensures files { self.new.files ≡ slice_set self.old.files place file }
+        ensures spare { self.old.spare ≤ self.new.spare + 1 }
+    {
+        let newest = self.newest_but(place, old);
+        let was = &self.files[place];
+        self.counts.fall(old, newest);
+        self.counts.rise(&full);
+        self.counts.give(was.owner, was.len);
+        self.counts.take(file.owner, file.len);
+        self.index.remove(old);
+        self.index.insert(full, file.number);
         self.files[place] = file;
     }
 
@@ -153,8 +198,12 @@ impl Tree {
     {
         match place_of(self.files.as_slice(), number) {
             Ok(place) => {
+                let full = full_of(self.users.as_slice(), &self.files[place]);
+                let newest = self.newest_but(place, &full);
                 let file = self.files.remove(place);
-                self.index.remove(&full_of(self.users.as_slice(), &file));
+                self.counts.fall(&full, newest);
+                self.counts.give(file.owner, file.len);
+                self.index.remove(&full);
             }
             Err(_) => unreachable!(),
         }
@@ -198,7 +247,23 @@ fn index_of(alloc: Global, users: &[UserRec], files: &[FileRec]) -> Result<Index
     Ok(index)
 }
 
-/// The least number that no file has.
+/// What is remembered of files, with room for as many names as there are.
+fn counts_of(alloc: Global, users: &[UserRec], files: &[FileRec]) -> Result<Counts, NoMemory>
+    requires { IsRecords users.now files.now }
+    ensures newest { IfOk result (λ c. AreNewest users.now files.now c.generations.numbers) }
+    ensures used { IfOk result (λ c. AreUsed files.now c.blocks.items) }
+{
+    let mut counts = Counts::new(alloc)?;
+    counts.reserve(files.len())?;
+    for file in files {
+        counts.rise(&full_of(users, file));
+        counts.take(file.owner, file.len);
+    }
+    Ok(counts)
+}
+
+/// The least number that no file has. Numbers rise from place to place, so a file in front of the gap
+/// has the number of its place, and one behind it a greater one.
 fn free_in(files: &[FileRec]) -> Option<u16>
     requires { AreNumbered files.now }
     ensures unused { IfSome result (λ number. (number < 1024)
@@ -207,12 +272,15 @@ fn free_in(files: &[FileRec]) -> Option<u16>
         → is_some (finmap.get (by_number files.now) lower) ≡ true) }
     ensures none { IfNone result (length files.now ≡ 1024) }
 {
-    let mut number = 0;
-    for file in files {
-        if file.number != number {
-            return Some(number);
+    let mut gap = 0;
+    let mut end = files.len();
+    while gap < end {
+        let middle = gap + (end - gap) / 2;
+        if files[middle].number as usize == middle {
+            gap = middle + 1;
+        } else {
+            end = middle;
         }
-        number += 1;
     }
-    if number < 1024 { Some(number) } else { None }
+    if gap < 1024 { Some(gap as u16) } else { None }
 }

@@ -1,12 +1,10 @@
-use Rattle.std.proofs.Common.{◌≡◌, ◌+◌, length, option_map}
-use Rattle.g_macro.specs.Levels.{line_of_label}
+use Rattle.std.proofs.Common.{length}
+use Rattle.g_lines.specs.Lines.{lines_of}
+use Rattle.g_macro.proofs.LabelLemmas.{IsLabelSoFar}
 use Rattle.g_macro.proofs.level.place_of_label.Given as goal
 
 abbrev pub invariant-loop-line : goal.invariant-loop-line
-invariant-loop-line l = record {
-  same : line_of_label l.label l.fn.lines ≡ option_map (λ n. l.place + n) (line_of_label l.label l.lines);
-  count : l.place + length l.lines ≡ length l.fn.lines;
-}
+invariant-loop-line l = IsLabelSoFar l.label (lines_of l.text) l.lines l.count l.bytes
 
 abbrev pub decreases-loop-line : goal.decreases-loop-line
 decreases-loop-line l = length l.lines

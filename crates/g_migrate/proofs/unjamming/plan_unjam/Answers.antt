@@ -1,60 +1,17 @@
-use Rattle.std.proofs.Common.{ℕ, ◌≤◌, List, sym, subst}
-use Rattle.std.specs.Prelude.{IfOk}
-use Rattle.std.specs.List.Sorted.{IsNonDecreasingBy, IsPermutation}
-use Rattle.std.proofs.lemmas.Result.{IfOk-weaker}
-use Rattle.g_migrate.specs.declared.candidates.Candidate.{Candidate}
-use Rattle.g_online.specs.declared.unjam.Unjam.{Unjam}
-use Rattle.g_migrate.specs.Taken.{TakesFirst}
-use Rattle.g_migrate.proofs.CandidateLemmas.{few_files, few_sorted, small_room, small_sorted}
-use Rattle.g_migrate.proofs.MigrationLemmas.{rules_here}
-use Rattle.g_migrate.proofs.PlanLemmas.{none_taken, oldest_first, plan_is, room_behind}
+use Rattle.std.proofs.Common.{ℕ, List, [], sym, subst}
+use Rattle.g_state_steps.specs.Unjam.{IsUnjamPlan}
+use Rattle.g_migrate.specs.Unjam.{IsRoomWithout}
+use Rattle.g_migrate.proofs.NothingLemmas.{nothing_is_a_plan, room_of_nothing}
 use Rattle.g_migrate.proofs.unjamming.plan_unjam.Goals as goal
 
-pub take_first-requires-clause-few : goal.take_first-requires-clause-few
-take_first-requires-clause-few g c =
+pub returns-then-need-room-clause-plan : goal.returns-then-need-room-clause-plan
+returns-then-need-room-clause-plan g c =
     let o = c.args.online.now in
-    let records = (rules_here o c.requires.live c.requires.tied).records in
-    few_sorted o.contents.files c.deref.result.now (few_files o records)
-    (subst (λ (l : List Candidate). IsPermutation l c.deref.result.now) c.in_ok-candidates.ensures (subst (IsPermutation c.in_ok-candidates.candidates.items) (sym c.deref.ensures.value) c.sort_by_age.ensures.moved))
+    subst (λ (l : List ℕ). IsUnjamPlan c.args.need o l c.nothing_taken.result.room) (sym c.nothing_taken.ensures.take)
+    (subst (λ (n : ℕ). IsUnjamPlan c.args.need o [] n) (sym c.nothing_taken.ensures.room) (nothing_is_a_plan o c.args.need c.room-room.result c.room-room.ensures.room c.if-need-room.true))
 
-pub take_first-requires-clause-small : goal.take_first-requires-clause-small
-take_first-requires-clause-small g c =
+pub returns-then-need-room-clause-room : goal.returns-then-need-room-clause-room
+returns-then-need-room-clause-room g c =
     let o = c.args.online.now in
-    let records = (rules_here o c.requires.live c.requires.tied).records in
-    small_sorted o.contents.files c.deref.result.now records.each_file
-    (subst (λ (l : List Candidate). IsPermutation l c.deref.result.now) c.in_ok-candidates.ensures (subst (IsPermutation c.in_ok-candidates.candidates.items) (sym c.deref.ensures.value) c.sort_by_age.ensures.moved))
-
-pub take_first-requires-clause-room : goal.take_first-requires-clause-room
-take_first-requires-clause-room g c = subst (λ (n : ℕ). n ≤ 1_048_576) (sym c.room.ensures.room) (small_room c.args.online.now c.requires.tied)
-
-pub returns-clause-plan : goal.returns-clause-plan
-returns-clause-plan g c =
-    let o = c.args.online.now in
-    let records = (rules_here o c.requires.live c.requires.tied).records in
-    let moved = subst (λ (l : List Candidate). IsPermutation l c.deref.result.now) c.in_ok-candidates.ensures (subst (IsPermutation c.in_ok-candidates.candidates.items) (sym c.deref.ensures.value) c.sort_by_age.ensures.moved) in
-    let order = subst (IsNonDecreasingBy (λ (x : Candidate). x.stamp)) (sym c.deref.ensures.value) c.sort_by_age.ensures.order in
-    IfOk-weaker c.take_first.result _ _ (λ (u : Unjam) first. plan_is o c.args.need c.deref.result.now u.take u.room records moved order first)
-    (subst (λ (n : ℕ). IfOk c.take_first.result (λ (u : Unjam). TakesFirst c.deref.result.now n c.args.need u.take u.room)) c.room.ensures.room c.take_first.ensures)
-
-pub returns-clause-order : goal.returns-clause-order
-returns-clause-order g c =
-    let o = c.args.online.now in
-    let records = (rules_here o c.requires.live c.requires.tied).records in
-    let moved = subst (λ (l : List Candidate). IsPermutation l c.deref.result.now) c.in_ok-candidates.ensures (subst (IsPermutation c.in_ok-candidates.candidates.items) (sym c.deref.ensures.value) c.sort_by_age.ensures.moved) in
-    let order = subst (IsNonDecreasingBy (λ (x : Candidate). x.stamp)) (sym c.deref.ensures.value) c.sort_by_age.ensures.order in
-    IfOk-weaker c.take_first.result _ _ (λ (u : Unjam) first. oldest_first o c.args.need c.deref.result.now u.take u.room records moved order first)
-    (subst (λ (n : ℕ). IfOk c.take_first.result (λ (u : Unjam). TakesFirst c.deref.result.now n c.args.need u.take u.room)) c.room.ensures.room c.take_first.ensures)
-
-pub returns-clause-room : goal.returns-clause-room
-returns-clause-room g c =
-    let o = c.args.online.now in
-    let records = (rules_here o c.requires.live c.requires.tied).records in
-    let moved = subst (λ (l : List Candidate). IsPermutation l c.deref.result.now) c.in_ok-candidates.ensures (subst (IsPermutation c.in_ok-candidates.candidates.items) (sym c.deref.ensures.value) c.sort_by_age.ensures.moved) in
-    let order = subst (IsNonDecreasingBy (λ (x : Candidate). x.stamp)) (sym c.deref.ensures.value) c.sort_by_age.ensures.order in
-    IfOk-weaker c.take_first.result _ _ (λ (u : Unjam) first. room_behind o c.args.need c.deref.result.now u.take u.room records moved order first c.room.ensures.fits)
-    (subst (λ (n : ℕ). IfOk c.take_first.result (λ (u : Unjam). TakesFirst c.deref.result.now n c.args.need u.take u.room)) c.room.ensures.room c.take_first.ensures)
-
-pub returns-clause-none : goal.returns-clause-none
-returns-clause-none g c =
-    IfOk-weaker c.take_first.result _ _ (λ (u : Unjam) first. none_taken c.deref.result.now _ c.args.need u.take u.room first)
-    (subst (λ (n : ℕ). IfOk c.take_first.result (λ (u : Unjam). TakesFirst c.deref.result.now n c.args.need u.take u.room)) c.room.ensures.room c.take_first.ensures)
+    subst (λ (l : List ℕ). IsRoomWithout o l c.nothing_taken.result.room) (sym c.nothing_taken.ensures.take)
+    (subst (λ (n : ℕ). IsRoomWithout o [] n) (sym c.nothing_taken.ensures.room) (room_of_nothing o c.room-room.result c.room-room.ensures.room))

@@ -1,5 +1,8 @@
-use Rattle.g_online.proofs.OffLemmas.{given_none}
-use Rattle.g_online.proofs.PinLostLemmas.{lost_more, next_apart, next_taken}
+use Rattle.g_blocks.specs.Pool.{HasGiven, IsTaken}
+use Rattle.std.proofs.Common.{sym}
+use Rattle.std.proofs.lemmas.List.{get_or_default}
+use Rattle.g_online.specs.Dumped.{lost_of}
+use Rattle.g_online.proofs.PoolLemmas.{given_none, given_then, next_apart, next_may, one_more, still_taken}
 use Rattle.g_online.proofs.pins.give_lost.Goals as goal
 
 pub loop-pin-init : goal.loop-pin-init
@@ -7,12 +10,14 @@ loop-pin-init c = given_none c.args.pool.now
 
 pub give_one_lost-requires-clause-apart : goal.give_one_lost-requires-clause-apart
 give_one_lost-requires-clause-apart c =
-    next_apart c.args.files.now c.args.pins.now c.loop-pin.pin-index c.pin-item.result c.loop-pin-test.true c.pin-item.is c.requires.apart
+    next_apart (lost_of c.args.files.now) c.args.pins.now c.loop-pin.pin-index c.pin-item.result c.loop-pin-test.true (sym c.pin-item.is) c.requires.apart
 
 pub give_one_lost-requires-clause-taken : goal.give_one_lost-requires-clause-taken
 give_one_lost-requires-clause-taken c =
-    next_taken c.args.files.now c.args.pins.now c.loop-pin.pin-index c.pin-item.result c.loop-pin-test.true c.pin-item.is c.args.pool.now c.loop-pin.pool c.requires.apart c.requires.taken c.loop-pin.invariant
+    next_may (lost_of c.args.files.now) c.args.pins.now c.loop-pin.pin-index c.pin-item.result c.loop-pin-test.true (sym c.pin-item.is) HasGiven IsTaken still_taken _ _
+    c.requires.apart c.loop-pin.invariant c.requires.taken
 
 pub loop-pin-preserved : goal.loop-pin-preserved
 loop-pin-preserved c =
-    lost_more c.args.files.now c.args.pins.now c.loop-pin.pin-index c.pin-item.result c.loop-pin-test.true c.pin-item.is c.args.pool.now c.loop-pin.pool c.give_one_lost.new.pool c.requires.apart c.loop-pin.invariant c.give_one_lost.ensures
+    one_more (lost_of c.args.files.now) c.args.pins.now c.loop-pin.pin-index c.pin-item.result c.loop-pin-test.true (sym c.pin-item.is) HasGiven given_then _ _ _
+    c.requires.apart c.loop-pin.invariant c.give_one_lost.ensures

@@ -5,7 +5,7 @@ use Rattle.g_copy.specs.declared.copy.DiscCopy.{DiscCopy}
 use Rattle.g_online.specs.Off.{places_off}
 use Rattle.g_online.proofs.CopyLemmas.{Copies}
 use Rattle.g_online.proofs.NeedLemmas.{full_done, full_here, full_refused, only_here, ready_short, ready_takes}
-use Rattle.g_online.proofs.RetakeLemmas.{retaken}
+use Rattle.g_online.proofs.PoolLemmas.{retaken}
 use Rattle.g_online.proofs.put.make_ready.Goals as goal
 
 pub give_all-requires-clause-rising : goal.give_all-requires-clause-rising

@@ -1,8 +1,9 @@
-use Rattle.std.proofs.Common.{ℕ, List, get_or, subst, sym, take}
-use Rattle.g_blocks.specs.Pool.{HasTaken}
-use Rattle.g_online.specs.Off.{places_off}
-use Rattle.g_online.proofs.OffLemmas.{front_apart, front_free, one_further}
-use Rattle.g_online.proofs.RetakeLemmas.{retake_more, retake_next, taken_none}
+use Rattle.std.proofs.Common.{ℕ, get_or}
+use Rattle.std.proofs.lemmas.List.{get_or_default}
+use Rattle.g_blocks.specs.Pool.{HasTaken, IsFree}
+use Rattle.g_dirs.specs.Directory.{copy_at}
+use Rattle.g_online.specs.Kept.{copy_places}
+use Rattle.g_online.proofs.PoolLemmas.{next_apart, next_may, one_more, still_free, taken_none, taken_then}
 use Rattle.g_online.proofs.put.retake_all.Goals as goal
 
 pub loop-number-init : goal.loop-number-init
@@ -10,19 +11,17 @@ loop-number-init c = taken_none c.args.pool.now
 
 pub retake_one-requires-clause-apart : goal.retake_one-requires-clause-apart
 retake_one-requires-clause-apart c =
-    (retake_next _ (get_or c.args.numbers.now c.loop-number.number-index 0) _ _ _ c.loop-number.invariant
-    (front_apart c.args.numbers.now c.loop-number.number-index c.loop-number-test.true c.args.online.now c.requires.apart)
-    (front_free c.args.numbers.now c.loop-number.number-index c.loop-number-test.true c.args.online.now c.args.pool.now c.requires.free)).0
+    next_apart (λ (n : ℕ). copy_places (copy_at c.args.online.now n)) c.args.numbers.now c.loop-number.number-index (get_or c.args.numbers.now c.loop-number.number-index 0)
+    c.loop-number-test.true (get_or_default c.args.numbers.now c.loop-number.number-index _ 0 c.loop-number-test.true) c.requires.apart
 
 pub retake_one-requires-clause-free : goal.retake_one-requires-clause-free
 retake_one-requires-clause-free c =
-    (retake_next _ (get_or c.args.numbers.now c.loop-number.number-index 0) _ _ _ c.loop-number.invariant
-    (front_apart c.args.numbers.now c.loop-number.number-index c.loop-number-test.true c.args.online.now c.requires.apart)
-    (front_free c.args.numbers.now c.loop-number.number-index c.loop-number-test.true c.args.online.now c.args.pool.now c.requires.free)).1
+    next_may (λ (n : ℕ). copy_places (copy_at c.args.online.now n)) c.args.numbers.now c.loop-number.number-index (get_or c.args.numbers.now c.loop-number.number-index 0)
+    c.loop-number-test.true (get_or_default c.args.numbers.now c.loop-number.number-index _ 0 c.loop-number-test.true) HasTaken IsFree still_free _ _
+    c.requires.apart c.loop-number.invariant c.requires.free
 
 pub loop-number-preserved : goal.loop-number-preserved
 loop-number-preserved c =
-    subst (λ (ns : List ℕ). HasTaken (places_off ns c.args.online.now) c.args.pool.now c.retake_one.new.pool)
-    (sym (one_further c.args.numbers.now c.loop-number.number-index c.loop-number-test.true))
-    (retake_more (take c.loop-number.number-index c.args.numbers.now) (get_or c.args.numbers.now c.loop-number.number-index 0) c.args.online.now c.args.pool.now c.loop-number.pool c.retake_one.new.pool c.loop-number.invariant
-    (front_apart c.args.numbers.now c.loop-number.number-index c.loop-number-test.true c.args.online.now c.requires.apart) c.retake_one.ensures)
+    one_more (λ (n : ℕ). copy_places (copy_at c.args.online.now n)) c.args.numbers.now c.loop-number.number-index (get_or c.args.numbers.now c.loop-number.number-index 0)
+    c.loop-number-test.true (get_or_default c.args.numbers.now c.loop-number.number-index _ 0 c.loop-number-test.true) HasTaken taken_then _ _ _
+    c.requires.apart c.loop-number.invariant c.retake_one.ensures

@@ -1,5 +1,5 @@
 -- The tests of a mode that is taken come before that of a ninth user.
-use Rattle.std.proofs.Common.{◌≡◌, ◌∙◌, Bool, [], ◌∷◌, List, ℕ, not, ◌&&◌, ◌==◌, nat_le, is_none, sym, ap}
+use Rattle.std.proofs.Common.{◌≡◌, ◌∙◌, Bool, true, false, [], ◌∷◌, List, ℕ, Ok, not, ◌&&◌, ◌==◌, nat_le, is_none, sym, ap}
 use Rattle.std.specs.FinMap.{get, len}
 use Rattle.g_name.specs.declared.full.Full.{Full}
 use Rattle.g_name.specs.declared.path.Path.{Path}
@@ -7,8 +7,9 @@ use Rattle.g_plain.specs.declared.calls.StoreCall.TheVariants.{TrapStop}
 use Rattle.g_plain.specs.declared.faults.StoreFault.TheVariants.{TrapsFull}
 use Rattle.g_plain.specs.PlainTree.{Tree, has_file, file_row, input_name}
 use Rattle.g_plain.specs.PlainStep.{Checks, checks}
+use Rattle.g_plain.specs.Grants.{granted_by}
 use Rattle.g_plain.proofs.StepKept.{not_false}
-use Rattle.g_plain.proofs.Fronts.{front_fault, front_tests, last_fault}
+use Rattle.g_plain.proofs.Fronts.{front_refused, granted_is, granted_tests, rest_granted}
 use Rattle.g_plain.proofs.refusals.trap_go.Goals as goal
 
 abbrev would_be_ninth : Tree → List ℕ → ℕ → Full → Bool
@@ -16,45 +17,48 @@ would_be_ninth t user modes full =
     let traps = (file_row t full).traps in
     not (modes == 0) && is_none (get traps user) && nat_le 9 (len traps)
 
-answered : (t : Tree) (user : List ℕ) (modes : ℕ) (full other : Full) (result b : Bool) → result ≡ b → result ≡ would_be_ninth t user modes full → full ≡ other → b ≡ would_be_ninth t user modes other
-answered t user modes full other result b is told same = sym is ∙ told ∙ ap (would_be_ninth t user modes) same
-
 abbrev front : Tree → List ℕ → Path → List ℕ → ℕ → Checks
 front t who path user modes = checks t who (TrapStop path user modes)
 
-pub returns-then-is_some : goal.returns-then-is_some
-returns-then-is_some g c =
+pub returns-in-Err : goal.returns-in-Err
+returns-in-Err g c =
     let t = g.Q.Questions.tree c.args.questions.now in
-    let last = would_be_ninth t c.args.user.now c.args.modes (input_name t c.args.who.now c.args.path.now) in
-    front_fault (front t c.args.who.now c.args.path.now c.args.user.now c.args.modes) ((last, TrapsFull) ∷ []) _
-    (c.trap_stop-refused.ensures c.args.modes) (sym c.is_some.ensures ∙ c.if-is_some.true)
+    let full = input_name t c.args.who.now c.args.path.now in
+    front_refused (front t c.args.who.now c.args.path.now c.args.user.now c.args.modes) ((would_be_ninth t c.args.user.now c.args.modes full, TrapsFull) ∷ [])
+    full full c.in-Err.fault (c.in-Err.ensures c.args.modes)
 
 pub is_ninth-requires-clause-file : goal.is_ninth-requires-clause-file
 is_ninth-requires-clause-file g c =
     let t = g.Q.Questions.tree c.args.questions.now in
-    let p = front_tests (front t c.args.who.now c.args.path.now c.args.user.now c.args.modes) _
-    (c.trap_stop-refused.ensures c.args.modes) (sym c.is_some.ensures ∙ c.if-is_some.false) in
-    ap (has_file t) c.input_name-full.ensures ∙ not_false _ p.1.0
+    let full = input_name t c.args.who.now c.args.path.now in
+    let tests = front t c.args.who.now c.args.path.now c.args.user.now c.args.modes in
+    let p = granted_tests tests full c.in-Ok.full (c.in-Ok.ensures c.args.modes) in
+    ap (has_file t) (granted_is tests full c.in-Ok.full (c.in-Ok.ensures c.args.modes)) ∙ not_false _ p.1.0
 
 pub is_ninth-requires-clause-user : goal.is_ninth-requires-clause-user
 is_ninth-requires-clause-user g c =
     let t = g.Q.Questions.tree c.args.questions.now in
-    let p = front_tests (front t c.args.who.now c.args.path.now c.args.user.now c.args.modes) _
-    (c.trap_stop-refused.ensures c.args.modes) (sym c.is_some.ensures ∙ c.if-is_some.false) in
+    let full = input_name t c.args.who.now c.args.path.now in
+    let p = granted_tests (front t c.args.who.now c.args.path.now c.args.user.now c.args.modes) full c.in-Ok.full (c.in-Ok.ensures c.args.modes) in
     not_false _ p.1.1.0
 
 pub returns-then-is_ninth : goal.returns-then-is_ninth
 returns-then-is_ninth g c =
     let t = g.Q.Questions.tree c.args.questions.now in
-    last_fault (front t c.args.who.now c.args.path.now c.args.user.now c.args.modes)
-    (would_be_ninth t c.args.user.now c.args.modes (input_name t c.args.who.now c.args.path.now)) TrapsFull _ _
-    (c.trap_stop-refused.ensures c.args.modes) (sym c.is_some.ensures ∙ c.if-is_some.false)
-    (answered t c.args.user.now c.args.modes _ _ _ _ c.if-is_ninth.true c.is_ninth.ensures c.input_name-full.ensures)
+    let full = input_name t c.args.who.now c.args.path.now in
+    let tests = front t c.args.who.now c.args.path.now c.args.user.now c.args.modes in
+    let ninth = would_be_ninth t c.args.user.now c.args.modes in
+    let granted = c.in-Ok.ensures c.args.modes in
+    let is : true ≡ ninth full = sym c.if-is_ninth.true ∙ c.is_ninth.ensures ∙ ap ninth (granted_is tests full c.in-Ok.full granted) in
+    ap (λ b. granted_by ((b, TrapsFull) ∷ []) full) is ∙ rest_granted tests ((ninth full, TrapsFull) ∷ []) full c.in-Ok.full full granted
 
 pub returns-else-is_ninth : goal.returns-else-is_ninth
 returns-else-is_ninth g c =
     let t = g.Q.Questions.tree c.args.questions.now in
-    last_fault (front t c.args.who.now c.args.path.now c.args.user.now c.args.modes)
-    (would_be_ninth t c.args.user.now c.args.modes (input_name t c.args.who.now c.args.path.now)) TrapsFull _ _
-    (c.trap_stop-refused.ensures c.args.modes) (sym c.is_some.ensures ∙ c.if-is_some.false)
-    (answered t c.args.user.now c.args.modes _ _ _ _ c.if-is_ninth.false c.is_ninth.ensures c.input_name-full.ensures)
+    let full = input_name t c.args.who.now c.args.path.now in
+    let tests = front t c.args.who.now c.args.path.now c.args.user.now c.args.modes in
+    let ninth = would_be_ninth t c.args.user.now c.args.modes in
+    let granted = c.in-Ok.ensures c.args.modes in
+    let named = granted_is tests full c.in-Ok.full granted in
+    let is : false ≡ ninth full = sym c.if-is_ninth.false ∙ c.is_ninth.ensures ∙ ap ninth named in
+    ap Ok named ∙ ap (λ b. granted_by ((b, TrapsFull) ∷ []) full) is ∙ rest_granted tests ((ninth full, TrapsFull) ∷ []) full c.in-Ok.full full granted

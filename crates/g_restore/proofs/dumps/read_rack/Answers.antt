@@ -1,10 +1,11 @@
 use Rattle.std.proofs.Common.{◌<◌, Err, ap, arith, inl, inr, length}
 use Rattle.g_shelf.proofs.LastLemmas.{only_these}
-use Rattle.g_restore.proofs.ReelLemmas.{all_reels, many_reels, none_read, none_refused, one_reel}
+use Rattle.g_shelf.proofs.RackLemmas.{many_after_reads, none_refused}
+use Rattle.g_restore.proofs.ReelLemmas.{all_reels, none_read, one_reel}
 use Rattle.g_restore.proofs.dumps.read_rack.Goals as goal
 
 pub serial-serial-requires : goal.serial-serial-requires
-serial-serial-requires g c = let many = many_reels _ _ c.loop-i.invariant.only in omega arith
+serial-serial-requires g c = let many = many_after_reads _ _ c.loop-i.invariant.only in omega arith
 
 pub loop-i-init : goal.loop-i-init
 loop-i-init g c = rw c.new-found.ensures.items (none_read _)
@@ -18,7 +19,7 @@ loop-i-preserved g c =
 pub returns-in-Err-clause-faults : goal.returns-in-Err-clause-faults
 returns-in-Err-clause-faults g c =
     let within : c.loop-i.i < length (g.T.Tapes.rack c.args.tapes.now).reels = omega arith in
-    let free = none_refused _ _ _ _ _ (g.met.T.Tapes.well_formed _) c.requires.mounted c.loop-i.invariant within c.serial-serial.ensures in
+    let free = none_refused _ _ _ _ (g.met.T.Tapes.well_formed _) c.requires.mounted c.loop-i.invariant.only within c.serial-serial.ensures in
     elim (only_these _ _ _ _ free c.in-Err.ensures.reads) [ inl is ↦ inl (ap Err is) | inr is ↦ inr (ap Err is) ]
 
 pub returns-clause-found : goal.returns-clause-found

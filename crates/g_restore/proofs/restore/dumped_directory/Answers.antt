@@ -1,6 +1,6 @@
 use Rattle.g_plain.specs.declared.faults.StoreFault.TheVariants.{TapeReadFault}
 use Rattle.g_tape.proofs.ReadLemmas.{nothing_read}
-use Rattle.g_restore.specs.declared.fold.Dumped.{Dumped}
+use Rattle.g_restore.specs.declared.directory.Dumped.{Dumped}
 use Rattle.g_restore.proofs.DirectoryLemmas.{down_of, few_read, given_of, is_one, named_of, none_of, of_dumps, of_reels, shelf_kept, shelf_named, shelf_of_reels, shelf_rose, shelf_some, shelf_up, up_of}
 use Rattle.g_restore.proofs.restore.dumped_directory.Goals as goal
 
@@ -38,19 +38,19 @@ pub returns-in-Ok-clause-only : goal.returns-in-Ok-clause-only
 returns-in-Ok-clause-only g c = of_reels _ c.fold.ensures.only
 
 pub returns-in-Err-clause-unmounted : goal.returns-in-Err-clause-unmounted
-returns-in-Err-clause-unmounted g c = rw c.tape_refusal.ensures (shelf_up _ _ c.in-None.ensures.first (is_one _ c.in-Err.ensures.faults))
+returns-in-Err-clause-unmounted g c = rw c.into.ensures (shelf_up _ _ c.in-None.ensures.first (is_one _ c.in-Err.ensures.faults))
 
 pub returns-in-Err-clause-none : goal.returns-in-Err-clause-none
-returns-in-Err-clause-none g c = rw c.tape_refusal.ensures (λ is. absurd (shelf_some _ (is_one _ c.in-Err.ensures.faults) is))
+returns-in-Err-clause-none g c = rw c.into.ensures (λ is. absurd (shelf_some _ (is_one _ c.in-Err.ensures.faults) is))
 
 pub returns-in-Err-clause-lost : goal.returns-in-Err-clause-lost
-returns-in-Err-clause-lost g c = rw c.tape_refusal.ensures (shelf_named Dumped _ _)
+returns-in-Err-clause-lost g c = rw c.into.ensures (shelf_named Dumped _ _)
 
 pub returns-in-Err-clause-kept : goal.returns-in-Err-clause-kept
-returns-in-Err-clause-kept g c = rw c.tape_refusal.ensures (shelf_kept _ _ _ c.in-Err.ensures.kept)
+returns-in-Err-clause-kept g c = rw c.into.ensures (shelf_kept _ _ _ c.in-Err.ensures.kept)
 
 pub returns-in-Err-clause-rose : goal.returns-in-Err-clause-rose
-returns-in-Err-clause-rose g c = rw c.tape_refusal.ensures (shelf_rose _ _ _ c.in-Err.ensures.rose)
+returns-in-Err-clause-rose g c = rw c.into.ensures (shelf_rose _ _ _ c.in-Err.ensures.rose)
 
 pub returns-in-Err-clause-only : goal.returns-in-Err-clause-only
-returns-in-Err-clause-only g c = rw c.tape_refusal.ensures (shelf_of_reels _ (is_one _ c.in-Err.ensures.faults))
+returns-in-Err-clause-only g c = rw c.into.ensures (shelf_of_reels _ (is_one _ c.in-Err.ensures.faults))

@@ -1,5 +1,6 @@
 use Rattle.std.proofs.Common.{◌<◌, Err, ap, arith, inl, inr, length}
-use Rattle.g_shelf.proofs.LastLemmas.{last_of_all, many_after_reads, none_of, not_refused, one_more_reel, only_these, some_of}
+use Rattle.g_shelf.proofs.LastLemmas.{last_of_all, none_of, one_more_reel, only_these, some_of}
+use Rattle.g_shelf.proofs.RackLemmas.{many_after_reads, none_refused}
 use Rattle.g_shelf.proofs.last.last_dump.Goals as goal
 
 pub serial-serial-requires : goal.serial-serial-requires
@@ -15,7 +16,7 @@ loop-i-preserved g c =
 pub returns-in-Err-clause-faults : goal.returns-in-Err-clause-faults
 returns-in-Err-clause-faults g c =
     let within : c.loop-i.i < length (g.T.Tapes.rack c.args.tapes.now).reels = omega arith in
-    let free = not_refused _ _ _ _ _ (g.met.T.Tapes.well_formed _) c.requires.mounted c.loop-i.invariant within c.serial-serial.ensures in
+    let free = none_refused _ _ _ _ (g.met.T.Tapes.well_formed _) c.requires.mounted c.loop-i.invariant.only within c.serial-serial.ensures in
     elim (only_these _ _ _ _ free c.in-Err.ensures.reads) [ inl is ↦ inl (ap Err is) | inr is ↦ inr (ap Err is) ]
 
 pub returns-clause-some : goal.returns-clause-some

@@ -4,9 +4,9 @@ use Rattle.g_act.proofs.work.Work.do_fired.Goals as goal
 
 pub returns-in_err-read-clause-err : goal.returns-in_err-read-clause-err
 returns-in_err-read-clause-err g c =
-    err_none g.S.Filestore.answers c.args.who.now (does_fired c.args.room c.args.who.now c.args.text c.args.self.now) c.args.store.now c.from_residual.result
+    err_none g.S.Filestore.answers c.args.asker.now.who.now (does_fired c.args.asker.now.room c.args.asker.now.who.now c.args.text c.args.self.now) c.args.store.now c.from_residual.result
 
 pub returns-in_err-keep_command-clause-err : goal.returns-in_err-keep_command-clause-err
 returns-in_err-keep_command-clause-err g c =
-    err_none g.S.Filestore.answers c.args.who.now (does_fired c.args.room c.args.who.now c.args.text c.args.self.now) c.args.store.now
+    err_none g.S.Filestore.answers c.args.asker.now.who.now (does_fired c.args.asker.now.room c.args.asker.now.who.now c.args.text c.args.self.now) c.args.store.now
     c.from_residual-in_err-keep_command.result

@@ -8,6 +8,6 @@ use Rattle.g_act.proofs.work.Work.fires.Goals as goal
 
 pub returns-in_err-say_marked-clause-err : goal.returns-in_err-say_marked-clause-err
 returns-in_err-say_marked-clause-err g c =
-    err_none g.S.Filestore.answers c.args.who.now
-    (and_then is_over (Gives (say c.args.room (marked mark.Fired c.args.text) c.args.self.now)) (does_fired c.args.room c.args.who.now c.args.text)) c.args.store.now
+    err_none g.S.Filestore.answers c.args.asker.now.who.now
+    (and_then is_over (Gives (say c.args.asker.now.room (marked mark.Fired c.args.text) c.args.self.now)) (does_fired c.args.asker.now.room c.args.asker.now.who.now c.args.text)) c.args.store.now
     c.from_residual.result

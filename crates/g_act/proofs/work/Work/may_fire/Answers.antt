@@ -6,7 +6,7 @@ use Rattle.g_act.proofs.work.Work.may_fire.Goals as goal
 
 pub returns-in_err-text-clause-err : goal.returns-in_err-text-clause-err
 returns-in_err-text-clause-err g c =
-    err_none g.S.Filestore.answers c.args.who.now (may_fire c.args.room c.args.who.now c.args.self.now) c.args.store.now c.from_residual.result
+    err_none g.S.Filestore.answers c.args.asker.now.who.now (may_fire c.args.asker.now.room c.args.asker.now.who.now c.args.self.now) c.args.store.now c.from_residual.result
 
 pub fires-requires-clause-level : goal.fires-requires-clause-level
 fires-requires-clause-level g c = fired_level c.in-Some.text c.args.self.now c.take_fired.new.self

@@ -15,9 +15,9 @@ invariant-loop-place g l = record {
   blocks : l.self.blocks ≤ l.fn.self.blocks + 128 * l.place;
   waits : (s : ℕ) → g.S.Filestore.can_wait l.store s ≡ g.S.Filestore.can_wait l.fn.store s;
   rest : (given : Work) (new : g.row.S.Denot)
-      → RanWell g.S.Filestore.answers g.S.Filestore.is_spent g.S.Filestore.can_wait l.who l.store (release_each l.room l.place (drop l.place l.self.desk.units.writers) l.self) given new
-      → RanWell g.S.Filestore.answers g.S.Filestore.is_spent g.S.Filestore.can_wait l.who l.fn.store (release_all l.room l.fn.self) given new;
+      → RanWell g.S.Filestore.answers g.S.Filestore.is_spent g.S.Filestore.can_wait l.asker.who.now l.store (release_each l.asker.room l.place (drop l.place l.self.desk.units.writers) l.self) given new
+      → RanWell g.S.Filestore.answers g.S.Filestore.is_spent g.S.Filestore.can_wait l.asker.who.now l.fn.store (release_all l.asker.room l.fn.self) given new;
   part : (new : g.row.S.Denot)
-      → RanInPart g.S.Filestore.answers l.who l.store (release_each l.room l.place (drop l.place l.self.desk.units.writers) l.self) new
-      → RanInPart g.S.Filestore.answers l.who l.fn.store (release_all l.room l.fn.self) new;
+      → RanInPart g.S.Filestore.answers l.asker.who.now l.store (release_each l.asker.room l.place (drop l.place l.self.desk.units.writers) l.self) new
+      → RanInPart g.S.Filestore.answers l.asker.who.now l.fn.store (release_all l.asker.room l.fn.self) new;
 }

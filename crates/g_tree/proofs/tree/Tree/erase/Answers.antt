@@ -1,19 +1,69 @@
--- The file at the place of the number goes, and its name with it.
-use Rattle.std.proofs.Common.{sym, ap, subst, ◌∙◌, is_some, true≢false}
+-- The file at the place of the number goes, and with it its name, its version and its blocks.
+use Rattle.std.proofs.Common.{◌≡◌, ◌≤◌, ◌-◌, get_or, sym, ap, subst, ◌∙◌, is_some, true≢false}
+use Rattle.std.proofs.Math.ListN.{set}
+use Rattle.std.specs.List.{remove as remove_at}
 use Rattle.std.specs.FinMap.{get}
+use Rattle.std.proofs.lemmas.List.{get_or_default}
+use Rattle.g_base.specs.Block.{blocks_for}
 use Rattle.g_tree.specs.Records.{IsRecords, full_of, tree_of, by_number}
-use Rattle.g_tree.specs.State.{without_file}
+use Rattle.g_tree.specs.State.{AreNewest, AreUsed, without_file}
+use Rattle.g_tree.specs.Answers.{newest_of}
 use Rattle.g_tree.specs.Places.{StandsAt, FitsAt}
 use Rattle.g_tree.proofs.PlaceLemmas.{fits_none}
 use Rattle.g_tree.proofs.ChangeLemmas.{erased, removed_list}
+use Rattle.g_tree.proofs.CountLemmas.{newest_some, erased_newest, erased_used, owner_at, give_some}
 use Rattle.g_tree.proofs.LawLemmas.{tree_erased}
 use Rattle.g_tree.proofs.tree.Tree.erase.Goals as goal
 
+pub fall-requires : goal.fall-requires
+fall-requires c =
+    let users = c.self.inside.users.items in
+    let files = c.self.inside.files.items in
+    let is = c.self.invariant.records in
+    let at : StandsAt files c.args.number c.in-Ok.place = subst (λ fs. StandsAt fs c.args.number c.in-Ok.place) c.as_slice.ensures.value c.in-Ok.ensures.found in
+    let r = c.remove-file.result in
+    let here : r ≡ get_or files c.in-Ok.place r = c.remove-file.ensures.value in
+    let same : c.index.result.now ≡ r = c.index.ensures ∙ get_or_default files c.in-Ok.place c.index.result.now r at.within ∙ sym here in
+    let named : c.full_of-full.result ≡ full_of users r = c.full_of-full.ensures ∙ ap (λ us. full_of us c.index.result.now) c.as_slice-in-Ok.ensures.value ∙ ap (full_of users) same in
+    newest_some users files is c.in-Ok.place r at.within here c.full_of-full.result named c.self.inside.counts.generations.numbers c.self.invariant.newest
+
+pub give-requires-clause-used : goal.give-requires-clause-used
+give-requires-clause-used c =
+    let users = c.self.inside.users.items in
+    let files = c.self.inside.files.items in
+    let is = c.self.invariant.records in
+    let at : StandsAt files c.args.number c.in-Ok.place = subst (λ fs. StandsAt fs c.args.number c.in-Ok.place) c.as_slice.ensures.value c.in-Ok.ensures.found in
+    let r = c.remove-file.result in
+    let here : r ≡ get_or files c.in-Ok.place r = c.remove-file.ensures.value in
+    subst (λ bs. blocks_for r.len ≤ get_or bs r.owner 0) (sym c.fall.ensures.blocks) (give_some users files is c.in-Ok.place r at.within here c.self.inside.counts.blocks.items c.self.invariant.used)
+
 pub invariant_of-self : goal.invariant_of-self
 invariant_of-self c =
-    let at : StandsAt c.self.inside.files.items c.args.number c.in-Ok.place = subst (λ fs. StandsAt fs c.args.number c.in-Ok.place) c.as_slice.ensures.value c.in-Ok.ensures.found in
-    erased c.self.inside.users.items c.self.inside.files.items c.self.invariant.records c.args.number c.in-Ok.place at c.remove-file.new.self.items c.remove-file.result c.full_of.result _ _ c.self.invariant.index
-    c.remove-file.ensures.items c.remove-file.ensures.value (c.full_of.ensures ∙ ap (λ us. full_of us c.remove-file.result) c.as_slice-in-Ok.ensures.value) c.remove.ensures.numbers
+    let users = c.self.inside.users.items in
+    let files = c.self.inside.files.items in
+    let is = c.self.invariant.records in
+    let at : StandsAt files c.args.number c.in-Ok.place = subst (λ fs. StandsAt fs c.args.number c.in-Ok.place) c.as_slice.ensures.value c.in-Ok.ensures.found in
+    let r = c.remove-file.result in
+    let here : r ≡ get_or files c.in-Ok.place r = c.remove-file.ensures.value in
+    let same : c.index.result.now ≡ r = c.index.ensures ∙ get_or_default files c.in-Ok.place c.index.result.now r at.within ∙ sym here in
+    let named : c.full_of-full.result ≡ full_of users r = c.full_of-full.ensures ∙ ap (λ us. full_of us c.index.result.now) c.as_slice-in-Ok.ensures.value ∙ ap (full_of users) same in
+    let counts = c.self.inside.counts in
+    let left : c.newest_but-newest.result ≡ newest_of users c.full_of-full.result (remove_at files c.in-Ok.place) =
+    c.newest_but-newest.ensures ∙ ap (λ s. newest_of s.users c.full_of-full.result (remove_at s.files c.in-Ok.place)) (sym c.self.view_is) in
+    let indexed =
+    erased users files is c.args.number c.in-Ok.place at c.remove-file.new.self.items r c.full_of-full.result _ _ c.self.invariant.index c.remove-file.ensures.items here named c.remove.ensures.numbers in record {
+      records = indexed.records;
+      index = indexed.index;
+      newest =
+          subst (λ fs. AreNewest users fs c.give.new.self.generations.numbers) (sym c.remove-file.ensures.items)
+          (subst (AreNewest users (remove_at files c.in-Ok.place)) (sym (ap (λ g. g.numbers) c.give.ensures.generations))
+          (erased_newest users files c.in-Ok.place r at.within here c.newest_but-newest.result c.full_of-full.result counts.generations.numbers c.fall.new.self.generations.numbers c.self.invariant.newest named left
+          c.fall.ensures.generations));
+      used =
+          subst (λ fs. AreUsed fs c.give.new.self.blocks.items) (sym c.remove-file.ensures.items)
+          (subst (AreUsed (remove_at files c.in-Ok.place)) (sym (c.give.ensures.blocks ∙ ap (λ bs. set bs r.owner (get_or bs r.owner 0 - blocks_for r.len)) c.fall.ensures.blocks))
+          (erased_used files c.in-Ok.place r counts.blocks.items c.self.invariant.used (owner_at users files is c.in-Ok.place r at.within here) at.within here));
+    }
 
 pub unreachable-requires : goal.unreachable-requires
 unreachable-requires c =
@@ -34,6 +84,12 @@ returns-clause-tree c = λ bytes next.
 
 pub returns-clause-records : goal.returns-clause-records
 returns-clause-records c =
-    let at : StandsAt c.self.inside.files.items c.args.number c.in-Ok.place = subst (λ fs. StandsAt fs c.args.number c.in-Ok.place) c.as_slice.ensures.value c.in-Ok.ensures.found in
-    (erased c.self.inside.users.items c.self.inside.files.items c.self.invariant.records c.args.number c.in-Ok.place at c.remove-file.new.self.items c.remove-file.result c.full_of.result _ _ c.self.invariant.index
-    c.remove-file.ensures.items c.remove-file.ensures.value (c.full_of.ensures ∙ ap (λ us. full_of us c.remove-file.result) c.as_slice-in-Ok.ensures.value) c.remove.ensures.numbers).records
+    let users = c.self.inside.users.items in
+    let files = c.self.inside.files.items in
+    let is = c.self.invariant.records in
+    let at : StandsAt files c.args.number c.in-Ok.place = subst (λ fs. StandsAt fs c.args.number c.in-Ok.place) c.as_slice.ensures.value c.in-Ok.ensures.found in
+    let r = c.remove-file.result in
+    let here : r ≡ get_or files c.in-Ok.place r = c.remove-file.ensures.value in
+    let same : c.index.result.now ≡ r = c.index.ensures ∙ get_or_default files c.in-Ok.place c.index.result.now r at.within ∙ sym here in
+    let named : c.full_of-full.result ≡ full_of users r = c.full_of-full.ensures ∙ ap (λ us. full_of us c.index.result.now) c.as_slice-in-Ok.ensures.value ∙ ap (full_of users) same in
+    (erased users files is c.args.number c.in-Ok.place at c.remove-file.new.self.items r c.full_of-full.result _ _ c.self.invariant.index c.remove-file.ensures.items here named c.remove.ensures.numbers).records

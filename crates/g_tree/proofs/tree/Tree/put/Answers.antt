@@ -1,15 +1,18 @@
 -- A file in the place of another, or between others.
-use Rattle.std.proofs.Common.{◌≡◌, ◌≤◌, ◌<◌, ◌⊎◌, ℕ, List, cond, not, sym, ap, subst, ◌∙◌, arith, Some, length}
+use Rattle.std.proofs.Common.{◌≡◌, ◌≤◌, ◌<◌, ◌⊎◌, ℕ, ◌+◌, List, get_or, cond, not, sym, ap, subst, ◌∙◌, arith, Some, length}
+use Rattle.std.proofs.Math.ListN.{set}
 use Rattle.std.specs.List as list
 use Rattle.std.specs.FinMap.{insert}
+use Rattle.g_base.specs.Block.{blocks_for}
 use Rattle.g_entry.specs.declared.user_rec.UserRec.{UserRec}
 use Rattle.g_entry.specs.declared.file_rec.FileRec.{FileRec}
 use Rattle.g_tree.specs.Records.{IsRecords, full_of, tree_of, number_of}
-use Rattle.g_tree.specs.State.{IsIndexed, with_file}
+use Rattle.g_tree.specs.State.{IsKept, AreNewest, AreUsed, with_file}
 use Rattle.g_tree.specs.Places.{StandsAt, FitsAt}
 use Rattle.g_tree.proofs.ResultLemmas.{ok_is_no_err}
-use Rattle.g_tree.proofs.PutLemmas.{owner_there, with_new, with_other, indexed_new, named_fits, still_room}
+use Rattle.g_tree.proofs.PutLemmas.{owner_there, file_ruled, with_new, with_other, indexed_new, named_fits, still_room}
 use Rattle.g_tree.proofs.LawLemmas.{tree_put}
+use Rattle.g_tree.proofs.CountLemmas.{new_newest, new_used, used_few, owner_few}
 use Rattle.g_tree.proofs.tree.Tree.put.Goals as goal
 
 -- where no file has the number there is room
@@ -54,6 +57,28 @@ unreachable-requires c =
     let spare = room_there c.self.inside.users.items c.self.inside.files.items c.args.file c.in-Err.place _ c.self.invariant.records fits room in
     ok_is_no_err c.insert-in-Err.result (c.insert-in-Err.ensures.succeeds (omega (arith, spare))) (sym c.is_err.ensures.value ∙ c.if-is_err.true)
 
+pub rise-requires : goal.rise-requires
+rise-requires c =
+    let fits : FitsAt c.self.inside.files.items c.args.file.number c.in-Err.place = subst (λ fs. FitsAt fs c.args.file.number c.in-Err.place) c.as_slice-2.ensures.value c.in-Err.ensures.absent in
+    let room = subst (λ s. (1 ≤ s.spare) ⊎ (number_of s.users s.files (full_of s.users c.args.file) ≡ Some c.args.file.number)) (sym c.self.view_is) c.requires.room in
+    let spare = room_there c.self.inside.users.items c.self.inside.files.items c.args.file c.in-Err.place _ c.self.invariant.records fits room in
+    omega (arith, spare)
+
+pub take-requires-clause-there : goal.take-requires-clause-there
+take-requires-clause-there c =
+    let owner = owner_few c.self.inside.users.items c.self.inside.files.items c.self.invariant.records c.args.file.owner
+    (owner_there c.self.inside.users.items c.self.inside.files.items c.args.file (subst (λ s. IsRecords s.users (with_file c.args.file s.files)) (sym c.self.view_is) c.requires.rules)) in
+    let places = ap length c.rise.ensures.blocks ∙ c.self.invariant.used.places in
+    omega (arith, owner, places)
+
+pub take-requires-clause-used : goal.take-requires-clause-used
+take-requires-clause-used c =
+    subst (λ bs. get_or bs c.args.file.owner 0 ≤ 131072) (sym c.rise.ensures.blocks)
+    (used_few c.self.inside.users.items c.self.inside.files.items c.self.invariant.records c.self.inside.counts.blocks.items c.args.file.owner c.self.invariant.used)
+
+pub take-requires-clause-len : goal.take-requires-clause-len
+take-requires-clause-len c = (file_ruled c.args.self.now.users c.args.self.now.files c.args.file c.requires.rules).len
+
 pub invariant_of-self : goal.invariant_of-self
 invariant_of-self c =
     let users = c.self.inside.users.items in
@@ -62,9 +87,20 @@ invariant_of-self c =
     let rules : IsRecords users (with_file c.args.file files) = subst (λ s. IsRecords s.users (with_file c.args.file s.files)) (sym c.self.view_is) c.requires.rules in
     let items : c.insert-in-Err.new.self.items ≡ list.insert files c.in-Err.place c.args.file =
     c.insert-in-Err.ensures.items ∙ ap (λ b. cond b (list.insert files c.in-Err.place c.args.file) files) (c.is_err.ensures.negation ∙ ap not c.if-is_err.false) in
-    subst (λ fs. IsIndexed users fs c.insert.new.self.numbers) (sym items)
-    (indexed_new users files c.in-Err.place c.args.file c.self.inside.index.numbers c.insert.new.self.numbers c.self.invariant (subst (IsRecords users) (with_new c.args.file files c.in-Err.place fits) rules)
-    (c.insert.ensures.numbers ∙ ap (λ f. insert c.self.inside.index.numbers f c.args.file.number) (c.full_of-full.ensures ∙ ap (λ us. full_of us c.args.file) c.as_slice.ensures.value)))
+    let named : c.full_of-full.result ≡ full_of users c.args.file = c.full_of-full.ensures ∙ ap (λ us. full_of us c.args.file) c.as_slice.ensures.value in
+    let indexed =
+    indexed_new users files c.in-Err.place c.args.file c.self.inside.index.numbers c.insert.new.self.numbers (record { records = c.self.invariant.records; index = c.self.invariant.index })
+    (subst (IsRecords users) (with_new c.args.file files c.in-Err.place fits) rules)
+    (c.insert.ensures.numbers ∙ ap (λ f. insert c.self.inside.index.numbers f c.args.file.number) named) in
+    let owner = owner_few users files c.self.invariant.records c.args.file.owner (owner_there users files c.args.file rules) in
+    let newest : AreNewest users (list.insert files c.in-Err.place c.args.file) c.take.new.self.generations.numbers =
+    subst (AreNewest users (list.insert files c.in-Err.place c.args.file)) (sym (ap (λ g. g.numbers) c.take.ensures.generations))
+    (new_newest users files c.in-Err.place c.full_of-full.result c.args.file c.self.inside.counts.generations.numbers c.rise.new.self.generations.numbers c.self.invariant.newest named c.rise.ensures.generations) in
+    let used : AreUsed (list.insert files c.in-Err.place c.args.file) c.take.new.self.blocks.items =
+    subst (AreUsed (list.insert files c.in-Err.place c.args.file)) (sym (c.take.ensures.blocks ∙ ap (λ bs. set bs c.args.file.owner (get_or bs c.args.file.owner 0 + blocks_for c.args.file.len)) c.rise.ensures.blocks))
+    (new_used files c.in-Err.place c.args.file c.self.inside.counts.blocks.items c.self.invariant.used owner) in
+    subst (λ fs. IsKept users fs c.insert.new.self.numbers c.take.new.self.generations.numbers c.take.new.self.blocks.items) (sym items)
+    (record { records = indexed.records; index = indexed.index; newest = newest; used = used })
 
 pub returns-else-is_err-clause-files : goal.returns-else-is_err-clause-files
 returns-else-is_err-clause-files c =

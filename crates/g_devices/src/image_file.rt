@@ -1,0 +1,128 @@
+//! The file of an image: where its blocks lie, when they are brought to the device, and how it is made.
+
+use crate::blocks::{blocks_in, start_of};
+use crate::claim::{claim, sync_folder};
+use crate::names::{is_there, open_plain, open_unready};
+use g_base::Block;
+use std::fs::{self, File};
+use std::io::{self, Error, ErrorKind, Read};
+use std::os::unix::fs::FileExt;
+
+/// The blocks of an image that is made where there is none.
+const NEW_BLOCKS: u32 = 4_096;
+
+/// The block that names the current slot (docs/FORMATS.md, "The disc").
+const GATE: u32 = 0;
+
+/// An open image, which is locked as long as this lives.
+#[derive(Drop)]
+pub struct ImageFile {
+    file: File,
+    /// Whether the gate is known to be on the device as it stands in the file.
+    settled: bool,
+}
+
+impl ImageFile {
+    /// Opens the image for this run alone, and makes one of 4,096 blocks of zeros where there is none.
+    pub fn open(rt: &HostRuntime, path: &str) -> io::Result<ImageFile> {
+        match open_plain(rt, path) {
+            Ok(file) => {
+                claim(&file)?;
+                Ok(ImageFile {
+                    file,
+                    settled: false,
+                })
+            }
+            Err(fault) if fault.kind() == ErrorKind::NotFound => Ok(ImageFile {
+                file: make_file(rt, path)?,
+                settled: true,
+            }),
+            Err(fault) => Err(fault),
+        }
+    }
+
+    /// How many blocks it has.
+    pub fn blocks(&self) -> io::Result<u32> {
+        blocks_in(&self.file)
+    }
+
+    /// Reads block k.
+    pub fn read(&self, k: u32, into: &mut Block) -> io::Result<()> {
+        self.file.read_exact_at(into, start_of(k))
+    }
+
+    /// Writes these bytes at block k. The gate, block 0, makes a commit: all that was written before
+    /// it is on the device before it, and it is there before all that comes behind it.
+    pub fn put(&mut self, k: u32, bytes: &[u8]) -> io::Result<()> {
+        self.settle()?;
+        if k != GATE {
+            return self.file.write_all_at(bytes, start_of(k));
+        }
+        self.file.sync_data()?;
+        self.settled = false;
+        self.file.write_all_at(bytes, start_of(GATE))?;
+        self.file.sync_data()?;
+        self.settled = true;
+        Ok(())
+    }
+
+    /// Brings the gate to the device, before the first write and behind a gate whose sync failed. The system may take
+    /// what such a sync didn't bring there for brought, so it is written once more.
+    fn settle(&mut self) -> io::Result<()> {
+        if self.settled {
+            return Ok(());
+        }
+        let mut gate = [0; 512];
+        self.read(GATE, &mut gate)?;
+        self.file.write_all_at(&gate, start_of(GATE))?;
+        self.file.sync_data()?;
+        self.settled = true;
+        Ok(())
+    }
+
+    /// Brings all that was written to the device.
+    pub fn sync(&self) -> io::Result<()> {
+        self.file.sync_data()
+    }
+}
+
+/// Makes the file of an image under another name, and gives it the right one when it is whole. What an
+/// earlier run left under the other name, that was cut off in here, is used.
+fn make_file(rt: &HostRuntime, path: &str) -> io::Result<File> {
+    // A link that leads nowhere stays, and nothing is left beside it.
+    if is_there(rt, path)? {
+        return Err(Error::from(ErrorKind::AlreadyExists));
+    }
+    let unready = format!(in rt.alloc(); "{path}.new")?;
+    let file = open_unready(rt, unready.as_str())?;
+    claim(&file)?;
+    // Only who has claimed the file renames it, so an image that another run made meanwhile stays; and so does what no run left.
+    if is_there(rt, path)? || !is_blank(&file)? {
+        return Err(Error::from(ErrorKind::AlreadyExists));
+    }
+    file.set_len(start_of(NEW_BLOCKS))?;
+    file.sync_all()?;
+    fs::rename(rt, unready.as_str(), path)?;
+    sync_folder(rt, ".")?;
+    Ok(file)
+}
+
+/// Whether the file has zeros alone, if anything, and no more of them than a new image.
+fn is_blank(file: &File) -> io::Result<bool> {
+    let bytes = file.metadata()?.len();
+    if bytes > start_of(NEW_BLOCKS) {
+        return Ok(false);
+    }
+    let mut reader = file;
+    let mut piece = [0; 4_096];
+    for _read in 0..bytes {
+        let count = reader.read(&mut piece)?;
+        if count == 0 {
+            break;
+        }
+        if piece[..count].iter().any(|byte| *byte != 0) {
+            return Ok(false);
+        }
+    }
+    Ok(true)
+}

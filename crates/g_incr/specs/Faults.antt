@@ -1,0 +1,11 @@
+-- What a fault of a reader of tape is to a store.
+use Rattle.g_plain.specs.declared.faults.StoreFault.{StoreFault}
+use Rattle.g_plain.specs.declared.faults.StoreFault.TheVariants as store
+use Rattle.g_incr.specs.declared.fault.ShelfFault.{ShelfFault}
+use Rattle.g_incr.specs.declared.fault.ShelfFault.TheVariants as shelf
+
+abbrev pub store_fault : ShelfFault → StoreFault
+store_fault shelf.NoTape = store.NoTape
+store_fault shelf.NotMounted = store.NotMounted
+store_fault shelf.ReadFault = store.TapeReadFault
+store_fault shelf.NoMemory = store.NoMemory

@@ -1,0 +1,232 @@
+-- The copies of a dump of all versions are noted, and nobody counts as changed.
+use Rattle.std.proofs.Common.{◌≡◌, ◌≢◌, ◌⊎◌, ℕ, ◌+◌, ◌<◌, ◌==◌, Bool, true, false, List, [], ◌∷◌, length, get_or, map, Option, Some, None, Result, Ok, Err, All, refl, sym, ◌∙◌, ap, subst, arith, inl, inr}
+use Rattle.std.specs.Prelude.{is_some, OnErr, OnOk}
+use Rattle.std.specs.Option.{ForSome}
+use Rattle.std.proofs.lemmas.Bool.{cases_Bool, cond-false, cond-true, eq-eqb}
+use Rattle.std.proofs.lemmas.List.{get_or-map, length-map}
+use Rattle.std.proofs.lemmas.List.Elements.{All-cons, All-head, All-tail}
+use Rattle.g_base.specs.Counts.{RoseBy}
+use Rattle.g_base.specs.Told.{Changes}
+use Rattle.g_copy.specs.declared.copy.DiscCopy.{DiscCopy}
+use Rattle.g_disc.specs.Disc.{DiscState, WritesOnly}
+use Rattle.g_entry.specs.declared.file_rec.FileRec.{FileRec}
+use Rattle.g_entry.specs.declared.file_rec.TapeCopy.{TapeCopy}
+use Rattle.g_entry.specs.declared.head.Head.{Head}
+use Rattle.g_entry.specs.declared.user_rec.UserRec.{UserRec}
+use Rattle.g_slots.specs.declared.side.Side.{Side}
+use Rattle.g_dirs.specs.Commit.{OldOrNew}
+use Rattle.g_dirs.specs.Directory.{Directory, FileEntry, copy_at, directory_of, entries_of}
+use Rattle.g_dirs.specs.Pages.{Covers, Remembered, all_marked}
+use Rattle.g_tree.specs.Records.{IsRecords}
+use Rattle.g_contents.specs.Contents.{Contents, File, Holds, contents_of, copied_rec, copy_of, file_of, recs_in, with_copies}
+use Rattle.g_contents.specs.Facts.{OnlineFacts, Pin}
+use Rattle.g_online.specs.declared.change.Change.TheVariants.{Adopt}
+use Rattle.g_online.specs.declared.fault.OnlineFault.{OnlineFault}
+use Rattle.g_online.specs.declared.fault.OnlineFault.TheVariants.{Stopped}
+use Rattle.g_online.specs.declared.pinned.Pinned.{Pinned}
+use Rattle.g_online.specs.Allowed.{IsAllowed, KeepsRules}
+use Rattle.g_online.specs.Change.{changed, unjammed}
+use Rattle.g_online.specs.Committed.{HasCommitted, commit_blocks}
+use Rattle.g_online.specs.Done.{HasChanged, HasStopped, IsApplied}
+use Rattle.g_online.specs.Kept.{AreNoted, AreWhole, IsKept, Memory, PinsAre, WaitsFor, directory_in, facts_of, pins_of}
+use Rattle.g_online.specs.Ready.{CoverAll, HasAdopted, IsAdopting, IsReadyFor, Readied, StoppedAdopting, adopted, ready_with}
+use Rattle.g_online.proofs.AdoptLemmas.{adopt_ready}
+use Rattle.g_online.proofs.CloseLemmas.{counted, counted_kept}
+use Rattle.g_online.proofs.PinLostLemmas.{no_numbers}
+use Rattle.g_online.proofs.ReadyLemmas.{StillRemembers}
+use Rattle.g_online.proofs.RecordLemmas.{recs_here}
+use Rattle.g_online.proofs.StepLemmas.{IsReady, applied, kept_behind}
+use Rattle.g_online.proofs.TieLemmas.{rec_of, tied}
+
+abbrev Tapes : Type 0
+Tapes = List (ℕ × TapeCopy)
+
+-- AN EMPTY FILE has no copy in the list, where its record has none then
+none_for : (copies : Tapes) (stamp : ℕ) (old : Option TapeCopy) → copy_of copies stamp old ≡ None → All (λ (c : ℕ × TapeCopy). c.0 ≢ stamp) copies
+none_for [] stamp old none = λ k d within. (let no : ⊥ = omega (arith, within) in absurd no)
+none_for (c ∷ cs) stamp old none = by_first (cases_Bool (c.0 == stamp)) (none_for cs stamp old)
+  where
+    by_first : ((c.0 == stamp) ≡ true) ⊎ ((c.0 == stamp) ≡ false) → (copy_of cs stamp old ≡ None → All (λ (d : ℕ × TapeCopy). d.0 ≢ stamp) cs) → All (λ (d : ℕ × TapeCopy). d.0 ≢ stamp) (c ∷ cs)
+    by_first (inl is) rest =
+        let it : (let some : Option TapeCopy = Some c.1 in some ≡ None) = sym (cond-true (c.0 == stamp) (Some c.1) (copy_of cs stamp old) is) ∙ none in
+        (let no : ⊥ = cc in absurd no)
+    by_first (inr is) rest =
+        All-cons (λ (d : ℕ × TapeCopy). d.0 ≢ stamp) c cs (λ same. (let both : true ≡ false = sym (eq-eqb c.0 stamp same) ∙ is in let no : ⊥ = cc in no))
+        (rest (sym (cond-false (c.0 == stamp) (Some c.1) (copy_of cs stamp old) is) ∙ none))
+
+-- what holds of each record with its copies, of the files of the contents
+each_file : (P : FileRec → Type 0) (copies : Tapes) (files : List File) → All P (map (λ (f : File). f.rec) (with_copies copies files)) → All (λ (f : File). P (copied_rec copies f.rec)) files
+each_file P copies [] all = λ k d within. (let no : ⊥ = omega (arith, within) in absurd no)
+each_file P copies (f ∷ files) all =
+    let rest : List FileRec = map (λ (g : File). g.rec) (with_copies copies files) in
+    All-cons (λ (g : File). P (copied_rec copies g.rec)) f files (All-head P (copied_rec copies f.rec) rest all) (each_file P copies files (All-tail P (copied_rec copies f.rec) rest all))
+
+empty_apart : (copies : Tapes) (users : List UserRec) (files : List File) → IsRecords users (map (λ (f : File). f.rec) (with_copies copies files))
+    → All (λ (f : File). f.rec.len ≡ 0 → All (λ (c : ℕ × TapeCopy). c.0 ≢ f.rec.stamp) copies) files
+empty_apart copies users files rules =
+    let each = each_file (λ (r : FileRec). r.len ≡ 0 → r.tape ≡ None) copies files rules.among_files.empty in
+    λ k d within. λ empty. none_for copies (get_or files k d).rec.stamp (get_or files k d).rec.tape (each k d within empty)
+
+-- NOBODY is changed, where every version has a copy
+nobody_waits : (copies : Tapes) (held : Option (List (List ℕ))) (files : List FileRec) (online : List (ℕ × DiscCopy))
+    → All (λ (f : File). 0 < f.rec.len → is_some (copied_rec copies f.rec).tape ≡ true) (map (file_of held) (entries_of files online))
+    → All (λ (e : FileEntry). WaitsFor [] e.0) (entries_of (map (copied_rec copies) files) online)
+nobody_waits copies held [] online all = λ k d within. (let no : ⊥ = omega (arith, within) in absurd no)
+nobody_waits copies held (r ∷ files) online all =
+    let P : File → Type 0 = λ f. 0 < f.rec.len → is_some (copied_rec copies f.rec).tape ≡ true in
+    let e : FileEntry = (r, copy_at online r.number) in
+    let first : 0 < r.len → is_some (copied_rec copies r).tape ≡ true =
+    subst (λ (q : FileRec). 0 < q.len → is_some (copied_rec copies q).tape ≡ true) (rec_of held e) (All-head P (file_of held e) (map (file_of held) (entries_of files online)) all) in
+    All-cons (λ (e : FileEntry). WaitsFor [] e.0) (let f : FileEntry = (copied_rec copies r, copy_at online r.number) in f) (entries_of (map (copied_rec copies) files) online)
+    (λ filled none. (let wrong : is_some (let o : Option TapeCopy = None in o) ≡ true = sym (ap (λ (o : Option TapeCopy). is_some o) none) ∙ first filled in let no : ⊥ = cc in absurd no))
+    (nobody_waits copies held files online (All-tail P (file_of held e) (map (file_of held) (entries_of files online)) all))
+
+no_pins : (held : Option (List (List ℕ))) (pins : Option (List Pinned)) → pins_of held pins ≡ None → pins ≡ None
+no_pins held None none = refl
+no_pins held (Some pins) none = (let no : ⊥ = cc in absurd no)
+
+none_touched : (pins : Option (List Pinned)) (size next : ℕ) (files : List FileEntry) (touched : List ℕ) → pins ≡ None → PinsAre pins size next files touched → touched ≡ []
+none_touched None size next files touched none are = are
+none_touched (Some pins) size next files touched none are = (let no : ⊥ = cc in absurd no)
+
+-- the contents of the change
+adopted_is : (told : Bool) (last : ℕ) (copies : Tapes) (o : OnlineFacts) → o.pins ≡ None → changed told (is_some o.pins) (Adopt last copies) o.contents ≡ adopted last copies o.contents
+unfolding changed
+adopted_is told last copies o none = ap (λ (pins : Option (List Pin)). changed told (is_some pins) (Adopt last copies) o.contents) none
+
+-- WHAT IS KNOWN BEFORE IT
+pub record IsToAdopt (last : ℕ) (copies : Tapes) (before : DiscState) (m : Memory) (users : List UserRec) (files : List FileRec) : Type 0 where
+  pub kept : IsKept before m
+  pub live : m.live ≡ true
+  pub none : (facts_of before m).pins ≡ None
+  pub users_are : users ≡ m.users
+  pub files_are : files ≡ map (copied_rec copies) m.files
+  pub covers : CoverAll copies (facts_of before m).contents
+  pub rules : KeepsRules (adopted last copies (facts_of before m).contents)
+
+pub to_adopt : (last : ℕ) (copies : Tapes) (before : DiscState) (m : Memory) (o : OnlineFacts) (ready : Readied) (users : List UserRec) (files : List FileRec) → facts_of before m ≡ o → IsKept before m
+    → (let r : Readied = record { users = users; files = files } in r ≡ ready) → o.live ≡ true → o.pins ≡ None → IsReadyFor last copies ready o → IsToAdopt last copies before m users files
+to_adopt last copies before m o ready users files is kept same live none for = record {
+  kept = kept;
+  live = ap (λ (p : OnlineFacts). p.live) is ∙ live;
+  none = ap (λ (p : OnlineFacts). p.pins) is ∙ none;
+  users_are = ap (λ (r : Readied). r.users) all;
+  files_are = ap (λ (r : Readied). r.files) all ∙ ap (map (copied_rec copies)) (recs_here before.held m.files m.online);
+  covers = subst (λ (p : OnlineFacts). CoverAll copies p.contents) (sym is) for.covers;
+  rules = subst (λ (p : OnlineFacts). KeepsRules (adopted last copies p.contents)) (sym is) for.rules;
+}
+  where
+    all : (let r : Readied = record { users = users; files = files } in r ≡ ready_with copies (facts_of before m).contents)
+    all = same ∙ for.ready_is ∙ ap (λ (p : OnlineFacts). ready_with copies p.contents) (sym is)
+
+module _ (last : ℕ) (copies : Tapes) (before : DiscState) (m : Memory) (users : List UserRec) (files : List FileRec) (may : IsToAdopt last copies before m users files) where
+  allowed : IsAllowed (Adopt last copies) (facts_of before m)
+  allowed = record {
+    live = may.live;
+    fits = (may.none, empty_apart copies m.users (facts_of before m).contents.files may.rules.records);
+    rules = subst KeepsRules (sym (adopted_is (is_some before.held) last copies (facts_of before m) may.none)) may.rules;
+  }
+
+  unpinned : m.pins ≡ None
+  unpinned = no_pins before.held m.pins may.none
+
+  untouched : m.touched ≡ []
+  untouched = none_touched m.pins before.size m.head.next_stamp (directory_in m).files m.touched unpinned (may.kept.agreed may.live).pins
+
+  abbrev pub noted_all : Remembered → Memory
+  noted_all pages = record m { head = record m.head { last_dump = last; intent = None }; users = users; files = files; pages = pages }
+
+  pub adopting_ready : (pages : Remembered) → pages ≡ all_marked m.pages → StillRemembers m.pages pages → ((side : Side) (d : Directory) → Covers d side pages) → IsReady (Adopt last copies) before m (noted_all pages)
+  adopting_ready pages marks remembers covers =
+      adopt_ready last copies copies before m false (record m.head { last_dump = last; intent = None }) users files pages (facts_of before m)
+      refl (sym (ap (λ (pins : Option (List Pinned)). is_some pins) unpinned)) refl may.users_are may.files_are refl may.kept allowed marks remembers covers
+
+  nobody_noted : (all : List ℕ) → all ≡ [] → AreNoted (length users) (entries_of files m.online) all m.touched
+  nobody_noted all all_is =
+      subst (λ (ns : List ℕ). AreNoted (length users) (entries_of files m.online) ns m.touched) (sym all_is)
+      (subst (λ (ns : List ℕ). AreNoted (length users) (entries_of files m.online) [] ns) (sym untouched)
+      (record {
+        changed_are = no_numbers (length users);
+        touched_are = no_numbers (length users);
+        touched_changed = λ k d within. (let no : ⊥ = omega (arith, within) in absurd no);
+        waits = subst (λ (fs : List FileRec). All (λ (e : FileEntry). WaitsFor [] e.0) (entries_of fs m.online)) (sym may.files_are) (nobody_waits copies before.held m.files m.online may.covers.each);
+      }))
+
+  module _ (marks : Remembered) (all : List ℕ) (all_is : all ≡ []) (ready : IsReady (Adopt last copies) before m (noted_all marks)) (after : DiscState) (next : Side) (pages : Remembered) (live : Bool) where
+    abbrev behind : Memory
+    behind = record (noted_all marks) { side = next; pages = pages; live = live }
+
+    pub adopted_kept : (result : Result (Unit {0}) OnlineFault) (online : List (ℕ × DiscCopy)) → online ≡ m.online
+        → OnOk result (HasCommitted (directory_of (record m.head { last_dump = last; intent = None }) users files online) before after m.side next marks pages) → {k : ℕ} → WritesOnly k before after result
+        → ForSome after.held (AreWhole after.size) → OnOk result (live ≡ m.live) → OnErr result (live ≡ false) → IsKept after (counted all m.touched behind)
+    adopted_kept result online same done {k} counts whole lives dies =
+        counted_kept after behind all m.touched
+        (kept_behind (Adopt last copies) before after m (noted_all marks) next pages ready live result online same done counts whole lives dies)
+        unpinned untouched (λ _. nobody_noted all all_is)
+
+    done_adopted : HasChanged (Adopt last copies) (facts_of before m) (facts_of after behind) → HasAdopted last copies (facts_of before m) (facts_of after (counted all m.touched behind))
+    done_adopted done = record {
+      live = done.live;
+      contents = done.contents ∙ adopted_is (is_some before.held) last copies (facts_of before m) may.none;
+      pins = done.pins ∙ may.none;
+      changed = all_is;
+      touched = untouched;
+      blocks = done.blocks;
+      commits = done.commits;
+      writes = subst (λ (k : ℕ). RoseBy k before.writes after.writes) (let same : 0 + done.blocks ≡ done.blocks = omega arith in same) done.writes;
+    }
+
+    stopped_adopting : HasStopped (Adopt last copies) (facts_of before m) (facts_of after behind) → StoppedAdopting last copies (facts_of before m) (facts_of after (counted all m.touched behind))
+    stopped_adopting stopped = record { live = stopped.live; holds = λ blocks told. one_of blocks (stopped.holds blocks told).one }
+      where
+        one_of : (blocks : List (List ℕ)) → Holds blocks (facts_of before m).contents
+            ⊎ (((let nothing : ℕ = 0 in nothing < 0) × Holds blocks (unjammed (is_some (facts_of before m).pins) (Adopt last copies) (facts_of before m).contents))
+            ⊎ Holds blocks (changed true (is_some (facts_of before m).pins) (Adopt last copies) (facts_of before m).contents))
+            → Holds blocks (facts_of before m).contents ⊎ Holds blocks (adopted last copies (facts_of before m).contents)
+        one_of blocks (inl held) = inl held
+        one_of blocks (inr (inl held)) = (let no : ⊥ = (let less = held.0 in omega (arith, less)) in absurd no)
+        one_of blocks (inr (inr held)) = inr (subst (Holds blocks) (adopted_is true last copies (facts_of before m) may.none) held)
+
+    answered : (result : Result (Unit {0}) OnlineFault) → IsApplied (Adopt last copies) (facts_of before m) (facts_of after behind) result → IsKept after (counted all m.touched behind)
+        → OnErr result (result ≡ Err Stopped) → IsAdopting last copies (facts_of before m) (facts_of after (counted all m.touched behind)) result
+    answered (Ok u) is kept only = record {
+      ok = done_adopted is.ok;
+      stopped = tt;
+      causes = is.causes;
+      tied = tied after (counted all m.touched behind) kept;
+      told = is.told;
+      only = tt;
+    }
+    answered (Err e) is kept only = record {
+      ok = tt;
+      stopped = stopped_adopting (is.stopped only);
+      causes = is.causes;
+      tied = tied after (counted all m.touched behind) kept;
+      told = is.told;
+      only = only;
+    }
+
+    pub adopting_is : (o : OnlineFacts) → facts_of before m ≡ o → (result : Result (Unit {0}) OnlineFault) (online : List (ℕ × DiscCopy)) → online ≡ m.online
+        → OnOk result (HasCommitted (directory_of (record m.head { last_dump = last; intent = None }) users files online) before after m.side next marks pages)
+        → OnErr result (Changes (OldOrNew (directory_of (record m.head { last_dump = last; intent = None }) users files online)) before.held after.held)
+        → WritesOnly (commit_blocks (directory_of (record m.head { last_dump = last; intent = None }) users files online) m.side marks) before after result
+        → ForSome after.held (AreWhole after.size) → OnErr result (result ≡ Err Stopped) → OnOk result (live ≡ m.live) → OnErr result (live ≡ false)
+        → IsAdopting last copies o (facts_of after (counted all m.touched behind)) result
+    adopting_is o is result online same done content counts whole only lives dies =
+        subst (λ (old : OnlineFacts). IsAdopting last copies old (facts_of after (counted all m.touched behind)) result) is
+        (answered result
+        (applied (Adopt last copies) before after m (noted_all marks) next pages ready (facts_of before m) refl live result online same done content counts whole only lives dies)
+        (adopted_kept result online same done counts whole lives dies) only)
+
+-- WHERE RECORDS ARE MADE READY: what the tree asks for, and what they are
+module _ (copies : Tapes) (held : Option (List (List ℕ))) (head : Head) (users : List UserRec) (files : List FileRec) (online : List (ℕ × DiscCopy)) (c : Contents) (is : contents_of held (directory_of head users files online) ≡ c) where
+  pub ready_rules : IsRecords c.users (map (copied_rec copies) (recs_in c)) → IsRecords users (map (copied_rec copies) files)
+  ready_rules rules =
+      subst (λ (rs : List FileRec). IsRecords users (map (copied_rec copies) rs)) (recs_here held files online)
+      (subst (λ (d : Contents). IsRecords d.users (map (copied_rec copies) (recs_in d))) (sym is) rules)
+
+  pub readied_is : (now : List UserRec) (noted_files : List FileRec) → now ≡ users → noted_files ≡ map (copied_rec copies) files
+      → (let r : Readied = record { users = now; files = noted_files } in r ≡ ready_with copies c)
+  readied_is now noted_files users_are files_are =
+      (λ i. let r : Readied = record { users = users_are i; files = (files_are ∙ ap (map (copied_rec copies)) (sym (recs_here held files online))) i } in r)
+      ∙ ap (ready_with copies) is

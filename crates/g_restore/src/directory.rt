@@ -1,0 +1,75 @@
+//! The directory that dumps give together.
+ghost use Rattle.std.specs.Prelude.{◌≡◌, ◌<◌, All, IfErr, IfOk, List, [], length};
+ghost use Rattle.g_incr.specs.Layout.{Dump};
+ghost use Rattle.g_tree.specs.Records.{full_of};
+ghost use Rattle.g_restore.specs.Known.{AreKnown};
+ghost use Rattle.g_restore.specs.Gathered.{HasFew};
+ghost use Rattle.g_restore.specs.Lost.{AreApart, NamesLost};
+ghost use Rattle.g_restore.specs.Steps.{IsFolded, IsOfDumps};
+
+use crate::dumps::Found;
+use crate::gather::{gather, greatest};
+use crate::places::first_lost;
+use g_entry::{FileRec, UserRec};
+use g_incr::copied_users;
+use g_name::Full;
+use g_plain::StoreFault;
+use std::alloc::Global;
+
+/// The users and the next stamp of the last dump, its number, and the files of all users.
+#[derive(Drop)]
+pub struct Dumped {
+    pub number: u64,
+    pub next_stamp: u64,
+    pub users: Vec<UserRec>,
+    pub files: Vec<FileRec>,
+}
+
+/// The directory that these dumps give together: the users of the one of greatest number, and of each user the files of the
+/// newest one that holds them. `NoDump` where there is none, `LostDirectory` and `LostCopy` as `rebuild` says; `NoMemory`.
+pub fn fold(alloc: Global, found: &[Found]) -> Result<Dumped, StoreFault>
+    requires few { All HasFew found.now }
+    ensures none { result ≡ Err StoreFault.NoDump → found.now ≡ [] }
+    ensures lost { (dumps : List Dump) → AreKnown found.now dumps → AreApart dumps → NamesLost dumps result }
+    ensures ok { IfOk result (λ d. (dumps : List Dump) → AreKnown found.now dumps → IsFolded dumps d) }
+    ensures only { IfErr result IsOfDumps }
+{
+    let at = match greatest(found, None) {
+        Some((at, _)) => at,
+        None => return Err(StoreFault::NoDump),
+    };
+    let last = &found[at].dir;
+    let users = last.users.as_slice();
+    let files = match gather(alloc, found, users, last.note.next_stamp) {
+        Ok(files) => files,
+        Err(fault) => return Err(fault),
+    };
+    match first_lost(found, files.as_slice()) {
+        Some((place, copy)) => Err(StoreFault::LostCopy(
+            full_of(users, &files[place]),
+            copy.serial,
+        )),
+        None => match copied_users(alloc, users) {
+            Ok(users) => Ok(Dumped {
+                number: last.note.number,
+                next_stamp: last.note.next_stamp,
+                users,
+                files,
+            }),
+            Err(_) => Err(StoreFault::NoMemory),
+        },
+    }
+}
+
+/// The full name of a file whose owner is there.
+fn full_of(users: &[UserRec], file: &FileRec) -> Full
+    requires { file.now.owner < length users.now }
+    ensures { result ≡ full_of users.now file.now }
+{
+    Full {
+        user: users[file.owner as usize].user.copy(),
+        local: file.local.copy(),
+        generation: file.generation,
+        lang: file.lang.copy(),
+    }
+}
