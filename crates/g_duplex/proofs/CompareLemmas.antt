@@ -1,0 +1,158 @@
+-- Reels of two racks that are compared block by block.
+use Rattle.std.proofs.Common.{◌≡◌, ◌⊎◌, ◌↔◌, ℕ, zero, suc, ◌+◌, ◌<◌, ◌≤◌, List, [], ◌∷◌, Bool, true, false, ◌&&◌, nat_lt, Option, Some, None, IsTrue, option_map, Result, Ok, Err, if◌then◌else◌, length, take, refl, sym, subst, ap, ◌∙◌, inl, inr, arith}
+use Rattle.std.specs.Option.{ForSome}
+use Rattle.std.specs.Prelude.{slice_get}
+use Rattle.std.proofs.lemmas.Bool.{lt-ltb}
+use Rattle.std.proofs.lemmas.List.{take_all}
+use Rattle.g_base.specs.Counts.{Rose}
+use Rattle.g_tape.specs.declared.fault.TapeFault.{TapeFault}
+use Rattle.g_tape.specs.declared.fault.TapeFault.TheVariants as tape
+use Rattle.g_tape.specs.Reel.{IsReel, Reel}
+use Rattle.g_tape.specs.Rack.{AreReels, Rack, Reading, reel, refuses_read}
+use Rattle.g_tape.specs.Reads.{OnlyReads, blocks_in, blocks_of, unread}
+use Rattle.g_tape.proofs.ReadLemmas.{blocks_after_reads, is_reel, more_reads, nothing_read, reel_after_reads}
+use Rattle.g_duplex.specs.Copying.{BothReels, BothTold, SameBlock, SameReel}
+use Rattle.g_duplex.specs.Rebuild.{refuses_both}
+use Rattle.g_duplex.specs.declared.fault.DuplexFault.{DuplexFault}
+use Rattle.g_duplex.specs.declared.fault.DuplexFault.TheVariants.{NoTape, NotMounted, NotEmptied, ReadFailed, WriteFailed}
+use Rattle.g_duplex.proofs.ReadLemmas.{first_of, reads_free, second_of}
+
+abbrev Blocks : Type 0
+Blocks = List (List ℕ)
+
+-- a read that isn't refused fails only where the count rose
+pub rose_reading : (s k : ℕ) (p p' : Rack) (fault : TapeFault) (into : List ℕ) → refuses_read k (reel s p.reels) ≡ None → Reading s k p (Err fault) into p' → Rose p.read_faults p'.read_faults
+rose_reading s k p p' tape.ReadFailed into free is = is.1
+rose_reading s k p p' tape.WriteFailed into free is = absurd is
+rose_reading s k p p' tape.NoTape into free is = absurd (let never : None ≡ Some tape.NoTape = sym free ∙ is.0 in cc)
+rose_reading s k p p' tape.NotMounted into free is = absurd (let never : None ≡ Some tape.NotMounted = sym free ∙ is.0 in cc)
+rose_reading s k p p' tape.End into free is = absurd (let never : None ≡ Some tape.End = sym free ∙ is.0 in cc)
+
+-- a count that rose behind other reads rose
+pub rose_then : (x y z : ℕ) → x ≤ y → Rose y z → Rose x z
+rose_then x y z less rose = record { more = omega (arith, less, rose.more) }
+
+-- the told blocks of a reel that is there
+pub told_of_reel : (o : Option Reel) (bs : Blocks) → blocks_in o ≡ Some bs → (r : Reel) × (o ≡ Some r) × (r.blocks ≡ Some bs)
+told_of_reel None bs is = absurd (cc)
+told_of_reel (Some r) bs is = (r, refl, is)
+
+-- a good read gives the told block
+pub read_block : (s k : ℕ) (p p' : Rack) (u : Unit {0}) (into : List ℕ) → Reading s k p (Ok u) into p' → ForSome (blocks_of s p) (λ bs. slice_get bs k ≡ Some into)
+read_block s k p p' u into is bs told =
+    let (r, there, blocks) = told_of_reel (reel s p.reels) bs told in
+    is.1 r there bs blocks
+
+pub same_block_is : (s k : ℕ) (p q p' q' : Rack) (u v : Unit {0}) (block beside : List ℕ) (same : Bool) → Reading s k p (Ok u) block p' → Reading s k q (Ok v) beside q' → (IsTrue same ↔ (block ≡ beside))
+    → BothTold s p q (λ xs ys. IsTrue same ↔ (slice_get xs k ≡ slice_get ys k))
+same_block_is s k p q p' q' u v block beside same one two is xs at ys at' =
+    let left : slice_get xs k ≡ Some block = read_block s k p p' u block one xs at in
+    let right : slice_get ys k ≡ Some beside = read_block s k q q' v beside two ys at' in (
+      λ yes'. left ∙ ap (λ (b : List ℕ). Some b) (is.0 yes') ∙ sym right,
+      λ e. let both : Some block ≡ Some beside = sym left ∙ e ∙ right in let one' : block ≡ beside = cc in is.1 one',
+    )
+
+-- reads refuse nothing else
+refuses_bare : (k : ℕ) (o : Option Reel) → refuses_read k (option_map unread o) ≡ refuses_read k o
+refuses_bare k None = refl
+refuses_bare k (Some r) = refl
+
+pub refuses_after : (s k : ℕ) (old new : Rack) → OnlyReads old new → refuses_read k (reel s new.reels) ≡ refuses_read k (reel s old.reels)
+refuses_after s k old new only =
+    sym (refuses_bare k (reel s new.reels)) ∙ ap (refuses_read k) (reel_after_reads s old new only) ∙ refuses_bare k (reel s old.reels)
+
+-- two reels that are there and mounted
+pub both_there : (x y : Option Reel) → refuses_both x y ≡ None → (a : Reel) × (b : Reel) × (x ≡ Some a) × (y ≡ Some b) × (a.mounted ≡ true) × (b.mounted ≡ true)
+both_there None y is = absurd (cc)
+both_there (Some a) None is = absurd (cc)
+both_there (Some a) (Some b) is = let up = by (a.mounted && b.mounted) is in (a, b, refl, refl, first_of a.mounted b.mounted up, second_of a.mounted b.mounted up)
+  where
+    by : (m : Bool) → (if m then None else Some NotMounted) ≡ None → m ≡ true
+    by true e = refl
+    by false e = absurd (cc)
+
+-- a block below the length may be read, also behind reads
+pub may_read : (s k n : ℕ) (old new : Rack) (a : Reel) → OnlyReads old new → reel s old.reels ≡ Some a → a.mounted ≡ true → ForSome (reel s old.reels) (λ r. n ≡ r.len) → k < n
+    → refuses_read k (reel s new.reels) ≡ None
+may_read s k n old new a only there up long less =
+    refuses_after s k old new only ∙ ap (refuses_read k) there ∙ reads_free k a up (lt-ltb k a.len (omega (arith, less, long a there)))
+
+-- THE COMPARING so far: only reads, and the same blocks below i
+pub record SameSoFar (s i : ℕ) (p q p' q' : Rack) : Type 0 where
+  pub one : OnlyReads p p'
+  pub two : OnlyReads q q'
+  pub told : BothTold s p q (λ xs ys. take i xs ≡ take i ys)
+
+pub same_none : (s : ℕ) (p q : Rack) → SameSoFar s 0 p q p q
+same_none s p q = record { one = nothing_read p; two = nothing_read q; told = λ xs at ys at'. refl }
+
+-- one more block
+pub take_more : (i : ℕ) (xs ys : Blocks) → take i xs ≡ take i ys → slice_get xs i ≡ slice_get ys i → take (suc i) xs ≡ take (suc i) ys
+take_more i [] [] same here = refl
+take_more zero [] (y ∷ ys) same here = let wrong : None ≡ Some y = here in absurd (cc)
+take_more (suc i) [] (y ∷ ys) same here = let wrong : [] ≡ (y ∷ take i ys) = same in absurd (cc)
+take_more zero (x ∷ xs) [] same here = let wrong : Some x ≡ None = here in absurd (cc)
+take_more (suc i) (x ∷ xs) [] same here = let wrong : (x ∷ take i xs) ≡ [] = same in absurd (cc)
+take_more zero (x ∷ xs) (y ∷ ys) same here = let e : Some x ≡ Some y = here in let e' : x ≡ y = cc in ap (λ (b : List ℕ). b ∷ []) e'
+take_more (suc i) (x ∷ xs) (y ∷ ys) same here =
+    let e : (x ∷ take i xs) ≡ (y ∷ take i ys) = same in
+    let head : x ≡ y = cc in
+    let tail : take i xs ≡ take i ys = cc in
+    ap (λ (b : List ℕ). b ∷ take (suc i) xs) head ∙ ap (λ (bs : Blocks). y ∷ bs) (take_more i xs ys tail here)
+
+pub same_more : (s i : ℕ) (p q p' q' p'' q'' : Rack) → SameSoFar s i p q p' q' → OnlyReads p' p'' → OnlyReads q' q'' → SameBlock s i p' q' (Ok true) p'' q'' → SameSoFar s (suc i) p q p'' q''
+same_more s i p q p' q' p'' q'' so_far one two same = record {
+  one = more_reads p p' p'' so_far.one one;
+  two = more_reads q q' q'' so_far.two two;
+  told = λ xs at ys at'. take_more i xs ys (so_far.told xs at ys at')
+      ((same xs (blocks_after_reads s p p' so_far.one ∙ at) ys (blocks_after_reads s q q' so_far.two ∙ at')).0 refl);
+}
+
+-- one block differs
+pub one_differs : (s i : ℕ) (p q p' q' p'' q'' : Rack) → SameSoFar s i p q p' q' → SameBlock s i p' q' (Ok false) p'' q'' → SameReel s p q (Ok false) p'' q''
+one_differs s i p q p' q' p'' q'' so_far same = (
+  λ e. absurd (let wrong : false ≡ true = e in cc),
+  λ xs at ys at'. (
+    λ e. absurd (let wrong : false ≡ true = e in cc),
+    λ e. (same xs (blocks_after_reads s p p' so_far.one ∙ at) ys (blocks_after_reads s q q' so_far.two ∙ at')).1 (ap (λ (bs : Blocks). slice_get bs i) e),
+  ),
+)
+
+-- a read failed
+pub one_fails : (s i : ℕ) (p q p' q' p'' q'' : Rack) (fault : DuplexFault) → SameSoFar s i p q p' q' → SameBlock s i p' q' (Err fault) p'' q'' → SameReel s p q (Err fault) p'' q''
+one_fails s i p q p' q' p'' q'' ReadFailed so_far (inl rose) = inl (rose_then p.read_faults p'.read_faults p''.read_faults so_far.one.read_faults rose)
+one_fails s i p q p' q' p'' q'' ReadFailed so_far (inr rose) = inr (rose_then q.read_faults q'.read_faults q''.read_faults so_far.two.read_faults rose)
+one_fails s i p q p' q' p'' q'' WriteFailed so_far is = absurd is
+one_fails s i p q p' q' p'' q'' NoTape so_far is = absurd is
+one_fails s i p q p' q' p'' q'' NotMounted so_far is = absurd is
+one_fails s i p q p' q' p'' q'' NotEmptied so_far is = absurd is
+
+-- told blocks are as many as the length says
+pub told_long : (s : ℕ) (p : Rack) (xs : Blocks) (r : Reel) → AreReels p.reels → reel s p.reels ≡ Some r → blocks_of s p ≡ Some xs → length xs ≡ r.len
+told_long s p xs r are there told =
+    let told' : r.blocks ≡ Some xs = sym (ap blocks_in there) ∙ told in
+    (is_reel s p.reels r are.each there).told xs told'
+
+-- lengths that differ
+pub long_differ : (s m n : ℕ) (p q : Rack) → AreReels p.reels → AreReels q.reels → refuses_both (reel s p.reels) (reel s q.reels) ≡ None → ForSome (reel s p.reels) (λ r. m ≡ r.len)
+    → ForSome (reel s q.reels) (λ r. n ≡ r.len) → (m ≡ n → ⊥) → SameReel s p q (Ok false) p q
+long_differ s m n p q are are' free long long' differ =
+    let (a, b, there, there', up, up') = both_there (reel s p.reels) (reel s q.reels) free in (
+      λ e. absurd (let wrong : false ≡ true = e in cc),
+      λ xs at ys at'. (
+        λ e. absurd (let wrong : false ≡ true = e in cc),
+        λ e. absurd (differ (omega (arith, long a there, long' b there', told_long s p xs a are there at, told_long s q ys b are' there' at', ap (λ (bs : Blocks). length bs) e))),
+      ),
+    )
+
+-- all blocks are the same
+pub all_same : (s m : ℕ) (p q p' q' : Rack) → AreReels p.reels → AreReels q.reels → refuses_both (reel s p.reels) (reel s q.reels) ≡ None → ForSome (reel s p.reels) (λ r. m ≡ r.len)
+    → ForSome (reel s q.reels) (λ r. m ≡ r.len) → SameSoFar s m p q p' q' → SameReel s p q (Ok true) p' q'
+all_same s m p q p' q' are are' free long long' so_far =
+    let (a, b, there, there', up, up') = both_there (reel s p.reels) (reel s q.reels) free in (
+      λ e x at y at'. sym (long x at) ∙ long' y at',
+      λ xs at ys at'. (
+        λ e. sym (take_all m xs (omega (arith, long a there, told_long s p xs a are there at))) ∙ so_far.told xs at ys at' ∙ take_all m ys (omega (arith, long' b there', told_long s q ys b are' there' at')),
+        λ e. refl,
+      ),
+    )

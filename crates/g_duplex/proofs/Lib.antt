@@ -1,0 +1,14 @@
+pub mod AlikeLemmas
+pub mod CompareLemmas
+pub mod CopyLemmas
+pub mod FailLemmas
+pub mod KeepLemmas
+pub mod LoseLemmas
+pub mod LossLemmas
+pub mod MountLemmas
+pub mod PairLemmas
+pub mod PlaceLemmas
+pub mod ReadLemmas
+pub mod RebuildLemmas
+pub mod UnreadLemmas
+pub mod WriteLemmas

@@ -1,0 +1,109 @@
+-- What each call asks of the two racks, and what becomes of the pair.
+use Rattle.std.specs.Prelude.{◌≡◌, ℕ, List, Bool, true, false, Option, Some, None, Result, Ok, Err, ◌==◌, if◌then◌else◌}
+use Rattle.std.specs.Option.{ForSome}
+use Rattle.g_base.specs.Counts.{one_more}
+use Rattle.g_tape.specs.declared.fault.TapeFault.{TapeFault}
+use Rattle.g_tape.specs.declared.fault.TapeFault.TheVariants.{ReadFailed, WriteFailed}
+use Rattle.g_tape.specs.Reel.{with_mounted}
+use Rattle.g_tape.specs.Rack.{Rack, reel, changed, refuses_mount, refuses_unmount, refuses_read, refuses_write, Mounting, Reading, Writing}
+use Rattle.g_duplex.specs.Twins.{of_leader, of_other, is_lost, after_both, after_failure, may_help}
+use Rattle.g_duplex.specs.Pair.{Pair, armed, shown, standing_in, stands}
+use Rattle.g_duplex.specs.declared.twin.Twin.TheVariants.{Second}
+use Rattle.g_duplex.specs.declared.twin.Standing.{Standing}
+use Rattle.g_duplex.specs.declared.twin.Standing.TheVariants.{Lost}
+
+abbrev pub Answer : Type 0
+Answer = Result (Unit {0}) TapeFault
+
+-- the rack whose twin of this reel leads, and the other rack
+abbrev pub leading : Standing → Pair → Rack
+leading t p = of_leader t p.first p.second
+
+abbrev pub behind : Standing → Pair → Rack
+behind t p = of_other t p.first p.second
+
+-- a read that the leading twin failed: the other twin answers, if it may be asked; else nothing is asked of that rack
+abbrev pub Helps : Bool → ℕ → ℕ → Rack → Answer → List ℕ → Rack → Type 0
+Helps true s k old result into new = Reading s k old result into new
+Helps false s k old result into new = (result ≡ Err ReadFailed) × (new ≡ old)
+
+-- BEHIND THE LEADING TWIN'S ANSWER TO A READ, the other rack: where it failed, that one may help; else that is the answer, and
+-- the other rack was asked nothing
+abbrev pub ReadsOn : Bool → ℕ → ℕ → (first_answer : Answer) → (first_block : List ℕ) → Rack → Answer → List ℕ → Rack → Type 0
+ReadsOn may s k (Err ReadFailed) block old result into new = Helps may s k old result into new
+ReadsOn may s k answer block old result into new = (result ≡ answer) × (into ≡ block) × (new ≡ old)
+
+-- WHICH RACKS A READ ASKS: the leading one, first and always, and then the other one
+abbrev pub HasAsked : Bool → ℕ → ℕ → Rack → Rack → Answer → List ℕ → Rack → Rack → Type 0
+HasAsked may s k lead other result into lead' other' = (answer : Answer) × (block : List ℕ)
+    × Reading s k lead answer block lead' × ReadsOn may s k answer block other result into other'
+
+-- A READ of block k: as the trait has it over what is seen; and, where it isn't refused, which racks were asked
+pub record PairReads (s k : ℕ) (old : Pair) (result : Answer) (into : List ℕ) (new : Pair) : Type 0 where
+  pub reading : Reading s k (shown old) result into (shown new)
+  pub asked : refuses_read k (reel s (shown old).reels) ≡ None → ForSome (standing_in s old) (λ t.
+      HasAsked (may_help k t) s k (leading t old) (behind t old) result into (leading t new) (behind t new))
+  pub kept : new ≡ record old { first = new.first; second = new.second; read_faults = new.read_faults }
+  pub refused : (fault : TapeFault) → refuses_read k (reel s (shown old).reels) ≡ Some fault → new ≡ old
+
+-- the leading rack, armed for this write where the pair's own fuse is 1
+abbrev pub armed_when : Bool → Rack → Rack
+armed_when true r = armed r
+armed_when false r = r
+
+abbrev pub is_one : Option ℕ → Bool
+is_one None = false
+is_one (Some n) = n == 1
+
+-- how the twins stand where the other one answered so to a write of block k, behind a good one of the leading twin
+abbrev pub stands_after : ℕ → Answer → Standing → Standing
+stands_after k (Ok u) t = after_both k t
+stands_after k (Err fault) t = Lost Second
+
+-- a write that the leading twin took: a lost twin isn't written; another one is, and is lost where that isn't Ok
+abbrev pub Follows : Bool → ℕ → ℕ → List ℕ → Standing → Rack → Rack → Standing → Type 0
+Follows true s k block t old new after = (new ≡ old) × (after ≡ t)
+Follows false s k block t old new after = (answer : Answer) × Writing s k block old answer new × (after ≡ stands_after k answer t)
+
+-- BEHIND THE LEADING TWIN'S ANSWER TO A WRITE, the other rack: where it failed, that one isn't written
+abbrev pub WritesOn : ℕ → ℕ → List ℕ → Standing → Answer → Rack → Answer → Rack → Standing → Type 0
+WritesOn s k block t (Err fault) old result new after = (result ≡ Err fault) × (new ≡ old) × (after ≡ after_failure k t)
+WritesOn s k block t (Ok u) old result new after = (result ≡ Ok tt) × Follows (is_lost t) s k block t old new after
+
+-- WHICH RACKS A WRITE ASKS, and how the twins stand after it
+abbrev pub HasWritten : Bool → Standing → ℕ → ℕ → List ℕ → Rack → Rack → Answer → Standing → Rack → Rack → Type 0
+HasWritten fires t s k block lead other result after lead' other' = (answer : Answer)
+    × Writing s k block (armed_when fires lead) answer lead' × WritesOn s k block t answer other result other' after
+
+-- A WRITE of block k
+pub record PairWrites (s k : ℕ) (block : List ℕ) (old : Pair) (result : Answer) (new : Pair) : Type 0 where
+  pub writing : Writing s k block (shown old) result (shown new)
+  pub asked : refuses_write k (reel s (shown old).reels) ≡ None → ForSome (standing_in s old) (λ t. (after : Standing)
+      × HasWritten (is_one old.fuse) t s k block (leading t old) (behind t old) result after (leading t new) (behind t new)
+      × (new.standings ≡ stands s (λ _. after) old))
+  pub kept : new ≡ record old { first = new.first; second = new.second; standings = new.standings; write_faults = new.write_faults; fuse = new.fuse }
+  pub refused : (fault : TapeFault) → refuses_write k (reel s (shown old).reels) ≡ Some fault → new ≡ old
+
+-- the call was done
+abbrev pub is_done : Answer → Bool
+is_done (Ok u) = true
+is_done (Err fault) = false
+
+-- A MOUNT is one of both racks
+pub record PairMounts (s : ℕ) (old : Pair) (result : Answer) (new : Pair) : Type 0 where
+  pub mounting : Mounting refuses_mount true s (shown old) result (shown new)
+  pub both : new ≡ record old { first = new.first; second = new.second }
+  pub first : Mounting refuses_mount true s old.first result new.first
+  pub second : Mounting refuses_mount true s old.second result new.second
+
+-- AN UNMOUNT that isn't refused is one of both racks; a lost twin may have been unmounted before
+pub record PairUnmounts (s : ℕ) (old : Pair) (result : Answer) (new : Pair) : Type 0 where
+  pub mounting : Mounting refuses_unmount false s (shown old) result (shown new)
+  pub both : new ≡ record old { first = new.first; second = new.second }
+  pub first : new.first ≡ (if is_done result then changed s (with_mounted false) old.first else old.first)
+  pub second : new.second ≡ (if is_done result then changed s (with_mounted false) old.second else old.second)
+
+-- a count of failures after a call: one more where it wasn't Ok
+abbrev pub counted : Answer → ℕ → ℕ
+counted (Ok u) n = n
+counted (Err fault) n = one_more n

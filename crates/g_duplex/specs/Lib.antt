@@ -1,0 +1,9 @@
+pub mod Calls
+pub mod Copying
+pub mod Laws
+pub mod Meaning
+pub mod Pair
+pub mod Places
+pub mod Rebuild
+pub mod Seen
+pub mod Twins

@@ -1,0 +1,88 @@
+-- Two racks as one.
+use Rattle.std.proofs.Props.{props}
+use Rattle.std.specs.Prelude.{◌≡◌, ℕ, List, [], ◌∷◌, Option, Some, None, ◌==◌, if◌then◌else◌}
+use Rattle.g_base.specs.Counts.{one_more}
+use Rattle.g_tape.specs.Reel.{Reel}
+use Rattle.g_tape.specs.Rack.{Rack}
+use Rattle.g_duplex.specs.Twins.{AreTwins, DoAgree, pair_reel}
+use Rattle.g_duplex.specs.declared.twin.Twin.{Twin}
+use Rattle.g_duplex.specs.declared.twin.Standing.{Standing}
+use Rattle.g_duplex.specs.declared.twin.Standing.TheVariants.{Level, Apart, Lost}
+
+-- the two racks, how the twins of each reel stand, and the counts, the fuse and the armings of the pair's own
+pub record Pair : Type 0 where
+  pub first : Rack
+  pub second : Rack
+  pub standings : List Standing
+  pub read_faults : ℕ
+  pub write_faults : ℕ
+  pub fuse : Option ℕ
+  pub arms : ℕ
+
+abbrev pub pair_reels : List Standing → List Reel → List Reel → List Reel
+pair_reels [] xs ys = []
+pair_reels (t ∷ ts) [] ys = []
+pair_reels (t ∷ ts) (a ∷ xs) [] = []
+pair_reels (t ∷ ts) (a ∷ xs) (b ∷ ys) = pair_reel t a b ∷ pair_reels ts xs ys
+
+-- WHAT IS SEEN OF TWO RACKS: the reels of the twins that lead, with the pair's own counts and fuse
+abbrev pub shown : Pair → Rack
+shown p = record {
+  reels = pair_reels p.standings p.first.reels p.second.reels;
+  read_faults = p.read_faults;
+  write_faults = p.write_faults;
+  fuse = p.fuse;
+  arms = p.arms;
+}
+
+-- reel by reel they are twins
+abbrev pub ArePaired : List Standing → List Reel → List Reel → Type 0
+ArePaired [] [] [] = Unit {0}
+ArePaired (t ∷ ts) (a ∷ xs) (b ∷ ys) = AreTwins t a b × ArePaired ts xs ys
+ArePaired ts xs ys = ⊥
+
+DoAgree-prop : (t : Standing) (a b : Reel) → IsProp (DoAgree t a b)
+DoAgree-prop Level a b = hlevel props
+DoAgree-prop (Apart k) a b = hlevel props
+DoAgree-prop (Lost twin) a b = hlevel props
+
+AreTwins-prop : (t : Standing) (a b : Reel) → IsProp (AreTwins t a b)
+AreTwins-prop t a b = hlevel (props, DoAgree-prop)
+
+-- that reels are paired is a fact
+pub ArePaired-prop : (ts : List Standing) (xs ys : List Reel) → IsProp (ArePaired ts xs ys)
+ArePaired-prop [] [] [] = hlevel props
+ArePaired-prop [] [] (b ∷ ys) = hlevel props
+ArePaired-prop [] (a ∷ xs) ys = hlevel props
+ArePaired-prop (t ∷ ts) [] ys = hlevel props
+ArePaired-prop (t ∷ ts) (a ∷ xs) [] = hlevel props
+ArePaired-prop (t ∷ ts) (a ∷ xs) (b ∷ ys) = let rest = ArePaired-prop ts xs ys in hlevel (props, AreTwins-prop, rest)
+
+-- how the twins of a serial stand, by the serials of these reels
+abbrev pub standing : ℕ → List Reel → List Standing → Option Standing
+standing s [] ts = None
+standing s (a ∷ xs) [] = None
+standing s (a ∷ xs) (t ∷ ts) = if s == a.serial then Some t else standing s xs ts
+
+abbrev pub with_standing : ℕ → (Standing → Standing) → List Reel → List Standing → List Standing
+with_standing s f [] ts = ts
+with_standing s f (a ∷ xs) [] = []
+with_standing s f (a ∷ xs) (t ∷ ts) = if s == a.serial then f t ∷ ts else t ∷ with_standing s f xs ts
+
+abbrev pub standing_in : ℕ → Pair → Option Standing
+standing_in s p = standing s p.first.reels p.standings
+
+abbrev pub stands : ℕ → (Standing → Standing) → Pair → List Standing
+stands s f p = with_standing s f p.first.reels p.standings
+
+-- the lost twins, by rising serial
+abbrev pub lost_of : List Reel → List Standing → List (ℕ × Twin)
+lost_of [] ts = []
+lost_of (a ∷ xs) [] = []
+lost_of (a ∷ xs) (Level ∷ ts) = lost_of xs ts
+lost_of (a ∷ xs) (Apart k ∷ ts) = lost_of xs ts
+lost_of (a ∷ xs) (Lost twin ∷ ts) = (a.serial, twin) ∷ lost_of xs ts
+
+-- a rack that was armed for its next write
+abbrev pub armed : Rack → Rack
+armed r = record r { fuse = Some 1; arms = one_more r.arms }

@@ -1,0 +1,128 @@
+//! What a read and a write ask of two racks: of the one whose reel leads, and of the other one.
+ghost use Rattle.std.specs.Prelude.{◌≡◌};
+ghost use Rattle.g_duplex.specs.Calls.{Follows, HasAsked, HasWritten, armed_when, counted};
+ghost use Rattle.g_duplex.specs.Twins.{is_lost, may_help, of_leader, of_other};
+
+use crate::twin::{Standing, Twin};
+use g_base::{Block, raised};
+use g_tape::{TapeFault, Tapes};
+
+/// Reads block k of the twin that leads; where that fails, and the other one may help, of the other one.
+pub(crate) fn read_twins<T: Tapes>(
+    first: &mut T,
+    second: &mut T,
+    standing: Standing,
+    serial: u32,
+    k: u32,
+    into: &mut Block,
+) -> Result<(), TapeFault>
+    ensures { HasAsked (may_help k standing) serial k (of_leader standing (T.rack first.old) (T.rack second.old)) (of_other standing (T.rack first.old) (T.rack second.old))
+        result into.new (of_leader standing (T.rack first.new) (T.rack second.new)) (of_other standing (T.rack first.new) (T.rack second.new)) }
+{
+    let may_help = standing.may_help(k);
+    match standing.leader() {
+        Twin::First => read_either(first, second, may_help, serial, k, into),
+        Twin::Second => read_either(second, first, may_help, serial, k, into),
+    }
+}
+
+/// Reads block k of the leading reel; where that fails, and the other one may help, of the other one.
+fn read_either<T: Tapes>(
+    leading: &mut T,
+    other: &mut T,
+    may_help: bool,
+    serial: u32,
+    k: u32,
+    into: &mut Block,
+) -> Result<(), TapeFault>
+    ensures { HasAsked may_help serial k (T.rack leading.old) (T.rack other.old) result into.new (T.rack leading.new) (T.rack other.new) }
+{
+    match leading.read(serial, k, into) {
+        Ok(()) => Ok(()),
+        Err(fault) => {
+            if fault == TapeFault::ReadFailed && may_help {
+                other.read(serial, k, into)
+            } else {
+                Err(fault)
+            }
+        }
+    }
+}
+
+/// Arms the rack for its next write, where that is to fail.
+fn arm_where<T: Tapes>(rack: &mut T, fires: bool)
+    ensures { T.rack rack.new ≡ armed_when fires (T.rack rack.old) }
+{
+    if fires {
+        rack.arm(1);
+    }
+}
+
+/// Writes block k of the twin that leads, and then of the other one, if that isn't lost. The answer is the leading twin's, and how
+/// they stand then.
+pub(crate) fn write_twins<T: Tapes>(
+    first: &mut T,
+    second: &mut T,
+    standing: Standing,
+    fires: bool,
+    serial: u32,
+    k: u32,
+    from: &Block,
+) -> (Result<(), TapeFault>, Standing)
+    ensures { HasWritten fires standing serial k from.now (of_leader standing (T.rack first.old) (T.rack second.old)) (of_other standing (T.rack first.old) (T.rack second.old))
+        result.0 result.1 (of_leader standing (T.rack first.new) (T.rack second.new)) (of_other standing (T.rack first.new) (T.rack second.new)) }
+{
+    match standing.leader() {
+        Twin::First => write_both(first, second, standing, fires, serial, k, from),
+        Twin::Second => write_both(second, first, standing, fires, serial, k, from),
+    }
+}
+
+/// Writes block k of the leading reel, and then of the other one, if that isn't lost. The answer is the leading reel's, and how
+/// they stand then.
+fn write_both<T: Tapes>(
+    leading: &mut T,
+    other: &mut T,
+    standing: Standing,
+    fires: bool,
+    serial: u32,
+    k: u32,
+    from: &Block,
+) -> (Result<(), TapeFault>, Standing)
+    ensures { HasWritten fires standing serial k from.now (T.rack leading.old) (T.rack other.old) result.0 result.1 (T.rack leading.new) (T.rack other.new) }
+{
+    arm_where(leading, fires);
+    match leading.write(serial, k, from) {
+        Err(fault) => (Err(fault), standing.after_failure(k)),
+        Ok(()) => (Ok(()), write_other(other, standing, serial, k, from)),
+    }
+}
+
+/// Writes block k of the other reel, if that isn't lost. The answer is how they stand then.
+fn write_other<T: Tapes>(
+    other: &mut T,
+    standing: Standing,
+    serial: u32,
+    k: u32,
+    from: &Block,
+) -> Standing
+    ensures { Follows (is_lost standing) serial k from.now standing (T.rack other.old) (T.rack other.new) result }
+{
+    if standing.is_lost() {
+        return standing;
+    }
+    match other.write(serial, k, from) {
+        Ok(()) => standing.after_both(k),
+        Err(_) => Standing::Lost(Twin::Second),
+    }
+}
+
+/// A count of failures after a call: one more where it wasn't Ok.
+pub(crate) fn counted(answer: &Result<(), TapeFault>, count: u64) -> u64
+    ensures { result ≡ counted answer.now count }
+{
+    match answer {
+        Ok(()) => count,
+        Err(_) => raised(count),
+    }
+}

@@ -1,0 +1,82 @@
+//! Two racks as one.
+ghost use Rattle.std.specs.Prelude.{◌≡◌, None};
+ghost use Rattle.g_duplex.specs.Pair.{ArePaired, ArePaired-prop, lost_of, standing_in};
+ghost use Rattle.g_duplex.specs.Places.{standings_by};
+
+use crate::places::{lost_among, place_of, standings_by};
+use crate::standings::{LostTwins, Standings};
+use crate::twin::{Standing, Twin};
+use g_base::Fuse;
+use g_tape::Tapes;
+
+/// Two racks with the same reels, as one rack. A reel has the blocks of the twin that leads, and is mounted where each twin that
+/// isn't lost is.
+#[derive(Drop)]
+pub struct Duplex<T: Tapes> {
+    pub(crate) first: T,
+    pub(crate) second: T,
+    pub(crate) standings: Standings,
+    pub(crate) lost: LostTwins,
+    pub(crate) read_faults: u64,
+    pub(crate) write_faults: u64,
+    pub(crate) fuse: Fuse,
+    pub(crate) arms: u64,
+    ghost paired: { ArePaired standings (T.rack first).reels (T.rack second).reels } by { ArePaired-prop standings (T.rack first).reels (T.rack second).reels },
+    ghost told: { lost ≡ lost_of (T.rack first).reels standings },
+}
+
+impl<T: Tapes> Duplex<T> {
+    ghost use Rattle.g_duplex.specs.Meaning.{pair_of};
+
+    /// Two racks as one, of which these twins are lost. Its counts begin at 0, whatever those of the racks are. It takes no memory.
+    pub fn new(first: T, second: T, lost: &[(u32, Twin)]) -> Duplex<T>
+        requires { ArePaired (standings_by lost.now (T.rack first).reels) (T.rack first).reels (T.rack second).reels }
+        ensures { pair_of result ≡ record {
+          first = T.rack first;
+          second = T.rack second;
+          standings = standings_by lost.now (T.rack first).reels;
+          read_faults = 0;
+          write_faults = 0;
+          fuse = None;
+          arms = 0;
+        } }
+    {
+        let standings = standings_by(&first, lost);
+        let lost = lost_among(&first, &standings);
+        Duplex {
+            first,
+            second,
+            standings,
+            lost,
+            read_faults: 0,
+            write_faults: 0,
+            fuse: Fuse::new(),
+            arms: 0,
+        }
+    }
+
+    /// The twins that are lost, by rising serial.
+    pub fn lost(&self) -> &[(u32, Twin)]
+        ensures { result.now ≡ lost_of (pair_of self.now).first.reels (pair_of self.now).standings }
+    {
+        self.lost.as_slice()
+    }
+
+    /// The racks, as they then are.
+    pub fn into_racks(self) -> (T, T)
+        ensures first { T.rack result.0 ≡ (pair_of self).first }
+        ensures second { T.rack result.1 ≡ (pair_of self).second }
+    {
+        (self.first, self.second)
+    }
+
+    /// How the twins of a reel stand, if it is there.
+    pub fn standing(&self, serial: u32) -> Option<Standing>
+        ensures { result ≡ standing_in serial (pair_of self.now) }
+    {
+        match place_of(&self.first, serial) {
+            Some(place) => Some(self.standings.get(place)),
+            None => None,
+        }
+    }
+}

@@ -1,0 +1,20 @@
+//! Paired reels: two racks with the same reels, seen as one. Where one reel of a pair is lost or can't be read, the other answers.
+#![tactic(auto)]
+
+mod asking;
+mod calls;
+mod comparing;
+mod copying;
+mod duplex;
+mod fault;
+mod laws;
+mod places;
+mod rebuild;
+mod standings;
+mod twin;
+
+pub use duplex::Duplex;
+pub use fault::DuplexFault;
+pub use laws::{a_lost_twin_is_not_seen, racks_answer_alike, who_fails_was_asked};
+pub use places::standing_by;
+pub use twin::{Standing, Twin};

@@ -1,0 +1,73 @@
+//! The calls on both twins of a reel: whether they agree, and the rebuilding of one from the other.
+ghost use Rattle.std.specs.Prelude.{◌≡◌, Some};
+ghost use Rattle.g_tape.specs.Rack.{reel};
+ghost use Rattle.g_duplex.specs.Pair.{standing_in};
+ghost use Rattle.g_duplex.specs.Rebuild.{PairCompares, PairRebuilds, rack_at, rack_beside, refuses_rebuild, stands_rebuilt};
+ghost use Rattle.g_duplex.specs.declared.twin.Standing.TheVariants.{Lost};
+
+use crate::comparing::{refuses_both, same_reel};
+use crate::copying::{copy_twin, refuses_copy};
+use crate::duplex::Duplex;
+use crate::fault::DuplexFault;
+use crate::places::{lost_among, place_of};
+use crate::twin::{Standing, Twin};
+use g_tape::Tapes;
+
+impl<T: Tapes> Duplex<T> {
+    ghost use Rattle.g_duplex.specs.Meaning.{pair_of};
+
+    /// Whether neither twin of the reel is lost and both hold the same blocks, or `NoTape`, `NotMounted`, `ReadFailed`. A twin
+    /// that is lost isn't read.
+    pub fn agree(&mut self, serial: u32) -> Result<bool, DuplexFault>
+        ensures { PairCompares serial (pair_of self.old) result (pair_of self.new) }
+    {
+        let Some(standing) = self.standing(serial) else {
+            return Err(DuplexFault::NoTape);
+        };
+        if let Some(fault) = refuses_both(&self.first, &self.second, serial) {
+            return Err(fault);
+        }
+        if standing.is_lost() {
+            return Ok(false);
+        }
+        same_reel(&mut self.first, &mut self.second, serial)
+    }
+
+    /// Writes this twin of the reel from the other one, from block 0 on, or `NoTape`, `NotMounted`, `NotEmptied`, which change
+    /// nothing. Behind `ReadFailed` and `WriteFailed` the twin is lost; behind Ok neither is, and both hold the same blocks.
+    pub fn rebuild_twin(&mut self, serial: u32, twin: Twin) -> Result<(), DuplexFault>
+        requires { (lost : Twin) → standing_in serial (pair_of self.old) ≡ Some (Lost lost) → lost ≡ twin }
+        ensures { PairRebuilds serial twin (pair_of self.old) result (pair_of self.new) }
+    {
+        let Some(place) = place_of(&self.first, serial) else {
+            return Err(DuplexFault::NoTape);
+        };
+        if let Some(fault) = self.refuses_rebuild(serial, twin) {
+            return Err(fault);
+        }
+        let answer = copy_twin(&mut self.first, &mut self.second, twin, serial);
+        self.standings.set(place, stands_rebuilt(twin, &answer));
+        self.lost = lost_among(&self.first, &self.standings);
+        answer
+    }
+
+    /// Why a rebuilding of this twin is refused, if it is.
+    fn refuses_rebuild(&self, serial: u32, twin: Twin) -> Option<DuplexFault>
+        ensures { result ≡ refuses_rebuild (reel serial (rack_at twin (pair_of self.now)).reels) (reel serial (rack_beside twin (pair_of self.now)).reels) }
+    {
+        match twin {
+            Twin::First => refuses_copy(&self.second, &self.first, serial),
+            Twin::Second => refuses_copy(&self.first, &self.second, serial),
+        }
+    }
+}
+
+/// How the twins stand after a rebuilding of this one.
+fn stands_rebuilt(twin: Twin, answer: &Result<(), DuplexFault>) -> Standing
+    ensures { result ≡ stands_rebuilt twin answer.now }
+{
+    match answer {
+        Ok(()) => Standing::Level,
+        Err(_) => Standing::Lost(twin),
+    }
+}
