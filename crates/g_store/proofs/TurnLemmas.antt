@@ -306,15 +306,15 @@ refused_mount : (r : Option Reel) (fault : TapeFault) → refuses_mount r ≡ So
 refused_mount None fault is = refl
 refused_mount (Some r) fault is = absurd (none-some fault is)
 
-no_tape : (r : Option Reel) (fault : TapeFault) → refuses_mount r ≡ Some fault → rack_answer (Err fault) ≡ Err NoTape
-no_tape None fault is = subst (λ (f : TapeFault). rack_answer (Err f) ≡ Err NoTape) (same_Some tape.NoTape fault is) refl
-no_tape (Some r) fault is = absurd (none-some fault is)
+answers_no_tape : (r : Option Reel) (fault : TapeFault) → refuses_mount r ≡ Some fault → rack_answer (Err fault) ≡ Err NoTape
+answers_no_tape None fault is = subst (λ (f : TapeFault). rack_answer (Err f) ≡ Err NoTape) (same_Some tape.NoTape fault is) refl
+answers_no_tape (Some r) fault is = absurd (none-some fault is)
 
 mount_by : (s : ℕ) (t : StoreFacts) (rack : Rack) (r : Result (Unit {0}) TapeFault) → Mounting refuses_mount true s t.rack r rack
     → DoneOr (mount_refuses s t) (after s true t) t (rack_answer r) (record t { rack = rack })
 mount_by s t rack (Ok u) (free, is) = (free_mount (reel s t.rack.reels) free, ap (λ (k : Rack). record t { rack = k }) is)
 mount_by s t rack (Err fault) (refusal, is) =
-    subst (λ (a : Result (Unit {0}) StoreFault). DoneOr (mount_refuses s t) (after s true t) t a (record t { rack = rack })) (sym (no_tape (reel s t.rack.reels) fault refusal))
+    subst (λ (a : Result (Unit {0}) StoreFault). DoneOr (mount_refuses s t) (after s true t) t a (record t { rack = rack })) (sym (answers_no_tape (reel s t.rack.reels) fault refusal))
     (refused_mount (reel s t.rack.reels) fault refusal, ap (λ (k : Rack). record t { rack = k }) is)
 
 pub rack_mounts : (s : ℕ) (old t : StoreFacts) (rack : Rack) (r : Result (Unit {0}) TapeFault) (answer : Result (Unit {0}) StoreFault) → answer ≡ rack_answer r → t ≡ old → old.spent ≡ false → IsStore t
