@@ -48,11 +48,17 @@ impl Work {
         match ask_any(asker.alloc, store, asker.who, &call) {
             Ok(Ok(reply)) => match reply {
                 StoreReply::Bytes { full, bytes } => {
-                    self.use_fetched(store, asker, use_for, full, bytes)
+                    match self.use_fetched(store, asker, use_for, full, bytes) {
+                        Ok(()) => Ok(()),
+                        Err(NoMemory) => Err(NoMemory),
+                    }
                 }
                 _ => Ok(()),
             },
-            Ok(Err(fault)) => self.refuse(asker.alloc, asker.room, &fault),
+            Ok(Err(fault)) => match self.refuse(asker.alloc, asker.room, &fault) {
+                Ok(()) => Ok(()),
+                Err(NoMemory) => Err(NoMemory),
+            },
             Err(NoMemory) => Err(NoMemory),
         }
     }

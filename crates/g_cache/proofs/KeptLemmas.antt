@@ -1,66 +1,23 @@
 -- What is kept behind a cache, when a block is asked for, kept or written.
-use Rattle.std.proofs.Common.{◌≡◌, ◌≢◌, ◌⊎◌, ◌∙◌, ◌<◌, ℕ, Bool, true, false, cond, List, [], ◌∷◌, take, length, Contains, Option, Some, None, Ok, Err, refl, sym, ap, subst, inl, inr, nat_eq, eqb-true, true≢false, length-set, slice_get}
+use Rattle.std.proofs.Common.{◌≡◌, ◌≢◌, ◌⊎◌, ◌∙◌, ℕ, Bool, cond, List, ◌∷◌, take, length, Contains, Option, Some, None, Ok, Err, refl, sym, ap, subst, inl, inr, nat_eq, eqb-true, true≢false, length-set, slice_get}
 use Rattle.std.proofs.Math.ListN.{set}
 use Rattle.std.proofs.lemmas.List.{get_or-set_other}
 use Rattle.std.proofs.lemmas.Map.{lookup-remove_entry}
 use Rattle.std.proofs.lemmas.Option.{get_or_from_slice_get, slice_get_read, slice_get_within}
 use Rattle.std.specs.Cmp.{nat_eq_equiv}
 use Rattle.std.specs.List.{IsDistinct}
-use Rattle.std.specs.Map.{keys_of, lookup, lookup_entry}
+use Rattle.std.specs.Map.{keys_of, lookup}
 use Rattle.std.specs.Option.{ForSome}
-use Rattle.std.specs.Prelude.{IfNone, IfSome, OnErr, OnOk, Result}
-use Rattle.lru.specs.LruCache.{LruCache, lru_cache, promoted, put_entries}
+use Rattle.std.specs.Prelude.{Result}
 use Rattle.lru.proofs.CallerLemmas.{Contains-lookup, Contains-remove_entry, Contains-take}
 use Rattle.lru.proofs.Matching.{none_found}
-use Rattle.lru.proofs.Splits.{Contains-cons, Contains-nil}
+use Rattle.lru.proofs.Splits.{Contains-cons}
 use Rattle.g_base.specs.Block.{with_block}
 use Rattle.g_base.proofs.ToldLemmas.{told_after_write}
-use Rattle.g_disc.specs.Disc.{DiscState, Reads, Writes}
-use Rattle.g_cache.specs.Cached.{Agrees, Cached, CachedReads, CachedWrites, IsCacheOf, IsRecalled, cached_with, kept_block, without_block}
+use Rattle.g_disc.specs.Disc.{DiscState, Writes}
+use Rattle.g_cache.specs.Cached.{Agrees, Cached, CachedReads, cached_with, kept_block, without_block}
 
 -- THE CACHE
-
--- the entry of a block that is kept
-entry_found : (k : ℕ) (kept : List (ℕ × List ℕ)) (block : List ℕ) → kept_block k kept ≡ Some block → lookup_entry (nat_eq k) kept ≡ Some (k, block)
-entry_found k [] block is = cc
-entry_found k (e ∷ es) block is = (elim (nat_eq k e.0) as (λ y. nat_eq k e.0 ≡ y → lookup_entry (nat_eq k) (e ∷ es) ≡ Some (k, block)) [
-  | true ↦ λ t. let is' = rw t at is in let value : e.1 ≡ block = cc in let key : e.0 ≡ k = sym (eqb-true k e.0 t) in rw t (λ i. Some (key i, value i))
-  | false ↦ λ t. rw t (entry_found k es block (rw t at is))
-]) refl
-
-entry_missed : (k : ℕ) (kept : List (ℕ × List ℕ)) → kept_block k kept ≡ None → lookup_entry (nat_eq k) kept ≡ None
-entry_missed k [] none = refl
-entry_missed k (e ∷ es) none = (elim (nat_eq k e.0) as (λ y. nat_eq k e.0 ≡ y → lookup_entry (nat_eq k) (e ∷ es) ≡ None) [
-  | true ↦ λ t. let none' = rw t at none in let never : ⊥ = cc in absurd never
-  | false ↦ λ t. rw t (entry_missed k es (rw t at none))
-]) refl
-
--- asking for a block
-promoted-found : (k : ℕ) (kept : List (ℕ × List ℕ)) (block : List ℕ) → kept_block k kept ≡ Some block → promoted (nat_eq k) kept ≡ (k, block) ∷ without_block k kept
-promoted-found k kept block is = rw (entry_found k kept block is)
-
-promoted-missed : (k : ℕ) (kept : List (ℕ × List ℕ)) → kept_block k kept ≡ None → promoted (nat_eq k) kept ≡ kept
-promoted-missed k kept none = rw (entry_missed k kept none)
-
-pub recalled_first : (k : ℕ) (kept after : List (ℕ × List ℕ)) (o : Option (List ℕ)) → o ≡ kept_block k kept → after ≡ promoted (nat_eq k) kept
-    → IfSome o (λ block. after ≡ (k, block) ∷ without_block k kept)
-recalled_first k kept after None found is = tt
-recalled_first k kept after (Some block) found is = is ∙ promoted-found k kept block (sym found)
-
-pub recalled_missed : (k : ℕ) (kept after : List (ℕ × List ℕ)) (o : Option (List ℕ)) → o ≡ kept_block k kept → after ≡ promoted (nat_eq k) kept
-    → IfNone o (after ≡ kept)
-recalled_missed k kept after None found is = is ∙ promoted-missed k kept (sym found)
-recalled_missed k kept after (Some block) found is = tt
-
--- keeping one
-put_entries-missed : (c : LruCache ℕ (List ℕ)) (k : ℕ) (block : List ℕ) → c.cap ≡ 64 → kept_block k c.entries ≡ None → put_entries nat_eq c k block ≡ (k, block) ∷ take 63 c.entries
-put_entries-missed c k block room none = rw (entry_missed k c.entries none, room)
-
-pub put-first : {T E : Type 0} (result : Result T E) (c after : LruCache ℕ (List ℕ)) (k : ℕ) (block : List ℕ) → c.cap ≡ 64 → kept_block k c.entries ≡ None
-    → OnOk result (after ≡ lru_cache (put_entries nat_eq c k block) c.cap) → OnErr result (after ≡ c)
-    → (after.entries ≡ (k, block) ∷ take 63 c.entries) ⊎ (after.entries ≡ c.entries)
-put-first (Ok t) c after k block room none ok err = inl (ap (λ (d : LruCache ℕ (List ℕ)). d.entries) ok ∙ put_entries-missed c k block room none)
-put-first (Err e) c after k block room none ok err = inr (ap (λ (d : LruCache ℕ (List ℕ)). d.entries) err)
 
 -- taking one out
 pub kept_block-without_block : (k : ℕ) (kept : List (ℕ × List ℕ)) → IsDistinct nat_eq (keys_of kept) → kept_block k (without_block k kept) ≡ None

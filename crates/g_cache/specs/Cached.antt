@@ -30,11 +30,6 @@ without_block k kept = remove_entry (nat_eq k) kept
 abbrev pub Agrees : List (ℕ × List ℕ) → Option (List (List ℕ)) → Type 0
 Agrees kept held = (e : ℕ × List ℕ) → Contains kept e → ForSome held (λ blocks. slice_get blocks e.0 ≡ Some e.1)
 
--- there is room for 64 blocks, and those that are kept are the disc's
-pub record IsCacheOf (cap : ℕ) (kept : List (ℕ × List ℕ)) (held : Option (List (List ℕ))) : Type 0 where
-  pub room : cap ≡ 64
-  pub agrees : Agrees kept held
-
 -- The answer is the block that is kept, which is the one asked for last now. The disc below isn't asked.
 pub record IsRecalled {D T E : Type 0} (k : ℕ) (block into : List ℕ) (before after : Cached D) (result : Result T E) : Type 0 where
   pub ok : IsOk result

@@ -1,33 +1,32 @@
 //! A disc that is read through a cache.
-ghost use Rattle.std.specs.Prelude.{◌≡◌, ◌⊎◌, ◌<◌, ◌≤◌, [], ◌∷◌, IfErr, IfNone, IfOk, IfSome, None, Some, take};
+ghost use Rattle.std.specs.Prelude.{◌≡◌, ◌<◌, ◌≤◌, [], IfErr, IfOk, Some};
 ghost use Rattle.g_base.specs.Counts.{one_more};
-ghost use Rattle.g_cache.specs.Cached.{CachedReads, CachedWrites, cached_with, kept_block, without_block};
+ghost use Rattle.g_cache.specs.Cached.{CachedReads, CachedWrites, cached_with};
 
+use crate::block_cache::BlockCache;
 use g_base::{Block, NoMemory};
 use g_disc::{Disc, ReadFailed, WriteFailed};
-use lru::LruCache;
 use std::alloc::Global;
 use std::marker::Model;
-use std::num::NonZeroUsize;
 
 /// A disc that is read through a cache of 64 blocks, the ones asked for last. It answers as the disc
 /// below would, which it owns. A write goes through to that disc and takes the block out of the cache.
 #[derive(Drop)]
 pub struct CachedDisc<D: Disc> {
     disc: D,
-    cache: LruCache<u32, Block>,
+    cache: BlockCache,
 }
 
 impl<D: Disc> Model for CachedDisc<D> {
-    ghost use Rattle.g_cache.specs.Cached.{Cached, IsCacheOf, cached_code, cached_with};
+    ghost use Rattle.g_cache.specs.Cached.{Cached, Agrees, cached_code, cached_with};
 
     ghost Value = { Cached D };
 
     ghost coded = { cached_code D.code };
 
-    ghost view = { λ c. cached_with c.disc c.cache.entries };
+    ghost view = { λ c. cached_with c.disc c.cache };
 
-    ghost invariant = { λ c. IsCacheOf c.cache.cap c.cache.entries (D.state c.disc).held };
+    ghost invariant = { λ c. Agrees c.cache (D.state c.disc).held };
 }
 
 impl<D: Disc> CachedDisc<D> {
@@ -37,7 +36,7 @@ impl<D: Disc> CachedDisc<D> {
         ensures empty { IfOk result (λ c. c ≡ cached_with disc []) }
         ensures unchanged { IfErr result (λ e. e.1 ≡ disc) }
     {
-        match LruCache::new(alloc, NonZeroUsize::new(64).unwrap()) {
+        match BlockCache::new(alloc) {
             Ok(cache) => Ok(CachedDisc { disc, cache }),
             Err(_) => Err((NoMemory, disc)),
         }
@@ -64,12 +63,11 @@ impl<D: Disc> Disc for CachedDisc<D> {
         requires { k < (D.state self.old.disc).size }
         ensures { CachedReads D.state k into.new self.old self.new result }
     {
-        if let Some(block) = recall(&mut self.cache, k) {
-            *into = block;
+        if self.cache.recall(k, into) {
             return Ok(());
         }
         self.disc.read(k, into)?;
-        keep(&mut self.cache, k, into);
+        self.cache.keep(k, into);
         Ok(())
     }
 
@@ -78,7 +76,7 @@ impl<D: Disc> Disc for CachedDisc<D> {
         requires { k < (D.state self.old.disc).size }
         ensures { CachedWrites D.state k from.now self.old self.new result }
     {
-        forget(&mut self.cache, k);
+        self.cache.forget(k);
         self.disc.write(k, from)
     }
 
@@ -90,38 +88,4 @@ impl<D: Disc> Disc for CachedDisc<D> {
     {
         self.disc.arm(k);
     }
-}
-
-/// Block k, if it is kept. It is the one asked for last then.
-fn recall(cache: &mut LruCache<u32, Block>, k: u32) -> Option<Block>
-    ensures found { result ≡ kept_block k cache.old.entries }
-    ensures first { IfSome result
-        (λ block. cache.new.entries ≡ (k, block) ∷ without_block k cache.old.entries) }
-    ensures missed { IfNone result (cache.new.entries ≡ cache.old.entries) }
-    ensures room { cache.new.cap ≡ cache.old.cap }
-{
-    cache.get(&k).copied()
-}
-
-/// Keeps block k, which wasn't kept, as the one asked for last, unless there is no memory for it.
-fn keep(cache: &mut LruCache<u32, Block>, k: u32, block: &Block)
-    requires missed { kept_block k cache.old.entries ≡ None }
-    requires room { cache.old.cap ≡ 64 }
-    ensures first { (cache.new.entries ≡ (k, block.now) ∷ take 63 cache.old.entries)
-        ⊎ (cache.new.entries ≡ cache.old.entries) }
-    ensures room { cache.new.cap ≡ 64 }
-{
-    // A growth that is refused leaves the cache as it was.
-    drop(cache.put(k, *block));
-}
-
-/// Keeps block k no more, and all else as it was.
-fn forget(cache: &mut LruCache<u32, Block>, k: u32)
-    ensures gone { kept_block k cache.new.entries ≡ None }
-    ensures others { cache.new.entries ≡ without_block k cache.old.entries }
-    ensures room { cache.new.cap ≡ cache.old.cap }
-{
-    // Its clause says that no number is kept twice.
-    let _len = cache.len();
-    drop(cache.pop(&k));
 }

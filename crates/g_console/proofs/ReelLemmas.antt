@@ -19,7 +19,7 @@ use Rattle.g_state.specs.Meaning.{told_reels}
 use Rattle.g_state.specs.Reading.{AllTold, DevicesStandFor, IsView, View, state_down}
 use Rattle.g_state.specs.Up.{StoreFacts}
 use Rattle.g_store.specs.Events.{AnswersEvent, Mounts, Unmounts}
-use Rattle.g_store.specs.Refusing.{DoneOr, is_on, mount_answer, mount_refuses, unmount_answer, unmount_refuses}
+use Rattle.g_store.specs.Refusing.{DoneOr, is_on, mount_refuses, rack_answer, unmount_refuses}
 use Rattle.g_store.proofs.MountLemmas.{dumps_stay, lacks_by, mounted_by, rows_turned, serials_stay, shelved_turned, told_after, told_turned, turned}
 use Rattle.g_store.proofs.TurnLemmas.{files_view, rack_view}
 use Rattle.g_world.specs.Devices.{Devices, StandFor}
@@ -160,7 +160,7 @@ module _ (s : ℕ) (d : Devices) where
       never_busy false false = refl
 
   -- MOUNTS
-  pub mounts_down : (answer : Result (Unit {0}) TapeFault) (rack : Rack) → Mounting refuses_mount true s d.rack answer rack → (let e : Devices = record d { rack = rack } in MountsOn s (Down d) (mount_answer answer) (Down e))
+  pub mounts_down : (answer : Result (Unit {0}) TapeFault) (rack : Rack) → Mounting refuses_mount true s d.rack answer rack → (let e : Devices = record d { rack = rack } in MountsOn s (Down d) (rack_answer answer) (Down e))
   mounts_down (Ok u) rack (free, is) =
       subst (λ (k : Rack). let e : Devices = record d { rack = k } in MountsOn s (Down d) (Ok tt) (Down e)) (sym is)
       (steps_turned true (λ v a n. dumps.MountStep v s a n)
@@ -170,16 +170,21 @@ module _ (s : ℕ) (d : Devices) where
       free_by None isnt = absurd (none-some tape.NoTape (sym isnt))
       free_by (Some r) isnt = refl
   mounts_down (Err fault) rack (refusal, is) =
-      subst (λ (k : Rack). let e : Devices = record d { rack = k } in MountsOn s (Down d) (Err NoTape) (Down e)) (sym is)
+      subst (λ (k : Rack). let e : Devices = record d { rack = k } in MountsOn s (Down d) (rack_answer (Err fault)) (Down e)) (sym is)
+      (subst (λ (a : Result (Unit {0}) StoreFault). MountsOn s (Down d) a (Down d)) (sym (no_tape here fault refusal))
       (steps_none NoTape (λ e. let no : ⊥ = cc in no) (λ v a n. dumps.MountStep v s a n)
-      (λ v stand. subst (λ (o : Option StoreFault). dumps.Event o tt v (turned_state s true v) (Err NoTape) v) (sym (mount_first v stand ∙ refused_by here fault refusal)) (refl, refl)))
+      (λ v stand. subst (λ (o : Option StoreFault). dumps.Event o tt v (turned_state s true v) (Err NoTape) v) (sym (mount_first v stand ∙ refused_by here fault refusal)) (refl, refl))))
     where
+      no_tape : (r : Option Reel) (f : TapeFault) → refuses_mount r ≡ Some f → rack_answer (Err f) ≡ Err NoTape
+      no_tape None f so = subst (λ (g : TapeFault). rack_answer (Err g) ≡ Err NoTape) (same_Some tape.NoTape f so) refl
+      no_tape (Some r) f so = absurd (none-some f so)
+
       refused_by : (r : Option Reel) (f : TapeFault) → refuses_mount r ≡ Some f → first_fault ((is_none r, NoTape) ∷ []) ≡ Some NoTape
       refused_by None f so = refl
       refused_by (Some r) f so = absurd (none-some f so)
 
   -- and unmounts
-  pub unmounts_down : (answer : Result (Unit {0}) TapeFault) (rack : Rack) → Mounting refuses_unmount false s d.rack answer rack → (let e : Devices = record d { rack = rack } in UnmountsOn s (Down d) (unmount_answer answer) (Down e))
+  pub unmounts_down : (answer : Result (Unit {0}) TapeFault) (rack : Rack) → Mounting refuses_unmount false s d.rack answer rack → (let e : Devices = record d { rack = rack } in UnmountsOn s (Down d) (rack_answer answer) (Down e))
   unmounts_down (Ok u) rack (free, is) =
       subst (λ (k : Rack). let e : Devices = record d { rack = k } in UnmountsOn s (Down d) (Ok tt) (Down e)) (sym is)
       (steps_turned false (λ v a n. dumps.UnmountStep v s a n)
@@ -193,21 +198,21 @@ module _ (s : ℕ) (d : Devices) where
           by_mount true e = refl
           by_mount false e = absurd (none-some tape.NotMounted (sym e))
   unmounts_down (Err fault) rack (refusal, is) =
-      subst (λ (k : Rack). let e : Devices = record d { rack = k } in UnmountsOn s (Down d) (unmount_answer (Err fault)) (Down e)) (sym is)
+      subst (λ (k : Rack). let e : Devices = record d { rack = k } in UnmountsOn s (Down d) (rack_answer (Err fault)) (Down e)) (sym is)
       (by_reel here refl refusal)
     where
-      by_reel : (r : Option Reel) → here ≡ r → refuses_unmount r ≡ Some fault → UnmountsOn s (Down d) (unmount_answer (Err fault)) (Down d)
+      by_reel : (r : Option Reel) → here ≡ r → refuses_unmount r ≡ Some fault → UnmountsOn s (Down d) (rack_answer (Err fault)) (Down d)
       by_reel None at so =
-          subst (λ (f : TapeFault). UnmountsOn s (Down d) (unmount_answer (Err f)) (Down d)) (same_Some tape.NoTape fault so)
+          subst (λ (f : TapeFault). UnmountsOn s (Down d) (rack_answer (Err f)) (Down d)) (same_Some tape.NoTape fault so)
           (steps_none NoTape (λ e. let no : ⊥ = cc in no) (λ v a n. dumps.UnmountStep v s a n)
           (λ v stand. subst (λ (o : Option StoreFault). dumps.Event o tt v (turned_state s false v) (Err NoTape) v)
           (sym (unmount_first v stand ∙ ap (λ (r : Option Reel). first_fault ((is_none r, NoTape) ∷ (not (is_mounted r), NotMounted) ∷ [])) at)) (refl, refl)))
       by_reel (Some r) at so = by_mount r.mounted refl so
         where
-          by_mount : (b : Bool) → r.mounted ≡ b → (if b then None else Some tape.NotMounted) ≡ Some fault → UnmountsOn s (Down d) (unmount_answer (Err fault)) (Down d)
+          by_mount : (b : Bool) → r.mounted ≡ b → (if b then None else Some tape.NotMounted) ≡ Some fault → UnmountsOn s (Down d) (rack_answer (Err fault)) (Down d)
           by_mount true on e = absurd (none-some fault e)
           by_mount false off e =
-              subst (λ (f : TapeFault). UnmountsOn s (Down d) (unmount_answer (Err f)) (Down d)) (same_Some tape.NotMounted fault e)
+              subst (λ (f : TapeFault). UnmountsOn s (Down d) (rack_answer (Err f)) (Down d)) (same_Some tape.NotMounted fault e)
               (steps_none NotMounted (λ e. let no : ⊥ = cc in no) (λ v a n. dumps.UnmountStep v s a n)
               (λ v stand. subst (λ (o : Option StoreFault). dumps.Event o tt v (turned_state s false v) (Err NotMounted) v)
               (sym (unmount_first v stand ∙ ap (λ (q : Option Reel). first_fault ((is_none q, NoTape) ∷ (not (is_mounted q), NotMounted) ∷ [])) at

@@ -5,7 +5,6 @@ ghost use Rattle.g_console.specs.Parts.{DidLine, IsReady, seen};
 ghost use Rattle.g_console.specs.Reels.{MountsOn, UnmountsOn};
 ghost use Rattle.g_console.specs.System.{IsRunning, facts_of};
 ghost use Rattle.g_script.specs.declared.operator.Operator.TheVariants as line;
-ghost use Rattle.g_store.specs.Refusing.{mount_answer, unmount_answer};
 
 use crate::progress::Failure;
 use crate::puts::{refuse, say_made};
@@ -14,7 +13,8 @@ use g_crew::tape_text;
 use g_disc::Disc;
 use g_io::Sink;
 use g_plain::StoreFault;
-use g_tape::{TapeFault, Tapes};
+use g_store::rack_answer;
+use g_tape::Tapes;
 use std::alloc::Global;
 
 /// MOUNT: the reel is mounted. `NoTape`: it isn't in the rack.
@@ -70,7 +70,7 @@ fn mount<D: Disc, T: Tapes>(system: &mut System<D, T>, serial: u32) -> Result<()
 {
     match system {
         System::Up(store) => store.mount(serial),
-        System::Down(_, tapes) => mount_answer(tapes.mount(serial)),
+        System::Down(_, tapes) => rack_answer(tapes.mount(serial)),
     }
 }
 
@@ -81,27 +81,6 @@ fn unmount<D: Disc, T: Tapes>(system: &mut System<D, T>, serial: u32) -> Result<
 {
     match system {
         System::Up(store) => store.unmount(serial),
-        System::Down(_, tapes) => unmount_answer(tapes.unmount(serial)),
-    }
-}
-
-/// The answer to a mount, where the rack has answered so.
-fn mount_answer(answer: Result<(), TapeFault>) -> Result<(), StoreFault>
-    ensures { result ≡ mount_answer answer }
-{
-    match answer {
-        Ok(()) => Ok(()),
-        Err(_) => Err(StoreFault::NoTape),
-    }
-}
-
-/// The answer to an unmount.
-fn unmount_answer(answer: Result<(), TapeFault>) -> Result<(), StoreFault>
-    ensures { result ≡ unmount_answer answer }
-{
-    match answer {
-        Ok(()) => Ok(()),
-        Err(TapeFault::NoTape) => Err(StoreFault::NoTape),
-        Err(_) => Err(StoreFault::NotMounted),
+        System::Down(_, tapes) => rack_answer(tapes.unmount(serial)),
     }
 }

@@ -4,7 +4,7 @@ use g_base::Block;
 use g_laid_out::{nothing_to_take, one_away, online_with, without_mark};
 use g_name::{User, parse_path};
 use g_plain::{StoreCall, StoreFault, StoreReply};
-use g_store_calls::{fetch, retrieve};
+use g_store_calls::answer;
 use g_tape::{MemoryTapes, Tapes};
 use g_trap::Mode;
 use std::process::Abort;
@@ -27,7 +27,7 @@ fn fetched(
         path: parse_path(path).expect(rt, "a path"),
         mode: Mode::Read,
     };
-    fetch(rt.alloc(), &mut online, tapes, &User::master(), &call)
+    answer(rt.alloc(), &mut online, tapes, &User::master(), &call)
 }
 
 /// The same to a `Retrieve`.
@@ -44,7 +44,7 @@ fn retrieved(
     let call = StoreCall::Retrieve {
         path: parse_path(path).expect(rt, "a path"),
     };
-    retrieve(rt.alloc(), &mut online, tapes, &User::master(), &call)
+    answer(rt.alloc(), &mut online, tapes, &User::master(), &call)
 }
 
 /// Whether an answer is so many bytes, with this first and this last one.

@@ -1,25 +1,24 @@
 //! Each call of records with ample memory, over a filestore of one file.
-ghost use Rattle.std.specs.Prelude.{◌≡◌, true};
 ghost use Rattle.g_plain.specs.Rules.{IsWithinLimits};
-ghost use Rattle.g_store_calls.specs.Kinds.{sets_records};
 
+use crate::rig::reel;
 use g_laid_out::online_with_one;
 use g_name::{Local, Path, User, parse_path};
 use g_plain::{BudgetKind, StoreCall, StoreFault, StoreReply};
-use g_store_calls::{change, tell};
+use g_store_calls::answer;
 use g_trap::Modes;
 use std::process::Abort;
 
 /// Makes a call of `MASTER`, which is done, or finds no file.
 fn compare(rt: &(impl Abort + AllocGlobal), call: &StoreCall, is_done: bool)
-    requires limits { IsWithinLimits call.now }
-    requires records { sets_records call.now ≡ true }
+    requires { IsWithinLimits call.now }
 {
     let mut online = match online_with_one(rt.alloc()) {
         Ok(online) => online,
         Err(_) => panic!(rt; "no filestore"),
     };
-    match change(rt.alloc(), &mut online, &User::master(), call) {
+    let mut tapes = reel(rt);
+    match answer(rt.alloc(), &mut online, &mut tapes, &User::master(), call) {
         Ok(StoreReply::Done) => assert!(rt; is_done),
         Err(StoreFault::NoFile) => assert!(rt; !is_done),
         _ => panic!(rt; "another answer"),
@@ -41,14 +40,15 @@ fn users(rt: HostRuntime) {
         amount: 8,
     };
     compare(&rt, &money, true);
-    let online = match online_with_one(rt.alloc()) {
+    let mut online = match online_with_one(rt.alloc()) {
         Ok(online) => online,
         Err(_) => panic!(rt; "no filestore"),
     };
     let list = StoreCall::List {
         user: User::master(),
     };
-    match tell(rt.alloc(), &online, &User::master(), &list) {
+    let mut tapes = reel(&rt);
+    match answer(rt.alloc(), &mut online, &mut tapes, &User::master(), &list) {
         Ok(StoreReply::Listing(listing)) => assert!(rt; listing.rows().len() == 1),
         _ => panic!(rt; "no listing"),
     }

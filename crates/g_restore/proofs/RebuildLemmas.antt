@@ -22,6 +22,7 @@ use Rattle.g_shelf.specs.Completed.{all_dumps}
 use Rattle.g_state.specs.Laws.{restored, restored_file}
 use Rattle.g_state.specs.Meaning.{files_in}
 use Rattle.g_online.specs.Allowed.{KeepsRules, Lies}
+use Rattle.g_online.specs.Faults.{store_fault_of}
 use Rattle.g_online.specs.declared.fault.OnlineFault.{OnlineFault}
 use Rattle.g_online.specs.declared.fault.OnlineFault.TheVariants as online
 use Rattle.g_online.specs.Begun.{AsBeforeOr, HasMade, first_contents, first_file}
@@ -30,7 +31,7 @@ use Rattle.g_restore.specs.declared.directory.Dumped.{Dumped}
 use Rattle.g_restore.specs.Lost.{LostIsNamed, NamesLost}
 use Rattle.g_restore.specs.Reels.{AreOnReels}
 use Rattle.g_restore.specs.Restored.{IsOfDisc, IsOfReels, IsRestored, answer_of}
-use Rattle.g_restore.specs.Steps.{CanBeMade, IsFolded, by_online, head_of}
+use Rattle.g_restore.specs.Steps.{CanBeMade, IsFolded, head_of}
 use Rattle.g_restore.proofs.DirectoryLemmas.{not_err, same_err}
 
 -- A FILE that is made offline is the one that is restored
@@ -131,33 +132,33 @@ pub idle : (fault : StoreFault) (s : DiscState) → IsOfReels fault → Causes (
 idle fault s is = Causes-none s (λ wrong. subst IsOfReels wrong is) (λ wrong. subst IsOfReels wrong is)
 
 -- THE REFUSALS OF THE ONLINE FILESTORE, as the store has them
-read_back : (f : OnlineFault) → by_online f ≡ DiscReadFault → f ≡ online.ReadFault
+read_back : (f : OnlineFault) → store_fault_of f ≡ DiscReadFault → f ≡ online.ReadFault
 read_back (online.DiscFull need room) is = cc
 read_back online.ReadFault is = refl
 read_back online.Stopped is = cc
 read_back online.NoFilestore is = cc
 read_back online.NoMemory is = cc
 
-stop_back : (f : OnlineFault) → by_online f ≡ Stopped → f ≡ online.Stopped
+stop_back : (f : OnlineFault) → store_fault_of f ≡ Stopped → f ≡ online.Stopped
 stop_back (online.DiscFull need room) is = cc
 stop_back online.ReadFault is = cc
 stop_back online.Stopped is = refl
 stop_back online.NoFilestore is = cc
 stop_back online.NoMemory is = cc
 
-pub stops : (f : OnlineFault) (P : Type 0) → (f ≡ online.Stopped → P) → by_online f ≡ Stopped → P
+pub stops : (f : OnlineFault) (P : Type 0) → (f ≡ online.Stopped → P) → store_fault_of f ≡ Stopped → P
 stops f P to is = to (stop_back f is)
 
-pub goes_on : (f : OnlineFault) (P : Type 0) → (f ≢ online.Stopped → P) → by_online f ≢ Stopped → P
-goes_on f P to isnt = to (λ is. isnt (ap by_online is))
+pub goes_on : (f : OnlineFault) (P : Type 0) → (f ≢ online.Stopped → P) → store_fault_of f ≢ Stopped → P
+goes_on f P to isnt = to (λ is. isnt (ap store_fault_of is))
 
-pub causes_by : (f : OnlineFault) (x y : DiscState) → Causes (f ≡ online.ReadFault) (f ≡ online.Stopped) x y → Causes (by_online f ≡ DiscReadFault) (by_online f ≡ Stopped) x y
-causes_by f x y is = Causes-for (λ e. ap by_online e) (read_back f) (λ e. ap by_online e) (stop_back f) is
+pub causes_by : (f : OnlineFault) (x y : DiscState) → Causes (f ≡ online.ReadFault) (f ≡ online.Stopped) x y → Causes (store_fault_of f ≡ DiscReadFault) (store_fault_of f ≡ Stopped) x y
+causes_by f x y is = Causes-for (λ e. ap store_fault_of e) (read_back f) (λ e. ap store_fault_of e) (stop_back f) is
 
-pub one_of_disc : (f : OnlineFault) → (f ≡ online.ReadFault) ⊎ (f ≡ online.Stopped) ⊎ (f ≡ online.NoMemory) → IsOfDisc (by_online f)
-one_of_disc f (inl is) = subst (λ (x : OnlineFault). IsOfDisc (by_online x)) (sym is) tt
-one_of_disc f (inr (inl is)) = subst (λ (x : OnlineFault). IsOfDisc (by_online x)) (sym is) tt
-one_of_disc f (inr (inr is)) = subst (λ (x : OnlineFault). IsOfDisc (by_online x)) (sym is) tt
+pub one_of_disc : (f : OnlineFault) → (f ≡ online.ReadFault) ⊎ (f ≡ online.Stopped) ⊎ (f ≡ online.NoMemory) → IsOfDisc (store_fault_of f)
+one_of_disc f (inl is) = subst (λ (x : OnlineFault). IsOfDisc (store_fault_of x)) (sym is) tt
+one_of_disc f (inr (inl is)) = subst (λ (x : OnlineFault). IsOfDisc (store_fault_of x)) (sym is) tt
+one_of_disc f (inr (inr is)) = subst (λ (x : OnlineFault). IsOfDisc (store_fault_of x)) (sym is) tt
 
 -- the tree that is put on the disc has the records that were gathered
 same_first : (told : Bool) (d : Dumped) (us : List UserRec) (fs : List FileRec) → us ≡ d.users.items → fs ≡ d.files.items

@@ -1,4 +1,4 @@
--- The steps of a restore: the refusals of the online filestore, and the directory that is made.
+-- The steps of a restore: the directory that is made.
 use Rattle.std.specs.Prelude.{◌≡◌, ◌≢◌, ◌^◌, ◌<◌, ◌≤◌, true, List, All, None, is_some}
 use Rattle.g_entry.specs.declared.head.Head.{Head}
 use Rattle.g_entry.specs.Rules.{StampsBelow}
@@ -7,20 +7,10 @@ use Rattle.g_plain.specs.declared.faults.StoreFault.{StoreFault}
 use Rattle.g_plain.specs.declared.faults.StoreFault.TheVariants as store
 use Rattle.g_incr.specs.Layout.{Dump}
 use Rattle.g_state.specs.Meaning.{DumpedDirectory, files_in}
-use Rattle.g_online.specs.declared.fault.OnlineFault.{OnlineFault}
-use Rattle.g_online.specs.declared.fault.OnlineFault.TheVariants as online
 use Rattle.g_restore.specs.declared.directory.Dumped.{Dumped}
 use Rattle.g_tape.specs.Reel.{Reel}
 use Rattle.g_restore.specs.Lost.{HasPlace}
 use Rattle.g_restore.specs.Reels.{AreOnReels}
-
--- what a refusal of the online filestore is to the store
-abbrev pub by_online : OnlineFault → StoreFault
-by_online (online.DiscFull need room) = store.DiscFull need room
-by_online online.ReadFault = store.DiscReadFault
-by_online online.Stopped = store.Stopped
-by_online online.NoFilestore = store.NoFilestore
-by_online online.NoMemory = store.NoMemory
 
 -- the refusals that come of what the dumps hold
 abbrev pub IsOfDumps : StoreFault → Type 0

@@ -15,13 +15,13 @@ ghost use Rattle.g_online.specs.Begun.{AsBeforeOr, HasMade, first_contents};
 ghost use Rattle.g_restore.specs.Reels.{AreOnReels};
 ghost use Rattle.g_restore.specs.Lost.{LostIsNamed};
 ghost use Rattle.g_restore.specs.Restored.{IsOfDisc, IsOfReels, IsRestored, KeepsBelonging, NothingIsLost, answer_of};
-ghost use Rattle.g_restore.specs.Steps.{CanBeMade, IsGiven, by_online, head_of};
+ghost use Rattle.g_restore.specs.Steps.{CanBeMade, IsGiven, head_of};
 
 use crate::directory::{Dumped, fold};
 use crate::dumps::read_rack;
 use g_disc::Disc;
 use g_entry::Head;
-use g_online::{Online, OnlineFault};
+use g_online::Online;
 use g_plain::StoreFault;
 use g_shelf::first_unmounted;
 use g_tape::Tapes;
@@ -146,19 +146,6 @@ fn make<D: Disc>(
     };
     match Online::fresh(alloc, disc, tree, head) {
         Ok(online) => Ok((online, number)),
-        Err((fault, disc)) => Err((disc_refusal(fault), disc)),
-    }
-}
-
-/// What a refusal of the online filestore is to the store.
-fn disc_refusal(fault: OnlineFault) -> StoreFault
-    ensures { result ≡ by_online fault }
-{
-    match fault {
-        OnlineFault::DiscFull { need, room } => StoreFault::DiscFull { need, room },
-        OnlineFault::ReadFault => StoreFault::DiscReadFault,
-        OnlineFault::Stopped => StoreFault::Stopped,
-        OnlineFault::NoFilestore => StoreFault::NoFilestore,
-        OnlineFault::NoMemory => StoreFault::NoMemory,
+        Err((fault, disc)) => Err((fault.into(), disc)),
     }
 }

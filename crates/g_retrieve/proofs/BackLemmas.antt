@@ -19,23 +19,19 @@ use Rattle.g_tree.proofs.PutLemmas.{number_found}
 use Rattle.g_contents.specs.Contents.{File, recs_in}
 use Rattle.g_contents.specs.Facts.{IsTied, OnlineFacts}
 use Rattle.g_online.specs.declared.change.Change.TheVariants.{Bring}
+use Rattle.g_online.specs.Faults.{store_fault_of}
 use Rattle.g_online.specs.declared.fault.OnlineFault.{OnlineFault}
 use Rattle.g_online.specs.declared.fault.OnlineFault.TheVariants as online
 use Rattle.g_online.specs.declared.unjam.Unjam.{Unjam}
 use Rattle.g_online.specs.Allowed.{IsAllowed}
 use Rattle.g_online.specs.Done.{HasChanged, IsApplied, room_for}
 use Rattle.g_state_steps.proofs.WaitingLemmas.{mapped_there}
-use Rattle.g_retrieve.specs.Brought.{HasBroughtBack, HasCopied, HasReadCopy, IsOnTape, IsBrought, IsPutBack, IsTapeRefusal, ReadsTapes, as_brought}
+use Rattle.g_retrieve.specs.Brought.{HasBroughtBack, HasCopied, HasReadCopy, IsOnTape, IsBrought, IsPutBack, IsTapeRefusal, ReadsTapes}
 use Rattle.g_retrieve.specs.Keeps.{HasLostCopy, KeepsDevices}
 use Rattle.g_retrieve.proofs.AllowLemmas.{away_filled, may_bring, rules_here}
 use Rattle.g_state_steps.specs.Unjam.{IsUnjamPlan}
 use Rattle.g_retrieve.proofs.HeldLemmas.{is_lost}
 use Rattle.g_retrieve.proofs.KeepsLemmas.{keeps_done, keeps_same, keeps_stopped}
-
--- THE BYTES PUT BACK, from the answer of the filestore
-abbrev pub with_bytes : Result (Unit {0}) StoreFault → List ℕ → Result (List ℕ) StoreFault
-with_bytes (Ok u) text = Ok text
-with_bytes (Err fault) text = Err fault
 
 -- a disc on which no write failed
 unstopped : (before after : DiscState) (was is : Type 0) → (was → ⊥) → (is → ⊥) → Causes ⊥ was before after → Causes ⊥ is before after
@@ -95,8 +91,8 @@ module _ (number : ℕ) (text : List ℕ) (plan : Unjam) (o new : OnlineFacts) (
             refusals = inr (inr same);
           }
 
-  pub as_put : (answer : Result (Unit {0}) OnlineFault) → IsApplied (Bring number text plan.take) o new answer → IsPutBack number text plan o new (with_bytes (as_brought answer) text)
-  as_put (Ok u) applied = record {
+  pub was_put : (u : Unit {0}) → IsApplied (Bring number text plan.take) o new (Ok u) → IsPutBack number text plan o new (Ok text)
+  was_put u applied = record {
     full = (λ is. absurd (let no : ⊥ = cc in no), λ less. absurd (has_room (Ok u) applied (λ is. let no : ⊥ = cc in no) less));
     ok = (refl, applied.ok);
     stopped = λ is. absurd (let no : ⊥ = cc in no);
@@ -106,7 +102,12 @@ module _ (number : ℕ) (text : List ℕ) (plan : Unjam) (o new : OnlineFacts) (
     told = applied.told;
     refusals = tt;
   }
-  as_put (Err online.Stopped) applied = record {
+
+  abbrev NotPut : OnlineFault → Type 0
+  NotPut fault = (let r : Result (Unit {0}) OnlineFault = Err fault in IsApplied (Bring number text plan.take) o new r) → IsPutBack number text plan o new (Err (store_fault_of fault))
+
+  cut_off : NotPut online.Stopped
+  cut_off applied = record {
     full = (λ is. absurd (let no : ⊥ = cc in no), λ less. absurd (has_room (Err online.Stopped) applied (λ is. let no : ⊥ = cc in no) less));
     ok = tt;
     stopped = λ is. applied.stopped refl;
@@ -123,10 +124,15 @@ module _ (number : ℕ) (text : List ℕ) (plan : Unjam) (o new : OnlineFacts) (
     told = applied.told;
     refusals = inl refl;
   }
-  as_put (Err (online.DiscFull wants room)) applied = put_full wants room applied
-  as_put (Err online.ReadFault) applied = put_other online.ReadFault (λ is. let no : ⊥ = cc in no) (λ is. let no : ⊥ = cc in no) applied
-  as_put (Err online.NoFilestore) applied = put_other online.NoFilestore (λ is. let no : ⊥ = cc in no) (λ is. let no : ⊥ = cc in no) applied
-  as_put (Err online.NoMemory) applied = put_other online.NoMemory (λ is. let no : ⊥ = cc in no) (λ is. let no : ⊥ = cc in no) applied
+
+  pub not_put : (fault : OnlineFault) → NotPut fault
+  not_put fault applied = by_only applied.only
+    where
+      by_only : (fault ≡ online.Stopped) ⊎ ((fault ≡ online.NoMemory) ⊎ (fault ≡ online.DiscFull need (room_for (Bring number text plan.take) o)))
+          → IsPutBack number text plan o new (Err (store_fault_of fault))
+      by_only (inl is) = subst NotPut (sym is) cut_off applied
+      by_only (inr (inl is)) = subst NotPut (sym is) (put_other online.NoMemory (λ e. let no : ⊥ = cc in no) (λ e. let no : ⊥ = cc in no)) applied
+      by_only (inr (inr is)) = subst NotPut (sym is) (put_full need (room_for (Bring number text plan.take) o)) applied
 
 -- THE FILE that was looked up
 abbrev IsUsed : List FileRec → ℕ → Type 0

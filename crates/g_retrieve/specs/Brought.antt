@@ -17,8 +17,6 @@ use Rattle.g_incr.specs.declared.fault.ShelfFault.{ShelfFault}
 use Rattle.g_incr.specs.declared.fault.ShelfFault.TheVariants as shelf
 use Rattle.g_shelf.specs.Completed.{AreCompleted}
 use Rattle.g_online.specs.declared.change.Change.TheVariants.{Bring}
-use Rattle.g_online.specs.declared.fault.OnlineFault.{OnlineFault}
-use Rattle.g_online.specs.declared.fault.OnlineFault.TheVariants as online
 use Rattle.g_online.specs.declared.unjam.Unjam.{Unjam}
 use Rattle.g_online.specs.Done.{HasChanged, HasStopped}
 use Rattle.g_state.specs.Meaning.{IsContent}
@@ -61,18 +59,12 @@ pub record HasReadCopy (full : Option Full) (c : TapeCopy) (len : ℕ) (before a
   pub tapes : ReadsTapes before after result
   pub refusals : IfErr result (IsTapeRefusal c)
 
--- what the faults of a reader of tape, and of the filestore, are to a store
+-- what the faults of a reader of tape are to a store that waits for a reel that isn't mounted
 abbrev pub as_read : ℕ → ShelfFault → StoreFault
 as_read serial shelf.NoTape = WaitTape serial
 as_read serial shelf.NotMounted = WaitTape serial
 as_read serial shelf.ReadFault = TapeReadFault
 as_read serial shelf.NoMemory = NoMemory
-
-abbrev pub as_brought : Result (Unit {0}) OnlineFault → Result (Unit {0}) StoreFault
-as_brought (Ok u) = Ok u
-as_brought (Err online.Stopped) = Err Stopped
-as_brought (Err (online.DiscFull need room)) = Err (DiscFull need room)
-as_brought (Err fault) = Err NoMemory
 
 -- BYTES PUT BACK on the disc, by a plan of what is taken off it for them: refused just where they need more than the plan's room
 pub record IsPutBack (number : ℕ) (text : List ℕ) (plan : Unjam) (old new : OnlineFacts) (result : Result (List ℕ) StoreFault) : Type 0 where

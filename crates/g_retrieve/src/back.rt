@@ -11,7 +11,7 @@ ghost use Rattle.g_contents.specs.Contents.{File};
 ghost use Rattle.g_contents.specs.Facts.{IsTied};
 ghost use Rattle.g_online.specs.Allowed.{IsAllowed};
 ghost use Rattle.g_state_steps.specs.Unjam.{IsUnjamPlan};
-ghost use Rattle.g_retrieve.specs.Brought.{HasBroughtBack, HasReadCopy, IsOnTape, IsPutBack, as_read, as_brought};
+ghost use Rattle.g_retrieve.specs.Brought.{HasBroughtBack, HasReadCopy, IsOnTape, IsPutBack, as_read};
 ghost use Rattle.g_retrieve.specs.Keeps.{HasLostCopy, KeepsDevices};
 
 use crate::bytes::tape_bytes;
@@ -19,7 +19,7 @@ use g_disc::Disc;
 use g_entry::{FileRec, TapeCopy};
 use g_incr::ShelfFault;
 use g_name::Text;
-use g_online::{Change, Online, OnlineFault, Unjam};
+use g_online::{Change, Online, Unjam};
 use g_plain::StoreFault;
 use g_tape::Tapes;
 use g_tree::Tree;
@@ -76,7 +76,7 @@ pub fn bring_back<D: Disc, T: Tapes>(
 }
 
 /// The record of a file that is there.
-fn file_of(tree: &Tree, number: u16) -> FileRec
+pub fn file_of(tree: &Tree, number: u16) -> FileRec
     requires { (r : FileRec) × Contains tree.now.files r × (r.number ≡ number) }
     ensures value { (r : FileRec) → Contains tree.now.files r → r.number ≡ number → result ≡ r }
     ensures records { IsRecords tree.now.users tree.now.files }
@@ -87,8 +87,9 @@ fn file_of(tree: &Tree, number: u16) -> FileRec
     }
 }
 
-/// The bytes of a file's copy, or why they aren't to be had.
-fn read_copy<T: Tapes>(
+/// The bytes of a file's copy on tape. `WaitTape`: its reel isn't mounted. `TapeReadFault`: a read of it failed. `NoCopy`: the
+/// completed dumps of the reel don't hold the copy's place. `NoMemory`. The reel is as it was.
+pub fn read_copy<T: Tapes>(
     alloc: Global,
     tapes: &mut T,
     tree: &Tree,
@@ -128,8 +129,7 @@ fn read_fault(fault: ShelfFault, serial: u32) -> StoreFault
 {
     match fault {
         ShelfFault::NoTape | ShelfFault::NotMounted => StoreFault::WaitTape(serial),
-        ShelfFault::ReadFault => StoreFault::TapeReadFault,
-        ShelfFault::NoMemory => StoreFault::NoMemory,
+        fault => fault.into(),
     }
 }
 
@@ -148,20 +148,8 @@ fn put_back<D: Disc>(
 {
     // What is in use fits the disc, so the plan's room is the one without the files that it takes.
     let _room = online.room();
-    match stored(online.bring(alloc, number, &text, &unjam.take)) {
+    match online.bring(alloc, number, &text, &unjam.take) {
         Ok(()) => Ok(text),
-        Err(fault) => Err(fault),
-    }
-}
-
-/// The answer of a store to a change of its filestore.
-fn stored(answer: Result<(), OnlineFault>) -> Result<(), StoreFault>
-    ensures { result ≡ as_brought answer }
-{
-    match answer {
-        Ok(()) => Ok(()),
-        Err(OnlineFault::Stopped) => Err(StoreFault::Stopped),
-        Err(OnlineFault::DiscFull { need, room }) => Err(StoreFault::DiscFull { need, room }),
-        Err(_) => Err(StoreFault::NoMemory),
+        Err(fault) => Err(fault.into()),
     }
 }

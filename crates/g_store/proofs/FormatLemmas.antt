@@ -20,6 +20,7 @@ use Rattle.g_contents.specs.Facts.{IsTied, OnlineFacts}
 use Rattle.g_incr.specs.Layout.{Dump}
 use Rattle.g_shelf.specs.Completed.{AreShelved, all_dumps}
 use Rattle.g_online.specs.Allowed.{KeepsRules, Lies}
+use Rattle.g_online.specs.Faults.{store_fault_of}
 use Rattle.g_online.specs.declared.fault.OnlineFault.{OnlineFault}
 use Rattle.g_online.specs.declared.fault.OnlineFault.TheVariants as online
 use Rattle.g_online.specs.Begun.{AsBeforeOr, HasMade, HoldsAsBefore, first_contents, first_file}
@@ -31,7 +32,7 @@ use Rattle.g_state.specs.Belong.{Belong, BelongWith, DiscBelongs}
 use Rattle.g_state.specs.Meaning.{told_reels}
 use Rattle.g_state.specs.Reading.{AllTold, DevicesStandFor, HasText, IsView, StandsForState, View, holding_of, names_of, places_of, state_down, state_up, tree_by}
 use Rattle.g_state.proofs.ChangeLemmas.{format_belongs}
-use Rattle.g_store.specs.Making.{Formats, IsNew, LeadsDown, Refuses, RefusesFormat, StepsDown, made_fault, new_holding}
+use Rattle.g_store.specs.Making.{Formats, IsNew, LeadsDown, Refuses, RefusesFormat, StepsDown, new_holding}
 use Rattle.g_store.specs.Refusing.{first_used}
 use Rattle.g_store.proofs.EmptyLemmas.{all_blank, blank_shelf, first_row, no_dump_at_all}
 use Rattle.g_store.proofs.MakeLemmas.{Stood, before_belongs, before_stands, belongs_made, down_again, moved, new_belongs, new_down, new_stands, stands_up, stood, store_made, store_of, told_then, unkept, up_is}
@@ -295,7 +296,7 @@ module _ (disc : DiscState) (users : List UserRec) (files : List FileRec) (none 
   made = first_contents (is_some disc.held) first_head users files
 
   abbrev Says : OnlineFault → Type 0
-  Says fault = HasRefused made disc now fault → RefusesFormat disc rack (made_fault fault) now rack
+  Says fault = HasRefused made disc now fault → RefusesFormat disc rack (store_fault_of fault) now rack
 
   unread_said : Says online.ReadFault
   unread_said said =
@@ -338,7 +339,7 @@ module _ (disc : DiscState) (users : List UserRec) (files : List FileRec) (none 
   pub format_refused : (fault : OnlineFault) → Says fault
   format_refused fault said = by_case said.only
     where
-      by_case : (fault ≡ online.ReadFault) ⊎ ((fault ≡ online.Stopped) ⊎ (fault ≡ online.NoMemory)) → RefusesFormat disc rack (made_fault fault) now rack
+      by_case : (fault ≡ online.ReadFault) ⊎ ((fault ≡ online.Stopped) ⊎ (fault ≡ online.NoMemory)) → RefusesFormat disc rack (store_fault_of fault) now rack
       by_case (inl is) = subst Says (sym is) unread_said said
       by_case (inr (inl is)) = subst Says (sym is) stop_said said
       by_case (inr (inr is)) = subst Says (sym is) memory_said said

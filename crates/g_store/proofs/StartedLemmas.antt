@@ -17,6 +17,7 @@ use Rattle.g_plain.specs.PlainStep.{first_fault}
 use Rattle.g_contents.specs.Contents.{Contents, Holds, recs_in}
 use Rattle.g_contents.specs.Facts.{IsTied, OnlineFacts}
 use Rattle.g_contents.proofs.HoldLemmas.{holds_one}
+use Rattle.g_online.specs.Faults.{store_fault_of}
 use Rattle.g_online.specs.declared.fault.OnlineFault.{OnlineFault}
 use Rattle.g_online.specs.declared.fault.OnlineFault.TheVariants as online
 use Rattle.g_online.specs.Begun.{HasLoaded, IsBegun}
@@ -35,7 +36,7 @@ use Rattle.g_state.specs.Reading.{AllTold, DevicesStandFor, IsView, StandsForSta
 use Rattle.g_state.proofs.ViewLemmas.{reads_keep_state}
 use Rattle.g_state_laws.proofs.StateLemmas.{is_view}
 use Rattle.g_dumper.proofs.ShelfLemmas.{told_is}
-use Rattle.g_store.specs.Making.{Begun, LeadsDown, Refuses, RefusesStart, StepsDown, made_fault}
+use Rattle.g_store.specs.Making.{Begun, LeadsDown, Refuses, RefusesStart, StepsDown}
 use Rattle.g_store.specs.Starting.{HasNamed, IsIntent, NamesNone, TakesOver, adoption, copies_named}
 use Rattle.g_store.proofs.AdoptLemmas.{adopt_then}
 use Rattle.g_store.proofs.MakeLemmas.{belongs_made, down_again, moved, stands_up, store_made, store_of, unkept, up_is}
@@ -94,7 +95,7 @@ module _ (disc : DiscState) (rack : Rack) where
   module _ (now : DiscState) where
     abbrev Refused : OnlineFault → Type 0
     Refused fault = ReadsByCause (fault ≡ online.ReadFault) disc now → (fault ≡ online.NoFilestore → ForSome disc.held (λ blocks. (c : Contents) → Holds blocks c → ⊥))
-        → RefusesStart disc rack (made_fault fault) now rack
+        → RefusesStart disc rack (store_fault_of fault) now rack
 
     by_reads : (fault : StoreFault) (read : Type 0) → (fault ≡ DiscReadFault → read) → (read → fault ≡ DiscReadFault) → fault ≢ Stopped → ReadsByCause read disc now
         → Causes (fault ≡ DiscReadFault) (fault ≡ Stopped) disc now

@@ -1,5 +1,5 @@
 -- The dump of the intent is taken over, or isn't.
-use Rattle.std.proofs.Common.{◌≡◌, ◌≢◌, ℕ, ◌^◌, ◌<◌, true, false, List, Option, Some, None, Result, Ok, Err, refl, sym, ap, subst, inl, inr}
+use Rattle.std.proofs.Common.{◌≡◌, ◌≢◌, ℕ, ◌^◌, ◌<◌, true, false, List, Option, Some, None, Result, Ok, Err, refl, sym, ◌∙◌, ap, subst, inl, inr}
 use Rattle.std.specs.Prelude.{◌⊎◌, Bool, IfSome, if◌then◌else◌}
 use Rattle.g_base.specs.Counts.{Rose}
 use Rattle.g_disc.specs.Disc.{Causes, DiscState}
@@ -20,9 +20,11 @@ use Rattle.g_online.specs.Done.{IsApplied, room_for}
 use Rattle.g_online.specs.Change.{need_of}
 use Rattle.g_incr.specs.declared.fault.ShelfFault.{ShelfFault}
 use Rattle.g_incr.specs.declared.fault.ShelfFault.TheVariants as shelf
+use Rattle.g_incr.specs.Faults.{store_fault}
 use Rattle.g_incr.specs.Reading.{ReadsReel}
-use Rattle.g_store.specs.Making.{made_fault}
-use Rattle.g_store.specs.Starting.{Adopts, HasNamed, NamesNone, Takes, TakesOver, adoption, read_refusal}
+use Rattle.g_store.specs.Starting.{Adopts, HasNamed, NamesNone, Takes, TakesOver, adoption}
+use Rattle.g_shelf.proofs.LastLemmas.{only_these}
+use Rattle.g_shelf.proofs.ReadLemmas.{refuses_after_reads}
 use Rattle.g_store.proofs.AdoptLemmas.{rules_here}
 
 -- NOTHING HAS CHANGED but that reels were read
@@ -162,10 +164,7 @@ module _ (o : OnlineFacts) (number : ℕ) (dumped : List FileRec) (new : OnlineF
     only = tt;
   }
 
-  abbrev Refused : OnlineFault → Type 0
-  Refused fault = IsApplied (adoption number dumped o) o new (Err fault) → Adopts number dumped o (Err (made_fault fault)) new
-
-  cut_adopting : Refused online.Stopped
+  pub cut_adopting : (let r : Result (Unit {0}) OnlineFault = Err online.Stopped in IsApplied (adoption number dumped o) o new r) → Adopts number dumped o (Err Stopped) new
   cut_adopting done = record {
     ok = tt;
     stopped = λ e. done.stopped refl;
@@ -183,20 +182,11 @@ module _ (o : OnlineFacts) (number : ℕ) (dumped : List FileRec) (new : OnlineF
     only = inl refl;
   }
 
-  same_adopting : (fault : OnlineFault) → fault ≢ online.Stopped → IsApplied (adoption number dumped o) o new (Err fault) → Adopts number dumped o (Err NoMemory) new
+  -- what isn't a stop is a want of memory, since there is always room for an adoption
+  pub same_adopting : (fault : OnlineFault) → fault ≢ online.Stopped → IsApplied (adoption number dumped o) o new (Err fault) → Adopts number dumped o (Err NoMemory) new
   same_adopting fault other done =
       let same : new ≡ o = done.same other in
       subst (λ (x : OnlineFacts). Adopts number dumped o (Err NoMemory) x) (sym same) (none_adopted o number dumped (subst IsTied same done.tied))
-
-  pub not_adopted : (fault : OnlineFault) → Refused fault
-  not_adopted fault done = by_case done.only
-    where
-      by_case : (fault ≡ online.Stopped) ⊎ ((fault ≡ online.NoMemory) ⊎ (fault ≡ online.DiscFull (need_of (adoption number dumped o)) (room_for (adoption number dumped o) o)))
-          → Adopts number dumped o (Err (made_fault fault)) new
-      by_case (inl is) = subst Refused (sym is) cut_adopting done
-      by_case (inr (inl is)) = subst Refused (sym is) (same_adopting online.NoMemory (λ e. let no : ⊥ = cc in no)) done
-      by_case (inr (inr is)) =
-          subst Refused (sym is) (same_adopting (online.DiscFull (need_of (adoption number dumped o)) (room_for (adoption number dumped o) o)) (λ e. let no : ⊥ = cc in no)) done
 
 -- the number of an intent may be a dump's
 pub number_low : (o : OnlineFacts) (i : Intent) → o.live ≡ true → IsTied o → o.contents.head.intent ≡ Some i → i.number < 2 ^ 62
@@ -207,8 +197,18 @@ up_by : (o : Option Reel) → is_mounted o ≡ true → refuses_unmount o ≡ No
 up_by None up = let no : ⊥ = cc in absurd no
 up_by (Some r) up = ap (λ (b : Bool). if b then None else Some tape.NotMounted) up
 
+-- also where it was read before
+pub fault_then : {A : Type 0} (serial : ℕ) (fault : ShelfFault) (old mid new : Rack) → is_mounted (reel serial old.reels) ≡ true → OnlyReads old mid → ReadsReel {A = A} serial (Err fault) mid new
+    → (store_fault fault ≡ TapeReadFault) ⊎ (store_fault fault ≡ NoMemory)
+fault_then serial fault old mid new mounted only reads =
+    by_fault (only_these serial fault mid new (refuses_after_reads serial old mid only ∙ up_by (reel serial old.reels) mounted) reads)
+  where
+    by_fault : (fault ≡ shelf.ReadFault) ⊎ (fault ≡ shelf.NoMemory) → (store_fault fault ≡ TapeReadFault) ⊎ (store_fault fault ≡ NoMemory)
+    by_fault (inl is) = inl (ap store_fault is)
+    by_fault (inr is) = inr (ap store_fault is)
+
 module _ {A : Type 0} (serial : ℕ) (old new : Rack) (mounted : is_mounted (reel serial old.reels) ≡ true) where
-  pub fault_is : (fault : ShelfFault) → ReadsReel {A = A} serial (Err fault) old new → (read_refusal fault ≡ TapeReadFault) ⊎ (read_refusal fault ≡ NoMemory)
+  pub fault_is : (fault : ShelfFault) → ReadsReel {A = A} serial (Err fault) old new → (store_fault fault ≡ TapeReadFault) ⊎ (store_fault fault ≡ NoMemory)
   fault_is shelf.NoTape reads = let e = (reads.no_tape).0 refl in let f = up_by (reel serial old.reels) mounted in let no : ⊥ = cc in absurd no
   fault_is shelf.NotMounted reads = let e = (reads.not_mounted).0 refl in let f = up_by (reel serial old.reels) mounted in let no : ⊥ = cc in absurd no
   fault_is shelf.ReadFault reads = inl refl

@@ -26,7 +26,7 @@ use Rattle.g_state.specs.Up.{DumpFacts, IsOpen, IsUp, StoreFacts, with_dump}
 use Rattle.g_state_laws.proofs.DumpingLemmas.{events_stay_up}
 use Rattle.g_state_steps.specs.Rooms.{held_in}
 use Rattle.g_migrate.proofs.KeepsLemmas.{devices_belong}
-use Rattle.g_store.specs.Refusing.{DoneOr, is_on, mount_answer, mount_refuses, unmount_answer, unmount_refuses}
+use Rattle.g_store.specs.Refusing.{DoneOr, is_on, mount_refuses, rack_answer, unmount_refuses}
 use Rattle.g_store.specs.Events.{AnswersEvent, LeadsBy, Mounts, Unmounts}
 use Rattle.g_store.proofs.EventLemmas.{held_by, leads_same, none_written, refused}
 use Rattle.g_store.proofs.MountLemmas.{dumps_stay, lacks_by, mounted_by, other_reel, rows_turned, same_reel, serials_stay, shelved_turned, told_after, told_before, told_turned, turned}
@@ -306,16 +306,22 @@ refused_mount : (r : Option Reel) (fault : TapeFault) → refuses_mount r ≡ So
 refused_mount None fault is = refl
 refused_mount (Some r) fault is = absurd (none-some fault is)
 
-mount_by : (s : ℕ) (t : StoreFacts) (rack : Rack) (r : Result (Unit {0}) TapeFault) → Mounting refuses_mount true s t.rack r rack
-    → DoneOr (mount_refuses s t) (after s true t) t (mount_answer r) (record t { rack = rack })
-mount_by s t rack (Ok u) (free, is) = (free_mount (reel s t.rack.reels) free, ap (λ (k : Rack). record t { rack = k }) is)
-mount_by s t rack (Err fault) (refusal, is) = (refused_mount (reel s t.rack.reels) fault refusal, ap (λ (k : Rack). record t { rack = k }) is)
+answers_no_tape : (r : Option Reel) (fault : TapeFault) → refuses_mount r ≡ Some fault → rack_answer (Err fault) ≡ Err NoTape
+answers_no_tape None fault is = subst (λ (f : TapeFault). rack_answer (Err f) ≡ Err NoTape) (same_Some tape.NoTape fault is) refl
+answers_no_tape (Some r) fault is = absurd (none-some fault is)
 
-pub rack_mounts : (s : ℕ) (old t : StoreFacts) (rack : Rack) (r : Result (Unit {0}) TapeFault) (answer : Result (Unit {0}) StoreFault) → answer ≡ mount_answer r → t ≡ old → old.spent ≡ false → IsStore t
+mount_by : (s : ℕ) (t : StoreFacts) (rack : Rack) (r : Result (Unit {0}) TapeFault) → Mounting refuses_mount true s t.rack r rack
+    → DoneOr (mount_refuses s t) (after s true t) t (rack_answer r) (record t { rack = rack })
+mount_by s t rack (Ok u) (free, is) = (free_mount (reel s t.rack.reels) free, ap (λ (k : Rack). record t { rack = k }) is)
+mount_by s t rack (Err fault) (refusal, is) =
+    subst (λ (a : Result (Unit {0}) StoreFault). DoneOr (mount_refuses s t) (after s true t) t a (record t { rack = rack })) (sym (answers_no_tape (reel s t.rack.reels) fault refusal))
+    (refused_mount (reel s t.rack.reels) fault refusal, ap (λ (k : Rack). record t { rack = k }) is)
+
+pub rack_mounts : (s : ℕ) (old t : StoreFacts) (rack : Rack) (r : Result (Unit {0}) TapeFault) (answer : Result (Unit {0}) StoreFault) → answer ≡ rack_answer r → t ≡ old → old.spent ≡ false → IsStore t
     → Mounting refuses_mount true s t.rack r rack → Mounts s old answer (record t { rack = rack })
 rack_mounts s old t rack r answer so at unspent keeps is =
     subst (λ (x : StoreFacts). Mounts s x answer (record t { rack = rack })) at
-    (subst (λ (a : Result (Unit {0}) StoreFault). Mounts s t a (record t { rack = rack })) (sym so) (mounts s t (record t { rack = rack }) (mount_answer r) (ap (λ (x : StoreFacts). x.spent) at ∙ unspent) keeps (mount_by s t rack r is)))
+    (subst (λ (a : Result (Unit {0}) StoreFault). Mounts s t a (record t { rack = rack })) (sym so) (mounts s t (record t { rack = rack }) (rack_answer r) (ap (λ (x : StoreFacts). x.spent) at ∙ unspent) keeps (mount_by s t rack r is)))
 
 abbrev busy_on : ℕ → StoreFacts → Bool
 busy_on s t = is_on s t.dump && is_mounted (reel s t.rack.reels)
@@ -342,28 +348,28 @@ free_unmount (Some r) on off is = by_parts on r.mounted off is
     by_parts false true off free = refl
 
 refused_unmount : (r : Option Reel) (on : Bool) (fault : TapeFault) → refuses_unmount r ≡ Some fault
-    → (x : StoreFault) × (first_fault ((is_none r, NoTape) ∷ (not (is_mounted r), NotMounted) ∷ (on, TapeBusy) ∷ []) ≡ Some x) × (unmount_answer (Err fault) ≡ Err x)
-refused_unmount None on fault is = (NoTape, refl, subst (λ (f : TapeFault). unmount_answer (Err f) ≡ Err NoTape) (same_Some tape.NoTape fault is) refl)
+    → (x : StoreFault) × (first_fault ((is_none r, NoTape) ∷ (not (is_mounted r), NotMounted) ∷ (on, TapeBusy) ∷ []) ≡ Some x) × (rack_answer (Err fault) ≡ Err x)
+refused_unmount None on fault is = (NoTape, refl, subst (λ (f : TapeFault). rack_answer (Err f) ≡ Err NoTape) (same_Some tape.NoTape fault is) refl)
 refused_unmount (Some r) on fault is = by_parts r.mounted is
   where
     by_parts : (is : Bool) → (if is then None else Some tape.NotMounted) ≡ Some fault
-        → (x : StoreFault) × (first_fault ((false, NoTape) ∷ (not is, NotMounted) ∷ (on, TapeBusy) ∷ []) ≡ Some x) × (unmount_answer (Err fault) ≡ Err x)
+        → (x : StoreFault) × (first_fault ((false, NoTape) ∷ (not is, NotMounted) ∷ (on, TapeBusy) ∷ []) ≡ Some x) × (rack_answer (Err fault) ≡ Err x)
     by_parts true is = absurd (none-some fault is)
-    by_parts false is = (NotMounted, refl, subst (λ (f : TapeFault). unmount_answer (Err f) ≡ Err NotMounted) (same_Some tape.NotMounted fault is) refl)
+    by_parts false is = (NotMounted, refl, subst (λ (f : TapeFault). rack_answer (Err f) ≡ Err NotMounted) (same_Some tape.NotMounted fault is) refl)
 
 unmount_by : (s : ℕ) (t : StoreFacts) (rack : Rack) (r : Result (Unit {0}) TapeFault) → (is_on s t.dump && is_mounted (reel s t.rack.reels)) ≡ false
-    → Mounting refuses_unmount false s t.rack r rack → DoneOr (unmount_refuses s t) (after s false t) t (unmount_answer r) (record t { rack = rack })
+    → Mounting refuses_unmount false s t.rack r rack → DoneOr (unmount_refuses s t) (after s false t) t (rack_answer r) (record t { rack = rack })
 unmount_by s t rack (Ok u) off (free, is) = (free_unmount (reel s t.rack.reels) (is_on s t.dump) off free, ap (λ (k : Rack). record t { rack = k }) is)
 unmount_by s t rack (Err fault) off (refusal, is) =
     let (x, first, same) = refused_unmount (reel s t.rack.reels) (is_on s t.dump) fault refusal in
     subst (λ (a : Result (Unit {0}) StoreFault). DoneOr (unmount_refuses s t) (after s false t) t a (record t { rack = rack })) (sym same)
     (first, ap (λ (k : Rack). record t { rack = k }) is)
 
-pub rack_unmounts : (s : ℕ) (old t : StoreFacts) (rack : Rack) (r : Result (Unit {0}) TapeFault) (answer : Result (Unit {0}) StoreFault) → answer ≡ unmount_answer r → t ≡ old → old.spent ≡ false → IsStore t
+pub rack_unmounts : (s : ℕ) (old t : StoreFacts) (rack : Rack) (r : Result (Unit {0}) TapeFault) (answer : Result (Unit {0}) StoreFault) → answer ≡ rack_answer r → t ≡ old → old.spent ≡ false → IsStore t
     → busy_on s old ≡ false → Mounting refuses_unmount false s t.rack r rack → Unmounts s old answer (record t { rack = rack })
 rack_unmounts s old t rack r answer so at unspent keeps off is =
     subst (λ (x : StoreFacts). Unmounts s x answer (record t { rack = rack })) at
-    (subst (λ (a : Result (Unit {0}) StoreFault). Unmounts s t a (record t { rack = rack })) (sym so) (unmounts s t (record t { rack = rack }) (unmount_answer r) (ap (λ (x : StoreFacts). x.spent) at ∙ unspent) keeps (unmount_by s t rack r (ap (busy_on s) at ∙ off) is)))
+    (subst (λ (a : Result (Unit {0}) StoreFault). Unmounts s t a (record t { rack = rack })) (sym so) (unmounts s t (record t { rack = rack }) (rack_answer r) (ap (λ (x : StoreFacts). x.spent) at ∙ unspent) keeps (unmount_by s t rack r (ap (busy_on s) at ∙ off) is)))
 
 pub reel_busy : (s : ℕ) (old t : StoreFacts) → t ≡ old → old.spent ≡ false → IsStore t → busy_on s old ≡ true → Unmounts s old (Err TapeBusy) t
 reel_busy s old t at unspent keeps on =

@@ -18,8 +18,6 @@ use Rattle.g_step.specs.Rising.{FormatStep, StartStep, RestoreStep}
 use Rattle.g_contents.specs.Contents.{Contents, Holds, has}
 use Rattle.g_contents.specs.Facts.{OnlineFacts}
 use Rattle.g_online.specs.Begun.{AsBeforeOr, HasLoaded, WroteFirst}
-use Rattle.g_online.specs.declared.fault.OnlineFault.{OnlineFault}
-use Rattle.g_online.specs.declared.fault.OnlineFault.TheVariants as online
 use Rattle.g_restore.specs.Lost.{LostIsNamed}
 use Rattle.g_restore.specs.Reels.{AreOnReels}
 use Rattle.g_restore.specs.Restored.{IsOfDisc, IsOfReels, IsRestored, NothingIsLost}
@@ -76,13 +74,6 @@ pub record Refuses {A : Type 0} (given : Type 0) (by : State → Outcome → Res
   pub told : AllTold disc.held (told_reels rack) → AllTold disc'.held (told_reels rack')
   pub step : AllTold disc.held (told_reels rack) → given → (s : State) → DevicesStandFor disc.size disc.held (told_reels rack) s → StepsDown by s disc rack fault disc' rack'
   pub belongs : AllTold disc.held (told_reels rack) → Belong disc.held rack → Belong disc'.held rack'
-
--- what a refusal of the filestore is to a store that is being made
-abbrev pub made_fault : OnlineFault → StoreFault
-made_fault online.ReadFault = DiscReadFault
-made_fault online.Stopped = Stopped
-made_fault online.NoFilestore = NoFilestore
-made_fault fault = NoMemory
 
 -- what a new filestore holds: two users and no file, no dump and no intent
 abbrev pub new_holding : Holding

@@ -44,15 +44,11 @@ unmount_refuses serial s = first_fault (
     ∷ (is_on serial s.dump, TapeBusy)
     ∷ [])
 
--- what a store answers where its rack has answered so
-abbrev pub mount_answer : Result (Unit {0}) TapeFault → Result (Unit {0}) StoreFault
-mount_answer (Ok u) = Ok u
-mount_answer (Err fault) = Err NoTape
-
-abbrev pub unmount_answer : Result (Unit {0}) TapeFault → Result (Unit {0}) StoreFault
-unmount_answer (Ok u) = Ok u
-unmount_answer (Err tape.NoTape) = Err NoTape
-unmount_answer (Err fault) = Err NotMounted
+-- what a store answers to a mount or an unmount where its rack has answered so
+abbrev pub rack_answer : Result (Unit {0}) TapeFault → Result (Unit {0}) StoreFault
+rack_answer (Ok u) = Ok u
+rack_answer (Err tape.NoTape) = Err NoTape
+rack_answer (Err fault) = Err NotMounted
 
 -- those of an opening that come before the reel is read
 abbrev pub open_refuses : ℕ → StoreFacts → Option StoreFault

@@ -16,8 +16,6 @@ use Rattle.g_contents.specs.Facts.{IsTied, OnlineFacts}
 use Rattle.g_online.specs.declared.change.Change.{Change}
 use Rattle.g_online.specs.declared.change.Change.TheVariants.{Adopt}
 use Rattle.g_online.specs.Done.{HasChanged, HasStopped}
-use Rattle.g_incr.specs.declared.fault.ShelfFault.{ShelfFault}
-use Rattle.g_incr.specs.declared.fault.ShelfFault.TheVariants.{ReadFault}
 use Rattle.g_incr.specs.declared.note.DumpNote.{DumpNote}
 use Rattle.g_incr.specs.Layout.{Dump, IsDump}
 use Rattle.g_shelf.specs.Completed.{AreCompleted}
@@ -43,11 +41,6 @@ pub record HasNamed (i : Intent) (rack : Rack) (files : List FileRec) : Type 0 w
 -- no completed dump is the one that it names
 abbrev pub NamesNone : Intent → Rack → Type 0
 NamesNone i rack = ForSome (blocks_of i.serial rack) (λ blocks. (dumps : List Dump) → AreCompleted i.serial blocks dumps → (d : Dump) → IsNamed i dumps d → ⊥)
-
--- what a refusal of a reader of tape is, where the reel is mounted
-abbrev pub read_refusal : ShelfFault → StoreFault
-read_refusal ReadFault = TapeReadFault
-read_refusal fault = NoMemory
 
 -- The copies that a dump's records name, without those of the stamps that empty files have: an empty file has none on tape.
 abbrev pub has_empty : List FileRec → ℕ → Bool

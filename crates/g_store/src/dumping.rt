@@ -8,13 +8,10 @@ ghost use Rattle.g_store.specs.Refusing.{open_refuses};
 
 use crate::store::Store;
 use g_disc::Disc;
-use g_dumper::{Dump, DumpStep};
+use g_dumper::{Dump, DumpStep, LAST_NUMBER};
 use g_plain::StoreFault;
 use g_tape::Tapes;
 use std::alloc::Global;
-
-/// The greatest number that a dump may have.
-const LAST_NUMBER: u64 = 4_611_686_018_427_387_903;
 
 impl<D: Disc, T: Tapes> Store<D, T> {
     /// Opens a dump on the reel, behind its completed dumps, and answers its number (docs/DEFINITIONS.md). `NoTape`,

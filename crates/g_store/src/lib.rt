@@ -13,5 +13,6 @@ mod store;
 
 pub use laws::making_is_complete;
 pub use making::{Refused, format, restore};
+pub use mounting::rack_answer;
 pub use starting::start;
 pub use store::Store;

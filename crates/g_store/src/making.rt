@@ -1,13 +1,13 @@
 //! A store is made of a disc and a rack of reels.
 ghost use Rattle.std.specs.Prelude.{◌≡◌, ◌<◌, ◌≤◌, IfErr, IfOk};
-ghost use Rattle.g_store.specs.Making.{Formats, RefusesFormat, RefusesRestore, Restored, made_fault};
+ghost use Rattle.g_store.specs.Making.{Formats, RefusesFormat, RefusesRestore, Restored};
 ghost use Rattle.g_tape.specs.Rack.{reel};
 ghost use Rattle.g_store.specs.Refusing.{first_used, is_used};
 
 use crate::store::Store;
 use g_disc::Disc;
 use g_entry::Head;
-use g_online::{Online, OnlineFault};
+use g_online::Online;
 use g_plain::StoreFault;
 use g_restore::rebuild;
 use g_tape::Tapes;
@@ -72,7 +72,7 @@ pub fn format<D: Disc, T: Tapes>(
             spent: false,
         }),
         Err((fault, disc)) => Err(Refused {
-            fault: refusal(fault),
+            fault: fault.into(),
             disc,
             tapes,
         }),
@@ -133,18 +133,5 @@ fn has_block<T: Tapes>(tapes: &T, serial: u32) -> bool
     match tapes.length(serial) {
         Ok(len) => 0 < len,
         Err(_) => false,
-    }
-}
-
-/// What a refusal of the filestore is to a store that is being made.
-pub(crate) fn refusal(fault: OnlineFault) -> StoreFault
-    ensures { result ≡ made_fault fault }
-{
-    match fault {
-        OnlineFault::ReadFault => StoreFault::DiscReadFault,
-        OnlineFault::Stopped => StoreFault::Stopped,
-        OnlineFault::NoFilestore => StoreFault::NoFilestore,
-        OnlineFault::DiscFull { .. } => StoreFault::NoMemory,
-        OnlineFault::NoMemory => StoreFault::NoMemory,
     }
 }

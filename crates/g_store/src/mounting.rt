@@ -2,7 +2,7 @@
 ghost use Rattle.std.specs.Prelude.{◌≡◌, ◌&&◌, false};
 ghost use Rattle.g_tape.specs.Rack.{is_mounted, reel};
 ghost use Rattle.g_store.specs.Events.{Mounts, Unmounts};
-ghost use Rattle.g_store.specs.Refusing.{is_on, mount_answer, unmount_answer};
+ghost use Rattle.g_store.specs.Refusing.{is_on, rack_answer};
 
 use crate::store::Store;
 use g_disc::Disc;
@@ -17,7 +17,7 @@ impl<D: Disc, T: Tapes> Store<D, T> {
         ensures { Mounts serial self.old result self.new }
     {
         let answer = self.tapes.mount(serial);
-        mounted(answer)
+        rack_answer(answer)
     }
 
     /// Unmounts the reel. `NoTape`: it isn't in the rack. `NotMounted`. `TapeBusy`: the open dump is on it. No block is read or
@@ -30,7 +30,7 @@ impl<D: Disc, T: Tapes> Store<D, T> {
             return Err(StoreFault::TapeBusy);
         }
         let answer = self.tapes.unmount(serial);
-        unmounted(answer)
+        rack_answer(answer)
     }
 
     /// Whether the open dump is on this reel, and the reel is mounted.
@@ -44,19 +44,9 @@ impl<D: Disc, T: Tapes> Store<D, T> {
     }
 }
 
-/// The answer to a mount, where the rack has answered so.
-fn mounted(answer: Result<(), TapeFault>) -> Result<(), StoreFault>
-    ensures { result ≡ mount_answer answer }
-{
-    match answer {
-        Ok(()) => Ok(()),
-        Err(_) => Err(StoreFault::NoTape),
-    }
-}
-
-/// The answer to an unmount.
-fn unmounted(answer: Result<(), TapeFault>) -> Result<(), StoreFault>
-    ensures { result ≡ unmount_answer answer }
+/// What a store answers to a mount or an unmount, where its rack has answered so: `NoTape`, `NotMounted`.
+pub fn rack_answer(answer: Result<(), TapeFault>) -> Result<(), StoreFault>
+    ensures { result ≡ rack_answer answer }
 {
     match answer {
         Ok(()) => Ok(()),

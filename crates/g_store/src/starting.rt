@@ -7,15 +7,15 @@ ghost use Rattle.g_tape.specs.Rack.{is_mounted, reel};
 ghost use Rattle.g_tape.specs.Reads.{OnlyReads};
 ghost use Rattle.g_contents.specs.Facts.{IsTied};
 ghost use Rattle.g_store.specs.Making.{Begun, RefusesStart};
-ghost use Rattle.g_store.specs.Starting.{Adopts, HasNamed, NamesNone, TakesOver, copies_named, copy_named, has_empty, names, read_refusal};
+ghost use Rattle.g_store.specs.Starting.{Adopts, HasNamed, NamesNone, TakesOver, copies_named, copy_named, has_empty, names};
 
-use crate::making::{Refused, refusal};
+use crate::making::Refused;
 use crate::store::Store;
 use g_base::NoMemory;
 use g_disc::Disc;
 use g_entry::{FileRec, Intent, TapeCopy};
-use g_incr::{DumpDir, DumpNote, ShelfFault, read_dump};
-use g_online::{CopyList, Online};
+use g_incr::{DumpDir, DumpNote, read_dump};
+use g_online::{CopyList, Online, OnlineFault};
 use g_plain::StoreFault;
 use g_shelf::completed;
 use g_tape::Tapes;
@@ -43,7 +43,7 @@ pub fn start<D: Disc, T: Tapes>(
         Ok(online) => online,
         Err((fault, disc)) => {
             return Err(Refused {
-                fault: refusal(fault),
+                fault: fault.into(),
                 disc,
                 tapes,
             });
@@ -112,14 +112,14 @@ fn find_named<T: Tapes>(
 {
     let notes = match completed(alloc, tapes, intent.serial) {
         Ok(notes) => notes,
-        Err(fault) => return Err(read_refusal(fault)),
+        Err(fault) => return Err(fault.into()),
     };
     if !has_named(notes.as_slice(), intent) {
         return Ok(None);
     }
     match read_dump(alloc, tapes, intent.serial, intent.place) {
         Ok(found) => Ok(found),
-        Err(fault) => Err(read_refusal(fault)),
+        Err(fault) => Err(fault.into()),
     }
 }
 
@@ -128,16 +128,6 @@ fn has_named(notes: &[DumpNote], intent: &Intent) -> bool
     ensures { result ≡ list_any (names intent.now) notes.now }
 {
     notes.iter().any(|note| note.place == intent.place && note.number == intent.number)
-}
-
-/// What a refusal of a reader of tape is, where the reel is mounted.
-fn read_refusal(fault: ShelfFault) -> StoreFault
-    ensures { result ≡ read_refusal fault }
-{
-    match fault {
-        ShelfFault::ReadFault => StoreFault::TapeReadFault,
-        _ => StoreFault::NoMemory,
-    }
 }
 
 /// Adopts the dump of this number and of these files, by one commit: `Stopped`, `NoMemory`.
@@ -160,7 +150,8 @@ fn adopt<D: Disc>(
     };
     match online.adopt(alloc, number, &copies) {
         Ok(()) => Ok(()),
-        Err(fault) => Err(refusal(fault)),
+        Err(OnlineFault::Stopped) => Err(StoreFault::Stopped),
+        Err(_) => Err(StoreFault::NoMemory),
     }
 }
 

@@ -15,7 +15,6 @@ use Rattle.g_entry.specs.UserFields.{IsUser}
 use Rattle.g_name.specs.Grammar.{is_word}
 use Rattle.g_plain.specs.declared.calls.StoreCall.TheVariants.{NewUser}
 use Rattle.g_plain.specs.declared.calls.StoreReply.TheVariants.{Done}
-use Rattle.g_plain.specs.declared.faults.StoreFault.{StoreFault}
 use Rattle.g_plain.specs.declared.faults.StoreFault.TheVariants.{NoUser}
 use Rattle.g_plain.specs.PlainStep.{checks}
 use Rattle.g_plain.specs.PlainTree.{Tree, UserRow, has_user}
@@ -43,7 +42,7 @@ use Rattle.g_store_calls.specs.Made.{IsNewUser}
 use Rattle.g_store_calls.specs.Replies.{RefusesAs}
 use Rattle.g_store_calls.proofs.MarkLemmas.{has_first, only_grow}
 use Rattle.g_store_calls.proofs.RecordLemmas.{IsRecorded}
-use Rattle.g_store_calls.proofs.TellLemmas.{AreOff, granted_off, not_not, refuses_of, user_any}
+use Rattle.g_store_calls.proofs.TellLemmas.{AreOff, granted_off, not_not, user_any}
 use Rattle.g_online.proofs.UserLemmas.{slice_get-push}
 
 slice_last : {X : Type 0} (xs : List X) (x : X) → slice_get (xs ++ x ∷ []) (length xs) ≡ Some x
@@ -224,11 +223,3 @@ pub new_user_on : (o : OnlineFacts) (us : List UserRec) (fs : List FileRec) (who
     → IsNewUser us fs who user space time money u → IsNewUser o.contents.users (recs_in o.contents) who user space time money u
 new_user_on o us fs who user space time money u users files is =
     subst (λ (rs : List FileRec). IsNewUser o.contents.users rs who user space time money u) files (subst (λ (x : List UserRec). IsNewUser x fs who user space time money u) users is)
-
--- as it was asked for this call
-pub add_asked : (o : OnlineFacts) (us : List UserRec) (fs : List FileRec) (next : ℕ) (who user copied : List ℕ) (space time money : ℕ) (x : Option StoreFault) → us ≡ o.contents.users
-    → fs ≡ recs_in o.contents → next ≡ o.contents.head.next_stamp → copied ≡ user → RefusesAs us fs next who (NewUser copied space time money) x
-    → RefusesAs o.contents.users (recs_in o.contents) o.contents.head.next_stamp who (NewUser user space time money) x
-add_asked o us fs next who user copied space time money x users files stamp same is =
-    subst (λ (n : List ℕ). RefusesAs o.contents.users (recs_in o.contents) o.contents.head.next_stamp who (NewUser n space time money) x) same
-    (refuses_of o us fs next who (NewUser copied space time money) x users files stamp is)

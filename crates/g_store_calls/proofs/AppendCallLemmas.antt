@@ -16,9 +16,9 @@ use Rattle.g_plain.specs.declared.calls.StoreReply.TheVariants.{Appended}
 use Rattle.g_plain.specs.declared.faults.StoreFault.{StoreFault}
 use Rattle.g_plain.specs.declared.faults.StoreFault.TheVariants.{DiscFull, DiscReadFault, NoCopy, NoMemory, NoUser, Stopped, TapeReadFault, WaitTape}
 use Rattle.g_plain.specs.PlainStep.{checks}
-use Rattle.g_plain.specs.PlainTree.{FileRow, Tree, file_row, has_file, has_user, input_name}
+use Rattle.g_plain.specs.PlainTree.{FileRow, Tree, file_row, has_user, input_name}
 use Rattle.g_tree.specs.Asked.{zeros}
-use Rattle.g_tree.specs.Records.{ForTree, IsRecords, file_row_of, full_of, tree_of}
+use Rattle.g_tree.specs.Records.{IsRecords, file_row_of, full_of, tree_of}
 use Rattle.g_tree.proofs.NamedLemmas.{zeros_fit}
 use Rattle.g_tree.proofs.RecordLemmas.{numbers_apart}
 use Rattle.g_tree.proofs.RightLemmas.{row_is}
@@ -40,7 +40,6 @@ use Rattle.g_store_calls.specs.Made.{IsFileAt}
 use Rattle.g_store_calls.specs.Replies.{RefusesAs}
 use Rattle.g_store_calls.proofs.AppendLemmas.{failed_answer, full_answer, lost_answer, starved, unread_answer, waits_answer}
 use Rattle.g_store_calls.proofs.AppendedLemmas.{causes_over, changed_over, done_answers, stopped_answers, stopped_over}
-use Rattle.g_store_calls.proofs.EraseLemmas.{kept_file}
 use Rattle.g_store_calls.proofs.NextLemmas.{next_version}
 use Rattle.g_store_calls.proofs.TellLemmas.{AreOff, granted_off}
 use Rattle.g_store_calls.proofs.WantLemmas.{Wants}
@@ -68,9 +67,6 @@ module _ (users : List UserRec) (files : List FileRec) (next : ℕ) (who : List 
 
   off : AreOff ((not (has_user t who), NoUser) ∷ checks t who (Append path bytes))
   off = granted_off t who (Append path bytes) (granted zeros (zeros_fit files))
-
-  pub append_there : ForTree users files (λ t. has_file t (input_name t who path) ≡ true)
-  append_there = kept_file users files next who path is off.1.1.0
 
   pub append_early : next < 2 ^ 62
   append_early = below_of (2 ^ 62) next off.1.1.1.1.1.1.0

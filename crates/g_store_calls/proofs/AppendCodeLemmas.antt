@@ -21,6 +21,7 @@ use Rattle.g_online.specs.declared.fault.OnlineFault.{OnlineFault}
 use Rattle.g_online.specs.declared.fault.OnlineFault.TheVariants as online
 use Rattle.g_online.specs.declared.unjam.Unjam.{Unjam}
 use Rattle.g_online.specs.Allowed.{Lies}
+use Rattle.g_online.specs.Faults.{store_fault_of}
 use Rattle.g_state_steps.proofs.UnjamLemmas.{numbers_apart}
 use Rattle.g_migrate.proofs.MigrationLemmas.{rules_here}
 use Rattle.g_retrieve.specs.Brought.{HasReadCopy, IsOnTape}
@@ -28,6 +29,7 @@ use Rattle.g_retrieve.proofs.AllowLemmas.{away_filled}
 use Rattle.g_store_calls.specs.Appending.{HasAppended, version_of}
 use Rattle.g_store_calls.specs.Applied.{HasApplied}
 use Rattle.g_store_calls.specs.Asking.{HasAsked, HasPlanned}
+use Rattle.g_store_calls.proofs.FaultLemmas.{IsReadFault, Unread, full_no_read, none_no_read, stop_no_read}
 use Rattle.g_store_calls.proofs.AppendPartLemmas.{asked_none, copy_text, disc_asked, nothing_asked, tapes_read, then_put, undisclosed, unplanned, unread}
 
 -- so many blocks, as they were reckoned
@@ -82,6 +84,18 @@ module _ (o : OnlineFacts) (live : o.live ≡ true) (tied : IsTied o) (file : Fi
             rose = asked.rose;
           })
           (same_online f there same ∙ here) (filled is f there (ap (λ (r : FileRec). r.number) same)) (plan_of plan planned f same)
+
+      -- any fault of the read, as a store tells it
+      pub here_unread : (new : OnlineFacts) (plan : Unjam) (e : OnlineFault) → (let r : Result Unjam StoreFault = Ok plan in HasPlanned need o r) → IsReadFault e → ReadsByCause (Unread e) o.disc new.disc
+          → new ≡ record o { disc = new.disc } → IsTied new → (Unread e → (f : File) → Contains o.contents.files f → f.rec.number ≡ file.number → 0 < f.rec.len)
+          → (f : File) → Contains o.contents.files f → f.rec ≡ file → (rack : Rack) → HasAppended (full_of o.contents.users f.rec) f bytes o new rack rack (Err (store_fault_of e))
+      here_unread new plan online.ReadFault planned only reads same_else tied_then filled f there same rack =
+          here_failed new plan (Err online.ReadFault) planned refl reads same_else tied_then filled f there same rack
+      here_unread new plan online.NoMemory planned only reads same_else tied_then filled f there same rack =
+          asked_none o new rack rack (λ is. let no : ⊥ = cc in no) (λ no. no) (disc_asked (Unread online.NoMemory) o new rack reads same_else tied_then)
+      here_unread new plan (online.DiscFull wants room) planned only reads same_else tied_then filled f there same rack = absurd (full_no_read wants room only)
+      here_unread new plan online.Stopped planned only reads same_else tied_then filled f there same rack = absurd (stop_no_read only)
+      here_unread new plan online.NoFilestore planned only reads same_else tied_then filled f there same rack = absurd (none_no_read only)
 
       pub here_put : (mid new : OnlineFacts) (plan : Unjam) (old : List ℕ) → (let r : Result Unjam StoreFault = Ok plan in HasPlanned need o r)
           → ReadsByCause (◌≡◌ {A = Result (List ℕ) OnlineFault} (Ok old) (Err online.ReadFault)) o.disc mid.disc → mid ≡ record o { disc = mid.disc } → IsTied mid

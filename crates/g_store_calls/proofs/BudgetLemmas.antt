@@ -15,7 +15,6 @@ use Rattle.g_plain.specs.declared.calls.BudgetKind.{BudgetKind}
 use Rattle.g_plain.specs.declared.calls.BudgetKind.TheVariants.{Space, Time, Money}
 use Rattle.g_plain.specs.declared.calls.StoreCall.TheVariants.{Budget}
 use Rattle.g_plain.specs.declared.calls.StoreReply.TheVariants.{Done}
-use Rattle.g_plain.specs.declared.faults.StoreFault.{StoreFault}
 use Rattle.g_plain.specs.PlainStep.{with_budget}
 use Rattle.g_plain.specs.PlainTree.{has_user, user_row}
 use Rattle.g_plain.specs.Rules.{most_of}
@@ -42,7 +41,7 @@ use Rattle.g_store_calls.specs.Replies.{RefusesAs}
 use Rattle.g_store_calls.proofs.AddLemmas.{or_false, rules_committed}
 use Rattle.g_store_calls.proofs.MarkLemmas.{only_grow}
 use Rattle.g_store_calls.proofs.RecordLemmas.{IsRecorded}
-use Rattle.g_store_calls.proofs.TellLemmas.{granted_off, not_not, refuses_of, user_any}
+use Rattle.g_store_calls.proofs.TellLemmas.{granted_off, not_not, user_any}
 
 -- ANOTHER RECORD of a user, of the same number, name and superior: the records keep their rules
 module _ (users : List UserRec) (n : ℕ) (u old : UserRec) (at : slice_get users n ≡ Some old) where
@@ -280,11 +279,3 @@ pub budgeted_on : (o : OnlineFacts) (us : List UserRec) (fs : List FileRec) (use
     → IsBudgeted us fs user kind amount u → IsBudgeted o.contents.users (recs_in o.contents) user kind amount u
 budgeted_on o us fs user kind amount u users files is =
     subst (λ (rs : List FileRec). IsBudgeted o.contents.users rs user kind amount u) files (subst (λ (x : List UserRec). IsBudgeted x fs user kind amount u) users is)
-
--- as it was asked for this call
-pub budget_asked : (o : OnlineFacts) (us : List UserRec) (fs : List FileRec) (next : ℕ) (who user copied : List ℕ) (kind : BudgetKind) (amount : ℕ) (x : Option StoreFault) → us ≡ o.contents.users
-    → fs ≡ recs_in o.contents → next ≡ o.contents.head.next_stamp → copied ≡ user → RefusesAs us fs next who (Budget copied kind amount) x
-    → RefusesAs o.contents.users (recs_in o.contents) o.contents.head.next_stamp who (Budget user kind amount) x
-budget_asked o us fs next who user copied kind amount x users files stamp same is =
-    subst (λ (n : List ℕ). RefusesAs o.contents.users (recs_in o.contents) o.contents.head.next_stamp who (Budget n kind amount) x) same
-    (refuses_of o us fs next who (Budget copied kind amount) x users files stamp is)

@@ -18,12 +18,10 @@ use Rattle.g_name.proofs.Order.{full_total}
 use Rattle.g_plain.proofs.TextMaps.{full_exact}
 use Rattle.g_plain.specs.declared.calls.StoreCall.TheVariants.{Erase}
 use Rattle.g_plain.specs.declared.calls.StoreReply.TheVariants.{Erased}
-use Rattle.g_plain.specs.declared.faults.StoreFault.{StoreFault}
 use Rattle.g_plain.specs.PlainTree.{has_file, input_name}
 use Rattle.g_tree.specs.Asked.{zeros}
 use Rattle.g_tree.specs.Records.{ForTree, IsRecords, by_name, full_of, number_of, tree_of}
 use Rattle.g_tree.proofs.MapLemmas.{found_one, keyed}
-use Rattle.g_tree.proofs.NamedLemmas.{zeros_fit}
 use Rattle.g_tree.proofs.RecordLemmas.{file_there, numbers_apart}
 use Rattle.g_tree.proofs.RuleLemmas.{made_of, one_of_key}
 use Rattle.g_contents.specs.Contents.{Contents, File, committed, recs_in, without_file}
@@ -47,7 +45,7 @@ use Rattle.g_store_calls.specs.Replies.{RefusesAs}
 use Rattle.g_store_calls.proofs.AddLemmas.{or_false, rules_committed}
 use Rattle.g_store_calls.proofs.MarkLemmas.{has_first, only_grow}
 use Rattle.g_store_calls.proofs.RecordLemmas.{IsRecorded}
-use Rattle.g_store_calls.proofs.TellLemmas.{granted_off, name_any, not_not, refuses_of}
+use Rattle.g_store_calls.proofs.TellLemmas.{name_any, not_not}
 
 -- A FILE LESS
 all_back : {A B : Type 0} (P : B → Type 0) (f : A → B) (xs : List A) → All P (map f xs) → All (λ x. P (f x)) xs
@@ -102,19 +100,6 @@ file_at users files who path number full is found named =
     let (r, got, same) = made_of (λ (s : FileRec). s.number) (get (by_name users files) full) number (sym found) in
     let (there, name) = found_one full_total full_exact (full_of users) full files r (sym (get-from_entries full_total (keyed (full_of users) files) full) ∙ got) in
     record { rec = r; there = there; number_is = same; name_is = name; named = named }
-
-pub kept_file : (users : List UserRec) (files : List FileRec) (next : ℕ) (who : List ℕ) (path : Path) → IsRecords users files
-    → (let t = tree_of users files zeros next in not (not (has_file t (input_name t who path))) ≡ true) → ForTree users files (λ t. has_file t (input_name t who path) ≡ true)
-kept_file users files next who path is off bytes then_ =
-    let t = tree_of users files zeros next in
-    ap (has_file (tree_of users files bytes then_)) (name_any users files is who path bytes zeros then_ next)
-    ∙ sym (file_there users files bytes then_ (input_name t who path)) ∙ file_there users files zeros next (input_name t who path)
-    ∙ not_not (has_file t (input_name t who path)) off
-
-pub erased_there : (users : List UserRec) (files : List FileRec) (next : ℕ) (who : List ℕ) (path : Path) → IsRecords users files → RefusesAs users files next who (Erase path) None
-    → ForTree users files (λ t. has_file t (input_name t who path) ≡ true)
-erased_there users files next who path is granted =
-    kept_file users files next who path is (granted_off (tree_of users files zeros next) who (Erase path) (granted zeros (zeros_fit files))).1.1.0
 
 -- THE CHANGE may be made
 erase_is : (told pinned : Bool) (number : ℕ) (c : Contents) → changed told pinned (EraseFile number) c ≡ committed pinned (record c { files = without_file number c.files })
@@ -226,16 +211,3 @@ erases o who path number full live tied granted at =
           (owned_open s.online.contents.files number at.rec.owner touched s.online.touched s.dump mine_own open_mine) was);
       belongs = λ text shelf reels was. files_belong.erased text shelf reels o.contents number was;
     }
-
--- of the records of the filestore
-pub file_on : (o : OnlineFacts) (us : List UserRec) (fs : List FileRec) (who : List ℕ) (path : Path) (number : ℕ) (full : Full) → us ≡ o.contents.users → fs ≡ recs_in o.contents
-    → IsFileAt us fs who path number full → IsFileAt o.contents.users (recs_in o.contents) who path number full
-file_on o us fs who path number full users files is =
-    subst (λ (rs : List FileRec). IsFileAt o.contents.users rs who path number full) files (subst (λ (x : List UserRec). IsFileAt x fs who path number full) users is)
-
--- as it was asked for this call
-pub erase_asked : (o : OnlineFacts) (us : List UserRec) (fs : List FileRec) (next : ℕ) (who : List ℕ) (path copied : Path) (x : Option StoreFault) → us ≡ o.contents.users
-    → fs ≡ recs_in o.contents → next ≡ o.contents.head.next_stamp → copied ≡ path → RefusesAs us fs next who (Erase copied) x
-    → RefusesAs o.contents.users (recs_in o.contents) o.contents.head.next_stamp who (Erase path) x
-erase_asked o us fs next who path copied x users files stamp same is =
-    subst (λ (p : Path). RefusesAs o.contents.users (recs_in o.contents) o.contents.head.next_stamp who (Erase p) x) same (refuses_of o us fs next who (Erase copied) x users files stamp is)

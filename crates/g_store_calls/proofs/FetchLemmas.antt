@@ -24,11 +24,8 @@ use Rattle.g_plain.specs.declared.faults.StoreFault.TheVariants.{DiscFull, DiscR
 use Rattle.g_plain.specs.PlainStep.{reply_to}
 use Rattle.g_plain.specs.Plainly.{may_wait}
 use Rattle.g_plain.specs.Replies.{IsReplyTo}
-use Rattle.g_plain.proofs.StepAnswers.{own_fault}
-use Rattle.g_plain.specs.PlainTree.{FileRow, Tree, file_row, has_file, input_name}
-use Rattle.g_tree.specs.Asked.{zeros}
+use Rattle.g_plain.specs.PlainTree.{FileRow, Tree, file_row, input_name}
 use Rattle.g_tree.specs.Records.{ForTree, HasLengths, IsRecords, full_of, tree_of}
-use Rattle.g_tree.proofs.NamedLemmas.{zeros_fit}
 use Rattle.g_tree.proofs.RightLemmas.{row_is}
 use Rattle.g_tree.proofs.RuleLemmas.{one_of_key}
 use Rattle.g_contents.specs.Contents.{File, recs_in}
@@ -44,23 +41,16 @@ use Rattle.g_state_steps.proofs.WaitingLemmas.{from_mapped, mapped_there}
 use Rattle.g_retrieve.specs.Brought.{HasCopied, IsOnTape}
 use Rattle.g_retrieve.specs.Keeps.{KeepsDevices}
 use Rattle.g_retrieve.proofs.AllowLemmas.{away_is, rules_here}
-use Rattle.g_store_calls.specs.Answering.{AnswersIn, AnswersOver, KeepsPlan, with_devices}
+use Rattle.g_store_calls.specs.Answering.{AnswersOver, KeepsPlan, with_devices}
 use Rattle.g_store_calls.specs.Fetched.{ComesBack, HasComeBack, HasReadDisc, IsBackFault, IsStarved, answer_by}
 use Rattle.g_store_calls.specs.Kinds.{IsKind}
 use Rattle.g_store_calls.specs.Made.{IsFileAt}
 use Rattle.g_store_calls.specs.Replies.{RefusesAs}
 use Rattle.g_store_calls.proofs.BroughtLemmas.{Brings, done_then, stopped_then}
 use Rattle.g_store_calls.proofs.CalmLemmas.{texts_fit}
-use Rattle.g_store_calls.proofs.EraseLemmas.{kept_file}
 use Rattle.g_store_calls.proofs.HereLemmas.{done_here, failed_here, replies_bytes, replies_plainly, with_faults}
 use Rattle.g_store_calls.proofs.TapeLemmas.{full_then, lost_then, starved_then, unread_then, waits_then}
-use Rattle.g_store_calls.proofs.TellLemmas.{granted_off}
 use Rattle.g_store_calls.proofs.WantLemmas.{Wants}
-
--- AN ANSWER OF THE DISC ALONE is one over any rack
-pub over_rack : (who : List ℕ) (call : StoreCall) (o new : OnlineFacts) (rack : Rack) (answer : Result StoreReply StoreFault) → AnswersIn who call o answer new → AnswersOver who call o rack answer new rack
-over_rack who call o new rack answer is s at on unspent store plan =
-    subst (λ (r : Rack). Answers s who call answer (with_devices new r s)) on (is s at unspent store)
 
 -- THE CALL reads this file, and its reply tells of its bytes
 pub record IsReader (o : OnlineFacts) (who : List ℕ) (call : StoreCall) (reply : List ℕ → StoreReply) (f : File) : Type 0 where
@@ -333,26 +323,7 @@ module _ (o new : OnlineFacts) (before after : Rack) (who : List ℕ) (call : St
       → AnswersOver who call o before (answer_by reply result) new before
   read_over online wants_them read = disc_over o new before before who call reply f reader result online wants_them (read f reader.wants.there at)
 
--- THE FILE THAT IS NAMED is there, as the call isn't refused
-module _ (users : List UserRec) (files : List FileRec) (next : ℕ) (who : List ℕ) (path : Path) (is : IsRecords users files) where
-  pub fetched_there : (call : StoreCall) (mode : Mode) → call ≡ Fetch path mode → RefusesAs users files next who call None → ForTree users files (λ t. has_file t (input_name t who path) ≡ true)
-  fetched_there call mode same granted_call =
-      let granted : RefusesAs users files next who (Fetch path mode) None = subst (λ (k : StoreCall). RefusesAs users files next who k None) same granted_call in
-      kept_file users files next who path is (granted_off (tree_of users files zeros next) who (Fetch path mode) (granted zeros (zeros_fit files))).1.1.0
-
-  pub retrieved_there : (call : StoreCall) → call ≡ Retrieve path → RefusesAs users files next who call None → ForTree users files (λ t. has_file t (input_name t who path) ≡ true)
-  retrieved_there call same granted_call =
-      let granted : RefusesAs users files next who (Retrieve path) None = subst (λ (k : StoreCall). RefusesAs users files next who k None) same granted_call in
-      kept_file users files next who path is (granted_off (tree_of users files zeros next) who (Retrieve path) (granted zeros (zeros_fit files))).1.1.0
-
 -- THE ANSWER IS OF ITS CALL'S KIND
-pub kind_refused : (users : List UserRec) (files : List FileRec) (next : ℕ) (who : List ℕ) (call : StoreCall) (rack : Rack) (fault : StoreFault) → RefusesAs users files next who call (Some fault)
-    → IsKind call rack (Err fault)
-kind_refused users files next who call rack fault refuses =
-    let never : (serial : ℕ) → ◌≡◌ {A = Result StoreReply StoreFault} (Err fault) (Err (WaitTape serial)) → ⊥ =
-    λ serial is. false≢true (own_fault (tree_of users files zeros next) who call fault (WaitTape serial) (refuses zeros (zeros_fit files)) is) in
-    record { reply = tt; waits = λ serial is. absurd (never serial is); may = λ serial is. absurd (never serial is) }
-
 module _ (call : StoreCall) (rack : Rack) (reply : List ℕ → StoreReply) (kind : (text : List ℕ) → length text ≤ 65536 → IsReplyTo call (reply text)) where
   pub kind_done : (text : List ℕ) → length text ≤ 65536 → IsKind call rack (Ok (reply text))
   kind_done text long = record { reply = kind text long; waits = λ serial is. absurd (let no : ⊥ = cc in no); may = λ serial is. absurd (let no : ⊥ = cc in no) }

@@ -13,13 +13,13 @@ pub mod BudgetLemmas
 pub mod CallLemmas
 pub mod CalmLemmas
 pub mod EraseLemmas
+pub mod FaultLemmas
 pub mod FetchLemmas
-pub mod FirstLemmas
+pub mod GrantedLemmas
 pub mod HereLemmas
 pub mod KindLemmas
 pub mod MakeLemmas
 pub mod MarkLemmas
-pub mod NamedLemmas
 pub mod NextLemmas
 pub mod PutLemmas
 pub mod QuietLemmas

@@ -293,14 +293,3 @@ first_made o live tied early len short full none word lang generation us fs user
     let owned = subst (λ (x : List UserRec). (r.owner < length x) × (name_of x r.owner ≡ full.user)) users owner in
     first_version o (rules_here o live tied) early len short full none word lang generation r free.0 (subst (λ (x : List FileRec). get (by_number x) r.number ≡ None) files free.1) owned.0 owned.1 local_is generation_is
     lang_is stamp_is len_is traps_are tape_is
-
--- names and numbers of records, as a tree's
-pub named_on : (o : OnlineFacts) (us : List UserRec) (fs : List FileRec) (number : ℕ) (full : Full) → us ≡ o.contents.users → fs ≡ recs_in o.contents → name_of_file us fs number ≡ Some full
-    → name_of_file o.contents.users (recs_in o.contents) number ≡ Some full
-named_on o us fs number full users files is =
-    subst (λ (x : List FileRec). name_of_file o.contents.users x number ≡ Some full) files (subst (λ (x : List UserRec). name_of_file x fs number ≡ Some full) users is)
-
-pub none_on : (o : OnlineFacts) (us : List UserRec) (fs : List FileRec) (full : Full) → us ≡ o.contents.users → fs ≡ recs_in o.contents → (let none : Option ℕ = None in none ≡ number_of us fs full)
-    → number_of o.contents.users (recs_in o.contents) full ≡ None
-none_on o us fs full users files is =
-    subst (λ (x : List FileRec). number_of o.contents.users x full ≡ None) files (subst (λ (x : List UserRec). number_of x fs full ≡ None) users (sym is))

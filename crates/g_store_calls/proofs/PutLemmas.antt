@@ -19,7 +19,6 @@ use Rattle.g_plain.specs.declared.faults.StoreFault.{StoreFault}
 use Rattle.g_plain.specs.declared.faults.StoreFault.TheVariants.{DiscFull, NoMemory, NoUser, Stopped}
 use Rattle.g_plain.specs.PlainStep.{checks}
 use Rattle.g_plain.specs.PlainTree.{Tree, has_file, has_user, named, newest, output_name}
-use Rattle.g_tree.specs.Answers.{newest_of}
 use Rattle.g_tree.specs.Asked.{zeros}
 use Rattle.g_tree.specs.Records.{ForTree, IsRecords, number_of, tree_of}
 use Rattle.g_tree.proofs.NamedLemmas.{zeros_fit}
@@ -43,14 +42,6 @@ use Rattle.g_store_calls.proofs.AheadLemmas.{ahead_stands, before_of}
 use Rattle.g_store_calls.proofs.CalmLemmas.{calmly, same_store, texts_fit}
 use Rattle.g_store_calls.proofs.TellLemmas.{AreOff, granted_off, not_not, user_any, user_missing}
 use Rattle.g_store_calls.proofs.VersionLemmas.{IsMet, belongs_done, belongs_stopped, leads_done, leads_full, leads_stopped, store_done}
-
--- THE NAME that a path gives for output
-pub output_is : (users : List UserRec) (files : List FileRec) → IsRecords users files → (who : List ℕ) (path : Path) (zero full : Full) (greatest generation : ℕ)
-    → zero ≡ named who path 0 → greatest ≡ newest_of users zero files → generation ≡ unwrap_or path.generation (greatest + 1) → full ≡ named who path generation
-    → ForTree users files (λ t. full ≡ output_name t who path)
-output_is users files is who path zero full greatest generation zero_is greatest_is generation_is full_is bytes next =
-    full_is
-    ∙ ap (named who path) (generation_is ∙ ap (λ (n : ℕ). unwrap_or path.generation (n + 1)) (greatest_is ∙ ap (λ (f : Full). newest_of users f files) zero_is ∙ sym (newest_is users files bytes next who path is)))
 
 -- WHAT THE PLAIN STEP GRANTS
 below_of : (a b : ℕ) → not (nat_le a b) ≡ true → b < a
@@ -233,12 +224,6 @@ put_answers o new who path bytes full r is result made rack s at on unspent stor
     (made_answers s new who path bytes full r (subst (λ (x : OnlineFacts). IsPut x who path bytes full r) (sym at) is) unspent store keeps result
     (subst (λ (x : OnlineFacts). HasMade r bytes x new result) (sym at) made))
 
--- AS THE CODE has it: asked of a tree's records
-pub called_on : (o : OnlineFacts) (us : List UserRec) (fs : List FileRec) (who : List ℕ) (path : Path) (full : Full) → us ≡ o.contents.users → fs ≡ recs_in o.contents
-    → ForTree us fs (λ t. full ≡ output_name t who path) → ForTree o.contents.users (recs_in o.contents) (λ t. full ≡ output_name t who path)
-called_on o us fs who path full users files is =
-    subst (λ (rs : List FileRec). ForTree o.contents.users rs (λ t. full ≡ output_name t who path)) files (subst (λ (x : List UserRec). ForTree x fs (λ t. full ≡ output_name t who path)) users is)
-
 -- OF ITS KIND: a full name, and no wait
 pub settled_made : (path : Path) (bytes : List ℕ) (full : Full) (r : FileRec) (old new : OnlineFacts) → length bytes ≤ 65536 → (result : Result (Unit {0}) StoreFault) → HasMade r bytes old new result
     → IsSettled (Put path bytes) (answer_with (Made full) result)
@@ -255,13 +240,7 @@ owner_missing o us fs found user users files there owner none =
     user_missing us fs found user there
     (subst (λ (x : List UserRec). ForTree x fs (λ t. has_user t user ≡ true)) (sym users) (subst (λ (rs : List FileRec). ForTree o.contents.users rs (λ t. has_user t user ≡ true)) (sym files) owner)) none
 
-pub put_known : (o : OnlineFacts) (us : List UserRec) (fs : List FileRec) (who : List ℕ) (path : Path) (bytes : List ℕ) (full : Full) (r : FileRec) → o.live ≡ true
-    → RefusesAs o.contents.users (recs_in o.contents) o.contents.head.next_stamp who (Put path bytes) None → us ≡ o.contents.users → fs ≡ recs_in o.contents
-    → ForTree us fs (λ t. full ≡ output_name t who path) → IsVersionOf o full r → IsNext o bytes r → IsPut o who path bytes full r
-put_known o us fs who path bytes full r live granted users files called version next = record {
-  live = live;
-  granted = granted;
-  called = called_on o us fs who path full users files called;
-  version = version;
-  len = next.len;
-}
+pub put_known : (o : OnlineFacts) (who : List ℕ) (path : Path) (bytes : List ℕ) (full : Full) (r : FileRec) → o.live ≡ true
+    → RefusesAs o.contents.users (recs_in o.contents) o.contents.head.next_stamp who (Put path bytes) None → ForTree o.contents.users (recs_in o.contents) (λ t. full ≡ output_name t who path)
+    → IsVersionOf o full r → IsNext o bytes r → IsPut o who path bytes full r
+put_known o who path bytes full r live granted called version next = record { live = live; granted = granted; called = called; version = version; len = next.len }

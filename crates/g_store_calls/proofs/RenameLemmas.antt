@@ -12,10 +12,9 @@ use Rattle.g_name.specs.declared.path.Path.{Path}
 use Rattle.g_name.specs.Grammar.{is_word}
 use Rattle.g_plain.specs.declared.calls.StoreCall.TheVariants.{Rename}
 use Rattle.g_plain.specs.declared.calls.StoreReply.TheVariants.{Renamed}
-use Rattle.g_plain.specs.declared.faults.StoreFault.{StoreFault}
 use Rattle.g_plain.specs.PlainTree.{Tree, has_file, input_name}
 use Rattle.g_tree.specs.Asked.{zeros}
-use Rattle.g_tree.specs.Records.{ForTree, IsRecords, full_of, tree_of}
+use Rattle.g_tree.specs.Records.{IsRecords, full_of, tree_of}
 use Rattle.g_tree.proofs.NamedLemmas.{zeros_fit}
 use Rattle.g_tree.proofs.RecordLemmas.{file_there}
 use Rattle.g_tree.proofs.RightLemmas.{found_named}
@@ -25,10 +24,9 @@ use Rattle.g_state_calls.proofs.CallLemmas.{calls_go_by_step}
 use Rattle.g_online.specs.declared.change.Change.TheVariants.{SetFile}
 use Rattle.g_store_calls.specs.Anew.{IsFileNamed, IsRenamed}
 use Rattle.g_store_calls.specs.Replies.{RefusesAs}
-use Rattle.g_store_calls.proofs.EraseLemmas.{kept_file}
 use Rattle.g_store_calls.proofs.RecordLemmas.{IsRecorded}
 use Rattle.g_store_calls.proofs.SetLemmas.{found, named_in, record_of, records_set, sets}
-use Rattle.g_store_calls.proofs.TellLemmas.{granted_off, refuses_of}
+use Rattle.g_store_calls.proofs.TellLemmas.{granted_off}
 
 abbrev called : List ℕ → Full → Full
 called to full = record full { local = to }
@@ -38,9 +36,6 @@ module _ (users : List UserRec) (files : List FileRec) (next : ℕ) (who : List 
     (granted : RefusesAs users files next who (Rename path to) None) where
   abbrev t : Tree
   t = tree_of users files zeros next
-
-  pub rename_there : ForTree users files (λ t. has_file t (input_name t who path) ≡ true)
-  rename_there = kept_file users files next who path is (granted_off t who (Rename path to) (granted zeros (zeros_fit files))).1.1.0
 
   name_free : has_file t (called to (input_name t who path)) ≡ true → ⊥
   name_free has = false≢true (sym (ap not has) ∙ (granted_off t who (Rename path to) (granted zeros (zeros_fit files))).1.1.1.1.0)
@@ -115,12 +110,3 @@ pub renamed_on : (o : OnlineFacts) (us : List UserRec) (fs : List FileRec) (who 
     → IsRenamed us fs who path to r full → IsRenamed o.contents.users (recs_in o.contents) who path to r full
 renamed_on o us fs who path to r full users files is =
     subst (λ (rs : List FileRec). IsRenamed o.contents.users rs who path to r full) files (subst (λ (x : List UserRec). IsRenamed x fs who path to r full) users is)
-
--- as it was asked for this call
-pub rename_asked : (o : OnlineFacts) (us : List UserRec) (fs : List FileRec) (next : ℕ) (who : List ℕ) (path copied : Path) (to again : List ℕ) (x : Option StoreFault) → us ≡ o.contents.users
-    → fs ≡ recs_in o.contents → next ≡ o.contents.head.next_stamp → copied ≡ path → again ≡ to → RefusesAs us fs next who (Rename copied again) x
-    → RefusesAs o.contents.users (recs_in o.contents) o.contents.head.next_stamp who (Rename path to) x
-rename_asked o us fs next who path copied to again x users files stamp same_path same_to is =
-    subst (λ (p : Path). RefusesAs o.contents.users (recs_in o.contents) o.contents.head.next_stamp who (Rename p to) x) same_path
-    (subst (λ (n : List ℕ). RefusesAs o.contents.users (recs_in o.contents) o.contents.head.next_stamp who (Rename copied n) x) same_to
-    (refuses_of o us fs next who (Rename copied again) x users files stamp is))

@@ -19,16 +19,16 @@ use Rattle.g_plain.specs.declared.calls.StoreReply.{StoreReply}
 use Rattle.g_plain.specs.declared.faults.StoreFault.{StoreFault}
 use Rattle.g_plain.specs.declared.faults.StoreFault.TheVariants.{NoUser}
 use Rattle.g_plain.specs.PlainStep.{Checks, checks, fault_of, first_fault}
-use Rattle.g_plain.specs.PlainTree.{Tree, file_row, has_file, has_user, input_name, lengths, modes_of, named}
+use Rattle.g_plain.specs.PlainTree.{Tree, file_row, has_user, input_name, lengths, modes_of, named}
 use Rattle.g_plain.proofs.TextMaps.{full_exact}
 use Rattle.g_plain.proofs.TreeLemmas.{all_map, entries_found}
-use Rattle.g_tree.specs.Answers.{listed, newest_of}
+use Rattle.g_tree.specs.Answers.{listed}
 use Rattle.g_tree.specs.Asked.{zeros}
 use Rattle.g_tree.specs.Records.{ForFile, ForTree, HasLengths, IsRecords, by_name, by_number, file_row_of, full_of, name_of, name_of_file, number_of, tree_of}
 use Rattle.g_tree.proofs.ListLemmas.{filter_of_map, kept_same_on, map_of_map}
 use Rattle.g_tree.proofs.MapLemmas.{found_one, keyed, with_value}
 use Rattle.g_tree.proofs.NamedLemmas.{zeros_fit}
-use Rattle.g_tree.proofs.RecordLemmas.{file_entries, file_there, newest_is, user_there}
+use Rattle.g_tree.proofs.RecordLemmas.{file_entries, newest_is, user_there}
 use Rattle.g_tree.proofs.RuleLemmas.{numbered_is}
 use Rattle.g_contents.specs.Contents.{recs_in}
 use Rattle.g_contents.specs.Facts.{OnlineFacts}
@@ -122,13 +122,6 @@ module _ (users : List UserRec) (files : List FileRec) where
     abbrev t : Tree
     t = tree_of users files zeros next
 
-    pub checked_file : IsRecords users files → ForTree users files (λ t. has_file t (input_name t who path) ≡ true)
-    checked_file is bytes then_ =
-        let off = granted_off t who (TrapCheck path user) (granted zeros (zeros_fit files)) in
-        ap (has_file (tree_of users files bytes then_)) (name_any is who path bytes zeros then_ next)
-        ∙ sym (file_there users files bytes then_ (input_name t who path)) ∙ file_there users files zeros next (input_name t who path)
-        ∙ not_not (has_file t (input_name t who path)) off.1.1.0
-
     pub checked_user : ForTree users files (λ t. has_user t user ≡ true)
     checked_user bytes then_ =
         let off = granted_off t who (TrapCheck path user) (granted zeros (zeros_fit files)) in
@@ -214,17 +207,6 @@ replies_of o us fs next who call reply users files is =
 
 -- WHAT IS NAMED for input
 module _ (users : List UserRec) (files : List FileRec) where
-  pub name_is : IsRecords users files → (who : List ℕ) (path : Path) (zero full : Full) (n g : ℕ) → zero ≡ named who path 0 → n ≡ newest_of users zero files → g ≡ unwrap_or path.generation n
-      → full ≡ named who path g → ForTree users files (λ t. full ≡ input_name t who path)
-  name_is is who path zero full n g zero_is n_is g_is full_is bytes next =
-      full_is
-      ∙ ap (named who path) (g_is ∙ ap (unwrap_or path.generation) (n_is ∙ ap (λ (f : Full). newest_of users f files) zero_is ∙ sym (newest_is users files bytes next who path is)))
-
-  pub file_missing : (found : Option ℕ) (full : Full) (who : List ℕ) (path : Path) → ForTree users files (λ t. is_some found ≡ has_file t full) → ForTree users files (λ t. full ≡ input_name t who path)
-      → ForTree users files (λ t. has_file t (input_name t who path) ≡ true) → found ≡ None → ⊥
-  file_missing found full who path there name has none =
-      false≢true (sym (ap is_some none) ∙ there zeros 0 ∙ ap (has_file (tree_of users files zeros 0)) (name zeros 0) ∙ has zeros 0)
-
   pub user_missing : (found : Option ℕ) (user : List ℕ) → ForTree users files (λ t. is_some found ≡ has_user t user) → ForTree users files (λ t. has_user t user ≡ true) → found ≡ None → ⊥
   user_missing found user there has none = false≢true (sym (ap is_some none) ∙ there zeros 0 ∙ has zeros 0)
 

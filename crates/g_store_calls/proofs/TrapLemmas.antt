@@ -1,5 +1,5 @@
 -- A file's other traps.
-use Rattle.std.proofs.Common.{◌≡◌, ℕ, ◌<◌, ◌==◌, Bool, true, false, List, [], ◌∷◌, length, filter, Option, None, is_none, nat_le, refl, sym, ◌∙◌, ap, arith, subst, All}
+use Rattle.std.proofs.Common.{◌≡◌, ℕ, ◌<◌, ◌==◌, Bool, true, false, List, [], ◌∷◌, length, filter, None, is_none, nat_le, refl, sym, ◌∙◌, ap, arith, subst, All}
 use Rattle.std.specs.Prelude.{◌&&◌, Contains, if◌then◌else◌, not}
 use Rattle.std.specs.Ordering.{nat_cmp}
 use Rattle.std.specs.declared.cmp.Ordering.{Ordering}
@@ -19,8 +19,7 @@ use Rattle.g_trap.specs.TrapList.{IsOthers, TrapList, is_ninth, modes_of, with_m
 use Rattle.g_plain.specs.declared.calls.StoreCall.{StoreCall}
 use Rattle.g_plain.specs.declared.calls.StoreCall.TheVariants.{TrapGo, TrapStop}
 use Rattle.g_plain.specs.declared.calls.StoreReply.TheVariants.{Done}
-use Rattle.g_plain.specs.declared.faults.StoreFault.{StoreFault}
-use Rattle.g_plain.specs.PlainTree.{FileRow, Tree, file_row, has_file, has_user, input_name}
+use Rattle.g_plain.specs.PlainTree.{FileRow, Tree, file_row, has_user, input_name}
 use Rattle.g_tree.specs.Asked.{zeros}
 use Rattle.g_tree.specs.Records.{ForTree, IsRecords, by_name, file_row_of, full_of, name_of, traps_named, tree_of}
 use Rattle.g_tree.proofs.NamedLemmas.{zeros_fit}
@@ -34,10 +33,9 @@ use Rattle.g_state_calls.proofs.CallLemmas.{calls_go_by_step}
 use Rattle.g_online.specs.declared.change.Change.TheVariants.{SetFile}
 use Rattle.g_store_calls.specs.Anew.{IsFileNamed, IsTrapped}
 use Rattle.g_store_calls.specs.Replies.{RefusesAs}
-use Rattle.g_store_calls.proofs.EraseLemmas.{kept_file}
 use Rattle.g_store_calls.proofs.RecordLemmas.{IsRecorded}
 use Rattle.g_store_calls.proofs.SetLemmas.{found, named_in, record_of, records_set, sets}
-use Rattle.g_store_calls.proofs.TellLemmas.{granted_off, not_not, refuses_of, user_any}
+use Rattle.g_store_calls.proofs.TellLemmas.{granted_off, not_not, user_any}
 
 -- WHO STANDS IN THE TRAPS behind a change: who stood there, and the user
 abbrev Pairs : Type 0
@@ -153,9 +151,6 @@ module _ (users : List UserRec) (files : List FileRec) (next : ℕ) (who : List 
   t = tree_of users files zeros next
 
   module _ (granted : RefusesAs users files next who (TrapGo path user modes) None) where
-    pub go_file : ForTree users files (λ t. has_file t (input_name t who path) ≡ true)
-    go_file = kept_file users files next who path is (granted_off t who (TrapGo path user modes) (granted zeros (zeros_fit files))).1.1.0
-
     pub go_user : ForTree users files (λ t. has_user t user ≡ true)
     go_user bytes then_ =
         user_any users files user bytes zeros then_ next ∙ not_not (has_user t user) (granted_off t who (TrapGo path user modes) (granted zeros (zeros_fit files))).1.1.1.0
@@ -172,9 +167,6 @@ module _ (users : List UserRec) (files : List FileRec) (next : ℕ) (who : List 
         false≢true (sym (ap not by_name) ∙ (granted_off t who (TrapGo path user modes) (granted zeros (zeros_fit files))).1.1.1.1.1.0)
 
   module _ (granted : RefusesAs users files next who (TrapStop path user modes) None) where
-    pub stop_file : ForTree users files (λ t. has_file t (input_name t who path) ≡ true)
-    stop_file = kept_file users files next who path is (granted_off t who (TrapStop path user modes) (granted zeros (zeros_fit files))).1.1.0
-
     pub stop_user : ForTree users files (λ t. has_user t user ≡ true)
     stop_user bytes then_ =
         user_any users files user bytes zeros then_ next ∙ not_not (has_user t user) (granted_off t who (TrapStop path user modes) (granted zeros (zeros_fit files))).1.1.1.0
@@ -212,20 +204,3 @@ pub trapped_on : (o : OnlineFacts) (us : List UserRec) (fs : List FileRec) (who 
     → IsTrapped us fs who path user call r → IsTrapped o.contents.users (recs_in o.contents) who path user call r
 trapped_on o us fs who path user call r users files is =
     subst (λ (rs : List FileRec). IsTrapped o.contents.users rs who path user call r) files (subst (λ (x : List UserRec). IsTrapped x fs who path user call r) users is)
-
--- as it was asked for this call
-pub go_asked : (o : OnlineFacts) (us : List UserRec) (fs : List FileRec) (next : ℕ) (who : List ℕ) (path copied : Path) (user again : List ℕ) (modes : ℕ) (x : Option StoreFault) → us ≡ o.contents.users
-    → fs ≡ recs_in o.contents → next ≡ o.contents.head.next_stamp → copied ≡ path → again ≡ user → RefusesAs us fs next who (TrapGo copied again modes) x
-    → RefusesAs o.contents.users (recs_in o.contents) o.contents.head.next_stamp who (TrapGo path user modes) x
-go_asked o us fs next who path copied user again modes x users files stamp same_path same_user is =
-    subst (λ (p : Path). RefusesAs o.contents.users (recs_in o.contents) o.contents.head.next_stamp who (TrapGo p user modes) x) same_path
-    (subst (λ (n : List ℕ). RefusesAs o.contents.users (recs_in o.contents) o.contents.head.next_stamp who (TrapGo copied n modes) x) same_user
-    (refuses_of o us fs next who (TrapGo copied again modes) x users files stamp is))
-
-pub stop_asked : (o : OnlineFacts) (us : List UserRec) (fs : List FileRec) (next : ℕ) (who : List ℕ) (path copied : Path) (user again : List ℕ) (modes : ℕ) (x : Option StoreFault) → us ≡ o.contents.users
-    → fs ≡ recs_in o.contents → next ≡ o.contents.head.next_stamp → copied ≡ path → again ≡ user → RefusesAs us fs next who (TrapStop copied again modes) x
-    → RefusesAs o.contents.users (recs_in o.contents) o.contents.head.next_stamp who (TrapStop path user modes) x
-stop_asked o us fs next who path copied user again modes x users files stamp same_path same_user is =
-    subst (λ (p : Path). RefusesAs o.contents.users (recs_in o.contents) o.contents.head.next_stamp who (TrapStop p user modes) x) same_path
-    (subst (λ (n : List ℕ). RefusesAs o.contents.users (recs_in o.contents) o.contents.head.next_stamp who (TrapStop copied n modes) x) same_user
-    (refuses_of o us fs next who (TrapStop copied again modes) x users files stamp is))

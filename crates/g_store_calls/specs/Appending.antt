@@ -1,13 +1,11 @@
 -- BYTES PUT BEHIND those of a file: the old ones are read, from the disc or from tape, and the new version is put.
-use Rattle.std.specs.Prelude.{◌≡◌, ◌⊎◌, ℕ, ◌+◌, ◌<◌, ◌≤◌, ◌++◌, Bool, true, false, List, length, None, Some, Result, Ok, Err}
+use Rattle.std.specs.Prelude.{◌≡◌, ◌⊎◌, ℕ, ◌+◌, ◌<◌, ◌≤◌, ◌++◌, true, false, List, length, None, Some, Result, Ok, Err}
 use Rattle.std.specs.Option.{ForSome}
 use Rattle.g_base.specs.Block.{blocks_for}
 use Rattle.g_name.specs.declared.full.Full.{Full}
 use Rattle.g_entry.specs.declared.file_rec.FileRec.{FileRec}
 use Rattle.g_entry.specs.declared.file_rec.TapeCopy.{TapeCopy}
 use Rattle.g_tape.specs.Rack.{Rack, is_mounted, reel}
-use Rattle.g_plain.specs.declared.calls.StoreCall.{StoreCall}
-use Rattle.g_plain.specs.declared.calls.StoreCall.TheVariants.{Append}
 use Rattle.g_plain.specs.declared.faults.StoreFault.{StoreFault}
 use Rattle.g_plain.specs.declared.faults.StoreFault.TheVariants.{DiscFull, DiscReadFault, NoCopy, NoMemory, Stopped, TapeReadFault, WaitTape}
 use Rattle.g_contents.specs.Contents.{File}
@@ -17,10 +15,6 @@ use Rattle.g_state_steps.specs.Unjam.{IsUnjamPlan}
 use Rattle.g_retrieve.specs.Brought.{HasCopied, IsNowhere}
 use Rattle.g_store_calls.specs.Applied.{HasApplied}
 use Rattle.g_store_calls.specs.Asking.{HasAsked, IsReached}
-
-abbrev pub is_append : StoreCall → Bool
-is_append (Append path bytes) = true
-is_append call = false
 
 -- the record of a new version of a file, which keeps all but stamp, length and copy on tape
 abbrev pub version_of : FileRec → ℕ → ℕ → FileRec

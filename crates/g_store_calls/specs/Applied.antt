@@ -21,3 +21,9 @@ pub record HasApplied (change : Change) (old new : OnlineFacts) (result : Result
 abbrev pub answer_with : StoreReply → Result (Unit {0}) StoreFault → Result StoreReply StoreFault
 answer_with reply (Ok u) = Ok reply
 answer_with reply (Err fault) = Err fault
+
+-- A CALL THAT IS ANSWERED by a change of records: with this reply, where it was made
+pub record HasAnswered (change : Change) (reply : StoreReply) (old new : OnlineFacts) (answer : Result StoreReply StoreFault) : Type 0 where
+  pub made : Result (Unit {0}) StoreFault
+  pub applied : HasApplied change old new made
+  pub is : answer ≡ answer_with reply made

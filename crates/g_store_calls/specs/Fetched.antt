@@ -1,13 +1,11 @@
 -- HOW THE BYTES OF A FILE ARE HAD: read from the disc, or brought back to it from tape, by a plan of what is taken off the disc for them.
-use Rattle.std.specs.Prelude.{◌≡◌, ◌⊎◌, ◌↔◌, ℕ, ◌<◌, Bool, true, false, List, length, Result, Ok, Err, IfOk, IfErr}
+use Rattle.std.specs.Prelude.{◌≡◌, ◌⊎◌, ◌↔◌, ℕ, ◌<◌, false, List, length, Result, Ok, Err, IfOk, IfErr}
 use Rattle.std.specs.Option.{ForSome}
 use Rattle.g_base.specs.Block.{blocks_for}
 use Rattle.g_name.specs.declared.full.Full.{Full}
 use Rattle.g_disc.specs.Disc.{ReadsByCause}
 use Rattle.g_entry.specs.declared.file_rec.TapeCopy.{TapeCopy}
 use Rattle.g_tape.specs.Rack.{Rack, is_mounted, reel}
-use Rattle.g_plain.specs.declared.calls.StoreCall.{StoreCall}
-use Rattle.g_plain.specs.declared.calls.StoreCall.TheVariants.{Fetch, Retrieve}
 use Rattle.g_plain.specs.declared.calls.StoreReply.{StoreReply}
 use Rattle.g_plain.specs.declared.faults.StoreFault.{StoreFault}
 use Rattle.g_plain.specs.declared.faults.StoreFault.TheVariants.{DiscFull, DiscReadFault, NoCopy, NoMemory, Stopped, TapeReadFault, WaitTape}
@@ -17,14 +15,6 @@ use Rattle.g_online.specs.declared.unjam.Unjam.{Unjam}
 use Rattle.g_state_steps.specs.Unjam.{IsUnjamPlan}
 use Rattle.g_retrieve.specs.Brought.{HasBroughtBack, IsOnTape}
 use Rattle.g_retrieve.specs.Keeps.{HasLostCopy}
-
-abbrev pub is_fetch : StoreCall → Bool
-is_fetch (Fetch path mode) = true
-is_fetch call = false
-
-abbrev pub is_retrieve : StoreCall → Bool
-is_retrieve (Retrieve path) = true
-is_retrieve call = false
 
 -- the bytes of a file that is on the disc
 pub record HasReadDisc (f : File) (old new : OnlineFacts) (result : Result (List ℕ) StoreFault) : Type 0 where

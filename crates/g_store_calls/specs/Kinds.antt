@@ -2,7 +2,6 @@
 use Rattle.std.specs.Prelude.{◌≡◌, ℕ, Bool, false, true, Err, IfOk, Result}
 use Rattle.g_tape.specs.Rack.{Rack, is_mounted, reel}
 use Rattle.g_plain.specs.declared.calls.StoreCall.{StoreCall}
-use Rattle.g_plain.specs.declared.calls.StoreCall.TheVariants.{Budget, Erase, NewUser, Rename, TrapGo, TrapStop}
 use Rattle.g_plain.specs.declared.calls.StoreReply.{StoreReply}
 use Rattle.g_plain.specs.declared.faults.StoreFault.{StoreFault}
 use Rattle.g_plain.specs.declared.faults.StoreFault.TheVariants.{Stopped, WaitTape}
@@ -19,16 +18,6 @@ pub record IsKind (call : StoreCall) (rack : Rack) (answer : Result StoreReply S
 pub record IsSettled (call : StoreCall) (answer : Result StoreReply StoreFault) : Type 0 where
   pub reply : IfOk answer (IsReplyTo call)
   pub no_wait : (serial : ℕ) → answer ≡ Err (WaitTape serial) → ⊥
-
--- the calls that change records alone
-abbrev pub sets_records : StoreCall → Bool
-sets_records (NewUser user space time money) = true
-sets_records (Budget user kind amount) = true
-sets_records (Erase path) = true
-sets_records (Rename path to) = true
-sets_records (TrapGo path user modes) = true
-sets_records (TrapStop path user modes) = true
-sets_records call = false
 
 -- the answer that spends a store
 abbrev pub stops_call : Result StoreReply StoreFault → Bool

@@ -4,6 +4,7 @@ pub mod Appending
 pub mod Applied
 pub mod Asking
 pub mod Fetched
+pub mod Granted
 pub mod Kinds
 pub mod Made
 pub mod Replies

@@ -1,11 +1,13 @@
 -- THE RECORDS that calls make, and the files that their paths name.
-use Rattle.std.specs.Prelude.{◌≡◌, ℕ, List, [], ◌∷◌, ◌++◌, length, Contains}
+use Rattle.std.specs.Prelude.{◌≡◌, ℕ, List, [], ◌∷◌, ◌++◌, length, Contains, None}
 use Rattle.g_entry.specs.declared.file_rec.FileRec.{FileRec}
 use Rattle.g_entry.specs.declared.user_rec.UserRec.{UserRec}
 use Rattle.g_name.specs.declared.full.Full.{Full}
 use Rattle.g_name.specs.declared.path.Path.{Path}
+use Rattle.g_plain.specs.declared.calls.StoreCall.{StoreCall}
 use Rattle.g_plain.specs.PlainTree.{input_name}
 use Rattle.g_tree.specs.Records.{ForTree, IsRecords, full_of, user_row_of}
+use Rattle.g_store_calls.specs.Replies.{RefusesAs}
 
 -- a user below the caller, behind the others
 pub record IsNewUser (users : List UserRec) (files : List FileRec) (who user : List ℕ) (space time money : ℕ) (u : UserRec) : Type 0 where
@@ -21,3 +23,9 @@ pub record IsFileAt (users : List UserRec) (files : List FileRec) (who : List �
   pub number_is : rec.number ≡ number
   pub name_is : full_of users rec ≡ full
   pub named : ForTree users files (λ t. full ≡ input_name t who path)
+
+-- A CALL THAT ISN'T REFUSED of records, and the file that its path names for input
+pub record GrantsFile (users : List UserRec) (files : List FileRec) (who : List ℕ) (call : StoreCall) (path : Path) (number : ℕ) (full : Full) : Type 0 where
+  pub next : ℕ
+  pub allowed : RefusesAs users files next who call None
+  pub file : IsFileAt users files who path number full

@@ -1,11 +1,9 @@
 -- A NEW VERSION, as a store makes it: it is written beside all that the disc holds, and one commit names it; where there is no room, versions that
 -- are on tape too go off the disc before, by a commit of their own.
-use Rattle.std.specs.Prelude.{◌≡◌, ℕ, ◌^◌, ◌<◌, ◌≤◌, Bool, true, false, List, length, None, is_some, Result, Ok, Err}
+use Rattle.std.specs.Prelude.{◌≡◌, ℕ, ◌^◌, ◌<◌, ◌≤◌, List, length, None, is_some, Result, Ok, Err}
 use Rattle.g_base.specs.Block.{blocks_for}
 use Rattle.g_disc.specs.Disc.{Causes}
 use Rattle.g_entry.specs.declared.file_rec.FileRec.{FileRec}
-use Rattle.g_plain.specs.declared.calls.StoreCall.{StoreCall}
-use Rattle.g_plain.specs.declared.calls.StoreCall.TheVariants.{Put}
 use Rattle.g_plain.specs.declared.faults.StoreFault.{StoreFault}
 use Rattle.g_plain.specs.declared.faults.StoreFault.TheVariants.{DiscFull, NoMemory, Stopped}
 use Rattle.g_tree.specs.Records.{IsRecords}
@@ -15,10 +13,6 @@ use Rattle.g_contents.specs.Facts.{IsTied, OnlineFacts}
 use Rattle.g_online.specs.declared.change.Change.TheVariants.{PutFile}
 use Rattle.g_online.specs.Done.{HasChanged, HasStopped}
 use Rattle.g_state_steps.specs.Unjam.{IsUnjamPlan}
-
-abbrev pub is_put : StoreCall → Bool
-is_put (Put path bytes) = true
-is_put call = false
 
 -- the record of the next version, with these bytes
 pub record IsNext (o : OnlineFacts) (bytes : List ℕ) (r : FileRec) : Type 0 where

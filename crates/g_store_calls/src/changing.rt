@@ -1,27 +1,29 @@
-//! Calls that change records: each by one commit.
+//! Calls that make a user or take a file away, each by one commit; and how a change of records is answered.
 ghost use Rattle.std.specs.Prelude.{◌≡◌, None, true, ℕ};
 ghost use Rattle.g_contents.specs.Facts.{IsTied};
+ghost use Rattle.g_name.specs.declared.path.Path.{Path};
 ghost use Rattle.g_online.specs.Allowed.{IsAllowed};
+ghost use Rattle.g_plain.specs.declared.calls.StoreCall.TheVariants as call;
 ghost use Rattle.g_plain.specs.Rules.{IsWithinLimits};
+ghost use Rattle.g_tree.specs.declared.asked.Granted.TheVariants as grant;
 ghost use Rattle.g_store_calls.specs.Answering.{AnswersIn};
+ghost use Rattle.g_store_calls.specs.Applied.{HasAnswered, HasApplied};
+ghost use Rattle.g_store_calls.specs.Granted.{AnswersGranted, Grants, GrantsOne};
 ghost use Rattle.g_store_calls.specs.Kinds.{IsSettled};
-ghost use Rattle.g_store_calls.specs.Applied.{HasApplied};
-ghost use Rattle.g_store_calls.specs.Made.{IsFileAt, IsNewUser};
+ghost use Rattle.g_store_calls.specs.Made.{IsNewUser};
 ghost use Rattle.g_store_calls.specs.Replies.{RefusesAs};
 
-use crate::telling::input_name;
 use g_disc::Disc;
 use g_entry::UserRec;
-use g_name::{Full, Path, User};
+use g_name::{Full, User};
 use g_online::{Change, Online, OnlineFault};
-use g_plain::{StoreCall, StoreFault, StoreReply};
-use g_tree::{Tree, refusal_of};
+use g_plain::{StoreFault, StoreReply};
+use g_tree::Tree;
 use std::alloc::Global;
 
-/// The answer to `NewUser`: a user below the caller is made, by one commit. The refusals of the call by users
-/// (docs/DEFINITIONS.md), and `NoMemory`: nothing has changed. `Stopped`: a write of the disc failed; it holds what it held, or
-/// that with the new user, and takes no further call.
-pub fn new_user<D: Disc>(
+/// The answer to `NewUser`: a user below the caller is made, by one commit. `NoMemory`: nothing has changed. `Stopped`: a write
+/// of the disc failed; it holds what it held, or that with the new user, and takes no further call.
+pub(crate) fn new_user<D: Disc>(
     alloc: Global,
     online: &mut Online<D>,
     who: &User,
@@ -32,31 +34,19 @@ pub fn new_user<D: Disc>(
 ) -> Result<StoreReply, StoreFault>
     requires live { online.old.live ≡ true }
     requires tied { IsTied online.old }
-    requires limits { IsWithinLimits (StoreCall.NewUser user.now space time money) }
-    ensures answers { AnswersIn who.now (StoreCall.NewUser user.now space time money) online.old result online.new }
-    ensures kind { IsSettled (StoreCall.NewUser user.now space time money) result }
+    requires limits { IsWithinLimits (call.NewUser user.now space time money) }
+    requires granted { Grants online.old who.now (call.NewUser user.now space time money) grant.Nothing }
+    ensures answers { AnswersIn who.now (call.NewUser user.now space time money) online.old result online.new }
+    ensures kind { IsSettled (call.NewUser user.now space time money) result }
 {
-    let call = StoreCall::NewUser {
-        user: user.copy(),
-        space,
-        time,
-        money,
-    };
-    match refusal_of(online.tree(), online.head().next_stamp, who, &call) {
-        Some(fault) => return Err(fault),
-        None => {}
-    }
     let made = made_user(online.tree(), who, user, space, time, money);
-    match applied(alloc, online, &Change::AddUser(made)) {
-        Ok(()) => Ok(StoreReply::Done),
-        Err(fault) => Err(fault),
-    }
+    changed(alloc, online, &Change::AddUser(made), StoreReply::Done)
 }
 
 /// The record of a user below the caller, behind the others. The call isn't refused.
 fn made_user(tree: &Tree, who: &User, user: &User, space: u32, time: u64, money: u64) -> UserRec
-    requires granted { (next : ℕ) × RefusesAs tree.now.users tree.now.files next who.now (StoreCall.NewUser user.now space time money) None }
-    requires limits { IsWithinLimits (StoreCall.NewUser user.now space time money) }
+    requires granted { (next : ℕ) × RefusesAs tree.now.users tree.now.files next who.now (call.NewUser user.now space time money) None }
+    requires limits { IsWithinLimits (call.NewUser user.now space time money) }
     ensures { IsNewUser tree.now.users tree.now.files who.now user.now space time money result }
 {
     // That the name is one is known from here.
@@ -75,42 +65,42 @@ fn made_user(tree: &Tree, who: &User, user: &User, space: u32, time: u64, money:
     }
 }
 
-/// The answer to `Erase`: the file that the path names goes, by one commit. The refusals of the call (docs/DEFINITIONS.md), and
-/// `NoMemory`: nothing has changed. `Stopped`: a write of the disc failed; it holds what it held, or that without the file, and
-/// takes no further call.
-pub fn erase<D: Disc>(
+/// The answer to `Erase`: this file, which the path names, goes by one commit. `NoMemory`: nothing has changed. `Stopped`: a
+/// write of the disc failed; it holds what it held, or that without the file, and takes no further call.
+pub(crate) fn erase<D: Disc>(
     alloc: Global,
     online: &mut Online<D>,
-    who: &User,
-    path: &Path,
+    number: u16,
+    full: Full,
 ) -> Result<StoreReply, StoreFault>
     requires live { online.old.live ≡ true }
     requires tied { IsTied online.old }
-    ensures answers { AnswersIn who.now (StoreCall.Erase path.now) online.old result online.new }
-    ensures kind { IsSettled (StoreCall.Erase path.now) result }
+    requires granted { (path : Path) × GrantsOne online.old (grant.Input number full) (call.Erase path) }
+    ensures answers { (path : Path) → AnswersGranted online.old (grant.Input number full) result online.new (call.Erase path) }
+    ensures kind { (path : Path) → IsSettled (call.Erase path) result }
 {
-    let call = StoreCall::Erase { path: path.copy() };
-    match refusal_of(online.tree(), online.head().next_stamp, who, &call) {
-        Some(fault) => return Err(fault),
-        None => {}
-    }
-    let (number, full) = erased_file(online.tree(), who, path);
-    match applied(alloc, online, &Change::EraseFile(number)) {
-        Ok(()) => Ok(StoreReply::Erased(full)),
-        Err(fault) => Err(fault),
-    }
+    changed(
+        alloc,
+        online,
+        &Change::EraseFile(number),
+        StoreReply::Erased(full),
+    )
 }
 
-/// The file that the path names, with its full name. The erasing isn't refused.
-fn erased_file(tree: &Tree, who: &User, path: &Path) -> (u16, Full)
-    requires granted { (next : ℕ) × RefusesAs tree.now.users tree.now.files next who.now (StoreCall.Erase path.now) None }
-    ensures { IsFileAt tree.now.users tree.now.files who.now path.now result.0 result.1 }
+/// Makes the change, and answers this where it was made. `Stopped`, `NoMemory`.
+pub(crate) fn changed<D: Disc>(
+    alloc: Global,
+    online: &mut Online<D>,
+    change: &Change,
+    reply: StoreReply,
+) -> Result<StoreReply, StoreFault>
+    requires allowed { IsAllowed change.now online.old }
+    ensures { HasAnswered change.now reply online.old online.new result }
 {
-    let full = input_name(tree, who, path);
-    let Some(number) = tree.number_of(&full) else {
-        unreachable!()
-    };
-    (number, full)
+    match applied(alloc, online, change) {
+        Ok(()) => Ok(reply),
+        Err(fault) => Err(fault),
+    }
 }
 
 /// Makes the change. `Stopped`, `NoMemory`.

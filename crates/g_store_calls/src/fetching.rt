@@ -1,57 +1,50 @@
 //! Calls that want the bytes of a file: read from the disc, or brought back to it from tape.
 ghost use Rattle.std.specs.Prelude.{◌≡◌, Contains, false, true};
 ghost use Rattle.g_base.specs.Block as block;
-ghost use Rattle.g_entry.specs.declared.file_rec.FileRec.{FileRec};
-ghost use Rattle.g_plain.specs.PlainTree as plain;
-ghost use Rattle.g_plain.specs.declared.calls.StoreReply.TheVariants as reply;
-ghost use Rattle.g_tree.specs.Records.{ForTree, IsRecords};
 ghost use Rattle.g_contents.specs.Contents.{File};
 ghost use Rattle.g_contents.specs.Facts.{IsTied};
+ghost use Rattle.g_entry.specs.declared.file_rec.FileRec.{FileRec};
+ghost use Rattle.g_name.specs.declared.path.Path.{Path};
+ghost use Rattle.g_plain.specs.declared.calls.StoreCall.TheVariants as call;
+ghost use Rattle.g_plain.specs.declared.calls.StoreReply.TheVariants as reply;
 ghost use Rattle.g_retrieve.specs.Keeps.{KeepsDevices};
-ghost use Rattle.g_store_calls.specs.Answering.{AnswersOver};
-ghost use Rattle.g_store_calls.specs.Fetched.{HasComeBack, HasReadDisc, answer_by, is_fetch, is_retrieve};
+ghost use Rattle.g_trap.specs.declared.mode_set.Mode.{Mode};
+ghost use Rattle.g_tree.specs.declared.asked.Granted.TheVariants as grant;
+ghost use Rattle.g_store_calls.specs.Fetched.{HasComeBack, HasReadDisc, answer_by};
+ghost use Rattle.g_store_calls.specs.Granted.{AnswersGrantedOver, GrantsOne};
 ghost use Rattle.g_store_calls.specs.Kinds.{IsKind};
-ghost use Rattle.g_store_calls.specs.Made.{IsFileAt};
 
-use crate::telling::input_name;
 use g_base::blocks_for;
 use g_disc::Disc;
 use g_migrate::plan_unjam;
-use g_name::{Full, Path, Text, User};
-use g_online::{Online, OnlineFault};
-use g_plain::{StoreCall, StoreFault, StoreReply};
+use g_name::{Full, Text};
+use g_online::Online;
+use g_plain::{StoreFault, StoreReply};
 use g_retrieve::bring_back;
 use g_tape::Tapes;
-use g_tree::{Tree, refusal_of};
+use g_tree::Tree;
 use std::alloc::Global;
 
-/// The answer to `Fetch`: the bytes of the file that the path names for input, read from the disc. A file that isn't there is
+/// The answer to `Fetch`: the bytes of this file, which the path names for input, read from the disc. A file that isn't there is
 /// brought back to it first (docs/DEFINITIONS.md): its reel's catalogue and each block of its copy are read, and other files
-/// are taken off the disc where it has no room. The refusals of the call by users and files, then `WaitTape`, `TapeReadFault`,
-/// `NoCopy`, `DiscFull` in blocks of 512 bytes, `DiscReadFault`; and `NoMemory`: nothing has changed. `Stopped`: a write of
-/// the disc failed; it holds what it held, or that without the files that were to go, or with the file too, and takes no
-/// further call.
-pub fn fetch<D: Disc, T: Tapes>(
+/// are taken off the disc where it has no room. `WaitTape`, `TapeReadFault`, `NoCopy`, `DiscFull` in blocks of 512 bytes,
+/// `DiscReadFault`; and `NoMemory`: nothing has changed. `Stopped`: a write of the disc failed; it holds what it held, or that
+/// without the files that were to go, or with the file too, and takes no further call.
+pub(crate) fn fetch<D: Disc, T: Tapes>(
     alloc: Global,
     online: &mut Online<D>,
     tapes: &mut T,
-    who: &User,
-    call: &StoreCall,
+    number: u16,
+    full: Full,
 ) -> Result<StoreReply, StoreFault>
     requires live { online.old.live ≡ true }
     requires tied { IsTied online.old }
-    requires fetches { is_fetch call.now ≡ true }
-    ensures answers { AnswersOver who.now call.now online.old (T.rack tapes.old) result online.new (T.rack tapes.new) }
-    ensures kind { IsKind call.now (T.rack tapes.old) result }
+    requires granted { (path : Path) × (mode : Mode) × GrantsOne online.old (grant.Input number full) (call.Fetch path mode) }
+    ensures answers { (path : Path) (mode : Mode) → AnswersGrantedOver online.old (T.rack tapes.old) (grant.Input number full) result
+        online.new (T.rack tapes.new) (call.Fetch path mode) }
+    ensures kind { (path : Path) (mode : Mode) → GrantsOne online.old (grant.Input number full) (call.Fetch path mode)
+        → IsKind (call.Fetch path mode) (T.rack tapes.old) result }
 {
-    match refusal_of(online.tree(), online.head().next_stamp, who, call) {
-        Some(fault) => return Err(fault),
-        None => {}
-    }
-    let StoreCall::Fetch { path, .. } = call else {
-        unreachable!()
-    };
-    let (number, full) = wanted_file(online.tree(), who, path);
     if online.is_online(number) {
         bytes_answer(full, disc_bytes(alloc, online, number))
     } else {
@@ -59,47 +52,28 @@ pub fn fetch<D: Disc, T: Tapes>(
     }
 }
 
-/// The answer to `Retrieve`: the file that the path names for input is on the disc. Where it is there no device is asked;
+/// The answer to `Retrieve`: this file, which the path names for input, is on the disc. Where it is there no device is asked;
 /// else it is brought back as by `fetch`, with the same refusals.
-pub fn retrieve<D: Disc, T: Tapes>(
+pub(crate) fn retrieve<D: Disc, T: Tapes>(
     alloc: Global,
     online: &mut Online<D>,
     tapes: &mut T,
-    who: &User,
-    call: &StoreCall,
+    number: u16,
+    full: Full,
 ) -> Result<StoreReply, StoreFault>
     requires live { online.old.live ≡ true }
     requires tied { IsTied online.old }
-    requires retrieves { is_retrieve call.now ≡ true }
-    ensures answers { AnswersOver who.now call.now online.old (T.rack tapes.old) result online.new (T.rack tapes.new) }
-    ensures kind { IsKind call.now (T.rack tapes.old) result }
+    requires granted { (path : Path) × GrantsOne online.old (grant.Input number full) (call.Retrieve path) }
+    ensures answers { (path : Path) → AnswersGrantedOver online.old (T.rack tapes.old) (grant.Input number full) result
+        online.new (T.rack tapes.new) (call.Retrieve path) }
+    ensures kind { (path : Path) → GrantsOne online.old (grant.Input number full) (call.Retrieve path)
+        → IsKind (call.Retrieve path) (T.rack tapes.old) result }
 {
-    match refusal_of(online.tree(), online.head().next_stamp, who, call) {
-        Some(fault) => return Err(fault),
-        None => {}
-    }
-    let StoreCall::Retrieve { path } = call else {
-        unreachable!()
-    };
-    let (number, full) = wanted_file(online.tree(), who, path);
     if online.is_online(number) {
         Ok(StoreReply::Retrieved(full))
     } else {
         back_answer(full, brought_bytes(alloc, online, tapes, number))
     }
-}
-
-/// The file that the path names, with its full name. It is there.
-fn wanted_file(tree: &Tree, who: &User, path: &Path) -> (u16, Full)
-    requires there { ForTree tree.now.users tree.now.files
-        (λ t. plain.has_file t (plain.input_name t who.now path.now) ≡ true) }
-    ensures { IsFileAt tree.now.users tree.now.files who.now path.now result.0 result.1 }
-{
-    let full = input_name(tree, who, path);
-    let Some(number) = tree.number_of(&full) else {
-        unreachable!()
-    };
-    (number, full)
 }
 
 /// The reply with the bytes of a file of this name, or why there are none.
@@ -136,8 +110,7 @@ fn disc_bytes<D: Disc>(
 {
     match online.bytes(alloc, number) {
         Ok(text) => Ok(text),
-        Err(OnlineFault::ReadFault) => Err(StoreFault::DiscReadFault),
-        Err(_) => Err(StoreFault::NoMemory),
+        Err(fault) => Err(StoreFault::from(fault)),
     }
 }
 

@@ -9,10 +9,4 @@ mod putting;
 mod setting;
 mod telling;
 
-pub use answering::{answer, change};
-pub use appending::append;
-pub use changing::{erase, new_user};
-pub use fetching::{fetch, retrieve};
-pub use putting::put;
-pub use setting::{budget, rename, trap_go, trap_stop};
-pub use telling::tell;
+pub use answering::answer;

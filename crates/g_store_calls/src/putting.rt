@@ -3,110 +3,75 @@ ghost use Rattle.std.specs.Prelude.{◌≡◌, ◌<◌, ◌≤◌, ◌^◌, true
 ghost use Rattle.g_contents.specs.Contents.{recs_in};
 ghost use Rattle.g_contents.specs.Facts.{IsTied};
 ghost use Rattle.g_name.specs.declared.full.Full.{Full};
+ghost use Rattle.g_name.specs.declared.path.Path.{Path};
+ghost use Rattle.g_plain.specs.declared.calls.StoreCall.TheVariants as call;
 ghost use Rattle.g_plain.specs.PlainTree as plain;
 ghost use Rattle.g_state_calls.specs.Calls.{IsVersionOf};
 ghost use Rattle.g_tape.specs.Rack.{Rack};
+ghost use Rattle.g_tree.specs.declared.asked.Granted.TheVariants as grant;
 ghost use Rattle.g_tree.specs.Records.{ForTree, name_of_file, number_of};
-ghost use Rattle.g_store_calls.specs.Answering.{AnswersOver};
+ghost use Rattle.g_store_calls.specs.Granted.{AnswersGrantedOver, GrantsOne};
 ghost use Rattle.g_store_calls.specs.Kinds.{IsSettled};
-ghost use Rattle.g_store_calls.specs.Replies.{RefusesAs};
-ghost use Rattle.g_store_calls.specs.Versions.{HasMade, IsNext, is_put};
+ghost use Rattle.g_store_calls.specs.Versions.{HasMade, IsNext};
 
 use g_base::blocks_for;
 use g_disc::Disc;
 use g_entry::FileRec;
 use g_migrate::plan_unjam;
-use g_name::{Full, Path, Text, User};
+use g_name::{Full, Text};
 use g_online::{Online, OnlineFault};
-use g_plain::{StoreCall, StoreFault, StoreReply, named};
+use g_plain::{StoreFault, StoreReply};
 use g_trap::Traps;
-use g_tree::{Tree, refusal_of};
 use std::alloc::Global;
 
-/// The answer to `Put`: a new version of the file that the path names for output, or a new file, by one commit; where there is no
-/// room, the oldest versions that are on tape too go off the disc before, by a commit of their own. The refusals of the call
-/// (docs/DEFINITIONS.md), `DiscFull` where that doesn't make room enough, in blocks of 512 bytes, and `NoMemory`: nothing has
-/// changed. `Stopped`: a write of the disc failed; it holds what it held, or that with the versions off it, or that with the new
-/// version, and takes no further call.
-pub fn put<D: Disc>(
+/// The answer to `Put`: a new version of the file of this number, or a new file where there is none, by one commit; where there
+/// is no room, the oldest versions that are on tape too go off the disc before, by a commit of their own. `DiscFull` where that
+/// doesn't make room enough, in blocks of 512 bytes, and `NoMemory`: nothing has changed. `Stopped`: a write of the disc failed;
+/// it holds what it held, or that with the versions off it, or that with the new version, and takes no further call.
+pub(crate) fn put<D: Disc>(
     alloc: Global,
     online: &mut Online<D>,
-    who: &User,
-    call: &StoreCall,
-) -> Result<StoreReply, StoreFault>
-    requires live { online.old.live ≡ true }
-    requires tied { IsTied online.old }
-    requires puts { is_put call.now ≡ true }
-    ensures answers { (rack : Rack) → AnswersOver who.now call.now online.old rack result online.new rack }
-    ensures kind { IsSettled call.now result }
-{
-    match refusal_of(online.tree(), online.head().next_stamp, who, call) {
-        Some(fault) => return Err(fault),
-        None => {}
-    }
-    let StoreCall::Put { path, bytes } = call else {
-        unreachable!()
-    };
-    put_new(alloc, online, who, path, bytes)
-}
-
-/// Puts in the version that isn't refused. `DiscFull`, `NoMemory`, `Stopped`.
-fn put_new<D: Disc>(
-    alloc: Global,
-    online: &mut Online<D>,
-    who: &User,
-    path: &Path,
+    number: Option<u16>,
+    full: Full,
     bytes: &Text,
 ) -> Result<StoreReply, StoreFault>
     requires live { online.old.live ≡ true }
     requires tied { IsTied online.old }
-    requires granted { RefusesAs online.old.contents.users (recs_in online.old.contents) online.old.contents.head.next_stamp who.now
-        (StoreCall.Put path.now bytes.now) None }
-    ensures answers { (rack : Rack) → AnswersOver who.now (StoreCall.Put path.now bytes.now) online.old rack result online.new rack }
-    ensures kind { IsSettled (StoreCall.Put path.now bytes.now) result }
+    requires granted { (path : Path) × GrantsOne online.old (grant.Output number full) (call.Put path bytes.now) }
+    ensures answers { (path : Path) (rack : Rack) → AnswersGrantedOver online.old rack (grant.Output number full) result online.new rack
+        (call.Put path bytes.now) }
+    ensures kind { (path : Path) → GrantsOne online.old (grant.Output number full) (call.Put path bytes.now)
+        → IsSettled (call.Put path bytes.now) result }
 {
-    let full = output_name(online.tree(), who, path);
-    let rec = version_of(online, who, path, bytes, &full);
+    let rec = version_of(online, number, &full, bytes);
     match make_version(alloc, online, &rec, bytes) {
         Ok(()) => Ok(StoreReply::Made(full)),
         Err(fault) => Err(fault),
     }
 }
 
-/// The full name of the file that a path names for output.
-fn output_name(tree: &Tree, who: &User, path: &Path) -> Full
-    ensures { ForTree tree.now.users tree.now.files (λ t. result ≡ plain.output_name t who.now path.now) }
-{
-    let newest = tree.newest(&named(who, path, 0));
-    named(who, path, path.generation.unwrap_or(newest + 1))
-}
-
-/// The record of the version that a `Put` makes, of the file of the full name that its path gives. The call isn't refused.
+/// The record of the version that a `Put` makes, of the file of this number and full name. The call isn't refused.
 fn version_of<D: Disc>(
     online: &Online<D>,
-    who: &User,
-    path: &Path,
-    bytes: &Text,
+    number: Option<u16>,
     full: &Full,
+    bytes: &Text,
 ) -> FileRec
     requires live { online.now.live ≡ true }
     requires tied { IsTied online.now }
-    requires granted { RefusesAs online.now.contents.users (recs_in online.now.contents) online.now.contents.head.next_stamp who.now
-        (StoreCall.Put path.now bytes.now) None }
-    requires called { ForTree online.now.contents.users (recs_in online.now.contents)
-        (λ t. full.now ≡ plain.output_name t who.now path.now) }
+    requires granted { (path : Path) × GrantsOne online.now (grant.Output number full.now) (call.Put path bytes.now) }
     ensures version { IsVersionOf online.now full.now result }
     ensures next { IsNext online.now bytes.now result }
 {
     let len = bytes.as_slice().len() as u32;
-    match online.tree().number_of(full) {
+    match number {
         Some(number) => next_of(online, number, len),
         None => first_of(online, full, len),
     }
 }
 
 /// The record of the next version of the file of this number, of so many bytes.
-pub(crate) fn next_of<D: Disc>(online: &Online<D>, number: u16, len: u32) -> FileRec
+fn next_of<D: Disc>(online: &Online<D>, number: u16, len: u32) -> FileRec
     requires live { online.now.live ≡ true }
     requires tied { IsTied online.now }
     requires there { (full : Full) × (name_of_file online.now.contents.users (recs_in online.now.contents) number ≡ Some full) }
@@ -166,7 +131,7 @@ fn first_of<D: Disc>(online: &Online<D>, full: &Full, len: u32) -> FileRec
 
 /// Makes the version, with these bytes: versions that are on tape too go off the disc for it where there is no room. `DiscFull`
 /// where that isn't enough, and `NoMemory`: nothing has changed. `Stopped`.
-pub(crate) fn make_version<D: Disc>(
+fn make_version<D: Disc>(
     alloc: Global,
     online: &mut Online<D>,
     rec: &FileRec,

@@ -1,63 +1,56 @@
 //! Calls that put another record in the place of one: a user's budget, and a file's name and traps. Each by one commit.
-ghost use Rattle.std.specs.Prelude.{◌≡◌, ◌≤◌, ◌<◌, None, true, ℕ};
+ghost use Rattle.std.specs.Prelude.{◌≡◌, ◌≤◌, ◌<◌, None, true, List, ℕ};
 ghost use Rattle.g_contents.specs.Facts.{IsTied};
+ghost use Rattle.g_name.specs.declared.full.Full.{Full};
+ghost use Rattle.g_name.specs.declared.path.Path.{Path};
 ghost use Rattle.g_plain.specs.PlainTree as plain;
+ghost use Rattle.g_plain.specs.declared.calls.StoreCall.TheVariants as call;
 ghost use Rattle.g_plain.specs.Rules.{IsWithinLimits, most_of};
 ghost use Rattle.g_trap.specs.TrapList.{IsOthers};
-ghost use Rattle.g_tree.specs.Records.{ForTree, IsRecords};
-ghost use Rattle.g_store_calls.specs.Anew.{IsBudgeted, IsFileNamed, IsRenamed, IsTrapped, budgeted};
-ghost use Rattle.g_store_calls.specs.Answering.{AnswersIn};
+ghost use Rattle.g_tree.specs.Records.{ForTree};
+ghost use Rattle.g_tree.specs.declared.asked.Granted.TheVariants as grant;
+ghost use Rattle.g_store_calls.specs.Anew.{IsBudgeted, IsRenamed, IsTrapped, budgeted};
+ghost use Rattle.g_store_calls.specs.Granted.{AnswersGranted, GrantsOne};
 ghost use Rattle.g_store_calls.specs.Kinds.{IsSettled};
+ghost use Rattle.g_store_calls.specs.Made.{GrantsFile, IsFileAt};
 ghost use Rattle.g_store_calls.specs.Replies.{RefusesAs};
 
-use crate::changing::applied;
-use crate::telling::input_name;
+use crate::changing::changed;
+use crate::telling::number_of_user;
 use g_disc::Disc;
 use g_entry::{FileRec, UserRec};
-use g_name::{Full, Local, Path, User};
+use g_name::{Full, Local, User};
 use g_online::{Change, Online};
-use g_plain::{BudgetKind, StoreCall, StoreFault, StoreReply};
+use g_plain::{BudgetKind, StoreFault, StoreReply};
+use g_retrieve::file_of;
 use g_trap::{Modes, Traps};
-use g_tree::{Tree, refusal_of};
+use g_tree::Tree;
 use std::alloc::Global;
 
-/// The answer to `Budget`: one budget of a user below the caller is set, by one commit. The refusals of the call by users
-/// (docs/DEFINITIONS.md), and `NoMemory`: nothing has changed. `Stopped`: a write of the disc failed; it holds what it held, or
-/// that with the budget, and takes no further call.
-pub fn budget<D: Disc>(
+/// The answer to `Budget`: one budget of a user below the caller is set, by one commit. `NoMemory`: nothing has changed.
+/// `Stopped`: a write of the disc failed; it holds what it held, or that with the budget, and takes no further call.
+pub(crate) fn budget<D: Disc>(
     alloc: Global,
     online: &mut Online<D>,
-    who: &User,
     user: &User,
     kind: BudgetKind,
     amount: u64,
 ) -> Result<StoreReply, StoreFault>
     requires live { online.old.live ≡ true }
     requires tied { IsTied online.old }
-    requires limits { IsWithinLimits (StoreCall.Budget user.now kind amount) }
-    ensures answers { AnswersIn who.now (StoreCall.Budget user.now kind amount) online.old result online.new }
-    ensures kind { IsSettled (StoreCall.Budget user.now kind amount) result }
+    requires limits { IsWithinLimits (call.Budget user.now kind amount) }
+    requires granted { GrantsOne online.old grant.Nothing (call.Budget user.now kind amount) }
+    ensures answers { AnswersGranted online.old grant.Nothing result online.new (call.Budget user.now kind amount) }
+    ensures kind { IsSettled (call.Budget user.now kind amount) result }
 {
-    let call = StoreCall::Budget {
-        user: user.copy(),
-        kind,
-        amount,
-    };
-    match refusal_of(online.tree(), online.head().next_stamp, who, &call) {
-        Some(fault) => return Err(fault),
-        None => {}
-    }
-    let user_rec = budgeted_user(online.tree(), who, user, kind, amount);
-    match applied(alloc, online, &Change::SetUser(user_rec)) {
-        Ok(()) => Ok(StoreReply::Done),
-        Err(fault) => Err(fault),
-    }
+    let rec = budgeted_user(online.tree(), user, kind, amount);
+    changed(alloc, online, &Change::SetUser(rec), StoreReply::Done)
 }
 
-/// The record of a user with another budget. The call isn't refused.
-fn budgeted_user(tree: &Tree, who: &User, user: &User, kind: BudgetKind, amount: u64) -> UserRec
-    requires granted { (next : ℕ) × RefusesAs tree.now.users tree.now.files next who.now (StoreCall.Budget user.now kind amount) None }
-    requires limits { IsWithinLimits (StoreCall.Budget user.now kind amount) }
+/// The record of a user who is there, with another budget.
+fn budgeted_user(tree: &Tree, user: &User, kind: BudgetKind, amount: u64) -> UserRec
+    requires there { ForTree tree.now.users tree.now.files (λ t. plain.has_user t user.now ≡ true) }
+    requires limits { IsWithinLimits (call.Budget user.now kind amount) }
     ensures { IsBudgeted tree.now.users tree.now.files user.now kind amount result }
 {
     let Some(old) = tree.user(user) else {
@@ -87,46 +80,41 @@ fn with_budget(user: &UserRec, kind: BudgetKind, amount: u64) -> UserRec
     }
 }
 
-/// The answer to `Rename`: the file that the path names gets another local name, by one commit. The refusals of the call
-/// (docs/DEFINITIONS.md), and `NoMemory`: nothing has changed. `Stopped`: a write of the disc failed; it holds what it held, or
-/// that with the file renamed, and takes no further call.
-pub fn rename<D: Disc>(
+/// The answer to `Rename`: this file, which the path names, gets another local name, by one commit. `NoMemory`: nothing has
+/// changed. `Stopped`: a write of the disc failed; it holds what it held, or that with the file renamed, and takes no further
+/// call.
+pub(crate) fn rename<D: Disc>(
     alloc: Global,
     online: &mut Online<D>,
-    who: &User,
-    path: &Path,
+    number: u16,
+    full: Full,
     to: &Local,
 ) -> Result<StoreReply, StoreFault>
     requires live { online.old.live ≡ true }
     requires tied { IsTied online.old }
-    ensures answers { AnswersIn who.now (StoreCall.Rename path.now to.now) online.old result online.new }
-    ensures kind { IsSettled (StoreCall.Rename path.now to.now) result }
+    requires granted { (path : Path) × GrantsOne online.old (grant.Input number full) (call.Rename path to.now) }
+    ensures answers { (path : Path) → AnswersGranted online.old (grant.Input number full) result online.new (call.Rename path to.now) }
+    ensures kind { (path : Path) → IsSettled (call.Rename path to.now) result }
 {
-    let call = StoreCall::Rename {
-        path: path.copy(),
-        to: to.copy(),
-    };
-    match refusal_of(online.tree(), online.head().next_stamp, who, &call) {
-        Some(fault) => return Err(fault),
-        None => {}
-    }
-    let (rec, full) = renamed_file(online.tree(), who, path, to);
-    match applied(alloc, online, &Change::SetFile(rec)) {
-        Ok(()) => Ok(StoreReply::Renamed(full)),
-        Err(fault) => Err(fault),
-    }
+    let (rec, name) = renamed_file(online.tree(), number, &full, to);
+    changed(
+        alloc,
+        online,
+        &Change::SetFile(rec),
+        StoreReply::Renamed(name),
+    )
 }
 
-/// The record of the file that the path names, with another local name, and its full name then. The call isn't refused.
-fn renamed_file(tree: &Tree, who: &User, path: &Path, to: &Local) -> (FileRec, Full)
-    requires granted { (next : ℕ) × RefusesAs tree.now.users tree.now.files next who.now (StoreCall.Rename path.now to.now) None }
-    ensures { IsRenamed tree.now.users tree.now.files who.now path.now to.now result.0 result.1 }
+/// The record of the file with another local name, and its full name then. The call isn't refused.
+fn renamed_file(tree: &Tree, number: u16, full: &Full, to: &Local) -> (FileRec, Full)
+    requires granted { (who : List ℕ) × (path : Path) × GrantsFile tree.now.users tree.now.files who (call.Rename path to.now) path number full.now }
+    ensures { (who : List ℕ) (path : Path) → GrantsFile tree.now.users tree.now.files who (call.Rename path to.now) path number full.now
+        → IsRenamed tree.now.users tree.now.files who path to.now result.0 result.1 }
 {
-    // That the name is one, and that the records keep their rules, is known from here.
+    // That the name is one is known from here.
     let _word = to.as_slice();
-    let _users = tree.users();
-    let (old, full) = file_named(tree, who, path);
-    (with_local(&old, to), renamed(&full, to))
+    let old = file_of(tree, number);
+    (with_local(&old, to), renamed(full, to))
 }
 
 /// The name with another local name.
@@ -151,101 +139,77 @@ fn with_local(file: &FileRec, local: &Local) -> FileRec
     }
 }
 
-/// The answer to `TrapGo`: the file that the path names opens modes to a user, by one commit. The refusals of the call
-/// (docs/DEFINITIONS.md), and `NoMemory`: nothing has changed. `Stopped`: a write of the disc failed; it holds what it held, or
-/// that with the modes opened, and takes no further call.
-pub fn trap_go<D: Disc>(
+/// The answer to `TrapGo`: this file, which the path names, opens modes to a user, by one commit. `NoMemory`: nothing has
+/// changed. `Stopped`: a write of the disc failed; it holds what it held, or that with the modes opened, and takes no further
+/// call.
+pub(crate) fn trap_go<D: Disc>(
     alloc: Global,
     online: &mut Online<D>,
-    who: &User,
-    path: &Path,
+    number: u16,
     user: &User,
     modes: Modes,
 ) -> Result<StoreReply, StoreFault>
     requires live { online.old.live ≡ true }
     requires tied { IsTied online.old }
-    ensures answers { AnswersIn who.now (StoreCall.TrapGo path.now user.now modes) online.old result online.new }
-    ensures kind { IsSettled (StoreCall.TrapGo path.now user.now modes) result }
+    requires granted { (path : Path) × (full : Full) × GrantsOne online.old (grant.Input number full) (call.TrapGo path user.now modes) }
+    ensures answers { (path : Path) (full : Full) → AnswersGranted online.old (grant.Input number full) result online.new
+        (call.TrapGo path user.now modes) }
+    ensures kind { (path : Path) → IsSettled (call.TrapGo path user.now modes) result }
 {
-    let call = StoreCall::TrapGo {
-        path: path.copy(),
-        user: user.copy(),
-        modes,
-    };
-    match refusal_of(online.tree(), online.head().next_stamp, who, &call) {
-        Some(fault) => return Err(fault),
-        None => {}
-    }
-    let rec = opened_file(online.tree(), who, path, user, modes);
-    match applied(alloc, online, &Change::SetFile(rec)) {
-        Ok(()) => Ok(StoreReply::Done),
-        Err(fault) => Err(fault),
-    }
+    let rec = opened_file(online.tree(), number, user, modes);
+    changed(alloc, online, &Change::SetFile(rec), StoreReply::Done)
 }
 
-/// The record of the file that the path names, with modes opened to a user. The call isn't refused.
-fn opened_file(tree: &Tree, who: &User, path: &Path, user: &User, modes: Modes) -> FileRec
-    requires granted { (next : ℕ) × RefusesAs tree.now.users tree.now.files next who.now (StoreCall.TrapGo path.now user.now modes) None }
-    ensures { IsTrapped tree.now.users tree.now.files who.now path.now user.now (StoreCall.TrapGo path.now user.now modes) result }
+/// The record of the file with modes opened to a user. The call isn't refused.
+fn opened_file(tree: &Tree, number: u16, user: &User, modes: Modes) -> FileRec
+    requires granted { (who : List ℕ) × (path : Path) × (full : Full)
+        × GrantsFile tree.now.users tree.now.files who (call.TrapGo path user.now modes) path number full }
+    ensures { (who : List ℕ) (path : Path) (full : Full)
+        → GrantsFile tree.now.users tree.now.files who (call.TrapGo path user.now modes) path number full
+        → IsTrapped tree.now.users tree.now.files who path user.now (call.TrapGo path user.now modes) result }
 {
-    // That the records keep their rules is known from here.
-    let _users = tree.users();
-    let (old, _full) = file_named(tree, who, path);
-    let Some(number) = tree.user_number(user) else {
-        unreachable!()
-    };
+    let old = file_of(tree, number);
+    let user = number_of_user(tree, user);
     let mut traps = old.traps.copy();
-    match traps.go(old.owner, number, modes) {
+    match traps.go(old.owner, user, modes) {
         Ok(()) => with_traps(&old, traps),
         Err(_) => unreachable!(),
     }
 }
 
-/// The answer to `TrapStop`: the file that the path names closes modes to a user, by one commit. The refusals of the call
-/// (docs/DEFINITIONS.md), and `NoMemory`: nothing has changed. `Stopped`: a write of the disc failed; it holds what it held, or
-/// that with the modes closed, and takes no further call.
-pub fn trap_stop<D: Disc>(
+/// The answer to `TrapStop`: this file, which the path names, closes modes to a user, by one commit. `NoMemory`: nothing has
+/// changed. `Stopped`: a write of the disc failed; it holds what it held, or that with the modes closed, and takes no further
+/// call.
+pub(crate) fn trap_stop<D: Disc>(
     alloc: Global,
     online: &mut Online<D>,
-    who: &User,
-    path: &Path,
+    number: u16,
     user: &User,
     modes: Modes,
 ) -> Result<StoreReply, StoreFault>
     requires live { online.old.live ≡ true }
     requires tied { IsTied online.old }
-    ensures answers { AnswersIn who.now (StoreCall.TrapStop path.now user.now modes) online.old result online.new }
-    ensures kind { IsSettled (StoreCall.TrapStop path.now user.now modes) result }
+    requires granted { (path : Path) × (full : Full) × GrantsOne online.old (grant.Input number full) (call.TrapStop path user.now modes) }
+    ensures answers { (path : Path) (full : Full) → AnswersGranted online.old (grant.Input number full) result online.new
+        (call.TrapStop path user.now modes) }
+    ensures kind { (path : Path) → IsSettled (call.TrapStop path user.now modes) result }
 {
-    let call = StoreCall::TrapStop {
-        path: path.copy(),
-        user: user.copy(),
-        modes,
-    };
-    match refusal_of(online.tree(), online.head().next_stamp, who, &call) {
-        Some(fault) => return Err(fault),
-        None => {}
-    }
-    let rec = closed_file(online.tree(), who, path, user, modes);
-    match applied(alloc, online, &Change::SetFile(rec)) {
-        Ok(()) => Ok(StoreReply::Done),
-        Err(fault) => Err(fault),
-    }
+    let rec = closed_file(online.tree(), number, user, modes);
+    changed(alloc, online, &Change::SetFile(rec), StoreReply::Done)
 }
 
-/// The record of the file that the path names, with modes closed to a user. The call isn't refused.
-fn closed_file(tree: &Tree, who: &User, path: &Path, user: &User, modes: Modes) -> FileRec
-    requires granted { (next : ℕ) × RefusesAs tree.now.users tree.now.files next who.now (StoreCall.TrapStop path.now user.now modes) None }
-    ensures { IsTrapped tree.now.users tree.now.files who.now path.now user.now (StoreCall.TrapStop path.now user.now modes) result }
+/// The record of the file with modes closed to a user. The call isn't refused.
+fn closed_file(tree: &Tree, number: u16, user: &User, modes: Modes) -> FileRec
+    requires granted { (who : List ℕ) × (path : Path) × (full : Full)
+        × GrantsFile tree.now.users tree.now.files who (call.TrapStop path user.now modes) path number full }
+    ensures { (who : List ℕ) (path : Path) (full : Full)
+        → GrantsFile tree.now.users tree.now.files who (call.TrapStop path user.now modes) path number full
+        → IsTrapped tree.now.users tree.now.files who path user.now (call.TrapStop path user.now modes) result }
 {
-    // That the records keep their rules is known from here.
-    let _users = tree.users();
-    let (old, _full) = file_named(tree, who, path);
-    let Some(number) = tree.user_number(user) else {
-        unreachable!()
-    };
+    let old = file_of(tree, number);
+    let user = number_of_user(tree, user);
     let mut traps = old.traps.copy();
-    traps.stop(old.owner, number, modes);
+    traps.stop(old.owner, user, modes);
     with_traps(&old, traps)
 }
 
@@ -262,19 +226,4 @@ fn with_traps(file: &FileRec, traps: Traps) -> FileRec
         traps,
         ..file.copy()
     }
-}
-
-/// The record of the file that the path names, which is there, and its full name.
-fn file_named(tree: &Tree, who: &User, path: &Path) -> (FileRec, Full)
-    requires there { ForTree tree.now.users tree.now.files (λ t. plain.has_file t (plain.input_name t who.now path.now) ≡ true) }
-    ensures { IsFileNamed tree.now.users tree.now.files who.now path.now result.0 result.1 }
-{
-    let full = input_name(tree, who, path);
-    let Some(number) = tree.number_of(&full) else {
-        unreachable!()
-    };
-    let Some(file) = tree.file_at(number) else {
-        unreachable!()
-    };
-    (file.copy(), full)
 }

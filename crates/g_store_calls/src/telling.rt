@@ -1,66 +1,57 @@
 //! Calls that only tell: the files of a user, and what a user may do with a file.
-ghost use Rattle.std.specs.Prelude.{◌≡◌, true, All, IfOk, IfSome, ℕ, List, map};
+ghost use Rattle.std.specs.Prelude.{◌≡◌, ◌<◌, true, All, IfOk, ℕ, List, Some, length, map};
 ghost use Rattle.g_name.specs.declared.full.Full.{Full};
-ghost use Rattle.g_entry.specs.declared.file_rec.FileRec.{FileRec};
-ghost use Rattle.g_tree.specs.Records.{ForTree, HasLengths, tree_of};
-ghost use Rattle.g_plain.specs.PlainStep.{reply_to};
+ghost use Rattle.g_name.specs.declared.path.Path.{Path};
+ghost use Rattle.g_contents.specs.Facts.{IsTied};
+ghost use Rattle.g_plain.specs.declared.calls.StoreCall.TheVariants as call;
 ghost use Rattle.g_plain.specs.PlainTree as plain;
-ghost use Rattle.g_state_laws.specs.Refusals.{only_tells};
-ghost use Rattle.g_store_calls.specs.Answering.{AnswersIn};
+ghost use Rattle.g_tree.specs.declared.asked.Granted.TheVariants as grant;
+ghost use Rattle.g_tree.specs.Records.{ForTree, name_of, name_of_file};
+ghost use Rattle.g_store_calls.specs.Granted.{AnswersGranted, GrantsOne};
 ghost use Rattle.g_store_calls.specs.Kinds.{IsSettled};
-ghost use Rattle.g_store_calls.specs.Replies.{AreLengths, IsThere, RefusesAs, RepliesAs, row_of};
+ghost use Rattle.g_store_calls.specs.Replies.{AreLengths, IsThere, row_of};
 
 use g_base::NoMemory;
 use g_disc::Disc;
-use g_name::{Full, Path, User};
+use g_name::{Full, User};
 use g_online::Online;
-use g_plain::{Listing, StoreCall, StoreFault, StoreReply, named};
+use g_plain::{Listing, StoreFault, StoreReply};
 use g_trap::Modes;
-use g_tree::{Tree, refusal_of};
+use g_tree::Tree;
 use std::alloc::Global;
 
-/// The answer to a call that only tells, `List` or `TrapCheck`: no device is asked, and nothing changes. `NoMemory`, and the
-/// refusals of the call by users and files (docs/DEFINITIONS.md).
-pub fn tell<D: Disc>(
+/// The answer to `List`: no device is asked, and nothing changes. `NoMemory`.
+pub(crate) fn list<D: Disc>(
     alloc: Global,
     online: &Online<D>,
-    who: &User,
-    call: &StoreCall,
+    user: &User,
 ) -> Result<StoreReply, StoreFault>
     requires live { online.now.live ≡ true }
-    requires tells { only_tells call.now ≡ true }
-    ensures answers { AnswersIn who.now call.now online.now result online.now }
-    ensures kind { IsSettled call.now result }
+    requires granted { GrantsOne online.now grant.Nothing (call.List user.now) }
+    ensures answers { AnswersGranted online.now grant.Nothing result online.now (call.List user.now) }
+    ensures kind { IsSettled (call.List user.now) result }
 {
-    let tree = online.tree();
-    match refusal_of(tree, online.head().next_stamp, who, call) {
-        Some(fault) => return Err(fault),
-        None => {}
-    }
-    match reply(alloc, tree, who, call) {
-        Ok(reply) => Ok(reply),
+    match listing(alloc, online.tree(), user) {
+        Ok(listing) => Ok(StoreReply::Listing(listing)),
         Err(_) => Err(StoreFault::NoMemory),
     }
 }
 
-/// The reply to a call that only tells and isn't refused.
-fn reply(alloc: Global, tree: &Tree, who: &User, call: &StoreCall) -> Result<StoreReply, NoMemory>
-    requires tells { only_tells call.now ≡ true }
-    requires granted { (next : ℕ) × RefusesAs tree.now.users tree.now.files next who.now call.now None }
-    ensures { (next : ℕ) → IfOk result (RepliesAs tree.now.users tree.now.files next who.now call.now) }
+/// The answer to `TrapCheck` of this file: no device is asked, and nothing changes.
+pub(crate) fn trap_check<D: Disc>(
+    online: &Online<D>,
+    number: u16,
+    user: &User,
+) -> Result<StoreReply, StoreFault>
+    requires live { online.now.live ≡ true }
+    requires tied { IsTied online.now }
+    requires granted { (path : Path) × (full : Full) × GrantsOne online.now (grant.Input number full) (call.TrapCheck path user.now) }
+    ensures answers { (path : Path) (full : Full) → AnswersGranted online.now (grant.Input number full) result online.now
+        (call.TrapCheck path user.now) }
+    ensures kind { (path : Path) (full : Full) → GrantsOne online.now (grant.Input number full) (call.TrapCheck path user.now)
+        → IsSettled (call.TrapCheck path user.now) result }
 {
-    // That the records keep their rules is known from here.
-    let _users = tree.users();
-    match call {
-        StoreCall::List { user } => match listing(alloc, tree, user) {
-            Ok(listing) => Ok(StoreReply::Listing(listing)),
-            Err(fault) => Err(fault),
-        },
-        StoreCall::TrapCheck { path, user } => Ok(StoreReply::Modes(modes_of(
-            tree, who, path, user,
-        ))),
-        _ => unreachable!(),
-    }
+    Ok(StoreReply::Modes(modes_of(online.tree(), number, user)))
 }
 
 /// The files of a user who is there, with their lengths, in the order of their names.
@@ -70,9 +61,7 @@ fn listing(alloc: Global, tree: &Tree, user: &User) -> Result<Listing, NoMemory>
 {
     // That the records keep their rules is known from here.
     let _users = tree.users();
-    let Some(owner) = tree.user_number(user) else {
-        unreachable!()
-    };
+    let owner = number_of_user(tree, user);
     let numbers = match tree.listing(alloc, owner) {
         Ok(numbers) => numbers,
         Err(fault) => return Err(fault),
@@ -111,26 +100,26 @@ fn row_of(tree: &Tree, number: u16) -> (Full, u32)
     }
 }
 
-/// What a user who is there may do with the file that a path names.
-fn modes_of(tree: &Tree, who: &User, path: &Path, user: &User) -> Modes
-    requires file { ForTree tree.now.users tree.now.files (λ t. plain.has_file t (plain.input_name t who.now path.now) ≡ true) }
+/// What a user who is there may do with the file of this number.
+fn modes_of(tree: &Tree, number: u16, user: &User) -> Modes
+    requires file { IsThere tree.now.files number }
     requires there { ForTree tree.now.users tree.now.files (λ t. plain.has_user t user.now ≡ true) }
-    ensures { ForTree tree.now.users tree.now.files (λ t. let full = plain.input_name t who.now path.now in
-        result ≡ plain.modes_of (plain.file_row t full) full user.now) }
+    ensures { (who : List ℕ) (path : Path) (full : Full) → name_of_file tree.now.users tree.now.files number ≡ Some full
+        → ForTree tree.now.users tree.now.files (λ t. full ≡ plain.input_name t who path)
+        → ForTree tree.now.users tree.now.files (λ t. let name = plain.input_name t who path in
+        result ≡ plain.modes_of (plain.file_row t name) name user.now) }
 {
-    let Some(number) = tree.number_of(&input_name(tree, who, path)) else {
-        unreachable!()
-    };
-    let Some(user) = tree.user_number(user) else {
-        unreachable!()
-    };
-    tree.modes_of(number, user)
+    tree.modes_of(number, number_of_user(tree, user))
 }
 
-/// The full name of the file that a path names for input.
-pub(crate) fn input_name(tree: &Tree, who: &User, path: &Path) -> Full
-    ensures { ForTree tree.now.users tree.now.files (λ t. result ≡ plain.input_name t who.now path.now) }
+/// The number of a user who is there.
+pub(crate) fn number_of_user(tree: &Tree, user: &User) -> u8
+    requires { ForTree tree.now.users tree.now.files (λ t. plain.has_user t user.now ≡ true) }
+    ensures within { result < length tree.now.users }
+    ensures named { name_of tree.now.users result ≡ user.now }
 {
-    let newest = tree.newest(&named(who, path, 0));
-    named(who, path, path.generation.unwrap_or(newest))
+    match tree.user_number(user) {
+        Some(number) => number,
+        None => unreachable!(),
+    }
 }

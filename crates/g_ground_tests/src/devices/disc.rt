@@ -50,7 +50,7 @@ fn an_image_is_one_runs_alone(rt: HostRuntime) {
         panic!(rt; "an image over another file");
     };
     assert!(rt; other.kind() == ErrorKind::AlreadyExists);
-    assert!(rt; fs::read(&rt, unready).expect(&rt, "a file").as_slice() == b"cut");
+    assert!(rt; fs::read(&rt, unready).expect(&rt, "a file").as_slice() == b"cut".as_slice());
     make(&rt, unready, 700).expect(&rt, "a file");
     let disc = open_image(&rt, name).expect(&rt, "an image");
     assert!(rt; !fs::exists(&rt, unready).expect(&rt, "an answer"));

@@ -69,7 +69,12 @@ fn a_rack_is_one_runs_alone(rt: HostRuntime) {
     drop(tapes);
     assert!(rt; open_rack(&rt, folder).is_ok());
     // One file is no two reels.
-    fs::hard_link(&rt, "g_devices_taken.tapes/2.tape", "g_devices_taken.tapes/3.tape").expect(&rt, "a name");
+    fs::hard_link(
+        &rt,
+        "g_devices_taken.tapes/2.tape",
+        "g_devices_taken.tapes/3.tape",
+    )
+    .expect(&rt, "a name");
     let Err(twice) = open_rack(&rt, folder) else {
         panic!(rt; "a file that is two reels");
     };

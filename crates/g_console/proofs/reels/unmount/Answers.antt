@@ -16,6 +16,6 @@ pub returns-in-Down : goal.returns-in-Down
 returns-in-Down g c =
     let d : Devices = record { disc = g.D.Disc.state c.in-Down.field-0; rack = g.T.Tapes.rack c.in-Down.tapes } in
     let e : Devices = record { disc = g.D.Disc.state c.in-Down.field-0; rack = g.T.Tapes.rack c.unmount-in-Down.new.self } in
-    subst (λ (f : SystemFacts). UnmountsOn c.args.serial f c.unmount_answer.result (Down e)) (sym (ap (facts_of g.D.Disc.state g.T.Tapes.rack) c.in-Down.is))
-    (subst (λ (a : Result (Unit {0}) StoreFault). UnmountsOn c.args.serial (Down d) a (Down e)) (sym c.unmount_answer.ensures)
+    subst (λ (f : SystemFacts). UnmountsOn c.args.serial f c.rack_answer.result (Down e)) (sym (ap (facts_of g.D.Disc.state g.T.Tapes.rack) c.in-Down.is))
+    (subst (λ (a : Result (Unit {0}) StoreFault). UnmountsOn c.args.serial (Down d) a (Down e)) (sym c.rack_answer.ensures)
     (unmounts_down c.args.serial d c.unmount-in-Down.result (g.T.Tapes.rack c.unmount-in-Down.new.self) c.unmount-in-Down.ensures))

@@ -1,5 +1,6 @@
 use Rattle.std.proofs.Common.{◌∙◌, sym}
 use Rattle.g_store.proofs.NamedLemmas.{none_noted, nothing_there, some_read}
+use Rattle.g_store.proofs.TakeLemmas.{fault_then}
 use Rattle.g_store.proofs.starting.find_named.Goals as goal
 
 pub returns-then-not-has_named-clause-none : goal.returns-then-not-has_named-clause-none
@@ -17,3 +18,7 @@ pub returns-in-Ok-read_dump-clause-none : goal.returns-in-Ok-read_dump-clause-no
 returns-in-Ok-read_dump-clause-none g c =
     let (dumps, read, notes_are) = c.in-Ok.ensures.found in
     nothing_there c.args.intent.now _ _ dumps read _ (c.as_slice.ensures.value ∙ notes_are) c.in-Ok.ensures.reads.only c.in-Ok-read_dump.found c.in-Ok-read_dump.ensures.none
+
+pub returns-clause-only : goal.returns-clause-only
+returns-clause-only g c =
+    rw c.into-in-Err-read_dump.ensures (fault_then _ _ _ _ _ c.requires c.in-Ok.ensures.reads.only c.in-Err-read_dump.ensures.reads)

@@ -5,7 +5,7 @@ use Rattle.g_store.proofs.starting.start.Goals as goal
 
 pub returns-in-Err-clause-refused : goal.returns-in-Err-clause-refused
 returns-in-Err-clause-refused g c =
-    subst (λ f. RefusesStart (g.D.Disc.state c.args.disc) (g.T.Tapes.rack c.args.tapes) f (g.D.Disc.state c.in-Err.disc) (g.T.Tapes.rack c.args.tapes)) (sym c.refusal.ensures)
+    subst (λ f. RefusesStart (g.D.Disc.state c.args.disc) (g.T.Tapes.rack c.args.tapes) f (g.D.Disc.state c.in-Err.disc) (g.T.Tapes.rack c.args.tapes)) (sym c.into.ensures)
     (load_refused (g.D.Disc.state c.args.disc) (g.T.Tapes.rack c.args.tapes) (g.D.Disc.state c.in-Err.disc) c.in-Err.fault c.in-Err.ensures.only c.in-Err.ensures.refused c.in-Err.ensures.none)
 
 pub returns-in-Ok-take_over-clause-ok : goal.returns-in-Ok-take_over-clause-ok

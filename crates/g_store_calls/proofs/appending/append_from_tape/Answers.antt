@@ -5,11 +5,11 @@ use Rattle.g_store_calls.proofs.appending.append_from_tape.Goals as goal
 pub unreachable-requires : goal.unreachable-requires
 unreachable-requires g c = not_bare c.args.online.now c.requires.live c.requires.tied c.args.file.now c.requires.away c.in_default.is
 
-pub copy_text-requires-clause-records : goal.copy_text-requires-clause-records
-copy_text-requires-clause-records g c = records_on c.args.online.now c.requires.live c.requires.tied c.tree.result.now.users c.tree.result.now.files c.tree.ensures.users c.tree.ensures.files
+pub read_copy-requires-clause-records : goal.read_copy-requires-clause-records
+read_copy-requires-clause-records g c = records_on c.args.online.now c.requires.live c.requires.tied c.tree.result.now.users c.tree.result.now.files c.tree.ensures.users c.tree.ensures.files
 
-pub copy_text-requires-clause-filled : goal.copy_text-requires-clause-filled
-copy_text-requires-clause-filled g c = is_filled c.args.online.now c.requires.live c.requires.tied c.args.file.now c.requires.away c.in-Some.copy c.in-Some.is
+pub read_copy-requires-clause-filled : goal.read_copy-requires-clause-filled
+read_copy-requires-clause-filled g c = is_filled c.args.online.now c.requires.live c.requires.tied c.args.file.now c.requires.away c.in-Some.copy c.in-Some.is
 
 pub returns-in-Err : goal.returns-in-Err
 returns-in-Err g c =

@@ -1,6 +1,8 @@
-use Rattle.std.proofs.Common.{List, Err, Result, ℕ, ◌∙◌, ap, refl, true}
-use Rattle.g_online.specs.declared.fault.OnlineFault.{OnlineFault}
-use Rattle.g_store_calls.proofs.AppendCodeLemmas.{here_failed, here_put, here_unplanned, read_long}
+use Rattle.std.proofs.Common.{Err, refl, subst, sym, true}
+use Rattle.g_plain.specs.declared.faults.StoreFault.{StoreFault}
+use Rattle.g_tree.specs.Records.{full_of}
+use Rattle.g_store_calls.specs.Appending.{HasAppended}
+use Rattle.g_store_calls.proofs.AppendCodeLemmas.{here_put, here_unplanned, here_unread, read_long}
 use Rattle.g_store_calls.proofs.appending.append_here.Goals as goal
 
 pub returns-in-Err : goal.returns-in-Err
@@ -8,11 +10,12 @@ returns-in-Err g c =
     here_unplanned c.args.online.now c.requires.live c.requires.tied c.args.file.now true c.requires.here c.args.bytes.now c.as_slice.result.now c.blocks_for-need.result c.blocks_for-need.ensures c.as_slice.ensures refl
     c.in-Err.fault c.in-Err.ensures
 
-pub returns-in-Err-ReadFault : goal.returns-in-Err-ReadFault
-returns-in-Err-ReadFault g c =
-    here_failed c.args.online.now c.requires.live c.requires.tied c.args.file.now true c.requires.here c.args.bytes.now c.as_slice.result.now c.blocks_for-need.result c.blocks_for-need.ensures c.as_slice.ensures refl
-    c.bytes.new.self c.in-Ok.plan c.bytes.result c.in-Ok.ensures (c.in-Err-ReadFault.is ∙ ap (λ (e : OnlineFault). let r : Result (List ℕ) OnlineFault = Err e in r) c.in-Err-ReadFault.field-0-is)
-    c.bytes.ensures.reads c.bytes.ensures.same c.bytes.ensures.tied c.bytes.ensures.filled
+pub returns-in-Err-bytes : goal.returns-in-Err-bytes
+returns-in-Err-bytes g c = λ f there same rack.
+    let o = c.args.online.now in
+    subst (λ (e : StoreFault). HasAppended (full_of o.contents.users f.rec) f c.args.bytes.now o c.bytes.new.self rack rack (Err e)) (sym c.from.ensures)
+    (here_unread o c.requires.live c.requires.tied c.args.file.now true c.requires.here c.args.bytes.now c.as_slice.result.now c.blocks_for-need.result c.blocks_for-need.ensures c.as_slice.ensures refl
+    c.bytes.new.self c.in-Ok.plan c.in-Err-bytes.fault c.in-Ok.ensures c.in-Err-bytes.ensures.only c.in-Err-bytes.ensures.reads c.bytes.ensures.same c.bytes.ensures.tied c.in-Err-bytes.ensures.filled f there same rack)
 
 pub put_behind-requires-clause-long : goal.put_behind-requires-clause-long
 put_behind-requires-clause-long g c = read_long c.args.online.now c.args.file.now c.in-Ok-bytes.old c.requires.here c.in-Ok-bytes.ensures.text

@@ -1,72 +1,49 @@
-use Rattle.std.proofs.Common.{List, Result, ap, false, sym, subst, true}
-use Rattle.g_entry.specs.declared.file_rec.FileRec.{FileRec}
-use Rattle.g_entry.specs.declared.user_rec.UserRec.{UserRec}
-use Rattle.g_entry.specs.declared.head.Head.{Head}
+use Rattle.std.proofs.Common.{Result, false, refl, sym, subst, true}
+use Rattle.g_plain.specs.declared.calls.StoreCall.TheVariants.{Fetch}
 use Rattle.g_plain.specs.declared.calls.StoreReply.{StoreReply}
 use Rattle.g_plain.specs.declared.faults.StoreFault.{StoreFault}
-use Rattle.g_tree.specs.Records.{IsRecords}
-use Rattle.g_retrieve.proofs.AllowLemmas.{rules_here}
 use Rattle.g_store_calls.specs.Answering.{AnswersOver}
 use Rattle.g_store_calls.specs.Kinds.{IsKind}
-use Rattle.g_store_calls.proofs.CalmLemmas.{refused}
-use Rattle.g_store_calls.proofs.EraseLemmas.{file_on}
-use Rattle.g_store_calls.proofs.FetchLemmas.{fetch_back, fetch_back_kind, fetch_disc, fetch_disc_kind, fetched_there, is_named, kind_refused, over_rack}
-use Rattle.g_store_calls.proofs.TellLemmas.{refuses_of, refuses_on}
+use Rattle.g_store_calls.proofs.FetchLemmas.{fetch_back, fetch_back_kind, fetch_disc, fetch_disc_kind, is_named}
+use Rattle.g_store_calls.proofs.GrantedLemmas.{granted_at}
 use Rattle.g_store_calls.proofs.fetching.fetch.Goals as goal
-
-pub returns-in-Some-clause-answers : goal.returns-in-Some-clause-answers
-returns-in-Some-clause-answers g c =
-    over_rack c.args.who.now c.args.call.now c.args.online.now c.args.online.now _ _
-    (refused c.args.online.now c.args.who.now c.args.call.now c.requires.live c.in-Some.fault
-    (refuses_of c.args.online.now _ _ _ _ _ _ c.tree.ensures.users c.tree.ensures.files (ap (λ (h : Head). h.next_stamp) c.head.ensures) c.in-Some.ensures))
-
-pub returns-in-Some-clause-kind : goal.returns-in-Some-clause-kind
-returns-in-Some-clause-kind g c = kind_refused _ _ _ _ _ _ c.in-Some.fault c.in-Some.ensures
-
-pub wanted_file-number-requires : goal.wanted_file-number-requires
-wanted_file-number-requires g c =
-    let granted = refuses_of c.args.online.now _ _ _ _ _ _ c.tree.ensures.users c.tree.ensures.files (ap (λ (h : Head). h.next_stamp) c.head.ensures) c.in-None.ensures in
-    let rules = (rules_here c.args.online.now c.requires.live c.requires.tied).records in
-    record {
-      there = fetched_there c.tree-2.result.now.users c.tree-2.result.now.files c.args.online.now.contents.head.next_stamp c.args.who.now c.in-Fetch.path
-          (subst (λ (us : List UserRec). IsRecords us c.tree-2.result.now.files) (sym c.tree-2.ensures.users) (subst (λ (fs : List FileRec). IsRecords c.args.online.now.contents.users fs) (sym c.tree-2.ensures.files) rules))
-          c.args.call.now c.in-Fetch.mode c.in-Fetch.is (refuses_on c.args.online.now _ _ _ _ _ _ c.tree-2.ensures.users c.tree-2.ensures.files granted);
-    }
 
 pub disc_bytes-requires-clause-there : goal.disc_bytes-requires-clause-there
 disc_bytes-requires-clause-there g c =
-    is_named c.args.online.now c.requires.live c.requires.tied c.args.who.now c.in-Fetch.path c.wanted_file-number.result.0 c.wanted_file-number.result.1
-    (file_on c.args.online.now _ _ _ _ _ _ c.tree-2.ensures.users c.tree-2.ensures.files c.wanted_file-number.ensures) c.is_online.result c.is_online.ensures true c.if-is_online.true
+    let (path, mode, one) = c.requires.granted in
+    let (who, granted) = one in
+    is_named c.args.online.now c.requires.live c.requires.tied who path c.args.number c.args.full
+    (granted_at c.args.online.now c.requires.live c.requires.tied who (Fetch path mode) path c.args.number c.args.full (λ t. refl) granted) c.is_online.result c.is_online.ensures true c.if-is_online.true
 
 pub returns-then-is_online-clause-answers : goal.returns-then-is_online-clause-answers
-returns-then-is_online-clause-answers g c =
-    subst (λ (r : Result StoreReply StoreFault). AnswersOver c.args.who.now c.args.call.now c.args.online.now (g.T.Tapes.rack c.args.tapes.now) r c.disc_bytes.new.online (g.T.Tapes.rack c.args.tapes.now)) (sym c.bytes_answer.ensures)
-    (fetch_disc c.args.online.now c.requires.live c.requires.tied c.args.who.now c.in-Fetch.path c.wanted_file-number.result.0 c.wanted_file-number.result.1
-    (file_on c.args.online.now _ _ _ _ _ _ c.tree-2.ensures.users c.tree-2.ensures.files c.wanted_file-number.ensures) c.is_online.result c.is_online.ensures
-    c.args.call.now (refuses_of c.args.online.now _ _ _ _ _ _ c.tree.ensures.users c.tree.ensures.files (ap (λ (h : Head). h.next_stamp) c.head.ensures) c.in-None.ensures) c.disc_bytes.new.online (g.T.Tapes.rack c.args.tapes.now) c.disc_bytes.result c.in-Fetch.mode c.in-Fetch.is c.if-is_online.true c.disc_bytes.ensures)
+returns-then-is_online-clause-answers g c = λ path mode who granted.
+    subst (λ (r : Result StoreReply StoreFault). AnswersOver who (Fetch path mode) c.args.online.now (g.T.Tapes.rack c.args.tapes.now) r c.disc_bytes.new.online (g.T.Tapes.rack c.args.tapes.now)) (sym c.bytes_answer.ensures)
+    (fetch_disc c.args.online.now c.requires.live c.requires.tied who path c.args.number c.args.full (granted_at c.args.online.now c.requires.live c.requires.tied who (Fetch path mode) path c.args.number c.args.full (λ t. refl) granted) c.is_online.result c.is_online.ensures
+    (Fetch path mode) granted.allowed c.disc_bytes.new.online (g.T.Tapes.rack c.args.tapes.now) c.disc_bytes.result mode refl c.if-is_online.true c.disc_bytes.ensures)
 
 pub returns-then-is_online-clause-kind : goal.returns-then-is_online-clause-kind
-returns-then-is_online-clause-kind g c =
-    subst (λ (r : Result StoreReply StoreFault). IsKind c.args.call.now (g.T.Tapes.rack c.args.tapes.now) r) (sym c.bytes_answer.ensures)
-    (fetch_disc_kind c.args.online.now c.requires.live c.requires.tied c.args.who.now c.in-Fetch.path c.wanted_file-number.result.0 c.wanted_file-number.result.1
-    (file_on c.args.online.now _ _ _ _ _ _ c.tree-2.ensures.users c.tree-2.ensures.files c.wanted_file-number.ensures) c.is_online.result c.is_online.ensures
-    c.args.call.now (refuses_of c.args.online.now _ _ _ _ _ _ c.tree.ensures.users c.tree.ensures.files (ap (λ (h : Head). h.next_stamp) c.head.ensures) c.in-None.ensures) c.disc_bytes.new.online (g.T.Tapes.rack c.args.tapes.now) c.disc_bytes.result c.in-Fetch.mode c.in-Fetch.is c.disc_bytes.ensures)
+returns-then-is_online-clause-kind g c = λ path mode one.
+    let (who, granted) = one in
+    subst (λ (r : Result StoreReply StoreFault). IsKind (Fetch path mode) (g.T.Tapes.rack c.args.tapes.now) r) (sym c.bytes_answer.ensures)
+    (fetch_disc_kind c.args.online.now c.requires.live c.requires.tied who path c.args.number c.args.full (granted_at c.args.online.now c.requires.live c.requires.tied who (Fetch path mode) path c.args.number c.args.full (λ t. refl) granted) c.is_online.result c.is_online.ensures
+    (Fetch path mode) granted.allowed c.disc_bytes.new.online (g.T.Tapes.rack c.args.tapes.now) c.disc_bytes.result mode refl c.disc_bytes.ensures)
 
 pub brought_bytes-requires-clause-offline : goal.brought_bytes-requires-clause-offline
 brought_bytes-requires-clause-offline g c =
-    is_named c.args.online.now c.requires.live c.requires.tied c.args.who.now c.in-Fetch.path c.wanted_file-number.result.0 c.wanted_file-number.result.1
-    (file_on c.args.online.now _ _ _ _ _ _ c.tree-2.ensures.users c.tree-2.ensures.files c.wanted_file-number.ensures) c.is_online.result c.is_online.ensures false c.if-is_online.false
+    let (path, mode, one) = c.requires.granted in
+    let (who, granted) = one in
+    is_named c.args.online.now c.requires.live c.requires.tied who path c.args.number c.args.full
+    (granted_at c.args.online.now c.requires.live c.requires.tied who (Fetch path mode) path c.args.number c.args.full (λ t. refl) granted) c.is_online.result c.is_online.ensures false c.if-is_online.false
 
 pub returns-else-is_online-clause-answers : goal.returns-else-is_online-clause-answers
-returns-else-is_online-clause-answers g c =
-    subst (λ (r : Result StoreReply StoreFault). AnswersOver c.args.who.now c.args.call.now c.args.online.now (g.T.Tapes.rack c.args.tapes.now) r c.brought_bytes.new.online (g.T.Tapes.rack c.brought_bytes.new.tapes)) (sym c.bytes_answer-else-is_online.ensures)
-    (fetch_back c.args.online.now c.requires.live c.requires.tied c.args.who.now c.in-Fetch.path c.wanted_file-number.result.0 c.wanted_file-number.result.1
-    (file_on c.args.online.now _ _ _ _ _ _ c.tree-2.ensures.users c.tree-2.ensures.files c.wanted_file-number.ensures) c.is_online.result c.is_online.ensures
-    c.args.call.now (refuses_of c.args.online.now _ _ _ _ _ _ c.tree.ensures.users c.tree.ensures.files (ap (λ (h : Head). h.next_stamp) c.head.ensures) c.in-None.ensures) c.brought_bytes.new.online (g.T.Tapes.rack c.args.tapes.now) c.brought_bytes.result c.in-Fetch.mode c.in-Fetch.is (g.T.Tapes.rack c.brought_bytes.new.tapes) c.if-is_online.false c.brought_bytes.ensures.back c.brought_bytes.ensures.keeps)
+returns-else-is_online-clause-answers g c = λ path mode who granted.
+    subst (λ (r : Result StoreReply StoreFault). AnswersOver who (Fetch path mode) c.args.online.now (g.T.Tapes.rack c.args.tapes.now) r c.brought_bytes.new.online (g.T.Tapes.rack c.brought_bytes.new.tapes)) (sym c.bytes_answer-else-is_online.ensures)
+    (fetch_back c.args.online.now c.requires.live c.requires.tied who path c.args.number c.args.full (granted_at c.args.online.now c.requires.live c.requires.tied who (Fetch path mode) path c.args.number c.args.full (λ t. refl) granted) c.is_online.result c.is_online.ensures
+    (Fetch path mode) granted.allowed c.brought_bytes.new.online (g.T.Tapes.rack c.args.tapes.now) c.brought_bytes.result mode refl (g.T.Tapes.rack c.brought_bytes.new.tapes) c.if-is_online.false c.brought_bytes.ensures.back c.brought_bytes.ensures.keeps)
 
 pub returns-else-is_online-clause-kind : goal.returns-else-is_online-clause-kind
-returns-else-is_online-clause-kind g c =
-    subst (λ (r : Result StoreReply StoreFault). IsKind c.args.call.now (g.T.Tapes.rack c.args.tapes.now) r) (sym c.bytes_answer-else-is_online.ensures)
-    (fetch_back_kind c.args.online.now c.requires.live c.requires.tied c.args.who.now c.in-Fetch.path c.wanted_file-number.result.0 c.wanted_file-number.result.1
-    (file_on c.args.online.now _ _ _ _ _ _ c.tree-2.ensures.users c.tree-2.ensures.files c.wanted_file-number.ensures) c.is_online.result c.is_online.ensures
-    c.args.call.now (refuses_of c.args.online.now _ _ _ _ _ _ c.tree.ensures.users c.tree.ensures.files (ap (λ (h : Head). h.next_stamp) c.head.ensures) c.in-None.ensures) c.brought_bytes.new.online (g.T.Tapes.rack c.args.tapes.now) c.brought_bytes.result c.in-Fetch.mode c.in-Fetch.is (g.T.Tapes.rack c.brought_bytes.new.tapes) c.if-is_online.false c.brought_bytes.ensures.back)
+returns-else-is_online-clause-kind g c = λ path mode one.
+    let (who, granted) = one in
+    subst (λ (r : Result StoreReply StoreFault). IsKind (Fetch path mode) (g.T.Tapes.rack c.args.tapes.now) r) (sym c.bytes_answer-else-is_online.ensures)
+    (fetch_back_kind c.args.online.now c.requires.live c.requires.tied who path c.args.number c.args.full (granted_at c.args.online.now c.requires.live c.requires.tied who (Fetch path mode) path c.args.number c.args.full (λ t. refl) granted) c.is_online.result c.is_online.ensures
+    (Fetch path mode) granted.allowed c.brought_bytes.new.online (g.T.Tapes.rack c.args.tapes.now) c.brought_bytes.result mode refl (g.T.Tapes.rack c.brought_bytes.new.tapes) c.if-is_online.false c.brought_bytes.ensures.back)

@@ -1,33 +1,40 @@
-use Rattle.std.proofs.Common.{Err, None, Some, ap, subst, sym}
+use Rattle.std.proofs.Common.{Err, Ok}
 use Rattle.g_contents.specs.Contents.{recs_in}
-use Rattle.g_entry.specs.declared.head.Head.{Head}
-use Rattle.g_plain.specs.declared.calls.StoreCall.{StoreCall}
-use Rattle.g_store_calls.specs.Answering.{AnswersOver}
-use Rattle.g_store_calls.specs.Replies.{RefusesAs}
-use Rattle.g_store_calls.proofs.CalmLemmas.{refused}
-use Rattle.g_store_calls.proofs.KindLemmas.{over, settled_refused}
-use Rattle.g_store_calls.proofs.TellLemmas.{refuses_of}
+use Rattle.g_migrate.proofs.MigrationLemmas.{rules_here}
+use Rattle.g_store_calls.proofs.GrantedLemmas.{output_called}
+use Rattle.g_store_calls.proofs.PutLemmas.{put_answers, put_known, put_short, settled_made}
 use Rattle.g_store_calls.proofs.putting.put.Goals as goal
 
-pub returns-in-Some-clause-answers : goal.returns-in-Some-clause-answers
-returns-in-Some-clause-answers g c = λ rack.
+pub returns-in-Ok-clause-answers : goal.returns-in-Ok-clause-answers
+returns-in-Ok-clause-answers g c = λ path rack who granted.
     let o = c.args.online.now in
-    over c.args.who.now c.args.call.now o o rack (Err c.in-Some.fault)
-    (refused o c.args.who.now c.args.call.now c.requires.live c.in-Some.fault
-    (refuses_of o c.tree.result.now.users c.tree.result.now.files c.head.result.next_stamp c.args.who.now c.args.call.now (Some c.in-Some.fault) c.tree.ensures.users c.tree.ensures.files
-    (ap (λ (h : Head). h.next_stamp) c.head.ensures) c.in-Some.ensures))
+    put_answers o c.make_version.new.online who path c.args.bytes.now c.args.full c.version_of-rec.result
+    (put_known o who path c.args.bytes.now c.args.full c.version_of-rec.result c.requires.live granted.allowed
+    (output_called o c.requires.live c.requires.tied who path c.args.bytes.now c.args.number c.args.full granted) c.version_of-rec.ensures.version c.version_of-rec.ensures.next)
+    (Ok c.in-Ok.field-0) c.in-Ok.ensures rack
 
-pub returns-in-Some-clause-kind : goal.returns-in-Some-clause-kind
-returns-in-Some-clause-kind g c =
-    settled_refused c.tree.result.now.users c.tree.result.now.files c.head.result.next_stamp c.args.who.now c.args.call.now c.in-Some.fault c.in-Some.ensures
-
-pub put_new-requires-clause-granted : goal.put_new-requires-clause-granted
-put_new-requires-clause-granted g c =
+pub returns-in-Ok-clause-kind : goal.returns-in-Ok-clause-kind
+returns-in-Ok-clause-kind g c = λ path one.
+    let (who, granted) = one in
     let o = c.args.online.now in
-    subst (λ (k : StoreCall). RefusesAs o.contents.users (recs_in o.contents) o.contents.head.next_stamp c.args.who.now k None) c.in-Put.is
-    (refuses_of o c.tree.result.now.users c.tree.result.now.files c.head.result.next_stamp c.args.who.now c.args.call.now None c.tree.ensures.users c.tree.ensures.files
-    (ap (λ (h : Head). h.next_stamp) c.head.ensures) c.in-None.ensures)
+    settled_made path c.args.bytes.now c.args.full c.version_of-rec.result o c.make_version.new.online
+    (put_short o.contents.users (recs_in o.contents) o.contents.head.next_stamp who path c.args.bytes.now (rules_here o c.requires.live c.requires.tied).records granted.allowed c.args.full
+    (output_called o c.requires.live c.requires.tied who path c.args.bytes.now c.args.number c.args.full granted))
+    (Ok c.in-Ok.field-0) c.in-Ok.ensures
 
-pub returns-clause-answers : goal.returns-clause-answers
-returns-clause-answers g c = λ rack.
-    subst (λ (k : StoreCall). AnswersOver c.args.who.now k c.args.online.now rack c.put_new.result c.put_new.new.online rack) (sym c.in-Put.is) (c.put_new.ensures.answers rack)
+pub returns-in-Err-clause-answers : goal.returns-in-Err-clause-answers
+returns-in-Err-clause-answers g c = λ path rack who granted.
+    let o = c.args.online.now in
+    put_answers o c.make_version.new.online who path c.args.bytes.now c.args.full c.version_of-rec.result
+    (put_known o who path c.args.bytes.now c.args.full c.version_of-rec.result c.requires.live granted.allowed
+    (output_called o c.requires.live c.requires.tied who path c.args.bytes.now c.args.number c.args.full granted) c.version_of-rec.ensures.version c.version_of-rec.ensures.next)
+    (Err c.in-Err.fault) c.in-Err.ensures rack
+
+pub returns-in-Err-clause-kind : goal.returns-in-Err-clause-kind
+returns-in-Err-clause-kind g c = λ path one.
+    let (who, granted) = one in
+    let o = c.args.online.now in
+    settled_made path c.args.bytes.now c.args.full c.version_of-rec.result o c.make_version.new.online
+    (put_short o.contents.users (recs_in o.contents) o.contents.head.next_stamp who path c.args.bytes.now (rules_here o c.requires.live c.requires.tied).records granted.allowed c.args.full
+    (output_called o c.requires.live c.requires.tied who path c.args.bytes.now c.args.number c.args.full granted))
+    (Err c.in-Err.fault) c.in-Err.ensures

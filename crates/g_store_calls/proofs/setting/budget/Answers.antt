@@ -1,63 +1,37 @@
-use Rattle.std.proofs.Common.{None, Ok, Err, Some, ap}
-use Rattle.g_entry.specs.declared.head.Head.{Head}
+use Rattle.std.proofs.Common.{None}
 use Rattle.g_plain.specs.declared.calls.StoreCall.TheVariants.{Budget}
-use Rattle.g_contents.specs.Contents.{recs_in}
 use Rattle.g_plain.specs.declared.calls.StoreReply.TheVariants.{Done}
 use Rattle.g_online.specs.declared.change.Change.TheVariants.{SetUser}
-use Rattle.g_store_calls.proofs.BudgetLemmas.{budget_asked, budgeted_on, budgets, may_set_user}
-use Rattle.g_store_calls.proofs.CalmLemmas.{refused}
-use Rattle.g_store_calls.proofs.KindLemmas.{settled_applied, settled_refused}
-use Rattle.g_store_calls.proofs.RecordLemmas.{recorded}
+use Rattle.g_store_calls.proofs.BudgetLemmas.{budget_user, budgeted_on, budgets, may_set_user}
+use Rattle.g_store_calls.proofs.GrantedLemmas.{answered, settled}
 use Rattle.g_store_calls.proofs.TellLemmas.{refuses_on}
 use Rattle.g_store_calls.proofs.setting.budget.Goals as goal
 
-pub returns-in-Some-clause-answers : goal.returns-in-Some-clause-answers
-returns-in-Some-clause-answers g c =
-    refused c.args.online.now c.args.who.now (Budget c.args.user.now c.args.kind c.args.amount) c.requires.live c.in-Some.fault
-    (budget_asked c.args.online.now c.tree.result.now.users c.tree.result.now.files c.head.result.next_stamp c.args.who.now c.args.user.now c.copy.result c.args.kind c.args.amount (Some c.in-Some.fault) c.tree.ensures.users c.tree.ensures.files (ap (λ (h : Head). h.next_stamp) c.head.ensures) c.copy.ensures c.in-Some.ensures)
+pub budgeted_user-rec-requires-clause-there : goal.budgeted_user-rec-requires-clause-there
+budgeted_user-rec-requires-clause-there g c =
+    let (who, granted) = c.requires.granted in
+    let o = c.args.online.now in
+    budget_user c.tree.result.now.users c.tree.result.now.files o.contents.head.next_stamp who c.args.user.now c.args.kind c.args.amount
+    (refuses_on o c.tree.result.now.users c.tree.result.now.files o.contents.head.next_stamp who (Budget c.args.user.now c.args.kind c.args.amount) None c.tree.ensures.users c.tree.ensures.files granted.allowed)
 
-pub budgeted_user-user_rec-requires-clause-granted : goal.budgeted_user-user_rec-requires-clause-granted
-budgeted_user-user_rec-requires-clause-granted g c = (
-  c.args.online.now.contents.head.next_stamp,
-  refuses_on c.args.online.now c.tree-2.result.now.users c.tree-2.result.now.files c.args.online.now.contents.head.next_stamp c.args.who.now (Budget c.args.user.now c.args.kind c.args.amount) None
-      c.tree-2.ensures.users c.tree-2.ensures.files (budget_asked c.args.online.now c.tree.result.now.users c.tree.result.now.files c.head.result.next_stamp c.args.who.now c.args.user.now c.copy.result c.args.kind c.args.amount None c.tree.ensures.users c.tree.ensures.files (ap (λ (h : Head). h.next_stamp) c.head.ensures) c.copy.ensures
-      c.in-None.ensures),
-)
-
-pub applied-requires : goal.applied-requires
-applied-requires g c = record {
-  allowed = may_set_user c.args.online.now c.args.who.now c.args.user.now c.args.kind c.args.amount c.budgeted_user-user_rec.result c.requires.live c.requires.tied
-      (budgeted_on c.args.online.now c.tree-2.result.now.users c.tree-2.result.now.files c.args.user.now c.args.kind c.args.amount c.budgeted_user-user_rec.result c.tree-2.ensures.users c.tree-2.ensures.files
-      c.budgeted_user-user_rec.ensures);
-}
-
-pub returns-in-Ok-clause-answers : goal.returns-in-Ok-clause-answers
-returns-in-Ok-clause-answers g c =
-    recorded c.args.online.now c.applied.new.online c.args.who.now (Budget c.args.user.now c.args.kind c.args.amount) (SetUser c.budgeted_user-user_rec.result) _ _ Done
-    (budgets c.args.online.now c.args.who.now c.args.user.now c.args.kind c.args.amount c.budgeted_user-user_rec.result c.requires.live c.requires.tied
-    (budgeted_on c.args.online.now c.tree-2.result.now.users c.tree-2.result.now.files c.args.user.now c.args.kind c.args.amount c.budgeted_user-user_rec.result c.tree-2.ensures.users c.tree-2.ensures.files
-    c.budgeted_user-user_rec.ensures)
-    (budget_asked c.args.online.now c.tree.result.now.users c.tree.result.now.files c.head.result.next_stamp c.args.who.now c.args.user.now c.copy.result c.args.kind c.args.amount None c.tree.ensures.users c.tree.ensures.files (ap (λ (h : Head). h.next_stamp) c.head.ensures) c.copy.ensures
-    c.in-None.ensures))
-    (Ok c.in-Ok.field-0) c.in-Ok.ensures
+pub changed-requires : goal.changed-requires
+changed-requires g c =
+    let (who, granted) = c.requires.granted in
+    record {
+      allowed = may_set_user c.args.online.now who c.args.user.now c.args.kind c.args.amount c.budgeted_user-rec.result c.requires.live c.requires.tied
+          (budgeted_on c.args.online.now c.tree.result.now.users c.tree.result.now.files c.args.user.now c.args.kind c.args.amount c.budgeted_user-rec.result c.tree.ensures.users c.tree.ensures.files
+          c.budgeted_user-rec.ensures);
+    }
 
 pub returns-clause-answers : goal.returns-clause-answers
-returns-clause-answers g c =
-    recorded c.args.online.now c.applied.new.online c.args.who.now (Budget c.args.user.now c.args.kind c.args.amount) (SetUser c.budgeted_user-user_rec.result) _ _ Done
-    (budgets c.args.online.now c.args.who.now c.args.user.now c.args.kind c.args.amount c.budgeted_user-user_rec.result c.requires.live c.requires.tied
-    (budgeted_on c.args.online.now c.tree-2.result.now.users c.tree-2.result.now.files c.args.user.now c.args.kind c.args.amount c.budgeted_user-user_rec.result c.tree-2.ensures.users c.tree-2.ensures.files
-    c.budgeted_user-user_rec.ensures)
-    (budget_asked c.args.online.now c.tree.result.now.users c.tree.result.now.files c.head.result.next_stamp c.args.who.now c.args.user.now c.copy.result c.args.kind c.args.amount None c.tree.ensures.users c.tree.ensures.files (ap (λ (h : Head). h.next_stamp) c.head.ensures) c.copy.ensures
-    c.in-None.ensures))
-    (Err c.in-Err.fault) c.in-Err.ensures
-
-pub returns-in-Some-clause-kind : goal.returns-in-Some-clause-kind
-returns-in-Some-clause-kind g c =
-    settled_refused c.args.online.now.contents.users (recs_in c.args.online.now.contents) c.args.online.now.contents.head.next_stamp c.args.who.now (Budget c.args.user.now c.args.kind c.args.amount) c.in-Some.fault
-    (budget_asked c.args.online.now c.tree.result.now.users c.tree.result.now.files c.head.result.next_stamp c.args.who.now c.args.user.now c.copy.result c.args.kind c.args.amount (Some c.in-Some.fault) c.tree.ensures.users c.tree.ensures.files (ap (λ (h : Head). h.next_stamp) c.head.ensures) c.copy.ensures c.in-Some.ensures)
-
-pub returns-in-Ok-clause-kind : goal.returns-in-Ok-clause-kind
-returns-in-Ok-clause-kind g c = settled_applied (SetUser c.budgeted_user-user_rec.result) c.args.online.now c.applied.new.online (Budget c.args.user.now c.args.kind c.args.amount) Done tt (Ok c.in-Ok.field-0) c.in-Ok.ensures
+returns-clause-answers g c = λ who granted.
+    answered c.args.online.now c.changed.new.online who (Budget c.args.user.now c.args.kind c.args.amount) (SetUser c.budgeted_user-rec.result) _ _ Done
+    (budgets c.args.online.now who c.args.user.now c.args.kind c.args.amount c.budgeted_user-rec.result c.requires.live c.requires.tied
+    (budgeted_on c.args.online.now c.tree.result.now.users c.tree.result.now.files c.args.user.now c.args.kind c.args.amount c.budgeted_user-rec.result c.tree.ensures.users c.tree.ensures.files
+    c.budgeted_user-rec.ensures)
+    granted.allowed)
+    c.changed.result c.changed.ensures
 
 pub returns-clause-kind : goal.returns-clause-kind
-returns-clause-kind g c = settled_applied (SetUser c.budgeted_user-user_rec.result) c.args.online.now c.applied.new.online (Budget c.args.user.now c.args.kind c.args.amount) Done tt (Err c.in-Err.fault) c.in-Err.ensures
+returns-clause-kind g c =
+    settled (SetUser c.budgeted_user-rec.result) c.args.online.now c.changed.new.online (Budget c.args.user.now c.args.kind c.args.amount) Done tt c.changed.result c.changed.ensures

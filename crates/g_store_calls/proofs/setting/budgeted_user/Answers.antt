@@ -1,10 +1,8 @@
-use Rattle.g_store_calls.proofs.BudgetLemmas.{budget_made, budget_user, nobody_there}
+use Rattle.g_store_calls.proofs.BudgetLemmas.{budget_made, nobody_there}
 use Rattle.g_store_calls.proofs.setting.budgeted_user.Goals as goal
 
 pub unreachable-requires : goal.unreachable-requires
-unreachable-requires c =
-    nobody_there c.args.tree.now.users c.args.tree.now.files c.args.user.now c.user.result c.user.ensures.there
-    (budget_user c.args.tree.now.users c.args.tree.now.files c.requires.granted.0 c.args.who.now c.args.user.now c.args.kind c.args.amount c.requires.granted.1) c.in_default.is
+unreachable-requires c = nobody_there c.args.tree.now.users c.args.tree.now.files c.args.user.now c.user.result c.user.ensures.there c.requires.there c.in_default.is
 
 pub returns : goal.returns
 returns c =

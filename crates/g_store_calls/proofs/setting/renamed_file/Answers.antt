@@ -1,12 +1,14 @@
-use Rattle.g_store_calls.proofs.RenameLemmas.{rename_there, renamed_made}
+use Rattle.g_store_calls.proofs.GrantedLemmas.{named_of, there_at}
+use Rattle.g_store_calls.proofs.RenameLemmas.{renamed_made}
 use Rattle.g_store_calls.proofs.setting.renamed_file.Goals as goal
 
-pub file_named-old-requires : goal.file_named-old-requires
-file_named-old-requires c = record {
-  there = rename_there c.args.tree.now.users c.args.tree.now.files c.requires.granted.0 c.args.who.now c.args.path.now c.args.to.now c.users-users.ensures.records c.requires.granted.1;
-}
+pub file_of-old-requires : goal.file_of-old-requires
+file_of-old-requires c =
+    let (who, path, it) = c.requires.granted in
+    there_at c.args.tree.now.users c.args.tree.now.files who path c.args.number c.args.full.now it.file
 
 pub returns : goal.returns
-returns c =
-    renamed_made c.args.tree.now.users c.args.tree.now.files c.requires.granted.0 c.args.who.now c.args.path.now c.args.to.now c.users-users.ensures.records c.requires.granted.1
-    c.file_named-old.result.0 c.with_local.result c.file_named-old.result.1 c.renamed.result c.as_slice-word.ensures.word c.file_named-old.ensures c.with_local.ensures c.renamed.ensures
+returns c = λ who path it.
+    renamed_made c.args.tree.now.users c.args.tree.now.files it.next who path c.args.to.now c.file_of-old.ensures.records it.allowed
+    c.file_of-old.result c.with_local.result c.args.full.now c.renamed.result c.as_slice-word.ensures.word
+    (named_of c.args.tree.now.users c.args.tree.now.files who path c.args.number c.args.full.now c.file_of-old.result it.file c.file_of-old.ensures.value) c.with_local.ensures c.renamed.ensures

@@ -1,8 +1,5 @@
-use Rattle.g_store_calls.proofs.TellLemmas.{all_there, lengths_of, user_missing}
+use Rattle.g_store_calls.proofs.TellLemmas.{all_there, lengths_of}
 use Rattle.g_store_calls.proofs.telling.listing.Goals as goal
-
-pub unreachable-requires : goal.unreachable-requires
-unreachable-requires c = user_missing c.args.tree.now.users c.args.tree.now.files c.user_number.result c.args.user.now c.user_number.ensures.there c.requires.there c.in_default.is
 
 pub rows_of-requires : goal.rows_of-requires
 rows_of-requires c = record { there = rw c.as_slice.ensures (all_there c.args.tree.now.users c.args.tree.now.files c.users-users.ensures.records _ c.in-Ok.numbers c.in-Ok.ensures) }
@@ -10,4 +7,4 @@ rows_of-requires c = record { there = rw c.as_slice.ensures (all_there c.args.tr
 pub returns : goal.returns
 returns c =
     lengths_of c.args.tree.now.users c.args.tree.now.files c.users-users.ensures.records c.rows_of.result c.in-Ok.numbers _ c.args.user.now (rw c.as_slice.ensures at c.rows_of.ensures) c.in-Ok.ensures
-    c.in-Some.ensures.named.1
+    c.number_of_user-owner.ensures.named

@@ -6,17 +6,17 @@ use Rattle.g_act.proofs.UseLemmas.{append_part, list_well, put_part}
 use Rattle.g_act.proofs.work.Work.use_fetched.Goals as goal
 
 pub returns-in-Put-clause-err : goal.returns-in-Put-clause-err
-returns-in-Put-clause-err g c = on_err_weaker c.put.result (λ did path m.
+returns-in-Put-clause-err g c = λ path m. on_err_weaker c.put.result (λ did.
     put_part g.S.Filestore.answers c.args.asker.now.who.now c.args.store.now c.put.new.store c.args.asker.now.room path m c.args.use_for c.in-Put.to c.args.full c.args.bytes c.args.self.now c.count_bytes.new.self
     c.in-Put.is (c.count_bytes.ensures.ok ∙ ap (λ (b : List ℕ). with_bytes (length b) c.args.self.now) c.as_slice.ensures) did) c.put.ensures.err
 
 pub returns-in-Append-clause-err : goal.returns-in-Append-clause-err
-returns-in-Append-clause-err g c = on_err_weaker c.append.result (λ did path m.
+returns-in-Append-clause-err g c = λ path m. on_err_weaker c.append.result (λ did.
     append_part g.S.Filestore.answers c.args.asker.now.who.now c.args.store.now c.append.new.store c.args.asker.now.room path m c.args.use_for c.in-Append.to c.args.full c.args.bytes c.args.self.now
     c.count_bytes.new.self c.in-Append.is (c.count_bytes.ensures.ok ∙ ap (λ (b : List ℕ). with_bytes (length b) c.args.self.now) c.as_slice.ensures) did) c.append.ensures.err
 
 pub returns-in-List-clause-ok : goal.returns-in-List-clause-ok
-returns-in-List-clause-ok g c = on_ok_weaker c.list_bytes.result (λ did path m.
+returns-in-List-clause-ok g c = λ path m. on_ok_weaker c.list_bytes.result (λ did.
     list_well g.S.Filestore.answers g.S.Filestore.is_spent g.S.Filestore.can_wait c.args.asker.now.who.now c.args.store.now c.args.asker.now.room path m c.args.use_for c.args.full c.args.bytes c.args.self.now
     c.count_bytes.new.self c.list_bytes.new.self c.in-List.is (c.count_bytes.ensures.ok ∙ ap (λ (b : List ℕ). with_bytes (length b) c.args.self.now) c.as_slice.ensures)
-    (did path m ∙ ap (λ (b : List ℕ). listed c.args.asker.now.room path m c.args.full b c.count_bytes.new.self) c.as_slice-in-List.ensures)) c.list_bytes.ensures.ok
+    (did ∙ ap (λ (b : List ℕ). listed c.args.asker.now.room path m c.args.full b c.count_bytes.new.self) c.as_slice-in-List.ensures)) (c.list_bytes.ensures.ok path m)

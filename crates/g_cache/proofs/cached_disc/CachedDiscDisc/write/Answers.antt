@@ -1,11 +1,7 @@
-use Rattle.std.proofs.Common.{◌∙◌}
 use Rattle.g_cache.proofs.KeptLemmas.{Agrees-Writes}
 use Rattle.g_cache.proofs.cached_disc.CachedDiscDisc.write.Goals as goal
 
 pub invariant_of-self : goal.invariant_of-self
-invariant_of-self g c = record {
-  room = c.forget.ensures.room ∙ c.self.invariant.room;
-  agrees =
-      Agrees-Writes c.write.result c.args.k c.args.from.now _ (g.D.Disc.state c.write.new.self) c.self.inside.cache.entries c.forget.new.cache.entries c.write.ensures
-      c.forget.ensures.others c.forget.ensures.gone c.self.invariant.agrees;
-}
+invariant_of-self g c =
+    Agrees-Writes c.write.result c.args.k c.args.from.now _ (g.D.Disc.state c.write.new.self) c.self.inside.cache c.forget.new.self c.write.ensures
+    c.forget.ensures.others c.forget.ensures.gone c.self.invariant

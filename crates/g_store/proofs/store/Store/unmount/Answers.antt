@@ -5,7 +5,7 @@ use Rattle.g_store.proofs.store.Store.unmount.Goals as goal
 
 pub invariant_of-self : goal.invariant_of-self
 invariant_of-self g c =
-    (rack_unmounts c.args.serial c.args.self.now _ (g.T.Tapes.rack c.unmount-answer.new.self) c.unmount-answer.result c.unmounted.result c.unmounted.ensures c.self.view_is c.requires.running c.self.invariant (sym c.is_busy.ensures ∙ c.if-is_busy.false) c.unmount-answer.ensures).event.keeps
+    (rack_unmounts c.args.serial c.args.self.now _ (g.T.Tapes.rack c.unmount-answer.new.self) c.unmount-answer.result c.rack_answer.result c.rack_answer.ensures c.self.view_is c.requires.running c.self.invariant (sym c.is_busy.ensures ∙ c.if-is_busy.false) c.unmount-answer.ensures).event.keeps
 
 pub returns-then-is_busy : goal.returns-then-is_busy
 returns-then-is_busy g c =
@@ -13,4 +13,4 @@ returns-then-is_busy g c =
 
 pub returns : goal.returns
 returns g c =
-    rack_unmounts c.args.serial c.args.self.now _ (g.T.Tapes.rack c.unmount-answer.new.self) c.unmount-answer.result c.unmounted.result c.unmounted.ensures c.self.view_is c.requires.running c.self.invariant (sym c.is_busy.ensures ∙ c.if-is_busy.false) c.unmount-answer.ensures
+    rack_unmounts c.args.serial c.args.self.now _ (g.T.Tapes.rack c.unmount-answer.new.self) c.unmount-answer.result c.rack_answer.result c.rack_answer.ensures c.self.view_is c.requires.running c.self.invariant (sym c.is_busy.ensures ∙ c.if-is_busy.false) c.unmount-answer.ensures

@@ -1,0 +1,8 @@
+-- The exit status of the program.
+use Rattle.std.specs.Prelude.{◌≡◌, ℕ}
+use Rattle.g_run.specs.Top.{code_of}
+use Rattle.g_run.specs.declared.status.Status.{Status}
+
+-- the exit status of a run that ended in one of these ways
+abbrev pub IsExit : (Status → Type 0) → ℕ → Type 0
+IsExit P code = (status : Status) × P status × (code ≡ code_of status)
