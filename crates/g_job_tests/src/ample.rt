@@ -1,7 +1,7 @@
 //! A turn of one line, and a job that begins and a turn of it, with ample memory.
 ghost use Rattle.std.specs.Prelude.{◌≡◌, IfOk, false};
 
-use g_act::{Made, Work};
+use g_act::{Asker, Made, Work};
 use g_budget::{Charge, Tariff, Usage};
 use g_job::{Job, Turn};
 use g_lines::Document;
@@ -24,7 +24,13 @@ fn made_of(alloc: Global, document: &[u8]) -> Result<Made, Fail> {
     let mut work = work_of(alloc, document)?;
     let mut store = PlainStore::new(alloc)?;
     work.begin(alloc);
-    work.go(alloc, &mut store, &User::master(), 1_000, None)?;
+    let who = User::master();
+    let asker = Asker {
+        alloc,
+        who: &who,
+        room: 1_000,
+    };
+    work.go(&mut store, &asker, None)?;
     Ok(work.take_made(alloc))
 }
 
