@@ -1,0 +1,13 @@
+mod FillLemmas
+mod FinishLemmas
+mod FormLemmas
+mod LineLemmas
+mod OctalLemmas
+mod OrderLemmas
+mod PlaceLemmas
+mod PrintLemmas
+mod PutLemmas
+mod RoundLemmas
+mod SourceLemmas
+mod TableLemmas
+mod WordLemmas

@@ -1,0 +1,5 @@
+use Rattle.g_plan.proofs.LineLemmas.{read_by_forms}
+use Rattle.g_plan.proofs.laws.lines_are_read_by_their_forms.Goals as goal
+
+pub returns : goal.returns
+returns c = read_by_forms

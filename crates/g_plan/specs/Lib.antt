@@ -1,0 +1,10 @@
+pub mod Assembly
+pub mod Filled
+pub mod Forms
+pub mod How
+pub mod Indexed
+pub mod Laws
+pub mod Passes
+pub mod Reading
+pub mod Table
+pub mod Words

@@ -1,0 +1,7 @@
+//! Laws of sources. They do nothing; their clauses say what holds of every line.
+ghost use Rattle.g_plan.specs.Laws.{ReadByForms};
+
+/// A line is read as the one form that it has, and as none where it has none.
+pub fn lines_are_read_by_their_forms()
+    ensures { ReadByForms }
+{}
