@@ -29,7 +29,7 @@ fn ample(rt: HostRuntime) -> Result<(), Fail> {
     let number = crew.take_in(rt.alloc(), true, job)?;
     assert_eq!(rt; number, 1);
     let mut text = Text::new(rt.alloc());
-    push_operator_line(rt.alloc(), &mut text, 0, b"JOB 1 A IN")?;
+    push_operator_line(&mut text, 0, b"JOB 1 A IN")?;
     crew.push_broken_files(&mut text)?;
     assert_eq!(rt;
         text.as_slice(),

@@ -74,7 +74,7 @@ fn ample(rt: HostRuntime) -> Result<(), Fail> {
     went(goes_down(rt.alloc(), &mut crew, 6, b"SHUT", &mut out))?;
     assert!(rt; out.text() == TEXT);
     let mut text = Text::new(rt.alloc());
-    push_told(rt.alloc(), &mut text, &StoreFault::NoUser)?;
+    push_told(&mut text, &StoreFault::NoUser)?;
     assert_eq!(rt; text.as_slice(), b"1 NO USER".as_slice());
     Ok(())
 }
