@@ -1,29 +1,16 @@
 //! Bytes of lines, and the words that they make.
 ghost use Rattle.std.specs.Prelude.{◌≡◌};
-ghost use Rattle.std.specs.List.{list_all};
 ghost use Rattle.g_name.specs.Grammar as grammar;
 ghost use Rattle.g_lang.specs.Words as words;
 ghost use Rattle.g_lang.specs.Conditions as conditions;
+
+use g_name::are_name_chars;
 
 /// Whether a byte is one of `0` to `9`.
 pub fn is_digit(byte: u8) -> bool
     ensures { result ≡ grammar.is_digit byte }
 {
     byte.is_ascii_digit()
-}
-
-/// Whether a byte is one of `A` to `Z`.
-pub fn is_letter(byte: u8) -> bool
-    ensures { result ≡ grammar.is_letter byte }
-{
-    byte.is_ascii_uppercase()
-}
-
-/// Whether a byte is one of `A` to `Z`, `0` to `9` and `-`.
-pub fn is_name_char(byte: u8) -> bool
-    ensures { result ≡ grammar.is_name_char byte }
-{
-    is_letter(byte) || is_digit(byte) || byte == b'-'
 }
 
 /// Whether a byte is one from space to tilde.
@@ -48,11 +35,4 @@ pub fn is_label(text: &[u8]) -> bool
         Some((first, others)) => is_digit(*first) && others.len() <= 11 && are_name_chars(others),
         None => false,
     }
-}
-
-/// Whether each byte is one that names are made of.
-fn are_name_chars(text: &[u8]) -> bool
-    ensures { result ≡ list_all grammar.is_name_char text.now }
-{
-    text.iter().all(|byte| is_name_char(*byte))
 }

@@ -1,10 +1,10 @@
 //! A reader of lines that takes one byte after another: it tells where a text goes wrong, and takes no memory.
 ghost use Rattle.std.specs.Prelude.{◌≡◌, ◌^◌, ◌<◌, ◌≤◌, ◌∷◌, ◌++◌, [], List, drop, length, ℕ};
-ghost use Rattle.g_name.specs.Words.{extends as extends_word};
 ghost use Rattle.g_lang.specs.How as how;
 ghost use Rattle.g_lang.specs.Places.{Goes, Steps, state_of, next_of, depth_of, word_start};
 
-use crate::bytes::{is_digit, is_letter, is_name_char, is_param_letter, is_printed};
+use crate::bytes::{is_digit, is_param_letter, is_printed};
+use g_name::{extends, is_name_char};
 
 /// What comes behind a fixed text of a condition.
 #[derive(Clone, Copy, Debug)]
@@ -174,16 +174,6 @@ fn in_word(start: usize, inner: bool, before: &[u8], byte: u8) -> Option<Place>
         behind_word(word, inner)
     } else {
         None
-    }
-}
-
-/// Whether the byte may come next in a word.
-fn extends(word: &[u8], byte: u8) -> bool
-    ensures { result ≡ extends_word word.now byte }
-{
-    match word.split_first() {
-        None => is_letter(byte),
-        Some((_, others)) => is_name_char(byte) && others.len() < 11,
     }
 }
 

@@ -40,7 +40,7 @@ pub fn is_lang(text: &[u8]) -> bool
 }
 
 /// Whether each byte is one that names are made of.
-fn are_name_chars(text: &[u8]) -> bool
+pub fn are_name_chars(text: &[u8]) -> bool
     ensures { result ≡ list_all grammar.is_name_char text.now }
 {
     text.iter().all(|byte| is_name_char(*byte))

@@ -14,6 +14,7 @@ mod user;
 
 pub use bad_name::BadName;
 pub use full::Full;
+pub use grammar::{are_name_chars, extends, is_letter, is_name_char};
 pub use lang::Lang;
 pub use local::Local;
 pub use parse::parse_path;
