@@ -43,6 +43,13 @@ impl FileReel {
         }
     }
 
+    /// Nothing is told of what it holds.
+    pub fn tells_nothing(&self)
+        ensures { self.now.blocks ≡ None }
+    {
+        let _state = &self.state;
+    }
+
     pub fn serial(&self) -> u32
         ensures { result ≡ self.now.serial }
     {

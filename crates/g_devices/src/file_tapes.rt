@@ -25,6 +25,7 @@ impl FileTapes {
     /// The rack of these reels, in rising serial, which lie in this folder.
     pub(crate) fn new(folder: File, reels: Vec<FileReel>) -> FileTapes
         requires { AreReels reels.items }
+        ensures { result.reels.items ≡ reels.items }
     {
         FileTapes {
             folder,

@@ -14,12 +14,12 @@ use std::fs::{self, File};
 use std::io::{self, Error, ErrorKind};
 
 /// How many blocks each reel can hold.
-const CAPACITY: u32 = 8_192;
+pub const CAPACITY: u32 = 8_192;
 
 /// The number of a reel.
 #[derive(Clone, Copy)]
-struct Serial {
-    number: u32,
+pub struct Serial {
+    pub number: u32,
     ghost limits: { (1 ≤ number) × (number ≤ 999999) },
 }
 
@@ -46,7 +46,7 @@ pub fn open_rack(rt: &HostRuntime, folder: &str) -> io::Result<FileTapes> {
 }
 
 /// Opens the folder of a rack, or makes it.
-fn open_or_make(rt: &HostRuntime, folder: &str) -> io::Result<File> {
+pub fn open_or_make(rt: &HostRuntime, folder: &str) -> io::Result<File> {
     match open_folder(rt, folder) {
         Err(fault) if fault.kind() == ErrorKind::NotFound => {
             make_folder(rt, folder)?;
@@ -57,7 +57,7 @@ fn open_or_make(rt: &HostRuntime, folder: &str) -> io::Result<File> {
 }
 
 /// The serials of the files in the folder that are reels, in any order.
-fn serials_in(rt: &HostRuntime, folder: &str) -> io::Result<Vec<Serial>> {
+pub fn serials_in(rt: &HostRuntime, folder: &str) -> io::Result<Vec<Serial>> {
     let mut serials = Vec::new(rt.alloc());
     for entry in fs::read_dir(rt, folder)? {
         match entry {
@@ -88,7 +88,7 @@ fn serial_in(name: &str) -> Option<Serial> {
 }
 
 /// Opens the file of a reel, for this run and this serial alone.
-fn open_reel(rt: &HostRuntime, folder: &str, serial: Serial) -> io::Result<FileReel>
+pub fn open_reel(rt: &HostRuntime, folder: &str, serial: Serial) -> io::Result<FileReel>
     ensures { IfOk result IsReel }
 {
     let number = serial.number;
@@ -103,7 +103,7 @@ fn open_reel(rt: &HostRuntime, folder: &str, serial: Serial) -> io::Result<FileR
 }
 
 /// Puts a reel behind the others of a rack, or `InvalidData` where there are 16 already or one has a serial as great.
-fn put_behind(reels: &mut Vec<FileReel>, reel: FileReel) -> io::Result<()>
+pub fn put_behind(reels: &mut Vec<FileReel>, reel: FileReel) -> io::Result<()>
     requires rack { AreReels reels.old.items }
     requires reel { IsReel reel }
     ensures rack { OnOk result (AreReels reels.new.items) }
