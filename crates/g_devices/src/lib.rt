@@ -8,6 +8,7 @@ mod file_disc;
 mod file_reel;
 mod file_tapes;
 mod image_file;
+mod look;
 mod names;
 mod new_rack;
 mod rack;
@@ -16,6 +17,7 @@ mod words;
 
 pub use file_disc::{FileDisc, open_image};
 pub use file_tapes::FileTapes;
+pub use look::look_at;
 pub use rack::open_rack;
 pub use streams::{StdSink, StdSource};
 pub use words::{texts_of, words_of};
