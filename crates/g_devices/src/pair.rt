@@ -4,7 +4,7 @@ ghost use Rattle.g_tape.specs.Rack.{AreReels};
 ghost use Rattle.g_tape.specs.Reel.{IsReel};
 
 use crate::alike::are_alike;
-use crate::claim::{claim, sync_folder};
+use crate::claim::{Access, claim, sync_folder};
 use crate::file_reel::FileReel;
 use crate::file_tapes::FileTapes;
 use crate::names::{is_there, open_folder, open_unready};
@@ -36,9 +36,9 @@ pub fn open_duplex(
     second: &str,
 ) -> io::Result<(Duplex<FileTapes>, Vec<(u32, Twin)>)> {
     let one = open_or_make(rt, first)?;
-    claim(&one)?;
+    claim(&one, Access::Run)?;
     let other = open_folder(rt, second)?;
-    claim(&other)?;
+    claim(&other, Access::Run)?;
     let Reels {
         first: reels,
         second: beside,
@@ -108,17 +108,17 @@ fn open_twins(
     ensures second { IfOk result (λ twins. IsReel twins.1) }
 {
     if !has_reel(rt, first, serial)? {
-        let other = open_reel(rt, second, serial)?;
+        let other = open_reel(rt, second, serial, Access::Run)?;
         let reel = open_again(rt, first, serial)?;
         return Ok((reel, other, Some(Twin::First)));
     }
-    let reel = open_reel(rt, first, serial)?;
+    let reel = open_reel(rt, first, serial, Access::Run)?;
     if !has_reel(rt, second, serial)? {
         make_reel(rt, second, serial)?;
-        let other = open_reel(rt, second, serial)?;
+        let other = open_reel(rt, second, serial, Access::Run)?;
         return Ok((reel, other, Some(Twin::Second)));
     }
-    let other = open_reel(rt, second, serial)?;
+    let other = open_reel(rt, second, serial, Access::Run)?;
     if hold_same(&reel, &other)? {
         return Ok((reel, other, None));
     }
@@ -151,7 +151,7 @@ fn open_again(rt: &HostRuntime, folder: &str, serial: Serial) -> io::Result<File
     let number = serial.number;
     let path = format!(in rt.alloc(); "{folder}/{number}.tape.new")?;
     let file = open_unready(rt, path.as_str())?;
-    claim(&file)?;
+    claim(&file, Access::Run)?;
     file.set_len(0)?;
     Ok(FileReel::new(file, number, CAPACITY, 0))
 }

@@ -4,7 +4,7 @@ ghost use Rattle.g_tape.specs.Rack.{AreReels};
 ghost use Rattle.g_tape.specs.Reel.{IsReel};
 
 use crate::blocks::blocks_in;
-use crate::claim::claim;
+use crate::claim::{Access, claim};
 use crate::file_reel::FileReel;
 use crate::file_tapes::FileTapes;
 use crate::names::{open_folder, open_plain};
@@ -34,12 +34,25 @@ pub struct Serial {
 /// has in its making lies what no making left. What was there stays.
 pub fn open_rack(rt: &HostRuntime, folder: &str) -> io::Result<FileTapes> {
     let opened = open_or_make(rt, folder)?;
-    claim(&opened)?;
+    reels_in(rt, folder, opened, Access::Run)
+}
+
+/// Opens the rack that is there to be looked at: its reels can't be written, and are locked so that no run takes them.
+///
+/// The error is `NotFound` where there is none, `WouldBlock` where a run has it; else it is as `open_rack`'s.
+pub(crate) fn look_at_rack(rt: &HostRuntime, folder: &str) -> io::Result<FileTapes> {
+    let opened = open_folder(rt, folder)?;
+    reels_in(rt, folder, opened, Access::Look)
+}
+
+/// The rack of the reels in an open folder.
+fn reels_in(rt: &HostRuntime, folder: &str, opened: File, access: Access) -> io::Result<FileTapes> {
+    claim(&opened, access)?;
     let mut serials = serials_in(rt, folder)?;
     serials.sort_by_key(|serial| serial.number)?;
     let mut reels = Vec::new(rt.alloc());
     for serial in serials {
-        let reel = open_reel(rt, folder, serial)?;
+        let reel = open_reel(rt, folder, serial, access)?;
         put_behind(&mut reels, reel)?;
     }
     Ok(FileTapes::new(opened, reels))
@@ -87,14 +100,19 @@ fn serial_in(name: &str) -> Option<Serial> {
     Some(Serial { number })
 }
 
-/// Opens the file of a reel, for this run and this serial alone.
-pub fn open_reel(rt: &HostRuntime, folder: &str, serial: Serial) -> io::Result<FileReel>
+/// Opens the file of a reel, of a run for it and this serial alone.
+pub fn open_reel(
+    rt: &HostRuntime,
+    folder: &str,
+    serial: Serial,
+    access: Access,
+) -> io::Result<FileReel>
     ensures { IfOk result IsReel }
 {
     let number = serial.number;
     let path = format!(in rt.alloc(); "{folder}/{number}.tape")?;
-    let file = open_plain(rt, path.as_str())?;
-    claim(&file)?;
+    let file = open_plain(rt, path.as_str(), access)?;
+    claim(&file, access)?;
     let len = blocks_in(&file)?;
     if len > CAPACITY {
         return Err(Error::from(ErrorKind::InvalidData));

@@ -1,5 +1,5 @@
 use Rattle.g_tape.specs.Rack.{AreReels}
-use Rattle.g_devices.proofs.rack.open_rack.Given as goal
+use Rattle.g_devices.proofs.rack.reels_in.Given as goal
 
 abbrev pub invariant-loop-serial : goal.invariant-loop-serial
 invariant-loop-serial l =
