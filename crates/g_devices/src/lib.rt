@@ -9,7 +9,7 @@ mod file_disc;
 mod file_reel;
 mod file_tapes;
 mod image_file;
-mod look;
+mod looking;
 mod names;
 mod new_rack;
 mod pair;
@@ -19,7 +19,7 @@ mod words;
 
 pub use file_disc::{FileDisc, open_image};
 pub use file_tapes::FileTapes;
-pub use look::look_at;
+pub use looking::look_at;
 pub use names::is_there;
 pub use pair::open_duplex;
 pub use rack::open_rack;
