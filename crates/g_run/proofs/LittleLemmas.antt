@@ -11,7 +11,7 @@ use Rattle.g_crew.specs.Crew.{CrewState}
 use Rattle.g_crew.specs.Numbers.{AreJobs, IsAllowed}
 use Rattle.g_console.specs.Parts.{seen}
 use Rattle.g_console.specs.System.{SystemFacts, Up, devices_in}
-use Rattle.g_ticks.specs.Parts.{dump_left, left, may_step, share_in}
+use Rattle.g_run.specs.Tick.{dump_left, left, may_step, share_in}
 use Rattle.g_run.specs.Parts.{HasRoom}
 
 -- of a job

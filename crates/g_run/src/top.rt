@@ -17,6 +17,7 @@ ghost use Rattle.g_run.specs.Top as top;
 use crate::demo::run_demo;
 use crate::input::{Unread, read_script};
 use crate::over::{Over, run_boxed};
+use crate::rules::Rules;
 use crate::status::Status;
 use g_base::NoMemory;
 use g_budget::{Charge, Tariff, Usage};
@@ -103,10 +104,11 @@ pub fn george<
     ensures belongs { BelongTogether (both (D.state disc) (T.rack tapes)) → BelongTogether (both (D.state result.disc) (T.rack result.tapes)) }
     ensures dumps { BelongTogether (both (D.state disc) (T.rack tapes)) → DumpsGrow (T.rack tapes) (T.rack result.tapes) }
 {
+    let rules = Rules { tariff, weigh };
     match asked_by(words) {
         Some(Asked::Run) => {}
         Some(Asked::Demo(demo)) => {
-            let failure = run_demo(alloc, &demo, tariff, weigh, out);
+            let failure = run_demo(alloc, &demo, &rules, out);
             return Finish {
                 status: demo_status(failure),
                 disc,
@@ -137,7 +139,7 @@ pub fn george<
         disc,
         tapes,
         failure,
-    } = run_boxed(alloc, parsed, out, disc, tapes, tariff, weigh);
+    } = run_boxed(alloc, parsed, (disc, tapes), &rules, out);
     Finish {
         status: run_status(bad, failure),
         disc,
