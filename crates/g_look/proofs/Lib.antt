@@ -1,0 +1,4 @@
+pub mod BreakLemmas
+pub mod FitLemmas
+pub mod ShelfLemmas
+pub mod VerdictLemmas

@@ -1,0 +1,50 @@
+//! What a disc stands for.
+use crate::LookFault;
+use g_dirs::{Dirs, DirsFault, read_dirs};
+use g_disc::Disc;
+use g_entry::{Format, decode_head_in};
+use g_slots::{Side, Slots};
+use std::alloc::Global;
+
+/// The slot that is current, and the directory there with its format, if the disc stands for one.
+#[derive(Debug, Drop)]
+pub(crate) struct Standing {
+    pub side: Side,
+    pub dirs: Option<(Format, Dirs)>,
+}
+
+/// What the disc stands for. `DiscUnread`, `NoMemory`.
+pub(crate) fn see_disc<D: Disc>(alloc: Global, disc: &mut D) -> Result<Standing, LookFault> {
+    let slots = match Slots::find(disc) {
+        Ok(slots) => slots,
+        Err(_) => return Err(LookFault::DiscUnread),
+    };
+    match read_dirs(alloc, disc, &slots) {
+        Ok(dirs) => match see_format(disc, &slots) {
+            Ok(format) => Ok(Standing {
+                side: slots.side(),
+                dirs: Some((format, dirs)),
+            }),
+            Err(fault) => Err(fault),
+        },
+        Err(DirsFault::NoFilestore) => Ok(Standing {
+            side: slots.side(),
+            dirs: None,
+        }),
+        Err(DirsFault::ReadFault) => Err(LookFault::DiscUnread),
+        Err(_) => Err(LookFault::NoMemory),
+    }
+}
+
+/// The format of the current slot, by its head.
+fn see_format<D: Disc>(disc: &mut D, slots: &Slots) -> Result<Format, LookFault> {
+    let mut block = [0; 512];
+    match slots.read(disc, 0, &mut block) {
+        Ok(()) => {}
+        Err(_) => return Err(LookFault::DiscUnread),
+    }
+    match decode_head_in(Format::Two, &block) {
+        Some(_) => Ok(Format::Two),
+        None => Ok(Format::One),
+    }
+}

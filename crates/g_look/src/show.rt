@@ -1,0 +1,92 @@
+//! The bytes of a file.
+ghost use Rattle.std.specs.Prelude.{◌≡◌, ◌<◌, All, Err, true};
+ghost use Rattle.g_disc.specs.Disc.{ReadsByCause};
+ghost use Rattle.g_look.specs.Looks.{ReadsRackByCause};
+
+use crate::LookFault;
+use crate::bytes::disc_text;
+use crate::disc::see_disc;
+use g_dirs::Dirs;
+use g_disc::Disc;
+use g_entry::TapeCopy;
+use g_incr::ShelfFault;
+use g_name::{Path, Text};
+use g_retrieve::tape_bytes;
+use g_tape::Tapes;
+use g_tree::Tree;
+use std::alloc::Global;
+
+/// The bytes of the file that the path names for input, where an absent user is MASTER: from the disc where it is there,
+/// else from its copy on tape. No trap is asked. Both are only read. `NoFilestore`, `NoFile`, `NoCopy`, `DiscUnread`,
+/// `TapeUnread`, `NoMemory`.
+pub fn show<D: Disc, T: Tapes>(
+    alloc: Global,
+    disc: &mut D,
+    tapes: &mut T,
+    path: &Path,
+) -> Result<Text, LookFault>
+    requires size { 2177 < (D.state disc.old).size }
+    ensures disc { ReadsByCause (result ≡ Err LookFault.DiscUnread) (D.state disc.old) (D.state disc.new) }
+    ensures tapes { ReadsRackByCause (result ≡ Err LookFault.TapeUnread) (T.rack tapes.old) (T.rack tapes.new) }
+{
+    let standing = match see_disc(alloc, disc) {
+        Ok(standing) => standing,
+        Err(fault) => return Err(fault),
+    };
+    let dirs = match standing.dirs {
+        Some((_format, dirs)) => dirs,
+        None => return Err(LookFault::NoFilestore),
+    };
+    let Dirs {
+        head: _,
+        users,
+        files,
+        online,
+    } = dirs;
+    let tree = match Tree::from_records(alloc, users, files) {
+        Ok(tree) => tree,
+        Err(_) => return Err(LookFault::NoMemory),
+    };
+    let number = match tree.find(0, path) {
+        Some(number) => number,
+        None => return Err(LookFault::NoFile),
+    };
+    match disc_text(alloc, disc, online.as_slice(), number) {
+        Ok(Some(text)) => Ok(text),
+        Ok(None) => taped_text(alloc, tapes, &tree, number),
+        Err(fault) => Err(fault),
+    }
+}
+
+/// The bytes of the file of this number, from its copy on tape.
+fn taped_text<T: Tapes>(
+    alloc: Global,
+    tapes: &mut T,
+    tree: &Tree,
+    number: u16,
+) -> Result<Text, LookFault> {
+    let (copy, len) = match tree.file_at(number) {
+        Some(file) => (file.tape, file.len),
+        None => return Err(LookFault::NoFile),
+    };
+    match copy {
+        Some(copy) => copy_text(alloc, tapes, &copy, len),
+        None => Err(LookFault::NoCopy),
+    }
+}
+
+/// The bytes of a copy.
+fn copy_text<T: Tapes>(
+    alloc: Global,
+    tapes: &mut T,
+    copy: &TapeCopy,
+    len: u32,
+) -> Result<Text, LookFault> {
+    match tape_bytes(alloc, tapes, copy, len) {
+        Ok(Some(text)) => Ok(text),
+        Ok(None) => Err(LookFault::NoCopy),
+        Err(ShelfFault::ReadFault) => Err(LookFault::TapeUnread),
+        Err(ShelfFault::NoMemory) => Err(LookFault::NoMemory),
+        Err(_) => Err(LookFault::NoCopy),
+    }
+}
