@@ -1,3 +1,10 @@
+pub mod Compared
+pub mod Heads
+pub mod Judging
 pub mod Looks
+pub mod Recs
 pub mod Rules
+pub mod Seen
+pub mod Standing
 pub mod Text
+pub mod Texts

@@ -1,8 +1,19 @@
 //! The rule about the bytes of a version, which lie at up to three places.
-use crate::{Broken, Lie, LookFault};
+ghost use Rattle.std.specs.List.{list_any};
+ghost use Rattle.std.specs.Prelude.{◌≡◌, ◌≢◌, ◌==◌, ◌⊎◌, ℕ, ◌<◌, All, Contains, Err, IfNone, IfOk, IfSome, List, OnErr, length, Some, true};
+ghost use Rattle.g_copy.specs.Copy.{IsCopy};
+ghost use Rattle.g_copy.specs.declared.copy.DiscCopy.{DiscCopy};
+ghost use Rattle.g_disc.specs.Disc.{ReadsByCause};
+ghost use Rattle.g_dirs.specs.Directory.{copy_at};
+ghost use Rattle.g_entry.specs.declared.file_rec.FileRec.{FileRec};
+ghost use Rattle.g_state.specs.Meaning.{told_reels};
+ghost use Rattle.g_look.specs.Looks.{ReadsRackByCause};
+ghost use Rattle.g_look.specs.Standing.{IsSound};
+ghost use Rattle.g_look.specs.Texts.{AgreeAt, AllAgree, AreBytesOther, DifferAt, FileAgrees, FileDiffers, IsDiscText, IsDumpedPlace, IsSecond, IsTapeText, TwoDiffer};
+
 use crate::names::full_of;
-use crate::records::dumped_of;
 use crate::tape::tape_text;
+use crate::{Broken, Lie, LookFault};
 use g_copy::{CopyFault, DiscCopy, read_copy};
 use g_dirs::Dirs;
 use g_disc::Disc;
@@ -19,13 +30,21 @@ pub(crate) fn judge_bytes<D: Disc, T: Tapes>(
     tapes: &mut T,
     dirs: &Dirs,
     dumped: &[FileRec],
-) -> Result<Option<Broken>, LookFault> {
-    for file in dirs.files.as_slice() {
-        match judge_file(alloc, disc, tapes, dirs, file, dumped) {
-            Ok(None) => {}
-            Ok(Some(broken)) => return Ok(Some(broken)),
-            Err(fault) => return Err(fault),
-        }
+) -> Result<Option<Broken>, LookFault>
+    requires size { 2177 < (D.state disc.old).size }
+    requires sound { IsSound (D.state disc.old).size dirs.now }
+    requires mounted { All (λ r. r.mounted ≡ true) (told_reels (T.rack tapes.old)) }
+    ensures some { IfOk result (λ broken. IfSome broken (AreBytesOther (D.state disc.old).held (told_reels (T.rack tapes.old))
+        dirs.now.online.items dumped.now dirs.now.users.items dirs.now.files.items)) }
+    ensures none { IfOk result (λ broken. IfNone broken ((r : FileRec) → Contains dirs.now.files.items r
+        → FileAgrees (D.state disc.old).held (told_reels (T.rack tapes.old)) dirs.now.online.items dumped.now r)) }
+    ensures disc { ReadsByCause (result ≡ Err LookFault.DiscUnread) (D.state disc.old) (D.state disc.new) }
+    ensures tapes { ReadsRackByCause (result ≡ Err LookFault.TapeUnread) (T.rack tapes.old) (T.rack tapes.new) }
+{
+    match compare_files(alloc, disc, tapes, dirs, dumped) {
+        Ok(None) => {}
+        Ok(Some(broken)) => return Ok(Some(broken)),
+        Err(fault) => return Err(fault),
     }
     match read_others(alloc, tapes, dirs.files.as_slice(), dumped) {
         Ok(()) => Ok(None),
@@ -33,136 +52,239 @@ pub(crate) fn judge_bytes<D: Disc, T: Tapes>(
     }
 }
 
-/// The places of the file's version at which the bytes are others.
-fn judge_file<D: Disc, T: Tapes>(
+/// The first file whose bytes are others at two of its places.
+fn compare_files<D: Disc, T: Tapes>(
+    alloc: Global,
+    disc: &mut D,
+    tapes: &mut T,
+    dirs: &Dirs,
+    dumped: &[FileRec],
+) -> Result<Option<Broken>, LookFault>
+    requires size { 2177 < (D.state disc.old).size }
+    requires sound { IsSound (D.state disc.old).size dirs.now }
+    requires mounted { All (λ r. r.mounted ≡ true) (told_reels (T.rack tapes.old)) }
+    ensures some { IfOk result (λ broken. IfSome broken (AreBytesOther (D.state disc.old).held (told_reels (T.rack tapes.old))
+        dirs.now.online.items dumped.now dirs.now.users.items dirs.now.files.items)) }
+    ensures none { IfOk result (λ broken. IfNone broken ((r : FileRec) → Contains dirs.now.files.items r
+        → FileAgrees (D.state disc.old).held (told_reels (T.rack tapes.old)) dirs.now.online.items dumped.now r)) }
+    ensures disc { ReadsByCause (result ≡ Err LookFault.DiscUnread) (D.state disc.old) (D.state disc.new) }
+    ensures tapes { ReadsRackByCause (result ≡ Err LookFault.TapeUnread) (T.rack tapes.old) (T.rack tapes.new) }
+{
+    for file in dirs.files.as_slice() {
+        match compare_file(alloc, disc, tapes, dirs, file, dumped) {
+            Ok(None) => {}
+            Ok(Some((one, other))) => {
+                return Ok(Some(Broken::Bytes {
+                    full: full_of(dirs.users.as_slice(), file),
+                    stamp: file.stamp,
+                    one,
+                    other,
+                }));
+            }
+            Err(fault) => return Err(fault),
+        }
+    }
+    Ok(None)
+}
+
+/// Two places of the file's version at which the bytes are others.
+fn compare_file<D: Disc, T: Tapes>(
     alloc: Global,
     disc: &mut D,
     tapes: &mut T,
     dirs: &Dirs,
     file: &FileRec,
     dumped: &[FileRec],
-) -> Result<Option<Broken>, LookFault> {
-    let there = match disc_text(alloc, disc, dirs.online.as_slice(), file.number) {
+) -> Result<Option<(Lie, Lie)>, LookFault>
+    requires size { 2177 < (D.state disc.old).size }
+    requires sound { IsSound (D.state disc.old).size dirs.now }
+    requires there { Contains dirs.now.files.items file.now }
+    requires mounted { All (λ r. r.mounted ≡ true) (told_reels (T.rack tapes.old)) }
+    ensures some { IfOk result (λ pair. IfSome pair (λ p. FileDiffers (D.state disc.old).held (told_reels (T.rack tapes.old))
+        dirs.now.online.items dumped.now file.now p.0 p.1)) }
+    ensures none { IfOk result (λ pair. IfNone pair (FileAgrees (D.state disc.old).held (told_reels (T.rack tapes.old))
+        dirs.now.online.items dumped.now file.now)) }
+    ensures disc { ReadsByCause (result ≡ Err LookFault.DiscUnread) (D.state disc.old) (D.state disc.new) }
+    ensures tapes { ReadsRackByCause (result ≡ Err LookFault.TapeUnread) (T.rack tapes.old) (T.rack tapes.new) }
+{
+    let there = match file_text(alloc, disc, dirs.online.as_slice(), file.number) {
         Ok(there) => there,
         Err(fault) => return Err(fault),
     };
-    let places = (file.tape, other_place(file, dumped_of(dumped, file.stamp)));
-    match other_bytes(alloc, tapes, there, places, file.len) {
-        Ok(Some((one, other))) => Ok(Some(Broken::Bytes {
-            full: full_of(dirs.users.as_slice(), file),
-            stamp: file.stamp,
-            one,
-            other,
-        })),
-        Ok(None) => Ok(None),
-        Err(fault) => Err(fault),
-    }
+    let place = dumped_place(dumped, file.stamp);
+    let second = second_place(file.tape, place);
+    compare_texts(alloc, tapes, &there, file.tape, second, file.len)
 }
 
-/// The place of the dumped record, where it is another one than the file's.
-fn other_place(file: &FileRec, of: Option<&FileRec>) -> Option<TapeCopy> {
-    match of {
-        Some(of) => {
-            if of.tape == file.tape {
-                None
-            } else {
-                of.tape
-            }
-        }
-        None => None,
-    }
-}
-
-/// The bytes of the file of this number, where it is on the disc.
-pub(crate) fn disc_text<D: Disc>(
-    alloc: Global,
-    disc: &mut D,
-    online: &[(u16, DiscCopy)],
-    number: u16,
-) -> Result<Option<Text>, LookFault> {
-    let copy = match copy_at(online, number) {
-        Some(copy) => copy,
-        None => return Ok(None),
-    };
-    match read_copy(alloc, disc, copy) {
-        Ok(text) => Ok(Some(text)),
-        Err(CopyFault::ReadFault) => Err(LookFault::DiscUnread),
-        Err(_) => Err(LookFault::NoMemory),
-    }
-}
-
-/// The copy on disc of the file of this number.
-pub(crate) fn copy_at(online: &[(u16, DiscCopy)], number: u16) -> Option<&DiscCopy> {
-    for one in online {
-        if one.0 == number {
-            return Some(&one.1);
+/// The place of the dumped record of this stamp.
+fn dumped_place(dumped: &[FileRec], stamp: u64) -> Option<TapeCopy>
+    ensures { IsDumpedPlace dumped.now stamp result }
+{
+    for of in dumped {
+        if of.stamp == stamp && of.tape.is_some() {
+            return of.tape;
         }
     }
     None
 }
 
-/// Two places with other bytes, among the disc, which has these if it has any, and these two on tape.
-fn other_bytes<T: Tapes>(
+/// The dumped record's place, where it is another one than the file's.
+fn second_place(tape: Option<TapeCopy>, place: Option<TapeCopy>) -> Option<TapeCopy>
+    ensures { IsSecond tape place result }
+{
+    if place == tape { None } else { place }
+}
+
+/// The bytes of the file of this number, where it is on the disc.
+pub(crate) fn file_text<D: Disc>(
+    alloc: Global,
+    disc: &mut D,
+    online: &[(u16, DiscCopy)],
+    number: u16,
+) -> Result<Option<Text>, LookFault>
+    requires size { 2177 < (D.state disc.old).size }
+    requires copy { IfSome (copy_at online.now number) (IsCopy (D.state disc.old).size) }
+    ensures text { IfOk result (IsDiscText (D.state disc.old).held (copy_at online.now number)) }
+    ensures long { IfOk result (λ text. IfSome text (λ bytes. (c : DiscCopy)
+        × (copy_at online.now number ≡ Some c) × (length bytes ≡ c.len))) }
+    ensures disc { ReadsByCause (result ≡ Err LookFault.DiscUnread) (D.state disc.old) (D.state disc.new) }
+    ensures only { OnErr result ((result ≡ Err LookFault.DiscUnread) ⊎ (result ≡ Err LookFault.NoMemory)) }
+{
+    match copy_at(online, number) {
+        Some(copy) => match read_copy(alloc, disc, &copy) {
+            Ok(text) => Ok(Some(text)),
+            Err(CopyFault::ReadFault) => Err(LookFault::DiscUnread),
+            Err(_) => Err(LookFault::NoMemory),
+        },
+        None => Ok(None),
+    }
+}
+
+/// The copy on disc of the file of this number.
+pub(crate) fn copy_at(online: &[(u16, DiscCopy)], number: u16) -> Option<DiscCopy>
+    ensures { result ≡ copy_at online.now number }
+{
+    for one in online {
+        if one.0 == number {
+            return Some(one.1.copy());
+        }
+    }
+    None
+}
+
+/// Two places with other bytes, among the disc, which has these bytes if it has any, and two on tape.
+fn compare_texts<T: Tapes>(
     alloc: Global,
     tapes: &mut T,
-    there: Option<Text>,
-    places: (Option<TapeCopy>, Option<TapeCopy>),
+    there: &Option<Text>,
+    first: Option<TapeCopy>,
+    second: Option<TapeCopy>,
     len: u32,
-) -> Result<Option<(Lie, Lie)>, LookFault> {
-    let first = match places.0 {
-        Some(copy) => match tape_text(alloc, tapes, &copy, len) {
-            Ok(text) => Some((copy, text)),
-            Err(fault) => return Err(fault),
-        },
-        None => None,
+) -> Result<Option<(Lie, Lie)>, LookFault>
+    requires mounted { All (λ r. r.mounted ≡ true) (told_reels (T.rack tapes.old)) }
+    ensures some { IfOk result (λ pair. IfSome pair (λ p. DifferAt (told_reels (T.rack tapes.old)) len there.now first second p.0 p.1)) }
+    ensures none { IfOk result (λ pair. IfNone pair (AgreeAt (told_reels (T.rack tapes.old)) len there.now first second)) }
+    ensures tapes { ReadsRackByCause (result ≡ Err LookFault.TapeUnread) (T.rack tapes.old) (T.rack tapes.new) }
+    ensures only { OnErr result ((result ≡ Err LookFault.TapeUnread) ⊎ (result ≡ Err LookFault.NoMemory)) }
+{
+    let x = match place_text(alloc, tapes, first, len) {
+        Ok(x) => x,
+        Err(fault) => return Err(fault),
     };
-    let second = match places.1 {
-        Some(copy) => match tape_text(alloc, tapes, &copy, len) {
-            Ok(text) => Some((copy, text)),
-            Err(fault) => return Err(fault),
-        },
-        None => None,
+    let y = match place_text(alloc, tapes, second, len) {
+        Ok(y) => y,
+        Err(fault) => return Err(fault),
     };
-    Ok(differing(&there, &first, &second))
+    Ok(differing(there, first, &x, second, &y))
 }
 
-/// Two of the places whose bytes are others.
+/// The bytes at a place on tape, if it is one.
+fn place_text<T: Tapes>(
+    alloc: Global,
+    tapes: &mut T,
+    place: Option<TapeCopy>,
+    len: u32,
+) -> Result<Text, LookFault>
+    requires mounted { All (λ r. r.mounted ≡ true) (told_reels (T.rack tapes.old)) }
+    ensures text { IfOk result (λ text. IfSome place (λ c. IsTapeText (told_reels (T.rack tapes.old)) c len text)) }
+    ensures tapes { ReadsRackByCause (result ≡ Err LookFault.TapeUnread) (T.rack tapes.old) (T.rack tapes.new) }
+    ensures only { OnErr result ((result ≡ Err LookFault.TapeUnread) ⊎ (result ≡ Err LookFault.NoMemory)) }
+{
+    match place {
+        Some(copy) => tape_text(alloc, tapes, &copy, len),
+        None => Ok(Text::new(alloc)),
+    }
+}
+
+/// Two of the places whose bytes are others: the disc, where it has any, and two on tape, where they are places.
 fn differing(
     there: &Option<Text>,
-    first: &Option<(TapeCopy, Text)>,
-    second: &Option<(TapeCopy, Text)>,
-) -> Option<(Lie, Lie)> {
-    match against_disc(there, first) {
-        Some(pair) => return Some(pair),
+    first: Option<TapeCopy>,
+    x: &Text,
+    second: Option<TapeCopy>,
+    y: &Text,
+) -> Option<(Lie, Lie)>
+    ensures some { IfSome result (λ p. TwoDiffer there.now first x.now second y.now p.0 p.1) }
+    ensures none { IfNone result (AllAgree there.now first x.now second y.now) }
+{
+    match against_disc(there, first, x) {
+        Some(copy) => return Some((Lie::Disc, Lie::Tape(copy))),
         None => {}
     }
-    match against_disc(there, second) {
-        Some(pair) => return Some(pair),
+    match against_disc(there, second, y) {
+        Some(copy) => return Some((Lie::Disc, Lie::Tape(copy))),
         None => {}
     }
-    match (first, second) {
-        (Some((one, x)), Some((other, y))) => {
-            if x.as_slice() == y.as_slice() {
-                None
-            } else {
-                Some((Lie::Tape(*one), Lie::Tape(*other)))
-            }
-        }
-        _ => None,
+    match against_tape(first, x, second, y) {
+        Some((one, other)) => Some((Lie::Tape(one), Lie::Tape(other))),
+        None => None,
     }
 }
 
-/// The disc and the place on tape, where both have bytes, and other ones.
-fn against_disc(there: &Option<Text>, on_tape: &Option<(TapeCopy, Text)>) -> Option<(Lie, Lie)> {
-    match (there, on_tape) {
-        (Some(x), Some((copy, y))) => {
-            if x.as_slice() == y.as_slice() {
-                None
-            } else {
-                Some((Lie::Disc, Lie::Tape(*copy)))
+/// The place on tape, if it is one, the disc has bytes, and they are others.
+fn against_disc(there: &Option<Text>, place: Option<TapeCopy>, text: &Text) -> Option<TapeCopy>
+    ensures place { IfSome result (λ c. place ≡ Some c) }
+    ensures differ { IfSome result (λ c. (bytes : List ℕ) × (there.now ≡ Some bytes) × (bytes ≢ text.now)) }
+    ensures none { IfNone result (IfSome there.now (λ bytes. IfSome place (λ c. bytes ≡ text.now))) }
+{
+    match there {
+        Some(bytes) => match place {
+            Some(copy) => {
+                if bytes.as_slice() == text.as_slice() {
+                    None
+                } else {
+                    Some(copy)
+                }
             }
-        }
-        _ => None,
+            None => None,
+        },
+        None => None,
+    }
+}
+
+/// Two places on tape, if they are both and have other bytes.
+fn against_tape(
+    first: Option<TapeCopy>,
+    x: &Text,
+    second: Option<TapeCopy>,
+    y: &Text,
+) -> Option<(TapeCopy, TapeCopy)>
+    ensures places { IfSome result (λ p. (first ≡ Some p.0) × (second ≡ Some p.1)) }
+    ensures differ { IfSome result (λ p. x.now ≢ y.now) }
+    ensures none { IfNone result (IfSome first (λ c. IfSome second (λ e. x.now ≡ y.now))) }
+{
+    match first {
+        Some(one) => match second {
+            Some(other) => {
+                if x.as_slice() == y.as_slice() {
+                    None
+                } else {
+                    Some((one, other))
+                }
+            }
+            None => None,
+        },
+        None => None,
     }
 }
 
@@ -172,7 +294,11 @@ fn read_others<T: Tapes>(
     tapes: &mut T,
     files: &[FileRec],
     dumped: &[FileRec],
-) -> Result<(), LookFault> {
+) -> Result<(), LookFault>
+    requires mounted { All (λ r. r.mounted ≡ true) (told_reels (T.rack tapes.old)) }
+    ensures tapes { ReadsRackByCause (result ≡ Err LookFault.TapeUnread) (T.rack tapes.old) (T.rack tapes.new) }
+    ensures only { OnErr result ((result ≡ Err LookFault.TapeUnread) ⊎ (result ≡ Err LookFault.NoMemory)) }
+{
     for of in dumped {
         match read_other(alloc, tapes, files, of) {
             Ok(()) => {}
@@ -188,13 +314,23 @@ fn read_other<T: Tapes>(
     tapes: &mut T,
     files: &[FileRec],
     of: &FileRec,
-) -> Result<(), LookFault> {
-    let copy = match (dumped_of(files, of.stamp), of.tape) {
-        (None, Some(copy)) => copy,
-        _ => return Ok(()),
-    };
-    match tape_text(alloc, tapes, &copy, of.len) {
+) -> Result<(), LookFault>
+    requires mounted { All (λ r. r.mounted ≡ true) (told_reels (T.rack tapes.old)) }
+    ensures tapes { ReadsRackByCause (result ≡ Err LookFault.TapeUnread) (T.rack tapes.old) (T.rack tapes.new) }
+    ensures only { OnErr result ((result ≡ Err LookFault.TapeUnread) ⊎ (result ≡ Err LookFault.NoMemory)) }
+{
+    if has_stamp(files, of.stamp) {
+        return Ok(());
+    }
+    match place_text(alloc, tapes, of.tape, of.len) {
         Ok(_text) => Ok(()),
         Err(fault) => Err(fault),
     }
+}
+
+/// Whether a file has this stamp.
+fn has_stamp(files: &[FileRec], stamp: u64) -> bool
+    ensures { result ≡ list_any (λ r. r.stamp == stamp) files.now }
+{
+    files.iter().any(|file| file.stamp == stamp)
 }

@@ -1,4 +1,12 @@
 //! What a disc stands for.
+ghost use Rattle.std.specs.Prelude.{◌≡◌, ◌⊎◌, ◌<◌, Err, IfOk, OnErr};
+ghost use Rattle.std.specs.Option.{ForSome};
+ghost use Rattle.g_disc.specs.Disc.{ReadsByCause};
+ghost use Rattle.g_slots.specs.Layout.{GateNames};
+ghost use Rattle.g_dirs.specs.Directory.{Directory};
+ghost use Rattle.g_dirs.specs.Image.{StandsFor};
+ghost use Rattle.g_look.specs.Standing.{IsStanding};
+
 use crate::LookFault;
 use g_dirs::{Dirs, DirsFault, read_dirs};
 use g_disc::Disc;
@@ -14,7 +22,12 @@ pub(crate) struct Standing {
 }
 
 /// What the disc stands for. `DiscUnread`, `NoMemory`.
-pub(crate) fn see_disc<D: Disc>(alloc: Global, disc: &mut D) -> Result<Standing, LookFault> {
+pub(crate) fn see_disc<D: Disc>(alloc: Global, disc: &mut D) -> Result<Standing, LookFault>
+    requires size { 2177 < (D.state disc.old).size }
+    ensures standing { IfOk result (IsStanding (D.state disc.old).size (D.state disc.old).held) }
+    ensures reads { ReadsByCause (result ≡ Err LookFault.DiscUnread) (D.state disc.old) (D.state disc.new) }
+    ensures only { OnErr result ((result ≡ Err LookFault.DiscUnread) ⊎ (result ≡ Err LookFault.NoMemory)) }
+{
     let slots = match Slots::find(disc) {
         Ok(slots) => slots,
         Err(_) => return Err(LookFault::DiscUnread),
@@ -37,7 +50,14 @@ pub(crate) fn see_disc<D: Disc>(alloc: Global, disc: &mut D) -> Result<Standing,
 }
 
 /// The format of the current slot, by its head.
-fn see_format<D: Disc>(disc: &mut D, slots: &Slots) -> Result<Format, LookFault> {
+fn see_format<D: Disc>(disc: &mut D, slots: &Slots) -> Result<Format, LookFault>
+    requires size { 2177 < (D.state disc.old).size }
+    requires gate { GateNames slots.now (D.state disc.old).held }
+    ensures format { IfOk result (λ format. ForSome (D.state disc.old).held
+        (λ blocks. (d : Directory) → (is : StandsFor blocks d) → is.format ≡ format)) }
+    ensures reads { ReadsByCause (result ≡ Err LookFault.DiscUnread) (D.state disc.old) (D.state disc.new) }
+    ensures only { OnErr result (result ≡ Err LookFault.DiscUnread) }
+{
     let mut block = [0; 512];
     match slots.read(disc, 0, &mut block) {
         Ok(()) => {}

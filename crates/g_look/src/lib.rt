@@ -7,34 +7,34 @@ mod ample;
 mod broken;
 mod broken_text;
 mod bytes;
-mod check;
 mod check_text;
+mod checking;
 mod disc;
 mod disc_text;
-mod dumps;
 mod fault;
 mod file_text;
 mod head;
-mod list;
+mod holding;
+mod listing;
 mod names;
 mod pairs;
 mod parts;
 mod rack;
 mod rack_text;
 mod records;
-mod restorable;
-mod show;
+mod restoring;
+mod showing;
 mod tape;
 
 ghost use Rattle.g_look.specs.Rules.{BrokenIsNot, FitsBelong, RackHasNone, VerdictIsRight};
 
 pub use broken::{Broken, DumpAt, Lie};
-pub use check::{Checked, check};
-pub use dumps::dumps;
+pub use checking::{Checked, check};
+pub use holding::dumps;
 pub use fault::LookFault;
-pub use list::list;
-pub use restorable::{Restorable, restorable};
-pub use show::show;
+pub use listing::list;
+pub use restoring::{Restoration, restorable};
+pub use showing::show;
 
 /// A rule that is found broken is really broken: disc and rack don't belong together then.
 pub fn broken_is_not()

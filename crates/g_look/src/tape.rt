@@ -1,6 +1,11 @@
 //! The bytes at a place on tape.
+ghost use Rattle.std.specs.Prelude.{◌≡◌, ◌⊎◌, ◌≤◌, All, Err, IfOk, OnErr, length, take, true};
+ghost use Rattle.g_state.specs.Meaning.{joined, told_reels};
+ghost use Rattle.g_look.specs.Looks.{ReadsRackByCause};
+ghost use Rattle.g_look.specs.Texts.{IsTapeText};
+
 use crate::LookFault;
-use g_base::{Block, blocks_for};
+use g_base::{Block, NoMemory, blocks_for};
 use g_entry::TapeCopy;
 use g_incr::{ShelfFault, read_blocks};
 use g_name::Text;
@@ -14,7 +19,12 @@ pub(crate) fn tape_text<T: Tapes>(
     tapes: &mut T,
     copy: &TapeCopy,
     len: u32,
-) -> Result<Text, LookFault> {
+) -> Result<Text, LookFault>
+    requires mounted { All (λ r. r.mounted ≡ true) (told_reels (T.rack tapes.old)) }
+    ensures text { IfOk result (IsTapeText (told_reels (T.rack tapes.old)) copy.now len) }
+    ensures tapes { ReadsRackByCause (result ≡ Err LookFault.TapeUnread) (T.rack tapes.old) (T.rack tapes.new) }
+    ensures only { OnErr result ((result ≡ Err LookFault.TapeUnread) ⊎ (result ≡ Err LookFault.NoMemory)) }
+{
     // No reel has so many blocks.
     if 65_536 < copy.first {
         return Ok(Text::new(alloc));
@@ -26,22 +36,28 @@ pub(crate) fn tape_text<T: Tapes>(
         },
         Err(ShelfFault::ReadFault) => Err(LookFault::TapeUnread),
         Err(ShelfFault::NoMemory) => Err(LookFault::NoMemory),
-        Err(_) => Ok(Text::new(alloc)),
+        Err(ShelfFault::NoTape) => Ok(Text::new(alloc)),
+        Err(ShelfFault::NotMounted) => Ok(Text::new(alloc)),
     }
 }
 
 /// The first `len` bytes of the blocks.
-fn text_in(alloc: Global, blocks: &[Block], len: u32) -> Result<Text, LookFault> {
-    let mut bytes = match Vec::with_capacity(alloc, len as usize) {
-        Ok(bytes) => bytes,
-        Err(_) => return Err(LookFault::NoMemory),
-    };
+fn text_in(alloc: Global, blocks: &[Block], len: u32) -> Result<Text, NoMemory>
+    ensures { IfOk result (λ text. text ≡ take len (joined blocks.now)) }
+{
+    let mut bytes = Vec::new(alloc);
     for block in blocks {
         let count = (len as usize - bytes.len()).min(512);
-        match bytes.extend_from_slice(&block[..count]) {
-            Ok(()) => {}
-            Err(_) => return Err(LookFault::NoMemory),
-        }
+        bytes.extend_from_slice(front(block, count))?;
     }
     Ok(Text::from(bytes))
+}
+
+/// The first so many bytes of a block.
+fn front(block: &Block, count: usize) -> &[u8]
+    requires { count ≤ 512 }
+    ensures value { result.now ≡ take count block.now }
+    ensures whole { length block.now ≡ 512 }
+{
+    &block[..count]
 }

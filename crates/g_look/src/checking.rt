@@ -1,22 +1,30 @@
 //! The check: whether disc and rack belong together, and what it says.
-ghost use Rattle.std.specs.Prelude.{Err, ◌≡◌, ◌↔◌, ◌<◌, All, IfOk, IsTrue, true};
+ghost use Rattle.std.specs.Prelude.{◌≡◌, ◌↔◌, ℕ, ◌<◌, All, Err, IfNone, IfOk, IfSome, IsTrue, List, true};
 ghost use Rattle.std.specs.Option.{ForSome};
 ghost use Rattle.g_disc.specs.Disc.{ReadsByCause};
 ghost use Rattle.g_dirs.specs.Directory.{Directory};
 ghost use Rattle.g_dirs.specs.Image.{StandsFor};
+ghost use Rattle.g_incr.specs.Layout.{Dump};
 ghost use Rattle.g_state.specs.Meaning.{told_reels};
 ghost use Rattle.g_state.specs.Reading.{AllTold};
+ghost use Rattle.g_restore.specs.Gathered.{HasFew};
+ghost use Rattle.g_look.specs.Judging.{IsDiscJudged};
 ghost use Rattle.g_look.specs.Looks.{ReadsRackByCause};
+ghost use Rattle.g_look.specs.Rules.{IsVerdict};
+ghost use Rattle.g_look.specs.Seen.{AreSeen};
+ghost use Rattle.g_look.specs.Standing.{IsSound, IsStanding};
 ghost use Rattle.g_look.specs.Text.{IsChecked};
 
-use crate::{Broken, LookFault};
 use crate::bytes::judge_bytes;
+use crate::check_text::check_text;
 use crate::disc::{Standing, see_disc};
 use crate::head::judge_head;
 use crate::rack::{Judged, judge_rack, see_rack};
-use crate::records::judge_records;
-use crate::check_text::check_text;
+use crate::records::{no_copy, other_length};
+use crate::{Broken, LookFault};
+use g_dirs::Dirs;
 use g_disc::Disc;
+use g_entry::FileRec;
 use g_name::Text;
 use g_restore::Found;
 use g_tape::Tapes;
@@ -78,23 +86,54 @@ fn judge<D: Disc, T: Tapes>(
     tapes: &mut T,
     found: &[Found],
     standing: &Standing,
-) -> Result<Option<Broken>, LookFault> {
+) -> Result<Option<Broken>, LookFault>
+    requires size { 2177 < (D.state disc.old).size }
+    requires mounted { All (λ r. r.mounted ≡ true) (told_reels (T.rack tapes.old)) }
+    requires few { All HasFew found.now }
+    requires standing { IsStanding (D.state disc.old).size (D.state disc.old).held standing.now }
+    ensures right { AreSeen (told_reels (T.rack tapes.old)) found.now → AllTold (D.state disc.old).held (told_reels (T.rack tapes.old))
+        → IfOk result (IsVerdict (D.state disc.old).held (told_reels (T.rack tapes.old))) }
+    ensures disc { ReadsByCause (result ≡ Err LookFault.DiscUnread) (D.state disc.old) (D.state disc.new) }
+    ensures tapes { ReadsRackByCause (result ≡ Err LookFault.TapeUnread) (T.rack tapes.old) (T.rack tapes.new) }
+{
     let dumped = match judge_rack(alloc, found) {
         Ok(Judged::Fits(dumped)) => dumped,
         Ok(Judged::Breaks(broken)) => return Ok(Some(broken)),
         Err(fault) => return Err(fault),
     };
-    let dirs = match &standing.dirs {
-        Some((_format, dirs)) => dirs,
-        None => return Ok(None),
-    };
+    match &standing.dirs {
+        Some((_format, dirs)) => judge_disc(alloc, disc, tapes, found, dirs, dumped.as_slice()),
+        None => Ok(None),
+    }
+}
+
+/// The first rule of the disc that is broken, over a rack of which none is.
+fn judge_disc<D: Disc, T: Tapes>(
+    alloc: Global,
+    disc: &mut D,
+    tapes: &mut T,
+    found: &[Found],
+    dirs: &Dirs,
+    dumped: &[FileRec],
+) -> Result<Option<Broken>, LookFault>
+    requires size { 2177 < (D.state disc.old).size }
+    requires mounted { All (λ r. r.mounted ≡ true) (told_reels (T.rack tapes.old)) }
+    requires sound { IsSound (D.state disc.old).size dirs.now }
+    ensures judged { IfOk result (IsDiscJudged (D.state disc.old).held (told_reels (T.rack tapes.old)) found.now dirs.now dumped.now) }
+    ensures disc { ReadsByCause (result ≡ Err LookFault.DiscUnread) (D.state disc.old) (D.state disc.new) }
+    ensures tapes { ReadsRackByCause (result ≡ Err LookFault.TapeUnread) (T.rack tapes.old) (T.rack tapes.new) }
+{
     match judge_head(found, &dirs.head, tapes) {
         Some(broken) => return Ok(Some(broken)),
         None => {}
     }
-    match judge_records(found, dirs.users.as_slice(), dirs.files.as_slice(), dumped.as_slice()) {
+    match no_copy(found, dirs.users.as_slice(), dirs.files.as_slice()) {
         Some(broken) => return Ok(Some(broken)),
         None => {}
     }
-    judge_bytes(alloc, disc, tapes, dirs, dumped.as_slice())
+    match other_length(dirs.users.as_slice(), dirs.files.as_slice(), dumped) {
+        Some(broken) => return Ok(Some(broken)),
+        None => {}
+    }
+    judge_bytes(alloc, disc, tapes, dirs, dumped)
 }

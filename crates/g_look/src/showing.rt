@@ -4,7 +4,7 @@ ghost use Rattle.g_disc.specs.Disc.{ReadsByCause};
 ghost use Rattle.g_look.specs.Looks.{ReadsRackByCause};
 
 use crate::LookFault;
-use crate::bytes::disc_text;
+use crate::bytes::file_text;
 use crate::disc::see_disc;
 use g_dirs::Dirs;
 use g_disc::Disc;
@@ -51,7 +51,7 @@ pub fn show<D: Disc, T: Tapes>(
         Some(number) => number,
         None => return Err(LookFault::NoFile),
     };
-    match disc_text(alloc, disc, online.as_slice(), number) {
+    match file_text(alloc, disc, online.as_slice(), number) {
         Ok(Some(text)) => Ok(text),
         Ok(None) => taped_text(alloc, tapes, &tree, number),
         Err(fault) => Err(fault),

@@ -124,7 +124,7 @@ fn push_numbered(
     number: u16,
 ) -> Result<(), NoMemory> {
     match tree.file_at(number) {
-        Some(file) => push_line(text, tree.users(), file, copy_at(online, number)),
+        Some(file) => push_line(text, tree.users(), file, &copy_at(online, number)),
         None => Ok(()),
     }
 }
@@ -134,7 +134,7 @@ fn push_line(
     text: &mut Text,
     users: &[UserRec],
     file: &FileRec,
-    copy: Option<&DiscCopy>,
+    copy: &Option<DiscCopy>,
 ) -> Result<(), NoMemory> {
     push_file(text, users, file)?;
     match copy {

@@ -18,7 +18,7 @@ use std::alloc::Global;
 
 /// Whether the rack can be restored, and the text: the files that RESTORE would give and the dump, or its refusal.
 #[derive(Debug, Drop)]
-pub struct Restorable {
+pub struct Restoration {
     pub given: bool,
     pub text: Text,
 }
@@ -26,7 +26,7 @@ pub struct Restorable {
 /// What RESTORE would give of this rack: a line for each file, users by number and the files of a user by full name, and
 /// `RESTORABLE FROM DUMP n`; or the one line of its refusal. All reels have to be mounted; they are only read.
 /// `TapeUnread`, `NoMemory`.
-pub fn restorable<T: Tapes>(alloc: Global, tapes: &mut T) -> Result<Restorable, LookFault>
+pub fn restorable<T: Tapes>(alloc: Global, tapes: &mut T) -> Result<Restoration, LookFault>
     requires mounted { All (λ r. r.mounted ≡ true) (T.rack tapes.old).reels }
     ensures tapes { ReadsRackByCause (result ≡ Err LookFault.TapeUnread) (T.rack tapes.old) (T.rack tapes.new) }
 {
@@ -42,16 +42,16 @@ pub fn restorable<T: Tapes>(alloc: Global, tapes: &mut T) -> Result<Restorable, 
 }
 
 /// The line of a refusal.
-fn refused(alloc: Global, fault: &StoreFault) -> Result<Restorable, LookFault> {
+fn refused(alloc: Global, fault: &StoreFault) -> Result<Restoration, LookFault> {
     let mut text = Text::new(alloc);
     text.extend(b"REFUSED ")?;
     push_fault(&mut text, fault)?;
     text.push(b'\n')?;
-    Ok(Restorable { given: false, text })
+    Ok(Restoration { given: false, text })
 }
 
 /// The lines of a dumped directory.
-fn given(alloc: Global, dumped: Dumped) -> Result<Restorable, LookFault> {
+fn given(alloc: Global, dumped: Dumped) -> Result<Restoration, LookFault> {
     let Dumped {
         number,
         next_stamp: _,
@@ -66,7 +66,7 @@ fn given(alloc: Global, dumped: Dumped) -> Result<Restorable, LookFault> {
     push_tree(alloc, &mut text, &tree)?;
     push_told(&mut text, b"RESTORABLE FROM DUMP ", number)?;
     text.push(b'\n')?;
-    Ok(Restorable { given: true, text })
+    Ok(Restoration { given: true, text })
 }
 
 /// Puts the lines of all files behind the text.

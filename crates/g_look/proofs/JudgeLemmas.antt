@@ -1,0 +1,143 @@
+-- The verdict, of what was found broken and of what was not.
+use Rattle.std.proofs.Common.{◌≡◌, ◌≢◌, ◌⊎◌, inl, inr, ℕ, ◌+◌, ◌<◌, ◌≤◌, List, [], ◌∷◌, Option, Some, None, refl, sym, ◌∙◌, ap, arith, subst}
+use Rattle.std.specs.Prelude.{Contains, IfSome, IfNone, is_some}
+use Rattle.std.proofs.lemmas.Option.{same_Some}
+use Rattle.g_entry.specs.declared.file_rec.FileRec.{FileRec}
+use Rattle.g_tape.specs.Reel.{Reel}
+use Rattle.g_dirs.specs.declared.dirs.Dirs.{Dirs}
+use Rattle.g_dirs.specs.Directory.{Directory}
+use Rattle.g_dirs.specs.Image.{StandsFor}
+use Rattle.g_contents.specs.Contents.{Contents, Holds, contents_of}
+use Rattle.g_incr.specs.Layout.{Dump}
+use Rattle.g_shelf.specs.Completed.{AreShelved, all_dumps}
+use Rattle.g_state.specs.Belong.{BelongWith}
+use Rattle.g_state.specs.Reading.{AllTold, ReelsTold}
+use Rattle.g_state_laws.specs.States.{AreContents}
+use Rattle.g_restore.specs.declared.dumps.Found.{Found}
+use Rattle.g_restore.specs.Places.{IsHeld}
+use Rattle.g_look.specs.declared.broken.Broken.{Broken}
+use Rattle.g_look.specs.declared.broken.Broken.TheVariants.{Twice, Falls, LostDirectory, LostCopy, TooNew, LastMissing, TooFar, NoReel, Misplaced, NoCopy, Lengths, Bytes}
+use Rattle.g_look.specs.Heads.{HeadFits}
+use Rattle.g_look.specs.Judging.{IsDiscJudged, IsFirstOfDisc, IsJudgedOn}
+use Rattle.g_look.specs.Recs.{HasSameLengths}
+use Rattle.g_look.specs.Rules.{Breaks, BreaksDisc, BreaksOn, BreaksRack, DiscFits, IsVerdict, RackFits, rule_of}
+use Rattle.g_look.specs.Seen.{AreSeen, IsFirstOfRack, IsRackPassed, IsSeen, WhereSeen}
+use Rattle.g_look.specs.Standing.{directory_in}
+use Rattle.g_look.specs.Texts.{AreBytesOther, FileAgrees}
+use Rattle.g_look.proofs.BreakLemmas.{broken_is_not}
+use Rattle.g_contents.proofs.HoldLemmas.{holds_one}
+use Rattle.g_look.proofs.FitLemmas.{fits_belong}
+use Rattle.g_look.proofs.RecLemmas.{first12, fits_all}
+use Rattle.g_look.proofs.VerdictLemmas.{rack_has_none}
+
+-- rules of the rack stand before those of the disc
+rack_low : (dumps : List Dump) (b : Broken) → BreaksRack dumps b → rule_of b ≤ 4
+rack_low dumps (Twice a b) is = omega arith
+rack_low dumps (Falls a b) is = omega arith
+rack_low dumps (LostDirectory user) is = omega arith
+rack_low dumps (LostCopy full serial) is = omega arith
+rack_low dumps (TooNew a last) is = absurd is
+rack_low dumps (LastMissing last) is = absurd is
+rack_low dumps (TooFar a next) is = absurd is
+rack_low dumps (NoReel serial) is = absurd is
+rack_low dumps (Misplaced serial place end) is = absurd is
+rack_low dumps (NoCopy full copy) is = absurd is
+rack_low dumps (Lengths full stamp len dumped) is = absurd is
+rack_low dumps (Bytes full stamp one other) is = absurd is
+
+disc_high : (shelf : ℕ → List Dump) (reels : List Reel) (c : Contents) (e : Broken) → BreaksDisc shelf reels c e → 5 ≤ rule_of e
+disc_high shelf reels c (TooNew a last) is = omega arith
+disc_high shelf reels c (LastMissing last) is = omega arith
+disc_high shelf reels c (TooFar a next) is = omega arith
+disc_high shelf reels c (NoReel serial) is = omega arith
+disc_high shelf reels c (Misplaced serial place end) is = omega arith
+disc_high shelf reels c (NoCopy full copy) is = omega arith
+disc_high shelf reels c (Lengths full stamp len dumped) is = omega arith
+disc_high shelf reels c (Bytes full stamp one other) is = omega arith
+disc_high shelf reels c (Twice a b) is = absurd is
+disc_high shelf reels c (Falls a b) is = absurd is
+disc_high shelf reels c (LostDirectory user) is = absurd is
+disc_high shelf reels c (LostCopy full serial) is = absurd is
+
+module _ (held : Option (List (List ℕ))) (reels : List Reel) (found : List Found) (seen : AreSeen reels found) (told : AllTold held reels) where
+  broken_verdict : (b : Broken) → Breaks held reels b → ((e : Broken) → Breaks held reels e → rule_of b ≤ rule_of e) → IsVerdict held reels (Some b)
+  broken_verdict b breaks first = record {
+    belong = λ none. absurd (let no : ⊥ = cc in no);
+    broken = broken_is_not held reels b told.each breaks;
+    breaks = breaks;
+    first = first;
+  }
+
+  pub verdict_rack : (b : Broken) → WhereSeen found (λ rs shelf. IsFirstOfRack (all_dumps shelf rs) b) → IsVerdict held reels (Some b)
+  verdict_rack b where_seen =
+      let (shelf, shelved) = seen.shelf told.each in
+      let here = where_seen reels shelf (seen.seen told.each shelf shelved) in
+      broken_verdict b (record { shelf = shelf; shelved = shelved; is = inl here.breaks }) (λ e breaks. by_part e breaks.shelf breaks.shelved breaks.is (rack_low (all_dumps shelf reels) b here.breaks))
+    where
+      by_part : (e : Broken) (shelf : ℕ → List Dump) → AreShelved shelf reels → BreaksRack (all_dumps shelf reels) e ⊎ BreaksOn shelf held reels e → rule_of b ≤ 4 → rule_of b ≤ rule_of e
+      by_part e shelf shelved (inl rack) low = (where_seen reels shelf (seen.seen told.each shelf shelved)).first e rack
+      by_part e shelf shelved (inr on) low = let high = disc_high shelf reels on.contents e on.breaks in omega (arith, low, high)
+
+  -- A RACK OF WHICH NO RULE IS BROKEN
+  module _ (dumped : List FileRec) (passed : WhereSeen found (λ rs shelf. IsRackPassed (all_dumps shelf rs) dumped)) where
+    passed_here : (shelf : ℕ → List Dump) → AreShelved shelf reels → IsRackPassed (all_dumps shelf reels) dumped
+    passed_here shelf shelved = passed reels shelf (seen.seen told.each shelf shelved)
+
+    -- beside a disc that holds nothing
+    pub verdict_nothing : (blocks : List (List ℕ)) → held ≡ Some blocks → ((d : Directory) → StandsFor blocks d → ⊥) → IsVerdict held reels None
+    verdict_nothing blocks is none =
+        let (shelf, shelved) = seen.shelf told.each in
+        record {
+          belong = λ same. fits_belong held reels shelf None told (record {
+            are = tt;
+            none = λ no bs c at holds.
+                none holds.directory (subst (λ (xs : List (List ℕ)). StandsFor xs holds.directory) (same_Some bs blocks (sym at ∙ is)) holds.stands);
+          }) shelved (passed_here shelf shelved).fits tt;
+          broken = tt;
+          breaks = tt;
+          first = tt;
+        }
+
+    -- beside one that holds a directory
+    module _ (blocks : List (List ℕ)) (is : held ≡ Some blocks) (dirs : Dirs) (stands : StandsFor blocks (directory_in dirs)) where
+      abbrev c : Contents
+      c = contents_of (Some blocks) (directory_in dirs)
+
+      holds : Holds blocks c
+      holds = record { directory = directory_in dirs; stands = stands; are = refl }
+
+      pub verdict_disc : (verdict : Option Broken) → IsDiscJudged held reels found dirs dumped verdict → IsVerdict held reels verdict
+      verdict_disc None judged =
+          let (shelf, shelved) = seen.shelf told.each in
+          let fits : DiscFits shelf reels c = judged shelf blocks (seen.seen told.each shelf shelved) (passed_here shelf shelved) is in
+          record {
+            belong = λ same. fits_belong held reels shelf (Some c) told (record { are = (blocks, is, holds); none = λ no. absurd (let wrong : ⊥ = cc in wrong) }) shelved (passed_here shelf shelved).fits fits;
+            broken = tt;
+            breaks = tt;
+            first = tt;
+          }
+      verdict_disc (Some b) judged =
+          let (shelf, shelved) = seen.shelf told.each in
+          let here : IsFirstOfDisc shelf reels c b = judged shelf blocks (seen.seen told.each shelf shelved) (passed_here shelf shelved) is in
+          broken_verdict b (record { shelf = shelf; shelved = shelved; is = inr (record { blocks = blocks; told = is; contents = c; holds = holds; breaks = here.breaks }) })
+          (λ e breaks. by_part e breaks.shelf breaks.shelved breaks.is)
+        where
+          by_part : (e : Broken) (shelf : ℕ → List Dump) → AreShelved shelf reels → BreaksRack (all_dumps shelf reels) e ⊎ BreaksOn shelf held reels e → rule_of b ≤ rule_of e
+          by_part e shelf shelved (inl rack) = absurd (rack_has_none reels shelf e told.each shelved (passed_here shelf shelved).fits rack)
+          by_part e shelf shelved (inr on) =
+              let same_blocks : on.blocks ≡ blocks = same_Some on.blocks blocks (sym on.told ∙ is) in
+              let same : on.contents ≡ c = sym (holds_one blocks c on.contents holds (subst (λ (xs : List (List ℕ)). Holds xs on.contents) same_blocks on.holds)) in
+              let here : IsFirstOfDisc shelf reels c b = judged shelf blocks (seen.seen told.each shelf shelved) (passed_here shelf shelved) is in
+              here.first e (subst (λ (k : Contents). BreaksDisc shelf reels k e) same on.breaks)
+
+-- THE LAST RULE, and none
+pub judged_bytes : (held : Option (List (List ℕ))) (reels : List Reel) (found : List Found) (dirs : Dirs) (dumped : List FileRec)
+    → ((shelf : ℕ → List Dump) → IsSeen reels shelf found → HeadFits shelf reels dirs.head)
+    → ((r : FileRec) → Contains dirs.files.items r → IsHeld found r) → ((r : FileRec) → Contains dirs.files.items r → HasSameLengths dumped r) → (verdict : Option Broken)
+    → IfSome verdict (AreBytesOther held reels dirs.online.items dumped dirs.users.items dirs.files.items)
+    → IfNone verdict ((r : FileRec) → Contains dirs.files.items r → FileAgrees held reels dirs.online.items dumped r)
+    → IsDiscJudged held reels found dirs dumped verdict
+judged_bytes held reels found dirs dumped head are_held are_long None some none shelf blocks seen passed told =
+    fits_all reels shelf found seen dumped passed blocks dirs held told (head shelf seen) are_held are_long none
+judged_bytes held reels found dirs dumped head are_held are_long (Some b) some none shelf blocks seen passed told =
+    first12 reels shelf found seen dumped passed blocks dirs held told (head shelf seen) are_held are_long b some
