@@ -1,6 +1,6 @@
 //! The rule about the bytes of a version, which lie at up to three places.
 ghost use Rattle.std.specs.List.{list_any};
-ghost use Rattle.std.specs.Prelude.{◌≡◌, ◌≢◌, ◌==◌, ◌⊎◌, ℕ, ◌<◌, All, Contains, Err, IfNone, IfOk, IfSome, List, OnErr, length, Some, true};
+ghost use Rattle.std.specs.Prelude.{◌≡◌, ◌≢◌, ◌==◌, ◌⊎◌, ℕ, ◌<◌, All, Contains, Err, IfErr, IfNone, IfOk, IfSome, List, OnErr, length, Some, true};
 ghost use Rattle.g_copy.specs.Copy.{IsCopy};
 ghost use Rattle.g_copy.specs.declared.copy.DiscCopy.{DiscCopy};
 ghost use Rattle.g_disc.specs.Disc.{ReadsByCause};
@@ -40,6 +40,7 @@ pub(crate) fn judge_bytes<D: Disc, T: Tapes>(
         → FileAgrees (D.state disc.old).held (told_reels (T.rack tapes.old)) dirs.now.online.items dumped.now r)) }
     ensures disc { ReadsByCause (result ≡ Err LookFault.DiscUnread) (D.state disc.old) (D.state disc.new) }
     ensures tapes { ReadsRackByCause (result ≡ Err LookFault.TapeUnread) (T.rack tapes.old) (T.rack tapes.new) }
+    ensures faults { IfErr result (λ e. (e ≡ LookFault.DiscUnread) ⊎ ((e ≡ LookFault.TapeUnread) ⊎ (e ≡ LookFault.NoMemory))) }
 {
     match compare_files(alloc, disc, tapes, dirs, dumped) {
         Ok(None) => {}
@@ -69,6 +70,7 @@ fn compare_files<D: Disc, T: Tapes>(
         → FileAgrees (D.state disc.old).held (told_reels (T.rack tapes.old)) dirs.now.online.items dumped.now r)) }
     ensures disc { ReadsByCause (result ≡ Err LookFault.DiscUnread) (D.state disc.old) (D.state disc.new) }
     ensures tapes { ReadsRackByCause (result ≡ Err LookFault.TapeUnread) (T.rack tapes.old) (T.rack tapes.new) }
+    ensures faults { IfErr result (λ e. (e ≡ LookFault.DiscUnread) ⊎ ((e ≡ LookFault.TapeUnread) ⊎ (e ≡ LookFault.NoMemory))) }
 {
     for file in dirs.files.as_slice() {
         match compare_file(alloc, disc, tapes, dirs, file, dumped) {
@@ -106,6 +108,7 @@ fn compare_file<D: Disc, T: Tapes>(
         dirs.now.online.items dumped.now file.now)) }
     ensures disc { ReadsByCause (result ≡ Err LookFault.DiscUnread) (D.state disc.old) (D.state disc.new) }
     ensures tapes { ReadsRackByCause (result ≡ Err LookFault.TapeUnread) (T.rack tapes.old) (T.rack tapes.new) }
+    ensures faults { IfErr result (λ e. (e ≡ LookFault.DiscUnread) ⊎ ((e ≡ LookFault.TapeUnread) ⊎ (e ≡ LookFault.NoMemory))) }
 {
     let there = match file_text(alloc, disc, dirs.online.as_slice(), file.number) {
         Ok(there) => there,

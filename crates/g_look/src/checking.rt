@@ -1,10 +1,9 @@
 //! The check: whether disc and rack belong together, and what it says.
-ghost use Rattle.std.specs.Prelude.{◌≡◌, ◌↔◌, ℕ, ◌<◌, All, Err, IfNone, IfOk, IfSome, IsTrue, List, true};
+ghost use Rattle.std.specs.Prelude.{◌≡◌, ◌⊎◌, ◌↔◌, ◌<◌, All, Err, IfErr, IfOk, IsTrue, true};
 ghost use Rattle.std.specs.Option.{ForSome};
 ghost use Rattle.g_disc.specs.Disc.{ReadsByCause};
 ghost use Rattle.g_dirs.specs.Directory.{Directory};
 ghost use Rattle.g_dirs.specs.Image.{StandsFor};
-ghost use Rattle.g_incr.specs.Layout.{Dump};
 ghost use Rattle.g_state.specs.Meaning.{told_reels};
 ghost use Rattle.g_state.specs.Reading.{AllTold};
 ghost use Rattle.g_restore.specs.Gathered.{HasFew};
@@ -55,6 +54,7 @@ pub fn check<D: Disc, T: Tapes>(
         IsTrue c.filestore ↔ ((d : Directory) × StandsFor blocks d))) }
     ensures disc { ReadsByCause (result ≡ Err LookFault.DiscUnread) (D.state disc.old) (D.state disc.new) }
     ensures tapes { ReadsRackByCause (result ≡ Err LookFault.TapeUnread) (T.rack tapes.old) (T.rack tapes.new) }
+    ensures faults { IfErr result (λ e. (e ≡ LookFault.DiscUnread) ⊎ ((e ≡ LookFault.TapeUnread) ⊎ (e ≡ LookFault.NoMemory))) }
 {
     let found = match see_rack(alloc, tapes) {
         Ok(found) => found,
@@ -95,6 +95,7 @@ fn judge<D: Disc, T: Tapes>(
         → IfOk result (IsVerdict (D.state disc.old).held (told_reels (T.rack tapes.old))) }
     ensures disc { ReadsByCause (result ≡ Err LookFault.DiscUnread) (D.state disc.old) (D.state disc.new) }
     ensures tapes { ReadsRackByCause (result ≡ Err LookFault.TapeUnread) (T.rack tapes.old) (T.rack tapes.new) }
+    ensures faults { IfErr result (λ e. (e ≡ LookFault.DiscUnread) ⊎ ((e ≡ LookFault.TapeUnread) ⊎ (e ≡ LookFault.NoMemory))) }
 {
     let dumped = match judge_rack(alloc, found) {
         Ok(Judged::Fits(dumped)) => dumped,
@@ -122,6 +123,7 @@ fn judge_disc<D: Disc, T: Tapes>(
     ensures judged { IfOk result (IsDiscJudged (D.state disc.old).held (told_reels (T.rack tapes.old)) found.now dirs.now dumped.now) }
     ensures disc { ReadsByCause (result ≡ Err LookFault.DiscUnread) (D.state disc.old) (D.state disc.new) }
     ensures tapes { ReadsRackByCause (result ≡ Err LookFault.TapeUnread) (T.rack tapes.old) (T.rack tapes.new) }
+    ensures faults { IfErr result (λ e. (e ≡ LookFault.DiscUnread) ⊎ ((e ≡ LookFault.TapeUnread) ⊎ (e ≡ LookFault.NoMemory))) }
 {
     match judge_head(found, &dirs.head, tapes) {
         Some(broken) => return Ok(Some(broken)),

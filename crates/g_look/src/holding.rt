@@ -1,5 +1,5 @@
 //! What a rack holds.
-ghost use Rattle.std.specs.Prelude.{◌≡◌, Err, ℕ, All, IfOk, List, true};
+ghost use Rattle.std.specs.Prelude.{◌≡◌, ◌⊎◌, Err, ℕ, All, IfErr, IfOk, List, true};
 ghost use Rattle.g_incr.specs.Layout.{Dump};
 ghost use Rattle.g_lines.specs.Lines.{text_of};
 ghost use Rattle.g_shelf.specs.Completed.{AreShelved};
@@ -22,6 +22,7 @@ pub fn dumps<T: Tapes>(alloc: Global, tapes: &mut T) -> Result<Text, LookFault>
     ensures text { ReelsTold (told_reels (T.rack tapes.old)) → (shelf : ℕ → List Dump) → AreShelved shelf (told_reels (T.rack tapes.old))
         → IfOk result (λ text. text ≡ text_of (rack_lines shelf (told_reels (T.rack tapes.old)))) }
     ensures tapes { ReadsRackByCause (result ≡ Err LookFault.TapeUnread) (T.rack tapes.old) (T.rack tapes.new) }
+    ensures faults { IfErr result (λ e. (e ≡ LookFault.TapeUnread) ⊎ (e ≡ LookFault.NoMemory)) }
 {
     let found = match see_rack(alloc, tapes) {
         Ok(found) => found,

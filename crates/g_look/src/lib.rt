@@ -33,7 +33,7 @@ pub use checking::{Checked, check};
 pub use holding::dumps;
 pub use fault::LookFault;
 pub use listing::list;
-pub use restoring::{Restoration, restorable};
+pub use restoring::{Given, restorable};
 pub use showing::show;
 
 /// A rule that is found broken is really broken: disc and rack don't belong together then.

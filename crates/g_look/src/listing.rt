@@ -1,5 +1,5 @@
 //! What is on a disc.
-ghost use Rattle.std.specs.Prelude.{◌≡◌, ◌<◌, Err};
+ghost use Rattle.std.specs.Prelude.{◌≡◌, ◌≢◌, ◌<◌, Err, IfErr};
 ghost use Rattle.g_disc.specs.Disc.{ReadsByCause};
 
 use crate::LookFault;
@@ -25,6 +25,7 @@ pub fn list<D: Disc>(
 ) -> Result<Text, LookFault>
     requires size { 2177 < (D.state disc.old).size }
     ensures disc { ReadsByCause (result ≡ Err LookFault.DiscUnread) (D.state disc.old) (D.state disc.new) }
+    ensures faults { IfErr result (λ e. e ≢ LookFault.TapeUnread) }
 {
     let standing = match see_disc(alloc, disc) {
         Ok(standing) => standing,

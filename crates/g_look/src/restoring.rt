@@ -1,5 +1,5 @@
 //! What a restore of the rack would give.
-ghost use Rattle.std.specs.Prelude.{◌≡◌, All, Err, true};
+ghost use Rattle.std.specs.Prelude.{◌≡◌, ◌⊎◌, All, Err, IfErr, true};
 ghost use Rattle.g_look.specs.Looks.{ReadsRackByCause};
 
 use crate::LookFault;
@@ -18,7 +18,7 @@ use std::alloc::Global;
 
 /// Whether the rack can be restored, and the text: the files that RESTORE would give and the dump, or its refusal.
 #[derive(Debug, Drop)]
-pub struct Restoration {
+pub struct Given {
     pub given: bool,
     pub text: Text,
 }
@@ -26,9 +26,10 @@ pub struct Restoration {
 /// What RESTORE would give of this rack: a line for each file, users by number and the files of a user by full name, and
 /// `RESTORABLE FROM DUMP n`; or the one line of its refusal. All reels have to be mounted; they are only read.
 /// `TapeUnread`, `NoMemory`.
-pub fn restorable<T: Tapes>(alloc: Global, tapes: &mut T) -> Result<Restoration, LookFault>
+pub fn restorable<T: Tapes>(alloc: Global, tapes: &mut T) -> Result<Given, LookFault>
     requires mounted { All (λ r. r.mounted ≡ true) (T.rack tapes.old).reels }
     ensures tapes { ReadsRackByCause (result ≡ Err LookFault.TapeUnread) (T.rack tapes.old) (T.rack tapes.new) }
+    ensures faults { IfErr result (λ e. (e ≡ LookFault.TapeUnread) ⊎ (e ≡ LookFault.NoMemory)) }
 {
     let found = match see_rack(alloc, tapes) {
         Ok(found) => found,
@@ -42,16 +43,16 @@ pub fn restorable<T: Tapes>(alloc: Global, tapes: &mut T) -> Result<Restoration,
 }
 
 /// The line of a refusal.
-fn refused(alloc: Global, fault: &StoreFault) -> Result<Restoration, LookFault> {
+fn refused(alloc: Global, fault: &StoreFault) -> Result<Given, LookFault> {
     let mut text = Text::new(alloc);
     text.extend(b"REFUSED ")?;
     push_fault(&mut text, fault)?;
     text.push(b'\n')?;
-    Ok(Restoration { given: false, text })
+    Ok(Given { given: false, text })
 }
 
 /// The lines of a dumped directory.
-fn given(alloc: Global, dumped: Dumped) -> Result<Restoration, LookFault> {
+fn given(alloc: Global, dumped: Dumped) -> Result<Given, LookFault> {
     let Dumped {
         number,
         next_stamp: _,
@@ -66,7 +67,7 @@ fn given(alloc: Global, dumped: Dumped) -> Result<Restoration, LookFault> {
     push_tree(alloc, &mut text, &tree)?;
     push_told(&mut text, b"RESTORABLE FROM DUMP ", number)?;
     text.push(b'\n')?;
-    Ok(Restoration { given: true, text })
+    Ok(Given { given: true, text })
 }
 
 /// Puts the lines of all files behind the text.
