@@ -10,5 +10,6 @@ pub mod RackLemmas
 pub mod RecLemmas
 pub mod SeenLemmas
 pub mod ShelfLemmas
+pub mod ShownLemmas
 pub mod TextLemmas
 pub mod VerdictLemmas

@@ -5,6 +5,7 @@ pub mod Looks
 pub mod Recs
 pub mod Rules
 pub mod Seen
+pub mod Shown
 pub mod Standing
 pub mod Text
 pub mod Texts

@@ -154,7 +154,7 @@ fn misplaced(intent: &Intent, end: u32) -> Option<Broken>
 }
 
 /// The block behind the dumps of the reel up to the one of this number.
-fn end_upto(found: &[Found], serial: u32, last: u64) -> u32
+pub(crate) fn end_upto(found: &[Found], serial: u32, last: u64) -> u32
     ensures { All EndsLow found.now → result ≡ end_upto serial last 0 found.now }
 {
     let mut end = 0;

@@ -1,7 +1,20 @@
 //! The lines of reels and dumps.
-use crate::head::end_of;
+ghost use Rattle.std.specs.Prelude.{◌≡◌, ◌≤◌, ◌∷◌, ◌++◌, ℕ, All, Contains, List, OnOk, [], codes, filter, length, map};
+ghost use Rattle.std.specs.List.{flat_map};
+ghost use Rattle.g_tape.specs.Reel.{Reel};
+ghost use Rattle.g_incr.specs.Layout.{Dump};
+ghost use Rattle.g_lines.specs.Lines.{ended, text_of};
+ghost use Rattle.g_state.specs.Meaning.{told_reels};
+ghost use Rattle.g_restore.specs.Known.{known};
+ghost use Rattle.g_look.specs.Heads.{EndsLow, end_upto};
+ghost use Rattle.g_look.specs.Seen.{IsSeen};
+ghost use Rattle.g_look.specs.Shown.{count_on, known_line, lines_on, tape_text};
+ghost use Rattle.g_look.specs.Text.{holder_text, rack_lines, reel_lines};
+
+use crate::head::end_upto;
 use crate::parts::push_told;
 use g_base::NoMemory;
+use g_entry::UserRec;
 use g_name::Text;
 use g_restore::Found;
 use g_tape::Tapes;
@@ -11,7 +24,10 @@ pub(crate) fn push_rack<T: Tapes>(
     text: &mut Text,
     tapes: &T,
     found: &[Found],
-) -> Result<(), NoMemory> {
+) -> Result<(), NoMemory>
+    ensures { OnOk result ((shelf : ℕ → List Dump) → IsSeen (told_reels (T.rack tapes.now)) shelf found.now
+        → text.new ≡ text.old ++ text_of (rack_lines shelf (told_reels (T.rack tapes.now)))) }
+{
     for i in 0..tapes.reels() {
         let serial = tapes.serial(i);
         match push_reel(text, tapes, serial, found) {
@@ -28,32 +44,51 @@ fn push_reel<T: Tapes>(
     tapes: &T,
     serial: u32,
     found: &[Found],
-) -> Result<(), NoMemory> {
-    let (capacity, len) = match (tapes.capacity(serial), tapes.length(serial)) {
-        (Ok(capacity), Ok(len)) => (capacity, len),
-        _ => return Ok(()),
-    };
-    let (count, end) = count_and_end(found, serial);
+) -> Result<(), NoMemory>
+    ensures { OnOk result ((shelf : ℕ → List Dump) → IsSeen (told_reels (T.rack tapes.now)) shelf found.now
+        → (r : Reel) → Contains (told_reels (T.rack tapes.now)) r → r.serial ≡ serial
+        → text.new ≡ text.old ++ text_of (reel_lines shelf r)) }
+{
+    let capacity = capacity_of(tapes, serial);
+    let len = length_of(tapes, serial);
+    let count = count_on(found, serial);
+    let end = end_upto(found, serial, u64::MAX);
     push_tape(text, serial, (capacity, len), (count, end))?;
     push_dumps(text, serial, found)
 }
 
-/// How many dumps the reel has, and the block behind them.
-fn count_and_end(found: &[Found], serial: u32) -> (u64, u32) {
-    let mut so_far = (0, 0);
-    for one in found {
-        so_far = counted(so_far, one, serial);
+/// How many blocks the reel of this serial can hold, 0 without one.
+fn capacity_of<T: Tapes>(tapes: &T, serial: u32) -> u32
+    ensures { (r : Reel) → Contains (told_reels (T.rack tapes.now)) r → r.serial ≡ serial → result ≡ r.capacity }
+{
+    match tapes.capacity(serial) {
+        Ok(capacity) => capacity,
+        Err(_) => 0,
     }
-    so_far
 }
 
-/// One dump more, if it is of the reel.
-fn counted(so_far: (u64, u32), one: &Found, serial: u32) -> (u64, u32) {
-    if one.serial == serial {
-        (so_far.0 + 1, end_of(one))
-    } else {
-        so_far
+/// How many blocks the reel of this serial holds, 0 without one.
+fn length_of<T: Tapes>(tapes: &T, serial: u32) -> u32
+    ensures { (r : Reel) → Contains (told_reels (T.rack tapes.now)) r → r.serial ≡ serial → result ≡ r.len }
+{
+    match tapes.length(serial) {
+        Ok(len) => len,
+        Err(_) => 0,
     }
+}
+
+/// How many dumps the reel has.
+fn count_on(found: &[Found], serial: u32) -> u64
+    ensures exact { result ≡ count_on serial found.now }
+    ensures most { result ≤ length found.now }
+{
+    let mut count = 0;
+    for one in found {
+        if one.serial == serial {
+            count += 1;
+        }
+    }
+    count
 }
 
 /// Puts the line of a reel behind the text.
@@ -62,7 +97,9 @@ fn push_tape(
     serial: u32,
     sizes: (u32, u32),
     dumps: (u64, u32),
-) -> Result<(), NoMemory> {
+) -> Result<(), NoMemory>
+    ensures { OnOk result (text.new ≡ text.old ++ ended (tape_text serial sizes.0 sizes.1 dumps.0 dumps.1)) }
+{
     push_told(text, b"TAPE ", u64::from(serial))?;
     push_told(text, b" CAPACITY ", u64::from(sizes.0))?;
     push_told(text, b" LENGTH ", u64::from(sizes.1))?;
@@ -73,7 +110,9 @@ fn push_tape(
 }
 
 /// Puts the lines of the reel's dumps behind the text.
-fn push_dumps(text: &mut Text, serial: u32, found: &[Found]) -> Result<(), NoMemory> {
+fn push_dumps(text: &mut Text, serial: u32, found: &[Found]) -> Result<(), NoMemory>
+    ensures { OnOk result (text.new ≡ text.old ++ text_of (lines_on serial found.now)) }
+{
     for one in found {
         match push_if_on(text, serial, one) {
             Ok(()) => {}
@@ -84,7 +123,9 @@ fn push_dumps(text: &mut Text, serial: u32, found: &[Found]) -> Result<(), NoMem
 }
 
 /// Puts the line of the dump behind the text, if it is on the reel.
-fn push_if_on(text: &mut Text, serial: u32, one: &Found) -> Result<(), NoMemory> {
+fn push_if_on(text: &mut Text, serial: u32, one: &Found) -> Result<(), NoMemory>
+    ensures { OnOk result (text.new ≡ text.old ++ text_of (lines_on serial (one.now ∷ []))) }
+{
     if one.serial == serial {
         push_dump(text, one)
     } else {
@@ -93,7 +134,9 @@ fn push_if_on(text: &mut Text, serial: u32, one: &Found) -> Result<(), NoMemory>
 }
 
 /// Puts the line of a dump behind the text.
-fn push_dump(text: &mut Text, one: &Found) -> Result<(), NoMemory> {
+fn push_dump(text: &mut Text, one: &Found) -> Result<(), NoMemory>
+    ensures { OnOk result (text.new ≡ text.old ++ ended (known_line (known one.now))) }
+{
     let note = &one.dir.note;
     push_told(text, b"DUMP ", note.number)?;
     push_told(text, b" TAPE ", u64::from(one.serial))?;
@@ -105,14 +148,16 @@ fn push_dump(text: &mut Text, one: &Found) -> Result<(), NoMemory> {
     push_told(text, b" CONTENT ", u64::from(note.count.saturating_sub(records)))?;
     push_told(text, b" NEXT ", note.next_stamp)?;
     text.extend(b" HOLDS")?;
-    push_holders(text, one)?;
+    push_holders(text, one.dir.users.as_slice(), one.dir.held.as_slice())?;
     text.push(b'\n')
 }
 
-/// Puts the users whose directories the dump holds behind the text.
-fn push_holders(text: &mut Text, one: &Found) -> Result<(), NoMemory> {
-    for number in one.dir.held.as_slice() {
-        match push_holder(text, one, *number) {
+/// Puts the users of these numbers behind the text.
+fn push_holders(text: &mut Text, users: &[UserRec], held: &[u8]) -> Result<(), NoMemory>
+    ensures { OnOk result (text.new ≡ text.old ++ flat_map (holder_text users.now) held.now) }
+{
+    for number in held {
+        match push_holder(text, users, *number) {
             Ok(()) => {}
             Err(fault) => return Err(fault),
         }
@@ -121,9 +166,11 @@ fn push_holders(text: &mut Text, one: &Found) -> Result<(), NoMemory> {
 }
 
 /// Puts the user of this number behind the text.
-fn push_holder(text: &mut Text, one: &Found, number: u8) -> Result<(), NoMemory> {
+fn push_holder(text: &mut Text, users: &[UserRec], number: u8) -> Result<(), NoMemory>
+    ensures { OnOk result (text.new ≡ text.old ++ holder_text users.now number) }
+{
     text.extend(b" :")?;
-    match one.dir.users.as_slice().get(number as usize) {
+    match users.get(number as usize) {
         Some(user) => text.extend(user.user.as_slice()),
         None => Ok(()),
     }

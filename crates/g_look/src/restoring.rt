@@ -36,7 +36,7 @@ pub fn restorable<T: Tapes>(alloc: Global, tapes: &mut T) -> Result<Given, LookF
         Err(fault) => return Err(fault),
     };
     match fold(alloc, found.as_slice()) {
-        Ok(dumped) => given(alloc, dumped),
+        Ok(dumped) => lines_of(alloc, dumped),
         Err(StoreFault::NoMemory) => Err(LookFault::NoMemory),
         Err(fault) => refused(alloc, &fault),
     }
@@ -52,7 +52,7 @@ fn refused(alloc: Global, fault: &StoreFault) -> Result<Given, LookFault> {
 }
 
 /// The lines of a dumped directory.
-fn given(alloc: Global, dumped: Dumped) -> Result<Given, LookFault> {
+fn lines_of(alloc: Global, dumped: Dumped) -> Result<Given, LookFault> {
     let Dumped {
         number,
         next_stamp: _,
