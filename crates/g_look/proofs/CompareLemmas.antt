@@ -33,18 +33,27 @@ pub tape_text_is : (rack : Rack) → AreReels rack.reels → (copy : TapeCopy) (
 tape_text_is rack are copy len items text found is r there on blocks told low =
     is ∙ ap (λ (bs : List (List ℕ)). take len (joined bs)) (found blocks (blocks_there rack copy.serial r (told_apart rack are) there on ∙ told))
 
+not_fault : (e : TapeFault) → (let none : Option TapeFault = None in none ≡ Some e) → ⊥
+not_fault e is = cc
+
+other_fault : Some tape.NotMounted ≡ Some tape.NoTape → ⊥
+other_fault is = cc
+
+no_blocks : (bs : List (List ℕ)) → (let none : Option (List (List ℕ)) = None in none ≡ Some bs) → ⊥
+no_blocks bs is = cc
+
 -- where the reel isn't there, or no block so far behind
 pub tape_text_none : (rack : Rack) → AreReels rack.reels → (copy : TapeCopy) (len : ℕ) (text : List ℕ) → refuses_unmount (reel copy.serial rack.reels) ≡ Some tape.NoTape → IsTapeText (told_reels rack) copy len text
 tape_text_none rack are copy len text refused r there on blocks told low =
     absurd (no_tape (reel copy.serial rack.reels) refused (blocks_there rack copy.serial r (told_apart rack are) there on ∙ told))
   where
     no_tape : (o : Option Reel) → refuses_unmount o ≡ Some tape.NoTape → blocks_in o ≡ Some blocks → ⊥
-    no_tape None is at = let no : ⊥ = cc in no
+    no_tape None is at = no_blocks blocks at
     no_tape (Some q) is at = by_mounted q.mounted is
       where
         by_mounted : (b : Bool) → cond b None (Some tape.NotMounted) ≡ Some tape.NoTape → ⊥
-        by_mounted true is = let no : ⊥ = cc in no
-        by_mounted false is = let no : ⊥ = cc in no
+        by_mounted true is = not_fault tape.NoTape is
+        by_mounted false is = other_fault is
 
 pub tape_text_far : (reels : List Reel) (copy : TapeCopy) (len : ℕ) (text : List ℕ) → 65536 < copy.first → IsTapeText reels copy len text
 tape_text_far reels copy len text far r there on blocks told low = absurd (let no : ⊥ = omega (arith, far, low) in no)
@@ -54,7 +63,7 @@ pub not_unmounted : {A : Type 0} (rack : Rack) (serial : ℕ) → All (λ r. r.m
 not_unmounted rack serial mounted refused = absurd (in_reels rack.reels mounted refused)
   where
     in_reels : (rs : List Reel) → All (λ r. r.mounted ≡ true) (map unread rs) → refuses_unmount (reel serial rs) ≡ Some tape.NotMounted → ⊥
-    in_reels [] all is = let no : ⊥ = cc in no
+    in_reels [] all is = other_fault (sym is)
     in_reels (q ∷ qs) all is = by_serial (cases_eq serial q.serial) (in_reels qs (All-tail (λ r. r.mounted ≡ true) (unread q) (map unread qs) all))
       where
         by_serial : (serial ≡ q.serial) ⊎ (serial ≡ q.serial → ⊥) → (refuses_unmount (reel serial qs) ≡ Some tape.NotMounted → ⊥) → ⊥
@@ -62,8 +71,7 @@ not_unmounted rack serial mounted refused = absurd (in_reels rack.reels mounted 
             let here : reel serial (q ∷ qs) ≡ Some q = cond-true (serial == q.serial) (Some q) (reel serial qs) (eq-eqb serial q.serial same) in
             let up : q.mounted ≡ true = All-head (λ r. r.mounted ≡ true) (unread q) (map unread qs) all in
             let free : refuses_unmount (Some q) ≡ None = cond-true q.mounted None (Some tape.NotMounted) up in
-            let both : None ≡ Some tape.NotMounted = sym free ∙ ap refuses_unmount (sym here) ∙ is in
-            let no : ⊥ = cc in no
+            not_fault tape.NotMounted (sym free ∙ ap refuses_unmount (sym here) ∙ is)
         by_serial (inr other) rest =
             rest (ap refuses_unmount (sym (cond-false (serial == q.serial) (Some q) (reel serial qs) (ne_eqb serial q.serial other))) ∙ is)
 
@@ -84,10 +92,18 @@ take_min n block long = by_order (le_or n 512)
     by_order (inl le) = ap (λ (m : ℕ). take m block) (omega (arith, le))
     by_order (inr ge) = take_all (min n 512) block (omega (arith, ge, long)) ∙ sym (take_all n block (omega (arith, ge, long)))
 
+take_none : (ys : List ℕ) → take 0 ys ≡ []
+take_none [] = refl
+take_none (y ∷ ys) = refl
+
 take_two : (len : ℕ) (xs ys : List ℕ) → take len (xs ++ ys) ≡ take len xs ++ take (len - length (take len xs)) ys
-take_two len [] ys = refl
-take_two zero (x ∷ xs) ys = refl
-take_two (suc len) (x ∷ xs) ys = ap (λ (zs : List ℕ). x ∷ zs) (take_two len xs ys)
+take_two zero [] ys = refl
+take_two zero (x ∷ xs) ys = sym (take_none ys)
+take_two (suc len) [] ys = ap (λ (m : ℕ). take m ys) (omega arith)
+take_two (suc len) (x ∷ xs) ys =
+    let t : List ℕ = take len xs in
+    let rest : len - length t ≡ suc len - length (x ∷ t) = omega arith in
+    ap (λ (zs : List ℕ). x ∷ zs) (take_two len xs ys) ∙ ap (λ (m : ℕ). x ∷ (t ++ take m ys)) rest
 
 pub text_step : (len i : ℕ) (blocks : List (List ℕ)) (block bytes : List ℕ) → i < length blocks → block ≡ get_or blocks i block → length block ≡ 512 → bytes ≡ take len (joined (take i blocks))
     → bytes ++ take (min (len - length bytes) 512) block ≡ take len (joined (take (i + 1) blocks))

@@ -1,7 +1,8 @@
 -- The files of a disc, by the records that were read.
 use Rattle.std.proofs.Common.{◌≡◌, ◌≢◌, ◌⊎◌, inl, inr, ℕ, zero, suc, ◌+◌, ◌<◌, List, [], ◌∷◌, length, map, Option, Some, None, refl, sym, ◌∙◌, ap, arith, subst, All}
-use Rattle.std.specs.Prelude.{Contains, IfSome, get_or, slice_get}
+use Rattle.std.specs.Prelude.{◌==◌, Contains, find, IfSome, get_or, slice_get}
 use Rattle.std.specs.Option.{ForSome, option_map}
+use Rattle.std.proofs.lemmas.Bool.{cases_eq, cond-false, ne_eqb}
 use Rattle.std.proofs.lemmas.List.{get_or-map, length-map}
 use Rattle.std.proofs.lemmas.List.Elements.{All-contains}
 use Rattle.g_base.specs.Block.{blocks_for}
@@ -13,14 +14,16 @@ use Rattle.g_entry.specs.declared.format.Format.{Format}
 use Rattle.g_entry.specs.declared.format.Format.TheVariants.{One, Two}
 use Rattle.g_entry.specs.declared.head.Head.{Head}
 use Rattle.g_entry.specs.HeadFields.{IsHead, head_block}
-use Rattle.g_entry.specs.Rules.{AreFiles}
+use Rattle.g_entry.specs.FileFields.{IsFile}
+use Rattle.g_entry.specs.Rules.{AreFiles, AreNumbered}
 use Rattle.g_entry.proofs.OneEncoding.{head_again}
 use Rattle.g_slots.specs.declared.side.Side.{Side}
 use Rattle.g_slots.specs.Layout.{GateNames, current, gate_side, slot}
 use Rattle.g_dirs.specs.declared.dirs.Dirs.{Dirs}
 use Rattle.g_dirs.specs.Directory.{AreCopies, AreRecords, Directory, IsDirectory, copy_at, entries_of, recs}
 use Rattle.g_dirs.specs.Image.{StandsFor, block_of}
-use Rattle.g_tree.proofs.ListLemmas.{map_of_map}
+use Rattle.g_tree.specs.Records.{IsRecords}
+use Rattle.g_tree.proofs.ListLemmas.{contains_first, contains_more, map_of_map}
 use Rattle.g_contents.specs.Contents.{Contents, File, contents_of, file_of}
 use Rattle.g_online.proofs.BytesLemmas.{IsItsCopy, copies_are}
 use Rattle.g_look.specs.Standing.{IsSound, IsStanding, directory_in}
@@ -131,3 +134,40 @@ standing_none size held held_1 side slots same is_side gate none = record {
   found = λ blocks told. none blocks (same ∙ told);
   sound = tt;
 }
+
+-- the records of a directory that can be used
+pub records_sound : (size : ℕ) (dirs : Dirs) → IsSound size dirs → IsRecords dirs.users.items dirs.files.items
+records_sound size dirs sound = record {
+  each_user = sound.records.users;
+  among_users = sound.rules.users;
+  each_file = subst (All IsFile) (recs_back dirs.files.items dirs.online.items) sound.records.files;
+  numbers = subst AreNumbered (recs_back dirs.files.items dirs.online.items) sound.rules.numbered;
+  among_files = files_keep size dirs sound;
+}
+
+no_copy : (copy : DiscCopy) → (let none : Option DiscCopy = None in none ≡ Some copy) → ⊥
+no_copy copy is = cc
+
+-- a copy on disc is a file's
+copy_there : (online : List (ℕ × DiscCopy)) (number : ℕ) (copy : DiscCopy) → copy_at online number ≡ Some copy → (c : ℕ × DiscCopy) × Contains online c × (c.0 ≡ number)
+copy_there [] number copy is = absurd (no_copy copy is)
+copy_there (c ∷ cs) number copy is = by_number (cases_eq c.0 number) (copy_there cs number copy)
+  where
+    rest_is : (c.0 ≡ number → ⊥) → copy_at cs number ≡ Some copy
+    rest_is other = ap (option_map (λ e. e.1)) (sym (cond-false (c.0 == number) (Some c) (find (λ e. e.0 == number) cs) (ne_eqb c.0 number other))) ∙ is
+
+    by_number : (c.0 ≡ number) ⊎ (c.0 ≡ number → ⊥) → (copy_at cs number ≡ Some copy → (e : ℕ × DiscCopy) × Contains cs e × (e.0 ≡ number)) → (e : ℕ × DiscCopy) × Contains (c ∷ cs) e × (e.0 ≡ number)
+    by_number (inl same) rest = (c, contains_first c cs, same)
+    by_number (inr other) rest =
+        let (e, there, on) = rest (rest_is other) in
+        (e, contains_more c e cs there, on)
+
+pub any_copy : (size : ℕ) (dirs : Dirs) → IsSound size dirs → (number : ℕ) → IfSome (copy_at dirs.online.items number) (IsCopy size)
+any_copy size dirs sound number = copy_if (copy_at dirs.online.items number) (IsCopy size) each
+  where
+    each : (copy : DiscCopy) → copy_at dirs.online.items number ≡ Some copy → IsCopy size copy
+    each copy is =
+        let (c, there, on) = copy_there dirs.online.items number copy is in
+        let (r, in_r, same) = contained_map (λ (r : FileRec). r.number) dirs.files.items c.0
+        (All-contains (λ (e : ℕ × DiscCopy). Contains (map (λ (r : FileRec). r.number) dirs.files.items) e.0) dirs.online.items c sound.copies.files_are there) in
+        is_copy None dirs size sound r in_r copy (ap (copy_at dirs.online.items) (same ∙ on) ∙ is)

@@ -25,6 +25,7 @@ use Rattle.g_restore.specs.declared.dumps.Found.{Found}
 use Rattle.g_restore.specs.Known.{AreKnown, Known, known, known_of}
 use Rattle.g_look.specs.declared.broken.Broken.{Broken}
 use Rattle.g_look.specs.declared.broken.Broken.TheVariants.{Twice, Falls, LostDirectory, LostCopy, TooNew, LastMissing, TooFar, NoReel, Misplaced, NoCopy, Lengths, Bytes}
+use Rattle.g_look.specs.declared.broken.DumpAt.{DumpAt}
 use Rattle.g_look.specs.Heads.{EndsLow, HasNumber, HeadFits, IsFirstOfHead, IsIntentBroken, IsIntentPlaced, IsKnown, IsNamed, IsNew, IsOff, IsTooFar, IsTooNew, end_upto, end_with, found_ends}
 use Rattle.g_look.specs.Judging.{IsFirstOfDisc}
 use Rattle.g_look.specs.Rules.{BreaksDisc, rule_of}
@@ -140,12 +141,12 @@ upto_step serial last end now i found f inside at so is low =
     ∙ ap (end_upto serial last 0) (ap (λ (x : Found). take i found ++ x ∷ []) at ∙ sym (take_more found i f inside))
 
 -- ENDS ARE NUMBERS OF BLOCKS
-stands_in : (serial : ℕ) (reel : List (List ℕ)) (at from : ℕ) (ds : List Dump) (d : Dump) → AreNext serial reel at from ds → Contains ds d → StandsOn reel d
+pub stands_in : (serial : ℕ) (reel : List (List ℕ)) (at from : ℕ) (ds : List Dump) (d : Dump) → AreNext serial reel at from ds → Contains ds d → StandsOn reel d
 stands_in serial reel at from [] d are (i, inside, is) = absurd (let no : ⊥ = omega (arith, inside) in no)
 stands_in serial reel at from (e ∷ es) d are (zero, inside, is) = subst (StandsOn reel) is are.0.stands
 stands_in serial reel at from (e ∷ es) d are (suc i, inside, is) = stands_in serial reel (ends e) (e.number + 1) es d are.1 (i, omega (arith, inside), is)
 
-told_blocks : (blocks : Option (List (List ℕ))) → is_some blocks ≡ true → (bs : List (List ℕ)) × (blocks ≡ Some bs)
+pub told_blocks : (blocks : Option (List (List ℕ))) → is_some blocks ≡ true → (bs : List (List ℕ)) × (blocks ≡ Some bs)
 told_blocks None told = absurd (let no : ⊥ = cc in no)
 told_blocks (Some bs) told = (bs, refl)
 
@@ -289,7 +290,7 @@ module _ (reels : List Reel) (shelf : ℕ → List Dump) (found : List Found) (s
     abbrev Numbers : Type 0
     Numbers = (d : Dump) → Contains dumps d → (d.number ≤ head.last_dump) ⊎ IsIntended head.last_dump head.intent dumps d
 
-    not5 : Numbers → (a : _) (last : ℕ) → BreaksDisc shelf reels c (TooNew a last) → ⊥
+    not5 : Numbers → (a : DumpAt) (last : ℕ) → BreaksDisc shelf reels c (TooNew a last) → ⊥
     not5 numbers a last (d, at, last_is, newer, other) = by_number (numbers d at.there)
       where
         by_number : (d.number ≤ head.last_dump) ⊎ IsIntended head.last_dump head.intent dumps d → ⊥
@@ -369,7 +370,7 @@ module _ (reels : List Reel) (shelf : ℕ → List Dump) (found : List Found) (s
     abbrev Stamps : Type 0
     Stamps = (d : Dump) → Contains dumps d → d.next ≤ head.next_stamp
 
-    not7 : Stamps → (a : _) (next : ℕ) → BreaksDisc shelf reels c (TooFar a next) → ⊥
+    not7 : Stamps → (a : DumpAt) (next : ℕ) → BreaksDisc shelf reels c (TooFar a next) → ⊥
     not7 stamps a next (d, at, next_is, less) =
         let le = stamps d at.there in
         let same : next ≡ head.next_stamp = next_is ∙ ap (λ (h : Head). h.next_stamp) here in
@@ -542,27 +543,32 @@ off_place found reels i last end (Lengths full stamp len dumped) never is there 
 off_place found reels i last end (Bytes full stamp one other) never is there = absurd never
 
 -- what the rack tells of a serial
-told_none : (rs : List Reel) (serial : ℕ) (e : TapeFault) → Err e ≡ told_of (λ r. r.len) (reel serial rs) → (r : Reel) → Contains rs r → r.serial ≡ serial → ⊥
-told_none [] serial e is r (i, inside, at) on = let no : ⊥ = omega (arith, inside) in no
-told_none (q ∷ qs) serial e is r there on = by_serial (cases_eq serial q.serial) (contains_cases q r qs there)
-  where
-    by_serial : (serial ≡ q.serial) ⊎ (serial ≡ q.serial → ⊥) → (q ≡ r) ⊎ Contains qs r → ⊥
-    by_serial (inl same) where_r =
-        let found : reel serial (q ∷ qs) ≡ Some q = cond-true (serial == q.serial) (Some q) (reel serial qs) (eq-eqb serial q.serial same) in
-        let both : Err e ≡ Ok q.len = is ∙ ap (told_of (λ r. r.len)) found in
-        let no : ⊥ = cc in no
-    by_serial (inr other) (inl here) = other (sym on ∙ ap (λ (x : Reel). x.serial) (sym here))
-    by_serial (inr other) (inr more) =
-        told_none qs serial e (is ∙ ap (told_of (λ r. r.len)) (cond-false (serial == q.serial) (Some q) (reel serial qs) (ne_eqb serial q.serial other))) r more on
+not_ok : (e : TapeFault) (n : ℕ) → (let r : Result ℕ TapeFault = Err e in r ≡ Ok n) → ⊥
+not_ok e n is = cc
+
+same_ok : (m n : ℕ) → (let r : Result ℕ TapeFault = Ok m in r ≡ Ok n) → m ≡ n
+same_ok m n is = cc
+
+module _ (number : Reel → ℕ) where
+  told_none : (rs : List Reel) (serial : ℕ) (e : TapeFault) → Err e ≡ told_of number (reel serial rs) → (r : Reel) → Contains rs r → r.serial ≡ serial → ⊥
+  told_none [] serial e is r (i, inside, at) on = let no : ⊥ = omega (arith, inside) in no
+  told_none (q ∷ qs) serial e is r there on = by_serial (cases_eq serial q.serial) (contains_cases q r qs there) (λ is_rest more. told_none qs serial e is_rest r more on)
+    where
+      by_serial : (serial ≡ q.serial) ⊎ (serial ≡ q.serial → ⊥) → (q ≡ r) ⊎ Contains qs r → (Err e ≡ told_of number (reel serial qs) → Contains qs r → ⊥) → ⊥
+      by_serial (inl same) where_r rest =
+          not_ok e (number q) (is ∙ ap (told_of number) (cond-true (serial == q.serial) (Some q) (reel serial qs) (eq-eqb serial q.serial same)))
+      by_serial (inr other) (inl here) rest = other (sym on ∙ ap (λ (x : Reel). x.serial) (sym here))
+      by_serial (inr other) (inr more) rest = rest (is ∙ ap (told_of number) (cond-false (serial == q.serial) (Some q) (reel serial qs) (ne_eqb serial q.serial other))) more
 
 told_some : (rs : List Reel) (serial n : ℕ) → Ok n ≡ told_of (λ r. r.len) (reel serial rs) → (r : Reel) × Contains rs r × (r.serial ≡ serial)
 told_some [] serial n is = absurd (let no : ⊥ = cc in no)
-told_some (q ∷ qs) serial n is = by_serial (cases_eq serial q.serial)
+told_some (q ∷ qs) serial n is = by_serial (cases_eq serial q.serial) (told_some qs serial n)
   where
-    by_serial : (serial ≡ q.serial) ⊎ (serial ≡ q.serial → ⊥) → (r : Reel) × Contains (q ∷ qs) r × (r.serial ≡ serial)
-    by_serial (inl same) = (q, contains_first q qs, sym same)
-    by_serial (inr other) =
-        let (r, there, on) = told_some qs serial n (is ∙ ap (told_of (λ r. r.len)) (cond-false (serial == q.serial) (Some q) (reel serial qs) (ne_eqb serial q.serial other))) in
+    by_serial : (serial ≡ q.serial) ⊎ (serial ≡ q.serial → ⊥) → (Ok n ≡ told_of (λ r. r.len) (reel serial qs) → (r : Reel) × Contains qs r × (r.serial ≡ serial))
+        → (r : Reel) × Contains (q ∷ qs) r × (r.serial ≡ serial)
+    by_serial (inl same) rest = (q, contains_first q qs, sym same)
+    by_serial (inr other) rest =
+        let (r, there, on) = rest (is ∙ ap (told_of (λ r. r.len)) (cond-false (serial == q.serial) (Some q) (reel serial qs) (ne_eqb serial q.serial other))) in
         (r, contains_more q r qs there, on)
 
 unread_there : (rs : List Reel) (r : Reel) → Contains (map unread rs) r → (q : Reel) × Contains rs q × (unread q ≡ r)
@@ -576,10 +582,13 @@ unread_there (q ∷ qs) r there = by_place (contains_cases (unread q) r (map unr
 there_unread : (rs : List Reel) (q : Reel) → Contains rs q → Contains (map unread rs) (unread q)
 there_unread rs q (i, inside, at) = let long = length-map rs unread in (i, omega (arith, long, inside), get_or-map unread rs i q (unread q) inside ∙ ap unread at)
 
-pub no_reel : (rack : Rack) (serial : ℕ) (e : TapeFault) → Err e ≡ told_of (λ r. r.len) (reel serial rack.reels) → (r : Reel) → Contains (told_reels rack) r → r.serial ≡ serial → ⊥
-no_reel rack serial e is r there on =
+pub no_number : (number : Reel → ℕ) (rack : Rack) (serial : ℕ) (e : TapeFault) → Err e ≡ told_of number (reel serial rack.reels) → (r : Reel) → Contains (told_reels rack) r → r.serial ≡ serial → ⊥
+no_number number rack serial e is r there on =
     let (q, there_q, same) = unread_there rack.reels r there in
-    told_none rack.reels serial e is q there_q (ap (λ (x : Reel). x.serial) same ∙ on)
+    told_none number rack.reels serial e is q there_q (ap (λ (x : Reel). x.serial) same ∙ on)
+
+pub no_reel : (rack : Rack) (serial : ℕ) (e : TapeFault) → Err e ≡ told_of (λ r. r.len) (reel serial rack.reels) → (r : Reel) → Contains (told_reels rack) r → r.serial ≡ serial → ⊥
+no_reel rack serial e is r there on = no_number (λ q. q.len) rack serial e is r there on
 
 pub is_reel : (rack : Rack) (serial n : ℕ) → Ok n ≡ told_of (λ r. r.len) (reel serial rack.reels) → (r : Reel) × Contains (told_reels rack) r × (r.serial ≡ serial)
 is_reel rack serial n is =
@@ -601,3 +610,21 @@ blocks_at serial r on (q ∷ qs) apart there =
 
 pub blocks_there : (rack : Rack) (serial : ℕ) (r : Reel) → AllPairs OtherSerial (told_reels rack) → Contains (told_reels rack) r → r.serial ≡ serial → blocks_of serial rack ≡ r.blocks
 blocks_there rack serial r apart there on = blocks_at serial r on rack.reels apart there
+
+-- and so is what it tells of it
+module _ (number : Reel → ℕ) (same : (q : Reel) → number (unread q) ≡ number q) where
+  number_at : (serial n : ℕ) (r : Reel) → r.serial ≡ serial → (rs : List Reel) → AllPairs OtherSerial (map unread rs) → Contains (map unread rs) r → Ok n ≡ told_of number (reel serial rs) → n ≡ number r
+  number_at serial n r on [] apart (i, inside, at) is = absurd (let no : ⊥ = omega (arith, inside) in no)
+  number_at serial n r on (q ∷ qs) apart there is =
+      by_place (contains_cases (unread q) r (map unread qs) there) (number_at serial n r on qs (pairs_rest OtherSerial (unread q) (map unread qs) apart))
+    where
+      by_place : (unread q ≡ r) ⊎ Contains (map unread qs) r → (Contains (map unread qs) r → Ok n ≡ told_of number (reel serial qs) → n ≡ number r) → n ≡ number r
+      by_place (inl here) rest =
+          same_ok n (number q) (is ∙ ap (told_of number) (cond-true (serial == q.serial) (Some q) (reel serial qs) (eq-eqb serial q.serial (sym on ∙ ap (λ (x : Reel). x.serial) (sym here)))))
+          ∙ sym (same q) ∙ ap number here
+      by_place (inr more) rest =
+          let other = All-contains (OtherSerial (unread q)) (map unread qs) r (pairs_first OtherSerial (unread q) (map unread qs) apart) more in
+          rest more (is ∙ ap (told_of number) (cond-false (serial == q.serial) (Some q) (reel serial qs) (ne_eqb serial q.serial (λ on_q. other (sym on_q ∙ sym on)))))
+
+  pub number_there : (rack : Rack) (serial n : ℕ) → AllPairs OtherSerial (told_reels rack) → Ok n ≡ told_of number (reel serial rack.reels) → (r : Reel) → Contains (told_reels rack) r → r.serial ≡ serial → n ≡ number r
+  number_there rack serial n apart is r there on = number_at serial n r on rack.reels apart there is

@@ -3,6 +3,7 @@ use Rattle.std.proofs.Common.{◌≡◌, ◌≢◌, ◌⊎◌, inl, inr, ℕ, �
 use Rattle.std.specs.Prelude.{Contains, IfSome, IfNone, is_some}
 use Rattle.std.proofs.lemmas.Option.{same_Some}
 use Rattle.g_entry.specs.declared.file_rec.FileRec.{FileRec}
+use Rattle.g_entry.specs.declared.format.Format.{Format}
 use Rattle.g_tape.specs.Reel.{Reel}
 use Rattle.g_dirs.specs.declared.dirs.Dirs.{Dirs}
 use Rattle.g_dirs.specs.Directory.{Directory}
@@ -22,11 +23,14 @@ use Rattle.g_look.specs.Judging.{IsDiscJudged, IsFirstOfDisc, IsJudgedOn}
 use Rattle.g_look.specs.Recs.{HasSameLengths}
 use Rattle.g_look.specs.Rules.{Breaks, BreaksDisc, BreaksOn, BreaksRack, DiscFits, IsVerdict, RackFits, rule_of}
 use Rattle.g_look.specs.Seen.{AreSeen, IsFirstOfRack, IsRackPassed, IsSeen, WhereSeen}
-use Rattle.g_look.specs.Standing.{directory_in}
+use Rattle.g_look.specs.declared.disc.Standing.{Standing}
+use Rattle.g_look.specs.Standing.{IsStanding, directory_in, found_in}
+use Rattle.g_look.specs.Text.{IsFoundOn}
 use Rattle.g_look.specs.Texts.{AreBytesOther, FileAgrees}
 use Rattle.g_look.proofs.BreakLemmas.{broken_is_not}
 use Rattle.g_contents.proofs.HoldLemmas.{holds_one}
 use Rattle.g_look.proofs.FitLemmas.{fits_belong}
+use Rattle.g_look.proofs.HeadLemmas.{told_blocks}
 use Rattle.g_look.proofs.RecLemmas.{first12, fits_all}
 use Rattle.g_look.proofs.VerdictLemmas.{rack_has_none}
 
@@ -129,6 +133,20 @@ module _ (held : Option (List (List ℕ))) (reels : List Reel) (found : List Fou
               let same : on.contents ≡ c = sym (holds_one blocks c on.contents holds (subst (λ (xs : List (List ℕ)). Holds xs on.contents) same_blocks on.holds)) in
               let here : IsFirstOfDisc shelf reels c b = judged shelf blocks (seen.seen told.each shelf shelved) (passed_here shelf shelved) is in
               here.first e (subst (λ (k : Contents). BreaksDisc shelf reels k e) same on.breaks)
+
+-- OF WHAT WAS SEEN of the disc
+module _ (held : Option (List (List ℕ))) (reels : List Reel) (found : List Found) (seen : AreSeen reels found) (told : AllTold held reels) (dumped : List FileRec)
+    (passed : WhereSeen found (λ rs shelf. IsRackPassed (all_dumps shelf rs) dumped)) (size : ℕ) (s : Standing) (standing : IsStanding size held s) where
+  pub right_nothing : s.dirs ≡ None → IsVerdict held reels None
+  right_nothing none =
+      let (blocks, is) = told_blocks held told.disc in
+      verdict_nothing held reels found seen told dumped passed blocks is (subst (λ (o : Option (Format × Dirs)). IsFoundOn blocks (found_in o)) none (standing.found blocks is))
+
+  pub right_disc : (f : Format × Dirs) → s.dirs ≡ Some f → (verdict : Option Broken) → IsDiscJudged held reels found f.1 dumped verdict → IsVerdict held reels verdict
+  right_disc f some verdict judged =
+      let (blocks, is) = told_blocks held told.disc in
+      let stands = subst (λ (o : Option (Format × Dirs)). IsFoundOn blocks (found_in o)) some (standing.found blocks is) in
+      verdict_disc held reels found seen told dumped passed blocks is f.1 stands.0 verdict judged
 
 -- THE LAST RULE, and none
 pub judged_bytes : (held : Option (List (List ℕ))) (reels : List Reel) (found : List Found) (dirs : Dirs) (dumped : List FileRec)

@@ -42,6 +42,18 @@ bytes_there : (blocks : List (List ℕ)) (r : FileRec) (o : Option DiscCopy) →
 bytes_there blocks r None = refl
 bytes_there blocks r (Some copy) = refl
 
+tape_some : (P : TapeCopy → Type 0) (o : Option TapeCopy) (x : TapeCopy) → o ≡ Some x → IfSome o P → P x
+tape_some P o x at is = subst (λ (q : Option TapeCopy). IfSome q P) at is
+
+text_some : (P : List ℕ → Type 0) (o : Option (List ℕ)) (x : List ℕ) → o ≡ Some x → IfSome o P → P x
+text_some P o x at is = subst (λ (q : Option (List ℕ)). IfSome q P) at is
+
+not_some : (copy : TapeCopy) → (let none : Option TapeCopy = None in none ≡ Some copy) → ⊥
+not_some copy is = cc
+
+same_text : (x y : List ℕ) → Some x ≡ Some y → x ≡ y
+same_text x y is = cc
+
 -- of files whose stamps are apart there is one of a stamp
 one_of_stamp : (files : List FileRec) → AllPairs (λ r s. r.stamp ≢ s.stamp) files → (a b : FileRec) → Contains files a → Contains files b → a.stamp ≡ b.stamp → a ≡ b
 one_of_stamp files apart a b (i, in_a, at_a) (j, in_b, at_b) same = by_order (cmp i j)
@@ -217,17 +229,14 @@ module _ (reels : List Reel) (shelf : ℕ → List Dump) (found : List Found) (s
       where
         by_second : IsSecond r.tape is.place second → (place : Option TapeCopy) → IsDumpedPlace dumped r.stamp place → is.place ≡ place
             → (s : FileRec) × Contains dumped s × (s.stamp ≡ r.stamp) × (s.tape ≡ Some copy)
-        by_second (inl same) None none eq = absurd (let both : None ≡ Some copy = sym eq ∙ sym same ∙ at in let no : ⊥ = cc in no)
+        by_second (inl same) None none eq = absurd (not_some copy (sym eq ∙ sym same ∙ at))
         by_second (inl same) (Some e) (s, in_s, stamp, tape) eq = (s, in_s, stamp, tape ∙ sym eq ∙ sym same ∙ at)
-        by_second (inr none) place named eq = absurd (let both : None ≡ Some copy = sym none.0 ∙ at in let no : ⊥ = cc in no)
+        by_second (inr none) place named eq = absurd (not_some copy (sym none.0 ∙ at))
 
     -- THE TEXT OF EACH PLACE
     module _ (agree : AgreeAt reels r.len there r.tape second) where
       abbrev Which : List ℕ → Type 0
       Which x = (there ≡ Some x) ⊎ (((k : TapeCopy) × (r.tape ≡ Some k) × (x ≡ agree.x)) ⊎ ((k : TapeCopy) × (second ≡ Some k) × (x ≡ agree.y)))
-
-      if_some : {X : Type 0} (P : X → Type 0) (o : Option X) (x : X) → o ≡ Some x → IfSome o P → P x
-      if_some P o x at is = subst (λ (q : Option _). IfSome q P) at is
 
       which : (lie : Lie) (x : List ℕ) → LiesAt dumps (f_of r) lie x → Which x
       which Disc x lies = inl (sym disc_is ∙ lies)
@@ -238,21 +247,21 @@ module _ (reels : List Reel) (shelf : ℕ → List Dump) (found : List Found) (s
 
           by_place : (r.tape ≡ Some copy) ⊎ (second ≡ Some copy) → Which x
           by_place (inl at) =
-              inr (inl (copy, at, text_at reels shelf found seen copy r.len agree.x x (if_some (λ k. IsTapeText reels k r.len agree.x) r.tape copy at agree.first_is) lies.content long))
+              inr (inl (copy, at, text_at reels shelf found seen copy r.len agree.x x (tape_some (λ k. IsTapeText reels k r.len agree.x) r.tape copy at agree.first_is) lies.content long))
           by_place (inr at) =
-              inr (inr (copy, at, text_at reels shelf found seen copy r.len agree.y x (if_some (λ k. IsTapeText reels k r.len agree.y) second copy at agree.second_is) lies.content long))
+              inr (inr (copy, at, text_at reels shelf found seen copy r.len agree.y x (tape_some (λ k. IsTapeText reels k r.len agree.y) second copy at agree.second_is) lies.content long))
 
       disc_x : (x : List ℕ) (k : TapeCopy) → there ≡ Some x → r.tape ≡ Some k → x ≡ agree.x
-      disc_x x k at tape = if_some (λ e. x ≡ agree.x) r.tape k tape (if_some (λ b. IfSome r.tape (λ e. b ≡ agree.x)) there x at agree.disc_first)
+      disc_x x k at tape = tape_some (λ e. x ≡ agree.x) r.tape k tape (text_some (λ b. IfSome r.tape (λ e. b ≡ agree.x)) there x at agree.disc_first)
 
       disc_y : (x : List ℕ) (k : TapeCopy) → there ≡ Some x → second ≡ Some k → x ≡ agree.y
-      disc_y x k at tape = if_some (λ e. x ≡ agree.y) second k tape (if_some (λ b. IfSome second (λ e. b ≡ agree.y)) there x at agree.disc_second)
+      disc_y x k at tape = tape_some (λ e. x ≡ agree.y) second k tape (text_some (λ b. IfSome second (λ e. b ≡ agree.y)) there x at agree.disc_second)
 
       x_y : (k e : TapeCopy) → r.tape ≡ Some k → second ≡ Some e → agree.x ≡ agree.y
-      x_y k e tape at = if_some (λ q. agree.x ≡ agree.y) second e at (if_some (λ q. IfSome second (λ w. agree.x ≡ agree.y)) r.tape k tape agree.both)
+      x_y k e tape at = tape_some (λ q. agree.x ≡ agree.y) second e at (tape_some (λ q. IfSome second (λ w. agree.x ≡ agree.y)) r.tape k tape agree.both)
 
       two_are_one : (x y : List ℕ) → Which x → Which y → x ≡ y
-      two_are_one x y (inl a) (inl b) = let both : Some x ≡ Some y = sym a ∙ b in cc
+      two_are_one x y (inl a) (inl b) = same_text x y (sym a ∙ b)
       two_are_one x y (inl a) (inr (inl (k, tape, y_is))) = disc_x x k a tape ∙ sym y_is
       two_are_one x y (inl a) (inr (inr (k, at, y_is))) = disc_y x k a at ∙ sym y_is
       two_are_one x y (inr (inl (k, tape, x_is))) (inl b) = x_is ∙ sym (disc_x y k b tape)

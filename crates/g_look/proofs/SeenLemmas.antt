@@ -15,7 +15,7 @@ use Rattle.g_shelf.proofs.RackLemmas.{serials_kept}
 use Rattle.g_state.specs.Meaning.{told_reels}
 use Rattle.g_state.specs.Reading.{ReelsTold}
 use Rattle.g_restore.specs.declared.dumps.Found.{Found}
-use Rattle.g_restore.specs.Known.{Known, known, known_of}
+use Rattle.g_restore.specs.Known.{AreKnown, Known, known, known_of}
 use Rattle.g_restore.specs.Reels.{AreOnReels}
 use Rattle.g_restore.proofs.ReelLemmas.{all_of_reels, all_rules, on_unread}
 use Rattle.g_restore.proofs.KnownLemmas.{have_few}
@@ -75,3 +75,6 @@ are_seen rack found are (dumps, on, same) = record {
 
 pub few_seen : (rack : Rack) (found : List Found) → (dumps : List Dump) × AreOnReels rack.reels dumps × (map known found ≡ map known_of dumps) → All HasFew found
 few_seen rack found (dumps, on, same) = have_few found dumps same (all_rules rack.reels dumps on)
+
+pub known_seen : (rack : Rack) (found : List Found) → (dumps : List Dump) × AreOnReels rack.reels dumps × (map known found ≡ map known_of dumps) → (dumps : List Dump) × AreKnown found dumps
+known_seen rack found (dumps, on, same) = (dumps, record { same = same; rules = all_rules rack.reels dumps on })

@@ -3,7 +3,7 @@ use Rattle.std.proofs.Common.{◌≡◌, ◌⊎◌, inl, inr, ◌↔◌, ℕ, ze
 use Rattle.std.specs.Prelude.{◌==◌, Contains, codes, get_or, is_some, nat_le, slice_get, slice_index_or, IfSome}
 use Rattle.std.specs.List.{flat_map, list_any}
 use Rattle.std.proofs.lemmas.Bool.{cases_eq, cond-false, cond-true, eq-eqb, le-leb, ne_eqb}
-use Rattle.std.proofs.lemmas.List.{append-nil, append_assoc, length-map, get_or-map, take_more}
+use Rattle.std.proofs.lemmas.List.{append-nil, append_assoc, length-append, length-map, map-append, take_more}
 use Rattle.std.proofs.lemmas.Grind.{flat_map-append}
 use Rattle.g_copy.specs.declared.copy.DiscCopy.{DiscCopy}
 use Rattle.g_entry.specs.declared.file_rec.FileRec.{FileRec}
@@ -12,7 +12,7 @@ use Rattle.g_entry.specs.declared.head.Intent.{Intent}
 use Rattle.g_entry.specs.Formats.{format_number}
 use Rattle.g_slots.specs.declared.side.Side.{Side}
 use Rattle.g_dirs.specs.declared.dirs.Dirs.{Dirs}
-use Rattle.g_dirs.specs.Directory.{all_places, copy_at, entries_of, places_of}
+use Rattle.g_dirs.specs.Directory.{FileEntry, all_places, copy_at, entries_of, places_of}
 use Rattle.g_tape.specs.declared.fault.TapeFault.{TapeFault}
 use Rattle.g_tape.specs.Rack.{AreReels, Rack, reel, told_of}
 use Rattle.g_tape.specs.Reads.{unread}
@@ -111,11 +111,6 @@ nth_reel (q ∷ qs) (suc i) serial is =
     let (r, within, at, on) = nth_reel qs i serial is in
     (r, omega (arith, within), at, on)
 
--- what is told of a reel that is there
-pub told_number : (number : Reel → ℕ) → ((r : Reel) → number (unread r) ≡ number r) → (rack : Rack) (serial n : ℕ) → Ok n ≡ told_of number (reel serial rack.reels) → (r : Reel)
-    → reel serial rack.reels ≡ Some r → n ≡ number r
-told_number number same rack serial n is r there = let both : Ok n ≡ Ok (number r) = is ∙ ap (told_of number) there in cc
-
 -- THE REELS SO FAR
 pub rack_step : (shelf : ℕ → List Dump) (rack : Rack) (i serial : ℕ) (old text new : List ℕ) → slice_get (map (λ r. r.serial) rack.reels) i ≡ Some serial
     → text ≡ old ++ text_of (rack_lines shelf (take i (told_reels rack)))
@@ -156,17 +151,43 @@ used_step files online i r inside at =
     ap (λ (fs : List FileRec). used_by fs online) (take_more files i r inside ∙ ap (λ (x : FileRec). take i files ++ x ∷ []) (sym at))
     ∙ used_two (take i files) r
   where
-    blocks_of : (o : Option DiscCopy) → places_of (r, o) ≡ copy_blocks o
-    blocks_of None = refl
-    blocks_of (Some copy) = refl
+    blocks_of : (q : FileRec) (o : Option DiscCopy) → places_of (q, o) ≡ copy_blocks o
+    blocks_of q None = refl
+    blocks_of q (Some copy) = refl
 
     used_two : (fs : List FileRec) (s : FileRec) → used_by (fs ++ s ∷ []) online ≡ used_by fs online + length (copy_blocks (copy_at online s.number))
-    used_two fs s = ?
+    used_two fs s =
+        let g : FileRec → FileEntry = λ (q : FileRec). (q, copy_at online q.number) in
+        ap length (ap (flat_map places_of) (map-append g fs (s ∷ [])) ∙ flat_map-append places_of (map g fs) (g s ∷ []))
+        ∙ length-append (flat_map places_of (map g fs)) (places_of (g s) ++ [])
+        ∙ ap (λ (n : ℕ). used_by fs online + n) (ap length (append-nil (places_of (g s)) ∙ blocks_of s (copy_at online s.number)))
 
 -- THE DISC
 pub disc_shown : (size : ℕ) (side : Side) (format : Format) (dumps : List Dump) (dirs : Dirs)
     → disc_front size side ++ dirs_text size format dumps dirs ≡ text_of (disc_lines size side dumps (Some (format, directory_in dirs)))
-disc_shown size side format dumps dirs = ?
+disc_shown size side format dumps dirs =
+    let front : List ℕ = disc_front size side in
+    let words : List ℕ = told (codes " FORMAT ") (format_number format) in
+    let last : List ℕ = ended (told (codes "LAST DUMP ") dirs.head.last_dump) ++ text_of (intent_lines dumps dirs.head.intent) in
+    sym (append_assoc front (ended words) (counts_text size dirs ++ last))
+    ∙ ap (λ (xs : List ℕ). xs ++ (counts_text size dirs ++ last)) (sym (append_assoc front words (10 ∷ [])))
+    ∙ ap
+      (λ (n : ℕ). ended (front ++ words)
+      ++ (ended (told (codes "USERS ") (length dirs.users.items) ++ told (codes " FILES ") n ++ told (codes " BLOCKS ") (used_by dirs.files.items dirs.online.items)
+      ++ told (codes " FREE ") (size - 2177 - used_by dirs.files.items dirs.online.items) ++ told (codes " NEXT ") dirs.head.next_stamp) ++ last))
+      (sym (length-map dirs.files.items (λ (r : FileRec). (r, copy_at dirs.online.items r.number))))
+
+pub disc_some : (size : ℕ) (side : Side) (format : Format) (dumps : List Dump) (dirs : Dirs) (old mid new : List ℕ) → mid ≡ old ++ disc_front size side → new ≡ mid ++ dirs_text size format dumps dirs
+    → new ≡ old ++ text_of (disc_lines size side dumps (Some (format, directory_in dirs)))
+disc_some size side format dumps dirs old mid new first is =
+    is ∙ ap (λ (xs : List ℕ). xs ++ dirs_text size format dumps dirs) first ∙ append_assoc old (disc_front size side) (dirs_text size format dumps dirs)
+    ∙ ap (λ (xs : List ℕ). old ++ xs) (disc_shown size side format dumps dirs)
+
+pub disc_none : (size : ℕ) (side : Side) (dumps : List Dump) (old mid new : List ℕ) → mid ≡ old ++ disc_front size side → new ≡ mid ++ codes " NO FILESTORE\n"
+    → new ≡ old ++ text_of (disc_lines size side dumps None)
+disc_none size side dumps old mid new first is =
+    is ∙ ap (λ (xs : List ℕ). xs ++ codes " NO FILESTORE\n") first ∙ append_assoc old (disc_front size side) (codes " NO FILESTORE\n")
+    ∙ ap (λ (xs : List ℕ). old ++ xs) (sym (append_assoc (disc_front size side) (codes " NO FILESTORE") (10 ∷ [])) ∙ sym (append-nil (ended (disc_front size side ++ codes " NO FILESTORE"))))
 
 -- ALL OF IT
 pub all_shown : (disc rack : List (List ℕ)) (verdict : List ℕ) (one two three : List ℕ) → one ≡ text_of disc → two ≡ one ++ text_of rack → three ≡ two ++ verdict

@@ -1,6 +1,7 @@
 pub mod Compared
 pub mod Heads
 pub mod Judging
+pub mod Listed
 pub mod Looks
 pub mod Recs
 pub mod Rules

@@ -1,11 +1,11 @@
 //! What a disc stands for.
-ghost use Rattle.std.specs.Prelude.{◌≡◌, ◌⊎◌, ◌<◌, Err, IfOk, OnErr};
+ghost use Rattle.std.specs.Prelude.{◌≡◌, ◌⊎◌, ◌<◌, Err, IfErr, IfOk, OnErr};
 ghost use Rattle.std.specs.Option.{ForSome};
 ghost use Rattle.g_disc.specs.Disc.{ReadsByCause};
 ghost use Rattle.g_slots.specs.Layout.{GateNames};
 ghost use Rattle.g_dirs.specs.Directory.{Directory};
 ghost use Rattle.g_dirs.specs.Image.{StandsFor};
-ghost use Rattle.g_look.specs.Standing.{IsStanding};
+ghost use Rattle.g_look.specs.Standing.{IsSound, IsStanding, directory_in};
 
 use crate::LookFault;
 use g_dirs::{Dirs, DirsFault, read_dirs};
@@ -66,5 +66,26 @@ fn see_format<D: Disc>(disc: &mut D, slots: &Slots) -> Result<Format, LookFault>
     match decode_head_in(Format::Two, &block) {
         Some(_) => Ok(Format::Two),
         None => Ok(Format::One),
+    }
+}
+
+/// The directory that the disc stands for. `NoFilestore` comes where it stands for none; `DiscUnread`, `NoMemory`.
+pub(crate) fn see_directory<D: Disc>(alloc: Global, disc: &mut D) -> Result<Dirs, LookFault>
+    requires size { 2177 < (D.state disc.old).size }
+    ensures stands { IfOk result (λ dirs. ForSome (D.state disc.old).held (λ blocks. StandsFor blocks (directory_in dirs))) }
+    ensures sound { IfOk result (IsSound (D.state disc.old).size) }
+    ensures none { result ≡ Err LookFault.NoFilestore → ForSome (D.state disc.old).held (λ blocks. (d : Directory) → StandsFor blocks d → ⊥) }
+    ensures reads { ReadsByCause (result ≡ Err LookFault.DiscUnread) (D.state disc.old) (D.state disc.new) }
+    ensures only { IfErr result (λ e. (e ≡ LookFault.NoFilestore) ⊎ ((e ≡ LookFault.DiscUnread) ⊎ (e ≡ LookFault.NoMemory))) }
+{
+    let slots = match Slots::find(disc) {
+        Ok(slots) => slots,
+        Err(_) => return Err(LookFault::DiscUnread),
+    };
+    match read_dirs(alloc, disc, &slots) {
+        Ok(dirs) => Ok(dirs),
+        Err(DirsFault::NoFilestore) => Err(LookFault::NoFilestore),
+        Err(DirsFault::ReadFault) => Err(LookFault::DiscUnread),
+        Err(_) => Err(LookFault::NoMemory),
     }
 }

@@ -1,18 +1,21 @@
 //! What is on a disc.
-ghost use Rattle.std.specs.Prelude.{◌≡◌, ◌≢◌, ◌<◌, Err, IfErr};
+ghost use Rattle.std.specs.Prelude.{◌≡◌, ◌≢◌, ◌<◌, ◌++◌, Err, IfErr, IfOk, OnOk};
 ghost use Rattle.g_disc.specs.Disc.{ReadsByCause};
+ghost use Rattle.g_lines.specs.Lines.{ended};
+ghost use Rattle.g_tree.specs.Records.{IsRecords};
+ghost use Rattle.g_look.specs.Listed.{disc_file_line};
 
 use crate::LookFault;
 use crate::bytes::copy_at;
-use crate::disc::see_disc;
-use crate::file_text::{push_blocks, push_file};
-use crate::parts::{push_copy, push_told};
+use crate::disc::see_directory;
+use crate::file_text::{push_blocks, push_file, push_taped};
+use crate::parts::push_told;
 use g_base::NoMemory;
 use g_copy::DiscCopy;
 use g_dirs::Dirs;
 use g_disc::Disc;
 use g_entry::{FileRec, UserRec};
-use g_name::{Text, User};
+use g_name::{Full, Text, User};
 use g_tree::Tree;
 use std::alloc::Global;
 
@@ -27,22 +30,12 @@ pub fn list<D: Disc>(
     ensures disc { ReadsByCause (result ≡ Err LookFault.DiscUnread) (D.state disc.old) (D.state disc.new) }
     ensures faults { IfErr result (λ e. e ≢ LookFault.TapeUnread) }
 {
-    let standing = match see_disc(alloc, disc) {
-        Ok(standing) => standing,
+    let dirs = match see_directory(alloc, disc) {
+        Ok(dirs) => dirs,
         Err(fault) => return Err(fault),
     };
-    let dirs = match standing.dirs {
-        Some((_format, dirs)) => dirs,
-        None => return Err(LookFault::NoFilestore),
-    };
-    let Dirs {
-        head: _,
-        users,
-        files,
-        online,
-    } = dirs;
-    let tree = match Tree::from_records(alloc, users, files) {
-        Ok(tree) => tree,
+    let (tree, online) = match tree_of(alloc, dirs) {
+        Ok(made) => made,
         Err(_) => return Err(LookFault::NoMemory),
     };
     let only = match user {
@@ -58,6 +51,25 @@ pub fn list<D: Disc>(
     }
 }
 
+/// The records of a directory as a tree, and where its files lie on the disc.
+pub(crate) fn tree_of(alloc: Global, dirs: Dirs) -> Result<(Tree, Vec<(u16, DiscCopy)>), NoMemory>
+    requires records { IsRecords dirs.users.items dirs.files.items }
+    ensures users { IfOk result (λ made. made.0.users ≡ dirs.users.items) }
+    ensures files { IfOk result (λ made. made.0.files ≡ dirs.files.items) }
+    ensures online { IfOk result (λ made. made.1.items ≡ dirs.online.items) }
+{
+    let Dirs {
+        users,
+        files,
+        online,
+        ..
+    } = dirs;
+    match Tree::from_records(alloc, users, files) {
+        Ok(tree) => Ok((tree, online)),
+        Err(_) => Err(NoMemory),
+    }
+}
+
 /// The lines of the files of all users, or of one, and the last line.
 fn list_text(
     alloc: Global,
@@ -69,13 +81,18 @@ fn list_text(
     let mut count = 0;
     for user in tree.users() {
         match push_if_asked(alloc, &mut text, tree, online, user.number, only) {
-            Ok(more) => count += more,
+            Ok(more) => count = more_counted(count, more),
             Err(fault) => return Err(fault),
         }
     }
     push_told(&mut text, b"LISTED ", count)?;
     text.push(b'\n')?;
     Ok(text)
+}
+
+/// The count with so many more.
+fn more_counted(count: u64, more: u64) -> u64 {
+    count.saturating_add(more)
 }
 
 /// Puts the lines of the user's files behind the text, where all users are asked for or this one. How many.
@@ -124,8 +141,11 @@ fn push_numbered(
     online: &[(u16, DiscCopy)],
     number: u16,
 ) -> Result<(), NoMemory> {
-    match tree.file_at(number) {
-        Some(file) => push_line(text, tree.users(), file, &copy_at(online, number)),
+    match tree.full_name(number) {
+        Some(full) => match tree.file_at(number) {
+            Some(file) => push_line(text, &full, tree.users(), file, &copy_at(online, number)),
+            None => Ok(()),
+        },
         None => Ok(()),
     }
 }
@@ -133,18 +153,15 @@ fn push_numbered(
 /// Puts the line of a file behind the text.
 fn push_line(
     text: &mut Text,
+    full: &Full,
     users: &[UserRec],
     file: &FileRec,
     copy: &Option<DiscCopy>,
-) -> Result<(), NoMemory> {
-    push_file(text, users, file)?;
-    match copy {
-        Some(copy) => push_blocks(text, copy)?,
-        None => {}
-    }
-    match &file.tape {
-        Some(copy) => push_copy(text, copy)?,
-        None => {}
-    }
+) -> Result<(), NoMemory>
+    ensures { OnOk result (text.new ≡ text.old ++ ended (disc_file_line full.now users.now copy.now file.now)) }
+{
+    push_file(text, full, users, file)?;
+    push_blocks(text, copy)?;
+    push_taped(text, &file.tape)?;
     text.push(b'\n')
 }

@@ -1,8 +1,10 @@
 //! The completed dumps of a rack, and the rules that they keep among themselves.
-ghost use Rattle.std.specs.Prelude.{◌≡◌, ◌⊎◌, All, Err, IfErr, IfOk, OnErr, true};
+ghost use Rattle.std.specs.Prelude.{◌≡◌, ◌⊎◌, All, Err, IfErr, IfOk, List, OnErr, true};
+ghost use Rattle.g_incr.specs.Layout.{Dump};
 ghost use Rattle.g_shelf.specs.Completed.{all_dumps};
 ghost use Rattle.g_state.specs.Meaning.{told_reels};
 ghost use Rattle.g_restore.specs.Gathered.{HasFew};
+ghost use Rattle.g_restore.specs.Known.{AreKnown};
 ghost use Rattle.g_look.specs.Looks.{ReadsRackByCause};
 ghost use Rattle.g_look.specs.Seen.{AreSeen, IsJudged, WhereSeen};
 
@@ -20,6 +22,7 @@ pub(crate) fn see_rack<T: Tapes>(alloc: Global, tapes: &mut T) -> Result<Vec<Fou
     requires mounted { All (λ r. r.mounted ≡ true) (T.rack tapes.old).reels }
     ensures seen { IfOk result (λ found. AreSeen (told_reels (T.rack tapes.old)) found.items) }
     ensures few { IfOk result (λ found. All HasFew found.items) }
+    ensures known { IfOk result (λ found. (dumps : List Dump) × AreKnown found.items dumps) }
     ensures tapes { ReadsRackByCause (result ≡ Err LookFault.TapeUnread) (T.rack tapes.old) (T.rack tapes.new) }
     ensures only { OnErr result ((result ≡ Err LookFault.TapeUnread) ⊎ (result ≡ Err LookFault.NoMemory)) }
 {

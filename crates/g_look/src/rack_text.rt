@@ -166,7 +166,7 @@ fn push_holders(text: &mut Text, users: &[UserRec], held: &[u8]) -> Result<(), N
 }
 
 /// Puts the user of this number behind the text.
-fn push_holder(text: &mut Text, users: &[UserRec], number: u8) -> Result<(), NoMemory>
+pub(crate) fn push_holder(text: &mut Text, users: &[UserRec], number: u8) -> Result<(), NoMemory>
     ensures { OnOk result (text.new ≡ text.old ++ holder_text users.now number) }
 {
     text.extend(b" :")?;

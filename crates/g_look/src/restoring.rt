@@ -1,15 +1,19 @@
 //! What a restore of the rack would give.
-ghost use Rattle.std.specs.Prelude.{◌≡◌, ◌⊎◌, All, Err, IfErr, true};
+ghost use Rattle.std.specs.Prelude.{◌≡◌, ◌⊎◌, ◌++◌, All, Err, IfErr, IfOk, OnOk, codes, false, true};
+ghost use Rattle.g_lines.specs.Lines.{ended};
+ghost use Rattle.g_monitor.specs.Refusals.{IsPrinted, fault_line};
+ghost use Rattle.g_tree.specs.Records.{IsRecords};
+ghost use Rattle.g_look.specs.Listed.{dumped_file_line};
 ghost use Rattle.g_look.specs.Looks.{ReadsRackByCause};
 
 use crate::LookFault;
-use crate::file_text::push_file;
-use crate::parts::{push_copy, push_told};
+use crate::file_text::{push_file, push_taped};
+use crate::parts::push_told;
 use crate::rack::see_rack;
 use g_base::NoMemory;
 use g_entry::{FileRec, UserRec};
 use g_monitor::push_fault;
-use g_name::Text;
+use g_name::{Full, Text};
 use g_plain::StoreFault;
 use g_restore::{Dumped, fold};
 use g_tape::Tapes;
@@ -37,13 +41,22 @@ pub fn restorable<T: Tapes>(alloc: Global, tapes: &mut T) -> Result<Given, LookF
     };
     match fold(alloc, found.as_slice()) {
         Ok(dumped) => lines_of(alloc, dumped),
-        Err(StoreFault::NoMemory) => Err(LookFault::NoMemory),
-        Err(fault) => refused(alloc, &fault),
+        Err(StoreFault::NoDump) => refused(alloc, &StoreFault::NoDump),
+        Err(StoreFault::LostDirectory(user)) => refused(alloc, &StoreFault::LostDirectory(user)),
+        Err(StoreFault::LostCopy(full, serial)) => {
+            refused(alloc, &StoreFault::LostCopy(full, serial))
+        }
+        Err(_) => Err(LookFault::NoMemory),
     }
 }
 
 /// The line of a refusal.
-fn refused(alloc: Global, fault: &StoreFault) -> Result<Given, LookFault> {
+fn refused(alloc: Global, fault: &StoreFault) -> Result<Given, LookFault>
+    requires printed { IsPrinted fault.now }
+    ensures text { IfOk result (λ g. g.text ≡ ended (codes "REFUSED " ++ fault_line fault.now)) }
+    ensures given { IfOk result (λ g. g.given ≡ false) }
+    ensures faults { IfErr result (λ e. e ≡ LookFault.NoMemory) }
+{
     let mut text = Text::new(alloc);
     text.extend(b"REFUSED ")?;
     push_fault(&mut text, fault)?;
@@ -52,7 +65,11 @@ fn refused(alloc: Global, fault: &StoreFault) -> Result<Given, LookFault> {
 }
 
 /// The lines of a dumped directory.
-fn lines_of(alloc: Global, dumped: Dumped) -> Result<Given, LookFault> {
+fn lines_of(alloc: Global, dumped: Dumped) -> Result<Given, LookFault>
+    requires records { IsRecords dumped.users.items dumped.files.items }
+    ensures given { IfOk result (λ g. g.given ≡ true) }
+    ensures faults { IfErr result (λ e. e ≡ LookFault.NoMemory) }
+{
     let Dumped {
         number,
         next_stamp: _,
@@ -95,21 +112,28 @@ fn push_files(alloc: Global, text: &mut Text, tree: &Tree, user: u8) -> Result<(
 
 /// Puts the line of the file of this number behind the text.
 fn push_numbered(text: &mut Text, tree: &Tree, number: u16) -> Result<(), NoMemory> {
-    match tree.file_at(number) {
-        Some(file) => push_line(text, tree.users(), file),
+    match tree.full_name(number) {
+        Some(full) => match tree.file_at(number) {
+            Some(file) => push_line(text, &full, tree.users(), file),
+            None => Ok(()),
+        },
         None => Ok(()),
     }
 }
 
 /// Puts the line of a file behind the text: an empty one counts as on the disc.
-fn push_line(text: &mut Text, users: &[UserRec], file: &FileRec) -> Result<(), NoMemory> {
-    push_file(text, users, file)?;
+fn push_line(
+    text: &mut Text,
+    full: &Full,
+    users: &[UserRec],
+    file: &FileRec,
+) -> Result<(), NoMemory>
+    ensures { OnOk result (text.new ≡ text.old ++ ended (dumped_file_line full.now users.now file.now)) }
+{
+    push_file(text, full, users, file)?;
     if file.len == 0 {
         text.extend(b" DISC")?;
     }
-    match &file.tape {
-        Some(copy) => push_copy(text, copy)?,
-        None => {}
-    }
+    push_taped(text, &file.tape)?;
     text.push(b'\n')
 }

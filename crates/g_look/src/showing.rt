@@ -1,12 +1,12 @@
 //! The bytes of a file.
-ghost use Rattle.std.specs.Prelude.{◌≡◌, ◌<◌, All, Err, true};
+ghost use Rattle.std.specs.Prelude.{◌≡◌, ◌≢◌, ◌<◌, Err};
 ghost use Rattle.g_disc.specs.Disc.{ReadsByCause};
 ghost use Rattle.g_look.specs.Looks.{ReadsRackByCause};
 
 use crate::LookFault;
 use crate::bytes::file_text;
-use crate::disc::see_disc;
-use g_dirs::Dirs;
+use crate::disc::see_directory;
+use crate::listing::tree_of;
 use g_disc::Disc;
 use g_entry::TapeCopy;
 use g_incr::ShelfFault;
@@ -29,22 +29,12 @@ pub fn show<D: Disc, T: Tapes>(
     ensures disc { ReadsByCause (result ≡ Err LookFault.DiscUnread) (D.state disc.old) (D.state disc.new) }
     ensures tapes { ReadsRackByCause (result ≡ Err LookFault.TapeUnread) (T.rack tapes.old) (T.rack tapes.new) }
 {
-    let standing = match see_disc(alloc, disc) {
-        Ok(standing) => standing,
+    let dirs = match see_directory(alloc, disc) {
+        Ok(dirs) => dirs,
         Err(fault) => return Err(fault),
     };
-    let dirs = match standing.dirs {
-        Some((_format, dirs)) => dirs,
-        None => return Err(LookFault::NoFilestore),
-    };
-    let Dirs {
-        head: _,
-        users,
-        files,
-        online,
-    } = dirs;
-    let tree = match Tree::from_records(alloc, users, files) {
-        Ok(tree) => tree,
+    let (tree, online) = match tree_of(alloc, dirs) {
+        Ok(made) => made,
         Err(_) => return Err(LookFault::NoMemory),
     };
     let number = match tree.find(0, path) {
@@ -64,7 +54,10 @@ fn taped_text<T: Tapes>(
     tapes: &mut T,
     tree: &Tree,
     number: u16,
-) -> Result<Text, LookFault> {
+) -> Result<Text, LookFault>
+    ensures tapes { ReadsRackByCause (result ≡ Err LookFault.TapeUnread) (T.rack tapes.old) (T.rack tapes.new) }
+    ensures only { result ≢ Err LookFault.DiscUnread }
+{
     let (copy, len) = match tree.file_at(number) {
         Some(file) => (file.tape, file.len),
         None => return Err(LookFault::NoFile),
@@ -81,7 +74,10 @@ fn copy_text<T: Tapes>(
     tapes: &mut T,
     copy: &TapeCopy,
     len: u32,
-) -> Result<Text, LookFault> {
+) -> Result<Text, LookFault>
+    ensures tapes { ReadsRackByCause (result ≡ Err LookFault.TapeUnread) (T.rack tapes.old) (T.rack tapes.new) }
+    ensures only { result ≢ Err LookFault.DiscUnread }
+{
     match tape_bytes(alloc, tapes, copy, len) {
         Ok(Some(text)) => Ok(text),
         Ok(None) => Err(LookFault::NoCopy),

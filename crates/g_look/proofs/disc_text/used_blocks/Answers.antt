@@ -1,0 +1,3 @@
+use Rattle.std.proofs.Common.{arith}
+use Rattle.g_look.proofs.ShownLemmas.{used_step}
+use Rattle.g_look.proofs.disc_text.used_blocks.Goals as goal
