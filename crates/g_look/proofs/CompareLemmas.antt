@@ -1,6 +1,6 @@
 -- What is read and compared of a version.
 use Rattle.std.proofs.Common.{◌≡◌, ◌≢◌, ◌⊎◌, inl, inr, ◌↔◌, ℕ, zero, suc, ◌+◌, ◌-◌, ◌<◌, ◌≤◌, Bool, true, false, cond, List, [], ◌∷◌, ◌++◌, length, map, min, take, drop, Option, Some, None, Result, Ok, Err, refl, sym, ◌∙◌, ap, arith, subst, All, length-append}
-use Rattle.std.specs.Prelude.{◌==◌, Contains, IfSome, get_or}
+use Rattle.std.specs.Prelude.{◌==◌, Contains, IfNone, IfOk, IfSome, get_or}
 use Rattle.std.specs.Option.{ForSome}
 use Rattle.std.proofs.lemmas.List.{get_or_default, length-take-le, take-append-le, take_all, take_more}
 use Rattle.std.proofs.lemmas.Bool.{cases_eq, cond-false, cond-true, eq-eqb, ne_eqb}
@@ -11,6 +11,7 @@ use Rattle.g_copy.specs.declared.copy.DiscCopy.{DiscCopy}
 use Rattle.g_disc.specs.Disc.{DiscState, ReadsByCause}
 use Rattle.g_entry.specs.declared.file_rec.FileRec.{FileRec}
 use Rattle.g_entry.specs.declared.file_rec.TapeCopy.{TapeCopy}
+use Rattle.g_entry.specs.declared.user_rec.UserRec.{UserRec}
 use Rattle.g_dirs.specs.declared.dirs.Dirs.{Dirs}
 use Rattle.g_dirs.specs.Directory.{copy_at}
 use Rattle.g_tape.specs.declared.fault.TapeFault.{TapeFault}
@@ -21,6 +22,7 @@ use Rattle.g_tape.specs.Reel.{Reel}
 use Rattle.g_state.specs.Meaning.{joined, told_reels}
 use Rattle.g_look.specs.declared.broken.Lie.{Lie}
 use Rattle.g_look.specs.declared.broken.Lie.TheVariants.{Disc, Tape}
+use Rattle.g_look.specs.declared.fault.LookFault.{LookFault}
 use Rattle.g_look.specs.Standing.{IsSound}
 use Rattle.g_look.specs.Texts.{AgreeAt, AllAgree, AreCompared, DifferAt, FileAgrees, FileDiffers, IsDiscText, IsDumpedPlace, IsSecond, IsTapeText, LiesHere, TwoDiffer, WasReadAt}
 use Rattle.g_look.proofs.DiscLemmas.{copy_len, owners_there}
@@ -76,7 +78,7 @@ not_unmounted rack serial mounted refused = absurd (in_reels rack.reels mounted 
             rest (ap refuses_unmount (sym (cond-false (serial == q.serial) (Some q) (reel serial qs) (ne_eqb serial q.serial other))) ∙ is)
 
 -- BLOCK BY BLOCK
-take_min : (n : ℕ) (block : List ℕ) → length block ≡ 512 → take (min n 512) block ≡ take n block
+pub take_min : (n : ℕ) (block : List ℕ) → length block ≡ 512 → take (min n 512) block ≡ take n block
 take_min n block long = by_order (le_or n 512)
   where
     le_or : (a b : ℕ) → (a ≤ b) ⊎ (b ≤ a)
@@ -99,17 +101,18 @@ take_none (y ∷ ys) = refl
 take_two : (len : ℕ) (xs ys : List ℕ) → take len (xs ++ ys) ≡ take len xs ++ take (len - length (take len xs)) ys
 take_two zero [] ys = refl
 take_two zero (x ∷ xs) ys = sym (take_none ys)
-take_two (suc len) [] ys = ap (λ (m : ℕ). take m ys) (omega arith)
+take_two (suc len) [] ys =
+    let same : suc len ≡ suc len - 0 = omega arith in
+    ap (λ (m : ℕ). take m ys) same
 take_two (suc len) (x ∷ xs) ys =
     let t : List ℕ = take len xs in
     let rest : len - length t ≡ suc len - length (x ∷ t) = omega arith in
     ap (λ (zs : List ℕ). x ∷ zs) (take_two len xs ys) ∙ ap (λ (m : ℕ). x ∷ (t ++ take m ys)) rest
 
-pub text_step : (len i : ℕ) (blocks : List (List ℕ)) (block bytes : List ℕ) → i < length blocks → block ≡ get_or blocks i block → length block ≡ 512 → bytes ≡ take len (joined (take i blocks))
-    → bytes ++ take (min (len - length bytes) 512) block ≡ take len (joined (take (i + 1) blocks))
-text_step len i blocks block bytes inside at long so =
-    ap (λ (ys : List ℕ). bytes ++ ys) (take_min (len - length bytes) block long)
-    ∙ ap (λ (xs : List ℕ). xs ++ take (len - length xs) block) so
+pub text_step : (len i : ℕ) (blocks : List (List ℕ)) (block bytes new : List ℕ) → i < length blocks → block ≡ get_or blocks i block → bytes ≡ take len (joined (take i blocks))
+    → new ≡ bytes ++ take (len - length bytes) block → new ≡ take len (joined (take (i + 1) blocks))
+text_step len i blocks block bytes new inside at so is =
+    is ∙ ap (λ (xs : List ℕ). xs ++ take (len - length xs) block) so
     ∙ sym (take_two len (joined (take i blocks)) block)
     ∙ ap (take len) (sym (ap joined (take_more blocks i block inside ∙ ap (λ (b : List ℕ). take i blocks ++ b ∷ []) (sym at)) ∙ flat_map-append (λ (b : List ℕ). b) (take i blocks) (block ∷ [])
       ∙ ap (λ (xs : List ℕ). joined (take i blocks) ++ xs) (append_nil block)))
@@ -174,5 +177,42 @@ module _ (held : Option (List (List ℕ))) (size : ℕ) (dirs : Dirs) (sound : I
       → (p : Lie × Lie) → DifferAt reels r.len there r.tape second p.0 p.1 → FileDiffers held reels dirs.online.items dumped r p.0 p.1
   file_differs reels there place second text long named is p differ = record { there = there; second = second; compared = compared there place second text long named is; differ = differ }
 
-pub owner_at : (size : ℕ) (dirs : Dirs) → IsSound size dirs → (i : ℕ) (r : FileRec) → i < length dirs.files.items → r ≡ get_or dirs.files.items i r → r.owner < length dirs.users.items
-owner_at size dirs sound i r inside at = subst (λ (s : FileRec). s.owner < length dirs.users.items) (sym at) (owners_there size dirs sound i r inside)
+pub owner_in : (size : ℕ) (dirs : Dirs) → IsSound size dirs → (files : List FileRec) (users : List UserRec) → files ≡ dirs.files.items → users ≡ dirs.users.items → (i : ℕ) (r : FileRec) → i < length files
+    → r ≡ get_or files i r → r.owner < length users
+owner_in size dirs sound files users files_are users_are i r inside at =
+    subst (λ (us : List UserRec). r.owner < length us) (sym users_are)
+    (subst (λ (s : FileRec). s.owner < length dirs.users.items) (sym at)
+    (subst (All (λ (s : FileRec). s.owner < length dirs.users.items)) (sym files_are) (owners_there size dirs sound) i r inside))
+
+pub owners_in : (size : ℕ) (dirs : Dirs) → IsSound size dirs → (files : List FileRec) (users : List UserRec) → files ≡ dirs.files.items → users ≡ dirs.users.items → All (λ r. r.owner < length users) files
+owners_in size dirs sound files users files_are users_are =
+    subst (λ (us : List UserRec). All (λ (r : FileRec). r.owner < length us) files) (sym users_are)
+    (subst (All (λ (s : FileRec). s.owner < length dirs.users.items)) (sym files_are) (owners_there size dirs sound))
+
+-- THE ANSWER OF A COMPARISON
+module _ (held : Option (List (List ℕ))) (size : ℕ) (dirs : Dirs) (sound : IsSound size dirs) (dumped : List FileRec) (r : FileRec) (in_files : Contains dirs.files.items r) (reels : List Reel)
+    (there : Option (List ℕ)) (place second : Option TapeCopy) (online : List (ℕ × DiscCopy)) (online_is : online ≡ dirs.online.items) (text : IsDiscText held (copy_at online r.number) there)
+    (long : IfSome there (λ bytes. (c : DiscCopy) × (copy_at online r.number ≡ Some c) × (length bytes ≡ c.len))) (named : IsDumpedPlace dumped r.stamp place) (is : IsSecond r.tape place second) where
+  text_is : IsDiscText held (copy_at dirs.online.items r.number) there
+  text_is = subst (λ (cs : List (ℕ × DiscCopy)). IsDiscText held (copy_at cs r.number) there) online_is text
+
+  long_is : IfSome there (λ bytes. (c : DiscCopy) × (copy_at dirs.online.items r.number ≡ Some c) × (length bytes ≡ c.len))
+  long_is = subst (λ (cs : List (ℕ × DiscCopy)). IfSome there (λ bytes. (c : DiscCopy) × (copy_at cs r.number ≡ Some c) × (length bytes ≡ c.len))) online_is long
+
+  differs_some : (pair : Option (Lie × Lie)) → IfSome pair (λ p. DifferAt reels r.len there r.tape second p.0 p.1) → IfSome pair (λ p. FileDiffers held reels dirs.online.items dumped r p.0 p.1)
+  differs_some None differ = tt
+  differs_some (Some p) differ = file_differs held size dirs sound dumped r in_files reels there place second text_is long_is named is p differ
+
+  agrees_none : (pair : Option (Lie × Lie)) → IfNone pair (AgreeAt reels r.len there r.tape second) → IfNone pair (FileAgrees held reels dirs.online.items dumped r)
+  agrees_none None agree = file_agrees held size dirs sound dumped r in_files reels there place second text_is long_is named is agree
+  agrees_none (Some p) agree = tt
+
+  pub differs_ok : (result : Result (Option (Lie × Lie)) LookFault) → IfOk result (λ pair. IfSome pair (λ p. DifferAt reels r.len there r.tape second p.0 p.1))
+      → IfOk result (λ pair. IfSome pair (λ p. FileDiffers held reels dirs.online.items dumped r p.0 p.1))
+  differs_ok (Ok pair) differ = differs_some pair differ
+  differs_ok (Err e) differ = tt
+
+  pub agrees_ok : (result : Result (Option (Lie × Lie)) LookFault) → IfOk result (λ pair. IfNone pair (AgreeAt reels r.len there r.tape second))
+      → IfOk result (λ pair. IfNone pair (FileAgrees held reels dirs.online.items dumped r))
+  agrees_ok (Ok pair) agree = agrees_none pair agree
+  agrees_ok (Err e) agree = tt

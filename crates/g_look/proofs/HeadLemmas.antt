@@ -1,6 +1,6 @@
 -- The rules 5 to 9, of dumps that are in memory, and of the dumps themselves.
 use Rattle.std.proofs.Common.{◌≡◌, ◌≢◌, ◌⊎◌, inl, inr, ℕ, zero, suc, ◌+◌, ◌^◌, ◌<◌, ◌≤◌, Bool, true, false, cond, ◌&&◌, List, [], ◌∷◌, ◌++◌, length, filter, map, take, Option, Some, None, Result, Ok, Err, refl, sym, ◌∙◌, ap, arith, subst, All}
-use Rattle.std.specs.Prelude.{◌==◌, AllPairs, Contains, IfSome, get_or, if◌then◌else◌, is_some, nat_le}
+use Rattle.std.specs.Prelude.{◌==◌, AllPairs, Contains, IfNone, IfSome, get_or, if◌then◌else◌, is_some, nat_le}
 use Rattle.std.specs.Option.{ForSome}
 use Rattle.std.proofs.lemmas.Bool.{cases_eq, cond-false, cond-true, eq-eqb, ne_eqb}
 use Rattle.std.proofs.lemmas.List.{get_or-map, get_or_default, length-map, take_more}
@@ -118,6 +118,7 @@ one_end serial last end d ks on rest true false is =
     rest end ∙ ap (end_behind end) (sym (cond-false (nat_le d.number last) (d ∷ filter (up_to last) on) (filter (up_to last) on) is))
 
 ends_taken : (serial last end : ℕ) (ds : List Dump) → known_upto serial last end (map known_of ds) ≡ end_behind end (filter (up_to last) (filter (is_on serial) ds))
+unfolding known_upto
 ends_taken serial last end [] = refl
 ends_taken serial last end (d ∷ ds) =
     one_end serial last end d (map known_of ds) (filter (is_on serial) ds) (λ e. ends_taken serial last e ds) (d.serial == serial) (nat_le d.number last) refl
@@ -628,3 +629,25 @@ module _ (number : Reel → ℕ) (same : (q : Reel) → number (unread q) ≡ nu
 
   pub number_there : (rack : Rack) (serial n : ℕ) → AllPairs OtherSerial (told_reels rack) → Ok n ≡ told_of number (reel serial rack.reels) → (r : Reel) → Contains (told_reels rack) r → r.serial ≡ serial → n ≡ number r
   number_there rack serial n apart is r there on = number_at serial n r on rack.reels apart there is
+
+-- THE ANSWERS of the parts, put together
+pub intent_some : (found : List Found) (reels : List Reel) (i : Intent) (last end : ℕ) (o : Option Broken) → (All EndsLow found → end ≡ end_upto i.serial last 0 found)
+    → (r : Reel) × Contains reels r × (r.serial ≡ i.serial) → IfSome o (IsOff i end) → IfSome o (λ b. All EndsLow found → IsIntentBroken found reels i last b)
+intent_some found reels i last end None is there off = tt
+intent_some found reels i last end (Some b) is there off = λ low. off_place found reels i last end b off (is low) there
+
+pub intent_none : (found : List Found) (reels : List Reel) (i : Intent) (last end : ℕ) (o : Option Broken) → (All EndsLow found → end ≡ end_upto i.serial last 0 found)
+    → (r : Reel) × Contains reels r × (r.serial ≡ i.serial) → IfNone o (i.place ≡ end) → IfNone o (All EndsLow found → IsIntentPlaced found reels i last)
+intent_none found reels i last end None is there same = λ low. record { reel = there; place = same ∙ is low }
+intent_none found reels i last end (Some b) is there same = tt
+
+module _ (reels : List Reel) (found : List Found) (head : Head) (is_head : IsHead head) (known5 : (f : Found) → Contains found f → IsKnown head f) (has : 0 < head.last_dump → HasNumber found head.last_dump)
+    (low7 : (f : Found) → Contains found f → f.dir.note.next_stamp ≤ head.next_stamp) (i : Intent) (is : head.intent ≡ Some i) where
+  pub intent_first : (o : Option Broken) → IfSome o (λ b. All EndsLow found → IsIntentBroken found reels i head.last_dump b)
+      → IfSome o (λ b. (shelf : ℕ → List Dump) → IsSeen reels shelf found → IsFirstOfHead shelf reels head b)
+  intent_first None broken = tt
+  intent_first (Some b) broken = λ shelf seen. breaks8 reels shelf found seen head is_head known5 has low7 i is b (broken (low_ends reels shelf found seen))
+
+  pub intent_fits : (o : Option Broken) → IfNone o (All EndsLow found → IsIntentPlaced found reels i head.last_dump) → IfNone o ((shelf : ℕ → List Dump) → IsSeen reels shelf found → HeadFits shelf reels head)
+  intent_fits None at = λ shelf seen. fits_placed reels shelf found seen head is_head known5 has low7 i is (at (low_ends reels shelf found seen))
+  intent_fits (Some b) at = tt

@@ -1,6 +1,6 @@
 -- The verdict, of what was found broken and of what was not.
-use Rattle.std.proofs.Common.{◌≡◌, ◌≢◌, ◌⊎◌, inl, inr, ℕ, ◌+◌, ◌<◌, ◌≤◌, List, [], ◌∷◌, Option, Some, None, refl, sym, ◌∙◌, ap, arith, subst}
-use Rattle.std.specs.Prelude.{Contains, IfSome, IfNone, is_some}
+use Rattle.std.proofs.Common.{◌≡◌, ◌≢◌, ◌⊎◌, inl, inr, ℕ, ◌+◌, ◌<◌, ◌≤◌, List, [], ◌∷◌, Option, Some, None, Result, Ok, Err, refl, sym, ◌∙◌, ap, arith, subst}
+use Rattle.std.specs.Prelude.{Contains, IfNone, IfOk, IfSome, Vec, is_some}
 use Rattle.std.proofs.lemmas.Option.{same_Some}
 use Rattle.g_entry.specs.declared.file_rec.FileRec.{FileRec}
 use Rattle.g_entry.specs.declared.format.Format.{Format}
@@ -22,8 +22,11 @@ use Rattle.g_look.specs.Heads.{HeadFits}
 use Rattle.g_look.specs.Judging.{IsDiscJudged, IsFirstOfDisc, IsJudgedOn}
 use Rattle.g_look.specs.Recs.{HasSameLengths}
 use Rattle.g_look.specs.Rules.{Breaks, BreaksDisc, BreaksOn, BreaksRack, DiscFits, IsVerdict, RackFits, rule_of}
-use Rattle.g_look.specs.Seen.{AreSeen, IsFirstOfRack, IsRackPassed, IsSeen, WhereSeen}
+use Rattle.g_look.specs.Seen.{AreSeen, IsFirstOfRack, IsJudged, IsRackPassed, IsSeen, WhereSeen}
 use Rattle.g_look.specs.declared.disc.Standing.{Standing}
+use Rattle.g_look.specs.declared.fault.LookFault.{LookFault}
+use Rattle.g_look.specs.declared.rack.Judged.{Judged}
+use Rattle.g_look.specs.declared.rack.Judged.TheVariants.{Breaks as BreaksOne, Fits}
 use Rattle.g_look.specs.Standing.{IsStanding, directory_in, found_in}
 use Rattle.g_look.specs.Text.{IsFoundOn}
 use Rattle.g_look.specs.Texts.{AreBytesOther, FileAgrees}
@@ -159,3 +162,31 @@ judged_bytes held reels found dirs dumped head are_held are_long None some none 
     fits_all reels shelf found seen dumped passed blocks dirs held told (head shelf seen) are_held are_long none
 judged_bytes held reels found dirs dumped head are_held are_long (Some b) some none shelf blocks seen passed told =
     first12 reels shelf found seen dumped passed blocks dirs held told (head shelf seen) are_held are_long b some
+
+pub judged_ok : (held : Option (List (List ℕ))) (reels : List Reel) (found : List Found) (dirs : Dirs) (dumped : List FileRec)
+    → ((shelf : ℕ → List Dump) → IsSeen reels shelf found → HeadFits shelf reels dirs.head)
+    → ((r : FileRec) → Contains dirs.files.items r → IsHeld found r) → ((r : FileRec) → Contains dirs.files.items r → HasSameLengths dumped r) → (result : Result (Option Broken) LookFault)
+    → IfOk result (λ verdict. IfSome verdict (AreBytesOther held reels dirs.online.items dumped dirs.users.items dirs.files.items))
+    → IfOk result (λ verdict. IfNone verdict ((r : FileRec) → Contains dirs.files.items r → FileAgrees held reels dirs.online.items dumped r))
+    → IfOk result (IsDiscJudged held reels found dirs dumped)
+judged_ok held reels found dirs dumped head are_held are_long (Ok verdict) some none = judged_bytes held reels found dirs dumped head are_held are_long verdict some none
+judged_ok held reels found dirs dumped head are_held are_long (Err e) some none = tt
+
+-- OF WHAT THE RACK was found to be
+module _ (held : Option (List (List ℕ))) (reels : List Reel) (found : List Found) (seen : AreSeen reels found) (told : AllTold held reels) (j : Judged)
+    (judged : WhereSeen found (λ rs shelf. IsJudged (all_dumps shelf rs) j)) where
+  pub right_breaks : (b : Broken) → j ≡ BreaksOne b → IsVerdict held reels (Some b)
+  right_breaks b is = verdict_rack held reels found seen told b (subst (λ (x : Judged). WhereSeen found (λ rs shelf. IsJudged (all_dumps shelf rs) x)) is judged)
+
+  module _ (dumped : Vec FileRec) (fits : j ≡ Fits dumped) (size : ℕ) (s : Standing) (standing : IsStanding size held s) where
+    passed_all : WhereSeen found (λ rs shelf. IsRackPassed (all_dumps shelf rs) dumped.items)
+    passed_all = subst (λ (x : Judged). WhereSeen found (λ rs shelf. IsJudged (all_dumps shelf rs) x)) fits judged
+
+    pub right_none : s.dirs ≡ None → IsVerdict held reels None
+    right_none none = right_nothing held reels found seen told dumped.items passed_all size s standing none
+
+    pub right_some : (f : Format × Dirs) → s.dirs ≡ Some f → (slice : List FileRec) → slice ≡ dumped.items → (result : Result (Option Broken) LookFault)
+        → IfOk result (IsDiscJudged held reels found f.1 slice) → IfOk result (IsVerdict held reels)
+    right_some f some slice same (Ok verdict) on =
+        right_disc held reels found seen told dumped.items passed_all size s standing f some verdict (subst (λ (fs : List FileRec). IsDiscJudged held reels found f.1 fs verdict) same on)
+    right_some f some slice same (Err e) on = tt

@@ -1,4 +1,5 @@
 pub mod BreakLemmas
+pub mod CheckedLemmas
 pub mod CompareLemmas
 pub mod DiscLemmas
 pub mod FitLemmas

@@ -9,6 +9,7 @@ use Rattle.g_copy.specs.Copy.{bytes_at}
 use Rattle.g_copy.specs.declared.copy.DiscCopy.{DiscCopy}
 use Rattle.g_entry.specs.declared.file_rec.FileRec.{FileRec}
 use Rattle.g_entry.specs.declared.file_rec.TapeCopy.{TapeCopy}
+use Rattle.g_entry.specs.declared.user_rec.UserRec.{UserRec}
 use Rattle.g_name.specs.declared.full.Full.{Full}
 use Rattle.g_tape.specs.Reel.{Reel}
 use Rattle.g_dirs.specs.declared.dirs.Dirs.{Dirs}
@@ -355,3 +356,15 @@ module _ (reels : List Reel) (shelf : ℕ → List Dump) (found : List Found) (s
           let of = rec_there (Some blocks) dirs f (k, inside, get_or_default c.files k f d inside) in
           subst (FileFits dumps) of.is (file_fits of.rec of.there (agree of.rec of.there));
     }
+
+-- of the same lists by another name
+pub gone_as : (found : List Found) (users us : List UserRec) (files fs : List FileRec) (b : Broken) → users ≡ us → files ≡ fs → IsCopyGone found users files b → IsCopyGone found us fs b
+gone_as found users us files fs b same_users same_files is =
+    subst (λ (x : List UserRec). IsCopyGone found x fs b) same_users (subst (λ (x : List FileRec). IsCopyGone found users x b) same_files is)
+
+pub length_as : (users us : List UserRec) (files fs dumped : List FileRec) (b : Broken) → users ≡ us → files ≡ fs → IsLengthOther users files dumped b → IsLengthOther us fs dumped b
+length_as users us files fs dumped b same_users same_files is =
+    subst (λ (x : List UserRec). IsLengthOther x fs dumped b) same_users (subst (λ (x : List FileRec). IsLengthOther users x dumped b) same_files is)
+
+pub each_as : (P : FileRec → Type 0) (files fs : List FileRec) → files ≡ fs → ((r : FileRec) → Contains files r → P r) → (r : FileRec) → Contains fs r → P r
+each_as P files fs same each = subst (λ (x : List FileRec). (r : FileRec) → Contains x r → P r) same each

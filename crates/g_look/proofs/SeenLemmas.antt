@@ -14,6 +14,10 @@ use Rattle.g_shelf.specs.Completed.{AreShelved, all_dumps}
 use Rattle.g_shelf.proofs.RackLemmas.{serials_kept}
 use Rattle.g_state.specs.Meaning.{told_reels}
 use Rattle.g_state.specs.Reading.{ReelsTold}
+use Rattle.g_tree.specs.Records.{IsRecords}
+use Rattle.g_restore.specs.declared.directory.Dumped.{Dumped}
+use Rattle.g_restore.specs.Steps.{IsFolded}
+use Rattle.g_restore.proofs.FoldLemmas.{can_be_made}
 use Rattle.g_restore.specs.declared.dumps.Found.{Found}
 use Rattle.g_restore.specs.Known.{AreKnown, Known, known, known_of}
 use Rattle.g_restore.specs.Reels.{AreOnReels}
@@ -78,3 +82,7 @@ few_seen rack found (dumps, on, same) = have_few found dumps same (all_rules rac
 
 pub known_seen : (rack : Rack) (found : List Found) → (dumps : List Dump) × AreOnReels rack.reels dumps × (map known found ≡ map known_of dumps) → (dumps : List Dump) × AreKnown found dumps
 known_seen rack found (dumps, on, same) = (dumps, record { same = same; rules = all_rules rack.reels dumps on })
+
+-- what is folded of them can be made
+pub records_given : (found : List Found) (made : Dumped) → (dumps : List Dump) × AreKnown found dumps → ((dumps : List Dump) → AreKnown found dumps → IsFolded dumps made) → IsRecords made.users.items made.files.items
+records_given found made (dumps, are) folds = (can_be_made dumps are.rules made (folds dumps are)).records

@@ -20,6 +20,8 @@ use Rattle.g_tape.specs.Reel.{Reel}
 use Rattle.g_tree.proofs.ListLemmas.{contains_first, contains_more, map_of_map}
 use Rattle.g_incr.specs.Layout.{Dump, IsDump, count_of}
 use Rattle.g_lines.specs.Lines.{ended, text_of}
+use Rattle.g_monitor.specs.Parts.{modes_text, shown_mode}
+use Rattle.g_trap.specs.declared.mode_set.Mode.TheVariants.{Read, Write, Append, Execute, Erase}
 use Rattle.g_shelf.specs.Completed.{all_dumps, end_of}
 use Rattle.g_state.specs.Meaning.{told_reels}
 use Rattle.g_state.proofs.OneLemmas.{is_shelved}
@@ -199,3 +201,8 @@ all_shown disc rack verdict one two three is_one is_two is_three =
     ∙ ap (λ (xs : List ℕ). text_of disc ++ (text_of rack ++ xs)) (sym (append-nil (ended verdict)))
     ∙ ap (λ (xs : List ℕ). text_of disc ++ xs) (sym (flat_map-append ended rack (verdict ∷ [])))
     ∙ sym (flat_map-append ended disc (rack ++ verdict ∷ []))
+
+-- the letters of modes
+pub modes_are : (modes : ℕ) → shown_mode modes Read 82 ∷ shown_mode modes Write 87 ∷ shown_mode modes Append 65 ∷ shown_mode modes Execute 88 ∷ shown_mode modes Erase 69 ∷ [] ≡ modes_text modes
+unfolding modes_text
+modes_are modes = refl

@@ -58,7 +58,7 @@ fn push_trap(
 }
 
 /// Puts `RWAXE` behind the text, with a dot for each mode that is closed.
-#[tactic(auto, unfolding(Rattle.g_monitor.specs.Parts.modes_text))]
+#[tactic(auto, using(crate::proofs::ShownLemmas::modes_are))]
 fn push_modes(text: &mut Text, modes: Modes) -> Result<(), NoMemory>
     ensures { OnOk result (text.new ≡ text.old ++ modes_text modes) }
 {

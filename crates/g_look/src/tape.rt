@@ -1,5 +1,5 @@
 //! The bytes at a place on tape.
-ghost use Rattle.std.specs.Prelude.{◌≡◌, ◌⊎◌, ◌≤◌, All, Err, IfOk, OnErr, length, take, true};
+ghost use Rattle.std.specs.Prelude.{◌≡◌, ◌⊎◌, ◌≤◌, ◌-◌, ◌++◌, All, Err, IfOk, OnErr, OnOk, length, take, true};
 ghost use Rattle.g_state.specs.Meaning.{joined, told_reels};
 ghost use Rattle.g_look.specs.Looks.{ReadsRackByCause};
 ghost use Rattle.g_look.specs.Texts.{IsTapeText};
@@ -47,10 +47,20 @@ fn text_in(alloc: Global, blocks: &[Block], len: u32) -> Result<Text, NoMemory>
 {
     let mut bytes = Vec::new(alloc);
     for block in blocks {
-        let count = (len as usize - bytes.len()).min(512);
-        bytes.extend_from_slice(front(block, count))?;
+        add_block(&mut bytes, block, len as usize)?;
     }
     Ok(Text::from(bytes))
+}
+
+/// Puts the block behind the bytes, or as much of it as makes them so many.
+#[tactic(auto, using(crate::proofs::CompareLemmas::take_min))]
+fn add_block(bytes: &mut Vec<u8>, block: &Block, len: usize) -> Result<(), NoMemory>
+    requires { length bytes.old.items ≤ len }
+    ensures { OnOk result (bytes.new.items ≡ bytes.old.items ++ take (len - length bytes.old.items) block.now) }
+{
+    let count = (len - bytes.len()).min(512);
+    bytes.extend_from_slice(front(block, count))?;
+    Ok(())
 }
 
 /// The first so many bytes of a block.

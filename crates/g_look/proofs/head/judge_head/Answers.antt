@@ -1,5 +1,4 @@
-use Rattle.g_look.proofs.HeadLemmas.{breaks5, breaks6, breaks7, breaks8, fits_nowhere, fits_placed, low_ends}
-use Rattle.g_look.proofs.LoopLemmas.{if_none, if_some}
+use Rattle.g_look.proofs.HeadLemmas.{breaks5, breaks6, breaks7, fits_nowhere, intent_first, intent_fits}
 use Rattle.g_look.proofs.head.judge_head.Goals as goal
 
 pub returns-in-Some-clause-some : goal.returns-in-Some-clause-some
@@ -13,17 +12,11 @@ returns-in-Some-too_far-clause-some g c = λ shelf seen. breaks7 _ shelf _ seen 
 
 pub returns-in-Some-intent-clause-some : goal.returns-in-Some-intent-clause-some
 returns-in-Some-intent-clause-some g c =
-    if_some _ _ _
-    (λ b broken shelf seen.
-    breaks8 _ shelf _ seen _ c.requires c.in-None.ensures.none c.in-None-missing_last.ensures.none c.in-None-too_far.ensures.none _ c.in-Some-intent.is b (broken (low_ends _ shelf _ seen)))
-    c.judge_intent.ensures.some
+    intent_first _ _ c.args.head.now c.requires c.in-None.ensures.none c.in-None-missing_last.ensures.none c.in-None-too_far.ensures.none _ c.in-Some-intent.is _ c.judge_intent.ensures.some
 
 pub returns-in-Some-intent-clause-none : goal.returns-in-Some-intent-clause-none
 returns-in-Some-intent-clause-none g c =
-    if_none _ _ _
-    (λ placed shelf seen.
-    fits_placed _ shelf _ seen _ c.requires c.in-None.ensures.none c.in-None-missing_last.ensures.none c.in-None-too_far.ensures.none _ c.in-Some-intent.is (placed (low_ends _ shelf _ seen)))
-    c.judge_intent.ensures.none
+    intent_fits _ _ c.args.head.now c.requires c.in-None.ensures.none c.in-None-missing_last.ensures.none c.in-None-too_far.ensures.none _ c.in-Some-intent.is _ c.judge_intent.ensures.none
 
 pub returns-in-None-intent-clause-none : goal.returns-in-None-intent-clause-none
 returns-in-None-intent-clause-none g c = λ shelf seen.
