@@ -121,6 +121,11 @@ text_step len i blocks block bytes new inside at so is =
     append_nil [] = refl
     append_nil (x ∷ xs) = ap (λ (ys : List ℕ). x ∷ ys) (append_nil xs)
 
+pub text_next : (len i : ℕ) (blocks : List (List ℕ)) (other bytes new : List ℕ) → i < length blocks → bytes ≡ take len (joined (take i blocks))
+    → new ≡ bytes ++ take (len - length bytes) (get_or blocks i other) → new ≡ take len (joined (take (i + 1) blocks))
+text_next len i blocks other bytes new inside so is =
+    text_step len i blocks (get_or blocks i other) bytes new inside (get_or_default blocks i other (get_or blocks i other) inside) so is
+
 -- TEXTS AT HAND
 if_place : (P : TapeCopy → List Reel → Type 0) (old mid : List Reel) (o : Option TapeCopy) → mid ≡ old → IfSome o (λ c. P c mid) → IfSome o (λ c. P c old)
 if_place P old mid o same is = subst (λ (rs : List Reel). IfSome o (λ c. P c rs)) same is

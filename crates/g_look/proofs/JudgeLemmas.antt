@@ -1,5 +1,5 @@
 -- The verdict, of what was found broken and of what was not.
-use Rattle.std.proofs.Common.{◌≡◌, ◌≢◌, ◌⊎◌, inl, inr, ℕ, ◌+◌, ◌<◌, ◌≤◌, List, [], ◌∷◌, Option, Some, None, Result, Ok, Err, refl, sym, ◌∙◌, ap, arith, subst}
+use Rattle.std.proofs.Common.{Global, ◌≡◌, ◌≢◌, ◌⊎◌, inl, inr, ℕ, ◌+◌, ◌<◌, ◌≤◌, List, [], ◌∷◌, Option, Some, None, Result, Ok, Err, refl, sym, ◌∙◌, ap, arith, subst}
 use Rattle.std.specs.Prelude.{Contains, IfNone, IfOk, IfSome, Vec, is_some}
 use Rattle.std.proofs.lemmas.Option.{same_Some}
 use Rattle.g_entry.specs.declared.file_rec.FileRec.{FileRec}
@@ -178,7 +178,7 @@ module _ (held : Option (List (List ℕ))) (reels : List Reel) (found : List Fou
   pub right_breaks : (b : Broken) → j ≡ BreaksOne b → IsVerdict held reels (Some b)
   right_breaks b is = verdict_rack held reels found seen told b (subst (λ (x : Judged). WhereSeen found (λ rs shelf. IsJudged (all_dumps shelf rs) x)) is judged)
 
-  module _ (dumped : Vec FileRec) (fits : j ≡ Fits dumped) (size : ℕ) (s : Standing) (standing : IsStanding size held s) where
+  module _ (dumped : Vec FileRec Global) (fits : j ≡ Fits dumped) (size : ℕ) (s : Standing) (standing : IsStanding size held s) where
     passed_all : WhereSeen found (λ rs shelf. IsRackPassed (all_dumps shelf rs) dumped.items)
     passed_all = subst (λ (x : Judged). WhereSeen found (λ rs shelf. IsJudged (all_dumps shelf rs) x)) fits judged
 

@@ -4,7 +4,7 @@ use Rattle.g_look.proofs.tape.tape_text.Goals as goal
 
 pub returns-in-Ok-text_in-clause-text : goal.returns-in-Ok-text_in-clause-text
 returns-in-Ok-text_in-clause-text g c =
-    tape_text_is (g.T.Tapes.rack c.args.tapes.now) (g.met.T.Tapes.well_formed _) c.args.copy.now c.args.len _ _ c.in-Ok.ensures.found (rw c.as_slice.ensures.value at c.in-Ok-text_in.ensures)
+    tape_text_is (g.T.Tapes.rack c.args.tapes.now) (g.met.T.Tapes.well_formed _) c.args.copy.now c.args.len _ _ (rw c.blocks_for.ensures at c.in-Ok.ensures.found) (rw c.as_slice.ensures.value at c.in-Ok-text_in.ensures)
 
 pub returns-in-Err-NoTape-clause-text : goal.returns-in-Err-NoTape-clause-text
 returns-in-Err-NoTape-clause-text g c =
