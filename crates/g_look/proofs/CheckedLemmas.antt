@@ -1,0 +1,57 @@
+-- What a check answers, of what was seen of disc and rack.
+use Rattle.std.proofs.Common.{◌≡◌, ◌↔◌, ℕ, Bool, List, [], ◌∷◌, ◌++◌, Option, Some, None, refl, sym, ◌∙◌, ap, subst, IsTrue}
+use Rattle.std.specs.Prelude.{is_some}
+use Rattle.g_entry.specs.declared.format.Format.{Format}
+use Rattle.g_slots.specs.declared.side.Side.{Side}
+use Rattle.g_slots.specs.Layout.{gate_side}
+use Rattle.g_dirs.specs.declared.dirs.Dirs.{Dirs}
+use Rattle.g_dirs.specs.Directory.{Directory}
+use Rattle.g_dirs.specs.Image.{StandsFor}
+use Rattle.g_tape.specs.Reel.{Reel}
+use Rattle.g_incr.specs.Layout.{Dump}
+use Rattle.g_lines.specs.Lines.{text_of}
+use Rattle.g_shelf.specs.Completed.{AreShelved, all_dumps}
+use Rattle.g_state.specs.Reading.{AllTold}
+use Rattle.g_restore.specs.declared.dumps.Found.{Found}
+use Rattle.g_look.specs.declared.broken.Broken.{Broken}
+use Rattle.g_look.specs.declared.disc.Standing.{Standing}
+use Rattle.g_look.specs.Rules.{IsVerdict}
+use Rattle.g_look.specs.Seen.{AreSeen, IsSeen}
+use Rattle.g_look.specs.Standing.{IsStanding, directory_in, found_in}
+use Rattle.g_look.specs.Text.{IsChecked, IsFoundOn, disc_lines, rack_lines, verdict_line}
+use Rattle.g_look.proofs.HeadLemmas.{told_blocks}
+
+found_same : (o : Option (Format × Dirs)) → is_some o ≡ is_some (found_in o)
+found_same None = refl
+found_same (Some f) = refl
+
+pub checked_is : (size : ℕ) (held : Option (List (List ℕ))) (reels : List Reel) (found : List Found) (s : Standing) (verdict : Option Broken) (text : List ℕ) → AreSeen reels found → IsStanding size held s
+    → AllTold held reels → IsVerdict held reels verdict
+    → ((shelf : ℕ → List Dump) → IsSeen reels shelf found
+    → text ≡ text_of (disc_lines size s.side (all_dumps shelf reels) (found_in s.dirs) ++ rack_lines shelf reels ++ verdict_line (is_some s.dirs) verdict ∷ []))
+    → IsChecked size held reels verdict text
+checked_is size held reels found s verdict text seen standing told right is =
+    let (shelf, shelved) = seen.shelf told.each in
+    let (blocks, is_told) = told_blocks held told.disc in
+    record {
+      right = right;
+      shelf = shelf;
+      shelved = shelved;
+      blocks = blocks;
+      is_told = is_told;
+      found = found_in s.dirs;
+      found_is = standing.found blocks is_told;
+      text_is =
+          is shelf (seen.seen told.each shelf shelved)
+          ∙ ap (λ (side : Side). text_of (disc_lines size side (all_dumps shelf reels) (found_in s.dirs) ++ rack_lines shelf reels ++ verdict_line (is_some s.dirs) verdict ∷ []))
+            (sym (standing.side blocks is_told))
+          ∙ ap (λ (b : Bool). text_of (disc_lines size (gate_side blocks) (all_dumps shelf reels) (found_in s.dirs) ++ rack_lines shelf reels ++ verdict_line b verdict ∷ [])) (found_same s.dirs);
+    }
+
+-- whether it holds a filestore
+holds_so : (blocks : List (List ℕ)) (o : Option (Format × Dirs)) → IsFoundOn blocks (found_in o) → IsTrue (is_some o) ↔ ((d : Directory) × StandsFor blocks d)
+holds_so blocks None none = (λ wrong. absurd (let no : ⊥ = cc in no), λ (d, is). absurd (none d is))
+holds_so blocks (Some f) is = (λ yes. (directory_in f.1, is.0), λ other. refl)
+
+pub holds_filestore : (size : ℕ) (held : Option (List (List ℕ))) (s : Standing) (blocks : List (List ℕ)) → IsStanding size held s → held ≡ Some blocks → IsTrue (is_some s.dirs) ↔ ((d : Directory) × StandsFor blocks d)
+holds_filestore size held s blocks standing told = holds_so blocks s.dirs (standing.found blocks told)

@@ -1,0 +1,16 @@
+pub mod BreakLemmas
+pub mod CheckedLemmas
+pub mod CompareLemmas
+pub mod DiscLemmas
+pub mod FitLemmas
+pub mod HeadLemmas
+pub mod JudgeLemmas
+pub mod LoopLemmas
+pub mod LostLemmas
+pub mod RackLemmas
+pub mod RecLemmas
+pub mod SeenLemmas
+pub mod ShelfLemmas
+pub mod ShownLemmas
+pub mod TextLemmas
+pub mod VerdictLemmas

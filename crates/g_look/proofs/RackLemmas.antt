@@ -1,0 +1,305 @@
+-- The rules of the rack, of dumps that are in memory, and of the dumps themselves.
+use Rattle.std.proofs.Common.{◌≡◌, ◌≢◌, ◌⊎◌, inl, inr, ℕ, zero, suc, ◌+◌, ◌<◌, ◌≤◌, List, [], ◌∷◌, length, get_or, map, Option, Some, None, Result, Ok, Err, refl, sym, ◌∙◌, ap, arith, subst, All}
+use Rattle.std.specs.Prelude.{Contains}
+use Rattle.g_entry.specs.declared.file_rec.FileRec.{FileRec}
+use Rattle.g_name.specs.declared.full.Full.{Full}
+use Rattle.g_tape.specs.Reel.{Reel}
+use Rattle.g_plain.specs.declared.faults.StoreFault.{StoreFault}
+use Rattle.g_plain.specs.declared.faults.StoreFault.TheVariants as store
+use Rattle.g_incr.specs.Layout.{Dump, count_of, ends}
+use Rattle.g_shelf.specs.Completed.{AreShelved, all_dumps}
+use Rattle.g_state.specs.Meaning.{DumpedDirectory, files_in}
+use Rattle.g_state.proofs.OneLemmas.{Apart, are_right, same_gathered}
+use Rattle.g_restore.specs.declared.directory.Dumped.{Dumped}
+use Rattle.g_restore.specs.declared.dumps.Found.{Found}
+use Rattle.g_restore.specs.Known.{AreKnown, Known, known, known_of}
+use Rattle.g_restore.specs.Lost.{AreApart, HasPlace, IsFirstLost, IsLostDirectory, NamesLost}
+use Rattle.g_restore.specs.Steps.{IsFolded}
+use Rattle.g_restore.proofs.KnownLemmas.{known_at, no_dumps, place_of}
+use Rattle.g_look.specs.declared.broken.Broken.{Broken}
+use Rattle.g_look.specs.declared.broken.Broken.TheVariants.{Twice, Falls, LostDirectory, LostCopy, TooNew, LastMissing, TooFar, NoReel, Misplaced, NoCopy, Lengths, Bytes}
+use Rattle.g_look.specs.declared.broken.DumpAt.{DumpAt}
+use Rattle.g_look.specs.Rules.{BreaksRack, IsDumpAt, RackFits, at_of, rule_of}
+use Rattle.g_look.specs.Seen.{HasNoLower, HasNoTwin, HasOne, IsFalling, IsFirstOfRack, IsLower, IsRackPassed, IsSeen, IsTwice, IsTwin, SamePlace, at_found}
+use Rattle.g_look.proofs.FitLemmas.{same_files}
+use Rattle.g_look.proofs.LostLemmas.{not_both}
+
+-- what is in memory of a dump tells its place
+at_known : Known → DumpAt
+at_known k = record { number = k.note.number; serial = k.serial; place = k.note.place; next_stamp = k.note.next_stamp }
+
+pub told_at : (f : Found) (d : Dump) → known f ≡ known_of d → at_of d ≡ at_found f
+unfolding at_known
+told_at f d same = ap at_known (sym same)
+
+module _ (found : List Found) (dumps : List Dump) (are : AreKnown found dumps) where
+  -- the dump of what is in memory, and what is in memory of a dump
+  pub record HasDump (f : Found) : Type 0 where
+    pub dump : Dump
+    pub there : Contains dumps dump
+    pub same : known f ≡ known_of dump
+
+  pub dump_of : (f : Found) → Contains found f → HasDump f
+  dump_of f (k, within, at) =
+      let (d, in_d, at_d, known_d) = known_at found dumps are.same k within in
+      record { dump = d; there = in_d; same = ap known (sym at) ∙ known_d f }
+
+  pub record HasFound (d : Dump) : Type 0 where
+    pub one : Found
+    pub there : Contains found one
+    pub same : known one ≡ known_of d
+
+  pub found_of : (d : Dump) → Contains dumps d → HasFound d
+  found_of d in_d =
+      let (k, within, f, at_f, known_f) = place_of found dumps are.same d in_d in
+      record { one = f; there = (k, within, at_f); same = known_f }
+
+  pub is_at : (f : Found) (a : DumpAt) (has : HasDump f) → at_found f ≡ a → IsDumpAt dumps a has.dump
+  is_at f a has told = record { there = has.there; told = told_at f has.dump has.same ∙ told }
+
+  -- RULE 1
+  breaks_twice : (b : Broken) → IsTwice found b → BreaksRack dumps b
+  breaks_twice (Twice a b) (f, in_f, told, other) =
+      let d = dump_of f in_f in
+      let e = dump_of other.one other.there in
+      let number_d : f.dir.note.number ≡ d.dump.number = ap (λ (k : Known). k.note.number) d.same in
+      let number_e : other.one.dir.note.number ≡ e.dump.number = ap (λ (k : Known). k.note.number) e.same in (
+        d.dump,
+        e.dump,
+        is_at f a d told,
+        is_at other.one b e other.told,
+        sym number_d ∙ sym other.holds.0 ∙ number_e,
+        λ same. other.holds.1 (record {
+          serial = ap (λ (k : Known). k.serial) (e.same ∙ ap known_of (sym same) ∙ sym d.same);
+          place = ap (λ (k : Known). k.note.place) (e.same ∙ ap known_of (sym same) ∙ sym d.same);
+        }),
+      )
+  breaks_twice (Falls a b) is = absurd is
+  breaks_twice (LostDirectory user) is = absurd is
+  breaks_twice (LostCopy full serial) is = absurd is
+  breaks_twice (TooNew a last) is = absurd is
+  breaks_twice (LastMissing last) is = absurd is
+  breaks_twice (TooFar a next) is = absurd is
+  breaks_twice (NoReel serial) is = absurd is
+  breaks_twice (Misplaced serial place end) is = absurd is
+  breaks_twice (NoCopy full copy) is = absurd is
+  breaks_twice (Lengths full stamp len dumped) is = absurd is
+  breaks_twice (Bytes full stamp one other) is = absurd is
+
+  -- RULE 2
+  breaks_falling : (b : Broken) → IsFalling found b → BreaksRack dumps b
+  breaks_falling (Falls a b) (f, in_f, told, other) =
+      let d = dump_of f in_f in
+      let e = dump_of other.one other.there in
+      let number_d : f.dir.note.number ≡ d.dump.number = ap (λ (k : Known). k.note.number) d.same in
+      let number_e : other.one.dir.note.number ≡ e.dump.number = ap (λ (k : Known). k.note.number) e.same in
+      let next_d : f.dir.note.next_stamp ≡ d.dump.next = ap (λ (k : Known). k.note.next_stamp) d.same in
+      let next_e : other.one.dir.note.next_stamp ≡ e.dump.next = ap (λ (k : Known). k.note.next_stamp) e.same in
+      let le = other.holds.number in
+      let less = other.holds.next in (
+        d.dump,
+        e.dump,
+        is_at f a d told,
+        is_at other.one b e other.told,
+        omega (arith, le, number_d, number_e),
+        omega (arith, less, next_d, next_e),
+      )
+  breaks_falling (Twice a b) is = absurd is
+  breaks_falling (LostDirectory user) is = absurd is
+  breaks_falling (LostCopy full serial) is = absurd is
+  breaks_falling (TooNew a last) is = absurd is
+  breaks_falling (LastMissing last) is = absurd is
+  breaks_falling (TooFar a next) is = absurd is
+  breaks_falling (NoReel serial) is = absurd is
+  breaks_falling (Misplaced serial place end) is = absurd is
+  breaks_falling (NoCopy full copy) is = absurd is
+  breaks_falling (Lengths full stamp len dumped) is = absurd is
+  breaks_falling (Bytes full stamp one other) is = absurd is
+
+  pub rises : ((f : Found) → Contains found f → HasNoLower found f) → (d e : Dump) → Contains dumps d → Contains dumps e → d.number ≤ e.number → d.next ≤ e.next
+  rises none d e in_d in_e le =
+      let f = found_of d in_d in
+      let g = found_of e in_e in
+      let number_d : f.one.dir.note.number ≡ d.number = ap (λ (k : Known). k.note.number) f.same in
+      let number_e : g.one.dir.note.number ≡ e.number = ap (λ (k : Known). k.note.number) g.same in
+      let next_d : f.one.dir.note.next_stamp ≡ d.next = ap (λ (k : Known). k.note.next_stamp) f.same in
+      let next_e : g.one.dir.note.next_stamp ≡ e.next = ap (λ (k : Known). k.note.next_stamp) g.same in
+      let up = none f.one f.there g.one g.there (omega (arith, le, number_d, number_e)) in
+      omega (arith, up, next_d, next_e)
+
+-- two of one number at one place are one
+pub are_apart : (reels : List Reel) (shelf : ℕ → List Dump) (found : List Found) → IsSeen reels shelf found → ((f : Found) → Contains found f → HasNoTwin found f) → AreApart (all_dumps shelf reels)
+unfolding Apart
+are_apart reels shelf found seen none d e in_d in_e number =
+    let dumps : List Dump = all_dumps shelf reels in
+    let f = found_of found dumps seen.known d in_d in
+    let g = found_of found dumps seen.known e in_e in
+    let number_d : f.one.dir.note.number ≡ d.number = ap (λ (k : Known). k.note.number) f.same in
+    let number_e : g.one.dir.note.number ≡ e.number = ap (λ (k : Known). k.note.number) g.same in
+    let same = none f.one f.there g.one g.there (number_e ∙ sym number ∙ sym number_d) in
+    let serial : d.serial ≡ e.serial = ap (λ (k : Known). k.serial) (sym f.same) ∙ sym same.serial ∙ ap (λ (k : Known). k.serial) g.same in
+    let place : d.place ≡ e.place = ap (λ (k : Known). k.note.place) (sym f.same) ∙ sym same.place ∙ ap (λ (k : Known). k.note.place) g.same in
+    by_place d e place ((are_right shelf reels seen.told seen.shelved).two d e in_d in_e serial)
+  where
+    by_place : (d e : Dump) → d.place ≡ e.place → (d ≡ e) ⊎ ((ends d ≤ e.place) ⊎ (ends e ≤ d.place)) → d ≡ e
+    by_place d e place (inl same) = same
+    by_place d e place (inr (inl before)) = absurd (let no : ⊥ = omega (arith, place, before) in no)
+    by_place d e place (inr (inr before)) = absurd (let no : ⊥ = omega (arith, place, before) in no)
+
+-- THE FIRST RULE
+no_rule_0 : (e : Broken) → 1 ≤ rule_of e
+no_rule_0 (Twice a b) = omega arith
+no_rule_0 (Falls a b) = omega arith
+no_rule_0 (LostDirectory user) = omega arith
+no_rule_0 (LostCopy full serial) = omega arith
+no_rule_0 (TooNew a last) = omega arith
+no_rule_0 (LastMissing last) = omega arith
+no_rule_0 (TooFar a next) = omega arith
+no_rule_0 (NoReel serial) = omega arith
+no_rule_0 (Misplaced serial place end) = omega arith
+no_rule_0 (NoCopy full copy) = omega arith
+no_rule_0 (Lengths full stamp len dumped) = omega arith
+no_rule_0 (Bytes full stamp one other) = omega arith
+
+no_rule_1 : (dumps : List Dump) → AreApart dumps → (e : Broken) → BreaksRack dumps e → 2 ≤ rule_of e
+no_rule_1 dumps apart (Twice a b) (d, e, in_d, in_e, same, other) = absurd (other (apart d e in_d.there in_e.there same))
+no_rule_1 dumps apart (Falls a b) is = omega arith
+no_rule_1 dumps apart (LostDirectory user) is = omega arith
+no_rule_1 dumps apart (LostCopy full serial) is = omega arith
+no_rule_1 dumps apart (TooNew a last) is = omega arith
+no_rule_1 dumps apart (LastMissing last) is = omega arith
+no_rule_1 dumps apart (TooFar a next) is = omega arith
+no_rule_1 dumps apart (NoReel serial) is = omega arith
+no_rule_1 dumps apart (Misplaced serial place end) is = omega arith
+no_rule_1 dumps apart (NoCopy full copy) is = omega arith
+no_rule_1 dumps apart (Lengths full stamp len dumped) is = omega arith
+no_rule_1 dumps apart (Bytes full stamp one other) is = omega arith
+
+abbrev Rises : List Dump → Type 0
+Rises dumps = (d e : Dump) → Contains dumps d → Contains dumps e → d.number ≤ e.number → d.next ≤ e.next
+
+no_rule_2 : (dumps : List Dump) → AreApart dumps → Rises dumps → (e : Broken) → BreaksRack dumps e → 3 ≤ rule_of e
+no_rule_2 dumps apart up (Twice a b) (d, e, in_d, in_e, same, other) = absurd (other (apart d e in_d.there in_e.there same))
+no_rule_2 dumps apart up (Falls a b) (d, e, in_d, in_e, le, less) =
+    let next = up d e in_d.there in_e.there le in
+    absurd (let no : ⊥ = omega (arith, next, less) in no)
+no_rule_2 dumps apart up (LostDirectory user) is = omega arith
+no_rule_2 dumps apart up (LostCopy full serial) is = omega arith
+no_rule_2 dumps apart up (TooNew a last) is = omega arith
+no_rule_2 dumps apart up (LastMissing last) is = omega arith
+no_rule_2 dumps apart up (TooFar a next) is = omega arith
+no_rule_2 dumps apart up (NoReel serial) is = omega arith
+no_rule_2 dumps apart up (Misplaced serial place end) is = omega arith
+no_rule_2 dumps apart up (NoCopy full copy) is = omega arith
+no_rule_2 dumps apart up (Lengths full stamp len dumped) is = omega arith
+no_rule_2 dumps apart up (Bytes full stamp one other) is = omega arith
+
+no_rule_3 : (dumps : List Dump) → AreApart dumps → Rises dumps → ((user : List ℕ) → IsLostDirectory dumps user → ⊥) → (e : Broken) → BreaksRack dumps e → 4 ≤ rule_of e
+no_rule_3 dumps apart up none (LostDirectory user) is = absurd (none user is)
+no_rule_3 dumps apart up none (Twice a b) (d, e, in_d, in_e, same, other) = absurd (other (apart d e in_d.there in_e.there same))
+no_rule_3 dumps apart up none (Falls a b) (d, e, in_d, in_e, le, less) =
+    let next = up d e in_d.there in_e.there le in
+    absurd (let no : ⊥ = omega (arith, next, less) in no)
+no_rule_3 dumps apart up none (LostCopy full serial) is = omega arith
+no_rule_3 dumps apart up none (TooNew a last) is = omega arith
+no_rule_3 dumps apart up none (LastMissing last) is = omega arith
+no_rule_3 dumps apart up none (TooFar a next) is = omega arith
+no_rule_3 dumps apart up none (NoReel serial) is = omega arith
+no_rule_3 dumps apart up none (Misplaced serial place end) is = omega arith
+no_rule_3 dumps apart up none (NoCopy full copy) is = omega arith
+no_rule_3 dumps apart up none (Lengths full stamp len dumped) is = omega arith
+no_rule_3 dumps apart up none (Bytes full stamp one other) is = omega arith
+
+module _ (found : List Found) where
+  pub first_twice : (b : Broken) → IsTwice found b → (reels : List Reel) (shelf : ℕ → List Dump) → IsSeen reels shelf found → IsFirstOfRack (all_dumps shelf reels) b
+  first_twice (Twice a b) is reels shelf seen = record { breaks = breaks_twice found (all_dumps shelf reels) seen.known (Twice a b) is; first = λ e breaks. no_rule_0 e }
+  first_twice (Falls a b) is reels shelf seen = absurd is
+  first_twice (LostDirectory user) is reels shelf seen = absurd is
+  first_twice (LostCopy full serial) is reels shelf seen = absurd is
+  first_twice (TooNew a last) is reels shelf seen = absurd is
+  first_twice (LastMissing last) is reels shelf seen = absurd is
+  first_twice (TooFar a next) is reels shelf seen = absurd is
+  first_twice (NoReel serial) is reels shelf seen = absurd is
+  first_twice (Misplaced serial place end) is reels shelf seen = absurd is
+  first_twice (NoCopy full copy) is reels shelf seen = absurd is
+  first_twice (Lengths full stamp len dumped) is reels shelf seen = absurd is
+  first_twice (Bytes full stamp one other) is reels shelf seen = absurd is
+
+  module _ (no_twin : (f : Found) → Contains found f → HasNoTwin found f) where
+    pub first_falling : (b : Broken) → IsFalling found b → (reels : List Reel) (shelf : ℕ → List Dump) → IsSeen reels shelf found → IsFirstOfRack (all_dumps shelf reels) b
+    first_falling (Falls a b) is reels shelf seen = record {
+      breaks = breaks_falling found (all_dumps shelf reels) seen.known (Falls a b) is;
+      first = no_rule_1 (all_dumps shelf reels) (are_apart reels shelf found seen no_twin);
+    }
+    first_falling (Twice a b) is reels shelf seen = absurd is
+    first_falling (LostDirectory user) is reels shelf seen = absurd is
+    first_falling (LostCopy full serial) is reels shelf seen = absurd is
+    first_falling (TooNew a last) is reels shelf seen = absurd is
+    first_falling (LastMissing last) is reels shelf seen = absurd is
+    first_falling (TooFar a next) is reels shelf seen = absurd is
+    first_falling (NoReel serial) is reels shelf seen = absurd is
+    first_falling (Misplaced serial place end) is reels shelf seen = absurd is
+    first_falling (NoCopy full copy) is reels shelf seen = absurd is
+    first_falling (Lengths full stamp len dumped) is reels shelf seen = absurd is
+    first_falling (Bytes full stamp one other) is reels shelf seen = absurd is
+
+    module _ (no_lower : (f : Found) → Contains found f → HasNoLower found f) where
+      pub first_directory : (result : Result Dumped StoreFault) (user : List ℕ) → result ≡ Err (store.LostDirectory user)
+          → ((dumps : List Dump) → AreKnown found dumps → AreApart dumps → NamesLost dumps result)
+          → (reels : List Reel) (shelf : ℕ → List Dump) → IsSeen reels shelf found → IsFirstOfRack (all_dumps shelf reels) (LostDirectory user)
+      first_directory result user is lost reels shelf seen =
+          let dumps : List Dump = all_dumps shelf reels in
+          let apart = are_apart reels shelf found seen no_twin in
+          record {
+            breaks = subst (NamesLost dumps) is (lost dumps seen.known apart);
+            first = no_rule_2 dumps apart (rises found dumps seen.known no_lower);
+          }
+
+      pub first_copy : (result : Result Dumped StoreFault) (full : Full) (serial : ℕ) → result ≡ Err (store.LostCopy full serial)
+          → ((dumps : List Dump) → AreKnown found dumps → AreApart dumps → NamesLost dumps result)
+          → (reels : List Reel) (shelf : ℕ → List Dump) → IsSeen reels shelf found → IsFirstOfRack (all_dumps shelf reels) (LostCopy full serial)
+      first_copy result full serial is lost reels shelf seen =
+          let dumps : List Dump = all_dumps shelf reels in
+          let apart = are_apart reels shelf found seen no_twin in
+          let named : IsFirstLost dumps full serial = subst (NamesLost dumps) is (lost dumps seen.known apart) in
+          record {
+            breaks = named;
+            first = no_rule_3 dumps apart (rises found dumps seen.known no_lower) (λ user. not_both dumps apart full serial user named);
+          }
+
+      pub passed_some : (made : Dumped) (files : List FileRec) → files ≡ made.files.items → ((dumps : List Dump) → AreKnown found dumps → IsFolded dumps made)
+          → (reels : List Reel) (shelf : ℕ → List Dump) → IsSeen reels shelf found → IsRackPassed (all_dumps shelf reels) files
+      passed_some made files are folds reels shelf seen =
+          let dumps : List Dump = all_dumps shelf reels in
+          let apart = are_apart reels shelf found seen no_twin in
+          let folded = folds dumps seen.known in
+          let t = folded.directory in
+          record {
+            fits = record {
+              apart = apart;
+              rising = rises found dumps seen.known no_lower;
+              tree = λ d in_d. t;
+              places = λ u. subst (All (HasPlace dumps)) (same_files dumps apart t u) folded.places;
+            };
+            files_are = λ u. same_files dumps apart u t ∙ sym folded.files_are ∙ sym are;
+            given = λ r in_r. t;
+          }
+
+      pub passed_none : (result : Result Dumped StoreFault) → result ≡ Err store.NoDump → (result ≡ Err store.NoDump → found ≡ [])
+          → (reels : List Reel) (shelf : ℕ → List Dump) → IsSeen reels shelf found → IsRackPassed (all_dumps shelf reels) []
+      passed_none result is empty reels shelf seen =
+          let dumps : List Dump = all_dumps shelf reels in
+          let none : dumps ≡ [] = no_dumps found dumps seen.known.same (empty is) in
+          record {
+            fits = record {
+              apart = are_apart reels shelf found seen no_twin;
+              rising = rises found dumps seen.known no_lower;
+              tree = λ d in_d. absurd (nothing d (subst (λ (ds : List Dump). Contains ds d) none in_d));
+              places = λ t. absurd (nothing t.last (subst (λ (ds : List Dump). Contains ds t.last) none t.greatest.there));
+            };
+            files_are = λ t. absurd (nothing t.last (subst (λ (ds : List Dump). Contains ds t.last) none t.greatest.there));
+            given = λ r (i, within, at). absurd (let no : ⊥ = omega (arith, within) in no);
+          }
+        where
+          nothing : (d : Dump) → Contains [] d → ⊥
+          nothing d (i, within, at) = let no : ⊥ = omega (arith, within) in no

@@ -1,0 +1,82 @@
+-- THE RULES BETWEEN THE HEAD of a directory and the dumps.
+use Rattle.std.specs.Prelude.{◌≡◌, ◌⊎◌, ℕ, ◌+◌, ◌^◌, ◌<◌, ◌≤◌, ◌==◌, ◌&&◌, nat_le, List, [], ◌∷◌, Contains, Option, Some, None, IfSome, if◌then◌else◌}
+use Rattle.g_entry.specs.declared.head.Head.{Head}
+use Rattle.g_entry.specs.declared.head.Intent.{Intent}
+use Rattle.g_tape.specs.Reel.{Reel}
+use Rattle.g_contents.specs.Contents.{Contents}
+use Rattle.g_incr.specs.Layout.{Dump}
+use Rattle.g_shelf.specs.Completed.{all_dumps}
+use Rattle.g_state.specs.Belong.{IsIntended, IsPlaced}
+use Rattle.g_restore.specs.declared.dumps.Found.{Found}
+use Rattle.g_look.specs.declared.broken.Broken.{Broken}
+use Rattle.g_look.specs.declared.broken.Broken.TheVariants.{TooNew, LastMissing, TooFar, NoReel, Misplaced}
+use Rattle.g_look.specs.Judging.{IsFirstOfDisc}
+use Rattle.g_look.specs.Seen.{at_found}
+
+-- the intent names the dump that is in memory
+abbrev pub IsNamed : Option Intent → Found → Type 0
+IsNamed None f = ⊥
+IsNamed (Some i) f = (i.serial ≡ f.serial) × (i.place ≡ f.dir.note.place) × (i.number ≡ f.dir.note.number)
+
+-- newer than the last dump, and not the one that is intended
+pub record IsNew (head : Head) (f : Found) : Type 0 where
+  pub newer : head.last_dump < f.dir.note.number
+  pub other : IsNamed head.intent f → ⊥
+
+abbrev pub IsKnown : Head → Found → Type 0
+IsKnown head f = (f.dir.note.number ≤ head.last_dump) ⊎ IsNamed head.intent f
+
+abbrev pub IsTooNew : List Found → Head → Broken → Type 0
+IsTooNew found head (TooNew a last) = (f : Found) × Contains found f × (at_found f ≡ a) × (last ≡ head.last_dump) × IsNew head f
+IsTooNew found head broken = ⊥
+
+pub record HasNumber (found : List Found) (number : ℕ) : Type 0 where
+  pub one : Found
+  pub there : Contains found one
+  pub number_is : one.dir.note.number ≡ number
+
+abbrev pub IsTooFar : List Found → ℕ → Broken → Type 0
+IsTooFar found next (TooFar a n) = (f : Found) × Contains found f × (at_found f ≡ a) × (n ≡ next) × (next < f.dir.note.next_stamp)
+IsTooFar found next broken = ⊥
+
+-- where a dump in memory ends, and that it is a number of a block
+abbrev pub found_ends : Found → ℕ
+found_ends f = f.dir.note.place + f.dir.note.count + 2
+
+abbrev pub EndsLow : Found → Type 0
+EndsLow f = found_ends f < 2 ^ 32
+
+-- the end of a reel's dumps up to the one of a number, of those in memory
+abbrev pub end_with : ℕ → ℕ → ℕ → Found → ℕ
+end_with serial last end f = if (f.serial == serial) && nat_le f.dir.note.number last then found_ends f else end
+
+abbrev pub end_upto : ℕ → ℕ → ℕ → List Found → ℕ
+end_upto serial last end [] = end
+end_upto serial last end (f ∷ fs) = end_upto serial last (end_with serial last end f) fs
+
+abbrev pub IsIntentBroken : List Found → List Reel → Intent → ℕ → Broken → Type 0
+IsIntentBroken found reels i last (NoReel serial) = (serial ≡ i.serial) × ((r : Reel) → Contains reels r → r.serial ≡ i.serial → ⊥)
+IsIntentBroken found reels i last (Misplaced serial place end) =
+    (serial ≡ i.serial) × (place ≡ i.place) × ((r : Reel) × Contains reels r × (r.serial ≡ i.serial)) × (end ≡ end_upto i.serial last 0 found) × (i.place ≡ end → ⊥)
+IsIntentBroken found reels i last broken = ⊥
+
+-- the intent's place isn't this end
+abbrev pub IsOff : Intent → ℕ → Broken → Type 0
+IsOff i at (Misplaced serial place end) = (serial ≡ i.serial) × (place ≡ i.place) × (end ≡ at) × (i.place ≡ at → ⊥)
+IsOff i at broken = ⊥
+
+pub record IsIntentPlaced (found : List Found) (reels : List Reel) (i : Intent) (last : ℕ) : Type 0 where
+  pub reel : (r : Reel) × Contains reels r × (r.serial ≡ i.serial)
+  pub place : i.place ≡ end_upto i.serial last 0 found
+
+-- NONE OF THE RULES 5 TO 9 is broken
+pub record HeadFits (shelf : ℕ → List Dump) (reels : List Reel) (head : Head) : Type 0 where
+  pub numbers : (d : Dump) → Contains (all_dumps shelf reels) d
+      → (d.number ≤ head.last_dump) ⊎ IsIntended head.last_dump head.intent (all_dumps shelf reels) d
+  pub has_last : 0 < head.last_dump → (d : Dump) × Contains (all_dumps shelf reels) d × (d.number ≡ head.last_dump)
+  pub stamps : (d : Dump) → Contains (all_dumps shelf reels) d → d.next ≤ head.next_stamp
+  pub intent : IfSome head.intent (IsPlaced shelf reels head.last_dump)
+
+-- THE FIRST RULE of the disc that is broken, whatever it holds besides this head
+abbrev pub IsFirstOfHead : (ℕ → List Dump) → List Reel → Head → Broken → Type 0
+IsFirstOfHead shelf reels head b = (c : Contents) → c.head ≡ head → IsFirstOfDisc shelf reels c b

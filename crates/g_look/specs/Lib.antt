@@ -1,0 +1,12 @@
+pub mod Compared
+pub mod Heads
+pub mod Judging
+pub mod Listed
+pub mod Looks
+pub mod Recs
+pub mod Rules
+pub mod Seen
+pub mod Shown
+pub mod Standing
+pub mod Text
+pub mod Texts

@@ -1,0 +1,141 @@
+//! The check: whether disc and rack belong together, and what it says.
+ghost use Rattle.std.specs.Prelude.{◌≡◌, ◌⊎◌, ◌↔◌, ◌<◌, All, Err, IfErr, IfOk, IsTrue, true};
+ghost use Rattle.std.specs.Option.{ForSome};
+ghost use Rattle.g_disc.specs.Disc.{ReadsByCause};
+ghost use Rattle.g_dirs.specs.Directory.{Directory};
+ghost use Rattle.g_dirs.specs.Image.{StandsFor};
+ghost use Rattle.g_state.specs.Meaning.{told_reels};
+ghost use Rattle.g_state.specs.Reading.{AllTold};
+ghost use Rattle.g_restore.specs.Gathered.{HasFew};
+ghost use Rattle.g_look.specs.Judging.{IsDiscJudged};
+ghost use Rattle.g_look.specs.Looks.{ReadsRackByCause};
+ghost use Rattle.g_look.specs.Rules.{IsVerdict};
+ghost use Rattle.g_look.specs.Seen.{AreSeen};
+ghost use Rattle.g_look.specs.Standing.{IsSound, IsStanding};
+ghost use Rattle.g_look.specs.Text.{IsChecked};
+
+use crate::bytes::judge_bytes;
+use crate::check_text::check_text;
+use crate::disc::{Standing, see_disc};
+use crate::head::judge_head;
+use crate::rack::{Judged, judge_rack, see_rack};
+use crate::records::{no_copy, other_length};
+use crate::{Broken, LookFault};
+use g_dirs::Dirs;
+use g_disc::Disc;
+use g_entry::FileRec;
+use g_name::Text;
+use g_restore::Found;
+use g_tape::Tapes;
+use std::alloc::Global;
+
+/// What a check found: whether the disc holds a filestore, the first rule that disc and rack break, and the text of the
+/// check, each line with its byte 10.
+#[derive(Debug, Drop)]
+pub struct Checked {
+    pub filestore: bool,
+    pub broken: Option<Broken>,
+    pub text: Text,
+}
+
+/// Whether disc and rack belong together (docs/MANUAL.md, "The rules of a check"). All reels have to be mounted. Both
+/// are only read: of the disc its gate, the current slot, its head twice, and the blocks of files; of each reel the
+/// records of the completed dumps, and each copy that a file names, once. `DiscUnread`, `TapeUnread`, `NoMemory`.
+pub fn check<D: Disc, T: Tapes>(
+    alloc: Global,
+    disc: &mut D,
+    tapes: &mut T,
+) -> Result<Checked, LookFault>
+    requires size { 2177 < (D.state disc.old).size }
+    requires mounted { All (λ r. r.mounted ≡ true) (T.rack tapes.old).reels }
+    ensures right { AllTold (D.state disc.old).held (told_reels (T.rack tapes.old)) → IfOk result (λ c.
+        IsChecked (D.state disc.old).size (D.state disc.old).held (told_reels (T.rack tapes.old)) c.broken c.text) }
+    ensures filestore { ForSome (D.state disc.old).held (λ blocks. IfOk result (λ c.
+        IsTrue c.filestore ↔ ((d : Directory) × StandsFor blocks d))) }
+    ensures disc { ReadsByCause (result ≡ Err LookFault.DiscUnread) (D.state disc.old) (D.state disc.new) }
+    ensures tapes { ReadsRackByCause (result ≡ Err LookFault.TapeUnread) (T.rack tapes.old) (T.rack tapes.new) }
+    ensures faults { IfErr result (λ e. (e ≡ LookFault.DiscUnread) ⊎ ((e ≡ LookFault.TapeUnread) ⊎ (e ≡ LookFault.NoMemory))) }
+{
+    let found = match see_rack(alloc, tapes) {
+        Ok(found) => found,
+        Err(fault) => return Err(fault),
+    };
+    let standing = match see_disc(alloc, disc) {
+        Ok(standing) => standing,
+        Err(fault) => return Err(fault),
+    };
+    let broken = match judge(alloc, disc, tapes, found.as_slice(), &standing) {
+        Ok(broken) => broken,
+        Err(fault) => return Err(fault),
+    };
+    let size = disc.size();
+    match check_text(alloc, size, &standing, found.as_slice(), tapes, &broken) {
+        Ok(text) => Ok(Checked {
+            filestore: standing.dirs.is_some(),
+            broken,
+            text,
+        }),
+        Err(_) => Err(LookFault::NoMemory),
+    }
+}
+
+/// The first rule that is broken.
+fn judge<D: Disc, T: Tapes>(
+    alloc: Global,
+    disc: &mut D,
+    tapes: &mut T,
+    found: &[Found],
+    standing: &Standing,
+) -> Result<Option<Broken>, LookFault>
+    requires size { 2177 < (D.state disc.old).size }
+    requires mounted { All (λ r. r.mounted ≡ true) (told_reels (T.rack tapes.old)) }
+    requires few { All HasFew found.now }
+    requires standing { IsStanding (D.state disc.old).size (D.state disc.old).held standing.now }
+    ensures right { AreSeen (told_reels (T.rack tapes.old)) found.now → AllTold (D.state disc.old).held (told_reels (T.rack tapes.old))
+        → IfOk result (IsVerdict (D.state disc.old).held (told_reels (T.rack tapes.old))) }
+    ensures disc { ReadsByCause (result ≡ Err LookFault.DiscUnread) (D.state disc.old) (D.state disc.new) }
+    ensures tapes { ReadsRackByCause (result ≡ Err LookFault.TapeUnread) (T.rack tapes.old) (T.rack tapes.new) }
+    ensures faults { IfErr result (λ e. (e ≡ LookFault.DiscUnread) ⊎ ((e ≡ LookFault.TapeUnread) ⊎ (e ≡ LookFault.NoMemory))) }
+{
+    let dumped = match judge_rack(alloc, found) {
+        Ok(Judged::Fits(dumped)) => dumped,
+        Ok(Judged::Breaks(broken)) => return Ok(Some(broken)),
+        Err(fault) => return Err(fault),
+    };
+    match &standing.dirs {
+        Some((_format, dirs)) => judge_disc(alloc, disc, tapes, found, dirs, dumped.as_slice()),
+        None => Ok(None),
+    }
+}
+
+/// The first rule of the disc that is broken, over a rack of which none is.
+fn judge_disc<D: Disc, T: Tapes>(
+    alloc: Global,
+    disc: &mut D,
+    tapes: &mut T,
+    found: &[Found],
+    dirs: &Dirs,
+    dumped: &[FileRec],
+) -> Result<Option<Broken>, LookFault>
+    requires size { 2177 < (D.state disc.old).size }
+    requires mounted { All (λ r. r.mounted ≡ true) (told_reels (T.rack tapes.old)) }
+    requires sound { IsSound (D.state disc.old).size dirs.now }
+    ensures judged { IfOk result (IsDiscJudged (D.state disc.old).held (told_reels (T.rack tapes.old)) found.now dirs.now dumped.now) }
+    ensures disc { ReadsByCause (result ≡ Err LookFault.DiscUnread) (D.state disc.old) (D.state disc.new) }
+    ensures tapes { ReadsRackByCause (result ≡ Err LookFault.TapeUnread) (T.rack tapes.old) (T.rack tapes.new) }
+    ensures faults { IfErr result (λ e. (e ≡ LookFault.DiscUnread) ⊎ ((e ≡ LookFault.TapeUnread) ⊎ (e ≡ LookFault.NoMemory))) }
+{
+    match judge_head(found, &dirs.head, tapes) {
+        Some(broken) => return Ok(Some(broken)),
+        None => {}
+    }
+    match no_copy(found, dirs.users.as_slice(), dirs.files.as_slice()) {
+        Some(broken) => return Ok(Some(broken)),
+        None => {}
+    }
+    match other_length(dirs.users.as_slice(), dirs.files.as_slice(), dumped) {
+        Some(broken) => return Ok(Some(broken)),
+        None => {}
+    }
+    judge_bytes(alloc, disc, tapes, dirs, dumped)
+}

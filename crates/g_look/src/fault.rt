@@ -1,0 +1,53 @@
+//! Why a look answers nothing.
+use g_base::NoMemory;
+use g_incr::ShelfFault;
+use std::alloc::AllocError;
+use thiserror::Error;
+
+/// Why a look tells nothing. No fault changes what disc or reels hold.
+#[derive(Clone, Copy, Debug, PartialEq, Eq, Error)]
+pub enum LookFault {
+    /// A block of the disc couldn't be read, and its count of failed reads rose.
+    #[error("the disc could not be read")]
+    DiscUnread,
+    /// A block of a reel couldn't be read, and the rack's count of failed reads rose.
+    #[error("a tape could not be read")]
+    TapeUnread,
+    /// The disc holds no filestore.
+    #[error("no filestore")]
+    NoFilestore,
+    /// No user has this name.
+    #[error("no such user")]
+    NoUser,
+    /// No file has this name.
+    #[error("no such file")]
+    NoFile,
+    /// The bytes of the file are nowhere.
+    #[error("the copy is not held")]
+    NoCopy,
+    /// The memory was refused.
+    #[error("out of memory")]
+    NoMemory,
+}
+
+impl From<AllocError> for LookFault {
+    ghost use Rattle.std.specs.Prelude.{◌≡◌};
+    ghost use Rattle.g_look.specs.declared.fault.LookFault.TheVariants.{NoMemory};
+
+    ghost from_gives = { λ _ e. e ≡ NoMemory };
+
+    fn from(_e: AllocError) -> LookFault {
+        LookFault::NoMemory
+    }
+}
+
+impl From<NoMemory> for LookFault {
+    ghost use Rattle.std.specs.Prelude.{◌≡◌};
+    ghost use Rattle.g_look.specs.declared.fault.LookFault.TheVariants.{NoMemory};
+
+    ghost from_gives = { λ _ e. e ≡ NoMemory };
+
+    fn from(_e: NoMemory) -> LookFault {
+        LookFault::NoMemory
+    }
+}

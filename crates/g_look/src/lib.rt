@@ -1,0 +1,54 @@
+//! A look at a disc and a rack: do they belong together, what is on them, and what a restore of the rack would give. Nothing is
+//! written.
+#![tactic(auto)]
+
+#[cfg(test)]
+mod ample;
+mod broken;
+mod broken_text;
+mod bytes;
+mod check_text;
+mod checking;
+mod disc;
+mod disc_text;
+mod fault;
+mod file_text;
+mod head;
+mod holding;
+mod listing;
+mod names;
+mod pairs;
+mod parts;
+mod rack;
+mod rack_text;
+mod records;
+mod restoring;
+mod showing;
+mod tape;
+
+ghost use Rattle.g_look.specs.Rules.{BrokenIsNot, FitsBelong, RackHasNone, VerdictIsRight};
+
+pub use broken::{Broken, DumpAt, Lie};
+pub use checking::{Checked, check};
+pub use holding::dumps;
+pub use fault::LookFault;
+pub use listing::list;
+pub use restoring::{Given, restorable};
+pub use showing::show;
+
+/// A rule that is found broken is really broken: disc and rack don't belong together then.
+pub fn broken_is_not()
+    ensures broken { BrokenIsNot }
+{}
+
+/// Where no rule is broken disc and rack belong together.
+#[tactic(auto, using(crate::proofs::FitLemmas::fits_belong))]
+pub fn fits_belong()
+    ensures fits { FitsBelong }
+{}
+
+/// A rack of which no rule is broken has no breach, and a verdict says exactly whether disc and rack belong together.
+pub fn verdicts()
+    ensures rack { RackHasNone }
+    ensures right { VerdictIsRight }
+{}

@@ -1,0 +1,139 @@
+//! What a restore of the rack would give.
+ghost use Rattle.std.specs.Prelude.{◌≡◌, ◌⊎◌, ◌++◌, All, Err, IfErr, IfOk, OnOk, codes, false, true};
+ghost use Rattle.g_lines.specs.Lines.{ended};
+ghost use Rattle.g_monitor.specs.Refusals.{IsPrinted, fault_line};
+ghost use Rattle.g_tree.specs.Records.{IsRecords};
+ghost use Rattle.g_look.specs.Listed.{dumped_file_line};
+ghost use Rattle.g_look.specs.Looks.{ReadsRackByCause};
+
+use crate::LookFault;
+use crate::file_text::{push_file, push_taped};
+use crate::parts::push_told;
+use crate::rack::see_rack;
+use g_base::NoMemory;
+use g_entry::{FileRec, UserRec};
+use g_monitor::push_fault;
+use g_name::{Full, Text};
+use g_plain::StoreFault;
+use g_restore::{Dumped, fold};
+use g_tape::Tapes;
+use g_tree::Tree;
+use std::alloc::Global;
+
+/// Whether the rack can be restored, and the text: the files that RESTORE would give and the dump, or its refusal.
+#[derive(Debug, Drop)]
+pub struct Given {
+    pub given: bool,
+    pub text: Text,
+}
+
+/// What RESTORE would give of this rack: a line for each file, users by number and the files of a user by full name, and
+/// `RESTORABLE FROM DUMP n`; or the one line of its refusal. All reels have to be mounted; they are only read.
+/// `TapeUnread`, `NoMemory`.
+pub fn restorable<T: Tapes>(alloc: Global, tapes: &mut T) -> Result<Given, LookFault>
+    requires mounted { All (λ r. r.mounted ≡ true) (T.rack tapes.old).reels }
+    ensures tapes { ReadsRackByCause (result ≡ Err LookFault.TapeUnread) (T.rack tapes.old) (T.rack tapes.new) }
+    ensures faults { IfErr result (λ e. (e ≡ LookFault.TapeUnread) ⊎ (e ≡ LookFault.NoMemory)) }
+{
+    let found = match see_rack(alloc, tapes) {
+        Ok(found) => found,
+        Err(fault) => return Err(fault),
+    };
+    match fold(alloc, found.as_slice()) {
+        Ok(dumped) => lines_of(alloc, dumped),
+        Err(StoreFault::NoDump) => refused(alloc, &StoreFault::NoDump),
+        Err(StoreFault::LostDirectory(user)) => refused(alloc, &StoreFault::LostDirectory(user)),
+        Err(StoreFault::LostCopy(full, serial)) => {
+            refused(alloc, &StoreFault::LostCopy(full, serial))
+        }
+        Err(_) => Err(LookFault::NoMemory),
+    }
+}
+
+/// The line of a refusal.
+fn refused(alloc: Global, fault: &StoreFault) -> Result<Given, LookFault>
+    requires printed { IsPrinted fault.now }
+    ensures text { IfOk result (λ g. g.text ≡ ended (codes "REFUSED " ++ fault_line fault.now)) }
+    ensures given { IfOk result (λ g. g.given ≡ false) }
+    ensures faults { IfErr result (λ e. e ≡ LookFault.NoMemory) }
+{
+    let mut text = Text::new(alloc);
+    text.extend(b"REFUSED ")?;
+    push_fault(&mut text, fault)?;
+    text.push(b'\n')?;
+    Ok(Given { given: false, text })
+}
+
+/// The lines of a dumped directory.
+fn lines_of(alloc: Global, dumped: Dumped) -> Result<Given, LookFault>
+    requires records { IsRecords dumped.users.items dumped.files.items }
+    ensures given { IfOk result (λ g. g.given ≡ true) }
+    ensures faults { IfErr result (λ e. e ≡ LookFault.NoMemory) }
+{
+    let Dumped {
+        number,
+        next_stamp: _,
+        users,
+        files,
+    } = dumped;
+    let tree = match Tree::from_records(alloc, users, files) {
+        Ok(tree) => tree,
+        Err(_) => return Err(LookFault::NoMemory),
+    };
+    let mut text = Text::new(alloc);
+    push_tree(alloc, &mut text, &tree)?;
+    push_told(&mut text, b"RESTORABLE FROM DUMP ", number)?;
+    text.push(b'\n')?;
+    Ok(Given { given: true, text })
+}
+
+/// Puts the lines of all files behind the text.
+fn push_tree(alloc: Global, text: &mut Text, tree: &Tree) -> Result<(), NoMemory> {
+    for user in tree.users() {
+        match push_files(alloc, text, tree, user.number) {
+            Ok(()) => {}
+            Err(fault) => return Err(fault),
+        }
+    }
+    Ok(())
+}
+
+/// Puts the lines of the user's files behind the text.
+fn push_files(alloc: Global, text: &mut Text, tree: &Tree, user: u8) -> Result<(), NoMemory> {
+    let numbers = tree.listing(alloc, user)?;
+    for number in numbers.as_slice() {
+        match push_numbered(text, tree, *number) {
+            Ok(()) => {}
+            Err(fault) => return Err(fault),
+        }
+    }
+    Ok(())
+}
+
+/// Puts the line of the file of this number behind the text.
+fn push_numbered(text: &mut Text, tree: &Tree, number: u16) -> Result<(), NoMemory> {
+    match tree.full_name(number) {
+        Some(full) => match tree.file_at(number) {
+            Some(file) => push_line(text, &full, tree.users(), file),
+            None => Ok(()),
+        },
+        None => Ok(()),
+    }
+}
+
+/// Puts the line of a file behind the text: an empty one counts as on the disc.
+fn push_line(
+    text: &mut Text,
+    full: &Full,
+    users: &[UserRec],
+    file: &FileRec,
+) -> Result<(), NoMemory>
+    ensures { OnOk result (text.new ≡ text.old ++ ended (dumped_file_line full.now users.now file.now)) }
+{
+    push_file(text, full, users, file)?;
+    if file.len == 0 {
+        text.extend(b" DISC")?;
+    }
+    push_taped(text, &file.tape)?;
+    text.push(b'\n')
+}
