@@ -2,6 +2,7 @@ pub mod DemoLemmas
 pub mod DumpLemmas
 pub mod EndedLemmas
 pub mod FallLemmas
+pub mod FilestoreLemmas
 pub mod InputLemmas
 pub mod KeptLemmas
 pub mod LawLemmas

@@ -1,6 +1,4 @@
 -- What the run over the boxes did, it did over what is in them.
-use Rattle.std.proofs.Common.{refl}
-use Rattle.g_run.specs.Over.{both}
 use Rattle.g_run.proofs.OverLemmas.{both_is, carried, nothing_done}
 use Rattle.g_run.proofs.over.run_boxed.Goals as goal
 
