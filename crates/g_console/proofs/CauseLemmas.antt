@@ -34,7 +34,6 @@ module _ {A : Type 0} (answer : Result A StoreFault) (old new : Devices) (is : O
         cuts_rose = none_failed old new cut is.tape_writes;
         no_disc_read = λ e. disc;
         no_tape_read = λ e. tape;
-        no_cut = λ e. (cut, is.tape_writes);
         disc_armed = RoseBy-none is.disc.arms;
         tape_armed = RoseBy-none is.tape_arms;
       }
@@ -46,7 +45,6 @@ module _ {A : Type 0} (answer : Result A StoreFault) (old new : Devices) (is : O
         cuts_rose = none_failed old new cut is.tape_writes;
         no_disc_read = λ e. one_zero e;
         no_tape_read = λ e. tape;
-        no_cut = λ e. (cut, is.tape_writes);
         disc_armed = RoseBy-none is.disc.arms;
         tape_armed = RoseBy-none is.tape_arms;
       }
@@ -58,7 +56,6 @@ module _ {A : Type 0} (answer : Result A StoreFault) (old new : Devices) (is : O
         cuts_rose = none_failed old new cut is.tape_writes;
         no_disc_read = λ e. disc;
         no_tape_read = λ e. one_zero e;
-        no_cut = λ e. (cut, is.tape_writes);
         disc_armed = RoseBy-none is.disc.arms;
         tape_armed = RoseBy-none is.tape_arms;
       }
@@ -70,7 +67,6 @@ module _ {A : Type 0} (answer : Result A StoreFault) (old new : Devices) (is : O
         cuts_rose = disc_failed old new (is.disc.writes_rose told.told) is.tape_writes;
         no_disc_read = λ e. disc;
         no_tape_read = λ e. tape;
-        no_cut = λ e. one_zero e;
         disc_armed = RoseBy-none is.disc.arms;
         tape_armed = RoseBy-none is.tape_arms;
       }

@@ -62,7 +62,6 @@ disc_counted k d = record {
   cuts_rose = none_failed d (disc_armed k d) refl refl;
   no_disc_read = λ e. refl;
   no_tape_read = λ e. refl;
-  no_cut = λ e. (refl, refl);
   disc_armed = RoseBy-one refl;
   tape_armed = RoseBy-none refl;
 }
@@ -74,7 +73,6 @@ tape_counted k d = record {
   cuts_rose = none_failed d (tape_armed k d) refl refl;
   no_disc_read = λ e. refl;
   no_tape_read = λ e. refl;
-  no_cut = λ e. (refl, refl);
   disc_armed = RoseBy-none refl;
   tape_armed = RoseBy-one refl;
 }

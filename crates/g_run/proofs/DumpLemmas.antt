@@ -23,7 +23,7 @@ use Rattle.g_tape.specs.Rack.{Rack, is_mounted, reel}
 use Rattle.g_tape.specs.Reel.{Reel, Remains, Shortened, Torn, Unchanged, ending, left_by}
 use Rattle.g_world.specs.Devices.{Devices}
 use Rattle.g_world.specs.Events.{IsDumpStep}
-use Rattle.g_world.specs.Moves.{EventCounted, dump_told}
+use Rattle.g_world.specs.Moves.{DumpCounted, dump_told}
 use Rattle.g_world.specs.Texts.{dump_text, operator_line}
 use Rattle.g_world.specs.World.{Stepped as HasStepped, World}
 use Rattle.g_world.proofs.EventToldLemmas.{dump_told as step_told}
@@ -166,7 +166,7 @@ module _ (old new : StoreFacts) (unspent : old.spent ≡ false) (c : CrewState) 
     dump : OpenDump
     opened : w.store.open_dump ≡ Some dump
     step : IsDumpStep w.store outcome answer state
-    counted : EventCounted outcome 0 0 (devices_in (Up old)) (devices_in (Up new))
+    counted : DumpCounted outcome (devices_in (Up old)) (devices_in (Up new))
     stands : StandsForState new state
     number : dump.number ≡ is.dump.plan.number
     down : answer ≡ Err Stopped → state.up ≡ false
@@ -207,7 +207,7 @@ module _ (old new : StoreFacts) (unspent : old.spent ≡ false) (c : CrewState) 
     opened = k.opened;
     event = k.step;
     next_is = refl;
-    counted = subst (λ (d : Devices). EventCounted k.outcome 0 0 (devices_in (Up old)) d) (sym same) k.counted;
+    counted = subst (λ (d : Devices). DumpCounted k.outcome (devices_in (Up old)) d) (sym same) k.counted;
     stands = subst (λ (u : State). StandsAs system u) (sym (told_store k.dump.number answer k.state w)) stands;
     text = dump_adds k.dump.number answer k.state w
         ∙ ap (λ (n : ℕ). w.text ++ dump_added n k.dump.number answer w.jobs) m.count

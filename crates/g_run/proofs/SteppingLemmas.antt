@@ -15,8 +15,8 @@ use Rattle.g_step.specs.DumpSteps.{Completed, Going, Stepped}
 use Rattle.g_tape.specs.Rack.{Rack}
 use Rattle.g_world.specs.Devices.{Devices}
 use Rattle.g_world.specs.Events.{OutcomeTold}
-use Rattle.g_world.specs.Moves.{EventCounted}
-use Rattle.g_world.proofs.CountLemmas.{disc_failed, happened_same, none_failed, none_rose, rack_failed}
+use Rattle.g_world.specs.Moves.{DumpCounted}
+use Rattle.g_world.proofs.CountLemmas.{dump_failed, happened_same, none_failed, none_rose, rack_failed}
 
 abbrev both : OnlineFacts → Rack → Devices
 both o r = record { disc = o.disc; rack = r }
@@ -46,15 +46,15 @@ not_stopped : (let ok : Result (Unit {0}) OnlineFault = Ok tt in ok ≡ Err onli
 not_stopped e = cc
 
 module _ (d d2 : DumpFacts) (o o2 : OnlineFacts) (r r2 : Rack) where
-  going : WroteBlock d o.pins r r2 → o2 ≡ o → EventCounted Plain 0 0 (both o r) (both o2 r2)
+  going : WroteBlock d o.pins r r2 → o2 ≡ o → DumpCounted Plain (both o r) (both o2 r2)
   going wrote is = happened_same (both o r) (both o2 r2) (ap (λ (x : OnlineFacts). x.disc.read_faults) is) (ap (λ (x : OnlineFacts). x.disc.write_faults) is) (ap (λ (x : OnlineFacts). x.disc.arms) is)
       (block_reads d o.pins r r2 wrote) (block_writes d o.pins r r2 wrote) (block_arms d o.pins r r2 wrote)
 
-  done : (n : ℕ) → WroteBlock d o.pins r r2 → IsClosing n o o2 (Ok tt) → EventCounted Plain 0 0 (both o r) (both o2 r2)
+  done : (n : ℕ) → WroteBlock d o.pins r r2 → IsClosing n o o2 (Ok tt) → DumpCounted Plain (both o r) (both o2 r2)
   done n wrote closing = happened_same (both o r) (both o2 r2) (closing.causes.reads_kept (λ x. x)) (closing.causes.writes_kept not_stopped) closing.causes.arms
       (block_reads d o.pins r r2 wrote) (block_writes d o.pins r r2 wrote) (block_arms d o.pins r r2 wrote)
 
-  unread : Abandoned d o o2 → r2 ≡ r → EventCounted DiscRead 0 0 (both o r) (both o2 r2)
+  unread : Abandoned d o o2 → r2 ≡ r → DumpCounted DiscRead (both o r) (both o2 r2)
   unread gone is =
       let writes = ap (λ (x : OnlineFacts). x.disc.write_faults) gone.facts in
       record {
@@ -63,12 +63,11 @@ module _ (d d2 : DumpFacts) (o o2 : OnlineFacts) (r r2 : Rack) where
         cuts_rose = none_failed (both o r) (both o2 r2) writes (ap (λ (x : Rack). x.write_faults) is);
         no_disc_read = λ e. one_zero e;
         no_tape_read = λ e. ap (λ (x : Rack). x.read_faults) is;
-        no_cut = λ e. (writes, ap (λ (x : Rack). x.write_faults) is);
         disc_armed = RoseBy-none (ap (λ (x : OnlineFacts). x.disc.arms) gone.facts);
         tape_armed = RoseBy-none (ap (λ (x : Rack). x.arms) is);
       }
 
-  tape_cut : FailedWrite d r r2 → o2 ≡ o → EventCounted Cut 0 0 (both o r) (both o2 r2)
+  tape_cut : FailedWrite d r r2 → o2 ≡ o → DumpCounted Cut (both o r) (both o2 r2)
   tape_cut failed is =
       let reads = ap (λ (x : Rack). x.read_faults) failed.rack in
       record {
@@ -77,28 +76,26 @@ module _ (d d2 : DumpFacts) (o o2 : OnlineFacts) (r r2 : Rack) where
         cuts_rose = rack_failed (both o r) (both o2 r2) (ap (λ (x : OnlineFacts). x.disc.write_faults) is) failed.rose;
         no_disc_read = λ e. ap (λ (x : OnlineFacts). x.disc.read_faults) is;
         no_tape_read = λ e. reads;
-        no_cut = λ e. one_zero e;
         disc_armed = RoseBy-none (ap (λ (x : OnlineFacts). x.disc.arms) is);
         tape_armed = RoseBy-none (ap (λ (x : Rack). x.arms) failed.rack);
       }
 
-  disc_cut : (n : ℕ) → WroteBlock d o.pins r r2 → IsClosing n o o2 (Err online.Stopped) → EventCounted Cut 0 0 (both o r) (both o2 r2)
+  disc_cut : (n : ℕ) → WroteBlock d o.pins r r2 → IsClosing n o o2 (Err online.Stopped) → DumpCounted Cut (both o r) (both o2 r2)
   disc_cut n wrote closing = record {
     disc_reads_rose = none_rose o.disc.read_faults o2.disc.read_faults (closing.causes.reads_kept (λ x. x));
     tape_reads_rose = none_rose r.read_faults r2.read_faults (block_reads d o.pins r r2 wrote);
-    cuts_rose = disc_failed (both o r) (both o2 r2) (closing.causes.writes_rose refl) (block_writes d o.pins r r2 wrote);
+    cuts_rose = dump_failed (both o r) (both o2 r2) (closing.causes.writes_rose refl) (block_writes d o.pins r r2 wrote);
     no_disc_read = λ e. closing.causes.reads_kept (λ x. x);
     no_tape_read = λ e. block_reads d o.pins r r2 wrote;
-    no_cut = λ e. one_zero e;
     disc_armed = RoseBy-none closing.causes.arms;
     tape_armed = RoseBy-none (block_arms d o.pins r r2 wrote);
   }
 
-  at_outcome : (outcome other : Outcome) → outcome ≡ other → EventCounted other 0 0 (both o r) (both o2 r2) → EventCounted outcome 0 0 (both o r) (both o2 r2)
-  at_outcome outcome other is counted = subst (λ (x : Outcome). EventCounted x 0 0 (both o r) (both o2 r2)) (sym is) counted
+  at_outcome : (outcome other : Outcome) → outcome ≡ other → DumpCounted other (both o r) (both o2 r2) → DumpCounted outcome (both o r) (both o2 r2)
+  at_outcome outcome other is counted = subst (λ (x : Outcome). DumpCounted x (both o r) (both o2 r2)) (sym is) counted
 
   -- A STEP
-  pub stepping_counted : (answer : Result Stepped StoreFault) (outcome : Outcome) → Stepping d o r answer d2 o2 r2 → OutcomeTold outcome answer → EventCounted outcome 0 0 (both o r) (both o2 r2)
+  pub stepping_counted : (answer : Result Stepped StoreFault) (outcome : Outcome) → Stepping d o r answer d2 o2 r2 → OutcomeTold outcome answer → DumpCounted outcome (both o r) (both o2 r2)
   stepping_counted (Ok Going) outcome (more, dump, is, wrote) told = at_outcome outcome Plain (plain_ok Going outcome told) (going wrote is)
   stepping_counted (Ok (Completed n)) outcome (last, number, plan, wrote, closing) told = at_outcome outcome Plain (plain_ok (Completed n) outcome told) (done n wrote closing)
   stepping_counted (Err DiscReadFault) outcome (dump, is, gone) told = at_outcome outcome DiscRead (told.disc_read refl) (unread gone is)

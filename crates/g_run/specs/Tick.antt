@@ -19,7 +19,7 @@ use Rattle.g_console.specs.Parts.{IsReady, Matches, Seen}
 use Rattle.g_console.specs.Puts.{FaultCause}
 use Rattle.g_console.specs.System.{Down, DumpsGrow, SameDevices, StandsAs, SystemBelongs, SystemFacts, Up, devices_in}
 use Rattle.g_world.specs.Events.{IsDumpStep}
-use Rattle.g_world.specs.Moves.{EventCounted, Move, MovesCounted, Run, dump_told}
+use Rattle.g_world.specs.Moves.{DumpCounted, Move, MovesCounted, Run, dump_told}
 use Rattle.g_world.specs.World.{Between, KeepsLines, Phase, Stepped, Turned, World, able, has_none, is_due, is_dumping, nothing_steps}
 
 -- between two ticks
@@ -95,7 +95,7 @@ pub record StepsTo (w : World) (old new : SystemFacts) (next : World) (added : L
   pub opened : w.store.open_dump ≡ Some dump
   pub event : IsDumpStep w.store outcome answer state
   pub next_is : next ≡ dump_told dump.number answer state w
-  pub counted : EventCounted outcome 0 0 (devices_in old) (devices_in new)
+  pub counted : DumpCounted outcome (devices_in old) (devices_in new)
   pub stands : StandsAs new next.store
   pub text : next.text ≡ w.text ++ added
   pub phase : next.phase ≡ phase_behind new

@@ -1,5 +1,5 @@
 -- A run is a list of moves of the world, one for each event.
-use Rattle.std.specs.Prelude.{◌≡◌, ◌⊎◌, ℕ, ◌+◌, true, false, List, [], ◌∷◌, ◌++◌, map, slice_get, Option, Some, None, Result, Ok, Err, codes}
+use Rattle.std.specs.Prelude.{◌≡◌, ◌⊎◌, ℕ, ◌+◌, Bool, true, false, List, [], ◌∷◌, ◌++◌, map, filter, slice_get, Option, Some, None, Result, Ok, Err, codes}
 use Rattle.std.specs.Fmt.{decimal}
 use Rattle.std.specs.Fn.{Shared}
 use denote.Ref.{Bor}
@@ -117,43 +117,66 @@ abbrev pub counted : (Outcome → ℕ) → List Move → ℕ
 counted f [] = 0
 counted f (move ∷ moves) = f (outcome_of move) + counted f moves
 
--- So many writes failed. Each was one device's: some the disc's, the others the rack's; and where none was a device's, its
--- count stands still.
-pub record WritesFailed (n : ℕ) (old new : Devices) : Type 0 where
+-- a step of the open dump, the one event that writes a tape; and any other move
+abbrev pub is_dump : Move → Bool
+is_dump (TakeLine outcome) = false
+is_dump (Dumped outcome) = true
+is_dump (Begin number) = false
+is_dump (Answered outcome) = false
+is_dump (TurnOver number charge) = false
+is_dump Ticked = false
+is_dump Over = false
+
+abbrev pub not_dump : Move → Bool
+not_dump (TakeLine outcome) = true
+not_dump (Dumped outcome) = false
+not_dump (Begin number) = true
+not_dump (Answered outcome) = true
+not_dump (TurnOver number charge) = true
+not_dump Ticked = true
+not_dump Over = true
+
+-- the cuts of calls and lines, and those of steps of a dump
+abbrev pub cuts_of_calls : List Move → ℕ
+cuts_of_calls moves = counted cuts_in (filter not_dump moves)
+
+abbrev pub cuts_of_dumps : List Move → ℕ
+cuts_of_dumps moves = counted cuts_in (filter is_dump moves)
+
+-- So many writes failed: those of calls and lines, each of the disc, and those of steps of a dump, each of one device, the disc or
+-- the rack; and where none was a device's, its count stands still.
+pub record WritesFailed (calls dumps : ℕ) (old new : Devices) : Type 0 where
   pub of_disc : ℕ
   pub of_rack : ℕ
-  pub together : of_disc + of_rack ≡ n
-  pub disc_rose : HasRisenBy of_disc old.disc.write_faults new.disc.write_faults
+  pub together : of_disc + of_rack ≡ dumps
+  pub disc_rose : HasRisenBy (calls + of_disc) old.disc.write_faults new.disc.write_faults
   pub rack_rose : HasRisenBy of_rack old.rack.write_faults new.rack.write_faults
-  pub no_disc : of_disc ≡ 0 → new.disc.write_faults ≡ old.disc.write_faults
+  pub no_disc : calls ≡ 0 → of_disc ≡ 0 → new.disc.write_faults ≡ old.disc.write_faults
   pub no_rack : of_rack ≡ 0 → new.rack.write_faults ≡ old.rack.write_faults
 
--- A run has at most as many failed reads of each device, and failed writes of both, as the counts rose; a count that
--- moved has one. Each STOP line that was done armed its device once, and nobody else did.
-pub record Counted (moves : List Move) (last : World) (old new : Devices) : Type 0 where
-  pub disc_reads : HasRisenBy (counted disc_reads_in moves) old.disc.read_faults new.disc.read_faults
-  pub tape_reads : HasRisenBy (counted tape_reads_in moves) old.rack.read_faults new.rack.read_faults
-  pub cuts : WritesFailed (counted cuts_in moves) old new
-  pub no_disc_read : counted disc_reads_in moves ≡ 0 → new.disc.read_faults ≡ old.disc.read_faults
-  pub no_tape_read : counted tape_reads_in moves ≡ 0 → new.rack.read_faults ≡ old.rack.read_faults
-  pub no_cut : counted cuts_in moves ≡ 0 → (new.disc.write_faults ≡ old.disc.write_faults) × (new.rack.write_faults ≡ old.rack.write_faults)
-  pub disc_arms : RoseBy last.disc_stops old.disc.arms new.disc.arms
-  pub tape_arms : RoseBy last.tape_stops old.rack.arms new.rack.arms
-
--- What the devices counted: so many failed reads of each and failed writes of both at most, none where there were none, and so many armings of each.
-pub record Happened (disc_reads tape_reads cuts disc_arms tape_arms : ℕ) (old new : Devices) : Type 0 where
+-- What the devices counted: so many failed reads of each, and failed writes of calls and lines, and of dumps, at most; none where there were none;
+-- and so many armings of each.
+pub record Happened (disc_reads tape_reads calls dumps disc_arms tape_arms : ℕ) (old new : Devices) : Type 0 where
   pub disc_reads_rose : HasRisenBy disc_reads old.disc.read_faults new.disc.read_faults
   pub tape_reads_rose : HasRisenBy tape_reads old.rack.read_faults new.rack.read_faults
-  pub cuts_rose : WritesFailed cuts old new
+  pub cuts_rose : WritesFailed calls dumps old new
   pub no_disc_read : disc_reads ≡ 0 → new.disc.read_faults ≡ old.disc.read_faults
   pub no_tape_read : tape_reads ≡ 0 → new.rack.read_faults ≡ old.rack.read_faults
-  pub no_cut : cuts ≡ 0 → (new.disc.write_faults ≡ old.disc.write_faults) × (new.rack.write_faults ≡ old.rack.write_faults)
   pub disc_armed : RoseBy disc_arms old.disc.arms new.disc.arms
   pub tape_armed : RoseBy tape_arms old.rack.arms new.rack.arms
 
--- in one event with this outcome, and in a part of a run
+-- in one call or line with this outcome; in a step of a dump; and in a part of a run
 abbrev pub EventCounted : Outcome → ℕ → ℕ → Devices → Devices → Type 0
-EventCounted o disc_arms tape_arms old new = Happened (disc_reads_in o) (tape_reads_in o) (cuts_in o) disc_arms tape_arms old new
+EventCounted o disc_arms tape_arms old new = Happened (disc_reads_in o) (tape_reads_in o) (cuts_in o) 0 disc_arms tape_arms old new
+
+abbrev pub DumpCounted : Outcome → Devices → Devices → Type 0
+DumpCounted o old new = Happened (disc_reads_in o) (tape_reads_in o) 0 (cuts_in o) 0 0 old new
 
 abbrev pub MovesCounted : List Move → ℕ → ℕ → Devices → Devices → Type 0
-MovesCounted moves disc_arms tape_arms old new = Happened (counted disc_reads_in moves) (counted tape_reads_in moves) (counted cuts_in moves) disc_arms tape_arms old new
+MovesCounted moves disc_arms tape_arms old new =
+    Happened (counted disc_reads_in moves) (counted tape_reads_in moves) (cuts_of_calls moves) (cuts_of_dumps moves) disc_arms tape_arms old new
+
+-- A run has at most as many failed reads of each device, and failed writes of both, as the counts rose; a count that
+-- moved has one. A failed write of a call or of a line is the disc's. Each STOP line that was done armed its device once, and nobody else did.
+abbrev pub Counted : List Move → World → Devices → Devices → Type 0
+Counted moves last old new = MovesCounted moves last.disc_stops last.tape_stops old new

@@ -1,16 +1,13 @@
 -- Whose a failed write is, and what a fuse is.
-use Rattle.std.proofs.Common.{◌≡◌, ℕ, zero, suc, ◌+◌, ◌≤◌, List, [], ◌∷◌, ◌++◌, Option, Some, None, refl, sym, ◌∙◌, ap, subst, arith}
-use Rattle.std.specs.Prelude.{◌≢◌, Bool, true, false, All, cond, filter}
+use Rattle.std.proofs.Common.{◌≡◌, ℕ, zero, suc, ◌+◌, ◌≤◌, List, [], ◌∷◌, Option, Some, None, refl, sym, ◌∙◌, ap, arith}
+use Rattle.std.specs.Prelude.{◌≢◌, Bool, true, false, cond, filter}
 use Rattle.std.specs.List.{AllByRecursion}
 use Rattle.std.proofs.lemmas.List.Elements.{All-from_recursion}
 use Rattle.g_base.specs.Fuse.{burnt}
-use Rattle.g_script.specs.declared.operator.Operator.{Operator}
-use Rattle.g_script.specs.declared.operator.Timed.{Timed}
 use Rattle.g_step.specs.CallStep.{Cut, Outcome}
-use Rattle.g_world.specs.Devices.{Devices}
-use Rattle.g_world.specs.Moves.{Move, counted, cuts_in, outcome_of}
-use Rattle.g_world_laws.specs.Cuts.{CutsAreOfTheDisc, TapesCutNoCall, not_dump}
-use Rattle.g_world_laws.specs.Fuses.{FusesGo, IsFuse, NumbersGo, burnt_by, last_number, later_of}
+use Rattle.g_world.specs.Moves.{Move, counted, cuts_in, cuts_of_calls, not_dump, outcome_of}
+use Rattle.g_world_laws.specs.Cuts.{TapesCutNoCall}
+use Rattle.g_world_laws.specs.Fuses.{FusesGo, NumbersGo, burnt_by, last_number, later_of}
 use Rattle.g_world_laws.proofs.UnrisenLemmas.{first_none, rest_none, unrisen}
 
 cut_is : (o : Outcome) → cuts_in o ≡ 0 → o ≢ Cut
@@ -32,7 +29,9 @@ uncut (move ∷ moves) none = by (not_dump move) refl none (λ rest. uncut moves
     by false is none again = ((λ dump. absurd (let both : true ≡ false = sym dump ∙ is in let no : ⊥ = cc in no)), again none)
 
 pub tapes_cut_no_call : TapesCutNoCall
-tapes_cut_no_call moves old new cuts none = All-from_recursion Uncut moves (uncut moves (unrisen (counted cuts_in (filter not_dump moves)) old.disc.write_faults new.disc.write_faults cuts.disc none))
+tapes_cut_no_call moves last old new counts none =
+    let cuts = counts.cuts_rose in
+    All-from_recursion Uncut moves (uncut moves (first_none (cuts_of_calls moves) cuts.of_disc (unrisen (cuts_of_calls moves + cuts.of_disc) old.disc.write_faults new.disc.write_faults cuts.disc_rose none)))
 
 -- fuses
 burnt_both : (m n : ℕ) (fuse : Option ℕ) → burnt_by n (burnt_by m fuse) ≡ burnt_by (m + n) fuse

@@ -1,6 +1,6 @@
 -- An open dump of which no device fails, move by move.
-use Rattle.std.proofs.Common.{◌≡◌, ℕ, ◌+◌, ◌≤◌, ◌<◌, List, [], ◌∷◌, ◌++◌, Option, Some, None, refl, sym, ◌∙◌, ap, subst, inl, inr, arith}
-use Rattle.std.specs.Prelude.{◌≢◌, ◌⊎◌, ◌||◌, Bool, true, false, Result, Ok, Err, MatchOption, option_map, sum_by, if◌then◌else◌, All}
+use Rattle.std.proofs.Common.{◌≡◌, ℕ, ◌+◌, ◌<◌, List, [], ◌∷◌, Option, Some, None, refl, sym, ◌∙◌, ap, subst, inl, inr, arith}
+use Rattle.std.specs.Prelude.{◌≢◌, ◌⊎◌, ◌||◌, Bool, true, false, Result, Ok, Err, MatchOption, option_map, sum_by, if◌then◌else◌}
 use Rattle.std.specs.List.{AllByRecursion}
 use Rattle.std.proofs.lemmas.List.Elements.{recursion_from_All}
 use Rattle.std.proofs.lemmas.List.Sums.{sum_by-cons}
@@ -9,24 +9,21 @@ use denote.Ref.{Bor}
 use Rattle.g_budget.specs.declared.tariff.Charge.{Charge}
 use Rattle.g_budget.specs.declared.tariff.Usage.{Usage}
 use Rattle.g_sched.specs.declared.rule.Standing.{Standing}
-use Rattle.g_name.specs.declared.full.Full.{Full}
 use Rattle.g_plain.specs.PlainStep.{first_fault, reply_to}
 use Rattle.g_plain.specs.declared.calls.StoreCall.{StoreCall}
 use Rattle.g_plain.specs.declared.calls.StoreReply.{StoreReply}
 use Rattle.g_plain.specs.declared.faults.StoreFault.{StoreFault}
 use Rattle.g_plain.specs.declared.faults.StoreFault.TheVariants.{DiscReadFault, NoTape, NotMounted, Stopped, TapeBusy}
-use Rattle.g_script.specs.declared.operator.Timed.{Timed}
 use Rattle.g_step.specs.CallStep.{CallStep, Cut, DiscRead, LeftByRefusal, Outcome, Plain, Planned, TapeRead, after_call, brings_now, commits, down, early, held_after, late, touched_by, writes}
-use Rattle.g_step.specs.DumpSteps.{Completed, DumpStep, Event, Going, MigrateStep, MountStep, OpenStep, Stepped, UnmountStep, completed, dump_needs, is_busy, open_refuses, opening, uses}
-use Rattle.g_step.specs.Rising.{FormatStep, RestoreStep, Restores, StartStep, Starts, restore_early}
-use Rattle.g_step.specs.State.{Dumped as DumpedTree, Holding, OpenDump, State, is_mounted, lacks}
-use Rattle.g_world.specs.Events.{IsTold}
+use Rattle.g_step.specs.DumpSteps.{Completed, DumpStep, Event, Going, MigrateStep, OpenStep, Stepped, completed, is_busy, open_refuses, opening, uses}
+use Rattle.g_step.specs.Rising.{Restores, Starts, restore_early}
+use Rattle.g_step.specs.State.{Dumped as DumpedTree, Holding, OpenDump, State, lacks}
 use Rattle.g_world.specs.Laws.{IsPlain}
 use Rattle.g_world.specs.Moves.{Answered, Begin, Dumped, Move, Over, Run, Step, TakeLine, Ticked, TurnOver, outcome_of}
 use Rattle.g_world.specs.World.{World, start}
-use Rattle.g_world.proofs.EventToldLemmas.{ToldBy, call_told, migrate_told, open_told}
+use Rattle.g_world.proofs.EventToldLemmas.{call_told, migrate_told, open_told}
 use Rattle.g_world.proofs.TreeLemmas.{dump_store}
-use Rattle.g_world_laws.specs.Completes.{Completes, DumpsComplete, DumpsGoOn, IsCompleted, IsOpenAt}
+use Rattle.g_world_laws.specs.Completes.{Completes, DumpsComplete, DumpsGoOn, IsOpenAt}
 use Rattle.g_world_laws.specs.Dumps.{IsSameDump, dump_steps}
 use Rattle.g_world_laws.proofs.DumpLemmas.{one_dump, open_refused}
 use Rattle.g_world_laws.proofs.RefusedLemmas.{unstopped}

@@ -14,13 +14,13 @@ use Rattle.g_plain.specs.declared.calls.StoreReply.{StoreReply}
 use Rattle.g_plain.specs.declared.faults.StoreFault.{StoreFault}
 use Rattle.g_plain.specs.declared.faults.StoreFault.TheVariants.{DiscReadFault, Stopped}
 use Rattle.g_state.specs.Meaning.{told_reels}
-use Rattle.g_state.specs.Reading.{DevicesStandFor, IsView, View, holding_of}
+use Rattle.g_state.specs.Reading.{DevicesStandFor, IsView, holding_of}
 use Rattle.g_step.specs.CallStep.{Cut, DiscRead, LeftByRefusal, Outcome, Plain, Planned, TapeRead, after_call, brings_now, commits, down, early, held_after, late, no_longer_kept, touched_by, writes}
 use Rattle.g_step.specs.DumpSteps.{Completed, DumpStep, Event, Going, Stepped}
 use Rattle.g_step.specs.Rising.{Restores, Starts, restore_early}
 use Rattle.g_step.specs.State.{Dumped as DumpedTree, Holding, OpenDump, State}
 use Rattle.g_world.specs.Devices.{Devices, StandFor}
-use Rattle.g_world.specs.Moves.{Dumped, Move, Run, Step}
+use Rattle.g_world.specs.Moves.{Dumped, Move, Step}
 use Rattle.g_world.specs.World.{World}
 use Rattle.g_world.proofs.TreeLemmas.{dump_store}
 use Rattle.g_world_laws.specs.Filestores.{DevicesKeepFilestores, FilestoresStay, HasFilestore, HoldsOne}

@@ -1,31 +1,29 @@
 -- That devices have a state, new ones one without a filestore.
-use Rattle.std.proofs.Common.{◌≡◌, ℕ, zero, suc, ◌+◌, ◌<◌, ◌≤◌, List, [], ◌∷◌, ◌++◌, Contains, map, Option, Some, None, refl, sym, ◌∙◌, ap, subst, inl, inr, arith}
-use Rattle.std.specs.Prelude.{All, Bool, true, false, IfSome, drop, is_some, length, option_map, replicate, slice_get, take}
+use Rattle.std.proofs.Common.{◌≡◌, ℕ, zero, suc, ◌+◌, List, [], ◌∷◌, Contains, map, Option, Some, None, refl, sym, ◌∙◌, ap, subst, arith}
+use Rattle.std.specs.Prelude.{All, true, IfSome, drop, is_some, option_map, replicate, slice_get, take}
 use Rattle.std.specs.List.{AllByRecursion}
 use Rattle.std.proofs.lemmas.List.Elements.{All-contains, All-contains_itself, All-from_recursion, All-weaker, recursion_from_All}
 use Rattle.std.proofs.lemmas.List.Sorted.{Contains-permutation, IsPermutation-sym}
 use Rattle.g_contents.specs.Contents.{Contents, Holds}
 use Rattle.g_dirs.specs.Image.{block_of}
-use Rattle.g_disc.specs.Memory.{blank}
 use Rattle.g_base.specs.Fields.{padded}
 use Rattle.g_entry.specs.HeadFields.{head_fields}
 use Rattle.g_incr.proofs.ListLemmas.{get_drop, get_take}
 use Rattle.g_incr.specs.Layout.{Dump, dump_blocks, size_of}
-use Rattle.g_shelf.specs.Completed.{AreCompleted, AreShelved, IsNext, all_dumps}
-use Rattle.g_slots.specs.Layout.{current, gate_side, slot, start_of}
+use Rattle.g_shelf.specs.Completed.{AreCompleted, IsNext, all_dumps}
+use Rattle.g_slots.specs.Layout.{gate_side, slot, start_of}
 use Rattle.g_slots.specs.declared.side.Side.{Side}
-use Rattle.g_slots.specs.declared.side.Side.TheVariants.{A, B}
-use Rattle.g_state.specs.Belong.{Belong, BelongWith, DiscBelongs, RackBelongs}
-use Rattle.g_state.specs.Meaning.{DumpedDirectory, told_reels}
-use Rattle.g_state.specs.Reading.{AllTold, DevicesStandFor, IsView, ReelsTold, holding_of, state_down}
+use Rattle.g_state.specs.Belong.{BelongWith, RackBelongs}
+use Rattle.g_state.specs.Meaning.{told_reels}
+use Rattle.g_state.specs.Reading.{AllTold, DevicesStandFor, IsView, holding_of}
 use Rattle.g_state_laws.specs.States.{AreContents, HaveStates}
 use Rattle.g_step.specs.State.{Holding, State}
 use Rattle.g_tape.specs.Memory.{IsEmptyRack, Memory}
 use Rattle.g_tape.specs.Reads.{unread}
 use Rattle.g_tape.specs.Reel.{Reel, empty_reel_of}
-use Rattle.g_world.specs.Devices.{Devices, StandFor}
-use Rattle.g_world_laws.specs.Anew.{AreEmptied, EmptiedStand, with_new_disc}
-use Rattle.g_world_laws.specs.Fresh.{AreNew, NewDevicesStand, NewState, NotStateless}
+use Rattle.g_world.specs.Devices.{Devices}
+use Rattle.g_world_laws.specs.Anew.{EmptiedStand, with_new_disc}
+use Rattle.g_world_laws.specs.Fresh.{NewDevicesStand, NewState, NotStateless}
 
 -- THERE IS A STATE, since there would be one of any contents, and one of none
 pub not_stateless : HaveStates → NotStateless

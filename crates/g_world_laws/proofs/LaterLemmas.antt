@@ -1,5 +1,5 @@
 -- A START behind any move, and in a later run.
-use Rattle.std.proofs.Common.{◌≡◌, ℕ, List, Option, Some, None, option_map, refl, ◌∙◌, ap, inl, inr}
+use Rattle.std.proofs.Common.{◌≡◌, ℕ, Option, Some, None, option_map, refl, ◌∙◌, ap, inl, inr}
 use Rattle.std.specs.Prelude.{◌⊎◌}
 use Rattle.std.specs.Fn.{Shared}
 use denote.Ref.{Bor}
@@ -11,9 +11,8 @@ use Rattle.g_state.specs.One.{DevicesAreOne}
 use Rattle.g_step.specs.CallStep.{down, no_longer_kept}
 use Rattle.g_step.specs.State.{Holding, State}
 use Rattle.g_world.specs.Accounts.{tree_of}
-use Rattle.g_world.specs.Devices.{Devices, StandFor}
 use Rattle.g_world.specs.Laws.{AllOrNothing, tree_behind}
-use Rattle.g_world.specs.World.{World, start}
+use Rattle.g_world.specs.World.{start}
 use Rattle.g_world_laws.specs.Fresh.{StatesAreOne}
 use Rattle.g_world_laws.specs.Later.{LaterRunsKeep, StartIsBehind}
 use Rattle.g_world_laws.proofs.RefusedLemmas.{keeping}

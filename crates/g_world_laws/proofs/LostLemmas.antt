@@ -11,8 +11,8 @@ use Rattle.g_plain.specs.declared.faults.StoreFault.{StoreFault}
 use Rattle.g_plain.specs.declared.faults.StoreFault.TheVariants.{DiscReadFault, NoDump, RackNotMounted, Stopped, TapeReadFault}
 use Rattle.g_plain.specs.PlainStep.{first_fault}
 use Rattle.g_step.specs.CallStep.{Cut, DiscRead, Outcome, Plain, TapeRead, down, is_tape_read}
-use Rattle.g_step.specs.DumpSteps.{Completed, DumpStep, Event, Going, Stepped, completed, marked, uses, with_used}
-use Rattle.g_step.specs.Rising.{IsLost, Restores, RestoreStep, fault_from, has_none, restore_early, restore_late}
+use Rattle.g_step.specs.DumpSteps.{Completed, DumpStep, Event, Going, Stepped, uses, with_used}
+use Rattle.g_step.specs.Rising.{IsLost, Restores, fault_from, has_none, restore_early, restore_late}
 use Rattle.g_step.specs.State.{Dumped as DumpedTree, Holding, OpenDump, ReelRow, State, first_reel, with_reel}
 use Rattle.g_world.specs.Laws.{HasDumped}
 use Rattle.g_world.specs.Moves.{Dumped, Move, Run, Step}

@@ -14,7 +14,7 @@ use Rattle.g_job.specs.Ends.{IsPriced, turn_end}
 use Rattle.g_job.specs.State.{JobState}
 use Rattle.g_job.specs.Turns.{turn_work}
 use Rattle.g_job.specs.declared.turn.Turn.{Turn}
-use Rattle.g_plain.specs.Asks.{Answer, Asks, Call, Gives}
+use Rattle.g_plain.specs.Asks.{Asks, Call, Gives}
 use Rattle.g_plain.specs.PlainTree.{Tree}
 use Rattle.g_plain.specs.Plainly.{PlainOrDevice, RanPlainly}
 use Rattle.g_sched.specs.declared.rule.Standing.{Standing}
@@ -30,7 +30,7 @@ use Rattle.g_world.proofs.CrewLemmas.{listed, one_job}
 use Rattle.g_world.proofs.EndsLemmas.{begun, run_goes}
 use Rattle.g_world.proofs.StepLemmas.{tree_held}
 use Rattle.g_world.proofs.TreeLemmas.{turn_store}
-use Rattle.g_world_laws.specs.Turns.{IsBehindCalls, IsWithin, PrintsPlainly, TurnsPrintPlainly}
+use Rattle.g_world_laws.specs.Turns.{IsBehindCalls, IsWithin, TurnsPrintPlainly}
 
 one_tree : (a b : Tree) → (let one : Option Tree = Some a in one ≡ Some b) → a ≡ b
 one_tree a b e = cc

@@ -1,6 +1,6 @@
 -- Where no count rose.
-use Rattle.std.proofs.Common.{◌≡◌, ℕ, zero, suc, ◌+◌, ◌≤◌, List, [], ◌∷◌, refl, ap, arith}
-use Rattle.std.specs.Prelude.{◌-◌, ◌^◌, min, max, All}
+use Rattle.std.proofs.Common.{◌≡◌, ℕ, zero, suc, ◌+◌, ◌≤◌, List, [], ◌∷◌, refl, arith, sym}
+use Rattle.std.specs.Prelude.{◌-◌, ◌^◌, min}
 use Rattle.std.specs.List.{AllByRecursion}
 use Rattle.std.proofs.lemmas.List.Elements.{All-from_recursion}
 use Rattle.std.specs.Fn.{Shared}
@@ -11,8 +11,9 @@ use Rattle.g_budget.specs.declared.tariff.Usage.{Usage}
 use Rattle.g_sched.specs.declared.rule.Standing.{Standing}
 use Rattle.g_step.specs.CallStep.{Cut, DiscRead, Outcome, Plain, TapeRead}
 use Rattle.g_world.specs.Laws.{IsPlain, OneText}
-use Rattle.g_world.specs.Moves.{Counted, Move, WritesFailed, counted, cuts_in, disc_reads_in, outcome_of, tape_reads_in}
+use Rattle.g_world.specs.Moves.{Move, WritesFailed, counted, cuts_in, cuts_of_calls, cuts_of_dumps, disc_reads_in, outcome_of, tape_reads_in}
 use Rattle.g_world.specs.Devices.{Devices}
+use Rattle.g_world.proofs.CountLemmas.{counted_parts}
 use Rattle.g_world.proofs.DeviceDumpLemmas.{devices_dumped}
 use Rattle.g_world_laws.specs.Unrisen.{NothingRose, UnrisenIsPlain, UnrisenTextIsOne}
 
@@ -45,16 +46,19 @@ all_plain (move ∷ moves) d t c = (
   all_plain moves (rest_none (disc_reads_in (outcome_of move)) (counted disc_reads_in moves) d) (rest_none (tape_reads_in (outcome_of move)) (counted tape_reads_in moves) t) (rest_none (cuts_in (outcome_of move)) (counted cuts_in moves) c),
 )
 
-no_cuts : (n : ℕ) (old new : Devices) → WritesFailed n old new → NothingRose old new → n ≡ 0
-no_cuts n old new failed none =
-    none_of failed.of_disc failed.of_rack n failed.together (unrisen failed.of_disc old.disc.write_faults new.disc.write_faults failed.disc_rose none.disc_writes)
-    (unrisen failed.of_rack old.rack.write_faults new.rack.write_faults failed.rack_rose none.tape_writes)
+no_cuts : (calls dumps : ℕ) (old new : Devices) → WritesFailed calls dumps old new → NothingRose old new → (calls ≡ 0) × (dumps ≡ 0)
+no_cuts calls dumps old new failed none =
+    let disc = unrisen (calls + failed.of_disc) old.disc.write_faults new.disc.write_faults failed.disc_rose none.disc_writes in
+    let rack = unrisen failed.of_rack old.rack.write_faults new.rack.write_faults failed.rack_rose none.tape_writes in
+    (first_none calls failed.of_disc disc, none_of failed.of_disc failed.of_rack dumps failed.together (rest_none calls failed.of_disc disc) rack)
 
 pub unrisen_is_plain : UnrisenIsPlain
-unrisen_is_plain moves last old new counts none = All-from_recursion IsPlain moves (all_plain moves
-    (unrisen (counted disc_reads_in moves) old.disc.read_faults new.disc.read_faults counts.disc_reads none.disc_reads)
-    (unrisen (counted tape_reads_in moves) old.rack.read_faults new.rack.read_faults counts.tape_reads none.tape_reads)
-    (no_cuts (counted cuts_in moves) old new counts.cuts none))
+unrisen_is_plain moves last old new counts none =
+    let cuts = no_cuts (cuts_of_calls moves) (cuts_of_dumps moves) old new counts.cuts_rose none in
+    All-from_recursion IsPlain moves (all_plain moves
+    (unrisen (counted disc_reads_in moves) old.disc.read_faults new.disc.read_faults counts.disc_reads_rose none.disc_reads)
+    (unrisen (counted tape_reads_in moves) old.rack.read_faults new.rack.read_faults counts.tape_reads_rose none.tape_reads)
+    (none_of (cuts_of_calls moves) (cuts_of_dumps moves) (counted cuts_in moves) (sym (counted_parts cuts_in moves)) cuts.0 cuts.1))
 
 module _ {F U : Type 0} (tariffs : Shared F (Bor Usage × Unit {0}) Charge) (tariff : F) (rules : Shared U (Bor Standing × Unit {0}) ℕ) (rule : U) (one : OneText tariffs tariff rules rule) where
   pub unrisen_text : UnrisenTextIsOne tariffs tariff rules rule

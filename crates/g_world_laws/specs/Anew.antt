@@ -1,6 +1,6 @@
 -- TO BEGIN ANEW: a FORMAT over emptied reels, whatever the disc held. The disc may name copies that no reel has, so disc and rack don't
 -- belong together; but the same rack beside a new disc does, and the run is one from the state for which these stand.
-use Rattle.std.specs.Prelude.{◌≡◌, ℕ, ◌<◌, ◌++◌, ◌∷◌, true, false, Bool, List, [], All, Some, replicate}
+use Rattle.std.specs.Prelude.{◌≡◌, ◌<◌, ◌++◌, ◌∷◌, true, false, Bool, List, [], All, Some, replicate}
 use Rattle.g_script.specs.declared.operator.Operator.{Operator}
 use Rattle.g_script.specs.declared.operator.Operator.TheVariants as line
 use Rattle.g_script.specs.declared.operator.Timed.{Timed}

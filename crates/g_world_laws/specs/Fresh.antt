@@ -1,5 +1,5 @@
 -- THAT THERE IS A STATE, and for devices that belong together one alone; and that new devices have one, in which there is no filestore.
-use Rattle.std.specs.Prelude.{◌≡◌, ℕ, ◌<◌, List, None, Option, false}
+use Rattle.std.specs.Prelude.{◌≡◌, ℕ, ◌<◌, List, None, false}
 use Rattle.g_disc.specs.Memory.{blank}
 use Rattle.g_state.specs.Belong.{Belong}
 use Rattle.g_state.specs.Meaning.{told_reels}

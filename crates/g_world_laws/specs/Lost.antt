@@ -1,5 +1,5 @@
 -- NOTHING IS LOST: in no run over devices that belong together does a RESTORE name a lost directory or copy.
-use Rattle.std.specs.Prelude.{◌≡◌, ℕ, List, Option, Result, Err}
+use Rattle.std.specs.Prelude.{ℕ, List, Option, Result}
 use Rattle.std.specs.Fn.{Shared}
 use denote.Ref.{Bor}
 use Rattle.g_budget.specs.declared.tariff.Charge.{Charge}

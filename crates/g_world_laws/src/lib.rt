@@ -131,7 +131,7 @@ pub fn filestores_stay<F: Fn(&Usage) -> Charge, U: Fn(&Standing) -> u64>()
     ensures devices { (tariff : F) (rule : U) → DevicesKeepFilestores F.Fn tariff U.Fn rule }
 {}
 
-/// Where each cut of an event that is no step of a dump is counted by the disc, a reel's failed write cuts no call and no line.
+/// Where the disc counted no failed write, no call and no line of a run was cut: a reel's failed write cuts a step of a dump alone.
 pub fn tapes_cut_no_call()
     ensures { TapesCutNoCall }
 {}
