@@ -9,7 +9,7 @@ use Rattle.g_act.specs.Releases.{delete, deleted, dropped, end_job, finished, gi
 use Rattle.g_act.specs.Runs.{Ends, Goes, Order, behind_event, behind_order, by_event, entered, goes_on, one_order, order_of, resumed, run_ended, run_orders, running_by, without_program}
 use Rattle.g_act.specs.Say.{comes_out, done, in_error, is_over, refused, say, say_all, stopped, with_bytes, with_levels, with_units}
 use Rattle.g_act.specs.State.{Full, Pending, Work}
-use Rattle.g_act.specs.Uses.{ToAppend, ToAssign, ToList, ToLoad, ToPut, Use, assign, fetch, fetched, loaded_by, output_kept, use_bytes, with_program}
+use Rattle.g_act.specs.Uses.{ToAppend, ToAssemble, ToAssign, ToList, ToLoad, ToPut, Use, assign, fetch, fetched, loaded_by, output_kept, put_or_bad, use_bytes, with_program}
 use Rattle.g_act.proofs.BoundLemmas.{if_gives, then_gives}
 use Rattle.g_act.proofs.RunLemmas.{work_of}
 use Rattle.g_lang.specs.Lines.{Said, SaidGoto, SaidIf, SaidVerb, SaidWhenever}
@@ -41,6 +41,7 @@ use Rattle.g_plain.specs.declared.calls.StoreCall.TheVariants as call
 use Rattle.g_plain.specs.declared.calls.StoreReply.TheVariants.{Appended, Bytes, Made}
 use Rattle.g_plain.specs.declared.faults.StoreFault.{StoreFault}
 use Rattle.g_plain.specs.declared.faults.StoreFault.TheVariants as fault
+use Rattle.g_plan.specs.Assembly.{assembled}
 use Rattle.g_trap.specs.declared.mode_set.Mode.{Mode}
 use Rattle.g_trap.specs.declared.mode_set.Mode.TheVariants as mode
 use Rattle.g_verbs.specs.How.{action_read}
@@ -142,9 +143,14 @@ module _ (again : Option Pending) (n : ℕ) where
     loaded_keeps (Some bad) p w h = error_keeps room (errors.BadProgram bad) w h
     loaded_keeps None p w h = say_keeps room (job_line (line.Loaded (size p))) (done (with_program p w)) h
 
+    planned_keeps : (to : Path) (made : Result (List ℕ) ℕ) (w : Work) → Keeps w → AlwaysGives Keeps (put_or_bad room to made w)
+    planned_keeps to (Ok file) w h = put_keeps true to file w h
+    planned_keeps to (Err bad) w h = error_keeps room (errors.BadPlan bad) w h
+
     use_keeps : (path : Path) (m : Mode) (use_for : Use) (full : name.Full) (bytes : List ℕ) (w : Work) → Keeps w → AlwaysGives Keeps (use_bytes room path m use_for full bytes w)
     use_keeps path m (ToPut to) full bytes w h = put_keeps true to bytes w h
     use_keeps path m (ToAppend to) full bytes w h = append_keeps to bytes w h
+    use_keeps path m (ToAssemble to) full bytes w h = planned_keeps to (assembled bytes) w h
     use_keeps path m ToList full bytes w h = all_keeps room (reply_lines (call.Fetch path m) (Bytes full bytes)) (done w) h
     use_keeps path m ToLoad full bytes w h = loaded_keeps (bad_line (lines bytes)) (program_of (lines bytes)) w h
     use_keeps path m (ToAssign u) full bytes w h =
@@ -236,6 +242,7 @@ module _ (again : Option Pending) (n : ℕ) where
     act_keeps who by (action.Budget user kind amount) w h = one_call_keeps (call.Budget user kind amount) w h
     act_keeps who by (action.Retrieve file) w h = one_call_keeps (call.Retrieve file) w h
     act_keeps who by (action.Load file) w h = fetch_keeps file mode.Execute ToLoad w h
+    act_keeps who by (action.Plan from to) w h = fetch_keeps from mode.Read (ToAssemble to) w h
     act_keeps who by (action.Enter entry) w h = entered_keeps room by entry w.desk.program w h
     act_keeps who by action.Resume w h = resumed_keeps room by w.desk.program w h
     act_keeps who by (action.Assign u file) w h = assign_keeps u file w h

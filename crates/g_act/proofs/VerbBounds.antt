@@ -1,5 +1,5 @@
 -- The programs of verbs keep the limits: 2,048 blocks at most, those of 16 outputs.
-use Rattle.std.proofs.Common.{ℕ, ◌+◌, ◌*◌, ◌≤◌, Bool, true, false, List, [], ◌∷◌, length, Option, Some, None, Ok, Err, unwrap_or, codes, if◌then◌else◌, length-set, suc, le_refl, sym, subst, arith}
+use Rattle.std.proofs.Common.{ℕ, ◌+◌, ◌*◌, ◌≤◌, Bool, true, false, List, [], ◌∷◌, length, Option, Some, None, Result, Ok, Err, unwrap_or, codes, if◌then◌else◌, length-set, suc, le_refl, sym, subst, arith}
 use Rattle.std.proofs.lemmas.Bool.{false≢true}
 use Rattle.g_act.specs.Actions.{act}
 use Rattle.g_act.specs.Asking.{append, append_told, by_answer, one_call, put, put_told}
@@ -8,7 +8,7 @@ use Rattle.g_act.specs.Macros.{first_looked, look_up, macro_called, macro_path, 
 use Rattle.g_act.specs.Releases.{delete, deleted, dropped, end_job, finished, given_back, release, release_all, release_each, release_one, without_readers}
 use Rattle.g_act.specs.Say.{done, in_error, with_bytes, with_levels, with_units}
 use Rattle.g_act.specs.State.{Work}
-use Rattle.g_act.specs.Uses.{ToAppend, ToAssign, ToList, ToLoad, ToPut, Use, assign, fetch, fetched, loaded_by, output_kept, use_bytes, with_program}
+use Rattle.g_act.specs.Uses.{ToAppend, ToAssemble, ToAssign, ToList, ToLoad, ToPut, Use, assign, fetch, fetched, loaded_by, output_kept, put_or_bad, use_bytes, with_program}
 use Rattle.g_act.proofs.BoundLemmas.{Good, There, bytes_good, error_good, gives_more, good_more, if_gives, if_good, refused_good, say_all_good, say_good, then_gives}
 use Rattle.g_act.proofs.RunBounds.{entered_good, resumed_good}
 use Rattle.g_lines.specs.Lines.{lines_of}
@@ -30,6 +30,7 @@ use Rattle.g_plain.specs.declared.calls.StoreCall.{StoreCall}
 use Rattle.g_plain.specs.declared.calls.StoreCall.TheVariants as call
 use Rattle.g_plain.specs.declared.calls.StoreReply.TheVariants.{Appended, Bytes, Made}
 use Rattle.g_plain.specs.declared.faults.StoreFault.TheVariants as fault
+use Rattle.g_plan.specs.Assembly.{assembled}
 use Rattle.g_trap.specs.declared.mode_set.Mode.{Mode}
 use Rattle.g_trap.specs.declared.mode_set.Mode.TheVariants as mode
 use Rattle.g_verbs.specs.declared.action.Action.{Action}
@@ -80,10 +81,15 @@ module _ (room : ℕ) where
   loaded_good most (Some bad) p w g = error_good room 64 most (errors.BadProgram bad) w g
   loaded_good most None p w g = say_good room 64 most (job_line (line.Loaded (size p))) (done (with_program p w)) g
 
+  planned_gives : (most : ℕ) (to : Path) (made : Result (List ℕ) ℕ) (w : Work) → In most w → AlwaysGives (In (most + 128)) (put_or_bad room to made w)
+  planned_gives most to (Ok file) w g = put_gives most true to file w g
+  planned_gives most to (Err bad) w g = error_good room 64 (most + 128) (errors.BadPlan bad) w (in_more most (most + 128) w (omega arith) g)
+
   use_gives : (most : ℕ) (path : Path) (m : Mode) (use_for : Use) (full : Full) (bytes : List ℕ) (w : Work) → There w → In most w
       → AlwaysGives (In (most + 128)) (use_bytes room path m use_for full bytes w)
   use_gives most path m (ToPut to) full bytes w there g = put_gives most true to bytes w g
   use_gives most path m (ToAppend to) full bytes w there g = append_gives most to bytes w there g
+  use_gives most path m (ToAssemble to) full bytes w there g = planned_gives most to (assembled bytes) w g
   use_gives most path m ToList full bytes w there g =
       say_all_good room 64 (most + 128) (reply_lines (call.Fetch path m) (Bytes full bytes)) (done w) (in_more most (most + 128) w (omega arith) g)
   use_gives most path m ToLoad full bytes w there g =
@@ -217,6 +223,9 @@ module _ (room : ℕ) where
   act_gives who by most (action.Retrieve file) w there g = one_call_gives (most + 2048) (call.Retrieve file) w there (in_more most (most + 2048) w (omega arith) g)
   act_gives who by most (action.Load file) w there g =
       more_gives (most + 128 + 128) (most + 2048) (fetch room file mode.Execute ToLoad w) (omega arith) (fetch_gives most file mode.Execute ToLoad w there g)
+  act_gives who by most (action.Plan from to) w there g =
+      more_gives (most + 128 + 128) (most + 2048) (fetch room from mode.Read (ToAssemble to) w) (omega arith)
+      (fetch_gives most from mode.Read (ToAssemble to) w there g)
   act_gives who by most (action.Enter n) w there g = entered_good room (most + 2048) by n w.desk.program w (in_more most (most + 2048) w (omega arith) g)
   act_gives who by most action.Resume w there g = resumed_good room (most + 2048) by w.desk.program w (in_more most (most + 2048) w (omega arith) g)
   act_gives who by most (action.Assign u file) w there g = more_gives (most + 128 + 128) (most + 2048) (assign room u file w) (omega arith) (assign_gives most u file w there g)

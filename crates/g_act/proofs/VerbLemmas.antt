@@ -1,5 +1,5 @@
 -- The programs of verbs are honest.
-use Rattle.std.proofs.Common.{ℕ, ◌+◌, Bool, true, false, List, [], ◌∷◌, length, Option, Some, None, Ok, Err, unwrap_or, if◌then◌else◌, refl}
+use Rattle.std.proofs.Common.{ℕ, ◌+◌, Bool, true, false, List, [], ◌∷◌, length, Option, Some, None, Result, Ok, Err, unwrap_or, if◌then◌else◌, refl}
 use Rattle.g_act.specs.Actions.{act}
 use Rattle.g_act.specs.Asking.{append, append_told, by_answer, one_call, put, put_told}
 use Rattle.g_act.specs.Causes.{GoesOn, IsHonest, IsOther}
@@ -7,7 +7,7 @@ use Rattle.g_act.specs.Macros.{first_looked, look_up, macro_called, second_looke
 use Rattle.g_act.specs.Releases.{delete, deleted, dropped, end_job, finished, given_back, release, release_all, release_each, release_one, without_readers}
 use Rattle.g_act.specs.Say.{done, in_error, with_bytes, with_levels, with_units}
 use Rattle.g_act.specs.State.{Work}
-use Rattle.g_act.specs.Uses.{ToAppend, ToAssign, ToList, ToLoad, ToPut, Use, assign, fetch, fetched, loaded_by, output_kept, use_bytes, with_program}
+use Rattle.g_act.specs.Uses.{ToAppend, ToAssemble, ToAssign, ToList, ToLoad, ToPut, Use, assign, fetch, fetched, loaded_by, output_kept, put_or_bad, use_bytes, with_program}
 use Rattle.g_act.proofs.HonestLemmas.{error_goes, honest_then, if_goes, if_honest, not_over_goes, refused_goes, say_all_goes, say_goes}
 use Rattle.g_act.proofs.RunLemmas.{entered_goes, resumed_goes}
 use Rattle.g_lines.specs.Lines.{lines_of}
@@ -29,6 +29,7 @@ use Rattle.g_plain.specs.declared.calls.StoreCall.{StoreCall}
 use Rattle.g_plain.specs.declared.calls.StoreCall.TheVariants as call
 use Rattle.g_plain.specs.declared.calls.StoreReply.TheVariants.{Appended, Bytes, Made}
 use Rattle.g_plain.specs.declared.faults.StoreFault.TheVariants as fault
+use Rattle.g_plan.specs.Assembly.{assembled}
 use Rattle.g_trap.specs.declared.mode_set.Mode.{Mode}
 use Rattle.g_trap.specs.declared.mode_set.Mode.TheVariants as mode
 use Rattle.g_verbs.specs.declared.action.Action.{Action}
@@ -64,9 +65,14 @@ loaded_goes : (room : ℕ) (bad : Option ℕ) (p : Machine) (w : Work) → GoesO
 loaded_goes room (Some bad) p w goes = error_goes room (errors.BadProgram bad) w goes
 loaded_goes room None p w goes = say_goes room (job_line (line.Loaded (size p))) (done (with_program p w)) goes
 
+planned_honest : (room : ℕ) (to : Path) (made : Result (List ℕ) ℕ) (w : Work) → GoesOn w.stop → IsHonest (put_or_bad room to made w)
+planned_honest room to (Ok file) w goes = put_honest room true to file w goes
+planned_honest room to (Err bad) w goes = error_goes room (errors.BadPlan bad) w goes
+
 use_honest : (room : ℕ) (path : Path) (m : Mode) (use_for : Use) (full : Full) (bytes : List ℕ) (w : Work) → GoesOn w.stop → IsHonest (use_bytes room path m use_for full bytes w)
 use_honest room path m (ToPut to) full bytes w goes = put_honest room true to bytes w goes
 use_honest room path m (ToAppend to) full bytes w goes = append_honest room to bytes w goes
+use_honest room path m (ToAssemble to) full bytes w goes = planned_honest room to (assembled bytes) w goes
 use_honest room path m ToList full bytes w goes = say_all_goes room (reply_lines (call.Fetch path m) (Bytes full bytes)) (done w) goes
 use_honest room path m ToLoad full bytes w goes = loaded_goes room (bad_line (lines bytes)) (program_of (lines bytes)) w goes
 use_honest room path m (ToAssign u) full bytes w goes =
@@ -155,6 +161,7 @@ act_honest room who by (action.NewUser user space time money) w goes = one_call_
 act_honest room who by (action.Budget user kind amount) w goes = one_call_honest room (call.Budget user kind amount) w goes
 act_honest room who by (action.Retrieve file) w goes = one_call_honest room (call.Retrieve file) w goes
 act_honest room who by (action.Load file) w goes = fetch_honest room file mode.Execute ToLoad w goes
+act_honest room who by (action.Plan from to) w goes = fetch_honest room from mode.Read (ToAssemble to) w goes
 act_honest room who by (action.Enter n) w goes = entered_goes room by n w.desk.program w goes
 act_honest room who by action.Resume w goes = resumed_goes room by w.desk.program w goes
 act_honest room who by (action.Assign u file) w goes = assign_honest room u file w goes

@@ -6,7 +6,7 @@ use Rattle.g_act.specs.Releases.{delete, end_job, release}
 use Rattle.g_act.specs.Runs.{entered, resumed}
 use Rattle.g_act.specs.Say.{done, say, with_levels}
 use Rattle.g_act.specs.State.{Work}
-use Rattle.g_act.specs.Uses.{ToAppend, ToList, ToLoad, ToPut, assign, fetch}
+use Rattle.g_act.specs.Uses.{ToAppend, ToAssemble, ToList, ToLoad, ToPut, assign, fetch}
 use Rattle.g_macro.specs.Levels.{document_of, document_passed, with_param}
 use Rattle.g_monitor.specs.JobLines.{marked}
 use Rattle.g_monitor.specs.declared.job_lines.Mark.TheVariants as mark
@@ -50,6 +50,7 @@ act room who by (action.NewUser user space time money) w = one_call room (call.N
 act room who by (action.Budget user kind amount) w = one_call room (call.Budget user kind amount) w
 act room who by (action.Retrieve file) w = one_call room (call.Retrieve file) w
 act room who by (action.Load file) w = fetch room file mode.Execute ToLoad w
+act room who by (action.Plan from to) w = fetch room from mode.Read (ToAssemble to) w
 act room who by (action.Enter n) w = Gives (entered room by n w.desk.program w)
 act room who by action.Resume w = Gives (resumed room by w.desk.program w)
 act room who by (action.Assign u file) w = assign room u file w

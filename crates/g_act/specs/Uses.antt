@@ -1,5 +1,5 @@
--- What a file's bytes are fetched for: COPY, APPEND, LISTFILE, LOAD, and ASSIGN of a card reader.
-use Rattle.std.specs.Prelude.{Err, List, None, Ok, Option, Some, [], false, if◌then◌else◌, length, true, ℕ, ◌≡◌}
+-- What a file's bytes are fetched for: COPY, APPEND, PLAN, LISTFILE, LOAD, and ASSIGN of a card reader.
+use Rattle.std.specs.Prelude.{Err, List, None, Ok, Option, Result, Some, [], false, if◌then◌else◌, length, true, ℕ, ◌≡◌}
 use Rattle.g_act.specs.Asking.{append, put}
 use Rattle.g_act.specs.Say.{done, in_error, refused, say, say_all, with_bytes, with_units}
 use Rattle.g_act.specs.State.{Work}
@@ -17,12 +17,14 @@ use Rattle.g_peri.specs.declared.unit.Unit as unit
 use Rattle.g_plain.specs.Asks.{Answer, Asks, Call, Gives}
 use Rattle.g_plain.specs.declared.calls.StoreCall.TheVariants as call
 use Rattle.g_plain.specs.declared.calls.StoreReply.TheVariants.{Bytes}
+use Rattle.g_plan.specs.Assembly.{assembled}
 use Rattle.g_trap.specs.declared.mode_set.Mode.{Mode}
 use Rattle.g_trap.specs.declared.mode_set.Mode.TheVariants as mode
 
 pub data Use : Type 0 where
   ToPut : Path → Use
   ToAppend : Path → Use
+  ToAssemble : Path → Use
   ToList : Use
   ToLoad : Use
   ToAssign : unit.Unit → Use
@@ -53,10 +55,16 @@ module _ (room : ℕ) where
   abbrev pub assigned : unit.Unit → List ℕ → Work → Work
   assigned u bytes w = say room (job_line line.Assigned) (done (with_units (with_reader w.desk.units u.number (Some (lines bytes))) w))
 
+  -- PLAN: the program file of a good source is put; of a bad one nothing is
+  abbrev pub put_or_bad : Path → Result (List ℕ) ℕ → Work → Asks Work
+  put_or_bad to (Ok file) w = put room true to file w
+  put_or_bad to (Err bad) w = Gives (in_error room (errors.BadPlan bad) w)
+
   -- a file's bytes, and what is done with them
   abbrev pub use_bytes : Path → Mode → Use → Full → List ℕ → Work → Asks Work
   use_bytes path m (ToPut to) full bytes w = put room true to bytes w
   use_bytes path m (ToAppend to) full bytes w = append room to bytes w
+  use_bytes path m (ToAssemble to) full bytes w = put_or_bad to (assembled bytes) w
   use_bytes path m ToList full bytes w = Gives (listed path m full bytes w)
   use_bytes path m ToLoad full bytes w = Gives (loaded bytes w)
   use_bytes path m (ToAssign u) full bytes w = Gives (assigned u bytes w)

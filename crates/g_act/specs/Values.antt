@@ -3,7 +3,7 @@
 use Rattle.std.specs.Prelude.{Bool, None, Option, Some, false, true, ◌≡◌}
 use Rattle.g_act.specs.Runs.{Ends, Goes, Order, behind_order}
 use Rattle.g_act.specs.State.{AgainCommand, AgainLine, Broken, Done, Full, Pending, Stop, Waits, Work}
-use Rattle.g_act.specs.Uses.{ToAppend, ToAssign, ToList, ToLoad, ToPut, Use}
+use Rattle.g_act.specs.Uses.{ToAppend, ToAssemble, ToAssign, ToList, ToLoad, ToPut, Use}
 use Rattle.g_act.specs.declared.again.Again.{Again}
 use Rattle.g_act.specs.declared.again.Again.TheVariants as again
 use Rattle.g_act.specs.declared.stop.Stop as code
@@ -27,6 +27,7 @@ stop_of stop.Done = Done
 abbrev pub use_of : uses.Use → Use
 use_of (uses_for.Put path) = ToPut path
 use_of (uses_for.Append path) = ToAppend path
+use_of (uses_for.Assemble path) = ToAssemble path
 use_of uses_for.List = ToList
 use_of uses_for.Load = ToLoad
 use_of (uses_for.Assign unit file) = ToAssign unit

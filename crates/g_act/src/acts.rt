@@ -133,6 +133,9 @@ impl Work {
             }
             Action::ListFile { file } => { self.fetch(store, asker, file, Mode::Read, Use::List) }
             Action::Load { file } => { self.fetch(store, asker, file, Mode::Execute, Use::Load) }
+            Action::Plan { from, to } => {
+                self.fetch(store, asker, from, Mode::Read, Use::Assemble(to))
+            }
             Action::Enter { n } => self.enter(asker.alloc, asker.room, by, n as u8),
             Action::Resume => self.resume(asker.alloc, asker.room, by),
             Action::Assign { unit, file } => self.assign(store, asker, unit, file),

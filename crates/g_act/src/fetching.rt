@@ -7,6 +7,7 @@ ghost use Rattle.g_act.specs.Values.{use_of};
 ghost use Rattle.g_name.specs.declared.path.Path.{Path};
 ghost use Rattle.g_peri.specs.Held as held;
 ghost use Rattle.g_plain.specs.Asks.{RanInPart};
+ghost use Rattle.g_plan.specs.Assembly.{assembled};
 ghost use Rattle.g_trap.specs.declared.mode_set.Mode.{Mode};
 
 use crate::asker::Asker;
@@ -19,6 +20,7 @@ use g_monitor::{CommandError, JobLine};
 use g_name::{Full, Path, Text};
 use g_peri::{Kind, Unit};
 use g_plain::{Filestore, StoreCall, StoreReply};
+use g_plan::{PlanFault, assemble};
 use g_trap::Mode;
 use std::alloc::Global;
 
@@ -93,11 +95,39 @@ impl Work {
         match use_for {
             Use::Put(to) => self.put(store, asker, true, to, bytes),
             Use::Append(to) => self.append(store, asker, to, bytes),
+            Use::Assemble(to) => self.assemble_bytes(store, asker, to, bytes.as_slice()),
             Use::List => self.list_bytes(asker.alloc, asker.room, &full, bytes.as_slice()),
             Use::Load => self.load_bytes(asker.alloc, asker.room, bytes.as_slice()),
             Use::Assign { unit, file } => {
                 self.assign_reader(asker.alloc, asker.room, unit, file, bytes)
             }
+        }
+    }
+
+    /// PLAN, with the bytes of the source: the program's file is put; of a bad source nothing is.
+    fn assemble_bytes<S: Filestore>(
+        &mut self,
+        store: &mut S,
+        asker: &Asker<'_>,
+        to: Path,
+        bytes: &[u8],
+    ) -> Result<(), NoMemory>
+        requires running { S.is_spent store.old ≡ false }
+        requires few { self.old.blocks ≤ 4096 }
+        ensures ok { OnOk result (RanWell S.answers S.is_spent S.can_wait asker.now.who.now store.old
+            (uses.put_or_bad asker.now.room to (assembled bytes.now) self.old) self.new store.new) }
+        ensures err { OnErr result (RanInPart S.answers asker.now.who.now store.old
+            (uses.put_or_bad asker.now.room to (assembled bytes.now) self.old) store.new) }
+        ensures live { OnOk result (said.is_over self.new ≡ false → S.is_spent store.new ≡ false) }
+        ensures same_waits { (s : ℕ) → S.can_wait store.new s ≡ S.can_wait store.old s }
+        ensures blocks { OnOk result (self.new.blocks ≤ self.old.blocks + 128) }
+    {
+        match assemble(asker.alloc, bytes) {
+            Ok(file) => self.put(store, asker, true, to, file),
+            Err(PlanFault::BadPlan(line)) => {
+                self.in_error(asker.alloc, asker.room, CommandError::BadPlan(line))
+            }
+            Err(PlanFault::NoMemory) => Err(NoMemory),
         }
     }
 

@@ -9,6 +9,8 @@ pub enum Use {
     Put(Path),
     /// They are put behind those of this file.
     Append(Path),
+    /// They are a source, whose program's file is put for this path.
+    Assemble(Path),
     /// Their lines are said.
     List,
     /// They are a program.

@@ -1,2 +1,3 @@
+mod Full
 pub mod Marks
 pub mod Least

@@ -13,12 +13,12 @@ use Rattle.g_base.specs.Limits.{first_copy_block}
 use Rattle.g_blocks.specs.Flags.{free_flags, AreSetBefore}
 use Rattle.g_blocks.specs.Pool.{IsFree, IsTaken, ChangesOnly, HasTaken, HasGiven, IsFresh}
 
-slice_get-set_same : {X : Type 0} (xs : List X) (i : ℕ) (x : X) → i < length xs → slice_get (set xs i x) i ≡ Some x
+pub slice_get-set_same : {X : Type 0} (xs : List X) (i : ℕ) (x : X) → i < length xs → slice_get (set xs i x) i ≡ Some x
 slice_get-set_same xs i x below =
     let within : i < length (set xs i x) = omega (arith, length-set xs i x) in
     slice_get-get_or (set xs i x) i x within ∙ ap Some (get_or-set_same xs i x x below)
 
-slice_get-set_other : {X : Type 0} (xs : List X) (i j : ℕ) (x : X) → j ≢ i → slice_get (set xs i x) j ≡ slice_get xs j
+pub slice_get-set_other : {X : Type 0} (xs : List X) (i j : ℕ) (x : X) → j ≢ i → slice_get (set xs i x) j ≡ slice_get xs j
 slice_get-set_other [] i j x apart = refl
 slice_get-set_other (y ∷ ys) zero zero x apart = absurd (apart refl)
 slice_get-set_other (y ∷ ys) zero (suc j) x apart = refl
@@ -36,6 +36,11 @@ free_flags-taken flags i is =
     let was : get_or flags i false ≡ false = get_or_from_slice_get flags i false false is in
     let one = ap number_free was in
     omega (arith, moved, one)
+
+pub free_flags-none : (flags : List Bool) (n : ℕ) → flags ≡ replicate n false → n ≡ free_flags flags
+free_flags-none flags n is =
+    let all : free_flags flags ≡ n * 1 = ap free_flags is ∙ sum_by-replicate number_free n false in
+    omega (arith, all)
 
 pub free_flags-given : (flags : List Bool) (i : ℕ) → slice_get flags i ≡ Some true → free_flags (set flags i false) ≡ free_flags flags + 1
 free_flags-given flags i is =
@@ -74,7 +79,7 @@ ChangesOnly-more blocks i old now flag changes below low =
     }
 
 -- a flag that is set stays set when another is set or it is set again
-flag-kept : (flags : List Bool) (i j : ℕ) (flag : Bool) → i < length flags → slice_get flags j ≡ Some flag → slice_get (set flags i flag) j ≡ Some flag
+pub flag-kept : (flags : List Bool) (i j : ℕ) (flag : Bool) → i < length flags → slice_get flags j ≡ Some flag → slice_get (set flags i flag) j ≡ Some flag
 flag-kept flags i j flag below is =
     elim (cases_eq j i) [
       | inl same ↦ subst (λ k. slice_get (set flags i flag) k ≡ Some flag) (sym same) (slice_get-set_same flags i flag below)

@@ -1,7 +1,7 @@
 //! The search for free blocks: one pass over the flags, from the least that may be free on.
-ghost use Rattle.g_blocks.specs.Flags.{AreSetBefore};
+ghost use Rattle.g_blocks.specs.Flags.{AreFull, AreSetBefore};
 ghost use Rattle.g_blocks.specs.Pool.{AreLeastFree, free_count};
-ghost use Rattle.std.specs.Prelude.{◌+◌, ◌<◌, ◌≤◌, ◌^◌, length, IfOk};
+ghost use Rattle.std.specs.Prelude.{◌≡◌, ◌⊎◌, ℕ, ◌+◌, ◌<◌, ◌≤◌, ◌^◌, true, false, Some, length, IfOk, slice_get, slice_index_or};
 
 use g_base::FIRST_COPY_BLOCK;
 use std::alloc::{AllocError, Global};
@@ -30,14 +30,50 @@ pub fn least_free(
     Ok(blocks)
 }
 
-/// How many flags are set before the first that isn't.
-pub fn taken_in_front(taken: &[bool]) -> usize
+/// How many flags go by one note.
+pub const GROUP: usize = 128;
+
+/// The first flag from this place on that isn't set, or their number. Those before the place are set. Groups that are noted
+/// as full are passed whole.
+pub fn first_free(taken: &[bool], full: &[bool], from: usize) -> usize
+    requires before { AreSetBefore from taken.now }
+    requires full { AreFull full.now taken.now }
     ensures { AreSetBefore result taken.now }
 {
-    for (place, is_taken) in taken.iter().enumerate() {
-        if !*is_taken {
+    let mut place = from;
+    while place < taken.len() {
+        if !taken[place] {
             return place;
         }
+        place = behind(taken, full, place);
     }
-    taken.len()
+    place
+}
+
+/// The place behind this one, whose flag is set; behind its group, where it is the first of one that is noted as full.
+fn behind(taken: &[bool], full: &[bool], place: usize) -> usize
+    requires within { place < length taken.now }
+    requires is_set { slice_index_or taken.now place false ≡ true }
+    requires before { AreSetBefore place taken.now }
+    requires full { AreFull full.now taken.now }
+    ensures before { AreSetBefore result taken.now }
+    ensures later { place < result }
+{
+    if place % GROUP == 0 && full[place / GROUP] {
+        (place + GROUP).min(taken.len())
+    } else {
+        place + 1
+    }
+}
+
+/// Notes as full the groups from one on and in front of another.
+pub fn note_full(full: &mut Vec<bool>, first: usize, end: usize)
+    requires { end ≤ length full.old.items }
+    ensures size { length full.new.items ≡ length full.old.items }
+    ensures noted { (group : ℕ) → slice_get full.new.items group ≡ Some true
+        → (slice_get full.old.items group ≡ Some true) ⊎ (group < end) }
+{
+    for group in first..end {
+        full[group] = true;
+    }
 }

@@ -1,7 +1,7 @@
 //! The pool of copy blocks: a flag for each, how many are free, and where the search begins.
 ghost use Rattle.std.specs.Prelude.{◌≡◌, ◌≢◌, ◌+◌, ◌-◌, ◌<◌, ◌≤◌, ◌↔◌, ◌⊎◌, All, AllPairs, IfOk, IfErr, OnErr, IsErrOf, IsOkUnless, slice_set, replicate, length, true, false};
 
-use crate::free::{least_free, taken_in_front};
+use crate::free::{GROUP, first_free, least_free, note_full};
 use g_base::FIRST_COPY_BLOCK;
 use std::alloc::{AllocError, Global};
 use std::marker::Model;
@@ -30,24 +30,26 @@ impl From<AllocError> for PoolFault {
 
 /// The copy blocks of one disc. Contracts see the list of their flags, true where a block is taken:
 /// the flag at place i is that of block 2,177 + i. The search for free blocks begins at the place
-/// `low`, before which none is free.
+/// `low`, before which none is free, and passes groups of 128 that are noted as full.
 #[derive(Drop)]
 pub struct Pool {
     taken: Vec<bool>,
+    full: Vec<bool>,
     free: u32,
     low: usize,
 }
 
 impl Model for Pool {
     ghost use Rattle.std.specs.Prelude.{◌≡◌, ◌+◌, ◌≤◌, List, Bool, length};
-    ghost use Rattle.g_blocks.specs.Flags.{free_flags, AreSetBefore};
+    ghost use Rattle.g_blocks.specs.Flags.{free_flags, AreFull, AreSetBefore};
 
     ghost Value = { List Bool };
 
     ghost view = { λ pool. pool.taken.items };
 
     ghost invariant = { λ pool. (pool.free ≡ free_flags pool.taken.items)
-        × (2177 + length pool.taken.items ≤ 1_048_576) × AreSetBefore pool.low pool.taken.items };
+        × (2177 + length pool.taken.items ≤ 1_048_576) × AreSetBefore pool.low pool.taken.items
+        × AreFull pool.full.items pool.taken.items };
 }
 
 impl Pool {
@@ -125,6 +127,7 @@ impl Pool {
     {
         Ok(Pool {
             taken: vec![in alloc; false; blocks as usize]?,
+            full: vec![in alloc; false; blocks as usize / GROUP + 1]?,
             free: blocks,
             low: 0,
         })
@@ -134,7 +137,9 @@ impl Pool {
     fn skip_taken(&mut self)
         ensures { self.new ≡ self.old }
     {
-        self.low += taken_in_front(&self.taken[self.low..]);
+        let low = first_free(&self.taken, &self.full, self.low);
+        note_full(&mut self.full, self.low / GROUP, low / GROUP);
+        self.low = low;
     }
 
     fn mark_all_taken(&mut self, blocks: &[u32])
@@ -163,6 +168,7 @@ impl Pool {
     {
         let place = (block - FIRST_COPY_BLOCK) as usize;
         self.taken[place] = false;
+        self.full[place / GROUP] = false;
         self.free += 1;
         self.low = self.low.min(place);
     }

@@ -30,11 +30,11 @@ use Rattle.g_crew.specs.declared.taking.NotTaken.{NotTaken}
 use Rattle.g_crew.specs.declared.taking.NotTaken.TheVariants as why
 use Rattle.g_console.specs.declared.progress.Failure.{Failure}
 use Rattle.g_console.specs.declared.progress.Failure.TheVariants.{Memory}
-use Rattle.g_console.specs.Jobs.{ComesIn, IsRefused, TakesJob, TellsWhy, joined}
+use Rattle.g_console.specs.Jobs.{ComesIn, IsRefused, KnowsIn, TakesJob, TellsWhy, joined}
 use Rattle.g_console.specs.Parts.{DidLine, DoesLine, IsReady, Matches, Seen, seen}
 use Rattle.g_console.specs.Puts.{FaultCause, Puts}
-use Rattle.g_console.specs.System.{Down, Up, devices_in}
-use Rattle.g_console.specs.Telling.{down_text, refusal_text, without_jobs}
+use Rattle.g_console.specs.System.{Down, SystemFacts, Up, devices_in}
+use Rattle.g_console.specs.Telling.{TellsFault, down_text, refusal_text, system_behind, without_jobs}
 use Rattle.g_console.proofs.GrowLemmas.{grow_itself}
 use Rattle.g_console.proofs.LeavesLemmas.{leaves_is, leaves_joined, leaves_none, leaves_same}
 use Rattle.g_console.proofs.LineLemmas.{none_armed, refused_line, was_done, wasnt_done}
@@ -48,6 +48,16 @@ pub turned_away_is : (known : Bool) (job : NewJob) (count : ℕ) (c : CrewState)
     → TakesJob known job count c failure c' before after old new
 turned_away_is known job count c why.NoMemory failure c' before after old new refuses same tells = inr (inr (tells.0, same, tells.1, tells.2))
 turned_away_is known job count c w failure c' before after old new refuses same tells = inr (inl (record { text = refusal_line w; refuses = refuses; crew = same; put = tells }))
+
+-- it is taken in
+pub comes_in_is : (known : Bool) (job : NewJob) (count : ℕ) (c : CrewState) (number : ℕ) (failure : Option Failure) (c' : CrewState) (before after : Option (List ℕ)) (old new : ℕ)
+    → RefusesAsIn c known job.user job.time job.money None → number ≡ c.next_job → c' ≡ joined job c → Puts failure (operator_line count (job_text number (job.name ++ codes " IN"))) before after old new
+    → TakesJob known job count c failure c' before after old new
+comes_in_is known job count c number failure c' before after old new granted number_is crew puts = inl (record {
+  granted = granted;
+  crew = crew;
+  put = subst (λ (n : ℕ). Puts failure (operator_line count (job_text n (job.name ++ codes " IN"))) before after old new) number_is puts;
+})
 
 abbrev job_of_line : NewJob → Operator
 job_of_line job = line.Job job.name job.user job.time job.money job.lines
@@ -127,6 +137,7 @@ module _ (job : NewJob) (s : StoreFacts) (known : Bool) (known_is : (u : State) 
         ready = ready;
         crew = λ none. leaves_joined job c;
         arms = none_armed (job_of_line job) failure (devices_in (Up s)) (devices_in (Up s)) refl refl refl refl;
+        count = refl;
         fuses = tt;
         same = same_itself (devices_in (Up s));
         belongs = λ is. is;
@@ -141,6 +152,7 @@ module _ (job : NewJob) (s : StoreFacts) (known : Bool) (known_is : (u : State) 
         ready = ready;
         crew = λ none. leaves_same c;
         arms = none_armed (job_of_line job) failure (devices_in (Up s)) (devices_in (Up s)) refl refl refl refl;
+        count = refl;
         fuses = tt;
         same = same_itself (devices_in (Up s));
         belongs = λ is. is;
@@ -154,6 +166,7 @@ module _ (job : NewJob) (s : StoreFacts) (known : Bool) (known_is : (u : State) 
         ready = ready;
         crew = λ none. leaves_is c c' same;
         arms = none_armed (job_of_line job) (Some Memory) (devices_in (Up s)) (devices_in (Up s)) refl refl refl refl;
+        count = refl;
         fuses = tt;
         same = same_itself (devices_in (Up s));
         belongs = λ was. was;
@@ -168,6 +181,22 @@ down_takes_none job d c count failure before after faults faults' ready puts =
     refused_line (job_of_line job) refl refl NotStarted (Down d) c count
     (λ w m. (refl, sym (ap (λ (b : Bool). if b then job_line (job_refusal w job.user job.time job.money) (taken_in job.name job.user job.time job.money job.lines w) w else line_refused NotStarted w) m.stands.0)))
     failure before after faults faults' ready puts
+
+-- A JOB'S LINE, where the system knows its user or doesn't, or is down
+pub job_on : (job : NewJob) (f : SystemFacts) (known : Bool) → KnowsIn job.user f (Some known) → (c : CrewState) → IsReady f c → (count : ℕ) (failure : Option Failure) (c' : CrewState) (before after : Option (List ℕ)) (faults faults' : ℕ)
+    → TakesJob known job count c failure c' before after faults faults' → DidLine (job_of_line job) (seen f c count) failure (seen f c' count) before after faults faults'
+job_on job (Up s) known knows c ready count failure c' before after faults faults' takes =
+    let (it, is, known_is) = knows in
+    taken_line job s known (λ u here. known_is u here ∙ sym (same_Some known it is)) c ready count failure c' before after faults faults' takes
+job_on job (Down d) known is c ready count failure c' before after faults faults' takes = let never : ⊥ = cc in absurd never
+
+pub no_job_on : (job : NewJob) (f : SystemFacts) → KnowsIn job.user f None → (c : CrewState) → IsReady f c → (count : ℕ) (failure : Option Failure) (c' : CrewState) (before after : Option (List ℕ)) (faults faults' : ℕ)
+    → TellsFault NotStarted count c failure c' before after faults faults' → DidLine (job_of_line job) (seen f c count) failure (seen (system_behind NotStarted f) c' count) before after faults faults'
+no_job_on job (Up s) knows c ready count failure c' before after faults faults' tells = let (it, is, known_is) = knows in let never : ⊥ = cc in absurd never
+no_job_on job (Down d) is c ready count failure c' before after faults faults' tells =
+    let (crew, puts) = tells in
+    subst (λ (k : CrewState). DidLine (job_of_line job) (seen (Down d) c count) failure (seen (Down d) k count) before after faults faults') (sym crew)
+    (down_takes_none job d c count failure before after faults faults' ready puts)
 
 -- whether the user has a budget tells whether the user is known
 pub known_by : (s : StoreFacts) → s.spent ≡ false → (user : List ℕ) (time : Option ℕ) (known : Bool) → time ≡ option_map (λ (u : UserRec). u.time) (finmap.get (users_by_name s.online.contents.users) user)
@@ -257,6 +286,7 @@ module _ (s : StoreFacts) (c : CrewState) (ready : IsReady (Up s) c) (count : �
     ready = (ready.1, ready.2, refl, refl);
     crew = λ none. leaves_none c;
     arms = none_armed line.Shut failure (devices_in (Up s)) taken_down refl refl refl refl;
+    count = refl;
     fuses = tt;
     same = same_itself (devices_in (Up s));
     belongs = λ is. record { told = is.0; belong = is.1.devices };

@@ -1,4 +1,6 @@
+pub mod AskLemmas
 pub mod CauseLemmas
+pub mod DayLemmas
 pub mod GrowLemmas
 pub mod JobLemmas
 pub mod LabelLemmas
@@ -10,3 +12,4 @@ pub mod StopLemmas
 pub mod TurnedLemmas
 pub mod UpLemmas
 pub mod UserLemmas
+pub mod WayLemmas

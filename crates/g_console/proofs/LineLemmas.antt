@@ -80,6 +80,7 @@ module _ (what : Operator) (no_disc : disc_arms what ≡ 0) (no_tape : tape_arms
     ready = ready;
     crew = λ none. leaves_same c;
     arms = none_armed what failure (devices_in f) (devices_in f) no_disc no_tape refl refl;
+    count = refl;
     fuses = no_fuse what no_disc no_tape (devices_in f);
     same = same_itself (devices_in f);
     belongs = λ is. is;
@@ -100,6 +101,7 @@ untried_line what no_disc no_tape old new c count same ready failure is text fau
       ready = ready;
       crew = λ none. leaves_same c;
       arms = none_armed what (Some Memory) (devices_in old) (devices_in old) no_disc no_tape refl refl;
+      count = refl;
       fuses = no_fuse what no_disc no_tape (devices_in old);
       same = same_itself (devices_in old);
       belongs = λ is. is;

@@ -144,6 +144,7 @@ module _ {A : Type 0} (what : Operator) (given : Type 0) (by : State → Outcome
       ready = (makes.running, makes.keeps.tied.size, makes.keeps.tied.most);
       crew = λ none. leaves_opened new.online.contents.users c c' (opens none);
       arms = none_armed what failure old_devices (devices_in (Up new)) no_disc no_tape makes.causes.arms makes.tapes.arms;
+      count = refl;
       fuses = no_fuse what no_disc no_tape (devices_in (Up new));
       same = record { size = makes.causes.size; reels = labels_read rack.reels new.rack.reels makes.tapes.reels };
       belongs = λ is. (makes.told is.told, makes.belongs is.told (gives is));
@@ -221,6 +222,7 @@ module _ {A : Type 0} (what : Operator) (given : Type 0) (by : State → Outcome
             (subst (λ (n : ℕ). 2177 < n) (sym refuses.causes.size) low, subst (λ (n : ℕ). n ≤ 1048576) (sym refuses.causes.size) high, same_jobs, same_accounts);
         crew = λ none. leaves_told fault count c failure c' before_text after faults faults' tells;
         arms = none_armed what failure old_devices d no_disc no_tape refuses.causes.arms refuses.tapes.arms;
+        count = refl;
         fuses = no_fuse what no_disc no_tape d;
         same = record { size = refuses.causes.size; reels = labels_read rack.reels rack'.reels refuses.tapes.reels };
         belongs = λ is. record { told = refuses.told is.told; belong = refuses.belongs is.told is.belong };

@@ -117,6 +117,7 @@ module _ (k : ℕ) (old new : SystemFacts) (c : CrewState) (count : ℕ) where
     crew = λ none. leaves_same c;
     arms = subst (ArmsBy (line.StopDisc k) failure (devices_in old)) (sym armed.devices)
         (record { disc = (1, omega arith, RoseBy-one refl); tape = (0, omega arith, RoseBy-none refl); all = λ through. (RoseBy-one refl, RoseBy-none refl) });
+    count = refl;
     fuses = ap (λ (d : Devices). d.disc.fuse) armed.devices;
     same = subst (λ (d : Devices). SameDevices (devices_in old) d) (sym armed.devices) (record { size = refl; reels = refl });
     belongs = armed.belongs;
@@ -138,6 +139,7 @@ module _ (k : ℕ) (old new : SystemFacts) (c : CrewState) (count : ℕ) where
     crew = λ none. leaves_same c;
     arms = subst (ArmsBy (line.StopTape k) failure (devices_in old)) (sym armed.devices)
         (record { disc = (0, omega arith, RoseBy-none refl); tape = (1, omega arith, RoseBy-one refl); all = λ through. (RoseBy-none refl, RoseBy-one refl) });
+    count = refl;
     fuses = ap (λ (d : Devices). d.rack.fuse) armed.devices;
     same = subst (λ (d : Devices). SameDevices (devices_in old) d) (sym armed.devices) (record { size = refl; reels = refl });
     belongs = armed.belongs;

@@ -107,6 +107,7 @@ module _ (what : Operator) (no_disc : disc_arms what ≡ 0) (no_tape : tape_arms
     ready = ready_still old new c is.stays ready;
     crew = λ none. leaves_same c;
     arms = none_armed what failure (devices_in old) (devices_in new) no_disc no_tape (ap (λ (d : DiscState). d.arms) is.disc) is.arms;
+    count = refl;
     fuses = no_fuse what no_disc no_tape (devices_in new);
     same = record { size = ap (λ (d : DiscState). d.size) is.disc; reels = is.reels };
     belongs = is.belongs;

@@ -113,6 +113,7 @@ module _ {A : Type 0} (what : Operator) (by : State → Holding → Outcome → 
       ready = (running, event.keeps.tied.size, event.keeps.tied.most);
       crew = λ none. leaves_same c;
       arms = none_armed what failure (devices_in (Up old)) (devices_in (Up new)) no_disc no_tape cause.disc.arms cause.tapes.arms;
+      count = refl;
       fuses = no_fuse what no_disc no_tape (devices_in (Up new));
       same = record { size = cause.disc.size; reels = labels_read old.rack.reels new.rack.reels cause.tapes.reels };
       belongs = λ is. (event.told is.0, event.belongs is.0 is.1);
@@ -194,6 +195,7 @@ module _ {A : Type 0} (what : Operator) (by : State → Holding → Outcome → 
           arms =
               subst (λ (d : Devices). ArmsBy what failure (devices_in (Up old)) d) (sym (same_devices fault new))
               (none_armed what failure (devices_in (Up old)) (devices_in (Up new)) no_disc no_tape cause.disc.arms cause.tapes.arms);
+          count = refl;
           fuses = no_fuse what no_disc no_tape (devices_in system);
           same = subst (λ (d : Devices). SameDevices (devices_in (Up old)) d) (sym (same_devices fault new)) (record { size = cause.disc.size; reels = labels_read old.rack.reels new.rack.reels cause.tapes.reels });
           belongs = belongs_by fault refl;

@@ -1,6 +1,9 @@
 -- A JOB COMES IN to a crew, or isn't taken in, and it is told.
 use Rattle.std.specs.Prelude.{◌≡◌, ◌⊎◌, ℕ, ◌+◌, Bool, List, [], ◌∷◌, ◌++◌, Option, Some, None, codes}
 use Rattle.g_job.specs.Begun.{job_begun}
+use Rattle.g_step.specs.State.{State}
+use Rattle.g_state.specs.Reading.{StandsForState}
+use Rattle.g_world.specs.Accounts.{knows_user}
 use Rattle.g_world.specs.Texts.{job_text, operator_line}
 use Rattle.g_crew.specs.Crew.{CrewState}
 use Rattle.g_crew.specs.Taking.{RefusesAsIn, refusal_line}
@@ -10,6 +13,7 @@ use Rattle.g_crew.specs.declared.taking.NotTaken.TheVariants as why
 use Rattle.g_console.specs.declared.progress.Failure.{Failure}
 use Rattle.g_console.specs.declared.progress.Failure.TheVariants.{Memory}
 use Rattle.g_console.specs.Puts.{Puts}
+use Rattle.g_console.specs.System.{Down, SystemFacts, Up}
 
 -- the crew with the job behind the others
 abbrev pub joined : NewJob → CrewState → CrewState
@@ -38,3 +42,8 @@ TakesJob known job count c failure c' before after old new =
     ComesIn known job count c failure c' before after old new
     ⊎ (IsRefused known job count c failure c' before after old new
     ⊎ ((failure ≡ Some Memory) × (c' ≡ c) × (after ≡ before) × (new ≡ old)))
+
+-- whether a system that is up knows the user, in whatever state its store stands for; one that is down knows nobody
+abbrev pub KnowsIn : List ℕ → SystemFacts → Option Bool → Type 0
+KnowsIn user (Up s) answer = (known : Bool) × (answer ≡ Some known) × ((u : State) → StandsForState s u → knows_user u user ≡ known)
+KnowsIn user (Down d) answer = answer ≡ None

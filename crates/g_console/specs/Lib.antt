@@ -1,9 +1,11 @@
 pub mod Arming
+pub mod Asking
 pub mod Boxed
 pub mod Jobs
 pub mod Opening
 pub mod Parts
 pub mod Puts
 pub mod Reels
+pub mod Rising
 pub mod System
 pub mod Telling

@@ -35,6 +35,13 @@ pub record Matches (w : World) (seen : Seen) : Type 0 where
   pub crew : IsCrewOf w seen.crew
   pub count : w.count ≡ seen.count
 
+-- what an operator may ask, within its limits
+abbrev pub IsWithin : Operator → Type 0
+IsWithin (line.Job name user time money lines) = ((1 ≤ time) × (time ≤ 1000000)) × (money ≤ 1000000)
+IsWithin (line.StopDisc k) = 1 ≤ k
+IsWithin (line.StopTape k) = 1 ≤ k
+IsWithin what = Unit {0}
+
 -- how often a line arms the disc and the tapes
 abbrev pub disc_arms : Operator → ℕ
 disc_arms (line.StopDisc k) = 1
@@ -91,6 +98,7 @@ pub record DidLine (what : Operator) (old : Seen) (failure : Option Failure) (ne
   pub ready : IsReady new.system new.crew
   pub crew : failure ≡ None → LeavesCrew old.crew new.crew
   pub arms : ArmsBy what failure (devices_in old.system) (devices_in new.system)
+  pub count : new.count ≡ old.count
   pub fuses : FusesBy what (devices_in new.system)
   pub same : SameDevices (devices_in old.system) (devices_in new.system)
   pub belongs : SystemBelongs old.system → SystemBelongs new.system

@@ -32,3 +32,8 @@ TellsFault fault count c failure c' before after old new = (c' ≡ c) × Puts fa
 abbrev pub system_after : StoreFault → StoreFacts → SystemFacts
 system_after Stopped s = Down (record { disc = s.online.disc; rack = s.rack })
 system_after fault s = Up s
+
+-- and a system that was down stays so
+abbrev pub system_behind : StoreFault → SystemFacts → SystemFacts
+system_behind fault (Up s) = system_after fault s
+system_behind fault (Down d) = Down d

@@ -1,12 +1,12 @@
 //! The operator arms a device, so that a write of it fails.
 ghost use Rattle.std.specs.Prelude.{◌≡◌, ◌≤◌};
 ghost use Rattle.g_console.specs.Arming.{HasArmed, disc_armed, tape_armed};
-ghost use Rattle.g_console.specs.Parts.{DidLine, IsReady, seen};
+ghost use Rattle.g_console.specs.Parts.{DidLine, IsReady};
 ghost use Rattle.g_console.specs.System.{IsRunning, devices_in, facts_of};
-ghost use Rattle.g_crew.specs.Crew.{CrewState};
 ghost use Rattle.g_script.specs.declared.operator.Operator.TheVariants as line;
 
-use crate::progress::Failure;
+use crate::day::Day;
+use crate::progress::Ended;
 use crate::puts::say;
 use crate::system::System;
 use g_disc::Disc;
@@ -15,43 +15,39 @@ use g_tape::Tapes;
 use std::alloc::Global;
 
 /// STOP DISC: the `k`-th next write of the disc will fail.
-pub fn stop_disc_line<K: Sink, D: Disc, T: Tapes>(
+pub(crate) fn stop_disc_line<K: Sink, D: Disc, T: Tapes>(
     alloc: Global,
-    system: &mut System<D, T>,
-    count: u64,
+    day: Day<D, T>,
     k: u32,
     out: &mut K,
-) -> Option<Failure>
-    requires running { IsRunning (facts_of D.state T.rack system.old) }
+) -> Ended<D, T>
+    requires ready { IsReady day.system day.crew }
     requires from_one { 1 ≤ k }
-    ensures armed { devices_in (facts_of D.state T.rack system.new) ≡ disc_armed k (devices_in (facts_of D.state T.rack system.old)) }
-    ensures line { (crew : CrewState) → IsReady (facts_of D.state T.rack system.old) crew
-        → DidLine (line.StopDisc k) (seen (facts_of D.state T.rack system.old) crew count) result
-        (seen (facts_of D.state T.rack system.new) crew count)
-        (K.written out.old) (K.written out.new) (K.faults out.old) (K.faults out.new) }
+    ensures armed { devices_in result.day.system ≡ disc_armed k (devices_in day.system) }
+    ensures line { DidLine (line.StopDisc k) day result.failure result.day (K.written out.old) (K.written out.new) (K.faults out.old) (K.faults out.new) }
 {
-    arm_disc(system, k);
-    say(alloc, count, b"STOP SET", out)
+    let mut day = day;
+    arm_disc(&mut day.system, k);
+    let failure = say(alloc, day.count, b"STOP SET", out);
+    Ended { day, failure }
 }
 
 /// STOP TAPE: the `k`-th next write of a reel that isn't refused will fail.
-pub fn stop_tape_line<K: Sink, D: Disc, T: Tapes>(
+pub(crate) fn stop_tape_line<K: Sink, D: Disc, T: Tapes>(
     alloc: Global,
-    system: &mut System<D, T>,
-    count: u64,
+    day: Day<D, T>,
     k: u32,
     out: &mut K,
-) -> Option<Failure>
-    requires running { IsRunning (facts_of D.state T.rack system.old) }
+) -> Ended<D, T>
+    requires ready { IsReady day.system day.crew }
     requires from_one { 1 ≤ k }
-    ensures armed { devices_in (facts_of D.state T.rack system.new) ≡ tape_armed k (devices_in (facts_of D.state T.rack system.old)) }
-    ensures line { (crew : CrewState) → IsReady (facts_of D.state T.rack system.old) crew
-        → DidLine (line.StopTape k) (seen (facts_of D.state T.rack system.old) crew count) result
-        (seen (facts_of D.state T.rack system.new) crew count)
-        (K.written out.old) (K.written out.new) (K.faults out.old) (K.faults out.new) }
+    ensures armed { devices_in result.day.system ≡ tape_armed k (devices_in day.system) }
+    ensures line { DidLine (line.StopTape k) day result.failure result.day (K.written out.old) (K.written out.new) (K.faults out.old) (K.faults out.new) }
 {
-    arm_tape(system, k);
-    say(alloc, count, b"STOP SET", out)
+    let mut day = day;
+    arm_tape(&mut day.system, k);
+    let failure = say(alloc, day.count, b"STOP SET", out);
+    Ended { day, failure }
 }
 
 /// Sets the fuse of the disc.

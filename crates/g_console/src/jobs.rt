@@ -1,75 +1,85 @@
 //! A job comes in, and the system is shut.
-ghost use Rattle.std.specs.Prelude.{◌≡◌, ◌+◌, ◌<◌, ◌≤◌, ◌++◌, ℕ, List, IfOk, codes, false};
-ghost use Rattle.g_console.specs.Jobs.{TakesJob, TellsWhy};
-ghost use Rattle.g_console.specs.Parts.{DidLine, IsReady, seen};
-ghost use Rattle.g_console.specs.Puts.{Puts};
-ghost use Rattle.g_console.specs.System as system;
-ghost use Rattle.g_console.specs.System.{facts_of};
+ghost use Rattle.std.specs.Prelude.{◌≡◌, ◌+◌, ◌<◌, ◌≤◌, ◌++◌, IfOk, codes};
+ghost use Rattle.g_console.specs.Jobs.{KnowsIn, TakesJob, TellsWhy};
+ghost use Rattle.g_console.specs.Parts.{DidLine, IsReady};
+ghost use Rattle.g_console.specs.System.{IsRunning, facts_of};
 ghost use Rattle.g_crew.specs.Taking.{IsPrinted, refusal_line};
 ghost use Rattle.g_script.specs.declared.operator.Operator.TheVariants as line;
 ghost use Rattle.g_world.specs.Texts as texts;
 
-use crate::progress::{Failure, Progress};
-use crate::puts::{refuse, say_made};
-use crate::running::Running;
-use crate::stopping::{goes_down, refused};
+use crate::day::Day;
+use crate::progress::{Ended, Failure};
+use crate::puts::{say_made, told};
+use crate::stopping::{fails, goes_down};
 use crate::system::{System, take_down};
 use g_base::NoMemory;
-use g_crew::{Crew, NewJob, NotTaken, job_text, push_refusal};
+use g_crew::{NewJob, NotTaken, job_text, push_refusal};
 use g_disc::Disc;
 use g_io::Sink;
-use g_name::{Local, Text};
+use g_name::{Local, Text, User};
 use g_plain::StoreFault;
 use g_tape::Tapes;
 use std::alloc::Global;
 
 /// JOB: the job comes in behind the others. `NotStarted`: the system is down; then `NoUser`, 64 jobs are there, TIME, MONEY.
-pub fn job_line<K: Sink, D: Disc, T: Tapes>(
+pub(crate) fn job_line<K: Sink, D: Disc, T: Tapes>(
     alloc: Global,
-    system: &System<D, T>,
-    crew: &mut Crew,
-    count: u64,
+    day: Day<D, T>,
     job: NewJob,
     out: &mut K,
-) -> Option<Failure>
-    requires ready { IsReady (facts_of D.state T.rack system.now) crew.old }
+) -> Ended<D, T>
+    requires ready { IsReady day.system day.crew }
     requires time { (1 ≤ job.time) × (job.time ≤ 1000000) }
     requires money { job.money ≤ 1000000 }
-    requires numbers { crew.old.next_job + 1 < 18446744073709551616 }
-    ensures { DidLine (line.Job job.name job.user job.time job.money job.lines) (seen (facts_of D.state T.rack system.now) crew.old count) result
-        (seen (facts_of D.state T.rack system.now) crew.new count)
+    requires numbers { day.crew.next_job + 1 < 18446744073709551616 }
+    ensures { DidLine (line.Job job.name job.user job.time job.money job.lines) day result.failure result.day
         (K.written out.old) (K.written out.new) (K.faults out.old) (K.faults out.new) }
+{
+    match knows(&day.system, &job.user) {
+        Some(known) => take_job(alloc, day, known, job, out),
+        None => fails(alloc, day, StoreFault::NotStarted, out),
+    }
+}
+
+/// Whether a system that is up knows the user.
+fn knows<D: Disc, T: Tapes>(system: &System<D, T>, user: &User) -> Option<bool>
+    requires running { IsRunning (facts_of D.state T.rack system.now) }
+    ensures { KnowsIn user.now (facts_of D.state T.rack system.now) result }
 {
     match system {
         System::Up(store) => {
-            let known = store.user_time(&job.user).is_some();
-            take_job(alloc, known, crew, count, job, out)
+            let known = store.user_time(user).is_some();
+            Some(known)
         }
-        System::Down(_, _) => refuse(alloc, count, &StoreFault::NotStarted, out),
+        System::Down(_, _) => None,
     }
 }
 
 /// The job comes in to a system that is up, where its user is known or isn't.
-fn take_job<K: Sink>(
+fn take_job<K: Sink, D: Disc, T: Tapes>(
     alloc: Global,
+    day: Day<D, T>,
     known: bool,
-    crew: &mut Crew,
-    count: u64,
     job: NewJob,
     out: &mut K,
-) -> Option<Failure>
+) -> Ended<D, T>
     requires time { (1 ≤ job.time) × (job.time ≤ 1000000) }
     requires money { job.money ≤ 1000000 }
-    requires numbers { crew.old.next_job + 1 < 18446744073709551616 }
-    ensures { TakesJob known job count crew.old result crew.new (K.written out.old) (K.written out.new) (K.faults out.old) (K.faults out.new) }
+    requires numbers { day.crew.next_job + 1 < 18446744073709551616 }
+    ensures same { result.day ≡ record day { crew = result.day.crew } }
+    ensures taken { TakesJob known job day.count day.crew result.failure result.day.crew (K.written out.old) (K.written out.new) (K.faults out.old) (K.faults out.new) }
 {
+    let mut day = day;
     let name = job.name.copy();
-    match crew.take_in(alloc, known, job) {
+    match day.crew.take_in(alloc, known, job) {
         Ok(number) => {
             let made = came_in(alloc, number, &name);
-            say_made(alloc, count, made, out)
+            told(alloc, day, made, out)
         }
-        Err(why) => turned_away(alloc, count, why, out),
+        Err(why) => {
+            let failure = turned_away(alloc, day.count, why, out);
+            Ended { day, failure }
+        }
     }
 }
 
@@ -106,58 +116,47 @@ fn refusal(alloc: Global, why: NotTaken) -> Result<Text, NoMemory>
 }
 
 /// SHUT: the system goes down, and each unfinished job is cut off. `NotStarted`; `DumpOpen`: a dump is open.
-pub fn shut_line<K: Sink, D: Disc, T: Tapes>(
+pub(crate) fn shut_line<K: Sink, D: Disc, T: Tapes>(
     alloc: Global,
-    system: System<D, T>,
-    crew: &mut Crew,
-    count: u64,
+    day: Day<D, T>,
     out: &mut K,
-) -> Progress<D, T>
-    requires ready { IsReady (facts_of D.state T.rack system) crew.old }
-    ensures { DidLine line.Shut (seen (facts_of D.state T.rack system) crew.old count) result.failure
-        (seen (facts_of D.state T.rack result.system) crew.new count)
-        (K.written out.old) (K.written out.new) (K.faults out.old) (K.faults out.new) }
+) -> Ended<D, T>
+    requires ready { IsReady day.system day.crew }
+    ensures { DidLine line.Shut day result.failure result.day (K.written out.old) (K.written out.new) (K.faults out.old) (K.faults out.new) }
 {
+    let Day {
+        system,
+        mut crew,
+        count,
+    } = day;
     match system {
-        System::Up(store) => shut(alloc, store, crew, count, out),
-        System::Down(disc, tapes) => refused(
-            alloc,
-            System::Down(disc, tapes),
-            count,
-            &StoreFault::NotStarted,
-            out,
-        ),
-    }
-}
-
-/// A system that is up is shut.
-fn shut<K: Sink, D: Disc, T: Tapes>(
-    alloc: Global,
-    store: Running<D, T>,
-    crew: &mut Crew,
-    count: u64,
-    out: &mut K,
-) -> Progress<D, T>
-    requires ready { IsReady (system.Up store) crew.old }
-    ensures { DidLine line.Shut (seen (system.Up store) crew.old count) result.failure
-        (seen (facts_of D.state T.rack result.system) crew.new count)
-        (K.written out.old) (K.written out.new) (K.faults out.old) (K.faults out.new) }
-{
-    match store.dump_number() {
-        Some(number) => refused(
-            alloc,
-            System::Up(store),
-            count,
-            &StoreFault::DumpOpen(number),
-            out,
-        ),
-        None => {
-            let failure = goes_down(alloc, crew, count, b"SHUT", out);
-            let (disc, tapes) = take_down(store);
-            Progress {
-                system: System::Down(disc, tapes),
-                failure,
+        System::Up(store) => match store.dump_number() {
+            Some(number) => {
+                let day = Day {
+                    system: System::Up(store),
+                    crew,
+                    count,
+                };
+                fails(alloc, day, StoreFault::DumpOpen(number), out)
             }
+            None => {
+                let failure = goes_down(alloc, &mut crew, count, b"SHUT", out);
+                let (disc, tapes) = take_down(store);
+                let day = Day {
+                    system: System::Down(disc, tapes),
+                    crew,
+                    count,
+                };
+                Ended { day, failure }
+            }
+        },
+        System::Down(disc, tapes) => {
+            let day = Day {
+                system: System::Down(disc, tapes),
+                crew,
+                count,
+            };
+            fails(alloc, day, StoreFault::NotStarted, out)
         }
     }
 }

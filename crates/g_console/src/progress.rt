@@ -1,5 +1,5 @@
 //! How far a run came.
-use crate::system::System;
+use crate::day::Day;
 use g_disc::Disc;
 use g_tape::Tapes;
 
@@ -10,9 +10,9 @@ pub enum Failure {
     Memory,
 }
 
-/// The system behind a part of a run, and why the run ends there, if it does.
+/// The day behind a part of a run, and why the run ends there, if it does.
 #[derive(Drop)]
-pub struct Progress<D: Disc, T: Tapes> {
-    pub system: System<D, T>,
+pub struct Ended<D: Disc, T: Tapes> {
+    pub day: Day<D, T>,
     pub failure: Option<Failure>,
 }

@@ -5,13 +5,16 @@ ghost use Rattle.g_console.specs.Telling.{refusal_text};
 ghost use Rattle.g_monitor.specs.Refusals.{fault_line};
 ghost use Rattle.g_world.specs.Texts.{operator_line};
 
-use crate::progress::Failure;
+use crate::day::Day;
+use crate::progress::{Ended, Failure};
 use g_base::NoMemory;
 use g_crew::push_operator_line;
+use g_disc::Disc;
 use g_io::Sink;
 use g_monitor::push_fault;
 use g_name::Text;
 use g_plain::StoreFault;
+use g_tape::Tapes;
 use std::alloc::Global;
 
 /// Puts a text.
@@ -57,6 +60,21 @@ pub fn say_made<K: Sink>(
         Ok(what) => say(alloc, count, what.as_slice(), out),
         Err(NoMemory) => Some(Failure::Memory),
     }
+}
+
+/// The line that tells what was done is put, and all is as it was.
+pub fn told<K: Sink, D: Disc, T: Tapes>(
+    alloc: Global,
+    day: Day<D, T>,
+    made: Result<Text, NoMemory>,
+    out: &mut K,
+) -> Ended<D, T>
+    ensures same { result.day ≡ day }
+    ensures put { (what : List ℕ) → IfOk made (λ t. t ≡ what)
+        → Puts result.failure (operator_line day.count what) (K.written out.old) (K.written out.new) (K.faults out.old) (K.faults out.new) }
+{
+    let failure = say_made(alloc, day.count, made, out);
+    Ended { day, failure }
 }
 
 /// Puts the line that tells why a line was refused.

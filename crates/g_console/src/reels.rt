@@ -1,12 +1,12 @@
 //! Reels are mounted and unmounted, whether the system is up or down.
 ghost use Rattle.std.specs.Prelude.{◌≡◌};
-ghost use Rattle.g_crew.specs.Crew.{CrewState};
-ghost use Rattle.g_console.specs.Parts.{DidLine, IsReady, seen};
+ghost use Rattle.g_console.specs.Parts.{DidLine, IsReady};
 ghost use Rattle.g_console.specs.Reels.{MountsOn, UnmountsOn};
 ghost use Rattle.g_console.specs.System.{IsRunning, facts_of};
 ghost use Rattle.g_script.specs.declared.operator.Operator.TheVariants as line;
 
-use crate::progress::Failure;
+use crate::day::Day;
+use crate::progress::Ended;
 use crate::puts::{refuse, say_made};
 use crate::system::System;
 use g_crew::tape_text;
@@ -18,48 +18,50 @@ use g_tape::Tapes;
 use std::alloc::Global;
 
 /// MOUNT: the reel is mounted. `NoTape`: it isn't in the rack.
-pub fn mount_line<K: Sink, D: Disc, T: Tapes>(
+pub(crate) fn mount_line<K: Sink, D: Disc, T: Tapes>(
     alloc: Global,
-    system: &mut System<D, T>,
-    count: u64,
+    day: Day<D, T>,
     serial: u32,
     out: &mut K,
-) -> Option<Failure>
-    requires running { IsRunning (facts_of D.state T.rack system.old) }
-    ensures { (crew : CrewState) → IsReady (facts_of D.state T.rack system.old) crew
-        → DidLine (line.Mount serial) (seen (facts_of D.state T.rack system.old) crew count) result
-        (seen (facts_of D.state T.rack system.new) crew count)
-        (K.written out.old) (K.written out.new) (K.faults out.old) (K.faults out.new) }
+) -> Ended<D, T>
+    requires ready { IsReady day.system day.crew }
+    ensures { DidLine (line.Mount serial) day result.failure result.day (K.written out.old) (K.written out.new) (K.faults out.old) (K.faults out.new) }
 {
-    match mount(system, serial) {
+    let mut day = day;
+    match mount(&mut day.system, serial) {
         Ok(()) => {
             let made = tape_text(alloc, serial, b"MOUNTED");
-            say_made(alloc, count, made, out)
+            let failure = say_made(alloc, day.count, made, out);
+            Ended { day, failure }
         }
-        Err(fault) => refuse(alloc, count, &fault, out),
+        Err(fault) => {
+            let failure = refuse(alloc, day.count, &fault, out);
+            Ended { day, failure }
+        }
     }
 }
 
 /// UNMOUNT: the reel is taken off. `NoTape`, `NotMounted`, `TapeBusy`: the open dump is on it.
-pub fn unmount_line<K: Sink, D: Disc, T: Tapes>(
+pub(crate) fn unmount_line<K: Sink, D: Disc, T: Tapes>(
     alloc: Global,
-    system: &mut System<D, T>,
-    count: u64,
+    day: Day<D, T>,
     serial: u32,
     out: &mut K,
-) -> Option<Failure>
-    requires running { IsRunning (facts_of D.state T.rack system.old) }
-    ensures { (crew : CrewState) → IsReady (facts_of D.state T.rack system.old) crew
-        → DidLine (line.Unmount serial) (seen (facts_of D.state T.rack system.old) crew count) result
-        (seen (facts_of D.state T.rack system.new) crew count)
-        (K.written out.old) (K.written out.new) (K.faults out.old) (K.faults out.new) }
+) -> Ended<D, T>
+    requires ready { IsReady day.system day.crew }
+    ensures { DidLine (line.Unmount serial) day result.failure result.day (K.written out.old) (K.written out.new) (K.faults out.old) (K.faults out.new) }
 {
-    match unmount(system, serial) {
+    let mut day = day;
+    match unmount(&mut day.system, serial) {
         Ok(()) => {
             let made = tape_text(alloc, serial, b"UNMOUNTED");
-            say_made(alloc, count, made, out)
+            let failure = say_made(alloc, day.count, made, out);
+            Ended { day, failure }
         }
-        Err(fault) => refuse(alloc, count, &fault, out),
+        Err(fault) => {
+            let failure = refuse(alloc, day.count, &fault, out);
+            Ended { day, failure }
+        }
     }
 }
 

@@ -1,20 +1,19 @@
 //! The system comes up: by FORMAT, START or RESTORE.
-ghost use Rattle.std.specs.Prelude.{◌≡◌, ◌++◌, ℕ, List, None, Some, [], IfErr, IfOk, codes, false};
+ghost use Rattle.std.specs.Prelude.{◌≡◌, ◌++◌, ◌<◌, ◌≤◌, ℕ, List, None, [], IfErr, IfOk, codes, false};
 ghost use Rattle.std.specs.Fmt.{decimal};
 ghost use Rattle.g_cache.specs.Cached.{cached_with};
+ghost use Rattle.g_console.specs.Opening.{Opens};
 ghost use Rattle.g_console.specs.Parts.{DidLine, IsReady, seen};
 ghost use Rattle.g_console.specs.Puts.{Puts};
-ghost use Rattle.g_console.specs.Opening.{Opens};
-ghost use Rattle.g_console.specs.declared.system.System.TheVariants as systems;
+ghost use Rattle.g_console.specs.Rising.{MakesNone, Raises, RefusesRise, line_of};
 ghost use Rattle.g_console.specs.System as system;
-ghost use Rattle.g_console.specs.System.{facts_of};
-ghost use Rattle.g_script.specs.declared.operator.Operator.TheVariants as line;
 ghost use Rattle.g_world.specs.Texts.{operator_line};
 
-use crate::progress::{Failure, Progress};
-use crate::puts::say_made;
+use crate::day::Day;
+use crate::progress::{Ended, Failure};
+use crate::puts::told;
 use crate::running::{EmptyBox, Running};
-use crate::stopping::{refused, stays_down};
+use crate::stopping::fails;
 use crate::system::System;
 use g_base::NoMemory;
 use g_cache::CachedDisc;
@@ -23,154 +22,140 @@ use g_disc::Disc;
 use g_io::Sink;
 use g_name::Text;
 use g_plain::StoreFault;
-use g_store::{Store, format, restore, start};
+use g_store::{Refused, Store, format, restore, start};
 use g_tape::Tapes;
 use std::alloc::Global;
 
-/// FORMAT: a new filestore. `Running`: the system is up.
-pub fn format_line<K: Sink, D: Disc, T: Tapes>(
+/// How a system comes up: as a new filestore; from what the disc holds, where a dump whose mark was written may be adopted; or from
+/// the tree that the last completed dump opened on.
+#[derive(Clone, Copy, Debug, PartialEq, Eq)]
+pub(crate) enum Rise {
+    Format,
+    Start,
+    Restore,
+}
+
+/// FORMAT, START or RESTORE. `Running`: the system is up; else the refusals of a store that is made so (docs/MANUAL.md).
+pub(crate) fn rise_line<K: Sink, D: Disc, T: Tapes>(
     alloc: Global,
-    system: System<D, T>,
-    crew: &mut Crew,
-    count: u64,
+    day: Day<D, T>,
+    rise: Rise,
     out: &mut K,
-) -> Progress<D, T>
-    requires ready { IsReady (facts_of D.state T.rack system) crew.old }
-    ensures { DidLine line.Format (seen (facts_of D.state T.rack system) crew.old count) result.failure
-        (seen (facts_of D.state T.rack result.system) crew.new count)
-        (K.written out.old) (K.written out.new) (K.faults out.old) (K.faults out.new) }
+) -> Ended<D, T>
+    requires ready { IsReady day.system day.crew }
+    ensures { DidLine (line_of rise) day result.failure result.day (K.written out.old) (K.written out.new) (K.faults out.old) (K.faults out.new) }
 {
+    let Day {
+        system,
+        crew,
+        count,
+    } = day;
     match system {
-        System::Up(store) => { refused(alloc, System::Up(store), count, &StoreFault::Running, out) }
-        System::Down(disc, tapes) => match prepared(alloc, disc) {
-            Ok((place, disc)) => formats(alloc, place, disc, tapes, crew, count, out),
-            Err(disc) => without_memory(disc, tapes),
+        System::Up(store) => {
+            let day = Day {
+                system: System::Up(store),
+                crew,
+                count,
+            };
+            fails(alloc, day, StoreFault::Running, out)
+        }
+        System::Down(disc, tapes) => match raise(alloc, disc, tapes, rise) {
+            Ok(raised) => comes_up(alloc, raised, crew, count, out),
+            Err(refused) => {
+                let Refused { fault, disc, tapes } = refused;
+                let day = Day {
+                    system: System::Down(disc, tapes),
+                    crew,
+                    count,
+                };
+                fails(alloc, day, fault, out)
+            }
         },
     }
 }
 
-/// A new filestore is made on a system that is down.
-fn formats<K: Sink, D: Disc, T: Tapes>(
+/// A store that was made, and what is told of it.
+#[derive(Drop)]
+struct Raised<D: Disc, T: Tapes> {
+    store: Running<D, T>,
+    made: Result<Text, NoMemory>,
+}
+
+/// A store over both devices. A refusal hands them back; without memory for the box of the store or the cache before the disc they
+/// are as they were.
+fn raise<D: Disc, T: Tapes>(
+    alloc: Global,
+    disc: D,
+    tapes: T,
+    rise: Rise,
+) -> Result<Raised<D, T>, Refused<D, T>>
+    requires size { (2177 < (D.state disc).size) × ((D.state disc).size ≤ 1048576) }
+    ensures ok { IfOk result (λ r. Raises rise (D.state disc) (T.rack tapes) r.store r.made) }
+    ensures refused { IfErr result (λ e. MakesNone rise (D.state disc) (T.rack tapes) e.fault (D.state e.disc) (T.rack e.tapes)) }
+{
+    match prepared(alloc, disc) {
+        Ok((place, disc)) => raise_in(alloc, place, disc, tapes, rise),
+        Err(disc) => Err(Refused {
+            fault: StoreFault::NoMemory,
+            disc,
+            tapes,
+        }),
+    }
+}
+
+/// The same in a box that is there, over a disc that is in its cache.
+fn raise_in<D: Disc, T: Tapes>(
     alloc: Global,
     place: EmptyBox<D, T>,
     disc: CachedDisc<D>,
     tapes: T,
-    crew: &mut Crew,
-    count: u64,
-    out: &mut K,
-) -> Progress<D, T>
-    requires ready { IsReady (system.Down (record { disc = D.state disc.disc; rack = T.rack tapes })) crew.old }
-    ensures { DidLine line.Format (seen (system.Down (record { disc = D.state disc.disc; rack = T.rack tapes })) crew.old count) result.failure
-        (seen (facts_of D.state T.rack result.system) crew.new count)
-        (K.written out.old) (K.written out.new) (K.faults out.old) (K.faults out.new) }
+    rise: Rise,
+) -> Result<Raised<D, T>, Refused<D, T>>
+    requires size { (2177 < (D.state disc.disc).size) × ((D.state disc.disc).size ≤ 1048576) }
+    ensures ok { IfOk result (λ r. Raises rise (D.state disc.disc) (T.rack tapes) r.store r.made) }
+    ensures refused { IfErr result (λ e. MakesNone rise (D.state disc.disc) (T.rack tapes) e.fault (D.state e.disc) (T.rack e.tapes)) }
 {
-    match format(alloc, disc, tapes) {
-        Ok(store) => {
-            let made = Text::from_slice(alloc, b"FORMATTED");
-            comes_up(alloc, place, store, crew, count, made, out)
-        }
-        Err(answer) => {
+    match made_by(alloc, disc, tapes, rise) {
+        Ok((store, made)) => Ok(Raised {
+            store: place.filled(store),
+            made,
+        }),
+        Err(refused) => {
             place.discard();
-            stays_down(alloc, answer, crew, count, out)
+            let Refused { fault, disc, tapes } = refused;
+            Err(Refused {
+                fault,
+                disc: disc.into_disc(),
+                tapes,
+            })
         }
     }
 }
 
-/// START: what the disc holds; a dump whose mark was written may be adopted. `Running`.
-pub fn start_line<K: Sink, D: Disc, T: Tapes>(
+/// A store, and the line that tells it, where there is memory for the line.
+fn made_by<D: Disc, T: Tapes>(
     alloc: Global,
-    system: System<D, T>,
-    crew: &mut Crew,
-    count: u64,
-    out: &mut K,
-) -> Progress<D, T>
-    requires ready { IsReady (facts_of D.state T.rack system) crew.old }
-    ensures { DidLine line.Start (seen (facts_of D.state T.rack system) crew.old count) result.failure
-        (seen (facts_of D.state T.rack result.system) crew.new count)
-        (K.written out.old) (K.written out.new) (K.faults out.old) (K.faults out.new) }
+    disc: CachedDisc<D>,
+    tapes: T,
+    rise: Rise,
+) -> Result<(Store<CachedDisc<D>, T>, Result<Text, NoMemory>), Refused<CachedDisc<D>, T>>
+    requires size { (2177 < (D.state disc.disc).size) × ((D.state disc.disc).size ≤ 1048576) }
+    ensures ok { IfOk result (λ p. Raises rise (D.state disc.disc) (T.rack tapes) p.0 p.1) }
+    ensures refused { IfErr result (λ e. RefusesRise rise (D.state disc.disc) (T.rack tapes) e.fault (D.state e.disc.disc) (T.rack e.tapes)) }
 {
-    match system {
-        System::Up(store) => { refused(alloc, System::Up(store), count, &StoreFault::Running, out) }
-        System::Down(disc, tapes) => match prepared(alloc, disc) {
-            Ok((place, disc)) => starts(alloc, place, disc, tapes, crew, count, out),
-            Err(disc) => without_memory(disc, tapes),
+    match rise {
+        Rise::Format => match format(alloc, disc, tapes) {
+            Ok(store) => Ok((store, Text::from_slice(alloc, b"FORMATTED"))),
+            Err(refused) => Err(refused),
         },
-    }
-}
-
-/// A system that is down starts.
-fn starts<K: Sink, D: Disc, T: Tapes>(
-    alloc: Global,
-    place: EmptyBox<D, T>,
-    disc: CachedDisc<D>,
-    tapes: T,
-    crew: &mut Crew,
-    count: u64,
-    out: &mut K,
-) -> Progress<D, T>
-    requires ready { IsReady (system.Down (record { disc = D.state disc.disc; rack = T.rack tapes })) crew.old }
-    ensures { DidLine line.Start (seen (system.Down (record { disc = D.state disc.disc; rack = T.rack tapes })) crew.old count) result.failure
-        (seen (facts_of D.state T.rack result.system) crew.new count)
-        (K.written out.old) (K.written out.new) (K.faults out.old) (K.faults out.new) }
-{
-    match start(alloc, disc, tapes) {
-        Ok((store, adopted)) => {
-            let made = started_text(alloc, adopted);
-            comes_up(alloc, place, store, crew, count, made, out)
-        }
-        Err(answer) => {
-            place.discard();
-            stays_down(alloc, answer, crew, count, out)
-        }
-    }
-}
-
-/// RESTORE: the tree that the last completed dump opened on. `Running`.
-pub fn restore_line<K: Sink, D: Disc, T: Tapes>(
-    alloc: Global,
-    system: System<D, T>,
-    crew: &mut Crew,
-    count: u64,
-    out: &mut K,
-) -> Progress<D, T>
-    requires ready { IsReady (facts_of D.state T.rack system) crew.old }
-    ensures { DidLine line.Restore (seen (facts_of D.state T.rack system) crew.old count) result.failure
-        (seen (facts_of D.state T.rack result.system) crew.new count)
-        (K.written out.old) (K.written out.new) (K.faults out.old) (K.faults out.new) }
-{
-    match system {
-        System::Up(store) => { refused(alloc, System::Up(store), count, &StoreFault::Running, out) }
-        System::Down(disc, tapes) => match prepared(alloc, disc) {
-            Ok((place, disc)) => restores(alloc, place, disc, tapes, crew, count, out),
-            Err(disc) => without_memory(disc, tapes),
+        Rise::Start => match start(alloc, disc, tapes) {
+            Ok((store, adopted)) => Ok((store, started_text(alloc, adopted))),
+            Err(refused) => Err(refused),
         },
-    }
-}
-
-/// A system that is down is restored.
-fn restores<K: Sink, D: Disc, T: Tapes>(
-    alloc: Global,
-    place: EmptyBox<D, T>,
-    disc: CachedDisc<D>,
-    tapes: T,
-    crew: &mut Crew,
-    count: u64,
-    out: &mut K,
-) -> Progress<D, T>
-    requires ready { IsReady (system.Down (record { disc = D.state disc.disc; rack = T.rack tapes })) crew.old }
-    ensures { DidLine line.Restore (seen (system.Down (record { disc = D.state disc.disc; rack = T.rack tapes })) crew.old count) result.failure
-        (seen (facts_of D.state T.rack result.system) crew.new count)
-        (K.written out.old) (K.written out.new) (K.faults out.old) (K.faults out.new) }
-{
-    match restore(alloc, disc, tapes) {
-        Ok((store, number)) => {
-            let made = restored(alloc, number);
-            comes_up(alloc, place, store, crew, count, made, out)
-        }
-        Err(answer) => {
-            place.discard();
-            stays_down(alloc, answer, crew, count, out)
-        }
+        Rise::Restore => match restore(alloc, disc, tapes) {
+            Ok((store, number)) => Ok((store, restored(alloc, number))),
+            Err(refused) => Err(refused),
+        },
     }
 }
 
@@ -192,45 +177,37 @@ fn prepared<D: Disc, T: Tapes>(alloc: Global, disc: D) -> Result<(EmptyBox<D, T>
     }
 }
 
-/// No memory was found for that: nothing is done, and the devices stand as they stood.
-fn without_memory<D: Disc, T: Tapes>(disc: D, tapes: T) -> Progress<D, T>
-    ensures down { result.system ≡ systems.Down disc tapes }
-    ensures failure { result.failure ≡ Some Failure.Memory }
-{
-    let failure = Some(Failure::Memory);
-    Progress {
-        system: System::Down(disc, tapes),
-        failure,
-    }
-}
-
 /// The system is up: each user's accounts open, and the line that tells it is put.
 fn comes_up<K: Sink, D: Disc, T: Tapes>(
     alloc: Global,
-    place: EmptyBox<D, T>,
-    store: Store<CachedDisc<D>, T>,
-    crew: &mut Crew,
+    raised: Raised<D, T>,
+    crew: Crew,
     count: u64,
-    made: Result<Text, NoMemory>,
     out: &mut K,
-) -> Progress<D, T>
-    requires running { store.spent ≡ false }
-    ensures up { result.system ≡ systems.Up store }
-    ensures opened { result.failure ≡ None → Opens store.online.contents.users crew.old crew.new }
-    ensures put { (what : List ℕ) → IfOk made (λ t. t ≡ what)
+) -> Ended<D, T>
+    requires running { raised.store.spent ≡ false }
+    ensures day { result.day ≡ seen (system.Up raised.store) result.day.crew count }
+    ensures opened { result.failure ≡ None → Opens raised.store.online.contents.users crew result.day.crew }
+    ensures put { (what : List ℕ) → IfOk raised.made (λ t. t ≡ what)
         → Puts result.failure (operator_line count what) (K.written out.old) (K.written out.new) (K.faults out.old) (K.faults out.new) }
 {
-    let store = place.filled(store);
+    let Raised { store, made } = raised;
+    let mut crew = crew;
     match crew.open_accounts(store.users()) {
         Ok(()) => {
-            let failure = say_made(alloc, count, made, out);
-            Progress {
+            let day = Day {
                 system: System::Up(store),
-                failure,
-            }
+                crew,
+                count,
+            };
+            told(alloc, day, made, out)
         }
-        Err(NoMemory) => Progress {
-            system: System::Up(store),
+        Err(NoMemory) => Ended {
+            day: Day {
+                system: System::Up(store),
+                crew,
+                count,
+            },
             failure: Some(Failure::Memory),
         },
     }

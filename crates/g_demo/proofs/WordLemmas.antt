@@ -1,14 +1,12 @@
 -- The words of the command line, and the numbers in them.
-use Rattle.std.proofs.Common.{Bool, Err, List, Ok, Result, [], ap, arith, codes, get_or, length, refl, subst, suc, sym, true, zero, ℕ, ◌<◌, ◌∙◌, ◌∷◌, ◌≡◌, ◌≢◌, ◌≤◌, ◌⊎◌, ◌^◌, inl, inr}
+use Rattle.std.proofs.Common.{Bool, List, None, Some, [], ap, arith, codes, get_or, length, refl, subst, suc, sym, true, zero, ℕ, ◌<◌, ◌∙◌, ◌∷◌, ◌≡◌, ◌≢◌, ◌≤◌, ◌⊎◌, ◌^◌, inl, inr}
 use Rattle.std.specs.Borrow.{Bor}
 use Rattle.std.specs.Fmt.{decimal}
 use Rattle.std.specs.Str.{bytes_eq}
-use Rattle.std.specs.Str.Parse.{AllDigits, ParsesUnsigned, digits_value}
-use Rattle.std.proofs.lemmas.Fmt.{decimal-digits_value, decimal_digit, decimal_injective, decimal_is_IsNumeral, decimal_nonempty, first_decimal, parse-decimal}
-use Rattle.std.proofs.lemmas.Result.{OkIff-at_ok}
+use Rattle.std.proofs.lemmas.Fmt.{decimal_injective}
 use Rattle.std.proofs.lemmas.Slice.Eq.{bytes_eq-Decides}
-use Rattle.std.proofs.lemmas.Str.Parse.{IsNumeralModel, digit_at, numerals_by_value, parse_plain, tells_digits}
-use Rattle.g_demo.specs.Plain.{BeginsPlainly}
+use Rattle.g_lines.proofs.NumberLemmas.{number-complete, number-sound}
+use Rattle.g_lines.specs.Numbers.{number_read}
 use Rattle.g_demo.specs.Words.{IsAsked, IsDemonstration, demo_words, texts_of, words_of}
 use Rattle.g_demo.specs.declared.demonstration.Demonstration.{Demonstration}
 use Rattle.g_demo.specs.declared.words.Asked.{Asked}
@@ -18,39 +16,19 @@ use Rattle.g_demo.specs.declared.words.Asked.TheVariants as asked
 abbrev pub IsNoNumber : List ℕ → Type 0
 IsNoNumber digits = (n : ℕ) → n < 2 ^ 32 → digits ≢ decimal n
 
-own : IsNumeralModel (AllDigits 10) (digits_value 10)
-own = numerals_by_value (AllDigits 10) tells_digits
-
 fits : (n : ℕ) → n < 2 ^ 32 → n < 2 ^ 64
 fits n small = omega arith
 
-alone : (n : ℕ) → n < 2 ^ 32 → get_or (decimal n) 0 0 ≡ 48 → length (decimal n) ≡ 1
-alone zero small first = ap length (decimal_digit 0 (omega arith))
-alone (suc n) small first =
-    let positive : 0 < suc n = omega arith in
-    let above = first_decimal (suc n) positive (fits (suc n) small) in
-    absurd (omega (arith, above, first))
+pub no_number : (digits : List ℕ) → number_read 4294967295 digits ≡ None → IsNoNumber digits
+no_number digits none n small written =
+    let few : n ≤ 4294967295 = omega (arith, small) in
+    let read = number-complete 4294967295 n digits (omega arith) (few, written) in
+    cc
 
-begins_plainly-decimal : (n : ℕ) → n < 2 ^ 32 → BeginsPlainly (decimal n)
-begins_plainly-decimal n small =
-    let some = decimal_nonempty n (fits n small) in
-    let first = digit_at (decimal n) 0 (decimal_is_IsNumeral n (fits n small)).0.1 some in
-    record { some = omega (arith, some); least = first.0; most = first.1; alone = alone n small }
-
-pub no_number-plain : (digits : List ℕ) → (BeginsPlainly digits → ⊥) → IsNoNumber digits
-no_number-plain digits not_plain n small e = not_plain (subst BeginsPlainly (sym e) (begins_plainly-decimal n small))
-
-pub no_number-parse : {E : Type 0} (digits : List ℕ) (r : Result ℕ E) (e : E) → ParsesUnsigned 32 10 digits r → r ≡ Err e → IsNoNumber digits
-no_number-parse digits r failed parses is n small e =
-    let ok = parse-decimal 32 n digits r small (fits n small) e parses in cc
-
-pub number_found : {E : Type 0} (digits : List ℕ) (r : Result ℕ E) (n : ℕ) → ParsesUnsigned 32 10 digits r → r ≡ Ok n → BeginsPlainly digits → (n < 2 ^ 32) × (digits ≡ decimal n)
-number_found digits r n parses is plain =
-    let read = OkIff-at_ok r _ _ n (parse_plain own 32 digits r parses (λ e. absurd (omega (arith, e, plain.least)))) is in
-    let wide : digits_value 10 digits < 2 ^ 64 = omega (arith, read.0.2) in
-    let printed : decimal n ≡ digits = ap decimal read.1 ∙ decimal-digits_value own digits read.0.0 read.0.1 plain.alone wide in
-    let small : n < 2 ^ 32 = omega (arith, read.1, read.0.2) in
-    (small, sym printed)
+pub number_found : (digits : List ℕ) (n : ℕ) → number_read 4294967295 digits ≡ Some n → (n < 2 ^ 32) × (digits ≡ decimal n)
+number_found digits n read =
+    let is = number-sound 4294967295 n digits read in
+    (omega (arith, is.0), is.1)
 
 -- three words that are those of no demonstration
 abbrev pub IsNoDemo : List ℕ → List ℕ → List ℕ → Type 0

@@ -1,4 +1,3 @@
-pub mod Plain
 pub mod Script
 pub mod Sink
 pub mod Summary

@@ -16,7 +16,7 @@ pub fn script_of(alloc: Global, demo: &Demonstration) -> Result<Text, NoMemory>
 {
     let mut text = with_room(alloc, demo.rounds)?;
     text.extend(b"0 FORMAT\n0 MOUNT 1\n")?;
-    push_rounds(alloc, &mut text, demo.number, demo.rounds)?;
+    push_rounds(&mut text, demo.number, demo.rounds)?;
     text.extend(b"1000000000 DUMP 1\n1000000000 SHUT\n1000000000 RESTORE\n")?;
     text.extend(b"1000000000 JOB END,:MASTER,TIME 100\nLISTDIR\nENDJOB\n****\n")?;
     Ok(text)
@@ -32,18 +32,18 @@ fn with_room(alloc: Global, rounds: u32) -> Result<Text, NoMemory>
 }
 
 /// Puts the lines of the rounds behind the text.
-fn push_rounds(alloc: Global, text: &mut Text, number: u32, rounds: u32) -> Result<(), NoMemory>
+fn push_rounds(text: &mut Text, number: u32, rounds: u32) -> Result<(), NoMemory>
     ensures { OnOk result (text.new ≡ text.old ++ text_of (rounds_lines number rounds)) }
 {
     let mut draws = Draws::new(number);
     for i in 0..rounds {
-        push_round(alloc, text, &mut draws, u64::from(i) + 1)?;
+        push_round(text, &mut draws, u64::from(i) + 1)?;
     }
     Ok(())
 }
 
 /// Puts the lines of one round behind the text.
-fn push_round(alloc: Global, text: &mut Text, draws: &mut Draws, round: u64) -> Result<(), NoMemory>
+fn push_round(text: &mut Text, draws: &mut Draws, round: u64) -> Result<(), NoMemory>
     requires { round ≤ 2 ^ 32 }
     ensures lines { OnOk result (text.new ≡ text.old ++ text_of (round_lines round draws.old.state)) }
     ensures state { OnOk result (draws.new.state ≡ behind_round round draws.old.state) }
@@ -51,27 +51,20 @@ fn push_round(alloc: Global, text: &mut Text, draws: &mut Draws, round: u64) -> 
     let made = draws.draw(20);
     let lines = draws.draw(40) + 1;
     let listed = draws.draw(20);
-    push_job(alloc, text, round, made, lines, listed)?;
-    push_behind_job(alloc, text, draws, round)
+    push_job(text, round, made, lines, listed)?;
+    push_behind_job(text, draws, round)
 }
 
 /// Puts the lines of a round's job behind the text.
-fn push_job(
-    alloc: Global,
-    text: &mut Text,
-    round: u64,
-    made: u32,
-    lines: u32,
-    listed: u32,
-) -> Result<(), NoMemory>
+fn push_job(text: &mut Text, round: u64, made: u32, lines: u32, listed: u32) -> Result<(), NoMemory>
     requires { round ≤ 2 ^ 32 }
     ensures { OnOk result (text.new ≡ text.old ++ text_of (job_lines round made lines listed)) }
 {
-    push_turn_line(alloc, text, 4 * round, b"JOB J", round, b",:MASTER,TIME 20")?;
-    push_line(alloc, text, b"INPUT F", u64::from(made), b"(1)")?;
+    push_turn_line(text, 4 * round, b"JOB J", round, b",:MASTER,TIME 20")?;
+    push_line(text, b"INPUT F", u64::from(made), b"(1)")?;
     push_filled(text, lines, round)?;
     text.extend(b"////\n")?;
-    push_line(alloc, text, b"LISTFILE F", u64::from(listed), b"(1)")?;
+    push_line(text, b"LISTFILE F", u64::from(listed), b"(1)")?;
     text.extend(b"ENDJOB\n****\n")
 }
 
@@ -95,12 +88,7 @@ fn letter(round: u64) -> u8
 }
 
 /// Puts what stands behind a round's job behind the text.
-fn push_behind_job(
-    alloc: Global,
-    text: &mut Text,
-    draws: &mut Draws,
-    round: u64,
-) -> Result<(), NoMemory>
+fn push_behind_job(text: &mut Text, draws: &mut Draws, round: u64) -> Result<(), NoMemory>
     requires { round ≤ 2 ^ 32 }
     ensures lines { (state : ℕ) → draws.old.state ≡ behind_three state →
         OnOk result (text.new ≡ text.old ++ text_of (behind_job round state)) }
@@ -111,7 +99,6 @@ fn push_behind_job(
         49 => {
             let file = draws.draw(20);
             push_turn_line(
-                alloc,
                 text,
                 4 * round,
                 b"MIGRATE :MASTER.F",
@@ -119,7 +106,7 @@ fn push_behind_job(
                 b"(1)",
             )
         }
-        0 => push_line(alloc, text, b"", 4 * round, b" DUMP 1"),
+        0 => push_line(text, b"", 4 * round, b" DUMP 1"),
         _ => Ok(()),
     }
 }

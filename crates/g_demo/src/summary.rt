@@ -3,8 +3,9 @@ ghost use Rattle.std.specs.Prelude.{◌≡◌, ◌+◌, ◌*◌, ◌<◌, ◌≤
 ghost use Rattle.g_demo.specs.Summary as spec;
 
 use crate::demonstration::Demonstration;
-use crate::text::{push_decimal, push_line};
+use crate::text::push_line;
 use g_base::NoMemory;
+use g_lines::push_decimal;
 use g_name::Text;
 use std::alloc::Global;
 
@@ -134,10 +135,10 @@ pub fn summary_text(
     ensures { IfOk result (λ text. text ≡ spec.summary_text demo.now summary.now) }
 {
     let mut text = Text::from_slice(alloc, b"DEMO ")?;
-    push_decimal(alloc, &mut text, u64::from(demo.number))?;
-    push_line(alloc, &mut text, b" ", u64::from(demo.rounds), b"")?;
-    push_line(alloc, &mut text, b"LINES ", summary.lines, b"")?;
-    push_line(alloc, &mut text, b"BYTES ", summary.bytes, b"")?;
-    push_line(alloc, &mut text, b"FOLD ", u64::from(summary.fold), b"")?;
+    push_decimal(&mut text, u64::from(demo.number))?;
+    push_line(&mut text, b" ", u64::from(demo.rounds), b"")?;
+    push_line(&mut text, b"LINES ", summary.lines, b"")?;
+    push_line(&mut text, b"BYTES ", summary.bytes, b"")?;
+    push_line(&mut text, b"FOLD ", u64::from(summary.fold), b"")?;
     Ok(text)
 }

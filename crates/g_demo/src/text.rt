@@ -5,20 +5,11 @@ ghost use Rattle.g_demo.specs.Script.{at_turn};
 ghost use Rattle.g_lines.specs.Lines.{ended};
 
 use g_base::NoMemory;
+use g_lines::push_decimal;
 use g_name::Text;
-use std::alloc::Global;
-
-/// Puts a number in decimal digits behind the text.
-pub(crate) fn push_decimal(alloc: Global, text: &mut Text, number: u64) -> Result<(), NoMemory>
-    ensures { OnOk result (text.new ≡ text.old ++ decimal number) }
-{
-    let digits = number.to_string(alloc)?;
-    text.extend(digits.as_bytes())
-}
 
 /// Puts a line behind the text: some words, a number, some words behind it.
 pub(crate) fn push_line(
-    alloc: Global,
     text: &mut Text,
     before: &[u8],
     number: u64,
@@ -27,14 +18,13 @@ pub(crate) fn push_line(
     ensures { OnOk result (text.new ≡ text.old ++ ended (before.now ++ decimal number ++ behind.now)) }
 {
     text.extend(before)?;
-    push_decimal(alloc, text, number)?;
+    push_decimal(text, number)?;
     text.extend(behind)?;
     text.push(b'\n')
 }
 
 /// Puts a line of the operator's behind the text: a turn, a space, and as before.
 pub(crate) fn push_turn_line(
-    alloc: Global,
     text: &mut Text,
     turn: u64,
     before: &[u8],
@@ -43,7 +33,7 @@ pub(crate) fn push_turn_line(
 ) -> Result<(), NoMemory>
     ensures { OnOk result (text.new ≡ text.old ++ ended (at_turn turn (before.now ++ decimal number ++ behind.now))) }
 {
-    push_decimal(alloc, text, turn)?;
+    push_decimal(text, turn)?;
     text.extend(b" ")?;
-    push_line(alloc, text, before, number, behind)
+    push_line(text, before, number, behind)
 }

@@ -1,10 +1,13 @@
 //! The words of the command line.
-ghost use Rattle.std.specs.Prelude.{◌≡◌, ◌≢◌, ◌<◌, ◌^◌, ◌↔◌, ℕ, IsTrue, MatchOption, [], ◌∷◌};
+ghost use Rattle.std.specs.Prelude.{◌≡◌, ◌≢◌, ◌<◌, ◌^◌, ℕ, MatchOption, [], ◌∷◌};
 ghost use Rattle.std.specs.Fmt.{decimal};
-ghost use Rattle.g_demo.specs.Plain.{BeginsPlainly};
 ghost use Rattle.g_demo.specs.Words.{AskNothing, IsAsked, IsDemonstration, demo_words, texts_of, words_of};
 
 use crate::demonstration::Demonstration;
+use g_lines::number;
+
+/// The most that the number of a demonstration may be.
+const MOST_NUMBER: u64 = 0xffff_ffff;
 
 /// The most rounds of a demonstration.
 const MOST_ROUNDS: u32 = 1_000;
@@ -58,22 +61,8 @@ fn demo_by(word: &str, number: &str, rounds: &str) -> Option<Demonstration>
 fn number_in(digits: &str) -> Option<u32>
     ensures { MatchOption result ((n : ℕ) → n < 2 ^ 32 → digits.now ≢ decimal n) (λ n. (n < 2 ^ 32) × (digits.now ≡ decimal n)) }
 {
-    if !begins_plainly(digits.as_bytes()) {
-        return None;
-    }
-    match digits.parse::<u32>() {
-        Ok(number) => Some(number),
-        Err(_) => None,
-    }
-}
-
-/// Whether the first byte is a digit, and the only one if it is 0.
-fn begins_plainly(digits: &[u8]) -> bool
-    ensures { IsTrue result ↔ BeginsPlainly digits.now }
-{
-    match digits {
-        [] => false,
-        [digit] => digit.is_ascii_digit(),
-        [first, _, ..] => b'1' <= *first && *first <= b'9',
+    match number(digits.as_bytes(), MOST_NUMBER) {
+        Some(number) => Some(number as u32),
+        None => None,
     }
 }

@@ -1,2 +1,3 @@
+mod AlikeReels
 mod FileRack
 mod ReelEnds

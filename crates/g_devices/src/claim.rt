@@ -1,4 +1,4 @@
-//! Files that this run alone works on, and names that outlive a power cut.
+//! Files that this run alone works on or that are looked at, and names that outlive a power cut.
 
 use std::fs::File;
 use std::io::{self, Error, ErrorKind};
@@ -7,15 +7,28 @@ use std::os::fd::AsRawFd;
 /// The greatest descriptor of a standard stream.
 const LAST_STREAM: i32 = 2;
 
-/// Takes the file, or the folder, for this run until it is closed. `WouldBlock` where another run has it.
+/// What files are opened for.
+#[derive(Clone, Copy, PartialEq, Eq)]
+pub enum Access {
+    /// A run: to be read and written, by it alone.
+    Run,
+    /// A look: to be read, beside other looks.
+    Look,
+}
+
+/// Takes the file, or the folder, until it is closed: for a run alone, or for looks. `WouldBlock` where another run has it,
+/// and of a run also where a look has it.
 ///
 /// A file that was opened in the place of a closed standard stream is refused: the text of the run
 /// would go into it.
-pub fn claim(file: &File) -> io::Result<()> {
+pub fn claim(file: &File, access: Access) -> io::Result<()> {
     if file.as_raw_fd() <= LAST_STREAM {
         return Err(Error::new(ErrorKind::Unsupported, "a standard stream is closed"));
     }
-    file.try_lock()?;
+    match access {
+        Access::Run => file.try_lock()?,
+        Access::Look => file.try_lock_shared()?,
+    }
     Ok(())
 }
 

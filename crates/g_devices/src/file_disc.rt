@@ -1,7 +1,9 @@
 //! A disc over an image: a file of whole blocks. It tells no content, and counts each failure.
 ghost use Rattle.std.specs.Prelude.{◌<◌, ◌≤◌, IfOk, None};
 
+use crate::claim::Access;
 use crate::image_file::ImageFile;
+use crate::names::FileId;
 use g_base::{Block, FIRST_COPY_BLOCK, Fuse, MAX_DISC_BLOCKS, ReadFailed, WriteFailed, raised};
 use g_disc::Disc;
 use std::io::{self, Error, ErrorKind};
@@ -23,6 +25,11 @@ impl FileDisc {
     /// was promised, since each commit was brought there with its gate.
     pub fn sync(&self) {
         let _synced = self.image.sync();
+    }
+
+    /// Which file its image is.
+    pub(crate) fn id(&self) -> io::Result<FileId> {
+        self.image.id()
     }
 }
 
@@ -79,7 +86,22 @@ impl Disc for FileDisc {
 pub fn open_image(rt: &HostRuntime, path: &str) -> io::Result<FileDisc>
     ensures { IfOk result (λ disc. (2177 < disc.size) × (disc.size ≤ 1048576)) }
 {
-    let image = ImageFile::open(rt, path)?;
+    disc_over(ImageFile::open(rt, path)?)
+}
+
+/// Opens the image that is there to be looked at: it can't be written, and is locked so that no run takes it.
+///
+/// The error is `NotFound` where there is none, `WouldBlock` where a run has it; else it is as `open_image`'s.
+pub(crate) fn look_at_image(rt: &HostRuntime, path: &str) -> io::Result<FileDisc>
+    ensures { IfOk result (λ disc. (2177 < disc.size) × (disc.size ≤ 1048576)) }
+{
+    disc_over(ImageFile::there(rt, path, Access::Look)?)
+}
+
+/// The disc over an image, or `InvalidData` where it isn't as many whole blocks as a disc has.
+fn disc_over(image: ImageFile) -> io::Result<FileDisc>
+    ensures { IfOk result (λ disc. (2177 < disc.size) × (disc.size ≤ 1048576)) }
+{
     let size = image.blocks()?;
     if size <= FIRST_COPY_BLOCK || MAX_DISC_BLOCKS < size {
         return Err(Error::from(ErrorKind::InvalidData));

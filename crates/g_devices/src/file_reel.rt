@@ -4,6 +4,7 @@ ghost use Rattle.g_tape.specs.Rack.{refuses_read, refuses_unmount, refuses_write
 ghost use Rattle.g_tape.specs.Reel.{IsReel, ending, untold_reel, with_mounted};
 
 use crate::blocks::start_of;
+use crate::names::{FileId, id_of};
 use g_base::Block;
 use g_tape::{ReelState, TapeFault};
 use std::fs::File;
@@ -41,6 +42,13 @@ impl FileReel {
             file,
             state: ReelState::new(serial, capacity, len),
         }
+    }
+
+    /// Nothing is told of what it holds.
+    pub fn tells_nothing(&self)
+        ensures { self.now.blocks ≡ None }
+    {
+        let _state = &self.state;
     }
 
     pub fn serial(&self) -> u32
@@ -139,6 +147,11 @@ impl FileReel {
         self.file.set_len(start_of(k))?;
         self.file.set_len(start_of(k + 1))?;
         self.file.write_all_at(bytes, start_of(k))
+    }
+
+    /// Which file it is in.
+    pub fn id(&self) -> io::Result<FileId> {
+        id_of(&self.file)
     }
 
     /// Brings all that was written to the device.

@@ -5,9 +5,12 @@ ghost use Rattle.g_tape.specs.Place.{IsPlaceOf};
 ghost use Rattle.g_tape.specs.Rack.{AreReels, reel};
 
 use crate::file_reel::FileReel;
+use crate::names::FileId;
 use g_base::{Block, Fuse, raised};
 use g_tape::{TapeFault, Tapes, half_of};
+use std::alloc::Global;
 use std::fs::File;
+use std::io;
 
 /// A rack over open files, whose folder is locked as long as this lives.
 #[derive(Drop)]
@@ -25,6 +28,7 @@ impl FileTapes {
     /// The rack of these reels, in rising serial, which lie in this folder.
     pub(crate) fn new(folder: File, reels: Vec<FileReel>) -> FileTapes
         requires { AreReels reels.items }
+        ensures { result.reels.items ≡ reels.items }
     {
         FileTapes {
             folder,
@@ -42,6 +46,15 @@ impl FileTapes {
         for reel in &self.reels {
             let _synced = reel.sync();
         }
+    }
+
+    /// Which files its reels are in.
+    pub(crate) fn ids(&self, alloc: Global) -> io::Result<Vec<FileId>> {
+        let mut ids = Vec::new(alloc);
+        for reel in &self.reels {
+            ids.push(reel.id()?)?;
+        }
+        Ok(ids)
     }
 }
 

@@ -1,8 +1,8 @@
 //! The file of an image: where its blocks lie, when they are brought to the device, and how it is made.
 
 use crate::blocks::{blocks_in, start_of};
-use crate::claim::{claim, sync_folder};
-use crate::names::{is_there, open_plain, open_unready};
+use crate::claim::{Access, claim, sync_folder};
+use crate::names::{FileId, id_of, is_there, open_plain, open_unready};
 use g_base::Block;
 use std::fs::{self, File};
 use std::io::{self, Error, ErrorKind, Read};
@@ -25,20 +25,28 @@ pub struct ImageFile {
 impl ImageFile {
     /// Opens the image for this run alone, and makes one of 4,096 blocks of zeros where there is none.
     pub fn open(rt: &HostRuntime, path: &str) -> io::Result<ImageFile> {
-        match open_plain(rt, path) {
-            Ok(file) => {
-                claim(&file)?;
-                Ok(ImageFile {
-                    file,
-                    settled: false,
-                })
-            }
+        match ImageFile::there(rt, path, Access::Run) {
             Err(fault) if fault.kind() == ErrorKind::NotFound => Ok(ImageFile {
                 file: make_file(rt, path)?,
                 settled: true,
             }),
-            Err(fault) => Err(fault),
+            opened => opened,
         }
+    }
+
+    /// Opens the image that is there. `NotFound` where there is none.
+    pub fn there(rt: &HostRuntime, path: &str, access: Access) -> io::Result<ImageFile> {
+        let file = open_plain(rt, path, access)?;
+        claim(&file, access)?;
+        Ok(ImageFile {
+            file,
+            settled: false,
+        })
+    }
+
+    /// Which file it is.
+    pub fn id(&self) -> io::Result<FileId> {
+        id_of(&self.file)
     }
 
     /// How many blocks it has.
@@ -95,7 +103,7 @@ fn make_file(rt: &HostRuntime, path: &str) -> io::Result<File> {
     }
     let unready = format!(in rt.alloc(); "{path}.new")?;
     let file = open_unready(rt, unready.as_str())?;
-    claim(&file)?;
+    claim(&file, Access::Run)?;
     // Only who has claimed the file renames it, so an image that another run made meanwhile stays; and so does what no run left.
     if is_there(rt, path)? || !is_blank(&file)? {
         return Err(Error::from(ErrorKind::AlreadyExists));

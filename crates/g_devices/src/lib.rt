@@ -1,21 +1,27 @@
-//! The devices of a real machine: the image of a disc, the rack of tapes in a folder, standard input and output as source
-//! and sink, and the words of the command line.
+//! The devices of a real machine: the image of a disc, the rack of tapes in a folder, two such racks as one, standard input
+//! and output as source and sink, and the words of the command line.
 #![tactic(auto)]
 
+mod alike;
 mod blocks;
 mod claim;
 mod file_disc;
 mod file_reel;
 mod file_tapes;
 mod image_file;
+mod looking;
 mod names;
 mod new_rack;
+mod pair;
 mod rack;
 mod streams;
 mod words;
 
 pub use file_disc::{FileDisc, open_image};
 pub use file_tapes::FileTapes;
+pub use looking::look_at;
+pub use names::is_there;
+pub use pair::open_duplex;
 pub use rack::open_rack;
 pub use streams::{StdSink, StdSource};
 pub use words::{texts_of, words_of};

@@ -1,6 +1,7 @@
 //! What lies under a name. It is looked at before it is opened, since the opening of a pipe may wait for ever, and that
 //! of a device may do anything.
 
+use crate::claim::Access;
 use std::fs::{self, File, Metadata, OpenOptions};
 use std::io::{self, Error, ErrorKind};
 use std::os::unix::fs::MetadataExt;
@@ -14,14 +15,14 @@ pub fn is_there(rt: &HostRuntime, path: &str) -> io::Result<bool> {
     }
 }
 
-/// Opens a plain file, or the one that a link leads to, to be read and written. `InvalidInput` where it is anything
-/// else, as a pipe, a socket, a device or a folder, which isn't opened.
-pub fn open_plain(rt: &HostRuntime, path: &str) -> io::Result<File> {
+/// Opens a plain file, or the one that a link leads to, to be read, and of a run to be written too. `InvalidInput` where it
+/// is anything else, as a pipe, a socket, a device or a folder, which isn't opened.
+pub fn open_plain(rt: &HostRuntime, path: &str, access: Access) -> io::Result<File> {
     if !fs::metadata(rt, path)?.is_file() {
         return Err(Error::from(ErrorKind::InvalidInput));
     }
     let mut how = OpenOptions::new();
-    how.read(true).write(true);
+    how.read(true).write(access == Access::Run);
     how.open(rt, path)
 }
 
@@ -57,6 +58,22 @@ fn open_left(rt: &HostRuntime, path: &str, how: &OpenOptions, left: &Metadata) -
         return Err(Error::from(ErrorKind::AlreadyExists));
     }
     Ok(file)
+}
+
+/// Which file it is, under whatever name.
+#[derive(Clone, Copy, PartialEq, Eq)]
+pub struct FileId {
+    device: u64,
+    number: u64,
+}
+
+/// Tells which file this is.
+pub fn id_of(file: &File) -> io::Result<FileId> {
+    let about = file.metadata()?;
+    Ok(FileId {
+        device: about.dev(),
+        number: about.ino(),
+    })
 }
 
 /// Whether it is a plain file with one name, and no link.

@@ -4,7 +4,7 @@ ghost use Rattle.g_tape.specs.Rack.{AreReels};
 ghost use Rattle.g_tape.specs.Reel.{IsReel};
 
 use crate::blocks::blocks_in;
-use crate::claim::claim;
+use crate::claim::{Access, claim};
 use crate::file_reel::FileReel;
 use crate::file_tapes::FileTapes;
 use crate::names::{open_folder, open_plain};
@@ -14,12 +14,12 @@ use std::fs::{self, File};
 use std::io::{self, Error, ErrorKind};
 
 /// How many blocks each reel can hold.
-const CAPACITY: u32 = 8_192;
+pub const CAPACITY: u32 = 8_192;
 
 /// The number of a reel.
 #[derive(Clone, Copy)]
-struct Serial {
-    number: u32,
+pub struct Serial {
+    pub number: u32,
     ghost limits: { (1 ≤ number) × (number ≤ 999999) },
 }
 
@@ -34,19 +34,32 @@ struct Serial {
 /// has in its making lies what no making left. What was there stays.
 pub fn open_rack(rt: &HostRuntime, folder: &str) -> io::Result<FileTapes> {
     let opened = open_or_make(rt, folder)?;
-    claim(&opened)?;
+    reels_in(rt, folder, opened, Access::Run)
+}
+
+/// Opens the rack that is there to be looked at: its reels can't be written, and are locked so that no run takes them.
+///
+/// The error is `NotFound` where there is none, `WouldBlock` where a run has it; else it is as `open_rack`'s.
+pub(crate) fn look_at_rack(rt: &HostRuntime, folder: &str) -> io::Result<FileTapes> {
+    let opened = open_folder(rt, folder)?;
+    reels_in(rt, folder, opened, Access::Look)
+}
+
+/// The rack of the reels in an open folder.
+fn reels_in(rt: &HostRuntime, folder: &str, opened: File, access: Access) -> io::Result<FileTapes> {
+    claim(&opened, access)?;
     let mut serials = serials_in(rt, folder)?;
     serials.sort_by_key(|serial| serial.number)?;
     let mut reels = Vec::new(rt.alloc());
     for serial in serials {
-        let reel = open_reel(rt, folder, serial)?;
+        let reel = open_reel(rt, folder, serial, access)?;
         put_behind(&mut reels, reel)?;
     }
     Ok(FileTapes::new(opened, reels))
 }
 
 /// Opens the folder of a rack, or makes it.
-fn open_or_make(rt: &HostRuntime, folder: &str) -> io::Result<File> {
+pub fn open_or_make(rt: &HostRuntime, folder: &str) -> io::Result<File> {
     match open_folder(rt, folder) {
         Err(fault) if fault.kind() == ErrorKind::NotFound => {
             make_folder(rt, folder)?;
@@ -57,7 +70,7 @@ fn open_or_make(rt: &HostRuntime, folder: &str) -> io::Result<File> {
 }
 
 /// The serials of the files in the folder that are reels, in any order.
-fn serials_in(rt: &HostRuntime, folder: &str) -> io::Result<Vec<Serial>> {
+pub fn serials_in(rt: &HostRuntime, folder: &str) -> io::Result<Vec<Serial>> {
     let mut serials = Vec::new(rt.alloc());
     for entry in fs::read_dir(rt, folder)? {
         match entry {
@@ -87,14 +100,19 @@ fn serial_in(name: &str) -> Option<Serial> {
     Some(Serial { number })
 }
 
-/// Opens the file of a reel, for this run and this serial alone.
-fn open_reel(rt: &HostRuntime, folder: &str, serial: Serial) -> io::Result<FileReel>
+/// Opens the file of a reel, of a run for it and this serial alone.
+pub fn open_reel(
+    rt: &HostRuntime,
+    folder: &str,
+    serial: Serial,
+    access: Access,
+) -> io::Result<FileReel>
     ensures { IfOk result IsReel }
 {
     let number = serial.number;
     let path = format!(in rt.alloc(); "{folder}/{number}.tape")?;
-    let file = open_plain(rt, path.as_str())?;
-    claim(&file)?;
+    let file = open_plain(rt, path.as_str(), access)?;
+    claim(&file, access)?;
     let len = blocks_in(&file)?;
     if len > CAPACITY {
         return Err(Error::from(ErrorKind::InvalidData));
@@ -103,7 +121,7 @@ fn open_reel(rt: &HostRuntime, folder: &str, serial: Serial) -> io::Result<FileR
 }
 
 /// Puts a reel behind the others of a rack, or `InvalidData` where there are 16 already or one has a serial as great.
-fn put_behind(reels: &mut Vec<FileReel>, reel: FileReel) -> io::Result<()>
+pub fn put_behind(reels: &mut Vec<FileReel>, reel: FileReel) -> io::Result<()>
     requires rack { AreReels reels.old.items }
     requires reel { IsReel reel }
     ensures rack { OnOk result (AreReels reels.new.items) }

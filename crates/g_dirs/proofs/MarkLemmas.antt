@@ -1,7 +1,11 @@
 -- Marks that are taken off.
-use Rattle.std.proofs.Common.{◌≡◌, ℕ, ◌+◌, ◌-◌, ◌<◌, ◌≤◌, List, ◌++◌, Bool, false, Some, length, take, drop, slice_get, replicate, ap, sym, ◌∙◌, arith, length-drop}
-use Rattle.std.proofs.lemmas.List.{ext_get_or, get_or-drop, get_or-replicate, length-replicate, length-take-le, replicate-append-replicate, take-append-le, take_all}
-use Rattle.std.proofs.lemmas.Option.{get_or_from_slice_get}
+use Rattle.std.proofs.Common.{◌≡◌, ℕ, ◌+◌, ◌-◌, ◌*◌, ◌/◌, ◌%◌, ◌<◌, ◌≤◌, List, ◌++◌, Bool, true, false, Some, length, take, drop, slice_get, get_or, replicate, ap, subst, sym, ◌∙◌, inl, inr, arith, length-drop, length-set}
+use Rattle.std.proofs.Math.ListN.{set}
+use Rattle.std.proofs.lemmas.Bool.{cases_eq, cases_lt}
+use Rattle.std.proofs.lemmas.List.{ext_get_or, get_or-drop, get_or-replicate, get_or-set_same, length-replicate, length-take-le, replicate-append-replicate, take-append-le, take_all}
+use Rattle.std.proofs.lemmas.Option.{get_or_from_slice_get, slice_get-get_or}
+use Rattle.g_copy.proofs.Blocks.{slice_get-set_other}
+use Rattle.g_dirs.specs.Marks.{AreNoted, IsBehind}
 
 -- no mark stands from `end` on, and those before are taken off
 pub unmarked : (end : ℕ) (blocks front : List Bool) → front ≡ replicate (length (take end blocks)) false → end ≤ length blocks
@@ -23,3 +27,73 @@ pub written_all : (n : ℕ) (old new : List Bool) → n ≡ length old → lengt
 written_all n old new is long same =
     let size : length new ≡ length old = ap length same ∙ length-replicate (length old) false in
     take-append-le n new (drop (length new) old) (omega (arith, is, size)) ∙ take_all n new (omega (arith, is, size)) ∙ same ∙ ap (λ (m : ℕ). replicate m false) long
+
+-- THE NOTES of groups
+set_here : {X : Type 0} (xs : List X) (k : ℕ) (x : X) → k < length xs → slice_get (set xs k x) k ≡ Some x
+set_here xs k x within =
+    let long = length-set xs k x in
+    slice_get-get_or (set xs k x) k x (omega (arith, within, long)) ∙ ap Some (get_or-set_same xs k x x within)
+
+pub noted_set : (noted marks : List Bool) (k : ℕ) → k < 1088 → AreNoted noted marks → AreNoted (set noted (k / 32) true) (set marks k true)
+noted_set noted marks k within are = record {
+  size = length-set noted (k / 32) true ∙ are.size;
+  each = λ i inside off.
+      elim (cases_eq (i / 32) (k / 32)) [
+        | inl same ↦
+            let there : k / 32 < length noted = let size = are.size in omega (arith, within, size) in
+            let on : slice_get (set noted (k / 32) true) (i / 32) ≡ Some true = subst (λ (g : ℕ). slice_get (set noted (k / 32) true) g ≡ Some true) (sym same) (set_here noted (k / 32) true there) in
+            let no : ⊥ = cc in absurd no
+        | inr apart ↦
+            slice_get-set_other marks k i true (λ (is : i ≡ k). apart (ap (λ (n : ℕ). n / 32) is))
+            ∙ are.each i inside (sym (slice_get-set_other noted (k / 32) (i / 32) true apart) ∙ off)
+      ];
+}
+
+pub noted_all : (noted marks : List Bool) → noted ≡ replicate 34 true → AreNoted noted marks
+noted_all noted marks is = record {
+  size = ap length is ∙ length-replicate 34 true;
+  each = λ i inside off.
+      let group : i / 32 < 34 = omega (arith, inside) in
+      let on : get_or noted (i / 32) true ≡ true = ap (λ (l : List Bool). get_or l (i / 32) true) is ∙ get_or-replicate 34 (i / 32) true true group in
+      let off_too : get_or noted (i / 32) true ≡ false = get_or_from_slice_get noted (i / 32) false true off in
+      let no : ⊥ = cc in absurd no;
+}
+
+pub noted_none : (noted marks : List Bool) → length noted ≡ 34 → marks ≡ replicate 1088 false → AreNoted noted marks
+noted_none noted marks size is = record {
+  size = size;
+  each = λ i inside off.
+      let long : length marks ≡ 1088 = ap length is ∙ length-replicate 1088 false in
+      slice_get-get_or marks i false (omega (arith, inside, long)) ∙ ap Some (ap (λ (l : List Bool). get_or l i false) is ∙ get_or-replicate 1088 i false false inside);
+}
+
+-- the next place
+pub behind_one : (marks : List Bool) (k : ℕ) → k < 1088 → slice_get marks k ≡ Some false → IsBehind marks k (k + 1)
+behind_one marks k within off = record {
+  later = omega arith;
+  within = omega (arith, within);
+  passed = λ j least less. let same : k ≡ j = omega (arith, least, less) in subst (λ (i : ℕ). slice_get marks i ≡ Some false) same off;
+}
+
+pub behind_group : (noted marks : List Bool) (k : ℕ) → k < 1088 → AreNoted noted marks → k % 32 ≡ 0 → slice_get noted (k / 32) ≡ Some false → IsBehind marks k (k + 32)
+behind_group noted marks k within are whole off =
+    let first : k ≡ k / 32 * 32 = omega (arith, whole) in
+    record {
+      later = omega arith;
+      within = omega (arith, within, first);
+      passed = λ j least less.
+          let same : k / 32 ≡ j / 32 = omega (arith, least, less, first) in
+          are.each j (omega (arith, within, first, less)) (subst (λ (g : ℕ). slice_get noted g ≡ Some false) same off);
+    }
+
+pub passed_on : (marks : List Bool) (k j next : ℕ) → k ≤ j → ((i : ℕ) → k ≤ i → i < j → slice_get marks i ≡ Some false) → IsBehind marks j next
+    → (k ≤ next) × (next ≤ 1088) × ((i : ℕ) → k ≤ i → i < next → slice_get marks i ≡ Some false)
+passed_on marks k j next reached front is = (
+  let later = is.later in omega (arith, reached, later),
+  is.within,
+  λ i least less.
+      elim (cases_lt i j) [
+        | inl before ↦ front i least before
+        | inr back ↦ is.passed i back less
+      ],
+)

@@ -1,9 +1,20 @@
 -- The marks at the blocks of a slot that may have to be written.
-use Rattle.std.specs.Prelude.{◌≡◌, ℕ, ◌<◌, ◌≤◌, Bool, true, false, List, Some, slice_get}
+use Rattle.std.specs.Prelude.{◌≡◌, ℕ, ◌/◌, ◌<◌, ◌≤◌, Bool, true, false, List, Some, length, slice_get}
 
 -- the first mark from block k on, or 1,088 where there is none
 pub record IsNext (marks : List Bool) (k next : ℕ) : Type 0 where
   pub reached : k ≤ next
   pub within : next ≤ 1088
   pub marked : next < 1088 → slice_get marks next ≡ Some true
+  pub passed : (j : ℕ) → k ≤ j → j < next → slice_get marks j ≡ Some false
+
+-- a note for each group of 32 blocks: in a group without one no block is marked
+pub record AreNoted (noted marks : List Bool) : Type 0 where
+  pub size : length noted ≡ 34
+  pub each : (i : ℕ) → i < 1088 → slice_get noted (i / 32) ≡ Some false → slice_get marks i ≡ Some false
+
+-- the next place where a mark may stand, and what was passed to it
+pub record IsBehind (marks : List Bool) (k next : ℕ) : Type 0 where
+  pub later : k < next
+  pub within : next ≤ 1088
   pub passed : (j : ℕ) → k ≤ j → j < next → slice_get marks j ≡ Some false

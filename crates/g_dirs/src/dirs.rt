@@ -2,8 +2,7 @@
 ghost use Rattle.std.specs.Prelude.{◌≡◌};
 ghost use Rattle.g_dirs.specs.Directory.{AreCopies, directory_of};
 
-use crate::Listing;
-use g_copy::DiscCopy;
+use crate::{BoxedCopy, Listing};
 use g_entry::{FileRec, Head, UserRec};
 
 /// What a disc says of its filestore: the head, the users and the files in order of number, and by file number the
@@ -13,7 +12,7 @@ pub struct Dirs {
     pub head: Head,
     pub users: Vec<UserRec>,
     pub files: Vec<FileRec>,
-    pub online: Vec<(u16, DiscCopy)>,
+    pub online: Vec<(u16, BoxedCopy)>,
 }
 
 impl Dirs {

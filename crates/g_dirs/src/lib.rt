@@ -1,6 +1,7 @@
 //! The directory on a disc: read from the current slot, and written by one commit into the other one.
 #![tactic(auto)]
 
+mod boxed_copy;
 mod dirs;
 mod fault;
 mod known;
@@ -12,6 +13,7 @@ mod read;
 mod rules;
 mod write;
 
+pub use boxed_copy::BoxedCopy;
 pub use dirs::Dirs;
 pub use fault::DirsFault;
 pub use laws::{one_directory, quiet_writes};

@@ -7,8 +7,8 @@ ghost use Rattle.g_dirs.specs.Directory.{AreCopies, copy_at, directory_of, entri
 ghost use Rattle.g_dirs.specs.Image.{block_of, entry_at, file_or_empty, user_or_empty};
 ghost use Rattle.g_dirs.specs.Writing.{AreEncodable, IsEncodable, number_of_file};
 
+use crate::BoxedCopy;
 use g_base::{Block, BlockList};
-use g_copy::DiscCopy;
 use g_entry::{FileRec, Format, Head, UserRec, empty_block, encode_file, encode_head, encode_user};
 use std::marker::Model;
 
@@ -19,7 +19,7 @@ pub struct Listing<'a> {
     head: &'a Head,
     users: &'a [UserRec],
     files: &'a [FileRec],
-    online: &'a [(u16, DiscCopy)],
+    online: &'a [(u16, BoxedCopy)],
 }
 
 impl<'a> Model for Listing<'a> {
@@ -38,7 +38,7 @@ impl<'a> Listing<'a> {
         head: &'a Head,
         users: &'a [UserRec],
         files: &'a [FileRec],
-        online: &'a [(u16, DiscCopy)],
+        online: &'a [(u16, BoxedCopy)],
     ) -> Listing<'a>
         requires { AreCopies files.now online.now }
         ensures { result ≡ directory_of head.now users.now files.now online.now }
@@ -67,7 +67,7 @@ fn slot_block(
     head: &Head,
     users: &[UserRec],
     files: &[FileRec],
-    online: &[(u16, DiscCopy)],
+    online: &[(u16, BoxedCopy)],
     k: u32,
 ) -> Block
     requires place { k < 1088 }
@@ -97,7 +97,7 @@ fn user_block(users: &[UserRec], number: usize) -> Block
 }
 
 /// The block of file `number`, zeros where it is unused.
-fn file_block(files: &[FileRec], online: &[(u16, DiscCopy)], number: u16) -> Block
+fn file_block(files: &[FileRec], online: &[(u16, BoxedCopy)], number: u16) -> Block
     requires files { AreEncodable files.now online.now }
     requires copies { AreCopies files.now online.now }
     ensures { result ≡ file_or_empty Format.Two (entry_at (entries_of files.now online.now) number) }
@@ -121,12 +121,12 @@ fn file_of(files: &[FileRec], number: u16) -> Option<&FileRec>
 }
 
 /// The block numbers of the file of this number, where it is online.
-fn places_of(online: &[(u16, DiscCopy)], number: u16) -> Option<&BlockList>
+fn places_of(online: &[(u16, BoxedCopy)], number: u16) -> Option<&BlockList>
     requires { AllPairs (λ c d. c.0 < d.0) online.now }
     ensures { option_copied result ≡ option_map (λ c. c.blocks) (copy_at online.now number) }
 {
     match online.binary_search_by_key(&number, |c| c.0) {
-        Ok(place) => Some(&online[place].1.blocks),
+        Ok(place) => Some(&online[place].1.get().blocks),
         Err(_) => None,
     }
 }

@@ -1,48 +1,62 @@
 //! A mark at each block of a slot that may have to be written.
 ghost use Rattle.std.specs.Prelude.{◌≡◌, ℕ, ◌<◌, ◌≤◌, IfOk, Some, false, length, replicate, slice_get, slice_set, true};
-ghost use Rattle.g_dirs.specs.Marks.{IsNext};
+ghost use Rattle.g_dirs.specs.Marks.{IsBehind, IsNext};
 
 use g_base::{NoMemory, SLOT_BLOCKS};
 use std::alloc::Global;
 use std::marker::Model;
 
+/// How many blocks go by one note, and how many notes there are.
+const GROUP: u32 = 32;
+
+const GROUPS: usize = 34;
+
 /// Which of the 1,088 blocks of a slot are marked. Contracts see a list of truth values.
 #[derive(Debug, Drop)]
 pub(crate) struct Marks {
     blocks: Vec<bool>,
+    /// Whether any block of a group may be marked, so that a look for marks passes the others whole.
+    noted: Vec<bool>,
     /// From here on no block is marked, so that a look for marks ends here.
     end: u32,
 }
 
 impl Model for Marks {
     ghost use Rattle.std.specs.Prelude.{◌≡◌, ◌≤◌, ◌<◌, ℕ, Bool, List, Some, false, slice_get, vec_len};
+    ghost use Rattle.g_dirs.specs.Marks.{AreNoted};
 
     ghost Value = { List Bool };
 
     ghost view = { λ m. m.blocks.items };
 
     ghost invariant = { λ m. (vec_len m.blocks ≡ 1088) × (m.end ≤ 1088)
-        × ((i : ℕ) → m.end ≤ i → i < 1088 → slice_get m.blocks.items i ≡ Some false) };
+        × ((i : ℕ) → m.end ≤ i → i < 1088 → slice_get m.blocks.items i ≡ Some false)
+        × AreNoted m.noted.items m.blocks.items };
 }
 
 impl Marks {
     /// All blocks are marked.
+    #[tactic(auto, using(crate::proofs::MarkLemmas::noted_all))]
     pub(crate) fn new(alloc: Global) -> Result<Marks, NoMemory>
         ensures { IfOk result (λ marks. marks ≡ replicate 1088 true) }
     {
         let blocks = vec![in alloc; true; SLOT_BLOCKS as usize]?;
+        let noted = vec![in alloc; true; GROUPS]?;
         Ok(Marks {
             blocks,
+            noted,
             end: SLOT_BLOCKS,
         })
     }
 
     /// Marks block `k`.
+    #[tactic(auto, using(crate::proofs::MarkLemmas::noted_set))]
     pub(crate) fn set(&mut self, k: u32)
         requires { k < 1088 }
         ensures { self.new ≡ slice_set self.old k true }
     {
         self.blocks[k as usize] = true;
+        self.noted[(k / GROUP) as usize] = true;
         if self.end <= k {
             self.end = k + 1;
         }
@@ -53,6 +67,7 @@ impl Marks {
         ensures { self.new ≡ replicate 1088 true }
     {
         self.blocks.fill(true);
+        self.noted.fill(true);
         self.end = SLOT_BLOCKS;
     }
 
@@ -61,20 +76,40 @@ impl Marks {
         ensures { self.new ≡ replicate 1088 false }
     {
         unmark(&mut self.blocks, self.end as usize);
+        self.noted.fill(false);
         self.end = 0;
     }
 
     /// The first marked block from `k` on, or 1,088.
+    #[tactic(auto, using(crate::proofs::MarkLemmas::passed_on))]
     pub(crate) fn next(&self, k: u32) -> u32
         requires { k ≤ 1088 }
         ensures { IsNext self.now k result }
     {
-        for j in k..self.end {
+        let mut j = k;
+        while j < self.end {
             if self.blocks[j as usize] {
                 return j;
             }
+            j = self.behind(j);
         }
         1088
+    }
+
+    /// The block behind this one, which isn't marked; behind its group, where it is the first of one without a note.
+    #[tactic(auto, using(crate::proofs::MarkLemmas::behind_one, crate::proofs::MarkLemmas::behind_group))]
+    fn behind(&self, j: u32) -> u32
+        requires within { j < 1088 }
+        requires unmarked { slice_get self.now j ≡ Some false }
+        ensures { IsBehind self.now j result }
+    {
+        if j % GROUP != 0 {
+            return j + 1;
+        }
+        if self.noted[(j / GROUP) as usize] {
+            return j + 1;
+        }
+        j + GROUP
     }
 }
 

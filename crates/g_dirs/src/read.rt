@@ -11,7 +11,7 @@ ghost use Rattle.g_dirs.specs.Parts.{AreInOrder, HoldsFiles, HoldsHead, HoldsUse
 ghost use Rattle.g_dirs.specs.Reading.{FileCell, IsFileCell, IsUserCell, TakesFile, TakesUser, copies_in};
 
 use crate::rules::keeps_rules;
-use crate::{Dirs, DirsFault};
+use crate::{BoxedCopy, Dirs, DirsFault};
 use g_base::{Block, BlockList, NoMemory};
 use g_copy::DiscCopy;
 use g_disc::Disc;
@@ -164,7 +164,7 @@ fn read_files<D: Disc>(
     disc: &mut D,
     slots: &Slots,
     format: Format,
-) -> Result<(Vec<FileRec>, Vec<(u16, DiscCopy)>), DirsFault>
+) -> Result<(Vec<FileRec>, Vec<(u16, BoxedCopy)>), DirsFault>
     requires size { 2177 < (D.state disc.old).size }
     requires gate { GateNames slots.now (D.state disc.old).held }
     ensures ok { IfOk result (λ found. ForSome (D.state disc.old).held
@@ -185,7 +185,7 @@ fn read_files<D: Disc>(
             Ok(block) => block,
             Err(fault) => return Err(fault),
         };
-        match take_file(format, &block, number, &mut files, &mut online) {
+        match take_file(alloc, format, &block, number, &mut files, &mut online) {
             Ok(()) => {}
             Err(fault) => return Err(fault),
         }
@@ -196,11 +196,12 @@ fn read_files<D: Disc>(
 /// Puts the file of this number behind the others, if its block is that of one, and its copy behind the others where it
 /// is online. `NoFilestore` comes exactly where it is no file's block and not empty.
 fn take_file(
+    alloc: Global,
     format: Format,
     block: &Block,
     number: u16,
     files: &mut Vec<FileRec>,
-    online: &mut Vec<(u16, DiscCopy)>,
+    online: &mut Vec<(u16, BoxedCopy)>,
 ) -> Result<(), DirsFault>
     ensures ok { OnOk result (TakesFile format number block.now files.old.items files.new.items online.old.items online.new.items) }
     ensures none { result ≡ Err DirsFault.NoFilestore → (cell : Option FileCell) → IsFileCell format number block.now cell → ⊥ }
@@ -209,7 +210,7 @@ fn take_file(
     match file_in(format, block, number) {
         Ok(None) => Ok(()),
         Ok(Some((rec, places))) => {
-            add_copy(&rec, places.as_ref(), online)?;
+            add_copy(alloc, &rec, places.as_ref(), online)?;
             match files.push(rec) {
                 Ok(()) => Ok(()),
                 Err(_) => Err(DirsFault::NoMemory),
@@ -221,9 +222,10 @@ fn take_file(
 
 /// Puts the copy of a file that is online behind the others.
 fn add_copy(
+    alloc: Global,
     rec: &FileRec,
     places: Option<&BlockList>,
-    online: &mut Vec<(u16, DiscCopy)>,
+    online: &mut Vec<(u16, BoxedCopy)>,
 ) -> Result<(), NoMemory>
     ensures { OnOk result (online.new.items ≡ online.old.items ++ copies_in rec.now (option_copied places.entry)) }
 {
@@ -234,7 +236,7 @@ fn add_copy(
         blocks: places.copy(),
         len: rec.len,
     };
-    online.push((rec.number, copy))?;
+    online.push((rec.number, BoxedCopy::new(alloc, copy)?))?;
     Ok(())
 }
 

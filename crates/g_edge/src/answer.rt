@@ -1,4 +1,4 @@
-//! What the program does by its words: a run on image and rack, or what needs neither.
+//! What the program does by its words: a run on image and rack, or on image and two racks, or what needs none of them.
 ghost use Rattle.std.specs.Prelude.{◌≡◌, ◌<◌, ◌≤◌, ◌⊎◌, IfOk};
 ghost use Rattle.g_demo.specs.Words.{AskNothing, texts_of};
 ghost use Rattle.g_run.specs.Input.{IsRun};
@@ -6,10 +6,14 @@ ghost use Rattle.g_run.specs.Top.{IsOfRun, IsOfWords, code_of};
 ghost use Rattle.g_edge.specs.Exit.{IsExit};
 
 use crate::rules::run_by_rules;
+use crate::telling::{tell_lost, tell_rebuilt};
 use g_base::NoMemory;
 use g_demo::{Asked, asked_by};
-use g_devices::{FileDisc, FileTapes, StdSink, StdSource, open_image, open_rack};
+use g_devices::{
+    FileDisc, FileTapes, StdSink, StdSource, is_there, open_duplex, open_image, open_rack,
+};
 use g_disc::{Disc, MemoryDisc};
+use g_duplex::Duplex;
 use g_run::{Finish, Status};
 use g_tape::{MemoryTapes, Tapes};
 use std::alloc::Global;
@@ -23,6 +27,9 @@ const IMAGE: &str = "george.disc";
 
 /// The folder of the reels' images, there too.
 const RACK: &str = "george.tapes";
+
+/// The folder of each reel's second image, where that is kept.
+const SECOND_RACK: &str = "george.tapes2";
 
 /// The blocks of a disc on which nothing is looked for: no disc has fewer.
 const LEAST_BLOCKS: u32 = 2_178;
@@ -39,24 +46,30 @@ pub fn answer(rt: &HostRuntime, words: &[&str]) -> u8
     }
 }
 
-/// Runs on image and rack, which are brought to the device at the end. 7 where they can't be used.
+/// Runs on image and rack. 7 where they can't be used, and 5 where memory is wanting before the run.
 fn on_files(rt: &HostRuntime, words: &[&str]) -> u8
     ensures known { IsRun words.now → (result ≡ 7) ⊎ IsExit IsOfRun result }
 {
-    match open_devices(rt) {
-        Ok((disc, tapes)) => closed(run(rt, words, disc, tapes)),
+    match run_on_files(rt, words) {
+        Ok(code) => code,
         Err(fault) if fault.kind() == ErrorKind::OutOfMemory => Status::NoMemory.code(),
         Err(_) => NO_IMAGE,
     }
 }
 
-/// Opens the image, and then the rack, for this run alone; each is made where it isn't there.
-fn open_devices(rt: &HostRuntime) -> io::Result<(FileDisc, FileTapes)>
-    ensures { IfOk result (λ devices. (2177 < devices.0.size) × (devices.0.size ≤ 1048576)) }
+/// Opens the image, and then the rack, for this run alone, and runs on them; each is made where it isn't there. Where anything
+/// has the second rack's name, that is opened too, and both are one rack.
+fn run_on_files(rt: &HostRuntime, words: &[&str]) -> io::Result<u8>
+    ensures known { IfOk result (λ code. IsRun words.now → IsExit IsOfRun code) }
 {
     let disc = open_image(rt, IMAGE)?;
+    if is_there(rt, SECOND_RACK)? {
+        let (pair, rebuilt) = open_duplex(rt, RACK, SECOND_RACK)?;
+        tell_rebuilt(rt, &rebuilt);
+        return Ok(closed_pair(rt, run(rt, words, disc, pair)));
+    }
     let tapes = open_rack(rt, RACK)?;
-    Ok((disc, tapes))
+    Ok(closed(run(rt, words, disc, tapes)))
 }
 
 /// Brings image and rack to the device, and gives the exit status of the run.
@@ -66,6 +79,19 @@ fn closed(finish: Finish<FileDisc, FileTapes>) -> u8
     finish.disc.sync();
     finish.tapes.sync();
     finish.status.code()
+}
+
+/// Brings image and both racks to the device, tells which reels were lost in the run, and gives its exit status.
+fn closed_pair(rt: &HostRuntime, finish: Finish<FileDisc, Duplex<FileTapes>>) -> u8
+    ensures { result ≡ code_of finish.status }
+{
+    finish.disc.sync();
+    tell_lost(rt, finish.tapes.lost());
+    let code = finish.status.code();
+    let (first, second) = finish.tapes.into_racks();
+    first.sync();
+    second.sync();
+    code
 }
 
 /// Does what needs no image and no rack, over devices in memory in their place.

@@ -4,6 +4,7 @@
 
 mod answer;
 mod rules;
+mod telling;
 
 use crate::answer::answer;
 use g_devices::{texts_of, words_of};
@@ -14,7 +15,8 @@ use std::process::ExitCode;
 
 /// Does what the words of the command line ask for. The word `run` runs the script of standard input on the image
 /// `george.disc` and the rack `george.tapes` of the present folder, with the text to standard output; with all other words
-/// no file is opened or made.
+/// no file is opened or made. Where `george.tapes2` is there too, each reel is kept in both folders (docs/MANUAL.md, "A second
+/// rack"), and one line on standard error tells of each reel that was rebuilt before the run, and of each that was lost in it.
 ///
 /// The exit status is the run's; 7 where the image or the rack can't be opened, is another run's or keeps no disc's or
 /// rack's limits (docs/MANUAL.md, "Exit status"); 5 where memory is wanting before the run. With the last two nothing

@@ -9,6 +9,7 @@ ghost use Rattle.g_sched.specs.Rule.{IsInRange};
 ghost use Rattle.g_script.specs.Script.{IsParsed};
 ghost use Rattle.g_script.specs.declared.operator.Timed.{Timed};
 ghost use Rattle.g_world.specs.Top.{AreArmings, IsCutWords};
+ghost use Rattle.g_world_laws.specs.Filestores.{HasFilestore};
 ghost use Rattle.g_run.specs.Input.{IsRun};
 ghost use Rattle.g_run.specs.Over.{both};
 ghost use Rattle.g_run.specs.Top as top;
@@ -91,10 +92,12 @@ pub fn run_by_rules<S: Source, K: Sink, D: Disc, T: Tapes>(
         AreArmings lines (top.IsThrough result.status) (both (D.state disc) (T.rack tapes)) (both (D.state result.disc) (T.rack result.tapes)) }
     ensures same { SameDevices (both (D.state disc) (T.rack tapes)) (both (D.state result.disc) (T.rack result.tapes)) }
 
-    // With every status, of devices that tell and belong together: they go on doing so, and what was completed on the reels stays
-    // so, each dump whole.
+    // With every status, of devices that tell and belong together: they go on doing so, what was completed on the reels stays
+    // so, each dump whole, and a disc that holds a filestore goes on to hold one.
     ensures belongs { BelongTogether (both (D.state disc) (T.rack tapes)) → BelongTogether (both (D.state result.disc) (T.rack result.tapes)) }
     ensures dumps { BelongTogether (both (D.state disc) (T.rack tapes)) → DumpsGrow (T.rack tapes) (T.rack result.tapes) }
+    ensures stands { BelongTogether (both (D.state disc) (T.rack tapes)) → HasFilestore (both (D.state disc) (T.rack tapes))
+        → HasFilestore (both (D.state result.disc) (T.rack result.tapes)) }
 {
     let tariff = Tariff::new(|usage: &Usage| -> Charge { price_of(usage) });
     let weigh = WeighRule::new(

@@ -94,8 +94,10 @@ fn reads_as(rt: &(impl Abort + AllocGlobal), kept: &mut Kept, files: u8) -> bool
         return false;
     }
     for i in 0..read.online.len() {
-        let (number, copy) = &read.online[i];
-        let (other, same) = &want.online[i];
+        let (number, boxed) = &read.online[i];
+        let copy = boxed.get();
+        let (other, wanted) = &want.online[i];
+        let same = wanted.get();
         if number != other
             || copy.len != same.len
             || copy.blocks.as_slice() != same.blocks.as_slice()

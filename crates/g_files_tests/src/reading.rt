@@ -117,10 +117,12 @@ fn compare_files(rt: &impl Abort, dirs: &Dirs) {
     empty.stamp = 9;
     assert!(rt; dirs.files.as_slice() == [online, offline, empty].as_slice());
     assert!(rt; dirs.online.len() == 2);
-    let (number, copy) = &dirs.online[0];
+    let (number, boxed) = &dirs.online[0];
+    let copy = boxed.get();
     assert!(rt; *number == 0 && copy.len == 513);
     assert!(rt; copy.blocks.as_slice() == [2_177, 2_179].as_slice());
-    let (number, copy) = &dirs.online[1];
+    let (number, boxed) = &dirs.online[1];
+    let copy = boxed.get();
     assert!(rt; *number == 1_023 && copy.len == 0);
     assert!(rt; copy.blocks.as_slice().is_empty());
 }
@@ -238,5 +240,5 @@ fn a_disc_of_70_000_blocks(rt: HostRuntime) {
     assert!(rt; write_dirs(&mut disc, &mut slots, &listing, &mut pages) == Ok(()));
     let again = read_dirs(rt.alloc(), &mut disc, &slots).expect(&rt, "a directory");
     assert!(rt; again.files == dirs.files && again.online.len() == 2);
-    assert!(rt; again.online[0].1.blocks.as_slice() == [65_536, 69_999].as_slice());
+    assert!(rt; again.online[0].1.get().blocks.as_slice() == [65_536, 69_999].as_slice());
 }

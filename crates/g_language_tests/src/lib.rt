@@ -16,4 +16,6 @@ mod replies;
 #[cfg(test)]
 mod scripts;
 #[cfg(test)]
+mod sources;
+#[cfg(test)]
 mod verbs;

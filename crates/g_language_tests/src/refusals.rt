@@ -161,7 +161,7 @@ fn lost_directory(rt: HostRuntime) -> Result<(), Fail> {
 }
 
 /// Errors of commands, with their texts.
-static ERRORS: [(CommandError, &[u8]); 11] = [
+static ERRORS: [(CommandError, &[u8]); 12] = [
     (CommandError::BadLine(240), b"50 BAD LINE 240"),
     (CommandError::UnknownVerb, b"51 UNKNOWN VERB"),
     (CommandError::TooDeep, b"52 TOO DEEP"),
@@ -173,6 +173,7 @@ static ERRORS: [(CommandError, &[u8]); 11] = [
     (CommandError::InUse, b"58 IN USE"),
     (CommandError::BadParameter(25), b"59 BAD PARAMETER 25"),
     (CommandError::WheneversFull, b"60 WHENEVERS FULL"),
+    (CommandError::BadPlan(65536), b"61 BAD PLAN 65536"),
 ];
 
 #[test]

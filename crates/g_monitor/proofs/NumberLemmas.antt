@@ -79,3 +79,4 @@ error_begins error.NotAssigned = two_digits 57 (codes "NOT ASSIGNED") refl refl
 error_begins error.InUse = two_digits 58 (codes "IN USE") refl refl
 error_begins (error.BadParameter index) = two_digits 59 (with_number (codes "BAD PARAMETER ") index) refl refl
 error_begins error.WheneversFull = two_digits 60 (codes "WHENEVERS FULL") refl refl
+error_begins (error.BadPlan line) = two_digits 61 (with_number (codes "BAD PLAN ") line) refl refl

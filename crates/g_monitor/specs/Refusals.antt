@@ -66,6 +66,7 @@ error_line error.NotAssigned = codes "57 NOT ASSIGNED"
 error_line error.InUse = codes "58 IN USE"
 error_line (error.BadParameter index) = with_number (codes "59 BAD PARAMETER ") index
 error_line error.WheneversFull = codes "60 WHENEVERS FULL"
+error_line (error.BadPlan line) = with_number (codes "61 BAD PLAN ") line
 
 abbrev pub error_number : CommandError → ℕ
 error_number (error.BadLine place) = 50
@@ -79,3 +80,4 @@ error_number error.NotAssigned = 57
 error_number error.InUse = 58
 error_number (error.BadParameter index) = 59
 error_number error.WheneversFull = 60
+error_number (error.BadPlan line) = 61

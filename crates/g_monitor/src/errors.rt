@@ -44,10 +44,13 @@ pub enum CommandError {
     /// A seventeenth command would wait in the level.
     #[error("whenevers full")]
     WheneversFull,
+    /// The first line of the source, from 1, that is bad.
+    #[error("line {0} of the source is bad")]
+    BadPlan(usize),
 }
 
 impl CommandError {
-    /// The number of the error, 50 to 60, as its text has it.
+    /// The number of the error, 50 to 61, as its text has it.
     pub fn number(&self) -> u8
         ensures { result ≡ error_number self.now }
     {
@@ -63,6 +66,7 @@ impl CommandError {
             CommandError::InUse => 58,
             CommandError::BadParameter(_) => 59,
             CommandError::WheneversFull => 60,
+            CommandError::BadPlan(_) => 61,
         }
     }
 }
@@ -84,5 +88,6 @@ pub fn push_error(text: &mut Text, error: CommandError) -> Result<(), NoMemory>
         CommandError::InUse => text.extend(b"58 IN USE"),
         CommandError::BadParameter(index) => push_number(text, b"59 BAD PARAMETER ", index as u64),
         CommandError::WheneversFull => text.extend(b"60 WHENEVERS FULL"),
+        CommandError::BadPlan(line) => push_number(text, b"61 BAD PLAN ", line as u64),
     }
 }

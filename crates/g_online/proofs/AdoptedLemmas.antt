@@ -1,42 +1,34 @@
 -- The copies of a dump of all versions are noted, and nobody counts as changed.
 use Rattle.std.proofs.Common.{◌≡◌, ◌≢◌, ◌⊎◌, ℕ, ◌+◌, ◌<◌, ◌==◌, Bool, true, false, List, [], ◌∷◌, length, get_or, map, Option, Some, None, Result, Ok, Err, All, refl, sym, ◌∙◌, ap, subst, arith, inl, inr}
-use Rattle.std.specs.Prelude.{is_some, OnErr, OnOk}
-use Rattle.std.specs.Option.{ForSome}
+use Rattle.std.specs.Prelude.{is_some}
 use Rattle.std.proofs.lemmas.Bool.{cases_Bool, cond-false, cond-true, eq-eqb}
 use Rattle.std.proofs.lemmas.List.{get_or-map, length-map}
 use Rattle.std.proofs.lemmas.List.Elements.{All-cons, All-head, All-tail}
-use Rattle.g_base.specs.Counts.{RoseBy}
-use Rattle.g_base.specs.Told.{Changes}
 use Rattle.g_copy.specs.declared.copy.DiscCopy.{DiscCopy}
-use Rattle.g_disc.specs.Disc.{DiscState, WritesOnly}
+use Rattle.g_disc.specs.Disc.{DiscState}
 use Rattle.g_entry.specs.declared.file_rec.FileRec.{FileRec}
 use Rattle.g_entry.specs.declared.file_rec.TapeCopy.{TapeCopy}
 use Rattle.g_entry.specs.declared.head.Head.{Head}
 use Rattle.g_entry.specs.declared.user_rec.UserRec.{UserRec}
 use Rattle.g_slots.specs.declared.side.Side.{Side}
-use Rattle.g_dirs.specs.Commit.{OldOrNew}
 use Rattle.g_dirs.specs.Directory.{Directory, FileEntry, copy_at, directory_of, entries_of}
 use Rattle.g_dirs.specs.Pages.{Covers, Remembered, all_marked}
 use Rattle.g_tree.specs.Records.{IsRecords}
-use Rattle.g_contents.specs.Contents.{Contents, File, Holds, contents_of, copied_rec, copy_of, file_of, recs_in, with_copies}
-use Rattle.g_contents.specs.Facts.{OnlineFacts, Pin}
+use Rattle.g_contents.specs.Contents.{Contents, File, contents_of, copied_rec, copy_of, file_of, recs_in, with_copies}
+use Rattle.g_contents.specs.Facts.{OnlineFacts}
 use Rattle.g_online.specs.declared.change.Change.TheVariants.{Adopt}
 use Rattle.g_online.specs.declared.fault.OnlineFault.{OnlineFault}
-use Rattle.g_online.specs.declared.fault.OnlineFault.TheVariants.{Stopped}
 use Rattle.g_online.specs.declared.pinned.Pinned.{Pinned}
 use Rattle.g_online.specs.Allowed.{IsAllowed, KeepsRules}
-use Rattle.g_online.specs.Change.{changed, unjammed}
-use Rattle.g_online.specs.Committed.{HasCommitted, commit_blocks}
-use Rattle.g_online.specs.Done.{HasChanged, HasStopped, IsApplied}
-use Rattle.g_online.specs.Kept.{AreNoted, AreWhole, IsKept, Memory, PinsAre, WaitsFor, directory_in, facts_of, pins_of}
-use Rattle.g_online.specs.Ready.{CoverAll, HasAdopted, IsAdopting, IsReadyFor, Readied, StoppedAdopting, adopted, ready_with}
+use Rattle.g_online.specs.Kept.{AreNoted, IsKept, Memory, PinsAre, WaitsFor, directory_in, facts_of, pins_of}
+use Rattle.g_online.specs.Ready.{CoverAll, IsAdopting, IsReadyFor, Readied, adopted, ready_with}
 use Rattle.g_online.proofs.AdoptLemmas.{adopt_ready}
-use Rattle.g_online.proofs.CloseLemmas.{counted, counted_kept}
+use Rattle.g_online.proofs.NotedLemmas.{IsNotedBy, MayNote, adopted_is}
 use Rattle.g_online.proofs.PinLostLemmas.{no_numbers}
 use Rattle.g_online.proofs.ReadyLemmas.{StillRemembers}
 use Rattle.g_online.proofs.RecordLemmas.{recs_here}
-use Rattle.g_online.proofs.StepLemmas.{IsReady, applied, kept_behind}
-use Rattle.g_online.proofs.TieLemmas.{rec_of, tied}
+use Rattle.g_online.proofs.StepLemmas.{IsReady}
+use Rattle.g_online.proofs.TieLemmas.{rec_of}
 
 abbrev Tapes : Type 0
 Tapes = List (ℕ × TapeCopy)
@@ -88,11 +80,6 @@ no_pins held (Some pins) none = (let no : ⊥ = cc in absurd no)
 none_touched : (pins : Option (List Pinned)) (size next : ℕ) (files : List FileEntry) (touched : List ℕ) → pins ≡ None → PinsAre pins size next files touched → touched ≡ []
 none_touched None size next files touched none are = are
 none_touched (Some pins) size next files touched none are = (let no : ⊥ = cc in absurd no)
-
--- the contents of the change
-adopted_is : (told : Bool) (last : ℕ) (copies : Tapes) (o : OnlineFacts) → o.pins ≡ None → changed told (is_some o.pins) (Adopt last copies) o.contents ≡ adopted last copies o.contents
-unfolding changed
-adopted_is told last copies o none = ap (λ (pins : Option (List Pin)). changed told (is_some pins) (Adopt last copies) o.contents) none
 
 -- WHAT IS KNOWN BEFORE IT
 pub record IsToAdopt (last : ℕ) (copies : Tapes) (before : DiscState) (m : Memory) (users : List UserRec) (files : List FileRec) : Type 0 where
@@ -152,71 +139,43 @@ module _ (last : ℕ) (copies : Tapes) (before : DiscState) (m : Memory) (users 
         waits = subst (λ (fs : List FileRec). All (λ (e : FileEntry). WaitsFor [] e.0) (entries_of fs m.online)) (sym may.files_are) (nobody_waits copies before.held m.files m.online may.covers.each);
       }))
 
-  module _ (marks : Remembered) (all : List ℕ) (all_is : all ≡ []) (ready : IsReady (Adopt last copies) before m (noted_all marks)) (after : DiscState) (next : Side) (pages : Remembered) (live : Bool) where
-    abbrev behind : Memory
-    behind = record (noted_all marks) { side = next; pages = pages; live = live }
+  pub may_note : (pages : Remembered) (all : List ℕ) → all ≡ [] → pages ≡ all_marked m.pages → StillRemembers m.pages pages → ((side : Side) (d : Directory) → Covers d side pages)
+      → MayNote last copies all m.touched before m (noted_all pages)
+  may_note pages all all_is marks remembers covers = record {
+    ready = adopting_ready pages marks remembers covers;
+    none = may.none;
+    unpinned = unpinned;
+    nobody = untouched;
+    noted = nobody_noted all all_is;
+  }
 
-    pub adopted_kept : (result : Result (Unit {0}) OnlineFault) (online : List (ℕ × DiscCopy)) → online ≡ m.online
-        → OnOk result (HasCommitted (directory_of (record m.head { last_dump = last; intent = None }) users files online) before after m.side next marks pages) → {k : ℕ} → WritesOnly k before after result
-        → ForSome after.held (AreWhole after.size) → OnOk result (live ≡ m.live) → OnErr result (live ≡ false) → IsKept after (counted all m.touched behind)
-    adopted_kept result online same done {k} counts whole lives dies =
-        counted_kept after behind all m.touched
-        (kept_behind (Adopt last copies) before after m (noted_all marks) next pages ready live result online same done counts whole lives dies)
-        unpinned untouched (λ _. nobody_noted all all_is)
-
-    done_adopted : HasChanged (Adopt last copies) (facts_of before m) (facts_of after behind) → HasAdopted last copies (facts_of before m) (facts_of after (counted all m.touched behind))
-    done_adopted done = record {
-      live = done.live;
-      contents = done.contents ∙ adopted_is (is_some before.held) last copies (facts_of before m) may.none;
-      pins = done.pins ∙ may.none;
-      changed = all_is;
-      touched = untouched;
-      blocks = done.blocks;
-      commits = done.commits;
-      writes = subst (λ (k : ℕ). RoseBy k before.writes after.writes) (let same : 0 + done.blocks ≡ done.blocks = omega arith in same) done.writes;
-    }
-
-    stopped_adopting : HasStopped (Adopt last copies) (facts_of before m) (facts_of after behind) → StoppedAdopting last copies (facts_of before m) (facts_of after (counted all m.touched behind))
-    stopped_adopting stopped = record { live = stopped.live; holds = λ blocks told. one_of blocks (stopped.holds blocks told).one }
-      where
-        one_of : (blocks : List (List ℕ)) → Holds blocks (facts_of before m).contents
-            ⊎ (((let nothing : ℕ = 0 in nothing < 0) × Holds blocks (unjammed (is_some (facts_of before m).pins) (Adopt last copies) (facts_of before m).contents))
-            ⊎ Holds blocks (changed true (is_some (facts_of before m).pins) (Adopt last copies) (facts_of before m).contents))
-            → Holds blocks (facts_of before m).contents ⊎ Holds blocks (adopted last copies (facts_of before m).contents)
-        one_of blocks (inl held) = inl held
-        one_of blocks (inr (inl held)) = (let no : ⊥ = (let less = held.0 in omega (arith, less)) in absurd no)
-        one_of blocks (inr (inr held)) = inr (subst (Holds blocks) (adopted_is true last copies (facts_of before m) may.none) held)
-
-    answered : (result : Result (Unit {0}) OnlineFault) → IsApplied (Adopt last copies) (facts_of before m) (facts_of after behind) result → IsKept after (counted all m.touched behind)
-        → OnErr result (result ≡ Err Stopped) → IsAdopting last copies (facts_of before m) (facts_of after (counted all m.touched behind)) result
-    answered (Ok u) is kept only = record {
-      ok = done_adopted is.ok;
-      stopped = tt;
-      causes = is.causes;
-      tied = tied after (counted all m.touched behind) kept;
-      told = is.told;
-      only = tt;
-    }
-    answered (Err e) is kept only = record {
-      ok = tt;
-      stopped = stopped_adopting (is.stopped only);
-      causes = is.causes;
-      tied = tied after (counted all m.touched behind) kept;
-      told = is.told;
-      only = only;
-    }
-
-    pub adopting_is : (o : OnlineFacts) → facts_of before m ≡ o → (result : Result (Unit {0}) OnlineFault) (online : List (ℕ × DiscCopy)) → online ≡ m.online
-        → OnOk result (HasCommitted (directory_of (record m.head { last_dump = last; intent = None }) users files online) before after m.side next marks pages)
-        → OnErr result (Changes (OldOrNew (directory_of (record m.head { last_dump = last; intent = None }) users files online)) before.held after.held)
-        → WritesOnly (commit_blocks (directory_of (record m.head { last_dump = last; intent = None }) users files online) m.side marks) before after result
-        → ForSome after.held (AreWhole after.size) → OnErr result (result ≡ Err Stopped) → OnOk result (live ≡ m.live) → OnErr result (live ≡ false)
-        → IsAdopting last copies o (facts_of after (counted all m.touched behind)) result
-    adopting_is o is result online same done content counts whole only lives dies =
-        subst (λ (old : OnlineFacts). IsAdopting last copies old (facts_of after (counted all m.touched behind)) result) is
-        (answered result
-        (applied (Adopt last copies) before after m (noted_all marks) next pages ready (facts_of before m) refl live result online same done content counts whole only lives dies)
-        (adopted_kept result online same done counts whole lives dies) only)
+-- HOW IT IS ANSWERED
+pub adopting_is : (last : ℕ) (copies : Tapes) (all : List ℕ) (old o new : OnlineFacts) (result : Result (Unit {0}) OnlineFault) → all ≡ [] → old ≡ o → IsNotedBy last copies all old new result → IsAdopting last copies o new result
+adopting_is last copies all old o new (Ok u) all_is is noted = subst (λ (p : OnlineFacts). IsAdopting last copies p new (Ok u)) is (record {
+  ok = record {
+    live = noted.ok.live;
+    contents = noted.ok.contents;
+    pins = noted.ok.pins;
+    changed = noted.ok.changed ∙ all_is;
+    touched = noted.ok.touched;
+    blocks = noted.ok.blocks;
+    commits = noted.ok.commits;
+    writes = noted.ok.writes;
+  };
+  stopped = tt;
+  causes = noted.causes;
+  tied = noted.tied;
+  told = noted.told;
+  only = tt;
+})
+adopting_is last copies all old o new (Err e) all_is is noted = subst (λ (p : OnlineFacts). IsAdopting last copies p new (Err e)) is (record {
+  ok = tt;
+  stopped = noted.stopped;
+  causes = noted.causes;
+  tied = noted.tied;
+  told = noted.told;
+  only = noted.only;
+})
 
 -- WHERE RECORDS ARE MADE READY: what the tree asks for, and what they are
 module _ (copies : Tapes) (held : Option (List (List ℕ))) (head : Head) (users : List UserRec) (files : List FileRec) (online : List (ℕ × DiscCopy)) (c : Contents) (is : contents_of held (directory_of head users files online) ≡ c) where

@@ -1,42 +1,36 @@
 -- A dump is closed: its versions are let go, their places on tape are noted as those of a dump that was completed, and who was touched counts as changed.
 use Rattle.std.proofs.Common.{◌≡◌, ◌≢◌, ◌⊎◌, ℕ, ◌+◌, ◌<◌, ◌==◌, ◌||◌, Bool, true, false, List, [], ◌∷◌, length, get_or, map, Option, Some, None, Result, Ok, Err, All, AllPairs, refl, sym, ◌∙◌, ap, subst, arith, inl, inr}
-use Rattle.std.specs.Prelude.{is_some, OnErr, OnOk}
-use Rattle.std.specs.Option.{ForSome}
+use Rattle.std.specs.Prelude.{is_some}
 use Rattle.std.proofs.lemmas.Bool.{cases_Bool, cond-false, cond-true}
 use Rattle.std.proofs.lemmas.List.Elements.{All-cons, All-head, All-map, All-tail, All-weaker}
-use Rattle.g_base.specs.Counts.{RoseBy}
-use Rattle.g_base.specs.Told.{Changes}
 use Rattle.g_blocks.specs.Pool.{HasGiven, IsTaken}
 use Rattle.g_copy.specs.declared.copy.DiscCopy.{DiscCopy}
-use Rattle.g_disc.specs.Disc.{DiscState, WritesOnly}
+use Rattle.g_disc.specs.Disc.{DiscState}
 use Rattle.g_entry.specs.declared.file_rec.FileRec.{FileRec}
 use Rattle.g_entry.specs.declared.file_rec.TapeCopy.{TapeCopy}
 use Rattle.g_entry.specs.declared.user_rec.UserRec.{UserRec}
-use Rattle.g_slots.specs.declared.side.Side.{Side}
-use Rattle.g_dirs.specs.Commit.{OldOrNew}
-use Rattle.g_dirs.specs.Directory.{FileEntry, copy_at, directory_of, entries_of}
+use Rattle.g_dirs.specs.Directory.{FileEntry, copy_at, entries_of}
 use Rattle.g_dirs.specs.Pages.{Remembered, marked}
 use Rattle.g_tree.specs.Records.{IsRecords}
-use Rattle.g_contents.specs.Contents.{Contents, Holds, copied_rec, copy_of, has, with_copies, with_intent}
+use Rattle.g_contents.specs.Contents.{Contents, Holds, copied_rec, copy_of, has}
 use Rattle.g_contents.specs.Facts.{OnlineFacts, Pin, noted}
 use Rattle.g_online.specs.declared.change.Change.TheVariants.{Adopt}
 use Rattle.g_online.specs.declared.fault.OnlineFault.{OnlineFault}
-use Rattle.g_online.specs.declared.fault.OnlineFault.TheVariants.{Stopped}
 use Rattle.g_online.specs.declared.pinned.Pinned.{Pinned}
 use Rattle.g_online.specs.Allowed.{IsAllowed, KeepsRules}
-use Rattle.g_online.specs.Change.{changed, closed, unjammed}
-use Rattle.g_online.specs.Committed.{HasCommitted, commit_blocks}
-use Rattle.g_online.specs.Done.{HasChanged, HasClosed, HasStopped, IsApplied, StoppedClosing}
+use Rattle.g_online.specs.Change.{closed}
 use Rattle.g_online.specs.Dumped.{MarksMade, lost_places, noted_in, pinned_in}
-use Rattle.g_online.specs.Kept.{AreNoted, AreWhole, IsFileOf, IsKept, IsPinned, Memory, PinsAre, WaitsFor, WaitsPinned, directory_in, facts_of, has_stamp, pin_of, pins_of}
+use Rattle.g_online.specs.Kept.{AreNoted, IsFileOf, IsKept, IsPinned, Memory, PinsAre, WaitsFor, WaitsPinned, directory_in, facts_of, has_stamp, pin_of, pins_of}
 use Rattle.g_online.specs.Pins.{IsClosing}
+use Rattle.g_online.specs.Ready.{adopted}
 use Rattle.g_online.proofs.AdoptLemmas.{adopt_rules, noted_ready}
 use Rattle.g_online.proofs.CloseMarkLemmas.{covers_noted}
+use Rattle.g_online.proofs.NotedLemmas.{IsNotedBy, MayNote, adopted_is}
 use Rattle.g_online.proofs.PinLostLemmas.{gone_kept, let_go, lost_blocks, no_numbers}
 use Rattle.g_online.proofs.ReadyLemmas.{CoversBut, StillRemembers}
 use Rattle.g_online.proofs.RecordLemmas.{keeps_marked, keeps_then}
-use Rattle.g_online.proofs.StepLemmas.{IsReady, applied, kept_behind, pins_told}
-use Rattle.g_online.proofs.TieLemmas.{all_files, tied}
+use Rattle.g_online.proofs.StepLemmas.{IsReady, pins_told}
+use Rattle.g_online.proofs.TieLemmas.{all_files}
 use Rattle.g_online.proofs.UnloadLemmas.{remembers_pages}
 
 abbrev Tapes : Type 0
@@ -104,32 +98,7 @@ noted_closed users size next files online changed touched (Some pins) some was a
   waits = waits_closed pins touched files online are.waits;
 }
 
--- THE SAME MEMORY, but for who counts as changed
-abbrev pub counted : List ℕ → List ℕ → Memory → Memory
-counted all touched m = record m { changed = all; touched = touched }
-
-pub counted_kept : (disc : DiscState) (m : Memory) (all touched : List ℕ) → IsKept disc m → m.pins ≡ None → touched ≡ [] → (m.live ≡ true → AreNoted (length m.users) (directory_in m).files all touched) → IsKept disc (counted all touched m)
-counted_kept disc m all touched kept none nobody noted_are = record {
-  size = kept.size;
-  most = kept.most;
-  whole = kept.whole;
-  agreed = λ live.
-      let was = kept.agreed live in
-      record {
-        stored = was.stored;
-        copies = was.copies;
-        pool = was.pool;
-        noted = noted_are live;
-        pins = subst (λ (pins : Option (List Pinned)). PinsAre pins disc.size m.head.next_stamp (directory_in m).files touched) (sym none) nobody;
-      };
-}
-
 -- THE CLOSING, as the places of a completed dump are noted, once the versions were let go
-closed_is : (told : Bool) (last : ℕ) (copies : Tapes) (o : OnlineFacts) → copies ≡ noted o.pins → changed told false (Adopt last copies) o.contents ≡ closed last o
-unfolding changed
-closed_is told last copies o same =
-    ap (λ (cs : Tapes). with_intent None (let c : Contents = record o.contents { head = record o.contents.head { last_dump = last }; files = with_copies cs o.contents.files } in c)) same
-
 -- what is known before it
 pub record IsToClose (last : ℕ) (before : DiscState) (m : Memory) : Type 0 where
   pub kept : IsKept before m
@@ -153,6 +122,10 @@ module _ (last : ℕ) (before : DiscState) (m : Memory) (may : IsToClose last be
   copies_are : noted_in pins ≡ noted (facts_of before m).pins
   copies_are = ap noted_in pins_are ∙ sym (noted_is before.held m.pins)
 
+  -- the contents of the closing
+  closes : adopted last (noted_in pins) (facts_of before m).contents ≡ closed last (facts_of before m)
+  closes = ap (λ (cs : Tapes). adopted last cs (facts_of before m).contents) copies_are
+
   module _ (pool : List Bool) (gives : HasGiven (lost_places files pins) m.pool pool) where
     abbrev gone : Memory
     gone = let_go pool [] m
@@ -169,7 +142,7 @@ module _ (last : ℕ) (before : DiscState) (m : Memory) (may : IsToClose last be
             (subst (λ (ps : List Pinned). All (λ (f : FileEntry). f.0.len ≡ 0 → All (λ (c : ℕ × TapeCopy). c.0 ≢ f.0.stamp) (noted_in ps)) (directory_in m).files) (sym pins_are)
             (empty_apart before.size m.head.next_stamp (directory_in m).files m.touched m.pins (may.kept.agreed may.live).pins)),
       );
-      rules = subst KeepsRules (sym (closed_is (is_some before.held) last (noted_in pins) (facts_of before m) copies_are)) may.rules;
+      rules = subst KeepsRules (sym (adopted_is (is_some before.held) last (noted_in pins) (facts_of before gone) refl ∙ closes)) may.rules;
     }
 
     -- what the tree asks for
@@ -201,74 +174,45 @@ module _ (last : ℕ) (before : DiscState) (m : Memory) (may : IsToClose last be
         (subst (λ (ns : List ℕ). AreNoted (length m.users) (entries_of (map (copied_rec (noted_in (pinned_in m.pins))) m.files) m.online) m.touched ns) (sym none)
         (noted_closed (length m.users) before.size m.head.next_stamp m.files m.online m.changed m.touched m.pins may.some was.noted was.pins)))))
 
-    module _ (users : List UserRec) (noted_files : List FileRec) (first marks : Remembered) (all touched : List ℕ) (users_are : users ≡ m.users) (noted_are : noted_files ≡ map (copied_rec (noted_in pins)) m.files)
-        (head_marked : first ≡ marked 0 m.pages) (remembers : StillRemembers m.pages first) (covers : CoversBut 0 m.pages first) (makes : MarksMade (copied_rec (noted_in pins)) m.files first marks)
-        (all_is : all ≡ m.touched) (none : touched ≡ [])
-        (after : DiscState) (next : Side) (pages : Remembered) (live : Bool) where
-      abbrev behind : Memory
-      behind = record (shut users noted_files marks) { side = next; pages = pages; live = live }
+    pub may_close : (users : List UserRec) (noted_files : List FileRec) (first marks : Remembered) (all touched : List ℕ) → users ≡ m.users → noted_files ≡ map (copied_rec (noted_in pins)) m.files
+        → first ≡ marked 0 m.pages → StillRemembers m.pages first → CoversBut 0 m.pages first → MarksMade (copied_rec (noted_in pins)) m.files first marks → all ≡ m.touched → touched ≡ []
+        → MayNote last (noted_in pins) all touched before gone (shut users noted_files marks)
+    may_close users noted_files first marks all touched users_are noted_are head_marked remembers covers makes all_is none = record {
+      ready = close_ready users noted_files first marks users_are noted_are head_marked remembers covers makes;
+      none = refl;
+      unpinned = refl;
+      nobody = none;
+      noted = close_noted users noted_files all touched users_are noted_are all_is none;
+    }
 
-      ready : IsReady (Adopt last (noted_in pins)) before gone (shut users noted_files marks)
-      ready = close_ready users noted_files first marks users_are noted_are head_marked remembers covers makes
-
-      pub closed_kept : (result : Result (Unit {0}) OnlineFault) (online : List (ℕ × DiscCopy)) → online ≡ m.online
-          → OnOk result (HasCommitted (directory_of (record m.head { last_dump = last; intent = None }) users noted_files online) before after m.side next marks pages) → {k : ℕ} → WritesOnly k before after result
-          → ForSome after.held (AreWhole after.size) → OnOk result (live ≡ m.live) → OnErr result (live ≡ false) → IsKept after (counted all touched behind)
-      closed_kept result online same done {k} counts whole lives dies =
-          counted_kept after behind all touched
-          (kept_behind (Adopt last (noted_in pins)) before after gone (shut users noted_files marks) next pages ready live result online same done counts whole lives dies)
-          refl none (λ _. close_noted users noted_files all touched users_are noted_are all_is none)
-
-      done_closed : HasChanged (Adopt last (noted_in pins)) (facts_of before gone) (facts_of after behind) → HasClosed last (facts_of before m) (facts_of after (counted all touched behind))
-      done_closed done = record {
-        live = done.live;
-        contents = done.contents ∙ closed_is (is_some before.held) last (noted_in pins) (facts_of before m) copies_are;
-        pins = refl;
-        changed = all_is;
-        touched = none;
-        blocks = done.blocks;
-        commits = done.commits;
-        writes = subst (λ (k : ℕ). RoseBy k before.writes after.writes) (let same : 0 + done.blocks ≡ done.blocks = omega arith in same) done.writes;
-      }
-
-      stopped_closing : HasStopped (Adopt last (noted_in pins)) (facts_of before gone) (facts_of after behind) → StoppedClosing last (facts_of before m) (facts_of after (counted all touched behind))
-      stopped_closing stopped = record { live = stopped.live; holds = λ blocks told. one_of blocks (stopped.holds blocks told).one }
-        where
-          one_of : (blocks : List (List ℕ)) → Holds blocks (facts_of before m).contents
-              ⊎ (((let nothing : ℕ = 0 in nothing < 0) × Holds blocks (unjammed false (Adopt last (noted_in pins)) (facts_of before m).contents))
-              ⊎ Holds blocks (changed true false (Adopt last (noted_in pins)) (facts_of before m).contents))
-              → Holds blocks (facts_of before m).contents ⊎ Holds blocks (closed last (facts_of before m))
-          one_of blocks (inl held) = inl held
-          one_of blocks (inr (inl held)) = (let no : ⊥ = (let less = held.0 in omega (arith, less)) in absurd no)
-          one_of blocks (inr (inr held)) = inr (subst (Holds blocks) (closed_is true last (noted_in pins) (facts_of before m) copies_are) held)
-
-      answered : (result : Result (Unit {0}) OnlineFault) → IsApplied (Adopt last (noted_in pins)) (facts_of before gone) (facts_of after behind) result → IsKept after (counted all touched behind)
-          → OnErr result (result ≡ Err Stopped) → IsClosing last (facts_of before m) (facts_of after (counted all touched behind)) result
-      answered (Ok u) is kept only = record {
-        ok = done_closed is.ok;
-        stopped = tt;
-        causes = is.causes;
-        tied = tied after (counted all touched behind) kept;
-        told = is.told;
-        only = tt;
-      }
-      answered (Err e) is kept only = record {
-        ok = tt;
-        stopped = stopped_closing (is.stopped only);
-        causes = is.causes;
-        tied = tied after (counted all touched behind) kept;
-        told = is.told;
-        only = only;
-      }
-
-      pub closing_is : (o : OnlineFacts) → facts_of before m ≡ o → (result : Result (Unit {0}) OnlineFault) (online : List (ℕ × DiscCopy)) → online ≡ m.online
-          → OnOk result (HasCommitted (directory_of (record m.head { last_dump = last; intent = None }) users noted_files online) before after m.side next marks pages)
-          → OnErr result (Changes (OldOrNew (directory_of (record m.head { last_dump = last; intent = None }) users noted_files online)) before.held after.held)
-          → WritesOnly (commit_blocks (directory_of (record m.head { last_dump = last; intent = None }) users noted_files online) m.side marks) before after result
-          → ForSome after.held (AreWhole after.size) → OnErr result (result ≡ Err Stopped) → OnOk result (live ≡ m.live) → OnErr result (live ≡ false)
-          → IsClosing last o (facts_of after (counted all touched behind)) result
-      closing_is o is result online same done content counts whole only lives dies =
-          subst (λ (old : OnlineFacts). IsClosing last old (facts_of after (counted all touched behind)) result) is
-          (answered result
-          (applied (Adopt last (noted_in pins)) before after gone (shut users noted_files marks) next pages ready (facts_of before gone) refl live result online same done content counts whole only lives dies)
-          (closed_kept result online same done counts whole lives dies) only)
+    -- HOW IT IS ANSWERED
+    pub closing_is : (all : List ℕ) (o new : OnlineFacts) (result : Result (Unit {0}) OnlineFault) → all ≡ m.touched → facts_of before m ≡ o → IsNotedBy last (noted_in pins) all (facts_of before gone) new result
+        → IsClosing last o new result
+    closing_is all o new (Ok u) all_is is it = subst (λ (p : OnlineFacts). IsClosing last p new (Ok u)) is (record {
+      ok = record {
+        live = it.ok.live;
+        contents = it.ok.contents ∙ closes;
+        pins = it.ok.pins;
+        changed = it.ok.changed ∙ all_is;
+        touched = it.ok.touched;
+        blocks = it.ok.blocks;
+        commits = it.ok.commits;
+        writes = it.ok.writes;
+      };
+      stopped = tt;
+      causes = it.causes;
+      tied = it.tied;
+      told = it.told;
+      only = tt;
+    })
+    closing_is all o new (Err e) all_is is it = subst (λ (p : OnlineFacts). IsClosing last p new (Err e)) is (record {
+      ok = tt;
+      stopped = record {
+        live = it.stopped.live;
+        holds = λ blocks told. subst (λ (c : Contents). Holds blocks (facts_of before m).contents ⊎ Holds blocks c) closes (it.stopped.holds blocks told);
+      };
+      causes = it.causes;
+      tied = it.tied;
+      told = it.told;
+      only = it.only;
+    })

@@ -1,3 +1,4 @@
+pub mod MemoryLemmas
 pub mod TieLemmas
 pub mod SameLemmas
 pub mod WriteLemmas
@@ -30,6 +31,7 @@ pub mod PinLostLemmas
 pub mod PinBlockLemmas
 pub mod CloseNoteLemmas
 pub mod CloseMarkLemmas
+pub mod NotedLemmas
 pub mod CloseLemmas
 pub mod AdoptedLemmas
 pub mod PinPutLemmas

@@ -38,14 +38,14 @@ use Rattle.g_online.proofs.UnloadLemmas.{off_blocks}
 use Rattle.g_online.proofs.WrittenLemmas.{IsNewCopy, NeedsFor, write_stopped}
 
 -- THE BLOCKS ARE THERE
-pub ready_takes : (given : List ℕ) (bytes n : ℕ) (old between new : List Bool) (blocks list : List ℕ) → HasGiven given old between → AreLeastFree between n blocks → HasTaken blocks between new → n ≡ blocks_for bytes → list ≡ blocks
-    → TakesBeside given bytes old new (record { blocks = list; len = bytes })
-ready_takes given bytes n old between new blocks list gives least takes count is = record {
+pub ready_takes : (given : List ℕ) (bytes n : ℕ) (old between new : List Bool) (copy : DiscCopy) → HasGiven given old between → AreLeastFree between n copy.blocks → HasTaken copy.blocks between new → n ≡ blocks_for bytes
+    → copy.len ≡ bytes → TakesBeside given bytes old new copy
+ready_takes given bytes n old between new copy gives least takes count len = record {
   between = between;
   gives = gives;
-  least = subst (λ (bs : List ℕ). AreLeastFree between (blocks_for bytes) bs) (sym is) (subst (λ (k : ℕ). AreLeastFree between k blocks) count least);
-  takes = subst (λ (bs : List ℕ). HasTaken bs between new) (sym is) takes;
-  len = refl;
+  least = subst (λ (k : ℕ). AreLeastFree between k copy.blocks) count least;
+  takes = takes;
+  len = len;
 }
 
 pub full_here : {T : Type 0} (r : Result T OnlineFault) (n k j l : ℕ) → n ≡ j → k ≡ l → (IsErrOf r (DiscFull n k) ↔ (k < n)) → IsErrOf r (DiscFull j l) ↔ (l < j)
@@ -69,8 +69,8 @@ only_here e n k j l need room only =
     subst (λ (i : ℕ). (e ≡ NoMemory) ⊎ (e ≡ DiscFull j i)) room (subst (λ (i : ℕ). (e ≡ NoMemory) ⊎ (e ≡ DiscFull i k)) need only)
 
 -- a file has at most 128 blocks
-pub ready_short : (bytes n : ℕ) (blocks : List ℕ) → length blocks ≡ n → n ≡ blocks_for bytes → bytes ≤ 65536 → length blocks ≤ 128
-ready_short bytes n blocks count need short = omega (arith, count, need, short)
+pub ready_few : (bytes n : ℕ) → n ≡ blocks_for bytes → bytes ≤ 65536 → n ≤ 128
+ready_few bytes n need short = omega (arith, need, short)
 
 -- REFUSED, for want of blocks or of memory
 refused_not : (e : OnlineFault) (n k : ℕ) → (e ≡ NoMemory) ⊎ (e ≡ DiscFull n k) → e ≢ Stopped

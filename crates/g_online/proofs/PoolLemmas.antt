@@ -3,10 +3,14 @@ use Rattle.std.proofs.Common.{◌≡◌, ◌≢◌, ℕ, ◌+◌, ◌-◌, ◌<�
 use Rattle.std.specs.Prelude.{Contains}
 use Rattle.std.specs.List.{flat_map}
 use Rattle.std.proofs.lemmas.Grind.{flat_map-append}
-use Rattle.std.proofs.lemmas.List.{append-nil, take_more}
+use Rattle.std.proofs.lemmas.List.{append-nil, get_or_default, take_more}
 use Rattle.std.proofs.lemmas.List.Elements.{All-append, All-contains, All-contains_itself, All-weaker, Contains-append_left, Contains-append_right}
 use Rattle.g_blocks.specs.Pool.{ChangesOnly, HasGiven, HasTaken, IsFree, IsTaken}
+use Rattle.g_copy.specs.declared.copy.DiscCopy.{DiscCopy}
+use Rattle.g_dirs.specs.Directory.{copy_at}
 use Rattle.g_dirs.proofs.EntryLemmas.{same_lists}
+use Rattle.g_online.specs.Kept.{copy_places}
+use Rattle.g_online.specs.Off.{places_off}
 use Rattle.g_online.proofs.UseLemmas.{contains_or_not, left_all, left_apart, parts_apart, right_all, right_apart}
 
 -- FLAGS: a free block's is false, a taken one's true
@@ -143,3 +147,24 @@ module _ {A : Type 0} (F : A → List ℕ) (xs : List A) (i : ℕ) (x : A) (with
       → AllPairs (λ j k. j ≢ k) (flat_map F xs) → Does (flat_map F (take i xs)) pool mid → Does (F x) mid last → Does (flat_map F (take (i + 1) xs)) pool last
   one_more Does then_more pool mid last apart done more =
       subst (λ (ks : List ℕ). Does ks pool last) (sym further) (then_more (flat_map F (take i xs)) (F x) pool mid last (front_apart apart) done more)
+
+-- ONE FILE AFTER THE OTHER
+module _ (online : List (ℕ × DiscCopy)) (numbers : List ℕ) (i : ℕ) (within : i < length numbers) where
+  abbrev blocks_of : ℕ → List ℕ
+  blocks_of n = copy_places (copy_at online n)
+
+  abbrev this : ℕ
+  this = get_or numbers i 0
+
+  pub file_apart : AllPairs (λ j k. j ≢ k) (places_off numbers online) → AllPairs (λ j k. j ≢ k) (blocks_of this)
+  file_apart = next_apart blocks_of numbers i this within (get_or_default numbers i this 0 within)
+
+  pub file_may : (Does : List ℕ → List Bool → List Bool → Type 0) (May : List Bool → ℕ → Type 0)
+      → ((ys zs : List ℕ) (p q : List Bool) → AllPairs (λ j k. j ≢ k) (ys ++ zs) → Does ys p q → All (May p) zs → All (May q) zs) → (pool mid : List Bool)
+      → AllPairs (λ j k. j ≢ k) (places_off numbers online) → Does (places_off (take i numbers) online) pool mid → All (May pool) (places_off numbers online) → All (May mid) (blocks_of this)
+  file_may = next_may blocks_of numbers i this within (get_or_default numbers i this 0 within)
+
+  pub one_more_file : (Does : List ℕ → List Bool → List Bool → Type 0)
+      → ((ys zs : List ℕ) (p q r : List Bool) → AllPairs (λ j k. j ≢ k) (ys ++ zs) → Does ys p q → Does zs q r → Does (ys ++ zs) p r) → (pool mid last : List Bool)
+      → AllPairs (λ j k. j ≢ k) (places_off numbers online) → Does (places_off (take i numbers) online) pool mid → Does (blocks_of this) mid last → Does (places_off (take (i + 1) numbers) online) pool last
+  one_more_file = one_more blocks_of numbers i this within (get_or_default numbers i this 0 within)

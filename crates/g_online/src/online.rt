@@ -9,8 +9,7 @@ use crate::copies::copy_of;
 use crate::numbers::UserNumbers;
 use crate::pinned::Pinned;
 use g_blocks::Pool;
-use g_copy::DiscCopy;
-use g_dirs::Pages;
+use g_dirs::{BoxedCopy, Pages};
 use g_disc::Disc;
 use g_entry::Head;
 use g_slots::Slots;
@@ -29,7 +28,7 @@ pub struct Online<D: Disc> {
     pub(crate) pool: Pool,
     pub(crate) tree: Tree,
     pub(crate) head: Head,
-    pub(crate) online: Vec<(u16, DiscCopy)>,
+    pub(crate) online: Vec<(u16, BoxedCopy)>,
     pub(crate) pins: Option<Vec<Pinned>>,
     pub(crate) changed: UserNumbers,
     pub(crate) touched: UserNumbers,

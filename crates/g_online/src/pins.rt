@@ -16,6 +16,7 @@ use crate::{Online, OnlineFault};
 use g_base::{Block, BlockList, NoMemory, blocks_for};
 use g_blocks::Pool;
 use g_copy::DiscCopy;
+use g_dirs::BoxedCopy;
 use g_disc::Disc;
 use g_entry::{FileRec, TapeCopy};
 use g_tree::Tree;
@@ -136,7 +137,7 @@ fn is_filed(files: &[FileRec], stamp: u64) -> bool
 fn waiting_versions(
     alloc: Global,
     tree: &Tree,
-    online: &[(u16, DiscCopy)],
+    online: &[(u16, BoxedCopy)],
     serial: u32,
     first: u32,
 ) -> Result<Vec<Pinned>, NoMemory>
@@ -164,7 +165,7 @@ fn pin_owner(
     serial: u32,
     owner: u8,
     files: &[FileRec],
-    online: &[(u16, DiscCopy)],
+    online: &[(u16, BoxedCopy)],
 ) -> Result<(), NoMemory>
     requires rising { AllPairs (λ c d. c.0 < d.0) online.now }
     requires few { length files.now ≤ 1024 }
@@ -189,7 +190,7 @@ fn pin_file(
     serial: u32,
     owner: u8,
     file: &FileRec,
-    online: &[(u16, DiscCopy)],
+    online: &[(u16, BoxedCopy)],
 ) -> Result<(), NoMemory>
     requires rising { AllPairs (λ c d. c.0 < d.0) online.now }
     requires room { at.old + blocks_for file.now.len < 2 ^ 32 }

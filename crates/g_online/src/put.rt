@@ -23,7 +23,7 @@ ghost use Rattle.g_online.specs.Put.{IsUntouched, TakesBeside, TakesFilesOff, is
 
 use crate::change::Change;
 use crate::commit::commit;
-use crate::copies::{copy_of, put_copy};
+use crate::copies::{copy_of, empty_copy, put_copy};
 use crate::erase::{forget_copy, give_unless, is_kept};
 use crate::numbers::UserNumbers;
 use crate::pinned::Pinned;
@@ -32,7 +32,7 @@ use crate::{Online, OnlineFault};
 use g_base::{BlockList, FIRST_FILE_BLOCK, blocks_for};
 use g_blocks::Pool;
 use g_copy::{DiscCopy, write_copy};
-use g_dirs::Pages;
+use g_dirs::{BoxedCopy, Pages};
 use g_disc::Disc;
 use g_entry::{FileRec, Head};
 use g_name::Text;
@@ -133,10 +133,10 @@ fn make_ready(
     alloc: Global,
     pool: &mut Pool,
     tree: &mut Tree,
-    online: &mut Vec<(u16, DiscCopy)>,
+    online: &mut Vec<(u16, BoxedCopy)>,
     numbers: &[u16],
     len: u32,
-) -> Result<DiscCopy, OnlineFault>
+) -> Result<BoxedCopy, OnlineFault>
     requires rising { AllPairs (λ c d. c.0 < d.0) online.old.items }
     requires apart { AllPairs (λ j k. j ≢ k) (places_off numbers.now online.old.items) }
     requires taken { All (IsTaken pool.old) (places_off numbers.now online.old.items) }
@@ -156,11 +156,8 @@ fn make_ready(
 {
     let lists = make_room(tree, online);
     give_all(pool, online, numbers);
-    match take_blocks(alloc, lists, pool, blocks_for(len)) {
-        Ok(blocks) => Ok(DiscCopy {
-            blocks: list_of(&blocks),
-            len,
-        }),
+    match take_blocks(alloc, lists, pool, blocks_for(len), len) {
+        Ok(copy) => Ok(copy),
         Err(fault) => {
             retake_all(pool, online, numbers);
             Err(fault)
@@ -169,7 +166,7 @@ fn make_ready(
 }
 
 /// Makes room for one more file in the lists of files and of copies; false without memory.
-fn make_room(tree: &mut Tree, online: &mut Vec<(u16, DiscCopy)>) -> bool
+fn make_room(tree: &mut Tree, online: &mut Vec<(u16, BoxedCopy)>) -> bool
     ensures users { tree.new.users ≡ tree.old.users }
     ensures files { tree.new.files ≡ tree.old.files }
     ensures items { online.new.items ≡ online.old.items }
@@ -186,10 +183,19 @@ fn make_room(tree: &mut Tree, online: &mut Vec<(u16, DiscCopy)>) -> bool
     }
 }
 
-/// Takes the n least free blocks, where there is room in the lists. Blocks that aren't there are told first.
-fn take_blocks(alloc: Global, lists: bool, pool: &mut Pool, n: u32) -> Result<Vec<u32>, OnlineFault>
-    ensures least { IfOk result (λ blocks. AreLeastFree pool.old n blocks.items) }
-    ensures taken { IfOk result (λ blocks. HasTaken blocks.items pool.old pool.new) }
+/// Takes the n least free blocks for a copy of `len` bytes, where there is room in the lists. Blocks that aren't there are
+/// told first.
+fn take_blocks(
+    alloc: Global,
+    lists: bool,
+    pool: &mut Pool,
+    n: u32,
+    len: u32,
+) -> Result<BoxedCopy, OnlineFault>
+    requires few { n ≤ 128 }
+    ensures least { IfOk result (λ copy. AreLeastFree pool.old n copy.blocks) }
+    ensures taken { IfOk result (λ copy. HasTaken copy.blocks pool.old pool.new) }
+    ensures len { IfOk result (λ copy. copy.len ≡ len) }
     ensures lists { OnOk result (lists ≡ true) }
     ensures full { IsErrOf result (OnlineFault.DiscFull n (free_count pool.old)) ↔ (free_count pool.old < n) }
     ensures same { OnErr result (pool.new ≡ pool.old) }
@@ -202,8 +208,18 @@ fn take_blocks(alloc: Global, lists: bool, pool: &mut Pool, n: u32) -> Result<Ve
     if !lists {
         return Err(OnlineFault::NoMemory);
     }
+    let mut copy = match empty_copy(alloc) {
+        Ok(copy) => copy,
+        Err(_) => return Err(OnlineFault::NoMemory),
+    };
     match pool.take(alloc, n) {
-        Ok(blocks) => Ok(blocks),
+        Ok(blocks) => {
+            copy.set(DiscCopy {
+                blocks: list_of(&blocks),
+                len,
+            });
+            Ok(copy)
+        }
         Err(_) => Err(OnlineFault::NoMemory),
     }
 }
@@ -217,7 +233,7 @@ fn list_of(numbers: &[u32]) -> BlockList
 }
 
 /// Gives the blocks of these files back to the pool.
-fn give_all(pool: &mut Pool, online: &[(u16, DiscCopy)], numbers: &[u16])
+fn give_all(pool: &mut Pool, online: &[(u16, BoxedCopy)], numbers: &[u16])
     requires rising { AllPairs (λ c d. c.0 < d.0) online.now }
     requires apart { AllPairs (λ j k. j ≢ k) (places_off numbers.now online.now) }
     requires taken { All (IsTaken pool.old) (places_off numbers.now online.now) }
@@ -229,7 +245,7 @@ fn give_all(pool: &mut Pool, online: &[(u16, DiscCopy)], numbers: &[u16])
 }
 
 /// The same of one file.
-fn give_one(pool: &mut Pool, online: &[(u16, DiscCopy)], number: u16)
+fn give_one(pool: &mut Pool, online: &[(u16, BoxedCopy)], number: u16)
     requires rising { AllPairs (λ c d. c.0 < d.0) online.now }
     requires apart { AllPairs (λ j k. j ≢ k) (copy_places (copy_at online.now number)) }
     requires taken { All (IsTaken pool.old) (copy_places (copy_at online.now number)) }
@@ -239,7 +255,7 @@ fn give_one(pool: &mut Pool, online: &[(u16, DiscCopy)], number: u16)
 }
 
 /// Takes them again, which needs no memory.
-fn retake_all(pool: &mut Pool, online: &[(u16, DiscCopy)], numbers: &[u16])
+fn retake_all(pool: &mut Pool, online: &[(u16, BoxedCopy)], numbers: &[u16])
     requires rising { AllPairs (λ c d. c.0 < d.0) online.now }
     requires apart { AllPairs (λ j k. j ≢ k) (places_off numbers.now online.now) }
     requires free { All (IsFree pool.old) (places_off numbers.now online.now) }
@@ -251,7 +267,7 @@ fn retake_all(pool: &mut Pool, online: &[(u16, DiscCopy)], numbers: &[u16])
 }
 
 /// The same of one file.
-fn retake_one(pool: &mut Pool, online: &[(u16, DiscCopy)], number: u16)
+fn retake_one(pool: &mut Pool, online: &[(u16, BoxedCopy)], number: u16)
     requires rising { AllPairs (λ c d. c.0 < d.0) online.now }
     requires apart { AllPairs (λ j k. j ≢ k) (copy_places (copy_at online.now number)) }
     requires free { All (IsFree pool.old) (copy_places (copy_at online.now number)) }
@@ -280,7 +296,7 @@ fn unjam_first<D: Disc>(
     live: &mut bool,
     head: &mut Head,
     tree: &Tree,
-    online: &mut Vec<(u16, DiscCopy)>,
+    online: &mut Vec<(u16, BoxedCopy)>,
     pinned: bool,
     numbers: &[u16],
 ) -> Result<(), OnlineFault>
@@ -313,7 +329,7 @@ fn unjam_first<D: Disc>(
 }
 
 /// Takes the copies of these files out of the list, and marks their records.
-fn forget_all(pages: &mut Pages, online: &mut Vec<(u16, DiscCopy)>, numbers: &[u16])
+fn forget_all(pages: &mut Pages, online: &mut Vec<(u16, BoxedCopy)>, numbers: &[u16])
     requires rising { AllPairs (λ c d. c.0 < d.0) online.old.items }
     requires below { All (λ n. n < 1024) numbers.now }
     ensures copies { online.new.items ≡ without_copies numbers.now online.old.items }
@@ -326,7 +342,7 @@ fn forget_all(pages: &mut Pages, online: &mut Vec<(u16, DiscCopy)>, numbers: &[u
 }
 
 /// The same of one file.
-fn forget_one(pages: &mut Pages, online: &mut Vec<(u16, DiscCopy)>, number: u16)
+fn forget_one(pages: &mut Pages, online: &mut Vec<(u16, BoxedCopy)>, number: u16)
     requires rising { AllPairs (λ c d. c.0 < d.0) online.old.items }
     requires below { number < 1024 }
     ensures copies { online.new.items ≡ without_copy number online.old.items }
@@ -341,7 +357,7 @@ fn forget_one(pages: &mut Pages, online: &mut Vec<(u16, DiscCopy)>, number: u16)
 fn write_new<D: Disc>(
     disc: &mut D,
     live: &mut bool,
-    copy: &DiscCopy,
+    copy: &BoxedCopy,
     bytes: &[u8],
 ) -> Result<(), OnlineFault>
     requires size { 2177 < (D.state disc.old).size }
@@ -357,7 +373,7 @@ fn write_new<D: Disc>(
     ensures whole { ForSome (D.state disc.new).held (AreWhole (D.state disc.new).size) }
     ensures only { OnErr result (result ≡ Err OnlineFault.Stopped) }
 {
-    match write_copy(disc, copy, bytes) {
+    match write_copy(disc, copy.get(), bytes) {
         Ok(()) => {
             let _size = disc.size();
             Ok(())
@@ -385,9 +401,9 @@ fn is_kept_at(pins: &Option<Vec<Pinned>>, tree: &Tree, number: u16) -> bool
 fn replace_copy(
     keeps: bool,
     pool: &mut Pool,
-    online: &mut Vec<(u16, DiscCopy)>,
+    online: &mut Vec<(u16, BoxedCopy)>,
     number: u16,
-    copy: DiscCopy,
+    copy: BoxedCopy,
 )
     requires rising { AllPairs (λ c d. c.0 < d.0) online.old.items }
     requires room { vec_len online.old < vec_capacity online.old }

@@ -21,7 +21,7 @@ use Rattle.g_crew.specs.Numbers.{AreOpen}
 use Rattle.g_console.specs.declared.progress.Failure.{Failure}
 use Rattle.g_console.specs.Parts.{ArmsBy, DidLine, DoesLine, DoesNothing, IsReady, LineGoes, Matches, Seen, disc_arms, tape_arms}
 use Rattle.g_console.specs.System.{SystemFacts, devices_in}
-use Rattle.g_ticks.specs.Parts.{IsBetween}
+use Rattle.g_run.specs.Tick.{IsBetween}
 use Rattle.g_run.specs.Parts.{Anything, AreDueBy, Breaks, DidAll, DidLines, DidTicks, GoesBy, IsAtRest, Keeps, Leads}
 use Rattle.g_run.proofs.LeaveLemmas.{line_leaves}
 use Rattle.g_run.proofs.PartLemmas.{arrives_here, goes_then, keeps_more, keeps_then, with_more-nil}

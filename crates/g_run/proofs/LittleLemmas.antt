@@ -1,5 +1,5 @@
 -- How much there may be left to do, and that the count has room for it.
-use Rattle.std.proofs.Common.{◌≡◌, ◌+◌, ◌*◌, ◌-◌, ◌<◌, ◌≤◌, ◌∙◌, ℕ, Bool, true, false, All, List, [], ◌∷◌, Option, Some, None, length, suc, sum_by, refl, ap, subst, sym, arith, if◌then◌else◌}
+use Rattle.std.proofs.Common.{◌≡◌, ◌+◌, ◌*◌, ◌-◌, ◌<◌, ◌≤◌, ℕ, Bool, true, false, All, List, [], ◌∷◌, Option, Some, None, length, suc, sum_by, refl, arith, if◌then◌else◌}
 use Rattle.std.specs.Prelude.{option_map, unwrap_or}
 use Rattle.std.proofs.lemmas.List.Elements.{All-head, All-tail}
 use Rattle.std.proofs.lemmas.List.Sums.{sum_by-cons}
@@ -11,8 +11,7 @@ use Rattle.g_crew.specs.Crew.{CrewState}
 use Rattle.g_crew.specs.Numbers.{AreJobs, IsAllowed}
 use Rattle.g_console.specs.Parts.{seen}
 use Rattle.g_console.specs.System.{SystemFacts, Up, devices_in}
-use Rattle.g_ticks.specs.Parts.{dump_left, left, may_step, share_in}
-use Rattle.g_run.specs.Parts.{HasRoom}
+use Rattle.g_run.specs.Tick.{dump_left, left, may_step, share_in}
 
 -- of a job
 share_by : (allowance used : ℕ) (steps : Bool) → allowance ≤ 1000000 → (allowance - used) + (if steps then 1 else 0) ≤ 1000001

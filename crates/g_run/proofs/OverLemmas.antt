@@ -37,7 +37,7 @@ use Rattle.g_console.proofs.GrowLemmas.{grow_itself}
 use Rattle.g_console.specs.Parts.{Matches, Seen, seen}
 use Rattle.g_console.specs.Puts.{FaultCause, Puts, PutsBy}
 use Rattle.g_console.specs.System.{BelongTogether, Down, DumpsGrow, StandsAs, SystemBelongs, SystemFacts, Up, devices_in, SameDevices}
-use Rattle.g_ticks.proofs.TickLemmas.{put_on, with_more-append}
+use Rattle.g_run.proofs.TickLemmas.{put_on, with_more-append}
 use Rattle.g_run.specs.Over.{ClosesBy, DidScript, TakenDown, both}
 use Rattle.g_run.specs.Parts.{DidAll, IsAtRest, Keeps, Leads}
 use Rattle.g_run.specs.Top.{EndsBy}

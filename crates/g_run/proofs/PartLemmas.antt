@@ -21,8 +21,8 @@ use Rattle.g_console.specs.declared.progress.Failure.{Failure}
 use Rattle.g_console.specs.Parts.{Matches, Seen}
 use Rattle.g_console.specs.Puts.{FaultCause}
 use Rattle.g_console.specs.System.{StandsAs, SystemFacts, devices_in}
-use Rattle.g_ticks.specs.Parts.{IsBetween}
-use Rattle.g_ticks.proofs.TickLemmas.{put_on, with_more-append}
+use Rattle.g_run.specs.Tick.{IsBetween}
+use Rattle.g_run.proofs.TickLemmas.{put_on, with_more-append}
 use Rattle.g_run.specs.Parts.{Anything, Arrives, GoesBy, Keeps, Leads}
 use Rattle.g_console.proofs.GrowLemmas.{grow_then}
 use Rattle.g_console.proofs.LabelLemmas.{same_then}

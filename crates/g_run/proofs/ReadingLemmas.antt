@@ -7,7 +7,8 @@ use Rattle.g_script.specs.Script.{Bare, EndsAt, IsBare, IsItem, IsParsed, IsWrit
 use Rattle.g_script.specs.declared.operator.Operator.{Operator}
 use Rattle.g_script.specs.declared.operator.Operator.TheVariants as line
 use Rattle.g_script.specs.declared.operator.Timed.{Timed}
-use Rattle.g_run.specs.Parts.{IsTimedWithin, IsWithin}
+use Rattle.g_console.specs.Parts.{IsWithin}
+use Rattle.g_run.specs.Parts.{IsTimedWithin}
 
 bare_within : (what : Operator) → IsBare what → IsWithin what
 bare_within (line.Job name user time money lines) is = absurd is

@@ -12,9 +12,9 @@ use Rattle.g_world.specs.World.{World, able, can_step, has_none, is_due, is_dump
 use Rattle.g_crew.specs.Crew.{CrewState}
 use Rattle.g_console.specs.Parts.{IsReady, Matches, seen}
 use Rattle.g_console.specs.System.{Down, SystemFacts, Up}
-use Rattle.g_ticks.specs.Parts.{has_dump, may_step, some_job_steps}
-use Rattle.g_ticks.proofs.FallLemmas.{able_same}
-use Rattle.g_ticks.proofs.RanLemmas.{mounted_in}
+use Rattle.g_run.specs.Tick.{has_dump, may_step, some_job_steps}
+use Rattle.g_run.proofs.FallLemmas.{able_same}
+use Rattle.g_run.proofs.RanLemmas.{mounted_in}
 use Rattle.g_run.specs.Parts.{is_past, steps_in, turn_of}
 
 -- the next line is due where the count has come to its turn

@@ -18,8 +18,8 @@ use Rattle.g_crew.specs.Crew.{CrewState}
 use Rattle.g_console.specs.declared.progress.Failure.{Failure}
 use Rattle.g_console.specs.Parts.{IsReady, Matches, Seen, seen}
 use Rattle.g_console.specs.System.{SystemFacts, Up, devices_in}
-use Rattle.g_ticks.specs.Parts as ticks
-use Rattle.g_ticks.specs.Parts.{Comes, DidTick, IsBetween, IsThrough, KeepsRun, MayTick, has_dump, left, some_job_steps}
+use Rattle.g_run.specs.Tick as ticks
+use Rattle.g_run.specs.Tick.{Comes, DidTick, IsBetween, IsThrough, KeepsRun, MayTick, has_dump, left, some_job_steps}
 use Rattle.g_run.specs.Parts.{Anything, DidOne, Keeps, Leads, PartGoes, is_past, steps_in, turn_of}
 use Rattle.g_run.proofs.PartLemmas.{none_arm}
 use Rattle.g_run.proofs.RestLemmas.{due_is, nothing_is}

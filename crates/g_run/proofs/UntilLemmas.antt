@@ -13,7 +13,7 @@ use Rattle.g_crew.specs.Numbers.{AreOpen}
 use Rattle.g_console.specs.declared.progress.Failure.{Failure}
 use Rattle.g_console.specs.Parts.{IsReady, Matches, Seen, seen}
 use Rattle.g_console.specs.System.{SystemFacts, devices_in}
-use Rattle.g_ticks.specs.Parts.{left}
+use Rattle.g_run.specs.Tick.{left}
 use Rattle.g_run.specs.Parts.{Anything, DidOne, DidTicks, HasRoom, IsAtRest, Keeps, PartGoes, is_past, steps_in, turn_of}
 use Rattle.g_run.proofs.PartLemmas.{arrives_here, goes_then, keeps_then, none_arm}
 use Rattle.g_run.proofs.RestLemmas.{due_is, nothing_is}

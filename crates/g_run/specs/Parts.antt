@@ -6,18 +6,16 @@ use Rattle.g_budget.specs.declared.tariff.Charge.{Charge}
 use Rattle.g_budget.specs.declared.tariff.Usage.{Usage}
 use Rattle.g_sched.specs.declared.rule.Standing.{Standing}
 use Rattle.g_io.specs.Streams.{HasPutPart, with_more}
-use Rattle.g_script.specs.declared.operator.Operator.{Operator}
-use Rattle.g_script.specs.declared.operator.Operator.TheVariants as line
 use Rattle.g_script.specs.declared.operator.Timed.{Timed}
 use Rattle.g_world.specs.Moves.{Move, MovesCounted, Run}
 use Rattle.g_world.specs.Top.{AreArmings}
 use Rattle.g_world.specs.World.{World, is_due, nothing_steps}
 use Rattle.g_crew.specs.Numbers.{AreOpen}
 use Rattle.g_console.specs.declared.progress.Failure.{Failure}
-use Rattle.g_console.specs.Parts.{IsReady, Matches, Seen}
+use Rattle.g_console.specs.Parts.{IsReady, IsWithin, Matches, Seen}
 use Rattle.g_console.specs.Puts.{FaultCause}
 use Rattle.g_console.specs.System.{DumpsGrow, SameDevices, StandsAs, SystemBelongs, SystemFacts, devices_in}
-use Rattle.g_ticks.specs.Parts.{IsBetween, has_dump, left, some_job_steps}
+use Rattle.g_run.specs.Tick.{IsBetween, has_dump, left, some_job_steps}
 
 -- the turn from which on the first of some lines is due
 abbrev pub turn_of : List Timed → Option ℕ
@@ -33,14 +31,7 @@ is_past (Some turn) count = nat_le turn count
 abbrev pub steps_in : Seen → Bool
 steps_in seen = has_dump seen.system || some_job_steps seen
 
--- what an operator may ask, within its limits
-abbrev pub IsWithin : Operator → Type 0
-IsWithin (line.Job name user time money lines) = ((1 ≤ time) × (time ≤ 1000000)) × (money ≤ 1000000)
-IsWithin (line.StopDisc k) = 1 ≤ k
-IsWithin (line.StopTape k) = 1 ≤ k
-IsWithin what = Unit {0}
-
--- and when it is due
+-- what an operator may ask, and when it is due, within their limits
 abbrev pub IsTimedWithin : Timed → Type 0
 IsTimedWithin next = IsWithin next.what × (next.turn ≤ 1000000000)
 

@@ -14,13 +14,14 @@ ghost use Rattle.g_run.specs.Demo.{IsDemoText, PutsDemo};
 use crate::boxed_disc::BoxedDisc;
 use crate::boxed_tapes::BoxedTapes;
 use crate::over::{Over, run_script};
+use crate::rules::Rules;
 use g_base::NoMemory;
-use g_budget::{Charge, Tariff, Usage};
+use g_budget::{Charge, Usage};
 use g_console::{Failure, put_made};
 use g_demo::{Demonstration, SummarySink, script_of, summary_text};
 use g_disc::MemoryDisc;
 use g_io::Sink;
-use g_sched::{Standing, WeighRule};
+use g_sched::Standing;
 use g_script::{Script, parse_script};
 use g_tape::MemoryTapes;
 use std::alloc::Global;
@@ -29,16 +30,15 @@ use std::alloc::Global;
 pub(crate) fn run_demo<K: Sink, F: Fn(&Usage) -> Charge, U: Fn(&Standing) -> u64>(
     alloc: Global,
     demo: &Demonstration,
-    tariff: &Tariff<F>,
-    weigh: &WeighRule<U>,
+    rules: &Rules<'_, F, U>,
     out: &mut K,
 ) -> Option<Failure>
-    requires tariff { IsTariff F.Fn tariff.now }
-    requires rule { IsWeighRule U.Fn weigh.now }
-    ensures put { PutsDemo F.Fn tariff.now U.Fn weigh.now result demo.now (K.written out.old) (K.written out.new) }
+    requires tariff { IsTariff F.Fn rules.now.tariff.now }
+    requires rule { IsWeighRule U.Fn rules.now.weigh.now }
+    ensures put { PutsDemo F.Fn rules.now.tariff.now U.Fn rules.now.weigh.now result demo.now (K.written out.old) (K.written out.new) }
     ensures cause { FaultCause result (K.faults out.old) (K.faults out.new) }
 {
-    match demo_run(alloc, demo, tariff, weigh) {
+    match demo_run(alloc, demo, rules) {
         Ok(sink) => put_summary(alloc, demo, &sink, out),
         Err(NoMemory) => Some(Failure::Memory),
     }
@@ -62,18 +62,17 @@ fn put_summary<K: Sink>(
 fn demo_run<F: Fn(&Usage) -> Charge, U: Fn(&Standing) -> u64>(
     alloc: Global,
     demo: &Demonstration,
-    tariff: &Tariff<F>,
-    weigh: &WeighRule<U>,
+    rules: &Rules<'_, F, U>,
 ) -> Result<SummarySink, NoMemory>
-    requires tariff { IsTariff F.Fn tariff.now }
-    requires rule { IsWeighRule U.Fn weigh.now }
-    ensures { IfOk result (λ sink. IsDemoText F.Fn tariff.now U.Fn weigh.now demo.now sink.text) }
+    requires tariff { IsTariff F.Fn rules.now.tariff.now }
+    requires rule { IsWeighRule U.Fn rules.now.weigh.now }
+    ensures { IfOk result (λ sink. IsDemoText F.Fn rules.now.tariff.now U.Fn rules.now.weigh.now demo.now sink.text) }
 {
     let script = demo_script(alloc, demo)?;
     let disc = zero_disc(alloc)?;
     let tapes = one_reel(alloc)?;
     let mut sink = SummarySink::new();
-    let Over { failure, .. } = run_script(alloc, script, &mut sink, disc, tapes, tariff, weigh);
+    let Over { failure, .. } = run_script(alloc, script, (disc, tapes), rules, &mut sink);
     match failure {
         None => Ok(sink),
         Some(_) => Err(NoMemory),

@@ -3,17 +3,21 @@
 
 mod boxed_disc;
 mod boxed_tapes;
-mod came;
+mod day_up;
 mod demo;
+mod dumping;
+mod ending;
 mod input;
 mod law;
-mod lining;
 mod little;
 mod over;
+mod rules;
 mod script;
 mod status;
+mod ticking;
 mod ticks;
 mod top;
+mod turning;
 
 pub use law::{jobs_of_a_script_end, text_of_a_script_is_one};
 pub use status::Status;

@@ -1,21 +1,19 @@
 //! How much there may be left to do, of all devices.
-ghost use Rattle.std.specs.Prelude.{◌≤◌, ℕ};
-ghost use Rattle.g_console.specs.Parts.{seen};
+ghost use Rattle.std.specs.Prelude.{◌≤◌};
 ghost use Rattle.g_console.specs.System.{facts_of};
-ghost use Rattle.g_ticks.specs.Parts.{dump_left, left};
+ghost use Rattle.g_run.specs.Tick.{dump_left, left};
 
-use g_console::System;
-use g_crew::Crew;
+use g_console::{Day, System};
 use g_disc::Disc;
 use g_tape::Tapes;
 
 /// Says that no more than this is left to do: 64 jobs have at most 1,000,000 units each, and an open dump has fewer than 2^32
 /// blocks. Nothing is done.
-pub(crate) fn little_is_left<D: Disc, T: Tapes>(system: &System<D, T>, crew: &Crew)
-    ensures { (count : ℕ) → left (seen (facts_of D.state T.rack system.now) crew.now count) ≤ 4358967360 }
+pub(crate) fn little_is_left<D: Disc, T: Tapes>(day: &Day<D, T>)
+    ensures { left day.now ≤ 4358967360 }
 {
-    let _jobs = crew.jobs();
-    dump_is_short(system);
+    let _jobs = day.crew.jobs();
+    dump_is_short(&day.system);
 }
 
 /// Says that of an open dump.

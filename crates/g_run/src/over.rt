@@ -1,8 +1,7 @@
 //! A script that was read, done to its end.
 ghost use Rattle.std.specs.Prelude.{◌≡◌, ◌+◌, ◌≤◌, ◌<◌, ◌++◌, All, IfErr, IfOk, length};
 ghost use Rattle.g_budget.specs.Tariff.{IsTariff};
-ghost use Rattle.g_console.specs.Parts.{IsReady, seen};
-ghost use Rattle.g_console.specs.System.{facts_of};
+ghost use Rattle.g_console.specs.Parts.{IsReady};
 ghost use Rattle.g_crew.specs.Numbers.{AreOpen};
 ghost use Rattle.g_sched.specs.Rule.{IsWeighRule};
 ghost use Rattle.g_world.specs.Texts as texts;
@@ -11,18 +10,18 @@ ghost use Rattle.g_run.specs.Parts.{DidAll, IsTimedWithin};
 
 use crate::boxed_disc::BoxedDisc;
 use crate::boxed_tapes::BoxedTapes;
-use crate::came::Came;
 use crate::little::little_is_left;
+use crate::rules::Rules;
 use crate::script::do_lines;
 use crate::ticks::until;
 use g_base::NoMemory;
-use g_budget::{Charge, Tariff, Usage};
-use g_console::{Failure, System, put_made, take_down};
+use g_budget::{Charge, Usage};
+use g_console::{Day, Ended, Failure, System, put_made, take_down};
 use g_crew::{Crew, closing_text};
 use g_disc::Disc;
 use g_io::Sink;
 use g_name::Text;
-use g_sched::{Standing, WeighRule};
+use g_sched::Standing;
 use g_script::{Script, Timeds};
 use g_tape::Tapes;
 use std::alloc::{AllocFailed, Global};
@@ -45,38 +44,30 @@ pub(crate) fn run_script<
 >(
     alloc: Global,
     script: Script,
+    devices: (D, T),
+    rules: &Rules<'_, F, U>,
     out: &mut K,
-    disc: D,
-    tapes: T,
-    tariff: &Tariff<F>,
-    weigh: &WeighRule<U>,
 ) -> Over<D, T>
-    requires size { (2177 < (D.state disc).size) × ((D.state disc).size ≤ 1048576) }
+    requires size { (2177 < (D.state devices.0).size) × ((D.state devices.0).size ≤ 1048576) }
     requires within { All IsTimedWithin script.lines }
     requires few { length script.lines + 1 < 18446744073709551616 }
-    requires tariff { IsTariff F.Fn tariff.now }
-    requires rule { IsWeighRule U.Fn weigh.now }
-    ensures { DidScript F.Fn tariff.now U.Fn weigh.now script.lines script.bad (both (D.state disc) (T.rack tapes)) result.failure
+    requires tariff { IsTariff F.Fn rules.now.tariff.now }
+    requires rule { IsWeighRule U.Fn rules.now.weigh.now }
+    ensures { DidScript F.Fn rules.now.tariff.now U.Fn rules.now.weigh.now script.lines script.bad (both (D.state devices.0) (T.rack devices.1)) result.failure
         (both (D.state result.disc) (T.rack result.tapes))
         (K.written out.old) (K.written out.new) (K.faults out.old) (K.faults out.new) }
 {
     let Script { lines, bad } = script;
-    let mut crew = Crew::new(alloc);
-    let Came {
-        system,
-        failure,
-        ..
-    } = run_lines(
-        alloc,
-        lines,
-        System::Down(disc, tapes),
-        &mut crew,
-        tariff,
-        weigh,
-        out,
-    );
-    let failure = close(alloc, &crew, bad, failure, out);
-    let (disc, tapes) = taken_down(system);
+    let (disc, tapes) = devices;
+    let crew = Crew::new(alloc);
+    let day = Day {
+        system: System::Down(disc, tapes),
+        crew,
+        count: 0,
+    };
+    let Ended { day, failure } = run_lines(alloc, lines, day, rules, out);
+    let failure = close(alloc, &day.crew, bad, failure, out);
+    let (disc, tapes) = taken_down(day);
     Over {
         disc,
         tapes,
@@ -95,23 +86,21 @@ pub(crate) fn run_boxed<
 >(
     alloc: Global,
     script: Script,
+    devices: (D, T),
+    rules: &Rules<'_, F, U>,
     out: &mut K,
-    disc: D,
-    tapes: T,
-    tariff: &Tariff<F>,
-    weigh: &WeighRule<U>,
 ) -> Over<D, T>
-    requires size { (2177 < (D.state disc).size) × ((D.state disc).size ≤ 1048576) }
+    requires size { (2177 < (D.state devices.0).size) × ((D.state devices.0).size ≤ 1048576) }
     requires within { All IsTimedWithin script.lines }
     requires few { length script.lines + 1 < 18446744073709551616 }
-    requires tariff { IsTariff F.Fn tariff.now }
-    requires rule { IsWeighRule U.Fn weigh.now }
-    ensures { DidScript F.Fn tariff.now U.Fn weigh.now script.lines script.bad (both (D.state disc) (T.rack tapes)) result.failure
+    requires tariff { IsTariff F.Fn rules.now.tariff.now }
+    requires rule { IsWeighRule U.Fn rules.now.weigh.now }
+    ensures { DidScript F.Fn rules.now.tariff.now U.Fn rules.now.weigh.now script.lines script.bad (both (D.state devices.0) (T.rack devices.1)) result.failure
         (both (D.state result.disc) (T.rack result.tapes))
         (K.written out.old) (K.written out.new) (K.faults out.old) (K.faults out.new) }
 {
-    match in_boxes(alloc, disc, tapes) {
-        Ok((disc, tapes)) => unboxed(run_script(alloc, script, out, disc, tapes, tariff, weigh)),
+    match in_boxes(alloc, devices) {
+        Ok(devices) => unboxed(run_script(alloc, script, devices, rules, out)),
         Err((disc, tapes)) => Over {
             disc,
             tapes,
@@ -123,12 +112,12 @@ pub(crate) fn run_boxed<
 /// Both devices in boxes; without memory for them they come back as they are.
 fn in_boxes<D: Disc, T: Tapes>(
     alloc: Global,
-    disc: D,
-    tapes: T,
+    devices: (D, T),
 ) -> Result<(BoxedDisc<D>, BoxedTapes<T>), (D, T)>
-    ensures ok { IfOk result (λ boxes. (D.state boxes.0.disc.value ≡ D.state disc) × (T.rack boxes.1.tapes.value ≡ T.rack tapes)) }
-    ensures err { IfErr result (λ devices. (D.state devices.0 ≡ D.state disc) × (T.rack devices.1 ≡ T.rack tapes)) }
+    ensures ok { IfOk result (λ boxes. (D.state boxes.0.disc.value ≡ D.state devices.0) × (T.rack boxes.1.tapes.value ≡ T.rack devices.1)) }
+    ensures err { IfErr result (λ back. (D.state back.0 ≡ D.state devices.0) × (T.rack back.1 ≡ T.rack devices.1)) }
 {
+    let (disc, tapes) = devices;
     let disc = match Box::new(alloc, disc) {
         Ok(disc) => BoxedDisc { disc },
         Err(AllocFailed { value }) => return Err((value, tapes)),
@@ -157,39 +146,32 @@ fn unboxed<D: Disc, T: Tapes>(over: Over<BoxedDisc<D>, BoxedTapes<T>>) -> Over<D
     }
 }
 
-/// Does all lines, and ticks until nothing can step.
+/// Does all lines, and ticks until nothing can step. The count has not begun.
 fn run_lines<K: Sink, D: Disc, T: Tapes, F: Fn(&Usage) -> Charge, U: Fn(&Standing) -> u64>(
     alloc: Global,
     lines: Timeds,
-    system: System<D, T>,
-    crew: &mut Crew,
-    tariff: &Tariff<F>,
-    weigh: &WeighRule<U>,
+    day: Day<D, T>,
+    rules: &Rules<'_, F, U>,
     out: &mut K,
-) -> Came<D, T>
-    requires ready { IsReady (facts_of D.state T.rack system) crew.old }
-    requires open { AreOpen crew.old.jobs }
+) -> Ended<D, T>
+    requires ready { IsReady day.system day.crew }
+    requires open { AreOpen day.crew.jobs }
+    requires begins { day.count ≡ 0 }
     requires within { All IsTimedWithin lines }
-    requires numbers { crew.old.next_job + length lines < 18446744073709551616 }
-    requires tariff { IsTariff F.Fn tariff.now }
-    requires rule { IsWeighRule U.Fn weigh.now }
-    ensures { DidAll F.Fn tariff.now U.Fn weigh.now lines (seen (facts_of D.state T.rack system) crew.old 0) result.failure
-        (seen (facts_of D.state T.rack result.system) crew.new result.count)
+    requires numbers { day.crew.next_job + length lines < 18446744073709551616 }
+    requires tariff { IsTariff F.Fn rules.now.tariff.now }
+    requires rule { IsWeighRule U.Fn rules.now.weigh.now }
+    ensures { DidAll F.Fn rules.now.tariff.now U.Fn rules.now.weigh.now lines day result.failure result.day
         (K.written out.old) (K.written out.new) (K.faults out.old) (K.faults out.new) }
 {
-    let Came {
-        system,
-        count,
-        failure,
-    } = do_lines(alloc, lines, system, crew, 0, tariff, weigh, out);
+    let Ended { day, failure } = do_lines(alloc, lines, day, rules, out);
     match failure {
         None => {
-            little_is_left(&system, crew);
-            until(alloc, system, crew, count, None, tariff, weigh, out)
+            little_is_left(&day);
+            until(alloc, day, None, rules, out)
         }
-        Some(failure) => Came {
-            system,
-            count,
+        Some(failure) => Ended {
+            day,
             failure: Some(failure),
         },
     }
@@ -227,10 +209,11 @@ fn end_text(alloc: Global, crew: &Crew, bad: Option<u64>) -> Result<Text, NoMemo
     Ok(text)
 }
 
-/// Both devices of a system.
-fn taken_down<D: Disc, T: Tapes>(system: System<D, T>) -> (D, T)
-    ensures { TakenDown (facts_of D.state T.rack system) (both (D.state result.0) (T.rack result.1)) }
+/// Both devices of a day whose run is over.
+fn taken_down<D: Disc, T: Tapes>(day: Day<D, T>) -> (D, T)
+    ensures { TakenDown day.system (both (D.state result.0) (T.rack result.1)) }
 {
+    let Day { system, .. } = day;
     match system {
         System::Up(store) => take_down(store),
         System::Down(disc, tapes) => (disc, tapes),

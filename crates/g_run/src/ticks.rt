@@ -3,104 +3,87 @@ ghost use Rattle.std.specs.Prelude.{◌≡◌, ◌⊎◌, ◌+◌, ◌<◌, ℕ,
 ghost use Rattle.g_budget.specs.Tariff.{IsTariff};
 ghost use Rattle.g_console.specs.Parts.{IsReady, seen};
 ghost use Rattle.g_console.specs.System as system;
-ghost use Rattle.g_console.specs.System.{facts_of};
 ghost use Rattle.g_crew.specs.Numbers.{AreOpen};
 ghost use Rattle.g_sched.specs.Rule.{IsWeighRule};
-ghost use Rattle.g_ticks.specs.Parts.{some_job_steps};
+ghost use Rattle.g_run.specs.Tick.{some_job_steps};
 ghost use Rattle.g_run.specs.Parts.{DidOne, DidTicks, HasRoom, IsAtRest, is_past, steps_in};
 
-use crate::came::Came;
-use g_budget::{Charge, Tariff, Usage};
-use g_console::{Failure, Progress, Running, System};
+use crate::day_up::DayUp;
+use crate::rules::Rules;
+use crate::ticking::tick;
+use g_budget::{Charge, Usage};
+use g_console::{Day, Ended, Failure, Running, System};
 use g_crew::Crew;
 use g_disc::Disc;
 use g_io::Sink;
-use g_sched::{Standing, WeighRule};
+use g_sched::Standing;
 use g_tape::Tapes;
-use g_ticks::tick;
 use std::alloc::Global;
 
 /// Ticks until nothing can step, or, where a turn is given at which the next line is due, until the count has come to it.
 pub(crate) fn until<K: Sink, D: Disc, T: Tapes, F: Fn(&Usage) -> Charge, U: Fn(&Standing) -> u64>(
     alloc: Global,
-    system: System<D, T>,
-    crew: &mut Crew,
-    count: u64,
+    day: Day<D, T>,
     limit: Option<u64>,
-    tariff: &Tariff<F>,
-    weigh: &WeighRule<U>,
+    rules: &Rules<'_, F, U>,
     out: &mut K,
-) -> Came<D, T>
-    requires ready { IsReady (facts_of D.state T.rack system) crew.old }
-    requires open { AreOpen crew.old.jobs }
-    requires room { HasRoom limit (seen (facts_of D.state T.rack system) crew.old count) }
-    requires tariff { IsTariff F.Fn tariff.now }
-    requires rule { IsWeighRule U.Fn weigh.now }
-    ensures { DidTicks F.Fn tariff.now U.Fn weigh.now IsAtRest limit (seen (facts_of D.state T.rack system) crew.old count) result.failure
-        (seen (facts_of D.state T.rack result.system) crew.new result.count)
+) -> Ended<D, T>
+    requires ready { IsReady day.system day.crew }
+    requires open { AreOpen day.crew.jobs }
+    requires room { HasRoom limit day }
+    requires tariff { IsTariff F.Fn rules.now.tariff.now }
+    requires rule { IsWeighRule U.Fn rules.now.weigh.now }
+    ensures { DidTicks F.Fn rules.now.tariff.now U.Fn rules.now.weigh.now IsAtRest limit day result.failure result.day
         (K.written out.old) (K.written out.new) (K.faults out.old) (K.faults out.new) }
 {
-    let mut came = Came {
-        system,
-        count,
-        failure: None,
-    };
-    'ticks: while goes_on(&came, crew, limit) {
-        came = one_tick(
-            alloc,
-            came.system,
-            crew,
-            came.count,
-            limit,
-            tariff,
-            weigh,
-            out,
-        );
+    let mut ended = Ended { day, failure: None };
+    'ticks: while goes_on(&ended, limit) {
+        ended = one_tick(alloc, ended.day, limit, rules, out);
     }
-    came
+    ended
 }
 
 /// Whether there is a tick to be done.
-fn goes_on<D: Disc, T: Tapes>(came: &Came<D, T>, crew: &Crew, limit: Option<u64>) -> bool
-    requires ready { came.now.failure ≡ None → IsReady (facts_of D.state T.rack came.now.system) crew.now }
-    ensures yes { result ≡ true → (came.now.failure ≡ None) × (is_past limit came.now.count ≡ false)
-        × (steps_in (seen (facts_of D.state T.rack came.now.system) crew.now came.now.count) ≡ true) }
-    ensures no { result ≡ false → came.now.failure ≡ None → (is_past limit came.now.count ≡ true)
-        ⊎ (steps_in (seen (facts_of D.state T.rack came.now.system) crew.now came.now.count) ≡ false) }
+fn goes_on<D: Disc, T: Tapes>(ended: &Ended<D, T>, limit: Option<u64>) -> bool
+    requires ready { ended.now.failure ≡ None → IsReady ended.now.day.system ended.now.day.crew }
+    ensures yes { result ≡ true → (ended.now.failure ≡ None) × (is_past limit ended.now.day.count ≡ false)
+        × (steps_in ended.now.day ≡ true) }
+    ensures no { result ≡ false → ended.now.failure ≡ None → (is_past limit ended.now.day.count ≡ true)
+        ⊎ (steps_in ended.now.day ≡ false) }
 {
-    match came.failure {
+    match ended.failure {
         Some(_) => false,
         None => {
-            if is_past(limit, came.count) {
+            if is_past(limit, &ended.day) {
                 false
             } else {
-                something_steps(&came.system, crew)
+                something_steps(&ended.day)
             }
         }
     }
 }
 
 /// Whether the count has come to the turn.
-fn is_past(limit: Option<u64>, count: u64) -> bool
-    ensures { result ≡ is_past limit count }
+fn is_past<D: Disc, T: Tapes>(limit: Option<u64>, day: &Day<D, T>) -> bool
+    ensures { result ≡ is_past limit day.now.count }
 {
     match limit {
-        Some(turn) => turn <= count,
+        Some(turn) => turn <= day.count,
         None => false,
     }
 }
 
 /// Whether the open dump or a job can step.
-fn something_steps<D: Disc, T: Tapes>(system: &System<D, T>, crew: &Crew) -> bool
-    requires ready { IsReady (facts_of D.state T.rack system.now) crew.now }
-    ensures { (count : ℕ) → result ≡ steps_in (seen (facts_of D.state T.rack system.now) crew.now count) }
+fn something_steps<D: Disc, T: Tapes>(day: &Day<D, T>) -> bool
+    requires ready { IsReady day.now.system day.now.crew }
+    ensures { result ≡ steps_in day.now }
 {
-    match system {
+    match &day.system {
         System::Up(store) => {
             if store.dump_number().is_some() {
                 true
             } else {
-                job_steps(store, crew)
+                job_steps(store, &day.crew)
             }
         }
         System::Down(_, _) => false,
@@ -117,55 +100,45 @@ fn job_steps<D: Disc, T: Tapes>(store: &Running<D, T>, crew: &Crew) -> bool
 /// One tick of a system on which something can step, and the count rises.
 fn one_tick<K: Sink, D: Disc, T: Tapes, F: Fn(&Usage) -> Charge, U: Fn(&Standing) -> u64>(
     alloc: Global,
-    system: System<D, T>,
-    crew: &mut Crew,
-    count: u64,
+    day: Day<D, T>,
     limit: Option<u64>,
-    tariff: &Tariff<F>,
-    weigh: &WeighRule<U>,
+    rules: &Rules<'_, F, U>,
     out: &mut K,
-) -> Came<D, T>
-    requires ready { IsReady (facts_of D.state T.rack system) crew.old }
-    requires open { AreOpen crew.old.jobs }
-    requires room { HasRoom limit (seen (facts_of D.state T.rack system) crew.old count) }
-    requires undue { is_past limit count ≡ false }
-    requires steps { steps_in (seen (facts_of D.state T.rack system) crew.old count) ≡ true }
-    requires tariff { IsTariff F.Fn tariff.now }
-    requires rule { IsWeighRule U.Fn weigh.now }
-    ensures { DidOne F.Fn tariff.now U.Fn weigh.now limit (seen (facts_of D.state T.rack system) crew.old count) result.failure
-        (seen (facts_of D.state T.rack result.system) crew.new result.count)
+) -> Ended<D, T>
+    requires ready { IsReady day.system day.crew }
+    requires open { AreOpen day.crew.jobs }
+    requires room { HasRoom limit day }
+    requires undue { is_past limit day.count ≡ false }
+    requires steps { steps_in day ≡ true }
+    requires tariff { IsTariff F.Fn rules.now.tariff.now }
+    requires rule { IsWeighRule U.Fn rules.now.weigh.now }
+    ensures { DidOne F.Fn rules.now.tariff.now U.Fn rules.now.weigh.now limit day result.failure result.day
         (K.written out.old) (K.written out.new) (K.faults out.old) (K.faults out.new) }
 {
+    let Day {
+        system,
+        crew,
+        count,
+    } = day;
     match system {
         System::Up(store) => {
-            let Progress { system, failure } = tick(alloc, store, crew, count, tariff, weigh, out);
-            counted(system, count, failure)
+            let Ended { day, failure } = tick(alloc, DayUp { store, crew, count }, rules, out);
+            counted(day, failure)
         }
         System::Down(_, _) => unreachable!(),
     }
 }
 
 /// Behind a tick the count is one more, and where the tick failed it is what it was.
-fn counted<D: Disc, T: Tapes>(
-    system: System<D, T>,
-    count: u64,
-    failure: Option<Failure>,
-) -> Came<D, T>
-    requires room { count < 18446744073709551615 }
-    ensures system { result.system ≡ system }
+fn counted<D: Disc, T: Tapes>(day: Day<D, T>, failure: Option<Failure>) -> Ended<D, T>
+    requires room { day.count < 18446744073709551615 }
+    ensures same { result.day ≡ record day { count = result.day.count } }
     ensures failure { result.failure ≡ failure }
-    ensures count { failure ≡ None → result.count ≡ count + 1 }
+    ensures count { failure ≡ None → result.day.count ≡ day.count + 1 }
 {
-    match failure {
-        None => Came {
-            system,
-            count: count + 1,
-            failure: None,
-        },
-        Some(failure) => Came {
-            system,
-            count,
-            failure: Some(failure),
-        },
+    let mut day = day;
+    if failure.is_none() {
+        day.count += 1;
     }
+    Ended { day, failure }
 }

@@ -10,6 +10,7 @@ ghost use Rattle.g_sched.specs.Rule.{IsWeighRule};
 ghost use Rattle.g_script.specs.Script.{IsParsed};
 ghost use Rattle.g_script.specs.declared.operator.Timed.{Timed};
 ghost use Rattle.g_world.specs.Top.{AreArmings, IsCutWords};
+ghost use Rattle.g_world_laws.specs.Filestores.{HasFilestore};
 ghost use Rattle.g_run.specs.Input.{IsRun};
 ghost use Rattle.g_run.specs.Over.{both};
 ghost use Rattle.g_run.specs.Top as top;
@@ -17,6 +18,7 @@ ghost use Rattle.g_run.specs.Top as top;
 use crate::demo::run_demo;
 use crate::input::{Unread, read_script};
 use crate::over::{Over, run_boxed};
+use crate::rules::Rules;
 use crate::status::Status;
 use g_base::NoMemory;
 use g_budget::{Charge, Tariff, Usage};
@@ -98,15 +100,18 @@ pub fn george<
         AreArmings lines (top.IsThrough result.status) (both (D.state disc) (T.rack tapes)) (both (D.state result.disc) (T.rack result.tapes)) }
     ensures same { SameDevices (both (D.state disc) (T.rack tapes)) (both (D.state result.disc) (T.rack result.tapes)) }
 
-    // With every status, of devices that tell and belong together: they go on doing so, and what was completed on the reels stays
-    // so, each dump whole.
+    // With every status, of devices that tell and belong together: they go on doing so, what was completed on the reels stays
+    // so, each dump whole, and a disc that holds a filestore goes on to hold one.
     ensures belongs { BelongTogether (both (D.state disc) (T.rack tapes)) → BelongTogether (both (D.state result.disc) (T.rack result.tapes)) }
     ensures dumps { BelongTogether (both (D.state disc) (T.rack tapes)) → DumpsGrow (T.rack tapes) (T.rack result.tapes) }
+    ensures stands { BelongTogether (both (D.state disc) (T.rack tapes)) → HasFilestore (both (D.state disc) (T.rack tapes))
+        → HasFilestore (both (D.state result.disc) (T.rack result.tapes)) }
 {
+    let rules = Rules { tariff, weigh };
     match asked_by(words) {
         Some(Asked::Run) => {}
         Some(Asked::Demo(demo)) => {
-            let failure = run_demo(alloc, &demo, tariff, weigh, out);
+            let failure = run_demo(alloc, &demo, &rules, out);
             return Finish {
                 status: demo_status(failure),
                 disc,
@@ -137,7 +142,7 @@ pub fn george<
         disc,
         tapes,
         failure,
-    } = run_boxed(alloc, parsed, out, disc, tapes, tariff, weigh);
+    } = run_boxed(alloc, parsed, (disc, tapes), &rules, out);
     Finish {
         status: run_status(bad, failure),
         disc,

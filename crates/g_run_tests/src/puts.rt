@@ -1,77 +1,58 @@
 //! The texts that tell an event.
-use crate::lines::went;
-use g_console::{
-    Progress, System, fails, goes_down, push_told, put_made, refuse, say, say_made, stays_up,
-    tell_fault,
-};
+use g_console::{Day, Ended, Failure, System, fails, operator_line, push_told, put_made, told};
 use g_crew::Crew;
-use g_disc::Disc;
+use g_disc::{Disc, MemoryDisc};
 use g_io::{MemorySink, Sink};
 use g_name::Text;
 use g_plain::StoreFault;
-use g_tape::Tapes;
+use g_script::Operator;
+use g_tape::{MemoryTapes, Tapes};
 use std::alloc::Global;
 use std::test::Fail;
 
-/// A store that is up stays so where an event is told, and where a fault is told that isn't a stop.
-pub(crate) fn stays<K: Sink, D: Disc + Drop, T: Tapes + Drop>(
-    alloc: Global,
-    system: System<D, T>,
-    crew: &mut Crew,
-    out: &mut K,
-) -> Result<(), Fail> {
-    match system {
-        System::Up(store) => {
-            let made = Text::from_slice(alloc, b"DISPLAY");
-            let Progress { system, failure } = stays_up(alloc, store, 8, made, out);
-            went(failure)?;
-            fault_told(alloc, system, crew, out)
-        }
-        System::Down(_disc, _tapes) => Err("the system is down".into()),
+/// Nothing failed.
+fn went(failure: Option<Failure>) -> Result<(), Fail> {
+    match failure {
+        None => Ok(()),
+        Some(Failure::Output) => Err("the sink failed".into()),
+        Some(Failure::Memory) => Err("no memory".into()),
     }
 }
 
-/// The fault that there is no such file is told of a store that is up.
-fn fault_told<K: Sink, D: Disc + Drop, T: Tapes + Drop>(
+/// A line, an event and a fault are told of a day whose system is down.
+fn told_of<K: Sink, D: Disc + Drop, T: Tapes + Drop>(
     alloc: Global,
-    system: System<D, T>,
-    crew: &mut Crew,
+    disc: D,
+    tapes: T,
     out: &mut K,
-) -> Result<(), Fail> {
-    match system {
-        System::Up(store) => {
-            let Progress { system, failure } = fails(
-                alloc,
-                store,
-                StoreFault::NoFile,
-                crew,
-                8,
-                out,
-            );
-            drop(system);
-            went(failure)
-        }
-        System::Down(_disc, _tapes) => Err("the system went down".into()),
-    }
+) -> Result<(), Fail>
+    requires size { (2177 < (D.state disc).size) × ((D.state disc).size ≤ 1048576) }
+{
+    let day = Day {
+        system: System::Down(disc, tapes),
+        crew: Crew::new(alloc),
+        count: 8,
+    };
+    let Ended { day, failure } = operator_line(alloc, day, Operator::Shut, out);
+    went(failure)?;
+    let made = Text::from_slice(alloc, b"SHOWN");
+    let Ended { day, failure } = told(alloc, day, made, out);
+    went(failure)?;
+    let Ended { failure, .. } = fails(alloc, day, StoreFault::NoFile, out);
+    went(failure)
 }
 
 /// What each call of this test puts, in order.
-const TEXT: &[u8] =
-    b"1 SHOWN\n2 SHOWN\nSHOWN\n3 REFUSED 1 NO USER\n4 REFUSED 2 NO FILE\n5 SYSTEM STOPPED\n6 SHUT\n";
+const TEXT: &[u8] = b"SHOWN\n8 REFUSED 20 NOT STARTED\n8 SHOWN\n8 REFUSED 2 NO FILE\n";
 
 #[test]
 fn ample(rt: HostRuntime) -> Result<(), Fail> {
-    let mut crew = Crew::new(rt.alloc());
     let mut out = MemorySink::new(rt.alloc(), 65_536, Vec::new(rt.alloc()))?;
-    went(say(rt.alloc(), 1, b"SHOWN", &mut out))?;
-    let made = Text::from_slice(rt.alloc(), b"SHOWN");
-    went(say_made(rt.alloc(), 2, made, &mut out))?;
     let made = Text::from_slice(rt.alloc(), b"SHOWN\n");
     went(put_made(&mut out, made))?;
-    went(refuse(rt.alloc(), 3, &StoreFault::NoUser, &mut out))?;
-    went(tell_fault(rt.alloc(), &mut crew, 4, &StoreFault::NoFile, &mut out))?;
-    went(tell_fault(rt.alloc(), &mut crew, 5, &StoreFault::Stopped, &mut out))?;
-    went(goes_down(rt.alloc(), &mut crew, 6, b"SHUT", &mut out))?;
+    let disc = MemoryDisc::new(rt.alloc(), 4_096)?;
+    let tapes = MemoryTapes::new(rt.alloc(), Vec::new(rt.alloc()))?;
+    told_of(rt.alloc(), disc, tapes, &mut out)?;
     assert!(rt; out.text() == TEXT);
     let mut text = Text::new(rt.alloc());
     push_told(&mut text, &StoreFault::NoUser)?;

@@ -1,4 +1,4 @@
-//! The top call: a run of one job, from the script to the printed file, and a demonstration.
+//! The top call: runs from the script to the text, and a demonstration.
 ghost use Rattle.std.specs.Prelude.{◌≡◌, IfOk};
 ghost use Rattle.g_sched.specs.Rule.{IsInRange};
 
@@ -17,6 +17,29 @@ const SCRIPT: &[u8] =
 
 const TEXT: &[u8] =
     b"0 FORMATTED\n0 JOB 1 ONE IN\nJOB 1 ONE :MASTER\n- INPUT F\nMADE :MASTER.F(1/)\n- LISTFILE F\n| HELLO\n| WORLD\nLISTED :MASTER.F(1/)\n- ENDJOB\nEND 3 UNITS\n";
+
+/// A job makes a file, which is dumped and taken off the disc; then the system goes down and comes up twice: each of the operator's
+/// lines.
+const DAY: &[u8] =
+    b"0 FORMAT\n0 JOB A,:MASTER,TIME 10\nINPUT F\nHELLO\n////\n****\n0 MOUNT 1\n2 DUMP 1\n8 MIGRATE :MASTER.F\n8 SHUT\n8 START\n8 SHUT\n8 RESTORE\n8 UNMOUNT 1\n8 STOP DISC 5\n8 STOP TAPE 5\n";
+
+const DAY_TEXT: &[u8] = b"0 FORMATTED\n\
+0 JOB 1 A IN\n\
+0 TAPE 1 MOUNTED\n\
+JOB 1 A :MASTER\n\
+- INPUT F\n\
+MADE :MASTER.F(1/)\n\
+END 2 UNITS\n\
+2 DUMP 1 OPENED\n\
+7 DUMP 1 COMPLETED\n\
+8 MIGRATED :MASTER.F(1/)\n\
+8 SHUT\n\
+8 STARTED\n\
+8 SHUT\n\
+8 RESTORED FROM DUMP 1\n\
+8 TAPE 1 UNMOUNTED\n\
+8 STOP SET\n\
+8 STOP SET\n";
 
 /// What the demonstration of number 0 and one round prints.
 const SUMMARY: &[u8] = b"DEMO 0 1\nLINES 21\nBYTES 315\nFOLD 3482023973\n";
@@ -37,8 +60,8 @@ fn tapes(alloc: Global) -> Result<MemoryTapes, Fail> {
     Ok(tapes)
 }
 
-#[test]
-fn ample(rt: HostRuntime) -> Result<(), Fail> {
+/// What a run by the rules of the program puts, on a disc of zeros and an empty reel.
+fn ran(alloc: Global, words: &[&str], script: &[u8]) -> Result<MemorySink, Fail> {
     let tariff = Tariff::new(|usage: &Usage| Charge {
         units: 1 + u64::from(usage.orders / 64) + u64::from(usage.blocks / 64),
         money: u64::from(usage.blocks / 64),
@@ -48,33 +71,31 @@ fn ample(rt: HostRuntime) -> Result<(), Fail> {
             requires { IsInRange standing.now }
         { standing.used * 1_000_000 / standing.allowance },
     );
-    let mut source = MemorySource::new(SCRIPT.to_vec(rt.alloc())?, Vec::new(rt.alloc()));
-    let mut sink = MemorySink::new(rt.alloc(), 65_536, Vec::new(rt.alloc()))?;
+    let mut source = MemorySource::new(script.to_vec(alloc)?, Vec::new(alloc));
+    let mut sink = MemorySink::new(alloc, 65_536, Vec::new(alloc))?;
     let finish = george(
-        rt.alloc(),
-        &["run"],
+        alloc,
+        words,
         &mut source,
         &mut sink,
-        disc(rt.alloc())?,
-        tapes(rt.alloc())?,
+        disc(alloc)?,
+        tapes(alloc)?,
         &tariff,
         &weigh,
     );
-    assert_eq!(rt; finish.status, Status::Done);
-    assert!(rt; sink.text() == TEXT);
+    match finish.status {
+        Status::Done => Ok(sink),
+        _ => Err("the run is cut short".into()),
+    }
+}
 
-    let mut sink = MemorySink::new(rt.alloc(), 65_536, Vec::new(rt.alloc()))?;
-    let finish = george(
-        rt.alloc(),
-        &["demo", "0", "1"],
-        &mut source,
-        &mut sink,
-        disc(rt.alloc())?,
-        tapes(rt.alloc())?,
-        &tariff,
-        &weigh,
-    );
-    assert_eq!(rt; finish.status, Status::Done);
+#[test]
+fn ample(rt: HostRuntime) -> Result<(), Fail> {
+    let sink = ran(rt.alloc(), &["run"], SCRIPT)?;
+    assert!(rt; sink.text() == TEXT);
+    let sink = ran(rt.alloc(), &["run"], DAY)?;
+    assert!(rt; sink.text() == DAY_TEXT);
+    let sink = ran(rt.alloc(), &["demo", "0", "1"], SCRIPT)?;
     assert!(rt; sink.text() == SUMMARY);
     Ok(())
 }

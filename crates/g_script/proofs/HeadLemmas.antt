@@ -8,6 +8,8 @@ use Rattle.std.proofs.lemmas.List.{append-nil, append_assoc}
 use Rattle.std.proofs.lemmas.Option.{option_and_then_some, same_Some, some_pair_parts}
 use Rattle.g_lang.proofs.ValueLemmas.{behind-is, same_text-eq}
 use Rattle.g_lang.specs.How.{behind}
+use Rattle.g_lines.proofs.NumberLemmas.{number-complete, number-sound}
+use Rattle.g_lines.specs.Numbers.{number_read}
 use Rattle.g_name.specs.Grammar.{is_word}
 use Rattle.g_name.specs.Names.{name_text, path_name}
 use Rattle.g_name.specs.Order.{same_text}
@@ -20,8 +22,8 @@ use Rattle.g_script.specs.declared.head.What.{What}
 use Rattle.g_script.specs.declared.head.What.TheVariants as what
 use Rattle.g_script.specs.declared.operator.Operator.{Operator}
 use Rattle.g_script.specs.declared.operator.Operator.TheVariants as line
-use Rattle.g_verbs.proofs.ParamLemmas.{file-complete, file-sound, local-complete, local-sound, number-complete, number-sound, user-complete, user-sound}
-use Rattle.g_verbs.specs.How.{file_read, local_read, number_read, user_read}
+use Rattle.g_verbs.proofs.ParamLemmas.{file-complete, file-sound, local-complete, local-sound, user-complete, user-sound}
+use Rattle.g_verbs.specs.How.{file_read, local_read, user_read}
 
 -- numbers from 1
 positive-is : (n : ℕ) → 1 ≤ n → positive n ≡ Some n

@@ -3,13 +3,14 @@
 use Rattle.std.specs.Option.{option_and_then, option_map}
 use Rattle.std.specs.Prelude.{Bool, List, None, Option, Some, [], codes, false, if◌then◌else◌, true, ℕ, ◌==◌, ◌∷◌}
 use Rattle.g_lang.specs.How.{behind}
+use Rattle.g_lines.specs.Numbers.{number_read}
 use Rattle.g_name.specs.Order.{same_text}
 use Rattle.g_script.specs.declared.head.Head.{Head}
 use Rattle.g_script.specs.declared.head.What.{What}
 use Rattle.g_script.specs.declared.head.What.TheVariants as what
 use Rattle.g_script.specs.declared.operator.Operator.{Operator}
 use Rattle.g_script.specs.declared.operator.Operator.TheVariants as line
-use Rattle.g_verbs.specs.How.{file_read, local_read, number_read, user_read}
+use Rattle.g_verbs.specs.How.{file_read, local_read, user_read}
 
 -- what comes before and behind the first byte of this value
 abbrev pub onto_before : ℕ → List ℕ × List ℕ → List ℕ × List ℕ

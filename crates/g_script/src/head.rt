@@ -4,7 +4,9 @@ ghost use Rattle.g_script.specs.How as how;
 ghost use Rattle.g_verbs.specs.How as verbs;
 
 use crate::Operator;
-use crate::number::{behind, from_one, is_same, number, number_behind, parts_at};
+use crate::number::{from_one, is_same, number_behind, parts_at};
+use g_lang::behind;
+use g_lines::number;
 use g_name::{Local, Path, User, parse_path};
 
 /// The most that a serial number may be.

@@ -26,6 +26,7 @@ pub mod QuietLemmas
 pub mod RecordLemmas
 pub mod RenameLemmas
 pub mod RoomSteps
+pub mod RoomyLemmas
 pub mod SeenLemmas
 pub mod SetLemmas
 pub mod StepLemmas

@@ -1,5 +1,5 @@
 //! Append: bytes go behind those of a file, which are read from the disc, or from tape where they are on tape alone.
-ghost use Rattle.std.specs.Prelude.{◌≡◌, ◌≤◌, ◌+◌, ◌++◌, ◌^◌, ◌<◌, true, false, Contains, None, Some, length};
+ghost use Rattle.std.specs.Prelude.{◌≡◌, ◌≤◌, ◌+◌, ◌++◌, ◌^◌, ◌<◌, true, false, Contains, IfOk, None, Some, length};
 ghost use Rattle.g_name.specs.declared.full.Full.{Full};
 ghost use Rattle.g_base.specs.Block as block;
 ghost use Rattle.g_entry.specs.declared.file_rec.FileRec.{FileRec};
@@ -9,8 +9,9 @@ ghost use Rattle.g_tape.specs.Rack.{Rack};
 ghost use Rattle.g_tree.specs.declared.asked.Granted.TheVariants as grant;
 ghost use Rattle.g_state_steps.specs.Unjam.{IsUnjamPlan};
 ghost use Rattle.g_tree.specs.Records.{full_of};
-ghost use Rattle.g_contents.specs.Contents.{File};
-ghost use Rattle.g_contents.specs.Facts.{IsTied};
+ghost use Rattle.g_contents.specs.Contents.{File, taken_off};
+ghost use Rattle.g_contents.specs.Facts.{IsTied, room_with};
+ghost use Rattle.g_migrate.specs.Unjam.{IsRoomWithout};
 ghost use Rattle.g_store_calls.specs.Appending.{HasAppended, version_of};
 ghost use Rattle.g_store_calls.specs.Applied.{HasApplied};
 ghost use Rattle.g_store_calls.specs.Asking.{HasPlanned};
@@ -146,7 +147,8 @@ fn append_from_tape<D: Disc, T: Tapes>(
 fn plan_for<D: Disc>(alloc: Global, online: &Online<D>, need: u32) -> Result<Unjam, StoreFault>
     requires live { online.now.live ≡ true }
     requires tied { IsTied online.now }
-    ensures { HasPlanned need online.now result }
+    ensures planned { HasPlanned need online.now result }
+    ensures without { IfOk result (λ plan. IsRoomWithout online.now plan.take plan.room) }
 {
     let plan = match plan_unjam(alloc, online, need) {
         Ok(plan) => plan,
@@ -177,6 +179,8 @@ fn put_behind<D: Disc>(
     requires fits { file.now.len + length bytes.now ≤ 65536 }
     requires stamps { online.old.contents.head.next_stamp < 2 ^ 62 }
     requires plan { IsUnjamPlan (block.blocks_for (file.now.len + length bytes.now)) online.old plan.take plan.room }
+    requires roomy { block.blocks_for (file.now.len + length bytes.now)
+        ≤ room_with (taken_off plan.take online.old.contents.files) online.old }
     ensures { HasApplied
         (Change.PutFile (version_of file.now online.old.contents.head.next_stamp (file.now.len + length bytes.now))
         (old ++ bytes.now) plan.take)

@@ -1,8 +1,10 @@
 //! Calls that make a user or take a file away, each by one commit; and how a change of records is answered.
-ghost use Rattle.std.specs.Prelude.{◌≡◌, None, true, ℕ};
+ghost use Rattle.std.specs.Prelude.{◌≡◌, ◌≤◌, None, true, ℕ};
 ghost use Rattle.g_contents.specs.Facts.{IsTied};
 ghost use Rattle.g_name.specs.declared.path.Path.{Path};
 ghost use Rattle.g_online.specs.Allowed.{IsAllowed};
+ghost use Rattle.g_online.specs.Change.{need_of};
+ghost use Rattle.g_online.specs.Done.{room_for};
 ghost use Rattle.g_plain.specs.declared.calls.StoreCall.TheVariants as call;
 ghost use Rattle.g_plain.specs.Rules.{IsWithinLimits};
 ghost use Rattle.g_tree.specs.declared.asked.Granted.TheVariants as grant;
@@ -16,7 +18,7 @@ ghost use Rattle.g_store_calls.specs.Replies.{RefusesAs};
 use g_disc::Disc;
 use g_entry::UserRec;
 use g_name::{Full, User};
-use g_online::{Change, Online, OnlineFault};
+use g_online::{Change, Online};
 use g_plain::{StoreFault, StoreReply};
 use g_tree::Tree;
 use std::alloc::Global;
@@ -87,7 +89,7 @@ pub(crate) fn erase<D: Disc>(
     )
 }
 
-/// Makes the change, and answers this where it was made. `Stopped`, `NoMemory`.
+/// Makes the change, which needs no blocks, and answers this where it was made. `Stopped`, `NoMemory`.
 pub(crate) fn changed<D: Disc>(
     alloc: Global,
     online: &mut Online<D>,
@@ -95,6 +97,7 @@ pub(crate) fn changed<D: Disc>(
     reply: StoreReply,
 ) -> Result<StoreReply, StoreFault>
     requires allowed { IsAllowed change.now online.old }
+    requires bare { need_of change.now ≡ 0 }
     ensures { HasAnswered change.now reply online.old online.new result }
 {
     match applied(alloc, online, change) {
@@ -103,18 +106,18 @@ pub(crate) fn changed<D: Disc>(
     }
 }
 
-/// Makes the change. `Stopped`, `NoMemory`.
+/// Makes the change, for which there is room. `Stopped`, `NoMemory`.
 pub(crate) fn applied<D: Disc>(
     alloc: Global,
     online: &mut Online<D>,
     change: &Change,
 ) -> Result<(), StoreFault>
     requires allowed { IsAllowed change.now online.old }
+    requires roomy { need_of change.now ≤ room_for change.now online.old }
     ensures { HasApplied change.now online.old online.new result }
 {
     match online.apply(alloc, change) {
         Ok(()) => Ok(()),
-        Err(OnlineFault::Stopped) => Err(StoreFault::Stopped),
-        Err(_) => Err(StoreFault::NoMemory),
+        Err(fault) => Err(StoreFault::from(fault)),
     }
 }

@@ -19,7 +19,7 @@ use g_disc::Disc;
 use g_entry::FileRec;
 use g_migrate::plan_unjam;
 use g_name::{Full, Text};
-use g_online::{Online, OnlineFault};
+use g_online::Online;
 use g_plain::{StoreFault, StoreReply};
 use g_trap::Traps;
 use std::alloc::Global;
@@ -155,7 +155,6 @@ fn make_version<D: Disc>(
     }
     match online.put_file(alloc, rec, bytes, &plan.take) {
         Ok(()) => Ok(()),
-        Err(OnlineFault::Stopped) => Err(StoreFault::Stopped),
-        Err(_) => Err(StoreFault::NoMemory),
+        Err(fault) => Err(StoreFault::from(fault)),
     }
 }

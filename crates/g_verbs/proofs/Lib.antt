@@ -1,4 +1,3 @@
-pub mod NumberLemmas
 pub mod ParamLemmas
 pub mod ReadLemmas
 pub mod SaidLemmas

@@ -7,14 +7,14 @@ use Rattle.std.specs.Option.{option_and_then, option_map}
 use Rattle.std.specs.Prelude.{IsOkAnd}
 use Rattle.std.specs.Result.{result_ok}
 use Rattle.g_name.specs.declared.bad_name.BadName.{BadName}
-use Rattle.std.specs.Str.Parse.{digits_value}
 use Rattle.std.proofs.Math.Bridge.{le_prop}
 use Rattle.std.proofs.lemmas.Bool.{and_from, and_parts, cond_both, false≢true}
-use Rattle.std.proofs.lemmas.Fmt.{decimal_is_IsNumeral}
 use Rattle.std.proofs.lemmas.Option.{cond_some, option_and_then_some, same_Some, some_pair_parts}
 use Rattle.g_lang.proofs.ValueLemmas.{behind-append, behind-is, same_text-eq, same_text-refl}
 use Rattle.g_lang.specs.Conditions.{is_param_letter}
 use Rattle.g_lang.specs.How.{behind}
+use Rattle.g_lines.proofs.NumberLemmas.{number-complete, number-sound}
+use Rattle.g_lines.specs.Numbers.{number_read}
 use Rattle.g_name.proofs.PathLemmas.{has_read, name_read_of, reader_of, reads_name, whole_name, whole_of, whole_text}
 use Rattle.g_name.specs.Grammar.{is_user_text, is_word}
 use Rattle.g_name.specs.Machine.{run}
@@ -32,7 +32,7 @@ use Rattle.g_trap.specs.declared.mode_set.Mode.{Mode}
 use Rattle.g_trap.specs.declared.mode_set.Mode.TheVariants as mode
 use Rattle.g_verbs.specs.Ranges.{IsGeneration, clamped, clamped_range, path_with, unit_with}
 use Rattle.g_verbs.specs.Forms.{IsOf}
-use Rattle.g_verbs.specs.How.{all_modes, amount_read, budget_or, budget_read, digit_unit, file_read, fits, is_of, kind_front, letter_read, local_read, mode_read, number_read, unit_read, user_read, whole_path}
+use Rattle.g_verbs.specs.How.{all_modes, amount_read, budget_or, budget_read, digit_unit, file_read, fits, is_of, kind_front, letter_read, local_read, mode_read, unit_read, user_read, whole_path}
 use Rattle.g_monitor.specs.Parts.{mode_word}
 use Rattle.g_verbs.specs.Parameters.{IsAmount, IsFile, IsLocal, IsUnit, IsUser, kind_word, most_of, unit_word}
 use Rattle.g_verbs.specs.declared.form.Form.{Form}
@@ -138,26 +138,6 @@ local-sound text local is = let parts = cond_some (is_word text) text local is i
 
 pub local-complete : (local text : List ℕ) → IsLocal local text → local_read text ≡ Some local
 local-complete local text is = ap local_read is.1 ∙ ap (λ (b : Bool). let none : Option (List ℕ) = None in if b then Some local else none) is.0
-
--- numbers
-pub number-sound : (most n : ℕ) (digits : List ℕ) → number_read most digits ≡ Some n → (n ≤ most) × (digits ≡ decimal n)
-number-sound most n digits is =
-    let v = digits_value 10 digits in
-    let parts = cond_some (nat_le v most && same_text (decimal v) digits) v n is in
-    let tests = and_parts (nat_le v most) (same_text (decimal v) digits) parts.0 in
-    let few : v ≤ most = leb-true v most tests.0 in
-    (subst (λ (k : ℕ). k ≤ most) parts.1 few, sym (same_text-eq (decimal v) digits tests.1) ∙ ap decimal parts.1)
-
-number_with : (most n v : ℕ) → v ≡ n → n ≤ most → (if nat_le v most && same_text (decimal v) (decimal n) then Some v else None) ≡ Some n
-number_with most n v same few =
-    let P : ℕ → Type 0 = λ k. (if nat_le k most && same_text (decimal k) (decimal n) then Some k else None) ≡ Some n in
-    let all : (nat_le n most && same_text (decimal n) (decimal n)) ≡ true = and_from _ _ (le-leb n most few) (same_text-refl (decimal n)) in
-    subst P (sym same) (ap (λ (b : Bool). let none : Option ℕ = None in if b then Some n else none) all)
-
-pub number-complete : (most n : ℕ) (digits : List ℕ) → most < 2 ^ 64 → (n ≤ most) × (digits ≡ decimal n) → number_read most digits ≡ Some n
-number-complete most n digits fits is =
-    let small : n < 2 ^ 64 = omega (arith, is.0) in
-    ap (number_read most) is.1 ∙ number_with most n (digits_value 10 (decimal n)) (decimal_is_IsNumeral n small).1 is.0
 
 -- amounts
 front_parts : (kind : BudgetKind) (digits : List ℕ) → kind_front kind ++ digits ≡ kind_word kind ++ (32 ∷ digits)

@@ -45,6 +45,7 @@ verb_of-word verb.NewUser = refl
 verb_of-word verb.Budget = refl
 verb_of-word verb.Retrieve = refl
 verb_of-word verb.Load = refl
+verb_of-word verb.Plan = refl
 verb_of-word verb.Enter = refl
 verb_of-word verb.Resume = refl
 verb_of-word verb.Assign = refl
@@ -299,6 +300,7 @@ module _ (name : List ℕ) (params : List (List ℕ)) (rest : List ℕ) where
   said-reads (action.Budget user which amount) said = budget_reads user which amount said
   said-reads (action.Retrieve file) said = file_reads verb.Retrieve action.Retrieve file refl (λ a. refl) said
   said-reads (action.Load file) said = file_reads verb.Load action.Load file refl (λ a. refl) said
+  said-reads (action.Plan from to) said = files_read verb.Plan action.Plan from to refl (λ a b. refl) said
   said-reads (action.Enter n) said = enter_reads n said
   said-reads action.Resume said = nothing_reads verb.Resume action.Resume refl refl said
   said-reads (action.Assign u file) said = assign_reads u file said

@@ -11,7 +11,8 @@ use Rattle.g_peri.specs.declared.unit.Unit as unit
 use Rattle.g_plain.specs.declared.calls.BudgetKind.{BudgetKind}
 use Rattle.g_plain.specs.declared.calls.BudgetKind.TheVariants as kind
 use Rattle.g_trap.specs.declared.mode_set.Mode.{Mode}
-use Rattle.g_verbs.proofs.ParamLemmas.{amount-complete, budget-complete, file-complete, letter-complete, local-complete, mode-complete, number-complete, unit-complete, user-complete}
+use Rattle.g_verbs.proofs.ParamLemmas.{amount-complete, budget-complete, file-complete, letter-complete, local-complete, mode-complete, unit-complete, user-complete}
+use Rattle.g_lines.proofs.NumberLemmas.{number-complete}
 use Rattle.g_verbs.specs.Ranges.{no_path, no_unit}
 use Rattle.g_verbs.specs.Forms.{AreGood, Fits, Forms, IsGoodPlace, IsOf, at_least, just, or_any}
 use Rattle.g_verbs.specs.How.{action_of, amount_of, budget_of, digit_of, file_of, letter_of, local_of, modes_read, money_at, param, unit_of, user_at, user_of, with_mode}
@@ -247,6 +248,7 @@ good-says verb.NewUser params rest good = (refl, new_user_says params good)
 good-says verb.Budget params rest good = (refl, budget_says params good)
 good-says verb.Retrieve params rest good = (refl, file_says params good)
 good-says verb.Load params rest good = (refl, file_says params good)
+good-says verb.Plan params rest good = (refl, files_say params good)
 good-says verb.Enter params rest good = let e = enter_says params good in (refl, e.0, e.1)
 good-says verb.Resume params rest good = (refl, nothing_says params good)
 good-says verb.Assign params rest good = (refl, assign_says params good)

@@ -1,12 +1,11 @@
 -- How verbs are read: the form of each parameter, then the values.
 -- Nothing here has to be believed: the law `verbs_are_read_by_their_forms` says what it answers.
-use Rattle.std.specs.Fmt.{decimal}
 use Rattle.std.specs.List.{find, slice_get, slice_index_or}
 use Rattle.std.specs.Option.{option_and_then, option_map}
 use Rattle.std.specs.Prelude.{Bool, Err, List, None, Ok, Option, Result, Some, [], bit_or, codes, drop, false, if◌then◌else◌, is_some, nat_le, pred, suc, true, unwrap_or, ℕ, ◌&&◌, ◌-◌, ◌==◌, ◌∷◌}
-use Rattle.std.specs.Str.Parse.{digits_value}
 use Rattle.g_lang.specs.Conditions.{is_param_letter}
 use Rattle.g_lang.specs.How.{behind}
+use Rattle.g_lines.specs.Numbers.{number_read}
 use Rattle.g_monitor.specs.Parts.{mode_word}
 use Rattle.g_name.specs.Grammar.{is_user_text, is_word}
 use Rattle.g_name.specs.Machine.{run}
@@ -45,11 +44,6 @@ user_read text = if is_user_text text then Some (drop 1 text) else None
 
 abbrev pub local_read : List ℕ → Option (List ℕ)
 local_read text = if is_word text then Some text else None
-
--- a number without leading zeros, up to the most
-abbrev pub number_read : ℕ → List ℕ → Option ℕ
-number_read most digits =
-    if nat_le (digits_value 10 digits) most && same_text (decimal (digits_value 10 digits)) digits then Some (digits_value 10 digits) else None
 
 abbrev pub kind_front : BudgetKind → List ℕ
 kind_front kind.Space = codes "SPACE "
@@ -179,6 +173,7 @@ action_of verb.NewUser params rest =
 action_of verb.Budget params rest = action.Budget (user_of (param params 0)) (budget_of (param params 1)).0 (budget_of (param params 1)).1
 action_of verb.Retrieve params rest = action.Retrieve (file_of (param params 0))
 action_of verb.Load params rest = action.Load (file_of (param params 0))
+action_of verb.Plan params rest = action.Plan (file_of (param params 0)) (file_of (param params 1))
 action_of verb.Enter params rest = action.Enter (digit_of (param params 0))
 action_of verb.Resume params rest = action.Resume
 action_of verb.Assign params rest = action.Assign (unit_of (param params 0)) (file_of (param params 1))

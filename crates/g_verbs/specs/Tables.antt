@@ -1,5 +1,5 @@
 -- What the values of the code say, and what its functions are handed.
-use Rattle.std.specs.Prelude.{List, length, slice_index, true, ℕ, ◌<◌, ◌≡◌, ◌≤◌}
+use Rattle.std.specs.Prelude.{List, length, true, ℕ, ◌<◌, ◌≡◌}
 use Rattle.g_verbs.specs.Forms.{Forms}
 use Rattle.g_verbs.specs.How.{is_of, param}
 use Rattle.g_verbs.specs.declared.form.Form.{Form}
@@ -12,10 +12,3 @@ forms_said f = record { all = f.all.now; least = f.least; any_more = f.any_more 
 pub record IsThere (form : Form) (params : List (List ℕ)) (place : ℕ) : Type 0 where
   pub within : place < length params
   pub fits : is_of form (param params place) ≡ true
-
--- the first byte is a digit, and the only one if it is 0
-pub record BeginsPlainly (digits : List ℕ) : Type 0 where
-  pub some : 1 ≤ length digits
-  pub least : 48 ≤ slice_index digits 0
-  pub most : slice_index digits 0 ≤ 57
-  pub alone : slice_index digits 0 ≡ 48 → length digits ≡ 1

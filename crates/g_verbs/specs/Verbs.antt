@@ -10,7 +10,7 @@ use Rattle.g_plain.specs.declared.calls.BudgetKind.TheVariants as kind
 use Rattle.g_verbs.specs.Forms.{Forms, IsFirstWrong, at_least, just}
 use Rattle.g_verbs.specs.Parameters.{AreModes, IsAmount, IsFile, IsLocal, IsUnit, IsUser, most_of}
 use Rattle.g_verbs.specs.declared.action.Action.{Action}
-use Rattle.g_verbs.specs.declared.action.Action.TheVariants.{Append, Assign, Budget, Copy, Delete, Display, EndJob, Enter, Erase, Input, ListDir, ListFile, Load, Macro, NewUser, Release, Rename, Resume, Retrieve, SetParam, TrapCheck, TrapGo, TrapStop}
+use Rattle.g_verbs.specs.declared.action.Action.TheVariants.{Append, Assign, Budget, Copy, Delete, Display, EndJob, Enter, Erase, Input, ListDir, ListFile, Load, Macro, NewUser, Plan, Release, Rename, Resume, Retrieve, SetParam, TrapCheck, TrapGo, TrapStop}
 use Rattle.g_verbs.specs.declared.fault.VerbFault.{VerbFault}
 use Rattle.g_verbs.specs.declared.fault.VerbFault.TheVariants.{BadParameter}
 use Rattle.g_verbs.specs.declared.form.Form.TheVariants as form
@@ -21,8 +21,8 @@ use Rattle.g_verbs.specs.declared.verb.Verb.TheVariants as verb
 abbrev pub verbs : List Verb
 verbs =
     verb.Input ∷ verb.Copy ∷ verb.Append ∷ verb.Erase ∷ verb.Rename ∷ verb.ListFile ∷ verb.ListDir ∷ verb.TrapGo ∷ verb.TrapStop
-    ∷ verb.TrapCheck ∷ verb.NewUser ∷ verb.Budget ∷ verb.Retrieve ∷ verb.Load ∷ verb.Enter ∷ verb.Resume ∷ verb.Assign
-    ∷ verb.Release ∷ verb.Delete ∷ verb.SetParam ∷ verb.Display ∷ verb.EndJob ∷ []
+    ∷ verb.TrapCheck ∷ verb.NewUser ∷ verb.Budget ∷ verb.Retrieve ∷ verb.Load ∷ verb.Plan ∷ verb.Enter ∷ verb.Resume
+    ∷ verb.Assign ∷ verb.Release ∷ verb.Delete ∷ verb.SetParam ∷ verb.Display ∷ verb.EndJob ∷ []
 
 abbrev pub verb_word : Verb → List ℕ
 verb_word verb.Input = codes "INPUT"
@@ -39,6 +39,7 @@ verb_word verb.NewUser = codes "NEWUSER"
 verb_word verb.Budget = codes "BUDGET"
 verb_word verb.Retrieve = codes "RETRIEVE"
 verb_word verb.Load = codes "LOAD"
+verb_word verb.Plan = codes "PLAN"
 verb_word verb.Enter = codes "ENTER"
 verb_word verb.Resume = codes "RESUME"
 verb_word verb.Assign = codes "ASSIGN"
@@ -68,6 +69,7 @@ verb_forms verb.NewUser = at_least 3 (form.User ∷ form.Amount kind.Space ∷ f
 verb_forms verb.Budget = just (form.User ∷ form.AnyAmount ∷ [])
 verb_forms verb.Retrieve = just (form.File ∷ [])
 verb_forms verb.Load = just (form.File ∷ [])
+verb_forms verb.Plan = just (form.File ∷ form.File ∷ [])
 verb_forms verb.Enter = just (form.Digit ∷ [])
 verb_forms verb.Resume = just []
 verb_forms verb.Assign = just (form.Unit ∷ form.File ∷ [])
@@ -136,6 +138,7 @@ Says (Budget user which amount) name params rest =
     (name ≡ codes "BUDGET") × ((a : List ℕ) × (b : List ℕ) × IsUser user a × IsAmount which amount b × (params ≡ a ∷ b ∷ []))
 Says (Retrieve file) name params rest = FileVerb (codes "RETRIEVE") file name params
 Says (Load file) name params rest = FileVerb (codes "LOAD") file name params
+Says (Plan from to) name params rest = TwoFiles (codes "PLAN") from to name params
 Says (Enter n) name params rest = (name ≡ codes "ENTER") × (n ≤ 9) × (params ≡ decimal n ∷ [])
 Says Resume name params rest = (name ≡ codes "RESUME") × (params ≡ [])
 Says (Assign unit file) name params rest =

@@ -79,6 +79,11 @@ pub enum Action {
     Load {
         file: Path,
     },
+    /// Assembles a source and puts the program's file.
+    Plan {
+        from: Path,
+        to: Path,
+    },
     /// Runs the program from its entry n, 0 to 9.
     Enter {
         n: u64,

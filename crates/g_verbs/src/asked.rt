@@ -46,6 +46,17 @@ pub fn append(params: &[Text]) -> Action
     }
 }
 
+/// PLAN with its source and its program file.
+pub fn plan(params: &[Text]) -> Action
+    requires { AreGood (verbs.verb_forms verb.Plan) params.now }
+    ensures { result ≡ how.action_of verb.Plan params.now [] }
+{
+    Action::Plan {
+        from: file_at(params, 0),
+        to: file_at(params, 1),
+    }
+}
+
 /// RENAME with its file and the new name.
 pub fn rename(params: &[Text]) -> Action
     requires { AreGood (verbs.verb_forms verb.Rename) params.now }

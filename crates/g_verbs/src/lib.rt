@@ -6,7 +6,6 @@ mod asked;
 mod fault;
 mod form;
 mod laws;
-mod number;
 mod parameter;
 mod read;
 mod values;

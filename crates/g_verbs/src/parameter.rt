@@ -1,11 +1,11 @@
 //! One parameter of each form; none of these takes memory.
-ghost use Rattle.std.specs.Prelude.{◌≡◌, None, Some, MatchOption};
-ghost use Rattle.g_lang.specs.How as lang;
+ghost use Rattle.std.specs.Prelude.{◌≡◌};
+ghost use Rattle.g_lines.specs.Numbers.{number_read};
 ghost use Rattle.g_verbs.specs.How as how;
 ghost use Rattle.g_verbs.specs.Parameters as parameters;
 
-use crate::number::number;
-use g_lang::is_param_letter;
+use g_lang::{behind, is_param_letter};
+use g_lines::number;
 use g_monitor::mode_word;
 use g_name::{Local, Path, User, parse_path};
 use g_peri::{Kind, Unit};
@@ -137,15 +137,7 @@ pub fn letter(text: &[u8]) -> Option<u8>
 
 /// A number from 0 to 9.
 pub fn digit(text: &[u8]) -> Option<u64>
-    ensures { result ≡ how.number_read 9 text.now }
+    ensures { result ≡ number_read 9 text.now }
 {
     number(text, 9)
-}
-
-/// What stands behind a front, if the text begins with it.
-fn behind<'a>(front: &[u8], text: &'a [u8]) -> Option<&'a [u8]>
-    ensures { MatchOption result (lang.behind front.now text.now ≡ None)
-        (λ rest. lang.behind front.now text.now ≡ Some rest.now) }
-{
-    text.strip_prefix(front)
 }

@@ -82,6 +82,7 @@ fn action_of(verb: Verb, params: Texts, rest: Text) -> Action
         Verb::Load => Action::Load {
             file: asked::only_file(params.rows()),
         },
+        Verb::Plan => asked::plan(params.rows()),
         Verb::Enter => asked::enter(params.rows()),
         Verb::Resume => Action::Resume,
         Verb::Assign => asked::assign(params.rows()),

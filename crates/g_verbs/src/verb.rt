@@ -24,6 +24,7 @@ pub enum Verb {
     Budget,
     Retrieve,
     Load,
+    Plan,
     Enter,
     Resume,
     Assign,
@@ -35,7 +36,7 @@ pub enum Verb {
 }
 
 /// The verbs in the order of the manual.
-const VERBS: [Verb; 22] = [
+const VERBS: [Verb; 23] = [
     Verb::Input,
     Verb::Copy,
     Verb::Append,
@@ -50,6 +51,7 @@ const VERBS: [Verb; 22] = [
     Verb::Budget,
     Verb::Retrieve,
     Verb::Load,
+    Verb::Plan,
     Verb::Enter,
     Verb::Resume,
     Verb::Assign,
@@ -87,6 +89,7 @@ impl Verb {
             Verb::Budget => b"BUDGET",
             Verb::Retrieve => b"RETRIEVE",
             Verb::Load => b"LOAD",
+            Verb::Plan => b"PLAN",
             Verb::Enter => b"ENTER",
             Verb::Resume => b"RESUME",
             Verb::Assign => b"ASSIGN",
@@ -106,7 +109,7 @@ impl Verb {
             Verb::Input | Verb::Erase | Verb::ListFile | Verb::Retrieve | Verb::Load => {
                 just(&[Form::File])
             }
-            Verb::Copy | Verb::Append => just(&[Form::File, Form::File]),
+            Verb::Copy | Verb::Append | Verb::Plan => just(&[Form::File, Form::File]),
             Verb::Rename => just(&[Form::File, Form::Local]),
             Verb::ListDir => at_least(0, &[Form::User]),
             Verb::TrapGo | Verb::TrapStop => at_least(3, &TRAP_FORMS),

@@ -29,7 +29,7 @@ use Rattle.g_world.specs.World.{World}
 use Rattle.g_world.proofs.TreeLemmas.{job_by, told_stands, told_up, turn_store}
 use Rattle.g_world_laws.specs.Dumps.{DumpsStay, DumpsTakeNeeds, IsSameDump, RunOpen, StaysOrGoes, dump_steps}
 
-one_dump : (a b : OpenDump) → (let one : Option OpenDump = Some a in one ≡ Some b) → a ≡ b
+pub one_dump : (a b : OpenDump) → (let one : Option OpenDump = Some a in one ≡ Some b) → a ≡ b
 one_dump a b e = cc
 
 not_none : {P : Type 0} (a : OpenDump) → (let none : Option OpenDump = None in none ≡ Some a) → P
@@ -87,7 +87,7 @@ module _ (d : OpenDump) where
   third_true false true x y z rest none = absurd (let no : ⊥ = cc in no)
   third_true false false x y z rest none = absurd (let no : ⊥ = cc in no)
 
-  open_refused : {P : Type 0} (s : State) (k : Holding) (serial : ℕ) (o : Outcome) → s.open_dump ≡ Some d → open_refuses s k serial o ≡ None → P
+  pub open_refused : {P : Type 0} (s : State) (k : Holding) (serial : ℕ) (o : Outcome) → s.open_dump ≡ Some d → open_refuses s k serial o ≡ None → P
   open_refused s k serial o opened none =
       let rest : Checks = (k.last == 2 ^ 62 - 1, CountersSpent) ∷ (is_tape_read o, TapeReadFault) ∷ (nat_lt (tape_room s serial) (dump_needs k), TapeFull (dump_needs k) (tape_room s serial)) ∷ (is_cut o, Stopped) ∷ [] in
       third_true (lacks s serial) (not (is_mounted s serial)) NoTape NotMounted (DumpOpen (open_number s.open_dump)) rest

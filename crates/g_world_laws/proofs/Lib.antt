@@ -1,4 +1,13 @@
+pub mod ClauseLemmas
+pub mod CompleteLemmas
 pub mod DumpLemmas
+pub mod FilestoreLemmas
+pub mod FreshLemmas
+pub mod LaterLemmas
+pub mod LostLemmas
 pub mod OneTreeLemmas
 pub mod ReelLemmas
 pub mod RefusedLemmas
+pub mod TurnLemmas
+pub mod UnrisenLemmas
+pub mod WalkLemmas

@@ -28,7 +28,7 @@ use Rattle.g_world.proofs.TreeLemmas.{told_up}
 use Rattle.g_world_laws.specs.Refused.{KeepsTree, RefusedLinesLeave, RunKeeping, StartStillHasTheTree}
 
 -- an answer that is told isn't a stop where no write failed
-unstopped : {A : Type 0} (By : Outcome → Result A StoreFault → State → Type 0) (o : Outcome) (r : Result A StoreFault) (new : State) → ToldBy By o r new → o ≢ Cut → r ≢ Err Stopped
+pub unstopped : {A : Type 0} (By : Outcome → Result A StoreFault → State → Type 0) (o : Outcome) (r : Result A StoreFault) (new : State) → ToldBy By o r new → o ≢ Cut → r ≢ Err Stopped
 unstopped By o r new (told, step, tells_so, inl same) whole stop = whole (sym same ∙ tells_so.cut stop)
 unstopped By o r new (told, step, tells_so, inr plain) whole stop = let is_cut = tells_so.cut stop in let no : ⊥ = cc in no
 
@@ -99,7 +99,7 @@ module _ {F U : Type 0} (tariffs : Shared F (Bor Usage × Unit {0}) Charge) (tar
   one_keeps w Ticked mid quiet step = left_by (tree_in w.store) (tree_in mid.store) (tree_behind w Ticked) (all w mid Ticked step) quiet
   one_keeps w Over mid quiet step = left_by (tree_in w.store) (tree_in mid.store) (tree_behind w Over) (all w mid Over step) quiet
 
-  keeping : (w : World) (moves : List Move) (new : World) → RunKeeping tariffs tariff rules rule w moves new → tree_in new.store ≡ tree_in w.store
+  pub keeping : (w : World) (moves : List Move) (new : World) → RunKeeping tariffs tariff rules rule w moves new → tree_in new.store ≡ tree_in w.store
   keeping w [] new run = ap (λ (x : World). tree_in x.store) run
   keeping w (move ∷ moves) new (mid, quiet, step, run) = keeping mid moves new run ∙ one_keeps w move mid quiet step
 

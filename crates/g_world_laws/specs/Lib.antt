@@ -1,4 +1,14 @@
+pub mod Anew
+pub mod Completes
+pub mod Cuts
 pub mod Dumps
+pub mod Filestores
+pub mod Fresh
+pub mod Fuses
+pub mod Later
+pub mod Lost
 pub mod OneTree
 pub mod Reels
 pub mod Refused
+pub mod Turns
+pub mod Unrisen

@@ -2,15 +2,27 @@
 //! completed, and of what lines leave that are refused while the system is down.
 #![tactic(auto)]
 
+ghost use Rattle.g_world_laws.specs.Anew.{EmptiedStand};
+ghost use Rattle.g_world_laws.specs.Completes.{DumpsComplete, DumpsGoOn};
+ghost use Rattle.g_world_laws.specs.Cuts.{TapesCutNoCall};
 ghost use Rattle.g_world_laws.specs.Dumps.{DumpsStay, DumpsTakeNeeds};
+ghost use Rattle.g_world_laws.specs.Filestores.{DevicesKeepFilestores, FilestoresStay};
+ghost use Rattle.g_world_laws.specs.Fresh.{NewDevicesStand, NotStateless, StatesAreOne};
+ghost use Rattle.g_world_laws.specs.Fuses.{FusesGo, NumbersGo};
+ghost use Rattle.g_world_laws.specs.Later.{LaterRunsKeep, StartIsBehind};
+ghost use Rattle.g_world_laws.specs.Lost.{NothingIsLost};
 ghost use Rattle.g_world_laws.specs.OneTree.{RunsOnOneTree};
 ghost use Rattle.g_world_laws.specs.Reels.{CompletedDumpsStay};
 ghost use Rattle.g_world_laws.specs.Refused.{RefusedLinesLeave, StartStillHasTheTree};
+ghost use Rattle.g_world_laws.specs.Turns.{TurnsPrintPlainly};
+ghost use Rattle.g_world_laws.specs.Unrisen.{UnrisenIsPlain, UnrisenTextIsOne};
 
 use g_budget::{Charge, Usage};
 use g_sched::Standing;
+use g_state::one_state;
+use g_state_laws::some_state;
 use g_step::step_is_plain;
-use g_world::dumps_come_to_an_end;
+use g_world::{dumps_come_to_an_end, text_is_one};
 
 /// A line that leaves the system down, and in which no write failed, leaves the tree: a FORMAT, START or RESTORE that was refused
 /// too.
@@ -52,4 +64,80 @@ pub fn dumps_take_their_needs<F: Fn(&Usage) -> Charge, U: Fn(&Standing) -> u64>(
 /// dump.
 pub fn completed_dumps_stay<F: Fn(&Usage) -> Charge, U: Fn(&Standing) -> u64>()
     ensures { (tariff : F) (rule : U) → CompletedDumpsStay F.Fn tariff U.Fn rule }
+{}
+
+/// Behind any move, one that was cut while the system was down too, a START has the tree before that move or behind it.
+pub fn start_is_behind_any_move<F: Fn(&Usage) -> Charge, U: Fn(&Standing) -> u64>()
+    ensures { (tariff : F) (rule : U) → StartIsBehind F.Fn tariff U.Fn rule }
+{
+    step_is_plain();
+}
+
+/// In a later run, of any script, over the devices that a run left, a START has the tree that this run left.
+pub fn later_runs_keep_the_tree<F: Fn(&Usage) -> Charge, U: Fn(&Standing) -> u64>()
+    ensures { (tariff : F) (rule : U) → LaterRunsKeep F.Fn tariff U.Fn rule }
+{
+    step_is_plain();
+    one_state();
+}
+
+/// Every turn is run on the tree that it meets: its program is answered as on a plain tree of files, and the job's monitoring file
+/// is what the end of a turn makes of the text that the program gives.
+pub fn turns_print_plainly<F: Fn(&Usage) -> Charge, U: Fn(&Standing) -> u64>()
+    ensures { (tariff : F) (rule : U) → TurnsPrintPlainly F.Fn tariff U.Fn rule }
+{
+    step_is_plain();
+}
+
+/// Where no device fails an open dump goes on by one step at a time, until its last one completes it.
+pub fn undisturbed_dumps_complete<F: Fn(&Usage) -> Charge, U: Fn(&Standing) -> u64>()
+    ensures going { (tariff : F) (rule : U) → DumpsGoOn F.Fn tariff U.Fn rule }
+    ensures needs { (tariff : F) (rule : U) → DumpsComplete F.Fn tariff U.Fn rule }
+{}
+
+/// In no run over devices that belong together does a RESTORE name a lost directory or a lost copy.
+pub fn nothing_is_lost<F: Fn(&Usage) -> Charge, U: Fn(&Standing) -> u64>()
+    ensures { (tariff : F) (rule : U) → NothingIsLost F.Fn tariff U.Fn rule }
+{}
+
+/// Where no count of faults rose, no move of a run tells a failure.
+pub fn unrisen_runs_are_plain()
+    ensures { UnrisenIsPlain }
+{}
+
+/// Two runs of one script over devices that stand for one state, in which no count of faults rose and turns were charged alike, have
+/// one text.
+pub fn unrisen_text_is_one<F: Fn(&Usage) -> Charge, U: Fn(&Standing) -> u64>()
+    ensures { (tariff : F) (rule : U) → UnrisenTextIsOne F.Fn tariff U.Fn rule }
+{
+    text_is_one::<F, U>();
+}
+
+/// Devices that tell and belong together stand for a state, and for no more than one; new ones do, for one without a filestore, and so
+/// does a new disc beside any reels that were emptied.
+pub fn devices_have_one_state()
+    ensures some { NotStateless }
+    ensures one { StatesAreOne }
+    ensures new { NewDevicesStand }
+    ensures emptied { EmptiedStand }
+{
+    some_state();
+    one_state();
+}
+
+/// A store that holds a filestore goes on to hold one, whatever is done and whatever fails; and so do its devices.
+pub fn filestores_stay<F: Fn(&Usage) -> Charge, U: Fn(&Standing) -> u64>()
+    ensures states { (tariff : F) (rule : U) → FilestoresStay F.Fn tariff U.Fn rule }
+    ensures devices { (tariff : F) (rule : U) → DevicesKeepFilestores F.Fn tariff U.Fn rule }
+{}
+
+/// Where each cut of an event that is no step of a dump is counted by the disc, a reel's failed write cuts no call and no line.
+pub fn tapes_cut_no_call()
+    ensures { TapesCutNoCall }
+{}
+
+/// A device's fuse behind two parts of a run goes by the last STOP line of both, and by the writes of both.
+pub fn fuses_go_by_lines()
+    ensures fuses { FusesGo }
+    ensures numbers { NumbersGo }
 {}

@@ -87,6 +87,15 @@ pub static VERBS: &str = "\
 2 LOAD F,F\n\
 2 LOAD F,\n\
 1 LOAD ,\n\
+# PLAN file,file\n\
+1 PLAN\n\
+2 PLAN F\n\
+1 PLAN f,G\n\
+1 PLAN ,G\n\
+2 PLAN F,\n\
+2 PLAN F,g\n\
+3 PLAN F,G,H\n\
+3 PLAN F,G,\n\
 ";
 
 /// Texts that are no file.

@@ -33,6 +33,8 @@ LISTFILE F <= LISTFILE  F \n\
 RETRIEVE F(1) <= RETRIEVE F(1)\n\
 # LOAD file\n\
 LOAD P <= LOAD P\n\
+# PLAN file,file\n\
+PLAN F :A.G(2) <= PLAN F,:A.G(2)\n\
 ";
 
 /// Verbs with users, modes and budgets.

@@ -57,6 +57,9 @@ fn push_said(alloc: Global, said: &mut Text, action: &Action) -> Result<(), NoMe
         Action::ListFile { file } => push(alloc, said, b"LISTFILE", &[Value::File(file)]),
         Action::Retrieve { file } => push(alloc, said, b"RETRIEVE", &[Value::File(file)]),
         Action::Load { file } => push(alloc, said, b"LOAD", &[Value::File(file)]),
+        Action::Plan { from, to } => {
+            push(alloc, said, b"PLAN", &[Value::File(from), Value::File(to)])
+        }
         Action::Assign { unit, file } => {
             push(
                 alloc,

@@ -1,5 +1,17 @@
+use Rattle.std.proofs.Common.{◌≡◌, refl, sym, subst}
+use Rattle.g_console.specs.Arming.{tape_armed}
+use Rattle.g_console.specs.Parts.{IsReady, Seen}
+use Rattle.g_console.specs.System.{devices_in, facts_of}
+use Rattle.g_console.proofs.DayLemmas.{same_line}
 use Rattle.g_console.proofs.StopLemmas.{tape_stop}
 use Rattle.g_console.proofs.arming.stop_tape_line.Goals as goal
 
+pub returns-clause-armed : goal.returns-clause-armed
+returns-clause-armed g c =
+    subst (λ (s : Seen). devices_in (facts_of g.D.Disc.state g.T.Tapes.rack c.arm_tape.new.system) ≡ tape_armed c.args.k (devices_in s.system)) c.day.view_is c.arm_tape.ensures.devices
+
 pub returns-clause-line : goal.returns-clause-line
-returns-clause-line g c = λ crew ready. tape_stop c.args.k _ _ crew c.args.count c.arm_tape.ensures ready c.say.result _ _ _ _ c.say.ensures
+returns-clause-line g c =
+    same_line c.day.view_is refl
+    (tape_stop c.args.k (facts_of g.D.Disc.state g.T.Tapes.rack c.day.inside.system) (facts_of g.D.Disc.state g.T.Tapes.rack c.arm_tape.new.system) c.day.inside.crew c.day.inside.count c.arm_tape.ensures
+    (subst (λ (s : Seen). IsReady s.system s.crew) (sym c.day.view_is) c.requires.ready) c.say-failure.result _ _ _ _ c.say-failure.ensures)

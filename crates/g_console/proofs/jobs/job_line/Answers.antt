@@ -1,26 +1,18 @@
-use Rattle.std.proofs.Common.{sym, ◌∙◌, ap, subst}
-use Rattle.std.specs.Prelude.{is_some}
-use Rattle.g_script.specs.declared.operator.Operator.TheVariants as line
-use Rattle.g_world.specs.Devices.{Devices}
-use Rattle.g_console.specs.Parts.{DidLine, IsReady, seen}
-use Rattle.g_console.specs.System.{Down, SystemFacts, Up, facts_of}
-use Rattle.g_console.proofs.JobLemmas.{down_takes_none, known_by, taken_line}
+use Rattle.std.proofs.Common.{None, Some, refl, subst}
+use Rattle.g_console.specs.Jobs.{KnowsIn}
+use Rattle.g_console.specs.Parts.{Seen}
+use Rattle.g_console.proofs.DayLemmas.{same_line}
+use Rattle.g_console.proofs.JobLemmas.{job_on, no_job_on}
 use Rattle.g_console.proofs.jobs.job_line.Goals as goal
 
-pub returns-in-Up : goal.returns-in-Up
-returns-in-Up g c =
-    let at = ap (facts_of g.D.Disc.state g.T.Tapes.rack) c.in-Up.is in
-    let ready = subst (λ (f : SystemFacts). IsReady f c.args.crew.now) at c.requires.ready in
-    subst (λ (f : SystemFacts). DidLine (line.Job c.args.job.name c.args.job.user c.args.job.time c.args.job.money c.args.job.lines) (seen f c.args.crew.now c.args.count) c.take_job.result (seen f c.take_job.new.crew c.args.count)
-    (g.K.Sink.written c.args.out.now) (g.K.Sink.written c.take_job.new.out) (g.K.Sink.faults c.args.out.now) (g.K.Sink.faults c.take_job.new.out)) (sym at)
-    (taken_line c.args.job c.in-Up.store c.is_some-known.result (known_by c.in-Up.store ready.0 c.args.job.user c.user_time.result c.is_some-known.result c.user_time.ensures c.is_some-known.ensures) c.args.crew.now ready c.args.count
-    c.take_job.result c.take_job.new.crew _ _ _ _ c.take_job.ensures)
+pub returns-in-Some : goal.returns-in-Some
+returns-in-Some g c =
+    same_line refl c.take_job.ensures.same
+    (job_on c.args.job c.args.day.system c.in-Some.known (subst (λ (s : Seen). KnowsIn c.args.job.user s.system (Some c.in-Some.known)) c.day.view_is c.in-Some.ensures) c.args.day.crew c.requires.ready
+    c.args.day.count c.take_job.result.failure c.take_job.result.day.crew _ _ _ _ c.take_job.ensures.taken)
 
-pub returns-in-Down : goal.returns-in-Down
-returns-in-Down g c =
-    let d : Devices = record { disc = g.D.Disc.state c.in-Down.field-0; rack = g.T.Tapes.rack c.in-Down.field-1 } in
-    let at = ap (facts_of g.D.Disc.state g.T.Tapes.rack) c.in-Down.is in
-    let ready = subst (λ (f : SystemFacts). IsReady f c.args.crew.now) at c.requires.ready in
-    subst (λ (f : SystemFacts). DidLine (line.Job c.args.job.name c.args.job.user c.args.job.time c.args.job.money c.args.job.lines) (seen f c.args.crew.now c.args.count) c.refuse.result (seen f c.args.crew.now c.args.count)
-    (g.K.Sink.written c.args.out.now) (g.K.Sink.written c.refuse.new.out) (g.K.Sink.faults c.args.out.now) (g.K.Sink.faults c.refuse.new.out)) (sym at)
-    (down_takes_none c.args.job d c.args.crew.now c.args.count c.refuse.result _ _ _ _ ready c.refuse.ensures)
+pub returns-in-None : goal.returns-in-None
+returns-in-None g c =
+    same_line refl c.fails.ensures.day
+    (no_job_on c.args.job c.args.day.system (subst (λ (s : Seen). KnowsIn c.args.job.user s.system None) c.day.view_is c.in-None.ensures) c.args.day.crew c.requires.ready
+    c.args.day.count c.fails.result.failure c.fails.result.day.crew _ _ _ _ c.fails.ensures.told)

@@ -13,6 +13,7 @@ pub loop-number-preserved : goal.loop-number-preserved
 loop-number-preserved c = (
   subst (λ (ns : List ℕ). IsForgotten ns c.args.online.now.items c.forget_one.new.online.items c.args.pages.now c.forget_one.new.pages)
       (sym (one_further c.args.numbers.now c.loop-number.number-index c.loop-number-test.true))
-      (forgotten_more _ (get_or c.args.numbers.now c.loop-number.number-index 0) _ _ _ _ _ _ c.loop-number.invariant.0 c.forget_one.ensures.copies c.forget_one.ensures.marks),
+      (forgotten_more _ (get_or c.args.numbers.now c.loop-number.number-index 0) _ _ _ _ _ _ c.loop-number.invariant.0 c.forget_one.ensures.copies
+      c.forget_one.ensures.marks),
   λ room. c.forget_one.ensures.room (c.loop-number.invariant.1 room),
 )

@@ -4,7 +4,7 @@ use Rattle.g_blocks.specs.Pool.{HasGiven, HasTaken, IsFree, IsTaken, free_count}
 use Rattle.g_copy.specs.declared.copy.DiscCopy.{DiscCopy}
 use Rattle.g_online.specs.Off.{places_off}
 use Rattle.g_online.proofs.CopyLemmas.{Copies}
-use Rattle.g_online.proofs.NeedLemmas.{full_done, full_here, full_refused, only_here, ready_short, ready_takes}
+use Rattle.g_online.proofs.NeedLemmas.{full_done, full_here, full_refused, only_here, ready_few, ready_takes}
 use Rattle.g_online.proofs.PoolLemmas.{retaken}
 use Rattle.g_online.proofs.put.make_ready.Goals as goal
 
@@ -17,19 +17,19 @@ give_all-requires-clause-apart c = subst (λ (on : Copies). AllPairs (λ j k. j 
 pub give_all-requires-clause-taken : goal.give_all-requires-clause-taken
 give_all-requires-clause-taken c = subst (λ (on : Copies). All (IsTaken c.args.pool.now) (places_off c.args.numbers.now on)) (sym (c.deref.ensures.value ∙ c.make_room-lists.ensures.items)) c.requires.taken
 
-pub list_of-requires : goal.list_of-requires
-list_of-requires c = subst (λ (bs : List ℕ). length bs ≤ 128) (sym c.deref-in-Ok.ensures.value) (ready_short c.args.len c.blocks_for.result c.in-Ok.blocks.items c.in-Ok.ensures.least.count c.blocks_for.ensures c.requires.len)
+pub take_blocks-requires : goal.take_blocks-requires
+take_blocks-requires c = record { few = ready_few c.args.len c.blocks_for.result c.blocks_for.ensures c.requires.len }
 
 pub returns-in-Ok-clause-ok : goal.returns-in-Ok-clause-ok
 returns-in-Ok-clause-ok c =
-    ready_takes (places_off c.args.numbers.now c.args.online.now.items) c.args.len c.blocks_for.result c.args.pool.now c.give_all.new.pool c.take_blocks.new.pool c.in-Ok.blocks.items c.list_of.result
+    ready_takes (places_off c.args.numbers.now c.args.online.now.items) c.args.len c.blocks_for.result c.args.pool.now c.give_all.new.pool c.take_blocks.new.pool c.in-Ok.copy
     (subst (λ (on : Copies). HasGiven (places_off c.args.numbers.now on) c.args.pool.now c.give_all.new.pool) (c.deref.ensures.value ∙ c.make_room-lists.ensures.items) c.give_all.ensures)
-    c.in-Ok.ensures.least c.in-Ok.ensures.taken c.blocks_for.ensures (c.list_of.ensures ∙ c.deref-in-Ok.ensures.value)
+    c.in-Ok.ensures.least c.in-Ok.ensures.taken c.blocks_for.ensures c.in-Ok.ensures.len
 
 pub returns-in-Ok-clause-full : goal.returns-in-Ok-clause-full
 returns-in-Ok-clause-full c =
-    full_done c.in-Ok.blocks _ (blocks_for c.args.len) (free_count c.args.pool.now + length (places_off c.args.numbers.now c.args.online.now.items))
-    (full_here (Ok c.in-Ok.blocks) c.blocks_for.result (free_count c.give_all.new.pool) (blocks_for c.args.len) (free_count c.args.pool.now + length (places_off c.args.numbers.now c.args.online.now.items)) c.blocks_for.ensures
+    full_done c.in-Ok.copy c.in-Ok.copy (blocks_for c.args.len) (free_count c.args.pool.now + length (places_off c.args.numbers.now c.args.online.now.items))
+    (full_here (Ok c.in-Ok.copy) c.blocks_for.result (free_count c.give_all.new.pool) (blocks_for c.args.len) (free_count c.args.pool.now + length (places_off c.args.numbers.now c.args.online.now.items)) c.blocks_for.ensures
     (subst (λ (on : Copies). HasGiven (places_off c.args.numbers.now on) c.args.pool.now c.give_all.new.pool) (c.deref.ensures.value ∙ c.make_room-lists.ensures.items) c.give_all.ensures).count c.in-Ok.ensures.full)
 
 pub retake_all-requires-clause-rising : goal.retake_all-requires-clause-rising

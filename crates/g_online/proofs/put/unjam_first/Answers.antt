@@ -10,23 +10,32 @@ forget_all-requires-clause-rising g c = c.requires.copies.rising
 
 pub commit-requires-clause-copies : goal.commit-requires-clause-copies
 commit-requires-clause-copies g c =
-    unjam_copies c.args.numbers.now c.args.tree.now.files c.args.online.now.items c.forget_all.new.online.items c.deref.result.now c.requires.copies c.forget_all.ensures.copies c.deref.ensures.value
+    unjam_copies c.args.numbers.now c.args.tree.now.files c.args.online.now.items c.forget_all.new.online.items c.deref.result.now c.requires.copies
+    c.forget_all.ensures.copies c.deref.ensures.value
 
 pub commit-requires-clause-marked : goal.commit-requires-clause-marked
 commit-requires-clause-marked g c =
-    unjam_marked c.args.numbers.now (g.D.Disc.state c.args.disc.now) c.args.slots.now c.args.pages.now c.changed.new.self c.forget_all.new.pages c.args.head.now c.kept_head.result (head_after c.args.pinned c.args.head.now) c.args.tree.now.users
-    c.args.tree.now.files c.args.online.now.items c.forget_all.new.online.items c.deref.result.now c.requires.marked c.changed.ensures.remembers c.changed.ensures.covers c.forget_all.ensures.marks c.requires.records c.requires.rules
+    unjam_marked c.args.numbers.now (g.D.Disc.state c.args.disc.now) c.args.slots.now c.args.pages.now c.changed.new.self c.forget_all.new.pages
+    c.args.head.now c.kept_head.result (head_after c.args.pinned c.args.head.now) c.args.tree.now.users
+    c.args.tree.now.files c.args.online.now.items c.forget_all.new.online.items c.deref.result.now c.requires.marked c.changed.ensures.remembers
+    c.changed.ensures.covers c.forget_all.ensures.marks c.requires.records c.requires.rules
     c.kept_head.ensures c.forget_all.ensures.copies c.deref.ensures.value
 
 pub returns-clause-none : goal.returns-clause-none
-returns-clause-none g c = λ none. absurd (false≢true (sym c.if-is_empty.false ∙ c.is_empty.ensures ∙ eq-eqb (length c.args.numbers.now) 0 (ap (λ (ns : List ℕ). length ns) none)))
+returns-clause-none g c = λ none.
+    absurd (false≢true (sym c.if-is_empty.false ∙ c.is_empty.ensures ∙ eq-eqb (length c.args.numbers.now) 0 (ap (λ (ns : List ℕ). length ns) none)))
 
 pub returns-clause-off : goal.returns-clause-off
 returns-clause-off g c = λ some.
-    takes_off c.args.numbers.now c.args.pinned c.args.tree.now.users c.args.tree.now.files (g.D.Disc.state c.args.disc.now) (g.D.Disc.state c.commit.new.disc) _ _ c.forget_all.new.pages c.deref.result.now c.commit.result
+    takes_off c.args.numbers.now c.args.pinned c.args.tree.now.users c.args.tree.now.files (g.D.Disc.state c.args.disc.now) (g.D.Disc.state c.commit.new.disc)
+    _ _ c.forget_all.new.pages c.deref.result.now c.commit.result
     c.deref.ensures.value c.kept_head.ensures c.forget_all.ensures.copies
-    (keeps_then c.args.pages.now c.changed.new.self c.forget_all.new.pages (keeps_marked 0 c.args.pages.now c.changed.new.self c.changed.ensures.marks) c.forget_all.ensures.marks.pages)
-    (unjam_marked c.args.numbers.now (g.D.Disc.state c.args.disc.now) c.args.slots.now c.args.pages.now c.changed.new.self c.forget_all.new.pages c.args.head.now c.kept_head.result (head_after c.args.pinned c.args.head.now) c.args.tree.now.users
-    c.args.tree.now.files c.args.online.now.items c.forget_all.new.online.items c.deref.result.now c.requires.marked c.changed.ensures.remembers c.changed.ensures.covers c.forget_all.ensures.marks c.requires.records c.requires.rules
+    (keeps_then c.args.pages.now c.changed.new.self c.forget_all.new.pages (keeps_marked 0 c.args.pages.now c.changed.new.self c.changed.ensures.marks)
+    c.forget_all.ensures.marks.pages)
+    (unjam_marked c.args.numbers.now (g.D.Disc.state c.args.disc.now) c.args.slots.now c.args.pages.now c.changed.new.self c.forget_all.new.pages
+    c.args.head.now c.kept_head.result (head_after c.args.pinned c.args.head.now) c.args.tree.now.users
+    c.args.tree.now.files c.args.online.now.items c.forget_all.new.online.items c.deref.result.now c.requires.marked c.changed.ensures.remembers
+    c.changed.ensures.covers c.forget_all.ensures.marks c.requires.records c.requires.rules
     c.kept_head.ensures c.forget_all.ensures.copies c.deref.ensures.value)
-    c.commit.ensures.ok c.commit.ensures.stopped c.commit.ensures.counts c.commit.ensures.whole c.commit.ensures.lives c.commit.ensures.dies c.commit.ensures.only
+    c.commit.ensures.ok c.commit.ensures.stopped c.commit.ensures.counts c.commit.ensures.whole c.commit.ensures.lives c.commit.ensures.dies
+    c.commit.ensures.only

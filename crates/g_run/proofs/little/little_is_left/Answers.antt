@@ -1,5 +1,10 @@
+use Rattle.std.proofs.Common.{◌≤◌, subst}
+use Rattle.g_console.specs.Parts.{Seen}
+use Rattle.g_console.specs.System.{facts_of}
+use Rattle.g_run.specs.Tick.{left}
 use Rattle.g_run.proofs.LittleLemmas.{little}
 use Rattle.g_run.proofs.little.little_is_left.Goals as goal
 
 pub returns : goal.returns
-returns g c = λ count. little _ c.args.crew.now count c.jobs-jobs.ensures.numbers c.dump_is_short.ensures
+returns g c =
+    subst (λ (s : Seen). left s ≤ 4358967360) c.day.view_is (little (facts_of g.D.Disc.state g.T.Tapes.rack c.day.inside.system) c.day.inside.crew c.day.inside.count c.jobs-jobs.ensures.numbers c.dump_is_short.ensures)

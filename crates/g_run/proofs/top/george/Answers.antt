@@ -4,6 +4,7 @@ use Rattle.g_demo.specs.declared.words.Asked.{Asked}
 use Rattle.g_demo.specs.declared.words.Asked.TheVariants as asked
 use Rattle.g_lines.specs.Lines.{lines_of}
 use Rattle.g_script.specs.Script.{IsParsed}
+use Rattle.g_run.proofs.FilestoreLemmas.{keeps_filestore}
 use Rattle.g_run.proofs.ReadingLemmas.{parsed_few, parsed_within}
 use Rattle.g_run.proofs.TopLemmas.{arms_as, cut_words, demo_found, ends_as, quiet_words}
 use Rattle.g_run.proofs.top.george.Goals as goal
@@ -21,6 +22,10 @@ returns-clause-arms g c = λ run left told lines bad is.
     let parsed = subst (λ bytes. IsParsed (lines_of bytes) c.in-Ok-parse_script.parsed.lines c.in-Ok-parse_script.parsed.bad) (c.deref.ensures.value ∙ all.0) c.in-Ok-parse_script.ensures in
     rw c.run_status.ensures
     (arms_as left lines c.in-Ok-parse_script.parsed.lines bad c.in-Ok-parse_script.parsed.bad c.run_boxed-disc.result.failure _ _ parsed is c.run_boxed-disc.ensures.arms)
+
+pub returns-clause-stands : goal.returns-clause-stands
+returns-clause-stands g c = λ both has.
+    keeps_filestore g.F.Fn c.args.tariff.now g.U.Fn c.args.weigh.now c.run_boxed-disc.result.failure c.in-Ok-parse_script.parsed.lines c.in-Ok-parse_script.parsed.bad _ _ _ _ c.run_boxed-disc.ensures.ends both has
 
 pub run_boxed-disc-requires-clause-within : goal.run_boxed-disc-requires-clause-within
 run_boxed-disc-requires-clause-within g c = parsed_within _ _ _ c.in-Ok-parse_script.ensures

@@ -13,6 +13,7 @@ changed-requires g c =
     record {
       allowed = may_erase c.args.online.now who path c.args.number c.args.full c.requires.live c.requires.tied
           (granted_at c.args.online.now c.requires.live c.requires.tied who (Erase path) path c.args.number c.args.full (λ t. refl) granted);
+      bare = refl;
     }
 
 pub returns-clause-answers : goal.returns-clause-answers

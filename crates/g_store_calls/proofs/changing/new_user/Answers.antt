@@ -1,4 +1,4 @@
-use Rattle.std.proofs.Common.{None}
+use Rattle.std.proofs.Common.{None, refl}
 use Rattle.g_plain.specs.declared.calls.StoreCall.TheVariants.{NewUser}
 use Rattle.g_plain.specs.declared.calls.StoreReply.TheVariants.{Done}
 use Rattle.g_online.specs.declared.change.Change.TheVariants.{AddUser}
@@ -19,6 +19,7 @@ changed-requires g c = record {
   allowed = may_add c.args.online.now c.made_user-made.result c.requires.live c.requires.tied
       (new_user_on c.args.online.now c.tree.result.now.users c.tree.result.now.files c.args.who.now c.args.user.now c.args.space c.args.time c.args.money c.made_user-made.result c.tree.ensures.users c.tree.ensures.files
       c.made_user-made.ensures).rules;
+  bare = refl;
 }
 
 pub returns-clause-answers : goal.returns-clause-answers

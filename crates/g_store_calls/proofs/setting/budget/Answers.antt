@@ -1,4 +1,4 @@
-use Rattle.std.proofs.Common.{None}
+use Rattle.std.proofs.Common.{None, refl}
 use Rattle.g_plain.specs.declared.calls.StoreCall.TheVariants.{Budget}
 use Rattle.g_plain.specs.declared.calls.StoreReply.TheVariants.{Done}
 use Rattle.g_online.specs.declared.change.Change.TheVariants.{SetUser}
@@ -21,6 +21,7 @@ changed-requires g c =
       allowed = may_set_user c.args.online.now who c.args.user.now c.args.kind c.args.amount c.budgeted_user-rec.result c.requires.live c.requires.tied
           (budgeted_on c.args.online.now c.tree.result.now.users c.tree.result.now.files c.args.user.now c.args.kind c.args.amount c.budgeted_user-rec.result c.tree.ensures.users c.tree.ensures.files
           c.budgeted_user-rec.ensures);
+      bare = refl;
     }
 
 pub returns-clause-answers : goal.returns-clause-answers

@@ -21,6 +21,7 @@ changed-requires g c =
       allowed = may_set_file c.args.online.now who path c.renamed_file-rec.result.0 c.requires.live c.requires.tied (renamed_on c.args.online.now c.tree.result.now.users c.tree.result.now.files who path c.args.to.now c.renamed_file-rec.result.0 c.renamed_file-rec.result.1 c.tree.ensures.users c.tree.ensures.files
           (c.renamed_file-rec.ensures who path
           (granted_on c.args.online.now c.requires.live c.requires.tied who (Rename path c.args.to.now) path c.args.number c.args.full (λ t. refl) granted c.tree.result.now.users c.tree.result.now.files c.tree.ensures.users c.tree.ensures.files))).set;
+      bare = refl;
     }
 
 pub returns-clause-answers : goal.returns-clause-answers

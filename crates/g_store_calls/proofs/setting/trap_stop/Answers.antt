@@ -21,6 +21,7 @@ changed-requires g c =
       allowed = may_set_file c.args.online.now who path c.closed_file-rec.result c.requires.live c.requires.tied (trapped_on c.args.online.now c.tree.result.now.users c.tree.result.now.files who path c.args.user.now (TrapStop path c.args.user.now c.args.modes) c.closed_file-rec.result c.tree.ensures.users c.tree.ensures.files
           (c.closed_file-rec.ensures who path full
           (granted_on c.args.online.now c.requires.live c.requires.tied who (TrapStop path c.args.user.now c.args.modes) path c.args.number full (λ t. refl) granted c.tree.result.now.users c.tree.result.now.files c.tree.ensures.users c.tree.ensures.files))).set;
+      bare = refl;
     }
 
 pub returns-clause-answers : goal.returns-clause-answers

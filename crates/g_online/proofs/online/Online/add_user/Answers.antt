@@ -2,6 +2,7 @@ use Rattle.std.proofs.Common.{ℕ, ◌+◌, ◌∙◌, List, [], ◌∷◌, ◌+
 use Rattle.g_entry.specs.declared.user_rec.UserRec.{UserRec}
 use Rattle.g_online.specs.declared.change.Change.TheVariants.{AddUser}
 use Rattle.g_online.specs.Kept.{Memory}
+use Rattle.g_online.proofs.MemoryLemmas.{memory}
 use Rattle.g_online.proofs.StepLemmas.{IsReady, applied, kept_behind, marked_for, not_applied}
 use Rattle.g_online.proofs.TieLemmas.{some_made}
 use Rattle.g_online.proofs.UserLemmas.{added_ready, added_rules, number_fits}
@@ -9,19 +10,9 @@ use Rattle.g_online.proofs.online.Online.add_user.Goals as goal
 use Rattle.g_online.proofs.online.Online.add_user.Goals.{After-note}
 
 abbrev before : (g : _) (c : After-note g) → Memory
-before g c = record {
-  side = c.self.inside.slots;
-  pages = c.self.inside.pages;
-  pool = c.self.inside.pool;
-  users = c.self.inside.tree.users;
-  files = c.self.inside.tree.files;
-  head = c.self.inside.head;
-  online = c.self.inside.online.items;
-  pins = option_map (λ v. v.items) c.self.inside.pins;
-  changed = c.self.inside.changed;
-  touched = c.self.inside.touched;
-  live = c.self.inside.live;
-}
+before g c =
+    memory c.self.inside.slots c.self.inside.pages c.self.inside.pool c.self.inside.tree.users c.self.inside.tree.files c.self.inside.head
+    c.self.inside.online.items (option_map (λ v. v.items) c.self.inside.pins) c.self.inside.changed c.self.inside.touched c.self.inside.live
 
 ready : (g : _) (c : After-note g) → IsReady (AddUser c.args.user.now) (g.D.Disc.state c.self.inside.disc) (before g c) (record (before g c) {
   head = c.kept_head-self-inside.result;
@@ -32,29 +23,24 @@ ready : (g : _) (c : After-note g) → IsReady (AddUser c.args.user.now) (g.D.Di
   touched = c.note.new.touched;
 })
 ready g c =
-    added_ready c.args.user.now c.copy.result (g.D.Disc.state c.self.inside.disc) _ c.is_some-pinned.result c.kept_head-self-inside.result c.add_user.new.self.users c.add_user.new.self.files
+    added_ready c.args.user.now c.copy.result (g.D.Disc.state c.self.inside.disc) _ c.is_some-pinned.result c.kept_head-self-inside.result
+    c.add_user.new.self.users c.add_user.new.self.files
     (1 + c.from.result) c.changed.new.self c.changed-2.new.self c.note.new.changed c.note.new.touched c.args.self.now c.copy.ensures
-    (c.is_some-pinned.ensures ∙ sym (some_made _ c.self.inside.pins)) c.kept_head-self-inside.ensures (c.add_user.ensures.users ∙ ap (λ (us : List UserRec). us ++ c.copy.result ∷ []) c.reserve.ensures.users)
+    (c.is_some-pinned.ensures ∙ sym (some_made _ c.self.inside.pins)) c.kept_head-self-inside.ensures (c.add_user.ensures.users ∙ ap (λ (us : List UserRec).
+    us ++ c.copy.result ∷ []) c.reserve.ensures.users)
     (c.add_user.ensures.files ∙ c.reserve.ensures.files) (ap (λ (n : ℕ). 1 + n) c.from.ensures) c.note.ensures.changed c.note.ensures.touched
     c.self.view_is c.self.invariant c.requires.allowed
-    c.changed.ensures.marks c.changed.ensures.remembers c.changed.ensures.covers c.changed-2.ensures.marks c.changed-2.ensures.remembers c.changed-2.ensures.covers
+    c.changed.ensures.marks c.changed.ensures.remembers c.changed.ensures.covers c.changed-2.ensures.marks c.changed-2.ensures.remembers
+    c.changed-2.ensures.covers
 
 pub returns-in-Err : goal.returns-in-Err
 returns-in-Err g c =
-    let m : Memory = record {
-      side = c.self.inside.slots;
-      pages = c.self.inside.pages;
-      pool = c.self.inside.pool;
-      users = c.self.inside.tree.users;
-      files = c.self.inside.tree.files;
-      head = c.self.inside.head;
-      online = c.self.inside.online.items;
-      pins = option_map (λ v. v.items) c.self.inside.pins;
-      changed = c.self.inside.changed;
-      touched = c.self.inside.touched;
-      live = c.self.inside.live;
-    } in
-    not_applied (AddUser c.args.user.now) (g.D.Disc.state c.self.inside.disc) m (record m { users = c.reserve.new.self.users; files = c.reserve.new.self.files }) c.args.self.now
+    let m : Memory = memory c.self.inside.slots c.self.inside.pages c.self.inside.pool c.self.inside.tree.users c.self.inside.tree.files c.self.inside.head
+    c.self.inside.online.items (option_map (λ v. v.items) c.self.inside.pins) c.self.inside.changed c.self.inside.touched c.self.inside.live in
+    not_applied (AddUser c.args.user.now) (g.D.Disc.state c.self.inside.disc) m (record m {
+      users = c.reserve.new.self.users;
+      files = c.reserve.new.self.files;
+    }) c.args.self.now
     c.self.view_is c.self.invariant (λ i. record m { users = c.reserve.ensures.users i; files = c.reserve.ensures.files i }) refl refl
 
 pub add_user-requires-clause-rules : goal.add_user-requires-clause-rules
@@ -71,10 +57,13 @@ commit-requires-clause-marked g c =
 
 pub invariant_of-self-2 : goal.invariant_of-self-2
 invariant_of-self-2 g c =
-    kept_behind _ _ _ _ _ _ _ (ready g (goal.at.invariant_of-self-2 g c).After-note) c.commit.new.live c.commit.result c.deref.result.now c.deref.ensures.value
+    kept_behind _ _ _ _ _ _ _ (ready g (goal.at.invariant_of-self-2 g c).After-note) c.commit.new.live c.commit.result c.deref.result.now
+    c.deref.ensures.value
     c.commit.ensures.ok c.commit.ensures.counts c.commit.ensures.whole c.commit.ensures.lives c.commit.ensures.dies
 
 pub returns : goal.returns
 returns g c =
-    applied _ _ _ _ _ _ _ (ready g (goal.at.returns g c).After-note) c.args.self.now c.self.view_is c.commit.new.live c.commit.result c.deref.result.now c.deref.ensures.value
-    c.commit.ensures.ok c.commit.ensures.stopped c.commit.ensures.counts c.commit.ensures.whole c.commit.ensures.only c.commit.ensures.lives c.commit.ensures.dies
+    applied _ _ _ _ _ _ _ (ready g (goal.at.returns g c).After-note) c.args.self.now c.self.view_is c.commit.new.live c.commit.result c.deref.result.now
+    c.deref.ensures.value
+    c.commit.ensures.ok c.commit.ensures.stopped c.commit.ensures.counts c.commit.ensures.whole c.commit.ensures.only c.commit.ensures.lives
+    c.commit.ensures.dies

@@ -6,4 +6,5 @@ use Rattle.g_online.proofs.online.Online.arm.Goals as goal
 pub returns-clause-tied : goal.returns-clause-tied
 returns-clause-tied g c =
     tied (g.D.Disc.state c.arm.new.self) _
-    (kept_still (g.D.Disc.state c.self.inside.disc) (g.D.Disc.state c.arm.new.self) _ (ap (λ (s : DiscState). s.held) c.arm.ensures) (ap (λ (s : DiscState). s.size) c.arm.ensures) c.self.invariant)
+    (kept_still (g.D.Disc.state c.self.inside.disc) (g.D.Disc.state c.arm.new.self) _ (ap (λ (s : DiscState). s.held) c.arm.ensures) (ap (λ (s : DiscState).
+    s.size) c.arm.ensures) c.self.invariant)

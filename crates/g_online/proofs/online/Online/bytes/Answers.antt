@@ -13,12 +13,15 @@ use Rattle.g_online.proofs.online.Online.bytes.Goals.{in-Ok, in-Err-ReadFault, i
 pub unreachable-requires : goal.unreachable-requires
 unreachable-requires g c =
     let on = c.requires.online in
-    no_copy_no (g.D.Disc.state c.self.inside.disc) _ c.args.self.now c.self.view_is c.self.invariant (ap (λ (o : OnlineFacts). o.live) c.self.view_is ∙ c.requires.live) c.args.number c.deref.result.now c.deref.ensures.value on.0 on.1 on.2 on.3 c.in_default.ensures
+    no_copy_no (g.D.Disc.state c.self.inside.disc) _ c.args.self.now c.self.view_is c.self.invariant (ap (λ (o : OnlineFacts). o.live) c.self.view_is ∙
+    c.requires.live) c.args.number c.deref.result.now c.deref.ensures.value on.0 on.1 on.2 on.3 c.in_default.ensures
 
 pub returns-then-copy-eq0-clause-text : goal.returns-then-copy-eq0-clause-text
 returns-then-copy-eq0-clause-text g c = λ f there at.
     subst (λ (text : List ℕ). ForSome f.bytes (λ bytes. text ≡ bytes) × (length text ≡ f.rec.len)) (sym (c.from.ensures ∙ c.new.ensures.items))
-    (empty_is (g.D.Disc.state c.self.inside.disc) _ c.args.self.now c.self.view_is c.self.invariant (ap (λ (o : OnlineFacts). o.live) c.self.view_is ∙ c.requires.live) c.args.number c.deref.result.now c.deref.ensures.value c.copy-copy.result (ap (λ (x : DiscCopy). Some x) c.copy-copy.ensures ∙ c.in-Some.ensures) c.if-copy-eq0.true f there at)
+    (empty_is (g.D.Disc.state c.self.inside.disc) _ c.args.self.now c.self.view_is c.self.invariant (ap (λ (o : OnlineFacts). o.live) c.self.view_is ∙
+    c.requires.live) c.args.number c.deref.result.now c.deref.ensures.value c.copy-copy.result (ap (λ (x : DiscCopy). Some x) c.copy-copy.ensures ∙
+    c.in-Some.ensures) c.if-copy-eq0.true f there at)
 
 pub returns-then-copy-eq0-clause-tied : goal.returns-then-copy-eq0-clause-tied
 returns-then-copy-eq0-clause-tied g c = subst IsTied c.self.view_is (tied (g.D.Disc.state c.self.inside.disc) _ c.self.invariant)
@@ -26,15 +29,19 @@ returns-then-copy-eq0-clause-tied g c = subst IsTied c.self.view_is (tied (g.D.D
 pub read_copy-requires-clause-copy : goal.read_copy-requires-clause-copy
 read_copy-requires-clause-copy g c =
     let on = c.requires.online in
-    copy_is (g.D.Disc.state c.self.inside.disc) _ c.args.self.now c.self.view_is c.self.invariant (ap (λ (o : OnlineFacts). o.live) c.self.view_is ∙ c.requires.live) c.args.number c.deref.result.now c.deref.ensures.value c.copy-copy.result (ap (λ (x : DiscCopy). Some x) c.copy-copy.ensures ∙ c.in-Some.ensures) on.0 on.1 on.2
+    copy_is (g.D.Disc.state c.self.inside.disc) _ c.args.self.now c.self.view_is c.self.invariant (ap (λ (o : OnlineFacts). o.live) c.self.view_is ∙
+    c.requires.live) c.args.number c.deref.result.now c.deref.ensures.value c.copy-copy.result (ap (λ (x : DiscCopy). Some x) c.copy-copy.ensures ∙
+    c.in-Some.ensures) on.0 on.1 on.2
 
 pub returns-clause-text : goal.returns-clause-text
 returns-clause-text g c =
     let Reads : List ℕ → Type 0 = λ text.
-    (f : File) → Contains c.args.self.now.contents.files f → f.rec.number ≡ c.args.number → ForSome f.bytes (λ bytes. text ≡ bytes) × (length text ≡ f.rec.len) in
+    (f : File) → Contains c.args.self.now.contents.files f → f.rec.number ≡ c.args.number → ForSome f.bytes (λ bytes. text ≡ bytes) × (length text ≡
+    f.rec.len) in
     elim c.match-read_copy.branch as (λ _. IfOk c.match-read_copy.result Reads) [
       | in-Ok w ↦ subst (λ (r : Result (List ℕ) OnlineFault). IfOk r Reads) (sym w.result-is)
-          (text_is (g.D.Disc.state c.self.inside.disc) _ c.args.self.now c.self.view_is c.self.invariant (ap (λ (o : OnlineFacts). o.live) c.self.view_is ∙ c.requires.live) c.args.number c.deref.result.now c.deref.ensures.value
+          (text_is (g.D.Disc.state c.self.inside.disc) _ c.args.self.now c.self.view_is c.self.invariant (ap (λ (o : OnlineFacts). o.live) c.self.view_is ∙
+          c.requires.live) c.args.number c.deref.result.now c.deref.ensures.value
           c.copy-copy.result (ap (λ (x : DiscCopy). Some x) c.copy-copy.ensures ∙ c.in-Some.ensures) w.in-Ok.text w.in-Ok.ensures.text w.in-Ok.ensures.len)
       | in-Err-ReadFault w ↦ subst (λ (r : Result (List ℕ) OnlineFault). IfOk r Reads) (sym w.result-is) tt
       | in-Err w ↦ subst (λ (r : Result (List ℕ) OnlineFault). IfOk r Reads) (sym w.result-is) tt
@@ -42,11 +49,14 @@ returns-clause-text g c =
 
 pub returns-clause-filled : goal.returns-clause-filled
 returns-clause-filled g c = λ fault f there at.
-    let len = len_is (g.D.Disc.state c.self.inside.disc) _ c.args.self.now c.self.view_is c.self.invariant (ap (λ (o : OnlineFacts). o.live) c.self.view_is ∙ c.requires.live) c.args.number c.deref.result.now c.deref.ensures.value c.copy-copy.result (ap (λ (x : DiscCopy). Some x) c.copy-copy.ensures ∙ c.in-Some.ensures) f there at in
+    let len = len_is (g.D.Disc.state c.self.inside.disc) _ c.args.self.now c.self.view_is c.self.invariant (ap (λ (o : OnlineFacts). o.live) c.self.view_is ∙
+    c.requires.live) c.args.number c.deref.result.now c.deref.ensures.value c.copy-copy.result (ap (λ (x : DiscCopy). Some x) c.copy-copy.ensures ∙
+    c.in-Some.ensures) f there at in
     let filled = c.if-copy-eq0.false in
     omega (arith, len, filled)
 
 pub returns-clause-tied : goal.returns-clause-tied
 returns-clause-tied g c =
     tied (g.D.Disc.state c.read_copy.new.disc) _
-    (kept_still (g.D.Disc.state c.self.inside.disc) (g.D.Disc.state c.read_copy.new.disc) _ c.read_copy.ensures.counts.held c.read_copy.ensures.counts.size c.self.invariant)
+    (kept_still (g.D.Disc.state c.self.inside.disc) (g.D.Disc.state c.read_copy.new.disc) _ c.read_copy.ensures.counts.held c.read_copy.ensures.counts.size
+    c.self.invariant)

@@ -1,5 +1,6 @@
 use Rattle.std.proofs.Common.{◌∙◌}
-use Rattle.g_online.proofs.CloseLemmas.{close_ready, close_rules, closed_kept, closing_is, lost_to_close, to_close}
+use Rattle.g_online.proofs.CloseLemmas.{close_ready, close_rules, closing_is, lost_to_close, may_close, to_close}
+use Rattle.g_online.proofs.NotedLemmas.{noted_by, noted_kept}
 use Rattle.g_online.proofs.StepLemmas.{copies_for, marked_for}
 use Rattle.g_online.specs.declared.change.Change.TheVariants.{Adopt}
 use Rattle.g_online.specs.Dumped.{noted_in}
@@ -7,48 +8,76 @@ use Rattle.g_online.proofs.online.Online.close_dump.Goals as goal
 
 pub give_lost-requires-clause-apart : goal.give_lost-requires-clause-apart
 give_lost-requires-clause-apart g c =
-    (lost_to_close c.args.last (g.D.Disc.state c.self.inside.disc) _ (to_close c.args.last (g.D.Disc.state c.self.inside.disc) _ c.args.self.now c.self.view_is c.self.invariant c.requires.live c.requires.pinned c.requires.rules)
+    (lost_to_close c.args.last (g.D.Disc.state c.self.inside.disc) _ (to_close c.args.last (g.D.Disc.state c.self.inside.disc) _ c.args.self.now
+    c.self.view_is c.self.invariant c.requires.live c.requires.pinned c.requires.rules)
     c.files.result.now c.pinned_versions-pins.result.now c.files.ensures.value c.pinned_versions-pins.ensures).0
 
 pub give_lost-requires-clause-taken : goal.give_lost-requires-clause-taken
 give_lost-requires-clause-taken g c =
-    (lost_to_close c.args.last (g.D.Disc.state c.self.inside.disc) _ (to_close c.args.last (g.D.Disc.state c.self.inside.disc) _ c.args.self.now c.self.view_is c.self.invariant c.requires.live c.requires.pinned c.requires.rules)
+    (lost_to_close c.args.last (g.D.Disc.state c.self.inside.disc) _ (to_close c.args.last (g.D.Disc.state c.self.inside.disc) _ c.args.self.now
+    c.self.view_is c.self.invariant c.requires.live c.requires.pinned c.requires.rules)
     c.files.result.now c.pinned_versions-pins.result.now c.files.ensures.value c.pinned_versions-pins.ensures).1
 
 pub note_copies-requires : goal.note_copies-requires
 note_copies-requires g c =
-    close_rules c.args.last (g.D.Disc.state c.self.inside.disc) _ (to_close c.args.last (g.D.Disc.state c.self.inside.disc) _ c.args.self.now c.self.view_is c.self.invariant c.requires.live c.requires.pinned c.requires.rules)
+    close_rules c.args.last (g.D.Disc.state c.self.inside.disc) _ (to_close c.args.last (g.D.Disc.state c.self.inside.disc) _ c.args.self.now c.self.view_is
+    c.self.invariant c.requires.live c.requires.pinned c.requires.rules)
     c.files.result.now c.pinned_versions-pins.result.now c.files.ensures.value c.pinned_versions-pins.ensures c.give_lost.new.pool c.give_lost.ensures
 
 pub commit-requires-clause-marked : goal.commit-requires-clause-marked
 commit-requires-clause-marked g c =
     marked_for (Adopt c.args.last (noted_in c.pinned_versions-pins.result.now)) (g.D.Disc.state c.self.inside.disc) _ _
-    (close_ready c.args.last (g.D.Disc.state c.self.inside.disc) _ (to_close c.args.last (g.D.Disc.state c.self.inside.disc) _ c.args.self.now c.self.view_is c.self.invariant c.requires.live c.requires.pinned c.requires.rules)
+    (close_ready c.args.last (g.D.Disc.state c.self.inside.disc) _ (to_close c.args.last (g.D.Disc.state c.self.inside.disc) _ c.args.self.now c.self.view_is
+    c.self.invariant c.requires.live c.requires.pinned c.requires.rules)
     c.files.result.now c.pinned_versions-pins.result.now c.files.ensures.value c.pinned_versions-pins.ensures c.give_lost.new.pool c.give_lost.ensures
-    c.note_copies.new.tree.users c.note_copies.new.tree.files c.changed.new.self c.note_copies.new.pages c.note_copies.ensures.users c.note_copies.ensures.files c.changed.ensures.marks c.changed.ensures.remembers c.changed.ensures.covers c.note_copies.ensures.marks)
+    c.note_copies.new.tree.users c.note_copies.new.tree.files c.changed.new.self c.note_copies.new.pages c.note_copies.ensures.users
+    c.note_copies.ensures.files c.changed.ensures.marks c.changed.ensures.remembers c.changed.ensures.covers c.note_copies.ensures.marks)
     c.deref.result.now c.deref.ensures.value
 
 pub commit-requires-clause-copies : goal.commit-requires-clause-copies
 commit-requires-clause-copies g c =
     copies_for (Adopt c.args.last (noted_in c.pinned_versions-pins.result.now)) (g.D.Disc.state c.self.inside.disc) _ _
-    (close_ready c.args.last (g.D.Disc.state c.self.inside.disc) _ (to_close c.args.last (g.D.Disc.state c.self.inside.disc) _ c.args.self.now c.self.view_is c.self.invariant c.requires.live c.requires.pinned c.requires.rules)
+    (close_ready c.args.last (g.D.Disc.state c.self.inside.disc) _ (to_close c.args.last (g.D.Disc.state c.self.inside.disc) _ c.args.self.now c.self.view_is
+    c.self.invariant c.requires.live c.requires.pinned c.requires.rules)
     c.files.result.now c.pinned_versions-pins.result.now c.files.ensures.value c.pinned_versions-pins.ensures c.give_lost.new.pool c.give_lost.ensures
-    c.note_copies.new.tree.users c.note_copies.new.tree.files c.changed.new.self c.note_copies.new.pages c.note_copies.ensures.users c.note_copies.ensures.files c.changed.ensures.marks c.changed.ensures.remembers c.changed.ensures.covers c.note_copies.ensures.marks)
+    c.note_copies.new.tree.users c.note_copies.new.tree.files c.changed.new.self c.note_copies.new.pages c.note_copies.ensures.users
+    c.note_copies.ensures.files c.changed.ensures.marks c.changed.ensures.remembers c.changed.ensures.covers c.note_copies.ensures.marks)
     c.deref.result.now c.deref.ensures.value
 
 pub invariant_of-self : goal.invariant_of-self
 invariant_of-self g c =
-    closed_kept c.args.last (g.D.Disc.state c.self.inside.disc) _ (to_close c.args.last (g.D.Disc.state c.self.inside.disc) _ c.args.self.now c.self.view_is c.self.invariant c.requires.live c.requires.pinned c.requires.rules)
+    let may =
+    may_close c.args.last (g.D.Disc.state c.self.inside.disc) _
+    (to_close c.args.last (g.D.Disc.state c.self.inside.disc) _ c.args.self.now c.self.view_is c.self.invariant c.requires.live c.requires.pinned
+    c.requires.rules)
     c.files.result.now c.pinned_versions-pins.result.now c.files.ensures.value c.pinned_versions-pins.ensures c.give_lost.new.pool c.give_lost.ensures
-    c.note_copies.new.tree.users c.note_copies.new.tree.files c.changed.new.self c.note_copies.new.pages c.replace-self-inside.result c.replace-self-inside.new.dest c.note_copies.ensures.users c.note_copies.ensures.files c.changed.ensures.marks c.changed.ensures.remembers c.changed.ensures.covers c.note_copies.ensures.marks
-    c.replace-self-inside.ensures.value (c.replace-self-inside.ensures.after ∙ c.new.ensures) (g.D.Disc.state c.commit.new.disc) c.commit.new.slots c.commit.new.pages c.commit.new.live
-    c.commit.result c.deref.result.now c.deref.ensures.value c.commit.ensures.ok c.commit.ensures.counts c.commit.ensures.whole c.commit.ensures.lives c.commit.ensures.dies
+    c.note_copies.new.tree.users c.note_copies.new.tree.files c.changed.new.self c.note_copies.new.pages c.replace-self-inside.result
+    c.replace-self-inside.new.dest
+    c.note_copies.ensures.users c.note_copies.ensures.files c.changed.ensures.marks c.changed.ensures.remembers c.changed.ensures.covers
+    c.note_copies.ensures.marks
+    c.replace-self-inside.ensures.value (c.replace-self-inside.ensures.after ∙ c.new.ensures) in
+    noted_kept _ _ _ _ _ _ _ may (g.D.Disc.state c.commit.new.disc) c.commit.new.slots c.commit.new.pages c.commit.new.live c.commit.result c.deref.result.now
+    c.deref.ensures.value
+    c.commit.ensures.ok c.commit.ensures.counts c.commit.ensures.whole c.commit.ensures.lives c.commit.ensures.dies
 
 pub returns : goal.returns
 returns g c =
-    closing_is c.args.last (g.D.Disc.state c.self.inside.disc) _ (to_close c.args.last (g.D.Disc.state c.self.inside.disc) _ c.args.self.now c.self.view_is c.self.invariant c.requires.live c.requires.pinned c.requires.rules)
+    let may =
+    may_close c.args.last (g.D.Disc.state c.self.inside.disc) _
+    (to_close c.args.last (g.D.Disc.state c.self.inside.disc) _ c.args.self.now c.self.view_is c.self.invariant c.requires.live c.requires.pinned
+    c.requires.rules)
     c.files.result.now c.pinned_versions-pins.result.now c.files.ensures.value c.pinned_versions-pins.ensures c.give_lost.new.pool c.give_lost.ensures
-    c.note_copies.new.tree.users c.note_copies.new.tree.files c.changed.new.self c.note_copies.new.pages c.replace-self-inside.result c.replace-self-inside.new.dest c.note_copies.ensures.users c.note_copies.ensures.files c.changed.ensures.marks c.changed.ensures.remembers c.changed.ensures.covers c.note_copies.ensures.marks
-    c.replace-self-inside.ensures.value (c.replace-self-inside.ensures.after ∙ c.new.ensures) (g.D.Disc.state c.commit.new.disc) c.commit.new.slots c.commit.new.pages c.commit.new.live
-    c.args.self.now c.self.view_is c.commit.result c.deref.result.now c.deref.ensures.value c.commit.ensures.ok c.commit.ensures.stopped c.commit.ensures.counts c.commit.ensures.whole c.commit.ensures.only
-    c.commit.ensures.lives c.commit.ensures.dies
+    c.note_copies.new.tree.users c.note_copies.new.tree.files c.changed.new.self c.note_copies.new.pages c.replace-self-inside.result
+    c.replace-self-inside.new.dest
+    c.note_copies.ensures.users c.note_copies.ensures.files c.changed.ensures.marks c.changed.ensures.remembers c.changed.ensures.covers
+    c.note_copies.ensures.marks
+    c.replace-self-inside.ensures.value (c.replace-self-inside.ensures.after ∙ c.new.ensures) in
+    closing_is c.args.last (g.D.Disc.state c.self.inside.disc) _
+    (to_close c.args.last (g.D.Disc.state c.self.inside.disc) _ c.args.self.now c.self.view_is c.self.invariant c.requires.live c.requires.pinned
+    c.requires.rules)
+    c.files.result.now c.pinned_versions-pins.result.now c.files.ensures.value c.pinned_versions-pins.ensures c.give_lost.new.pool c.give_lost.ensures
+    c.replace-self-inside.result c.args.self.now _ c.commit.result c.replace-self-inside.ensures.value c.self.view_is
+    (noted_by _ _ _ _ _ _ _ may (g.D.Disc.state c.commit.new.disc) c.commit.new.slots c.commit.new.pages c.commit.new.live c.commit.result c.deref.result.now
+    c.deref.ensures.value
+    c.commit.ensures.ok c.commit.ensures.stopped c.commit.ensures.counts c.commit.ensures.whole c.commit.ensures.only c.commit.ensures.lives
+    c.commit.ensures.dies)

@@ -13,12 +13,14 @@ pool_of-requires-clause-places g c =
     let dirs = c.in-Ok.found.1 in
     subst (λ (n : ℕ). AreApart n (numbers_of c.as_slice.result.now)) (sym (c.size.ensures.size ∙ c.in-Ok.ensures.reads.size))
     (subst (λ (l : Copies). AreApart (g.D.Disc.state c.args.disc).size (numbers_of l)) (sym c.as_slice.ensures.value)
-    (found_apart (g.D.Disc.state c.args.disc) (g.D.Disc.state c.find.new.disc) c.in-Ok.found.0 dirs.head dirs.users.items dirs.files.items dirs.online.items c.in-Ok.ensures.found c.in-Ok.ensures.copies))
+    (found_apart (g.D.Disc.state c.args.disc) (g.D.Disc.state c.find.new.disc) c.in-Ok.found.0 dirs.head dirs.users.items dirs.files.items dirs.online.items
+    c.in-Ok.ensures.found c.in-Ok.ensures.copies))
 
 pub from_records-requires : goal.from_records-requires
 from_records-requires g c =
     let dirs = c.in-Ok.found.1 in
-    found_records (g.D.Disc.state c.args.disc) (g.D.Disc.state c.find.new.disc) c.in-Ok.found.0 dirs.head dirs.users.items dirs.files.items dirs.online.items c.in-Ok.ensures.found c.in-Ok.ensures.copies
+    found_records (g.D.Disc.state c.args.disc) (g.D.Disc.state c.find.new.disc) c.in-Ok.found.0 dirs.head dirs.users.items dirs.files.items dirs.online.items
+    c.in-Ok.ensures.found c.in-Ok.ensures.copies
 
 pub begin-requires-clause-agreed : goal.begin-requires-clause-agreed
 begin-requires-clause-agreed g c =
@@ -27,13 +29,17 @@ begin-requires-clause-agreed g c =
     let pool : IsFresh (g.D.Disc.state c.find.new.disc).size (numbers_of dirs.online.items) made.1 =
     subst (λ (n : ℕ). IsFresh n (numbers_of dirs.online.items) made.1) c.size.ensures.size
     (subst (λ (l : Copies). IsFresh c.size.result (numbers_of l) made.1) c.as_slice.ensures.value c.in-Ok-pool_of.ensures.pool) in
-    loaded (g.D.Disc.state c.args.disc) (g.D.Disc.state c.find.new.disc) c.in-Ok.found.0 dirs.head dirs.users.items dirs.files.items dirs.online.items c.in-Ok.ensures.found c.in-Ok.ensures.copies
-    made.0 made.1 c.in-Ok-from_records.tree.users c.in-Ok-from_records.tree.files c.in-Ok.ensures.reads c.in-Ok-pool_of.ensures.pages pool c.in-Ok-from_records.ensures.users c.in-Ok-from_records.ensures.files
+    loaded (g.D.Disc.state c.args.disc) (g.D.Disc.state c.find.new.disc) c.in-Ok.found.0 dirs.head dirs.users.items dirs.files.items dirs.online.items
+    c.in-Ok.ensures.found c.in-Ok.ensures.copies
+    made.0 made.1 c.in-Ok-from_records.tree.users c.in-Ok-from_records.tree.files c.in-Ok.ensures.reads c.in-Ok-pool_of.ensures.pages pool
+    c.in-Ok-from_records.ensures.users c.in-Ok-from_records.ensures.files
 
 pub returns-in-Ok-from_records-clause-ok : goal.returns-in-Ok-from_records-clause-ok
 returns-in-Ok-from_records-clause-ok g c =
     let dirs = c.in-Ok.found.1 in
     let made = c.in-Ok-pool_of.made in
-    has_loaded (g.D.Disc.state c.args.disc) (g.D.Disc.state c.find.new.disc) c.in-Ok.found.0 dirs.head dirs.users.items dirs.files.items dirs.online.items c.in-Ok.ensures.found c.in-Ok.ensures.copies
-    made.0 made.1 c.in-Ok-from_records.tree.users c.in-Ok-from_records.tree.files c.begin.result c.in-Ok.ensures.reads (λ is. cc) c.in-Ok-pool_of.ensures.pages c.in-Ok-from_records.ensures.users c.in-Ok-from_records.ensures.files
+    has_loaded (g.D.Disc.state c.args.disc) (g.D.Disc.state c.find.new.disc) c.in-Ok.found.0 dirs.head dirs.users.items dirs.files.items dirs.online.items
+    c.in-Ok.ensures.found c.in-Ok.ensures.copies
+    made.0 made.1 c.in-Ok-from_records.tree.users c.in-Ok-from_records.tree.files c.begin.result c.in-Ok.ensures.reads (λ is. cc)
+    c.in-Ok-pool_of.ensures.pages c.in-Ok-from_records.ensures.users c.in-Ok-from_records.ensures.files
     c.begin.ensures.facts

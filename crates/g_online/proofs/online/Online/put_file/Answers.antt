@@ -14,5 +14,6 @@ with_new_copy-requires-clause-allowed g c =
 
 pub returns : goal.returns
 returns g c =
-    subst (λ (r : FileRec). IsApplied (PutFile r c.args.bytes.now c.args.unjam.now) c.args.self.now c.with_new_copy.new.self c.with_new_copy.result) c.copy.ensures
+    subst (λ (r : FileRec). IsApplied (PutFile r c.args.bytes.now c.args.unjam.now) c.args.self.now c.with_new_copy.new.self c.with_new_copy.result)
+    c.copy.ensures
     c.with_new_copy.ensures

@@ -6,6 +6,7 @@ use Rattle.g_copy.specs.declared.copy.DiscCopy.{DiscCopy}
 use Rattle.g_online.specs.Kept.{Memory, head_after}
 use Rattle.g_online.specs.Off.{places_off}
 use Rattle.g_online.specs.Put.{TakesBeside, with_bytes}
+use Rattle.g_online.proofs.MemoryLemmas.{memory}
 use Rattle.g_online.proofs.NeedLemmas.{IsAsked, asked_below, asked_blocks, asked_copies, asked_marked, asked_moved, asked_refused, asked_rules, asked_stopped}
 use Rattle.g_online.proofs.NeedLemmas.{full_moved, only_moved, taken_moved, unjammed_copy}
 use Rattle.g_online.proofs.NewBytesLemmas.{IsPrepared, IsPutIn, block_below, bytes_answer, bytes_asked, bytes_ready, bytes_short, commit_answers}
@@ -19,47 +20,29 @@ use Rattle.g_online.proofs.online.Online.with_new_copy.Goals.{After-put_record, 
 
 -- what is in memory when the blocks are taken
 abbrev start : (g : _) (c : In-Ok g) → Memory
-start g c = record {
-  side = c.self.inside.slots;
-  pages = c.self.inside.pages;
-  pool = c.self.inside.pool;
-  users = c.make_ready.new.tree.users;
-  files = c.make_ready.new.tree.files;
-  head = c.self.inside.head;
-  online = c.make_ready.new.online.items;
-  pins = option_map (λ v. v.items) c.self.inside.pins;
-  changed = c.self.inside.changed;
-  touched = c.self.inside.touched;
-  live = c.self.inside.live;
-}
+start g c =
+    memory c.self.inside.slots c.self.inside.pages c.self.inside.pool c.make_ready.new.tree.users c.make_ready.new.tree.files c.self.inside.head
+    c.make_ready.new.online.items (option_map (λ v. v.items) c.self.inside.pins) c.self.inside.changed c.self.inside.touched c.self.inside.live
 
 asked : (g : _) (c : In-Ok g)
     → IsAsked (length c.as_slice-content.result.now) c.as_slice-numbers.result.now (with_bytes c.args.rec c.args.number c.as_slice-content.result.now [])
-    (with_bytes c.args.rec c.args.number c.as_slice-content.result.now c.as_slice-numbers.result.now) c.args.self.now (g.D.Disc.state c.self.inside.disc) (start g c)
+    (with_bytes c.args.rec c.args.number c.as_slice-content.result.now c.as_slice-numbers.result.now) c.args.self.now (g.D.Disc.state c.self.inside.disc)
+    (start g c)
 asked g c =
     asked_moved _ _ _ _ _ _ _ _ _ _ c.make_ready.ensures.users c.make_ready.ensures.files c.make_ready.ensures.items
     (bytes_asked c.args.rec c.args.number c.args.bytes.now _ c.args.unjam.now _ c.args.self.now _ _ c.as_slice-content.ensures c.as_slice-numbers.ensures
     c.self.view_is c.self.invariant c.requires.allowed)
 
 takes : (g : _) (c : In-Ok g)
-    → TakesBeside (places_off c.as_slice-numbers.result.now c.make_ready.new.online.items) (length c.as_slice-content.result.now) c.self.inside.pool c.make_ready.new.pool c.in-Ok.copy
+    → TakesBeside (places_off c.as_slice-numbers.result.now c.make_ready.new.online.items) (length c.as_slice-content.result.now) c.self.inside.pool
+    c.make_ready.new.pool c.in-Ok.copy
 takes g c = taken_moved _ _ _ _ _ _ _ c.make_ready.ensures.items c.in-Ok.ensures.ok
 
 -- and when the files are taken off
 abbrev ready_for : (g : _) (c : In-Ok-unjam_first g) → Memory
-ready_for g c = record {
-  side = c.self.inside.slots;
-  pages = c.self.inside.pages;
-  pool = c.self.inside.pool;
-  users = c.make_ready.new.tree.users;
-  files = c.make_ready.new.tree.files;
-  head = c.self.inside.head;
-  online = c.make_ready.new.online.items;
-  pins = option_map (λ v. v.items) c.self.inside.pins;
-  changed = c.self.inside.changed;
-  touched = c.self.inside.touched;
-  live = c.self.inside.live;
-}
+ready_for g c =
+    memory c.self.inside.slots c.self.inside.pages c.self.inside.pool c.make_ready.new.tree.users c.make_ready.new.tree.files c.self.inside.head
+    c.make_ready.new.online.items (option_map (λ v. v.items) c.self.inside.pins) c.self.inside.changed c.self.inside.touched c.self.inside.live
 
 prepared : (g : _) (c : In-Ok-unjam_first g)
     → IsPrepared c.args.rec c.args.number c.as_slice-content.result.now c.as_slice-numbers.result.now c.args.self.now (g.D.Disc.state c.self.inside.disc)
@@ -81,7 +64,8 @@ prepared g c =
 pub overflow_cast-content : goal.overflow_cast-content
 overflow_cast-content g c =
     let short =
-    (bytes_short c.args.rec c.args.number c.args.bytes.now c.as_slice-content.result.now c.args.unjam.now c.args.self.now (g.D.Disc.state c.self.inside.disc) _
+    (bytes_short c.args.rec c.args.number c.args.bytes.now c.as_slice-content.result.now c.args.unjam.now c.args.self.now (g.D.Disc.state c.self.inside.disc)
+    _
     c.requires.number c.as_slice-content.ensures c.self.view_is c.self.invariant c.requires.allowed).0 in
     omega (arith, short)
 
@@ -105,7 +89,8 @@ make_ready-requires-clause-taken g c =
 
 pub make_ready-requires-clause-len : goal.make_ready-requires-clause-len
 make_ready-requires-clause-len g c =
-    (bytes_short c.args.rec c.args.number c.args.bytes.now c.as_slice-content.result.now c.args.unjam.now c.args.self.now (g.D.Disc.state c.self.inside.disc) _
+    (bytes_short c.args.rec c.args.number c.args.bytes.now c.as_slice-content.result.now c.args.unjam.now c.args.self.now (g.D.Disc.state c.self.inside.disc)
+    _
     c.requires.number c.as_slice-content.ensures c.self.view_is c.self.invariant c.requires.allowed).0
 
 pub invariant_of-self : goal.invariant_of-self
@@ -115,7 +100,8 @@ invariant_of-self g c =
     (bytes_asked c.args.rec c.args.number c.args.bytes.now c.as_slice-content.result.now c.args.unjam.now c.as_slice-numbers.result.now c.args.self.now _ _
     c.as_slice-content.ensures c.as_slice-numbers.ensures c.self.view_is c.self.invariant c.requires.allowed))
     c.in-Err.fault c.make_ready.new.pool c.in-Err.ensures.same
-    (full_moved {T = DiscCopy} (Err c.in-Err.fault) c.as_slice-numbers.result.now c.self.inside.online.items c.make_ready.new.online.items (free_count c.self.inside.pool)
+    (full_moved {T = DiscCopy} (Err c.in-Err.fault) c.as_slice-numbers.result.now c.self.inside.online.items c.make_ready.new.online.items (free_count
+    c.self.inside.pool)
     (blocks_for (length c.as_slice-content.result.now)) c.make_ready.ensures.items c.in-Err.ensures.full)
     (only_moved c.in-Err.fault c.as_slice-numbers.result.now c.self.inside.online.items c.make_ready.new.online.items (free_count c.self.inside.pool)
     (blocks_for (length c.as_slice-content.result.now)) c.make_ready.ensures.items c.in-Err.ensures.only)).0
@@ -128,7 +114,8 @@ returns-in-Err g c =
     (bytes_asked c.args.rec c.args.number c.args.bytes.now c.as_slice-content.result.now c.args.unjam.now c.as_slice-numbers.result.now c.args.self.now _ _
     c.as_slice-content.ensures c.as_slice-numbers.ensures c.self.view_is c.self.invariant c.requires.allowed))
     c.in-Err.fault c.make_ready.new.pool c.in-Err.ensures.same
-    (full_moved {T = DiscCopy} (Err c.in-Err.fault) c.as_slice-numbers.result.now c.self.inside.online.items c.make_ready.new.online.items (free_count c.self.inside.pool)
+    (full_moved {T = DiscCopy} (Err c.in-Err.fault) c.as_slice-numbers.result.now c.self.inside.online.items c.make_ready.new.online.items (free_count
+    c.self.inside.pool)
     (blocks_for (length c.as_slice-content.result.now)) c.make_ready.ensures.items c.in-Err.ensures.full)
     (only_moved c.in-Err.fault c.as_slice-numbers.result.now c.self.inside.online.items c.make_ready.new.online.items (free_count c.self.inside.pool)
     (blocks_for (length c.as_slice-content.result.now)) c.make_ready.ensures.items c.in-Err.ensures.only)).1
@@ -178,34 +165,30 @@ write_new-requires-clause-len g c = (prepared g (goal.at.write_new-requires-clau
 
 pub invariant_of-self-in-Err-write_new : goal.invariant_of-self-in-Err-write_new
 invariant_of-self-in-Err-write_new g c =
-    (writes_stopped _ _ _ _ _ _ _ _ _ _ _ (prepared g (goal.at.invariant_of-self-in-Err-write_new g c).In-Ok-unjam_first) (g.D.Disc.state c.write_new.new.disc) c.write_new.new.live c.in-Err-write_new.fault
-    c.in-Err-write_new.ensures.counts c.in-Err-write_new.ensures.stopped c.write_new.ensures.whole c.in-Err-write_new.ensures.dies c.in-Err-write_new.ensures.only).0
+    (writes_stopped _ _ _ _ _ _ _ _ _ _ _ (prepared g (goal.at.invariant_of-self-in-Err-write_new g c).In-Ok-unjam_first) (g.D.Disc.state
+    c.write_new.new.disc) c.write_new.new.live c.in-Err-write_new.fault
+    c.in-Err-write_new.ensures.counts c.in-Err-write_new.ensures.stopped c.write_new.ensures.whole c.in-Err-write_new.ensures.dies
+    c.in-Err-write_new.ensures.only).0
 
 pub returns-in-Err-write_new : goal.returns-in-Err-write_new
 returns-in-Err-write_new g c =
     bytes_answer c.args.rec c.args.number c.args.bytes.now _ c.args.unjam.now _ c.args.self.now _ _ c.as_slice-content.ensures c.as_slice-numbers.ensures
-    (writes_stopped _ _ _ _ _ _ _ _ _ _ _ (prepared g (goal.at.returns-in-Err-write_new g c).In-Ok-unjam_first) (g.D.Disc.state c.write_new.new.disc) c.write_new.new.live c.in-Err-write_new.fault
-    c.in-Err-write_new.ensures.counts c.in-Err-write_new.ensures.stopped c.write_new.ensures.whole c.in-Err-write_new.ensures.dies c.in-Err-write_new.ensures.only).1
+    (writes_stopped _ _ _ _ _ _ _ _ _ _ _ (prepared g (goal.at.returns-in-Err-write_new g c).In-Ok-unjam_first) (g.D.Disc.state c.write_new.new.disc)
+    c.write_new.new.live c.in-Err-write_new.fault
+    c.in-Err-write_new.ensures.counts c.in-Err-write_new.ensures.stopped c.write_new.ensures.whole c.in-Err-write_new.ensures.dies
+    c.in-Err-write_new.ensures.only).1
 
 -- when the bytes are written, and when all is put in
 abbrev written_in : (g : _) (c : After-put_record g) → List Bool → Memory
-written_in g c pool = record {
-  side = c.unjam_first.new.slots;
-  pages = c.unjam_first.new.pages;
-  pool = pool;
-  users = c.make_ready.new.tree.users;
-  files = c.make_ready.new.tree.files;
-  head = c.unjam_first.new.head;
-  online = c.unjam_first.new.online.items;
-  pins = option_map (λ v. v.items) c.self.inside.pins;
-  changed = c.self.inside.changed;
-  touched = c.self.inside.touched;
-  live = c.unjam_first.new.live;
-}
+written_in g c pool =
+    memory c.unjam_first.new.slots c.unjam_first.new.pages pool c.make_ready.new.tree.users c.make_ready.new.tree.files c.unjam_first.new.head
+    c.unjam_first.new.online.items (option_map (λ v. v.items) c.self.inside.pins) c.self.inside.changed c.self.inside.touched c.unjam_first.new.live
 
 put : (g : _) (c : After-put_record g) (between : List Bool) → HasTaken c.in-Ok.copy.blocks between c.make_ready.new.pool
-    → IsPutIn c.args.number c.in-Ok.copy (written_in g c between) c.args.rec c.make_ready.new.pool c.is_kept_at-keeps.result c.is_some-pinned.result c.changed.new.self
-    (put_in (written_in g c between) c.replace_copy.new.pool c.changed-2.new.self c.kept_head-self-inside.result c.put_record.new.tree.users c.put_record.new.tree.files
+    → IsPutIn c.args.number c.in-Ok.copy (written_in g c between) c.args.rec c.make_ready.new.pool c.is_kept_at-keeps.result c.is_some-pinned.result
+    c.changed.new.self
+    (put_in (written_in g c between) c.replace_copy.new.pool c.changed-2.new.self c.kept_head-self-inside.result c.put_record.new.tree.users
+    c.put_record.new.tree.files
     c.replace_copy.new.online.items c.put_record.new.changed c.put_record.new.touched)
 put g c between taken = record {
   taken = taken;
@@ -236,19 +219,22 @@ replace_copy-requires-clause-room g c = c.in-Ok-unjam_first.ensures.room c.in-Ok
 pub replace_copy-requires-clause-apart : goal.replace_copy-requires-clause-apart
 replace_copy-requires-clause-apart g c = λ free.
     let it = prepared g (goal.at.replace_copy-requires-clause-apart g c).In-Ok-unjam_first in
-    (may_give_back _ _ _ _ _ _ _ _ _ (has_written _ _ _ _ _ _ _ _ _ _ _ it (g.D.Disc.state c.write_new.new.disc) c.write_new.ensures.whole c.in-Ok-write_new.ensures.counts c.in-Ok-write_new.ensures.ok)
+    (may_give_back _ _ _ _ _ _ _ _ _ (has_written _ _ _ _ _ _ _ _ _ _ _ it (g.D.Disc.state c.write_new.new.disc) c.write_new.ensures.whole
+    c.in-Ok-write_new.ensures.counts c.in-Ok-write_new.ensures.ok)
     c.make_ready.new.pool c.is_kept_at-keeps.result it.takes.takes c.is_kept_at-keeps.ensures free).0
 
 pub replace_copy-requires-clause-taken : goal.replace_copy-requires-clause-taken
 replace_copy-requires-clause-taken g c = λ free.
     let it = prepared g (goal.at.replace_copy-requires-clause-taken g c).In-Ok-unjam_first in
-    (may_give_back _ _ _ _ _ _ _ _ _ (has_written _ _ _ _ _ _ _ _ _ _ _ it (g.D.Disc.state c.write_new.new.disc) c.write_new.ensures.whole c.in-Ok-write_new.ensures.counts c.in-Ok-write_new.ensures.ok)
+    (may_give_back _ _ _ _ _ _ _ _ _ (has_written _ _ _ _ _ _ _ _ _ _ _ it (g.D.Disc.state c.write_new.new.disc) c.write_new.ensures.whole
+    c.in-Ok-write_new.ensures.counts c.in-Ok-write_new.ensures.ok)
     c.make_ready.new.pool c.is_kept_at-keeps.result it.takes.takes c.is_kept_at-keeps.ensures free).1
 
 pub changed-requires-2 : goal.changed-requires-2
 changed-requires-2 g c =
     block_below c.args.number c.from.result c.from.ensures
-    (bytes_short c.args.rec c.args.number c.args.bytes.now c.as_slice-content.result.now c.args.unjam.now c.args.self.now (g.D.Disc.state c.self.inside.disc) _
+    (bytes_short c.args.rec c.args.number c.args.bytes.now c.as_slice-content.result.now c.args.unjam.now c.args.self.now (g.D.Disc.state c.self.inside.disc)
+    _
     c.requires.number c.as_slice-content.ensures c.self.view_is c.self.invariant c.requires.allowed).1
 
 pub put_record-requires-clause-room : goal.put_record-requires-clause-room
@@ -257,13 +243,15 @@ put_record-requires-clause-room g c = c.in-Ok.ensures.spare
 pub put_record-requires-clause-rules : goal.put_record-requires-clause-rules
 put_record-requires-clause-rules g c =
     record_fits _ _ _ _ _ _ _ _ _
-    (has_written _ _ _ _ _ _ _ _ _ _ _ (prepared g (goal.at.put_record-requires-clause-rules g c).In-Ok-unjam_first) (g.D.Disc.state c.write_new.new.disc) c.write_new.ensures.whole
+    (has_written _ _ _ _ _ _ _ _ _ _ _ (prepared g (goal.at.put_record-requires-clause-rules g c).In-Ok-unjam_first) (g.D.Disc.state c.write_new.new.disc)
+    c.write_new.ensures.whole
     c.in-Ok-write_new.ensures.counts c.in-Ok-write_new.ensures.ok)
 
 pub put_record-requires-clause-owner : goal.put_record-requires-clause-owner
 put_record-requires-clause-owner g c =
     owner_fits _ _ _ _ _ _ _ _ _
-    (has_written _ _ _ _ _ _ _ _ _ _ _ (prepared g (goal.at.put_record-requires-clause-owner g c).In-Ok-unjam_first) (g.D.Disc.state c.write_new.new.disc) c.write_new.ensures.whole
+    (has_written _ _ _ _ _ _ _ _ _ _ _ (prepared g (goal.at.put_record-requires-clause-owner g c).In-Ok-unjam_first) (g.D.Disc.state c.write_new.new.disc)
+    c.write_new.ensures.whole
     c.in-Ok-write_new.ensures.counts c.in-Ok-write_new.ensures.ok)
 
 pub commit-requires-clause-copies : goal.commit-requires-clause-copies
@@ -272,7 +260,8 @@ commit-requires-clause-copies g c =
     let it = prepared g at.In-Ok-unjam_first in
     copies_for (with_bytes c.args.rec c.args.number c.as_slice-content.result.now []) (g.D.Disc.state c.write_new.new.disc) _ _
     (bytes_ready _ _ _ _ _ _ _ _ _
-    (has_written _ _ _ _ _ _ _ _ _ _ _ it (g.D.Disc.state c.write_new.new.disc) c.write_new.ensures.whole c.in-Ok-write_new.ensures.counts c.in-Ok-write_new.ensures.ok)
+    (has_written _ _ _ _ _ _ _ _ _ _ _ it (g.D.Disc.state c.write_new.new.disc) c.write_new.ensures.whole c.in-Ok-write_new.ensures.counts
+    c.in-Ok-write_new.ensures.ok)
     _ _ _ _ _ _ _ _ _ _ _ _ (put g at.After-put_record it.takes.between it.takes.takes))
     c.deref.result.now c.deref.ensures.value
 
@@ -282,7 +271,8 @@ commit-requires-clause-marked g c =
     let it = prepared g at.In-Ok-unjam_first in
     marked_for (with_bytes c.args.rec c.args.number c.as_slice-content.result.now []) (g.D.Disc.state c.write_new.new.disc) _ _
     (bytes_ready _ _ _ _ _ _ _ _ _
-    (has_written _ _ _ _ _ _ _ _ _ _ _ it (g.D.Disc.state c.write_new.new.disc) c.write_new.ensures.whole c.in-Ok-write_new.ensures.counts c.in-Ok-write_new.ensures.ok)
+    (has_written _ _ _ _ _ _ _ _ _ _ _ it (g.D.Disc.state c.write_new.new.disc) c.write_new.ensures.whole c.in-Ok-write_new.ensures.counts
+    c.in-Ok-write_new.ensures.ok)
     _ _ _ _ _ _ _ _ _ _ _ _ (put g at.After-put_record it.takes.between it.takes.takes))
     c.deref.result.now c.deref.ensures.value
 
@@ -290,10 +280,12 @@ pub invariant_of-self-2 : goal.invariant_of-self-2
 invariant_of-self-2 g c =
     let at = goal.at.invariant_of-self-2 g c in
     let it = prepared g at.In-Ok-unjam_first in
-    kept_behind (with_bytes c.args.rec c.args.number c.as_slice-content.result.now []) (g.D.Disc.state c.write_new.new.disc) (g.D.Disc.state c.commit.new.disc) _ _
+    kept_behind (with_bytes c.args.rec c.args.number c.as_slice-content.result.now []) (g.D.Disc.state c.write_new.new.disc) (g.D.Disc.state
+    c.commit.new.disc) _ _
     c.commit.new.slots c.commit.new.pages
     (bytes_ready _ _ _ _ _ _ _ _ _
-    (has_written _ _ _ _ _ _ _ _ _ _ _ it (g.D.Disc.state c.write_new.new.disc) c.write_new.ensures.whole c.in-Ok-write_new.ensures.counts c.in-Ok-write_new.ensures.ok)
+    (has_written _ _ _ _ _ _ _ _ _ _ _ it (g.D.Disc.state c.write_new.new.disc) c.write_new.ensures.whole c.in-Ok-write_new.ensures.counts
+    c.in-Ok-write_new.ensures.ok)
     _ _ _ _ _ _ _ _ _ _ _ _ (put g at.After-put_record it.takes.between it.takes.takes))
     c.commit.new.live c.commit.result c.deref.result.now c.deref.ensures.value c.commit.ensures.ok c.commit.ensures.counts c.commit.ensures.whole
     (subst (λ (l : Bool). OnOk c.commit.result (c.commit.new.live ≡ l)) c.in-Ok-write_new.ensures.lives c.commit.ensures.lives) c.commit.ensures.dies
@@ -306,7 +298,8 @@ returns g c =
     (commit_answers _ _ _ _ _ _ _ _ _ _ _ it (g.D.Disc.state c.write_new.new.disc) (g.D.Disc.state c.commit.new.disc) _
     c.commit.new.slots c.commit.new.pages c.commit.new.live c.commit.result c.deref.result.now
     (bytes_ready _ _ _ _ _ _ _ _ _
-    (has_written _ _ _ _ _ _ _ _ _ _ _ it (g.D.Disc.state c.write_new.new.disc) c.write_new.ensures.whole c.in-Ok-write_new.ensures.counts c.in-Ok-write_new.ensures.ok)
+    (has_written _ _ _ _ _ _ _ _ _ _ _ it (g.D.Disc.state c.write_new.new.disc) c.write_new.ensures.whole c.in-Ok-write_new.ensures.counts
+    c.in-Ok-write_new.ensures.ok)
     _ _ _ _ _ _ _ _ _ _ _ _ (put g at.After-put_record it.takes.between it.takes.takes))
     c.deref.ensures.value c.commit.ensures.ok c.commit.ensures.stopped c.commit.ensures.counts c.commit.ensures.whole c.commit.ensures.only
     (subst (λ (l : Bool). OnOk c.commit.result (c.commit.new.live ≡ l)) c.in-Ok-write_new.ensures.lives c.commit.ensures.lives) c.commit.ensures.dies)

@@ -1,0 +1,534 @@
+-- How PROCESS is answered, where something was written.
+use Rattle.std.proofs.Common.{◌≡◌, ◌≢◌, ℕ, zero, suc, ◌+◌, ◌-◌, ◌<◌, ◌≤◌, true, false, List, [], ◌∷◌, get_or, length, map, take, Option, Some, None, Ok, Err, refl, sym, ◌∙◌, ap, arith, subst, inl, inr, slice_get, ◌==◌}
+use Rattle.std.specs.Prelude.{◌⊎◌, All, Contains, Result, is_some}
+use Rattle.std.specs.List.{AllZip}
+use Rattle.std.specs.List.Sorted.{IsStrictlyIncreasing}
+use Rattle.std.specs.Option.{ForSome}
+use Rattle.std.proofs.lemmas.Bool.{cond-false, cond-true, eq-eqb, ne_eqb}
+use Rattle.std.proofs.lemmas.Bool.Decides.{eqb_tells}
+use Rattle.std.proofs.lemmas.List.Elements.{Contains-append_right, Contains-get_or}
+use Rattle.std.proofs.lemmas.List.Sums.{sum_by-cons}
+use Rattle.std.proofs.lemmas.Option.{none-some, same_Some}
+use Rattle.g_base.specs.Block.{IsBlock, blocks_for}
+use Rattle.g_base.specs.Counts.{Rose, RoseBy}
+use Rattle.g_entry.specs.declared.file_rec.FileRec.{FileRec}
+use Rattle.g_entry.specs.declared.file_rec.TapeCopy.{TapeCopy}
+use Rattle.g_entry.specs.declared.head.Intent.{Intent}
+use Rattle.g_tape.specs.Rack.{AreReels, Rack, reel}
+use Rattle.g_tape.specs.Reads.{HasRead, OnlyReads, blocks_in, blocks_of as blocks_at, time_of, unread}
+use Rattle.g_tape.specs.Reel.{Reel, left_by}
+use Rattle.g_tape.proofs.ReadLemmas.{blocks_after_reads, is_reel, reel_after_reads, then_read}
+use Rattle.g_plain.specs.declared.faults.StoreFault.{StoreFault}
+use Rattle.g_plain.specs.declared.faults.StoreFault.TheVariants.{DiscReadFault, Stopped, TapeReadFault}
+use Rattle.g_contents.specs.Commits.{Commits}
+use Rattle.g_contents.specs.Contents.{Contents, File, Holds, with_intent}
+use Rattle.g_contents.specs.Facts.{IsTied, Layout, OnlineFacts}
+use Rattle.g_incr.specs.Layout.{Dump, is_between}
+use Rattle.g_incr.specs.Plan.{IsAway, Plan, blocks_of, content_blocks, dump_of, first_content, needs, waiting}
+use Rattle.g_online.specs.Ready.{HasAdopted, adopted}
+use Rattle.g_shelf.specs.Completed.{AreCompleted}
+use Rattle.g_state.specs.Answers.{WroteCommits}
+use Rattle.g_state.specs.Meaning.{told_reels}
+use Rattle.g_state.specs.Reading.{AllTold}
+use Rattle.g_state.specs.Up.{StoreFacts}
+use Rattle.g_state_process.specs.Forgotten.{bare_rec}
+use Rattle.g_state_process.proofs.ReleaseLemmas.{one_block_is_none}
+use Rattle.g_dumper.specs.Beginning.{intent_of}
+use Rattle.g_dumper.specs.Keeps.{spent_with, up_with}
+use Rattle.g_dumper.proofs.BeginLemmas.{after_reads}
+use Rattle.g_dumper.proofs.IntentLemmas.{rules_here}
+use Rattle.g_dumper.proofs.KeepLemmas.{store_spent}
+use Rattle.g_process.specs.declared.job.Job.{Job}
+use Rattle.g_process.specs.Planned.{IsFree, copies_from, living, process_plan, versions}
+use Rattle.g_process.specs.Prepared.{AtBlock, AtCopies, AtIntent, AtRelease, CarriesOut, HasIntended, IsGranted, IsPrepared, Preparing, StopsAt, copies_of}
+use Rattle.g_process.specs.Processing.{CutCopies, CutDump, CutIntent, CutRelease, StopLeaves, intended_by, moved_by, process_copies, process_intent, IsDumped, IsLeftBy, IsOther, IsReleased, HasReadFile, IsReadBy, Processes, behind_process, process_refuses}
+use Rattle.g_process.specs.Releases.{AreReleased, released, taken}
+use Rattle.g_process.specs.Written.{FailedAt, FailsReading, HasWritten, IsSource, filled}
+use Rattle.g_process.proofs.BecomeLemmas.{Becomes, all_cons, apart_of, at_name, at_serial, becomes_filled, becomes_left, becomes_read, becomes_released, becomes_then, both_at, label_left, labels, left_name, released_name, times_left, labels_beside, labels_changed, labels_reads, labels_released, same_serials, same_told, zip_labels}
+use Rattle.g_process.proofs.ContentLemmas.{all_read, within_content}
+use Rattle.g_process.proofs.DumpLemmas.{content_at, content_of, one_dump}
+use Rattle.g_process.proofs.DoneLemmas.{IsHeldBy, at_this, held_left, held_part, reels_held, reels_left, reels_part, reels_read, two_commits, two_rise}
+use Rattle.g_process.proofs.ListLemmas.{free_by_list, noted_at}
+use Rattle.g_process.proofs.PlanLemmas.{all_versions, plan_files}
+use Rattle.g_process.proofs.ProcessLemmas.{none_refused, refuses_early, refuses_late, store_up}
+use Rattle.g_process.proofs.ReelLemmas.{filled_serial, read_later}
+use Rattle.g_process.proofs.ReleaseLemmas.{AreApart, times_released}
+use Rattle.g_process.proofs.WriteLemmas.{contained}
+
+some_reel : (x : Option Reel) → is_some x ≡ true → (r : Reel) × (x ≡ Some r)
+some_reel None is = absurd (let no : ⊥ = cc in no)
+some_reel (Some r) is = (r, refl)
+
+module _ (job : Job) (o : OnlineFacts) (old mid : Rack) (live : o.live ≡ true) (pins : o.pins ≡ None) (tied : IsTied o) (are : AreReels old.reels) (only : OnlyReads old mid)
+    (granted : IsGranted job.serial o old) (ready : IsPrepared job.serial o old mid job) where
+  abbrev serial : ℕ
+  serial = job.serial
+
+  abbrev was : StoreFacts
+  was = up_with o old None
+
+  abbrev plan : Plan
+  plan = job.writer
+
+  abbrev rs : List FileRec
+  rs = job.versions.items
+
+  never_refused : (answer : Result ℕ StoreFault) (s : StoreFacts) → (f : StoreFault) → process_refuses serial was ≡ Some f → (answer ≡ Err f) × (s ≡ was)
+  never_refused answer s f is = absurd (none-some f (sym (none_refused serial o old granted) ∙ is))
+
+  free : IsFree serial old
+  free =
+      let (r, at) = some_reel (reel serial old.reels) granted.there in
+      free_by_list serial old mid job.lists.items r ready.listed at ready.free
+
+  -- serials, capacities, mountings, and whether a reel tells
+  labels_mid : labels mid.reels ≡ labels old.reels
+  labels_mid = labels_reads old mid only.reels
+
+  apart_by : (x : Rack) → labels x.reels ≡ labels old.reels → AreApart x.reels
+  apart_by x same = apart_of x.reels (subst IsStrictlyIncreasing (sym (same_serials old.reels x.reels same)) are.rising)
+
+  told_by : (o' : OnlineFacts) (new : Rack) → is_some o'.disc.held ≡ is_some o.disc.held → labels new.reels ≡ labels old.reels → AllTold o.disc.held (told_reels old) → AllTold o'.disc.held (told_reels new)
+  told_by o' new disc same told = record { disc = disc ∙ told.disc; each = record { each = same_told old.reels new.reels same told.each.each } }
+
+  labels_written : (begun : OnlineFacts) (k : ℕ) (new : Rack) → HasWritten serial plan rs begun k mid new → labels new.reels ≡ labels old.reels
+  labels_written begun k new so = labels_beside serial so.written mid new so.rack ∙ labels_mid
+
+  labels_failed : (k : ℕ) (s : ℕ) (x new : Rack) → FailedAt s k x new → labels x.reels ≡ labels old.reels → labels new.reels ≡ labels old.reels
+  labels_failed k s x new failed same =
+      labels_changed s (left_by failed.how k) (label_left failed.how k) failed.mid new (ap (λ (y : Rack). y.reels) failed.rack) ∙ labels_reads x failed.mid failed.reads.reels ∙ same
+
+  become_written : (begun : OnlineFacts) (k : ℕ) (new : Rack) → (so : HasWritten serial plan rs begun k mid new) → Becomes (at_serial serial (filled so.written)) old new
+  become_written begun k new so =
+      becomes_then (λ r. r) (at_serial serial (filled so.written)) old mid new (becomes_read old mid only.reels) (becomes_filled serial so.written mid new (apart_by mid labels_mid) so.rack)
+
+  -- what the disc names
+  intent_is : intent_of plan ≡ process_intent serial o
+  intent_is = ready.may.intent_is ∙ ap (λ (n : ℕ). let i : Intent = record { serial = serial; place = 0; number = n } in i) ready.may.number_is
+
+  begun_is : with_intent (Some (intent_of plan)) o.contents ≡ intended_by serial o
+  begun_is = ap (λ (i : Intent). with_intent (Some i) o.contents) intent_is
+
+  copies_are : copies_of job o ≡ process_copies serial o
+  copies_are = ap (λ (p : Plan). copies_from serial (first_content p) (versions o.contents)) ready.plan
+
+  moved_is : (begun : OnlineFacts) → HasIntended (intent_of plan) o begun → adopted job.number (copies_of job o) begun.contents ≡ moved_by serial o
+  moved_is begun intended =
+      ap (adopted job.number (copies_of job o)) intended.contents ∙ ap (λ (n : ℕ). adopted n (copies_of job o) o.contents) ready.may.number_is
+      ∙ ap (λ (cs : List (ℕ × TapeCopy)). adopted (o.contents.head.last_dump + 1) cs o.contents) copies_are
+
+  holds_either : (begun : OnlineFacts) → HasIntended (intent_of plan) o begun → {held : Option (List (List ℕ))}
+      → ForSome held (λ blocks. Holds blocks begun.contents ⊎ Holds blocks (adopted job.number (copies_of job o) begun.contents))
+      → ForSome held (λ blocks. Holds blocks (intended_by serial o) ⊎ Holds blocks (moved_by serial o))
+  holds_either begun intended either = λ blocks is. by_case blocks (either blocks is)
+    where
+      by_case : (blocks : List (List ℕ)) → Holds blocks begun.contents ⊎ Holds blocks (adopted job.number (copies_of job o) begun.contents)
+          → Holds blocks (intended_by serial o) ⊎ Holds blocks (moved_by serial o)
+      by_case blocks (inl was) = inl (subst (Holds blocks) (intended.contents ∙ begun_is) was)
+      by_case blocks (inr now) = inr (subst (Holds blocks) (moved_is begun intended) now)
+
+  -- A READ FAILED behind the intent
+  module _ (o' : OnlineFacts) (new : Rack) (tied' : IsTied o') (are_new : AreReels new.reels) where
+    after_reading : (f : Reel → Reel) → Becomes (at_serial serial f) old new → AllZip (IsReadBy serial) old.reels new.reels
+    after_reading f is = reels_read serial f old new is
+
+    pub fails_disc : (begun : OnlineFacts) (k : ℕ) (m : Rack) → HasIntended (intent_of plan) o begun → HasWritten serial plan rs begun k mid m → FailsReading DiscReadFault begun o' m new
+        → (let r : Result ℕ StoreFault = Err DiscReadFault in Processes serial was r (up_with o' new None))
+    fails_disc begun k m intended so (rose, is, same) = record {
+      refused = never_refused (Err DiscReadFault) (up_with o' new None);
+      granted = λ _. tt;
+      same = λ early. absurd (early tt);
+      taken = λ n e. absurd (let no : ⊥ = cc in no);
+      lost = λ full n e. absurd (let no : ⊥ = cc in no);
+      full = λ need room e. absurd (let no : ⊥ = cc in no);
+      done = record {
+        contents = inr (ap (λ (x : OnlineFacts). x.contents) is ∙ intended.contents ∙ begun_is);
+        changed = ap (λ (x : OnlineFacts). x.changed) is ∙ intended.changed;
+        reels = after_reading (filled so.written) (subst (λ (x : Rack). Becomes (at_serial serial (filled so.written)) old x) (sym same) (become_written begun k m so));
+      };
+      cause = record {
+        size = ap (λ (x : OnlineFacts). x.disc.size) is ∙ intended.causes.size;
+        reels = zip_labels old.reels new.reels (ap (λ (x : Rack). labels x.reels) same ∙ labels_written begun k m so);
+        disc_arms = ap (λ (x : OnlineFacts). x.disc.arms) is ∙ intended.causes.arms;
+        tape_arms = ap (λ (x : Rack). x.arms) same ∙ so.rack.arms ∙ only.arms;
+        disc_read = λ _. subst (λ (n : ℕ). Rose n o'.disc.read_faults) (intended.causes.reads_kept (λ no. no)) rose;
+        disc_read_only = λ isnt. absurd (isnt refl);
+        tape_read = λ e. absurd (let no : ⊥ = cc in no);
+        tape_read_only = λ _. ap (λ (x : Rack). x.read_faults) same ∙ so.kept ∙ ready.kept;
+        cut = λ e. absurd (let no : ⊥ = cc in no);
+        uncut = λ _. (ap (λ (x : OnlineFacts). x.disc.write_faults) is ∙ intended.causes.writes_kept (λ no. no), ap (λ (x : Rack). x.write_faults) same ∙ so.rack.write_faults ∙ only.write_faults);
+      };
+      wrote = one_commit o' begun intended (ap (λ (x : OnlineFacts). x.layout) is) (ap (λ (x : OnlineFacts). x.disc.writes) is);
+      keeps = store_up o' new (ap (λ (x : OnlineFacts). x.live) is ∙ intended.live) (ap (λ (x : OnlineFacts). x.pins) is ∙ intended.pins) tied';
+      told = told_by o' new (ap (λ (x : OnlineFacts). is_some x.disc.held) is ∙ intended.told) (ap (λ (x : Rack). labels x.reels) same ∙ labels_written begun k m so);
+      spent = (λ e. absurd (let no : ⊥ = cc in no), λ e. absurd (let no : ⊥ = cc in no));
+      dump = λ _. refl;
+    }
+      where
+        one_commit : (x begun : OnlineFacts) → HasIntended (intent_of plan) o begun → x.layout ≡ begun.layout → x.disc.writes ≡ begun.disc.writes → WroteCommits 1 was (up_with x new None)
+        one_commit x begun intended layout writes = record {
+          blocks = intended.blocks;
+          commits = subst (λ (l : Layout). Commits 1 o.layout l intended.blocks) (sym layout) intended.commits;
+          writes = subst (λ (n : ℕ). RoseBy intended.blocks o.disc.writes n) (sym writes) intended.writes;
+        }
+
+    pub fails_tape : (begun : OnlineFacts) (k : ℕ) (m : Rack) → HasIntended (intent_of plan) o begun → HasWritten serial plan rs begun k mid m → FailsReading TapeReadFault begun o' m new
+        → (let r : Result ℕ StoreFault = Err TapeReadFault in Processes serial was r (up_with o' new None))
+    fails_tape begun k m intended so (rose, same, is) = record {
+      refused = never_refused (Err TapeReadFault) (up_with o' new None);
+      granted = λ _. tt;
+      same = λ early. absurd (early tt);
+      taken = λ n e. absurd (let no : ⊥ = cc in no);
+      lost = λ full n e. absurd (let no : ⊥ = cc in no);
+      full = λ need room e. absurd (let no : ⊥ = cc in no);
+      done = record {
+        contents = inr (ap (λ (x : OnlineFacts). x.contents) is ∙ intended.contents ∙ begun_is);
+        changed = ap (λ (x : OnlineFacts). x.changed) is ∙ intended.changed;
+        reels = after_reading (filled so.written) (record { all = ap (λ (x : Rack). map unread x.reels) same ∙ (become_written begun k m so).all });
+      };
+      cause = record {
+        size = ap (λ (x : OnlineFacts). x.disc.size) is ∙ intended.causes.size;
+        reels = zip_labels old.reels new.reels (ap (λ (x : Rack). labels x.reels) same ∙ labels_written begun k m so);
+        disc_arms = ap (λ (x : OnlineFacts). x.disc.arms) is ∙ intended.causes.arms;
+        tape_arms = ap (λ (x : Rack). x.arms) same ∙ so.rack.arms ∙ only.arms;
+        disc_read = λ e. absurd (let no : ⊥ = cc in no);
+        disc_read_only = λ _. ap (λ (x : OnlineFacts). x.disc.read_faults) is ∙ intended.causes.reads_kept (λ no. no);
+        tape_read = λ _. subst (λ (n : ℕ). Rose n new.read_faults) (so.kept ∙ ready.kept) rose;
+        tape_read_only = λ isnt. absurd (isnt refl);
+        cut = λ e. absurd (let no : ⊥ = cc in no);
+        uncut = λ _. (ap (λ (x : OnlineFacts). x.disc.write_faults) is ∙ intended.causes.writes_kept (λ no. no), ap (λ (x : Rack). x.write_faults) same ∙ so.rack.write_faults ∙ only.write_faults);
+      };
+      wrote = inr (record {
+        blocks = intended.blocks;
+        commits = subst (λ (x : OnlineFacts). Commits 1 o.layout x.layout intended.blocks) (sym is) intended.commits;
+        writes = subst (λ (x : OnlineFacts). RoseBy intended.blocks o.disc.writes x.disc.writes) (sym is) intended.writes;
+      });
+      keeps = store_up o' new (ap (λ (x : OnlineFacts). x.live) is ∙ intended.live) (ap (λ (x : OnlineFacts). x.pins) is ∙ intended.pins) tied';
+      told = told_by o' new (ap (λ (x : OnlineFacts). is_some x.disc.held) is ∙ intended.told) (ap (λ (x : Rack). labels x.reels) same ∙ labels_written begun k m so);
+      spent = (λ e. absurd (let no : ⊥ = cc in no), λ e. absurd (let no : ⊥ = cc in no));
+      dump = λ _. refl;
+    }
+
+    -- DONE
+    file_there : (fs : List File) (f : File) → Contains fs f → Contains (map (λ (x : File). x.rec) fs) f.rec
+    file_there [] f (i, within, same) = absurd (let no : ⊥ = omega (arith, within) in no)
+    file_there (g ∷ gs) f (zero, within, same) = (0, omega arith, ap (λ (x : File). x.rec) same)
+    file_there (g ∷ gs) f (suc i, within, same) =
+        let (j, inside, at) = file_there gs f (i, omega (arith, within), same) in
+        (suc j, omega (arith, inside), at)
+
+    -- each block of each version, by the rack as it was and as it is
+    source_all : (m : Rack) (begun : OnlineFacts) → HasIntended (intent_of plan) o begun → (so : HasWritten serial plan rs begun (needs plan) mid m) → ((s k : ℕ) → time_of s k m ≤ time_of s k new)
+        → (i : ℕ) (r : FileRec) → slice_get rs i ≡ Some r → (part : ℕ) → part < blocks_for r.len
+        → (block : List ℕ) × (slice_get so.written (1 + length plan.users + length plan.files + (blocks_of (take i (waiting plan.files)) + part)) ≡ Some block) × IsSource o old new r part block
+    source_all m begun intended so times i r at part within =
+        let (block, is, source) = all_read serial plan rs begun mid m ready.may.writable.readable.waiting_are so i r at part within in (
+          block,
+          is,
+          record {
+            online = λ f there named on. source.online f (subst (λ (c : Contents). Contains c.files f) (sym intended.contents) there) named on;
+            offline = λ f there named off copy tape.
+                let (told, read) = source.offline f (subst (λ (c : Contents). Contains c.files f) (sym intended.contents) there) named off copy tape in
+                let first : HasRead copy.serial (copy.first + part) old m = then_read copy.serial (copy.first + part) old mid m only read in (
+                  λ blocks known. told blocks (blocks_after_reads copy.serial old mid only ∙ known),
+                  read_later copy.serial (copy.first + part) old m new first (times copy.serial (copy.first + part)),
+                );
+          },
+        )
+
+    read_all : (m : Rack) (begun : OnlineFacts) → HasIntended (intent_of plan) o begun → HasWritten serial plan rs begun (needs plan) mid m → AreReleased (taken serial job.lists.items) m new
+        → (f : File) → Contains o.contents.files f → HasReadFile was (up_with o' new None) f
+    read_all m begun intended so gone f there = λ off copy tape i from to.
+        let rules = rules_here o live tied in
+        let some : 0 < f.rec.len = omega (arith, from, to) in
+        let in_versions = all_versions o.contents f.rec rules.records (file_there o.contents.files f there) some in
+        let (n, at) = contained rs f.rec (subst (λ (xs : List FileRec). Contains xs f.rec) (sym ready.versions_are) in_versions) in
+        let part : ℕ = i - copy.first in
+        let inside : part < blocks_for f.rec.len = omega (arith, from, to) in
+        let is : copy.first + part ≡ i = omega (arith, from) in
+        let (block, here, source) = source_all m begun intended so (times_released (taken serial job.lists.items) m new gone) n f.rec at part inside in
+        subst (λ (k : ℕ). HasRead copy.serial k old new) is (source.offline f there refl off copy tape).1
+
+    -- THE DUMP where its reel tells
+    bare_away : (files : List FileRec) (n from to : ℕ) → All (λ (r : FileRec). is_between n from to r.tape ≡ false) (map bare_rec files)
+    bare_away [] n from to = λ k d inside. absurd (let no : ⊥ = omega (arith, inside) in no)
+    bare_away (x ∷ xs) n from to = all_cons (λ (r : FileRec). is_between n from to r.tape ≡ false) (bare_rec x) (map bare_rec xs) refl (bare_away xs n from to)
+
+    plan_away : IsAway plan
+    plan_away = subst IsAway (sym ready.plan) (record {
+      each = subst (λ (fs : List FileRec). All (λ (r : FileRec). is_between serial (first_content (process_plan serial o)) (first_content (process_plan serial o) + content_blocks (process_plan serial o)) r.tape ≡ false) fs)
+          (sym (plan_files serial o)) (bare_away (living o.contents) serial (first_content (process_plan serial o)) (first_content (process_plan serial o) + content_blocks (process_plan serial o)));
+    })
+
+    serial_of : (rs' : List Reel) (n : ℕ) (q : Reel) → reel n rs' ≡ Some q → Contains rs' q × (q.serial ≡ n)
+    serial_of [] n q is = absurd (none-some q is)
+    serial_of (x ∷ xs) n q is = by_first (eqb_tells n x.serial) (λ it. serial_of xs n q it)
+      where
+        later : Contains xs q × (q.serial ≡ n) → Contains (x ∷ xs) q × (q.serial ≡ n)
+        later ((i, inside, at), named) = ((suc i, omega (arith, inside), at), named)
+
+        by_first : (((n == x.serial) ≡ true) × (n ≡ x.serial)) ⊎ (((n == x.serial) ≡ false) × (n ≡ x.serial → ⊥)) → (reel n xs ≡ Some q → Contains xs q × (q.serial ≡ n)) → Contains (x ∷ xs) q × (q.serial ≡ n)
+        by_first (inl h) rest =
+            let same : x ≡ q = same_Some x q (sym (cond-true (n == x.serial) (Some x) (reel n xs) h.0) ∙ is) in
+            ((0, omega arith, same), ap (λ (y : Reel). y.serial) (sym same) ∙ sym h.1)
+        by_first (inr h) rest = later (rest (sym (cond-false (n == x.serial) (Some x) (reel n xs) h.0) ∙ is))
+
+    the_dump : (m : Rack) (begun : OnlineFacts) → HasIntended (intent_of plan) o begun → (so : HasWritten serial plan rs begun (needs plan) mid m)
+        → ((s k : ℕ) → time_of s k m ≤ time_of s k new) → AllZip (IsHeldBy serial so.written) old.reels new.reels → (blocks : List (List ℕ)) → blocks_at serial new ≡ Some blocks → IsDumped serial was new blocks
+    the_dump m begun intended so times held blocks told =
+        let (q, found, q_blocks) = reel_told (reel serial new.reels) told in
+        let (q_in, named) = serial_of new.reels serial q found in
+        let right = is_reel serial new.reels q are_new.each found in
+        let is : blocks ≡ so.written = held_at old.reels new.reels held q q_in named blocks q_blocks in
+        let whole : All IsBlock so.written = subst (All IsBlock) is (right.whole blocks q_blocks) in
+        let one = one_dump serial plan rs begun mid m ready.may.rules plan_away so whole (ap (λ (i : Intent). i.serial) ready.may.intent_is) (ap (λ (i : Intent). i.place) ready.may.intent_is) in
+        record {
+          content = content_of plan so.written;
+          completed = subst (λ (bs : List (List ℕ)). AreCompleted serial bs (dump_of (process_plan serial o) (content_of plan so.written) ∷ [])) (sym is)
+              (subst (λ (p : Plan). AreCompleted serial so.written (dump_of p (content_of plan so.written) ∷ [])) ready.plan one);
+          sources = λ i part r at inside.
+              let at_rs : slice_get rs i ≡ Some r = ap (λ (xs : List FileRec). slice_get xs i) ready.versions_are ∙ at in
+              let (block, here, source) = source_all m begun intended so times i r at_rs part inside in
+              let waits : waiting plan.files ≡ map bare_rec (versions o.contents) = ready.may.writable.readable.waiting_are ∙ ap (map bare_rec) ready.versions_are in
+              let front : blocks_of (take i (waiting plan.files)) ≡ blocks_of (take i (versions o.contents)) = ap (λ (xs : List FileRec). blocks_of (take i xs)) waits ∙ front_bare i (versions o.contents) in
+              let at_waits : slice_get (waiting plan.files) i ≡ Some (bare_rec r) = ap (λ (xs : List FileRec). slice_get xs i) waits ∙ mapped_at (versions o.contents) i r at in
+              let less : blocks_of (take i (waiting plan.files)) + part < content_blocks plan = within_content (waiting plan.files) i part (bare_rec r) at_waits inside in (
+                block,
+                ap (slice_get (content_of plan so.written)) (let e : blocks_of (take i (versions o.contents)) + part ≡ blocks_of (take i (waiting plan.files)) + part = omega (arith, front) in e)
+                    ∙ content_at serial plan rs begun mid m ready.may.rules plan_away so (blocks_of (take i (waiting plan.files)) + part) less ∙ here,
+                source,
+              );
+        }
+      where
+        reel_told : (x : Option Reel) → blocks_in x ≡ Some blocks → (q : Reel) × (x ≡ Some q) × (q.blocks ≡ Some blocks)
+        reel_told None is = absurd (none-some blocks is)
+        reel_told (Some q) is = (q, refl, is)
+
+        held_at : (xs ys : List Reel) → AllZip (IsHeldBy serial so.written) xs ys → (q : Reel) → Contains ys q → q.serial ≡ serial → (bs : List (List ℕ)) → q.blocks ≡ Some bs → bs ≡ so.written
+        held_at [] [] zip q (i, inside, at) named bs is = absurd (let no : ⊥ = omega (arith, inside) in no)
+        held_at [] (y ∷ ys) zip q there named bs is = absurd zip
+        held_at (x ∷ xs) [] zip q there named bs is = absurd zip
+        held_at (x ∷ xs) (y ∷ ys) (one, zip) q (zero, inside, at) named bs is = one (ap (λ (z : Reel). z.serial) at ∙ named) bs (ap (λ (z : Reel). z.blocks) at ∙ is)
+        held_at (x ∷ xs) (y ∷ ys) (one, zip) q (suc i, inside, at) named bs is = held_at xs ys zip q (i, omega (arith, inside), at) named bs is
+
+        front_bare : (n : ℕ) (xs : List FileRec) → blocks_of (take n (map bare_rec xs)) ≡ blocks_of (take n xs)
+        front_bare zero xs = refl
+        front_bare (suc n) [] = refl
+        front_bare (suc n) (x ∷ xs) =
+            sum_by-cons (λ (y : FileRec). blocks_for y.len) (bare_rec x) (take n (map bare_rec xs)) ∙ ap (λ (k : ℕ). blocks_for x.len + k) (front_bare n xs)
+            ∙ sym (sum_by-cons (λ (y : FileRec). blocks_for y.len) x (take n xs))
+
+        mapped_at : (xs : List FileRec) (n : ℕ) (x : FileRec) → slice_get xs n ≡ Some x → slice_get (map bare_rec xs) n ≡ Some (bare_rec x)
+        mapped_at [] n x is = absurd (let no : ⊥ = cc in no)
+        mapped_at (y ∷ ys) zero x is = ap (λ (z : FileRec). Some (bare_rec z)) (same_Some y x is)
+        mapped_at (y ∷ ys) (suc n) x is = mapped_at ys n x is
+
+    -- what the other reels hold
+    no_dump_by : (r q : Reel) → IsOther serial old (λ x y. IsReleased y) r q → Contains old.reels r → q.serial ≡ r.serial → ForSome q.blocks (λ blocks. AreCompleted q.serial blocks [])
+    no_dump_by r q (apart, inr (had, gone)) there named = λ blocks is. one_block_is_none q.serial blocks (let e = ap (λ (bs : List (List ℕ)). length bs) (gone.block blocks is) in omega (arith, e))
+    no_dump_by r q (apart, inl (none, same)) there named = λ blocks is.
+        let r_blocks : r.blocks ≡ Some blocks = ap (λ (x : Reel). x.blocks) (sym same) ∙ is in
+        let at : reel r.serial old.reels ≡ Some r = found_itself old.reels r (apart_of old.reels are.rising) there in
+        let noted = noted_at r.serial old mid job.lists.items r ready.listed at in
+        let told : blocks_at r.serial old ≡ Some blocks = ap blocks_in at ∙ r_blocks in
+        let completed = noted.read.completed blocks told in
+        let empty : noted.dumps ≡ [] = none.none blocks told noted.dumps completed in
+        subst (λ (n : ℕ). AreCompleted n blocks []) (sym named) (subst (λ (ds : List Dump). AreCompleted r.serial blocks ds) empty completed)
+      where
+        found_itself : (xs : List Reel) (x : Reel) → AreApart xs → Contains xs x → reel x.serial xs ≡ Some x
+        found_itself [] x all (i, inside, at) = absurd (let no : ⊥ = omega (arith, inside) in no)
+        found_itself (y ∷ ys) x (here, all) (zero, inside, at) =
+            cond-true (x.serial == y.serial) (Some y) (reel x.serial ys) (eq-eqb x.serial y.serial (ap (λ (z : Reel). z.serial) (sym at))) ∙ ap Some at
+        found_itself (y ∷ ys) x (here, all) (suc i, inside, at) =
+            cond-false (x.serial == y.serial) (Some y) (reel x.serial ys) (ne_eqb x.serial y.serial (here x (i, omega (arith, inside), at))) ∙ found_itself ys x all (i, omega (arith, inside), at)
+
+    abbrev HasNone : Reel → Type 0
+    HasNone r = r.serial ≢ serial → ForSome r.blocks (λ blocks. AreCompleted r.serial blocks [])
+
+    none_by : (need : ℕ) (x y : Reel) → IsLeftBy serial need old x y → Contains old.reels x → y.serial ≡ x.serial → HasNone y
+    none_by need x y (inl (this, long)) there named apart = absurd (apart (named ∙ this))
+    none_by need x y (inr other) there named apart = no_dump_by x y other there named
+
+    none_in : (need : ℕ) (xs ys : List Reel) → AllZip (IsLeftBy serial need old) xs ys → AllZip (λ (x y : Reel). (y.serial ≡ x.serial) × (y.capacity ≡ x.capacity) × (y.mounted ≡ x.mounted)) xs ys
+        → ((x : Reel) → Contains xs x → Contains old.reels x) → All HasNone ys
+    none_in need [] [] left named among = λ k d inside. absurd (let no : ⊥ = omega (arith, inside) in no)
+    none_in need [] (y ∷ ys) left named among = absurd left
+    none_in need (x ∷ xs) [] left named among = absurd left
+    none_in need (x ∷ xs) (y ∷ ys) (left, lefts) (named, names) among =
+        all_cons HasNone y ys (none_by need x y left (among x (0, omega arith, refl)) named.0) (none_in need xs ys lefts names (λ r there. among r (Contains-append_right (x ∷ []) xs r there)))
+
+    other_reels : (need : ℕ) → AllZip (IsLeftBy serial need old) old.reels new.reels → labels new.reels ≡ labels old.reels → All HasNone new.reels
+    other_reels need zip same = none_in need old.reels new.reels zip (zip_labels old.reels new.reels same) (λ r there. there)
+
+    -- A STOP
+    abbrev TheStop : Type 0
+    TheStop = let r : Result ℕ StoreFault = Err Stopped in Processes serial was r (spent_with o' new)
+
+    a_stop : StopLeaves serial was (spent_with o' new) → labels new.reels ≡ labels old.reels → is_some o'.disc.held ≡ is_some o.disc.held → o'.disc.size ≡ o.disc.size → o'.disc.arms ≡ o.disc.arms
+        → new.arms ≡ old.arms → o'.disc.read_faults ≡ o.disc.read_faults → new.read_faults ≡ old.read_faults
+        → (Rose o.disc.write_faults o'.disc.write_faults × (new.write_faults ≡ old.write_faults)) ⊎ (Rose old.write_faults new.write_faults × (o'.disc.write_faults ≡ o.disc.write_faults)) → TheStop
+    a_stop reels same told size disc_arms tape_arms disc_reads tape_reads cut = record {
+      refused = never_refused (Err Stopped) (spent_with o' new);
+      granted = λ _. tt;
+      same = λ early. absurd (early tt);
+      taken = λ n e. absurd (let no : ⊥ = cc in no);
+      lost = λ full n e. absurd (let no : ⊥ = cc in no);
+      full = λ need room e. absurd (let no : ⊥ = cc in no);
+      done = reels;
+      cause = record {
+        size = size;
+        reels = zip_labels old.reels new.reels same;
+        disc_arms = disc_arms;
+        tape_arms = tape_arms;
+        disc_read = λ e. absurd (let no : ⊥ = cc in no);
+        disc_read_only = λ _. disc_reads;
+        tape_read = λ e. absurd (let no : ⊥ = cc in no);
+        tape_read_only = λ _. tape_reads;
+        cut = λ _. cut;
+        uncut = λ isnt. absurd (isnt refl);
+      };
+      wrote = tt;
+      keeps = store_spent o' new tied';
+      told = told_by o' new told same;
+      spent = (λ _. refl, λ _. refl);
+      dump = λ isnt. absurd (isnt refl);
+    }
+
+    pub stops : StopsAt job o mid o' new → TheStop
+    stops (AtIntent stopped same) =
+        a_stop (CutIntent (subst (λ (i : Intent). ForSome o'.disc.held (λ blocks. Holds blocks o.contents ⊎ Holds blocks (with_intent (Some i) o.contents))) intent_is stopped.holds)
+        (ap (λ (x : Rack). map unread x.reels) same ∙ only.reels)) (ap (λ (x : Rack). labels x.reels) same ∙ labels_mid)
+        stopped.told stopped.causes.size stopped.causes.arms (ap (λ (x : Rack). x.arms) same ∙ only.arms) (stopped.causes.reads_kept (λ no. no)) (ap (λ (x : Rack). x.read_faults) same ∙ ready.kept)
+        (inl (stopped.causes.writes_rose tt, ap (λ (x : Rack). x.write_faults) same ∙ only.write_faults))
+    stops (AtBlock intended k less m so failed) =
+        let same_m = labels_written o' k m so in
+        let same_f = labels_reads m failed.mid failed.reads.reels ∙ same_m in
+        let first = become_written o' k m so in
+        let second = becomes_then (at_serial serial (filled so.written)) (λ r. r) old m failed.mid first (becomes_read m failed.mid failed.reads.reels) in
+        let third = becomes_left serial k failed.how failed.mid new (apart_by failed.mid same_f) (ap (λ (x : Rack). x.reels) failed.rack) in
+        let all = becomes_then (at_serial serial (filled so.written)) (at_serial serial (left_by failed.how k)) old failed.mid new second third in
+        a_stop (CutDump intended.live (intended.contents ∙ begun_is)
+        (reels_read serial (λ r. left_by failed.how k (filled so.written r)) old new (both_at serial (filled so.written) (left_by failed.how k) old new (filled_serial so.written) all)))
+        (labels_failed k serial m new failed same_m) intended.told intended.causes.size intended.causes.arms
+        (ap (λ (x : Rack). x.arms) failed.rack ∙ failed.reads.arms ∙ so.rack.arms ∙ only.arms) (intended.causes.reads_kept (λ no. no))
+        (ap (λ (x : Rack). x.read_faults) failed.rack ∙ failed.kept ∙ so.kept ∙ ready.kept)
+        (inr (subst (λ (n : ℕ). Rose n new.write_faults) (failed.reads.write_faults ∙ so.rack.write_faults ∙ only.write_faults) failed.rose, intended.causes.writes_kept (λ no. no)))
+    stops (AtCopies begun intended so adopting) =
+        let all = become_written begun (needs plan) new so in
+        a_stop (CutCopies (holds_either begun intended adopting.stopped.holds)
+        (the_dump new begun intended so (λ s k. omega arith) (reels_held serial (at_serial serial (filled so.written)) so.written old new (let long = so.long in omega (arith, long))
+        (at_name serial (filled so.written) (filled_serial so.written)) (at_this serial (filled so.written)) all))
+        (reels_read serial (filled so.written) old new all)) (labels_written begun (needs plan) new so)
+        (adopting.told ∙ intended.told) (adopting.causes.size ∙ intended.causes.size) (adopting.causes.arms ∙ intended.causes.arms) (so.rack.arms ∙ only.arms)
+        (adopting.causes.reads_kept (λ no. no) ∙ intended.causes.reads_kept (λ no. no)) (so.kept ∙ ready.kept)
+        (inl (subst (λ (n : ℕ). Rose n o'.disc.write_faults) (intended.causes.writes_kept (λ no. no)) (adopting.causes.writes_rose refl), so.rack.write_faults ∙ only.write_faults))
+    stops (AtRelease m moved cut) =
+        let so = moved.written in
+        let same_m = labels_written moved.begun (needs plan) m so in
+        let same_c = labels_released (taken serial (take cut.place job.lists.items)) m cut.mid cut.before ∙ same_m in
+        let first = become_written moved.begun (needs plan) m so in
+        let second = becomes_then (at_serial serial (filled so.written)) (released (taken serial (take cut.place job.lists.items))) old m cut.mid first (becomes_released (taken serial (take cut.place job.lists.items)) m cut.mid cut.before) in
+        let third = becomes_left cut.list.serial 0 cut.how cut.mid new (apart_by cut.mid same_c) (ap (λ (x : Rack). x.reels) cut.rack) in
+        let all = becomes_then (λ r. released (taken serial (take cut.place job.lists.items)) (at_serial serial (filled so.written) r)) (at_serial cut.list.serial (left_by cut.how 0)) old cut.mid new second third in
+        let put : HasAdopted job.number (copies_of job o) moved.begun o' = moved.adopted.ok in
+        a_stop (CutRelease put.live (put.contents ∙ moved_is moved.begun moved.intended)
+        (the_dump m moved.begun moved.intended so
+        (λ s k. let one = times_released (taken serial (take cut.place job.lists.items)) m cut.mid cut.before s k in
+        let two = times_left cut.list.serial 0 cut.how cut.mid new (ap (λ (x : Rack). x.reels) cut.rack) s k in omega (arith, one, two))
+        (reels_held serial (λ r. at_serial cut.list.serial (left_by cut.how 0) (released (taken serial (take cut.place job.lists.items)) (at_serial serial (filled so.written) r))) so.written old new
+        (let long = so.long in omega (arith, long))
+        (λ r. at_name cut.list.serial (left_by cut.how 0) (left_name cut.how 0) (released (taken serial (take cut.place job.lists.items)) (at_serial serial (filled so.written) r))
+        ∙ released_name (taken serial (take cut.place job.lists.items)) (at_serial serial (filled so.written) r) ∙ at_name serial (filled so.written) (filled_serial so.written) r)
+        (held_part serial old mid job.lists.items ready.listed so.written cut.place cut.list cut.how cut.at cut.taken_is) all))
+        (reels_part serial old mid job.lists.items ready.listed so.written cut.place cut.list cut.how new cut.at cut.taken_is all))
+        (labels_changed cut.list.serial (left_by cut.how 0) (label_left cut.how 0) cut.mid new (ap (λ (x : Rack). x.reels) cut.rack) ∙ same_c)
+        (moved.adopted.told ∙ moved.intended.told) (moved.adopted.causes.size ∙ moved.intended.causes.size) (moved.adopted.causes.arms ∙ moved.intended.causes.arms)
+        (ap (λ (x : Rack). x.arms) cut.rack ∙ ap (λ (x : Rack). x.arms) cut.before ∙ so.rack.arms ∙ only.arms)
+        (moved.adopted.causes.reads_kept (λ no. no) ∙ moved.intended.causes.reads_kept (λ no. no))
+        (ap (λ (x : Rack). x.read_faults) cut.rack ∙ ap (λ (x : Rack). x.read_faults) cut.before ∙ so.kept ∙ ready.kept)
+        (inr (
+          subst (λ (n : ℕ). Rose n new.write_faults) (ap (λ (x : Rack). x.write_faults) cut.before ∙ so.rack.write_faults ∙ only.write_faults) cut.rose,
+          moved.adopted.causes.writes_kept (λ e. let no : ⊥ = cc in no) ∙ moved.intended.causes.writes_kept (λ no. no),
+        ))
+
+    pub carried : (number : ℕ) → (let r : Result ℕ StoreFault = Ok number in CarriesOut job o mid r o' new) → (let r : Result ℕ StoreFault = Ok number in Processes serial was r (up_with o' new None))
+    carried number (named, m, moved, gone) =
+        let so = moved.written in
+        let same_m = labels_written moved.begun (needs plan) m so in
+        let same_new = labels_released (taken serial job.lists.items) m new gone ∙ same_m in
+        let first = become_written moved.begun (needs plan) m so in
+        let all = becomes_then (at_serial serial (filled so.written)) (released (taken serial job.lists.items)) old m new first (becomes_released (taken serial job.lists.items) m new gone) in
+        let put : HasAdopted job.number (copies_of job o) moved.begun o' = moved.adopted.ok in
+        let need : needs plan ≡ needs (process_plan serial o) = ap needs ready.plan in
+        record {
+          refused = never_refused (Ok number) (up_with o' new None);
+          granted = λ _. tt;
+          same = tt;
+          taken = λ n e. absurd (let no : ⊥ = cc in no);
+          lost = λ full n e. absurd (let no : ⊥ = cc in no);
+          full = λ need room e. absurd (let no : ⊥ = cc in no);
+          done = record {
+            number_is = named ∙ ready.may.number_is;
+            contents = put.contents ∙ moved_is moved.begun moved.intended;
+            changed = put.changed;
+            free = free;
+            fits = λ r at.
+                let (q, found, same) = after_reads (reel serial mid.reels) (reel serial old.reels) r at (reel_after_reads serial old mid only) in
+                let this : q ≡ ready.may.writable.on = same_Some q ready.may.writable.on (sym found ∙ ready.may.writable.reel_is) in
+                let room = ready.may.writable.room in
+                let capacity : ready.may.writable.on.capacity ≡ r.capacity = ap (λ (x : Reel). x.capacity) (sym this) ∙ ap (λ (x : Reel). x.capacity) same in
+                omega (arith, room, capacity, need);
+            dump = the_dump m moved.begun moved.intended so (times_released (taken serial job.lists.items) m new gone)
+                (reels_held serial (λ r. released (taken serial job.lists.items) (at_serial serial (filled so.written) r)) so.written old new (let long = so.long in omega (arith, long))
+                (λ r. released_name (taken serial job.lists.items) (at_serial serial (filled so.written) r) ∙ at_name serial (filled so.written) (filled_serial so.written) r)
+                (held_left serial old mid job.lists.items ready.listed so.written) all);
+            others = other_reels (needs (process_plan serial o)) (reels_left serial old mid job.lists.items ready.listed so.written (needs (process_plan serial o)) new (so.long ∙ need) (omega arith) all) same_new;
+            reels = reels_left serial old mid job.lists.items ready.listed so.written (needs (process_plan serial o)) new (so.long ∙ need) (omega arith) all;
+            read = λ k d within. read_all m moved.begun moved.intended so gone (get_or o.contents.files k d) (Contains-get_or o.contents.files k d within);
+          };
+          cause = record {
+            size = moved.adopted.causes.size ∙ moved.intended.causes.size;
+            reels = zip_labels old.reels new.reels same_new;
+            disc_arms = moved.adopted.causes.arms ∙ moved.intended.causes.arms;
+            tape_arms = ap (λ (x : Rack). x.arms) gone ∙ so.rack.arms ∙ only.arms;
+            disc_read = λ e. absurd (let no : ⊥ = cc in no);
+            disc_read_only = λ _. moved.adopted.causes.reads_kept (λ no. no) ∙ moved.intended.causes.reads_kept (λ no. no);
+            tape_read = λ e. absurd (let no : ⊥ = cc in no);
+            tape_read_only = λ _. ap (λ (x : Rack). x.read_faults) gone ∙ so.kept ∙ ready.kept;
+            cut = λ e. absurd (let no : ⊥ = cc in no);
+            uncut = λ _. (moved.adopted.causes.writes_kept (λ e. let no : ⊥ = cc in no) ∙ moved.intended.causes.writes_kept (λ no. no), ap (λ (x : Rack). x.write_faults) gone ∙ so.rack.write_faults ∙ only.write_faults);
+          };
+          wrote = record {
+            blocks = moved.intended.blocks + put.blocks;
+            commits = two_commits o.layout moved.begun.layout o'.layout moved.intended.blocks put.blocks moved.intended.commits put.commits;
+            writes = two_rise moved.intended.blocks put.blocks o.disc.writes moved.begun.disc.writes o'.disc.writes moved.intended.writes put.writes;
+          };
+          keeps = store_up o' new put.live put.pins tied';
+          told = told_by o' new (moved.adopted.told ∙ moved.intended.told) same_new;
+          spent = (λ e. absurd (let no : ⊥ = cc in no), λ e. absurd (let no : ⊥ = cc in no));
+          dump = λ _. refl;
+        }
+
+    -- WHATEVER BECAME of it
+    pub answered : (answer : Result ℕ StoreFault) → CarriesOut job o mid answer o' new → Processes serial was answer (behind_process answer o' new)
+    answered (Ok number) done = carried number done
+    answered (Err Stopped) stopped = stops stopped
+    answered (Err DiscReadFault) fails = fails_disc fails.begun fails.at fails.mid fails.intended fails.written fails.fails
+    answered (Err TapeReadFault) fails = fails_tape fails.begun fails.at fails.mid fails.intended fails.written fails.fails
+    answered (Err fault) fails = absurd fails.fails
+
+-- THE EVENT
+pub prepared_then : (at : ℕ) (job : Job) (o : OnlineFacts) (old mid : Rack) (live : o.live ≡ true) (pins : o.pins ≡ None) (tied : IsTied o) (are : AreReels old.reels) (only : OnlyReads old mid)
+    → (let r : Result Job StoreFault = Ok job in Preparing at o old r mid) → (o' : OnlineFacts) (new : Rack) (tied' : IsTied o') (are_new : AreReels new.reels) (answer : Result ℕ StoreFault)
+    → CarriesOut job o mid answer o' new → Processes at (up_with o old None) answer (behind_process answer o' new)
+prepared_then at job o old mid live pins tied are only (granted, ready) o' new tied' are_new answer done =
+    subst (λ (n : ℕ). Processes n (up_with o old None) answer (behind_process answer o' new)) ready.serial_is
+    (answered job o old mid live pins tied are only (subst (λ (n : ℕ). IsGranted n o old) (sym ready.serial_is) granted)
+    (subst (λ (n : ℕ). IsPrepared n o old mid job) (sym ready.serial_is) ready) o' new tied' are_new answer done)
+
+pub refused_then : (serial : ℕ) (o : OnlineFacts) (old mid : Rack) (live : o.live ≡ true) (pins : o.pins ≡ None) (tied : IsTied o) (only : OnlyReads old mid) (fault : StoreFault)
+    → (let r : Result Job StoreFault = Err fault in Preparing serial o old r mid) → (let r : Result ℕ StoreFault = Err fault in Processes serial (up_with o old None) r (behind_process r o mid))
+refused_then serial o old mid live pins tied only fault (inl (is, same)) =
+    subst (λ (x : Rack). let r : Result ℕ StoreFault = Err fault in Processes serial (up_with o old None) r (behind_process r o x)) (sym same)
+    (refuses_early serial o old mid live pins tied only fault is)
+refused_then serial o old mid live pins tied only fault (inr (granted, late)) = refuses_late serial o old mid live pins tied only granted fault late

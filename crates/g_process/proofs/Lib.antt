@@ -1,0 +1,15 @@
+pub mod AnswerLemmas
+pub mod BecomeLemmas
+pub mod CarryLemmas
+pub mod ContentLemmas
+pub mod DoneLemmas
+pub mod DumpLemmas
+pub mod JobLemmas
+pub mod ListLemmas
+pub mod PlanLemmas
+pub mod PrepareLemmas
+pub mod ProcessLemmas
+pub mod ReelLemmas
+pub mod ReleaseLemmas
+pub mod SourceLemmas
+pub mod WriteLemmas

@@ -1,0 +1,119 @@
+-- What the catalogue tells of a reel and of the files.
+use Rattle.std.proofs.Common.{◌≡◌, ℕ, zero, suc, ◌+◌, ◌≤◌, ◌==◌, true, false, List, [], ◌∷◌, drop, length, map, Some, refl, sym, ◌∙◌, ap, arith, subst, inl, inr, slice_get}
+use Rattle.std.specs.Prelude.{◌⊎◌, All, Contains}
+use Rattle.std.proofs.lemmas.Bool.{cond-false, cond-true, eq-eqb, ne_eqb}
+use Rattle.std.proofs.lemmas.Bool.Decides.{eqb_tells}
+use Rattle.std.proofs.lemmas.List.Elements.{All-head, All-tail}
+use Rattle.std.proofs.lemmas.Option.{none-some, same_Some}
+use Rattle.g_tape.specs.Rack.{Rack, reel}
+use Rattle.g_tape.specs.Reel.{Reel}
+use Rattle.g_incr.specs.declared.note.DumpNote.{DumpNote}
+use Rattle.g_incr.specs.Layout.{Dump}
+use Rattle.g_shelf.specs.declared.rack.Listed.{Listed}
+use Rattle.g_shelf.specs.Found.{AreRead, note_of}
+use Rattle.g_shelf.specs.Listed.{AreListed, IsListed}
+use Rattle.g_shelf.proofs.OneLemmas.{completed_are_one}
+use Rattle.g_process.specs.Lists.{notes_at}
+use Rattle.g_process.specs.Planned.{IsFree, IsTaken}
+
+abbrev serials : List Listed → List ℕ
+serials ls = map (λ (l : Listed). l.serial) ls
+
+-- THE NOTES OF A REEL that is listed are those of the dumps that were read on it
+pub record IsNotedAt (serial : ℕ) (old new : Rack) (lists : List Listed) : Type 0 where
+  pub dumps : List Dump
+  pub read : AreRead serial dumps old new
+  pub notes_are : notes_at serial lists ≡ map note_of dumps
+
+noted_in : (serial : ℕ) (old new : Rack) (lists : List Listed) → All (IsListed old new) lists → Contains (serials lists) serial → IsNotedAt serial old new lists
+noted_in serial old new [] all (i, within, is) = absurd (let no : ⊥ = omega (arith, within) in no)
+noted_in serial old new (l ∷ ls) all there = by_serial (eqb_tells l.serial serial) there (λ it. noted_in serial old new ls (All-tail (IsListed old new) l ls all) it)
+  where
+    by_serial : (((l.serial == serial) ≡ true) × (l.serial ≡ serial)) ⊎ (((l.serial == serial) ≡ false) × (l.serial ≡ serial → ⊥)) → Contains (serials (l ∷ ls)) serial
+        → (Contains (serials ls) serial → IsNotedAt serial old new ls) → IsNotedAt serial old new (l ∷ ls)
+    by_serial (inl h) it rest =
+        let here = All-head (IsListed old new) l ls all in
+        record {
+          dumps = here.dumps;
+          read = subst (λ (n : ℕ). AreRead n here.dumps old new) h.1 here.read;
+          notes_are = cond-true (l.serial == serial) l.notes (notes_at serial ls) h.0 ∙ here.notes_are;
+        }
+    by_serial (inr h) (zero, within, is) rest = absurd (h.1 is)
+    by_serial (inr h) (suc i, within, is) rest =
+        let more = rest (i, omega (arith, within), is) in
+        record { dumps = more.dumps; read = more.read; notes_are = cond-false (l.serial == serial) l.notes (notes_at serial ls) h.0 ∙ more.notes_are }
+
+pub noted_at : (serial : ℕ) (old new : Rack) (lists : List Listed) (r : Reel) → AreListed old new lists → reel serial old.reels ≡ Some r → IsNotedAt serial old new lists
+noted_at serial old new lists r are at =
+    noted_in serial old new lists are.each (subst (λ (ns : List ℕ). Contains ns serial) (sym are.serials) (among serial old.reels r at))
+  where
+    among : (n : ℕ) (rs : List Reel) (q : Reel) → reel n rs ≡ Some q → Contains (map (λ (x : Reel). x.serial) rs) n
+    among n [] q is = absurd (none-some q is)
+    among n (x ∷ xs) q is = by_first (eqb_tells n x.serial) (λ it. among n xs q it)
+      where
+        by_first : (((n == x.serial) ≡ true) × (n ≡ x.serial)) ⊎ (((n == x.serial) ≡ false) × (n ≡ x.serial → ⊥)) → (reel n xs ≡ Some q → Contains (map (λ (y : Reel). y.serial) xs) n)
+            → Contains (map (λ (y : Reel). y.serial) (x ∷ xs)) n
+        by_first (inl h) rest = (0, omega arith, sym h.1)
+        by_first (inr h) rest =
+            let (i, within, same) = rest (sym (cond-false (n == x.serial) (Some x) (reel n xs) h.0) ∙ is) in
+            (suc i, omega (arith, within), same)
+
+pub unlisted : (serial : ℕ) (lists : List Listed) → (Contains (serials lists) serial → ⊥) → notes_at serial lists ≡ []
+unlisted serial [] apart = refl
+unlisted serial (l ∷ ls) apart =
+    elim (eqb_tells l.serial serial) [
+      | inl h ↦ absurd (apart (0, omega arith, h.1))
+      | inr h ↦ cond-false (l.serial == serial) l.notes (notes_at serial ls) h.0 ∙ unlisted serial ls (λ it. apart (later it))
+    ]
+  where
+    later : Contains (serials ls) serial → Contains (serials (l ∷ ls)) serial
+    later (i, within, is) = (suc i, omega (arith, within), is)
+
+-- no notes, no dumps
+none_noted : (dumps : List Dump) (notes : List DumpNote) → notes ≡ map note_of dumps → notes ≡ [] → dumps ≡ []
+none_noted [] notes is none = refl
+none_noted (d ∷ ds) notes is none = absurd (let no : ⊥ = cc in no)
+
+some_noted : (dumps : List Dump) (notes : List DumpNote) → notes ≡ map note_of dumps → (notes ≡ [] → ⊥) → dumps ≡ [] → ⊥
+some_noted [] notes is some none = some is
+some_noted (d ∷ ds) notes is some none = let no : ⊥ = cc in no
+
+-- A REEL IS FREE where its list is empty, and else it is taken
+pub free_by_list : (serial : ℕ) (old new : Rack) (lists : List Listed) (r : Reel) → AreListed old new lists → reel serial old.reels ≡ Some r → notes_at serial lists ≡ [] → IsFree serial old
+free_by_list serial old new lists r are at none =
+    let noted = noted_at serial old new lists r are at in
+    record {
+      none = λ blocks told dumps completed.
+          completed_are_one serial blocks dumps noted.dumps completed (noted.read.completed blocks told) ∙ none_noted noted.dumps (notes_at serial lists) noted.notes_are none;
+    }
+
+pub taken_by_list : (serial : ℕ) (old new : Rack) (lists : List Listed) (r : Reel) → AreListed old new lists → reel serial old.reels ≡ Some r → (notes_at serial lists ≡ [] → ⊥) → IsTaken serial old
+taken_by_list serial old new lists r are at some =
+    let noted = noted_at serial old new lists r are at in
+    record {
+      some = λ blocks told dumps completed none.
+          some_noted noted.dumps (notes_at serial lists) noted.notes_are some (completed_are_one serial blocks noted.dumps dumps (noted.read.completed blocks told) completed ∙ none);
+    }
+
+-- THE LIST OF A REEL is looked for from the first on
+pub notes_here : (s : ℕ) (ls : List Listed) (i : ℕ) (l : Listed) → slice_get ls i ≡ Some l → l.serial ≡ s → notes_at s (drop i ls) ≡ l.notes
+notes_here s [] i l at is = absurd (let no : ⊥ = cc in no)
+notes_here s (x ∷ xs) zero l at is =
+    let same : x ≡ l = same_Some x l at in
+    cond-true (x.serial == s) x.notes (notes_at s xs) (eq-eqb x.serial s (ap (λ (y : Listed). y.serial) same ∙ is)) ∙ ap (λ (y : Listed). y.notes) same
+notes_here s (x ∷ xs) (suc i) l at is = notes_here s xs i l at is
+
+notes_past : (s : ℕ) (ls : List Listed) (i : ℕ) (l : Listed) → slice_get ls i ≡ Some l → (l.serial ≡ s → ⊥) → notes_at s (drop i ls) ≡ notes_at s (drop (suc i) ls)
+notes_past s [] i l at isnt = absurd (let no : ⊥ = cc in no)
+notes_past s (x ∷ xs) zero l at isnt =
+    cond-false (x.serial == s) x.notes (notes_at s xs) (ne_eqb x.serial s (λ e. isnt (ap (λ (y : Listed). y.serial) (sym (same_Some x l at)) ∙ e)))
+notes_past s (x ∷ xs) (suc i) l at isnt = notes_past s xs i l at isnt
+
+pub notes_next : (s : ℕ) (ls : List Listed) (i : ℕ) (l : Listed) → slice_get ls i ≡ Some l → (l.serial ≡ s → ⊥) → notes_at s (drop i ls) ≡ notes_at s (drop (i + 1) ls)
+notes_next s ls i l at isnt = notes_past s ls i l at isnt ∙ ap (λ (n : ℕ). notes_at s (drop n ls)) (let e : suc i ≡ i + 1 = omega arith in e)
+
+pub notes_end : (s : ℕ) (ls : List Listed) (i : ℕ) → length ls ≤ i → notes_at s (drop i ls) ≡ []
+notes_end s [] zero past = refl
+notes_end s [] (suc i) past = refl
+notes_end s (x ∷ xs) zero past = absurd (let no : ⊥ = omega (arith, past) in no)
+notes_end s (x ∷ xs) (suc i) past = notes_end s xs i (omega (arith, past))

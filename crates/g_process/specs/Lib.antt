@@ -1,0 +1,6 @@
+pub mod Lists
+pub mod Planned
+pub mod Prepared
+pub mod Processing
+pub mod Releases
+pub mod Written

@@ -1,0 +1,195 @@
+-- HOW PROCESS IS ANSWERED, by `g_process` and by a store: its step, its refusals, its causes, and what became of the reels.
+use Rattle.std.specs.List.{AllZip}
+use Rattle.std.specs.Prelude.{◌≡◌, ◌≢◌, ◌⊎◌, ℕ, ◌+◌, ◌-◌, ◌^◌, ◌<◌, ◌≤◌, ◌↔◌, ◌==◌, true, false, List, [], ◌∷◌, All, Option, Some, None, IfErr, is_some, is_none, Result, Ok, Err, slice_get, take, map}
+use Rattle.std.specs.Option.{ForSome}
+use Rattle.g_base.specs.Block.{blocks_for}
+use Rattle.g_base.specs.Counts.{Rose}
+use Rattle.g_name.specs.declared.full.Full.{Full}
+use Rattle.g_entry.specs.declared.file_rec.FileRec.{FileRec}
+use Rattle.g_entry.specs.declared.file_rec.TapeCopy.{TapeCopy}
+use Rattle.g_entry.specs.declared.head.Intent.{Intent}
+use Rattle.g_tape.specs.Reel.{Reel, Remains, left_by}
+use Rattle.g_tape.specs.Rack.{Rack, reel}
+use Rattle.g_tape.specs.Reads.{HasRead, OnlyReads, blocks_of as blocks_at, unread}
+use Rattle.g_plain.specs.declared.faults.StoreFault.{StoreFault}
+use Rattle.g_plain.specs.declared.faults.StoreFault.TheVariants.{CountersSpent, DiscReadFault, DumpOpen, NoCopy, NoMemory, NoTape, RackNotMounted, ReelNotFree, Stopped, TapeFull, TapeReadFault}
+use Rattle.g_plain.specs.PlainStep.{first_fault}
+use Rattle.g_tree.specs.Records.{full_of}
+use Rattle.g_contents.specs.Contents.{Contents, File, Holds, with_intent}
+use Rattle.g_contents.specs.Facts.{OnlineFacts}
+use Rattle.g_incr.specs.Plan.{blocks_of, dump_of, first_content, needs}
+use Rattle.g_online.specs.Ready.{adopted}
+use Rattle.g_shelf.specs.Completed.{AreCompleted}
+use Rattle.g_shelf.specs.Last.{first_unmounted}
+use Rattle.g_step.specs.Rising.{fault_from}
+use Rattle.g_state.specs.Answers.{IsStore, Told, WroteCommits}
+use Rattle.g_state.specs.Up.{DumpFacts, StoreFacts}
+use Rattle.g_dumper.specs.Keeps.{spent_with, up_with}
+use Rattle.g_process.specs.Planned.{IsFirstLost, IsFree, IsTaken, copies_from, process_plan, versions}
+use Rattle.g_process.specs.Releases.{zeros}
+use Rattle.g_process.specs.Written.{IsSource}
+
+abbrev pub open_number : Option DumpFacts → ℕ
+open_number None = 0
+open_number (Some d) = d.plan.number
+
+-- THE REFUSALS before a reel is read: they go by labels and mounts and by what is in memory, which are always told
+abbrev pub process_refuses : ℕ → StoreFacts → Option StoreFault
+process_refuses serial s = first_fault (
+    (is_none (reel serial s.rack.reels), NoTape)
+    ∷ fault_from RackNotMounted (first_unmounted s.rack.reels)
+    ∷ (is_some s.dump, DumpOpen (open_number s.dump))
+    ∷ (s.online.contents.head.last_dump == 2 ^ 62 - 1, CountersSpent)
+    ∷ [])
+
+-- and all others that there are
+abbrev pub MayRefuse : StoreFault → Type 0
+MayRefuse TapeReadFault = Unit {0}
+MayRefuse (ReelNotFree serial) = Unit {0}
+MayRefuse (NoCopy full serial) = Unit {0}
+MayRefuse (TapeFull need room) = Unit {0}
+MayRefuse DiscReadFault = Unit {0}
+MayRefuse Stopped = Unit {0}
+MayRefuse NoMemory = Unit {0}
+MayRefuse fault = ⊥
+
+-- behind these something may have been written
+abbrev pub IsLate : StoreFault → Type 0
+IsLate TapeReadFault = Unit {0}
+IsLate DiscReadFault = Unit {0}
+IsLate Stopped = Unit {0}
+IsLate fault = ⊥
+
+-- EACH COUNT moves with its own answer alone; a stop is one write, of the disc or of the tapes; nobody arms a device, and the reels
+-- are the same ones, mounted as they were
+pub record ProcessCause (old new : StoreFacts) (answer : Result ℕ StoreFault) : Type 0 where
+  pub size : new.online.disc.size ≡ old.online.disc.size
+  pub reels : AllZip (λ (o : Reel) (n : Reel). (n.serial ≡ o.serial) × (n.capacity ≡ o.capacity) × (n.mounted ≡ o.mounted)) old.rack.reels new.rack.reels
+  pub disc_arms : new.online.disc.arms ≡ old.online.disc.arms
+  pub tape_arms : new.rack.arms ≡ old.rack.arms
+  pub disc_read : answer ≡ Err DiscReadFault → Rose old.online.disc.read_faults new.online.disc.read_faults
+  pub disc_read_only : (answer ≡ Err DiscReadFault → ⊥) → new.online.disc.read_faults ≡ old.online.disc.read_faults
+  pub tape_read : answer ≡ Err TapeReadFault → Rose old.rack.read_faults new.rack.read_faults
+  pub tape_read_only : (answer ≡ Err TapeReadFault → ⊥) → new.rack.read_faults ≡ old.rack.read_faults
+  pub cut : answer ≡ Err Stopped
+      → (Rose old.online.disc.write_faults new.online.disc.write_faults × (new.rack.write_faults ≡ old.rack.write_faults))
+      ⊎ (Rose old.rack.write_faults new.rack.write_faults × (new.online.disc.write_faults ≡ old.online.disc.write_faults))
+  pub uncut : (answer ≡ Err Stopped → ⊥) → (new.online.disc.write_faults ≡ old.online.disc.write_faults) × (new.rack.write_faults ≡ old.rack.write_faults)
+
+-- THE DISC: two commits; none or the first where a read failed; none with any other refusal, and no other write of the disc
+abbrev pub Wrote : StoreFacts → Result ℕ StoreFault → StoreFacts → Type 0
+Wrote old (Ok number) new = WroteCommits 2 old new
+Wrote old (Err Stopped) new = Unit {0}
+Wrote old (Err DiscReadFault) new = WroteCommits 1 old new
+Wrote old (Err TapeReadFault) new = WroteCommits 0 old new ⊎ WroteCommits 1 old new
+Wrote old (Err fault) new = WroteCommits 0 old new
+
+-- THE REELS: the dump fills one up to its mark; of the others each that had a completed dump has the one block of zeros, and each that
+-- had none is as it was, but for reads
+
+pub record IsReleased (r : Reel) : Type 0 where
+  pub len : r.len ≡ 1
+  pub block : ForSome r.blocks (λ blocks. blocks ≡ zeros ∷ [])
+
+-- another reel than the one that is written: free, and as it was but for reads; or it had a dump, and this became of it
+abbrev pub IsOther : ℕ → Rack → (Reel → Reel → Type 0) → Reel → Reel → Type 0
+IsOther serial old Became r q = (r.serial ≢ serial) × ((IsFree r.serial old × (unread q ≡ unread r)) ⊎ (IsTaken r.serial old × Became r q))
+
+abbrev pub IsLeftBy : ℕ → ℕ → Rack → Reel → Reel → Type 0
+IsLeftBy serial need old r q = ((r.serial ≡ serial) × (q.len ≡ need)) ⊎ IsOther serial old (λ x y. IsReleased y) r q
+
+-- stopped: it is as it was, or released, or its release was cut
+abbrev pub IsCutBy : ℕ → Rack → Reel → Reel → Type 0
+IsCutBy serial old r q = (r.serial ≡ serial) ⊎ IsOther serial old (λ x y. (unread y ≡ unread x) ⊎ (IsReleased y ⊎ ((how : Remains) × (unread y ≡ unread (left_by how 0 x))))) r q
+
+-- a read failed: nothing is released
+abbrev pub IsReadBy : ℕ → Reel → Reel → Type 0
+IsReadBy serial r q = (r.serial ≡ serial) ⊎ (unread q ≡ unread r)
+
+-- each block of the copy of an offline file was read in this call
+abbrev pub blocks_in_front : ℕ → List FileRec → ℕ
+blocks_in_front i rs = blocks_of (take i rs)
+
+abbrev pub HasReadFile : StoreFacts → StoreFacts → File → Type 0
+HasReadFile old new f = f.online ≡ false → (copy : TapeCopy) → f.rec.tape ≡ Some copy → (i : ℕ) → copy.first ≤ i → i < copy.first + blocks_for f.rec.len → HasRead copy.serial i old.rack new.rack
+
+-- THE DUMP is the only one on its reel: that of the plan, in which each block of each version was read from the disc where it is on it, else
+-- from its copy
+pub record IsDumped (serial : ℕ) (old : StoreFacts) (new : Rack) (blocks : List (List ℕ)) : Type 0 where
+  pub content : List (List ℕ)
+  pub completed : AreCompleted serial blocks (dump_of (process_plan serial old.online) content ∷ [])
+  pub sources : (i part : ℕ) (r : FileRec) → slice_get (versions old.online.contents) i ≡ Some r → part < blocks_for r.len
+      → (block : List ℕ) × (slice_get content (blocks_in_front i (versions old.online.contents) + part) ≡ Some block) × IsSource old.online old.rack new r part block
+
+-- WHAT THE DISC NAMES: the new intent; and behind the dump the copies of all versions in it and its number, without an intent
+abbrev pub process_intent : ℕ → OnlineFacts → Intent
+process_intent serial o = record { serial = serial; place = 0; number = o.contents.head.last_dump + 1 }
+
+abbrev pub intended_by : ℕ → OnlineFacts → Contents
+intended_by serial o = with_intent (Some (process_intent serial o)) o.contents
+
+abbrev pub process_copies : ℕ → OnlineFacts → List (ℕ × TapeCopy)
+process_copies serial o = copies_from serial (first_content (process_plan serial o)) (versions o.contents)
+
+abbrev pub moved_by : ℕ → OnlineFacts → Contents
+moved_by serial o = adopted (o.contents.head.last_dump + 1) (process_copies serial o) o.contents
+
+pub record HasProcessed (serial number : ℕ) (old new : StoreFacts) : Type 0 where
+  pub number_is : number ≡ old.online.contents.head.last_dump + 1
+  pub contents : new.online.contents ≡ moved_by serial old.online
+  pub changed : new.online.changed ≡ []
+  pub free : IsFree serial old.rack
+  pub fits : ForSome (reel serial old.rack.reels) (λ r. needs (process_plan serial old.online) ≤ r.capacity)
+  pub dump : ForSome (blocks_at serial new.rack) (IsDumped serial old new.rack)
+  pub others : All (λ r. r.serial ≢ serial → ForSome r.blocks (λ blocks. AreCompleted r.serial blocks [])) new.rack.reels
+  pub reels : AllZip (IsLeftBy serial (needs (process_plan serial old.online)) old.rack) old.rack.reels new.rack.reels
+  pub read : All (HasReadFile old new) old.online.contents.files
+
+-- A STOP: at a write of the intent's commit; at one of the dump; at one of the commit behind it; or at a release. A reel is released only
+-- where the disc names the copies in the dump, which stands whole then.
+pub data StopLeaves (serial : ℕ) (old new : StoreFacts) : Type 0 where
+  CutIntent : ForSome new.online.disc.held (λ blocks. Holds blocks old.online.contents ⊎ Holds blocks (intended_by serial old.online))
+      → map unread new.rack.reels ≡ map unread old.rack.reels → StopLeaves serial old new
+  CutDump : new.online.live ≡ true → new.online.contents ≡ intended_by serial old.online → AllZip (IsReadBy serial) old.rack.reels new.rack.reels → StopLeaves serial old new
+  CutCopies : ForSome new.online.disc.held (λ blocks. Holds blocks (intended_by serial old.online) ⊎ Holds blocks (moved_by serial old.online))
+      → ForSome (blocks_at serial new.rack) (IsDumped serial old new.rack) → AllZip (IsReadBy serial) old.rack.reels new.rack.reels → StopLeaves serial old new
+  CutRelease : new.online.live ≡ true → new.online.contents ≡ moved_by serial old.online
+      → ForSome (blocks_at serial new.rack) (IsDumped serial old new.rack) → AllZip (IsCutBy serial old.rack) old.rack.reels new.rack.reels → StopLeaves serial old new
+
+-- a failed read leaves the disc as it was, or with the intent
+pub record ReadLeaves (serial : ℕ) (old new : StoreFacts) : Type 0 where
+  pub contents : (new.online.contents ≡ old.online.contents) ⊎ (new.online.contents ≡ intended_by serial old.online)
+  pub changed : new.online.changed ≡ old.online.changed
+  pub reels : AllZip (IsReadBy serial) old.rack.reels new.rack.reels
+
+abbrev pub Does : ℕ → StoreFacts → Result ℕ StoreFault → StoreFacts → Type 0
+Does serial old (Ok number) new = HasProcessed serial number old new
+Does serial old (Err Stopped) new = StopLeaves serial old new
+Does serial old (Err DiscReadFault) new = ReadLeaves serial old new
+Does serial old (Err TapeReadFault) new = ReadLeaves serial old new
+Does serial old (Err fault) new = Unit {0}
+
+-- the store behind it
+abbrev pub behind_process : Result ℕ StoreFault → OnlineFacts → Rack → StoreFacts
+behind_process (Ok number) o rack = up_with o rack None
+behind_process (Err Stopped) o rack = spent_with o rack
+behind_process (Err fault) o rack = up_with o rack None
+
+-- HOW PROCESS IS ANSWERED
+pub record Processes (serial : ℕ) (old : StoreFacts) (answer : Result ℕ StoreFault) (new : StoreFacts) : Type 0 where
+  pub refused : (fault : StoreFault) → process_refuses serial old ≡ Some fault → (answer ≡ Err fault) × (new ≡ old)
+  pub granted : process_refuses serial old ≡ None → IfErr answer MayRefuse
+  -- a refusal that comes neither of a read nor of a write changes nothing, but for reads of tape; nobody may count as changed who didn't
+  pub same : IfErr answer (λ fault. (IsLate fault → ⊥) → (new.online ≡ old.online) × OnlyReads old.rack new.rack)
+  pub taken : (n : ℕ) → answer ≡ Err (ReelNotFree n) → (n ≡ serial) × IsTaken serial old.rack
+  pub lost : (full : Full) (n : ℕ) → answer ≡ Err (NoCopy full n) → IsFree serial old.rack
+      × ((f : File) × (copy : TapeCopy) × (full ≡ full_of old.online.contents.users f.rec) × (n ≡ copy.serial) × IsFirstLost old.online old.rack f copy)
+  pub full : (need room : ℕ) → answer ≡ Err (TapeFull need room) → (need ≡ needs (process_plan serial old.online)) × (room < need)
+      × ForSome (reel serial old.rack.reels) (λ r. room ≡ r.capacity) × IsFree serial old.rack
+  pub done : Does serial old answer new
+  pub cause : ProcessCause old new answer
+  pub wrote : Wrote old answer new
+  pub keeps : IsStore new
+  pub told : Told old → Told new
+  pub spent : (new.spent ≡ true) ↔ (answer ≡ Err Stopped)
+  pub dump : (answer ≡ Err Stopped → ⊥) → new.dump ≡ old.dump

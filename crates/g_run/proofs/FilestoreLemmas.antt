@@ -1,0 +1,36 @@
+-- A disc that holds a filestore holds one behind the run, whatever cut it short.
+use Rattle.std.proofs.Common.{◌≡◌, ℕ, false, List, Option, Some, None, ap}
+use Rattle.std.specs.Fn.{Shared}
+use denote.Ref.{Bor}
+use Rattle.g_budget.specs.declared.tariff.Charge.{Charge}
+use Rattle.g_budget.specs.declared.tariff.Usage.{Usage}
+use Rattle.g_sched.specs.declared.rule.Standing.{Standing}
+use Rattle.g_script.specs.declared.operator.Timed.{Timed}
+use Rattle.g_state.specs.Meaning.{told_reels}
+use Rattle.g_state_laws.proofs.StateLemmas.{have_states}
+use Rattle.g_step.specs.State.{State}
+use Rattle.g_world.specs.Devices.{Devices, StandFor}
+use Rattle.g_world_laws.specs.Filestores.{HasFilestore}
+use Rattle.g_world_laws.proofs.FilestoreLemmas.{devices_keep}
+use Rattle.g_console.specs.System.{BelongTogether}
+use Rattle.g_console.specs.declared.progress.Failure.{Failure}
+use Rattle.g_run.specs.Top.{EndsBy}
+
+-- the state of such devices
+state_there : (d : Devices) → BelongTogether d → HasFilestore d → (s : State) × StandFor d s × (s.up ≡ false)
+state_there d both has =
+    let (s, reads) = have_states.devices d.disc.size d.disc.held (told_reels d.rack) (Some has.contents)
+    (record { are = (has.blocks, has.held, has.holds); none = λ no. absurd (let never : ⊥ = cc in never) }) both.belong in
+    (s, record { told = both.told; belong = both.belong; reads = reads }, ap (λ (x : State). x.up) reads.state_is)
+
+module _ {F U : Type 0} (tariffs : Shared F (Bor Usage × Unit {0}) Charge) (tariff : F) (rules : Shared U (Bor Standing × Unit {0}) ℕ) (rule : U) where
+  pub keeps_filestore : (failure : Option Failure) (lines : List Timed) (bad : Option ℕ) (old new : Devices) (before after : Option (List ℕ))
+      → EndsBy tariffs tariff rules rule failure lines bad old new before after → BelongTogether old → HasFilestore old → HasFilestore new
+  keeps_filestore None lines bad old new before after ends both has =
+      let (s, stand, low) = state_there old both has in
+      let (moves, last, run, over, text) = ends s low stand in
+      devices_keep tariffs tariff rules rule lines bad s old new moves last stand has run
+  keeps_filestore (Some failure) lines bad old new before after ends both has =
+      let (s, stand, low) = state_there old both has in
+      let (moves, last, run, put) = ends s low stand in
+      devices_keep tariffs tariff rules rule lines bad s old new moves last stand has run

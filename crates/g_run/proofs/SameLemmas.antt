@@ -1,0 +1,33 @@
+-- WHAT IS AT HAND THEN, told in another way.
+use Rattle.std.proofs.Common.{◌≡◌, ℕ, List, Option, sym, subst}
+use Rattle.std.specs.Fn.{Shared}
+use denote.Ref.{Bor}
+use Rattle.g_budget.specs.declared.tariff.Charge.{Charge}
+use Rattle.g_budget.specs.declared.tariff.Usage.{Usage}
+use Rattle.g_sched.specs.declared.rule.Standing.{Standing}
+use Rattle.g_console.specs.declared.progress.Failure.{Failure}
+use Rattle.g_console.specs.Parts.{Seen}
+use Rattle.g_run.specs.Parts.{DidOne}
+use Rattle.g_run.specs.Tick.{DidDump, DidTick, DidTurn}
+
+pub same_dump : {old new new' : Seen} {failure : Option Failure} {before after : Option (List ℕ)} {faults faults' : ℕ} → new' ≡ new → DidDump old failure new before after faults faults'
+    → DidDump old failure new' before after faults faults'
+same_dump {old = old} {failure = failure} {before = before} {after = after} {faults = faults} {faults' = faults'} is did =
+    subst (λ (s : Seen). DidDump old failure s before after faults faults') (sym is) did
+
+module _ {F U : Type 0} (tariffs : Shared F (Bor Usage × Unit {0}) Charge) (tariff : F) (rules : Shared U (Bor Standing × Unit {0}) ℕ) (rule : U) where
+  pub same_turn : {old new new' : Seen} {failure : Option Failure} (before after : Option (List ℕ)) {faults faults' : ℕ} → new' ≡ new → DidTurn tariffs tariff rules rule old failure new before after faults faults'
+      → DidTurn tariffs tariff rules rule old failure new' before after faults faults'
+  same_turn {old = old} {failure = failure} before after {faults = faults} {faults' = faults'} is did =
+      subst (λ (s : Seen). DidTurn tariffs tariff rules rule old failure s before after faults faults') (sym is) did
+
+  pub same_tick : {old new new' : Seen} {failure : Option Failure} (before after : Option (List ℕ)) {faults faults' : ℕ} → new' ≡ new → DidTick tariffs tariff rules rule old failure new before after faults faults'
+      → DidTick tariffs tariff rules rule old failure new' before after faults faults'
+  same_tick {old = old} {failure = failure} before after {faults = faults} {faults' = faults'} is did =
+      subst (λ (s : Seen). DidTick tariffs tariff rules rule old failure s before after faults faults') (sym is) did
+
+  pub same_one : {limit : Option ℕ} {old old' new new' : Seen} {failure : Option Failure} {before after : Option (List ℕ)} {faults faults' : ℕ} → old ≡ old' → new' ≡ new
+      → DidOne tariffs tariff rules rule limit old failure new before after faults faults' → DidOne tariffs tariff rules rule limit old' failure new' before after faults faults'
+  same_one {limit = limit} {old = old} {new' = new'} {failure = failure} {before = before} {after = after} {faults = faults} {faults' = faults'} opens ends did =
+      subst (λ (s : Seen). DidOne tariffs tariff rules rule limit s failure new' before after faults faults') opens
+      (subst (λ (s : Seen). DidOne tariffs tariff rules rule limit old failure s before after faults faults') (sym ends) did)

@@ -1,0 +1,187 @@
+//! What becomes of a job behind its turn, and what is told of it.
+ghost use Rattle.std.specs.Prelude.{◌≡◌, ◌↔◌, ◌++◌, ℕ, List, Option, None, Some, [], IfOk, codes, true, false};
+ghost use Rattle.std.specs.Fmt.{decimal};
+ghost use Rattle.g_crew.specs.Crew.{CrewState};
+ghost use Rattle.g_crew.specs.Numbers.{job_in};
+ghost use Rattle.g_job.specs.State.{JobState};
+ghost use Rattle.g_world.specs.Texts as texts;
+ghost use Rattle.g_world.specs.Texts.{operator_line};
+ghost use Rattle.g_run.specs.Turning.{EndsTurn, GoesDown, GoesOn, TakenOut};
+
+use crate::day_up::DayUp;
+use g_base::NoMemory;
+use g_console::{Day, Ended, Failure, System, fails, put, told};
+use g_crew::job_text;
+use g_disc::Disc;
+use g_io::Sink;
+use g_job::{Job, Turn};
+use g_name::Text;
+use g_plain::StoreFault;
+use g_tape::Tapes;
+use std::alloc::Global;
+
+/// The turn of the job of this number is over: a job that waits is told, one that has ended is taken out and its file put, and a
+/// stop takes the system down. Accounts open for users that the turn has made, unless it was stopped.
+pub(crate) fn end_turn<K: Sink, D: Disc, T: Tapes>(
+    alloc: Global,
+    up: DayUp<D, T>,
+    number: u64,
+    turn: Turn,
+    out: &mut K,
+) -> Ended<D, T>
+    requires stopped { (up.store.spent ≡ true) ↔ (turn ≡ Turn.Broken) }
+    requires there { (job : JobState) × (job_in number up.crew.jobs ≡ Some job) }
+    ensures ends { EndsTurn up.count number up.store up.crew turn result.failure result.day.system result.day.crew
+        (K.written out.old) (K.written out.new) (K.faults out.old) (K.faults out.new) }
+    ensures count { result.day.count ≡ up.count }
+{
+    match turn {
+        Turn::Broken => stops(alloc, up, out),
+        Turn::Wants { serial } => waits(alloc, up, number, serial, out),
+        Turn::Ran { .. } => goes_on(up),
+        Turn::Ended { .. } => ends(up, number, out),
+    }
+}
+
+/// The system was stopped.
+fn stops<K: Sink, D: Disc, T: Tapes>(alloc: Global, up: DayUp<D, T>, out: &mut K) -> Ended<D, T>
+    ensures ends { GoesDown up.store up.count up.crew result.failure result.day.system result.day.crew
+        (K.written out.old) (K.written out.new) (K.faults out.old) (K.faults out.new) }
+    ensures count { result.day.count ≡ up.count }
+{
+    let DayUp { store, crew, count } = up;
+    let day = Day {
+        system: System::Up(store),
+        crew,
+        count,
+    };
+    fails(alloc, day, StoreFault::Stopped, out)
+}
+
+/// The job goes on.
+fn goes_on<D: Disc, T: Tapes>(up: DayUp<D, T>) -> Ended<D, T>
+    requires running { up.store.spent ≡ false }
+    ensures goes { (text : Option (List ℕ)) (faults : ℕ) → GoesOn up.store [] up.crew result.failure result.day.system result.day.crew text text faults faults }
+    ensures count { result.day.count ≡ up.count }
+{
+    let DayUp {
+        store,
+        mut crew,
+        count,
+    } = up;
+    match crew.open_accounts(store.users()) {
+        Ok(()) => Ended {
+            day: Day {
+                system: System::Up(store),
+                crew,
+                count,
+            },
+            failure: None,
+        },
+        Err(NoMemory) => Ended {
+            day: Day {
+                system: System::Up(store),
+                crew,
+                count,
+            },
+            failure: Some(Failure::Memory),
+        },
+    }
+}
+
+/// The job waits for this reel.
+fn waits<K: Sink, D: Disc, T: Tapes>(
+    alloc: Global,
+    up: DayUp<D, T>,
+    number: u64,
+    serial: u32,
+    out: &mut K,
+) -> Ended<D, T>
+    requires running { up.store.spent ≡ false }
+    ensures goes { GoesOn up.store (operator_line up.count (texts.job_text number (codes "WANTS TAPE " ++ decimal serial))) up.crew result.failure
+        result.day.system result.day.crew (K.written out.old) (K.written out.new) (K.faults out.old) (K.faults out.new) }
+    ensures count { result.day.count ≡ up.count }
+{
+    let DayUp {
+        store,
+        mut crew,
+        count,
+    } = up;
+    match crew.open_accounts(store.users()) {
+        Ok(()) => {
+            let made = wants(alloc, number, serial);
+            let day = Day {
+                system: System::Up(store),
+                crew,
+                count,
+            };
+            told(alloc, day, made, out)
+        }
+        Err(NoMemory) => Ended {
+            day: Day {
+                system: System::Up(store),
+                crew,
+                count,
+            },
+            failure: Some(Failure::Memory),
+        },
+    }
+}
+
+/// What is told of a job that waits.
+fn wants(alloc: Global, number: u64, serial: u32) -> Result<Text, NoMemory>
+    ensures { IfOk result (λ text. text ≡ texts.job_text number (codes "WANTS TAPE " ++ decimal serial)) }
+{
+    let mut how = Text::from_slice(alloc, b"WANTS TAPE ")?;
+    let digits = u64::from(serial).to_string(alloc)?;
+    how.extend(digits.as_bytes())?;
+    job_text(alloc, number, how.as_slice())
+}
+
+/// The job of this number has ended: it is taken out, and its file put.
+fn ends<K: Sink, D: Disc, T: Tapes>(up: DayUp<D, T>, number: u64, out: &mut K) -> Ended<D, T>
+    requires running { up.store.spent ≡ false }
+    requires there { (job : JobState) × (job_in number up.crew.jobs ≡ Some job) }
+    ensures ends { (job : JobState) × (mid : CrewState) × TakenOut job number up.crew mid × GoesOn up.store job.monitor mid result.failure
+        result.day.system result.day.crew (K.written out.old) (K.written out.new) (K.faults out.old) (K.faults out.new) }
+    ensures count { result.day.count ≡ up.count }
+{
+    let mut up = up;
+    match up.crew.end(number) {
+        Some(job) => put_file(up, &job, out),
+        None => unreachable!(),
+    }
+}
+
+/// The file of a job that has ended is put.
+fn put_file<K: Sink, D: Disc, T: Tapes>(up: DayUp<D, T>, job: &Job, out: &mut K) -> Ended<D, T>
+    requires running { up.store.spent ≡ false }
+    ensures goes { GoesOn up.store job.now.monitor up.crew result.failure result.day.system result.day.crew
+        (K.written out.old) (K.written out.new) (K.faults out.old) (K.faults out.new) }
+    ensures count { result.day.count ≡ up.count }
+{
+    let DayUp {
+        store,
+        mut crew,
+        count,
+    } = up;
+    match crew.open_accounts(store.users()) {
+        Ok(()) => {
+            let failure = put(out, job.monitor());
+            let day = Day {
+                system: System::Up(store),
+                crew,
+                count,
+            };
+            Ended { day, failure }
+        }
+        Err(NoMemory) => Ended {
+            day: Day {
+                system: System::Up(store),
+                crew,
+                count,
+            },
+            failure: Some(Failure::Memory),
+        },
+    }
+}
