@@ -1,16 +1,20 @@
 -- What a check answers, of what was seen of disc and rack.
-use Rattle.std.proofs.Common.{◌≡◌, ◌↔◌, ℕ, Bool, List, [], ◌∷◌, ◌++◌, Option, Some, None, refl, sym, ◌∙◌, ap, subst, IsTrue}
+use Rattle.std.proofs.Common.{◌≡◌, ◌↔◌, ℕ, Bool, true, List, [], ◌∷◌, ◌++◌, Option, Some, None, refl, sym, ◌∙◌, ap, subst, All, IsTrue}
 use Rattle.std.specs.Prelude.{is_some}
+use Rattle.std.proofs.lemmas.List.Elements.{All-map}
 use Rattle.g_entry.specs.declared.format.Format.{Format}
 use Rattle.g_slots.specs.declared.side.Side.{Side}
 use Rattle.g_slots.specs.Layout.{gate_side}
 use Rattle.g_dirs.specs.declared.dirs.Dirs.{Dirs}
 use Rattle.g_dirs.specs.Directory.{Directory}
 use Rattle.g_dirs.specs.Image.{StandsFor}
+use Rattle.g_tape.specs.Rack.{Rack}
+use Rattle.g_tape.specs.Reads.{OnlyReads, unread}
 use Rattle.g_tape.specs.Reel.{Reel}
 use Rattle.g_incr.specs.Layout.{Dump}
 use Rattle.g_lines.specs.Lines.{text_of}
 use Rattle.g_shelf.specs.Completed.{AreShelved, all_dumps}
+use Rattle.g_state.specs.Meaning.{told_reels}
 use Rattle.g_state.specs.Reading.{AllTold}
 use Rattle.g_restore.specs.declared.dumps.Found.{Found}
 use Rattle.g_look.specs.declared.broken.Broken.{Broken}
@@ -55,3 +59,27 @@ holds_so blocks (Some f) is = (λ yes. (directory_in f.1, is.0), λ other. refl)
 
 pub holds_filestore : (size : ℕ) (held : Option (List (List ℕ))) (s : Standing) (blocks : List (List ℕ)) → IsStanding size held s → held ≡ Some blocks → IsTrue (is_some s.dirs) ↔ ((d : Directory) × StandsFor blocks d)
 holds_filestore size held s blocks standing told = holds_so blocks s.dirs (standing.found blocks told)
+
+-- reels that are mounted are so when they were read
+pub mounted_told : (old new : Rack) → OnlyReads old new → All (λ r. r.mounted ≡ true) old.reels → All (λ r. r.mounted ≡ true) (told_reels new)
+mounted_told old new only all =
+    subst (All (λ (r : Reel). r.mounted ≡ true)) (sym only.reels)
+    (All-map (λ (r : Reel). r.mounted ≡ true) unread old.reels (λ k d within. all k d within))
+
+-- the same by what was read before
+pub checked_at : (size size_1 : ℕ) (held held_1 : Option (List (List ℕ))) (reels reels_1 reels_2 : List Reel) (items slice slice_2 : List Found) (s : Standing) (verdict : Option Broken) (text : List ℕ)
+    → size_1 ≡ size → held_1 ≡ held → reels_1 ≡ reels → reels_2 ≡ reels_1 → slice ≡ items → slice_2 ≡ items → AreSeen reels items → IsStanding size held s
+    → (AreSeen reels_1 slice → AllTold held_1 reels_1 → IsVerdict held_1 reels_1 verdict)
+    → ((shelf : ℕ → List Dump) → IsSeen reels_2 shelf slice_2
+    → text ≡ text_of (disc_lines size_1 s.side (all_dumps shelf reels_2) (found_in s.dirs) ++ rack_lines shelf reels_2 ++ verdict_line (is_some s.dirs) verdict ∷ []))
+    → AllTold held reels → IsChecked size held reels verdict text
+checked_at size size_1 held held_1 reels reels_1 reels_2 items slice slice_2 s verdict text same_size same_held same_reels same_reels_2 is_slice is_slice_2 seen standing right is told =
+    checked_is size held reels items s verdict text seen standing told
+    (subst (λ (h : Option (List (List ℕ))). IsVerdict h reels verdict) same_held
+    (subst (λ (rs : List Reel). IsVerdict held_1 rs verdict) same_reels
+    (right (subst (AreSeen reels_1) (sym is_slice) (subst (λ (rs : List Reel). AreSeen rs items) (sym same_reels) seen))
+    (subst (λ (rs : List Reel). AllTold held_1 rs) (sym same_reels) (subst (λ (h : Option (List (List ℕ))). AllTold h reels) (sym same_held) told)))))
+    (λ shelf here.
+    subst (λ (n : ℕ). text ≡ text_of (disc_lines n s.side (all_dumps shelf reels) (found_in s.dirs) ++ rack_lines shelf reels ++ verdict_line (is_some s.dirs) verdict ∷ [])) same_size
+    (subst (λ (rs : List Reel). text ≡ text_of (disc_lines size_1 s.side (all_dumps shelf rs) (found_in s.dirs) ++ rack_lines shelf rs ++ verdict_line (is_some s.dirs) verdict ∷ [])) (same_reels_2 ∙ same_reels)
+    (is shelf (subst (IsSeen reels_2 shelf) (sym is_slice_2) (subst (λ (rs : List Reel). IsSeen rs shelf items) (sym (same_reels_2 ∙ same_reels)) here)))))

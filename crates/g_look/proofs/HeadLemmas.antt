@@ -102,7 +102,7 @@ unfolding known_upto
 upto_known serial last end [] = refl
 upto_known serial last end (f ∷ fs) = upto_known serial last (end_with serial last end f) fs
 
-abbrev up_to : ℕ → Dump → Bool
+abbrev pub up_to : ℕ → Dump → Bool
 up_to last d = nat_le d.number last
 
 -- what is taken of those of a serial up to a number

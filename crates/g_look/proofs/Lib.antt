@@ -7,6 +7,7 @@ pub mod HeadLemmas
 pub mod JudgeLemmas
 pub mod LoopLemmas
 pub mod LostLemmas
+pub mod PushLemmas
 pub mod RackLemmas
 pub mod RecLemmas
 pub mod SeenLemmas

@@ -1,10 +1,12 @@
 -- The lines that are shown of what is in memory are those of the dumps and of the disc.
-use Rattle.std.proofs.Common.{◌≡◌, ◌⊎◌, inl, inr, ◌↔◌, ℕ, zero, suc, ◌+◌, ◌-◌, ◌^◌, ◌<◌, ◌≤◌, Bool, true, false, cond, ◌&&◌, ◌||◌, List, [], ◌∷◌, ◌++◌, length, map, filter, take, Option, Some, None, Result, Ok, Err, refl, sym, ◌∙◌, ap, arith, subst, All}
-use Rattle.std.specs.Prelude.{◌==◌, Contains, codes, get_or, is_some, nat_le, slice_get, slice_index_or, IfSome}
+use Rattle.std.proofs.Common.{◌≡◌, ◌⊎◌, inl, inr, ◌↔◌, ℕ, zero, suc, ◌+◌, ◌-◌, ◌*◌, ◌^◌, ◌<◌, ◌≤◌, Bool, true, false, cond, ◌&&◌, ◌||◌, List, [], ◌∷◌, ◌++◌, length, map, filter, take, Option, Some, None, Result, Ok, Err, refl, sym, ◌∙◌, ap, arith, subst, All}
+use Rattle.std.specs.Prelude.{◌==◌, Contains, codes, get_or, is_some, nat_le, slice_get, slice_index_or, IfSome, OnOk}
 use Rattle.std.specs.List.{flat_map, list_any}
 use Rattle.std.proofs.lemmas.Bool.{cases_eq, cond-false, cond-true, eq-eqb, le-leb, ne_eqb}
 use Rattle.std.proofs.lemmas.List.{append-nil, append_assoc, length-append, length-map, map-append, take_more}
 use Rattle.std.proofs.lemmas.Grind.{flat_map-append}
+use Rattle.std.proofs.lemmas.List.Elements.{filter-append}
+use Rattle.g_base.specs.declared.memory.NoMemory.{NoMemory}
 use Rattle.g_copy.specs.declared.copy.DiscCopy.{DiscCopy}
 use Rattle.g_entry.specs.declared.file_rec.FileRec.{FileRec}
 use Rattle.g_entry.specs.declared.format.Format.{Format}
@@ -30,9 +32,10 @@ use Rattle.g_restore.specs.Known.{AreKnown, Known, known, known_of}
 use Rattle.g_look.specs.declared.broken.Broken.{Broken}
 use Rattle.g_look.specs.Heads.{EndsLow, end_upto}
 use Rattle.g_look.specs.Seen.{IsSeen}
-use Rattle.g_look.specs.Shown.{copy_blocks, count_on, counts_text, dirs_text, known_line, lines_on, names_found, on_reel, tape_text, used_by}
+use Rattle.g_look.specs.Shown.{copy_blocks, count_on, counts_text, dirs_text, known_line, lines_on, names_found, on_reel, state_text, tape_text, used_by}
 use Rattle.g_look.specs.Standing.{directory_in, found_in}
 use Rattle.g_look.specs.Text.{disc_front, disc_lines, dump_line, holder_text, intent_lines, is_there, rack_lines, reel_lines, tape_line, told, verdict_line}
+use Rattle.g_look.proofs.PushLemmas.{then_more}
 use Rattle.g_look.proofs.HeadLemmas.{end_is, is_on, low_ends, seen_on, up_to}
 
 -- A DUMP
@@ -99,6 +102,18 @@ module _ (reels : List Reel) (shelf : ℕ → List Dump) (found : List Found) (s
           ∙ ap (λ (n : ℕ). ended (tape_text r.serial r.capacity r.len n end)) (is_count ∙ count_there)
           ∙ ap (λ (n : ℕ). ended (tape_text r.serial r.capacity r.len (length (shelf r.serial)) n)) (is_end (low_ends reels shelf found seen) ∙ end_there)
 
+pub reel_shown_at : (reels : List Reel) (found : List Found) (serial : ℕ) (result : Result (Unit {0}) NoMemory) (old mid new : List ℕ) (capacity len count end : ℕ)
+    → ((r : Reel) → Contains reels r → r.serial ≡ serial → capacity ≡ r.capacity) → ((r : Reel) → Contains reels r → r.serial ≡ serial → len ≡ r.len) → count ≡ count_on serial found
+    → (All EndsLow found → end ≡ end_upto serial 18446744073709551615 0 found) → mid ≡ old ++ ended (tape_text serial capacity len count end) → OnOk result (new ≡ mid ++ text_of (lines_on serial found))
+    → OnOk result ((shelf : ℕ → List Dump) → IsSeen reels shelf found → (r : Reel) → Contains reels r → r.serial ≡ serial → new ≡ old ++ text_of (reel_lines shelf r))
+reel_shown_at reels found serial (Err e) old mid new capacity len count end is_capacity is_len is_count is_end first rest = tt
+reel_shown_at reels found serial (Ok u) old mid new capacity len count end is_capacity is_len is_count is_end first rest = λ shelf seen r there on.
+    reel_shown reels shelf found seen r there old mid new capacity len count end (is_capacity r there on) (is_len r there on)
+    (subst (λ (n : ℕ). count ≡ count_on n found) (sym on) is_count)
+    (subst (λ (n : ℕ). All EndsLow found → end ≡ end_upto n 18446744073709551615 0 found) (sym on) is_end)
+    (subst (λ (n : ℕ). mid ≡ old ++ ended (tape_text n capacity len count end)) (sym on) first)
+    (subst (λ (n : ℕ). new ≡ mid ++ text_of (lines_on n found)) (sym on) rest)
+
 -- the serial of a place
 nth_reel : (rs : List Reel) (i serial : ℕ) → slice_get (map (λ r. r.serial) rs) i ≡ Some serial → (r : Reel) × (i < length (map unread rs)) × (get_or (map unread rs) i r ≡ r) × (r.serial ≡ serial)
 nth_reel [] i serial is = absurd (none_there i is)
@@ -164,45 +179,126 @@ used_step files online i r inside at =
         ∙ length-append (flat_map places_of (map g fs)) (places_of (g s) ++ [])
         ∙ ap (λ (n : ℕ). used_by fs online + n) (ap length (append-nil (places_of (g s)) ∙ blocks_of s (copy_at online s.number)))
 
+-- THE INTENT'S LINE
+pub intent_shown : (dumps : List Dump) (i : Intent) (there : Bool) (old one two three four : List ℕ) → one ≡ old ++ told (codes "INTENT DUMP ") i.number → two ≡ one ++ told (codes " TAPE ") i.serial
+    → three ≡ two ++ told (codes " AT ") i.place → there ≡ is_there dumps i → four ≡ three ++ ended (state_text there) → four ≡ old ++ text_of (intent_lines dumps (Some i))
+intent_shown dumps i there old one two three four is_one is_two is_three is_there_is is_four =
+    let front : List ℕ = told (codes "INTENT DUMP ") i.number ++ told (codes " TAPE ") i.serial ++ told (codes " AT ") i.place in
+    let so : three ≡ old ++ front =
+    then_more old (told (codes "INTENT DUMP ") i.number ++ told (codes " TAPE ") i.serial) (told (codes " AT ") i.place) two three
+    (then_more old (told (codes "INTENT DUMP ") i.number) (told (codes " TAPE ") i.serial) one two is_one is_two) is_three in
+    then_more old front (ended (state_text there)) three four so is_four
+    ∙ ap (λ (b : Bool). old ++ (front ++ ended (state_text b))) is_there_is
+    ∙ ap (λ (xs : List ℕ). old ++ xs) (sym (append_assoc front (state_text (is_there dumps i)) (10 ∷ [])) ∙ sym (append-nil (ended (front ++ state_text (is_there dumps i)))))
+
+-- THE DIRECTORY behind the front of the first line
+pub dirs_shown : (size : ℕ) (format : Format) (dumps : List Dump) (dirs : Dirs) (old one two three four : List ℕ) → one ≡ old ++ ended (told (codes " FORMAT ") (format_number format))
+    → two ≡ one ++ counts_text size dirs → three ≡ two ++ ended (told (codes "LAST DUMP ") dirs.head.last_dump) → four ≡ three ++ text_of (intent_lines dumps dirs.head.intent)
+    → four ≡ old ++ dirs_text size format dumps dirs
+dirs_shown size format dumps dirs old one two three four is_one is_two is_three is_four =
+    then_more old (ended (told (codes " FORMAT ") (format_number format)) ++ counts_text size dirs ++ ended (told (codes "LAST DUMP ") dirs.head.last_dump)) (text_of (intent_lines dumps dirs.head.intent)) three four
+    (then_more old (ended (told (codes " FORMAT ") (format_number format)) ++ counts_text size dirs) (ended (told (codes "LAST DUMP ") dirs.head.last_dump)) two three
+    (then_more old (ended (told (codes " FORMAT ") (format_number format))) (counts_text size dirs) one two is_one is_two) is_three) is_four
+
 -- THE DISC
-pub disc_shown : (size : ℕ) (side : Side) (format : Format) (dumps : List Dump) (dirs : Dirs)
+shuffled : (front words counts last intent : List ℕ) → front ++ (((ended words ++ counts) ++ last) ++ intent) ≡ ended (front ++ words) ++ (counts ++ (last ++ intent))
+shuffled front words counts last intent =
+    ap (λ (xs : List ℕ). front ++ xs) (append_assoc (ended words ++ counts) last intent ∙ append_assoc (ended words) counts (last ++ intent))
+    ∙ sym (append_assoc front (ended words) (counts ++ (last ++ intent)))
+    ∙ ap (λ (xs : List ℕ). xs ++ (counts ++ (last ++ intent))) (sym (append_assoc front words (10 ∷ [])))
+
+disc_shown : (size : ℕ) (side : Side) (format : Format) (dumps : List Dump) (dirs : Dirs)
     → disc_front size side ++ dirs_text size format dumps dirs ≡ text_of (disc_lines size side dumps (Some (format, directory_in dirs)))
 disc_shown size side format dumps dirs =
     let front : List ℕ = disc_front size side in
     let words : List ℕ = told (codes " FORMAT ") (format_number format) in
-    let last : List ℕ = ended (told (codes "LAST DUMP ") dirs.head.last_dump) ++ text_of (intent_lines dumps dirs.head.intent) in
-    sym (append_assoc front (ended words) (counts_text size dirs ++ last))
-    ∙ ap (λ (xs : List ℕ). xs ++ (counts_text size dirs ++ last)) (sym (append_assoc front words (10 ∷ [])))
+    let last : List ℕ = ended (told (codes "LAST DUMP ") dirs.head.last_dump) in
+    let intent : List ℕ = text_of (intent_lines dumps dirs.head.intent) in
+    shuffled front words (counts_text size dirs) last intent
     ∙ ap
       (λ (n : ℕ). ended (front ++ words)
       ++ (ended (told (codes "USERS ") (length dirs.users.items) ++ told (codes " FILES ") n ++ told (codes " BLOCKS ") (used_by dirs.files.items dirs.online.items)
-      ++ told (codes " FREE ") (size - 2177 - used_by dirs.files.items dirs.online.items) ++ told (codes " NEXT ") dirs.head.next_stamp) ++ last))
+      ++ told (codes " FREE ") (size - 2177 - used_by dirs.files.items dirs.online.items) ++ told (codes " NEXT ") dirs.head.next_stamp) ++ (last ++ intent)))
       (sym (length-map dirs.files.items (λ (r : FileRec). (r, copy_at dirs.online.items r.number))))
 
-pub disc_some : (size : ℕ) (side : Side) (format : Format) (dumps : List Dump) (dirs : Dirs) (old mid new : List ℕ) → mid ≡ old ++ disc_front size side → new ≡ mid ++ dirs_text size format dumps dirs
-    → new ≡ old ++ text_of (disc_lines size side dumps (Some (format, directory_in dirs)))
-disc_some size side format dumps dirs old mid new first is =
-    is ∙ ap (λ (xs : List ℕ). xs ++ dirs_text size format dumps dirs) first ∙ append_assoc old (disc_front size side) (dirs_text size format dumps dirs)
+pub disc_some : (size : ℕ) (side : Side) (format : Format) (dumps : List Dump) (dirs : Dirs) (found : Option (Format × Dirs)) (old mid new : List ℕ) → found ≡ Some (format, dirs)
+    → mid ≡ old ++ disc_front size side → new ≡ mid ++ dirs_text size format dumps dirs → new ≡ old ++ text_of (disc_lines size side dumps (found_in found))
+disc_some size side format dumps dirs found old mid new some first is =
+    then_more old (disc_front size side) (dirs_text size format dumps dirs) mid new first is
     ∙ ap (λ (xs : List ℕ). old ++ xs) (disc_shown size side format dumps dirs)
+    ∙ ap (λ (o : Option (Format × Dirs)). old ++ text_of (disc_lines size side dumps (found_in o))) (sym some)
 
-pub disc_none : (size : ℕ) (side : Side) (dumps : List Dump) (old mid new : List ℕ) → mid ≡ old ++ disc_front size side → new ≡ mid ++ codes " NO FILESTORE\n"
-    → new ≡ old ++ text_of (disc_lines size side dumps None)
-disc_none size side dumps old mid new first is =
-    is ∙ ap (λ (xs : List ℕ). xs ++ codes " NO FILESTORE\n") first ∙ append_assoc old (disc_front size side) (codes " NO FILESTORE\n")
+pub disc_none : (size : ℕ) (side : Side) (dumps : List Dump) (found : Option (Format × Dirs)) (old mid new : List ℕ) → found ≡ None → mid ≡ old ++ disc_front size side
+    → new ≡ mid ++ codes " NO FILESTORE\n" → new ≡ old ++ text_of (disc_lines size side dumps (found_in found))
+disc_none size side dumps found old mid new none first is =
+    then_more old (disc_front size side) (codes " NO FILESTORE\n") mid new first is
     ∙ ap (λ (xs : List ℕ). old ++ xs) (sym (append_assoc (disc_front size side) (codes " NO FILESTORE") (10 ∷ [])) ∙ sym (append-nil (ended (disc_front size side ++ codes " NO FILESTORE"))))
+    ∙ ap (λ (o : Option (Format × Dirs)). old ++ text_of (disc_lines size side dumps (found_in o))) (sym none)
 
 -- ALL OF IT
-pub all_shown : (disc rack : List (List ℕ)) (verdict : List ℕ) (one two three : List ℕ) → one ≡ text_of disc → two ≡ one ++ text_of rack → three ≡ two ++ verdict
-    → three ++ 10 ∷ [] ≡ text_of (disc ++ rack ++ verdict ∷ [])
-all_shown disc rack verdict one two three is_one is_two is_three =
-    ap (λ (xs : List ℕ). xs ++ 10 ∷ []) (is_three ∙ ap (λ (xs : List ℕ). xs ++ verdict) (is_two ∙ ap (λ (xs : List ℕ). xs ++ text_of rack) is_one))
+pub all_shown : (disc rack : List (List ℕ)) (verdict : List ℕ) (one two three four : List ℕ) → one ≡ text_of disc → two ≡ one ++ text_of rack → three ≡ two ++ verdict → four ≡ three ++ 10 ∷ []
+    → four ≡ text_of (disc ++ rack ++ verdict ∷ [])
+all_shown disc rack verdict one two three four is_one is_two is_three is_four =
+    is_four ∙ ap (λ (xs : List ℕ). xs ++ 10 ∷ []) (is_three ∙ ap (λ (xs : List ℕ). xs ++ verdict) (is_two ∙ ap (λ (xs : List ℕ). xs ++ text_of rack) is_one))
     ∙ append_assoc (text_of disc ++ text_of rack) verdict (10 ∷ [])
-    ∙ append_assoc (text_of disc) (text_of rack) (ended verdict)
-    ∙ ap (λ (xs : List ℕ). text_of disc ++ (text_of rack ++ xs)) (sym (append-nil (ended verdict)))
-    ∙ ap (λ (xs : List ℕ). text_of disc ++ xs) (sym (flat_map-append ended rack (verdict ∷ [])))
-    ∙ sym (flat_map-append ended disc (rack ++ verdict ∷ []))
+    ∙ ap (λ (xs : List ℕ). (text_of disc ++ text_of rack) ++ xs) (sym (append-nil (ended verdict)))
+    ∙ ap (λ (xs : List ℕ). xs ++ (ended verdict ++ [])) (sym (flat_map-append ended disc rack))
+    ∙ sym (flat_map-append ended (disc ++ rack) (verdict ∷ []))
 
 -- the letters of modes
 pub modes_are : (modes : ℕ) → shown_mode modes Read 82 ∷ shown_mode modes Write 87 ∷ shown_mode modes Append 65 ∷ shown_mode modes Execute 88 ∷ shown_mode modes Erase 69 ∷ [] ≡ modes_text modes
 unfolding modes_text
 modes_are modes = refl
+
+-- the loop over files
+pub used_so_far : (files : List FileRec) (online : List (ℕ × DiscCopy)) (i used more now : ℕ) (r : FileRec) → i < length files → r ≡ get_or files i r
+    → (used ≡ used_by (take i files) online) × (used ≤ 4294967296 * i) → more ≡ length (copy_blocks (copy_at online r.number)) → more < 4294967296 → now ≡ used + more
+    → (now ≡ used_by (take (i + 1) files) online) × (now ≤ 4294967296 * (i + 1))
+used_so_far files online i used more now r inside at (is, most) is_more low is_now =
+    (is_now ∙ ap (λ (n : ℕ). n + more) is ∙ ap (λ (n : ℕ). used_by (take i files) online + n) is_more ∙ sym (used_step files online i r inside at), omega (arith, most, low, is_now))
+
+-- the loop over dumps
+pub count_more : (serial : ℕ) (found : List Found) (i : ℕ) (f : Found) → i < length found → f ≡ get_or found i f → count_on serial (take (i + 1) found) ≡ count_on serial (take i found) + count_on serial (f ∷ [])
+count_more serial found i f inside at =
+    ap (count_on serial) (take_more found i f inside ∙ ap (λ (x : Found). take i found ++ x ∷ []) (sym at))
+    ∙ ap (λ (ks : List Known). length (on_reel serial ks)) (map-append known (take i found) (f ∷ []))
+    ∙ ap length (filter-append (λ k. k.serial == serial) (map known (take i found)) (map known (f ∷ [])))
+    ∙ length-append (on_reel serial (map known (take i found))) (on_reel serial (map known (f ∷ [])))
+
+pub count_on_one : (serial : ℕ) (f : Found) → f.serial ≡ serial → count_on serial (f ∷ []) ≡ 1
+count_on_one serial f same = ap length (cond-true (f.serial == serial) (known f ∷ []) [] (eq-eqb f.serial serial same))
+
+pub count_on_other : (serial : ℕ) (f : Found) → (f.serial ≡ serial → ⊥) → count_on serial (f ∷ []) ≡ 0
+count_on_other serial f other = ap length (cond-false (f.serial == serial) (known f ∷ []) [] (ne_eqb f.serial serial other))
+
+pub count_so_far : (serial : ℕ) (found : List Found) (i count more : ℕ) (f : Found) → i < length found → f ≡ get_or found i f → (count ≡ count_on serial (take i found)) × (count ≤ i)
+    → more ≡ count_on serial (f ∷ []) → more ≤ 1 → (count + more ≡ count_on serial (take (i + 1) found)) × (count + more ≤ i + 1)
+count_so_far serial found i count more f inside at (is, most) is_more low =
+    (ap (λ (n : ℕ). n + more) is ∙ ap (λ (n : ℕ). count_on serial (take i found) + n) is_more ∙ sym (count_more serial found i f inside at), omega (arith, most, low))
+
+-- of answers
+pub intent_ok : (found : List Found) (i : Intent) (there : Bool) (result : Result (Unit {0}) NoMemory) (old one two three four : List ℕ) → one ≡ old ++ told (codes "INTENT DUMP ") i.number
+    → two ≡ one ++ told (codes " TAPE ") i.serial → three ≡ two ++ told (codes " AT ") i.place → there ≡ list_any (names_found i) found → OnOk result (four ≡ three ++ ended (state_text there))
+    → OnOk result ((dumps : List Dump) → AreKnown found dumps → four ≡ old ++ text_of (intent_lines dumps (Some i)))
+intent_ok found i there (Err e) old one two three four is_one is_two is_three is is_four = tt
+intent_ok found i there (Ok u) old one two three four is_one is_two is_three is is_four = λ dumps are.
+    intent_shown dumps i there old one two three four is_one is_two is_three (is ∙ intent_there i found dumps are) is_four
+
+pub dirs_ok : (size : ℕ) (format : Format) (dirs : Dirs) (found : List Found) (result : Result (Unit {0}) NoMemory) (old one two three four : List ℕ)
+    → one ≡ old ++ ended (told (codes " FORMAT ") (format_number format)) → two ≡ one ++ counts_text size dirs → three ≡ two ++ ended (told (codes "LAST DUMP ") dirs.head.last_dump)
+    → OnOk result ((dumps : List Dump) → AreKnown found dumps → four ≡ three ++ text_of (intent_lines dumps dirs.head.intent))
+    → OnOk result ((dumps : List Dump) → AreKnown found dumps → four ≡ old ++ dirs_text size format dumps dirs)
+dirs_ok size format dirs found (Err e) old one two three four is_one is_two is_three is_four = tt
+dirs_ok size format dirs found (Ok u) old one two three four is_one is_two is_three is_four = λ dumps are. dirs_shown size format dumps dirs old one two three four is_one is_two is_three (is_four dumps are)
+
+pub disc_some_ok : (size : ℕ) (side : Side) (format : Format) (dirs : Dirs) (here : Option (Format × Dirs)) (found : List Found) (result : Result (Unit {0}) NoMemory) (old mid new : List ℕ)
+    → here ≡ Some (format, dirs) → mid ≡ old ++ disc_front size side → OnOk result ((dumps : List Dump) → AreKnown found dumps → new ≡ mid ++ dirs_text size format dumps dirs)
+    → OnOk result ((dumps : List Dump) → AreKnown found dumps → new ≡ old ++ text_of (disc_lines size side dumps (found_in here)))
+disc_some_ok size side format dirs here found (Err e) old mid new some first is = tt
+disc_some_ok size side format dirs here found (Ok u) old mid new some first is = λ dumps are. disc_some size side format dumps dirs here old mid new some first (is dumps are)
+
+pub disc_none_ok : (size : ℕ) (side : Side) (here : Option (Format × Dirs)) (found : List Found) (result : Result (Unit {0}) NoMemory) (old mid new : List ℕ)
+    → here ≡ None → mid ≡ old ++ disc_front size side → OnOk result (new ≡ mid ++ codes " NO FILESTORE\n")
+    → OnOk result ((dumps : List Dump) → AreKnown found dumps → new ≡ old ++ text_of (disc_lines size side dumps (found_in here)))
+disc_none_ok size side here found (Err e) old mid new none first is = tt
+disc_none_ok size side here found (Ok u) old mid new none first is = λ dumps are. disc_none size side dumps here old mid new none first is

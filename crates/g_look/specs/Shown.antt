@@ -1,5 +1,5 @@
 -- THE LINES of what is in memory of dumps and of a disc.
-use Rattle.std.specs.Prelude.{◌≡◌, ℕ, ◌+◌, ◌-◌, ◌==◌, ◌&&◌, Bool, List, [], ◌++◌, map, filter, length, Option, Some, None, codes}
+use Rattle.std.specs.Prelude.{◌≡◌, ℕ, ◌+◌, ◌-◌, ◌==◌, ◌&&◌, Bool, List, [], ◌++◌, map, filter, length, Option, Some, None, codes, if◌then◌else◌}
 use Rattle.std.specs.List.{flat_map}
 use Rattle.g_copy.specs.declared.copy.DiscCopy.{DiscCopy}
 use Rattle.g_entry.specs.declared.file_rec.FileRec.{FileRec}
@@ -40,6 +40,10 @@ tape_text serial capacity len count end =
 -- the dump that an intent names is there
 abbrev pub names_found : Intent → Found → Bool
 names_found i f = (f.dir.note.number == i.number) && ((f.serial == i.serial) && (f.dir.note.place == i.place))
+
+-- whether it is
+abbrev pub state_text : Bool → List ℕ
+state_text there = if there then codes " COMPLETED" else codes " NOT COMPLETED"
 
 -- the block numbers of all files
 abbrev pub used_by : List FileRec → List (ℕ × DiscCopy) → ℕ

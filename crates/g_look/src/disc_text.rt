@@ -1,17 +1,17 @@
 //! The lines of a disc.
-ghost use Rattle.std.specs.Prelude.{◌≡◌, ◌≤◌, ◌++◌, IfSome, List, OnOk, length};
+ghost use Rattle.std.specs.Prelude.{◌≡◌, ◌≤◌, ◌++◌, IfSome, List, OnOk, Some, length};
 ghost use Rattle.std.specs.List.{list_any};
 ghost use Rattle.g_incr.specs.Layout.{Dump};
 ghost use Rattle.g_dirs.specs.Directory.{copy_at};
-ghost use Rattle.g_lines.specs.Lines.{text_of};
+ghost use Rattle.g_lines.specs.Lines.{ended, text_of};
 ghost use Rattle.g_restore.specs.Known.{AreKnown};
-ghost use Rattle.g_look.specs.Shown.{copy_blocks, counts_text, dirs_text, names_found, used_by};
+ghost use Rattle.g_look.specs.Shown.{copy_blocks, counts_text, dirs_text, names_found, state_text, used_by};
 ghost use Rattle.g_look.specs.Standing.{IsSound, found_in};
 ghost use Rattle.g_look.specs.Text.{disc_front, disc_lines, intent_lines, side_text};
 
 use crate::bytes::copy_at;
 use crate::disc::Standing;
-use crate::parts::push_told;
+use crate::parts::{push_told, push_told_line};
 use g_base::NoMemory;
 use g_copy::DiscCopy;
 use g_dirs::Dirs;
@@ -69,11 +69,9 @@ fn push_dirs(
     ensures { OnOk result ((dumps : List Dump) → AreKnown found.now dumps
         → text.new ≡ text.old ++ dirs_text size format dumps dirs.now) }
 {
-    push_told(text, b" FORMAT ", u64::from(format.number()))?;
-    text.push(b'\n')?;
+    push_told_line(text, b" FORMAT ", u64::from(format.number()))?;
     push_counts(text, size, dirs)?;
-    push_told(text, b"LAST DUMP ", dirs.head.last_dump)?;
-    text.push(b'\n')?;
+    push_told_line(text, b"LAST DUMP ", dirs.head.last_dump)?;
     push_intent(text, &dirs.head.intent, found)
 }
 
@@ -123,17 +121,30 @@ fn push_intent(
         → text.new ≡ text.old ++ text_of (intent_lines dumps intent.now)) }
 {
     match intent {
-        Some(at) => {
-            push_told(text, b"INTENT DUMP ", at.number)?;
-            push_told(text, b" TAPE ", u64::from(at.serial))?;
-            push_told(text, b" AT ", u64::from(at.place))?;
-            if is_there(found, at) {
-                text.extend(b" COMPLETED\n")
-            } else {
-                text.extend(b" NOT COMPLETED\n")
-            }
-        }
+        Some(at) => push_named(text, at, found),
         None => Ok(()),
+    }
+}
+
+/// Puts the line of an intent behind the text.
+fn push_named(text: &mut Text, at: &Intent, found: &[Found]) -> Result<(), NoMemory>
+    ensures { OnOk result ((dumps : List Dump) → AreKnown found.now dumps
+        → text.new ≡ text.old ++ text_of (intent_lines dumps (Some at.now))) }
+{
+    push_told(text, b"INTENT DUMP ", at.number)?;
+    push_told(text, b" TAPE ", u64::from(at.serial))?;
+    push_told(text, b" AT ", u64::from(at.place))?;
+    push_state(text, is_there(found, at))
+}
+
+/// Puts the end of that line behind the text.
+fn push_state(text: &mut Text, there: bool) -> Result<(), NoMemory>
+    ensures { OnOk result (text.new ≡ text.old ++ ended (state_text there)) }
+{
+    if there {
+        text.extend(b" COMPLETED\n")
+    } else {
+        text.extend(b" NOT COMPLETED\n")
     }
 }
 

@@ -1,6 +1,7 @@
 //! The parts of the lines of a look.
 ghost use Rattle.std.specs.Prelude.{◌≡◌, ◌++◌, OnOk};
 ghost use Rattle.std.specs.Fmt.{decimal};
+ghost use Rattle.g_lines.specs.Lines.{ended};
 ghost use Rattle.g_look.specs.Text.{at_text, copy_text, lie_text, told};
 
 use crate::{DumpAt, Lie};
@@ -15,6 +16,14 @@ pub(crate) fn push_told(text: &mut Text, words: &[u8], number: u64) -> Result<()
 {
     text.extend(words)?;
     push_decimal(text, number)
+}
+
+/// Puts words and a number behind the text, as a line.
+pub(crate) fn push_told_line(text: &mut Text, words: &[u8], number: u64) -> Result<(), NoMemory>
+    ensures { OnOk result (text.new ≡ text.old ++ ended (told words.now number)) }
+{
+    push_told(text, words, number)?;
+    text.push(b'\n')
 }
 
 /// Puts a place on tape behind the text.

@@ -84,11 +84,17 @@ fn count_on(found: &[Found], serial: u32) -> u64
 {
     let mut count = 0;
     for one in found {
-        if one.serial == serial {
-            count += 1;
-        }
+        count += ones(one, serial);
     }
     count
+}
+
+/// 1 if the dump is on the reel.
+fn ones(one: &Found, serial: u32) -> u64
+    ensures exact { result ≡ count_on serial (one.now ∷ []) }
+    ensures most { result ≤ 1 }
+{
+    if one.serial == serial { 1 } else { 0 }
 }
 
 /// Puts the line of a reel behind the text.
@@ -141,11 +147,12 @@ fn push_dump(text: &mut Text, one: &Found) -> Result<(), NoMemory>
     push_told(text, b"DUMP ", note.number)?;
     push_told(text, b" TAPE ", u64::from(one.serial))?;
     push_told(text, b" AT ", u64::from(note.place))?;
-    push_told(text, b" BLOCKS ", u64::from(note.count) + 2)?;
+    let count = note.count;
+    push_told(text, b" BLOCKS ", u64::from(count) + 2)?;
     push_told(text, b" USERS ", u64::from(note.users))?;
     push_told(text, b" FILES ", u64::from(note.files))?;
     let records = u32::from(note.users) + u32::from(note.files);
-    push_told(text, b" CONTENT ", u64::from(note.count.saturating_sub(records)))?;
+    push_told(text, b" CONTENT ", u64::from(count.saturating_sub(records)))?;
     push_told(text, b" NEXT ", note.next_stamp)?;
     text.extend(b" HOLDS")?;
     push_holders(text, one.dir.users.as_slice(), one.dir.held.as_slice())?;

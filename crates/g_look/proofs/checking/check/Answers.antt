@@ -1,8 +1,15 @@
-use Rattle.g_look.proofs.CheckedLemmas.{checked_is, holds_filestore}
+use Rattle.std.proofs.Common.{◌∙◌}
+use Rattle.g_look.proofs.CheckedLemmas.{checked_at, holds_filestore, mounted_told}
 use Rattle.g_look.proofs.checking.check.Goals as goal
 
+pub judge-requires-clause-mounted : goal.judge-requires-clause-mounted
+judge-requires-clause-mounted g c = mounted_told (g.T.Tapes.rack c.args.tapes.now) _ c.in-Ok.ensures.tapes.only c.requires.mounted
+
 pub returns-in-Ok-check_text-clause-right : goal.returns-in-Ok-check_text-clause-right
-returns-in-Ok-check_text-clause-right g c = ?
+returns-in-Ok-check_text-clause-right g c =
+    checked_at _ _ _ _ _ _ _ _ _ _ _ _ _ (c.size-size.ensures.size ∙ c.in-Ok-judge.ensures.disc.size ∙ c.in-Ok-see_disc.ensures.reads.size) c.in-Ok-see_disc.ensures.reads.held
+    c.in-Ok.ensures.tapes.only.reels c.in-Ok-judge.ensures.tapes.only.reels c.as_slice.ensures.value c.as_slice-2.ensures.value c.in-Ok.ensures.seen c.in-Ok-see_disc.ensures.standing
+    c.in-Ok-judge.ensures.right c.in-Ok-check_text.ensures
 
 pub returns-in-Ok-check_text-clause-filestore : goal.returns-in-Ok-check_text-clause-filestore
-returns-in-Ok-check_text-clause-filestore g c = ?
+returns-in-Ok-check_text-clause-filestore g c = λ blocks told. rw c.is_some.ensures (holds_filestore _ _ _ blocks c.in-Ok-see_disc.ensures.standing told)

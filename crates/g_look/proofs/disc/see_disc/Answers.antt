@@ -9,4 +9,4 @@ returns-in-Ok-see_format-clause-standing g c =
 
 pub returns-in-Err-NoFilestore-clause-standing : goal.returns-in-Err-NoFilestore-clause-standing
 returns-in-Err-NoFilestore-clause-standing g c =
-    standing_none _ _ _ _ _ c.in-Ok.ensures.counts.held c.side.ensures c.in-Ok.ensures.ok (c.in-Err-NoFilestore.ensures.none (ap Err c.in-Err-NoFilestore.field-0-is))
+    standing_none _ _ _ _ _ c.in-Ok.ensures.counts.held c.side-in-Err-NoFilestore.ensures c.in-Ok.ensures.ok (c.in-Err-NoFilestore.ensures.none (ap Err c.in-Err-NoFilestore.field-0-is))
