@@ -1,0 +1,3 @@
+pub mod Exit
+pub mod Told
+pub mod Words
