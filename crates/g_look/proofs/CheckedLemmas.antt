@@ -48,7 +48,7 @@ checked_is size held reels found s verdict text seen standing told right is =
       text_is =
           is shelf (seen.seen told.each shelf shelved)
           ∙ ap (λ (side : Side). text_of (disc_lines size side (all_dumps shelf reels) (found_in s.dirs) ++ rack_lines shelf reels ++ verdict_line (is_some s.dirs) verdict ∷ []))
-            (sym (standing.side blocks is_told))
+          (sym (standing.side blocks is_told))
           ∙ ap (λ (b : Bool). text_of (disc_lines size (gate_side blocks) (all_dumps shelf reels) (found_in s.dirs) ++ rack_lines shelf reels ++ verdict_line b verdict ∷ [])) (found_same s.dirs);
     }
 

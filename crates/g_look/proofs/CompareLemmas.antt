@@ -115,7 +115,7 @@ text_step len i blocks block bytes new inside at so is =
     is ∙ ap (λ (xs : List ℕ). xs ++ take (len - length xs) block) so
     ∙ sym (take_two len (joined (take i blocks)) block)
     ∙ ap (take len) (sym (ap joined (take_more blocks i block inside ∙ ap (λ (b : List ℕ). take i blocks ++ b ∷ []) (sym at)) ∙ flat_map-append (λ (b : List ℕ). b) (take i blocks) (block ∷ [])
-      ∙ ap (λ (xs : List ℕ). joined (take i blocks) ++ xs) (append_nil block)))
+    ∙ ap (λ (xs : List ℕ). joined (take i blocks) ++ xs) (append_nil block)))
   where
     append_nil : (xs : List ℕ) → xs ++ [] ≡ xs
     append_nil [] = refl

@@ -57,7 +57,7 @@ none_on shelf serial [] have other = refl
 none_on shelf serial (r ∷ rs) have other =
     filter-append (is_on serial) (shelf r.serial) (all_dumps shelf rs)
     ∙ ap (λ (ds : List Dump). ds ++ filter (is_on serial) (all_dumps shelf rs))
-      (keep_none serial (shelf r.serial) (λ d there same. other r (contains_first r rs) (sym (have r (contains_first r rs) d there) ∙ same)))
+    (keep_none serial (shelf r.serial) (λ d there same. other r (contains_first r rs) (sym (have r (contains_first r rs) d there) ∙ same)))
     ∙ none_on shelf serial rs (λ q there. have q (contains_more r q rs there)) (λ q there. other q (contains_more r q rs there))
 
 append_none : (ds es : List Dump) → es ≡ [] → ds ++ es ≡ ds
@@ -72,15 +72,15 @@ on_serial shelf (q ∷ qs) have apart r (zero, inside, is) =
     filter-append (is_on r.serial) (shelf q.serial) (all_dumps shelf qs)
     ∙ ap (λ (ds : List Dump). ds ++ filter (is_on r.serial) (all_dumps shelf qs)) (keep_all r.serial (shelf q.serial) (λ d there. have q (contains_first q qs) d there ∙ same))
     ∙ append_none (shelf q.serial) (filter (is_on r.serial) (all_dumps shelf qs))
-      (none_on shelf r.serial qs (λ p there. have p (contains_more q p qs there))
-      (λ p there other. All-contains (OtherSerial q) qs p (pairs_first OtherSerial q qs apart) there (same ∙ sym other)))
+    (none_on shelf r.serial qs (λ p there. have p (contains_more q p qs there))
+    (λ p there other. All-contains (OtherSerial q) qs p (pairs_first OtherSerial q qs apart) there (same ∙ sym other)))
     ∙ ap shelf same
 on_serial shelf (q ∷ qs) have apart r (suc i, inside, is) =
     let there : Contains qs r = (i, omega (arith, inside), is) in
     let other : q.serial ≢ r.serial = All-contains (OtherSerial q) qs r (pairs_first OtherSerial q qs apart) there in
     filter-append (is_on r.serial) (shelf q.serial) (all_dumps shelf qs)
     ∙ ap (λ (ds : List Dump). ds ++ filter (is_on r.serial) (all_dumps shelf qs))
-      (keep_none r.serial (shelf q.serial) (λ d in_d same. other (sym (have q (contains_first q qs) d in_d) ∙ same)))
+    (keep_none r.serial (shelf q.serial) (λ d in_d same. other (sym (have q (contains_first q qs) d in_d) ∙ same)))
     ∙ on_serial shelf qs (λ p in_p. have p (contains_more q p qs in_p)) (pairs_rest OtherSerial q qs apart) r there
 
 pub seen_on : (reels : List Reel) (shelf : ℕ → List Dump) (found : List Found) → IsSeen reels shelf found → (r : Reel) → Contains reels r → filter (is_on r.serial) (all_dumps shelf reels) ≡ shelf r.serial
@@ -258,7 +258,7 @@ module _ (reels : List Reel) (shelf : ℕ → List Dump) (found : List Found) (s
             last_is ∙ ap (λ (h : Head). h.last_dump) (sym here),
             omega (arith, last_is, newer, number),
             λ intended. new.other (subst (λ (o : Option Intent). IsNamed o f) (sym intended.named ∙ ap (λ (h : Head). h.intent) here)
-            (ap (λ (k : Known). k.serial) (sym d.same), ap (λ (k : Known). k.note.place) (sym d.same), sym number)),
+                (ap (λ (k : Known). k.serial) (sym d.same), ap (λ (k : Known). k.note.place) (sym d.same), sym number)),
           );
           first = λ e is. least e is;
         }

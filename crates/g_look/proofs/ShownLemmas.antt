@@ -139,10 +139,10 @@ rack_step shelf rack i serial old text new named so is =
     is r (i, within, at) on ∙ ap (λ (xs : List ℕ). xs ++ text_of (reel_lines shelf r)) so
     ∙ append_assoc old (text_of (rack_lines shelf before)) (text_of (reel_lines shelf r))
     ∙ ap (λ (xs : List ℕ). old ++ xs)
-      (sym (flat_map-append ended (rack_lines shelf before) (reel_lines shelf r))
-      ∙ ap text_of (ap (λ (ls : List (List ℕ)). rack_lines shelf before ++ ls) (sym (append-nil (reel_lines shelf r)))
-        ∙ sym (flat_map-append (reel_lines shelf) before (r ∷ []))
-        ∙ ap (rack_lines shelf) (ap (λ (x : Reel). before ++ x ∷ []) (sym at) ∙ sym (take_more (told_reels rack) i r within))))
+    (sym (flat_map-append ended (rack_lines shelf before) (reel_lines shelf r))
+    ∙ ap text_of (ap (λ (ls : List (List ℕ)). rack_lines shelf before ++ ls) (sym (append-nil (reel_lines shelf r)))
+    ∙ sym (flat_map-append (reel_lines shelf) before (r ∷ []))
+    ∙ ap (rack_lines shelf) (ap (λ (x : Reel). before ++ x ∷ []) (sym at) ∙ sym (take_more (told_reels rack) i r within))))
 
 -- THE INTENT
 names_known : Intent → Known → Bool
@@ -216,10 +216,10 @@ disc_shown size side format dumps dirs =
     let intent : List ℕ = text_of (intent_lines dumps dirs.head.intent) in
     shuffled front words (counts_text size dirs) last intent
     ∙ ap
-      (λ (n : ℕ). ended (front ++ words)
-      ++ (ended (told (codes "USERS ") (length dirs.users.items) ++ told (codes " FILES ") n ++ told (codes " BLOCKS ") (used_by dirs.files.items dirs.online.items)
-      ++ told (codes " FREE ") (size - 2177 - used_by dirs.files.items dirs.online.items) ++ told (codes " NEXT ") dirs.head.next_stamp) ++ (last ++ intent)))
-      (sym (length-map dirs.files.items (λ (r : FileRec). (r, copy_at dirs.online.items r.number))))
+    (λ (n : ℕ). ended (front ++ words)
+    ++ (ended (told (codes "USERS ") (length dirs.users.items) ++ told (codes " FILES ") n ++ told (codes " BLOCKS ") (used_by dirs.files.items dirs.online.items)
+    ++ told (codes " FREE ") (size - 2177 - used_by dirs.files.items dirs.online.items) ++ told (codes " NEXT ") dirs.head.next_stamp) ++ (last ++ intent)))
+    (sym (length-map dirs.files.items (λ (r : FileRec). (r, copy_at dirs.online.items r.number))))
 
 pub disc_some : (size : ℕ) (side : Side) (format : Format) (dumps : List Dump) (dirs : Dirs) (found : Option (Format × Dirs)) (old mid new : List ℕ) → found ≡ Some (format, dirs)
     → mid ≡ old ++ disc_front size side → new ≡ mid ++ dirs_text size format dumps dirs → new ≡ old ++ text_of (disc_lines size side dumps (found_in found))

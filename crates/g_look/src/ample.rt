@@ -14,5 +14,8 @@ fn ample(rt: HostRuntime) {
         panic!(rt; "a fault");
     };
     assert!(rt; !checked.filestore && checked.broken.is_none());
-    assert!(rt; checked.text.as_slice() == b"DISC 2178 BLOCKS SLOT A NO FILESTORE\nTAPE 7 CAPACITY 20 LENGTH 0 DUMPS 0 END 0 FREE 20\nBELONGS, DISC HOLDS NOTHING\n".as_slice());
+    assert!(rt;
+        checked.text.as_slice()
+            == b"DISC 2178 BLOCKS SLOT A NO FILESTORE\nTAPE 7 CAPACITY 20 LENGTH 0 DUMPS 0 END 0 FREE 20\nBELONGS, DISC HOLDS NOTHING\n".as_slice()
+    );
 }

@@ -84,7 +84,11 @@ fn push_counts(text: &mut Text, size: u32, dirs: &Dirs) -> Result<(), NoMemory>
     push_told(text, b"USERS ", dirs.users.len() as u64)?;
     push_told(text, b" FILES ", dirs.files.len() as u64)?;
     push_told(text, b" BLOCKS ", used)?;
-    push_told(text, b" FREE ", u64::from(size).saturating_sub(2177).saturating_sub(used))?;
+    push_told(
+        text,
+        b" FREE ",
+        u64::from(size).saturating_sub(2177).saturating_sub(used),
+    )?;
     push_told(text, b" NEXT ", dirs.head.next_stamp)?;
     text.push(b'\n')
 }
@@ -112,11 +116,7 @@ fn blocks_of(online: &[(u16, DiscCopy)], number: u16) -> u32
 }
 
 /// Puts the line of an intent, if there is one, behind the text.
-fn push_intent(
-    text: &mut Text,
-    intent: &Option<Intent>,
-    found: &[Found],
-) -> Result<(), NoMemory>
+fn push_intent(text: &mut Text, intent: &Option<Intent>, found: &[Found]) -> Result<(), NoMemory>
     ensures { OnOk result ((dumps : List Dump) → AreKnown found.now dumps
         → text.new ≡ text.old ++ text_of (intent_lines dumps intent.now)) }
 {

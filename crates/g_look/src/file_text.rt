@@ -44,12 +44,7 @@ fn push_others(text: &mut Text, users: &[UserRec], others: &[(u8, Modes)]) -> Re
 }
 
 /// Puts a user and the user's modes behind the text.
-fn push_trap(
-    text: &mut Text,
-    users: &[UserRec],
-    number: u8,
-    modes: Modes,
-) -> Result<(), NoMemory>
+fn push_trap(text: &mut Text, users: &[UserRec], number: u8, modes: Modes) -> Result<(), NoMemory>
     ensures { OnOk result (text.new ≡ text.old ++ trap_text users.now (number, modes)) }
 {
     push_holder(text, users, number)?;

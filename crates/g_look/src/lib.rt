@@ -30,8 +30,8 @@ ghost use Rattle.g_look.specs.Rules.{BrokenIsNot, FitsBelong, RackHasNone, Verdi
 
 pub use broken::{Broken, DumpAt, Lie};
 pub use checking::{Checked, check};
-pub use holding::dumps;
 pub use fault::LookFault;
+pub use holding::dumps;
 pub use listing::list;
 pub use restoring::{Given, restorable};
 pub use showing::show;

@@ -21,11 +21,7 @@ use std::alloc::Global;
 
 /// A line for each file of the disc, or of this user: users by number, the files of a user by full name; and how many were
 /// listed. The disc is only read. `NoFilestore`, `NoUser`, `DiscUnread`, `NoMemory`.
-pub fn list<D: Disc>(
-    alloc: Global,
-    disc: &mut D,
-    user: Option<&User>,
-) -> Result<Text, LookFault>
+pub fn list<D: Disc>(alloc: Global, disc: &mut D, user: Option<&User>) -> Result<Text, LookFault>
     requires size { 2177 < (D.state disc.old).size }
     ensures disc { ReadsByCause (result ≡ Err LookFault.DiscUnread) (D.state disc.old) (D.state disc.new) }
     ensures faults { IfErr result (λ e. e ≢ LookFault.TapeUnread) }

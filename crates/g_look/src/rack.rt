@@ -8,8 +8,8 @@ ghost use Rattle.g_restore.specs.Known.{AreKnown};
 ghost use Rattle.g_look.specs.Looks.{ReadsRackByCause};
 ghost use Rattle.g_look.specs.Seen.{AreSeen, IsJudged, WhereSeen};
 
-use crate::{Broken, LookFault};
 use crate::pairs::{falling, twice};
+use crate::{Broken, LookFault};
 use g_entry::FileRec;
 use g_incr::ShelfFault;
 use g_plain::StoreFault;
@@ -58,7 +58,9 @@ pub(crate) fn judge_rack(alloc: Global, found: &[Found]) -> Result<Judged, LookF
         Ok(dumped) => Ok(Judged::Fits(files_of(dumped))),
         Err(StoreFault::NoDump) => Ok(Judged::Fits(Vec::new(alloc))),
         Err(StoreFault::LostDirectory(user)) => Ok(Judged::Breaks(Broken::LostDirectory(user))),
-        Err(StoreFault::LostCopy(full, serial)) => Ok(Judged::Breaks(Broken::LostCopy(full, serial))),
+        Err(StoreFault::LostCopy(full, serial)) => Ok(Judged::Breaks(Broken::LostCopy(
+            full, serial,
+        ))),
         Err(_) => Err(LookFault::NoMemory),
     }
 }

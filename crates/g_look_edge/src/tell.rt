@@ -4,7 +4,7 @@ ghost use Rattle.g_look_edge.specs.Told as told;
 
 use crate::Status;
 use g_io::Sink;
-use g_look::{Checked, LookFault, Given};
+use g_look::{Checked, Given, LookFault};
 use g_name::Text;
 
 /// Tells a check: all of its text, whatever it found.
