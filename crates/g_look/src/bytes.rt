@@ -15,7 +15,7 @@ use crate::names::full_of;
 use crate::tape::tape_text;
 use crate::{Broken, Lie, LookFault};
 use g_copy::{CopyFault, DiscCopy, read_copy};
-use g_dirs::Dirs;
+use g_dirs::{BoxedCopy, Dirs};
 use g_disc::Disc;
 use g_entry::{FileRec, TapeCopy};
 use g_name::Text;
@@ -142,7 +142,7 @@ fn second_place(tape: Option<TapeCopy>, place: Option<TapeCopy>) -> Option<TapeC
 pub(crate) fn file_text<D: Disc>(
     alloc: Global,
     disc: &mut D,
-    online: &[(u16, DiscCopy)],
+    online: &[(u16, BoxedCopy)],
     number: u16,
 ) -> Result<Option<Text>, LookFault>
     requires size { 2177 < (D.state disc.old).size }
@@ -164,12 +164,12 @@ pub(crate) fn file_text<D: Disc>(
 }
 
 /// The copy on disc of the file of this number.
-pub(crate) fn copy_at(online: &[(u16, DiscCopy)], number: u16) -> Option<DiscCopy>
+pub(crate) fn copy_at(online: &[(u16, BoxedCopy)], number: u16) -> Option<DiscCopy>
     ensures { result ≡ copy_at online.now number }
 {
     for one in online {
         if one.0 == number {
-            return Some(one.1.copy());
+            return Some(one.1.get().copy());
         }
     }
     None

@@ -12,7 +12,7 @@ use crate::file_text::{push_blocks, push_file, push_taped};
 use crate::parts::push_told;
 use g_base::NoMemory;
 use g_copy::DiscCopy;
-use g_dirs::Dirs;
+use g_dirs::{BoxedCopy, Dirs};
 use g_disc::Disc;
 use g_entry::{FileRec, UserRec};
 use g_name::{Full, Text, User};
@@ -48,7 +48,7 @@ pub fn list<D: Disc>(alloc: Global, disc: &mut D, user: Option<&User>) -> Result
 }
 
 /// The records of a directory as a tree, and where its files lie on the disc.
-pub(crate) fn tree_of(alloc: Global, dirs: Dirs) -> Result<(Tree, Vec<(u16, DiscCopy)>), NoMemory>
+pub(crate) fn tree_of(alloc: Global, dirs: Dirs) -> Result<(Tree, Vec<(u16, BoxedCopy)>), NoMemory>
     requires records { IsRecords dirs.users.items dirs.files.items }
     ensures users { IfOk result (λ made. made.0.users ≡ dirs.users.items) }
     ensures files { IfOk result (λ made. made.0.files ≡ dirs.files.items) }
@@ -70,7 +70,7 @@ pub(crate) fn tree_of(alloc: Global, dirs: Dirs) -> Result<(Tree, Vec<(u16, Disc
 fn list_text(
     alloc: Global,
     tree: &Tree,
-    online: &[(u16, DiscCopy)],
+    online: &[(u16, BoxedCopy)],
     only: Option<u8>,
 ) -> Result<Text, NoMemory> {
     let mut text = Text::new(alloc);
@@ -96,7 +96,7 @@ fn push_if_asked(
     alloc: Global,
     text: &mut Text,
     tree: &Tree,
-    online: &[(u16, DiscCopy)],
+    online: &[(u16, BoxedCopy)],
     user: u8,
     only: Option<u8>,
 ) -> Result<u64, NoMemory> {
@@ -117,7 +117,7 @@ fn push_files(
     alloc: Global,
     text: &mut Text,
     tree: &Tree,
-    online: &[(u16, DiscCopy)],
+    online: &[(u16, BoxedCopy)],
     user: u8,
 ) -> Result<u64, NoMemory> {
     let numbers = tree.listing(alloc, user)?;
@@ -134,7 +134,7 @@ fn push_files(
 fn push_numbered(
     text: &mut Text,
     tree: &Tree,
-    online: &[(u16, DiscCopy)],
+    online: &[(u16, BoxedCopy)],
     number: u16,
 ) -> Result<(), NoMemory> {
     match tree.full_name(number) {
