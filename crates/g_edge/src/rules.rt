@@ -81,6 +81,7 @@ pub fn run_by_rules<S: Source, K: Sink, D: Disc, T: Tapes>(
         (K.written out.old) (K.written out.new) }
     ensures words { AskNothing (texts_of words.now)
         → IsCutWords (both (D.state disc) (T.rack tapes)) (both (D.state result.disc) (T.rack result.tapes)) (K.written out.old) (K.written out.new) }
+    ensures enough { AskNothing (texts_of words.now) → top.IsForMemory result.status → ⊥ }
 
     // A demonstration: the devices that were handed in come back unchanged, and the summary of its text is put.
     ensures demo { (demo : Demonstration) → IsDemonstration demo → texts_of words.now ≡ demo_words demo

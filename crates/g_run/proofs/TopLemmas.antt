@@ -23,7 +23,7 @@ use Rattle.g_demo.proofs.WordLemmas.{one_reading}
 use Rattle.g_console.specs.Puts.{PutsBy}
 use Rattle.g_run.specs.declared.status.Status.{Status}
 use Rattle.g_run.specs.Demo.{PutsDemo}
-use Rattle.g_run.specs.Top.{EndsAs, EndsBy, EndsDemo, IsQuiet, IsThrough, demo_status, status_of, words_status}
+use Rattle.g_run.specs.Top.{EndsAs, EndsBy, EndsDemo, IsForMemory, IsQuiet, IsThrough, demo_status, status_of, words_status}
 
 module _ {F U : Type 0} (tariffs : Shared F (Bor Usage × Unit {0}) Charge) (tariff : F) (rules : Shared U (Bor Standing × Unit {0}) ℕ) (rule : U) where
   pub ends_as : (bad : Option ℕ) (failure : Option Failure) (left : List ℕ) (lines : List Timed) (old new : Devices) (before after : Option (List ℕ)) →
@@ -72,6 +72,12 @@ pub quiet_words : (failure : Option Failure) (d : Devices) (before after : Optio
 quiet_words None d before after put = (refl, put)
 quiet_words (Some failures.Output) d before after put = tt
 quiet_words (Some failures.Memory) d before after put = tt
+
+-- words that aren't known never answer want of memory
+pub of_words : (failure : Option Failure) → (failure ≡ Some failures.Memory → ⊥) → IsForMemory (words_status failure) → ⊥
+of_words None isnt is = let no : ⊥ = cc in no
+of_words (Some failures.Output) isnt is = let no : ⊥ = cc in no
+of_words (Some failures.Memory) isnt is = isnt refl
 
 pub words_cut : (failure : Option Failure) → IsThrough (words_status failure) → ⊥
 words_cut None went = went

@@ -115,6 +115,10 @@ IsOfWords (BadScript line) = ⊥
 IsOfWords ScriptFault = ⊥
 IsOfWords TooLong = ⊥
 
+-- memory was wanting; so it never is for words that ask for nothing
+abbrev pub IsForMemory : Status → Type 0
+IsForMemory status = status ≡ NoMemory
+
 -- the word `run` gives any status but that of unknown words
 abbrev pub IsOfRun : Status → Type 0
 IsOfRun Words = ⊥

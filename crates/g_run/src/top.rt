@@ -2,6 +2,8 @@
 ghost use Rattle.std.specs.Prelude.{◌≡◌, ◌<◌, ◌≤◌, ℕ, List, [], Option, Some, drop, length};
 ghost use Rattle.g_base.specs.Counts.{Rose};
 ghost use Rattle.g_budget.specs.Tariff.{IsTariff};
+ghost use Rattle.g_console.specs.Puts.{Puts};
+ghost use Rattle.g_console.specs.declared.progress.Failure.TheVariants as failures;
 ghost use Rattle.g_console.specs.System.{BelongTogether, DumpsGrow, SameDevices};
 ghost use Rattle.g_demo.specs.Words.{AskNothing, IsDemonstration, demo_words, texts_of};
 ghost use Rattle.g_demo.specs.declared.demonstration.Demonstration.{Demonstration};
@@ -9,7 +11,7 @@ ghost use Rattle.g_lines.specs.Lines.{lines_of};
 ghost use Rattle.g_sched.specs.Rule.{IsWeighRule};
 ghost use Rattle.g_script.specs.Script.{IsParsed};
 ghost use Rattle.g_script.specs.declared.operator.Timed.{Timed};
-ghost use Rattle.g_world.specs.Top.{AreArmings, IsCutWords};
+ghost use Rattle.g_world.specs.Top.{AreArmings, IsCutWords, words_line};
 ghost use Rattle.g_world_laws.specs.Filestores.{HasFilestore};
 ghost use Rattle.g_run.specs.Input.{IsRun};
 ghost use Rattle.g_run.specs.Over.{both};
@@ -22,7 +24,7 @@ use crate::rules::Rules;
 use crate::status::Status;
 use g_base::NoMemory;
 use g_budget::{Charge, Tariff, Usage};
-use g_console::{Failure, put};
+use g_console::Failure;
 use g_demo::{Asked, asked_by};
 use g_disc::Disc;
 use g_io::{Sink, Source};
@@ -68,6 +70,7 @@ pub fn george<
 
     // Which statuses come with which words, and when a script is too long.
     ensures unknown { AskNothing (texts_of words.now) → top.IsOfWords result.status }
+    ensures enough { AskNothing (texts_of words.now) → top.IsForMemory result.status → ⊥ }
     ensures known { IsRun words.now → top.IsOfRun result.status }
     ensures long { (left : List ℕ) → S.left script.old ≡ Some left → IsRun words.now → 16777216 < length left → top.IsNotDone result.status }
     ensures complete { (left : List ℕ) → S.left script.old ≡ Some left → IsRun words.now → length left ≤ 16777216 →
@@ -119,7 +122,7 @@ pub fn george<
             };
         }
         None => {
-            let failure = put(out, b"WORDS NOT KNOWN\n");
+            let failure = put_words(out);
             return Finish {
                 status: words_status(failure),
                 disc,
@@ -169,6 +172,17 @@ fn demo_status(failure: Option<Failure>) -> Status
         None => Status::Done,
         Some(Failure::Output) => Status::OutputFault,
         Some(Failure::Memory) => Status::NoMemory,
+    }
+}
+
+/// Puts the line of unknown words, which takes no memory.
+fn put_words<K: Sink>(out: &mut K) -> Option<Failure>
+    ensures puts { Puts result words_line (K.written out.old) (K.written out.new) (K.faults out.old) (K.faults out.new) }
+    ensures memory { result ≡ Some failures.Memory → ⊥ }
+{
+    match out.put(b"WORDS NOT KNOWN\n") {
+        Ok(()) => None,
+        Err(_) => Some(Failure::Output),
     }
 }
 

@@ -6,7 +6,7 @@ use Rattle.g_lines.specs.Lines.{lines_of}
 use Rattle.g_script.specs.Script.{IsParsed}
 use Rattle.g_run.proofs.FilestoreLemmas.{keeps_filestore}
 use Rattle.g_run.proofs.ReadingLemmas.{parsed_few, parsed_within}
-use Rattle.g_run.proofs.TopLemmas.{arms_as, cut_words, demo_found, ends_as, quiet_words}
+use Rattle.g_run.proofs.TopLemmas.{arms_as, cut_words, demo_found, ends_as, of_words, quiet_words}
 use Rattle.g_run.proofs.top.george.Goals as goal
 
 pub returns-clause-ends : goal.returns-clause-ends
@@ -47,14 +47,17 @@ returns-in-None-clause-long g c = λ left told run more. absurd (c.in-None.ensur
 pub returns-in-None-clause-complete : goal.returns-in-None-clause-complete
 returns-in-None-clause-complete g c = λ left told run few source sink. absurd (c.in-None.ensures asked.Run tt run)
 
+pub returns-in-None-clause-enough : goal.returns-in-None-clause-enough
+returns-in-None-clause-enough g c = λ nothing. rw c.words_status.ensures (of_words c.put_words-failure.result c.put_words-failure.ensures.memory)
+
 pub returns-in-None-clause-quiet : goal.returns-in-None-clause-quiet
-returns-in-None-clause-quiet g c = rw c.words_status.ensures (quiet_words c.put-failure.result _ _ _ c.put-failure.ensures.put)
+returns-in-None-clause-quiet g c = rw c.words_status.ensures (quiet_words c.put_words-failure.result _ _ _ c.put_words-failure.ensures.puts.put)
 
 pub returns-in-None-clause-ends : goal.returns-in-None-clause-ends
 returns-in-None-clause-ends g c = λ run left told. absurd (c.in-None.ensures asked.Run tt run)
 
 pub returns-in-None-clause-words : goal.returns-in-None-clause-words
-returns-in-None-clause-words g c = λ nothing. cut_words c.put-failure.result _ _ _ c.put-failure.ensures.put
+returns-in-None-clause-words g c = λ nothing. cut_words c.put_words-failure.result _ _ _ c.put_words-failure.ensures.puts.put
 
 pub returns-in-None-clause-demo : goal.returns-in-None-clause-demo
 returns-in-None-clause-demo g c = λ demo is name. absurd (c.in-None.ensures (asked.Demo demo) is name)
