@@ -15,7 +15,7 @@ use Rattle.g_incr.specs.Layout.{Dump}
 use Rattle.g_lines.specs.Lines.{text_of}
 use Rattle.g_shelf.specs.Completed.{AreShelved, all_dumps}
 use Rattle.g_state.specs.Meaning.{told_reels}
-use Rattle.g_state.specs.Reading.{AllTold}
+use Rattle.g_state.specs.Reading.{AllTold, ReelsTold}
 use Rattle.g_restore.specs.declared.dumps.Found.{Found}
 use Rattle.g_look.specs.declared.broken.Broken.{Broken}
 use Rattle.g_look.specs.declared.disc.Standing.{Standing}
@@ -83,3 +83,13 @@ checked_at size size_1 held held_1 reels reels_1 reels_2 items slice slice_2 s v
     subst (λ (n : ℕ). text ≡ text_of (disc_lines n s.side (all_dumps shelf reels) (found_in s.dirs) ++ rack_lines shelf reels ++ verdict_line (is_some s.dirs) verdict ∷ [])) same_size
     (subst (λ (rs : List Reel). text ≡ text_of (disc_lines size_1 s.side (all_dumps shelf rs) (found_in s.dirs) ++ rack_lines shelf rs ++ verdict_line (is_some s.dirs) verdict ∷ [])) (same_reels_2 ∙ same_reels)
     (is shelf (subst (IsSeen reels_2 shelf) (sym is_slice_2) (subst (λ (rs : List Reel). IsSeen rs shelf items) (sym (same_reels_2 ∙ same_reels)) here)))))
+
+-- the text of a rack alone
+pub dumps_text : (reels reels_1 : List Reel) (items slice : List Found) (old text : List ℕ) → reels_1 ≡ reels → slice ≡ items → old ≡ [] → AreSeen reels items
+    → ((shelf : ℕ → List Dump) → IsSeen reels_1 shelf slice → text ≡ old ++ text_of (rack_lines shelf reels_1)) → ReelsTold reels → (shelf : ℕ → List Dump) → AreShelved shelf reels
+    → text ≡ text_of (rack_lines shelf reels)
+dumps_text reels reels_1 items slice old text same is_slice is_old seen is told shelf shelved =
+    let here : IsSeen reels shelf slice = subst (IsSeen reels shelf) (sym is_slice) (seen.seen told shelf shelved) in
+    is shelf (subst (λ (rs : List Reel). IsSeen rs shelf slice) (sym same) here)
+    ∙ ap (λ (xs : List ℕ). xs ++ text_of (rack_lines shelf reels_1)) is_old
+    ∙ ap (λ (rs : List Reel). text_of (rack_lines shelf rs)) same

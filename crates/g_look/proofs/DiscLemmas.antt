@@ -171,3 +171,9 @@ any_copy size dirs sound number = copy_if (copy_at dirs.online.items number) (Is
         let (r, in_r, same) = contained_map (λ (r : FileRec). r.number) dirs.files.items c.0
         (All-contains (λ (e : ℕ × DiscCopy). Contains (map (λ (r : FileRec). r.number) dirs.files.items) e.0) dirs.online.items c sound.copies.files_are there) in
         is_copy None dirs size sound r in_r copy (ap (copy_at dirs.online.items) (same ∙ on) ∙ is)
+
+pub any_copy_in : (size size_1 : ℕ) (dirs : Dirs) → IsSound size dirs → (slice items : List (ℕ × DiscCopy)) → size_1 ≡ size → slice ≡ items → items ≡ dirs.online.items → (number : ℕ)
+    → IfSome (copy_at slice number) (IsCopy size_1)
+any_copy_in size size_1 dirs sound slice items same_size is_slice is_items number =
+    subst (λ (n : ℕ). IfSome (copy_at slice number) (IsCopy n)) (sym same_size)
+    (subst (λ (cs : List (ℕ × DiscCopy)). IfSome (copy_at cs number) (IsCopy size)) (sym (is_slice ∙ is_items)) (any_copy size dirs sound number))
