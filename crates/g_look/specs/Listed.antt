@@ -31,9 +31,13 @@ abbrev pub taped_text : Option TapeCopy → List ℕ
 taped_text None = []
 taped_text (Some c) = copy_text c
 
--- A FILE OF A DISC, and a file that a restore gives: an empty one counts as on the disc
+-- an empty file counts as on the disc
+abbrev pub empty_text : ℕ → List ℕ
+empty_text len = if len == 0 then codes " DISC" else []
+
+-- A FILE OF A DISC, and a file that a restore gives
 abbrev pub disc_file_line : Full → List UserRec → Option DiscCopy → FileRec → List ℕ
 disc_file_line full users copy r = file_front full users r ++ blocks_text copy ++ taped_text r.tape
 
 abbrev pub dumped_file_line : Full → List UserRec → FileRec → List ℕ
-dumped_file_line full users r = file_front full users r ++ (if r.len == 0 then codes " DISC" else []) ++ taped_text r.tape
+dumped_file_line full users r = file_front full users r ++ empty_text r.len ++ taped_text r.tape

@@ -3,7 +3,7 @@ ghost use Rattle.std.specs.Prelude.{◌≡◌, ◌⊎◌, ◌++◌, All, Err, If
 ghost use Rattle.g_lines.specs.Lines.{ended};
 ghost use Rattle.g_monitor.specs.Refusals.{IsPrinted, fault_line};
 ghost use Rattle.g_tree.specs.Records.{IsRecords};
-ghost use Rattle.g_look.specs.Listed.{dumped_file_line};
+ghost use Rattle.g_look.specs.Listed.{dumped_file_line, empty_text};
 ghost use Rattle.g_look.specs.Looks.{ReadsRackByCause};
 
 use crate::LookFault;
@@ -131,9 +131,18 @@ fn push_line(
     ensures { OnOk result (text.new ≡ text.old ++ ended (dumped_file_line full.now users.now file.now)) }
 {
     push_file(text, full, users, file)?;
-    if file.len == 0 {
-        text.extend(b" DISC")?;
-    }
+    push_empty(text, file.len)?;
     push_taped(text, &file.tape)?;
     text.push(b'\n')
+}
+
+/// Puts that an empty file counts as on the disc behind the text, if the file is empty.
+fn push_empty(text: &mut Text, len: u32) -> Result<(), NoMemory>
+    ensures { OnOk result (text.new ≡ text.old ++ empty_text len) }
+{
+    if len == 0 {
+        text.extend(b" DISC")
+    } else {
+        Ok(())
+    }
 }
