@@ -1,4 +1,6 @@
 //! The texts that tell an event.
+ghost use Rattle.std.specs.Prelude.{◌<◌, ◌≤◌};
+
 use g_console::{Day, Ended, Failure, System, fails, operator_line, push_told, put_made, told};
 use g_crew::Crew;
 use g_disc::{Disc, MemoryDisc};
