@@ -89,6 +89,10 @@ abbrev pub is_done : Answer → Bool
 is_done (Ok u) = true
 is_done (Err fault) = false
 
+-- AN ARMING is the pair's own: both racks are as they were
+abbrev pub PairArms : ℕ → Pair → Pair → Type 0
+PairArms k old new = new ≡ record old { fuse = Some k; arms = one_more old.arms }
+
 -- A MOUNT is one of both racks
 pub record PairMounts (s : ℕ) (old : Pair) (result : Answer) (new : Pair) : Type 0 where
   pub mounting : Mounting refuses_mount true s (shown old) result (shown new)

@@ -1,5 +1,5 @@
 //! The calls of a rack, on two racks.
-ghost use Rattle.std.specs.Prelude.{◌≡◌};
+ghost use Rattle.std.specs.Prelude.{◌≡◌, ◌≤◌};
 ghost use Rattle.g_tape.specs.Rack.{reel, refuses_read, refuses_write};
 ghost use Rattle.g_duplex.specs.Pair.{shown};
 
@@ -51,7 +51,7 @@ impl<T: Tapes> Duplex<T> {
 }
 
 impl<T: Tapes> Tapes for Duplex<T> {
-    ghost use Rattle.g_duplex.specs.Calls.{PairMounts, PairReads, PairUnmounts, PairWrites};
+    ghost use Rattle.g_duplex.specs.Calls.{PairArms, PairMounts, PairReads, PairUnmounts, PairWrites};
     ghost use Rattle.g_duplex.specs.Meaning.{pair_of};
     ghost use Rattle.g_duplex.specs.Seen.{are_reels};
 
@@ -152,7 +152,10 @@ impl<T: Tapes> Tapes for Duplex<T> {
         answer
     }
 
-    fn arm(&mut self, k: u32) {
+    fn arm(&mut self, k: u32)
+        requires { 1 ≤ k }
+        ensures { PairArms k (pair_of self.old) (pair_of self.new) }
+    {
         self.fuse.arm(k);
         self.arms = raised(self.arms);
     }
