@@ -2,8 +2,6 @@
 //! written.
 #![tactic(auto)]
 
-#[cfg(test)]
-mod ample;
 mod broken;
 mod broken_text;
 mod bytes;
