@@ -2,17 +2,15 @@
 use Rattle.std.proofs.Common.{◌≡◌, ◌≢◌, ℕ, zero, suc, ◌+◌, ◌-◌, ◌^◌, ◌<◌, ◌≤◌, ◌==◌, Bool, true, false, List, [], ◌∷◌, ◌++◌, length, map, Option, Some, None, Result, Ok, Err, refl, sym, ◌∙◌, ap, arith, subst, inl, inr, true≢false}
 use Rattle.std.specs.Prelude.{◌⊎◌, ◌&&◌, ◌||◌, All, AllPairs, Contains, IfSome, MatchOption, filter, if◌then◌else◌, is_none, is_some, nat_le, nat_lt, not, option_map}
 use Rattle.std.specs.List.{AllZip, flat_map}
-use Rattle.std.specs.Option.{ForSome}
 use Rattle.std.specs.Ordering.{nat_cmp}
 use Rattle.std.specs.FinMap.{FinMap, entries, from_entries}
-use Rattle.std.proofs.lemmas.Bool.{cases_Bool, cond-false, cond-true, eq-eqb, le-ltb, lt-ltb, ltb-true, ne_eqb, lt-leb}
+use Rattle.std.proofs.lemmas.Bool.{cases_Bool, cond-false, cond-true, eq-eqb, le-ltb, lt-ltb, ne_eqb, lt-leb}
 use Rattle.std.proofs.lemmas.Bool.Decides.{eqb_tells}
 use Rattle.std.proofs.lemmas.List.Elements.{All-contains, All-head, All-tail, All-weaker, Contains-push}
 use Rattle.std.proofs.lemmas.List.Kept.{AllPairs-from_increasing}
 use Rattle.std.proofs.lemmas.Option.{none-some, same_Some}
 use Rattle.g_base.specs.Block.{blocks_for}
 use Rattle.g_base.specs.Counts.{Rose}
-use Rattle.g_name.specs.declared.full.Full.{Full}
 use Rattle.g_entry.specs.declared.file_rec.FileRec.{FileRec}
 use Rattle.g_entry.specs.declared.file_rec.TapeCopy.{TapeCopy}
 use Rattle.g_entry.specs.declared.user_rec.UserRec.{UserRec}
@@ -23,13 +21,12 @@ use Rattle.g_tape.proofs.ReadLemmas.{is_reel}
 use Rattle.g_plain.specs.declared.faults.StoreFault.{StoreFault}
 use Rattle.g_plain.specs.declared.faults.StoreFault.TheVariants.{CountersSpent, DiscReadFault, DumpOpen, NoCopy, NoMemory, NoTape, RackNotMounted, ReelNotFree, Stopped, TapeFull, TapeReadFault}
 use Rattle.g_plain.specs.PlainStep.{first_fault}
-use Rattle.g_plain.specs.PlainTree.{Tree}
-use Rattle.g_tree.specs.Records.{IsRecords, full_of}
+use Rattle.g_tree.specs.Records.{IsRecords}
 use Rattle.g_contents.specs.Contents.{Contents, File, Holds, contents_of, has, recs_in, with_copies}
 use Rattle.g_contents.specs.Facts.{IsTied, OnlineFacts}
-use Rattle.g_incr.specs.Layout.{Dump, content_at, ends, holds}
+use Rattle.g_incr.specs.Layout.{Dump, ends, holds}
 use Rattle.g_incr.specs.Plan.{needs, first_content, numbered_from}
-use Rattle.g_shelf.specs.Completed.{AreCompleted, AreNext, AreShelved, all_dumps}
+use Rattle.g_shelf.specs.Completed.{AreCompleted, AreShelved, all_dumps}
 use Rattle.g_shelf.specs.Last.{first_unmounted}
 use Rattle.g_shelf.proofs.QuietLemmas.{within}
 use Rattle.g_step.specs.State as state
@@ -40,15 +37,15 @@ use Rattle.g_step.specs.Process as step
 use Rattle.g_step.specs.Process.{LeftByRead, Marked, Moved, NotYet, ProcessDone, ProcessLeft, ProcessStep, Processes as ProcessesBy, is_released, marked_by, moved, process_dump, process_needs, process_refuses_late, released_before, with_cut, with_intent}
 use Rattle.g_step.specs.Rising.{fault_from, has_none}
 use Rattle.g_state.specs.Answers.{Belongs, IsStore, Raised, Told}
-use Rattle.g_state.specs.Belong.{DiscBelongs, KeepsFile, KeepsRecord, RackBelongs}
-use Rattle.g_state.specs.Meaning.{DumpedDirectory, IsContent, files_in, told_reels}
-use Rattle.g_state.specs.Reading.{AllTold, DevicesStandFor, HasText, IsView, StandsForState, View, dumped_of, dumped_places, holding_of, names_of, open_of, own_of, places_of, row_of, shelved_of, state_up, tree_by, users_not_in}
+use Rattle.g_state.specs.Belong.{KeepsFile, RackBelongs}
+use Rattle.g_state.specs.Meaning.{DumpedDirectory, IsContent, told_reels}
+use Rattle.g_state.specs.Reading.{AllTold, HasText, IsView, StandsForState, View, dumped_of, dumped_places, holding_of, names_of, open_of, own_of, places_of, row_of, shelved_of, state_up, tree_by, users_not_in}
 use Rattle.g_state.specs.Up.{DumpFacts, IsUp, StoreFacts, with_dump}
 use Rattle.g_state.proofs.OneLemmas.{on_reel}
 use Rattle.g_state_laws.proofs.StateLemmas.{is_view, view_by}
 use Rattle.g_state_laws.proofs.UpOneLemmas.{on_all, store_is_one}
 use Rattle.g_state_steps.specs.Rooms.{HasLength, held_in}
-use Rattle.g_store_calls.proofs.SeenLemmas.{Seen, seen, stands}
+use Rattle.g_store_calls.proofs.SeenLemmas.{Seen, stands}
 use Rattle.g_dumper.specs.Keeps.{spent_with, up_with}
 use Rattle.g_dumper.proofs.BeginLemmas.{reel_named}
 use Rattle.g_dumper.proofs.IntentLemmas.{rules_here}
@@ -56,12 +53,12 @@ use Rattle.g_dumper.proofs.ShelfLemmas.{reel_there, told_is}
 use Rattle.g_incr.proofs.PlanLemmas.{length-made}
 use Rattle.std.specs.List.Sorted.{IsStrictlyIncreasing}
 use Rattle.g_process.proofs.TextLemmas.{among}
-use Rattle.g_process.specs.Exits.{Exits, HasCompleted, HasReleased, IsContentOf, IsReadBy, LacksMark, MayFill, Stops, StopsBefore, StopsCopies, StopsIntent, StopsMark, StopsRelease, Untouched, cleared, new_dump, IsBesideDump, IsClearedBy, IsLastCut}
+use Rattle.g_process.specs.Exits.{HasCompleted, HasReleased, IsContentOf, IsReadBy, LacksMark, MayFill, Stops, StopsBefore, StopsCopies, StopsIntent, StopsMark, StopsRelease, Untouched, cleared, new_dump, IsBesideDump, IsClearedBy, IsLastCut}
 use Rattle.g_process.specs.Named.{intended_by, moved_by, process_copies}
 use Rattle.g_process.specs.Planned.{IsFirstLost, IsFree, IsTaken, process_plan}
-use Rattle.g_process.specs.Processing.{ProcessCause, Processes, behind_process, open_number, process_refuses}
+use Rattle.g_process.specs.Processing.{Processes, behind_process, open_number, process_refuses}
 use Rattle.g_process.proofs.BecomeLemmas.{apart_of}
-use Rattle.g_process.proofs.BelongLemmas.{disc_intended, disc_marked, none_on, up_moved, up_released, without_all}
+use Rattle.g_process.proofs.BelongLemmas.{disc_marked, none_on, up_moved, up_released, without_all}
 use Rattle.g_process.proofs.ExitLemmas.{found_itself, gone_all, stays_all}
 use Rattle.g_process.proofs.ReleaseLemmas.{AreApart}
 use Rattle.g_store.specs.Events.{LeadsBy, StepsBy}
