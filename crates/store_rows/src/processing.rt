@@ -63,10 +63,7 @@ fn stops_of(rt: &HostRuntime, before: &str, device: Device, leave: &str) -> Resu
         let Some(system) = stopped(rt, before, device, leave, k)? else {
             break;
         };
-        starts(rt, system)?;
-        if let Some(system) = stopped(rt, before, device, leave, k)? {
-            goes_on(rt, system)?;
-        }
+        goes_on(rt, system)?;
         if let Some(system) = stopped(rt, before, device, leave, k)? {
             restores(rt, system)?;
         }
@@ -98,25 +95,14 @@ fn stopped(
     }
 }
 
-/// A start has all files, and takes the dump over where it is whole and wasn't.
-fn started(rt: &HostRuntime, system: System) -> Result<System, Wrong> {
-    let (system, outcome) = happens(rt.alloc(), system, &Event::Start);
-    match outcome {
-        Ok(Answer::Done | Answer::Dump(3)) => Ok(system),
-        _ => Err(Wrong("no start")),
-    }
-}
-
-fn starts(rt: &HostRuntime, system: System) -> Result<(), Wrong> {
-    let system = started(rt, system)?;
-    let system = play(rt, system, DUMPED)?;
-    play(rt, system, WITH_E)?;
-    Ok(())
-}
-
-/// Where the dump isn't whole, the PROCESS is made again. Then the other reels are wanted no more.
+/// A start has all files, and takes the dump over where it is whole and wasn't. Where it isn't whole, the PROCESS is made
+/// again, and reads from the old reels. Then these are wanted no more.
 fn goes_on(rt: &HostRuntime, system: System) -> Result<(), Wrong> {
-    let system = started(rt, system)?;
+    let (system, outcome) = happens(rt.alloc(), system, &Event::Start);
+    if !matches!(outcome, Ok(Answer::Done | Answer::Dump(3))) {
+        return Err(Wrong("no start"));
+    }
+    let system = play(rt, system, WITH_E)?;
     let (system, outcome) = happens(rt.alloc(), system, &Event::Device(Device::Process, 3));
     match outcome {
         Ok(Answer::Dump(3)) | Err(StoreFault::ReelNotFree(3)) => {}
