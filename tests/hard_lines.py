@@ -5,7 +5,8 @@
 
 The program is killed at random moments of days in which all goes onto one reel and back, with jobs and dumps between: what is left is
 read, started, and restored in a copy. It is killed while two terminals type beside a dump: what they were told was done. A PROCESS is
-cut off by a file system that is full, at each write. Its writes and syncs on disc and reels are looked at in their order.
+cut off by a file system that is full, at each write, and made over two racks. Its writes and syncs on disc and reels are looked at in
+their order.
 """
 import importlib.machinery
 import importlib.util
@@ -96,7 +97,7 @@ def tests(hard):
             began = time.monotonic()
             started = folder.start(stdin=it)
             if whole is not None:
-                time.sleep(random.random() * min(whole * 1.1, hard.LONGEST_SLEEP))
+                time.sleep(random.random() * whole * 1.1)
                 started.kill()
             text, errors = started.communicate(timeout=hard.LIMIT)
         return text, errors, time.monotonic() - began
@@ -223,6 +224,22 @@ def tests(hard):
             check("the released reel has one block of zeros", folder.reels()[1] == bytes(BLOCK))
             check("both files are on the new reel", folder.holds(TWO_HELD) and copies_lie(folder) == [])
 
+    def over_two_racks():
+        """A PROCESS writes and releases the reels of both racks; with the new dump's reel lost from one, all files are there."""
+        with Folder() as folder, Folder() as single:
+            second = "george.tapes2"
+            os.mkdir(folder.at(second))
+            folder.give(folder.at(second))
+            one, two = (it.run(TWO_FILES + b"900 PROCESS 2\n") for it in (single, folder))
+            check("a PROCESS over two racks prints the same", one[:2] == two[:2] and one[1].endswith(b" PROCESSED DUMP 2 ON 2\n"), two)
+            reels = [{name: folder.image(f"{rack}/{name}") for name in os.listdir(folder.at(rack))} for rack in (RACK, second)]
+            alone = {f"{k}.tape": reel for k, reel in single.reels().items()}
+            check("and leaves both as one", reels == [alone, alone], [{k: len(it) for k, it in rack.items()} for rack in reels])
+            os.remove(folder.at(f"{RACK}/2.tape"))
+            again = folder.run(START + b"0 JOB C,:MASTER,TIME 9\nLISTFILE F\nLISTFILE G\n****\n")
+            told = b"george: tape 2: the first reel was rebuilt\n"
+            check("a lost reel of a PROCESS", b"| HELLO\n" in again[1] and b"| WORLD\n" in again[1] and again[2] == told, again)
+
     def full_in_process():
         """A file system that is full in mid-PROCESS stops the system: the files are as they were, and with room it is done."""
         script = (
@@ -275,7 +292,7 @@ def tests(hard):
             return
         leave_out("a full file system in a PROCESS", "no mount is allowed here")
 
-    return (order_of_process, full_in_process, kills_in_processes, kills_at_terminals)
+    return (order_of_process, over_two_racks, full_in_process, kills_in_processes, kills_at_terminals)
 
 
 if __name__ == "__main__":
