@@ -71,14 +71,30 @@ class Day:
         return "\n".join([*self.lines, ""]).encode()
 
 
+def taken(hard, folder):
+    """The reels with a completed dump."""
+    return {serial for serial, reel in folder.reels().items() if hard.dumps_on(reel)}
+
+
+def free_a_reel(hard, folder):
+    """Where every reel has a dump, one that isn't the last dump's is taken away, and an empty one comes in its place."""
+    if len(taken(hard, folder)) == 3:
+        newest = hard.newest(folder)
+        spare = min(k for k, reel in folder.reels().items() if newest not in [it[0] for it in hard.dumps_on(reel)])
+        with open(folder.at(f"{hard.RACK}/{spare}.tape"), "wb"):
+            pass
+
+
+def next_day(hard, folder, some, turn, files):
+    """A day on the reels as they are: all goes onto one without a dump, then onto another."""
+    target = some.choice(sorted({1, 2, 3} - taken(hard, folder)))
+    return Day(some, turn, files, target, some.sample(sorted({1, 2, 3} - {target}), 2))
+
+
 def tests(hard):
     """The tests, with the helpers of the program `tests/hard`."""
     Folder, check, leave_out, check_run = hard.Folder, hard.check, hard.leave_out, hard.check_run
     RACK, BLOCK, IMAGE = hard.RACK, hard.BLOCK, hard.IMAGE
-
-    def taken(folder):
-        """The reels with a completed dump."""
-        return {serial for serial, reel in folder.reels().items() if hard.dumps_on(reel)}
 
     def copies_lie(folder):
         """The files that are on disc and tape with other bytes there."""
@@ -112,13 +128,6 @@ def tests(hard):
             ended = beside.run(RESTORE)
             return (hard.held_by_name(beside) if b" RESTORED " in ended[1] else None), ended
 
-    def free_a_reel(folder, newest):
-        """Where every reel has a dump, one that isn't the last dump's is taken away, and an empty one comes in its place."""
-        if len(taken(folder)) == 3:
-            spare = min(k for k, reel in folder.reels().items() if newest not in [it[0] for it in hard.dumps_on(reel)])
-            with open(folder.at(f"{RACK}/{spare}.tape"), "wb"):
-                pass
-
     def kills_in_processes():
         """Behind a kill in a PROCESS, or in the jobs and dumps around it, the files are those of a front of the script's events,
         each on the disc or where it is named on a reel. The next start has them; a restore has those of the last dump."""
@@ -128,8 +137,7 @@ def tests(hard):
             folder.run(b"0 FORMAT\n")
             files, last = {}, 0
             for turn in range(KILLS_IN_PROCESSES + 1):
-                target = some.choice(sorted({1, 2, 3} - taken(folder)))
-                day = Day(some, turn, files, target, some.sample(sorted({1, 2, 3} - {target}), 2))
+                day = next_day(hard, folder, some, turn, files)
                 dumped.update({last + 1 + k: it for k, it in enumerate(day.dumped)})
                 text, errors, took = run_and_kill(folder, day.script(), whole)
                 whole = whole or took
@@ -152,7 +160,7 @@ def tests(hard):
                 check(f"a start behind {what}", run[0] == 0 and b"0 STARTED" in run[1] and hard.held_by_name(folder) == files, run)
                 check(f"{what}: copies behind a start", copies_lie(folder) == [], copies_lie(folder))
                 last = hard.newest(folder)
-                free_a_reel(folder, last)
+                free_a_reel(hard, folder)
             print(f"killed {KILLS_IN_PROCESSES} days with processes, in runs of {whole:.3f} s; {moved} were told, {adopted} dumps were taken over")
 
     def typed(turn, count):
