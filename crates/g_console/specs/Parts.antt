@@ -2,12 +2,14 @@
 use Rattle.std.specs.Prelude.{◌≡◌, ◌⊎◌, ◌+◌, ◌<◌, ◌≤◌, ℕ, false, List, [], ◌++◌, Option, Some, None}
 use Rattle.g_base.specs.Counts.{RoseBy}
 use Rattle.g_io.specs.Streams.{with_more, HasPutPart}
+use Rattle.g_tape.specs.Rack.{Rack}
 use Rattle.g_step.specs.CallStep.{Outcome, Plain}
+use Rattle.g_state_process.specs.Moving.{DumpsMove}
 use Rattle.g_script.specs.declared.operator.Operator.{Operator}
 use Rattle.g_script.specs.declared.operator.Operator.TheVariants as line
 use Rattle.g_world.specs.Devices.{Devices}
 use Rattle.g_world.specs.Lines.{LineGives}
-use Rattle.g_world.specs.Moves.{EventCounted}
+use Rattle.g_world.specs.Moves.{DumpCounted, EventCounted}
 use Rattle.g_world.specs.World.{World}
 use Rattle.g_crew.specs.Crew.{CrewState, IsCrewOf}
 use Rattle.g_crew.specs.Numbers.{AreOpen}
@@ -51,13 +53,23 @@ abbrev pub tape_arms : Operator → ℕ
 tape_arms (line.StopTape k) = 1
 tape_arms what = 0
 
+-- What the devices count in a line: a failed write is the disc's, but for a PROCESS, the one line that writes tapes
+abbrev pub LineCounted : Operator → Outcome → Devices → Devices → Type 0
+LineCounted (line.Process serial) o old new = DumpCounted o old new
+LineCounted what o old new = EventCounted o (disc_arms what) (tape_arms what) old new
+
+-- what becomes of completed dumps: they stay, but for a PROCESS, which may release whole reels behind a dump that has all
+abbrev pub DumpsBy : Operator → Rack → Rack → Type 0
+DumpsBy (line.Process serial) old new = DumpsMove old new
+DumpsBy what old new = DumpsGrow old new
+
 -- The line was done: with an outcome that the counts tell it gives the next world, for whose store the system stands, and whose text is
 -- longer.
 pub record DoesLine (what : Operator) (w : World) (old new : SystemFacts) (added : List ℕ) : Type 0 where
   pub outcome : Outcome
   pub next : World
   pub gives : LineGives outcome what w next
-  pub counted : EventCounted outcome (disc_arms what) (tape_arms what) (devices_in old) (devices_in new)
+  pub counted : LineCounted what outcome (devices_in old) (devices_in new)
   pub stands : StandsAs new next.store
   pub text : next.text ≡ w.text ++ added
 
@@ -102,5 +114,5 @@ pub record DidLine (what : Operator) (old : Seen) (failure : Option Failure) (ne
   pub fuses : FusesBy what (devices_in new.system)
   pub same : SameDevices (devices_in old.system) (devices_in new.system)
   pub belongs : SystemBelongs old.system → SystemBelongs new.system
-  pub dumps : SystemBelongs old.system → DumpsGrow (devices_in old.system).rack (devices_in new.system).rack
+  pub dumps : SystemBelongs old.system → DumpsBy what (devices_in old.system).rack (devices_in new.system).rack
   pub cause : FaultCause failure faults faults'
