@@ -1,5 +1,6 @@
--- No verb and no command changes what a turn is gone on with, or takes away a level.
-use Rattle.std.proofs.Common.{◌≡◌, ℕ, suc, zero, ◌+◌, ◌-◌, ◌≤◌, Bool, true, false, List, [], ◌∷◌, ◌++◌, length, nat_lt, Option, Some, None, Result, Ok, Err, unwrap_or, codes, if◌then◌else◌, arith}
+-- No verb and no command changes what a turn is gone on with, and each keeps what is so of the levels, whatever that be, where it goes on with
+-- another current level of the same lines and with a macro's level on top.
+use Rattle.std.proofs.Common.{◌≡◌, ℕ, suc, zero, ◌+◌, ◌-◌, Bool, true, false, List, [], ◌∷◌, ◌++◌, length, nat_lt, Option, Some, None, Result, Ok, Err, unwrap_or, codes, if◌then◌else◌, refl}
 use Rattle.g_act.specs.Actions.{act}
 use Rattle.g_act.specs.Asking.{append, append_told, by_answer, one_call, put, put_told}
 use Rattle.g_act.specs.Bounds.{AlwaysGives, MayAnswer}
@@ -15,7 +16,7 @@ use Rattle.g_act.proofs.RunLemmas.{work_of}
 use Rattle.g_lang.specs.Lines.{Said, SaidGoto, SaidIf, SaidVerb, SaidWhenever}
 use Rattle.g_lang.specs.declared.line.Cond.{Cond}
 use Rattle.g_lines.specs.Lines.{ended, lines_of}
-use Rattle.g_macro.specs.Levels.{Level, at_line, called, changed, current, document_of, document_passed, entry_kept, holds, is_deepest, is_full_for, line_of_label, param_set, past_document, with_whenever}
+use Rattle.g_macro.specs.Levels.{Level, Stack, at_line, called, current, document_of, document_passed, entry_kept, holds, is_deepest, is_full_for, line_of_label, param_set, past_document, with_current, with_whenever}
 use Rattle.g_macro.specs.declared.outcome.EventNote.TheVariants as note
 use Rattle.g_mill.specs.Lines.{lines}
 use Rattle.g_mill.specs.Loading.{bad_line, program_of}
@@ -48,15 +49,14 @@ use Rattle.g_verbs.specs.How.{action_read}
 use Rattle.g_verbs.specs.declared.action.Action.{Action}
 use Rattle.g_verbs.specs.declared.action.Action.TheVariants as action
 
--- with another current level there are as many
-many : (n : ℕ) (change : Level → Level) (levels : List Level) → n ≤ length levels → n ≤ length (changed change levels)
-many n change [] h = h
-many n change (level ∷ below) h = h
+-- another level of the same lines
+abbrev pub KeepsLines : (Level → Level) → Type 0
+KeepsLines change = (level : Level) → (change level).lines ≡ level.lines
 
-module _ (again : Option Pending) (n : ℕ) where
-  -- the turn is gone on with this, and there are so many levels
+module _ (again : Option Pending) (G : Stack → Type 0) where
+  -- the turn is gone on with this, and this is so of the levels
   abbrev pub Keeps : Work → Type 0
-  Keeps w = (w.again ≡ again) × (n ≤ length w.desk.levels.levels)
+  Keeps w = (w.again ≡ again) × G w.desk.levels
 
   if_keeps : (b : Bool) (x y : Work) → Keeps x → Keeps y → Keeps (if b then x else y)
   if_keeps true x y hx hy = hx
@@ -173,28 +173,6 @@ module _ (again : Option Pending) (n : ℕ) where
         (fetch_keeps path mode.Read (ToAssign u) w h)
         (say_keeps room (job_line line.Assigned) (done (with_units (with_writer w.desk.units (place_of u.kind u.number) (Some (path, []))) w)) h))
 
-    called_keeps : (params : List (List ℕ)) (bytes : List ℕ) (w : Work) → Keeps w → Keeps (macro_called room params bytes w)
-    called_keeps params bytes w h =
-        if_keeps (is_deepest w.desk.levels) (in_error room errors.TooDeep w) (done (with_levels (called (lines_of bytes) params w.desk.levels) w))
-        (error_keeps room errors.TooDeep w h) (let more : n ≤ length w.desk.levels.levels = h.1 in (h.0, omega (arith, more)))
-
-    second_keeps : (path : Path) (m : Mode) (params : List (List ℕ)) (w : Work) → Keeps w → (answer : Answer) → MayAnswer (call.Fetch path m) answer
-        → AlwaysGives Keeps (second_looked room params w answer)
-    second_keeps path m params w h (Ok (Bytes full bytes)) may = called_keeps params bytes (with_bytes (length bytes) w) h
-    second_keeps path m params w h (Ok reply) may = h
-    second_keeps path m params w h (Err fault.NoFile) may = error_keeps room errors.UnknownVerb w h
-    second_keeps path m params w h (Err refusal) may = refused_keeps room refusal w h
-
-    first_keeps : (path : Path) (m : Mode) (macro : List ℕ) (params : List (List ℕ)) (w : Work) → Keeps w → (answer : Answer) → MayAnswer (call.Fetch path m) answer
-        → AlwaysGives Keeps (first_looked room macro params w answer)
-    first_keeps path m macro params w h (Ok (Bytes full bytes)) may = called_keeps params bytes (with_bytes (length bytes) w) h
-    first_keeps path m macro params w h (Ok reply) may = h
-    first_keeps path m macro params w h (Err fault.NoFile) may = λ answer may'. second_keeps (macro_path (Some (codes "MACROS")) macro) mode.Execute params w h answer may'
-    first_keeps path m macro params w h (Err refusal) may = refused_keeps room refusal w h
-
-    look_up_keeps : (macro : List ℕ) (params : List (List ℕ)) (w : Work) → Keeps w → AlwaysGives Keeps (look_up room macro params w)
-    look_up_keeps macro params w h = λ answer may. first_keeps (macro_path None macro) mode.Execute macro params w h answer may
-
     given_back_keeps : (output : Option (Path × List ℕ)) (w : Work) → Keeps w → AlwaysGives Keeps (given_back room output w)
     given_back_keeps None w h = say_keeps room (job_line line.Released) (done w) h
     given_back_keeps (Some output) w h = put_keeps true output.0 output.1 w h
@@ -226,56 +204,81 @@ module _ (again : Option Pending) (n : ℕ) where
         then_gives Keeps Keeps (release_all room (done (dropped w))) (deleted room) (all_released_keeps (done (dropped w)) h) (λ v hv over. hv)
         (λ v hv on. say_keeps room (job_line line.Deleted) v hv)
 
-    act_keeps : (who : List ℕ) (by : Bool) (asked : Action) (w : Work) → Keeps w → AlwaysGives Keeps (act room who by asked w)
-    act_keeps who by (action.Input file) w h =
-        put_keeps true file (document_of w.desk.levels) (with_levels (document_passed w.desk.levels) w) (h.0, many n past_document w.desk.levels.levels h.1)
-    act_keeps who by (action.Copy from to) w h = fetch_keeps from mode.Read (ToPut to) w h
-    act_keeps who by (action.Append from to) w h = fetch_keeps from mode.Read (ToAppend to) w h
-    act_keeps who by (action.Erase file) w h = one_call_keeps (call.Erase file) w h
-    act_keeps who by (action.Rename file to) w h = one_call_keeps (call.Rename file to) w h
-    act_keeps who by (action.ListFile file) w h = fetch_keeps file mode.Read ToList w h
-    act_keeps who by (action.ListDir user) w h = one_call_keeps (call.List (unwrap_or user who)) w h
-    act_keeps who by (action.TrapGo file user modes) w h = one_call_keeps (call.TrapGo file user modes) w h
-    act_keeps who by (action.TrapStop file user modes) w h = one_call_keeps (call.TrapStop file user modes) w h
-    act_keeps who by (action.TrapCheck file user) w h = one_call_keeps (call.TrapCheck file (unwrap_or user who)) w h
-    act_keeps who by (action.NewUser user space time money) w h = one_call_keeps (call.NewUser user space time (unwrap_or money 1000000)) w h
-    act_keeps who by (action.Budget user kind amount) w h = one_call_keeps (call.Budget user kind amount) w h
-    act_keeps who by (action.Retrieve file) w h = one_call_keeps (call.Retrieve file) w h
-    act_keeps who by (action.Load file) w h = fetch_keeps file mode.Execute ToLoad w h
-    act_keeps who by (action.Plan from to) w h = fetch_keeps from mode.Read (ToAssemble to) w h
-    act_keeps who by (action.Enter entry) w h = entered_keeps room by entry w.desk.program w h
-    act_keeps who by action.Resume w h = resumed_keeps room by w.desk.program w h
-    act_keeps who by (action.Assign u file) w h = assign_keeps u file w h
-    act_keeps who by (action.Release u) w h = release_keeps u w h
-    act_keeps who by action.Delete w h = delete_keeps w.desk.program w h
-    act_keeps who by (action.SetParam letter text) w h = (h.0, many n (param_set letter (unwrap_or text [])) w.desk.levels.levels h.1)
-    act_keeps who by (action.Display text) w h = say_keeps room (marked mark.Displayed text) (done w) h
-    act_keeps who by action.EndJob w h = end_keeps w h
-    act_keeps who by (action.Macro macro params) w h = look_up_keeps macro params w h
+    -- where commands change the levels
+    module _ (on_change : (change : Level → Level) → KeepsLines change → (s : Stack) → G s → G (with_current change s))
+        (on_call : (lines params : List (List ℕ)) (s : Stack) → G s → G (called lines params s)) where
+      called_keeps : (params : List (List ℕ)) (bytes : List ℕ) (w : Work) → Keeps w → Keeps (macro_called room params bytes w)
+      called_keeps params bytes w h =
+          if_keeps (is_deepest w.desk.levels) (in_error room errors.TooDeep w) (done (with_levels (called (lines_of bytes) params w.desk.levels) w))
+          (error_keeps room errors.TooDeep w h) (h.0, on_call (lines_of bytes) params w.desk.levels h.1)
 
-    gone_keeps : (place : Option ℕ) (w : Work) → Keeps w → Keeps (gone room place w)
-    gone_keeps None w h = error_keeps room errors.NoLabel w h
-    gone_keeps (Some place) w h = (h.0, many n (at_line place) w.desk.levels.levels h.1)
+      second_keeps : (path : Path) (m : Mode) (params : List (List ℕ)) (w : Work) → Keeps w → (answer : Answer) → MayAnswer (call.Fetch path m) answer
+          → AlwaysGives Keeps (second_looked room params w answer)
+      second_keeps path m params w h (Ok (Bytes full bytes)) may = called_keeps params bytes (with_bytes (length bytes) w) h
+      second_keeps path m params w h (Ok reply) may = h
+      second_keeps path m params w h (Err fault.NoFile) may = error_keeps room errors.UnknownVerb w h
+      second_keeps path m params w h (Err refusal) may = refused_keeps room refusal w h
 
-    kept_keeps : (cond : Cond) (text : List ℕ) (w : Work) → Keeps w → Keeps (kept room cond text w)
-    kept_keeps cond text w h =
-        if_keeps (is_full_for cond w.desk.levels) (in_error room errors.WheneversFull w) (with_levels (with_whenever cond text w.desk.levels) w)
-        (error_keeps room errors.WheneversFull w h) (h.0, many n (entry_kept cond text) w.desk.levels.levels h.1)
+      first_keeps : (path : Path) (m : Mode) (macro : List ℕ) (params : List (List ℕ)) (w : Work) → Keeps w → (answer : Answer) → MayAnswer (call.Fetch path m) answer
+          → AlwaysGives Keeps (first_looked room macro params w answer)
+      first_keeps path m macro params w h (Ok (Bytes full bytes)) may = called_keeps params bytes (with_bytes (length bytes) w) h
+      first_keeps path m macro params w h (Ok reply) may = h
+      first_keeps path m macro params w h (Err fault.NoFile) may = λ answer may'. second_keeps (macro_path (Some (codes "MACROS")) macro) mode.Execute params w h answer may'
+      first_keeps path m macro params w h (Err refusal) may = refused_keeps room refusal w h
 
-    acted_keeps : (who : List ℕ) (by : Bool) (verb : List ℕ) (asked : Result Action ℕ) (w : Work) → Keeps w → AlwaysGives Keeps (acted room who by verb asked w)
-    acted_keeps who by verb (Ok asked) w h = act_keeps who by asked w h
-    acted_keeps who by verb (Err index) w h =
-        error_keeps room (errors.BadParameter index) (passes_document verb w)
-        (if_keeps (same_text verb (codes "INPUT")) (with_levels (document_passed w.desk.levels) w) w (h.0, many n past_document w.desk.levels.levels h.1) h)
+      look_up_keeps : (macro : List ℕ) (params : List (List ℕ)) (w : Work) → Keeps w → AlwaysGives Keeps (look_up room macro params w)
+      look_up_keeps macro params w h = λ answer may. first_keeps (macro_path None macro) mode.Execute macro params w h answer may
 
-    command_keeps : (who : List ℕ) (by : Bool) (said : Said) (w : Work) → Keeps w → AlwaysGives Keeps (command room who by said w)
-    command_keeps who by (SaidGoto label) w h = gone_keeps (line_of_label label (current w.desk.levels).lines) w h
-    command_keeps who by (SaidIf cond inner) w h =
-        if_gives Keeps (holds w.desk.levels cond w.desk.outcome) (command room who by inner w) (Gives w) (command_keeps who by inner w h) h
-    command_keeps who by (SaidWhenever cond text) w h = kept_keeps cond text w h
-    command_keeps who by (SaidVerb verb params rest) w h = acted_keeps who by verb (action_read verb params rest) w h
+      act_keeps : (who : List ℕ) (by : Bool) (asked : Action) (w : Work) → Keeps w → AlwaysGives Keeps (act room who by asked w)
+      act_keeps who by (action.Input file) w h =
+          put_keeps true file (document_of w.desk.levels) (with_levels (document_passed w.desk.levels) w) (h.0, on_change past_document (λ level. refl) w.desk.levels h.1)
+      act_keeps who by (action.Copy from to) w h = fetch_keeps from mode.Read (ToPut to) w h
+      act_keeps who by (action.Append from to) w h = fetch_keeps from mode.Read (ToAppend to) w h
+      act_keeps who by (action.Erase file) w h = one_call_keeps (call.Erase file) w h
+      act_keeps who by (action.Rename file to) w h = one_call_keeps (call.Rename file to) w h
+      act_keeps who by (action.ListFile file) w h = fetch_keeps file mode.Read ToList w h
+      act_keeps who by (action.ListDir user) w h = one_call_keeps (call.List (unwrap_or user who)) w h
+      act_keeps who by (action.TrapGo file user modes) w h = one_call_keeps (call.TrapGo file user modes) w h
+      act_keeps who by (action.TrapStop file user modes) w h = one_call_keeps (call.TrapStop file user modes) w h
+      act_keeps who by (action.TrapCheck file user) w h = one_call_keeps (call.TrapCheck file (unwrap_or user who)) w h
+      act_keeps who by (action.NewUser user space time money) w h = one_call_keeps (call.NewUser user space time (unwrap_or money 1000000)) w h
+      act_keeps who by (action.Budget user kind amount) w h = one_call_keeps (call.Budget user kind amount) w h
+      act_keeps who by (action.Retrieve file) w h = one_call_keeps (call.Retrieve file) w h
+      act_keeps who by (action.Load file) w h = fetch_keeps file mode.Execute ToLoad w h
+      act_keeps who by (action.Plan from to) w h = fetch_keeps from mode.Read (ToAssemble to) w h
+      act_keeps who by (action.Enter entry) w h = entered_keeps room by entry w.desk.program w h
+      act_keeps who by action.Resume w h = resumed_keeps room by w.desk.program w h
+      act_keeps who by (action.Assign u file) w h = assign_keeps u file w h
+      act_keeps who by (action.Release u) w h = release_keeps u w h
+      act_keeps who by action.Delete w h = delete_keeps w.desk.program w h
+      act_keeps who by (action.SetParam letter text) w h = (h.0, on_change (param_set letter (unwrap_or text [])) (λ level. refl) w.desk.levels h.1)
+      act_keeps who by (action.Display text) w h = say_keeps room (marked mark.Displayed text) (done w) h
+      act_keeps who by action.EndJob w h = end_keeps w h
+      act_keeps who by (action.Macro macro params) w h = look_up_keeps macro params w h
 
-    -- WHATEVER A COMMAND DOES
-    pub said_keeps : (who : List ℕ) (by : Bool) (said : Option Said) (w : Work) → Keeps w → AlwaysGives Keeps (done_if room who by said w)
-    said_keeps who by None w h = h
-    said_keeps who by (Some said) w h = command_keeps who by said w h
+      gone_keeps : (place : Option ℕ) (w : Work) → Keeps w → Keeps (gone room place w)
+      gone_keeps None w h = error_keeps room errors.NoLabel w h
+      gone_keeps (Some place) w h = (h.0, on_change (at_line place) (λ level. refl) w.desk.levels h.1)
+
+      kept_keeps : (cond : Cond) (text : List ℕ) (w : Work) → Keeps w → Keeps (kept room cond text w)
+      kept_keeps cond text w h =
+          if_keeps (is_full_for cond w.desk.levels) (in_error room errors.WheneversFull w) (with_levels (with_whenever cond text w.desk.levels) w)
+          (error_keeps room errors.WheneversFull w h) (h.0, on_change (entry_kept cond text) (λ level. refl) w.desk.levels h.1)
+
+      acted_keeps : (who : List ℕ) (by : Bool) (verb : List ℕ) (asked : Result Action ℕ) (w : Work) → Keeps w → AlwaysGives Keeps (acted room who by verb asked w)
+      acted_keeps who by verb (Ok asked) w h = act_keeps who by asked w h
+      acted_keeps who by verb (Err index) w h =
+          error_keeps room (errors.BadParameter index) (passes_document verb w)
+          (if_keeps (same_text verb (codes "INPUT")) (with_levels (document_passed w.desk.levels) w) w (h.0, on_change past_document (λ level. refl) w.desk.levels h.1) h)
+
+      command_keeps : (who : List ℕ) (by : Bool) (said : Said) (w : Work) → Keeps w → AlwaysGives Keeps (command room who by said w)
+      command_keeps who by (SaidGoto label) w h = gone_keeps (line_of_label label (current w.desk.levels).lines) w h
+      command_keeps who by (SaidIf cond inner) w h =
+          if_gives Keeps (holds w.desk.levels cond w.desk.outcome) (command room who by inner w) (Gives w) (command_keeps who by inner w h) h
+      command_keeps who by (SaidWhenever cond text) w h = kept_keeps cond text w h
+      command_keeps who by (SaidVerb verb params rest) w h = acted_keeps who by verb (action_read verb params rest) w h
+
+      -- WHATEVER A COMMAND DOES
+      pub said_keeps : (who : List ℕ) (by : Bool) (said : Option Said) (w : Work) → Keeps w → AlwaysGives Keeps (done_if room who by said w)
+      said_keeps who by None w h = h
+      said_keeps who by (Some said) w h = command_keeps who by said w h

@@ -1,6 +1,7 @@
 pub mod BoundLemmas
 pub mod CommandBounds
 pub mod CommandLemmas
+pub mod DocumentLemmas
 pub mod HonestLemmas
 pub mod KeptLemmas
 pub mod OrderLemmas

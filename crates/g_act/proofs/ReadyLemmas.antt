@@ -1,5 +1,5 @@
 -- What the code of a line keeps: what the turn is gone on with, and its level.
-use Rattle.std.proofs.Common.{◌≡◌, ℕ, ◌<◌, Bool, true, false, List, [], ◌∷◌, length, Option, Some, None, Result, Ok, Err, IfSome, OnErr, is_some, refl, sym, ap, ◌∙◌, subst, arith}
+use Rattle.std.proofs.Common.{◌≡◌, ℕ, ◌<◌, ◌≤◌, Bool, true, false, List, [], ◌∷◌, length, Option, Some, None, Result, Ok, Err, IfSome, OnErr, is_some, refl, sym, ap, ◌∙◌, subst, arith}
 use Rattle.std.proofs.lemmas.Bool.{false≢true}
 use Rattle.g_base.specs.declared.memory.NoMemory.{NoMemory}
 use Rattle.g_act.specs.Commands.{done_if}
@@ -9,11 +9,11 @@ use Rattle.g_act.specs.Runs.{goes_on}
 use Rattle.g_act.specs.Say.{say, stopped, with_levels}
 use Rattle.g_act.specs.State.{Full, Pending, Work}
 use Rattle.g_act.specs.Steps.{RanWell}
-use Rattle.g_act.proofs.KeptLemmas.{Keeps, end_keeps, goes_on_keeps, said_keeps}
+use Rattle.g_act.proofs.KeptLemmas.{Keeps, KeepsLines, end_keeps, goes_on_keeps, said_keeps}
 use Rattle.g_act.proofs.WellThen.{well_gives}
 use Rattle.g_lang.specs.Lines.{IsCommandText, Said}
 use Rattle.g_lines.specs.Lines.{ended}
-use Rattle.g_macro.specs.Levels.{Level, Stack, entry_that_holds, fired}
+use Rattle.g_macro.specs.Levels.{Level, Stack, called, changed, entry_that_holds, fired, with_current}
 use Rattle.g_macro.specs.Replies.{Fires}
 use Rattle.g_macro.specs.declared.entry.Entry.{Entry}
 use Rattle.g_macro.specs.declared.outcome.Outcome.{Outcome}
@@ -27,6 +27,20 @@ pub on_err : {T E P : Type 0} (r : Result T E) → P → OnErr r P
 on_err (Ok x) p = tt
 on_err (Err e) p = p
 
+-- there are so many levels, also with another current one, and with a macro's on top
+abbrev AtLeast : ℕ → Stack → Type 0
+AtLeast n s = n ≤ length s.levels
+
+many : (n : ℕ) (change : Level → Level) (levels : List Level) → n ≤ length levels → n ≤ length (changed change levels)
+many n change [] h = h
+many n change (level ∷ below) h = h
+
+on_change : (n : ℕ) (change : Level → Level) → KeepsLines change → (s : Stack) → AtLeast n s → AtLeast n (with_current change s)
+on_change n change same s h = many n change s.levels h
+
+on_call : (n : ℕ) (lines params : List (List ℕ)) (s : Stack) → AtLeast n s → AtLeast n (called lines params s)
+on_call n lines params s h = let more : n ≤ length s.levels = h in omega (arith, more)
+
 -- nothing was asked before memory was wanting
 pub err_none : {S : Type 0} (answers : S → List ℕ → StoreCall → Answer → S → Type 0) (who : List ℕ) (p : Asks Work) (old : S) (r : Result (Unit {0}) NoMemory)
     → OnErr r (RanInPart answers who old p old)
@@ -38,13 +52,13 @@ module _ {S : Type 0} (answers : S → List ℕ → StoreCall → Answer → S �
   pub said_ready : (room : ℕ) (by : Bool) (said : Option Said) (w v : Work) (old new : S) → IsReady w → 0 < length w.desk.levels.levels
       → RanWell answers is_spent can_wait who old (done_if room who by said w) v new → IsReady v
   said_ready room by said w v old new ready level r =
-      let k : Keeps w.again 1 v = well_gives answers is_spent can_wait who (Keeps w.again 1) (done_if room who by said w) old v new (said_keeps w.again 1 room who by said w (refl, level)) r in
+      let k : Keeps w.again (AtLeast 1) v = well_gives answers is_spent can_wait who (Keeps w.again (AtLeast 1)) (done_if room who by said w) old v new (said_keeps w.again (AtLeast 1) room (on_change 1) (on_call 1) who by said w (refl, level)) r in
       record { command = subst (λ (a : Option Pending). IfSome a IsAgain) (sym k.0) ready.command; level = λ there. k.1 }
 
   -- behind the release of all units at the job's end
   pub end_ready : (room : ℕ) (w v : Work) (old new : S) → w.again ≡ None → RanWell answers is_spent can_wait who old (end_job room w) v new → IsReady v
   end_ready room w v old new none r =
-      let k : Keeps w.again 0 v = well_gives answers is_spent can_wait who (Keeps w.again 0) (end_job room w) old v new (end_keeps w.again 0 room w (refl, omega arith)) r in
+      let k : Keeps w.again (AtLeast 0) v = well_gives answers is_spent can_wait who (Keeps w.again (AtLeast 0)) (end_job room w) old v new (end_keeps w.again (AtLeast 0) room w (refl, omega arith)) r in
       let still : v.again ≡ None = k.0 ∙ none in
       record {
         command = subst (λ (a : Option Pending). IfSome a IsAgain) (sym still) tt;
@@ -60,7 +74,7 @@ none_ready w none = record {
 
 -- behind a run of the program
 pub run_ready : (room : ℕ) (w v : Work) → w.again ≡ None → v ≡ goes_on room w → v.again ≡ None
-run_ready room w v none is = ap (λ (x : Work). x.again) is ∙ (goes_on_keeps w.again 0 room w (refl, omega arith)).0 ∙ none
+run_ready room w v none is = ap (λ (x : Work). x.again) is ∙ (goes_on_keeps w.again (AtLeast 0) room w (refl, omega arith)).0 ∙ none
 
 -- the levels of a WHENEVER that fires have its own
 abbrev pub levels_in : Option (List ℕ × List Level) → List Level

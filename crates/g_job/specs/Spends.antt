@@ -46,3 +46,7 @@ ComesTo old w charge (turn.Ran units money) new = (w.stop ≡ None) × HasLeft o
 ComesTo old w charge (turn.Wants serial) new = (w.stop ≡ Some (Waits serial)) × (new.pending ≡ w.again) × ToldAsBefore old new
 ComesTo old w charge (turn.Ended units money) new = EndsFor old charge w.stop
 ComesTo old w charge turn.Broken new = w.stop ≡ Some Broken
+
+-- a turn leaves the job's terminal as it was, and whether its document is held open
+abbrev pub KeepsSeat : JobState → JobState → Type 0
+KeepsSeat old new = (new.terminal ≡ old.terminal) × (new.desk.levels.held ≡ old.desk.levels.held)

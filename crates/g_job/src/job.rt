@@ -47,6 +47,10 @@ pub struct Job {
     pub(crate) wants: Option<u32>,
     pub(crate) monitor: Text,
     pub(crate) over: bool,
+    /// The terminal at which it is, if it is at one.
+    pub(crate) terminal: Option<u8>,
+    /// Whether it may go on, which is looked at once a turn and at each line that is typed.
+    pub(crate) ready: bool,
 }
 
 impl Model for Job {
@@ -58,12 +62,14 @@ impl Model for Job {
 
     ghost coded = { Prim.hlevel (codes, path.the_row.coded) };
 
+    ghost use Rattle.std.specs.Prelude.{◌≡◌};
     ghost use Rattle.g_job.specs.JobValue.{job_of};
     ghost use Rattle.g_job.specs.Rules.{IsJob};
+    ghost use Rattle.g_job.specs.Terminal.{is_ready};
 
     ghost view = { job_of };
 
-    ghost invariant = { λ j. IsJob (job_of j) };
+    ghost invariant = { λ j. IsJob (job_of j) × (j.ready ≡ is_ready (job_of j)) };
 }
 
 impl Job {
@@ -101,6 +107,8 @@ impl Job {
             wants: None,
             monitor,
             over: false,
+            terminal: None,
+            ready: true,
         })
     }
 
