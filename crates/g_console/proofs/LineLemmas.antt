@@ -12,7 +12,7 @@ use Rattle.g_step.specs.State.{State}
 use Rattle.g_step.specs.CallStep.{Outcome, Plain}
 use Rattle.g_script.specs.declared.operator.Operator.{Operator}
 use Rattle.g_world.specs.Devices.{Devices}
-use Rattle.g_world.specs.Lines.{LineGives, line_refused, tells}
+use Rattle.g_world.specs.Lines.{LineGives, is_process, line_refused, tells}
 use Rattle.g_world.specs.Moves.{EventCounted}
 use Rattle.g_world.specs.Texts.{broken_files, operator_line}
 use Rattle.g_world.specs.World.{World, system_stopped}
@@ -20,7 +20,7 @@ use Rattle.g_world.proofs.CountLemmas.{event_none}
 use Rattle.g_crew.specs.Crew.{CrewState, IsCrewOf}
 use Rattle.g_console.specs.declared.progress.Failure.{Failure}
 use Rattle.g_console.specs.declared.progress.Failure.TheVariants.{Memory, Output}
-use Rattle.g_console.specs.Parts.{ArmsBy, DidLine, DoesLine, DoesNothing, IsReady, LineCounted, LineGoes, Matches, Seen, disc_arms, seen, tape_arms}
+use Rattle.g_console.specs.Parts.{ArmsBy, DidLine, DoesLine, DoesNothing, IsReady, CountedBy, LineGoes, Matches, Seen, disc_arms, seen, tape_arms}
 use Rattle.g_console.specs.Puts.{FaultCause, Puts, PutsBy}
 use Rattle.g_console.specs.System.{StandsAs, SystemBelongs, SystemFacts, devices_in}
 use Rattle.g_console.specs.Telling.{TellsFault, down_text, refusal_text, without_jobs}
@@ -81,7 +81,7 @@ module _ (what : Operator) (no_disc : disc_arms what ≡ 0) (no_tape : tape_arms
     fuses = no_fuse what no_disc no_tape (devices_in f);
     same = same_itself (devices_in f);
     belongs = λ is. is;
-    dumps = λ is. grown_by what (devices_in f).rack (devices_in f).rack (grow_itself (devices_in f).rack);
+    dumps = λ is. grown_by (is_process what) (devices_in f).rack (devices_in f).rack (grow_itself (devices_in f).rack);
     cause = puts.cause;
   }
 
@@ -102,7 +102,7 @@ untried_line what no_disc no_tape old new c count same ready failure is text fau
       fuses = no_fuse what no_disc no_tape (devices_in old);
       same = same_itself (devices_in old);
       belongs = λ is. is;
-      dumps = λ is. grown_by what (devices_in old).rack (devices_in old).rack (grow_itself (devices_in old).rack);
+      dumps = λ is. grown_by (is_process what) (devices_in old).rack (devices_in old).rack (grow_itself (devices_in old).rack);
       cause = refl;
     }
 
@@ -119,7 +119,7 @@ pub record FaultDone (what : Operator) (w : World) (old new : SystemFacts) (faul
   pub state : State
   pub outcome : Outcome
   pub gives : LineGives outcome what w (told_of fault state w)
-  pub counted : LineCounted what outcome (devices_in old) (devices_in new)
+  pub counted : CountedBy what outcome (devices_in old) (devices_in new)
   pub stands : StandsAs new state
 
 pub record Faulted (what : Operator) (old : Seen) (system : SystemFacts) (fault : StoreFault) : Type 0 where

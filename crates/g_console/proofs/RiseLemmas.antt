@@ -22,7 +22,7 @@ use Rattle.g_script.specs.declared.operator.Operator.{Operator}
 use Rattle.g_script.specs.declared.operator.Operator.TheVariants as line
 use Rattle.g_world.specs.Devices.{Devices}
 use Rattle.g_world.specs.Events.{IsTold, OutcomeTold}
-use Rattle.g_world.specs.Lines.{LineGives, Rises, line_refused, tells, up_with}
+use Rattle.g_world.specs.Lines.{LineGives, Rises, is_process, line_refused, tells, up_with}
 use Rattle.g_world.specs.Moves.{EventCounted}
 use Rattle.g_world.specs.Texts.{operator_line, started_text}
 use Rattle.g_world.specs.World.{World}
@@ -31,7 +31,7 @@ use Rattle.g_crew.specs.Crew.{CrewState}
 use Rattle.g_world.proofs.EventToldLemmas.{ToldBy, format_told, restore_told, start_told}
 use Rattle.g_console.specs.declared.progress.Failure.{Failure}
 use Rattle.g_console.specs.Opening.{Opens}
-use Rattle.g_console.specs.Parts.{DidLine, DoesLine, IsReady, LineCounted, Matches, Seen, disc_arms, seen, tape_arms}
+use Rattle.g_console.specs.Parts.{DidLine, DoesLine, IsReady, CountedBy, Matches, Seen, disc_arms, seen, tape_arms}
 use Rattle.g_console.specs.Puts.{Puts}
 use Rattle.g_console.specs.System.{BelongTogether, Down, StandsAs, Up, devices_in}
 use Rattle.g_console.specs.Telling.{TellsFault, refusal_text}
@@ -66,7 +66,7 @@ gone fault count c failure c' before after faults faults' jobs accounts tells =
 
 -- the events of one line, which brings the system up
 module _ {A : Type 0} (what : Operator) (given : Type 0) (by : State → Outcome → Result A StoreFault → State → Type 0) (said : A → List ℕ) (count_of : A → ℕ)
-    (lifts : (o : Outcome) (w next : World) → Rises o by said w next → LineGives o what w next) (counts : (o : Outcome) (d e : Devices) → EventCounted o 0 0 d e → LineCounted what o d e)
+    (lifts : (o : Outcome) (w next : World) → Rises o by said w next → LineGives o what w next) (counts : (o : Outcome) (d e : Devices) → EventCounted o 0 0 d e → CountedBy what o d e)
     (no_disc : disc_arms what ≡ 0) (no_tape : tape_arms what ≡ 0) (disc : DiscState) (rack : Rack) (c : CrewState) (count : ℕ) (gives : (let d : Devices = record { disc = disc; rack = rack } in BelongTogether d) → given) where
   abbrev old_devices : Devices
   old_devices = record { disc = disc; rack = rack }
@@ -148,7 +148,7 @@ module _ {A : Type 0} (what : Operator) (given : Type 0) (by : State → Outcome
       fuses = no_fuse what no_disc no_tape (devices_in (Up new));
       same = record { size = makes.causes.size; reels = labels_read rack.reels new.rack.reels makes.tapes.reels };
       belongs = λ is. (makes.told is.told, makes.belongs is.told (gives is));
-      dumps = λ is. grown_by what rack new.rack (grow_held rack new.rack makes.tapes.reels);
+      dumps = λ is. grown_by (is_process what) rack new.rack (grow_held rack new.rack makes.tapes.reels);
       cause = puts.cause;
     }
 
@@ -226,7 +226,7 @@ module _ {A : Type 0} (what : Operator) (given : Type 0) (by : State → Outcome
         fuses = no_fuse what no_disc no_tape d;
         same = record { size = refuses.causes.size; reels = labels_read rack.reels rack'.reels refuses.tapes.reels };
         belongs = λ is. record { told = refuses.told is.told; belong = refuses.belongs is.told is.belong };
-        dumps = λ is. grown_by what rack rack' (grow_held rack rack' refuses.tapes.reels);
+        dumps = λ is. grown_by (is_process what) rack rack' (grow_held rack rack' refuses.tapes.reels);
         cause = both.1;
       }
 

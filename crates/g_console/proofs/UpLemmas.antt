@@ -22,13 +22,13 @@ use Rattle.g_script.specs.declared.operator.Operator.TheVariants as line
 use Rattle.g_world.specs.Devices.{Devices}
 use Rattle.g_world.specs.Events.{IsTold, OutcomeTold}
 use Rattle.g_world.specs.Moves.{EventCounted}
-use Rattle.g_world.specs.Lines.{LineGives, NeedsUp, line_refused, now_stands, tells}
+use Rattle.g_world.specs.Lines.{LineGives, NeedsUp, is_process, line_refused, now_stands, tells}
 use Rattle.g_world.specs.Texts.{dump_text, operator_line}
 use Rattle.g_world.specs.World.{World}
 use Rattle.g_world.proofs.EventToldLemmas.{ToldBy, migrate_told, open_told}
 use Rattle.g_crew.specs.Crew.{CrewState}
 use Rattle.g_console.specs.declared.progress.Failure.{Failure}
-use Rattle.g_console.specs.Parts.{ArmsBy, DidLine, DoesLine, DumpsBy, IsReady, LineCounted, Matches, Seen, disc_arms, seen, tape_arms}
+use Rattle.g_console.specs.Parts.{ArmsBy, DidLine, DoesLine, DumpsBy, IsReady, CountedBy, Matches, Seen, disc_arms, seen, tape_arms}
 use Rattle.g_console.specs.Puts.{Puts}
 use Rattle.g_console.specs.System.{Down, IsNow, StandsAs, SystemBelongs, SystemFacts, Up, devices_in, SameDevices}
 use Rattle.g_console.specs.Telling.{TellsFault, refusal_text, system_after, without_jobs}
@@ -66,12 +66,12 @@ went by count_of old new answer event = record { step = event.step; keeps = even
 
 -- AND WHAT IT MAKES OF THE DEVICES: what they counted, that nobody armed them, that they are the same, and what became of completed dumps
 pub record Caused {A : Type 0} (what : Operator) (old : StoreFacts) (answer : Result A StoreFault) (new : StoreFacts) : Type 0 where
-  pub counted : (o : Outcome) → OutcomeTold o answer → LineCounted what o (devices_in (Up old)) (devices_in (Up new))
+  pub counted : (o : Outcome) → OutcomeTold o answer → CountedBy what o (devices_in (Up old)) (devices_in (Up new))
   pub still : OutcomeTold Plain answer → EventCounted Plain 0 0 (devices_in (Up old)) (devices_in (Up new))
   pub disc_armed : new.online.disc.arms ≡ old.online.disc.arms
   pub rack_armed : new.rack.arms ≡ old.rack.arms
   pub same : SameDevices (devices_in (Up old)) (devices_in (Up new))
-  pub dumps : SystemBelongs (Up old) → DumpsBy what old.rack new.rack
+  pub dumps : SystemBelongs (Up old) → DumpsBy (is_process what) old.rack new.rack
 
 pub of_cause : {A : Type 0} (old new : StoreFacts) (answer : Result A StoreFault) → HasCause old new answer → OfDisc answer (devices_in (Up old)) (devices_in (Up new))
 of_cause old new answer cause = record {
@@ -83,14 +83,14 @@ of_cause old new answer cause = record {
 }
 
 -- of an event that writes no tape
-caused : {A : Type 0} (what : Operator) → ((o : Outcome) (d e : Devices) → EventCounted o 0 0 d e → LineCounted what o d e) → (old new : StoreFacts) (answer : Result A StoreFault) → HasCause old new answer → Caused what old answer new
+caused : {A : Type 0} (what : Operator) → ((o : Outcome) (d e : Devices) → EventCounted o 0 0 d e → CountedBy what o d e) → (old new : StoreFacts) (answer : Result A StoreFault) → HasCause old new answer → Caused what old answer new
 caused what counts old new answer cause = record {
   counted = λ o told. counts o (devices_in (Up old)) (devices_in (Up new)) (counted_by answer (devices_in (Up old)) (devices_in (Up new)) (of_cause old new answer cause) o told);
   still = λ told. counted_by answer (devices_in (Up old)) (devices_in (Up new)) (of_cause old new answer cause) Plain told;
   disc_armed = cause.disc.arms;
   rack_armed = cause.tapes.arms;
   same = record { size = cause.disc.size; reels = labels_read old.rack.reels new.rack.reels cause.tapes.reels };
-  dumps = λ is. grown_by what old.rack new.rack (grow_held old.rack new.rack cause.tapes.reels);
+  dumps = λ is. grown_by (is_process what) old.rack new.rack (grow_held old.rack new.rack cause.tapes.reels);
 }
 
 -- a store that was stopped, taken down, has the devices that it had
@@ -171,8 +171,8 @@ module _ {A : Type 0} (what : Operator) (by : State → Holding → Outcome → 
         )
     stands_by f is w m u down stands = record { told = event.told m.stands.told; belongs = event.belongs m.stands.told m.stands.belongs; stands = stands }
 
-    counted_here : (o : Outcome) → OutcomeTold {A = A} o (Err fault) → LineCounted what o (devices_in (Up old)) (devices_in system)
-    counted_here o told = subst (λ (d : Devices). LineCounted what o (devices_in (Up old)) d) (sym (same_devices fault new)) (cause.counted o told)
+    counted_here : (o : Outcome) → OutcomeTold {A = A} o (Err fault) → CountedBy what o (devices_in (Up old)) (devices_in system)
+    counted_here o told = subst (λ (d : Devices). CountedBy what o (devices_in (Up old)) d) (sym (same_devices fault new)) (cause.counted o told)
 
     fault_done : fault ≢ NoMemory → (w : World) → Matches w before → FaultDone what w (Up old) system fault
     fault_done other w m =
@@ -229,7 +229,7 @@ module _ {A : Type 0} (what : Operator) (by : State → Holding → Outcome → 
           fuses = no_fuse what no_disc no_tape (devices_in system);
           same = subst (λ (d : Devices). SameDevices (devices_in (Up old)) d) (sym (same_devices fault new)) cause.same;
           belongs = belongs_by fault refl;
-          dumps = λ is. subst (λ (d : Devices). DumpsBy what old.rack d.rack) (sym (same_devices fault new)) (cause.dumps is);
+          dumps = λ is. subst (λ (d : Devices). DumpsBy (is_process what) old.rack d.rack) (sym (same_devices fault new)) (cause.dumps is);
           cause = both.1;
         }
 
