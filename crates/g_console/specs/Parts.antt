@@ -3,6 +3,7 @@ use Rattle.std.specs.Prelude.{◌≡◌, ◌⊎◌, ◌+◌, ◌<◌, ◌≤◌,
 use Rattle.g_base.specs.Counts.{RoseBy}
 use Rattle.g_io.specs.Streams.{with_more, HasPutPart}
 use Rattle.g_step.specs.CallStep.{Outcome, Plain}
+use Rattle.g_lines.specs.Documents.{IsOneLine}
 use Rattle.g_script.specs.declared.operator.Operator.{Operator}
 use Rattle.g_script.specs.declared.operator.Operator.TheVariants as line
 use Rattle.g_world.specs.Devices.{Devices}
@@ -40,6 +41,9 @@ abbrev pub IsWithin : Operator → Type 0
 IsWithin (line.Job name user time money lines) = ((1 ≤ time) × (time ≤ 1000000)) × (money ≤ 1000000)
 IsWithin (line.StopDisc k) = 1 ≤ k
 IsWithin (line.StopTape k) = 1 ≤ k
+IsWithin (line.Login t user time) = ((1 ≤ t) × (t ≤ 8)) × ((1 ≤ time) × (time ≤ 1000000))
+IsWithin (line.Typed t text) = ((1 ≤ t) × (t ≤ 8)) × IsOneLine text
+IsWithin (line.Logout t) = (1 ≤ t) × (t ≤ 8)
 IsWithin what = Unit {0}
 
 -- how often a line arms the disc and the tapes
