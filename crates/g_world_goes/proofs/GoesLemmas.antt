@@ -96,7 +96,7 @@ module _ {F U : Type 0} (tariffs : Shared F (Bor Usage × Unit {0}) Charge) (tar
   line_goes : (w : World) (next : Timed) (rest : List Timed) → IsReadyWorld w → w.lines ≡ next ∷ rest → w.phase ≡ Between → w.turn ≡ None → (is_due w ≡ true) ⊎ (nothing_steps w ≡ true) → Goes w
   line_goes w next rest ready lines between idle due =
       let (o, new, gives) = line_some next.what (record w { lines = rest }) (λ up. holding_there w.store.holding (ready.held up)) in
-      (TakeLine o, new, (next, rest, lines, between, idle, due, gives))
+      (TakeLine tape o, new, (next, rest, lines, between, idle, due, is_tape, gives))
 
   dump_goes : (w : World) → IsReadyWorld w → w.phase ≡ Between → w.turn ≡ None → is_due w ≡ false → is_dumping w ≡ true → Goes w
   dump_goes w ready between idle undue dumping =

@@ -232,7 +232,7 @@ plain_step s k d (Err Stopped) new (cut, left) = absurd (let no : ⊥ = cc in no
 plain_step s k d (Err fault) new step = absurd step
 
 quiet_none : (move : Move) → IsQuiet move → dump_steps move ≡ 0
-quiet_none (TakeLine o) quiet = refl
+quiet_none (TakeLine tape o) quiet = refl
 quiet_none (Dumped o) quiet = absurd quiet
 quiet_none (Begin number) quiet = refl
 quiet_none (Answered o) quiet = refl
@@ -241,7 +241,7 @@ quiet_none Ticked quiet = refl
 quiet_none Over quiet = refl
 
 pub kind : (move : Move) → ((o : Outcome) × (move ≡ Dumped o)) ⊎ IsQuiet move
-kind (TakeLine o) = inr tt
+kind (TakeLine tape o) = inr tt
 kind (Dumped o) = inl (o, refl)
 kind (Begin number) = inr tt
 kind (Answered o) = inr tt

@@ -123,7 +123,7 @@ module _ {F U : Type 0} (tariffs : Shared F (Bor Usage × Unit {0}) Charge) (tar
     -- no other move comes within a turn
     one_within : (job : JobState) (tree : Tree) (number : ℕ) (asks : Asks Work) (ended : ℕ) (charge : Option Charge) (move : Move) (w mid before new : World) → w.turn ≡ Some (number, asks) → job_of w number ≡ Some job
         → tree_of w.store ≡ Some tree → IsWithin move → Step tariffs tariff rules rule w move mid → Rest number job mid before ended charge new → RestOf job tree number asks ended charge w before new
-    one_within job tree number asks ended charge (TakeLine o) w mid before new turn_is here there within (line, others, lines, between, idle, due, gives) rest = idle_turn w.turn (number, asks) turn_is idle
+    one_within job tree number asks ended charge (TakeLine tape o) w mid before new turn_is here there within (line, others, lines, between, idle, due, gives) rest = idle_turn w.turn (number, asks) turn_is idle
     one_within job tree number asks ended charge (Dumped o) w mid before new turn_is here there within (between, idle, undue, dumping, step) rest = idle_turn w.turn (number, asks) turn_is idle
     one_within job tree number asks ended charge (Begin n) w mid before new turn_is here there within (idle, undue, ready, chosen) rest = idle_turn w.turn (number, asks) turn_is idle
     one_within job tree number asks ended charge (Answered o) w mid before new turn_is here there within step rest = answered job tree number asks ended charge w mid before new o turn_is here there step rest

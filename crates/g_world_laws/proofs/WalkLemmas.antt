@@ -103,7 +103,7 @@ module _ (K : Outcome → State → State → Type 0) (kept : AreKept K) where
   module _ {F U : Type 0} (tariffs : Shared F (Bor Usage × Unit {0}) Charge) (tariff : F) (rules : Shared U (Bor Standing × Unit {0}) ℕ) (rule : U) where
     -- A MOVE that is no step of the open dump
     pub quiet_kept : (w new : World) (move : Move) → IsQuiet move → Step tariffs tariff rules rule w move new → K (outcome_of move) w.store new.store
-    quiet_kept w new (TakeLine o) quiet (next, rest, lines, between, idle, due, gives) = line_kept o next.what (record w { lines = rest }) new gives
+    quiet_kept w new (TakeLine tape o) quiet (next, rest, lines, between, idle, due, is_tape, gives) = line_kept o next.what (record w { lines = rest }) new gives
     quiet_kept w new (Dumped o) quiet step = absurd quiet
     quiet_kept w new (Begin number) quiet (idle, undue, ready, (place, job, chosen, there, number_is, is)) = still Plain w new _ refl is refl
     quiet_kept w new (Answered o) quiet (number, call, more, job, answer, s, asks, here, (k, holds, step, so), real, is) =
