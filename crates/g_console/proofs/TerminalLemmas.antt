@@ -1,0 +1,243 @@
+-- THE LINES OF TERMINALS: a job comes in at one, a line is typed there, and it is logged out.
+use Rattle.std.proofs.Common.{◌≡◌, ℕ, ◌+◌, ◌==◌, ◌++◌, All, Bool, true, false, List, [], ◌∷◌, Option, Some, None, append-nil, cond, refl, sym, ◌∙◌, ap, subst, inl, inr, arith}
+use Rattle.std.specs.Prelude.{◌⊎◌, find, if◌then◌else◌, codes}
+use Rattle.std.proofs.lemmas.List.{append_assoc}
+use Rattle.std.proofs.lemmas.List.Elements.{All-from_recursion, All-push, recursion_from_All}
+use Rattle.std.specs.List.{AllByRecursion}
+use Rattle.std.proofs.lemmas.Option.{same_Some}
+use Rattle.g_io.specs.Streams.{with_more}
+use Rattle.g_plain.specs.declared.faults.StoreFault.TheVariants.{NotStarted}
+use Rattle.g_job.specs.State.{JobState}
+use Rattle.g_job.specs.Terminal.{logged_out, typed_to}
+use Rattle.g_mop.specs.Seats.{none_text}
+use Rattle.g_mop.specs.Shown.{shown_at, terminal_name}
+use Rattle.g_step.specs.State.{State}
+use Rattle.g_step.specs.CallStep.{Plain}
+use Rattle.g_state.specs.Reading.{StandsForState}
+use Rattle.g_state.specs.Up.{StoreFacts}
+use Rattle.g_script.specs.declared.operator.Operator.{Operator}
+use Rattle.g_script.specs.declared.operator.Operator.TheVariants as line
+use Rattle.g_world.specs.Accounts.{knows_user}
+use Rattle.g_world.specs.Devices.{Devices}
+use Rattle.g_world.specs.Lines.{LineGives, at_terminal, changed_at, job_line, line_refused, logged_in, login_refusal, open_at, refusal, terminal_job}
+use Rattle.g_world.specs.Texts.{job_text, operator_line}
+use Rattle.g_world.specs.World.{World, with_job}
+use Rattle.g_world.proofs.CountLemmas.{event_none}
+use Rattle.g_crew.specs.Crew.{CrewState, IsCrewOf}
+use Rattle.g_crew.specs.declared.seating.NewLogin.{NewLogin}
+use Rattle.g_console.specs.declared.progress.Failure.{Failure}
+use Rattle.g_console.specs.declared.progress.Failure.TheVariants.{Memory}
+use Rattle.g_console.specs.Jobs.{KnowsIn}
+use Rattle.g_console.specs.Parts.{DidLine, DoesLine, IsReady, LeavesCrew, Matches, Seen, disc_arms, seen, tape_arms}
+use Rattle.g_console.specs.System.{Down, SystemFacts, Up, devices_in}
+use Rattle.g_console.specs.Telling.{TellsFault, refusal_text, system_behind}
+use Rattle.g_console.specs.Terminals.{ChangesAt, DidNothing, SeatsJob, is_up_in, login_text, seated_in}
+use Rattle.g_console.proofs.GrowLemmas.{grow_itself}
+use Rattle.g_console.proofs.LeavesLemmas.{leaves_same}
+use Rattle.g_console.proofs.LineLemmas.{none_armed, refused_line, untried_line, was_done}
+use Rattle.g_console.proofs.UpLemmas.{up_is}
+use Rattle.g_console.proofs.LabelLemmas.{no_fuse, same_itself}
+
+more_none : (before : Option (List ℕ)) → before ≡ with_more before []
+more_none None = refl
+more_none (Some bytes) = ap (λ (l : List ℕ). let o : Option (List ℕ) = Some l in o) (sym (append-nil bytes))
+
+-- nothing was done, for want of memory
+nothing_done : (what : Operator) → disc_arms what ≡ 0 → tape_arms what ≡ 0 → (f : SystemFacts) (c : CrewState) (count : ℕ) → IsReady f c → (failure : Option Failure) (c' : CrewState) (before after : Option (List ℕ)) (faults faults' : ℕ)
+    → DidNothing c failure c' before after faults faults' → DidLine what (seen f c count) failure (seen f c' count) before after faults faults'
+nothing_done what no_disc no_tape f c count ready failure c' before after faults faults' (failed, same, text, still) =
+    subst (λ (k : CrewState). DidLine what (seen f c count) failure (seen f k count) before after faults faults') (sym same)
+    (subst (λ (t : Option (List ℕ)). DidLine what (seen f c count) failure (seen f c count) before t faults faults') (sym text)
+    (subst (λ (n : ℕ). DidLine what (seen f c count) failure (seen f c count) before before faults n) (sym still)
+    (untried_line what no_disc no_tape f f c count refl ready failure failed before faults)))
+
+-- A LOGIN
+abbrev login_of_line : NewLogin → Operator
+login_of_line login = line.Login login.terminal login.user login.time
+
+abbrev comes : NewLogin → World → World
+comes login w = logged_in login.terminal login.user login.time w
+
+gives_login : (login : NewLogin) (w next : World) → w.store.up ≡ true → next ≡ job_line (login_refusal w login.terminal login.user login.time) (comes login w) w → LineGives Plain (login_of_line login) w next
+gives_login login w next up is =
+    (refl, is ∙ sym (ap (λ (b : Bool). if b then job_line (login_refusal w login.terminal login.user login.time) (comes login w) w else line_refused NotStarted w) up))
+
+leaves_seated : (login : NewLogin) (c : CrewState) → LeavesCrew c (seated_in login c)
+leaves_seated login c = record {
+  jobs = λ was. All-push (λ (j : JobState). j.over ≡ false) c.jobs (terminal_job c.next_job login.terminal login.user login.time) was refl;
+  numbers = omega arith;
+}
+
+module _ (login : NewLogin) (s : StoreFacts) (known : Bool) (known_is : (u : State) → StandsForState s u → knows_user u login.user ≡ known) (c : CrewState) (ready : IsReady (Up s) c) (count : ℕ) where
+  abbrev before_login : Seen
+  before_login = seen (Up s) c count
+
+  up_here : (w : World) → Matches w before_login → w.store.up ≡ true
+  up_here w m = up_is s w.store ready.0 m.stands.stands
+
+  -- it comes in
+  module _ (granted : (w : World) → IsCrewOf w c → knows_user w.store login.user ≡ known → login_refusal w login.terminal login.user login.time ≡ None) where
+    sits_does : (w : World) → Matches w before_login → DoesLine (login_of_line login) w (Up s) (Up s) (login_text count c.next_job login)
+    sits_does w m = record {
+      outcome = Plain;
+      next = comes login w;
+      gives = gives_login login w (comes login w) (up_here w m) (sym (ap (λ (o : Option (List ℕ)). job_line o (comes login w) w) (granted w m.crew (known_is w.store m.stands.stands))));
+      counted = event_none (devices_in (Up s));
+      stands = m.stands;
+      text = append_assoc w.text (operator_line w.count (job_text w.next_job (terminal_name login.terminal ++ codes " IN")))
+          (shown_at login.terminal (terminal_job w.next_job login.terminal login.user login.time).monitor)
+          ∙ ap (λ (n : ℕ). w.text ++ login_text n w.next_job login) m.count ∙ ap (λ (n : ℕ). w.text ++ login_text count n login) m.crew.next_job;
+    }
+
+    sits_matches : (w : World) (m : Matches w before_login) → Matches (sits_does w m).next (seen (Up s) (seated_in login c) count)
+    unfolding sits_does
+    sits_matches w m = record {
+      stands = m.stands;
+      crew = record {
+        jobs = ap (λ (js : List JobState). js ++ terminal_job w.next_job login.terminal login.user login.time ∷ []) m.crew.jobs
+            ∙ ap (λ (n : ℕ). c.jobs ++ terminal_job n login.terminal login.user login.time ∷ []) m.crew.next_job;
+        accounts = m.crew.accounts;
+        next_job = ap (λ (n : ℕ). n + 1) m.crew.next_job;
+      };
+      count = m.count;
+    }
+
+  -- it is refused
+  module _ (text : List ℕ) (refuses : (w : World) → IsCrewOf w c → knows_user w.store login.user ≡ known → login_refusal w login.terminal login.user login.time ≡ Some text) where
+    away_does : (w : World) → Matches w before_login → DoesLine (login_of_line login) w (Up s) (Up s) (operator_line count (codes "REFUSED " ++ text))
+    away_does w m = record {
+      outcome = Plain;
+      next = refusal text w;
+      gives = gives_login login w (refusal text w) (up_here w m) (sym (ap (λ (o : Option (List ℕ)). job_line o (comes login w) w) (refuses w m.crew (known_is w.store m.stands.stands))));
+      counted = event_none (devices_in (Up s));
+      stands = m.stands;
+      text = ap (λ (n : ℕ). w.text ++ operator_line n (codes "REFUSED " ++ text)) m.count;
+    }
+
+    away_matches : (w : World) (m : Matches w before_login) → Matches (away_does w m).next (seen (Up s) c count)
+    unfolding away_does
+    away_matches w m = record {
+      stands = m.stands;
+      crew = record { jobs = m.crew.jobs; accounts = m.crew.accounts; next_job = m.crew.next_job };
+      count = m.count;
+    }
+
+  abbrev DidLogin : Option Failure → CrewState → Option (List ℕ) → Option (List ℕ) → ℕ → ℕ → Type 0
+  DidLogin failure c' before after faults faults' = DidLine (login_of_line login) before_login failure (seen (Up s) c' count) before after faults faults'
+
+  -- by how it came out
+  pub seated_line : (failure : Option Failure) (c' : CrewState) (before after : Option (List ℕ)) (faults faults' : ℕ) → SeatsJob known login count c failure c' before after faults faults' → DidLogin failure c' before after faults faults'
+  seated_line failure c' before after faults faults' (inl sits) =
+      subst (λ (k : CrewState). DidLogin failure k before after faults faults') (sym sits.crew)
+      (record {
+        goes = was_done (login_of_line login) before_login (seen (Up s) (seated_in login c) count) failure (login_text count c.next_job login) before after
+            (sits_does sits.granted) (λ w m e. sits_matches sits.granted w m) sits.put.put;
+        ready = ready;
+        crew = λ none. leaves_seated login c;
+        arms = none_armed (login_of_line login) failure (devices_in (Up s)) (devices_in (Up s)) refl refl refl refl;
+        count = refl;
+        fuses = tt;
+        same = same_itself (devices_in (Up s));
+        belongs = λ is. is;
+        dumps = λ is. grow_itself s.rack;
+        cause = sits.put.cause;
+      })
+  seated_line failure c' before after faults faults' (inr (inl away)) =
+      subst (λ (k : CrewState). DidLogin failure k before after faults faults') (sym away.crew)
+      (record {
+        goes = was_done (login_of_line login) before_login (seen (Up s) c count) failure (operator_line count (codes "REFUSED " ++ away.text)) before after
+            (away_does away.text away.refuses) (λ w m e. away_matches away.text away.refuses w m) away.put.put;
+        ready = ready;
+        crew = λ none. leaves_same c;
+        arms = none_armed (login_of_line login) failure (devices_in (Up s)) (devices_in (Up s)) refl refl refl refl;
+        count = refl;
+        fuses = tt;
+        same = same_itself (devices_in (Up s));
+        belongs = λ is. is;
+        dumps = λ is. grow_itself s.rack;
+        cause = away.put.cause;
+      })
+  seated_line failure c' before after faults faults' (inr (inr nothing)) = nothing_done (login_of_line login) refl refl (Up s) c count ready failure c' before after faults faults' nothing
+
+-- where the system knows the user or doesn't, or is down
+pub login_on : (login : NewLogin) (f : SystemFacts) (known : Bool) → KnowsIn login.user f (Some known) → (c : CrewState) → IsReady f c → (count : ℕ) (failure : Option Failure) (c' : CrewState) (before after : Option (List ℕ)) (faults faults' : ℕ)
+    → SeatsJob known login count c failure c' before after faults faults' → DidLine (login_of_line login) (seen f c count) failure (seen f c' count) before after faults faults'
+login_on login (Up s) known knows c ready count failure c' before after faults faults' seats =
+    let (it, is, known_is) = knows in
+    seated_line login s known (λ u here. known_is u here ∙ sym (same_Some known it is)) c ready count failure c' before after faults faults' seats
+login_on login (Down d) known is c ready count failure c' before after faults faults' seats = let never : ⊥ = cc in absurd never
+
+-- a line that a system that is down refuses
+down_line : (what : Operator) → disc_arms what ≡ 0 → tape_arms what ≡ 0 → (d : Devices) (c : CrewState) (count : ℕ) → ((w : World) → w.store.up ≡ false → LineGives Plain what w (line_refused NotStarted w)) → IsReady (Down d) c
+    → (failure : Option Failure) (c' : CrewState) (before after : Option (List ℕ)) (faults faults' : ℕ) → TellsFault NotStarted count c failure c' before after faults faults'
+    → DidLine what (seen (Down d) c count) failure (seen (Down d) c' count) before after faults faults'
+down_line what no_disc no_tape d c count gives ready failure c' before after faults faults' (crew, puts) =
+    subst (λ (k : CrewState). DidLine what (seen (Down d) c count) failure (seen (Down d) k count) before after faults faults') (sym crew)
+    (refused_line what no_disc no_tape NotStarted (Down d) c count (λ w m. gives w m.stands.0) failure before after faults faults' ready puts)
+
+pub no_login_on : (login : NewLogin) (f : SystemFacts) → KnowsIn login.user f None → (c : CrewState) → IsReady f c → (count : ℕ) (failure : Option Failure) (c' : CrewState) (before after : Option (List ℕ)) (faults faults' : ℕ)
+    → TellsFault NotStarted count c failure c' before after faults faults' → DidLine (login_of_line login) (seen f c count) failure (seen (system_behind NotStarted f) c' count) before after faults faults'
+no_login_on login (Up s) knows c ready count failure c' before after faults faults' tells = let (it, is, known_is) = knows in let never : ⊥ = cc in absurd never
+no_login_on login (Down d) is c ready count failure c' before after faults faults' tells =
+    down_line (login_of_line login) refl refl d c count
+    (λ w down. (refl, sym (ap (λ (b : Bool). if b then job_line (login_refusal w login.terminal login.user login.time) (comes login w) w else line_refused NotStarted w) down)))
+    ready failure c' before after faults faults' tells
+
+-- TYPE AND LOGOUT change the job that sits there with its document held open
+found_open : (t : ℕ) (p : JobState → Bool) (jobs : List JobState) (j : JobState) → AllByRecursion (λ (k : JobState). k.over ≡ false) jobs → find p jobs ≡ Some j → j.over ≡ false
+found_open t p [] j all found = absurd (let no : ⊥ = cc in no)
+found_open t p (k ∷ jobs) j (here, more) found = by (p k) found (λ e. found_open t p jobs j more e)
+  where
+    by : (b : Bool) → cond b (Some k) (find p jobs) ≡ Some j → (find p jobs ≡ Some j → j.over ≡ false) → j.over ≡ false
+    by true e rest = subst (λ (x : JobState). x.over ≡ false) (same_Some k j e) here
+    by false e rest = rest e
+
+open_with : (j : JobState) → j.over ≡ false → (jobs : List JobState) → AllByRecursion (λ (k : JobState). k.over ≡ false) jobs → AllByRecursion (λ (k : JobState). k.over ≡ false) (with_job j jobs)
+open_with j on [] all = all
+open_with j on (k ∷ jobs) (here, more) = (by (k.number == j.number), open_with j on jobs more)
+  where
+    by : (b : Bool) → (if b then j else k).over ≡ false
+    by true = on
+    by false = here
+
+module _ (t : ℕ) (change : JobState → JobState) (stays : (j : JobState) → (change j).over ≡ j.over) (what : Operator) (no_disc : disc_arms what ≡ 0) (no_tape : tape_arms what ≡ 0)
+    (gives : (w next : World) → w.store.up ≡ true → next ≡ at_terminal t change w → LineGives Plain what w next) (s : StoreFacts) (c : CrewState) (ready : IsReady (Up s) c) (count : ℕ) where
+  abbrev before_it : Seen
+  before_it = seen (Up s) c count
+
+  is_up_here : (w : World) → Matches w before_it → w.store.up ≡ true
+  is_up_here w m = up_is s w.store ready.0 m.stands.stands
+
+  abbrev changed_crew : JobState → CrewState
+  changed_crew job = record c { jobs = with_job (change job) c.jobs }
+
+  leaves_changed : (job : JobState) → open_at t c.jobs ≡ Some job → LeavesCrew c (changed_crew job)
+  leaves_changed job there = record {
+    jobs = λ was.
+        let all = recursion_from_All was in
+        All-from_recursion (open_with (change job) (stays job ∙ found_open t _ c.jobs job all there) c.jobs all);
+    numbers = omega arith;
+  }
+
+  -- there is one
+  module _ (job : JobState) (there : open_at t c.jobs ≡ Some job) where
+    change_does : (w : World) → Matches w before_it → DoesLine what w (Up s) (Up s) []
+    change_does w m = record {
+      outcome = Plain;
+      next = record w { jobs = with_job (change job) w.jobs };
+      gives = gives w (record w { jobs = with_job (change job) w.jobs }) (is_up_here w m)
+          (sym (ap (λ (js : List JobState). changed_at t change (open_at t js) w) m.crew.jobs ∙ ap (λ (o : Option JobState). changed_at t change o w) there));
+      counted = counted_none;
+      stands = m.stands;
+      text = sym (append-nil w.text);
+    }
+      where
+        counted_none = subst (λ (n : ℕ). n ≡ n) refl refl
+
+    change_matches : (w : World) (m : Matches w before_it) → Matches (change_does w m).next (seen (Up s) (changed_crew job) count)
+    unfolding change_does
+    change_matches w m = record {
+      stands = m.stands;
+      crew = record { jobs = ap (λ (js : List JobState). with_job (change job) js) m.crew.jobs; accounts = m.crew.accounts; next_job = m.crew.next_job };
+      count = m.count;
+    }
