@@ -4,7 +4,7 @@ ghost use Rattle.g_console.specs.Parts.{DidLine, IsReady, IsWithin};
 
 use crate::arming::{stop_disc_line, stop_tape_line};
 use crate::day::Day;
-use crate::dumping::{dump_line, migrate_line};
+use crate::dumping::{dump_line, migrate_line, process_line};
 use crate::jobs::{job_line, shut_line};
 use crate::progress::Ended;
 use crate::reels::{mount_line, unmount_line};
@@ -53,6 +53,7 @@ pub fn operator_line<K: Sink, D: Disc, T: Tapes>(
         Operator::Mount(serial) => mount_line(alloc, day, serial, out),
         Operator::Unmount(serial) => unmount_line(alloc, day, serial, out),
         Operator::Dump(serial) => dump_line(alloc, day, serial, out),
+        Operator::Process(serial) => process_line(alloc, day, serial, out),
         Operator::Migrate(path) => migrate_line(alloc, day, &path, out),
         Operator::StopDisc(k) => stop_disc_line(alloc, day, k, out),
         Operator::StopTape(k) => stop_tape_line(alloc, day, k, out),

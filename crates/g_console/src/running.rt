@@ -10,6 +10,7 @@ ghost use Rattle.g_step.specs.CallStep.{down};
 ghost use Rattle.g_state.specs.Meaning.{told_reels};
 ghost use Rattle.g_state.specs.Reading.{DevicesStandFor, StandsForState};
 ghost use Rattle.g_dumper.specs.Steps.{stepped_of};
+ghost use Rattle.g_process.specs.Processing.{Processes};
 ghost use Rattle.g_store.specs.Arming.{MeansTheSame};
 ghost use Rattle.g_store.specs.Dumping.{KeepsDumps, OpensDump, Progresses, RefusesDump, StepsAs};
 ghost use Rattle.g_store.specs.Events.{Migrates, Mounts, Opens, StepsDump, Unmounts};
@@ -221,6 +222,17 @@ impl<D: Disc, T: Tapes> Running<D, T> {
     {
         match &mut *self.store {
             Some(store) => store.dump_step(),
+            None => unreachable!(),
+        }
+    }
+
+    /// Writes all versions onto the reel and releases the others, and answers the number of the dump: the refusals of a store.
+    pub fn process(&mut self, alloc: Global, serial: u32) -> Result<u64, StoreFault>
+        requires running { self.old.spent ≡ false }
+        ensures { Processes serial self.old result self.new }
+    {
+        match &mut *self.store {
+            Some(store) => store.process(alloc, serial),
             None => unreachable!(),
         }
     }

@@ -16,6 +16,7 @@ mod NotedLemmas
 mod OffLemmas
 pub mod OpenedLemmas
 mod OwnPlaceLemmas
+mod ProcessedLemmas
 mod RestoreLemmas
 mod RestoredLemmas
 mod ShelvesLemmas

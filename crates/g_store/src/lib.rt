@@ -8,6 +8,7 @@ mod laws;
 mod making;
 mod migrating;
 mod mounting;
+mod processing;
 mod starting;
 mod store;
 
