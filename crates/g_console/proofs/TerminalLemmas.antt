@@ -19,7 +19,7 @@ use Rattle.g_script.specs.declared.operator.Operator.{Operator}
 use Rattle.g_script.specs.declared.operator.Operator.TheVariants as line
 use Rattle.g_world.specs.Accounts.{knows_user}
 use Rattle.g_world.specs.Devices.{Devices}
-use Rattle.g_world.specs.Lines.{LineGives, at_terminal, changed_at, job_line, line_refused, logged_in, login_refusal, open_at, refusal, terminal_job}
+use Rattle.g_world.specs.Lines.{LineGives, at_terminal, changed_at, is_process, job_line, line_refused, logged_in, login_refusal, open_at, refusal, terminal_job}
 use Rattle.g_world.specs.Texts.{job_text, operator_line}
 use Rattle.g_world.specs.World.{World, with_job}
 use Rattle.g_world.proofs.CountLemmas.{event_none}
@@ -32,6 +32,7 @@ use Rattle.g_console.specs.Parts.{DidLine, DoesLine, IsReady, LeavesCrew, Matche
 use Rattle.g_console.specs.System.{Down, SystemFacts, Up, devices_in}
 use Rattle.g_console.specs.Telling.{TellsFault, refusal_text, system_behind}
 use Rattle.g_console.specs.Terminals.{ChangesAt, DidNothing, SeatsJob, is_up_in, login_text, seated_in}
+use Rattle.g_console.proofs.ByLemmas.{grown_by, plain_counted}
 use Rattle.g_console.proofs.GrowLemmas.{grow_itself}
 use Rattle.g_console.proofs.LeavesLemmas.{leaves_same}
 use Rattle.g_console.proofs.LineLemmas.{none_armed, refused_line, untried_line, was_done}
@@ -227,12 +228,10 @@ module _ (t : ℕ) (change : JobState → JobState) (stays : (j : JobState) → 
       next = record w { jobs = with_job (change job) w.jobs };
       gives = gives w (record w { jobs = with_job (change job) w.jobs }) (is_up_here w m)
           (sym (ap (λ (js : List JobState). changed_at t change (open_at t js) w) m.crew.jobs ∙ ap (λ (o : Option JobState). changed_at t change o w) there));
-      counted = counted_none;
+      counted = plain_counted what no_disc no_tape (devices_in (Up s)) (devices_in (Up s)) (event_none (devices_in (Up s)));
       stands = m.stands;
       text = sym (append-nil w.text);
     }
-      where
-        counted_none = subst (λ (n : ℕ). n ≡ n) refl refl
 
     change_matches : (w : World) (m : Matches w before_it) → Matches (change_does w m).next (seen (Up s) (changed_crew job) count)
     unfolding change_does
@@ -241,3 +240,98 @@ module _ (t : ℕ) (change : JobState → JobState) (stays : (j : JobState) → 
       crew = record { jobs = ap (λ (js : List JobState). with_job (change job) js) m.crew.jobs; accounts = m.crew.accounts; next_job = m.crew.next_job };
       count = m.count;
     }
+
+  -- there is none
+  module _ (none : open_at t c.jobs ≡ None) where
+    nowhere_does : (w : World) → Matches w before_it → DoesLine what w (Up s) (Up s) (operator_line count (codes "REFUSED " ++ none_text t))
+    nowhere_does w m = record {
+      outcome = Plain;
+      next = refusal (none_text t) w;
+      gives = gives w (refusal (none_text t) w) (is_up_here w m)
+          (sym (ap (λ (js : List JobState). changed_at t change (open_at t js) w) m.crew.jobs ∙ ap (λ (o : Option JobState). changed_at t change o w) none));
+      counted = plain_counted what no_disc no_tape (devices_in (Up s)) (devices_in (Up s)) (event_none (devices_in (Up s)));
+      stands = m.stands;
+      text = ap (λ (n : ℕ). w.text ++ operator_line n (codes "REFUSED " ++ none_text t)) m.count;
+    }
+
+    nowhere_matches : (w : World) (m : Matches w before_it) → Matches (nowhere_does w m).next before_it
+    unfolding nowhere_does
+    nowhere_matches w m = record {
+      stands = m.stands;
+      crew = record { jobs = m.crew.jobs; accounts = m.crew.accounts; next_job = m.crew.next_job };
+      count = m.count;
+    }
+
+  abbrev DidIt : Option Failure → CrewState → Option (List ℕ) → Option (List ℕ) → ℕ → ℕ → Type 0
+  DidIt failure c' before after faults faults' = DidLine what before_it failure (seen (Up s) c' count) before after faults faults'
+
+  went_on : (job : JobState) → open_at t c.jobs ≡ Some job → (before : Option (List ℕ)) (faults : ℕ) → DidIt None (changed_crew job) before before faults faults
+  went_on job there before faults = record {
+    goes = was_done what before_it (seen (Up s) (changed_crew job) count) None [] before before (change_does job there) (λ w m e. change_matches job there w m) (more_none before);
+    ready = ready;
+    crew = λ none. leaves_changed job there;
+    arms = none_armed what None (devices_in (Up s)) (devices_in (Up s)) no_disc no_tape refl refl;
+    count = refl;
+    fuses = no_fuse what no_disc no_tape (devices_in (Up s));
+    same = same_itself (devices_in (Up s));
+    belongs = λ is. is;
+    dumps = λ is. grown_by (is_process what) s.rack s.rack (grow_itself s.rack);
+    cause = refl;
+  }
+
+  pub changed_line : (failure : Option Failure) (c' : CrewState) (before after : Option (List ℕ)) (faults faults' : ℕ) → ChangesAt t change count c failure c' before after faults faults' → DidIt failure c' before after faults faults'
+  changed_line failure c' before after faults faults' (inl changed) =
+      let (fine, text, still) = changed.untold in
+      subst (λ (f : Option Failure). DidIt f c' before after faults faults') (sym fine)
+      (subst (λ (k : CrewState). DidIt None k before after faults faults') (sym changed.crew)
+      (subst (λ (x : Option (List ℕ)). DidIt None (changed_crew changed.job) before x faults faults') (sym text)
+      (subst (λ (n : ℕ). DidIt None (changed_crew changed.job) before before faults n) (sym still) (went_on changed.job changed.there before faults))))
+  changed_line failure c' before after faults faults' (inr (inl nowhere)) =
+      subst (λ (k : CrewState). DidIt failure k before after faults faults') (sym nowhere.crew)
+      (record {
+        goes = was_done what before_it before_it failure (operator_line count (codes "REFUSED " ++ none_text t)) before after
+            (nowhere_does nowhere.none) (λ w m e. nowhere_matches nowhere.none w m) nowhere.put.put;
+        ready = ready;
+        crew = λ none. leaves_same c;
+        arms = none_armed what failure (devices_in (Up s)) (devices_in (Up s)) no_disc no_tape refl refl;
+        count = refl;
+        fuses = no_fuse what no_disc no_tape (devices_in (Up s));
+        same = same_itself (devices_in (Up s));
+        belongs = λ is. is;
+        dumps = λ is. grown_by (is_process what) s.rack s.rack (grow_itself s.rack);
+        cause = nowhere.put.cause;
+      })
+  changed_line failure c' before after faults faults' (inr (inr nothing)) = nothing_done what no_disc no_tape (Up s) c count ready failure c' before after faults faults' nothing
+
+gives_typed : (t : ℕ) (text : List ℕ) (w next : World) → w.store.up ≡ true → next ≡ at_terminal t (typed_to text) w → LineGives Plain (line.Typed t text) w next
+gives_typed t text w next up is = (refl, is ∙ sym (ap (λ (b : Bool). if b then at_terminal t (typed_to text) w else line_refused NotStarted w) up))
+
+gives_logout : (t : ℕ) (w next : World) → w.store.up ≡ true → next ≡ at_terminal t logged_out w → LineGives Plain (line.Logout t) w next
+gives_logout t w next up is = (refl, is ∙ sym (ap (λ (b : Bool). if b then at_terminal t logged_out w else line_refused NotStarted w) up))
+
+-- by whether the system is up
+pub typed_up : (t : ℕ) (text : List ℕ) (f : SystemFacts) → is_up_in f ≡ true → (c : CrewState) → IsReady f c → (count : ℕ) (failure : Option Failure) (c' : CrewState) (before after : Option (List ℕ)) (faults faults' : ℕ)
+    → ChangesAt t (typed_to text) count c failure c' before after faults faults' → DidLine (line.Typed t text) (seen f c count) failure (seen f c' count) before after faults faults'
+typed_up t text (Up s) up c ready count failure c' before after faults faults' changes =
+    changed_line t (typed_to text) (λ j. refl) (line.Typed t text) refl refl (gives_typed t text) s c ready count failure c' before after faults faults' changes
+typed_up t text (Down d) up c ready count failure c' before after faults faults' changes = let never : ⊥ = cc in absurd never
+
+pub typed_down : (t : ℕ) (text : List ℕ) (f : SystemFacts) → is_up_in f ≡ false → (c : CrewState) → IsReady f c → (count : ℕ) (failure : Option Failure) (c' : CrewState) (before after : Option (List ℕ)) (faults faults' : ℕ)
+    → TellsFault NotStarted count c failure c' before after faults faults' → DidLine (line.Typed t text) (seen f c count) failure (seen (system_behind NotStarted f) c' count) before after faults faults'
+typed_down t text (Up s) up c ready count failure c' before after faults faults' tells = let never : ⊥ = cc in absurd never
+typed_down t text (Down d) up c ready count failure c' before after faults faults' tells =
+    down_line (line.Typed t text) refl refl d c count (λ w down. (refl, sym (ap (λ (b : Bool). if b then at_terminal t (typed_to text) w else line_refused NotStarted w) down)))
+    ready failure c' before after faults faults' tells
+
+pub logout_up : (t : ℕ) (f : SystemFacts) → is_up_in f ≡ true → (c : CrewState) → IsReady f c → (count : ℕ) (failure : Option Failure) (c' : CrewState) (before after : Option (List ℕ)) (faults faults' : ℕ)
+    → ChangesAt t logged_out count c failure c' before after faults faults' → DidLine (line.Logout t) (seen f c count) failure (seen f c' count) before after faults faults'
+logout_up t (Up s) up c ready count failure c' before after faults faults' changes =
+    changed_line t logged_out (λ j. refl) (line.Logout t) refl refl (gives_logout t) s c ready count failure c' before after faults faults' changes
+logout_up t (Down d) up c ready count failure c' before after faults faults' changes = let never : ⊥ = cc in absurd never
+
+pub logout_down : (t : ℕ) (f : SystemFacts) → is_up_in f ≡ false → (c : CrewState) → IsReady f c → (count : ℕ) (failure : Option Failure) (c' : CrewState) (before after : Option (List ℕ)) (faults faults' : ℕ)
+    → TellsFault NotStarted count c failure c' before after faults faults' → DidLine (line.Logout t) (seen f c count) failure (seen (system_behind NotStarted f) c' count) before after faults faults'
+logout_down t (Up s) up c ready count failure c' before after faults faults' tells = let never : ⊥ = cc in absurd never
+logout_down t (Down d) up c ready count failure c' before after faults faults' tells =
+    down_line (line.Logout t) refl refl d c count (λ w down. (refl, sym (ap (λ (b : Bool). if b then at_terminal t logged_out w else line_refused NotStarted w) down)))
+    ready failure c' before after faults faults' tells
