@@ -15,5 +15,6 @@ pub mod Say
 pub mod State
 pub mod Steps
 pub mod Turns
+pub mod Typing
 pub mod Uses
 pub mod Values

@@ -17,6 +17,7 @@ mod runs;
 mod say;
 mod stop;
 mod turning;
+mod typing;
 mod uses;
 mod work;
 

@@ -101,6 +101,7 @@ impl Job {
     {
         self.again = again;
         self.wants = Some(serial);
+        self.ready = true;
     }
 
     /// The job was stopped: it takes no turn any more.

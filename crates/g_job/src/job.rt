@@ -6,7 +6,7 @@ ghost use Rattle.g_act.specs.Bounds.{IsWithin};
 ghost use Rattle.g_act.specs.Causes.{CauseOf, last_answer};
 ghost use Rattle.g_job.specs.Ends.{IsTurn};
 ghost use Rattle.g_job.specs.Rules.{most_bytes};
-ghost use Rattle.g_job.specs.Spends.{Spends, ToldAsBefore};
+ghost use Rattle.g_job.specs.Spends.{KeepsSeat, Spends, ToldAsBefore};
 ghost use Rattle.g_act.specs.State.{Work};
 ghost use Rattle.g_job.specs.Turns.{turn_work};
 ghost use Rattle.g_lines.specs.Lines.{ended};
@@ -143,6 +143,7 @@ impl Job {
         ensures same_waits { (s : ℕ) → S.can_wait store.new s ≡ S.can_wait store.old s }
         ensures stopped { IfOk result (λ turn. (S.is_spent store.new ≡ true) ↔ (turn ≡ Turn.Broken)) }
         ensures spends { IfOk result (λ turn. Spends self.old turn self.new) }
+        ensures seat { IfOk result (λ turn. KeepsSeat self.old self.new) }
         ensures waited { (s : ℕ) → result ≡ Ok (Turn.Wants s) → ToldAsBefore self.old self.new }
     {
         match self.make(alloc, store) {

@@ -11,6 +11,7 @@ ghost use Rattle.g_job.specs.Spends.{ComesTo, Spends};
 ghost use Rattle.g_act.specs.State.{Broken, Waits, Work};
 ghost use Rattle.g_job.specs.State.{JobState};
 ghost use Rattle.g_act.specs.Steps.{RanWell};
+ghost use Rattle.g_job.specs.Terminal.{LeavesDocument};
 ghost use Rattle.g_job.specs.Turns.{turn_work};
 ghost use Rattle.g_lines.specs.Lines.{lines_of};
 ghost use Rattle.g_mill.specs.Lines.{lines};
@@ -53,6 +54,12 @@ pub fn turns_come_to_one_end()
 pub fn turns_keep_their_limits()
     ensures { (j : JobState) → IsJob j → length j.desk.units.writers ≤ 16
         → AlwaysGives (IsWithin (room_of j)) (turn_work j) }
+{}
+
+/// Whatever a store may answer, a turn leaves the lines of the document as they are, or drops it with all levels, and leaves
+/// it held open as it is; and what a turn is gone on with has a level.
+pub fn turns_keep_the_document()
+    ensures { (j : JobState) → IsJob j → AlwaysGives (LeavesDocument j) (turn_work j) }
 {}
 
 /// Behind a turn within its limits a job keeps its rules.

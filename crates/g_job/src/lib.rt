@@ -1,17 +1,18 @@
 //! Jobs: a document, the macros that it calls, units, a program, an allowance; and what one turn of all that asks of a
-//! store and makes of the answers.
+//! store and makes of the answers. A job at a terminal has a document that grows by the lines that are typed.
 #![tactic(auto)]
 
 mod ending;
 mod job;
 mod laws;
 mod making;
+mod terminal;
 mod turn;
 
 pub use job::Job;
 pub use laws::{
     lines_are_lines_of_programs, turns_are_asked_of_a_plain_tree, turns_come_to_one_end,
-    turns_keep_the_rules, turns_keep_their_limits, turns_leave_their_store,
+    turns_keep_the_document, turns_keep_the_rules, turns_keep_their_limits, turns_leave_their_store,
     turns_say_why_they_are_over,
 };
 pub use turn::Turn;

@@ -40,7 +40,9 @@ impl Job {
             who: &self.user,
             room,
         };
-        match self.work.go(store, &asker, again) {
+        let gone = self.work.go(store, &asker, again);
+        self.ready = self.work.ready();
+        match gone {
             Ok(()) => Ok(self.work.take_made(alloc)),
             Err(NoMemory) => Err(NoMemory),
         }

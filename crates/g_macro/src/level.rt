@@ -145,6 +145,18 @@ impl Level {
         !is_input(self.params.as_slice(), self.cursor.line()) || is_closed(self.cursor.left())
     }
 
+    /// Whether a level that isn't ready is so with this line behind the others: it has no line left, and this one is no
+    /// INPUT; or its INPUT lacks a `////`, and this is one. No other line is looked at.
+    pub fn is_ready_with(&self, line: &[u8]) -> bool
+        requires { holding.line_ready self.now ≡ false }
+        ensures { result ≡ holding.line_ready (holding.line_added line.now self.now) }
+    {
+        if self.cursor.has_line() {
+            return line == b"////".as_slice();
+        }
+        !is_input(self.params.as_slice(), line)
+    }
+
     /// Lets a command wait for a condition.
     pub fn keep(&mut self, cond: Cond, command: Text) -> Result<(), MacroFault>
         requires { IsCommandText command }

@@ -150,6 +150,13 @@ impl Levels {
         self.held = false;
     }
 
+    /// Whether the document is held open.
+    pub fn is_held(&self) -> bool
+        ensures { result ≡ self.now.held }
+    {
+        self.held
+    }
+
     /// Puts a line behind the document's others; without memory nothing changes. Where no level is left it is dropped.
     pub fn add_line(&mut self, line: Text) -> Result<(), MacroFault>
         requires { IsOneLine line }
@@ -168,6 +175,18 @@ impl Levels {
         ensures { result ≡ holding.are_ready self.now }
     {
         !self.held || is_some_ready(self.levels.as_slice())
+    }
+
+    /// Whether levels that can't go on can, with this line behind those of the document. It takes no memory, and looks at
+    /// no other line.
+    pub fn ready_with(&self, line: &[u8]) -> bool
+        requires { holding.are_ready self.now ≡ false }
+        ensures { result ≡ holding.are_ready (holding.with_typed line.now self.now) }
+    {
+        match self.levels.first() {
+            Some(document) => document.is_ready_with(line),
+            None => false,
+        }
     }
 
     /// Whether a condition holds, by the parameters of the current level.
