@@ -1,6 +1,6 @@
 -- THE LINES OF TERMINALS: a job comes in at one, a line is typed there, and it is logged out.
 use Rattle.std.proofs.Common.{◌≡◌, ℕ, ◌+◌, ◌==◌, ◌++◌, All, Bool, true, false, List, [], ◌∷◌, Option, Some, None, append-nil, cond, refl, sym, ◌∙◌, ap, subst, inl, inr, arith}
-use Rattle.std.specs.Prelude.{◌⊎◌, find, if◌then◌else◌, codes}
+use Rattle.std.specs.Prelude.{◌⊎◌, Err, IfOk, Ok, Result, find, if◌then◌else◌, codes}
 use Rattle.std.proofs.lemmas.List.{append_assoc}
 use Rattle.std.proofs.lemmas.List.Elements.{All-from_recursion, All-push, recursion_from_All}
 use Rattle.std.specs.List.{AllByRecursion}
@@ -9,7 +9,8 @@ use Rattle.g_io.specs.Streams.{with_more}
 use Rattle.g_plain.specs.declared.faults.StoreFault.TheVariants.{NotStarted}
 use Rattle.g_job.specs.State.{JobState}
 use Rattle.g_job.specs.Terminal.{logged_out, typed_to}
-use Rattle.g_mop.specs.Seats.{none_text}
+use Rattle.g_base.specs.declared.memory.NoMemory.{NoMemory}
+use Rattle.g_mop.specs.Seats.{busy_text, none_text}
 use Rattle.g_mop.specs.Shown.{shown_at, terminal_name}
 use Rattle.g_step.specs.State.{State}
 use Rattle.g_step.specs.CallStep.{Plain}
@@ -24,14 +25,24 @@ use Rattle.g_world.specs.Texts.{job_text, operator_line}
 use Rattle.g_world.specs.World.{World, with_job}
 use Rattle.g_world.proofs.CountLemmas.{event_none}
 use Rattle.g_crew.specs.Crew.{CrewState, IsCrewOf}
+use Rattle.g_crew.specs.Numbers.{job_in}
+use Rattle.g_crew.specs.Seating.{LogsOutAt, RefusesLoginAsIn, TypesAt, printed_login, pushed_of}
+use Rattle.g_crew.specs.Taking.{refusal_line}
 use Rattle.g_crew.specs.declared.seating.NewLogin.{NewLogin}
+use Rattle.g_crew.specs.declared.seating.NotSeated.{NotSeated}
+use Rattle.g_crew.specs.declared.seating.NotSeated.TheVariants as seat
+use Rattle.g_crew.specs.declared.seating.NoTerminal.{NoTerminal}
+use Rattle.g_crew.specs.declared.seating.NotTyped.TheVariants as typing
+use Rattle.g_crew.specs.declared.taking.NotTaken.{NotTaken}
+use Rattle.g_crew.specs.declared.taking.NotTaken.TheVariants as why
 use Rattle.g_console.specs.declared.progress.Failure.{Failure}
 use Rattle.g_console.specs.declared.progress.Failure.TheVariants.{Memory}
 use Rattle.g_console.specs.Jobs.{KnowsIn}
 use Rattle.g_console.specs.Parts.{DidLine, DoesLine, IsReady, LeavesCrew, Matches, Seen, disc_arms, seen, tape_arms}
 use Rattle.g_console.specs.System.{Down, SystemFacts, Up, devices_in}
 use Rattle.g_console.specs.Telling.{TellsFault, refusal_text, system_behind}
-use Rattle.g_console.specs.Terminals.{ChangesAt, DidNothing, SeatsJob, is_up_in, login_text, seated_in}
+use Rattle.g_console.specs.Puts.{Puts}
+use Rattle.g_console.specs.Terminals.{ChangesAt, DidNothing, SeatsJob, TellsSeat, is_up_in, login_text, seated_in}
 use Rattle.g_console.proofs.ByLemmas.{grown_by, plain_counted}
 use Rattle.g_console.proofs.GrowLemmas.{grow_itself}
 use Rattle.g_console.proofs.LeavesLemmas.{leaves_same}
@@ -51,6 +62,35 @@ nothing_done what no_disc no_tape f c count ready failure c' before after faults
     (subst (λ (t : Option (List ℕ)). DidLine what (seen f c count) failure (seen f c count) before t faults faults') (sym text)
     (subst (λ (n : ℕ). DidLine what (seen f c count) failure (seen f c count) before before faults n) (sym still)
     (untried_line what no_disc no_tape f f c count refl ready failure failed before faults)))
+
+-- WHAT THE CREW ANSWERS: it isn't taken in, and is told why
+pub sent_away_is : (known : Bool) (login : NewLogin) (count : ℕ) (c : CrewState) (w : NotSeated) (failure : Option Failure) (c' : CrewState) (before after : Option (List ℕ)) (old new : ℕ)
+    → RefusesLoginAsIn c known login.terminal login.user login.time (let answer : Result ℕ NotSeated = Err w in printed_login answer) → c' ≡ c → TellsSeat w count failure before after old new
+    → SeatsJob known login count c failure c' before after old new
+sent_away_is known login count c (seat.TerminalBusy t) failure c' before after old new refuses same tells = inr (inl (record { text = busy_text t; refuses = refuses; crew = same; put = tells }))
+sent_away_is known login count c (seat.NotTaken why.NoMemory) failure c' before after old new refuses same tells = inr (inr (tells.0, same, tells.1, tells.2))
+sent_away_is known login count c (seat.NotTaken w) failure c' before after old new refuses same tells = inr (inl (record { text = refusal_line w; refuses = refuses; crew = same; put = tells }))
+
+-- it is taken in
+pub seated_is : (known : Bool) (login : NewLogin) (count : ℕ) (c : CrewState) (number : ℕ) (failure : Option Failure) (c' : CrewState) (before after : Option (List ℕ)) (old new : ℕ)
+    → RefusesLoginAsIn c known login.terminal login.user login.time None → number ≡ c.next_job → c' ≡ seated_in login c → (made : Result (List ℕ) NoMemory)
+    → job_in number c'.jobs ≡ Some (terminal_job c.next_job login.terminal login.user login.time)
+    → IfOk made (λ text. (job : JobState) → job_in number c'.jobs ≡ Some job → text ≡ operator_line count (job_text number (terminal_name login.terminal ++ codes " IN")) ++ pushed_of job 0)
+    → ((text : List ℕ) → IfOk made (λ t. t ≡ text) → Puts failure text before after old new)
+    → SeatsJob known login count c failure c' before after old new
+seated_is known login count c number failure c' before after old new granted number_is crew made there told puts = inl (record {
+  granted = granted;
+  crew = crew;
+  put = puts (login_text count c.next_job login) (by made told);
+})
+  where
+    by : (made : Result (List ℕ) NoMemory)
+        → IfOk made (λ text. (job : JobState) → job_in number c'.jobs ≡ Some job → text ≡ operator_line count (job_text number (terminal_name login.terminal ++ codes " IN")) ++ pushed_of job 0)
+        → IfOk made (λ t. t ≡ login_text count c.next_job login)
+    by (Ok text) told =
+        told (terminal_job c.next_job login.terminal login.user login.time) there
+        ∙ ap (λ (n : ℕ). operator_line count (job_text n (terminal_name login.terminal ++ codes " IN")) ++ pushed_of (terminal_job c.next_job login.terminal login.user login.time) 0) number_is
+    by (Err e) told = tt
 
 -- A LOGIN
 abbrev login_of_line : NewLogin → Operator
@@ -200,6 +240,35 @@ open_with j on (k ∷ jobs) (here, more) = (by (k.number == j.number), open_with
     by : (b : Bool) → (if b then j else k).over ≡ false
     by true = on
     by false = here
+
+-- WHAT THE CREW ANSWERS to a TYPE and a LOGOUT
+typed_none : (t count : ℕ) (change : JobState → JobState) (c c' : CrewState) (failure : Option Failure) (before after : Option (List ℕ)) (old new : ℕ) → open_at t c.jobs ≡ None → c' ≡ c
+    → Puts failure (operator_line count (codes "REFUSED " ++ none_text t)) before after old new → ChangesAt t change count c failure c' before after old new
+typed_none t count change c c' failure before after old new none same puts = inr (inl (record { none = none; crew = same; put = puts }))
+
+module _ (t count : ℕ) (line : List ℕ) (c c' : CrewState) where
+  pub typed_is : (before : Option (List ℕ)) (faults : ℕ) → (o : Option JobState) → open_at t c.jobs ≡ o → TypesAt o line c c' (Ok tt) → ChangesAt t (typed_to line) count c None c' before before faults faults
+  typed_is before faults None at is = absurd is
+  typed_is before faults (Some job) at is = inl (record { job = job; there = at; crew = is; untold = (refl, refl, refl) })
+
+  pub untyped_is : (before : Option (List ℕ)) (faults : ℕ) → (o : Option JobState) → TypesAt o line c c' (Err typing.NoMemory) → ChangesAt t (typed_to line) count c (Some Memory) c' before before faults faults
+  untyped_is before faults None is = absurd is
+  untyped_is before faults (Some job) is = inr (inr (refl, is, refl, refl))
+
+  pub nowhere_is : (failure : Option Failure) (before after : Option (List ℕ)) (old new : ℕ) → (o : Option JobState) → open_at t c.jobs ≡ o → TypesAt o line c c' (Err typing.NoTerminal)
+      → Puts failure (operator_line count (codes "REFUSED " ++ none_text t)) before after old new → ChangesAt t (typed_to line) count c failure c' before after old new
+  nowhere_is failure before after old new None at is puts = typed_none t count (typed_to line) c c' failure before after old new at is puts
+  nowhere_is failure before after old new (Some job) at is puts = absurd is
+
+module _ (t count : ℕ) (c c' : CrewState) where
+  pub left_is : (before : Option (List ℕ)) (faults : ℕ) → (o : Option JobState) → open_at t c.jobs ≡ o → LogsOutAt o c c' (Ok tt) → ChangesAt t logged_out count c None c' before before faults faults
+  left_is before faults None at is = absurd is
+  left_is before faults (Some job) at is = inl (record { job = job; there = at; crew = is; untold = (refl, refl, refl) })
+
+  pub unleft_is : (failure : Option Failure) (before after : Option (List ℕ)) (old new : ℕ) (why : NoTerminal) → (o : Option JobState) → open_at t c.jobs ≡ o → LogsOutAt o c c' (Err why)
+      → Puts failure (operator_line count (codes "REFUSED " ++ none_text t)) before after old new → ChangesAt t logged_out count c failure c' before after old new
+  unleft_is failure before after old new why None at is puts = typed_none t count logged_out c c' failure before after old new at is puts
+  unleft_is failure before after old new why (Some job) at is puts = absurd is
 
 module _ (t : ℕ) (change : JobState → JobState) (stays : (j : JobState) → (change j).over ≡ j.over) (what : Operator) (no_disc : disc_arms what ≡ 0) (no_tape : tape_arms what ≡ 0)
     (gives : (w next : World) → w.store.up ≡ true → next ≡ at_terminal t change w → LineGives Plain what w next) (s : StoreFacts) (c : CrewState) (ready : IsReady (Up s) c) (count : ℕ) where

@@ -1,10 +1,10 @@
 -- The seats of the jobs: what each change of the jobs makes of them, and who sits where.
-use Rattle.std.proofs.Common.{◌≡◌, ◌∙◌, ◌==◌, ◌++◌, ◌∷◌, ◌&&◌, [], Bool, List, None, Option, Some, ap, cond, eq-eqb, eqb-true, false, filter, map, not, refl, set, slice_get, subst, suc, sym, true, zero, ℕ}
+use Rattle.std.proofs.Common.{◌≡◌, ◌∙◌, ◌==◌, ◌++◌, ◌∷◌, ◌&&◌, [], Bool, List, None, Option, Some, ap, append-nil, cond, eq-eqb, eqb-true, false, filter, map, not, refl, set, slice_get, subst, suc, sym, true, zero, ℕ}
 use Rattle.std.specs.Prelude.{find, is_some, if◌then◌else◌}
 use Rattle.std.proofs.lemmas.Option.{none-some, same_Some}
 use Rattle.g_job.specs.State.{JobState}
 use Rattle.g_job.specs.Terminal.{logged_out}
-use Rattle.g_mop.specs.Seats.{AreSeats, job_in_seat, left_at, seat_at, without_seat}
+use Rattle.g_mop.specs.Seats.{AreSeats, job_in_seat, left_at, seat_at, seat_taken, without_seat}
 use Rattle.g_mop.specs.declared.seat.Seat.{Seat}
 use Rattle.g_world.specs.Lines.{is_terminal, job_at, open_at, sits_at}
 use Rattle.g_world.specs.World.{without_job}
@@ -19,6 +19,15 @@ pub seats-append : (jobs more : List JobState) → seats_in (jobs ++ more) ≡ s
 seats-append [] more = refl
 seats-append (j ∷ jobs) more =
     ap (seated_before j.terminal j.number j.desk.levels.held) (seats-append jobs more) ∙ before_append j.terminal j.number j.desk.levels.held (seats_in jobs) (seats_in more)
+
+pub seats-more : (jobs : List JobState) (j : JobState) → j.terminal ≡ None → seats_in (jobs ++ j ∷ []) ≡ seats_in jobs
+seats-more jobs j none =
+    seats-append jobs (j ∷ []) ∙ ap (λ (o : Option ℕ). seats_in jobs ++ seated_before o j.number j.desk.levels.held []) none ∙ append-nil (seats_in jobs)
+
+pub seats-seated : (jobs : List JobState) (j : JobState) (t : ℕ) → j.terminal ≡ Some t → j.desk.levels.held ≡ true → seats_in (jobs ++ j ∷ []) ≡ seats_in jobs ++ seat_taken t j.number ∷ []
+seats-seated jobs j t some held =
+    seats-append jobs (j ∷ []) ∙ ap (λ (o : Option ℕ). seats_in jobs ++ seated_before o j.number j.desk.levels.held []) some
+    ∙ ap (λ (b : Bool). seats_in jobs ++ seated_before (Some t) j.number b []) held
 
 -- A JOB IS TAKEN OUT, and its seat is free
 same_both : (b : Bool) (seats : List Seat) → seats ≡ cond b seats seats

@@ -1,6 +1,7 @@
 -- What a turn's end asks for and leaves: the job is still there, its reel isn't mounted.
 use Rattle.std.proofs.Common.{◌≡◌, ℕ, ◌==◌, Bool, true, false, cond, not, List, [], ◌∷◌, Option, None, Some, drop, length, refl, sym, ◌∙◌, ap, subst, inl, inr, if◌then◌else◌, eq-eqb}
-use Rattle.std.specs.Prelude.{◌↔◌}
+use Rattle.std.specs.Prelude.{◌↔◌, Err, IfOk, Ok, Result}
+use Rattle.g_base.specs.declared.memory.NoMemory.{NoMemory}
 use Rattle.std.specs.Fn.{Shared}
 use denote.Ref.{Bor}
 use Rattle.g_job.specs.State.{JobState}
@@ -22,6 +23,7 @@ use Rattle.g_console.specs.System.{SystemFacts}
 use Rattle.g_crew.specs.Accounts.{AreKept, HaveRows}
 use Rattle.g_crew.specs.Crew.{CrewState}
 use Rattle.g_crew.specs.Numbers.{job_in}
+use Rattle.g_crew.specs.Seating.{pushed_of}
 use Rattle.g_crew.specs.Turn.{TakesTurn, shown_from}
 use Rattle.g_world.specs.Accounts.{Opened, rows_of, with_new}
 use Rattle.g_world.specs.Texts.{ended_file, put_as, shown}
@@ -92,6 +94,12 @@ pub no_file : (number t : ℕ) (c mid : CrewState) (job one : JobState) → Take
 no_file number t c mid job one out there some =
     let same : job ≡ one = one_job job one (sym out.there ∙ there) in
     ap (λ (p : Option ℕ). put_as p job.monitor []) (ap (λ (j : JobState). j.terminal) same ∙ some)
+
+-- what was made of a file to be shown
+pub shown_is : (made : Result (List ℕ) NoMemory) (number before : ℕ) (jobs : List JobState) (job : JobState) → IfOk made (λ text. (j : JobState) → job_in number jobs ≡ Some j → text ≡ pushed_of j before)
+    → job_in number jobs ≡ Some job → IfOk made (λ t. t ≡ pushed_of job before)
+shown_is (Ok text) number before jobs job told found = told job found
+shown_is (Err e) number before jobs job told found = tt
 
 module _ {F : Type 0} (tariffs : Shared F (Bor Usage × Unit {0}) Charge) (tariff : F) where
   -- HOW A TURN WAS TAKEN, from what the crew says of it and how it ended
