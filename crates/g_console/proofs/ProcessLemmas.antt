@@ -8,7 +8,7 @@ use Rattle.g_tape.specs.Reel.{Reel}
 use Rattle.g_plain.specs.declared.faults.StoreFault.{StoreFault}
 use Rattle.g_plain.specs.declared.faults.StoreFault.TheVariants.{CountersSpent, DiscReadFault, DumpOpen, NoTape, RackNotMounted, ReelNotFree, Stopped, TapeFull, TapeReadFault}
 use Rattle.g_plain.specs.PlainStep.{first_fault}
-use Rattle.g_process.specs.Processing.{ProcessCause, Processes}
+use Rattle.g_process.specs.Processing.{ProcessCause}
 use Rattle.g_step.specs.CallStep.{Cut, DiscRead, Outcome, Plain, TapeRead}
 use Rattle.g_step.specs.DumpSteps.{open_number}
 use Rattle.g_step.specs.Process.{Marked, Moved, NotYet, ProcessLeft, ProcessStep, Processes as Steps, process_needs, process_refuses, process_refuses_late}
@@ -24,6 +24,7 @@ use Rattle.g_world.proofs.CountLemmas.{dump_failed, none_failed, none_rose, rack
 use Rattle.g_world.proofs.EventToldLemmas.{process_told}
 use Rattle.g_crew.specs.Crew.{CrewState}
 use Rattle.g_console.specs.declared.progress.Failure.{Failure}
+use Rattle.g_console.specs.Asking.{Processed}
 use Rattle.g_console.specs.Parts.{DidLine, IsReady, seen}
 use Rattle.g_console.specs.Puts.{Puts}
 use Rattle.g_console.specs.System.{Up, devices_in, labels}
@@ -152,26 +153,26 @@ module _ (s : State) (k : Holding) (serial : ℕ) (u : State) where
 
 -- ITS LINE
 module _ (serial : ℕ) (old new : StoreFacts) (c : CrewState) (ready : IsReady (Up old) c) (count : ℕ) where
-  went_process : (answer : Result ℕ StoreFault) → Processes serial old answer new → Went (λ s k o a n. ProcessStep s k serial o a n) old answer new
-  went_process answer is = record { step = is.step; keeps = is.keeps; told = is.told; belongs = is.belongs; spent = is.spent }
+  went_process : (answer : Result ℕ StoreFault) → Processed serial old answer new → Went (λ s k o a n. ProcessStep s k serial o a n) old answer new
+  went_process answer is = record { step = is.step; keeps = is.answers.keeps; told = is.answers.told; belongs = is.answers.belongs; spent = is.answers.spent }
 
-  caused_process : (answer : Result ℕ StoreFault) → Processes serial old answer new → Caused (line.Process serial) old answer new
+  caused_process : (answer : Result ℕ StoreFault) → Processed serial old answer new → Caused (line.Process serial) old answer new
   caused_process answer is = record {
-    counted = λ o told. process_counted old new answer is.cause o told;
-    still = λ told. process_counted old new answer is.cause Plain told;
-    disc_armed = is.cause.disc_arms;
-    rack_armed = is.cause.tape_arms;
-    same = record { size = is.cause.size; reels = labels_same old.rack.reels new.rack.reels is.cause.reels };
+    counted = λ o told. process_counted old new answer is.answers.cause o told;
+    still = λ told. process_counted old new answer is.answers.cause Plain told;
+    disc_armed = is.answers.cause.disc_arms;
+    rack_armed = is.answers.cause.tape_arms;
+    same = record { size = is.answers.cause.size; reels = labels_same old.rack.reels new.rack.reels is.answers.cause.reels };
     dumps = λ was. is.dumps was.0 was.1;
   }
 
-  pub processed_line : (number : ℕ) → Processes serial old (Ok number) new → (failure : Option Failure) (before_text after : Option (List ℕ)) (faults faults' : ℕ)
+  pub processed_line : (number : ℕ) → Processed serial old (Ok number) new → (failure : Option Failure) (before_text after : Option (List ℕ)) (faults faults' : ℕ)
       → Puts failure (operator_line count (processed_text serial number)) before_text after faults faults' → DidLine (line.Process serial) (seen (Up old) c count) failure (seen (Up new) c count) before_text after faults faults'
   processed_line number is failure before_text after faults faults' puts =
       granted_line (line.Process serial) (λ s k o a n. ProcessStep s k serial o a n) (processed_text serial) (λ o w next it. it) refl refl (λ s k o r u step. process_told s k serial o r u step) old new ready.0 c count
       number (went_process (Ok number) is) (caused_process (Ok number) is) failure before_text after faults faults' puts
 
-  pub unprocessed_line : (fault : StoreFault) → Processes serial old (Err fault) new → (failure : Option Failure) (c' : CrewState) (before_text after : Option (List ℕ)) (faults faults' : ℕ)
+  pub unprocessed_line : (fault : StoreFault) → Processed serial old (Err fault) new → (failure : Option Failure) (c' : CrewState) (before_text after : Option (List ℕ)) (faults faults' : ℕ)
       → TellsFault fault count c failure c' before_text after faults faults' → DidLine (line.Process serial) (seen (Up old) c count) failure (seen (system_after fault new) c' count) before_text after faults faults'
   unprocessed_line fault is failure c' before_text after faults faults' tells =
       fault_line (line.Process serial) (λ s k o a n. ProcessStep s k serial o a n) (processed_text serial) (λ o w next it. it) refl refl (λ s k o r u step. process_told s k serial o r u step) old new ready.0 c count

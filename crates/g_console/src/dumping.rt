@@ -1,11 +1,10 @@
 //! What the operator asks of a store: a dump is opened, all versions are put on one reel, a file is taken off the disc. A system that
 //! is down refuses it.
 ghost use Rattle.std.specs.Prelude.{◌≡◌, ◌++◌, IfOk, codes};
-ghost use Rattle.g_console.specs.Asking.{AsksOf};
+ghost use Rattle.g_console.specs.Asking.{AsksOf, Processed};
 ghost use Rattle.g_console.specs.Parts.{DidLine, IsReady};
 ghost use Rattle.g_console.specs.System.{IsRunning, facts_of};
 ghost use Rattle.g_monitor.specs.Parts.{full_text};
-ghost use Rattle.g_process.specs.Processing.{Processes};
 ghost use Rattle.g_script.specs.declared.operator.Operator.TheVariants as line;
 ghost use Rattle.g_store.specs.Events.{Migrates, Opens};
 ghost use Rattle.g_world.specs.Texts.{processed_text};
@@ -88,7 +87,7 @@ fn processes<D: Disc, T: Tapes>(
     serial: u32,
 ) -> Result<u64, StoreFault>
     requires running { IsRunning (facts_of D.state T.rack system.old) }
-    ensures { AsksOf (λ s answer t. Processes serial s answer t) (facts_of D.state T.rack system.old) result (facts_of D.state T.rack system.new) }
+    ensures { AsksOf (λ s answer t. Processed serial s answer t) (facts_of D.state T.rack system.old) result (facts_of D.state T.rack system.new) }
 {
     match system {
         System::Up(store) => store.process(alloc, serial),

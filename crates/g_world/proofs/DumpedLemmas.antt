@@ -30,9 +30,9 @@ use Rattle.g_script.specs.declared.operator.Operator.TheVariants as line
 use Rattle.g_world.specs.World.{World, start, shows}
 use Rattle.g_world.specs.Texts.{started_text, tape_text, dump_text, processed_text}
 use Rattle.g_world.specs.Events.{IsTold, IsOpening, IsMigration, IsProcessing}
-use Rattle.g_world.specs.Lines.{LineGives, tells, up_with, now_stands, line_refused, Shuts}
+use Rattle.g_world.specs.Lines.{LineGives, is_process, tells, up_with, now_stands, line_refused, Shuts}
 use Rattle.g_world.specs.Moves.{Move, TakeLine, Dumped, Begin, Answered, TurnOver, Ticked, Over, Step, Run}
-use Rattle.g_world.specs.Laws.{DumpedIsOpened, OpenedIn, ProcessedIn, is_process, takes_process}
+use Rattle.g_world.specs.Laws.{DumpedIsOpened, OpenedIn, ProcessedIn}
 use Rattle.g_world.proofs.StepLemmas.{tree_held}
 use Rattle.g_world.proofs.TreeLemmas.{dump_store, job_by, login_by, told_stands, told_up, turn_store, typed_by}
 use Rattle.g_job.specs.Terminal.{logged_out, typed_to}
@@ -256,7 +256,7 @@ processing_dumps o w new serial false (plain, is) = inl (stays w new (line_refus
 
 -- of a line: a DUMP alone opens a dump, a PROCESS alone puts another tree there
 abbrev LineDumps : Operator → State → State → Type 0
-LineDumps what s new = (Keeps s new ⊎ Opens s new) ⊎ ((is_process (record { turn = 0; what = what }) ≡ true) × Renews s new)
+LineDumps what s new = (Keeps s new ⊎ Opens s new) ⊎ ((is_process what ≡ true) × Renews s new)
 
 renewed : (serial : ℕ) (s new : State) → Keeps s new ⊎ Renews s new → LineDumps (line.Process serial) s new
 renewed serial s new (inl keeps) = inl (inl keeps)
@@ -289,7 +289,7 @@ module _ {F U : Type 0} (tariffs : Shared F (Bor Usage × Unit {0}) Charge) (tar
   -- what a move does to what is dumped
   abbrev MoveDumps : World → Move → World → Type 0
   MoveDumps w move new = (Keeps w.store new.store ⊎ Completes w.store new.store)
-      ⊎ ((o : Outcome) × (move ≡ TakeLine tape o) × (Opens w.store new.store ⊎ ((takes_process w (TakeLine tape o) ≡ true) × Renews w.store new.store)))
+      ⊎ ((tape : Bool) × (o : Outcome) × (move ≡ TakeLine tape o) × (Opens w.store new.store ⊎ ((tape ≡ true) × Renews w.store new.store)))
 
   move_dumps : (w new : World) (move : Move) → Step tariffs tariff rules rule w move new → MoveDumps w move new
   move_dumps w new (TakeLine tape o) (next, rest, lines, between, idle, due, is_tape, gives) =
@@ -297,8 +297,8 @@ module _ {F U : Type 0} (tariffs : Shared F (Bor Usage × Unit {0}) Charge) (tar
     where
       by_line : LineDumps next.what w.store new.store → MoveDumps w (TakeLine tape o) new
       by_line (inl (inl keeps)) = inl (inl keeps)
-      by_line (inl (inr opens)) = inr (o, refl, inl opens)
-      by_line (inr (is, renews)) = inr (o, refl, inr (ap (λ (ls : List Timed). takes_process (record w { lines = ls }) (TakeLine tape o)) lines ∙ is, renews))
+      by_line (inl (inr opens)) = inr (tape, o, refl, inl opens)
+      by_line (inr (is, renews)) = inr (tape, o, refl, inr (is_tape ∙ is, renews))
   move_dumps w new (Dumped o) (between, idle, undue, dumping, (r, s, (k, d, holds, opened, step, says_so), is)) =
       let at_s : new.store ≡ s = ap (λ (x : World). x.store) is ∙ dump_store _ r s w in
       inl (subst (λ (x : State). Keeps w.store x ⊎ Completes w.store x) (sym at_s) (step_dumps w.store k d o r s opened step))
@@ -311,19 +311,19 @@ module _ {F U : Type 0} (tariffs : Shared F (Bor Usage × Unit {0}) Charge) (tar
 
   -- a DUMP of these moves opened the dump of this number on this tree
   abbrev From : World → List Move → ℕ → Tree → Type 0
-  From begin moves number tree = (front : List Move) × (back : List Move) × (o : Outcome) × (w : World) × (opened : World) × (dump : OpenDump)
+  From begin moves number tree = (front : List Move) × (back : List Move) × (tape : Bool) × (o : Outcome) × (w : World) × (opened : World) × (dump : OpenDump)
       × (moves ≡ front ++ (TakeLine tape o ∷ back)) × Run tariffs tariff rules rule begin front w × Step tariffs tariff rules rule w (TakeLine tape o) opened
       × (w.store.open_dump ≡ None) × (opened.store.open_dump ≡ Some dump) × (dump.number ≡ number) × (tree_in w.store ≡ Some tree)
 
   grown : (begin : World) (moves : List Move) (number : ℕ) (tree : Tree) (move : Move) → From begin moves number tree → From begin (moves ++ move ∷ []) number tree
-  grown begin moves number tree move (front, back, o, w, opened, dump, is, before, step, idle, some, numbered, held) =
-      (front, back ++ move ∷ [], o, w, opened, dump, ap (λ (ms : List Move). ms ++ move ∷ []) is ∙ append_assoc front (TakeLine tape o ∷ back) (move ∷ []), before, step, idle, some, numbered, held)
+  grown begin moves number tree move (front, back, tape, o, w, opened, dump, is, before, step, idle, some, numbered, held) =
+      (front, back ++ move ∷ [], tape, o, w, opened, dump, ap (λ (ms : List Move). ms ++ move ∷ []) is ∙ append_assoc front (TakeLine tape o ∷ back) (move ∷ []), before, step, idle, some, numbered, held)
 
   -- or a PROCESS of them wrote it
   abbrev FromProcess : World → List Move → DumpedTree → Type 0
   FromProcess begin moves x = (front : List Move) × (back : List Move) × (o : Outcome) × (w : World) × (behind : World)
-      × (moves ≡ front ++ (TakeLine tape o ∷ back)) × Run tariffs tariff rules rule begin front w × Step tariffs tariff rules rule w (TakeLine tape o) behind
-      × (takes_process w (TakeLine tape o) ≡ true) × (behind.store.dumped ≡ Some x) × (tree_in w.store ≡ Some x.tree)
+      × (moves ≡ front ++ (TakeLine true o ∷ back)) × Run tariffs tariff rules rule begin front w × Step tariffs tariff rules rule w (TakeLine true o) behind
+      × (behind.store.dumped ≡ Some x) × (tree_in w.store ≡ Some x.tree)
 
   Came : World → List Move → DumpedTree → Type 0
   Came begin moves x = From begin moves x.number x.tree ⊎ FromProcess begin moves x
@@ -331,8 +331,8 @@ module _ {F U : Type 0} (tariffs : Shared F (Bor Usage × Unit {0}) Charge) (tar
   came_still : (begin : World) (moves : List Move) (x : DumpedTree) (move : Move) → Came begin moves x → Came begin (moves ++ move ∷ []) x
   unfolding Came
   came_still begin moves x move (inl from) = inl (grown begin moves x.number x.tree move from)
-  came_still begin moves x move (inr (front, back, o, w, behind, is, before, step, takes, dumped, tree)) =
-      inr (front, back ++ move ∷ [], o, w, behind, ap (λ (ms : List Move). ms ++ move ∷ []) is ∙ append_assoc front (TakeLine tape o ∷ back) (move ∷ []), before, step, takes, dumped, tree)
+  came_still begin moves x move (inr (front, back, o, w, behind, is, before, step, dumped, tree)) =
+      inr (front, back ++ move ∷ [], o, w, behind, ap (λ (ms : List Move). ms ++ move ∷ []) is ∙ append_assoc front (TakeLine true o ∷ back) (move ∷ []), before, step, dumped, tree)
 
   -- behind these moves: where what is dumped and what is open came from
   record Tracks (begin : World) (moves : List Move) (w : World) : Type 0 where
@@ -383,23 +383,23 @@ module _ {F U : Type 0} (tariffs : Shared F (Bor Usage × Unit {0}) Charge) (tar
     by_move (inl (inl (same, inl none))) = record { run = goes_on; dumped = still_dumped same; opened = inl none }
     by_move (inl (inl (same, inr still))) = record { run = goes_on; dumped = still_dumped same; opened = still_opened still }
     by_move (inl (inr (x, is, was, none))) = record { run = goes_on; dumped = inr (x, is, by_dump x (now_dumped x was)); opened = inl none }
-    by_move (inr (o, named, inr (takes, (x, is, tree, behind)))) = record {
+    by_move (inr (tape, o, named, inr (takes, (x, is, tree, behind)))) = let same : move ≡ TakeLine true o = named ∙ ap (λ (b : Bool). TakeLine b o) takes in record {
       run = goes_on;
       dumped = inr (
         x,
         is,
-        by_process x (moves, [], o, w, new, ap (λ (m : Move). moves ++ m ∷ []) named, tracks.run, subst (λ (m : Move). Step tariffs tariff rules rule w m new) named step, takes, is, tree),
+        by_process x (moves, [], o, w, new, ap (λ (m : Move). moves ++ m ∷ []) same, tracks.run, subst (λ (m : Move). Step tariffs tariff rules rule w m new) same step, is, tree),
       );
       opened = now_open behind;
     }
-    by_move (inr (o, named, inl (d, none, some, same, tree))) = record {
+    by_move (inr (tape, o, named, inl (d, none, some, same, tree))) = record {
       run = goes_on;
       dumped = still_dumped same;
       opened = inr (
         d.number,
         d.tree,
         ap about some,
-        (moves, [], o, w, new, d, ap (λ (m : Move). moves ++ m ∷ []) named, tracks.run, subst (λ (m : Move). Step tariffs tariff rules rule w m new) named step, none, some, refl, tree),
+        (moves, [], tape, o, w, new, d, ap (λ (m : Move). moves ++ m ∷ []) named, tracks.run, subst (λ (m : Move). Step tariffs tariff rules rule w m new) named step, none, some, refl, tree),
       );
     }
 
@@ -411,9 +411,10 @@ module _ {F U : Type 0} (tariffs : Shared F (Bor Usage × Unit {0}) Charge) (tar
       (tracked begin mid last (front ++ move ∷ []) moves (by_move begin front w mid move tracks step (move_dumps w mid move step)) rest)
 
   opened_in : (begin : World) (moves : List Move) (x : DumpedTree) → From begin moves x.number x.tree → OpenedIn tariffs tariff rules rule begin moves x
-  opened_in begin moves x (front, back, o, w, opened, dump, all, before, step, idle, some, number, tree) = record {
+  opened_in begin moves x (front, back, tape, o, w, opened, dump, all, before, step, idle, some, number, tree) = record {
     front = front;
     back = back;
+    tape = tape;
     outcome = o;
     before = w;
     opened = opened;
@@ -428,7 +429,7 @@ module _ {F U : Type 0} (tariffs : Shared F (Bor Usage × Unit {0}) Charge) (tar
   }
 
   processed_in : (begin : World) (moves : List Move) (x : DumpedTree) → FromProcess begin moves x → ProcessedIn tariffs tariff rules rule begin moves x
-  processed_in begin moves x (front, back, o, w, behind, all, before, step, takes, dumped, tree) = record {
+  processed_in begin moves x (front, back, o, w, behind, all, before, step, dumped, tree) = record {
     front = front;
     back = back;
     outcome = o;
@@ -437,7 +438,6 @@ module _ {F U : Type 0} (tariffs : Shared F (Bor Usage × Unit {0}) Charge) (tar
     moves_are = all;
     run = before;
     step = step;
-    takes = takes;
     dumped_is = dumped;
     tree = tree;
   }

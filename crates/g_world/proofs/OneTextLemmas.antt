@@ -144,7 +144,7 @@ one_charge : (c d : Option Charge) (xs ys : List (Option Charge)) → c ∷ xs �
 one_charge c d xs ys e = (cc, cc)
 
 parted : (m n : Move) (moves others : List Move) → kind_of m ≡ kind_of n → charges_of (m ∷ moves) ≡ charges_of (n ∷ others) → SameCharge m n × (charges_of moves ≡ charges_of others)
-parted (TakeLine tape o) (TakeLine tape p) moves others k e = (tt, e)
+parted (TakeLine tape o) (TakeLine tape2 p) moves others k e = (tt, e)
 parted (Dumped o) (Dumped p) moves others k e = (tt, e)
 parted (Begin a) (Begin b) moves others k e = (tt, e)
 parted (Answered o) (Answered p) moves others k e = (tt, e)
@@ -336,7 +336,7 @@ module _ {F U : Type 0} (tariffs : Shared F (Bor Usage × Unit {0}) Charge) (tar
     -- ONE MOVE of each
     step_alike : (w v new other : World) (m n : Move) → IsKnown w → AreRising 0 v.jobs v.next_job → AreAlike w v → IsPlain m → IsPlain n → SameCharge m n → kind_of m ≡ kind_of n
         → Step tariffs tariff rules rule w m new → Step tariffs tariff rules rule v n other → AreAlike new other
-    step_alike w v new other (TakeLine tape o) (TakeLine tape p) known rising alike plain plain2 charge kind (next, rest, lines, between, idle, due, is_tape, gives) (next2, rest2, lines2, between2, idle2, due2, gives2) =
+    step_alike w v new other (TakeLine tape o) (TakeLine tape2 p) known rising alike plain plain2 charge kind (next, rest, lines, between, idle, due, is_tape, gives) (next2, rest2, lines2, between2, idle2, due2, is_tape2, gives2) =
         let parts = one_line next next2 rest rest2 (sym lines ∙ ap (λ (x : World). x.lines) alike ∙ lines2) in
         lines_alike next.what (record w { lines = rest }) (record v { lines = rest2 }) new other
         (ap (λ (x : World). let y : World = record x { lines = rest } in y) alike ∙ ap (λ (ls : List Timed). let y : World = record (bare_world v) { lines = ls } in y) parts.1)

@@ -294,7 +294,7 @@ line_up o what w new low up gives = by (line_leaves o what w new gives)
 
 module _ {F U : Type 0} (tariffs : Shared F (Bor Usage × Unit {0}) Charge) (tariff : F) (rules : Shared U (Bor Standing × Unit {0}) ℕ) (rule : U) where
   pub rises_on : RisesOn tariffs tariff rules rule
-  rises_on w new o (next, rest, lines, between, idle, due, is_tape, gives) low up =
+  rises_on w new tape o (next, rest, lines, between, idle, due, is_tape, gives) low up =
       line_up o next.what (record w { lines = rest }) new low up gives
       ∙ sym (ap (λ (b : Bool). if b then tree_in w.store else tree_by_line next.what w.store) low)
       ∙ sym (ap (λ (ls : List Timed). tree_by_lines ls w.store) lines)
