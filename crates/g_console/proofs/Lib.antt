@@ -11,6 +11,7 @@ pub mod ProcessLemmas
 pub mod ReelLemmas
 pub mod RiseLemmas
 pub mod StopLemmas
+pub mod TerminalLemmas
 pub mod TurnedLemmas
 pub mod UpLemmas
 pub mod UserLemmas

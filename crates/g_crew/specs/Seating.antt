@@ -2,7 +2,8 @@
 use Rattle.std.specs.Prelude.{◌≡◌, ℕ, Bool, not, List, [], ◌∷◌, Option, Some, None, Result, Ok, Err, drop}
 use Rattle.g_job.specs.State.{JobState}
 use Rattle.g_job.specs.Terminal.{logged_out, typed_to}
-use Rattle.g_mop.specs.Seats.{Seat, busy_text}
+use Rattle.g_mop.specs.Seats.{busy_text}
+use Rattle.g_mop.specs.declared.seat.Seat.{Seat}
 use Rattle.g_world.specs.Accounts.{knows_user}
 use Rattle.g_world.specs.Lines.{login_refusal}
 use Rattle.g_world.specs.Texts.{put_as}
@@ -45,15 +46,19 @@ RefusesLoginAsIn c known t user time text = (w : World) → IsCrewOf w c → kno
 
 -- A LINE IS TYPED to the job that sits there with its document held open; where there is none, it isn't
 abbrev pub TypesAt : Option JobState → List ℕ → CrewState → CrewState → Result (Unit {0}) NotTyped → Type 0
-TypesAt None line old new answer = (answer ≡ Err fault.NoTerminal) × (new ≡ old)
+TypesAt None line old new (Ok done) = ⊥
+TypesAt None line old new (Err fault.NoMemory) = ⊥
+TypesAt None line old new (Err fault.NoTerminal) = new ≡ old
 TypesAt (Some j) line old new (Ok done) = new ≡ record old { jobs = with_job (typed_to line j) old.jobs }
 TypesAt (Some j) line old new (Err fault.NoMemory) = new ≡ old
 TypesAt (Some j) line old new (Err fault.NoTerminal) = ⊥
 
 -- the terminal is logged out
 abbrev pub LogsOutAt : Option JobState → CrewState → CrewState → Result (Unit {0}) NoTerminal → Type 0
-LogsOutAt None old new answer = (answer ≡ Err NoTerminal) × (new ≡ old)
-LogsOutAt (Some j) old new answer = (answer ≡ Ok tt) × (new ≡ record old { jobs = with_job (logged_out j) old.jobs })
+LogsOutAt None old new (Ok done) = ⊥
+LogsOutAt None old new (Err none) = new ≡ old
+LogsOutAt (Some j) old new (Ok done) = new ≡ record old { jobs = with_job (logged_out j) old.jobs }
+LogsOutAt (Some j) old new (Err none) = ⊥
 
 -- what is put at once of a job's file behind its first bytes: nothing where it is at no terminal
 abbrev pub pushed_of : JobState → ℕ → List ℕ

@@ -1,6 +1,6 @@
 //! Which job sits at which terminal.
 ghost use Rattle.std.specs.Prelude.{◌≡◌, ◌∷◌, ◌++◌, ◌≤◌, [], map, true, IfSome, None, OnErr, OnOk, is_some};
-ghost use Rattle.g_mop.specs.Seats.{AreApart, job_in_seat, left_at, seat_at, seat_taken, without_seat};
+ghost use Rattle.g_mop.specs.Seats.{AreSeats, job_in_seat, left_at, seat_at, seat_taken, without_seat};
 ghost use Rattle.g_crew.specs.Seating.{seats_of};
 
 use g_base::NoMemory;
@@ -20,7 +20,7 @@ pub(crate) fn is_busy(terminals: &Option<Terminals>, terminal: u8) -> bool
 /// The number of the job of a terminal that wasn't logged out.
 pub(crate) fn open_number(terminals: &Option<Terminals>, terminal: u8) -> Option<u64>
     ensures number { result ≡ job_in_seat (seat_at terminal (seats_of terminals.now)) }
-    ensures apart { AreApart (seats_of terminals.now) }
+    ensures apart { AreSeats (seats_of terminals.now) }
 {
     match terminals {
         Some(seats) => match seats.job_of(terminal) {
@@ -65,7 +65,7 @@ pub(crate) fn log_out(terminals: &mut Option<Terminals>, terminal: u8) -> Option
     ensures number { result ≡ job_in_seat (seat_at terminal (seats_of terminals.old)) }
     ensures some { IfSome result (λ n. seats_of terminals.new ≡ map (left_at terminal) (seats_of terminals.old)) }
     ensures none { result ≡ None → seats_of terminals.new ≡ seats_of terminals.old }
-    ensures apart { AreApart (seats_of terminals.old) }
+    ensures apart { AreSeats (seats_of terminals.old) }
 {
     match terminals {
         Some(seats) => match seats.logout(terminal) {
