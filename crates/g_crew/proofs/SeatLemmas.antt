@@ -8,7 +8,9 @@ use Rattle.g_mop.specs.Seats.{AreSeats, job_in_seat, left_at, seat_at, seat_take
 use Rattle.g_mop.specs.declared.seat.Seat.{Seat}
 use Rattle.g_world.specs.Lines.{is_terminal, job_at, open_at, sits_at}
 use Rattle.g_world.specs.World.{without_job}
+use Rattle.g_crew.specs.Numbers.{AreJobs, job_in}
 use Rattle.g_crew.specs.Seating.{seated_before, seats_in}
+use Rattle.g_crew.proofs.NumberLemmas.{IsOnly-at}
 
 -- A JOB BEHIND THE OTHERS has the last seat, if it has one
 before_append : (o : Option ℕ) (number : ℕ) (held : Bool) (xs ys : List Seat) → seated_before o number held (xs ++ ys) ≡ seated_before o number held xs ++ ys
@@ -224,3 +226,17 @@ seats-left t (m ∷ jobs) (suc place) j are there seat =
     let some : is_some (seat_at t (seats_in jobs)) ≡ true = busy-is t jobs ∙ seated-there t jobs place j there seat in
     ap (seated_before m.terminal m.number m.desk.levels.held) (seats-left t jobs place j (tail_are t (seats_in jobs) m.terminal m.number m.desk.levels.held are) there seat)
     ∙ left_other t (seats_in jobs) m.terminal m.number m.desk.levels.held some are
+
+-- WHAT IS KEPT SAYS WHAT THE JOBS SAY
+pub busy-told : (t : ℕ) (jobs : List JobState) (seats : List Seat) (b : Bool) → seats ≡ seats_in jobs → b ≡ is_some (seat_at t seats) → is_some (job_at t jobs) ≡ b
+busy-told t jobs seats b same is = sym (busy-is t jobs) ∙ ap (λ (s : List Seat). is_some (seat_at t s)) (sym same) ∙ sym is
+
+-- the job of the number that is kept is the one that sits there with its document held open
+pub open-at : (t number : ℕ) (jobs : List JobState) (next place : ℕ) (j : JobState) → AreJobs jobs next → job_in_seat (seat_at t (seats_in jobs)) ≡ Some number → slice_get jobs place ≡ Some j → j.number ≡ number
+    → (open_at t jobs ≡ Some j) × (j.terminal ≡ Some t)
+open-at t number jobs next place j are is there named =
+    let sits = open-some t number jobs is in
+    let here = IsOnly-at 1 jobs next place j are.rise there in
+    let there' = IsOnly-at 1 jobs next sits.place sits.job are.rise sits.there in
+    let same : sits.job ≡ j = same_Some sits.job j (sym there'.found ∙ ap (λ (n : ℕ). job_in n jobs) (sits.named ∙ sym named) ∙ here.found) in
+    (sits.open ∙ ap (λ (x : JobState). let o : Option JobState = Some x in o) same, ap (λ (x : JobState). x.terminal) (sym same) ∙ sits.seat)
