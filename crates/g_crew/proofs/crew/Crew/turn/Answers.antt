@@ -77,7 +77,7 @@ returns-in-Ok-clause-ok g c =
       subst (λ (j : JobState). TakesTurn g.S.Filestore.answers g.F.Fn c.args.tariff.now j c.args.store.now c.in-Ok.turn after c.turn.new.store) same taken,
       crew_is target _ _ _ (sym (only.changed after number) ∙ ap (λ (v : CrewState). with_job after v.jobs) c.self.view_is) (ap (λ (v : CrewState). v.accounts) c.self.view_is)
           (ap (λ (v : CrewState). v.next_job) c.self.view_is),
-      c.file_before-shown.ensures ∙ ap shown_from (c.index.ensures ∙ there_is),
+      c.file_before-shown.ensures ∙ ap shown_from (c.index.ensures.value ∙ get_or_from_slice_get items c.in-Some.place p.job c.index.result.now there),
     )
 
 pub returns-in-Err-clause-err : goal.returns-in-Err-clause-err
