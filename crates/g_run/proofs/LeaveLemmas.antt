@@ -101,7 +101,7 @@ login_same t user time w true =
     (record { lines = refl; bad = refl; over = refl; phase = refl; turn = refl; disc_stops = refl; tape_stops = refl })
 login_same t user time w false = refused_same NotStarted w
 
-seat_at : (t : ℕ) (change : JobState → JobState) (open : Option JobState) (w : World) → Same w (changed_at t change open w)
+seat_at : (t : ℕ) (change : JobState → JobState) (seat : Option JobState) (w : World) → Same w (changed_at t change seat w)
 seat_at t change None w = record { lines = refl; bad = refl; over = refl; phase = refl; turn = refl; disc_stops = refl; tape_stops = refl }
 seat_at t change (Some j) w = record { lines = refl; bad = refl; over = refl; phase = refl; turn = refl; disc_stops = refl; tape_stops = refl }
 

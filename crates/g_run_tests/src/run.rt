@@ -43,6 +43,12 @@ END 2 UNITS\n\
 8 STOP SET\n\
 8 STOP SET\n";
 
+/// A line is typed at a terminal, whose job ends behind its logout: the lines of terminals.
+const TERMINAL: &[u8] = b"0 FORMAT\n0 LOGIN 1,:MASTER,TIME 10\n0 TYPE 1,DISPLAY A\n5 LOGOUT 1\n";
+
+const TERMINAL_TEXT: &[u8] =
+    b"0 FORMATTED\n0 JOB 1 MOP1 IN\nT1 JOB 1 MOP1 :MASTER\nT1 - DISPLAY A\nT1 DISPLAY A\nT1 END 2 UNITS\n";
+
 /// What the demonstration of number 0 and one round prints.
 const SUMMARY: &[u8] = b"DEMO 0 1\nLINES 21\nBYTES 315\nFOLD 3482023973\n";
 
@@ -98,6 +104,8 @@ fn ample(rt: HostRuntime) -> Result<(), Fail> {
     assert!(rt; sink.text() == TEXT);
     let sink = ran(rt.alloc(), &["run"], DAY)?;
     assert!(rt; sink.text() == DAY_TEXT);
+    let sink = ran(rt.alloc(), &["run"], TERMINAL)?;
+    assert!(rt; sink.text() == TERMINAL_TEXT);
     let sink = ran(rt.alloc(), &["demo", "0", "1"], SCRIPT)?;
     assert!(rt; sink.text() == SUMMARY);
     Ok(())

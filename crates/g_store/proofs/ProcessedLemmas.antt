@@ -15,11 +15,13 @@ use Rattle.g_step.specs.Rising.{fault_from}
 use Rattle.g_state.specs.Answers.{IsStore, WroteCommits}
 use Rattle.g_state.specs.Up.{DumpFacts, StoreFacts}
 use Rattle.g_dumper.specs.Keeps.{up_with}
+use Rattle.g_incr.specs.Layout.{Dump}
+use Rattle.g_process.specs.Exits.{Exits}
 use Rattle.g_process.specs.Processing.{Does, IsLate, Processes, Wrote, behind_process, open_number, process_refuses}
 use Rattle.g_store.specs.Dumping.{is_stop_at}
 
 -- THE REFUSALS that are known without a read
-abbrev IsEarly : StoreFault → Type 0
+abbrev pub IsEarly : StoreFault → Type 0
 IsEarly NoTape = Unit {0}
 IsEarly (RackNotMounted n) = Unit {0}
 IsEarly (DumpOpen n) = Unit {0}
@@ -64,6 +66,12 @@ does_nothing serial DiscReadFault s early = absurd early
 does_nothing serial Stopped s early = absurd early
 does_nothing serial fault s early = tt
 
+leaves_all : (text : ℕ → List ℕ) (shelf : ℕ → List Dump) (serial : ℕ) (fault : StoreFault) (s : StoreFacts) → IsEarly fault → (let r : Result ℕ StoreFault = Err fault in Exits text shelf serial s r s)
+leaves_all text shelf serial TapeReadFault s early = absurd early
+leaves_all text shelf serial DiscReadFault s early = absurd early
+leaves_all text shelf serial Stopped s early = absurd early
+leaves_all text shelf serial fault s early = (refl, refl)
+
 no_commit : (s : StoreFacts) → WroteCommits 0 s s
 no_commit s = record { blocks = 0; commits = (refl, refl); writes = record { exactly = λ low. omega arith } }
 
@@ -104,6 +112,8 @@ process_early serial s fault is_store running is =
       wrote = wrote_nothing fault s early;
       keeps = is_store;
       told = λ told. told;
+      belongs = λ told was. was;
+      exit = λ told text shelf shelved up unspent. leaves_all text shelf serial fault s early;
       spent = (λ spent. absurd (let no : ⊥ = cc in no), λ same. absurd (unlike fault Stopped early (λ no. no) same));
       dump = λ _. refl;
     }

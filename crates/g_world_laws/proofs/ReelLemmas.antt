@@ -20,7 +20,7 @@ use Rattle.g_step.specs.DumpSteps.{Completed, DumpStep, Event, Going, Stepped, s
 use Rattle.g_step.specs.Rising.{FormatStep, RestoreStep, Restores, StartStep, Starts, restore_early}
 use Rattle.g_step.specs.State.{Dumped as DumpedTree, Holding, OpenDump, ReelRow, Shelved, State, with_reel}
 use Rattle.g_world.specs.Events.{IsMigration, IsOpening, IsTold, IsProcessing}
-use Rattle.g_world.specs.Lines.{LineGives, Shuts, line_refused, now_stands, tells, up_with}
+use Rattle.g_world.specs.Lines.{LineGives, Shuts, is_process, line_refused, now_stands, tells, up_with}
 use Rattle.g_world.specs.Moves.{Answered, Begin, Dumped, Move, Over, Step, TakeLine, Ticked, TurnOver}
 use Rattle.g_world.specs.Texts.{dump_text, started_text, tape_text, processed_text}
 use Rattle.g_world.specs.World.{World, shows}
@@ -28,7 +28,7 @@ use Rattle.g_world.proofs.TreeLemmas.{dump_store, job_by, login_by, told_stands,
 use Rattle.g_job.specs.Terminal.{logged_out, typed_to}
 use Rattle.g_world_laws.specs.Dumps.{dump_steps}
 use Rattle.g_world_laws.specs.Reels.{AreGrown, CompletedDumpsStay, IsGrown, ProcessLeavesLists}
-use Rattle.g_world.specs.Laws.{is_process, takes_process}
+use Rattle.g_world.specs.Laws.{takes_process}
 use Rattle.g_step.specs.Process.{ProcessStep}
 use Rattle.g_step.specs.ProcessLaws.{IsBefore, IsBehind, KeepsDumps, ProcessKeeps}
 use Rattle.std.specs.List.{AllZip}
@@ -144,7 +144,7 @@ turned_grows : (serial : ℕ) (b : Bool) (s : State) → (let t : State = record
 turned_grows serial b s = rows_with 0 serial (with_mounted b) (λ r. row_same 0 r (with_mounted b r) refl refl refl) s.reels
 
 -- A LINE
-line_grows : (o : Outcome) (what : Operator) (w new : World) → is_process (record { turn = 0; what = what }) ≡ false → LineGives o what w new → Grows 0 w.store new.store
+line_grows : (o : Outcome) (what : Operator) (w new : World) → is_process what ≡ false → LineGives o what w new → Grows 0 w.store new.store
 line_grows o (line.Process serial) w new isnt gives = absurd (false≢true (sym isnt))
 line_grows o line.Format w new isnt gives = rises_grows FormatStep (λ r. codes "FORMATTED") o w new (λ r s does. event_grows _ _ w.store _ r s (rows_itself 0 w.store.reels) does) w.store.up gives
 line_grows o line.Start w new isnt gives = rises_grows StartStep started_text o w new (λ r s does. start_grows w.store w.store.holding o r s does) w.store.up gives
@@ -229,9 +229,9 @@ same_holding k h e = cc
 
 module _ {F U : Type 0} (tariffs : Shared F (Bor Usage × Unit {0}) Charge) (tariff : F) (rules : Shared U (Bor Standing × Unit {0}) ℕ) (rule : U) where
   -- A MOVE
-  move_grows : (w new : World) (move : Move) → takes_process w move ≡ false → Step tariffs tariff rules rule w move new → Grows (dump_steps move) w.store new.store
+  move_grows : (w new : World) (move : Move) → takes_process move ≡ false → Step tariffs tariff rules rule w move new → Grows (dump_steps move) w.store new.store
   move_grows w new (TakeLine tape o) isnt (next, rest, lines, between, idle, due, is_tape, gives) =
-      line_grows o next.what (record w { lines = rest }) new (ap (λ (ls : List Timed). takes_process (record w { lines = ls }) (TakeLine tape o)) (sym lines) ∙ isnt) gives
+      line_grows o next.what (record w { lines = rest }) new (sym is_tape ∙ isnt) gives
   move_grows w new (Dumped o) isnt (between, idle, undue, dumping, (r, s, (k, d, holds, opened, step, says_so), is)) =
       at_state 1 w.store s new.store (ap (λ (x : World). x.store) is ∙ dump_store _ r s w) (step_grows d w.store k o r s step)
   move_grows w new (Begin number) isnt (idle, undue, ready, (place, job, chosen, there, number_is, is)) = quiet w new _ is refl
@@ -268,5 +268,5 @@ module _ {F U : Type 0} (tariffs : Shared F (Bor Usage × Unit {0}) Charge) (tar
       by false (plain, e) = inl (refused (line_refused NotStarted w) e refl)
 
   pub process_leaves : ProcessKeeps → ProcessLeavesLists tariffs tariff rules rule
-  process_leaves keeps w new o next lines serial k are is holds (head, rest, same, between, idle, due, gives) =
+  process_leaves keeps w new o next lines serial k are is holds (head, rest, same, between, idle, due, is_tape, gives) =
       leaves_lists keeps (record w { lines = rest }) new o head.what serial k (ap (λ (t : Timed). t.what) (same_head head next rest lines (sym same ∙ are)) ∙ is) holds gives

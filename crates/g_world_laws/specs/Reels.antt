@@ -1,6 +1,6 @@
 -- WHAT IS COMPLETED ON THE REELS STAYS: in every run without a PROCESS each reel keeps its completed dumps, in their order, and a step of a
 -- dump alone puts one behind them. A PROCESS leaves the lists of before, or its own dump on its reel, and of the others some released.
-use Rattle.std.specs.Prelude.{◌≡◌, ◌⊎◌, ℕ, ◌≤◌, false, List, [], ◌∷◌, ◌++◌, length, sum_by, Some}
+use Rattle.std.specs.Prelude.{◌≡◌, ◌⊎◌, ℕ, ◌≤◌, true, false, List, [], ◌∷◌, ◌++◌, length, sum_by, Some}
 use Rattle.std.specs.Fn.{Shared}
 use denote.Ref.{Bor}
 use Rattle.g_budget.specs.declared.tariff.Charge.{Charge}

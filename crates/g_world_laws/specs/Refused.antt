@@ -1,5 +1,5 @@
 -- LINES THAT ARE REFUSED while the system is down leave the tree; so behind a stop START has it, whatever was refused in between.
-use Rattle.std.specs.Prelude.{◌≡◌, ◌≢◌, ◌⊎◌, ℕ, true, false, List, [], ◌∷◌}
+use Rattle.std.specs.Prelude.{◌≡◌, ◌≢◌, ◌⊎◌, ℕ, Bool, true, false, List, [], ◌∷◌}
 use Rattle.std.specs.Fn.{Shared}
 use denote.Ref.{Bor}
 use Rattle.g_budget.specs.declared.tariff.Charge.{Charge}

@@ -131,7 +131,8 @@ pub fn filestores_stay<F: Fn(&Usage) -> Charge, U: Fn(&Standing) -> u64>()
     ensures devices { (tariff : F) (rule : U) → DevicesKeepFilestores F.Fn tariff U.Fn rule }
 {}
 
-/// Where the disc counted no failed write, no call and no line of a run was cut: a reel's failed write cuts a step of a dump alone.
+/// Where the disc counted no failed write, no call of a run was cut, and no line but a PROCESS: a reel's failed write cuts a step of a
+/// dump and a PROCESS alone.
 pub fn tapes_cut_no_call()
     ensures { TapesCutNoCall }
 {}
