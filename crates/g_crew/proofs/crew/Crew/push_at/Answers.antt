@@ -13,8 +13,7 @@ pub invariant_of-self-in-Ok : goal.invariant_of-self-in-Ok
 invariant_of-self-in-Ok c =
     let items = c.self.inside.jobs.items in
     let next : c.args.job.number ≡ c.self.inside.next_job = c.requires.next ∙ sym (ap (λ (v : CrewState). v.next_job) c.self.view_is) in
-    rw c.in-Ok.ensures.items
-    (
+    rw c.in-Ok.ensures.items (
       AreJobs-push items c.self.inside.next_job c.args.job c.self.invariant.0 (omega (arith, c.requires.few, ap (λ (v : CrewState). length v.jobs) c.self.view_is)) next c.requires.allowed,
       c.sit.ensures ∙ ap (λ (s : List Seat). s ++ seat_taken c.args.terminal c.self.inside.next_job ∷ []) (c.make_seats.ensures.same ∙ c.self.invariant.1)
           ∙ ap (λ (n : ℕ). seats_in items ++ seat_taken c.args.terminal n ∷ []) (sym next)
@@ -25,5 +24,4 @@ pub returns-clause-there : goal.returns-clause-there
 returns-clause-there c =
     let items = c.self.inside.jobs.items in
     let next : c.args.job.number ≡ c.self.inside.next_job = c.requires.next ∙ sym (ap (λ (v : CrewState). v.next_job) c.self.view_is) in
-    ap (job_in c.self.inside.next_job) c.in-Ok.ensures.items ∙ ap (λ (n : ℕ). job_in n (items ++ c.args.job ∷ [])) (sym next)
-    ∙ found-pushed 1 items c.self.inside.next_job c.args.job c.self.invariant.0.rise next
+    ?
