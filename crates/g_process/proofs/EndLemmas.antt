@@ -176,6 +176,9 @@ module _ (serial : ℕ) (old mid : Rack) (lists : List Listed) (listed : AreList
     pub l_taken : IsTaken l.serial old × (l.serial ≢ serial)
     l_taken = has_taken serial l.serial old mid lists listed.each (one_taken serial lists i l at taken_l)
 
+    pub l_there : Contains (map (λ (r : Reel). r.serial) old.reels) l.serial
+    l_there = subst (λ (ns : List ℕ). Contains ns l.serial) listed.serials (named_at lists i l at)
+
     pub part_below : (n : ℕ) → has (taken serial (take i lists)) n ≡ true → (n < l.serial) × (n ≢ serial)
     part_below n is =
         (before_less lists rising i l at n (in_taken serial n (take i lists) is), (has_taken serial n old mid (take i lists) (each_front old mid i lists listed.each) is).1)

@@ -50,7 +50,7 @@ use Rattle.g_process.proofs.ContentLemmas.{all_read, within_content}
 use Rattle.g_process.proofs.DumpLemmas.{begun, content_at, content_is_long, content_of, from_drop, from_take, one_dump}
 use Rattle.g_process.proofs.PlanLemmas.{plan_files, plan_waiting}
 use Rattle.g_process.proofs.DoneLemmas.{reels_read}
-use Rattle.g_process.proofs.EndLemmas.{all_above, all_below, all_free, all_zip, beside_zip, l_taken, left_long, names, part_below, part_free, part_zip, top_of}
+use Rattle.g_process.proofs.EndLemmas.{all_above, all_below, all_free, all_zip, beside_zip, l_taken, l_there, left_long, names, part_below, part_free, part_zip, top_of}
 use Rattle.g_process.proofs.ReelLemmas.{filled_long, filled_serial}
 use Rattle.g_process.proofs.ReleaseLemmas.{AreApart}
 use Rattle.g_process.proofs.TextLemmas.{source_part}
@@ -635,7 +635,7 @@ module _ (serial : ℕ) (o : OnlineFacts) (old mid : Rack) (live : o.live ≡ tr
                   exit_released (l.serial ∷ taken serial (take i lists)) (l.serial + 1) (Some l.serial) shelved_l
                   (λ n is. by_or n (or_cases (l.serial == n) (has (taken serial (take i lists)) n) is))
                   (λ r there less apart isnt. by_place r there less apart isnt (eqb_tells l.serial r.serial))
-                  (refl, (l_taken serial old mid lists listed are i l at taken_l).1, (l_taken serial old mid lists listed are i l at taken_l).0)
+                  (refl, (l_taken serial old mid lists listed are i l at taken_l).1, (l_taken serial old mid lists listed are i l at taken_l).0, l_there serial old mid lists listed are i l at taken_l)
                   (part_zip serial old mid lists listed are i l at taken_l (l.serial + 1) (Some l.serial) so.written other end.rack (omega arith) (omega arith) some
                   (λ r named. inr (omega (arith, named), inr (subst (λ (n : ℕ). IsTaken n old) (sym named) (l_taken serial old mid lists listed are i l at taken_l).0, inr (ap Some (sym named))))) becomes_l)
                 where

@@ -30,11 +30,11 @@ use Rattle.g_process.proofs.ContentLemmas.{at_content}
 use Rattle.g_process.proofs.DumpLemmas.{from_drop, get_below}
 
 -- a completed dump stands on its reel
-record IsThere (serial : ℕ) (blocks : List (List ℕ)) (d : Dump) : Type 0 where
-  on : d.serial ≡ serial
-  stands : StandsOn blocks d
+pub record IsThere (serial : ℕ) (blocks : List (List ℕ)) (d : Dump) : Type 0 where
+  pub on : d.serial ≡ serial
+  pub stands : StandsOn blocks d
 
-among : (serial : ℕ) (blocks : List (List ℕ)) (at from : ℕ) (ds : List Dump) → AreNext serial blocks at from ds → (d : Dump) → Contains ds d → IsThere serial blocks d
+pub among : (serial : ℕ) (blocks : List (List ℕ)) (at from : ℕ) (ds : List Dump) → AreNext serial blocks at from ds → (d : Dump) → Contains ds d → IsThere serial blocks d
 among serial blocks at from [] are d (i, inside, is) = absurd (let no : ⊥ = omega (arith, inside) in no)
 among serial blocks at from (e ∷ es) (one, more) d (zero, inside, is) = subst (IsThere serial blocks) is (record { on = one.on; stands = one.stands })
 among serial blocks at from (e ∷ es) (one, more) d (suc i, inside, is) = among serial blocks (ends e) (e.number + 1) es more d (i, omega (arith, inside), is)

@@ -1,6 +1,6 @@
 -- WHERE THE EVENT ENDED, over devices that tell and belong together: which completed dumps stand then, what the disc names, and what became
 -- of each reel. `text` and `shelf` are the bytes of the versions and the completed dumps before it.
-use Rattle.std.specs.Prelude.{◌≡◌, ◌≢◌, ◌⊎◌, ℕ, ◌+◌, ◌<◌, ◌≤◌, ◌==◌, true, not, ◌&&◌, nat_lt, List, [], All, IfSome, Option, Some, None, Result, Ok, Err, length, map, take, slice_get, if◌then◌else◌}
+use Rattle.std.specs.Prelude.{◌≡◌, ◌≢◌, ◌⊎◌, ℕ, ◌+◌, ◌<◌, ◌≤◌, ◌==◌, true, not, ◌&&◌, nat_lt, List, [], All, Contains, IfSome, Option, Some, None, Result, Ok, Err, length, map, take, slice_get, if◌then◌else◌}
 use Rattle.std.specs.List.{AllZip}
 use Rattle.std.specs.Option.{ForSome}
 use Rattle.g_base.specs.Block.{IsBlock, blocks_for}
@@ -63,7 +63,7 @@ IsClearedBy serial until cut old r q =
 
 -- the release that was cut is the last one
 abbrev pub IsLastCut : ℕ → ℕ → Rack → Option ℕ → Type 0
-IsLastCut serial until old cut = IfSome cut (λ n. (until ≡ n + 1) × (n ≢ serial) × IsTaken n old)
+IsLastCut serial until old cut = IfSome cut (λ n. (until ≡ n + 1) × (n ≢ serial) × IsTaken n old × Contains (map (λ r. r.serial) old.reels) n)
 
 -- the new dump
 abbrev pub new_dump : ℕ → OnlineFacts → List (List ℕ) → Dump

@@ -10,6 +10,7 @@ pub mod MakeLemmas
 mod MigrateLemmas
 mod MigratedLemmas
 pub mod MountLemmas
+mod MovedLemmas
 mod NameLemmas
 mod NamedLemmas
 mod NotedLemmas
@@ -17,6 +18,10 @@ mod OffLemmas
 pub mod OpenedLemmas
 mod OwnPlaceLemmas
 mod ProcessedLemmas
+mod ProcessedRowsLemmas
+mod ProcessedStepLemmas
+mod ProcessedTreeLemmas
+mod ProcessingLemmas
 mod RestoreLemmas
 mod RestoredLemmas
 mod ShelvesLemmas

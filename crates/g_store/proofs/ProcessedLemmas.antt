@@ -36,6 +36,9 @@ early_cases false None true b n fault is = subst IsEarly (same_Some (DumpOpen n)
 early_cases false None false true n fault is = subst IsEarly (same_Some CountersSpent fault is) tt
 early_cases false None false false n fault is = absurd (none-some fault is)
 
+pub is_early : (serial : ℕ) (s : StoreFacts) (fault : StoreFault) → process_refuses serial s ≡ Some fault → IsEarly fault
+is_early serial s fault is = early_cases (is_none (reel serial s.rack.reels)) (first_unmounted s.rack.reels) (is_some s.dump) (s.online.contents.head.last_dump == 2 ^ 62 - 1) (open_number s.dump) fault is
+
 none_open : (a : Bool) (u : Option ℕ) (d b : Bool) (n : ℕ) → first_fault ((a, NoTape) ∷ fault_from RackNotMounted u ∷ (d, DumpOpen n) ∷ (b, CountersSpent) ∷ []) ≡ None → d ≡ false
 none_open true u d b n is = absurd (let no : ⊥ = cc in no)
 none_open false (Some m) d b n is = absurd (let no : ⊥ = cc in no)
@@ -87,7 +90,7 @@ same_reels (r ∷ rs) = ((refl, refl, refl), same_reels rs)
 
 pub process_early : (serial : ℕ) (s : StoreFacts) (fault : StoreFault) → IsStore s → s.spent ≡ false → process_refuses serial s ≡ Some fault → (let r : Result ℕ StoreFault = Err fault in Processes serial s r s)
 process_early serial s fault is_store running is =
-    let early : IsEarly fault = early_cases (is_none (reel serial s.rack.reels)) (first_unmounted s.rack.reels) (is_some s.dump) (s.online.contents.head.last_dump == 2 ^ 62 - 1) (open_number s.dump) fault is in
+    let early : IsEarly fault = is_early serial s fault is in
     let never : IsLate fault → ⊥ = never_late fault early in
     record {
       refused = λ other is_other. (ap (λ (x : StoreFault). let r : Result ℕ StoreFault = Err x in r) (same_Some fault other (sym is ∙ is_other)), refl);
@@ -131,11 +134,19 @@ stop_is fault o rack = refl
 
 module _ (serial : ℕ) (s : StoreFacts) (o : OnlineFacts) (rack : Rack) (dump : Option DumpFacts) (spent : Bool) (view : (let v : StoreFacts = record { online = o; rack = rack; dump = dump; spent = spent } in v ≡ s))
     (running : s.spent ≡ false) (none : process_refuses serial s ≡ None) where
-  was : s ≡ up_with o rack None
+  pub was : s ≡ up_with o rack None
   was =
       let no_open : dump ≡ None = ap (λ (x : StoreFacts). x.dump) view ∙ not_open serial s none in
       let up_is : spent ≡ false = ap (λ (x : StoreFacts). x.spent) view ∙ running in
       sym view ∙ stored o rack dump spent no_open up_is
+
+  pub ok_store : (o' : OnlineFacts) (rack' : Rack) → (let t : StoreFacts = record { online = o'; rack = rack'; dump = dump; spent = spent } in t ≡ up_with o' rack' None)
+  ok_store o' rack' = stored o' rack' dump spent (ap (λ (x : StoreFacts). x.dump) view ∙ not_open serial s none) (ap (λ (x : StoreFacts). x.spent) view ∙ running)
+
+  pub err_store : (o' : OnlineFacts) (rack' : Rack) (fault : StoreFault) (stop : Bool) → stop ≡ is_stop_at fault
+      → (let r : Result ℕ StoreFault = Err fault in let t : StoreFacts = record { online = o'; rack = rack'; dump = dump; spent = stop } in t ≡ behind_process r o' rack')
+  err_store o' rack' fault stop stop_is_so =
+      ap (λ (d : Option DumpFacts). store_of o' rack' d stop) (ap (λ (x : StoreFacts). x.dump) view ∙ not_open serial s none) ∙ ap (λ (b : Bool). store_of o' rack' None b) stop_is_so ∙ stop_is fault o' rack'
 
   pub process_ok : (o' : OnlineFacts) (rack' : Rack) (number : ℕ) → (let r : Result ℕ StoreFault = Ok number in Processes serial (up_with o rack None) r (up_with o' rack' None))
       → (let r : Result ℕ StoreFault = Ok number in let t : StoreFacts = record { online = o'; rack = rack'; dump = dump; spent = spent } in Processes serial s r t)

@@ -1,6 +1,7 @@
 //! All versions onto one reel.
 ghost use Rattle.std.specs.Prelude.{◌≡◌, false};
 ghost use Rattle.g_process.specs.Processing.{Processes, process_refuses};
+ghost use Rattle.g_store.specs.Processing.{MovesDumps, StepsProcess};
 
 use crate::dumping::is_stop;
 use crate::store::Store;
@@ -22,7 +23,9 @@ impl<D: Disc, T: Tapes> Store<D, T> {
     /// couldn't be read, and the new intent is on the disc. `Stopped`: a write of the disc or of a tape failed.
     pub fn process(&mut self, alloc: Global, serial: u32) -> Result<u64, StoreFault>
         requires running { self.old.spent ≡ false }
-        ensures { Processes serial self.old result self.new }
+        ensures processes { Processes serial self.old result self.new }
+        ensures step { StepsProcess serial self.old result self.new }
+        ensures dumps { MovesDumps self.old self.new }
     {
         match self.process_refused(serial) {
             Some(fault) => return Err(fault),
