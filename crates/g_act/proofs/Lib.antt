@@ -13,6 +13,7 @@ pub mod RunLemmas
 pub mod SayLemmas
 pub mod SpokenLemmas
 pub mod StepLemmas
+pub mod TypingLemmas
 pub mod UnitLemmas
 pub mod UnitsLemmas
 pub mod UseLemmas

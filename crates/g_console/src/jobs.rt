@@ -84,7 +84,12 @@ fn take_job<K: Sink, D: Disc, T: Tapes>(
 }
 
 /// Tells why a job isn't taken in; of want of memory nothing.
-pub(crate) fn turned_away<K: Sink>(alloc: Global, count: u64, why: NotTaken, out: &mut K) -> Option<Failure>
+pub(crate) fn turned_away<K: Sink>(
+    alloc: Global,
+    count: u64,
+    why: NotTaken,
+    out: &mut K,
+) -> Option<Failure>
     ensures { TellsWhy why count result (K.written out.old) (K.written out.new) (K.faults out.old) (K.faults out.new) }
 {
     match why {

@@ -24,7 +24,8 @@ use crate::stopping::{fails, stopped};
 use crate::system::System;
 use g_base::NoMemory;
 use g_crew::{
-    Crew, NewLogin, NotSeated, NotTyped, push_busy, push_no_terminal, push_operator_line, terminal_name,
+    Crew, NewLogin, NotSeated, NotTyped, push_busy, push_no_terminal, push_operator_line,
+    terminal_name,
 };
 use g_disc::Disc;
 use g_io::Sink;

@@ -1,16 +1,16 @@
 -- The seats of the jobs: what each change of the jobs makes of them, and who sits where.
 use Rattle.std.proofs.Common.{◌≡◌, ◌∙◌, ◌==◌, ◌++◌, ◌∷◌, ◌&&◌, [], Bool, List, None, Option, Some, ap, append-nil, cond, eq-eqb, eqb-true, false, filter, map, not, refl, set, slice_get, subst, suc, sym, true, zero, ℕ}
-use Rattle.std.specs.Prelude.{find, is_some, if◌then◌else◌}
+use Rattle.std.specs.Prelude.{Err, Ok, OnOk, Result, find, is_some, if◌then◌else◌}
 use Rattle.std.proofs.lemmas.Option.{none-some, same_Some}
 use Rattle.g_job.specs.State.{JobState}
-use Rattle.g_job.specs.Terminal.{logged_out}
+use Rattle.g_job.specs.Terminal.{logged_out, typed_to}
 use Rattle.g_mop.specs.Seats.{AreSeats, job_in_seat, left_at, seat_at, seat_taken, without_seat}
 use Rattle.g_mop.specs.declared.seat.Seat.{Seat}
 use Rattle.g_world.specs.Lines.{is_terminal, job_at, open_at, sits_at}
 use Rattle.g_world.specs.World.{without_job}
 use Rattle.g_crew.specs.Numbers.{AreJobs, job_in}
 use Rattle.g_crew.specs.Seating.{seated_before, seats_in}
-use Rattle.g_crew.proofs.NumberLemmas.{IsOnly-at}
+use Rattle.g_crew.proofs.NumberLemmas.{AreJobs-set, IsOnly-at}
 
 -- A JOB BEHIND THE OTHERS has the last seat, if it has one
 before_append : (o : Option ℕ) (number : ℕ) (held : Bool) (xs ys : List Seat) → seated_before o number held (xs ++ ys) ≡ seated_before o number held xs ++ ys
@@ -64,17 +64,14 @@ seats-set (m ∷ jobs) (suc place) j k there terminal number held =
     ap (seated_before m.terminal m.number m.desk.levels.held) (seats-set jobs place j k there terminal number held)
 
 -- WHO SITS AT A TERMINAL: the seat that is kept is that of the first job there
+seat_by : (b : Bool) (s : Seat) (rest : Option Seat) → cond b (Some s) rest ≡ cond b (cond b (Some s) None) rest
+seat_by true s rest = refl
+seat_by false s rest = refl
+
 seat_before : (t : ℕ) (o : Option ℕ) (number : ℕ) (held : Bool) (seats : List Seat)
     → seat_at t (seated_before o number held seats) ≡ cond (is_terminal t o) (seat_at t (seated_before o number held [])) (seat_at t seats)
 seat_before t None number held seats = refl
-seat_before t (Some x) number held seats = by (x == t)
-  where
-    abbrev s : Seat
-    s = record { terminal = x; job = number; out = not held }
-
-    by : (b : Bool) → cond b (Some s) (seat_at t seats) ≡ cond b (cond b (Some s) None) (seat_at t seats)
-    by true = refl
-    by false = refl
+seat_before t (Some x) number held seats = seat_by (x == t) (record { terminal = x; job = number; out = not held }) (seat_at t seats)
 
 some_both : (b : Bool) (x y : Option Seat) (j : JobState) (z : Option JobState) → (b ≡ true → is_some x ≡ true) → is_some y ≡ is_some z → is_some (cond b x y) ≡ is_some (cond b (Some j) z)
 some_both true x y j z here there = here refl
@@ -95,7 +92,7 @@ busy-is t (j ∷ jobs) =
 pub record SitsOpen (t number : ℕ) (jobs : List JobState) : Type 0 where
   pub job : JobState
   pub place : ℕ
-  pub open : open_at t jobs ≡ Some job
+  pub found : open_at t jobs ≡ Some job
   pub there : slice_get jobs place ≡ Some job
   pub named : job.number ≡ number
   pub seat : job.terminal ≡ Some t
@@ -108,7 +105,7 @@ module _ (t number : ℕ) (j : JobState) (jobs : List JobState) where
   open_later sits off = record {
     job = sits.job;
     place = suc sits.place;
-    open = ap (λ (b : Bool). cond b (Some j) (open_at t jobs)) off ∙ sits.open;
+    found = ap (λ (b : Bool). cond b (Some j) (open_at t jobs)) off ∙ sits.found;
     there = sits.there;
     named = sits.named;
     seat = sits.seat;
@@ -123,7 +120,7 @@ module _ (t number : ℕ) (j : JobState) (jobs : List JobState) where
   open_here x true o h true e is rest = record {
     job = j;
     place = 0;
-    open = ap (λ (b : Bool). cond b (Some j) (open_at t jobs)) (ap (λ (p : Option ℕ). is_terminal t p && j.desk.levels.held) o ∙ ap (λ (b : Bool). b && j.desk.levels.held) e ∙ h);
+    found = ap (λ (b : Bool). cond b (Some j) (open_at t jobs)) (ap (λ (p : Option ℕ). is_terminal t p && j.desk.levels.held) o ∙ ap (λ (b : Bool). b && j.desk.levels.held) e ∙ h);
     there = refl;
     named = same_Some j.number number is;
     seat = o ∙ ap (λ (n : ℕ). let p : Option ℕ = Some n in p) (eqb-true x t e);
@@ -202,14 +199,11 @@ module _ (t : ℕ) (seats : List Seat) where
   left_other : (o : Option ℕ) (number : ℕ) (held : Bool) → is_some (seat_at t seats) ≡ true → AreSeats (seated_before o number held seats)
       → seated_before o number held (map (left_at t) seats) ≡ map (left_at t) (seated_before o number held seats)
   left_other None number held there are = refl
-  left_other (Some x) number held there are = by (x == t) refl
+  left_other (Some x) number held there are = by (x == t) refl (record { terminal = x; job = number; out = not held })
     where
-      abbrev s : Seat
-      s = record { terminal = x; job = number; out = not held }
-
-      by : (b : Bool) → (x == t) ≡ b → s ∷ map (left_at t) seats ≡ (if b then record s { out = true } else s) ∷ map (left_at t) seats
-      by true e = some_none (seat_at t seats) there (subst (λ (n : ℕ). seat_at n seats ≡ None) (eqb-true x t e) are.2)
-      by false e = refl
+      by : (b : Bool) → (x == t) ≡ b → (s : Seat) → s ∷ map (left_at t) seats ≡ (if b then record s { out = true } else s) ∷ map (left_at t) seats
+      by true e s = some_none (seat_at t seats) there (subst (λ (n : ℕ). seat_at n seats ≡ None) (eqb-true x t e) are.2)
+      by false e s = refl
 
   tail_are : (o : Option ℕ) (number : ℕ) (held : Bool) → AreSeats (seated_before o number held seats) → AreSeats seats
   tail_are None number held are = are
@@ -239,4 +233,56 @@ open-at t number jobs next place j are is there named =
     let here = IsOnly-at 1 jobs next place j are.rise there in
     let there' = IsOnly-at 1 jobs next sits.place sits.job are.rise sits.there in
     let same : sits.job ≡ j = same_Some sits.job j (sym there'.found ∙ ap (λ (n : ℕ). job_in n jobs) (sits.named ∙ sym named) ∙ here.found) in
-    (sits.open ∙ ap (λ (x : JobState). let o : Option JobState = Some x in o) same, ap (λ (x : JobState). x.terminal) (sym same) ∙ sits.seat)
+    (sits.found ∙ ap (λ (x : JobState). let o : Option JobState = Some x in o) same, ap (λ (x : JobState). x.terminal) (sym same) ∙ sits.seat)
+
+module _ (t : ℕ) (jobs : List JobState) (seats : List Seat) (same : seats ≡ seats_in jobs) where
+  abbrev kept_there : Option ℕ
+  kept_there = job_in_seat (seat_at t (seats_in jobs))
+
+  pub kept-is : (o : Option ℕ) → o ≡ job_in_seat (seat_at t seats) → kept_there ≡ o
+  kept-is o is = ap (λ (s : List Seat). job_in_seat (seat_at t s)) (sym same) ∙ sym is
+
+  pub nobody-there : AreSeats seats → (o : Option ℕ) → o ≡ None → o ≡ job_in_seat (seat_at t seats) → open_at t jobs ≡ None
+  nobody-there are o none is = open-none t jobs (subst AreSeats same are) (kept-is o is ∙ none)
+
+  pub somebody-there : (number next : ℕ) → AreJobs jobs next → (let o : Option ℕ = Some number in o ≡ job_in_seat (seat_at t seats)) → job_in number jobs ≡ None → ⊥
+  somebody-there number next are is none =
+      let sits = open-some t number jobs (kept-is (Some number) is) in
+      let only = IsOnly-at 1 jobs next sits.place sits.job are.rise sits.there in
+      none-some sits.job (sym none ∙ ap (λ (n : ℕ). job_in n jobs) (sym sits.named) ∙ only.found)
+
+-- A JOB IN ITS PLACE that is like it, as far as the crew's rules go
+pub record IsLike (j k : JobState) : Type 0 where
+  pub number : k.number ≡ j.number
+  pub allowance : k.allowance ≡ j.allowance
+  pub terminal : k.terminal ≡ j.terminal
+  pub held : k.desk.levels.held ≡ j.desk.levels.held
+
+pub like-itself : (j k : JobState) → k ≡ j → IsLike j k
+like-itself j k is = subst (λ (x : JobState). IsLike j x) (sym is) (record { number = refl; allowance = refl; terminal = refl; held = refl })
+
+pub like-typed : (line : List ℕ) (j k : JobState) → k ≡ typed_to line j → IsLike j k
+like-typed line j k is = subst (λ (x : JobState). IsLike j x) (sym is) (record { number = refl; allowance = refl; terminal = refl; held = refl })
+
+pub kept-set : (jobs : List JobState) (next place : ℕ) (j k : JobState) (seats : List Seat) → AreJobs jobs next × (seats ≡ seats_in jobs) → slice_get jobs place ≡ Some j → IsLike j k
+    → AreJobs (set jobs place k) next × (seats ≡ seats_in (set jobs place k))
+kept-set jobs next place j k seats (are, same) there like =
+    (AreJobs-set jobs next place j k are there like.number like.allowance, same ∙ sym (seats-set jobs place j k there like.terminal like.number like.held))
+
+-- one that is logged out
+pub left-set : (t : ℕ) (jobs : List JobState) (next place : ℕ) (j k : JobState) (seats new : List Seat) → AreJobs jobs next × (seats ≡ seats_in jobs) → AreSeats seats → new ≡ map (left_at t) seats → slice_get jobs place ≡ Some j
+    → j.terminal ≡ Some t → k ≡ logged_out j → AreJobs (set jobs place k) next × (new ≡ seats_in (set jobs place k))
+left-set t jobs next place j k seats new (are, same) apart left there seat is = (
+  AreJobs-set jobs next place j k are there (ap (λ (x : JobState). x.number) is) (ap (λ (x : JobState). x.allowance) is),
+  left ∙ ap (map (left_at t)) same ∙ sym (seats-left t jobs place j (subst AreSeats same apart) there seat) ∙ ap (λ (x : JobState). seats_in (set jobs place x)) (sym is),
+)
+
+pub set-itself : (jobs : List JobState) (place : ℕ) (j : JobState) → slice_get jobs place ≡ Some j → set jobs place j ≡ jobs
+set-itself [] place j there = absurd (none-some j there)
+set-itself (m ∷ jobs) zero j there = ap (λ (x : JobState). x ∷ jobs) (sym (same_Some m j there))
+set-itself (m ∷ jobs) (suc place) j there = ap (λ (more : List JobState). m ∷ more) (set-itself jobs place j there)
+
+-- what holds of an answer that is Ok
+pub ok-then : {A E : Type 0} (r : Result A E) {X Y : Type 0} → (X → Y) → OnOk r X → OnOk r Y
+ok-then (Ok a) f x = f x
+ok-then (Err e) f x = x

@@ -7,8 +7,8 @@ ghost use Rattle.g_world.specs.Texts.{broken_files, put_as, waiting_files, waiti
 use crate::crew::Crew;
 use g_base::NoMemory;
 use g_job::Job;
-use g_mop::push_mark;
 use g_monitor::push_number;
+use g_mop::push_mark;
 use g_name::Text;
 use std::alloc::Global;
 

@@ -34,7 +34,7 @@ impl Crew {
           next_job = self.old.next_job + 1;
         })) }
         ensures there { IfOk result (λ number. job_in number self.new.jobs
-          ≡ Some (terminal_job self.old.next_job login.terminal login.user login.time)) }
+            ≡ Some (terminal_job self.old.next_job login.terminal login.user login.time)) }
         ensures err { OnErr result (self.new ≡ self.old) }
     {
         match self.login_refusal(known, &login) {
@@ -76,7 +76,7 @@ impl Crew {
           next_job = self.old.next_job + 1;
         })) }
         ensures there { IfOk result (λ number. job_in number self.new.jobs
-          ≡ Some (terminal_job self.old.next_job login.terminal login.user login.time)) }
+            ≡ Some (terminal_job self.old.next_job login.terminal login.user login.time)) }
         ensures err { OnErr result (self.new ≡ self.old) }
     {
         let terminal = login.terminal;
@@ -152,7 +152,7 @@ impl Crew {
     pub fn push_shown(&self, text: &mut Text, number: u64, before: usize) -> Result<(), NoMemory>
         requires there { (job : JobState) × (job_in number self.now.jobs ≡ Some job) }
         ensures { OnOk result ((job : JobState) → job_in number self.now.jobs ≡ Some job
-          → text.new ≡ text.old ++ pushed_of job before) }
+            → text.new ≡ text.old ++ pushed_of job before) }
     {
         let Some(place) = place_of(self.jobs(), number) else {
             unreachable!()

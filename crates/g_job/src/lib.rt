@@ -12,7 +12,7 @@ mod turn;
 pub use job::Job;
 pub use laws::{
     lines_are_lines_of_programs, turns_are_asked_of_a_plain_tree, turns_come_to_one_end,
-    turns_keep_the_document, turns_keep_the_rules, turns_keep_their_limits, turns_leave_their_store,
-    turns_say_why_they_are_over,
+    turns_keep_the_document, turns_keep_the_rules, turns_keep_their_limits,
+    turns_leave_their_store, turns_say_why_they_are_over,
 };
 pub use turn::Turn;

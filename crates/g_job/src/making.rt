@@ -40,11 +40,15 @@ impl Job {
             who: &self.user,
             room,
         };
-        let gone = self.work.go(store, &asker, again);
-        self.ready = self.work.ready();
-        match gone {
-            Ok(()) => Ok(self.work.take_made(alloc)),
-            Err(NoMemory) => Err(NoMemory),
+        match self.work.go(store, &asker, again) {
+            Ok(()) => {
+                self.ready = self.work.ready();
+                Ok(self.work.take_made(alloc))
+            }
+            Err(NoMemory) => {
+                self.ready = self.work.ready();
+                Err(NoMemory)
+            }
         }
     }
 }

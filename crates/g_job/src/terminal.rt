@@ -30,10 +30,17 @@ impl Job {
         ensures ok { OnOk result (self.new ≡ terminals.typed_to line self.old) }
         ensures err { OnErr result (self.new ≡ self.old) }
     {
-        let ready = self.ready || self.work.ready_with(line.as_slice());
+        let ready = self.ready_with(line.as_slice());
         self.work.add_line(line)?;
         self.ready = ready;
         Ok(())
+    }
+
+    /// Whether the job is ready with this line behind those of its document, of which no other is looked at.
+    fn ready_with(&self, line: &[u8]) -> bool
+        ensures { result ≡ terminals.is_ready (terminals.typed_to line.now self.now) }
+    {
+        self.ready || self.work.ready_with(line)
     }
 
     /// No more lines are to come: the job ends as any other does.

@@ -17,4 +17,6 @@ mod rows;
 #[cfg(test)]
 mod running;
 #[cfg(test)]
+mod typed;
+#[cfg(test)]
 mod whole;

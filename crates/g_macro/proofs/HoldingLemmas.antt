@@ -1,7 +1,10 @@
 -- A document that is held open: it is the last of the levels, which the code keeps first.
-use Rattle.std.proofs.Common.{Bool, List, [], ap, arith, drop, false, get_or, le-leb, le-ltb, length, lt-ltb, not, refl, reverse, set, sym, take_all, true, ℕ, ⊎_elim, ◌&&◌, ◌||◌, ◌++◌, ◌<◌, ◌∙◌, ◌∷◌, ◌≡◌, ◌≤◌, ◌==◌}
-use Rattle.std.proofs.lemmas.Bool.{cases_lt, false≢true, lt-leb}
-use Rattle.std.proofs.lemmas.List.{drop-drop, reverse-append}
+use Rattle.std.proofs.Common.{Bool, List, [], ap, arith, drop, drop_of_length-le, false, get_or, if◌then◌else◌, le-leb, le-ltb, length, length-append, lt-ltb, not, None, Option, Some, refl, reverse, set, slice_get, subst, sym, take_all, true, ℕ, ⊎_elim, ◌&&◌, ◌||◌, ◌++◌, ◌+◌, ◌<◌, ◌∙◌, ◌∷◌, ◌≡◌, ◌≤◌, ◌==◌}
+use Rattle.std.proofs.Math.ListN.{get_or-append}
+use Rattle.std.proofs.Math.Seq.{get_or-append_seam}
+use Rattle.std.proofs.lemmas.Bool.{cases_lt, false≢true, lt-leb, ltb-false, ltb-true}
+use Rattle.std.proofs.lemmas.List.{drop-append-le, drop-drop, reverse-append}
+use Rattle.std.proofs.lemmas.List.Folds.{list_any-append}
 use Rattle.std.proofs.lemmas.List.Sorted.{IsPermutation-reverse, list_any-IsPermutation}
 use Rattle.std.specs.List.{list_any}
 use Rattle.std.specs.Prelude.{nat_le}
@@ -11,8 +14,8 @@ use Rattle.g_lines.specs.Lines.{lines_of}
 use Rattle.g_macro.proofs.FrontLemmas.{expand-plain}
 use Rattle.g_macro.specs.Expansion.{substituted}
 use Rattle.g_macro.specs.Fronts.{Holds}
-use Rattle.g_macro.specs.Holding.{is_closed, line_added, line_ready, some_ready, takes_input, with_document, with_typed}
-use Rattle.g_macro.specs.Levels.{Level, Stack, as_taken, has_line, is_closing, line_at, lines_left}
+use Rattle.g_macro.specs.Holding.{are_ready, is_closed, line_added, line_ready, some_ready, takes_input, with_document, with_typed}
+use Rattle.g_macro.specs.Levels.{Level, Stack, as_taken, has_line, is_closing, is_last, line_at, lines_left}
 use Rattle.g_macro.specs.declared.expansion.Front.{Front}
 
 -- another document below the levels
@@ -80,3 +83,115 @@ input_unfilled params line short none = ap (λ (text : List ℕ). takes_input (a
 pub ready_by : (level : Level) (input closed : Bool) → has_line level ≡ true → input ≡ takes_input (as_taken (substituted level.params (line_at level))) → closed ≡ is_closed level
     → (not input || closed) ≡ line_ready level
 ready_by level input closed has takes closes = rw (has, takes, closes) refl
+
+-- A LINE BEHIND THE OTHERS: the next line is the same one, where there was one, and else this
+more_lines : (level : Level) (line : List ℕ) → level.taken ≤ length level.lines → has_line (line_added line level) ≡ true
+more_lines level line within = let more = length-append level.lines (line ∷ []) in lt-ltb level.taken (length (level.lines ++ line ∷ [])) (omega (arith, within, more))
+
+nothing_behind : (level : Level) (line : List ℕ) → level.taken ≡ length level.lines → is_closed (line_added line level) ≡ false
+nothing_behind level line over =
+    let more = length-append level.lines (line ∷ []) in
+    ap (list_any is_closing) (drop_of_length-le (level.lines ++ line ∷ []) (omega (arith, over, more)))
+
+or_false : (b : Bool) → (b || false) ≡ b
+or_false true = refl
+or_false false = refl
+
+pub ready_new : (level : Level) (line : List ℕ) (input : Bool) → level.taken ≤ length level.lines → has_line level ≡ false → input ≡ takes_input (as_taken (substituted level.params line))
+    → not input ≡ line_ready (line_added line level)
+ready_new level line input within none takes =
+    let over : level.taken ≡ length level.lines = (let most : length level.lines ≤ level.taken = ltb-false level.taken (length level.lines) none in omega (arith, within, most)) in
+    let next : line_at (line_added line level) ≡ line = ap (λ (n : ℕ). get_or (level.lines ++ line ∷ []) n []) over ∙ get_or-append_seam level.lines line [] [] in
+    sym (or_false (not input))
+    ∙ ready_by (line_added line level) input false (more_lines level line within)
+    (takes ∙ ap (λ (text : List ℕ). takes_input (as_taken (substituted level.params text))) (sym next)) (sym (nothing_behind level line over))
+
+-- whether the next line takes a document
+abbrev input_next : Level → Bool
+input_next level = takes_input (as_taken (substituted level.params (line_at level)))
+
+more_ready : (level : Level) (line : List ℕ) → has_line level ≡ true → line_ready (line_added line level) ≡ (not (input_next level) || (is_closed level || is_closing line))
+more_ready level line has =
+    let less : level.taken < length level.lines = ltb-true level.taken (length level.lines) has in
+    let next : line_at (line_added line level) ≡ line_at level = get_or-append level.lines (line ∷ []) [] level.taken less in
+    let closes : is_closed (line_added line level) ≡ (is_closed level || is_closing line) =
+    ap (list_any is_closing) (drop-append-le (level.taken + 1) level.lines (line ∷ []) (omega (arith, less)))
+    ∙ list_any-append is_closing (drop (level.taken + 1) level.lines) (line ∷ []) ∙ ap (λ (b : Bool). is_closed level || b) (or_false (is_closing line)) in
+    sym (ready_by (line_added line level) (input_next level) (is_closed level || is_closing line) (more_lines level line (omega (arith, less)))
+    (ap (λ (text : List ℕ). takes_input (as_taken (substituted level.params text))) (sym next)) (sym closes))
+
+closed_by : (input closed closing : Bool) → (not input || closed) ≡ false → closing ≡ (not input || (closed || closing))
+closed_by true true closing waits = absurd (false≢true (sym waits))
+closed_by true false closing waits = refl
+closed_by false closed closing waits = absurd (false≢true (sym waits))
+
+pub ready_closed : (level : Level) (line : List ℕ) → line_ready level ≡ false → has_line level ≡ true → is_closing line ≡ line_ready (line_added line level)
+ready_closed level line waits has =
+    closed_by (input_next level) (is_closed level) (is_closing line) (ready_by level (input_next level) (is_closed level) has refl refl ∙ waits) ∙ sym (more_ready level line has)
+
+-- what was ready stays so
+stays_by : (input closed closing : Bool) → (not input || closed) ≡ true → (not input || (closed || closing)) ≡ true
+stays_by true true closing ready = refl
+stays_by true false closing ready = absurd (false≢true ready)
+stays_by false closed closing ready = refl
+
+both_of : (a b : Bool) → (a && b) ≡ true → (a ≡ true) × (b ≡ true)
+both_of true b is = (refl, is)
+both_of false b is = absurd (false≢true is)
+
+ready_stays : (level : Level) (line : List ℕ) → line_ready level ≡ true → line_ready (line_added line level) ≡ true
+ready_stays level line ready =
+    let parts = both_of (has_line level) (not (input_next level) || is_closed level) ready in
+    more_ready level line parts.0 ∙ stays_by (input_next level) (is_closed level) (is_closing line) parts.1
+
+not_last : (change : Level → Level) (level : Level) (below : List Level) → is_last (with_document change (level ∷ below)) ≡ false
+not_last change level [] = refl
+not_last change level (other ∷ below) = refl
+
+above_ready : (level other : Level) (below : List Level) (change : Level → Level)
+    → some_ready (level ∷ with_document change (other ∷ below)) ≡ (has_line level || some_ready (with_document change (other ∷ below)))
+above_ready level other below change =
+    ap (λ (b : Bool). if b then line_ready level else has_line level || some_ready (with_document change (other ∷ below))) (not_last change other below)
+
+some_stays : (line : List ℕ) (levels : List Level) → some_ready levels ≡ true → some_ready (with_document (line_added line) levels) ≡ true
+some_stays line [] ready = absurd (false≢true ready)
+some_stays line (level ∷ []) ready = ready_stays level line ready
+some_stays line (level ∷ other ∷ below) ready = above_ready level other below (line_added line) ∙ by (has_line level) ready (some_stays line (other ∷ below))
+  where
+    by : (b : Bool) → (b || some_ready (other ∷ below)) ≡ true → (some_ready (other ∷ below) ≡ true → some_ready (with_document (line_added line) (other ∷ below)) ≡ true)
+        → (b || some_ready (with_document (line_added line) (other ∷ below))) ≡ true
+    by true is rest = refl
+    by false is rest = rest is
+
+pub are_ready_stays : (line : List ℕ) (s : Stack) → are_ready s ≡ true → are_ready (with_typed line s) ≡ true
+are_ready_stays line s ready = by s.held ready
+  where
+    by : (held : Bool) → (not held || some_ready s.levels) ≡ true → (not held || some_ready (with_document (line_added line) s.levels)) ≡ true
+    by true is = some_stays line s.levels is
+    by false is = refl
+
+-- levels that aren't ready are so by their document alone
+neither_of : (a b : Bool) → (a || b) ≡ false → (a ≡ false) × (b ≡ false)
+neither_of true b is = absurd (false≢true (sym is))
+neither_of false b is = (refl, is)
+
+pub typed_ready : (document : Level) (above : List Level) (held : Bool) (line : List ℕ) (now : Stack) → record { levels = reverse (document ∷ above); held = held } ≡ now
+    → are_ready now ≡ false → (line_ready document ≡ false) × (line_ready (line_added line document) ≡ are_ready (with_typed line now))
+typed_ready document above held line now was waits =
+    let parts = neither_of (not held) (some_ready (reverse (document ∷ above))) (ap are_ready was ∙ waits) in
+    let levels = neither_of (list_any has_line above) (line_ready document) (sym (ready_last document above) ∙ parts.1) in (
+      levels.1,
+      ap (λ (b : Bool). b || line_ready (line_added line document)) (sym levels.0) ∙ sym (ready_last (line_added line document) above)
+          ∙ ap some_ready
+          (reverse-append (line_added line document ∷ []) above ∙ sym (with_document-last (line_added line) (reverse above) document)
+          ∙ ap (with_document (line_added line)) (sym (reverse-append (document ∷ []) above)))
+          ∙ ap (λ (b : Bool). b || some_ready (with_document (line_added line) (reverse (document ∷ above)))) (sym parts.0) ∙ ap (λ (s : Stack). are_ready (with_typed line s)) was,
+    )
+
+pub typed_first : (items : List Level) (held : Bool) (document : Level) (line : List ℕ) (now : Stack) → record { levels = reverse items; held = held } ≡ now → Some document ≡ slice_get items 0
+    → are_ready now ≡ false → (line_ready document ≡ false) × (line_ready (line_added line document) ≡ are_ready (with_typed line now))
+typed_first [] held document line now was is waits =
+    absurd (let one : Option Level = Some document in let none : Option Level = None in let same : one ≡ none = is in let never : ⊥ = cc in never)
+typed_first (level ∷ above) held document line now was is waits =
+    let same : level ≡ document = (let one : Option Level = Some document in let other : Option Level = Some level in let both : one ≡ other = is in let back : level ≡ document = cc in back) in
+    subst (λ (x : Level). (line_ready x ≡ false) × (line_ready (line_added line x) ≡ are_ready (with_typed line now))) same (typed_ready level above held line now was waits)

@@ -5,9 +5,9 @@ use thiserror::Error;
 #[derive(Clone, Copy, Debug, PartialEq, Eq, Drop, Error)]
 pub enum MopFault {
     /// The job of this terminal isn't over yet.
-    #[error("43 TERMINAL BUSY {0}")]
+    #[error("terminal {0} is busy")]
     TerminalBusy(u8),
     /// This terminal has no job that isn't over, or was logged out.
-    #[error("44 NO TERMINAL {0}")]
+    #[error("no job is at terminal {0}")]
     NoTerminal(u8),
 }

@@ -87,8 +87,9 @@ impl Terminals {
         let Some(place) = open_place(self.seats.as_slice(), terminal) else {
             return Err(MopFault::NoTerminal(terminal));
         };
+        let job = self.seats[place].job;
         self.seats[place].out = true;
-        Ok(self.seats[place].job)
+        Ok(job)
     }
 
     /// The job of this number is over: its terminal, if it was at one, is free.

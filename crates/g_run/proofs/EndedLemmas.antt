@@ -76,12 +76,12 @@ module _ (job behind : JobState) (seat : behind.terminal ≡ job.terminal) where
 
 -- by which it is at a terminal or at none
 pub shows_none : (terminal : Option ℕ) → ShowsAs None terminal → terminal ≡ None
-shows_none None as = refl
-shows_none (Some t) as = absurd as
+shows_none None is = refl
+shows_none (Some t) is = absurd is
 
 pub shows_some : (before : ℕ) (terminal : Option ℕ) → ShowsAs (Some before) terminal → (t : ℕ) × (terminal ≡ Some t)
-shows_some before None as = absurd as
-shows_some before (Some t) as = (t, refl)
+shows_some before None is = absurd is
+shows_some before (Some t) is = (t, refl)
 
 -- the whole file of a job at no terminal
 pub whole_file : (number : ℕ) (c mid : CrewState) (job one : JobState) → TakenOut job number c mid → job_in number c.jobs ≡ Some one → one.terminal ≡ None → ended_file job ≡ job.monitor

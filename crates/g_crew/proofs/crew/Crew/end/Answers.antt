@@ -30,8 +30,7 @@ invariant_of-self c =
     let items = c.self.inside.jobs.items in
     let there : slice_get items c.in-Some.place ≡ Some p.job = ap (λ (js : List JobState). slice_get js c.in-Some.place) (sym c.deref.ensures.value) ∙ p.there in
     let only = IsOnly-at 1 items c.self.inside.next_job c.in-Some.place p.job c.self.invariant.0.rise there in
-    rw c.remove-job.ensures.items
-    (
+    rw c.remove-job.ensures.items (
       AreJobs-remove items c.self.inside.next_job c.in-Some.place p.job c.self.invariant.0 there,
       c.get_up.ensures ∙ ap (without_seat c.args.number) c.self.invariant.1 ∙ sym (seats-without c.args.number items) ∙ ap seats_in (ap (λ n. without_job n items) (sym p.named) ∙ only.gone),
     )

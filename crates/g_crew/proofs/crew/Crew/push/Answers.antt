@@ -8,8 +8,7 @@ use Rattle.g_crew.proofs.crew.Crew.push.Goals as goal
 pub invariant_of-self : goal.invariant_of-self
 invariant_of-self c =
     let jobs = c.self.inside.jobs.items in
-    rw c.in-Ok.ensures.items
-    (
+    rw c.in-Ok.ensures.items (
       AreJobs-push jobs c.self.inside.next_job c.args.job c.self.invariant.0
           (omega (arith, c.requires.few, ap (λ (v : CrewState). length v.jobs) c.self.view_is)) (c.requires.next ∙ sym (ap (λ (v : CrewState). v.next_job) c.self.view_is))
           c.requires.allowed,

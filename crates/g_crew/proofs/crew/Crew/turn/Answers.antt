@@ -42,8 +42,7 @@ invariant_of-self-in-Err g c =
     let items = c.self.inside.jobs.items in
     let there : slice_get items c.in-Some.place ≡ Some p.job = ap (λ (js : List JobState). slice_get js c.in-Some.place) (sym c.deref.ensures.value) ∙ p.there in
     let only = IsOnly-at 1 items c.self.inside.next_job c.in-Some.place p.job c.self.invariant.0.rise there in
-    rw (c.let_go.ensures ∙ remove-set items c.in-Some.place c.turn.new.self)
-    (
+    rw (c.let_go.ensures ∙ remove-set items c.in-Some.place c.turn.new.self) (
       AreJobs-remove items c.self.inside.next_job c.in-Some.place p.job c.self.invariant.0 there,
       c.get_up.ensures ∙ ap (without_seat c.args.number) c.self.invariant.1 ∙ sym (seats-without c.args.number items) ∙ ap seats_in (ap (λ n. without_job n items) (sym p.named) ∙ only.gone),
     )
@@ -77,7 +76,7 @@ returns-in-Ok-clause-ok g c =
       subst (λ (j : JobState). TakesTurn g.S.Filestore.answers g.F.Fn c.args.tariff.now j c.args.store.now c.in-Ok.turn after c.turn.new.store) same taken,
       crew_is target _ _ _ (sym (only.changed after number) ∙ ap (λ (v : CrewState). with_job after v.jobs) c.self.view_is) (ap (λ (v : CrewState). v.accounts) c.self.view_is)
           (ap (λ (v : CrewState). v.next_job) c.self.view_is),
-      c.file_before-shown.ensures ∙ ap shown_from (c.index.ensures ∙ there_is),
+      c.file_before-shown.ensures ∙ ap shown_from (c.index.ensures ∙ get_or_from_slice_get items c.in-Some.place p.job c.index.result.now there),
     )
 
 pub returns-in-Err-clause-err : goal.returns-in-Err-clause-err

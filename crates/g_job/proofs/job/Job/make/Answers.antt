@@ -9,7 +9,7 @@ pub returns-in-Ok-clause-ok : goal.returns-in-Ok-clause-ok
 returns-in-Ok-clause-ok g c = (
   c.go.new.self,
   makes g.S.Filestore.answers g.S.Filestore.is_spent g.S.Filestore.can_wait (job_of c.self.inside) c.args.self.now c.self.view_is c.args.store.now
-      c.take_made.new.self.desk c.take_made.result c.go.new.self c.go.new.store c.self.invariant c.requires.open c.begin.ensures.few
+      c.take_made.new.self.desk c.take_made.result c.go.new.self c.go.new.store c.self.invariant.0 c.requires.open c.begin.ensures.few
       (begun g.S.Filestore.answers g.S.Filestore.is_spent g.S.Filestore.can_wait (job_of c.self.inside) (1048576 - length c.as_slice.result.now)
       (option_map pending_of c.take_again-again.result) c.begin.new.self c.go.new.self c.args.store.now c.go.new.store
       (ap (λ monitor. 1048576 - length monitor) c.as_slice.ensures) (ap (λ again. option_map pending_of again) c.take_again-again.ensures.value) c.begin.ensures.ok c.in-Ok.ensures.ok)

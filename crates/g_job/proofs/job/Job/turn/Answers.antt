@@ -2,6 +2,7 @@ use Rattle.std.proofs.Common.{subst}
 use Rattle.g_job.specs.Ends.{IsTurn}
 use Rattle.g_job.specs.Turns.{turn_work}
 use Rattle.g_job.specs.declared.turn.Turn.TheVariants as turn
+use Rattle.g_job.proofs.TerminalLemmas.{keeps_seat, turn_leaves}
 use Rattle.g_job.proofs.TurnLemmas.{same_turn, spends_of, stopped_of, told, told_before, turn_before, waits_of}
 use Rattle.g_job.proofs.WellLemmas.{turn_spent, turn_waits}
 use Rattle.g_act.proofs.WellThen.{part_whole}
@@ -53,3 +54,11 @@ returns-in-Ok-end-clause-waited g c = λ serial is.
 pub returns-in-Err-end-clause-err : goal.returns-in-Err-end-clause-err
 returns-in-Err-end-clause-err g c =
     part_whole g.S.Filestore.answers g.S.Filestore.is_spent g.S.Filestore.can_wait c.args.self.now.user (turn_work c.args.self.now) c.args.store.now c.in-Ok.ensures.ok.0 c.make.new.store c.in-Ok.ensures.ok.1.ran
+
+pub returns-in-Ok-end-clause-seat : goal.returns-in-Ok-end-clause-seat
+returns-in-Ok-end-clause-seat g c =
+    keeps_seat g.F.Fn c.args.tariff.now c.args.self.now c.in-Ok.ensures.ok.0 c.in-Ok-end.turn c.end.new.self
+    (turn_leaves g.S.Filestore.answers g.S.Filestore.is_spent g.S.Filestore.can_wait c.args.self.now c.args.store.now c.in-Ok.ensures.ok.0 c.make.new.store c.in-Ok.ensures.ok.1.rules
+    c.in-Ok.ensures.ok.1.ran)
+    (turn_before g.F.Fn c.args.tariff.now c.args.self.now c.make.new.self c.in-Ok.ensures.ok.0 c.in-Ok-end.turn c.end.new.self c.in-Ok.ensures.job
+    (c.in-Ok-end.ensures.ok c.in-Ok.ensures.ok.0 c.in-Ok.ensures.ok.1.made))
