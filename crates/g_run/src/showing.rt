@@ -115,16 +115,25 @@ fn goes_on<K: Sink, D: Disc, T: Tapes>(
         mut crew,
         count,
     } = up;
-    let failure = match crew.open_accounts(store.users()) {
-        Ok(()) => put_made(out, made),
-        Err(NoMemory) => Some(Failure::Memory),
-    };
-    let day = Day {
-        system: System::Up(store),
-        crew,
-        count,
-    };
-    Ended { day, failure }
+    match crew.open_accounts(store.users()) {
+        Ok(()) => {
+            let failure = put_made(out, made);
+            let day = Day {
+                system: System::Up(store),
+                crew,
+                count,
+            };
+            Ended { day, failure }
+        }
+        Err(NoMemory) => Ended {
+            day: Day {
+                system: System::Up(store),
+                crew,
+                count,
+            },
+            failure: Some(Failure::Memory),
+        },
+    }
 }
 
 /// The job of this number has ended: it is taken out, and the end of its file put.

@@ -6,6 +6,7 @@ use Rattle.g_crew.specs.Seating.{seats_in}
 use Rattle.g_crew.proofs.NumberLemmas.{AreJobs-push, found-pushed}
 use Rattle.g_crew.proofs.SeatLemmas.{seats-seated}
 use Rattle.g_crew.proofs.crew.Crew.push_at.Goals as goal
+use Rattle.g_crew.proofs.crew.Crew.push_at.Goals.{in-Err, in-Ok}
 use Rattle.g_mop.specs.Seats.{seat_taken}
 use Rattle.g_mop.specs.declared.seat.Seat.{Seat}
 
@@ -24,4 +25,10 @@ pub returns-clause-there : goal.returns-clause-there
 returns-clause-there c =
     let items = c.self.inside.jobs.items in
     let next : c.args.job.number ≡ c.self.inside.next_job = c.requires.next ∙ sym (ap (λ (v : CrewState). v.next_job) c.self.view_is) in
-    ?
+    elim c.match-push.branch [
+      | in-Ok w ↦
+          rw (w.result-is, w.self-is)
+          (ap (job_in c.self.inside.next_job) w.in-Ok.ensures.items ∙ ap (λ (n : ℕ). job_in n (items ++ c.args.job ∷ [])) (sym next)
+          ∙ found-pushed 1 items c.self.inside.next_job c.args.job c.self.invariant.0.rise next)
+      | in-Err w ↦ rw w.result-is tt
+    ]
