@@ -10,21 +10,23 @@ use Rattle.g_monitor.specs.Parts.{full_text}
 use Rattle.g_step.specs.State.{Holding, State}
 use Rattle.g_step.specs.CallStep.{Outcome}
 use Rattle.g_step.specs.DumpSteps.{MigrateStep, OpenStep}
+use Rattle.g_step.specs.Process.{ProcessStep}
 use Rattle.g_store.specs.Events.{Migrates, Opens}
 use Rattle.g_script.specs.declared.operator.Operator.{Operator}
 use Rattle.g_script.specs.declared.operator.Operator.TheVariants as line
 use Rattle.g_world.specs.Devices.{Devices}
 use Rattle.g_world.specs.Events.{IsTold}
 use Rattle.g_world.specs.Lines.{LineGives, NeedsUp}
-use Rattle.g_world.specs.Texts.{dump_text, operator_line}
+use Rattle.g_world.specs.Texts.{dump_text, operator_line, processed_text}
 use Rattle.g_world.specs.World.{World}
 use Rattle.g_crew.specs.Crew.{CrewState}
 use Rattle.g_console.specs.declared.progress.Failure.{Failure}
-use Rattle.g_console.specs.Asking.{AsksOf}
+use Rattle.g_console.specs.Asking.{AsksOf, Processed}
 use Rattle.g_console.specs.Parts.{DidLine, IsReady, disc_arms, seen, tape_arms}
 use Rattle.g_console.specs.Puts.{Puts}
 use Rattle.g_console.specs.System.{Down, SystemFacts, Up}
 use Rattle.g_console.specs.Telling.{TellsFault, system_behind}
+use Rattle.g_console.proofs.ProcessLemmas.{processed_line, unprocessed_line}
 use Rattle.g_console.proofs.UpLemmas.{down_line, migrated_line, opened_line, unmigrated_line, unopened_line}
 
 -- a system that is down refuses it
@@ -57,6 +59,24 @@ unopened_on serial (Up s) (Down d) c count ready fault is failure c' before afte
 unopened_on serial (Down d) (Up t) c count ready fault is failure c' before after faults faults' tells = absurd is
 unopened_on serial (Down d) (Down e) c count ready fault (is, same) failure c' before after faults faults' tells =
     down_asked (line.Dump serial) (λ s k o a n. OpenStep s k serial o a n) (λ n. dump_text n (codes "OPENED")) (λ o w next it. it) refl refl d e c c' count ready fault is same failure before after faults faults' tells
+
+-- PROCESS
+pub processed_on : (serial : ℕ) (old new : SystemFacts) (c : CrewState) (count : ℕ) → IsReady old c → (number : ℕ) → AsksOf (λ s answer t. Processed serial s answer t) old (Ok number) new
+    → (failure : Option Failure) (before after : Option (List ℕ)) (faults faults' : ℕ) → Puts failure (operator_line count (processed_text serial number)) before after faults faults'
+    → DidLine (line.Process serial) (seen old c count) failure (seen new c count) before after faults faults'
+processed_on serial (Up s) (Up t) c count ready number is failure before after faults faults' puts = processed_line serial s t c ready count number is failure before after faults faults' puts
+processed_on serial (Up s) (Down d) c count ready number is failure before after faults faults' puts = absurd is
+processed_on serial (Down d) (Up t) c count ready number is failure before after faults faults' puts = absurd is
+processed_on serial (Down d) (Down e) c count ready number (is, same) failure before after faults faults' puts = let never : ⊥ = cc in absurd never
+
+pub unprocessed_on : (serial : ℕ) (old new : SystemFacts) (c : CrewState) (count : ℕ) → IsReady old c → (fault : StoreFault) → AsksOf (λ s answer t. Processed serial s answer t) old (Err fault) new
+    → (failure : Option Failure) (c' : CrewState) (before after : Option (List ℕ)) (faults faults' : ℕ) → TellsFault fault count c failure c' before after faults faults'
+    → DidLine (line.Process serial) (seen old c count) failure (seen (system_behind fault new) c' count) before after faults faults'
+unprocessed_on serial (Up s) (Up t) c count ready fault is failure c' before after faults faults' tells = unprocessed_line serial s t c ready count fault is failure c' before after faults faults' tells
+unprocessed_on serial (Up s) (Down d) c count ready fault is failure c' before after faults faults' tells = absurd is
+unprocessed_on serial (Down d) (Up t) c count ready fault is failure c' before after faults faults' tells = absurd is
+unprocessed_on serial (Down d) (Down e) c count ready fault (is, same) failure c' before after faults faults' tells =
+    down_asked (line.Process serial) (λ s k o a n. ProcessStep s k serial o a n) (processed_text serial) (λ o w next it. it) refl refl d e c c' count ready fault is same failure before after faults faults' tells
 
 -- MIGRATE
 pub migrated_on : (path : Path) (old new : SystemFacts) (c : CrewState) (count : ℕ) → IsReady old c → (full : Full) → AsksOf (λ s answer t. Migrates path s answer t) old (Ok full) new

@@ -1,4 +1,5 @@
 pub mod AskLemmas
+pub mod ByLemmas
 pub mod CauseLemmas
 pub mod DayLemmas
 pub mod GrowLemmas
@@ -6,9 +7,11 @@ pub mod JobLemmas
 pub mod LabelLemmas
 pub mod LeavesLemmas
 pub mod LineLemmas
+pub mod ProcessLemmas
 pub mod ReelLemmas
 pub mod RiseLemmas
 pub mod StopLemmas
+pub mod TerminalLemmas
 pub mod TurnedLemmas
 pub mod UpLemmas
 pub mod UserLemmas

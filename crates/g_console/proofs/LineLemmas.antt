@@ -12,7 +12,7 @@ use Rattle.g_step.specs.State.{State}
 use Rattle.g_step.specs.CallStep.{Outcome, Plain}
 use Rattle.g_script.specs.declared.operator.Operator.{Operator}
 use Rattle.g_world.specs.Devices.{Devices}
-use Rattle.g_world.specs.Lines.{LineGives, line_refused, tells}
+use Rattle.g_world.specs.Lines.{LineGives, is_process, line_refused, tells}
 use Rattle.g_world.specs.Moves.{EventCounted}
 use Rattle.g_world.specs.Texts.{broken_files, operator_line}
 use Rattle.g_world.specs.World.{World, system_stopped}
@@ -20,10 +20,11 @@ use Rattle.g_world.proofs.CountLemmas.{event_none}
 use Rattle.g_crew.specs.Crew.{CrewState, IsCrewOf}
 use Rattle.g_console.specs.declared.progress.Failure.{Failure}
 use Rattle.g_console.specs.declared.progress.Failure.TheVariants.{Memory, Output}
-use Rattle.g_console.specs.Parts.{ArmsBy, DidLine, DoesLine, DoesNothing, IsReady, LineGoes, Matches, Seen, disc_arms, seen, tape_arms}
+use Rattle.g_console.specs.Parts.{ArmsBy, DidLine, DoesLine, DoesNothing, IsReady, CountedBy, LineGoes, Matches, Seen, disc_arms, seen, tape_arms}
 use Rattle.g_console.specs.Puts.{FaultCause, Puts, PutsBy}
 use Rattle.g_console.specs.System.{StandsAs, SystemBelongs, SystemFacts, devices_in}
 use Rattle.g_console.specs.Telling.{TellsFault, down_text, refusal_text, without_jobs}
+use Rattle.g_console.proofs.ByLemmas.{grown_by, plain_counted}
 use Rattle.g_console.proofs.GrowLemmas.{grow_itself}
 use Rattle.g_console.proofs.LeavesLemmas.{leaves_same}
 use Rattle.g_console.proofs.LabelLemmas.{no_fuse, same_itself}
@@ -60,14 +61,10 @@ module _ (what : Operator) (no_disc : disc_arms what ≡ 0) (no_tape : tape_arms
     outcome = Plain;
     next = line_refused fault w;
     gives = gives w m;
-    counted = counted;
+    counted = plain_counted what no_disc no_tape (devices_in f) (devices_in f) (event_none (devices_in f));
     stands = m.stands;
     text = ap (λ (n : ℕ). w.text ++ operator_line n (codes "REFUSED " ++ fault_line fault)) m.count;
   }
-    where
-      counted : EventCounted Plain (disc_arms what) (tape_arms what) (devices_in f) (devices_in f)
-      counted = subst (λ (n : ℕ). EventCounted Plain n (tape_arms what) (devices_in f) (devices_in f)) (sym no_disc)
-          (subst (λ (n : ℕ). EventCounted Plain 0 n (devices_in f) (devices_in f)) (sym no_tape) (event_none (devices_in f)))
 
   refused_matches : (w : World) (m : Matches w (seen f c count)) → Matches (refused_does w m).next (seen f c count)
   unfolding refused_does
@@ -84,7 +81,7 @@ module _ (what : Operator) (no_disc : disc_arms what ≡ 0) (no_tape : tape_arms
     fuses = no_fuse what no_disc no_tape (devices_in f);
     same = same_itself (devices_in f);
     belongs = λ is. is;
-    dumps = λ is. grow_itself (devices_in f).rack;
+    dumps = λ is. grown_by (is_process what) (devices_in f).rack (devices_in f).rack (grow_itself (devices_in f).rack);
     cause = puts.cause;
   }
 
@@ -105,7 +102,7 @@ untried_line what no_disc no_tape old new c count same ready failure is text fau
       fuses = no_fuse what no_disc no_tape (devices_in old);
       same = same_itself (devices_in old);
       belongs = λ is. is;
-      dumps = λ is. grow_itself (devices_in old).rack;
+      dumps = λ is. grown_by (is_process what) (devices_in old).rack (devices_in old).rack (grow_itself (devices_in old).rack);
       cause = refl;
     }
 
@@ -122,18 +119,14 @@ pub record FaultDone (what : Operator) (w : World) (old new : SystemFacts) (faul
   pub state : State
   pub outcome : Outcome
   pub gives : LineGives outcome what w (told_of fault state w)
-  pub counted : EventCounted outcome 0 0 (devices_in old) (devices_in new)
+  pub counted : CountedBy what outcome (devices_in old) (devices_in new)
   pub stands : StandsAs new state
 
 pub record Faulted (what : Operator) (old : Seen) (system : SystemFacts) (fault : StoreFault) : Type 0 where
   pub does : fault ≢ NoMemory → (w : World) → Matches w old → FaultDone what w old.system system fault
   pub nothing : fault ≡ NoMemory → (w : World) → Matches w old → EventCounted Plain 0 0 (devices_in old.system) (devices_in system) × StandsAs system w.store
 
-module _ (what : Operator) (no_disc : disc_arms what ≡ 0) (no_tape : tape_arms what ≡ 0) where
-  pub as_armed : (o : Outcome) (old new : Devices) → EventCounted o 0 0 old new → EventCounted o (disc_arms what) (tape_arms what) old new
-  as_armed o old new counted =
-      subst (λ (n : ℕ). EventCounted o n (tape_arms what) old new) (sym no_disc) (subst (λ (n : ℕ). EventCounted o 0 n old new) (sym no_tape) counted)
-
+module _ (what : Operator) where
   -- a stop
   module _ (old : Seen) (system : SystemFacts) (faulted : Faulted what old system Stopped) where
     stop_does : (w : World) → Matches w old → DoesLine what w old.system system (down_text old.count (codes "SYSTEM STOPPED") old.crew)
@@ -142,7 +135,7 @@ module _ (what : Operator) (no_disc : disc_arms what ≡ 0) (no_tape : tape_arms
           outcome = done.outcome;
           next = system_stopped done.state w;
           gives = done.gives;
-          counted = as_armed done.outcome (devices_in old.system) (devices_in system) done.counted;
+          counted = done.counted;
           stands = done.stands;
           text = append_assoc w.text (operator_line w.count (codes "SYSTEM STOPPED")) (broken_files w.jobs)
               ∙ ap (λ (n : ℕ). w.text ++ (operator_line n (codes "SYSTEM STOPPED") ++ broken_files w.jobs)) m.count
@@ -166,7 +159,7 @@ module _ (what : Operator) (no_disc : disc_arms what ≡ 0) (no_tape : tape_arms
           outcome = done.outcome;
           next = line_refused fault (record w { store = done.state });
           gives = subst (LineGives done.outcome what w) (refuses done.state w) done.gives;
-          counted = as_armed done.outcome (devices_in old.system) (devices_in system) done.counted;
+          counted = done.counted;
           stands = done.stands;
           text = ap (λ (n : ℕ). w.text ++ operator_line n (codes "REFUSED " ++ fault_line fault)) m.count;
         }

@@ -22,7 +22,7 @@ use Rattle.g_script.specs.declared.operator.Operator.{Operator}
 use Rattle.g_script.specs.declared.operator.Operator.TheVariants as line
 use Rattle.g_world.specs.Devices.{Devices}
 use Rattle.g_world.specs.Events.{IsTold, OutcomeTold}
-use Rattle.g_world.specs.Lines.{LineGives, Rises, line_refused, tells, up_with}
+use Rattle.g_world.specs.Lines.{LineGives, Rises, is_process, line_refused, tells, up_with}
 use Rattle.g_world.specs.Moves.{EventCounted}
 use Rattle.g_world.specs.Texts.{operator_line, started_text}
 use Rattle.g_world.specs.World.{World}
@@ -31,10 +31,11 @@ use Rattle.g_crew.specs.Crew.{CrewState}
 use Rattle.g_world.proofs.EventToldLemmas.{ToldBy, format_told, restore_told, start_told}
 use Rattle.g_console.specs.declared.progress.Failure.{Failure}
 use Rattle.g_console.specs.Opening.{Opens}
-use Rattle.g_console.specs.Parts.{DidLine, DoesLine, IsReady, Matches, Seen, disc_arms, seen, tape_arms}
+use Rattle.g_console.specs.Parts.{DidLine, DoesLine, IsReady, CountedBy, Matches, Seen, disc_arms, seen, tape_arms}
 use Rattle.g_console.specs.Puts.{Puts}
 use Rattle.g_console.specs.System.{BelongTogether, Down, StandsAs, Up, devices_in}
 use Rattle.g_console.specs.Telling.{TellsFault, refusal_text}
+use Rattle.g_console.proofs.ByLemmas.{grown_by}
 use Rattle.g_console.proofs.CauseLemmas.{OfDisc, counted_by}
 use Rattle.g_console.proofs.GrowLemmas.{grow_held}
 use Rattle.g_console.proofs.LeavesLemmas.{leaves_opened, leaves_told}
@@ -65,8 +66,8 @@ gone fault count c failure c' before after faults faults' jobs accounts tells =
 
 -- the events of one line, which brings the system up
 module _ {A : Type 0} (what : Operator) (given : Type 0) (by : State → Outcome → Result A StoreFault → State → Type 0) (said : A → List ℕ) (count_of : A → ℕ)
-    (lifts : (o : Outcome) (w next : World) → Rises o by said w next → LineGives o what w next) (no_disc : disc_arms what ≡ 0) (no_tape : tape_arms what ≡ 0)
-    (disc : DiscState) (rack : Rack) (c : CrewState) (count : ℕ) (gives : (let d : Devices = record { disc = disc; rack = rack } in BelongTogether d) → given) where
+    (lifts : (o : Outcome) (w next : World) → Rises o by said w next → LineGives o what w next) (counts : (o : Outcome) (d e : Devices) → EventCounted o 0 0 d e → CountedBy what o d e)
+    (no_disc : disc_arms what ≡ 0) (no_tape : tape_arms what ≡ 0) (disc : DiscState) (rack : Rack) (c : CrewState) (count : ℕ) (gives : (let d : Devices = record { disc = disc; rack = rack } in BelongTogether d) → given) where
   abbrev old_devices : Devices
   old_devices = record { disc = disc; rack = rack }
 
@@ -115,8 +116,7 @@ module _ {A : Type 0} (what : Operator) (given : Type 0) (by : State → Outcome
           outcome = Plain;
           next = up_with (said reply) u w;
           gives = rises Plain w (up_with (said reply) u w) m (Ok reply) u step told refl;
-          counted = subst (λ (n : ℕ). EventCounted Plain n (tape_arms what) old_devices (devices_in (Up new))) (sym no_disc)
-              (subst (λ (n : ℕ). EventCounted Plain 0 n old_devices (devices_in (Up new))) (sym no_tape) (counted_by (Ok reply) old_devices (devices_in (Up new)) of_disc Plain told));
+          counted = counts Plain old_devices (devices_in (Up new)) (counted_by (Ok reply) old_devices (devices_in (Up new)) of_disc Plain told);
           stands = record { told = makes.told m.stands.1.told; belongs = makes.belongs m.stands.1.told (gives (together w m)); stands = stands };
           text = ap (λ (n : ℕ). w.text ++ operator_line n (said reply)) m.count;
         }
@@ -148,7 +148,7 @@ module _ {A : Type 0} (what : Operator) (given : Type 0) (by : State → Outcome
       fuses = no_fuse what no_disc no_tape (devices_in (Up new));
       same = record { size = makes.causes.size; reels = labels_read rack.reels new.rack.reels makes.tapes.reels };
       belongs = λ is. (makes.told is.told, makes.belongs is.told (gives is));
-      dumps = λ is. grow_held rack new.rack makes.tapes.reels;
+      dumps = λ is. grown_by (is_process what) rack new.rack (grow_held rack new.rack makes.tapes.reels);
       cause = puts.cause;
     }
 
@@ -186,7 +186,7 @@ module _ {A : Type 0} (what : Operator) (given : Type 0) (by : State → Outcome
           state = leads.after;
           outcome = o;
           gives = rises o w (told_of fault leads.after w) m (Err fault) leads.after step told (sym (told_same (λ x t v. up_with (said x) t v) fault leads.after w));
-          counted = counted_by (Err fault) old_devices new_devices of_fault o told;
+          counted = counts o old_devices new_devices (counted_by (Err fault) old_devices new_devices of_fault o told);
           stands = stands_down w m leads.after (stays w.store o leads.after m.stands.0 step) leads.left;
         }
 
@@ -214,7 +214,7 @@ module _ {A : Type 0} (what : Operator) (given : Type 0) (by : State → Outcome
       → (let d : Devices = record { disc = disc'; rack = rack' } in DidLine what before failure (seen (Down d) c' count) before_text after faults faults')
   not_made fault disc' rack' refuses told_too stays failure c' before_text after faults faults' ready tells =
       let d : Devices = record { disc = disc'; rack = rack' } in
-      let both = tells_fault what no_disc no_tape before (Down d) fault (faulted fault disc' rack' refuses told_too stays) failure c' before_text after faults faults' tells in record {
+      let both = tells_fault what before (Down d) fault (faulted fault disc' rack' refuses told_too stays) failure c' before_text after faults faults' tells in record {
         goes = both.0;
         ready =
             let (low, high, no_jobs, no_accounts) = ready in
@@ -226,7 +226,7 @@ module _ {A : Type 0} (what : Operator) (given : Type 0) (by : State → Outcome
         fuses = no_fuse what no_disc no_tape d;
         same = record { size = refuses.causes.size; reels = labels_read rack.reels rack'.reels refuses.tapes.reels };
         belongs = λ is. record { told = refuses.told is.told; belong = refuses.belongs is.told is.belong };
-        dumps = λ is. grow_held rack rack' refuses.tapes.reels;
+        dumps = λ is. grown_by (is_process what) rack rack' (grow_held rack rack' refuses.tapes.reels);
         cause = both.1;
       }
 
@@ -268,13 +268,13 @@ module _ (disc : DiscState) (rack : Rack) (c : CrewState) (count : ℕ) (ready :
       → Puts failure (operator_line count (codes "FORMATTED")) before_text after faults faults'
       → (let d : Devices = record { disc = disc; rack = rack } in DidLine line.Format (seen (Down d) c count) failure (seen (Up new) c' count) before_text after faults faults')
   formatted_line new is opens puts =
-      comes_up line.Format (Unit {0}) FormatStep (λ r. codes "FORMATTED") (λ reply. 1) (λ o w next it. it) refl refl disc rack c count (λ it. tt) tt new is.makes ready.3 c' failure before_text after faults faults' opens puts
+      comes_up line.Format (Unit {0}) FormatStep (λ r. codes "FORMATTED") (λ reply. 1) (λ o w next it. it) (λ o d e it. it) refl refl disc rack c count (λ it. tt) tt new is.makes ready.3 c' failure before_text after faults faults' opens puts
 
   pub unformatted_line : (fault : StoreFault) (disc' : DiscState) (rack' : Rack) → RefusesFormat disc rack fault disc' rack' → TellsFault fault count c failure c' before_text after faults faults'
       → (let d : Devices = record { disc = disc; rack = rack } in let e : Devices = record { disc = disc'; rack = rack' } in
       DidLine line.Format (seen (Down d) c count) failure (seen (Down e) c' count) before_text after faults faults')
   unformatted_line fault disc' rack' is tells =
-      not_made line.Format (Unit {0}) FormatStep (λ r. codes "FORMATTED") (λ reply. 1) (λ o w next it. it) refl refl disc rack c count (λ it. tt) fault disc' rack' is.refuses
+      not_made line.Format (Unit {0}) FormatStep (λ r. codes "FORMATTED") (λ reply. 1) (λ o w next it. it) (λ o d e it. it) refl refl disc rack c count (λ it. tt) fault disc' rack' is.refuses
       (λ s o u step. format_told s o (Err fault) u step) (format_down fault) failure c' before_text after faults faults' ready tells
 
   -- START
@@ -282,13 +282,13 @@ module _ (disc : DiscState) (rack : Rack) (c : CrewState) (count : ℕ) (ready :
       → Puts failure (operator_line count (started_text number)) before_text after faults faults'
       → (let d : Devices = record { disc = disc; rack = rack } in DidLine line.Start (seen (Down d) c count) failure (seen (Up new) c' count) before_text after faults faults')
   started_line number new is opens puts =
-      comes_up line.Start (Belong disc.held rack) StartStep started_text commits_of_start (λ o w next it. it) refl refl disc rack c count (λ it. it.belong) number new is.makes ready.3 c' failure before_text after faults faults' opens puts
+      comes_up line.Start (Belong disc.held rack) StartStep started_text commits_of_start (λ o w next it. it) (λ o d e it. it) refl refl disc rack c count (λ it. it.belong) number new is.makes ready.3 c' failure before_text after faults faults' opens puts
 
   pub unstarted_line : (fault : StoreFault) (disc' : DiscState) (rack' : Rack) → RefusesStart disc rack fault disc' rack' → TellsFault fault count c failure c' before_text after faults faults'
       → (let d : Devices = record { disc = disc; rack = rack } in let e : Devices = record { disc = disc'; rack = rack' } in
       DidLine line.Start (seen (Down d) c count) failure (seen (Down e) c' count) before_text after faults faults')
   unstarted_line fault disc' rack' is tells =
-      not_made line.Start (Belong disc.held rack) StartStep started_text commits_of_start (λ o w next it. it) refl refl disc rack c count (λ it. it.belong) fault disc' rack' is.refuses
+      not_made line.Start (Belong disc.held rack) StartStep started_text commits_of_start (λ o w next it. it) (λ o d e it. it) refl refl disc rack c count (λ it. it.belong) fault disc' rack' is.refuses
       (λ s o u step. start_told s o (Err fault) u step) (start_down fault) failure c' before_text after faults faults' ready tells
 
   -- RESTORE
@@ -296,13 +296,13 @@ module _ (disc : DiscState) (rack : Rack) (c : CrewState) (count : ℕ) (ready :
       → Puts failure (operator_line count (codes "RESTORED FROM DUMP " ++ decimal number)) before_text after faults faults'
       → (let d : Devices = record { disc = disc; rack = rack } in DidLine line.Restore (seen (Down d) c count) failure (seen (Up new) c' count) before_text after faults faults')
   restored_line number new is opens puts =
-      comes_up line.Restore (Belong disc.held rack) RestoreStep (λ n. codes "RESTORED FROM DUMP " ++ decimal n) (λ n. 1) (λ o w next it. it) refl refl disc rack c count (λ it. it.belong) number new is.makes ready.3 c' failure before_text after faults faults' opens puts
+      comes_up line.Restore (Belong disc.held rack) RestoreStep (λ n. codes "RESTORED FROM DUMP " ++ decimal n) (λ n. 1) (λ o w next it. it) (λ o d e it. it) refl refl disc rack c count (λ it. it.belong) number new is.makes ready.3 c' failure before_text after faults faults' opens puts
 
   pub unrestored_line : (fault : StoreFault) (disc' : DiscState) (rack' : Rack) → RefusesRestore disc rack fault disc' rack' → TellsFault fault count c failure c' before_text after faults faults'
       → (let d : Devices = record { disc = disc; rack = rack } in let e : Devices = record { disc = disc'; rack = rack' } in
       DidLine line.Restore (seen (Down d) c count) failure (seen (Down e) c' count) before_text after faults faults')
   unrestored_line fault disc' rack' is tells =
-      not_made line.Restore (Belong disc.held rack) RestoreStep (λ n. codes "RESTORED FROM DUMP " ++ decimal n) (λ n. 1) (λ o w next it. it) refl refl disc rack c count (λ it. it.belong) fault disc' rack' is.refuses
+      not_made line.Restore (Belong disc.held rack) RestoreStep (λ n. codes "RESTORED FROM DUMP " ++ decimal n) (λ n. 1) (λ o w next it. it) (λ o d e it. it) refl refl disc rack c count (λ it. it.belong) fault disc' rack' is.refuses
       (λ s o u step. restore_told s o (Err fault) u step) (restore_down fault) failure c' before_text after faults faults' ready tells
 
 -- a system that is up doesn't come up

@@ -9,7 +9,7 @@ use Rattle.g_step.specs.State.{State}
 use Rattle.g_step.specs.CallStep.{Plain}
 use Rattle.g_script.specs.declared.operator.Operator.{Operator}
 use Rattle.g_world.specs.Devices.{Devices}
-use Rattle.g_world.specs.Lines.{LineGives, line_refused, now_stands, tells}
+use Rattle.g_world.specs.Lines.{LineGives, is_process, line_refused, now_stands, tells}
 use Rattle.g_world.specs.Moves.{EventCounted}
 use Rattle.g_world.specs.Texts.{operator_line}
 use Rattle.g_world.specs.World.{World}
@@ -17,13 +17,14 @@ use Rattle.g_world.proofs.CountLemmas.{happened_same}
 use Rattle.g_crew.specs.Accounts.{AreKept}
 use Rattle.g_crew.specs.Crew.{CrewState}
 use Rattle.g_console.specs.declared.progress.Failure.{Failure}
-use Rattle.g_console.specs.Parts.{DidLine, DoesLine, IsReady, Matches, disc_arms, seen, tape_arms}
+use Rattle.g_console.specs.Parts.{DidLine, DoesLine, IsReady, CountedBy, Matches, disc_arms, seen, tape_arms}
 use Rattle.g_console.specs.Puts.{Puts}
 use Rattle.g_console.specs.Reels.{StaysAsUp, StepsReels}
 use Rattle.g_console.specs.System.{Down, StandsAs, SystemFacts, Up, devices_in}
 use Rattle.g_console.specs.Telling.{refusal_text}
 use Rattle.g_console.proofs.LeavesLemmas.{leaves_same}
-use Rattle.g_console.proofs.LineLemmas.{as_armed, none_armed, was_done}
+use Rattle.g_console.proofs.ByLemmas.{grown_by, plain_counted}
+use Rattle.g_console.proofs.LineLemmas.{none_armed, was_done}
 use Rattle.g_console.proofs.LabelLemmas.{no_fuse}
 
 -- no count moved
@@ -49,8 +50,8 @@ told_refusal done fault u w other = refl
 module _ (what : Operator) (no_disc : disc_arms what ≡ 0) (no_tape : tape_arms what ≡ 0) (by : State → Result (Unit {0}) StoreFault → State → Type 0) (text : List ℕ)
     (lifts : (w next : World) (r : Result (Unit {0}) StoreFault) (s : State) → by w.store r s → next ≡ tells (λ x t v. now_stands text t v) r s w → LineGives Plain what w next)
     (old new : SystemFacts) (c : CrewState) (count : ℕ) where
-  counted_here : (answer : Result (Unit {0}) StoreFault) → StepsReels by old answer new → EventCounted Plain (disc_arms what) (tape_arms what) (devices_in old) (devices_in new)
-  counted_here answer is = as_armed what no_disc no_tape Plain (devices_in old) (devices_in new) (counted_same (devices_in old) (devices_in new) is.disc is.read_faults is.write_faults is.arms)
+  counted_here : (answer : Result (Unit {0}) StoreFault) → StepsReels by old answer new → CountedBy what Plain (devices_in old) (devices_in new)
+  counted_here answer is = plain_counted what no_disc no_tape (devices_in old) (devices_in new) (counted_same (devices_in old) (devices_in new) is.disc is.read_faults is.write_faults is.arms)
 
   matches_here : (w next : World) → Matches w (seen old c count) → next.jobs ≡ w.jobs → next.accounts ≡ w.accounts → next.next_job ≡ w.next_job → next.count ≡ w.count → StandsAs new next.store
       → Matches next (seen new c count)
@@ -111,6 +112,6 @@ module _ (what : Operator) (no_disc : disc_arms what ≡ 0) (no_tape : tape_arms
     fuses = no_fuse what no_disc no_tape (devices_in new);
     same = record { size = ap (λ (d : DiscState). d.size) is.disc; reels = is.reels };
     belongs = is.belongs;
-    dumps = λ was. is.dumps;
+    dumps = λ was. grown_by (is_process what) (devices_in old).rack (devices_in new).rack is.dumps;
     cause = puts.cause;
   }

@@ -11,7 +11,7 @@ use Rattle.g_plain.specs.PlainTree.{input_name}
 use Rattle.g_step.specs.State.{Holding, State, with_online}
 use Rattle.g_step.specs.CallStep.{Outcome, Plain, commits, stamp_of}
 use Rattle.g_step.specs.DumpSteps.{Event, MigrateStep, OpenStep, migrate_refuses, open_refuses, opening}
-use Rattle.g_state.specs.Answers.{HasCause}
+use Rattle.g_state.specs.Answers.{Belongs, HasCause, IsStore, Told}
 use Rattle.g_state.specs.Reading.{StandsForState}
 use Rattle.g_state.specs.Up.{StoreFacts}
 use Rattle.g_store.specs.Events.{AnswersEvent, LeadsBy, Migrates, Opens, StepsBy}
@@ -22,20 +22,21 @@ use Rattle.g_script.specs.declared.operator.Operator.TheVariants as line
 use Rattle.g_world.specs.Devices.{Devices}
 use Rattle.g_world.specs.Events.{IsTold, OutcomeTold}
 use Rattle.g_world.specs.Moves.{EventCounted}
-use Rattle.g_world.specs.Lines.{LineGives, NeedsUp, line_refused, now_stands, tells}
+use Rattle.g_world.specs.Lines.{LineGives, NeedsUp, is_process, line_refused, now_stands, tells}
 use Rattle.g_world.specs.Texts.{dump_text, operator_line}
 use Rattle.g_world.specs.World.{World}
 use Rattle.g_world.proofs.EventToldLemmas.{ToldBy, migrate_told, open_told}
 use Rattle.g_crew.specs.Crew.{CrewState}
 use Rattle.g_console.specs.declared.progress.Failure.{Failure}
-use Rattle.g_console.specs.Parts.{ArmsBy, DidLine, DoesLine, IsReady, Matches, Seen, disc_arms, seen, tape_arms}
+use Rattle.g_console.specs.Parts.{ArmsBy, DidLine, DoesLine, DumpsBy, IsReady, CountedBy, Matches, Seen, disc_arms, seen, tape_arms}
 use Rattle.g_console.specs.Puts.{Puts}
-use Rattle.g_console.specs.System.{Down, DumpsGrow, IsNow, StandsAs, SystemBelongs, SystemFacts, Up, devices_in, SameDevices}
+use Rattle.g_console.specs.System.{Down, IsNow, StandsAs, SystemBelongs, SystemFacts, Up, devices_in, SameDevices}
 use Rattle.g_console.specs.Telling.{TellsFault, refusal_text, system_after, without_jobs}
+use Rattle.g_console.proofs.ByLemmas.{grown_by}
 use Rattle.g_console.proofs.CauseLemmas.{OfDisc, counted_by}
 use Rattle.g_console.proofs.GrowLemmas.{grow_held}
 use Rattle.g_console.proofs.LeavesLemmas.{leaves_same, leaves_told}
-use Rattle.g_console.proofs.LineLemmas.{FaultDone, Faulted, as_armed, none_armed, refused_line, tells_fault, told_of, told_same, was_done}
+use Rattle.g_console.proofs.LineLemmas.{FaultDone, Faulted, none_armed, refused_line, tells_fault, told_of, told_same, was_done}
 use Rattle.g_console.proofs.LabelLemmas.{labels_read, no_fuse}
 
 -- the state of a store that is up is up
@@ -52,6 +53,26 @@ pub leads_by : {A : Type 0} (by : State → Holding → Outcome → Result A Sto
 leads_by by s old new NoMemory other steps = absurd (other refl)
 leads_by by s old new fault other steps = steps
 
+-- HOW AN EVENT GOES that a line asks for: by its step where the devices tell and belong together; and what is kept
+pub record Went {A : Type 0} (by : State → Holding → Outcome → Result A StoreFault → State → Type 0) (old : StoreFacts) (answer : Result A StoreFault) (new : StoreFacts) : Type 0 where
+  pub step : Told old → Belongs old → (s : State) → StandsForState old s → StepsBy by s old answer new
+  pub keeps : IsStore new
+  pub told : Told old → Told new
+  pub belongs : Told old → Belongs old → Belongs new
+  pub spent : (new.spent ≡ true) ↔ (answer ≡ Err Stopped)
+
+went : {A : Type 0} (by : State → Holding → Outcome → Result A StoreFault → State → Type 0) (count_of : A → ℕ) (old new : StoreFacts) (answer : Result A StoreFault) → AnswersEvent by count_of old answer new → Went by old answer new
+went by count_of old new answer event = record { step = event.step; keeps = event.keeps; told = event.told; belongs = event.belongs; spent = event.spent }
+
+-- AND WHAT IT MAKES OF THE DEVICES: what they counted, that nobody armed them, that they are the same, and what became of completed dumps
+pub record Caused {A : Type 0} (what : Operator) (old : StoreFacts) (answer : Result A StoreFault) (new : StoreFacts) : Type 0 where
+  pub counted : (o : Outcome) → OutcomeTold o answer → CountedBy what o (devices_in (Up old)) (devices_in (Up new))
+  pub still : OutcomeTold Plain answer → EventCounted Plain 0 0 (devices_in (Up old)) (devices_in (Up new))
+  pub disc_armed : new.online.disc.arms ≡ old.online.disc.arms
+  pub rack_armed : new.rack.arms ≡ old.rack.arms
+  pub same : SameDevices (devices_in (Up old)) (devices_in (Up new))
+  pub dumps : SystemBelongs (Up old) → DumpsBy (is_process what) old.rack new.rack
+
 pub of_cause : {A : Type 0} (old new : StoreFacts) (answer : Result A StoreFault) → HasCause old new answer → OfDisc answer (devices_in (Up old)) (devices_in (Up new))
 of_cause old new answer cause = record {
   disc = cause.disc;
@@ -61,12 +82,23 @@ of_cause old new answer cause = record {
   tape_read_only = cause.tape_read_only;
 }
 
+-- of an event that writes no tape
+caused : {A : Type 0} (what : Operator) → ((o : Outcome) (d e : Devices) → EventCounted o 0 0 d e → CountedBy what o d e) → (old new : StoreFacts) (answer : Result A StoreFault) → HasCause old new answer → Caused what old answer new
+caused what counts old new answer cause = record {
+  counted = λ o told. counts o (devices_in (Up old)) (devices_in (Up new)) (counted_by answer (devices_in (Up old)) (devices_in (Up new)) (of_cause old new answer cause) o told);
+  still = λ told. counted_by answer (devices_in (Up old)) (devices_in (Up new)) (of_cause old new answer cause) Plain told;
+  disc_armed = cause.disc.arms;
+  rack_armed = cause.tapes.arms;
+  same = record { size = cause.disc.size; reels = labels_read old.rack.reels new.rack.reels cause.tapes.reels };
+  dumps = λ is. grown_by (is_process what) old.rack new.rack (grow_held old.rack new.rack cause.tapes.reels);
+}
+
 -- a store that was stopped, taken down, has the devices that it had
 pub same_devices : (fault : StoreFault) (s : StoreFacts) → devices_in (system_after fault s) ≡ devices_in (Up s)
 same_devices Stopped s = refl
 same_devices fault s = refl
 
-module _ {A : Type 0} (what : Operator) (by : State → Holding → Outcome → Result A StoreFault → State → Type 0) (said : A → List ℕ) (count_of : A → ℕ)
+module _ {A : Type 0} (what : Operator) (by : State → Holding → Outcome → Result A StoreFault → State → Type 0) (said : A → List ℕ)
     (lifts : (o : Outcome) (w next : World) → NeedsUp o (λ r s. (k : Holding) × (w.store.holding ≡ Some k) × by w.store k o r s × IsTold o r) said w next → LineGives o what w next)
     (no_disc : disc_arms what ≡ 0) (no_tape : tape_arms what ≡ 0)
     (told_too : (s : State) (k : Holding) (o : Outcome) (r : Result A StoreFault) (u : State) → by s k o r u → ToldBy (by s k) o r u)
@@ -83,7 +115,7 @@ module _ {A : Type 0} (what : Operator) (by : State → Holding → Outcome → 
       (r, s, (k, holds, step, told.told), is))
 
   -- granted
-  module _ (reply : A) (event : AnswersEvent by count_of old (Ok reply) new) (cause : (let answer : Result A StoreFault = Ok reply in HasCause old new answer)) where
+  module _ (reply : A) (event : Went by old (Ok reply) new) (cause : (let answer : Result A StoreFault = Ok reply in Caused what old answer new)) where
     running : new.spent ≡ false
     running = not_spent new.spent (Ok reply) event.spent (λ e. let no : ⊥ = cc in no)
 
@@ -95,7 +127,7 @@ module _ {A : Type 0} (what : Operator) (by : State → Holding → Outcome → 
           outcome = o;
           next = now_stands (said reply) leads.after w;
           gives = gives_up o w (now_stands (said reply) leads.after w) m leads.held (Ok reply) leads.after leads.holds step told refl;
-          counted = as_armed what no_disc no_tape o (devices_in (Up old)) (devices_in (Up new)) (counted_by (Ok reply) (devices_in (Up old)) (devices_in (Up new)) (of_cause old new (Ok reply) cause) o told);
+          counted = cause.counted o told;
           stands = record { told = event.told here.told; belongs = event.belongs here.told here.belongs; stands = leads.left };
           text = ap (λ (n : ℕ). w.text ++ operator_line n (said reply)) m.count;
         }
@@ -112,17 +144,17 @@ module _ {A : Type 0} (what : Operator) (by : State → Holding → Outcome → 
           }) puts.put;
       ready = (running, event.keeps.tied.size, event.keeps.tied.most);
       crew = λ none. leaves_same c;
-      arms = none_armed what failure (devices_in (Up old)) (devices_in (Up new)) no_disc no_tape cause.disc.arms cause.tapes.arms;
+      arms = none_armed what failure (devices_in (Up old)) (devices_in (Up new)) no_disc no_tape cause.disc_armed cause.rack_armed;
       count = refl;
       fuses = no_fuse what no_disc no_tape (devices_in (Up new));
-      same = record { size = cause.disc.size; reels = labels_read old.rack.reels new.rack.reels cause.tapes.reels };
+      same = cause.same;
       belongs = λ is. (event.told is.0, event.belongs is.0 is.1);
-      dumps = λ is. grow_held old.rack new.rack cause.tapes.reels;
+      dumps = cause.dumps;
       cause = puts.cause;
     }
 
   -- refused, or stopped
-  module _ (fault : StoreFault) (event : AnswersEvent by count_of old (Err fault) new) (cause : HasCause {A = A} old new (Err fault))
+  module _ (fault : StoreFault) (event : Went by old (Err fault) new) (cause : Caused {A = A} what old (Err fault) new)
       (stays : (s : State) (k : Holding) (o : Outcome) (u : State) → by s k o (Err Stopped) u → u.up ≡ false) where
     abbrev system : SystemFacts
     system = system_after fault new
@@ -139,10 +171,8 @@ module _ {A : Type 0} (what : Operator) (by : State → Holding → Outcome → 
         )
     stands_by f is w m u down stands = record { told = event.told m.stands.told; belongs = event.belongs m.stands.told m.stands.belongs; stands = stands }
 
-    counted_here : (o : Outcome) → OutcomeTold {A = A} o (Err fault) → EventCounted o 0 0 (devices_in (Up old)) (devices_in system)
-    counted_here o told =
-        subst (λ (d : Devices). EventCounted o 0 0 (devices_in (Up old)) d) (sym (same_devices fault new))
-        (counted_by (Err fault) (devices_in (Up old)) (devices_in (Up new)) (of_cause old new (Err fault) cause) o told)
+    counted_here : (o : Outcome) → OutcomeTold {A = A} o (Err fault) → CountedBy what o (devices_in (Up old)) (devices_in system)
+    counted_here o told = subst (λ (d : Devices). CountedBy what o (devices_in (Up old)) d) (sym (same_devices fault new)) (cause.counted o told)
 
     fault_done : fault ≢ NoMemory → (w : World) → Matches w before → FaultDone what w (Up old) system fault
     fault_done other w m =
@@ -166,7 +196,7 @@ module _ {A : Type 0} (what : Operator) (by : State → Holding → Outcome → 
           tape_read = λ e. let no : ⊥ = cc in absurd no;
           cut = λ e. let no : ⊥ = cc in absurd no;
         } in (
-          counted_here Plain told,
+          subst (λ (d : Devices). EventCounted Plain 0 0 (devices_in (Up old)) d) (sym (same_devices fault new)) (cause.still told),
           stands_by fault refl w m w.store (λ e. let no : ⊥ = cc in absurd no)
               (subst (λ (f : StoreFault). StepsBy by w.store old (Err f) new) is (event.step here.told here.belongs w.store here.stands)),
         )
@@ -188,18 +218,18 @@ module _ {A : Type 0} (what : Operator) (by : State → Holding → Outcome → 
     pub fault_line : (failure : Option Failure) (c' : CrewState) (before_text after : Option (List ℕ)) (faults faults' : ℕ) → TellsFault fault count c failure c' before_text after faults faults'
         → DidLine what before failure (seen system c' count) before_text after faults faults'
     fault_line failure c' before_text after faults faults' tells =
-        let both = tells_fault what no_disc no_tape before system fault (record { does = fault_done; nothing = nothing_done }) failure c' before_text after faults faults' tells in record {
+        let both = tells_fault what before system fault (record { does = fault_done; nothing = nothing_done }) failure c' before_text after faults faults' tells in record {
           goes = both.0;
           ready = ready_by fault refl c' (empty_by fault failure c' before_text after faults faults' tells);
           crew = λ none. leaves_told fault count c failure c' before_text after faults faults' tells;
           arms =
               subst (λ (d : Devices). ArmsBy what failure (devices_in (Up old)) d) (sym (same_devices fault new))
-              (none_armed what failure (devices_in (Up old)) (devices_in (Up new)) no_disc no_tape cause.disc.arms cause.tapes.arms);
+              (none_armed what failure (devices_in (Up old)) (devices_in (Up new)) no_disc no_tape cause.disc_armed cause.rack_armed);
           count = refl;
           fuses = no_fuse what no_disc no_tape (devices_in system);
-          same = subst (λ (d : Devices). SameDevices (devices_in (Up old)) d) (sym (same_devices fault new)) (record { size = cause.disc.size; reels = labels_read old.rack.reels new.rack.reels cause.tapes.reels });
+          same = subst (λ (d : Devices). SameDevices (devices_in (Up old)) d) (sym (same_devices fault new)) cause.same;
           belongs = belongs_by fault refl;
-          dumps = λ is. subst (λ (d : Devices). DumpsGrow old.rack d.rack) (sym (same_devices fault new)) (grow_held old.rack new.rack cause.tapes.reels);
+          dumps = λ is. subst (λ (d : Devices). DumpsBy (is_process what) old.rack d.rack) (sym (same_devices fault new)) (cause.dumps is);
           cause = both.1;
         }
 
@@ -227,26 +257,28 @@ module _ (serial : ℕ) (old new : StoreFacts) (c : CrewState) (ready : IsReady 
   pub opened_line : (number : ℕ) → Opens serial old (Ok number) new → (failure : Option Failure) (before_text after : Option (List ℕ)) (faults faults' : ℕ)
       → Puts failure (operator_line count (dump_text number (codes "OPENED"))) before_text after faults faults' → DidLine (line.Dump serial) (seen (Up old) c count) failure (seen (Up new) c count) before_text after faults faults'
   opened_line number is failure before_text after faults faults' puts =
-      granted_line (line.Dump serial) (λ s k o a n. OpenStep s k serial o a n) (λ n. dump_text n (codes "OPENED")) (λ n. 1) (λ o w next it. it) refl refl (λ s k o r u step. open_told s k serial o r u step) old new ready.0 c count
-      number is.event is.cause failure before_text after faults faults' puts
+      granted_line (line.Dump serial) (λ s k o a n. OpenStep s k serial o a n) (λ n. dump_text n (codes "OPENED")) (λ o w next it. it) refl refl (λ s k o r u step. open_told s k serial o r u step) old new ready.0 c count
+      number (went (λ s k o a n. OpenStep s k serial o a n) (λ n. 1) old new (Ok number) is.event) (caused (line.Dump serial) (λ o d e it. it) old new (Ok number) is.cause) failure before_text after faults faults' puts
 
   pub unopened_line : (fault : StoreFault) → Opens serial old (Err fault) new → (failure : Option Failure) (c' : CrewState) (before_text after : Option (List ℕ)) (faults faults' : ℕ)
       → TellsFault fault count c failure c' before_text after faults faults' → DidLine (line.Dump serial) (seen (Up old) c count) failure (seen (system_after fault new) c' count) before_text after faults faults'
   unopened_line fault is failure c' before_text after faults faults' tells =
-      fault_line (line.Dump serial) (λ s k o a n. OpenStep s k serial o a n) (λ n. dump_text n (codes "OPENED")) (λ n. 1) (λ o w next it. it) refl refl (λ s k o r u step. open_told s k serial o r u step) old new ready.0 c count
-      fault is.event is.cause (λ s k o u step. stop_down (open_refuses s k serial o) (k.last + 1) s (opening s k serial step.0) u step.2) failure c' before_text after faults faults' tells
+      fault_line (line.Dump serial) (λ s k o a n. OpenStep s k serial o a n) (λ n. dump_text n (codes "OPENED")) (λ o w next it. it) refl refl (λ s k o r u step. open_told s k serial o r u step) old new ready.0 c count
+      fault (went (λ s k o a n. OpenStep s k serial o a n) (λ n. 1) old new (Err fault) is.event) (caused (line.Dump serial) (λ o d e it. it) old new (Err fault) is.cause) (λ s k o u step. stop_down (open_refuses s k serial o) (k.last + 1) s (opening s k serial step.0) u step.2) failure c' before_text after faults faults' tells
 
 module _ (path : Path) (old new : StoreFacts) (c : CrewState) (ready : IsReady (Up old) c) (count : ℕ) where
   pub migrated_line : (full : Full) → Migrates path old (Ok full) new → (failure : Option Failure) (before_text after : Option (List ℕ)) (faults faults' : ℕ)
       → Puts failure (operator_line count (codes "MIGRATED " ++ full_text full)) before_text after faults faults' → DidLine (line.Migrate path) (seen (Up old) c count) failure (seen (Up new) c count) before_text after faults faults'
   migrated_line full is failure before_text after faults faults' puts =
-      granted_line (line.Migrate path) (λ s k o a n. MigrateStep s k path.user (input_name k.tree [] path) o a n) (λ f. codes "MIGRATED " ++ full_text f) (λ f. 1) (λ o w next it. it) refl refl
-      (λ s k o r u step. migrate_told s k path.user (input_name k.tree [] path) o r u step) old new ready.0 c count full is.event is.cause failure before_text after faults faults' puts
+      granted_line (line.Migrate path) (λ s k o a n. MigrateStep s k path.user (input_name k.tree [] path) o a n) (λ f. codes "MIGRATED " ++ full_text f) (λ o w next it. it) refl refl
+      (λ s k o r u step. migrate_told s k path.user (input_name k.tree [] path) o r u step) old new ready.0 c count full (went (λ s k o a n. MigrateStep s k path.user (input_name k.tree [] path) o a n) (λ f. 1) old new (Ok full) is.event)
+      (caused (line.Migrate path) (λ o d e it. it) old new (Ok full) is.cause) failure before_text after faults faults' puts
 
   pub unmigrated_line : (fault : StoreFault) → Migrates path old (Err fault) new → (failure : Option Failure) (c' : CrewState) (before_text after : Option (List ℕ)) (faults faults' : ℕ)
       → TellsFault fault count c failure c' before_text after faults faults' → DidLine (line.Migrate path) (seen (Up old) c count) failure (seen (system_after fault new) c' count) before_text after faults faults'
   unmigrated_line fault is failure c' before_text after faults faults' tells =
-      fault_line (line.Migrate path) (λ s k o a n. MigrateStep s k path.user (input_name k.tree [] path) o a n) (λ f. codes "MIGRATED " ++ full_text f) (λ f. 1) (λ o w next it. it) refl refl
-      (λ s k o r u step. migrate_told s k path.user (input_name k.tree [] path) o r u step) old new ready.0 c count fault is.event is.cause
+      fault_line (line.Migrate path) (λ s k o a n. MigrateStep s k path.user (input_name k.tree [] path) o a n) (λ f. codes "MIGRATED " ++ full_text f) (λ o w next it. it) refl refl
+      (λ s k o r u step. migrate_told s k path.user (input_name k.tree [] path) o r u step) old new ready.0 c count fault (went (λ s k o a n. MigrateStep s k path.user (input_name k.tree [] path) o a n) (λ f. 1) old new (Err fault) is.event)
+      (caused (line.Migrate path) (λ o d e it. it) old new (Err fault) is.cause)
       (λ s k o u step. stop_down (migrate_refuses k path.user (input_name k.tree [] path) o) (input_name k.tree [] path) s
       (commits s (record k { places = with_online false (stamp_of k.tree (input_name k.tree [] path)) k.places })) u step) failure c' before_text after faults faults' tells

@@ -9,3 +9,4 @@ pub mod Reels
 pub mod Rising
 pub mod System
 pub mod Telling
+pub mod Terminals

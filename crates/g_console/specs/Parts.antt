@@ -1,13 +1,16 @@
 -- A LINE OF THE OPERATOR, done on a system: what the world is behind it, whatever world stood before, and what holds of every device.
-use Rattle.std.specs.Prelude.{◌≡◌, ◌⊎◌, ◌+◌, ◌<◌, ◌≤◌, ℕ, false, List, [], ◌++◌, Option, Some, None}
+use Rattle.std.specs.Prelude.{◌≡◌, ◌⊎◌, ◌+◌, ◌<◌, ◌≤◌, ℕ, Bool, true, false, List, [], ◌++◌, Option, Some, None}
 use Rattle.g_base.specs.Counts.{RoseBy}
 use Rattle.g_io.specs.Streams.{with_more, HasPutPart}
+use Rattle.g_lines.specs.Documents.{IsOneLine}
+use Rattle.g_tape.specs.Rack.{Rack}
 use Rattle.g_step.specs.CallStep.{Outcome, Plain}
+use Rattle.g_state_process.specs.Moving.{DumpsMove}
 use Rattle.g_script.specs.declared.operator.Operator.{Operator}
 use Rattle.g_script.specs.declared.operator.Operator.TheVariants as line
 use Rattle.g_world.specs.Devices.{Devices}
-use Rattle.g_world.specs.Lines.{LineGives}
-use Rattle.g_world.specs.Moves.{EventCounted}
+use Rattle.g_world.specs.Lines.{LineGives, is_process}
+use Rattle.g_world.specs.Moves.{EventCounted, LineCounted}
 use Rattle.g_world.specs.World.{World}
 use Rattle.g_crew.specs.Crew.{CrewState, IsCrewOf}
 use Rattle.g_crew.specs.Numbers.{AreOpen}
@@ -40,6 +43,9 @@ abbrev pub IsWithin : Operator → Type 0
 IsWithin (line.Job name user time money lines) = ((1 ≤ time) × (time ≤ 1000000)) × (money ≤ 1000000)
 IsWithin (line.StopDisc k) = 1 ≤ k
 IsWithin (line.StopTape k) = 1 ≤ k
+IsWithin (line.Login t user time) = ((1 ≤ t) × (t ≤ 8)) × ((1 ≤ time) × (time ≤ 1000000))
+IsWithin (line.Typed t text) = ((1 ≤ t) × (t ≤ 8)) × IsOneLine text
+IsWithin (line.Logout t) = (1 ≤ t) × (t ≤ 8)
 IsWithin what = Unit {0}
 
 -- how often a line arms the disc and the tapes
@@ -51,13 +57,22 @@ abbrev pub tape_arms : Operator → ℕ
 tape_arms (line.StopTape k) = 1
 tape_arms what = 0
 
+-- what the devices count in a line
+abbrev pub CountedBy : Operator → Outcome → Devices → Devices → Type 0
+CountedBy what o old new = LineCounted (is_process what) o (disc_arms what) (tape_arms what) old new
+
+-- what becomes of completed dumps in it: they stay, but for a PROCESS, which may release whole reels where a newer dump has all
+abbrev pub DumpsBy : Bool → Rack → Rack → Type 0
+DumpsBy true old new = DumpsMove old new
+DumpsBy false old new = DumpsGrow old new
+
 -- The line was done: with an outcome that the counts tell it gives the next world, for whose store the system stands, and whose text is
 -- longer.
 pub record DoesLine (what : Operator) (w : World) (old new : SystemFacts) (added : List ℕ) : Type 0 where
   pub outcome : Outcome
   pub next : World
   pub gives : LineGives outcome what w next
-  pub counted : EventCounted outcome (disc_arms what) (tape_arms what) (devices_in old) (devices_in new)
+  pub counted : CountedBy what outcome (devices_in old) (devices_in new)
   pub stands : StandsAs new next.store
   pub text : next.text ≡ w.text ++ added
 
@@ -102,5 +117,5 @@ pub record DidLine (what : Operator) (old : Seen) (failure : Option Failure) (ne
   pub fuses : FusesBy what (devices_in new.system)
   pub same : SameDevices (devices_in old.system) (devices_in new.system)
   pub belongs : SystemBelongs old.system → SystemBelongs new.system
-  pub dumps : SystemBelongs old.system → DumpsGrow (devices_in old.system).rack (devices_in new.system).rack
+  pub dumps : SystemBelongs old.system → DumpsBy (is_process what) (devices_in old.system).rack (devices_in new.system).rack
   pub cause : FaultCause failure faults faults'

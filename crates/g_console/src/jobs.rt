@@ -42,7 +42,7 @@ pub(crate) fn job_line<K: Sink, D: Disc, T: Tapes>(
 }
 
 /// Whether a system that is up knows the user.
-fn knows<D: Disc, T: Tapes>(system: &System<D, T>, user: &User) -> Option<bool>
+pub(crate) fn knows<D: Disc, T: Tapes>(system: &System<D, T>, user: &User) -> Option<bool>
     requires running { IsRunning (facts_of D.state T.rack system.now) }
     ensures { KnowsIn user.now (facts_of D.state T.rack system.now) result }
 {
@@ -84,7 +84,12 @@ fn take_job<K: Sink, D: Disc, T: Tapes>(
 }
 
 /// Tells why a job isn't taken in; of want of memory nothing.
-fn turned_away<K: Sink>(alloc: Global, count: u64, why: NotTaken, out: &mut K) -> Option<Failure>
+pub(crate) fn turned_away<K: Sink>(
+    alloc: Global,
+    count: u64,
+    why: NotTaken,
+    out: &mut K,
+) -> Option<Failure>
     ensures { TellsWhy why count result (K.written out.old) (K.written out.new) (K.faults out.old) (K.faults out.new) }
 {
     match why {
@@ -97,7 +102,7 @@ fn turned_away<K: Sink>(alloc: Global, count: u64, why: NotTaken, out: &mut K) -
 }
 
 /// What is told of a job that came in.
-fn came_in(alloc: Global, number: u64, name: &Local) -> Result<Text, NoMemory>
+pub(crate) fn came_in(alloc: Global, number: u64, name: &Local) -> Result<Text, NoMemory>
     ensures { IfOk result (λ text. text ≡ texts.job_text number (name.now ++ codes " IN")) }
 {
     let mut how = Text::from_slice(alloc, name.as_slice())?;

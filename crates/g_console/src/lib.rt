@@ -13,6 +13,7 @@ mod rising;
 mod running;
 mod stopping;
 mod system;
+mod terminals;
 
 pub use day::Day;
 pub use operator::operator_line;
@@ -21,3 +22,4 @@ pub use puts::{push_told, put, put_made, told};
 pub use running::Running;
 pub use stopping::fails;
 pub use system::{System, take_down};
+pub use terminals::stops_behind;

@@ -4,12 +4,13 @@ ghost use Rattle.g_console.specs.Parts.{DidLine, IsReady, IsWithin};
 
 use crate::arming::{stop_disc_line, stop_tape_line};
 use crate::day::Day;
-use crate::dumping::{dump_line, migrate_line};
+use crate::dumping::{dump_line, migrate_line, process_line};
 use crate::jobs::{job_line, shut_line};
 use crate::progress::Ended;
 use crate::reels::{mount_line, unmount_line};
 use crate::rising::{Rise, rise_line};
-use g_crew::NewJob;
+use crate::terminals::{login_line, logout_line, type_line};
+use g_crew::{NewJob, NewLogin};
 use g_disc::Disc;
 use g_io::Sink;
 use g_script::Operator;
@@ -52,8 +53,19 @@ pub fn operator_line<K: Sink, D: Disc, T: Tapes>(
         Operator::Mount(serial) => mount_line(alloc, day, serial, out),
         Operator::Unmount(serial) => unmount_line(alloc, day, serial, out),
         Operator::Dump(serial) => dump_line(alloc, day, serial, out),
+        Operator::Process(serial) => process_line(alloc, day, serial, out),
         Operator::Migrate(path) => migrate_line(alloc, day, &path, out),
         Operator::StopDisc(k) => stop_disc_line(alloc, day, k, out),
         Operator::StopTape(k) => stop_tape_line(alloc, day, k, out),
+        Operator::Login { t, user, time } => {
+            let login = NewLogin {
+                terminal: t,
+                user,
+                time,
+            };
+            login_line(alloc, day, login, out)
+        }
+        Operator::Typed { t, text } => type_line(alloc, day, t, text, out),
+        Operator::Logout(t) => logout_line(alloc, day, t, out),
     }
 }

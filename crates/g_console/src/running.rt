@@ -10,9 +10,11 @@ ghost use Rattle.g_step.specs.CallStep.{down};
 ghost use Rattle.g_state.specs.Meaning.{told_reels};
 ghost use Rattle.g_state.specs.Reading.{DevicesStandFor, StandsForState};
 ghost use Rattle.g_dumper.specs.Steps.{stepped_of};
+ghost use Rattle.g_process.specs.Processing.{Processes};
 ghost use Rattle.g_store.specs.Arming.{MeansTheSame};
 ghost use Rattle.g_store.specs.Dumping.{KeepsDumps, OpensDump, Progresses, RefusesDump, StepsAs};
 ghost use Rattle.g_store.specs.Events.{Migrates, Mounts, Opens, StepsDump, Unmounts};
+ghost use Rattle.g_store.specs.Processing.{MovesDumps, StepsProcess};
 
 use g_base::NoMemory;
 use g_cache::CachedDisc;
@@ -221,6 +223,19 @@ impl<D: Disc, T: Tapes> Running<D, T> {
     {
         match &mut *self.store {
             Some(store) => store.dump_step(),
+            None => unreachable!(),
+        }
+    }
+
+    /// Writes all versions onto the reel and releases the others, and answers the number of the dump: the refusals of a store.
+    pub fn process(&mut self, alloc: Global, serial: u32) -> Result<u64, StoreFault>
+        requires running { self.old.spent ≡ false }
+        ensures processes { Processes serial self.old result self.new }
+        ensures step { StepsProcess serial self.old result self.new }
+        ensures dumps { MovesDumps self.old self.new }
+    {
+        match &mut *self.store {
+            Some(store) => store.process(alloc, serial),
             None => unreachable!(),
         }
     }

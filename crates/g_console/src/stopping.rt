@@ -96,7 +96,7 @@ fn behind<D: Disc, T: Tapes>(system: System<D, T>, fault: &StoreFault) -> System
 }
 
 /// The system behind a stop of its store.
-fn stopped<D: Disc, T: Tapes>(system: System<D, T>) -> System<D, T>
+pub(crate) fn stopped<D: Disc, T: Tapes>(system: System<D, T>) -> System<D, T>
     ensures { facts_of D.state T.rack result ≡ system_behind Stopped (facts_of D.state T.rack system) }
 {
     match system {

@@ -3,4 +3,5 @@ pub mod ChoiceLemmas
 pub mod NumberLemmas
 pub mod OpeningLemmas
 pub mod RowLemmas
+pub mod SeatLemmas
 pub mod TakingLemmas

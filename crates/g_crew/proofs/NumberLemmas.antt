@@ -170,3 +170,11 @@ AreJobs-none jobs next are = record { few = omega arith; rise = Rise-next 1 jobs
 -- what was written at a place is taken out there
 pub remove-set : (jobs : List JobState) (place : ℕ) (j : JobState) → remove (set jobs place j) place ≡ remove jobs place
 remove-set jobs place j = λ i. take-set jobs place j i ++ drop-set-lt (suc place) jobs place j (omega arith) i
+
+-- a job of the next number behind the others is found there
+pub found-pushed : (low : ℕ) (jobs : List JobState) (next : ℕ) (j : JobState) → Rise low jobs next → j.number ≡ next → job_in j.number (jobs ++ j ∷ []) ≡ Some j
+found-pushed low [] next j r is = ap (λ (b : Bool). cond b (Some j) None) (eq-eqb j.number j.number refl)
+found-pushed low (k ∷ jobs) next j (first, more) is =
+    let later = Rise-next (k.number + 1) jobs next more in
+    let apart : (k.number == j.number) ≡ false = ne_eqb k.number j.number (λ e. absurd (omega (arith, e, later, is))) in
+    ap (λ (b : Bool). cond b (Some k) (job_in j.number (jobs ++ j ∷ []))) apart ∙ found-pushed (k.number + 1) jobs next j more is

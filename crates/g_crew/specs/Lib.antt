@@ -4,5 +4,6 @@ pub mod Choice
 pub mod Crew
 pub mod Keeping
 pub mod Numbers
+pub mod Seating
 pub mod Taking
 pub mod Turn

@@ -1,10 +1,10 @@
 -- Why a job isn't taken in.
-use Rattle.std.specs.Prelude.{◌≡◌, ℕ, Bool, List, [], Option, Some, None, Result, Ok, Err, codes}
+use Rattle.std.specs.Prelude.{◌≡◌, ℕ, Bool, List, [], Option, Some, None, Result, Ok, Err, codes, unwrap_or}
 use Rattle.g_monitor.specs.Parts.{with_numbers}
 use Rattle.g_monitor.specs.Refusals.{fault_line}
 use Rattle.g_plain.specs.declared.faults.StoreFault.TheVariants.{NoUser as StoreNoUser}
-use Rattle.g_world.specs.Accounts.{knows_user}
-use Rattle.g_world.specs.Lines.{job_refusal}
+use Rattle.g_world.specs.Accounts.{account_of, knows_user}
+use Rattle.g_world.specs.Lines.{first_text, job_refusal, no_account, room_checks}
 use Rattle.g_world.specs.World.{World}
 use Rattle.g_crew.specs.Crew.{CrewState, IsCrewOf}
 use Rattle.g_crew.specs.declared.taking.NotTaken.{NotTaken}
@@ -34,3 +34,7 @@ printed (Err reason) = said reason
 -- IN EVERY WORLD OF THIS CREW the line is refused as the answer says, where the store knows the user or doesn't
 abbrev pub RefusesAsIn : CrewState → Bool → List ℕ → ℕ → ℕ → Option (List ℕ) → Type 0
 RefusesAsIn c known user time money text = (w : World) → IsCrewOf w c → knows_user w.store user ≡ known → job_refusal w user time money ≡ text
+
+-- there is room for a job of this user, or there is none for what the answer says
+abbrev pub RoomAsIn : CrewState → List ℕ → ℕ → ℕ → Option (List ℕ) → Type 0
+RoomAsIn c user time money text = (w : World) → IsCrewOf w c → first_text (room_checks w time money (unwrap_or (account_of w.accounts user) (no_account user))) ≡ text

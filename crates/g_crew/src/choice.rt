@@ -5,7 +5,7 @@ ghost use Rattle.g_crew.specs.Choice.{IsFirst, TellsMounted, able_in};
 ghost use Rattle.g_job.specs.Begun.{standing_of};
 ghost use Rattle.g_sched.specs.Rule.{IsWeighRule};
 ghost use Rattle.g_step.specs.State.{State};
-ghost use Rattle.g_world.specs.World.{can_step, has_none};
+ghost use Rattle.g_world.specs.World.{can_step, has_none, has_reel};
 
 use g_job::Job;
 use g_sched::{Candidate, Standing, WeighRule, earlier};
@@ -13,10 +13,18 @@ use g_sched::{Candidate, Standing, WeighRule, earlier};
 /// The most jobs that there are at a time.
 pub(crate) const MOST_JOBS: usize = 64;
 
-/// Whether the job can step: it waits for no reel, or for one that is mounted.
+/// Whether the job can step: at a terminal it waits for no line; and it waits for no reel, or for one that is mounted.
 pub(crate) fn can_step<M: Fn(u32) -> bool>(job: &Job, mounted: &M) -> bool
     requires { M.IsAlwaysCallable mounted.now }
     ensures { (s : State) → TellsMounted M.Fn mounted.now s → result ≡ can_step s job.now }
+{
+    job.ready() && has_reel(job, mounted)
+}
+
+/// Whether the job waits for no reel, or for one that is mounted.
+fn has_reel<M: Fn(u32) -> bool>(job: &Job, mounted: &M) -> bool
+    requires { M.IsAlwaysCallable mounted.now }
+    ensures { (s : State) → TellsMounted M.Fn mounted.now s → result ≡ has_reel s job.now }
 {
     match job.wants() {
         Some(serial) => mounted(serial),

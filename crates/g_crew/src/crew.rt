@@ -6,7 +6,7 @@ ghost use Rattle.g_crew.specs.Accounts.{AreKept, HaveRows};
 ghost use Rattle.g_crew.specs.Choice.{Chooses, TellsMounted, able_in};
 ghost use Rattle.g_crew.specs.Numbers.{AreJobs, AreOpen, job_in};
 ghost use Rattle.g_crew.specs.Taking.{RefusesAsIn, printed};
-ghost use Rattle.g_crew.specs.Turn.{TakesTurn};
+ghost use Rattle.g_crew.specs.Turn.{TakesTurn, shown_from};
 ghost use Rattle.g_job.specs.Begun.{job_begun};
 ghost use Rattle.g_job.specs.Spends.{ToldAsBefore};
 ghost use Rattle.g_job.specs.State.{JobState};
@@ -20,23 +20,28 @@ ghost use Rattle.g_world.specs.World.{has_none, with_job, without_job};
 use crate::account::{Account, charge, open_each};
 use crate::choice::{first_of, one_can_step};
 use crate::place::place_of;
+use crate::seats::get_up;
+use crate::taken::Taken;
 use crate::taking::{NewJob, NotTaken, refusal};
 use g_base::NoMemory;
 use g_budget::{Charge, Tariff, Usage};
 use g_entry::UserRec;
 use g_job::{Job, Turn};
+use g_mop::Terminals;
 use g_plain::Filestore;
 use g_sched::{Standing, WeighRule};
 use std::alloc::Global;
 use std::marker::Model;
 
 /// The jobs that have come in and aren't over, at most 64, in order of number; the accounts of users; and the number of the
-/// next job. Contracts see a `CrewState` (`docs/DEFINITIONS.md`, "What is kept beside the system").
+/// next job. Contracts see a `CrewState` (`docs/DEFINITIONS.md`, "What is kept beside the system"). Who sits at which terminal
+/// is kept beside the jobs, by the first LOGIN on: it says what the jobs say.
 #[derive(Drop)]
 pub struct Crew {
     pub(crate) jobs: Vec<Job>,
-    accounts: Vec<Account>,
-    next_job: u64,
+    pub(crate) accounts: Vec<Account>,
+    pub(crate) next_job: u64,
+    pub(crate) terminals: Option<Terminals>,
 }
 
 impl Model for Crew {
@@ -48,11 +53,13 @@ impl Model for Crew {
 
     ghost coded = { Prim.hlevel (codes, path.the_row.coded) };
 
+    ghost use Rattle.std.specs.Prelude.{◌≡◌};
     ghost use Rattle.g_crew.specs.Numbers.{AreJobs};
+    ghost use Rattle.g_crew.specs.Seating.{seats_in, seats_of};
 
     ghost view = { λ c. record { jobs = c.jobs.items; accounts = c.accounts.items; next_job = c.next_job } };
 
-    ghost invariant = { λ c. AreJobs c.jobs.items c.next_job };
+    ghost invariant = { λ c. AreJobs c.jobs.items c.next_job × (seats_of c.terminals ≡ seats_in c.jobs.items) };
 }
 
 impl Crew {
@@ -64,6 +71,7 @@ impl Crew {
             jobs: Vec::new(alloc),
             accounts: Vec::new(alloc),
             next_job: 1,
+            terminals: None,
         }
     }
 
@@ -133,6 +141,7 @@ impl Crew {
         requires few { length self.old.jobs < 64 }
         requires next { job.number ≡ self.old.next_job }
         requires allowed { job.allowance ≤ 1000000 }
+        requires elsewhere { job.terminal ≡ None }
         requires numbers { self.old.next_job + 1 < 18446744073709551616 }
         ensures ok { IfOk result (λ number. (number ≡ self.old.next_job) × (self.new ≡ record self.old {
           jobs = self.old.jobs ++ job ∷ [];
@@ -151,7 +160,7 @@ impl Crew {
         }
     }
 
-    /// Whether a job can step: one that waits for no reel, or for one that is `mounted`.
+    /// Whether a job can step: one that waits for no reel, or for one that is `mounted`, and, at a terminal, for no line.
     pub fn can_step<M: Fn(u32) -> bool>(&self, mounted: &M) -> bool
         requires { M.IsAlwaysCallable mounted.now }
         ensures { (s : State) → TellsMounted M.Fn mounted.now s → result ≡ not (has_none (able_in s self.now.jobs)) }
@@ -177,23 +186,24 @@ impl Crew {
         }
     }
 
-    /// A turn of the job of this number, over any store, as `Job::turn` takes it. Without memory nothing is known of the job
-    /// any more, and it is gone.
+    /// A turn of the job of this number, over any store, as `Job::turn` takes it, and, of a job at a terminal, how many bytes
+    /// its file had before. Without memory nothing is known of the job any more, and it is gone.
     pub fn turn<S: Filestore, F: Fn(&Usage) -> Charge>(
         &mut self,
         alloc: Global,
         number: u64,
         store: &mut S,
         tariff: &Tariff<F>,
-    ) -> Result<Turn, NoMemory>
+    ) -> Result<Taken, NoMemory>
         requires there { (job : JobState) × (job_in number self.old.jobs ≡ Some job) }
         requires open { AreOpen self.old.jobs }
         requires spent { S.is_spent store.old ≡ false }
         requires tariff { IsTariff F.Fn tariff.now }
-        ensures ok { IfOk result (λ turn. (job : JobState) × (after : JobState)
+        ensures ok { IfOk result (λ taken. (job : JobState) × (after : JobState)
             × (job_in number self.old.jobs ≡ Some job)
-            × TakesTurn S.answers F.Fn tariff.now job store.old turn after store.new
-            × (self.new ≡ record self.old { jobs = with_job after self.old.jobs })) }
+            × TakesTurn S.answers F.Fn tariff.now job store.old taken.turn after store.new
+            × (self.new ≡ record self.old { jobs = with_job after self.old.jobs })
+            × (taken.shown ≡ shown_from job)) }
 
         // Without memory a front of its calls was answered.
         ensures err { OnErr result ((job : JobState) × (job_in number self.old.jobs ≡ Some job)
@@ -201,17 +211,19 @@ impl Crew {
         ensures gone { OnErr result (self.new ≡ record self.old { jobs = without_job number self.old.jobs }) }
 
         // The reel that it waits for isn't mounted, and it mounts none; a stop spends the store.
-        ensures waits { (s : ℕ) → result ≡ Ok (Turn.Wants s) → S.can_wait store.new s ≡ true }
+        ensures waits { (s : ℕ) → IfOk result (λ taken. taken.turn ≡ Turn.Wants s → S.can_wait store.new s ≡ true) }
         ensures same_waits { (s : ℕ) → S.can_wait store.new s ≡ S.can_wait store.old s }
-        ensures stopped { IfOk result (λ turn. (S.is_spent store.new ≡ true) ↔ (turn ≡ Turn.Broken)) }
+        ensures stopped { IfOk result (λ taken. (S.is_spent store.new ≡ true) ↔ (taken.turn ≡ Turn.Broken)) }
     {
         let Some(place) = place_of(&self.jobs, number) else {
             unreachable!()
         };
+        let shown = file_before(&self.jobs[place]);
         match self.jobs[place].turn(alloc, store, tariff) {
-            Ok(turn) => Ok(turn),
+            Ok(turn) => Ok(Taken { turn, shown }),
             Err(NoMemory) => {
                 let_go(&mut self.jobs, place);
+                get_up(&mut self.terminals, number);
                 Err(NoMemory)
             }
         }
@@ -232,6 +244,7 @@ impl Crew {
         };
         let job = self.jobs.remove(place);
         charge(&mut self.accounts, &job);
+        get_up(&mut self.terminals, number);
         Some(job)
     }
 
@@ -241,6 +254,7 @@ impl Crew {
     {
         self.jobs.truncate(0);
         self.accounts.truncate(0);
+        self.terminals = None;
     }
 
     /// The jobs in order of number.
@@ -249,6 +263,16 @@ impl Crew {
         ensures numbers { AreJobs self.now.jobs self.now.next_job }
     {
         self.jobs.as_slice()
+    }
+}
+
+/// How many bytes the file of a job at a terminal has.
+fn file_before(job: &Job) -> Option<usize>
+    ensures { result ≡ shown_from job.now }
+{
+    match job.terminal() {
+        Some(_) => Some(job.monitor().len()),
+        None => None,
     }
 }
 

@@ -1,6 +1,6 @@
 //! What a job's line asks for, and why it isn't taken in.
 ghost use Rattle.std.specs.Prelude.{◌≡◌, ◌<◌, ◌≤◌, ◌++◌, ℕ, IfOk, OnOk, length};
-ghost use Rattle.g_crew.specs.Taking.{IsPrinted, RefusesAsIn, printed, refusal_line};
+ghost use Rattle.g_crew.specs.Taking.{IsPrinted, RefusesAsIn, RoomAsIn, printed, refusal_line};
 ghost use Rattle.g_crew.specs.declared.taking.NotTaken.TheVariants.{NoMemory};
 ghost use Rattle.g_job.specs.Begun.{job_begun};
 
@@ -80,19 +80,34 @@ pub(crate) fn refusal(
     if !known {
         return Err(NotTaken::NoUser);
     }
+    room_refusal(accounts, jobs, &job.user, job.time, job.money)
+}
+
+/// The first reason, in this order, for which there is no room for a job of this user, TIME and MONEY.
+pub(crate) fn room_refusal(
+    accounts: &[Account],
+    jobs: &[Job],
+    user: &User,
+    time: u64,
+    money: u64,
+) -> Result<(), NotTaken>
+    ensures refusal { (next : ℕ) → RoomAsIn (record { jobs = jobs.now; accounts = accounts.now; next_job = next })
+        user.now time money (printed result) }
+    ensures few { OnOk result (length jobs.now < 64) }
+{
     if jobs.len() >= MOST_JOBS {
         return Err(NotTaken::JobsFull);
     }
-    let left = left_for(accounts, jobs, &job.user);
-    if left.time < job.time {
+    let left = left_for(accounts, jobs, user);
+    if left.time < time {
         return Err(NotTaken::NoTime {
-            ask: job.time,
+            ask: time,
             left: left.time,
         });
     }
-    if left.money < job.money {
+    if left.money < money {
         return Err(NotTaken::NoMoney {
-            ask: job.money,
+            ask: money,
             left: left.money,
         });
     }

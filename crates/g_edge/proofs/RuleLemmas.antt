@@ -42,7 +42,7 @@ module _ {F G U V : Type 0}
   price_of w (Some charge) is = priced _ charge is
 
   step_by : (w : World) (move : Move) (new : World) → Step tariffs tariff rules rule w move new → Step others other ways way w move new
-  step_by w (TakeLine outcome) new it = it
+  step_by w (TakeLine process outcome) new it = it
   step_by w (Dumped outcome) new it = it
   step_by w (Begin number) new it =
       let (free, late, phase, begun) = it in

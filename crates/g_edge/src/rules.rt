@@ -8,10 +8,12 @@ ghost use Rattle.g_lines.specs.Lines.{lines_of};
 ghost use Rattle.g_sched.specs.Rule.{IsInRange};
 ghost use Rattle.g_script.specs.Script.{IsParsed};
 ghost use Rattle.g_script.specs.declared.operator.Timed.{Timed};
+ghost use Rattle.g_state_process.specs.Moving.{DumpsMove};
 ghost use Rattle.g_world.specs.Top.{AreArmings, IsCutWords};
 ghost use Rattle.g_world_laws.specs.Filestores.{HasFilestore};
 ghost use Rattle.g_run.specs.Input.{IsRun};
 ghost use Rattle.g_run.specs.Over.{both};
+ghost use Rattle.g_run.specs.Parts.{HaveNoProcess};
 ghost use Rattle.g_run.specs.Top as top;
 ghost use Rattle.g_edge.specs.Rules.{answering, price, share_used};
 
@@ -93,10 +95,13 @@ pub fn run_by_rules<S: Source, K: Sink, D: Disc, T: Tapes>(
         AreArmings lines (top.IsThrough result.status) (both (D.state disc) (T.rack tapes)) (both (D.state result.disc) (T.rack result.tapes)) }
     ensures same { SameDevices (both (D.state disc) (T.rack tapes)) (both (D.state result.disc) (T.rack result.tapes)) }
 
-    // With every status, of devices that tell and belong together: they go on doing so, what was completed on the reels stays
-    // so, each dump whole, and a disc that holds a filestore goes on to hold one.
+    // With every status, of devices that tell and belong together: they go on doing so, and a disc that holds a filestore goes on to
+    // hold one. Each dump that was completed stays so, whole and in its place, or its whole reel was released, and a newer one stands
+    // that has the directory of each of its users; where no line of the script is a PROCESS, all stay.
     ensures belongs { BelongTogether (both (D.state disc) (T.rack tapes)) → BelongTogether (both (D.state result.disc) (T.rack result.tapes)) }
-    ensures dumps { BelongTogether (both (D.state disc) (T.rack tapes)) → DumpsGrow (T.rack tapes) (T.rack result.tapes) }
+    ensures dumps { BelongTogether (both (D.state disc) (T.rack tapes)) → DumpsMove (T.rack tapes) (T.rack result.tapes) }
+    ensures stay { BelongTogether (both (D.state disc) (T.rack tapes)) → (left : List ℕ) → S.left script.old ≡ Some left → (lines : List Timed) (bad : Option ℕ) → IsParsed (lines_of left) lines bad
+        → HaveNoProcess lines → DumpsGrow (T.rack tapes) (T.rack result.tapes) }
     ensures stands { BelongTogether (both (D.state disc) (T.rack tapes)) → HasFilestore (both (D.state disc) (T.rack tapes))
         → HasFilestore (both (D.state result.disc) (T.rack result.tapes)) }
 {

@@ -1,12 +1,12 @@
 -- How PROCESS is answered, where something was written.
-use Rattle.std.proofs.Common.{◌≡◌, ◌≢◌, ℕ, zero, suc, ◌+◌, ◌-◌, ◌<◌, ◌≤◌, true, false, List, [], ◌∷◌, get_or, length, map, take, Option, Some, None, Ok, Err, refl, sym, ◌∙◌, ap, arith, subst, inl, inr, slice_get, ◌==◌}
-use Rattle.std.specs.Prelude.{◌⊎◌, All, Contains, Result, is_some}
+use Rattle.std.proofs.Common.{◌≡◌, ◌≢◌, ℕ, zero, suc, ◌+◌, ◌-◌, ◌<◌, ◌≤◌, Bool, true, false, List, [], ◌∷◌, get_or, length, map, take, Option, Some, None, Ok, Err, refl, sym, ◌∙◌, ap, arith, subst, inl, inr, slice_get, ◌==◌}
+use Rattle.std.specs.Prelude.{All, Contains, Result, is_some, nat_lt, not, ◌&&◌, ◌⊎◌}
 use Rattle.std.specs.List.{AllZip}
 use Rattle.std.specs.List.Sorted.{IsStrictlyIncreasing}
 use Rattle.std.specs.Option.{ForSome}
-use Rattle.std.proofs.lemmas.Bool.{cond-false, cond-true, eq-eqb, ne_eqb}
+use Rattle.std.proofs.lemmas.Bool.{cond-false, cond-true, eq-eqb}
 use Rattle.std.proofs.lemmas.Bool.Decides.{eqb_tells}
-use Rattle.std.proofs.lemmas.List.Elements.{Contains-append_right, Contains-get_or}
+use Rattle.std.proofs.lemmas.List.Elements.{All-contains, All-head, All-tail, Contains-append_right, Contains-get_or}
 use Rattle.std.proofs.lemmas.List.Sums.{sum_by-cons}
 use Rattle.std.proofs.lemmas.Option.{none-some, same_Some}
 use Rattle.g_base.specs.Block.{IsBlock, blocks_for}
@@ -16,40 +16,44 @@ use Rattle.g_entry.specs.declared.file_rec.TapeCopy.{TapeCopy}
 use Rattle.g_entry.specs.declared.head.Intent.{Intent}
 use Rattle.g_tape.specs.Rack.{AreReels, Rack, reel}
 use Rattle.g_tape.specs.Reads.{HasRead, OnlyReads, blocks_in, blocks_of as blocks_at, time_of, unread}
-use Rattle.g_tape.specs.Reel.{Reel, left_by}
+use Rattle.g_tape.specs.Reel.{IsReel, Reel, Remains, left_by}
 use Rattle.g_tape.proofs.ReadLemmas.{blocks_after_reads, is_reel, reel_after_reads, then_read}
 use Rattle.g_plain.specs.declared.faults.StoreFault.{StoreFault}
 use Rattle.g_plain.specs.declared.faults.StoreFault.TheVariants.{DiscReadFault, Stopped, TapeReadFault}
 use Rattle.g_contents.specs.Commits.{Commits}
-use Rattle.g_contents.specs.Contents.{Contents, File, Holds, with_intent}
+use Rattle.g_contents.specs.Contents.{Contents, File, Holds, has, with_intent}
 use Rattle.g_contents.specs.Facts.{IsTied, Layout, OnlineFacts}
-use Rattle.g_incr.specs.Layout.{Dump, is_between}
-use Rattle.g_incr.specs.Plan.{IsAway, Plan, blocks_of, content_blocks, dump_of, first_content, needs, waiting}
+use Rattle.g_incr.specs.Layout.{Dump}
+use Rattle.g_incr.specs.Plan.{IsAway, IsPlan, Plan, blocks_of, content_blocks, dump_of, first_content, needs, waiting}
 use Rattle.g_online.specs.Ready.{HasAdopted, adopted}
-use Rattle.g_shelf.specs.Completed.{AreCompleted}
-use Rattle.g_state.specs.Answers.{WroteCommits}
+use Rattle.g_shelf.specs.Completed.{AreCompleted, AreShelved}
+use Rattle.g_state.specs.Answers.{Belongs, Told, WroteCommits}
 use Rattle.g_state.specs.Meaning.{told_reels}
 use Rattle.g_state.specs.Reading.{AllTold}
-use Rattle.g_state.specs.Up.{StoreFacts}
+use Rattle.g_state.specs.Up.{IsUp, StoreFacts}
 use Rattle.g_state_process.specs.Forgotten.{bare_rec}
 use Rattle.g_state_process.proofs.ReleaseLemmas.{one_block_is_none}
 use Rattle.g_dumper.specs.Beginning.{intent_of}
 use Rattle.g_dumper.specs.Keeps.{spent_with, up_with}
-use Rattle.g_dumper.proofs.BeginLemmas.{after_reads}
+use Rattle.g_dumper.proofs.BeginLemmas.{after_reads, reel_named}
 use Rattle.g_dumper.proofs.IntentLemmas.{rules_here}
 use Rattle.g_dumper.proofs.KeepLemmas.{store_spent}
+use Rattle.g_shelf.specs.declared.rack.Listed.{Listed}
 use Rattle.g_process.specs.declared.job.Job.{Job}
-use Rattle.g_process.specs.Planned.{IsFree, copies_from, living, process_plan, versions}
+use Rattle.g_process.specs.Planned.{IsFree, copies_from, process_plan, versions}
 use Rattle.g_process.specs.Prepared.{AtBlock, AtCopies, AtIntent, AtRelease, CarriesOut, HasIntended, IsGranted, IsPrepared, Preparing, StopsAt, copies_of}
-use Rattle.g_process.specs.Processing.{CutCopies, CutDump, CutIntent, CutRelease, StopLeaves, intended_by, moved_by, process_copies, process_intent, IsDumped, IsLeftBy, IsOther, IsReleased, HasReadFile, IsReadBy, Processes, behind_process, process_refuses}
-use Rattle.g_process.specs.Releases.{AreReleased, released, taken}
-use Rattle.g_process.specs.Written.{FailedAt, FailsReading, HasWritten, IsSource, filled}
+use Rattle.g_process.specs.Named.{intended_by, moved_by, process_copies, process_intent}
+use Rattle.g_process.specs.Exits.{IsReadBy, Stops, StopsRelease}
+use Rattle.g_process.specs.Processing.{CutCopies, CutDump, CutIntent, CutRelease, StopLeaves, IsDumped, IsLeftBy, IsOther, IsReleased, HasReadFile, Processes, behind_process, process_refuses}
+use Rattle.g_process.specs.Releases.{AreReleased, is_taken, released, taken}
+use Rattle.g_process.specs.Written.{AreReadable, FailedAt, FailsReading, HasWritten, IsBlockOf, IsSource, filled}
 use Rattle.g_process.proofs.BecomeLemmas.{Becomes, all_cons, apart_of, at_name, at_serial, becomes_filled, becomes_left, becomes_read, becomes_released, becomes_then, both_at, label_left, labels, left_name, released_name, times_left, labels_beside, labels_changed, labels_reads, labels_released, same_serials, same_told, zip_labels}
 use Rattle.g_process.proofs.ContentLemmas.{all_read, within_content}
+use Rattle.g_process.proofs.ExitLemmas.{cut_belongs, exit_before, exit_copies, exit_cut, exit_done, exit_intent, exit_mark, exit_read, failed_read, found_itself, held_whole, process_away, left_whole, processed_belongs, stopped_copies, stopped_intent, torn_before, torn_mark}
 use Rattle.g_process.proofs.DumpLemmas.{content_at, content_of, one_dump}
-use Rattle.g_process.proofs.DoneLemmas.{IsHeldBy, at_this, held_left, held_part, reels_held, reels_left, reels_part, reels_read, two_commits, two_rise}
+use Rattle.g_process.proofs.DoneLemmas.{IsHeldBy, at_this, has_taken, held_left, held_part, part_never, reels_held, reels_left, reels_part, reels_read, two_commits, two_rise}
 use Rattle.g_process.proofs.ListLemmas.{free_by_list, noted_at}
-use Rattle.g_process.proofs.PlanLemmas.{all_versions, plan_files}
+use Rattle.g_process.proofs.PlanLemmas.{all_versions}
 use Rattle.g_process.proofs.ProcessLemmas.{none_refused, refuses_early, refuses_late, store_up}
 use Rattle.g_process.proofs.ReelLemmas.{filled_serial, read_later}
 use Rattle.g_process.proofs.ReleaseLemmas.{AreApart, times_released}
@@ -58,6 +62,16 @@ use Rattle.g_process.proofs.WriteLemmas.{contained}
 some_reel : (x : Option Reel) → is_some x ≡ true → (r : Reel) × (x ≡ Some r)
 some_reel None is = absurd (let no : ⊥ = cc in no)
 some_reel (Some r) is = (r, refl)
+
+reel_within : (n : ℕ) (xs : List Reel) (q : Reel) → reel n xs ≡ Some q → Contains xs q
+reel_within n [] q is = absurd (none-some q is)
+reel_within n (x ∷ xs) q is = by_first (eqb_tells n x.serial) (λ it. reel_within n xs q it)
+  where
+    by_first : (((n == x.serial) ≡ true) × (n ≡ x.serial)) ⊎ (((n == x.serial) ≡ false) × (n ≡ x.serial → ⊥)) → (reel n xs ≡ Some q → Contains xs q) → Contains (x ∷ xs) q
+    by_first (inl h) rest = (0, omega arith, same_Some x q (sym (cond-true (n == x.serial) (Some x) (reel n xs) h.0) ∙ is))
+    by_first (inr h) rest =
+        let (i, inside, at) = rest (sym (cond-false (n == x.serial) (Some x) (reel n xs) h.0) ∙ is) in
+        (suc i, omega (arith, inside), at)
 
 module _ (job : Job) (o : OnlineFacts) (old mid : Rack) (live : o.live ≡ true) (pins : o.pins ≡ None) (tied : IsTied o) (are : AreReels old.reels) (only : OnlyReads old mid)
     (granted : IsGranted job.serial o old) (ready : IsPrepared job.serial o old mid job) where
@@ -127,14 +141,53 @@ module _ (job : Job) (o : OnlineFacts) (old mid : Rack) (live : o.live ≡ true)
       by_case blocks (inl was) = inl (subst (Holds blocks) (intended.contents ∙ begun_is) was)
       by_case blocks (inr now) = inr (subst (Holds blocks) (moved_is begun intended) now)
 
+  -- DISC AND RACK go on belonging together, as the lemmas of the exits want it
+  rules_are : IsPlan (process_plan serial o)
+  rules_are = subst IsPlan ready.plan ready.may.rules
+
+  the_reel : (r : Reel) × (reel serial old.reels ≡ Some r)
+  the_reel = some_reel (reel serial old.reels) granted.there
+
+  mounted_on : the_reel.0.mounted ≡ true
+  mounted_on = All-contains (λ (r : Reel). r.mounted ≡ true) old.reels the_reel.0 granted.mounted (reel_within serial old.reels the_reel.0 the_reel.1)
+
+  room_on : needs (process_plan serial o) ≤ the_reel.0.capacity
+  room_on =
+      let (q, found, same) = after_reads (reel serial mid.reels) (reel serial old.reels) the_reel.0 the_reel.1 (reel_after_reads serial old mid only) in
+      let this : q ≡ ready.may.writable.on = same_Some q ready.may.writable.on (sym found ∙ ready.may.writable.reel_is) in
+      let room = ready.may.writable.room in
+      let need : needs plan ≡ needs (process_plan serial o) = ap needs ready.plan in
+      let capacity : ready.may.writable.on.capacity ≡ the_reel.0.capacity = ap (λ (x : Reel). x.capacity) (sym this) ∙ ap (λ (x : Reel). x.capacity) same in
+      omega (arith, room, capacity, need)
+
+  readable_are : AreReadable serial (process_plan serial o) (versions o.contents) o mid
+  readable_are = subst (λ (qs : List FileRec). AreReadable serial (process_plan serial o) qs o mid) ready.versions_are
+      (subst (λ (p : Plan). AreReadable serial p rs o mid) ready.plan ready.may.writable.readable)
+
+  abbrev so_at : (begun : OnlineFacts) (k : ℕ) (m : Rack) → HasWritten serial plan rs begun k mid m → HasWritten serial (process_plan serial o) (versions o.contents) begun k mid m
+  so_at begun k m so = record {
+    written = so.written;
+    long = so.long;
+    each = λ j block is. subst (λ (qs : List FileRec). IsBlockOf (process_plan serial o) qs begun mid m j block) ready.versions_are
+        (subst (λ (p : Plan). IsBlockOf p rs begun mid m j block) ready.plan (so.each j block is));
+    rack = so.rack;
+    kept = so.kept;
+  }
+
+  files_at : (begun : OnlineFacts) → HasIntended (intent_of plan) o begun → begun.contents.files ≡ o.contents.files
+  files_at begun intended = ap (λ (c : Contents). c.files) intended.contents
+
+  need_is : needs plan ≡ needs (process_plan serial o)
+  need_is = ap needs ready.plan
+
   -- A READ FAILED behind the intent
   module _ (o' : OnlineFacts) (new : Rack) (tied' : IsTied o') (are_new : AreReels new.reels) where
     after_reading : (f : Reel → Reel) → Becomes (at_serial serial f) old new → AllZip (IsReadBy serial) old.reels new.reels
     after_reading f is = reels_read serial f old new is
 
-    pub fails_disc : (begun : OnlineFacts) (k : ℕ) (m : Rack) → HasIntended (intent_of plan) o begun → HasWritten serial plan rs begun k mid m → FailsReading DiscReadFault begun o' m new
+    pub fails_disc : (begun : OnlineFacts) (k : ℕ) (m : Rack) → k < needs plan → HasIntended (intent_of plan) o begun → HasWritten serial plan rs begun k mid m → FailsReading DiscReadFault begun o' m new
         → (let r : Result ℕ StoreFault = Err DiscReadFault in Processes serial was r (up_with o' new None))
-    fails_disc begun k m intended so (rose, is, same) = record {
+    fails_disc begun k m less intended so (rose, is, same) = record {
       refused = never_refused (Err DiscReadFault) (up_with o' new None);
       granted = λ _. tt;
       same = λ early. absurd (early tt);
@@ -162,6 +215,15 @@ module _ (job : Job) (o : OnlineFacts) (old mid : Rack) (live : o.live ≡ true)
       keeps = store_up o' new (ap (λ (x : OnlineFacts). x.live) is ∙ intended.live) (ap (λ (x : OnlineFacts). x.pins) is ∙ intended.pins) tied';
       told = told_by o' new (ap (λ (x : OnlineFacts). is_some x.disc.held) is ∙ intended.told) (ap (λ (x : Rack). labels x.reels) same ∙ labels_written begun k m so);
       spent = (λ e. absurd (let no : ⊥ = cc in no), λ e. absurd (let no : ⊥ = cc in no));
+      belongs = λ told is_together.
+          let (text, shelf, shelved, up) = is_together.up refl in
+          failed_read serial o old mid live tied are only rules_are free the_reel.0 the_reel.1 mounted_on room_on readable_are told text shelf shelved up begun (files_at begun intended) k m (so_at begun k m so) o' new (let need = need_is in omega (arith, less, need)) tied'
+          (ap (λ (x : OnlineFacts). x.live) is ∙ intended.live) (ap (λ (x : OnlineFacts). x.contents) is ∙ intended.contents ∙ begun_is) (ap (λ (x : OnlineFacts). x.changed) is ∙ intended.changed)
+          (ap (λ (x : Rack). map unread x.reels) same);
+      exit = λ told text shelf shelved up unspent.
+          exit_read serial o old mid live tied are only rules_are free the_reel.0 the_reel.1 mounted_on room_on readable_are told text shelf shelved up begun (files_at begun intended) k m (so_at begun k m so) (up_with o' new None) (let need = need_is in omega (arith, less, need))
+          (ap (λ (x : OnlineFacts). x.live) is ∙ intended.live) (ap (λ (x : OnlineFacts). x.contents) is ∙ intended.contents ∙ begun_is) (ap (λ (x : OnlineFacts). x.changed) is ∙ intended.changed)
+          (ap (λ (x : Rack). map unread x.reels) same);
       dump = λ _. refl;
     }
       where
@@ -172,9 +234,9 @@ module _ (job : Job) (o : OnlineFacts) (old mid : Rack) (live : o.live ≡ true)
           writes = subst (λ (n : ℕ). RoseBy intended.blocks o.disc.writes n) (sym writes) intended.writes;
         }
 
-    pub fails_tape : (begun : OnlineFacts) (k : ℕ) (m : Rack) → HasIntended (intent_of plan) o begun → HasWritten serial plan rs begun k mid m → FailsReading TapeReadFault begun o' m new
+    pub fails_tape : (begun : OnlineFacts) (k : ℕ) (m : Rack) → k < needs plan → HasIntended (intent_of plan) o begun → HasWritten serial plan rs begun k mid m → FailsReading TapeReadFault begun o' m new
         → (let r : Result ℕ StoreFault = Err TapeReadFault in Processes serial was r (up_with o' new None))
-    fails_tape begun k m intended so (rose, same, is) = record {
+    fails_tape begun k m less intended so (rose, same, is) = record {
       refused = never_refused (Err TapeReadFault) (up_with o' new None);
       granted = λ _. tt;
       same = λ early. absurd (early tt);
@@ -206,6 +268,15 @@ module _ (job : Job) (o : OnlineFacts) (old mid : Rack) (live : o.live ≡ true)
       keeps = store_up o' new (ap (λ (x : OnlineFacts). x.live) is ∙ intended.live) (ap (λ (x : OnlineFacts). x.pins) is ∙ intended.pins) tied';
       told = told_by o' new (ap (λ (x : OnlineFacts). is_some x.disc.held) is ∙ intended.told) (ap (λ (x : Rack). labels x.reels) same ∙ labels_written begun k m so);
       spent = (λ e. absurd (let no : ⊥ = cc in no), λ e. absurd (let no : ⊥ = cc in no));
+      belongs = λ told is_together.
+          let (text, shelf, shelved, up) = is_together.up refl in
+          failed_read serial o old mid live tied are only rules_are free the_reel.0 the_reel.1 mounted_on room_on readable_are told text shelf shelved up begun (files_at begun intended) k m (so_at begun k m so) o' new (let need = need_is in omega (arith, less, need)) tied'
+          (ap (λ (x : OnlineFacts). x.live) is ∙ intended.live) (ap (λ (x : OnlineFacts). x.contents) is ∙ intended.contents ∙ begun_is) (ap (λ (x : OnlineFacts). x.changed) is ∙ intended.changed)
+          (ap (λ (x : Rack). map unread x.reels) same);
+      exit = λ told text shelf shelved up unspent.
+          inr (exit_read serial o old mid live tied are only rules_are free the_reel.0 the_reel.1 mounted_on room_on readable_are told text shelf shelved up begun (files_at begun intended) k m (so_at begun k m so) (up_with o' new None) (let need = need_is in omega (arith, less, need))
+          (ap (λ (x : OnlineFacts). x.live) is ∙ intended.live) (ap (λ (x : OnlineFacts). x.contents) is ∙ intended.contents ∙ begun_is) (ap (λ (x : OnlineFacts). x.changed) is ∙ intended.changed)
+          (ap (λ (x : Rack). map unread x.reels) same));
       dump = λ _. refl;
     }
 
@@ -222,7 +293,7 @@ module _ (job : Job) (o : OnlineFacts) (old mid : Rack) (live : o.live ≡ true)
         → (i : ℕ) (r : FileRec) → slice_get rs i ≡ Some r → (part : ℕ) → part < blocks_for r.len
         → (block : List ℕ) × (slice_get so.written (1 + length plan.users + length plan.files + (blocks_of (take i (waiting plan.files)) + part)) ≡ Some block) × IsSource o old new r part block
     source_all m begun intended so times i r at part within =
-        let (block, is, source) = all_read serial plan rs begun mid m ready.may.writable.readable.waiting_are so i r at part within in (
+        let (block, is, source) = all_read serial plan rs begun mid m ready.may.writable.readable.waiting_are (needs plan) (omega arith) so i r at part within in (
           block,
           is,
           record {
@@ -250,15 +321,8 @@ module _ (job : Job) (o : OnlineFacts) (old mid : Rack) (live : o.live ≡ true)
         subst (λ (k : ℕ). HasRead copy.serial k old new) is (source.offline f there refl off copy tape).1
 
     -- THE DUMP where its reel tells
-    bare_away : (files : List FileRec) (n from to : ℕ) → All (λ (r : FileRec). is_between n from to r.tape ≡ false) (map bare_rec files)
-    bare_away [] n from to = λ k d inside. absurd (let no : ⊥ = omega (arith, inside) in no)
-    bare_away (x ∷ xs) n from to = all_cons (λ (r : FileRec). is_between n from to r.tape ≡ false) (bare_rec x) (map bare_rec xs) refl (bare_away xs n from to)
-
     plan_away : IsAway plan
-    plan_away = subst IsAway (sym ready.plan) (record {
-      each = subst (λ (fs : List FileRec). All (λ (r : FileRec). is_between serial (first_content (process_plan serial o)) (first_content (process_plan serial o) + content_blocks (process_plan serial o)) r.tape ≡ false) fs)
-          (sym (plan_files serial o)) (bare_away (living o.contents) serial (first_content (process_plan serial o)) (first_content (process_plan serial o) + content_blocks (process_plan serial o)));
-    })
+    plan_away = subst IsAway (sym ready.plan) (process_away serial o)
 
     serial_of : (rs' : List Reel) (n : ℕ) (q : Reel) → reel n rs' ≡ Some q → Contains rs' q × (q.serial ≡ n)
     serial_of [] n q is = absurd (none-some q is)
@@ -281,7 +345,7 @@ module _ (job : Job) (o : OnlineFacts) (old mid : Rack) (live : o.live ≡ true)
         let right = is_reel serial new.reels q are_new.each found in
         let is : blocks ≡ so.written = held_at old.reels new.reels held q q_in named blocks q_blocks in
         let whole : All IsBlock so.written = subst (All IsBlock) is (right.whole blocks q_blocks) in
-        let one = one_dump serial plan rs begun mid m ready.may.rules plan_away so whole (ap (λ (i : Intent). i.serial) ready.may.intent_is) (ap (λ (i : Intent). i.place) ready.may.intent_is) in
+        let one = one_dump serial plan rs begun mid m ready.may.rules plan_away (needs plan) (omega arith) so whole refl (ap (λ (i : Intent). i.serial) ready.may.intent_is) (ap (λ (i : Intent). i.place) ready.may.intent_is) in
         record {
           content = content_of plan so.written;
           completed = subst (λ (bs : List (List ℕ)). AreCompleted serial bs (dump_of (process_plan serial o) (content_of plan so.written) ∷ [])) (sym is)
@@ -295,7 +359,7 @@ module _ (job : Job) (o : OnlineFacts) (old mid : Rack) (live : o.live ≡ true)
               let less : blocks_of (take i (waiting plan.files)) + part < content_blocks plan = within_content (waiting plan.files) i part (bare_rec r) at_waits inside in (
                 block,
                 ap (slice_get (content_of plan so.written)) (let e : blocks_of (take i (versions o.contents)) + part ≡ blocks_of (take i (waiting plan.files)) + part = omega (arith, front) in e)
-                    ∙ content_at serial plan rs begun mid m ready.may.rules plan_away so (blocks_of (take i (waiting plan.files)) + part) less ∙ here,
+                    ∙ content_at serial plan rs begun mid m ready.may.rules plan_away (needs plan) (omega arith) so (blocks_of (take i (waiting plan.files)) + part) less ∙ here,
                 source,
               );
         }
@@ -334,13 +398,6 @@ module _ (job : Job) (o : OnlineFacts) (old mid : Rack) (live : o.live ≡ true)
         let completed = noted.read.completed blocks told in
         let empty : noted.dumps ≡ [] = none.none blocks told noted.dumps completed in
         subst (λ (n : ℕ). AreCompleted n blocks []) (sym named) (subst (λ (ds : List Dump). AreCompleted r.serial blocks ds) empty completed)
-      where
-        found_itself : (xs : List Reel) (x : Reel) → AreApart xs → Contains xs x → reel x.serial xs ≡ Some x
-        found_itself [] x all (i, inside, at) = absurd (let no : ⊥ = omega (arith, inside) in no)
-        found_itself (y ∷ ys) x (here, all) (zero, inside, at) =
-            cond-true (x.serial == y.serial) (Some y) (reel x.serial ys) (eq-eqb x.serial y.serial (ap (λ (z : Reel). z.serial) (sym at))) ∙ ap Some at
-        found_itself (y ∷ ys) x (here, all) (suc i, inside, at) =
-            cond-false (x.serial == y.serial) (Some y) (reel x.serial ys) (ne_eqb x.serial y.serial (here x (i, omega (arith, inside), at))) ∙ found_itself ys x all (i, omega (arith, inside), at)
 
     abbrev HasNone : Reel → Type 0
     HasNone r = r.serial ≢ serial → ForSome r.blocks (λ blocks. AreCompleted r.serial blocks [])
@@ -360,14 +417,80 @@ module _ (job : Job) (o : OnlineFacts) (old mid : Rack) (live : o.live ≡ true)
     other_reels : (need : ℕ) → AllZip (IsLeftBy serial need old) old.reels new.reels → labels new.reels ≡ labels old.reels → All HasNone new.reels
     other_reels need zip same = none_in need old.reels new.reels zip (zip_labels old.reels new.reels same) (λ r there. there)
 
+    -- what was written is whole where its reel tells
+    whole_by : (w : List (List ℕ)) → AllZip (IsHeldBy serial w) old.reels new.reels → labels new.reels ≡ labels old.reels → AllTold o.disc.held (told_reels old) → All IsBlock w
+    whole_by w held same told =
+        held_whole serial w old.reels new.reels (zip_whole old.reels new.reels held are_new.each) (zip_labels old.reels new.reels same) (same_told old.reels new.reels same told.each.each) the_reel.0
+        (reel_within serial old.reels the_reel.0 the_reel.1) (reel_named serial old.reels the_reel.0 the_reel.1)
+      where
+        zip_whole : (xs ys : List Reel) → AllZip (IsHeldBy serial w) xs ys → All IsReel ys → AllZip (λ (x y : Reel). y.serial ≡ serial → (bs : List (List ℕ)) → y.blocks ≡ Some bs → All IsBlock w) xs ys
+        zip_whole [] [] zip all = tt
+        zip_whole [] (y ∷ ys) zip all = absurd zip
+        zip_whole (x ∷ xs) [] zip all = absurd zip
+        zip_whole (x ∷ xs) (y ∷ ys) (one, zip) all =
+            (λ named bs is. subst (All IsBlock) (one named bs is) ((All-head IsReel y ys all).whole bs is), zip_whole xs ys zip (All-tail IsReel y ys all))
+
+    -- no release is of the reel that is written
+    never_all : has (taken serial job.lists.items) serial ≡ true → ⊥
+    never_all is = (has_taken serial serial old mid job.lists.items ready.listed.each is).1 refl
+
+    never_part : (place : ℕ) → has (taken serial (take place job.lists.items)) serial ≡ true → ⊥
+    never_part place = part_never serial old mid job.lists.items ready.listed place
+
+    cut_apart : (place : ℕ) (l : Listed) → slice_get job.lists.items place ≡ Some l → is_taken serial l ≡ true → l.serial ≢ serial
+    cut_apart place l at is same =
+        let e : is_taken serial l ≡ false = ap (λ (b : Bool). not b && nat_lt 0 (length l.notes)) (eq-eqb l.serial serial same) in (let no : ⊥ = cc in no)
+
+    whole_left : (k : ℕ) (m : Rack) (so : HasWritten serial plan rs o' k mid m) (how : Remains) → AllTold o.disc.held (told_reels old)
+        → Becomes (at_serial serial (λ r. left_by how k (filled so.written r))) old new → labels new.reels ≡ labels old.reels → All IsBlock so.written
+    whole_left k m so how told beside same =
+        left_whole serial so.written k so.long how old new beside are_new.each (zip_labels old.reels new.reels same) (same_told old.reels new.reels same told.each.each) the_reel.0
+        (reel_within serial old.reels the_reel.0 the_reel.1) (reel_named serial old.reels the_reel.0 the_reel.1)
+
+    -- the block that failed is the mark, or one before it
+    k_cases : (a b : ℕ) → a ≤ b → (a < b) ⊎ (a ≡ b)
+    k_cases zero zero most = inr refl
+    k_cases zero (suc b) most = inl (omega arith)
+    k_cases (suc a) zero most = absurd (let no : ⊥ = omega (arith, most) in no)
+    k_cases (suc a) (suc b) most = more (k_cases a b (omega (arith, most)))
+      where
+        more : (a < b) ⊎ (a ≡ b) → (suc a < suc b) ⊎ (suc a ≡ suc b)
+        more (inl l) = inl (omega (arith, l))
+        more (inr e) = inr (ap suc e)
+
+    torn_exits : (told : AllTold o.disc.held (told_reels old)) (text : ℕ → List ℕ) (shelf : ℕ → List Dump) (shelved : AreShelved shelf (told_reels old)) (up : IsUp text shelf (up_with o old None))
+        (k : ℕ) (m : Rack) (so : HasWritten serial plan rs o' k mid m) → HasIntended (intent_of plan) o o' → (how : Remains) → k < needs plan
+        → Becomes (at_serial serial (λ r. left_by how k (filled so.written r))) old new → labels new.reels ≡ labels old.reels → Stops text shelf serial (up_with o old None) (spent_with o' new)
+    torn_exits told text shelf shelved up k m so intended how less beside same = by_place (k_cases (k + 1) (needs (process_plan serial o)) (let need = need_is in omega (arith, less, need)))
+      where
+        by_place : (k + 1 < needs (process_plan serial o)) ⊎ (k + 1 ≡ needs (process_plan serial o)) → Stops text shelf serial (up_with o old None) (spent_with o' new)
+        by_place (inl before) =
+            exit_before serial o old mid live tied are only rules_are free the_reel.0 the_reel.1 mounted_on room_on readable_are told text shelf shelved up o' (files_at o' intended) k m (so_at o' k m so) (spent_with o' new) how before beside intended.live (intended.contents ∙ begun_is) intended.changed
+        by_place (inr last) =
+            exit_mark serial o old mid live tied are only rules_are free the_reel.0 the_reel.1 mounted_on room_on readable_are told text shelf shelved up o' (files_at o' intended) k m (so_at o' k m so) (omega (arith, last)) (whole_left k m so how told beside same) (spent_with o' new) how last beside
+            intended.live (intended.contents ∙ begun_is) intended.changed
+
+    torn_belongs : (told : AllTold o.disc.held (told_reels old)) (text : ℕ → List ℕ) (shelf : ℕ → List Dump) (shelved : AreShelved shelf (told_reels old)) (up : IsUp text shelf (up_with o old None))
+        (k : ℕ) (m : Rack) (so : HasWritten serial plan rs o' k mid m) → HasIntended (intent_of plan) o o' → (how : Remains) → k < needs plan
+        → Becomes (at_serial serial (λ r. left_by how k (filled so.written r))) old new → labels new.reels ≡ labels old.reels → Belongs (spent_with o' new)
+    torn_belongs told text shelf shelved up k m so intended how less beside same = by_place (k_cases (k + 1) (needs (process_plan serial o)) (let need = need_is in omega (arith, less, need)))
+      where
+        by_place : (k + 1 < needs (process_plan serial o)) ⊎ (k + 1 ≡ needs (process_plan serial o)) → Belongs (spent_with o' new)
+        by_place (inl before) =
+            torn_before serial o old mid live tied are only rules_are free the_reel.0 the_reel.1 mounted_on room_on readable_are told text shelf shelved up o' (files_at o' intended) k m (so_at o' k m so) o' new how before beside same tied' intended.live (intended.contents ∙ begun_is)
+        by_place (inr last) =
+            torn_mark serial o old mid live tied are only rules_are free the_reel.0 the_reel.1 mounted_on room_on readable_are told text shelf shelved up o' (files_at o' intended) k m (so_at o' k m so) (omega (arith, last)) (whole_left k m so how told beside same) o' new how last beside same tied' intended.live
+            (intended.contents ∙ begun_is)
+
     -- A STOP
     abbrev TheStop : Type 0
     TheStop = let r : Result ℕ StoreFault = Err Stopped in Processes serial was r (spent_with o' new)
 
-    a_stop : StopLeaves serial was (spent_with o' new) → labels new.reels ≡ labels old.reels → is_some o'.disc.held ≡ is_some o.disc.held → o'.disc.size ≡ o.disc.size → o'.disc.arms ≡ o.disc.arms
+    a_stop : (Told was → Belongs was → Belongs (spent_with o' new)) → (Told was → (text : ℕ → List ℕ) (shelf : ℕ → List Dump) → AreShelved shelf (told_reels old) → IsUp text shelf was → Stops text shelf serial was (spent_with o' new))
+        → StopLeaves serial was (spent_with o' new) → labels new.reels ≡ labels old.reels → is_some o'.disc.held ≡ is_some o.disc.held → o'.disc.size ≡ o.disc.size → o'.disc.arms ≡ o.disc.arms
         → new.arms ≡ old.arms → o'.disc.read_faults ≡ o.disc.read_faults → new.read_faults ≡ old.read_faults
         → (Rose o.disc.write_faults o'.disc.write_faults × (new.write_faults ≡ old.write_faults)) ⊎ (Rose old.write_faults new.write_faults × (o'.disc.write_faults ≡ o.disc.write_faults)) → TheStop
-    a_stop reels same told size disc_arms tape_arms disc_reads tape_reads cut = record {
+    a_stop together exits reels same told size disc_arms tape_arms disc_reads tape_reads cut = record {
       refused = never_refused (Err Stopped) (spent_with o' new);
       granted = λ _. tt;
       same = λ early. absurd (early tt);
@@ -391,12 +514,19 @@ module _ (job : Job) (o : OnlineFacts) (old mid : Rack) (live : o.live ≡ true)
       keeps = store_spent o' new tied';
       told = told_by o' new told same;
       spent = (λ _. refl, λ _. refl);
+      belongs = together;
+      exit = λ told text shelf shelved up unspent. exits told text shelf shelved up;
       dump = λ isnt. absurd (isnt refl);
     }
 
     pub stops : StopsAt job o mid o' new → TheStop
     stops (AtIntent stopped same) =
-        a_stop (CutIntent (subst (λ (i : Intent). ForSome o'.disc.held (λ blocks. Holds blocks o.contents ⊎ Holds blocks (with_intent (Some i) o.contents))) intent_is stopped.holds)
+        a_stop (λ told is_together. let (text, shelf, shelved, up) = is_together.up refl in
+        stopped_intent serial o old mid live tied are only rules_are free the_reel.0 the_reel.1 mounted_on room_on readable_are told text shelf shelved up o' new
+        (ap (λ (x : Rack). map unread x.reels) same ∙ only.reels) (subst (λ (i : Intent). ForSome o'.disc.held (λ blocks. Holds blocks o.contents ⊎ Holds blocks (with_intent (Some i) o.contents))) intent_is stopped.holds))
+        (λ told text shelf shelved up. exit_intent serial o old mid live tied are only rules_are free the_reel.0 the_reel.1 mounted_on room_on readable_are told text shelf shelved up (spent_with o' new)
+        (ap (λ (x : Rack). map unread x.reels) same ∙ only.reels) (subst (λ (i : Intent). ForSome o'.disc.held (λ blocks. Holds blocks o.contents ⊎ Holds blocks (with_intent (Some i) o.contents))) intent_is stopped.holds))
+        (CutIntent (subst (λ (i : Intent). ForSome o'.disc.held (λ blocks. Holds blocks o.contents ⊎ Holds blocks (with_intent (Some i) o.contents))) intent_is stopped.holds)
         (ap (λ (x : Rack). map unread x.reels) same ∙ only.reels)) (ap (λ (x : Rack). labels x.reels) same ∙ labels_mid)
         stopped.told stopped.causes.size stopped.causes.arms (ap (λ (x : Rack). x.arms) same ∙ only.arms) (stopped.causes.reads_kept (λ no. no)) (ap (λ (x : Rack). x.read_faults) same ∙ ready.kept)
         (inl (stopped.causes.writes_rose tt, ap (λ (x : Rack). x.write_faults) same ∙ only.write_faults))
@@ -407,7 +537,11 @@ module _ (job : Job) (o : OnlineFacts) (old mid : Rack) (live : o.live ≡ true)
         let second = becomes_then (at_serial serial (filled so.written)) (λ r. r) old m failed.mid first (becomes_read m failed.mid failed.reads.reels) in
         let third = becomes_left serial k failed.how failed.mid new (apart_by failed.mid same_f) (ap (λ (x : Rack). x.reels) failed.rack) in
         let all = becomes_then (at_serial serial (filled so.written)) (at_serial serial (left_by failed.how k)) old failed.mid new second third in
-        a_stop (CutDump intended.live (intended.contents ∙ begun_is)
+        let beside = both_at serial (filled so.written) (left_by failed.how k) old new (filled_serial so.written) all in
+        a_stop (λ told is_together. let (text, shelf, shelved, up) = is_together.up refl in
+        torn_belongs told text shelf shelved up k m so intended failed.how less beside (labels_failed k serial m new failed same_m))
+        (λ told text shelf shelved up. torn_exits told text shelf shelved up k m so intended failed.how less beside (labels_failed k serial m new failed same_m))
+        (CutDump intended.live (intended.contents ∙ begun_is)
         (reels_read serial (λ r. left_by failed.how k (filled so.written r)) old new (both_at serial (filled so.written) (left_by failed.how k) old new (filled_serial so.written) all)))
         (labels_failed k serial m new failed same_m) intended.told intended.causes.size intended.causes.arms
         (ap (λ (x : Rack). x.arms) failed.rack ∙ failed.reads.arms ∙ so.rack.arms ∙ only.arms) (intended.causes.reads_kept (λ no. no))
@@ -415,7 +549,14 @@ module _ (job : Job) (o : OnlineFacts) (old mid : Rack) (live : o.live ≡ true)
         (inr (subst (λ (n : ℕ). Rose n new.write_faults) (failed.reads.write_faults ∙ so.rack.write_faults ∙ only.write_faults) failed.rose, intended.causes.writes_kept (λ no. no)))
     stops (AtCopies begun intended so adopting) =
         let all = become_written begun (needs plan) new so in
-        a_stop (CutCopies (holds_either begun intended adopting.stopped.holds)
+        let held = reels_held serial (at_serial serial (filled so.written)) so.written old new (let long = so.long in omega (arith, long))
+        (at_name serial (filled so.written) (filled_serial so.written)) (at_this serial (filled so.written)) all in
+        a_stop (λ told is_together. let (text, shelf, shelved, up) = is_together.up refl in
+        stopped_copies serial o old mid live tied are only rules_are free the_reel.0 the_reel.1 mounted_on room_on readable_are told text shelf shelved up begun (files_at begun intended) (needs plan) new (so_at begun (needs plan) new so)
+        (let need = need_is in omega (arith, need)) (whole_by so.written held (labels_written begun (needs plan) new so) told) need_is o' (holds_either begun intended adopting.stopped.holds))
+        (λ told text shelf shelved up. exit_copies serial o old mid live tied are only rules_are free the_reel.0 the_reel.1 mounted_on room_on readable_are told text shelf shelved up begun (files_at begun intended) (needs plan) new (so_at begun (needs plan) new so)
+        (let need = need_is in omega (arith, need)) (whole_by so.written held (labels_written begun (needs plan) new so) told) need_is o' (holds_either begun intended adopting.stopped.holds))
+        (CutCopies (holds_either begun intended adopting.stopped.holds)
         (the_dump new begun intended so (λ s k. omega arith) (reels_held serial (at_serial serial (filled so.written)) so.written old new (let long = so.long in omega (arith, long))
         (at_name serial (filled so.written) (filled_serial so.written)) (at_this serial (filled so.written)) all))
         (reels_read serial (filled so.written) old new all)) (labels_written begun (needs plan) new so)
@@ -431,7 +572,20 @@ module _ (job : Job) (o : OnlineFacts) (old mid : Rack) (live : o.live ≡ true)
         let third = becomes_left cut.list.serial 0 cut.how cut.mid new (apart_by cut.mid same_c) (ap (λ (x : Rack). x.reels) cut.rack) in
         let all = becomes_then (λ r. released (taken serial (take cut.place job.lists.items)) (at_serial serial (filled so.written) r)) (at_serial cut.list.serial (left_by cut.how 0)) old cut.mid new second third in
         let put : HasAdopted job.number (copies_of job o) moved.begun o' = moved.adopted.ok in
-        a_stop (CutRelease put.live (put.contents ∙ moved_is moved.begun moved.intended)
+        let held = reels_held serial (λ r. at_serial cut.list.serial (left_by cut.how 0) (released (taken serial (take cut.place job.lists.items)) (at_serial serial (filled so.written) r))) so.written old new
+        (let long = so.long in omega (arith, long))
+        (λ r. at_name cut.list.serial (left_by cut.how 0) (left_name cut.how 0) (released (taken serial (take cut.place job.lists.items)) (at_serial serial (filled so.written) r))
+        ∙ released_name (taken serial (take cut.place job.lists.items)) (at_serial serial (filled so.written) r) ∙ at_name serial (filled so.written) (filled_serial so.written) r)
+        (held_part serial old mid job.lists.items ready.listed so.written cut.place cut.list cut.how cut.at cut.taken_is) all in
+        let same_new = labels_changed cut.list.serial (left_by cut.how 0) (label_left cut.how 0) cut.mid new (ap (λ (x : Rack). x.reels) cut.rack) ∙ same_c in
+        a_stop (λ told is_together. let (text, shelf, shelved, up) = is_together.up refl in
+        cut_belongs serial o old mid live tied are only rules_are free the_reel.0 the_reel.1 mounted_on room_on readable_are told text shelf shelved up moved.begun (files_at moved.begun moved.intended) (needs plan) m (so_at moved.begun (needs plan) m so)
+        (let need = need_is in omega (arith, need)) (whole_by so.written held same_new told) need_is (taken serial (take cut.place job.lists.items)) cut.list.serial cut.how cut.mid new cut.before third same_new
+        (never_part cut.place) (cut_apart cut.place cut.list cut.at cut.taken_is) o' tied' put.live (put.contents ∙ moved_is moved.begun moved.intended) put.changed)
+        (λ told text shelf shelved up. StopsRelease (exit_cut serial o old mid live tied are only rules_are free the_reel.0 the_reel.1 mounted_on room_on readable_are told text shelf shelved up moved.begun (files_at moved.begun moved.intended) (needs plan) m (so_at moved.begun (needs plan) m so)
+        (let need = need_is in omega (arith, need)) (whole_by so.written held same_new told) need_is job.lists.items ready.listed (spent_with o' new) same_new put.live (put.contents ∙ moved_is moved.begun moved.intended) put.changed
+        cut.place cut.list cut.at cut.taken_is cut.how cut.mid cut.before third))
+        (CutRelease put.live (put.contents ∙ moved_is moved.begun moved.intended)
         (the_dump m moved.begun moved.intended so
         (λ s k. let one = times_released (taken serial (take cut.place job.lists.items)) m cut.mid cut.before s k in
         let two = times_left cut.list.serial 0 cut.how cut.mid new (ap (λ (x : Rack). x.reels) cut.rack) s k in omega (arith, one, two))
@@ -505,6 +659,21 @@ module _ (job : Job) (o : OnlineFacts) (old mid : Rack) (live : o.live ≡ true)
           };
           keeps = store_up o' new put.live put.pins tied';
           told = told_by o' new (moved.adopted.told ∙ moved.intended.told) same_new;
+          belongs = λ told is_together.
+              let (text, shelf, shelved, up) = is_together.up refl in
+              processed_belongs serial o old mid live tied are only rules_are free the_reel.0 the_reel.1 mounted_on room_on readable_are told text shelf shelved up moved.begun (files_at moved.begun moved.intended) (needs plan) m (so_at moved.begun (needs plan) m so)
+              (let e = need_is in omega (arith, e)) (whole_by so.written (reels_held serial (λ r. released (taken serial job.lists.items) (at_serial serial (filled so.written) r)) so.written old new (let long = so.long in omega (arith, long))
+              (λ r. released_name (taken serial job.lists.items) (at_serial serial (filled so.written) r) ∙ at_name serial (filled so.written) (filled_serial so.written) r)
+              (held_left serial old mid job.lists.items ready.listed so.written) all) same_new told) need_is (taken serial job.lists.items) new gone same_new never_all o' tied' put.live
+              (put.contents ∙ moved_is moved.begun moved.intended) put.changed;
+          exit = λ told text shelf shelved up unspent. (
+            named ∙ ready.may.number_is,
+            exit_done serial o old mid live tied are only rules_are free the_reel.0 the_reel.1 mounted_on room_on readable_are told text shelf shelved up moved.begun (files_at moved.begun moved.intended) (needs plan) m (so_at moved.begun (needs plan) m so)
+                (let e = need_is in omega (arith, e)) (whole_by so.written (reels_held serial (λ r. released (taken serial job.lists.items) (at_serial serial (filled so.written) r)) so.written old new (let long = so.long in omega (arith, long))
+                (λ r. released_name (taken serial job.lists.items) (at_serial serial (filled so.written) r) ∙ at_name serial (filled so.written) (filled_serial so.written) r)
+                (held_left serial old mid job.lists.items ready.listed so.written) all) same_new told) need_is job.lists.items ready.listed (up_with o' new None) same_new put.live
+                (put.contents ∙ moved_is moved.begun moved.intended) put.changed gone,
+          );
           spent = (λ e. absurd (let no : ⊥ = cc in no), λ e. absurd (let no : ⊥ = cc in no));
           dump = λ _. refl;
         }
@@ -513,8 +682,8 @@ module _ (job : Job) (o : OnlineFacts) (old mid : Rack) (live : o.live ≡ true)
     pub answered : (answer : Result ℕ StoreFault) → CarriesOut job o mid answer o' new → Processes serial was answer (behind_process answer o' new)
     answered (Ok number) done = carried number done
     answered (Err Stopped) stopped = stops stopped
-    answered (Err DiscReadFault) fails = fails_disc fails.begun fails.at fails.mid fails.intended fails.written fails.fails
-    answered (Err TapeReadFault) fails = fails_tape fails.begun fails.at fails.mid fails.intended fails.written fails.fails
+    answered (Err DiscReadFault) fails = fails_disc fails.begun fails.at fails.mid fails.less fails.intended fails.written fails.fails
+    answered (Err TapeReadFault) fails = fails_tape fails.begun fails.at fails.mid fails.less fails.intended fails.written fails.fails
     answered (Err fault) fails = absurd fails.fails
 
 -- THE EVENT

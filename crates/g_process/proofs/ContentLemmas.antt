@@ -1,5 +1,5 @@
 -- Which block of the dump is which block of which version; and each of them was read.
-use Rattle.std.proofs.Common.{◌≡◌, ℕ, zero, suc, ◌+◌, ◌<◌, List, [], ◌∷◌, ◌++◌, length, map, take, Some, refl, sym, ◌∙◌, ap, arith, subst, inl, inr, slice_get}
+use Rattle.std.proofs.Common.{◌≡◌, ℕ, zero, suc, ◌+◌, ◌<◌, ◌≤◌, List, [], ◌∷◌, ◌++◌, length, map, take, Some, refl, sym, ◌∙◌, ap, arith, subst, inl, inr, slice_get}
 use Rattle.std.specs.Prelude.{replicate}
 use Rattle.std.proofs.lemmas.List.{length-map}
 use Rattle.std.proofs.lemmas.List.Sums.{sum_by-cons}
@@ -61,11 +61,11 @@ content_one (x ∷ xs) (suc i) (suc j) part other v w at_i at_j less more same =
     (ap suc is, parts)
 
 -- WHAT THE WRITER MAKES isn't a block of a version, which may be anything
-long_copies : (n : ℕ) (b : List ℕ) → length (replicate n b) ≡ n
+pub long_copies : (n : ℕ) (b : List ℕ) → length (replicate n b) ≡ n
 long_copies zero b = refl
 long_copies (suc n) b = ap suc (long_copies n b)
 
-get_copies : (n j : ℕ) (b : List ℕ) → j < n → slice_get (replicate n b) j ≡ Some b
+pub get_copies : (n j : ℕ) (b : List ℕ) → j < n → slice_get (replicate n b) j ≡ Some b
 get_copies zero j b less = absurd (let no : ⊥ = omega (arith, less) in no)
 get_copies (suc n) zero b less = refl
 get_copies (suc n) (suc j) b less = get_copies n j b (omega (arith, less))
@@ -87,10 +87,10 @@ not_ready p k i part block ready stands =
     let no : ⊥ = cc in no
 
 -- EACH BLOCK OF EACH VERSION was read, where the dump is written to its mark
-pub all_read : (serial : ℕ) (p : Plan) (rs : List FileRec) (o : OnlineFacts) (old new : Rack) → waiting p.files ≡ map bare_rec rs → (so : HasWritten serial p rs o (needs p) old new)
+pub all_read : (serial : ℕ) (p : Plan) (rs : List FileRec) (o : OnlineFacts) (old new : Rack) → waiting p.files ≡ map bare_rec rs → (n : ℕ) → needs p ≤ n + 1 → (so : HasWritten serial p rs o n old new)
     → (i : ℕ) (r : FileRec) → slice_get rs i ≡ Some r → (part : ℕ) → part < blocks_for r.len
     → (block : List ℕ) × (slice_get so.written (1 + length p.users + length p.files + (blocks_of (take i (waiting p.files)) + part)) ≡ Some block) × IsSource o old new r part block
-all_read serial p rs o old new are so i r at part less =
+all_read serial p rs o old new are n enough so i r at part less =
     let v : FileRec = bare_rec r in
     let there : slice_get (waiting p.files) i ≡ Some v = ap (λ (ws : List FileRec). slice_get ws i) are ∙ mapped rs i r at in
     let j : ℕ = blocks_of (take i (waiting p.files)) + part in
@@ -98,7 +98,7 @@ all_read serial p rs o old new are so i r at part less =
     let below : j < content_blocks p = within_content (waiting p.files) i part v there less in
     let stands : IsContentAt p k i part = record { version = v; there = there; within = less; at = omega arith } in
     let long = so.long in
-    let (block, is) = get_some so.written k (omega (arith, long, below)) in
+    let (block, is) = get_some so.written k (omega (arith, long, below, enough)) in
     (block, is, by_block k stands there block (so.each k block is))
   where
     mapped : (qs : List FileRec) (n : ℕ) (q : FileRec) → slice_get qs n ≡ Some q → slice_get (map bare_rec qs) n ≡ Some (bare_rec q)

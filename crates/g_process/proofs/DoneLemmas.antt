@@ -21,7 +21,8 @@ use Rattle.g_shelf.specs.Found.{note_of}
 use Rattle.g_shelf.specs.Listed.{AreListed, IsListed}
 use Rattle.g_shelf.proofs.OneLemmas.{completed_are_one}
 use Rattle.g_process.specs.Planned.{IsFree, IsTaken}
-use Rattle.g_process.specs.Processing.{IsCutBy, IsLeftBy, IsReadBy, IsReleased}
+use Rattle.g_process.specs.Exits.{IsReadBy}
+use Rattle.g_process.specs.Processing.{IsCutBy, IsLeftBy, IsReleased}
 use Rattle.g_process.specs.Releases.{is_taken, released, taken, zeros}
 use Rattle.g_process.specs.Written.{filled}
 use Rattle.g_process.proofs.BecomeLemmas.{Becomes, at_serial, zip_becomes}
@@ -158,14 +159,14 @@ is_released_by r q is = record {
   block = subst (λ (o : Option (List (List ℕ))). ForSome o (λ blocks. blocks ≡ zeros ∷ [])) (sym (ap (λ (x : Reel). x.blocks) is)) (released_block r.blocks);
 }
 
-in_serials : (xs : List Reel) (q : Reel) → Contains xs q → Contains (map (λ (r : Reel). r.serial) xs) q.serial
+pub in_serials : (xs : List Reel) (q : Reel) → Contains xs q → Contains (map (λ (r : Reel). r.serial) xs) q.serial
 in_serials [] q (i, within, is) = absurd (let no : ⊥ = omega (arith, within) in no)
 in_serials (x ∷ xs) q (zero, within, is) = (0, omega arith, ap (λ (r : Reel). r.serial) is)
 in_serials (x ∷ xs) q (suc i, within, is) =
     let (j, inside, at) = in_serials xs q (i, omega (arith, within), is) in
     (suc j, omega (arith, inside), at)
 
-at_other : (s : ℕ) (f : Reel → Reel) (r : Reel) → (s ≡ r.serial → ⊥) → at_serial s f r ≡ r
+pub at_other : (s : ℕ) (f : Reel → Reel) (r : Reel) → (s ≡ r.serial → ⊥) → at_serial s f r ≡ r
 at_other s f r apart = cond-false (s == r.serial) (f r) r (ne_eqb s r.serial apart)
 
 pub at_this : (s : ℕ) (f : Reel → Reel) (r : Reel) → s ≡ r.serial → at_serial s f r ≡ f r
@@ -338,7 +339,7 @@ module _ (serial : ℕ) (old mid : Rack) (lists : List Listed) (listed : AreList
       by_has true absent = absurd (absent refl)
       by_has false absent = refl
 
-  part_never : (i : ℕ) → has (taken serial (take i lists)) serial ≡ true → ⊥
+  pub part_never : (i : ℕ) → has (taken serial (take i lists)) serial ≡ true → ⊥
   part_never i is = never_this (front_taken serial serial i lists is)
 
   pub held_left : (w : List (List ℕ)) (r : Reel) → serial ≡ r.serial → released ss (at_serial serial (filled w) r) ≡ filled w r

@@ -25,7 +25,10 @@ use Rattle.g_state.specs.Up.{StoreFacts}
 use Rattle.g_dumper.specs.Keeps.{up_with}
 use Rattle.g_process.specs.Planned.{IsFirstLost, IsFree, IsTaken, process_plan}
 use Rattle.g_process.specs.Prepared.{IsGranted, RefusesLate}
-use Rattle.g_process.specs.Processing.{Does, IsLate, IsReadBy, MayRefuse, Processes, Wrote, behind_process, process_refuses}
+use Rattle.g_dumper.proofs.OpeningLemmas.{refused_belongs}
+use Rattle.g_incr.specs.Layout.{Dump}
+use Rattle.g_process.specs.Exits.{Exits, IsReadBy, Untouched}
+use Rattle.g_process.specs.Processing.{Does, IsLate, MayRefuse, Processes, Wrote, behind_process, process_refuses}
 use Rattle.g_process.proofs.BecomeLemmas.{becomes_read, labels_reads, zip_becomes, zip_labels}
 
 -- THE REFUSALS without a read
@@ -80,6 +83,13 @@ does_nothing serial TapeReadFault s t never = absurd (never tt)
 does_nothing serial DiscReadFault s t never = absurd (never tt)
 does_nothing serial Stopped s t never = absurd (never tt)
 does_nothing serial fault s t never = tt
+
+leaves_all : (text : ℕ → List ℕ) (shelf : ℕ → List Dump) (serial : ℕ) (fault : StoreFault) (s t : StoreFacts) → (IsLate fault → ⊥) → Untouched s t
+    → (let r : Result ℕ StoreFault = Err fault in Exits text shelf serial s r t)
+leaves_all text shelf serial TapeReadFault s t never is = absurd (never tt)
+leaves_all text shelf serial DiscReadFault s t never is = absurd (never tt)
+leaves_all text shelf serial Stopped s t never is = absurd (never tt)
+leaves_all text shelf serial fault s t never is = is
 
 no_commit : (s t : StoreFacts) → t.online ≡ s.online → WroteCommits 0 s t
 no_commit s t same = record {
@@ -140,6 +150,8 @@ module _ (serial : ℕ) (o : OnlineFacts) (old new : Rack) (live : o.live ≡ tr
     wrote = wrote_nothing fault before (up_with o new None) never refl;
     keeps = store_up o new live pins tied;
     told = told_after o old new only.reels;
+    belongs = λ told is. refused_belongs serial o o old new live tied tied only refl refl live is;
+    exit = λ told text shelf shelved up unspent. leaves_all text shelf serial fault before (up_with o new None) never (refl, only.reels);
     spent = (λ is. absurd (let no : ⊥ = cc in no), λ is. absurd (isnt Stopped tt is));
     dump = λ _. refl;
   })
@@ -221,6 +233,8 @@ module _ (serial : ℕ) (o : OnlineFacts) (old new : Rack) (live : o.live ≡ tr
       wrote = inl (no_commit was (up_with o new None) refl);
       keeps = store_up o new live pins tied;
       told = told_after o old new only.reels;
+      belongs = λ told is. refused_belongs serial o o old new live tied tied only refl refl live is;
+      exit = λ told text shelf shelved up unspent. inl (refl, only.reels);
       spent = (λ is. absurd (let no : ⊥ = cc in no), λ is. absurd (let no : ⊥ = cc in no));
       dump = λ _. refl;
     }

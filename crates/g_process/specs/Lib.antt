@@ -1,4 +1,6 @@
+pub mod Exits
 pub mod Lists
+pub mod Named
 pub mod Planned
 pub mod Prepared
 pub mod Processing

@@ -7,7 +7,6 @@ use Rattle.g_base.specs.Counts.{Rose}
 use Rattle.g_name.specs.declared.full.Full.{Full}
 use Rattle.g_entry.specs.declared.file_rec.FileRec.{FileRec}
 use Rattle.g_entry.specs.declared.file_rec.TapeCopy.{TapeCopy}
-use Rattle.g_entry.specs.declared.head.Intent.{Intent}
 use Rattle.g_tape.specs.Reel.{Reel, Remains, left_by}
 use Rattle.g_tape.specs.Rack.{Rack, reel}
 use Rattle.g_tape.specs.Reads.{HasRead, OnlyReads, blocks_of as blocks_at, unread}
@@ -15,17 +14,20 @@ use Rattle.g_plain.specs.declared.faults.StoreFault.{StoreFault}
 use Rattle.g_plain.specs.declared.faults.StoreFault.TheVariants.{CountersSpent, DiscReadFault, DumpOpen, NoCopy, NoMemory, NoTape, RackNotMounted, ReelNotFree, Stopped, TapeFull, TapeReadFault}
 use Rattle.g_plain.specs.PlainStep.{first_fault}
 use Rattle.g_tree.specs.Records.{full_of}
-use Rattle.g_contents.specs.Contents.{Contents, File, Holds, with_intent}
+use Rattle.g_contents.specs.Contents.{File, Holds}
 use Rattle.g_contents.specs.Facts.{OnlineFacts}
-use Rattle.g_incr.specs.Plan.{blocks_of, dump_of, first_content, needs}
-use Rattle.g_online.specs.Ready.{adopted}
-use Rattle.g_shelf.specs.Completed.{AreCompleted}
+use Rattle.g_incr.specs.Plan.{blocks_of, dump_of, needs}
+use Rattle.g_shelf.specs.Completed.{AreCompleted, AreShelved}
 use Rattle.g_shelf.specs.Last.{first_unmounted}
+use Rattle.g_incr.specs.Layout.{Dump}
 use Rattle.g_step.specs.Rising.{fault_from}
-use Rattle.g_state.specs.Answers.{IsStore, Told, WroteCommits}
-use Rattle.g_state.specs.Up.{DumpFacts, StoreFacts}
+use Rattle.g_state.specs.Answers.{Belongs, IsStore, Told, WroteCommits}
+use Rattle.g_state.specs.Meaning.{told_reels}
+use Rattle.g_state.specs.Up.{DumpFacts, IsUp, StoreFacts}
 use Rattle.g_dumper.specs.Keeps.{spent_with, up_with}
-use Rattle.g_process.specs.Planned.{IsFirstLost, IsFree, IsTaken, copies_from, process_plan, versions}
+use Rattle.g_process.specs.Exits.{Exits, IsReadBy}
+use Rattle.g_process.specs.Named.{intended_by, moved_by}
+use Rattle.g_process.specs.Planned.{IsFirstLost, IsFree, IsTaken, process_plan, versions}
 use Rattle.g_process.specs.Releases.{zeros}
 use Rattle.g_process.specs.Written.{IsSource}
 
@@ -102,10 +104,6 @@ IsLeftBy serial need old r q = ((r.serial ≡ serial) × (q.len ≡ need)) ⊎ I
 abbrev pub IsCutBy : ℕ → Rack → Reel → Reel → Type 0
 IsCutBy serial old r q = (r.serial ≡ serial) ⊎ IsOther serial old (λ x y. (unread y ≡ unread x) ⊎ (IsReleased y ⊎ ((how : Remains) × (unread y ≡ unread (left_by how 0 x))))) r q
 
--- a read failed: nothing is released
-abbrev pub IsReadBy : ℕ → Reel → Reel → Type 0
-IsReadBy serial r q = (r.serial ≡ serial) ⊎ (unread q ≡ unread r)
-
 -- each block of the copy of an offline file was read in this call
 abbrev pub blocks_in_front : ℕ → List FileRec → ℕ
 blocks_in_front i rs = blocks_of (take i rs)
@@ -120,19 +118,6 @@ pub record IsDumped (serial : ℕ) (old : StoreFacts) (new : Rack) (blocks : Lis
   pub completed : AreCompleted serial blocks (dump_of (process_plan serial old.online) content ∷ [])
   pub sources : (i part : ℕ) (r : FileRec) → slice_get (versions old.online.contents) i ≡ Some r → part < blocks_for r.len
       → (block : List ℕ) × (slice_get content (blocks_in_front i (versions old.online.contents) + part) ≡ Some block) × IsSource old.online old.rack new r part block
-
--- WHAT THE DISC NAMES: the new intent; and behind the dump the copies of all versions in it and its number, without an intent
-abbrev pub process_intent : ℕ → OnlineFacts → Intent
-process_intent serial o = record { serial = serial; place = 0; number = o.contents.head.last_dump + 1 }
-
-abbrev pub intended_by : ℕ → OnlineFacts → Contents
-intended_by serial o = with_intent (Some (process_intent serial o)) o.contents
-
-abbrev pub process_copies : ℕ → OnlineFacts → List (ℕ × TapeCopy)
-process_copies serial o = copies_from serial (first_content (process_plan serial o)) (versions o.contents)
-
-abbrev pub moved_by : ℕ → OnlineFacts → Contents
-moved_by serial o = adopted (o.contents.head.last_dump + 1) (process_copies serial o) o.contents
 
 pub record HasProcessed (serial number : ℕ) (old new : StoreFacts) : Type 0 where
   pub number_is : number ≡ old.online.contents.head.last_dump + 1
@@ -191,5 +176,8 @@ pub record Processes (serial : ℕ) (old : StoreFacts) (answer : Result ℕ Stor
   pub wrote : Wrote old answer new
   pub keeps : IsStore new
   pub told : Told old → Told new
+  pub belongs : Told old → Belongs old → Belongs new
+  -- where it ended, by the bytes and the dumps that the store kept
+  pub exit : Told old → (text : ℕ → List ℕ) (shelf : ℕ → List Dump) → AreShelved shelf (told_reels old.rack) → IsUp text shelf old → old.spent ≡ false → Exits text shelf serial old answer new
   pub spent : (new.spent ≡ true) ↔ (answer ≡ Err Stopped)
   pub dump : (answer ≡ Err Stopped → ⊥) → new.dump ≡ old.dump

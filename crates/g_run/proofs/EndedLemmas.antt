@@ -1,6 +1,7 @@
 -- What a turn's end asks for and leaves: the job is still there, its reel isn't mounted.
-use Rattle.std.proofs.Common.{◌≡◌, ℕ, ◌==◌, Bool, true, false, cond, not, List, [], ◌∷◌, Option, Some, refl, sym, ◌∙◌, ap, subst, inl, inr, if◌then◌else◌, eq-eqb}
-use Rattle.std.specs.Prelude.{◌↔◌}
+use Rattle.std.proofs.Common.{◌≡◌, ℕ, ◌==◌, Bool, true, false, cond, not, List, [], ◌∷◌, Option, None, Some, drop, length, refl, sym, ◌∙◌, ap, subst, inl, inr, if◌then◌else◌, eq-eqb}
+use Rattle.std.specs.Prelude.{◌↔◌, Err, IfOk, Ok, Result}
+use Rattle.g_base.specs.declared.memory.NoMemory.{NoMemory}
 use Rattle.std.specs.Fn.{Shared}
 use denote.Ref.{Bor}
 use Rattle.g_job.specs.State.{JobState}
@@ -22,11 +23,13 @@ use Rattle.g_console.specs.System.{SystemFacts}
 use Rattle.g_crew.specs.Accounts.{AreKept, HaveRows}
 use Rattle.g_crew.specs.Crew.{CrewState}
 use Rattle.g_crew.specs.Numbers.{job_in}
-use Rattle.g_crew.specs.Turn.{TakesTurn}
+use Rattle.g_crew.specs.Seating.{pushed_of}
+use Rattle.g_crew.specs.Turn.{TakesTurn, shown_from}
 use Rattle.g_world.specs.Accounts.{Opened, rows_of, with_new}
+use Rattle.g_world.specs.Texts.{ended_file, put_as, shown}
 use Rattle.g_world.specs.World.{with_job}
-use Rattle.g_world.proofs.CrewLemmas.{no_job}
-use Rattle.g_run.specs.Turning.{EndsTurn, LeftBy, Takes}
+use Rattle.g_world.proofs.CrewLemmas.{no_job, one_job}
+use Rattle.g_run.specs.Turning.{EndsTurn, LeftBy, ShowsAs, TakenOut, Takes, added_of}
 use Rattle.g_run.proofs.NumberedLemmas.{numbered_is}
 
 -- who takes the place of a job is found under its number
@@ -51,16 +54,59 @@ unmounted false is = refl
 unmounted true is = sym is
 
 -- a turn's end, by what the turn is
-pub ends_by : (count number : ℕ) (s : StoreFacts) (c : CrewState) (t turn : Turn) (failure : Option Failure) (system : SystemFacts) (c' : CrewState) (before after : Option (List ℕ)) (faults faults' : ℕ) → turn ≡ t
-    → EndsTurn count number s c t failure system c' before after faults faults' → EndsTurn count number s c turn failure system c' before after faults faults'
-ends_by count number s c t turn failure system c' before after faults faults' is ends = subst (λ (x : Turn). EndsTurn count number s c x failure system c' before after faults faults') (sym is) ends
+pub ends_by : (count number : ℕ) (s : StoreFacts) (c : CrewState) (shown : List ℕ) (t turn : Turn) (failure : Option Failure) (system : SystemFacts) (c' : CrewState) (before after : Option (List ℕ)) (faults faults' : ℕ) → turn ≡ t
+    → EndsTurn count number s c shown t failure system c' before after faults faults' → EndsTurn count number s c shown turn failure system c' before after faults faults'
+ends_by count number s c shown t turn failure system c' before after faults faults' is ends = subst (λ (x : Turn). EndsTurn count number s c shown x failure system c' before after faults faults') (sym is) ends
+
+-- WHAT A TURN SHOWS at a terminal, by how many bytes the job's file had before
+module _ (job behind : JobState) (seat : behind.terminal ≡ job.terminal) where
+  pub added_is : added_of (shown_from job) behind ≡ shown job behind
+  added_is = by job.terminal seat
+    where
+      by : (o : Option ℕ) → behind.terminal ≡ o → (let k : JobState = record job { terminal = o } in added_of (shown_from k) behind ≡ shown job behind)
+      by None at = sym (ap (λ (p : Option ℕ). put_as p [] (drop (length job.monitor) behind.monitor)) at)
+      by (Some t) at = refl
+
+  pub shows_as : ShowsAs (shown_from job) behind.terminal
+  shows_as = by job.terminal seat
+    where
+      by : (o : Option ℕ) → behind.terminal ≡ o → (let k : JobState = record job { terminal = o } in ShowsAs (shown_from k) behind.terminal)
+      by None at = subst (λ (p : Option ℕ). ShowsAs None p) (sym at) tt
+      by (Some t) at = subst (λ (p : Option ℕ). ShowsAs (Some (length job.monitor)) p) (sym at) tt
+
+-- by which it is at a terminal or at none
+pub shows_none : (terminal : Option ℕ) → ShowsAs None terminal → terminal ≡ None
+shows_none None is = refl
+shows_none (Some t) is = absurd is
+
+pub shows_some : (before : ℕ) (terminal : Option ℕ) → ShowsAs (Some before) terminal → (t : ℕ) × (terminal ≡ Some t)
+shows_some before None is = absurd is
+shows_some before (Some t) is = (t, refl)
+
+-- the whole file of a job at no terminal
+pub whole_file : (number : ℕ) (c mid : CrewState) (job one : JobState) → TakenOut job number c mid → job_in number c.jobs ≡ Some one → one.terminal ≡ None → ended_file job ≡ job.monitor
+whole_file number c mid job one out there none =
+    let same : job ≡ one = one_job job one (sym out.there ∙ there) in
+    ap (λ (p : Option ℕ). put_as p job.monitor []) (ap (λ (j : JobState). j.terminal) same ∙ none)
+
+-- and nothing more of one that is at one
+pub no_file : (number t : ℕ) (c mid : CrewState) (job one : JobState) → TakenOut job number c mid → job_in number c.jobs ≡ Some one → one.terminal ≡ Some t → ended_file job ≡ []
+no_file number t c mid job one out there some =
+    let same : job ≡ one = one_job job one (sym out.there ∙ there) in
+    ap (λ (p : Option ℕ). put_as p job.monitor []) (ap (λ (j : JobState). j.terminal) same ∙ some)
+
+-- what was made of a file to be shown
+pub shown_is : (made : Result (List ℕ) NoMemory) (number before : ℕ) (jobs : List JobState) (job : JobState) → IfOk made (λ text. (j : JobState) → job_in number jobs ≡ Some j → text ≡ pushed_of j before)
+    → job_in number jobs ≡ Some job → IfOk made (λ t. t ≡ pushed_of job before)
+shown_is (Ok text) number before jobs job told found = told job found
+shown_is (Err e) number before jobs job told found = tt
 
 module _ {F : Type 0} (tariffs : Shared F (Bor Usage × Unit {0}) Charge) (tariff : F) where
   -- HOW A TURN WAS TAKEN, from what the crew says of it and how it ended
   pub took_whole : (old new : StoreFacts) (c mid : CrewState) (count number : ℕ) (turn : Turn) (failure : Option Failure) (system : SystemFacts) (c' : CrewState) (before after : Option (List ℕ)) (faults faults' : ℕ)
       → (job : JobState) (behind : JobState) → job_in number c.jobs ≡ Some job → TakesTurn Answers tariffs tariff job old turn behind new → mid ≡ record c { jobs = with_job behind c.jobs }
       → (new.spent ≡ true) ↔ (turn ≡ turns.Broken) → ((serial : ℕ) → turn ≡ turns.Wants serial → not (is_mounted (reel serial new.rack.reels)) ≡ true)
-      → EndsTurn count number new mid turn failure system c' before after faults faults' → Takes tariffs tariff old c count number failure system c' before after faults faults'
+      → EndsTurn count number new mid (shown job behind) turn failure system c' before after faults faults' → Takes tariffs tariff old c count number failure system c' before after faults faults'
   took_whole old new c mid count number turn failure system c' before after faults faults' job behind there takes crew stopped waits ends = inl (record {
     job = job;
     behind = behind;
@@ -70,7 +116,7 @@ module _ {F : Type 0} (tariffs : Shared F (Bor Usage × Unit {0}) Charge) (tarif
     takes = takes;
     stopped = stopped;
     waits = λ serial is. unmounted (is_mounted (reel serial new.rack.reels)) (waits serial is);
-    ends = subst (λ (k : CrewState). EndsTurn count number new k turn failure system c' before after faults faults') crew ends;
+    ends = subst (λ (k : CrewState). EndsTurn count number new k (shown job behind) turn failure system c' before after faults faults') crew ends;
   })
 
   pub took_part : (old new : StoreFacts) (c : CrewState) (count number : ℕ) (system : SystemFacts) (c' : CrewState) (before : Option (List ℕ)) (faults : ℕ) (job : JobState) → job_in number c.jobs ≡ Some job

@@ -18,6 +18,8 @@ use Rattle.g_world.proofs.ShareLemmas.{share-charged, share-steps, share-waits, 
 use Rattle.g_crew.specs.Choice.{Chooses, able_in}
 use Rattle.g_crew.specs.Crew.{CrewState}
 use Rattle.g_crew.specs.Numbers.{Rise, job_in}
+use Rattle.g_world.specs.Texts.{shown}
+use Rattle.g_job.specs.Terminal.{is_ready}
 use Rattle.g_console.specs.declared.progress.Failure.{Failure}
 use Rattle.g_console.specs.Parts.{Seen, seen}
 use Rattle.g_console.specs.System.{Down, SystemFacts, Up}
@@ -36,10 +38,10 @@ step_same u rack same j = by j.wants
   where
     by : (o : Option ℕ) → (let k : JobState = record j { wants = o } in can_step u k ≡ may_step rack k)
     by None = refl
-    by (Some serial) = same serial
+    by (Some serial) = ap (λ (b : Bool). b && is_ready j) (same serial)
 
 rack_same : (old new : Rack) → ((serial : ℕ) → is_mounted (reel serial new.reels) ≡ is_mounted (reel serial old.reels)) → (j : JobState) → may_step new j ≡ may_step old j
-rack_same old new same j = by j.wants
+rack_same old new same j = ap (λ (b : Bool). b && is_ready j) (by j.wants)
   where
     by : (o : Option ℕ) → reel_there new o ≡ reel_there old o
     by None = refl
@@ -108,14 +110,14 @@ module _ (old new : StoreFacts) (count number : ℕ) (c : CrewState) (rise : Ris
   jobs_less (turns.Ran units money) (some, used, less, wants, on) waits =
       with_less (share-charged (may_step old.rack) job behind could allowed (omega (arith, some, used)) (omega (arith, less)))
   jobs_less (turns.Wants serial) (used, wants, on) waits =
-      let off : may_step old.rack behind ≡ false = ap (λ (o : Option ℕ). reel_there old.rack o) wants ∙ sym (stays.mounted serial) ∙ waits serial refl in
+      let off : may_step old.rack behind ≡ false = ap (λ (b : Bool). b && is_ready behind) (ap (λ (o : Option ℕ). reel_there old.rack o) wants ∙ sym (stays.mounted serial) ∙ waits serial refl) in
       with_less (share-waits (may_step old.rack) job behind could off allowed used)
 
   number_is : behind.number ≡ number
   number_is = numbers ∙ numbered_is number c.jobs job there
 
   left_jobs : (turn : Turn) (failure : Option Failure) (system : SystemFacts) (c' : CrewState) (before after : Option (List ℕ)) (faults faults' : ℕ)
-      → EndsTurn count number new (record c { jobs = with_job behind c.jobs }) turn failure system c' before after faults faults' → failure ≡ None → c'.jobs ≡ jobs_left turn
+      → EndsTurn count number new (record c { jobs = with_job behind c.jobs }) (shown job behind) turn failure system c' before after faults faults' → failure ≡ None → c'.jobs ≡ jobs_left turn
   left_jobs turns.Broken failure system c' before after faults faults' ends none = ap (λ (k : CrewState). k.jobs) ends.crew
   left_jobs (turns.Wants serial) failure system c' before after faults faults' ends none = ap (λ (k : CrewState). k.jobs) (ends.opens none).others
   left_jobs (turns.Ran units money) failure system c' before after faults faults' ends none = ap (λ (k : CrewState). k.jobs) (ends.opens none).others
@@ -140,7 +142,7 @@ module _ (old new : StoreFacts) (count number : ℕ) (c : CrewState) (rise : Ris
 
   -- A TURN LEAVES LESS
   pub turn_falls : (less : Bool) (turn : Turn) (failure : Option Failure) (system : SystemFacts) (c' : CrewState) (before after : Option (List ℕ)) (faults faults' : ℕ)
-      → EndsTurn count number new (record c { jobs = with_job behind c.jobs }) turn failure system c' before after faults faults' → SpendsBy job turn behind
+      → EndsTurn count number new (record c { jobs = with_job behind c.jobs }) (shown job behind) turn failure system c' before after faults faults' → SpendsBy job turn behind
       → ((serial : ℕ) → turn ≡ turns.Wants serial → is_mounted (reel serial new.rack.reels) ≡ false) → ((turn ≡ turns.Broken → ⊥) → new.dump ≡ old.dump)
       → Falls less (seen (Up old) c count) failure (seen system c' count)
   turn_falls less turns.Broken failure system c' before after faults faults' ends spends waits dump none =

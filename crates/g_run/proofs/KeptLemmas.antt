@@ -10,6 +10,7 @@ use Rattle.g_world.specs.Devices.{Devices}
 use Rattle.g_world.specs.World.{with_job}
 use Rattle.g_crew.specs.Crew.{CrewState}
 use Rattle.g_crew.specs.Numbers.{AreOpen, job_in}
+use Rattle.g_world.specs.Texts.{shown}
 use Rattle.g_console.specs.declared.progress.Failure.{Failure}
 use Rattle.g_console.specs.declared.progress.Failure.TheVariants.{Memory}
 use Rattle.g_console.specs.Parts.{IsReady, seen}
@@ -38,7 +39,7 @@ module _ (old new : StoreFacts) (c : CrewState) (count : ℕ) (stays : StaysOver
 
   -- a whole turn
   pub turn_keeps_run : (number : ℕ) (job behind : JobState) → job_in number c.jobs ≡ Some job → behind.number ≡ job.number → (failure : Option Failure) (system : SystemFacts) (c' : CrewState) (before after : Option (List ℕ)) (faults faults' : ℕ) (turn : Turn)
-      → EndsTurn count number new (record c { jobs = with_job behind c.jobs }) turn failure system c' before after faults faults' → (new.spent ≡ true) ↔ (turn ≡ turns.Broken) → SpendsBy job turn behind
+      → EndsTurn count number new (record c { jobs = with_job behind c.jobs }) (shown job behind) turn failure system c' before after faults faults' → (new.spent ≡ true) ↔ (turn ≡ turns.Broken) → SpendsBy job turn behind
       → IsReady (Up old) c → AreOpen c.jobs → KeepsRun (seen (Up old) c count) failure (seen system c' count) faults faults'
   turn_keeps_run number job behind there numbers failure system c' before after faults faults' turn ends stopped spends ready still =
       subst (λ (s : SystemFacts). KeepsRun (seen (Up old) c count) failure (seen s c' count) faults faults') (sym (system_is number count old new c job behind there numbers failure system c' before after faults faults' turn ends)) (record {

@@ -3,6 +3,8 @@ use Rattle.std.proofs.Common.{◌≡◌, ◌+◌, ◌++◌, ℕ, Bool, true, fal
 use Rattle.std.specs.Prelude.{MatchBool, Result, Ok, Err, codes, if◌then◌else◌}
 use Rattle.std.specs.Fmt.{decimal}
 use Rattle.g_monitor.specs.Parts.{full_text}
+use Rattle.g_job.specs.State.{JobState}
+use Rattle.g_job.specs.Terminal.{logged_out, typed_to}
 use Rattle.g_plain.specs.declared.faults.StoreFault.{StoreFault}
 use Rattle.g_plain.specs.declared.faults.StoreFault.TheVariants.{NotStarted, Running, Stopped}
 use Rattle.g_script.specs.declared.operator.Operator.{Operator}
@@ -10,9 +12,9 @@ use Rattle.g_script.specs.declared.operator.Operator.TheVariants as line
 use Rattle.g_step.specs.CallStep.{Outcome, Plain}
 use Rattle.g_step.specs.Rising.{FormatStep, RestoreStep, StartStep}
 use Rattle.g_step.specs.State.{OpenDump, State}
-use Rattle.g_world.specs.Events.{IsMigration, IsOpening, IsTold}
-use Rattle.g_world.specs.Lines.{LineGives, Shuts, job_line, job_refusal, line_refused, now_stands, taken_in, tells, up_with}
-use Rattle.g_world.specs.Texts.{dump_text, started_text, tape_text}
+use Rattle.g_world.specs.Events.{IsMigration, IsOpening, IsProcessing, IsTold}
+use Rattle.g_world.specs.Lines.{LineGives, Shuts, at_terminal, changed_at, job_line, job_refusal, line_refused, logged_in, login_refusal, now_stands, open_at, taken_in, tells, up_with}
+use Rattle.g_world.specs.Texts.{dump_text, processed_text, started_text, tape_text}
 use Rattle.g_world.specs.World.{World}
 use Rattle.g_console.specs.Parts.{disc_arms, tape_arms}
 
@@ -93,6 +95,20 @@ job_same name user time money lines w true =
     (record { lines = refl; bad = refl; over = refl; phase = refl; turn = refl; disc_stops = refl; tape_stops = refl })
 job_same name user time money lines w false = refused_same NotStarted w
 
+login_same : (t : ℕ) (user : List ℕ) (time : ℕ) (w : World) (b : Bool) → Same w (if b then job_line (login_refusal w t user time) (logged_in t user time w) w else line_refused NotStarted w)
+login_same t user time w true =
+    job_at (login_refusal w t user time) (logged_in t user time w) w
+    (record { lines = refl; bad = refl; over = refl; phase = refl; turn = refl; disc_stops = refl; tape_stops = refl })
+login_same t user time w false = refused_same NotStarted w
+
+seat_at : (t : ℕ) (change : JobState → JobState) (seat : Option JobState) (w : World) → Same w (changed_at t change seat w)
+seat_at t change None w = record { lines = refl; bad = refl; over = refl; phase = refl; turn = refl; disc_stops = refl; tape_stops = refl }
+seat_at t change (Some j) w = record { lines = refl; bad = refl; over = refl; phase = refl; turn = refl; disc_stops = refl; tape_stops = refl }
+
+seat_same : (t : ℕ) (change : JobState → JobState) (w : World) (b : Bool) → Same w (if b then at_terminal t change w else line_refused NotStarted w)
+seat_same t change w true = seat_at t change (open_at t w.jobs) w
+seat_same t change w false = refused_same NotStarted w
+
 pub line_leaves : (o : Outcome) (what : Operator) (w new : World) → LineGives o what w new → Leaves what w new
 line_leaves o line.Format w new gives = leaves line.Format refl refl w new (rises_same FormatStep (λ r. codes "FORMATTED") o w new w.store.up gives)
 line_leaves o line.Start w new gives = leaves line.Start refl refl w new (rises_same StartStep started_text o w new w.store.up gives)
@@ -103,6 +119,11 @@ line_leaves o (line.Mount serial) w new (r, s, does, is) = leaves (line.Mount se
 line_leaves o (line.Unmount serial) w new (r, s, does, is) = leaves (line.Unmount serial) refl refl w new (is_same w new _ is (told_stands (λ _. tape_text serial (codes "UNMOUNTED")) r s w))
 line_leaves o (line.Dump serial) w new gives =
     leaves (line.Dump serial) refl refl w new (needs_same (λ r s. IsOpening w.store serial o r s) (λ n. dump_text n (codes "OPENED")) o w new w.store.up gives)
+line_leaves o (line.Process serial) w new gives =
+    leaves (line.Process serial) refl refl w new (needs_same (λ r s. IsProcessing w.store serial o r s) (processed_text serial) o w new w.store.up gives)
+line_leaves o (line.Login t user time) w new (plain, is) = leaves (line.Login t user time) refl refl w new (is_same w new _ is (login_same t user time w w.store.up))
+line_leaves o (line.Typed t text) w new (plain, is) = leaves (line.Typed t text) refl refl w new (is_same w new _ is (seat_same t (typed_to text) w w.store.up))
+line_leaves o (line.Logout t) w new (plain, is) = leaves (line.Logout t) refl refl w new (is_same w new _ is (seat_same t logged_out w w.store.up))
 line_leaves o (line.Migrate path) w new gives =
     leaves (line.Migrate path) refl refl w new (needs_same (λ r s. IsMigration w.store path o r s) (λ full. codes "MIGRATED " ++ full_text full) o w new w.store.up gives)
 line_leaves o (line.StopDisc k) w new (plain, is) =

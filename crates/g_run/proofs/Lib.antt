@@ -4,7 +4,8 @@ pub mod EndedLemmas
 pub mod FallLemmas
 pub mod FilestoreLemmas
 pub mod InputLemmas
-pub mod KeptLemmas
+pub mod KeepLemmas
+mod KeptLemmas
 pub mod LawLemmas
 pub mod LeaveLemmas
 pub mod LineLemmas

@@ -12,6 +12,7 @@ use Rattle.g_script.specs.declared.operator.Operator.{Operator}
 use Rattle.g_script.specs.declared.operator.Operator.TheVariants as line
 use Rattle.g_script.specs.declared.operator.Timed.{Timed}
 use Rattle.g_world.specs.Devices.{Devices}
+use Rattle.g_world.specs.Lines.{is_process}
 use Rattle.g_world.specs.Moves.{TakeLine}
 use Rattle.g_world.specs.Top.{AreArmings, is_stop_disc, is_stop_tape}
 use Rattle.g_world.specs.World.{World}
@@ -23,6 +24,7 @@ use Rattle.g_console.specs.Parts.{ArmsBy, DidLine, DoesLine, DoesNothing, IsRead
 use Rattle.g_console.specs.System.{SystemFacts, devices_in}
 use Rattle.g_run.specs.Tick.{IsBetween}
 use Rattle.g_run.specs.Parts.{Anything, AreDueBy, Breaks, DidAll, DidLines, DidTicks, GoesBy, IsAtRest, Keeps, Leads}
+use Rattle.g_run.proofs.KeepLemmas.{kept_line}
 use Rattle.g_run.proofs.LeaveLemmas.{line_leaves}
 use Rattle.g_run.proofs.PartLemmas.{arrives_here, goes_then, keeps_more, keeps_then, with_more-nil}
 use Rattle.g_run.proofs.UntilLemmas.{keeps_here}
@@ -56,7 +58,7 @@ line_keeps next old failure new before after faults faults' did still = record {
   arms = line_arms next failure (devices_in old.system) (devices_in new.system) did.arms;
   same = did.same;
   belongs = did.belongs;
-  dumps = did.dumps;
+  dumps = λ was. kept_line next (devices_in old.system).rack (devices_in new.system).rack (did.dumps was);
   cause = did.cause;
 }
 
@@ -82,13 +84,13 @@ module _ {F U : Type 0} (tariffs : Shared F (Bor Usage × Unit {0}) Charge) (tar
 
   -- the line is a move
   line_leads : (w : World) (next : Timed) (rest : List Timed) → IsBetween w → IsAtRest w → w.lines ≡ next ∷ rest → (old new : SystemFacts) (added : List ℕ) (d : DoesLine next.what (without rest w) old new added)
-      → Leads tariffs tariff rules rule w old new (TakeLine d.outcome ∷ []) d.next added
+      → Leads tariffs tariff rules rule w old new (TakeLine (is_process next.what) d.outcome ∷ []) d.next added
   line_leads w next rest between due is old new added d =
       let left = line_leaves d.outcome next.what (without rest w) d.next d.gives in record {
         disc_arms = disc_arms next.what;
         tape_arms = tape_arms next.what;
         run = line_move tariffs tariff rules rule w next rest d.outcome d.next is between.phase between.turn due d.gives;
-        counted = move_counted (TakeLine d.outcome) (disc_arms next.what) (tape_arms next.what) (devices_in old) (devices_in new) d.counted;
+        counted = move_counted (TakeLine (is_process next.what) d.outcome) (disc_arms next.what) (tape_arms next.what) (devices_in old) (devices_in new) d.counted;
         stands = d.stands;
         bad = left.bad;
         over = left.over;
@@ -102,7 +104,7 @@ module _ {F U : Type 0} (tariffs : Shared F (Bor Usage × Unit {0}) Charge) (tar
   line_goes next rest old None new before after goes w m between due is =
       let (added, d, matches, put) = goes (without rest w) (matches_without w rest old m) in
       let left = line_leaves d.outcome next.what (without rest w) d.next d.gives in record {
-        moves = TakeLine d.outcome ∷ [];
+        moves = TakeLine (is_process next.what) d.outcome ∷ [];
         next = d.next;
         added = added;
         leads = line_leads w next rest between due is old.system new.system added d;
@@ -135,7 +137,7 @@ module _ {F U : Type 0} (tariffs : Shared F (Bor Usage × Unit {0}) Charge) (tar
         put = (0, omega arith, nothing.text ∙ sym (with_more-nil before));
       }
       by (inr (added, d, part)) = record {
-        moves = TakeLine d.outcome ∷ [];
+        moves = TakeLine (is_process next.what) d.outcome ∷ [];
         next = d.next;
         added = added;
         leads = line_leads w next rest between due is old.system new.system added d;

@@ -33,13 +33,13 @@ use Rattle.g_world.proofs.TurnLemmas.{run_append}
 use Rattle.g_crew.specs.Crew.{CrewState}
 use Rattle.g_console.specs.declared.progress.Failure.{Failure}
 use Rattle.g_console.specs.declared.progress.Failure.TheVariants as failures
-use Rattle.g_console.proofs.GrowLemmas.{grow_itself}
+use Rattle.g_run.proofs.KeepLemmas.{kept_itself}
 use Rattle.g_console.specs.Parts.{Matches, Seen, seen}
 use Rattle.g_console.specs.Puts.{FaultCause, Puts, PutsBy}
-use Rattle.g_console.specs.System.{BelongTogether, Down, DumpsGrow, StandsAs, SystemBelongs, SystemFacts, Up, devices_in, SameDevices}
+use Rattle.g_console.specs.System.{BelongTogether, Down, StandsAs, SystemBelongs, SystemFacts, Up, devices_in, SameDevices}
 use Rattle.g_run.proofs.TickLemmas.{put_on, with_more-append}
 use Rattle.g_run.specs.Over.{ClosesBy, DidScript, TakenDown, both}
-use Rattle.g_run.specs.Parts.{DidAll, IsAtRest, Keeps, Leads}
+use Rattle.g_run.specs.Parts.{DidAll, DumpsKept, IsAtRest, Keeps, Leads}
 use Rattle.g_run.specs.Top.{EndsBy}
 use Rattle.g_run.proofs.PartLemmas.{with_more-nil}
 
@@ -201,8 +201,8 @@ module _ {F U : Type 0} (tariffs : Shared F (Bor Usage × Unit {0}) Charge) (tar
   same_down : (failure : Option Failure) (faults faults' : ℕ) → Keeps lines before_all failure (seen f c count) faults faults' → SameDevices old new
   same_down failure faults faults' keeps = subst (λ (d : Devices). SameDevices old d) (sym down_is.devices) keeps.same
 
-  dumps_down : (failure : Option Failure) (faults faults' : ℕ) → Keeps lines before_all failure (seen f c count) faults faults' → BelongTogether old → DumpsGrow old.rack new.rack
-  dumps_down failure faults faults' keeps was = subst (λ (d : Devices). DumpsGrow old.rack d.rack) (sym down_is.devices) (keeps.dumps was)
+  dumps_down : (failure : Option Failure) (faults faults' : ℕ) → Keeps lines before_all failure (seen f c count) faults faults' → BelongTogether old → DumpsKept lines old.rack new.rack
+  dumps_down failure faults faults' keeps was = subst (λ (d : Devices). DumpsKept lines old.rack d.rack) (sym down_is.devices) (keeps.dumps was)
 
   -- A SCRIPT, cut short before its end
   pub script_short : (failure : Failure) (before after : Option (List ℕ)) (faults faults' : ℕ) → DidAll tariffs tariff rules rule lines before_all (Some failure) (seen f c count) before after faults faults'
@@ -267,7 +267,7 @@ module _ {F U : Type 0} (tariffs : Shared F (Bor Usage × Unit {0}) Charge) (tar
         };
         same = record { size = refl; reels = refl };
         belongs = λ is. is;
-        dumps = λ is. grow_itself old.rack;
+        dumps = λ is. kept_itself lines old.rack;
         cause = refl;
       })
 

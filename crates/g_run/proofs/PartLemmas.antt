@@ -24,7 +24,7 @@ use Rattle.g_console.specs.System.{StandsAs, SystemFacts, devices_in}
 use Rattle.g_run.specs.Tick.{IsBetween}
 use Rattle.g_run.proofs.TickLemmas.{put_on, with_more-append}
 use Rattle.g_run.specs.Parts.{Anything, Arrives, GoesBy, Keeps, Leads}
-use Rattle.g_console.proofs.GrowLemmas.{grow_then}
+use Rattle.g_run.proofs.KeepLemmas.{kept_more, kept_then}
 use Rattle.g_console.proofs.LabelLemmas.{same_then}
 
 pub with_more-nil : (before : Option (List ℕ)) → with_more before [] ≡ before
@@ -84,7 +84,7 @@ keeps_then a b old mid failure new faults faults1 faults2 first later = record {
   arms = arms_then a b (devices_in old.system) (devices_in mid.system) (devices_in new.system) refl first.arms later.arms;
   same = same_then (devices_in old.system) (devices_in mid.system) (devices_in new.system) first.same later.same;
   belongs = λ was. later.belongs (first.belongs was);
-  dumps = λ was. grow_then (devices_in old.system).rack (devices_in mid.system).rack (devices_in new.system).rack (first.dumps was) (later.dumps (first.belongs was));
+  dumps = λ was. kept_then a b (devices_in old.system).rack (devices_in mid.system).rack (devices_in new.system).rack later.same.reels (first.dumps was) (later.dumps (first.belongs was));
   cause = subst (λ (n : ℕ). FaultCause failure n faults2) first.cause later.cause;
 }
 
@@ -98,7 +98,7 @@ keeps_more a b old failure new faults faults' first = record {
   arms = arms_more a b (devices_in old.system) (devices_in new.system) (some_none failure) first.arms;
   same = first.same;
   belongs = first.belongs;
-  dumps = first.dumps;
+  dumps = λ was. kept_more a b (devices_in old.system).rack (devices_in new.system).rack (first.dumps was);
   cause = first.cause;
 }
 

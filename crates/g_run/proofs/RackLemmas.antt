@@ -2,6 +2,7 @@
 use Rattle.std.proofs.Common.{◌≡◌, ◌+◌, ◌-◌, ◌==◌, ℕ, Bool, true, false, List, [], ◌∷◌, Option, Some, None, sum_by, refl, ◌∙◌, ap, if◌then◌else◌, arith}
 use Rattle.std.proofs.lemmas.List.Sums.{sum_by-cons}
 use Rattle.g_job.specs.State.{JobState}
+use Rattle.g_job.specs.Terminal.{is_ready}
 use Rattle.g_tape.specs.Reel.{Reel, Remains, Shortened, Torn, Unchanged, ending, left_by}
 use Rattle.g_tape.specs.Rack.{Rack, is_mounted, reel, with_reel}
 use Rattle.g_run.specs.Tick.{may_step, reel_there, share_in}
@@ -51,7 +52,7 @@ module _ (old new : Rack) (same : SameMounted old new) where
   there_still (Some s) = same s
 
   pub steps_still : (j : JobState) → may_step new j ≡ may_step old j
-  steps_still j = there_still j.wants
+  steps_still j = ap (λ (b : Bool). b && is_ready j) (there_still j.wants)
 
   share_still : (j : JobState) → share_in new j ≡ share_in old j
   share_still j = ap (λ (b : Bool). (j.allowance - j.used) + (if b then 1 else 0)) (steps_still j)

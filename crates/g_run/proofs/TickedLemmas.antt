@@ -21,6 +21,7 @@ use Rattle.g_console.specs.System.{SystemFacts, Up, devices_in}
 use Rattle.g_run.specs.Tick as ticks
 use Rattle.g_run.specs.Tick.{Comes, DidTick, IsBetween, IsThrough, KeepsRun, MayTick, has_dump, left, some_job_steps}
 use Rattle.g_run.specs.Parts.{Anything, DidOne, Keeps, Leads, PartGoes, is_past, steps_in, turn_of}
+use Rattle.g_run.proofs.KeepLemmas.{kept_grown}
 use Rattle.g_run.proofs.PartLemmas.{none_arm}
 use Rattle.g_run.proofs.RestLemmas.{due_is, nothing_is}
 
@@ -31,7 +32,7 @@ keeps_of old new failure faults faults' keeps = record {
   arms = none_arm (failure ≡ None) (devices_in old.system) (devices_in new.system) keeps.disc_arms keeps.tape_arms;
   same = keeps.same;
   belongs = keeps.belongs;
-  dumps = keeps.dumps;
+  dumps = λ was. kept_grown [] (devices_in old.system).rack (devices_in new.system).rack (keeps.dumps was);
   cause = keeps.cause;
 }
 

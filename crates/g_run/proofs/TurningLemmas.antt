@@ -28,8 +28,8 @@ use Rattle.g_store.proofs.ArmLemmas.{spent_stands}
 use Rattle.g_world.specs.Accounts.{settled}
 use Rattle.g_world.specs.Devices.{Devices}
 use Rattle.g_world.specs.Moves.{Move, MovesCounted}
-use Rattle.g_world.specs.Texts.{job_text, operator_line}
-use Rattle.g_world.specs.World.{Between, Stepped, World, able, has_none, is_dumping, job_of, nothing_steps, with_job, without_job}
+use Rattle.g_world.specs.Texts.{job_text, operator_line, shown, ended_file}
+use Rattle.g_world.specs.World.{Between, Stepped, World, able, has_none, is_dumping, job_of, nothing_steps, with_job, without_job, shows}
 use Rattle.g_world.proofs.CountLemmas.{event_none}
 use Rattle.g_world.proofs.CountedTurnLemmas.{keeps_itself, turned_world}
 use Rattle.g_world.proofs.CrewLemmas.{found_same, one_job}
@@ -41,6 +41,7 @@ use Rattle.g_crew.specs.Choice.{Chooses, able_in}
 use Rattle.g_crew.specs.Crew.{CrewState, IsCrewOf}
 use Rattle.g_crew.specs.Numbers.{AreOpen, job_in}
 use Rattle.g_crew.specs.Turn.{TakesTurn}
+use Rattle.std.proofs.lemmas.List.{append_assoc}
 use Rattle.g_console.specs.declared.progress.Failure.{Failure}
 use Rattle.g_console.specs.declared.progress.Failure.TheVariants.{Memory}
 use Rattle.g_console.specs.Parts.{IsReady, Matches, Seen, seen}
@@ -91,12 +92,12 @@ unbroken turn s is isnt = by s.spent is
     by true is = absurd (isnt (is.0 refl))
 
 -- by the turn, and where memory ran out
-turned_stands : (turn : Turn) (s : StoreFacts) (t : State) (number : ℕ) (work : Work) (behind : JobState) (w : World) → (s.spent ≡ true) ↔ (turn ≡ turns.Broken) → StoreIsNow s t
-    → StandsAs (turned_system turn s) (turned_world w number t work turn behind).store
-turned_stands turns.Broken s t number work behind w stopped now = down_stands s t (stopped.1 refl) now
-turned_stands (turns.Wants serial) s t number work behind w stopped now = up_stands s t now
-turned_stands (turns.Ran units money) s t number work behind w stopped now = up_stands s t now
-turned_stands (turns.Ended units money) s t number work behind w stopped now = up_stands s t now
+turned_stands : (turn : Turn) (s : StoreFacts) (t : State) (job : JobState) (work : Work) (behind : JobState) (w : World) → (s.spent ≡ true) ↔ (turn ≡ turns.Broken) → StoreIsNow s t
+    → StandsAs (turned_system turn s) (turned_world w job t work turn behind).store
+turned_stands turns.Broken s t job work behind w stopped now = down_stands s t (stopped.1 refl) now
+turned_stands (turns.Wants serial) s t job work behind w stopped now = up_stands s t now
+turned_stands (turns.Ran units money) s t job work behind w stopped now = up_stands s t now
+turned_stands (turns.Ended units money) s t job work behind w stopped now = up_stands s t now
 
 pub left_devices : (s : StoreFacts) (system : SystemFacts) → LeftBy s system → devices_in system ≡ devices_of s
 left_devices s system (inl (unspent, is)) = ap devices_in is
@@ -128,21 +129,21 @@ module _ (number count : ℕ) (old new : StoreFacts) (c : CrewState) (job behind
   left_is = subst (λ (n : ℕ). without_job n (with_job behind c.jobs) ≡ without_job behind.number c.jobs) number_behind (without_with behind c.jobs)
 
   module _ (failure : Option Failure) (system : SystemFacts) (c' : CrewState) (before after : Option (List ℕ)) (faults faults' : ℕ) where
-    pub system_is : (turn : Turn) → EndsTurn count number new crew_behind turn failure system c' before after faults faults' → system ≡ turned_system turn new
+    pub system_is : (turn : Turn) → EndsTurn count number new crew_behind (shown job behind) turn failure system c' before after faults faults' → system ≡ turned_system turn new
     system_is turns.Broken ends = ends.down
     system_is (turns.Wants serial) ends = ends.up
     system_is (turns.Ran units money) ends = ends.up
     system_is (turns.Ended units money) (gone, mid, out, on) = on.up
 
-    pub text_is : (turn : Turn) → EndsTurn count number new crew_behind turn failure system c' before after faults faults' → Puts failure (turn_added count behind turn c.jobs) before after faults faults'
+    pub text_is : (turn : Turn) → EndsTurn count number new crew_behind (shown job behind) turn failure system c' before after faults faults' → Puts failure (shown job behind ++ turn_added count behind turn c.jobs) before after faults faults'
     text_is turns.Broken ends = ends.put
-    text_is (turns.Wants serial) ends = subst (λ (n : ℕ). Puts failure (operator_line count (job_text n (codes "WANTS TAPE " ++ decimal serial))) before after faults faults') (sym number_behind) ends.put
-    text_is (turns.Ran units money) ends = ends.put
-    text_is (turns.Ended units money) (gone, mid, out, on) = subst (λ (j : JobState). Puts failure j.monitor before after faults faults') (taken_is gone out.there) on.put
+    text_is (turns.Wants serial) ends = subst (λ (n : ℕ). Puts failure (shown job behind ++ operator_line count (job_text n (codes "WANTS TAPE " ++ decimal serial))) before after faults faults') (sym number_behind) ends.put
+    text_is (turns.Ran units money) ends = subst (λ (l : List ℕ). Puts failure l before after faults faults') (sym (append-nil (shown job behind))) ends.put
+    text_is (turns.Ended units money) (gone, mid, out, on) = subst (λ (j : JobState). Puts failure (shown job behind ++ ended_file j) before after faults faults') (taken_is gone out.there) on.put
 
     -- the crew that is left is that of the world behind
-    crew_is : (turn : Turn) → EndsTurn count number new crew_behind turn failure system c' before after faults faults' → failure ≡ None → (new.spent ≡ true) ↔ (turn ≡ turns.Broken)
-        → (w : World) (t : State) (work : Work) → StandsForState new t → IsCrewOf w c → IsCrewOf (turned_world w job.number t work turn behind) c'
+    crew_is : (turn : Turn) → EndsTurn count number new crew_behind (shown job behind) turn failure system c' before after faults faults' → failure ≡ None → (new.spent ≡ true) ↔ (turn ≡ turns.Broken)
+        → (w : World) (t : State) (work : Work) → StandsForState new t → IsCrewOf w c → IsCrewOf (turned_world w job t work turn behind) c'
     crew_is turns.Broken ends none stopped w t work stands m = record {
       jobs = sym (ap (λ (k : CrewState). k.jobs) ends.crew);
       accounts = λ user. subst (λ (k : CrewState). AreKept [] k.accounts) (sym ends.crew) (λ u. refl) user;
@@ -172,7 +173,7 @@ module _ (number count : ℕ) (old new : StoreFacts) (c : CrewState) (job behind
         }
 
     -- and it is ready for the next part
-    pub ready_is : (turn : Turn) → EndsTurn count number new crew_behind turn failure system c' before after faults faults' → (new.spent ≡ true) ↔ (turn ≡ turns.Broken) → new.online.disc.size ≡ old.online.disc.size
+    pub ready_is : (turn : Turn) → EndsTurn count number new crew_behind (shown job behind) turn failure system c' before after faults faults' → (new.spent ≡ true) ↔ (turn ≡ turns.Broken) → new.online.disc.size ≡ old.online.disc.size
         → IsReady (Up old) c → IsReady (turned_system turn new) c'
     ready_is turns.Broken ends stopped size (unspent, low, high) = (
       subst (λ (n : ℕ). 2177 < n) (sym size) low,
@@ -188,13 +189,13 @@ module _ (number count : ℕ) (old new : StoreFacts) (c : CrewState) (job behind
         (unbroken (turns.Ended units money) new stopped (λ e. let no : ⊥ = cc in no), subst (λ (n : ℕ). 2177 < n) (sym size) low, subst (λ (n : ℕ). n ≤ 1048576) (sym size) high)
 
     -- numbers go on
-    pub numbers_are : (turn : Turn) → EndsTurn count number new crew_behind turn failure system c' before after faults faults' → failure ≡ None → c'.next_job ≡ c.next_job
+    pub numbers_are : (turn : Turn) → EndsTurn count number new crew_behind (shown job behind) turn failure system c' before after faults faults' → failure ≡ None → c'.next_job ≡ c.next_job
     numbers_are turns.Broken ends none = ap (λ (k : CrewState). k.next_job) ends.crew
     numbers_are (turns.Wants serial) ends none = ap (λ (k : CrewState). k.next_job) (ends.opens none).others
     numbers_are (turns.Ran units money) ends none = ap (λ (k : CrewState). k.next_job) (ends.opens none).others
     numbers_are (turns.Ended units money) (gone, mid, out, on) none = ap (λ (k : CrewState). k.next_job) (on.opens none).others ∙ out.next_job
 
-    pub open_is : (turn : Turn) → EndsTurn count number new crew_behind turn failure system c' before after faults faults' → failure ≡ None → SpendsBy job turn behind → AreOpen c.jobs → AreOpen c'.jobs
+    pub open_is : (turn : Turn) → EndsTurn count number new crew_behind (shown job behind) turn failure system c' before after faults faults' → failure ≡ None → SpendsBy job turn behind → AreOpen c.jobs → AreOpen c'.jobs
     open_is turns.Broken ends none spends still = subst (λ (k : CrewState). AreOpen k.jobs) (sym ends.crew) (All-nil (λ (j : JobState). j.over ≡ false))
     open_is (turns.Wants serial) ends none (used, wants, on) still =
         subst (λ (js : List JobState). AreOpen js) (sym (ap (λ (k : CrewState). k.jobs) (ends.opens none).others)) (open_with behind on c.jobs still)
@@ -248,13 +249,13 @@ module _ {F U : Type 0} (tariffs : Shared F (Bor Usage × Unit {0}) Charge) (tar
       -- A WHOLE TURN
       whole_does : (behind : JobState) (turn : Turn) (new : StoreFacts) (failure : Option Failure) (system : SystemFacts) (c' : CrewState) (before after : Option (List ℕ)) (faults faults' : ℕ)
           → TakesTurn Answers tariffs tariff job old turn behind new → (new.spent ≡ true) ↔ (turn ≡ turns.Broken)
-          → EndsTurn count number new (record c { jobs = with_job behind c.jobs }) turn failure system c' before after faults faults'
-          → (w : World) → Matches w (seen (Up old) c count) → MayTurn w → Doing w (seen (Up old) c count) failure (seen (turned_system turn new) c' count) (turn_added count behind turn c.jobs)
+          → EndsTurn count number new (record c { jobs = with_job behind c.jobs }) (shown job behind) turn failure system c' before after faults faults'
+          → (w : World) → Matches w (seen (Up old) c count) → MayTurn w → Doing w (seen (Up old) c count) failure (seen (turned_system turn new) c' count) (shown job behind ++ turn_added count behind turn c.jobs)
       whole_does behind turn new failure system c' before after faults faults' takes stopped ends w m may =
           let next = next_in w m in
           let (moves, t, now, run, counted, keeps) = store_turn counts tariffs tariff rules rule w job next.place may.0 may.1 (may_begin w may) next.chosen next.at next.here old new (now_in w m) takes.told takes.work turn behind takes.ran takes.ends in
-          let world : World = turned_world w job.number t takes.work turn behind in
-          let stands : StandsAs (turned_system turn new) world.store = turned_stands turn new t job.number takes.work behind w stopped now in record {
+          let world : World = turned_world w job t takes.work turn behind in
+          let stands : StandsAs (turned_system turn new) world.store = turned_stands turn new t job takes.work behind w stopped now in record {
             moves = moves;
             next = world;
             comes = record {
@@ -262,9 +263,10 @@ module _ {F U : Type 0} (tariffs : Shared F (Bor Usage × Unit {0}) Charge) (tar
               counted = subst (λ (d : Devices). MovesCounted moves 0 0 (devices_of old) d) (sym (same_devices turn new)) counted;
               stands = stands;
               keeps = keeps;
-              text = turn_adds behind turn (with_turn (record w { phase = Stepped }) t job.number (Gives takes.work))
-                  ∙ ap (λ (n : ℕ). w.text ++ turn_added n behind turn w.jobs) m.count
-                  ∙ ap (λ (js : List JobState). w.text ++ turn_added count behind turn js) m.crew.jobs;
+              text = turn_adds behind turn (shows job behind (with_turn (record w { phase = Stepped }) t job.number (Gives takes.work)))
+                  ∙ append_assoc w.text (shown job behind) (turn_added w.count behind turn w.jobs)
+                  ∙ ap (λ (n : ℕ). w.text ++ (shown job behind ++ turn_added n behind turn w.jobs)) m.count
+                  ∙ ap (λ (js : List JobState). w.text ++ (shown job behind ++ turn_added count behind turn js)) m.crew.jobs;
             };
             matches = λ none. record {
               stands = stands;
@@ -297,11 +299,12 @@ module _ {F U : Type 0} (tariffs : Shared F (Bor Usage × Unit {0}) Charge) (tar
           → GoesBy tariffs tariff rules rule MayTurn IsThrough (seen (Up old) c count) failure (seen system c' count) before after
       turn_goes failure system c' before after faults faults' took is =
           let takes = subst (λ (j : JobState). TakesTurn Answers tariffs tariff j old took.turn took.behind took.new) is took.takes in
+          let ends = subst (λ (j : JobState). EndsTurn count number took.new (record c { jobs = with_job took.behind c.jobs }) (shown j took.behind) took.turn failure system c' before after faults faults') is took.ends in
           subst (λ (s : SystemFacts). GoesBy tariffs tariff rules rule MayTurn IsThrough (seen (Up old) c count) failure (seen s c' count) before after)
-          (sym (system_is number count old took.new c job took.behind there takes.spends.0 failure system c' before after faults faults' took.turn took.ends))
-          (went failure (seen (Up old) c count) (seen (turned_system took.turn took.new) c' count) (turn_added count took.behind took.turn c.jobs) before after
-          (whole_does took.behind took.turn took.new failure system c' before after faults faults' takes took.stopped took.ends)
-          (text_is number count old took.new c job took.behind there takes.spends.0 failure system c' before after faults faults' took.turn took.ends).put)
+          (sym (system_is number count old took.new c job took.behind there takes.spends.0 failure system c' before after faults faults' took.turn ends))
+          (went failure (seen (Up old) c count) (seen (turned_system took.turn took.new) c' count) (shown job took.behind ++ turn_added count took.behind took.turn c.jobs) before after
+          (whole_does took.behind took.turn took.new failure system c' before after faults faults' takes took.stopped ends)
+          (text_is number count old took.new c job took.behind there takes.spends.0 failure system c' before after faults faults' took.turn ends).put)
 
       pub part_goes : (system : SystemFacts) (c' : CrewState) (before : Option (List ℕ)) (new : StoreFacts) → RanInPart Answers job.user old (turn_work job) new → LeftBy new system
           → GoesBy tariffs tariff rules rule MayTurn IsThrough (seen (Up old) c count) (Some Memory) (seen system c' count) before before

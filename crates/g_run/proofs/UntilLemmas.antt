@@ -17,7 +17,7 @@ use Rattle.g_run.specs.Tick.{left}
 use Rattle.g_run.specs.Parts.{Anything, DidOne, DidTicks, HasRoom, IsAtRest, Keeps, PartGoes, is_past, steps_in, turn_of}
 use Rattle.g_run.proofs.PartLemmas.{arrives_here, goes_then, keeps_then, none_arm}
 use Rattle.g_run.proofs.RestLemmas.{due_is, nothing_is}
-use Rattle.g_console.proofs.GrowLemmas.{grow_itself}
+use Rattle.g_run.proofs.KeepLemmas.{kept_itself}
 use Rattle.g_console.proofs.LabelLemmas.{same_itself}
 
 -- THE COUNT HAS ROOM for a tick where there is one to be done
@@ -46,7 +46,7 @@ keeps_here s faults ready still = record {
   arms = none_arm (let f : Option Failure = None in f ≡ None) (devices_in s.system) (devices_in s.system) refl refl;
   same = same_itself (devices_in s.system);
   belongs = λ was. was;
-  dumps = λ was. grow_itself (devices_in s.system).rack;
+  dumps = λ was. kept_itself [] (devices_in s.system).rack;
   cause = refl;
 }
 

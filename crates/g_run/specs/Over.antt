@@ -14,7 +14,8 @@ use Rattle.g_world.specs.Devices.{Devices, StandFor}
 use Rattle.g_world.specs.Top.{AreArmings}
 use Rattle.g_console.specs.declared.progress.Failure.{Failure}
 use Rattle.g_console.specs.Puts.{FaultCause, Puts}
-use Rattle.g_console.specs.System.{BelongTogether, DumpsGrow, SameDevices, StandsAs, SystemFacts, devices_in}
+use Rattle.g_console.specs.System.{BelongTogether, SameDevices, StandsAs, SystemFacts, devices_in}
+use Rattle.g_run.specs.Parts.{DumpsKept}
 use Rattle.g_run.specs.Top.{EndsBy}
 
 abbrev pub both : DiscState → Rack → Devices
@@ -36,5 +37,5 @@ module _ {F U : Type 0} (tariffs : Shared F (Bor Usage × Unit {0}) Charge) (tar
     pub arms : AreArmings lines (failure ≡ None) old new
     pub same : SameDevices old new
     pub belongs : BelongTogether old → BelongTogether new
-    pub dumps : BelongTogether old → DumpsGrow old.rack new.rack
+    pub dumps : BelongTogether old → DumpsKept lines old.rack new.rack
     pub cause : FaultCause failure faults faults'

@@ -6,7 +6,10 @@ use Rattle.g_budget.specs.declared.tariff.Charge.{Charge}
 use Rattle.g_budget.specs.declared.tariff.Usage.{Usage}
 use Rattle.g_sched.specs.declared.rule.Standing.{Standing}
 use Rattle.g_io.specs.Streams.{HasPutPart, with_more}
+use Rattle.g_tape.specs.Rack.{Rack}
+use Rattle.g_state_process.specs.Moving.{DumpsMove}
 use Rattle.g_script.specs.declared.operator.Timed.{Timed}
+use Rattle.g_world.specs.Lines.{is_process}
 use Rattle.g_world.specs.Moves.{Move, MovesCounted, Run}
 use Rattle.g_world.specs.Top.{AreArmings}
 use Rattle.g_world.specs.World.{World, is_due, nothing_steps}
@@ -96,15 +99,25 @@ module _ {F U : Type 0} (tariffs : Shared F (Bor Usage × Unit {0}) Charge) (tar
   PartGoes Rests lines rest old failure new before after =
       (w : World) → Matches w old → IsBetween w → w.lines ≡ lines → GoesBy Rests w rest old failure new before after
 
+-- none of some lines is a PROCESS
+abbrev pub HaveNoProcess : List Timed → Type 0
+HaveNoProcess lines = All (λ next. is_process next.what ≡ false) lines
+
+-- WHAT BECOMES OF COMPLETED DUMPS in a part that did some lines: each stays, or its whole reel was released where a newer one has all; and where
+-- none of the lines is a PROCESS, all stay
+pub record DumpsKept (done : List Timed) (old new : Rack) : Type 0 where
+  pub move : DumpsMove old new
+  pub stay : HaveNoProcess done → DumpsGrow old new
+
 -- WHAT HOLDS OF ALL DEVICES behind a part that did some lines: all is ready for the next, unless it failed; the lines armed the devices; disc and
--- rack go on belonging together, and completed dumps stay; and the sink's count moves with its own failure
+-- rack go on belonging together, and what becomes of completed dumps; and the sink's count moves with its own failure
 pub record Keeps (done : List Timed) (old : Seen) (failure : Option Failure) (new : Seen) (faults faults' : ℕ) : Type 0 where
   pub ready : failure ≡ None → IsReady new.system new.crew × AreOpen new.crew.jobs
   pub numbers : failure ≡ None → new.crew.next_job ≤ old.crew.next_job + length done
   pub arms : AreArmings done (failure ≡ None) (devices_in old.system) (devices_in new.system)
   pub same : SameDevices (devices_in old.system) (devices_in new.system)
   pub belongs : SystemBelongs old.system → SystemBelongs new.system
-  pub dumps : SystemBelongs old.system → DumpsGrow (devices_in old.system).rack (devices_in new.system).rack
+  pub dumps : SystemBelongs old.system → DumpsKept done (devices_in old.system).rack (devices_in new.system).rack
   pub cause : FaultCause failure faults faults'
 
 module _ {F U : Type 0} (tariffs : Shared F (Bor Usage × Unit {0}) Charge) (tariff : F) (rules : Shared U (Bor Standing × Unit {0}) ℕ) (rule : U) where

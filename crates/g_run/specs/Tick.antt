@@ -1,5 +1,5 @@
 -- PARTS OF A TICK: from each world that is what is at hand there are moves to a world that is what is at hand then.
-use Rattle.std.specs.Prelude.{◌≡◌, ◌⊎◌, ℕ, ◌+◌, ◌-◌, ◌≤◌, ◌||◌, Bool, true, false, not, List, [], ◌++◌, filter, sum_by, Option, Some, None, Result, if◌then◌else◌}
+use Rattle.std.specs.Prelude.{◌≡◌, ◌⊎◌, ℕ, ◌+◌, ◌-◌, ◌≤◌, ◌&&◌, ◌||◌, Bool, true, false, not, List, [], ◌++◌, filter, sum_by, Option, Some, None, Result, if◌then◌else◌}
 use Rattle.std.specs.Fn.{Shared}
 use denote.Ref.{Bor}
 use Rattle.g_io.specs.Streams.{with_more, HasPutPart}
@@ -13,6 +13,7 @@ use Rattle.g_step.specs.State.{OpenDump, State}
 use Rattle.g_crew.specs.Numbers.{AreOpen}
 use Rattle.g_console.specs.declared.progress.Failure.{Failure}
 use Rattle.g_job.specs.State.{JobState}
+use Rattle.g_job.specs.Terminal.{is_ready}
 use Rattle.g_incr.specs.Plan.{needs}
 use Rattle.g_tape.specs.Rack.{Rack, is_mounted, reel}
 use Rattle.g_console.specs.Parts.{IsReady, Matches, Seen}
@@ -46,7 +47,7 @@ reel_there rack None = true
 reel_there rack (Some serial) = is_mounted (reel serial rack.reels)
 
 abbrev pub may_step : Rack → JobState → Bool
-may_step rack j = reel_there rack j.wants
+may_step rack j = reel_there rack j.wants && is_ready j
 
 -- (`share` of g_world's ShareLemmas)
 abbrev pub share_in : Rack → JobState → ℕ

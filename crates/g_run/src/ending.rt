@@ -6,12 +6,13 @@ ghost use Rattle.g_crew.specs.Numbers.{job_in};
 ghost use Rattle.g_job.specs.State.{JobState};
 ghost use Rattle.g_world.specs.Texts as texts;
 ghost use Rattle.g_world.specs.Texts.{operator_line};
-ghost use Rattle.g_run.specs.Turning.{EndsTurn, GoesDown, GoesOn, TakenOut};
+ghost use Rattle.g_run.specs.Turning.{EndsTurn, GoesDown, GoesOn, ShowsAs, TakenOut, added_of};
 
 use crate::day_up::DayUp;
+use crate::showing::end_shown;
 use g_base::NoMemory;
 use g_console::{Day, Ended, Failure, System, fails, put, told};
-use g_crew::job_text;
+use g_crew::{Taken, job_text};
 use g_disc::Disc;
 use g_io::Sink;
 use g_job::{Job, Turn};
@@ -20,9 +21,31 @@ use g_plain::StoreFault;
 use g_tape::Tapes;
 use std::alloc::Global;
 
-/// The turn of the job of this number is over: a job that waits is told, one that has ended is taken out and its file put, and a
-/// stop takes the system down. Accounts open for users that the turn has made, unless it was stopped.
+/// The turn of the job of this number is over: what it has written on a terminal's file is put; a job that waits is told, one
+/// that has ended is taken out and its file put, and a stop takes the system down. Accounts open for users that the turn has
+/// made, unless it was stopped.
 pub(crate) fn end_turn<K: Sink, D: Disc, T: Tapes>(
+    alloc: Global,
+    up: DayUp<D, T>,
+    number: u64,
+    taken: Taken,
+    out: &mut K,
+) -> Ended<D, T>
+    requires stopped { (up.store.spent ≡ true) ↔ (taken.turn ≡ Turn.Broken) }
+    requires there { (job : JobState) × (job_in number up.crew.jobs ≡ Some job) × ShowsAs taken.shown job.terminal }
+    ensures ends { (job : JobState) → job_in number up.crew.jobs ≡ Some job
+        → EndsTurn up.count number up.store up.crew (added_of taken.shown job) taken.turn result.failure result.day.system result.day.crew
+        (K.written out.old) (K.written out.new) (K.faults out.old) (K.faults out.new) }
+    ensures count { result.day.count ≡ up.count }
+{
+    match taken.shown {
+        None => end_untold(alloc, up, number, taken.turn, out),
+        Some(before) => end_shown(alloc, up, number, before, taken.turn, out),
+    }
+}
+
+/// The turn of a job at no terminal is over.
+fn end_untold<K: Sink, D: Disc, T: Tapes>(
     alloc: Global,
     up: DayUp<D, T>,
     number: u64,
@@ -30,8 +53,8 @@ pub(crate) fn end_turn<K: Sink, D: Disc, T: Tapes>(
     out: &mut K,
 ) -> Ended<D, T>
     requires stopped { (up.store.spent ≡ true) ↔ (turn ≡ Turn.Broken) }
-    requires there { (job : JobState) × (job_in number up.crew.jobs ≡ Some job) }
-    ensures ends { EndsTurn up.count number up.store up.crew turn result.failure result.day.system result.day.crew
+    requires there { (job : JobState) × (job_in number up.crew.jobs ≡ Some job) × (job.terminal ≡ None) }
+    ensures ends { EndsTurn up.count number up.store up.crew [] turn result.failure result.day.system result.day.crew
         (K.written out.old) (K.written out.new) (K.faults out.old) (K.faults out.new) }
     ensures count { result.day.count ≡ up.count }
 {
@@ -45,7 +68,7 @@ pub(crate) fn end_turn<K: Sink, D: Disc, T: Tapes>(
 
 /// The system was stopped.
 fn stops<K: Sink, D: Disc, T: Tapes>(alloc: Global, up: DayUp<D, T>, out: &mut K) -> Ended<D, T>
-    ensures ends { GoesDown up.store up.count up.crew result.failure result.day.system result.day.crew
+    ensures ends { GoesDown up.store [] up.count up.crew result.failure result.day.system result.day.crew
         (K.written out.old) (K.written out.new) (K.faults out.old) (K.faults out.new) }
     ensures count { result.day.count ≡ up.count }
 {
@@ -129,7 +152,7 @@ fn waits<K: Sink, D: Disc, T: Tapes>(
 }
 
 /// What is told of a job that waits.
-fn wants(alloc: Global, number: u64, serial: u32) -> Result<Text, NoMemory>
+pub(crate) fn wants(alloc: Global, number: u64, serial: u32) -> Result<Text, NoMemory>
     ensures { IfOk result (λ text. text ≡ texts.job_text number (codes "WANTS TAPE " ++ decimal serial)) }
 {
     let mut how = Text::from_slice(alloc, b"WANTS TAPE ")?;

@@ -13,6 +13,7 @@ mod little;
 mod over;
 mod rules;
 mod script;
+mod showing;
 mod status;
 mod ticking;
 mod ticks;

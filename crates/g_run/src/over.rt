@@ -203,7 +203,7 @@ fn end_text(alloc: Global, crew: &Crew, bad: Option<u64>) -> Result<Text, NoMemo
     ensures { IfOk result (λ text. text ≡ texts.waiting_files crew.now.jobs ++ texts.closing bad) }
 {
     let mut text = Text::new(alloc);
-    crew.push_waiting_files(&mut text)?;
+    crew.push_waiting_files(alloc, &mut text)?;
     let closing = closing_text(alloc, bad)?;
     text.extend(closing.as_slice())?;
     Ok(text)

@@ -100,7 +100,7 @@ fn turn_of<K: Sink, D: Disc, T: Tapes, F: Fn(&Usage) -> Charge>(
         count,
     } = up;
     match crew.turn(alloc, number, &mut store, tariff) {
-        Ok(turn) => end_turn(alloc, DayUp { store, crew, count }, number, turn, out),
+        Ok(taken) => end_turn(alloc, DayUp { store, crew, count }, number, taken, out),
         Err(NoMemory) => Ended {
             day: Day {
                 system: behind(store),

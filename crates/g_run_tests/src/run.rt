@@ -18,14 +18,15 @@ const SCRIPT: &[u8] =
 const TEXT: &[u8] =
     b"0 FORMATTED\n0 JOB 1 ONE IN\nJOB 1 ONE :MASTER\n- INPUT F\nMADE :MASTER.F(1/)\n- LISTFILE F\n| HELLO\n| WORLD\nLISTED :MASTER.F(1/)\n- ENDJOB\nEND 3 UNITS\n";
 
-/// A job makes a file, which is dumped and taken off the disc; then the system goes down and comes up twice: each of the operator's
-/// lines.
+/// A job makes a file, which is dumped and taken off the disc; then the system goes down and comes up twice, and the file is put on
+/// another reel: the operator's lines.
 const DAY: &[u8] =
-    b"0 FORMAT\n0 JOB A,:MASTER,TIME 10\nINPUT F\nHELLO\n////\n****\n0 MOUNT 1\n2 DUMP 1\n8 MIGRATE :MASTER.F\n8 SHUT\n8 START\n8 SHUT\n8 RESTORE\n8 UNMOUNT 1\n8 STOP DISC 5\n8 STOP TAPE 5\n";
+    b"0 FORMAT\n0 JOB A,:MASTER,TIME 10\nINPUT F\nHELLO\n////\n****\n0 MOUNT 1\n0 MOUNT 2\n2 DUMP 1\n8 MIGRATE :MASTER.F\n8 SHUT\n8 START\n8 SHUT\n8 RESTORE\n8 PROCESS 2\n8 UNMOUNT 1\n8 STOP DISC 5\n8 STOP TAPE 5\n";
 
 const DAY_TEXT: &[u8] = b"0 FORMATTED\n\
 0 JOB 1 A IN\n\
 0 TAPE 1 MOUNTED\n\
+0 TAPE 2 MOUNTED\n\
 JOB 1 A :MASTER\n\
 - INPUT F\n\
 MADE :MASTER.F(1/)\n\
@@ -37,9 +38,16 @@ END 2 UNITS\n\
 8 STARTED\n\
 8 SHUT\n\
 8 RESTORED FROM DUMP 1\n\
+8 PROCESSED DUMP 2 ON 2\n\
 8 TAPE 1 UNMOUNTED\n\
 8 STOP SET\n\
 8 STOP SET\n";
+
+/// A line is typed at a terminal, whose job ends behind its logout: the lines of terminals.
+const TERMINAL: &[u8] = b"0 FORMAT\n0 LOGIN 1,:MASTER,TIME 10\n0 TYPE 1,DISPLAY A\n5 LOGOUT 1\n";
+
+const TERMINAL_TEXT: &[u8] =
+    b"0 FORMATTED\n0 JOB 1 MOP1 IN\nT1 JOB 1 MOP1 :MASTER\nT1 - DISPLAY A\nT1 DISPLAY A\nT1 END 2 UNITS\n";
 
 /// What the demonstration of number 0 and one round prints.
 const SUMMARY: &[u8] = b"DEMO 0 1\nLINES 21\nBYTES 315\nFOLD 3482023973\n";
@@ -52,15 +60,16 @@ fn disc(alloc: Global) -> Result<MemoryDisc, Fail>
     Ok(disc)
 }
 
-/// One empty reel, which isn't mounted.
+/// Two empty reels, which aren't mounted.
 fn tapes(alloc: Global) -> Result<MemoryTapes, Fail> {
-    let mut labels = Vec::with_capacity(alloc, 1)?;
+    let mut labels = Vec::with_capacity(alloc, 2)?;
     labels.push((1, 8_192))?;
+    labels.push((2, 8_192))?;
     let tapes = MemoryTapes::new(alloc, labels)?;
     Ok(tapes)
 }
 
-/// What a run by the rules of the program puts, on a disc of zeros and an empty reel.
+/// What a run by the rules of the program puts, on a disc of zeros and two empty reels.
 fn ran(alloc: Global, words: &[&str], script: &[u8]) -> Result<MemorySink, Fail> {
     let tariff = Tariff::new(|usage: &Usage| Charge {
         units: 1 + u64::from(usage.orders / 64) + u64::from(usage.blocks / 64),
@@ -95,6 +104,8 @@ fn ample(rt: HostRuntime) -> Result<(), Fail> {
     assert!(rt; sink.text() == TEXT);
     let sink = ran(rt.alloc(), &["run"], DAY)?;
     assert!(rt; sink.text() == DAY_TEXT);
+    let sink = ran(rt.alloc(), &["run"], TERMINAL)?;
+    assert!(rt; sink.text() == TERMINAL_TEXT);
     let sink = ran(rt.alloc(), &["demo", "0", "1"], SCRIPT)?;
     assert!(rt; sink.text() == SUMMARY);
     Ok(())

@@ -15,8 +15,8 @@ use Rattle.g_name.specs.Names.{name_text, path_name}
 use Rattle.g_name.specs.Order.{same_text}
 use Rattle.g_name.specs.declared.path.Path.{Path}
 use Rattle.g_script.proofs.PieceLemmas.{Without, number-without, split-is, split-none, split-some, without-append, word-without}
-use Rattle.g_script.specs.How.{allowances_in, allowances_read, argument_read, bare_or, dump_read, from_one_read, head_read, job_behind, job_named, job_of, job_read, job_user_read, job_with, migration_read, money_read, name_read, named, number_behind, number_or, numbered_read, of_user, positive, split_at, stop_read, time_read, timed, timed_in, unmount_read, what_read, with_money, without_money, word_or, word_read}
-use Rattle.g_script.specs.Script.{Bare, IsBare, IsDocumentLine, IsItem, IsJob, IsWrittenOperator, Job, WrittenItem, WrittenOperator, head_line, money_text, operator_text, written_text}
+use Rattle.g_script.specs.How.{allowances_in, allowances_read, argument_read, at_terminal, bare_or, dump_read, from_one_read, head_read, job_behind, job_named, job_of, job_read, job_user_read, job_with, login_at, login_behind, login_of, login_read, login_with, logout_read, migration_read, money_read, name_read, named, number_behind, number_or, numbered_read, process_read, of_user, positive, split_at, stop_read, terminal_read, time_read, timed, timed_in, typed_as, typed_read, unmount_read, what_read, with_money, without_money, word_or, word_read}
+use Rattle.g_script.specs.Script.{Bare, IsBare, IsDocumentLine, IsItem, IsJob, IsTerminal, IsWrittenOperator, Job, WrittenItem, WrittenOperator, head_line, money_text, operator_text, written_text}
 use Rattle.g_script.specs.declared.head.Head.{Head}
 use Rattle.g_script.specs.declared.head.What.{What}
 use Rattle.g_script.specs.declared.head.What.TheVariants as what
@@ -117,6 +117,29 @@ job-complete name user time money lines is =
     ap job_named (name-complete name ((58 ∷ user) ++ 44 ∷ tail) is.is_name) ∙ ap (job_of name) (user-read user tail is.is_user)
     ∙ ap (job_with name user) (allowances-complete time money is.time_within.0 is.time_within.1 is.money_within)
 
+-- a terminal, and what stands behind its comma
+terminal-complete : (t : ℕ) (rest : List ℕ) → 1 ≤ t → t ≤ 8 → terminal_read (decimal t ++ 44 ∷ rest) ≡ Some (t, rest)
+terminal-complete t rest least few =
+    ap (option_and_then at_terminal) (split-some 44 (decimal t) rest (number-without 44 t (omega arith) (omega (arith, few))))
+    ∙ ap (option_map (λ (n : ℕ). let p : ℕ × List ℕ = (n, rest) in p)) (from_one-complete 8 t (omega arith) least few)
+
+abbrev login_tail : List ℕ → ℕ → List ℕ
+login_tail user time = (58 ∷ user) ++ 44 ∷ (codes "TIME " ++ decimal time)
+
+login_regrouped : (t : ℕ) (user : List ℕ) (time : ℕ) → operator_text (line.Login t user time) ≡ codes "LOGIN " ++ (decimal t ++ 44 ∷ login_tail user time)
+login_regrouped t user time =
+    append_assoc ((codes "LOGIN " ++ decimal t) ++ codes ",:") user (codes ",TIME " ++ decimal time)
+    ∙ append_assoc (codes "LOGIN " ++ decimal t) (codes ",:") (user ++ (codes ",TIME " ++ decimal time))
+    ∙ append_assoc (codes "LOGIN ") (decimal t) (codes ",:" ++ (user ++ (codes ",TIME " ++ decimal time)))
+
+login-complete : (t : ℕ) (user : List ℕ) (time : ℕ) → IsBare (line.Login t user time) → login_behind (decimal t ++ 44 ∷ login_tail user time) ≡ Some (line.Login t user time)
+login-complete t user time is =
+    ap login_at (terminal-complete t (login_tail user time) is.0.0 is.0.1) ∙ ap (login_of t) (user-read user (codes "TIME " ++ decimal time) is.1)
+    ∙ ap (login_with t user) (time-complete time is.2.0 is.2.1)
+
+typed_regrouped : (t : ℕ) (text : List ℕ) → operator_text (line.Typed t text) ≡ codes "TYPE " ++ (decimal t ++ 44 ∷ text)
+typed_regrouped t text = append_assoc (codes "TYPE " ++ decimal t) (codes ",") text ∙ append_assoc (codes "TYPE ") (decimal t) (44 ∷ text)
+
 -- what is read of a written operator
 abbrev pub what_for : WrittenOperator → What
 what_for (Bare o) = what.Bare o
@@ -136,17 +159,29 @@ what-complete (Bare (line.Unmount s)) is =
     number_found line.Unmount (from_one_read 999999 (decimal s)) s (dump_read text) (argument_read text) (from_one-complete 999999 s (omega arith) is.0 is.1)
 what-complete (Bare (line.Dump s)) is =
     let text : List ℕ = codes "DUMP " ++ decimal s in
-    number_found line.Dump (from_one_read 999999 (decimal s)) s (stop_read text) (argument_read text) (from_one-complete 999999 s (omega arith) is.0 is.1)
+    number_found line.Dump (from_one_read 999999 (decimal s)) s (process_read text) (argument_read text) (from_one-complete 999999 s (omega arith) is.0 is.1)
+what-complete (Bare (line.Process s)) is =
+    let text : List ℕ = codes "PROCESS " ++ decimal s in
+    number_found line.Process (from_one_read 999999 (decimal s)) s (stop_read text) (argument_read text) (from_one-complete 999999 s (omega arith) is.0 is.1)
 what-complete (Bare (line.Migrate path)) is =
     let name : List ℕ = name_text (path_name path) in let text : List ℕ = codes "MIGRATE " ++ name in
-    ap (λ (o : Option Path). bare_or (option_map line.Migrate o) (job_read text)) (file-complete path name (is, refl))
+    ap (λ (o : Option Path). bare_or (option_map line.Migrate o) (bare_or (login_read text) (bare_or (typed_read text) (job_read text)))) (file-complete path name (is, refl))
 what-complete (Bare (line.StopDisc k)) is =
     let text : List ℕ = codes "STOP DISC " ++ decimal k in
-    number_found line.StopDisc (from_one_read 1000000000 (decimal k)) k (number_or line.StopTape (number_behind 1000000000 (codes "STOP TAPE ") text) None) (argument_read text)
+    number_found line.StopDisc (from_one_read 1000000000 (decimal k)) k (number_or line.StopTape (number_behind 1000000000 (codes "STOP TAPE ") text) (logout_read text)) (argument_read text)
     (from_one-complete 1000000000 k (omega arith) is.0 is.1)
 what-complete (Bare (line.StopTape k)) is =
     let text : List ℕ = codes "STOP TAPE " ++ decimal k in
-    number_found line.StopTape (from_one_read 1000000000 (decimal k)) k None (argument_read text) (from_one-complete 1000000000 k (omega arith) is.0 is.1)
+    number_found line.StopTape (from_one_read 1000000000 (decimal k)) k (logout_read text) (argument_read text) (from_one-complete 1000000000 k (omega arith) is.0 is.1)
+what-complete (Bare (line.Login t user time)) is =
+    let text : List ℕ = codes "LOGIN " ++ (decimal t ++ 44 ∷ login_tail user time) in
+    ap what_read (login_regrouped t user time) ∙ ap (λ (o : Option Operator). bare_or o (bare_or (typed_read text) (job_read text))) (login-complete t user time is)
+what-complete (Bare (line.Typed t typed)) is =
+    let text : List ℕ = codes "TYPE " ++ (decimal t ++ 44 ∷ typed) in
+    ap what_read (typed_regrouped t typed) ∙ ap (λ (o : Option (ℕ × List ℕ)). bare_or (option_map typed_as o) (job_read text)) (terminal-complete t typed is.0 is.1)
+what-complete (Bare (line.Logout t)) is =
+    let text : List ℕ = codes "LOGOUT " ++ decimal t in
+    number_found line.Logout (from_one_read 8 (decimal t)) t None (argument_read text) (from_one-complete 8 t (omega arith) is.0 is.1)
 what-complete (Job name user time money lines) is =
     ap what_read (regrouped name user time money lines) ∙ job-complete name user time money lines is
 
@@ -206,13 +241,15 @@ number_or-sound text operator most word others good rest = by (number_behind mos
 stop-sound : (text : List ℕ) → Bares (stop_read text) text
 stop-sound text =
     number_or-sound text line.StopDisc 1000000000 (codes "STOP DISC ") _ (λ n least few is. ((least, few), is))
-    (number_or-sound text line.StopTape 1000000000 (codes "STOP TAPE ") None (λ n least few is. ((least, few), is)) (none_bare text))
+    (number_or-sound text line.StopTape 1000000000 (codes "STOP TAPE ") (logout_read text) (λ n least few is. ((least, few), is))
+    (number_or-sound text line.Logout 8 (codes "LOGOUT ") None (λ n least few is. ((least, few), is)) (none_bare text)))
 
 numbered-sound : (text : List ℕ) → Bares (numbered_read text) text
 numbered-sound text =
     number_or-sound text line.Mount 999999 (codes "MOUNT ") (unmount_read text) (λ n least few is. ((least, few), is))
     (number_or-sound text line.Unmount 999999 (codes "UNMOUNT ") (dump_read text) (λ n least few is. ((least, few), is))
-    (number_or-sound text line.Dump 999999 (codes "DUMP ") (stop_read text) (λ n least few is. ((least, few), is)) (stop-sound text)))
+    (number_or-sound text line.Dump 999999 (codes "DUMP ") (process_read text) (λ n least few is. ((least, few), is))
+    (number_or-sound text line.Process 999999 (codes "PROCESS ") (stop_read text) (λ n least few is. ((least, few), is)) (stop-sound text))))
 
 migration-sound : (text : List ℕ) → Bares (migration_read text) text
 migration-sound text = by (option_and_then file_read (behind (codes "MIGRATE ") text)) refl
@@ -329,6 +366,61 @@ job-sound text asked e = option_and_then_some job_behind (behind (codes "JOB ") 
         let name = name-sound rest p.0 p.1 read in
         job_of-sound text p.0 p.1 name.0 (is ∙ ap (λ (x : List ℕ). codes "JOB " ++ x) name.1) found said
 
+-- a terminal
+terminal-sound : (text : List ℕ) (t : ℕ) (rest : List ℕ) → terminal_read text ≡ Some (t, rest) → IsTerminal t × (text ≡ decimal t ++ 44 ∷ rest)
+terminal-sound text t rest e = option_and_then_some at_terminal (split_at 44 text) (t, rest) e (λ parts there is. by parts there (from_one_read 8 parts.0) refl is)
+  where
+    by : (parts : List ℕ × List ℕ) → split_at 44 text ≡ Some parts → (o : Option ℕ) → from_one_read 8 parts.0 ≡ o
+        → option_map (λ (n : ℕ). let p : ℕ × List ℕ = (n, parts.1) in p) o ≡ Some (t, rest) → IsTerminal t × (text ≡ decimal t ++ 44 ∷ rest)
+    by parts there None read is = absurd cc
+    by parts there (Some n) read is =
+        let same = some_pair_parts n t parts.1 rest is in
+        let number = from_one-sound 8 t parts.0 (read ∙ ap (λ (x : ℕ). let o : Option ℕ = Some x in o) same.0) in
+        ((number.0, number.1), split-is 44 text parts there ∙ ap (λ (x : List ℕ). x ++ 44 ∷ parts.1) number.2 ∙ ap (λ (x : List ℕ). decimal t ++ 44 ∷ x) same.1)
+
+typed-sound : (text : List ℕ) → Bares (typed_read text) text
+typed-sound text o e = by (option_and_then terminal_read (behind (codes "TYPE ") text)) refl e
+  where
+    by : (p : Option (ℕ × List ℕ)) → option_and_then terminal_read (behind (codes "TYPE ") text) ≡ p → option_map typed_as p ≡ Some o → IsBareText o text
+    by None read is = absurd cc
+    by (Some p) read is =
+        some_bare text (typed_as p)
+        (option_and_then_some terminal_read (behind (codes "TYPE ") text) p read
+        (λ rest there found.
+        let part = terminal-sound rest p.0 p.1 found in
+        (part.0, behind-is (codes "TYPE ") text rest there ∙ ap (λ (x : List ℕ). codes "TYPE " ++ x) part.1 ∙ sym (typed_regrouped p.0 p.1)))) o is
+
+login_with-sound : (text : List ℕ) (t : ℕ) (user rest : List ℕ) → IsTerminal t → is_word user ≡ true → text ≡ codes "LOGIN " ++ (decimal t ++ 44 ∷ ((58 ∷ user) ++ 44 ∷ rest))
+    → Bares (login_with t user (time_read rest)) text
+login_with-sound text t user rest is_t is_user is = by (time_read rest) refl
+  where
+    by : (o : Option ℕ) → time_read rest ≡ o → Bares (login_with t user o) text
+    by None read asked e = absurd cc
+    by (Some time) read asked e =
+        let parts = number_behind-sound 1000000 (codes "TIME ") rest time read in
+        some_bare text (line.Login t user time) (
+          (is_t, is_user, (parts.0, parts.1)),
+          is ∙ ap (λ (x : List ℕ). codes "LOGIN " ++ (decimal t ++ 44 ∷ ((58 ∷ user) ++ 44 ∷ x))) parts.2 ∙ sym (login_regrouped t user time),
+        ) asked e
+
+login_of-sound : (text : List ℕ) (t : ℕ) (rest : List ℕ) → IsTerminal t → text ≡ codes "LOGIN " ++ (decimal t ++ 44 ∷ rest) → Bares (login_of t (job_user_read rest)) text
+login_of-sound text t rest is_t is = by (job_user_read rest) refl
+  where
+    by : (o : Option (List ℕ × List ℕ)) → job_user_read rest ≡ o → Bares (login_of t o) text
+    by None read asked e = absurd cc
+    by (Some p) read asked e =
+        let user = user-part rest p.0 p.1 read in
+        login_with-sound text t p.0 p.1 is_t user.0 (is ∙ ap (λ (x : List ℕ). codes "LOGIN " ++ (decimal t ++ 44 ∷ x)) user.1) asked e
+
+login-sound : (text : List ℕ) → Bares (login_read text) text
+login-sound text asked e = option_and_then_some login_behind (behind (codes "LOGIN ") text) asked e (λ rest there read. by rest (behind-is (codes "LOGIN ") text rest there) (terminal_read rest) refl asked read)
+  where
+    by : (rest : List ℕ) → text ≡ codes "LOGIN " ++ rest → (o : Option (ℕ × List ℕ)) → terminal_read rest ≡ o → Bares (login_at o) text
+    by rest is None read found none = absurd cc
+    by rest is (Some p) read found said =
+        let part = terminal-sound rest p.0 p.1 read in
+        login_of-sound text p.0 p.1 part.0 (is ∙ ap (λ (x : List ℕ). codes "LOGIN " ++ x) part.1) found said
+
 bare_or-sound : (text : List ℕ) (found : Option Operator) (others : Option What) → Bares found text → Whats others text → Whats (bare_or found others) text
 bare_or-sound text None others bares rest asked e = rest asked e
 bare_or-sound text (Some o) others bares rest asked e =
@@ -337,14 +429,20 @@ bare_or-sound text (Some o) others bares rest asked e =
 what-sound : (text : List ℕ) → Whats (what_read text) text
 what-sound text =
     bare_or-sound text (word_read text) _ (word-sound text)
-    (bare_or-sound text (numbered_read text) _ (numbered-sound text) (bare_or-sound text (migration_read text) (job_read text) (migration-sound text) (job-sound text)))
+    (bare_or-sound text (numbered_read text) _ (numbered-sound text) (bare_or-sound text (migration_read text) _ (migration-sound text)
+    (bare_or-sound text (login_read text) _ (login-sound text) (bare_or-sound text (typed_read text) (job_read text) (typed-sound text) (job-sound text)))))
 
 -- the item with this first line and these lines of a document
 abbrev pub item_with : Head → List (List ℕ) → WrittenItem
 item_with head lines = record { turn = head.turn; what = with_lines head.what lines }
 
+-- but for the bytes and the length of a TYPE line
+abbrev IsSaidAt : ℕ → WrittenOperator → Type 0
+IsSaidAt turn w = (turn ≤ 1000000000) × IsWrittenOperator w
+
 abbrev Heads : Option Head → List ℕ → Type 0
-Heads found text = (head : Head) → found ≡ Some head → (lines : List (List ℕ)) → All IsDocumentLine lines → IsItem (item_with head lines) × (text ≡ head_line (item_with head lines))
+Heads found text = (head : Head) → found ≡ Some head → (lines : List (List ℕ)) → All IsDocumentLine lines
+    → IsSaidAt head.turn (with_lines head.what lines) × (text ≡ head_line (item_with head lines))
 
 pub head-sound : (text : List ℕ) → Heads (head_read text) text
 head-sound text = by (split_at 32 text) refl
@@ -357,7 +455,7 @@ head-sound text = by (split_at 32 text) refl
         let parts = what-sound asked what said lines good in
         let own : Head = record { turn = turn; what = what } in
         let whole : text ≡ head_line (item_with own lines) = split ∙ ap (λ (x : List ℕ). x ++ 32 ∷ asked) number.1 ∙ ap (λ (x : List ℕ). decimal turn ++ 32 ∷ x) parts.1 in
-        subst (λ (h : Head). IsItem (item_with h lines) × (text ≡ head_line (item_with h lines))) (same_Some own head e) ((number.0, parts.0), whole)
+        subst (λ (h : Head). IsSaidAt h.turn (with_lines h.what lines) × (text ≡ head_line (item_with h lines))) (same_Some own head e) ((number.0, parts.0), whole)
 
     by : (o : Option (List ℕ × List ℕ)) → split_at 32 text ≡ o → Heads (timed_in o) text
     by None is head e = absurd cc

@@ -46,12 +46,18 @@ abbrev pub number_or : (ℕ → Operator) → Option ℕ → Option Operator →
 number_or operator (Some n) others = Some (operator n)
 number_or operator None others = others
 
+abbrev pub logout_read : List ℕ → Option Operator
+logout_read text = number_or line.Logout (number_behind 8 (codes "LOGOUT ") text) None
+
 abbrev pub stop_read : List ℕ → Option Operator
 stop_read text =
-    number_or line.StopDisc (number_behind 1000000000 (codes "STOP DISC ") text) (number_or line.StopTape (number_behind 1000000000 (codes "STOP TAPE ") text) None)
+    number_or line.StopDisc (number_behind 1000000000 (codes "STOP DISC ") text) (number_or line.StopTape (number_behind 1000000000 (codes "STOP TAPE ") text) (logout_read text))
+
+abbrev pub process_read : List ℕ → Option Operator
+process_read text = number_or line.Process (number_behind 999999 (codes "PROCESS ") text) (stop_read text)
 
 abbrev pub dump_read : List ℕ → Option Operator
-dump_read text = number_or line.Dump (number_behind 999999 (codes "DUMP ") text) (stop_read text)
+dump_read text = number_or line.Dump (number_behind 999999 (codes "DUMP ") text) (process_read text)
 
 abbrev pub unmount_read : List ℕ → Option Operator
 unmount_read text = number_or line.Unmount (number_behind 999999 (codes "UNMOUNT ") text) (dump_read text)
@@ -115,13 +121,44 @@ job_behind text = job_named (name_read text)
 abbrev pub job_read : List ℕ → Option What
 job_read text = option_and_then job_behind (behind (codes "JOB ") text)
 
+-- a terminal, and what stands behind its comma
+abbrev pub at_terminal : List ℕ × List ℕ → Option (ℕ × List ℕ)
+at_terminal parts = option_map (λ t. (t, parts.1)) (from_one_read 8 parts.0)
+
+abbrev pub terminal_read : List ℕ → Option (ℕ × List ℕ)
+terminal_read text = option_and_then at_terminal (split_at 44 text)
+
+abbrev pub typed_as : ℕ × List ℕ → Operator
+typed_as parts = line.Typed parts.0 parts.1
+
+abbrev pub typed_read : List ℕ → Option Operator
+typed_read text = option_map typed_as (option_and_then terminal_read (behind (codes "TYPE ") text))
+
+abbrev pub login_with : ℕ → List ℕ → Option ℕ → Option Operator
+login_with t user None = None
+login_with t user (Some time) = Some (line.Login t user time)
+
+abbrev pub login_of : ℕ → Option (List ℕ × List ℕ) → Option Operator
+login_of t None = None
+login_of t (Some parts) = login_with t parts.0 (time_read parts.1)
+
+abbrev pub login_at : Option (ℕ × List ℕ) → Option Operator
+login_at None = None
+login_at (Some parts) = login_of parts.0 (job_user_read parts.1)
+
+abbrev pub login_behind : List ℕ → Option Operator
+login_behind text = login_at (terminal_read text)
+
+abbrev pub login_read : List ℕ → Option Operator
+login_read text = option_and_then login_behind (behind (codes "LOGIN ") text)
+
 -- what is asked for
 abbrev pub bare_or : Option Operator → Option What → Option What
 bare_or (Some operator) others = Some (what.Bare operator)
 bare_or None others = others
 
 abbrev pub argument_read : List ℕ → Option What
-argument_read text = bare_or (migration_read text) (job_read text)
+argument_read text = bare_or (migration_read text) (bare_or (login_read text) (bare_or (typed_read text) (job_read text)))
 
 abbrev pub what_read : List ℕ → Option What
 what_read text = bare_or (word_read text) (bare_or (numbered_read text) (argument_read text))

@@ -1,19 +1,24 @@
 //! The first line of an item: its turn, and what is asked for.
-ghost use Rattle.std.specs.Prelude.{◌≡◌, None, Some, MatchOption};
+ghost use Rattle.std.specs.Prelude.{◌≡◌, None, Some, IfOk, MatchOption};
 ghost use Rattle.g_script.specs.How as how;
 ghost use Rattle.g_verbs.specs.How as verbs;
 
 use crate::Operator;
 use crate::number::{from_one, is_same, number_behind, parts_at};
+use g_base::NoMemory;
 use g_lang::behind;
 use g_lines::number;
-use g_name::{Local, Path, User, parse_path};
+use g_name::{Local, Path, Text, User, parse_path};
+use std::alloc::Global;
 
 /// The most that a serial number may be.
 const MOST_SERIAL: u64 = 999_999;
 
 /// The most that a turn, and the number of a write that is to fail, may be.
 const MOST_COUNT: u64 = 1_000_000_000;
+
+/// The most that the number of a terminal may be.
+const MOST_TERMINAL: u64 = 8;
 
 /// The most TIME, and the most MONEY, of a job.
 const MOST_ALLOWANCE: u64 = 1_000_000;
@@ -37,33 +42,42 @@ pub struct Head {
     pub what: What,
 }
 
-/// What a first line says, if it is one.
-pub fn head_of(line: &[u8]) -> Option<Head>
-    ensures { result ≡ how.head_read line.now }
+/// What a first line says, if it is one. It takes memory for the text of a TYPE alone.
+pub fn head_of(alloc: Global, line: &[u8]) -> Result<Option<Head>, NoMemory>
+    ensures { IfOk result (λ head. head ≡ how.head_read line.now) }
 {
     match parts_at(line, b' ') {
-        Some((turn, asked)) => match (number(turn, MOST_COUNT), what_of(asked)) {
-            (Some(turn), Some(what)) => Some(Head { turn, what }),
-            _ => None,
+        Some((turn, asked)) => match number(turn, MOST_COUNT) {
+            Some(turn) => match what_of(alloc, asked)? {
+                Some(what) => Ok(Some(Head { turn, what })),
+                None => Ok(None),
+            },
+            None => Ok(None),
         },
-        None => None,
+        None => Ok(None),
     }
 }
 
 /// What is asked for behind the turn.
-fn what_of(text: &[u8]) -> Option<What>
-    ensures { result ≡ how.what_read text.now }
+fn what_of(alloc: Global, text: &[u8]) -> Result<Option<What>, NoMemory>
+    ensures { IfOk result (λ what. what ≡ how.what_read text.now) }
 {
     if let Some(operator) = word(text) {
-        return Some(What::Bare(operator));
+        return Ok(Some(What::Bare(operator)));
     }
     if let Some(operator) = numbered(text) {
-        return Some(What::Bare(operator));
+        return Ok(Some(What::Bare(operator)));
     }
     if let Some(operator) = migration(text) {
-        return Some(What::Bare(operator));
+        return Ok(Some(What::Bare(operator)));
     }
-    job(text)
+    if let Some(operator) = login(text) {
+        return Ok(Some(What::Bare(operator)));
+    }
+    if let Some(operator) = typed(alloc, text)? {
+        return Ok(Some(What::Bare(operator)));
+    }
+    Ok(job(text))
 }
 
 /// An operator that is a word alone.
@@ -98,6 +112,9 @@ fn numbered(text: &[u8]) -> Option<Operator>
     if let Some(serial) = number_behind(MOST_SERIAL, b"DUMP ", text) {
         return Some(Operator::Dump(serial as u32));
     }
+    if let Some(serial) = number_behind(MOST_SERIAL, b"PROCESS ", text) {
+        return Some(Operator::Process(serial as u32));
+    }
     stop(text)
 }
 
@@ -111,7 +128,73 @@ fn stop(text: &[u8]) -> Option<Operator>
     if let Some(k) = number_behind(MOST_COUNT, b"STOP TAPE ", text) {
         return Some(Operator::StopTape(k as u32));
     }
-    None
+    logout(text)
+}
+
+/// LOGOUT and its terminal.
+fn logout(text: &[u8]) -> Option<Operator>
+    ensures { result ≡ how.logout_read text.now }
+{
+    match number_behind(MOST_TERMINAL, b"LOGOUT ", text) {
+        Some(t) => Some(Operator::Logout(t as u8)),
+        None => None,
+    }
+}
+
+/// A terminal, and what stands behind its comma.
+fn terminal(text: &[u8]) -> Option<(u8, &[u8])>
+    ensures { MatchOption result (how.terminal_read text.now ≡ None)
+        (λ r. how.terminal_read text.now ≡ Some (r.0, r.1.now)) }
+{
+    match parts_at(text, b',') {
+        Some((t, rest)) => match from_one(t, MOST_TERMINAL) {
+            Some(t) => Some((t as u8, rest)),
+            None => None,
+        },
+        None => None,
+    }
+}
+
+/// LOGIN, with its terminal, user and TIME.
+fn login(text: &[u8]) -> Option<Operator>
+    ensures { result ≡ how.login_read text.now }
+{
+    match behind(b"LOGIN ", text) {
+        Some(rest) => login_behind(rest),
+        None => None,
+    }
+}
+
+/// What stands behind the word LOGIN.
+fn login_behind(text: &[u8]) -> Option<Operator>
+    ensures { result ≡ how.login_behind text.now }
+{
+    match terminal(text) {
+        Some((t, rest)) => match user_of(rest) {
+            Some((user, rest)) => match time_of(rest) {
+                Some(time) => Some(Operator::Login { t, user, time }),
+                None => None,
+            },
+            None => None,
+        },
+        None => None,
+    }
+}
+
+/// TYPE, with its terminal and all that stands behind the comma.
+fn typed(alloc: Global, text: &[u8]) -> Result<Option<Operator>, NoMemory>
+    ensures { IfOk result (λ operator. operator ≡ how.typed_read text.now) }
+{
+    match behind(b"TYPE ", text) {
+        Some(rest) => match terminal(rest) {
+            Some((t, line)) => {
+                let text = Text::from_slice(alloc, line)?;
+                Ok(Some(Operator::Typed { t, text }))
+            }
+            None => Ok(None),
+        },
+        None => Ok(None),
+    }
 }
 
 /// MIGRATE and its path.

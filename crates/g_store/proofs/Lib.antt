@@ -10,12 +10,19 @@ pub mod MakeLemmas
 mod MigrateLemmas
 mod MigratedLemmas
 pub mod MountLemmas
+mod MovedLemmas
 mod NameLemmas
 mod NamedLemmas
 mod NotedLemmas
 mod OffLemmas
 pub mod OpenedLemmas
 mod OwnPlaceLemmas
+mod ProcessCompleteLemmas
+mod ProcessedLemmas
+mod ProcessedRowsLemmas
+mod ProcessedStepLemmas
+mod ProcessedTreeLemmas
+mod ProcessingLemmas
 mod RestoreLemmas
 mod RestoredLemmas
 mod ShelvesLemmas

@@ -71,6 +71,19 @@ touched_is users touched u there called_so (inr isnt) =
     (λ v n e. ap (has touched) (n.1 (sym (is_called u.user v e))) ∙ isnt) users called_so)
     ∙ sym isnt
 
+kept_entries : (users us : List UserRec) → map (λ (e : List ℕ × UserRow). (e.0, tt)) (entries (from_entries {R = text_cmp} (map (user_entry users) us))) ≡ entries (names_of us)
+kept_entries users us =
+    sym (entries_valued text_cmp nothing text_total (map (user_entry users) us))
+    ∙ ap (λ (es : List (List ℕ × Unit {0})). entries (from_entries {R = text_cmp} es)) (map_of_map (with_value text_cmp nothing) (user_entry users) us)
+
+-- all users are kept
+pub kept_all : (users : List UserRec) (tree : Tree) → tree.users ≡ from_entries (map (user_entry users) users)
+    → from_entries {R = text_cmp} (map (λ (e : List ℕ × UserRow). (e.0, tt)) (entries tree.users)) ≡ names_of users
+kept_all users tree is =
+    ap (λ (m : FinMap text_cmp UserRow). from_entries {R = text_cmp} (map (λ (e : List ℕ × UserRow). (e.0, tt)) (entries m))) is
+    ∙ ap (λ (xs : List (List ℕ × Unit {0})). from_entries {R = text_cmp} xs) (kept_entries users users)
+    ∙ made_again (names_of users)
+
 module _ (d : state.OpenDump) (users : List UserRec) (files : List FileRec) (touched : List ℕ) (rules : IsRecords users files) (marked : d.touched ≡ names_of (users_in touched users)) where
   abbrev stays : List ℕ → Bool
   stays name = not (state.is_in d.touched name)
@@ -82,11 +95,6 @@ module _ (d : state.OpenDump) (users : List UserRec) (files : List FileRec) (tou
       ap (λ (m : state.Users). not (state.is_in m u.user)) marked
       ∙ ap not (touched_is users touched u there (users_named users files rules u there) (cases_Bool (has touched u.number)))) users (All-contains_itself users)
 
-  kept_entries : (us : List UserRec) → map (λ (e : List ℕ × UserRow). (e.0, tt)) (entries (from_entries {R = text_cmp} (map (user_entry users) us))) ≡ entries (names_of us)
-  kept_entries us =
-      sym (entries_valued text_cmp nothing text_total (map (user_entry users) us))
-      ∙ ap (λ (es : List (List ℕ × Unit {0})). entries (from_entries {R = text_cmp} es)) (map_of_map (with_value text_cmp nothing) (user_entry users) us)
-
   pub kept_after : (tree : Tree) → tree.users ≡ from_entries (map (user_entry users) users) → kept_now d tree ≡ names_of (users_not_in touched users)
   kept_after tree is =
       let es = map (user_entry users) users in
@@ -94,7 +102,7 @@ module _ (d : state.OpenDump) (users : List UserRec) (files : List FileRec) (tou
       ∙ ap (λ (xs : List (List ℕ × UserRow)). from_entries {R = text_cmp} (map (λ (e : List ℕ × UserRow). (e.0, tt)) xs)) (sym (entries_kept text_total text_exact stays es))
       ∙ ap (λ (xs : List (List ℕ × UserRow)). from_entries {R = text_cmp} (map (λ (e : List ℕ × UserRow). (e.0, tt)) (entries (from_entries {R = text_cmp} xs))))
       (filter_of_map (λ (e : List ℕ × UserRow). stays e.0) (user_entry users) users)
-      ∙ ap (λ (xs : List (List ℕ × Unit {0})). from_entries {R = text_cmp} xs) (kept_entries (filter (λ (u : UserRec). stays u.user) users))
+      ∙ ap (λ (xs : List (List ℕ × Unit {0})). from_entries {R = text_cmp} xs) (kept_entries users (filter (λ (u : UserRec). stays u.user) users))
       ∙ made_again (names_of (filter (λ (u : UserRec). stays u.user) users))
       ∙ ap names_of (filter_same_on (λ (u : UserRec). stays u.user) (λ (u : UserRec). not (has touched u.number)) users same_test)
 

@@ -75,7 +75,7 @@ dumps_written serial f named shelf (q ∷ qs) = by_serial (cases_Bool (serial ==
 tree_with : List UserRec → ℕ → List (Full × FileRow) → Tree
 tree_with users next rows = record { users = from_entries (map (λ u. (u.user, user_row_of users u)) users); files = from_entries rows; next = next }
 
-tree_copied : (text : ℕ → List ℕ) (users : List UserRec) (copies : List (ℕ × TapeCopy)) (files : List File) (next : ℕ)
+pub tree_copied : (text : ℕ → List ℕ) (users : List UserRec) (copies : List (ℕ × TapeCopy)) (files : List File) (next : ℕ)
     → tree_by text users (map (λ (f : File). f.rec) (with_copies copies files)) next ≡ tree_by text users (map (λ (f : File). f.rec) files) next
 unfolding tree_with
 tree_copied text users copies files next =

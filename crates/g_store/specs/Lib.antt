@@ -4,5 +4,6 @@ pub mod Dumping
 pub mod Events
 pub mod Making
 pub mod Naming
+pub mod Processing
 pub mod Refusing
 pub mod Starting

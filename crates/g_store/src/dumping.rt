@@ -91,7 +91,7 @@ impl<D: Disc, T: Tapes> Store<D, T> {
 }
 
 /// Whether it is a stop.
-fn is_stop(fault: &StoreFault) -> bool
+pub(crate) fn is_stop(fault: &StoreFault) -> bool
     ensures { result ≡ is_stop_at fault.now }
 {
     matches!(fault, StoreFault::Stopped)

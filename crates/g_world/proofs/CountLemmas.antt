@@ -4,7 +4,7 @@ use Rattle.g_base.specs.Counts.{HasRisenBy, Rose}
 use Rattle.g_base.proofs.CountLemmas.{HasRisenBy-Rose, HasRisenBy-none, HasRisenBy-then, RoseBy-none, RoseBy-then}
 use Rattle.g_step.specs.CallStep.{Outcome, Plain}
 use Rattle.g_world.specs.Devices.{Devices}
-use Rattle.g_world.specs.Moves.{Answered, Begin, Counted, Dumped, EventCounted, Happened, Move, MovesCounted, Over, TakeLine, Ticked, TurnOver, WritesFailed, counted, cuts_in, cuts_of_calls, cuts_of_dumps, disc_reads_in, is_dump, not_dump, tape_reads_in}
+use Rattle.g_world.specs.Moves.{Answered, Begin, Counted, Dumped, EventCounted, Happened, LineCounted, Move, MovesCounted, Over, TakeLine, Ticked, TurnOver, WritesFailed, counted, cuts_in, cuts_of_calls, cuts_of_dumps, disc_reads_in, is_dump, not_dump, tape_reads_in}
 use Rattle.g_world.specs.World.{World}
 
 pub none_rose : (a b : ℕ) → b ≡ a → HasRisenBy 0 a b
@@ -127,7 +127,8 @@ counted_parts f [] = refl
 counted_parts f (m ∷ moves) = by m (counted_parts f moves)
   where
     by : (m : Move) → counted f moves ≡ counted f (filter not_dump moves) + counted f (filter is_dump moves) → counted f (m ∷ moves) ≡ counted f (filter not_dump (m ∷ moves)) + counted f (filter is_dump (m ∷ moves))
-    by (TakeLine o) rest = omega (arith, rest)
+    by (TakeLine true o) rest = omega (arith, rest)
+    by (TakeLine false o) rest = omega (arith, rest)
     by (Dumped o) rest = omega (arith, rest)
     by (Begin number) rest = omega (arith, rest)
     by (Answered o) rest = omega (arith, rest)
@@ -155,9 +156,9 @@ moves_then moves more d t d' t' old now new was is =
     (happened_then (counted disc_reads_in moves) (counted tape_reads_in moves) (cuts_of_calls moves) (cuts_of_dumps moves) d t
     (counted disc_reads_in more) (counted tape_reads_in more) (cuts_of_calls more) (cuts_of_dumps more) d' t' old now new was is)
 
--- one move: a step of the dump, or any other
+-- one move: a line, a step of the dump, or any other
 abbrev pub MoveCounted : Move → ℕ → ℕ → Devices → Devices → Type 0
-MoveCounted (TakeLine o) d t old new = EventCounted o d t old new
+MoveCounted (TakeLine tape o) d t old new = LineCounted tape o d t old new
 MoveCounted (Dumped o) d t old new = Happened (disc_reads_in o) (tape_reads_in o) 0 (cuts_in o) d t old new
 MoveCounted (Begin number) d t old new = EventCounted Plain d t old new
 MoveCounted (Answered o) d t old new = EventCounted o d t old new
@@ -170,7 +171,8 @@ at_one o c e d t old new c' e' sc se is =
     at_counts (disc_reads_in o) (tape_reads_in o) c e (disc_reads_in o + 0) (tape_reads_in o + 0) c' e' d t old new (one_more_zero (disc_reads_in o)) (one_more_zero (tape_reads_in o)) sc se is
 
 pub move_counted : (m : Move) (d t : ℕ) (old new : Devices) → MoveCounted m d t old new → MovesCounted (m ∷ []) d t old new
-move_counted (TakeLine o) d t old new is = at_one o (cuts_in o) 0 d t old new (cuts_in o + 0) 0 (one_more_zero (cuts_in o)) refl is
+move_counted (TakeLine true o) d t old new is = at_one o 0 (cuts_in o) d t old new 0 (cuts_in o + 0) refl (one_more_zero (cuts_in o)) is
+move_counted (TakeLine false o) d t old new is = at_one o (cuts_in o) 0 d t old new (cuts_in o + 0) 0 (one_more_zero (cuts_in o)) refl is
 move_counted (Dumped o) d t old new is = at_one o 0 (cuts_in o) d t old new 0 (cuts_in o + 0) refl (one_more_zero (cuts_in o)) is
 move_counted (Begin number) d t old new is = is
 move_counted (Answered o) d t old new is = at_one o (cuts_in o) 0 d t old new (cuts_in o + 0) 0 (one_more_zero (cuts_in o)) refl is

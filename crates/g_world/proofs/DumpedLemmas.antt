@@ -27,15 +27,19 @@ use Rattle.g_step.specs.Rising.{FormatStep, StartStep, RestoreStep, Starts, Rest
 use Rattle.g_step.specs.Laws.{tree_in}
 use Rattle.g_script.specs.declared.operator.Operator.{Operator}
 use Rattle.g_script.specs.declared.operator.Operator.TheVariants as line
-use Rattle.g_world.specs.World.{World, start}
-use Rattle.g_world.specs.Texts.{started_text, tape_text, dump_text}
-use Rattle.g_world.specs.Events.{IsTold, IsOpening, IsMigration}
-use Rattle.g_world.specs.Lines.{LineGives, tells, up_with, now_stands, line_refused, Shuts}
+use Rattle.g_world.specs.World.{World, start, shows}
+use Rattle.g_world.specs.Texts.{started_text, tape_text, dump_text, processed_text}
+use Rattle.g_world.specs.Events.{IsTold, IsOpening, IsMigration, IsProcessing}
+use Rattle.g_world.specs.Lines.{LineGives, is_process, tells, up_with, now_stands, line_refused, Shuts}
 use Rattle.g_world.specs.Moves.{Move, TakeLine, Dumped, Begin, Answered, TurnOver, Ticked, Over, Step, Run}
-use Rattle.g_world.specs.Laws.{DumpedIsOpened}
+use Rattle.g_world.specs.Laws.{DumpedIsOpened, OpenedIn, ProcessedIn}
 use Rattle.g_world.proofs.StepLemmas.{tree_held}
-use Rattle.g_world.proofs.TreeLemmas.{dump_store, job_by, told_stands, told_up, turn_store}
+use Rattle.g_world.proofs.TreeLemmas.{dump_store, job_by, login_by, told_stands, told_up, turn_store, typed_by}
+use Rattle.g_job.specs.Terminal.{logged_out, typed_to}
 use Rattle.g_world.proofs.TurnLemmas.{run_append}
+use Rattle.g_world.proofs.ProcessedLemmas.{of_each}
+use Rattle.g_step.specs.Process.{ProcessStep, with_cut, moved as process_moved}
+use Rattle.g_script.specs.declared.operator.Timed.{Timed}
 
 -- number and tree of an open dump
 abbrev about : Option OpenDump → Option (ℕ × Tree)
@@ -52,6 +56,10 @@ Opens s new = (d : OpenDump) × (s.open_dump ≡ None) × (new.open_dump ≡ Som
 -- the open dump is what is dumped, and open no more
 abbrev Completes : State → State → Type 0
 Completes s new = (x : DumpedTree) × (new.dumped ≡ Some x) × (about s.open_dump ≡ Some (x.number, x.tree)) × (about new.open_dump ≡ None)
+
+-- a PROCESS puts the tree that there is in its place, and opens no dump
+abbrev Renews : State → State → Type 0
+Renews s new = (x : DumpedTree) × (new.dumped ≡ Some x) × (tree_in s ≡ Some x.tree) × ((about new.open_dump ≡ None) ⊎ (about new.open_dump ≡ about s.open_dump))
 
 same_state : (s new : State) → new ≡ s → Keeps s new
 same_state s new is = (ap (λ (x : State). x.dumped) is, inr (ap (λ (x : State). about x.open_dump) is))
@@ -213,21 +221,63 @@ opening_dumps o w new serial true (r, s, (k, holds, (places, noted, event), says
     subst (λ (x : State). Keeps w.store x ⊎ Opens w.store x) (sym at_s) (opened_by w.store k serial o places r s holds (open_refuses w.store k serial o) refl event)
 opening_dumps o w new serial false (plain, is) = inl (stays w new (line_refused NotStarted w) is refl)
 
-line_dumps : (o : Outcome) (what : Operator) (w new : World) → LineGives o what w new → Keeps w.store new.store ⊎ Opens w.store new.store
-line_dumps o line.Format w new gives = inl (rises_dumps FormatStep (λ r. codes "FORMATTED") o w new (λ r s does. event_dumps _ _ w.store _ r s (refl, inl refl) does) w.store.up gives)
-line_dumps o line.Start w new gives = inl (rises_dumps StartStep started_text o w new (λ r s does. start_dumps w.store w.store.holding o r s does) w.store.up gives)
-line_dumps o line.Restore w new gives =
-    inl (rises_dumps RestoreStep (λ n. codes "RESTORED FROM DUMP " ++ decimal n) o w new (λ r s does. restore_dumps w.store (restore_early w.store o) o r s does) w.store.up gives)
-line_dumps o line.Shut w new (plain, gives) = inl (shut_dumps w new w.store.up gives)
-line_dumps o (line.Job name user time money lines) w new (plain, is) = inl (stays w new _ is (job_by o name user time money lines w w.store.up))
-line_dumps o (line.Mount serial) w new (r, s, (plain, does), is) =
-    inl (goes w new _ s is (told_stands (λ _. tape_text serial (codes "MOUNTED")) r s w) (event_dumps _ _ w.store _ r s (refl, inr refl) does))
-line_dumps o (line.Unmount serial) w new (r, s, (plain, does), is) =
-    inl (goes w new _ s is (told_stands (λ _. tape_text serial (codes "UNMOUNTED")) r s w) (event_dumps _ _ w.store _ r s (refl, inr refl) does))
-line_dumps o (line.Dump serial) w new gives = opening_dumps o w new serial w.store.up gives
-line_dumps o (line.Migrate path) w new gives = inl (migration_dumps o w new path w.store.up gives)
-line_dumps o (line.StopDisc k) w new (plain, is) = inl (stays w new _ is refl)
-line_dumps o (line.StopTape k) w new (plain, is) = inl (stays w new _ is refl)
+-- a PROCESS
+KeepsOrRenews : State → State → Type 0
+KeepsOrRenews s x = Keeps s x ⊎ Renews s x
+
+process_dumps : (s : State) (k : Holding) (serial : ℕ) (o : Outcome) (r : Result ℕ StoreFault) (new : State) → s.holding ≡ Some k → ProcessStep s k serial o r new → Keeps s new ⊎ Renews s new
+unfolding KeepsOrRenews
+process_dumps s k serial o r new holds step =
+    of_each (KeepsOrRenews s) s k serial
+    (record {
+      same = inl (refl, inr refl);
+      gone = inl (refl, inl refl);
+      noted_up = λ used. inl (refl, inr refl);
+      noted_down = λ used. inl (refl, inl refl);
+      marked_down = λ d is. inr (d, refl, tree d is, inl refl);
+      moved_up = λ places d until is. inr (d, refl, tree d is, inr refl);
+      moved_down = λ places d until cut is. by_cut places d until cut is;
+    }) o r new step
+  where
+    tree : (d : DumpedTree) → d.tree ≡ k.tree → tree_in s ≡ Some d.tree
+    tree d is = tree_held s k holds ∙ ap Some (sym is)
+
+    by_cut : (places : FinMap nat_cmp Place) (d : DumpedTree) (until : ℕ) (cut : Option (ℕ × Bool)) → d.tree ≡ k.tree → KeepsOrRenews s (down (with_cut cut (process_moved s k serial places d until)))
+    by_cut places d until None is = inr (d, refl, tree d is, inl refl)
+    by_cut places d until (Some c) is = inr (d, refl, tree d is, inl refl)
+
+processing_dumps : (o : Outcome) (w new : World) (serial : ℕ) (b : Bool)
+    → MatchBool b ((r : Result ℕ StoreFault) × (s : State) × IsProcessing w.store serial o r s × (new ≡ tells (λ n t v. now_stands (processed_text serial n) t v) r s w)) ((o ≡ Plain) × (new ≡ line_refused NotStarted w))
+    → Keeps w.store new.store ⊎ Renews w.store new.store
+processing_dumps o w new serial true (r, s, (k, holds, step, says_so), is) =
+    let at_s : new.store ≡ s = ap (λ (x : World). x.store) is ∙ told_stands (processed_text serial) r s w in
+    subst (λ (x : State). Keeps w.store x ⊎ Renews w.store x) (sym at_s) (process_dumps w.store k serial o r s holds step)
+processing_dumps o w new serial false (plain, is) = inl (stays w new (line_refused NotStarted w) is refl)
+
+-- of a line: a DUMP alone opens a dump, a PROCESS alone puts another tree there
+abbrev LineDumps : Operator → State → State → Type 0
+LineDumps what s new = (Keeps s new ⊎ Opens s new) ⊎ ((is_process what ≡ true) × Renews s new)
+
+renewed : (serial : ℕ) (s new : State) → Keeps s new ⊎ Renews s new → LineDumps (line.Process serial) s new
+renewed serial s new (inl keeps) = inl (inl keeps)
+renewed serial s new (inr renews) = inr (refl, renews)
+
+line_dumps : (o : Outcome) (what : Operator) (w new : World) → LineGives o what w new → LineDumps what w.store new.store
+line_dumps o line.Format w new gives = inl (inl (rises_dumps FormatStep (λ r. codes "FORMATTED") o w new (λ r s does. event_dumps _ _ w.store _ r s (refl, inl refl) does) w.store.up gives))
+line_dumps o line.Start w new gives = inl (inl (rises_dumps StartStep started_text o w new (λ r s does. start_dumps w.store w.store.holding o r s does) w.store.up gives))
+line_dumps o line.Restore w new gives = inl (inl (rises_dumps RestoreStep (λ n. codes "RESTORED FROM DUMP " ++ decimal n) o w new (λ r s does. restore_dumps w.store (restore_early w.store o) o r s does) w.store.up gives))
+line_dumps o line.Shut w new (plain, gives) = inl (inl (shut_dumps w new w.store.up gives))
+line_dumps o (line.Job name user time money lines) w new (plain, is) = inl (inl (stays w new _ is (job_by o name user time money lines w w.store.up)))
+line_dumps o (line.Mount serial) w new (r, s, (plain, does), is) = inl (inl (goes w new _ s is (told_stands (λ _. tape_text serial (codes "MOUNTED")) r s w) (event_dumps _ _ w.store _ r s (refl, inr refl) does)))
+line_dumps o (line.Unmount serial) w new (r, s, (plain, does), is) = inl (inl (goes w new _ s is (told_stands (λ _. tape_text serial (codes "UNMOUNTED")) r s w) (event_dumps _ _ w.store _ r s (refl, inr refl) does)))
+line_dumps o (line.Dump serial) w new gives = inl (opening_dumps o w new serial w.store.up gives)
+line_dumps o (line.Process serial) w new gives = renewed serial w.store new.store (processing_dumps o w new serial w.store.up gives)
+line_dumps o (line.Migrate path) w new gives = inl (inl (migration_dumps o w new path w.store.up gives))
+line_dumps o (line.StopDisc k) w new (plain, is) = inl (inl (stays w new _ is refl))
+line_dumps o (line.StopTape k) w new (plain, is) = inl (inl (stays w new _ is refl))
+line_dumps o (line.Login t user time) w new (plain, is) = inl (inl (stays w new _ is (login_by o t user time w w.store.up)))
+line_dumps o (line.Typed t text) w new (plain, is) = inl (inl (stays w new _ is (typed_by t (typed_to text) w w.store.up)))
+line_dumps o (line.Logout t) w new (plain, is) = inl (inl (stays w new _ is (typed_by t logged_out w w.store.up)))
 
 pair_parts : (n m : ℕ) (t u : Tree) → (let one : Option (ℕ × Tree) = Some (n, t) in one ≡ Some (m, u)) → (n ≡ m) × (t ≡ u)
 pair_parts n m t u e = some_pair_parts n m t u e
@@ -238,45 +288,63 @@ not_both p o none some = let both : (let one : Option (ℕ × Tree) = None in on
 module _ {F U : Type 0} (tariffs : Shared F (Bor Usage × Unit {0}) Charge) (tariff : F) (rules : Shared U (Bor Standing × Unit {0}) ℕ) (rule : U) where
   -- what a move does to what is dumped
   abbrev MoveDumps : World → Move → World → Type 0
-  MoveDumps w move new = (Keeps w.store new.store ⊎ Completes w.store new.store) ⊎ ((o : Outcome) × (move ≡ TakeLine o) × Opens w.store new.store)
+  MoveDumps w move new = (Keeps w.store new.store ⊎ Completes w.store new.store)
+      ⊎ ((tape : Bool) × (o : Outcome) × (move ≡ TakeLine tape o) × (Opens w.store new.store ⊎ ((tape ≡ true) × Renews w.store new.store)))
 
   move_dumps : (w new : World) (move : Move) → Step tariffs tariff rules rule w move new → MoveDumps w move new
-  move_dumps w new (TakeLine o) (next, rest, lines, between, idle, due, gives) =
-      elim (line_dumps o next.what (record w { lines = rest }) new gives) [
-        | inl keeps ↦ inl (inl keeps)
-        | inr opens ↦ inr (o, refl, opens)
-      ]
+  move_dumps w new (TakeLine tape o) (next, rest, lines, between, idle, due, is_tape, gives) =
+      by_line (line_dumps o next.what (record w { lines = rest }) new gives)
+    where
+      by_line : LineDumps next.what w.store new.store → MoveDumps w (TakeLine tape o) new
+      by_line (inl (inl keeps)) = inl (inl keeps)
+      by_line (inl (inr opens)) = inr (tape, o, refl, inl opens)
+      by_line (inr (is, renews)) = inr (tape, o, refl, inr (is_tape ∙ is, renews))
   move_dumps w new (Dumped o) (between, idle, undue, dumping, (r, s, (k, d, holds, opened, step, says_so), is)) =
       let at_s : new.store ≡ s = ap (λ (x : World). x.store) is ∙ dump_store _ r s w in
       inl (subst (λ (x : State). Keeps w.store x ⊎ Completes w.store x) (sym at_s) (step_dumps w.store k d o r s opened step))
   move_dumps w new (Begin number) (idle, undue, ready, (place, job, chosen, there, number_is, is)) = inl (inl (stays w new _ is refl))
   move_dumps w new (Answered o) (number, call, more, job, answer, s, asks, here, (k, holds, step, says_so), real, is) =
       inl (inl (goes w new _ s is refl (call_dumps w.store k job.user call o answer s step)))
-  move_dumps w new (TurnOver number charge) (work, job, turn, after, asks, here, priced, ends, is) = inl (inl (stays w new _ is (turn_store after turn w)))
+  move_dumps w new (TurnOver number charge) (work, job, turn, after, asks, here, priced, ends, is) = inl (inl (stays w new _ is (turn_store after turn (shows job after w))))
   move_dumps w new Ticked (idle, phase, is) = inl (inl (stays w new _ is refl))
   move_dumps w new Over (between, idle, lines, nothing, over, is) = inl (inl (stays w new _ is refl))
 
   -- a DUMP of these moves opened the dump of this number on this tree
   abbrev From : World → List Move → ℕ → Tree → Type 0
-  From begin moves number tree = (front : List Move) × (back : List Move) × (o : Outcome) × (w : World) × (opened : World) × (dump : OpenDump)
-      × (moves ≡ front ++ (TakeLine o ∷ back)) × Run tariffs tariff rules rule begin front w × Step tariffs tariff rules rule w (TakeLine o) opened
+  From begin moves number tree = (front : List Move) × (back : List Move) × (tape : Bool) × (o : Outcome) × (w : World) × (opened : World) × (dump : OpenDump)
+      × (moves ≡ front ++ (TakeLine tape o ∷ back)) × Run tariffs tariff rules rule begin front w × Step tariffs tariff rules rule w (TakeLine tape o) opened
       × (w.store.open_dump ≡ None) × (opened.store.open_dump ≡ Some dump) × (dump.number ≡ number) × (tree_in w.store ≡ Some tree)
 
   grown : (begin : World) (moves : List Move) (number : ℕ) (tree : Tree) (move : Move) → From begin moves number tree → From begin (moves ++ move ∷ []) number tree
-  grown begin moves number tree move (front, back, o, w, opened, dump, is, before, step, idle, some, numbered, held) =
-      (front, back ++ move ∷ [], o, w, opened, dump, ap (λ (ms : List Move). ms ++ move ∷ []) is ∙ append_assoc front (TakeLine o ∷ back) (move ∷ []), before, step, idle, some, numbered, held)
+  grown begin moves number tree move (front, back, tape, o, w, opened, dump, is, before, step, idle, some, numbered, held) =
+      (front, back ++ move ∷ [], tape, o, w, opened, dump, ap (λ (ms : List Move). ms ++ move ∷ []) is ∙ append_assoc front (TakeLine tape o ∷ back) (move ∷ []), before, step, idle, some, numbered, held)
+
+  -- or a PROCESS of them wrote it
+  abbrev FromProcess : World → List Move → DumpedTree → Type 0
+  FromProcess begin moves x = (front : List Move) × (back : List Move) × (o : Outcome) × (w : World) × (behind : World)
+      × (moves ≡ front ++ (TakeLine true o ∷ back)) × Run tariffs tariff rules rule begin front w × Step tariffs tariff rules rule w (TakeLine true o) behind
+      × (behind.store.dumped ≡ Some x) × (tree_in w.store ≡ Some x.tree)
+
+  Came : World → List Move → DumpedTree → Type 0
+  Came begin moves x = From begin moves x.number x.tree ⊎ FromProcess begin moves x
+
+  came_still : (begin : World) (moves : List Move) (x : DumpedTree) (move : Move) → Came begin moves x → Came begin (moves ++ move ∷ []) x
+  unfolding Came
+  came_still begin moves x move (inl from) = inl (grown begin moves x.number x.tree move from)
+  came_still begin moves x move (inr (front, back, o, w, behind, is, before, step, dumped, tree)) =
+      inr (front, back ++ move ∷ [], o, w, behind, ap (λ (ms : List Move). ms ++ move ∷ []) is ∙ append_assoc front (TakeLine true o ∷ back) (move ∷ []), before, step, dumped, tree)
 
   -- behind these moves: where what is dumped and what is open came from
   record Tracks (begin : World) (moves : List Move) (w : World) : Type 0 where
     pub run : Run tariffs tariff rules rule begin moves w
-    pub dumped : (w.store.dumped ≡ begin.store.dumped) ⊎ ((x : DumpedTree) × (w.store.dumped ≡ Some x) × From begin moves x.number x.tree)
+    pub dumped : (w.store.dumped ≡ begin.store.dumped) ⊎ ((x : DumpedTree) × (w.store.dumped ≡ Some x) × Came begin moves x)
     pub opened : (about w.store.open_dump ≡ None) ⊎ ((number : ℕ) × (tree : Tree) × (about w.store.open_dump ≡ Some (number, tree)) × From begin moves number tree)
 
   module _ (begin : World) (moves : List Move) (w new : World) (move : Move) (tracks : Tracks begin moves w) (step : Step tariffs tariff rules rule w move new) where
-    still_dumped : new.store.dumped ≡ w.store.dumped → (new.store.dumped ≡ begin.store.dumped) ⊎ ((x : DumpedTree) × (new.store.dumped ≡ Some x) × From begin (moves ++ move ∷ []) x.number x.tree)
+    still_dumped : new.store.dumped ≡ w.store.dumped → (new.store.dumped ≡ begin.store.dumped) ⊎ ((x : DumpedTree) × (new.store.dumped ≡ Some x) × Came begin (moves ++ move ∷ []) x)
     still_dumped same = elim tracks.dumped [
       | inl e ↦ inl (same ∙ e)
-      | inr found ↦ inr (found.0, same ∙ found.1, grown begin moves found.0.number found.0.tree move found.2)
+      | inr found ↦ inr (found.0, same ∙ found.1, came_still begin moves found.0 move found.2)
     ]
 
     still_opened : about new.store.open_dump ≡ about w.store.open_dump
@@ -285,6 +353,11 @@ module _ {F U : Type 0} (tariffs : Shared F (Bor Usage × Unit {0}) Charge) (tar
       | inl e ↦ inl (same ∙ e)
       | inr found ↦ inr (found.0, found.1, same ∙ found.2, grown begin moves found.0 found.1 move found.3)
     ]
+
+    now_open : (about new.store.open_dump ≡ None) ⊎ (about new.store.open_dump ≡ about w.store.open_dump)
+        → (about new.store.open_dump ≡ None) ⊎ ((number : ℕ) × (tree : Tree) × (about new.store.open_dump ≡ Some (number, tree)) × From begin (moves ++ move ∷ []) number tree)
+    now_open (inl none) = inl none
+    now_open (inr still) = still_opened still
 
     now_dumped : (x : DumpedTree) → about w.store.open_dump ≡ Some (x.number, x.tree) → From begin (moves ++ move ∷ []) x.number x.tree
     now_dumped x is = elim tracks.opened [
@@ -295,21 +368,38 @@ module _ {F U : Type 0} (tariffs : Shared F (Bor Usage × Unit {0}) Charge) (tar
           (subst (λ (t : Tree). From begin (moves ++ move ∷ []) found.0 t) parts.1 (grown begin moves found.0 found.1 move found.3))
     ]
 
+    by_dump : (x : DumpedTree) → From begin (moves ++ move ∷ []) x.number x.tree → Came begin (moves ++ move ∷ []) x
+    unfolding Came
+    by_dump x from = inl from
+
+    by_process : (x : DumpedTree) → FromProcess begin (moves ++ move ∷ []) x → Came begin (moves ++ move ∷ []) x
+    unfolding Came
+    by_process x from = inr from
+
     goes_on : Run tariffs tariff rules rule begin (moves ++ move ∷ []) new
     goes_on = run_append tariffs tariff rules rule begin moves (move ∷ []) w new tracks.run (new, step, refl)
 
     by_move : MoveDumps w move new → Tracks begin (moves ++ move ∷ []) new
     by_move (inl (inl (same, inl none))) = record { run = goes_on; dumped = still_dumped same; opened = inl none }
     by_move (inl (inl (same, inr still))) = record { run = goes_on; dumped = still_dumped same; opened = still_opened still }
-    by_move (inl (inr (x, is, was, none))) = record { run = goes_on; dumped = inr (x, is, now_dumped x was); opened = inl none }
-    by_move (inr (o, named, (d, none, some, same, tree))) = record {
+    by_move (inl (inr (x, is, was, none))) = record { run = goes_on; dumped = inr (x, is, by_dump x (now_dumped x was)); opened = inl none }
+    by_move (inr (tape, o, named, inr (takes, (x, is, tree, behind)))) = let same : move ≡ TakeLine true o = named ∙ ap (λ (b : Bool). TakeLine b o) takes in record {
+      run = goes_on;
+      dumped = inr (
+        x,
+        is,
+        by_process x (moves, [], o, w, new, ap (λ (m : Move). moves ++ m ∷ []) same, tracks.run, subst (λ (m : Move). Step tariffs tariff rules rule w m new) same step, is, tree),
+      );
+      opened = now_open behind;
+    }
+    by_move (inr (tape, o, named, inl (d, none, some, same, tree))) = record {
       run = goes_on;
       dumped = still_dumped same;
       opened = inr (
         d.number,
         d.tree,
         ap about some,
-        (moves, [], o, w, new, d, ap (λ (m : Move). moves ++ m ∷ []) named, tracks.run, subst (λ (m : Move). Step tariffs tariff rules rule w m new) named step, none, some, refl, tree),
+        (moves, [], tape, o, w, new, d, ap (λ (m : Move). moves ++ m ∷ []) named, tracks.run, subst (λ (m : Move). Step tariffs tariff rules rule w m new) named step, none, some, refl, tree),
       );
     }
 
@@ -320,13 +410,49 @@ module _ {F U : Type 0} (tariffs : Shared F (Bor Usage × Unit {0}) Charge) (tar
       subst (λ (ms : List Move). Tracks begin ms last) (append_assoc front (move ∷ []) moves)
       (tracked begin mid last (front ++ move ∷ []) moves (by_move begin front w mid move tracks step (move_dumps w mid move step)) rest)
 
-  -- WHAT IS DUMPED is what was, or the tree on which a DUMP of the run opened
+  opened_in : (begin : World) (moves : List Move) (x : DumpedTree) → From begin moves x.number x.tree → OpenedIn tariffs tariff rules rule begin moves x
+  opened_in begin moves x (front, back, tape, o, w, opened, dump, all, before, step, idle, some, number, tree) = record {
+    front = front;
+    back = back;
+    tape = tape;
+    outcome = o;
+    before = w;
+    opened = opened;
+    dump = dump;
+    moves_are = all;
+    run = before;
+    step = step;
+    none = idle;
+    dump_is = some;
+    number = sym number;
+    tree = tree;
+  }
+
+  processed_in : (begin : World) (moves : List Move) (x : DumpedTree) → FromProcess begin moves x → ProcessedIn tariffs tariff rules rule begin moves x
+  processed_in begin moves x (front, back, o, w, behind, all, before, step, dumped, tree) = record {
+    front = front;
+    back = back;
+    outcome = o;
+    before = w;
+    behind = behind;
+    moves_are = all;
+    run = before;
+    step = step;
+    dumped_is = dumped;
+    tree = tree;
+  }
+
+  came_in : (begin : World) (moves : List Move) (x : DumpedTree) → Came begin moves x → OpenedIn tariffs tariff rules rule begin moves x ⊎ ProcessedIn tariffs tariff rules rule begin moves x
+  unfolding Came
+  came_in begin moves x (inl from) = inl (opened_in begin moves x from)
+  came_in begin moves x (inr from) = inr (processed_in begin moves x from)
+
+  -- WHAT IS DUMPED is what was, or the tree on which a DUMP of the run opened, or the one that a PROCESS of it met
   pub dumped_is_opened : DumpedIsOpened tariffs tariff rules rule
   dumped_is_opened lines bad s moves last none run =
       let begin = start lines bad s in
       let first : Tracks begin [] begin = record { run = refl; dumped = inl refl; opened = inl (ap about none) } in
       elim (tracked begin begin last [] moves first run).dumped [
         | inl e ↦ inl e
-        | inr (x, is, (front, back, o, w, opened, dump, all, before, step, idle, some, number, tree)) ↦
-            inr (front, back, o, w, opened, dump, x, all, before, step, idle, some, is, sym number, tree)
+        | inr (x, is, came) ↦ inr (x, is, came_in begin moves x came)
       ]

@@ -1,5 +1,5 @@
 -- A job has at most one more free turn than there were MOUNT lines, and at most its allowance of charged ones.
-use Rattle.std.proofs.Common.{◌≡◌, ◌<◌, ◌≤◌, ◌+◌, ◌-◌, ◌⊎◌, ℕ, Bool, true, false, cond, List, [], ◌∷◌, ◌++◌, filter, length, length-append, take, sum_by, Option, Some, None, refl, sym, ◌∙◌, ap, subst, inl, inr, if◌then◌else◌, append_assoc, codes, arith}
+use Rattle.std.proofs.Common.{◌≡◌, ◌<◌, ◌≤◌, ◌+◌, ◌-◌, ◌⊎◌, ◌&&◌, ℕ, Bool, true, false, cond, List, [], ◌∷◌, ◌++◌, filter, length, length-append, take, sum_by, Option, Some, None, refl, sym, ◌∙◌, ap, subst, inl, inr, if◌then◌else◌, append_assoc, codes, arith}
 use Rattle.std.proofs.lemmas.Bool.{false≢true}
 use Rattle.std.proofs.lemmas.List.Elements.{recursion_from_All}
 use Rattle.std.proofs.lemmas.List.Sums.{sum_by-cons}
@@ -29,16 +29,20 @@ use Rattle.g_step.specs.DumpSteps.{Completed, Going, Stepped as DumpStepped}
 use Rattle.g_step.specs.Laws.{AnswersPlainly}
 use Rattle.g_step.specs.Rising.{FormatStep, RestoreStep, StartStep}
 use Rattle.g_step.specs.State.{Holding, OpenDump, State}
-use Rattle.g_world.specs.Events.{IsMigration, IsOpening, IsTold}
+use Rattle.g_world.specs.Events.{IsMigration, IsOpening, IsTold, IsProcessing}
 use Rattle.g_world.specs.Laws.{IsTimed, RunsEnd, charged_in, free_in, is_mount, lines_done}
-use Rattle.g_world.specs.Lines.{LineGives, Shuts, job_line, job_refusal, line_refused, now_stands, taken_in, tells, up_with}
+use Rattle.g_world.specs.Lines.{LineGives, Shuts, at_terminal, changed_at, job_line, job_refusal, line_refused, logged_in, login_refusal, now_stands, open_at, sits_at, taken_in, tells, terminal_job, up_with}
+use Rattle.g_job.specs.Terminal.{with_stack}
+use Rattle.g_macro.specs.Holding.{finished, with_typed}
+use Rattle.g_macro.specs.Levels.{Stack}
 use Rattle.g_world.specs.Moves.{Answered, Begin, Dumped, Move, Over, Run, Step, TakeLine, Ticked, TurnOver, dump_told, turn_told}
-use Rattle.g_world.specs.Texts.{dump_text, started_text, tape_text}
-use Rattle.g_world.specs.World.{World, job_of, start}
-use Rattle.g_world.proofs.CrewLemmas.{no_job, number_of, one_job}
+use Rattle.g_world.specs.Texts.{dump_text, started_text, tape_text, processed_text}
+use Rattle.g_world.specs.World.{World, job_of, start, shows}
+use Rattle.g_world.proofs.CrewLemmas.{found_by, no_job, number_of, one_job}
 use Rattle.g_world.proofs.MountLemmas.{NoMount, call_mounts, dump_mounts, format_mounts, migrate_mounts, open_mounts, restore_mounts, start_mounts, unmount_mounts, wait_unmounted}
 use Rattle.g_world.proofs.PricedLemmas.{units_taken}
-use Rattle.g_world.proofs.TakenLemmas.{IsCandid, IsTaken, IsTakenIn, TakesUnit, charged_over, crew_after, free_over, taken_answer, taken_begin, taken_gone, taken_mount, taken_on, taken_push}
+use Rattle.g_world.proofs.TakenLemmas.{IsCandid, IsTaken, IsTakenIn, TakesUnit, charged_over, crew_after, free_over, taken_answer, taken_begin, taken_edit, taken_gone, taken_mount, taken_on, taken_push}
+use Rattle.g_world.proofs.ProcessedLemmas.{process_mounts}
 
 -- a program that was answered waits at once, or was stopped, or says so when it does
 candid_on : (s : State) (k : Holding) (who : List ℕ) (call : StoreCall) (o : Outcome) (more : Answer → Asks Work) (answer : Answer) (new : State) → CallStep s k who call o answer new
@@ -124,6 +128,28 @@ module _ (n : ℕ) (u q : Bool) (a : ℕ) where
     job_by_keeps name user time money lines w true idle timed h = job_keeps name user time money lines w (job_refusal w user time money) idle timed h
     job_by_keeps name user time money lines w false idle timed h = h
 
+    login_keeps : (t : ℕ) (user : List ℕ) (time : ℕ) (w : World) (refusal : Option (List ℕ)) → w.turn ≡ None → (1 ≤ time) × (time ≤ 1000000) → Keeps f m c rest w
+        → Keeps f m c rest (job_line refusal (logged_in t user time w) w)
+    login_keeps t user time w None idle timed h =
+        let least : 1 ≤ time = timed.0 in
+        (taken_push n u q a f m c w.jobs w.next_job w.store w.turn (terminal_job w.next_job t user time) idle refl (omega (arith, least), timed.1) h.0, h.1)
+    login_keeps t user time w (Some text) idle timed h = h
+
+    login_by_keeps : (t : ℕ) (user : List ℕ) (time : ℕ) (w : World) (b : Bool) → w.turn ≡ None → (1 ≤ time) × (time ≤ 1000000) → Keeps f m c rest w
+        → Keeps f m c rest (if b then job_line (login_refusal w t user time) (logged_in t user time w) w else line_refused NotStarted w)
+    login_by_keeps t user time w true idle timed h = login_keeps t user time w (login_refusal w t user time) idle timed h
+    login_by_keeps t user time w false idle timed h = h
+
+    changed_keeps : (t : ℕ) (change : Stack → Stack) (w : World) (j : Option JobState) → open_at t w.jobs ≡ j → w.turn ≡ None → Keeps f m c rest w → Keeps f m c rest (changed_at t (with_stack change) j w)
+    changed_keeps t change w None is idle h = h
+    changed_keeps t change w (Some j) is idle h =
+        let found = found_by (λ (x : JobState). sits_at t x && x.desk.levels.held) 0 w.jobs w.next_job j h.0.rising is in
+        (taken_edit n u q a f m c w.jobs w.next_job w.store w.turn j (record j.desk { levels = change j.desk.levels }) idle found.1 h.0, h.1)
+
+    typed_keeps : (t : ℕ) (change : Stack → Stack) (w : World) (b : Bool) → w.turn ≡ None → Keeps f m c rest w → Keeps f m c rest (if b then at_terminal t (with_stack change) w else line_refused NotStarted w)
+    typed_keeps t change w true idle h = changed_keeps t change w (open_at t w.jobs) refl idle h
+    typed_keeps t change w false idle h = h
+
     -- A LINE, by what it asks
     line_keeps : (at : ℕ) (o : Outcome) (what : Operator) (w new : World) → IsTimed (record { turn = at; what = what }) → w.turn ≡ None → Keeps f m c rest w → LineGives o what w new
         → (m2 : ℕ) × (m2 ≡ m + mounts (record { turn = at; what = what } ∷ [])) × Keeps f m2 c rest new
@@ -146,6 +172,12 @@ module _ (n : ℕ) (u q : Bool) (a : ℕ) where
       needs_keeps (λ r s. IsOpening w.store serial o r s) (λ x. dump_text x (codes "OPENED")) o w new w.store.up idle
           (λ r s (k, holds, step, so). open_mounts w.store k serial o r s step) h gives,
     )
+    line_keeps at o (line.Process serial) w new timed idle h gives = (
+      m,
+      omega arith,
+      needs_keeps (λ r s. IsProcessing w.store serial o r s) (processed_text serial) o w new w.store.up idle
+          (λ r s (k, holds, step, so). process_mounts w.store k serial o r s step) h gives,
+    )
     line_keeps at o (line.Migrate path) w new timed idle h gives = (
       m,
       omega arith,
@@ -154,6 +186,9 @@ module _ (n : ℕ) (u q : Bool) (a : ℕ) where
     )
     line_keeps at o (line.StopDisc k) w new timed idle h (plain, is) = (m, omega arith, keeps_is new _ is h)
     line_keeps at o (line.StopTape k) w new timed idle h (plain, is) = (m, omega arith, keeps_is new _ is h)
+    line_keeps at o (line.Login t user time) w new timed idle h (plain, is) = (m, omega arith, keeps_is new _ is (login_by_keeps t user time w w.store.up idle timed h))
+    line_keeps at o (line.Typed t text) w new timed idle h (plain, is) = (m, omega arith, keeps_is new _ is (typed_keeps t (with_typed text) w w.store.up idle h))
+    line_keeps at o (line.Logout t) w new timed idle h (plain, is) = (m, omega arith, keeps_is new _ is (typed_keeps t finished w w.store.up idle h))
 
     -- a step of the dump
     dump_keeps : (number : ℕ) (r : Result DumpStepped StoreFault) (s : State) (w : World) → w.turn ≡ None → NoMount w.store s → Keeps f m c rest w → Keeps f m c rest (dump_told number r s w)
@@ -182,7 +217,7 @@ module _ (n : ℕ) (u q : Bool) (a : ℕ) where
     -- A MOVE
     pub step_goes : (f m c : ℕ) (w new : World) (move : Move) → (u ≡ true → TakesUnit move) → AllByRecursion IsTimed w.lines → IsTakenIn n u q a f m c w → Step tariffs tariff rules rule w move new
         → Goes f m c w move new
-    step_goes f m c w new (TakeLine o) unit timed h (next, rest, lines, between, idle, due, gives) =
+    step_goes f m c w new (TakeLine tape o) unit timed h (next, rest, lines, between, idle, due, is_tape, gives) =
         let said = subst (λ (ls : List Timed). AllByRecursion IsTimed ls) lines timed in
         let done = line_keeps f m c rest next.turn o next.what (record w { lines = rest }) new said.0 idle (h, refl) gives in
         (f, done.0, c, omega arith, omega arith, done.2.0, inr (next, lines ∙ ap (λ (ls : List Timed). next ∷ ls) (sym done.2.1), done.1))
@@ -204,12 +239,12 @@ module _ (n : ℕ) (u q : Bool) (a : ℕ) where
         let now : IsTaken n u q a f m c w.jobs w.next_job w.store (Some (number, Gives work)) = subst (λ (t : Option (ℕ × Asks Work)). IsTaken n u q a f m c w.jobs w.next_job w.store t) asks h in
         let over = free_over n u q a f m c w.jobs w.next_job w.store number (Gives work) job here now work turn after refl ends in
         goes_with f m c over.0 over.1 w new (TurnOver number None) over.2 over.3
-        (subst (λ (x : World). Keeps over.0 m over.1 w.lines x) (sym is) (turned over.0 m over.1 w.lines after turn w over.4 refl))
+        (subst (λ (x : World). Keeps over.0 m over.1 w.lines x) (sym is) (turned over.0 m over.1 w.lines after turn (shows job after w) over.4 refl))
     step_goes f m c w new (TurnOver number (Some charge)) unit timed h (work, job, turn, after, asks, here, priced, ends, is) =
         let now : IsTaken n u q a f m c w.jobs w.next_job w.store (Some (number, Gives work)) = subst (λ (t : Option (ℕ × Asks Work)). IsTaken n u q a f m c w.jobs w.next_job w.store t) asks h in
         let over = charged_over n u q a f m c w.jobs w.next_job w.store number (Gives work) job here now work charge turn after unit refl ends in
         goes_with f m c over.0 over.1 w new (TurnOver number (Some charge)) over.2 over.3
-        (subst (λ (x : World). Keeps over.0 m over.1 w.lines x) (sym is) (turned over.0 m over.1 w.lines after turn w over.4 refl))
+        (subst (λ (x : World). Keeps over.0 m over.1 w.lines x) (sym is) (turned over.0 m over.1 w.lines after turn (shows job after w) over.4 refl))
     step_goes f m c w new Ticked unit timed h (idle, done, is) = goes_with f m c f c w new Ticked (omega arith) (omega arith) (keeps_is f m c w.lines new _ is (h, refl))
     step_goes f m c w new Over unit timed h (between, idle, lines, nothing, going, is) =
         goes_with f m c f c w new Over (omega arith) (omega arith)

@@ -32,12 +32,12 @@ use Rattle.g_step.specs.DumpSteps.{DumpStep}
 use Rattle.g_step.specs.Laws.{StepIsOne}
 use Rattle.g_step.specs.Rising.{FormatStep, RestoreStep, StartStep}
 use Rattle.g_step.specs.State.{OpenDump, State}
-use Rattle.g_world.specs.Events.{IsCall, IsDumpStep, IsMigration, IsOpening, IsTold}
+use Rattle.g_world.specs.Events.{IsCall, IsDumpStep, IsMigration, IsOpening, IsTold, IsProcessing}
 use Rattle.g_world.specs.Laws.{HasDumped, IsPlain, IsTimed, OneText, charges_of}
 use Rattle.g_world.specs.Lines.{LineGives, Shuts, line_refused, now_stands, tells, up_with}
 use Rattle.g_world.specs.Moves.{Answered, Begin, Dumped, Move, Over, Run, Step, TakeLine, Ticked, TurnOver, turn_told}
-use Rattle.g_world.specs.Texts.{dump_text, started_text, tape_text}
-use Rattle.g_world.specs.World.{Between, Phase, Stepped, Turned, World, able, can_step, closed, has_none, is_dumping, is_due, start}
+use Rattle.g_world.specs.Texts.{dump_text, started_text, tape_text, processed_text}
+use Rattle.g_world.specs.World.{Between, Phase, Stepped, Turned, World, able, can_step, closed, has_none, is_dumping, is_due, start, shows}
 use Rattle.g_world.proofs.AlikeLemmas.{calls_alike, dumps_alike}
 use Rattle.g_world.proofs.BareLemmas.{bare_open, bare_state}
 use Rattle.g_world.proofs.CrewLemmas.{AreRising, listed, no_job, numbered, one_job}
@@ -45,8 +45,10 @@ use Rattle.g_world.proofs.EndsLemmas.{begun, step_goes, timed_on}
 use Rattle.g_world.proofs.KeptDumpLemmas.{KeepsDumps, call_keeps, dump_keeps, format_keeps, migrate_keeps, mount_keeps, open_keeps, restore_keeps, start_keeps, unmount_keeps}
 use Rattle.g_world.proofs.OverLemmas.{IsAtEnd, at_end, step_over}
 use Rattle.g_world.proofs.TakenLemmas.{IsTakenIn}
-use Rattle.g_world.proofs.TreeLemmas.{dump_store, job_by, told_stands, told_up, turn_store}
+use Rattle.g_world.proofs.TreeLemmas.{dump_store, job_by, login_by, told_stands, told_up, turn_store, typed_by}
+use Rattle.g_job.specs.Terminal.{logged_out, typed_to}
 use Rattle.g_world.proofs.WorldAlikeLemmas.{AreAlike, able_alike, bare_world, dumping_alike, lines_alike, steps_alike, turn_bare}
+use Rattle.g_world.proofs.ProcessedLemmas.{process_keeps}
 
 -- WHICH MOVE IS NEXT
 data Kind : Type 0 where
@@ -59,7 +61,7 @@ data Kind : Type 0 where
   Closes : Kind
 
 abbrev kind_of : Move → Kind
-kind_of (TakeLine o) = Takes
+kind_of (TakeLine tape o) = Takes
 kind_of (Dumped o) = Dumps
 kind_of (Begin n) = Begins
 kind_of (Answered o) = Answers
@@ -142,7 +144,7 @@ one_charge : (c d : Option Charge) (xs ys : List (Option Charge)) → c ∷ xs �
 one_charge c d xs ys e = (cc, cc)
 
 parted : (m n : Move) (moves others : List Move) → kind_of m ≡ kind_of n → charges_of (m ∷ moves) ≡ charges_of (n ∷ others) → SameCharge m n × (charges_of moves ≡ charges_of others)
-parted (TakeLine o) (TakeLine p) moves others k e = (tt, e)
+parted (TakeLine tape o) (TakeLine tape2 p) moves others k e = (tt, e)
 parted (Dumped o) (Dumped p) moves others k e = (tt, e)
 parted (Begin a) (Begin b) moves others k e = (tt, e)
 parted (Answered o) (Answered p) moves others k e = (tt, e)
@@ -226,20 +228,25 @@ line_stored o (line.Unmount serial) w new (r, s, (plain, does), is) =
     stored w.store s new.store (ap (λ (x : World). x.store) is ∙ told_stands (λ _. tape_text serial (codes "UNMOUNTED")) r s w) (unmount_keeps w.store serial r s does)
 line_stored o (line.Dump serial) w new gives =
     needs_stored (λ r s. IsOpening w.store serial o r s) (λ n. dump_text n (codes "OPENED")) o w new (λ r s (k, holds, step, so). open_keeps w.store k serial o r s step) w.store.up gives
+line_stored o (line.Process serial) w new gives =
+    needs_stored (λ r s. IsProcessing w.store serial o r s) (processed_text serial) o w new (λ r s (k, holds, step, so). process_keeps w.store k serial o r s step) w.store.up gives
 line_stored o (line.Migrate path) w new gives =
     needs_stored (λ r s. IsMigration w.store path o r s) (λ full. codes "MIGRATED " ++ full_text full) o w new (λ r s (k, holds, step, so). migrate_keeps w.store k _ _ o r s step) w.store.up gives
 line_stored o (line.StopDisc k) w new (plain, is) = same_stored w new _ is refl
 line_stored o (line.StopTape k) w new (plain, is) = same_stored w new _ is refl
+line_stored o (line.Login t user time) w new (plain, is) = same_stored w new _ is (login_by o t user time w w.store.up)
+line_stored o (line.Typed t text) w new (plain, is) = same_stored w new _ is (typed_by t (typed_to text) w w.store.up)
+line_stored o (line.Logout t) w new (plain, is) = same_stored w new _ is (typed_by t logged_out w w.store.up)
 
 module _ {F U : Type 0} (tariffs : Shared F (Bor Usage × Unit {0}) Charge) (tariff : F) (rules : Shared U (Bor Standing × Unit {0}) ℕ) (rule : U) where
   step_stored : (w new : World) (move : Move) → IsPlain move → Step tariffs tariff rules rule w move new → KeepsDumps w.store new.store
-  step_stored w new (TakeLine o) plain (next, rest, lines, between, idle, due, gives) = line_stored o next.what (record w { lines = rest }) new gives
+  step_stored w new (TakeLine tape o) plain (next, rest, lines, between, idle, due, is_tape, gives) = line_stored o next.what (record w { lines = rest }) new gives
   step_stored w new (Dumped o) plain (between, idle, undue, dumping, (r, s, (k, d, holds, opened, step, so), is)) =
       stored w.store s new.store (ap (λ (x : World). x.store) is ∙ dump_store _ r s w) (dump_keeps w.store k d r s (subst (λ (x : Outcome). DumpStep w.store k d x r s) plain step))
   step_stored w new (Begin number) plain (idle, undue, ready, (place, job, chosen, there, named, is)) = same_stored w new _ is refl
   step_stored w new (Answered o) plain (number, call, more, job, answer, s, asks, here, (k, holds, step, so), real, is) =
       stored w.store s new.store (ap (λ (x : World). x.store) is) (call_keeps w.store k job.user call o answer s step)
-  step_stored w new (TurnOver number charge) plain (work, job, turn, after, asks, here, priced, ends, is) = same_stored w new _ is (turn_store after turn w)
+  step_stored w new (TurnOver number charge) plain (work, job, turn, after, asks, here, priced, ends, is) = same_stored w new _ is (turn_store after turn (shows job after w))
   step_stored w new Ticked plain (idle, done, is) = same_stored w new _ is refl
   step_stored w new Over plain (between, idle, lines, nothing, going, is) = same_stored w new _ is refl
 
@@ -251,7 +258,7 @@ module _ {F U : Type 0} (tariffs : Shared F (Bor Usage × Unit {0}) Charge) (tar
   closes_kind w (l ∷ lines) e due dumping none n = absurd (let no : ⊥ = cc in no)
 
   kind_is : (w new : World) (move : Move) → Step tariffs tariff rules rule w move new → next_kind w ≡ kind_of move
-  kind_is w new (TakeLine o) (next, rest, lines, between, idle, due, gives) =
+  kind_is w new (TakeLine tape o) (next, rest, lines, between, idle, due, is_tape, gives) =
       idle_kind w Between idle between ∙ ap (λ (ls : List Timed). between_by ls (is_due w) (is_dumping w) (has_none (able w))) lines ∙ due_takes next rest (is_due w) (is_dumping w) (has_none (able w)) due
   kind_is w new (Dumped o) (between, idle, undue, dumping, more) = idle_kind w Between idle between ∙ dump_steps w.lines (is_due w) (is_dumping w) (has_none (able w)) undue dumping
   kind_is w new (Begin number) (idle, undue, inl (between, still), (place, job, chosen, there, named, is)) =
@@ -329,7 +336,7 @@ module _ {F U : Type 0} (tariffs : Shared F (Bor Usage × Unit {0}) Charge) (tar
     -- ONE MOVE of each
     step_alike : (w v new other : World) (m n : Move) → IsKnown w → AreRising 0 v.jobs v.next_job → AreAlike w v → IsPlain m → IsPlain n → SameCharge m n → kind_of m ≡ kind_of n
         → Step tariffs tariff rules rule w m new → Step tariffs tariff rules rule v n other → AreAlike new other
-    step_alike w v new other (TakeLine o) (TakeLine p) known rising alike plain plain2 charge kind (next, rest, lines, between, idle, due, gives) (next2, rest2, lines2, between2, idle2, due2, gives2) =
+    step_alike w v new other (TakeLine tape o) (TakeLine tape2 p) known rising alike plain plain2 charge kind (next, rest, lines, between, idle, due, is_tape, gives) (next2, rest2, lines2, between2, idle2, due2, is_tape2, gives2) =
         let parts = one_line next next2 rest rest2 (sym lines ∙ ap (λ (x : World). x.lines) alike ∙ lines2) in
         lines_alike next.what (record w { lines = rest }) (record v { lines = rest2 }) new other
         (ap (λ (x : World). let y : World = record x { lines = rest } in y) alike ∙ ap (λ (ls : List Timed). let y : World = record (bare_world v) { lines = ls } in y) parts.1)
@@ -374,8 +381,11 @@ module _ {F U : Type 0} (tariffs : Shared F (Bor Usage × Unit {0}) Charge) (tar
         (sym ends ∙ ap (λ (x : JobState). turn_end x work c) jobs ∙ ap (λ (x : Work). turn_end job2 x c) works ∙ ap (λ (x : Option Charge). turn_end job2 work2 x) charge ∙ ends2) in
         ap bare_world is
         ∙ ap (λ (x : World). let y : World = record x { turn = None; phase = Turned } in y)
-        (turn_bare after turn w ∙ ap (λ (x : JobState). turn_told x turn (bare_world w)) end.1 ∙ ap (λ (x : Turn). turn_told after2 x (bare_world w)) end.0
-        ∙ ap (λ (x : World). turn_told after2 turn2 x) alike ∙ sym (turn_bare after2 turn2 v))
+        (turn_bare after turn (shows job after w)
+        ∙ ap (λ (x : JobState). turn_told x turn (shows job x (bare_world w))) end.1
+        ∙ ap (λ (x : JobState). turn_told after2 turn (shows x after2 (bare_world w))) jobs
+        ∙ ap (λ (x : Turn). turn_told after2 x (shows job2 after2 (bare_world w))) end.0
+        ∙ ap (λ (x : World). turn_told after2 turn2 (shows job2 after2 x)) alike ∙ sym (turn_bare after2 turn2 (shows job2 after2 v)))
         ∙ sym (ap bare_world is2)
     step_alike w v new other Ticked Ticked known rising alike plain plain2 charge kind (idle, done, is) (idle2, done2, is2) =
         ap bare_world is ∙ ap (λ (x : World). let y : World = record x { count = x.count + 1; phase = Between } in y) alike ∙ sym (ap bare_world is2)

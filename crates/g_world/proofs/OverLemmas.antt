@@ -22,10 +22,11 @@ use Rattle.g_step.specs.Rising.{FormatStep, StartStep, RestoreStep}
 use Rattle.g_script.specs.declared.operator.Operator.{Operator}
 use Rattle.g_script.specs.declared.operator.Operator.TheVariants as line
 use Rattle.g_script.specs.declared.operator.Timed.{Timed}
-use Rattle.g_world.specs.World.{World, Between, Stepped, Turned, start, able, can_step, is_dumping, has_none, closed}
-use Rattle.g_world.specs.Texts.{started_text, tape_text, dump_text}
-use Rattle.g_world.specs.Events.{IsTold, IsOpening, IsMigration}
-use Rattle.g_world.specs.Lines.{LineGives, tells, up_with, now_stands, job_line, taken_in, job_refusal, line_refused, Shuts}
+use Rattle.g_world.specs.World.{World, Between, Stepped, Turned, start, able, can_step, is_dumping, has_none, closed, shows}
+use Rattle.g_world.specs.Texts.{started_text, tape_text, dump_text, processed_text}
+use Rattle.g_world.specs.Events.{IsTold, IsOpening, IsMigration, IsProcessing}
+use Rattle.g_world.specs.Lines.{LineGives, tells, up_with, now_stands, job_line, taken_in, job_refusal, line_refused, Shuts, at_terminal, changed_at, logged_in, login_refusal, open_at}
+use Rattle.g_job.specs.Terminal.{logged_out, typed_to}
 use Rattle.g_world.specs.Moves.{Move, TakeLine, Dumped, Begin, Answered, TurnOver, Ticked, Over, Step, Run, dump_told, turn_told}
 use Rattle.g_world.specs.Laws.{NothingBehindOver}
 
@@ -84,6 +85,19 @@ job_by : (name user : List ℕ) (time money : ℕ) (lines : List (List ℕ)) (w 
 job_by name user time money lines w true = job_over (job_refusal w user time money) (taken_in name user time money lines w) w refl
 job_by name user time money lines w false = refl
 
+login_by : (t : ℕ) (user : List ℕ) (time : ℕ) (w : World) (b : Bool)
+    → (if b then job_line (login_refusal w t user time) (logged_in t user time w) w else line_refused NotStarted w).over ≡ w.over
+login_by t user time w true = job_over (login_refusal w t user time) (logged_in t user time w) w refl
+login_by t user time w false = refl
+
+changed_over : (t : ℕ) (change : JobState → JobState) (j : Option JobState) (w : World) → (changed_at t change j w).over ≡ w.over
+changed_over t change None w = refl
+changed_over t change (Some j) w = refl
+
+typed_by : (t : ℕ) (change : JobState → JobState) (w : World) (b : Bool) → (if b then at_terminal t change w else line_refused NotStarted w).over ≡ w.over
+typed_by t change w true = changed_over t change (open_at t w.jobs) w
+typed_by t change w false = refl
+
 line_over : (o : Outcome) (what : Operator) (w new : World) → LineGives o what w new → new.over ≡ w.over
 line_over o line.Format w new gives = rises_over FormatStep (λ r. codes "FORMATTED") o w new w.store.up gives
 line_over o line.Start w new gives = rises_over StartStep started_text o w new w.store.up gives
@@ -93,9 +107,13 @@ line_over o (line.Job name user time money lines) w new (plain, is) = over_is w 
 line_over o (line.Mount serial) w new (r, s, does, is) = over_is w new _ is (told_stands (λ _. tape_text serial (codes "MOUNTED")) r s w)
 line_over o (line.Unmount serial) w new (r, s, does, is) = over_is w new _ is (told_stands (λ _. tape_text serial (codes "UNMOUNTED")) r s w)
 line_over o (line.Dump serial) w new gives = needs_over (λ r s. IsOpening w.store serial o r s) (λ n. dump_text n (codes "OPENED")) o w new w.store.up gives
+line_over o (line.Process serial) w new gives = needs_over (λ r s. IsProcessing w.store serial o r s) (processed_text serial) o w new w.store.up gives
 line_over o (line.Migrate path) w new gives = needs_over (λ r s. IsMigration w.store path o r s) (λ full. codes "MIGRATED " ++ full_text full) o w new w.store.up gives
 line_over o (line.StopDisc k) w new (plain, is) = over_is w new _ is refl
 line_over o (line.StopTape k) w new (plain, is) = over_is w new _ is refl
+line_over o (line.Login t user time) w new (plain, is) = over_is w new _ is (login_by t user time w w.store.up)
+line_over o (line.Typed t text) w new (plain, is) = over_is w new _ is (typed_by t (typed_to text) w w.store.up)
+line_over o (line.Logout t) w new (plain, is) = over_is w new _ is (typed_by t logged_out w w.store.up)
 
 -- a run is at its end
 pub record IsAtEnd (w : World) : Type 0 where
@@ -135,7 +153,7 @@ not_dumping true b e = absurd (false_true e)
 module _ {F U : Type 0} (tariffs : Shared F (Bor Usage × Unit {0}) Charge) (tariff : F) (rules : Shared U (Bor Standing × Unit {0}) ℕ) (rule : U) where
   -- at its end no move applies
   pub at_end : (w new : World) (move : Move) → IsAtEnd w → Step tariffs tariff rules rule w move new → ⊥
-  at_end w new (TakeLine o) ends (next, rest, lines, between, idle, due, gives) = nil_cons next rest (sym ends.lines ∙ lines)
+  at_end w new (TakeLine tape o) ends (next, rest, lines, between, idle, due, is_tape, gives) = nil_cons next rest (sym ends.lines ∙ lines)
   at_end w new (Dumped o) ends (between, idle, undue, dumping, more) = false_true (sym ends.dumping ∙ dumping)
   at_end w new (Begin number) ends (idle, undue, ready, (place, job, chosen, there, named, is)) =
       no_job job (sym (none_there place) ∙ sym (ap (λ (jobs : List JobState). slice_get (filter (can_step w.store) jobs) place) ends.jobs) ∙ there)
@@ -147,11 +165,11 @@ module _ {F U : Type 0} (tariffs : Shared F (Bor Usage × Unit {0}) Charge) (tar
 
   -- a move goes on, or comes to the end
   pub step_over : (w new : World) (move : Move) → w.over ≡ false → Step tariffs tariff rules rule w move new → (new.over ≡ false) ⊎ IsAtEnd new
-  step_over w new (TakeLine o) e (next, rest, lines, between, idle, due, gives) = inl (line_over o next.what (record w { lines = rest }) new gives ∙ e)
+  step_over w new (TakeLine tape o) e (next, rest, lines, between, idle, due, is_tape, gives) = inl (line_over o next.what (record w { lines = rest }) new gives ∙ e)
   step_over w new (Dumped o) e (between, idle, undue, dumping, (r, s, step, is)) = inl (over_is w new _ is (dump_over _ r s w) ∙ e)
   step_over w new (Begin number) e (idle, undue, ready, (place, job, chosen, there, named, is)) = inl (over_is w new _ is refl ∙ e)
   step_over w new (Answered o) e (number, call, more, job, answer, s, asks, here, step, real, is) = inl (over_is w new _ is refl ∙ e)
-  step_over w new (TurnOver number charge) e (work, job, turn, after, gives, here, priced, ends, is) = inl (over_is w new _ is (turn_over after turn w) ∙ e)
+  step_over w new (TurnOver number charge) e (work, job, turn, after, gives, here, priced, ends, is) = inl (over_is w new _ is (turn_over after turn (shows job after w)) ∙ e)
   step_over w new Ticked e (idle, done, is) = inl (over_is w new _ is refl ∙ e)
   step_over w new Over e (between, idle, lines, nothing, going, is) =
       let ends : IsAtEnd (closed w) = record { over = refl; lines = lines; phase = between; turn = idle; dumping = not_dumping (is_dumping w) (has_none (able w)) nothing; jobs = refl } in

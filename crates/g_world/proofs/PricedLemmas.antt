@@ -1,5 +1,5 @@
 -- Every turn keeps its limits, and so a tariff charges a unit at least.
-use Rattle.std.proofs.Common.{◌≡◌, ◌⊎◌, ◌≤◌, ◌+◌, ◌==◌, ◌++◌, ℕ, Bool, true, false, not, List, [], ◌∷◌, filter, length, Option, Some, None, IfSome, slice_get, Result, Ok, Err, MatchBool, codes, if◌then◌else◌, refl, sym, ◌∙◌, ap, subst, inl, inr, eqb-true, lit≤, arith}
+use Rattle.std.proofs.Common.{◌&&◌, ◌≡◌, ◌⊎◌, ◌≤◌, ◌+◌, ◌==◌, ◌++◌, ℕ, Bool, true, false, not, List, [], ◌∷◌, filter, length, Option, Some, None, IfSome, slice_get, Result, Ok, Err, MatchBool, codes, if◌then◌else◌, refl, sym, ◌∙◌, ap, subst, inl, inr, eqb-true, lit≤, arith}
 use Rattle.std.proofs.lemmas.Option.{some_pair_parts}
 use Rattle.std.specs.Fmt.{decimal}
 use Rattle.std.specs.Fn.{Shared}
@@ -33,15 +33,19 @@ use Rattle.g_step.specs.DumpSteps.{Completed, Going, Stepped as DumpStepped}
 use Rattle.g_step.specs.Laws.{AnswersPlainly}
 use Rattle.g_step.specs.Rising.{FormatStep, RestoreStep, StartStep}
 use Rattle.g_step.specs.State.{OpenDump, State}
-use Rattle.g_world.specs.Events.{IsMigration, IsOpening, IsTold}
+use Rattle.g_world.specs.Events.{IsMigration, IsOpening, IsTold, IsProcessing}
 use Rattle.g_world.specs.Laws.{AreShort}
-use Rattle.g_world.specs.Lines.{LineGives, Shuts, job_line, job_refusal, line_refused, now_stands, taken_in, tells, up_with}
+use Rattle.g_world.specs.Lines.{LineGives, Shuts, at_terminal, changed_at, job_line, job_refusal, line_refused, logged_in, login_refusal, now_stands, open_at, sits_at, taken_in, tells, terminal_job, up_with}
+use Rattle.g_job.specs.Terminal.{with_stack}
+use Rattle.g_macro.specs.Holding.{finished, with_typed}
+use Rattle.g_macro.specs.Levels.{Stack}
 use Rattle.g_world.specs.Moves.{Answered, Begin, Dumped, Move, Over, Run, Step, TakeLine, Ticked, TurnOver, dump_told, turn_told}
-use Rattle.g_world.specs.Texts.{dump_text, started_text, tape_text}
-use Rattle.g_world.specs.World.{World, can_step, start, with_job, without_job}
-use Rattle.g_world.proofs.CrewLemmas.{AreRising, found_other, found_push, found_same, left_none, left_other, listed, no_job, numbered, one_job, rising_filter, rising_push, rising_with}
+use Rattle.g_world.specs.Texts.{dump_text, started_text, tape_text, processed_text}
+use Rattle.g_world.specs.World.{World, can_step, start, with_job, without_job, shows}
+use Rattle.g_world.proofs.CrewLemmas.{AreRising, found_other, found_push, found_same, left_none, left_other, listed, no_job, numbered, one_job, rising_filter, rising_push, rising_with, found_by}
 use Rattle.g_world.proofs.ShortLemmas.{KeepsShort, call_short, dump_short, format_short, may_answer, migrate_short, mount_short, open_short, restore_short, short_down, start_short, unmount_short}
 use Rattle.g_world.proofs.TakenLemmas.{TakesUnit, crew_after}
+use Rattle.g_world.proofs.ProcessedLemmas.{process_short}
 
 -- what a job's next turn begins with is within the limits
 abbrev pub IsFit : JobState → Type 0
@@ -77,11 +81,11 @@ end_fits j w g None (Some charge) = by (is_time_up j charge) (is_money_up j char
     by false true = ((g.3, tt), refl)
     by false false = ((g.3, tt), refl)
 
-nobody : {P : Type 0} (t : Option (ℕ × Asks Work)) (p : ℕ × Asks Work) → t ≡ None → t ≡ Some p → P
+pub nobody : {P : Type 0} (t : Option (ℕ × Asks Work)) (p : ℕ × Asks Work) → t ≡ None → t ≡ Some p → P
 nobody t p idle is = absurd (let no : ⊥ = cc in no)
 
 -- the jobs are gone
-fit_gone : (next : ℕ) (t : Option (ℕ × Asks Work)) → t ≡ None → AreFit [] next t
+pub fit_gone : (next : ℕ) (t : Option (ℕ × Asks Work)) → t ≡ None → AreFit [] next t
 fit_gone next t idle = record {
   rising = (let low : 0 ≤ next = omega arith in low);
   fits = λ n job found. no_job job found;
@@ -200,6 +204,26 @@ job_by_both : (name user : List ℕ) (time money : ℕ) (lines : List (List ℕ)
 job_by_both name user time money lines w true idle h = job_both name user time money lines w (job_refusal w user time money) idle h
 job_by_both name user time money lines w false idle h = h
 
+login_both : (t : ℕ) (user : List ℕ) (time : ℕ) (w : World) (refusal : Option (List ℕ)) → w.turn ≡ None → Both w → Both (job_line refusal (logged_in t user time w) w)
+login_both t user time w None idle h = (fit_push w.jobs w.next_job w.turn (terminal_job w.next_job t user time) idle refl (lit≤ tt, tt) h.0, h.1)
+login_both t user time w (Some text) idle h = h
+
+login_by_both : (t : ℕ) (user : List ℕ) (time : ℕ) (w : World) (b : Bool) → w.turn ≡ None → Both w
+    → Both (if b then job_line (login_refusal w t user time) (logged_in t user time w) w else line_refused NotStarted w)
+login_by_both t user time w true idle h = login_both t user time w (login_refusal w t user time) idle h
+login_by_both t user time w false idle h = h
+
+changed_both : (t : ℕ) (change : Stack → Stack) (w : World) (j : Option JobState) → open_at t w.jobs ≡ j → w.turn ≡ None → Both w → Both (changed_at t (with_stack change) j w)
+changed_both t change w None is idle h = h
+changed_both t change w (Some j) is idle h =
+    let found = found_by (λ (x : JobState). sits_at t x && x.desk.levels.held) 0 w.jobs w.next_job j h.0.rising is in
+    let fit : IsFit (with_stack change j) = h.0.fits j.number j found.1 in
+    (subst (λ (x : Option (ℕ × Asks Work)). AreFit (with_job (with_stack change j) w.jobs) w.next_job x) (sym idle) (fit_with w.jobs w.next_job w.turn (with_stack change j) fit h.0), h.1)
+
+typed_both : (t : ℕ) (change : Stack → Stack) (w : World) (b : Bool) → w.turn ≡ None → Both w → Both (if b then at_terminal t (with_stack change) w else line_refused NotStarted w)
+typed_both t change w true idle h = changed_both t change w (open_at t w.jobs) refl idle h
+typed_both t change w false idle h = h
+
 -- A LINE
 line_both : (o : Outcome) (what : Operator) (w new : World) → w.turn ≡ None → Both w → LineGives o what w new → Both new
 line_both o line.Format w new idle h gives = rises_both FormatStep (λ r. codes "FORMATTED") o w new w.store.up idle (λ r s does. format_short w.store o r s does) h gives
@@ -211,10 +235,15 @@ line_both o (line.Mount serial) w new idle h (r, s, (plain, does), is) = both_is
 line_both o (line.Unmount serial) w new idle h (r, s, (plain, does), is) = both_is new _ is (stands_both (λ _. tape_text serial (codes "UNMOUNTED")) r s w idle (unmount_short w.store serial r s does h.1) h)
 line_both o (line.Dump serial) w new idle h gives =
     needs_both (λ r s. IsOpening w.store serial o r s) (λ n. dump_text n (codes "OPENED")) o w new w.store.up idle (λ r s (k, holds, step, so). open_short w.store k serial o r s holds step) h gives
+line_both o (line.Process serial) w new idle h gives =
+    needs_both (λ r s. IsProcessing w.store serial o r s) (processed_text serial) o w new w.store.up idle (λ r s (k, holds, step, so). process_short w.store k serial o r s holds step) h gives
 line_both o (line.Migrate path) w new idle h gives =
     needs_both (λ r s. IsMigration w.store path o r s) (λ full. codes "MIGRATED " ++ full_text full) o w new w.store.up idle (λ r s (k, holds, step, so). migrate_short w.store k _ _ o r s holds step) h gives
 line_both o (line.StopDisc k) w new idle h (plain, is) = both_is new _ is h
 line_both o (line.StopTape k) w new idle h (plain, is) = both_is new _ is h
+line_both o (line.Login t user time) w new idle h (plain, is) = both_is new _ is (login_by_both t user time w w.store.up idle h)
+line_both o (line.Typed t text) w new idle h (plain, is) = both_is new _ is (typed_both t (with_typed text) w w.store.up idle h)
+line_both o (line.Logout t) w new idle h (plain, is) = both_is new _ is (typed_both t finished w w.store.up idle h)
 
 dump_both : (n : ℕ) (r : Result DumpStepped StoreFault) (s : State) (w : World) → w.turn ≡ None → AreShort s → Both w → Both (dump_told n r s w)
 dump_both n (Ok Going) s w idle short h = (h.0, short)
@@ -235,8 +264,8 @@ module _ {F U : Type 0} (tariffs : Shared F (Bor Usage × Unit {0}) Charge) (tar
   made w number work job h asks here = h.0.gives number (Gives work) asks job here
 
   -- A MOVE
-  step_both : (w new : World) (move : Move) → Both w → Step tariffs tariff rules rule w move new → Both new
-  step_both w new (TakeLine o) h (next, rest, lines, between, idle, due, gives) = line_both o next.what (record w { lines = rest }) new idle h gives
+  pub step_both : (w new : World) (move : Move) → Both w → Step tariffs tariff rules rule w move new → Both new
+  step_both w new (TakeLine tape o) h (next, rest, lines, between, idle, due, is_tape, gives) = line_both o next.what (record w { lines = rest }) new idle h gives
   step_both w new (Dumped o) h (between, idle, undue, dumping, (r, s, (k, d, holds, opened, step, so), is)) = both_is new _ is (dump_both _ r s w idle (dump_short w.store k d o r s holds opened step h.1) h)
   step_both w new (Begin number) h (idle, undue, ready, (place, job, chosen, there, named, is)) = both_is new _ is (fit_begin w.jobs w.next_job w.store w.turn place job there h.0, h.1)
   step_both w new (Answered o) h (number, call, more, job, answer, s, asks, here, (k, holds, step, so), real, is) =
@@ -244,7 +273,7 @@ module _ {F U : Type 0} (tariffs : Shared F (Bor Usage × Unit {0}) Charge) (tar
       both_is new _ is (fit_answer w.jobs w.next_job number call more answer (may_answer plainly w.store k job.user call o answer s holds h.1 step real) now, call_short w.store k job.user call holds o answer s step h.1)
   step_both w new (TurnOver number charge) h (work, job, turn, after, asks, here, priced, ends, is) =
       let end = subst (λ (e : Option (Turn × JobState)). IfSome e (λ x. IsFit x.1 × (x.1.number ≡ job.number))) ends (end_fits job work (made w number work job h asks here) work.stop charge) in
-      both_is new _ is (over_both after turn w (fit_over w.jobs w.next_job w.turn turn after end.0 h.0) h.1)
+      both_is new _ is (over_both after turn (shows job after w) (fit_over w.jobs w.next_job w.turn turn after end.0 h.0) h.1)
   step_both w new Ticked h (idle, done, is) = both_is new _ is h
   step_both w new Over h (between, idle, lines, nothing, going, is) = both_is new _ is (fit_gone w.next_job w.turn idle, h.1)
 
@@ -254,7 +283,7 @@ module _ {F U : Type 0} (tariffs : Shared F (Bor Usage × Unit {0}) Charge) (tar
         let good = made w number work job h asks here in
         (rules_it.charges priced.shown charge (subst IsUsage (sym priced.shows) (record { orders = good.1; blocks = good.2 })) priced.says.met).something
     step_unit w new (TurnOver number None) h step = tt
-    step_unit w new (TakeLine o) h step = tt
+    step_unit w new (TakeLine tape o) h step = tt
     step_unit w new (Dumped o) h step = tt
     step_unit w new (Begin number) h step = tt
     step_unit w new (Answered o) h step = tt

@@ -17,9 +17,9 @@ use Rattle.g_step.specs.CallStep.{Outcome}
 use Rattle.g_step.specs.DumpSteps.{Completed, DumpStep, Going, Stepped as DumpStepped}
 use Rattle.g_step.specs.State.{Holding, OpenDump, State}
 use Rattle.g_world.specs.Events.{IsDumpStep, OutcomeTold}
-use Rattle.g_world.specs.Lines.{LineGives}
+use Rattle.g_world.specs.Lines.{LineGives, is_process}
 use Rattle.g_world.specs.Moves.{Dumped, Over, Run, TakeLine, Ticked, dump_told, turn_told}
-use Rattle.g_world.specs.Texts.{broken_files, dump_text, job_text, operator_line}
+use Rattle.g_world.specs.Texts.{broken_files, dump_text, ended_file, job_text, operator_line}
 use Rattle.g_world.specs.World.{Between, KeepsLines, Stepped, Turned, World, able, closed, has_none, is_due, nothing_steps, with_job}
 use Rattle.g_world.proofs.EventToldLemmas.{dump_told as step_told}
 
@@ -47,7 +47,7 @@ abbrev pub turn_added : ℕ → JobState → Turn → List JobState → List ℕ
 turn_added count j turns.Broken jobs = operator_line count (codes "SYSTEM STOPPED") ++ broken_files (with_job j jobs)
 turn_added count j (turns.Wants serial) jobs = operator_line count (job_text j.number (codes "WANTS TAPE " ++ decimal serial))
 turn_added count j (turns.Ran units money) jobs = []
-turn_added count j (turns.Ended units money) jobs = j.monitor
+turn_added count j (turns.Ended units money) jobs = ended_file j
 
 pub turn_adds : (j : JobState) (t : Turn) (w : World) → (turn_told j t w).text ≡ w.text ++ turn_added w.count j t w.jobs
 turn_adds j turns.Broken w = append_assoc w.text (operator_line w.count (codes "SYSTEM STOPPED")) (broken_files (with_job j w.jobs))
@@ -76,8 +76,8 @@ module _ {F U : Type 0} (tariffs : Shared F (Bor Usage × Unit {0}) Charge) (tar
 
   -- a line is taken
   pub line_move : (w : World) (next : Timed) (rest : List Timed) (o : Outcome) (new : World) → w.lines ≡ next ∷ rest → w.phase ≡ Between → w.turn ≡ None
-      → (is_due w ≡ true) ⊎ (nothing_steps w ≡ true) → LineGives o next.what (record w { lines = rest }) new → Run tariffs tariff rules rule w (TakeLine o ∷ []) new
-  line_move w next rest o new lines between idle due gives = (new, (next, rest, lines, between, idle, due, gives), refl)
+      → (is_due w ≡ true) ⊎ (nothing_steps w ≡ true) → LineGives o next.what (record w { lines = rest }) new → Run tariffs tariff rules rule w (TakeLine (is_process next.what) o ∷ []) new
+  line_move w next rest o new lines between idle due gives = (new, (next, rest, lines, between, idle, due, refl, gives), refl)
 
   -- the run is over
   pub over_move : (w : World) → w.phase ≡ Between → w.turn ≡ None → w.lines ≡ [] → nothing_steps w ≡ true → w.over ≡ false → Run tariffs tariff rules rule w (Over ∷ []) (closed w)

@@ -23,19 +23,21 @@ use Rattle.g_step.specs.Laws.{tree_in, AnswersPlainly, DumpsKeepTree, RefusalsKe
 use Rattle.g_script.specs.declared.operator.Operator.{Operator}
 use Rattle.g_script.specs.declared.operator.Operator.TheVariants as line
 use Rattle.g_script.specs.declared.operator.Timed.{Timed}
-use Rattle.g_world.specs.World.{World, job_of}
+use Rattle.g_world.specs.World.{World, job_of, shows}
 use Rattle.std.specs.Prelude.{codes, ◌++◌}
 use Rattle.std.specs.Fmt.{decimal}
 use Rattle.g_monitor.specs.Parts.{full_text}
 use Rattle.g_step.specs.Rising.{FormatStep, StartStep, RestoreStep}
-use Rattle.g_world.specs.Texts.{started_text, tape_text, dump_text}
-use Rattle.g_world.specs.Events.{IsTold, IsOpening, IsMigration}
-use Rattle.g_world.specs.Lines.{LineGives, tells, up_with, now_stands, job_line, taken_in, job_refusal, line_refused, Shuts}
+use Rattle.g_world.specs.Texts.{started_text, tape_text, dump_text, processed_text}
+use Rattle.g_world.specs.Events.{IsTold, IsOpening, IsMigration, IsProcessing}
+use Rattle.g_world.specs.Lines.{LineGives, tells, up_with, now_stands, job_line, taken_in, job_refusal, line_refused, Shuts, at_terminal, changed_at, logged_in, login_refusal, open_at}
+use Rattle.g_job.specs.Terminal.{logged_out, typed_to}
 use Rattle.g_world.specs.Moves.{Move, TakeLine, Dumped, Begin, Answered, TurnOver, Ticked, Over, dump_told, turn_told}
 use Rattle.g_plain.specs.Plainly.{PlainOrDevice}
 use Rattle.g_world.specs.Laws.{AllOrNothing, RisesOn, StartHasTheTree, RunLeaving, tree_behind, tree_by_turn, tree_by_call, tree_by_lines, tree_by_line, tree_of_dump}
 use Rattle.g_world.proofs.AnswerLemmas.{call_plain}
 use Rattle.g_world.proofs.StepLemmas.{tree_held}
+use Rattle.g_world.proofs.ProcessedLemmas.{process_tree}
 
 -- a store that goes down keeps its tree
 in_down : (h : Option Holding) → option_map (λ (k : Holding). k.tree) (option_map no_longer_kept h) ≡ option_map (λ (k : Holding). k.tree) h
@@ -156,6 +158,19 @@ pub job_by : (o : Outcome) (name user : List ℕ) (time money : ℕ) (lines : Li
 job_by o name user time money lines w true = job_store o (job_refusal w user time money) (taken_in name user time money lines w) w refl
 job_by o name user time money lines w false = refl
 
+pub login_by : (o : Outcome) (t : ℕ) (user : List ℕ) (time : ℕ) (w : World) (b : Bool)
+    → (if b then job_line (login_refusal w t user time) (logged_in t user time w) w else line_refused NotStarted w).store ≡ w.store
+login_by o t user time w true = job_store o (login_refusal w t user time) (logged_in t user time w) w refl
+login_by o t user time w false = refl
+
+changed_store : (t : ℕ) (change : JobState → JobState) (j : Option JobState) (w : World) → (changed_at t change j w).store ≡ w.store
+changed_store t change None w = refl
+changed_store t change (Some j) w = refl
+
+pub typed_by : (t : ℕ) (change : JobState → JobState) (w : World) (b : Bool) → (if b then at_terminal t change w else line_refused NotStarted w).store ≡ w.store
+typed_by t change w true = changed_store t change (open_at t w.jobs) w
+typed_by t change w false = refl
+
 -- A LINE leaves the tree, or puts its own there
 line_leaves : (o : Outcome) (what : Operator) (w new : World) → LineGives o what w new → LineLeaves what w new
 line_leaves o line.Format w new gives = rises_at FormatStep (λ r. codes "FORMATTED") o line.Format w new (λ r s does. event_tree _ _ w.store _ r s does) w.store.up refl gives
@@ -171,11 +186,17 @@ line_leaves o (line.Unmount serial) w new (r, s, (plain, does), is) =
 line_leaves o (line.Dump serial) w new gives =
     needs_at (λ r s. IsOpening w.store serial o r s) (λ n. dump_text n (codes "OPENED")) o (line.Dump serial) w new
     (λ r s (k, holds, (places, noted, event), says_so). event_keeps _ _ w.store _ r s (sym (tree_held w.store k holds)) event) w.store.up gives
+line_leaves o (line.Process serial) w new gives =
+    needs_at (λ r s. IsProcessing w.store serial o r s) (processed_text serial) o (line.Process serial) w new
+    (λ r s (k, holds, step, says_so). process_tree w.store k serial o r s holds step) w.store.up gives
 line_leaves o (line.Migrate path) w new gives =
     needs_at (λ r s. IsMigration w.store path o r s) (λ full. codes "MIGRATED " ++ full_text full) o (line.Migrate path) w new
     (λ r s (k, holds, event, says_so). event_keeps _ _ w.store _ r s (sym (tree_held w.store k holds)) event) w.store.up gives
 line_leaves o (line.StopDisc k) w new (plain, is) = inl (stays w new _ is refl)
 line_leaves o (line.StopTape k) w new (plain, is) = inl (stays w new _ is refl)
+line_leaves o (line.Login t user time) w new (plain, is) = inl (stays w new _ is (login_by o t user time w w.store.up))
+line_leaves o (line.Typed t text) w new (plain, is) = inl (stays w new _ is (typed_by t (typed_to text) w w.store.up))
+line_leaves o (line.Logout t) w new (plain, is) = inl (stays w new _ is (typed_by t logged_out w w.store.up))
 
 module _ {F U : Type 0} (tariffs : Shared F (Bor Usage × Unit {0}) Charge) (tariff : F) (rules : Shared U (Bor Standing × Unit {0}) ℕ) (rule : U)
     (plainly : AnswersPlainly) (keep : RefusalsKeep) (stops : StopsLeave) (dumps : DumpsKeepTree) where
@@ -197,9 +218,9 @@ module _ {F U : Type 0} (tariffs : Shared F (Bor Usage × Unit {0}) Charge) (tar
       by (inr (inr (stop, inr same))) = inr (is ∙ ap Some same ∙ behind)
 
   pub all_or_nothing : AllOrNothing tariffs tariff rules rule
-  all_or_nothing w new (TakeLine o) (next, rest, lines, between, idle, due, gives) = by (line_leaves o next.what (record w { lines = rest }) new gives)
+  all_or_nothing w new (TakeLine tape o) (next, rest, lines, between, idle, due, is_tape, gives) = by (line_leaves o next.what (record w { lines = rest }) new gives)
     where
-      by : LineLeaves next.what (record w { lines = rest }) new → (tree_in new.store ≡ tree_in w.store) ⊎ (tree_in new.store ≡ tree_behind w (TakeLine o))
+      by : LineLeaves next.what (record w { lines = rest }) new → (tree_in new.store ≡ tree_in w.store) ⊎ (tree_in new.store ≡ tree_behind w (TakeLine tape o))
       by (inl e) = inl e
       by (inr e) = inr (e ∙ sym (ap (λ (ls : List Timed). tree_by_lines ls w.store) lines))
   all_or_nothing w new (Dumped o) (between, idle, undue, dumping, (r, s, (k, d, holds, opened, step, says_so), is)) =
@@ -208,7 +229,7 @@ module _ {F U : Type 0} (tariffs : Shared F (Bor Usage × Unit {0}) Charge) (tar
   all_or_nothing w new (Answered o) (number, call, more, job, answer, s, asks, here, (k, holds, step, says_so), real, is) =
       let done = call_plain plainly keep stops w.store k job.user call o answer s holds step in
       answered w new o number call job k done.0 answer holds here (ap (tree_by_turn w) asks) done.1 (ap (λ (x : World). tree_in x.store) is ∙ done.2)
-  all_or_nothing w new (TurnOver number charge) (work, job, turn, after, asks, here, priced, ends, is) = inl (stays w new _ is (turn_store after turn w))
+  all_or_nothing w new (TurnOver number charge) (work, job, turn, after, asks, here, priced, ends, is) = inl (stays w new _ is (turn_store after turn (shows job after w)))
   all_or_nothing w new Ticked (idle, phase, is) = inl (stays w new _ is refl)
   all_or_nothing w new Over (between, idle, lines, nothing, over, is) = inl (stays w new _ is refl)
 
@@ -273,7 +294,7 @@ line_up o what w new low up gives = by (line_leaves o what w new gives)
 
 module _ {F U : Type 0} (tariffs : Shared F (Bor Usage × Unit {0}) Charge) (tariff : F) (rules : Shared U (Bor Standing × Unit {0}) ℕ) (rule : U) where
   pub rises_on : RisesOn tariffs tariff rules rule
-  rises_on w new o (next, rest, lines, between, idle, due, gives) low up =
+  rises_on w new tape o (next, rest, lines, between, idle, due, is_tape, gives) low up =
       line_up o next.what (record w { lines = rest }) new low up gives
       ∙ sym (ap (λ (b : Bool). if b then tree_in w.store else tree_by_line next.what w.store) low)
       ∙ sym (ap (λ (ls : List Timed). tree_by_lines ls w.store) lines)

@@ -1,21 +1,30 @@
 -- What the operator's lines do.
-use Rattle.std.specs.Prelude.{◌≡◌, ℕ, ◌+◌, Bool, not, nat_le, nat_lt, List, [], ◌∷◌, ◌++◌, length, Option, Some, None, Result, Ok, Err, MatchBool, unwrap_or, codes, if◌then◌else◌}
+use Rattle.std.specs.Prelude.{◌≡◌, ◌==◌, ◌&&◌, ℕ, ◌+◌, Bool, true, false, is_some, find, not, nat_le, nat_lt, List, [], ◌∷◌, ◌++◌, length, Option, Some, None, Result, Ok, Err, MatchBool, unwrap_or, codes, if◌then◌else◌}
 use Rattle.std.specs.Fmt.{decimal}
 use Rattle.g_plain.specs.declared.faults.StoreFault.{StoreFault}
 use Rattle.g_plain.specs.declared.faults.StoreFault.TheVariants.{NotStarted, NoUser, Running, DumpOpen, Stopped}
 use Rattle.g_monitor.specs.Refusals.{fault_line}
 use Rattle.g_monitor.specs.Parts.{full_text, with_numbers}
 use Rattle.g_job.specs.Begun.{job_begun}
+use Rattle.g_job.specs.State.{JobState}
+use Rattle.g_job.specs.Terminal.{held, logged_out, seated, typed_to}
+use Rattle.g_mop.specs.Seats.{busy_text, none_text}
+use Rattle.g_mop.specs.Shown.{shown_at, terminal_name}
 use Rattle.g_step.specs.State.{State, OpenDump}
 use Rattle.g_step.specs.CallStep.{Outcome, Plain}
 use Rattle.g_step.specs.Rising.{FormatStep, StartStep, RestoreStep}
 use Rattle.g_step.specs.CallStep.{down}
-use Rattle.g_world.specs.Events.{IsTold, IsMounting, IsUnmounting, IsOpening, IsMigration}
+use Rattle.g_world.specs.Events.{IsTold, IsMounting, IsUnmounting, IsOpening, IsProcessing, IsMigration}
 use Rattle.g_script.specs.declared.operator.Operator.{Operator}
 use Rattle.g_script.specs.declared.operator.Operator.TheVariants as line
 use Rattle.g_world.specs.Accounts.{Opened, with_new, knows_user, account_of, time_left, money_left}
-use Rattle.g_world.specs.Texts.{tape_text, dump_text, job_text, started_text}
-use Rattle.g_world.specs.World.{World, says, goes_down, system_stopped}
+use Rattle.g_world.specs.Texts.{tape_text, dump_text, job_text, started_text, processed_text}
+use Rattle.g_world.specs.World.{World, says, goes_down, system_stopped, with_job}
+
+-- the one line that writes reels
+abbrev pub is_process : Operator → Bool
+is_process (line.Process serial) = true
+is_process what = false
 
 abbrev pub is_up : World → Bool
 is_up w = w.store.up
@@ -48,13 +57,16 @@ first_text (check ∷ checks) = if check.0 then Some check.1 else first_text che
 abbrev pub no_account : List ℕ → Opened
 no_account user = record { user = user; time = 0; money = 0; ended = [] }
 
-abbrev pub job_checks : World → List ℕ → ℕ → ℕ → Opened → List (Bool × List ℕ)
-job_checks w user time money a =
-    (not (knows_user w.store user), fault_line NoUser)
-    ∷ (nat_le 64 (length w.jobs), codes "41 JOBS FULL")
+-- 64 jobs are unfinished; the user's accounts have too little left
+abbrev pub room_checks : World → ℕ → ℕ → Opened → List (Bool × List ℕ)
+room_checks w time money a =
+    (nat_le 64 (length w.jobs), codes "41 JOBS FULL")
     ∷ (nat_lt (time_left a w.jobs) time, with_numbers (codes "40 NO TIME ") time (time_left a w.jobs))
     ∷ (nat_lt (money_left a w.jobs) money, with_numbers (codes "42 NO MONEY ") money (money_left a w.jobs))
     ∷ []
+
+abbrev pub job_checks : World → List ℕ → ℕ → ℕ → Opened → List (Bool × List ℕ)
+job_checks w user time money a = (not (knows_user w.store user), fault_line NoUser) ∷ room_checks w time money a
 
 abbrev pub job_refusal : World → List ℕ → ℕ → ℕ → Option (List ℕ)
 job_refusal w user time money = first_text (job_checks w user time money (unwrap_or (account_of w.accounts user) (no_account user)))
@@ -66,6 +78,50 @@ taken_in name user time money lines w =
 abbrev pub job_line : Option (List ℕ) → World → World → World
 job_line None taken w = taken
 job_line (Some text) taken w = refusal text w
+
+-- TERMINALS: the unfinished job of one, and that of one that wasn't logged out
+abbrev pub is_terminal : ℕ → Option ℕ → Bool
+is_terminal t None = false
+is_terminal t (Some x) = x == t
+
+abbrev pub sits_at : ℕ → JobState → Bool
+sits_at t j = is_terminal t j.terminal
+
+abbrev pub job_at : ℕ → List JobState → Option JobState
+job_at t jobs = find (sits_at t) jobs
+
+abbrev pub open_at : ℕ → List JobState → Option JobState
+open_at t jobs = find (λ j. sits_at t j && j.desk.levels.held) jobs
+
+-- LOGIN: the refusals of a job of MONEY 1,000, and behind the first of them that the terminal has an unfinished one
+abbrev pub login_checks : World → ℕ → List ℕ → ℕ → Opened → List (Bool × List ℕ)
+login_checks w t user time a =
+    (not (knows_user w.store user), fault_line NoUser)
+    ∷ (is_some (job_at t w.jobs), busy_text t)
+    ∷ room_checks w time 1000 a
+
+abbrev pub login_refusal : World → ℕ → List ℕ → ℕ → Option (List ℕ)
+login_refusal w t user time = first_text (login_checks w t user time (unwrap_or (account_of w.accounts user) (no_account user)))
+
+-- the job of a terminal that begins: its document is empty, and held open
+abbrev pub terminal_job : ℕ → ℕ → List ℕ → ℕ → JobState
+terminal_job number t user time = seated t (held (job_begun number (terminal_name t) user time 1000 []))
+
+-- it comes in, and the first line of its file is put
+abbrev pub logged_in : ℕ → List ℕ → ℕ → World → World
+logged_in t user time w = record (says (job_text w.next_job (terminal_name t ++ codes " IN")) w) {
+  jobs = w.jobs ++ terminal_job w.next_job t user time ∷ [];
+  next_job = w.next_job + 1;
+  text = (says (job_text w.next_job (terminal_name t ++ codes " IN")) w).text ++ shown_at t (terminal_job w.next_job t user time).monitor;
+}
+
+-- TYPE and LOGOUT change that job, and tell nothing; where there is none they are refused
+abbrev pub changed_at : ℕ → (JobState → JobState) → Option JobState → World → World
+changed_at t change None w = refusal (none_text t) w
+changed_at t change (Some j) w = record w { jobs = with_job (change j) w.jobs }
+
+abbrev pub at_terminal : ℕ → (JobState → JobState) → World → World
+at_terminal t change w = changed_at t change (open_at t w.jobs) w
 
 -- SHUT: not while a dump is open
 abbrev pub Shuts : Option OpenDump → World → World → Type 0
@@ -102,6 +158,11 @@ module _ (outcome : Outcome) where
   LineGives (line.Mount serial) w new = Always (λ r s. IsMounting w.store serial outcome r s) (tape_text serial (codes "MOUNTED")) w new
   LineGives (line.Unmount serial) w new = Always (λ r s. IsUnmounting w.store serial outcome r s) (tape_text serial (codes "UNMOUNTED")) w new
   LineGives (line.Dump serial) w new = NeedsUp (λ r s. IsOpening w.store serial outcome r s) (λ n. dump_text n (codes "OPENED")) w new
+  LineGives (line.Process serial) w new = NeedsUp (λ r s. IsProcessing w.store serial outcome r s) (processed_text serial) w new
   LineGives (line.Migrate path) w new = NeedsUp (λ r s. IsMigration w.store path outcome r s) (λ full. codes "MIGRATED " ++ full_text full) w new
   LineGives (line.StopDisc k) w new = (outcome ≡ Plain) × (new ≡ says (codes "STOP SET") (record w { disc_stops = w.disc_stops + 1 }))
   LineGives (line.StopTape k) w new = (outcome ≡ Plain) × (new ≡ says (codes "STOP SET") (record w { tape_stops = w.tape_stops + 1 }))
+  LineGives (line.Login t user time) w new =
+      (outcome ≡ Plain) × (new ≡ (if is_up w then job_line (login_refusal w t user time) (logged_in t user time w) w else line_refused NotStarted w))
+  LineGives (line.Typed t text) w new = (outcome ≡ Plain) × (new ≡ (if is_up w then at_terminal t (typed_to text) w else line_refused NotStarted w))
+  LineGives (line.Logout t) w new = (outcome ≡ Plain) × (new ≡ (if is_up w then at_terminal t logged_out w else line_refused NotStarted w))

@@ -1,5 +1,5 @@
 -- A run is a list of moves of the world, one for each event.
-use Rattle.std.specs.Prelude.{◌≡◌, ◌⊎◌, ℕ, ◌+◌, Bool, true, false, List, [], ◌∷◌, ◌++◌, map, filter, slice_get, Option, Some, None, Result, Ok, Err, codes}
+use Rattle.std.specs.Prelude.{◌≡◌, ◌⊎◌, ℕ, ◌+◌, Bool, true, false, not, List, [], ◌∷◌, ◌++◌, map, filter, slice_get, Option, Some, None, Result, Ok, Err, codes}
 use Rattle.std.specs.Fmt.{decimal}
 use Rattle.std.specs.Fn.{Shared}
 use denote.Ref.{Bor}
@@ -27,14 +27,14 @@ use Rattle.g_world.specs.Devices.{Devices}
 use Rattle.g_world.specs.Events.{IsDumpStep, IsCall}
 use Rattle.g_script.specs.declared.operator.Timed.{Timed}
 use Rattle.g_world.specs.Accounts.{with_new, settled}
-use Rattle.g_world.specs.Lines.{LineGives}
-use Rattle.g_world.specs.Texts.{dump_text, job_text}
-use Rattle.g_world.specs.World.{World, Between, Stepped, Turned, able, is_dumping, nothing_steps, has_none, is_due, job_of, with_job, without_job, says, system_stopped, closed}
+use Rattle.g_world.specs.Lines.{LineGives, is_process}
+use Rattle.g_world.specs.Texts.{dump_text, ended_file, job_text}
+use Rattle.g_world.specs.World.{World, Between, Stepped, Turned, able, is_dumping, nothing_steps, has_none, is_due, job_of, with_job, without_job, says, shows, system_stopped, closed}
 
--- the operator's next line; a step of the open dump; a turn begins; a call of it is answered; it is over, with its
--- charge, if there is one; the tick is over; the run is over
+-- the operator's next line, and whether it is a PROCESS, the one line that writes reels; a step of the open dump; a turn begins; a call of it
+-- is answered; it is over, with its charge, if there is one; the tick is over; the run is over
 pub data Move : Type 0 where
-  TakeLine : Outcome → Move
+  TakeLine : Bool → Outcome → Move
   Dumped : Outcome → Move
   Begin : ℕ → Move
   Answered : Outcome → Move
@@ -49,19 +49,19 @@ dump_told number (Ok (Completed n)) s w = record (says (dump_text n (codes "COMP
 dump_told number (Err Stopped) s w = record (system_stopped s w) { phase = Turned }
 dump_told number (Err fault) s w = record (says (dump_text number (codes "LOST " ++ fault_line fault)) w) { store = s; phase = Stepped }
 
--- what the end of a turn makes of the world: accounts of new users open, unless the turn was stopped
+-- what the end of a turn makes of a world in which what it added to a terminal's file was put: accounts of new users open, unless the turn was stopped
 abbrev pub turn_told : JobState → Turn → World → World
 turn_told j turns.Broken w = system_stopped w.store (record w { jobs = with_job j w.jobs })
 turn_told j (turns.Wants serial) w =
     record (says (job_text j.number (codes "WANTS TAPE " ++ decimal serial)) w) { jobs = with_job j w.jobs; accounts = with_new w.store w.accounts }
 turn_told j (turns.Ran units money) w = record w { jobs = with_job j w.jobs; accounts = with_new w.store w.accounts }
 turn_told j (turns.Ended units money) w =
-    record w { jobs = without_job j.number w.jobs; accounts = with_new w.store (settled j w.accounts); text = w.text ++ j.monitor }
+    record w { jobs = without_job j.number w.jobs; accounts = with_new w.store (settled j w.accounts); text = w.text ++ ended_file j }
 
 module _ {F U : Type 0} (tariffs : Shared F (Bor Usage × Unit {0}) Charge) (tariff : F) (rules : Shared U (Bor Standing × Unit {0}) ℕ) (rule : U) where
   abbrev pub Step : World → Move → World → Type 0
-  Step w (TakeLine outcome) new = (line : Timed) × (rest : List Timed) × (w.lines ≡ line ∷ rest) × (w.phase ≡ Between) × (w.turn ≡ None)
-      × ((is_due w ≡ true) ⊎ (nothing_steps w ≡ true)) × LineGives outcome line.what (record w { lines = rest }) new
+  Step w (TakeLine tape outcome) new = (line : Timed) × (rest : List Timed) × (w.lines ≡ line ∷ rest) × (w.phase ≡ Between) × (w.turn ≡ None)
+      × ((is_due w ≡ true) ⊎ (nothing_steps w ≡ true)) × (tape ≡ is_process line.what) × LineGives outcome line.what (record w { lines = rest }) new
   Step w (Dumped outcome) new = (w.phase ≡ Between) × (w.turn ≡ None) × (is_due w ≡ false) × (is_dumping w ≡ true)
       × ((r : Result DumpStepped StoreFault) × (s : State) × IsDumpStep w.store outcome r s × (new ≡ dump_told (number_of w.store) r s w))
     where
@@ -75,7 +75,7 @@ module _ {F U : Type 0} (tariffs : Shared F (Bor Usage × Unit {0}) Charge) (tar
       × (new ≡ record w { store = s; turn = Some (number, more answer) })
   Step w (TurnOver number charge) new = (work : Work) × (job : JobState) × (turn : Turn) × (after : JobState)
       × (w.turn ≡ Some (number, Gives work)) × (job_of w number ≡ Some job) × IsPriced tariffs tariff work charge
-      × (turn_end job work charge ≡ Some (turn, after)) × (new ≡ record (turn_told after turn w) { turn = None; phase = Turned })
+      × (turn_end job work charge ≡ Some (turn, after)) × (new ≡ record (turn_told after turn (shows job after w)) { turn = None; phase = Turned })
   Step w Ticked new = (w.turn ≡ None) × ((w.phase ≡ Turned) ⊎ ((w.phase ≡ Stepped) × (has_none (able w) ≡ true)))
       × (new ≡ record w { count = w.count + 1; phase = Between })
   Step w Over new = (w.phase ≡ Between) × (w.turn ≡ None) × (w.lines ≡ []) × (nothing_steps w ≡ true) × (w.over ≡ false) × (new ≡ closed w)
@@ -86,7 +86,7 @@ module _ {F U : Type 0} (tariffs : Shared F (Bor Usage × Unit {0}) Charge) (tar
 
 -- the outcome of a move that is an event of the store or a line
 abbrev pub outcome_of : Move → Outcome
-outcome_of (TakeLine outcome) = outcome
+outcome_of (TakeLine tape outcome) = outcome
 outcome_of (Dumped outcome) = outcome
 outcome_of (Begin number) = Plain
 outcome_of (Answered outcome) = outcome
@@ -117,9 +117,9 @@ abbrev pub counted : (Outcome → ℕ) → List Move → ℕ
 counted f [] = 0
 counted f (move ∷ moves) = f (outcome_of move) + counted f moves
 
--- a step of the open dump, the one event that writes a tape; and any other move
+-- a step of the open dump or a PROCESS, the events that write reels; and any other move
 abbrev pub is_dump : Move → Bool
-is_dump (TakeLine outcome) = false
+is_dump (TakeLine tape outcome) = tape
 is_dump (Dumped outcome) = true
 is_dump (Begin number) = false
 is_dump (Answered outcome) = false
@@ -128,7 +128,7 @@ is_dump Ticked = false
 is_dump Over = false
 
 abbrev pub not_dump : Move → Bool
-not_dump (TakeLine outcome) = true
+not_dump (TakeLine tape outcome) = not tape
 not_dump (Dumped outcome) = false
 not_dump (Begin number) = true
 not_dump (Answered outcome) = true
@@ -136,15 +136,15 @@ not_dump (TurnOver number charge) = true
 not_dump Ticked = true
 not_dump Over = true
 
--- the cuts of calls and lines, and those of steps of a dump
+-- the cuts of calls and lines, and those of steps of a dump and of PROCESS
 abbrev pub cuts_of_calls : List Move → ℕ
 cuts_of_calls moves = counted cuts_in (filter not_dump moves)
 
 abbrev pub cuts_of_dumps : List Move → ℕ
 cuts_of_dumps moves = counted cuts_in (filter is_dump moves)
 
--- So many writes failed: those of calls and lines, each of the disc, and those of steps of a dump, each of one device, the disc or
--- the rack; and where none was a device's, its count stands still.
+-- So many writes failed: those of calls and lines, each of the disc, and those of steps of a dump and of PROCESS, each of one device, the
+-- disc or the rack; and where none was a device's, its count stands still.
 pub record WritesFailed (calls dumps : ℕ) (old new : Devices) : Type 0 where
   pub of_disc : ℕ
   pub of_rack : ℕ
@@ -165,18 +165,22 @@ pub record Happened (disc_reads tape_reads calls dumps disc_arms tape_arms : ℕ
   pub disc_armed : RoseBy disc_arms old.disc.arms new.disc.arms
   pub tape_armed : RoseBy tape_arms old.rack.arms new.rack.arms
 
--- in one call or line with this outcome; in a step of a dump; and in a part of a run
+-- in one call with this outcome, or a line that writes no reel; in a step of a dump; in any line; and in a part of a run
 abbrev pub EventCounted : Outcome → ℕ → ℕ → Devices → Devices → Type 0
 EventCounted o disc_arms tape_arms old new = Happened (disc_reads_in o) (tape_reads_in o) (cuts_in o) 0 disc_arms tape_arms old new
 
 abbrev pub DumpCounted : Outcome → Devices → Devices → Type 0
 DumpCounted o old new = Happened (disc_reads_in o) (tape_reads_in o) 0 (cuts_in o) 0 0 old new
 
+abbrev pub LineCounted : Bool → Outcome → ℕ → ℕ → Devices → Devices → Type 0
+LineCounted true o disc_arms tape_arms old new = Happened (disc_reads_in o) (tape_reads_in o) 0 (cuts_in o) disc_arms tape_arms old new
+LineCounted false o disc_arms tape_arms old new = EventCounted o disc_arms tape_arms old new
+
 abbrev pub MovesCounted : List Move → ℕ → ℕ → Devices → Devices → Type 0
 MovesCounted moves disc_arms tape_arms old new =
     Happened (counted disc_reads_in moves) (counted tape_reads_in moves) (cuts_of_calls moves) (cuts_of_dumps moves) disc_arms tape_arms old new
 
 -- A run has at most as many failed reads of each device, and failed writes of both, as the counts rose; a count that
--- moved has one. A failed write of a call or of a line is the disc's. Each STOP line that was done armed its device once, and nobody else did.
+-- moved has one. A failed write of a call, or of a line that is no PROCESS, is the disc's. Each STOP line that was done armed its device once, and nobody else did.
 abbrev pub Counted : List Move → World → Devices → Devices → Type 0
 Counted moves last old new = MovesCounted moves last.disc_stops last.tape_stops old new

@@ -21,6 +21,7 @@ use Rattle.g_script.specs.declared.operator.Timed.{Timed}
 use Rattle.g_step.specs.CallStep.{Cut, DiscRead, Plain}
 use Rattle.g_step.specs.DumpSteps.{Completed, DumpStep, Going, Stepped as DumpStepped}
 use Rattle.g_step.specs.State.{Holding, OpenDump, State}
+use Rattle.g_world.specs.Lines.{is_process}
 use Rattle.g_world.specs.Moves.{Answered, Begin, Dumped, Move, Over, Step, TakeLine, Ticked, TurnOver}
 use Rattle.g_world.specs.World.{Between, Phase, Stepped, Turned, World, able, has_none, is_dumping, is_due, job_of, nothing_steps, start}
 use Rattle.g_world_laws.specs.Filestores.{HoldsOne}
@@ -96,7 +97,7 @@ module _ {F U : Type 0} (tariffs : Shared F (Bor Usage × Unit {0}) Charge) (tar
   line_goes : (w : World) (next : Timed) (rest : List Timed) → IsReadyWorld w → w.lines ≡ next ∷ rest → w.phase ≡ Between → w.turn ≡ None → (is_due w ≡ true) ⊎ (nothing_steps w ≡ true) → Goes w
   line_goes w next rest ready lines between idle due =
       let (o, new, gives) = line_some next.what (record w { lines = rest }) (λ up. holding_there w.store.holding (ready.held up)) in
-      (TakeLine o, new, (next, rest, lines, between, idle, due, gives))
+      (TakeLine (is_process next.what) o, new, (next, rest, lines, between, idle, due, refl, gives))
 
   dump_goes : (w : World) → IsReadyWorld w → w.phase ≡ Between → w.turn ≡ None → is_due w ≡ false → is_dumping w ≡ true → Goes w
   dump_goes w ready between idle undue dumping =

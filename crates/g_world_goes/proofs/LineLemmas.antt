@@ -3,6 +3,8 @@ use Rattle.std.proofs.Common.{◌≡◌, ℕ, ◌+◌, ◌-◌, ◌^◌, ◌==�
 use Rattle.std.specs.Prelude.{◌⊎◌, Bool, true, false, not, nat_lt, Result, Ok, Err, MatchBool, MatchOption, is_some, codes, if◌then◌else◌}
 use Rattle.std.specs.Fmt.{decimal}
 use Rattle.std.specs.FinMap.{empty}
+use Rattle.g_job.specs.State.{JobState}
+use Rattle.g_job.specs.Terminal.{logged_out, typed_to}
 use Rattle.g_monitor.specs.Parts.{full_text}
 use Rattle.g_name.specs.declared.full.Full.{Full}
 use Rattle.g_plain.specs.PlainStep.{first_fault}
@@ -11,13 +13,14 @@ use Rattle.g_plain.specs.declared.faults.StoreFault.{StoreFault}
 use Rattle.g_plain.specs.declared.faults.StoreFault.TheVariants.{CountersSpent, DumpOpen, LostDirectory, NoFilestore, NoTape, NotMounted, NotStarted, Running, Stopped, TapeFull, TapeReadFault}
 use Rattle.g_script.specs.declared.operator.Operator.{Operator}
 use Rattle.g_script.specs.declared.operator.Operator.TheVariants as line
-use Rattle.g_step.specs.CallStep.{Cut, Outcome, Plain, down}
+use Rattle.g_step.specs.CallStep.{Cut, Outcome, Plain, TapeRead, down}
 use Rattle.g_step.specs.DumpSteps.{Event, MigrateStep, MountStep, OpenStep, UnmountStep, dump_needs, open_number, open_refuses, opening, tape_room}
+use Rattle.g_step.specs.Process.{NotYet, ProcessStep, Processes, process_refuses, process_refuses_late}
 use Rattle.g_step.specs.Rising.{FormatStep, RestoreStep, Restores, StartStep, Starts, coming_up, restore_early, restored}
 use Rattle.g_step.specs.State.{Dumped as DumpedTree, Holding, OpenDump, State, is_mounted, lacks}
-use Rattle.g_world.specs.Events.{IsMigration, IsOpening, IsTold}
-use Rattle.g_world.specs.Lines.{LineGives, Shuts, job_line, job_refusal, line_refused, now_stands, taken_in, tells, up_with}
-use Rattle.g_world.specs.Texts.{dump_text, started_text, tape_text}
+use Rattle.g_world.specs.Events.{IsMigration, IsOpening, IsProcessing, IsTold}
+use Rattle.g_world.specs.Lines.{LineGives, Shuts, at_terminal, changed_at, job_line, job_refusal, line_refused, logged_in, login_refusal, now_stands, open_at, taken_in, tells, up_with}
+use Rattle.g_world.specs.Texts.{dump_text, processed_text, started_text, tape_text}
 use Rattle.g_world.specs.World.{World}
 
 -- AN EVENT has an answer
@@ -83,6 +86,16 @@ open_some s k serial = by (open_refuses s k serial Plain) refl
           refl,
         )
 
+process_by : (s : State) (k : Holding) (serial : ℕ) (f g : Option StoreFault)
+    → (o : Outcome) × (r : Result ℕ StoreFault) × (new : State)
+    × MatchOption f (MatchOption g (Processes s k serial o r new) (λ fault. ((r ≡ Err fault) ⊎ ((o ≡ TapeRead) × (r ≡ Err TapeReadFault))) × (new ≡ s))) (λ fault. (r ≡ Err fault) × (new ≡ s)) × IsTold o r
+process_by s k serial (Some fault) g = (Plain, Err fault, s, (refl, refl), tt)
+process_by s k serial None (Some fault) = (Plain, Err fault, s, (inl refl, refl), tt)
+process_by s k serial None None = (Cut, Err Stopped, down s, (refl, NotYet false (inl refl)), refl)
+
+process_some : (s : State) (k : Holding) (serial : ℕ) → (o : Outcome) × (r : Result ℕ StoreFault) × (new : State) × ProcessStep s k serial o r new × IsTold o r
+process_some s k serial = process_by s k serial (process_refuses s k serial) (process_refuses_late s k serial)
+
 -- A LINE gives something, where a system that is up holds a filestore
 abbrev pub GivesSome : Operator → World → Type 0
 GivesSome what w = (o : Outcome) × (new : World) × LineGives o what w new
@@ -123,11 +136,17 @@ line_some (line.Unmount serial) w held =
 line_some (line.Dump serial) w held =
     needs_some (λ o r s. IsOpening w.store serial o r s) (λ n. dump_text n (codes "OPENED")) w w.store.up
     (λ up. let (k, holds) = held up in let (o, r, s, step, so) = open_some w.store k serial in (o, r, s, (k, holds, step, so)))
+line_some (line.Process serial) w held =
+    needs_some (λ o r s. IsProcessing w.store serial o r s) (processed_text serial) w w.store.up
+    (λ up. let (k, holds) = held up in let (o, r, s, step, so) = process_some w.store k serial in (o, r, s, (k, holds, step, so)))
 line_some (line.Migrate path) w held =
     needs_some (λ o r s. IsMigration w.store path o r s) (λ full. codes "MIGRATED " ++ full_text full) w w.store.up
     (λ up. let (k, holds) = held up in let (r, s, step) = migrate_some w.store k path.user (input_name k.tree [] path) in (Plain, r, s, (k, holds, step, tt)))
 line_some (line.StopDisc k) w held = (Plain, _, (refl, refl))
 line_some (line.StopTape k) w held = (Plain, _, (refl, refl))
+line_some (line.Login t user time) w held = (Plain, _, (refl, refl))
+line_some (line.Typed t text) w held = (Plain, _, (refl, refl))
+line_some (line.Logout t) w held = (Plain, _, (refl, refl))
 
 -- WHAT A LINE LEAVES of a turn, of the tick and of the jobs: there are no new ones while the system is down
 pub record LineLeaves (w new : World) : Type 0 where
@@ -177,6 +196,23 @@ job_leaves : (name user : List ℕ) (time money : ℕ) (lines : List (List ℕ))
 job_leaves name user time money lines w true up = taken_leaves (job_refusal w user time money) name user time money lines w up
 job_leaves name user time money lines w false up = record { turn = refl; phase = refl; jobs = inl refl }
 
+login_leaves : (refusal : Option (List ℕ)) (t : ℕ) (user : List ℕ) (time : ℕ) (w : World) → w.store.up ≡ true → LineLeaves w (job_line refusal (logged_in t user time w) w)
+login_leaves None t user time w up = record { turn = refl; phase = refl; jobs = inr (inr up) }
+login_leaves (Some text) t user time w up = record { turn = refl; phase = refl; jobs = inl refl }
+
+login_by_leaves : (t : ℕ) (user : List ℕ) (time : ℕ) (w : World) (b : Bool) → w.store.up ≡ b
+    → LineLeaves w (if b then job_line (login_refusal w t user time) (logged_in t user time w) w else line_refused NotStarted w)
+login_by_leaves t user time w true up = login_leaves (login_refusal w t user time) t user time w up
+login_by_leaves t user time w false up = record { turn = refl; phase = refl; jobs = inl refl }
+
+changed_leaves : (t : ℕ) (change : JobState → JobState) (j : Option JobState) (w : World) → w.store.up ≡ true → LineLeaves w (changed_at t change j w)
+changed_leaves t change None w up = record { turn = refl; phase = refl; jobs = inl refl }
+changed_leaves t change (Some j) w up = record { turn = refl; phase = refl; jobs = inr (inr up) }
+
+typed_leaves : (t : ℕ) (change : JobState → JobState) (w : World) (b : Bool) → w.store.up ≡ b → LineLeaves w (if b then at_terminal t change w else line_refused NotStarted w)
+typed_leaves t change w true up = changed_leaves t change (open_at t w.jobs) w up
+typed_leaves t change w false up = record { turn = refl; phase = refl; jobs = inl refl }
+
 pub line_leaves : (o : Outcome) (what : Operator) (w new : World) → LineGives o what w new → LineLeaves w new
 line_leaves o line.Format w new gives = rises_leaves FormatStep (λ r. codes "FORMATTED") o w new w.store.up gives
 line_leaves o line.Start w new gives = rises_leaves StartStep started_text o w new w.store.up gives
@@ -186,6 +222,10 @@ line_leaves o (line.Job name user time money lines) w new (plain, is) = leaves_i
 line_leaves o (line.Mount serial) w new (r, s, does, is) = leaves_is w new _ is (told_stands (λ _. tape_text serial (codes "MOUNTED")) r s w)
 line_leaves o (line.Unmount serial) w new (r, s, does, is) = leaves_is w new _ is (told_stands (λ _. tape_text serial (codes "UNMOUNTED")) r s w)
 line_leaves o (line.Dump serial) w new gives = needs_leaves (λ r s. IsOpening w.store serial o r s) (λ n. dump_text n (codes "OPENED")) o w new w.store.up gives
+line_leaves o (line.Process serial) w new gives = needs_leaves (λ r s. IsProcessing w.store serial o r s) (processed_text serial) o w new w.store.up gives
 line_leaves o (line.Migrate path) w new gives = needs_leaves (λ r s. IsMigration w.store path o r s) (λ full. codes "MIGRATED " ++ full_text full) o w new w.store.up gives
 line_leaves o (line.StopDisc k) w new (plain, is) = leaves_is w new _ is (record { turn = refl; phase = refl; jobs = inl refl })
 line_leaves o (line.StopTape k) w new (plain, is) = leaves_is w new _ is (record { turn = refl; phase = refl; jobs = inl refl })
+line_leaves o (line.Login t user time) w new (plain, is) = leaves_is w new _ is (login_by_leaves t user time w w.store.up refl)
+line_leaves o (line.Typed t text) w new (plain, is) = leaves_is w new _ is (typed_leaves t (typed_to text) w w.store.up refl)
+line_leaves o (line.Logout t) w new (plain, is) = leaves_is w new _ is (typed_leaves t logged_out w w.store.up refl)

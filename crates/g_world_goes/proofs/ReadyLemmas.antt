@@ -1,6 +1,6 @@
 -- What holds of every world of a run, so that there is a next one.
 use Rattle.std.proofs.Common.{◌≡◌, ℕ, ◌==◌, List, [], ◌∷◌, Option, Some, None, refl, sym, ◌∙◌, ap, subst, inl, inr, find}
-use Rattle.std.specs.Prelude.{◌⊎◌, true, false, Result, Ok, Err, MatchOption, is_some}
+use Rattle.std.specs.Prelude.{◌⊎◌, Bool, true, false, Result, Ok, Err, MatchOption, is_some}
 use Rattle.std.proofs.lemmas.Bool.{false≢true}
 use Rattle.std.proofs.lemmas.Option.{some_pair_parts}
 use Rattle.std.specs.Fn.{Shared}
@@ -73,6 +73,7 @@ held_kept = record {
   mount = λ s serial r new step old. event_held _ _ s _ r new old old step;
   unmount = λ s serial r new step old. event_held _ _ s _ r new old old step;
   opening = λ s k serial o r new high holds step so old up. one_kept.opening s k serial o r new high holds step so (ap is_some holds);
+  process = λ s k serial o r new high holds step so old up. one_kept.process s k serial o r new high holds step so (ap is_some holds);
   migrate = λ s k user full o r new holds step so old up. one_kept.migrate s k user full o r new holds step so (ap is_some holds);
   call = λ s k who call o answer new holds step so old up. one_kept.call s k who call o answer new holds step so (ap is_some holds);
 }
@@ -136,19 +137,19 @@ module _ {F U : Type 0} (tariffs : Shared F (Bor Usage × Unit {0}) Charge) (tar
   held_move w new move has step (inr quiet) = quiet_kept KeepsHeld held_kept tariffs tariff rules rule w new move quiet step has
 
   -- no jobs come to a system that holds no filestore
-  line_jobs : (w new : World) (o : Outcome) → IsReadyWorld w → w.jobs ≡ [] → Step tariffs tariff rules rule w (TakeLine o) new → (new.jobs ≡ w.jobs) ⊎ ((new.jobs ≡ []) ⊎ (w.store.up ≡ true))
+  line_jobs : (w new : World) (tape : Bool) (o : Outcome) → IsReadyWorld w → w.jobs ≡ [] → Step tariffs tariff rules rule w (TakeLine tape o) new → (new.jobs ≡ w.jobs) ⊎ ((new.jobs ≡ []) ⊎ (w.store.up ≡ true))
       → HoldsOne new.store ⊎ (new.jobs ≡ [])
-  line_jobs w new o ready none step (inl same) = inr (same ∙ none)
-  line_jobs w new o ready none step (inr (inl gone)) = inr gone
-  line_jobs w new o ready none step (inr (inr up)) = inl (one_move tariffs tariff rules rule w new (TakeLine o) (ready.held up) step (kind (TakeLine o)))
+  line_jobs w new tape o ready none step (inl same) = inr (same ∙ none)
+  line_jobs w new tape o ready none step (inr (inl gone)) = inr gone
+  line_jobs w new tape o ready none step (inr (inr up)) = inl (one_move tariffs tariff rules rule w new (TakeLine tape o) (ready.held up) step (kind (TakeLine tape o)))
 
   dumped_jobs : (w new v : World) → w.jobs ≡ [] → new ≡ v → (v.jobs ≡ w.jobs) ⊎ (v.jobs ≡ []) → new.jobs ≡ []
   dumped_jobs w new v none is (inl same) = ap (λ (x : World). x.jobs) is ∙ same ∙ none
   dumped_jobs w new v none is (inr gone) = ap (λ (x : World). x.jobs) is ∙ gone
 
   jobs_none : (w new : World) (move : Move) → IsReadyWorld w → w.jobs ≡ [] → Step tariffs tariff rules rule w move new → HoldsOne new.store ⊎ (new.jobs ≡ [])
-  jobs_none w new (TakeLine o) ready none (next, rest, lines, between, idle, due, gives) =
-      line_jobs w new o ready none (next, rest, lines, between, idle, due, gives) (line_leaves o next.what (record w { lines = rest }) new gives).jobs
+  jobs_none w new (TakeLine tape o) ready none (next, rest, lines, between, idle, due, is_tape, gives) =
+      line_jobs w new tape o ready none (next, rest, lines, between, idle, due, is_tape, gives) (line_leaves o next.what (record w { lines = rest }) new gives).jobs
   jobs_none w new (Dumped o) ready none (between, idle, undue, dumping, (r, s, step, is)) = inr (dumped_jobs w new _ none is (dump_jobs _ r s w))
   jobs_none w new (Begin number) ready none (idle, undue, before, (place, job, chosen, there, number_is, is)) = inr (ap (λ (x : World). x.jobs) is ∙ none)
   jobs_none w new (Answered o) ready none (number, call, more, job, answer, s, asks, here, step, real, is) = inr (ap (λ (x : World). x.jobs) is ∙ none)
@@ -170,7 +171,7 @@ module _ {F U : Type 0} (tariffs : Shared F (Bor Usage × Unit {0}) Charge) (tar
       (job, ap (λ (m : ℕ). job_of new m) (sym parts.0) ∙ found)
 
   turn_goes : (w new : World) (move : Move) → IsReadyWorld w → Step tariffs tariff rules rule w move new → HasTurn new
-  turn_goes w new (TakeLine o) ready (next, rest, lines, between, idle, due, gives) n p there =
+  turn_goes w new (TakeLine tape o) ready (next, rest, lines, between, idle, due, is_tape, gives) n p there =
       no_turn new.turn (n, p) ((line_leaves o next.what (record w { lines = rest }) new gives).turn ∙ idle) there
   turn_goes w new (Dumped o) ready (between, idle, undue, dumping, (r, s, step, is)) n p there = no_turn new.turn (n, p) (ap (λ (x : World). x.turn) is ∙ dump_turn _ r s w ∙ idle) there
   turn_goes w new (Begin number) ready (idle, undue, before, (place, job, chosen, at, number_is, is)) n p there =
@@ -183,7 +184,7 @@ module _ {F U : Type 0} (tariffs : Shared F (Bor Usage × Unit {0}) Charge) (tar
   turn_goes w new Over ready (between, idle, lines, nothing, over, is) n p there = no_turn new.turn (n, p) (ap (λ (x : World). x.turn) is ∙ idle) there
 
   undue_goes : (w new : World) (move : Move) → IsReadyWorld w → Step tariffs tariff rules rule w move new → new.phase ≡ Stepped → is_due new ≡ false
-  undue_goes w new (TakeLine o) ready (next, rest, lines, between, idle, due, gives) stepped =
+  undue_goes w new (TakeLine tape o) ready (next, rest, lines, between, idle, due, is_tape, gives) stepped =
       not_stepped new.phase ((line_leaves o next.what (record w { lines = rest }) new gives).phase ∙ between) stepped
   undue_goes w new (Dumped o) ready (between, idle, undue, dumping, (r, s, step, is)) stepped = ap (λ (x : World). is_due x) is ∙ dump_due _ r s w ∙ undue
   undue_goes w new (Begin number) ready (idle, undue, before, (place, job, chosen, there, number_is, is)) stepped = ap (λ (x : World). is_due x) is ∙ undue

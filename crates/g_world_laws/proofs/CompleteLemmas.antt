@@ -1,7 +1,9 @@
 -- An open dump of which no device fails, move by move.
 use Rattle.std.proofs.Common.{◌≡◌, ℕ, ◌+◌, ◌<◌, List, [], ◌∷◌, Option, Some, None, refl, sym, ◌∙◌, ap, subst, inl, inr, arith}
 use Rattle.std.specs.Prelude.{◌≢◌, ◌⊎◌, ◌||◌, Bool, true, false, Result, Ok, Err, MatchOption, option_map, sum_by, if◌then◌else◌}
+use Rattle.std.specs.FinMap.{FinMap}
 use Rattle.std.specs.List.{AllByRecursion}
+use Rattle.std.specs.Ordering.{nat_cmp}
 use Rattle.std.proofs.lemmas.List.Elements.{recursion_from_All}
 use Rattle.std.proofs.lemmas.List.Sums.{sum_by-cons}
 use Rattle.std.specs.Fn.{Shared}
@@ -13,15 +15,17 @@ use Rattle.g_plain.specs.PlainStep.{first_fault, reply_to}
 use Rattle.g_plain.specs.declared.calls.StoreCall.{StoreCall}
 use Rattle.g_plain.specs.declared.calls.StoreReply.{StoreReply}
 use Rattle.g_plain.specs.declared.faults.StoreFault.{StoreFault}
-use Rattle.g_plain.specs.declared.faults.StoreFault.TheVariants.{DiscReadFault, NoTape, NotMounted, Stopped, TapeBusy}
+use Rattle.g_plain.specs.declared.faults.StoreFault.TheVariants.{DiscReadFault, NoTape, NotMounted, Stopped, TapeBusy, TapeReadFault}
 use Rattle.g_step.specs.CallStep.{CallStep, Cut, DiscRead, LeftByRefusal, Outcome, Plain, Planned, TapeRead, after_call, brings_now, commits, down, early, held_after, late, touched_by, writes}
 use Rattle.g_step.specs.DumpSteps.{Completed, DumpStep, Event, Going, MigrateStep, OpenStep, Stepped, completed, is_busy, open_refuses, opening, uses}
+use Rattle.g_step.specs.Process.{ProcessStep, Processes, moved, process_refuses, process_refuses_late, with_cut}
 use Rattle.g_step.specs.Rising.{Restores, Starts, restore_early}
-use Rattle.g_step.specs.State.{Dumped as DumpedTree, Holding, OpenDump, State, lacks}
+use Rattle.g_step.specs.State.{Dumped as DumpedTree, Holding, OpenDump, Place, State, lacks}
 use Rattle.g_world.specs.Laws.{IsPlain}
 use Rattle.g_world.specs.Moves.{Answered, Begin, Dumped, Move, Over, Run, Step, TakeLine, Ticked, TurnOver, outcome_of}
 use Rattle.g_world.specs.World.{World, start}
 use Rattle.g_world.proofs.EventToldLemmas.{call_told, migrate_told, open_told}
+use Rattle.g_world.proofs.ProcessedLemmas.{marked_only, noted, of_each}
 use Rattle.g_world.proofs.TreeLemmas.{dump_store}
 use Rattle.g_world_laws.specs.Completes.{Completes, DumpsComplete, DumpsGoOn, IsOpenAt}
 use Rattle.g_world_laws.specs.Dumps.{IsSameDump, dump_steps}
@@ -112,6 +116,20 @@ call_sound : (s : State) (k : Holding) (who : List ℕ) (call : StoreCall) (o : 
 call_sound s k who call o None answer new old planned = late_sound s k who call o planned.until (late s k who call o planned.until) answer new old planned.step
 call_sound s k who call o (Some fault) answer new old (err, is) = sound_at s new is old
 
+-- a PROCESS leaves an open dump as it was, or, where it stops, none
+process_sound : (s : State) (k : Holding) (serial : ℕ) (o : Outcome) (r : Result ℕ StoreFault) (new : State) → IsSound s → ProcessStep s k serial o r new → IsSound new
+process_sound s k serial o r new old step =
+    of_each IsSound s k serial
+    (record {
+      same = old;
+      gone = sound_none (down s) refl;
+      noted_up = λ used. old;
+      noted_down = λ used. sound_none (down (noted s k serial used)) refl;
+      marked_down = λ d is. sound_none (down (marked_only s k serial d)) refl;
+      moved_up = λ places d until is. old;
+      moved_down = λ places d until cut is. sound_none (down (with_cut cut (moved s k serial places d until))) refl;
+    }) o r new step
+
 sound_kept : AreKept KeepsSound
 sound_kept = record {
   itself = λ s old. old;
@@ -122,6 +140,7 @@ sound_kept = record {
   mount = λ s serial r new step old. event_sound _ _ s _ r new old old step;
   unmount = λ s serial r new step old. event_sound _ _ s _ r new old old step;
   opening = λ s k serial o r new up holds (places, noted, event) so old. event_sound _ _ s _ r new old (opened_sound (opening s k serial places) _ up refl (two_more _ _ _)) event;
+  process = λ s k serial o r new up holds step so old. process_sound s k serial o r new old step;
   migrate = λ s k user full o r new holds event so old. event_sound _ _ s _ r new old old event;
   call = λ s k who call o answer new holds step so old. call_sound s k who call o (early s k who call o) answer new old step;
 }
@@ -204,6 +223,13 @@ call_goes : (d : OpenDump) (s : State) (k : Holding) (who : List ℕ) (call : St
 call_goes d s k who call o None answer new unstopped up there planned = late_goes d s k who call o planned.until (late s k who call o planned.until) answer new unstopped up there planned.step
 call_goes d s k who call o (Some fault) answer new unstopped up there (err, is) = goes_at d s new is (goes_itself d s up there)
 
+process_goes : (d : OpenDump) (s : State) (k : Holding) (serial : ℕ) (f g : Option StoreFault) (r : Result ℕ StoreFault) (new : State) → GoesOn d s
+    → ((places : FinMap nat_cmp Place) (x : DumpedTree) (until : ℕ) → GoesOn d (moved s k serial places x until))
+    → MatchOption f (MatchOption g (Processes s k serial Plain r new) (λ fault. ((r ≡ Err fault) ⊎ ((Plain ≡ TapeRead) × (r ≡ Err TapeReadFault))) × (new ≡ s))) (λ fault. (r ≡ Err fault) × (new ≡ s)) → GoesOn d new
+process_goes d s k serial None None r new old done (ok, does) = goes_at d (moved s k serial does.places does.dumped does.until) new does.is (done does.places does.dumped does.until)
+process_goes d s k serial None (Some fault) r new old done (err, is) = goes_at d s new is old
+process_goes d s k serial (Some fault) g r new old done (err, is) = goes_at d s new is old
+
 open_kept : AreKept KeepsOpen
 open_kept = record {
   itself = λ s d up there plain. goes_itself d s up there;
@@ -216,6 +242,9 @@ open_kept = record {
   opening = λ s k serial o r new high holds step so d up there plain.
       event_goes d (open_refuses s k serial o) (k.last + 1) s (opening s k serial step.0) r new (unstopped (OpenStep s k serial) o r new (open_told s k serial o r new step) (whole o plain))
       (goes_itself d s up there) (λ none. open_refused d s k serial o there none) step.2;
+  process = λ s k serial o r new high holds step so d up there plain.
+      process_goes d s k serial (process_refuses s k serial) (process_refuses_late s k serial) r new (goes_itself d s up there) (λ places x until. goes_itself d _ up there)
+      (subst (λ (x : Outcome). ProcessStep s k serial x r new) plain step);
   migrate = λ s k user full o r new holds step so d up there plain.
       event_goes d _ _ s _ r new (unstopped (MigrateStep s k user full) o r new (migrate_told s k user full o r new step) (whole o plain)) (goes_itself d s up there) (λ none. goes_itself d _ up there) step;
   call = λ s k who call o answer new holds step so d up there plain.
@@ -232,7 +261,7 @@ plain_step s k d (Err Stopped) new (cut, left) = absurd (let no : ⊥ = cc in no
 plain_step s k d (Err fault) new step = absurd step
 
 quiet_none : (move : Move) → IsQuiet move → dump_steps move ≡ 0
-quiet_none (TakeLine o) quiet = refl
+quiet_none (TakeLine tape o) quiet = refl
 quiet_none (Dumped o) quiet = absurd quiet
 quiet_none (Begin number) quiet = refl
 quiet_none (Answered o) quiet = refl
@@ -241,7 +270,7 @@ quiet_none Ticked quiet = refl
 quiet_none Over quiet = refl
 
 pub kind : (move : Move) → ((o : Outcome) × (move ≡ Dumped o)) ⊎ IsQuiet move
-kind (TakeLine o) = inr tt
+kind (TakeLine tape o) = inr tt
 kind (Dumped o) = inl (o, refl)
 kind (Begin number) = inr tt
 kind (Answered o) = inr tt

@@ -20,14 +20,17 @@ use Rattle.g_step.specs.CallStep.{Cut, DiscRead, LeftByRefusal, Outcome, Plain, 
 use Rattle.g_step.specs.DumpSteps.{Event, dump_needs, open_number, open_refuses, tape_room}
 use Rattle.g_step.specs.Rising.{FormatStep, RestoreStep, Restores, StartStep, Starts, restore_early}
 use Rattle.g_step.specs.State.{Dumped as DumpedTree, Holding, OpenDump, State, is_mounted, lacks}
-use Rattle.g_world.specs.Events.{IsMigration, IsOpening, IsTold}
+use Rattle.g_world.specs.Events.{IsMigration, IsOpening, IsTold, IsProcessing}
 use Rattle.g_world.specs.Laws.{DumpsEnd}
 use Rattle.g_world.specs.Lines.{LineGives, Shuts, line_refused, now_stands, tells, up_with}
 use Rattle.g_world.specs.Moves.{Answered, Begin, Dumped, Move, Over, Step, TakeLine, Ticked, TurnOver}
-use Rattle.g_world.specs.Texts.{dump_text, started_text, tape_text}
-use Rattle.g_world.specs.World.{World}
-use Rattle.g_world.proofs.TreeLemmas.{job_by, told_stands, told_up, turn_store}
+use Rattle.g_world.specs.Texts.{dump_text, started_text, tape_text, processed_text}
+use Rattle.g_world.specs.World.{World, shows}
+use Rattle.g_world.proofs.TreeLemmas.{job_by, login_by, told_stands, told_up, turn_store, typed_by}
+use Rattle.g_job.specs.Terminal.{logged_out, typed_to}
 use Rattle.g_world_laws.specs.Dumps.{DumpsStay, DumpsTakeNeeds, IsSameDump, RunOpen, StaysOrGoes, dump_steps}
+use Rattle.g_world.proofs.ProcessedLemmas.{of_each}
+use Rattle.g_step.specs.Process.{ProcessStep}
 
 pub one_dump : (a b : OpenDump) → (let one : Option OpenDump = Some a in one ≡ Some b) → a ≡ b
 one_dump a b e = cc
@@ -122,6 +125,24 @@ module _ (d : OpenDump) where
   shut_by o w new true opened shuts = shut_stays w.store.open_dump w new opened shuts
   shut_by o w new false opened is = still w new (line_refused NotStarted w) opened is refl
 
+  -- a PROCESS
+  Stays : State → Type 0
+  Stays x = StaysOrGoes d x.open_dump
+
+  process_stays : (s : State) (k : Holding) (serial : ℕ) (o : Outcome) (r : Result ℕ StoreFault) (new : State) → s.open_dump ≡ Some d → ProcessStep s k serial o r new → StaysOrGoes d new.open_dump
+  unfolding Stays
+  process_stays s k serial o r new opened step =
+      of_each Stays s k serial
+      (record {
+        same = stays d s.open_dump opened;
+        gone = tt;
+        noted_up = λ used. stays d s.open_dump opened;
+        noted_down = λ used. tt;
+        marked_down = λ x is. tt;
+        moved_up = λ places x until is. stays d s.open_dump opened;
+        moved_down = λ places x until cut is. tt;
+      }) o r new step
+
   -- A LINE
   line_stays : (o : Outcome) (what : Operator) (w new : World) → w.store.open_dump ≡ Some d → LineGives o what w new → StaysOrGoes d new.store.open_dump
   line_stays o line.Format w new opened gives = rises_stays FormatStep (λ r. codes "FORMATTED") o w new opened (λ r s does. event_stays _ _ w.store _ r s opened (λ none. tt) does) w.store.up gives
@@ -137,11 +158,17 @@ module _ (d : OpenDump) where
   line_stays o (line.Dump serial) w new opened gives =
       needs_stays (λ r s. IsOpening w.store serial o r s) (λ n. dump_text n (codes "OPENED")) o w new opened
       (λ r s (k, holds, (places, noted, event), says_so). event_stays _ _ w.store _ r s opened (λ none. open_refused w.store k serial o opened none) event) w.store.up gives
+  line_stays o (line.Process serial) w new opened gives =
+      needs_stays (λ r s. IsProcessing w.store serial o r s) (processed_text serial) o w new opened
+      (λ r s (k, holds, step, says_so). process_stays w.store k serial o r s opened step) w.store.up gives
   line_stays o (line.Migrate path) w new opened gives =
       needs_stays (λ r s. IsMigration w.store path o r s) (λ full. codes "MIGRATED " ++ full_text full) o w new opened
       (λ r s (k, holds, event, says_so). event_stays _ _ w.store _ r s opened (λ none. stays d w.store.open_dump opened) event) w.store.up gives
   line_stays o (line.StopDisc k) w new opened (plain, is) = still w new _ opened is refl
   line_stays o (line.StopTape k) w new opened (plain, is) = still w new _ opened is refl
+  line_stays o (line.Login t user time) w new opened (plain, is) = still w new _ opened is (login_by o t user time w w.store.up)
+  line_stays o (line.Typed t text) w new opened (plain, is) = still w new _ opened is (typed_by t (typed_to text) w w.store.up)
+  line_stays o (line.Logout t) w new opened (plain, is) = still w new _ opened is (typed_by t logged_out w w.store.up)
 
   -- A CALL: whose directory it changes is noted, and nothing else of the dump
   touched_stays : (s : State) (k : Holding) (who : List ℕ) (call : StoreCall) (x : Option OpenDump) → x ≡ Some d → StaysOrGoes d (option_map (touched_by s k who call) x)
@@ -181,12 +208,12 @@ module _ (d : OpenDump) where
 
 module _ {F U : Type 0} (tariffs : Shared F (Bor Usage × Unit {0}) Charge) (tariff : F) (rules : Shared U (Bor Standing × Unit {0}) ℕ) (rule : U) where
   pub dumps_stay : DumpsStay tariffs tariff rules rule
-  dumps_stay w new (TakeLine o) d opened (next, rest, lines, between, idle, due, gives) quiet = line_stays d o next.what (record w { lines = rest }) new opened gives
+  dumps_stay w new (TakeLine tape o) d opened (next, rest, lines, between, idle, due, is_tape, gives) quiet = line_stays d o next.what (record w { lines = rest }) new opened gives
   dumps_stay w new (Dumped o) d opened step quiet = absurd (let no : ⊥ = omega (arith, quiet) in no)
   dumps_stay w new (Begin number) d opened (idle, undue, ready, (place, job, chosen, there, number_is, is)) quiet = still d w new _ opened is refl
   dumps_stay w new (Answered o) d opened (number, call, more, job, answer, s, asks, here, (k, holds, step, says_so), real, is) quiet =
       told d w new _ s is refl (call_stays d w.store k job.user call o (early w.store k job.user call o) answer s opened step)
-  dumps_stay w new (TurnOver number charge) d opened (work, job, turn, after, asks, here, priced, ends, is) quiet = still d w new _ opened is (turn_store after turn w)
+  dumps_stay w new (TurnOver number charge) d opened (work, job, turn, after, asks, here, priced, ends, is) quiet = still d w new _ opened is (turn_store after turn (shows job after w))
   dumps_stay w new Ticked d opened (idle, phase, is) quiet = still d w new _ opened is refl
   dumps_stay w new Over d opened (between, idle, lines, nothing, over, is) quiet = still d w new _ opened is refl
 
@@ -219,7 +246,7 @@ module _ {F U : Type 0} (tariffs : Shared F (Bor Usage × Unit {0}) Charge) (tar
     one_by : (w mid last : World) (move : Move) (moves : List Move) (d : OpenDump) → w.store.open_dump ≡ Some d → d.done < d.needs → Step tariffs tariff rules rule w move mid → Counts mid moves last
         → RunOpen tariffs tariff rules rule mid moves last → dump_steps move + sum_by dump_steps moves + d.done ≤ d.needs
     one_by w mid last (Dumped o) moves d opened less step rest run = step_by d mid last moves (ends w mid o d opened step) less rest run
-    one_by w mid last (TakeLine o) moves d opened less step rest run = quiet_by d mid last moves mid.store.open_dump refl (dumps_stay w mid (TakeLine o) d opened step refl) less rest run
+    one_by w mid last (TakeLine tape o) moves d opened less step rest run = quiet_by d mid last moves mid.store.open_dump refl (dumps_stay w mid (TakeLine tape o) d opened step refl) less rest run
     one_by w mid last (Begin number) moves d opened less step rest run = quiet_by d mid last moves mid.store.open_dump refl (dumps_stay w mid (Begin number) d opened step refl) less rest run
     one_by w mid last (Answered o) moves d opened less step rest run = quiet_by d mid last moves mid.store.open_dump refl (dumps_stay w mid (Answered o) d opened step refl) less rest run
     one_by w mid last (TurnOver number charge) moves d opened less step rest run =

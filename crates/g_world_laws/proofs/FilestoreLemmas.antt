@@ -2,7 +2,9 @@
 use Rattle.std.proofs.Common.{◌≡◌, ℕ, List, [], ◌∷◌, Option, Some, None, refl, sym, ◌∙◌, ap, subst, inl, inr}
 use Rattle.std.specs.Prelude.{◌⊎◌, ◌||◌, Bool, true, false, IfSome, Result, Ok, Err, MatchOption, option_map, is_some, if◌then◌else◌}
 use Rattle.std.proofs.lemmas.Bool.{false≢true}
+use Rattle.std.specs.FinMap.{FinMap}
 use Rattle.std.specs.Fn.{Shared}
+use Rattle.std.specs.Ordering.{nat_cmp}
 use denote.Ref.{Bor}
 use Rattle.g_budget.specs.declared.tariff.Charge.{Charge}
 use Rattle.g_budget.specs.declared.tariff.Usage.{Usage}
@@ -17,11 +19,13 @@ use Rattle.g_state.specs.Meaning.{told_reels}
 use Rattle.g_state.specs.Reading.{DevicesStandFor, IsView, holding_of}
 use Rattle.g_step.specs.CallStep.{Cut, DiscRead, LeftByRefusal, Outcome, Plain, Planned, TapeRead, after_call, brings_now, commits, down, early, held_after, late, no_longer_kept, touched_by, writes}
 use Rattle.g_step.specs.DumpSteps.{Completed, DumpStep, Event, Going, Stepped}
+use Rattle.g_step.specs.Process.{ProcessStep, moved, with_cut}
 use Rattle.g_step.specs.Rising.{Restores, Starts, restore_early}
-use Rattle.g_step.specs.State.{Dumped as DumpedTree, Holding, OpenDump, State}
+use Rattle.g_step.specs.State.{Dumped as DumpedTree, Holding, OpenDump, Place, State}
 use Rattle.g_world.specs.Devices.{Devices, StandFor}
 use Rattle.g_world.specs.Moves.{Dumped, Move, Step}
 use Rattle.g_world.specs.World.{World}
+use Rattle.g_world.proofs.ProcessedLemmas.{of_each}
 use Rattle.g_world.proofs.TreeLemmas.{dump_store}
 use Rattle.g_world_laws.specs.Filestores.{DevicesKeepFilestores, FilestoresStay, HasFilestore, HoldsOne}
 use Rattle.g_world_laws.proofs.CompleteLemmas.{kind}
@@ -88,6 +92,23 @@ call_one : (s : State) (k : Holding) (who : List ℕ) (call : StoreCall) (o : Ou
 call_one s k who call o None answer new old planned = late_one s k who call o planned.until (late s k who call o planned.until) answer new old planned.step
 call_one s k who call o (Some fault) answer new old (err, is) = one_at s new is old
 
+process_one : (s : State) (k : Holding) (serial : ℕ) (o : Outcome) (r : Result ℕ StoreFault) (new : State) → HoldsOne s → ProcessStep s k serial o r new → HoldsOne new
+process_one s k serial o r new old step =
+    of_each HoldsOne s k serial
+    (record {
+      same = old;
+      gone = one_down s old;
+      noted_up = λ used. refl;
+      noted_down = λ used. refl;
+      marked_down = λ d is. refl;
+      moved_up = λ places d until is. refl;
+      moved_down = λ places d until cut is. by_cut places d until cut;
+    }) o r new step
+  where
+    by_cut : (places : FinMap nat_cmp Place) (d : DumpedTree) (until : ℕ) (cut : Option (ℕ × Bool)) → HoldsOne (down (with_cut cut (moved s k serial places d until)))
+    by_cut places d until None = refl
+    by_cut places d until (Some c) = refl
+
 pub one_kept : AreKept KeepsOne
 one_kept = record {
   itself = λ s old. old;
@@ -98,6 +119,7 @@ one_kept = record {
   mount = λ s serial r new step old. event_one _ _ s _ r new old old step;
   unmount = λ s serial r new step old. event_one _ _ s _ r new old old step;
   opening = λ s k serial o r new up holds (places, noted, event) so old. event_one _ _ s _ r new old refl event;
+  process = λ s k serial o r new up holds step so old. process_one s k serial o r new old step;
   migrate = λ s k user full o r new holds event so old. event_one _ _ s _ r new old refl event;
   call = λ s k who call o answer new holds step so old. call_one s k who call o (early s k who call o) answer new old step;
 }

@@ -19,6 +19,7 @@ use Rattle.g_world.specs.Moves.{Dumped, Move, Run, Step}
 use Rattle.g_world.specs.World.{World, start}
 use Rattle.g_world.proofs.DeviceDumpLemmas.{devices_dumped}
 use Rattle.g_world.proofs.KeptDumpLemmas.{call_keeps, dump_keeps, format_keeps, migrate_keeps, mount_keeps, open_keeps, restore_keeps, start_keeps, unmount_keeps}
+use Rattle.g_world.proofs.ProcessedLemmas.{process_keeps}
 use Rattle.g_world.proofs.TreeLemmas.{dump_store}
 use Rattle.g_world_laws.specs.Lost.{NothingIsLost}
 use Rattle.g_world_laws.proofs.CompleteLemmas.{kind}
@@ -37,6 +38,7 @@ dumped_kept = record {
   mount = λ s serial r new step. mount_keeps s serial r new step;
   unmount = λ s serial r new step. unmount_keeps s serial r new step;
   opening = λ s k serial o r new up holds step so. open_keeps s k serial o r new step;
+  process = λ s k serial o r new up holds step so. process_keeps s k serial o r new step;
   migrate = λ s k user full o r new holds step so. migrate_keeps s k user full o r new step;
   call = λ s k who call o answer new holds step so. call_keeps s k who call o answer new step;
 }

@@ -40,7 +40,7 @@ module _ {F U : Type 0} (tariffs : Shared F (Bor Usage × Unit {0}) Charge) (tar
       }
 
   moves_on : (w new : World) (move : Move) → Step tariffs tariff rules rule w move new → MovesOn move (tree_of w.store) w (tree_of new.store) new
-  moves_on w new (TakeLine o) step = all w new (TakeLine o) step
+  moves_on w new (TakeLine tape o) step = all w new (TakeLine tape o) step
   moves_on w new (Dumped o) step = same_tree (tree_of w.store) (tree_of new.store) (all w new (Dumped o) step)
   moves_on w new (Begin number) step = same_tree (tree_of w.store) (tree_of new.store) (all w new (Begin number) step)
   moves_on w new (Answered o) (number, call, more, job, answer, s, asks, here, (k, holds, step, says_so), real, is) =

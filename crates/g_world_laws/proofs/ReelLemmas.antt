@@ -1,6 +1,6 @@
 -- The reels of a rack, move by move.
 use Rattle.std.proofs.Common.{◌≡◌, ℕ, ◌+◌, ◌≤◌, List, [], ◌∷◌, ◌++◌, Option, Some, None, refl, sym, ◌∙◌, ap, subst, inl, inr, arith, append-nil, append_assoc, length, length-append}
-use Rattle.std.specs.Prelude.{◌==◌, ◌||◌, Bool, true, false, Result, Ok, Err, MatchBool, MatchOption, if◌then◌else◌, sum_by, codes}
+use Rattle.std.specs.Prelude.{◌==◌, ◌||◌, Bool, true, false, Result, Ok, Err, MatchBool, MatchOption, if◌then◌else◌, sum_by, codes, ◌⊎◌}
 use Rattle.std.proofs.lemmas.List.Sums.{sum_by-cons}
 use Rattle.std.specs.Fmt.{decimal}
 use Rattle.std.specs.Fn.{Shared}
@@ -19,14 +19,21 @@ use Rattle.g_step.specs.CallStep.{Cut, DiscRead, LeftByRefusal, Outcome, Plain, 
 use Rattle.g_step.specs.DumpSteps.{Completed, DumpStep, Event, Going, Stepped, shelved, with_mounted, with_shelved, with_used}
 use Rattle.g_step.specs.Rising.{FormatStep, RestoreStep, Restores, StartStep, Starts, restore_early}
 use Rattle.g_step.specs.State.{Dumped as DumpedTree, Holding, OpenDump, ReelRow, Shelved, State, with_reel}
-use Rattle.g_world.specs.Events.{IsMigration, IsOpening, IsTold}
-use Rattle.g_world.specs.Lines.{LineGives, Shuts, line_refused, now_stands, tells, up_with}
+use Rattle.g_world.specs.Events.{IsMigration, IsOpening, IsTold, IsProcessing}
+use Rattle.g_world.specs.Lines.{LineGives, Shuts, is_process, line_refused, now_stands, tells, up_with}
 use Rattle.g_world.specs.Moves.{Answered, Begin, Dumped, Move, Over, Step, TakeLine, Ticked, TurnOver}
-use Rattle.g_world.specs.Texts.{dump_text, started_text, tape_text}
-use Rattle.g_world.specs.World.{World}
-use Rattle.g_world.proofs.TreeLemmas.{dump_store, job_by, told_stands, told_up, turn_store}
+use Rattle.g_world.specs.Texts.{dump_text, started_text, tape_text, processed_text}
+use Rattle.g_world.specs.World.{World, shows}
+use Rattle.g_world.proofs.TreeLemmas.{dump_store, job_by, login_by, told_stands, told_up, turn_store, typed_by}
+use Rattle.g_job.specs.Terminal.{logged_out, typed_to}
 use Rattle.g_world_laws.specs.Dumps.{dump_steps}
-use Rattle.g_world_laws.specs.Reels.{AreGrown, CompletedDumpsStay, IsGrown}
+use Rattle.g_world_laws.specs.Reels.{AreGrown, CompletedDumpsStay, IsGrown, ProcessLeavesLists}
+use Rattle.g_world.specs.Laws.{takes_process}
+use Rattle.g_step.specs.Process.{ProcessStep}
+use Rattle.g_step.specs.ProcessLaws.{IsBefore, IsBehind, KeepsDumps, ProcessKeeps}
+use Rattle.std.specs.List.{AllZip}
+use Rattle.std.proofs.lemmas.Bool.{false≢true}
+use Rattle.g_script.specs.declared.operator.Timed.{Timed}
 
 -- a reel that is as it was, or was mounted, unmounted or written
 row_same : (n : ℕ) (r q : ReelRow) → q.serial ≡ r.serial → q.capacity ≡ r.capacity → q.dumps ≡ r.dumps → IsGrown n r q
@@ -137,25 +144,29 @@ turned_grows : (serial : ℕ) (b : Bool) (s : State) → (let t : State = record
 turned_grows serial b s = rows_with 0 serial (with_mounted b) (λ r. row_same 0 r (with_mounted b r) refl refl refl) s.reels
 
 -- A LINE
-line_grows : (o : Outcome) (what : Operator) (w new : World) → LineGives o what w new → Grows 0 w.store new.store
-line_grows o line.Format w new gives = rises_grows FormatStep (λ r. codes "FORMATTED") o w new (λ r s does. event_grows _ _ w.store _ r s (rows_itself 0 w.store.reels) does) w.store.up gives
-line_grows o line.Start w new gives = rises_grows StartStep started_text o w new (λ r s does. start_grows w.store w.store.holding o r s does) w.store.up gives
-line_grows o line.Restore w new gives =
+line_grows : (o : Outcome) (what : Operator) (w new : World) → is_process what ≡ false → LineGives o what w new → Grows 0 w.store new.store
+line_grows o (line.Process serial) w new isnt gives = absurd (false≢true (sym isnt))
+line_grows o line.Format w new isnt gives = rises_grows FormatStep (λ r. codes "FORMATTED") o w new (λ r s does. event_grows _ _ w.store _ r s (rows_itself 0 w.store.reels) does) w.store.up gives
+line_grows o line.Start w new isnt gives = rises_grows StartStep started_text o w new (λ r s does. start_grows w.store w.store.holding o r s does) w.store.up gives
+line_grows o line.Restore w new isnt gives =
     rises_grows RestoreStep (λ n. codes "RESTORED FROM DUMP " ++ decimal n) o w new (λ r s does. restore_grows w.store (restore_early w.store o) o r s does) w.store.up gives
-line_grows o line.Shut w new (plain, gives) = shut_by w new w.store.up gives
-line_grows o (line.Job name user time money lines) w new (plain, is) = quiet w new _ is (job_by o name user time money lines w w.store.up)
-line_grows o (line.Mount serial) w new (r, s, (plain, does), is) =
+line_grows o line.Shut w new isnt (plain, gives) = shut_by w new w.store.up gives
+line_grows o (line.Job name user time money lines) w new isnt (plain, is) = quiet w new _ is (job_by o name user time money lines w w.store.up)
+line_grows o (line.Mount serial) w new isnt (r, s, (plain, does), is) =
     told w new _ s is (told_stands (λ _. tape_text serial (codes "MOUNTED")) r s w) (event_grows _ _ w.store _ r s (turned_grows serial true w.store) does)
-line_grows o (line.Unmount serial) w new (r, s, (plain, does), is) =
+line_grows o (line.Unmount serial) w new isnt (r, s, (plain, does), is) =
     told w new _ s is (told_stands (λ _. tape_text serial (codes "UNMOUNTED")) r s w) (event_grows _ _ w.store _ r s (turned_grows serial false w.store) does)
-line_grows o (line.Dump serial) w new gives =
+line_grows o (line.Dump serial) w new isnt gives =
     needs_grows (λ r s. IsOpening w.store serial o r s) (λ n. dump_text n (codes "OPENED")) o w new
     (λ r s (k, holds, (places, noted, event), says_so). event_grows _ _ w.store _ r s (rows_itself 0 w.store.reels) event) w.store.up gives
-line_grows o (line.Migrate path) w new gives =
+line_grows o (line.Migrate path) w new isnt gives =
     needs_grows (λ r s. IsMigration w.store path o r s) (λ full. codes "MIGRATED " ++ full_text full) o w new
     (λ r s (k, holds, event, says_so). event_grows _ _ w.store _ r s (rows_itself 0 w.store.reels) event) w.store.up gives
-line_grows o (line.StopDisc k) w new (plain, is) = quiet w new _ is refl
-line_grows o (line.StopTape k) w new (plain, is) = quiet w new _ is refl
+line_grows o (line.StopDisc k) w new isnt (plain, is) = quiet w new _ is refl
+line_grows o (line.StopTape k) w new isnt (plain, is) = quiet w new _ is refl
+line_grows o (line.Login t user time) w new isnt (plain, is) = quiet w new _ is (login_by o t user time w w.store.up)
+line_grows o (line.Typed t text) w new isnt (plain, is) = quiet w new _ is (typed_by t (typed_to text) w w.store.up)
+line_grows o (line.Logout t) w new isnt (plain, is) = quiet w new _ is (typed_by t logged_out w w.store.up)
 
 -- A CALL leaves the reels
 either : (b : Bool) (t s : State) → t.reels ≡ s.reels → (if b then t else s).reels ≡ s.reels
@@ -206,23 +217,56 @@ module _ (d : OpenDump) where
   step_grows s k o (Err Stopped) new (cut, inr (last, inr is)) = as_rows s new _ (ap (λ (x : State). x.reels) is) (marked_grows s.reels)
   step_grows s k o (Err fault) new step = absurd step
 
+all_kept : (rs : List ReelRow) → AllZip KeepsDumps rs rs
+all_kept [] = tt
+all_kept (r ∷ rs) = (record { reel = record { serial = refl; capacity = refl; mounted = refl }; dumps = refl }, all_kept rs)
+
+same_head : (a b : Timed) (us vs : List Timed) → (let one : List Timed = a ∷ us in one ≡ b ∷ vs) → a ≡ b
+same_head a b us vs e = cc
+
+same_holding : (k h : Holding) → (let one : Option Holding = Some k in one ≡ Some h) → k ≡ h
+same_holding k h e = cc
+
 module _ {F U : Type 0} (tariffs : Shared F (Bor Usage × Unit {0}) Charge) (tariff : F) (rules : Shared U (Bor Standing × Unit {0}) ℕ) (rule : U) where
   -- A MOVE
-  move_grows : (w new : World) (move : Move) → Step tariffs tariff rules rule w move new → Grows (dump_steps move) w.store new.store
-  move_grows w new (TakeLine o) (next, rest, lines, between, idle, due, gives) = line_grows o next.what (record w { lines = rest }) new gives
-  move_grows w new (Dumped o) (between, idle, undue, dumping, (r, s, (k, d, holds, opened, step, says_so), is)) =
+  move_grows : (w new : World) (move : Move) → takes_process move ≡ false → Step tariffs tariff rules rule w move new → Grows (dump_steps move) w.store new.store
+  move_grows w new (TakeLine tape o) isnt (next, rest, lines, between, idle, due, is_tape, gives) =
+      line_grows o next.what (record w { lines = rest }) new (sym is_tape ∙ isnt) gives
+  move_grows w new (Dumped o) isnt (between, idle, undue, dumping, (r, s, (k, d, holds, opened, step, says_so), is)) =
       at_state 1 w.store s new.store (ap (λ (x : World). x.store) is ∙ dump_store _ r s w) (step_grows d w.store k o r s step)
-  move_grows w new (Begin number) (idle, undue, ready, (place, job, chosen, there, number_is, is)) = quiet w new _ is refl
-  move_grows w new (Answered o) (number, call, more, job, answer, s, asks, here, (k, holds, step, says_so), real, is) =
+  move_grows w new (Begin number) isnt (idle, undue, ready, (place, job, chosen, there, number_is, is)) = quiet w new _ is refl
+  move_grows w new (Answered o) isnt (number, call, more, job, answer, s, asks, here, (k, holds, step, says_so), real, is) =
       told w new _ s is refl (still 0 w.store s (call_leaves w.store k job.user call o (early w.store k job.user call o) answer s step))
-  move_grows w new (TurnOver number charge) (work, job, turn, after, asks, here, priced, ends, is) = quiet w new _ is (turn_store after turn w)
-  move_grows w new Ticked (idle, phase, is) = quiet w new _ is refl
-  move_grows w new Over (between, idle, lines, nothing, over, is) = quiet w new _ is refl
+  move_grows w new (TurnOver number charge) isnt (work, job, turn, after, asks, here, priced, ends, is) = quiet w new _ is (turn_store after turn (shows job after w))
+  move_grows w new Ticked isnt (idle, phase, is) = quiet w new _ is refl
+  move_grows w new Over isnt (between, idle, lines, nothing, over, is) = quiet w new _ is refl
 
   -- A RUN
   pub completed_stay : CompletedDumpsStay tariffs tariff rules rule
   completed_stay w last [] run = still 0 w.store last.store (ap (λ (x : World). x.store.reels) run)
-  completed_stay w last (move ∷ moves) (mid, step, run) =
+  completed_stay w last (move ∷ moves) (mid, isnt, step, run) =
       let both : sum_by dump_steps (move ∷ moves) ≡ dump_steps move + sum_by dump_steps moves = sum_by-cons dump_steps move moves in
       rows_then (dump_steps move) (sum_by dump_steps moves) (sum_by dump_steps (move ∷ moves)) (omega (arith, both)) w.store.reels mid.store.reels last.store.reels
-      (move_grows w mid move step) (completed_stay mid last moves run)
+      (move_grows w mid move isnt step) (completed_stay mid last moves run)
+
+  -- A PROCESS
+  leaves_lists : (keeps : ProcessKeeps) (w new : World) (o : Outcome) (what : Operator) (serial : ℕ) (k : Holding) → what ≡ line.Process serial → w.store.holding ≡ Some k → LineGives o what w new
+      → IsBefore w.store new.store ⊎ IsBehind w.store k serial new.store
+  leaves_lists keeps w new o what serial k is holds gives = by w.store.up (subst (λ (x : Operator). LineGives o x w new) is gives)
+    where
+      refused : (v : World) → new ≡ v → v.store ≡ w.store → IsBefore w.store new.store
+      refused v e same = subst (λ (x : State). IsBefore w.store x) (sym (ap (λ (x : World). x.store) e ∙ same)) (record { dumped = refl; reels = all_kept w.store.reels })
+
+      by : (b : Bool)
+          → MatchBool b ((r : Result ℕ StoreFault) × (s : State) × IsProcessing w.store serial o r s × (new ≡ tells (λ n t v. now_stands (processed_text serial n) t v) r s w)) ((o ≡ Plain) × (new ≡ line_refused NotStarted w))
+          → IsBefore w.store new.store ⊎ IsBehind w.store k serial new.store
+      by true (r, s, (h, has, step, says_so), e) =
+          let at_s : new.store ≡ s = ap (λ (x : World). x.store) e ∙ told_stands (processed_text serial) r s w in
+          let one : h ≡ k = same_holding h k (sym has ∙ holds) in
+          subst (λ (x : State). IsBefore w.store x ⊎ IsBehind w.store k serial x) (sym at_s)
+          (keeps.reels w.store k serial o r s (subst (λ (x : Holding). ProcessStep w.store x serial o r s) one step))
+      by false (plain, e) = inl (refused (line_refused NotStarted w) e refl)
+
+  pub process_leaves : ProcessKeeps → ProcessLeavesLists tariffs tariff rules rule
+  process_leaves keeps w new o next lines serial k are is holds (head, rest, same, between, idle, due, is_tape, gives) =
+      leaves_lists keeps (record w { lines = rest }) new o head.what serial k (ap (λ (t : Timed). t.what) (same_head head next rest lines (sym same ∙ are)) ∙ is) holds gives

@@ -75,13 +75,13 @@ line_low o what w new was low whole gives (inr e) = e
 
 module _ {F U : Type 0} (tariffs : Shared F (Bor Usage × Unit {0}) Charge) (tariff : F) (rules : Shared U (Bor Standing × Unit {0}) ℕ) (rule : U) (all : AllOrNothing tariffs tariff rules rule) where
   pub refused_leave : RefusedLinesLeave tariffs tariff rules rule
-  refused_leave w new o (next, rest, lines, between, idle, due, gives) refused =
-      line_low o next.what (record w { lines = rest }) new refused.was refused.is refused.whole gives (by (all w new (TakeLine o) (next, rest, lines, between, idle, due, gives)))
+  refused_leave w new tape o (next, rest, lines, between, idle, due, is_tape, gives) refused =
+      line_low o next.what (record w { lines = rest }) new refused.was refused.is refused.whole gives (by (all w new (TakeLine tape o) (next, rest, lines, between, idle, due, is_tape, gives)))
     where
-      behind : tree_behind w (TakeLine o) ≡ tree_by_line next.what w.store
+      behind : tree_behind w (TakeLine tape o) ≡ tree_by_line next.what w.store
       behind = ap (λ (ls : List Timed). tree_by_lines ls w.store) lines ∙ ap (λ (b : Bool). if b then tree_in w.store else tree_by_line next.what w.store) refused.was
 
-      by : (tree_in new.store ≡ tree_in w.store) ⊎ (tree_in new.store ≡ tree_behind w (TakeLine o)) → (tree_in new.store ≡ tree_in w.store) ⊎ (tree_in new.store ≡ tree_by_line next.what w.store)
+      by : (tree_in new.store ≡ tree_in w.store) ⊎ (tree_in new.store ≡ tree_behind w (TakeLine tape o)) → (tree_in new.store ≡ tree_in w.store) ⊎ (tree_in new.store ≡ tree_by_line next.what w.store)
       by (inl e) = inl e
       by (inr e) = inr (e ∙ behind)
 
@@ -90,8 +90,8 @@ module _ {F U : Type 0} (tariffs : Shared F (Bor Usage × Unit {0}) Charge) (tar
   left_by t u v (inr e) same = e ∙ same
 
   one_keeps : (w : World) (move : Move) (mid : World) → KeepsTree w move mid → Step tariffs tariff rules rule w move mid → tree_in mid.store ≡ tree_in w.store
-  one_keeps w (TakeLine o) mid (inl quiet) step = left_by (tree_in w.store) (tree_in mid.store) (tree_behind w (TakeLine o)) (all w mid (TakeLine o) step) quiet
-  one_keeps w (TakeLine o) mid (inr refused) step = refused_leave w mid o step refused
+  one_keeps w (TakeLine tape o) mid (inl quiet) step = left_by (tree_in w.store) (tree_in mid.store) (tree_behind w (TakeLine tape o)) (all w mid (TakeLine tape o) step) quiet
+  one_keeps w (TakeLine tape o) mid (inr refused) step = refused_leave w mid tape o step refused
   one_keeps w (Dumped o) mid quiet step = left_by (tree_in w.store) (tree_in mid.store) (tree_behind w (Dumped o)) (all w mid (Dumped o) step) quiet
   one_keeps w (Begin number) mid quiet step = left_by (tree_in w.store) (tree_in mid.store) (tree_behind w (Begin number)) (all w mid (Begin number) step) quiet
   one_keeps w (Answered o) mid quiet step = left_by (tree_in w.store) (tree_in mid.store) (tree_behind w (Answered o)) (all w mid (Answered o) step) quiet

@@ -24,7 +24,7 @@ use Rattle.g_step.specs.State.{State}
 use Rattle.g_world.specs.Accounts.{tree_of}
 use Rattle.g_world.specs.Laws.{IsTimed}
 use Rattle.g_world.specs.Moves.{Answered, Begin, Dumped, Move, Over, Run, Step, TakeLine, Ticked, TurnOver, turn_told}
-use Rattle.g_world.specs.World.{Turned, World, can_step, job_of, start}
+use Rattle.g_world.specs.World.{Turned, World, can_step, job_of, shows, start}
 use Rattle.g_world.proofs.AnswerLemmas.{call_plain}
 use Rattle.g_world.proofs.CrewLemmas.{listed, one_job}
 use Rattle.g_world.proofs.EndsLemmas.{begun, run_goes}
@@ -50,7 +50,7 @@ module _ {F U : Type 0} (tariffs : Shared F (Bor Usage × Unit {0}) Charge) (tar
     priced : IsPriced tariffs tariff work charge
     ends : turn_end job work charge ≡ Some (turn, next)
     kept : IsBehindCalls w before
-    told : new ≡ record (turn_told next turn before) { turn = None; phase = Turned }
+    told : new ≡ record (turn_told next turn (shows job next before)) { turn = None; phase = Turned }
     tree_is : tree_of new.store ≡ Some after
 
   -- the turn is over
@@ -77,8 +77,8 @@ module _ {F U : Type 0} (tariffs : Shared F (Bor Usage × Unit {0}) Charge) (tar
           text = ap (λ (x : World). x.text) same;
           count = ap (λ (x : World). x.count) same;
         };
-        told = told;
-        tree_is = ap (λ (x : World). tree_of x.store) told ∙ ap (λ (s : State). tree_of s) (turn_store next turn before) ∙ ap (λ (x : World). tree_of x.store) same ∙ there;
+        told = subst (λ (j : JobState). new ≡ record (turn_told next turn (shows j next before)) { turn = None; phase = Turned }) job_same told;
+        tree_is = ap (λ (x : World). tree_of x.store) told ∙ ap (λ (s : State). tree_of s) (turn_store next turn (shows job' next before)) ∙ ap (λ (x : World). tree_of x.store) same ∙ there;
       }
 
   module _ (plainly : AnswersPlainly) (keep : RefusalsKeep) (stops : StopsLeave) where
@@ -123,7 +123,7 @@ module _ {F U : Type 0} (tariffs : Shared F (Bor Usage × Unit {0}) Charge) (tar
     -- no other move comes within a turn
     one_within : (job : JobState) (tree : Tree) (number : ℕ) (asks : Asks Work) (ended : ℕ) (charge : Option Charge) (move : Move) (w mid before new : World) → w.turn ≡ Some (number, asks) → job_of w number ≡ Some job
         → tree_of w.store ≡ Some tree → IsWithin move → Step tariffs tariff rules rule w move mid → Rest number job mid before ended charge new → RestOf job tree number asks ended charge w before new
-    one_within job tree number asks ended charge (TakeLine o) w mid before new turn_is here there within (line, others, lines, between, idle, due, gives) rest = idle_turn w.turn (number, asks) turn_is idle
+    one_within job tree number asks ended charge (TakeLine tape o) w mid before new turn_is here there within (line, others, lines, between, idle, due, is_tape, gives) rest = idle_turn w.turn (number, asks) turn_is idle
     one_within job tree number asks ended charge (Dumped o) w mid before new turn_is here there within (between, idle, undue, dumping, step) rest = idle_turn w.turn (number, asks) turn_is idle
     one_within job tree number asks ended charge (Begin n) w mid before new turn_is here there within (idle, undue, ready, chosen) rest = idle_turn w.turn (number, asks) turn_is idle
     one_within job tree number asks ended charge (Answered o) w mid before new turn_is here there within step rest = answered job tree number asks ended charge w mid before new o turn_is here there step rest

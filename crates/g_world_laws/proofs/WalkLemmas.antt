@@ -7,6 +7,7 @@ use denote.Ref.{Bor}
 use Rattle.g_budget.specs.declared.tariff.Charge.{Charge}
 use Rattle.g_budget.specs.declared.tariff.Usage.{Usage}
 use Rattle.g_sched.specs.declared.rule.Standing.{Standing}
+use Rattle.g_job.specs.Terminal.{logged_out, typed_to}
 use Rattle.g_monitor.specs.Parts.{full_text}
 use Rattle.g_name.specs.declared.full.Full.{Full}
 use Rattle.g_plain.specs.declared.calls.StoreCall.{StoreCall}
@@ -18,14 +19,15 @@ use Rattle.g_script.specs.declared.operator.Operator.{Operator}
 use Rattle.g_script.specs.declared.operator.Operator.TheVariants as line
 use Rattle.g_step.specs.CallStep.{CallStep, Outcome, Plain, down}
 use Rattle.g_step.specs.DumpSteps.{MigrateStep, MountStep, OpenStep, UnmountStep}
+use Rattle.g_step.specs.Process.{ProcessStep}
 use Rattle.g_step.specs.Rising.{FormatStep, RestoreStep, StartStep}
 use Rattle.g_step.specs.State.{Holding, OpenDump, State}
-use Rattle.g_world.specs.Events.{IsMigration, IsOpening, IsTold}
+use Rattle.g_world.specs.Events.{IsMigration, IsOpening, IsProcessing, IsTold}
 use Rattle.g_world.specs.Lines.{LineGives, Shuts, line_refused, now_stands, tells, up_with}
 use Rattle.g_world.specs.Moves.{Answered, Begin, Dumped, Move, Over, Step, TakeLine, Ticked, TurnOver, outcome_of}
-use Rattle.g_world.specs.Texts.{dump_text, started_text, tape_text}
-use Rattle.g_world.specs.World.{World}
-use Rattle.g_world.proofs.TreeLemmas.{job_by, told_stands, told_up, turn_store}
+use Rattle.g_world.specs.Texts.{dump_text, processed_text, started_text, tape_text}
+use Rattle.g_world.specs.World.{World, shows}
+use Rattle.g_world.proofs.TreeLemmas.{job_by, login_by, told_stands, told_up, turn_store, typed_by}
 
 -- what is kept between a state and the next, at each event but a step of the open dump
 pub record AreKept (K : Outcome → State → State → Type 0) : Type 0 where
@@ -37,6 +39,7 @@ pub record AreKept (K : Outcome → State → State → Type 0) : Type 0 where
   pub mount : (s : State) (serial : ℕ) (r : Result (Unit {0}) StoreFault) (new : State) → MountStep s serial r new → K Plain s new
   pub unmount : (s : State) (serial : ℕ) (r : Result (Unit {0}) StoreFault) (new : State) → UnmountStep s serial r new → K Plain s new
   pub opening : (s : State) (k : Holding) (serial : ℕ) (o : Outcome) (r : Result ℕ StoreFault) (new : State) → s.up ≡ true → s.holding ≡ Some k → OpenStep s k serial o r new → IsTold o r → K o s new
+  pub process : (s : State) (k : Holding) (serial : ℕ) (o : Outcome) (r : Result ℕ StoreFault) (new : State) → s.up ≡ true → s.holding ≡ Some k → ProcessStep s k serial o r new → IsTold o r → K o s new
   pub migrate : (s : State) (k : Holding) (user : Option (List ℕ)) (full : Full) (o : Outcome) (r : Result Full StoreFault) (new : State) → s.holding ≡ Some k → MigrateStep s k user full o r new → IsTold o r → K o s new
   pub call : (s : State) (k : Holding) (who : List ℕ) (call : StoreCall) (o : Outcome) (answer : Result StoreReply StoreFault) (new : State) → s.holding ≡ Some k → CallStep s k who call o answer new → IsTold o answer
       → K o s new
@@ -94,20 +97,25 @@ module _ (K : Outcome → State → State → Type 0) (kept : AreKept K) where
       told o w new _ s is (told_stands (λ _. tape_text serial (codes "UNMOUNTED")) r s w) (as_plain o w.store s plain (kept.unmount w.store serial r s does))
   line_kept o (line.Dump serial) w new gives =
       needs_kept (λ r s. IsOpening w.store serial o r s) (λ n. dump_text n (codes "OPENED")) o w new (λ r s up (k, holds, does, so). kept.opening w.store k serial o r s up holds does so) w.store.up refl gives
+  line_kept o (line.Process serial) w new gives =
+      needs_kept (λ r s. IsProcessing w.store serial o r s) (processed_text serial) o w new (λ r s up (k, holds, does, so). kept.process w.store k serial o r s up holds does so) w.store.up refl gives
   line_kept o (line.Migrate path) w new gives =
       needs_kept (λ r s. IsMigration w.store path o r s) (λ full. codes "MIGRATED " ++ full_text full) o w new
       (λ r s up (k, holds, does, so). kept.migrate w.store k path.user (input_name k.tree [] path) o r s holds does so) w.store.up refl gives
   line_kept o (line.StopDisc k) w new (plain, is) = still o w new _ plain is refl
   line_kept o (line.StopTape k) w new (plain, is) = still o w new _ plain is refl
+  line_kept o (line.Login t user time) w new (plain, is) = still o w new _ plain is (login_by o t user time w w.store.up)
+  line_kept o (line.Typed t text) w new (plain, is) = still o w new _ plain is (typed_by t (typed_to text) w w.store.up)
+  line_kept o (line.Logout t) w new (plain, is) = still o w new _ plain is (typed_by t logged_out w w.store.up)
 
   module _ {F U : Type 0} (tariffs : Shared F (Bor Usage × Unit {0}) Charge) (tariff : F) (rules : Shared U (Bor Standing × Unit {0}) ℕ) (rule : U) where
     -- A MOVE that is no step of the open dump
     pub quiet_kept : (w new : World) (move : Move) → IsQuiet move → Step tariffs tariff rules rule w move new → K (outcome_of move) w.store new.store
-    quiet_kept w new (TakeLine o) quiet (next, rest, lines, between, idle, due, gives) = line_kept o next.what (record w { lines = rest }) new gives
+    quiet_kept w new (TakeLine tape o) quiet (next, rest, lines, between, idle, due, is_tape, gives) = line_kept o next.what (record w { lines = rest }) new gives
     quiet_kept w new (Dumped o) quiet step = absurd quiet
     quiet_kept w new (Begin number) quiet (idle, undue, ready, (place, job, chosen, there, number_is, is)) = still Plain w new _ refl is refl
     quiet_kept w new (Answered o) quiet (number, call, more, job, answer, s, asks, here, (k, holds, step, so), real, is) =
         told o w new _ s is refl (kept.call w.store k job.user call o answer s holds step so)
-    quiet_kept w new (TurnOver number charge) quiet (work, job, turn, after, asks, here, priced, ends, is) = still Plain w new _ refl is (turn_store after turn w)
+    quiet_kept w new (TurnOver number charge) quiet (work, job, turn, after, asks, here, priced, ends, is) = still Plain w new _ refl is (turn_store after turn (shows job after w))
     quiet_kept w new Ticked quiet (idle, phase, is) = still Plain w new _ refl is refl
     quiet_kept w new Over quiet (between, idle, lines, nothing, over, is) = still Plain w new _ refl is refl

@@ -1,5 +1,5 @@
--- WHOSE A FAILED WRITE IS: of the disc in every event but a step of the open dump, which writes a reel too. So where the disc's count didn't
--- rise, whatever the rack's did, no call and no line of a run was cut.
+-- WHOSE A FAILED WRITE IS: of the disc in every event but a step of the open dump and a PROCESS, which write reels too. So where the disc's
+-- count didn't rise, whatever the rack's did, no call of a run was cut, and no line of it but a PROCESS.
 use Rattle.std.specs.Prelude.{◌≡◌, ◌≢◌, true, List, All}
 use Rattle.g_base.specs.Counts.{Rose}
 use Rattle.g_step.specs.CallStep.{Cut}

@@ -23,7 +23,7 @@ StaysOrGoes d (Some e) = IsSameDump d e
 
 -- the steps of a dump in a move
 abbrev pub dump_steps : Move → ℕ
-dump_steps (TakeLine o) = 0
+dump_steps (TakeLine tape o) = 0
 dump_steps (Dumped o) = 1
 dump_steps (Begin number) = 0
 dump_steps (Answered o) = 0

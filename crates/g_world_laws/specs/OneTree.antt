@@ -36,7 +36,7 @@ pub record IsAnsweredOn (tree : Option Tree) (w : World) (after : Option Tree) (
 
 -- what a move makes of the tree: a line leaves it, or, FORMAT and RESTORE alone, puts its own there
 abbrev pub MovesOn : Move → Option Tree → World → Option Tree → World → Type 0
-MovesOn (TakeLine o) tree w after new = (after ≡ tree) ⊎ (after ≡ tree_behind w (TakeLine o))
+MovesOn (TakeLine tape o) tree w after new = (after ≡ tree) ⊎ (after ≡ tree_behind w (TakeLine tape o))
 MovesOn (Dumped o) tree w after new = after ≡ tree
 MovesOn (Begin number) tree w after new = after ≡ tree
 MovesOn (Answered o) tree w after new = IsAnsweredOn tree w after new

@@ -1,5 +1,5 @@
 -- LINES THAT ARE REFUSED while the system is down leave the tree; so behind a stop START has it, whatever was refused in between.
-use Rattle.std.specs.Prelude.{◌≡◌, ◌≢◌, ◌⊎◌, ℕ, true, false, List, [], ◌∷◌}
+use Rattle.std.specs.Prelude.{◌≡◌, ◌≢◌, ◌⊎◌, ℕ, Bool, true, false, List, [], ◌∷◌}
 use Rattle.std.specs.Fn.{Shared}
 use denote.Ref.{Bor}
 use Rattle.g_budget.specs.declared.tariff.Charge.{Charge}
@@ -20,12 +20,12 @@ pub record IsRefusedDown (w : World) (o : Outcome) (new : World) : Type 0 where
 
 -- a move that puts no other tree there, or such a line
 abbrev pub KeepsTree : World → Move → World → Type 0
-KeepsTree w (TakeLine o) new = LeavesTree w (TakeLine o) ⊎ IsRefusedDown w o new
+KeepsTree w (TakeLine tape o) new = LeavesTree w (TakeLine tape o) ⊎ IsRefusedDown w o new
 KeepsTree w move new = LeavesTree w move
 
 module _ {F U : Type 0} (tariffs : Shared F (Bor Usage × Unit {0}) Charge) (tariff : F) (rules : Shared U (Bor Standing × Unit {0}) ℕ) (rule : U) where
   abbrev pub RefusedLinesLeave : Type 0
-  RefusedLinesLeave = (w new : World) (o : Outcome) → Step tariffs tariff rules rule w (TakeLine o) new → IsRefusedDown w o new → tree_of new.store ≡ tree_of w.store
+  RefusedLinesLeave = (w new : World) (tape : Bool) (o : Outcome) → Step tariffs tariff rules rule w (TakeLine tape o) new → IsRefusedDown w o new → tree_of new.store ≡ tree_of w.store
 
   abbrev pub RunKeeping : World → List Move → World → Type 0
   RunKeeping w [] new = new ≡ w

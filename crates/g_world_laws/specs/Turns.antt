@@ -17,7 +17,7 @@ use Rattle.g_step.specs.State.{State}
 use Rattle.g_world.specs.Accounts.{tree_of}
 use Rattle.g_world.specs.Laws.{AreTimed}
 use Rattle.g_world.specs.Moves.{Begin, Move, Run, Step, TurnOver, turn_told}
-use Rattle.g_world.specs.World.{Turned, World, job_of, start}
+use Rattle.g_world.specs.World.{Turned, World, job_of, shows, start}
 
 -- a move within a turn
 abbrev pub IsWithin : Move → Type 0
@@ -34,7 +34,7 @@ pub record IsBehindCalls (w before : World) : Type 0 where
 
 module _ {F U : Type 0} (tariffs : Shared F (Bor Usage × Unit {0}) Charge) (tariff : F) (rules : Shared U (Bor Standing × Unit {0}) ℕ) (rule : U) where
   -- The turn's program was run on the tree that the turn met, and left the tree behind it (`RanPlainly`); the job is then, its monitoring file
-  -- with it, what the end of a turn makes of the work that the program gave; and a job that ends puts this file.
+  -- with it, what the end of a turn makes of the work that the program gave; what it added to a terminal's file is put, and a job that ends puts its file.
   pub record PrintsPlainly (w : World) (tree : Tree) (number : ℕ) (charge : Option Charge) (before new : World) : Type 0 where
     pub job : JobState
     pub job_is : job_of w number ≡ Some job
@@ -46,7 +46,7 @@ module _ {F U : Type 0} (tariffs : Shared F (Bor Usage × Unit {0}) Charge) (tar
     pub priced : IsPriced tariffs tariff work charge
     pub ends : turn_end job work charge ≡ Some (turn, next)
     pub kept : IsBehindCalls w before
-    pub told : new ≡ record (turn_told next turn before) { turn = None; phase = Turned }
+    pub told : new ≡ record (turn_told next turn (shows job next before)) { turn = None; phase = Turned }
     pub tree_is : tree_of new.store ≡ Some after
 
   -- EVERY TURN of every run, from its beginning to its end

@@ -12,7 +12,7 @@ ghost use Rattle.g_world_laws.specs.Fuses.{FusesGo, NumbersGo};
 ghost use Rattle.g_world_laws.specs.Later.{LaterRunsKeep, StartIsBehind};
 ghost use Rattle.g_world_laws.specs.Lost.{NothingIsLost};
 ghost use Rattle.g_world_laws.specs.OneTree.{RunsOnOneTree};
-ghost use Rattle.g_world_laws.specs.Reels.{CompletedDumpsStay};
+ghost use Rattle.g_world_laws.specs.Reels.{CompletedDumpsStay, ProcessLeavesLists};
 ghost use Rattle.g_world_laws.specs.Refused.{RefusedLinesLeave, StartStillHasTheTree};
 ghost use Rattle.g_world_laws.specs.Turns.{TurnsPrintPlainly};
 ghost use Rattle.g_world_laws.specs.Unrisen.{UnrisenIsPlain, UnrisenTextIsOne};
@@ -21,7 +21,7 @@ use g_budget::{Charge, Usage};
 use g_sched::Standing;
 use g_state::one_state;
 use g_state_laws::some_state;
-use g_step::step_is_plain;
+use g_step::{process_keeps_all, step_is_plain};
 use g_world::{dumps_come_to_an_end, text_is_one};
 
 /// A line that leaves the system down, and in which no write failed, leaves the tree: a FORMAT, START or RESTORE that was refused
@@ -60,8 +60,8 @@ pub fn dumps_take_their_needs<F: Fn(&Usage) -> Charge, U: Fn(&Standing) -> u64>(
     dumps_come_to_an_end::<F, U>();
 }
 
-/// In a run each reel keeps its completed dumps, in their order, and others come behind them alone: at most one for each step of a
-/// dump.
+/// In a run without a PROCESS each reel keeps its completed dumps, in their order, and others come behind them alone: at most one for
+/// each step of a dump.
 pub fn completed_dumps_stay<F: Fn(&Usage) -> Charge, U: Fn(&Standing) -> u64>()
     ensures { (tariff : F) (rule : U) → CompletedDumpsStay F.Fn tariff U.Fn rule }
 {}
@@ -131,7 +131,8 @@ pub fn filestores_stay<F: Fn(&Usage) -> Charge, U: Fn(&Standing) -> u64>()
     ensures devices { (tariff : F) (rule : U) → DevicesKeepFilestores F.Fn tariff U.Fn rule }
 {}
 
-/// Where the disc counted no failed write, no call and no line of a run was cut: a reel's failed write cuts a step of a dump alone.
+/// Where the disc counted no failed write, no call of a run was cut, and no line but a PROCESS: a reel's failed write cuts a step of a
+/// dump and a PROCESS alone.
 pub fn tapes_cut_no_call()
     ensures { TapesCutNoCall }
 {}
@@ -141,3 +142,11 @@ pub fn fuses_go_by_lines()
     ensures fuses { FusesGo }
     ensures numbers { NumbersGo }
 {}
+
+/// A PROCESS leaves the completed dumps of before; or its own dump stands whole on its reel, of the tree that there is, and of the
+/// other reels some have none any more.
+pub fn process_leaves_lists<F: Fn(&Usage) -> Charge, U: Fn(&Standing) -> u64>()
+    ensures { (tariff : F) (rule : U) → ProcessLeavesLists F.Fn tariff U.Fn rule }
+{
+    process_keeps_all();
+}

@@ -1,36 +1,16 @@
-use Rattle.g_job.specs.declared.turn.Turn.TheVariants as turns
-use Rattle.g_run.proofs.EndedLemmas.{ends_by}
-use Rattle.g_run.proofs.TurningLemmas.{unbroken}
+-- By whether the job is at a terminal.
+use Rattle.std.proofs.Common.{None, Option, Some, subst, ℕ}
+use Rattle.g_run.specs.Turning.{EndsTurn, ShowsAs, added_of}
+use Rattle.g_run.proofs.EndedLemmas.{shows_none, shows_some}
 use Rattle.g_run.proofs.ending.end_turn.Goals as goal
 
-pub waits-requires : goal.waits-requires
-waits-requires g c = record { running = unbroken c.args.turn c.args.up.store c.requires.stopped (λ e. let is = c.in-Wants.is in let no : ⊥ = cc in no) }
+pub end_untold-requires-clause-there : goal.end_untold-requires-clause-there
+end_untold-requires-clause-there g c =
+    let (job, there, shows) = c.requires.there in
+    (job, there, shows_none job.terminal (subst (λ (o : Option ℕ). ShowsAs o job.terminal) c.in-None.is shows))
 
-pub goes_on-requires : goal.goes_on-requires
-goes_on-requires g c = record { running = unbroken c.args.turn c.args.up.store c.requires.stopped (λ e. let is = c.in-Ran.is in let no : ⊥ = cc in no) }
-
-pub ends-requires-clause-running : goal.ends-requires-clause-running
-ends-requires-clause-running g c = unbroken c.args.turn c.args.up.store c.requires.stopped (λ e. let is = c.in-Ended.is in let no : ⊥ = cc in no)
-
-pub returns-in-Broken-clause-ends : goal.returns-in-Broken-clause-ends
-returns-in-Broken-clause-ends g c =
-    ends_by c.args.up.count c.args.number c.args.up.store c.args.up.crew turns.Broken c.args.turn c.stops.result.failure c.stops.result.day.system c.stops.result.day.crew
-    (g.K.Sink.written c.args.out.now) (g.K.Sink.written c.stops.new.out) (g.K.Sink.faults c.args.out.now) (g.K.Sink.faults c.stops.new.out)
-    c.in-Broken.is c.stops.ensures.ends
-
-pub returns-in-Wants-clause-ends : goal.returns-in-Wants-clause-ends
-returns-in-Wants-clause-ends g c =
-    ends_by c.args.up.count c.args.number c.args.up.store c.args.up.crew (turns.Wants c.in-Wants.serial) c.args.turn c.waits.result.failure c.waits.result.day.system c.waits.result.day.crew
-    (g.K.Sink.written c.args.out.now) (g.K.Sink.written c.waits.new.out) (g.K.Sink.faults c.args.out.now) (g.K.Sink.faults c.waits.new.out)
-    c.in-Wants.is c.waits.ensures.goes
-
-pub returns-in-Ran-clause-ends : goal.returns-in-Ran-clause-ends
-returns-in-Ran-clause-ends g c =
-    ends_by c.args.up.count c.args.number c.args.up.store c.args.up.crew _ c.args.turn c.goes_on.result.failure c.goes_on.result.day.system c.goes_on.result.day.crew _ _ _ _
-    c.in-Ran.is (c.goes_on.ensures.goes _ _)
-
-pub returns-in-Ended-clause-ends : goal.returns-in-Ended-clause-ends
-returns-in-Ended-clause-ends g c =
-    ends_by c.args.up.count c.args.number c.args.up.store c.args.up.crew _ c.args.turn c.ends.result.failure c.ends.result.day.system c.ends.result.day.crew
-    (g.K.Sink.written c.args.out.now) (g.K.Sink.written c.ends.new.out) (g.K.Sink.faults c.args.out.now) (g.K.Sink.faults c.ends.new.out)
-    c.in-Ended.is c.ends.ensures.ends
+pub end_shown-requires-clause-there : goal.end_shown-requires-clause-there
+end_shown-requires-clause-there g c =
+    let (job, there, shows) = c.requires.there in
+    let (t, at) = shows_some c.in-Some.before job.terminal (subst (λ (o : Option ℕ). ShowsAs o job.terminal) c.in-Some.is shows) in
+    (job, t, there, at)

@@ -5,6 +5,7 @@ use Rattle.g_demo.specs.declared.words.Asked.TheVariants as asked
 use Rattle.g_lines.specs.Lines.{lines_of}
 use Rattle.g_script.specs.Script.{IsParsed}
 use Rattle.g_run.proofs.FilestoreLemmas.{keeps_filestore}
+use Rattle.g_run.proofs.KeepLemmas.{stay_as}
 use Rattle.g_run.proofs.ReadingLemmas.{parsed_few, parsed_within}
 use Rattle.g_run.proofs.TopLemmas.{arms_as, cut_words, demo_found, ends_as, of_words, quiet_words}
 use Rattle.g_run.proofs.top.george.Goals as goal
@@ -22,6 +23,15 @@ returns-clause-arms g c = λ run left told lines bad is.
     let parsed = subst (λ bytes. IsParsed (lines_of bytes) c.in-Ok-parse_script.parsed.lines c.in-Ok-parse_script.parsed.bad) (c.deref.ensures.value ∙ all.0) c.in-Ok-parse_script.ensures in
     rw c.run_status.ensures
     (arms_as left lines c.in-Ok-parse_script.parsed.lines bad c.in-Ok-parse_script.parsed.bad c.run_boxed-disc.result.failure _ _ parsed is c.run_boxed-disc.ensures.arms)
+
+pub returns-clause-dumps : goal.returns-clause-dumps
+returns-clause-dumps g c = λ both. (c.run_boxed-disc.ensures.dumps both).move
+
+pub returns-clause-stay : goal.returns-clause-stay
+returns-clause-stay g c = λ both left told lines bad is none.
+    let all = c.in-Ok.ensures.all left told in
+    let parsed = subst (λ bytes. IsParsed (lines_of bytes) c.in-Ok-parse_script.parsed.lines c.in-Ok-parse_script.parsed.bad) (c.deref.ensures.value ∙ all.0) c.in-Ok-parse_script.ensures in
+    stay_as left lines c.in-Ok-parse_script.parsed.lines bad c.in-Ok-parse_script.parsed.bad _ _ parsed is (c.run_boxed-disc.ensures.dumps both) none
 
 pub returns-clause-stands : goal.returns-clause-stands
 returns-clause-stands g c = λ both has.

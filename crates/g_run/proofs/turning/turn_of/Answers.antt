@@ -1,18 +1,23 @@
-use Rattle.std.proofs.Common.{Ok, Result, ap}
+use Rattle.std.proofs.Common.{subst, ap}
 use Rattle.g_base.specs.declared.memory.NoMemory.{NoMemory}
 use Rattle.g_console.specs.System.{facts_of}
 use Rattle.g_crew.specs.Crew.{CrewState}
-use Rattle.g_job.specs.declared.turn.Turn.{Turn}
-use Rattle.g_run.proofs.EndedLemmas.{there_behind, took_part, took_whole}
+use Rattle.g_run.specs.Turning.{EndsTurn, ShowsAs, added_of}
+use Rattle.g_run.proofs.EndedLemmas.{added_is, shows_as, there_behind, took_part, took_whole}
 use Rattle.g_run.proofs.turning.turn_of.Goals as goal
+use Rattle.std.specs.Prelude.{List, Option, ℕ, ◌∙◌, sym}
 
 pub returns-in-Ok-clause-turn : goal.returns-in-Ok-clause-turn
 returns-in-Ok-clause-turn g c =
-    let (job, after, there, takes, crew) = c.in-Ok.ensures.ok in
-    took_whole g.F.Fn c.args.tariff.now c.args.up.store c.turn.new.store c.args.up.crew c.turn.new.self c.args.up.count c.args.number c.in-Ok.turn c.end_turn.result.failure
+    let (job, after, there, takes, crew, shown) = c.in-Ok.ensures.ok in
+    let here = there_behind c.args.number c.args.up.crew.jobs job after there takes.spends.0 _ (ap (λ (k : CrewState). k.jobs) crew) in
+    let is = ap (λ (o : Option ℕ). added_of o after) shown ∙ added_is job after takes.seat.0 in
+    took_whole g.F.Fn c.args.tariff.now c.args.up.store c.turn.new.store c.args.up.crew c.turn.new.self c.args.up.count c.args.number c.in-Ok.taken.turn c.end_turn.result.failure
     c.end_turn.result.day.system c.end_turn.result.day.crew
     (g.K.Sink.written c.args.out.now) (g.K.Sink.written c.end_turn.new.out) (g.K.Sink.faults c.args.out.now) (g.K.Sink.faults c.end_turn.new.out) job after there takes crew c.in-Ok.ensures.stopped
-    (λ serial e. c.in-Ok.ensures.waits serial (ap (λ (t : Turn). let r : Result Turn NoMemory = Ok t in r) e)) c.end_turn.ensures.ends
+    c.in-Ok.ensures.waits
+    (subst (λ (l : List ℕ). EndsTurn c.args.up.count c.args.number c.turn.new.store c.turn.new.self l c.in-Ok.taken.turn c.end_turn.result.failure c.end_turn.result.day.system c.end_turn.result.day.crew
+    (g.K.Sink.written c.args.out.now) (g.K.Sink.written c.end_turn.new.out) (g.K.Sink.faults c.args.out.now) (g.K.Sink.faults c.end_turn.new.out)) is (c.end_turn.ensures.ends after here))
 
 pub returns-in-Err-clause-turn : goal.returns-in-Err-clause-turn
 returns-in-Err-clause-turn g c =
@@ -21,4 +26,8 @@ returns-in-Err-clause-turn g c =
 
 pub end_turn-requires-clause-there : goal.end_turn-requires-clause-there
 end_turn-requires-clause-there g c =
-    let (job, after, there, takes, crew) = c.in-Ok.ensures.ok in (after, there_behind c.args.number c.args.up.crew.jobs job after there takes.spends.0 _ (ap (λ (k : CrewState). k.jobs) crew))
+    let (job, after, there, takes, crew, shown) = c.in-Ok.ensures.ok in (
+      after,
+      there_behind c.args.number c.args.up.crew.jobs job after there takes.spends.0 _ (ap (λ (k : CrewState). k.jobs) crew),
+      subst (λ (o : Option ℕ). ShowsAs o after.terminal) (sym shown) (shows_as job after takes.seat.0),
+    )

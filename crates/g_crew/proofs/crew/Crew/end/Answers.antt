@@ -8,7 +8,10 @@ use Rattle.g_crew.specs.Numbers.{job_in}
 use Rattle.g_crew.specs.declared.account.Account.{Account}
 use Rattle.g_crew.proofs.AccountLemmas.{AreKept-settled, charged-whole}
 use Rattle.g_crew.proofs.NumberLemmas.{AreJobs-remove, IsOnly-at, without-none}
+use Rattle.g_crew.specs.Seating.{seats_in}
+use Rattle.g_crew.proofs.SeatLemmas.{seats-without}
 use Rattle.g_crew.proofs.crew.Crew.end.Goals as goal
+use Rattle.g_mop.specs.Seats.{without_seat}
 use Rattle.g_world.specs.World.{without_job}
 
 pub returns-in_default-clause-jobs : goal.returns-in_default-clause-jobs
@@ -24,16 +27,20 @@ remove-job-requires c =
 pub invariant_of-self : goal.invariant_of-self
 invariant_of-self c =
     let p = c.in-Some.ensures in
-    rw c.remove-job.ensures.items
-    (AreJobs-remove c.self.inside.jobs.items c.self.inside.next_job c.in-Some.place p.job c.self.invariant
-    (ap (λ (js : List JobState). slice_get js c.in-Some.place) (sym c.deref.ensures.value) ∙ p.there))
+    let items = c.self.inside.jobs.items in
+    let there : slice_get items c.in-Some.place ≡ Some p.job = ap (λ (js : List JobState). slice_get js c.in-Some.place) (sym c.deref.ensures.value) ∙ p.there in
+    let only = IsOnly-at 1 items c.self.inside.next_job c.in-Some.place p.job c.self.invariant.0.rise there in
+    rw c.remove-job.ensures.items (
+      AreJobs-remove items c.self.inside.next_job c.in-Some.place p.job c.self.invariant.0 there,
+      c.get_up.ensures ∙ ap (without_seat c.args.number) c.self.invariant.1 ∙ sym (seats-without c.args.number items) ∙ ap seats_in (ap (λ n. without_job n items) (sym p.named) ∙ only.gone),
+    )
 
 pub returns-clause-job : goal.returns-clause-job
 returns-clause-job c =
     let p = c.in-Some.ensures in
     let items = c.self.inside.jobs.items in
     let there : slice_get items c.in-Some.place ≡ Some p.job = ap (λ (js : List JobState). slice_get js c.in-Some.place) (sym c.deref.ensures.value) ∙ p.there in
-    let only = IsOnly-at 1 items c.self.inside.next_job c.in-Some.place p.job c.self.invariant.rise there in
+    let only = IsOnly-at 1 items c.self.inside.next_job c.in-Some.place p.job c.self.invariant.0.rise there in
     let same : c.remove-job.result ≡ p.job = c.remove-job.ensures.value ∙ get_or_from_slice_get items c.in-Some.place p.job c.remove-job.result there in
     ap (λ (j : JobState). let o : Option JobState = Some j in o) same ∙ sym only.found ∙ ap (λ n. job_in n items) p.named ∙ ap (λ (v : CrewState). job_in c.args.number v.jobs) c.self.view_is
 
@@ -42,7 +49,7 @@ returns-clause-jobs c =
     let p = c.in-Some.ensures in
     let items = c.self.inside.jobs.items in
     let there : slice_get items c.in-Some.place ≡ Some p.job = ap (λ (js : List JobState). slice_get js c.in-Some.place) (sym c.deref.ensures.value) ∙ p.there in
-    let only = IsOnly-at 1 items c.self.inside.next_job c.in-Some.place p.job c.self.invariant.rise there in
+    let only = IsOnly-at 1 items c.self.inside.next_job c.in-Some.place p.job c.self.invariant.0.rise there in
     c.remove-job.ensures.items ∙ sym only.gone ∙ ap (λ n. without_job n items) p.named ∙ ap (λ (v : CrewState). without_job c.args.number v.jobs) c.self.view_is
 
 pub returns-clause-settled : goal.returns-clause-settled

@@ -1,0 +1,40 @@
+use Rattle.std.proofs.Common.{List, [], append-nil, ap, subst, sym, ◌++◌, ◌∙◌, ℕ}
+use Rattle.std.specs.Prelude.{codes}
+use Rattle.std.specs.Fmt.{decimal}
+use Rattle.g_crew.specs.Seating.{pushed_of}
+use Rattle.g_job.specs.declared.turn.Turn.TheVariants as turns
+use Rattle.g_run.specs.Turning.{GoesOn}
+use Rattle.g_run.proofs.EndedLemmas.{ends_by, no_file, shown_is}
+use Rattle.g_run.proofs.TurningLemmas.{unbroken}
+use Rattle.g_run.proofs.showing.end_shown.Goals as goal
+use Rattle.g_world.specs.Texts.{job_text, operator_line}
+
+pub shown-requires : goal.shown-requires
+shown-requires g c = let (job, t, there, at) = c.requires.there in (job, there)
+
+pub returns-in-Broken-clause-ends : goal.returns-in-Broken-clause-ends
+returns-in-Broken-clause-ends g c = λ job found.
+    ends_by c.args.up.count c.args.number c.args.up.store c.args.up.crew (pushed_of job c.args.before) turns.Broken c.args.turn c.stops.result.failure c.stops.result.day.system c.stops.result.day.crew
+    (g.K.Sink.written c.args.out.now) (g.K.Sink.written c.stops.new.out) (g.K.Sink.faults c.args.out.now) (g.K.Sink.faults c.stops.new.out)
+    c.in-Broken.is (c.stops.ensures.ends (pushed_of job c.args.before) (shown_is c.shown-made.result c.args.number c.args.before c.args.up.crew.jobs job c.shown-made.ensures found))
+
+pub ends-requires-clause-running : goal.ends-requires-clause-running
+ends-requires-clause-running g c = unbroken c.args.turn c.args.up.store c.requires.stopped (λ e. let is = c.in-Ended.is in let no : ⊥ = cc in no)
+
+pub ends-requires-clause-there : goal.ends-requires-clause-there
+ends-requires-clause-there g c = let (job, t, there, at) = c.requires.there in (job, there)
+
+pub returns-in-Ended-clause-ends : goal.returns-in-Ended-clause-ends
+returns-in-Ended-clause-ends g c = λ job found.
+    let (one, t, there, at) = c.requires.there in
+    let (gone, mid, out, on) = c.ends.ensures.ends (pushed_of job c.args.before) (shown_is c.shown-made.result c.args.number c.args.before c.args.up.crew.jobs job c.shown-made.ensures found) in
+    ends_by c.args.up.count c.args.number c.args.up.store c.args.up.crew (pushed_of job c.args.before) _ c.args.turn c.ends.result.failure c.ends.result.day.system c.ends.result.day.crew
+    (g.K.Sink.written c.args.out.now) (g.K.Sink.written c.ends.new.out) (g.K.Sink.faults c.args.out.now) (g.K.Sink.faults c.ends.new.out)
+    c.in-Ended.is (
+      gone,
+      mid,
+      out,
+      subst (λ (l : List ℕ). GoesOn c.args.up.store l mid c.ends.result.failure c.ends.result.day.system c.ends.result.day.crew
+          (g.K.Sink.written c.args.out.now) (g.K.Sink.written c.ends.new.out) (g.K.Sink.faults c.args.out.now) (g.K.Sink.faults c.ends.new.out))
+          (sym (ap (λ (l : List ℕ). pushed_of job c.args.before ++ l) (no_file c.args.number t c.args.up.crew mid gone one out there at) ∙ append-nil (pushed_of job c.args.before))) on,
+    )

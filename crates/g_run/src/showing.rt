@@ -1,0 +1,159 @@
+//! What becomes of a terminal's job behind its turn: what the turn has written on its file is put at once, in one text with what
+//! is told of it.
+ghost use Rattle.std.specs.Prelude.{◌≡◌, ◌↔◌, ◌++◌, ℕ, List, Option, Some, IfOk, codes, true, false};
+ghost use Rattle.std.specs.Fmt.{decimal};
+ghost use Rattle.g_crew.specs.Crew.{CrewState};
+ghost use Rattle.g_crew.specs.Numbers.{job_in};
+ghost use Rattle.g_crew.specs.Seating.{pushed_of};
+ghost use Rattle.g_job.specs.State.{JobState};
+ghost use Rattle.g_world.specs.Texts as texts;
+ghost use Rattle.g_world.specs.Texts.{operator_line};
+ghost use Rattle.g_run.specs.Turning.{EndsTurn, GoesDown, GoesOn, TakenOut};
+
+use crate::day_up::DayUp;
+use crate::ending::wants;
+use g_base::NoMemory;
+use g_console::{Day, Ended, Failure, System, put_made, stops_behind};
+use g_crew::{Crew, push_operator_line};
+use g_disc::Disc;
+use g_io::Sink;
+use g_job::Turn;
+use g_name::Text;
+use g_tape::Tapes;
+use std::alloc::Global;
+
+/// The turn of a terminal's job of this number is over, whose file had so many bytes before.
+pub(crate) fn end_shown<K: Sink, D: Disc, T: Tapes>(
+    alloc: Global,
+    up: DayUp<D, T>,
+    number: u64,
+    before: usize,
+    turn: Turn,
+    out: &mut K,
+) -> Ended<D, T>
+    requires stopped { (up.store.spent ≡ true) ↔ (turn ≡ Turn.Broken) }
+    requires there { (job : JobState) × (terminal : ℕ) × (job_in number up.crew.jobs ≡ Some job) × (job.terminal ≡ Some terminal) }
+    ensures ends { (job : JobState) → job_in number up.crew.jobs ≡ Some job
+        → EndsTurn up.count number up.store up.crew (pushed_of job before) turn result.failure result.day.system result.day.crew
+        (K.written out.old) (K.written out.new) (K.faults out.old) (K.faults out.new) }
+    ensures count { result.day.count ≡ up.count }
+{
+    let made = shown(alloc, &up.crew, number, before);
+    match turn {
+        Turn::Broken => stops(up, made, out),
+        Turn::Wants { serial } => {
+            let count = up.count;
+            let told = wants_behind(alloc, made, count, number, serial);
+            goes_on(up, told, out)
+        }
+        Turn::Ran { .. } => goes_on(up, made, out),
+        Turn::Ended { .. } => ends(up, number, made, out),
+    }
+}
+
+/// What the turn has written on the file, as it is put.
+fn shown(alloc: Global, crew: &Crew, number: u64, before: usize) -> Result<Text, NoMemory>
+    requires { (job : JobState) × (job_in number crew.now.jobs ≡ Some job) }
+    ensures { IfOk result (λ text. (job : JobState) → job_in number crew.now.jobs ≡ Some job → text ≡ pushed_of job before) }
+{
+    let mut text = Text::new(alloc);
+    crew.push_shown(&mut text, number, before)?;
+    Ok(text)
+}
+
+/// The same, and that the job waits.
+fn wants_behind(
+    alloc: Global,
+    made: Result<Text, NoMemory>,
+    count: u64,
+    number: u64,
+    serial: u32,
+) -> Result<Text, NoMemory>
+    ensures { (text : List ℕ) → IfOk made (λ t. t ≡ text)
+        → IfOk result (λ t. t ≡ text ++ operator_line count (texts.job_text number (codes "WANTS TAPE " ++ decimal serial))) }
+{
+    let mut text = made?;
+    let what = wants(alloc, number, serial)?;
+    push_operator_line(&mut text, count, what.as_slice())?;
+    Ok(text)
+}
+
+/// The system was stopped.
+fn stops<K: Sink, D: Disc, T: Tapes>(
+    up: DayUp<D, T>,
+    made: Result<Text, NoMemory>,
+    out: &mut K,
+) -> Ended<D, T>
+    ensures ends { (text : List ℕ) → IfOk made (λ t. t ≡ text)
+        → GoesDown up.store text up.count up.crew result.failure result.day.system result.day.crew
+        (K.written out.old) (K.written out.new) (K.faults out.old) (K.faults out.new) }
+    ensures count { result.day.count ≡ up.count }
+{
+    let DayUp { store, crew, count } = up;
+    let day = Day {
+        system: System::Up(store),
+        crew,
+        count,
+    };
+    stops_behind(day, made, out)
+}
+
+/// Accounts open for users that the turn has made, and a text is put.
+fn goes_on<K: Sink, D: Disc, T: Tapes>(
+    up: DayUp<D, T>,
+    made: Result<Text, NoMemory>,
+    out: &mut K,
+) -> Ended<D, T>
+    requires running { up.store.spent ≡ false }
+    ensures goes { (text : List ℕ) → IfOk made (λ t. t ≡ text)
+        → GoesOn up.store text up.crew result.failure result.day.system result.day.crew
+        (K.written out.old) (K.written out.new) (K.faults out.old) (K.faults out.new) }
+    ensures count { result.day.count ≡ up.count }
+{
+    let DayUp {
+        store,
+        mut crew,
+        count,
+    } = up;
+    match crew.open_accounts(store.users()) {
+        Ok(()) => {
+            let failure = put_made(out, made);
+            let day = Day {
+                system: System::Up(store),
+                crew,
+                count,
+            };
+            Ended { day, failure }
+        }
+        Err(NoMemory) => Ended {
+            day: Day {
+                system: System::Up(store),
+                crew,
+                count,
+            },
+            failure: Some(Failure::Memory),
+        },
+    }
+}
+
+/// The job of this number has ended: it is taken out, and the end of its file put.
+fn ends<K: Sink, D: Disc, T: Tapes>(
+    up: DayUp<D, T>,
+    number: u64,
+    made: Result<Text, NoMemory>,
+    out: &mut K,
+) -> Ended<D, T>
+    requires running { up.store.spent ≡ false }
+    requires there { (job : JobState) × (job_in number up.crew.jobs ≡ Some job) }
+    ensures ends { (text : List ℕ) → IfOk made (λ t. t ≡ text)
+        → (job : JobState) × (mid : CrewState) × TakenOut job number up.crew mid
+        × GoesOn up.store text mid result.failure result.day.system result.day.crew
+        (K.written out.old) (K.written out.new) (K.faults out.old) (K.faults out.new) }
+    ensures count { result.day.count ≡ up.count }
+{
+    let mut up = up;
+    match up.crew.end(number) {
+        Some(_job) => goes_on(up, made, out),
+        None => unreachable!(),
+    }
+}
