@@ -1,6 +1,6 @@
 //! The rule about the bytes of a version, which lie at up to three places.
 ghost use Rattle.std.specs.List.{list_any};
-ghost use Rattle.std.specs.Prelude.{◌≡◌, ◌≢◌, ◌==◌, ◌⊎◌, ℕ, ◌<◌, All, Contains, Err, IfErr, IfNone, IfOk, IfSome, List, OnErr, length, Some, true};
+ghost use Rattle.std.specs.Prelude.{◌≡◌, ◌≢◌, ◌==◌, ◌⊎◌, ℕ, ◌<◌, All, Contains, Err, IfErr, IfNone, IfOk, IfSome, List, OnErr, length, None, Some, true};
 ghost use Rattle.g_copy.specs.Copy.{IsCopy};
 ghost use Rattle.g_copy.specs.declared.copy.DiscCopy.{DiscCopy};
 ghost use Rattle.g_disc.specs.Disc.{ReadsByCause};
@@ -150,6 +150,7 @@ pub(crate) fn file_text<D: Disc>(
     ensures text { IfOk result (IsDiscText (D.state disc.old).held (copy_at online.now number)) }
     ensures long { IfOk result (λ text. IfSome text (λ bytes. (c : DiscCopy)
         × (copy_at online.now number ≡ Some c) × (length bytes ≡ c.len))) }
+    ensures none { IfOk result (λ text. IfNone text (copy_at online.now number ≡ None)) }
     ensures disc { ReadsByCause (result ≡ Err LookFault.DiscUnread) (D.state disc.old) (D.state disc.new) }
     ensures only { OnErr result ((result ≡ Err LookFault.DiscUnread) ⊎ (result ≡ Err LookFault.NoMemory)) }
 {
