@@ -9,9 +9,11 @@ pub mod HeadLemmas
 pub mod JudgeLemmas
 pub mod LoopLemmas
 pub mod LostLemmas
+pub mod NamedLemmas
 pub mod NumberLemmas
 pub mod PushLemmas
 pub mod RackLemmas
+pub mod ReadLemmas
 pub mod RecLemmas
 pub mod SeenLemmas
 pub mod ShelfLemmas

@@ -6,6 +6,7 @@ pub mod Listed
 pub mod Lists
 pub mod Looks
 pub mod Numbers
+pub mod Reads
 pub mod Recs
 pub mod Rules
 pub mod Seen
