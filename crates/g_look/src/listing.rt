@@ -155,7 +155,13 @@ fn push_numbered(
     match tree.file_at(number) {
         Some(file) => {
             let full = full_of(tree.users(), file);
-            push_line(text, &full, tree.users(), file, &copy_at(online, file.number))
+            push_line(
+                text,
+                &full,
+                tree.users(),
+                file,
+                &copy_at(online, file.number),
+            )
         }
         None => Ok(()),
     }
