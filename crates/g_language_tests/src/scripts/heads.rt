@@ -1,10 +1,10 @@
 //! First lines, good and bad.
 use super::read;
-use std::alloc::Global;
+use std::alloc::{AllocError, Global};
 use std::test::Fail;
 
 /// Scripts of one line, and whether it is one.
-static LINES: [(&[u8], bool); 48] = [
+static LINES: [(&[u8], bool); 92] = [
     (b"0 FORMAT\n", true),
     (b"0 START", true),
     (b"1000000000 RESTORE\n", true),
@@ -16,6 +16,15 @@ static LINES: [(&[u8], bool); 48] = [
     (b"5 MIGRATE :A.F(4095/ABCD)\n", true),
     (b"5 STOP DISC 1\n", true),
     (b"5 STOP TAPE 1000000000\n", true),
+    (b"5 PROCESS 1\n", true),
+    (b"5 PROCESS 999999\n", true),
+    (b"5 LOGIN 1,:MASTER,TIME 1\n", true),
+    (b"5 LOGIN 8,:ABCDEFGHIJKL,TIME 1000000\n", true),
+    (b"5 TYPE 1,\n", true),
+    (b"5 TYPE 8, A,B \n", true),
+    (b"5 TYPE 1,****\n", true),
+    (b"5 LOGOUT 1\n", true),
+    (b"5 LOGOUT 8\n", true),
     (b"\n", false),
     (b" \n", false),
     (b"0\n", false),
@@ -52,6 +61,41 @@ static LINES: [(&[u8], bool); 48] = [
     (b"0 STOP DISC 1000000001\n", false),
     (b"0 STOP TAPE 0\n", false),
     (b"0 STOP REEL 1\n", false),
+    (b"0 PROCESS\n", false),
+    (b"0 PROCESS 0\n", false),
+    (b"0 PROCESS 01\n", false),
+    (b"0 PROCESS 1000000\n", false),
+    (b"0 PROCESS 1 \n", false),
+    (b"0 LOGIN\n", false),
+    (b"0 LOGIN 1\n", false),
+    (b"0 LOGIN 1,:A\n", false),
+    (b"0 LOGIN 0,:A,TIME 1\n", false),
+    (b"0 LOGIN 9,:A,TIME 1\n", false),
+    (b"0 LOGIN 01,:A,TIME 1\n", false),
+    (b"0 LOGIN :A,TIME 1\n", false),
+    (b"0 LOGIN 1,A,TIME 1\n", false),
+    (b"0 LOGIN 1,:a,TIME 1\n", false),
+    (b"0 LOGIN 1,:A,TIME 0\n", false),
+    (b"0 LOGIN 1,:A,TIME 1000001\n", false),
+    (b"0 LOGIN 1,:A,TIME 1 \n", false),
+    (b"0 LOGIN 1,:A,TIME 1,MONEY 1\n", false),
+    (b"0 LOGIN 1, :A,TIME 1\n", false),
+    (b"0 TYPE\n", false),
+    (b"0 TYPE 1\n", false),
+    (b"0 TYPE ,A\n", false),
+    (b"0 TYPE 0,A\n", false),
+    (b"0 TYPE 9,A\n", false),
+    (b"0 TYPE 01,A\n", false),
+    (b"0 TYPE 1 ,A\n", false),
+    (b"0 TYPE  1,A\n", false),
+    (b"0 TYPE 1,A\tB\n", false),
+    (b"0 TYPE 1,\x7F\n", false),
+    (b"0 LOGOUT\n", false),
+    (b"0 LOGOUT 0\n", false),
+    (b"0 LOGOUT 9\n", false),
+    (b"0 LOGOUT 01\n", false),
+    (b"0 LOGOUT 1 \n", false),
+    (b"0 LOGOUT 1,\n", false),
     (b"****\n", false),
 ];
 
@@ -99,6 +143,28 @@ fn is_good(alloc: Global, script: &[u8]) -> Result<Option<bool>, Fail> {
 fn first_lines(rt: HostRuntime) -> Result<(), Fail> {
     for (script, good) in LINES.iter().chain(JOBS.iter()) {
         assert_eq!(rt; is_good(rt.alloc(), script)?, Some(*good), "of a line");
+    }
+    Ok(())
+}
+
+/// A TYPE line of so many bytes, from 10 on.
+fn typed_line(alloc: Global, bytes: u8) -> Result<Vec<u8>, AllocError> {
+    let mut script = Vec::from_slice(alloc, b"0 TYPE 1,")?;
+    for _ in 9..bytes {
+        script.push(b'~')?;
+    }
+    script.push(b'\n')?;
+    Ok(script)
+}
+
+/// How long a line is, and whether it is one.
+static LONGEST: [(u8, bool); 2] = [(160, true), (161, false)];
+
+#[test]
+fn longest_typed_line(rt: HostRuntime) -> Result<(), Fail> {
+    for (bytes, good) in &LONGEST {
+        let script = typed_line(rt.alloc(), *bytes)?;
+        assert_eq!(rt; is_good(rt.alloc(), &script)?, Some(*good), "of {bytes}");
     }
     Ok(())
 }
