@@ -3,8 +3,10 @@ ghost use Rattle.std.specs.Prelude.{◌≡◌, ℕ, ◌+◌, ◌^◌, ◌<◌, �
 ghost use Rattle.g_tape.specs.Rack.{refuses_read, refuses_unmount, refuses_write};
 ghost use Rattle.g_tape.specs.Reel.{IsReel, ending, untold_reel, with_mounted};
 
+use crate::ahead::ReadAhead;
 use crate::blocks::start_of;
 use crate::names::{FileId, id_of};
+use crate::reach::Reach;
 use g_base::Block;
 use g_tape::{ReelState, TapeFault};
 use std::fs::File;
@@ -20,6 +22,9 @@ const MARK: &[u8] = b"G3MK";
 pub struct FileReel {
     file: File,
     state: ReelState,
+    /// Whether the file is known to end where the state does.
+    ends_there: bool,
+    reach: Reach,
 }
 
 impl Model for FileReel {
@@ -41,6 +46,8 @@ impl FileReel {
         FileReel {
             file,
             state: ReelState::new(serial, capacity, len),
+            ends_there: true,
+            reach: Reach::Unknown,
         }
     }
 
@@ -104,10 +111,10 @@ impl FileReel {
     }
 
     /// Reads block k.
-    pub fn read(&self, k: u32, into: &mut Block) -> io::Result<()>
+    pub fn read(&self, ahead: &mut ReadAhead, k: u32, into: &mut Block) -> io::Result<()>
         ensures untold { (self.now.blocks ≡ None) × (self.now.times_read ≡ None) }
     {
-        self.file.read_exact_at(into, start_of(k))
+        ahead.read(&self.file, self.serial(), k, into)
     }
 
     /// Drops what stands from block k on, writes these bytes there and counts the block, also where this
@@ -121,13 +128,17 @@ impl FileReel {
         ensures value { (block : List ℕ) → self.new ≡ ending k block self.old }
         ensures keeps { IsReel self.old → IsReel self.new }
     {
+        let ends_here = self.ends_there && self.state.len() == k;
+        self.ends_there = false;
         self.end_at(k);
         let completes = bytes.starts_with(MARK);
         if completes {
-            self.sync()?;
+            self.bring()?;
         }
-        self.append(k, bytes)?;
-        if completes { self.sync() } else { Ok(()) }
+        self.reach = Reach::Behind;
+        self.append(ends_here, k, bytes)?;
+        self.ends_there = true;
+        if completes { self.bring() } else { Ok(()) }
     }
 
     /// Counts block k as the last one.
@@ -139,11 +150,20 @@ impl FileReel {
         self.state.end_with(k);
     }
 
-    /// Cuts the file at block k, makes room for one block and writes these bytes into it, so that it is
-    /// whole blocks wherever this is cut off.
-    fn append(&self, k: u32, bytes: &[u8]) -> io::Result<()>
+    /// Writes block k, which ends the file: by one call where the file ends there, since a block lies within a page and the
+    /// system writes that whole or not at all. Else, and where the system wrote less, the file is cut at block k, made longer
+    /// by a block and that is filled, so that it is whole blocks wherever this is cut off.
+    fn append(&self, ends_here: bool, k: u32, bytes: &[u8]) -> io::Result<()>
         requires { k + 1 < 2 ^ 32 }
     {
+        if ends_here
+            && self
+                .file
+                .write_at(bytes, start_of(k))
+                .is_ok_and(|count| count == bytes.len())
+        {
+            return Ok(());
+        }
         self.file.set_len(start_of(k))?;
         self.file.set_len(start_of(k + 1))?;
         self.file.write_all_at(bytes, start_of(k))
@@ -154,8 +174,35 @@ impl FileReel {
         id_of(&self.file)
     }
 
-    /// Brings all that was written to the device.
-    pub fn sync(&self) -> io::Result<()> {
-        self.file.sync_data()
+    /// Brings what was written to the device, where anything was since it was brought there last.
+    fn bring(&mut self) -> io::Result<()>
+        ensures { self.new ≡ self.old }
+    {
+        if self.reach != Reach::There {
+            self.file.sync_data()?;
+            self.reach = Reach::There;
+        }
+        Ok(())
+    }
+
+    /// Brings all that was written to the device, and of an earlier run what this one may have read. Where that fails nothing is
+    /// lost that was promised, since each completed dump was brought there with its mark. The reel is no longer mounted then.
+    pub fn unmount(&mut self, was_read: bool)
+        ensures value { self.new ≡ with_mounted false self.old }
+        ensures keeps { IsReel self.old → IsReel self.new }
+    {
+        if self.reach.wants_sync(was_read) {
+            let _brought = self.bring();
+        }
+        self.set_mounted(false);
+    }
+
+    /// Brings all that was written to the device, and of an earlier run what this one may have read.
+    pub fn sync(&self, was_read: bool) -> io::Result<()> {
+        if self.reach.wants_sync(was_read) {
+            self.file.sync_data()
+        } else {
+            Ok(())
+        }
     }
 }

@@ -4,6 +4,7 @@ ghost use Rattle.g_base.specs.Counts.{one_more};
 ghost use Rattle.g_tape.specs.Place.{IsPlaceOf};
 ghost use Rattle.g_tape.specs.Rack.{AreReels, reel};
 
+use crate::ahead::ReadAhead;
 use crate::file_reel::FileReel;
 use crate::names::FileId;
 use g_base::{Block, Fuse, raised};
@@ -17,6 +18,9 @@ use std::io;
 pub struct FileTapes {
     folder: File,
     reels: Vec<FileReel>,
+    ahead: ReadAhead,
+    /// Whether a block was read in this run.
+    was_read: bool,
     read_faults: u64,
     write_faults: u64,
     fuse: Fuse,
@@ -26,13 +30,15 @@ pub struct FileTapes {
 
 impl FileTapes {
     /// The rack of these reels, in rising serial, which lie in this folder.
-    pub(crate) fn new(folder: File, reels: Vec<FileReel>) -> FileTapes
+    pub(crate) fn new(folder: File, reels: Vec<FileReel>, ahead: ReadAhead) -> FileTapes
         requires { AreReels reels.items }
         ensures { result.reels.items ≡ reels.items }
     {
         FileTapes {
             folder,
             reels,
+            ahead,
+            was_read: false,
             read_faults: 0,
             write_faults: 0,
             fuse: Fuse::new(),
@@ -44,7 +50,7 @@ impl FileTapes {
     /// nothing is lost that was promised, since each completed dump was brought there with its mark.
     pub fn sync(&self) {
         for reel in &self.reels {
-            let _synced = reel.sync();
+            let _synced = reel.sync(self.was_read);
         }
     }
 
@@ -104,8 +110,7 @@ impl Tapes for FileTapes {
         Ok(())
     }
 
-    /// Brings the reel's blocks to the device first. Where that fails nothing is lost that was promised,
-    /// since each completed dump was brought there with its mark.
+    /// Brings the reel's blocks to the device first.
     fn unmount(&mut self, serial: u32) -> Result<(), TapeFault> {
         let Some(place) = place_of(&self.reels, serial) else {
             return Err(TapeFault::NoTape);
@@ -113,8 +118,7 @@ impl Tapes for FileTapes {
         if let Some(fault) = self.reels[place].refuses_unmount() {
             return Err(fault);
         }
-        let _synced = self.reels[place].sync();
-        self.reels[place].set_mounted(false);
+        self.reels[place].unmount(self.was_read);
         Ok(())
     }
 
@@ -125,7 +129,8 @@ impl Tapes for FileTapes {
         if let Some(fault) = self.reels[place].refuses_read(k) {
             return Err(fault);
         }
-        match self.reels[place].read(k, into) {
+        self.was_read = true;
+        match self.reels[place].read(&mut self.ahead, k, into) {
             Ok(()) => Ok(()),
             Err(_) => {
                 self.read_faults = raised(self.read_faults);
@@ -142,6 +147,7 @@ impl Tapes for FileTapes {
         if let Some(fault) = self.reels[place].refuses_write(k) {
             return Err(fault);
         }
+        self.ahead.forget(k);
         if self.fuse.burn() {
             self.write_faults = raised(self.write_faults);
             let _left = self.reels[place].end_with(k, &half_of(from));

@@ -1,8 +1,10 @@
 //! The file of an image: where its blocks lie, when they are brought to the device, and how it is made.
 
+use crate::ahead::ReadAhead;
 use crate::blocks::{blocks_in, start_of};
 use crate::claim::{Access, claim, sync_folder};
 use crate::names::{FileId, id_of, is_there, open_plain, open_unready};
+use crate::reach::Reach;
 use g_base::Block;
 use std::fs::{self, File};
 use std::io::{self, Error, ErrorKind, Read};
@@ -20,6 +22,10 @@ pub struct ImageFile {
     file: File,
     /// Whether the gate is known to be on the device as it stands in the file.
     settled: bool,
+    reach: Reach,
+    /// Whether a block was read in this run.
+    was_read: bool,
+    ahead: ReadAhead,
 }
 
 impl ImageFile {
@@ -29,6 +35,9 @@ impl ImageFile {
             Err(fault) if fault.kind() == ErrorKind::NotFound => Ok(ImageFile {
                 file: make_file(rt, path)?,
                 settled: true,
+                reach: Reach::There,
+                was_read: false,
+                ahead: ReadAhead::new(rt.alloc())?,
             }),
             opened => opened,
         }
@@ -41,6 +50,9 @@ impl ImageFile {
         Ok(ImageFile {
             file,
             settled: false,
+            reach: Reach::Unknown,
+            was_read: false,
+            ahead: ReadAhead::new(rt.alloc())?,
         })
     }
 
@@ -55,8 +67,9 @@ impl ImageFile {
     }
 
     /// Reads block k.
-    pub fn read(&self, k: u32, into: &mut Block) -> io::Result<()> {
-        self.file.read_exact_at(into, start_of(k))
+    pub fn read(&mut self, k: u32, into: &mut Block) -> io::Result<()> {
+        self.was_read = true;
+        self.ahead.read(&self.file, GATE, k, into)
     }
 
     /// Writes these bytes at block k. The gate, block 0, makes a commit: all that was written before
@@ -64,12 +77,12 @@ impl ImageFile {
     pub fn put(&mut self, k: u32, bytes: &[u8]) -> io::Result<()> {
         self.settle()?;
         if k != GATE {
-            return self.file.write_all_at(bytes, start_of(k));
+            return self.write(k, bytes);
         }
-        self.file.sync_data()?;
+        self.bring()?;
         self.settled = false;
-        self.file.write_all_at(bytes, start_of(GATE))?;
-        self.file.sync_data()?;
+        self.write(GATE, bytes)?;
+        self.bring()?;
         self.settled = true;
         Ok(())
     }
@@ -81,16 +94,36 @@ impl ImageFile {
             return Ok(());
         }
         let mut gate = [0; 512];
-        self.read(GATE, &mut gate)?;
-        self.file.write_all_at(&gate, start_of(GATE))?;
-        self.file.sync_data()?;
+        self.file.read_exact_at(&mut gate, start_of(GATE))?;
+        self.write(GATE, &gate)?;
+        self.bring()?;
         self.settled = true;
         Ok(())
     }
 
-    /// Brings all that was written to the device.
+    /// Writes these bytes at block k of the file.
+    fn write(&mut self, k: u32, bytes: &[u8]) -> io::Result<()> {
+        self.ahead.forget(k);
+        self.reach = Reach::Behind;
+        self.file.write_all_at(bytes, start_of(k))
+    }
+
+    /// Brings what was written to the device, where anything was since it was brought there last.
+    fn bring(&mut self) -> io::Result<()> {
+        if self.reach != Reach::There {
+            self.file.sync_data()?;
+            self.reach = Reach::There;
+        }
+        Ok(())
+    }
+
+    /// Brings all that was written to the device, and of an earlier run what this one may have read.
     pub fn sync(&self) -> io::Result<()> {
-        self.file.sync_data()
+        if self.reach.wants_sync(self.was_read) {
+            self.file.sync_data()
+        } else {
+            Ok(())
+        }
     }
 }
 

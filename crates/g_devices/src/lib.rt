@@ -2,6 +2,7 @@
 //! and output as source and sink, and the words of the command line.
 #![tactic(auto)]
 
+mod ahead;
 mod alike;
 mod blocks;
 mod claim;
@@ -11,9 +12,11 @@ mod file_tapes;
 mod image_file;
 mod looking;
 mod names;
+mod neighbours;
 mod new_rack;
 mod pair;
 mod rack;
+mod reach;
 mod streams;
 mod words;
 

@@ -3,6 +3,7 @@ ghost use Rattle.std.specs.Prelude.{IfOk};
 ghost use Rattle.g_tape.specs.Rack.{AreReels};
 ghost use Rattle.g_tape.specs.Reel.{IsReel};
 
+use crate::ahead::ReadAhead;
 use crate::alike::are_alike;
 use crate::claim::{Access, claim, sync_folder};
 use crate::file_reel::FileReel;
@@ -48,8 +49,8 @@ pub fn open_duplex(
         return Err(Error::from(ErrorKind::InvalidData));
     }
     let mut pair = Duplex::new(
-        FileTapes::new(one, reels),
-        FileTapes::new(other, beside),
+        FileTapes::new(one, reels, ReadAhead::new(rt.alloc())?),
+        FileTapes::new(other, beside, ReadAhead::new(rt.alloc())?),
         &lost,
     );
     for entry in &lost {
@@ -119,7 +120,7 @@ fn open_twins(
         return Ok((reel, other, Some(Twin::Second)));
     }
     let other = open_reel(rt, second, serial, Access::Run)?;
-    if hold_same(&reel, &other)? {
+    if hold_same(rt, &reel, &other)? {
         return Ok((reel, other, None));
     }
     if reel.len() == 0 {
@@ -157,15 +158,17 @@ fn open_again(rt: &HostRuntime, folder: &str, serial: Serial) -> io::Result<File
 }
 
 /// Whether two reels hold the same blocks.
-fn hold_same(reel: &FileReel, other: &FileReel) -> io::Result<bool> {
+fn hold_same(rt: &HostRuntime, reel: &FileReel, other: &FileReel) -> io::Result<bool> {
     if reel.len() != other.len() {
         return Ok(false);
     }
+    let mut ahead = ReadAhead::new(rt.alloc())?;
+    let mut ahead_beside = ReadAhead::new(rt.alloc())?;
     for k in 0..reel.len() {
         let mut block = [0; 512];
         let mut beside = [0; 512];
-        reel.read(k, &mut block)?;
-        other.read(k, &mut beside)?;
+        reel.read(&mut ahead, k, &mut block)?;
+        other.read(&mut ahead_beside, k, &mut beside)?;
         if block != beside {
             return Ok(false);
         }

@@ -3,6 +3,7 @@ ghost use Rattle.std.specs.Prelude.{◌≡◌, ◌<◌, ◌≤◌, ◌↔◌, �
 ghost use Rattle.g_tape.specs.Rack.{AreReels};
 ghost use Rattle.g_tape.specs.Reel.{IsReel};
 
+use crate::ahead::ReadAhead;
 use crate::blocks::blocks_in;
 use crate::claim::{Access, claim};
 use crate::file_reel::FileReel;
@@ -55,7 +56,7 @@ fn reels_in(rt: &HostRuntime, folder: &str, opened: File, access: Access) -> io:
         let reel = open_reel(rt, folder, serial, access)?;
         put_behind(&mut reels, reel)?;
     }
-    Ok(FileTapes::new(opened, reels))
+    Ok(FileTapes::new(opened, reels, ReadAhead::new(rt.alloc())?))
 }
 
 /// Opens the folder of a rack, or makes it.

@@ -1,24 +1,21 @@
 -- The end of a turn in the code: the job's rules, and that it is the end that is defined.
-use Rattle.std.proofs.Common.{◌≡◌, ℕ, ◌+◌, ◌-◌, ◌<◌, ◌≤◌, min, Bool, true, false, List, [], ◌++◌, length, length-append, Option, Some, None, IfSome, is_some, option_map, refl, sym, ap, ◌∙◌, subst, le_refl, lit≤, le_trans, arith}
+use Rattle.std.proofs.Common.{◌≡◌, ℕ, ◌+◌, ◌≤◌, Bool, true, false, List, ◌++◌, length, length-append, Option, Some, None, IfSome, is_some, option_map, refl, sym, ap, ◌∙◌, subst, lit≤, le_trans, arith}
 use Rattle.std.proofs.lemmas.Bool.{false≢true, true≢false}
 use Rattle.std.specs.Fn.{FnReturnsAt, Shared}
 use denote.Ref.{Bor}
-use Rattle.g_budget.specs.Tariff.{IsCharge, IsUsage}
+use Rattle.g_budget.specs.Tariff.{IsCharge}
 use Rattle.g_budget.specs.declared.tariff.Charge.{Charge}
 use Rattle.g_budget.specs.declared.tariff.Usage.{Usage}
 use Rattle.g_job.specs.Begun.{room_of}
-use Rattle.g_act.specs.Bounds.{HasMore, IsKeptWithin, IsWithin}
 use Rattle.g_job.specs.Ending.{IsClear, IsWaiting, turn_by, with_last}
-use Rattle.g_job.specs.Ends.{IsPriced, IsTurn, behind_turn, broken, charged, charged_end, end_by, is_free, last_line, money_of, turn_end, turn_of, units_of, waited}
-use Rattle.g_act.specs.Going.{IsAgain, IsReady}
+use Rattle.g_job.specs.Ends.{IsTurn, behind_turn, charged, charged_end, end_by, is_free, last_line, money_of, turn_of, units_of}
 use Rattle.g_act.specs.Making.{IsMade}
-use Rattle.g_job.specs.Rules.{IsGoneOnWith, IsJob, IsPending, most_bytes}
-use Rattle.g_act.specs.State.{AgainCommand, AgainLine, Broken, Desk, Done, Full, Pending, Stop, Waits, Work}
+use Rattle.g_job.specs.Rules.{IsJob, IsPending, most_bytes}
+use Rattle.g_act.specs.State.{Broken, Desk, Done, Full, Pending, Stop, Waits, Work}
 use Rattle.g_job.specs.State.{JobState}
-use Rattle.g_act.specs.Values.{pending_of, stop_of}
+use Rattle.g_act.specs.Values.{stop_of}
 use Rattle.g_act.specs.declared.made.Made.{Made}
 use Rattle.g_job.specs.declared.turn.Turn.{Turn}
-use Rattle.g_job.specs.declared.turn.Turn.TheVariants as turn
 use Rattle.g_job.proofs.KeepLemmas.{file_of, rules_kept}
 use Rattle.g_lines.specs.Lines.{ended}
 

@@ -12,7 +12,7 @@ use Rattle.g_act.specs.Typing.{can_go_on}
 use Rattle.g_budget.specs.declared.tariff.Charge.{Charge}
 use Rattle.g_budget.specs.declared.tariff.Usage.{Usage}
 use Rattle.g_job.specs.Begun.{begin, room_of}
-use Rattle.g_job.specs.Ends.{IsTurn, behind_turn, charged, end_by, last_line, turn_end}
+use Rattle.g_job.specs.Ends.{IsTurn, behind_turn, charged, end_by, last_line}
 use Rattle.g_job.specs.Rules.{IsJob}
 use Rattle.g_job.specs.Spends.{KeepsSeat}
 use Rattle.g_job.specs.State.{JobState}

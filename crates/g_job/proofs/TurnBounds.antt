@@ -2,7 +2,7 @@
 use Rattle.std.proofs.Common.{ℕ, ◌+◌, ◌-◌, ◌≤◌, List, length, Option, Some, None, IfSome, lit≤, arith}
 use Rattle.g_act.specs.Bounds.{AlwaysGives, IsWithin}
 use Rattle.g_act.specs.Causes.{IsHonest}
-use Rattle.g_act.specs.State.{AgainCommand, AgainLine, Pending, Work}
+use Rattle.g_act.specs.State.{AgainCommand, AgainLine, Pending}
 use Rattle.g_act.specs.Turns.{begins, with_kept}
 use Rattle.g_act.proofs.BoundLemmas.{gives_more, within_of}
 use Rattle.g_act.proofs.CommandBounds.{does_fired_gives, line_gives, runs_or_takes_gives}

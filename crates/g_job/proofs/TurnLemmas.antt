@@ -1,7 +1,7 @@
 -- A turn of the code is the turn that is defined.
-use Rattle.std.proofs.Common.{◌≡◌, ◌↔◌, ℕ, ◌+◌, ◌-◌, ◌<◌, ◌≤◌, Bool, true, false, List, [], length, Option, Some, None, Result, Ok, Err, IfSome, is_some, option_map, refl, sym, ap, ◌∙◌, subst, arith}
+use Rattle.std.proofs.Common.{◌≡◌, ◌↔◌, ℕ, ◌+◌, ◌≤◌, Bool, false, List, length, Option, Some, None, Result, Ok, IfSome, is_some, refl, sym, ap, ◌∙◌, subst, arith}
 use Rattle.std.proofs.lemmas.Bool.{false≢true}
-use Rattle.std.specs.Fn.{FnReturnsAt, Shared}
+use Rattle.std.specs.Fn.{Shared}
 use denote.Ref.{Bor}
 use Rattle.g_base.specs.declared.memory.NoMemory.{NoMemory}
 use Rattle.g_budget.specs.Tariff.{IsCharge, IsTariff, IsUsage}
@@ -10,7 +10,6 @@ use Rattle.g_budget.specs.declared.tariff.Usage.{Usage}
 use Rattle.g_job.specs.Begun.{begin, room_of}
 use Rattle.g_act.specs.Bounds.{IsKeptWithin, IsWithin}
 use Rattle.g_act.specs.Causes.{CauseOf, last_answer}
-use Rattle.g_job.specs.Ending.{IsClear}
 use Rattle.g_job.specs.Ends.{IsPriced, IsTurn, end_by, turn_end}
 use Rattle.g_act.specs.Going.{IsAgain, IsReady}
 use Rattle.g_act.specs.Making.{FewBlocks, IsMade}
@@ -28,9 +27,9 @@ use Rattle.g_job.specs.declared.turn.Turn.TheVariants as turn
 use Rattle.g_job.proofs.CauseLemmas.{turn_cause}
 use Rattle.g_job.proofs.EndLemmas.{end_comes, end_spends}
 use Rattle.g_job.proofs.KeepLemmas.{file_of}
-use Rattle.g_job.proofs.WellLemmas.{turn_keeps, turn_ran, turn_spent, turn_waits}
+use Rattle.g_job.proofs.WellLemmas.{turn_keeps, turn_ran}
 use Rattle.g_plain.proofs.RanByLemmas.{ran_by}
-use Rattle.g_plain.specs.Asks.{Answer, Ran}
+use Rattle.g_plain.specs.Asks.{Answer}
 use Rattle.g_plain.specs.RanBy.{RanBy}
 use Rattle.g_plain.specs.declared.calls.StoreCall.{StoreCall}
 

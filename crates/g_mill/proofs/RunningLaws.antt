@@ -214,6 +214,12 @@ done_by s word x m n function x_is small row m_is n_is =
     let is : decoded word ≡ Some o = ap (λ (b : Bool). if b then Some o else None) valid in
     ap (option_and_then (performed s)) is ∙ ap (option_and_then (λ (found : Function). effect found s o)) row ∙ effect_by function s o ∙ (rw (x_is, m_is, n_is) refl)
 
+-- an order of a function that tells more than that it was done does so, if it isn't illegal
+pub left_by : (s : Machine) (word x : ℕ) (function : Function) → x ≡ (fields_of word).x → x < 8 → function_of (fields_of word).f (fields_of word).x ≡ Some function → is_plain function ≡ false
+    → TellsMore (option_and_then (performed s) (decoded word))
+left_by s word x function x_is small row isnt =
+    subst TellsMore (sym (done_by s word x (fields_of word).m (fields_of word).n function x_is small row refl refl)) (not_plain function s (operands x (fields_of word).m (fields_of word).n) isnt)
+
 -- nothing, where the table has no row
 pub done_not : (s : Machine) (word x : ℕ) → x ≡ (fields_of word).x → x < 8 → function_of (fields_of word).f (fields_of word).x ≡ None → option_and_then (performed s) (decoded word) ≡ None
 done_not s word x x_is small row =

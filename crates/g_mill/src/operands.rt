@@ -49,14 +49,15 @@ impl Program {
     }
 
     /// The place of the character that an order means.
-    pub(crate) fn place(&self, order: &Order) -> u8
-        ensures value { result ≡ machine.place self.now (fields order.now) }
+    pub(crate) fn place(&self, m: u32) -> u8
+        requires { m < 4 }
+        ensures value { result ≡ machine.place self.now (machine.operands 0 m 0) }
         ensures in_word { result < 4 }
     {
-        if order.m == 0 {
+        if m == 0 {
             0
         } else {
-            (self.accumulator(u32::from(order.m)).value() >> 22) as u8
+            (self.accumulator(m).value() >> 22) as u8
         }
     }
 

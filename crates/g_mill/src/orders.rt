@@ -85,16 +85,19 @@ impl Program {
 
     /// The accumulator becomes a character of the word at the address.
     #[inline(never)]
-    pub(crate) fn load_character(&mut self, at: u32, order: &Order) -> Quick
+    pub(crate) fn load_character(&mut self, at: u32, x: u32, m: u32, n: u32) -> Quick
         requires at { at < 2 ^ 15 }
+        requires x { x < 8 }
+        requires m { m < 4 }
+        requires n { n < 2 ^ 15 }
         ensures { DoesQuick result at self.old self.new
-            (effect function.LoadCharacter (going_to self.old at) (fields order.now)) }
+            (effect function.LoadCharacter (going_to self.old at) (operands x m n)) }
     {
-        let Some(operand) = self.operand(u32::from(order.m), u32::from(order.n)) else {
+        let Some(operand) = self.operand(m, n) else {
             return Quick::Illegal;
         };
-        let character = operand.char_at(self.place(order));
-        self.put_accumulator(u32::from(order.x), Word::from(u16::from(character)), false);
+        let character = operand.char_at(self.place(m));
+        self.put_accumulator(x, Word::from(u16::from(character)), false);
         Quick::Ran
     }
 
@@ -117,33 +120,39 @@ impl Program {
 
     /// A character of the word at the address becomes the last of the accumulator.
     #[inline(never)]
-    pub(crate) fn deposit_character(&mut self, at: u32, order: &Order) -> Quick
+    pub(crate) fn deposit_character(&mut self, at: u32, x: u32, m: u32, n: u32) -> Quick
         requires at { at < 2 ^ 15 }
+        requires x { x < 8 }
+        requires m { m < 4 }
+        requires n { n < 2 ^ 15 }
         ensures { DoesQuick result at self.old self.new
-            (effect function.DepositCharacter (going_to self.old at) (fields order.now)) }
+            (effect function.DepositCharacter (going_to self.old at) (operands x m n)) }
     {
-        let address = self.address(u32::from(order.m), u32::from(order.n));
+        let address = self.address(m, n);
         let Some(old) = self.operand_at(address) else {
             return Quick::Illegal;
         };
-        let character = (self.accumulator(u32::from(order.x)).value() % 64) as u8;
-        self.put(address, old.with_char(self.place(order), character), false);
+        let character = (self.accumulator(x).value() % 64) as u8;
+        self.put(address, old.with_char(self.place(m), character), false);
         Quick::Ran
     }
 
     /// The accumulator and the next one become the product of the accumulator and the word at the address.
     #[inline(never)]
-    pub(crate) fn multiply(&mut self, at: u32, order: &Order) -> Quick
+    pub(crate) fn multiply(&mut self, at: u32, x: u32, m: u32, n: u32) -> Quick
         requires at { at < 2 ^ 15 }
+        requires x { x < 8 }
+        requires m { m < 4 }
+        requires n { n < 2 ^ 15 }
         ensures { DoesQuick result at self.old self.new
-            (effect function.Multiply (going_to self.old at) (fields order.now)) }
+            (effect function.Multiply (going_to self.old at) (operands x m n)) }
     {
-        let Some(operand) = self.operand(u32::from(order.m), u32::from(order.n)) else {
+        let Some(operand) = self.operand(m, n) else {
             return Quick::Illegal;
         };
-        let (high, low, overflow) = self.accumulator(u32::from(order.x)).mul_parts(operand);
-        self.put_accumulator(u32::from(order.x), high, false);
-        self.put_accumulator(u32::from((order.x + 1) % 8), low, overflow);
+        let (high, low, overflow) = self.accumulator(x).mul_parts(operand);
+        self.put_accumulator(x, high, false);
+        self.put_accumulator((x + 1) % 8, low, overflow);
         Quick::Ran
     }
 
@@ -195,33 +204,40 @@ impl Program {
 
     /// Shifts the accumulator, as the address tells.
     #[inline(never)]
-    pub(crate) fn shift(&mut self, at: u32, left: bool, order: &Order) -> Quick
+    pub(crate) fn shift(&mut self, at: u32, left: bool, x: u32, m: u32, n: u32) -> Quick
         requires at { at < 2 ^ 15 }
-        ensures { DoesQuick result at self.old self.new (shifted left (going_to self.old at) (fields order.now)) }
+        requires x { x < 8 }
+        requires m { m < 4 }
+        requires n { n < 2 ^ 15 }
+        ensures { DoesQuick result at self.old self.new
+            (shifted left (going_to self.old at) (operands x m n)) }
     {
-        let address = self.address(u32::from(order.m), u32::from(order.n));
+        let address = self.address(m, n);
         let places = address % 0x400;
-        let x = self.accumulator(u32::from(order.x));
+        let old = self.accumulator(x);
         let word = match address % 0x1000 / 0x400 {
-            0 => x.rotate(left, places),
-            1 => x.shift(left, places),
+            0 => old.rotate(left, places),
+            1 => old.shift(left, places),
             _ => return Quick::Illegal,
         };
-        self.put_accumulator(u32::from(order.x), word, false);
+        self.put_accumulator(x, word, false);
         Quick::Ran
     }
 
     /// Copies words from where the accumulator tells to where the next one does.
     #[inline(never)]
-    pub(crate) fn move_words(&mut self, at: u32, order: &Order) -> Quick
+    pub(crate) fn move_words(&mut self, at: u32, x: u32, m: u32, n: u32) -> Quick
         requires at { at < 2 ^ 15 }
+        requires x { x < 8 }
+        requires m { m < 4 }
+        requires n { n < 2 ^ 15 }
         ensures { DoesQuick result at self.old self.new
-            (effect function.Move (going_to self.old at) (fields order.now)) }
+            (effect function.Move (going_to self.old at) (operands x m n)) }
     {
-        let low = self.address(u32::from(order.m), u32::from(order.n)) % 512;
+        let low = self.address(m, n) % 512;
         let count = if low == 0 { 512 } else { low };
-        let from = self.low_bits(u32::from(order.x));
-        let to = self.low_bits(u32::from((order.x + 1) % 8));
+        let from = self.low_bits(x);
+        let to = self.low_bits((x + 1) % 8);
         let size = self.size();
         if from + count > size || to + count > size {
             return Quick::Illegal;

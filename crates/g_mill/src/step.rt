@@ -95,9 +95,10 @@ impl Program {
         self.quick(at, word)
     }
 
-    /// Does the order of a word that stands at an address, if it tells no more than that it was done. The functions that most
-    /// orders have are done by the fields of the word, of which each reads its own; others as orders.
+    /// Does the order of a word that stands at an address, if it tells no more than that it was done. It goes by the fields of
+    /// the word, of which each function reads its own.
     #[inline(always)]
+    #[tactic(auto, using(crate::proofs::RunningLaws::left_by))]
     fn quick(&mut self, at: u32, word: Word) -> Quick
         requires { at < 2 ^ 15 }
         ensures { DoesQuick result at self.old self.new
@@ -117,9 +118,21 @@ impl Program {
                 let (m, n) = plain_operands(word);
                 self.load_number_by(at, operation, x, m, n)
             }
+            Some(Function::LoadCharacter) => {
+                let (m, n) = plain_operands(word);
+                self.load_character(at, x, m, n)
+            }
             Some(Function::StoreZero) => {
                 let (m, n) = plain_operands(word);
                 self.store_zero(at, m, n)
+            }
+            Some(Function::DepositCharacter) => {
+                let (m, n) = plain_operands(word);
+                self.deposit_character(at, x, m, n)
+            }
+            Some(Function::Multiply) => {
+                let (m, n) = plain_operands(word);
+                self.multiply(at, x, m, n)
             }
             Some(Function::Branch(condition)) => {
                 let n = branch_operand(word);
@@ -133,52 +146,22 @@ impl Program {
                 let n = branch_operand(word);
                 self.exit(at, x, n)
             }
+            Some(Function::ShiftLeft) => {
+                let (m, n) = plain_operands(word);
+                self.shift(at, true, x, m, n)
+            }
+            Some(Function::ShiftRight) => {
+                let (m, n) = plain_operands(word);
+                self.shift(at, false, x, m, n)
+            }
+            Some(Function::Move) => {
+                let (m, n) = plain_operands(word);
+                self.move_words(at, x, m, n)
+            }
             Some(Function::Null) => Quick::Ran,
-            Some(_) => self.perform_word(at, word),
-            None => Quick::Illegal,
-        }
-    }
-
-    /// The same by the order of the word, which is made in memory.
-    #[inline(never)]
-    #[tactic(auto, using(crate::proofs::RunningLaws::performed_by))]
-    fn perform_word(&mut self, at: u32, word: Word) -> Quick
-        requires { at < 2 ^ 15 }
-        ensures { DoesQuick result at self.old self.new
-            (option_and_then (performed (going_to self.old at)) (decoded word)) }
-    {
-        let Some((function, order)) = read_order(word) else {
-            return Quick::Illegal;
-        };
-        self.perform(at, function, &order)
-    }
-
-    /// Does what a function makes of an order that stands at an address, if that tells no more than that it was done.
-    #[inline(never)]
-    #[tactic(auto, using(crate::proofs::RunningLaws::not_plain))]
-    fn perform(&mut self, at: u32, function: Function, order: &Order) -> Quick
-        requires { at < 2 ^ 15 }
-        ensures { DoesQuick result at self.old self.new
-            (effect function (going_to self.old at) (fields order.now)) }
-    {
-        let (x, m, n) = (u32::from(order.x), u32::from(order.m), u32::from(order.n));
-        match function {
-            Function::Load(operation) => self.load_word(at, operation, x, m, n),
-            Function::Store(operation) => self.store(at, operation, x, m, n),
-            Function::LoadNumber(operation) => self.load_number(at, operation, x, m, n),
-            Function::LoadCharacter => self.load_character(at, order),
-            Function::StoreZero => self.store_zero(at, m, n),
-            Function::DepositCharacter => self.deposit_character(at, order),
-            Function::Multiply => self.multiply(at, order),
-            Function::Branch(condition) => self.branch(at, condition, x, n),
-            Function::Call => self.call(at, x, n),
-            Function::Exit => self.exit(at, x, n),
-            Function::ShiftLeft => self.shift(at, true, order),
-            Function::ShiftRight => self.shift(at, false, order),
-            Function::Null => Quick::Ran,
-            Function::Move => self.move_words(at, order),
-            Function::Transfer | Function::Halt | Function::Display | Function::Delete =>
+            Some(Function::Transfer | Function::Halt | Function::Display | Function::Delete) =>
                 Quick::Left,
+            None => Quick::Illegal,
         }
     }
 

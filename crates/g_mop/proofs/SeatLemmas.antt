@@ -1,5 +1,5 @@
--- Seats at the terminals 1 to 8, fails two at the same: there are at most seven where one more may come.
-use Rattle.std.proofs.Common.{◌≡◌, ◌∙◌, ℕ, zero, suc, ◌+◌, ◌<◌, ◌≤◌, ◌==◌, Bool, true, false, append-nil, cond, drop, drop_of_length-le, get_or, if◌then◌else◌, is_some, length-set, not, List, [], ◌∷◌, ◌++◌, length, set, map, filter, slice_get, slice_index_or, slice_set, Option, Some, None, refl, sym, ap, subst, take, take_all, arith, inl, inr}
+-- Seats at the terminals 1 to 8, no two at the same: there are at most seven where one more may come.
+use Rattle.std.proofs.Common.{◌≡◌, ◌∙◌, ℕ, zero, suc, ◌+◌, ◌<◌, ◌≤◌, ◌==◌, Bool, true, false, append-nil, cond, drop, drop_of_length-le, eqb-true, get_or, if◌then◌else◌, is_some, length-set, not, List, [], ◌∷◌, ◌++◌, length, set, map, filter, slice_get, slice_index_or, slice_set, Option, Some, None, refl, sym, ap, subst, take, take_all, arith, inl, inr}
 use Rattle.std.specs.List.{refill}
 use Rattle.std.proofs.lemmas.Bool.{cases_lt, false≢true, eq-eqb, ne_eqb}
 use Rattle.std.proofs.lemmas.Option.{get_or_from_slice_get, slice_get-get_or}
@@ -74,7 +74,7 @@ held_more (suc n) s seats least most free =
 
 held_none : (n : ℕ) → held_to n [] ≡ 0
 held_none zero = refl
-held_none (suc n) = held_none n
+held_none (suc n) = let rest = held_none n in omega (arith, rest)
 
 all_held : (seats : List Seat) → AreSeats seats → length seats ≡ held_to 8 seats
 all_held [] are = sym (held_none 8)

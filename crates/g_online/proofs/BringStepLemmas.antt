@@ -1,5 +1,5 @@
 -- A file whose bytes are brought back is ready to be committed.
-use Rattle.std.proofs.Common.{◌≡◌, ◌≢◌, ◌⊎◌, ℕ, zero, suc, ◌+◌, ◌<◌, ◌≤◌, Bool, true, false, List, [], ◌∷◌, length, get_or, map, Option, Some, None, Result, Ok, All, AllPairs, refl, sym, ◌∙◌, ap, subst, arith, inl, inr, if◌then◌else◌, ◌==◌}
+use Rattle.std.proofs.Common.{◌≡◌, ◌≢◌, ◌⊎◌, ℕ, zero, suc, ◌+◌, ◌<◌, ◌≤◌, Bool, true, false, List, [], ◌∷◌, length, get_or, map, Option, Some, None, Ok, All, AllPairs, refl, sym, ◌∙◌, ap, subst, arith, inl, inr, if◌then◌else◌, ◌==◌}
 use Rattle.std.specs.Prelude.{Contains, is_some}
 use Rattle.std.specs.Option.{ForSome}
 use Rattle.std.proofs.lemmas.Bool.{cases_eq, cond-false, cond-true, eq-eqb, ne_eqb}
@@ -22,13 +22,12 @@ use Rattle.g_dirs.specs.Pages.{KeepsPages, Remembered}
 use Rattle.g_dirs.proofs.CopyLemmas.{recs-entries}
 use Rattle.g_contents.specs.Contents.{Contents, File, brought, contents_of, file_of, has, offline_in, taken_off}
 use Rattle.g_contents.specs.Facts.{OnlineFacts}
-use Rattle.g_online.specs.declared.change.Change.{Change}
 use Rattle.g_online.specs.declared.change.Change.TheVariants.{Bring, Unload}
 use Rattle.g_online.specs.declared.fault.OnlineFault.{OnlineFault}
 use Rattle.g_online.specs.declared.pinned.Pinned.{Pinned}
 use Rattle.g_online.specs.Allowed.{IsAllowed, KeepsRules}
 use Rattle.g_online.specs.Change.{changed, told_bytes, unjammed}
-use Rattle.g_online.specs.Done.{HasChanged, IsApplied}
+use Rattle.g_online.specs.Done.{HasChanged}
 use Rattle.g_online.specs.Copies.{with_copy_at}
 use Rattle.g_online.specs.Kept.{AreNoted, AreWhole, IsAgreed, IsFileOf, IsKept, IsPinned, IsPooled, Memory, PinsAre, WaitsFor, WaitsPinned, directory_in, facts_of, head_after, orphans, pins_of}
 use Rattle.g_online.proofs.ChangeLemmas.{bring_contents}
@@ -46,7 +45,6 @@ use Rattle.g_online.proofs.RecordLemmas.{fits_still, next_kept, touched_stays}
 use Rattle.g_online.proofs.SameLemmas.{left_part}
 use Rattle.g_online.proofs.StepLemmas.{IsBeside, IsReadyFrom, pins_told}
 use Rattle.g_online.proofs.TieLemmas.{rec_of}
-use Rattle.g_online.proofs.NeedLemmas.{IsAsked}
 use Rattle.g_online.proofs.TwoLemmas.{IsNeeding, IsTwo, none_unjammed, taken_none}
 use Rattle.g_online.proofs.UnjamLemmas.{IsUnjammed}
 use Rattle.g_online.proofs.WrittenLemmas.{IsNewCopy, NeedsFor, written_beside, written_kept}

@@ -47,3 +47,4 @@ pub mod NeedLemmas
 pub mod WrittenLemmas
 pub mod BringStepLemmas
 pub mod NewBytesLemmas
+pub mod PinListLemmas

@@ -12,7 +12,7 @@ use Rattle.g_dirs.specs.Commit.{OldOrNew}
 use Rattle.g_dirs.specs.Directory.{directory_of}
 use Rattle.g_dirs.specs.Pages.{Remembered}
 use Rattle.g_contents.specs.Commits.{Commits}
-use Rattle.g_contents.specs.Contents.{Contents, Holds}
+use Rattle.g_contents.specs.Contents.{Holds}
 use Rattle.g_contents.specs.Facts.{IsTied, OnlineFacts, Pin}
 use Rattle.g_online.specs.declared.change.Change.TheVariants.{Adopt}
 use Rattle.g_online.specs.declared.fault.OnlineFault.{OnlineFault}

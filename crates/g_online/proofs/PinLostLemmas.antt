@@ -1,7 +1,7 @@
 -- The blocks of pinned versions that no file has any more are free again when the versions are let go.
-use Rattle.std.proofs.Common.{◌≡◌, ◌≢◌, ℕ, ◌+◌, ◌<◌, ◌==◌, ◌||◌, Bool, true, false, not, List, [], ◌∷◌, ◌++◌, length, get_or, filter, take, drop, Option, Some, None, All, AllPairs, refl, sym, ◌∙◌, ap, subst, arith, append_assoc, take-append-drop, cond, if◌then◌else◌}
+use Rattle.std.proofs.Common.{◌≡◌, ◌≢◌, ℕ, ◌==◌, ◌||◌, Bool, true, false, not, List, [], ◌∷◌, ◌++◌, length, filter, Option, Some, None, All, AllPairs, refl, sym, ◌∙◌, ap, subst, arith, cond, if◌then◌else◌}
 use Rattle.std.specs.List.{flat_map}
-use Rattle.std.proofs.lemmas.List.{append-nil, take_more}
+use Rattle.std.proofs.lemmas.List.{append-nil}
 use Rattle.g_blocks.specs.Pool.{HasGiven, IsFresh, IsInArea, IsTaken}
 use Rattle.g_copy.specs.declared.copy.DiscCopy.{DiscCopy}
 use Rattle.g_disc.specs.Disc.{DiscState}
@@ -10,9 +10,9 @@ use Rattle.g_dirs.specs.Directory.{FileEntry, all_places, entries_of}
 use Rattle.g_contents.specs.Contents.{has}
 use Rattle.g_contents.specs.Facts.{AreNumbers, OnlineFacts}
 use Rattle.g_online.specs.declared.pinned.Pinned.{Pinned}
-use Rattle.g_online.specs.Dumped.{is_filed, lost_of, lost_places, pinned_in}
+use Rattle.g_online.specs.Dumped.{is_filed, lost_places, pinned_in}
 use Rattle.g_online.specs.Kept.{IsKept, IsPooled, Memory, directory_in, facts_of, is_current, orphans, used_places}
-use Rattle.g_online.proofs.UseLemmas.{IsUsed, left_all, left_apart, may_give, right_all, right_apart, same_swap, used_given, used_same}
+use Rattle.g_online.proofs.UseLemmas.{IsUsed, may_give, same_swap, used_given, used_same}
 
 -- these are the blocks that no file has
 filed_is : (files : List FileRec) (online : List (ℕ × DiscCopy)) (s : ℕ) → is_current (entries_of files online) s ≡ is_filed files s

@@ -1,5 +1,5 @@
 -- A new version whose bytes are written is ready to be committed.
-use Rattle.std.proofs.Common.{◌≡◌, ◌≢◌, ℕ, zero, suc, ◌+◌, ◌<◌, ◌≤◌, Bool, true, false, List, [], ◌∷◌, ◌++◌, length, map, Some, None, Result, Ok, All, AllPairs, refl, sym, ◌∙◌, ap, subst, arith, if◌then◌else◌, ⊎_elim}
+use Rattle.std.proofs.Common.{◌≡◌, ◌≢◌, ℕ, zero, suc, ◌+◌, ◌<◌, Bool, true, false, List, [], ◌∷◌, ◌++◌, length, map, Some, None, Ok, All, AllPairs, refl, sym, ◌∙◌, ap, subst, arith, if◌then◌else◌, ⊎_elim}
 use Rattle.std.specs.Prelude.{Contains, is_some}
 use Rattle.std.specs.Option.{ForSome}
 use Rattle.std.specs.FinMap as finmap
@@ -25,19 +25,16 @@ use Rattle.g_dirs.specs.Pages.{KeepsPages, Remembered}
 use Rattle.g_dirs.proofs.CopyLemmas.{recs-entries}
 use Rattle.g_contents.specs.Contents.{contents_of, with_number}
 use Rattle.g_contents.specs.Facts.{OnlineFacts}
-use Rattle.g_online.specs.declared.change.Change.{Change}
 use Rattle.g_online.specs.declared.change.Change.TheVariants.{PutFile}
 use Rattle.g_online.specs.declared.fault.OnlineFault.{OnlineFault}
-use Rattle.g_online.specs.Allowed.{IsAllowed, KeepsRules}
+use Rattle.g_online.specs.Allowed.{KeepsRules}
 use Rattle.g_online.specs.Change.{changed as changed_to}
 use Rattle.g_online.specs.Copies.{with_copy_at}
-use Rattle.g_online.specs.Done.{IsApplied}
-use Rattle.g_online.specs.Kept.{AreWhole, GivesUnless, IsAgreed, IsKept, IsPooled, Memory, copy_places, directory_in, facts_of, head_after, orphans, pins_of, used_places}
+use Rattle.g_online.specs.Kept.{AreWhole, GivesUnless, IsAgreed, IsKept, IsPooled, Memory, copy_places, directory_in, head_after, orphans, pins_of, used_places}
 use Rattle.g_online.specs.Put.{is_pinned_at}
 use Rattle.g_online.proofs.CopyLemmas.{Copies, copy_behind}
 use Rattle.g_online.proofs.EraseLemmas.{entries_differ, entries_rise, places_are, pooled, use_gone, used}
 use Rattle.g_online.proofs.KeepLemmas.{rules_kept}
-use Rattle.g_online.proofs.NeedLemmas.{IsAsked}
 use Rattle.g_online.proofs.NoteLemmas.{touched_then, touched_with}
 use Rattle.g_online.proofs.PlaceLemmas.{NotPinned, with_entry, without_entry, without_none}
 use Rattle.g_online.proofs.PutLemmas.{entries_put, is_put, made_put, not_pinned, put_in_memory, put_may_give, put_used}
@@ -45,7 +42,7 @@ use Rattle.g_online.proofs.ReadyLemmas.{CoversBut, StillRemembers, pairs_left}
 use Rattle.g_online.proofs.RecordLemmas.{recs_here}
 use Rattle.g_online.proofs.SameLemmas.{left_part}
 use Rattle.g_online.proofs.StepLemmas.{IsBeside, IsReadyFrom, pins_told}
-use Rattle.g_online.proofs.TwoLemmas.{IsNew, is_new, put_needing}
+use Rattle.g_online.proofs.TwoLemmas.{IsNew}
 use Rattle.g_online.proofs.UnjamLemmas.{IsUnjammed}
 use Rattle.g_online.proofs.WrittenLemmas.{IsNewCopy, NeedsFor, written_beside, written_kept}
 use Rattle.g_online.proofs.UseLemmas.{IsUsed, SameUse, contains_or_not}

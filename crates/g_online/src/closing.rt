@@ -4,13 +4,12 @@ ghost use Rattle.g_tree.specs.Records.{IsRecords};
 ghost use Rattle.g_contents.specs.Contents.{copied_rec, copy_of};
 ghost use Rattle.g_online.specs.Allowed.{KeepsRules};
 ghost use Rattle.g_online.specs.Change.{closed};
-ghost use Rattle.g_online.specs.Dumped.{MarksMade, noted_at, noted_in};
+ghost use Rattle.g_online.specs.Dumped.{MarksMade, noted_at};
 ghost use Rattle.g_online.specs.Pins.{IsClosing};
 
 use crate::commit::commit;
 use crate::numbers::UserNumbers;
-use crate::pinned::Pinned;
-use crate::pins::{give_lost, pinned_versions};
+use crate::pins::{give_lost, pinned_notes, pinned_versions};
 use crate::{Online, OnlineFault};
 use g_base::FIRST_FILE_BLOCK;
 use g_dirs::Pages;
@@ -34,7 +33,7 @@ impl<D: Disc> Online<D> {
         let pins = pinned_versions(&self.pins);
         give_lost(&mut self.pool, pins, self.tree.files());
         self.pages.changed(0);
-        note_copies(&mut self.tree, &mut self.pages, pins);
+        note_copies(&mut self.tree, &mut self.pages, pinned_notes(&self.pins));
         self.head = Head {
             last_dump: last,
             intent: None,
@@ -55,30 +54,30 @@ impl<D: Disc> Online<D> {
 }
 
 /// Puts the noted places on tape into the records of those versions that are still there, and marks just these records.
-fn note_copies(tree: &mut Tree, pages: &mut Pages, pins: &[Pinned])
-    requires { IsRecords tree.old.users (map (copied_rec (noted_in pins.now)) tree.old.files) }
+fn note_copies(tree: &mut Tree, pages: &mut Pages, notes: &[(u64, TapeCopy)])
+    requires { IsRecords tree.old.users (map (copied_rec notes.now) tree.old.files) }
     ensures users { tree.new.users ≡ tree.old.users }
-    ensures files { tree.new.files ≡ map (copied_rec (noted_in pins.now)) tree.old.files }
-    ensures marks { MarksMade (copied_rec (noted_in pins.now)) tree.old.files pages.old pages.new }
+    ensures files { tree.new.files ≡ map (copied_rec notes.now) tree.old.files }
+    ensures marks { MarksMade (copied_rec notes.now) tree.old.files pages.old pages.new }
 {
     let _files = tree.files();
     for number in 0..1024 {
-        note_copy(tree, pages, pins, number);
+        note_copy(tree, pages, notes, number);
     }
 }
 
 /// The same of the file of this number, if there is one.
-fn note_copy(tree: &mut Tree, pages: &mut Pages, pins: &[Pinned], number: u16)
+fn note_copy(tree: &mut Tree, pages: &mut Pages, notes: &[(u64, TapeCopy)], number: u16)
     requires below { number < 1024 }
-    requires rules { IsRecords tree.old.users (map (noted_at (noted_in pins.now) number) tree.old.files) }
+    requires rules { IsRecords tree.old.users (map (noted_at notes.now number) tree.old.files) }
     ensures users { tree.new.users ≡ tree.old.users }
-    ensures files { tree.new.files ≡ map (noted_at (noted_in pins.now) number) tree.old.files }
-    ensures marks { MarksMade (noted_at (noted_in pins.now) number) tree.old.files pages.old pages.new }
+    ensures files { tree.new.files ≡ map (noted_at notes.now number) tree.old.files }
+    ensures marks { MarksMade (noted_at notes.now number) tree.old.files pages.old pages.new }
 {
     let Some(file) = tree.file_at(number) else {
         return;
     };
-    let Some(noted) = with_copy(file, pins) else {
+    let Some(noted) = with_copy(file, notes) else {
         return;
     };
     tree.put(noted);
@@ -86,11 +85,11 @@ fn note_copy(tree: &mut Tree, pages: &mut Pages, pins: &[Pinned], number: u16)
 }
 
 /// The record with the place on tape that is noted for its version; none where it stays as it is.
-fn with_copy(file: &FileRec, pins: &[Pinned]) -> Option<FileRec>
-    ensures some { IfSome result (λ noted. noted ≡ copied_rec (noted_in pins.now) file.now) }
-    ensures none { IfNone result (copied_rec (noted_in pins.now) file.now ≡ file.now) }
+fn with_copy(file: &FileRec, notes: &[(u64, TapeCopy)]) -> Option<FileRec>
+    ensures some { IfSome result (λ noted. noted ≡ copied_rec notes.now file.now) }
+    ensures none { IfNone result (copied_rec notes.now file.now ≡ file.now) }
 {
-    match noted_copy(pins, file.stamp) {
+    match noted_copy(notes, file.stamp) {
         Some(copy) => Some(FileRec {
             tape: Some(copy),
             ..file.copy()
@@ -100,12 +99,12 @@ fn with_copy(file: &FileRec, pins: &[Pinned]) -> Option<FileRec>
 }
 
 /// The place that is noted for this stamp.
-fn noted_copy(pins: &[Pinned], stamp: u64) -> Option<TapeCopy>
-    ensures { result ≡ copy_of (noted_in pins.now) stamp None }
+fn noted_copy(notes: &[(u64, TapeCopy)], stamp: u64) -> Option<TapeCopy>
+    ensures { result ≡ copy_of notes.now stamp None }
 {
-    for pin in pins {
-        if pin.stamp == stamp {
-            return Some(pin.copy);
+    for note in notes {
+        if note.0 == stamp {
+            return Some(note.1);
         }
     }
     None

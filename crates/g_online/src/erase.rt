@@ -1,17 +1,17 @@
 //! A file goes.
-ghost use Rattle.std.specs.Prelude.{◌≡◌, ◌≢◌, ◌<◌, All, AllPairs, false, option_map, vec_len};
+ghost use Rattle.std.specs.Prelude.{◌≡◌, ◌≢◌, ◌<◌, All, AllPairs, false, vec_len};
 ghost use Rattle.std.specs.Option.{option_copied};
 ghost use Rattle.std.specs.Vec.{vec_capacity};
 ghost use Rattle.g_blocks.specs.Pool.{IsTaken};
 ghost use Rattle.g_online.specs.Allowed.{IsAllowed};
 ghost use Rattle.g_online.specs.Copies.{without_copy};
 ghost use Rattle.g_online.specs.Done.{IsApplied};
-ghost use Rattle.g_online.specs.Kept.{GivesUnless, copy_places, has_stamp, is_pinned};
+ghost use Rattle.g_online.specs.Kept.{GivesUnless, copy_places, is_pinned};
 
 use crate::change::Change;
 use crate::commit::commit;
 use crate::copies::copy_of;
-use crate::pinned::Pinned;
+use crate::pin_list::PinList;
 use crate::records::{kept_head, note};
 use crate::{Online, OnlineFault};
 use g_base::FIRST_FILE_BLOCK;
@@ -52,20 +52,13 @@ impl<D: Disc> Online<D> {
 }
 
 /// Whether the version of this stamp is pinned, so that its blocks stay.
-pub(crate) fn is_kept(pins: &Option<Vec<Pinned>>, stamp: u64) -> bool
-    ensures { result ≡ is_pinned (option_map (λ v. v.items) pins.now) stamp }
+pub(crate) fn is_kept(pins: &Option<PinList>, stamp: u64) -> bool
+    ensures { result ≡ is_pinned pins.now stamp }
 {
     match pins {
-        Some(pins) => has_stamp(pins, stamp),
+        Some(pins) => pins.has(stamp),
         None => false,
     }
-}
-
-/// Whether one of these versions has this stamp.
-fn has_stamp(pins: &[Pinned], stamp: u64) -> bool
-    ensures { result ≡ has_stamp pins.now stamp }
-{
-    pins.iter().any(|p| p.stamp == stamp)
 }
 
 /// Gives the blocks of a copy back to the pool, or keeps them.

@@ -15,6 +15,7 @@ mod load;
 mod numbers;
 mod off;
 mod online;
+mod pin_list;
 mod pinned;
 mod pins;
 mod put;

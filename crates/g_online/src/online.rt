@@ -7,7 +7,7 @@ ghost use Rattle.g_online.specs.Room.{FitsDisc};
 
 use crate::copies::copy_of;
 use crate::numbers::UserNumbers;
-use crate::pinned::Pinned;
+use crate::pin_list::PinList;
 use g_blocks::Pool;
 use g_dirs::{BoxedCopy, Pages};
 use g_disc::Disc;
@@ -29,14 +29,13 @@ pub struct Online<D: Disc> {
     pub(crate) tree: Tree,
     pub(crate) head: Head,
     pub(crate) online: Vec<(u16, BoxedCopy)>,
-    pub(crate) pins: Option<Vec<Pinned>>,
+    pub(crate) pins: Option<PinList>,
     pub(crate) changed: UserNumbers,
     pub(crate) touched: UserNumbers,
     pub(crate) live: bool,
 }
 
 impl<D: Disc> Model for Online<D> {
-    ghost use Rattle.std.specs.Prelude.{option_map};
     ghost use Rattle.g_contents.specs.Facts.{OnlineFacts};
     ghost use Rattle.g_online.specs.Kept.{IsKept, facts_of};
 
@@ -50,7 +49,7 @@ impl<D: Disc> Model for Online<D> {
       files = o.tree.files;
       head = o.head;
       online = o.online.items;
-      pins = option_map (λ v. v.items) o.pins;
+      pins = o.pins;
       changed = o.changed;
       touched = o.touched;
       live = o.live;
@@ -64,7 +63,7 @@ impl<D: Disc> Model for Online<D> {
       files = o.tree.files;
       head = o.head;
       online = o.online.items;
-      pins = option_map (λ v. v.items) o.pins;
+      pins = o.pins;
       changed = o.changed;
       touched = o.touched;
       live = o.live;

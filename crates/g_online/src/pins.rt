@@ -1,16 +1,17 @@
 //! The versions of a dump: they are pinned when it is opened, read while it is written, and let go when it ends.
-ghost use Rattle.std.specs.Prelude.{◌≡◌, ◌≢◌, ◌+◌, ◌<◌, ◌≤◌, ◌^◌, All, AllPairs, IfOk, List, None, OnErr, OnOk, Some, length, option_map, slice_get, true, [], ◌∷◌};
+ghost use Rattle.std.specs.Prelude.{◌≡◌, ◌≢◌, ◌+◌, ◌<◌, ◌≤◌, ◌^◌, All, AllPairs, IfOk, List, None, OnErr, OnOk, Some, length, slice_get, true, [], ◌∷◌};
 ghost use Rattle.std.specs.Option.{ForSome, option_copied};
 ghost use Rattle.g_base.specs.Block.{blocks_for};
 ghost use Rattle.g_blocks.specs.Pool.{HasGiven, IsTaken};
 ghost use Rattle.g_disc.specs.Disc.{ReadsByCause};
 ghost use Rattle.g_contents.specs.Facts.{IsTied, Pin};
-ghost use Rattle.g_online.specs.Dumped.{HasPut, is_filed, is_waiting, lost_of, lost_places, pinned_in, pins_from, place_in, waiting_below, waiting_of};
+ghost use Rattle.g_online.specs.Dumped.{HasPut, is_filed, is_waiting, lost_of, lost_places, noted_in, pinned_in, pins_from, place_in, waiting_below, waiting_of};
 ghost use Rattle.g_online.specs.Kept.{copy_places};
 ghost use Rattle.g_online.specs.Pins.{HasPinned};
 
 use crate::copies::copy_of;
 use crate::numbers::UserNumbers;
+use crate::pin_list::PinList;
 use crate::pinned::Pinned;
 use crate::{Online, OnlineFault};
 use g_base::{Block, BlockList, NoMemory, blocks_for};
@@ -39,7 +40,11 @@ impl<D: Disc> Online<D> {
             Ok(pins) => pins,
             Err(_) => return Err(NoMemory),
         };
-        self.pins = Some(pins);
+        let list = match PinList::new(alloc, pins) {
+            Ok(list) => list,
+            Err(_) => return Err(NoMemory),
+        };
+        self.pins = Some(list);
         Ok(())
     }
 
@@ -83,11 +88,21 @@ impl<D: Disc> Online<D> {
 }
 
 /// The pinned versions, if there are any.
-pub(crate) fn pinned_versions(pins: &Option<Vec<Pinned>>) -> &[Pinned]
-    ensures { result.now ≡ pinned_in (option_map (λ v. v.items) pins.now) }
+pub(crate) fn pinned_versions(pins: &Option<PinList>) -> &[Pinned]
+    ensures { result.now ≡ pinned_in pins.now }
 {
     match pins {
         Some(pins) => pins.as_slice(),
+        None => &[],
+    }
+}
+
+/// What is noted for the pinned versions, if there are any.
+pub(crate) fn pinned_notes(pins: &Option<PinList>) -> &[(u64, TapeCopy)]
+    ensures { result.now ≡ noted_in (pinned_in pins.now) }
+{
+    match pins {
+        Some(pins) => pins.notes(),
         None => &[],
     }
 }

@@ -1,5 +1,5 @@
 //! New bytes: they find room and are written beside all that the disc holds, before a commit names them.
-ghost use Rattle.std.specs.Prelude.{◌≡◌, ◌≢◌, ◌⊎◌, ◌↔◌, ◌+◌, ◌<◌, ◌≤◌, ◌^◌, All, AllPairs, Err, IfErr, IfOk, IfSome, IsErrOf, Ok, OnErr, OnOk, [], false, length, option_map, true, vec_len};
+ghost use Rattle.std.specs.Prelude.{◌≡◌, ◌≢◌, ◌⊎◌, ◌↔◌, ◌+◌, ◌<◌, ◌≤◌, ◌^◌, All, AllPairs, Err, IfErr, IfOk, IfSome, IsErrOf, Ok, OnErr, OnOk, [], false, length, true, vec_len};
 ghost use Rattle.std.specs.Option.{ForSome, option_copied};
 ghost use Rattle.std.specs.Vec.{vec_capacity};
 ghost use Rattle.std.specs.FinMap as finmap;
@@ -26,7 +26,7 @@ use crate::commit::commit;
 use crate::copies::{copy_of, empty_copy, put_copy};
 use crate::erase::{forget_copy, give_unless, is_kept};
 use crate::numbers::UserNumbers;
-use crate::pinned::Pinned;
+use crate::pin_list::PinList;
 use crate::records::{kept_head, note};
 use crate::{Online, OnlineFault};
 use g_base::{BlockList, FIRST_FILE_BLOCK, blocks_for};
@@ -387,8 +387,8 @@ fn write_new<D: Disc>(
 }
 
 /// Whether the version of the file of this number, if there is one, is pinned, so that its blocks stay.
-fn is_kept_at(pins: &Option<Vec<Pinned>>, tree: &Tree, number: u16) -> bool
-    ensures { result ≡ is_pinned_at (option_map (λ v. v.items) pins.now)
+fn is_kept_at(pins: &Option<PinList>, tree: &Tree, number: u16) -> bool
+    ensures { result ≡ is_pinned_at pins.now
         (finmap.get (by_number tree.now.files) number) }
 {
     match tree.file_at(number) {

@@ -4,7 +4,7 @@ use Rattle.std.specs.Prelude.{All, Contains, Result, is_some, nat_lt, not, ◌&&
 use Rattle.std.specs.List.{AllZip}
 use Rattle.std.specs.List.Sorted.{IsStrictlyIncreasing}
 use Rattle.std.specs.Option.{ForSome}
-use Rattle.std.proofs.lemmas.Bool.{cond-false, cond-true, eq-eqb, ne_eqb}
+use Rattle.std.proofs.lemmas.Bool.{cond-false, cond-true, eq-eqb}
 use Rattle.std.proofs.lemmas.Bool.Decides.{eqb_tells}
 use Rattle.std.proofs.lemmas.List.Elements.{All-contains, All-head, All-tail, Contains-append_right, Contains-get_or}
 use Rattle.std.proofs.lemmas.List.Sums.{sum_by-cons}
@@ -23,7 +23,7 @@ use Rattle.g_plain.specs.declared.faults.StoreFault.TheVariants.{DiscReadFault, 
 use Rattle.g_contents.specs.Commits.{Commits}
 use Rattle.g_contents.specs.Contents.{Contents, File, Holds, has, with_intent}
 use Rattle.g_contents.specs.Facts.{IsTied, Layout, OnlineFacts}
-use Rattle.g_incr.specs.Layout.{Dump, is_between}
+use Rattle.g_incr.specs.Layout.{Dump}
 use Rattle.g_incr.specs.Plan.{IsAway, IsPlan, Plan, blocks_of, content_blocks, dump_of, first_content, needs, waiting}
 use Rattle.g_online.specs.Ready.{HasAdopted, adopted}
 use Rattle.g_shelf.specs.Completed.{AreCompleted, AreShelved}
@@ -40,7 +40,7 @@ use Rattle.g_dumper.proofs.IntentLemmas.{rules_here}
 use Rattle.g_dumper.proofs.KeepLemmas.{store_spent}
 use Rattle.g_shelf.specs.declared.rack.Listed.{Listed}
 use Rattle.g_process.specs.declared.job.Job.{Job}
-use Rattle.g_process.specs.Planned.{IsFree, copies_from, living, process_plan, versions}
+use Rattle.g_process.specs.Planned.{IsFree, copies_from, process_plan, versions}
 use Rattle.g_process.specs.Prepared.{AtBlock, AtCopies, AtIntent, AtRelease, CarriesOut, HasIntended, IsGranted, IsPrepared, Preparing, StopsAt, copies_of}
 use Rattle.g_process.specs.Named.{intended_by, moved_by, process_copies, process_intent}
 use Rattle.g_process.specs.Exits.{IsReadBy, Stops, StopsRelease}
@@ -53,7 +53,7 @@ use Rattle.g_process.proofs.ExitLemmas.{cut_belongs, exit_before, exit_copies, e
 use Rattle.g_process.proofs.DumpLemmas.{content_at, content_of, one_dump}
 use Rattle.g_process.proofs.DoneLemmas.{IsHeldBy, at_this, has_taken, held_left, held_part, part_never, reels_held, reels_left, reels_part, reels_read, two_commits, two_rise}
 use Rattle.g_process.proofs.ListLemmas.{free_by_list, noted_at}
-use Rattle.g_process.proofs.PlanLemmas.{all_versions, plan_files}
+use Rattle.g_process.proofs.PlanLemmas.{all_versions}
 use Rattle.g_process.proofs.ProcessLemmas.{none_refused, refuses_early, refuses_late, store_up}
 use Rattle.g_process.proofs.ReelLemmas.{filled_serial, read_later}
 use Rattle.g_process.proofs.ReleaseLemmas.{AreApart, times_released}

@@ -1,39 +1,30 @@
 -- Disc and rack go on belonging together, whatever became of the event.
-use Rattle.std.proofs.Common.{◌≡◌, ◌≢◌, ℕ, zero, suc, ◌+◌, ◌-◌, ◌^◌, ◌<◌, ◌≤◌, ◌==◌, Bool, true, false, List, [], ◌∷◌, ◌++◌, drop, get_or, length, map, take, Option, Some, None, Ok, Err, refl, sym, ◌∙◌, ap, arith, subst, inl, inr, slice_get, option_map, if◌then◌else◌}
-use Rattle.std.specs.Prelude.{◌⊎◌, ◌||◌, All, Contains, IfSome, Result, filter, is_some, nat_le}
-use Rattle.std.specs.List.Sorted.{IsStrictlyIncreasing}
+use Rattle.std.proofs.Common.{◌≡◌, ℕ, zero, suc, ◌+◌, ◌<◌, ◌≤◌, ◌==◌, Bool, true, false, List, [], ◌∷◌, ◌++◌, get_or, length, map, Option, Some, None, refl, sym, ◌∙◌, ap, arith, subst, inl, inr}
+use Rattle.std.specs.Prelude.{◌⊎◌, ◌||◌, All, Contains, IfSome, filter, is_some, nat_le}
 use Rattle.std.specs.Option.{ForSome}
 use Rattle.std.proofs.lemmas.Bool.{cases_Bool, cond-false, cond-true, eq-eqb, eqb-true, ne_eqb}
-use Rattle.std.proofs.lemmas.Bool.Decides.{eqb_tells}
-use Rattle.std.proofs.lemmas.List.{length-append, take_all}
 use Rattle.std.proofs.lemmas.List.Elements.{All-contains, All-head, All-map, All-tail, Contains-append_right, Contains-get_or}
 use Rattle.std.proofs.lemmas.List.Kept.{AllPairs-from_increasing}
-use Rattle.std.proofs.lemmas.Option.{none-some, same_Some}
-use Rattle.g_base.specs.Block.{IsBlock, blocks_for}
+use Rattle.g_base.specs.Block.{IsBlock}
 use Rattle.g_entry.specs.declared.file_rec.FileRec.{FileRec}
 use Rattle.g_entry.specs.declared.file_rec.TapeCopy.{TapeCopy}
-use Rattle.g_entry.specs.declared.head.Intent.{Intent}
 use Rattle.g_entry.specs.declared.user_rec.UserRec.{UserRec}
-use Rattle.g_tape.specs.Rack.{AreReels, Rack, changed, reel, with_reel}
-use Rattle.g_tape.specs.Reads.{OnlyReads, blocks_in, blocks_of as blocks_at, unread}
-use Rattle.g_tape.specs.Reel.{Reel, Remains, Shortened, Torn, Unchanged, ending, left_by}
-use Rattle.g_tape.proofs.ReadLemmas.{is_reel}
-use Rattle.g_contents.specs.Contents.{Contents, File, Holds, copied_rec, copy_of, has, recs_in, with_copies, with_copy, with_intent}
+use Rattle.g_tape.specs.Rack.{Rack, reel}
+use Rattle.g_tape.specs.Reads.{blocks_in, unread}
+use Rattle.g_tape.specs.Reel.{Reel}
+use Rattle.g_contents.specs.Contents.{Contents, File, copied_rec, copy_of, has, recs_in, with_copies, with_copy, with_intent}
 use Rattle.g_contents.specs.Facts.{IsTied, OnlineFacts, Pin, noted}
-use Rattle.g_contents.proofs.HoldLemmas.{holds_one}
-use Rattle.g_incr.specs.Layout.{Dump, dump_blocks, holds}
-use Rattle.g_incr.specs.Plan.{IsAway, IsPlan, IsReadyAt, Plan, blocks_of, content_blocks, dump_of, first_content, needs, noted_files, numbered_from, waiting, with_number as numbered}
+use Rattle.g_incr.specs.Layout.{Dump, holds}
+use Rattle.g_incr.specs.Plan.{IsPlan, Plan, blocks_of, content_blocks, dump_of, first_content, needs, noted_files, numbered_from, waiting, with_number as numbered}
 use Rattle.g_incr.proofs.PlanLemmas.{length-made}
-use Rattle.g_online.specs.Ready.{HasAdopted, adopted}
 use Rattle.g_shelf.specs.Completed.{AreCompleted, AreShelved, all_dumps, end_of}
-use Rattle.g_state.specs.Answers.{Belongs, Told}
-use Rattle.g_state.specs.Belong.{BelongWith, DiscBelongs, IsPlaced, KeepsFile, KeepsRecord, RackBelongs}
+use Rattle.g_state.specs.Belong.{DiscBelongs, IsPlaced, KeepsFile, KeepsRecord}
 use Rattle.g_state.specs.Laws.{HasContent, closed}
 use Rattle.g_state.specs.Meaning.{IsContent, told_reels}
-use Rattle.g_state.specs.Reading.{AllTold, ReelsTold}
-use Rattle.g_state.specs.Up.{ArePinned, DumpFacts, IsOpen, IsReady, IsUp, KeepsDirectories, StoreFacts, content_in, with_dump}
+use Rattle.g_state.specs.Reading.{AllTold}
+use Rattle.g_state.specs.Up.{ArePinned, IsOpen, IsReady, IsUp, StoreFacts, content_in, with_dump}
 use Rattle.g_state.proofs.ChangeLemmas.{intents_belong}
-use Rattle.g_state_laws.specs.Dumping.{AreDumpable, IsPlanOf, PinsText, closed_with, opened_with}
+use Rattle.g_state_laws.specs.Dumping.{AreDumpable, IsPlanOf, closed_with, opened_with}
 use Rattle.g_state_laws.proofs.ClosingLemmas.{closing_stays}
 use Rattle.g_state_laws.proofs.DumpingLemmas.{events_stay_up}
 use Rattle.g_state_laws.proofs.OpeningLemmas.{opening_stays}
@@ -43,15 +34,15 @@ use Rattle.g_state_process.specs.Releasing.{HasAll, without_reel}
 use Rattle.g_state_process.proofs.ReleaseLemmas.{releases_stay}
 use Rattle.g_state_process.specs.Forgotten.{bare, bare_file, bare_rec, every_user, forgotten}
 use Rattle.g_state_process.proofs.ForgetLemmas.{forgetting_stays}
-use Rattle.g_dumper.specs.Keeps.{spent_with, up_with}
+use Rattle.g_dumper.specs.Keeps.{up_with}
 use Rattle.g_dumper.proofs.BeginLemmas.{reel_named}
 use Rattle.g_dumper.proofs.HeldLemmas.{held_of_one, holds_there}
 use Rattle.g_dumper.proofs.IntentLemmas.{rules_here}
-use Rattle.g_dumper.proofs.KeepLemmas.{belongs_spent, belongs_up, devices_belong, without_dump}
+use Rattle.g_dumper.proofs.KeepLemmas.{without_dump}
 use Rattle.g_dumper.proofs.OpeningLemmas.{serial_among}
 use Rattle.g_dumper.proofs.ShelfLemmas.{reel_there, told_is}
 use Rattle.g_process.specs.Exits.{AreParts}
-use Rattle.g_process.specs.Planned.{IsFree, copies_from, living, process_plan, versions}
+use Rattle.g_process.specs.Planned.{IsFree, living, process_plan, versions}
 use Rattle.g_process.specs.Named.{intended_by, moved_by, process_copies, process_intent}
 use Rattle.g_process.proofs.BecomeLemmas.{Becomes, all_cons, labels, same_serials}
 use Rattle.g_process.proofs.PinsLemmas.{are_pinned, content_pins, copy_same, noted_pins, pins_of, pins_texts}

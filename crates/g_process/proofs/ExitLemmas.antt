@@ -1,5 +1,5 @@
 -- Disc and rack go on belonging together, wherever the event ends.
-use Rattle.std.proofs.Common.{◌≡◌, ◌≢◌, ℕ, zero, suc, ◌+◌, ◌-◌, ◌<◌, ◌≤◌, ◌==◌, Bool, true, false, List, [], ◌∷◌, ◌++◌, drop, get_or, length, map, take, Option, Some, None, refl, sym, ◌∙◌, ap, arith, subst, inl, inr, slice_get, if◌then◌else◌}
+use Rattle.std.proofs.Common.{◌≡◌, ◌≢◌, ℕ, zero, suc, ◌+◌, ◌<◌, ◌≤◌, ◌==◌, Bool, true, false, List, [], ◌∷◌, ◌++◌, drop, get_or, length, map, take, Option, Some, None, refl, sym, ◌∙◌, ap, arith, subst, inl, inr, slice_get, if◌then◌else◌}
 use Rattle.std.specs.Prelude.{◌⊎◌, ◌&&◌, ◌||◌, All, Contains, is_some, nat_lt, not, option_map}
 use Rattle.std.specs.List.{AllZip}
 use Rattle.std.specs.List.Sorted.{IsStrictlyIncreasing}
@@ -18,20 +18,19 @@ use Rattle.g_tape.specs.Reel.{IsReel, Reel, Remains, Shortened, Torn, Unchanged,
 use Rattle.g_contents.specs.Contents.{Contents, File, Holds, has}
 use Rattle.g_contents.specs.Facts.{IsTied, OnlineFacts}
 use Rattle.g_contents.specs.Parts.{IsPart}
-use Rattle.g_incr.specs.Layout.{Dump, IsDump, count_of, is_between, size_of}
-use Rattle.g_incr.specs.Plan.{IsAway, IsContentAt, IsPlan, IsReadyAt, Plan, blocks_of, content_blocks, dump_of, first_content, needs, waiting}
+use Rattle.g_incr.specs.Layout.{Dump, count_of, is_between}
+use Rattle.g_incr.specs.Plan.{IsAway, IsPlan, IsReadyAt, Plan, blocks_of, content_blocks, dump_of, first_content, needs, waiting}
 use Rattle.g_incr.proofs.PlanLemmas.{length-made}
 use Rattle.g_shelf.specs.Completed.{AreCompleted, AreShelved, all_dumps}
 use Rattle.g_shelf.specs.declared.rack.Listed.{Listed}
 use Rattle.g_shelf.specs.Listed.{AreListed}
-use Rattle.g_shelf.specs.Quiet.{IsBegun, left_in}
+use Rattle.g_shelf.specs.Quiet.{left_in}
 use Rattle.g_shelf.proofs.MarkLemmas.{mark_completes}
 use Rattle.g_state.specs.Answers.{Belongs}
-use Rattle.g_state.specs.Belong.{BelongWith, DiscBelongs, KeepsFile, RackBelongs}
+use Rattle.g_state.specs.Belong.{DiscBelongs, KeepsFile, RackBelongs}
 use Rattle.g_state.specs.Meaning.{told_reels}
 use Rattle.g_state.specs.Reading.{AllTold, ReelsTold}
 use Rattle.g_state.specs.Up.{IsUp, StoreFacts, with_dump}
-use Rattle.g_state.proofs.ChangeLemmas.{intents_belong}
 use Rattle.g_state_process.specs.Forgotten.{bare_rec}
 use Rattle.g_state_process.specs.Releasing.{without_reel}
 use Rattle.g_state_process.proofs.ReleaseLemmas.{one_block_is_none}
@@ -39,16 +38,16 @@ use Rattle.g_dumper.specs.Keeps.{spent_with, up_with}
 use Rattle.g_dumper.proofs.ShelfLemmas.{reel_there, told_is}
 use Rattle.g_dumper.proofs.KeepLemmas.{belongs_spent, belongs_up, devices_belong, without_dump}
 use Rattle.g_contents.proofs.HoldLemmas.{holds_one}
-use Rattle.g_process.specs.Exits.{AreParts, HasCompleted, HasReleased, IsClearedBy, IsContentOf, IsLastCut, LacksMark, MayFill, Stops, StopsBefore, StopsCopies, StopsIntent, StopsMark, StopsRelease, cleared}
+use Rattle.g_process.specs.Exits.{AreParts, HasReleased, IsClearedBy, IsContentOf, IsLastCut, LacksMark, MayFill, Stops, StopsBefore, StopsCopies, StopsIntent, StopsMark, cleared}
 use Rattle.g_process.specs.Planned.{IsFree, IsTaken, living, process_plan, versions}
 use Rattle.g_process.specs.Named.{intended_by, moved_by}
 use Rattle.g_process.specs.Releases.{AreReleased, is_taken, released, taken, zeros}
 use Rattle.g_process.specs.Written.{AreReadable, HasWritten, IsBlockOf, IsReadable, filled}
-use Rattle.g_process.proofs.BecomeLemmas.{zip_becomes, Becomes, all_cons, apart_of, at_serial, becomes_filled, becomes_left, becomes_read, becomes_released, becomes_then, labels, labels_beside, labels_reads, left_name, released_name, same_serials}
+use Rattle.g_process.proofs.BecomeLemmas.{zip_becomes, Becomes, all_cons, apart_of, at_serial, becomes_filled, becomes_read, becomes_released, becomes_then, labels, labels_beside, labels_reads, left_name, same_serials}
 use Rattle.g_process.proofs.BelongLemmas.{disc_intended, disc_marked, none_on, ready, shelved_by, up_at, up_intended, up_moved, up_released, without_all}
 use Rattle.g_process.proofs.ContentLemmas.{all_read, within_content}
 use Rattle.g_process.proofs.DumpLemmas.{begun, content_at, content_is_long, content_of, from_drop, from_take, one_dump}
-use Rattle.g_process.proofs.PlanLemmas.{plan_files, plan_waiting}
+use Rattle.g_process.proofs.PlanLemmas.{plan_files}
 use Rattle.g_process.proofs.DoneLemmas.{reels_read}
 use Rattle.g_process.proofs.EndLemmas.{all_above, all_below, all_free, all_zip, beside_zip, l_taken, l_there, left_long, names, part_below, part_free, part_zip, top_of}
 use Rattle.g_process.proofs.ReelLemmas.{filled_long, filled_serial}

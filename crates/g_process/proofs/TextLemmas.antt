@@ -1,9 +1,9 @@
 -- The blocks that were read have the texts of the versions, where disc and rack belong together.
-use Rattle.std.proofs.Common.{◌≡◌, ◌≢◌, ℕ, zero, suc, ◌+◌, ◌-◌, ◌<◌, ◌≤◌, Bool, true, false, List, [], ◌∷◌, drop, length, map, take, Option, Some, None, refl, sym, ◌∙◌, ap, arith, subst, inl, inr, slice_get, get_or}
-use Rattle.std.specs.Prelude.{◌⊎◌, All, Contains, IfSome, is_some}
+use Rattle.std.proofs.Common.{◌≡◌, ℕ, zero, suc, ◌+◌, ◌-◌, ◌<◌, Bool, true, false, List, [], ◌∷◌, drop, length, map, Option, Some, None, refl, sym, ◌∙◌, ap, arith, subst, slice_get, get_or}
+use Rattle.std.specs.Prelude.{All, Contains, IfSome, is_some}
 use Rattle.std.specs.Option.{ForSome, option_map}
 use Rattle.std.proofs.lemmas.List.Elements.{All-contains, Contains-get_or}
-use Rattle.std.proofs.lemmas.Option.{none-some, same_Some}
+use Rattle.std.proofs.lemmas.Option.{same_Some}
 use Rattle.g_base.specs.Block.{IsBlock, blocks_for}
 use Rattle.g_copy.specs.Copy.{bytes_at}
 use Rattle.g_entry.specs.declared.file_rec.FileRec.{FileRec}
@@ -12,14 +12,14 @@ use Rattle.g_tape.specs.Rack.{Rack, reel}
 use Rattle.g_tape.specs.Reads.{blocks_in, blocks_of, unread}
 use Rattle.g_tape.specs.Reel.{Reel}
 use Rattle.g_dirs.specs.Directory.{FileEntry}
-use Rattle.g_contents.specs.Contents.{Contents, File, contents_of, file_of}
+use Rattle.g_contents.specs.Contents.{Contents, File, file_of}
 use Rattle.g_contents.specs.Facts.{IsTied, OnlineFacts}
 use Rattle.g_contents.specs.Parts.{IsPart}
 use Rattle.g_contents.proofs.PartLemmas.{joined_are_parts}
 use Rattle.g_incr.specs.Layout.{Dump, StandsOn, content_at, dump_blocks, ends, size_of}
 use Rattle.g_incr.proofs.ListLemmas.{get_drop, get_some}
-use Rattle.g_shelf.specs.Completed.{AreCompleted, AreNext, AreShelved, all_dumps}
-use Rattle.g_state.specs.Meaning.{IsContent, joined, told_reels}
+use Rattle.g_shelf.specs.Completed.{AreNext, AreShelved, all_dumps}
+use Rattle.g_state.specs.Meaning.{IsContent, told_reels}
 use Rattle.g_state.specs.Belong.{KeepsFile}
 use Rattle.g_state.specs.Reading.{ReelsTold}
 use Rattle.g_state.proofs.OneLemmas.{on_reel}

@@ -1,20 +1,17 @@
 -- The completed dumps of the reel that is written: none before the mark, whatever a failed write leaves, and that dump behind it.
-use Rattle.std.proofs.Common.{◌≡◌, ◌≢◌, ℕ, zero, suc, ◌+◌, ◌-◌, ◌<◌, ◌≤◌, List, [], ◌∷◌, ◌++◌, drop, length, map, take, Option, Some, None, refl, sym, ◌∙◌, ap, arith, subst, inl, inr, slice_get}
-use Rattle.std.specs.Prelude.{◌⊎◌, All, Contains, replicate}
-use Rattle.std.specs.Option.{ForSome}
-use Rattle.std.proofs.lemmas.List.{length-append, take_all}
-use Rattle.std.proofs.lemmas.Option.{none-some, same_Some}
+use Rattle.std.proofs.Common.{◌≡◌, ℕ, zero, suc, ◌<◌, List, [], ◌∷◌, drop, length, Some, sym, ◌∙◌, ap, arith, slice_get}
+use Rattle.std.specs.Prelude.{All, replicate}
+use Rattle.std.proofs.lemmas.Option.{same_Some}
 use Rattle.g_base.specs.Block.{IsBlock}
 use Rattle.g_base.proofs.BlockLemmas.{IsBlock-zeros}
-use Rattle.g_incr.specs.Layout.{Dump, IsDump, StandsOn, count_of, dump_blocks, ends, header_block, size_of}
+use Rattle.g_incr.specs.Layout.{Dump, IsDump, dump_blocks, header_block, size_of}
 use Rattle.g_incr.specs.Plan.{IsAway, IsPlan, IsReadyAt, Plan, content_blocks, dump_of, first_content, needs}
-use Rattle.g_incr.proofs.ListLemmas.{get_drop}
 use Rattle.g_incr.proofs.OneLemmas.{same_header}
 use Rattle.g_incr.proofs.PieceLemmas.{at_header}
 use Rattle.g_incr.proofs.PlanLemmas.{length-made, plan_gives_dump}
-use Rattle.g_shelf.specs.Completed.{AreCompleted, IsNext}
-use Rattle.g_shelf.proofs.QuietLemmas.{length_dump, within}
-use Rattle.g_process.proofs.ContentLemmas.{get_copies, long_copies}
+use Rattle.g_shelf.specs.Completed.{AreCompleted}
+use Rattle.g_shelf.proofs.QuietLemmas.{within}
+use Rattle.g_process.proofs.ContentLemmas.{long_copies}
 use Rattle.g_process.proofs.DumpLemmas.{get_below}
 
 module _ (serial : ℕ) (p : Plan) (rules : IsPlan p) (away : IsAway p) (named : p.serial ≡ serial) (at : p.place ≡ 0) where

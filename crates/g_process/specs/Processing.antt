@@ -7,7 +7,6 @@ use Rattle.g_base.specs.Counts.{Rose}
 use Rattle.g_name.specs.declared.full.Full.{Full}
 use Rattle.g_entry.specs.declared.file_rec.FileRec.{FileRec}
 use Rattle.g_entry.specs.declared.file_rec.TapeCopy.{TapeCopy}
-use Rattle.g_entry.specs.declared.head.Intent.{Intent}
 use Rattle.g_tape.specs.Reel.{Reel, Remains, left_by}
 use Rattle.g_tape.specs.Rack.{Rack, reel}
 use Rattle.g_tape.specs.Reads.{HasRead, OnlyReads, blocks_of as blocks_at, unread}
@@ -15,10 +14,9 @@ use Rattle.g_plain.specs.declared.faults.StoreFault.{StoreFault}
 use Rattle.g_plain.specs.declared.faults.StoreFault.TheVariants.{CountersSpent, DiscReadFault, DumpOpen, NoCopy, NoMemory, NoTape, RackNotMounted, ReelNotFree, Stopped, TapeFull, TapeReadFault}
 use Rattle.g_plain.specs.PlainStep.{first_fault}
 use Rattle.g_tree.specs.Records.{full_of}
-use Rattle.g_contents.specs.Contents.{Contents, File, Holds, with_intent}
+use Rattle.g_contents.specs.Contents.{File, Holds}
 use Rattle.g_contents.specs.Facts.{OnlineFacts}
-use Rattle.g_incr.specs.Plan.{blocks_of, dump_of, first_content, needs}
-use Rattle.g_online.specs.Ready.{adopted}
+use Rattle.g_incr.specs.Plan.{blocks_of, dump_of, needs}
 use Rattle.g_shelf.specs.Completed.{AreCompleted, AreShelved}
 use Rattle.g_shelf.specs.Last.{first_unmounted}
 use Rattle.g_incr.specs.Layout.{Dump}
@@ -29,7 +27,7 @@ use Rattle.g_state.specs.Up.{DumpFacts, IsUp, StoreFacts}
 use Rattle.g_dumper.specs.Keeps.{spent_with, up_with}
 use Rattle.g_process.specs.Exits.{Exits, IsReadBy}
 use Rattle.g_process.specs.Named.{intended_by, moved_by}
-use Rattle.g_process.specs.Planned.{IsFirstLost, IsFree, IsTaken, copies_from, process_plan, versions}
+use Rattle.g_process.specs.Planned.{IsFirstLost, IsFree, IsTaken, process_plan, versions}
 use Rattle.g_process.specs.Releases.{zeros}
 use Rattle.g_process.specs.Written.{IsSource}
 

@@ -12,7 +12,7 @@ use Rattle.g_incr.specs.Plan.{numbered_from}
 use Rattle.g_state.specs.Meaning.{Gathers, HasDirectory, files_of}
 use Rattle.g_state.proofs.OneLemmas.{IsApart, same_gathered}
 use Rattle.g_restore.specs.declared.dumps.Found.{Found}
-use Rattle.g_restore.specs.Gathered.{AreGathered, GoWith, IsAdded, IsBadWith, IsBest, IsFirstBad, IsHeldNowhere, IsTaken, NonePasses, SoFar, behind}
+use Rattle.g_restore.specs.Gathered.{AreGathered, ArePut, GoWith, IsAdded, IsBadWith, IsBest, IsFirstBad, IsHeldNowhere, IsTaken, NonePasses, SoFar, behind}
 use Rattle.g_restore.specs.Known.{AreKnown, Known, known, known_of}
 use Rattle.g_restore.specs.Lost.{AreApart}
 use Rattle.g_restore.proofs.KnownLemmas.{holder, none_passed}
@@ -113,6 +113,27 @@ nothing_gathered found users next = record {
 next_user : (users : List UserRec) (i : ℕ) (u : UserRec) → i < length users → u ≡ get_or users i u → take (i + 1) users ≡ take i users ++ u ∷ []
 next_user users i u within at = take_more users i u within ∙ ap (λ (x : UserRec). take i users ++ x ∷ []) (sym at)
 
+pub nothing_put : (found : List Found) (users : List UserRec) → ArePut found (take 0 users) []
+nothing_put found users dumps are = ([], refl, refl)
+
+pub one_put : (found : List Found) (users : List UserRec) (i : ℕ) (files now : List FileRec) (u : UserRec) → i < length users → u ≡ get_or users i u
+    → ArePut found (take i users) files → IsAdded found u.number files now → ArePut found (take (i + 1) users) now
+one_put found users i files now u within at put added dumps are =
+    let (gathered, gathers, numbered) = put dumps are in
+    let (d, has, is) = added dumps are in
+    subst (λ (us : List UserRec). (more : List FileRec) × Gathers dumps us more × (now ≡ numbered_from 0 more)) (sym (next_user users i u within at))
+    (gathered ++ files_of u.number d.files, gathers_push dumps (take i users) u gathered d gathers has, is ∙ behind_is files gathered u.number d.files numbered)
+
+-- what was put together and goes together was gathered
+pub put_gathered : (found : List Found) (users us : List UserRec) (next : ℕ) (files : List FileRec) → ArePut found us files → GoWith (length users) next files
+    → (dumps : List Dump) → AreKnown found dumps → AreGathered dumps (length users) next us files
+put_gathered found users us next files put go dumps are =
+    let (gathered, gathers, numbered) = put dumps are in
+    record { gathered = gathered; gathers = gathers; numbered = numbered; go = go }
+
+pub all_put : (found : List Found) (users : List UserRec) (i : ℕ) (files : List FileRec) → length users ≤ i → ArePut found (take i users) files → ArePut found users files
+all_put found users i files all put = subst (λ (us : List UserRec). ArePut found us files) (take_all i users all) put
+
 pub one_taken : (found : List Found) (users : List UserRec) (next i : ℕ) (files now : List FileRec) (u : UserRec) → i < length users → u ≡ get_or users i u
     → SoFar found users next i files → IsTaken found (length users) next u.number files now → SoFar found users next (i + 1) now
 one_taken found users next i files now u within at so taken = record {
@@ -122,17 +143,11 @@ one_taken found users next i files now u within at so taken = record {
       below_more (λ j. (fs : List FileRec) × AreGathered dumps (length users) next (take (j + 1) users) fs) i (λ j lt. so.lower dumps are j lt) (now, more dumps are) k below;
 }
   where
+    put : ArePut found (take i users) files
+    put dumps are = let all = so.all dumps are in (all.gathered, all.gathers, all.numbered)
+
     more : (dumps : List Dump) → AreKnown found dumps → AreGathered dumps (length users) next (take (i + 1) users) now
-    more dumps are =
-        let all = so.all dumps are in
-        let (d, has, is) = taken.is dumps are in
-        subst (λ (us : List UserRec). AreGathered dumps (length users) next us now) (sym (next_user users i u within at))
-        (record {
-          gathered = all.gathered ++ files_of u.number d.files;
-          gathers = gathers_push dumps (take i users) u all.gathered d all.gathers has;
-          numbered = is ∙ behind_is files all.gathered u.number d.files all.numbered;
-          go = taken.go;
-        })
+    more = put_gathered found users (take (i + 1) users) next now (one_put found users i files now u within at put taken.is) taken.go
 
 -- dumps that are apart, as the laws of the state say it
 pub apart_is : (dumps : List Dump) → AreApart dumps → IsApart dumps

@@ -73,7 +73,11 @@ abbrev pub IsBadWith : List Found → ℕ → ℕ → ℕ → List FileRec → T
 IsBadWith found users next user old = (dumps : List Dump) → AreKnown found dumps → AreApart dumps → (d : Dump) → HasDirectory dumps user d
     → GoWith users next (behind old user d.files) → ⊥
 
--- the directories of these users, numbered from 0, which go together
+-- the directories of these users, numbered from 0, whether they go together or not
+abbrev pub ArePut : List Found → List UserRec → List FileRec → Type 0
+ArePut found users files = (dumps : List Dump) → AreKnown found dumps → (gathered : List FileRec) × Gathers dumps users gathered × (files ≡ numbered_from 0 gathered)
+
+-- the same of such as go together
 pub record AreGathered (dumps : List Dump) (all next : ℕ) (users : List UserRec) (files : List FileRec) : Type 0 where
   pub gathered : List FileRec
   pub gathers : Gathers dumps users gathered

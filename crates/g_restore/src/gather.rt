@@ -1,8 +1,8 @@
 //! The directories of users, each from the newest dump that holds it, one behind the other.
-ghost use Rattle.std.specs.Prelude.{◌≡◌, ◌⊎◌, ◌↔◌, ◌+◌, ◌≤◌, ℕ, All, IfErr, IfOk, IsTrue, List, OnOk, false, length};
+ghost use Rattle.std.specs.Prelude.{◌≡◌, ◌⊎◌, ◌↔◌, ◌+◌, ◌≤◌, ℕ, All, IfErr, IfOk, IfSome, IsTrue, List, OnOk, false, length};
 ghost use Rattle.g_incr.specs.Layout.{Dump};
 ghost use Rattle.g_restore.specs.Known.{AreKnown};
-ghost use Rattle.g_restore.specs.Gathered.{AreGathered, GoWith, HasFew, IsAdded, IsBadWith, IsBestOf, IsFirstBad, IsHeldNowhere, IsTaken, added, behind, better, greater, passes};
+ghost use Rattle.g_restore.specs.Gathered.{AreGathered, ArePut, GoWith, HasFew, IsAdded, IsBadWith, IsBestOf, IsFirstBad, IsHeldNowhere, IsTaken, added, behind, better, greater, passes};
 ghost use Rattle.g_restore.specs.Lost.{AreApart};
 
 use crate::dumps::Found;
@@ -67,6 +67,57 @@ fn passes(one: &Found, user: Option<u8>) -> bool
 /// The files of all these users, by owner, numbered from 0. `LostDirectory` names the first user whose directory no dump
 /// holds, or with whose directory those of the users up to it don't keep the rules of files; `NoMemory`.
 pub(crate) fn gather(
+    alloc: Global,
+    found: &[Found],
+    users: &[UserRec],
+    next: u64,
+) -> Result<Vec<FileRec>, StoreFault>
+    requires few { All HasFew found.now }
+    ensures ok { IfOk result (λ files. (dumps : List Dump) → AreKnown found.now dumps
+        → AreGathered dumps (length users.now) next users.now files.items) }
+    ensures go { IfOk result (λ files. GoWith (length users.now) next files.items) }
+    ensures bad { (name : List ℕ) → result ≡ Err (StoreFault.LostDirectory name) → (dumps : List Dump) → AreKnown found.now dumps
+        → AreApart dumps → IsFirstBad dumps users.now next name }
+    ensures only { IfErr result (λ e. (e ≡ StoreFault.NoMemory) ⊎ ((name : List ℕ) × (e ≡ StoreFault.LostDirectory name))) }
+{
+    match gather_at_once(alloc, found, users, next) {
+        Ok(Some(files)) => Ok(files),
+        Ok(None) => gather_by_user(alloc, found, users, next),
+        Err(_) => Err(StoreFault::NoMemory),
+    }
+}
+
+/// `gather` with the rules looked at once, behind the last directory; `None` where a directory lacks, or they aren't kept.
+fn gather_at_once(
+    alloc: Global,
+    found: &[Found],
+    users: &[UserRec],
+    next: u64,
+) -> Result<Option<Vec<FileRec>>, NoMemory>
+    requires few { All HasFew found.now }
+    ensures put { IfOk result (λ all. IfSome all (λ files. ArePut found.now users.now files.items)) }
+    ensures go { IfOk result (λ all. IfSome all (λ files. GoWith (length users.now) next files.items)) }
+{
+    let mut files = Vec::new(alloc);
+    for user in users {
+        if files.len() > 1024 {
+            return Ok(None);
+        }
+        match add_directory(found, user.number, &mut files) {
+            Ok(true) => {}
+            Ok(false) => return Ok(None),
+            Err(fault) => return Err(fault),
+        }
+    }
+    if go_with(alloc, users.len(), next, files.as_slice())? {
+        Ok(Some(files))
+    } else {
+        Ok(None)
+    }
+}
+
+/// `gather` with the rules looked at behind each directory, which tells the first user with whom they aren't kept.
+fn gather_by_user(
     alloc: Global,
     found: &[Found],
     users: &[UserRec],

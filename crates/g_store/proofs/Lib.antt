@@ -17,6 +17,7 @@ mod NotedLemmas
 mod OffLemmas
 pub mod OpenedLemmas
 mod OwnPlaceLemmas
+mod ProcessCompleteLemmas
 mod ProcessedLemmas
 mod ProcessedRowsLemmas
 mod ProcessedStepLemmas

@@ -1,19 +1,17 @@
 -- What becomes of completed dumps where all versions go onto one reel.
-use Rattle.std.proofs.Common.{◌≡◌, ◌≢◌, ℕ, zero, suc, ◌+◌, ◌<◌, ◌≤◌, ◌==◌, Bool, true, false, List, [], ◌∷◌, ◌++◌, map, Option, Some, None, Result, Ok, Err, refl, sym, ◌∙◌, ap, arith, subst, inl, inr, get_or}
+use Rattle.std.proofs.Common.{◌≡◌, ℕ, zero, suc, ◌<◌, ◌==◌, Bool, true, false, List, [], ◌∷◌, ◌++◌, map, Result, Ok, Err, refl, sym, ◌∙◌, ap, arith, subst, inl, inr, get_or}
 use Rattle.std.specs.Prelude.{◌⊎◌, ◌&&◌, ◌||◌, All, Contains, if◌then◌else◌, is_some, nat_lt, not}
 use Rattle.std.specs.List.{AllZip}
 use Rattle.std.specs.Option.{ForSome}
 use Rattle.std.proofs.lemmas.Bool.{cases_Bool, cond-false, cond-true, eq-eqb, eqb-true}
 use Rattle.std.proofs.lemmas.List.{append-nil}
 use Rattle.std.proofs.lemmas.List.Elements.{All-contains, Contains-get_or, Contains-push}
-use Rattle.g_tape.specs.Rack.{Rack}
 use Rattle.g_tape.specs.Reads.{unread}
 use Rattle.g_tape.specs.Reel.{Reel}
 use Rattle.g_plain.specs.declared.faults.StoreFault.{StoreFault}
 use Rattle.g_plain.specs.declared.faults.StoreFault.TheVariants.{DiscReadFault, Stopped, TapeReadFault}
 use Rattle.g_contents.specs.Contents.{has}
-use Rattle.g_contents.specs.Facts.{OnlineFacts}
-use Rattle.g_incr.specs.Layout.{Dump, holds}
+use Rattle.g_incr.specs.Layout.{Dump}
 use Rattle.g_shelf.specs.Completed.{AreCompleted, AreShelved, all_dumps}
 use Rattle.g_shelf.proofs.OneLemmas.{completed_are_one}
 use Rattle.g_state.specs.Meaning.{told_reels}
@@ -21,11 +19,10 @@ use Rattle.g_state.specs.Reading.{AllTold}
 use Rattle.g_state.specs.Up.{IsUp, StoreFacts, with_dump}
 use Rattle.g_state_laws.proofs.UpOneLemmas.{on_all}
 use Rattle.g_state_process.specs.Moving.{AreKept, DumpsMove, IsReplaced}
-use Rattle.g_dumper.proofs.BeginLemmas.{reel_named}
 use Rattle.g_dumper.proofs.ShelfLemmas.{told_is}
-use Rattle.g_process.specs.Exits.{Exits, HasCompleted, HasReleased, IsContentOf, LacksMark, MayFill, Stops, StopsBefore, StopsCopies, StopsIntent, StopsMark, StopsRelease, Untouched, cleared, new_dump}
+use Rattle.g_process.specs.Exits.{Exits, MayFill, StopsBefore, StopsCopies, StopsIntent, StopsMark, StopsRelease, cleared, new_dump}
 use Rattle.g_store.proofs.ProcessedRowsLemmas.{IsLabelled}
-use Rattle.g_store.proofs.ProcessedStepLemmas.{all_same, found_in, name_in, named_there, unread_names, unread_there, zip_names}
+use Rattle.g_store.proofs.ProcessedStepLemmas.{all_same, found_in, name_in, named_there, unread_names, zip_names}
 use Rattle.g_store.proofs.ProcessedTreeLemmas.{held_all}
 
 has_there : (ns : List ℕ) (n : ℕ) → has ns n ≡ true → Contains ns n

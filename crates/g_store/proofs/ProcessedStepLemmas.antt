@@ -2,17 +2,15 @@
 use Rattle.std.proofs.Common.{◌≡◌, ◌≢◌, ℕ, zero, suc, ◌+◌, ◌-◌, ◌^◌, ◌<◌, ◌≤◌, ◌==◌, Bool, true, false, List, [], ◌∷◌, ◌++◌, length, map, Option, Some, None, Result, Ok, Err, refl, sym, ◌∙◌, ap, arith, subst, inl, inr, true≢false}
 use Rattle.std.specs.Prelude.{◌⊎◌, ◌&&◌, ◌||◌, All, AllPairs, Contains, IfSome, MatchOption, filter, if◌then◌else◌, is_none, is_some, nat_le, nat_lt, not, option_map}
 use Rattle.std.specs.List.{AllZip, flat_map}
-use Rattle.std.specs.Option.{ForSome}
 use Rattle.std.specs.Ordering.{nat_cmp}
 use Rattle.std.specs.FinMap.{FinMap, entries, from_entries}
-use Rattle.std.proofs.lemmas.Bool.{cases_Bool, cond-false, cond-true, eq-eqb, le-ltb, lt-ltb, ltb-true, ne_eqb, lt-leb}
+use Rattle.std.proofs.lemmas.Bool.{cases_Bool, cond-false, cond-true, eq-eqb, le-ltb, lt-ltb, ne_eqb, lt-leb}
 use Rattle.std.proofs.lemmas.Bool.Decides.{eqb_tells}
 use Rattle.std.proofs.lemmas.List.Elements.{All-contains, All-head, All-tail, All-weaker, Contains-push}
 use Rattle.std.proofs.lemmas.List.Kept.{AllPairs-from_increasing}
 use Rattle.std.proofs.lemmas.Option.{none-some, same_Some}
 use Rattle.g_base.specs.Block.{blocks_for}
 use Rattle.g_base.specs.Counts.{Rose}
-use Rattle.g_name.specs.declared.full.Full.{Full}
 use Rattle.g_entry.specs.declared.file_rec.FileRec.{FileRec}
 use Rattle.g_entry.specs.declared.file_rec.TapeCopy.{TapeCopy}
 use Rattle.g_entry.specs.declared.user_rec.UserRec.{UserRec}
@@ -23,13 +21,12 @@ use Rattle.g_tape.proofs.ReadLemmas.{is_reel}
 use Rattle.g_plain.specs.declared.faults.StoreFault.{StoreFault}
 use Rattle.g_plain.specs.declared.faults.StoreFault.TheVariants.{CountersSpent, DiscReadFault, DumpOpen, NoCopy, NoMemory, NoTape, RackNotMounted, ReelNotFree, Stopped, TapeFull, TapeReadFault}
 use Rattle.g_plain.specs.PlainStep.{first_fault}
-use Rattle.g_plain.specs.PlainTree.{Tree}
-use Rattle.g_tree.specs.Records.{IsRecords, full_of}
+use Rattle.g_tree.specs.Records.{IsRecords}
 use Rattle.g_contents.specs.Contents.{Contents, File, Holds, contents_of, has, recs_in, with_copies}
 use Rattle.g_contents.specs.Facts.{IsTied, OnlineFacts}
-use Rattle.g_incr.specs.Layout.{Dump, content_at, ends, holds}
+use Rattle.g_incr.specs.Layout.{Dump, ends, holds}
 use Rattle.g_incr.specs.Plan.{needs, first_content, numbered_from}
-use Rattle.g_shelf.specs.Completed.{AreCompleted, AreNext, AreShelved, all_dumps}
+use Rattle.g_shelf.specs.Completed.{AreCompleted, AreShelved, all_dumps}
 use Rattle.g_shelf.specs.Last.{first_unmounted}
 use Rattle.g_shelf.proofs.QuietLemmas.{within}
 use Rattle.g_step.specs.State as state
@@ -40,15 +37,15 @@ use Rattle.g_step.specs.Process as step
 use Rattle.g_step.specs.Process.{LeftByRead, Marked, Moved, NotYet, ProcessDone, ProcessLeft, ProcessStep, Processes as ProcessesBy, is_released, marked_by, moved, process_dump, process_needs, process_refuses_late, released_before, with_cut, with_intent}
 use Rattle.g_step.specs.Rising.{fault_from, has_none}
 use Rattle.g_state.specs.Answers.{Belongs, IsStore, Raised, Told}
-use Rattle.g_state.specs.Belong.{DiscBelongs, KeepsFile, KeepsRecord, RackBelongs}
-use Rattle.g_state.specs.Meaning.{DumpedDirectory, IsContent, files_in, told_reels}
-use Rattle.g_state.specs.Reading.{AllTold, DevicesStandFor, HasText, IsView, StandsForState, View, dumped_of, dumped_places, holding_of, names_of, open_of, own_of, places_of, row_of, shelved_of, state_up, tree_by, users_not_in}
+use Rattle.g_state.specs.Belong.{KeepsFile, RackBelongs}
+use Rattle.g_state.specs.Meaning.{DumpedDirectory, IsContent, told_reels}
+use Rattle.g_state.specs.Reading.{AllTold, HasText, IsView, StandsForState, View, dumped_of, dumped_places, holding_of, names_of, open_of, own_of, places_of, row_of, shelved_of, state_up, tree_by, users_not_in}
 use Rattle.g_state.specs.Up.{DumpFacts, IsUp, StoreFacts, with_dump}
 use Rattle.g_state.proofs.OneLemmas.{on_reel}
 use Rattle.g_state_laws.proofs.StateLemmas.{is_view, view_by}
 use Rattle.g_state_laws.proofs.UpOneLemmas.{on_all, store_is_one}
 use Rattle.g_state_steps.specs.Rooms.{HasLength, held_in}
-use Rattle.g_store_calls.proofs.SeenLemmas.{Seen, seen, stands}
+use Rattle.g_store_calls.proofs.SeenLemmas.{Seen, stands}
 use Rattle.g_dumper.specs.Keeps.{spent_with, up_with}
 use Rattle.g_dumper.proofs.BeginLemmas.{reel_named}
 use Rattle.g_dumper.proofs.IntentLemmas.{rules_here}
@@ -56,12 +53,12 @@ use Rattle.g_dumper.proofs.ShelfLemmas.{reel_there, told_is}
 use Rattle.g_incr.proofs.PlanLemmas.{length-made}
 use Rattle.std.specs.List.Sorted.{IsStrictlyIncreasing}
 use Rattle.g_process.proofs.TextLemmas.{among}
-use Rattle.g_process.specs.Exits.{Exits, HasCompleted, HasReleased, IsContentOf, IsReadBy, LacksMark, MayFill, Stops, StopsBefore, StopsCopies, StopsIntent, StopsMark, StopsRelease, Untouched, cleared, new_dump, IsBesideDump, IsClearedBy, IsLastCut}
+use Rattle.g_process.specs.Exits.{HasCompleted, HasReleased, IsContentOf, IsReadBy, LacksMark, MayFill, Stops, StopsBefore, StopsCopies, StopsIntent, StopsMark, StopsRelease, Untouched, cleared, new_dump, IsBesideDump, IsClearedBy, IsLastCut}
 use Rattle.g_process.specs.Named.{intended_by, moved_by, process_copies}
 use Rattle.g_process.specs.Planned.{IsFirstLost, IsFree, IsTaken, process_plan}
-use Rattle.g_process.specs.Processing.{ProcessCause, Processes, behind_process, open_number, process_refuses}
+use Rattle.g_process.specs.Processing.{Processes, behind_process, open_number, process_refuses}
 use Rattle.g_process.proofs.BecomeLemmas.{apart_of}
-use Rattle.g_process.proofs.BelongLemmas.{disc_intended, disc_marked, none_on, up_moved, up_released, without_all}
+use Rattle.g_process.proofs.BelongLemmas.{disc_marked, none_on, up_moved, up_released, without_all}
 use Rattle.g_process.proofs.ExitLemmas.{found_itself, gone_all, stays_all}
 use Rattle.g_process.proofs.ReleaseLemmas.{AreApart}
 use Rattle.g_store.specs.Events.{LeadsBy, StepsBy}
@@ -220,9 +217,10 @@ found_in (x ∷ xs) n r is = by_first (eqb_tells n x.serial) (λ it. found_in xs
         ((0, omega arith, same), ap (λ (y : Reel). y.serial) (sym same) ∙ sym h.1)
     by_first (inr h) rest = later (rest (sym (cond-false (n == x.serial) (Some x) (reel n xs) h.0) ∙ is))
 
-has_reel : (x : Option Reel) (second : Bool × StoreFault) (last : Bool) → first_fault ((is_none x, NoTape) ∷ second ∷ (false, DumpOpen 0) ∷ (last, CountersSpent) ∷ []) ≡ None → (r : Reel) × (x ≡ Some r)
-has_reel None second last is = absurd (none-some NoTape (sym is))
-has_reel (Some r) second last is = (r, refl)
+has_reel : (x : Option Reel) (second : Bool × StoreFault) (third : Bool) (n : ℕ) (last : Bool) → first_fault ((is_none x, NoTape) ∷ second ∷ (third, DumpOpen n) ∷ (last, CountersSpent) ∷ []) ≡ None
+    → (r : Reel) × (x ≡ Some r)
+has_reel None second third n last is = absurd (none-some NoTape (sym is))
+has_reel (Some r) second third n last is = (r, refl)
 
 all_kept : (us : List UserRec) → users_not_in [] us ≡ us
 all_kept [] = refl
@@ -255,6 +253,58 @@ dumped_as text d gathered = record {
 dumped_one : (text : ℕ → List ℕ) (xs ys : List Dump) (t : DumpedDirectory xs) (u : DumpedDirectory ys) → t.last ≡ u.last → t.gathered ≡ u.gathered → dumped_of text t ≡ dumped_of text u
 unfolding dumped_as
 dumped_one text xs ys t u last gathered = λ i. dumped_as text (last i) (gathered i)
+
+-- THE REELS before it, which tell what they hold
+module _ (o : OnlineFacts) (old : Rack) (reels : AreReels old.reels) (told : AllTold o.disc.held (told_reels old)) (shelf : ℕ → List Dump) (shelved_as : AreShelved shelf (told_reels old)) where
+  record TellsAt (r : Reel) : Type 0 where
+    blocks : List (List ℕ)
+    tells : r.blocks ≡ Some blocks
+    at : blocks_of r.serial old ≡ Some blocks
+    completed : AreCompleted r.serial blocks (shelf r.serial)
+    found : reel r.serial old.reels ≡ Some r
+
+  tells_at : (r : Reel) → Contains old.reels r → TellsAt r
+  tells_at r there =
+      let found : reel r.serial old.reels ≡ Some r = found_itself old.reels r (apart_of old.reels reels.rising) there in
+      let in_told = reel_there r.serial old.reels r found in
+      let (blocks, tells) = told_is r.blocks (All-contains (λ (q : Reel). is_some q.blocks ≡ true) (told_reels old) (unread r) told.each.each in_told) in
+      record { blocks = blocks; tells = tells; at = ap blocks_in found ∙ tells; completed = shelved_as.each (unread r) in_told blocks tells; found = found }
+
+  pub free_none : (r : Reel) → Contains old.reels r → IsFree r.serial old → shelf r.serial ≡ []
+  free_none r there free = let it = tells_at r there in free.none it.blocks it.at (shelf r.serial) it.completed
+
+  pub taken_some : (r : Reel) → Contains old.reels r → IsTaken r.serial old → (shelf r.serial ≡ [] → ⊥) × (0 < r.len)
+  taken_some r there taken =
+      let it = tells_at r there in
+      let some = taken.some it.blocks it.at (shelf r.serial) it.completed in
+      (some, by_dumps (shelf r.serial) it.blocks it.completed some ((is_reel r.serial old.reels r reels.each it.found).told it.blocks it.tells))
+    where
+      by_dumps : (ds : List Dump) (blocks : List (List ℕ)) → AreCompleted r.serial blocks ds → (ds ≡ [] → ⊥) → length blocks ≡ r.len → 0 < r.len
+      by_dumps [] blocks completed some long = absurd (some refl)
+      by_dumps (d ∷ ds) blocks completed some long = let low = within blocks d completed.are.0.stands in omega (arith, low, long)
+
+  -- where each file belongs to them none is lost
+  pub none_lost : (text : ℕ → List ℕ) → All (λ (g : File). KeepsFile (text g.rec.stamp) (all_dumps shelf (told_reels old)) g) o.contents.files → (f : File) (copy : TapeCopy) → IsFirstLost o old f copy → ⊥
+  none_lost text files f copy lost =
+      let kept = All-contains (λ (g : File). KeepsFile (text g.rec.stamp) (all_dumps shelf (told_reels old)) g) o.contents.files f files lost.there in
+      let content : IsContent (all_dumps shelf (told_reels old)) copy (text f.rec.stamp) = subst (λ (x : Option TapeCopy). IfSome x (λ y. IsContent (all_dumps shelf (told_reels old)) y (text f.rec.stamp))) lost.tape kept.rec.copy in
+      let on = on_reel shelf (told_reels old) content.dump content.there in
+      let (r, in_old, is_r) = unread_there old.reels on.reel on.there in
+      let it = tells_at r in_old in
+      let on_r : Contains (shelf r.serial) content.dump = subst (λ (q : Reel). Contains (shelf q.serial) content.dump) (sym is_r) on.on in
+      let here = among r.serial it.blocks 0 0 (shelf r.serial) it.completed.are content.dump on_r in
+      let named : r.serial ≡ copy.serial = sym here.on ∙ content.reel in
+      let len = kept.rec.len in
+      let from = content.from in
+      let to = content.to in
+      let size : blocks_for (length (text f.rec.stamp)) ≡ blocks_for f.rec.len = ap blocks_for len in
+      lost.lost it.blocks (ap (λ (n : ℕ). blocks_of n old) (sym named) ∙ it.at) (shelf r.serial) (subst (λ (n : ℕ). AreCompleted n it.blocks (shelf r.serial)) named it.completed)
+      (λ n less. record { dump = content.dump; there = on_r; on = content.reel; from = omega (arith, from); to = omega (arith, less, to, size) })
+
+-- the reel is there, where nothing refuses the event without a read
+pub there_is : (serial : ℕ) (t : StoreFacts) → process_refuses serial t ≡ None → (r : Reel) × (reel serial t.rack.reels ≡ Some r)
+there_is serial t granted =
+    has_reel (reel serial t.rack.reels) (fault_from RackNotMounted (first_unmounted t.rack.reels)) (is_some t.dump) (open_number t.dump) (t.online.contents.head.last_dump == 2 ^ 62 - 1) granted
 
 -- THE STORE, up, over devices that tell and belong together, where nothing refuses it without a read
 module _ (serial : ℕ) (o : OnlineFacts) (old : Rack) (reels : AreReels old.reels) (keeps : IsStore (up_with o old None)) (told : Told (up_with o old None)) (was : Belongs (up_with o old None))
@@ -302,32 +352,11 @@ module _ (serial : ℕ) (o : OnlineFacts) (old : Rack) (reels : AreReels old.ree
   refuses_none = refuses_same serial before refl v ∙ granted
 
   -- REELS with and without completed dumps
-  record TellsAt (r : Reel) : Type 0 where
-    blocks : List (List ℕ)
-    tells : r.blocks ≡ Some blocks
-    at : blocks_of r.serial old ≡ Some blocks
-    completed : AreCompleted r.serial blocks (shelf r.serial)
-    found : reel r.serial old.reels ≡ Some r
-
-  tells_at : (r : Reel) → Contains old.reels r → TellsAt r
-  tells_at r there =
-      let found : reel r.serial old.reels ≡ Some r = found_itself old.reels r (apart_of old.reels reels.rising) there in
-      let in_told = reel_there r.serial old.reels r found in
-      let (blocks, tells) = told_is r.blocks (All-contains (λ (q : Reel). is_some q.blocks ≡ true) (told_reels old) (unread r) told.each.each in_told) in
-      record { blocks = blocks; tells = tells; at = ap blocks_in found ∙ tells; completed = shelved_as.each (unread r) in_told blocks tells; found = found }
-
   none_at : (r : Reel) → Contains old.reels r → IsFree r.serial old → shelf r.serial ≡ []
-  none_at r there free = let it = tells_at r there in free.none it.blocks it.at (shelf r.serial) it.completed
+  none_at r there free = free_none o old reels told shelf shelved_as r there free
 
   some_at : (r : Reel) → Contains old.reels r → IsTaken r.serial old → (shelf r.serial ≡ [] → ⊥) × (0 < r.len)
-  some_at r there taken =
-      let it = tells_at r there in
-      let some = taken.some it.blocks it.at (shelf r.serial) it.completed in
-      (some, by_dumps (shelf r.serial) it.blocks it.completed some ((is_reel r.serial old.reels r reels.each it.found).told it.blocks it.tells))
-    where
-      by_dumps : (ds : List Dump) (blocks : List (List ℕ)) → AreCompleted r.serial blocks ds → (ds ≡ [] → ⊥) → length blocks ≡ r.len → 0 < r.len
-      by_dumps [] blocks completed some long = absurd (some refl)
-      by_dumps (d ∷ ds) blocks completed some long = let low = within blocks d completed.are.0.stands in omega (arith, low, long)
+  some_at r there taken = taken_some o old reels told shelf shelved_as r there taken
 
   row_at : (n : ℕ) (r : Reel) → reel n old.reels ≡ Some r → state.reel_at n s.reels ≡ Some (row_of shelf (unread r))
   row_at n r found = row_found shelf n rs ∙ ap (option_map (row_of shelf)) (reel_unread n old.reels ∙ ap (option_map unread) found)
@@ -392,27 +421,6 @@ module _ (serial : ℕ) (o : OnlineFacts) (old : Rack) (reels : AreReels old.ree
         opens = record { is = λ all qs some. tt };
         state_is = λ i. state_up v (sym same i) o None;
       }))
-
-  -- a lost file there is none
-  none_lost : (f : File) (copy : TapeCopy) → IsFirstLost o old f copy → ⊥
-  none_lost f copy lost =
-      let kept = All-contains (λ (g : File). KeepsFile (text g.rec.stamp) (all_dumps shelf rs) g) c.files f up.disc.files lost.there in
-      let content : IsContent (all_dumps shelf rs) copy (text f.rec.stamp) = subst (λ (x : Option TapeCopy). IfSome x (λ y. IsContent (all_dumps shelf rs) y (text f.rec.stamp))) lost.tape kept.rec.copy in
-      let on = on_reel shelf rs content.dump content.there in
-      let (r, in_old, is_r) = unread_there old.reels on.reel on.there in
-      let it = tells_at r in_old in
-      let on_r : Contains (shelf r.serial) content.dump = subst (λ (q : Reel). Contains (shelf q.serial) content.dump) (sym is_r) on.on in
-      let here = among r.serial it.blocks 0 0 (shelf r.serial) it.completed.are content.dump on_r in
-      let named : r.serial ≡ copy.serial = sym here.on ∙ content.reel in
-      let len = kept.rec.len in
-      let from = content.from in
-      let to = content.to in
-      let size : blocks_for (length (text f.rec.stamp)) ≡ blocks_for f.rec.len = ap blocks_for len in
-      lost.lost it.blocks (ap (λ (n : ℕ). blocks_of n old) (sym named) ∙ it.at) (shelf r.serial) (subst (λ (n : ℕ). AreCompleted n it.blocks (shelf r.serial)) named it.completed)
-      (λ n less. record { dump = content.dump; there = on_r; on = content.reel; from = omega (arith, from); to = omega (arith, less, to, size) })
-
-  there_is : (r : Reel) × (reel serial old.reels ≡ Some r)
-  there_is = has_reel (reel serial old.reels) (fault_from RackNotMounted (first_unmounted old.reels)) (c.head.last_dump == 2 ^ 62 - 1) granted
 
   -- A STORE behind it, over the same reels
   module _ (o' : OnlineFacts) (new : Rack) (labels : AllZip IsLabelled old.reels new.reels) (size : o'.disc.size ≡ o.disc.size) where
@@ -862,18 +870,18 @@ module _ (serial : ℕ) (o : OnlineFacts) (old : Rack) (reels : AreReels old.ree
     answers (Err (ReelNotFree n)) it =
         let same = it.exit told text shelf shelved_as up refl in
         let (n_is, taken) = it.taken n refl in
-        let (r, found) = there_is in
+        let (r, found) = there_is serial before granted in
         let (in_old, named) = found_in old.reels serial r found in
         let some = some_at r in_old (subst (λ (m : ℕ). IsTaken m old) (sym named) taken) in
         let long = end_taken serial r found some.0 in
         refused_leads (ReelNotFree n)
         (late_tests true (nat_lt (state.capacity_in (state.reel_at serial s.reels)) (process_needs k)) (process_needs k) (state.capacity_in (state.reel_at serial s.reels))
         (lt-ltb 0 (state.end_of s serial) long) refl refl refl ∙ ap (λ (m : ℕ). Some (ReelNotFree m)) (sym n_is)) same.0 same.1
-    answers (Err (NoCopy full n)) it = let (free, (f, copy, name, serial_is, lost)) = it.lost full n refl in absurd (none_lost f copy lost)
+    answers (Err (NoCopy full n)) it = let (free, (f, copy, name, serial_is, lost)) = it.lost full n refl in absurd (none_lost o old reels told shelf shelved_as text up.disc.files f copy lost)
     answers (Err (TapeFull need room)) it =
         let same = it.exit told text shelf shelved_as up refl in
         let (need_is, less, room_is, free) = it.full need room refl in
-        let (r, found) = there_is in
+        let (r, found) = there_is serial before granted in
         let (in_old, named) = found_in old.reels serial r found in
         let empty = none_at r in_old (subst (λ (m : ℕ). IsFree m old) (sym named) free) in
         let needed : process_needs k ≡ need = sym counts ∙ sym need_is in

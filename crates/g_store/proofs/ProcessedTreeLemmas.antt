@@ -1,17 +1,16 @@
 -- The dump of all versions, as a state has it: its number, its tree, where its versions lie, and how many blocks it takes.
-use Rattle.std.proofs.Common.{◌≡◌, ◌≢◌, ℕ, zero, suc, ◌+◌, ◌-◌, ◌<◌, ◌≤◌, ◌==◌, Bool, true, false, List, [], ◌∷◌, ◌++◌, length, map, Option, Some, None, refl, sym, ◌∙◌, ap, arith, subst, inl, inr, unwrap_or, option_map, get_or}
-use Rattle.std.specs.Prelude.{◌⊎◌, ◌&&◌, ◌||◌, All, AllPairs, Contains, filter, if◌then◌else◌, is_none, is_some, nat_lt, not, sum_by}
+use Rattle.std.proofs.Common.{◌≡◌, ℕ, zero, suc, ◌+◌, ◌-◌, ◌≤◌, ◌==◌, Bool, true, false, List, [], ◌∷◌, ◌++◌, length, map, Option, Some, None, refl, sym, ◌∙◌, ap, arith, subst, inl, inr, unwrap_or, option_map, get_or}
+use Rattle.std.specs.Prelude.{◌⊎◌, ◌&&◌, ◌||◌, All, AllPairs, Contains, filter, is_none, is_some, nat_lt, not, sum_by}
 use Rattle.std.specs.List.{flat_map, list_any}
 use Rattle.std.specs.Ordering.{nat_cmp}
 use Rattle.std.specs.FinMap.{FinMap, entries, find, from_entries, get, get-empty, get-from_entries, len, nat_cmp-IsAntisymmetric}
 use Rattle.std.proofs.lemmas.Bool.{cases_Bool, false_from_ne_true, cases_eq, cond-false, cond-true, eq-eqb, eqb-true, ltb-false, lt-ltb, ne_eqb, true≢false}
 use Rattle.std.proofs.lemmas.Cmp.{nat_cmp_total}
-use Rattle.std.proofs.lemmas.List.{length-append}
-use Rattle.std.proofs.lemmas.List.Elements.{All-contains, All-head, All-map, All-tail, All-weaker, Contains-get_or}
+use Rattle.std.proofs.lemmas.List.Elements.{All-head, All-map, All-tail, All-weaker, Contains-get_or}
 use Rattle.std.proofs.lemmas.List.Filters.{sum_by-filter_both}
 use Rattle.std.proofs.lemmas.List.Sums.{sum_by-append, sum_by-cons}
-use Rattle.std.proofs.lemmas.Option.{none-some, same_Some, slice_get-get_or}
-use Rattle.g_base.specs.Block.{IsBlock, blocks_for}
+use Rattle.std.proofs.lemmas.Option.{none-some, slice_get-get_or}
+use Rattle.g_base.specs.Block.{blocks_for}
 use Rattle.g_name.specs.declared.full.Full.{Full}
 use Rattle.g_name.specs.Order.{text_cmp}
 use Rattle.g_entry.specs.declared.file_rec.FileRec.{FileRec}
@@ -26,19 +25,19 @@ use Rattle.g_tree.proofs.ListLemmas.{map_of_map, sum_same_on}
 use Rattle.g_tree.proofs.MapLemmas.{found_itself, found_one, keyed}
 use Rattle.g_tree.proofs.RecordLemmas.{nobody}
 use Rattle.g_tree.proofs.RuleLemmas.{count_files, count_users, file_found}
-use Rattle.g_contents.specs.Contents.{Contents, File, copied_rec, copy_of, has, recs_in, with_copies, with_copy}
+use Rattle.g_contents.specs.Contents.{Contents, File, has, recs_in, with_copies, with_copy}
 use Rattle.g_contents.specs.Facts as facts
 use Rattle.g_contents.specs.Facts.{IsTied, OnlineFacts, Pin, noted}
-use Rattle.g_incr.specs.Layout.{Dump, ends, holds}
-use Rattle.g_incr.specs.Plan.{IsPlan, Plan, blocks_of, content_blocks, dump_of, first_content, needs, waiting}
+use Rattle.g_incr.specs.Layout.{Dump, holds}
+use Rattle.g_incr.specs.Plan.{IsPlan, Plan, blocks_of, content_blocks, first_content, needs}
 use Rattle.g_shelf.specs.Completed.{AreShelved, all_dumps}
 use Rattle.g_step.specs.State as state
 use Rattle.g_step.specs.DumpSteps.{AreNoted, dump_needs, own_copies, own_copy, waiting_blocks}
 use Rattle.g_step.specs.DumpSteps as steps
-use Rattle.g_step.specs.Process.{AreCopied, AreMoved, HasCopiesOf, IsProcessed, process_content, process_dump, process_needs}
+use Rattle.g_step.specs.Process.{AreCopied, AreMoved, HasCopiesOf, IsProcessed, process_content, process_needs}
 use Rattle.g_state.specs.Belong.{KeepsFile}
-use Rattle.g_state.specs.Meaning.{DumpedDirectory, HasDirectory, Gathers, files_in, files_of, told_reels}
-use Rattle.g_state.specs.Reading.{AllTold, Opened, View, dumped_of, dumped_places, holding_of, names_of, own_of, place_of, places_of, shelved_of, tree_by, users_not_in}
+use Rattle.g_state.specs.Meaning.{DumpedDirectory, HasDirectory, Gathers, files_of, told_reels}
+use Rattle.g_state.specs.Reading.{AllTold, Opened, View, dumped_of, holding_of, names_of, own_of, place_of, places_of, tree_by, users_not_in}
 use Rattle.g_state.specs.Up.{IsReady, IsUp, StoreFacts, content_in, with_dump}
 use Rattle.g_state_laws.specs.Dumping.{opened_with}
 use Rattle.g_state_laws.proofs.RecordLemmas.{OtherUser, gathered_by, pairs_tail, users_apart}
@@ -64,10 +63,10 @@ use Rattle.g_dumper.proofs.HeldLemmas.{holds_there}
 use Rattle.g_dumper.proofs.IntentLemmas.{rules_here}
 use Rattle.g_dumper.proofs.ShelfLemmas.{reel_there}
 use Rattle.g_process.specs.Exits.{IsContentOf, new_dump}
-use Rattle.g_process.specs.Named.{moved_by, process_copies}
+use Rattle.g_process.specs.Named.{process_copies}
 use Rattle.g_process.specs.Planned.{IsFree, is_filled, living, process_plan, versions}
 use Rattle.g_process.proofs.BelongLemmas.{copy_moved, dumpable, pinned, planned, serial_there, stays}
-use Rattle.g_process.proofs.PinsLemmas.{content_pins, noted_pins, pins_of, pins_texts}
+use Rattle.g_process.proofs.PinsLemmas.{content_pins, pins_of, pins_texts}
 use Rattle.g_process.proofs.PlanLemmas.{plan_content, plan_long}
 use Rattle.g_store.proofs.NotedLemmas.{last_is}
 

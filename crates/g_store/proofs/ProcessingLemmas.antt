@@ -1,13 +1,11 @@
 -- What a store answers to a process, of states and of completed dumps.
-use Rattle.std.proofs.Common.{◌≡◌, ℕ, Bool, false, List, [], ◌++◌, Option, Some, None, Result, Ok, Err, refl, sym, ◌∙◌, ap, subst, inl}
+use Rattle.std.proofs.Common.{◌≡◌, ℕ, Bool, false, [], Option, Some, None, Result, Err, refl, sym, ◌∙◌, ap, subst, inl}
 use Rattle.std.proofs.lemmas.List.{append-nil}
 use Rattle.g_tape.specs.Rack.{AreReels, Rack}
 use Rattle.g_plain.specs.declared.faults.StoreFault.{StoreFault}
 use Rattle.g_contents.specs.Facts.{OnlineFacts}
-use Rattle.g_incr.specs.Layout.{Dump}
 use Rattle.g_state.specs.Answers.{IsStore}
 use Rattle.g_state.specs.Up.{DumpFacts, StoreFacts}
-use Rattle.g_state_process.specs.Moving.{DumpsMove}
 use Rattle.g_dumper.specs.Keeps.{up_with}
 use Rattle.g_process.specs.Processing.{Processes, behind_process, process_refuses}
 use Rattle.g_store.specs.Processing.{MovesDumps, StepsProcess}

@@ -16,8 +16,7 @@ use Rattle.g_plain.specs.declared.faults.StoreFault.TheVariants.{MountFirst, NoM
 use Rattle.g_contents.specs.Facts.{IsTied, OnlineFacts}
 use Rattle.g_online.specs.declared.fault.OnlineFault.{OnlineFault}
 use Rattle.g_online.specs.declared.fault.OnlineFault.TheVariants as online
-use Rattle.g_online.specs.Done.{IsApplied, room_for}
-use Rattle.g_online.specs.Change.{need_of}
+use Rattle.g_online.specs.Done.{IsApplied}
 use Rattle.g_incr.specs.declared.fault.ShelfFault.{ShelfFault}
 use Rattle.g_incr.specs.declared.fault.ShelfFault.TheVariants as shelf
 use Rattle.g_incr.specs.Faults.{store_fault}

@@ -1,17 +1,23 @@
--- COMPLETENESS of FORMAT, START and RESTORE: where no count of faults rose, nothing but their own refusals and want of memory is in the way.
-use Rattle.std.specs.Prelude.{◌≡◌, ℕ, true, List, Contains, Some, None, IfSome}
+-- COMPLETENESS of FORMAT, START, RESTORE and PROCESS: where no count of faults rose, nothing but their own refusals and want of memory is in the way.
+use Rattle.std.specs.Prelude.{◌≡◌, ℕ, ◌≤◌, true, false, List, Err, Contains, Some, None, IfSome}
+use Rattle.std.specs.Option.{ForSome}
 use Rattle.g_base.specs.Counts.{Rose}
 use Rattle.g_disc.specs.Disc.{DiscState}
-use Rattle.g_tape.specs.Rack.{Rack, is_mounted, reel}
+use Rattle.g_tape.specs.Rack.{AreReels, Rack, is_mounted, reel}
 use Rattle.g_plain.specs.declared.faults.StoreFault.{StoreFault}
 use Rattle.g_plain.specs.declared.faults.StoreFault.TheVariants.{NoMemory}
 use Rattle.g_contents.specs.Contents.{Contents, Holds}
 use Rattle.g_incr.specs.Layout.{Dump}
+use Rattle.g_incr.specs.Plan.{needs}
 use Rattle.g_shelf.specs.Completed.{AreShelved, all_dumps}
 use Rattle.g_shelf.specs.Last.{first_unmounted}
+use Rattle.g_state.specs.Answers.{Belongs, Told}
 use Rattle.g_state.specs.Belong.{Belong}
 use Rattle.g_state.specs.Meaning.{told_reels}
 use Rattle.g_state.specs.Reading.{ReelsTold}
+use Rattle.g_state.specs.Up.{StoreFacts}
+use Rattle.g_process.specs.Planned.{IsFree, process_plan}
+use Rattle.g_process.specs.Processing.{Processes, process_refuses}
 use Rattle.g_store.specs.Making.{RefusesFormat, RefusesRestore, RefusesStart}
 use Rattle.g_store.specs.Refusing.{first_used}
 
@@ -32,3 +38,11 @@ pub record MakingIsComplete : Type 0 where
   pub restore : (disc : DiscState) (rack : Rack) (fault : StoreFault) (disc' : DiscState) (rack' : Rack) (shelf : ℕ → List Dump) (d : Dump) → ReelsTold (told_reels rack)
       → AreShelved shelf (told_reels rack) → Contains (all_dumps shelf (told_reels rack)) d → first_unmounted rack.reels ≡ None → Belong disc.held rack
       → NoDeviceFailed disc rack disc' rack' → RefusesRestore disc rack fault disc' rack' → fault ≡ NoMemory
+
+-- PROCESS of a store that is up, over devices that tell and belong together: nothing refuses it without a read, and the reel is free and has
+-- room
+pub record ProcessIsComplete : Type 0 where
+  pub process : (serial : ℕ) (old new : StoreFacts) (fault : StoreFault) → old.spent ≡ false → AreReels old.rack.reels → Told old → Belongs old → process_refuses serial old ≡ None
+      → IsFree serial old.rack → ForSome (reel serial old.rack.reels) (λ r. needs (process_plan serial old.online) ≤ r.capacity)
+      → NoDeviceFailed old.online.disc old.rack new.online.disc new.rack → (Rose old.rack.write_faults new.rack.write_faults → ⊥)
+      → Processes serial old (Err fault) new → fault ≡ NoMemory

@@ -12,7 +12,7 @@ mod processing;
 mod starting;
 mod store;
 
-pub use laws::making_is_complete;
+pub use laws::{making_is_complete, process_is_complete};
 pub use making::{Refused, format, restore};
 pub use mounting::rack_answer;
 pub use starting::start;

@@ -57,9 +57,12 @@ fn drawn_call(dice: &mut Dice) -> Ask<'static> {
 /// What an operator does.
 fn drawn_event(dice: &mut Dice) -> Event<'static> {
     match dice.roll(40) {
-        0..=4 => Event::Device(Device::Open, 1),
+        0..=2 => Event::Device(Device::Open, 1),
+        3..=4 => Event::Device(Device::Open, 2),
         5..=14 => Event::Migrate(path(dice.roll(6))),
         15 => Event::Shut,
+        16 => Event::Device(Device::Process, 1),
+        17 => Event::Device(Device::Process, 2),
         _ => Event::Step,
     }
 }
@@ -122,8 +125,8 @@ fn restore(rt: &HostRuntime, system: System, plain: &mut PlainStore) -> Result<(
 fn converse(rt: &HostRuntime) -> Result<(), Wrong> {
     let mut plain = PlainStore::new(rt.alloc())?;
     let mut dice = Dice { state: 7 };
-    let system = Setting::parse("as_a_plain_store")?.system(rt.alloc())?;
-    let mut system = play(rt, system, "format\nmount 1")?;
+    let system = Setting::parse("as_a_plain_store reels=2")?.system(rt.alloc())?;
+    let mut system = play(rt, system, "format\nmount 1\nmount 2")?;
     for _ in 0..150 {
         let ask = drawn_call(&mut dice);
         system = ask_both(rt, system, &mut plain, ask)?;

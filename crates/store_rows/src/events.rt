@@ -35,6 +35,8 @@ pub(crate) enum Device {
     Unread,
     /// A dump is opened on the reel.
     Open,
+    /// All versions are written onto the reel, and the other reels released.
+    Process,
     /// How many blocks the reel has.
     Length,
 }

@@ -8,6 +8,7 @@ mod down;
 mod events;
 mod jobs;
 mod operating;
+mod processing;
 mod reading;
 mod rows;
 mod setting;
@@ -22,6 +23,7 @@ fn main(rt: HostRuntime) -> Result<(), Fail> {
         "ample.rows",
         "dumps.rows",
         "offline.rows",
+        "processed.rows",
         "replaced.rows",
         "stops.rows",
     ] {
@@ -30,6 +32,8 @@ fn main(rt: HostRuntime) -> Result<(), Fail> {
     }
     let before = fs::read_to_string(&rt, "makes_room.rows")?;
     stops::run(&rt, before.as_str())?;
+    let before = fs::read_to_string(&rt, "processes.rows")?;
+    processing::run(&rt, before.as_str())?;
     conversing::run(&rt)?;
     let document = fs::read_to_string(&rt, "deep.job")?;
     let text = fs::read_to_string(&rt, "deep.text")?;

@@ -23,7 +23,8 @@ pub(crate) fn operated(
         Event::Device(device, number) => match device {
             Device::Mount => done(store.mount(*number)),
             Device::Unmount => done(store.unmount(*number)),
-            Device::Open => opened(alloc, store, *number),
+            Device::Open => numbered(store.open_dump(alloc, *number)),
+            Device::Process => numbered(store.process(alloc, *number)),
             Device::StopDisc => stop_disc(store, *number),
             Device::StopTape => stop_tape(store, *number),
             _ => Err(StoreFault::Running),
@@ -72,10 +73,9 @@ fn done(answer: Result<(), StoreFault>) -> Outcome {
     }
 }
 
-fn opened(alloc: Global, store: &mut Store<MemoryDisc, MemoryTapes>, serial: u32) -> Outcome
-    requires running { store.old.spent ≡ false }
-{
-    match store.open_dump(alloc, serial) {
+/// The number of a dump.
+fn numbered(answer: Result<u64, StoreFault>) -> Outcome {
+    match answer {
         Ok(number) => Ok(Answer::Dump(number)),
         Err(fault) => Err(fault),
     }

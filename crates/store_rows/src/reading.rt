@@ -14,10 +14,11 @@ static BARE: [(&str, Event<'static>); 7] = [
 ];
 
 /// Those with a number.
-static DEVICES: [(&str, Device); 7] = [
+static DEVICES: [(&str, Device); 8] = [
     ("mount", Device::Mount),
     ("unmount", Device::Unmount),
     ("open", Device::Open),
+    ("process", Device::Process),
     ("length", Device::Length),
     ("stop_disc", Device::StopDisc),
     ("stop_tape", Device::StopTape),

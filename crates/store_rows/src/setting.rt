@@ -79,7 +79,12 @@ impl<'a> Setting<'a> {
         if capacity < 2 || capacity > 65_536 {
             return Err(Wrong("no reel has so many blocks"));
         }
-        let reels = if self.reels == 2 {
+        let reels = if self.reels == 3 {
+            match vec![in alloc; (1, capacity), (2, capacity), (3, capacity)] {
+                Ok(reels) => reels,
+                Err(_) => return Err(Wrong("no memory")),
+            }
+        } else if self.reels == 2 {
             match vec![in alloc; (1, capacity), (2, capacity)] {
                 Ok(reels) => reels,
                 Err(_) => return Err(Wrong("no memory")),

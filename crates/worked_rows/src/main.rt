@@ -47,7 +47,8 @@ fn tell(rt: &HostRuntime, name: &str, why: &str, seen: &Seen) -> anyhow::Result<
         status,
         text,
         lengths,
+        files,
     } = seen;
-    println!(rt; "status {status}, lengths {lengths:?}, text:\n{text}")?;
+    println!(rt; "status {status}, lengths {lengths:?}, files:\n{files}text:\n{text}")?;
     Ok(())
 }

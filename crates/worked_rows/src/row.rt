@@ -15,12 +15,12 @@ pub struct Row<'a> {
     packed: bool,
     pub words: Vec<&'a str>,
     pub blocks: u32,
-    /// One reel, or two.
-    pub two_reels: bool,
-    pub capacity: u32,
-    /// What a failing write of a tape leaves: `old`, `half` or `whole`.
+    /// The capacities of the reels, 1 and so on.
+    pub reels: Vec<u32>,
+    /// What a failing write of a tape leaves: `old`, `cut`, `half` or `whole`.
     pub leaves: &'a str,
-    /// The byte of which a failing write of the disc leaves a block.
+    /// What a failing write of the disc leaves, `old` or `whole`, and the byte of which it leaves a block; 0: none.
+    pub disc: &'a str,
     pub torn: u8,
     /// Which take of the script and which put of the text fails; 0: none.
     pub take: u64,
@@ -30,7 +30,51 @@ pub struct Row<'a> {
     status: u8,
     /// The lengths of the reels at the end, where they are told.
     lengths: Vec<u32>,
+    /// The files whose copies are told.
+    pub copies: Vec<Taped<'a>>,
     absent: Vec<&'a str>,
+}
+
+/// A file, and where its copy lies on tape at the end.
+#[derive(Drop)]
+pub struct Taped<'a> {
+    file: &'a str,
+    serial: &'a str,
+    first: &'a str,
+}
+
+impl<'a> Taped<'a> {
+    /// Reads the full name, the serial and the first block, with commas between.
+    fn parse(value: &'a str) -> anyhow::Result<Taped<'a>> {
+        let Some((file, place)) = value.split_once(',') else {
+            return Err(anyhow!("no copy: {value}"));
+        };
+        let Some((serial, first)) = place.split_once(',') else {
+            return Err(anyhow!("no place of a copy: {value}"));
+        };
+        Ok(Taped {
+            file,
+            serial,
+            first,
+        })
+    }
+
+    /// Whether a line of the disc's files is this file's, and tells this place.
+    fn is_told(&self, line: &str) -> bool {
+        let Some(told) = line.strip_prefix(self.file) else {
+            return false;
+        };
+        let Some(told) = told.strip_suffix(self.first) else {
+            return false;
+        };
+        let Some(told) = told.strip_suffix(" AT ") else {
+            return false;
+        };
+        let Some(told) = told.strip_suffix(self.serial) else {
+            return false;
+        };
+        told.starts_with(" ") && told.ends_with(" TAPE ")
+    }
 }
 
 impl<'a> Row<'a> {
@@ -50,6 +94,9 @@ impl<'a> Row<'a> {
         if row.words.is_empty() {
             row.words.push("run")?;
         }
+        if row.reels.is_empty() {
+            row.reels.push(8_192)?;
+        }
         Ok(row)
     }
 
@@ -60,15 +107,16 @@ impl<'a> Row<'a> {
             packed: false,
             words: Vec::new(alloc),
             blocks: 4_096,
-            two_reels: false,
-            capacity: 8_192,
+            reels: Vec::new(alloc),
             leaves: "old",
+            disc: "old",
             torn: 0,
             take: 0,
             put: 0,
             each_put: false,
             status: 0,
             lengths: Vec::new(alloc),
+            copies: Vec::new(alloc),
             absent: Vec::new(alloc),
         })
     }
@@ -78,10 +126,16 @@ impl<'a> Row<'a> {
             self.words.push(value)?;
         } else if key == "absent" {
             self.absent.push(value)?;
+        } else if key == "reel" {
+            self.reels.push(value.parse()?)?;
         } else if key == "length" {
             self.lengths.push(value.parse()?)?;
+        } else if key == "copy" {
+            self.copies.push(Taped::parse(value)?)?;
         } else if key == "leaves" {
             self.leaves = value;
+        } else if key == "disc" {
+            self.disc = value;
         } else if key == "torn" {
             self.torn = value.parse()?;
         } else if key == "status" {
@@ -95,14 +149,10 @@ impl<'a> Row<'a> {
     fn set_number(&mut self, key: &str, value: u32) -> anyhow::Result<()> {
         if key == "blocks" {
             self.blocks = value;
-        } else if key == "reels" {
-            self.two_reels = value == 2;
         } else if key == "packed" {
             self.packed = value == 1;
         } else if key == "puts" {
             self.each_put = value == 1;
-        } else if key == "capacity" {
-            self.capacity = value;
         } else if key == "take" {
             self.take = u64::from(value);
         } else if key == "put" {
@@ -147,6 +197,14 @@ impl<'a> Row<'a> {
         }
         if !self.lengths.is_empty() && seen.lengths.as_slice() != self.lengths.as_slice() {
             return Some("the lengths of the reels");
+        }
+        if !self.copies.iter().all(|copy| seen
+            .files
+            .as_str()
+            .lines()
+            .any(|line| copy.is_told(line)))
+        {
+            return Some("the place of a copy");
         }
         None
     }

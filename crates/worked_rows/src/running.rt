@@ -6,6 +6,7 @@ use anyhow::anyhow;
 use g_disc::{Disc, Leave, MemoryDisc};
 use g_edge::run_by_rules;
 use g_io::{MemorySink, MemorySource};
+use g_look::list;
 use g_run::Finish;
 use g_tape::{MemoryTapes, TapeLeave, Tapes};
 use std::alloc::Global;
@@ -22,6 +23,8 @@ pub struct Seen {
     pub status: u8,
     pub text: String,
     pub lengths: Vec<u32>,
+    /// A line for each file of the disc, where the row tells of copies.
+    pub files: String,
 }
 
 /// Runs the row's script.
@@ -33,18 +36,16 @@ pub fn run_row(alloc: Global, row: &Row, script: &str) -> anyhow::Result<Seen> {
         [row.take].to_vec(alloc)?,
     );
     let mut sink = MemorySink::new(alloc, ROOM, [row.put].to_vec(alloc)?)?;
-    let Finish { status, tapes, .. } = run_by_rules(
-        alloc,
-        &row.words,
-        &mut source,
-        &mut sink,
+    let Finish {
+        status,
         disc,
         tapes,
-    );
+    } = run_by_rules(alloc, &row.words, &mut source, &mut sink, disc, tapes);
     Ok(Seen {
         status: status.code(),
         text: String::from_utf8_lossy(alloc, sink.text())?,
         lengths: lengths_of(alloc, &tapes)?,
+        files: files_of(alloc, row, disc)?,
     })
 }
 
@@ -82,28 +83,55 @@ fn disc_of(alloc: Global, row: &Row) -> anyhow::Result<MemoryDisc>
     let mut disc = MemoryDisc::new(alloc, row.blocks)?;
     if row.torn > 0 {
         disc.set_leave(Leave::These([row.torn; 512]));
+    } else if row.disc == "whole" {
+        disc.set_leave(Leave::Whole);
     }
     Ok(disc)
 }
 
-/// The row's rack: reel 1, or reels 1 and 2.
+/// The row's rack, of one to three reels.
 fn tapes_of(alloc: Global, row: &Row) -> anyhow::Result<MemoryTapes> {
-    let capacity = row.capacity;
-    if capacity < 2 || capacity > 65_536 {
-        return Err(anyhow!("no reel has so many blocks: {capacity}"));
-    }
-    let reels = if row.two_reels {
-        vec![in alloc; (1, capacity), (2, capacity)]?
-    } else {
-        vec![in alloc; (1, capacity)]?
+    let reels = match row.reels.as_slice() {
+        [one] => vec![in alloc; (1, capacity_of(*one)?)]?,
+        [one, two] => vec![in alloc; (1, capacity_of(*one)?), (2, capacity_of(*two)?)]?,
+        [one, two, three] => vec![in alloc;
+            (1, capacity_of(*one)?),
+            (2, capacity_of(*two)?),
+            (3, capacity_of(*three)?),
+        ]?,
+        _ => return Err(anyhow!("no rack has so many reels")),
     };
     let mut tapes = MemoryTapes::new(alloc, reels)?;
-    if row.leaves == "half" {
+    if row.leaves == "cut" {
+        tapes.set_leave(TapeLeave::Cut);
+    } else if row.leaves == "half" {
         tapes.set_leave(TapeLeave::Half);
     } else if row.leaves == "whole" {
         tapes.set_leave(TapeLeave::Whole);
     }
     Ok(tapes)
+}
+
+/// A capacity that a reel can have.
+fn capacity_of(blocks: u32) -> anyhow::Result<u32>
+    ensures { IfOk result (λ capacity. (2 ≤ capacity) × (capacity ≤ 65536)) }
+{
+    if blocks < 2 || blocks > 65_536 {
+        return Err(anyhow!("no reel has so many blocks: {blocks}"));
+    }
+    Ok(blocks)
+}
+
+/// The lines of the disc's files, where the row tells of copies.
+fn files_of(alloc: Global, row: &Row, mut disc: MemoryDisc) -> anyhow::Result<String> {
+    if row.copies.is_empty() {
+        return Ok(String::new(alloc));
+    }
+    if disc.size() < 2_178 {
+        return Err(anyhow!("no disc has so few blocks"));
+    }
+    let files = list(alloc, &mut disc, None)?;
+    Ok(String::from_utf8_lossy(alloc, files.as_slice())?)
 }
 
 /// The length of each reel.

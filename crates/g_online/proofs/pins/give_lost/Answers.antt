@@ -1,6 +1,5 @@
 use Rattle.g_blocks.specs.Pool.{HasGiven, IsTaken}
 use Rattle.std.proofs.Common.{sym}
-use Rattle.std.proofs.lemmas.List.{get_or_default}
 use Rattle.g_online.specs.Dumped.{lost_of}
 use Rattle.g_online.proofs.PoolLemmas.{given_none, given_then, next_apart, next_may, one_more, still_taken}
 use Rattle.g_online.proofs.pins.give_lost.Goals as goal

@@ -1,4 +1,4 @@
-use Rattle.std.proofs.Common.{◌≢◌, ◌+◌, ◌<◌, ◌≤◌, ◌∙◌, ℕ, List, Bool, Ok, Err, All, AllPairs, length, subst, sym}
+use Rattle.std.proofs.Common.{◌≢◌, ◌+◌, ◌<◌, ◌∙◌, ℕ, List, Bool, Ok, Err, All, AllPairs, length, subst, sym}
 use Rattle.g_base.specs.Block.{blocks_for}
 use Rattle.g_blocks.specs.Pool.{HasGiven, HasTaken, IsFree, IsTaken, free_count}
 use Rattle.g_copy.specs.declared.copy.DiscCopy.{DiscCopy}

@@ -10,8 +10,8 @@ pub invariant_of-self : goal.invariant_of-self
 invariant_of-self c =
     let place = subst (λ (rs : List Reel). IsPlaceOf c.args.serial rs c.in-Some.place) c.deref.ensures.value c.in-Some.ensures in
     record {
-      well_formed = AreReels-set _ _ _ _ c.args.self.now.well_formed place.within c.index_mut.ensures.value c.set_mounted.ensures.keeps
-          (ap (λ (r : Reel). r.serial) c.set_mounted.ensures.value);
+      well_formed = AreReels-set _ _ _ _ c.args.self.now.well_formed place.within c.index_mut.ensures.value c.unmount.ensures.keeps
+          (ap (λ (r : Reel). r.serial) c.unmount.ensures.value);
     }
 
 pub returns : goal.returns
@@ -26,5 +26,5 @@ returns c =
     } in (
       ap refuses_unmount (at-place _ _ _ _ place c.index.ensures) ∙ sym c.refuses_unmount.ensures ∙ c.in_default-refuses_unmount.is,
       ap (λ (rs : List Reel). let new : Rack = record old { reels = rs } in new)
-          (with_reel-place _ _ _ (with_mounted false) _ _ place c.index_mut.ensures.value c.set_mounted.ensures.value),
+          (with_reel-place _ _ _ (with_mounted false) _ _ place c.index_mut.ensures.value c.unmount.ensures.value),
     )

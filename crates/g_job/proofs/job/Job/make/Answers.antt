@@ -1,4 +1,4 @@
-use Rattle.std.proofs.Common.{length, option_map, sym, ap, subst, ◌-◌, ◌∙◌}
+use Rattle.std.proofs.Common.{length, option_map, sym, ap, subst, ◌-◌}
 use Rattle.g_job.specs.JobValue.{job_of}
 use Rattle.g_act.specs.Making.{IsMade}
 use Rattle.g_act.specs.Values.{pending_of}

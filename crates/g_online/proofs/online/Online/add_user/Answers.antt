@@ -1,10 +1,9 @@
-use Rattle.std.proofs.Common.{ℕ, ◌+◌, ◌∙◌, List, [], ◌∷◌, ◌++◌, ap, sym, option_map, refl}
+use Rattle.std.proofs.Common.{ℕ, ◌+◌, ◌∙◌, List, [], ◌∷◌, ◌++◌, ap, refl}
 use Rattle.g_entry.specs.declared.user_rec.UserRec.{UserRec}
 use Rattle.g_online.specs.declared.change.Change.TheVariants.{AddUser}
 use Rattle.g_online.specs.Kept.{Memory}
 use Rattle.g_online.proofs.MemoryLemmas.{memory}
 use Rattle.g_online.proofs.StepLemmas.{IsReady, applied, kept_behind, marked_for, not_applied}
-use Rattle.g_online.proofs.TieLemmas.{some_made}
 use Rattle.g_online.proofs.UserLemmas.{added_ready, added_rules, number_fits}
 use Rattle.g_online.proofs.online.Online.add_user.Goals as goal
 use Rattle.g_online.proofs.online.Online.add_user.Goals.{After-note}
@@ -12,7 +11,7 @@ use Rattle.g_online.proofs.online.Online.add_user.Goals.{After-note}
 abbrev before : (g : _) (c : After-note g) → Memory
 before g c =
     memory c.self.inside.slots c.self.inside.pages c.self.inside.pool c.self.inside.tree.users c.self.inside.tree.files c.self.inside.head
-    c.self.inside.online.items (option_map (λ v. v.items) c.self.inside.pins) c.self.inside.changed c.self.inside.touched c.self.inside.live
+    c.self.inside.online.items c.self.inside.pins c.self.inside.changed c.self.inside.touched c.self.inside.live
 
 ready : (g : _) (c : After-note g) → IsReady (AddUser c.args.user.now) (g.D.Disc.state c.self.inside.disc) (before g c) (record (before g c) {
   head = c.kept_head-self-inside.result;
@@ -26,7 +25,7 @@ ready g c =
     added_ready c.args.user.now c.copy.result (g.D.Disc.state c.self.inside.disc) _ c.is_some-pinned.result c.kept_head-self-inside.result
     c.add_user.new.self.users c.add_user.new.self.files
     (1 + c.from.result) c.changed.new.self c.changed-2.new.self c.note.new.changed c.note.new.touched c.args.self.now c.copy.ensures
-    (c.is_some-pinned.ensures ∙ sym (some_made _ c.self.inside.pins)) c.kept_head-self-inside.ensures (c.add_user.ensures.users ∙ ap (λ (us : List UserRec).
+    c.is_some-pinned.ensures c.kept_head-self-inside.ensures (c.add_user.ensures.users ∙ ap (λ (us : List UserRec).
     us ++ c.copy.result ∷ []) c.reserve.ensures.users)
     (c.add_user.ensures.files ∙ c.reserve.ensures.files) (ap (λ (n : ℕ). 1 + n) c.from.ensures) c.note.ensures.changed c.note.ensures.touched
     c.self.view_is c.self.invariant c.requires.allowed
@@ -36,7 +35,7 @@ ready g c =
 pub returns-in-Err : goal.returns-in-Err
 returns-in-Err g c =
     let m : Memory = memory c.self.inside.slots c.self.inside.pages c.self.inside.pool c.self.inside.tree.users c.self.inside.tree.files c.self.inside.head
-    c.self.inside.online.items (option_map (λ v. v.items) c.self.inside.pins) c.self.inside.changed c.self.inside.touched c.self.inside.live in
+    c.self.inside.online.items c.self.inside.pins c.self.inside.changed c.self.inside.touched c.self.inside.live in
     not_applied (AddUser c.args.user.now) (g.D.Disc.state c.self.inside.disc) m (record m {
       users = c.reserve.new.self.users;
       files = c.reserve.new.self.files;

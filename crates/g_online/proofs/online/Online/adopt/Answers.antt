@@ -1,4 +1,4 @@
-use Rattle.std.proofs.Common.{Err, ◌∙◌, refl, subst, sym, option_map}
+use Rattle.std.proofs.Common.{Err, refl, subst}
 use Rattle.g_contents.specs.Facts.{OnlineFacts}
 use Rattle.g_online.specs.declared.change.Change.TheVariants.{Adopt}
 use Rattle.g_online.specs.declared.fault.OnlineFault.TheVariants.{NoMemory}
@@ -7,14 +7,13 @@ use Rattle.g_online.specs.Kept.{Memory}
 use Rattle.g_online.proofs.MemoryLemmas.{memory}
 use Rattle.g_online.proofs.StepLemmas.{IsReady, applied, copies_for, kept_behind, marked_for, not_applied}
 use Rattle.g_online.proofs.AdoptLemmas.{adopt_ready, adopt_rules}
-use Rattle.g_online.proofs.TieLemmas.{some_made}
 use Rattle.g_online.proofs.online.Online.adopt.Goals as goal
 use Rattle.g_online.proofs.online.Online.adopt.Goals.{After-all_changed}
 
 abbrev before : (g : _) (c : After-all_changed g) → Memory
 before g c =
     memory c.self.inside.slots c.self.inside.pages c.self.inside.pool c.self.inside.tree.users c.self.inside.tree.files c.self.inside.head
-    c.self.inside.online.items (option_map (λ v. v.items) c.self.inside.pins) c.self.inside.changed c.self.inside.touched c.self.inside.live
+    c.self.inside.online.items c.self.inside.pins c.self.inside.changed c.self.inside.touched c.self.inside.live
 
 ready : (g : _) (c : After-all_changed g) → IsReady (Adopt c.args.last c.args.copies.now) (g.D.Disc.state c.self.inside.disc) (before g c) (record (before g c) {
   head = c.kept_head-self-inside.result;
@@ -25,7 +24,7 @@ ready : (g : _) (c : After-all_changed g) → IsReady (Adopt c.args.last c.args.
 ready g c =
     adopt_ready c.args.last c.args.copies.now c.as_slice.result.now (g.D.Disc.state c.self.inside.disc) _ c.is_some.result c.kept_head-self-inside.result
     c.in-Ok.tree.users c.in-Ok.tree.files c.all_changed.new.self c.args.self.now
-    c.as_slice.ensures (c.is_some.ensures ∙ sym (some_made _ c.self.inside.pins)) c.kept_head-self-inside.ensures c.in-Ok.ensures.users c.in-Ok.ensures.files
+    c.as_slice.ensures c.is_some.ensures c.kept_head-self-inside.ensures c.in-Ok.ensures.users c.in-Ok.ensures.files
     c.self.view_is c.self.invariant c.requires.allowed
     c.all_changed.ensures.marks c.all_changed.ensures.remembers c.all_changed.ensures.covers
 

@@ -1,8 +1,10 @@
-use Rattle.std.proofs.Common.{◌∙◌}
+use Rattle.std.proofs.Common.{◌≡◌, ◌∙◌, ℕ, List, ap, sym}
+use Rattle.g_entry.specs.declared.file_rec.TapeCopy.{TapeCopy}
 use Rattle.g_online.proofs.CloseLemmas.{close_ready, close_rules, closing_is, lost_to_close, may_close, to_close}
 use Rattle.g_online.proofs.NotedLemmas.{noted_by, noted_kept}
 use Rattle.g_online.proofs.StepLemmas.{copies_for, marked_for}
 use Rattle.g_online.specs.declared.change.Change.TheVariants.{Adopt}
+use Rattle.g_online.specs.declared.pinned.Pinned.{Pinned}
 use Rattle.g_online.specs.Dumped.{noted_in}
 use Rattle.g_online.proofs.online.Online.close_dump.Goals as goal
 
@@ -18,11 +20,15 @@ give_lost-requires-clause-taken g c =
     c.self.view_is c.self.invariant c.requires.live c.requires.pinned c.requires.rules)
     c.files.result.now c.pinned_versions-pins.result.now c.files.ensures.value c.pinned_versions-pins.ensures).1
 
+-- what is noted is noted of the versions
+same : (notes : List (ℕ × TapeCopy)) (pins versions : List Pinned) → notes ≡ noted_in pins → versions ≡ pins → notes ≡ noted_in versions
+same notes pins versions is these = is ∙ ap noted_in (sym these)
+
 pub note_copies-requires : goal.note_copies-requires
 note_copies-requires g c =
-    close_rules c.args.last (g.D.Disc.state c.self.inside.disc) _ (to_close c.args.last (g.D.Disc.state c.self.inside.disc) _ c.args.self.now c.self.view_is
+    rw (same _ _ _ c.pinned_notes.ensures c.pinned_versions-pins.ensures) (close_rules c.args.last (g.D.Disc.state c.self.inside.disc) _ (to_close c.args.last (g.D.Disc.state c.self.inside.disc) _ c.args.self.now c.self.view_is
     c.self.invariant c.requires.live c.requires.pinned c.requires.rules)
-    c.files.result.now c.pinned_versions-pins.result.now c.files.ensures.value c.pinned_versions-pins.ensures c.give_lost.new.pool c.give_lost.ensures
+    c.files.result.now c.pinned_versions-pins.result.now c.files.ensures.value c.pinned_versions-pins.ensures c.give_lost.new.pool c.give_lost.ensures)
 
 pub commit-requires-clause-marked : goal.commit-requires-clause-marked
 commit-requires-clause-marked g c =
@@ -31,7 +37,7 @@ commit-requires-clause-marked g c =
     c.self.invariant c.requires.live c.requires.pinned c.requires.rules)
     c.files.result.now c.pinned_versions-pins.result.now c.files.ensures.value c.pinned_versions-pins.ensures c.give_lost.new.pool c.give_lost.ensures
     c.note_copies.new.tree.users c.note_copies.new.tree.files c.changed.new.self c.note_copies.new.pages c.note_copies.ensures.users
-    c.note_copies.ensures.files c.changed.ensures.marks c.changed.ensures.remembers c.changed.ensures.covers c.note_copies.ensures.marks)
+    (rw (same _ _ _ c.pinned_notes.ensures c.pinned_versions-pins.ensures) at c.note_copies.ensures.files) c.changed.ensures.marks c.changed.ensures.remembers c.changed.ensures.covers (rw (same _ _ _ c.pinned_notes.ensures c.pinned_versions-pins.ensures) at c.note_copies.ensures.marks))
     c.deref.result.now c.deref.ensures.value
 
 pub commit-requires-clause-copies : goal.commit-requires-clause-copies
@@ -41,7 +47,7 @@ commit-requires-clause-copies g c =
     c.self.invariant c.requires.live c.requires.pinned c.requires.rules)
     c.files.result.now c.pinned_versions-pins.result.now c.files.ensures.value c.pinned_versions-pins.ensures c.give_lost.new.pool c.give_lost.ensures
     c.note_copies.new.tree.users c.note_copies.new.tree.files c.changed.new.self c.note_copies.new.pages c.note_copies.ensures.users
-    c.note_copies.ensures.files c.changed.ensures.marks c.changed.ensures.remembers c.changed.ensures.covers c.note_copies.ensures.marks)
+    (rw (same _ _ _ c.pinned_notes.ensures c.pinned_versions-pins.ensures) at c.note_copies.ensures.files) c.changed.ensures.marks c.changed.ensures.remembers c.changed.ensures.covers (rw (same _ _ _ c.pinned_notes.ensures c.pinned_versions-pins.ensures) at c.note_copies.ensures.marks))
     c.deref.result.now c.deref.ensures.value
 
 pub invariant_of-self : goal.invariant_of-self
@@ -53,8 +59,8 @@ invariant_of-self g c =
     c.files.result.now c.pinned_versions-pins.result.now c.files.ensures.value c.pinned_versions-pins.ensures c.give_lost.new.pool c.give_lost.ensures
     c.note_copies.new.tree.users c.note_copies.new.tree.files c.changed.new.self c.note_copies.new.pages c.replace-self-inside.result
     c.replace-self-inside.new.dest
-    c.note_copies.ensures.users c.note_copies.ensures.files c.changed.ensures.marks c.changed.ensures.remembers c.changed.ensures.covers
-    c.note_copies.ensures.marks
+    c.note_copies.ensures.users (rw (same _ _ _ c.pinned_notes.ensures c.pinned_versions-pins.ensures) at c.note_copies.ensures.files) c.changed.ensures.marks c.changed.ensures.remembers c.changed.ensures.covers
+    (rw (same _ _ _ c.pinned_notes.ensures c.pinned_versions-pins.ensures) at c.note_copies.ensures.marks)
     c.replace-self-inside.ensures.value (c.replace-self-inside.ensures.after ∙ c.new.ensures) in
     noted_kept _ _ _ _ _ _ _ may (g.D.Disc.state c.commit.new.disc) c.commit.new.slots c.commit.new.pages c.commit.new.live c.commit.result c.deref.result.now
     c.deref.ensures.value
@@ -69,8 +75,8 @@ returns g c =
     c.files.result.now c.pinned_versions-pins.result.now c.files.ensures.value c.pinned_versions-pins.ensures c.give_lost.new.pool c.give_lost.ensures
     c.note_copies.new.tree.users c.note_copies.new.tree.files c.changed.new.self c.note_copies.new.pages c.replace-self-inside.result
     c.replace-self-inside.new.dest
-    c.note_copies.ensures.users c.note_copies.ensures.files c.changed.ensures.marks c.changed.ensures.remembers c.changed.ensures.covers
-    c.note_copies.ensures.marks
+    c.note_copies.ensures.users (rw (same _ _ _ c.pinned_notes.ensures c.pinned_versions-pins.ensures) at c.note_copies.ensures.files) c.changed.ensures.marks c.changed.ensures.remembers c.changed.ensures.covers
+    (rw (same _ _ _ c.pinned_notes.ensures c.pinned_versions-pins.ensures) at c.note_copies.ensures.marks)
     c.replace-self-inside.ensures.value (c.replace-self-inside.ensures.after ∙ c.new.ensures) in
     closing_is c.args.last (g.D.Disc.state c.self.inside.disc) _
     (to_close c.args.last (g.D.Disc.state c.self.inside.disc) _ c.args.self.now c.self.view_is c.self.invariant c.requires.live c.requires.pinned

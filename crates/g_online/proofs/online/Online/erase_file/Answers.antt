@@ -1,4 +1,4 @@
-use Rattle.std.proofs.Common.{ℕ, ◌+◌, ◌∙◌, List, ap, sym, option_map}
+use Rattle.std.proofs.Common.{ℕ, ◌+◌, ◌∙◌, List, ap}
 use Rattle.std.specs.Prelude.{option_copied}
 use Rattle.g_copy.specs.declared.copy.DiscCopy.{DiscCopy}
 use Rattle.g_dirs.specs.Directory.{copy_at}
@@ -8,14 +8,13 @@ use Rattle.g_online.specs.Kept.{Memory}
 use Rattle.g_online.proofs.MemoryLemmas.{memory}
 use Rattle.g_online.proofs.StepLemmas.{IsReady, applied, copies_for, kept_behind, marked_for}
 use Rattle.g_online.proofs.EraseLemmas.{erased_ready, is_going, it_is, it_is_there, its_blocks, number_below, owner_below, pool_after}
-use Rattle.g_online.proofs.TieLemmas.{some_made}
 use Rattle.g_online.proofs.online.Online.erase_file.Goals as goal
 use Rattle.g_online.proofs.online.Online.erase_file.Goals.{After-note}
 
 abbrev before : (g : _) (c : After-note g) → Memory
 before g c =
     memory c.self.inside.slots c.self.inside.pages c.self.inside.pool c.self.inside.tree.users c.self.inside.tree.files c.self.inside.head
-    c.self.inside.online.items (option_map (λ v. v.items) c.self.inside.pins) c.self.inside.changed c.self.inside.touched c.self.inside.live
+    c.self.inside.online.items c.self.inside.pins c.self.inside.changed c.self.inside.touched c.self.inside.live
 
 ready : (g : _) (c : After-note g) → IsReady (EraseFile c.args.number) (g.D.Disc.state c.self.inside.disc) (before g c) (record (before g c) {
   head = c.kept_head-self-inside.result;
@@ -33,7 +32,7 @@ ready g c =
     c.note.new.changed c.note.new.touched c.in-Some.file.now.owner c.args.self.now (is_going c.args.number (g.D.Disc.state c.self.inside.disc) _
     c.args.self.now c.self.view_is c.self.invariant c.requires.allowed) (ap (λ (r : FileRec). r.owner) (it_is c.args.number (g.D.Disc.state
     c.self.inside.disc) _ c.in-Some.file.now (is_going c.args.number (g.D.Disc.state c.self.inside.disc) _ c.args.self.now c.self.view_is c.self.invariant
-    c.requires.allowed) c.in-Some.ensures.value)) (c.is_some-pinned.ensures ∙ sym (some_made _ c.self.inside.pins)) c.kept_head-self-inside.ensures
+    c.requires.allowed) c.in-Some.ensures.value)) c.is_some-pinned.ensures c.kept_head-self-inside.ensures
     c.erase.ensures.users c.erase.ensures.files c.forget_copy.ensures.copies (ap (λ (n : ℕ). 64 + n) c.from.ensures)
     c.note.ensures.changed c.note.ensures.touched
     (pool_after c.args.number (g.D.Disc.state c.self.inside.disc) _ (is_going c.args.number (g.D.Disc.state c.self.inside.disc) _ c.args.self.now

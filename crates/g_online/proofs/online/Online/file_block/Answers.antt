@@ -1,4 +1,4 @@
-use Rattle.std.proofs.Common.{◌≡◌, ◌∙◌, List, Result, ap, subst, sym}
+use Rattle.std.proofs.Common.{◌≡◌, ◌∙◌, Result, ap, subst, sym}
 use Rattle.std.specs.Option.{ForSome}
 use Rattle.std.specs.Prelude.{Contains, OnOk}
 use Rattle.g_contents.specs.Contents.{File}

@@ -9,24 +9,27 @@ use Rattle.g_online.proofs.online.Online.pin.Goals as goal
 pub invariant_of-self : goal.invariant_of-self
 invariant_of-self g c =
     pinned_kept (g.D.Disc.state c.self.inside.disc) _ c.args.self.now c.self.view_is c.self.invariant c.requires.live c.requires.none c.args.serial
-    c.args.first c.in-Ok.pins.items
-    (c.in-Ok.ensures ∙ ap (λ (on : List (ℕ × DiscCopy)). pins_from c.args.serial c.args.first on (waiting_below 63 c.self.inside.tree.files))
+    c.args.first c.in-Ok-new.list
+    (c.in-Ok-new.ensures ∙ c.in-Ok.ensures ∙ ap (λ (on : List (ℕ × DiscCopy)). pins_from c.args.serial c.args.first on (waiting_below 63 c.self.inside.tree.files))
     c.deref.ensures.value)
 
 pub returns-clause-ok : goal.returns-clause-ok
 returns-clause-ok g c =
     pinned_facts (g.D.Disc.state c.self.inside.disc) _ c.args.self.now c.self.view_is c.self.invariant c.requires.live c.requires.none c.args.serial
-    c.args.first c.in-Ok.pins.items
-    (c.in-Ok.ensures ∙ ap (λ (on : List (ℕ × DiscCopy)). pins_from c.args.serial c.args.first on (waiting_below 63 c.self.inside.tree.files))
+    c.args.first c.in-Ok-new.list
+    (c.in-Ok-new.ensures ∙ c.in-Ok.ensures ∙ ap (λ (on : List (ℕ × DiscCopy)). pins_from c.args.serial c.args.first on (waiting_below 63 c.self.inside.tree.files))
     c.deref.ensures.value)
 
 pub returns-clause-tied : goal.returns-clause-tied
 returns-clause-tied g c =
     tied (g.D.Disc.state c.self.inside.disc) _
     (pinned_kept (g.D.Disc.state c.self.inside.disc) _ c.args.self.now c.self.view_is c.self.invariant c.requires.live c.requires.none c.args.serial
-    c.args.first c.in-Ok.pins.items
-    (c.in-Ok.ensures ∙ ap (λ (on : List (ℕ × DiscCopy)). pins_from c.args.serial c.args.first on (waiting_below 63 c.self.inside.tree.files))
+    c.args.first c.in-Ok-new.list
+    (c.in-Ok-new.ensures ∙ c.in-Ok.ensures ∙ ap (λ (on : List (ℕ × DiscCopy)). pins_from c.args.serial c.args.first on (waiting_below 63 c.self.inside.tree.files))
     c.deref.ensures.value))
 
 pub returns-in-Err-clause-tied : goal.returns-in-Err-clause-tied
 returns-in-Err-clause-tied g c = subst IsTied c.self.view_is (tied (g.D.Disc.state c.self.inside.disc) _ c.self.invariant)
+
+pub returns-in-Err-new-clause-tied : goal.returns-in-Err-new-clause-tied
+returns-in-Err-new-clause-tied g c = subst IsTied c.self.view_is (tied (g.D.Disc.state c.self.inside.disc) _ c.self.invariant)

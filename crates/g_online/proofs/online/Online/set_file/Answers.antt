@@ -1,18 +1,17 @@
-use Rattle.std.proofs.Common.{ℕ, ◌+◌, ◌∙◌, ap, sym, option_map, refl}
+use Rattle.std.proofs.Common.{ℕ, ◌+◌, ◌∙◌, ap, refl}
 use Rattle.g_tree.specs.State.{with_file}
 use Rattle.g_online.specs.declared.change.Change.TheVariants.{SetFile}
 use Rattle.g_online.specs.Kept.{Memory}
 use Rattle.g_online.proofs.MemoryLemmas.{memory}
 use Rattle.g_online.proofs.StepLemmas.{IsReady, applied, copies_for, kept_behind, marked_for, not_applied}
 use Rattle.g_online.proofs.FileLemmas.{block_fits, file_ready, file_rules, owner_fits}
-use Rattle.g_online.proofs.TieLemmas.{some_made}
 use Rattle.g_online.proofs.online.Online.set_file.Goals as goal
 use Rattle.g_online.proofs.online.Online.set_file.Goals.{After-note}
 
 abbrev before : (g : _) (c : After-note g) → Memory
 before g c =
     memory c.self.inside.slots c.self.inside.pages c.self.inside.pool c.self.inside.tree.users c.self.inside.tree.files c.self.inside.head
-    c.self.inside.online.items (option_map (λ v. v.items) c.self.inside.pins) c.self.inside.changed c.self.inside.touched c.self.inside.live
+    c.self.inside.online.items c.self.inside.pins c.self.inside.changed c.self.inside.touched c.self.inside.live
 
 ready : (g : _) (c : After-note g) → IsReady (SetFile c.args.rec.now) (g.D.Disc.state c.self.inside.disc) (before g c) (record (before g c) {
   head = c.kept_head-self-inside.result;
@@ -26,7 +25,7 @@ ready g c =
     file_ready c.args.rec.now c.copy.result (g.D.Disc.state c.self.inside.disc) _ c.is_some-pinned.result c.kept_head-self-inside.result c.put.new.self.users
     c.put.new.self.files
     (64 + c.from.result) c.changed.new.self c.changed-2.new.self c.note.new.changed c.note.new.touched c.args.self.now c.copy.ensures
-    (c.is_some-pinned.ensures ∙ sym (some_made _ c.self.inside.pins)) c.kept_head-self-inside.ensures (c.put.ensures.users ∙ c.reserve.ensures.users)
+    c.is_some-pinned.ensures c.kept_head-self-inside.ensures (c.put.ensures.users ∙ c.reserve.ensures.users)
     (c.put.ensures.files ∙ ap (with_file c.copy.result) c.reserve.ensures.files) (ap (λ (n : ℕ). 64 + n) c.from.ensures) c.note.ensures.changed
     c.note.ensures.touched
     c.self.view_is c.self.invariant c.requires.allowed
@@ -36,7 +35,7 @@ ready g c =
 pub returns-in-Err : goal.returns-in-Err
 returns-in-Err g c =
     let m : Memory = memory c.self.inside.slots c.self.inside.pages c.self.inside.pool c.self.inside.tree.users c.self.inside.tree.files c.self.inside.head
-    c.self.inside.online.items (option_map (λ v. v.items) c.self.inside.pins) c.self.inside.changed c.self.inside.touched c.self.inside.live in
+    c.self.inside.online.items c.self.inside.pins c.self.inside.changed c.self.inside.touched c.self.inside.live in
     not_applied (SetFile c.args.rec.now) (g.D.Disc.state c.self.inside.disc) m (record m {
       users = c.reserve.new.self.users;
       files = c.reserve.new.self.files;

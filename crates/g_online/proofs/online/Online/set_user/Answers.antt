@@ -1,17 +1,16 @@
-use Rattle.std.proofs.Common.{ℕ, ◌+◌, ◌∙◌, ap, sym, option_map}
+use Rattle.std.proofs.Common.{ℕ, ◌+◌, ap}
 use Rattle.g_online.specs.declared.change.Change.TheVariants.{SetUser}
 use Rattle.g_online.specs.Kept.{Memory}
 use Rattle.g_online.proofs.RecordLemmas.{user_ready, user_rules}
 use Rattle.g_online.proofs.MemoryLemmas.{memory}
 use Rattle.g_online.proofs.StepLemmas.{IsReady, applied, kept_behind, marked_for}
-use Rattle.g_online.proofs.TieLemmas.{some_made}
 use Rattle.g_online.proofs.online.Online.set_user.Goals as goal
 use Rattle.g_online.proofs.online.Online.set_user.Goals.{After-changed-2}
 
 abbrev before : (g : _) (c : After-changed-2 g) → Memory
 before g c =
     memory c.self.inside.slots c.self.inside.pages c.self.inside.pool c.self.inside.tree.users c.self.inside.tree.files c.self.inside.head
-    c.self.inside.online.items (option_map (λ v. v.items) c.self.inside.pins) c.self.inside.changed c.self.inside.touched c.self.inside.live
+    c.self.inside.online.items c.self.inside.pins c.self.inside.changed c.self.inside.touched c.self.inside.live
 
 ready : (g : _) (c : After-changed-2 g) → IsReady (SetUser c.args.user.now) (g.D.Disc.state c.self.inside.disc) (before g c) (record (before g c) {
   head = c.kept_head-self-inside.result;
@@ -22,7 +21,7 @@ ready : (g : _) (c : After-changed-2 g) → IsReady (SetUser c.args.user.now) (g
 ready g c =
     user_ready c.args.user.now c.copy.result (g.D.Disc.state c.self.inside.disc) _ c.is_some.result c.kept_head-self-inside.result c.set_user.new.self.users
     c.set_user.new.self.files
-    (1 + c.from.result) c.changed.new.self c.changed-2.new.self c.args.self.now c.copy.ensures (c.is_some.ensures ∙ sym (some_made _ c.self.inside.pins))
+    (1 + c.from.result) c.changed.new.self c.changed-2.new.self c.args.self.now c.copy.ensures c.is_some.ensures
     c.kept_head-self-inside.ensures c.set_user.ensures.users c.set_user.ensures.files (ap (λ (n : ℕ). 1 + n) c.from.ensures) c.self.view_is c.self.invariant
     c.requires.allowed
     c.changed.ensures.marks c.changed.ensures.remembers c.changed.ensures.covers c.changed-2.ensures.marks c.changed-2.ensures.remembers

@@ -1,11 +1,10 @@
-use Rattle.std.proofs.Common.{◌≢◌, ◌<◌, ◌∙◌, ℕ, List, All, AllPairs, refl, subst, sym, option_map}
+use Rattle.std.proofs.Common.{◌≢◌, ◌<◌, ℕ, List, All, AllPairs, refl, subst, sym}
 use Rattle.g_blocks.specs.Pool.{IsTaken}
 use Rattle.g_online.specs.declared.change.Change.TheVariants.{Unload}
 use Rattle.g_online.specs.Off.{places_off}
 use Rattle.g_online.specs.Kept.{Memory}
 use Rattle.g_online.proofs.MemoryLemmas.{memory}
 use Rattle.g_online.proofs.StepLemmas.{IsReady, applied, copies_for, kept_behind, marked_for}
-use Rattle.g_online.proofs.TieLemmas.{some_made}
 use Rattle.g_online.proofs.UnloadLemmas.{is_unloadable, off_blocks, unload_ready}
 use Rattle.g_online.proofs.online.Online.unload.Goals as goal
 use Rattle.g_online.proofs.online.Online.unload.Goals.{After-take_off}
@@ -13,7 +12,7 @@ use Rattle.g_online.proofs.online.Online.unload.Goals.{After-take_off}
 abbrev before : (g : _) (c : After-take_off g) → Memory
 before g c =
     memory c.self.inside.slots c.self.inside.pages c.self.inside.pool c.self.inside.tree.users c.self.inside.tree.files c.self.inside.head
-    c.self.inside.online.items (option_map (λ v. v.items) c.self.inside.pins) c.self.inside.changed c.self.inside.touched c.self.inside.live
+    c.self.inside.online.items c.self.inside.pins c.self.inside.changed c.self.inside.touched c.self.inside.live
 
 ready : (g : _) (c : After-take_off g) → IsReady (Unload c.args.numbers.now) (g.D.Disc.state c.self.inside.disc) (before g c) (record (before g c) {
   head = c.kept_head-self-inside.result;
@@ -24,7 +23,7 @@ ready : (g : _) (c : After-take_off g) → IsReady (Unload c.args.numbers.now) (
 ready g c =
     unload_ready c.args.numbers.now (g.D.Disc.state c.self.inside.disc) _ c.is_some-pinned.result c.kept_head-self-inside.result c.take_off.new.online.items
     c.take_off.new.pool c.changed.new.self c.take_off.new.pages c.as_slice.result.now c.self.inside.online.items c.args.self.now
-    (c.is_some-pinned.ensures ∙ sym (some_made _ c.self.inside.pins)) c.kept_head-self-inside.ensures c.as_slice.ensures refl c.take_off.ensures.copies
+    c.is_some-pinned.ensures c.kept_head-self-inside.ensures c.as_slice.ensures refl c.take_off.ensures.copies
     c.take_off.ensures.blocks c.take_off.ensures.marks c.self.view_is c.self.invariant c.requires.allowed
     c.changed.ensures.marks c.changed.ensures.remembers c.changed.ensures.covers
 

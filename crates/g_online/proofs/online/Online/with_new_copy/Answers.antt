@@ -1,4 +1,4 @@
-use Rattle.std.proofs.Common.{ℕ, ◌≡◌, ◌+◌, ◌∙◌, Bool, List, [], length, Err, ap, arith, option_map, refl, subst, sym}
+use Rattle.std.proofs.Common.{ℕ, ◌≡◌, ◌+◌, ◌∙◌, Bool, List, [], length, Err, ap, arith, refl, subst}
 use Rattle.std.specs.Prelude.{OnOk}
 use Rattle.g_base.specs.Block.{blocks_for}
 use Rattle.g_blocks.specs.Pool.{HasTaken, free_count}
@@ -14,7 +14,6 @@ use Rattle.g_online.proofs.NewBytesLemmas.{has_written, may_give_back, owner_fit
 use Rattle.g_online.proofs.ReadyLemmas.{CoversBut}
 use Rattle.g_online.proofs.RecordLemmas.{keeps_marked, keeps_then}
 use Rattle.g_online.proofs.StepLemmas.{copies_for, kept_behind, marked_for}
-use Rattle.g_online.proofs.TieLemmas.{some_made}
 use Rattle.g_online.proofs.online.Online.with_new_copy.Goals as goal
 use Rattle.g_online.proofs.online.Online.with_new_copy.Goals.{After-put_record, In-Ok, In-Ok-unjam_first}
 
@@ -22,7 +21,7 @@ use Rattle.g_online.proofs.online.Online.with_new_copy.Goals.{After-put_record, 
 abbrev start : (g : _) (c : In-Ok g) → Memory
 start g c =
     memory c.self.inside.slots c.self.inside.pages c.self.inside.pool c.make_ready.new.tree.users c.make_ready.new.tree.files c.self.inside.head
-    c.make_ready.new.online.items (option_map (λ v. v.items) c.self.inside.pins) c.self.inside.changed c.self.inside.touched c.self.inside.live
+    c.make_ready.new.online.items c.self.inside.pins c.self.inside.changed c.self.inside.touched c.self.inside.live
 
 asked : (g : _) (c : In-Ok g)
     → IsAsked (length c.as_slice-content.result.now) c.as_slice-numbers.result.now (with_bytes c.args.rec c.args.number c.as_slice-content.result.now [])
@@ -42,7 +41,7 @@ takes g c = taken_moved _ _ _ _ _ _ _ c.make_ready.ensures.items c.in-Ok.ensures
 abbrev ready_for : (g : _) (c : In-Ok-unjam_first g) → Memory
 ready_for g c =
     memory c.self.inside.slots c.self.inside.pages c.self.inside.pool c.make_ready.new.tree.users c.make_ready.new.tree.files c.self.inside.head
-    c.make_ready.new.online.items (option_map (λ v. v.items) c.self.inside.pins) c.self.inside.changed c.self.inside.touched c.self.inside.live
+    c.make_ready.new.online.items c.self.inside.pins c.self.inside.changed c.self.inside.touched c.self.inside.live
 
 prepared : (g : _) (c : In-Ok-unjam_first g)
     → IsPrepared c.args.rec c.args.number c.as_slice-content.result.now c.as_slice-numbers.result.now c.args.self.now (g.D.Disc.state c.self.inside.disc)
@@ -58,7 +57,7 @@ prepared g c =
     (asked_moved _ _ _ _ _ _ _ _ _ _ c.make_ready.ensures.users c.make_ready.ensures.files c.make_ready.ensures.items
     (bytes_asked c.args.rec c.args.number c.args.bytes.now _ c.args.unjam.now _ c.args.self.now _ _ c.as_slice-content.ensures c.as_slice-numbers.ensures
     c.self.view_is c.self.invariant c.requires.allowed))
-    (taken_moved _ _ _ _ _ _ _ c.make_ready.ensures.items c.in-Ok.ensures.ok) (c.is_some-pinned.ensures ∙ sym (some_made _ c.self.inside.pins))
+    (taken_moved _ _ _ _ _ _ _ c.make_ready.ensures.items c.in-Ok.ensures.ok) c.is_some-pinned.ensures
     c.in-Ok-unjam_first.ensures.none c.in-Ok-unjam_first.ensures.off
 
 pub overflow_cast-content : goal.overflow_cast-content
@@ -132,25 +131,25 @@ unjam_first-requires-clause-marked g c = asked_marked _ _ _ _ _ _ _ (asked g (go
 pub unjam_first-requires-clause-records : goal.unjam_first-requires-clause-records
 unjam_first-requires-clause-records g c =
     let at = (goal.at.unjam_first-requires-clause-records g c).In-Ok in
-    (asked_rules _ _ _ _ _ _ _ (asked g at) _ _ (takes g at) c.is_some-pinned.result (c.is_some-pinned.ensures ∙ sym (some_made _ c.self.inside.pins))).0
+    (asked_rules _ _ _ _ _ _ _ (asked g at) _ _ (takes g at) c.is_some-pinned.result c.is_some-pinned.ensures).0
 
 pub unjam_first-requires-clause-rules : goal.unjam_first-requires-clause-rules
 unjam_first-requires-clause-rules g c =
     let at = (goal.at.unjam_first-requires-clause-rules g c).In-Ok in
-    (asked_rules _ _ _ _ _ _ _ (asked g at) _ _ (takes g at) c.is_some-pinned.result (c.is_some-pinned.ensures ∙ sym (some_made _ c.self.inside.pins))).1
+    (asked_rules _ _ _ _ _ _ _ (asked g at) _ _ (takes g at) c.is_some-pinned.result c.is_some-pinned.ensures).1
 
 pub invariant_of-self-in-Err-unjam_first : goal.invariant_of-self-in-Err-unjam_first
 invariant_of-self-in-Err-unjam_first g c =
     let at = (goal.at.invariant_of-self-in-Err-unjam_first g c).In-Ok in
     (asked_stopped _ _ _ _ _ _ _ (asked g at) _ _ (takes g at) (g.D.Disc.state c.unjam_first.new.disc) _ c.in-Err-unjam_first.fault c.is_some-pinned.result
-    (c.is_some-pinned.ensures ∙ sym (some_made _ c.self.inside.pins)) c.in-Err-unjam_first.ensures.none c.in-Err-unjam_first.ensures.off).0
+    c.is_some-pinned.ensures c.in-Err-unjam_first.ensures.none c.in-Err-unjam_first.ensures.off).0
 
 pub returns-in-Err-unjam_first : goal.returns-in-Err-unjam_first
 returns-in-Err-unjam_first g c =
     let at = (goal.at.returns-in-Err-unjam_first g c).In-Ok in
     bytes_answer c.args.rec c.args.number c.args.bytes.now _ c.args.unjam.now _ c.args.self.now _ _ c.as_slice-content.ensures c.as_slice-numbers.ensures
     (asked_stopped _ _ _ _ _ _ _ (asked g at) _ _ (takes g at) (g.D.Disc.state c.unjam_first.new.disc) _ c.in-Err-unjam_first.fault c.is_some-pinned.result
-    (c.is_some-pinned.ensures ∙ sym (some_made _ c.self.inside.pins)) c.in-Err-unjam_first.ensures.none c.in-Err-unjam_first.ensures.off).1
+    c.is_some-pinned.ensures c.in-Err-unjam_first.ensures.none c.in-Err-unjam_first.ensures.off).1
 
 pub write_new-requires-clause-size : goal.write_new-requires-clause-size
 write_new-requires-clause-size g c = (prepared g (goal.at.write_new-requires-clause-size g c).In-Ok-unjam_first).un.kept.size
@@ -182,7 +181,7 @@ returns-in-Err-write_new g c =
 abbrev written_in : (g : _) (c : After-put_record g) → List Bool → Memory
 written_in g c pool =
     memory c.unjam_first.new.slots c.unjam_first.new.pages pool c.make_ready.new.tree.users c.make_ready.new.tree.files c.unjam_first.new.head
-    c.unjam_first.new.online.items (option_map (λ v. v.items) c.self.inside.pins) c.self.inside.changed c.self.inside.touched c.unjam_first.new.live
+    c.unjam_first.new.online.items c.self.inside.pins c.self.inside.changed c.self.inside.touched c.unjam_first.new.live
 
 put : (g : _) (c : After-put_record g) (between : List Bool) → HasTaken c.in-Ok.copy.blocks between c.make_ready.new.pool
     → IsPutIn c.args.number c.in-Ok.copy (written_in g c between) c.args.rec c.make_ready.new.pool c.is_kept_at-keeps.result c.is_some-pinned.result
@@ -199,7 +198,7 @@ put g c between taken = record {
   remembers = λ blocks was. c.changed-2.ensures.remembers blocks (c.changed.ensures.remembers blocks was);
   first_covers = c.changed.ensures.covers;
   covers = subst (λ (k : ℕ). CoversBut (64 + k) c.changed.new.self c.changed-2.new.self) c.from.ensures c.changed-2.ensures.covers;
-  pinned_is = c.is_some-pinned.ensures ∙ sym (some_made _ c.self.inside.pins);
+  pinned_is = c.is_some-pinned.ensures;
   head = c.kept_head-self-inside.ensures ∙ ap (head_after c.is_some-pinned.result) c.stamped.ensures;
   users = c.put_record.ensures.users;
   files = c.put_record.ensures.files;

@@ -1,7 +1,7 @@
 use Rattle.std.proofs.Common.{◌≡◌, ◌∙◌, sym, subst, arith}
 use Rattle.g_restore.specs.Gathered.{IsFirstBad}
 use Rattle.g_restore.proofs.GatherLemmas.{all_gathered, nothing_gathered, one_bad, one_taken}
-use Rattle.g_restore.proofs.gather.gather.Goals as goal
+use Rattle.g_restore.proofs.gather.gather_by_user.Goals as goal
 
 pub loop-user-init : goal.loop-user-init
 loop-user-init c = rw c.new-files.ensures.items (nothing_gathered _ _ _)

@@ -1,0 +1,128 @@
+//! A PROCESS that releases two reels, stopped at each of its writes.
+use crate::events::{Answer, Device, Event};
+use crate::rows::{Wrong, play};
+use crate::setting::Setting;
+use crate::system::{System, happens};
+use g_plain::StoreFault;
+
+/// What the disc's writes leave that fail: of a torn gate an even byte names the new slot, an odd one the old.
+const DISC: [&str; 5] = [
+    "leave=old",
+    "leave=half",
+    "leave=whole",
+    "leave=4",
+    "leave=7",
+];
+
+/// The same of the tapes.
+const TAPES: [&str; 4] = [
+    "tape_leave=old",
+    "tape_leave=cut",
+    "tape_leave=half",
+    "tape_leave=whole",
+];
+
+/// All files but E, which no dump has before.
+const DUMPED: &str = "ask MASTER fetch A = Ok(Bytes(1, 'A'))
+ask MASTER fetch B = Ok(Bytes(513, 'B'))
+ask MASTER fetch C = Ok(Bytes(600, 'C'))
+ask MASTER fetch D = Ok(Bytes(0, '\\0'))";
+
+const WITH_E: &str =
+    "ask MASTER fetch E = Ok(Bytes(512, 'E'))\nask MASTER list MASTER = Ok(Files(5))";
+
+const WITHOUT_E: &str = "ask MASTER fetch E = Err(NoFile)\nask MASTER list MASTER = Ok(Files(4))";
+
+/// The tapes are written as often as the reel's new dump has blocks, 15, and for the two reels that are released; the
+/// disc in two commits.
+pub(crate) fn run(rt: &HostRuntime, before: &str) -> Result<(), Wrong> {
+    for leave in DISC {
+        let stops = stops_of(rt, before, Device::StopDisc, leave)?;
+        tell(rt, leave, stops, 6 <= stops && stops < 39)?;
+    }
+    for leave in TAPES {
+        let stops = stops_of(rt, before, Device::StopTape, leave)?;
+        tell(rt, leave, stops, stops == 17)?;
+    }
+    Ok(())
+}
+
+fn tell(rt: &HostRuntime, leave: &str, stops: u32, fits: bool) -> Result<(), Wrong> {
+    if fits {
+        println!(rt; "process {leave} as it should be")?;
+    } else {
+        println!(rt; "process {leave} differs: {stops} writes")?;
+    }
+    Ok(())
+}
+
+/// At how many writes of this device the PROCESS can be stopped, 39 where it is more often.
+fn stops_of(rt: &HostRuntime, before: &str, device: Device, leave: &str) -> Result<u32, Wrong> {
+    let mut stops = 0;
+    for k in 1..40 {
+        let Some(system) = stopped(rt, before, device, leave, k)? else {
+            break;
+        };
+        goes_on(rt, system)?;
+        if let Some(system) = stopped(rt, before, device, leave, k)? {
+            restores(rt, system)?;
+        }
+        stops = k;
+    }
+    Ok(stops)
+}
+
+/// The system behind a PROCESS that was stopped at this write of the device, none where it has fewer.
+fn stopped(
+    rt: &HostRuntime,
+    before: &str,
+    device: Device,
+    leave: &str,
+    k: u32,
+) -> Result<Option<System>, Wrong> {
+    let head = format!(in rt.alloc(); "P reels=3 {leave}")?;
+    let system = Setting::parse(head.as_str())?.system(rt.alloc())?;
+    let system = play(rt, system, before)?;
+    let (system, outcome) = happens(rt.alloc(), system, &Event::Device(device, k));
+    if !matches!(outcome, Ok(Answer::Done)) {
+        return Err(Wrong("the device takes no stop"));
+    }
+    let (system, outcome) = happens(rt.alloc(), system, &Event::Device(Device::Process, 3));
+    match outcome {
+        Ok(Answer::Dump(3)) => Ok(None),
+        Err(StoreFault::Stopped) => Ok(Some(system)),
+        _ => Err(Wrong("a process that isn't stopped")),
+    }
+}
+
+/// A start has all files, and takes the dump over where it is whole and wasn't. Where it isn't whole, the PROCESS is made
+/// again, and reads from the old reels. Then these are wanted no more.
+fn goes_on(rt: &HostRuntime, system: System) -> Result<(), Wrong> {
+    let (system, outcome) = happens(rt.alloc(), system, &Event::Start);
+    if !matches!(outcome, Ok(Answer::Done | Answer::Dump(3))) {
+        return Err(Wrong("no start"));
+    }
+    let system = play(rt, system, WITH_E)?;
+    let (system, outcome) = happens(rt.alloc(), system, &Event::Device(Device::Process, 3));
+    match outcome {
+        Ok(Answer::Dump(3)) | Err(StoreFault::ReelNotFree(3)) => {}
+        _ => return Err(Wrong("no process behind a start")),
+    }
+    let system = play(rt, system, "unmount 1\nunmount 2")?;
+    let system = play(rt, system, DUMPED)?;
+    play(rt, system, WITH_E)?;
+    Ok(())
+}
+
+/// A restore has the tree of the dump that was there before, or of the new one.
+fn restores(rt: &HostRuntime, system: System) -> Result<(), Wrong> {
+    let (system, outcome) = happens(rt.alloc(), system, &Event::Restore);
+    let last = match outcome {
+        Ok(Answer::Dump(2)) => WITHOUT_E,
+        Ok(Answer::Dump(3)) => WITH_E,
+        _ => return Err(Wrong("no restore")),
+    };
+    let system = play(rt, system, DUMPED)?;
+    play(rt, system, last)?;
+    Ok(())
+}
