@@ -284,8 +284,8 @@ module _ (t : ℕ) (change : JobState → JobState) (stays : (j : JobState) → 
   leaves_changed : (job : JobState) → open_at t c.jobs ≡ Some job → LeavesCrew c (changed_crew job)
   leaves_changed job there = record {
     jobs = λ was.
-        let all = recursion_from_All was in
-        All-from_recursion (open_with (change job) (stays job ∙ found_open t _ c.jobs job all there) c.jobs all);
+        let all = recursion_from_All (λ (j : JobState). j.over ≡ false) c.jobs was in
+        All-from_recursion (λ (j : JobState). j.over ≡ false) (with_job (change job) c.jobs) (open_with (change job) (stays job ∙ found_open t _ c.jobs job all there) c.jobs all);
     numbers = omega arith;
   }
 

@@ -62,8 +62,11 @@ impl Disc for FileDisc {
     fn write(&mut self, k: u32, from: &Block) -> Result<(), WriteFailed> {
         self.writes = raised(self.writes);
         let fires = self.fuse.burn();
-        let bytes: &[u8] = if fires { &from[..256] } else { from };
-        let written = self.image.put(k, bytes);
+        let written = if fires {
+            self.image.put(k, &from[..256])
+        } else {
+            self.image.write(k, from)
+        };
         if fires || written.is_err() {
             self.write_faults = raised(self.write_faults);
             return Err(WriteFailed);

@@ -4,6 +4,7 @@ use crate::ahead::ReadAhead;
 use crate::blocks::{blocks_in, start_of};
 use crate::claim::{Access, claim, sync_folder};
 use crate::names::{FileId, id_of, is_there, open_plain, open_unready};
+use crate::neighbours::Neighbours;
 use crate::reach::Reach;
 use g_base::Block;
 use std::fs::{self, File};
@@ -26,6 +27,8 @@ pub struct ImageFile {
     /// Whether a block was read in this run.
     was_read: bool,
     ahead: ReadAhead,
+    /// Blocks whose writes are done for all who ask here, and that aren't in the file yet.
+    held: Neighbours,
 }
 
 impl ImageFile {
@@ -38,6 +41,7 @@ impl ImageFile {
                 reach: Reach::There,
                 was_read: false,
                 ahead: ReadAhead::new(rt.alloc())?,
+                held: Neighbours::new(rt.alloc())?,
             }),
             opened => opened,
         }
@@ -53,6 +57,7 @@ impl ImageFile {
             reach: Reach::Unknown,
             was_read: false,
             ahead: ReadAhead::new(rt.alloc())?,
+            held: Neighbours::new(rt.alloc())?,
         })
     }
 
@@ -69,19 +74,38 @@ impl ImageFile {
     /// Reads block k.
     pub fn read(&mut self, k: u32, into: &mut Block) -> io::Result<()> {
         self.was_read = true;
+        if self.held.copy(k, into) {
+            return Ok(());
+        }
         self.ahead.read(&self.file, GATE, k, into)
     }
 
-    /// Writes these bytes at block k. The gate, block 0, makes a commit: all that was written before
+    /// Writes block k. Neighbours that are written one behind the other, at most 64, are held and come into the file by one
+    /// call, before any other block is written; where that call fails, the write that makes it fails, what is held is dropped,
+    /// and in the file stands a front of what was written.
+    pub fn write(&mut self, k: u32, block: &Block) -> io::Result<()> {
+        if k == GATE {
+            return self.put(k, block);
+        }
+        self.settle()?;
+        if !self.held.push(k, block) {
+            self.release()?;
+            let _first = self.held.push(k, block);
+        }
+        Ok(())
+    }
+
+    /// Writes these bytes at block k, behind all that is held. The gate, block 0, makes a commit: all that was written before
     /// it is on the device before it, and it is there before all that comes behind it.
     pub fn put(&mut self, k: u32, bytes: &[u8]) -> io::Result<()> {
         self.settle()?;
+        self.release()?;
         if k != GATE {
-            return self.write(k, bytes);
+            return self.write_at(k, bytes);
         }
         self.bring()?;
         self.settled = false;
-        self.write(GATE, bytes)?;
+        self.write_at(GATE, bytes)?;
         self.bring()?;
         self.settled = true;
         Ok(())
@@ -95,14 +119,26 @@ impl ImageFile {
         }
         let mut gate = [0; 512];
         self.file.read_exact_at(&mut gate, start_of(GATE))?;
-        self.write(GATE, &gate)?;
+        self.write_at(GATE, &gate)?;
         self.bring()?;
         self.settled = true;
         Ok(())
     }
 
+    /// Writes what is held to the file; nothing is held then, also where this fails.
+    fn release(&mut self) -> io::Result<()> {
+        if self.held.is_empty() {
+            return Ok(());
+        }
+        self.ahead.forget(0);
+        self.reach = Reach::Behind;
+        let written = self.held.write(&self.file);
+        self.held.cut(0);
+        written
+    }
+
     /// Writes these bytes at block k of the file.
-    fn write(&mut self, k: u32, bytes: &[u8]) -> io::Result<()> {
+    fn write_at(&mut self, k: u32, bytes: &[u8]) -> io::Result<()> {
         self.ahead.forget(k);
         self.reach = Reach::Behind;
         self.file.write_all_at(bytes, start_of(k))
@@ -119,6 +155,10 @@ impl ImageFile {
 
     /// Brings all that was written to the device, and of an earlier run what this one may have read.
     pub fn sync(&self) -> io::Result<()> {
+        if !self.held.is_empty() {
+            self.held.write(&self.file)?;
+            return self.file.sync_data();
+        }
         if self.reach.wants_sync(self.was_read) {
             self.file.sync_data()
         } else {

@@ -83,7 +83,7 @@ module _ (held : Option (List (List ℕ))) (dirs : Dirs) where
         ∙ ap (λ (q : FileRec). q.len) (rec_of_file held r (copy_at dirs.online.items r.number))
 
 -- owners of files are there
-recs_back : (files : List FileRec) (online : List (ℕ × DiscCopy)) → recs (entries_of files online) ≡ files
+pub recs_back : (files : List FileRec) (online : List (ℕ × DiscCopy)) → recs (entries_of files online) ≡ files
 recs_back [] online = refl
 recs_back (r ∷ rs) online = ap (λ (xs : List FileRec). r ∷ xs) (recs_back rs online)
 

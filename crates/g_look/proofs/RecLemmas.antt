@@ -56,7 +56,7 @@ same_text : (x y : List ℕ) → Some x ≡ Some y → x ≡ y
 same_text x y is = cc
 
 -- of files whose stamps are apart there is one of a stamp
-one_of_stamp : (files : List FileRec) → AllPairs (λ r s. r.stamp ≢ s.stamp) files → (a b : FileRec) → Contains files a → Contains files b → a.stamp ≡ b.stamp → a ≡ b
+pub one_of_stamp : (files : List FileRec) → AllPairs (λ r s. r.stamp ≢ s.stamp) files → (a b : FileRec) → Contains files a → Contains files b → a.stamp ≡ b.stamp → a ≡ b
 one_of_stamp files apart a b (i, in_a, at_a) (j, in_b, at_b) same = by_order (cmp i j)
   where
     cmp : (m n : ℕ) → (m < n) ⊎ ((m ≡ n) ⊎ (n < m))

@@ -1,12 +1,17 @@
 pub mod Compared
+pub mod Copies
 pub mod Heads
 pub mod Judging
 pub mod Listed
+pub mod Lists
 pub mod Looks
+pub mod Numbers
+pub mod Reads
 pub mod Recs
 pub mod Rules
 pub mod Seen
 pub mod Shown
+pub mod Shows
 pub mod Standing
 pub mod Text
 pub mod Texts

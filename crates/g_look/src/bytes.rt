@@ -1,6 +1,6 @@
 //! The rule about the bytes of a version, which lie at up to three places.
 ghost use Rattle.std.specs.List.{list_any};
-ghost use Rattle.std.specs.Prelude.{◌≡◌, ◌≢◌, ◌==◌, ◌⊎◌, ℕ, ◌<◌, All, Contains, Err, IfErr, IfNone, IfOk, IfSome, List, OnErr, length, Some, true};
+ghost use Rattle.std.specs.Prelude.{◌≡◌, ◌≢◌, ◌==◌, ◌⊎◌, ℕ, ◌<◌, All, Contains, Err, IfErr, IfNone, IfOk, IfSome, List, OnErr, length, None, Some, true};
 ghost use Rattle.g_copy.specs.Copy.{IsCopy};
 ghost use Rattle.g_copy.specs.declared.copy.DiscCopy.{DiscCopy};
 ghost use Rattle.g_disc.specs.Disc.{ReadsByCause};
@@ -8,6 +8,7 @@ ghost use Rattle.g_dirs.specs.Directory.{copy_at};
 ghost use Rattle.g_entry.specs.declared.file_rec.FileRec.{FileRec};
 ghost use Rattle.g_state.specs.Meaning.{told_reels};
 ghost use Rattle.g_look.specs.Looks.{ReadsRackByCause};
+ghost use Rattle.g_look.specs.Reads.{AreRead, IsFileRead, IsOtherRead, IsReadAt};
 ghost use Rattle.g_look.specs.Standing.{IsSound};
 ghost use Rattle.g_look.specs.Texts.{AgreeAt, AllAgree, AreBytesOther, DifferAt, FileAgrees, FileDiffers, IsDiscText, IsDumpedPlace, IsSecond, IsTapeText, TwoDiffer};
 
@@ -38,6 +39,7 @@ pub(crate) fn judge_bytes<D: Disc, T: Tapes>(
         dirs.now.online.items dumped.now dirs.now.users.items dirs.now.files.items)) }
     ensures none { IfOk result (λ broken. IfNone broken ((r : FileRec) → Contains dirs.now.files.items r
         → FileAgrees (D.state disc.old).held (told_reels (T.rack tapes.old)) dirs.now.online.items dumped.now r)) }
+    ensures read { IfOk result (λ broken. IfNone broken (AreRead (T.rack tapes.old) (T.rack tapes.new) dirs.now.files.items dumped.now)) }
     ensures disc { ReadsByCause (result ≡ Err LookFault.DiscUnread) (D.state disc.old) (D.state disc.new) }
     ensures tapes { ReadsRackByCause (result ≡ Err LookFault.TapeUnread) (T.rack tapes.old) (T.rack tapes.new) }
     ensures faults { IfErr result (λ e. (e ≡ LookFault.DiscUnread) ⊎ ((e ≡ LookFault.TapeUnread) ⊎ (e ≡ LookFault.NoMemory))) }
@@ -68,6 +70,8 @@ fn compare_files<D: Disc, T: Tapes>(
         dirs.now.online.items dumped.now dirs.now.users.items dirs.now.files.items)) }
     ensures none { IfOk result (λ broken. IfNone broken ((r : FileRec) → Contains dirs.now.files.items r
         → FileAgrees (D.state disc.old).held (told_reels (T.rack tapes.old)) dirs.now.online.items dumped.now r)) }
+    ensures read { IfOk result (λ broken. IfNone broken ((r : FileRec) → Contains dirs.now.files.items r
+        → IsFileRead (T.rack tapes.old) (T.rack tapes.new) dumped.now r)) }
     ensures disc { ReadsByCause (result ≡ Err LookFault.DiscUnread) (D.state disc.old) (D.state disc.new) }
     ensures tapes { ReadsRackByCause (result ≡ Err LookFault.TapeUnread) (T.rack tapes.old) (T.rack tapes.new) }
     ensures faults { IfErr result (λ e. (e ≡ LookFault.DiscUnread) ⊎ ((e ≡ LookFault.TapeUnread) ⊎ (e ≡ LookFault.NoMemory))) }
@@ -106,6 +110,7 @@ fn compare_file<D: Disc, T: Tapes>(
         dirs.now.online.items dumped.now file.now p.0 p.1)) }
     ensures none { IfOk result (λ pair. IfNone pair (FileAgrees (D.state disc.old).held (told_reels (T.rack tapes.old))
         dirs.now.online.items dumped.now file.now)) }
+    ensures read { IfOk result (λ pair. IsFileRead (T.rack tapes.old) (T.rack tapes.new) dumped.now file.now) }
     ensures disc { ReadsByCause (result ≡ Err LookFault.DiscUnread) (D.state disc.old) (D.state disc.new) }
     ensures tapes { ReadsRackByCause (result ≡ Err LookFault.TapeUnread) (T.rack tapes.old) (T.rack tapes.new) }
     ensures faults { IfErr result (λ e. (e ≡ LookFault.DiscUnread) ⊎ ((e ≡ LookFault.TapeUnread) ⊎ (e ≡ LookFault.NoMemory))) }
@@ -150,6 +155,7 @@ pub(crate) fn file_text<D: Disc>(
     ensures text { IfOk result (IsDiscText (D.state disc.old).held (copy_at online.now number)) }
     ensures long { IfOk result (λ text. IfSome text (λ bytes. (c : DiscCopy)
         × (copy_at online.now number ≡ Some c) × (length bytes ≡ c.len))) }
+    ensures none { IfOk result (λ text. IfNone text (copy_at online.now number ≡ None)) }
     ensures disc { ReadsByCause (result ≡ Err LookFault.DiscUnread) (D.state disc.old) (D.state disc.new) }
     ensures only { OnErr result ((result ≡ Err LookFault.DiscUnread) ⊎ (result ≡ Err LookFault.NoMemory)) }
 {
@@ -187,6 +193,8 @@ fn compare_texts<T: Tapes>(
     requires mounted { All (λ r. r.mounted ≡ true) (told_reels (T.rack tapes.old)) }
     ensures some { IfOk result (λ pair. IfSome pair (λ p. DifferAt (told_reels (T.rack tapes.old)) len there.now first second p.0 p.1)) }
     ensures none { IfOk result (λ pair. IfNone pair (AgreeAt (told_reels (T.rack tapes.old)) len there.now first second)) }
+    ensures first { IfOk result (λ pair. IsReadAt (T.rack tapes.old) (T.rack tapes.new) first len) }
+    ensures second { IfOk result (λ pair. IsReadAt (T.rack tapes.old) (T.rack tapes.new) second len) }
     ensures tapes { ReadsRackByCause (result ≡ Err LookFault.TapeUnread) (T.rack tapes.old) (T.rack tapes.new) }
     ensures only { OnErr result ((result ≡ Err LookFault.TapeUnread) ⊎ (result ≡ Err LookFault.NoMemory)) }
 {
@@ -210,6 +218,7 @@ fn place_text<T: Tapes>(
 ) -> Result<Text, LookFault>
     requires mounted { All (λ r. r.mounted ≡ true) (told_reels (T.rack tapes.old)) }
     ensures text { IfOk result (λ text. IfSome place (λ c. IsTapeText (told_reels (T.rack tapes.old)) c len text)) }
+    ensures read { IfOk result (λ text. IsReadAt (T.rack tapes.old) (T.rack tapes.new) place len) }
     ensures tapes { ReadsRackByCause (result ≡ Err LookFault.TapeUnread) (T.rack tapes.old) (T.rack tapes.new) }
     ensures only { OnErr result ((result ≡ Err LookFault.TapeUnread) ⊎ (result ≡ Err LookFault.NoMemory)) }
 {
@@ -292,13 +301,14 @@ fn against_tape(
 }
 
 /// Reads the copies of the dumped records whose stamp no file has, so that a block that can't be read is told.
-fn read_others<T: Tapes>(
+pub(crate) fn read_others<T: Tapes>(
     alloc: Global,
     tapes: &mut T,
     files: &[FileRec],
     dumped: &[FileRec],
 ) -> Result<(), LookFault>
     requires mounted { All (λ r. r.mounted ≡ true) (told_reels (T.rack tapes.old)) }
+    ensures read { IfOk result (λ u. (of : FileRec) → Contains dumped.now of → IsOtherRead (T.rack tapes.old) (T.rack tapes.new) files.now of) }
     ensures tapes { ReadsRackByCause (result ≡ Err LookFault.TapeUnread) (T.rack tapes.old) (T.rack tapes.new) }
     ensures only { OnErr result ((result ≡ Err LookFault.TapeUnread) ⊎ (result ≡ Err LookFault.NoMemory)) }
 {
@@ -319,6 +329,7 @@ fn read_other<T: Tapes>(
     of: &FileRec,
 ) -> Result<(), LookFault>
     requires mounted { All (λ r. r.mounted ≡ true) (told_reels (T.rack tapes.old)) }
+    ensures read { IfOk result (λ u. IsOtherRead (T.rack tapes.old) (T.rack tapes.new) files.now of.now) }
     ensures tapes { ReadsRackByCause (result ≡ Err LookFault.TapeUnread) (T.rack tapes.old) (T.rack tapes.new) }
     ensures only { OnErr result ((result ≡ Err LookFault.TapeUnread) ⊎ (result ≡ Err LookFault.NoMemory)) }
 {

@@ -1,5 +1,5 @@
 //! The check: whether disc and rack belong together, and what it says.
-ghost use Rattle.std.specs.Prelude.{◌≡◌, ◌⊎◌, ◌↔◌, ◌<◌, All, Err, IfErr, IfOk, IsTrue, true};
+ghost use Rattle.std.specs.Prelude.{◌≡◌, ◌⊎◌, ◌↔◌, ◌<◌, All, Err, IfErr, IfNone, IfOk, IsTrue, true};
 ghost use Rattle.std.specs.Option.{ForSome};
 ghost use Rattle.g_disc.specs.Disc.{ReadsByCause};
 ghost use Rattle.g_dirs.specs.Directory.{Directory};
@@ -9,12 +9,13 @@ ghost use Rattle.g_state.specs.Reading.{AllTold};
 ghost use Rattle.g_restore.specs.Gathered.{HasFew};
 ghost use Rattle.g_look.specs.Judging.{IsDiscJudged};
 ghost use Rattle.g_look.specs.Looks.{ReadsRackByCause};
+ghost use Rattle.g_look.specs.Reads.{AreNamedRead, AreRead};
 ghost use Rattle.g_look.specs.Rules.{IsVerdict};
 ghost use Rattle.g_look.specs.Seen.{AreSeen};
 ghost use Rattle.g_look.specs.Standing.{IsSound, IsStanding};
 ghost use Rattle.g_look.specs.Text.{IsChecked};
 
-use crate::bytes::judge_bytes;
+use crate::bytes::{judge_bytes, read_others};
 use crate::check_text::check_text;
 use crate::disc::{Standing, see_disc};
 use crate::head::judge_head;
@@ -52,6 +53,8 @@ pub fn check<D: Disc, T: Tapes>(
         IsChecked (D.state disc.old).size (D.state disc.old).held (told_reels (T.rack tapes.old)) c.broken c.text) }
     ensures filestore { ForSome (D.state disc.old).held (λ blocks. IfOk result (λ c.
         IsTrue c.filestore ↔ ((d : Directory) × StandsFor blocks d))) }
+    ensures read { AllTold (D.state disc.old).held (told_reels (T.rack tapes.old)) → IfOk result (λ c.
+        IfNone c.broken (AreNamedRead (D.state disc.old).held (T.rack tapes.old) (T.rack tapes.new))) }
     ensures disc { ReadsByCause (result ≡ Err LookFault.DiscUnread) (D.state disc.old) (D.state disc.new) }
     ensures tapes { ReadsRackByCause (result ≡ Err LookFault.TapeUnread) (T.rack tapes.old) (T.rack tapes.new) }
     ensures faults { IfErr result (λ e. (e ≡ LookFault.DiscUnread) ⊎ ((e ≡ LookFault.TapeUnread) ⊎ (e ≡ LookFault.NoMemory))) }
@@ -93,6 +96,8 @@ fn judge<D: Disc, T: Tapes>(
     requires standing { IsStanding (D.state disc.old).size (D.state disc.old).held standing.now }
     ensures right { AreSeen (told_reels (T.rack tapes.old)) found.now → AllTold (D.state disc.old).held (told_reels (T.rack tapes.old))
         → IfOk result (IsVerdict (D.state disc.old).held (told_reels (T.rack tapes.old))) }
+    ensures read { AreSeen (told_reels (T.rack tapes.old)) found.now → AllTold (D.state disc.old).held (told_reels (T.rack tapes.old))
+        → IfOk result (λ broken. IfNone broken (AreNamedRead (D.state disc.old).held (T.rack tapes.old) (T.rack tapes.new))) }
     ensures disc { ReadsByCause (result ≡ Err LookFault.DiscUnread) (D.state disc.old) (D.state disc.new) }
     ensures tapes { ReadsRackByCause (result ≡ Err LookFault.TapeUnread) (T.rack tapes.old) (T.rack tapes.new) }
     ensures faults { IfErr result (λ e. (e ≡ LookFault.DiscUnread) ⊎ ((e ≡ LookFault.TapeUnread) ⊎ (e ≡ LookFault.NoMemory))) }
@@ -104,7 +109,10 @@ fn judge<D: Disc, T: Tapes>(
     };
     match &standing.dirs {
         Some((_format, dirs)) => judge_disc(alloc, disc, tapes, found, dirs, dumped.as_slice()),
-        None => Ok(None),
+        None => match read_others(alloc, tapes, &[], dumped.as_slice()) {
+            Ok(()) => Ok(None),
+            Err(fault) => Err(fault),
+        },
     }
 }
 
@@ -121,6 +129,7 @@ fn judge_disc<D: Disc, T: Tapes>(
     requires mounted { All (λ r. r.mounted ≡ true) (told_reels (T.rack tapes.old)) }
     requires sound { IsSound (D.state disc.old).size dirs.now }
     ensures judged { IfOk result (IsDiscJudged (D.state disc.old).held (told_reels (T.rack tapes.old)) found.now dirs.now dumped.now) }
+    ensures read { IfOk result (λ broken. IfNone broken (AreRead (T.rack tapes.old) (T.rack tapes.new) dirs.now.files.items dumped.now)) }
     ensures disc { ReadsByCause (result ≡ Err LookFault.DiscUnread) (D.state disc.old) (D.state disc.new) }
     ensures tapes { ReadsRackByCause (result ≡ Err LookFault.TapeUnread) (T.rack tapes.old) (T.rack tapes.new) }
     ensures faults { IfErr result (λ e. (e ≡ LookFault.DiscUnread) ⊎ ((e ≡ LookFault.TapeUnread) ⊎ (e ≡ LookFault.NoMemory))) }

@@ -15,6 +15,7 @@ mod head;
 mod holding;
 mod listing;
 mod names;
+mod ordered;
 mod pairs;
 mod parts;
 mod rack;

@@ -1,13 +1,21 @@
 //! What a restore of the rack would give.
-ghost use Rattle.std.specs.Prelude.{◌≡◌, ◌⊎◌, ◌++◌, All, Err, IfErr, IfOk, OnOk, codes, false, true};
-ghost use Rattle.g_lines.specs.Lines.{ended};
-ghost use Rattle.g_monitor.specs.Refusals.{IsPrinted, fault_line};
+ghost use Rattle.std.specs.Prelude.{◌≡◌, ◌⊎◌, ◌++◌, All, Err, IfErr, IfOk, List, OnOk, false, true};
+ghost use Rattle.std.specs.List.{flat_map};
+ghost use Rattle.g_incr.specs.Layout.{Dump};
+ghost use Rattle.g_lines.specs.Lines.{ended, text_of};
+ghost use Rattle.g_monitor.specs.Refusals.{IsPrinted};
+ghost use Rattle.g_restore.specs.Gathered.{HasFew};
+ghost use Rattle.g_restore.specs.Known.{AreKnown};
 ghost use Rattle.g_tree.specs.Records.{IsRecords};
 ghost use Rattle.g_look.specs.Listed.{dumped_file_line, empty_text};
-ghost use Rattle.g_look.specs.Looks.{ReadsRackByCause};
+ghost use Rattle.g_look.specs.Lists.{IsRestorable, dumped_lines, refused_text};
+ghost use Rattle.g_look.specs.Looks.{OfDumps, ReadsRackByCause};
+ghost use Rattle.g_look.specs.Numbers.{all_numbers, dumped_line, lines_at, lines_dumped};
 
 use crate::LookFault;
 use crate::file_text::{push_file, push_taped};
+use crate::names::full_of;
+use crate::ordered::all_numbers;
 use crate::parts::push_told;
 use crate::rack::see_rack;
 use g_base::NoMemory;
@@ -15,7 +23,7 @@ use g_entry::{FileRec, UserRec};
 use g_monitor::push_fault;
 use g_name::{Full, Text};
 use g_plain::StoreFault;
-use g_restore::{Dumped, fold};
+use g_restore::{Dumped, Found, fold};
 use g_tape::Tapes;
 use g_tree::Tree;
 use std::alloc::Global;
@@ -32,6 +40,7 @@ pub struct Given {
 /// `TapeUnread`, `NoMemory`.
 pub fn restorable<T: Tapes>(alloc: Global, tapes: &mut T) -> Result<Given, LookFault>
     requires mounted { All (λ r. r.mounted ≡ true) (T.rack tapes.old).reels }
+    ensures text { OfDumps (T.rack tapes.old) (λ dumps. IfOk result (λ g. IsRestorable dumps g.given g.text)) }
     ensures tapes { ReadsRackByCause (result ≡ Err LookFault.TapeUnread) (T.rack tapes.old) (T.rack tapes.new) }
     ensures faults { IfErr result (λ e. (e ≡ LookFault.TapeUnread) ⊎ (e ≡ LookFault.NoMemory)) }
 {
@@ -39,7 +48,17 @@ pub fn restorable<T: Tapes>(alloc: Global, tapes: &mut T) -> Result<Given, LookF
         Ok(found) => found,
         Err(fault) => return Err(fault),
     };
-    match fold(alloc, found.as_slice()) {
+    given_by(alloc, found.as_slice())
+}
+
+/// What RESTORE would give of these dumps. `NoMemory`.
+fn given_by(alloc: Global, found: &[Found]) -> Result<Given, LookFault>
+    requires few { All HasFew found.now }
+    requires known { (dumps : List Dump) × AreKnown found.now dumps }
+    ensures text { IfOk result (λ g. (dumps : List Dump) → AreKnown found.now dumps → IsRestorable dumps g.given g.text) }
+    ensures faults { IfErr result (λ e. e ≡ LookFault.NoMemory) }
+{
+    match fold(alloc, found) {
         Ok(dumped) => lines_of(alloc, dumped),
         Err(StoreFault::NoDump) => refused(alloc, &StoreFault::NoDump),
         Err(StoreFault::LostDirectory(user)) => refused(alloc, &StoreFault::LostDirectory(user)),
@@ -53,7 +72,7 @@ pub fn restorable<T: Tapes>(alloc: Global, tapes: &mut T) -> Result<Given, LookF
 /// The line of a refusal.
 fn refused(alloc: Global, fault: &StoreFault) -> Result<Given, LookFault>
     requires printed { IsPrinted fault.now }
-    ensures text { IfOk result (λ g. g.text ≡ ended (codes "REFUSED " ++ fault_line fault.now)) }
+    ensures text { IfOk result (λ g. g.text ≡ refused_text fault.now) }
     ensures given { IfOk result (λ g. g.given ≡ false) }
     ensures faults { IfErr result (λ e. e ≡ LookFault.NoMemory) }
 {
@@ -67,6 +86,8 @@ fn refused(alloc: Global, fault: &StoreFault) -> Result<Given, LookFault>
 /// The lines of a dumped directory.
 fn lines_of(alloc: Global, dumped: Dumped) -> Result<Given, LookFault>
     requires records { IsRecords dumped.users.items dumped.files.items }
+    ensures text { IfOk result (λ g. g.text
+        ≡ text_of (dumped_lines dumped.users.items dumped.files.items dumped.number)) }
     ensures given { IfOk result (λ g. g.given ≡ true) }
     ensures faults { IfErr result (λ e. e ≡ LookFault.NoMemory) }
 {
@@ -80,28 +101,31 @@ fn lines_of(alloc: Global, dumped: Dumped) -> Result<Given, LookFault>
         Ok(tree) => tree,
         Err(_) => return Err(LookFault::NoMemory),
     };
+    match tree_text(alloc, &tree, number) {
+        Ok(text) => Ok(Given { given: true, text }),
+        Err(_) => Err(LookFault::NoMemory),
+    }
+}
+
+/// The lines of all files, and the last line.
+fn tree_text(alloc: Global, tree: &Tree, number: u64) -> Result<Text, NoMemory>
+    ensures { IfOk result (λ text. text ≡ text_of (lines_dumped tree.now.users tree.now.files number
+        (all_numbers tree.now.users tree.now.files))) }
+{
+    let numbers = all_numbers(alloc, tree)?;
     let mut text = Text::new(alloc);
-    push_tree(alloc, &mut text, &tree)?;
+    push_lines(&mut text, tree, numbers.as_slice())?;
     push_told(&mut text, b"RESTORABLE FROM DUMP ", number)?;
     text.push(b'\n')?;
-    Ok(Given { given: true, text })
+    Ok(text)
 }
 
-/// Puts the lines of all files behind the text.
-fn push_tree(alloc: Global, text: &mut Text, tree: &Tree) -> Result<(), NoMemory> {
-    for user in tree.users() {
-        match push_files(alloc, text, tree, user.number) {
-            Ok(()) => {}
-            Err(fault) => return Err(fault),
-        }
-    }
-    Ok(())
-}
-
-/// Puts the lines of the user's files behind the text.
-fn push_files(alloc: Global, text: &mut Text, tree: &Tree, user: u8) -> Result<(), NoMemory> {
-    let numbers = tree.listing(alloc, user)?;
-    for number in numbers.as_slice() {
+/// Puts the lines of the files of these numbers behind the text.
+fn push_lines(text: &mut Text, tree: &Tree, numbers: &[u16]) -> Result<(), NoMemory>
+    ensures { OnOk result (text.new ≡ text.old
+        ++ text_of (flat_map (lines_at (dumped_line tree.now.users) tree.now.files) numbers.now)) }
+{
+    for number in numbers {
         match push_numbered(text, tree, *number) {
             Ok(()) => {}
             Err(fault) => return Err(fault),
@@ -110,13 +134,16 @@ fn push_files(alloc: Global, text: &mut Text, tree: &Tree, user: u8) -> Result<(
     Ok(())
 }
 
-/// Puts the line of the file of this number behind the text.
-fn push_numbered(text: &mut Text, tree: &Tree, number: u16) -> Result<(), NoMemory> {
-    match tree.full_name(number) {
-        Some(full) => match tree.file_at(number) {
-            Some(file) => push_line(text, &full, tree.users(), file),
-            None => Ok(()),
-        },
+/// Puts the line of the file of this number behind the text, if there is one.
+fn push_numbered(text: &mut Text, tree: &Tree, number: u16) -> Result<(), NoMemory>
+    ensures { OnOk result (text.new ≡ text.old
+        ++ text_of (lines_at (dumped_line tree.now.users) tree.now.files number)) }
+{
+    match tree.file_at(number) {
+        Some(file) => {
+            let full = full_of(tree.users(), file);
+            push_line(text, &full, tree.users(), file)
+        }
         None => Ok(()),
     }
 }

@@ -2,6 +2,7 @@
 ghost use Rattle.std.specs.Prelude.{◌≡◌, ◌⊎◌, ◌≤◌, ◌-◌, ◌++◌, All, Err, IfOk, OnErr, OnOk, length, take, true};
 ghost use Rattle.g_state.specs.Meaning.{joined, told_reels};
 ghost use Rattle.g_look.specs.Looks.{ReadsRackByCause};
+ghost use Rattle.g_look.specs.Reads.{IsReadFrom};
 ghost use Rattle.g_look.specs.Texts.{IsTapeText};
 
 use crate::LookFault;
@@ -22,6 +23,7 @@ pub(crate) fn tape_text<T: Tapes>(
 ) -> Result<Text, LookFault>
     requires mounted { All (λ r. r.mounted ≡ true) (told_reels (T.rack tapes.old)) }
     ensures text { IfOk result (IsTapeText (told_reels (T.rack tapes.old)) copy.now len) }
+    ensures read { IfOk result (λ text. IsReadFrom (T.rack tapes.old) (T.rack tapes.new) copy.now len) }
     ensures tapes { ReadsRackByCause (result ≡ Err LookFault.TapeUnread) (T.rack tapes.old) (T.rack tapes.new) }
     ensures only { OnErr result ((result ≡ Err LookFault.TapeUnread) ⊎ (result ≡ Err LookFault.NoMemory)) }
 {

@@ -7,6 +7,7 @@ use Rattle.g_disc.specs.Disc.{DiscState}
 use Rattle.g_incr.specs.Layout.{Dump}
 use Rattle.g_io.specs.Streams.{HasPutPart, with_more}
 use Rattle.g_lines.specs.Lines.{text_of}
+use Rattle.g_name.specs.declared.path.Path.{Path}
 use Rattle.g_tape.specs.Rack.{Rack}
 use Rattle.g_tape.specs.Reads.{OnlyReads}
 use Rattle.g_tape.specs.Reel.{Reel}
@@ -15,6 +16,8 @@ use Rattle.g_look.specs.declared.checking.Checked.{Checked}
 use Rattle.g_look.specs.declared.fault.LookFault.{LookFault}
 use Rattle.g_look.specs.declared.fault.LookFault.TheVariants as fault
 use Rattle.g_look.specs.declared.restoring.Given.{Given}
+use Rattle.g_look.specs.Lists.{IsListed, IsNobody, IsRestorable}
+use Rattle.g_look.specs.Shows.{IsLost, IsNoFile, IsShown}
 use Rattle.g_look.specs.Text.{IsChecked, rack_lines}
 use Rattle.g_look_edge.specs.declared.status.Status.{Status}
 use Rattle.g_look_edge.specs.declared.status.Status.TheVariants as status
@@ -123,6 +126,38 @@ EndsDumps status.Unread shelf reels w = IsWhole (codes "TAPE READ\n") w
 EndsDumps status.OutputFault shelf reels w = (text : List ℕ) × IsCut text w
 EndsDumps status.NoMemory shelf reels w = IsQuiet w
 EndsDumps other shelf reels w = ⊥
+
+-- THE END OF A LIST of what a disc stands for that tells
+abbrev pub EndsList : Status → List (List ℕ) → Option (List ℕ) → Written → Type 0
+EndsList status.Done blocks only w = (text : List ℕ) × IsListed blocks only text × IsWhole text w
+EndsList status.No blocks only w =
+    (((d : Directory) → StandsFor blocks d → ⊥) × IsWhole (codes "NO FILESTORE\n") w) ⊎ (IsNobody blocks only × IsWhole (codes "NO USER\n") w)
+EndsList status.Unread blocks only w = IsWhole (codes "DISC READ\n") w
+EndsList status.OutputFault blocks only w = (text : List ℕ) × IsCut text w
+EndsList status.NoMemory blocks only w = IsQuiet w
+EndsList other blocks only w = ⊥
+
+-- why no bytes are shown: no filestore, no file, or its copy is nowhere
+abbrev pub HasNoBytes : List (List ℕ) → List Dump → Path → Type 0
+HasNoBytes blocks dumps path = ((d : Directory) → StandsFor blocks d → ⊥) ⊎ (IsNoFile blocks path ⊎ IsLost blocks dumps path)
+
+-- THE END OF A LOOK AT A FILE, where disc and reels tell: its bytes are put, and nothing else whatever happens
+abbrev pub EndsShow : Status → List (List ℕ) → List Dump → Path → Written → Type 0
+EndsShow status.Done blocks dumps path w = (text : List ℕ) × IsShown blocks dumps path text × IsWhole text w
+EndsShow status.No blocks dumps path w = HasNoBytes blocks dumps path × IsQuiet w
+EndsShow status.Unread blocks dumps path w = IsQuiet w
+EndsShow status.OutputFault blocks dumps path w = (text : List ℕ) × IsCut text w
+EndsShow status.NoMemory blocks dumps path w = IsQuiet w
+EndsShow other blocks dumps path w = ⊥
+
+-- THE END OF A LOOK AT WHAT CAN BE RESTORED, where the reels tell
+abbrev pub EndsGiven : Status → List Dump → Written → Type 0
+EndsGiven status.Done dumps w = (text : List ℕ) × IsRestorable dumps true text × IsWhole text w
+EndsGiven status.No dumps w = (text : List ℕ) × IsRestorable dumps false text × IsWhole text w
+EndsGiven status.Unread dumps w = IsWhole (codes "TAPE READ\n") w
+EndsGiven status.OutputFault dumps w = (text : List ℕ) × IsCut text w
+EndsGiven status.NoMemory dumps w = IsQuiet w
+EndsGiven other dumps w = ⊥
 
 -- A LOOK LEAVES THE DISC as it was, but for the count of failed reads
 pub record LeavesDisc (before after : DiscState) : Type 0 where

@@ -1,9 +1,12 @@
 //! What the program does by its words.
-ghost use Rattle.std.specs.Prelude.{◌≡◌, ◌⊎◌, ◌<◌, ℕ, List, All, true};
+ghost use Rattle.std.specs.Prelude.{◌≡◌, ◌⊎◌, ◌<◌, ℕ, List, Option, All, true};
+ghost use Rattle.std.specs.Option.{ForSome};
+ghost use Rattle.g_name.specs.declared.path.Path.{Path};
 ghost use Rattle.g_incr.specs.Layout.{Dump};
 ghost use Rattle.g_state.specs.Meaning.{told_reels};
 ghost use Rattle.g_shelf.specs.Completed.{AreShelved};
 ghost use Rattle.g_state.specs.Reading.{AllTold, ReelsTold};
+ghost use Rattle.g_look.specs.Looks.{OfDumps};
 ghost use Rattle.g_look_edge.specs.Exit.{IsExit, IsOfLook, IsOfWords};
 ghost use Rattle.g_look_edge.specs.Told as told;
 ghost use Rattle.g_look_edge.specs.Words.{AskNothing, texts_of};
@@ -70,6 +73,12 @@ pub fn look<K: Sink, D: Disc, T: Tapes>(
     ensures dumps { asked.now ≡ Asked.Dumps → ReelsTold (told_reels (T.rack tapes.old)) → (shelf : ℕ → List Dump) → AreShelved shelf (told_reels (T.rack tapes.old))
         → told.EndsDumps result shelf (told_reels (T.rack tapes.old))
         (record { before = K.written out.old; after = K.written out.new; faults_before = K.faults out.old; faults_after = K.faults out.new }) }
+    ensures list { (user : Option (List ℕ)) → asked.now ≡ Asked.List user → ForSome (D.state disc.old).held (λ blocks. told.EndsList result blocks user
+        (record { before = K.written out.old; after = K.written out.new; faults_before = K.faults out.old; faults_after = K.faults out.new })) }
+    ensures show { (path : Path) → asked.now ≡ Asked.Show path → ForSome (D.state disc.old).held (λ blocks. OfDumps (T.rack tapes.old) (λ dumps. told.EndsShow result blocks dumps path
+        (record { before = K.written out.old; after = K.written out.new; faults_before = K.faults out.old; faults_after = K.faults out.new }))) }
+    ensures restorable { asked.now ≡ Asked.Restorable → OfDumps (T.rack tapes.old) (λ dumps. told.EndsGiven result dumps
+        (record { before = K.written out.old; after = K.written out.new; faults_before = K.faults out.old; faults_after = K.faults out.new })) }
     ensures look { IsOfLook result }
     ensures sink { told.SinkCause result
         (record { before = K.written out.old; after = K.written out.new; faults_before = K.faults out.old; faults_after = K.faults out.new }) }

@@ -9,8 +9,8 @@ use Rattle.g_console.proofs.terminals.seat_job.Goals as goal
 pub login-requires-clause-numbers : goal.login-requires-clause-numbers
 login-requires-clause-numbers g c = subst (λ (s : Seen). s.crew.next_job + 1 < 18446744073709551616) (sym c.day.view_is) c.requires.numbers
 
-pub logged_in-requires-clause-there : goal.logged_in-requires-clause-there
-logged_in-requires-clause-there g c = (_, c.in-Ok.ensures.there)
+pub logged_in-made-requires-clause-there : goal.logged_in-made-requires-clause-there
+logged_in-made-requires-clause-there g c = (_, c.in-Ok.ensures.there)
 
 pub returns-in-Ok-clause-same : goal.returns-in-Ok-clause-same
 returns-in-Ok-clause-same g c =

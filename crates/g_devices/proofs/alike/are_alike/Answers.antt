@@ -1,4 +1,4 @@
-use Rattle.std.proofs.Common.{◌≡◌, ◌<◌, get_or, length, subst, arith}
+use Rattle.std.proofs.Common.{◌<◌, get_or, length, subst, arith}
 use Rattle.g_tape.specs.Reel.{Reel}
 use Rattle.g_duplex.specs.Twins.{AreTwins}
 use Rattle.g_duplex.specs.Places.{standing_by}

@@ -1,5 +1,4 @@
-use Rattle.std.proofs.Common.{◌≡◌, ◌∙◌, Option, Some, ap, sym}
-use Rattle.g_duplex.specs.declared.twin.Standing.{Standing}
+use Rattle.std.proofs.Common.{◌≡◌, ◌∙◌, Some, sym}
 use Rattle.g_duplex.specs.declared.twin.Standing.TheVariants.{Lost}
 use Rattle.g_devices.proofs.pair.rebuild.Goals as goal
 

@@ -1,5 +1,6 @@
 use Rattle.std.proofs.Common.{◌∙◌}
 use Rattle.g_look.proofs.CheckedLemmas.{checked_at, holds_filestore, mounted_told}
+use Rattle.g_look.proofs.NamedLemmas.{checked_read}
 use Rattle.g_look.proofs.checking.check.Goals as goal
 
 pub judge-requires-clause-mounted : goal.judge-requires-clause-mounted
@@ -13,3 +14,7 @@ returns-in-Ok-check_text-clause-right g c =
 
 pub returns-in-Ok-check_text-clause-filestore : goal.returns-in-Ok-check_text-clause-filestore
 returns-in-Ok-check_text-clause-filestore g c = λ blocks told. rw c.is_some.ensures (holds_filestore _ _ _ blocks c.in-Ok-see_disc.ensures.standing told)
+
+pub returns-in-Ok-check_text-clause-read : goal.returns-in-Ok-check_text-clause-read
+returns-in-Ok-check_text-clause-read g c =
+    checked_read _ _ (g.T.Tapes.rack c.args.tapes.now) _ _ _ _ _ c.in-Ok-see_disc.ensures.reads.held c.in-Ok.ensures.tapes.only c.as_slice.ensures.value c.in-Ok.ensures.seen c.in-Ok-judge.ensures.read
