@@ -9,14 +9,23 @@ use Rattle.g_run.proofs.TurningLemmas.{unbroken}
 use Rattle.g_run.proofs.showing.end_shown.Goals as goal
 use Rattle.g_world.specs.Texts.{job_text, operator_line}
 
-pub shown-requires : goal.shown-requires
-shown-requires g c = let (job, t, there, at) = c.requires.there in (job, there)
+pub shown-made-requires : goal.shown-made-requires
+shown-made-requires g c = let (job, t, there, at) = c.requires.there in (job, there)
 
 pub returns-in-Broken-clause-ends : goal.returns-in-Broken-clause-ends
 returns-in-Broken-clause-ends g c = λ job found.
     ends_by c.args.up.count c.args.number c.args.up.store c.args.up.crew (pushed_of job c.args.before) turns.Broken c.args.turn c.stops.result.failure c.stops.result.day.system c.stops.result.day.crew
     (g.K.Sink.written c.args.out.now) (g.K.Sink.written c.stops.new.out) (g.K.Sink.faults c.args.out.now) (g.K.Sink.faults c.stops.new.out)
     c.in-Broken.is (c.stops.ensures.ends (pushed_of job c.args.before) (shown_is c.shown-made.result c.args.number c.args.before c.args.up.crew.jobs job c.shown-made.ensures found))
+
+pub returns-in-Wants-clause-ends : goal.returns-in-Wants-clause-ends
+returns-in-Wants-clause-ends g c = λ job found.
+    ends_by c.args.up.count c.args.number c.args.up.store c.args.up.crew (pushed_of job c.args.before) (turns.Wants c.in-Wants.serial) c.args.turn
+    c.goes_on.result.failure c.goes_on.result.day.system c.goes_on.result.day.crew
+    (g.K.Sink.written c.args.out.now) (g.K.Sink.written c.goes_on.new.out) (g.K.Sink.faults c.args.out.now) (g.K.Sink.faults c.goes_on.new.out)
+    c.in-Wants.is
+    (c.goes_on.ensures.goes (pushed_of job c.args.before ++ operator_line c.args.up.count (job_text c.args.number (codes "WANTS TAPE " ++ decimal c.in-Wants.serial)))
+    (c.wants_behind-told.ensures (pushed_of job c.args.before) (shown_is c.shown-made.result c.args.number c.args.before c.args.up.crew.jobs job c.shown-made.ensures found)))
 
 pub ends-requires-clause-running : goal.ends-requires-clause-running
 ends-requires-clause-running g c = unbroken c.args.turn c.args.up.store c.requires.stopped (λ e. let is = c.in-Ended.is in let no : ⊥ = cc in no)

@@ -1,11 +1,11 @@
-use Rattle.std.proofs.Common.{subst, ap}
+use Rattle.std.proofs.Common.{ap, subst, sym, ◌∙◌}
 use Rattle.g_base.specs.declared.memory.NoMemory.{NoMemory}
 use Rattle.g_console.specs.System.{facts_of}
 use Rattle.g_crew.specs.Crew.{CrewState}
 use Rattle.g_run.specs.Turning.{EndsTurn, ShowsAs, added_of}
 use Rattle.g_run.proofs.EndedLemmas.{added_is, shows_as, there_behind, took_part, took_whole}
 use Rattle.g_run.proofs.turning.turn_of.Goals as goal
-use Rattle.std.specs.Prelude.{List, Option, ℕ, ◌∙◌, sym}
+use Rattle.std.specs.Prelude.{List, Option, ℕ}
 
 pub returns-in-Ok-clause-turn : goal.returns-in-Ok-clause-turn
 returns-in-Ok-clause-turn g c =
