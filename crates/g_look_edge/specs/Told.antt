@@ -44,6 +44,14 @@ pub record IsCut (text : List ℕ) (w : Written) : Type 0 where
   pub part : HasPutPart w.before text w.after
   pub rose : Rose w.faults_before w.faults_after
 
+-- the same of one of such texts
+abbrev pub IsCutOf : (List ℕ → Type 0) → Written → Type 0
+IsCutOf IsSo w = (text : List ℕ) × IsSo text × IsCut text w
+
+-- the one line that is told in the place of a text
+abbrev pub IsFaultLine : List ℕ → Type 0
+IsFaultLine text = (text ≡ codes "DISC READ\n") ⊎ ((text ≡ codes "TAPE READ\n") ⊎ ((text ≡ codes "NO FILESTORE\n") ⊎ (text ≡ codes "NO USER\n")))
+
 -- A TEXT IS PUT, and that ends with this status where the sink didn't fail
 abbrev pub Puts : Status → List ℕ → Status → Written → Type 0
 Puts due text ended w = ((ended ≡ due) × IsWhole text w) ⊎ ((ended ≡ status.OutputFault) × IsCut text w)
@@ -109,13 +117,13 @@ abbrev pub IsTextOf : ℕ → Option (List (List ℕ)) → List Reel → Option 
 IsTextOf size held reels broken w = (text : List ℕ) × IsChecked size held reels broken text × IsWhole text w
 
 -- THE END OF A CHECK of devices that tell: its text is put, and the status says whether they belong together, and whether the disc
--- holds a filestore. Or a device, the sink or memory failed.
+-- holds a filestore. Or a device, the sink or memory failed; where the sink failed a front of the due text was put.
 abbrev pub EndsCheck : Status → ℕ → Option (List (List ℕ)) → List Reel → Written → Type 0
 EndsCheck status.Done size held reels w = IsTextOf size held reels None w × HoldsOne held
 EndsCheck status.Nothing size held reels w = IsTextOf size held reels None w × (HoldsOne held → ⊥)
 EndsCheck status.No size held reels w = (b : Broken) × IsTextOf size held reels (Some b) w
 EndsCheck status.Unread size held reels w = IsWhole (codes "DISC READ\n") w ⊎ IsWhole (codes "TAPE READ\n") w
-EndsCheck status.OutputFault size held reels w = (text : List ℕ) × IsCut text w
+EndsCheck status.OutputFault size held reels w = IsCutOf (λ text. ((broken : Option Broken) × IsChecked size held reels broken text) ⊎ IsFaultLine text) w
 EndsCheck status.NoMemory size held reels w = IsQuiet w
 EndsCheck status.Words size held reels w = ⊥
 
@@ -123,7 +131,7 @@ EndsCheck status.Words size held reels w = ⊥
 abbrev pub EndsDumps : Status → (ℕ → List Dump) → List Reel → Written → Type 0
 EndsDumps status.Done shelf reels w = IsWhole (text_of (rack_lines shelf reels)) w
 EndsDumps status.Unread shelf reels w = IsWhole (codes "TAPE READ\n") w
-EndsDumps status.OutputFault shelf reels w = (text : List ℕ) × IsCut text w
+EndsDumps status.OutputFault shelf reels w = IsCutOf (λ text. (text ≡ text_of (rack_lines shelf reels)) ⊎ IsFaultLine text) w
 EndsDumps status.NoMemory shelf reels w = IsQuiet w
 EndsDumps other shelf reels w = ⊥
 
@@ -133,7 +141,7 @@ EndsList status.Done blocks only w = (text : List ℕ) × IsListed blocks only t
 EndsList status.No blocks only w =
     (((d : Directory) → StandsFor blocks d → ⊥) × IsWhole (codes "NO FILESTORE\n") w) ⊎ (IsNobody blocks only × IsWhole (codes "NO USER\n") w)
 EndsList status.Unread blocks only w = IsWhole (codes "DISC READ\n") w
-EndsList status.OutputFault blocks only w = (text : List ℕ) × IsCut text w
+EndsList status.OutputFault blocks only w = IsCutOf (λ text. IsListed blocks only text ⊎ IsFaultLine text) w
 EndsList status.NoMemory blocks only w = IsQuiet w
 EndsList other blocks only w = ⊥
 
@@ -146,7 +154,7 @@ abbrev pub EndsShow : Status → List (List ℕ) → List Dump → Path → Writ
 EndsShow status.Done blocks dumps path w = (text : List ℕ) × IsShown blocks dumps path text × IsWhole text w
 EndsShow status.No blocks dumps path w = HasNoBytes blocks dumps path × IsQuiet w
 EndsShow status.Unread blocks dumps path w = IsQuiet w
-EndsShow status.OutputFault blocks dumps path w = (text : List ℕ) × IsCut text w
+EndsShow status.OutputFault blocks dumps path w = IsCutOf (IsShown blocks dumps path) w
 EndsShow status.NoMemory blocks dumps path w = IsQuiet w
 EndsShow other blocks dumps path w = ⊥
 
@@ -155,7 +163,7 @@ abbrev pub EndsGiven : Status → List Dump → Written → Type 0
 EndsGiven status.Done dumps w = (text : List ℕ) × IsRestorable dumps true text × IsWhole text w
 EndsGiven status.No dumps w = (text : List ℕ) × IsRestorable dumps false text × IsWhole text w
 EndsGiven status.Unread dumps w = IsWhole (codes "TAPE READ\n") w
-EndsGiven status.OutputFault dumps w = (text : List ℕ) × IsCut text w
+EndsGiven status.OutputFault dumps w = IsCutOf (λ text. ((given : Bool) × IsRestorable dumps given text) ⊎ IsFaultLine text) w
 EndsGiven status.NoMemory dumps w = IsQuiet w
 EndsGiven other dumps w = ⊥
 

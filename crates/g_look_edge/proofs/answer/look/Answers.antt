@@ -12,14 +12,14 @@ returns-in-Dumps-clause-dumps g c = λ is tells shelf shelved. ends_dumps shelf 
 
 pub returns-in-List-clause-list : goal.returns-in-List-clause-list
 returns-in-List-clause-list g c = λ user is blocks told.
-    list_ends c.args.asked.now user _ _ c.in-List.is is c.as_ref.ensures blocks _ _ c.list.result (c.list.ensures.text blocks told) (λ none. c.list.ensures.no_filestore none blocks told) (λ none. c.list.ensures.no_user none blocks told)
-    c.list.ensures.faults c.tell.ensures
+    list_ends c.args.asked.now user _ _ c.in-List.is is c.as_ref.ensures.value blocks _ _ c.list.result (c.list.ensures.text blocks told) (λ none. c.list.ensures.no_filestore none blocks told) (λ none. c.list.ensures.no_user none blocks told)
+    c.list.ensures.faults c.tell-in-List.ensures
 
 pub returns-in-Show-clause-show : goal.returns-in-Show-clause-show
 returns-in-Show-clause-show g c = λ path is blocks told reels shelf shelved.
-    show_ends c.args.asked.now path _ c.in-Show.is is blocks _ _ _ c.show.result
-    (of_dumps (g.T.Tapes.rack c.args.tapes.now) (λ dumps text. IsShown blocks dumps _ text) c.show.result
-    (of_blocks (g.D.Disc.state c.args.disc.now).held (λ bs text. OfDumps (g.T.Tapes.rack c.args.tapes.now) (λ dumps. IsShown bs dumps _ text)) c.show.result blocks told c.show.ensures.bytes) reels shelf shelved)
+    show_ends c.args.asked.now path c.in-Show.path c.in-Show.is is blocks _ _ _ c.show.result
+    (of_dumps (g.T.Tapes.rack c.args.tapes.now) (λ dumps text. IsShown blocks dumps c.in-Show.path text) c.show.result
+    (of_blocks (g.D.Disc.state c.args.disc.now).held (λ bs text. OfDumps (g.T.Tapes.rack c.args.tapes.now) (λ dumps. IsShown bs dumps c.in-Show.path text)) c.show.result blocks told c.show.ensures.bytes) reels shelf shelved)
     (λ none. c.show.ensures.no_filestore none blocks told) (λ none. c.show.ensures.no_file none blocks told)
     (λ none. c.show.ensures.no_copy none c.requires.mounted blocks told reels shelf shelved) c.show.ensures.only c.tell_bytes.ensures
 
