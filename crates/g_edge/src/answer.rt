@@ -6,7 +6,7 @@ ghost use Rattle.g_run.specs.Top.{IsOfRun, IsOfWords, code_of};
 ghost use Rattle.g_edge.specs.Exit.{IsExit};
 
 use crate::rules::run_by_rules;
-use crate::telling::{tell_lost, tell_rebuilt};
+use crate::telling::{tell_lost, tell_rebuilt, tell_unusable};
 use g_base::NoMemory;
 use g_demo::{Asked, asked_by};
 use g_devices::{
@@ -46,14 +46,17 @@ pub fn answer(rt: &HostRuntime, words: &[&str]) -> u8
     }
 }
 
-/// Runs on image and rack. 7 where they can't be used, and 5 where memory is wanting before the run.
+/// Runs on image and rack. 7 where they can't be used, which is told, and 5 where memory is wanting before the run.
 fn on_files(rt: &HostRuntime, words: &[&str]) -> u8
     ensures known { IsRun words.now → (result ≡ 7) ⊎ IsExit IsOfRun result }
 {
     match run_on_files(rt, words) {
         Ok(code) => code,
         Err(fault) if fault.kind() == ErrorKind::OutOfMemory => Status::NoMemory.code(),
-        Err(_) => NO_IMAGE,
+        Err(fault) => {
+            tell_unusable(rt, fault.kind());
+            NO_IMAGE
+        }
     }
 }
 
