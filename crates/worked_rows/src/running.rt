@@ -89,19 +89,9 @@ fn disc_of(alloc: Global, row: &Row) -> anyhow::Result<MemoryDisc>
     Ok(disc)
 }
 
-/// The row's rack, of one to three reels.
+/// The row's rack, and what its failing writes leave.
 fn tapes_of(alloc: Global, row: &Row) -> anyhow::Result<MemoryTapes> {
-    let reels = match row.reels.as_slice() {
-        [one] => vec![in alloc; (1, capacity_of(*one)?)]?,
-        [one, two] => vec![in alloc; (1, capacity_of(*one)?), (2, capacity_of(*two)?)]?,
-        [one, two, three] => vec![in alloc;
-            (1, capacity_of(*one)?),
-            (2, capacity_of(*two)?),
-            (3, capacity_of(*three)?),
-        ]?,
-        _ => return Err(anyhow!("no rack has so many reels")),
-    };
-    let mut tapes = MemoryTapes::new(alloc, reels)?;
+    let mut tapes = rack_of(alloc, row.reels.as_slice())?;
     if row.leaves == "cut" {
         tapes.set_leave(TapeLeave::Cut);
     } else if row.leaves == "half" {
@@ -110,6 +100,25 @@ fn tapes_of(alloc: Global, row: &Row) -> anyhow::Result<MemoryTapes> {
         tapes.set_leave(TapeLeave::Whole);
     }
     Ok(tapes)
+}
+
+/// A rack of one to three reels of these capacities.
+fn rack_of(alloc: Global, capacities: &[u32]) -> anyhow::Result<MemoryTapes> {
+    match capacities {
+        [one] => {
+            let one = capacity_of(*one)?;
+            Ok(MemoryTapes::new(alloc, vec![in alloc; (1, one)]?)?)
+        }
+        [one, two] => {
+            let (one, two) = (capacity_of(*one)?, capacity_of(*two)?);
+            Ok(MemoryTapes::new(alloc, vec![in alloc; (1, one), (2, two)]?)?)
+        }
+        [one, two, three] => {
+            let (one, two, three) = (capacity_of(*one)?, capacity_of(*two)?, capacity_of(*three)?);
+            Ok(MemoryTapes::new(alloc, vec![in alloc; (1, one), (2, two), (3, three)]?)?)
+        }
+        _ => Err(anyhow!("no rack has so many reels")),
+    }
 }
 
 /// A capacity that a reel can have.
