@@ -1,5 +1,5 @@
-//! Tests of the parts of the whole store, over discs and reels in memory: calls, dumps, general restore, and files that go off
-//! the disc and come back from tape.
+//! Tests of the parts of the whole store, over discs and reels in memory: calls, dumps, general restore, all versions onto one
+//! reel, and files that go off the disc and come back from tape.
 #![tactic(auto)]
 
 #[cfg(test)]
@@ -10,6 +10,8 @@ mod copies;
 mod dumps;
 #[cfg(test)]
 mod migrations;
+#[cfg(test)]
+mod processes;
 #[cfg(test)]
 mod records;
 #[cfg(test)]
