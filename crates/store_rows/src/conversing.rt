@@ -90,15 +90,31 @@ fn ask_both(
     plain: &mut PlainStore,
     ask: Ask<'static>,
 ) -> Result<System, Wrong> {
-    let wanted = told(rt.alloc(), &asked(rt.alloc(), plain, "MASTER", &ask))?;
-    let (next, outcome) = happens(rt.alloc(), system, &Event::Ask("MASTER", ask));
-    let seen = told(rt.alloc(), &outcome)?;
-    if seen.as_str() == wanted.as_str() {
-        Ok(next)
-    } else {
-        println!(rt; "{} and not {}", seen.as_str(), wanted.as_str())?;
-        Err(Wrong("another answer"))
+    let wanted = wanted_of(rt.alloc(), plain, &ask)?;
+    let (next, seen) = seen_of(rt.alloc(), system, ask)?;
+    compare(rt, seen.as_str(), wanted.as_str())?;
+    Ok(next)
+}
+
+/// What the plain store answers.
+fn wanted_of(alloc: Global, plain: &mut PlainStore, ask: &Ask) -> Result<String, Wrong> {
+    Ok(told(alloc, &asked(alloc, plain, "MASTER", ask))?)
+}
+
+/// What the system answers, and the system behind it.
+fn seen_of(alloc: Global, system: System, ask: Ask<'static>) -> Result<(System, String), Wrong> {
+    let (next, outcome) = happens(alloc, system, &Event::Ask("MASTER", ask));
+    let seen = told(alloc, &outcome)?;
+    Ok((next, seen))
+}
+
+/// Tells the two answers where they aren't the same.
+fn compare(rt: &HostRuntime, seen: &str, wanted: &str) -> Result<(), Wrong> {
+    if seen == wanted {
+        return Ok(());
     }
+    println!(rt; "{seen} and not {wanted}")?;
+    Err(Wrong("another answer"))
 }
 
 /// What is dumped at the end is restored whole.
