@@ -220,7 +220,8 @@ def tests(hard):
                 leave_out("the order of a PROCESS", "no process can be traced here")
                 return
             short = {IMAGE: "disc", "1.tape": "1", "2.tape": "2"}
-            seen = [(short[os.path.basename(path)], call, k) for call, path, k in calls if os.path.basename(path) in short]
+            named = [(short[os.path.basename(path)], call, k, count) for call, path, k, count in calls if os.path.basename(path) in short]
+            seen = [(name, call, k + i) for name, call, k, count in named for i in range(max(count, 1))]
             at = lambda name, call, k: max(i for i, it in enumerate(seen) if it == (name, call, k))
             mark, gate, release = at("2", hard.PWRITE, 7), at("disc", hard.PWRITE, 0), at("1", hard.PWRITE, 0)
             syncs = lambda name, first, end: ("%s" % name, hard.FDATASYNC, 0) in seen[first:end]
