@@ -248,11 +248,11 @@ fn failing(rt: &(impl Abort + AllocGlobal), mover: &mut Mover, fault: StoreFault
 /// A read of the dumps on the reels fails, or one of F's two blocks behind them: whichever it is, nothing is lost.
 #[test]
 fn tape_reads_fail(rt: HostRuntime) {
-    let mut failed = 0;
+    let mut failed = 0_u32;
     for tape in 7..12 {
         let mut mover = Mover::away(&rt, beside_dump(&rt), 0, tape).expect(&rt, "a filestore");
         if failing(&rt, &mut mover, StoreFault::TapeReadFault) {
-            failed += 1;
+            failed = failed.saturating_add(1);
         }
     }
     assert!(rt; 2 <= failed && failed < 5);
@@ -261,13 +261,13 @@ fn tape_reads_fail(rt: HostRuntime) {
 /// A read of a block of A, B, C or D fails: the reads of the disc behind the gate and the 1,088 blocks of the slot.
 #[test]
 fn disc_reads_fail(rt: HostRuntime) {
-    let mut failed = 0;
+    let mut failed = 0_u32;
     for disc in 1089..1095 {
         let Some(mut mover) = Mover::away(&rt, beside_dump(&rt), disc, 0) else {
             continue;
         };
         if failing(&rt, &mut mover, StoreFault::DiscReadFault) {
-            failed += 1;
+            failed = failed.saturating_add(1);
         }
     }
     assert!(rt; failed == 4);
