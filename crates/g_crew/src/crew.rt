@@ -20,14 +20,13 @@ ghost use Rattle.g_world.specs.World.{has_none, with_job, without_job};
 use crate::account::{Account, charge, open_each};
 use crate::choice::{first_of, one_can_step};
 use crate::place::place_of;
-use crate::seats::get_up;
+use crate::seats::{BoxedSeats, get_up};
 use crate::taken::Taken;
 use crate::taking::{NewJob, NotTaken, refusal};
 use g_base::NoMemory;
 use g_budget::{Charge, Tariff, Usage};
 use g_entry::UserRec;
 use g_job::{Job, Turn};
-use g_mop::Terminals;
 use g_plain::Filestore;
 use g_sched::{Standing, WeighRule};
 use std::alloc::Global;
@@ -41,7 +40,7 @@ pub struct Crew {
     pub(crate) jobs: Vec<Job>,
     pub(crate) accounts: Vec<Account>,
     pub(crate) next_job: u64,
-    pub(crate) terminals: Option<Terminals>,
+    pub(crate) terminals: Option<BoxedSeats>,
 }
 
 impl Model for Crew {
