@@ -1,3 +1,4 @@
+pub mod AnewLemmas
 pub mod ClauseLemmas
 pub mod CompleteLemmas
 pub mod DumpLemmas

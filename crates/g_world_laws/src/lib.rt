@@ -2,7 +2,7 @@
 //! completed, and of what lines leave that are refused while the system is down.
 #![tactic(auto)]
 
-ghost use Rattle.g_world_laws.specs.Anew.{EmptiedStand};
+ghost use Rattle.g_world_laws.specs.Anew.{EmptiedStand, FormatsAnew};
 ghost use Rattle.g_world_laws.specs.Completes.{DumpsComplete, DumpsGoOn};
 ghost use Rattle.g_world_laws.specs.Cuts.{TapesCutNoCall};
 ghost use Rattle.g_world_laws.specs.Dumps.{DumpsStay, DumpsTakeNeeds};
@@ -124,6 +124,13 @@ pub fn devices_have_one_state()
     some_state();
     one_state();
 }
+
+/// A store that a FORMAT made over reels without blocks, whatever the disc held, stands for the state that FORMAT makes of that of a new
+/// disc beside the same reels.
+#[tactic(auto, using(crate::proofs::AnewLemmas::formats_anew))]
+pub fn formats_begin_anew()
+    ensures { FormatsAnew }
+{}
 
 /// A store that holds a filestore goes on to hold one, whatever is done and whatever fails; and so do its devices.
 pub fn filestores_stay<F: Fn(&Usage) -> Charge, U: Fn(&Standing) -> u64>()
