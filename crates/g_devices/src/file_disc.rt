@@ -5,7 +5,9 @@ ghost use Rattle.g_base.specs.Fuse.{BurnsByWrites};
 use crate::claim::Access;
 use crate::image_file::ImageFile;
 use crate::names::FileId;
-use g_base::{Armings, Block, FIRST_COPY_BLOCK, Fuse, MAX_DISC_BLOCKS, ReadFailed, WriteFailed, raised};
+use g_base::{
+    Armings, Block, FIRST_COPY_BLOCK, Fuse, MAX_DISC_BLOCKS, ReadFailed, WriteFailed, raised,
+};
 use g_disc::Disc;
 use std::io::{self, Error, ErrorKind};
 

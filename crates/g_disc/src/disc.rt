@@ -37,5 +37,5 @@ pub trait Disc {
         requires { 1 ≤ k }
         ensures { state self.new
             ≡ record (state self.old)
-                { fuse = Some k; arms = armed_with k (state self.old).writes (state self.old).arms } };
+            { fuse = Some k; arms = armed_with k (state self.old).writes (state self.old).arms } };
 }

@@ -21,7 +21,7 @@ pub unarmed_burns : UnarmedBurns
 unarmed_burns old new was is same later room =
     let before = was.left (omega (arith, later, room)) in
     let behind : new.fuse ≡ burnt_by (new.writes - old.arms.since) old.arms.number =
-        is.left room ∙ ap (λ (a : Arms). burnt_by (new.writes - a.since) a.number) same in
+    is.left room ∙ ap (λ (a : Arms). burnt_by (new.writes - a.since) a.number) same in
     let whole : new.writes - old.arms.since ≡ (old.writes - old.arms.since) + (new.writes - old.writes) = let early : old.arms.since ≤ old.writes = was.later in omega (arith, early, later) in
     behind ∙ ap (λ (n : ℕ). burnt_by n old.arms.number) whole
     ∙ sym (burnt_both (old.writes - old.arms.since) (new.writes - old.writes) old.arms.number)
@@ -36,6 +36,7 @@ racks_burn numbers k old new is armed = by new.fuse refl
   where
     number : new.arms.number ≡ Some k
     number = number_is_last (numbers ++ k ∷ []) old.arms new.arms armed ∙ last_is numbers k old.arms.number
+
     by : (fuse : Option ℕ) → new.fuse ≡ fuse → Rose new.arms.since new.write_faults ⊎ ((j : ℕ) × (new.fuse ≡ Some j) × (1 ≤ j) × (j ≤ k))
     by None none = inl (is.spent none k number)
     by (Some j) some =

@@ -12,8 +12,7 @@ invariant_of-result c =
     let zeros = c.in_ok-new.ensures in
     let few = c.ranges.blocks in
     let long = length-replicate c.args.blocks (replicate {A = ℕ} 512 0) in
-    let counted = ap length zeros in
-    (
+    let counted = ap length zeros in (
       omega arith,
       subst (All IsBlock) (sym zeros) (All-replicate IsBlock c.args.blocks (replicate 512 0) IsBlock-zeros),
       fused_never 0 c.new-4.result c.new-3.result c.new-4.ensures c.new-3.ensures,
