@@ -1,7 +1,6 @@
 //! What a job's line asks for, and why it isn't taken in.
 ghost use Rattle.std.specs.Prelude.{◌≡◌, ◌<◌, ◌≤◌, ◌++◌, ℕ, IfOk, OnOk, length};
 ghost use Rattle.g_crew.specs.Taking.{IsPrinted, RefusesAsIn, RoomAsIn, printed, refusal_line};
-ghost use Rattle.g_crew.specs.declared.taking.NotTaken.TheVariants.{NoMemory};
 ghost use Rattle.g_job.specs.Begun.{job_begun};
 
 use crate::account::{Account, left_for};
@@ -42,14 +41,6 @@ pub enum NotTaken {
     /// The memory was refused; the job would have been taken in.
     #[error("out of memory")]
     NoMemory,
-}
-
-impl From<NoMemory> for NotTaken {
-    ghost from_gives = { λ e why. why ≡ NoMemory };
-
-    fn from(_e: NoMemory) -> NotTaken {
-        NotTaken::NoMemory
-    }
 }
 
 impl NewJob {
