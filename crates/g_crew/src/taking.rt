@@ -1,7 +1,6 @@
 //! What a job's line asks for, and why it isn't taken in.
 ghost use Rattle.std.specs.Prelude.{◌≡◌, ◌<◌, ◌++◌, ℕ, OnOk, length};
 ghost use Rattle.g_crew.specs.Taking.{IsPrinted, RefusesAsIn, RoomAsIn, printed, refusal_line};
-ghost use Rattle.g_crew.specs.declared.taking.NotTaken.TheVariants.{NoMemory};
 
 use crate::account::{Account, left_for};
 use crate::choice::MOST_JOBS;
@@ -30,14 +29,6 @@ pub enum NotTaken {
     /// The memory was refused; the job would have been taken in.
     #[error("out of memory")]
     NoMemory,
-}
-
-impl From<NoMemory> for NotTaken {
-    ghost from_gives = { λ e why. why ≡ NoMemory };
-
-    fn from(_e: NoMemory) -> NotTaken {
-        NotTaken::NoMemory
-    }
 }
 
 /// The first reason, in this order, not to take the job in.
