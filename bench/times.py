@@ -73,6 +73,25 @@ def dumps_behind(dumps):
     return script
 
 
+def fetches_behind(dumps):
+    """A file of a block that is off the disc comes back and goes off again; its copy is in the first of so many dumps of its reel."""
+    def script(times):
+        front = "0 FORMAT\n0 MOUNT 1\n" + job(0, puts([0])) + "50 DUMP 1\n"
+        front += "".join(job(100 * i, puts([1])) + f"{100 * i + 50} DUMP 1\n" for i in range(1, dumps))
+        return front + "".join(f"{100 * i} MIGRATE :MASTER.F0\n" + job(100 * i, ["LISTFILE F0"]) for i in range(dumps, dumps + times))
+    return script
+
+
+def restores(users, files):
+    """So many users, MASTER where it is 1, each with so many files of a block, a dump of all, and a RESTORE again and again."""
+    def script(times):
+        names = ["MASTER"] if users == 1 else [f"U{i}" for i in range(users)]
+        front = "0 FORMAT\n0 MOUNT 1\n0 MOUNT 2\n" + job(0, [f"NEWUSER :{it},SPACE 1000,TIME 10000" for it in names if it != "MASTER"])
+        front += "".join(job(10000 * (i + 1), puts(range(files)), 9000).replace(":MASTER", f":{it}") for i, it in enumerate(names))
+        return front + f"{10000 * (users + 1)} DUMP 1\n" + f"{10000 * (users + 2)} SHUT\n0 RESTORE\n".replace("\n0 ", f"\n{10000 * (users + 2)} ") * times
+    return script
+
+
 # a row: what, words, script of a number, few, many, operations of each, folder
 ROWS = {
     "an order, LDX SBX STO BNZ": (counting, 500000, 4000000, 4, MEMORY),
@@ -85,12 +104,18 @@ ROWS = {
     "a file and its record in a dump, in memory": (dump_of, 100, 1000, 1, MEMORY),
     "a file and its record in a dump, real files": (dump_of, 100, 1000, 1, "."),
     "a dump of one file behind 10 others": (dumps_behind(10), 5, 35, 1, MEMORY),
-    "a dump of one file behind 200 others": (dumps_behind(200), 5, 35, 1, MEMORY),
+    "a dump of one file behind 300 others": (dumps_behind(300), 5, 35, 1, MEMORY),
+    "a Fetch from tape, of a reel of 10 dumps": (fetches_behind(10), 5, 55, 1, MEMORY),
+    "a Fetch from tape, of a reel of 300 dumps": (fetches_behind(300), 5, 55, 1, MEMORY),
+    "RESTORE of 1,000 files of one user": (restores(1, 1000), 2, 22, 1, MEMORY),
+    "RESTORE of 976 files of 61 users": (restores(61, 16), 2, 22, 1, MEMORY),
 }
 RATIOS = (
     ("a turn with 60 jobs beside one with 1", "a turn of `1 GOTO 1`, 60 jobs", "a turn of `1 GOTO 1`, 1 job"),
     ("a commit over 1,000 files beside one over 10", "INPUT of a block, 1,000 files in memory", "INPUT of a block, 10 files in memory"),
-    ("a dump behind 200 beside one behind 10", "a dump of one file behind 200 others", "a dump of one file behind 10 others"),
+    ("a dump behind 300 beside one behind 10", "a dump of one file behind 300 others", "a dump of one file behind 10 others"),
+    ("a Fetch of a reel of 300 dumps beside one of 10", "a Fetch from tape, of a reel of 300 dumps", "a Fetch from tape, of a reel of 10 dumps"),
+    ("a RESTORE of 61 users beside one of one", "RESTORE of 976 files of 61 users", "RESTORE of 1,000 files of one user"),
 )
 
 
