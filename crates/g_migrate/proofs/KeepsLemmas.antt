@@ -1,5 +1,5 @@
 -- A store keeps what it keeps where files of its filestore are taken off the disc.
-use Rattle.std.proofs.Common.{◌≡◌, ℕ, ◌+◌, ◌<◌, Bool, true, false, List, [], Option, Some, None, refl, sym, ◌∙◌, ap, subst, arith, inl, inr, if◌then◌else◌, true≢false}
+use Rattle.std.proofs.Common.{◌≡◌, ℕ, ◌<◌, Bool, true, false, List, [], Option, Some, None, refl, sym, ◌∙◌, ap, subst, arith, inl, inr, if◌then◌else◌, true≢false}
 use Rattle.std.specs.Prelude.{◌⊎◌, ◌||◌, IfSome, is_some, not}
 use Rattle.std.specs.Option.{ForSome}
 use Rattle.g_tape.specs.Rack.{Rack}
@@ -20,7 +20,7 @@ use Rattle.g_state.specs.Meaning.{told_reels}
 use Rattle.g_state.specs.Staying.{behind}
 use Rattle.g_state.specs.Up.{DumpFacts, IsOpen, IsReady, IsUp, StoreFacts, content_in}
 use Rattle.g_state.proofs.ChangeLemmas.{files_belong, intents_belong}
-use Rattle.g_state.proofs.StayLemmas.{stays_up}
+use Rattle.g_state.proofs.StayLemmas.{stays_open, stays_up}
 use Rattle.g_state_laws.proofs.DumpingLemmas.{events_stay_up}
 use Rattle.g_migrate.specs.Keeps.{KeepsStore, with_online}
 
@@ -111,21 +111,7 @@ open_kept : (d : DumpFacts) (o new : OnlineFacts) (rack : Rack) (numbers : List 
     → IsOpen d o rack → IsOpen d new rack
 open_kept d o new rack numbers pins contents is =
     let same : new.contents ≡ with_files (taken_off numbers o.contents.files) o.contents = contents ∙ pinned_then numbers o (ap is_some is.pinned) in
-    record {
-      intent = ap (λ (c : Contents). c.head.intent) same ∙ is.intent;
-      number = is.number ∙ sym (ap (λ (c : Contents). c.head.last_dump + 1) same);
-      pins = is.pins;
-      pinned = pins ∙ is.pinned;
-      are = is.are;
-      on = is.on;
-      reel_is = is.reel_is;
-      mounted = is.mounted;
-      from = is.from;
-      length_is = is.length_is;
-      room = is.room;
-      within = is.within;
-      written = is.written;
-    }
+    stays_open d o new rack rack (ap (λ (c : Contents). c.head.intent) same) (ap (λ (c : Contents). c.head.last_dump) same) pins refl is
 
 dump_kept : (dump : Option DumpFacts) (o new : OnlineFacts) (rack : Rack) (numbers : List ℕ) → new.pins ≡ o.pins
     → new.contents ≡ changed (is_some o.disc.held) (is_some o.pins) (Unload numbers) o.contents → IfSome dump (λ d. IsOpen d o rack) → IfSome dump (λ d. IsOpen d new rack)

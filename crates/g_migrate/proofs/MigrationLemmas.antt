@@ -7,6 +7,7 @@ use Rattle.std.proofs.lemmas.List.{get_or-map, length-map}
 use Rattle.std.proofs.lemmas.Option.{same_Some}
 use Rattle.std.proofs.lemmas.List.Elements.{All-cons, All-contains, All-map, All-nil, Contains-get_or}
 use Rattle.g_disc.specs.Disc.{Causes, DiscState}
+use Rattle.g_disc.proofs.CallLemmas.{Causes-for}
 use Rattle.g_entry.specs.declared.file_rec.FileRec.{FileRec}
 use Rattle.g_entry.specs.declared.file_rec.TapeCopy.{TapeCopy}
 use Rattle.g_entry.specs.declared.user_rec.UserRec.{UserRec}
@@ -148,14 +149,7 @@ refused o number fault other tied = record {
 
 -- a disc on which no write failed
 unstopped : (before after : DiscState) (was is : Type 0) → (was → ⊥) → (is → ⊥) → Causes ⊥ was before after → Causes ⊥ is before after
-unstopped before after was is none never causes = record {
-  size = causes.size;
-  arms = causes.arms;
-  reads_kept = causes.reads_kept;
-  reads_rose = causes.reads_rose;
-  writes_kept = λ _. causes.writes_kept none;
-  writes_rose = λ it. absurd (never it);
-}
+unstopped before after was is none never causes = Causes-for (λ p. p) (λ p. p) (λ q. absurd (none q)) (λ s. absurd (never s)) causes
 
 other_fault : (o new : OnlineFacts) (number : ℕ) (fault : OnlineFault) → fault ≢ variants.Stopped
     → (let r : Result (Unit {0}) OnlineFault = Err fault in IsApplied (Unload (number ∷ [])) o new r) → HasMigrated number o new (Err NoMemory)
@@ -181,14 +175,7 @@ as_migrated o new number (Err variants.Stopped) applied = record {
   ok = tt;
   stopped = λ is. applied.stopped refl;
   same = λ other. absurd (other refl);
-  causes = record {
-    size = applied.causes.size;
-    arms = applied.causes.arms;
-    reads_kept = applied.causes.reads_kept;
-    reads_rose = applied.causes.reads_rose;
-    writes_kept = λ none. absurd (none refl);
-    writes_rose = λ is. applied.causes.writes_rose refl;
-  };
+  causes = Causes-for (λ p. p) (λ p. p) (λ _. refl) (λ _. refl) applied.causes;
   tied = applied.tied;
   told = applied.told;
 }

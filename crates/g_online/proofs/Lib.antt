@@ -30,6 +30,7 @@ pub mod AdoptLemmas
 pub mod PinLostLemmas
 pub mod PinBlockLemmas
 pub mod CloseNoteLemmas
+pub mod CopiedLemmas
 pub mod CloseMarkLemmas
 pub mod NotedLemmas
 pub mod CloseLemmas

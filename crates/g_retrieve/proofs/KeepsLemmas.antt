@@ -1,5 +1,5 @@
 -- A store keeps what it keeps where its rack is read and a file is brought back.
-use Rattle.std.proofs.Common.{◌≡◌, ℕ, ◌+◌, ◌<◌, Bool, true, false, List, [], ◌∷◌, map, get_or, Option, Some, None, is_some, refl, sym, ◌∙◌, ap, subst, arith, inl, inr, if◌then◌else◌, true≢false}
+use Rattle.std.proofs.Common.{◌≡◌, ℕ, ◌<◌, Bool, true, false, List, [], ◌∷◌, map, get_or, Option, Some, None, is_some, refl, sym, ◌∙◌, ap, subst, arith, inl, inr, if◌then◌else◌, true≢false}
 use Rattle.std.specs.Prelude.{◌⊎◌, ◌||◌, All, IfSome, length, not, option_map}
 use Rattle.std.specs.Option.{ForSome}
 use Rattle.std.proofs.lemmas.List.Elements.{All-map, Contains-get_or}
@@ -27,7 +27,7 @@ use Rattle.g_state.specs.Reading.{ReelsTold}
 use Rattle.g_state.specs.Staying.{OnlyGrow, behind}
 use Rattle.g_state.specs.Up.{DumpFacts, IsOpen, IsReady, IsUp, StoreFacts, content_in}
 use Rattle.g_state.proofs.ChangeLemmas.{files_belong, intents_belong}
-use Rattle.g_state.proofs.StayLemmas.{stays_up}
+use Rattle.g_state.proofs.StayLemmas.{stays_open, stays_up}
 use Rattle.g_state_laws.proofs.DumpingLemmas.{events_stay_up}
 use Rattle.g_state_steps.proofs.UnjamLemmas.{numbers_apart}
 use Rattle.g_retrieve.specs.Brought.{HasCopied, IsOnTape}
@@ -203,21 +203,7 @@ open_kept d o new rack number bytes take pins contents is =
     let same : new.contents ≡ back (is_some o.disc.held) number bytes take o.contents =
     contents ∙ changed_is (is_some o.disc.held) (is_some o.pins) number bytes take o.contents
     ∙ ap (λ (b : Bool). committed (b || false) (back (is_some o.disc.held) number bytes take o.contents)) (ap is_some is.pinned) in
-    record {
-      intent = ap (λ (c : Contents). c.head.intent) same ∙ is.intent;
-      number = is.number ∙ sym (ap (λ (c : Contents). c.head.last_dump + 1) same);
-      pins = is.pins;
-      pinned = pins ∙ is.pinned;
-      are = is.are;
-      on = is.on;
-      reel_is = is.reel_is;
-      mounted = is.mounted;
-      from = is.from;
-      length_is = is.length_is;
-      room = is.room;
-      within = is.within;
-      written = is.written;
-    }
+    stays_open d o new rack rack (ap (λ (c : Contents). c.head.intent) same) (ap (λ (c : Contents). c.head.last_dump) same) pins refl is
 
 dump_kept : (dump : Option DumpFacts) (o new : OnlineFacts) (rack : Rack) (number : ℕ) (bytes take : List ℕ) → new.pins ≡ o.pins
     → new.contents ≡ changed (is_some o.disc.held) (is_some o.pins) (Bring number bytes take) o.contents → IfSome dump (λ d. IsOpen d o rack) → IfSome dump (λ d. IsOpen d new rack)

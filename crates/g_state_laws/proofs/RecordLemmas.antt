@@ -196,8 +196,3 @@ numbers_none_of user n (r ∷ rs) = by_owner (cases_Bool (r.owner == user)) (num
     by_owner (inr isnt) rest =
         ap (map unnumbered) (cond-false (r.owner == user) (with_number n r ∷ files_of user (numbered_from (n + 1) rs)) (files_of user (numbered_from (n + 1) rs)) isnt)
         ∙ rest ∙ ap (map unnumbered) (sym (cond-false (r.owner == user) (r ∷ files_of user rs) (files_of user rs) isnt))
-
-pub numbers_are : (n : ℕ) (rs : List FileRec) (i : ℕ) (d : FileRec) → i < length (numbered_from n rs) → (get_or (numbered_from n rs) i d).number ≡ n + i
-numbers_are n [] i d within = let no : ⊥ = omega (arith, within) in absurd no
-numbers_are n (r ∷ rs) zero d within = let sum : n ≡ n + 0 = omega arith in sum
-numbers_are n (r ∷ rs) (suc i) d within = numbers_are (n + 1) rs i d (omega (arith, within)) ∙ (let sum : (n + 1) + i ≡ n + suc i = omega arith in sum)

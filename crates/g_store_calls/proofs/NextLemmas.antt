@@ -13,6 +13,7 @@ use Rattle.g_entry.specs.declared.file_rec.TapeCopy.{TapeCopy}
 use Rattle.g_entry.specs.declared.user_rec.UserRec.{UserRec}
 use Rattle.g_entry.specs.FileFields.{AreSets, IsCopy, IsFile, lacks}
 use Rattle.g_entry.specs.Rules.{AreNumbered, SameName}
+use Rattle.g_entry.proofs.RuleLemmas.{file_anew}
 use Rattle.g_name.specs.declared.full.Full.{Full}
 use Rattle.g_name.specs.Grammar.{is_lang, is_word}
 use Rattle.g_trap.specs.TrapList.{IsOthers, TrapList}
@@ -174,18 +175,7 @@ module _ (o : OnlineFacts) (rules : KeepsRules o.contents) (early : o.contents.h
         let file = All-contains IsFile recs old was.each_file there in
         let least = rules.head.least_stamp in
         record {
-          file = record {
-            local = file.local;
-            least_generation = file.least_generation;
-            most_generation = file.most_generation;
-            lang = file.lang;
-            stamp = early;
-            len = short;
-            others = file.others;
-            sets = file.sets;
-            no_owner = file.no_owner;
-            tape = tt;
-          };
+          file = file_anew old.number next len None old file early short tt;
           number = All-contains (λ (q : FileRec). q.number < 1024) recs old was.numbers.below there;
           owner = All-contains (λ (q : FileRec). q.owner < length users) recs old was.among_files.owners there;
           trapped = All-contains (λ (q : FileRec). All (λ pair. pair.0 < length users) q.traps.others) recs old was.among_files.trapped there;

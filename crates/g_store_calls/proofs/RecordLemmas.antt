@@ -33,6 +33,7 @@ use Rattle.g_state.specs.Staying.{behind}
 use Rattle.g_state.specs.Up.{DumpFacts, IsOpen, IsUp, StoreFacts}
 use Rattle.g_state.proofs.ChangeLemmas.{intents_belong}
 use Rattle.g_state.proofs.ViewLemmas.{Stands, back}
+use Rattle.g_state.proofs.StayLemmas.{stays_open}
 use Rattle.g_state_calls.specs.Calls.{IsBehind, IsKnown, marked}
 use Rattle.g_state_laws.proofs.DumpingLemmas.{events_stay_up}
 use Rattle.g_state_steps.specs.Rooms.{held_in}
@@ -256,21 +257,8 @@ module _ (s : StoreFacts) (new : OnlineFacts) (who : List ℕ) (call : StoreCall
     open_kept : (d : DumpFacts) → IsOpen d o s.rack → IsOpen d new s.rack
     open_kept d open_is =
         let same : new.contents ≡ e = contents_are ∙ ap (λ (b : Bool). committed b e) (ap is_some open_is.pinned) in
-        record {
-          intent = ap (λ (c : Contents). c.head.intent) same ∙ ap (λ h. h.intent) is.head ∙ open_is.intent;
-          number = open_is.number ∙ sym (ap (λ (c : Contents). c.head.last_dump + 1) same ∙ ap (λ h. h.last_dump + 1) is.head);
-          pins = open_is.pins;
-          pinned = done.pins ∙ open_is.pinned;
-          are = open_is.are;
-          on = open_is.on;
-          reel_is = open_is.reel_is;
-          mounted = open_is.mounted;
-          from = open_is.from;
-          length_is = open_is.length_is;
-          room = open_is.room;
-          within = open_is.within;
-          written = open_is.written;
-        }
+        stays_open d o new s.rack s.rack (ap (λ (c : Contents). c.head.intent) same ∙ ap (λ h. h.intent) is.head)
+        (ap (λ (c : Contents). c.head.last_dump) same ∙ ap (λ h. h.last_dump) is.head) done.pins refl open_is
 
     dump_kept : (dump : Option DumpFacts) → IfSome dump (λ d. IsOpen d o s.rack) → IfSome dump (λ d. IsOpen d new s.rack)
     dump_kept None open_is = tt
