@@ -23,7 +23,7 @@ use Rattle.g_incr.specs.Plan.{IsAway, IsPlan, IsReadyAt, Plan, blocks_of, conten
 use Rattle.g_incr.proofs.PlanLemmas.{length-made}
 use Rattle.g_shelf.specs.Completed.{AreCompleted, AreShelved, all_dumps}
 use Rattle.g_shelf.specs.declared.rack.Listed.{Listed}
-use Rattle.g_shelf.specs.Listed.{AreListed}
+use Rattle.g_known.specs.Known.{AreListed}
 use Rattle.g_shelf.specs.Quiet.{left_in}
 use Rattle.g_shelf.proofs.MarkLemmas.{mark_completes}
 use Rattle.g_state.specs.Answers.{Belongs}
@@ -578,7 +578,7 @@ module _ (serial : ℕ) (o : OnlineFacts) (old mid : Rack) (live : o.live ≡ tr
         }) either
 
         -- BEHIND RELEASES
-        module _ (lists : List Listed) (listed : AreListed old mid lists) (end : StoreFacts) (same : labels end.rack.reels ≡ labels old.reels) (live' : end.online.live ≡ true)
+        module _ (lists : List Listed) (listed : AreListed old lists) (end : StoreFacts) (same : labels end.rack.reels ≡ labels old.reels) (live' : end.online.live ≡ true)
             (contents : end.online.contents ≡ moved_by serial o) (changed : end.online.changed ≡ []) where
           exit_released : (ns : List ℕ) (until : ℕ) (cut : Option ℕ) → AreShelved (without_all ns with_it) (told_reels end.rack) → ((n : ℕ) → has ns n ≡ true → (n < until) × (n ≢ serial))
               → ((r : Reel) → Contains old.reels r → r.serial < until → r.serial ≢ serial → has ns r.serial ≡ false → IsFree r.serial old) → IsLastCut serial until old cut
