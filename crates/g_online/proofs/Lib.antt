@@ -25,6 +25,7 @@ pub mod ForgetLemmas
 pub mod BegunLemmas
 pub mod PoolLemmas
 pub mod OffLemmas
+pub mod OffRuleLemmas
 pub mod UnloadLemmas
 pub mod AdoptLemmas
 pub mod PinLostLemmas
