@@ -3,6 +3,7 @@ use Rattle.std.proofs.Common.{◌≡◌, ℕ, Bool, true, false, List, Option, S
 use Rattle.std.specs.Prelude.{IfSome}
 use Rattle.std.specs.Option.{ForSome}
 use Rattle.std.proofs.lemmas.Bool.{false≢true}
+use Rattle.g_base.specs.Fuse.{Arms}
 use Rattle.g_tape.specs.Rack.{Rack}
 use Rattle.g_contents.specs.Facts.{IsTied, OnlineFacts, Pin}
 use Rattle.g_incr.specs.Layout.{Dump}
@@ -19,7 +20,7 @@ use Rattle.g_store.specs.Arming.{MeansTheSame}
 use Rattle.g_store_calls.proofs.SeenLemmas.{seen}
 use Rattle.g_state_laws.proofs.TiedLemmas.{holds_now}
 
-module _ (s : StoreFacts) (f g : Option ℕ) (a b : ℕ) where
+module _ (s : StoreFacts) (f g : Option ℕ) (a b : Arms) where
   abbrev online : OnlineFacts
   online = record s.online { disc = record s.online.disc { fuse = f; arms = a } }
 
@@ -65,13 +66,13 @@ module _ (s : StoreFacts) (f g : Option ℕ) (a b : ℕ) where
   pub means_the_same : MeansTheSame s armed
   means_the_same = record { told = λ told. told; belongs = belongs_armed; state = state_armed }
 
-pub disc_armed : (s t : StoreFacts) (f : Option ℕ) (a : ℕ) (o : OnlineFacts) → t ≡ s → o ≡ record t.online { disc = record t.online.disc { fuse = f; arms = a } }
+pub disc_armed : (s t : StoreFacts) (f : Option ℕ) (a : Arms) (o : OnlineFacts) → t ≡ s → o ≡ record t.online { disc = record t.online.disc { fuse = f; arms = a } }
     → MeansTheSame s (record t { online = o })
 disc_armed s t f a o at is =
     subst (λ (x : StoreFacts). MeansTheSame x (record t { online = o })) at
     (subst (λ (p : OnlineFacts). MeansTheSame t (record t { online = p })) (sym is) (means_the_same t f t.rack.fuse a t.rack.arms))
 
-pub tape_armed : (s t : StoreFacts) (f : Option ℕ) (a : ℕ) (r : Rack) → t ≡ s → r ≡ record t.rack { fuse = f; arms = a } → MeansTheSame s (record t { rack = r })
+pub tape_armed : (s t : StoreFacts) (f : Option ℕ) (a : Arms) (r : Rack) → t ≡ s → r ≡ record t.rack { fuse = f; arms = a } → MeansTheSame s (record t { rack = r })
 tape_armed s t f a r at is =
     subst (λ (x : StoreFacts). MeansTheSame x (record t { rack = r })) at
     (subst (λ (q : Rack). MeansTheSame t (record t { rack = q })) (sym is) (means_the_same t t.online.disc.fuse f t.online.disc.arms a))
