@@ -32,6 +32,7 @@ pub mod PinLostLemmas
 pub mod PinBlockLemmas
 pub mod CloseNoteLemmas
 pub mod CopiedLemmas
+pub mod FewerLemmas
 pub mod CloseMarkLemmas
 pub mod NotedLemmas
 pub mod CloseLemmas
