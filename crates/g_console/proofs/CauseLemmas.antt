@@ -1,8 +1,8 @@
 -- WHAT DEVICES COUNT in an event, by its answer.
-use Rattle.std.proofs.Common.{◌≡◌, ◌≤◌, ℕ, refl, arith}
+use Rattle.std.proofs.Common.{◌≡◌, ◌≤◌, ℕ, [], refl, sym, ◌∙◌, ap, arith}
 use Rattle.std.specs.Prelude.{Result, Err}
 use Rattle.g_base.specs.Counts.{Rose}
-use Rattle.g_base.proofs.CountLemmas.{HasRisenBy-Rose, Rose-later, RoseBy-none}
+use Rattle.g_base.proofs.CountLemmas.{HasRisenBy-Rose, Rose-later}
 use Rattle.g_disc.specs.Disc.{Causes, DiscState}
 use Rattle.g_plain.specs.declared.faults.StoreFault.{StoreFault}
 use Rattle.g_plain.specs.declared.faults.StoreFault.TheVariants.{DiscReadFault, Stopped, TapeReadFault}
@@ -26,7 +26,7 @@ one_zero : {X : Type 0} → ◌≡◌ {A = ℕ} 1 0 → X
 one_zero e = let no : ⊥ = omega arith in absurd no
 
 module _ {A : Type 0} (answer : Result A StoreFault) (old new : Devices) (is : OfDisc answer old new) where
-  pub counted_by : (o : Outcome) → OutcomeTold o answer → EventCounted o 0 0 old new
+  pub counted_by : (o : Outcome) → OutcomeTold o answer → EventCounted o [] [] old new
   counted_by Plain told =
       let disc = is.disc.reads_kept (λ e. let no : ◌≡◌ {A = Outcome} Plain DiscRead = told.disc_read e in cc) in
       let tape = is.tape_read_only (λ e. let no : ◌≡◌ {A = Outcome} Plain TapeRead = told.tape_read e in cc) in
@@ -36,8 +36,8 @@ module _ {A : Type 0} (answer : Result A StoreFault) (old new : Devices) (is : O
         cuts_rose = none_failed old new cut is.tape_writes;
         no_disc_read = λ e. disc;
         no_tape_read = λ e. tape;
-        disc_armed = RoseBy-none is.disc.arms;
-        tape_armed = RoseBy-none is.tape_arms;
+        disc_armed = is.disc.arms;
+        tape_armed = is.tape_arms;
       }
   counted_by DiscRead told =
       let tape = is.tape_read_only (λ e. let no : ◌≡◌ {A = Outcome} DiscRead TapeRead = told.tape_read e in cc) in
@@ -47,8 +47,8 @@ module _ {A : Type 0} (answer : Result A StoreFault) (old new : Devices) (is : O
         cuts_rose = none_failed old new cut is.tape_writes;
         no_disc_read = λ e. one_zero e;
         no_tape_read = λ e. tape;
-        disc_armed = RoseBy-none is.disc.arms;
-        tape_armed = RoseBy-none is.tape_arms;
+        disc_armed = is.disc.arms;
+        tape_armed = is.tape_arms;
       }
   counted_by TapeRead told =
       let disc = is.disc.reads_kept (λ e. let no : ◌≡◌ {A = Outcome} TapeRead DiscRead = told.disc_read e in cc) in
@@ -58,8 +58,8 @@ module _ {A : Type 0} (answer : Result A StoreFault) (old new : Devices) (is : O
         cuts_rose = none_failed old new cut is.tape_writes;
         no_disc_read = λ e. disc;
         no_tape_read = λ e. one_zero e;
-        disc_armed = RoseBy-none is.disc.arms;
-        tape_armed = RoseBy-none is.tape_arms;
+        disc_armed = is.disc.arms;
+        tape_armed = is.tape_arms;
       }
   counted_by Cut told =
       let disc = is.disc.reads_kept (λ e. let no : ◌≡◌ {A = Outcome} Cut DiscRead = told.disc_read e in cc) in
@@ -69,8 +69,8 @@ module _ {A : Type 0} (answer : Result A StoreFault) (old new : Devices) (is : O
         cuts_rose = disc_failed old new (is.disc.writes_rose told.told) is.tape_writes;
         no_disc_read = λ e. disc;
         no_tape_read = λ e. tape;
-        disc_armed = RoseBy-none is.disc.arms;
-        tape_armed = RoseBy-none is.tape_arms;
+        disc_armed = is.disc.arms;
+        tape_armed = is.tape_arms;
       }
 
 -- NO COUNT OF THE DISC FALLS, whatever is answered

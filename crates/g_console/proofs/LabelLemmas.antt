@@ -58,7 +58,7 @@ same_then a b c first later = record {
 }
 
 -- a line that arms nothing sets no fuse
-pub no_fuse : (what : Operator) → disc_arms what ≡ 0 → tape_arms what ≡ 0 → (d : Devices) → FusesBy what d
+pub no_fuse : (what : Operator) → disc_arms what ≡ [] → tape_arms what ≡ [] → (d : Devices) → FusesBy what d
 no_fuse (line.StopDisc k) no_disc no_tape d = absurd (let no : ⊥ = cc in no)
 no_fuse (line.StopTape k) no_disc no_tape d = absurd (let no : ⊥ = cc in no)
 no_fuse what no_disc no_tape d = tt

@@ -3,7 +3,7 @@ use Rattle.std.proofs.Common.{◌≡◌, ◌⊎◌, ◌≤◌, ◌-◌, ◌^◌,
 use Rattle.std.specs.Prelude.{Result, Ok, Err}
 use Rattle.std.specs.List.{AllZip}
 use Rattle.g_base.specs.Counts.{Rose}
-use Rattle.g_base.proofs.CountLemmas.{HasRisenBy-Rose, Rose-later, RoseBy-none}
+use Rattle.g_base.proofs.CountLemmas.{HasRisenBy-Rose, Rose-later}
 use Rattle.g_tape.specs.Reel.{Reel}
 use Rattle.g_plain.specs.declared.faults.StoreFault.{StoreFault}
 use Rattle.g_plain.specs.declared.faults.StoreFault.TheVariants.{CountersSpent, DiscReadFault, DumpOpen, NoTape, RackNotMounted, ReelNotFree, Stopped, TapeFull, TapeReadFault}
@@ -62,8 +62,8 @@ module _ (old new : StoreFacts) (answer : Result ℕ StoreFault) (is : ProcessCa
         cuts_rose = none_failed was now disc_cut tape_cut;
         no_disc_read = λ e. disc;
         no_tape_read = λ e. tape;
-        disc_armed = RoseBy-none is.disc_arms;
-        tape_armed = RoseBy-none is.tape_arms;
+        disc_armed = is.disc_arms;
+        tape_armed = is.tape_arms;
       }
   process_counted DiscRead told =
       let tape = is.tape_read_only (λ e. let no : ◌≡◌ {A = Outcome} DiscRead TapeRead = told.tape_read e in cc) in
@@ -73,8 +73,8 @@ module _ (old new : StoreFacts) (answer : Result ℕ StoreFault) (is : ProcessCa
         cuts_rose = none_failed was now disc_cut tape_cut;
         no_disc_read = λ e. one_zero e;
         no_tape_read = λ e. tape;
-        disc_armed = RoseBy-none is.disc_arms;
-        tape_armed = RoseBy-none is.tape_arms;
+        disc_armed = is.disc_arms;
+        tape_armed = is.tape_arms;
       }
   process_counted TapeRead told =
       let disc = is.disc_read_only (λ e. let no : ◌≡◌ {A = Outcome} TapeRead DiscRead = told.disc_read e in cc) in
@@ -84,8 +84,8 @@ module _ (old new : StoreFacts) (answer : Result ℕ StoreFault) (is : ProcessCa
         cuts_rose = none_failed was now disc_cut tape_cut;
         no_disc_read = λ e. disc;
         no_tape_read = λ e. one_zero e;
-        disc_armed = RoseBy-none is.disc_arms;
-        tape_armed = RoseBy-none is.tape_arms;
+        disc_armed = is.disc_arms;
+        tape_armed = is.tape_arms;
       }
   process_counted Cut told =
       let disc = is.disc_read_only (λ e. let no : ◌≡◌ {A = Outcome} Cut DiscRead = told.disc_read e in cc) in
@@ -95,8 +95,8 @@ module _ (old new : StoreFacts) (answer : Result ℕ StoreFault) (is : ProcessCa
         cuts_rose = by (is.cut told.told);
         no_disc_read = λ e. disc;
         no_tape_read = λ e. tape;
-        disc_armed = RoseBy-none is.disc_arms;
-        tape_armed = RoseBy-none is.tape_arms;
+        disc_armed = is.disc_arms;
+        tape_armed = is.tape_arms;
       }
     where
       by : (Rose was.disc.write_faults now.disc.write_faults × (now.rack.write_faults ≡ was.rack.write_faults))

@@ -84,8 +84,8 @@ came_up given by count_of disc rack reply new m =
 
 -- the events of one line, which brings the system up
 module _ {A : Type 0} (what : Operator) (given : Type 0) (by : State → Outcome → Result A StoreFault → State → Type 0) (said : A → List ℕ)
-    (lifts : (o : Outcome) (w next : World) → Rises o by said w next → LineGives o what w next) (counts : (o : Outcome) (d e : Devices) → EventCounted o 0 0 d e → CountedBy what o d e)
-    (no_disc : disc_arms what ≡ 0) (no_tape : tape_arms what ≡ 0) (disc : DiscState) (rack : Rack) (c : CrewState) (count : ℕ) (gives : (let d : Devices = record { disc = disc; rack = rack } in BelongTogether d) → given) where
+    (lifts : (o : Outcome) (w next : World) → Rises o by said w next → LineGives o what w next) (counts : (o : Outcome) (d e : Devices) → EventCounted o [] [] d e → CountedBy what o d e)
+    (no_disc : disc_arms what ≡ []) (no_tape : tape_arms what ≡ []) (disc : DiscState) (rack : Rack) (c : CrewState) (count : ℕ) (gives : (let d : Devices = record { disc = disc; rack = rack } in BelongTogether d) → given) where
   abbrev old_devices : Devices
   old_devices = record { disc = disc; rack = rack }
 
@@ -208,7 +208,7 @@ module _ {A : Type 0} (what : Operator) (given : Type 0) (by : State → Outcome
           stands = stands_down w m leads.after (stays w.store o leads.after m.stands.0 step) leads.left;
         }
 
-    nothing_done : fault ≡ NoMemory → (w : World) → Matches w before → EventCounted Plain 0 0 old_devices new_devices × StandsAs (Down new_devices) w.store
+    nothing_done : fault ≡ NoMemory → (w : World) → Matches w before → EventCounted Plain [] [] old_devices new_devices × StandsAs (Down new_devices) w.store
     nothing_done is w m =
         let here = m.stands.1 in
         let told : OutcomeTold {A = A} Plain (Err fault) = record {
@@ -325,7 +325,7 @@ module _ (disc : DiscState) (rack : Rack) (c : CrewState) (count : ℕ) (ready :
 
 -- a system that is up doesn't come up
 pub running_line : {A : Type 0} (what : Operator) (by : State → Outcome → Result A StoreFault → State → Type 0) (said : A → List ℕ)
-    → ((o : Outcome) (w next : World) → Rises o by said w next → LineGives o what w next) → disc_arms what ≡ 0 → tape_arms what ≡ 0
+    → ((o : Outcome) (w next : World) → Rises o by said w next → LineGives o what w next) → disc_arms what ≡ [] → tape_arms what ≡ []
     → (s : StoreFacts) (c : CrewState) → IsReady (Up s) c → (count : ℕ) (failure : Option Failure) (before_text after : Option (List ℕ)) (faults faults' : ℕ)
     → Puts failure (refusal_text count Running) before_text after faults faults' → DidLine what (seen (Up s) c count) failure (seen (Up s) c count) before_text after faults faults'
 running_line {A = A} what by said lifts no_disc no_tape s c ready count failure before_text after faults faults' puts =

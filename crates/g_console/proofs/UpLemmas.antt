@@ -66,7 +66,7 @@ went by count_of old new answer event = record { step = event.step; keeps = even
 -- AND WHAT IT MAKES OF THE DEVICES: what they counted, that nobody armed them, that they are the same, and what became of completed dumps
 pub record Caused {A : Type 0} (what : Operator) (old : StoreFacts) (answer : Result A StoreFault) (new : StoreFacts) : Type 0 where
   pub counted : (o : Outcome) → OutcomeTold o answer → CountedBy what o (devices_in (Up old)) (devices_in (Up new))
-  pub still : OutcomeTold Plain answer → EventCounted Plain 0 0 (devices_in (Up old)) (devices_in (Up new))
+  pub still : OutcomeTold Plain answer → EventCounted Plain [] [] (devices_in (Up old)) (devices_in (Up new))
   pub disc_armed : new.online.disc.arms ≡ old.online.disc.arms
   pub rack_armed : new.rack.arms ≡ old.rack.arms
   pub same : SameDevices (devices_in (Up old)) (devices_in (Up new))
@@ -82,7 +82,7 @@ of_cause old new answer cause = record {
 }
 
 -- of an event that writes no tape
-caused : {A : Type 0} (what : Operator) → ((o : Outcome) (d e : Devices) → EventCounted o 0 0 d e → CountedBy what o d e) → (old new : StoreFacts) (answer : Result A StoreFault) → HasCause old new answer → Caused what old answer new
+caused : {A : Type 0} (what : Operator) → ((o : Outcome) (d e : Devices) → EventCounted o [] [] d e → CountedBy what o d e) → (old new : StoreFacts) (answer : Result A StoreFault) → HasCause old new answer → Caused what old answer new
 caused what counts old new answer cause = record {
   counted = λ o told. counts o (devices_in (Up old)) (devices_in (Up new)) (counted_by answer (devices_in (Up old)) (devices_in (Up new)) (of_cause old new answer cause) o told);
   still = λ told. counted_by answer (devices_in (Up old)) (devices_in (Up new)) (of_cause old new answer cause) Plain told;
@@ -99,7 +99,7 @@ same_devices fault s = refl
 
 module _ {A : Type 0} (what : Operator) (by : State → Holding → Outcome → Result A StoreFault → State → Type 0) (said : A → List ℕ)
     (lifts : (o : Outcome) (w next : World) → NeedsUp o (λ r s. (k : Holding) × (w.store.holding ≡ Some k) × by w.store k o r s × IsTold o r) said w next → LineGives o what w next)
-    (no_disc : disc_arms what ≡ 0) (no_tape : tape_arms what ≡ 0)
+    (no_disc : disc_arms what ≡ []) (no_tape : tape_arms what ≡ [])
     (told_too : (s : State) (k : Holding) (o : Outcome) (r : Result A StoreFault) (u : State) → by s k o r u → ToldBy (by s k) o r u)
     (old new : StoreFacts) (unspent : old.spent ≡ false) (c : CrewState) (count : ℕ) where
   abbrev before : Seen
@@ -186,7 +186,7 @@ module _ {A : Type 0} (what : Operator) (by : State → Holding → Outcome → 
               (λ e. stays w.store leads.held o leads.after (subst (λ (f : StoreFault). by w.store leads.held o (Err f) leads.after) e step)) leads.left;
         }
 
-    nothing_done : fault ≡ NoMemory → (w : World) → Matches w before → EventCounted Plain 0 0 (devices_in (Up old)) (devices_in system) × StandsAs system w.store
+    nothing_done : fault ≡ NoMemory → (w : World) → Matches w before → EventCounted Plain [] [] (devices_in (Up old)) (devices_in system) × StandsAs system w.store
     nothing_done is w m =
         let here = m.stands in
         let told : OutcomeTold {A = A} Plain (Err fault) = record {
@@ -195,7 +195,7 @@ module _ {A : Type 0} (what : Operator) (by : State → Holding → Outcome → 
           tape_read = λ e. let no : ⊥ = cc in absurd no;
           cut = λ e. let no : ⊥ = cc in absurd no;
         } in (
-          subst (λ (d : Devices). EventCounted Plain 0 0 (devices_in (Up old)) d) (sym (same_devices fault new)) (cause.still told),
+          subst (λ (d : Devices). EventCounted Plain [] [] (devices_in (Up old)) d) (sym (same_devices fault new)) (cause.still told),
           stands_by fault refl w m w.store (λ e. let no : ⊥ = cc in absurd no)
               (subst (λ (f : StoreFault). StepsBy by w.store old (Err f) new) is (event.step here.told here.belongs w.store here.stands)),
         )
@@ -242,7 +242,7 @@ stop_down (Some f) reply s after u (same, is) = let never : ⊥ = cc in absurd n
 -- a system that is down is asked for nothing
 pub down_line : {A : Type 0} (what : Operator) (by : State → Holding → Outcome → Result A StoreFault → State → Type 0) (said : A → List ℕ)
     → ((o : Outcome) (w next : World) → NeedsUp o (λ r s. (k : Holding) × (w.store.holding ≡ Some k) × by w.store k o r s × IsTold o r) said w next → LineGives o what w next)
-    → disc_arms what ≡ 0 → tape_arms what ≡ 0 → (d : Devices) (c : CrewState) (count : ℕ) → IsReady (Down d) c → (failure : Option Failure) (before_text after : Option (List ℕ)) (faults faults' : ℕ)
+    → disc_arms what ≡ [] → tape_arms what ≡ [] → (d : Devices) (c : CrewState) (count : ℕ) → IsReady (Down d) c → (failure : Option Failure) (before_text after : Option (List ℕ)) (faults faults' : ℕ)
     → Puts failure (refusal_text count NotStarted) before_text after faults faults' → DidLine what (seen (Down d) c count) failure (seen (Down d) c count) before_text after faults faults'
 down_line {A = A} what by said lifts no_disc no_tape d c count ready failure before_text after faults faults' puts =
     refused_line what no_disc no_tape NotStarted (Down d) c count

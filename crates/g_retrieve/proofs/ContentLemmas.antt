@@ -11,7 +11,6 @@ use Rattle.g_tape.specs.Rack.{Rack}
 use Rattle.g_tape.specs.Reads.{blocks_of}
 use Rattle.g_incr.specs.Layout.{Dump, StandsOn, content_at, dump_blocks, ends, file_in, header_block, mark_block, size_of, user_in}
 use Rattle.g_shelf.specs.Completed.{AreCompleted, AreNext}
-use Rattle.g_shelf.specs.Found.{AreRead}
 use Rattle.g_shelf.specs.Held.{AreHeld}
 use Rattle.g_shelf.proofs.HeldLemmas.{held_in_one}
 use Rattle.g_shelf.proofs.OneLemmas.{completed_are_one}
@@ -42,7 +41,7 @@ content_stands reel d stands =
     sym (take-take n (n + 1) (drop (content_at d) reel) (omega arith)) ∙ ap (take n) behind ∙ take_at d.content (mark_block d ∷ []) n refl
 
 -- blocks within it
-part_stands : (reel : List (List ℕ)) (d : Dump) (first n : ℕ) → StandsOn reel d → content_at d ≤ first → first + n ≤ content_at d + length d.content
+pub part_stands : (reel : List (List ℕ)) (d : Dump) (first n : ℕ) → StandsOn reel d → content_at d ≤ first → first + n ≤ content_at d + length d.content
     → take n (drop first reel) ≡ take n (drop (first - content_at d) d.content)
 part_stands reel d first n stands from to =
     let s : ℕ = first - content_at d in
@@ -55,14 +54,14 @@ part_stands reel d first n stands from to =
     ap (λ (m : ℕ). take n (drop m reel)) at ∙ ap (take n) (sym (drop-drop s (content_at d) reel)) ∙ sym (take-take n left (drop s whole) (omega (arith, from, to))) ∙ ap (take n) (sym inside)
 
 -- whole blocks, one behind the other
-joined_long : (blocks : List (List ℕ)) → All IsBlock blocks → length (joined blocks) ≡ 512 * length blocks
+pub joined_long : (blocks : List (List ℕ)) → All IsBlock blocks → length (joined blocks) ≡ 512 * length blocks
 joined_long [] all = refl
 joined_long (b ∷ bs) all =
     let one = (All-head IsBlock b bs all).size in
     let rest = joined_long bs (All-tail IsBlock b bs all) in
     omega (arith, length-append b (joined bs), one, rest)
 
-front_text : (len n : ℕ) (blocks : List (List ℕ)) → All IsBlock blocks → len ≤ 512 * n → n ≤ length blocks → take len (joined (take n blocks)) ≡ take len (joined blocks)
+pub front_text : (len n : ℕ) (blocks : List (List ℕ)) → All IsBlock blocks → len ≤ 512 * n → n ≤ length blocks → take len (joined (take n blocks)) ≡ take len (joined blocks)
 front_text len n blocks all short within =
     let cut = length-take-le n blocks within in
     let long = joined_long (take n blocks) (All-take IsBlock n blocks all) in
@@ -106,17 +105,17 @@ content_held dumps copy len text long is k below =
     record { dump = is.dump; there = is.there; on = is.reel; from = omega (arith, from); to = omega (arith, to, below) }
 
 -- WHAT WAS FOUND OUT of the reel's dumps
-pub some_text : (copy : TapeCopy) (len : ℕ) (text : List ℕ) (ds : List Dump) (old new : Rack) → AreRead copy.serial ds old new → AreHeld ds copy (blocks_for len) → length text ≡ len
+pub some_text : (copy : TapeCopy) (len : ℕ) (text : List ℕ) (ds : List Dump) (old : Rack) → ForSome (blocks_of copy.serial old) (λ bs. AreCompleted copy.serial bs ds) → AreHeld ds copy (blocks_for len) → length text ≡ len
     → ForSome (blocks_of copy.serial old) (λ bs. text ≡ take len (joined (take (blocks_for len) (drop copy.first bs))))
     → ForSome (blocks_of copy.serial old) (λ bs. (dumps : List Dump) → AreCompleted copy.serial bs dumps → 0 < len → IsContent dumps copy text)
-some_text copy len text ds old new read held long text_is bs told dumps are some =
-    let same = completed_are_one copy.serial bs ds dumps (read.completed bs told) are in
-    subst (λ (es : List Dump). IsContent es copy text) same (is_content bs ds copy len text (read.completed bs told) some held long (text_is bs told))
+some_text copy len text ds old completed held long text_is bs told dumps are some =
+    let same = completed_are_one copy.serial bs ds dumps (completed bs told) are in
+    subst (λ (es : List Dump). IsContent es copy text) same (is_content bs ds copy len text (completed bs told) some held long (text_is bs told))
 
-pub no_text : (copy : TapeCopy) (len : ℕ) (ds : List Dump) (old new : Rack) → AreRead copy.serial ds old new → (AreHeld ds copy (blocks_for len) → ⊥)
+pub no_text : (copy : TapeCopy) (len : ℕ) (ds : List Dump) (old : Rack) → ForSome (blocks_of copy.serial old) (λ bs. AreCompleted copy.serial bs ds) → (AreHeld ds copy (blocks_for len) → ⊥)
     → ForSome (blocks_of copy.serial old) (λ bs. (dumps : List Dump) → AreCompleted copy.serial bs dumps → (text : List ℕ) → length text ≡ len → IsContent dumps copy text → ⊥)
-no_text copy len ds old new read none bs told dumps are text long is =
-    let same = completed_are_one copy.serial bs dumps ds are (read.completed bs told) in
+no_text copy len ds old completed none bs told dumps are text long is =
+    let same = completed_are_one copy.serial bs dumps ds are (completed bs told) in
     none (content_held ds copy len text long (subst (λ (es : List Dump). IsContent es copy text) same is))
 
 -- a copy that isn't held has bytes

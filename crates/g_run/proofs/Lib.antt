@@ -9,6 +9,7 @@ pub mod KeepLemmas
 mod KeptLemmas
 pub mod LawLemmas
 pub mod LeaveLemmas
+pub mod LeftLemmas
 pub mod LineLemmas
 pub mod LittleLemmas
 pub mod NumberedLemmas

@@ -1,9 +1,10 @@
 -- A line behind the ticks that come before it, and lines one behind the other.
-use Rattle.std.proofs.Common.{◌≡◌, ◌⊎◌, ◌≤◌, ◌++◌, ℕ, true, false, List, [], ◌∷◌, Option, Some, None, filter, length, drop, is_some, append_assoc, append-nil, refl, sym, ◌∙◌, ap, subst, inl, inr, arith}
+use Rattle.std.proofs.Common.{◌≡◌, ◌⊎◌, ◌≤◌, ◌++◌, ℕ, true, false, List, [], ◌∷◌, Option, Some, None, length, drop, is_some, append_assoc, append-nil, refl, sym, ◌∙◌, ap, subst, inl, inr, arith}
 use Rattle.std.proofs.lemmas.List.Elements.{All-cons, All-head, All-nil, All-pop}
 use Rattle.std.specs.Fn.{Shared}
 use denote.Ref.{Bor}
-use Rattle.g_base.specs.Counts.{RoseBy}
+use Rattle.g_base.specs.Fuse.{IsArmedBy}
+use Rattle.g_base.proofs.FuseLemmas.{within_more}
 use Rattle.g_budget.specs.declared.tariff.Charge.{Charge}
 use Rattle.g_budget.specs.declared.tariff.Usage.{Usage}
 use Rattle.g_sched.specs.declared.rule.Standing.{Standing}
@@ -14,7 +15,7 @@ use Rattle.g_script.specs.declared.operator.Timed.{Timed}
 use Rattle.g_world.specs.Devices.{Devices}
 use Rattle.g_world.specs.Lines.{is_process}
 use Rattle.g_world.specs.Moves.{TakeLine}
-use Rattle.g_world.specs.Top.{AreArmings, is_stop_disc, is_stop_tape}
+use Rattle.g_world.specs.Top.{AreArmings}
 use Rattle.g_world.specs.World.{World}
 use Rattle.g_world_laws.specs.Anew.{BeginAnew, NoDiscFault}
 use Rattle.g_world.proofs.CountLemmas.{move_counted}
@@ -33,26 +34,14 @@ use Rattle.g_run.proofs.LeaveLemmas.{line_leaves}
 use Rattle.g_run.proofs.PartLemmas.{arrives_here, goes_then, keeps_more, keeps_then, with_more-nil}
 use Rattle.g_run.proofs.UntilLemmas.{keeps_here}
 
--- how often a line arms each device
-discs_of : (turn : ℕ) (what : Operator) → (let next : Timed = record { turn = turn; what = what } in length (filter is_stop_disc (next ∷ [])) ≡ disc_arms what)
-discs_of turn (line.StopDisc k) = refl
-discs_of turn what = refl
-
-tapes_of : (turn : ℕ) (what : Operator) → (let next : Timed = record { turn = turn; what = what } in length (filter is_stop_tape (next ∷ [])) ≡ tape_arms what)
-tapes_of turn (line.StopTape k) = refl
-tapes_of turn what = refl
-
+-- what a line arms each device with
 line_arms : (next : Timed) (failure : Option Failure) (old new : Devices) → ArmsBy next.what failure old new → AreArmings (next ∷ []) (failure ≡ None) old new
-line_arms next failure old new arms =
-    let (i, i_in, i_rose) = arms.disc in
-    let (j, j_in, j_rose) = arms.tape in
-    let discs : length (filter is_stop_disc (next ∷ [])) ≡ disc_arms next.what = discs_of next.turn next.what in
-    let tapes : length (filter is_stop_tape (next ∷ [])) ≡ tape_arms next.what = tapes_of next.turn next.what in record {
-      disc = (i, omega (arith, i_in, discs), i_rose);
-      tape = (j, omega (arith, j_in, tapes), j_rose);
-      all_disc = λ went. subst (λ (n : ℕ). RoseBy n old.disc.arms new.disc.arms) (sym discs) (arms.all went).0;
-      all_tape = λ went. subst (λ (n : ℕ). RoseBy n old.rack.arms new.rack.arms) (sym tapes) (arms.all went).1;
-    }
+line_arms next failure old new arms = record {
+  disc = within_more (disc_arms next.what) [] old.disc.arms new.disc.arms arms.disc;
+  tape = within_more (tape_arms next.what) [] old.rack.arms new.rack.arms arms.tape;
+  all_disc = λ went. subst (λ (ks : List ℕ). IsArmedBy ks old.disc.arms new.disc.arms) (sym (append-nil (disc_arms next.what))) (arms.all went).0;
+  all_tape = λ went. subst (λ (ks : List ℕ). IsArmedBy ks old.rack.arms new.rack.arms) (sym (append-nil (tape_arms next.what))) (arms.all went).1;
+}
 
 line_keeps : (next : Timed) (old : Seen) (failure : Option Failure) (new : Seen) (before after : Option (List ℕ)) (faults faults' : ℕ) → DidLine next.what old failure new before after faults faults'
     → AreOpen old.crew.jobs → Keeps (next ∷ []) old failure new faults faults'
@@ -127,15 +116,15 @@ module _ {F U : Type 0} (tariffs : Shared F (Bor Usage × Unit {0}) Charge) (tar
         next = w;
         added = [];
         leads = record {
-          disc_arms = 0;
-          tape_arms = 0;
+          disc_arms = [];
+          tape_arms = [];
           run = refl;
           counted = nothing.counted;
           stands = nothing.stands;
           bad = refl;
           over = refl;
-          disc_stops = omega arith;
-          tape_stops = omega arith;
+          disc_stops = sym (append-nil w.disc_stops);
+          tape_stops = sym (append-nil w.tape_stops);
           text = sym (append-nil w.text);
         };
         put = (0, omega arith, nothing.text ∙ sym (with_more-nil before));

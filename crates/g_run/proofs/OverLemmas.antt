@@ -1,11 +1,11 @@
 -- The end of a run, behind all its lines, and both devices behind it.
-use Rattle.std.proofs.Common.{◌≡◌, ◌⊎◌, ◌+◌, ◌++◌, ℕ, true, false, List, [], ◌∷◌, Option, Some, None, is_some, append_assoc, refl, sym, ◌∙◌, ap, subst, inl, inr, arith}
+use Rattle.std.proofs.Common.{◌≡◌, ◌⊎◌, ◌+◌, ◌++◌, ℕ, true, false, List, [], ◌∷◌, Option, Some, None, is_some, append_assoc, append-nil, refl, sym, ◌∙◌, ap, subst, inl, inr, arith}
 use Rattle.std.specs.Prelude.{option_map}
 use Rattle.std.specs.Fn.{Shared}
 use denote.Ref.{Bor}
 use Rattle.std.proofs.lemmas.Bool.{cases_Bool}
 use Rattle.std.proofs.lemmas.Option.{none-some}
-use Rattle.g_base.proofs.CountLemmas.{RoseBy-none}
+use Rattle.g_base.proofs.FuseLemmas.{within_none}
 use Rattle.g_budget.specs.declared.tariff.Charge.{Charge}
 use Rattle.g_budget.specs.declared.tariff.Usage.{Usage}
 use Rattle.g_sched.specs.declared.rule.Standing.{Standing}
@@ -25,7 +25,8 @@ use Rattle.g_tape.specs.Reel.{Reel}
 use Rattle.g_world.specs.Devices.{Devices, StandFor}
 use Rattle.g_world.specs.Moves.{Move, MovesCounted, Over}
 use Rattle.g_world.specs.Texts.{closing, waiting_files}
-use Rattle.g_world.specs.Top.{AreArmings, EndsShort, RunOf}
+use Rattle.g_world.specs.Lines.{disc_arms, tape_arms}
+use Rattle.g_world.specs.Top.{AreArmings, EndsShort, RunOf, numbers_of}
 use Rattle.g_world.specs.World.{World, closed, is_due, nothing_steps, start}
 use Rattle.g_world.proofs.CountLemmas.{counted_of, event_none, move_counted, moves_then}
 use Rattle.g_world.proofs.TickLemmas.{over_move}
@@ -105,11 +106,9 @@ module _ {F U : Type 0} (tariffs : Shared F (Bor Usage × Unit {0}) Charge) (tar
   counted_from : (s : State) (moves : List Move) (last : World) (added : List ℕ) → Leads tariffs tariff rules rule (start lines bad s) (Down old) f moves last added
       → MovesCounted moves last.disc_stops last.tape_stops old new
   counted_from s moves last added leads =
-      let discs : last.disc_stops ≡ leads.disc_arms = let d : last.disc_stops ≡ 0 + leads.disc_arms = leads.disc_stops in omega (arith, d) in
-      let tapes : last.tape_stops ≡ leads.tape_arms = let t : last.tape_stops ≡ 0 + leads.tape_arms = leads.tape_stops in omega (arith, t) in
       subst (λ (d : Devices). MovesCounted moves last.disc_stops last.tape_stops old d) (sym down_is.devices)
-      (subst (λ (n : ℕ). MovesCounted moves n last.tape_stops old (devices_in f)) (sym discs)
-      (subst (λ (n : ℕ). MovesCounted moves leads.disc_arms n old (devices_in f)) (sym tapes) leads.counted))
+      (subst (λ (ks : List ℕ). MovesCounted moves ks last.tape_stops old (devices_in f)) (sym leads.disc_stops)
+      (subst (λ (ks : List ℕ). MovesCounted moves leads.disc_arms ks old (devices_in f)) (sym leads.tape_stops) leads.counted))
 
   -- CUT SHORT before its end
   ends_short : (failure : Failure) (before after : Option (List ℕ)) (faults faults' : ℕ) → DidAll tariffs tariff rules rule lines before_all (Some failure) (seen f c count) before after faults faults'
@@ -171,11 +170,9 @@ module _ {F U : Type 0} (tariffs : Shared F (Bor Usage × Unit {0}) Charge) (tar
       over_counted : (moves : List Move) (last : World) (added : List ℕ) (s : State) → Leads tariffs tariff rules rule (start lines bad s) (Down old) f moves last added
           → MovesCounted (moves ++ Over ∷ []) last.disc_stops last.tape_stops old new
       over_counted moves last added s leads =
-          let discs : last.disc_stops ≡ last.disc_stops + 0 = omega arith in
-          let tapes : last.tape_stops ≡ last.tape_stops + 0 = omega arith in
-          subst (λ (n : ℕ). MovesCounted (moves ++ Over ∷ []) n last.tape_stops old new) (sym discs)
-          (subst (λ (n : ℕ). MovesCounted (moves ++ Over ∷ []) (last.disc_stops + 0) n old new) (sym tapes)
-          (moves_then moves (Over ∷ []) last.disc_stops last.tape_stops 0 0 old new new (counted_from s moves last added leads) (move_counted Over 0 0 new new (event_none new))))
+          subst (λ (ks : List ℕ). MovesCounted (moves ++ Over ∷ []) ks last.tape_stops old new) (append-nil last.disc_stops)
+          (subst (λ (ks : List ℕ). MovesCounted (moves ++ Over ∷ []) (last.disc_stops ++ []) ks old new) (append-nil last.tape_stops)
+          (moves_then moves (Over ∷ []) last.disc_stops last.tape_stops [] [] old new new (counted_from s moves last added leads) (move_counted Over [] [] new new (event_none new))))
 
   pub ends_closed : (failure : Option Failure) (before middle after : Option (List ℕ)) → PartGoes tariffs tariff rules rule IsAtRest lines [] before_all None (seen f c count) before middle
       → PutsBy failure (waiting_files c.jobs ++ closing bad) middle after → EndsBy tariffs tariff rules rule failure lines bad old new before after
@@ -272,8 +269,8 @@ module _ {F U : Type 0} (tariffs : Shared F (Bor Usage × Unit {0}) Charge) (tar
         );
         anew = λ none blank well begin. absurd (none-some failures.Memory (sym none));
         arms = record {
-          disc = (0, omega arith, RoseBy-none refl);
-          tape = (0, omega arith, RoseBy-none refl);
+          disc = within_none (numbers_of disc_arms lines) old.disc.arms old.disc.arms refl;
+          tape = within_none (numbers_of tape_arms lines) old.rack.arms old.rack.arms refl;
           all_disc = λ through. absurd (none-some failures.Memory (sym through));
           all_tape = λ through. absurd (none-some failures.Memory (sym through));
         };

@@ -3,7 +3,7 @@ use Rattle.std.proofs.Common.{◌≡◌, ◌<◌, ◌∙◌, ℕ, List, [], ◌�
 use Rattle.std.specs.Fn.{Shared}
 use denote.Ref.{Bor}
 use Rattle.std.proofs.lemmas.List.{take_all}
-use Rattle.g_base.proofs.CountLemmas.{RoseBy-none}
+use Rattle.g_base.proofs.FuseLemmas.{within_none}
 use Rattle.g_budget.specs.declared.tariff.Charge.{Charge}
 use Rattle.g_budget.specs.declared.tariff.Usage.{Usage}
 use Rattle.g_sched.specs.declared.rule.Standing.{Standing}
@@ -15,7 +15,8 @@ use Rattle.g_script.proofs.OneReading.{reading_unique}
 use Rattle.g_state_laws.proofs.StateLemmas.{have_states}
 use Rattle.g_step.specs.State.{State}
 use Rattle.g_world.specs.Devices.{Devices}
-use Rattle.g_world.specs.Top.{AreArmings, EndsWhole, IsCutWords, words_line}
+use Rattle.g_world.specs.Lines.{disc_arms, tape_arms}
+use Rattle.g_world.specs.Top.{AreArmings, EndsWhole, IsCutWords, numbers_of, words_line}
 use Rattle.g_world_laws.specs.Anew.{AreBlank, BeginAnew, NoDiscFault, with_new_disc}
 use Rattle.g_world_laws.proofs.FreshLemmas.{emptied_stand}
 use Rattle.g_console.specs.declared.progress.Failure.{Failure}
@@ -41,8 +42,8 @@ module _ {F U : Type 0} (tariffs : Shared F (Bor Usage × Unit {0}) Charge) (tar
 -- nothing was armed where nothing was done
 pub none_armed : (status : Status) (lines : List Timed) (d : Devices) → (IsThrough status → ⊥) → AreArmings lines (IsThrough status) d d
 none_armed status lines d cut = record {
-  disc = (0, omega arith, RoseBy-none refl);
-  tape = (0, omega arith, RoseBy-none refl);
+  disc = within_none (numbers_of disc_arms lines) d.disc.arms d.disc.arms refl;
+  tape = within_none (numbers_of tape_arms lines) d.rack.arms d.rack.arms refl;
   all_disc = λ went. absurd (cut went);
   all_tape = λ went. absurd (cut went);
 }

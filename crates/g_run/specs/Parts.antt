@@ -57,18 +57,18 @@ abbrev pub Anything : World → Type 0
 Anything w = Unit {0}
 
 module _ {F U : Type 0} (tariffs : Shared F (Bor Usage × Unit {0}) Charge) (tariff : F) (rules : Shared U (Bor Standing × Unit {0}) ℕ) (rule : U) where
-  -- Moves from one world to the next, for whose store the system stands; what the devices counted, and how often a line armed each of them; the
+  -- Moves from one world to the next, for whose store the system stands; what the devices counted, and with which numbers lines armed each of them; the
   -- text is longer.
   pub record Leads (w : World) (old new : SystemFacts) (moves : List Move) (next : World) (added : List ℕ) : Type 0 where
-    pub disc_arms : ℕ
-    pub tape_arms : ℕ
+    pub disc_arms : List ℕ
+    pub tape_arms : List ℕ
     pub run : Run tariffs tariff rules rule w moves next
     pub counted : MovesCounted moves disc_arms tape_arms (devices_in old) (devices_in new)
     pub stands : StandsAs new next.store
     pub bad : next.bad ≡ w.bad
     pub over : next.over ≡ w.over
-    pub disc_stops : next.disc_stops ≡ w.disc_stops + disc_arms
-    pub tape_stops : next.tape_stops ≡ w.tape_stops + tape_arms
+    pub disc_stops : next.disc_stops ≡ w.disc_stops ++ disc_arms
+    pub tape_stops : next.tape_stops ≡ w.tape_stops ++ tape_arms
     pub text : next.text ≡ w.text ++ added
 
   -- all was done, its text put, and these lines are left

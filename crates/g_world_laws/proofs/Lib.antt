@@ -4,6 +4,7 @@ pub mod CompleteLemmas
 pub mod DumpLemmas
 pub mod FilestoreLemmas
 pub mod FreshLemmas
+pub mod FuseLemmas
 pub mod LaterLemmas
 pub mod LostLemmas
 pub mod OneTreeLemmas

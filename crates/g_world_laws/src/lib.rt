@@ -8,7 +8,7 @@ ghost use Rattle.g_world_laws.specs.Cuts.{TapesCutNoCall};
 ghost use Rattle.g_world_laws.specs.Dumps.{DumpsStay, DumpsTakeNeeds};
 ghost use Rattle.g_world_laws.specs.Filestores.{DevicesKeepFilestores, FilestoresStay};
 ghost use Rattle.g_world_laws.specs.Fresh.{NewDevicesStand, NotStateless, StatesAreOne};
-ghost use Rattle.g_world_laws.specs.Fuses.{FusesGo, NumbersGo};
+ghost use Rattle.g_world_laws.specs.Fuses.{ArmedBurns, ArmingsGo, NumberIsLast, RacksBurn, UnarmedBurns};
 ghost use Rattle.g_world_laws.specs.Later.{LaterRunsKeep, StartIsBehind};
 ghost use Rattle.g_world_laws.specs.Lost.{NothingIsLost};
 ghost use Rattle.g_world_laws.specs.OneTree.{RunsOnOneTree};
@@ -144,10 +144,14 @@ pub fn tapes_cut_no_call()
     ensures { TapesCutNoCall }
 {}
 
-/// A device's fuse behind two parts of a run goes by the last STOP line of both, and by the writes of both.
+/// A device's fuse goes by the last STOP line that armed it, and by the writes made since; where there was none, by the old fuse and
+/// all writes.
 pub fn fuses_go_by_lines()
-    ensures fuses { FusesGo }
-    ensures numbers { NumbersGo }
+    ensures armings { ArmingsGo }
+    ensures numbers { NumberIsLast }
+    ensures unarmed { UnarmedBurns }
+    ensures armed { ArmedBurns }
+    ensures racks { RacksBurn }
 {}
 
 /// A PROCESS leaves the completed dumps of before; or its own dump stands whole on its reel, of the tree that there is, and of the
