@@ -126,15 +126,15 @@ impl Work {
         match action {
             Action::Input { file } => self.input(store, asker, file),
             Action::Copy { from, to } => {
-                self.fetch(store, asker, from, Mode::Read, Use::Put(to))
+                self.fetch(store, asker, (from, Mode::Read), Use::Put(to))
             }
             Action::Append { from, to } => {
-                self.fetch(store, asker, from, Mode::Read, Use::Append(to))
+                self.fetch(store, asker, (from, Mode::Read), Use::Append(to))
             }
-            Action::ListFile { file } => { self.fetch(store, asker, file, Mode::Read, Use::List) }
-            Action::Load { file } => { self.fetch(store, asker, file, Mode::Execute, Use::Load) }
+            Action::ListFile { file } => { self.fetch(store, asker, (file, Mode::Read), Use::List) }
+            Action::Load { file } => { self.fetch(store, asker, (file, Mode::Execute), Use::Load) }
             Action::Plan { from, to } => {
-                self.fetch(store, asker, from, Mode::Read, Use::Assemble(to))
+                self.fetch(store, asker, (from, Mode::Read), Use::Assemble(to))
             }
             Action::Enter { n } => self.enter(asker.alloc, asker.room, by, n as u8),
             Action::Resume => self.resume(asker.alloc, asker.room, by),
@@ -171,7 +171,7 @@ impl Work {
         ensures blocks { OnOk result (self.new.blocks ≤ self.old.blocks + 128) }
     {
         match self.levels.document(asker.alloc) {
-            Ok(bytes) => self.put(store, asker, true, file, bytes),
+            Ok(bytes) => self.put(store, asker, true, (file, bytes)),
             Err(_) => Err(NoMemory),
         }
     }

@@ -23,6 +23,14 @@ use g_plain::Filestore;
 use g_verbs::{VerbFault, read_verb};
 use std::alloc::Global;
 
+/// A verb's line: its name, its parameters, and what stands behind them.
+#[derive(Drop)]
+struct VerbLine {
+    name: Local,
+    params: Texts,
+    rest: Text,
+}
+
 impl Work {
     /// Does what a text says, for the user `who`; `by` tells that a WHENEVER does it. Nothing is done of a blank line,
     /// of a label alone, and behind an IF whose condition doesn't hold.
@@ -103,7 +111,7 @@ impl Work {
                 command,
             ),
             Command::Verb { name, params, rest } => {
-                self.verb(store, asker, by, &name, params, rest)
+                self.verb(store, asker, by, VerbLine { name, params, rest })
             }
             Command::Blank | Command::If { .. } => Ok(()),
         }
@@ -152,28 +160,27 @@ impl Work {
         store: &mut S,
         asker: &Asker<'_>,
         by: bool,
-        name: &Local,
-        params: Texts,
-        rest: Text,
+        line: VerbLine,
     ) -> Result<(), NoMemory>
         requires running { S.is_spent store.old ≡ false }
         requires open { said.is_over self.old ≡ false }
         requires few { self.old.blocks ≤ 2048 }
         requires level { 0 < length self.old.desk.levels.levels }
         ensures ok { OnOk result (RanWell S.answers S.is_spent S.can_wait asker.now.who.now store.old
-            (commands.acted asker.now.room asker.now.who.now by name.now (action_read name.now params rest) self.old)
+            (commands.acted asker.now.room asker.now.who.now by line.name (action_read line.name line.params line.rest) self.old)
             self.new store.new) }
         ensures err { OnErr result (RanInPart S.answers asker.now.who.now store.old
-            (commands.acted asker.now.room asker.now.who.now by name.now (action_read name.now params rest) self.old)
+            (commands.acted asker.now.room asker.now.who.now by line.name (action_read line.name line.params line.rest) self.old)
             store.new) }
         ensures live { OnOk result (said.is_over self.new ≡ false → S.is_spent store.new ≡ false) }
         ensures same_waits { (s : ℕ) → S.can_wait store.new s ≡ S.can_wait store.old s }
         ensures blocks { OnOk result (self.new.blocks ≤ self.old.blocks + 2048) }
     {
-        match read_verb(name, params, rest) {
+        let VerbLine { name, params, rest } = line;
+        match read_verb(&name, params, rest) {
             Ok(action) => self.act(store, asker, by, action),
             Err(VerbFault::BadParameter(index)) => {
-                self.bad_parameter(asker.alloc, asker.room, name, index)
+                self.bad_parameter(asker.alloc, asker.room, &name, index)
             }
         }
     }

@@ -1,16 +1,18 @@
 -- WHAT DEVICES COUNT in an event, by its answer.
-use Rattle.std.proofs.Common.{◌≡◌, ℕ, [], refl, sym, ◌∙◌, ap, arith}
+use Rattle.std.proofs.Common.{◌≡◌, ◌≤◌, ℕ, [], refl, sym, ◌∙◌, ap, arith}
 use Rattle.std.specs.Prelude.{Result, Err}
 use Rattle.g_base.specs.Counts.{Rose}
-use Rattle.g_base.proofs.CountLemmas.{HasRisenBy-Rose}
-use Rattle.g_disc.specs.Disc.{Causes}
+use Rattle.g_base.proofs.CountLemmas.{HasRisenBy-Rose, Rose-later}
+use Rattle.g_disc.specs.Disc.{Causes, DiscState}
 use Rattle.g_plain.specs.declared.faults.StoreFault.{StoreFault}
 use Rattle.g_plain.specs.declared.faults.StoreFault.TheVariants.{DiscReadFault, Stopped, TapeReadFault}
 use Rattle.g_step.specs.CallStep.{Cut, DiscRead, Outcome, Plain, TapeRead}
 use Rattle.g_world.specs.Devices.{Devices}
 use Rattle.g_world.specs.Events.{OutcomeTold}
-use Rattle.g_world.specs.Moves.{EventCounted, cuts_in, disc_reads_in, tape_reads_in}
+use Rattle.g_world.specs.Moves.{EventCounted}
 use Rattle.g_world.proofs.CountLemmas.{disc_failed, none_failed, none_rose}
+use Rattle.g_console.specs.System.{SameDevices, labels}
+use Rattle.g_console.proofs.LabelLemmas.{stands_still}
 
 -- an event that writes no tape: each count moves with its own answer
 pub record OfDisc {A : Type 0} (answer : Result A StoreFault) (old new : Devices) : Type 0 where
@@ -70,3 +72,16 @@ module _ {A : Type 0} (answer : Result A StoreFault) (old new : Devices) (is : O
         disc_armed = is.disc.arms;
         tape_armed = is.tape_arms;
       }
+
+-- NO COUNT OF THE DISC FALLS, whatever is answered
+pub reads_later : {A : Type 0} (answer : Result A StoreFault) (old new : DiscState) → Causes (answer ≡ Err DiscReadFault) (answer ≡ Err Stopped) old new → old.read_faults ≤ new.read_faults
+reads_later (Err DiscReadFault) old new is = Rose-later (is.reads_rose refl)
+reads_later answer old new is = stands_still old.read_faults new.read_faults (is.reads_kept (λ e. let no : ⊥ = cc in no))
+
+pub writes_later : {A : Type 0} (answer : Result A StoreFault) (old new : DiscState) → Causes (answer ≡ Err DiscReadFault) (answer ≡ Err Stopped) old new → old.write_faults ≤ new.write_faults
+writes_later (Err Stopped) old new is = Rose-later (is.writes_rose refl)
+writes_later answer old new is = stands_still old.write_faults new.write_faults (is.writes_kept (λ e. let no : ⊥ = cc in no))
+
+pub same_caused : {A : Type 0} (answer : Result A StoreFault) (old new : Devices) → Causes (answer ≡ Err DiscReadFault) (answer ≡ Err Stopped) old.disc new.disc → labels new.rack.reels ≡ labels old.rack.reels
+    → SameDevices old new
+same_caused answer old new is reels = record { size = is.size; reads = reads_later answer old.disc new.disc is; writes = writes_later answer old.disc new.disc is; reels = reels }

@@ -5,7 +5,6 @@ use Rattle.g_base.specs.Counts.{HasRisenBy}
 use Rattle.g_base.specs.Fuse.{IsArmedBy, armed_with}
 use Rattle.g_base.proofs.CountLemmas.{HasRisenBy-none}
 use Rattle.g_base.proofs.FuseLemmas.{within_all, within_none}
-use Rattle.g_step.specs.State.{State}
 use Rattle.g_step.specs.CallStep.{Plain}
 use Rattle.g_state.specs.Up.{StoreFacts}
 use Rattle.g_store.specs.Arming.{MeansTheSame}
@@ -20,8 +19,9 @@ use Rattle.g_console.specs.declared.progress.Failure.{Failure}
 use Rattle.g_console.specs.Arming.{HasArmed, disc_armed, tape_armed}
 use Rattle.g_console.specs.Parts.{ArmsBy, DidLine, DoesLine, IsReady, Matches, seen}
 use Rattle.g_console.specs.Puts.{Puts}
-use Rattle.g_console.specs.System.{Down, IsNow, StandsAs, SystemBelongs, SystemFacts, Up, devices_in, DumpsGrow, SameDevices}
+use Rattle.g_console.specs.System.{Down, SystemFacts, Up, devices_in, DumpsGrow, SameDevices}
 use Rattle.g_console.proofs.GrowLemmas.{grow_held}
+use Rattle.g_console.proofs.LabelLemmas.{same_still}
 use Rattle.g_console.proofs.LeavesLemmas.{leaves_same}
 use Rattle.g_console.proofs.LineLemmas.{was_done}
 
@@ -123,7 +123,7 @@ module _ (k : ℕ) (old new : SystemFacts) (c : CrewState) (count : ℕ) where
         });
     count = refl;
     fuses = ap (λ (d : Devices). d.disc.fuse) armed.devices;
-    same = subst (λ (d : Devices). SameDevices (devices_in old) d) (sym armed.devices) (record { size = refl; reels = refl });
+    same = subst (λ (d : Devices). SameDevices (devices_in old) d) (sym armed.devices) (same_still (devices_in old) (disc_armed k (devices_in old)) refl refl refl refl);
     belongs = armed.belongs;
     dumps = λ was. subst (λ (d : Devices). DumpsGrow (devices_in old).rack d.rack) (sym armed.devices) (grow_held (devices_in old).rack (disc_armed k (devices_in old)).rack refl);
     cause = puts.cause;
@@ -149,7 +149,7 @@ module _ (k : ℕ) (old new : SystemFacts) (c : CrewState) (count : ℕ) where
         });
     count = refl;
     fuses = ap (λ (d : Devices). d.rack.fuse) armed.devices;
-    same = subst (λ (d : Devices). SameDevices (devices_in old) d) (sym armed.devices) (record { size = refl; reels = refl });
+    same = subst (λ (d : Devices). SameDevices (devices_in old) d) (sym armed.devices) (same_still (devices_in old) (tape_armed k (devices_in old)) refl refl refl refl);
     belongs = armed.belongs;
     dumps = λ was. subst (λ (d : Devices). DumpsGrow (devices_in old).rack d.rack) (sym armed.devices) (grow_held (devices_in old).rack (tape_armed k (devices_in old)).rack refl);
     cause = puts.cause;

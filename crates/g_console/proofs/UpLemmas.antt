@@ -1,9 +1,8 @@
 -- AN EVENT OF A STORE THAT IS UP, asked by a line: it is granted, refused or stopped, by the step of its state.
-use Rattle.std.proofs.Common.{◌≡◌, ℕ, ◌+◌, ◌++◌, Bool, true, false, List, [], Option, Some, None, refl, sym, ◌∙◌, ap, subst, inl, inr}
-use Rattle.std.specs.Prelude.{◌≢◌, ◌⊎◌, ◌↔◌, MatchBool, Result, Ok, Err, codes}
-use Rattle.std.proofs.lemmas.Bool.{cases_Bool, false≢true}
+use Rattle.std.proofs.Common.{◌≡◌, ℕ, ◌+◌, ◌++◌, Bool, true, false, List, [], Option, Some, None, refl, sym, ap, subst, inl, inr}
+use Rattle.std.specs.Prelude.{◌≢◌, ◌↔◌, MatchBool, Result, Ok, Err, codes}
 use Rattle.g_plain.specs.declared.faults.StoreFault.{StoreFault}
-use Rattle.g_plain.specs.declared.faults.StoreFault.TheVariants.{DiscReadFault, NoMemory, NotStarted, Stopped, TapeReadFault}
+use Rattle.g_plain.specs.declared.faults.StoreFault.TheVariants.{NoMemory, NotStarted, Stopped}
 use Rattle.g_name.specs.declared.full.Full.{Full}
 use Rattle.g_name.specs.declared.path.Path.{Path}
 use Rattle.g_monitor.specs.Parts.{full_text}
@@ -30,13 +29,13 @@ use Rattle.g_crew.specs.Crew.{CrewState}
 use Rattle.g_console.specs.declared.progress.Failure.{Failure}
 use Rattle.g_console.specs.Parts.{ArmsBy, DidLine, DoesLine, DumpsBy, IsReady, CountedBy, Matches, Seen, disc_arms, seen, tape_arms}
 use Rattle.g_console.specs.Puts.{Puts}
-use Rattle.g_console.specs.System.{Down, IsNow, StandsAs, SystemBelongs, SystemFacts, Up, devices_in, SameDevices}
-use Rattle.g_console.specs.Telling.{TellsFault, refusal_text, system_after, without_jobs}
+use Rattle.g_console.specs.System.{Down, StandsAs, SystemBelongs, SystemFacts, Up, devices_in, SameDevices}
+use Rattle.g_console.specs.Telling.{TellsFault, refusal_text, system_after}
 use Rattle.g_console.proofs.ByLemmas.{grown_by}
-use Rattle.g_console.proofs.CauseLemmas.{OfDisc, counted_by}
+use Rattle.g_console.proofs.CauseLemmas.{OfDisc, counted_by, same_caused}
 use Rattle.g_console.proofs.GrowLemmas.{grow_held}
 use Rattle.g_console.proofs.LeavesLemmas.{leaves_same, leaves_told}
-use Rattle.g_console.proofs.LineLemmas.{FaultDone, Faulted, none_armed, refused_line, tells_fault, told_of, told_same, was_done}
+use Rattle.g_console.proofs.LineLemmas.{FaultDone, none_armed, refused_line, tells_fault, told_of, told_same, was_done}
 use Rattle.g_console.proofs.LabelLemmas.{labels_read, no_fuse}
 
 -- the state of a store that is up is up
@@ -89,7 +88,7 @@ caused what counts old new answer cause = record {
   still = λ told. counted_by answer (devices_in (Up old)) (devices_in (Up new)) (of_cause old new answer cause) Plain told;
   disc_armed = cause.disc.arms;
   rack_armed = cause.tapes.arms;
-  same = record { size = cause.disc.size; reels = labels_read old.rack.reels new.rack.reels cause.tapes.reels };
+  same = same_caused answer (devices_in (Up old)) (devices_in (Up new)) cause.disc (labels_read old.rack.reels new.rack.reels cause.tapes.reels);
   dumps = λ is. grown_by (is_process what) old.rack new.rack (grow_held old.rack new.rack cause.tapes.reels);
 }
 

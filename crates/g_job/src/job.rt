@@ -15,11 +15,11 @@ ghost use Rattle.g_plain.specs.Asks.{Answer, RanInPart};
 ghost use Rattle.g_plain.specs.RanBy.{RanBy};
 ghost use Rattle.g_sched.specs.Rule.{IsInRange};
 
+use crate::new_job::NewJob;
 use crate::turn::Turn;
 use g_act::{Again, Work};
 use g_base::NoMemory;
 use g_budget::{Charge, Tariff, Usage};
-use g_lines::Document;
 use g_macro::Levels;
 use g_monitor::push_header;
 use g_name::{Local, Text, User};
@@ -73,21 +73,19 @@ impl Model for Job {
 }
 
 impl Job {
-    /// A job that begins: no turn was taken, and its monitoring file has its first line. `allowance` is its TIME in units,
-    /// `money` its MONEY; `lines` are those of its document.
-    pub fn new(
-        alloc: Global,
-        number: u64,
-        name: Local,
-        user: User,
-        allowance: u64,
-        money: u64,
-        lines: Document,
-    ) -> Result<Job, NoMemory>
-        requires allowance { (1 ≤ allowance) × (allowance ≤ 1000000) }
-        requires money { money ≤ 1000000 }
-        ensures { IfOk result (λ job. job ≡ job_begun number name user allowance money lines) }
+    /// The job of this number that begins: no turn was taken, and its monitoring file has its first line.
+    pub fn new(alloc: Global, number: u64, job: NewJob) -> Result<Job, NoMemory>
+        requires allowance { (1 ≤ job.time) × (job.time ≤ 1000000) }
+        requires money { job.money ≤ 1000000 }
+        ensures { IfOk result (λ begun. begun ≡ job_begun number job.name job.user job.time job.money job.lines) }
     {
+        let NewJob {
+            name,
+            user,
+            time,
+            money,
+            lines,
+        } = job;
         let Ok(levels) = Levels::new(alloc, lines) else {
             return Err(NoMemory);
         };
@@ -97,7 +95,7 @@ impl Job {
             number,
             name,
             user,
-            allowance,
+            allowance: time,
             money,
             used: 0,
             used_money: 0,

@@ -1,5 +1,5 @@
 //! A reader of lines that takes one byte after another: it tells where a text goes wrong, and takes no memory.
-ghost use Rattle.std.specs.Prelude.{◌≡◌, ◌^◌, ◌<◌, ◌≤◌, ◌∷◌, ◌++◌, [], List, drop, length, ℕ};
+ghost use Rattle.std.specs.Prelude.{◌≡◌, ◌^◌, ◌<◌, ◌≤◌, ◌∷◌, ◌++◌, [], IsTrue, List, Some, drop, length, ℕ};
 ghost use Rattle.g_lang.specs.How as how;
 ghost use Rattle.g_lang.specs.Places.{Goes, Steps, state_of, next_of, depth_of, word_start};
 
@@ -66,7 +66,11 @@ pub fn wrong_place(text: &[u8]) -> Option<usize>
 {
     let mut place = Place::Front;
     for (at, byte) in text.iter().enumerate() {
-        match place.step(&text[..at], *byte) {
+        let before = &text[..at];
+        if place.stays(before, *byte) {
+            continue;
+        }
+        match place.step(before, *byte) {
             Some(next) => place = next,
             None => return Some(at),
         }
@@ -79,6 +83,21 @@ pub fn wrong_place(text: &[u8]) -> Option<usize>
 }
 
 impl Place {
+    /// Whether the reader stays where it stands with the next byte: in spaces, in a word, in parameters, in a text. Most
+    /// bytes of a line are such ones.
+    fn stays(&self, before: &[u8], byte: u8) -> bool
+        requires word { word_start self.now ≤ length before.now }
+        ensures { IsTrue result
+            → Steps (how.step byte (state_of before.now self.now)) (before.now ++ byte ∷ []) (Some self.now) }
+    {
+        match self {
+            Place::Front | Place::Gap | Place::Back | Place::VerbGap => byte == b' ',
+            Place::Word { start, .. } => extends(&before[*start..], byte),
+            Place::Params(_) | Place::Text => is_printed(byte) && byte != b'(' && byte != b')',
+            _ => false,
+        }
+    }
+
     /// The place behind the next byte, if some line goes on with it.
     fn step(self, before: &[u8], byte: u8) -> Option<Place>
         requires depth { depth_of (state_of before.now self) < 2 ^ 63 }

@@ -9,7 +9,7 @@ use crate::copies::copy_of;
 use crate::numbers::UserNumbers;
 use crate::pin_list::PinList;
 use g_blocks::Pool;
-use g_dirs::{BoxedCopy, Pages};
+use g_dirs::{FileCopy, Pages};
 use g_disc::Disc;
 use g_entry::Head;
 use g_slots::Slots;
@@ -28,7 +28,7 @@ pub struct Online<D: Disc> {
     pub(crate) pool: Pool,
     pub(crate) tree: Tree,
     pub(crate) head: Head,
-    pub(crate) online: Vec<(u16, BoxedCopy)>,
+    pub(crate) online: Vec<FileCopy>,
     pub(crate) pins: Option<PinList>,
     pub(crate) changed: UserNumbers,
     pub(crate) touched: UserNumbers,
