@@ -95,9 +95,9 @@ module _ {F U : Type 0} (tariffs : Shared F (Bor Usage × Unit {0}) Charge) (tar
   abbrev before_all : Seen
   before_all = seen (Down old) nobody 0
 
-  matches_start : (s : State) → s.up ≡ false → StandFor old s → Matches (start lines bad s) before_all
-  matches_start s is_down stands = record {
-    stands = (is_down, stands);
+  matches_start : (s : State) → StandFor old s → Matches (start lines bad s) before_all
+  matches_start s stands = record {
+    stands = (ap (λ (u : State). u.up) stands.reads.state_is, stands);
     crew = record { jobs = refl; accounts = λ user. refl; next_job = refl };
     count = refl;
   }
@@ -113,17 +113,17 @@ module _ {F U : Type 0} (tariffs : Shared F (Bor Usage × Unit {0}) Charge) (tar
   -- CUT SHORT before its end
   ends_short : (failure : Failure) (before after : Option (List ℕ)) (faults faults' : ℕ) → DidAll tariffs tariff rules rule lines before_all (Some failure) (seen f c count) before after faults faults'
       → EndsShort tariffs tariff rules rule lines bad old new before after
-  ends_short failure before after faults faults' did = λ s is_down stands.
-      let b = did.goes (start lines bad s) (matches_start s is_down stands) (record { phase = refl; turn = refl }) refl in (
-        b.moves,
-        b.next,
-        record {
+  ends_short failure before after faults faults' did = λ s stands.
+      let b = did.goes (start lines bad s) (matches_start s stands) (record { phase = refl; turn = refl }) refl in record {
+        moves = b.moves;
+        last = b.next;
+        run_of = record {
           run = b.leads.run;
           counted = counted_of b.moves b.next old new (counted_from s b.moves b.next b.added b.leads);
           stands = down_is.stands b.next.store b.leads.stands;
-        },
-        subst (λ (t : List ℕ). HasPutPart before t after) (sym b.leads.text) b.put,
-      )
+        };
+        text = subst (λ (t : List ℕ). HasPutPart before t after) (sym b.leads.text) b.put;
+      }
 
   false_true : false ≡ true → ⊥
   false_true e = cc
@@ -147,9 +147,9 @@ module _ {F U : Type 0} (tariffs : Shared F (Bor Usage × Unit {0}) Charge) (tar
     put : middle ≡ with_more before added
 
   closes : (before middle : Option (List ℕ)) → PartGoes tariffs tariff rules rule IsAtRest lines [] before_all None (seen f c count) before middle
-      → (s : State) → s.up ≡ false → StandFor old s → Closes s before middle
-  closes before middle goes s is_down stands =
-      let a = goes (start lines bad s) (matches_start s is_down stands) (record { phase = refl; turn = refl }) refl in record {
+      → (s : State) → StandFor old s → Closes s before middle
+  closes before middle goes s stands =
+      let a = goes (start lines bad s) (matches_start s stands) (record { phase = refl; turn = refl }) refl in record {
         moves = a.moves ++ Over ∷ [];
         last = closed a.next;
         added = a.added;
@@ -176,22 +176,22 @@ module _ {F U : Type 0} (tariffs : Shared F (Bor Usage × Unit {0}) Charge) (tar
 
   pub ends_closed : (failure : Option Failure) (before middle after : Option (List ℕ)) → PartGoes tariffs tariff rules rule IsAtRest lines [] before_all None (seen f c count) before middle
       → PutsBy failure (waiting_files c.jobs ++ closing bad) middle after → EndsBy tariffs tariff rules rule failure lines bad old new before after
-  ends_closed None before middle after goes put = λ s is_down stands.
-      let z = closes before middle goes s is_down stands in (
-        z.moves,
-        z.last,
-        z.run_of,
-        z.over,
-        put ∙ ap (λ (t : Option (List ℕ)). with_more t (waiting_files c.jobs ++ closing bad)) z.put ∙ with_more-append before z.added (waiting_files c.jobs ++ closing bad)
-            ∙ ap (λ (t : List ℕ). with_more before t) (sym z.text),
-      )
-  ends_closed (Some failure) before middle after goes put = λ s is_down stands.
-      let z = closes before middle goes s is_down stands in (
-        z.moves,
-        z.last,
-        z.run_of,
-        subst (λ (t : List ℕ). HasPutPart before t after) (sym z.text) (put_on before middle after z.added (waiting_files c.jobs ++ closing bad) z.put put),
-      )
+  ends_closed None before middle after goes put = λ s stands.
+      let z = closes before middle goes s stands in record {
+        moves = z.moves;
+        last = z.last;
+        run_of = z.run_of;
+        over = z.over;
+        text = put ∙ ap (λ (t : Option (List ℕ)). with_more t (waiting_files c.jobs ++ closing bad)) z.put ∙ with_more-append before z.added (waiting_files c.jobs ++ closing bad)
+            ∙ ap (λ (t : List ℕ). with_more before t) (sym z.text);
+      }
+  ends_closed (Some failure) before middle after goes put = λ s stands.
+      let z = closes before middle goes s stands in record {
+        moves = z.moves;
+        last = z.last;
+        run_of = z.run_of;
+        text = subst (λ (t : List ℕ). HasPutPart before t after) (sym z.text) (put_on before middle after z.added (waiting_files c.jobs ++ closing bad) z.put put);
+      }
 
 module _ {F U : Type 0} (tariffs : Shared F (Bor Usage × Unit {0}) Charge) (tariff : F) (rules : Shared U (Bor Standing × Unit {0}) ℕ) (rule : U)
     (lines : List Timed) (bad : Option ℕ) (old : Devices) (f : SystemFacts) (c : CrewState) (count : ℕ) (new : Devices) (down_is : TakenDown f new) where
@@ -261,12 +261,12 @@ module _ {F U : Type 0} (tariffs : Shared F (Bor Usage × Unit {0}) Charge) (tar
       → DidScript tariffs tariff rules rule lines bad old (Some failures.Memory) new before before faults faults
   nothing_done old new before faults same =
       subst (λ (d : Devices). DidScript tariffs tariff rules rule lines bad old (Some failures.Memory) d before before faults faults) (sym same) (record {
-        ends = λ s is_down stands. (
-          [],
-          start lines bad s,
-          record { run = refl; counted = counted_of [] (start lines bad s) old old (event_none old); stands = devices_down old s stands },
-          (0, omega arith, sym (with_more-nil before)),
-        );
+        ends = λ s stands. record {
+          moves = [];
+          last = start lines bad s;
+          run_of = record { run = refl; counted = counted_of [] (start lines bad s) old old (event_none old); stands = devices_down old s stands };
+          text = (0, omega arith, sym (with_more-nil before));
+        };
         anew = λ none blank well begin. absurd (none-some failures.Memory (sym none));
         arms = record {
           disc = within_none (numbers_of disc_arms lines) old.disc.arms old.disc.arms refl;

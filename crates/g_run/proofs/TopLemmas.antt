@@ -60,8 +60,7 @@ module _ {F U : Type 0} (tariffs : Shared F (Bor Usage × Unit {0}) Charge) (tar
       → EndsWhole tariffs tariff rules rule lines bad (with_new_disc old) new before after → BelongTogether new
   belongs_anew lines bad old new before after more blank ends =
       let there = emptied_stand have_states old more blank.emptied in
-      let (moves, last, run_of, over, text) = ends there.state (ap (λ (s : State). s.up) there.stands.reads.state_is) there.stands in
-      record { told = run_of.stands.told; belong = run_of.stands.belong }
+      let stands = (ends there.state there.stands).run_of.stands in record { told = stands.told; belong = stands.belong }
 
   pub anew_as : (bad : Option ℕ) (failure : Option Failure) (left : List ℕ) (lines : List Timed) (old new : Devices) (before after : Option (List ℕ)) → IsParsed (lines_of left) lines bad → 2177 < old.disc.size
       → (failure ≡ None → AreBlank old → NoDiscFault old new → BeginAnew lines → EndsWhole tariffs tariff rules rule lines bad (with_new_disc old) new before after)
