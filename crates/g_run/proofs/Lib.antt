@@ -1,4 +1,5 @@
-pub mod DemoLemmas
+pub mod AnewLemmas
+mod DemoLemmas
 pub mod DumpLemmas
 pub mod EndedLemmas
 pub mod FallLemmas
