@@ -80,17 +80,20 @@ pub(crate) fn first_of<U: Fn(&Standing) -> u64, M: Fn(u32) -> bool>(
     first
 }
 
-/// What each of the jobs weighs by the rule.
-pub(crate) fn weights_of<U: Fn(&Standing) -> u64>(jobs: &[Job], weigh: &WeighRule<U>) -> Weights
+/// Weighs each of the jobs by the rule. The weights lie where they are: a turn doesn't pay for the room of others.
+pub(crate) fn weigh_each<U: Fn(&Standing) -> u64>(
+    jobs: &[Job],
+    weigh: &WeighRule<U>,
+    weights: &mut Weights,
+)
     requires rule { IsWeighRule U.Fn weigh.now }
     requires few { length jobs.now ≤ 64 }
-    ensures { AreWeights U.Fn weigh.now jobs.now result }
+    ensures { AreWeights U.Fn weigh.now jobs.now weights.new }
 {
-    let mut weights = Weights::new();
+    weights.clear();
     for job in jobs {
         weights.push(weigh.weight(&job.standing()));
     }
-    weights
 }
 
 /// Weighs the job of this number again, if there is one, where the others weigh what they did.

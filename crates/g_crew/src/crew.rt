@@ -19,7 +19,7 @@ ghost use Rattle.g_world.specs.Accounts.{Opened, rows_of, settled, with_new};
 ghost use Rattle.g_world.specs.World.{has_none, with_job, without_job};
 
 use crate::account::{Account, charge, open_each};
-use crate::choice::{first_of, one_can_step, weigh_again, weights_of};
+use crate::choice::{first_of, one_can_step, weigh_again, weigh_each};
 use crate::place::place_of;
 use crate::seats::{BoxedSeats, get_up};
 use crate::taken::Taken;
@@ -189,11 +189,11 @@ impl Crew {
     }
 
     /// What each job weighs by the rule.
-    pub fn weigh<U: Fn(&Standing) -> u64>(&self, weigh: &WeighRule<U>) -> Weights
+    pub fn weigh<U: Fn(&Standing) -> u64>(&self, weigh: &WeighRule<U>, weights: &mut Weights)
         requires rule { IsWeighRule U.Fn weigh.now }
-        ensures { AreWeights U.Fn weigh.now self.now.jobs result }
+        ensures { AreWeights U.Fn weigh.now self.now.jobs weights.new }
     {
-        weights_of(self.jobs(), weigh)
+        weigh_each(self.jobs(), weigh, weights);
     }
 
     /// The same behind a turn of the job of this number: where no job has gone by then, the others weigh what they did, and that
@@ -212,7 +212,7 @@ impl Crew {
         if jobs.len() == weights.count() {
             weigh_again(jobs, weigh, number, weights);
         } else {
-            *weights = weights_of(jobs, weigh);
+            weigh_each(jobs, weigh, weights);
         }
     }
 

@@ -23,7 +23,7 @@ impl Model for Weights {
 
 impl Weights {
     /// Those of no job.
-    pub(crate) fn new() -> Weights
+    pub fn new() -> Weights
         ensures { result ≡ [] }
     {
         Weights {
@@ -36,6 +36,13 @@ impl Weights {
         ensures { result ≡ length self.now }
     {
         self.each.len()
+    }
+
+    /// None is left.
+    pub(crate) fn clear(&mut self)
+        ensures { self.new ≡ [] }
+    {
+        self.each.truncate(0);
     }
 
     /// Puts the next job's behind the others.
