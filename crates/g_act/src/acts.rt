@@ -27,6 +27,24 @@ use std::alloc::Global;
 /// The MONEY of a user that is made without an amount.
 const MONEY: u64 = 1_000_000;
 
+/// Whether a verb makes one call, hands over no bytes and has its reply said.
+fn is_one_call(action: &Action) -> bool
+    ensures { result ≡ actions.is_one_call action.now }
+{
+    matches!(
+        action,
+        Action::Erase { .. }
+            | Action::Rename { .. }
+            | Action::ListDir { .. }
+            | Action::TrapGo { .. }
+            | Action::TrapStop { .. }
+            | Action::TrapCheck { .. }
+            | Action::NewUser { .. }
+            | Action::Budget { .. }
+            | Action::Retrieve { .. }
+    )
+}
+
 /// The call of a verb that makes one, hands over no bytes and has its reply said; any other verb is given back.
 fn call_of(action: Action, who: &User) -> Result<StoreCall, Action>
     requires sound { verbs.IsSound action }
@@ -95,6 +113,10 @@ impl Work {
         ensures same_waits { (s : ℕ) → S.can_wait store.new s ≡ S.can_wait store.old s }
         ensures blocks { OnOk result (self.new.blocks ≤ self.old.blocks + 2048) }
     {
+        // An action is large: so it is moved on where it stands, unless it becomes a call.
+        if !is_one_call(&action) {
+            return self.act_otherwise(store, asker, by, action);
+        }
         match call_of(action, asker.who) {
             Ok(call) => self.one_call(store, asker, &call),
             Err(action) => self.act_otherwise(store, asker, by, action),
@@ -126,15 +148,15 @@ impl Work {
         match action {
             Action::Input { file } => self.input(store, asker, file),
             Action::Copy { from, to } => {
-                self.fetch(store, asker, from, Mode::Read, Use::Put(to))
+                self.fetch(store, asker, (from, Mode::Read), Use::Put(to))
             }
             Action::Append { from, to } => {
-                self.fetch(store, asker, from, Mode::Read, Use::Append(to))
+                self.fetch(store, asker, (from, Mode::Read), Use::Append(to))
             }
-            Action::ListFile { file } => { self.fetch(store, asker, file, Mode::Read, Use::List) }
-            Action::Load { file } => { self.fetch(store, asker, file, Mode::Execute, Use::Load) }
+            Action::ListFile { file } => { self.fetch(store, asker, (file, Mode::Read), Use::List) }
+            Action::Load { file } => { self.fetch(store, asker, (file, Mode::Execute), Use::Load) }
             Action::Plan { from, to } => {
-                self.fetch(store, asker, from, Mode::Read, Use::Assemble(to))
+                self.fetch(store, asker, (from, Mode::Read), Use::Assemble(to))
             }
             Action::Enter { n } => self.enter(asker.alloc, asker.room, by, n as u8),
             Action::Resume => self.resume(asker.alloc, asker.room, by),
@@ -171,7 +193,7 @@ impl Work {
         ensures blocks { OnOk result (self.new.blocks ≤ self.old.blocks + 128) }
     {
         match self.levels.document(asker.alloc) {
-            Ok(bytes) => self.put(store, asker, true, file, bytes),
+            Ok(bytes) => self.put(store, asker, true, (file, bytes)),
             Err(_) => Err(NoMemory),
         }
     }

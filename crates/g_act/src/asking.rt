@@ -80,32 +80,33 @@ impl Work {
         Ok(())
     }
 
-    /// Puts bytes. The command comes out well with them; or, at the release of a unit by DELETE or at the job's end, as it
-    /// stands.
+    /// Puts bytes for a path. The command comes out well with them; or, at the release of a unit by DELETE or at the job's
+    /// end, as it stands.
     pub(crate) fn put<S: Filestore>(
         &mut self,
         store: &mut S,
         asker: &Asker<'_>,
         comes_well: bool,
-        path: Path,
-        bytes: Text,
+        file: (Path, Text),
     ) -> Result<(), NoMemory>
         requires running { S.is_spent store.old ≡ false }
         requires few { self.old.blocks ≤ 4096 }
         ensures ok { OnOk result (RanWell S.answers S.is_spent S.can_wait asker.now.who.now store.old
-            (asking.put asker.now.room comes_well path bytes self.old) self.new store.new) }
+            (asking.put asker.now.room comes_well file.0 file.1 self.old) self.new store.new) }
         ensures err { OnErr result (RanInPart S.answers asker.now.who.now store.old
-            (asking.put asker.now.room comes_well path bytes self.old) store.new) }
+            (asking.put asker.now.room comes_well file.0 file.1 self.old) store.new) }
         ensures live { OnOk result (said.is_over self.new ≡ false → S.is_spent store.new ≡ false) }
         ensures same_waits { (s : ℕ) → S.can_wait store.new s ≡ S.can_wait store.old s }
         ensures blocks { OnOk result (self.new.blocks ≤ self.old.blocks + 128) }
     {
+        let (path, bytes) = file;
         let len = bytes.as_slice().len();
         let call = StoreCall::Put { path, bytes };
         match ask_any(asker.alloc, store, asker.who, &call) {
             Ok(Ok(reply)) => match reply {
                 StoreReply::Made(full) => {
-                    self.say_handed(asker.alloc, asker.room, comes_well, len, b"MADE ", &full)
+                    self.done_if(comes_well);
+                    self.say_handed(asker, len, b"MADE ", &full)
                 }
                 _ => Ok(()),
             },
@@ -137,7 +138,8 @@ impl Work {
         match ask_any(asker.alloc, store, asker.who, &call) {
             Ok(Ok(reply)) => match reply {
                 StoreReply::Appended(full) => {
-                    self.say_handed(asker.alloc, asker.room, true, len, b"APPENDED ", &full)
+                    self.done();
+                    self.say_handed(asker, len, b"APPENDED ", &full)
                 }
                 _ => Ok(()),
             },
@@ -149,24 +151,29 @@ impl Work {
     /// So many bytes were handed over: their blocks count, and the file is said behind these words.
     fn say_handed(
         &mut self,
-        alloc: Global,
-        room: usize,
-        comes_well: bool,
+        asker: &Asker<'_>,
         len: usize,
         words: &[u8],
         full: &Full,
     ) -> Result<(), NoMemory>
         requires few { self.old.blocks ≤ 4096 }
         requires short { len ≤ 65536 }
-        ensures ok { OnOk result (self.new ≡ said.say room (words.now ++ full_text full.now)
-            (said.with_bytes len (if comes_well then said.done self.old else self.old))) }
+        ensures ok { OnOk result (self.new ≡ said.say asker.now.room (words.now ++ full_text full.now)
+            (said.with_bytes len self.old)) }
         ensures blocks { OnOk result (self.new.blocks ≤ self.old.blocks + 128) }
+    {
+        self.count_bytes(len);
+        self.say_named(asker.alloc, asker.room, words, full)?;
+        Ok(())
+    }
+
+    /// The command comes out well, where this is so.
+    fn done_if(&mut self, comes_well: bool)
+        ensures done { self.new ≡ (if comes_well then said.done self.old else self.old) }
+        ensures blocks { self.new.blocks ≡ self.old.blocks }
     {
         if comes_well {
             self.done();
         }
-        self.count_bytes(len);
-        self.say_named(alloc, room, words, full)?;
-        Ok(())
     }
 }

@@ -1,5 +1,5 @@
 //! One command of a line: GOTO, IF, WHENEVER, or a verb.
-ghost use Rattle.std.specs.Prelude.{◌≡◌, ◌≤◌, ◌+◌, ◌<◌, ℕ, false, length, IfSome, OnErr, OnOk};
+ghost use Rattle.std.specs.Prelude.{◌≡◌, ◌≤◌, ◌+◌, ◌<◌, ℕ, false, length, IfSome, IsTrue, OnErr, OnOk};
 ghost use Rattle.g_act.specs.Commands as commands;
 ghost use Rattle.g_act.specs.Met.{IsBare, IsSpoken, Met};
 ghost use Rattle.g_act.specs.Say as said;
@@ -22,6 +22,24 @@ use g_name::{Local, Text};
 use g_plain::Filestore;
 use g_verbs::{VerbFault, read_verb};
 use std::alloc::Global;
+
+/// A verb's line: its name, its parameters, and what stands behind them.
+#[derive(Drop)]
+struct VerbLine {
+    name: Local,
+    params: Texts,
+    rest: Text,
+}
+
+/// Whether a command stands behind no condition.
+fn is_bare(command: &Command) -> bool
+    ensures { IsTrue result → IsBare command.now }
+{
+    match command {
+        Command::Goto(_) | Command::Whenever { .. } | Command::Verb { .. } => true,
+        Command::Blank | Command::If { .. } => false,
+    }
+}
 
 impl Work {
     /// Does what a text says, for the user `who`; `by` tells that a WHENEVER does it. Nothing is done of a blank line,
@@ -46,6 +64,10 @@ impl Work {
         ensures same_waits { (s : ℕ) → S.can_wait store.new s ≡ S.can_wait store.old s }
         ensures blocks { OnOk result (self.new.blocks ≤ self.old.blocks + 2048) }
     {
+        // A command is large: so it is moved on where it stands, unless a condition is before it.
+        if is_bare(&command) {
+            return self.command(store, asker, by, command);
+        }
         match self.met(command) {
             Some(command) => self.command(store, asker, by, command),
             None => Ok(()),
@@ -103,7 +125,7 @@ impl Work {
                 command,
             ),
             Command::Verb { name, params, rest } => {
-                self.verb(store, asker, by, &name, params, rest)
+                self.verb(store, asker, by, VerbLine { name, params, rest })
             }
             Command::Blank | Command::If { .. } => Ok(()),
         }
@@ -152,28 +174,27 @@ impl Work {
         store: &mut S,
         asker: &Asker<'_>,
         by: bool,
-        name: &Local,
-        params: Texts,
-        rest: Text,
+        line: VerbLine,
     ) -> Result<(), NoMemory>
         requires running { S.is_spent store.old ≡ false }
         requires open { said.is_over self.old ≡ false }
         requires few { self.old.blocks ≤ 2048 }
         requires level { 0 < length self.old.desk.levels.levels }
         ensures ok { OnOk result (RanWell S.answers S.is_spent S.can_wait asker.now.who.now store.old
-            (commands.acted asker.now.room asker.now.who.now by name.now (action_read name.now params rest) self.old)
+            (commands.acted asker.now.room asker.now.who.now by line.name (action_read line.name line.params line.rest) self.old)
             self.new store.new) }
         ensures err { OnErr result (RanInPart S.answers asker.now.who.now store.old
-            (commands.acted asker.now.room asker.now.who.now by name.now (action_read name.now params rest) self.old)
+            (commands.acted asker.now.room asker.now.who.now by line.name (action_read line.name line.params line.rest) self.old)
             store.new) }
         ensures live { OnOk result (said.is_over self.new ≡ false → S.is_spent store.new ≡ false) }
         ensures same_waits { (s : ℕ) → S.can_wait store.new s ≡ S.can_wait store.old s }
         ensures blocks { OnOk result (self.new.blocks ≤ self.old.blocks + 2048) }
     {
-        match read_verb(name, params, rest) {
+        let VerbLine { name, params, rest } = line;
+        match read_verb(&name, params, rest) {
             Ok(action) => self.act(store, asker, by, action),
             Err(VerbFault::BadParameter(index)) => {
-                self.bad_parameter(asker.alloc, asker.room, name, index)
+                self.bad_parameter(asker.alloc, asker.room, &name, index)
             }
         }
     }

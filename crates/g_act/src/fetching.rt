@@ -25,13 +25,12 @@ use g_trap::Mode;
 use std::alloc::Global;
 
 impl Work {
-    /// Fetches a file, and uses its bytes.
+    /// Fetches the file of a path in a mode, and uses its bytes.
     pub(crate) fn fetch<S: Filestore>(
         &mut self,
         store: &mut S,
         asker: &Asker<'_>,
-        path: Path,
-        mode: Mode,
+        file: (Path, Mode),
         use_for: Use,
     ) -> Result<(), NoMemory>
         requires running { S.is_spent store.old ≡ false }
@@ -39,18 +38,19 @@ impl Work {
         requires few { self.old.blocks ≤ 2048 }
         requires free { uses.IsFree (use_of use_for) self.old.desk.units }
         ensures ok { OnOk result (RanWell S.answers S.is_spent S.can_wait asker.now.who.now store.old
-            (uses.fetch asker.now.room path mode (use_of use_for) self.old) self.new store.new) }
+            (uses.fetch asker.now.room file.0 file.1 (use_of use_for) self.old) self.new store.new) }
         ensures err { OnErr result (RanInPart S.answers asker.now.who.now store.old
-            (uses.fetch asker.now.room path mode (use_of use_for) self.old) store.new) }
+            (uses.fetch asker.now.room file.0 file.1 (use_of use_for) self.old) store.new) }
         ensures live { OnOk result (said.is_over self.new ≡ false → S.is_spent store.new ≡ false) }
         ensures same_waits { (s : ℕ) → S.can_wait store.new s ≡ S.can_wait store.old s }
         ensures blocks { OnOk result (self.new.blocks ≤ self.old.blocks + 256) }
     {
+        let (path, mode) = file;
         let call = StoreCall::Fetch { path, mode };
         match ask_any(asker.alloc, store, asker.who, &call) {
             Ok(Ok(reply)) => match reply {
                 StoreReply::Bytes { full, bytes } => {
-                    match self.use_fetched(store, asker, use_for, full, bytes) {
+                    match self.use_fetched(store, asker, use_for, (full, bytes)) {
                         Ok(()) => Ok(()),
                         Err(NoMemory) => Err(NoMemory),
                     }
@@ -65,42 +65,40 @@ impl Work {
         }
     }
 
-    /// Uses bytes that were fetched; their blocks count.
+    /// Uses bytes that were fetched of a file; their blocks count.
     fn use_fetched<S: Filestore>(
         &mut self,
         store: &mut S,
         asker: &Asker<'_>,
         use_for: Use,
-        full: Full,
-        bytes: Text,
+        fetched: (Full, Text),
     ) -> Result<(), NoMemory>
         requires running { S.is_spent store.old ≡ false }
         requires open { said.is_over self.old ≡ false }
         requires few { self.old.blocks ≤ 2048 }
         requires free { uses.IsFree (use_of use_for) self.old.desk.units }
-        requires short { length bytes ≤ 65536 }
+        requires short { length fetched.1 ≤ 65536 }
         ensures ok { (path : Path) (m : Mode) → OnOk result
             (RanWell S.answers S.is_spent S.can_wait asker.now.who.now store.old
-            (uses.use_bytes asker.now.room path m (use_of use_for) full bytes
-            (said.with_bytes (length bytes) self.old)) self.new store.new) }
+            (uses.use_bytes asker.now.room path m (use_of use_for) fetched.0 fetched.1
+            (said.with_bytes (length fetched.1) self.old)) self.new store.new) }
         ensures err { (path : Path) (m : Mode) → OnErr result
             (RanInPart S.answers asker.now.who.now store.old
-            (uses.use_bytes asker.now.room path m (use_of use_for) full bytes
-            (said.with_bytes (length bytes) self.old)) store.new) }
+            (uses.use_bytes asker.now.room path m (use_of use_for) fetched.0 fetched.1
+            (said.with_bytes (length fetched.1) self.old)) store.new) }
         ensures live { OnOk result (said.is_over self.new ≡ false → S.is_spent store.new ≡ false) }
         ensures same_waits { (s : ℕ) → S.can_wait store.new s ≡ S.can_wait store.old s }
         ensures blocks { OnOk result (self.new.blocks ≤ self.old.blocks + 256) }
     {
+        let (full, bytes) = fetched;
         self.count_bytes(bytes.as_slice().len());
         match use_for {
-            Use::Put(to) => self.put(store, asker, true, to, bytes),
+            Use::Put(to) => self.put(store, asker, true, (to, bytes)),
             Use::Append(to) => self.append(store, asker, to, bytes),
             Use::Assemble(to) => self.assemble_bytes(store, asker, to, bytes.as_slice()),
             Use::List => self.list_bytes(asker.alloc, asker.room, &full, bytes.as_slice()),
             Use::Load => self.load_bytes(asker.alloc, asker.room, bytes.as_slice()),
-            Use::Assign { unit, file } => {
-                self.assign_reader(asker.alloc, asker.room, unit, file, bytes)
-            }
+            Use::Assign { unit, file } => self.assign_reader(asker, unit, file, bytes),
         }
     }
 
@@ -123,7 +121,7 @@ impl Work {
         ensures blocks { OnOk result (self.new.blocks ≤ self.old.blocks + 128) }
     {
         match assemble(asker.alloc, bytes) {
-            Ok(file) => self.put(store, asker, true, to, file),
+            Ok(file) => self.put(store, asker, true, (to, file)),
             Err(PlanFault::BadPlan(line)) => {
                 self.in_error(asker.alloc, asker.room, CommandError::BadPlan(line))
             }
@@ -161,21 +159,20 @@ impl Work {
     /// Puts the lines of a file into a card reader.
     fn assign_reader(
         &mut self,
-        alloc: Global,
-        room: usize,
+        asker: &Asker<'_>,
         unit: Unit,
         file: Path,
         bytes: Text,
     ) -> Result<(), NoMemory>
         requires reader { held.is_reader unit.kind ≡ true }
         requires free { held.is_assigned self.old.desk.units unit ≡ false }
-        ensures ok { OnOk result (self.new ≡ uses.assigned room unit bytes self.old) }
+        ensures ok { OnOk result (self.new ≡ uses.assigned asker.now.room unit bytes self.old) }
         ensures blocks { OnOk result (self.new.blocks ≡ self.old.blocks) }
     {
         let is_done = self.units.assign_input(unit, file, bytes).is_ok();
         prove!(is_done);
         self.done();
-        self.say_job_line(alloc, room, JobLine::Assigned)?;
+        self.say_job_line(asker.alloc, asker.room, JobLine::Assigned)?;
         Ok(())
     }
 
@@ -223,7 +220,7 @@ impl Work {
         } else if is_reader(unit.kind) {
             let path = file.copy();
             let use_for = Use::Assign { unit, file };
-            self.fetch(store, asker, path, Mode::Read, use_for)
+            self.fetch(store, asker, (path, Mode::Read), use_for)
         } else {
             self.keep_output(asker.alloc, asker.room, unit, file)
         }

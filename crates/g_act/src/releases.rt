@@ -82,7 +82,7 @@ impl Work {
         ensures blocks { OnOk result (self.new.blocks ≤ self.old.blocks + 128) }
     {
         match output {
-            Some((path, bytes)) => self.put(store, asker, true, path, bytes),
+            Some((path, bytes)) => self.put(store, asker, true, (path, bytes)),
             None => {
                 self.done();
                 self.say_job_line(asker.alloc, asker.room, JobLine::Released)
@@ -151,7 +151,7 @@ impl Work {
         ensures blocks { OnOk result (self.new.blocks ≤ self.old.blocks + 128) }
     {
         match self.take_output(place) {
-            Some((path, bytes)) => self.put(store, asker, false, path, bytes),
+            Some((path, bytes)) => self.put(store, asker, false, (path, bytes)),
             None => Ok(()),
         }
     }

@@ -1,7 +1,8 @@
-//! The fuse of a device, which makes one write to come fail.
+//! The fuse of a device, which makes one write to come fail, and what the device was armed with.
 ghost use Rattle.std.specs.Prelude.{◌≡◌, ◌≤◌, ◌↔◌, IsTrue, Some, None};
-ghost use Rattle.g_base.specs.Fuse.{burnt};
+ghost use Rattle.g_base.specs.Fuse.{armed_with, burnt, never};
 
+use crate::counter::raised;
 use std::marker::Model;
 
 /// A fuse: none, or the number of the write to come that fails, where 1 is the next one.
@@ -45,5 +46,44 @@ impl Fuse {
             _ => None,
         };
         fires
+    }
+}
+
+/// What a device was armed with: how often, which stands still at 2^64 - 1; with which number last; and what it had
+/// counted then, a disc its writes and a rack its failed writes.
+#[derive(Drop)]
+pub struct Armings {
+    times: u64,
+    number: Option<u32>,
+    since: u64,
+}
+
+impl Model for Armings {
+    ghost use Rattle.g_base.specs.Fuse.{Arms};
+
+    ghost Value = { Arms };
+
+    ghost view = { λ a. record { times = a.times; number = a.number; since = a.since } };
+}
+
+impl Armings {
+    /// Those of a device that was never armed.
+    pub fn new() -> Self
+        ensures { result ≡ never }
+    {
+        Armings {
+            times: 0,
+            number: None,
+            since: 0,
+        }
+    }
+
+    /// The device is armed with k, and has counted this.
+    pub fn arm(&mut self, k: u32, since: u64)
+        ensures { self.new ≡ armed_with k since self.old }
+    {
+        self.times = raised(self.times);
+        self.number = Some(k);
+        self.since = since;
     }
 }

@@ -19,7 +19,7 @@ pub use block_list::BlockList;
 pub use counter::raised;
 pub use distinct::are_distinct;
 pub use fault::{ReadFailed, WriteFailed};
-pub use fuse::Fuse;
+pub use fuse::{Armings, Fuse};
 pub use limits::{
     FIRST_COPY_BLOCK, FIRST_FILE_BLOCK, MAX_ALLOWANCE, MAX_BALANCE, MAX_DISC_BLOCKS,
     MAX_FILE_BLOCKS, MAX_FILE_BYTES, MAX_FILES, MAX_GENERATION, MAX_REELS, MAX_SCRIPT_BYTES,

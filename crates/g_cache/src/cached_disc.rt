@@ -1,6 +1,6 @@
 //! A disc that is read through a cache.
 ghost use Rattle.std.specs.Prelude.{◌≡◌, ◌<◌, ◌≤◌, [], IfErr, IfOk, Some};
-ghost use Rattle.g_base.specs.Counts.{one_more};
+ghost use Rattle.g_base.specs.Fuse.{armed_with};
 ghost use Rattle.g_cache.specs.Cached.{CachedReads, CachedWrites, cached_with};
 
 use crate::block_cache::BlockCache;
@@ -83,7 +83,7 @@ impl<D: Disc> Disc for CachedDisc<D> {
     fn arm(&mut self, k: u32)
         requires { 1 ≤ k }
         ensures armed { D.state self.new.disc ≡ record (D.state self.old.disc)
-            { fuse = Some k; arms = one_more (D.state self.old.disc).arms } }
+            { fuse = Some k; arms = armed_with k (D.state self.old.disc).writes (D.state self.old.disc).arms } }
         ensures kept { self.new.kept ≡ self.old.kept }
     {
         self.disc.arm(k);

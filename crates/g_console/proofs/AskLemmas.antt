@@ -32,7 +32,7 @@ use Rattle.g_console.proofs.UpLemmas.{down_line, migrated_line, opened_line, unm
 -- a system that is down refuses it
 down_asked : {A : Type 0} (what : Operator) (by : State → Holding → Outcome → Result A StoreFault → State → Type 0) (said : A → List ℕ)
     → ((o : Outcome) (w next : World) → NeedsUp o (λ r s. (k : Holding) × (w.store.holding ≡ Some k) × by w.store k o r s × IsTold o r) said w next → LineGives o what w next)
-    → disc_arms what ≡ 0 → tape_arms what ≡ 0 → (d e : Devices) (c c' : CrewState) (count : ℕ) → IsReady (Down d) c → (fault : StoreFault) → (let answer : Result A StoreFault = Err fault in answer ≡ Err NotStarted) → e ≡ d
+    → disc_arms what ≡ [] → tape_arms what ≡ [] → (d e : Devices) (c c' : CrewState) (count : ℕ) → IsReady (Down d) c → (fault : StoreFault) → (let answer : Result A StoreFault = Err fault in answer ≡ Err NotStarted) → e ≡ d
     → (failure : Option Failure) (before after : Option (List ℕ)) (faults faults' : ℕ) → TellsFault fault count c failure c' before after faults faults'
     → DidLine what (seen (Down d) c count) failure (seen (Down e) c' count) before after faults faults'
 down_asked what by said lifts no_disc no_tape d e c c' count ready NotStarted is same failure before after faults faults' tells =

@@ -15,12 +15,12 @@ use Rattle.g_console.specs.Parts.{CountedBy, DumpsBy, disc_arms, tape_arms}
 use Rattle.g_console.specs.System.{DumpsGrow, labels}
 
 -- a line in which no device failed, and that arms none
-pub plain_counted : (what : Operator) → disc_arms what ≡ 0 → tape_arms what ≡ 0 → (old new : Devices) → EventCounted Plain 0 0 old new → CountedBy what Plain old new
+pub plain_counted : (what : Operator) → disc_arms what ≡ [] → tape_arms what ≡ [] → (old new : Devices) → EventCounted Plain [] [] old new → CountedBy what Plain old new
 plain_counted what no_disc no_tape old new counted =
-    subst (λ (n : ℕ). LineCounted (is_process what) Plain n (tape_arms what) old new) (sym no_disc)
-    (subst (λ (n : ℕ). LineCounted (is_process what) Plain 0 n old new) (sym no_tape) (by (is_process what)))
+    subst (λ (ks : List ℕ). LineCounted (is_process what) Plain ks (tape_arms what) old new) (sym no_disc)
+    (subst (λ (ks : List ℕ). LineCounted (is_process what) Plain [] ks old new) (sym no_tape) (by (is_process what)))
   where
-    by : (process : Bool) → LineCounted process Plain 0 0 old new
+    by : (process : Bool) → LineCounted process Plain [] [] old new
     by true = counted
     by false = counted
 

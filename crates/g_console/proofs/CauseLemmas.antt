@@ -1,16 +1,18 @@
 -- WHAT DEVICES COUNT in an event, by its answer.
-use Rattle.std.proofs.Common.{◌≡◌, ℕ, refl, sym, ◌∙◌, ap, arith}
+use Rattle.std.proofs.Common.{◌≡◌, ◌≤◌, ℕ, [], refl, sym, ◌∙◌, ap, arith}
 use Rattle.std.specs.Prelude.{Result, Err}
-use Rattle.g_base.specs.Counts.{Rose, RoseBy}
-use Rattle.g_base.proofs.CountLemmas.{HasRisenBy-Rose, RoseBy-none}
-use Rattle.g_disc.specs.Disc.{Causes}
+use Rattle.g_base.specs.Counts.{Rose}
+use Rattle.g_base.proofs.CountLemmas.{HasRisenBy-Rose, Rose-later}
+use Rattle.g_disc.specs.Disc.{Causes, DiscState}
 use Rattle.g_plain.specs.declared.faults.StoreFault.{StoreFault}
 use Rattle.g_plain.specs.declared.faults.StoreFault.TheVariants.{DiscReadFault, Stopped, TapeReadFault}
 use Rattle.g_step.specs.CallStep.{Cut, DiscRead, Outcome, Plain, TapeRead}
 use Rattle.g_world.specs.Devices.{Devices}
 use Rattle.g_world.specs.Events.{OutcomeTold}
-use Rattle.g_world.specs.Moves.{EventCounted, cuts_in, disc_reads_in, tape_reads_in}
+use Rattle.g_world.specs.Moves.{EventCounted}
 use Rattle.g_world.proofs.CountLemmas.{disc_failed, none_failed, none_rose}
+use Rattle.g_console.specs.System.{SameDevices, labels}
+use Rattle.g_console.proofs.LabelLemmas.{stands_still}
 
 -- an event that writes no tape: each count moves with its own answer
 pub record OfDisc {A : Type 0} (answer : Result A StoreFault) (old new : Devices) : Type 0 where
@@ -24,7 +26,7 @@ one_zero : {X : Type 0} → ◌≡◌ {A = ℕ} 1 0 → X
 one_zero e = let no : ⊥ = omega arith in absurd no
 
 module _ {A : Type 0} (answer : Result A StoreFault) (old new : Devices) (is : OfDisc answer old new) where
-  pub counted_by : (o : Outcome) → OutcomeTold o answer → EventCounted o 0 0 old new
+  pub counted_by : (o : Outcome) → OutcomeTold o answer → EventCounted o [] [] old new
   counted_by Plain told =
       let disc = is.disc.reads_kept (λ e. let no : ◌≡◌ {A = Outcome} Plain DiscRead = told.disc_read e in cc) in
       let tape = is.tape_read_only (λ e. let no : ◌≡◌ {A = Outcome} Plain TapeRead = told.tape_read e in cc) in
@@ -34,8 +36,8 @@ module _ {A : Type 0} (answer : Result A StoreFault) (old new : Devices) (is : O
         cuts_rose = none_failed old new cut is.tape_writes;
         no_disc_read = λ e. disc;
         no_tape_read = λ e. tape;
-        disc_armed = RoseBy-none is.disc.arms;
-        tape_armed = RoseBy-none is.tape_arms;
+        disc_armed = is.disc.arms;
+        tape_armed = is.tape_arms;
       }
   counted_by DiscRead told =
       let tape = is.tape_read_only (λ e. let no : ◌≡◌ {A = Outcome} DiscRead TapeRead = told.tape_read e in cc) in
@@ -45,8 +47,8 @@ module _ {A : Type 0} (answer : Result A StoreFault) (old new : Devices) (is : O
         cuts_rose = none_failed old new cut is.tape_writes;
         no_disc_read = λ e. one_zero e;
         no_tape_read = λ e. tape;
-        disc_armed = RoseBy-none is.disc.arms;
-        tape_armed = RoseBy-none is.tape_arms;
+        disc_armed = is.disc.arms;
+        tape_armed = is.tape_arms;
       }
   counted_by TapeRead told =
       let disc = is.disc.reads_kept (λ e. let no : ◌≡◌ {A = Outcome} TapeRead DiscRead = told.disc_read e in cc) in
@@ -56,8 +58,8 @@ module _ {A : Type 0} (answer : Result A StoreFault) (old new : Devices) (is : O
         cuts_rose = none_failed old new cut is.tape_writes;
         no_disc_read = λ e. disc;
         no_tape_read = λ e. one_zero e;
-        disc_armed = RoseBy-none is.disc.arms;
-        tape_armed = RoseBy-none is.tape_arms;
+        disc_armed = is.disc.arms;
+        tape_armed = is.tape_arms;
       }
   counted_by Cut told =
       let disc = is.disc.reads_kept (λ e. let no : ◌≡◌ {A = Outcome} Cut DiscRead = told.disc_read e in cc) in
@@ -67,6 +69,19 @@ module _ {A : Type 0} (answer : Result A StoreFault) (old new : Devices) (is : O
         cuts_rose = disc_failed old new (is.disc.writes_rose told.told) is.tape_writes;
         no_disc_read = λ e. disc;
         no_tape_read = λ e. tape;
-        disc_armed = RoseBy-none is.disc.arms;
-        tape_armed = RoseBy-none is.tape_arms;
+        disc_armed = is.disc.arms;
+        tape_armed = is.tape_arms;
       }
+
+-- NO COUNT OF THE DISC FALLS, whatever is answered
+pub reads_later : {A : Type 0} (answer : Result A StoreFault) (old new : DiscState) → Causes (answer ≡ Err DiscReadFault) (answer ≡ Err Stopped) old new → old.read_faults ≤ new.read_faults
+reads_later (Err DiscReadFault) old new is = Rose-later (is.reads_rose refl)
+reads_later answer old new is = stands_still old.read_faults new.read_faults (is.reads_kept (λ e. let no : ⊥ = cc in no))
+
+pub writes_later : {A : Type 0} (answer : Result A StoreFault) (old new : DiscState) → Causes (answer ≡ Err DiscReadFault) (answer ≡ Err Stopped) old new → old.write_faults ≤ new.write_faults
+writes_later (Err Stopped) old new is = Rose-later (is.writes_rose refl)
+writes_later answer old new is = stands_still old.write_faults new.write_faults (is.writes_kept (λ e. let no : ⊥ = cc in no))
+
+pub same_caused : {A : Type 0} (answer : Result A StoreFault) (old new : Devices) → Causes (answer ≡ Err DiscReadFault) (answer ≡ Err Stopped) old.disc new.disc → labels new.rack.reels ≡ labels old.rack.reels
+    → SameDevices old new
+same_caused answer old new is reels = record { size = is.size; reads = reads_later answer old.disc new.disc is; writes = writes_later answer old.disc new.disc is; reels = reels }

@@ -25,7 +25,7 @@ use Rattle.g_world.specs.World.{World, goes_down}
 use Rattle.g_world.proofs.CountLemmas.{event_none}
 use Rattle.g_crew.specs.Crew.{CrewState, IsCrewOf}
 use Rattle.g_crew.specs.Taking.{RefusesAsIn, printed, refusal_line}
-use Rattle.g_crew.specs.declared.taking.NewJob.{NewJob}
+use Rattle.g_job.specs.declared.new_job.NewJob.{NewJob}
 use Rattle.g_crew.specs.declared.taking.NotTaken.{NotTaken}
 use Rattle.g_crew.specs.declared.taking.NotTaken.TheVariants as why
 use Rattle.g_console.specs.declared.progress.Failure.{Failure}

@@ -7,7 +7,7 @@ use Rattle.g_job.specs.State.{JobState}
 use Rattle.g_plain.specs.declared.faults.StoreFault.{StoreFault}
 use Rattle.g_plain.specs.declared.faults.StoreFault.TheVariants.{NoMemory, Stopped}
 use Rattle.g_crew.specs.Crew.{CrewState}
-use Rattle.g_crew.specs.declared.taking.NewJob.{NewJob}
+use Rattle.g_job.specs.declared.new_job.NewJob.{NewJob}
 use Rattle.g_console.specs.declared.progress.Failure.{Failure}
 use Rattle.g_console.specs.Jobs.{joined}
 use Rattle.g_console.specs.Opening.{Opens}

@@ -1,3 +1,4 @@
+pub mod AnewLemmas
 pub mod AskLemmas
 pub mod ByLemmas
 pub mod CauseLemmas

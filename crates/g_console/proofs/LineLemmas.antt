@@ -2,8 +2,7 @@
 use Rattle.std.proofs.Common.{◌≡◌, ℕ, ◌++◌, true, false, List, [], ◌∷◌, Option, Some, None, refl, sym, ◌∙◌, ap, subst, arith, inl, inr}
 use Rattle.std.specs.Prelude.{◌≢◌, ◌⊎◌, Result, Err, codes}
 use Rattle.std.proofs.lemmas.List.{append_assoc}
-use Rattle.g_base.specs.Counts.{RoseBy}
-use Rattle.g_base.proofs.CountLemmas.{RoseBy-none}
+use Rattle.g_base.proofs.FuseLemmas.{armed_none, within_none}
 use Rattle.g_io.specs.Streams.{with_more, HasPutPart}
 use Rattle.g_plain.specs.declared.faults.StoreFault.{StoreFault}
 use Rattle.g_plain.specs.declared.faults.StoreFault.TheVariants.{NoMemory, Stopped}
@@ -42,19 +41,19 @@ pub wasnt_done : (what : Operator) (old new : Seen) (before after : Option (List
 wasnt_done what old new before after nothing = λ w m. inl (nothing w m)
 
 -- WHAT IS ARMED by a line that arms nothing
-pub none_armed : (what : Operator) (failure : Option Failure) (old new : Devices) → disc_arms what ≡ 0 → tape_arms what ≡ 0 → new.disc.arms ≡ old.disc.arms → new.rack.arms ≡ old.rack.arms
+pub none_armed : (what : Operator) (failure : Option Failure) (old new : Devices) → disc_arms what ≡ [] → tape_arms what ≡ [] → new.disc.arms ≡ old.disc.arms → new.rack.arms ≡ old.rack.arms
     → ArmsBy what failure old new
 none_armed what failure old new no_disc no_tape disc tape = record {
-  disc = (0, omega (arith, no_disc), RoseBy-none disc);
-  tape = (0, omega (arith, no_tape), RoseBy-none tape);
+  disc = within_none (disc_arms what) old.disc.arms new.disc.arms disc;
+  tape = within_none (tape_arms what) old.rack.arms new.rack.arms tape;
   all = λ through. (
-    subst (λ (n : ℕ). RoseBy n old.disc.arms new.disc.arms) (sym no_disc) (RoseBy-none disc),
-    subst (λ (n : ℕ). RoseBy n old.rack.arms new.rack.arms) (sym no_tape) (RoseBy-none tape),
+    armed_none (disc_arms what) old.disc.arms new.disc.arms no_disc disc,
+    armed_none (tape_arms what) old.rack.arms new.rack.arms no_tape tape,
   );
 }
 
 -- A REFUSAL before anything is asked: nothing changes but the text
-module _ (what : Operator) (no_disc : disc_arms what ≡ 0) (no_tape : tape_arms what ≡ 0) (fault : StoreFault) (f : SystemFacts) (c : CrewState) (count : ℕ)
+module _ (what : Operator) (no_disc : disc_arms what ≡ []) (no_tape : tape_arms what ≡ []) (fault : StoreFault) (f : SystemFacts) (c : CrewState) (count : ℕ)
     (gives : (w : World) → Matches w (seen f c count) → LineGives Plain what w (line_refused fault w)) where
   refused_does : (w : World) → Matches w (seen f c count) → DoesLine what w f f (refusal_text count fault)
   refused_does w m = record {
@@ -86,7 +85,7 @@ module _ (what : Operator) (no_disc : disc_arms what ≡ 0) (no_tape : tape_arms
   }
 
 -- NOTHING WAS TRIED, for want of memory
-pub untried_line : (what : Operator) → disc_arms what ≡ 0 → tape_arms what ≡ 0 → (old new : SystemFacts) (c : CrewState) (count : ℕ) → new ≡ old → IsReady old c → (failure : Option Failure) → failure ≡ Some Memory
+pub untried_line : (what : Operator) → disc_arms what ≡ [] → tape_arms what ≡ [] → (old new : SystemFacts) (c : CrewState) (count : ℕ) → new ≡ old → IsReady old c → (failure : Option Failure) → failure ≡ Some Memory
     → (text : Option (List ℕ)) (faults : ℕ) → DidLine what (seen old c count) failure (seen new c count) text text faults faults
 untried_line what no_disc no_tape old new c count same ready failure is text faults =
     subst (λ (f : SystemFacts). DidLine what (seen old c count) failure (seen f c count) text text faults faults) (sym same)
@@ -124,7 +123,7 @@ pub record FaultDone (what : Operator) (w : World) (old new : SystemFacts) (faul
 
 pub record Faulted (what : Operator) (old : Seen) (system : SystemFacts) (fault : StoreFault) : Type 0 where
   pub does : fault ≢ NoMemory → (w : World) → Matches w old → FaultDone what w old.system system fault
-  pub nothing : fault ≡ NoMemory → (w : World) → Matches w old → EventCounted Plain 0 0 (devices_in old.system) (devices_in system) × StandsAs system w.store
+  pub nothing : fault ≡ NoMemory → (w : World) → Matches w old → EventCounted Plain [] [] (devices_in old.system) (devices_in system) × StandsAs system w.store
 
 module _ (what : Operator) where
   -- a stop

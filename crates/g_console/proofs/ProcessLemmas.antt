@@ -1,9 +1,9 @@
 -- PROCESS on a store that is up: the one line that writes tapes, so that a write that fails in it is the disc's or the rack's.
-use Rattle.std.proofs.Common.{◌≡◌, ◌⊎◌, ◌-◌, ◌^◌, ◌==◌, ℕ, Bool, true, false, not, List, [], ◌∷◌, Option, Some, None, MatchOption, is_some, nat_lt, refl, sym, ◌∙◌, ap, arith, inl, inr}
+use Rattle.std.proofs.Common.{◌≡◌, ◌⊎◌, ◌≤◌, ◌-◌, ◌^◌, ◌==◌, ℕ, Bool, true, false, not, List, [], ◌∷◌, Option, Some, None, MatchOption, is_some, nat_lt, refl, ◌∙◌, ap, arith, inl, inr}
 use Rattle.std.specs.Prelude.{Result, Ok, Err}
 use Rattle.std.specs.List.{AllZip}
 use Rattle.g_base.specs.Counts.{Rose}
-use Rattle.g_base.proofs.CountLemmas.{HasRisenBy-Rose, RoseBy-none}
+use Rattle.g_base.proofs.CountLemmas.{HasRisenBy-Rose, Rose-later}
 use Rattle.g_tape.specs.Reel.{Reel}
 use Rattle.g_plain.specs.declared.faults.StoreFault.{StoreFault}
 use Rattle.g_plain.specs.declared.faults.StoreFault.TheVariants.{CountersSpent, DiscReadFault, DumpOpen, NoTape, RackNotMounted, ReelNotFree, Stopped, TapeFull, TapeReadFault}
@@ -29,6 +29,7 @@ use Rattle.g_console.specs.Parts.{DidLine, IsReady, seen}
 use Rattle.g_console.specs.Puts.{Puts}
 use Rattle.g_console.specs.System.{Up, devices_in, labels}
 use Rattle.g_console.specs.Telling.{TellsFault, system_after}
+use Rattle.g_console.proofs.LabelLemmas.{stands_still}
 use Rattle.g_console.proofs.UpLemmas.{Caused, Went, fault_line, granted_line}
 
 -- the reels are the same ones
@@ -61,8 +62,8 @@ module _ (old new : StoreFacts) (answer : Result ℕ StoreFault) (is : ProcessCa
         cuts_rose = none_failed was now disc_cut tape_cut;
         no_disc_read = λ e. disc;
         no_tape_read = λ e. tape;
-        disc_armed = RoseBy-none is.disc_arms;
-        tape_armed = RoseBy-none is.tape_arms;
+        disc_armed = is.disc_arms;
+        tape_armed = is.tape_arms;
       }
   process_counted DiscRead told =
       let tape = is.tape_read_only (λ e. let no : ◌≡◌ {A = Outcome} DiscRead TapeRead = told.tape_read e in cc) in
@@ -72,8 +73,8 @@ module _ (old new : StoreFacts) (answer : Result ℕ StoreFault) (is : ProcessCa
         cuts_rose = none_failed was now disc_cut tape_cut;
         no_disc_read = λ e. one_zero e;
         no_tape_read = λ e. tape;
-        disc_armed = RoseBy-none is.disc_arms;
-        tape_armed = RoseBy-none is.tape_arms;
+        disc_armed = is.disc_arms;
+        tape_armed = is.tape_arms;
       }
   process_counted TapeRead told =
       let disc = is.disc_read_only (λ e. let no : ◌≡◌ {A = Outcome} TapeRead DiscRead = told.disc_read e in cc) in
@@ -83,8 +84,8 @@ module _ (old new : StoreFacts) (answer : Result ℕ StoreFault) (is : ProcessCa
         cuts_rose = none_failed was now disc_cut tape_cut;
         no_disc_read = λ e. disc;
         no_tape_read = λ e. one_zero e;
-        disc_armed = RoseBy-none is.disc_arms;
-        tape_armed = RoseBy-none is.tape_arms;
+        disc_armed = is.disc_arms;
+        tape_armed = is.tape_arms;
       }
   process_counted Cut told =
       let disc = is.disc_read_only (λ e. let no : ◌≡◌ {A = Outcome} Cut DiscRead = told.disc_read e in cc) in
@@ -94,8 +95,8 @@ module _ (old new : StoreFacts) (answer : Result ℕ StoreFault) (is : ProcessCa
         cuts_rose = by (is.cut told.told);
         no_disc_read = λ e. disc;
         no_tape_read = λ e. tape;
-        disc_armed = RoseBy-none is.disc_arms;
-        tape_armed = RoseBy-none is.tape_arms;
+        disc_armed = is.disc_arms;
+        tape_armed = is.tape_arms;
       }
     where
       by : (Rose was.disc.write_faults now.disc.write_faults × (now.rack.write_faults ≡ was.rack.write_faults))
@@ -151,6 +152,20 @@ module _ (s : State) (k : Holding) (serial : ℕ) (u : State) where
       early_down o (process_refuses s k serial)
       (not_early (lacks s serial) (first_reel (λ r. not r.mounted) s.reels) (is_some s.open_dump) (k.last == 2 ^ 62 - 1) (open_number s.open_dump)) step
 
+-- no count of the disc falls in it
+process_reads : (answer : Result ℕ StoreFault) (old new : StoreFacts) → ProcessCause old new answer → old.online.disc.read_faults ≤ new.online.disc.read_faults
+process_reads (Err DiscReadFault) old new is = Rose-later (is.disc_read refl)
+process_reads answer old new is = stands_still old.online.disc.read_faults new.online.disc.read_faults (is.disc_read_only (λ e. let no : ⊥ = cc in no))
+
+process_writes : (answer : Result ℕ StoreFault) (old new : StoreFacts) → ProcessCause old new answer → old.online.disc.write_faults ≤ new.online.disc.write_faults
+process_writes (Err Stopped) old new is = by (is.cut refl)
+  where
+    by : (Rose old.online.disc.write_faults new.online.disc.write_faults × (new.rack.write_faults ≡ old.rack.write_faults))
+        ⊎ (Rose old.rack.write_faults new.rack.write_faults × (new.online.disc.write_faults ≡ old.online.disc.write_faults)) → old.online.disc.write_faults ≤ new.online.disc.write_faults
+    by (inl disc) = Rose-later disc.0
+    by (inr rack) = stands_still old.online.disc.write_faults new.online.disc.write_faults rack.1
+process_writes answer old new is = stands_still old.online.disc.write_faults new.online.disc.write_faults (is.uncut (λ e. let no : ⊥ = cc in no)).0
+
 -- ITS LINE
 module _ (serial : ℕ) (old new : StoreFacts) (c : CrewState) (ready : IsReady (Up old) c) (count : ℕ) where
   went_process : (answer : Result ℕ StoreFault) → Processed serial old answer new → Went (λ s k o a n. ProcessStep s k serial o a n) old answer new
@@ -162,7 +177,12 @@ module _ (serial : ℕ) (old new : StoreFacts) (c : CrewState) (ready : IsReady 
     still = λ told. process_counted old new answer is.answers.cause Plain told;
     disc_armed = is.answers.cause.disc_arms;
     rack_armed = is.answers.cause.tape_arms;
-    same = record { size = is.answers.cause.size; reels = labels_same old.rack.reels new.rack.reels is.answers.cause.reels };
+    same = record {
+      size = is.answers.cause.size;
+      reads = process_reads answer old new is.answers.cause;
+      writes = process_writes answer old new is.answers.cause;
+      reels = labels_same old.rack.reels new.rack.reels is.answers.cause.reels;
+    };
     dumps = λ was. is.dumps was.0 was.1;
   }
 

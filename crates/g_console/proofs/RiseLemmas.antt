@@ -1,8 +1,9 @@
 -- FORMAT, START AND RESTORE on a system that is down: it comes up, or isn't made, by the step of its state.
-use Rattle.std.proofs.Common.{◌≡◌, ℕ, ◌<◌, ◌≤◌, ◌++◌, true, false, List, [], ◌∷◌, Option, Some, None, refl, sym, ◌∙◌, ap, subst, inl, inr}
-use Rattle.std.specs.Prelude.{◌≢◌, ◌⊎◌, Bool, MatchBool, MatchOption, option_map, Result, Ok, Err, codes}
+use Rattle.std.proofs.Common.{◌≡◌, ℕ, ◌<◌, ◌≤◌, ◌++◌, false, List, [], ◌∷◌, Option, Some, None, refl, sym, ◌∙◌, ap, subst, inl, inr}
+use Rattle.std.specs.Prelude.{◌≢◌, Bool, MatchBool, MatchOption, option_map, Result, Ok, Err, codes}
 use Rattle.g_disc.specs.Disc.{Causes, DiscState}
 use Rattle.g_tape.specs.Rack.{Rack}
+use Rattle.g_tape.specs.Reads.{OnlyReads}
 use Rattle.g_plain.specs.declared.faults.StoreFault.{StoreFault}
 use Rattle.g_plain.specs.declared.faults.StoreFault.TheVariants.{DiscReadFault, NoMemory, RackNotEmpty, Running, Stopped, TapeReadFault}
 use Rattle.std.specs.Fmt.{decimal}
@@ -15,7 +16,8 @@ use Rattle.g_step.specs.DumpSteps.{Event}
 use Rattle.g_step.specs.Rising.{FormatStep, RestoreStep, Restores, StartStep, Starts, adopted, coming_up, dump_adopted, fault_from, restore_early, restore_late, restored, start_refuses}
 use Rattle.g_state.specs.Belong.{Belong}
 use Rattle.g_state.specs.Meaning.{told_reels}
-use Rattle.g_state.specs.Reading.{DevicesStandFor, StandsForState}
+use Rattle.g_state.specs.Answers.{Belongs, IsStore, Told}
+use Rattle.g_state.specs.Reading.{AllTold, DevicesStandFor, StandsForState}
 use Rattle.g_state.specs.Up.{StoreFacts}
 use Rattle.g_store.specs.Making.{Begun, Formats, LeadsDown, Makes, Refuses, RefusesFormat, RefusesRestore, RefusesStart, Restored, StepsDown, commits_of_start}
 use Rattle.g_script.specs.declared.operator.Operator.{Operator}
@@ -36,13 +38,13 @@ use Rattle.g_console.specs.Puts.{Puts}
 use Rattle.g_console.specs.System.{BelongTogether, Down, StandsAs, Up, devices_in}
 use Rattle.g_console.specs.Telling.{TellsFault, refusal_text}
 use Rattle.g_console.proofs.ByLemmas.{grown_by}
-use Rattle.g_console.proofs.CauseLemmas.{OfDisc, counted_by}
+use Rattle.g_console.proofs.CauseLemmas.{OfDisc, counted_by, same_caused}
 use Rattle.g_console.proofs.GrowLemmas.{grow_held}
 use Rattle.g_console.proofs.LeavesLemmas.{leaves_opened, leaves_told}
 use Rattle.g_console.proofs.LineLemmas.{FaultDone, Faulted, none_armed, refused_line, tells_fault, told_of, told_same, was_done}
 use Rattle.g_console.proofs.UpLemmas.{up_is}
 use Rattle.g_console.proofs.UserLemmas.{have_rows}
-use Rattle.g_console.proofs.LabelLemmas.{labels_read, no_fuse}
+use Rattle.g_console.proofs.LabelLemmas.{labels_read, no_fuse, same_still}
 
 -- a plain outcome of an answer that isn't refused
 pub plain_ok : {A : Type 0} (reply : A) → (let answer : Result A StoreFault = Ok reply in OutcomeTold Plain answer)
@@ -64,10 +66,26 @@ gone Stopped count c failure c' before after faults faults' jobs accounts tells 
 gone fault count c failure c' before after faults faults' jobs accounts tells =
     let (same, puts) = tells in (ap (λ (k : CrewState). k.jobs) same ∙ jobs, ap (λ (k : CrewState). k.accounts) same ∙ accounts)
 
+-- A STORE THAT CAME UP over devices of which this is given
+pub record CameUp {A : Type 0} (given : Type 0) (by : State → Outcome → Result A StoreFault → State → Type 0) (disc : DiscState) (rack : Rack) (reply : A) (new : StoreFacts) : Type 0 where
+  pub running : new.spent ≡ false
+  pub keeps : IsStore new
+  pub causes : Causes ⊥ ⊥ disc new.online.disc
+  pub tapes : OnlyReads rack new.rack
+  pub tape_read : new.rack.read_faults ≡ rack.read_faults
+  pub told : AllTold disc.held (told_reels rack) → Told new
+  pub step : AllTold disc.held (told_reels rack) → given → (s : State) → DevicesStandFor disc.size disc.held (told_reels rack) s → (u : State) × StandsForState new u × by s Plain (Ok reply) u
+  pub belongs : AllTold disc.held (told_reels rack) → given → Belongs new
+
+pub came_up : {A : Type 0} (given : Type 0) (by : State → Outcome → Result A StoreFault → State → Type 0) (count_of : A → ℕ) (disc : DiscState) (rack : Rack) (reply : A) (new : StoreFacts) → Makes given by count_of disc rack reply new
+    → CameUp given by disc rack reply new
+came_up given by count_of disc rack reply new m =
+    record { running = m.running; keeps = m.keeps; causes = m.causes; tapes = m.tapes; tape_read = m.tape_read; told = m.told; step = m.step; belongs = m.belongs }
+
 -- the events of one line, which brings the system up
-module _ {A : Type 0} (what : Operator) (given : Type 0) (by : State → Outcome → Result A StoreFault → State → Type 0) (said : A → List ℕ) (count_of : A → ℕ)
-    (lifts : (o : Outcome) (w next : World) → Rises o by said w next → LineGives o what w next) (counts : (o : Outcome) (d e : Devices) → EventCounted o 0 0 d e → CountedBy what o d e)
-    (no_disc : disc_arms what ≡ 0) (no_tape : tape_arms what ≡ 0) (disc : DiscState) (rack : Rack) (c : CrewState) (count : ℕ) (gives : (let d : Devices = record { disc = disc; rack = rack } in BelongTogether d) → given) where
+module _ {A : Type 0} (what : Operator) (given : Type 0) (by : State → Outcome → Result A StoreFault → State → Type 0) (said : A → List ℕ)
+    (lifts : (o : Outcome) (w next : World) → Rises o by said w next → LineGives o what w next) (counts : (o : Outcome) (d e : Devices) → EventCounted o [] [] d e → CountedBy what o d e)
+    (no_disc : disc_arms what ≡ []) (no_tape : tape_arms what ≡ []) (disc : DiscState) (rack : Rack) (c : CrewState) (count : ℕ) (gives : (let d : Devices = record { disc = disc; rack = rack } in BelongTogether d) → given) where
   abbrev old_devices : Devices
   old_devices = record { disc = disc; rack = rack }
 
@@ -83,7 +101,7 @@ module _ {A : Type 0} (what : Operator) (given : Type 0) (by : State → Outcome
       (r, s, step, told.told, is))
 
   -- IT COMES UP
-  module _ (reply : A) (new : StoreFacts) (makes : Makes given by count_of disc rack reply new) (empty : c.accounts ≡ []) (c' : CrewState) where
+  module _ (reply : A) (new : StoreFacts) (makes : CameUp given by disc rack reply new) (empty : c.accounts ≡ []) (c' : CrewState) where
     abbrev added : List ℕ
     added = operator_line count (said reply)
 
@@ -146,7 +164,7 @@ module _ {A : Type 0} (what : Operator) (given : Type 0) (by : State → Outcome
       arms = none_armed what failure old_devices (devices_in (Up new)) no_disc no_tape makes.causes.arms makes.tapes.arms;
       count = refl;
       fuses = no_fuse what no_disc no_tape (devices_in (Up new));
-      same = record { size = makes.causes.size; reels = labels_read rack.reels new.rack.reels makes.tapes.reels };
+      same = same_still old_devices (devices_in (Up new)) makes.causes.size (makes.causes.reads_kept (λ e. e)) (makes.causes.writes_kept (λ e. e)) (labels_read rack.reels new.rack.reels makes.tapes.reels);
       belongs = λ is. (makes.told is.told, makes.belongs is.told (gives is));
       dumps = λ is. grown_by (is_process what) rack new.rack (grow_held rack new.rack makes.tapes.reels);
       cause = puts.cause;
@@ -190,7 +208,7 @@ module _ {A : Type 0} (what : Operator) (given : Type 0) (by : State → Outcome
           stands = stands_down w m leads.after (stays w.store o leads.after m.stands.0 step) leads.left;
         }
 
-    nothing_done : fault ≡ NoMemory → (w : World) → Matches w before → EventCounted Plain 0 0 old_devices new_devices × StandsAs (Down new_devices) w.store
+    nothing_done : fault ≡ NoMemory → (w : World) → Matches w before → EventCounted Plain [] [] old_devices new_devices × StandsAs (Down new_devices) w.store
     nothing_done is w m =
         let here = m.stands.1 in
         let told : OutcomeTold {A = A} Plain (Err fault) = record {
@@ -224,7 +242,7 @@ module _ {A : Type 0} (what : Operator) (given : Type 0) (by : State → Outcome
         arms = none_armed what failure old_devices d no_disc no_tape refuses.causes.arms refuses.tapes.arms;
         count = refl;
         fuses = no_fuse what no_disc no_tape d;
-        same = record { size = refuses.causes.size; reels = labels_read rack.reels rack'.reels refuses.tapes.reels };
+        same = same_caused {A = A} (Err fault) old_devices d (of_fault fault disc' rack' refuses told_too stays).disc (labels_read rack.reels rack'.reels refuses.tapes.reels);
         belongs = λ is. record { told = refuses.told is.told; belong = refuses.belongs is.told is.belong };
         dumps = λ is. grown_by (is_process what) rack rack' (grow_held rack rack' refuses.tapes.reels);
         cause = both.1;
@@ -268,13 +286,13 @@ module _ (disc : DiscState) (rack : Rack) (c : CrewState) (count : ℕ) (ready :
       → Puts failure (operator_line count (codes "FORMATTED")) before_text after faults faults'
       → (let d : Devices = record { disc = disc; rack = rack } in DidLine line.Format (seen (Down d) c count) failure (seen (Up new) c' count) before_text after faults faults')
   formatted_line new is opens puts =
-      comes_up line.Format (Unit {0}) FormatStep (λ r. codes "FORMATTED") (λ reply. 1) (λ o w next it. it) (λ o d e it. it) refl refl disc rack c count (λ it. tt) tt new is.makes ready.3 c' failure before_text after faults faults' opens puts
+      comes_up line.Format (Unit {0}) FormatStep (λ r. codes "FORMATTED") (λ o w next it. it) (λ o d e it. it) refl refl disc rack c count (λ it. tt) tt new (came_up (Unit {0}) FormatStep (λ reply. 1) disc rack tt new is.makes) ready.3 c' failure before_text after faults faults' opens puts
 
   pub unformatted_line : (fault : StoreFault) (disc' : DiscState) (rack' : Rack) → RefusesFormat disc rack fault disc' rack' → TellsFault fault count c failure c' before_text after faults faults'
       → (let d : Devices = record { disc = disc; rack = rack } in let e : Devices = record { disc = disc'; rack = rack' } in
       DidLine line.Format (seen (Down d) c count) failure (seen (Down e) c' count) before_text after faults faults')
   unformatted_line fault disc' rack' is tells =
-      not_made line.Format (Unit {0}) FormatStep (λ r. codes "FORMATTED") (λ reply. 1) (λ o w next it. it) (λ o d e it. it) refl refl disc rack c count (λ it. tt) fault disc' rack' is.refuses
+      not_made line.Format (Unit {0}) FormatStep (λ r. codes "FORMATTED") (λ o w next it. it) (λ o d e it. it) refl refl disc rack c count (λ it. tt) fault disc' rack' is.refuses
       (λ s o u step. format_told s o (Err fault) u step) (format_down fault) failure c' before_text after faults faults' ready tells
 
   -- START
@@ -282,13 +300,13 @@ module _ (disc : DiscState) (rack : Rack) (c : CrewState) (count : ℕ) (ready :
       → Puts failure (operator_line count (started_text number)) before_text after faults faults'
       → (let d : Devices = record { disc = disc; rack = rack } in DidLine line.Start (seen (Down d) c count) failure (seen (Up new) c' count) before_text after faults faults')
   started_line number new is opens puts =
-      comes_up line.Start (Belong disc.held rack) StartStep started_text commits_of_start (λ o w next it. it) (λ o d e it. it) refl refl disc rack c count (λ it. it.belong) number new is.makes ready.3 c' failure before_text after faults faults' opens puts
+      comes_up line.Start (Belong disc.held rack) StartStep started_text (λ o w next it. it) (λ o d e it. it) refl refl disc rack c count (λ it. it.belong) number new (came_up (Belong disc.held rack) StartStep commits_of_start disc rack number new is.makes) ready.3 c' failure before_text after faults faults' opens puts
 
   pub unstarted_line : (fault : StoreFault) (disc' : DiscState) (rack' : Rack) → RefusesStart disc rack fault disc' rack' → TellsFault fault count c failure c' before_text after faults faults'
       → (let d : Devices = record { disc = disc; rack = rack } in let e : Devices = record { disc = disc'; rack = rack' } in
       DidLine line.Start (seen (Down d) c count) failure (seen (Down e) c' count) before_text after faults faults')
   unstarted_line fault disc' rack' is tells =
-      not_made line.Start (Belong disc.held rack) StartStep started_text commits_of_start (λ o w next it. it) (λ o d e it. it) refl refl disc rack c count (λ it. it.belong) fault disc' rack' is.refuses
+      not_made line.Start (Belong disc.held rack) StartStep started_text (λ o w next it. it) (λ o d e it. it) refl refl disc rack c count (λ it. it.belong) fault disc' rack' is.refuses
       (λ s o u step. start_told s o (Err fault) u step) (start_down fault) failure c' before_text after faults faults' ready tells
 
   -- RESTORE
@@ -296,18 +314,18 @@ module _ (disc : DiscState) (rack : Rack) (c : CrewState) (count : ℕ) (ready :
       → Puts failure (operator_line count (codes "RESTORED FROM DUMP " ++ decimal number)) before_text after faults faults'
       → (let d : Devices = record { disc = disc; rack = rack } in DidLine line.Restore (seen (Down d) c count) failure (seen (Up new) c' count) before_text after faults faults')
   restored_line number new is opens puts =
-      comes_up line.Restore (Belong disc.held rack) RestoreStep (λ n. codes "RESTORED FROM DUMP " ++ decimal n) (λ n. 1) (λ o w next it. it) (λ o d e it. it) refl refl disc rack c count (λ it. it.belong) number new is.makes ready.3 c' failure before_text after faults faults' opens puts
+      comes_up line.Restore (Belong disc.held rack) RestoreStep (λ n. codes "RESTORED FROM DUMP " ++ decimal n) (λ o w next it. it) (λ o d e it. it) refl refl disc rack c count (λ it. it.belong) number new (came_up (Belong disc.held rack) RestoreStep (λ n. 1) disc rack number new is.makes) ready.3 c' failure before_text after faults faults' opens puts
 
   pub unrestored_line : (fault : StoreFault) (disc' : DiscState) (rack' : Rack) → RefusesRestore disc rack fault disc' rack' → TellsFault fault count c failure c' before_text after faults faults'
       → (let d : Devices = record { disc = disc; rack = rack } in let e : Devices = record { disc = disc'; rack = rack' } in
       DidLine line.Restore (seen (Down d) c count) failure (seen (Down e) c' count) before_text after faults faults')
   unrestored_line fault disc' rack' is tells =
-      not_made line.Restore (Belong disc.held rack) RestoreStep (λ n. codes "RESTORED FROM DUMP " ++ decimal n) (λ n. 1) (λ o w next it. it) (λ o d e it. it) refl refl disc rack c count (λ it. it.belong) fault disc' rack' is.refuses
+      not_made line.Restore (Belong disc.held rack) RestoreStep (λ n. codes "RESTORED FROM DUMP " ++ decimal n) (λ o w next it. it) (λ o d e it. it) refl refl disc rack c count (λ it. it.belong) fault disc' rack' is.refuses
       (λ s o u step. restore_told s o (Err fault) u step) (restore_down fault) failure c' before_text after faults faults' ready tells
 
 -- a system that is up doesn't come up
 pub running_line : {A : Type 0} (what : Operator) (by : State → Outcome → Result A StoreFault → State → Type 0) (said : A → List ℕ)
-    → ((o : Outcome) (w next : World) → Rises o by said w next → LineGives o what w next) → disc_arms what ≡ 0 → tape_arms what ≡ 0
+    → ((o : Outcome) (w next : World) → Rises o by said w next → LineGives o what w next) → disc_arms what ≡ [] → tape_arms what ≡ []
     → (s : StoreFacts) (c : CrewState) → IsReady (Up s) c → (count : ℕ) (failure : Option Failure) (before_text after : Option (List ℕ)) (faults faults' : ℕ)
     → Puts failure (refusal_text count Running) before_text after faults faults' → DidLine what (seen (Up s) c count) failure (seen (Up s) c count) before_text after faults faults'
 running_line {A = A} what by said lifts no_disc no_tape s c ready count failure before_text after faults faults' puts =

@@ -1,9 +1,10 @@
 -- A DEVICE IS ARMED by a line.
-use Rattle.std.proofs.Common.{◌≡◌, ℕ, ◌+◌, ◌<◌, ◌≤◌, ◌++◌, List, Option, refl, sym, ◌∙◌, ap, subst, arith}
+use Rattle.std.proofs.Common.{◌≡◌, ℕ, ◌+◌, ◌<◌, ◌≤◌, ◌++◌, List, [], ◌∷◌, Option, refl, sym, ◌∙◌, ap, subst, arith}
 use Rattle.std.specs.Prelude.{codes}
-use Rattle.g_base.specs.Counts.{HasRisenBy, RoseBy, one_more}
-use Rattle.g_base.proofs.CountLemmas.{HasRisenBy-none, RoseBy-none, RoseBy-one}
-use Rattle.g_step.specs.State.{State}
+use Rattle.g_base.specs.Counts.{HasRisenBy}
+use Rattle.g_base.specs.Fuse.{IsArmedBy, armed_with}
+use Rattle.g_base.proofs.CountLemmas.{HasRisenBy-none}
+use Rattle.g_base.proofs.FuseLemmas.{within_all, within_none}
 use Rattle.g_step.specs.CallStep.{Plain}
 use Rattle.g_state.specs.Up.{StoreFacts}
 use Rattle.g_store.specs.Arming.{MeansTheSame}
@@ -18,8 +19,9 @@ use Rattle.g_console.specs.declared.progress.Failure.{Failure}
 use Rattle.g_console.specs.Arming.{HasArmed, disc_armed, tape_armed}
 use Rattle.g_console.specs.Parts.{ArmsBy, DidLine, DoesLine, IsReady, Matches, seen}
 use Rattle.g_console.specs.Puts.{Puts}
-use Rattle.g_console.specs.System.{Down, IsNow, StandsAs, SystemBelongs, SystemFacts, Up, devices_in, DumpsGrow, SameDevices}
+use Rattle.g_console.specs.System.{Down, SystemFacts, Up, devices_in, DumpsGrow, SameDevices}
 use Rattle.g_console.proofs.GrowLemmas.{grow_held}
+use Rattle.g_console.proofs.LabelLemmas.{same_still}
 use Rattle.g_console.proofs.LeavesLemmas.{leaves_same}
 use Rattle.g_console.proofs.LineLemmas.{was_done}
 
@@ -55,26 +57,26 @@ tape_down k d = record {
 none_rose : (a : ℕ) → HasRisenBy 0 a a
 none_rose a = HasRisenBy-none (omega arith)
 
-disc_counted : (k : ℕ) (d : Devices) → EventCounted Plain 1 0 d (disc_armed k d)
+disc_counted : (k : ℕ) (d : Devices) → EventCounted Plain (k ∷ []) [] d (disc_armed k d)
 disc_counted k d = record {
   disc_reads_rose = none_rose d.disc.read_faults;
   tape_reads_rose = none_rose d.rack.read_faults;
   cuts_rose = none_failed d (disc_armed k d) refl refl;
   no_disc_read = λ e. refl;
   no_tape_read = λ e. refl;
-  disc_armed = RoseBy-one refl;
-  tape_armed = RoseBy-none refl;
+  disc_armed = (d.disc.writes, refl);
+  tape_armed = refl;
 }
 
-tape_counted : (k : ℕ) (d : Devices) → EventCounted Plain 0 1 d (tape_armed k d)
+tape_counted : (k : ℕ) (d : Devices) → EventCounted Plain [] (k ∷ []) d (tape_armed k d)
 tape_counted k d = record {
   disc_reads_rose = none_rose d.disc.read_faults;
   tape_reads_rose = none_rose d.rack.read_faults;
   cuts_rose = none_failed d (tape_armed k d) refl refl;
   no_disc_read = λ e. refl;
   no_tape_read = λ e. refl;
-  disc_armed = RoseBy-none refl;
-  tape_armed = RoseBy-one refl;
+  disc_armed = refl;
+  tape_armed = (d.rack.write_faults, refl);
 }
 
 module _ (k : ℕ) (old new : SystemFacts) (c : CrewState) (count : ℕ) where
@@ -84,9 +86,9 @@ module _ (k : ℕ) (old new : SystemFacts) (c : CrewState) (count : ℕ) where
   disc_does : HasArmed (disc_armed k) old new → (w : World) → Matches w (seen old c count) → DoesLine (line.StopDisc k) w old new set_text
   disc_does armed w m = record {
     outcome = Plain;
-    next = says (codes "STOP SET") (record w { disc_stops = w.disc_stops + 1 });
+    next = says (codes "STOP SET") (record w { disc_stops = w.disc_stops ++ k ∷ [] });
     gives = (refl, refl);
-    counted = subst (EventCounted Plain 1 0 (devices_in old)) (sym armed.devices) (disc_counted k (devices_in old));
+    counted = subst (EventCounted Plain (k ∷ []) [] (devices_in old)) (sym armed.devices) (disc_counted k (devices_in old));
     stands = armed.stands w.store m.stands;
     text = ap (λ (n : ℕ). w.text ++ operator_line n (codes "STOP SET")) m.count;
   }
@@ -94,9 +96,9 @@ module _ (k : ℕ) (old new : SystemFacts) (c : CrewState) (count : ℕ) where
   tape_does : HasArmed (tape_armed k) old new → (w : World) → Matches w (seen old c count) → DoesLine (line.StopTape k) w old new set_text
   tape_does armed w m = record {
     outcome = Plain;
-    next = says (codes "STOP SET") (record w { tape_stops = w.tape_stops + 1 });
+    next = says (codes "STOP SET") (record w { tape_stops = w.tape_stops ++ k ∷ [] });
     gives = (refl, refl);
-    counted = subst (EventCounted Plain 0 1 (devices_in old)) (sym armed.devices) (tape_counted k (devices_in old));
+    counted = subst (EventCounted Plain [] (k ∷ []) (devices_in old)) (sym armed.devices) (tape_counted k (devices_in old));
     stands = armed.stands w.store m.stands;
     text = ap (λ (n : ℕ). w.text ++ operator_line n (codes "STOP SET")) m.count;
   }
@@ -114,10 +116,14 @@ module _ (k : ℕ) (old new : SystemFacts) (c : CrewState) (count : ℕ) where
     ready = armed.ready c ready;
     crew = λ none. leaves_same c;
     arms = subst (ArmsBy (line.StopDisc k) failure (devices_in old)) (sym armed.devices)
-        (record { disc = (1, omega arith, RoseBy-one refl); tape = (0, omega arith, RoseBy-none refl); all = λ through. (RoseBy-one refl, RoseBy-none refl) });
+        (let d : Devices = devices_in old in let once : IsArmedBy (k ∷ []) d.disc.arms (disc_armed k d).disc.arms = (d.disc.writes, refl) in record {
+          disc = within_all (k ∷ []) d.disc.arms (disc_armed k d).disc.arms once;
+          tape = within_none [] d.rack.arms d.rack.arms refl;
+          all = λ through. (once, refl);
+        });
     count = refl;
     fuses = ap (λ (d : Devices). d.disc.fuse) armed.devices;
-    same = subst (λ (d : Devices). SameDevices (devices_in old) d) (sym armed.devices) (record { size = refl; reels = refl });
+    same = subst (λ (d : Devices). SameDevices (devices_in old) d) (sym armed.devices) (same_still (devices_in old) (disc_armed k (devices_in old)) refl refl refl refl);
     belongs = armed.belongs;
     dumps = λ was. subst (λ (d : Devices). DumpsGrow (devices_in old).rack d.rack) (sym armed.devices) (grow_held (devices_in old).rack (disc_armed k (devices_in old)).rack refl);
     cause = puts.cause;
@@ -136,10 +142,14 @@ module _ (k : ℕ) (old new : SystemFacts) (c : CrewState) (count : ℕ) where
     ready = armed.ready c ready;
     crew = λ none. leaves_same c;
     arms = subst (ArmsBy (line.StopTape k) failure (devices_in old)) (sym armed.devices)
-        (record { disc = (0, omega arith, RoseBy-none refl); tape = (1, omega arith, RoseBy-one refl); all = λ through. (RoseBy-none refl, RoseBy-one refl) });
+        (let d : Devices = devices_in old in let once : IsArmedBy (k ∷ []) d.rack.arms (tape_armed k d).rack.arms = (d.rack.write_faults, refl) in record {
+          disc = within_none [] d.disc.arms d.disc.arms refl;
+          tape = within_all (k ∷ []) d.rack.arms (tape_armed k d).rack.arms once;
+          all = λ through. (refl, once);
+        });
     count = refl;
     fuses = ap (λ (d : Devices). d.rack.fuse) armed.devices;
-    same = subst (λ (d : Devices). SameDevices (devices_in old) d) (sym armed.devices) (record { size = refl; reels = refl });
+    same = subst (λ (d : Devices). SameDevices (devices_in old) d) (sym armed.devices) (same_still (devices_in old) (tape_armed k (devices_in old)) refl refl refl refl);
     belongs = armed.belongs;
     dumps = λ was. subst (λ (d : Devices). DumpsGrow (devices_in old).rack d.rack) (sym armed.devices) (grow_held (devices_in old).rack (tape_armed k (devices_in old)).rack refl);
     cause = puts.cause;

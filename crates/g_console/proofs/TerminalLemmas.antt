@@ -55,7 +55,7 @@ more_none None = refl
 more_none (Some bytes) = ap (λ (l : List ℕ). let o : Option (List ℕ) = Some l in o) (sym (append-nil bytes))
 
 -- nothing was done, for want of memory
-nothing_done : (what : Operator) → disc_arms what ≡ 0 → tape_arms what ≡ 0 → (f : SystemFacts) (c : CrewState) (count : ℕ) → IsReady f c → (failure : Option Failure) (c' : CrewState) (before after : Option (List ℕ)) (faults faults' : ℕ)
+nothing_done : (what : Operator) → disc_arms what ≡ [] → tape_arms what ≡ [] → (f : SystemFacts) (c : CrewState) (count : ℕ) → IsReady f c → (failure : Option Failure) (c' : CrewState) (before after : Option (List ℕ)) (faults faults' : ℕ)
     → DidNothing c failure c' before after faults faults' → DidLine what (seen f c count) failure (seen f c' count) before after faults faults'
 nothing_done what no_disc no_tape f c count ready failure c' before after faults faults' (failed, same, text, still) =
     subst (λ (k : CrewState). DidLine what (seen f c count) failure (seen f k count) before after faults faults') (sym same)
@@ -209,7 +209,7 @@ login_on login (Up s) known knows c ready count failure c' before after faults f
 login_on login (Down d) known is c ready count failure c' before after faults faults' seats = let never : ⊥ = cc in absurd never
 
 -- a line that a system that is down refuses
-down_line : (what : Operator) → disc_arms what ≡ 0 → tape_arms what ≡ 0 → (d : Devices) (c : CrewState) (count : ℕ) → ((w : World) → w.store.up ≡ false → LineGives Plain what w (line_refused NotStarted w)) → IsReady (Down d) c
+down_line : (what : Operator) → disc_arms what ≡ [] → tape_arms what ≡ [] → (d : Devices) (c : CrewState) (count : ℕ) → ((w : World) → w.store.up ≡ false → LineGives Plain what w (line_refused NotStarted w)) → IsReady (Down d) c
     → (failure : Option Failure) (c' : CrewState) (before after : Option (List ℕ)) (faults faults' : ℕ) → TellsFault NotStarted count c failure c' before after faults faults'
     → DidLine what (seen (Down d) c count) failure (seen (Down d) c' count) before after faults faults'
 down_line what no_disc no_tape d c count gives ready failure c' before after faults faults' (crew, puts) =
@@ -270,7 +270,7 @@ module _ (t count : ℕ) (c c' : CrewState) where
   unleft_is failure before after old new why None at is puts = typed_none t count logged_out c c' failure before after old new at is puts
   unleft_is failure before after old new why (Some job) at is puts = absurd is
 
-module _ (t : ℕ) (change : JobState → JobState) (stays : (j : JobState) → (change j).over ≡ j.over) (what : Operator) (no_disc : disc_arms what ≡ 0) (no_tape : tape_arms what ≡ 0)
+module _ (t : ℕ) (change : JobState → JobState) (stays : (j : JobState) → (change j).over ≡ j.over) (what : Operator) (no_disc : disc_arms what ≡ []) (no_tape : tape_arms what ≡ [])
     (gives : (w next : World) → w.store.up ≡ true → next ≡ at_terminal t change w → LineGives Plain what w next) (s : StoreFacts) (c : CrewState) (ready : IsReady (Up s) c) (count : ℕ) where
   abbrev before_it : Seen
   before_it = seen (Up s) c count

@@ -1,5 +1,5 @@
 -- A REEL'S LINE: it was mounted or unmounted, or it was refused.
-use Rattle.std.proofs.Common.{◌≡◌, ℕ, ◌<◌, ◌≤◌, ◌++◌, List, Option, refl, sym, ◌∙◌, ap, subst}
+use Rattle.std.proofs.Common.{◌≡◌, ℕ, ◌<◌, ◌≤◌, ◌++◌, List, [], Option, refl, sym, ◌∙◌, ap, subst}
 use Rattle.std.specs.Prelude.{◌≢◌, Result, Ok, Err, codes}
 use Rattle.g_disc.specs.Disc.{DiscState}
 use Rattle.g_plain.specs.declared.faults.StoreFault.{StoreFault}
@@ -25,11 +25,11 @@ use Rattle.g_console.specs.Telling.{refusal_text}
 use Rattle.g_console.proofs.LeavesLemmas.{leaves_same}
 use Rattle.g_console.proofs.ByLemmas.{grown_by, plain_counted}
 use Rattle.g_console.proofs.LineLemmas.{none_armed, was_done}
-use Rattle.g_console.proofs.LabelLemmas.{no_fuse}
+use Rattle.g_console.proofs.LabelLemmas.{no_fuse, same_still}
 
 -- no count moved
 counted_same : (old new : Devices) → new.disc ≡ old.disc → new.rack.read_faults ≡ old.rack.read_faults → new.rack.write_faults ≡ old.rack.write_faults → new.rack.arms ≡ old.rack.arms
-    → EventCounted Plain 0 0 old new
+    → EventCounted Plain [] [] old new
 counted_same old new disc reads writes arms =
     happened_same old new (ap (λ (d : DiscState). d.read_faults) disc) (ap (λ (d : DiscState). d.write_faults) disc) (ap (λ (d : DiscState). d.arms) disc) reads writes arms
 
@@ -47,7 +47,7 @@ told_refusal : (done : Unit {0} → State → World → World) (fault : StoreFau
 told_refusal done Stopped u w other = absurd (other refl)
 told_refusal done fault u w other = refl
 
-module _ (what : Operator) (no_disc : disc_arms what ≡ 0) (no_tape : tape_arms what ≡ 0) (by : State → Result (Unit {0}) StoreFault → State → Type 0) (text : List ℕ)
+module _ (what : Operator) (no_disc : disc_arms what ≡ []) (no_tape : tape_arms what ≡ []) (by : State → Result (Unit {0}) StoreFault → State → Type 0) (text : List ℕ)
     (lifts : (w next : World) (r : Result (Unit {0}) StoreFault) (s : State) → by w.store r s → next ≡ tells (λ x t v. now_stands text t v) r s w → LineGives Plain what w next)
     (old new : SystemFacts) (c : CrewState) (count : ℕ) where
   counted_here : (answer : Result (Unit {0}) StoreFault) → StepsReels by old answer new → CountedBy what Plain (devices_in old) (devices_in new)
@@ -110,7 +110,7 @@ module _ (what : Operator) (no_disc : disc_arms what ≡ 0) (no_tape : tape_arms
     arms = none_armed what failure (devices_in old) (devices_in new) no_disc no_tape (ap (λ (d : DiscState). d.arms) is.disc) is.arms;
     count = refl;
     fuses = no_fuse what no_disc no_tape (devices_in new);
-    same = record { size = ap (λ (d : DiscState). d.size) is.disc; reels = is.reels };
+    same = same_still (devices_in old) (devices_in new) (ap (λ (d : DiscState). d.size) is.disc) (ap (λ (d : DiscState). d.read_faults) is.disc) (ap (λ (d : DiscState). d.write_faults) is.disc) is.reels;
     belongs = is.belongs;
     dumps = λ was. grown_by (is_process what) (devices_in old).rack (devices_in new).rack is.dumps;
     cause = puts.cause;

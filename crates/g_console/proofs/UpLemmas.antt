@@ -1,9 +1,8 @@
 -- AN EVENT OF A STORE THAT IS UP, asked by a line: it is granted, refused or stopped, by the step of its state.
-use Rattle.std.proofs.Common.{◌≡◌, ℕ, ◌+◌, ◌++◌, Bool, true, false, List, [], Option, Some, None, refl, sym, ◌∙◌, ap, subst, inl, inr}
-use Rattle.std.specs.Prelude.{◌≢◌, ◌⊎◌, ◌↔◌, MatchBool, Result, Ok, Err, codes}
-use Rattle.std.proofs.lemmas.Bool.{cases_Bool, false≢true}
+use Rattle.std.proofs.Common.{◌≡◌, ℕ, ◌+◌, ◌++◌, Bool, true, false, List, [], Option, Some, None, refl, sym, ap, subst, inl, inr}
+use Rattle.std.specs.Prelude.{◌≢◌, ◌↔◌, MatchBool, Result, Ok, Err, codes}
 use Rattle.g_plain.specs.declared.faults.StoreFault.{StoreFault}
-use Rattle.g_plain.specs.declared.faults.StoreFault.TheVariants.{DiscReadFault, NoMemory, NotStarted, Stopped, TapeReadFault}
+use Rattle.g_plain.specs.declared.faults.StoreFault.TheVariants.{NoMemory, NotStarted, Stopped}
 use Rattle.g_name.specs.declared.full.Full.{Full}
 use Rattle.g_name.specs.declared.path.Path.{Path}
 use Rattle.g_monitor.specs.Parts.{full_text}
@@ -30,13 +29,13 @@ use Rattle.g_crew.specs.Crew.{CrewState}
 use Rattle.g_console.specs.declared.progress.Failure.{Failure}
 use Rattle.g_console.specs.Parts.{ArmsBy, DidLine, DoesLine, DumpsBy, IsReady, CountedBy, Matches, Seen, disc_arms, seen, tape_arms}
 use Rattle.g_console.specs.Puts.{Puts}
-use Rattle.g_console.specs.System.{Down, IsNow, StandsAs, SystemBelongs, SystemFacts, Up, devices_in, SameDevices}
-use Rattle.g_console.specs.Telling.{TellsFault, refusal_text, system_after, without_jobs}
+use Rattle.g_console.specs.System.{Down, StandsAs, SystemBelongs, SystemFacts, Up, devices_in, SameDevices}
+use Rattle.g_console.specs.Telling.{TellsFault, refusal_text, system_after}
 use Rattle.g_console.proofs.ByLemmas.{grown_by}
-use Rattle.g_console.proofs.CauseLemmas.{OfDisc, counted_by}
+use Rattle.g_console.proofs.CauseLemmas.{OfDisc, counted_by, same_caused}
 use Rattle.g_console.proofs.GrowLemmas.{grow_held}
 use Rattle.g_console.proofs.LeavesLemmas.{leaves_same, leaves_told}
-use Rattle.g_console.proofs.LineLemmas.{FaultDone, Faulted, none_armed, refused_line, tells_fault, told_of, told_same, was_done}
+use Rattle.g_console.proofs.LineLemmas.{FaultDone, none_armed, refused_line, tells_fault, told_of, told_same, was_done}
 use Rattle.g_console.proofs.LabelLemmas.{labels_read, no_fuse}
 
 -- the state of a store that is up is up
@@ -67,7 +66,7 @@ went by count_of old new answer event = record { step = event.step; keeps = even
 -- AND WHAT IT MAKES OF THE DEVICES: what they counted, that nobody armed them, that they are the same, and what became of completed dumps
 pub record Caused {A : Type 0} (what : Operator) (old : StoreFacts) (answer : Result A StoreFault) (new : StoreFacts) : Type 0 where
   pub counted : (o : Outcome) → OutcomeTold o answer → CountedBy what o (devices_in (Up old)) (devices_in (Up new))
-  pub still : OutcomeTold Plain answer → EventCounted Plain 0 0 (devices_in (Up old)) (devices_in (Up new))
+  pub still : OutcomeTold Plain answer → EventCounted Plain [] [] (devices_in (Up old)) (devices_in (Up new))
   pub disc_armed : new.online.disc.arms ≡ old.online.disc.arms
   pub rack_armed : new.rack.arms ≡ old.rack.arms
   pub same : SameDevices (devices_in (Up old)) (devices_in (Up new))
@@ -83,13 +82,13 @@ of_cause old new answer cause = record {
 }
 
 -- of an event that writes no tape
-caused : {A : Type 0} (what : Operator) → ((o : Outcome) (d e : Devices) → EventCounted o 0 0 d e → CountedBy what o d e) → (old new : StoreFacts) (answer : Result A StoreFault) → HasCause old new answer → Caused what old answer new
+caused : {A : Type 0} (what : Operator) → ((o : Outcome) (d e : Devices) → EventCounted o [] [] d e → CountedBy what o d e) → (old new : StoreFacts) (answer : Result A StoreFault) → HasCause old new answer → Caused what old answer new
 caused what counts old new answer cause = record {
   counted = λ o told. counts o (devices_in (Up old)) (devices_in (Up new)) (counted_by answer (devices_in (Up old)) (devices_in (Up new)) (of_cause old new answer cause) o told);
   still = λ told. counted_by answer (devices_in (Up old)) (devices_in (Up new)) (of_cause old new answer cause) Plain told;
   disc_armed = cause.disc.arms;
   rack_armed = cause.tapes.arms;
-  same = record { size = cause.disc.size; reels = labels_read old.rack.reels new.rack.reels cause.tapes.reels };
+  same = same_caused answer (devices_in (Up old)) (devices_in (Up new)) cause.disc (labels_read old.rack.reels new.rack.reels cause.tapes.reels);
   dumps = λ is. grown_by (is_process what) old.rack new.rack (grow_held old.rack new.rack cause.tapes.reels);
 }
 
@@ -100,7 +99,7 @@ same_devices fault s = refl
 
 module _ {A : Type 0} (what : Operator) (by : State → Holding → Outcome → Result A StoreFault → State → Type 0) (said : A → List ℕ)
     (lifts : (o : Outcome) (w next : World) → NeedsUp o (λ r s. (k : Holding) × (w.store.holding ≡ Some k) × by w.store k o r s × IsTold o r) said w next → LineGives o what w next)
-    (no_disc : disc_arms what ≡ 0) (no_tape : tape_arms what ≡ 0)
+    (no_disc : disc_arms what ≡ []) (no_tape : tape_arms what ≡ [])
     (told_too : (s : State) (k : Holding) (o : Outcome) (r : Result A StoreFault) (u : State) → by s k o r u → ToldBy (by s k) o r u)
     (old new : StoreFacts) (unspent : old.spent ≡ false) (c : CrewState) (count : ℕ) where
   abbrev before : Seen
@@ -187,7 +186,7 @@ module _ {A : Type 0} (what : Operator) (by : State → Holding → Outcome → 
               (λ e. stays w.store leads.held o leads.after (subst (λ (f : StoreFault). by w.store leads.held o (Err f) leads.after) e step)) leads.left;
         }
 
-    nothing_done : fault ≡ NoMemory → (w : World) → Matches w before → EventCounted Plain 0 0 (devices_in (Up old)) (devices_in system) × StandsAs system w.store
+    nothing_done : fault ≡ NoMemory → (w : World) → Matches w before → EventCounted Plain [] [] (devices_in (Up old)) (devices_in system) × StandsAs system w.store
     nothing_done is w m =
         let here = m.stands in
         let told : OutcomeTold {A = A} Plain (Err fault) = record {
@@ -196,7 +195,7 @@ module _ {A : Type 0} (what : Operator) (by : State → Holding → Outcome → 
           tape_read = λ e. let no : ⊥ = cc in absurd no;
           cut = λ e. let no : ⊥ = cc in absurd no;
         } in (
-          subst (λ (d : Devices). EventCounted Plain 0 0 (devices_in (Up old)) d) (sym (same_devices fault new)) (cause.still told),
+          subst (λ (d : Devices). EventCounted Plain [] [] (devices_in (Up old)) d) (sym (same_devices fault new)) (cause.still told),
           stands_by fault refl w m w.store (λ e. let no : ⊥ = cc in absurd no)
               (subst (λ (f : StoreFault). StepsBy by w.store old (Err f) new) is (event.step here.told here.belongs w.store here.stands)),
         )
@@ -243,7 +242,7 @@ stop_down (Some f) reply s after u (same, is) = let never : ⊥ = cc in absurd n
 -- a system that is down is asked for nothing
 pub down_line : {A : Type 0} (what : Operator) (by : State → Holding → Outcome → Result A StoreFault → State → Type 0) (said : A → List ℕ)
     → ((o : Outcome) (w next : World) → NeedsUp o (λ r s. (k : Holding) × (w.store.holding ≡ Some k) × by w.store k o r s × IsTold o r) said w next → LineGives o what w next)
-    → disc_arms what ≡ 0 → tape_arms what ≡ 0 → (d : Devices) (c : CrewState) (count : ℕ) → IsReady (Down d) c → (failure : Option Failure) (before_text after : Option (List ℕ)) (faults faults' : ℕ)
+    → disc_arms what ≡ [] → tape_arms what ≡ [] → (d : Devices) (c : CrewState) (count : ℕ) → IsReady (Down d) c → (failure : Option Failure) (before_text after : Option (List ℕ)) (faults faults' : ℕ)
     → Puts failure (refusal_text count NotStarted) before_text after faults faults' → DidLine what (seen (Down d) c count) failure (seen (Down d) c count) before_text after faults faults'
 down_line {A = A} what by said lifts no_disc no_tape d c count ready failure before_text after faults faults' puts =
     refused_line what no_disc no_tape NotStarted (Down d) c count

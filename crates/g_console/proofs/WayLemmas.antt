@@ -1,5 +1,5 @@
 -- THE THREE LINES THAT BRING A SYSTEM UP, by which it is.
-use Rattle.std.proofs.Common.{◌≡◌, false, ℕ, ◌++◌, List, Option, None, refl, sym, subst, inl, inr}
+use Rattle.std.proofs.Common.{◌≡◌, false, ℕ, ◌++◌, List, [], Option, None, refl, sym, subst, inl, inr}
 use Rattle.std.specs.Prelude.{Result, IfOk, codes}
 use Rattle.std.specs.Fmt.{decimal}
 use Rattle.g_disc.specs.Disc.{DiscState}
@@ -24,12 +24,12 @@ use Rattle.g_console.proofs.LineLemmas.{untried_line}
 use Rattle.g_console.proofs.RiseLemmas.{formatted_line, restored_line, running_line, started_line, unformatted_line, unrestored_line, unstarted_line}
 use Rattle.g_script.specs.declared.operator.Operator.TheVariants as line
 
-no_disc : (how : Rise) → disc_arms (line_of how) ≡ 0
+no_disc : (how : Rise) → disc_arms (line_of how) ≡ []
 no_disc rise.Format = refl
 no_disc rise.Start = refl
 no_disc rise.Restore = refl
 
-no_tape : (how : Rise) → tape_arms (line_of how) ≡ 0
+no_tape : (how : Rise) → tape_arms (line_of how) ≡ []
 no_tape rise.Format = refl
 no_tape rise.Start = refl
 no_tape rise.Restore = refl

@@ -1,6 +1,6 @@
 -- A DEVICE IS ARMED: its fuse is set, and the arming is counted. Nothing changes of what the system stands for.
 use Rattle.std.specs.Prelude.{◌≡◌, ℕ, Some}
-use Rattle.g_base.specs.Counts.{one_more}
+use Rattle.g_base.specs.Fuse.{armed_with}
 use Rattle.g_step.specs.State.{State}
 use Rattle.g_world.specs.Devices.{Devices}
 use Rattle.g_crew.specs.Crew.{CrewState}
@@ -8,10 +8,10 @@ use Rattle.g_console.specs.Parts.{IsReady}
 use Rattle.g_console.specs.System.{StandsAs, SystemBelongs, SystemFacts, devices_in}
 
 abbrev pub disc_armed : ℕ → Devices → Devices
-disc_armed k d = record d { disc = record d.disc { fuse = Some k; arms = one_more d.disc.arms } }
+disc_armed k d = record d { disc = record d.disc { fuse = Some k; arms = armed_with k d.disc.writes d.disc.arms } }
 
 abbrev pub tape_armed : ℕ → Devices → Devices
-tape_armed k d = record d { rack = record d.rack { fuse = Some k; arms = one_more d.rack.arms } }
+tape_armed k d = record d { rack = record d.rack { fuse = Some k; arms = armed_with k d.rack.write_faults d.rack.arms } }
 
 pub record HasArmed (armed : Devices → Devices) (old new : SystemFacts) : Type 0 where
   pub devices : devices_in new ≡ armed (devices_in old)

@@ -1,12 +1,13 @@
 -- THE STORE IN ITS BOX, which is never empty. What an empty one would be seen as is of no account.
 use Rattle.std.specs.Prelude.{false, [], Option, Some, None}
+use Rattle.g_base.specs.Fuse.{never}
 use Rattle.g_slots.specs.declared.side.Side.TheVariants.{A}
 use Rattle.g_state.specs.Up.{StoreFacts}
 
 abbrev pub nothing : StoreFacts
 nothing = record {
   online = record {
-    disc = record { held = None; size = 0; read_faults = 0; write_faults = 0; writes = 0; fuse = None; arms = 0 };
+    disc = record { held = None; size = 0; read_faults = 0; write_faults = 0; writes = 0; fuse = None; arms = never };
     live = false;
     contents = record { head = record { next_stamp = 0; last_dump = 0; intent = None }; users = []; files = [] };
     pins = None;
@@ -18,7 +19,7 @@ nothing = record {
       pages = record { a = []; b = []; marks_a = []; marks_b = [] };
     };
   };
-  rack = record { reels = []; read_faults = 0; write_faults = 0; fuse = None; arms = 0 };
+  rack = record { reels = []; read_faults = 0; write_faults = 0; fuse = None; arms = never };
   dump = None;
   spent = false;
 }

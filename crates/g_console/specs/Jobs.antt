@@ -7,7 +7,7 @@ use Rattle.g_world.specs.Accounts.{knows_user}
 use Rattle.g_world.specs.Texts.{job_text, operator_line}
 use Rattle.g_crew.specs.Crew.{CrewState}
 use Rattle.g_crew.specs.Taking.{RefusesAsIn, refusal_line}
-use Rattle.g_crew.specs.declared.taking.NewJob.{NewJob}
+use Rattle.g_job.specs.declared.new_job.NewJob.{NewJob}
 use Rattle.g_crew.specs.declared.taking.NotTaken.{NotTaken}
 use Rattle.g_crew.specs.declared.taking.NotTaken.TheVariants as why
 use Rattle.g_console.specs.declared.progress.Failure.{Failure}

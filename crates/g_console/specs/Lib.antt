@@ -1,3 +1,4 @@
+pub mod Anew
 pub mod Arming
 pub mod Asking
 pub mod Boxed

@@ -1,6 +1,6 @@
 -- A LINE OF THE OPERATOR, done on a system: what the world is behind it, whatever world stood before, and what holds of every device.
 use Rattle.std.specs.Prelude.{◌≡◌, ◌⊎◌, ◌+◌, ◌<◌, ◌≤◌, ℕ, Bool, true, false, List, [], ◌++◌, Option, Some, None}
-use Rattle.g_base.specs.Counts.{RoseBy}
+use Rattle.g_base.specs.Fuse.{IsArmedBy, IsArmedWithin}
 use Rattle.g_io.specs.Streams.{with_more, HasPutPart}
 use Rattle.g_lines.specs.Documents.{IsOneLine}
 use Rattle.g_tape.specs.Rack.{Rack}
@@ -10,6 +10,7 @@ use Rattle.g_script.specs.declared.operator.Operator.{Operator}
 use Rattle.g_script.specs.declared.operator.Operator.TheVariants as line
 use Rattle.g_world.specs.Devices.{Devices}
 use Rattle.g_world.specs.Lines.{LineGives, is_process}
+pub use Rattle.g_world.specs.Lines.{disc_arms, tape_arms}
 use Rattle.g_world.specs.Moves.{EventCounted, LineCounted}
 use Rattle.g_world.specs.World.{World}
 use Rattle.g_crew.specs.Crew.{CrewState, IsCrewOf}
@@ -48,15 +49,6 @@ IsWithin (line.Typed t text) = ((1 ≤ t) × (t ≤ 8)) × IsOneLine text
 IsWithin (line.Logout t) = (1 ≤ t) × (t ≤ 8)
 IsWithin what = Unit {0}
 
--- how often a line arms the disc and the tapes
-abbrev pub disc_arms : Operator → ℕ
-disc_arms (line.StopDisc k) = 1
-disc_arms what = 0
-
-abbrev pub tape_arms : Operator → ℕ
-tape_arms (line.StopTape k) = 1
-tape_arms what = 0
-
 -- what the devices count in a line
 abbrev pub CountedBy : Operator → Outcome → Devices → Devices → Type 0
 CountedBy what o old new = LineCounted (is_process what) o (disc_arms what) (tape_arms what) old new
@@ -78,7 +70,7 @@ pub record DoesLine (what : Operator) (w : World) (old new : SystemFacts) (added
 
 -- nothing was done, for want of memory
 pub record DoesNothing (w : World) (old new : SystemFacts) (before after : Option (List ℕ)) : Type 0 where
-  pub counted : EventCounted Plain 0 0 (devices_in old) (devices_in new)
+  pub counted : EventCounted Plain [] [] (devices_in old) (devices_in new)
   pub stands : StandsAs new w.store
   pub text : after ≡ before
 
@@ -90,11 +82,11 @@ LineGoes what old None new before after = (w : World) → Matches w old
 LineGoes what old (Some failure) new before after = (w : World) → Matches w old
     → DoesNothing w old.system new.system before after ⊎ ((added : List ℕ) × DoesLine what w old.system new.system added × HasPutPart before added after)
 
--- whether devices tell or not, a line arms a device as often as it says, or, where it isn't done, not at all
+-- whether devices tell or not, a line arms a device with its number, or, where it isn't done, not at all
 pub record ArmsBy (what : Operator) (failure : Option Failure) (old new : Devices) : Type 0 where
-  pub disc : (n : ℕ) × (n ≤ disc_arms what) × RoseBy n old.disc.arms new.disc.arms
-  pub tape : (n : ℕ) × (n ≤ tape_arms what) × RoseBy n old.rack.arms new.rack.arms
-  pub all : failure ≡ None → RoseBy (disc_arms what) old.disc.arms new.disc.arms × RoseBy (tape_arms what) old.rack.arms new.rack.arms
+  pub disc : IsArmedWithin (disc_arms what) old.disc.arms new.disc.arms
+  pub tape : IsArmedWithin (tape_arms what) old.rack.arms new.rack.arms
+  pub all : failure ≡ None → IsArmedBy (disc_arms what) old.disc.arms new.disc.arms × IsArmedBy (tape_arms what) old.rack.arms new.rack.arms
 
 -- whether devices tell or not, a line leaves jobs that can take turns, and gives out one number at most
 pub record LeavesCrew (old new : CrewState) : Type 0 where

@@ -1,5 +1,5 @@
 -- THE SYSTEM as a run has it: a store that is up, or devices under no store.
-use Rattle.std.specs.Prelude.{◌≡◌, ◌++◌, ℕ, false, List, map}
+use Rattle.std.specs.Prelude.{◌≡◌, ◌≤◌, ◌++◌, ℕ, false, List, map}
 use Rattle.g_disc.specs.Disc.{DiscState}
 use Rattle.g_tape.specs.Rack.{Rack}
 use Rattle.g_tape.specs.Reel.{Reel}
@@ -31,9 +31,11 @@ devices_in (Down d) = d
 abbrev pub labels : List Reel → List (ℕ × ℕ)
 labels reels = map (λ r. (r.serial, r.capacity)) reels
 
--- THE SAME DEVICES: a disc of the same size, and the same reels
+-- THE SAME DEVICES: a disc of the same size, whose counts of failures didn't fall, and the same reels
 pub record SameDevices (old new : Devices) : Type 0 where
   pub size : new.disc.size ≡ old.disc.size
+  pub reads : old.disc.read_faults ≤ new.disc.read_faults
+  pub writes : old.disc.write_faults ≤ new.disc.write_faults
   pub reels : labels new.rack.reels ≡ labels old.rack.reels
 
 -- COMPLETED DUMPS STAY: all that are completed on the reels of the one rack are so on those of the other, each whole, and maybe more

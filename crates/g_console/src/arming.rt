@@ -1,5 +1,6 @@
 //! The operator arms a device, so that a write of it fails.
 ghost use Rattle.std.specs.Prelude.{◌≡◌, ◌≤◌};
+ghost use Rattle.g_console.specs.Anew.{IsBlank, WentAside, beside_new};
 ghost use Rattle.g_console.specs.Arming.{HasArmed, disc_armed, tape_armed};
 ghost use Rattle.g_console.specs.Parts.{DidLine, IsReady};
 ghost use Rattle.g_console.specs.System.{IsRunning, devices_in, facts_of};
@@ -25,6 +26,7 @@ pub(crate) fn stop_disc_line<K: Sink, D: Disc, T: Tapes>(
     requires from_one { 1 ≤ k }
     ensures armed { devices_in result.day.system ≡ disc_armed k (devices_in day.system) }
     ensures line { DidLine (line.StopDisc k) day result.failure result.day (K.written out.old) (K.written out.new) (K.faults out.old) (K.faults out.new) }
+    ensures anew { WentAside (line.StopDisc k) day result.failure result.day (K.written out.old) (K.written out.new) (K.faults out.old) (K.faults out.new) }
 {
     let mut day = day;
     arm_disc(&mut day.system, k);
@@ -43,6 +45,7 @@ pub(crate) fn stop_tape_line<K: Sink, D: Disc, T: Tapes>(
     requires from_one { 1 ≤ k }
     ensures armed { devices_in result.day.system ≡ tape_armed k (devices_in day.system) }
     ensures line { DidLine (line.StopTape k) day result.failure result.day (K.written out.old) (K.written out.new) (K.faults out.old) (K.faults out.new) }
+    ensures anew { WentAside (line.StopTape k) day result.failure result.day (K.written out.old) (K.written out.new) (K.faults out.old) (K.faults out.new) }
 {
     let mut day = day;
     arm_tape(&mut day.system, k);
@@ -54,7 +57,9 @@ pub(crate) fn stop_tape_line<K: Sink, D: Disc, T: Tapes>(
 fn arm_disc<D: Disc, T: Tapes>(system: &mut System<D, T>, k: u32)
     requires running { IsRunning (facts_of D.state T.rack system.old) }
     requires from_one { 1 ≤ k }
-    ensures { HasArmed (disc_armed k) (facts_of D.state T.rack system.old) (facts_of D.state T.rack system.new) }
+    ensures armed { HasArmed (disc_armed k) (facts_of D.state T.rack system.old) (facts_of D.state T.rack system.new) }
+    ensures aside { HasArmed (disc_armed k) (beside_new (facts_of D.state T.rack system.old)) (beside_new (facts_of D.state T.rack system.new)) }
+    ensures blank { IsBlank (facts_of D.state T.rack system.old) → IsBlank (facts_of D.state T.rack system.new) }
 {
     match system {
         System::Up(store) => store.arm_disc(k),
@@ -66,7 +71,9 @@ fn arm_disc<D: Disc, T: Tapes>(system: &mut System<D, T>, k: u32)
 fn arm_tape<D: Disc, T: Tapes>(system: &mut System<D, T>, k: u32)
     requires running { IsRunning (facts_of D.state T.rack system.old) }
     requires from_one { 1 ≤ k }
-    ensures { HasArmed (tape_armed k) (facts_of D.state T.rack system.old) (facts_of D.state T.rack system.new) }
+    ensures armed { HasArmed (tape_armed k) (facts_of D.state T.rack system.old) (facts_of D.state T.rack system.new) }
+    ensures aside { HasArmed (tape_armed k) (beside_new (facts_of D.state T.rack system.old)) (beside_new (facts_of D.state T.rack system.new)) }
+    ensures blank { IsBlank (facts_of D.state T.rack system.old) → IsBlank (facts_of D.state T.rack system.new) }
 {
     match system {
         System::Up(store) => store.arm_tape(k),

@@ -1,5 +1,6 @@
 //! One of the operator's lines.
 ghost use Rattle.std.specs.Prelude.{◌≡◌, ◌+◌, ◌<◌};
+ghost use Rattle.g_console.specs.Anew.{AnewLine};
 ghost use Rattle.g_console.specs.Parts.{DidLine, IsReady, IsWithin};
 
 use crate::arming::{stop_disc_line, stop_tape_line};
@@ -27,7 +28,9 @@ pub fn operator_line<K: Sink, D: Disc, T: Tapes>(
     requires ready { IsReady day.system day.crew }
     requires within { IsWithin what }
     requires numbers { day.crew.next_job + 1 < 18446744073709551616 }
-    ensures { DidLine what day result.failure result.day (K.written out.old) (K.written out.new) (K.faults out.old) (K.faults out.new) }
+    ensures line { DidLine what day result.failure result.day (K.written out.old) (K.written out.new) (K.faults out.old) (K.faults out.new) }
+    // To begin anew: lines of a system that is down, beside a new disc.
+    ensures anew { AnewLine what day result.failure result.day (K.written out.old) (K.written out.new) (K.faults out.old) (K.faults out.new) }
 {
     match what {
         Operator::Format => rise_line(alloc, day, Rise::Format, out),

@@ -1,5 +1,6 @@
 //! Reels are mounted and unmounted, whether the system is up or down.
 ghost use Rattle.std.specs.Prelude.{◌≡◌};
+ghost use Rattle.g_console.specs.Anew.{IsBlank, WentAside, beside_new};
 ghost use Rattle.g_console.specs.Parts.{DidLine, IsReady};
 ghost use Rattle.g_console.specs.Reels.{MountsOn, UnmountsOn};
 ghost use Rattle.g_console.specs.System.{IsRunning, facts_of};
@@ -25,7 +26,8 @@ pub(crate) fn mount_line<K: Sink, D: Disc, T: Tapes>(
     out: &mut K,
 ) -> Ended<D, T>
     requires ready { IsReady day.system day.crew }
-    ensures { DidLine (line.Mount serial) day result.failure result.day (K.written out.old) (K.written out.new) (K.faults out.old) (K.faults out.new) }
+    ensures line { DidLine (line.Mount serial) day result.failure result.day (K.written out.old) (K.written out.new) (K.faults out.old) (K.faults out.new) }
+    ensures anew { WentAside (line.Mount serial) day result.failure result.day (K.written out.old) (K.written out.new) (K.faults out.old) (K.faults out.new) }
 {
     let mut day = day;
     match mount(&mut day.system, serial) {
@@ -49,7 +51,8 @@ pub(crate) fn unmount_line<K: Sink, D: Disc, T: Tapes>(
     out: &mut K,
 ) -> Ended<D, T>
     requires ready { IsReady day.system day.crew }
-    ensures { DidLine (line.Unmount serial) day result.failure result.day (K.written out.old) (K.written out.new) (K.faults out.old) (K.faults out.new) }
+    ensures line { DidLine (line.Unmount serial) day result.failure result.day (K.written out.old) (K.written out.new) (K.faults out.old) (K.faults out.new) }
+    ensures anew { WentAside (line.Unmount serial) day result.failure result.day (K.written out.old) (K.written out.new) (K.faults out.old) (K.faults out.new) }
 {
     let mut day = day;
     match unmount(&mut day.system, serial) {
@@ -68,7 +71,9 @@ pub(crate) fn unmount_line<K: Sink, D: Disc, T: Tapes>(
 /// Mounts the reel of the system's rack.
 fn mount<D: Disc, T: Tapes>(system: &mut System<D, T>, serial: u32) -> Result<(), StoreFault>
     requires running { IsRunning (facts_of D.state T.rack system.old) }
-    ensures { MountsOn serial (facts_of D.state T.rack system.old) result (facts_of D.state T.rack system.new) }
+    ensures steps { MountsOn serial (facts_of D.state T.rack system.old) result (facts_of D.state T.rack system.new) }
+    ensures aside { MountsOn serial (beside_new (facts_of D.state T.rack system.old)) result (beside_new (facts_of D.state T.rack system.new)) }
+    ensures blank { IsBlank (facts_of D.state T.rack system.old) → IsBlank (facts_of D.state T.rack system.new) }
 {
     match system {
         System::Up(store) => store.mount(serial),
@@ -79,7 +84,9 @@ fn mount<D: Disc, T: Tapes>(system: &mut System<D, T>, serial: u32) -> Result<()
 /// Unmounts it.
 fn unmount<D: Disc, T: Tapes>(system: &mut System<D, T>, serial: u32) -> Result<(), StoreFault>
     requires running { IsRunning (facts_of D.state T.rack system.old) }
-    ensures { UnmountsOn serial (facts_of D.state T.rack system.old) result (facts_of D.state T.rack system.new) }
+    ensures steps { UnmountsOn serial (facts_of D.state T.rack system.old) result (facts_of D.state T.rack system.new) }
+    ensures aside { UnmountsOn serial (beside_new (facts_of D.state T.rack system.old)) result (beside_new (facts_of D.state T.rack system.new)) }
+    ensures blank { IsBlank (facts_of D.state T.rack system.old) → IsBlank (facts_of D.state T.rack system.new) }
 {
     match system {
         System::Up(store) => store.unmount(serial),

@@ -2,6 +2,7 @@
 ghost use Rattle.std.specs.Prelude.{◌≡◌, ◌++◌, ◌<◌, ◌≤◌, ℕ, List, None, [], IfErr, IfOk, codes, false};
 ghost use Rattle.std.specs.Fmt.{decimal};
 ghost use Rattle.g_cache.specs.Cached.{cached_with};
+ghost use Rattle.g_console.specs.Anew.{AnewLine};
 ghost use Rattle.g_console.specs.Opening.{Opens};
 ghost use Rattle.g_console.specs.Parts.{DidLine, IsReady, seen};
 ghost use Rattle.g_console.specs.Puts.{Puts};
@@ -43,7 +44,8 @@ pub(crate) fn rise_line<K: Sink, D: Disc, T: Tapes>(
     out: &mut K,
 ) -> Ended<D, T>
     requires ready { IsReady day.system day.crew }
-    ensures { DidLine (line_of rise) day result.failure result.day (K.written out.old) (K.written out.new) (K.faults out.old) (K.faults out.new) }
+    ensures line { DidLine (line_of rise) day result.failure result.day (K.written out.old) (K.written out.new) (K.faults out.old) (K.faults out.new) }
+    ensures anew { AnewLine (line_of rise) day result.failure result.day (K.written out.old) (K.written out.new) (K.faults out.old) (K.faults out.new) }
 {
     let Day {
         system,

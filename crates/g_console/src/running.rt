@@ -1,7 +1,7 @@
 //! A store that is up, in its box.
 ghost use Rattle.std.specs.Prelude.{◌≡◌, ◌≤◌, None, Some, false, is_some, option_map, true, unwrap_or};
 ghost use Rattle.std.specs.FinMap as finmap;
-ghost use Rattle.g_base.specs.Counts.{one_more};
+ghost use Rattle.g_base.specs.Fuse.{armed_with};
 ghost use Rattle.g_tape.specs.Rack.{is_mounted, reel};
 ghost use Rattle.g_tree.specs.Records.{users_by_name};
 ghost use Rattle.g_incr.specs.Plan.{needs};
@@ -152,7 +152,8 @@ impl<D: Disc, T: Tapes> Running<D, T> {
         requires { 1 ≤ k }
         ensures armed { self.new ≡ record self.old {
           online = record self.old.online {
-            disc = record self.old.online.disc { fuse = Some k; arms = one_more self.old.online.disc.arms };
+            disc = record self.old.online.disc
+                { fuse = Some k; arms = armed_with k self.old.online.disc.writes self.old.online.disc.arms };
           };
         } }
         ensures same { MeansTheSame self.old self.new }
@@ -167,7 +168,7 @@ impl<D: Disc, T: Tapes> Running<D, T> {
     pub fn arm_tape(&mut self, k: u32)
         requires { 1 ≤ k }
         ensures armed { self.new ≡ record self.old {
-          rack = record self.old.rack { fuse = Some k; arms = one_more self.old.rack.arms };
+          rack = record self.old.rack { fuse = Some k; arms = armed_with k self.old.rack.write_faults self.old.rack.arms };
         } }
         ensures same { MeansTheSame self.old self.new }
     {

@@ -22,11 +22,11 @@ use crate::choice::{first_of, one_can_step};
 use crate::place::place_of;
 use crate::seats::{BoxedSeats, get_up};
 use crate::taken::Taken;
-use crate::taking::{NewJob, NotTaken, refusal};
+use crate::taking::{NotTaken, refusal};
 use g_base::NoMemory;
 use g_budget::{Charge, Tariff, Usage};
 use g_entry::UserRec;
-use g_job::{Job, Turn};
+use g_job::{Job, NewJob, Turn};
 use g_plain::Filestore;
 use g_sched::{Standing, WeighRule};
 use std::alloc::Global;
@@ -129,7 +129,7 @@ impl Crew {
         ensures err { OnErr result (self.new ≡ self.old) }
         ensures untold { printed result ≡ None }
     {
-        match job.begin(alloc, self.next_job) {
+        match Job::new(alloc, self.next_job, job) {
             Ok(job) => self.push(job),
             Err(NoMemory) => Err(NotTaken::NoMemory),
         }

@@ -17,9 +17,10 @@ mod texts;
 
 pub use account::Account;
 pub use crew::Crew;
+pub use g_job::NewJob;
 pub use seating::{
     NewLogin, NoTerminal, NotSeated, NotTyped, push_busy, push_no_terminal, terminal_name,
 };
 pub use taken::Taken;
-pub use taking::{NewJob, NotTaken, push_refusal};
+pub use taking::{NotTaken, push_refusal};
 pub use texts::{closing_text, dump_text, job_text, push_operator_line, started_text, tape_text};

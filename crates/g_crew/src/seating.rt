@@ -6,7 +6,7 @@ ghost use Rattle.g_world.specs.Lines.{terminal_job};
 
 use crate::taking::NotTaken;
 use g_base::NoMemory;
-use g_job::Job;
+use g_job::{Job, NewJob};
 use g_lines::Document;
 use g_monitor::push_number;
 use g_name::{Local, Text, User};
@@ -55,9 +55,14 @@ impl NewLogin {
         requires time { (1 ≤ self.time) × (self.time ≤ 1000000) }
         ensures { IfOk result (λ job. job ≡ terminal_job number self.terminal self.user self.time) }
     {
-        let name = terminal_name(self.terminal);
-        let document = Document::new(alloc);
-        let mut job = Job::new(alloc, number, name, self.user, self.time, 1000, document)?;
+        let job = NewJob {
+            name: terminal_name(self.terminal),
+            user: self.user,
+            time: self.time,
+            money: 1000,
+            lines: Document::new(alloc),
+        };
+        let mut job = Job::new(alloc, number, job)?;
         job.hold();
         job.seat(self.terminal);
         Ok(job)

@@ -1,28 +1,15 @@
 //! What a job's line asks for, and why it isn't taken in.
-ghost use Rattle.std.specs.Prelude.{◌≡◌, ◌<◌, ◌≤◌, ◌++◌, ℕ, IfOk, OnOk, length};
+ghost use Rattle.std.specs.Prelude.{◌≡◌, ◌<◌, ◌++◌, ℕ, OnOk, length};
 ghost use Rattle.g_crew.specs.Taking.{IsPrinted, RefusesAsIn, RoomAsIn, printed, refusal_line};
-ghost use Rattle.g_crew.specs.declared.taking.NotTaken.TheVariants.{NoMemory};
-ghost use Rattle.g_job.specs.Begun.{job_begun};
 
 use crate::account::{Account, left_for};
 use crate::choice::MOST_JOBS;
 use g_base::NoMemory;
-use g_job::Job;
-use g_lines::Document;
+use g_job::{Job, NewJob};
 use g_monitor::push_numbers;
-use g_name::{Local, Text, User};
+use g_name::{Text, User};
 use std::alloc::Global;
 use thiserror::Error;
-
-/// A job as its line asks for it: 1 to 1,000,000 units of TIME, at most 1,000,000 of MONEY, and the lines of its document.
-#[derive(Debug, Drop)]
-pub struct NewJob {
-    pub name: Local,
-    pub user: User,
-    pub time: u64,
-    pub money: u64,
-    pub lines: Document,
-}
 
 /// Why a job isn't taken in. Nothing is changed then.
 #[derive(Clone, Copy, Debug, PartialEq, Eq, Error)]
@@ -42,28 +29,6 @@ pub enum NotTaken {
     /// The memory was refused; the job would have been taken in.
     #[error("out of memory")]
     NoMemory,
-}
-
-impl From<NoMemory> for NotTaken {
-    ghost from_gives = { λ e why. why ≡ NoMemory };
-
-    fn from(_e: NoMemory) -> NotTaken {
-        NotTaken::NoMemory
-    }
-}
-
-impl NewJob {
-    /// The job of this number, which begins.
-    pub(crate) fn begin(self, alloc: Global, number: u64) -> Result<Job, NoMemory>
-        requires time { (1 ≤ self.time) × (self.time ≤ 1000000) }
-        requires money { self.money ≤ 1000000 }
-        ensures { IfOk result (λ job. job
-            ≡ job_begun number self.name self.user self.time self.money self.lines) }
-    {
-        Job::new(
-            alloc, number, self.name, self.user, self.time, self.money, self.lines,
-        )
-    }
 }
 
 /// The first reason, in this order, not to take the job in.

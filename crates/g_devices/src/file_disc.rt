@@ -1,10 +1,13 @@
 //! A disc over an image: a file of whole blocks. It tells no content, and counts each failure.
 ghost use Rattle.std.specs.Prelude.{◌<◌, ◌≤◌, IfOk, None};
+ghost use Rattle.g_base.specs.Fuse.{BurnsByWrites};
 
 use crate::claim::Access;
 use crate::image_file::ImageFile;
 use crate::names::FileId;
-use g_base::{Block, FIRST_COPY_BLOCK, Fuse, MAX_DISC_BLOCKS, ReadFailed, WriteFailed, raised};
+use g_base::{
+    Armings, Block, FIRST_COPY_BLOCK, Fuse, MAX_DISC_BLOCKS, ReadFailed, WriteFailed, raised,
+};
 use g_disc::Disc;
 use std::io::{self, Error, ErrorKind};
 
@@ -17,7 +20,8 @@ pub struct FileDisc {
     write_faults: u64,
     writes: u64,
     fuse: Fuse,
-    arms: u64,
+    arms: Armings,
+    ghost fused: { BurnsByWrites writes arms fuse },
 }
 
 impl FileDisc {
@@ -76,7 +80,7 @@ impl Disc for FileDisc {
 
     fn arm(&mut self, k: u32) {
         self.fuse.arm(k);
-        self.arms = raised(self.arms);
+        self.arms.arm(k, self.writes);
     }
 }
 
@@ -116,6 +120,6 @@ fn disc_over(image: ImageFile) -> io::Result<FileDisc>
         write_faults: 0,
         writes: 0,
         fuse: Fuse::new(),
-        arms: 0,
+        arms: Armings::new(),
     })
 }

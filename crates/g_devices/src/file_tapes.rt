@@ -1,13 +1,13 @@
 //! A rack over files, one for each reel. It tells no content, and counts each failure.
 ghost use Rattle.std.specs.Prelude.{◌≡◌, ◌≤◌, None, Some, MatchOption, true, false};
-ghost use Rattle.g_base.specs.Counts.{one_more};
+ghost use Rattle.g_base.specs.Fuse.{BurnsByFailures};
 ghost use Rattle.g_tape.specs.Place.{IsPlaceOf};
 ghost use Rattle.g_tape.specs.Rack.{AreReels, reel};
 
 use crate::ahead::ReadAhead;
 use crate::file_reel::FileReel;
 use crate::names::FileId;
-use g_base::{Block, Fuse, raised};
+use g_base::{Armings, Block, Fuse, raised};
 use g_tape::{TapeFault, Tapes, half_of};
 use std::alloc::Global;
 use std::fs::File;
@@ -24,8 +24,9 @@ pub struct FileTapes {
     read_faults: u64,
     write_faults: u64,
     fuse: Fuse,
-    arms: u64,
+    arms: Armings,
     ghost well_formed: { AreReels reels.items },
+    ghost fused: { BurnsByFailures write_faults arms fuse },
 }
 
 impl FileTapes {
@@ -42,7 +43,7 @@ impl FileTapes {
             read_faults: 0,
             write_faults: 0,
             fuse: Fuse::new(),
-            arms: 0,
+            arms: Armings::new(),
         }
     }
 
@@ -164,10 +165,12 @@ impl Tapes for FileTapes {
 
     fn arm(&mut self, k: u32) {
         self.fuse.arm(k);
-        self.arms = raised(self.arms);
+        self.arms.arm(k, self.write_faults);
     }
 
     ghost well_formed = { λ t. t.well_formed };
+
+    ghost fused = { λ t. t.fused };
 }
 
 /// The place of the reel, if it is there.

@@ -7,9 +7,11 @@ ghost use Rattle.g_dirs.specs.Directory.{AreCopies, copy_at, directory_of, entri
 ghost use Rattle.g_dirs.specs.Image.{block_of, entry_at, file_or_empty, user_or_empty};
 ghost use Rattle.g_dirs.specs.Writing.{AreEncodable, IsEncodable, number_of_file};
 
-use crate::BoxedCopy;
+use crate::FileCopy;
 use g_base::{Block, BlockList};
-use g_entry::{FileRec, Format, Head, UserRec, empty_block, encode_file, encode_head, encode_user};
+use g_entry::{
+    BoxedRec, FileRec, Format, Head, UserRec, empty_block, encode_file, encode_head, encode_user,
+};
 use std::marker::Model;
 
 /// A directory that is borrowed: the head, the users and the files in order of number, and by file number the copies on
@@ -18,8 +20,8 @@ use std::marker::Model;
 pub struct Listing<'a> {
     head: &'a Head,
     users: &'a [UserRec],
-    files: &'a [FileRec],
-    online: &'a [(u16, BoxedCopy)],
+    files: &'a [BoxedRec],
+    online: &'a [FileCopy],
 }
 
 impl<'a> Model for Listing<'a> {
@@ -37,8 +39,8 @@ impl<'a> Listing<'a> {
     pub fn new(
         head: &'a Head,
         users: &'a [UserRec],
-        files: &'a [FileRec],
-        online: &'a [(u16, BoxedCopy)],
+        files: &'a [BoxedRec],
+        online: &'a [FileCopy],
     ) -> Listing<'a>
         requires { AreCopies files.now online.now }
         ensures { result ≡ directory_of head.now users.now files.now online.now }
@@ -66,8 +68,8 @@ impl<'a> Listing<'a> {
 fn slot_block(
     head: &Head,
     users: &[UserRec],
-    files: &[FileRec],
-    online: &[(u16, BoxedCopy)],
+    files: &[BoxedRec],
+    online: &[FileCopy],
     k: u32,
 ) -> Block
     requires place { k < 1088 }
@@ -97,7 +99,7 @@ fn user_block(users: &[UserRec], number: usize) -> Block
 }
 
 /// The block of file `number`, zeros where it is unused.
-fn file_block(files: &[FileRec], online: &[(u16, BoxedCopy)], number: u16) -> Block
+fn file_block(files: &[BoxedRec], online: &[FileCopy], number: u16) -> Block
     requires files { AreEncodable files.now online.now }
     requires copies { AreCopies files.now online.now }
     ensures { result ≡ file_or_empty Format.Two (entry_at (entries_of files.now online.now) number) }
@@ -110,23 +112,23 @@ fn file_block(files: &[FileRec], online: &[(u16, BoxedCopy)], number: u16) -> Bl
 }
 
 /// The file of this number, where there is one.
-fn file_of(files: &[FileRec], number: u16) -> Option<&FileRec>
+fn file_of(files: &[BoxedRec], number: u16) -> Option<&FileRec>
     requires { AreNumbered files.now }
     ensures { option_copied result ≡ find (λ r. number_of_file r == number) files.now }
 {
-    match files.binary_search_by_key(&number, |r| r.number) {
-        Ok(place) => Some(&files[place]),
+    match files.binary_search_by_key(&number, |r| r.get().number) {
+        Ok(place) => Some(files[place].get()),
         Err(_) => None,
     }
 }
 
 /// The block numbers of the file of this number, where it is online.
-fn places_of(online: &[(u16, BoxedCopy)], number: u16) -> Option<&BlockList>
+fn places_of(online: &[FileCopy], number: u16) -> Option<&BlockList>
     requires { AllPairs (λ c d. c.0 < d.0) online.now }
     ensures { option_copied result ≡ option_map (λ c. c.blocks) (copy_at online.now number) }
 {
-    match online.binary_search_by_key(&number, |c| c.0) {
-        Ok(place) => Some(&online[place].1.get().blocks),
+    match online.binary_search_by_key(&number, |c| c.number()) {
+        Ok(place) => Some(&online[place].get().blocks),
         Err(_) => None,
     }
 }

@@ -11,7 +11,7 @@ ghost use Rattle.g_dirs.specs.Parts.{AreInOrder, HoldsFiles, HoldsHead, HoldsUse
 ghost use Rattle.g_dirs.specs.Reading.{FileCell, IsFileCell, IsUserCell, TakesFile, TakesUser, copies_in};
 
 use crate::rules::keeps_rules;
-use crate::{BoxedCopy, Dirs, DirsFault};
+use crate::{BoxedCopy, Dirs, DirsFault, FileCopy};
 use g_base::{Block, BlockList, NoMemory};
 use g_copy::DiscCopy;
 use g_disc::Disc;
@@ -164,7 +164,7 @@ fn read_files<D: Disc>(
     disc: &mut D,
     slots: &Slots,
     format: Format,
-) -> Result<(Vec<FileRec>, Vec<(u16, BoxedCopy)>), DirsFault>
+) -> Result<(Vec<FileRec>, Vec<FileCopy>), DirsFault>
     requires size { 2177 < (D.state disc.old).size }
     requires gate { GateNames slots.now (D.state disc.old).held }
     ensures ok { IfOk result (λ found. ForSome (D.state disc.old).held
@@ -201,7 +201,7 @@ fn take_file(
     block: &Block,
     number: u16,
     files: &mut Vec<FileRec>,
-    online: &mut Vec<(u16, BoxedCopy)>,
+    online: &mut Vec<FileCopy>,
 ) -> Result<(), DirsFault>
     ensures ok { OnOk result (TakesFile format number block.now files.old.items files.new.items online.old.items online.new.items) }
     ensures none { result ≡ Err DirsFault.NoFilestore → (cell : Option FileCell) → IsFileCell format number block.now cell → ⊥ }
@@ -225,7 +225,7 @@ fn add_copy(
     alloc: Global,
     rec: &FileRec,
     places: Option<&BlockList>,
-    online: &mut Vec<(u16, BoxedCopy)>,
+    online: &mut Vec<FileCopy>,
 ) -> Result<(), NoMemory>
     ensures { OnOk result (online.new.items ≡ online.old.items ++ copies_in rec.now (option_copied places.entry)) }
 {
@@ -236,7 +236,7 @@ fn add_copy(
         blocks: places.copy(),
         len: rec.len,
     };
-    online.push((rec.number, BoxedCopy::new(alloc, copy)?))?;
+    online.push(BoxedCopy::new(alloc, copy)?.of_file(rec.number))?;
     Ok(())
 }
 

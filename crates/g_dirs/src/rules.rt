@@ -5,7 +5,7 @@ ghost use Rattle.g_entry.specs.Rules.{AreNumbered};
 ghost use Rattle.g_dirs.specs.Directory.{AreCopies, IsDirectory, LiesSomewhere, directory_of, entries_of};
 ghost use Rattle.g_dirs.specs.Rules.{AreApart, AreRead, HasNoCopy, KeepAll, numbers_of};
 
-use crate::{BoxedCopy, Dirs};
+use crate::{Dirs, FileCopy};
 use g_base::{FIRST_COPY_BLOCK, NoMemory, are_distinct, blocks_for};
 use g_copy::DiscCopy;
 use g_entry::{FileRec, UserRec, files_keep, stamps_are_below, users_keep};
@@ -34,7 +34,7 @@ fn keep_all(
     next_stamp: u64,
     users: &[UserRec],
     files: &[FileRec],
-    online: &[(u16, BoxedCopy)],
+    online: &[FileCopy],
 ) -> Result<bool, NoMemory>
     requires numbered { AreNumbered files.now }
     requires copies { AreCopies files.now online.now }
@@ -53,7 +53,7 @@ fn keep_all(
 }
 
 /// Whether each file is on disc, in as many blocks as it takes, or has a copy on tape, and an empty one is on disc.
-fn files_lie(files: &[FileRec], online: &[(u16, BoxedCopy)]) -> bool
+fn files_lie(files: &[FileRec], online: &[FileCopy]) -> bool
     requires numbered { AreNumbered files.now }
     requires copies { AreCopies files.now online.now }
     ensures { IsTrue result ↔ All LiesSomewhere (entries_of files.now online.now) }
@@ -70,12 +70,12 @@ fn files_lie(files: &[FileRec], online: &[(u16, BoxedCopy)]) -> bool
 }
 
 /// The copy of a file, where it is the next one, and the copies behind it.
-fn next_copy(online: &[(u16, BoxedCopy)], number: u16) -> (Option<&DiscCopy>, &[(u16, BoxedCopy)])
+fn next_copy(online: &[FileCopy], number: u16) -> (Option<&DiscCopy>, &[FileCopy])
     ensures found { IfSome result.0 (λ copy. online.now ≡ (number, copy.now) ∷ result.1.now) }
     ensures none { IfNone result.0 (HasNoCopy number online.now × (result.1.now ≡ online.now)) }
 {
     match online.split_first() {
-        Some((first, others)) if first.0 == number => (Some(first.1.get()), others),
+        Some((first, others)) if first.number() == number => (Some(first.get()), others),
         _ => (None, online),
     }
 }
@@ -91,7 +91,7 @@ fn lies(r: &FileRec, copy: Option<&DiscCopy>) -> bool
 }
 
 /// Whether all block numbers are distinct numbers of copy blocks.
-fn places_keep(alloc: Global, size: u32, online: &[(u16, BoxedCopy)]) -> Result<bool, NoMemory>
+fn places_keep(alloc: Global, size: u32, online: &[FileCopy]) -> Result<bool, NoMemory>
     ensures { IfOk result (λ keep. IsTrue keep ↔ AreApart size (numbers_of online.now)) }
 {
     let places = collected(alloc, online)?;
@@ -114,12 +114,12 @@ fn numbers_differ(alloc: Global, numbers: &[u32]) -> Result<bool, NoMemory>
 }
 
 /// The block numbers of all copies.
-fn collected(alloc: Global, online: &[(u16, BoxedCopy)]) -> Result<Vec<u32>, NoMemory>
+fn collected(alloc: Global, online: &[FileCopy]) -> Result<Vec<u32>, NoMemory>
     ensures { IfOk result (λ places. places.items ≡ numbers_of online.now) }
 {
     let mut places = Vec::new(alloc);
     for copy in online {
-        places.extend_from_slice(copy.1.get().blocks.as_slice())?;
+        places.extend_from_slice(copy.get().blocks.as_slice())?;
     }
     Ok(places)
 }

@@ -3,9 +3,9 @@ use Rattle.std.specs.Prelude.{◌≡◌, ℕ, List, Option, Some, Result, OnOk, 
 use Rattle.std.specs.Option.{ForSome}
 use Rattle.g_base.specs.Block.{IsBlock, with_block}
 use Rattle.g_base.specs.Counts.{one_more, Rose, RoseBy}
-use Rattle.g_base.specs.Fuse.{burnt}
+use Rattle.g_base.specs.Fuse.{Arms, BurnsByWrites, burnt}
 
--- a disc: its blocks, where they are told, how many they are, its counts, and its fuse
+-- a disc: its blocks, where they are told, how many they are, its counts, its fuse, and what it was armed with
 pub record DiscState : Type 0 where
   pub held : Option (List (List ℕ))
   pub size : ℕ
@@ -13,7 +13,11 @@ pub record DiscState : Type 0 where
   pub write_faults : ℕ
   pub writes : ℕ
   pub fuse : Option ℕ
-  pub arms : ℕ
+  pub arms : Arms
+
+-- what a disc's fuse is at each moment
+abbrev pub IsFused : DiscState → Type 0
+IsFused d = BurnsByWrites d.writes d.arms d.fuse
 
 -- Block k was read into `into`. Nothing but the count of read faults changes.
 pub record Reads {T E : Type 0} (k : ℕ) (into : List ℕ) (before after : DiscState) (result : Result T E) : Type 0 where

@@ -1,6 +1,7 @@
 -- A disc in memory: what it holds besides what every disc is, and just when and how its calls fail.
 use Rattle.std.specs.Prelude.{◌≡◌, ℕ, ◌↔◌, List, [], ◌++◌, take, drop, replicate, Contains, Some, None, option_map, Result, IsErr, OnErr, slice_index_or, slice_set}
 use Rattle.g_base.specs.Counts.{one_more}
+use Rattle.g_base.specs.Fuse.{never}
 use Rattle.g_disc.specs.Disc.{DiscState, Reads, Writes}
 use Rattle.g_disc.specs.declared.memory.Leave.{Leave}
 use Rattle.g_disc.specs.declared.memory.Leave.TheVariants.{Old, Whole, Half, These}
@@ -22,7 +23,7 @@ left_by (These bytes) old new = bytes
 -- a new disc of n blocks of zeros
 abbrev pub blank : ℕ → Memory
 blank n = record {
-  disc = record { held = Some (replicate n (replicate 512 0)); size = n; read_faults = 0; write_faults = 0; writes = 0; fuse = None; arms = 0 };
+  disc = record { held = Some (replicate n (replicate 512 0)); size = n; read_faults = 0; write_faults = 0; writes = 0; fuse = None; arms = never };
   leave = Old;
   fail = [];
   reads = 0;

@@ -2,22 +2,24 @@
 ghost use Rattle.std.specs.Prelude.{◌≡◌, ◌<◌, ◌≤◌, All, Some, length};
 ghost use Rattle.std.specs.Option.{ForSome};
 ghost use Rattle.g_base.specs.Block.{IsBlock};
-ghost use Rattle.g_base.specs.Counts.{one_more};
-ghost use Rattle.g_disc.specs.Disc.{DiscState, Reads, Writes};
+ghost use Rattle.g_base.specs.Fuse.{armed_with};
+ghost use Rattle.g_disc.specs.Disc.{DiscState, IsFused, Reads, Writes};
 
 use g_base::{Block, ReadFailed, WriteFailed};
 
 /// Numbered blocks of 512 bytes. A disc counts its failed reads, its failed writes, its writes and
-/// how often it was armed; each count stands still at 2^64 - 1. A disc in memory tells what it holds,
-/// a real one doesn't.
+/// how often it was armed, and with which number last; each count stands still at 2^64 - 1. A disc in
+/// memory tells what it holds, a real one doesn't.
 pub trait Disc {
     ghost state: { Self → DiscState };
 
-    /// The number of blocks, which never changes.
+    /// The number of blocks, which never changes. At each moment the fuse is what writes left of the
+    /// last number.
     fn size(&self) -> u32
         ensures size { result ≡ (state self.now).size }
         ensures blocks { ForSome (state self.now).held
-            (λ blocks. (length blocks ≡ result) × All IsBlock blocks) };
+            (λ blocks. (length blocks ≡ result) × All IsBlock blocks) }
+        ensures fused { IsFused (state self.now) };
 
     /// Reads block k. Where it answers `ReadFailed`, nothing is known of `into`.
     fn read(&mut self, k: u32, into: &mut Block) -> Result<(), ReadFailed>
@@ -34,5 +36,6 @@ pub trait Disc {
     fn arm(&mut self, k: u32)
         requires { 1 ≤ k }
         ensures { state self.new
-            ≡ record (state self.old) { fuse = Some k; arms = one_more (state self.old).arms } };
+            ≡ record (state self.old)
+            { fuse = Some k; arms = armed_with k (state self.old).writes (state self.old).arms } };
 }

@@ -1,11 +1,11 @@
 //! A disc in memory, whose failures are set beforehand.
 ghost use Rattle.std.specs.Prelude.{◌≡◌, ◌<◌, ◌≤◌, IfOk, Some};
-ghost use Rattle.g_base.specs.Counts.{one_more};
+ghost use Rattle.g_base.specs.Fuse.{armed_with};
 ghost use Rattle.g_disc.specs.Memory.{MemoryReads, MemoryWrites, blank, left_by};
 
 use crate::blocks::Blocks;
 use crate::disc::Disc;
-use g_base::{Block, Fuse, NoMemory, ReadFailed, WriteFailed, raised};
+use g_base::{Armings, Block, Fuse, NoMemory, ReadFailed, WriteFailed, raised};
 use std::alloc::Global;
 use std::marker::Model;
 
@@ -33,12 +33,13 @@ pub struct MemoryDisc {
     write_faults: u64,
     writes: u64,
     fuse: Fuse,
-    arms: u64,
+    arms: Armings,
 }
 
 impl Model for MemoryDisc {
     ghost use Rattle.std.specs.Prelude.{◌<◌, ◌^◌, All, Some, length};
     ghost use Rattle.g_base.specs.Block.{IsBlock};
+    ghost use Rattle.g_base.specs.Fuse.{BurnsByWrites};
     ghost use Rattle.g_disc.specs.Memory.{Memory};
 
     ghost Value = { Memory };
@@ -58,7 +59,8 @@ impl Model for MemoryDisc {
       reads = m.reads;
     } };
 
-    ghost invariant = { λ m. (length m.blocks < 2 ^ 32) × All IsBlock m.blocks };
+    ghost invariant = { λ m. (length m.blocks < 2 ^ 32) × All IsBlock m.blocks
+        × BurnsByWrites m.writes m.arms m.fuse };
 }
 
 impl MemoryDisc {
@@ -76,7 +78,7 @@ impl MemoryDisc {
             write_faults: 0,
             writes: 0,
             fuse: Fuse::new(),
-            arms: 0,
+            arms: Armings::new(),
         })
     }
 
@@ -135,11 +137,11 @@ impl Disc for MemoryDisc {
         requires { 1 ≤ k }
         ensures { self.new ≡ record self.old {
           disc = record self.old.disc
-              { fuse = Some k; arms = one_more self.old.disc.arms };
+              { fuse = Some k; arms = armed_with k self.old.disc.writes self.old.disc.arms };
         } }
     {
         self.fuse.arm(k);
-        self.arms = raised(self.arms);
+        self.arms.arm(k, self.writes);
     }
 }
 

@@ -2,6 +2,7 @@
 use Rattle.std.specs.Prelude.{◌≡◌, ℕ, List, Bool, true, false, Option, Some, None, Result, Ok, Err, ◌==◌, if◌then◌else◌}
 use Rattle.std.specs.Option.{ForSome}
 use Rattle.g_base.specs.Counts.{one_more}
+use Rattle.g_base.specs.Fuse.{armed_with}
 use Rattle.g_tape.specs.declared.fault.TapeFault.{TapeFault}
 use Rattle.g_tape.specs.declared.fault.TapeFault.TheVariants.{ReadFailed, WriteFailed}
 use Rattle.g_tape.specs.Reel.{with_mounted}
@@ -91,7 +92,7 @@ is_done (Err fault) = false
 
 -- AN ARMING is the pair's own: both racks are as they were
 abbrev pub PairArms : ℕ → Pair → Pair → Type 0
-PairArms k old new = new ≡ record old { fuse = Some k; arms = one_more old.arms }
+PairArms k old new = new ≡ record old { fuse = Some k; arms = armed_with k old.write_faults old.arms }
 
 -- A MOUNT is one of both racks
 pub record PairMounts (s : ℕ) (old : Pair) (result : Answer) (new : Pair) : Type 0 where

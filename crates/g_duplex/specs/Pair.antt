@@ -1,7 +1,7 @@
 -- Two racks as one.
 use Rattle.std.proofs.Props.{props}
 use Rattle.std.specs.Prelude.{◌≡◌, ℕ, List, [], ◌∷◌, Option, Some, None, ◌==◌, if◌then◌else◌}
-use Rattle.g_base.specs.Counts.{one_more}
+use Rattle.g_base.specs.Fuse.{Arms, armed_with}
 use Rattle.g_tape.specs.Reel.{Reel}
 use Rattle.g_tape.specs.Rack.{Rack}
 use Rattle.g_duplex.specs.Twins.{AreTwins, DoAgree, pair_reel}
@@ -17,7 +17,7 @@ pub record Pair : Type 0 where
   pub read_faults : ℕ
   pub write_faults : ℕ
   pub fuse : Option ℕ
-  pub arms : ℕ
+  pub arms : Arms
 
 abbrev pub pair_reels : List Standing → List Reel → List Reel → List Reel
 pair_reels [] xs ys = []
@@ -85,4 +85,4 @@ lost_of (a ∷ xs) (Lost twin ∷ ts) = (a.serial, twin) ∷ lost_of xs ts
 
 -- a rack that was armed for its next write
 abbrev pub armed : Rack → Rack
-armed r = record r { fuse = Some 1; arms = one_more r.arms }
+armed r = record r { fuse = Some 1; arms = armed_with 1 r.write_faults r.arms }

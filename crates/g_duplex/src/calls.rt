@@ -7,7 +7,7 @@ use crate::asking::{counted, read_twins, write_twins};
 use crate::duplex::Duplex;
 use crate::places::{lost_among, place_of};
 use crate::twin::Twin;
-use g_base::{Block, raised};
+use g_base::Block;
 use g_tape::{TapeFault, Tapes};
 
 impl<T: Tapes> Duplex<T> {
@@ -157,8 +157,10 @@ impl<T: Tapes> Tapes for Duplex<T> {
         ensures { PairArms k (pair_of self.old) (pair_of self.new) }
     {
         self.fuse.arm(k);
-        self.arms = raised(self.arms);
+        self.arms.arm(k, self.write_faults);
     }
 
     ghost well_formed = { λ d. are_reels d.standings (T.rack d.first).reels (T.rack d.second).reels d.paired (T.well_formed d.first) (T.well_formed d.second) };
+
+    ghost fused = { λ d. d.fused };
 }

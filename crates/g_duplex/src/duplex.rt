@@ -1,12 +1,13 @@
 //! Two racks as one.
 ghost use Rattle.std.specs.Prelude.{◌≡◌, None};
+ghost use Rattle.g_base.specs.Fuse.{BurnsByFailures, never};
 ghost use Rattle.g_duplex.specs.Pair.{ArePaired, ArePaired-prop, lost_of, standing_in};
 ghost use Rattle.g_duplex.specs.Places.{standings_by};
 
 use crate::places::{lost_among, place_of, standings_by};
 use crate::standings::{LostTwins, Standings};
 use crate::twin::{Standing, Twin};
-use g_base::Fuse;
+use g_base::{Armings, Fuse};
 use g_tape::Tapes;
 
 /// Two racks with the same reels, as one rack. A reel has the blocks of the twin that leads, and is mounted where each twin that
@@ -20,9 +21,10 @@ pub struct Duplex<T: Tapes> {
     pub(crate) read_faults: u64,
     pub(crate) write_faults: u64,
     pub(crate) fuse: Fuse,
-    pub(crate) arms: u64,
+    pub(crate) arms: Armings,
     ghost paired: { ArePaired standings (T.rack first).reels (T.rack second).reels } by { ArePaired-prop standings (T.rack first).reels (T.rack second).reels },
     ghost told: { lost ≡ lost_of (T.rack first).reels standings },
+    ghost fused: { BurnsByFailures write_faults arms fuse },
 }
 
 impl<T: Tapes> Duplex<T> {
@@ -38,7 +40,7 @@ impl<T: Tapes> Duplex<T> {
           read_faults = 0;
           write_faults = 0;
           fuse = None;
-          arms = 0;
+          arms = never;
         } }
     {
         let standings = standings_by(&first, lost);
@@ -51,7 +53,7 @@ impl<T: Tapes> Duplex<T> {
             read_faults: 0,
             write_faults: 0,
             fuse: Fuse::new(),
-            arms: 0,
+            arms: Armings::new(),
         }
     }
 

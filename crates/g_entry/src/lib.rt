@@ -1,6 +1,7 @@
 //! The records of a filestore, each in a block of its own: users, files, and the head of a directory.
 #![tactic(auto)]
 
+mod boxed_rec;
 mod compare;
 mod file_block;
 mod file_rec;
@@ -14,6 +15,7 @@ mod take;
 mod user_block;
 mod user_rec;
 
+pub use boxed_rec::{BoxedRec, boxed};
 pub use file_block::{
     decode_file, decode_file_1, decode_file_in, decode_file_on_tape, encode_file, encode_file_1,
     encode_file_in,

@@ -4,9 +4,9 @@ use crate::reading::read;
 use crate::slots::{directory, slot_block};
 use g_blocks::Pool;
 use g_copy::store_copy;
-use g_dirs::DirsFault;
+use g_dirs::{DirsFault, Listing};
 use g_disc::Disc;
-use g_entry::empty_block;
+use g_entry::{boxed, empty_block};
 use g_slots::{SLOT_BLOCKS, Side, Slots};
 use std::process::Abort;
 
@@ -135,7 +135,14 @@ fn ample(rt: HostRuntime) {
     let mut kept = blank(&rt);
     let dirs = directory(&rt, 0, &[]);
     assert!(rt; dirs.head.next_stamp == 1 && dirs.users.len() == 2 && dirs.files.len() == 0);
-    assert!(rt; kept.pages.covers(Side::B, &dirs.listing()));
+    let files = boxed(rt.alloc(), dirs.files.as_slice()).expect(&rt, "memory");
+    let listing = Listing::new(
+        &dirs.head,
+        dirs.users.as_slice(),
+        files.as_slice(),
+        dirs.online.as_slice(),
+    );
+    assert!(rt; kept.pages.covers(Side::B, &listing));
     let marked = Step {
         files: 0,
         differs: &[],

@@ -1,7 +1,7 @@
 //! A disc with what its user keeps from one commit to the next, and commits of directories that were laid out by hand.
 use crate::slots::{Changed, directory};
 use g_base::{Block, ReadFailed, WriteFailed};
-use g_dirs::{DirsFault, Pages, write_changed, write_dirs};
+use g_dirs::{DirsFault, Listing, Pages, write_changed, write_dirs};
 use g_disc::{Disc, Leave, MemoryDisc};
 use g_slots::Slots;
 use std::process::Abort;
@@ -93,7 +93,13 @@ pub fn commit(
         kept.pages.changed(*k);
     }
     let dirs = directory(rt, step.files, step.differs);
-    let listing = dirs.listing();
+    let files = boxed(rt.alloc(), dirs.files.as_slice()).expect(rt, "memory");
+    let listing = Listing::new(
+        &dirs.head,
+        dirs.users.as_slice(),
+        files.as_slice(),
+        dirs.online.as_slice(),
+    );
     assert!(rt; kept.disc.size() == 2_181);
     match way {
         Way::Whole => write_dirs(&mut kept.disc, &mut kept.slots, &listing, &mut kept.pages),

@@ -1,8 +1,8 @@
 //! Directories of bytes that were written out by hand, in both formats, and slots that break one rule each.
 use crate::slots;
-use g_dirs::{Dirs, DirsFault, Pages, read_dirs, write_dirs};
+use g_dirs::{Dirs, DirsFault, Listing, Pages, read_dirs, write_dirs};
 use g_disc::{Disc, MemoryDisc};
-use g_entry::{FileRec, Format, Head, TapeCopy, UserRec};
+use g_entry::{FileRec, Format, Head, TapeCopy, UserRec, boxed};
 use g_name::{Lang, Local, User};
 use g_slots::Slots;
 use g_trap::{Modes, Traps};
@@ -236,9 +236,15 @@ fn a_disc_of_70_000_blocks(rt: HostRuntime) {
         panic!(rt; "no directory");
     };
     let mut pages = Pages::new(rt.alloc()).expect(&rt, "memory");
-    let listing = dirs.listing();
+    let files = boxed(rt.alloc(), dirs.files.as_slice()).expect(&rt, "memory");
+    let listing = Listing::new(
+        &dirs.head,
+        dirs.users.as_slice(),
+        files.as_slice(),
+        dirs.online.as_slice(),
+    );
     assert!(rt; write_dirs(&mut disc, &mut slots, &listing, &mut pages) == Ok(()));
     let again = read_dirs(rt.alloc(), &mut disc, &slots).expect(&rt, "a directory");
     assert!(rt; again.files == dirs.files && again.online.len() == 2);
-    assert!(rt; again.online[0].1.get().blocks.as_slice() == [65_536, 69_999].as_slice());
+    assert!(rt; again.online[0].get().blocks.as_slice() == [65_536, 69_999].as_slice());
 }

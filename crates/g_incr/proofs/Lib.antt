@@ -1,6 +1,7 @@
 pub mod DumpLemmas
 pub mod HeaderLemmas
 pub mod ListLemmas
+pub mod NumberLemmas
 pub mod OneLemmas
 pub mod PieceLemmas
 pub mod PlanLemmas

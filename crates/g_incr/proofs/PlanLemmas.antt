@@ -13,6 +13,7 @@ use Rattle.g_entry.specs.FileFields.{AreSets, IsCopy, IsFile, lacks}
 use Rattle.g_entry.specs.HeadFields.{IsSerial}
 use Rattle.g_incr.specs.Layout.{FollowOn, content_at, holds, is_between}
 use Rattle.g_incr.specs.Plan.{ComesBefore, PlanGivesDump, blocks_of, content_blocks, dump_of, first_content, noted_files, noted_rec, numbered_from, waiting, waits, with_number}
+use Rattle.g_incr.proofs.NumberLemmas.{number_at}
 
 -- the copy that a version got, or the one that it had
 pub record GetsCopy (serial from to : ℕ) (r s : FileRec) : Type 0 where
@@ -104,12 +105,6 @@ made_of serial n from at to (r ∷ rs) le fits i d within =
     by_copy (inr is) (suc j) inside gets keeps =
         let sum = blocks_keeps r rs is in
         subst (λ (ss : List FileRec). IsMade serial from to (get_or rs j d) (get_or ss (suc j) d)) (sym (made_keeps serial n at r rs is)) (keeps (omega (arith, fits, sum)) j d (omega (arith, inside)))
-
--- records are numbered as they stand
-numbers : (n : ℕ) (rs : List FileRec) (i : ℕ) (d : FileRec) → i < length (numbered_from n rs) → (get_or (numbered_from n rs) i d).number ≡ n + i
-numbers n [] i d within = let no : ⊥ = omega (arith, within) in absurd no
-numbers n (r ∷ rs) zero d within = let sum : n ≡ n + 0 = omega arith in sum
-numbers n (r ∷ rs) (suc i) d within = numbers (n + 1) rs i d (omega (arith, within)) ∙ (let sum : (n + 1) + i ≡ n + suc i = omega arith in sum)
 
 -- their copies follow each other
 between_own : (serial from at to : ℕ) → from ≤ at → at < to → is_between serial from to (Some (record { serial = serial; first = at })) ≡ true
@@ -229,7 +224,7 @@ plan_gives_dump p content plan away long blocks =
       each_user = plan.each_user;
       held = plan.held;
       held_users = plan.held_users;
-      numbered = λ i r there. let within = slice_get_within files i r there in ap (λ (s : FileRec). s.number) (sym (get_or_from_slice_get files i r r there)) ∙ numbers 0 (noted_files p.serial c p.files) i r within ∙ (let sum : 0 + i ≡ i = omega arith in sum);
+      numbered = λ i r there. let within = slice_get_within files i r there in ap (λ (s : FileRec). s.number) (sym (get_or_from_slice_get files i r r there)) ∙ number_at 0 (noted_files p.serial c p.files) i r within ∙ (let sum : 0 + i ≡ i = omega arith in sum);
       each_file = λ i d within. file_keeps p.serial c to (get_or p.files i d) (get_or files i d) (is i d within) plan.serial low (plan.each_file i d (omega (arith, within)));
       owners = λ i d within. ap (holds p.held) (is i d within).owner ∙ plan.owners i d (omega (arith, within));
       in_order = λ i j d before within.

@@ -1,5 +1,5 @@
 //! A job between its turns.
-ghost use Rattle.std.specs.Prelude.{◌≡◌, ◌≤◌, ◌↔◌, ℕ, List, Ok, false, true, IfOk, OnErr, length};
+ghost use Rattle.std.specs.Prelude.{◌≡◌, ◌≤◌, ◌↔◌, ℕ, [], List, Ok, false, true, IfOk, OnErr, length};
 ghost use Rattle.g_budget.specs.Tariff.{IsTariff};
 ghost use Rattle.g_job.specs.Begun.{job_begun, room_of, standing_of};
 ghost use Rattle.g_act.specs.Bounds.{IsWithin};
@@ -15,11 +15,11 @@ ghost use Rattle.g_plain.specs.Asks.{Answer, RanInPart};
 ghost use Rattle.g_plain.specs.RanBy.{RanBy};
 ghost use Rattle.g_sched.specs.Rule.{IsInRange};
 
+use crate::new_job::NewJob;
 use crate::turn::Turn;
 use g_act::{Again, Work};
 use g_base::NoMemory;
 use g_budget::{Charge, Tariff, Usage};
-use g_lines::Document;
 use g_macro::Levels;
 use g_monitor::push_header;
 use g_name::{Local, Text, User};
@@ -73,36 +73,36 @@ impl Model for Job {
 }
 
 impl Job {
-    /// A job that begins: no turn was taken, and its monitoring file has its first line. `allowance` is its TIME in units,
-    /// `money` its MONEY; `lines` are those of its document.
-    pub fn new(
-        alloc: Global,
-        number: u64,
-        name: Local,
-        user: User,
-        allowance: u64,
-        money: u64,
-        lines: Document,
-    ) -> Result<Job, NoMemory>
-        requires allowance { (1 ≤ allowance) × (allowance ≤ 1000000) }
-        requires money { money ≤ 1000000 }
-        ensures { IfOk result (λ job. job ≡ job_begun number name user allowance money lines) }
+    /// The job of this number that begins: no turn was taken, and its monitoring file has its first line.
+    pub fn new(alloc: Global, number: u64, job: NewJob) -> Result<Job, NoMemory>
+        requires allowance { (1 ≤ job.time) × (job.time ≤ 1000000) }
+        requires money { job.money ≤ 1000000 }
+        ensures { IfOk result (λ begun. begun ≡ job_begun number job.name job.user job.time job.money job.lines) }
     {
+        let NewJob {
+            name,
+            user,
+            time,
+            money,
+            lines,
+        } = job;
         let Ok(levels) = Levels::new(alloc, lines) else {
             return Err(NoMemory);
         };
         let units = Units::new(alloc)?;
         let monitor = first_line(alloc, number, &name, &user)?;
+        let mut work = Work::new(alloc, levels, units);
+        work.take_back(with_room(alloc, ROOM)?);
         Ok(Job {
             number,
             name,
             user,
-            allowance,
+            allowance: time,
             money,
             used: 0,
             used_money: 0,
             turns: 0,
-            work: Work::new(alloc, levels, units),
+            work,
             again: None,
             wants: None,
             monitor,
@@ -207,6 +207,16 @@ impl Job {
     }
 }
 
+/// The room with which a monitoring file and the text of a turn begin, in bytes: that of a few lines.
+const ROOM: usize = 256;
+
+/// An empty text with room for so many bytes, so that it doesn't grow bit by bit.
+pub(crate) fn with_room(alloc: Global, room: usize) -> Result<Text, NoMemory>
+    ensures { IfOk result (λ text. text ≡ []) }
+{
+    Ok(Text::from(Vec::with_capacity(alloc, room)?))
+}
+
 /// The first line of a monitoring file, with its byte 10.
 #[tactic(auto, using(crate::proofs::HeaderLemmas::word_short, crate::proofs::HeaderLemmas::header_short))]
 fn first_line(alloc: Global, number: u64, name: &Local, user: &User) -> Result<Text, NoMemory>
@@ -215,7 +225,7 @@ fn first_line(alloc: Global, number: u64, name: &Local, user: &User) -> Result<T
 {
     let is_short = name.as_slice().len() <= 12 && user.as_slice().len() <= 12;
     prove!(is_short);
-    let mut text = Text::new(alloc);
+    let mut text = with_room(alloc, ROOM)?;
     push_header(&mut text, number, name, user)?;
     text.push(b'\n')?;
     Ok(text)

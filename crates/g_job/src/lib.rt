@@ -6,6 +6,7 @@ mod ending;
 mod job;
 mod laws;
 mod making;
+mod new_job;
 mod terminal;
 mod turn;
 
@@ -15,4 +16,5 @@ pub use laws::{
     turns_keep_the_document, turns_keep_the_rules, turns_keep_their_limits,
     turns_leave_their_store, turns_say_why_they_are_over,
 };
+pub use new_job::NewJob;
 pub use turn::Turn;

@@ -3,7 +3,7 @@ ghost use Rattle.std.specs.Prelude.{◌≡◌, IfOk, false};
 
 use g_act::{Asker, Made, Work};
 use g_budget::{Charge, Tariff, Usage};
-use g_job::{Job, Turn};
+use g_job::{Job, NewJob, Turn};
 use g_lines::Document;
 use g_macro::Levels;
 use g_name::{Local, User};
@@ -54,7 +54,14 @@ fn begun(alloc: Global, document: &[u8]) -> Result<Job, Fail>
     let name = Local::new(b"DEEP").ok_or("no name")?;
     let user = User::new(b"MASTER").ok_or("no user")?;
     let lines = Document::of_text(alloc, document)?;
-    let job = Job::new(alloc, 1, name, user, 20, 1_000, lines)?;
+    let job = NewJob {
+        name,
+        user,
+        time: 20,
+        money: 1_000,
+        lines,
+    };
+    let job = Job::new(alloc, 1, job)?;
     Ok(job)
 }
 

@@ -4,7 +4,7 @@ ghost use Rattle.g_job.specs.Spends.{Spends};
 
 use crate::refusing::Refusing;
 use g_budget::{Charge, Tariff, Usage};
-use g_job::{Job, Turn};
+use g_job::{Job, NewJob, Turn};
 use g_lines::Document;
 use g_name::{Local, Text, User};
 use std::alloc::Global;
@@ -38,15 +38,14 @@ fn begun(alloc: Global, begin: &Begin, document: &[u8]) -> Result<Job, Fail>
     let name = Local::new(begin.name.as_bytes()).ok_or("no name")?;
     let user = User::new(begin.user.as_bytes()).ok_or("no user")?;
     let lines = Document::of_text(alloc, document)?;
-    let job = Job::new(
-        alloc,
-        begin.number,
+    let job = NewJob {
         name,
         user,
-        begin.time,
-        begin.money,
+        time: begin.time,
+        money: begin.money,
         lines,
-    )?;
+    };
+    let job = Job::new(alloc, begin.number, job)?;
     Ok(job)
 }
 

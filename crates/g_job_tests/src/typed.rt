@@ -4,7 +4,7 @@ ghost use Rattle.g_job.specs.Spends.{Spends};
 
 use crate::refusing::Refusing;
 use g_budget::{Charge, Tariff, Usage};
-use g_job::{Job, Turn};
+use g_job::{Job, NewJob, Turn};
 use g_lines::{Document, split_at_byte};
 use g_name::{Local, Text, User};
 use std::alloc::Global;
@@ -32,9 +32,14 @@ static LINES: [(&str, &str); 10] = [
 fn seated(alloc: Global) -> Result<Job, Fail>
     ensures { IfOk result (λ job. job.over ≡ false) }
 {
-    let name = Local::new(b"MOP1").ok_or("no name")?;
-    let user = User::new(b"MASTER").ok_or("no user")?;
-    let mut job = Job::new(alloc, 1, name, user, 50, 1_000, Document::new(alloc))?;
+    let job = NewJob {
+        name: Local::new(b"MOP1").ok_or("no name")?,
+        user: User::new(b"MASTER").ok_or("no user")?,
+        time: 50,
+        money: 1_000,
+        lines: Document::new(alloc),
+    };
+    let mut job = Job::new(alloc, 1, job)?;
     job.hold();
     job.seat(1);
     Ok(job)

@@ -1,10 +1,10 @@
 //! From the text of a line to what it says.
-ghost use Rattle.std.specs.Prelude.{◌≡◌, ◌≢◌, ◌≤◌, ℕ, [], length, None, Some, IfOk, IfSome};
+ghost use Rattle.std.specs.Prelude.{◌≡◌, ◌≢◌, ◌↔◌, ◌≤◌, ℕ, [], length, None, Some, true, IfOk, IfSome, IsSome};
 ghost use Rattle.g_lang.specs.How as how;
 ghost use Rattle.g_lang.specs.Lines.{IsCommandText, KeepsCommand};
 ghost use Rattle.g_lang.specs.Said.{Reads, IsReadAs, command_said, line_said, is_input_said};
 ghost use Rattle.g_lang.specs.Texts.{HasCommands, IsVerbText};
-ghost use Rattle.g_lang.specs.Words.{label_in};
+ghost use Rattle.g_lang.specs.Words.{is_label, label_in, word_of};
 
 use crate::bytes::{is_digit, is_label};
 use crate::pieces::{
@@ -21,11 +21,18 @@ use std::alloc::Global;
 pub fn label_of(text: &[u8]) -> Option<Label>
     ensures { result ≡ label_in text.now }
 {
-    let line = without_front(text);
+    label_at(without_front(text))
+}
+
+/// The first word of a text, if that is a label.
+fn label_at(text: &[u8]) -> Option<Label>
+    ensures label { IsSome result ↔ (is_label (word_of text.now) ≡ true) }
+    ensures value { IfSome result (λ label. label ≡ word_of text.now) }
+{
     // Most lines have no label: the first byte tells it.
-    match line.split_first() {
+    match text.split_first() {
         Some((first, _)) if is_digit(*first) => {
-            let (word, _) = split_word(line);
+            let (word, _) = split_word(text);
             Label::new(word)
         }
         _ => None,
@@ -45,8 +52,10 @@ pub fn parse_line(alloc: Global, text: &[u8]) -> Result<Line, LangFault>
     if let Some(place) = wrong_place(text) {
         return Err(LangFault::BadLine(place));
     }
-    let line = read_line(alloc, trimmed(text))?;
-    Ok(line)
+    match read_line(alloc, trimmed(text)) {
+        Ok(line) => Ok(line),
+        Err(NoMemory) => Err(LangFault::NoMemory),
+    }
 }
 
 /// Whether the verb of a line is INPUT, behind whose line a document stands. It takes no memory; a text that is no
@@ -69,9 +78,9 @@ fn read_line(alloc: Global, text: &[u8]) -> Result<Line, NoMemory>
     requires { HasCommands text.now }
     ensures { IfOk result (λ line. line_said line ≡ how.read_trimmed text.now) }
 {
-    let (word, rest) = split_word(text);
-    match Label::new(word) {
+    match label_at(text) {
         Some(label) => {
+            let (_, rest) = split_word(text);
             let command = read_option(alloc, rest)?;
             Ok(Line {
                 label: Some(label),

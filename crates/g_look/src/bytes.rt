@@ -16,7 +16,7 @@ use crate::names::full_of;
 use crate::tape::tape_text;
 use crate::{Broken, Lie, LookFault};
 use g_copy::{CopyFault, DiscCopy, read_copy};
-use g_dirs::{BoxedCopy, Dirs};
+use g_dirs::{Dirs, FileCopy};
 use g_disc::Disc;
 use g_entry::{FileRec, TapeCopy};
 use g_name::Text;
@@ -147,7 +147,7 @@ fn second_place(tape: Option<TapeCopy>, place: Option<TapeCopy>) -> Option<TapeC
 pub(crate) fn file_text<D: Disc>(
     alloc: Global,
     disc: &mut D,
-    online: &[(u16, BoxedCopy)],
+    online: &[FileCopy],
     number: u16,
 ) -> Result<Option<Text>, LookFault>
     requires size { 2177 < (D.state disc.old).size }
@@ -170,12 +170,12 @@ pub(crate) fn file_text<D: Disc>(
 }
 
 /// The copy on disc of the file of this number.
-pub(crate) fn copy_at(online: &[(u16, BoxedCopy)], number: u16) -> Option<DiscCopy>
+pub(crate) fn copy_at(online: &[FileCopy], number: u16) -> Option<DiscCopy>
     ensures { result ≡ copy_at online.now number }
 {
     for one in online {
-        if one.0 == number {
-            return Some(one.1.get().copy());
+        if one.number() == number {
+            return Some(one.get().copy());
         }
     }
     None

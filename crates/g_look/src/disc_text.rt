@@ -13,7 +13,7 @@ use crate::bytes::copy_at;
 use crate::disc::Standing;
 use crate::parts::{push_told, push_told_line};
 use g_base::NoMemory;
-use g_dirs::{BoxedCopy, Dirs};
+use g_dirs::{Dirs, FileCopy};
 use g_entry::{FileRec, Format, Intent};
 use g_name::Text;
 use g_restore::Found;
@@ -93,7 +93,7 @@ fn push_counts(text: &mut Text, size: u32, dirs: &Dirs) -> Result<(), NoMemory>
 }
 
 /// How many blocks the files have on the disc.
-fn used_blocks(files: &[FileRec], online: &[(u16, BoxedCopy)]) -> u64
+fn used_blocks(files: &[FileRec], online: &[FileCopy]) -> u64
     requires { length files.now ≤ 1024 }
     ensures { result ≡ used_by files.now online.now }
 {
@@ -105,7 +105,7 @@ fn used_blocks(files: &[FileRec], online: &[(u16, BoxedCopy)]) -> u64
 }
 
 /// How many blocks the file of this number has on the disc.
-fn blocks_of(online: &[(u16, BoxedCopy)], number: u16) -> u32
+fn blocks_of(online: &[FileCopy], number: u16) -> u32
     ensures exact { result ≡ length (copy_blocks (copy_at online.now number)) }
 {
     match copy_at(online, number) {

@@ -22,7 +22,7 @@ use crate::ordered::asked_numbers;
 use crate::parts::push_told;
 use g_base::NoMemory;
 use g_copy::DiscCopy;
-use g_dirs::{BoxedCopy, Dirs};
+use g_dirs::{Dirs, FileCopy};
 use g_disc::Disc;
 use g_entry::{FileRec, UserRec};
 use g_name::{Full, Text, User};
@@ -87,7 +87,7 @@ fn asked_user(tree: &Tree, user: Option<&User>) -> Result<Option<u8>, LookFault>
 }
 
 /// The records of a directory as a tree, and where its files lie on the disc.
-pub(crate) fn tree_of(alloc: Global, dirs: Dirs) -> Result<(Tree, Vec<(u16, BoxedCopy)>), NoMemory>
+pub(crate) fn tree_of(alloc: Global, dirs: Dirs) -> Result<(Tree, Vec<FileCopy>), NoMemory>
     requires records { IsRecords dirs.users.items dirs.files.items }
     ensures users { IfOk result (λ made. made.0.users ≡ dirs.users.items) }
     ensures files { IfOk result (λ made. made.0.files ≡ dirs.files.items) }
@@ -109,7 +109,7 @@ pub(crate) fn tree_of(alloc: Global, dirs: Dirs) -> Result<(Tree, Vec<(u16, Boxe
 fn list_text(
     alloc: Global,
     tree: &Tree,
-    online: &[(u16, BoxedCopy)],
+    online: &[FileCopy],
     only: Option<u8>,
 ) -> Result<Text, NoMemory>
     ensures { IfOk result (λ text. text ≡ text_of (lines_listed tree.now.users tree.now.files online.now
@@ -127,7 +127,7 @@ fn list_text(
 fn push_lines(
     text: &mut Text,
     tree: &Tree,
-    online: &[(u16, BoxedCopy)],
+    online: &[FileCopy],
     numbers: &[u16],
 ) -> Result<(), NoMemory>
     ensures { OnOk result (text.new ≡ text.old
@@ -146,7 +146,7 @@ fn push_lines(
 fn push_numbered(
     text: &mut Text,
     tree: &Tree,
-    online: &[(u16, BoxedCopy)],
+    online: &[FileCopy],
     number: u16,
 ) -> Result<(), NoMemory>
     ensures { OnOk result (text.new ≡ text.old

@@ -13,7 +13,7 @@ use crate::LookFault;
 use crate::bytes::file_text;
 use crate::disc::see_directory;
 use crate::listing::tree_of;
-use g_dirs::BoxedCopy;
+use g_dirs::FileCopy;
 use g_disc::Disc;
 use g_entry::{FileRec, TapeCopy};
 use g_incr::ShelfFault;
@@ -67,7 +67,7 @@ fn file_bytes<D: Disc, T: Tapes>(
     alloc: Global,
     disc: &mut D,
     tapes: &mut T,
-    online: &[(u16, BoxedCopy)],
+    online: &[FileCopy],
     file: &FileRec,
 ) -> Result<Text, LookFault>
     requires size { 2177 < (D.state disc.old).size }

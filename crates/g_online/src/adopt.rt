@@ -11,7 +11,7 @@ use crate::records::kept_head;
 use crate::{Online, OnlineFault};
 use g_base::NoMemory;
 use g_disc::Disc;
-use g_entry::{FileRec, Head, TapeCopy, UserRec};
+use g_entry::{BoxedRec, FileRec, Head, TapeCopy, UserRec};
 use g_tree::Tree;
 use std::alloc::Global;
 
@@ -82,14 +82,14 @@ fn copied_users(alloc: Global, users: &[UserRec]) -> Result<Vec<UserRec>, NoMemo
 /// The files with these copies.
 fn copied_files(
     alloc: Global,
-    files: &[FileRec],
+    files: &[BoxedRec],
     copies: &[(u64, TapeCopy)],
 ) -> Result<Vec<FileRec>, NoMemory>
     ensures { IfOk result (λ copied. copied.items ≡ map (copied_rec copies.now) files.now) }
 {
     let mut copied = Vec::new(alloc);
     for file in files {
-        match copied.push(with_tape(file, copies)) {
+        match copied.push(with_tape(file.get(), copies)) {
             Ok(()) => {}
             Err(_) => return Err(NoMemory),
         }

@@ -13,7 +13,7 @@ use crate::copies::copy_of;
 use crate::{Online, OnlineFault};
 use g_base::Block;
 use g_copy::{CopyFault, read_copy};
-use g_dirs::BoxedCopy;
+use g_dirs::FileCopy;
 use g_disc::Disc;
 use g_name::Text;
 use std::alloc::Global;
@@ -79,7 +79,7 @@ impl<D: Disc> Online<D> {
 }
 
 /// Where block `part` of the file of this number lies.
-fn place_of_part(online: &[(u16, BoxedCopy)], number: u16, part: u32) -> Option<u32>
+fn place_of_part(online: &[FileCopy], number: u16, part: u32) -> Option<u32>
     requires { AllPairs (λ c d. c.0 < d.0) online.now }
     ensures { result ≡ slice_get (copy_places (copy_at online.now number)) part }
 {

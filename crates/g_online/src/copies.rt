@@ -7,32 +7,33 @@ ghost use Rattle.g_online.specs.Copies.{with_copy_at};
 
 use g_base::{BlockList, NoMemory};
 use g_copy::DiscCopy;
-use g_dirs::BoxedCopy;
+use g_dirs::{BoxedCopy, FileCopy};
 use std::alloc::Global;
 
 /// The copy on disc of the file of this number, where there is one.
-pub(crate) fn copy_of(online: &[(u16, BoxedCopy)], number: u16) -> Option<&DiscCopy>
+pub(crate) fn copy_of(online: &[FileCopy], number: u16) -> Option<&DiscCopy>
     requires { AllPairs (λ c d. c.0 < d.0) online.now }
     ensures { option_copied result ≡ copy_at online.now number }
 {
-    match online.binary_search_by_key(&number, |c| c.0) {
-        Ok(place) => Some(online[place].1.get()),
+    match online.binary_search_by_key(&number, |c| c.number()) {
+        Ok(place) => Some(online[place].get()),
         Err(_) => None,
     }
 }
 
 /// Puts the copy of the file of this number among the others, in the place of the one that it had.
-pub(crate) fn put_copy(online: &mut Vec<(u16, BoxedCopy)>, number: u16, copy: BoxedCopy)
+pub(crate) fn put_copy(online: &mut Vec<FileCopy>, number: u16, copy: BoxedCopy)
     requires rising { AllPairs (λ c d. c.0 < d.0) online.old.items }
     requires room { vec_len online.old < vec_capacity online.old }
     ensures { online.new.items ≡ with_copy_at (number, copy) online.old.items }
 {
-    match online.binary_search_by_key(&number, |c| c.0) {
+    let copy = copy.of_file(number);
+    match online.binary_search_by_key(&number, |c| c.number()) {
         Ok(place) => {
-            online[place] = (number, copy);
+            online[place] = copy;
         }
         Err(place) => {
-            if online.insert(place, (number, copy)).is_err() {
+            if online.insert(place, copy).is_err() {
                 unreachable!()
             }
         }

@@ -17,7 +17,7 @@ use crate::{Online, OnlineFault};
 use g_base::FIRST_FILE_BLOCK;
 use g_blocks::Pool;
 use g_copy::DiscCopy;
-use g_dirs::BoxedCopy;
+use g_dirs::FileCopy;
 use g_disc::Disc;
 
 impl<D: Disc> Online<D> {
@@ -77,12 +77,12 @@ pub(crate) fn give_unless(keeps: bool, pool: &mut Pool, copy: Option<&DiscCopy>)
 }
 
 /// Takes the copy of this number out of the list.
-pub(crate) fn forget_copy(online: &mut Vec<(u16, BoxedCopy)>, number: u16)
+pub(crate) fn forget_copy(online: &mut Vec<FileCopy>, number: u16)
     requires { AllPairs (λ c d. c.0 < d.0) online.old.items }
     ensures copies { online.new.items ≡ without_copy number online.old.items }
     ensures room { vec_len online.old < vec_capacity online.old → vec_len online.new < vec_capacity online.new }
 {
-    match online.binary_search_by_key(&number, |c| c.0) {
+    match online.binary_search_by_key(&number, |c| c.number()) {
         Ok(place) => {
             online.remove(place);
         }

@@ -23,9 +23,9 @@ use crate::numbers::UserNumbers;
 use crate::{Online, OnlineFault};
 use g_base::NoMemory;
 use g_blocks::Pool;
-use g_dirs::{BoxedCopy, Dirs, DirsFault, Pages, read_dirs};
+use g_dirs::{Dirs, DirsFault, FileCopy, Pages, read_dirs};
 use g_disc::Disc;
-use g_entry::{FileRec, Head, UserRec};
+use g_entry::{BoxedRec, Head, UserRec};
 use g_slots::Slots;
 use g_tree::Tree;
 use std::alloc::Global;
@@ -124,7 +124,7 @@ fn begin<D: Disc>(
     pool: Pool,
     tree: Tree,
     head: Head,
-    online: Vec<(u16, BoxedCopy)>,
+    online: Vec<FileCopy>,
 ) -> Online<D>
     requires low { 2177 < (D.state disc).size }
     requires high { (D.state disc).size ≤ 1_048_576 }
@@ -186,7 +186,7 @@ fn refusal(fault: DirsFault) -> OnlineFault
 }
 
 /// Nothing remembered, and the pool on which the blocks of these copies are taken.
-fn pool_of(alloc: Global, size: u32, online: &[(u16, BoxedCopy)]) -> Result<(Pages, Pool), NoMemory>
+fn pool_of(alloc: Global, size: u32, online: &[FileCopy]) -> Result<(Pages, Pool), NoMemory>
     requires low { 2177 < size }
     requires high { size ≤ 1_048_576 }
     requires places { AreApart size (numbers_of online.now) }
@@ -202,28 +202,28 @@ fn pool_of(alloc: Global, size: u32, online: &[(u16, BoxedCopy)]) -> Result<(Pag
 }
 
 /// The block numbers of all copies.
-fn collected(alloc: Global, online: &[(u16, BoxedCopy)]) -> Result<Vec<u32>, NoMemory>
+fn collected(alloc: Global, online: &[FileCopy]) -> Result<Vec<u32>, NoMemory>
     ensures { IfOk result (λ places. places.items ≡ numbers_of online.now) }
 {
     let mut places = Vec::new(alloc);
     for copy in online {
-        places.extend_from_slice(copy.1.get().blocks.as_slice())?;
+        places.extend_from_slice(copy.get().blocks.as_slice())?;
     }
     Ok(places)
 }
 
 /// The copies of the empty files, which have no block.
-fn empty_copies(alloc: Global, files: &[FileRec]) -> Result<Vec<(u16, BoxedCopy)>, NoMemory>
+fn empty_copies(alloc: Global, files: &[BoxedRec]) -> Result<Vec<FileCopy>, NoMemory>
     ensures { IfOk result (λ online. online.items ≡ empty_copies files.now) }
 {
     let mut online = Vec::new(alloc);
     for file in files {
-        if file.len == 0 {
+        if file.get().len == 0 {
             let copy = match empty_copy(alloc) {
                 Ok(copy) => copy,
                 Err(_) => return Err(NoMemory),
             };
-            online.push((file.number, copy))?;
+            online.push(copy.of_file(file.get().number))?;
         }
     }
     Ok(online)

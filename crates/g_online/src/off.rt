@@ -17,7 +17,7 @@ use crate::records::kept_head;
 use crate::{Online, OnlineFault};
 use g_base::FIRST_FILE_BLOCK;
 use g_blocks::Pool;
-use g_dirs::{BoxedCopy, Pages};
+use g_dirs::{FileCopy, Pages};
 use g_disc::Disc;
 use g_tree::NumberList;
 
@@ -52,7 +52,7 @@ impl<D: Disc> Online<D> {
 pub(crate) fn take_off(
     pool: &mut Pool,
     pages: &mut Pages,
-    online: &mut Vec<(u16, BoxedCopy)>,
+    online: &mut Vec<FileCopy>,
     numbers: &[u16],
 )
     requires rising { AllPairs (λ c d. c.0 < d.0) online.old.items }
@@ -70,7 +70,7 @@ pub(crate) fn take_off(
 }
 
 /// The same of one file.
-fn take_one_off(pool: &mut Pool, pages: &mut Pages, online: &mut Vec<(u16, BoxedCopy)>, number: u16)
+fn take_one_off(pool: &mut Pool, pages: &mut Pages, online: &mut Vec<FileCopy>, number: u16)
     requires rising { AllPairs (λ c d. c.0 < d.0) online.old.items }
     requires below { number < 1024 }
     requires apart { AllPairs (λ j k. j ≢ k) (copy_places (copy_at online.old.items number)) }

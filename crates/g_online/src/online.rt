@@ -1,6 +1,6 @@
 //! The filestore that is online: the disc, and in memory what it holds.
 ghost use Rattle.std.specs.Prelude.{◌≡◌, ◌≤◌, true, Contains, Some};
-ghost use Rattle.g_base.specs.Counts.{one_more};
+ghost use Rattle.g_base.specs.Fuse.{armed_with};
 ghost use Rattle.g_contents.specs.Contents.{File, recs_in};
 ghost use Rattle.g_contents.specs.Facts.{IsTied, room_of};
 ghost use Rattle.g_online.specs.Room.{FitsDisc};
@@ -9,7 +9,7 @@ use crate::copies::copy_of;
 use crate::numbers::UserNumbers;
 use crate::pin_list::PinList;
 use g_blocks::Pool;
-use g_dirs::{BoxedCopy, Pages};
+use g_dirs::{FileCopy, Pages};
 use g_disc::Disc;
 use g_entry::Head;
 use g_slots::Slots;
@@ -28,7 +28,7 @@ pub struct Online<D: Disc> {
     pub(crate) pool: Pool,
     pub(crate) tree: Tree,
     pub(crate) head: Head,
-    pub(crate) online: Vec<(u16, BoxedCopy)>,
+    pub(crate) online: Vec<FileCopy>,
     pub(crate) pins: Option<PinList>,
     pub(crate) changed: UserNumbers,
     pub(crate) touched: UserNumbers,
@@ -117,7 +117,7 @@ impl<D: Disc> Online<D> {
     pub fn arm(&mut self, k: u32)
         requires { 1 ≤ k }
         ensures armed { self.new ≡ record self.old {
-          disc = record self.old.disc { fuse = Some k; arms = one_more self.old.disc.arms };
+          disc = record self.old.disc { fuse = Some k; arms = armed_with k self.old.disc.writes self.old.disc.arms };
         } }
         ensures tied { IsTied self.new }
     {

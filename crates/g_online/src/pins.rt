@@ -17,9 +17,9 @@ use crate::{Online, OnlineFault};
 use g_base::{Block, BlockList, NoMemory, blocks_for};
 use g_blocks::Pool;
 use g_copy::DiscCopy;
-use g_dirs::BoxedCopy;
+use g_dirs::FileCopy;
 use g_disc::Disc;
-use g_entry::{FileRec, TapeCopy};
+use g_entry::{BoxedRec, FileRec, TapeCopy};
 use g_tree::Tree;
 use std::alloc::Global;
 
@@ -118,7 +118,7 @@ fn place_of(pins: &[Pinned], i: usize, part: u32) -> Option<u32>
 }
 
 /// Gives the blocks of those versions back to the pool that no file has any more.
-pub(crate) fn give_lost(pool: &mut Pool, pins: &[Pinned], files: &[FileRec])
+pub(crate) fn give_lost(pool: &mut Pool, pins: &[Pinned], files: &[BoxedRec])
     requires apart { AllPairs (λ j k. j ≢ k) (lost_places files.now pins.now) }
     requires taken { All (IsTaken pool.old) (lost_places files.now pins.now) }
     ensures { HasGiven (lost_places files.now pins.now) pool.old pool.new }
@@ -129,7 +129,7 @@ pub(crate) fn give_lost(pool: &mut Pool, pins: &[Pinned], files: &[FileRec])
 }
 
 /// The same of one version.
-fn give_one_lost(pool: &mut Pool, pin: &Pinned, files: &[FileRec])
+fn give_one_lost(pool: &mut Pool, pin: &Pinned, files: &[BoxedRec])
     requires apart { AllPairs (λ j k. j ≢ k) (lost_of files.now pin.now) }
     requires taken { All (IsTaken pool.old) (lost_of files.now pin.now) }
     ensures { HasGiven (lost_of files.now pin.now) pool.old pool.new }
@@ -142,17 +142,17 @@ fn give_one_lost(pool: &mut Pool, pin: &Pinned, files: &[FileRec])
 }
 
 /// Whether the version of this stamp is a file's.
-fn is_filed(files: &[FileRec], stamp: u64) -> bool
+fn is_filed(files: &[BoxedRec], stamp: u64) -> bool
     ensures { result ≡ is_filed files.now stamp }
 {
-    files.iter().any(|file| file.stamp == stamp)
+    files.iter().any(|file| file.get().stamp == stamp)
 }
 
 /// The versions that wait, by owner and then by number, with their places on tape end to end from block `first` on.
 fn waiting_versions(
     alloc: Global,
     tree: &Tree,
-    online: &[(u16, BoxedCopy)],
+    online: &[FileCopy],
     serial: u32,
     first: u32,
 ) -> Result<Vec<Pinned>, NoMemory>
@@ -179,8 +179,8 @@ fn pin_owner(
     at: &mut u32,
     serial: u32,
     owner: u8,
-    files: &[FileRec],
-    online: &[(u16, BoxedCopy)],
+    files: &[BoxedRec],
+    online: &[FileCopy],
 ) -> Result<(), NoMemory>
     requires rising { AllPairs (λ c d. c.0 < d.0) online.now }
     requires few { length files.now ≤ 1024 }
@@ -190,7 +190,7 @@ fn pin_owner(
         pins.old.items at.old pins.new.items at.new) }
 {
     for file in files {
-        match pin_file(pins, at, serial, owner, file, online) {
+        match pin_file(pins, at, serial, owner, file.get(), online) {
             Ok(()) => {}
             Err(_) => return Err(NoMemory),
         }
@@ -205,7 +205,7 @@ fn pin_file(
     serial: u32,
     owner: u8,
     file: &FileRec,
-    online: &[(u16, BoxedCopy)],
+    online: &[FileCopy],
 ) -> Result<(), NoMemory>
     requires rising { AllPairs (λ c d. c.0 < d.0) online.now }
     requires room { at.old + blocks_for file.now.len < 2 ^ 32 }

@@ -32,7 +32,7 @@ use crate::{Online, OnlineFault};
 use g_base::{BlockList, FIRST_FILE_BLOCK, blocks_for};
 use g_blocks::Pool;
 use g_copy::{DiscCopy, write_copy};
-use g_dirs::{BoxedCopy, Pages};
+use g_dirs::{BoxedCopy, FileCopy, Pages};
 use g_disc::Disc;
 use g_entry::{FileRec, Head};
 use g_name::Text;
@@ -133,7 +133,7 @@ fn make_ready(
     alloc: Global,
     pool: &mut Pool,
     tree: &mut Tree,
-    online: &mut Vec<(u16, BoxedCopy)>,
+    online: &mut Vec<FileCopy>,
     numbers: &[u16],
     len: u32,
 ) -> Result<BoxedCopy, OnlineFault>
@@ -166,7 +166,7 @@ fn make_ready(
 }
 
 /// Makes room for one more file in the lists of files and of copies; false without memory.
-fn make_room(tree: &mut Tree, online: &mut Vec<(u16, BoxedCopy)>) -> bool
+fn make_room(tree: &mut Tree, online: &mut Vec<FileCopy>) -> bool
     ensures users { tree.new.users ≡ tree.old.users }
     ensures files { tree.new.files ≡ tree.old.files }
     ensures items { online.new.items ≡ online.old.items }
@@ -233,7 +233,7 @@ fn list_of(numbers: &[u32]) -> BlockList
 }
 
 /// Gives the blocks of these files back to the pool.
-fn give_all(pool: &mut Pool, online: &[(u16, BoxedCopy)], numbers: &[u16])
+fn give_all(pool: &mut Pool, online: &[FileCopy], numbers: &[u16])
     requires rising { AllPairs (λ c d. c.0 < d.0) online.now }
     requires apart { AllPairs (λ j k. j ≢ k) (places_off numbers.now online.now) }
     requires taken { All (IsTaken pool.old) (places_off numbers.now online.now) }
@@ -245,7 +245,7 @@ fn give_all(pool: &mut Pool, online: &[(u16, BoxedCopy)], numbers: &[u16])
 }
 
 /// The same of one file.
-fn give_one(pool: &mut Pool, online: &[(u16, BoxedCopy)], number: u16)
+fn give_one(pool: &mut Pool, online: &[FileCopy], number: u16)
     requires rising { AllPairs (λ c d. c.0 < d.0) online.now }
     requires apart { AllPairs (λ j k. j ≢ k) (copy_places (copy_at online.now number)) }
     requires taken { All (IsTaken pool.old) (copy_places (copy_at online.now number)) }
@@ -255,7 +255,7 @@ fn give_one(pool: &mut Pool, online: &[(u16, BoxedCopy)], number: u16)
 }
 
 /// Takes them again, which needs no memory.
-fn retake_all(pool: &mut Pool, online: &[(u16, BoxedCopy)], numbers: &[u16])
+fn retake_all(pool: &mut Pool, online: &[FileCopy], numbers: &[u16])
     requires rising { AllPairs (λ c d. c.0 < d.0) online.now }
     requires apart { AllPairs (λ j k. j ≢ k) (places_off numbers.now online.now) }
     requires free { All (IsFree pool.old) (places_off numbers.now online.now) }
@@ -267,7 +267,7 @@ fn retake_all(pool: &mut Pool, online: &[(u16, BoxedCopy)], numbers: &[u16])
 }
 
 /// The same of one file.
-fn retake_one(pool: &mut Pool, online: &[(u16, BoxedCopy)], number: u16)
+fn retake_one(pool: &mut Pool, online: &[FileCopy], number: u16)
     requires rising { AllPairs (λ c d. c.0 < d.0) online.now }
     requires apart { AllPairs (λ j k. j ≢ k) (copy_places (copy_at online.now number)) }
     requires free { All (IsFree pool.old) (copy_places (copy_at online.now number)) }
@@ -296,7 +296,7 @@ fn unjam_first<D: Disc>(
     live: &mut bool,
     head: &mut Head,
     tree: &Tree,
-    online: &mut Vec<(u16, BoxedCopy)>,
+    online: &mut Vec<FileCopy>,
     pinned: bool,
     numbers: &[u16],
 ) -> Result<(), OnlineFault>
@@ -329,7 +329,7 @@ fn unjam_first<D: Disc>(
 }
 
 /// Takes the copies of these files out of the list, and marks their records.
-fn forget_all(pages: &mut Pages, online: &mut Vec<(u16, BoxedCopy)>, numbers: &[u16])
+fn forget_all(pages: &mut Pages, online: &mut Vec<FileCopy>, numbers: &[u16])
     requires rising { AllPairs (λ c d. c.0 < d.0) online.old.items }
     requires below { All (λ n. n < 1024) numbers.now }
     ensures copies { online.new.items ≡ without_copies numbers.now online.old.items }
@@ -342,7 +342,7 @@ fn forget_all(pages: &mut Pages, online: &mut Vec<(u16, BoxedCopy)>, numbers: &[
 }
 
 /// The same of one file.
-fn forget_one(pages: &mut Pages, online: &mut Vec<(u16, BoxedCopy)>, number: u16)
+fn forget_one(pages: &mut Pages, online: &mut Vec<FileCopy>, number: u16)
     requires rising { AllPairs (λ c d. c.0 < d.0) online.old.items }
     requires below { number < 1024 }
     ensures copies { online.new.items ≡ without_copy number online.old.items }
@@ -401,7 +401,7 @@ fn is_kept_at(pins: &Option<PinList>, tree: &Tree, number: u16) -> bool
 fn replace_copy(
     keeps: bool,
     pool: &mut Pool,
-    online: &mut Vec<(u16, BoxedCopy)>,
+    online: &mut Vec<FileCopy>,
     number: u16,
     copy: BoxedCopy,
 )

@@ -9,6 +9,7 @@ use Rattle.g_entry.specs.declared.head.Head.{Head}
 use Rattle.g_entry.specs.FileFields.{IsFile}
 use Rattle.g_entry.specs.HeadFields.{IsHead}
 use Rattle.g_entry.specs.Rules.{SameName, StampsBelow}
+use Rattle.g_entry.proofs.RuleLemmas.{file_anew}
 use Rattle.g_tree.specs.Records.{IsRecords}
 use Rattle.g_tree.specs.State.{with_file as tree_with_file}
 use Rattle.g_tree.proofs.PlaceLemmas.{numbered_apart}
@@ -84,18 +85,7 @@ module _ (c : Contents) (r : FileRec) (len : ℕ) (kept : KeepsRules c) (there :
   is_it s here same = one_of_key (λ (t : FileRec). t.number) (recs_in c) s r (numbered_apart (recs_in c) kept.records.numbers 0) here there same
 
   is_file : IsFile r → IsFile (next_rec r c.head.next_stamp len)
-  is_file is = record {
-    local = is.local;
-    least_generation = is.least_generation;
-    most_generation = is.most_generation;
-    lang = is.lang;
-    stamp = early;
-    len = short;
-    others = is.others;
-    sets = is.sets;
-    no_owner = is.no_owner;
-    tape = tt;
-  }
+  is_file is = file_anew r.number c.head.next_stamp len None r is early short tt
 
   its : (P : FileRec → Type 0) → All P (recs_in c) → P r
   its P all = All-contains P (recs_in c) r all there

@@ -3,7 +3,7 @@ ghost use Rattle.std.specs.Prelude.{◌≤◌};
 
 use g_base::{Block, NoMemory};
 use g_disc::{Disc, Leave, MemoryDisc};
-use g_entry::FileRec;
+use g_entry::BoxedRec;
 use g_name::{Full, Lang, Local, User};
 use g_online::Online;
 use g_plain::StoreFault;
@@ -177,11 +177,11 @@ fn refusal(rt: &(impl Abort + AllocGlobal), tapes: &mut MemoryTapes) -> Option<S
 }
 
 /// Compares files, which are numbered from 0: owner, stamp, and the first block of the copy.
-fn compare_files(rt: &impl Abort, files: &[FileRec], want: &[(u8, u64, u32)]) {
+fn compare_files(rt: &impl Abort, files: &[BoxedRec], want: &[(u8, u64, u32)]) {
     assert!(rt; files.len() == want.len());
     for i in 0..files.len() {
         let (owner, stamp, first) = want[i];
-        let file = &files[i];
+        let file = files[i].get();
         assert!(rt; usize::from(file.number) == i && file.owner == owner && file.stamp == stamp);
         let copy = file.tape.expect(rt, "a copy");
         assert!(rt; copy.first == first);

@@ -44,17 +44,6 @@ pub enum PeriFault {
     NoMemory,
 }
 
-impl From<NoMemory> for PeriFault {
-    ghost use Rattle.std.specs.Prelude.{◌≡◌};
-    ghost use Rattle.g_peri.specs.declared.units.PeriFault.TheVariants.{NoMemory};
-
-    ghost from_gives = { λ _ fault. fault ≡ NoMemory };
-
-    fn from(_e: NoMemory) -> PeriFault {
-        PeriFault::NoMemory
-    }
-}
-
 /// The 24 units of a job. Contracts see what each of them holds.
 #[derive(Debug, Drop)]
 pub struct Units {
@@ -169,9 +158,13 @@ impl Units {
             program.step_back();
             return Err(PeriFault::Illegal);
         };
-        let reply = self.answer(program, &control)?;
-        program.set_word(area + 1, Word::from(reply));
-        Ok(())
+        match self.answer(program, &control) {
+            Ok(reply) => {
+                program.set_word(area + 1, Word::from(reply));
+                Ok(())
+            }
+            Err(NoMemory) => Err(PeriFault::NoMemory),
+        }
     }
 
     /// Does a transfer but for the reply, which it answers.

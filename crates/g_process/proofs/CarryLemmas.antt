@@ -27,6 +27,7 @@ use Rattle.g_process.specs.declared.job.Job.{Job}
 use Rattle.g_process.specs.Prepared.{AtBlock, AtCopies, AtIntent, CarriesOut, HasIntended, HasMoved, MayCarry, StoppedIntending, StopsAt, copies_of}
 use Rattle.g_process.specs.Written.{HasWritten, IsReadable, MayWrite, WritesBlocks}
 use Rattle.g_process.proofs.BecomeLemmas.{labels_beside, same_mounted, same_serials}
+use Rattle.g_disc.proofs.CallLemmas.{Causes-for}
 
 -- WHAT THE INTENT'S COMMIT MAKES
 intended : (told pinned : Bool) (i : Option Intent) (c : Contents) → changed told pinned (SetIntent i) c ≡ with_intent i c
@@ -47,14 +48,7 @@ has_intended i o new u none done =
       blocks = ok.blocks;
       commits = ok.commits;
       writes = subst (λ (n : ℕ). RoseBy n o.disc.writes new.disc.writes) (let n : 0 + ok.blocks ≡ ok.blocks = omega arith in n) ok.writes;
-      causes = record {
-        size = done.causes.size;
-        arms = done.causes.arms;
-        reads_kept = done.causes.reads_kept;
-        reads_rose = done.causes.reads_rose;
-        writes_kept = λ _. done.causes.writes_kept (λ is. let no : ⊥ = cc in no);
-        writes_rose = λ no. absurd no;
-      };
+      causes = Causes-for (λ p. p) (λ p. p) (λ is. absurd (let no : ⊥ = cc in no)) (λ no. absurd no) done.causes;
       tied = done.tied;
     }
 
@@ -77,14 +71,7 @@ has_stopped i o new e done =
       live = stopped.live;
       told = done.told;
       holds = λ blocks held. by_case blocks (stopped.holds blocks held).one;
-      causes = record {
-        size = done.causes.size;
-        arms = done.causes.arms;
-        reads_kept = done.causes.reads_kept;
-        reads_rose = done.causes.reads_rose;
-        writes_kept = λ never. absurd (never tt);
-        writes_rose = λ _. done.causes.writes_rose answer;
-      };
+      causes = Causes-for (λ p. p) (λ p. p) (λ _. tt) (λ _. answer) done.causes;
       tied = done.tied;
     }
   where

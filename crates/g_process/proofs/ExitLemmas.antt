@@ -36,7 +36,7 @@ use Rattle.g_state_process.specs.Releasing.{without_reel}
 use Rattle.g_state_process.proofs.ReleaseLemmas.{one_block_is_none}
 use Rattle.g_dumper.specs.Keeps.{spent_with, up_with}
 use Rattle.g_dumper.proofs.ShelfLemmas.{reel_there, told_is}
-use Rattle.g_dumper.proofs.KeepLemmas.{belongs_spent, belongs_up, devices_belong, without_dump}
+use Rattle.g_dumper.proofs.KeepLemmas.{belongs_spent, belongs_up, without_dump}
 use Rattle.g_contents.proofs.HoldLemmas.{holds_one}
 use Rattle.g_process.specs.Exits.{AreParts, HasReleased, IsClearedBy, IsContentOf, IsLastCut, LacksMark, MayFill, Stops, StopsBefore, StopsCopies, StopsIntent, StopsMark, cleared}
 use Rattle.g_process.specs.Planned.{IsFree, IsTaken, living, process_plan, versions}
@@ -54,6 +54,7 @@ use Rattle.g_process.proofs.ReelLemmas.{filled_long, filled_serial}
 use Rattle.g_process.proofs.ReleaseLemmas.{AreApart}
 use Rattle.g_process.proofs.TextLemmas.{source_part}
 use Rattle.g_process.proofs.WholeLemmas.{none_short}
+use Rattle.g_state_laws.proofs.TiedLemmas.{devices_belong}
 
 -- the plan keeps off its own reel's dumps: no record in it names a copy
 bare_away : (files : List FileRec) (n from to : ℕ) → All (λ (r : FileRec). is_between n from to r.tape ≡ false) (map bare_rec files)

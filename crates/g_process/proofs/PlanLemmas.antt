@@ -1,10 +1,10 @@
 -- The plan of a process keeps the rules of a plan, its versions are those that aren't empty, and their copies keep the rules of a directory.
 use Rattle.std.proofs.Common.{◌≡◌, ◌≢◌, ℕ, zero, suc, ◌+◌, ◌-◌, ◌^◌, ◌<◌, ◌≤◌, ◌==◌, Bool, true, false, List, [], ◌∷◌, ◌++◌, get_or, length, map, take, Option, Some, None, refl, sym, ◌∙◌, ap, arith, subst, inl, inr, slice_get}
-use Rattle.std.specs.Prelude.{◌⊎◌, ◌&&◌, All, AllPairs, Contains, IfOk, IfSome, Result, Ok, Err, filter, is_some, nat_lt, slice_index}
+use Rattle.std.specs.Prelude.{◌⊎◌, ◌&&◌, All, AllPairs, Contains, IfOk, Result, Ok, Err, filter, is_some, nat_lt, slice_index}
 use Rattle.std.specs.List.Sorted.{IsStrictlyIncreasing}
 use Rattle.std.proofs.lemmas.Bool.{cases_Bool, cond-false, cond-true, eq-eqb, lt-ltb, ltb-true, ne_eqb}
 use Rattle.std.proofs.lemmas.List.{length-map}
-use Rattle.std.proofs.lemmas.List.Elements.{All-contains, All-head, All-map, All-tail, Contains-get_or}
+use Rattle.std.proofs.lemmas.List.Elements.{All-contains, All-map, Contains-get_or}
 use Rattle.std.proofs.lemmas.List.Sums.{sum_by-cons}
 use Rattle.std.proofs.lemmas.Option.{slice_get_within}
 use Rattle.g_base.specs.Block.{blocks_for}
@@ -13,16 +13,14 @@ use Rattle.g_entry.specs.declared.file_rec.TapeCopy.{TapeCopy}
 use Rattle.g_entry.specs.declared.user_rec.UserRec.{UserRec}
 use Rattle.g_entry.specs.FileFields.{IsCopy, IsFile}
 use Rattle.g_entry.specs.HeadFields.{IsSerial}
-use Rattle.g_entry.specs.Rules.{AreFiles, AreUsers, SameName, StampsBelow}
+use Rattle.g_entry.specs.Rules.{AreUsers, SameName}
 use Rattle.g_tree.specs.Records.{IsRecords}
-use Rattle.g_contents.specs.Contents.{Contents, File, copied_rec, copy_of, recs_in, with_copies, with_copy}
+use Rattle.g_contents.specs.Contents.{Contents, File, copied_rec, copy_of, recs_in}
 use Rattle.g_contents.specs.Facts.{IsTied, OnlineFacts}
 use Rattle.g_incr.proofs.PlanLemmas.{blocks_most}
 use Rattle.g_incr.specs.Plan.{IsPlan, Plan, blocks_of, content_blocks, first_content, waiting, waits}
-use Rattle.g_online.specs.Allowed.{KeepsRules, Lies}
-use Rattle.g_online.specs.Ready.{IsReadyFor, adopted, ready_with, Readied}
-use Rattle.g_online.proofs.CloseNoteLemmas.{pairs_map}
-use Rattle.g_state.proofs.DirectoryLemmas.{copied_recs}
+use Rattle.g_online.specs.Ready.{IsReadyFor, ready_with, Readied}
+use Rattle.g_online.proofs.CopiedLemmas.{KeepsEmpty, records_copied, rules_copied}
 use Rattle.g_state.specs.Meaning.{files_of}
 use Rattle.g_state_laws.specs.Dumping.{AreDumpable}
 use Rattle.g_state_process.specs.Forgotten.{bare, bare_file, bare_rec, every_user}
@@ -231,22 +229,6 @@ places_fit serial at (r ∷ rs) named low =
     all_cons P x xs one all zero d within = one
     all_cons P x xs one all (suc k) d within = all k d (omega (arith, within))
 
-copied_fits : (copies : List (ℕ × TapeCopy)) (stamp : ℕ) (old : Option TapeCopy) → All MayStand copies → IfSome old IsCopy → IfSome (copy_of copies stamp old) IsCopy
-copied_fits [] stamp old all was = was
-copied_fits (c ∷ cs) stamp old all was = by_stamp (cases_Bool (c.0 == stamp)) (copied_fits cs stamp old (All-tail MayStand c cs all) was)
-  where
-    by_stamp : ((c.0 == stamp) ≡ true) ⊎ ((c.0 == stamp) ≡ false) → IfSome (copy_of cs stamp old) IsCopy → IfSome (copy_of (c ∷ cs) stamp old) IsCopy
-    by_stamp (inl is) rest = subst (λ (x : Option TapeCopy). IfSome x IsCopy) (sym (cond-true (c.0 == stamp) (Some c.1) (copy_of cs stamp old) is)) (All-head MayStand c cs all)
-    by_stamp (inr isnt) rest = subst (λ (x : Option TapeCopy). IfSome x IsCopy) (sym (cond-false (c.0 == stamp) (Some c.1) (copy_of cs stamp old) isnt)) rest
-
-still_copied : (copies : List (ℕ × TapeCopy)) (stamp : ℕ) (old : Option TapeCopy) → is_some old ≡ true → is_some (copy_of copies stamp old) ≡ true
-still_copied [] stamp old was = was
-still_copied (c ∷ cs) stamp old was = by_stamp (cases_Bool (c.0 == stamp)) (still_copied cs stamp old was)
-  where
-    by_stamp : ((c.0 == stamp) ≡ true) ⊎ ((c.0 == stamp) ≡ false) → is_some (copy_of cs stamp old) ≡ true → is_some (copy_of (c ∷ cs) stamp old) ≡ true
-    by_stamp (inl is) rest = ap is_some (cond-true (c.0 == stamp) (Some c.1) (copy_of cs stamp old) is)
-    by_stamp (inr isnt) rest = ap is_some (cond-false (c.0 == stamp) (Some c.1) (copy_of cs stamp old) isnt) ∙ rest
-
 -- a version gets one
 pub copied_some : (serial at : ℕ) (rs : List FileRec) (r : FileRec) (old : Option TapeCopy) → Contains rs r → is_some (copy_of (copies_from serial at rs) r.stamp old) ≡ true
 copied_some serial at [] r old (i, within, is) = absurd (let no : ⊥ = omega (arith, within) in no)
@@ -271,65 +253,6 @@ copied_apart serial at (q ∷ qs) stamp old apart =
   where
     later : (p : FileRec) → Contains qs p → Contains (q ∷ qs) p
     later p (i, within, is) = (suc i, omega (arith, within), is)
-
-module _ (copies : List (ℕ × TapeCopy)) (stand : All MayStand copies) where
-  file_fits : (r : FileRec) → IsFile r → IsFile (copied_rec copies r)
-  file_fits r is = record {
-    local = is.local;
-    least_generation = is.least_generation;
-    most_generation = is.most_generation;
-    lang = is.lang;
-    stamp = is.stamp;
-    len = is.len;
-    others = is.others;
-    sets = is.sets;
-    no_owner = is.no_owner;
-    tape = copied_fits copies r.stamp r.tape stand is.tape;
-  }
-
-  abbrev KeepsEmpty : FileRec → Type 0
-  KeepsEmpty r = r.len ≡ 0 → copy_of copies r.stamp r.tape ≡ r.tape
-
-  files_fit : (users : ℕ) (files : List FileRec) → All KeepsEmpty files → AreFiles users files → AreFiles users (map (copied_rec copies) files)
-  files_fit users files kept are = record {
-    few = let long = length-map files (copied_rec copies) in let few = are.few in omega (arith, long, few);
-    owners = All-map (λ r. r.owner < users) (copied_rec copies) files are.owners;
-    trapped = All-map (λ r. All (λ pair. pair.0 < users) r.traps.others) (copied_rec copies) files are.trapped;
-    names = pairs_map (λ r s. SameName r s → ⊥) (copied_rec copies) files
-        (λ i j d less inside same. are.names i j d less inside (record { owner = same.owner; local = same.local; generation = same.generation; lang = same.lang }));
-    stamps = pairs_map (λ r s. r.stamp ≢ s.stamp) (copied_rec copies) files are.stamps;
-    dated = All-map (λ r. 1 ≤ r.stamp) (copied_rec copies) files are.dated;
-    empty = All-map (λ r. r.len ≡ 0 → r.tape ≡ None) (copied_rec copies) files (λ k d inside none. kept k d inside none ∙ are.empty k d inside none);
-  }
-
-  pub records_fit : (c : Contents) → All KeepsEmpty (recs_in c) → IsRecords c.users (recs_in c) → IsRecords c.users (map (copied_rec copies) (recs_in c))
-  records_fit c kept is = record {
-    each_user = is.each_user;
-    among_users = is.among_users;
-    each_file = All-map IsFile (copied_rec copies) (recs_in c) (λ k d inside. file_fits (get_or (recs_in c) k d) (is.each_file k d inside));
-    numbers = record {
-      rising = pairs_map (λ r s. r.number < s.number) (copied_rec copies) (recs_in c) is.numbers.rising;
-      below = All-map (λ r. r.number < 1024) (copied_rec copies) (recs_in c) is.numbers.below;
-    };
-    among_files = files_fit (length c.users) (recs_in c) kept is.among_files;
-  }
-
-  lies_still : (f : File) → Lies f → Lies (with_copy copies f)
-  lies_still f lies = record { somewhere = by_case lies.somewhere; empty = lies.empty }
-    where
-      by_case : (f.online ≡ true) ⊎ (is_some f.rec.tape ≡ true) → (f.online ≡ true) ⊎ (is_some (copy_of copies f.rec.stamp f.rec.tape) ≡ true)
-      by_case (inl on) = inl on
-      by_case (inr copied) = inr (still_copied copies f.rec.stamp f.rec.tape copied)
-
-  pub rules_adopted : (c : Contents) (last : ℕ) → last < 2 ^ 62 → All KeepsEmpty (recs_in c) → KeepsRules c → KeepsRules (adopted last copies c)
-  rules_adopted c last low kept rules =
-      let same : map (copied_rec copies) (recs_in c) ≡ map (λ (f : File). f.rec) (with_copies copies c.files) = sym (copied_recs copies c.files) in
-      record {
-        head = record { least_stamp = rules.head.least_stamp; most_stamp = rules.head.most_stamp; last_dump = low; intent = tt };
-        records = subst (IsRecords c.users) same (records_fit c kept rules.records);
-        dated = subst (StampsBelow c.head.next_stamp) same (All-map (λ r. r.stamp < c.head.next_stamp) (copied_rec copies) (recs_in c) rules.dated);
-        lie = All-map Lies (with_copy copies) c.files (λ k d inside. lies_still (get_or c.files k d) (rules.lie k d inside));
-      }
 
 -- two records of one key are one
 get_any : (xs : List FileRec) (k : ℕ) (d e : FileRec) → k < length xs → get_or xs k d ≡ get_or xs k e
@@ -364,7 +287,7 @@ number_one rs rising r q in_r in_q same =
     key_one (λ (x : FileRec). x.number) rs (λ i j d less inside e. let below = rising i j d less inside in let no : ⊥ = omega (arith, below, e) in no) r q in_r in_q same
 
 -- WHAT IS MADE READY
-empty_kept : (serial at : ℕ) (c : Contents) → IsRecords c.users (recs_in c) → All (λ (r : FileRec). r.len ≡ 0 → copy_of (copies_from serial at (versions c)) r.stamp r.tape ≡ r.tape) (recs_in c)
+empty_kept : (serial at : ℕ) (c : Contents) → IsRecords c.users (recs_in c) → All (KeepsEmpty (copies_from serial at (versions c))) (recs_in c)
 empty_kept serial at c rules k d within none =
     let r = get_or (recs_in c) k d in
     copied_apart serial at (versions c) r.stamp r.tape (λ q there same.
@@ -377,7 +300,8 @@ pub ready_rules : (serial at : ℕ) (o : OnlineFacts) → o.live ≡ true → Is
     → IsRecords o.contents.users (map (copied_rec (copies_from serial at (versions o.contents))) (recs_in o.contents))
 ready_rules serial at o live tied named low =
     let rules = rules_here o live tied in
-    records_fit (copies_from serial at (versions o.contents)) (places_fit serial at (versions o.contents) named low) o.contents (empty_kept serial at o.contents rules.records) rules.records
+    records_copied (copies_from serial at (versions o.contents)) (places_fit serial at (versions o.contents) named low) o.contents.users (recs_in o.contents)
+    (empty_kept serial at o.contents rules.records) rules.records
 
 pub made_ready : (serial at last : ℕ) (o : OnlineFacts) (ready : Readied) → o.live ≡ true → IsTied o → IsSerial serial → last < 2 ^ 62 → at + blocks_of (versions o.contents) < 2 ^ 32
     → ready ≡ ready_with (copies_from serial at (versions o.contents)) o.contents → IsReadyFor last (copies_from serial at (versions o.contents)) ready o
@@ -391,7 +315,7 @@ made_ready serial at last o ready live tied named number low is =
             copied_some serial at (versions o.contents) f.rec f.rec.tape
             (all_versions o.contents f.rec rules.records (rec_there o.contents.files f (Contains-get_or o.contents.files k d within)) some);
       };
-      rules = rules_adopted (copies_from serial at (versions o.contents)) (places_fit serial at (versions o.contents) named low) o.contents last number
+      rules = rules_copied (copies_from serial at (versions o.contents)) (places_fit serial at (versions o.contents) named low) o.contents last number
           (empty_kept serial at o.contents rules.records) rules;
     }
   where

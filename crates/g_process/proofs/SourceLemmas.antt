@@ -7,6 +7,7 @@ use Rattle.std.proofs.lemmas.List.Elements.{All-contains}
 use Rattle.std.proofs.lemmas.Option.{none-some, same_Some}
 use Rattle.g_base.specs.Block.{blocks_for}
 use Rattle.g_base.specs.Counts.{Rose}
+use Rattle.g_base.specs.Fuse.{Arms}
 use Rattle.g_disc.specs.Disc.{DiscState, ReadsByCause}
 use Rattle.g_entry.specs.declared.file_rec.FileRec.{FileRec}
 use Rattle.g_entry.specs.declared.file_rec.TapeCopy.{TapeCopy}
@@ -26,7 +27,7 @@ use Rattle.g_process.specs.Written.{AreReadable, FailedAt, Fills, IsReadable, Re
 use Rattle.g_process.proofs.WriteLemmas.{element, element_below, placed}
 
 -- A DISC THAT WAS READ is as it was, but for the count of failed reads
-abbrev disc_of : Option (List (List ℕ)) → ℕ → ℕ → ℕ → Option ℕ → ℕ → ℕ → DiscState
+abbrev disc_of : Option (List (List ℕ)) → ℕ → ℕ → ℕ → Option ℕ → Arms → ℕ → DiscState
 disc_of held size faults writes fuse arms reads = record { held = held; size = size; read_faults = reads; write_faults = faults; writes = writes; fuse = fuse; arms = arms }
 
 pub disc_failed : (F : Type 0) (a b : DiscState) → ReadsByCause F a b → b ≡ record a { read_faults = b.read_faults }
@@ -36,7 +37,7 @@ disc_failed F a b r =
     ∙ ap (λ (x : ℕ). disc_of a.held a.size x b.writes b.fuse b.arms b.read_faults) r.write_faults
     ∙ ap (λ (x : ℕ). disc_of a.held a.size a.write_faults x b.fuse b.arms b.read_faults) r.writes
     ∙ ap (λ (x : Option ℕ). disc_of a.held a.size a.write_faults a.writes x b.arms b.read_faults) r.fuse
-    ∙ ap (λ (x : ℕ). disc_of a.held a.size a.write_faults a.writes a.fuse x b.read_faults) r.arms
+    ∙ ap (λ (x : Arms). disc_of a.held a.size a.write_faults a.writes a.fuse x b.read_faults) r.arms
 
 pub online_failed : (F : Type 0) (o o' : OnlineFacts) → o' ≡ record o { disc = o'.disc } → ReadsByCause F o.disc o'.disc → o' ≡ record o { disc = record o.disc { read_faults = o'.disc.read_faults } }
 online_failed F o o' same r = same ∙ ap (λ (d : DiscState). let x : OnlineFacts = record o { disc = d } in x) (disc_failed F o.disc o'.disc r)

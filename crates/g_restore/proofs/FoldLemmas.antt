@@ -1,7 +1,7 @@
 -- The directory that dumps give together, and what a restore names where they give none.
-use Rattle.std.proofs.Common.{◌≡◌, ◌≢◌, ◌⊎◌, inl, inr, ℕ, ◌+◌, ◌<◌, true, List, [], ◌∷◌, length, get_or, take, None, Err, refl, sym, ◌∙◌, ap, arith, subst, All}
-use Rattle.std.specs.Prelude.{◌==◌, Contains, is_some}
-use Rattle.std.proofs.lemmas.List.Elements.{All-append, All-contains, All-filter, All-nil, All-weaker}
+use Rattle.std.proofs.Common.{◌≡◌, ◌≢◌, ◌⊎◌, inl, inr, ℕ, ◌+◌, ◌<◌, true, List, length, get_or, take, None, Err, refl, sym, ◌∙◌, ap, arith, subst, All}
+use Rattle.std.specs.Prelude.{is_some}
+use Rattle.std.proofs.lemmas.List.Elements.{All-contains, All-weaker}
 use Rattle.g_base.specs.Block.{blocks_for}
 use Rattle.g_entry.specs.declared.file_rec.FileRec.{FileRec}
 use Rattle.g_entry.specs.declared.file_rec.TapeCopy.{TapeCopy}
@@ -17,7 +17,9 @@ use Rattle.g_plain.specs.declared.faults.StoreFault.{StoreFault}
 use Rattle.g_plain.specs.declared.faults.StoreFault.TheVariants.{LostDirectory, NoMemory}
 use Rattle.g_incr.specs.Layout.{Dump, IsDump}
 use Rattle.g_incr.specs.Plan.{numbered_from, with_number}
-use Rattle.g_state.specs.Meaning.{DumpedDirectory, Gathers, IsGreatest, files_in, files_of}
+use Rattle.g_incr.proofs.NumberLemmas.{file_numbered, length-numbered, number_at, numbered_each}
+use Rattle.g_state.specs.Meaning.{DumpedDirectory, IsGreatest, files_in}
+use Rattle.g_state.proofs.GatheredLemmas.{each_gathered}
 use Rattle.g_restore.specs.declared.dumps.Found.{Found}
 use Rattle.g_restore.specs.declared.directory.Dumped.{Dumped}
 use Rattle.g_restore.specs.Gathered.{AreGathered, IsBest, IsFirstBad}
@@ -26,29 +28,8 @@ use Rattle.g_restore.specs.Lost.{AreApart, GoTogether, HasPlace, IsFirstLost, Is
 use Rattle.g_restore.specs.Places.{AnyHas, IsFirstNotHeld, IsHeld}
 use Rattle.g_restore.specs.Steps.{CanBeMade, IsFolded}
 use Rattle.g_restore.proofs.KnownLemmas.{greatest_of}
-use Rattle.g_restore.proofs.NumberLemmas.{number_at, numbered_each, split_at, length-numbered}
+use Rattle.g_restore.proofs.NumberLemmas.{split_at}
 use Rattle.g_restore.proofs.PlaceLemmas.{place_held, place_lost}
-
--- RECORDS that are gathered are those of dumps
-each_gathered : (P : FileRec → Type 0) (dumps : List Dump) → ((e : Dump) → Contains dumps e → All P e.files) → (users : List UserRec) (files : List FileRec) → Gathers dumps users files → All P files
-each_gathered P dumps each [] files is = subst (All P) (sym is) (All-nil P)
-each_gathered P dumps each (u ∷ us) files (e, has, rest, are, more) =
-    subst (All P) (sym are)
-    (All-append P (files_of u.number e.files) rest (All-filter (λ (r : FileRec). r.owner == u.number) P e.files (each e has.there)) (each_gathered P dumps each us rest more))
-
-file_numbered : (n : ℕ) (r : FileRec) → IsFile r → IsFile (with_number n r)
-file_numbered n r is = record {
-  local = is.local;
-  least_generation = is.least_generation;
-  most_generation = is.most_generation;
-  lang = is.lang;
-  stamp = is.stamp;
-  len = is.len;
-  others = is.others;
-  sets = is.sets;
-  no_owner = is.no_owner;
-  tape = is.tape;
-}
 
 abbrev IsCopied : FileRec → Type 0
 IsCopied r = r.len ≢ 0 → is_some r.tape ≡ true

@@ -1,8 +1,6 @@
 -- What was read of one reel, and of the reels so far.
-use Rattle.std.proofs.Common.{◌≡◌, ℕ, ◌+◌, ◌<◌, ◌≤◌, true, List, [], ◌∷◌, ◌++◌, length, take, Option, Some, None, refl, sym, ◌∙◌, ap, arith, slice_get, subst, map, All}
+use Rattle.std.proofs.Common.{◌≡◌, ℕ, ◌+◌, ◌<◌, ◌≤◌, true, List, [], ◌∷◌, ◌++◌, length, take, Some, refl, sym, ◌∙◌, ap, arith, slice_get, subst, map, All}
 use Rattle.std.specs.Prelude.{is_some}
-use Rattle.std.specs.Option.{ForSome}
-use Rattle.std.proofs.lemmas.Bool.{false≢true}
 use Rattle.std.proofs.lemmas.List.{append-nil, append_assoc, map-append, take_all}
 use Rattle.std.proofs.lemmas.List.Elements.{All-append, All-cons, All-head, All-nil, All-tail, Contains-append_right}
 use Rattle.g_entry.specs.declared.user_rec.UserRec.{UserRec}
@@ -17,10 +15,10 @@ use Rattle.g_incr.specs.Notes.{IsDirOf}
 use Rattle.g_shelf.specs.Completed.{AreCompleted, AreShelved}
 use Rattle.g_shelf.specs.Found.{AreInRow, note_of}
 use Rattle.g_shelf.specs.Walk.{AreOf, HasMore}
-use Rattle.g_shelf.proofs.OneLemmas.{completed_are_one}
 use Rattle.g_shelf.proofs.RackLemmas.{reel_at}
 use Rattle.g_shelf.proofs.WalkLemmas.{same_note}
 use Rattle.g_state.specs.Reading.{ReelsTold}
+use Rattle.g_state.proofs.OneLemmas.{one_shelf}
 use Rattle.g_restore.specs.declared.dumps.Found.{Found}
 use Rattle.g_restore.specs.Known.{Known, known, known_of}
 use Rattle.g_restore.specs.Reels.{AreAllDumps, AreOn, AreOnReels}
@@ -88,16 +86,11 @@ pub all_reels : (i : ℕ) (found : List Found) (old new : Rack) → length old.r
 all_reels i found old new le so = (so.dumps, subst (λ (rs : List Reel). AreOnReels rs so.dumps) (take_all i old.reels le) so.on, so.known_are)
 
 -- THE DUMPS OF REELS that tell what they hold are all completed ones
-one_list : (serial : ℕ) (blocks : Option (List (List ℕ))) (ds es : List Dump) → is_some blocks ≡ true
-    → ForSome blocks (λ reel. AreCompleted serial reel ds) → ForSome blocks (λ reel. AreCompleted serial reel es) → ds ≡ es
-one_list serial None ds es told are_d are_e = absurd (false≢true told)
-one_list serial (Some reel) ds es told are_d are_e = completed_are_one serial reel ds es (are_d reel refl) (are_e reel refl)
-
 pub all_of_reels : AreAllDumps
 all_of_reels [] dumps shelf told shelved on = on
 all_of_reels (r ∷ rs) dumps shelf told shelved (here, rest, are, on_r, more) =
     let here_told : is_some r.blocks ≡ true = All-head (λ (q : Reel). is_some q.blocks ≡ true) r rs told.each in
-    let one : here ≡ shelf r.serial = one_list r.serial r.blocks here (shelf r.serial) here_told on_r.completed (shelved.each r (0, omega arith, refl)) in
+    let one : here ≡ shelf r.serial = one_shelf r.serial r.blocks here (shelf r.serial) here_told on_r.completed (shelved.each r (0, omega arith, refl)) in
     let told_rest : ReelsTold rs = record { each = All-tail (λ (q : Reel). is_some q.blocks ≡ true) r rs told.each } in
     let shelved_rest : AreShelved shelf rs = record { each = λ q there. shelved.each q (Contains-append_right (r ∷ []) rs q there) } in
     are ∙ ap (λ (ds : List Dump). ds ++ rest) one ∙ ap (λ (ds : List Dump). shelf r.serial ++ ds) (all_of_reels rs rest shelf told_rest shelved_rest more)

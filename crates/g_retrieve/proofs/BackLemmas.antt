@@ -8,6 +8,7 @@ use Rattle.std.proofs.lemmas.Option.{same_Some}
 use Rattle.g_base.specs.Block.{blocks_for}
 use Rattle.g_name.specs.declared.full.Full.{Full}
 use Rattle.g_disc.specs.Disc.{Causes, DiscState}
+use Rattle.g_disc.proofs.CallLemmas.{Causes-for}
 use Rattle.g_entry.specs.declared.file_rec.FileRec.{FileRec}
 use Rattle.g_entry.specs.declared.file_rec.TapeCopy.{TapeCopy}
 use Rattle.g_entry.specs.declared.user_rec.UserRec.{UserRec}
@@ -35,14 +36,7 @@ use Rattle.g_retrieve.proofs.KeepsLemmas.{keeps_done, keeps_same, keeps_stopped}
 
 -- a disc on which no write failed
 unstopped : (before after : DiscState) (was is : Type 0) → (was → ⊥) → (is → ⊥) → Causes ⊥ was before after → Causes ⊥ is before after
-unstopped before after was is none never causes = record {
-  size = causes.size;
-  arms = causes.arms;
-  reads_kept = causes.reads_kept;
-  reads_rose = causes.reads_rose;
-  writes_kept = λ _. causes.writes_kept none;
-  writes_rose = λ it. absurd (never it);
-}
+unstopped before after was is none never causes = Causes-for (λ p. p) (λ p. p) (λ q. absurd (none q)) (λ s. absurd (never s)) causes
 
 module _ (number : ℕ) (text : List ℕ) (plan : Unjam) (o new : OnlineFacts) (same_room : plan.room ≡ room_for (Bring number text plan.take) o) where
   abbrev need : ℕ
@@ -112,14 +106,7 @@ module _ (number : ℕ) (text : List ℕ) (plan : Unjam) (o new : OnlineFacts) (
     ok = tt;
     stopped = λ is. applied.stopped refl;
     same = λ other. absurd (other refl);
-    causes = record {
-      size = applied.causes.size;
-      arms = applied.causes.arms;
-      reads_kept = applied.causes.reads_kept;
-      reads_rose = applied.causes.reads_rose;
-      writes_kept = λ none. absurd (none refl);
-      writes_rose = λ is. applied.causes.writes_rose refl;
-    };
+    causes = Causes-for (λ p. p) (λ p. p) (λ _. refl) (λ _. refl) applied.causes;
     tied = applied.tied;
     told = applied.told;
     refusals = inl refl;

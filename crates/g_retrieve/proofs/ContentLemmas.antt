@@ -41,7 +41,7 @@ content_stands reel d stands =
     sym (take-take n (n + 1) (drop (content_at d) reel) (omega arith)) ∙ ap (take n) behind ∙ take_at d.content (mark_block d ∷ []) n refl
 
 -- blocks within it
-part_stands : (reel : List (List ℕ)) (d : Dump) (first n : ℕ) → StandsOn reel d → content_at d ≤ first → first + n ≤ content_at d + length d.content
+pub part_stands : (reel : List (List ℕ)) (d : Dump) (first n : ℕ) → StandsOn reel d → content_at d ≤ first → first + n ≤ content_at d + length d.content
     → take n (drop first reel) ≡ take n (drop (first - content_at d) d.content)
 part_stands reel d first n stands from to =
     let s : ℕ = first - content_at d in
@@ -54,14 +54,14 @@ part_stands reel d first n stands from to =
     ap (λ (m : ℕ). take n (drop m reel)) at ∙ ap (take n) (sym (drop-drop s (content_at d) reel)) ∙ sym (take-take n left (drop s whole) (omega (arith, from, to))) ∙ ap (take n) (sym inside)
 
 -- whole blocks, one behind the other
-joined_long : (blocks : List (List ℕ)) → All IsBlock blocks → length (joined blocks) ≡ 512 * length blocks
+pub joined_long : (blocks : List (List ℕ)) → All IsBlock blocks → length (joined blocks) ≡ 512 * length blocks
 joined_long [] all = refl
 joined_long (b ∷ bs) all =
     let one = (All-head IsBlock b bs all).size in
     let rest = joined_long bs (All-tail IsBlock b bs all) in
     omega (arith, length-append b (joined bs), one, rest)
 
-front_text : (len n : ℕ) (blocks : List (List ℕ)) → All IsBlock blocks → len ≤ 512 * n → n ≤ length blocks → take len (joined (take n blocks)) ≡ take len (joined blocks)
+pub front_text : (len n : ℕ) (blocks : List (List ℕ)) → All IsBlock blocks → len ≤ 512 * n → n ≤ length blocks → take len (joined (take n blocks)) ≡ take len (joined blocks)
 front_text len n blocks all short within =
     let cut = length-take-le n blocks within in
     let long = joined_long (take n blocks) (All-take IsBlock n blocks all) in

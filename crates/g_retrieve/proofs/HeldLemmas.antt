@@ -1,7 +1,7 @@
 -- What the bytes of a copy are where disc and rack belong together, and that it isn't lost then.
-use Rattle.std.proofs.Common.{◌≡◌, ℕ, ◌-◌, ◌==◌, true, false, List, [], ◌∷◌, length, take, drop, Option, Some, None, is_some, refl, sym, ◌∙◌, ap, arith, subst, inl, inr}
+use Rattle.std.proofs.Common.{◌≡◌, ℕ, ◌-◌, ◌==◌, true, false, List, [], ◌∷◌, length, Option, Some, None, is_some, refl, sym, ◌∙◌, ap, subst, inl, inr}
 use Rattle.std.specs.Prelude.{◌⊎◌, Contains, IfSome}
-use Rattle.std.proofs.lemmas.Bool.{cases_Bool, cases_eq, cond-false, cond-true, eqb-true}
+use Rattle.std.proofs.lemmas.Bool.{cases_Bool, cond-false, cond-true, eqb-true}
 use Rattle.std.proofs.lemmas.List.Elements.{All-contains}
 use Rattle.std.proofs.lemmas.Option.{same_Some}
 use Rattle.g_name.specs.declared.full.Full.{Full}
@@ -13,14 +13,14 @@ use Rattle.g_tree.specs.Records.{full_of}
 use Rattle.g_tree.proofs.ListLemmas.{contains_first, contains_more}
 use Rattle.g_contents.specs.Contents.{File}
 use Rattle.g_contents.specs.Facts.{OnlineFacts}
-use Rattle.g_incr.specs.Layout.{Dump, content_at}
+use Rattle.g_incr.specs.Layout.{Dump}
 use Rattle.g_shelf.specs.Completed.{AreCompleted, AreShelved, all_dumps}
 use Rattle.g_state.specs.Answers.{Belongs, IsLostCopy, Told}
 use Rattle.g_state.specs.Belong.{KeepsFile}
-use Rattle.g_state.specs.Meaning.{IsContent, joined, told_reels}
+use Rattle.g_state.specs.Meaning.{IsContent, told_reels}
 use Rattle.g_state.specs.Reading.{ReelsTold}
 use Rattle.g_state.specs.Up.{IsUp, StoreFacts}
-use Rattle.g_state.proofs.OneLemmas.{Apart, AreRight, are_right, is_shelved, on_reel}
+use Rattle.g_state.proofs.OneLemmas.{are_right, is_shelved, on_reel, one_content}
 use Rattle.g_state_laws.proofs.UpOneLemmas.{on_all}
 use Rattle.g_state_steps.proofs.WaitingLemmas.{mapped_there}
 use Rattle.g_retrieve.specs.Brought.{HasCopied, IsOnTape, IsNowhere}
@@ -92,32 +92,6 @@ content_on shelf reels c t told shelved is =
 content_in : (old new : List Dump) (c : TapeCopy) (t : List ℕ) → ((d : Dump) → Contains old d → Contains new d) → IsContent old c t → IsContent new c t
 content_in old new c t more is = record { dump = is.dump; there = more is.dump is.there; reel = is.reel; from = is.from; to = is.to; text_is = is.text_is }
 
--- at one place there is one content of a length
-no_bytes : (t : List ℕ) → length t ≡ 0 → t ≡ []
-no_bytes [] none = refl
-no_bytes (b ∷ bs) none = let no : ⊥ = omega (arith, none) in absurd no
-
-same_content : (dumps : List Dump) → AreRight dumps → (c : TapeCopy) (x y : List ℕ) → length x ≡ length y → IsContent dumps c x → IsContent dumps c y → x ≡ y
-unfolding Apart
-same_content dumps right c x y long of_x of_y = by_length (cases_eq (length x) 0)
-  where
-    by_place : (length x ≡ 0 → ⊥) → Apart of_x.dump of_y.dump → x ≡ y
-    by_place some (inl same) =
-        sym of_x.text_is
-        ∙ ap (λ (d : Dump). take (length x) (joined (drop (c.first - content_at d) d.content))) same
-        ∙ ap (λ (n : ℕ). take n (joined (drop (c.first - content_at of_y.dump) of_y.dump.content))) long
-        ∙ of_y.text_is
-    by_place some (inr (inl before)) =
-        let to = of_x.to in let from = of_y.from in
-        let no : ⊥ = omega (arith, some) in absurd no
-    by_place some (inr (inr before)) =
-        let to = of_y.to in let from = of_x.from in
-        let no : ⊥ = omega (arith, some, long) in absurd no
-
-    by_length : (length x ≡ 0) ⊎ (length x ≡ 0 → ⊥) → x ≡ y
-    by_length (inl none) = no_bytes x none ∙ sym (no_bytes y (sym long ∙ none))
-    by_length (inr some) = by_place some (right.two of_x.dump of_y.dump of_x.there of_y.there (of_x.reel ∙ sym of_y.reel))
-
 -- THE BYTES THAT WERE READ are the text that disc and tape know
 pub copied_one : (shelf : ℕ → List Dump) (c : TapeCopy) (len : ℕ) (t bytes : List ℕ) (before after : Rack) → ReelsTold (told_reels before) → AreShelved shelf (told_reels before)
     → IsContent (all_dumps shelf (told_reels before)) c t → length t ≡ len → HasCopied c len bytes before after → bytes ≡ t
@@ -125,7 +99,7 @@ copied_one shelf c len t bytes before after told shelved is long copied =
     let reels : List Reel = told_reels before in
     let tells = tells_reel shelf c.serial before told copied.mounted in
     let here : IsContent (shelf c.serial) c bytes = copied.content tells.blocks tells.told (shelf c.serial) (shelf_of shelf c.serial before tells.blocks shelved tells.told) in
-    same_content (all_dumps shelf reels) (are_right shelf reels told shelved) c bytes t (copied.long ∙ sym long)
+    one_content (all_dumps shelf reels) (are_right shelf reels told shelved) c bytes t (copied.long ∙ sym long)
     (content_in (shelf c.serial) (all_dumps shelf reels) c bytes tells.on here) is
 
 -- A LOST COPY: as a store tells it

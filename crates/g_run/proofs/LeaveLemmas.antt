@@ -1,5 +1,5 @@
 -- What a line leaves of the world but for what it does: it is taken between two ticks, and stays there.
-use Rattle.std.proofs.Common.{◌≡◌, ◌+◌, ◌++◌, ℕ, Bool, true, false, List, Option, Some, None, refl, sym, subst, arith}
+use Rattle.std.proofs.Common.{◌≡◌, ◌+◌, ◌++◌, ℕ, Bool, true, false, List, [], Option, Some, None, append-nil, refl, sym, ◌∙◌, ap, subst, arith}
 use Rattle.std.specs.Prelude.{MatchBool, Result, Ok, Err, codes, if◌then◌else◌}
 use Rattle.std.specs.Fmt.{decimal}
 use Rattle.g_monitor.specs.Parts.{full_text}
@@ -24,8 +24,8 @@ pub record Leaves (what : Operator) (w new : World) : Type 0 where
   pub over : new.over ≡ w.over
   pub phase : new.phase ≡ w.phase
   pub turn : new.turn ≡ w.turn
-  pub disc_stops : new.disc_stops ≡ w.disc_stops + disc_arms what
-  pub tape_stops : new.tape_stops ≡ w.tape_stops + tape_arms what
+  pub disc_stops : new.disc_stops ≡ w.disc_stops ++ disc_arms what
+  pub tape_stops : new.tape_stops ≡ w.tape_stops ++ tape_arms what
 
 -- a line that arms nothing
 record Same (w new : World) : Type 0 where
@@ -37,15 +37,15 @@ record Same (w new : World) : Type 0 where
   disc_stops : new.disc_stops ≡ w.disc_stops
   tape_stops : new.tape_stops ≡ w.tape_stops
 
-leaves : (what : Operator) → disc_arms what ≡ 0 → tape_arms what ≡ 0 → (w new : World) → Same w new → Leaves what w new
+leaves : (what : Operator) → disc_arms what ≡ [] → tape_arms what ≡ [] → (w new : World) → Same w new → Leaves what w new
 leaves what no_disc no_tape w new same = record {
   lines = same.lines;
   bad = same.bad;
   over = same.over;
   phase = same.phase;
   turn = same.turn;
-  disc_stops = let d : new.disc_stops ≡ w.disc_stops = same.disc_stops in omega (arith, d, no_disc);
-  tape_stops = let t : new.tape_stops ≡ w.tape_stops = same.tape_stops in omega (arith, t, no_tape);
+  disc_stops = same.disc_stops ∙ sym (append-nil w.disc_stops) ∙ ap (λ (ks : List ℕ). w.disc_stops ++ ks) (sym no_disc);
+  tape_stops = same.tape_stops ∙ sym (append-nil w.tape_stops) ∙ ap (λ (ks : List ℕ). w.tape_stops ++ ks) (sym no_tape);
 }
 
 is_same : (w new v : World) → new ≡ v → Same w v → Same w new
@@ -127,6 +127,6 @@ line_leaves o (line.Logout t) w new (plain, is) = leaves (line.Logout t) refl re
 line_leaves o (line.Migrate path) w new gives =
     leaves (line.Migrate path) refl refl w new (needs_same (λ r s. IsMigration w.store path o r s) (λ full. codes "MIGRATED " ++ full_text full) o w new w.store.up gives)
 line_leaves o (line.StopDisc k) w new (plain, is) =
-    subst (λ (v : World). Leaves (line.StopDisc k) w v) (sym is) (record { lines = refl; bad = refl; over = refl; phase = refl; turn = refl; disc_stops = refl; tape_stops = omega arith })
+    subst (λ (v : World). Leaves (line.StopDisc k) w v) (sym is) (record { lines = refl; bad = refl; over = refl; phase = refl; turn = refl; disc_stops = refl; tape_stops = sym (append-nil w.tape_stops) })
 line_leaves o (line.StopTape k) w new (plain, is) =
-    subst (λ (v : World). Leaves (line.StopTape k) w v) (sym is) (record { lines = refl; bad = refl; over = refl; phase = refl; turn = refl; disc_stops = omega arith; tape_stops = refl })
+    subst (λ (v : World). Leaves (line.StopTape k) w v) (sym is) (record { lines = refl; bad = refl; over = refl; phase = refl; turn = refl; disc_stops = sym (append-nil w.disc_stops); tape_stops = refl })

@@ -1,11 +1,11 @@
 -- The end of a run, behind all its lines, and both devices behind it.
-use Rattle.std.proofs.Common.{◌≡◌, ◌⊎◌, ◌+◌, ◌++◌, ℕ, true, false, List, [], ◌∷◌, Option, Some, None, is_some, append_assoc, refl, sym, ◌∙◌, ap, subst, inl, inr, arith}
+use Rattle.std.proofs.Common.{◌≡◌, ◌⊎◌, ◌+◌, ◌++◌, ℕ, true, false, List, [], ◌∷◌, Option, Some, None, is_some, append_assoc, append-nil, refl, sym, ◌∙◌, ap, subst, inl, inr, arith}
 use Rattle.std.specs.Prelude.{option_map}
 use Rattle.std.specs.Fn.{Shared}
 use denote.Ref.{Bor}
 use Rattle.std.proofs.lemmas.Bool.{cases_Bool}
 use Rattle.std.proofs.lemmas.Option.{none-some}
-use Rattle.g_base.proofs.CountLemmas.{RoseBy-none}
+use Rattle.g_base.proofs.FuseLemmas.{within_none}
 use Rattle.g_budget.specs.declared.tariff.Charge.{Charge}
 use Rattle.g_budget.specs.declared.tariff.Usage.{Usage}
 use Rattle.g_sched.specs.declared.rule.Standing.{Standing}
@@ -25,21 +25,24 @@ use Rattle.g_tape.specs.Reel.{Reel}
 use Rattle.g_world.specs.Devices.{Devices, StandFor}
 use Rattle.g_world.specs.Moves.{Move, MovesCounted, Over}
 use Rattle.g_world.specs.Texts.{closing, waiting_files}
-use Rattle.g_world.specs.Top.{AreArmings, EndsShort, RunOf}
+use Rattle.g_world.specs.Lines.{disc_arms, tape_arms}
+use Rattle.g_world.specs.Top.{AreArmings, EndsShort, RunOf, numbers_of}
 use Rattle.g_world.specs.World.{World, closed, is_due, nothing_steps, start}
 use Rattle.g_world.proofs.CountLemmas.{counted_of, event_none, move_counted, moves_then}
 use Rattle.g_world.proofs.TickLemmas.{over_move}
 use Rattle.g_world.proofs.TurnLemmas.{run_append}
+use Rattle.g_world_laws.specs.Anew.{NoDiscFault, with_new_disc}
 use Rattle.g_crew.specs.Crew.{CrewState}
 use Rattle.g_console.specs.declared.progress.Failure.{Failure}
 use Rattle.g_console.specs.declared.progress.Failure.TheVariants as failures
+use Rattle.g_console.proofs.LabelLemmas.{same_itself}
 use Rattle.g_run.proofs.KeepLemmas.{kept_itself}
 use Rattle.g_console.specs.Parts.{Matches, Seen, seen}
 use Rattle.g_console.specs.Puts.{FaultCause, Puts, PutsBy}
 use Rattle.g_console.specs.System.{BelongTogether, Down, StandsAs, SystemBelongs, SystemFacts, Up, devices_in, SameDevices}
 use Rattle.g_run.proofs.TickLemmas.{put_on, with_more-append}
 use Rattle.g_run.specs.Over.{ClosesBy, DidScript, TakenDown, both}
-use Rattle.g_run.specs.Parts.{DidAll, DumpsKept, IsAtRest, Keeps, Leads}
+use Rattle.g_run.specs.Parts.{DidAll, DumpsKept, IsAtRest, Keeps, Leads, PartGoes}
 use Rattle.g_run.specs.Top.{EndsBy}
 use Rattle.g_run.proofs.PartLemmas.{with_more-nil}
 
@@ -92,9 +95,9 @@ module _ {F U : Type 0} (tariffs : Shared F (Bor Usage × Unit {0}) Charge) (tar
   abbrev before_all : Seen
   before_all = seen (Down old) nobody 0
 
-  matches_start : (s : State) → s.up ≡ false → StandFor old s → Matches (start lines bad s) before_all
-  matches_start s is_down stands = record {
-    stands = (is_down, stands);
+  matches_start : (s : State) → StandFor old s → Matches (start lines bad s) before_all
+  matches_start s stands = record {
+    stands = (ap (λ (u : State). u.up) stands.reads.state_is, stands);
     crew = record { jobs = refl; accounts = λ user. refl; next_job = refl };
     count = refl;
   }
@@ -103,26 +106,24 @@ module _ {F U : Type 0} (tariffs : Shared F (Bor Usage × Unit {0}) Charge) (tar
   counted_from : (s : State) (moves : List Move) (last : World) (added : List ℕ) → Leads tariffs tariff rules rule (start lines bad s) (Down old) f moves last added
       → MovesCounted moves last.disc_stops last.tape_stops old new
   counted_from s moves last added leads =
-      let discs : last.disc_stops ≡ leads.disc_arms = let d : last.disc_stops ≡ 0 + leads.disc_arms = leads.disc_stops in omega (arith, d) in
-      let tapes : last.tape_stops ≡ leads.tape_arms = let t : last.tape_stops ≡ 0 + leads.tape_arms = leads.tape_stops in omega (arith, t) in
       subst (λ (d : Devices). MovesCounted moves last.disc_stops last.tape_stops old d) (sym down_is.devices)
-      (subst (λ (n : ℕ). MovesCounted moves n last.tape_stops old (devices_in f)) (sym discs)
-      (subst (λ (n : ℕ). MovesCounted moves leads.disc_arms n old (devices_in f)) (sym tapes) leads.counted))
+      (subst (λ (ks : List ℕ). MovesCounted moves ks last.tape_stops old (devices_in f)) (sym leads.disc_stops)
+      (subst (λ (ks : List ℕ). MovesCounted moves leads.disc_arms ks old (devices_in f)) (sym leads.tape_stops) leads.counted))
 
   -- CUT SHORT before its end
   ends_short : (failure : Failure) (before after : Option (List ℕ)) (faults faults' : ℕ) → DidAll tariffs tariff rules rule lines before_all (Some failure) (seen f c count) before after faults faults'
       → EndsShort tariffs tariff rules rule lines bad old new before after
-  ends_short failure before after faults faults' did = λ s is_down stands.
-      let b = did.goes (start lines bad s) (matches_start s is_down stands) (record { phase = refl; turn = refl }) refl in (
-        b.moves,
-        b.next,
-        record {
+  ends_short failure before after faults faults' did = λ s stands.
+      let b = did.goes (start lines bad s) (matches_start s stands) (record { phase = refl; turn = refl }) refl in record {
+        moves = b.moves;
+        last = b.next;
+        run_of = record {
           run = b.leads.run;
           counted = counted_of b.moves b.next old new (counted_from s b.moves b.next b.added b.leads);
           stands = down_is.stands b.next.store b.leads.stands;
-        },
-        subst (λ (t : List ℕ). HasPutPart before t after) (sym b.leads.text) b.put,
-      )
+        };
+        text = subst (λ (t : List ℕ). HasPutPart before t after) (sym b.leads.text) b.put;
+      }
 
   false_true : false ≡ true → ⊥
   false_true e = cc
@@ -145,10 +146,10 @@ module _ {F U : Type 0} (tariffs : Shared F (Bor Usage × Unit {0}) Charge) (tar
     text : last.text ≡ added ++ (waiting_files c.jobs ++ closing bad)
     put : middle ≡ with_more before added
 
-  closes : (before middle : Option (List ℕ)) (faults faults' : ℕ) → DidAll tariffs tariff rules rule lines before_all None (seen f c count) before middle faults faults'
-      → (s : State) → s.up ≡ false → StandFor old s → Closes s before middle
-  closes before middle faults faults' did s is_down stands =
-      let a = did.goes (start lines bad s) (matches_start s is_down stands) (record { phase = refl; turn = refl }) refl in record {
+  closes : (before middle : Option (List ℕ)) → PartGoes tariffs tariff rules rule IsAtRest lines [] before_all None (seen f c count) before middle
+      → (s : State) → StandFor old s → Closes s before middle
+  closes before middle goes s stands =
+      let a = goes (start lines bad s) (matches_start s stands) (record { phase = refl; turn = refl }) refl in record {
         moves = a.moves ++ Over ∷ [];
         last = closed a.next;
         added = a.added;
@@ -169,46 +170,50 @@ module _ {F U : Type 0} (tariffs : Shared F (Bor Usage × Unit {0}) Charge) (tar
       over_counted : (moves : List Move) (last : World) (added : List ℕ) (s : State) → Leads tariffs tariff rules rule (start lines bad s) (Down old) f moves last added
           → MovesCounted (moves ++ Over ∷ []) last.disc_stops last.tape_stops old new
       over_counted moves last added s leads =
-          let discs : last.disc_stops ≡ last.disc_stops + 0 = omega arith in
-          let tapes : last.tape_stops ≡ last.tape_stops + 0 = omega arith in
-          subst (λ (n : ℕ). MovesCounted (moves ++ Over ∷ []) n last.tape_stops old new) (sym discs)
-          (subst (λ (n : ℕ). MovesCounted (moves ++ Over ∷ []) (last.disc_stops + 0) n old new) (sym tapes)
-          (moves_then moves (Over ∷ []) last.disc_stops last.tape_stops 0 0 old new new (counted_from s moves last added leads) (move_counted Over 0 0 new new (event_none new))))
+          subst (λ (ks : List ℕ). MovesCounted (moves ++ Over ∷ []) ks last.tape_stops old new) (append-nil last.disc_stops)
+          (subst (λ (ks : List ℕ). MovesCounted (moves ++ Over ∷ []) (last.disc_stops ++ []) ks old new) (append-nil last.tape_stops)
+          (moves_then moves (Over ∷ []) last.disc_stops last.tape_stops [] [] old new new (counted_from s moves last added leads) (move_counted Over [] [] new new (event_none new))))
 
-  ends_closed : (failure : Option Failure) (before middle after : Option (List ℕ)) (faults faults' : ℕ) → DidAll tariffs tariff rules rule lines before_all None (seen f c count) before middle faults faults'
+  pub ends_closed : (failure : Option Failure) (before middle after : Option (List ℕ)) → PartGoes tariffs tariff rules rule IsAtRest lines [] before_all None (seen f c count) before middle
       → PutsBy failure (waiting_files c.jobs ++ closing bad) middle after → EndsBy tariffs tariff rules rule failure lines bad old new before after
-  ends_closed None before middle after faults faults' did put = λ s is_down stands.
-      let z = closes before middle faults faults' did s is_down stands in (
-        z.moves,
-        z.last,
-        z.run_of,
-        z.over,
-        put ∙ ap (λ (t : Option (List ℕ)). with_more t (waiting_files c.jobs ++ closing bad)) z.put ∙ with_more-append before z.added (waiting_files c.jobs ++ closing bad)
-            ∙ ap (λ (t : List ℕ). with_more before t) (sym z.text),
-      )
-  ends_closed (Some failure) before middle after faults faults' did put = λ s is_down stands.
-      let z = closes before middle faults faults' did s is_down stands in (
-        z.moves,
-        z.last,
-        z.run_of,
-        subst (λ (t : List ℕ). HasPutPart before t after) (sym z.text) (put_on before middle after z.added (waiting_files c.jobs ++ closing bad) z.put put),
-      )
+  ends_closed None before middle after goes put = λ s stands.
+      let z = closes before middle goes s stands in record {
+        moves = z.moves;
+        last = z.last;
+        run_of = z.run_of;
+        over = z.over;
+        text = put ∙ ap (λ (t : Option (List ℕ)). with_more t (waiting_files c.jobs ++ closing bad)) z.put ∙ with_more-append before z.added (waiting_files c.jobs ++ closing bad)
+            ∙ ap (λ (t : List ℕ). with_more before t) (sym z.text);
+      }
+  ends_closed (Some failure) before middle after goes put = λ s stands.
+      let z = closes before middle goes s stands in record {
+        moves = z.moves;
+        last = z.last;
+        run_of = z.run_of;
+        text = subst (λ (t : List ℕ). HasPutPart before t after) (sym z.text) (put_on before middle after z.added (waiting_files c.jobs ++ closing bad) z.put put);
+      }
+
+module _ {F U : Type 0} (tariffs : Shared F (Bor Usage × Unit {0}) Charge) (tariff : F) (rules : Shared U (Bor Standing × Unit {0}) ℕ) (rule : U)
+    (lines : List Timed) (bad : Option ℕ) (old : Devices) (f : SystemFacts) (c : CrewState) (count : ℕ) (new : Devices) (down_is : TakenDown f new) where
+  abbrev at_start : Seen
+  at_start = seen (Down old) nobody 0
 
   -- what holds of all devices
-  belongs_down : (failure : Option Failure) (faults faults' : ℕ) → Keeps lines before_all failure (seen f c count) faults faults' → BelongTogether old → BelongTogether new
+  belongs_down : (failure : Option Failure) (faults faults' : ℕ) → Keeps lines at_start failure (seen f c count) faults faults' → BelongTogether old → BelongTogether new
   belongs_down failure faults faults' keeps was = subst (λ (d : Devices). BelongTogether d) (sym down_is.devices) (belongs_of f (keeps.belongs was))
 
-  same_down : (failure : Option Failure) (faults faults' : ℕ) → Keeps lines before_all failure (seen f c count) faults faults' → SameDevices old new
+  same_down : (failure : Option Failure) (faults faults' : ℕ) → Keeps lines at_start failure (seen f c count) faults faults' → SameDevices old new
   same_down failure faults faults' keeps = subst (λ (d : Devices). SameDevices old d) (sym down_is.devices) keeps.same
 
-  dumps_down : (failure : Option Failure) (faults faults' : ℕ) → Keeps lines before_all failure (seen f c count) faults faults' → BelongTogether old → DumpsKept lines old.rack new.rack
+  dumps_down : (failure : Option Failure) (faults faults' : ℕ) → Keeps lines at_start failure (seen f c count) faults faults' → BelongTogether old → DumpsKept lines old.rack new.rack
   dumps_down failure faults faults' keeps was = subst (λ (d : Devices). DumpsKept lines old.rack d.rack) (sym down_is.devices) (keeps.dumps was)
 
   -- A SCRIPT, cut short before its end
-  pub script_short : (failure : Failure) (before after : Option (List ℕ)) (faults faults' : ℕ) → DidAll tariffs tariff rules rule lines before_all (Some failure) (seen f c count) before after faults faults'
+  pub script_short : (failure : Failure) (before after : Option (List ℕ)) (faults faults' : ℕ) → DidAll tariffs tariff rules rule lines at_start (Some failure) (seen f c count) before after faults faults'
       → DidScript tariffs tariff rules rule lines bad old (Some failure) new before after faults faults'
   script_short failure before after faults faults' did = record {
-    ends = ends_short failure before after faults faults' did;
+    ends = ends_short tariffs tariff rules rule lines bad old f c count new down_is failure before after faults faults' did;
+    anew = λ none blank well begin. absurd (none-some failure (sym none));
     arms = subst (λ (d : Devices). AreArmings lines ((let g : Option Failure = Some failure in g) ≡ None) old d) (sym down_is.devices) did.keeps.arms;
     same = same_down (Some failure) faults faults' did.keeps;
     belongs = belongs_down (Some failure) faults faults' did.keeps;
@@ -218,10 +223,13 @@ module _ {F U : Type 0} (tariffs : Shared F (Bor Usage × Unit {0}) Charge) (tar
 
   -- and one that came to it
   pub script_closed : (failure : Option Failure) (before middle after : Option (List ℕ)) (faults faults1 faults2 : ℕ)
-      → DidAll tariffs tariff rules rule lines before_all None (seen f c count) before middle faults faults1
+      → DidAll tariffs tariff rules rule lines at_start None (seen f c count) before middle faults faults1
       → Puts failure (waiting_files c.jobs ++ closing bad) middle after faults1 faults2 → DidScript tariffs tariff rules rule lines bad old failure new before after faults faults2
   script_closed failure before middle after faults faults1 faults2 did puts = record {
-    ends = ends_closed failure before middle after faults faults1 did puts.put;
+    ends = ends_closed tariffs tariff rules rule lines bad old f c count new down_is failure before middle after did.goes puts.put;
+    anew = λ none blank well begin.
+        ends_closed tariffs tariff rules rule lines bad (with_new_disc old) f c count new down_is None before middle after
+        (did.anew refl blank (subst (λ (d : Devices). NoDiscFault old d) down_is.devices well) begin) (subst (λ (g : Option Failure). PutsBy g (waiting_files c.jobs ++ closing bad) middle after) none puts.put);
     arms = record {
       disc = arms.disc;
       tape = arms.tape;
@@ -239,7 +247,7 @@ module _ {F U : Type 0} (tariffs : Shared F (Bor Usage × Unit {0}) Charge) (tar
 
   -- THE END
   pub script_over : (came failure : Option Failure) (before middle after : Option (List ℕ)) (faults faults1 faults2 : ℕ)
-      → DidAll tariffs tariff rules rule lines before_all came (seen f c count) before middle faults faults1
+      → DidAll tariffs tariff rules rule lines at_start came (seen f c count) before middle faults faults1
       → ClosesBy came (waiting_files c.jobs ++ closing bad) failure middle after faults1 faults2 → DidScript tariffs tariff rules rule lines bad old failure new before after faults faults2
   script_over None failure before middle after faults faults1 faults2 did puts = script_closed failure before middle after faults faults1 faults2 did puts
   script_over (Some came) failure before middle after faults faults1 faults2 did (is, same, still) =
@@ -253,19 +261,20 @@ module _ {F U : Type 0} (tariffs : Shared F (Bor Usage × Unit {0}) Charge) (tar
       → DidScript tariffs tariff rules rule lines bad old (Some failures.Memory) new before before faults faults
   nothing_done old new before faults same =
       subst (λ (d : Devices). DidScript tariffs tariff rules rule lines bad old (Some failures.Memory) d before before faults faults) (sym same) (record {
-        ends = λ s is_down stands. (
-          [],
-          start lines bad s,
-          record { run = refl; counted = counted_of [] (start lines bad s) old old (event_none old); stands = devices_down old s stands },
-          (0, omega arith, sym (with_more-nil before)),
-        );
+        ends = λ s stands. record {
+          moves = [];
+          last = start lines bad s;
+          run_of = record { run = refl; counted = counted_of [] (start lines bad s) old old (event_none old); stands = devices_down old s stands };
+          text = (0, omega arith, sym (with_more-nil before));
+        };
+        anew = λ none blank well begin. absurd (none-some failures.Memory (sym none));
         arms = record {
-          disc = (0, omega arith, RoseBy-none refl);
-          tape = (0, omega arith, RoseBy-none refl);
+          disc = within_none (numbers_of disc_arms lines) old.disc.arms old.disc.arms refl;
+          tape = within_none (numbers_of tape_arms lines) old.rack.arms old.rack.arms refl;
           all_disc = λ through. absurd (none-some failures.Memory (sym through));
           all_tape = λ through. absurd (none-some failures.Memory (sym through));
         };
-        same = record { size = refl; reels = refl };
+        same = same_itself old;
         belongs = λ is. is;
         dumps = λ is. kept_itself lines old.rack;
         cause = refl;

@@ -1,19 +1,20 @@
 -- Parts of a run, one behind the other.
-use Rattle.std.proofs.Common.{◌≡◌, ◌+◌, ◌≤◌, ◌++◌, ℕ, Bool, List, [], Option, Some, None, filter, length, append_assoc, append-nil, refl, sym, ◌∙◌, ap, subst, arith}
+use Rattle.std.proofs.Common.{◌≡◌, ◌+◌, ◌≤◌, ◌++◌, ℕ, List, [], ◌∷◌, Option, Some, None, length, append_assoc, append-nil, refl, sym, ◌∙◌, ap, subst, arith}
 use Rattle.std.proofs.lemmas.List.{length-append}
-use Rattle.std.proofs.lemmas.List.Elements.{filter-append}
 use Rattle.std.specs.Fn.{Shared}
 use denote.Ref.{Bor}
-use Rattle.g_base.specs.Counts.{RoseBy}
-use Rattle.g_base.proofs.CountLemmas.{RoseBy-none, RoseBy-then}
+use Rattle.g_base.specs.Fuse.{Arms, IsArmedBy, IsArmedWithin}
+use Rattle.g_base.proofs.FuseLemmas.{armed_then, within_more, within_none, within_then}
 use Rattle.g_budget.specs.declared.tariff.Charge.{Charge}
 use Rattle.g_budget.specs.declared.tariff.Usage.{Usage}
 use Rattle.g_sched.specs.declared.rule.Standing.{Standing}
 use Rattle.g_io.specs.Streams.{with_more}
+use Rattle.g_script.specs.declared.operator.Operator.{Operator}
 use Rattle.g_script.specs.declared.operator.Timed.{Timed}
 use Rattle.g_world.specs.Devices.{Devices}
 use Rattle.g_world.specs.Moves.{Move}
-use Rattle.g_world.specs.Top.{AreArmings, is_stop_disc, is_stop_tape}
+use Rattle.g_world.specs.Lines.{disc_arms, tape_arms}
+use Rattle.g_world.specs.Top.{AreArmings, numbers_of}
 use Rattle.g_world.specs.World.{World}
 use Rattle.g_world.proofs.CountLemmas.{event_none, moves_then}
 use Rattle.g_world.proofs.TurnLemmas.{run_append}
@@ -34,42 +35,45 @@ with_more-nil None = refl
 -- ARMINGS, one part behind the other
 pub none_arm : (through : Type 0) (old new : Devices) → new.disc.arms ≡ old.disc.arms → new.rack.arms ≡ old.rack.arms → AreArmings [] through old new
 none_arm through old new disc tape = record {
-  disc = (0, omega arith, RoseBy-none disc);
-  tape = (0, omega arith, RoseBy-none tape);
-  all_disc = λ went. RoseBy-none disc;
-  all_tape = λ went. RoseBy-none tape;
+  disc = within_none [] old.disc.arms new.disc.arms disc;
+  tape = within_none [] old.rack.arms new.rack.arms tape;
+  all_disc = λ went. disc;
+  all_tape = λ went. tape;
 }
 
--- how many lines of two lists
-both_count : (p : Timed → Bool) (a b : List Timed) → length (filter p (a ++ b)) ≡ length (filter p a) + length (filter p b)
-both_count p a b = ap length (filter-append p a b) ∙ length-append (filter p a) (filter p b)
+-- the numbers of two lists of lines
+both_numbers : (arms : Operator → List ℕ) (a b : List Timed) → numbers_of arms (a ++ b) ≡ numbers_of arms a ++ numbers_of arms b
+both_numbers arms [] b = refl
+both_numbers arms (next ∷ a) b =
+    ap (λ (ks : List ℕ). arms next.what ++ ks) (both_numbers arms a b) ∙ sym (append_assoc (arms next.what) (numbers_of arms a) (numbers_of arms b))
+
+two_parts : (arms : Operator → List ℕ) (a b : List Timed) (old now new : Arms) → IsArmedBy (numbers_of arms a) old now → IsArmedBy (numbers_of arms b) now new → IsArmedBy (numbers_of arms (a ++ b)) old new
+two_parts arms a b old now new first later =
+    subst (λ (ks : List ℕ). IsArmedBy ks old new) (sym (both_numbers arms a b)) (armed_then (numbers_of arms a) (numbers_of arms b) old now new first later)
+
+then_some : (arms : Operator → List ℕ) (a b : List Timed) (old now new : Arms) → IsArmedBy (numbers_of arms a) old now → IsArmedWithin (numbers_of arms b) now new → IsArmedWithin (numbers_of arms (a ++ b)) old new
+then_some arms a b old now new first later =
+    subst (λ (ks : List ℕ). IsArmedWithin ks old new) (sym (both_numbers arms a b)) (within_then (numbers_of arms a) (numbers_of arms b) old now new first later)
+
+and_more : (arms : Operator → List ℕ) (a b : List Timed) (old new : Arms) → IsArmedWithin (numbers_of arms a) old new → IsArmedWithin (numbers_of arms (a ++ b)) old new
+and_more arms a b old new first = subst (λ (ks : List ℕ). IsArmedWithin ks old new) (sym (both_numbers arms a b)) (within_more (numbers_of arms a) (numbers_of arms b) old new first)
 
 pub arms_then : {One Two : Type 0} (a b : List Timed) (old now new : Devices) → One → AreArmings a One old now → AreArmings b Two now new → AreArmings (a ++ b) Two old new
-arms_then a b old now new went first later =
-    let (i, i_in, i_rose) = first.disc in
-    let (j, j_in, j_rose) = later.disc in
-    let (k, k_in, k_rose) = first.tape in
-    let (l, l_in, l_rose) = later.tape in
-    let discs = both_count is_stop_disc a b in
-    let tapes = both_count is_stop_tape a b in record {
-      disc = (i + j, omega (arith, i_in, j_in, discs), RoseBy-then i_rose j_rose);
-      tape = (k + l, omega (arith, k_in, l_in, tapes), RoseBy-then k_rose l_rose);
-      all_disc = λ all. subst (λ (n : ℕ). RoseBy n old.disc.arms new.disc.arms) (sym discs) (RoseBy-then (first.all_disc went) (later.all_disc all));
-      all_tape = λ all. subst (λ (n : ℕ). RoseBy n old.rack.arms new.rack.arms) (sym tapes) (RoseBy-then (first.all_tape went) (later.all_tape all));
-    }
+arms_then a b old now new went first later = record {
+  disc = then_some disc_arms a b old.disc.arms now.disc.arms new.disc.arms (first.all_disc went) later.disc;
+  tape = then_some tape_arms a b old.rack.arms now.rack.arms new.rack.arms (first.all_tape went) later.tape;
+  all_disc = λ all. two_parts disc_arms a b old.disc.arms now.disc.arms new.disc.arms (first.all_disc went) (later.all_disc all);
+  all_tape = λ all. two_parts tape_arms a b old.rack.arms now.rack.arms new.rack.arms (first.all_tape went) (later.all_tape all);
+}
 
 -- lines that weren't come to
 pub arms_more : {One Two : Type 0} (a b : List Timed) (old new : Devices) → (Two → ⊥) → AreArmings a One old new → AreArmings (a ++ b) Two old new
-arms_more a b old new cut first =
-    let (i, i_in, i_rose) = first.disc in
-    let (k, k_in, k_rose) = first.tape in
-    let discs = both_count is_stop_disc a b in
-    let tapes = both_count is_stop_tape a b in record {
-      disc = (i, omega (arith, i_in, discs), i_rose);
-      tape = (k, omega (arith, k_in, tapes), k_rose);
-      all_disc = λ all. absurd (cut all);
-      all_tape = λ all. absurd (cut all);
-    }
+arms_more a b old new cut first = record {
+  disc = and_more disc_arms a b old.disc.arms new.disc.arms first.disc;
+  tape = and_more tape_arms a b old.rack.arms new.rack.arms first.tape;
+  all_disc = λ all. absurd (cut all);
+  all_tape = λ all. absurd (cut all);
+}
 
 -- WHAT HOLDS OF ALL DEVICES behind two parts
 pub keeps_then : (a b : List Timed) (old mid : Seen) (failure : Option Failure) (new : Seen) (faults faults1 faults2 : ℕ)
@@ -105,36 +109,30 @@ keeps_more a b old failure new faults faults' first = record {
 module _ {F U : Type 0} (tariffs : Shared F (Bor Usage × Unit {0}) Charge) (tariff : F) (rules : Shared U (Bor Standing × Unit {0}) ℕ) (rule : U) where
   pub leads_itself : (w : World) (f : SystemFacts) → StandsAs f w.store → Leads tariffs tariff rules rule w f f [] w []
   leads_itself w f stands = record {
-    disc_arms = 0;
-    tape_arms = 0;
+    disc_arms = [];
+    tape_arms = [];
     run = refl;
     counted = event_none (devices_in f);
     stands = stands;
     bad = refl;
     over = refl;
-    disc_stops = omega arith;
-    tape_stops = omega arith;
+    disc_stops = sym (append-nil w.disc_stops);
+    tape_stops = sym (append-nil w.tape_stops);
     text = sym (append-nil w.text);
   }
 
   pub leads_then : (w mid new : World) (old now last : SystemFacts) (ms ns : List Move) (a b : List ℕ) → Leads tariffs tariff rules rule w old now ms mid a → Leads tariffs tariff rules rule mid now last ns new b
       → Leads tariffs tariff rules rule w old last (ms ++ ns) new (a ++ b)
   leads_then w mid new old now last ms ns a b first later = record {
-    disc_arms = first.disc_arms + later.disc_arms;
-    tape_arms = first.tape_arms + later.tape_arms;
+    disc_arms = first.disc_arms ++ later.disc_arms;
+    tape_arms = first.tape_arms ++ later.tape_arms;
     run = run_append tariffs tariff rules rule w ms ns mid new first.run later.run;
     counted = moves_then ms ns first.disc_arms first.tape_arms later.disc_arms later.tape_arms (devices_in old) (devices_in now) (devices_in last) first.counted later.counted;
     stands = later.stands;
     bad = later.bad ∙ first.bad;
     over = later.over ∙ first.over;
-    disc_stops =
-        let one : mid.disc_stops ≡ w.disc_stops + first.disc_arms = first.disc_stops in
-        let two : new.disc_stops ≡ mid.disc_stops + later.disc_arms = later.disc_stops in
-        omega (arith, one, two);
-    tape_stops =
-        let one : mid.tape_stops ≡ w.tape_stops + first.tape_arms = first.tape_stops in
-        let two : new.tape_stops ≡ mid.tape_stops + later.tape_arms = later.tape_stops in
-        omega (arith, one, two);
+    disc_stops = later.disc_stops ∙ ap (λ (ks : List ℕ). ks ++ later.disc_arms) first.disc_stops ∙ append_assoc w.disc_stops first.disc_arms later.disc_arms;
+    tape_stops = later.tape_stops ∙ ap (λ (ks : List ℕ). ks ++ later.tape_arms) first.tape_stops ∙ append_assoc w.tape_stops first.tape_arms later.tape_arms;
     text = later.text ∙ ap (λ (t : List ℕ). t ++ b) first.text ∙ append_assoc w.text a b;
   }
 

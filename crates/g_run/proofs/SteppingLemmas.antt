@@ -1,6 +1,6 @@
 -- What the devices count in a step of the open dump, by its outcome.
 use Rattle.std.proofs.Common.{◌≡◌, ℕ, List, Option, Result, Ok, Err, refl, sym, ap, subst, inl, inr, arith}
-use Rattle.g_base.proofs.CountLemmas.{HasRisenBy-Rose, RoseBy-none}
+use Rattle.g_base.proofs.CountLemmas.{HasRisenBy-Rose}
 use Rattle.g_contents.specs.Facts.{OnlineFacts}
 use Rattle.g_dumper.specs.Steps.{Abandoned, FailedWrite, Stepping, WroteBlock}
 use Rattle.g_online.specs.Pins.{IsClosing}
@@ -63,8 +63,8 @@ module _ (d d2 : DumpFacts) (o o2 : OnlineFacts) (r r2 : Rack) where
         cuts_rose = none_failed (both o r) (both o2 r2) writes (ap (λ (x : Rack). x.write_faults) is);
         no_disc_read = λ e. one_zero e;
         no_tape_read = λ e. ap (λ (x : Rack). x.read_faults) is;
-        disc_armed = RoseBy-none (ap (λ (x : OnlineFacts). x.disc.arms) gone.facts);
-        tape_armed = RoseBy-none (ap (λ (x : Rack). x.arms) is);
+        disc_armed = ap (λ (x : OnlineFacts). x.disc.arms) gone.facts;
+        tape_armed = ap (λ (x : Rack). x.arms) is;
       }
 
   tape_cut : FailedWrite d r r2 → o2 ≡ o → DumpCounted Cut (both o r) (both o2 r2)
@@ -76,8 +76,8 @@ module _ (d d2 : DumpFacts) (o o2 : OnlineFacts) (r r2 : Rack) where
         cuts_rose = rack_failed (both o r) (both o2 r2) (ap (λ (x : OnlineFacts). x.disc.write_faults) is) failed.rose;
         no_disc_read = λ e. ap (λ (x : OnlineFacts). x.disc.read_faults) is;
         no_tape_read = λ e. reads;
-        disc_armed = RoseBy-none (ap (λ (x : OnlineFacts). x.disc.arms) is);
-        tape_armed = RoseBy-none (ap (λ (x : Rack). x.arms) failed.rack);
+        disc_armed = ap (λ (x : OnlineFacts). x.disc.arms) is;
+        tape_armed = ap (λ (x : Rack). x.arms) failed.rack;
       }
 
   disc_cut : (n : ℕ) → WroteBlock d o.pins r r2 → IsClosing n o o2 (Err online.Stopped) → DumpCounted Cut (both o r) (both o2 r2)
@@ -87,8 +87,8 @@ module _ (d d2 : DumpFacts) (o o2 : OnlineFacts) (r r2 : Rack) where
     cuts_rose = dump_failed (both o r) (both o2 r2) (closing.causes.writes_rose refl) (block_writes d o.pins r r2 wrote);
     no_disc_read = λ e. closing.causes.reads_kept (λ x. x);
     no_tape_read = λ e. block_reads d o.pins r r2 wrote;
-    disc_armed = RoseBy-none closing.causes.arms;
-    tape_armed = RoseBy-none (block_arms d o.pins r r2 wrote);
+    disc_armed = closing.causes.arms;
+    tape_armed = block_arms d o.pins r r2 wrote;
   }
 
   at_outcome : (outcome other : Outcome) → outcome ≡ other → DumpCounted other (both o r) (both o2 r2) → DumpCounted outcome (both o r) (both o2 r2)

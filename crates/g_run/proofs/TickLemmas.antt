@@ -74,7 +74,7 @@ module _ {F U : Type 0} (tariffs : Shared F (Bor Usage × Unit {0}) Charge) (tar
       → Comes tariffs tariff rules rule w old last (ms ++ ns) new (a ++ b)
   comes_then w mid new old now last ms ns a b first later = record {
     run = run_append tariffs tariff rules rule w ms ns mid new first.run later.run;
-    counted = moves_then ms ns 0 0 0 0 (devices_in old) (devices_in now) (devices_in last) first.counted later.counted;
+    counted = moves_then ms ns [] [] [] [] (devices_in old) (devices_in now) (devices_in last) first.counted later.counted;
     stands = later.stands;
     keeps = keeps_then w mid new first.keeps later.keeps;
     text = later.text ∙ ap (λ (t : List ℕ). t ++ b) first.text ∙ append_assoc w.text a b;
@@ -89,7 +89,7 @@ module _ {F U : Type 0} (tariffs : Shared F (Bor Usage × Unit {0}) Charge) (tar
         Dumped s.outcome ∷ [],
         record {
           run = (next, (may.0.phase, may.0.turn, may.1, dumping, (s.answer, s.state, s.event, told)), refl);
-          counted = move_counted (Dumped s.outcome) 0 0 (devices_in old) (devices_in new) s.counted;
+          counted = move_counted (Dumped s.outcome) [] [] (devices_in old) (devices_in new) s.counted;
           stands = s.stands;
           keeps = subst (λ (v : World). KeepsLines w v) (sym s.next_is) (dump_keeps_lines s.dump.number s.answer s.state w);
           text = s.text;
@@ -101,7 +101,7 @@ module _ {F U : Type 0} (tariffs : Shared F (Bor Usage × Unit {0}) Charge) (tar
     [],
     record {
       run = n.next_is;
-      counted = subst (λ (f : SystemFacts). MovesCounted [] 0 0 (devices_in old) (devices_in f)) (sym n.same) (event_none (devices_in old));
+      counted = subst (λ (f : SystemFacts). MovesCounted [] [] [] (devices_in old) (devices_in f)) (sym n.same) (event_none (devices_in old));
       stands = subst (λ (f : SystemFacts). StandsAs f next.store) (sym n.same) (subst (λ (v : World). StandsAs old v.store) (sym n.next_is) stands);
       keeps = subst (λ (v : World). KeepsLines w v) (sym n.next_is) (keeps_itself w);
       text = ap (λ (v : World). v.text) n.next_is ∙ sym (append-nil w.text) ∙ ap (λ (t : List ℕ). w.text ++ t) (sym n.text);

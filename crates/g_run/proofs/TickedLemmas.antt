@@ -1,5 +1,5 @@
 -- One tick, and the count behind it.
-use Rattle.std.proofs.Common.{◌≡◌, ◌+◌, ◌≤◌, ◌++◌, ℕ, Bool, true, false, not, List, [], ◌∷◌, Option, Some, None, refl, sym, ◌∙◌, ap, subst, inl, arith, if◌then◌else◌}
+use Rattle.std.proofs.Common.{◌≡◌, ◌+◌, ◌≤◌, ◌++◌, ℕ, Bool, true, false, not, List, [], ◌∷◌, Option, Some, None, append-nil, refl, sym, ◌∙◌, ap, subst, inl, arith, if◌then◌else◌}
 use Rattle.std.specs.Prelude.{◌||◌}
 use Rattle.std.specs.Fn.{Shared}
 use Rattle.std.proofs.lemmas.Bool.{leb-false}
@@ -39,15 +39,15 @@ keeps_of old new failure faults faults' keeps = record {
 module _ {F U : Type 0} (tariffs : Shared F (Bor Usage × Unit {0}) Charge) (tariff : F) (rules : Shared U (Bor Standing × Unit {0}) ℕ) (rule : U) where
   leads_of : (w : World) (old new : SystemFacts) (moves : List Move) (next : World) (added : List ℕ) → Comes tariffs tariff rules rule w old new moves next added → Leads tariffs tariff rules rule w old new moves next added
   leads_of w old new moves next added comes = record {
-    disc_arms = 0;
-    tape_arms = 0;
+    disc_arms = [];
+    tape_arms = [];
     run = comes.run;
     counted = comes.counted;
     stands = comes.stands;
     bad = comes.keeps.bad;
     over = comes.keeps.over;
-    disc_stops = let d : next.disc_stops ≡ w.disc_stops = comes.keeps.disc_stops in omega (arith, d);
-    tape_stops = let t : next.tape_stops ≡ w.tape_stops = comes.keeps.tape_stops in omega (arith, t);
+    disc_stops = comes.keeps.disc_stops ∙ sym (append-nil w.disc_stops);
+    tape_stops = comes.keeps.tape_stops ∙ sym (append-nil w.tape_stops);
     text = comes.text;
   }
 
@@ -58,16 +58,16 @@ module _ {F U : Type 0} (tariffs : Shared F (Bor Usage × Unit {0}) Charge) (tar
   leads_raised : (w : World) (old new : SystemFacts) (moves : List Move) (next : World) (added : List ℕ) → Comes tariffs tariff rules rule w old new moves next added → IsThrough next
       → Leads tariffs tariff rules rule w old new (moves ++ Ticked ∷ []) (raised next) added
   leads_raised w old new moves next added comes through = record {
-    disc_arms = 0;
-    tape_arms = 0;
+    disc_arms = [];
+    tape_arms = [];
     run = run_append tariffs tariff rules rule w moves (Ticked ∷ []) next (raised next) comes.run (tick_move tariffs tariff rules rule next through.0 through.1);
-    counted = moves_then moves (Ticked ∷ []) 0 0 0 0 (devices_in old) (devices_in new) (devices_in new) comes.counted
-        (move_counted Ticked 0 0 (devices_in new) (devices_in new) (event_none (devices_in new)));
+    counted = moves_then moves (Ticked ∷ []) [] [] [] [] (devices_in old) (devices_in new) (devices_in new) comes.counted
+        (move_counted Ticked [] [] (devices_in new) (devices_in new) (event_none (devices_in new)));
     stands = comes.stands;
     bad = comes.keeps.bad;
     over = comes.keeps.over;
-    disc_stops = let d : next.disc_stops ≡ w.disc_stops = comes.keeps.disc_stops in omega (arith, d);
-    tape_stops = let t : next.tape_stops ≡ w.tape_stops = comes.keeps.tape_stops in omega (arith, t);
+    disc_stops = comes.keeps.disc_stops ∙ sym (append-nil w.disc_stops);
+    tape_stops = comes.keeps.tape_stops ∙ sym (append-nil w.tape_stops);
     text = comes.text;
   }
 
@@ -95,7 +95,7 @@ module _ {F U : Type 0} (tariffs : Shared F (Bor Usage × Unit {0}) Charge) (tar
     pub ticked : DidTick tariffs tariff rules rule (seen (Up old) c count) None (seen new c' count) before after faults faults'
         → DidOne tariffs tariff rules rule limit (seen (Up old) c count) None (seen new c' (count + 1)) before after faults faults'
     ticked did = record {
-      did = record { goes = goes; keeps = keeps; late = λ none turn is. inl (early turn is) };
+      did = record { goes = goes; keeps = keeps; late = λ none turn is. inl (early turn is); aside = λ none blank. absurd blank };
       counts = λ none. refl;
       falls = fall None did.falls;
     }
@@ -133,7 +133,7 @@ module _ {F U : Type 0} (tariffs : Shared F (Bor Usage × Unit {0}) Charge) (tar
       pub failed : (failure : Failure) → DidTick tariffs tariff rules rule (seen (Up old) c count) (Some failure) (seen new c' count) before after faults faults'
           → DidOne tariffs tariff rules rule limit (seen (Up old) c count) (Some failure) (seen new c' count') before after faults faults'
       failed failure did = record {
-        did = record { goes = goes; keeps = short_keeps failure did.keeps; late = λ none turn is. absurd (let no : ⊥ = cc in no) };
+        did = record { goes = goes; keeps = short_keeps failure did.keeps; late = λ none turn is. absurd (let no : ⊥ = cc in no); aside = λ none blank. absurd blank };
         counts = λ none. absurd (let no : ⊥ = cc in no);
         falls = fall (Some failure) did.falls;
       }

@@ -260,7 +260,7 @@ module _ {F U : Type 0} (tariffs : Shared F (Bor Usage × Unit {0}) Charge) (tar
             next = world;
             comes = record {
               run = run;
-              counted = subst (λ (d : Devices). MovesCounted moves 0 0 (devices_of old) d) (sym (same_devices turn new)) counted;
+              counted = subst (λ (d : Devices). MovesCounted moves [] [] (devices_of old) d) (sym (same_devices turn new)) counted;
               stands = stands;
               keeps = keeps;
               text = turn_adds behind turn (shows job behind (with_turn (record w { phase = Stepped }) t job.number (Gives takes.work)))
@@ -286,7 +286,7 @@ module _ {F U : Type 0} (tariffs : Shared F (Bor Usage × Unit {0}) Charge) (tar
             next = with_turn (in_turn tariffs tariff rules rule w) t job.number rest;
             comes = record {
               run = run;
-              counted = subst (λ (d : Devices). MovesCounted moves 0 0 (devices_of old) d) (sym (left_devices new system left)) counted;
+              counted = subst (λ (d : Devices). MovesCounted moves [] [] (devices_of old) d) (sym (left_devices new system left)) counted;
               stands = left_stands new system t left now;
               keeps = keeps;
               text = sym (append-nil w.text);

@@ -122,7 +122,7 @@ module _ {F U : Type 0} (tariffs : Shared F (Bor Usage × Unit {0}) Charge) (tar
   -- Moves from one world to the next, whose store the system stands for, with what the devices counted; the text is longer.
   pub record Comes (w : World) (old new : SystemFacts) (moves : List Move) (next : World) (added : List ℕ) : Type 0 where
     pub run : Run tariffs tariff rules rule w moves next
-    pub counted : MovesCounted moves 0 0 (devices_in old) (devices_in new)
+    pub counted : MovesCounted moves [] [] (devices_in old) (devices_in new)
     pub stands : StandsAs new next.store
     pub keeps : KeepsLines w next
     pub text : next.text ≡ w.text ++ added

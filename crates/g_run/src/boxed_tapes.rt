@@ -52,4 +52,6 @@ impl<T: Tapes> Tapes for BoxedTapes<T> {
     }
 
     ghost well_formed = { λ b. T.well_formed b.tapes.value };
+
+    ghost fused = { λ b. T.fused b.tapes.value };
 }

@@ -1,6 +1,7 @@
 pub mod BelongLemmas
 pub mod ChangeLemmas
 pub mod DirectoryLemmas
+pub mod GatheredLemmas
 pub mod OneLemmas
 pub mod StayLemmas
 pub mod ViewLemmas

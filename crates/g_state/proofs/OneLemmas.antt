@@ -25,7 +25,7 @@ use Rattle.g_state.specs.One.{DevicesAreOne}
 use Rattle.g_state.specs.Reading.{AllTold, HasText, IsRackView, IsView, ReelsTold, View, dumped_of, dumped_places, holding_of, names_of, own_of, places_of, row_of, tree_by}
 
 -- REELS: each has one list of completed dumps
-one_shelf : (serial : ℕ) (blocks : Option (List (List ℕ))) (ds es : List Dump) → is_some blocks ≡ true
+pub one_shelf : (serial : ℕ) (blocks : Option (List (List ℕ))) (ds es : List Dump) → is_some blocks ≡ true
     → ForSome blocks (λ reel. AreCompleted serial reel ds) → ForSome blocks (λ reel. AreCompleted serial reel es) → ds ≡ es
 one_shelf serial None ds es told are_d are_e = absurd (false≢true told)
 one_shelf serial (Some reel) ds es told are_d are_e = completed_are_one serial reel ds es (are_d reel refl) (are_e reel refl)
@@ -156,7 +156,7 @@ module _ (dumps : List Dump) (right : AreRight dumps) where
   no_text [] none = refl
   no_text (b ∷ bs) none = let no : ⊥ = omega (arith, none) in absurd no
 
-  one_content : (c : TapeCopy) (x y : List ℕ) → length x ≡ length y → IsContent dumps c x → IsContent dumps c y → x ≡ y
+  pub one_content : (c : TapeCopy) (x y : List ℕ) → length x ≡ length y → IsContent dumps c x → IsContent dumps c y → x ≡ y
   unfolding Apart
   one_content c x y long in_x in_y = by_length (cases_eq (length x) 0)
     where

@@ -1,10 +1,11 @@
 -- A change of a file keeps what a store that is up keeps.
-use Rattle.std.proofs.Common.{◌≡◌, ℕ, ◌≤◌, List, Option, Some, None, sym, subst}
+use Rattle.std.proofs.Common.{◌≡◌, ℕ, ◌+◌, ◌≤◌, List, Option, Some, None, sym, ◌∙◌, ap, subst}
 use Rattle.std.specs.Prelude.{IfSome}
 use Rattle.std.specs.Option.{ForSome}
+use Rattle.g_tape.specs.Rack.{Rack, reel}
 use Rattle.g_tape.specs.Reel.{Reel}
 use Rattle.g_contents.specs.Contents.{Contents, brought, set_rec, taken_off, without_file}
-use Rattle.g_contents.specs.Facts.{Pin}
+use Rattle.g_contents.specs.Facts.{OnlineFacts, Pin}
 use Rattle.g_incr.specs.Layout.{Dump}
 use Rattle.g_incr.specs.Plan.{dump_of}
 use Rattle.g_shelf.specs.Completed.{all_dumps}
@@ -13,7 +14,7 @@ use Rattle.g_state.specs.Directories.{Grows, KeepsOthers}
 use Rattle.g_state.specs.Laws.{with_text, with_version}
 use Rattle.g_state.specs.Meaning.{told_reels}
 use Rattle.g_state.specs.Staying.{StaysUp, behind}
-use Rattle.g_state.specs.Up.{DumpFacts, IsReady, IsUp, StoreFacts, content_in, with_dump}
+use Rattle.g_state.specs.Up.{DumpFacts, IsOpen, IsReady, IsUp, StoreFacts, content_in, with_dump}
 use Rattle.g_state.proofs.BelongLemmas.{new_version_belongs}
 use Rattle.g_state.proofs.ChangeLemmas.{files_belong}
 use Rattle.g_state.proofs.DirectoryLemmas.{changes_keep_others, others_stay}
@@ -103,3 +104,27 @@ stays_up = record {
       grow.grows (changes_keep_others.back changed c number bytes)
       (one_open s.dump (λ d grows. (grows, changes_keep_others.back touched c number bytes)) grow.grows_open) was;
 }
+
+-- AN OPEN DUMP stays open where its intent, the last number, the pins and its reel stay
+pub stays_open : (d : DumpFacts) (o new : OnlineFacts) (rack after : Rack) → new.contents.head.intent ≡ o.contents.head.intent → new.contents.head.last_dump ≡ o.contents.head.last_dump
+    → new.pins ≡ o.pins → reel d.plan.serial after.reels ≡ reel d.plan.serial rack.reels → IsOpen d o rack → IsOpen d new after
+stays_open d o new rack after intent last pins same is = record {
+  intent = intent ∙ is.intent;
+  number = is.number ∙ sym (ap (λ (n : ℕ). n + 1) last);
+  pins = is.pins;
+  pinned = pins ∙ is.pinned;
+  are = is.are;
+  on = is.on;
+  reel_is = same ∙ is.reel_is;
+  mounted = is.mounted;
+  from = is.from;
+  length_is = is.length_is;
+  room = is.room;
+  within = is.within;
+  written = is.written;
+}
+
+pub dump_stays_open : (dump : Option DumpFacts) (o new : OnlineFacts) (rack after : Rack) → new.contents.head.intent ≡ o.contents.head.intent → new.contents.head.last_dump ≡ o.contents.head.last_dump
+    → new.pins ≡ o.pins → after.reels ≡ rack.reels → IfSome dump (λ d. IsOpen d o rack) → IfSome dump (λ d. IsOpen d new after)
+dump_stays_open None o new rack after intent last pins same is = tt
+dump_stays_open (Some d) o new rack after intent last pins same is = stays_open d o new rack after intent last pins (ap (reel d.plan.serial) same) is

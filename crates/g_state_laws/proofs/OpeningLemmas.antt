@@ -3,7 +3,7 @@ use Rattle.std.proofs.Common.{◌≡◌, ℕ, ◌+◌, ◌<◌, ◌≤◌, Bool,
 use Rattle.std.specs.Prelude.{◌⊎◌, ◌==◌, ◌&&◌, All, AllPairs, Contains, IfSome, filter, map, nat_le, nat_lt}
 use Rattle.std.proofs.lemmas.Bool.{and_left, both_ways, cases_Bool, cases_eq, cond-false, cond-true, eq-eqb, eqb-true, lt-leb}
 use Rattle.std.proofs.lemmas.List.{append-nil, length-map, map-append}
-use Rattle.std.proofs.lemmas.List.Elements.{All-append, All-cons, All-contains, All-filter, All-head, All-map, All-nil, All-tail, All-weaker, Contains-append_left, Contains-append_right, Contains-get_or, filter-append}
+use Rattle.std.proofs.lemmas.List.Elements.{All-contains, All-head, All-map, All-tail, All-weaker, Contains-append_left, Contains-append_right, Contains-get_or, filter-append}
 use Rattle.std.proofs.lemmas.Option.{same_Some}
 use Rattle.g_entry.specs.declared.file_rec.FileRec.{FileRec}
 use Rattle.g_entry.specs.declared.file_rec.TapeCopy.{TapeCopy}
@@ -18,6 +18,7 @@ use Rattle.g_contents.specs.Facts.{Pin}
 use Rattle.g_incr.specs.Layout.{Dump, IsDump, holds, is_between}
 use Rattle.g_incr.specs.Plan.{IsAway, Plan, content_blocks, dump_of, first_content, noted_files, numbered_from, waiting, with_number}
 use Rattle.g_incr.proofs.PlanLemmas.{plan_gives_dump}
+use Rattle.g_incr.proofs.NumberLemmas.{file_numbered, number_at, numbered_each}
 use Rattle.g_shelf.specs.Completed.{AreShelved, all_dumps, end_of}
 use Rattle.g_state.specs.Belong.{DiscBelongs, IsIntended, IsPlaced, KeepsFile, KeepsRecord, RackBelongs}
 use Rattle.g_state_laws.specs.Dumping.{AreDumpable, IsPlanOf, OpeningStaysUp, PinsText, opened_with}
@@ -29,8 +30,9 @@ use Rattle.g_state.proofs.ChangeLemmas.{copy_is, intents_belong}
 use Rattle.g_state_laws.proofs.ClosingLemmas.{contains_filter}
 use Rattle.g_state.proofs.DirectoryLemmas.{all_up_to, copied_files, copied_recs}
 use Rattle.g_state.proofs.OneLemmas.{AreRight, IsApart, on_reel, same_gathered}
+use Rattle.g_state.proofs.GatheredLemmas.{each_gathered}
 use Rattle.g_state_laws.proofs.PinLemmas.{HasLen, IsOther, OtherStamp, copied_apart, noted_copied, other_pins, pairs, pinned_blocks, pins_content, waiting_all}
-use Rattle.g_state_laws.proofs.RecordLemmas.{apart_in, from_filter, gathered_all_of, gathered_by, gathered_few, gathered_pairs, numbers_are, numbers_none, numbers_none_of, owned, pairs_mapped, same_all, same_count, same_pairs, users_apart}
+use Rattle.g_state_laws.proofs.RecordLemmas.{apart_in, from_filter, gathered_all_of, gathered_by, gathered_few, gathered_pairs, numbers_none, numbers_none_of, owned, pairs_mapped, same_all, same_count, same_pairs, users_apart}
 use Rattle.g_state_laws.proofs.StateLemmas.{with_there}
 use Rattle.g_state_laws.proofs.UpOneLemmas.{ends_before, in_with, on_all, reel_named, right_with}
 
@@ -47,17 +49,6 @@ old_with d shelf reels e there =
 more_content : (old new : List Dump) → ((e : Dump) → Contains old e → Contains new e) → (tape : Option TapeCopy) (t : List ℕ) → IfSome tape (λ c. IsContent old c t) → IfSome tape (λ c. IsContent new c t)
 more_content old new more None t is = tt
 more_content old new more (Some c) t is = record { dump = is.dump; there = more is.dump is.there; reel = is.reel; from = is.from; to = is.to; text_is = is.text_is }
-
--- what is gathered of the dumps, and what doesn't go by numbers
-each_gathered : (P : FileRec → Type 0) (dumps : List Dump) → ((e : Dump) → Contains dumps e → All P e.files) → (users : List UserRec) (files : List FileRec) → Gathers dumps users files → All P files
-each_gathered P dumps each [] files is = subst (All P) (sym is) (All-nil P)
-each_gathered P dumps each (u ∷ us) files (e, has, rest, are, more) =
-    subst (All P) (sym are)
-    (All-append P (files_of u.number e.files) rest (All-filter (λ (r : FileRec). r.owner == u.number) P e.files (each e has.there)) (each_gathered P dumps each us rest more))
-
-numbered_each : (P : FileRec → Type 0) → ((n : ℕ) (r : FileRec) → P r → P (with_number n r)) → (n : ℕ) (rs : List FileRec) → All P rs → All P (numbered_from n rs)
-numbered_each P to n [] all = All-nil P
-numbered_each P to n (r ∷ rs) all = All-cons P (with_number n r) (numbered_from (n + 1) rs) (to n r (All-head P r rs all)) (numbered_each P to (n + 1) rs (All-tail P r rs all))
 
 map_same : (f : FileRec → FileRec) (rs : List FileRec) → All (λ r. f r ≡ r) rs → map f rs ≡ rs
 map_same f [] all = refl
@@ -325,10 +316,10 @@ module _ (text : ℕ → List ℕ) (shelf : ℕ → List Dump) (s : StoreFacts) 
   unfolding numbered
   are_numbered = record {
     rising = λ i j d less within.
-        let one = numbers_are 0 all.files i d (omega (arith, less, within)) in
-        let two = numbers_are 0 all.files j d within in
+        let one = number_at 0 all.files i d (omega (arith, less, within)) in
+        let two = number_at 0 all.files j d within in
         omega (arith, less, one, two);
-    below = λ i d within. let one = numbers_are 0 all.files i d within in let most = count in omega (arith, within, one, most);
+    below = λ i d within. let one = number_at 0 all.files i d within in let most = count in omega (arith, within, one, most);
   }
 
   are_files : AreFiles (length c.users) numbered
@@ -352,19 +343,7 @@ module _ (text : ℕ → List ℕ) (shelf : ℕ → List Dump) (s : StoreFacts) 
   are_records = record {
     each_user = dumpable.records.each_user;
     among_users = dumpable.records.among_users;
-    each_file = of_dumps IsFile
-        (λ n r is. record {
-          local = is.local;
-          least_generation = is.least_generation;
-          most_generation = is.most_generation;
-          lang = is.lang;
-          stamp = is.stamp;
-          len = is.len;
-          others = is.others;
-          sets = is.sets;
-          no_owner = is.no_owner;
-          tape = is.tape;
-        }) (λ e rules. rules.each_file);
+    each_file = of_dumps IsFile file_numbered (λ e rules. rules.each_file);
     numbers = are_numbered;
     among_files = are_files;
   }

@@ -111,14 +111,14 @@ abbrev pub both_told : Option (List (List ℕ)) → Option (List (List ℕ)) →
 both_told (Some a) (Some b) = Some (a ++ b)
 both_told a b = None
 
-record IsBoth (x y : Option (List (List ℕ))) (content : List (List ℕ)) : Type 0 where
-  one : List (List ℕ)
-  rest : List (List ℕ)
-  is : x ≡ Some one
-  are : y ≡ Some rest
-  both : content ≡ one ++ rest
+pub record IsBoth (x y : Option (List (List ℕ))) (content : List (List ℕ)) : Type 0 where
+  pub one : List (List ℕ)
+  pub rest : List (List ℕ)
+  pub is : x ≡ Some one
+  pub are : y ≡ Some rest
+  pub both : content ≡ one ++ rest
 
-split_told : (x y : Option (List (List ℕ))) (content : List (List ℕ)) → both_told x y ≡ Some content → IsBoth x y content
+pub split_told : (x y : Option (List (List ℕ))) (content : List (List ℕ)) → both_told x y ≡ Some content → IsBoth x y content
 split_told (Some a) (Some b) content e = record { one = a; rest = b; is = refl; are = refl; both = sym (same_Some (a ++ b) content e) }
 split_told (Some a) None content e = absurd (none-some content e)
 split_told None y content e = absurd (none-some content e)

@@ -31,7 +31,7 @@ pairs_cons R x xs first rest zero (suc j) d less within = first j d (omega (arit
 pairs_cons R x xs first rest (suc i) zero d less within = let no : ⊥ = omega (arith, less) in absurd no
 pairs_cons R x xs first rest (suc i) (suc j) d less within = rest i j d (omega (arith, less)) (omega (arith, within))
 
-pairs_append : {A : Type 0} (R : A → A → Type 0) (xs ys : List A) → AllPairs R xs → AllPairs R ys → ((x y : A) → Contains xs x → Contains ys y → R x y) → AllPairs R (xs ++ ys)
+pub pairs_append : {A : Type 0} (R : A → A → Type 0) (xs ys : List A) → AllPairs R xs → AllPairs R ys → ((x y : A) → Contains xs x → Contains ys y → R x y) → AllPairs R (xs ++ ys)
 pairs_append R [] ys in_xs in_ys across = in_ys
 pairs_append R (x ∷ xs) ys in_xs in_ys across =
     pairs_cons R x (xs ++ ys)
@@ -196,8 +196,3 @@ numbers_none_of user n (r ∷ rs) = by_owner (cases_Bool (r.owner == user)) (num
     by_owner (inr isnt) rest =
         ap (map unnumbered) (cond-false (r.owner == user) (with_number n r ∷ files_of user (numbered_from (n + 1) rs)) (files_of user (numbered_from (n + 1) rs)) isnt)
         ∙ rest ∙ ap (map unnumbered) (sym (cond-false (r.owner == user) (r ∷ files_of user rs) (files_of user rs) isnt))
-
-pub numbers_are : (n : ℕ) (rs : List FileRec) (i : ℕ) (d : FileRec) → i < length (numbered_from n rs) → (get_or (numbered_from n rs) i d).number ≡ n + i
-numbers_are n [] i d within = let no : ⊥ = omega (arith, within) in absurd no
-numbers_are n (r ∷ rs) zero d within = let sum : n ≡ n + 0 = omega arith in sum
-numbers_are n (r ∷ rs) (suc i) d within = numbers_are (n + 1) rs i d (omega (arith, within)) ∙ (let sum : (n + 1) + i ≡ n + suc i = omega arith in sum)

@@ -3,7 +3,7 @@ use Rattle.std.proofs.Common.{◌≡◌, ◌≢◌, ℕ, ◌+◌, ◌-◌, ◌�
 use Rattle.std.specs.Prelude.{◌⊎◌, ◌&&◌, ◌||◌, MatchOption, Result, Ok, Err, is_none, nat_lt, not, if◌then◌else◌}
 use Rattle.std.specs.Option.{option_map}
 use Rattle.std.specs.Ordering.{nat_cmp}
-use Rattle.std.specs.FinMap.{FinMap, empty, get, insert, remove, nat_cmp-IsAntisymmetric}
+use Rattle.std.specs.FinMap.{FinMap, get, insert, remove, nat_cmp-IsAntisymmetric}
 use Rattle.std.proofs.lemmas.Bool.{both_ways, not-true}
 use Rattle.std.proofs.lemmas.Cmp.{nat_cmp_total}
 use Rattle.g_name.specs.declared.full.Full.{Full}
@@ -20,7 +20,7 @@ use Rattle.g_plain.proofs.StepKept.{all_passed}
 use Rattle.g_tree.proofs.RuleLemmas.{made_of}
 use Rattle.g_step.specs.State.{Holding, OpenDump, Place, State, end_of, fresh, is_candidate, place_at, taken_offline, with_online, without_all}
 use Rattle.g_step.specs.CallStep.{LeftByRefusal, Outcome, after_call, brings_now, changes, commits, early, is_cut, kept_intent, late, places_after, stamp_of, touched_by, with_version, writes}
-use Rattle.g_step.specs.DumpSteps.{AreNoted, Event, OpenStep, dump_needs, migrate_refuses, noted_copy, open_refuses, opening, own_copies, waiting, waiting_blocks}
+use Rattle.g_step.specs.DumpSteps.{AreNoted, Event, OpenStep, dump_begun, dump_needs, migrate_refuses, noted_copy, open_refuses, opening, waiting, waiting_blocks}
 use Rattle.g_step.specs.Rising.{other_copy}
 use Rattle.g_state_steps.proofs.PlaceLemmas.{get_by}
 use Rattle.g_state_opening.specs.Owns.{IsDumpable, OwnsStand, OwnsStay, StandIn}
@@ -212,18 +212,7 @@ opened_stands s k serial o number new able step =
     let ends = end_of s serial + dump_needs k - 1 in
     let noted : AreNoted serial (ends - waiting_blocks (waiting k)) ends k places = step.1 done.free in
     let held : Holding = record k { intent = Some (record { serial = serial; place = end_of s serial; number = k.last + 1 }) } in
-    let dump : OpenDump = record {
-      number = k.last + 1;
-      serial = serial;
-      place = end_of s serial;
-      needs = dump_needs k;
-      done = 0;
-      tree = k.tree;
-      places = places;
-      waiting = waiting k;
-      own = own_copies k places;
-      touched = empty;
-    } in
+    let dump : OpenDump = dump_begun s k serial places in
     subst (λ (u : State). StandIn u) (sym done.is) (record {
       held = held;
       holds = refl;

@@ -51,21 +51,25 @@ own_copy k places e = if is_in k.kept e.0.user then [] else copy_entry e.1.stamp
 abbrev pub own_copies : Holding → FinMap nat_cmp Place → FinMap nat_cmp TapeCopy
 own_copies k places = from_entries (flat_map (own_copy k places) (entries k.tree.files))
 
+-- the dump that an opening begins
+abbrev pub dump_begun : State → Holding → ℕ → FinMap nat_cmp Place → OpenDump
+dump_begun s k serial places = record {
+  number = k.last + 1;
+  serial = serial;
+  place = end_of s serial;
+  needs = dump_needs k;
+  done = 0;
+  tree = k.tree;
+  places = places;
+  waiting = waiting k;
+  own = own_copies k places;
+  touched = empty;
+}
+
 abbrev pub opening : State → Holding → ℕ → FinMap nat_cmp Place → State
 opening s k serial places = record s {
   holding = Some (record k { intent = Some (record { serial = serial; place = end_of s serial; number = k.last + 1 }) });
-  open_dump = Some (record {
-    number = k.last + 1;
-    serial = serial;
-    place = end_of s serial;
-    needs = dump_needs k;
-    done = 0;
-    tree = k.tree;
-    places = places;
-    waiting = waiting k;
-    own = own_copies k places;
-    touched = empty;
-  });
+  open_dump = Some (dump_begun s k serial places);
 }
 
 abbrev pub tape_room : State → ℕ → ℕ

@@ -1,7 +1,7 @@
 //! The store, and what is told of it without asking a device.
 ghost use Rattle.std.specs.Prelude.{◌≡◌, ◌≤◌, ℕ, List, false, true, Some, None, is_some, option_map, unwrap_or};
 ghost use Rattle.std.specs.FinMap as finmap;
-ghost use Rattle.g_base.specs.Counts.{one_more};
+ghost use Rattle.g_base.specs.Fuse.{armed_with};
 ghost use Rattle.g_tape.specs.Rack.{is_mounted, reel};
 ghost use Rattle.g_tree.specs.Records.{users_by_name};
 ghost use Rattle.g_incr.specs.Plan.{needs};
@@ -115,7 +115,8 @@ impl<D: Disc, T: Tapes> Store<D, T> {
         requires { 1 ≤ k }
         ensures armed { self.new ≡ record self.old {
           online = record self.old.online {
-            disc = record self.old.online.disc { fuse = Some k; arms = one_more self.old.online.disc.arms };
+            disc = record self.old.online.disc
+                { fuse = Some k; arms = armed_with k self.old.online.disc.writes self.old.online.disc.arms };
           };
         } }
         ensures same { MeansTheSame self.old self.new }
@@ -127,7 +128,7 @@ impl<D: Disc, T: Tapes> Store<D, T> {
     pub fn arm_tape(&mut self, k: u32)
         requires { 1 ≤ k }
         ensures armed { self.new ≡ record self.old {
-          rack = record self.old.rack { fuse = Some k; arms = one_more self.old.rack.arms };
+          rack = record self.old.rack { fuse = Some k; arms = armed_with k self.old.rack.write_faults self.old.rack.arms };
         } }
         ensures same { MeansTheSame self.old self.new }
     {

@@ -1,12 +1,11 @@
 -- A call that wants a file which is on the disc: its bytes are read there, or no device is asked.
-use Rattle.std.proofs.Common.{◌≡◌, ℕ, ◌<◌, Bool, true, false, List, length, Option, Some, None, Ok, Err, refl, sym, ◌∙◌, ap, arith, inl, subst}
-use Rattle.std.specs.Prelude.{◌||◌, IfSome, not, if◌then◌else◌}
+use Rattle.std.proofs.Common.{◌≡◌, ℕ, ◌<◌, Bool, true, false, List, length, None, Ok, Err, refl, sym, ◌∙◌, ap, arith, inl, subst}
+use Rattle.std.specs.Prelude.{◌||◌, not, if◌then◌else◌}
 use Rattle.std.specs.Option.{ForSome}
 use Rattle.std.proofs.lemmas.Bool.{and_right, false≢true, or_from}
 use Rattle.std.proofs.lemmas.List.Elements.{All-contains}
 use Rattle.g_base.specs.Block.{blocks_for}
 use Rattle.g_base.specs.Counts.{Rose}
-use Rattle.g_tape.specs.Rack.{Rack}
 use Rattle.g_tape.proofs.ReadLemmas.{nothing_read}
 use Rattle.g_plain.specs.declared.calls.StoreCall.{StoreCall}
 use Rattle.g_plain.specs.declared.calls.StoreReply.{StoreReply}
@@ -21,10 +20,10 @@ use Rattle.g_step.specs.CallStep.{CallStep, DiscRead, Plain, brings, brings_now,
 use Rattle.g_state.specs.Answers.{Answers, Belongs, Did, IsStore, Leads, Told}
 use Rattle.g_state.specs.Meaning.{told_reels}
 use Rattle.g_state.specs.Reading.{HasText, IsOpenView, IsView, StandsForState, View, state_up}
-use Rattle.g_state.specs.Up.{DumpFacts, IsOpen, StoreFacts}
+use Rattle.g_state.specs.Up.{StoreFacts}
+use Rattle.g_state.proofs.StayLemmas.{dump_stays_open}
 use Rattle.g_state_calls.proofs.CallLemmas.{calls_go_by_step}
 use Rattle.g_state_steps.specs.Rooms.{held_in}
-use Rattle.g_migrate.proofs.KeepsLemmas.{moved}
 use Rattle.g_migrate.proofs.MigrationLemmas.{rules_here}
 use Rattle.g_store_calls.specs.Answering.{KeepsPlan, with_devices}
 use Rattle.g_store_calls.proofs.AskedLemmas.{has_bytes, met}
@@ -33,32 +32,11 @@ use Rattle.g_store_calls.proofs.CalmLemmas.{step_done}
 use Rattle.g_store_calls.proofs.SeenLemmas.{Seen, seen, stands}
 use Rattle.g_store_calls.proofs.TapeLemmas.{read_answers, stays}
 use Rattle.g_store_calls.proofs.WantLemmas.{Wants, granted_in, len_in, offline_in}
+use Rattle.g_state_laws.proofs.TiedLemmas.{moved}
 
 -- THE FILESTORE after a read of the disc that failed
 abbrev pub with_faults : OnlineFacts → ℕ → OnlineFacts
 with_faults o n = record o { disc = record o.disc { read_faults = n } }
-
--- an open dump doesn't see it
-open_still : (d : DumpFacts) (o : OnlineFacts) (n : ℕ) (rack : Rack) → IsOpen d o rack → IsOpen d (with_faults o n) rack
-open_still d o n rack is = record {
-  intent = is.intent;
-  number = is.number;
-  pins = is.pins;
-  pinned = is.pinned;
-  are = is.are;
-  on = is.on;
-  reel_is = is.reel_is;
-  mounted = is.mounted;
-  from = is.from;
-  length_is = is.length_is;
-  room = is.room;
-  within = is.within;
-  written = is.written;
-}
-
-dump_still : (dump : Option DumpFacts) (o : OnlineFacts) (n : ℕ) (rack : Rack) → IfSome dump (λ d. IsOpen d o rack) → IfSome dump (λ d. IsOpen d (with_faults o n) rack)
-dump_still None o n rack is = tt
-dump_still (Some d) o n rack is = open_still d o n rack is
 
 module _ (s : StoreFacts) (who : List ℕ) (call : StoreCall) (f : File) (unspent : s.spent ≡ false) (store : IsStore s) (wants : Wants s.online who call f) (online : f.online ≡ true)
     (quiet : writes call ≡ false) (none : (t : Tree) → new_blocks t who call ≡ 0) where
@@ -216,7 +194,7 @@ module _ (s : StoreFacts) (who : List ℕ) (call : StoreCall) (f : File) (unspen
       keeps = record {
         tied = tied;
         live = λ up_then. store.live unspent;
-        open_dump = λ up_then. dump_still s.dump o n s.rack (store.open_dump unspent);
+        open_dump = λ up_then. dump_stays_open s.dump o (with_faults o n) s.rack s.rack refl refl refl refl (store.open_dump unspent);
         pins = λ up_then no_dump. store.pins unspent no_dump;
       };
       told = λ t. t;

@@ -1,6 +1,6 @@
 -- A store whose devices were only read stands for what it stood for, and keeps what it kept.
-use Rattle.std.proofs.Common.{◌≡◌, ℕ, Bool, true, false, List, Option, Some, None, Result, Err, refl, sym, ◌∙◌, ap, subst}
-use Rattle.std.specs.Prelude.{IfSome, OnOk, not}
+use Rattle.std.proofs.Common.{◌≡◌, ℕ, Bool, true, false, List, Result, Err, refl, sym, ◌∙◌, ap, subst}
+use Rattle.std.specs.Prelude.{OnOk, not}
 use Rattle.std.proofs.lemmas.Bool.{false≢true}
 use Rattle.g_disc.specs.Disc.{DiscState}
 use Rattle.g_name.specs.declared.full.Full.{Full}
@@ -16,14 +16,15 @@ use Rattle.g_step.specs.CallStep.{CallStep, Outcome}
 use Rattle.g_state.specs.Answers.{Answers, Belongs, Did, IsLostCopy, IsStore, Leads, Raised, Steps, Told}
 use Rattle.g_state.specs.Meaning.{told_reels}
 use Rattle.g_state.specs.Reading.{IsOpenView, IsView, ReelsTold, StandsForState, View, state_up}
-use Rattle.g_state.specs.Up.{DumpFacts, IsOpen, IsUp, StoreFacts}
+use Rattle.g_state.specs.Up.{IsUp, StoreFacts}
+use Rattle.g_state.proofs.StayLemmas.{dump_stays_open}
 use Rattle.g_state_steps.specs.Rooms.{held_in}
-use Rattle.g_migrate.proofs.KeepsLemmas.{moved}
 use Rattle.g_retrieve.specs.Keeps.{IsOver}
 use Rattle.g_retrieve.proofs.KeepsLemmas.{keeps_same}
 use Rattle.g_store_calls.specs.Answering.{with_devices}
 use Rattle.g_store_calls.specs.Asking.{HasAsked}
 use Rattle.g_store_calls.proofs.SeenLemmas.{Seen, seen, stands}
+use Rattle.g_state_laws.proofs.TiedLemmas.{moved}
 
 module _ (s : StoreFacts) (new : OnlineFacts) (after : Rack) (disc_fault tape_fault : Type 0) (unspent : s.spent ≡ false) (store : IsStore s)
     (asked : HasAsked disc_fault tape_fault s.online new s.rack after) where
@@ -73,31 +74,13 @@ module _ (s : StoreFacts) (new : OnlineFacts) (after : Rack) (disc_fault tape_fa
   over : IsOver o s.rack s
   over = record { online_is = refl; rack_is = refl; unspent = unspent }
 
-  open_read : (dump : Option DumpFacts) → IfSome dump (λ d. IsOpen d o after) → IfSome dump (λ d. IsOpen d read_online after)
-  open_read None is = tt
-  open_read (Some d) is = record {
-    intent = is.intent;
-    number = is.number;
-    pins = is.pins;
-    pinned = is.pinned;
-    are = is.are;
-    on = is.on;
-    reel_is = is.reel_is;
-    mounted = is.mounted;
-    from = is.from;
-    length_is = is.length_is;
-    room = is.room;
-    within = is.within;
-    written = is.written;
-  }
-
   pub store_read : IsStore read_store
   store_read =
       let was = (keeps_same o s.rack after (store.live unspent) asked.only).store s over store in
       record {
         tied = subst IsTied online_is asked.tied;
         live = λ up. store.live unspent;
-        open_dump = λ up. open_read s.dump (was.open_dump (ap not (store.live unspent)));
+        open_dump = λ up. dump_stays_open s.dump o read_online after after refl refl refl refl (was.open_dump (ap not (store.live unspent)));
         pins = λ up none. store.pins unspent none;
       }
 

@@ -45,18 +45,18 @@ use Rattle.g_state.specs.Staying.{AreMarked, behind}
 use Rattle.g_state.specs.Up.{DumpFacts, IsOpen, IsUp, StoreFacts}
 use Rattle.g_state.proofs.BelongLemmas.{new_version_belongs}
 use Rattle.g_state.proofs.ChangeLemmas.{files_belong, intents_belong}
-use Rattle.g_state.proofs.StayLemmas.{stays_up}
+use Rattle.g_state.proofs.StayLemmas.{stays_open, stays_up}
 use Rattle.g_state.proofs.ViewLemmas.{Stands, back, reads_keep_state}
 use Rattle.g_state_calls.specs.Calls.{IsAsked, IsBehind, IsVersionOf, marked, version_made}
 use Rattle.g_state_calls.proofs.CallLemmas.{calls_go_by_step}
 use Rattle.g_state_calls.proofs.FileLemmas.{offline_recs}
 use Rattle.g_state_laws.proofs.DumpingLemmas.{events_stay_up}
+use Rattle.g_state_laws.proofs.TiedLemmas.{devices_belong, moved}
 use Rattle.g_state_steps.specs.Rooms.{held_in}
 use Rattle.g_state_steps.specs.Unjam.{ArePlanned, IsUnjamPlan}
 use Rattle.g_state_steps.proofs.UnjamLemmas.{unjam_is}
 use Rattle.g_state_steps.proofs.WaitingLemmas.{mapped_there}
 use Rattle.g_migrate.specs.Keeps.{with_online}
-use Rattle.g_migrate.proofs.KeepsLemmas.{devices_belong, moved}
 use Rattle.g_store_calls.specs.Answering.{KeepsPlan}
 use Rattle.g_store_calls.specs.Versions.{HasRoom}
 use Rattle.g_store_calls.proofs.AddLemmas.{or_false}
@@ -107,25 +107,6 @@ of_recs : (P : FileRec → Type 0) (files : List File) → All P (map (λ (f : F
 of_recs P files all = λ k d within.
     let long = length-map files (λ (f : File). f.rec) in
     subst P (get_or-map (λ (f : File). f.rec) files k d d.rec within) (all k d.rec (omega (arith, within, long)))
-
--- AN OPEN DUMP stays open where its intent, the last number and the pins stay
-open_stays : (d : DumpFacts) (o new : OnlineFacts) (rack : Rack) → new.contents.head.intent ≡ o.contents.head.intent → new.contents.head.last_dump ≡ o.contents.head.last_dump → new.pins ≡ o.pins
-    → IsOpen d o rack → IsOpen d new rack
-open_stays d o new rack intent last pins is = record {
-  intent = intent ∙ is.intent;
-  number = is.number ∙ sym (ap (λ (n : ℕ). n + 1) last);
-  pins = is.pins;
-  pinned = pins ∙ is.pinned;
-  are = is.are;
-  on = is.on;
-  reel_is = is.reel_is;
-  mounted = is.mounted;
-  from = is.from;
-  length_is = is.length_is;
-  room = is.room;
-  within = is.within;
-  written = is.written;
-}
 
 same_last : (b : Bool) (c : Contents) → (committed b c).head.last_dump ≡ c.head.last_dump
 same_last true c = refl
@@ -259,7 +240,7 @@ module _ (s : StoreFacts) (new : OnlineFacts) (full : Full) (bytes : List ℕ) (
         by_dump None open_is = tt
         by_dump (Some d) open_is =
             let same : new.contents ≡ made told = contents_are ∙ ap (λ (b : Bool). committed b (made told)) (ap is_some open_is.pinned) in
-            open_stays d o new s.rack (ap (λ (x : Contents). x.head.intent) same) (ap (λ (x : Contents). x.head.last_dump) same) done.pins open_is
+            stays_open d o new s.rack s.rack (ap (λ (x : Contents). x.head.intent) same) (ap (λ (x : Contents). x.head.last_dump) same) done.pins refl open_is
 
     up_made : (text : ℕ → List ℕ) (shelf : ℕ → List Dump) → IsUp text shelf s → IsUp (with_text next bytes text) shelf (behind s (made told) new.changed new.touched)
     up_made text shelf was = stays_up.version text shelf s (file_by told) bytes take new.changed new.touched rules.records.numbers below (is_new told) owned are_marked was

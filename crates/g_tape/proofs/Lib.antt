@@ -1,3 +1,4 @@
+pub mod FuseLemmas
 pub mod MemoryLemmas
 pub mod PlaceLemmas
 pub mod RackLemmas

@@ -1,6 +1,7 @@
 -- A rack in memory: what it holds besides what every rack is, and just when and how its calls fail.
 use Rattle.std.specs.Prelude.{◌≡◌, ℕ, ◌↔◌, List, [], Contains, map, Some, None, Result, Err}
 use Rattle.g_base.specs.Counts.{one_more}
+use Rattle.g_base.specs.Fuse.{never}
 use Rattle.g_tape.specs.declared.fault.TapeFault.{TapeFault}
 use Rattle.g_tape.specs.declared.fault.TapeFault.TheVariants.{ReadFailed, WriteFailed}
 use Rattle.g_tape.specs.declared.leave.TapeLeave.{TapeLeave}
@@ -43,7 +44,7 @@ pub record IsEmptyRack (labels : List (ℕ × ℕ)) (memory : Memory) : Type 0 w
   pub read_faults : memory.rack.read_faults ≡ 0
   pub write_faults : memory.rack.write_faults ≡ 0
   pub fuse : memory.rack.fuse ≡ None
-  pub arms : memory.rack.arms ≡ 0
+  pub arms : memory.rack.arms ≡ never
   pub leave : memory.leave ≡ Old
   pub fail : memory.fail ≡ []
   pub reads : memory.reads ≡ 0

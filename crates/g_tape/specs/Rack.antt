@@ -3,18 +3,22 @@ use Rattle.std.specs.Prelude.{◌≡◌, ◌≢◌, ℕ, ◌≤◌, List, [], �
 use Rattle.std.specs.Option.{ForSome}
 use Rattle.std.specs.List.Sorted.{IsStrictlyIncreasing}
 use Rattle.g_base.specs.Counts.{Rose}
-use Rattle.g_base.specs.Fuse.{burnt}
+use Rattle.g_base.specs.Fuse.{Arms, BurnsByFailures, burnt}
 use Rattle.g_tape.specs.declared.fault.TapeFault.{TapeFault}
 use Rattle.g_tape.specs.declared.fault.TapeFault.TheVariants.{NoTape, NotMounted, End, ReadFailed, WriteFailed}
 use Rattle.g_tape.specs.Reel.{Reel, IsReel, with_mounted, ending, read_at, Remains, left_by}
 
--- the reels in rising serial, the counts of failed reads and writes, the fuse, and how often it was armed
+-- the reels in rising serial, the counts of failed reads and writes, the fuse, and what the rack was armed with
 pub record Rack : Type 0 where
   pub reels : List Reel
   pub read_faults : ℕ
   pub write_faults : ℕ
   pub fuse : Option ℕ
-  pub arms : ℕ
+  pub arms : Arms
+
+-- what a rack's fuse is at each moment
+abbrev pub IsFused : Rack → Type 0
+IsFused r = BurnsByFailures r.write_faults r.arms r.fuse
 
 -- what holds of the reels of every rack
 pub record AreReels (reels : List Reel) : Type 0 where

@@ -1,6 +1,6 @@
 //! A rack of reels in memory, whose failures are set beforehand.
 ghost use Rattle.std.specs.Prelude.{◌≡◌, ◌≢◌, ◌≤◌, All, AllPairs, IfOk, Some, map, true, false, vec_len};
-ghost use Rattle.g_base.specs.Counts.{one_more};
+ghost use Rattle.g_base.specs.Fuse.{BurnsByFailures, armed_with};
 ghost use Rattle.g_tape.specs.Reel.{IsLabel};
 ghost use Rattle.g_tape.specs.Rack.{AreReels, Mounting, refuses_mount, refuses_unmount};
 
@@ -9,7 +9,7 @@ use crate::leave::TapeLeave;
 use crate::memory_reel::{MemoryReel, empty_reels};
 use crate::place::place_of;
 use crate::tapes::Tapes;
-use g_base::{Block, Fuse, NoMemory, raised};
+use g_base::{Armings, Block, Fuse, NoMemory, raised};
 use std::alloc::Global;
 
 /// A rack in memory. Nothing fails but the write at which its fuse is 1 and the reads that are named.
@@ -22,8 +22,9 @@ pub struct MemoryTapes {
     read_faults: u64,
     write_faults: u64,
     fuse: Fuse,
-    arms: u64,
+    arms: Armings,
     ghost well_formed: { AreReels reels.items },
+    ghost fused: { BurnsByFailures write_faults arms fuse },
 }
 
 impl MemoryTapes {
@@ -48,7 +49,7 @@ impl MemoryTapes {
             read_faults: 0,
             write_faults: 0,
             fuse: Fuse::new(),
-            arms: 0,
+            arms: Armings::new(),
         })
     }
 
@@ -166,11 +167,13 @@ impl Tapes for MemoryTapes {
     fn arm(&mut self, k: u32)
         requires { 1 ≤ k }
         ensures { memory_of self.new ≡ record (memory_of self.old)
-            { rack = record (rack_of self.old) { fuse = Some k; arms = one_more (rack_of self.old).arms } } }
+            { rack = record (rack_of self.old) { fuse = Some k; arms = armed_with k (rack_of self.old).write_faults (rack_of self.old).arms } } }
     {
         self.fuse.arm(k);
-        self.arms = raised(self.arms);
+        self.arms.arm(k, self.write_faults);
     }
 
     ghost well_formed = { λ tapes. tapes.well_formed };
+
+    ghost fused = { λ tapes. tapes.fused };
 }

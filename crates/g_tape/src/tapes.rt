@@ -1,15 +1,15 @@
 //! The rack of reels, as all that keep something on it see it.
 ghost use Rattle.std.specs.Prelude.{◌≡◌, ◌<◌, ◌≤◌, Some, true, false, length, map, slice_get};
-ghost use Rattle.g_base.specs.Counts.{one_more};
+ghost use Rattle.g_base.specs.Fuse.{armed_with};
 ghost use Rattle.g_tape.specs.Laws.{ReadsOnlyRead};
-ghost use Rattle.g_tape.specs.Rack.{Rack, AreReels, reel, is_mounted, told_of, refuses_mount, refuses_unmount, Mounting, Reading, Writing};
+ghost use Rattle.g_tape.specs.Rack.{Rack, AreReels, IsFused, reel, is_mounted, told_of, refuses_mount, refuses_unmount, Mounting, Reading, Writing};
 
 use crate::fault::TapeFault;
 use g_base::Block;
 
 /// Reels in a rack, each of blocks of 512 bytes that are written one behind the other. A rack counts
-/// its failed reads, its failed writes and how often it was armed; each count stands still at
-/// 2^64 - 1. A rack in memory tells what its reels hold and how often each block was read, a real one
+/// its failed reads, its failed writes and how often it was armed, and with which number last; each
+/// count stands still at 2^64 - 1. A rack in memory tells what its reels hold and how often each block was read, a real one
 /// doesn't. A serial is from 1 to 999,999, a capacity from 2 to 65,536 blocks.
 pub trait Tapes {
     ghost rack: { Self → Rack };
@@ -56,9 +56,12 @@ pub trait Tapes {
     /// set before; one that has fired is spent.
     fn arm(&mut self, k: u32)
         requires { 1 ≤ k }
-        ensures { rack self.new ≡ record (rack self.old) { fuse = Some k; arms = one_more (rack self.old).arms } };
+        ensures { rack self.new ≡ record (rack self.old)
+            { fuse = Some k; arms = armed_with k (rack self.old).write_faults (rack self.old).arms } };
 
     ghost well_formed: { (tapes : Self) → AreReels (rack tapes).reels };
+
+    ghost fused: { (tapes : Self) → IsFused (rack tapes) };
 }
 
 /// The laws of reads: a read, however it ends, changes nothing but counts of reads; a good one counts

@@ -16,6 +16,7 @@ pub mod PutLemmas
 pub mod RecordLemmas
 pub mod ResultLemmas
 pub mod RightLemmas
+pub mod RoomLemmas
 pub mod RuleLemmas
 pub mod TrapLemmas
 pub mod UserLemmas

@@ -1,5 +1,5 @@
 -- What contracts see of a tree in memory, and how its records change.
-use Rattle.std.specs.Prelude.{◌≡◌, ℕ, ◌==◌, not, nat_lt, List, [], ◌∷◌, ◌++◌, map, filter, length, sum_by, slice_index_or, codes, Some, None, unwrap_or, if◌then◌else◌}
+use Rattle.std.specs.Prelude.{◌≡◌, ℕ, ◌==◌, not, nat_lt, List, [], ◌∷◌, ◌++◌, map, filter, length, sum_by, slice_index_or, codes, Option, Some, None, unwrap_or, if◌then◌else◌}
 use Rattle.std.specs.FinMap.{FinMap, get, remove, from_entries}
 use Rattle.g_base.specs.Block.{blocks_for}
 use Rattle.g_name.specs.declared.full.Full.{Full}
@@ -15,6 +15,10 @@ pub record TreeState : Type 0 where
   pub users : List UserRec
   pub files : List FileRec
   pub spare : ℕ
+
+-- for how many files more there is a box
+abbrev pub room_of : Option FileRec → ℕ
+room_of room = elim room [ Some file ↦ 1 | None ↦ 0 ]
 
 -- numbers by full name, and how many more fit without taking memory
 pub record IndexState : Type 0 where

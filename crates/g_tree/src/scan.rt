@@ -10,7 +10,7 @@ ghost use Rattle.g_tree.specs.Answers.{newest_of};
 
 use crate::sorted::Sorted;
 use g_base::NoMemory;
-use g_entry::{FileRec, UserRec};
+use g_entry::{BoxedRec, FileRec, UserRec};
 use g_name::Full;
 use std::alloc::Global;
 
@@ -28,12 +28,12 @@ pub fn full_of(users: &[UserRec], file: &FileRec) -> Full
 }
 
 /// Where the file of a number stands among files in order of number, or where it would stand.
-pub fn place_of(files: &[FileRec], number: u16) -> Result<usize, usize>
+pub fn place_of(files: &[BoxedRec], number: u16) -> Result<usize, usize>
     requires { AreNumbered files.now }
     ensures found { IfOk result (StandsAt files.now number) }
     ensures absent { IfErr result (FitsAt files.now number) }
 {
-    files.binary_search_by_key(&number, |file| file.number)
+    files.binary_search_by_key(&number, |file| file.get().number)
 }
 
 /// Whether a file whose owner is there has this full name, but for the generation.
@@ -48,21 +48,21 @@ fn is_version_of(users: &[UserRec], name: &Full, file: &FileRec) -> bool
 }
 
 /// The greatest generation of the files of this user, local name and language, or 0.
-pub fn newest_of(users: &[UserRec], name: &Full, files: &[FileRec]) -> u16
+pub fn newest_of(users: &[UserRec], name: &Full, files: &[BoxedRec]) -> u16
     requires { All (λ r. r.owner < length users.now) files.now }
     ensures { result ≡ newest_of users.now name.now files.now }
 {
     let mut newest = 0;
     for file in files {
-        if is_version_of(users, name, file) {
-            newest = newest.max(file.generation);
+        if is_version_of(users, name, file.get()) {
+            newest = newest.max(file.get().generation);
         }
     }
     newest
 }
 
 /// The greatest generation of the versions of a file among the files but the one at this place.
-pub fn newest_besides(users: &[UserRec], name: &Full, files: &[FileRec], place: usize) -> u16
+pub fn newest_besides(users: &[UserRec], name: &Full, files: &[BoxedRec], place: usize) -> u16
     requires owners { All (λ r. r.owner < length users.now) files.now }
     requires there { place < length files.now }
     ensures { result ≡ newest_of users.now name.now (remove files.now place) }
@@ -76,7 +76,7 @@ pub fn sorted_of(
     alloc: Global,
     users: &[UserRec],
     owner: u8,
-    files: &[FileRec],
+    files: &[BoxedRec],
 ) -> Result<Sorted, NoMemory>
     requires { All (λ r. r.owner < length users.now) files.now }
     ensures { IfOk result (λ sorted. sorted
@@ -87,7 +87,7 @@ pub fn sorted_of(
     let mut left = files.len();
     while left > 0 {
         left -= 1;
-        let file = &files[left];
+        let file = files[left].get();
         if file.owner == owner {
             sorted.insert(full_of(users, file), file.number)?;
         }

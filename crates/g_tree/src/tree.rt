@@ -15,7 +15,7 @@ use crate::index::Index;
 use crate::scan::{newest_besides, place_of, sorted_of};
 use crate::{NumberList, Output};
 use g_base::NoMemory;
-use g_entry::{FileRec, UserRec};
+use g_entry::{BoxedRec, FileRec, UserRec};
 use g_name::{Full, Lang, Path, User};
 use std::alloc::Global;
 use std::marker::Model;
@@ -27,15 +27,19 @@ use std::marker::Model;
 #[derive(Drop)]
 pub struct Tree {
     users: Vec<UserRec>,
-    files: Vec<FileRec>,
+    files: Vec<BoxedRec>,
     index: Index,
     counts: Counts,
+
+    // A box for the next file, so that putting it in takes no memory.
+    room: Option<BoxedRec>,
+    alloc: Global,
 }
 
 impl Model for Tree {
     ghost use Rattle.std.specs.Prelude.{◌-◌, min, vec_len};
     ghost use Rattle.std.specs.Vec.{vec_capacity};
-    ghost use Rattle.g_tree.specs.State.{TreeState, IsKept};
+    ghost use Rattle.g_tree.specs.State.{TreeState, IsKept, room_of};
 
     ghost Value = { TreeState };
 
@@ -44,7 +48,7 @@ impl Model for Tree {
       files = t.files.items;
       spare = min (vec_capacity t.users - vec_len t.users)
           (min (vec_capacity t.files - vec_len t.files)
-          (min t.index.spare t.counts.generations.spare));
+          (min t.index.spare (min t.counts.generations.spare (room_of t.room))));
     } };
 
     ghost invariant = { λ t. IsKept t.users.items t.files.items t.index.numbers
@@ -97,7 +101,7 @@ impl Tree {
         ensures records { IsRecords self.now.users self.now.files }
     {
         match place_of(self.files.as_slice(), number) {
-            Ok(place) => Some(&self.files[place]),
+            Ok(place) => Some(self.files[place].get()),
             Err(_) => None,
         }
     }
@@ -111,7 +115,7 @@ impl Tree {
     }
 
     /// All files in order of number.
-    pub fn files(&self) -> &[FileRec]
+    pub fn files(&self) -> &[BoxedRec]
         ensures value { result.now ≡ self.now.files }
         ensures records { IsRecords self.now.users self.now.files }
     {

@@ -1,7 +1,8 @@
 -- What the devices count, event by event.
 use Rattle.std.proofs.Common.{◌≡◌, ℕ, ◌+◌, ◌++◌, Bool, true, false, cond, filter, List, [], ◌∷◌, refl, sym, ◌∙◌, subst, arith}
 use Rattle.g_base.specs.Counts.{HasRisenBy, Rose}
-use Rattle.g_base.proofs.CountLemmas.{HasRisenBy-Rose, HasRisenBy-none, HasRisenBy-then, RoseBy-none, RoseBy-then}
+use Rattle.g_base.proofs.CountLemmas.{HasRisenBy-Rose, HasRisenBy-none, HasRisenBy-then}
+use Rattle.g_base.proofs.FuseLemmas.{armed_then}
 use Rattle.g_step.specs.CallStep.{Outcome, Plain}
 use Rattle.g_world.specs.Devices.{Devices}
 use Rattle.g_world.specs.Moves.{Answered, Begin, Counted, Dumped, EventCounted, Happened, LineCounted, Move, MovesCounted, Over, TakeLine, Ticked, TurnOver, WritesFailed, counted, cuts_in, cuts_of_calls, cuts_of_dumps, disc_reads_in, is_dump, not_dump, tape_reads_in}
@@ -61,18 +62,18 @@ rack_failed old new disc rose = record {
 
 -- devices that no event took part in, and devices that are alike but for what they hold
 pub happened_same : (old new : Devices) → new.disc.read_faults ≡ old.disc.read_faults → new.disc.write_faults ≡ old.disc.write_faults → new.disc.arms ≡ old.disc.arms
-    → new.rack.read_faults ≡ old.rack.read_faults → new.rack.write_faults ≡ old.rack.write_faults → new.rack.arms ≡ old.rack.arms → Happened 0 0 0 0 0 0 old new
+    → new.rack.read_faults ≡ old.rack.read_faults → new.rack.write_faults ≡ old.rack.write_faults → new.rack.arms ≡ old.rack.arms → Happened 0 0 0 0 [] [] old new
 happened_same old new disc_reads disc_writes disc_arms tape_reads tape_writes tape_arms = record {
   disc_reads_rose = none_rose old.disc.read_faults new.disc.read_faults disc_reads;
   tape_reads_rose = none_rose old.rack.read_faults new.rack.read_faults tape_reads;
   cuts_rose = none_failed old new disc_writes tape_writes;
   no_disc_read = λ e. disc_reads;
   no_tape_read = λ e. tape_reads;
-  disc_armed = RoseBy-none disc_arms;
-  tape_armed = RoseBy-none tape_arms;
+  disc_armed = disc_arms;
+  tape_armed = tape_arms;
 }
 
-pub event_none : (d : Devices) → Happened 0 0 0 0 0 0 d d
+pub event_none : (d : Devices) → Happened 0 0 0 0 [] [] d d
 event_none d = happened_same d d refl refl refl refl refl refl
 
 first_zero : (a b : ℕ) → a + b ≡ 0 → a ≡ 0
@@ -96,16 +97,16 @@ failed_then k l m n old now new was is = record {
   no_rack = λ e. is.no_rack (second_zero was.of_rack is.of_rack e) ∙ was.no_rack (first_zero was.of_rack is.of_rack e);
 }
 
-pub happened_then : (a b c e d t a' b' c' e' d' t' : ℕ) (old now new : Devices) → Happened a b c e d t old now → Happened a' b' c' e' d' t' now new
-    → Happened (a + a') (b + b') (c + c') (e + e') (d + d') (t + t') old new
+pub happened_then : (a b c e : ℕ) (d t : List ℕ) (a' b' c' e' : ℕ) (d' t' : List ℕ) (old now new : Devices) → Happened a b c e d t old now → Happened a' b' c' e' d' t' now new
+    → Happened (a + a') (b + b') (c + c') (e + e') (d ++ d') (t ++ t') old new
 happened_then a b c e d t a' b' c' e' d' t' old now new was is = record {
   disc_reads_rose = HasRisenBy-then was.disc_reads_rose is.disc_reads_rose;
   tape_reads_rose = HasRisenBy-then was.tape_reads_rose is.tape_reads_rose;
   cuts_rose = failed_then c c' e e' old now new was.cuts_rose is.cuts_rose;
   no_disc_read = λ none. is.no_disc_read (second_zero a a' none) ∙ was.no_disc_read (first_zero a a' none);
   no_tape_read = λ none. is.no_tape_read (second_zero b b' none) ∙ was.no_tape_read (first_zero b b' none);
-  disc_armed = RoseBy-then was.disc_armed is.disc_armed;
-  tape_armed = RoseBy-then was.tape_armed is.tape_armed;
+  disc_armed = armed_then d d' old.disc.arms now.disc.arms new.disc.arms was.disc_armed is.disc_armed;
+  tape_armed = armed_then t t' old.rack.arms now.rack.arms new.rack.arms was.tape_armed is.tape_armed;
 }
 
 pub counted_append : (f : Outcome → ℕ) (moves more : List Move) → counted f (moves ++ more) ≡ counted f moves + counted f more
@@ -140,7 +141,7 @@ one_more_zero : (n : ℕ) → n + 0 ≡ n
 one_more_zero n = omega arith
 
 -- at other numbers, which are equal
-at_counts : (a b c e a' b' c' e' d t : ℕ) (old new : Devices) → a' ≡ a → b' ≡ b → c' ≡ c → e' ≡ e → Happened a b c e d t old new → Happened a' b' c' e' d t old new
+at_counts : (a b c e a' b' c' e' : ℕ) (d t : List ℕ) (old new : Devices) → a' ≡ a → b' ≡ b → c' ≡ c → e' ≡ e → Happened a b c e d t old new → Happened a' b' c' e' d t old new
 at_counts a b c e a' b' c' e' d t old new sa sb sc se is =
     subst (λ (n : ℕ). Happened n b' c' e' d t old new) (sym sa)
     (subst (λ (n : ℕ). Happened a n c' e' d t old new) (sym sb)
@@ -148,16 +149,16 @@ at_counts a b c e a' b' c' e' d t old new sa sb sc se is =
     (subst (λ (n : ℕ). Happened a b c n d t old new) (sym se) is)))
 
 -- the moves of two parts
-pub moves_then : (moves more : List Move) (d t d' t' : ℕ) (old now new : Devices) → MovesCounted moves d t old now → MovesCounted more d' t' now new → MovesCounted (moves ++ more) (d + d') (t + t') old new
+pub moves_then : (moves more : List Move) (d t d' t' : List ℕ) (old now new : Devices) → MovesCounted moves d t old now → MovesCounted more d' t' now new → MovesCounted (moves ++ more) (d ++ d') (t ++ t') old new
 moves_then moves more d t d' t' old now new was is =
     at_counts (counted disc_reads_in moves + counted disc_reads_in more) (counted tape_reads_in moves + counted tape_reads_in more) (cuts_of_calls moves + cuts_of_calls more) (cuts_of_dumps moves + cuts_of_dumps more)
-    (counted disc_reads_in (moves ++ more)) (counted tape_reads_in (moves ++ more)) (cuts_of_calls (moves ++ more)) (cuts_of_dumps (moves ++ more)) (d + d') (t + t') old new
+    (counted disc_reads_in (moves ++ more)) (counted tape_reads_in (moves ++ more)) (cuts_of_calls (moves ++ more)) (cuts_of_dumps (moves ++ more)) (d ++ d') (t ++ t') old new
     (counted_append disc_reads_in moves more) (counted_append tape_reads_in moves more) (filtered_append not_dump cuts_in moves more) (filtered_append is_dump cuts_in moves more)
     (happened_then (counted disc_reads_in moves) (counted tape_reads_in moves) (cuts_of_calls moves) (cuts_of_dumps moves) d t
     (counted disc_reads_in more) (counted tape_reads_in more) (cuts_of_calls more) (cuts_of_dumps more) d' t' old now new was is)
 
 -- one move: a line, a step of the dump, or any other
-abbrev pub MoveCounted : Move → ℕ → ℕ → Devices → Devices → Type 0
+abbrev pub MoveCounted : Move → List ℕ → List ℕ → Devices → Devices → Type 0
 MoveCounted (TakeLine tape o) d t old new = LineCounted tape o d t old new
 MoveCounted (Dumped o) d t old new = Happened (disc_reads_in o) (tape_reads_in o) 0 (cuts_in o) d t old new
 MoveCounted (Begin number) d t old new = EventCounted Plain d t old new
@@ -166,11 +167,11 @@ MoveCounted (TurnOver number charge) d t old new = EventCounted Plain d t old ne
 MoveCounted Ticked d t old new = EventCounted Plain d t old new
 MoveCounted Over d t old new = EventCounted Plain d t old new
 
-at_one : (o : Outcome) (c e d t : ℕ) (old new : Devices) (c' e' : ℕ) → c' ≡ c → e' ≡ e → Happened (disc_reads_in o) (tape_reads_in o) c e d t old new → Happened (disc_reads_in o + 0) (tape_reads_in o + 0) c' e' d t old new
+at_one : (o : Outcome) (c e : ℕ) (d t : List ℕ) (old new : Devices) (c' e' : ℕ) → c' ≡ c → e' ≡ e → Happened (disc_reads_in o) (tape_reads_in o) c e d t old new → Happened (disc_reads_in o + 0) (tape_reads_in o + 0) c' e' d t old new
 at_one o c e d t old new c' e' sc se is =
     at_counts (disc_reads_in o) (tape_reads_in o) c e (disc_reads_in o + 0) (tape_reads_in o + 0) c' e' d t old new (one_more_zero (disc_reads_in o)) (one_more_zero (tape_reads_in o)) sc se is
 
-pub move_counted : (m : Move) (d t : ℕ) (old new : Devices) → MoveCounted m d t old new → MovesCounted (m ∷ []) d t old new
+pub move_counted : (m : Move) (d t : List ℕ) (old new : Devices) → MoveCounted m d t old new → MovesCounted (m ∷ []) d t old new
 move_counted (TakeLine true o) d t old new is = at_one o 0 (cuts_in o) d t old new 0 (cuts_in o + 0) refl (one_more_zero (cuts_in o)) is
 move_counted (TakeLine false o) d t old new is = at_one o (cuts_in o) 0 d t old new (cuts_in o + 0) 0 (one_more_zero (cuts_in o)) refl is
 move_counted (Dumped o) d t old new is = at_one o 0 (cuts_in o) d t old new 0 (cuts_in o + 0) refl (one_more_zero (cuts_in o)) is

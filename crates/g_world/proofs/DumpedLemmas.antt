@@ -3,7 +3,7 @@ use Rattle.std.proofs.Common.{◌≡◌, ℕ, List, [], ◌∷◌, ◌++◌, Opt
 use Rattle.std.specs.Prelude.{◌⊎◌, Bool, true, false, nat_lt, not, ◌||◌, ◌==◌, ◌+◌, ◌-◌, ◌^◌, Result, Ok, Err, option_map, MatchBool, MatchOption, if◌then◌else◌, is_some, codes}
 use Rattle.std.specs.Fmt.{decimal}
 use Rattle.std.specs.Fn.{Shared}
-use Rattle.std.specs.FinMap.{FinMap, empty}
+use Rattle.std.specs.FinMap.{FinMap}
 use Rattle.std.specs.Ordering.{nat_cmp}
 use Rattle.std.proofs.lemmas.List.{append_assoc, append-nil}
 use Rattle.std.proofs.lemmas.Option.{some_pair_parts}
@@ -20,9 +20,9 @@ use Rattle.g_plain.specs.declared.faults.StoreFault.{StoreFault}
 use Rattle.g_plain.specs.declared.faults.StoreFault.TheVariants.{CountersSpent, DiscReadFault, DumpOpen, NoTape, NotMounted, NotStarted, Running, Stopped, TapeFull, TapeReadFault}
 use Rattle.g_plain.specs.PlainTree.{Tree}
 use Rattle.g_plain.specs.PlainStep.{first_fault, reply_to}
-use Rattle.g_step.specs.State.{State, Holding, OpenDump, Place, Dumped as DumpedTree, end_of, is_mounted, lacks}
+use Rattle.g_step.specs.State.{State, Holding, OpenDump, Place, Dumped as DumpedTree, is_mounted, lacks}
 use Rattle.g_step.specs.CallStep.{Outcome, Plain, DiscRead, TapeRead, Cut, CallStep, Planned, LeftByRefusal, after_call, brings_now, commits, down, early, held_after, is_cut, is_tape_read, late, touched_by, writes}
-use Rattle.g_step.specs.DumpSteps.{DumpStep, Event, Stepped as DumpStepped, Going, Completed, UsedByCut, dump_needs, open_number, open_refuses, opening, own_copies, tape_room, waiting}
+use Rattle.g_step.specs.DumpSteps.{Completed, DumpStep, Event, Going, Stepped as DumpStepped, UsedByCut, dump_begun, dump_needs, open_number, open_refuses, opening, tape_room}
 use Rattle.g_step.specs.Rising.{FormatStep, StartStep, RestoreStep, Starts, Restores, restore_early}
 use Rattle.g_step.specs.Laws.{tree_in}
 use Rattle.g_script.specs.declared.operator.Operator.{Operator}
@@ -108,18 +108,7 @@ none_open (Some d) e = absurd (let nothing : ⊥ = cc in nothing)
 opened_by : (s : State) (k : Holding) (serial : ℕ) (o : Outcome) (places : FinMap nat_cmp Place) (r : Result ℕ StoreFault) (new : State) → s.holding ≡ Some k
     → (f : Option StoreFault) → open_refuses s k serial o ≡ f → Event f (k.last + 1) s (opening s k serial places) r new → Keeps s new ⊎ Opens s new
 opened_by s k serial o places r new holds None e (ok, is) =
-    let d : OpenDump = record {
-      number = k.last + 1;
-      serial = serial;
-      place = end_of s serial;
-      needs = dump_needs k;
-      done = 0;
-      tree = k.tree;
-      places = places;
-      waiting = waiting k;
-      own = own_copies k places;
-      touched = empty;
-    } in
+    let d : OpenDump = dump_begun s k serial places in
     inr (
       d,
       none_open s.open_dump

@@ -26,6 +26,15 @@ abbrev pub is_process : Operator → Bool
 is_process (line.Process serial) = true
 is_process what = false
 
+-- the numbers that a line arms the disc and the tapes with: that of a STOP line
+abbrev pub disc_arms : Operator → List ℕ
+disc_arms (line.StopDisc k) = k ∷ []
+disc_arms what = []
+
+abbrev pub tape_arms : Operator → List ℕ
+tape_arms (line.StopTape k) = k ∷ []
+tape_arms what = []
+
 abbrev pub is_up : World → Bool
 is_up w = w.store.up
 
@@ -160,8 +169,8 @@ module _ (outcome : Outcome) where
   LineGives (line.Dump serial) w new = NeedsUp (λ r s. IsOpening w.store serial outcome r s) (λ n. dump_text n (codes "OPENED")) w new
   LineGives (line.Process serial) w new = NeedsUp (λ r s. IsProcessing w.store serial outcome r s) (processed_text serial) w new
   LineGives (line.Migrate path) w new = NeedsUp (λ r s. IsMigration w.store path outcome r s) (λ full. codes "MIGRATED " ++ full_text full) w new
-  LineGives (line.StopDisc k) w new = (outcome ≡ Plain) × (new ≡ says (codes "STOP SET") (record w { disc_stops = w.disc_stops + 1 }))
-  LineGives (line.StopTape k) w new = (outcome ≡ Plain) × (new ≡ says (codes "STOP SET") (record w { tape_stops = w.tape_stops + 1 }))
+  LineGives (line.StopDisc k) w new = (outcome ≡ Plain) × (new ≡ says (codes "STOP SET") (record w { disc_stops = w.disc_stops ++ k ∷ [] }))
+  LineGives (line.StopTape k) w new = (outcome ≡ Plain) × (new ≡ says (codes "STOP SET") (record w { tape_stops = w.tape_stops ++ k ∷ [] }))
   LineGives (line.Login t user time) w new =
       (outcome ≡ Plain) × (new ≡ (if is_up w then job_line (login_refusal w t user time) (logged_in t user time w) w else line_refused NotStarted w))
   LineGives (line.Typed t text) w new = (outcome ≡ Plain) × (new ≡ (if is_up w then at_terminal t (typed_to text) w else line_refused NotStarted w))

@@ -3,7 +3,8 @@ use Rattle.std.specs.Prelude.{◌≡◌, ◌⊎◌, ℕ, ◌+◌, Bool, true, fa
 use Rattle.std.specs.Fmt.{decimal}
 use Rattle.std.specs.Fn.{Shared}
 use denote.Ref.{Bor}
-use Rattle.g_base.specs.Counts.{HasRisenBy, RoseBy}
+use Rattle.g_base.specs.Counts.{HasRisenBy}
+use Rattle.g_base.specs.Fuse.{IsArmedBy}
 use Rattle.g_budget.specs.declared.tariff.Usage.{Usage}
 use Rattle.g_budget.specs.declared.tariff.Charge.{Charge}
 use Rattle.g_sched.specs.declared.rule.Standing.{Standing}
@@ -155,32 +156,32 @@ pub record WritesFailed (calls dumps : ℕ) (old new : Devices) : Type 0 where
   pub no_rack : of_rack ≡ 0 → new.rack.write_faults ≡ old.rack.write_faults
 
 -- What the devices counted: so many failed reads of each, and failed writes of calls and lines, and of dumps, at most; none where there were none;
--- and so many armings of each.
-pub record Happened (disc_reads tape_reads calls dumps disc_arms tape_arms : ℕ) (old new : Devices) : Type 0 where
+-- and with which numbers each was armed.
+pub record Happened (disc_reads tape_reads calls dumps : ℕ) (disc_arms tape_arms : List ℕ) (old new : Devices) : Type 0 where
   pub disc_reads_rose : HasRisenBy disc_reads old.disc.read_faults new.disc.read_faults
   pub tape_reads_rose : HasRisenBy tape_reads old.rack.read_faults new.rack.read_faults
   pub cuts_rose : WritesFailed calls dumps old new
   pub no_disc_read : disc_reads ≡ 0 → new.disc.read_faults ≡ old.disc.read_faults
   pub no_tape_read : tape_reads ≡ 0 → new.rack.read_faults ≡ old.rack.read_faults
-  pub disc_armed : RoseBy disc_arms old.disc.arms new.disc.arms
-  pub tape_armed : RoseBy tape_arms old.rack.arms new.rack.arms
+  pub disc_armed : IsArmedBy disc_arms old.disc.arms new.disc.arms
+  pub tape_armed : IsArmedBy tape_arms old.rack.arms new.rack.arms
 
 -- in one call with this outcome, or a line that writes no reel; in a step of a dump; in any line; and in a part of a run
-abbrev pub EventCounted : Outcome → ℕ → ℕ → Devices → Devices → Type 0
+abbrev pub EventCounted : Outcome → List ℕ → List ℕ → Devices → Devices → Type 0
 EventCounted o disc_arms tape_arms old new = Happened (disc_reads_in o) (tape_reads_in o) (cuts_in o) 0 disc_arms tape_arms old new
 
 abbrev pub DumpCounted : Outcome → Devices → Devices → Type 0
-DumpCounted o old new = Happened (disc_reads_in o) (tape_reads_in o) 0 (cuts_in o) 0 0 old new
+DumpCounted o old new = Happened (disc_reads_in o) (tape_reads_in o) 0 (cuts_in o) [] [] old new
 
-abbrev pub LineCounted : Bool → Outcome → ℕ → ℕ → Devices → Devices → Type 0
+abbrev pub LineCounted : Bool → Outcome → List ℕ → List ℕ → Devices → Devices → Type 0
 LineCounted true o disc_arms tape_arms old new = Happened (disc_reads_in o) (tape_reads_in o) 0 (cuts_in o) disc_arms tape_arms old new
 LineCounted false o disc_arms tape_arms old new = EventCounted o disc_arms tape_arms old new
 
-abbrev pub MovesCounted : List Move → ℕ → ℕ → Devices → Devices → Type 0
+abbrev pub MovesCounted : List Move → List ℕ → List ℕ → Devices → Devices → Type 0
 MovesCounted moves disc_arms tape_arms old new =
     Happened (counted disc_reads_in moves) (counted tape_reads_in moves) (cuts_of_calls moves) (cuts_of_dumps moves) disc_arms tape_arms old new
 
 -- A run has at most as many failed reads of each device, and failed writes of both, as the counts rose; a count that
--- moved has one. A failed write of a call, or of a line that is no PROCESS, is the disc's. Each STOP line that was done armed its device once, and nobody else did.
+-- moved has one. A failed write of a call, or of a line that is no PROCESS, is the disc's. Each STOP line that was done armed its device with its number, and nobody else did.
 abbrev pub Counted : List Move → World → Devices → Devices → Type 0
 Counted moves last old new = MovesCounted moves last.disc_stops last.tape_stops old new

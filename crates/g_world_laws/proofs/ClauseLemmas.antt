@@ -1,13 +1,11 @@
--- Whose a failed write is, and what a fuse is.
-use Rattle.std.proofs.Common.{◌≡◌, ℕ, zero, suc, ◌+◌, ◌≤◌, List, [], ◌∷◌, Option, Some, None, refl, sym, ◌∙◌, ap, arith}
+-- Whose a failed write is.
+use Rattle.std.proofs.Common.{◌≡◌, ℕ, ◌+◌, List, [], ◌∷◌, refl, sym, ◌∙◌, ap, arith}
 use Rattle.std.specs.Prelude.{◌≢◌, Bool, true, false, cond, filter}
 use Rattle.std.specs.List.{AllByRecursion}
 use Rattle.std.proofs.lemmas.List.Elements.{All-from_recursion}
-use Rattle.g_base.specs.Fuse.{burnt}
 use Rattle.g_step.specs.CallStep.{Cut, Outcome}
 use Rattle.g_world.specs.Moves.{Move, counted, cuts_in, cuts_of_calls, not_dump, outcome_of}
 use Rattle.g_world_laws.specs.Cuts.{TapesCutNoCall}
-use Rattle.g_world_laws.specs.Fuses.{FusesGo, NumbersGo, burnt_by, last_number, later_of}
 use Rattle.g_world_laws.proofs.UnrisenLemmas.{first_none, rest_none, unrisen}
 
 cut_is : (o : Outcome) → cuts_in o ≡ 0 → o ≢ Cut
@@ -32,29 +30,3 @@ pub tapes_cut_no_call : TapesCutNoCall
 tapes_cut_no_call moves last old new counts none =
     let cuts = counts.cuts_rose in
     All-from_recursion Uncut moves (uncut moves (first_none (cuts_of_calls moves) cuts.of_disc (unrisen (cuts_of_calls moves + cuts.of_disc) old.disc.write_faults new.disc.write_faults cuts.disc_rose none)))
-
--- fuses
-burnt_both : (m n : ℕ) (fuse : Option ℕ) → burnt_by n (burnt_by m fuse) ≡ burnt_by (m + n) fuse
-burnt_both zero n fuse = ap (λ (k : ℕ). burnt_by k fuse) (let sum : n ≡ 0 + n = omega arith in sum)
-burnt_both (suc m) n fuse = burnt_both m n (burnt fuse) ∙ ap (λ (k : ℕ). burnt_by k fuse) (let sum : suc (m + n) ≡ suc m + n = omega arith in sum)
-
-within : (a b m n : ℕ) → a ≤ m → b ≤ n → a + b ≤ m + n
-within a b m n less more = omega (arith, less, more)
-
-pub fuses_go : FusesGo
-fuses_go None None m n a b c first second = second ∙ ap (burnt_by n) first ∙ burnt_both m n a
-fuses_go (Some k) None m n a b c (behind, less, is) second =
-    (behind + n, within behind n m n less (let whole : n ≤ n = omega arith in whole), second ∙ ap (burnt_by n) is ∙ burnt_both behind n (Some k))
-fuses_go first (Some k) m n a b c one (behind, less, is) = (behind, (let most : behind ≤ m + n = omega (arith, less) in most), is)
-
-later_both : (a b c : Option ℕ) → later_of (later_of a b) c ≡ later_of a (later_of b c)
-later_both a b None = refl
-later_both a b (Some k) = refl
-
-pub numbers_go : NumbersGo
-numbers_go number [] more = none_first (last_number number more)
-  where
-    none_first : (x : Option ℕ) → x ≡ later_of None x
-    none_first None = refl
-    none_first (Some k) = refl
-numbers_go number (next ∷ done) more = ap (later_of (number next.what)) (numbers_go number done more) ∙ sym (later_both (number next.what) (last_number number done) (last_number number more))

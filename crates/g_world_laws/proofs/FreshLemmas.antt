@@ -66,7 +66,7 @@ nothing_held n c h =
     no
 
 -- reels without blocks
-abbrev IsEmptyReel : Reel → Type 0
+abbrev pub IsEmptyReel : Reel → Type 0
 IsEmptyReel r = r.blocks ≡ Some []
 
 labelled : (labels : List (ℕ × ℕ)) → AllByRecursion IsEmptyReel (map empty_reel_of labels)
@@ -100,17 +100,17 @@ some_blocks : {P : Type 0} (d : Dump) → (let none : List (List ℕ) = [] in no
 unfolding dump_blocks
 some_blocks d e = absurd (let no : ⊥ = cc in no)
 
-none_next : (serial : ℕ) (d : Dump) → IsNext serial [] 0 0 d → ⊥
+pub none_next : (serial : ℕ) (d : Dump) → IsNext serial [] 0 0 d → ⊥
 none_next serial d next = some_blocks d (sym (ap (take (size_of d)) (drop_none d.place) ∙ take_none (size_of d)) ∙ next.stands.blocks)
 
-abbrev no_dumps : ℕ → List Dump
+abbrev pub no_dumps : ℕ → List Dump
 no_dumps serial = []
 
-none_all : (reels : List Reel) → all_dumps no_dumps reels ≡ []
+pub none_all : (reels : List Reel) → all_dumps no_dumps reels ≡ []
 none_all [] = refl
 none_all (r ∷ reels) = none_all reels
 
-nobody : {P : Type 0} (d : Dump) → (let none : List Dump = [] in Contains none d) → P
+pub nobody : {P : Type 0} (d : Dump) → (let none : List Dump = [] in Contains none d) → P
 nobody d (k, less, is) = absurd (let no : ⊥ = omega (arith, less) in no)
 
 abbrev no_text : ℕ → List ℕ

@@ -1,8 +1,10 @@
+pub mod AnewLemmas
 pub mod ClauseLemmas
 pub mod CompleteLemmas
 pub mod DumpLemmas
 pub mod FilestoreLemmas
 pub mod FreshLemmas
+pub mod FuseLemmas
 pub mod LaterLemmas
 pub mod LostLemmas
 pub mod OneTreeLemmas

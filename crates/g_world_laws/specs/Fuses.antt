@@ -1,43 +1,34 @@
--- THE NUMBER OF A STOP LINE: what a device's fuse is behind lines and writes.
-use Rattle.std.specs.Prelude.{◌≡◌, ℕ, zero, suc, ◌+◌, ◌≤◌, List, [], ◌∷◌, ◌++◌, Option, Some, None}
-use Rattle.g_base.specs.Fuse.{burnt}
-use Rattle.g_script.specs.declared.operator.Operator.{Operator}
-use Rattle.g_script.specs.declared.operator.Operator.TheVariants as line
-use Rattle.g_script.specs.declared.operator.Timed.{Timed}
+-- THE NUMBER OF A STOP LINE: what a device's fuse is behind the lines that armed it, and behind the writes that were made since.
+use Rattle.std.specs.Prelude.{◌≡◌, ◌⊎◌, ◌<◌, ◌≤◌, ◌-◌, ◌^◌, ℕ, List, [], ◌∷◌, ◌++◌, Option, Some}
+use Rattle.g_base.specs.Counts.{Rose}
+use Rattle.g_base.specs.Fuse.{Arms, IsArmedBy, burnt_by}
+use Rattle.g_disc.specs.Disc.{DiscState, IsFused as IsDisc}
+use Rattle.g_tape.specs.Rack.{IsFused as IsRack, Rack}
 
--- the number that a line sets a device's fuse to
-abbrev pub disc_number : Operator → Option ℕ
-disc_number (line.StopDisc k) = Some k
-disc_number what = None
+-- the last of some numbers, or this one where there is none
+abbrev pub last_of : List ℕ → Option ℕ → Option ℕ
+last_of [] old = old
+last_of (k ∷ numbers) old = last_of numbers (Some k)
 
-abbrev pub tape_number : Operator → Option ℕ
-tape_number (line.StopTape k) = Some k
-tape_number what = None
+-- what was armed in two parts was armed with the numbers of both
+abbrev pub ArmingsGo : Type 0
+ArmingsGo = (first later : List ℕ) (old mid new : Arms) → IsArmedBy first old mid → IsArmedBy later mid new → IsArmedBy (first ++ later) old new
 
--- the later of two numbers, where there is one
-abbrev pub later_of : Option ℕ → Option ℕ → Option ℕ
-later_of first None = first
-later_of first (Some k) = Some k
+-- a device's number is the last that it was armed with, or the old one
+abbrev pub NumberIsLast : Type 0
+NumberIsLast = (numbers : List ℕ) (old new : Arms) → IsArmedBy numbers old new → new.number ≡ last_of numbers old.number
 
--- the number of the last STOP line among some lines
-abbrev pub last_number : (Operator → Option ℕ) → List Timed → Option ℕ
-last_number number [] = None
-last_number number (next ∷ lines) = later_of (number next.what) (last_number number lines)
+-- THE FUSE OF A DISC. With no STOP DISC done: the old one, burnt by all writes since.
+abbrev pub UnarmedBurns : Type 0
+UnarmedBurns = (old new : DiscState) → IsDisc old → IsDisc new → IsArmedBy [] old.arms new.arms → old.writes ≤ new.writes → new.writes < 2 ^ 64 - 1
+    → new.fuse ≡ burnt_by (new.writes - old.writes) old.fuse
 
--- the fuse behind so many writes
-abbrev pub burnt_by : ℕ → Option ℕ → Option ℕ
-burnt_by zero fuse = fuse
-burnt_by (suc n) fuse = burnt_by n (burnt fuse)
+-- With STOP DISC done, k the last number: k burnt by the writes since, so none where they were k or more
+abbrev pub ArmedBurns : Type 0
+ArmedBurns = (numbers : List ℕ) (k : ℕ) (old new : DiscState) → IsDisc new → IsArmedBy (numbers ++ k ∷ []) old.arms new.arms → new.writes < 2 ^ 64 - 1
+    → new.fuse ≡ burnt_by (new.writes - new.arms.since) (Some k)
 
--- WHAT A FUSE IS behind so many writes: with no STOP line the old one, burnt by them; else the last line's number, burnt by some of them
-abbrev pub IsFuse : Option ℕ → ℕ → Option ℕ → Option ℕ → Type 0
-IsFuse None writes old new = new ≡ burnt_by writes old
-IsFuse (Some k) writes old new = (behind : ℕ) × (behind ≤ writes) × (new ≡ burnt_by behind (Some k))
-
--- so it is of a part behind another
-abbrev pub FusesGo : Type 0
-FusesGo = (first second : Option ℕ) (m n : ℕ) (a b c : Option ℕ) → IsFuse first m a b → IsFuse second n b c → IsFuse (later_of first second) (m + n) a c
-
--- and the number of the last STOP line of two parts is that of the later one which has one
-abbrev pub NumbersGo : Type 0
-NumbersGo = (number : Operator → Option ℕ) (done more : List Timed) → last_number number (done ++ more) ≡ later_of (last_number number done) (last_number number more)
+-- THE FUSE OF THE TAPES, where k is the last number of STOP TAPE done: a write failed since; or it is from 1 to k
+abbrev pub RacksBurn : Type 0
+RacksBurn = (numbers : List ℕ) (k : ℕ) (old new : Rack) → IsRack new → IsArmedBy (numbers ++ k ∷ []) old.arms new.arms
+    → Rose new.arms.since new.write_faults ⊎ ((j : ℕ) × (new.fuse ≡ Some j) × (1 ≤ j) × (j ≤ k))

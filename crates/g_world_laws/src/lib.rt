@@ -2,13 +2,13 @@
 //! completed, and of what lines leave that are refused while the system is down.
 #![tactic(auto)]
 
-ghost use Rattle.g_world_laws.specs.Anew.{EmptiedStand};
+ghost use Rattle.g_world_laws.specs.Anew.{EmptiedStand, FormatsAnew};
 ghost use Rattle.g_world_laws.specs.Completes.{DumpsComplete, DumpsGoOn};
 ghost use Rattle.g_world_laws.specs.Cuts.{TapesCutNoCall};
 ghost use Rattle.g_world_laws.specs.Dumps.{DumpsStay, DumpsTakeNeeds};
 ghost use Rattle.g_world_laws.specs.Filestores.{DevicesKeepFilestores, FilestoresStay};
 ghost use Rattle.g_world_laws.specs.Fresh.{NewDevicesStand, NotStateless, StatesAreOne};
-ghost use Rattle.g_world_laws.specs.Fuses.{FusesGo, NumbersGo};
+ghost use Rattle.g_world_laws.specs.Fuses.{ArmedBurns, ArmingsGo, NumberIsLast, RacksBurn, UnarmedBurns};
 ghost use Rattle.g_world_laws.specs.Later.{LaterRunsKeep, StartIsBehind};
 ghost use Rattle.g_world_laws.specs.Lost.{NothingIsLost};
 ghost use Rattle.g_world_laws.specs.OneTree.{RunsOnOneTree};
@@ -125,6 +125,13 @@ pub fn devices_have_one_state()
     one_state();
 }
 
+/// A store that a FORMAT made over reels without blocks, whatever the disc held, stands for the state that FORMAT makes of that of a new
+/// disc beside the same reels.
+#[tactic(auto, using(crate::proofs::AnewLemmas::formats_anew))]
+pub fn formats_begin_anew()
+    ensures { FormatsAnew }
+{}
+
 /// A store that holds a filestore goes on to hold one, whatever is done and whatever fails; and so do its devices.
 pub fn filestores_stay<F: Fn(&Usage) -> Charge, U: Fn(&Standing) -> u64>()
     ensures states { (tariff : F) (rule : U) → FilestoresStay F.Fn tariff U.Fn rule }
@@ -137,10 +144,14 @@ pub fn tapes_cut_no_call()
     ensures { TapesCutNoCall }
 {}
 
-/// A device's fuse behind two parts of a run goes by the last STOP line of both, and by the writes of both.
+/// A device's fuse goes by the last STOP line that armed it, and by the writes made since; where there was none, by the old fuse and
+/// all writes.
 pub fn fuses_go_by_lines()
-    ensures fuses { FusesGo }
-    ensures numbers { NumbersGo }
+    ensures armings { ArmingsGo }
+    ensures numbers { NumberIsLast }
+    ensures unarmed { UnarmedBurns }
+    ensures armed { ArmedBurns }
+    ensures racks { RacksBurn }
 {}
 
 /// A PROCESS leaves the completed dumps of before; or its own dump stands whole on its reel, of the tree that there is, and of the

@@ -5,7 +5,7 @@ use crate::rows::{Wrong, play};
 use crate::setting::Setting;
 use crate::system::System;
 use g_budget::{Charge, Tariff, Usage};
-use g_job::{Job, Turn};
+use g_job::{Job, NewJob, Turn};
 use g_lines::Document;
 use g_name::{Local, User};
 use g_plain::{Filestore, PlainStore};
@@ -41,7 +41,14 @@ fn ended<S: Filestore>(alloc: Global, store: &mut S, document: &[u8]) -> Result<
         return Err(Wrong("no name"));
     };
     let lines = Document::of_text(alloc, document)?;
-    let mut job = Job::new(alloc, 1, name, User::master(), 20, 1_000, lines)?;
+    let job = NewJob {
+        name,
+        user: User::master(),
+        time: 20,
+        money: 1_000,
+        lines,
+    };
+    let mut job = Job::new(alloc, 1, job)?;
     finish(alloc, store, &mut job)?;
     Ok(job)
 }

@@ -1,18 +1,21 @@
 //! Trees from records, and how records change.
-ghost use Rattle.std.specs.Prelude.{◌≡◌, ◌⊎◌, ℕ, ◌+◌, ◌<◌, ◌≤◌, true, List, [], ◌∷◌, ◌++◌, OnOk, OnErr, IfOk, IfSome, IfNone, Some, None, length, map, slice_set, slice_index_or, is_some};
+ghost use Rattle.std.specs.Prelude.{◌≡◌, ◌⊎◌, ℕ, ◌+◌, ◌<◌, ◌≤◌, true, List, [], ◌∷◌, ◌++◌, OnOk, OnErr, IfOk, IfSome, IfNone, Some, None, length, map, slice_set, slice_index_or, is_some, vec_len};
+ghost use Rattle.std.specs.Vec.{vec_capacity};
+ghost use Rattle.std.specs.List.{insert};
 ghost use Rattle.std.specs.FinMap as finmap;
 ghost use Rattle.g_entry.specs.Rules.{AreNumbered};
 ghost use Rattle.g_tree.specs.Records.{IsRecords, name_of, full_of, user_row_of, file_row_of, tree_of, by_number, number_of};
 ghost use Rattle.g_tree.specs.Places.{StandsAt};
-ghost use Rattle.g_tree.specs.State.{AreNewest, AreUsed, with_file, without_file, without_number};
+ghost use Rattle.g_tree.specs.State.{AreNewest, AreUsed, room_of, with_file, without_file, without_number};
 
 use crate::counts::Counts;
 use crate::index::Index;
 use crate::scan::{full_of, place_of};
 use crate::tree::Tree;
 use g_base::NoMemory;
-use g_entry::{FileRec, UserRec};
-use g_name::Full;
+use g_entry::{BoxedRec, FileRec, UserRec, boxed};
+use g_name::{Full, Lang, Local};
+use g_trap::Traps;
 use std::alloc::Global;
 
 impl Tree {
@@ -28,11 +31,14 @@ impl Tree {
     {
         let index = index_of(alloc, users.as_slice(), files.as_slice())?;
         let counts = counts_of(alloc, users.as_slice(), files.as_slice())?;
+        let files = boxed(alloc, files.as_slice())?;
         Ok(Tree {
             users,
             files,
             index,
             counts,
+            room: None,
+            alloc,
         })
     }
 
@@ -47,7 +53,8 @@ impl Tree {
         self.users.reserve(1)?;
         self.files.reserve(1)?;
         self.index.reserve(1)?;
-        self.counts.reserve(1)
+        self.counts.reserve(1)?;
+        make_room(self.alloc, &mut self.room)
     }
 
     /// Puts a user behind the others, whose number is the least unused one.
@@ -117,9 +124,7 @@ impl Tree {
                 self.counts.rise(&full);
                 self.counts.take(file.owner, file.len);
                 self.index.insert(full, file.number);
-                if self.files.insert(place, file).is_err() {
-                    unreachable!()
-                }
+                put_between(&mut self.files, &mut self.room, place, file);
             }
         }
     }
@@ -137,7 +142,7 @@ impl Tree {
         ensures same_name { number_of self.old.users self.old.files full ≡ Some file.number
             → self.new.spare ≡ self.old.spare }
     {
-        let old = full_of(self.users.as_slice(), &self.files[place]);
+        let old = full_of(self.users.as_slice(), self.files[place].get());
         if old != full {
             self.rename(place, &old, full, file);
         } else {
@@ -155,10 +160,10 @@ impl Tree {
         ensures files { self.new.files ≡ slice_set self.old.files place file }
         ensures spare { self.new.spare ≡ self.old.spare }
     {
-        let old = &self.files[place];
+        let old = self.files[place].get();
         self.counts.give(old.owner, old.len);
         self.counts.take(file.owner, file.len);
-        self.files[place] = file;
+        self.files[place].set(file);
     }
 
     /// Puts a file in the place of the one of its number, whose full name is another.
@@ -174,14 +179,14 @@ impl Tree {
         ensures spare { self.old.spare ≤ self.new.spare + 1 }
     {
         let newest = self.newest_but(place, old);
-        let was = &self.files[place];
+        let was = self.files[place].get();
         self.counts.fall(old, newest);
         self.counts.rise(&full);
         self.counts.give(was.owner, was.len);
         self.counts.take(file.owner, file.len);
         self.index.remove(old);
         self.index.insert(full, file.number);
-        self.files[place] = file;
+        self.files[place].set(file);
     }
 
     /// Takes the file of this number out.
@@ -198,12 +203,14 @@ impl Tree {
     {
         match place_of(self.files.as_slice(), number) {
             Ok(place) => {
-                let full = full_of(self.users.as_slice(), &self.files[place]);
+                let full = full_of(self.users.as_slice(), self.files[place].get());
                 let newest = self.newest_but(place, &full);
-                let file = self.files.remove(place);
+                let boxed = self.files.remove(place);
+                let file = boxed.get();
                 self.counts.fall(&full, newest);
                 self.counts.give(file.owner, file.len);
                 self.index.remove(&full);
+                keep_room(&mut self.room, boxed);
             }
             Err(_) => unreachable!(),
         }
@@ -230,6 +237,59 @@ impl Tree {
         ensures none { IfNone result (length self.now.files ≡ 1024) }
     {
         free_in(self.files.as_slice())
+    }
+}
+
+/// Makes a box for a file more, where there is none; without memory nothing changes.
+fn make_room(alloc: Global, room: &mut Option<BoxedRec>) -> Result<(), NoMemory>
+    ensures ok { OnOk result (1 ≤ room_of room.new) }
+    ensures kept { room_of room.old ≤ room_of room.new }
+{
+    if room.is_some() {
+        return Ok(());
+    }
+    *room = Some(BoxedRec::new(alloc, no_file())?);
+    Ok(())
+}
+
+/// Keeps a box for a file more.
+fn keep_room(room: &mut Option<BoxedRec>, boxed: BoxedRec)
+    ensures { room_of room.old ≤ room_of room.new }
+{
+    *room = Some(boxed);
+}
+
+/// What a box holds before a file is put into it.
+fn no_file() -> FileRec {
+    let Some(local) = Local::new(b"F") else {
+        unreachable!()
+    };
+    FileRec {
+        number: 0,
+        owner: 0,
+        local,
+        generation: 1,
+        lang: Lang::spaces(),
+        stamp: 0,
+        len: 0,
+        traps: Traps::fresh(),
+        tape: None,
+    }
+}
+
+/// Puts a file between others, in the box that is there for it.
+fn put_between(files: &mut Vec<BoxedRec>, room: &mut Option<BoxedRec>, place: usize, file: FileRec)
+    requires place { place ≤ vec_len files.old }
+    requires places { vec_len files.old < vec_capacity files.old }
+    requires room { 1 ≤ room_of room.old }
+    ensures { files.new.items ≡ insert files.old.items place file }
+{
+    let Some(mut boxed) = room.take() else {
+        unreachable!()
+    };
+    boxed.set(file);
+    if files.insert(place, boxed).is_err() {
+        unreachable!()
     }
 }
 
@@ -264,7 +324,7 @@ fn counts_of(alloc: Global, users: &[UserRec], files: &[FileRec]) -> Result<Coun
 
 /// The least number that no file has. Numbers rise from place to place, so a file in front of the gap
 /// has the number of its place, and one behind it a greater one.
-fn free_in(files: &[FileRec]) -> Option<u16>
+fn free_in(files: &[BoxedRec]) -> Option<u16>
     requires { AreNumbered files.now }
     ensures unused { IfSome result (λ number. (number < 1024)
         × (finmap.get (by_number files.now) number ≡ None)) }
@@ -276,7 +336,7 @@ fn free_in(files: &[FileRec]) -> Option<u16>
     let mut end = files.len();
     while gap < end {
         let middle = gap + (end - gap) / 2;
-        if files[middle].number as usize == middle {
+        if files[middle].get().number as usize == middle {
             gap = middle + 1;
         } else {
             end = middle;

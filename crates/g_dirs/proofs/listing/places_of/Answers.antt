@@ -1,4 +1,4 @@
-use Rattle.std.proofs.Common.{ℕ, Some, rules, ap, sym, ◌∙◌}
+use Rattle.std.proofs.Common.{Some, rules, ap, ◌∙◌}
 use Rattle.std.proofs.lemmas.List.Sorted.{answers_always}
 use Rattle.g_copy.specs.declared.copy.DiscCopy.{DiscCopy}
 use Rattle.g_dirs.specs.Writing.{number_of_copy}
@@ -9,7 +9,6 @@ pub returns-in-Ok : goal.returns-in-Ok
 returns-in-Ok c =
     let by_key = c.in-Ok.ensures.position (λ r. r.0) (answers_always _ _ _ (λ f a r g called. search rules)) in
     ap (λ (copy : DiscCopy). Some copy.blocks) c.get.ensures
-    ∙ ap (λ (copy : ℕ × DiscCopy). Some copy.1.blocks) (sym c.index-online-place.is)
     ∙ places_found c.args.online.now c.args.number c.index-online-place.result
     (found_at_place number_of_copy c.args.online.now c.args.number c.requires c.in-Ok.place c.in-Ok.ensures.bound by_key c.index-online-place.result c.index-online-place.is)
 

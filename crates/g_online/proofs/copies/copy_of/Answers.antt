@@ -12,7 +12,6 @@ pub returns-in-Ok : goal.returns-in-Ok
 returns-in-Ok c =
     let by_key = c.in-Ok.ensures.position (λ r. r.0) (answers_always _ _ _ (λ f a r g called. search rules)) in
     ap (λ (copy : DiscCopy). Some copy) c.get.ensures
-    ∙ ap (λ (copy : ℕ × DiscCopy). Some copy.1) (sym c.index-online-place.is)
     ∙ sym (ap copy_in (found_at_place number_of_copy c.args.online.now c.args.number c.requires c.in-Ok.place c.in-Ok.ensures.bound by_key c.index-online-place.result c.index-online-place.is))
 
 pub returns-in-Err : goal.returns-in-Err

@@ -1,10 +1,11 @@
 use Rattle.std.proofs.Common.{◌<◌, AllPairs, rules, ap, subst, sym, ◌∙◌}
-use Rattle.std.proofs.Common.{not}
+use Rattle.std.proofs.Common.{not, ℕ}
 use Rattle.std.specs.List.{insert}
 use Rattle.std.specs.Result.{is_ok}
 use Rattle.std.proofs.lemmas.Bool.{cond-true}
 use Rattle.std.proofs.Math.ListN.{set}
 use Rattle.std.proofs.lemmas.List.Sorted.{answers_always}
+use Rattle.g_copy.specs.declared.copy.DiscCopy.{DiscCopy}
 use Rattle.g_online.specs.Copies.{with_copy_at}
 use Rattle.g_online.proofs.CopyLemmas.{Copies}
 use Rattle.g_online.proofs.InsertLemmas.{put_found, put_missing}
@@ -18,7 +19,8 @@ returns-in-Ok c =
     let by_key = c.in-Ok.ensures.position (λ r. r.0) (answers_always _ _ _ (λ f a r g called. search rules)) in
     let same = c.deref.ensures.value in
     let rising : Rises c.deref.result.now = subst Rises (sym same) c.requires.rising in
-    ap (λ (l : Copies). set l c.in-Ok.place (c.args.number, c.args.copy)) (sym same)
+    ap (λ (x : ℕ × DiscCopy). set c.args.online.now.items c.in-Ok.place x) c.of_file-copy.ensures
+    ∙ ap (λ (l : Copies). set l c.in-Ok.place (c.args.number, c.args.copy)) (sym same)
     ∙ sym (put_found c.deref.result.now c.args.number rising c.in-Ok.place c.args.copy c.in-Ok.ensures.bound by_key)
     ∙ ap (with_copy_at (c.args.number, c.args.copy)) same
 
@@ -28,7 +30,8 @@ returns-else-is_err c =
     let same = c.deref.ensures.value in
     let rising : Rises c.deref.result.now = subst Rises (sym same) c.requires.rising in
     c.insert.ensures.items
-    ∙ cond-true (is_ok c.insert.result) (insert c.args.online.now.items c.in-Err.place (c.args.number, c.args.copy)) c.args.online.now.items (c.is_err.ensures.negation ∙ ap not c.if-is_err.false)
+    ∙ cond-true (is_ok c.insert.result) (insert c.args.online.now.items c.in-Err.place c.of_file-copy.result) c.args.online.now.items (c.is_err.ensures.negation ∙ ap not c.if-is_err.false)
+    ∙ ap (λ (x : ℕ × DiscCopy). insert c.args.online.now.items c.in-Err.place x) c.of_file-copy.ensures
     ∙ ap (λ (l : Copies). insert l c.in-Err.place (c.args.number, c.args.copy)) (sym same)
     ∙ sym (put_missing c.deref.result.now c.args.number rising c.in-Err.place c.args.copy c.in-Err.ensures.bound by_key)
     ∙ ap (with_copy_at (c.args.number, c.args.copy)) same

@@ -1,5 +1,5 @@
 -- One file more, in front of those that were looked at.
-use Rattle.std.proofs.Common.{◌≡◌, ℕ, suc, ◌-◌, ◌<◌, ◌≤◌, ◌==◌, cond, List, ◌∷◌, map, filter, drop, length, get_or, sym, ap, ◌∙◌, arith, eq-eqb}
+use Rattle.std.proofs.Common.{◌≡◌, ℕ, suc, ◌-◌, ◌<◌, ◌≤◌, ◌==◌, cond, List, ◌∷◌, map, filter, drop, length, get_or, sym, ap, subst, ◌∙◌, arith, eq-eqb}
 use Rattle.std.proofs.Math.Seq.{drop-cons}
 use Rattle.std.specs.FinMap.{FinMap, insert, from_entries}
 use Rattle.g_name.specs.declared.full.Full.{Full}
@@ -26,5 +26,5 @@ one_more users owner files left r full old new some within is behind own named m
 
 pub loop-left-preserved-in-Continue-1 : goal.loop-left-preserved-in-Continue-1
 loop-left-preserved-in-Continue-1 c =
-    one_more c.args.users.now c.args.owner c.args.files.now c.loop-left.left c.index-files-left.result c.full_of.result _ _ (c.loop-left-test.true) c.loop-left.invariant.0 c.index-files-left.is
+    one_more c.args.users.now c.args.owner c.args.files.now c.loop-left.left c.get-file.result.now c.full_of.result _ _ (c.loop-left-test.true) c.loop-left.invariant.0 (subst (λ (x : FileRec). x ≡ get_or c.args.files.now (c.loop-left.left - 1) x) (sym c.get-file.ensures) c.index-files-left.is)
     c.loop-left.invariant.1 c.if-file-owner.true c.full_of.ensures c.in_ok-insert.ensures

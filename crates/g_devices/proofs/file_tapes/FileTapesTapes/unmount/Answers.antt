@@ -12,6 +12,7 @@ invariant_of-self c =
     record {
       well_formed = AreReels-set _ _ _ _ c.args.self.now.well_formed place.within c.index_mut.ensures.value c.unmount.ensures.keeps
           (ap (λ (r : Reel). r.serial) c.unmount.ensures.value);
+      fused = c.args.self.now.fused;
     }
 
 pub returns : goal.returns

@@ -1,4 +1,5 @@
 use Rattle.std.proofs.Common.{◌≡◌, List, [], Some, None, true, subst, sym, ap, ◌∙◌}
+use Rattle.g_base.proofs.FuseLemmas.{fused_failed, fused_well}
 use Rattle.g_tape.specs.Reel.{Reel}
 use Rattle.g_tape.specs.Rack.{Rack, refuses_write}
 use Rattle.g_tape.specs.Place.{IsPlaceOf}
@@ -13,6 +14,8 @@ invariant_of-self c =
     record {
       well_formed = AreReels-set _ _ _ _ c.args.self.now.well_formed place.within c.index_mut.ensures.value c.end_with-left.ensures.keeps
           (ap (λ (r : Reel). r.serial) (c.end_with-left.ensures.value []));
+      fused = fused_failed c.args.self.now.write_faults c.raised-self.result c.args.self.now.arms c.args.self.now.fuse c.burn.new.self c.burn.ensures.left
+          c.raised-self.ensures c.args.self.now.fused;
     }
 
 pub invariant_of-self-in-Ok : goal.invariant_of-self-in-Ok
@@ -21,6 +24,8 @@ invariant_of-self-in-Ok c =
     record {
       well_formed = AreReels-set _ _ _ _ c.args.self.now.well_formed place.within c.index_mut-2.ensures.value c.end_with.ensures.keeps
           (ap (λ (r : Reel). r.serial) (c.end_with.ensures.value []));
+      fused = fused_well c.args.self.now.write_faults c.args.self.now.arms c.args.self.now.fuse c.burn.new.self c.burn.ensures.left
+          (λ one. let fires : c.burn.result ≡ true = c.burn.ensures.fires.1 one in cc) c.args.self.now.fused;
     }
 
 pub invariant_of-self-in-Err : goal.invariant_of-self-in-Err
@@ -29,6 +34,8 @@ invariant_of-self-in-Err c =
     record {
       well_formed = AreReels-set _ _ _ _ c.args.self.now.well_formed place.within c.index_mut-2.ensures.value c.end_with.ensures.keeps
           (ap (λ (r : Reel). r.serial) (c.end_with.ensures.value []));
+      fused = fused_failed c.args.self.now.write_faults c.raised-self-in-Err.result c.args.self.now.arms c.args.self.now.fuse c.burn.new.self c.burn.ensures.left
+          c.raised-self-in-Err.ensures c.args.self.now.fused;
     }
 
 pub returns-then-burn : goal.returns-then-burn

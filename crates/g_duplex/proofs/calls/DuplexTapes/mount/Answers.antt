@@ -12,6 +12,7 @@ invariant_of-self g c =
       paired = (pair_mounts c.args.serial (pair_of c.args.self.now) (g.T.Tapes.rack c.mount.new.self) (g.T.Tapes.rack c.mount-in-Ok.new.self) c.in-Ok.field-0 c.mount-in-Ok.result c.args.self.now.paired one
           c.mount-in-Ok.ensures).1;
       told = c.args.self.now.told ∙ lost_mounted refuses_mount true c.args.serial (g.T.Tapes.rack c.args.self.now.first) (g.T.Tapes.rack c.mount.new.self) c.mount.result c.args.self.now.standings c.mount.ensures;
+      fused = c.args.self.now.fused;
     }
 
 pub returns-in-Ok : goal.returns-in-Ok

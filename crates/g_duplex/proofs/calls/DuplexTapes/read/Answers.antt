@@ -24,6 +24,7 @@ invariant_of-self g c =
       told = c.args.self.now.told
           ∙ sym (lost_same (g.T.Tapes.rack c.args.self.now.first).reels (g.T.Tapes.rack c.read_twins-answer.new.first).reels c.args.self.now.standings
           (labels_unread (g.T.Tapes.rack c.args.self.now.first).reels (g.T.Tapes.rack c.read_twins-answer.new.first).reels one.reels));
+      fused = c.args.self.now.fused;
     }
 
 pub returns : goal.returns

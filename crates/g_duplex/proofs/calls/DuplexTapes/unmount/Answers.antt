@@ -17,6 +17,7 @@ invariant_of-self g c = record {
       c.unmount-second.result c.args.self.now.paired (sym c.capacity.ensures ∙ c.in_default.is) (sym c.mounted.ensures ∙ c.if-not-mounted.false) c.unmount-first.ensures c.unmount-second.ensures).1;
   told = c.args.self.now.told
       ∙ lost_mounted refuses_unmount false c.args.serial (g.T.Tapes.rack c.args.self.now.first) (g.T.Tapes.rack c.unmount-first.new.self) c.unmount-first.result c.args.self.now.standings c.unmount-first.ensures;
+  fused = c.args.self.now.fused;
 }
 
 pub returns : goal.returns

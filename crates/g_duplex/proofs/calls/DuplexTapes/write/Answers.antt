@@ -1,5 +1,7 @@
 use Rattle.std.proofs.Common.{◌∙◌, arith, refl, sym}
+use Rattle.g_tape.proofs.FuseLemmas.{fused_then}
 use Rattle.g_duplex.specs.Meaning.{pair_of}
+use Rattle.g_duplex.specs.Pair.{shown}
 use Rattle.g_duplex.proofs.MountLemmas.{none_seen}
 use Rattle.g_duplex.proofs.PlaceLemmas.{changed-first, long_standings, standing-first}
 use Rattle.g_duplex.proofs.WriteLemmas.{pair_writes_as, pair_writes_none}
@@ -11,7 +13,7 @@ returns-in_default g c =
     (none_seen c.args.serial c.args.self.now.standings (g.T.Tapes.rack c.args.self.now.first).reels (g.T.Tapes.rack c.args.self.now.second).reels c.args.self.now.paired c.in_default.ensures).1
 
 pub invariant_of-self : goal.invariant_of-self
-invariant_of-self g c = record { paired = c.args.self.now.paired; told = c.args.self.now.told }
+invariant_of-self g c = record { paired = c.args.self.now.paired; told = c.args.self.now.told; fused = c.args.self.now.fused }
 
 pub get-standing-requires : goal.get-standing-requires
 get-standing-requires g c =
@@ -47,7 +49,11 @@ invariant_of-self-2 g c =
     c.write_twins-answer.result.0 c.write_twins-answer.result.1 c.burn-fires.result c.set.new.self c.counted-self.result c.burn-fires.new.self (g.met.T.Tapes.well_formed c.args.self.now.first)
     (g.met.T.Tapes.well_formed c.args.self.now.second) c.args.self.now.paired stands (sym c.refuses_write.ensures ∙ c.in_default-refuses_write.is) c.burn-fires.ensures.fires c.write_twins-answer.ensures
     same c.counted-self.ensures c.burn-fires.ensures.left in
-    record { paired = done.1; told = c.lost_among-self.ensures }
+    record {
+      paired = done.1;
+      told = c.lost_among-self.ensures;
+      fused = fused_then c.args.serial c.args.k c.args.from.now (shown (pair_of c.args.self.now)) c.write_twins-answer.result.0 _ done.0.writing c.args.self.now.fused;
+    }
 
 pub returns : goal.returns
 returns g c =

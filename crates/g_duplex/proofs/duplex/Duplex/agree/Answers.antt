@@ -15,6 +15,7 @@ invariant_of-self-2 g c = record {
   told = c.args.self.now.told
       ∙ sym (lost_same (g.T.Tapes.rack c.args.self.now.first).reels (g.T.Tapes.rack c.same_reel.new.one).reels c.args.self.now.standings
       (labels_unread (g.T.Tapes.rack c.args.self.now.first).reels (g.T.Tapes.rack c.same_reel.new.one).reels c.same_reel.ensures.one.reels));
+  fused = c.args.self.now.fused;
 }
 
 pub returns : goal.returns

@@ -1,5 +1,7 @@
-use Rattle.std.proofs.Common.{◌∙◌, ℕ, List, Option, ap, length, subst, sym}
+use Rattle.std.proofs.Common.{◌∙◌, ℕ, List, Option, None, ap, length, subst, sym}
 use Rattle.std.proofs.lemmas.List.{length-map}
+use Rattle.g_base.specs.Fuse.{Arms}
+use Rattle.g_base.proofs.FuseLemmas.{unfailed_never}
 use Rattle.g_tape.specs.Reel.{Reel}
 use Rattle.g_duplex.specs.declared.twin.Standing.{Standing}
 use Rattle.g_duplex.specs.Pair.{ArePaired, Pair}
@@ -14,6 +16,7 @@ pub invariant_of-result : goal.invariant_of-result
 invariant_of-result g c = record {
   paired = subst (λ (ts : List Standing). ArePaired ts (g.T.Tapes.rack c.args.first).reels (g.T.Tapes.rack c.args.second).reels) (sym c.standings_by-standings.ensures) c.requires;
   told = c.lost_among-lost.ensures;
+  fused = unfailed_never 0 c.new-2.result c.new.result c.new-2.ensures c.new.ensures;
 }
 
 pub returns : goal.returns
@@ -25,7 +28,7 @@ returns g c =
       read_faults = 0;
       write_faults = 0;
       fuse = c.new.result;
-      arms = 0;
+      arms = c.new-2.result;
     } in p) c.standings_by-standings.ensures
     ∙ ap (λ (f : Option ℕ). let p : Pair = record {
       first = g.T.Tapes.rack c.args.first;
@@ -34,5 +37,14 @@ returns g c =
       read_faults = 0;
       write_faults = 0;
       fuse = f;
-      arms = 0;
+      arms = c.new-2.result;
     } in p) c.new.ensures
+    ∙ ap (λ (a : Arms). let p : Pair = record {
+      first = g.T.Tapes.rack c.args.first;
+      second = g.T.Tapes.rack c.args.second;
+      standings = standings_by c.args.lost.now (g.T.Tapes.rack c.args.first).reels;
+      read_faults = 0;
+      write_faults = 0;
+      fuse = None;
+      arms = a;
+    } in p) c.new-2.ensures

@@ -8,7 +8,7 @@ use Rattle.g_duplex.proofs.RebuildLemmas.{pair_rebuilds_as, same_room}
 use Rattle.g_duplex.proofs.duplex.Duplex.rebuild_twin.Goals as goal
 
 pub invariant_of-self : goal.invariant_of-self
-invariant_of-self g c = record { paired = c.args.self.now.paired; told = c.args.self.now.told }
+invariant_of-self g c = record { paired = c.args.self.now.paired; told = c.args.self.now.told; fused = c.args.self.now.fused }
 
 pub copy_twin-answer-requires-clause-room : goal.copy_twin-answer-requires-clause-room
 copy_twin-answer-requires-clause-room g c =
@@ -38,7 +38,7 @@ invariant_of-self-2 g c =
     ∙ sym (changed-first c.args.serial (g.T.Tapes.rack c.args.self.now.first).reels c.args.self.now.standings c.in-Some.place (stands_rebuilt c.args.twin c.copy_twin-answer.result) first long) in
     let done = pair_rebuilds_as c.args.serial c.args.twin (pair_of c.args.self.now) (g.T.Tapes.rack c.copy_twin-answer.new.first) (g.T.Tapes.rack c.copy_twin-answer.new.second) c.copy_twin-answer.result c.set.new.self
     c.args.self.now.paired (sym c.refuses_rebuild.ensures ∙ c.in_default-refuses_rebuild.is) c.copy_twin-answer.ensures same in
-    record { paired = done.1; told = c.lost_among-self.ensures }
+    record { paired = done.1; told = c.lost_among-self.ensures; fused = c.args.self.now.fused }
 
 pub returns : goal.returns
 returns g c =

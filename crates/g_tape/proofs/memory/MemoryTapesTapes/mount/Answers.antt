@@ -13,6 +13,7 @@ invariant_of-self c =
     record {
       well_formed = AreReels-set _ _ _ _ c.args.self.now.well_formed place.within c.index_mut.ensures.value c.set_mounted.ensures.keeps
           (ap (λ (r : Reel). r.serial) c.set_mounted.ensures.value);
+      fused = c.args.self.now.fused;
     }
 
 pub returns-clause-mounting : goal.returns-clause-mounting

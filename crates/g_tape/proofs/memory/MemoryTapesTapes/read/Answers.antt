@@ -13,6 +13,7 @@ invariant_of-self-2 c =
     record {
       well_formed = AreReels-set _ _ _ _ c.args.self.now.well_formed place.within c.index_mut.ensures.value c.read.ensures.keeps
           (ap (λ (r : Reel). r.serial) c.read.ensures.value);
+      fused = c.args.self.now.fused;
     }
 
 pub returns : goal.returns

@@ -1,5 +1,6 @@
 -- The reel that was found is written, or torn, where it stands.
 use Rattle.std.proofs.Common.{◌≡◌, List, Some, None, true, subst, sym, ap, ◌∙◌}
+use Rattle.g_base.proofs.FuseLemmas.{fused_failed, fused_well}
 use Rattle.g_tape.specs.Reel.{Reel}
 use Rattle.g_tape.specs.Rack.{refuses_write}
 use Rattle.g_tape.specs.Place.{IsPlaceOf}
@@ -12,6 +13,7 @@ invariant_of-self-then-burn c =
     let place = subst (λ (rs : List Reel). IsPlaceOf c.args.serial rs c.in-Some.place) c.deref.ensures.value c.in-Some.ensures in
     record {
       well_formed = AreReels-set _ _ _ _ c.args.self.now.well_formed place.within c.index_mut.ensures.value c.tear.ensures.keeps c.tear.ensures.serial;
+      fused = fused_failed c.args.self.now.write_faults c.raised-self.result c.args.self.now.arms c.args.self.now.fuse c.burn.new.self c.burn.ensures.left c.raised-self.ensures c.args.self.now.fused;
     }
 
 pub invariant_of-self-2 : goal.invariant_of-self-2
@@ -20,6 +22,8 @@ invariant_of-self-2 c =
     record {
       well_formed = AreReels-set _ _ _ _ c.args.self.now.well_formed place.within c.index_mut-2.ensures.value c.end_with.ensures.keeps
           (ap (λ (r : Reel). r.serial) c.end_with.ensures.value);
+      fused = fused_well c.args.self.now.write_faults c.args.self.now.arms c.args.self.now.fuse c.burn.new.self c.burn.ensures.left
+          (λ one. let fires : c.burn.result ≡ true = c.burn.ensures.fires.1 one in cc) c.args.self.now.fused;
     }
 
 pub returns-then-burn : goal.returns-then-burn

@@ -21,10 +21,10 @@ fall-requires c =
     let files = c.self.inside.files.items in
     let is = c.self.invariant.records in
     let at : StandsAt files c.args.number c.in-Ok.place = subst (λ fs. StandsAt fs c.args.number c.in-Ok.place) c.as_slice.ensures.value c.in-Ok.ensures.found in
-    let r = c.remove-file.result in
-    let here : r ≡ get_or files c.in-Ok.place r = c.remove-file.ensures.value in
-    let same : c.index.result.now ≡ r = c.index.ensures ∙ get_or_default files c.in-Ok.place c.index.result.now r at.within ∙ sym here in
-    let named : c.full_of-full.result ≡ full_of users r = c.full_of-full.ensures ∙ ap (λ us. full_of us c.index.result.now) c.as_slice-in-Ok.ensures.value ∙ ap (full_of users) same in
+    let r = c.get-file.result.now in
+    let here : r ≡ get_or files c.in-Ok.place r = subst (λ x. x ≡ get_or files c.in-Ok.place x) (sym c.get-file.ensures) c.remove-boxed.ensures.value in
+    let same : c.get.result.now ≡ r = c.get.ensures ∙ c.index.ensures ∙ get_or_default files c.in-Ok.place c.index.result.now r at.within ∙ sym here in
+    let named : c.full_of-full.result ≡ full_of users r = c.full_of-full.ensures ∙ ap (λ us. full_of us c.get.result.now) c.as_slice-in-Ok.ensures.value ∙ ap (full_of users) same in
     newest_some users files is c.in-Ok.place r at.within here c.full_of-full.result named c.self.inside.counts.generations.numbers c.self.invariant.newest
 
 pub give-requires-clause-used : goal.give-requires-clause-used
@@ -33,8 +33,8 @@ give-requires-clause-used c =
     let files = c.self.inside.files.items in
     let is = c.self.invariant.records in
     let at : StandsAt files c.args.number c.in-Ok.place = subst (λ fs. StandsAt fs c.args.number c.in-Ok.place) c.as_slice.ensures.value c.in-Ok.ensures.found in
-    let r = c.remove-file.result in
-    let here : r ≡ get_or files c.in-Ok.place r = c.remove-file.ensures.value in
+    let r = c.get-file.result.now in
+    let here : r ≡ get_or files c.in-Ok.place r = subst (λ x. x ≡ get_or files c.in-Ok.place x) (sym c.get-file.ensures) c.remove-boxed.ensures.value in
     subst (λ bs. blocks_for r.len ≤ get_or bs r.owner 0) (sym c.fall.ensures.blocks) (give_some users files is c.in-Ok.place r at.within here c.self.inside.counts.blocks.items c.self.invariant.used)
 
 pub invariant_of-self : goal.invariant_of-self
@@ -43,24 +43,24 @@ invariant_of-self c =
     let files = c.self.inside.files.items in
     let is = c.self.invariant.records in
     let at : StandsAt files c.args.number c.in-Ok.place = subst (λ fs. StandsAt fs c.args.number c.in-Ok.place) c.as_slice.ensures.value c.in-Ok.ensures.found in
-    let r = c.remove-file.result in
-    let here : r ≡ get_or files c.in-Ok.place r = c.remove-file.ensures.value in
-    let same : c.index.result.now ≡ r = c.index.ensures ∙ get_or_default files c.in-Ok.place c.index.result.now r at.within ∙ sym here in
-    let named : c.full_of-full.result ≡ full_of users r = c.full_of-full.ensures ∙ ap (λ us. full_of us c.index.result.now) c.as_slice-in-Ok.ensures.value ∙ ap (full_of users) same in
+    let r = c.get-file.result.now in
+    let here : r ≡ get_or files c.in-Ok.place r = subst (λ x. x ≡ get_or files c.in-Ok.place x) (sym c.get-file.ensures) c.remove-boxed.ensures.value in
+    let same : c.get.result.now ≡ r = c.get.ensures ∙ c.index.ensures ∙ get_or_default files c.in-Ok.place c.index.result.now r at.within ∙ sym here in
+    let named : c.full_of-full.result ≡ full_of users r = c.full_of-full.ensures ∙ ap (λ us. full_of us c.get.result.now) c.as_slice-in-Ok.ensures.value ∙ ap (full_of users) same in
     let counts = c.self.inside.counts in
     let left : c.newest_but-newest.result ≡ newest_of users c.full_of-full.result (remove_at files c.in-Ok.place) =
     c.newest_but-newest.ensures ∙ ap (λ s. newest_of s.users c.full_of-full.result (remove_at s.files c.in-Ok.place)) (sym c.self.view_is) in
     let indexed =
-    erased users files is c.args.number c.in-Ok.place at c.remove-file.new.self.items r c.full_of-full.result _ _ c.self.invariant.index c.remove-file.ensures.items here named c.remove.ensures.numbers in record {
+    erased users files is c.args.number c.in-Ok.place at c.remove-boxed.new.self.items r c.full_of-full.result _ _ c.self.invariant.index c.remove-boxed.ensures.items here named c.remove.ensures.numbers in record {
       records = indexed.records;
       index = indexed.index;
       newest =
-          subst (λ fs. AreNewest users fs c.give.new.self.generations.numbers) (sym c.remove-file.ensures.items)
+          subst (λ fs. AreNewest users fs c.give.new.self.generations.numbers) (sym c.remove-boxed.ensures.items)
           (subst (AreNewest users (remove_at files c.in-Ok.place)) (sym (ap (λ g. g.numbers) c.give.ensures.generations))
           (erased_newest users files c.in-Ok.place r at.within here c.newest_but-newest.result c.full_of-full.result counts.generations.numbers c.fall.new.self.generations.numbers c.self.invariant.newest named left
           c.fall.ensures.generations));
       used =
-          subst (λ fs. AreUsed fs c.give.new.self.blocks.items) (sym c.remove-file.ensures.items)
+          subst (λ fs. AreUsed fs c.give.new.self.blocks.items) (sym c.remove-boxed.ensures.items)
           (subst (AreUsed (remove_at files c.in-Ok.place)) (sym (c.give.ensures.blocks ∙ ap (λ bs. set bs r.owner (get_or bs r.owner 0 - blocks_for r.len)) c.fall.ensures.blocks))
           (erased_used files c.in-Ok.place r counts.blocks.items c.self.invariant.used (owner_at users files is c.in-Ok.place r at.within here) at.within here));
     }
@@ -74,7 +74,7 @@ unreachable-requires c =
 pub returns-clause-files : goal.returns-clause-files
 returns-clause-files c =
     let at : StandsAt c.self.inside.files.items c.args.number c.in-Ok.place = subst (λ fs. StandsAt fs c.args.number c.in-Ok.place) c.as_slice.ensures.value c.in-Ok.ensures.found in
-    c.remove-file.ensures.items ∙ removed_list c.self.inside.users.items c.self.inside.files.items c.self.invariant.records c.args.number c.in-Ok.place at c.remove-file.result
+    c.remove-boxed.ensures.items ∙ removed_list c.self.inside.users.items c.self.inside.files.items c.self.invariant.records c.args.number c.in-Ok.place at c.remove-boxed.result
     ∙ ap (λ s. without_file c.args.number s.files) c.self.view_is
 
 pub returns-clause-tree : goal.returns-clause-tree
@@ -88,8 +88,8 @@ returns-clause-records c =
     let files = c.self.inside.files.items in
     let is = c.self.invariant.records in
     let at : StandsAt files c.args.number c.in-Ok.place = subst (λ fs. StandsAt fs c.args.number c.in-Ok.place) c.as_slice.ensures.value c.in-Ok.ensures.found in
-    let r = c.remove-file.result in
-    let here : r ≡ get_or files c.in-Ok.place r = c.remove-file.ensures.value in
-    let same : c.index.result.now ≡ r = c.index.ensures ∙ get_or_default files c.in-Ok.place c.index.result.now r at.within ∙ sym here in
-    let named : c.full_of-full.result ≡ full_of users r = c.full_of-full.ensures ∙ ap (λ us. full_of us c.index.result.now) c.as_slice-in-Ok.ensures.value ∙ ap (full_of users) same in
-    (erased users files is c.args.number c.in-Ok.place at c.remove-file.new.self.items r c.full_of-full.result _ _ c.self.invariant.index c.remove-file.ensures.items here named c.remove.ensures.numbers).records
+    let r = c.get-file.result.now in
+    let here : r ≡ get_or files c.in-Ok.place r = subst (λ x. x ≡ get_or files c.in-Ok.place x) (sym c.get-file.ensures) c.remove-boxed.ensures.value in
+    let same : c.get.result.now ≡ r = c.get.ensures ∙ c.index.ensures ∙ get_or_default files c.in-Ok.place c.index.result.now r at.within ∙ sym here in
+    let named : c.full_of-full.result ≡ full_of users r = c.full_of-full.ensures ∙ ap (λ us. full_of us c.get.result.now) c.as_slice-in-Ok.ensures.value ∙ ap (full_of users) same in
+    (erased users files is c.args.number c.in-Ok.place at c.remove-boxed.new.self.items r c.full_of-full.result _ _ c.self.invariant.index c.remove-boxed.ensures.items here named c.remove.ensures.numbers).records

@@ -9,7 +9,7 @@ use Rattle.g_tree.proofs.tree.Tree.file_at.Goals as goal
 pub returns-in-Ok-clause-value : goal.returns-in-Ok-clause-value
 returns-in-Ok-clause-value c =
     let at : StandsAt c.self.inside.files.items c.args.number c.in-Ok.place = subst (λ fs. StandsAt fs c.args.number c.in-Ok.place) c.as_slice.ensures.value c.in-Ok.ensures.found in
-    ap Some c.index.ensures ∙ sym (stands_found c.self.inside.files.items c.self.invariant.records.numbers c.args.number c.in-Ok.place c.index.result.now at)
+    ap Some (c.get.ensures ∙ c.index.ensures) ∙ sym (stands_found c.self.inside.files.items c.self.invariant.records.numbers c.args.number c.in-Ok.place c.index.result.now at)
     ∙ ap (λ s. get (by_number s.files) c.args.number) c.self.view_is
 
 pub returns-in-Err-clause-value : goal.returns-in-Err-clause-value

@@ -1,5 +1,5 @@
 -- A file in the place of another, or between others.
-use Rattle.std.proofs.Common.{◌≡◌, ◌≤◌, ◌<◌, ◌⊎◌, ℕ, ◌+◌, List, get_or, cond, not, sym, ap, subst, ◌∙◌, arith, Some, length}
+use Rattle.std.proofs.Common.{◌≡◌, ◌≤◌, ◌<◌, ◌⊎◌, ℕ, ◌+◌, List, get_or, sym, ap, subst, ◌∙◌, arith, Some, length}
 use Rattle.std.proofs.Math.ListN.{set}
 use Rattle.std.specs.List as list
 use Rattle.std.specs.FinMap.{insert}
@@ -9,7 +9,6 @@ use Rattle.g_entry.specs.declared.file_rec.FileRec.{FileRec}
 use Rattle.g_tree.specs.Records.{IsRecords, full_of, tree_of, number_of}
 use Rattle.g_tree.specs.State.{IsKept, AreNewest, AreUsed, with_file}
 use Rattle.g_tree.specs.Places.{StandsAt, FitsAt}
-use Rattle.g_tree.proofs.ResultLemmas.{ok_is_no_err}
 use Rattle.g_tree.proofs.PutLemmas.{owner_there, file_ruled, with_new, with_other, indexed_new, named_fits, still_room}
 use Rattle.g_tree.proofs.LawLemmas.{tree_put}
 use Rattle.g_tree.proofs.CountLemmas.{new_newest, new_used, used_few, owner_few}
@@ -50,12 +49,19 @@ insert-requires c =
     let spare = room_there c.self.inside.users.items c.self.inside.files.items c.args.file c.in-Err.place _ c.self.invariant.records fits room in
     omega (arith, spare)
 
-pub unreachable-requires : goal.unreachable-requires
-unreachable-requires c =
+pub put_between-requires-clause-places : goal.put_between-requires-clause-places
+put_between-requires-clause-places c =
     let fits : FitsAt c.self.inside.files.items c.args.file.number c.in-Err.place = subst (λ fs. FitsAt fs c.args.file.number c.in-Err.place) c.as_slice-2.ensures.value c.in-Err.ensures.absent in
     let room = subst (λ s. (1 ≤ s.spare) ⊎ (number_of s.users s.files (full_of s.users c.args.file) ≡ Some c.args.file.number)) (sym c.self.view_is) c.requires.room in
     let spare = room_there c.self.inside.users.items c.self.inside.files.items c.args.file c.in-Err.place _ c.self.invariant.records fits room in
-    ok_is_no_err c.insert-in-Err.result (c.insert-in-Err.ensures.succeeds (omega (arith, spare))) (sym c.is_err.ensures.value ∙ c.if-is_err.true)
+    omega (arith, spare)
+
+pub put_between-requires-clause-room : goal.put_between-requires-clause-room
+put_between-requires-clause-room c =
+    let fits : FitsAt c.self.inside.files.items c.args.file.number c.in-Err.place = subst (λ fs. FitsAt fs c.args.file.number c.in-Err.place) c.as_slice-2.ensures.value c.in-Err.ensures.absent in
+    let room = subst (λ s. (1 ≤ s.spare) ⊎ (number_of s.users s.files (full_of s.users c.args.file) ≡ Some c.args.file.number)) (sym c.self.view_is) c.requires.room in
+    let spare = room_there c.self.inside.users.items c.self.inside.files.items c.args.file c.in-Err.place _ c.self.invariant.records fits room in
+    omega (arith, spare)
 
 pub rise-requires : goal.rise-requires
 rise-requires c =
@@ -85,8 +91,7 @@ invariant_of-self c =
     let files = c.self.inside.files.items in
     let fits : FitsAt files c.args.file.number c.in-Err.place = subst (λ fs. FitsAt fs c.args.file.number c.in-Err.place) c.as_slice-2.ensures.value c.in-Err.ensures.absent in
     let rules : IsRecords users (with_file c.args.file files) = subst (λ s. IsRecords s.users (with_file c.args.file s.files)) (sym c.self.view_is) c.requires.rules in
-    let items : c.insert-in-Err.new.self.items ≡ list.insert files c.in-Err.place c.args.file =
-    c.insert-in-Err.ensures.items ∙ ap (λ b. cond b (list.insert files c.in-Err.place c.args.file) files) (c.is_err.ensures.negation ∙ ap not c.if-is_err.false) in
+    let items : c.put_between.new.files.items ≡ list.insert files c.in-Err.place c.args.file = c.put_between.ensures in
     let named : c.full_of-full.result ≡ full_of users c.args.file = c.full_of-full.ensures ∙ ap (λ us. full_of us c.args.file) c.as_slice.ensures.value in
     let indexed =
     indexed_new users files c.in-Err.place c.args.file c.self.inside.index.numbers c.insert.new.self.numbers (record { records = c.self.invariant.records; index = c.self.invariant.index })
@@ -102,21 +107,20 @@ invariant_of-self c =
     subst (λ fs. IsKept users fs c.insert.new.self.numbers c.take.new.self.generations.numbers c.take.new.self.blocks.items) (sym items)
     (record { records = indexed.records; index = indexed.index; newest = newest; used = used })
 
-pub returns-else-is_err-clause-files : goal.returns-else-is_err-clause-files
-returns-else-is_err-clause-files c =
+pub returns-in-Err-clause-files : goal.returns-in-Err-clause-files
+returns-in-Err-clause-files c =
     let files = c.self.inside.files.items in
     let fits : FitsAt files c.args.file.number c.in-Err.place = subst (λ fs. FitsAt fs c.args.file.number c.in-Err.place) c.as_slice-2.ensures.value c.in-Err.ensures.absent in
-    c.insert-in-Err.ensures.items ∙ ap (λ b. cond b (list.insert files c.in-Err.place c.args.file) files) (c.is_err.ensures.negation ∙ ap not c.if-is_err.false)
-    ∙ sym (with_new c.args.file files c.in-Err.place fits) ∙ ap (λ s. with_file c.args.file s.files) c.self.view_is
+    c.put_between.ensures ∙ sym (with_new c.args.file files c.in-Err.place fits) ∙ ap (λ s. with_file c.args.file s.files) c.self.view_is
 
-pub returns-else-is_err-clause-same_name : goal.returns-else-is_err-clause-same_name
-returns-else-is_err-clause-same_name c = λ e.
+pub returns-in-Err-clause-same_name : goal.returns-in-Err-clause-same_name
+returns-in-Err-clause-same_name c = λ e.
     let fits : FitsAt c.args.self.now.files c.args.file.number c.in-Err.place =
     subst (λ fs. FitsAt fs c.args.file.number c.in-Err.place) (c.as_slice-2.ensures.value ∙ ap (λ s. s.files) c.self.view_is) c.in-Err.ensures.absent in
     absurd (named_fits c.args.self.now.users c.args.self.now.files (subst (λ s. IsRecords s.users s.files) c.self.view_is c.self.invariant.records) c.args.file.number (full_of c.args.self.now.users c.args.file) c.in-Err.place e fits)
 
-pub returns-else-is_err-clause-tree : goal.returns-else-is_err-clause-tree
-returns-else-is_err-clause-tree c = λ bytes next.
+pub returns-in-Err-clause-tree : goal.returns-in-Err-clause-tree
+returns-in-Err-clause-tree c = λ bytes next.
     let is = subst (λ s. IsRecords s.users s.files) c.self.view_is c.self.invariant.records in
-    (λ i. tree_of ((c.self.view_is i).users) (returns-else-is_err-clause-files c i) bytes next)
+    (λ i. tree_of ((c.self.view_is i).users) (returns-in-Err-clause-files c i) bytes next)
     ∙ tree_put c.args.self.now.users c.args.self.now.files bytes next is c.args.file c.requires.rules

@@ -4,8 +4,9 @@ use Rattle.std.proofs.Math.ListN.{set}
 use Rattle.std.specs.List.{remove as remove_at}
 use Rattle.std.specs.FinMap.{insert, remove}
 use Rattle.g_base.specs.Block.{blocks_for}
+use Rattle.g_entry.specs.declared.file_rec.FileRec.{FileRec}
 use Rattle.g_tree.specs.Records.{IsRecords, full_of}
-use Rattle.g_tree.specs.State.{AreNewest, AreUsed}
+use Rattle.g_tree.specs.State.{AreNewest, AreUsed, IsKept}
 use Rattle.g_tree.specs.Answers.{newest_of}
 use Rattle.g_tree.specs.Places.{StandsAt}
 use Rattle.g_tree.proofs.PutLemmas.{indexed_other}
@@ -16,8 +17,8 @@ pub fall-requires : goal.fall-requires
 fall-requires c =
     let users = c.self.inside.users.items in
     let files = c.self.inside.files.items in
-    let r = c.index-was.result.now in
-    let here : r ≡ get_or files c.args.place r = c.index-was.ensures in
+    let r = c.get-was.result.now in
+    let here : r ≡ get_or files c.args.place r = subst (λ x. x ≡ get_or files c.args.place x) (sym c.get-was.ensures) c.index.ensures in
     let at : StandsAt files c.args.file.number c.args.place = subst (λ s. StandsAt s.files c.args.file.number c.args.place) (sym c.self.view_is) c.requires.at in
     let was : c.args.old.now ≡ full_of users r = subst (λ s. c.args.old.now ≡ full_of s.users (get_or s.files c.args.place r)) (sym c.self.view_is) (c.requires.was r) ∙ ap (full_of users) (sym here) in
     newest_some users files c.self.invariant.records c.args.place r at.within here c.args.old.now was c.self.inside.counts.generations.numbers c.self.invariant.newest
@@ -26,16 +27,16 @@ pub give-requires-clause-used : goal.give-requires-clause-used
 give-requires-clause-used c =
     let users = c.self.inside.users.items in
     let files = c.self.inside.files.items in
-    let r = c.index-was.result.now in
-    let here : r ≡ get_or files c.args.place r = c.index-was.ensures in
+    let r = c.get-was.result.now in
+    let here : r ≡ get_or files c.args.place r = subst (λ x. x ≡ get_or files c.args.place x) (sym c.get-was.ensures) c.index.ensures in
     let at : StandsAt files c.args.file.number c.args.place = subst (λ s. StandsAt s.files c.args.file.number c.args.place) (sym c.self.view_is) c.requires.at in
     subst (λ bs. blocks_for r.len ≤ get_or bs r.owner 0) (sym (c.rise.ensures.blocks ∙ c.fall.ensures.blocks)) (give_some users files c.self.invariant.records c.args.place r at.within here c.self.inside.counts.blocks.items c.self.invariant.used)
 
 pub take-requires-clause-used : goal.take-requires-clause-used
 take-requires-clause-used c =
-    let r = c.index-was.result.now in
+    let r = c.get-was.result.now in
     let at : StandsAt c.self.inside.files.items c.args.file.number c.args.place = subst (λ s. StandsAt s.files c.args.file.number c.args.place) (sym c.self.view_is) c.requires.at in
-    rest_used c.self.inside.users.items c.self.inside.files.items c.self.invariant.records c.args.place r at.within c.index-was.ensures c.self.inside.counts.blocks.items c.give.new.self.blocks.items
+    rest_used c.self.inside.users.items c.self.inside.files.items c.self.invariant.records c.args.place r at.within (subst (λ x. x ≡ get_or c.self.inside.files.items c.args.place x) (sym c.get-was.ensures) c.index.ensures) c.self.inside.counts.blocks.items c.give.new.self.blocks.items
     c.args.file.owner c.self.invariant.used (c.give.ensures.blocks ∙ ap (λ bs. set bs r.owner (get_or bs r.owner 0 - blocks_for r.len)) (c.rise.ensures.blocks ∙ c.fall.ensures.blocks))
 
 pub take-requires-clause-len : goal.take-requires-clause-len
@@ -44,14 +45,14 @@ take-requires-clause-len c =
     let files = c.self.inside.files.items in
     let at : StandsAt files c.args.file.number c.args.place = subst (λ s. StandsAt s.files c.args.file.number c.args.place) (sym c.self.view_is) c.requires.at in
     let rules : IsRecords users (set files c.args.place c.args.file) = subst (λ s. IsRecords s.users (set s.files c.args.place c.args.file)) (sym c.self.view_is) c.requires.rules in
-    put_len users files c.self.invariant.records c.args.place c.index-was.result.now at.within c.index-was.ensures c.args.file rules
+    put_len users files c.self.invariant.records c.args.place c.get-was.result.now at.within (subst (λ x. x ≡ get_or c.self.inside.files.items c.args.place x) (sym c.get-was.ensures) c.index.ensures) c.args.file rules
 
 pub invariant_of-self : goal.invariant_of-self
 invariant_of-self c =
     let users = c.self.inside.users.items in
     let files = c.self.inside.files.items in
-    let r = c.index-was.result.now in
-    let here : r ≡ get_or files c.args.place r = c.index-was.ensures in
+    let r = c.get-was.result.now in
+    let here : r ≡ get_or files c.args.place r = subst (λ x. x ≡ get_or files c.args.place x) (sym c.get-was.ensures) c.index.ensures in
     let is = c.self.invariant.records in
     let counts = c.self.inside.counts in
     let at : StandsAt files c.args.file.number c.args.place = subst (λ s. StandsAt s.files c.args.file.number c.args.place) (sym c.self.view_is) c.requires.at in
@@ -62,7 +63,9 @@ invariant_of-self c =
     c.newest_but-newest.ensures ∙ ap (λ s. newest_of s.users c.args.old.now (remove_at s.files c.args.place)) (sym c.self.view_is) in
     let indexed =
     indexed_other users files c.args.place r c.args.file rules c.self.inside.index.numbers c.insert.new.self.numbers (record { records = is; index = c.self.invariant.index }) here at
-    (c.insert.ensures.numbers ∙ (λ i. insert (c.remove.ensures.numbers i) (named i) c.args.file.number) ∙ ap (λ f. insert (remove c.self.inside.index.numbers f) (full_of users c.args.file) c.args.file.number) was) in record {
+    (c.insert.ensures.numbers ∙ (λ i. insert (c.remove.ensures.numbers i) (named i) c.args.file.number) ∙ ap (λ f. insert (remove c.self.inside.index.numbers f) (full_of users c.args.file) c.args.file.number) was) in
+    subst (λ (f : FileRec). IsKept users (set files c.args.place f) c.insert.new.self.numbers c.take.new.self.generations.numbers c.take.new.self.blocks.items) (sym c.set.ensures)
+    (record {
       records = rules;
       index = indexed.index;
       newest =
@@ -74,4 +77,4 @@ invariant_of-self c =
           (replaced_used files c.args.place r c.args.file counts.blocks.items c.give.new.self.blocks.items c.self.invariant.used (owner_at users files is c.args.place r at.within here)
           (put_owner users files is c.args.place r at.within here c.args.file rules) at.within here
           (c.give.ensures.blocks ∙ ap (λ bs. set bs r.owner (get_or bs r.owner 0 - blocks_for r.len)) (c.rise.ensures.blocks ∙ c.fall.ensures.blocks)));
-    }
+    })

@@ -8,12 +8,12 @@ use Rattle.g_tree.proofs.tree.changes.free_in.Goals as goal
 at_end : (files : List FileRec) (gap end : ℕ) → gap ≡ end → (end < length files → (d : FileRec) → (get_or files end d).number ≢ end) → gap < length files → (d : FileRec) → (get_or files gap d).number ≢ gap
 at_end files gap end same other = subst (λ n. n < length files → (d : FileRec) → (get_or files n d).number ≢ n) (sym same) other
 
-pub loop-gap-preserved-then-files-middle : goal.loop-gap-preserved-then-files-middle
-loop-gap-preserved-then-files-middle c = (
+pub loop-gap-preserved-then-get-middle : goal.loop-gap-preserved-then-get-middle
+loop-gap-preserved-then-get-middle c = (
   omega (arith, c.loop-gap-test.true),
   c.loop-gap.invariant.1,
   filled_until c.args.files.now c.requires (c.loop-gap.gap + (c.loop-gap.end - c.loop-gap.gap) / 2) c.index-files-middle.result (omega (arith, c.loop-gap-test.true, c.loop-gap.invariant.1)) c.index-files-middle.is
-      (ap (λ r. r.number) c.index-files-middle.is ∙ c.if-files-middle.true),
+      (ap (λ r. r.number) (sym c.get.ensures) ∙ c.if-get-middle.true),
   c.loop-gap.invariant.3,
 )
 

@@ -1,0 +1,58 @@
+//! The record of a file in a box.
+ghost use Rattle.std.specs.Prelude.{◌≡◌, IfOk};
+
+use crate::FileRec;
+use g_base::NoMemory;
+use std::alloc::Global;
+use std::marker::Model;
+
+/// The record of a file, in a box: in a list of records only pointers move. Contracts see the record.
+#[derive(Debug, Drop)]
+pub struct BoxedRec {
+    rec: Box<FileRec>,
+}
+
+impl Model for BoxedRec {
+    ghost use Rattle.g_entry.specs.declared.file_rec.FileRec.{FileRec};
+
+    ghost Value = { FileRec };
+
+    ghost view = { λ b. b.rec.value };
+}
+
+impl BoxedRec {
+    /// This record in a box of its own.
+    pub fn new(alloc: Global, rec: FileRec) -> Result<BoxedRec, NoMemory>
+        ensures { IfOk result (λ b. b ≡ rec) }
+    {
+        match Box::new(alloc, rec) {
+            Ok(rec) => Ok(BoxedRec { rec }),
+            Err(_) => Err(NoMemory),
+        }
+    }
+
+    /// The record.
+    pub fn get(&self) -> &FileRec
+        ensures { result.now ≡ self.now }
+    {
+        &self.rec
+    }
+
+    /// Puts this record in its place, which takes no memory.
+    pub fn set(&mut self, rec: FileRec)
+        ensures { self.new ≡ rec }
+    {
+        *self.rec = rec;
+    }
+}
+
+/// The same records, each in a box of its own.
+pub fn boxed(alloc: Global, files: &[FileRec]) -> Result<Vec<BoxedRec>, NoMemory>
+    ensures { IfOk result (λ boxed. boxed.items ≡ files.now) }
+{
+    let mut boxed = Vec::new(alloc);
+    for file in files {
+        boxed.push(BoxedRec::new(alloc, file.copy())?)?;
+    }
+    Ok(boxed)
+}
