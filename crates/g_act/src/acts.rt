@@ -27,6 +27,24 @@ use std::alloc::Global;
 /// The MONEY of a user that is made without an amount.
 const MONEY: u64 = 1_000_000;
 
+/// Whether a verb makes one call, hands over no bytes and has its reply said.
+fn is_one_call(action: &Action) -> bool
+    ensures { result ≡ actions.is_one_call action.now }
+{
+    matches!(
+        action,
+        Action::Erase { .. }
+            | Action::Rename { .. }
+            | Action::ListDir { .. }
+            | Action::TrapGo { .. }
+            | Action::TrapStop { .. }
+            | Action::TrapCheck { .. }
+            | Action::NewUser { .. }
+            | Action::Budget { .. }
+            | Action::Retrieve { .. }
+    )
+}
+
 /// The call of a verb that makes one, hands over no bytes and has its reply said; any other verb is given back.
 fn call_of(action: Action, who: &User) -> Result<StoreCall, Action>
     requires sound { verbs.IsSound action }
@@ -95,6 +113,10 @@ impl Work {
         ensures same_waits { (s : ℕ) → S.can_wait store.new s ≡ S.can_wait store.old s }
         ensures blocks { OnOk result (self.new.blocks ≤ self.old.blocks + 2048) }
     {
+        // An action is large: so it is moved on where it stands, unless it becomes a call.
+        if !is_one_call(&action) {
+            return self.act_otherwise(store, asker, by, action);
+        }
         match call_of(action, asker.who) {
             Ok(call) => self.one_call(store, asker, &call),
             Err(action) => self.act_otherwise(store, asker, by, action),

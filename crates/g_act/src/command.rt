@@ -1,5 +1,5 @@
 //! One command of a line: GOTO, IF, WHENEVER, or a verb.
-ghost use Rattle.std.specs.Prelude.{◌≡◌, ◌≤◌, ◌+◌, ◌<◌, ℕ, false, length, IfSome, OnErr, OnOk};
+ghost use Rattle.std.specs.Prelude.{◌≡◌, ◌≤◌, ◌+◌, ◌<◌, ℕ, false, length, IfSome, IsTrue, OnErr, OnOk};
 ghost use Rattle.g_act.specs.Commands as commands;
 ghost use Rattle.g_act.specs.Met.{IsBare, IsSpoken, Met};
 ghost use Rattle.g_act.specs.Say as said;
@@ -31,6 +31,16 @@ struct VerbLine {
     rest: Text,
 }
 
+/// Whether a command stands behind no condition.
+fn is_bare(command: &Command) -> bool
+    ensures { IsTrue result → IsBare command.now }
+{
+    match command {
+        Command::Goto(_) | Command::Whenever { .. } | Command::Verb { .. } => true,
+        Command::Blank | Command::If { .. } => false,
+    }
+}
+
 impl Work {
     /// Does what a text says, for the user `who`; `by` tells that a WHENEVER does it. Nothing is done of a blank line,
     /// of a label alone, and behind an IF whose condition doesn't hold.
@@ -54,6 +64,10 @@ impl Work {
         ensures same_waits { (s : ℕ) → S.can_wait store.new s ≡ S.can_wait store.old s }
         ensures blocks { OnOk result (self.new.blocks ≤ self.old.blocks + 2048) }
     {
+        // A command is large: so it is moved on where it stands, unless a condition is before it.
+        if is_bare(&command) {
+            return self.command(store, asker, by, command);
+        }
         match self.met(command) {
             Some(command) => self.command(store, asker, by, command),
             None => Ok(()),

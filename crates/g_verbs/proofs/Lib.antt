@@ -1,3 +1,5 @@
+pub mod AloneLemmas
+pub mod NameLemmas
 pub mod ParamLemmas
 pub mod ReadLemmas
 pub mod SaidLemmas

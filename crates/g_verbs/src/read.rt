@@ -1,14 +1,15 @@
 //! From a verb and its parameters to what it asks for.
-ghost use Rattle.std.specs.Prelude.{◌≡◌, IfOk};
-ghost use Rattle.g_verbs.specs.Forms.{AreGood};
+ghost use Rattle.std.specs.Prelude.{◌≡◌, ◌∷◌, ℕ, [], List, IfOk, IfSome};
+ghost use Rattle.g_verbs.specs.Forms.{AreGood, just};
 ghost use Rattle.g_verbs.specs.How as how;
 ghost use Rattle.g_verbs.specs.Tables.{forms_said};
 ghost use Rattle.g_verbs.specs.Verbs as verbs;
+ghost use Rattle.g_verbs.specs.declared.form.Form.TheVariants as form;
 
 use crate::verb::macro_forms;
-use crate::{Action, Forms, Verb, VerbFault, asked};
+use crate::{Action, Forms, Verb, VerbFault, asked, parameter};
 use g_lines::Texts;
-use g_name::{Local, Text};
+use g_name::{Local, Path, Text};
 
 /// What a verb with its parameters asks for (`docs/DEFINITIONS.md`, "Verbs"). `rest` is what stands from the first
 /// parameter on, as it was written, which DISPLAY alone uses.
@@ -21,11 +22,55 @@ pub fn read_verb(name: &Local, params: Texts, rest: Text) -> Result<Action, Verb
     ensures sound { IfOk result verbs.IsSound }
 {
     let verb = Verb::of(name.as_slice());
+    if let Some(action) = on_file(verb, params.rows()) {
+        return Ok(action);
+    }
     let forms = forms_of(verb);
     if let Some(index) = forms.first_wrong(params.rows()) {
         return Err(VerbFault::BadParameter(index));
     }
     Ok(asked_by(verb, name, params, rest))
+}
+
+/// What a verb of one file asks for, where this is its only parameter, which is read once then; `None` elsewhere.
+fn on_file(verb: Option<Verb>, params: &[Text]) -> Option<Action>
+    ensures { (name rest : List ℕ) → IfSome result (λ action. AreGood (verbs.forms_with verb) params.now
+        × (action ≡ how.asked verb name params.now rest)) }
+{
+    match verb {
+        Some(Verb::Input) => match only_file(params) {
+            Some(file) => Some(Action::Input { file }),
+            None => None,
+        },
+        Some(Verb::Erase) => match only_file(params) {
+            Some(file) => Some(Action::Erase { file }),
+            None => None,
+        },
+        Some(Verb::ListFile) => match only_file(params) {
+            Some(file) => Some(Action::ListFile { file }),
+            None => None,
+        },
+        Some(Verb::Retrieve) => match only_file(params) {
+            Some(file) => Some(Action::Retrieve { file }),
+            None => None,
+        },
+        Some(Verb::Load) => match only_file(params) {
+            Some(file) => Some(Action::Load { file }),
+            None => None,
+        },
+        _ => None,
+    }
+}
+
+/// The file that the only parameter names, if it is the only one.
+fn only_file(params: &[Text]) -> Option<Path>
+    ensures { IfSome result (λ path. AreGood (just (form.File ∷ [])) params.now
+        × (path ≡ how.file_of (how.param params.now 0))) }
+{
+    match params {
+        [only] => parameter::file(only.as_slice()),
+        _ => None,
+    }
 }
 
 /// The parameters that a verb takes, or a macro.

@@ -1,8 +1,10 @@
 //! The verbs that are no macros, and the parameters that each takes.
-ghost use Rattle.std.specs.Prelude.{◌≡◌};
+ghost use Rattle.std.specs.List.{find};
+ghost use Rattle.std.specs.Prelude.{◌≡◌, ◌∷◌, ℕ, List};
+ghost use Rattle.g_name.specs.Order.{same_text};
 ghost use Rattle.g_verbs.specs.Forms as forms;
 ghost use Rattle.g_verbs.specs.Tables.{forms_said};
-ghost use Rattle.g_verbs.specs.Verbs as verbs;
+ghost use Rattle.g_verbs.specs.Verbs as table;
 
 use crate::{Form, Forms};
 use g_plain::BudgetKind;
@@ -35,44 +37,20 @@ pub enum Verb {
     EndJob,
 }
 
-/// The verbs in the order of the manual.
-const VERBS: [Verb; 23] = [
-    Verb::Input,
-    Verb::Copy,
-    Verb::Append,
-    Verb::Erase,
-    Verb::Rename,
-    Verb::ListFile,
-    Verb::ListDir,
-    Verb::TrapGo,
-    Verb::TrapStop,
-    Verb::TrapCheck,
-    Verb::NewUser,
-    Verb::Budget,
-    Verb::Retrieve,
-    Verb::Load,
-    Verb::Plan,
-    Verb::Enter,
-    Verb::Resume,
-    Verb::Assign,
-    Verb::Release,
-    Verb::Delete,
-    Verb::SetParam,
-    Verb::Display,
-    Verb::EndJob,
-];
-
 impl Verb {
     /// The verb of a name; that of a macro has none.
     pub fn of(name: &[u8]) -> Option<Verb>
-        ensures { result ≡ verbs.verb_of name.now }
+        ensures { result ≡ table.verb_of name.now }
     {
-        VERBS.iter().copied().find(|verb| verb.word() == name)
+        match name.split_first() {
+            Some((letter, _)) => named(verbs_at(*letter), name),
+            None => None,
+        }
     }
 
     /// The verb's name.
     pub fn word(self) -> &'static [u8]
-        ensures { result.now ≡ verbs.verb_word self }
+        ensures { result.now ≡ table.verb_word self }
     {
         match self {
             Verb::Input => b"INPUT",
@@ -103,7 +81,7 @@ impl Verb {
 
     /// The parameters that the verb takes.
     pub fn forms(self) -> Forms
-        ensures { forms_said result ≡ verbs.verb_forms self }
+        ensures { forms_said result ≡ table.verb_forms self }
     {
         match self {
             Verb::Input | Verb::Erase | Verb::ListFile | Verb::Retrieve | Verb::Load => {
@@ -130,6 +108,40 @@ impl Verb {
     }
 }
 
+/// The first of these verbs that has this name.
+fn named(verbs: &[Verb], name: &[u8]) -> Option<Verb>
+    ensures { result ≡ find (λ verb. same_text (table.verb_word verb) name.now) verbs.now }
+{
+    for verb in verbs {
+        if verb.word() == name {
+            return Some(*verb);
+        }
+    }
+    None
+}
+
+/// The verbs whose names begin with this letter, in the order of the manual.
+fn verbs_at(letter: u8) -> &'static [Verb]
+    ensures { (rest : List ℕ) → find (λ verb. same_text (table.verb_word verb) (letter ∷ rest)) result.now
+        ≡ table.verb_of (letter ∷ rest) }
+{
+    match letter {
+        b'A' => &[Verb::Append, Verb::Assign],
+        b'B' => &[Verb::Budget],
+        b'C' => &[Verb::Copy],
+        b'D' => &[Verb::Delete, Verb::Display],
+        b'E' => &[Verb::Erase, Verb::Enter, Verb::EndJob],
+        b'I' => &[Verb::Input],
+        b'L' => &[Verb::ListFile, Verb::ListDir, Verb::Load],
+        b'N' => &[Verb::NewUser],
+        b'P' => &[Verb::Plan],
+        b'R' => &[Verb::Rename, Verb::Retrieve, Verb::Resume, Verb::Release],
+        b'S' => &[Verb::SetParam],
+        b'T' => &[Verb::TrapGo, Verb::TrapStop, Verb::TrapCheck],
+        _ => &[],
+    }
+}
+
 /// The parameters of TRAPGO and TRAPSTOP.
 const TRAP_FORMS: [Form; 7] = [
     Form::File,
@@ -151,7 +163,7 @@ const NEW_USER_FORMS: [Form; 4] = [
 
 /// The parameters of a macro: up to 24 texts.
 pub fn macro_forms() -> Forms
-    ensures { forms_said result ≡ verbs.macro_forms }
+    ensures { forms_said result ≡ table.macro_forms }
 {
     at_least(0, &[Form::Text; 24])
 }
