@@ -17,17 +17,6 @@ pub enum PoolFault {
     NoMemory,
 }
 
-impl From<AllocError> for PoolFault {
-    ghost use Rattle.std.specs.Prelude.{◌≡◌};
-    ghost use Rattle.g_blocks.specs.declared.pool.PoolFault.TheVariants.{NoMemory};
-
-    ghost from_gives = { λ _ fault. fault ≡ NoMemory };
-
-    fn from(_error: AllocError) -> PoolFault {
-        PoolFault::NoMemory
-    }
-}
-
 /// The copy blocks of one disc. Contracts see the list of their flags, true where a block is taken:
 /// the flag at place i is that of block 2,177 + i. The search for free blocks begins at the place
 /// `low`, before which none is free, and passes groups of 128 that are noted as full.
@@ -64,7 +53,9 @@ impl Pool {
         ensures ok { IfOk result (IsFresh size used.now) }
         ensures err { IsOkUnless result PoolFault.NoMemory }
     {
-        let mut pool = Pool::all_free(alloc, size - FIRST_COPY_BLOCK)?;
+        let Ok(mut pool) = Pool::all_free(alloc, size - FIRST_COPY_BLOCK) else {
+            return Err(PoolFault::NoMemory);
+        };
         pool.mark_all_taken(used);
         pool.skip_taken();
         Ok(pool)
@@ -94,7 +85,9 @@ impl Pool {
                 room: self.free,
             });
         }
-        let blocks = least_free(alloc, &self.taken, self.low, n as usize)?;
+        let Ok(blocks) = least_free(alloc, &self.taken, self.low, n as usize) else {
+            return Err(PoolFault::NoMemory);
+        };
         self.mark_all_taken(&blocks);
         self.skip_taken();
         Ok(blocks)

@@ -63,7 +63,7 @@ pub fn say_made<K: Sink>(
 }
 
 /// The line that tells what was done is put, and all is as it was.
-pub fn told<K: Sink, D: Disc, T: Tapes>(
+pub(crate) fn told<K: Sink, D: Disc, T: Tapes>(
     alloc: Global,
     day: Day<D, T>,
     made: Result<Text, NoMemory>,

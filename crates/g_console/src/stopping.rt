@@ -44,8 +44,9 @@ fn down(alloc: Global, crew: &Crew, count: u64, what: &[u8]) -> Result<Text, NoM
     Ok(text)
 }
 
-/// Tells a fault: of want of memory nothing, of a stop that the system is down.
-fn tell_fault<K: Sink>(
+/// Tells a fault: of want of memory nothing; of a stop that the system is down, with the file of each job, and jobs and accounts are
+/// gone; of any other its refusal.
+pub fn tell_fault<K: Sink>(
     alloc: Global,
     crew: &mut Crew,
     count: u64,
@@ -62,7 +63,7 @@ fn tell_fault<K: Sink>(
 }
 
 /// The system has answered with this fault, which is told: it is as it was, or, where its store was stopped, taken down.
-pub fn fails<K: Sink, D: Disc, T: Tapes>(
+pub(crate) fn fails<K: Sink, D: Disc, T: Tapes>(
     alloc: Global,
     day: Day<D, T>,
     fault: StoreFault,
@@ -96,7 +97,7 @@ fn behind<D: Disc, T: Tapes>(system: System<D, T>, fault: &StoreFault) -> System
 }
 
 /// The system behind a stop of its store.
-pub(crate) fn stopped<D: Disc, T: Tapes>(system: System<D, T>) -> System<D, T>
+fn stopped<D: Disc, T: Tapes>(system: System<D, T>) -> System<D, T>
     ensures { facts_of D.state T.rack result ≡ system_behind Stopped (facts_of D.state T.rack system) }
 {
     match system {

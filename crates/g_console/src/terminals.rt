@@ -1,9 +1,9 @@
 //! Terminals: a job comes in at one, a line is typed there, it is logged out; and a stop behind what was put at one.
 ghost use Rattle.std.specs.Prelude.{◌≡◌, ◌+◌, ◌<◌, ◌≤◌, ◌++◌, List, ℕ, Some, IfOk, codes};
-ghost use Rattle.g_console.specs.Parts.{DidLine, IsReady, seen};
+ghost use Rattle.g_console.specs.Parts.{DidLine, IsReady};
 ghost use Rattle.g_console.specs.Puts.{Puts};
 ghost use Rattle.g_console.specs.System.{facts_of};
-ghost use Rattle.g_console.specs.Telling.{down_text, system_behind, without_jobs};
+ghost use Rattle.g_console.specs.Telling.{down_text, without_jobs};
 ghost use Rattle.g_console.specs.Terminals.{ChangesAt, SeatsJob, TellsSeat, is_up_in};
 ghost use Rattle.g_crew.specs.Numbers.{job_in};
 ghost use Rattle.g_crew.specs.Seating.{pushed_of};
@@ -12,7 +12,6 @@ ghost use Rattle.g_job.specs.Terminal.{logged_out, typed_to};
 ghost use Rattle.g_lines.specs.Documents.{IsOneLine};
 ghost use Rattle.g_mop.specs.Seats.{busy_text, none_text};
 ghost use Rattle.g_mop.specs.Shown as shown;
-ghost use Rattle.g_plain.specs.declared.faults.StoreFault.TheVariants.{Stopped};
 ghost use Rattle.g_script.specs.declared.operator.Operator.TheVariants as line;
 ghost use Rattle.g_world.specs.Texts as texts;
 
@@ -20,7 +19,7 @@ use crate::day::Day;
 use crate::jobs::{came_in, knows, turned_away};
 use crate::progress::{Ended, Failure};
 use crate::puts::{line, put_made, say_made};
-use crate::stopping::{fails, stopped};
+use crate::stopping::fails;
 use crate::system::System;
 use g_base::NoMemory;
 use g_crew::{
@@ -234,30 +233,20 @@ fn log_out_at<K: Sink, D: Disc, T: Tapes>(
 }
 
 /// The store was stopped in a turn that has written on a terminal's file: what was written is put, and behind it what is told of
-/// the stop. The system is taken down.
-pub fn stops_behind<K: Sink, D: Disc, T: Tapes>(
-    day: Day<D, T>,
+/// the stop. Jobs and accounts are gone; the store is the caller's to take down.
+pub fn stops_behind<K: Sink>(
+    crew: &mut Crew,
+    count: u64,
     made: Result<Text, NoMemory>,
     out: &mut K,
-) -> Ended<D, T>
-    ensures day { result.day ≡ seen (system_behind Stopped day.system) (without_jobs day.crew) day.count }
+) -> Option<Failure>
+    ensures gone { crew.new ≡ without_jobs crew.old }
     ensures put { (text : List ℕ) → IfOk made (λ t. t ≡ text)
-        → Puts result.failure (text ++ down_text day.count (codes "SYSTEM STOPPED") day.crew) (K.written out.old) (K.written out.new) (K.faults out.old) (K.faults out.new) }
+        → Puts result (text ++ down_text count (codes "SYSTEM STOPPED") crew.old) (K.written out.old) (K.written out.new) (K.faults out.old) (K.faults out.new) }
 {
-    let Day {
-        system,
-        mut crew,
-        count,
-    } = day;
-    let made = down_behind(made, &crew, count);
+    let made = down_behind(made, crew, count);
     crew.go_down();
-    let failure = put_made(out, made);
-    let day = Day {
-        system: stopped(system),
-        crew,
-        count,
-    };
-    Ended { day, failure }
+    put_made(out, made)
 }
 
 /// A text, and behind it what is told of a stop.

@@ -7,7 +7,7 @@ use crate::choice::MOST_JOBS;
 use g_base::NoMemory;
 use g_job::{Job, NewJob};
 use g_monitor::push_numbers;
-use g_name::Text;
+use g_name::{Text, User};
 use std::alloc::Global;
 use thiserror::Error;
 

@@ -21,7 +21,7 @@ use Rattle.g_incr.specs.Layout.{Dump}
 use Rattle.g_incr.specs.Plan.{IsPlan, Plan, first_content, needs}
 use Rattle.g_incr.specs.Reading.{ReadsReel}
 use Rattle.g_shelf.specs.Completed.{AreCompleted, end_of}
-use Rattle.g_shelf.specs.Found.{AreRead}
+use Rattle.g_known.specs.Known.{AreFound}
 use Rattle.g_shelf.proofs.OneLemmas.{completed_are_one}
 use Rattle.g_shelf.proofs.ReadLemmas.{end_low, there}
 use Rattle.g_state.specs.Up.{DumpFacts, IsOpen}
@@ -45,9 +45,16 @@ after_reads (Some q) p r is same = (q, refl, same_Some (unread q) (unread r) (sa
 
 -- WHAT IS KNOWN where the reel was read to the end of its completed dumps
 module _ (serial place : ℕ) (o : OnlineFacts) (rack after : Rack) (reels : AreReels rack.reels) (reads : (let r : Result ℕ ShelfFault = Ok place in ReadsReel serial r rack after))
-    (end : (dumps : List Dump) × AreRead serial dumps rack after × (place ≡ end_of dumps)) where
+    (end : (dumps : List Dump) × AreFound serial dumps rack × (place ≡ end_of dumps)) where
   pub place_low : place ≤ 65536
-  place_low = let low = end_low serial place end.0 rack after reels reads end.1 in let is = end.2 in omega (arith, low, is)
+  place_low =
+      let (r, here) = there serial place rack after reads in
+      let right = is_reel serial rack.reels r reels.each here in
+      let within = right.within in
+      let most = right.sized_most in
+      let fits = end.1.fits r here in
+      let is = end.2 in
+      omega arith
 
   the_reel : (r : Reel) × (reel serial rack.reels ≡ Some r)
   the_reel = there serial place rack after reads

@@ -1,11 +1,10 @@
 -- The files that a dump holds: those of some users, one user behind the other.
 use Rattle.std.proofs.Common.{◌≡◌, ◌≢◌, ℕ, zero, suc, ◌+◌, ◌<◌, ◌≤◌, Bool, true, false, List, [], ◌∷◌, ◌++◌, get_or, length, refl, sym, ◌∙◌, ap, arith, subst, inl, inr, true≢false}
-use Rattle.std.specs.Prelude.{◌⊎◌, ◌==◌, ◌||◌, All, AllPairs, Contains, filter, map}
-use Rattle.std.specs.List.{list_any}
+use Rattle.std.specs.Prelude.{◌⊎◌, ◌==◌, ◌||◌, All, AllPairs, Contains, map}
 use Rattle.std.specs.List.Sorted.{IsStrictlyIncreasing}
 use Rattle.std.proofs.lemmas.Bool.{cases_Bool, cond-true, eq-eqb, eqb-true, ne_eqb, or_cases}
 use Rattle.std.proofs.lemmas.List.{append-nil}
-use Rattle.std.proofs.lemmas.List.Elements.{All-append, All-cons, All-contains, All-filter, All-head, All-nil, All-tail, Contains-append_cases, Contains-append_left, Contains-append_right, Contains-get_or, filter-append}
+use Rattle.std.proofs.lemmas.List.Elements.{All-append, All-contains, All-filter, All-head, All-nil, All-tail, Contains-append_cases, Contains-append_left, Contains-append_right, Contains-get_or, filter-append}
 use Rattle.std.proofs.lemmas.List.Kept.{AllPairs-filter, AllPairs-from_increasing}
 use Rattle.g_entry.specs.declared.file_rec.FileRec.{FileRec}
 use Rattle.g_entry.specs.declared.user_rec.UserRec.{UserRec}
@@ -15,7 +14,7 @@ use Rattle.g_online.proofs.CloseNoteLemmas.{pairs_map}
 use Rattle.g_tree.proofs.ListLemmas.{filter_none}
 use Rattle.g_state.specs.Meaning.{files_of}
 use Rattle.g_state_laws.proofs.ClosingLemmas.{contains_filter}
-use Rattle.g_state_laws.proofs.RecordLemmas.{OtherUser, from_filter, gathered_by, gathered_few, gathered_pairs, owned, pairs_cons, pairs_head, pairs_tail}
+use Rattle.g_state_laws.proofs.RecordLemmas.{OtherUser, from_filter, gathered_by, gathered_few, gathered_pairs, owned, pairs_head, pairs_tail, pairs_append}
 use Rattle.g_dumper.specs.Beginning.{held_of}
 
 -- A USER FOR EACH NUMBER, so that files go by users
@@ -116,13 +115,6 @@ held_of_one n (m ∷ ms) files rising held = by_first (cases_Bool (m == n)) (hel
         ∙ rest (sym (ap (λ (b : Bool). b || holds ms n) isnt) ∙ held)
 
 -- IN ORDER: by owner, then by number
-pairs_append : {A : Type 0} (R : A → A → Type 0) (xs ys : List A) → AllPairs R xs → AllPairs R ys → ((x y : A) → Contains xs x → Contains ys y → R x y) → AllPairs R (xs ++ ys)
-pairs_append R [] ys in_xs in_ys across = in_ys
-pairs_append R (x ∷ xs) ys in_xs in_ys across =
-    pairs_cons R x (xs ++ ys)
-    (All-append (R x) xs ys (pairs_head R x xs in_xs) (λ j d within. across x (get_or ys j d) (0, omega arith, refl) (Contains-get_or ys j d within)))
-    (pairs_append R xs ys (pairs_tail R x xs in_xs) in_ys (λ a b in_a in_b. across a b (Contains-append_right (x ∷ []) xs a in_a) in_b))
-
 ordered_of : (n : ℕ) (rs : List FileRec) → All (λ (r : FileRec). r.owner ≡ n) rs → AllPairs (λ (r s : FileRec). r.number < s.number) rs → AllPairs ComesBefore rs
 ordered_of n rs all rising i j d less within =
     inr (all i d (omega (arith, less, within)) ∙ sym (all j d within), rising i j d less within)

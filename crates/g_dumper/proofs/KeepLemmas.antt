@@ -31,6 +31,8 @@ use Rattle.g_state.specs.Up.{DumpFacts, IsOpen, IsReady, IsUp, KeepsDirectories,
 use Rattle.g_state_laws.specs.Dumping.{closed_with}
 use Rattle.g_state_laws.proofs.ClosingLemmas.{closing_stays}
 use Rattle.g_state_laws.proofs.DumpingLemmas.{events_stay_up}
+use Rattle.g_state_laws.proofs.PinLemmas.{both_told}
+use Rattle.g_state_laws.proofs.TiedLemmas.{devices_belong}
 use Rattle.g_dumper.specs.Keeps.{CompletesOpening, KeepsStore, behind_step, spent_with, up_with}
 use Rattle.g_dumper.specs.Steps.{Abandoned, FailedWrite, IsNextBlock, Stepping, WroteBlock}
 use Rattle.g_dumper.proofs.ReelLemmas.{same_serials, still_told}
@@ -49,23 +51,6 @@ without_dump text shelf rack p q contents users was = record {
 }
 
 -- DISC AND RACK BELONG TOGETHER where memory and rack do
-holds_now : (o : OnlineFacts) → IsTied o → o.live ≡ true → (blocks : List (List ℕ)) → o.disc.held ≡ Some blocks → Holds blocks o.contents
-holds_now o tied live blocks held = record {
-  directory = o.layout.directory;
-  stands = tied.stands live blocks held;
-  are = tied.contents live ∙ ap (λ (h : Option (List (List ℕ))). contents_of h o.layout.directory) held;
-}
-
-pub devices_belong : (text : ℕ → List ℕ) (shelf : ℕ → List Dump) (reels : List Reel) (o : OnlineFacts) → IsTied o → o.live ≡ true → AreShelved shelf reels
-    → RackBelongs text (all_dumps shelf reels) → DiscBelongs text shelf reels o.contents → BelongWith o.disc.held reels
-devices_belong text shelf reels o tied live shelved rack belongs = record {
-  text = text;
-  shelf = shelf;
-  shelved = shelved;
-  rack = rack;
-  disc = λ blocks c held holds. subst (DiscBelongs text shelf reels) (holds_one blocks o.contents c (holds_now o tied live blocks held) holds) belongs;
-}
-
 pub belongs_up : (text : ℕ → List ℕ) (shelf : ℕ → List Dump) (s : StoreFacts) → IsTied s.online → s.online.live ≡ true → AreShelved shelf (told_reels s.rack) → IsUp text shelf s → Belongs s
 belongs_up text shelf s tied live shelved up = record {
   devices = devices_belong text shelf (told_reels s.rack) s.online tied live shelved up.rack up.disc;
@@ -83,10 +68,6 @@ store_spent o rack tied = record {
   open_dump = λ unspent. absurd (true≢false unspent);
   pins = λ unspent. absurd (true≢false unspent);
 }
-
-abbrev both_told : Option (List (List ℕ)) → Option (List (List ℕ)) → Option (List (List ℕ))
-both_told (Some a) (Some b) = Some (a ++ b)
-both_told a b = None
 
 -- THE CONTENT of the pins, where the disc tells
 pub content_told : (next : ℕ) (files : List File) (pins : List Pin) → All (IsPinOf true next files) pins → (content : List (List ℕ)) × (content_in pins ≡ Some content)

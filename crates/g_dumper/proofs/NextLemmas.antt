@@ -1,19 +1,20 @@
 -- The next block of an open dump: the pins of the versions that wait, and where their bytes stand in it.
-use Rattle.std.proofs.Common.{◌≡◌, ℕ, zero, suc, ◌+◌, ◌<◌, List, [], ◌∷◌, ◌++◌, length, take, slice_get, Option, Some, None, refl, sym, ◌∙◌, ap, arith, subst}
+use Rattle.std.proofs.Common.{◌≡◌, ℕ, zero, suc, ◌+◌, ◌<◌, List, [], ◌∷◌, ◌++◌, length, take, slice_get, Option, Some, refl, sym, ◌∙◌, ap, arith, subst}
 use Rattle.std.specs.Prelude.{map}
 use Rattle.std.specs.Option.{ForSome}
 use Rattle.std.proofs.lemmas.List.{length-append, length-map}
 use Rattle.std.proofs.lemmas.List.Sums.{sum_by-cons}
-use Rattle.std.proofs.lemmas.Option.{none-some, same_Some, slice_get_within}
+use Rattle.std.proofs.lemmas.Option.{same_Some}
 use Rattle.g_base.specs.Block.{blocks_for}
 use Rattle.g_entry.specs.declared.file_rec.FileRec.{FileRec}
-use Rattle.g_contents.specs.Facts.{OnlineFacts, Pin}
+use Rattle.g_contents.specs.Facts.{Pin}
 use Rattle.g_incr.specs.Layout.{Dump, dump_blocks, file_in, header_block, mark_block, user_in}
-use Rattle.g_incr.specs.Plan.{IsContentAt, IsReadyAt, Plan, blocks_of, content_blocks, dump_of, first_content, waiting}
+use Rattle.g_incr.specs.Plan.{IsContentAt, IsReadyAt, blocks_of, dump_of, first_content, waiting}
 use Rattle.g_incr.proofs.ListLemmas.{get_behind, get_front}
 use Rattle.g_incr.proofs.PlanLemmas.{length-made}
 use Rattle.g_state.specs.Up.{ArePinned, DumpFacts, content_in}
 use Rattle.g_dumper.specs.Steps.{IsNextBlock}
+use Rattle.g_state_laws.proofs.PinLemmas.{split_told}
 
 -- THE PIN of a version that waits
 pub pin_at : (serial at : ℕ) (ws : List FileRec) (pins : List Pin) (i : ℕ) (version : FileRec) → ArePinned serial at ws pins → slice_get ws i ≡ Some version
@@ -24,23 +25,6 @@ pin_at serial at (r ∷ rs) pins zero version (pin, rest, same, stamp, len, copy
 pin_at serial at (r ∷ rs) pins (suc i) version (pin, rest, same, stamp, len, copy, blocks, more) there =
     let (found, is, long) = pin_at serial (at + blocks_for r.len) rs rest i version more there in
     (found, ap (λ (ps : List Pin). slice_get ps (suc i)) same ∙ is, long)
-
--- THE CONTENT that pins give: that of the first, and that of the others
-abbrev both_told : Option (List (List ℕ)) → Option (List (List ℕ)) → Option (List (List ℕ))
-both_told (Some a) (Some b) = Some (a ++ b)
-both_told a b = None
-
-record IsBoth (x y : Option (List (List ℕ))) (content : List (List ℕ)) : Type 0 where
-  one : List (List ℕ)
-  rest : List (List ℕ)
-  is : x ≡ Some one
-  are : y ≡ Some rest
-  both : content ≡ one ++ rest
-
-split_told : (x y : Option (List (List ℕ))) (content : List (List ℕ)) → both_told x y ≡ Some content → IsBoth x y content
-split_told (Some a) (Some b) content e = record { one = a; rest = b; is = refl; are = refl; both = sym (same_Some (a ++ b) content e) }
-split_told (Some a) None content e = absurd (none-some content e)
-split_told None y content e = absurd (none-some content e)
 
 -- it is as long as the plan says
 pub content_long : (serial at : ℕ) (ws : List FileRec) (pins : List Pin) (content : List (List ℕ)) → ArePinned serial at ws pins → content_in pins ≡ Some content

@@ -15,9 +15,9 @@ use g_base::NoMemory;
 use g_disc::Disc;
 use g_entry::{BoxedRec, FileRec, Intent};
 use g_incr::Writer;
+use g_known::KnownReels;
 use g_online::{Online, OnlineFault};
 use g_plain::StoreFault;
-use g_shelf::end_of;
 use g_tape::Tapes;
 use std::alloc::Global;
 
@@ -32,7 +32,7 @@ impl Dump {
     pub fn begin<D: Disc, T: Tapes>(
         alloc: Global,
         online: &mut Online<D>,
-        tapes: &mut T,
+        tapes: &mut KnownReels<T>,
         serial: u32,
     ) -> Result<Dump, StoreFault>
         requires live { online.old.live ≡ true }
@@ -56,7 +56,7 @@ impl Dump {
 fn begin_dump<D: Disc, T: Tapes>(
     alloc: Global,
     online: &mut Online<D>,
-    tapes: &mut T,
+    tapes: &mut KnownReels<T>,
     serial: u32,
 ) -> Result<Dump, StoreFault>
     requires live { online.old.live ≡ true }
@@ -73,7 +73,7 @@ fn begin_dump<D: Disc, T: Tapes>(
     if online.head().last_dump == LAST_NUMBER {
         return Err(StoreFault::CountersSpent);
     }
-    let place = match end_of(alloc, tapes, serial) {
+    let place = match tapes.end_of(alloc, serial) {
         Ok(place) => place,
         Err(fault) => return Err(fault.into()),
     };

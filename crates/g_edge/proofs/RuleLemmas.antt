@@ -64,13 +64,13 @@ module _ {F G U V : Type 0}
 
   whole_by : (lines : List Timed) (bad : Option ℕ) (old new : Devices) (before after : Option (List ℕ))
       → EndsWhole tariffs tariff rules rule lines bad old new before after → EndsWhole others other ways way lines bad old new before after
-  whole_by lines bad old new before after it = λ s down stands.
-      let (moves, last, is, over, put) = it s down stands in (moves, last, run_of lines bad s old new moves last is, over, put)
+  whole_by lines bad old new before after it = λ s stands.
+      let e = it s stands in record { moves = e.moves; last = e.last; run_of = run_of lines bad s old new e.moves e.last e.run_of; over = e.over; text = e.text }
 
   short_by : (lines : List Timed) (bad : Option ℕ) (old new : Devices) (before after : Option (List ℕ))
       → EndsShort tariffs tariff rules rule lines bad old new before after → EndsShort others other ways way lines bad old new before after
-  short_by lines bad old new before after it = λ s down stands.
-      let (moves, last, is, more) = it s down stands in (moves, last, run_of lines bad s old new moves last is, more)
+  short_by lines bad old new before after it = λ s stands.
+      let e = it s stands in record { moves = e.moves; last = e.last; run_of = run_of lines bad s old new e.moves e.last e.run_of; text = e.text }
 
   cut_by : (left : List ℕ) (old new : Devices) (before after : Option (List ℕ))
       → IsCut tariffs tariff rules rule left old new before after → IsCut others other ways way left old new before after

@@ -1,7 +1,5 @@
 //! Why a reel could not be read.
-use g_base::NoMemory;
 use g_plain::StoreFault;
-use std::alloc::AllocError;
 use thiserror::Error;
 
 /// Why a reader of a reel answers nothing. No fault changes what the reel holds.
@@ -19,28 +17,6 @@ pub enum ShelfFault {
     /// The memory was refused.
     #[error("out of memory")]
     NoMemory,
-}
-
-impl From<AllocError> for ShelfFault {
-    ghost use Rattle.std.specs.Prelude.{◌≡◌};
-    ghost use Rattle.g_incr.specs.declared.fault.ShelfFault.TheVariants.{NoMemory};
-
-    ghost from_gives = { λ _ e. e ≡ NoMemory };
-
-    fn from(_e: AllocError) -> ShelfFault {
-        ShelfFault::NoMemory
-    }
-}
-
-impl From<NoMemory> for ShelfFault {
-    ghost use Rattle.std.specs.Prelude.{◌≡◌};
-    ghost use Rattle.g_incr.specs.declared.fault.ShelfFault.TheVariants.{NoMemory};
-
-    ghost from_gives = { λ _ e. e ≡ NoMemory };
-
-    fn from(_e: NoMemory) -> ShelfFault {
-        ShelfFault::NoMemory
-    }
 }
 
 /// What the fault is to a store that hands it on as it is.

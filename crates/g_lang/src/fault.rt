@@ -1,8 +1,4 @@
 //! Why a line isn't read.
-ghost use Rattle.std.specs.Prelude.{◌≡◌};
-ghost use Rattle.g_lang.specs.declared.fault.LangFault.TheVariants.{NoMemory};
-
-use g_base::NoMemory;
 use thiserror::Error;
 
 /// A line that isn't read.
@@ -15,12 +11,4 @@ pub enum LangFault {
     /// The memory for the value was refused; the text is a line of the language.
     #[error("out of memory")]
     NoMemory,
-}
-
-impl From<NoMemory> for LangFault {
-    ghost from_gives = { λ e fault. fault ≡ NoMemory };
-
-    fn from(_e: NoMemory) -> LangFault {
-        LangFault::NoMemory
-    }
 }

@@ -52,8 +52,10 @@ pub fn parse_line(alloc: Global, text: &[u8]) -> Result<Line, LangFault>
     if let Some(place) = wrong_place(text) {
         return Err(LangFault::BadLine(place));
     }
-    let line = read_line(alloc, trimmed(text))?;
-    Ok(line)
+    match read_line(alloc, trimmed(text)) {
+        Ok(line) => Ok(line),
+        Err(NoMemory) => Err(LangFault::NoMemory),
+    }
 }
 
 /// Whether the verb of a line is INPUT, behind whose line a document stands. It takes no memory; a text that is no

@@ -1,27 +1,25 @@
 -- A store keeps what it keeps where files of its filestore are taken off the disc.
-use Rattle.std.proofs.Common.{◌≡◌, ℕ, ◌<◌, Bool, true, false, List, [], Option, Some, None, refl, sym, ◌∙◌, ap, subst, arith, inl, inr, if◌then◌else◌, true≢false}
+use Rattle.std.proofs.Common.{◌≡◌, ℕ, ◌<◌, Bool, true, false, List, [], Option, Some, None, refl, sym, ◌∙◌, ap, subst, arith, inl, inr, if◌then◌else◌}
 use Rattle.std.specs.Prelude.{◌⊎◌, ◌||◌, IfSome, is_some, not}
-use Rattle.std.specs.Option.{ForSome}
 use Rattle.g_tape.specs.Rack.{Rack}
 use Rattle.g_tape.specs.Reel.{Reel}
-use Rattle.g_contents.specs.Contents.{Contents, Holds, committed, contents_of, taken_off, with_intent}
-use Rattle.g_contents.specs.Facts.{IsTied, OnlineFacts, Pin}
+use Rattle.g_contents.specs.Contents.{Contents, Holds, committed, taken_off, with_intent}
+use Rattle.g_contents.specs.Facts.{IsTied, OnlineFacts}
 use Rattle.g_contents.proofs.HoldLemmas.{holds_one}
 use Rattle.g_online.specs.declared.change.Change.TheVariants.{Unload}
 use Rattle.g_online.specs.Change.{changed, with_files}
 use Rattle.g_online.specs.Done.{AfterStop, HasChanged, HasStopped}
 use Rattle.g_incr.specs.Layout.{Dump, holds}
-use Rattle.g_incr.specs.Plan.{dump_of}
-use Rattle.g_shelf.specs.Completed.{AreShelved, all_dumps}
 use Rattle.g_state.specs.Answers.{Belongs, IsStore}
-use Rattle.g_state.specs.Belong.{BelongWith, DiscBelongs, RackBelongs}
+use Rattle.g_state.specs.Belong.{DiscBelongs}
 use Rattle.g_state.specs.Laws.{IsQuiet}
 use Rattle.g_state.specs.Meaning.{told_reels}
 use Rattle.g_state.specs.Staying.{behind}
-use Rattle.g_state.specs.Up.{DumpFacts, IsOpen, IsReady, IsUp, StoreFacts, content_in}
-use Rattle.g_state.proofs.ChangeLemmas.{files_belong, intents_belong}
+use Rattle.g_state.specs.Up.{DumpFacts, IsOpen, IsUp, StoreFacts}
+use Rattle.g_state.proofs.ChangeLemmas.{files_belong}
 use Rattle.g_state.proofs.StayLemmas.{stays_open, stays_up}
 use Rattle.g_state_laws.proofs.DumpingLemmas.{events_stay_up}
+use Rattle.g_state_laws.proofs.TiedLemmas.{committed_belongs, devices_belong, moved, spent_store, spent_then}
 use Rattle.g_migrate.specs.Keeps.{KeepsStore, with_online}
 
 -- NOTHING HAS CHANGED
@@ -34,56 +32,6 @@ keeps_same o live = record {
   belongs = λ s at unspent store was. subst Belongs (same_store s o at unspent live) was;
 }
 
--- WHAT THE DISC HOLDS is what memory says
-holds_now : (o : OnlineFacts) → IsTied o → o.live ≡ true → (blocks : List (List ℕ)) → o.disc.held ≡ Some blocks → Holds blocks o.contents
-holds_now o tied live blocks held = record {
-  directory = o.layout.directory;
-  stands = tied.stands live blocks held;
-  are = tied.contents live ∙ ap (λ (h : Option (List (List ℕ))). contents_of h o.layout.directory) held;
-}
-
--- so disc and rack belong together where memory and rack do
-pub devices_belong : (text : ℕ → List ℕ) (shelf : ℕ → List Dump) (reels : List Reel) (o : OnlineFacts) → IsTied o → o.live ≡ true → AreShelved shelf reels
-    → RackBelongs text (all_dumps shelf reels) → DiscBelongs text shelf reels o.contents → BelongWith o.disc.held reels
-devices_belong text shelf reels o tied live shelved rack belongs = record {
-  text = text;
-  shelf = shelf;
-  shelved = shelved;
-  rack = rack;
-  disc = λ blocks c held holds. subst (DiscBelongs text shelf reels) (holds_one blocks o.contents c (holds_now o tied live blocks held) holds) belongs;
-}
-
--- WHAT A STORE THAT IS UP KEEPS goes by contents, pins and the users who are marked alone
-ready_again : (text : ℕ → List ℕ) (shelf : ℕ → List Dump) (reels : List Reel) (o new : OnlineFacts) (d : Dump)
-    → (let p : OnlineFacts = record o { contents = new.contents; pins = new.pins; changed = new.changed; touched = new.touched } in IsReady text shelf reels p d) → IsReady text shelf reels new d
-ready_again text shelf reels o new d is = record { rules = is.rules; rack = is.rack; disc = is.disc; opening = record { each = is.opening.each } }
-
-abbrev ReadyOn : (ℕ → List ℕ) → (ℕ → List Dump) → List Reel → OnlineFacts → Option DumpFacts → Type 0
-ReadyOn text shelf reels o dump =
-    IfSome dump (λ d. (pins : List Pin) → o.pins ≡ Some pins → ForSome (content_in pins) (λ content. IsReady text shelf reels o (dump_of d.plan content)))
-
-open_again : (text : ℕ → List ℕ) (shelf : ℕ → List Dump) (reels : List Reel) (o new : OnlineFacts) (dump : Option DumpFacts)
-    → (let p : OnlineFacts = record o { contents = new.contents; pins = new.pins; changed = new.changed; touched = new.touched } in ReadyOn text shelf reels p dump) → ReadyOn text shelf reels new dump
-open_again text shelf reels o new None is = tt
-open_again text shelf reels o new (Some d) is = λ pins pinned content told. ready_again text shelf reels o new (dump_of d.plan content) (is pins pinned content told)
-
--- the store with these parts of its filestore
-abbrev parts : StoreFacts → OnlineFacts → Contents → Option (List Pin) → StoreFacts
-parts s new c pins = record s { online = record s.online { contents = c; pins = pins; changed = new.changed; touched = new.touched } }
-
-pub moved : (text : ℕ → List ℕ) (shelf : ℕ → List Dump) (s : StoreFacts) (new : OnlineFacts) (e : Contents) → new.contents ≡ e → new.pins ≡ s.online.pins
-    → IsUp text shelf (behind s e new.changed new.touched) → IsUp text shelf (with_online new s)
-moved text shelf s new e contents pins was =
-    let one : IsUp text shelf (parts s new new.contents s.online.pins) = subst (λ (c : Contents). IsUp text shelf (parts s new c s.online.pins)) (sym contents) was in
-    let two : IsUp text shelf (parts s new new.contents new.pins) = subst (λ (p : Option (List Pin)). IsUp text shelf (parts s new new.contents p)) (sym pins) one in
-    record {
-      rack = two.rack;
-      disc = two.disc;
-      quiet = two.quiet;
-      directories = record { each = two.directories.each; none = two.directories.none };
-      open_dump = open_again text shelf (told_reels s.rack) s.online new s.dump two.open_dump;
-    }
-
 -- FILES ARE TAKEN OFF: what stands then
 pinned_then : (numbers : List ℕ) (o : OnlineFacts) → is_some o.pins ≡ true
     → changed (is_some o.disc.held) (is_some o.pins) (Unload numbers) o.contents ≡ with_files (taken_off numbers o.contents.files) o.contents
@@ -94,11 +42,6 @@ unpinned_then : (numbers : List ℕ) (o : OnlineFacts) → is_some o.pins ≡ fa
     → changed (is_some o.disc.held) (is_some o.pins) (Unload numbers) o.contents ≡ with_intent None (with_files (taken_off numbers o.contents.files) o.contents)
 unfolding changed
 unpinned_then numbers o is = ap (λ (b : Bool). committed (b || false) (with_files (taken_off numbers o.contents.files) o.contents)) is
-
-committed_belongs : (text : ℕ → List ℕ) (shelf : ℕ → List Dump) (reels : List Reel) (b : Bool) (c : Contents) → IsQuiet shelf reels c → DiscBelongs text shelf reels c
-    → DiscBelongs text shelf reels (committed b c)
-committed_belongs text shelf reels true c quiet belongs = belongs
-committed_belongs text shelf reels false c quiet belongs = intents_belong.dropped text shelf reels c quiet belongs
 
 off_belongs : (text : ℕ → List ℕ) (shelf : ℕ → List Dump) (reels : List Reel) (told pinned : Bool) (numbers : List ℕ) (c : Contents) → IsQuiet shelf reels c
     → DiscBelongs text shelf reels c → DiscBelongs text shelf reels (changed told pinned (Unload numbers) c)
@@ -174,17 +117,9 @@ keeps_done numbers old new done tied = record {
 }
 
 -- WHERE IT WAS STOPPED the store is spent
-spent_then : (o : OnlineFacts) → o.live ≡ false → not o.live ≡ false → ⊥
-spent_then o dead up = true≢false (sym (ap not dead) ∙ up)
-
 module _ (s : StoreFacts) (new : OnlineFacts) (numbers : List ℕ) (stopped : HasStopped (Unload numbers) s.online new) (tied : IsTied new) (unspent : s.spent ≡ false) where
   pub store_stopped : IsStore (with_online new s)
-  store_stopped = record {
-    tied = tied;
-    live = λ up. absurd (spent_then new stopped.live up);
-    open_dump = λ up. absurd (spent_then new stopped.live up);
-    pins = λ up none. absurd (spent_then new stopped.live up);
-  }
+  store_stopped = spent_store s new stopped.live tied
 
   -- whichever of the two the disc holds, it belongs
   one_belongs : (text : ℕ → List ℕ) (shelf : ℕ → List Dump) (blocks : List (List ℕ)) (c : Contents) → IsUp text shelf s → AfterStop (Unload numbers) s.online blocks → Holds blocks c

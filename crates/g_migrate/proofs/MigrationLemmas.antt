@@ -5,26 +5,26 @@ use Rattle.std.specs.FinMap.{get}
 use Rattle.std.proofs.lemmas.Bool.{eqb-true, or_cases}
 use Rattle.std.proofs.lemmas.List.{get_or-map, length-map}
 use Rattle.std.proofs.lemmas.Option.{same_Some}
-use Rattle.std.proofs.lemmas.List.Elements.{All-cons, All-contains, All-map, All-nil, Contains-get_or}
+use Rattle.std.proofs.lemmas.List.Elements.{All-cons, All-contains, All-nil, Contains-get_or}
 use Rattle.g_disc.specs.Disc.{Causes, DiscState}
 use Rattle.g_disc.proofs.CallLemmas.{Causes-for}
 use Rattle.g_entry.specs.declared.file_rec.FileRec.{FileRec}
 use Rattle.g_entry.specs.declared.file_rec.TapeCopy.{TapeCopy}
 use Rattle.g_entry.specs.declared.user_rec.UserRec.{UserRec}
-use Rattle.g_entry.specs.Rules.{StampsBelow}
 use Rattle.g_plain.specs.declared.faults.StoreFault.{StoreFault}
 use Rattle.g_plain.specs.declared.faults.StoreFault.TheVariants.{NoMemory, NotDumped, Offline, Stopped}
 use Rattle.g_tree.specs.Records.{IsRecords, by_number}
 use Rattle.g_tree.proofs.PutLemmas.{number_found}
-use Rattle.g_contents.specs.Contents.{Contents, File, committed, has, offline_in, recs_in, taken_off}
+use Rattle.g_contents.specs.Contents.{Contents, File, has, taken_off}
 use Rattle.g_contents.specs.Facts.{IsTied, OnlineFacts}
 use Rattle.g_online.specs.declared.change.Change.TheVariants.{Unload}
 use Rattle.g_online.specs.declared.fault.OnlineFault.{OnlineFault}
 use Rattle.g_online.specs.declared.fault.OnlineFault.TheVariants as variants
-use Rattle.g_online.specs.Allowed.{HasNumber, IsAllowed, IsUnjammable, KeepsRules, Lies}
+use Rattle.g_online.specs.Allowed.{HasNumber, IsAllowed, IsUnjammable, KeepsRules}
 use Rattle.g_online.specs.Change.{changed, with_files}
 use Rattle.g_online.specs.Done.{IsApplied}
 use Rattle.g_online.proofs.KeepLemmas.{rules_of}
+use Rattle.g_online.proofs.OffRuleLemmas.{MayGo, committed_rules, off_rules}
 use Rattle.g_migrate.specs.Keeps.{KeepsStore}
 use Rattle.g_migrate.specs.Migrated.{HasMigrated, as_stored, refusal_by, refusal_of}
 use Rattle.g_migrate.proofs.KeepsLemmas.{keeps_done, keeps_same, keeps_stopped}
@@ -33,50 +33,9 @@ use Rattle.g_migrate.proofs.KeepsLemmas.{keeps_done, keeps_same, keeps_stopped}
 pub rules_here : (o : OnlineFacts) → o.live ≡ true → IsTied o → KeepsRules o.contents
 rules_here o live tied = subst KeepsRules (sym (tied.contents live)) (rules_of o.disc.size o.disc.held o.layout.directory (tied.records live) (tied.rules live))
 
--- and without some files, which have a copy on tape
-abbrev MayGo : List ℕ → File → Type 0
-MayGo numbers f = has numbers f.rec.number ≡ true → (is_some f.rec.tape ≡ true) × (f.rec.len ≢ 0)
-
-rec_off : (numbers : List ℕ) (f : File) → (offline_in numbers f).rec ≡ f.rec
-rec_off numbers f = by_case (has numbers f.rec.number)
-  where
-    by_case : (b : Bool) → (let off : File = record f { online = false; bytes = None } in (if b then off else f).rec) ≡ f.rec
-    by_case true = refl
-    by_case false = refl
-
-recs_off : (numbers : List ℕ) (files : List File) → map (λ (f : File). f.rec) (taken_off numbers files) ≡ map (λ (f : File). f.rec) files
-recs_off numbers [] = refl
-recs_off numbers (f ∷ fs) = λ i. rec_off numbers f i ∷ recs_off numbers fs i
-
-lies_off : (numbers : List ℕ) (f : File) → MayGo numbers f → Lies f → Lies (offline_in numbers f)
-lies_off numbers f may lies = by_case (has numbers f.rec.number) may
-  where
-    by_case : (b : Bool) → (b ≡ true → (is_some f.rec.tape ≡ true) × (f.rec.len ≢ 0)) → (let off : File = record f { online = false; bytes = None } in Lies (if b then off else f))
-    by_case true may = record { somewhere = inr (may refl).0; empty = λ none. absurd ((may refl).1 none) }
-    by_case false may = lies
-
-files_rules : (numbers : List ℕ) (c : Contents) → All (MayGo numbers) c.files → KeepsRules c → KeepsRules (with_files (taken_off numbers c.files) c)
-files_rules numbers c may rules =
-    let same : recs_in c ≡ map (λ (f : File). f.rec) (taken_off numbers c.files) = sym (recs_off numbers c.files) in
-    record {
-      head = rules.head;
-      records = subst (IsRecords c.users) same rules.records;
-      dated = subst (StampsBelow c.head.next_stamp) same rules.dated;
-      lie = All-map Lies (offline_in numbers) c.files (λ k d inside. lies_off numbers (get_or c.files k d) (may k d inside) (rules.lie k d inside));
-    }
-
-committed_rules : (b : Bool) (c : Contents) → KeepsRules c → KeepsRules (committed b c)
-committed_rules true c rules = rules
-committed_rules false c rules = record {
-  head = record { least_stamp = rules.head.least_stamp; most_stamp = rules.head.most_stamp; last_dump = rules.head.last_dump; intent = tt };
-  records = rules.records;
-  dated = rules.dated;
-  lie = rules.lie;
-}
-
 rules_off : (told pinned : Bool) (numbers : List ℕ) (c : Contents) → All (MayGo numbers) c.files → KeepsRules c → KeepsRules (changed told pinned (Unload numbers) c)
 unfolding changed
-rules_off told pinned numbers c may rules = committed_rules (pinned || false) (with_files (taken_off numbers c.files) c) (files_rules numbers c may rules)
+rules_off told pinned numbers c may rules = committed_rules (pinned || false) (with_files (taken_off numbers c.files) c) (off_rules numbers c may rules)
 
 -- A FILE THAT ISN'T REFUSED is on the disc and on tape
 granted : (is : Bool) (copy : Option TapeCopy) → None ≡ refusal_by is copy → (is ≡ true) × (is_some copy ≡ true)

@@ -25,12 +25,14 @@ pub mod ForgetLemmas
 pub mod BegunLemmas
 pub mod PoolLemmas
 pub mod OffLemmas
+pub mod OffRuleLemmas
 pub mod UnloadLemmas
 pub mod AdoptLemmas
 pub mod PinLostLemmas
 pub mod PinBlockLemmas
 pub mod CloseNoteLemmas
 pub mod CopiedLemmas
+pub mod FewerLemmas
 pub mod CloseMarkLemmas
 pub mod NotedLemmas
 pub mod CloseLemmas

@@ -395,7 +395,7 @@ module _ (job : Job) (o : OnlineFacts) (old mid : Rack) (live : o.live ≡ true)
         let at : reel r.serial old.reels ≡ Some r = found_itself old.reels r (apart_of old.reels are.rising) there in
         let noted = noted_at r.serial old mid job.lists.items r ready.listed at in
         let told : blocks_at r.serial old ≡ Some blocks = ap blocks_in at ∙ r_blocks in
-        let completed = noted.read.completed blocks told in
+        let completed = noted.found.completed blocks told in
         let empty : noted.dumps ≡ [] = none.none blocks told noted.dumps completed in
         subst (λ (n : ℕ). AreCompleted n blocks []) (sym named) (subst (λ (ds : List Dump). AreCompleted r.serial blocks ds) empty completed)
 

@@ -18,7 +18,7 @@ use Rattle.g_incr.specs.declared.note.DumpNote.{DumpNote}
 use Rattle.g_incr.specs.Layout.{Dump}
 use Rattle.g_shelf.specs.declared.rack.Listed.{Listed}
 use Rattle.g_shelf.specs.Found.{note_of}
-use Rattle.g_shelf.specs.Listed.{AreListed, IsListed}
+use Rattle.g_known.specs.Known.{AreListed, IsListed}
 use Rattle.g_shelf.proofs.OneLemmas.{completed_are_one}
 use Rattle.g_process.specs.Planned.{IsFree, IsTaken}
 use Rattle.g_process.specs.Exits.{IsReadBy}
@@ -49,20 +49,20 @@ not_true : (b : Bool) → not b ≡ true → b ≡ false
 not_true true is = absurd (let no : ⊥ = cc in no)
 not_true false is = refl
 
-list_taken : (serial : ℕ) (old mid : Rack) (l : Listed) → IsListed old mid l → is_taken serial l ≡ true → IsTaken l.serial old × (l.serial ≢ serial)
+list_taken : (serial : ℕ) (old mid : Rack) (l : Listed) → IsListed old l → is_taken serial l ≡ true → IsTaken l.serial old × (l.serial ≢ serial)
 list_taken serial old mid l is taken_is =
     let (apart, some) = both_true (not (l.serial == serial)) (nat_lt 0 (length l.notes)) taken_is in (
       record {
         some = λ blocks told dumps completed none.
-            dumps_there l is.dumps is.notes_are some (completed_are_one l.serial blocks is.dumps dumps (is.read.completed blocks told) completed ∙ none);
+            dumps_there l is.dumps is.notes_are some (completed_are_one l.serial blocks is.dumps dumps (is.found.completed blocks told) completed ∙ none);
       },
       λ same. let e = eq-eqb l.serial serial same in (let f = not_true (l.serial == serial) apart in (let no : ⊥ = cc in no)),
     )
 
-list_free : (serial : ℕ) (old mid : Rack) (l : Listed) → IsListed old mid l → is_taken serial l ≡ false → l.serial ≢ serial → IsFree l.serial old
+list_free : (serial : ℕ) (old mid : Rack) (l : Listed) → IsListed old l → is_taken serial l ≡ false → l.serial ≢ serial → IsFree l.serial old
 list_free serial old mid l is taken_is apart = record {
   none = λ blocks told dumps completed.
-      completed_are_one l.serial blocks dumps is.dumps completed (is.read.completed blocks told) ∙ no_dumps l is.dumps is.notes_are (by_test (nat_lt 0 (length l.notes)) taken_is);
+      completed_are_one l.serial blocks dumps is.dumps completed (is.found.completed blocks told) ∙ no_dumps l is.dumps is.notes_are (by_test (nat_lt 0 (length l.notes)) taken_is);
 }
   where
     by_test : (b : Bool) → (not (l.serial == serial) && b) ≡ false → b ≡ false
@@ -82,21 +82,21 @@ or_cases : (a b : Bool) → (a || b) ≡ true → (a ≡ true) ⊎ (b ≡ true)
 or_cases true b is = inl refl
 or_cases false b is = inr is
 
-pub has_taken : (serial n : ℕ) (old mid : Rack) (ls : List Listed) → All (IsListed old mid) ls → has (taken serial ls) n ≡ true → IsTaken n old × (n ≢ serial)
+pub has_taken : (serial n : ℕ) (old mid : Rack) (ls : List Listed) → All (IsListed old) ls → has (taken serial ls) n ≡ true → IsTaken n old × (n ≢ serial)
 has_taken serial n old mid [] all is = absurd (let no : ⊥ = cc in no)
-has_taken serial n old mid (l ∷ ls) all is = by_test (cases_Bool (is_taken serial l)) (λ it. has_taken serial n old mid ls (All-tail (IsListed old mid) l ls all) it)
+has_taken serial n old mid (l ∷ ls) all is = by_test (cases_Bool (is_taken serial l)) (λ it. has_taken serial n old mid ls (All-tail (IsListed old) l ls all) it)
   where
     by_test : (is_taken serial l ≡ true) ⊎ (is_taken serial l ≡ false) → (has (taken serial ls) n ≡ true → IsTaken n old × (n ≢ serial)) → IsTaken n old × (n ≢ serial)
     by_test (inl yes_is) rest = by_or (eqb_tells l.serial n) (sym (ap (λ (ns : List ℕ). has ns n) (taken_yes serial l ls yes_is)) ∙ is)
       where
         by_or : (((l.serial == n) ≡ true) × (l.serial ≡ n)) ⊎ (((l.serial == n) ≡ false) × (l.serial ≡ n → ⊥)) → ((l.serial == n) || has (taken serial ls) n) ≡ true → IsTaken n old × (n ≢ serial)
-        by_or (inl h) it = subst (λ (m : ℕ). IsTaken m old × (m ≢ serial)) h.1 (list_taken serial old mid l (All-head (IsListed old mid) l ls all) yes_is)
+        by_or (inl h) it = subst (λ (m : ℕ). IsTaken m old × (m ≢ serial)) h.1 (list_taken serial old mid l (All-head (IsListed old) l ls all) yes_is)
         by_or (inr h) it = rest (ap (λ (b : Bool). b || has (taken serial ls) n) (sym h.0) ∙ it)
     by_test (inr no_is) rest = rest (sym (ap (λ (ns : List ℕ). has ns n) (taken_no serial l ls no_is)) ∙ is)
 
-pub has_free : (serial n : ℕ) (old mid : Rack) (ls : List Listed) → All (IsListed old mid) ls → Contains (map (λ (l : Listed). l.serial) ls) n → n ≢ serial → has (taken serial ls) n ≡ false → IsFree n old
+pub has_free : (serial n : ℕ) (old mid : Rack) (ls : List Listed) → All (IsListed old) ls → Contains (map (λ (l : Listed). l.serial) ls) n → n ≢ serial → has (taken serial ls) n ≡ false → IsFree n old
 has_free serial n old mid [] all (i, within, at) apart is = absurd (let no : ⊥ = omega (arith, within) in no)
-has_free serial n old mid (l ∷ ls) all there apart is = by_test (cases_Bool (is_taken serial l)) there (λ it at. has_free serial n old mid ls (All-tail (IsListed old mid) l ls all) at apart it)
+has_free serial n old mid (l ∷ ls) all there apart is = by_test (cases_Bool (is_taken serial l)) there (λ it at. has_free serial n old mid ls (All-tail (IsListed old) l ls all) at apart it)
   where
     by_test : (is_taken serial l ≡ true) ⊎ (is_taken serial l ≡ false) → Contains (map (λ (x : Listed). x.serial) (l ∷ ls)) n
         → (has (taken serial ls) n ≡ false → Contains (map (λ (x : Listed). x.serial) ls) n → IsFree n old) → IsFree n old
@@ -108,7 +108,7 @@ has_free serial n old mid (l ∷ ls) all there apart is = by_test (cases_Bool (i
         by_or (inr h) (zero, within, at) none = absurd (h.1 at)
         by_or (inr h) (suc i, within, at) none = rest (ap (λ (b : Bool). b || has (taken serial ls) n) (sym h.0) ∙ none) (i, omega (arith, within), at)
     by_test (inr no_is) (zero, within, at) rest =
-        subst (λ (m : ℕ). IsFree m old) at (list_free serial old mid l (All-head (IsListed old mid) l ls all) no_is (λ e. apart (sym at ∙ e)))
+        subst (λ (m : ℕ). IsFree m old) at (list_free serial old mid l (All-head (IsListed old) l ls all) no_is (λ e. apart (sym at ∙ e)))
     by_test (inr no_is) (suc i, within, at) rest = rest (sym (ap (λ (ns : List ℕ). has ns n) (taken_no serial l ls no_is)) ∙ is) (i, omega (arith, within), at)
 
 -- a front of the lists has no others
@@ -192,7 +192,7 @@ reels_read serial f old new is = zip_becomes (at_serial serial f) old new (IsRea
       | inr h ↦ inr (same ∙ at_other serial f (unread r) h.1)
     ])
 
-module _ (serial : ℕ) (old mid : Rack) (lists : List Listed) (listed : AreListed old mid lists) where
+module _ (serial : ℕ) (old mid : Rack) (lists : List Listed) (listed : AreListed old lists) where
   abbrev ss : List ℕ
   ss = taken serial lists
 

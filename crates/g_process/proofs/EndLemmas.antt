@@ -12,7 +12,7 @@ use Rattle.g_tape.specs.Reads.{unread}
 use Rattle.g_tape.specs.Reel.{Reel, Remains, Shortened, Torn, Unchanged, ending, left_by}
 use Rattle.g_contents.specs.Contents.{has}
 use Rattle.g_shelf.specs.declared.rack.Listed.{Listed}
-use Rattle.g_shelf.specs.Listed.{AreListed, IsListed}
+use Rattle.g_known.specs.Known.{AreListed, IsListed}
 use Rattle.g_state_laws.proofs.RecordLemmas.{pairs_head, pairs_tail}
 use Rattle.g_process.specs.Exits.{IsBesideDump, IsClearedBy}
 use Rattle.g_process.specs.Planned.{IsFree, IsTaken}
@@ -85,13 +85,13 @@ in_taken serial n (l ∷ ls) is = by_test (cases_Bool (is_taken serial l)) (λ i
     by_test (inr no_is) rest =
         rest (sym (ap (λ (xs : List Listed). has (map (λ (x : Listed). x.serial) xs) n) (cond-false (is_taken serial l) (l ∷ filter (is_taken serial) ls) (filter (is_taken serial) ls) no_is)) ∙ is)
 
-each_front : (old mid : Rack) (i : ℕ) (ls : List Listed) → All (IsListed old mid) ls → All (IsListed old mid) (take i ls)
+each_front : (old mid : Rack) (i : ℕ) (ls : List Listed) → All (IsListed old) ls → All (IsListed old) (take i ls)
 each_front old mid zero ls all = λ k d inside. absurd (let no : ⊥ = omega (arith, inside) in no)
 each_front old mid (suc i) [] all = λ k d inside. absurd (let no : ⊥ = omega (arith, inside) in no)
-each_front old mid (suc i) (l ∷ ls) all = one (each_front old mid i ls (All-tail (IsListed old mid) l ls all))
+each_front old mid (suc i) (l ∷ ls) all = one (each_front old mid i ls (All-tail (IsListed old) l ls all))
   where
-    one : All (IsListed old mid) (take i ls) → All (IsListed old mid) (l ∷ take i ls)
-    one rest zero d inside = All-head (IsListed old mid) l ls all
+    one : All (IsListed old) (take i ls) → All (IsListed old) (l ∷ take i ls)
+    one rest zero d inside = All-head (IsListed old) l ls all
     one rest (suc k) d inside = rest k d (omega (arith, inside))
 
 -- THE REEL that is written, beside the others
@@ -122,7 +122,7 @@ cleared_zip serial until cut F old new is long others = zip_becomes F old new (I
     by_serial r q there same (inl h) = inl (sym h.1, subst (λ (n : ℕ). 0 < n) (sym (ap (λ (x : Reel). x.len) same)) (long (unread r) h.1))
     by_serial r q there same (inr h) = inr ((λ e. h.1 (sym e)), subst (Outcome until cut old r) (sym same) (others r there h.1))
 
-module _ (serial : ℕ) (old mid : Rack) (lists : List Listed) (listed : AreListed old mid lists) (are : AreReels old.reels) where
+module _ (serial : ℕ) (old mid : Rack) (lists : List Listed) (listed : AreListed old lists) (are : AreReels old.reels) where
   rising : AllPairs Below (names lists)
   rising = subst (AllPairs Below) (sym listed.serials) (AllPairs-from_increasing (map (λ (r : Reel). r.serial) old.reels) are.rising)
 

@@ -23,7 +23,7 @@ use Rattle.g_incr.specs.Plan.{IsAway, IsPlan, IsReadyAt, Plan, blocks_of, conten
 use Rattle.g_incr.proofs.PlanLemmas.{length-made}
 use Rattle.g_shelf.specs.Completed.{AreCompleted, AreShelved, all_dumps}
 use Rattle.g_shelf.specs.declared.rack.Listed.{Listed}
-use Rattle.g_shelf.specs.Listed.{AreListed}
+use Rattle.g_known.specs.Known.{AreListed}
 use Rattle.g_shelf.specs.Quiet.{left_in}
 use Rattle.g_shelf.proofs.MarkLemmas.{mark_completes}
 use Rattle.g_state.specs.Answers.{Belongs}
@@ -36,7 +36,7 @@ use Rattle.g_state_process.specs.Releasing.{without_reel}
 use Rattle.g_state_process.proofs.ReleaseLemmas.{one_block_is_none}
 use Rattle.g_dumper.specs.Keeps.{spent_with, up_with}
 use Rattle.g_dumper.proofs.ShelfLemmas.{reel_there, told_is}
-use Rattle.g_dumper.proofs.KeepLemmas.{belongs_spent, belongs_up, devices_belong, without_dump}
+use Rattle.g_dumper.proofs.KeepLemmas.{belongs_spent, belongs_up, without_dump}
 use Rattle.g_contents.proofs.HoldLemmas.{holds_one}
 use Rattle.g_process.specs.Exits.{AreParts, HasReleased, IsClearedBy, IsContentOf, IsLastCut, LacksMark, MayFill, Stops, StopsBefore, StopsCopies, StopsIntent, StopsMark, cleared}
 use Rattle.g_process.specs.Planned.{IsFree, IsTaken, living, process_plan, versions}
@@ -54,6 +54,7 @@ use Rattle.g_process.proofs.ReelLemmas.{filled_long, filled_serial}
 use Rattle.g_process.proofs.ReleaseLemmas.{AreApart}
 use Rattle.g_process.proofs.TextLemmas.{source_part}
 use Rattle.g_process.proofs.WholeLemmas.{none_short}
+use Rattle.g_state_laws.proofs.TiedLemmas.{devices_belong}
 
 -- the plan keeps off its own reel's dumps: no record in it names a copy
 bare_away : (files : List FileRec) (n from to : ℕ) → All (λ (r : FileRec). is_between n from to r.tape ≡ false) (map bare_rec files)
@@ -578,7 +579,7 @@ module _ (serial : ℕ) (o : OnlineFacts) (old mid : Rack) (live : o.live ≡ tr
         }) either
 
         -- BEHIND RELEASES
-        module _ (lists : List Listed) (listed : AreListed old mid lists) (end : StoreFacts) (same : labels end.rack.reels ≡ labels old.reels) (live' : end.online.live ≡ true)
+        module _ (lists : List Listed) (listed : AreListed old lists) (end : StoreFacts) (same : labels end.rack.reels ≡ labels old.reels) (live' : end.online.live ≡ true)
             (contents : end.online.contents ≡ moved_by serial o) (changed : end.online.changed ≡ []) where
           exit_released : (ns : List ℕ) (until : ℕ) (cut : Option ℕ) → AreShelved (without_all ns with_it) (told_reels end.rack) → ((n : ℕ) → has ns n ≡ true → (n < until) × (n ≢ serial))
               → ((r : Reel) → Contains old.reels r → r.serial < until → r.serial ≢ serial → has ns r.serial ≡ false → IsFree r.serial old) → IsLastCut serial until old cut

@@ -25,8 +25,8 @@ use Rattle.g_incr.specs.Plan.{ComesBefore as RecBefore, needs}
 use Rattle.g_shelf.specs.declared.rack.Listed.{Listed}
 use Rattle.g_shelf.specs.Found.{AreInRow, note_of}
 use Rattle.g_shelf.specs.Held.{AreHeld}
-use Rattle.g_shelf.specs.Listed.{AreListed}
-use Rattle.g_shelf.proofs.HeldLemmas.{held_fits}
+use Rattle.g_known.specs.Known.{AreListed}
+use Rattle.g_known.proofs.KnownLemmas.{held_fits}
 use Rattle.g_shelf.proofs.OneLemmas.{completed_are_one}
 use Rattle.g_state_process.specs.Forgotten.{every_user}
 use Rattle.g_dumper.proofs.BeginLemmas.{after_reads}
@@ -72,7 +72,7 @@ told_there serial rack blocks is = by_reel (reel serial rack.reels) is
     by_reel (Some r) some = (r, refl)
 
 -- THE CATALOGUE of the rack as it was
-module _ (serial : ℕ) (o : OnlineFacts) (old now : Rack) (lists : List Listed) (are : AreListed old now lists) where
+module _ (serial : ℕ) (o : OnlineFacts) (old now : Rack) (lists : List Listed) (are : AreListed old lists) where
   -- what is noted there is held there
   pub held_by_list : (f : File) → Contains o.contents.files f → f.online ≡ false → IsThere o lists f.rec → IsHeld old f
   held_by_list f there off is = record {
@@ -82,8 +82,8 @@ module _ (serial : ℕ) (o : OnlineFacts) (old now : Rack) (lists : List Listed)
         let (r, found) = told_there copy.serial old blocks told in
         let dumped = noted_at copy.serial old now lists r are found in
         let held = subst (λ (c : TapeCopy). (ds : List Dump) → notes_at c.serial lists ≡ map note_of ds → AreInRow c.serial 0 0 ds → AreHeld ds c (blocks_for f.rec.len)) same noted in
-        subst (λ (ds : List Dump). AreHeld ds copy (blocks_for f.rec.len)) (completed_are_one copy.serial blocks dumped.dumps dumps (dumped.read.completed blocks told) completed)
-        (held dumped.dumps dumped.notes_are dumped.read.row);
+        subst (λ (ds : List Dump). AreHeld ds copy (blocks_for f.rec.len)) (completed_are_one copy.serial blocks dumped.dumps dumps (dumped.found.completed blocks told) completed)
+        (held dumped.dumps dumped.notes_are dumped.found.row);
   }
 
   -- THE FIRST LOST FILE
@@ -142,8 +142,8 @@ module _ (serial : ℕ) (o : OnlineFacts) (old now : Rack) (lists : List Listed)
             lost = λ blocks told dumps completed held.
                 let (r, found) = told_there lost.copy.serial old blocks told in
                 let dumped = noted_at lost.copy.serial old now lists r are found in
-                let same = completed_are_one lost.copy.serial blocks dumps dumped.dumps completed (dumped.read.completed blocks told) in
-                lost.lost.missing lost.copy lost.tape dumped.dumps dumped.notes_are dumped.read.row
+                let same = completed_are_one lost.copy.serial blocks dumps dumped.dumps completed (dumped.found.completed blocks told) in
+                lost.lost.missing lost.copy lost.tape dumped.dumps dumped.notes_are dumped.found.row
                 (subst (λ (n : ℕ). AreHeld dumped.dumps lost.copy (blocks_for n)) (ap (λ (x : FileRec). x.len) is) (subst (λ (ds : List Dump). AreHeld ds lost.copy (blocks_for f.rec.len)) same held));
             before = λ g in_g off_g comes.
                 let (j, at_j) = contained (living o.contents) g.rec (all_living o.contents g.rec rules.records (rec_there o.contents.files g in_g)) in
@@ -201,8 +201,8 @@ module _ (serial : ℕ) (o : OnlineFacts) (old now : Rack) (lists : List Listed)
               unlisted_none s none = unlisted s lists (λ it. let (q, at) = reel_among s old.reels (subst (λ (ns : List ℕ). Contains ns s) are.serials it) in none-some q (sym none ∙ at))
           by_reel copy tape noted some (Some q) found =
               let dumped = noted_at copy.serial old now lists q are found in
-              let held = noted dumped.dumps dumped.notes_are dumped.read.row in
-              let fits = held_fits copy (blocks_for r.len) dumped.dumps old now dumped.read (filled_blocks r.len some) held q found in
+              let held = noted dumped.dumps dumped.notes_are dumped.found.row in
+              let fits = held_fits copy (blocks_for r.len) dumped.dumps old dumped.found (filled_blocks r.len some) held q found in
               let (p, at, same) = after_reads (reel copy.serial now.reels) (reel copy.serial old.reels) q found (reel_after_reads copy.serial old now only) in (
                 copy,
                 tape,

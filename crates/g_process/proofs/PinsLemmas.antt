@@ -1,5 +1,5 @@
 -- The versions of the dump as if they had been pinned: their blocks are those of its content, and have the texts of the versions.
-use Rattle.std.proofs.Common.{◌≡◌, ℕ, zero, suc, ◌+◌, ◌<◌, ◌==◌, true, false, List, [], ◌∷◌, ◌++◌, drop, length, map, take, Option, Some, None, refl, sym, ◌∙◌, ap, arith, subst, inl, inr, slice_get, get_or}
+use Rattle.std.proofs.Common.{◌≡◌, ℕ, zero, suc, ◌+◌, ◌<◌, ◌==◌, true, false, List, [], ◌∷◌, drop, length, map, take, Option, Some, refl, sym, ◌∙◌, ap, arith, subst, inl, inr, slice_get, get_or}
 use Rattle.std.specs.Prelude.{◌⊎◌, All, Contains}
 use Rattle.std.proofs.lemmas.Bool.{cases_Bool, cond-false, cond-true, eq-eqb}
 use Rattle.std.proofs.lemmas.List.{length-drop, length-take, take-append-drop}
@@ -17,6 +17,7 @@ use Rattle.g_incr.proofs.ListLemmas.{get_drop}
 use Rattle.g_state.specs.Meaning.{joined}
 use Rattle.g_state.specs.Up.{ArePinned, content_in}
 use Rattle.g_state_laws.specs.Dumping.{PinsText}
+use Rattle.g_state_laws.proofs.PinLemmas.{both_told}
 use Rattle.g_state_process.specs.Forgotten.{bare_rec}
 use Rattle.g_process.specs.Exits.{AreParts}
 use Rattle.g_process.specs.Planned.{copies_from}
@@ -49,10 +50,6 @@ are_pinned serial at (r ∷ rs) content long =
       (λ blocks is. ap (λ (bs : List (List ℕ)). length bs) (sym (same_Some (take (blocks_for r.len) content) blocks is)) ∙ parts.0),
       are_pinned serial (at + blocks_for r.len) rs (drop (blocks_for r.len) content) parts.1,
     )
-
-abbrev both_told : Option (List (List ℕ)) → Option (List (List ℕ)) → Option (List (List ℕ))
-both_told (Some a) (Some b) = Some (a ++ b)
-both_told a b = None
 
 pub content_pins : (serial at : ℕ) (rs : List FileRec) (content : List (List ℕ)) → length content ≡ blocks_of rs → content_in (pins_of serial at rs content) ≡ Some content
 content_pins serial at [] [] long = refl

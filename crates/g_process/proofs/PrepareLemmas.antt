@@ -18,7 +18,7 @@ use Rattle.g_tree.specs.Records.{full_of}
 use Rattle.g_contents.specs.Facts.{IsTied, OnlineFacts}
 use Rattle.g_incr.specs.Plan.{IsPlan, Plan, first_content, needs}
 use Rattle.g_shelf.specs.declared.rack.Listed.{Listed}
-use Rattle.g_shelf.specs.Listed.{AreListed}
+use Rattle.g_known.specs.Known.{AreListed}
 use Rattle.g_online.specs.Ready.{IsReadyFor}
 use Rattle.g_dumper.specs.Beginning.{intent_of}
 use Rattle.g_dumper.proofs.BeginLemmas.{after_reads, reel_named}
@@ -88,7 +88,7 @@ module _ (serial : ℕ) (o : OnlineFacts) (old now : Rack) (lists : List Listed)
           serial_is = made.serial_is;
           plan = plan;
           versions_are = made.versions_are;
-          listed = subst (AreListed old now) (sym made.lists_are) was.listed;
+          listed = subst (AreListed old) (sym made.lists_are) was.listed;
           free = ap (notes_at serial) made.lists_are ∙ none;
           kept = was.kept;
           may = record {

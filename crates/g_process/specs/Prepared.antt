@@ -17,7 +17,7 @@ use Rattle.g_online.specs.declared.fault.OnlineFault.TheVariants as online
 use Rattle.g_online.specs.Ready.{IsAdopting, IsReadyFor}
 use Rattle.g_incr.specs.Plan.{IsPlan, Plan, first_content, needs}
 use Rattle.g_shelf.specs.declared.rack.Listed.{Listed}
-use Rattle.g_shelf.specs.Listed.{AreListed}
+use Rattle.g_known.specs.Known.{AreListed}
 use Rattle.g_dumper.specs.Beginning.{intent_of}
 use Rattle.g_dumper.specs.Keeps.{up_with}
 use Rattle.g_process.specs.declared.job.Job.{Job}
@@ -51,7 +51,7 @@ pub record IsPrepared (serial : ℕ) (o : OnlineFacts) (old new : Rack) (job : J
   pub serial_is : job.serial ≡ serial
   pub plan : job.writer ≡ process_plan serial o
   pub versions_are : job.versions.items ≡ versions o.contents
-  pub listed : AreListed old new job.lists.items
+  pub listed : AreListed old job.lists.items
   pub free : notes_at serial job.lists.items ≡ []
   pub kept : new.read_faults ≡ old.read_faults
   pub may : MayCarry o new job
@@ -62,7 +62,7 @@ pub record IsCatalogued (serial : ℕ) (o : OnlineFacts) (old new : Rack) (lists
   pub reels : AreReels old.reels
   pub only : OnlyReads old new
   pub kept : new.read_faults ≡ old.read_faults
-  pub listed : AreListed old new lists
+  pub listed : AreListed old lists
 
 -- what of it is in memory alone
 pub record IsJob (serial : ℕ) (o : OnlineFacts) (writer : Plan) (lists : List Listed) (job : Job) : Type 0 where

@@ -12,9 +12,10 @@ use crate::write::write_blocks;
 use g_disc::Disc;
 use g_dumper::LAST_NUMBER;
 use g_entry::Intent;
+use g_known::{KnownReels, catalogue};
 use g_online::Online;
 use g_plain::StoreFault;
-use g_shelf::{catalogue, first_unmounted};
+use g_shelf::first_unmounted;
 use g_tape::Tapes;
 use std::alloc::Global;
 
@@ -31,7 +32,7 @@ use std::alloc::Global;
 pub fn process<D: Disc, T: Tapes>(
     alloc: Global,
     online: &mut Online<D>,
-    tapes: &mut T,
+    tapes: &mut KnownReels<T>,
     serial: u32,
 ) -> Result<u64, StoreFault>
     requires live { online.old.live ≡ true }
@@ -50,7 +51,7 @@ pub fn process<D: Disc, T: Tapes>(
 fn prepared<D: Disc, T: Tapes>(
     alloc: Global,
     online: &Online<D>,
-    tapes: &mut T,
+    tapes: &mut KnownReels<T>,
     serial: u32,
 ) -> Result<Job, StoreFault>
     requires live { online.now.live ≡ true }

@@ -1,7 +1,6 @@
 //! The directory that dumps give together.
-ghost use Rattle.std.specs.Prelude.{◌≡◌, ◌<◌, All, IfErr, IfOk, List, [], length};
+ghost use Rattle.std.specs.Prelude.{◌≡◌, All, IfErr, IfOk, List, []};
 ghost use Rattle.g_incr.specs.Layout.{Dump};
-ghost use Rattle.g_tree.specs.Records.{full_of};
 ghost use Rattle.g_restore.specs.Known.{AreKnown};
 ghost use Rattle.g_restore.specs.Gathered.{HasFew};
 ghost use Rattle.g_restore.specs.Lost.{AreApart, NamesLost};
@@ -12,8 +11,8 @@ use crate::gather::{gather, greatest};
 use crate::places::first_lost;
 use g_entry::{FileRec, UserRec};
 use g_incr::copied_users;
-use g_name::Full;
 use g_plain::StoreFault;
+use g_tree::full_of;
 use std::alloc::Global;
 
 /// The users and the next stamp of the last dump, its number, and the files of all users.
@@ -58,18 +57,5 @@ pub fn fold(alloc: Global, found: &[Found]) -> Result<Dumped, StoreFault>
             }),
             Err(_) => Err(StoreFault::NoMemory),
         },
-    }
-}
-
-/// The full name of a file whose owner is there.
-fn full_of(users: &[UserRec], file: &FileRec) -> Full
-    requires { file.now.owner < length users.now }
-    ensures { result ≡ full_of users.now file.now }
-{
-    Full {
-        user: users[file.owner as usize].user.copy(),
-        local: file.local.copy(),
-        generation: file.generation,
-        lang: file.lang.copy(),
     }
 }

@@ -7,16 +7,16 @@ use Rattle.std.proofs.lemmas.List.Sums.{sum_by-cons}
 use Rattle.g_base.specs.Block.{blocks_for}
 use Rattle.g_entry.specs.declared.file_rec.FileRec.{FileRec}
 use Rattle.g_entry.specs.declared.file_rec.TapeCopy.{TapeCopy}
-use Rattle.g_entry.specs.Rules.{StampsBelow}
 use Rattle.g_tree.specs.Records.{IsRecords}
 use Rattle.g_tree.proofs.RuleLemmas.{one_of_key}
-use Rattle.g_contents.specs.Contents.{Contents, File, brought, committed, has, offline_in, online_with, recs_in, taken_off}
+use Rattle.g_contents.specs.Contents.{Contents, File, brought, has, offline_in, online_with, recs_in, taken_off}
 use Rattle.g_contents.specs.Facts.{IsTied, OnlineFacts, Pin, is_current, online_blocks, pinned_blocks, room_with}
 use Rattle.g_online.specs.declared.change.Change.TheVariants.{Bring}
 use Rattle.g_online.specs.Allowed.{IsAllowed, IsUnjammable, KeepsRules, Lies}
 use Rattle.g_online.specs.Change.{changed, told_bytes, with_files}
 use Rattle.g_online.specs.Room.{FitsDisc}
 use Rattle.g_online.proofs.KeepLemmas.{rules_of}
+use Rattle.g_online.proofs.OffRuleLemmas.{MayGo, committed_rules, off_rules, same_recs, rec_off}
 use Rattle.g_state_steps.specs.Unjam.{IsUnjamPlan, is_candidate, is_taken}
 use Rattle.g_state_steps.proofs.UnjamLemmas.{any_found, numbers_apart}
 use Rattle.g_state_steps.proofs.UserLemmas.{any_there}
@@ -48,18 +48,6 @@ away_filled o number f c live tied away =
     let some : f.rec.len ≢ 0 = λ none. true≢false (sym (lies.empty none) ∙ away.offline) in
     omega (arith, some)
 
--- RECORDS stay where files are taken off the disc or brought back
-pub rec_off : (numbers : List ℕ) (f : File) → (offline_in numbers f).rec ≡ f.rec
-rec_off numbers f = by_case (has numbers f.rec.number)
-  where
-    by_case : (b : Bool) → (let off : File = record f { online = false; bytes = None } in (if b then off else f).rec) ≡ f.rec
-    by_case true = refl
-    by_case false = refl
-
-recs_off : (numbers : List ℕ) (files : List File) → map (λ (f : File). f.rec) (taken_off numbers files) ≡ map (λ (f : File). f.rec) files
-recs_off numbers [] = refl
-recs_off numbers (f ∷ fs) = λ i. rec_off numbers f i ∷ recs_off numbers fs i
-
 rec_back : (number : ℕ) (bytes : Option (List ℕ)) (f : File) → (online_with number bytes f).rec ≡ f.rec
 rec_back number bytes f = by_case (f.rec.number == number)
   where
@@ -70,31 +58,6 @@ rec_back number bytes f = by_case (f.rec.number == number)
 recs_back : (number : ℕ) (bytes : Option (List ℕ)) (files : List File) → map (λ (f : File). f.rec) (brought number bytes files) ≡ map (λ (f : File). f.rec) files
 recs_back number bytes [] = refl
 recs_back number bytes (f ∷ fs) = λ i. rec_back number bytes f i ∷ recs_back number bytes fs i
-
--- THE RULES stay: other files with the same records, each of them somewhere
-same_recs : (c : Contents) (files : List File) → map (λ (f : File). f.rec) files ≡ recs_in c → All Lies files → KeepsRules c → KeepsRules (with_files files c)
-same_recs c files same lie rules = record {
-  head = rules.head;
-  records = subst (IsRecords c.users) (sym same) rules.records;
-  dated = subst (StampsBelow c.head.next_stamp) (sym same) rules.dated;
-  lie = lie;
-}
-
--- a file that is taken off has a copy on tape, and isn't empty
-abbrev MayGo : List ℕ → File → Type 0
-MayGo numbers f = has numbers f.rec.number ≡ true → (is_some f.rec.tape ≡ true) × (f.rec.len ≢ 0)
-
-lies_off : (numbers : List ℕ) (f : File) → MayGo numbers f → Lies f → Lies (offline_in numbers f)
-lies_off numbers f may lies = by_case (has numbers f.rec.number) may
-  where
-    by_case : (b : Bool) → (b ≡ true → (is_some f.rec.tape ≡ true) × (f.rec.len ≢ 0)) → (let off : File = record f { online = false; bytes = None } in Lies (if b then off else f))
-    by_case true may = record { somewhere = inr (may refl).0; empty = λ none. absurd ((may refl).1 none) }
-    by_case false may = lies
-
-off_rules : (numbers : List ℕ) (c : Contents) → All (MayGo numbers) c.files → KeepsRules c → KeepsRules (with_files (taken_off numbers c.files) c)
-off_rules numbers c may rules =
-    same_recs c (taken_off numbers c.files) (recs_off numbers c.files)
-    (All-map Lies (offline_in numbers) c.files (λ k d inside. lies_off numbers (get_or c.files k d) (may k d inside) (rules.lie k d inside))) rules
 
 lies_back : (number : ℕ) (bytes : Option (List ℕ)) (f : File) → Lies f → Lies (online_with number bytes f)
 lies_back number bytes f lies = by_case (f.rec.number == number)
@@ -107,15 +70,6 @@ back_rules : (number : ℕ) (bytes : Option (List ℕ)) (c : Contents) → Keeps
 back_rules number bytes c rules =
     same_recs c (brought number bytes c.files) (recs_back number bytes c.files)
     (All-map Lies (online_with number bytes) c.files (λ k d inside. lies_back number bytes (get_or c.files k d) (rules.lie k d inside))) rules
-
-committed_rules : (b : Bool) (c : Contents) → KeepsRules c → KeepsRules (committed b c)
-committed_rules true c rules = rules
-committed_rules false c rules = record {
-  head = record { least_stamp = rules.head.least_stamp; most_stamp = rules.head.most_stamp; last_dump = rules.head.last_dump; intent = tt };
-  records = rules.records;
-  dated = rules.dated;
-  lie = rules.lie;
-}
 
 rules_then : (told pinned : Bool) (number : ℕ) (text numbers : List ℕ) (c : Contents) → All (MayGo numbers) c.files → KeepsRules c → KeepsRules (changed told pinned (Bring number text numbers) c)
 unfolding changed

@@ -11,7 +11,6 @@ use Rattle.g_tape.specs.Rack.{Rack}
 use Rattle.g_tape.specs.Reads.{blocks_of}
 use Rattle.g_incr.specs.Layout.{Dump, StandsOn, content_at, dump_blocks, ends, file_in, header_block, mark_block, size_of, user_in}
 use Rattle.g_shelf.specs.Completed.{AreCompleted, AreNext}
-use Rattle.g_shelf.specs.Found.{AreRead}
 use Rattle.g_shelf.specs.Held.{AreHeld}
 use Rattle.g_shelf.proofs.HeldLemmas.{held_in_one}
 use Rattle.g_shelf.proofs.OneLemmas.{completed_are_one}
@@ -106,17 +105,17 @@ content_held dumps copy len text long is k below =
     record { dump = is.dump; there = is.there; on = is.reel; from = omega (arith, from); to = omega (arith, to, below) }
 
 -- WHAT WAS FOUND OUT of the reel's dumps
-pub some_text : (copy : TapeCopy) (len : ℕ) (text : List ℕ) (ds : List Dump) (old new : Rack) → AreRead copy.serial ds old new → AreHeld ds copy (blocks_for len) → length text ≡ len
+pub some_text : (copy : TapeCopy) (len : ℕ) (text : List ℕ) (ds : List Dump) (old : Rack) → ForSome (blocks_of copy.serial old) (λ bs. AreCompleted copy.serial bs ds) → AreHeld ds copy (blocks_for len) → length text ≡ len
     → ForSome (blocks_of copy.serial old) (λ bs. text ≡ take len (joined (take (blocks_for len) (drop copy.first bs))))
     → ForSome (blocks_of copy.serial old) (λ bs. (dumps : List Dump) → AreCompleted copy.serial bs dumps → 0 < len → IsContent dumps copy text)
-some_text copy len text ds old new read held long text_is bs told dumps are some =
-    let same = completed_are_one copy.serial bs ds dumps (read.completed bs told) are in
-    subst (λ (es : List Dump). IsContent es copy text) same (is_content bs ds copy len text (read.completed bs told) some held long (text_is bs told))
+some_text copy len text ds old completed held long text_is bs told dumps are some =
+    let same = completed_are_one copy.serial bs ds dumps (completed bs told) are in
+    subst (λ (es : List Dump). IsContent es copy text) same (is_content bs ds copy len text (completed bs told) some held long (text_is bs told))
 
-pub no_text : (copy : TapeCopy) (len : ℕ) (ds : List Dump) (old new : Rack) → AreRead copy.serial ds old new → (AreHeld ds copy (blocks_for len) → ⊥)
+pub no_text : (copy : TapeCopy) (len : ℕ) (ds : List Dump) (old : Rack) → ForSome (blocks_of copy.serial old) (λ bs. AreCompleted copy.serial bs ds) → (AreHeld ds copy (blocks_for len) → ⊥)
     → ForSome (blocks_of copy.serial old) (λ bs. (dumps : List Dump) → AreCompleted copy.serial bs dumps → (text : List ℕ) → length text ≡ len → IsContent dumps copy text → ⊥)
-no_text copy len ds old new read none bs told dumps are text long is =
-    let same = completed_are_one copy.serial bs dumps ds are (read.completed bs told) in
+no_text copy len ds old completed none bs told dumps are text long is =
+    let same = completed_are_one copy.serial bs dumps ds are (completed bs told) in
     none (content_held ds copy len text long (subst (λ (es : List Dump). IsContent es copy text) same is))
 
 -- a copy that isn't held has bytes

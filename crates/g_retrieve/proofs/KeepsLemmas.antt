@@ -1,5 +1,5 @@
 -- A store keeps what it keeps where its rack is read and a file is brought back.
-use Rattle.std.proofs.Common.{◌≡◌, ℕ, ◌<◌, Bool, true, false, List, [], ◌∷◌, map, get_or, Option, Some, None, is_some, refl, sym, ◌∙◌, ap, subst, arith, inl, inr, if◌then◌else◌, true≢false}
+use Rattle.std.proofs.Common.{◌≡◌, ℕ, ◌<◌, Bool, true, false, List, [], ◌∷◌, map, get_or, Option, Some, None, is_some, refl, sym, ◌∙◌, ap, subst, arith, inl, inr, if◌then◌else◌}
 use Rattle.std.specs.Prelude.{◌⊎◌, ◌||◌, All, IfSome, length, not, option_map}
 use Rattle.std.specs.Option.{ForSome}
 use Rattle.std.proofs.lemmas.List.Elements.{All-map, Contains-get_or}
@@ -10,29 +10,30 @@ use Rattle.g_tape.specs.Reads.{OnlyReads, unread}
 use Rattle.g_tape.specs.Reel.{Reel}
 use Rattle.g_tape.proofs.ReadLemmas.{reel_after_reads}
 use Rattle.g_tree.proofs.RuleLemmas.{one_of_key}
-use Rattle.g_contents.specs.Contents.{Contents, File, Holds, brought, committed, contents_of, offline_in, taken_off, with_intent}
-use Rattle.g_contents.specs.Facts.{IsTied, OnlineFacts, Pin}
+use Rattle.g_contents.specs.Contents.{Contents, File, Holds, brought, committed, offline_in, taken_off, with_intent}
+use Rattle.g_contents.specs.Facts.{IsTied, OnlineFacts}
 use Rattle.g_contents.proofs.HoldLemmas.{holds_one}
 use Rattle.g_online.specs.declared.change.Change.TheVariants.{Bring}
 use Rattle.g_online.specs.Change.{changed, told_bytes, unjammed, with_files}
 use Rattle.g_online.specs.Done.{AfterStop, HasChanged, HasStopped}
+use Rattle.g_online.proofs.OffRuleLemmas.{rec_off}
 use Rattle.g_incr.specs.Layout.{Dump, holds}
-use Rattle.g_incr.specs.Plan.{dump_of}
-use Rattle.g_shelf.specs.Completed.{AreShelved, all_dumps}
+use Rattle.g_shelf.specs.Completed.{AreShelved}
 use Rattle.g_state.specs.Answers.{Belongs, IsStore, Told}
-use Rattle.g_state.specs.Belong.{BelongWith, DiscBelongs, RackBelongs}
+use Rattle.g_state.specs.Belong.{BelongWith, DiscBelongs}
 use Rattle.g_state.specs.Laws.{BringsText, IsQuiet}
 use Rattle.g_state.specs.Meaning.{told_reels}
 use Rattle.g_state.specs.Reading.{ReelsTold}
 use Rattle.g_state.specs.Staying.{OnlyGrow, behind}
-use Rattle.g_state.specs.Up.{DumpFacts, IsOpen, IsReady, IsUp, StoreFacts, content_in}
-use Rattle.g_state.proofs.ChangeLemmas.{files_belong, intents_belong}
+use Rattle.g_state.specs.Up.{DumpFacts, IsOpen, IsUp, StoreFacts}
+use Rattle.g_state.proofs.ChangeLemmas.{files_belong}
 use Rattle.g_state.proofs.StayLemmas.{stays_open, stays_up}
 use Rattle.g_state_laws.proofs.DumpingLemmas.{events_stay_up}
+use Rattle.g_state_laws.proofs.TiedLemmas.{committed_belongs, devices_belong, moved, spent_store, spent_then}
 use Rattle.g_state_steps.proofs.UnjamLemmas.{numbers_apart}
 use Rattle.g_retrieve.specs.Brought.{HasCopied, IsOnTape}
 use Rattle.g_retrieve.specs.Keeps.{IsOver, KeepsDevices}
-use Rattle.g_retrieve.proofs.AllowLemmas.{rec_off, rules_here}
+use Rattle.g_retrieve.proofs.AllowLemmas.{rules_here}
 use Rattle.g_retrieve.proofs.HeldLemmas.{copied_one, text_is}
 
 -- ONLY READS of the rack
@@ -97,59 +98,8 @@ module _ (s : StoreFacts) (after : Rack) (only : OnlyReads s.rack after) where
         (text, shelf, subst (AreShelved shelf) (sym only.reels) shelved, events_stay_up.reels text shelf s after same_reels up);
   }
 
--- WHAT THE DISC HOLDS is what memory says
 abbrev with_online : OnlineFacts → StoreFacts → StoreFacts
 with_online o s = record s { online = o; spent = not o.live }
-
-holds_now : (o : OnlineFacts) → IsTied o → o.live ≡ true → (blocks : List (List ℕ)) → o.disc.held ≡ Some blocks → Holds blocks o.contents
-holds_now o tied live blocks held = record {
-  directory = o.layout.directory;
-  stands = tied.stands live blocks held;
-  are = tied.contents live ∙ ap (λ (h : Option (List (List ℕ))). contents_of h o.layout.directory) held;
-}
-
--- so disc and rack belong together where memory and rack do
-devices_belong : (text : ℕ → List ℕ) (shelf : ℕ → List Dump) (reels : List Reel) (o : OnlineFacts) → IsTied o → o.live ≡ true → AreShelved shelf reels
-    → RackBelongs text (all_dumps shelf reels) → DiscBelongs text shelf reels o.contents → BelongWith o.disc.held reels
-devices_belong text shelf reels o tied live shelved rack belongs = record {
-  text = text;
-  shelf = shelf;
-  shelved = shelved;
-  rack = rack;
-  disc = λ blocks c held holds. subst (DiscBelongs text shelf reels) (holds_one blocks o.contents c (holds_now o tied live blocks held) holds) belongs;
-}
-
--- WHAT A STORE THAT IS UP KEEPS goes by contents, pins and the users who are marked alone
-abbrev ReadyOn : (ℕ → List ℕ) → (ℕ → List Dump) → List Reel → OnlineFacts → Option DumpFacts → Type 0
-ReadyOn text shelf reels o dump =
-    IfSome dump (λ d. (pins : List Pin) → o.pins ≡ Some pins → ForSome (content_in pins) (λ content. IsReady text shelf reels o (dump_of d.plan content)))
-
-abbrev in_parts : OnlineFacts → OnlineFacts → OnlineFacts
-in_parts o new = record o { contents = new.contents; pins = new.pins; changed = new.changed; touched = new.touched }
-
-ready_again : (text : ℕ → List ℕ) (shelf : ℕ → List Dump) (reels : List Reel) (o new : OnlineFacts) (d : Dump) → IsReady text shelf reels (in_parts o new) d → IsReady text shelf reels new d
-ready_again text shelf reels o new d is = record { rules = is.rules; rack = is.rack; disc = is.disc; opening = record { each = is.opening.each } }
-
-open_again : (text : ℕ → List ℕ) (shelf : ℕ → List Dump) (reels : List Reel) (o new : OnlineFacts) (dump : Option DumpFacts)
-    → ReadyOn text shelf reels (in_parts o new) dump → ReadyOn text shelf reels new dump
-open_again text shelf reels o new None is = tt
-open_again text shelf reels o new (Some d) is = λ pins pinned content told. ready_again text shelf reels o new (dump_of d.plan content) (is pins pinned content told)
-
-abbrev parts : StoreFacts → OnlineFacts → Contents → Option (List Pin) → StoreFacts
-parts s new c pins = record s { online = record s.online { contents = c; pins = pins; changed = new.changed; touched = new.touched } }
-
-moved : (text : ℕ → List ℕ) (shelf : ℕ → List Dump) (s : StoreFacts) (new : OnlineFacts) (e : Contents) → new.contents ≡ e → new.pins ≡ s.online.pins
-    → IsUp text shelf (behind s e new.changed new.touched) → IsUp text shelf (with_online new s)
-moved text shelf s new e contents pins was =
-    let one : IsUp text shelf (parts s new new.contents s.online.pins) = subst (λ (c : Contents). IsUp text shelf (parts s new c s.online.pins)) (sym contents) was in
-    let two : IsUp text shelf (parts s new new.contents new.pins) = subst (λ (p : Option (List Pin)). IsUp text shelf (parts s new new.contents p)) (sym pins) one in
-    record {
-      rack = two.rack;
-      disc = two.disc;
-      quiet = two.quiet;
-      directories = record { each = two.directories.each; none = two.directories.none };
-      open_dump = open_again text shelf (told_reels s.rack) s.online new s.dump two.open_dump;
-    }
 
 -- THE CONTENTS behind the change, and between its commits
 abbrev off : List ℕ → Contents → Contents
@@ -161,11 +111,6 @@ back told number text take c = with_files (brought number (told_bytes told text)
 changed_is : (told pinned : Bool) (number : ℕ) (text take : List ℕ) (c : Contents) → changed told pinned (Bring number text take) c ≡ committed (pinned || false) (back told number text take c)
 unfolding changed
 changed_is told pinned number text take c = refl
-
-committed_belongs : (text : ℕ → List ℕ) (shelf : ℕ → List Dump) (reels : List Reel) (b : Bool) (c : Contents) → IsQuiet shelf reels c → DiscBelongs text shelf reels c
-    → DiscBelongs text shelf reels (committed b c)
-committed_belongs text shelf reels true c quiet belongs = belongs
-committed_belongs text shelf reels false c quiet belongs = intents_belong.dropped text shelf reels c quiet belongs
 
 -- each record of the file's number has the text of its stamp
 brings_off : (text : ℕ → List ℕ) (number : ℕ) (bytes : Option (List ℕ)) (take : List ℕ) (files : List File) → All (BringsText text number bytes) files → All (BringsText text number bytes) (taken_off take files)
@@ -277,17 +222,9 @@ module _ (s : StoreFacts) (new : OnlineFacts) (number : ℕ) (bytes take : List 
       }
 
 -- WHERE IT WAS STOPPED the store is spent
-spent_then : (o : OnlineFacts) → o.live ≡ false → not o.live ≡ false → ⊥
-spent_then o dead up = true≢false (sym (ap not dead) ∙ up)
-
 module _ (s : StoreFacts) (new : OnlineFacts) (number : ℕ) (bytes take : List ℕ) (stopped : HasStopped (Bring number bytes take) s.online new) (tied : IsTied new) where
   store_stopped : IsStore (with_online new s)
-  store_stopped = record {
-    tied = tied;
-    live = λ up. absurd (spent_then new stopped.live up);
-    open_dump = λ up. absurd (spent_then new stopped.live up);
-    pins = λ up none. absurd (spent_then new stopped.live up);
-  }
+  store_stopped = spent_store s new stopped.live tied
 
   -- whichever of the three the disc holds, it belongs
   one_belongs : (text : ℕ → List ℕ) (shelf : ℕ → List Dump) (blocks : List (List ℕ)) (c : Contents) → IsUp text shelf s

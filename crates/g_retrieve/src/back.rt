@@ -14,10 +14,11 @@ ghost use Rattle.g_state_steps.specs.Unjam.{IsUnjamPlan};
 ghost use Rattle.g_retrieve.specs.Brought.{HasBroughtBack, HasReadCopy, IsOnTape, IsPutBack, as_read};
 ghost use Rattle.g_retrieve.specs.Keeps.{HasLostCopy, KeepsDevices};
 
-use crate::bytes::tape_bytes;
+use crate::bytes::known_bytes;
 use g_disc::Disc;
 use g_entry::{FileRec, TapeCopy};
 use g_incr::ShelfFault;
+use g_known::KnownReels;
 use g_name::Text;
 use g_online::{Change, Online, Unjam};
 use g_plain::StoreFault;
@@ -26,16 +27,17 @@ use g_tree::Tree;
 use std::alloc::Global;
 
 /// Brings the file of this number, whose bytes are on tape alone, back to the disc (docs/DEFINITIONS.md), and gives these
-/// bytes: its reel's catalogue is read and each block of its copy, then other files are taken off the disc by the plan, and
-/// the bytes are put there. `WaitTape`: its reel isn't mounted, and nothing was read. `TapeReadFault`: a read failed.
-/// `NoCopy`: the completed dumps of the reel don't hold the copy's place. `DiscFull`: the bytes need more blocks than the
-/// plan's room. Behind these four, in this order, and behind `NoMemory`, the disc and all of memory are as they were.
+/// bytes: each block of its copy is read, and of its reel's catalogue what isn't known yet, then other files are taken off
+/// the disc by the plan, and the bytes are put there. `WaitTape`: its reel isn't mounted, and nothing was read.
+/// `TapeReadFault`: a read failed. `NoCopy`: the completed dumps of the reel don't hold the copy's place. `DiscFull`: the
+/// bytes need more blocks than the plan's room. Behind these four, in this order, and behind `NoMemory`, the disc and all of
+/// memory are as they were.
 /// `Stopped`: a write of the disc failed; it holds what it held, or that without the files of the plan, or with the file
 /// too, and takes no further call.
 pub fn bring_back<D: Disc, T: Tapes>(
     alloc: Global,
     online: &mut Online<D>,
-    tapes: &mut T,
+    tapes: &mut KnownReels<T>,
     number: u16,
     unjam: &Unjam,
 ) -> Result<Text, StoreFault>
@@ -91,7 +93,7 @@ pub fn file_of(tree: &Tree, number: u16) -> FileRec
 /// completed dumps of the reel don't hold the copy's place. `NoMemory`. The reel is as it was.
 pub fn read_copy<T: Tapes>(
     alloc: Global,
-    tapes: &mut T,
+    tapes: &mut KnownReels<T>,
     tree: &Tree,
     number: u16,
     copy: &TapeCopy,
@@ -103,7 +105,7 @@ pub fn read_copy<T: Tapes>(
     ensures { HasReadCopy (name_of_file tree.now.users tree.now.files number) copy.now len
         (T.rack tapes.old) (T.rack tapes.new) result }
 {
-    match tape_bytes(alloc, tapes, copy, len) {
+    match known_bytes(alloc, tapes, copy, len) {
         Ok(Some(text)) => Ok(text),
         Ok(None) => Err(lost(tree, number, copy.serial)),
         Err(fault) => Err(read_fault(fault, copy.serial)),

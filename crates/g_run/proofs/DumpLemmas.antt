@@ -33,14 +33,15 @@ use Rattle.g_crew.specs.Numbers.{AreOpen}
 use Rattle.g_console.specs.declared.progress.Failure.{Failure}
 use Rattle.g_console.specs.Parts.{IsReady, Matches, seen}
 use Rattle.g_console.specs.Puts.{Puts, PutsBy}
-use Rattle.g_console.specs.System.{Down, IsNow, StandsAs, SystemFacts, Up, devices_in, labels}
+use Rattle.g_console.specs.System.{Down, IsNow, SameDevices, StandsAs, SystemFacts, Up, devices_in, labels}
 use Rattle.g_console.specs.Telling.{TellsFault, system_after, without_jobs}
 use Rattle.g_console.proofs.UpLemmas.{not_spent}
 use Rattle.g_run.specs.Tick.{DidDump, DumpGoes, Falls, KeepsRun, StepsTo, has_dump, phase_behind, share_in}
 use Rattle.g_run.proofs.RackLemmas.{SameMounted, ending_mounts, failing_mounts, shares_still}
 use Rattle.g_run.proofs.SteppingLemmas.{stepping_counted}
 use Rattle.g_console.proofs.GrowLemmas.{grow_itself, grow_stepped}
-use Rattle.g_console.proofs.LabelLemmas.{labels_with, same_itself}
+use Rattle.g_base.proofs.CountLemmas.{Rose-later}
+use Rattle.g_console.proofs.LabelLemmas.{labels_with, same_itself, same_still, stands_still}
 
 -- a step never wants memory
 steps_lead : (answer : Result Stepped StoreFault) (s : State) (old new : StoreFacts) (dump after : DumpFacts) → Stepping dump old.online old.rack answer after new.online new.rack
@@ -116,16 +117,34 @@ module _ (d e : DumpFacts) (o p : OnlineFacts) (r t : Rack) where
   wrote_same : WroteBlock d o.pins r t → labels t.reels ≡ labels r.reels
   wrote_same wrote = ap (λ (x : Rack). labels x.reels) wrote.rack ∙ labels_with d.plan.serial (ending (d.plan.place + d.done) wrote.block) (λ q. refl) (λ q. refl) r.reels
 
-  step_same : (answer : Result Stepped StoreFault) → Stepping d o r answer e p t → (p.disc.size ≡ o.disc.size) × (labels t.reels ≡ labels r.reels)
-  step_same (Ok Going) (more, dump, is, wrote) = (ap (λ (x : OnlineFacts). x.disc.size) is, wrote_same wrote)
-  step_same (Ok (Completed n)) (last, number, plan, wrote, closing) = (closing.causes.size, wrote_same wrote)
-  step_same (Err DiscReadFault) (dump, is, gone) = (ap (λ (x : OnlineFacts). x.disc.size) gone.facts, ap (λ (x : Rack). labels x.reels) is)
-  step_same (Err Stopped) (plan, inl (failed, is)) = (
-    ap (λ (x : OnlineFacts). x.disc.size) is,
-    ap (λ (x : Rack). labels x.reels) failed.rack
-        ∙ labels_with d.plan.serial (left_by failed.how (d.plan.place + d.done)) (left_named failed.how (d.plan.place + d.done)) (left_holds failed.how (d.plan.place + d.done)) r.reels,
-  )
-  step_same (Err Stopped) (plan, inr (last, wrote, closing)) = (closing.causes.size, wrote_same wrote)
+  abbrev was : Devices
+  was = record { disc = o.disc; rack = r }
+
+  abbrev now : Devices
+  now = record { disc = p.disc; rack = t }
+
+  step_same : (answer : Result Stepped StoreFault) → Stepping d o r answer e p t → SameDevices was now
+  step_same (Ok Going) (more, dump, is, wrote) =
+      same_still was now (ap (λ (x : OnlineFacts). x.disc.size) is) (ap (λ (x : OnlineFacts). x.disc.read_faults) is) (ap (λ (x : OnlineFacts). x.disc.write_faults) is) (wrote_same wrote)
+  step_same (Ok (Completed n)) (last, number, plan, wrote, closing) =
+      same_still was now closing.causes.size (closing.causes.reads_kept (λ x. x)) (closing.causes.writes_kept (λ x. let no : ⊥ = cc in no)) (wrote_same wrote)
+  step_same (Err DiscReadFault) (dump, is, gone) = record {
+    size = ap (λ (x : OnlineFacts). x.disc.size) gone.facts;
+    reads = Rose-later gone.rose;
+    writes = stands_still o.disc.write_faults p.disc.write_faults (ap (λ (x : OnlineFacts). x.disc.write_faults) gone.facts);
+    reels = ap (λ (x : Rack). labels x.reels) is;
+  }
+  step_same (Err Stopped) (plan, inl (failed, is)) =
+      same_still was now (ap (λ (x : OnlineFacts). x.disc.size) is) (ap (λ (x : OnlineFacts). x.disc.read_faults) is) (ap (λ (x : OnlineFacts). x.disc.write_faults) is) (
+      ap (λ (x : Rack). labels x.reels) failed.rack
+      ∙ labels_with d.plan.serial (left_by failed.how (d.plan.place + d.done)) (left_named failed.how (d.plan.place + d.done)) (left_holds failed.how (d.plan.place + d.done)) r.reels
+      )
+  step_same (Err Stopped) (plan, inr (last, wrote, closing)) = record {
+    size = closing.causes.size;
+    reads = stands_still o.disc.read_faults p.disc.read_faults (closing.causes.reads_kept (λ x. x));
+    writes = Rose-later (closing.causes.writes_rose refl);
+    reels = wrote_same wrote;
+  }
   step_same (Err fault) step = absurd step
 
 -- WHAT THE DUMP HAS LEFT TO DO
@@ -248,7 +267,7 @@ module _ (old new : StoreFacts) (unspent : old.spent ≡ false) (c : CrewState) 
     ready = λ e. ((not_spent new.spent answer event.spent isnt, event.keeps.tied.size, event.keeps.tied.most), taking);
     disc_arms = (step_arms is.dump is.after old.online new.online old.rack new.rack answer is.stepping).0;
     tape_arms = (step_arms is.dump is.after old.online new.online old.rack new.rack answer is.stepping).1;
-    same = let it = step_same is.dump is.after old.online new.online old.rack new.rack answer is.stepping in record { size = it.0; reels = it.1 };
+    same = step_same is.dump is.after old.online new.online old.rack new.rack answer is.stepping;
     belongs = λ was. (event.told was.0, event.belongs was.0 was.1);
     dumps = λ was. grow_stepped old answer new stay was.0 was.1;
     cause = puts.cause;
@@ -327,7 +346,7 @@ module _ (old new : StoreFacts) (unspent : old.spent ≡ false) (c : CrewState) 
       ready = λ e. ((event.keeps.tied.size, event.keeps.tied.most, refl, refl), nobody);
       disc_arms = (step_arms is.dump is.after old.online new.online old.rack new.rack (Err Stopped) is.stepping).0;
       tape_arms = (step_arms is.dump is.after old.online new.online old.rack new.rack (Err Stopped) is.stepping).1;
-      same = let it = step_same is.dump is.after old.online new.online old.rack new.rack (Err Stopped) is.stepping in record { size = it.0; reels = it.1 };
+      same = step_same is.dump is.after old.online new.online old.rack new.rack (Err Stopped) is.stepping;
       belongs = λ was. record { told = event.told was.0; belong = (event.belongs was.0 was.1).devices };
       dumps = λ was. grow_stepped old (Err Stopped) new stay was.0 was.1;
       cause = tells.1.cause;

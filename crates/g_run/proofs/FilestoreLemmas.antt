@@ -17,20 +17,18 @@ use Rattle.g_console.specs.declared.progress.Failure.{Failure}
 use Rattle.g_run.specs.Top.{EndsBy}
 
 -- the state of such devices
-state_there : (d : Devices) → BelongTogether d → HasFilestore d → (s : State) × StandFor d s × (s.up ≡ false)
+state_there : (d : Devices) → BelongTogether d → HasFilestore d → (s : State) × StandFor d s
 state_there d both has =
     let (s, reads) = have_states.devices d.disc.size d.disc.held (told_reels d.rack) (Some has.contents)
     (record { are = (has.blocks, has.held, has.holds); none = λ no. absurd (let never : ⊥ = cc in never) }) both.belong in
-    (s, record { told = both.told; belong = both.belong; reads = reads }, ap (λ (x : State). x.up) reads.state_is)
+    (s, record { told = both.told; belong = both.belong; reads = reads })
 
 module _ {F U : Type 0} (tariffs : Shared F (Bor Usage × Unit {0}) Charge) (tariff : F) (rules : Shared U (Bor Standing × Unit {0}) ℕ) (rule : U) where
   pub keeps_filestore : (failure : Option Failure) (lines : List Timed) (bad : Option ℕ) (old new : Devices) (before after : Option (List ℕ))
       → EndsBy tariffs tariff rules rule failure lines bad old new before after → BelongTogether old → HasFilestore old → HasFilestore new
   keeps_filestore None lines bad old new before after ends both has =
-      let (s, stand, low) = state_there old both has in
-      let (moves, last, run, over, text) = ends s low stand in
-      devices_keep tariffs tariff rules rule lines bad s old new moves last stand has run
+      let (s, stand) = state_there old both has in
+      let e = ends s stand in devices_keep tariffs tariff rules rule lines bad s old new e.moves e.last stand has e.run_of
   keeps_filestore (Some failure) lines bad old new before after ends both has =
-      let (s, stand, low) = state_there old both has in
-      let (moves, last, run, put) = ends s low stand in
-      devices_keep tariffs tariff rules rule lines bad s old new moves last stand has run
+      let (s, stand) = state_there old both has in
+      let e = ends s stand in devices_keep tariffs tariff rules rule lines bad s old new e.moves e.last stand has e.run_of

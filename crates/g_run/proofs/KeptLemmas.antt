@@ -44,12 +44,12 @@ module _ (old new : StoreFacts) (c : CrewState) (count : ℕ) (stays : StaysOver
   turn_keeps_run number job behind there numbers failure system c' before after faults faults' turn ends stopped spends ready still =
       subst (λ (s : SystemFacts). KeepsRun (seen (Up old) c count) failure (seen s c' count) faults faults') (sym (system_is number count old new c job behind there numbers failure system c' before after faults faults' turn ends)) (record {
         ready = λ none. (
-          ready_is number count old new c job behind there numbers failure system c' before after faults faults' turn ends stopped stays.size ready,
+          ready_is number count old new c job behind there numbers failure system c' before after faults faults' turn ends stopped stays.same.size ready,
           open_is number count old new c job behind there numbers failure system c' before after faults faults' turn ends none spends still,
         );
         disc_arms = ap (λ (d : Devices). d.disc.arms) (same_devices turn new) ∙ stays.disc_arms;
         tape_arms = ap (λ (d : Devices). d.rack.arms) (same_devices turn new) ∙ stays.tape_arms;
-        same = subst (λ (d : Devices). SameDevices (devices_in (Up old)) d) (sym (same_devices turn new)) (record { size = stays.size; reels = stays.reels });
+        same = subst (λ (d : Devices). SameDevices (devices_in (Up old)) d) (sym (same_devices turn new)) stays.same;
         belongs = λ is. belongs_turned turn new (belongs_on is);
         dumps = λ is. subst (λ (d : Devices). DumpsGrow old.rack d.rack) (sym (same_devices turn new)) (grow_held old.rack new.rack stays.held);
         cause = (text_is number count old new c job behind there numbers failure system c' before after faults faults' turn ends).cause;
@@ -62,7 +62,7 @@ module _ (old new : StoreFacts) (c : CrewState) (count : ℕ) (stays : StaysOver
     ready = λ none. absurd (let no : ⊥ = cc in no);
     disc_arms = ap (λ (d : Devices). d.disc.arms) (left_devices new system left) ∙ stays.disc_arms;
     tape_arms = ap (λ (d : Devices). d.rack.arms) (left_devices new system left) ∙ stays.tape_arms;
-    same = subst (λ (d : Devices). SameDevices (devices_in (Up old)) d) (sym (left_devices new system left)) (record { size = stays.size; reels = stays.reels });
+    same = subst (λ (d : Devices). SameDevices (devices_in (Up old)) d) (sym (left_devices new system left)) stays.same;
     belongs = λ is. belongs_left new system left (belongs_on is);
     dumps = λ is. subst (λ (d : Devices). DumpsGrow old.rack d.rack) (sym (left_devices new system left)) (grow_held old.rack new.rack stays.held);
     cause = refl;

@@ -1,4 +1,5 @@
-pub mod DemoLemmas
+pub mod AnewLemmas
+mod DemoLemmas
 pub mod DumpLemmas
 pub mod EndedLemmas
 pub mod FallLemmas
@@ -8,6 +9,7 @@ pub mod KeepLemmas
 mod KeptLemmas
 pub mod LawLemmas
 pub mod LeaveLemmas
+pub mod LeftLemmas
 pub mod LineLemmas
 pub mod LittleLemmas
 pub mod NumberedLemmas

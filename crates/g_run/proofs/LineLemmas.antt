@@ -17,14 +17,18 @@ use Rattle.g_world.specs.Lines.{is_process}
 use Rattle.g_world.specs.Moves.{TakeLine}
 use Rattle.g_world.specs.Top.{AreArmings}
 use Rattle.g_world.specs.World.{World}
+use Rattle.g_world_laws.specs.Anew.{BeginAnew, NoDiscFault}
 use Rattle.g_world.proofs.CountLemmas.{move_counted}
 use Rattle.g_world.proofs.TickLemmas.{line_move}
 use Rattle.g_crew.specs.Numbers.{AreOpen}
 use Rattle.g_console.specs.declared.progress.Failure.{Failure}
+use Rattle.g_console.specs.Anew.{AnewLine, IsBlank, beside}
 use Rattle.g_console.specs.Parts.{ArmsBy, DidLine, DoesLine, DoesNothing, IsReady, LineGoes, Matches, Seen, disc_arms, tape_arms}
 use Rattle.g_console.specs.System.{SystemFacts, devices_in}
+use Rattle.g_console.proofs.AnewLemmas.{aside_line, format_line}
 use Rattle.g_run.specs.Tick.{IsBetween}
-use Rattle.g_run.specs.Parts.{Anything, AreDueBy, Breaks, DidAll, DidLines, DidTicks, GoesBy, IsAtRest, Keeps, Leads}
+use Rattle.g_run.specs.Parts.{Anything, AreAside, AreDueBy, Breaks, DidAll, DidLines, DidTicks, GoesBy, IsAtRest, Keeps, Leads, PartGoes, turn_of}
+use Rattle.g_run.proofs.AnewLemmas.{aside_head, aside_parts, first_well, is_format, later_well, none_begin, one_more_line}
 use Rattle.g_run.proofs.KeepLemmas.{kept_line}
 use Rattle.g_run.proofs.LeaveLemmas.{line_leaves}
 use Rattle.g_run.proofs.PartLemmas.{arrives_here, goes_then, keeps_more, keeps_then, with_more-nil}
@@ -133,11 +137,20 @@ module _ {F U : Type 0} (tariffs : Shared F (Bor Usage × Unit {0}) Charge) (tar
         put = part;
       }
 
+  -- behind its ticks
+  behind_ticks : (next : Timed) (old mid new : Seen) (before middle after : Option (List ℕ))
+      → ((lines : List Timed) → turn_of lines ≡ Some next.turn → PartGoes tariffs tariff rules rule IsAtRest lines lines old None mid before middle) → LineGoes next.what mid None new middle after
+      → (rest : List Timed) → PartGoes tariffs tariff rules rule Anything ((next ∷ []) ++ rest) rest old None new before after
+  behind_ticks next old mid new before middle after went goes rest w m between is =
+      let a = went (next ∷ rest) refl w m between is in
+      goes_then tariffs tariff rules rule IsAtRest Anything w (next ∷ rest) rest old mid before middle a None new after (line_goes next rest mid None new middle after goes a.next a.matches a.between a.rests a.lines)
+
   -- A LINE behind its ticks
   pub line_done : (next : Timed) (old mid : Seen) (failure : Option Failure) (new : Seen) (before middle after : Option (List ℕ)) (faults faults1 faults2 : ℕ)
       → DidTicks tariffs tariff rules rule IsAtRest (Some next.turn) old None mid before middle faults faults1 → new.count ≡ mid.count → DidLine next.what mid failure new middle after faults1 faults2
+      → AnewLine next.what mid failure new middle after faults1 faults2
       → DidLines tariffs tariff rules rule (next ∷ []) old failure new before after faults faults2
-  line_done next old mid failure new before middle after faults faults1 faults2 ticked same did = record {
+  line_done next old mid failure new before middle after faults faults1 faults2 ticked same did anew = record {
     goes = λ rest w m between is.
         let a = ticked.goes (next ∷ rest) refl w m between is in
         goes_then tariffs tariff rules rule IsAtRest Anything w (next ∷ rest) rest old mid before middle a failure new after
@@ -145,6 +158,17 @@ module _ {F U : Type 0} (tariffs : Shared F (Bor Usage × Unit {0}) Charge) (tar
     keeps = keeps_then [] (next ∷ []) old mid failure new faults faults1 faults2 ticked.keeps
         (line_keeps next mid failure new middle after faults1 faults2 did (ticked.keeps.ready refl).1);
     late = λ none most due few. late_by next.turn most old.count mid.count new.count (All-head (λ (t : Timed). t.turn ≤ most) next [] due) few same (ticked.late refl next.turn refl);
+    aside = λ none blank well all.
+        let (blank_mid, went) = ticked.aside refl blank in
+        let it = aside_line next.what (aside_head next all) mid failure new middle after faults1 faults2 anew in (
+          it.blank blank_mid,
+          behind_ticks next (beside old) (beside mid) (beside new) before middle after went (subst (λ (f : Option Failure). LineGoes next.what (beside mid) f (beside new) middle after) none it.line.goes),
+        );
+    anew = λ none blank well begin.
+        let (blank_mid, went) = ticked.aside refl blank in
+        let now = later_well (devices_in old.system) (devices_in mid.system) (devices_in new.system) ticked.keeps.same well in
+        behind_ticks next (beside old) (beside mid) new before middle after went
+        (subst (λ (f : Option Failure). LineGoes next.what (beside mid) f new middle after) none (format_line next.what (is_format next begin) mid failure new middle after faults1 faults2 anew none blank_mid now).goes);
   }
 
   -- its ticks failed
@@ -154,6 +178,8 @@ module _ {F U : Type 0} (tariffs : Shared F (Bor Usage × Unit {0}) Charge) (tar
     goes = λ rest w m between is. ticked.goes (next ∷ rest) refl w m between is;
     keeps = keeps_more [] (next ∷ []) old failure new faults faults' ticked.keeps;
     late = λ none most due few. absurd (let no : ⊥ = cc in no);
+    aside = λ none blank well all. absurd (let no : ⊥ = cc in no);
+    anew = λ none blank well begin. absurd (let no : ⊥ = cc in no);
   }
 
   -- LINES: none yet
@@ -162,7 +188,18 @@ module _ {F U : Type 0} (tariffs : Shared F (Bor Usage × Unit {0}) Charge) (tar
     goes = λ rest w m between is. arrives_here tariffs tariff rules rule w rest s before m between is;
     keeps = keeps_here s faults ready still;
     late = λ none most due few. few;
+    aside = λ none blank well all. (blank, λ rest w m between is. arrives_here tariffs tariff rules rule w rest (beside s) before m between is);
+    anew = λ none blank well begin. absurd (none_begin begin);
   }
+
+  -- two parts, one behind the other
+  both_go : (done : List Timed) (next : Timed) (s mid new : Seen) (before middle after : Option (List ℕ))
+      → ((rest : List Timed) → PartGoes tariffs tariff rules rule Anything (done ++ rest) rest s None mid before middle)
+      → ((rest : List Timed) → PartGoes tariffs tariff rules rule Anything ((next ∷ []) ++ rest) rest mid None new middle after)
+      → (rest : List Timed) → PartGoes tariffs tariff rules rule Anything ((done ++ next ∷ []) ++ rest) rest s None new before after
+  both_go done next s mid new before middle after first one rest w m between is =
+      let a = first (next ∷ rest) w m between (is ∙ append_assoc done (next ∷ []) rest) in
+      goes_then tariffs tariff rules rule Anything Anything w (next ∷ rest) rest s mid before middle a None new after (one rest a.next a.matches a.between a.lines)
 
   -- one more
   pub lines_more : (done : List Timed) (next : Timed) (s mid : Seen) (failure : Option Failure) (new : Seen) (before middle after : Option (List ℕ)) (faults faults1 faults2 : ℕ)
@@ -176,7 +213,27 @@ module _ {F U : Type 0} (tariffs : Shared F (Bor Usage × Unit {0}) Charge) (tar
     late = λ none most due few.
         let (before_it, it) = due_parts most done next due in
         one.late none most (All-cons (λ (t : Timed). t.turn ≤ most) next [] it (All-nil (λ (t : Timed). t.turn ≤ most))) (first.late refl most before_it few);
+    aside = λ none blank well all.
+        let (some, it) = aside_parts done next all in
+        let (blank_mid, went) = first.aside refl blank (well_before well) some in
+        let (blank_new, goes) = one.aside none blank_mid (well_behind well) it in (blank_new, both_go done next (beside s) (beside mid) (beside new) before middle after went goes);
+    anew = λ none blank well begin. by none blank well (one_more_line done next begin);
   }
+    where
+      well_before : NoDiscFault (devices_in s.system) (devices_in new.system) → NoDiscFault (devices_in s.system) (devices_in mid.system)
+      well_before well = first_well (devices_in s.system) (devices_in mid.system) (devices_in new.system) one.keeps.same well
+
+      well_behind : NoDiscFault (devices_in s.system) (devices_in new.system) → NoDiscFault (devices_in mid.system) (devices_in new.system)
+      well_behind well = later_well (devices_in s.system) (devices_in mid.system) (devices_in new.system) first.keeps.same well
+
+      by : failure ≡ None → IsBlank s.system → NoDiscFault (devices_in s.system) (devices_in new.system) → (AreAside done × BeginAnew (next ∷ [])) ⊎ BeginAnew done
+          → (rest : List Timed) → PartGoes tariffs tariff rules rule Anything ((done ++ next ∷ []) ++ rest) rest (beside s) None new before after
+      by none blank well (inl (all, begin)) =
+          let (blank_mid, went) = first.aside refl blank (well_before well) all in
+          both_go done next (beside s) (beside mid) new before middle after went (one.anew none blank_mid (well_behind well) begin)
+      by none blank well (inr begin) =
+          both_go done next (beside s) mid new before middle after (first.anew refl blank (well_before well) begin)
+          (λ rest. subst (λ (f : Option Failure). PartGoes tariffs tariff rules rule Anything ((next ∷ []) ++ rest) rest mid f new middle after) none (one.goes rest))
 
   -- a failure ends them
   pub lines_short : (done more : List Timed) (s : Seen) (failure : Failure) (new : Seen) (before after : Option (List ℕ)) (faults faults' : ℕ)
@@ -185,6 +242,8 @@ module _ {F U : Type 0} (tariffs : Shared F (Bor Usage × Unit {0}) Charge) (tar
     goes = λ rest w m between is. did.goes (more ++ rest) w m between (is ∙ append_assoc done more rest);
     keeps = keeps_more done more s failure new faults faults' did.keeps;
     late = λ none most due few. absurd (let no : ⊥ = cc in no);
+    aside = λ none blank well all. absurd (let no : ⊥ = cc in no);
+    anew = λ none blank well begin. absurd (let no : ⊥ = cc in no);
   }
 
   -- where the next one fails they are cut short
@@ -209,6 +268,11 @@ module _ {F U : Type 0} (tariffs : Shared F (Bor Usage × Unit {0}) Charge) (tar
         let a = first.goes [] w m between (is ∙ sym (append-nil lines)) in
         goes_then tariffs tariff rules rule Anything IsAtRest w [] [] s mid before middle a failure new after (ticked.goes [] refl a.next a.matches a.between a.lines);
     keeps = subst (λ (ls : List Timed). Keeps ls s failure new faults faults2) (append-nil lines) (keeps_then lines [] s mid failure new faults faults1 faults2 first.keeps ticked.keeps);
+    anew = λ none blank well begin w m between is.
+        let before_it = first_well (devices_in s.system) (devices_in mid.system) (devices_in new.system) ticked.keeps.same well in
+        let a = first.anew refl blank before_it begin [] w m between (is ∙ sym (append-nil lines)) in
+        goes_then tariffs tariff rules rule Anything IsAtRest w [] [] (beside s) mid before middle a None new after
+        (subst (λ (f : Option Failure). PartGoes tariffs tariff rules rule IsAtRest [] [] mid f new middle after) none (ticked.goes [] refl) a.next a.matches a.between a.lines);
   }
 
   pub all_short : (lines : List Timed) (s : Seen) (failure : Failure) (new : Seen) (before after : Option (List ℕ)) (faults faults' : ℕ)
@@ -216,6 +280,7 @@ module _ {F U : Type 0} (tariffs : Shared F (Bor Usage × Unit {0}) Charge) (tar
   all_short lines s failure new before after faults faults' did = record {
     goes = λ w m between is. did.goes [] w m between (is ∙ sym (append-nil lines));
     keeps = did.keeps;
+    anew = λ none blank well begin. absurd (let no : ⊥ = cc in no);
   }
 
 -- A QUEUE OF LINES from which none came is empty

@@ -31,16 +31,18 @@ use Rattle.g_world.specs.World.{World, closed, is_due, nothing_steps, start}
 use Rattle.g_world.proofs.CountLemmas.{counted_of, event_none, move_counted, moves_then}
 use Rattle.g_world.proofs.TickLemmas.{over_move}
 use Rattle.g_world.proofs.TurnLemmas.{run_append}
+use Rattle.g_world_laws.specs.Anew.{NoDiscFault, with_new_disc}
 use Rattle.g_crew.specs.Crew.{CrewState}
 use Rattle.g_console.specs.declared.progress.Failure.{Failure}
 use Rattle.g_console.specs.declared.progress.Failure.TheVariants as failures
+use Rattle.g_console.proofs.LabelLemmas.{same_itself}
 use Rattle.g_run.proofs.KeepLemmas.{kept_itself}
 use Rattle.g_console.specs.Parts.{Matches, Seen, seen}
 use Rattle.g_console.specs.Puts.{FaultCause, Puts, PutsBy}
 use Rattle.g_console.specs.System.{BelongTogether, Down, StandsAs, SystemBelongs, SystemFacts, Up, devices_in, SameDevices}
 use Rattle.g_run.proofs.TickLemmas.{put_on, with_more-append}
 use Rattle.g_run.specs.Over.{ClosesBy, DidScript, TakenDown, both}
-use Rattle.g_run.specs.Parts.{DidAll, DumpsKept, IsAtRest, Keeps, Leads}
+use Rattle.g_run.specs.Parts.{DidAll, DumpsKept, IsAtRest, Keeps, Leads, PartGoes}
 use Rattle.g_run.specs.Top.{EndsBy}
 use Rattle.g_run.proofs.PartLemmas.{with_more-nil}
 
@@ -93,9 +95,9 @@ module _ {F U : Type 0} (tariffs : Shared F (Bor Usage × Unit {0}) Charge) (tar
   abbrev before_all : Seen
   before_all = seen (Down old) nobody 0
 
-  matches_start : (s : State) → s.up ≡ false → StandFor old s → Matches (start lines bad s) before_all
-  matches_start s is_down stands = record {
-    stands = (is_down, stands);
+  matches_start : (s : State) → StandFor old s → Matches (start lines bad s) before_all
+  matches_start s stands = record {
+    stands = (ap (λ (u : State). u.up) stands.reads.state_is, stands);
     crew = record { jobs = refl; accounts = λ user. refl; next_job = refl };
     count = refl;
   }
@@ -111,17 +113,17 @@ module _ {F U : Type 0} (tariffs : Shared F (Bor Usage × Unit {0}) Charge) (tar
   -- CUT SHORT before its end
   ends_short : (failure : Failure) (before after : Option (List ℕ)) (faults faults' : ℕ) → DidAll tariffs tariff rules rule lines before_all (Some failure) (seen f c count) before after faults faults'
       → EndsShort tariffs tariff rules rule lines bad old new before after
-  ends_short failure before after faults faults' did = λ s is_down stands.
-      let b = did.goes (start lines bad s) (matches_start s is_down stands) (record { phase = refl; turn = refl }) refl in (
-        b.moves,
-        b.next,
-        record {
+  ends_short failure before after faults faults' did = λ s stands.
+      let b = did.goes (start lines bad s) (matches_start s stands) (record { phase = refl; turn = refl }) refl in record {
+        moves = b.moves;
+        last = b.next;
+        run_of = record {
           run = b.leads.run;
           counted = counted_of b.moves b.next old new (counted_from s b.moves b.next b.added b.leads);
           stands = down_is.stands b.next.store b.leads.stands;
-        },
-        subst (λ (t : List ℕ). HasPutPart before t after) (sym b.leads.text) b.put,
-      )
+        };
+        text = subst (λ (t : List ℕ). HasPutPart before t after) (sym b.leads.text) b.put;
+      }
 
   false_true : false ≡ true → ⊥
   false_true e = cc
@@ -144,10 +146,10 @@ module _ {F U : Type 0} (tariffs : Shared F (Bor Usage × Unit {0}) Charge) (tar
     text : last.text ≡ added ++ (waiting_files c.jobs ++ closing bad)
     put : middle ≡ with_more before added
 
-  closes : (before middle : Option (List ℕ)) (faults faults' : ℕ) → DidAll tariffs tariff rules rule lines before_all None (seen f c count) before middle faults faults'
-      → (s : State) → s.up ≡ false → StandFor old s → Closes s before middle
-  closes before middle faults faults' did s is_down stands =
-      let a = did.goes (start lines bad s) (matches_start s is_down stands) (record { phase = refl; turn = refl }) refl in record {
+  closes : (before middle : Option (List ℕ)) → PartGoes tariffs tariff rules rule IsAtRest lines [] before_all None (seen f c count) before middle
+      → (s : State) → StandFor old s → Closes s before middle
+  closes before middle goes s stands =
+      let a = goes (start lines bad s) (matches_start s stands) (record { phase = refl; turn = refl }) refl in record {
         moves = a.moves ++ Over ∷ [];
         last = closed a.next;
         added = a.added;
@@ -172,40 +174,46 @@ module _ {F U : Type 0} (tariffs : Shared F (Bor Usage × Unit {0}) Charge) (tar
           (subst (λ (ks : List ℕ). MovesCounted (moves ++ Over ∷ []) (last.disc_stops ++ []) ks old new) (append-nil last.tape_stops)
           (moves_then moves (Over ∷ []) last.disc_stops last.tape_stops [] [] old new new (counted_from s moves last added leads) (move_counted Over [] [] new new (event_none new))))
 
-  ends_closed : (failure : Option Failure) (before middle after : Option (List ℕ)) (faults faults' : ℕ) → DidAll tariffs tariff rules rule lines before_all None (seen f c count) before middle faults faults'
+  pub ends_closed : (failure : Option Failure) (before middle after : Option (List ℕ)) → PartGoes tariffs tariff rules rule IsAtRest lines [] before_all None (seen f c count) before middle
       → PutsBy failure (waiting_files c.jobs ++ closing bad) middle after → EndsBy tariffs tariff rules rule failure lines bad old new before after
-  ends_closed None before middle after faults faults' did put = λ s is_down stands.
-      let z = closes before middle faults faults' did s is_down stands in (
-        z.moves,
-        z.last,
-        z.run_of,
-        z.over,
-        put ∙ ap (λ (t : Option (List ℕ)). with_more t (waiting_files c.jobs ++ closing bad)) z.put ∙ with_more-append before z.added (waiting_files c.jobs ++ closing bad)
-            ∙ ap (λ (t : List ℕ). with_more before t) (sym z.text),
-      )
-  ends_closed (Some failure) before middle after faults faults' did put = λ s is_down stands.
-      let z = closes before middle faults faults' did s is_down stands in (
-        z.moves,
-        z.last,
-        z.run_of,
-        subst (λ (t : List ℕ). HasPutPart before t after) (sym z.text) (put_on before middle after z.added (waiting_files c.jobs ++ closing bad) z.put put),
-      )
+  ends_closed None before middle after goes put = λ s stands.
+      let z = closes before middle goes s stands in record {
+        moves = z.moves;
+        last = z.last;
+        run_of = z.run_of;
+        over = z.over;
+        text = put ∙ ap (λ (t : Option (List ℕ)). with_more t (waiting_files c.jobs ++ closing bad)) z.put ∙ with_more-append before z.added (waiting_files c.jobs ++ closing bad)
+            ∙ ap (λ (t : List ℕ). with_more before t) (sym z.text);
+      }
+  ends_closed (Some failure) before middle after goes put = λ s stands.
+      let z = closes before middle goes s stands in record {
+        moves = z.moves;
+        last = z.last;
+        run_of = z.run_of;
+        text = subst (λ (t : List ℕ). HasPutPart before t after) (sym z.text) (put_on before middle after z.added (waiting_files c.jobs ++ closing bad) z.put put);
+      }
+
+module _ {F U : Type 0} (tariffs : Shared F (Bor Usage × Unit {0}) Charge) (tariff : F) (rules : Shared U (Bor Standing × Unit {0}) ℕ) (rule : U)
+    (lines : List Timed) (bad : Option ℕ) (old : Devices) (f : SystemFacts) (c : CrewState) (count : ℕ) (new : Devices) (down_is : TakenDown f new) where
+  abbrev at_start : Seen
+  at_start = seen (Down old) nobody 0
 
   -- what holds of all devices
-  belongs_down : (failure : Option Failure) (faults faults' : ℕ) → Keeps lines before_all failure (seen f c count) faults faults' → BelongTogether old → BelongTogether new
+  belongs_down : (failure : Option Failure) (faults faults' : ℕ) → Keeps lines at_start failure (seen f c count) faults faults' → BelongTogether old → BelongTogether new
   belongs_down failure faults faults' keeps was = subst (λ (d : Devices). BelongTogether d) (sym down_is.devices) (belongs_of f (keeps.belongs was))
 
-  same_down : (failure : Option Failure) (faults faults' : ℕ) → Keeps lines before_all failure (seen f c count) faults faults' → SameDevices old new
+  same_down : (failure : Option Failure) (faults faults' : ℕ) → Keeps lines at_start failure (seen f c count) faults faults' → SameDevices old new
   same_down failure faults faults' keeps = subst (λ (d : Devices). SameDevices old d) (sym down_is.devices) keeps.same
 
-  dumps_down : (failure : Option Failure) (faults faults' : ℕ) → Keeps lines before_all failure (seen f c count) faults faults' → BelongTogether old → DumpsKept lines old.rack new.rack
+  dumps_down : (failure : Option Failure) (faults faults' : ℕ) → Keeps lines at_start failure (seen f c count) faults faults' → BelongTogether old → DumpsKept lines old.rack new.rack
   dumps_down failure faults faults' keeps was = subst (λ (d : Devices). DumpsKept lines old.rack d.rack) (sym down_is.devices) (keeps.dumps was)
 
   -- A SCRIPT, cut short before its end
-  pub script_short : (failure : Failure) (before after : Option (List ℕ)) (faults faults' : ℕ) → DidAll tariffs tariff rules rule lines before_all (Some failure) (seen f c count) before after faults faults'
+  pub script_short : (failure : Failure) (before after : Option (List ℕ)) (faults faults' : ℕ) → DidAll tariffs tariff rules rule lines at_start (Some failure) (seen f c count) before after faults faults'
       → DidScript tariffs tariff rules rule lines bad old (Some failure) new before after faults faults'
   script_short failure before after faults faults' did = record {
-    ends = ends_short failure before after faults faults' did;
+    ends = ends_short tariffs tariff rules rule lines bad old f c count new down_is failure before after faults faults' did;
+    anew = λ none blank well begin. absurd (none-some failure (sym none));
     arms = subst (λ (d : Devices). AreArmings lines ((let g : Option Failure = Some failure in g) ≡ None) old d) (sym down_is.devices) did.keeps.arms;
     same = same_down (Some failure) faults faults' did.keeps;
     belongs = belongs_down (Some failure) faults faults' did.keeps;
@@ -215,10 +223,13 @@ module _ {F U : Type 0} (tariffs : Shared F (Bor Usage × Unit {0}) Charge) (tar
 
   -- and one that came to it
   pub script_closed : (failure : Option Failure) (before middle after : Option (List ℕ)) (faults faults1 faults2 : ℕ)
-      → DidAll tariffs tariff rules rule lines before_all None (seen f c count) before middle faults faults1
+      → DidAll tariffs tariff rules rule lines at_start None (seen f c count) before middle faults faults1
       → Puts failure (waiting_files c.jobs ++ closing bad) middle after faults1 faults2 → DidScript tariffs tariff rules rule lines bad old failure new before after faults faults2
   script_closed failure before middle after faults faults1 faults2 did puts = record {
-    ends = ends_closed failure before middle after faults faults1 did puts.put;
+    ends = ends_closed tariffs tariff rules rule lines bad old f c count new down_is failure before middle after did.goes puts.put;
+    anew = λ none blank well begin.
+        ends_closed tariffs tariff rules rule lines bad (with_new_disc old) f c count new down_is None before middle after
+        (did.anew refl blank (subst (λ (d : Devices). NoDiscFault old d) down_is.devices well) begin) (subst (λ (g : Option Failure). PutsBy g (waiting_files c.jobs ++ closing bad) middle after) none puts.put);
     arms = record {
       disc = arms.disc;
       tape = arms.tape;
@@ -236,7 +247,7 @@ module _ {F U : Type 0} (tariffs : Shared F (Bor Usage × Unit {0}) Charge) (tar
 
   -- THE END
   pub script_over : (came failure : Option Failure) (before middle after : Option (List ℕ)) (faults faults1 faults2 : ℕ)
-      → DidAll tariffs tariff rules rule lines before_all came (seen f c count) before middle faults faults1
+      → DidAll tariffs tariff rules rule lines at_start came (seen f c count) before middle faults faults1
       → ClosesBy came (waiting_files c.jobs ++ closing bad) failure middle after faults1 faults2 → DidScript tariffs tariff rules rule lines bad old failure new before after faults faults2
   script_over None failure before middle after faults faults1 faults2 did puts = script_closed failure before middle after faults faults1 faults2 did puts
   script_over (Some came) failure before middle after faults faults1 faults2 did (is, same, still) =
@@ -250,19 +261,20 @@ module _ {F U : Type 0} (tariffs : Shared F (Bor Usage × Unit {0}) Charge) (tar
       → DidScript tariffs tariff rules rule lines bad old (Some failures.Memory) new before before faults faults
   nothing_done old new before faults same =
       subst (λ (d : Devices). DidScript tariffs tariff rules rule lines bad old (Some failures.Memory) d before before faults faults) (sym same) (record {
-        ends = λ s is_down stands. (
-          [],
-          start lines bad s,
-          record { run = refl; counted = counted_of [] (start lines bad s) old old (event_none old); stands = devices_down old s stands },
-          (0, omega arith, sym (with_more-nil before)),
-        );
+        ends = λ s stands. record {
+          moves = [];
+          last = start lines bad s;
+          run_of = record { run = refl; counted = counted_of [] (start lines bad s) old old (event_none old); stands = devices_down old s stands };
+          text = (0, omega arith, sym (with_more-nil before));
+        };
+        anew = λ none blank well begin. absurd (none-some failures.Memory (sym none));
         arms = record {
           disc = within_none (numbers_of disc_arms lines) old.disc.arms old.disc.arms refl;
           tape = within_none (numbers_of tape_arms lines) old.rack.arms old.rack.arms refl;
           all_disc = λ through. absurd (none-some failures.Memory (sym through));
           all_tape = λ through. absurd (none-some failures.Memory (sym through));
         };
-        same = record { size = refl; reels = refl };
+        same = same_itself old;
         belongs = λ is. is;
         dumps = λ is. kept_itself lines old.rack;
         cause = refl;

@@ -17,31 +17,30 @@ use Rattle.g_store.proofs.MountLemmas.{mounted_by}
 use Rattle.g_store_calls.proofs.CallLemmas.{same_mounts}
 use Rattle.g_store_calls.proofs.SeenLemmas.{seen}
 use Rattle.g_tape.specs.Rack.{is_mounted, reel}
-use Rattle.g_console.specs.System.{labels}
-use Rattle.g_console.proofs.LabelLemmas.{labels_read}
+use Rattle.g_console.specs.System.{SameDevices, Up, devices_in}
+use Rattle.g_console.proofs.CauseLemmas.{same_caused}
+use Rattle.g_console.proofs.LabelLemmas.{labels_read, same_itself, same_then}
 
--- the store stays over devices of the same sizes, which nobody armed; the same reels are mounted, and they hold the same; and it goes on belonging to them
+-- the store stays over devices of the same sizes, which nobody armed, and whose counts of the disc's failures didn't fall; the same reels are mounted, and they hold the same; and it goes on belonging to them
 pub record StaysOver (old new : StoreFacts) : Type 0 where
-  pub size : new.online.disc.size ≡ old.online.disc.size
+  pub same : SameDevices (devices_in (Up old)) (devices_in (Up new))
   pub disc_arms : new.online.disc.arms ≡ old.online.disc.arms
   pub tape_arms : new.rack.arms ≡ old.rack.arms
   pub mounted : (serial : ℕ) → is_mounted (reel serial new.rack.reels) ≡ is_mounted (reel serial old.rack.reels)
-  pub reels : labels new.rack.reels ≡ labels old.rack.reels
   pub held : told_reels new.rack ≡ told_reels old.rack
   pub told : Told old → Told new
   pub belongs : Told old → Belongs old → Belongs new
 
 pub stays_itself : (s t : StoreFacts) → t ≡ s → StaysOver s t
 stays_itself s t is = subst (λ (x : StoreFacts). StaysOver s x) (sym is)
-    (record { size = refl; disc_arms = refl; tape_arms = refl; mounted = λ serial. refl; reels = refl; held = refl; told = λ told. told; belongs = λ told belongs. belongs })
+    (record { same = same_itself (devices_in (Up s)); disc_arms = refl; tape_arms = refl; mounted = λ serial. refl; held = refl; told = λ told. told; belongs = λ told belongs. belongs })
 
 stays_then : (s t u : StoreFacts) → StaysOver s t → StaysOver t u → StaysOver s u
 stays_then s t u one more = record {
-  size = more.size ∙ one.size;
+  same = same_then (devices_in (Up s)) (devices_in (Up t)) (devices_in (Up u)) one.same more.same;
   disc_arms = more.disc_arms ∙ one.disc_arms;
   tape_arms = more.tape_arms ∙ one.tape_arms;
   mounted = λ serial. more.mounted serial ∙ one.mounted serial;
-  reels = more.reels ∙ one.reels;
   held = more.held ∙ one.held;
   told = λ told. more.told (one.told told);
   belongs = λ told belongs. more.belongs (one.told told) (one.belongs told belongs);
@@ -49,11 +48,10 @@ stays_then s t u one more = record {
 
 call_stays : (old new : StoreFacts) (who : List ℕ) (call : StoreCall) (answer : Answer) → Answers old who call answer new → StaysOver old new
 call_stays old new who call answer is = record {
-  size = is.cause.disc.size;
+  same = same_caused answer (devices_in (Up old)) (devices_in (Up new)) is.cause.disc (labels_read old.rack.reels new.rack.reels is.cause.tapes.reels);
   disc_arms = is.cause.disc.arms;
   tape_arms = is.cause.tapes.arms;
   mounted = λ serial. same_mounts old.rack new.rack is.cause.tapes serial;
-  reels = labels_read old.rack.reels new.rack.reels is.cause.tapes.reels;
   held = is.cause.tapes.reels;
   told = is.told;
   belongs = is.belongs;

@@ -1,5 +1,5 @@
 -- A run that was ended, whole or cut short, as its status tells.
-use Rattle.std.proofs.Common.{◌≡◌, ◌∙◌, ℕ, List, [], ◌∷◌, codes, Option, Some, None, length, refl, sym, ap, subst, inr, arith}
+use Rattle.std.proofs.Common.{◌≡◌, ◌<◌, ◌∙◌, ℕ, List, [], ◌∷◌, codes, Option, Some, None, length, refl, sym, ap, subst, inr, arith}
 use Rattle.std.specs.Fn.{Shared}
 use denote.Ref.{Bor}
 use Rattle.std.proofs.lemmas.List.{take_all}
@@ -12,9 +12,13 @@ use Rattle.g_lines.specs.Lines.{lines_of}
 use Rattle.g_script.specs.Script.{IsParsed}
 use Rattle.g_script.specs.declared.operator.Timed.{Timed}
 use Rattle.g_script.proofs.OneReading.{reading_unique}
+use Rattle.g_state_laws.proofs.StateLemmas.{have_states}
+use Rattle.g_step.specs.State.{State}
 use Rattle.g_world.specs.Devices.{Devices}
 use Rattle.g_world.specs.Lines.{disc_arms, tape_arms}
-use Rattle.g_world.specs.Top.{AreArmings, IsCutWords, numbers_of, words_line}
+use Rattle.g_world.specs.Top.{AreArmings, EndsWhole, IsCutWords, numbers_of, words_line}
+use Rattle.g_world_laws.specs.Anew.{AreBlank, BeginAnew, NoDiscFault, with_new_disc}
+use Rattle.g_world_laws.proofs.FreshLemmas.{emptied_stand}
 use Rattle.g_console.specs.declared.progress.Failure.{Failure}
 use Rattle.g_console.specs.declared.progress.Failure.TheVariants as failures
 use Rattle.g_demo.specs.Words.{IsDemonstration, demo_words}
@@ -22,9 +26,10 @@ use Rattle.g_demo.specs.declared.demonstration.Demonstration.{Demonstration}
 use Rattle.g_demo.specs.declared.words.Asked.TheVariants as asked
 use Rattle.g_demo.proofs.WordLemmas.{one_reading}
 use Rattle.g_console.specs.Puts.{PutsBy}
+use Rattle.g_console.specs.System.{BelongTogether}
 use Rattle.g_run.specs.declared.status.Status.{Status}
 use Rattle.g_run.specs.Demo.{PutsDemo}
-use Rattle.g_run.specs.Top.{EndsAs, EndsBy, EndsDemo, IsForMemory, IsQuiet, IsThrough, demo_status, status_of, words_status}
+use Rattle.g_run.specs.Top.{BeginsAnew, EndsAs, EndsBy, EndsDemo, IsForMemory, IsQuiet, IsThrough, demo_status, status_of, words_status}
 
 module _ {F U : Type 0} (tariffs : Shared F (Bor Usage × Unit {0}) Charge) (tariff : F) (rules : Shared U (Bor Standing × Unit {0}) ℕ) (rule : U) where
   pub ends_as : (bad : Option ℕ) (failure : Option Failure) (left : List ℕ) (lines : List Timed) (old new : Devices) (before after : Option (List ℕ)) →
@@ -47,6 +52,27 @@ went_through : (bad : Option ℕ) (failure : Option Failure) → IsThrough (stat
 went_through bad None went = refl
 went_through bad (Some failures.Output) went = absurd went
 went_through bad (Some failures.Memory) went = absurd went
+
+-- TO BEGIN ANEW
+module _ {F U : Type 0} (tariffs : Shared F (Bor Usage × Unit {0}) Charge) (tariff : F) (rules : Shared U (Bor Standing × Unit {0}) ℕ) (rule : U) where
+  -- the devices belong together at the end, since there is a state of a new disc beside emptied reels
+  belongs_anew : (lines : List Timed) (bad : Option ℕ) (old new : Devices) (before after : Option (List ℕ)) → 2177 < old.disc.size → AreBlank old
+      → EndsWhole tariffs tariff rules rule lines bad (with_new_disc old) new before after → BelongTogether new
+  belongs_anew lines bad old new before after more blank ends =
+      let there = emptied_stand have_states old more blank.emptied in
+      let stands = (ends there.state there.stands).run_of.stands in record { told = stands.told; belong = stands.belong }
+
+  pub anew_as : (bad : Option ℕ) (failure : Option Failure) (left : List ℕ) (lines : List Timed) (old new : Devices) (before after : Option (List ℕ)) → IsParsed (lines_of left) lines bad → 2177 < old.disc.size
+      → (failure ≡ None → AreBlank old → NoDiscFault old new → BeginAnew lines → EndsWhole tariffs tariff rules rule lines bad (with_new_disc old) new before after)
+      → IsThrough (status_of bad failure) → BeginsAnew left old new → EndsAs tariffs tariff rules rule (status_of bad failure) left (with_new_disc old) new before after × BelongTogether new
+  anew_as bad failure left lines old new before after parsed more ends through begins =
+      let none = went_through bad failure through in
+      let same : begins.lines ≡ lines = (reading_unique (lines_of left) begins.lines lines begins.bad bad begins.parsed parsed).0 in
+      let whole = ends none begins.blank begins.well (subst BeginAnew same begins.begin) in (
+        subst (λ (f : Option Failure). EndsAs tariffs tariff rules rule (status_of bad f) left (with_new_disc old) new before after) (sym none)
+            (ends_as tariffs tariff rules rule bad None left lines (with_new_disc old) new before after parsed whole),
+        belongs_anew lines bad old new before after more begins.blank whole,
+      )
 
 -- the lines that were read are those of the script
 pub arms_as : (left : List ℕ) (lines said : List Timed) (bad said_bad : Option ℕ) (failure : Option Failure) (old new : Devices) → IsParsed (lines_of left) said said_bad → IsParsed (lines_of left) lines bad

@@ -11,13 +11,15 @@ use Rattle.g_world.specs.World.{World}
 use Rattle.g_crew.specs.Crew.{CrewState}
 use Rattle.g_crew.specs.Numbers.{AreOpen}
 use Rattle.g_console.specs.declared.progress.Failure.{Failure}
+use Rattle.g_console.specs.Anew.{beside, beside_new}
 use Rattle.g_console.specs.Parts.{IsReady, Matches, Seen, seen}
-use Rattle.g_console.specs.System.{SystemFacts, devices_in}
+use Rattle.g_console.specs.System.{Down, SystemFacts, Up, devices_in}
 use Rattle.g_run.specs.Tick.{left}
 use Rattle.g_run.specs.Parts.{Anything, DidOne, DidTicks, HasRoom, IsAtRest, Keeps, PartGoes, is_past, steps_in, turn_of}
 use Rattle.g_run.proofs.PartLemmas.{arrives_here, goes_then, keeps_then, none_arm}
 use Rattle.g_run.proofs.RestLemmas.{due_is, nothing_is}
 use Rattle.g_run.proofs.KeepLemmas.{kept_itself}
+use Rattle.g_console.proofs.AnewLemmas.{ready_beside}
 use Rattle.g_console.proofs.LabelLemmas.{same_itself}
 
 -- THE COUNT HAS ROOM for a tick where there is one to be done
@@ -50,6 +52,11 @@ keeps_here s faults ready still = record {
   cause = refl;
 }
 
+-- beside a new disc nothing steps that doesn't
+ends_beside : (f : SystemFacts) (c : CrewState) (count : ℕ) (limit : Option ℕ) → (is_past limit count ≡ true) ⊎ (steps_in (seen f c count) ≡ false) → (is_past limit count ≡ true) ⊎ (steps_in (seen (beside_new f) c count) ≡ false)
+ends_beside (Up s) c count limit ends = ends
+ends_beside (Down d) c count limit ends = ends
+
 module _ {F U : Type 0} (tariffs : Shared F (Bor Usage × Unit {0}) Charge) (tariff : F) (rules : Shared U (Bor Standing × Unit {0}) ℕ) (rule : U) (limit : Option ℕ) where
   -- none yet
   pub ticks_start : (s : Seen) (before : Option (List ℕ)) (faults : ℕ) → IsReady s.system s.crew → AreOpen s.crew.jobs → DidTicks tariffs tariff rules rule Anything limit s None s before before faults faults
@@ -57,6 +64,7 @@ module _ {F U : Type 0} (tariffs : Shared F (Bor Usage × Unit {0}) Charge) (tar
     goes = λ lines at w m between is. arrives_here tariffs tariff rules rule w lines s before m between is;
     keeps = keeps_here s faults ready still;
     late = λ none turn is. inr refl;
+    aside = λ none blank. (blank, λ lines at w m between is. arrives_here tariffs tariff rules rule w lines (beside s) before m between is);
   }
 
   -- one more
@@ -69,32 +77,49 @@ module _ {F U : Type 0} (tariffs : Shared F (Bor Usage × Unit {0}) Charge) (tar
         goes_then tariffs tariff rules rule Anything Anything w lines lines s mid before middle a failure new after (one.did.goes lines at a.next a.matches a.between a.lines);
     keeps = keeps_then [] [] s mid failure new faults faults1 faults2 first.keeps one.did.keeps;
     late = λ none turn is. late_then turn s.count mid.count new.count (first.late refl turn is) (one.did.late none turn is);
+    aside = λ none blank.
+        let (blank_mid, went) = first.aside refl blank in
+        let (blank_new, goes) = one.did.aside none blank_mid in (
+          blank_new,
+          λ lines at w m between is.
+              let a = went lines at w m between is in
+              goes_then tariffs tariff rules rule Anything Anything w lines lines (beside s) (beside mid) before middle a None (beside new) after (goes lines at a.next a.matches a.between a.lines),
+        );
   }
 
   -- THE END of them
+  rests : (w : World) (f : SystemFacts) (c : CrewState) (count : ℕ) → Matches w (seen f c count) → IsReady f c → turn_of w.lines ≡ limit → (is_past limit count ≡ true) ⊎ (steps_in (seen f c count) ≡ false) → IsAtRest w
+  rests w f c count m ready at (inl past) = inl (due_is w ∙ ap (λ (l : Option ℕ). is_past l w.count) at ∙ ap (λ (n : ℕ). is_past limit n) m.count ∙ past)
+  rests w f c count m ready at (inr still) = inr (nothing_is w f c count m ready ∙ ap (λ (b : Bool). not b) still)
+
+  rested : (s : Seen) (f : SystemFacts) (c : CrewState) (count : ℕ) (before after : Option (List ℕ)) → IsReady f c → (is_past limit count ≡ true) ⊎ (steps_in (seen f c count) ≡ false)
+      → ((lines : List Timed) → turn_of lines ≡ limit → PartGoes tariffs tariff rules rule Anything lines lines s None (seen f c count) before after)
+      → (lines : List Timed) → turn_of lines ≡ limit → PartGoes tariffs tariff rules rule IsAtRest lines lines s None (seen f c count) before after
+  rested s f c count before after ready ends goes lines at w m between is =
+      let a = goes lines at w m between is in record {
+        moves = a.moves;
+        next = a.next;
+        added = a.added;
+        leads = a.leads;
+        matches = a.matches;
+        between = a.between;
+        lines = a.lines;
+        rests = rests a.next f c count a.matches ready (ap turn_of a.lines ∙ at) ends;
+        put = a.put;
+      }
+
   pub ticks_end : (s : Seen) (failure : Option Failure) (f : SystemFacts) (c : CrewState) (count : ℕ) (before after : Option (List ℕ)) (faults faults' : ℕ)
       → DidTicks tariffs tariff rules rule Anything limit s failure (seen f c count) before after faults faults'
       → (failure ≡ None → (is_past limit count ≡ true) ⊎ (steps_in (seen f c count) ≡ false)) → DidTicks tariffs tariff rules rule IsAtRest limit s failure (seen f c count) before after faults faults'
-  ticks_end s None f c count before after faults faults' did ends = record { goes = goes; keeps = did.keeps; late = did.late }
-    where
-      rest : (w : World) → Matches w (seen f c count) → turn_of w.lines ≡ limit → (is_past limit count ≡ true) ⊎ (steps_in (seen f c count) ≡ false) → IsAtRest w
-      rest w m at (inl past) = inl (due_is w ∙ ap (λ (l : Option ℕ). is_past l w.count) at ∙ ap (λ (n : ℕ). is_past limit n) m.count ∙ past)
-      rest w m at (inr still) = inr (nothing_is w f c count m (did.keeps.ready refl).0 ∙ ap (λ (b : Bool). not b) still)
-
-      goes : (lines : List Timed) → turn_of lines ≡ limit → PartGoes tariffs tariff rules rule IsAtRest lines lines s None (seen f c count) before after
-      goes lines at w m between is =
-          let a = did.goes lines at w m between is in record {
-            moves = a.moves;
-            next = a.next;
-            added = a.added;
-            leads = a.leads;
-            matches = a.matches;
-            between = a.between;
-            lines = a.lines;
-            rests = rest a.next a.matches (ap turn_of a.lines ∙ at) (ends refl);
-            put = a.put;
-          }
-  ticks_end s (Some failure) f c count before after faults faults' did ends = record { goes = did.goes; keeps = did.keeps; late = did.late }
+  ticks_end s None f c count before after faults faults' did ends = record {
+    goes = rested s f c count before after (did.keeps.ready refl).0 (ends refl) did.goes;
+    keeps = did.keeps;
+    late = did.late;
+    aside = λ none blank.
+        let (blank_new, goes) = did.aside refl blank in
+        (blank_new, rested (beside s) (beside_new f) c count before after (ready_beside f c (did.keeps.ready refl).0) (ends_beside f c count limit (ends refl)) goes);
+  }
+  ticks_end s (Some failure) f c count before after faults faults' did ends = record { goes = did.goes; keeps = did.keeps; late = did.late; aside = λ none blank. absurd (let no : ⊥ = cc in no) }
 
 -- what a loop over ticks has left to do
 abbrev pub ticks_left : Option Failure → ℕ → ℕ

@@ -11,7 +11,8 @@ use Rattle.g_step.specs.CallStep.{down}
 use Rattle.g_step.specs.State.{State}
 use Rattle.g_tape.specs.Rack.{Rack}
 use Rattle.g_world.specs.Devices.{Devices, StandFor}
-use Rattle.g_world.specs.Top.{AreArmings}
+use Rattle.g_world.specs.Top.{AreArmings, EndsWhole}
+use Rattle.g_world_laws.specs.Anew.{AreBlank, BeginAnew, NoDiscFault, with_new_disc}
 use Rattle.g_console.specs.declared.progress.Failure.{Failure}
 use Rattle.g_console.specs.Puts.{FaultCause, Puts}
 use Rattle.g_console.specs.System.{BelongTogether, SameDevices, StandsAs, SystemFacts, devices_in}
@@ -34,6 +35,8 @@ pub record TakenDown (f : SystemFacts) (d : Devices) : Type 0 where
 module _ {F U : Type 0} (tariffs : Shared F (Bor Usage × Unit {0}) Charge) (tariff : F) (rules : Shared U (Bor Standing × Unit {0}) ℕ) (rule : U) where
   pub record DidScript (lines : List Timed) (bad : Option ℕ) (old : Devices) (failure : Option Failure) (new : Devices) (before after : Option (List ℕ)) (faults faults' : ℕ) : Type 0 where
     pub ends : EndsBy tariffs tariff rules rule failure lines bad old new before after
+    -- over devices to begin anew with, where it was done to its end: from the state of a new disc
+    pub anew : failure ≡ None → AreBlank old → NoDiscFault old new → BeginAnew lines → EndsWhole tariffs tariff rules rule lines bad (with_new_disc old) new before after
     pub arms : AreArmings lines (failure ≡ None) old new
     pub same : SameDevices old new
     pub belongs : BelongTogether old → BelongTogether new

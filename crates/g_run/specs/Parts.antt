@@ -13,8 +13,10 @@ use Rattle.g_world.specs.Lines.{is_process}
 use Rattle.g_world.specs.Moves.{Move, MovesCounted, Run}
 use Rattle.g_world.specs.Top.{AreArmings}
 use Rattle.g_world.specs.World.{World, is_due, nothing_steps}
+use Rattle.g_world_laws.specs.Anew.{BeginAnew, NoDiscFault, is_aside}
 use Rattle.g_crew.specs.Numbers.{AreOpen}
 use Rattle.g_console.specs.declared.progress.Failure.{Failure}
+use Rattle.g_console.specs.Anew.{IsBlank, beside}
 use Rattle.g_console.specs.Parts.{IsReady, IsWithin, Matches, Seen}
 use Rattle.g_console.specs.Puts.{FaultCause}
 use Rattle.g_console.specs.System.{DumpsGrow, SameDevices, StandsAs, SystemBelongs, SystemFacts, devices_in}
@@ -120,12 +122,23 @@ pub record Keeps (done : List Timed) (old : Seen) (failure : Option Failure) (ne
   pub dumps : SystemBelongs old.system → DumpsKept done (devices_in old.system).rack (devices_in new.system).rack
   pub cause : FaultCause failure faults faults'
 
+-- lines that ask the filestore for nothing
+abbrev pub AreAside : List Timed → Type 0
+AreAside lines = All (λ next. is_aside next.what ≡ true) lines
+
+-- TO BEGIN ANEW: what is so of a part over devices to begin anew with, where nothing failed, nor the disc
+abbrev pub WhereBlank : Seen → Option Failure → Seen → Type 0 → Type 0
+WhereBlank old failure new Holds = failure ≡ None → IsBlank old.system → NoDiscFault (devices_in old.system) (devices_in new.system) → Holds
+
 module _ {F U : Type 0} (tariffs : Shared F (Bor Usage × Unit {0}) Charge) (tariff : F) (rules : Shared U (Bor Standing × Unit {0}) ℕ) (rule : U) where
   -- TICKS, as long as something steps, up to the turn of the next line, which the count doesn't pass
   pub record DidTicks (Rests : World → Type 0) (limit : Option ℕ) (old : Seen) (failure : Option Failure) (new : Seen) (before after : Option (List ℕ)) (faults faults' : ℕ) : Type 0 where
     pub goes : (lines : List Timed) → turn_of lines ≡ limit → PartGoes tariffs tariff rules rule Rests lines lines old failure new before after
     pub keeps : Keeps [] old failure new faults faults'
     pub late : failure ≡ None → (turn : ℕ) → limit ≡ Some turn → (new.count ≤ turn) ⊎ (new.count ≡ old.count)
+    -- beside a new disc none was done
+    pub aside : failure ≡ None → IsBlank old.system
+        → IsBlank new.system × ((lines : List Timed) → turn_of lines ≡ limit → PartGoes tariffs tariff rules rule Rests lines lines (beside old) None (beside new) before after)
 
   -- ONE TICK: the count is one more, and less is left to do
   pub record DidOne (limit : Option ℕ) (old : Seen) (failure : Option Failure) (new : Seen) (before after : Option (List ℕ)) (faults faults' : ℕ) : Type 0 where
@@ -138,8 +151,14 @@ module _ {F U : Type 0} (tariffs : Shared F (Bor Usage × Unit {0}) Charge) (tar
     pub goes : (rest : List Timed) → PartGoes tariffs tariff rules rule Anything (done ++ rest) rest old failure new before after
     pub keeps : Keeps done old failure new faults faults'
     pub late : failure ≡ None → (most : ℕ) → AreDueBy most done → old.count ≤ most → new.count ≤ most
+    -- to begin anew: as long as they ask the filestore for nothing, from and to what is at hand beside a new disc
+    pub aside : WhereBlank old failure new (AreAside done
+        → IsBlank new.system × ((rest : List Timed) → PartGoes tariffs tariff rules rule Anything (done ++ rest) rest (beside old) None (beside new) before after))
+    -- and with the FORMAT behind such lines, from what is at hand beside a new disc
+    pub anew : WhereBlank old failure new (BeginAnew done → (rest : List Timed) → PartGoes tariffs tariff rules rule Anything (done ++ rest) rest (beside old) None new before after)
 
   -- ALL OF THEM, and nothing steps behind them
   pub record DidAll (lines : List Timed) (old : Seen) (failure : Option Failure) (new : Seen) (before after : Option (List ℕ)) (faults faults' : ℕ) : Type 0 where
     pub goes : PartGoes tariffs tariff rules rule IsAtRest lines [] old failure new before after
     pub keeps : Keeps lines old failure new faults faults'
+    pub anew : WhereBlank old failure new (BeginAnew lines → PartGoes tariffs tariff rules rule IsAtRest lines [] (beside old) None new before after)

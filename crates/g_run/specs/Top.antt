@@ -13,6 +13,7 @@ use Rattle.g_script.specs.Script.{IsParsed}
 use Rattle.g_script.specs.declared.operator.Timed.{Timed}
 use Rattle.g_world.specs.Devices.{Devices}
 use Rattle.g_world.specs.Top.{EndsShort, EndsWhole, IsCut, words_line}
+use Rattle.g_world_laws.specs.Anew.{AreBlank, BeginAnew, NoDiscFault}
 use Rattle.g_console.specs.declared.progress.Failure.{Failure}
 use Rattle.g_console.specs.declared.progress.Failure.TheVariants as failures
 use Rattle.g_run.specs.Demo.{PutsDemo}
@@ -94,6 +95,16 @@ module _ {F U : Type 0} (tariffs : Shared F (Bor Usage × Unit {0}) Charge) (tar
   EndsDemo (BadScript line) demo before after = ⊥
   EndsDemo ScriptFault demo before after = ⊥
   EndsDemo TooLong demo before after = ⊥
+
+-- TO BEGIN ANEW: the first line of the script beside MOUNT, UNMOUNT and STOP is a FORMAT, the devices tell and no reel holds anything, whatever
+-- the disc holds; and the disc counts no failed read and no failed write in the run
+pub record BeginsAnew (left : List ℕ) (old new : Devices) : Type 0 where
+  pub lines : List Timed
+  pub bad : Option ℕ
+  pub parsed : IsParsed (lines_of left) lines bad
+  pub begin : BeginAnew lines
+  pub blank : AreBlank old
+  pub well : NoDiscFault old new
 
 -- a script that is too long gives no other statuses than these
 abbrev pub IsNotDone : Status → Type 0

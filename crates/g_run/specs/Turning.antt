@@ -1,5 +1,5 @@
 -- A TURN as it is taken over a store: what becomes of store and crew, and what is put.
-use Rattle.std.specs.Prelude.{◌≡◌, ◌⊎◌, ◌↔◌, ℕ, true, false, List, [], ◌++◌, Option, Some, None, codes}
+use Rattle.std.specs.Prelude.{◌≡◌, ◌⊎◌, ◌↔◌, ℕ, Bool, true, false, List, [], ◌++◌, Option, Some, None, codes}
 use Rattle.std.specs.Fmt.{decimal}
 use Rattle.std.specs.Fn.{Shared}
 use denote.Ref.{Bor}
@@ -66,6 +66,14 @@ abbrev pub ShowsAs : Option ℕ → Option ℕ → Type 0
 ShowsAs None None = Unit {0}
 ShowsAs (Some before) (Some t) = Unit {0}
 ShowsAs other elsewhere = ⊥
+
+-- THE SYSTEM BEHIND A TICK, of its store: it is up, or, where it was stopped, down
+abbrev pub left_by : Bool → StoreFacts → SystemFacts
+left_by true s = Down (record { disc = s.online.disc; rack = s.rack })
+left_by false s = Up s
+
+abbrev pub left_of : StoreFacts → SystemFacts
+left_of s = left_by s.spent s
 
 -- a store that may have been stopped, where memory ran out within a turn
 abbrev pub LeftBy : StoreFacts → SystemFacts → Type 0

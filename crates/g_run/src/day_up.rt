@@ -1,13 +1,49 @@
 //! What a run has at hand while its system is up.
-use g_console::Running;
+ghost use Rattle.std.specs.Prelude.{◌≡◌};
+ghost use Rattle.g_console.specs.Parts.{seen};
+ghost use Rattle.g_console.specs.System.{facts_of};
+ghost use Rattle.g_run.specs.Turning.{left_of};
+
+use g_console::{Day, Ended, Failure, Running, System, take_down};
 use g_crew::Crew;
 use g_disc::Disc;
 use g_tape::Tapes;
 
-/// A day whose system is known to be up: its store, the crew and the count of ticks.
+/// A day whose system was up as a tick began: its store, the crew and the count of ticks. A tick changes it where it lies. Where
+/// its store was stopped the system counts as down from then on (docs/DEFINITIONS.md, "The whole run"), and the devices are taken
+/// out of the store behind the last tick.
 #[derive(Drop)]
 pub(crate) struct DayUp<D: Disc, T: Tapes> {
     pub(crate) store: Running<D, T>,
     pub(crate) crew: Crew,
     pub(crate) count: u64,
+}
+
+impl<D: Disc, T: Tapes> DayUp<D, T> {
+    /// The day behind its ticks, and why a run ends there, if it does.
+    pub(crate) fn ended(self, failure: Option<Failure>) -> Ended<D, T>
+        ensures day { result.day ≡ seen (left_of self.store) self.crew self.count }
+        ensures failure { result.failure ≡ failure }
+    {
+        let DayUp { store, crew, count } = self;
+        let system = left_of(store);
+        let day = Day {
+            system,
+            crew,
+            count,
+        };
+        Ended { day, failure }
+    }
+}
+
+/// The system of a store that may have been stopped.
+fn left_of<D: Disc, T: Tapes>(store: Running<D, T>) -> System<D, T>
+    ensures { facts_of D.state T.rack result ≡ left_of store }
+{
+    if store.spent() {
+        let (disc, tapes) = take_down(store);
+        System::Down(disc, tapes)
+    } else {
+        System::Up(store)
+    }
 }

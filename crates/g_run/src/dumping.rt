@@ -6,10 +6,11 @@ ghost use Rattle.g_crew.specs.Numbers.{AreOpen};
 ghost use Rattle.g_monitor.specs.Refusals.{fault_line};
 ghost use Rattle.g_world.specs.Texts.{dump_text};
 ghost use Rattle.g_run.specs.Tick.{DidDump};
+ghost use Rattle.g_run.specs.Turning.{left_of};
 
 use crate::day_up::DayUp;
 use g_base::NoMemory;
-use g_console::{Day, Ended, System, fails, push_told, told};
+use g_console::{Failure, push_told, say_made, tell_fault};
 use g_crew::dump_text;
 use g_disc::Disc;
 use g_dumper::DumpStep;
@@ -22,25 +23,18 @@ use std::alloc::Global;
 /// A step of the open dump, if there is one, and what is told of it: nothing while it goes on.
 pub(crate) fn dump_step<K: Sink, D: Disc, T: Tapes>(
     alloc: Global,
-    up: DayUp<D, T>,
+    up: &mut DayUp<D, T>,
     out: &mut K,
-) -> Ended<D, T>
-    requires ready { IsReady (system.Up up.store) up.crew }
-    requires open { AreOpen up.crew.jobs }
-    ensures did { DidDump (seen (system.Up up.store) up.crew up.count) result.failure result.day
+) -> Option<Failure>
+    requires ready { IsReady (system.Up up.old.store) up.old.crew }
+    requires open { AreOpen up.old.crew.jobs }
+    ensures did { DidDump (seen (system.Up up.old.store) up.old.crew up.old.count) result
+        (seen (left_of up.new.store) up.new.crew up.old.count)
         (K.written out.old) (K.written out.new) (K.faults out.old) (K.faults out.new) }
-    ensures count { result.day.count ≡ up.count }
+    ensures count { up.new.count ≡ up.old.count }
 {
     match up.store.dump_number() {
-        None => {
-            let DayUp { store, crew, count } = up;
-            let day = Day {
-                system: System::Up(store),
-                crew,
-                count,
-            };
-            Ended { day, failure: None }
-        }
+        None => None,
         Some(number) => step(alloc, up, number, out),
     }
 }
@@ -48,56 +42,30 @@ pub(crate) fn dump_step<K: Sink, D: Disc, T: Tapes>(
 /// The step of the dump of this number.
 fn step<K: Sink, D: Disc, T: Tapes>(
     alloc: Global,
-    up: DayUp<D, T>,
+    up: &mut DayUp<D, T>,
     number: u64,
     out: &mut K,
-) -> Ended<D, T>
-    requires ready { IsReady (system.Up up.store) up.crew }
-    requires open { AreOpen up.crew.jobs }
-    requires number { option_map (λ d. d.plan.number) up.store.dump ≡ Some number }
-    ensures did { DidDump (seen (system.Up up.store) up.crew up.count) result.failure result.day
+) -> Option<Failure>
+    requires ready { IsReady (system.Up up.old.store) up.old.crew }
+    requires open { AreOpen up.old.crew.jobs }
+    requires number { option_map (λ d. d.plan.number) up.old.store.dump ≡ Some number }
+    ensures did { DidDump (seen (system.Up up.old.store) up.old.crew up.old.count) result
+        (seen (left_of up.new.store) up.new.crew up.old.count)
         (K.written out.old) (K.written out.new) (K.faults out.old) (K.faults out.new) }
-    ensures count { result.day.count ≡ up.count }
+    ensures count { up.new.count ≡ up.old.count }
 {
-    let DayUp {
-        mut store,
-        crew,
-        count,
-    } = up;
-    match store.dump_step() {
-        Ok(DumpStep::Going) => Ended {
-            day: Day {
-                system: System::Up(store),
-                crew,
-                count,
-            },
-            failure: None,
-        },
+    match up.store.dump_step() {
+        Ok(DumpStep::Going) => None,
         Ok(DumpStep::Completed(done)) => {
             let made = dump_text(alloc, done, b"COMPLETED");
-            let day = Day {
-                system: System::Up(store),
-                crew,
-                count,
-            };
-            told(alloc, day, made, out)
+            say_made(alloc, up.count, made, out)
         }
         Err(fault) => {
-            if store.spent() {
-                let day = Day {
-                    system: System::Up(store),
-                    crew,
-                    count,
-                };
-                fails(alloc, day, fault, out)
+            if up.store.spent() {
+                tell_fault(alloc, &mut up.crew, up.count, &fault, out)
             } else {
                 let made = lost(alloc, number, &fault);
-                let day = Day {
-                    system: System::Up(store),
-                    crew,
-                    count,
-                };
-                told(alloc, day, made, out)
+                say_made(alloc, up.count, made, out)
             }
         }
     }

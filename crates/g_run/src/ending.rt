@@ -6,12 +6,12 @@ ghost use Rattle.g_crew.specs.Numbers.{job_in};
 ghost use Rattle.g_job.specs.State.{JobState};
 ghost use Rattle.g_world.specs.Texts as texts;
 ghost use Rattle.g_world.specs.Texts.{operator_line};
-ghost use Rattle.g_run.specs.Turning.{EndsTurn, GoesDown, GoesOn, ShowsAs, TakenOut, added_of};
+ghost use Rattle.g_run.specs.Turning.{EndsTurn, GoesDown, GoesOn, ShowsAs, TakenOut, added_of, left_of};
 
 use crate::day_up::DayUp;
 use crate::showing::end_shown;
 use g_base::NoMemory;
-use g_console::{Day, Ended, Failure, System, fails, put, told};
+use g_console::{Failure, put, say_made, tell_fault};
 use g_crew::{Taken, job_text};
 use g_disc::Disc;
 use g_io::Sink;
@@ -22,21 +22,21 @@ use g_tape::Tapes;
 use std::alloc::Global;
 
 /// The turn of the job of this number is over: what it has written on a terminal's file is put; a job that waits is told, one
-/// that has ended is taken out and its file put, and a stop takes the system down. Accounts open for users that the turn has
-/// made, unless it was stopped.
+/// that has ended is taken out and its file put, and of a stop it is told that the system is down. Accounts open for users that the
+/// turn has made, unless it was stopped.
 pub(crate) fn end_turn<K: Sink, D: Disc, T: Tapes>(
     alloc: Global,
-    up: DayUp<D, T>,
+    up: &mut DayUp<D, T>,
     number: u64,
     taken: Taken,
     out: &mut K,
-) -> Ended<D, T>
-    requires stopped { (up.store.spent ≡ true) ↔ (taken.turn ≡ Turn.Broken) }
-    requires there { (job : JobState) × (job_in number up.crew.jobs ≡ Some job) × ShowsAs taken.shown job.terminal }
-    ensures ends { (job : JobState) → job_in number up.crew.jobs ≡ Some job
-        → EndsTurn up.count number up.store up.crew (added_of taken.shown job) taken.turn result.failure result.day.system result.day.crew
+) -> Option<Failure>
+    requires stopped { (up.old.store.spent ≡ true) ↔ (taken.turn ≡ Turn.Broken) }
+    requires there { (job : JobState) × (job_in number up.old.crew.jobs ≡ Some job) × ShowsAs taken.shown job.terminal }
+    ensures ends { (job : JobState) → job_in number up.old.crew.jobs ≡ Some job
+        → EndsTurn up.old.count number up.old.store up.old.crew (added_of taken.shown job) taken.turn result (left_of up.new.store) up.new.crew
         (K.written out.old) (K.written out.new) (K.faults out.old) (K.faults out.new) }
-    ensures count { result.day.count ≡ up.count }
+    ensures count { up.new.count ≡ up.old.count }
 {
     match taken.shown {
         None => end_untold(alloc, up, number, taken.turn, out),
@@ -47,16 +47,16 @@ pub(crate) fn end_turn<K: Sink, D: Disc, T: Tapes>(
 /// The turn of a job at no terminal is over.
 fn end_untold<K: Sink, D: Disc, T: Tapes>(
     alloc: Global,
-    up: DayUp<D, T>,
+    up: &mut DayUp<D, T>,
     number: u64,
     turn: Turn,
     out: &mut K,
-) -> Ended<D, T>
-    requires stopped { (up.store.spent ≡ true) ↔ (turn ≡ Turn.Broken) }
-    requires there { (job : JobState) × (job_in number up.crew.jobs ≡ Some job) × (job.terminal ≡ None) }
-    ensures ends { EndsTurn up.count number up.store up.crew [] turn result.failure result.day.system result.day.crew
+) -> Option<Failure>
+    requires stopped { (up.old.store.spent ≡ true) ↔ (turn ≡ Turn.Broken) }
+    requires there { (job : JobState) × (job_in number up.old.crew.jobs ≡ Some job) × (job.terminal ≡ None) }
+    ensures ends { EndsTurn up.old.count number up.old.store up.old.crew [] turn result (left_of up.new.store) up.new.crew
         (K.written out.old) (K.written out.new) (K.faults out.old) (K.faults out.new) }
-    ensures count { result.day.count ≡ up.count }
+    ensures count { up.new.count ≡ up.old.count }
 {
     match turn {
         Turn::Broken => stops(alloc, up, out),
@@ -67,87 +67,50 @@ fn end_untold<K: Sink, D: Disc, T: Tapes>(
 }
 
 /// The system was stopped.
-fn stops<K: Sink, D: Disc, T: Tapes>(alloc: Global, up: DayUp<D, T>, out: &mut K) -> Ended<D, T>
-    ensures ends { GoesDown up.store [] up.count up.crew result.failure result.day.system result.day.crew
+fn stops<K: Sink, D: Disc, T: Tapes>(
+    alloc: Global,
+    up: &mut DayUp<D, T>,
+    out: &mut K,
+) -> Option<Failure>
+    requires stopped { up.old.store.spent ≡ true }
+    ensures ends { GoesDown up.old.store [] up.old.count up.old.crew result (left_of up.new.store) up.new.crew
         (K.written out.old) (K.written out.new) (K.faults out.old) (K.faults out.new) }
-    ensures count { result.day.count ≡ up.count }
+    ensures count { up.new.count ≡ up.old.count }
 {
-    let DayUp { store, crew, count } = up;
-    let day = Day {
-        system: System::Up(store),
-        crew,
-        count,
-    };
-    fails(alloc, day, StoreFault::Stopped, out)
+    tell_fault(alloc, &mut up.crew, up.count, &StoreFault::Stopped, out)
 }
 
 /// The job goes on.
-fn goes_on<D: Disc, T: Tapes>(up: DayUp<D, T>) -> Ended<D, T>
-    requires running { up.store.spent ≡ false }
-    ensures goes { (text : Option (List ℕ)) (faults : ℕ) → GoesOn up.store [] up.crew result.failure result.day.system result.day.crew text text faults faults }
-    ensures count { result.day.count ≡ up.count }
+fn goes_on<D: Disc, T: Tapes>(up: &mut DayUp<D, T>) -> Option<Failure>
+    requires running { up.old.store.spent ≡ false }
+    ensures goes { (text : Option (List ℕ)) (faults : ℕ) → GoesOn up.old.store [] up.old.crew result (left_of up.new.store) up.new.crew text text faults faults }
+    ensures count { up.new.count ≡ up.old.count }
 {
-    let DayUp {
-        store,
-        mut crew,
-        count,
-    } = up;
-    match crew.open_accounts(store.users()) {
-        Ok(()) => Ended {
-            day: Day {
-                system: System::Up(store),
-                crew,
-                count,
-            },
-            failure: None,
-        },
-        Err(NoMemory) => Ended {
-            day: Day {
-                system: System::Up(store),
-                crew,
-                count,
-            },
-            failure: Some(Failure::Memory),
-        },
+    match up.crew.open_accounts(up.store.users()) {
+        Ok(()) => None,
+        Err(NoMemory) => Some(Failure::Memory),
     }
 }
 
 /// The job waits for this reel.
 fn waits<K: Sink, D: Disc, T: Tapes>(
     alloc: Global,
-    up: DayUp<D, T>,
+    up: &mut DayUp<D, T>,
     number: u64,
     serial: u32,
     out: &mut K,
-) -> Ended<D, T>
-    requires running { up.store.spent ≡ false }
-    ensures goes { GoesOn up.store (operator_line up.count (texts.job_text number (codes "WANTS TAPE " ++ decimal serial))) up.crew result.failure
-        result.day.system result.day.crew (K.written out.old) (K.written out.new) (K.faults out.old) (K.faults out.new) }
-    ensures count { result.day.count ≡ up.count }
+) -> Option<Failure>
+    requires running { up.old.store.spent ≡ false }
+    ensures goes { GoesOn up.old.store (operator_line up.old.count (texts.job_text number (codes "WANTS TAPE " ++ decimal serial))) up.old.crew result
+        (left_of up.new.store) up.new.crew (K.written out.old) (K.written out.new) (K.faults out.old) (K.faults out.new) }
+    ensures count { up.new.count ≡ up.old.count }
 {
-    let DayUp {
-        store,
-        mut crew,
-        count,
-    } = up;
-    match crew.open_accounts(store.users()) {
+    match up.crew.open_accounts(up.store.users()) {
         Ok(()) => {
             let made = wants(alloc, number, serial);
-            let day = Day {
-                system: System::Up(store),
-                crew,
-                count,
-            };
-            told(alloc, day, made, out)
+            say_made(alloc, up.count, made, out)
         }
-        Err(NoMemory) => Ended {
-            day: Day {
-                system: System::Up(store),
-                crew,
-                count,
-            },
-            failure: Some(Failure::Memory),
-        },
+        Err(NoMemory) => Some(Failure::Memory),
     }
 }
 
@@ -162,14 +125,17 @@ pub(crate) fn wants(alloc: Global, number: u64, serial: u32) -> Result<Text, NoM
 }
 
 /// The job of this number has ended: it is taken out, and its file put.
-fn ends<K: Sink, D: Disc, T: Tapes>(up: DayUp<D, T>, number: u64, out: &mut K) -> Ended<D, T>
-    requires running { up.store.spent ≡ false }
-    requires there { (job : JobState) × (job_in number up.crew.jobs ≡ Some job) }
-    ensures ends { (job : JobState) × (mid : CrewState) × TakenOut job number up.crew mid × GoesOn up.store job.monitor mid result.failure
-        result.day.system result.day.crew (K.written out.old) (K.written out.new) (K.faults out.old) (K.faults out.new) }
-    ensures count { result.day.count ≡ up.count }
+fn ends<K: Sink, D: Disc, T: Tapes>(
+    up: &mut DayUp<D, T>,
+    number: u64,
+    out: &mut K,
+) -> Option<Failure>
+    requires running { up.old.store.spent ≡ false }
+    requires there { (job : JobState) × (job_in number up.old.crew.jobs ≡ Some job) }
+    ensures ends { (job : JobState) × (mid : CrewState) × TakenOut job number up.old.crew mid × GoesOn up.old.store job.monitor mid result
+        (left_of up.new.store) up.new.crew (K.written out.old) (K.written out.new) (K.faults out.old) (K.faults out.new) }
+    ensures count { up.new.count ≡ up.old.count }
 {
-    let mut up = up;
     match up.crew.end(number) {
         Some(job) => put_file(up, &job, out),
         None => unreachable!(),
@@ -177,34 +143,18 @@ fn ends<K: Sink, D: Disc, T: Tapes>(up: DayUp<D, T>, number: u64, out: &mut K) -
 }
 
 /// The file of a job that has ended is put.
-fn put_file<K: Sink, D: Disc, T: Tapes>(up: DayUp<D, T>, job: &Job, out: &mut K) -> Ended<D, T>
-    requires running { up.store.spent ≡ false }
-    ensures goes { GoesOn up.store job.now.monitor up.crew result.failure result.day.system result.day.crew
+fn put_file<K: Sink, D: Disc, T: Tapes>(
+    up: &mut DayUp<D, T>,
+    job: &Job,
+    out: &mut K,
+) -> Option<Failure>
+    requires running { up.old.store.spent ≡ false }
+    ensures goes { GoesOn up.old.store job.now.monitor up.old.crew result (left_of up.new.store) up.new.crew
         (K.written out.old) (K.written out.new) (K.faults out.old) (K.faults out.new) }
-    ensures count { result.day.count ≡ up.count }
+    ensures count { up.new.count ≡ up.old.count }
 {
-    let DayUp {
-        store,
-        mut crew,
-        count,
-    } = up;
-    match crew.open_accounts(store.users()) {
-        Ok(()) => {
-            let failure = put(out, job.monitor());
-            let day = Day {
-                system: System::Up(store),
-                crew,
-                count,
-            };
-            Ended { day, failure }
-        }
-        Err(NoMemory) => Ended {
-            day: Day {
-                system: System::Up(store),
-                crew,
-                count,
-            },
-            failure: Some(Failure::Memory),
-        },
+    match up.crew.open_accounts(up.store.users()) {
+        Ok(()) => put(out, job.monitor()),
+        Err(NoMemory) => Some(Failure::Memory),
     }
 }

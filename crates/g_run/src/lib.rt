@@ -20,6 +20,6 @@ mod ticks;
 mod top;
 mod turning;
 
-pub use law::{jobs_of_a_script_end, text_of_a_script_is_one};
+pub use law::{jobs_of_a_script_end, text_of_a_script_is_one, typed_lines_are_read};
 pub use status::Status;
 pub use top::{Finish, george};

@@ -75,7 +75,7 @@ pub(crate) fn run_script<
     }
 }
 
-/// The same over devices that are put into boxes for it: a run hands its system on at every tick, and of a system that is down
+/// The same over devices that are put into boxes for it: a run hands its system on at every line, and of a system that is down
 /// then two pointers move. Without memory for the boxes nothing is done.
 pub(crate) fn run_boxed<
     K: Sink,

@@ -8,12 +8,12 @@ ghost use Rattle.g_crew.specs.Seating.{pushed_of};
 ghost use Rattle.g_job.specs.State.{JobState};
 ghost use Rattle.g_world.specs.Texts as texts;
 ghost use Rattle.g_world.specs.Texts.{operator_line};
-ghost use Rattle.g_run.specs.Turning.{EndsTurn, GoesDown, GoesOn, TakenOut};
+ghost use Rattle.g_run.specs.Turning.{EndsTurn, GoesDown, GoesOn, TakenOut, left_of};
 
 use crate::day_up::DayUp;
 use crate::ending::wants;
 use g_base::NoMemory;
-use g_console::{Day, Ended, Failure, System, put_made, stops_behind};
+use g_console::{Failure, put_made, stops_behind};
 use g_crew::{Crew, push_operator_line};
 use g_disc::Disc;
 use g_io::Sink;
@@ -25,25 +25,24 @@ use std::alloc::Global;
 /// The turn of a terminal's job of this number is over, whose file had so many bytes before.
 pub(crate) fn end_shown<K: Sink, D: Disc, T: Tapes>(
     alloc: Global,
-    up: DayUp<D, T>,
+    up: &mut DayUp<D, T>,
     number: u64,
     before: usize,
     turn: Turn,
     out: &mut K,
-) -> Ended<D, T>
-    requires stopped { (up.store.spent ≡ true) ↔ (turn ≡ Turn.Broken) }
-    requires there { (job : JobState) × (terminal : ℕ) × (job_in number up.crew.jobs ≡ Some job) × (job.terminal ≡ Some terminal) }
-    ensures ends { (job : JobState) → job_in number up.crew.jobs ≡ Some job
-        → EndsTurn up.count number up.store up.crew (pushed_of job before) turn result.failure result.day.system result.day.crew
+) -> Option<Failure>
+    requires stopped { (up.old.store.spent ≡ true) ↔ (turn ≡ Turn.Broken) }
+    requires there { (job : JobState) × (terminal : ℕ) × (job_in number up.old.crew.jobs ≡ Some job) × (job.terminal ≡ Some terminal) }
+    ensures ends { (job : JobState) → job_in number up.old.crew.jobs ≡ Some job
+        → EndsTurn up.old.count number up.old.store up.old.crew (pushed_of job before) turn result (left_of up.new.store) up.new.crew
         (K.written out.old) (K.written out.new) (K.faults out.old) (K.faults out.new) }
-    ensures count { result.day.count ≡ up.count }
+    ensures count { up.new.count ≡ up.old.count }
 {
     let made = shown(alloc, &up.crew, number, before);
     match turn {
         Turn::Broken => stops(up, made, out),
         Turn::Wants { serial } => {
-            let count = up.count;
-            let told = wants_behind(alloc, made, count, number, serial);
+            let told = wants_behind(alloc, made, up.count, number, serial);
             goes_on(up, told, out)
         }
         Turn::Ran { .. } => goes_on(up, made, out),
@@ -80,78 +79,52 @@ fn wants_behind(
 
 /// The system was stopped.
 fn stops<K: Sink, D: Disc, T: Tapes>(
-    up: DayUp<D, T>,
+    up: &mut DayUp<D, T>,
     made: Result<Text, NoMemory>,
     out: &mut K,
-) -> Ended<D, T>
+) -> Option<Failure>
+    requires stopped { up.old.store.spent ≡ true }
     ensures ends { (text : List ℕ) → IfOk made (λ t. t ≡ text)
-        → GoesDown up.store text up.count up.crew result.failure result.day.system result.day.crew
+        → GoesDown up.old.store text up.old.count up.old.crew result (left_of up.new.store) up.new.crew
         (K.written out.old) (K.written out.new) (K.faults out.old) (K.faults out.new) }
-    ensures count { result.day.count ≡ up.count }
+    ensures count { up.new.count ≡ up.old.count }
 {
-    let DayUp { store, crew, count } = up;
-    let day = Day {
-        system: System::Up(store),
-        crew,
-        count,
-    };
-    stops_behind(day, made, out)
+    stops_behind(&mut up.crew, up.count, made, out)
 }
 
 /// Accounts open for users that the turn has made, and a text is put.
 fn goes_on<K: Sink, D: Disc, T: Tapes>(
-    up: DayUp<D, T>,
+    up: &mut DayUp<D, T>,
     made: Result<Text, NoMemory>,
     out: &mut K,
-) -> Ended<D, T>
-    requires running { up.store.spent ≡ false }
+) -> Option<Failure>
+    requires running { up.old.store.spent ≡ false }
     ensures goes { (text : List ℕ) → IfOk made (λ t. t ≡ text)
-        → GoesOn up.store text up.crew result.failure result.day.system result.day.crew
+        → GoesOn up.old.store text up.old.crew result (left_of up.new.store) up.new.crew
         (K.written out.old) (K.written out.new) (K.faults out.old) (K.faults out.new) }
-    ensures count { result.day.count ≡ up.count }
+    ensures count { up.new.count ≡ up.old.count }
 {
-    let DayUp {
-        store,
-        mut crew,
-        count,
-    } = up;
-    match crew.open_accounts(store.users()) {
-        Ok(()) => {
-            let failure = put_made(out, made);
-            let day = Day {
-                system: System::Up(store),
-                crew,
-                count,
-            };
-            Ended { day, failure }
-        }
-        Err(NoMemory) => Ended {
-            day: Day {
-                system: System::Up(store),
-                crew,
-                count,
-            },
-            failure: Some(Failure::Memory),
-        },
+    match up.crew.open_accounts(up.store.users()) {
+        Ok(()) => put_made(out, made),
+        Err(NoMemory) => Some(Failure::Memory),
     }
 }
 
 /// The job of this number has ended: it is taken out, and the end of its file put.
 fn ends<K: Sink, D: Disc, T: Tapes>(
-    up: DayUp<D, T>,
+    up: &mut DayUp<D, T>,
     number: u64,
     made: Result<Text, NoMemory>,
     out: &mut K,
-) -> Ended<D, T>
-    requires running { up.store.spent ≡ false }
-    requires there { (job : JobState) × (job_in number up.crew.jobs ≡ Some job) }
+) -> Option<Failure>
+    requires running { up.old.store.spent ≡ false }
+    requires there { (job : JobState) × (job_in number up.old.crew.jobs ≡ Some job) }
     ensures ends { (text : List ℕ) → IfOk made (λ t. t ≡ text)
-        → (job : JobState) × (mid : CrewState) × TakenOut job number up.crew mid
-        × GoesOn up.store text mid result.failure result.day.system result.day.crew
+        → (job : JobState) × (mid : CrewState) × TakenOut job number up.old.crew mid
+        × GoesOn up.old.store text mid result (left_of up.new.store) up.new.crew
         (K.written out.old) (K.written out.new) (K.faults out.old) (K.faults out.new) }
-    ensures count { result.day.count ≡ up.count }
+    ensures count { up.new.count ≡ up.old.count }
 {
-    let mut up = up;
     match up.crew.end(number) {
         Some(_job) => goes_on(up, made, out),
         None => unreachable!(),

@@ -6,13 +6,14 @@ ghost use Rattle.g_console.specs.System as system;
 ghost use Rattle.g_crew.specs.Numbers.{AreOpen};
 ghost use Rattle.g_sched.specs.Rule.{IsWeighRule};
 ghost use Rattle.g_run.specs.Tick.{DidTick};
+ghost use Rattle.g_run.specs.Turning.{left_of};
 
 use crate::day_up::DayUp;
 use crate::dumping::dump_step;
 use crate::rules::Rules;
 use crate::turning::take_turn;
 use g_budget::{Charge, Usage};
-use g_console::{Day, Ended, System};
+use g_console::Failure;
 use g_disc::Disc;
 use g_io::Sink;
 use g_sched::Standing;
@@ -23,41 +24,27 @@ use std::alloc::Global;
 /// that stopped the system, a turn of the job that is chosen, if one can step. The count is the caller's, who raises it.
 pub(crate) fn tick<K: Sink, D: Disc, T: Tapes, F: Fn(&Usage) -> Charge, U: Fn(&Standing) -> u64>(
     alloc: Global,
-    up: DayUp<D, T>,
+    up: &mut DayUp<D, T>,
     rules: &Rules<'_, F, U>,
     out: &mut K,
-) -> Ended<D, T>
-    requires ready { IsReady (system.Up up.store) up.crew }
-    requires open { AreOpen up.crew.jobs }
+) -> Option<Failure>
+    requires ready { IsReady (system.Up up.old.store) up.old.crew }
+    requires open { AreOpen up.old.crew.jobs }
     requires tariff { IsTariff F.Fn rules.now.tariff.now }
     requires rule { IsWeighRule U.Fn rules.now.weigh.now }
-    ensures did { DidTick F.Fn rules.now.tariff.now U.Fn rules.now.weigh.now (seen (system.Up up.store) up.crew up.count) result.failure result.day
+    ensures did { DidTick F.Fn rules.now.tariff.now U.Fn rules.now.weigh.now (seen (system.Up up.old.store) up.old.crew up.old.count) result
+        (seen (left_of up.new.store) up.new.crew up.old.count)
         (K.written out.old) (K.written out.new) (K.faults out.old) (K.faults out.new) }
-    ensures count { result.day.count ≡ up.count }
+    ensures count { up.new.count ≡ up.old.count }
 {
-    let Ended { day, failure } = dump_step(alloc, up, out);
-    match failure {
+    match dump_step(alloc, up, out) {
         None => {
-            let Day {
-                system,
-                crew,
-                count,
-            } = day;
-            match system {
-                System::Up(store) => take_turn(alloc, DayUp { store, crew, count }, rules, out),
-                System::Down(disc, tapes) => Ended {
-                    day: Day {
-                        system: System::Down(disc, tapes),
-                        crew,
-                        count,
-                    },
-                    failure: None,
-                },
+            if up.store.spent() {
+                None
+            } else {
+                take_turn(alloc, up, rules, out)
             }
         }
-        Some(failure) => Ended {
-            day,
-            failure: Some(failure),
-        },
+        Some(failure) => Some(failure),
     }
 }

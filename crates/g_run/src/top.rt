@@ -13,6 +13,7 @@ ghost use Rattle.g_script.specs.Script.{IsParsed};
 ghost use Rattle.g_script.specs.declared.operator.Timed.{Timed};
 ghost use Rattle.g_state_process.specs.Moving.{DumpsMove};
 ghost use Rattle.g_world.specs.Top.{AreArmings, IsCutWords, words_line};
+ghost use Rattle.g_world_laws.specs.Anew.{with_new_disc};
 ghost use Rattle.g_world_laws.specs.Filestores.{HasFilestore};
 ghost use Rattle.g_run.specs.Input.{IsRun};
 ghost use Rattle.g_run.specs.Over.{both};
@@ -92,6 +93,14 @@ pub fn george<
     ensures ends { IsRun words.now → (left : List ℕ) → S.left script.old ≡ Some left →
         top.EndsAs F.Fn tariff.now U.Fn weigh.now result.status left (both (D.state disc) (T.rack tapes)) (both (D.state result.disc) (T.rack result.tapes))
         (K.written out.old) (K.written out.new) }
+    // To begin anew, over a disc that may name copies which no reel has, so that disc and rack don't belong together: the run is one from
+    // the state of a new disc beside the same reels, and they belong together at its end.
+    ensures anew { IsRun words.now → (left : List ℕ) → S.left script.old ≡ Some left → top.IsThrough result.status
+        → top.BeginsAnew left (both (D.state disc) (T.rack tapes)) (both (D.state result.disc) (T.rack result.tapes))
+        → top.EndsAs F.Fn tariff.now U.Fn weigh.now result.status left (with_new_disc (both (D.state disc) (T.rack tapes))) (both (D.state result.disc) (T.rack result.tapes))
+        (K.written out.old) (K.written out.new)
+        × BelongTogether (both (D.state result.disc) (T.rack result.tapes)) }
+
     ensures words { AskNothing (texts_of words.now)
         → IsCutWords (both (D.state disc) (T.rack tapes)) (both (D.state result.disc) (T.rack result.tapes)) (K.written out.old) (K.written out.new) }
 

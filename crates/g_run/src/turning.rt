@@ -3,7 +3,6 @@ ghost use Rattle.std.specs.Prelude.{◌≡◌, ℕ, Some, false};
 ghost use Rattle.g_budget.specs.Tariff.{IsTariff};
 ghost use Rattle.g_console.specs.Parts.{IsReady, seen};
 ghost use Rattle.g_console.specs.System as system;
-ghost use Rattle.g_console.specs.System.{facts_of};
 ghost use Rattle.g_crew.specs.Choice.{Chooses, able_in};
 ghost use Rattle.g_crew.specs.Numbers.{AreJobs, AreOpen, job_in};
 ghost use Rattle.g_job.specs.State.{JobState};
@@ -12,14 +11,14 @@ ghost use Rattle.g_step.specs.State as state;
 ghost use Rattle.g_step.specs.State.{State};
 ghost use Rattle.g_tape.specs.Rack.{is_mounted, reel};
 ghost use Rattle.g_run.specs.Tick.{DidTurn};
-ghost use Rattle.g_run.specs.Turning.{LeftBy, Takes};
+ghost use Rattle.g_run.specs.Turning.{Takes, left_of};
 
 use crate::day_up::DayUp;
 use crate::ending::end_turn;
 use crate::rules::Rules;
 use g_base::NoMemory;
 use g_budget::{Charge, Tariff, Usage};
-use g_console::{Day, Ended, Failure, Running, System, take_down};
+use g_console::{Failure, Running};
 use g_crew::Crew;
 use g_disc::Disc;
 use g_io::Sink;
@@ -34,26 +33,19 @@ pub(crate) fn take_turn<
     T: Tapes,
     F: Fn(&Usage) -> Charge,
     U: Fn(&Standing) -> u64,
->(alloc: Global, up: DayUp<D, T>, rules: &Rules<'_, F, U>, out: &mut K) -> Ended<D, T>
-    requires ready { IsReady (system.Up up.store) up.crew }
-    requires open { AreOpen up.crew.jobs }
+>(alloc: Global, up: &mut DayUp<D, T>, rules: &Rules<'_, F, U>, out: &mut K) -> Option<Failure>
+    requires ready { IsReady (system.Up up.old.store) up.old.crew }
+    requires open { AreOpen up.old.crew.jobs }
     requires tariff { IsTariff F.Fn rules.now.tariff.now }
     requires rule { IsWeighRule U.Fn rules.now.weigh.now }
-    ensures did { DidTurn F.Fn rules.now.tariff.now U.Fn rules.now.weigh.now (seen (system.Up up.store) up.crew up.count) result.failure result.day
+    ensures did { DidTurn F.Fn rules.now.tariff.now U.Fn rules.now.weigh.now (seen (system.Up up.old.store) up.old.crew up.old.count) result
+        (seen (left_of up.new.store) up.new.crew up.old.count)
         (K.written out.old) (K.written out.new) (K.faults out.old) (K.faults out.new) }
-    ensures count { result.day.count ≡ up.count }
+    ensures count { up.new.count ≡ up.old.count }
 {
     rises(&up.crew);
     match next_job(&up.store, &up.crew, rules.weigh) {
-        None => {
-            let DayUp { store, crew, count } = up;
-            let day = Day {
-                system: System::Up(store),
-                crew,
-                count,
-            };
-            Ended { day, failure: None }
-        }
+        None => None,
         Some(number) => turn_of(alloc, up, number, rules.tariff, out),
     }
 }
@@ -81,45 +73,21 @@ fn next_job<D: Disc, T: Tapes, U: Fn(&Standing) -> u64>(
 /// A turn of the job of this number.
 fn turn_of<K: Sink, D: Disc, T: Tapes, F: Fn(&Usage) -> Charge>(
     alloc: Global,
-    up: DayUp<D, T>,
+    up: &mut DayUp<D, T>,
     number: u64,
     tariff: &Tariff<F>,
     out: &mut K,
-) -> Ended<D, T>
-    requires running { up.store.spent ≡ false }
-    requires open { AreOpen up.crew.jobs }
-    requires there { (job : JobState) × (job_in number up.crew.jobs ≡ Some job) }
+) -> Option<Failure>
+    requires running { up.old.store.spent ≡ false }
+    requires open { AreOpen up.old.crew.jobs }
+    requires there { (job : JobState) × (job_in number up.old.crew.jobs ≡ Some job) }
     requires tariff { IsTariff F.Fn tariff.now }
-    ensures turn { Takes F.Fn tariff.now up.store up.crew up.count number result.failure result.day.system result.day.crew
+    ensures turn { Takes F.Fn tariff.now up.old.store up.old.crew up.old.count number result (left_of up.new.store) up.new.crew
         (K.written out.old) (K.written out.new) (K.faults out.old) (K.faults out.new) }
-    ensures count { result.day.count ≡ up.count }
+    ensures count { up.new.count ≡ up.old.count }
 {
-    let DayUp {
-        mut store,
-        mut crew,
-        count,
-    } = up;
-    match crew.turn(alloc, number, &mut store, tariff) {
-        Ok(taken) => end_turn(alloc, DayUp { store, crew, count }, number, taken, out),
-        Err(NoMemory) => Ended {
-            day: Day {
-                system: behind(store),
-                crew,
-                count,
-            },
-            failure: Some(Failure::Memory),
-        },
-    }
-}
-
-/// The system of a store that may have been stopped.
-fn behind<D: Disc, T: Tapes>(store: Running<D, T>) -> System<D, T>
-    ensures { LeftBy store (facts_of D.state T.rack result) }
-{
-    if store.spent() {
-        let (disc, tapes) = take_down(store);
-        System::Down(disc, tapes)
-    } else {
-        System::Up(store)
+    match up.crew.turn(alloc, number, &mut up.store, tariff) {
+        Ok(taken) => end_turn(alloc, up, number, taken, out),
+        Err(NoMemory) => Some(Failure::Memory),
     }
 }

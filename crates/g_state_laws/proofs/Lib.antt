@@ -6,4 +6,5 @@ pub mod PinLemmas
 pub mod RecordLemmas
 pub mod RefusalLemmas
 pub mod StateLemmas
+pub mod TiedLemmas
 pub mod UpOneLemmas

@@ -31,7 +31,7 @@ pairs_cons R x xs first rest zero (suc j) d less within = first j d (omega (arit
 pairs_cons R x xs first rest (suc i) zero d less within = let no : ⊥ = omega (arith, less) in absurd no
 pairs_cons R x xs first rest (suc i) (suc j) d less within = rest i j d (omega (arith, less)) (omega (arith, within))
 
-pairs_append : {A : Type 0} (R : A → A → Type 0) (xs ys : List A) → AllPairs R xs → AllPairs R ys → ((x y : A) → Contains xs x → Contains ys y → R x y) → AllPairs R (xs ++ ys)
+pub pairs_append : {A : Type 0} (R : A → A → Type 0) (xs ys : List A) → AllPairs R xs → AllPairs R ys → ((x y : A) → Contains xs x → Contains ys y → R x y) → AllPairs R (xs ++ ys)
 pairs_append R [] ys in_xs in_ys across = in_ys
 pairs_append R (x ∷ xs) ys in_xs in_ys across =
     pairs_cons R x (xs ++ ys)

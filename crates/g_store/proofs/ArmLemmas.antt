@@ -1,11 +1,10 @@
 -- A device is armed, and nothing changes of what the store means; and the devices that are taken out of a store stand for what it stood for.
-use Rattle.std.proofs.Common.{◌≡◌, ℕ, Bool, true, false, List, Option, Some, None, is_some, refl, sym, ◌∙◌, ap, subst, true≢false}
+use Rattle.std.proofs.Common.{◌≡◌, ℕ, Bool, true, false, List, Option, Some, None, is_some, refl, sym, ap, subst, true≢false}
 use Rattle.std.specs.Prelude.{IfSome}
 use Rattle.std.specs.Option.{ForSome}
 use Rattle.std.proofs.lemmas.Bool.{false≢true}
 use Rattle.g_base.specs.Fuse.{Arms}
 use Rattle.g_tape.specs.Rack.{Rack}
-use Rattle.g_contents.specs.Contents.{Holds, contents_of}
 use Rattle.g_contents.specs.Facts.{IsTied, OnlineFacts, Pin}
 use Rattle.g_incr.specs.Layout.{Dump}
 use Rattle.g_incr.specs.Plan.{dump_of}
@@ -14,10 +13,12 @@ use Rattle.g_step.specs.CallStep.{down}
 use Rattle.g_state.specs.Answers.{Belongs, IsStore}
 use Rattle.g_state.specs.Meaning.{told_reels}
 use Rattle.g_state.specs.Reading.{DevicesStandFor, StandsForState}
-use Rattle.g_state.specs.Up.{DumpFacts, IsOpen, IsReady, IsUp, StoreFacts, content_in}
+use Rattle.g_state.specs.Up.{DumpFacts, IsReady, IsUp, StoreFacts, content_in}
 use Rattle.g_state.proofs.ViewLemmas.{Stands, back, to}
+use Rattle.g_state.proofs.StayLemmas.{dump_stays_open}
 use Rattle.g_store.specs.Arming.{MeansTheSame}
 use Rattle.g_store_calls.proofs.SeenLemmas.{seen}
+use Rattle.g_state_laws.proofs.TiedLemmas.{holds_now}
 
 module _ (s : StoreFacts) (f g : Option ℕ) (a b : Arms) where
   abbrev online : OnlineFacts
@@ -29,26 +30,8 @@ module _ (s : StoreFacts) (f g : Option ℕ) (a b : Arms) where
   abbrev pub armed : StoreFacts
   armed = record s { online = online; rack = rack }
 
-  still_open : (dump : Option DumpFacts) → IfSome dump (λ d. IsOpen d s.online s.rack) → IfSome dump (λ d. IsOpen d online rack)
-  still_open None is = tt
-  still_open (Some d) is = record {
-    intent = is.intent;
-    number = is.number;
-    pins = is.pins;
-    pinned = is.pinned;
-    are = is.are;
-    on = is.on;
-    reel_is = is.reel_is;
-    mounted = is.mounted;
-    from = is.from;
-    length_is = is.length_is;
-    room = is.room;
-    within = is.within;
-    written = is.written;
-  }
-
   pub store_armed : IsTied online → IsStore s → IsStore armed
-  store_armed tied keeps = record { tied = tied; live = keeps.live; open_dump = λ up. still_open s.dump (keeps.open_dump up); pins = keeps.pins }
+  store_armed tied keeps = record { tied = tied; live = keeps.live; open_dump = λ up. dump_stays_open s.dump s.online online s.rack rack refl refl refl refl (keeps.open_dump up); pins = keeps.pins }
 
   ready_armed : (text : ℕ → List ℕ) (shelf : ℕ → List Dump) (dump : Option DumpFacts)
       → IfSome dump (λ d. (pins : List Pin) → s.online.pins ≡ Some pins → ForSome (content_in pins) (λ content. IsReady text shelf (told_reels s.rack) s.online (dump_of d.plan content)))
@@ -98,13 +81,6 @@ tape_armed s t f a r at is =
 some_of : {A : Type 0} (o : Option A) → is_some o ≡ true → (x : A) × (o ≡ Some x)
 some_of None is = absurd (false≢true is)
 some_of (Some x) is = (x, refl)
-
-holds_now : (o : OnlineFacts) → IsTied o → o.live ≡ true → (blocks : List (List ℕ)) → o.disc.held ≡ Some blocks → Holds blocks o.contents
-holds_now o tied live blocks held = record {
-  directory = o.layout.directory;
-  stands = tied.stands live blocks held;
-  are = tied.contents live ∙ ap (λ (h : Option (List (List ℕ))). contents_of h o.layout.directory) held;
-}
 
 pub down_stands : (s : StoreFacts) → IsStore s → is_some s.online.disc.held ≡ true → s.spent ≡ false → (u : State) → StandsForState s u
     → DevicesStandFor s.online.disc.size s.online.disc.held (told_reels s.rack) (down u)

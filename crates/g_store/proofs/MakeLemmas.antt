@@ -25,9 +25,9 @@ use Rattle.g_state.specs.Laws.{IsQuiet}
 use Rattle.g_state.specs.Meaning.{told_reels}
 use Rattle.g_state.specs.Reading.{AllTold, DevicesStandFor, HasText, IsRackView, IsView, StandsForState, View, holding_of, names_of, row_of, state_down, state_up, users_not_in}
 use Rattle.g_state.specs.Up.{StoreFacts}
-use Rattle.g_migrate.proofs.KeepsLemmas.{devices_belong}
 use Rattle.g_store.proofs.MigrateLemmas.{files_seen, rack_seen}
 use Rattle.g_store_calls.proofs.SeenLemmas.{stands}
+use Rattle.g_state_laws.proofs.TiedLemmas.{devices_belong}
 
 abbrev pub store_of : OnlineFacts → Rack → StoreFacts
 store_of o rack = record { online = o; rack = rack; dump = None; spent = false }

@@ -5,6 +5,7 @@ use Rattle.std.proofs.lemmas.Bool.{false≢true}
 use Rattle.std.proofs.lemmas.Option.{none-some}
 use Rattle.g_base.specs.Counts.{RoseBy}
 use Rattle.g_disc.specs.Disc.{Causes}
+use Rattle.g_disc.proofs.CallLemmas.{Causes-for}
 use Rattle.g_entry.specs.declared.file_rec.FileRec.{FileRec}
 use Rattle.g_entry.specs.declared.file_rec.TapeCopy.{TapeCopy}
 use Rattle.g_entry.specs.declared.user_rec.UserRec.{UserRec}
@@ -419,14 +420,7 @@ module _ (path : Path) (t : StoreFacts) (unspent : t.spent ≡ false) (keeps : I
       let on = is_online f (Ok u) said (λ e. let no : ⊥ = cc in no) in
       let copied = is_copied f (Ok u) said on (λ e. let no : ⊥ = cc in no) in
       migrated path t unspent keeps full f is on copied new done.told done.causes.size keep done.ok
-      (record {
-        size = done.causes.size;
-        arms = done.causes.arms;
-        reads_kept = done.causes.reads_kept;
-        reads_rose = done.causes.reads_rose;
-        writes_kept = λ _. done.causes.writes_kept (λ e. let no : ⊥ = cc in no);
-        writes_rose = λ no. absurd no;
-      })
+      (Causes-for (λ p. p) (λ p. p) (λ e. absurd (let no : ⊥ = cc in no)) (λ no. absurd no) done.causes)
 
   at_offline : IsAnswered (Err Offline) → Then (Err Offline)
   at_offline (done, said) = unchanged Offline refl (done.same (λ e. let no : ⊥ = cc in no)) (offline path t unspent keeps full f is (said.offline.0 refl))
@@ -446,14 +440,7 @@ module _ (path : Path) (t : StoreFacts) (unspent : t.spent ≡ false) (keeps : I
       let on = is_online f (Err Stopped) said (λ e. let no : ⊥ = cc in no) in
       let copied = is_copied f (Err Stopped) said on (λ e. let no : ⊥ = cc in no) in
       cut path t unspent keeps full f is on copied new done.told done.causes.size keep (done.stopped refl)
-      (record {
-        size = done.causes.size;
-        arms = done.causes.arms;
-        reads_kept = done.causes.reads_kept;
-        reads_rose = done.causes.reads_rose;
-        writes_kept = λ none. absurd (none tt);
-        writes_rose = λ _. done.causes.writes_rose refl;
-      })
+      (Causes-for (λ p. p) (λ p. p) (λ _. tt) (λ _. refl) done.causes)
 
   at : (r : Result (Unit {0}) StoreFault) → OnErr r ((r ≡ Err Offline) ⊎ ((r ≡ Err NotDumped) ⊎ ((r ≡ Err Stopped) ⊎ (r ≡ Err NoMemory)))) → IsAnswered r → Then r
   at (Ok u) only both = at_ok u both

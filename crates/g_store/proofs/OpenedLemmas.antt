@@ -12,6 +12,7 @@ use Rattle.std.proofs.lemmas.List.Elements.{All-contains, All-head, All-tail, Al
 use Rattle.g_base.specs.Counts.{Rose}
 use Rattle.g_base.specs.Block.{blocks_for}
 use Rattle.g_disc.specs.Disc.{Causes}
+use Rattle.g_disc.proofs.CallLemmas.{Causes-for}
 use Rattle.g_entry.specs.declared.file_rec.FileRec.{FileRec}
 use Rattle.g_entry.specs.HeadFields.{IsSerial}
 use Rattle.g_tape.specs.declared.fault.TapeFault.{TapeFault}
@@ -734,14 +735,7 @@ module _ (serial : ℕ) (o : OnlineFacts) (rack : Rack) (on : Reel) (on_is : ree
       let capacity : begins.open_dump.on.capacity ≡ on.capacity = ap (λ (x : Reel). x.capacity) one ∙ ap (λ (x : Reel). x.capacity) same in
       let room = begins.open_dump.room in
       opens_ok new after d said.tied said.reads (said.refused.kept (λ no. let it : ⊥ = cc in it)) begins
-      (record {
-        size = said.causes.size;
-        arms = said.causes.arms;
-        reads_kept = said.causes.reads_kept;
-        reads_rose = said.causes.reads_rose;
-        writes_kept = λ _. said.causes.writes_kept (λ no. let it : ⊥ = cc in it);
-        writes_rose = λ no. absurd no;
-      }) (omega (arith, room, capacity)) said.keeps
+      (Causes-for (λ p. p) (λ p. p) (λ no. absurd (let it : ⊥ = cc in it)) (λ no. absurd no) said.causes) (omega (arith, room, capacity)) said.keeps
   by_answer right new after (Err Stopped) said =
       cut new after said.tied said.reads said.causes.size (said.causes.writes_rose refl) right (said.stopped refl) said.causes.arms (said.causes.reads_kept (λ no. no)) said.keeps said.refused
   by_answer right new after (Err TapeReadFault) said = couldnt_read new after said.tied said.reads said.left said.keeps said.refused

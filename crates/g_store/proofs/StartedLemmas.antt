@@ -4,6 +4,7 @@ use Rattle.std.specs.Prelude.{◌⊎◌, ◌<◌, IfSome, map, if◌then◌else�
 use Rattle.std.specs.Option.{ForSome, option_map}
 use Rattle.g_base.specs.Counts.{Rose, RoseBy}
 use Rattle.g_disc.specs.Disc.{Causes, DiscState, ReadsByCause}
+use Rattle.g_disc.proofs.CallLemmas.{Causes-for}
 use Rattle.g_entry.specs.declared.head.Intent.{Intent}
 use Rattle.g_entry.specs.declared.file_rec.FileRec.{FileRec}
 use Rattle.g_entry.specs.declared.user_rec.UserRec.{UserRec}
@@ -513,14 +514,7 @@ module _ (disc : DiscState) (rack : Rack) (o : OnlineFacts) (loaded : HasLoaded 
       (begun_as_it_was disc rack o loaded after taken.reads (subst IsTied taken.takes.same taken.tied) kept taken.takes.none)
   begun_is (Some number) taken =
       let (it, number_is) = taken.takes in
-      let counts : Causes ⊥ ⊥ o.disc new.disc = record {
-        size = taken.causes.size;
-        arms = taken.causes.arms;
-        reads_kept = taken.causes.reads_kept;
-        reads_rose = taken.causes.reads_rose;
-        writes_kept = λ no. taken.causes.writes_kept (λ e. let no : ⊥ = cc in no);
-        writes_rose = λ is. absurd is;
-      } in
+      let counts : Causes ⊥ ⊥ o.disc new.disc = Causes-for (λ p. p) (λ p. p) (λ e. absurd (let no : ⊥ = cc in no)) (λ is. absurd is) taken.causes in
       subst (λ (n : ℕ). Begun disc rack (Some n) (store_of new after)) (sym number_is)
       (begun_with disc rack o loaded after taken.reads it.intent it.is it.files it.found new taken.tied taken.told counts (taken.kept (λ e. let no : ⊥ = cc in no)) it.leaves)
 
@@ -596,14 +590,7 @@ module _ (disc : DiscState) (rack : Rack) (o : OnlineFacts) (loaded : HasLoaded 
   cut_said : Says Stopped
   cut_said taken =
       let it = taken.takes in
-      let counts : Causes ⊥ (Unit {0}) o.disc new.disc = record {
-        size = taken.causes.size;
-        arms = taken.causes.arms;
-        reads_kept = taken.causes.reads_kept;
-        reads_rose = taken.causes.reads_rose;
-        writes_kept = λ no. absurd (no tt);
-        writes_rose = λ is. taken.causes.writes_rose refl;
-      } in
+      let counts : Causes ⊥ (Unit {0}) o.disc new.disc = Causes-for (λ p. p) (λ p. p) (λ _. tt) (λ _. refl) taken.causes in
       cut_is disc rack o loaded after taken.reads it.intent it.is it.files it.found new taken.told counts (kept_by Stopped taken (λ e. let no : ⊥ = cc in no)) it.leaves
 
   pub start_refused : (fault : StoreFault) → Says fault

@@ -3,6 +3,7 @@ use Rattle.std.proofs.Common.{◌≡◌, ◌≢◌, ℕ, ◌^◌, ◌<◌, true,
 use Rattle.std.specs.Prelude.{◌⊎◌, Bool, IfSome, if◌then◌else◌}
 use Rattle.g_base.specs.Counts.{Rose}
 use Rattle.g_disc.specs.Disc.{Causes, DiscState}
+use Rattle.g_disc.proofs.CallLemmas.{Causes-for}
 use Rattle.g_entry.specs.declared.file_rec.FileRec.{FileRec}
 use Rattle.g_entry.specs.declared.head.Intent.{Intent}
 use Rattle.g_entry.specs.HeadFields as head
@@ -83,14 +84,7 @@ module _ (o : OnlineFacts) (rack : Rack) (tied : IsTied o) where
         pub taken : Adopts i.number files o (Ok tt) new → TakesOver o rack (Ok (Some i.number)) new after
         taken done = record {
           takes = (record { intent = i; is = record { is = is; mounted_is = mounted }; files = files; found = named; leaves = done.ok }, refl);
-          causes = record {
-            size = done.causes.size;
-            arms = done.causes.arms;
-            reads_kept = done.causes.reads_kept;
-            reads_rose = done.causes.reads_rose;
-            writes_kept = λ no. done.causes.writes_kept (λ e. let no : ⊥ = cc in no);
-            writes_rose = λ e. let no : ⊥ = cc in absurd no;
-          };
+          causes = Causes-for (λ p. p) (λ p. p) (λ e. absurd (let no : ⊥ = cc in no)) (λ e. let no : ⊥ = cc in absurd no) done.causes;
           tied = done.tied;
           told = done.told;
           reads = only;
@@ -104,14 +98,7 @@ module _ (o : OnlineFacts) (rack : Rack) (tied : IsTied o) where
         cut : Left Stopped
         cut done = record {
           takes = record { intent = i; is = record { is = is; mounted_is = mounted }; files = files; found = named; leaves = done.stopped refl };
-          causes = record {
-            size = done.causes.size;
-            arms = done.causes.arms;
-            reads_kept = done.causes.reads_kept;
-            reads_rose = done.causes.reads_rose;
-            writes_kept = λ no. absurd (no refl);
-            writes_rose = λ e. done.causes.writes_rose refl;
-          };
+          causes = Causes-for (λ p. p) (λ p. p) (λ _. refl) (λ _. refl) done.causes;
           tied = done.tied;
           told = done.told;
           reads = only;
@@ -150,14 +137,7 @@ module _ (o : OnlineFacts) (number : ℕ) (dumped : List FileRec) (new : OnlineF
     ok = done.ok;
     stopped = λ e. let no : ⊥ = cc in absurd no;
     same = tt;
-    causes = record {
-      size = done.causes.size;
-      arms = done.causes.arms;
-      reads_kept = done.causes.reads_kept;
-      reads_rose = done.causes.reads_rose;
-      writes_kept = λ no. done.causes.writes_kept (λ e. let no : ⊥ = cc in no);
-      writes_rose = λ e. let no : ⊥ = cc in absurd no;
-    };
+    causes = Causes-for (λ p. p) (λ p. p) (λ e. absurd (let no : ⊥ = cc in no)) (λ e. let no : ⊥ = cc in absurd no) done.causes;
     tied = done.tied;
     told = done.told;
     only = tt;
@@ -168,14 +148,7 @@ module _ (o : OnlineFacts) (number : ℕ) (dumped : List FileRec) (new : OnlineF
     ok = tt;
     stopped = λ e. done.stopped refl;
     same = λ other. absurd (other refl);
-    causes = record {
-      size = done.causes.size;
-      arms = done.causes.arms;
-      reads_kept = done.causes.reads_kept;
-      reads_rose = done.causes.reads_rose;
-      writes_kept = λ no. absurd (no refl);
-      writes_rose = λ e. done.causes.writes_rose refl;
-    };
+    causes = Causes-for (λ p. p) (λ p. p) (λ _. refl) (λ _. refl) done.causes;
     tied = done.tied;
     told = done.told;
     only = inl refl;

@@ -23,9 +23,10 @@ use Rattle.g_state.specs.Answers.{Belongs, IsStore, Told, WroteCommits}
 use Rattle.g_state.specs.Meaning.{told_reels}
 use Rattle.g_state.specs.Reading.{AllTold, HasText, IsOpenView, IsRackView, IsView, OpensTo, Opened, StandsForState, View, open_of, state_up}
 use Rattle.g_state.specs.Up.{DumpFacts, IsOpen, IsUp, StoreFacts, with_dump}
+use Rattle.g_state.proofs.StayLemmas.{stays_open}
 use Rattle.g_state_laws.proofs.DumpingLemmas.{events_stay_up}
+use Rattle.g_state_laws.proofs.TiedLemmas.{devices_belong}
 use Rattle.g_state_steps.specs.Rooms.{held_in}
-use Rattle.g_migrate.proofs.KeepsLemmas.{devices_belong}
 use Rattle.g_store.specs.Refusing.{DoneOr, is_on, mount_refuses, rack_answer, unmount_refuses}
 use Rattle.g_store.specs.Events.{AnswersEvent, LeadsBy, Mounts, Unmounts}
 use Rattle.g_store.proofs.EventLemmas.{held_by, leads_same, none_written, refused}
@@ -120,21 +121,7 @@ module _ (s : ℕ) (is : Bool) (old : StoreFacts) (unspent : old.spent ≡ false
       still_open : (dump : Option DumpFacts) → IfSome dump (λ d. IsOpen d old.online old.rack) → IfSome dump (λ d. reel d.plan.serial (after s is old).rack.reels ≡ reel d.plan.serial old.rack.reels)
           → IfSome dump (λ d. IsOpen d old.online (after s is old).rack)
       still_open None is same = tt
-      still_open (Some d) is same = record {
-        intent = is.intent;
-        number = is.number;
-        pins = is.pins;
-        pinned = is.pinned;
-        are = is.are;
-        on = is.on;
-        reel_is = same ∙ is.reel_is;
-        mounted = is.mounted;
-        from = is.from;
-        length_is = is.length_is;
-        room = is.room;
-        within = is.within;
-        written = is.written;
-      }
+      still_open (Some d) opened same = stays_open d old.online old.online old.rack (after s is old).rack refl refl refl same opened
 
   -- the event is done
   pub done : (by : state.State → state.Holding → Outcome → Result (Unit {0}) StoreFault → state.State → Type 0)

@@ -1,8 +1,7 @@
 -- A new user.
 use Rattle.std.proofs.Common.{◌≡◌, ◌≢◌, ℕ, ◌<◌, ◌≤◌, ◌+◌, Bool, true, false, List, [], ◌∷◌, ◌++◌, length, Option, Some, None, is_some, refl, sym, ◌∙◌, ap, arith, inl, inr, slice_get, subst, All}
-use Rattle.std.specs.Prelude.{◌⊎◌, ◌||◌, Contains, IfSome, nat_le, not}
+use Rattle.std.specs.Prelude.{◌⊎◌, ◌||◌, Contains, IfSome, not}
 use Rattle.std.specs.FinMap.{len}
-use Rattle.std.proofs.lemmas.Bool.Decides.{leb_tells}
 use Rattle.std.proofs.lemmas.Bool.{cases_eq, false≢true}
 use Rattle.std.proofs.lemmas.List.{length-append}
 use Rattle.std.proofs.lemmas.List.Elements.{All-push, Contains-push_cases}
@@ -42,7 +41,7 @@ use Rattle.g_store_calls.specs.Made.{IsNewUser}
 use Rattle.g_store_calls.specs.Replies.{RefusesAs}
 use Rattle.g_store_calls.proofs.MarkLemmas.{has_first, only_grow}
 use Rattle.g_store_calls.proofs.RecordLemmas.{IsRecorded}
-use Rattle.g_store_calls.proofs.TellLemmas.{AreOff, granted_off, not_not, user_any}
+use Rattle.g_store_calls.proofs.TellLemmas.{AreOff, granted_off, not_not, user_any, below_of}
 use Rattle.g_online.proofs.UserLemmas.{slice_get-push}
 
 slice_last : {X : Type 0} (xs : List X) (x : X) → slice_get (xs ++ x ∷ []) (length xs) ≡ Some x
@@ -105,13 +104,6 @@ module _ (users : List UserRec) (files : List FileRec) (u : UserRec) (is : IsRec
       }
 
 -- A USER WHO MAY BE MADE: there is room, and nobody has the name
-over_few : (a b : ℕ) → not (nat_le a b) ≡ true → b < a
-over_few a b off = by_case (leb_tells a b)
-  where
-    by_case : ((nat_le a b ≡ true) × (a ≤ b)) ⊎ ((nat_le a b ≡ false) × (b < a)) → b < a
-    by_case (inl (is, le)) = absurd (false≢true (sym (ap not is) ∙ off))
-    by_case (inr (isnt, less)) = less
-
 module _ (users : List UserRec) (files : List FileRec) (next : ℕ) (who user : List ℕ) (space time money : ℕ) (is : IsRecords users files)
     (granted : RefusesAs users files next who (NewUser user space time money) None) where
   abbrev tree : Tree
@@ -124,7 +116,7 @@ module _ (users : List UserRec) (files : List FileRec) (next : ℕ) (who user : 
   maker_there bytes then_ = user_any users files who bytes zeros then_ next ∙ not_not (has_user tree who) off.0
 
   pub room_there : length users < 63
-  room_there = let count = count_users users files zeros next is in let few = over_few 63 (len tree.users) off.1.1.0 in omega (arith, count, few)
+  room_there = let count = count_users users files zeros next is in let few = below_of 63 (len tree.users) off.1.1.0 in omega (arith, count, few)
 
   pub name_new : All (λ w. w.user ≢ user) users
   name_new i d within same =

@@ -1,9 +1,7 @@
 -- Append, whatever was answered: what the plain step grants, and that the call is answered as the whole store answers it.
 use Rattle.std.proofs.Common.{◌≡◌, ◌≢◌, ℕ, ◌+◌, ◌<◌, ◌≤◌, ◌^◌, Bool, true, false, List, ◌∷◌, ◌++◌, length, Option, Some, None, Result, Ok, Err, is_some, refl, sym, ◌∙◌, ap, arith, inl, inr, subst}
-use Rattle.std.specs.Prelude.{◌⊎◌, Contains, nat_le, nat_lt, not}
+use Rattle.std.specs.Prelude.{◌⊎◌, Contains, not}
 use Rattle.std.specs.Option.{ForSome}
-use Rattle.std.proofs.lemmas.Bool.{cases_Bool, false≢true, ltb-false}
-use Rattle.std.proofs.lemmas.Bool.Decides.{leb_tells}
 use Rattle.std.proofs.lemmas.List.{length-replicate}
 use Rattle.g_name.specs.declared.full.Full.{Full}
 use Rattle.g_name.specs.declared.path.Path.{Path}
@@ -41,25 +39,11 @@ use Rattle.g_store_calls.specs.Replies.{RefusesAs}
 use Rattle.g_store_calls.proofs.AppendLemmas.{failed_answer, full_answer, lost_answer, starved, unread_answer, waits_answer}
 use Rattle.g_store_calls.proofs.AppendedLemmas.{causes_over, changed_over, done_answers, stopped_answers, stopped_over}
 use Rattle.g_store_calls.proofs.NextLemmas.{next_version}
-use Rattle.g_store_calls.proofs.TellLemmas.{AreOff, granted_off}
+use Rattle.g_store_calls.proofs.TellLemmas.{AreOff, granted_off, below_of, most_of}
 use Rattle.g_store_calls.proofs.WantLemmas.{Wants}
 use Rattle.g_disc.proofs.CallLemmas.{Causes-for}
 
 -- WHAT THE PLAIN STEP GRANTS
-below_of : (a b : ℕ) → not (nat_le a b) ≡ true → b < a
-below_of a b off = by_case (leb_tells a b)
-  where
-    by_case : ((nat_le a b ≡ true) × (a ≤ b)) ⊎ ((nat_le a b ≡ false) × (b < a)) → b < a
-    by_case (inl (is, le)) = absurd (false≢true (sym (ap not is) ∙ off))
-    by_case (inr (isnt, less)) = less
-
-most_of : (a b : ℕ) → not (nat_lt a b) ≡ true → b ≤ a
-most_of a b off = by_case (cases_Bool (nat_lt a b))
-  where
-    by_case : (nat_lt a b ≡ true) ⊎ (nat_lt a b ≡ false) → b ≤ a
-    by_case (inl is) = absurd (false≢true (sym (ap not is) ∙ off))
-    by_case (inr isnt) = ltb-false a b isnt
-
 module _ (users : List UserRec) (files : List FileRec) (next : ℕ) (who : List ℕ) (path : Path) (bytes : List ℕ) (is : IsRecords users files)
     (granted : RefusesAs users files next who (Append path bytes) None) where
   abbrev t : Tree

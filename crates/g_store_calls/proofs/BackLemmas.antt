@@ -1,7 +1,7 @@
 -- The step of a call that reads a file: of one that isn't on the disc, at each of its exits, and where the disc's read failed.
-use Rattle.std.proofs.Common.{◌≡◌, ℕ, ◌<◌, ◌≤◌, Bool, true, false, List, [], ◌∷◌, Option, Some, None, Result, Ok, Err, refl, sym, ap, arith, inl, inr, subst}
-use Rattle.std.specs.Prelude.{◌⊎◌, ◌||◌, ◌&&◌, MatchOption, is_some, nat_lt, not, unwrap_or}
-use Rattle.std.proofs.lemmas.Bool.{cases_Bool, le-ltb, lt-ltb, ltb-true, or_right}
+use Rattle.std.proofs.Common.{◌≡◌, ℕ, ◌<◌, ◌≤◌, Bool, true, false, List, [], ◌∷◌, Option, Some, None, Result, Ok, Err, refl, sym, ap, arith, subst}
+use Rattle.std.specs.Prelude.{◌||◌, ◌&&◌, MatchOption, is_some, nat_lt, not, unwrap_or}
+use Rattle.std.proofs.lemmas.Bool.{le-ltb, lt-ltb, or_right}
 use Rattle.g_plain.specs.declared.calls.StoreCall.{StoreCall}
 use Rattle.g_plain.specs.declared.calls.StoreReply.{StoreReply}
 use Rattle.g_plain.specs.declared.faults.StoreFault.{StoreFault}
@@ -86,12 +86,7 @@ module _ (u : State) (k : Holding) (who : List ℕ) (call : StoreCall) (granted 
         ∷ [])
 
     roomy : nat_lt (room_until u k who call 0) (need u k who call) ≡ false
-    roomy = by_test (cases_Bool (nat_lt (room_until u k who call 0) (need u k who call)))
-      where
-        by_test : (nat_lt (room_until u k who call 0) (need u k who call) ≡ true) ⊎ (nat_lt (room_until u k who call 0) (need u k who call) ≡ false)
-            → nat_lt (room_until u k who call 0) (need u k who call) ≡ false
-        by_test (inr is) = is
-        by_test (inl is) = let less = ltb-true (room_until u k who call 0) (need u k who call) is in let no : ⊥ = omega (arith, less, none) in absurd no
+    roomy = le-ltb (room_until u k who call 0) (need u k who call) (omega (arith, none))
 
     unread_late : late u k who call DiscRead 0 ≡ Some DiscReadFault
     unread_late = λ i. first_fault (

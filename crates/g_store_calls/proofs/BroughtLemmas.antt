@@ -26,6 +26,7 @@ use Rattle.g_online.specs.declared.change.Change.TheVariants.{Bring}
 use Rattle.g_online.specs.declared.unjam.Unjam.{Unjam}
 use Rattle.g_online.specs.Change.{changed, told_bytes, unjammed}
 use Rattle.g_online.specs.Done.{HasChanged, HasStopped}
+use Rattle.g_online.proofs.OffRuleLemmas.{rec_off}
 use Rattle.g_incr.specs.Layout.{Dump}
 use Rattle.g_step.specs.State.{Holding, OpenDump, State}
 use Rattle.g_step.specs.CallStep.{Cut, LeftByRefusal, Plain, after_call, after_unjam, brings, brings_now, down, is_offline, kept_intent, len_of, need, room_until, version_read, writes}
@@ -44,7 +45,6 @@ use Rattle.g_state_steps.proofs.RoomLemmas.{files_apart}
 use Rattle.g_state_steps.proofs.UnjamLemmas.{numbers_apart, unjam_is}
 use Rattle.g_retrieve.specs.Brought.{HasCopied, IsOnTape}
 use Rattle.g_retrieve.specs.Keeps.{KeepsDevices}
-use Rattle.g_retrieve.proofs.AllowLemmas.{rec_off}
 use Rattle.g_retrieve.proofs.HeldLemmas.{copied_one}
 use Rattle.g_store_calls.specs.Answering.{KeepsPlan, with_devices}
 use Rattle.g_store_calls.proofs.AddLemmas.{or_false}

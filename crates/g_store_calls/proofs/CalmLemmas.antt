@@ -1,7 +1,7 @@
 -- An answer that changes nothing, whatever store the filestore is in.
-use Rattle.std.proofs.Common.{◌≡◌, ℕ, Bool, true, false, List, [], ◌∷◌, length, Option, Some, None, Result, Ok, Err, refl, sym, ◌∙◌, ap, arith, inl, inr, subst, All}
-use Rattle.std.specs.Prelude.{◌⊎◌, ◌||◌, ◌&&◌, not, nat_lt, if◌then◌else◌, MatchOption, OnOk, is_some, unwrap_or}
-use Rattle.std.proofs.lemmas.Bool.{cases_Bool, false≢true, ltb-true}
+use Rattle.std.proofs.Common.{◌≡◌, ℕ, Bool, true, false, List, [], ◌∷◌, length, Option, Some, None, Result, Ok, Err, refl, sym, ◌∙◌, ap, arith, inl, subst, All}
+use Rattle.std.specs.Prelude.{◌||◌, ◌&&◌, not, nat_lt, if◌then◌else◌, MatchOption, OnOk, is_some, unwrap_or}
+use Rattle.std.proofs.lemmas.Bool.{false≢true, le-ltb}
 use Rattle.std.proofs.lemmas.List.Elements.{All-contains, All-map, All-weaker}
 use Rattle.g_disc.proofs.CallLemmas.{Causes-none}
 use Rattle.g_entry.specs.declared.file_rec.FileRec.{FileRec}
@@ -177,12 +177,7 @@ module _ (u : State) (k : Holding) (who : List ℕ) (call : StoreCall) (off : is
       ∷ [])
 
   roomy : nat_lt (room_until u k who call 0) (need u k who call) ≡ false
-  roomy = by_test (cases_Bool (nat_lt (room_until u k who call 0) (need u k who call)))
-    where
-      by_test : (nat_lt (room_until u k who call 0) (need u k who call) ≡ true) ⊎ (nat_lt (room_until u k who call 0) (need u k who call) ≡ false)
-          → nat_lt (room_until u k who call 0) (need u k who call) ≡ false
-      by_test (inr is) = is
-      by_test (inl is) = let less = ltb-true (room_until u k who call 0) (need u k who call) is in let no : ⊥ = omega (arith, less, none) in absurd no
+  roomy = le-ltb (room_until u k who call 0) (need u k who call) (omega (arith, none))
 
   pub nothing_unjammed : IsUnjam u k who call 0
   nothing_unjammed = record { enough = inl (omega (arith, none)); least = λ lower less. let no : ⊥ = omega (arith, less) in absurd no }

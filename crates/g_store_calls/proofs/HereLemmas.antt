@@ -24,7 +24,6 @@ use Rattle.g_state.specs.Up.{StoreFacts}
 use Rattle.g_state.proofs.StayLemmas.{dump_stays_open}
 use Rattle.g_state_calls.proofs.CallLemmas.{calls_go_by_step}
 use Rattle.g_state_steps.specs.Rooms.{held_in}
-use Rattle.g_migrate.proofs.KeepsLemmas.{moved}
 use Rattle.g_migrate.proofs.MigrationLemmas.{rules_here}
 use Rattle.g_store_calls.specs.Answering.{KeepsPlan, with_devices}
 use Rattle.g_store_calls.proofs.AskedLemmas.{has_bytes, met}
@@ -33,6 +32,7 @@ use Rattle.g_store_calls.proofs.CalmLemmas.{step_done}
 use Rattle.g_store_calls.proofs.SeenLemmas.{Seen, seen, stands}
 use Rattle.g_store_calls.proofs.TapeLemmas.{read_answers, stays}
 use Rattle.g_store_calls.proofs.WantLemmas.{Wants, granted_in, len_in, offline_in}
+use Rattle.g_state_laws.proofs.TiedLemmas.{moved}
 
 -- THE FILESTORE after a read of the disc that failed
 abbrev pub with_faults : OnlineFacts → ℕ → OnlineFacts

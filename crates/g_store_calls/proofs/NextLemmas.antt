@@ -1,11 +1,11 @@
 -- The record of a new version: in the place of the file of its number, or of a new file, the records keep their rules.
-use Rattle.std.proofs.Common.{◌≡◌, ◌≢◌, ℕ, zero, suc, ◌<◌, ◌≤◌, ◌^◌, Bool, true, List, [], ◌∷◌, ◌++◌, get_or, length, Option, Some, None, is_some, refl, sym, ◌∙◌, ap, arith, inl, inr, subst, All}
+use Rattle.std.proofs.Common.{◌≡◌, ◌≢◌, ℕ, zero, suc, ◌<◌, ◌≤◌, ◌^◌, Bool, true, List, [], ◌∷◌, get_or, length, Option, Some, None, is_some, refl, sym, ◌∙◌, ap, arith, inl, inr, subst, All}
 use Rattle.std.specs.Prelude.{◌⊎◌, AllPairs, Contains, IfSome, filter, nat_lt}
 use Rattle.std.specs.FinMap.{get, get-from_entries, len, nat_cmp-IsAntisymmetric}
 use Rattle.std.specs.Option.{option_map}
 use Rattle.std.proofs.lemmas.Bool.{cases_lt, false≢true, ltb-true}
 use Rattle.std.proofs.lemmas.Cmp.{nat_cmp_total}
-use Rattle.std.proofs.lemmas.List.Elements.{All-append, All-cons, All-contains, All-filter, Contains-append_right, Contains-get_or, filter_passes}
+use Rattle.std.proofs.lemmas.List.Elements.{All-append, All-cons, All-contains, All-filter, Contains-get_or, filter_passes}
 use Rattle.std.proofs.lemmas.List.Kept.{AllPairs-cons, AllPairs-filter}
 use Rattle.std.proofs.lemmas.Option.{same_Some}
 use Rattle.g_entry.specs.declared.file_rec.FileRec.{FileRec}
@@ -26,19 +26,11 @@ use Rattle.g_contents.specs.Contents.{recs_in}
 use Rattle.g_contents.specs.Facts.{IsTied, OnlineFacts}
 use Rattle.g_online.specs.Allowed.{KeepsRules}
 use Rattle.g_state_calls.specs.Calls.{IsVersionOf}
-use Rattle.g_state_laws.proofs.RecordLemmas.{apart_in, from_filter}
+use Rattle.g_state_laws.proofs.RecordLemmas.{apart_in, from_filter, pairs_append}
 use Rattle.g_migrate.proofs.MigrationLemmas.{rules_here}
 use Rattle.g_store_calls.specs.Versions.{IsNext}
 
 -- PAIRS of a list behind another
-pairs_append : {A : Type 0} (R : A → A → Type 0) (xs ys : List A) → AllPairs R xs → AllPairs R ys → ((x y : A) → Contains xs x → Contains ys y → R x y) → AllPairs R (xs ++ ys)
-pairs_append R [] ys in_xs in_ys across = in_ys
-pairs_append R (x ∷ xs) ys in_xs in_ys across =
-    AllPairs-cons R x (xs ++ ys)
-    (All-append (R x) xs ys (λ j d within. in_xs 0 (suc j) d (omega arith) (omega (arith, within))) (λ j d within. across x (get_or ys j d) (0, omega arith, refl) (Contains-get_or ys j d within)))
-    (pairs_append R xs ys (λ i j d less within. in_xs (suc i) (suc j) d (omega (arith, less)) (omega (arith, within))) in_ys
-    (λ a b in_a in_b. across a b (Contains-append_right (x ∷ []) xs a in_a) in_b))
-
 -- what passes a filter
 passed : {A : Type 0} (p : A → Bool) (xs : List A) (x : A) → Contains (filter p xs) x → p x ≡ true
 passed p xs x there = All-contains (λ y. p y ≡ true) (filter p xs) x (filter_passes p xs) there

@@ -1,9 +1,8 @@
 -- Put: what the path names for output, that the record is one of a new version, and that the call is answered as the whole store answers it.
-use Rattle.std.proofs.Common.{◌≡◌, ℕ, ◌<◌, ◌≤◌, ◌+◌, ◌^◌, Bool, true, false, List, ◌∷◌, length, Option, Some, None, Result, Ok, Err, is_some, unwrap_or, refl, sym, ◌∙◌, ap, arith, inl, inr, subst}
-use Rattle.std.specs.Prelude.{◌⊎◌, ◌==◌, ◌&&◌, IfSome, is_none, nat_le, nat_lt, not}
+use Rattle.std.proofs.Common.{◌≡◌, ℕ, ◌<◌, ◌≤◌, ◌+◌, ◌^◌, Bool, true, false, List, ◌∷◌, length, Option, Some, None, Result, Ok, Err, is_some, unwrap_or, refl, sym, ◌∙◌, ap, arith, subst}
+use Rattle.std.specs.Prelude.{◌==◌, ◌&&◌, IfSome, is_none, nat_le, not}
 use Rattle.std.specs.FinMap.{len}
-use Rattle.std.proofs.lemmas.Bool.{cases_Bool, eq-eqb, false≢true, ltb-false}
-use Rattle.std.proofs.lemmas.Bool.Decides.{leb_tells}
+use Rattle.std.proofs.lemmas.Bool.{eq-eqb, false≢true}
 use Rattle.g_base.specs.Block.{blocks_for}
 use Rattle.g_disc.proofs.CallLemmas.{Causes-for}
 use Rattle.g_entry.specs.declared.file_rec.FileRec.{FileRec}
@@ -40,24 +39,10 @@ use Rattle.g_store_calls.specs.Replies.{RefusesAs}
 use Rattle.g_store_calls.specs.Versions.{HasMade, HasPut, HasStoppedPut, IsFull, IsNext}
 use Rattle.g_store_calls.proofs.AheadLemmas.{ahead_stands, before_of}
 use Rattle.g_store_calls.proofs.CalmLemmas.{calmly, same_store, texts_fit}
-use Rattle.g_store_calls.proofs.TellLemmas.{AreOff, granted_off, not_not, user_any, user_missing}
+use Rattle.g_store_calls.proofs.TellLemmas.{AreOff, granted_off, not_not, user_any, user_missing, below_of, most_of}
 use Rattle.g_store_calls.proofs.VersionLemmas.{IsMet, belongs_done, belongs_stopped, leads_done, leads_full, leads_stopped, store_done}
 
 -- WHAT THE PLAIN STEP GRANTS
-below_of : (a b : ℕ) → not (nat_le a b) ≡ true → b < a
-below_of a b off = by_case (leb_tells a b)
-  where
-    by_case : ((nat_le a b ≡ true) × (a ≤ b)) ⊎ ((nat_le a b ≡ false) × (b < a)) → b < a
-    by_case (inl (is, le)) = absurd (false≢true (sym (ap not is) ∙ off))
-    by_case (inr (isnt, less)) = less
-
-most_of : (a b : ℕ) → not (nat_lt a b) ≡ true → b ≤ a
-most_of a b off = by_case (cases_Bool (nat_lt a b))
-  where
-    by_case : (nat_lt a b ≡ true) ⊎ (nat_lt a b ≡ false) → b ≤ a
-    by_case (inl is) = absurd (false≢true (sym (ap not is) ∙ off))
-    by_case (inr isnt) = ltb-false a b isnt
-
 both_on : (a b : Bool) → not (a && b) ≡ true → a ≡ true → not b ≡ true
 both_on true b off is = off
 both_on false b off is = absurd (false≢true is)

@@ -19,12 +19,12 @@ use Rattle.g_state.specs.Reading.{IsOpenView, IsView, ReelsTold, StandsForState,
 use Rattle.g_state.specs.Up.{IsUp, StoreFacts}
 use Rattle.g_state.proofs.StayLemmas.{dump_stays_open}
 use Rattle.g_state_steps.specs.Rooms.{held_in}
-use Rattle.g_migrate.proofs.KeepsLemmas.{moved}
 use Rattle.g_retrieve.specs.Keeps.{IsOver}
 use Rattle.g_retrieve.proofs.KeepsLemmas.{keeps_same}
 use Rattle.g_store_calls.specs.Answering.{with_devices}
 use Rattle.g_store_calls.specs.Asking.{HasAsked}
 use Rattle.g_store_calls.proofs.SeenLemmas.{Seen, seen, stands}
+use Rattle.g_state_laws.proofs.TiedLemmas.{moved}
 
 module _ (s : StoreFacts) (new : OnlineFacts) (after : Rack) (disc_fault tape_fault : Type 0) (unspent : s.spent ≡ false) (store : IsStore s)
     (asked : HasAsked disc_fault tape_fault s.online new s.rack after) where

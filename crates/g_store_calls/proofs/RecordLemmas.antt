@@ -1,7 +1,7 @@
 -- A call that changes records by one commit, whatever store the filestore is in.
 use Rattle.std.proofs.Common.{◌≡◌, ◌≢◌, ℕ, ◌<◌, ◌≤◌, ◌+◌, Bool, true, false, List, [], ◌∷◌, length, Option, Some, None, Result, Ok, Err, refl, sym, ◌∙◌, ap, arith, inl, inr, subst, true≢false, All}
 use Rattle.std.specs.Prelude.{◌⊎◌, ◌||◌, ◌&&◌, IfSome, MatchOption, if◌then◌else◌, is_some, nat_lt, not, unwrap_or}
-use Rattle.std.proofs.lemmas.Bool.{cases_Bool, false≢true, le-ltb, ltb-true}
+use Rattle.std.proofs.lemmas.Bool.{false≢true, le-ltb}
 use Rattle.g_base.specs.Counts.{RoseBy}
 use Rattle.g_disc.specs.Disc.{Causes}
 use Rattle.g_disc.proofs.CallLemmas.{Causes-for}
@@ -36,9 +36,9 @@ use Rattle.g_state.proofs.ViewLemmas.{Stands, back}
 use Rattle.g_state.proofs.StayLemmas.{stays_open}
 use Rattle.g_state_calls.specs.Calls.{IsBehind, IsKnown, marked}
 use Rattle.g_state_laws.proofs.DumpingLemmas.{events_stay_up}
+use Rattle.g_state_laws.proofs.TiedLemmas.{devices_belong, moved}
 use Rattle.g_state_steps.specs.Rooms.{held_in}
 use Rattle.g_migrate.specs.Keeps.{with_online}
-use Rattle.g_migrate.proofs.KeepsLemmas.{devices_belong, moved}
 use Rattle.g_store_calls.specs.Answering.{AnswersIn}
 use Rattle.g_store_calls.specs.Applied.{HasApplied, answer_with}
 use Rattle.g_store_calls.specs.Replies.{RefusesAs, RepliesAs}
@@ -107,12 +107,7 @@ module _ (u : State) (k : Holding) (who : List ℕ) (call : StoreCall) (off : is
       ∷ [])
 
   roomy : nat_lt (room_until u k who call 0) (need u k who call) ≡ false
-  roomy = by_test (cases_Bool (nat_lt (room_until u k who call 0) (need u k who call)))
-    where
-      by_test : (nat_lt (room_until u k who call 0) (need u k who call) ≡ true) ⊎ (nat_lt (room_until u k who call 0) (need u k who call) ≡ false)
-          → nat_lt (room_until u k who call 0) (need u k who call) ≡ false
-      by_test (inr is) = is
-      by_test (inl is) = let less = ltb-true (room_until u k who call 0) (need u k who call) is in let no : ⊥ = omega (arith, less, none) in absurd no
+  roomy = le-ltb (room_until u k who call 0) (need u k who call) (omega (arith, none))
 
   stopped_late : late u k who call Cut 0 ≡ Some Stopped
   stopped_late = λ i. first_fault (

@@ -1,10 +1,11 @@
 -- What is told of records.
-use Rattle.std.proofs.Common.{◌≡◌, ℕ, Bool, true, false, List, [], ◌∷◌, length, map, filter, Option, Some, None, Result, Ok, Err, is_some, unwrap_or, refl, sym, ◌∙◌, ap, arith, inl, subst, All}
-use Rattle.std.specs.Prelude.{◌||◌, Contains, IfOk, IfSome, if◌then◌else◌, not}
+use Rattle.std.proofs.Common.{◌≡◌, ℕ, Bool, true, false, List, [], ◌∷◌, length, map, filter, Option, Some, None, Result, Ok, Err, is_some, unwrap_or, refl, sym, ◌∙◌, ap, arith, inl, inr, subst, ◌<◌, ◌≤◌, All}
+use Rattle.std.specs.Prelude.{◌||◌, Contains, IfOk, IfSome, if◌then◌else◌, not, ◌⊎◌, nat_le, nat_lt}
 use Rattle.std.specs.FinMap.{entries, get, get-from_entries}
 use Rattle.std.specs.List.{AllByRecursion}
 use Rattle.std.specs.Option.{option_map}
-use Rattle.std.proofs.lemmas.Bool.{false≢true}
+use Rattle.std.proofs.lemmas.Bool.{cases_Bool, false≢true, ltb-false}
+use Rattle.std.proofs.lemmas.Bool.Decides.{leb_tells}
 use Rattle.std.proofs.lemmas.List.Elements.{All-cons, All-filter, All-map, All-nil}
 use Rattle.g_base.specs.declared.memory.NoMemory.{NoMemory}
 use Rattle.g_entry.specs.declared.file_rec.FileRec.{FileRec}
@@ -98,6 +99,20 @@ all_off (c ∷ cs) is = let (off, rest) = off_first c.0 c.1 (first_fault cs) is 
 
 pub granted_off : (t : Tree) (who : List ℕ) (call : StoreCall) → None ≡ fault_of t who call → AreOff ((not (has_user t who), NoUser) ∷ checks t who call)
 granted_off t who call is = all_off ((not (has_user t who), NoUser) ∷ checks t who call) is
+
+pub below_of : (a b : ℕ) → not (nat_le a b) ≡ true → b < a
+below_of a b off = by_case (leb_tells a b)
+  where
+    by_case : ((nat_le a b ≡ true) × (a ≤ b)) ⊎ ((nat_le a b ≡ false) × (b < a)) → b < a
+    by_case (inl (is, le)) = absurd (false≢true (sym (ap not is) ∙ off))
+    by_case (inr (isnt, less)) = less
+
+pub most_of : (a b : ℕ) → not (nat_lt a b) ≡ true → b ≤ a
+most_of a b off = by_case (cases_Bool (nat_lt a b))
+  where
+    by_case : (nat_lt a b ≡ true) ⊎ (nat_lt a b ≡ false) → b ≤ a
+    by_case (inl is) = absurd (false≢true (sym (ap not is) ∙ off))
+    by_case (inr isnt) = ltb-false a b isnt
 
 pub not_not : (b : Bool) → not (not b) ≡ true → b ≡ true
 not_not true is = refl

@@ -51,12 +51,12 @@ use Rattle.g_state_calls.specs.Calls.{IsAsked, IsBehind, IsVersionOf, marked, ve
 use Rattle.g_state_calls.proofs.CallLemmas.{calls_go_by_step}
 use Rattle.g_state_calls.proofs.FileLemmas.{offline_recs}
 use Rattle.g_state_laws.proofs.DumpingLemmas.{events_stay_up}
+use Rattle.g_state_laws.proofs.TiedLemmas.{devices_belong, moved}
 use Rattle.g_state_steps.specs.Rooms.{held_in}
 use Rattle.g_state_steps.specs.Unjam.{ArePlanned, IsUnjamPlan}
 use Rattle.g_state_steps.proofs.UnjamLemmas.{unjam_is}
 use Rattle.g_state_steps.proofs.WaitingLemmas.{mapped_there}
 use Rattle.g_migrate.specs.Keeps.{with_online}
-use Rattle.g_migrate.proofs.KeepsLemmas.{devices_belong, moved}
 use Rattle.g_store_calls.specs.Answering.{KeepsPlan}
 use Rattle.g_store_calls.specs.Versions.{HasRoom}
 use Rattle.g_store_calls.proofs.AddLemmas.{or_false}

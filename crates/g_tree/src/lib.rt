@@ -19,4 +19,5 @@ pub use laws::{
 };
 pub use number_list::NumberList;
 pub use output::Output;
+pub use scan::full_of;
 pub use tree::Tree;

@@ -20,18 +20,18 @@ returns-clause-ok g c =
     let unspent : c.args.online.now.contents.head.last_dump ≢ 2 ^ 62 - 1 = λ same. c.if-head-eq-LAST_NUMBER.false (ap (λ (h : Head). h.last_dump) c.head.ensures ∙ same) in
     if_ok _ _ _
     (λ d is.
-    begun c.args.serial c.in-Ok.place c.args.online.now (g.T.Tapes.rack c.args.tapes.now) (g.T.Tapes.rack c.end_of.new.tapes) (g.met.T.Tapes.well_formed _) c.in-Ok.ensures.reads c.in-Ok.ensures.end
+    begun c.args.serial c.in-Ok.place c.args.online.now (g.T.Tapes.rack c.args.tapes.now) (g.T.Tapes.rack c.end_of.new.self) (g.met.T.Tapes.well_formed _) c.in-Ok.ensures.reads c.in-Ok.ensures.end
     c.open.new.online c.requires.live c.requires.tied c.open.ensures.tied is.1 c.in-Ok.ensures.fits
-    (fits_then c.args.serial c.in-Ok.place c.args.online.now (g.T.Tapes.rack c.args.tapes.now) (g.T.Tapes.rack c.end_of.new.tapes) (g.met.T.Tapes.well_formed _) c.in-Ok.ensures.reads c.in-Ok.ensures.end
+    (fits_then c.args.serial c.in-Ok.place c.args.online.now (g.T.Tapes.rack c.args.tapes.now) (g.T.Tapes.rack c.end_of.new.self) (g.met.T.Tapes.well_formed _) c.in-Ok.ensures.reads c.in-Ok.ensures.end
     unspent c.needs-need.result c.room_behind-room.result (c.needs-need.ensures ∙ ap needs c.in-Ok-planned.ensures.writer) c.room_behind-room.ensures c.if-need-room.false c.in-Ok.ensures.fits)
-    (rules_planned c.args.serial c.in-Ok.place c.args.online.now (g.T.Tapes.rack c.args.tapes.now) (g.T.Tapes.rack c.end_of.new.tapes) (g.met.T.Tapes.well_formed _) c.in-Ok.ensures.reads c.in-Ok.ensures.end
+    (rules_planned c.args.serial c.in-Ok.place c.args.online.now (g.T.Tapes.rack c.args.tapes.now) (g.T.Tapes.rack c.end_of.new.self) (g.met.T.Tapes.well_formed _) c.in-Ok.ensures.reads c.in-Ok.ensures.end
     c.requires.live c.requires.tied unspent) d is.0) c.open.ensures.ok
 
 pub returns-clause-stopped : goal.returns-clause-stopped
 returns-clause-stopped g c = λ is.
     let unspent : c.args.online.now.contents.head.last_dump ≢ 2 ^ 62 - 1 = λ same. c.if-head-eq-LAST_NUMBER.false (ap (λ (h : Head). h.last_dump) c.head.ensures ∙ same) in
-    stopped_then c.args.serial c.in-Ok.place c.args.online.now (g.T.Tapes.rack c.args.tapes.now) (g.T.Tapes.rack c.end_of.new.tapes) (g.met.T.Tapes.well_formed _) c.in-Ok.ensures.reads c.in-Ok.ensures.end
+    stopped_then c.args.serial c.in-Ok.place c.args.online.now (g.T.Tapes.rack c.args.tapes.now) (g.T.Tapes.rack c.end_of.new.self) (g.met.T.Tapes.well_formed _) c.in-Ok.ensures.reads c.in-Ok.ensures.end
     c.open.new.online
-    (fits_then c.args.serial c.in-Ok.place c.args.online.now (g.T.Tapes.rack c.args.tapes.now) (g.T.Tapes.rack c.end_of.new.tapes) (g.met.T.Tapes.well_formed _) c.in-Ok.ensures.reads c.in-Ok.ensures.end
+    (fits_then c.args.serial c.in-Ok.place c.args.online.now (g.T.Tapes.rack c.args.tapes.now) (g.T.Tapes.rack c.end_of.new.self) (g.met.T.Tapes.well_formed _) c.in-Ok.ensures.reads c.in-Ok.ensures.end
     unspent c.needs-need.result c.room_behind-room.result (c.needs-need.ensures ∙ ap needs c.in-Ok-planned.ensures.writer) c.room_behind-room.ensures c.if-need-room.false c.in-Ok.ensures.fits)
     (c.open.ensures.stopped is)

@@ -20,6 +20,21 @@ returns-clause-ends g c = λ is left told.
     let answered : weight ≡ share_used says.shown.now = search rules in
     record { shown = says.shown; shows = says.shows; says = record { met = answered } })
 
+pub returns-clause-anew : goal.returns-clause-anew
+returns-clause-anew g c = λ is left told through begins.
+    let (ends, belong) = c.george.ensures.anew is left told through begins in (
+      ends_as (answering price) tt (answering share_used) tt _ _ _ _ _ _ ends
+          (λ usage charge says.
+          let met = says.says.met in
+          let answered : charge ≡ price says.shown.now = search rules in
+          record { shown = says.shown; shows = says.shows; says = record { met = answered } })
+          (λ standing weight says.
+          let met = says.says.met in
+          let answered : weight ≡ share_used says.shown.now = search rules in
+          record { shown = says.shown; shows = says.shows; says = record { met = answered } }),
+      belong,
+    )
+
 pub returns-clause-demo : goal.returns-clause-demo
 returns-clause-demo g c = λ demo is asked.
     let (same, ends) = c.george.ensures.demo demo is asked in (

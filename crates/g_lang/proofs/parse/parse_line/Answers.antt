@@ -1,5 +1,4 @@
 use Rattle.std.proofs.Common.{is_ok, ◌∙◌, sym, ap, subst, Some, Ok}
-use Rattle.std.proofs.lemmas.Result.{err_from_is_err_and}
 use Rattle.g_lang.specs.How.{read_trimmed}
 use Rattle.g_lang.specs.Lines.{LineSaid, Reading}
 use Rattle.g_lang.specs.Said.{line_said}
@@ -20,30 +19,26 @@ read_line-requires c =
     subst HasCommands (sym c.trimmed.ensures)
     (line-commands c.args.text.now (right-line c.args.text.now c.wrong_place.result c.wrong_place.ensures c.in_default.is))
 
-pub returns-clause-grammar : goal.returns-clause-grammar
-returns-clause-grammar c =
-    read-grammar c.args.text.now (line_said c.in_ok-line.line)
+pub returns-in-Ok-clause-grammar : goal.returns-in-Ok-clause-grammar
+returns-in-Ok-clause-grammar c =
+    read-grammar c.args.text.now (line_said c.in-Ok.line)
     (right-grammar c.args.text.now c.wrong_place.result c.wrong_place.ensures c.in_default.is
-    ∙ ap (λ (said : LineSaid). let r : Reading = Ok said in r) (sym (c.in_ok-line.ensures ∙ ap read_trimmed c.trimmed.ensures)))
+    ∙ ap (λ (said : LineSaid). let r : Reading = Ok said in r) (sym (c.in-Ok.ensures ∙ ap read_trimmed c.trimmed.ensures)))
 
-pub returns-clause-one : goal.returns-clause-one
-returns-clause-one c =
+pub returns-in-Ok-clause-one : goal.returns-in-Ok-clause-one
+returns-in-Ok-clause-one c =
     right-grammar c.args.text.now c.wrong_place.result c.wrong_place.ensures c.in_default.is
-    ∙ ap (λ (said : LineSaid). let r : Reading = Ok said in r) (sym (c.in_ok-line.ensures ∙ ap read_trimmed c.trimmed.ensures))
+    ∙ ap (λ (said : LineSaid). let r : Reading = Ok said in r) (sym (c.in-Ok.ensures ∙ ap read_trimmed c.trimmed.ensures))
 
-pub returns-clause-waiting : goal.returns-clause-waiting
-returns-clause-waiting c =
-    keeps-reading c.args.text.now (line_said c.in_ok-line.line)
-    (read-grammar c.args.text.now (line_said c.in_ok-line.line)
+pub returns-in-Ok-clause-waiting : goal.returns-in-Ok-clause-waiting
+returns-in-Ok-clause-waiting c =
+    keeps-reading c.args.text.now (line_said c.in-Ok.line)
+    (read-grammar c.args.text.now (line_said c.in-Ok.line)
     (right-grammar c.args.text.now c.wrong_place.result c.wrong_place.ensures c.in_default.is
-    ∙ ap (λ (said : LineSaid). let r : Reading = Ok said in r) (sym (c.in_ok-line.ensures ∙ ap read_trimmed c.trimmed.ensures))))
+    ∙ ap (λ (said : LineSaid). let r : Reading = Ok said in r) (sym (c.in-Ok.ensures ∙ ap read_trimmed c.trimmed.ensures))))
 
-pub returns-in_err-line-clause-grammar : goal.returns-in_err-line-clause-grammar
-returns-in_err-line-clause-grammar c =
-    let p = err_from_is_err_and c.from_residual.result c.from_residual.ensures.1 in
-    rw (p.1, p.2) (right-line c.args.text.now c.wrong_place.result c.wrong_place.ensures c.in_default.is)
+pub returns-in-Err-clause-grammar : goal.returns-in-Err-clause-grammar
+returns-in-Err-clause-grammar c = right-line c.args.text.now c.wrong_place.result c.wrong_place.ensures c.in_default.is
 
-pub returns-in_err-line-clause-one : goal.returns-in_err-line-clause-one
-returns-in_err-line-clause-one c =
-    let p = err_from_is_err_and c.from_residual.result c.from_residual.ensures.1 in
-    rw (p.1, p.2) (ap (λ (r : Reading). is_ok r) (right-grammar c.args.text.now c.wrong_place.result c.wrong_place.ensures c.in_default.is))
+pub returns-in-Err-clause-one : goal.returns-in-Err-clause-one
+returns-in-Err-clause-one c = ap (λ (r : Reading). is_ok r) (right-grammar c.args.text.now c.wrong_place.result c.wrong_place.ensures c.in_default.is)

@@ -7,7 +7,7 @@ use Rattle.g_retrieve.proofs.bytes.tape_bytes.Goals as goal
 pub returns-in-Ok-false-clause-none : goal.returns-in-Ok-false-clause-none
 returns-in-Ok-false-clause-none g c =
     let (ds, read, held) = rw c.blocks_for.ensures at c.in-Ok-false.ensures.held in
-    no_text c.args.copy.now c.args.len ds _ _ read (λ are. true≢false (sym (held.1 are) ∙ c.in-Ok-false.field-0-test))
+    no_text c.args.copy.now c.args.len ds (g.T.Tapes.rack c.args.tapes.now) read.completed (λ are. true≢false (sym (held.1 are) ∙ c.in-Ok-false.field-0-test))
 
 pub read_text-requires-clause-low : goal.read_text-requires-clause-low
 read_text-requires-clause-low g c =
@@ -27,7 +27,7 @@ read_text-requires-clause-fits g c =
 pub returns-in-Ok-clause-some : goal.returns-in-Ok-clause-some
 returns-in-Ok-clause-some g c =
     let (ds, read, held) = rw c.blocks_for.ensures at c.in-Ok-true.ensures.held in
-    some_text c.args.copy.now c.args.len c.in-Ok.text ds _ _ read (held.0 c.in-Ok-true.field-0-test) c.in-Ok.ensures.len
+    some_text c.args.copy.now c.args.len c.in-Ok.text ds (g.T.Tapes.rack c.args.tapes.now) read.completed (held.0 c.in-Ok-true.field-0-test) c.in-Ok.ensures.len
     (text_then c.args.copy.now.serial c.args.copy.now.first c.args.len c.in-Ok.text _ _ c.in-Ok-true.ensures.reads.only c.in-Ok.ensures.text)
 
 pub returns-in-Ok-clause-read : goal.returns-in-Ok-clause-read

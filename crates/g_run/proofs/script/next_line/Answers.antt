@@ -5,7 +5,7 @@ use Rattle.g_run.proofs.script.next_line.Goals as goal
 pub returns-in-None : goal.returns-in-None
 returns-in-None g c =
     let ticked = rw c.in-None.is at c.until-day.ensures in
-    line_done g.F.Fn c.args.rules.now.tariff.now g.U.Fn c.args.rules.now.weigh.now c.args.next _ _ c.operator_line.result.failure _ _ _ _ _ _ _ ticked c.operator_line.ensures.count c.operator_line.ensures
+    line_done g.F.Fn c.args.rules.now.tariff.now g.U.Fn c.args.rules.now.weigh.now c.args.next _ _ c.operator_line.result.failure _ _ _ _ _ _ _ ticked c.operator_line.ensures.line.count c.operator_line.ensures.line c.operator_line.ensures.anew
 
 pub returns-in-Some : goal.returns-in-Some
 returns-in-Some g c =

@@ -1,67 +1,56 @@
-use Rattle.std.proofs.Common.{ℕ, None, Option, Some, refl, sym, ◌∙◌, ap, subst}
-use Rattle.g_world.specs.Devices.{Devices}
-use Rattle.g_crew.specs.Numbers.{AreOpen}
+use Rattle.std.proofs.Common.{ℕ, None, Option, Some, sym, ◌∙◌, ap, subst}
 use Rattle.g_console.specs.declared.progress.Failure.{Failure}
-use Rattle.g_console.specs.Parts.{IsReady, Seen, seen}
-use Rattle.g_console.specs.System.{Down, SystemFacts, Up, facts_of}
+use Rattle.g_console.specs.Parts.{IsReady, seen}
+use Rattle.g_console.specs.System.{SystemFacts, Up}
 use Rattle.g_run.specs.Tick.{DidDump, DidTurn}
-use Rattle.g_run.proofs.SameLemmas.{same_dump, same_tick, same_turn}
+use Rattle.g_run.specs.Turning.{left_of}
+use Rattle.g_run.proofs.LeftLemmas.{left_down, left_up, seen_up}
+use Rattle.g_run.proofs.SameLemmas.{same_dump}
 use Rattle.g_run.proofs.TickLemmas.{both_did, dump_did}
 use Rattle.g_run.proofs.ticking.tick.Goals as goal
 
 pub take_turn-requires-clause-ready : goal.take_turn-requires-clause-ready
 take_turn-requires-clause-ready g c =
-    let at = ap (λ (f : SystemFacts). seen f c.day.inside.crew c.day.inside.count) (sym (ap (facts_of g.D.Disc.state g.T.Tapes.rack) c.in-Up.is)) ∙ c.day.view_is in
-    subst (λ (s : Seen). IsReady s.system s.crew) (sym at) (c.dump_step-day.ensures.did.keeps.ready c.in-None.is).0
+    let mid = c.dump_step.new.up in
+    subst (λ (f : SystemFacts). IsReady f mid.crew) (left_up mid.store (sym c.spent.ensures ∙ c.if-spent.false)) (c.dump_step.ensures.did.keeps.ready c.in-None.is).0
 
 pub take_turn-requires-clause-open : goal.take_turn-requires-clause-open
-take_turn-requires-clause-open g c = subst (λ (s : Seen). AreOpen s.crew.jobs) (sym c.day.view_is) (c.dump_step-day.ensures.did.keeps.ready c.in-None.is).1
+take_turn-requires-clause-open g c = (c.dump_step.ensures.did.keeps.ready c.in-None.is).1
 
-pub returns-in-Up-clause-did : goal.returns-in-Up-clause-did
-returns-in-Up-clause-did g c =
-    let before = seen (Up c.args.up.store) c.args.up.crew c.args.up.count in
-    let count = ap (λ (s : Seen). s.count) c.day.view_is ∙ c.dump_step-day.ensures.count in
-    let at = ap (λ (n : ℕ). seen (Up c.in-Up.store) c.day.inside.crew n) (sym count)
-    ∙ ap (λ (f : SystemFacts). seen f c.day.inside.crew c.day.inside.count) (sym (ap (facts_of g.D.Disc.state g.T.Tapes.rack) c.in-Up.is)) ∙ c.day.view_is in
-    let dumped : DidDump before None (seen (Up c.in-Up.store) c.day.inside.crew c.args.up.count) (g.K.Sink.written c.args.out.now) (g.K.Sink.written c.dump_step-day.new.out) (g.K.Sink.faults c.args.out.now) (g.K.Sink.faults c.dump_step-day.new.out) =
-    same_dump at (subst (λ (x : Option Failure). DidDump before x c.dump_step-day.result.day
-    (g.K.Sink.written c.args.out.now) (g.K.Sink.written c.dump_step-day.new.out) (g.K.Sink.faults c.args.out.now) (g.K.Sink.faults c.dump_step-day.new.out)) c.in-None.is c.dump_step-day.ensures.did) in
-    let turned : DidTurn g.F.Fn c.args.rules.now.tariff.now g.U.Fn c.args.rules.now.weigh.now (seen (Up c.in-Up.store) c.day.inside.crew c.args.up.count) c.take_turn.result.failure
-    (seen c.take_turn.result.day.system c.take_turn.result.day.crew c.args.up.count)
-    (g.K.Sink.written c.dump_step-day.new.out) (g.K.Sink.written c.take_turn.new.out) (g.K.Sink.faults c.dump_step-day.new.out) (g.K.Sink.faults c.take_turn.new.out) =
-    subst (λ (n : ℕ). DidTurn g.F.Fn c.args.rules.now.tariff.now g.U.Fn c.args.rules.now.weigh.now (seen (Up c.in-Up.store) c.day.inside.crew n) c.take_turn.result.failure
-    (seen c.take_turn.result.day.system c.take_turn.result.day.crew n)
-    (g.K.Sink.written c.dump_step-day.new.out) (g.K.Sink.written c.take_turn.new.out) (g.K.Sink.faults c.dump_step-day.new.out) (g.K.Sink.faults c.take_turn.new.out)) count
-    (same_turn g.F.Fn c.args.rules.now.tariff.now g.U.Fn c.args.rules.now.weigh.now (g.K.Sink.written c.dump_step-day.new.out) (g.K.Sink.written c.take_turn.new.out) (ap (λ (n : ℕ). seen c.take_turn.result.day.system c.take_turn.result.day.crew n) (sym c.take_turn.ensures.count)) c.take_turn.ensures.did) in
-    same_tick g.F.Fn c.args.rules.now.tariff.now g.U.Fn c.args.rules.now.weigh.now (g.K.Sink.written c.args.out.now) (g.K.Sink.written c.take_turn.new.out) (ap (λ (n : ℕ). seen c.take_turn.result.day.system c.take_turn.result.day.crew n) (c.take_turn.ensures.count ∙ count))
-    (both_did g.F.Fn c.args.rules.now.tariff.now g.U.Fn c.args.rules.now.weigh.now c.args.up.store c.args.up.crew c.args.up.count c.in-Up.store c.day.inside.crew (g.K.Sink.written c.args.out.now) (g.K.Sink.written c.dump_step-day.new.out) (g.K.Sink.faults c.args.out.now) (g.K.Sink.faults c.dump_step-day.new.out) dumped
-    c.take_turn.result.day.system c.take_turn.result.day.crew c.take_turn.result.failure (g.K.Sink.written c.take_turn.new.out) (g.K.Sink.faults c.take_turn.new.out) turned)
+pub returns-then-spent-clause-did : goal.returns-then-spent-clause-did
+returns-then-spent-clause-did g c =
+    let up = c.args.up.now in
+    let mid = c.dump_step.new.up in
+    let dumped : DidDump (seen (Up up.store) up.crew up.count) None (seen (left_of mid.store) mid.crew up.count) (g.K.Sink.written c.args.out.now) (g.K.Sink.written c.dump_step.new.out) (g.K.Sink.faults c.args.out.now) (g.K.Sink.faults c.dump_step.new.out) =
+    subst (λ (x : Option Failure). DidDump (seen (Up up.store) up.crew up.count) x (seen (left_of mid.store) mid.crew up.count)
+    (g.K.Sink.written c.args.out.now) (g.K.Sink.written c.dump_step.new.out) (g.K.Sink.faults c.args.out.now) (g.K.Sink.faults c.dump_step.new.out)) c.in-None.is c.dump_step.ensures.did in
+    dump_did g.F.Fn c.args.rules.now.tariff.now g.U.Fn c.args.rules.now.weigh.now up.store up.crew up.count (left_of mid.store) mid.crew None (g.K.Sink.written c.args.out.now) (g.K.Sink.written c.dump_step.new.out) (g.K.Sink.faults c.args.out.now) (g.K.Sink.faults c.dump_step.new.out)
+    (λ e. (record { disc = mid.store.online.disc; rack = mid.store.rack }, left_down mid.store (sym c.spent.ensures ∙ c.if-spent.true))) dumped
 
-pub returns-in-Up-clause-count : goal.returns-in-Up-clause-count
-returns-in-Up-clause-count g c = c.take_turn.ensures.count ∙ ap (λ (s : Seen). s.count) c.day.view_is ∙ c.dump_step-day.ensures.count
-
-pub returns-in-Down-clause-did : goal.returns-in-Down-clause-did
-returns-in-Down-clause-did g c =
-    let before = seen (Up c.args.up.store) c.args.up.crew c.args.up.count in
-    let d : Devices = record { disc = g.D.Disc.state c.in-Down.disc; rack = g.T.Tapes.rack c.in-Down.tapes } in
-    let count = ap (λ (s : Seen). s.count) c.day.view_is ∙ c.dump_step-day.ensures.count in
-    let at = ap (λ (n : ℕ). seen (Down d) c.day.inside.crew n) (sym count)
-    ∙ ap (λ (f : SystemFacts). seen f c.day.inside.crew c.day.inside.count) (sym (ap (facts_of g.D.Disc.state g.T.Tapes.rack) c.in-Down.is)) ∙ c.day.view_is in
-    let dumped : DidDump before None (seen (Down d) c.day.inside.crew c.args.up.count) (g.K.Sink.written c.args.out.now) (g.K.Sink.written c.dump_step-day.new.out) (g.K.Sink.faults c.args.out.now) (g.K.Sink.faults c.dump_step-day.new.out) =
-    same_dump at (subst (λ (x : Option Failure). DidDump before x c.dump_step-day.result.day
-    (g.K.Sink.written c.args.out.now) (g.K.Sink.written c.dump_step-day.new.out) (g.K.Sink.faults c.args.out.now) (g.K.Sink.faults c.dump_step-day.new.out)) c.in-None.is c.dump_step-day.ensures.did) in
-    same_tick g.F.Fn c.args.rules.now.tariff.now g.U.Fn c.args.rules.now.weigh.now (g.K.Sink.written c.args.out.now) (g.K.Sink.written c.dump_step-day.new.out) (ap (λ (n : ℕ). seen (Down d) c.day.inside.crew n) count)
-    (dump_did g.F.Fn c.args.rules.now.tariff.now g.U.Fn c.args.rules.now.weigh.now c.args.up.store c.args.up.crew c.args.up.count (Down d) c.day.inside.crew None (g.K.Sink.written c.args.out.now) (g.K.Sink.written c.dump_step-day.new.out) (g.K.Sink.faults c.args.out.now) (g.K.Sink.faults c.dump_step-day.new.out) (λ e. (d, refl)) dumped)
-
-pub returns-in-Down-clause-count : goal.returns-in-Down-clause-count
-returns-in-Down-clause-count g c = ap (λ (s : Seen). s.count) c.day.view_is ∙ c.dump_step-day.ensures.count
+pub returns-else-spent-clause-did : goal.returns-else-spent-clause-did
+returns-else-spent-clause-did g c =
+    let up = c.args.up.now in
+    let mid = c.dump_step.new.up in
+    let new = c.take_turn.new.up in
+    let dumped : DidDump (seen (Up up.store) up.crew up.count) None (seen (Up mid.store) mid.crew up.count) (g.K.Sink.written c.args.out.now) (g.K.Sink.written c.dump_step.new.out) (g.K.Sink.faults c.args.out.now) (g.K.Sink.faults c.dump_step.new.out) =
+    same_dump (sym (seen_up mid.store mid.crew up.count (sym c.spent.ensures ∙ c.if-spent.false))) (subst (λ (x : Option Failure). DidDump (seen (Up up.store) up.crew up.count) x (seen (left_of mid.store) mid.crew up.count)
+    (g.K.Sink.written c.args.out.now) (g.K.Sink.written c.dump_step.new.out) (g.K.Sink.faults c.args.out.now) (g.K.Sink.faults c.dump_step.new.out)) c.in-None.is c.dump_step.ensures.did) in
+    let turned : DidTurn g.F.Fn c.args.rules.now.tariff.now g.U.Fn c.args.rules.now.weigh.now (seen (Up mid.store) mid.crew up.count) c.take_turn.result (seen (left_of new.store) new.crew up.count)
+    (g.K.Sink.written c.dump_step.new.out) (g.K.Sink.written c.take_turn.new.out) (g.K.Sink.faults c.dump_step.new.out) (g.K.Sink.faults c.take_turn.new.out) =
+    subst (λ (n : ℕ). DidTurn g.F.Fn c.args.rules.now.tariff.now g.U.Fn c.args.rules.now.weigh.now (seen (Up mid.store) mid.crew n) c.take_turn.result (seen (left_of new.store) new.crew n)
+    (g.K.Sink.written c.dump_step.new.out) (g.K.Sink.written c.take_turn.new.out) (g.K.Sink.faults c.dump_step.new.out) (g.K.Sink.faults c.take_turn.new.out)) c.dump_step.ensures.count c.take_turn.ensures.did in
+    both_did g.F.Fn c.args.rules.now.tariff.now g.U.Fn c.args.rules.now.weigh.now up.store up.crew up.count mid.store mid.crew (g.K.Sink.written c.args.out.now) (g.K.Sink.written c.dump_step.new.out) (g.K.Sink.faults c.args.out.now) (g.K.Sink.faults c.dump_step.new.out) dumped
+    (left_of new.store) new.crew c.take_turn.result (g.K.Sink.written c.take_turn.new.out) (g.K.Sink.faults c.take_turn.new.out) turned
 
 pub returns-in-Some-clause-did : goal.returns-in-Some-clause-did
 returns-in-Some-clause-did g c =
-    let before = seen (Up c.args.up.store) c.args.up.crew c.args.up.count in
-    let day = c.dump_step-day.result.day in
-    let dumped : DidDump before (Some c.in-Some.failure) (seen day.system day.crew c.args.up.count) (g.K.Sink.written c.args.out.now) (g.K.Sink.written c.dump_step-day.new.out) (g.K.Sink.faults c.args.out.now) (g.K.Sink.faults c.dump_step-day.new.out) =
-    same_dump (ap (λ (n : ℕ). seen day.system day.crew n) (sym c.dump_step-day.ensures.count)) (subst (λ (x : Option Failure). DidDump before x day
-    (g.K.Sink.written c.args.out.now) (g.K.Sink.written c.dump_step-day.new.out) (g.K.Sink.faults c.args.out.now) (g.K.Sink.faults c.dump_step-day.new.out)) c.in-Some.is c.dump_step-day.ensures.did) in
-    same_tick g.F.Fn c.args.rules.now.tariff.now g.U.Fn c.args.rules.now.weigh.now (g.K.Sink.written c.args.out.now) (g.K.Sink.written c.dump_step-day.new.out) (ap (λ (n : ℕ). seen day.system day.crew n) c.dump_step-day.ensures.count)
-    (dump_did g.F.Fn c.args.rules.now.tariff.now g.U.Fn c.args.rules.now.weigh.now c.args.up.store c.args.up.crew c.args.up.count day.system day.crew (Some c.in-Some.failure) (g.K.Sink.written c.args.out.now) (g.K.Sink.written c.dump_step-day.new.out) (g.K.Sink.faults c.args.out.now) (g.K.Sink.faults c.dump_step-day.new.out) (λ e. absurd (let no : ⊥ = cc in no)) dumped)
+    let up = c.args.up.now in
+    let mid = c.dump_step.new.up in
+    let dumped : DidDump (seen (Up up.store) up.crew up.count) (Some c.in-Some.failure) (seen (left_of mid.store) mid.crew up.count) (g.K.Sink.written c.args.out.now) (g.K.Sink.written c.dump_step.new.out) (g.K.Sink.faults c.args.out.now) (g.K.Sink.faults c.dump_step.new.out) =
+    subst (λ (x : Option Failure). DidDump (seen (Up up.store) up.crew up.count) x (seen (left_of mid.store) mid.crew up.count)
+    (g.K.Sink.written c.args.out.now) (g.K.Sink.written c.dump_step.new.out) (g.K.Sink.faults c.args.out.now) (g.K.Sink.faults c.dump_step.new.out)) c.in-Some.is c.dump_step.ensures.did in
+    dump_did g.F.Fn c.args.rules.now.tariff.now g.U.Fn c.args.rules.now.weigh.now up.store up.crew up.count (left_of mid.store) mid.crew (Some c.in-Some.failure) (g.K.Sink.written c.args.out.now) (g.K.Sink.written c.dump_step.new.out) (g.K.Sink.faults c.args.out.now) (g.K.Sink.faults c.dump_step.new.out)
+    (λ e. absurd (let no : ⊥ = cc in no)) dumped
+
+pub returns-else-spent-clause-count : goal.returns-else-spent-clause-count
+returns-else-spent-clause-count g c = c.take_turn.ensures.count ∙ c.dump_step.ensures.count

@@ -1,15 +1,34 @@
-use Rattle.std.proofs.Common.{rules, ◌≡◌, false, is_some, option_map, sym, ◌∙◌, ap, subst}
+use Rattle.std.proofs.Common.{rules, ◌≡◌, true, false, is_some, option_map, sym, ◌∙◌, ap, subst}
 use Rattle.g_state.specs.Up.{DumpFacts}
-use Rattle.g_console.specs.Parts.{Seen, seen}
-use Rattle.g_console.specs.System.{SystemFacts, facts_of}
+use Rattle.g_console.specs.Parts.{IsReady, Seen, seen}
+use Rattle.g_console.specs.System.{SystemFacts}
 use Rattle.g_run.specs.Parts.{steps_in}
-use Rattle.g_run.proofs.RestLemmas.{jobs_step}
+use Rattle.g_run.proofs.LeftLemmas.{left_down, seen_up}
+use Rattle.g_run.proofs.RestLemmas.{down_rests, dump_steps, jobs_step}
 use Rattle.g_run.proofs.ticks.something_steps.Goals as goal
 
-pub returns-else-is_some : goal.returns-else-is_some
-returns-else-is_some g c =
-    let at = ap (facts_of g.D.Disc.state g.T.Tapes.rack) c.in-Up.is in
-    let none : is_some (option_map (λ (d : DumpFacts). d.plan.number) c.in-Up.store.dump) ≡ false = search rules in
-    subst (λ (s : Seen). c.job_steps.result ≡ steps_in s) c.day.view_is
-    (subst (λ (f : SystemFacts). c.job_steps.result ≡ steps_in (seen f c.day.inside.crew c.day.inside.count)) (sym at)
-    (c.job_steps.ensures c.day.inside.count ∙ jobs_step (λ (d : DumpFacts). d.plan.number) c.in-Up.store c.day.inside.crew c.day.inside.count none))
+pub returns-then-spent-clause-no : goal.returns-then-spent-clause-no
+returns-then-spent-clause-no g c = λ e.
+    let up = c.args.up.now in
+    let down = left_down up.store (sym c.spent.ensures ∙ c.if-spent.true) in
+    ap (λ (f : SystemFacts). steps_in (seen f up.crew up.count)) down
+    ∙ down_rests (record { disc = up.store.online.disc; rack = up.store.rack }) up.crew up.count (subst (λ (f : SystemFacts). IsReady f up.crew) down c.requires.ready)
+
+pub returns-then-is_some-clause-yes : goal.returns-then-is_some-clause-yes
+returns-then-is_some-clause-yes g c = λ e.
+    let up = c.args.up.now in
+    let there : is_some (option_map (λ (d : DumpFacts). d.plan.number) up.store.dump) ≡ true = search rules in
+    (sym c.spent.ensures ∙ c.if-spent.false, sym (dump_steps (λ (d : DumpFacts). d.plan.number) up.store up.crew up.count there))
+
+pub returns-else-is_some-clause-yes : goal.returns-else-is_some-clause-yes
+returns-else-is_some-clause-yes g c = λ yes.
+    let up = c.args.up.now in
+    let none : is_some (option_map (λ (d : DumpFacts). d.plan.number) up.store.dump) ≡ false = search rules in
+    (sym c.spent.ensures ∙ c.if-spent.false, sym (c.job_steps.ensures up.count ∙ jobs_step (λ (d : DumpFacts). d.plan.number) up.store up.crew up.count none) ∙ yes)
+
+pub returns-else-is_some-clause-no : goal.returns-else-is_some-clause-no
+returns-else-is_some-clause-no g c = λ isnt.
+    let up = c.args.up.now in
+    let none : is_some (option_map (λ (d : DumpFacts). d.plan.number) up.store.dump) ≡ false = search rules in
+    ap steps_in (seen_up up.store up.crew up.count (sym c.spent.ensures ∙ c.if-spent.false))
+    ∙ sym (c.job_steps.ensures up.count ∙ jobs_step (λ (d : DumpFacts). d.plan.number) up.store up.crew up.count none) ∙ isnt

@@ -1,35 +1,39 @@
-use Rattle.g_run.proofs.UntilLemmas.{room_then, ticks_end, ticks_fall, ticks_more, ticks_start}
+use Rattle.std.proofs.Common.{None, sym, ap, subst, ◌∙◌, inr}
+use Rattle.g_world.specs.Devices.{Devices}
+use Rattle.g_crew.specs.Numbers.{AreOpen}
+use Rattle.g_console.specs.Parts.{IsReady, Seen, seen}
+use Rattle.g_console.specs.System.{Down, SystemFacts, facts_of}
+use Rattle.g_run.specs.Parts.{DidTicks, HasRoom, IsAtRest}
+use Rattle.g_run.proofs.RestLemmas.{down_rests}
+use Rattle.g_run.proofs.UntilLemmas.{ticks_end, ticks_start}
 use Rattle.g_run.proofs.ticks.until.Goals as goal
 
-pub ticks-init : goal.ticks-init
-ticks-init g c = record {
-  did = ticks_start g.F.Fn c.args.rules.now.tariff.now g.U.Fn c.args.rules.now.weigh.now c.args.limit _ _ _ c.requires.ready c.requires.open;
-  room = λ none. c.requires.room;
-}
+pub until_up-requires-clause-ready : goal.until_up-requires-clause-ready
+until_up-requires-clause-ready g c =
+    let at = ap (λ (f : SystemFacts). seen f c.day.inside.crew c.day.inside.count) (sym (ap (facts_of g.D.Disc.state g.T.Tapes.rack) c.in-Up.is)) ∙ c.day.view_is in
+    subst (λ (s : Seen). IsReady s.system s.crew) (sym at) c.requires.ready
 
-pub goes_on-requires : goal.goes_on-requires
-goes_on-requires g c = record { ready = λ none. (c.ticks.invariant.did.keeps.ready none).0 }
+pub until_up-requires-clause-open : goal.until_up-requires-clause-open
+until_up-requires-clause-open g c = subst (λ (s : Seen). AreOpen s.crew.jobs) (sym c.day.view_is) c.requires.open
 
-pub one_tick-ended-requires-clause-ready : goal.one_tick-ended-requires-clause-ready
-one_tick-ended-requires-clause-ready g c = (c.ticks.invariant.did.keeps.ready (c.goes_on.ensures.yes c.ticks-test.true).0).0
+pub until_up-requires-clause-room : goal.until_up-requires-clause-room
+until_up-requires-clause-room g c =
+    let at = ap (λ (f : SystemFacts). seen f c.day.inside.crew c.day.inside.count) (sym (ap (facts_of g.D.Disc.state g.T.Tapes.rack) c.in-Up.is)) ∙ c.day.view_is in
+    subst (λ (s : Seen). HasRoom c.args.limit s) (sym at) c.requires.room
 
-pub one_tick-ended-requires-clause-open : goal.one_tick-ended-requires-clause-open
-one_tick-ended-requires-clause-open g c = (c.ticks.invariant.did.keeps.ready (c.goes_on.ensures.yes c.ticks-test.true).0).1
+pub returns-in-Up : goal.returns-in-Up
+returns-in-Up g c =
+    let at = ap (λ (f : SystemFacts). seen f c.day.inside.crew c.day.inside.count) (sym (ap (facts_of g.D.Disc.state g.T.Tapes.rack) c.in-Up.is)) ∙ c.day.view_is in
+    subst (λ (s : Seen). DidTicks g.F.Fn c.args.rules.now.tariff.now g.U.Fn c.args.rules.now.weigh.now IsAtRest c.args.limit s c.until_up.result.failure c.until_up.result.day
+    (g.K.Sink.written c.args.out.now) (g.K.Sink.written c.until_up.new.out) (g.K.Sink.faults c.args.out.now) (g.K.Sink.faults c.until_up.new.out)) at c.until_up.ensures
 
-pub one_tick-ended-requires-clause-room : goal.one_tick-ended-requires-clause-room
-one_tick-ended-requires-clause-room g c = c.ticks.invariant.room (c.goes_on.ensures.yes c.ticks-test.true).0
-
-pub ticks-preserved : goal.ticks-preserved
-ticks-preserved g c =
-    let yes = c.goes_on.ensures.yes c.ticks-test.true in
-    let so_far = rw yes.0 at c.ticks.invariant.did in
-    let one = c.one_tick-ended.ensures in record {
-      did = ticks_more g.F.Fn c.args.rules.now.tariff.now g.U.Fn c.args.rules.now.weigh.now c.args.limit _ _ _ _ _ _ _ _ _ _ so_far one;
-      room = λ none. room_then c.args.limit _ _ (c.ticks.invariant.room yes.0) (one.counts none) (one.falls none);
-    }
-
-pub ticks-smaller : goal.ticks-smaller
-ticks-smaller g c = ticks_fall c.ticks.ended.failure c.one_tick-ended.result.failure _ _ (c.goes_on.ensures.yes c.ticks-test.true).0 c.one_tick-ended.ensures.falls
-
-pub returns : goal.returns
-returns g c = ticks_end g.F.Fn c.args.rules.now.tariff.now g.U.Fn c.args.rules.now.weigh.now c.args.limit _ c.ticks.ended.failure _ _ _ _ _ _ _ c.ticks.invariant.did (c.goes_on.ensures.no c.ticks-test.false)
+pub returns-in-Down : goal.returns-in-Down
+returns-in-Down g c =
+    let d : Devices = record { disc = g.D.Disc.state c.in-Down.disc; rack = g.T.Tapes.rack c.in-Down.tapes } in
+    let at = ap (λ (f : SystemFacts). seen f c.day.inside.crew c.day.inside.count) (sym (ap (facts_of g.D.Disc.state g.T.Tapes.rack) c.in-Down.is)) ∙ c.day.view_is in
+    let ready = subst (λ (s : Seen). IsReady s.system s.crew) (sym at) c.requires.ready in
+    let still = subst (λ (s : Seen). AreOpen s.crew.jobs) (sym at) c.requires.open in
+    subst (λ (s : Seen). DidTicks g.F.Fn c.args.rules.now.tariff.now g.U.Fn c.args.rules.now.weigh.now IsAtRest c.args.limit s None (seen (Down d) c.day.inside.crew c.day.inside.count)
+    (g.K.Sink.written c.args.out.now) (g.K.Sink.written c.args.out.now) (g.K.Sink.faults c.args.out.now) (g.K.Sink.faults c.args.out.now)) at
+    (ticks_end g.F.Fn c.args.rules.now.tariff.now g.U.Fn c.args.rules.now.weigh.now c.args.limit _ None (Down d) c.day.inside.crew c.day.inside.count _ _ _ _
+    (ticks_start g.F.Fn c.args.rules.now.tariff.now g.U.Fn c.args.rules.now.weigh.now c.args.limit (seen (Down d) c.day.inside.crew c.day.inside.count) _ _ ready still) (λ none. inr (down_rests d c.day.inside.crew c.day.inside.count ready)))

@@ -6,4 +6,4 @@ use Rattle.g_blocks.proofs.pool.Pool.new.Goals as goal
 
 pub returns-clause-ok : goal.returns-clause-ok
 returns-clause-ok c =
-    subst (IsFresh c.args.size c.args.used.now) (sym c.skip_taken.ensures) (IsFresh-taken _ _ _ _ c.requires.low c.in_ok-pool.ensures c.mark_all_taken.ensures)
+    subst (IsFresh c.args.size c.args.used.now) (sym c.skip_taken.ensures) (IsFresh-taken _ _ _ _ c.requires.low c.in-Ok.ensures c.mark_all_taken.ensures)

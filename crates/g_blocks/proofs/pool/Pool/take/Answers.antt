@@ -6,10 +6,10 @@ use Rattle.g_blocks.proofs.pool.Pool.take.Goals as goal
 
 pub mark_all_taken-requires-clause-apart : goal.mark_all_taken-requires-clause-apart
 mark_all_taken-requires-clause-apart c =
-    subst (AllPairs (λ (one other : ℕ). one ≢ other)) (sym c.deref-2.ensures.value) (apart-rising _ c.in_ok-blocks.ensures.rising)
+    subst (AllPairs (λ (one other : ℕ). one ≢ other)) (sym c.deref-2.ensures.value) (apart-rising _ c.in-Ok.ensures.rising)
 
 pub returns-clause-taken : goal.returns-clause-taken
 returns-clause-taken c =
-    let taken : HasTaken c.in_ok-blocks.blocks.items c.args.self.now c.mark_all_taken.new.self =
+    let taken : HasTaken c.in-Ok.blocks.items c.args.self.now c.mark_all_taken.new.self =
     subst (λ (blocks : List ℕ). HasTaken blocks c.args.self.now c.mark_all_taken.new.self) c.deref-2.ensures.value c.mark_all_taken.ensures in
-    subst (HasTaken c.in_ok-blocks.blocks.items c.args.self.now) (sym c.skip_taken.ensures) taken
+    subst (HasTaken c.in-Ok.blocks.items c.args.self.now) (sym c.skip_taken.ensures) taken

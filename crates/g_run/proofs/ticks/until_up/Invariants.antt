@@ -1,0 +1,19 @@
+-- The ticks so far.
+use Rattle.std.proofs.Common.{◌≡◌, None}
+use Rattle.g_console.specs.Parts.{seen}
+use Rattle.g_console.specs.System.{Up}
+use Rattle.g_run.specs.Tick.{left}
+use Rattle.g_run.specs.Turning.{left_of}
+use Rattle.g_run.specs.Parts.{Anything, DidTicks, HasRoom}
+use Rattle.g_run.proofs.UntilLemmas.{ticks_left}
+use Rattle.g_run.proofs.ticks.until_up.Given as goal
+
+abbrev pub invariant-ticks : goal.invariant-ticks
+invariant-ticks g l = record {
+  did : DidTicks g.F.Fn l.rules.tariff.now g.U.Fn l.rules.weigh.now Anything l.limit (seen (Up l.fn.up.store) l.fn.up.crew l.fn.up.count) l.failure (seen (left_of l.up.store) l.up.crew l.up.count)
+      (g.K.Sink.written l.fn.out) (g.K.Sink.written l.out) (g.K.Sink.faults l.fn.out) (g.K.Sink.faults l.out);
+  room : l.failure ≡ None → HasRoom l.limit (seen (left_of l.up.store) l.up.crew l.up.count);
+}
+
+abbrev pub decreases-ticks : goal.decreases-ticks
+decreases-ticks g l = ticks_left l.failure (left (seen (left_of l.up.store) l.up.crew l.up.count))
