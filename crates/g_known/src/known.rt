@@ -200,4 +200,6 @@ impl<T: Tapes> Tapes for KnownReels<T> {
     }
 
     ghost well_formed = { λ k. T.well_formed k };
+
+    ghost fused = { λ k. T.fused k };
 }

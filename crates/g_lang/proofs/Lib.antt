@@ -10,3 +10,4 @@ pub mod SameLemmas
 pub mod SpaceLemmas
 pub mod TakeLemmas
 pub mod ValueLemmas
+pub mod VerbLemmas

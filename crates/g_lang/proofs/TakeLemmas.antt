@@ -179,12 +179,12 @@ params_begin (c ∷ cs) starts =
     ap (λ (o : Option State). elim o [ None ↦ false | Some t ↦ takes t cs ]) goes
 
 -- a verb, which isn't INPUT where it stands behind a condition
-verb_state : (name : List ℕ) (inner : Bool) → is_verb name ≡ true → (same_text name (codes "INPUT") && inner) ≡ false → state_behind_word name inner ≡ Some VerbGap
+pub verb_state : (name : List ℕ) (inner : Bool) → is_verb name ≡ true → (same_text name (codes "INPUT") && inner) ≡ false → state_behind_word name inner ≡ Some VerbGap
 verb_state name inner is other =
     let o = verb-other name is in
     rw (o.0, o.1, o.2, other) refl
 
-verb_end : (first : ℕ) (word : List ℕ) (inner : Bool) → is_verb (first ∷ word) ≡ true → (same_text (first ∷ word) (codes "INPUT") && inner) ≡ false
+pub verb_end : (first : ℕ) (word : List ℕ) (inner : Bool) → is_verb (first ∷ word) ≡ true → (same_text (first ∷ word) (codes "INPUT") && inner) ≡ false
     → may_end (Word (first ∷ word) inner) ≡ true
 verb_end first word inner is other =
     let o = verb-other (first ∷ word) is in

@@ -4,7 +4,7 @@ ghost use Rattle.g_name.specs.Grammar as grammar;
 ghost use Rattle.g_lang.specs.Words as words;
 ghost use Rattle.g_lang.specs.Conditions as conditions;
 
-use g_name::are_name_chars;
+use g_name::{are_name_chars, is_letter};
 
 /// Whether a byte is one of `0` to `9`.
 pub fn is_digit(byte: u8) -> bool
@@ -25,6 +25,18 @@ pub fn is_param_letter(byte: u8) -> bool
     ensures { result ≡ conditions.is_param_letter byte }
 {
     (b'A'..=b'X').contains(&byte)
+}
+
+/// Whether a text is a word, as the names of verbs are.
+pub fn is_word(text: &[u8]) -> bool
+    ensures { result ≡ grammar.is_word text.now }
+{
+    match text.split_first() {
+        Some((first, others)) => {
+            is_letter(*first) && others.len() <= 11 && are_name_chars(others)
+        }
+        None => false,
+    }
 }
 
 /// Whether a text is a label.

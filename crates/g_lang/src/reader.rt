@@ -1,9 +1,13 @@
 //! A reader of lines that takes one byte after another: it tells where a text goes wrong, and takes no memory.
-ghost use Rattle.std.specs.Prelude.{◌≡◌, ◌^◌, ◌<◌, ◌≤◌, ◌∷◌, ◌++◌, [], IsTrue, List, Some, drop, length, ℕ};
+ghost use Rattle.std.specs.Option.{option_map};
+ghost use Rattle.std.specs.Prelude.{◌≡◌, ◌^◌, ◌<◌, ◌≤◌, ◌+◌, ◌||◌, ◌∷◌, ◌++◌, [], IfSome, List, codes, drop, length, ℕ};
+ghost use Rattle.g_lang.specs.Lines as lines;
+ghost use Rattle.g_name.specs.Order.{same_text};
 ghost use Rattle.g_lang.specs.How as how;
 ghost use Rattle.g_lang.specs.Places.{Goes, Steps, state_of, next_of, depth_of, word_start};
 
-use crate::bytes::{is_digit, is_param_letter, is_printed};
+use crate::bytes::{is_digit, is_param_letter, is_printed, is_word};
+use crate::pieces::{split_word, without_front};
 use g_name::{extends, is_name_char};
 
 /// What comes behind a fixed text of a condition.
@@ -61,16 +65,26 @@ enum Place {
 }
 
 /// The place where a text goes wrong as a line, if it does: the length of its longest front that begins some line.
+#[tactic(auto, using(crate::proofs::VerbLemmas::verb_line, crate::proofs::VerbLemmas::behind_short))]
 pub fn wrong_place(text: &[u8]) -> Option<usize>
+    ensures { result ≡ how.wrong_from how.Front 0 text.now }
+{
+    // Most lines are a verb and its parameters.
+    let (word, params) = split_word(without_front(text));
+    if is_verb(word) {
+        wrong_in_params(params, text.len() - params.len())
+    } else {
+        wrong_by_steps(text)
+    }
+}
+
+/// The same, byte by byte.
+fn wrong_by_steps(text: &[u8]) -> Option<usize>
     ensures { result ≡ how.wrong_from how.Front 0 text.now }
 {
     let mut place = Place::Front;
     for (at, byte) in text.iter().enumerate() {
-        let before = &text[..at];
-        if place.stays(before, *byte) {
-            continue;
-        }
-        match place.step(before, *byte) {
+        match place.step(&text[..at], *byte) {
             Some(next) => place = next,
             None => return Some(at),
         }
@@ -82,22 +96,41 @@ pub fn wrong_place(text: &[u8]) -> Option<usize>
     }
 }
 
-impl Place {
-    /// Whether the reader stays where it stands with the next byte: in spaces, in a word, in parameters, in a text. Most
-    /// bytes of a line are such ones.
-    fn stays(&self, before: &[u8], byte: u8) -> bool
-        requires word { word_start self.now ≤ length before.now }
-        ensures { IsTrue result
-            → Steps (how.step byte (state_of before.now self.now)) (before.now ++ byte ∷ []) (Some self.now) }
-    {
-        match self {
-            Place::Front | Place::Gap | Place::Back | Place::VerbGap => byte == b' ',
-            Place::Word { start, .. } => extends(&before[*start..], byte),
-            Place::Params(_) | Place::Text => is_printed(byte) && byte != b'(' && byte != b')',
-            _ => false,
+/// The place where the parameters of a verb go wrong, counted on from where they begin.
+fn wrong_in_params(params: &[u8], from: usize) -> Option<usize>
+    requires { from + length params.now < 2 ^ 64 }
+    ensures { result ≡ how.wrong_from (how.Params 0) from params.now }
+{
+    let mut depth = 0usize;
+    for (at, byte) in params.iter().enumerate() {
+        match depth_at(depth, *byte) {
+            Some(next) => depth = next,
+            None => return Some(from + at),
         }
     }
+    if depth == 0 {
+        None
+    } else {
+        Some(from + params.len())
+    }
+}
 
+/// Whether a word is a verb.
+fn is_verb(word: &[u8]) -> bool
+    ensures { result ≡ lines.is_verb word.now }
+{
+    is_word(word) && !is_keyword(word)
+}
+
+/// Whether a word is IF, WHENEVER or GOTO, behind which no parameters stand.
+fn is_keyword(word: &[u8]) -> bool
+    ensures { result
+        ≡ (same_text word.now (codes "IF") || same_text word.now (codes "WHENEVER") || same_text word.now (codes "GOTO")) }
+{
+    word == b"IF".as_slice() || word == b"WHENEVER".as_slice() || word == b"GOTO".as_slice()
+}
+
+impl Place {
     /// The place behind the next byte, if some line goes on with it.
     fn step(self, before: &[u8], byte: u8) -> Option<Place>
         requires depth { depth_of (state_of before.now self) < 2 ^ 63 }
@@ -215,9 +248,7 @@ fn behind_word(word: &[u8], inner: bool) -> Option<Place>
 fn is_whole_verb(word: &[u8], inner: bool) -> bool
     ensures { result ≡ how.may_end (how.Word word.now inner) }
 {
-    let keyword = word == b"IF".as_slice()
-        || word == b"WHENEVER".as_slice()
-        || word == b"GOTO".as_slice();
+    let keyword = is_keyword(word);
     let input_inside = word == b"INPUT".as_slice() && inner;
     !word.is_empty() && !keyword && !input_inside
 }
@@ -355,11 +386,23 @@ fn in_params(depth: usize, byte: u8) -> Option<Place>
     requires { depth < 2 ^ 63 }
     ensures { Goes (how.in_params depth byte) result }
 {
+    match depth_at(depth, byte) {
+        Some(next) => Some(Place::Params(next)),
+        None => None,
+    }
+}
+
+/// Within how many brackets the next byte of parameters leaves the reader, if they go on with it.
+fn depth_at(depth: usize, byte: u8) -> Option<usize>
+    requires { depth < 2 ^ 63 }
+    ensures depth { how.in_params depth byte ≡ option_map how.Params result }
+    ensures most { IfSome result (λ next. next ≤ depth + 1) }
+{
     match byte {
-        b'(' => Some(Place::Params(depth + 1)),
+        b'(' => Some(depth + 1),
         b')' if depth == 0 => None,
-        b')' => Some(Place::Params(depth - 1)),
-        _ if is_printed(byte) => Some(Place::Params(depth)),
+        b')' => Some(depth - 1),
+        _ if is_printed(byte) => Some(depth),
         _ => None,
     }
 }

@@ -1,6 +1,7 @@
 //! Fetch and Retrieve, as a store answers them.
 use crate::rig::reel;
 use g_base::Block;
+use g_known::KnownReels;
 use g_laid_out::{nothing_to_take, one_away, online_with, without_mark};
 use g_name::{User, parse_path};
 use g_plain::{StoreCall, StoreFault, StoreReply};
@@ -16,7 +17,7 @@ type Answer = Result<StoreReply, StoreFault>;
 fn fetched(
     rt: &(impl Abort + AllocGlobal),
     files: &[Block; 5],
-    tapes: &mut MemoryTapes,
+    tapes: &mut KnownReels<MemoryTapes>,
     path: &[u8],
 ) -> Answer {
     let mut online = match online_with(rt.alloc(), files) {
@@ -34,7 +35,7 @@ fn fetched(
 fn retrieved(
     rt: &(impl Abort + AllocGlobal),
     files: &[Block; 5],
-    tapes: &mut MemoryTapes,
+    tapes: &mut KnownReels<MemoryTapes>,
     path: &[u8],
 ) -> Answer {
     let mut online = match online_with(rt.alloc(), files) {
@@ -65,7 +66,7 @@ fn is_retrieved(answer: &Answer) -> bool {
 /// F is on tape alone, D on the disc. A reel that isn't mounted is waited for, but not for a file on the disc.
 #[test]
 fn ample(rt: HostRuntime) {
-    let mut tapes = reel(&rt);
+    let mut tapes = KnownReels::new(rt.alloc(), reel(&rt));
     let files = one_away([0, 0, 0, 5]);
     assert!(rt; are_bytes(&fetched(&rt, &files, &mut tapes, b"F"), 600, b'u', b'v'));
     assert!(rt; are_bytes(&fetched(&rt, &files, &mut tapes, b"D"), 5, 0, 0));
@@ -80,14 +81,14 @@ fn ample(rt: HostRuntime) {
 /// No such file; a dump without its mark; and a disc where nothing can go.
 #[test]
 fn calls_are_refused(rt: HostRuntime) {
-    let mut tapes = reel(&rt);
+    let mut tapes = KnownReels::new(rt.alloc(), reel(&rt));
     let files = nothing_to_take();
     let absent = fetched(&rt, &files, &mut tapes, b"F").err();
     assert!(rt; absent == Some(StoreFault::NoFile));
     let full = fetched(&rt, &files, &mut tapes, b"G").err();
     assert!(rt; full == Some(StoreFault::DiscFull { need: 3, room: 0 }));
     let mut torn = match without_mark(rt.alloc()) {
-        Ok(torn) => torn,
+        Ok(torn) => KnownReels::new(rt.alloc(), torn),
         Err(_) => panic!(rt; "no reel"),
     };
     let lost = retrieved(&rt, &one_away([0, 0, 0, 5]), &mut torn, b"F");

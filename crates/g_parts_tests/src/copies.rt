@@ -2,9 +2,10 @@
 use crate::rig::reel;
 use g_entry::TapeCopy;
 use g_incr::ShelfFault;
+use g_known::KnownReels;
 use g_name::Text;
-use g_retrieve::tape_bytes;
-use g_tape::MemoryTapes;
+use g_retrieve::{known_bytes, tape_bytes};
+use g_tape::{MemoryTapes, Tapes};
 use std::alloc::Global;
 
 /// So many bytes from this block of reel 9 on, where a completed dump holds them.
@@ -42,6 +43,43 @@ fn a_read_fails_in_the_middle(rt: HostRuntime) {
         panic!(rt; "no text");
     };
     assert!(rt; text.as_slice().len() == 600);
+}
+
+/// How many bytes F has on a rack that knows its dumps.
+fn known(alloc: Global, tapes: &mut KnownReels<MemoryTapes>) -> Result<Option<usize>, ShelfFault> {
+    let copy = TapeCopy {
+        serial: 9,
+        first: 5,
+    };
+    match known_bytes(alloc, tapes, &copy, 600) {
+        Ok(Some(text)) => Ok(Some(text.as_slice().len())),
+        Ok(None) => Ok(None),
+        Err(fault) => Err(fault),
+    }
+}
+
+/// The first call takes nine reads, the next ones three: the block behind the dump, and the copy's two. Behind an unmount it
+/// is nine again.
+#[test]
+fn known_dumps_are_read_once(rt: HostRuntime) {
+    for (at, calls) in [(9, 0), (10, 1), (12, 1), (13, 2), (15, 2), (16, 3)] {
+        let mut tapes = reel(&rt);
+        tapes.fail_reads([at].to_vec(rt.alloc()).expect(&rt, "memory"));
+        let mut tapes = KnownReels::new(rt.alloc(), tapes);
+        for _ in 0..calls {
+            assert!(rt; known(rt.alloc(), &mut tapes) == Ok(Some(600)), "read {at}");
+        }
+        assert!(rt;
+            known(rt.alloc(), &mut tapes) == Err(ShelfFault::ReadFault),
+            "read {at}"
+        );
+    }
+    let mut tapes = reel(&rt);
+    tapes.fail_reads([18].to_vec(rt.alloc()).expect(&rt, "memory"));
+    let mut tapes = KnownReels::new(rt.alloc(), tapes);
+    assert!(rt; known(rt.alloc(), &mut tapes) == Ok(Some(600)));
+    assert!(rt; tapes.unmount(9) == Ok(()) && tapes.mount(9) == Ok(()));
+    assert!(rt; known(rt.alloc(), &mut tapes) == Err(ShelfFault::ReadFault));
 }
 
 /// Places that no completed dump holds: one block too many, the record before the content, a block near 2^32.

@@ -6,6 +6,7 @@ ghost use Rattle.g_state.specs.Up.{IsOpen};
 
 use g_disc::MemoryDisc;
 use g_dumper::{Dump, DumpStep};
+use g_known::KnownReels;
 use g_laid_out::{one_reel, online_with_one};
 use g_online::Online;
 use g_plain::StoreFault;
@@ -19,7 +20,7 @@ use std::process::Abort;
 #[derive(Drop)]
 pub(crate) struct Dumper {
     online: Online<MemoryDisc>,
-    tapes: MemoryTapes,
+    tapes: KnownReels<MemoryTapes>,
     refused: bool,
 }
 
@@ -54,7 +55,7 @@ impl Dumper {
         match online_with_one(rt.alloc()) {
             Ok(online) => Dumper {
                 online,
-                tapes,
+                tapes: KnownReels::new(rt.alloc(), tapes),
                 refused: false,
             },
             Err(_) => panic!(rt; "no filestore"),
@@ -86,7 +87,7 @@ impl Dumper {
 fn finish(
     dump: &mut Dump,
     online: &mut Online<MemoryDisc>,
-    tapes: &mut MemoryTapes,
+    tapes: &mut KnownReels<MemoryTapes>,
     most: u32,
 ) -> Result<Option<u64>, StoreFault>
     requires open { IsOpen dump.old online.old (rack_of tapes.old) }
@@ -110,7 +111,7 @@ fn finish(
 fn dumped(
     alloc: Global,
     online: &mut Online<MemoryDisc>,
-    tapes: &mut MemoryTapes,
+    tapes: &mut KnownReels<MemoryTapes>,
 ) -> Result<(u64, u32), StoreFault>
     requires live { online.old.live ≡ true }
     requires pins { online.old.pins ≡ None }

@@ -5,6 +5,7 @@ ghost use Rattle.g_contents.specs.Facts.{IsTied};
 
 use g_base::Block;
 use g_disc::{Disc, MemoryDisc};
+use g_known::KnownReels;
 use g_laid_out::{disc_with, dumped, one_away, one_reel, online_with_one};
 use g_online::Online;
 use g_plain::StoreFault;
@@ -19,7 +20,7 @@ use std::process::Abort;
 #[derive(Drop)]
 pub(crate) struct Mover {
     online: Online<MemoryDisc>,
-    tapes: MemoryTapes,
+    tapes: KnownReels<MemoryTapes>,
     refused: bool,
 }
 
@@ -85,7 +86,7 @@ fn beside_dump(rt: &(impl Abort + AllocGlobal)) -> MemoryTapes {
 fn processed(
     alloc: Global,
     online: &mut Online<MemoryDisc>,
-    tapes: &mut MemoryTapes,
+    tapes: &mut KnownReels<MemoryTapes>,
     serial: u32,
 ) -> Result<u64, StoreFault>
     requires live { online.old.live ≡ true }
@@ -104,7 +105,7 @@ impl Mover {
         match online_with_one(rt.alloc()) {
             Ok(online) => Mover {
                 online,
-                tapes: two_reels(rt, capacity),
+                tapes: KnownReels::new(rt.alloc(), two_reels(rt, capacity)),
                 refused: false,
             },
             Err(_) => panic!(rt; "no filestore"),
@@ -117,7 +118,7 @@ impl Mover {
         match Online::load(rt.alloc(), disc) {
             Ok(online) => Some(Mover {
                 online,
-                tapes,
+                tapes: KnownReels::new(rt.alloc(), tapes),
                 refused: false,
             }),
             Err((_fault, _disc)) => None,
@@ -141,10 +142,37 @@ impl Mover {
     }
 
     /// The `k`-th next write of tape fails, and leaves this.
-    fn stop_at(&mut self, rt: &impl Abort, k: u32, leave: TapeLeave) {
+    fn stop_at(self, rt: &(impl Abort + AllocGlobal), k: u32, leave: TapeLeave) -> Mover {
         assert!(rt; 1 <= k);
-        self.tapes.set_leave(leave);
-        self.tapes.arm(k);
+        let Mover {
+            online,
+            tapes,
+            refused,
+        } = self;
+        let mut tapes = tapes.into_tapes();
+        tapes.set_leave(leave);
+        tapes.arm(k);
+        Mover {
+            online,
+            tapes: KnownReels::new(rt.alloc(), tapes),
+            refused,
+        }
+    }
+
+    /// No read fails from now on.
+    fn unfailing(self, rt: &(impl Abort + AllocGlobal)) -> Mover {
+        let Mover {
+            online,
+            tapes,
+            refused,
+        } = self;
+        let mut tapes = tapes.into_tapes();
+        tapes.fail_reads(Vec::new(rt.alloc()));
+        Mover {
+            online,
+            tapes: KnownReels::new(rt.alloc(), tapes),
+            refused,
+        }
     }
 
     /// A process onto this reel.
@@ -202,7 +230,7 @@ fn compare(
 ) {
     let mut mover = Mover::new(rt, 10);
     assert!(rt; mover.process(rt.alloc(), 7) == Ok(1));
-    mover.stop_at(rt, k, leave);
+    let mut mover = mover.stop_at(rt, k, leave);
     assert!(rt; mover.process(rt.alloc(), 8) == Err(StoreFault::Stopped));
     assert!(rt;
         mover.reel(rt, 8) == made && mover.reel(rt, 7) == was,
@@ -227,9 +255,10 @@ fn stopped_at_writes(rt: HostRuntime) {
 }
 
 /// What a process leaves whose reads fail in turn: no dump on reel 8, the one on reel 9, and a store that can begin again.
-fn failing(rt: &(impl Abort + AllocGlobal), mover: &mut Mover, fault: StoreFault) -> bool {
+fn failing(rt: &(impl Abort + AllocGlobal), mover: Mover, fault: StoreFault) -> bool {
+    let mut mover = mover;
     let answer = mover.process(rt.alloc(), 8);
-    mover.tapes.fail_reads(Vec::new(rt.alloc()));
+    let mut mover = mover.unfailing(rt);
     match answer {
         Ok(number) => {
             assert!(rt; number == 8 && mover.reel(rt, 8) == (1, 15) && mover.reel(rt, 9) == (0, 1));
@@ -250,8 +279,8 @@ fn failing(rt: &(impl Abort + AllocGlobal), mover: &mut Mover, fault: StoreFault
 fn tape_reads_fail(rt: HostRuntime) {
     let mut failed = 0_u32;
     for tape in 7..12 {
-        let mut mover = Mover::away(&rt, beside_dump(&rt), 0, tape).expect(&rt, "a filestore");
-        if failing(&rt, &mut mover, StoreFault::TapeReadFault) {
+        let mover = Mover::away(&rt, beside_dump(&rt), 0, tape).expect(&rt, "a filestore");
+        if failing(&rt, mover, StoreFault::TapeReadFault) {
             failed = failed.saturating_add(1);
         }
     }
@@ -263,10 +292,10 @@ fn tape_reads_fail(rt: HostRuntime) {
 fn disc_reads_fail(rt: HostRuntime) {
     let mut failed = 0_u32;
     for disc in 1089..1095 {
-        let Some(mut mover) = Mover::away(&rt, beside_dump(&rt), disc, 0) else {
+        let Some(mover) = Mover::away(&rt, beside_dump(&rt), disc, 0) else {
             continue;
         };
-        if failing(&rt, &mut mover, StoreFault::DiscReadFault) {
+        if failing(&rt, mover, StoreFault::DiscReadFault) {
             failed = failed.saturating_add(1);
         }
     }

@@ -2,6 +2,7 @@
 ghost use Rattle.g_plain.specs.Rules.{IsWithinLimits};
 
 use crate::rig::reel;
+use g_known::KnownReels;
 use g_laid_out::online_with_one;
 use g_name::{Local, Path, User, parse_path};
 use g_plain::{BudgetKind, StoreCall, StoreFault, StoreReply};
@@ -17,7 +18,7 @@ fn compare(rt: &(impl Abort + AllocGlobal), call: &StoreCall, is_done: bool)
         Ok(online) => online,
         Err(_) => panic!(rt; "no filestore"),
     };
-    let mut tapes = reel(rt);
+    let mut tapes = KnownReels::new(rt.alloc(), reel(rt));
     match answer(rt.alloc(), &mut online, &mut tapes, &User::master(), call) {
         Ok(StoreReply::Done) => assert!(rt; is_done),
         Err(StoreFault::NoFile) => assert!(rt; !is_done),
@@ -47,7 +48,7 @@ fn users(rt: HostRuntime) {
     let list = StoreCall::List {
         user: User::master(),
     };
-    let mut tapes = reel(&rt);
+    let mut tapes = KnownReels::new(rt.alloc(), reel(&rt));
     match answer(rt.alloc(), &mut online, &mut tapes, &User::master(), &list) {
         Ok(StoreReply::Listing(listing)) => assert!(rt; listing.rows().len() == 1),
         _ => panic!(rt; "no listing"),

@@ -5,6 +5,7 @@ ghost use Rattle.g_contents.specs.Facts.{IsTied};
 
 use g_base::{Block, blocks_for};
 use g_disc::{Disc, MemoryDisc};
+use g_known::KnownReels;
 use g_laid_out::{disc_with, dumped};
 use g_migrate::{Unjam, migrate, plan_unjam};
 use g_name::Text;
@@ -20,7 +21,7 @@ use std::process::Abort;
 #[derive(Drop)]
 pub(crate) struct Rig {
     online: Online<MemoryDisc>,
-    tapes: MemoryTapes,
+    tapes: KnownReels<MemoryTapes>,
     stopped: bool,
 }
 
@@ -54,7 +55,7 @@ impl Rig {
         match Online::load(rt.alloc(), disc) {
             Ok(online) => Rig {
                 online,
-                tapes,
+                tapes: KnownReels::new(rt.alloc(), tapes),
                 stopped: false,
             },
             Err((_fault, _disc)) => panic!(rt; "no filestore"),
@@ -64,7 +65,7 @@ impl Rig {
     /// The filestore that the disc holds now, whatever became of it.
     pub(crate) fn loaded_again(self, rt: &(impl Abort + AllocGlobal)) -> Rig {
         let Rig { online, tapes, .. } = self;
-        Rig::on(rt, online.into_disc(), tapes)
+        Rig::on(rt, online.into_disc(), tapes.into_tapes())
     }
 
     /// Brings a file back by a plan of its own, as a store does. `Running`: there is no such file, it is on the disc, or a write
@@ -158,7 +159,7 @@ pub(crate) fn reel(rt: &(impl Abort + AllocGlobal)) -> MemoryTapes {
 fn bring(
     alloc: Global,
     online: &mut Online<MemoryDisc>,
-    tapes: &mut MemoryTapes,
+    tapes: &mut KnownReels<MemoryTapes>,
     number: u16,
 ) -> Result<Text, StoreFault>
     requires live { online.old.live ≡ true }

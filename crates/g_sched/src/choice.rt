@@ -21,7 +21,11 @@ impl Candidate {
         ensures no { (result ≡ false)
             → IsNoLater other.now.weight other.now.number self.now.weight self.now.number }
     {
-        (self.weight, self.number) <= (other.weight, other.number)
+        if self.weight == other.weight {
+            self.number <= other.number
+        } else {
+            self.weight < other.weight
+        }
     }
 }
 

@@ -13,7 +13,8 @@ use Rattle.g_incr.specs.declared.note.DumpNote.{DumpNote}
 use Rattle.g_incr.specs.Layout.{Dump, ends}
 use Rattle.g_incr.specs.Reading.{HasNone, IsFound}
 use Rattle.g_shelf.specs.Completed.{AreCompleted, AreNext, IsNext}
-use Rattle.g_shelf.specs.Found.{AreRead, note_of}
+use Rattle.g_shelf.specs.Found.{note_of}
+use Rattle.g_known.specs.Known.{AreFound}
 use Rattle.g_shelf.proofs.OneLemmas.{completed_are_one, same_next}
 use Rattle.g_step.specs.Rising.{is_intended}
 use Rattle.g_state.specs.Reading.{shelved_of}
@@ -48,9 +49,9 @@ note_named i dumps d is =
     any_there (names i) (map note_of dumps) (note_of d) (mapped_there note_of dumps d is.there)
     (λ j. (eq-eqb d.place i.place is.place j) && (eq-eqb d.number i.number is.number j))
 
-module _ (i : Intent) (old mid : Rack) (dumps : List Dump) (read : AreRead i.serial dumps old mid) (notes : List DumpNote) (are : notes ≡ map note_of dumps) where
+module _ (i : Intent) (old mid : Rack) (dumps : List Dump) (found_there : AreFound i.serial dumps old) (notes : List DumpNote) (are : notes ≡ map note_of dumps) where
   these : (blocks : List (List ℕ)) → blocks_of i.serial old ≡ Some blocks → (es : List Dump) → AreCompleted i.serial blocks es → dumps ≡ es
-  these blocks told es completed = completed_are_one i.serial blocks dumps es (read.completed blocks told) completed
+  these blocks told es completed = completed_are_one i.serial blocks dumps es (found_there.completed blocks told) completed
 
   -- no note is that of the intent
   pub none_noted : list_any (names i) notes ≡ false → NamesNone i old

@@ -7,6 +7,7 @@ ghost use Rattle.g_store.specs.Refusing.{first_used, is_used};
 use crate::store::Store;
 use g_disc::Disc;
 use g_entry::Head;
+use g_known::KnownReels;
 use g_online::Online;
 use g_plain::StoreFault;
 use g_restore::rebuild;
@@ -67,7 +68,7 @@ pub fn format<D: Disc, T: Tapes>(
     match Online::fresh(alloc, disc, tree, head) {
         Ok(online) => Ok(Store {
             online,
-            tapes,
+            tapes: KnownReels::new(alloc, tapes),
             dump: None,
             spent: false,
         }),
@@ -103,7 +104,7 @@ pub fn restore<D: Disc, T: Tapes>(
         Ok((online, number)) => Ok((
             Store {
                 online,
-                tapes,
+                tapes: KnownReels::new(alloc, tapes),
                 dump: None,
                 spent: false,
             },

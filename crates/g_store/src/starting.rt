@@ -15,9 +15,9 @@ use g_base::NoMemory;
 use g_disc::Disc;
 use g_entry::{BoxedRec, FileRec, Intent, TapeCopy};
 use g_incr::{DumpDir, DumpNote, read_dump};
+use g_known::KnownReels;
 use g_online::{CopyList, Online, OnlineFault};
 use g_plain::StoreFault;
-use g_shelf::completed;
 use g_tape::Tapes;
 use std::alloc::Global;
 
@@ -32,7 +32,7 @@ use std::alloc::Global;
 pub fn start<D: Disc, T: Tapes>(
     alloc: Global,
     disc: D,
-    mut tapes: T,
+    tapes: T,
 ) -> Result<(Store<D, T>, Option<u64>), Refused<D, T>>
     requires low { 2177 < (D.state disc).size }
     requires high { (D.state disc).size ≤ 1_048_576 }
@@ -49,6 +49,7 @@ pub fn start<D: Disc, T: Tapes>(
             });
         }
     };
+    let mut tapes = KnownReels::new(alloc, tapes);
     match take_over(alloc, &mut online, &mut tapes) {
         Ok(number) => Ok((
             Store {
@@ -62,7 +63,7 @@ pub fn start<D: Disc, T: Tapes>(
         Err(fault) => Err(Refused {
             fault,
             disc: online.into_disc(),
-            tapes,
+            tapes: tapes.into_tapes(),
         }),
     }
 }
@@ -71,7 +72,7 @@ pub fn start<D: Disc, T: Tapes>(
 fn take_over<D: Disc, T: Tapes>(
     alloc: Global,
     online: &mut Online<D>,
-    tapes: &mut T,
+    tapes: &mut KnownReels<T>,
 ) -> Result<Option<u64>, StoreFault>
     requires live { online.old.live ≡ true }
     requires pins { online.old.pins ≡ None }
@@ -99,7 +100,7 @@ fn take_over<D: Disc, T: Tapes>(
 /// The records of the dump that the intent names, if it is one of the completed dumps of its reel.
 fn find_named<T: Tapes>(
     alloc: Global,
-    tapes: &mut T,
+    tapes: &mut KnownReels<T>,
     intent: &Intent,
 ) -> Result<Option<DumpDir>, StoreFault>
     requires { is_mounted (reel intent.now.serial (T.rack tapes.old).reels) ≡ true }
@@ -110,7 +111,7 @@ fn find_named<T: Tapes>(
     ensures kept { (result ≡ Err StoreFault.TapeReadFault → ⊥) → (T.rack tapes.new).read_faults ≡ (T.rack tapes.old).read_faults }
     ensures rose { result ≡ Err StoreFault.TapeReadFault → Rose (T.rack tapes.old).read_faults (T.rack tapes.new).read_faults }
 {
-    let notes = match completed(alloc, tapes, intent.serial) {
+    let notes = match tapes.notes(alloc, intent.serial) {
         Ok(notes) => notes,
         Err(fault) => return Err(fault.into()),
     };

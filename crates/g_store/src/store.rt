@@ -14,6 +14,7 @@ ghost use Rattle.g_store.specs.Arming.{MeansTheSame};
 use g_disc::Disc;
 use g_dumper::Dump;
 use g_entry::UserRec;
+use g_known::KnownReels;
 use g_name::User;
 use g_online::Online;
 use g_tape::Tapes;
@@ -26,7 +27,7 @@ use std::marker::Model;
 #[derive(Drop)]
 pub struct Store<D: Disc, T: Tapes> {
     pub(crate) online: Online<D>,
-    pub(crate) tapes: T,
+    pub(crate) tapes: KnownReels<T>,
     pub(crate) dump: Option<Dump>,
     pub(crate) spent: bool,
 }
@@ -145,6 +146,6 @@ impl<D: Disc, T: Tapes> Store<D, T> {
         ensures spent { self.spent ≡ true → (s : State) → StandsForState self s
             → DevicesStandFor self.online.disc.size self.online.disc.held (told_reels self.rack) s }
     {
-        (self.online.into_disc(), self.tapes)
+        (self.online.into_disc(), self.tapes.into_tapes())
     }
 }

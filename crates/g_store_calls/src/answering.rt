@@ -17,6 +17,7 @@ use crate::putting::put;
 use crate::setting::{budget, rename, trap_go, trap_stop};
 use crate::telling::{list, trap_check};
 use g_disc::Disc;
+use g_known::KnownReels;
 use g_name::{Full, User};
 use g_online::Online;
 use g_plain::{StoreCall, StoreFault, StoreReply};
@@ -29,7 +30,7 @@ use std::alloc::Global;
 pub fn answer<D: Disc, T: Tapes>(
     alloc: Global,
     online: &mut Online<D>,
-    tapes: &mut T,
+    tapes: &mut KnownReels<T>,
     who: &User,
     call: &StoreCall,
 ) -> Result<StoreReply, StoreFault>
@@ -93,7 +94,7 @@ fn without_file<D: Disc>(
 fn of_file<D: Disc, T: Tapes>(
     alloc: Global,
     online: &mut Online<D>,
-    tapes: &mut T,
+    tapes: &mut KnownReels<T>,
     call: &StoreCall,
     number: u16,
     full: Full,

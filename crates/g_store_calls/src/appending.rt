@@ -22,6 +22,7 @@ use crate::changing::applied;
 use g_base::blocks_for;
 use g_disc::Disc;
 use g_entry::FileRec;
+use g_known::KnownReels;
 use g_migrate::{Unjam, plan_unjam};
 use g_name::{Full, Text};
 use g_online::{Change, Online};
@@ -39,7 +40,7 @@ use std::alloc::Global;
 pub(crate) fn append<D: Disc, T: Tapes>(
     alloc: Global,
     online: &mut Online<D>,
-    tapes: &mut T,
+    tapes: &mut KnownReels<T>,
     number: u16,
     full: Full,
     bytes: &Text,
@@ -62,7 +63,7 @@ pub(crate) fn append<D: Disc, T: Tapes>(
 fn append_to<D: Disc, T: Tapes>(
     alloc: Global,
     online: &mut Online<D>,
-    tapes: &mut T,
+    tapes: &mut KnownReels<T>,
     number: u16,
     bytes: &Text,
 ) -> Result<(), StoreFault>
@@ -115,7 +116,7 @@ fn append_here<D: Disc>(
 fn append_from_tape<D: Disc, T: Tapes>(
     alloc: Global,
     online: &mut Online<D>,
-    tapes: &mut T,
+    tapes: &mut KnownReels<T>,
     file: &FileRec,
     bytes: &Text,
 ) -> Result<(), StoreFault>

@@ -16,6 +16,7 @@ ghost use Rattle.g_store_calls.specs.Kinds.{IsKind};
 
 use g_base::blocks_for;
 use g_disc::Disc;
+use g_known::KnownReels;
 use g_migrate::plan_unjam;
 use g_name::{Full, Text};
 use g_online::Online;
@@ -33,7 +34,7 @@ use std::alloc::Global;
 pub(crate) fn fetch<D: Disc, T: Tapes>(
     alloc: Global,
     online: &mut Online<D>,
-    tapes: &mut T,
+    tapes: &mut KnownReels<T>,
     number: u16,
     full: Full,
 ) -> Result<StoreReply, StoreFault>
@@ -57,7 +58,7 @@ pub(crate) fn fetch<D: Disc, T: Tapes>(
 pub(crate) fn retrieve<D: Disc, T: Tapes>(
     alloc: Global,
     online: &mut Online<D>,
-    tapes: &mut T,
+    tapes: &mut KnownReels<T>,
     number: u16,
     full: Full,
 ) -> Result<StoreReply, StoreFault>
@@ -118,7 +119,7 @@ fn disc_bytes<D: Disc>(
 fn brought_bytes<D: Disc, T: Tapes>(
     alloc: Global,
     online: &mut Online<D>,
-    tapes: &mut T,
+    tapes: &mut KnownReels<T>,
     number: u16,
 ) -> Result<Text, StoreFault>
     requires live { online.old.live ≡ true }

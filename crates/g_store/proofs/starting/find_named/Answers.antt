@@ -5,19 +5,19 @@ use Rattle.g_store.proofs.starting.find_named.Goals as goal
 
 pub returns-then-not-has_named-clause-none : goal.returns-then-not-has_named-clause-none
 returns-then-not-has_named-clause-none g c =
-    let (dumps, read, notes_are) = c.in-Ok.ensures.found in
-    none_noted c.args.intent.now _ _ dumps read _ (c.as_slice.ensures.value ∙ notes_are) (sym c.has_named.ensures ∙ c.if-not-has_named.true)
+    let noted = c.in-Ok.ensures.noted in
+    none_noted c.args.intent.now _ _ noted.dumps noted.found _ (c.as_slice.ensures ∙ noted.notes_are) (sym c.has_named.ensures ∙ c.if-not-has_named.true)
 
 pub returns-in-Ok-read_dump-clause-some : goal.returns-in-Ok-read_dump-clause-some
 returns-in-Ok-read_dump-clause-some g c =
-    let (dumps, read, notes_are) = c.in-Ok.ensures.found in
-    some_read c.args.intent.now _ _ dumps read _ (c.as_slice.ensures.value ∙ notes_are) c.in-Ok.ensures.reads.only (sym c.has_named.ensures ∙ c.if-not-has_named.false) c.in-Ok-read_dump.found
+    let noted = c.in-Ok.ensures.noted in
+    some_read c.args.intent.now _ _ noted.dumps noted.found _ (c.as_slice.ensures ∙ noted.notes_are) c.in-Ok.ensures.reads.only (sym c.has_named.ensures ∙ c.if-not-has_named.false) c.in-Ok-read_dump.found
     c.in-Ok-read_dump.ensures.some
 
 pub returns-in-Ok-read_dump-clause-none : goal.returns-in-Ok-read_dump-clause-none
 returns-in-Ok-read_dump-clause-none g c =
-    let (dumps, read, notes_are) = c.in-Ok.ensures.found in
-    nothing_there c.args.intent.now _ _ dumps read _ (c.as_slice.ensures.value ∙ notes_are) c.in-Ok.ensures.reads.only c.in-Ok-read_dump.found c.in-Ok-read_dump.ensures.none
+    let noted = c.in-Ok.ensures.noted in
+    nothing_there c.args.intent.now _ _ noted.dumps noted.found _ (c.as_slice.ensures ∙ noted.notes_are) c.in-Ok.ensures.reads.only c.in-Ok-read_dump.found c.in-Ok-read_dump.ensures.none
 
 pub returns-clause-only : goal.returns-clause-only
 returns-clause-only g c =

@@ -2,7 +2,7 @@
 use Rattle.std.proofs.Common.{◌≡◌, ◌≤◌, drop, take}
 use Rattle.g_lang.specs.How.{Front, wrong_from}
 use Rattle.g_lang.specs.Places.{state_of, depth_of, word_start}
-use Rattle.g_lang.proofs.reader.wrong_place.Given as goal
+use Rattle.g_lang.proofs.reader.wrong_by_steps.Given as goal
 
 abbrev pub invariant-loop-at : goal.invariant-loop-at
 invariant-loop-at l = record {

@@ -1,0 +1,159 @@
+-- Where a line goes wrong that begins with a verb: where its parameters do.
+use Rattle.std.proofs.Common.{List, None, Option, Some, [], ap, append-nil, append_assoc, arith, codes, eqb-true, false, length, length-append, lt-ltb, nat_lt, refl, subst, suc, sym, true, zero, ℕ, ◌&&◌, ◌++◌, ◌+◌, ◌-◌, ◌==◌, ◌∙◌, ◌∷◌, ◌≡◌, ◌≤◌}
+use Rattle.std.proofs.lemmas.Bool.{and_parts, and_right, cond_both, false≢true}
+use Rattle.std.specs.List.{list_all}
+use Rattle.g_lang.proofs.ReadLemmas.{letter_no_digit}
+use Rattle.g_lang.proofs.SpaceLemmas.{at_space, letter-name_char, name_char-no_space}
+use Rattle.g_lang.proofs.TakeLemmas.{verb_end, verb_state, word_parts}
+use Rattle.g_lang.specs.How.{Front, Params, State, VerbGap, Word, behind_word, in_params, may_end, step, wrong_from}
+use Rattle.g_lang.specs.Lines.{is_verb}
+use Rattle.g_lang.specs.Words.{spaces, without_front, word_of}
+use Rattle.g_name.specs.Grammar.{is_name_char, is_word}
+use Rattle.g_name.specs.Order.{same_text}
+
+-- the reader goes on over a byte
+on : (s t : State) (at c : ℕ) (cs : List ℕ) → step c s ≡ Some t → wrong_from s at (c ∷ cs) ≡ wrong_from t (at + 1) cs
+on s t at c cs goes = ap (λ (o : Option State). elim o [ None ↦ Some at | Some t ↦ wrong_from t (at + 1) cs ]) goes
+
+-- counted from another place that is the same
+from : (s : State) (t : List ℕ) (a b : ℕ) → a ≡ b → wrong_from s a t ≡ wrong_from s b t
+from s t a b same = ap (λ (k : ℕ). wrong_from s k t) same
+
+-- the spaces in front
+front_on : (n at : ℕ) (t : List ℕ) → wrong_from Front at (spaces n ++ t) ≡ wrong_from Front (at + n) t
+front_on zero at t = from Front t at (at + 0) (omega arith)
+front_on (suc n) at t = front_on n (at + 1) t ∙ from Front t (at + 1 + n) (at + suc n) (omega arith)
+
+-- a word
+word_on : (first : ℕ) (word xs t : List ℕ) (at : ℕ) → list_all is_name_char xs ≡ true → length word + length xs ≤ 11
+    → wrong_from (Word (first ∷ word) false) at (xs ++ t) ≡ wrong_from (Word ((first ∷ word) ++ xs) false) (at + length xs) t
+word_on first word [] t at all fits =
+    ap (λ (w : List ℕ). wrong_from (Word w false) at t) (sym (append-nil (first ∷ word))) ∙ from (Word ((first ∷ word) ++ []) false) t at (at + 0) (omega arith)
+word_on first word (c ∷ xs) t at all fits =
+    let both = and_parts (is_name_char c) (list_all is_name_char xs) all in
+    let room : nat_lt (length word) 11 ≡ true = lt-ltb (length word) 11 (omega (arith, fits)) in
+    let goes : step c (Word (first ∷ word) false) ≡ Some (Word ((first ∷ word) ++ c ∷ []) false) = rw (both.0, room) refl in
+    let more : length (word ++ c ∷ []) + length xs ≤ 11 = omega (arith, fits, length-append word (c ∷ [])) in
+    on (Word (first ∷ word) false) (Word ((first ∷ word) ++ c ∷ []) false) at c (xs ++ t) goes
+    ∙ word_on first (word ++ c ∷ []) xs t (at + 1) both.1 more
+    ∙ ap (λ (w : List ℕ). wrong_from (Word w false) (at + 1 + length xs) t) (append_assoc (first ∷ word) (c ∷ []) xs)
+    ∙ from (Word ((first ∷ word) ++ c ∷ xs) false) t (at + 1 + length xs) (at + suc (length xs)) (omega arith)
+
+whole_on : (name t : List ℕ) (at : ℕ) → is_word name ≡ true → wrong_from Front at (name ++ t) ≡ wrong_from (Word name false) (at + length name) t
+whole_on [] t at is = absurd (false≢true is)
+whole_on (c ∷ cs) t at is =
+    let parts = word_parts c cs is in
+    let fits = parts.1 in
+    let goes : step c Front ≡ Some (Word (c ∷ []) false) = rw (name_char-no_space c (letter-name_char c parts.0), letter_no_digit c parts.0, parts.0) refl in
+    on Front (Word (c ∷ []) false) at c (cs ++ t) goes ∙ word_on c [] cs t (at + 1) parts.2 (omega (arith, fits))
+    ∙ from (Word (c ∷ cs) false) t (at + 1 + length cs) (at + suc (length cs)) (omega arith)
+
+-- behind a verb's space spaces are as in its parameters
+printed_space : (c : ℕ) → c ≡ 32 → in_params 0 c ≡ Some (Params 0)
+printed_space c is = subst (λ (d : ℕ). in_params 0 d ≡ Some (Params 0)) (sym is) refl
+
+gap_same : (t : List ℕ) (at : ℕ) → wrong_from VerbGap at t ≡ wrong_from (Params 0) at t
+gap_same [] at = refl
+gap_same (c ∷ cs) at =
+    cond_both (c == 32) zero zero (λ _. wrong_from VerbGap at (c ∷ cs) ≡ wrong_from (Params 0) at (c ∷ cs))
+    (λ space. let goes : step c VerbGap ≡ Some VerbGap = rw space refl in
+    on VerbGap VerbGap at c cs goes ∙ gap_same cs (at + 1) ∙ sym (on (Params 0) (Params 0) at c cs (printed_space c (eqb-true c 32 space))))
+    (λ other. let goes : step c VerbGap ≡ in_params 0 c = rw other refl in
+    ap (λ (o : Option State). elim o [ None ↦ Some at | Some t ↦ wrong_from t (at + 1) cs ]) goes)
+
+params_on : (n at : ℕ) (t : List ℕ) → wrong_from (Params 0) at (spaces n ++ t) ≡ wrong_from (Params 0) (at + n) t
+params_on zero at t = from (Params 0) t at (at + 0) (omega arith)
+params_on (suc n) at t = params_on n (at + 1) t ∙ from (Params 0) t (at + 1 + n) (at + suc n) (omega arith)
+
+-- how a text is cut at its spaces
+record CutsFront (t : List ℕ) : Type 0 where
+  count : ℕ
+  whole : t ≡ spaces count ++ without_front t
+
+front_cut : (t : List ℕ) → CutsFront t
+front_cut [] = record { count = 0; whole = refl }
+front_cut (c ∷ cs) =
+    let more = front_cut cs in
+    cond_both (c == 32) zero zero (λ _. CutsFront (c ∷ cs))
+    (λ space. record { count = suc more.count; whole = rw space (ap (λ (x : ℕ). x ∷ cs) (eqb-true c 32 space) ∙ ap (λ (xs : List ℕ). 32 ∷ xs) more.whole) })
+    (λ other. record { count = 0; whole = rw other refl })
+
+record CutsWord (t : List ℕ) : Type 0 where
+  rest : List ℕ
+  whole : t ≡ word_of t ++ rest
+  behind : behind_word t ≡ without_front rest
+  space : at_space rest ≡ true
+
+word_cut : (t : List ℕ) → CutsWord t
+word_cut [] = record { rest = []; whole = refl; behind = refl; space = refl }
+word_cut (c ∷ cs) =
+    let more = word_cut cs in
+    cond_both (c == 32) zero zero (λ _. CutsWord (c ∷ cs))
+    (λ space. record { rest = c ∷ cs; whole = rw space refl; behind = rw space refl; space = space })
+    (λ other. record { rest = more.rest; whole = rw other (ap (λ (xs : List ℕ). c ∷ xs) more.whole); behind = rw other more.behind; space = more.space })
+
+-- how long they are
+spaces_long : (n : ℕ) → length (spaces n) ≡ n
+spaces_long zero = refl
+spaces_long (suc n) = ap suc (spaces_long n)
+
+-- behind the verb
+behind_on : (name rest : List ℕ) (at : ℕ) → is_verb name ≡ true → at_space rest ≡ true
+    → wrong_from (Word name false) at rest ≡ wrong_from (Params 0) (at + (length rest - length (without_front rest))) (without_front rest)
+behind_on [] rest at is space = absurd (false≢true is)
+behind_on (first ∷ word) [] at is space =
+    let ends : may_end (Word (first ∷ word) false) ≡ true = verb_end first word false is (and_right (same_text (first ∷ word) (codes "INPUT")) false refl) in
+    rw ends refl
+behind_on (first ∷ word) (c ∷ cs) at is space =
+    let same : c ≡ 32 = eqb-true c 32 space in
+    let name = first ∷ word in
+    let cut = front_cut (c ∷ cs) in
+    let other : (same_text name (codes "INPUT") && false) ≡ false = and_right (same_text name (codes "INPUT")) false refl in
+    let goes : step 32 (Word name false) ≡ Some VerbGap = verb_state name false is other in
+    let gone : step c (Word name false) ≡ Some VerbGap = subst (λ (d : ℕ). step d (Word name false) ≡ Some VerbGap) (sym same) goes in
+    let long = ap length cut.whole in
+    let parts = length-append (spaces cut.count) (without_front (c ∷ cs)) in
+    on (Word name false) VerbGap at c cs gone ∙ gap_same cs (at + 1)
+    ∙ sym (on (Params 0) (Params 0) at c cs (printed_space c same))
+    ∙ ap (wrong_from (Params 0) at) cut.whole ∙ params_on cut.count at (without_front (c ∷ cs))
+    ∙ from (Params 0) (without_front (c ∷ cs)) (at + cut.count) (at + (length (c ∷ cs) - length (without_front (c ∷ cs)))) (omega (arith, long, parts, spaces_long cut.count))
+
+-- A LINE THAT BEGINS WITH A VERB
+pub verb_line : (text : List ℕ) → is_verb (word_of (without_front text)) ≡ true
+    → wrong_from Front 0 text ≡ wrong_from (Params 0) (length text - length (behind_word (without_front text))) (behind_word (without_front text))
+verb_line text is =
+    let line = without_front text in
+    let name = word_of line in
+    let front = front_cut text in
+    let cut = word_cut line in
+    let params = without_front cut.rest in
+    let n = front.count in
+    let word : is_word name ≡ true = (and_parts (is_word name) _ is).0 in
+    let a = ap length front.whole in
+    let b = length-append (spaces n) line in
+    let c = ap length cut.whole in
+    let d = length-append name cut.rest in
+    let e = spaces_long n in
+    let f = front_cut cut.rest in
+    let g = ap length f.whole in
+    let h = length-append (spaces f.count) params in
+    let place : 0 + n + length name + (length cut.rest - length params) ≡ length text - length params = omega (arith, a, b, c, d, e, g, h) in
+    ap (wrong_from Front 0) front.whole ∙ front_on n 0 line ∙ ap (wrong_from Front (0 + n)) cut.whole ∙ whole_on name cut.rest (0 + n) word
+    ∙ behind_on name cut.rest (0 + n + length name) is cut.space
+    ∙ from (Params 0) params (0 + n + length name + (length cut.rest - length params)) (length text - length params) place
+    ∙ ap (λ (ps : List ℕ). wrong_from (Params 0) (length text - length ps) ps) (sym cut.behind)
+
+pub behind_short : (text : List ℕ) → length (behind_word (without_front text)) ≤ length text
+behind_short text =
+    let line = without_front text in
+    let front = front_cut text in
+    let cut = word_cut line in
+    let f = front_cut cut.rest in
+    let a = ap length front.whole in
+    let b = length-append (spaces front.count) line in
+    let c = ap length cut.whole in
+    let d = length-append (word_of line) cut.rest in
+    let g = ap length f.whole in
+    let h = length-append (spaces f.count) (without_front cut.rest) in
+    let i = ap length cut.behind in
+    omega (arith, a, b, c, d, g, h, i)
