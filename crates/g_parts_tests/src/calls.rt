@@ -13,39 +13,41 @@ use std::process::Abort;
 /// What is told of a call.
 type Answer = Result<StoreReply, StoreFault>;
 
-/// The answer to a `Fetch` by `MASTER`.
+/// The answer to a call by `MASTER` on a filestore with these files.
+fn answered(
+    rt: &(impl Abort + AllocGlobal),
+    files: &[Block; 5],
+    tapes: &mut KnownReels<MemoryTapes>,
+    call: &StoreCall,
+) -> Answer {
+    let mut online = match online_with(rt.alloc(), files) {
+        Ok(online) => online,
+        Err(_) => panic!(rt; "no filestore"),
+    };
+    answer(rt.alloc(), &mut online, tapes, &User::master(), call)
+}
+
+/// The answer to a `Fetch`.
 fn fetched(
     rt: &(impl Abort + AllocGlobal),
     files: &[Block; 5],
     tapes: &mut KnownReels<MemoryTapes>,
     path: &[u8],
 ) -> Answer {
-    let mut online = match online_with(rt.alloc(), files) {
-        Ok(online) => online,
-        Err(_) => panic!(rt; "no filestore"),
-    };
-    let call = StoreCall::Fetch {
-        path: parse_path(path).expect(rt, "a path"),
-        mode: Mode::Read,
-    };
-    answer(rt.alloc(), &mut online, tapes, &User::master(), &call)
+    let path = parse_path(path).expect(rt, "a path");
+    let mode = Mode::Read;
+    answered(rt, files, tapes, &StoreCall::Fetch { path, mode })
 }
 
-/// The same to a `Retrieve`.
+/// The answer to a `Retrieve`.
 fn retrieved(
     rt: &(impl Abort + AllocGlobal),
     files: &[Block; 5],
     tapes: &mut KnownReels<MemoryTapes>,
     path: &[u8],
 ) -> Answer {
-    let mut online = match online_with(rt.alloc(), files) {
-        Ok(online) => online,
-        Err(_) => panic!(rt; "no filestore"),
-    };
-    let call = StoreCall::Retrieve {
-        path: parse_path(path).expect(rt, "a path"),
-    };
-    answer(rt.alloc(), &mut online, tapes, &User::master(), &call)
+    let path = parse_path(path).expect(rt, "a path");
+    answered(rt, files, tapes, &StoreCall::Retrieve { path })
 }
 
 /// Whether an answer is so many bytes, with this first and this last one.
