@@ -5,3 +5,4 @@ pub mod OpeningLemmas
 pub mod RowLemmas
 pub mod SeatLemmas
 pub mod TakingLemmas
+pub mod WeightLemmas

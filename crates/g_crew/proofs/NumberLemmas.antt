@@ -66,7 +66,7 @@ pub record IsOnly (jobs : List JobState) (place : ℕ) (j : JobState) : Type 0 w
   pub gone : without_job j.number jobs ≡ remove jobs place
   pub changed : (k : JobState) → k.number ≡ j.number → with_job k jobs ≡ set jobs place k
 
-only_at : (low : ℕ) (jobs : List JobState) (next place : ℕ) (j : JobState) → Rise low jobs next → slice_get jobs place ≡ Some j → (low ≤ j.number) × IsOnly jobs place j
+pub only_at : (low : ℕ) (jobs : List JobState) (next place : ℕ) (j : JobState) → Rise low jobs next → slice_get jobs place ≡ Some j → (low ≤ j.number) × IsOnly jobs place j
 only_at low [] next place j r there = absurd (none-some j there)
 only_at low (m ∷ jobs) next zero j (first, more) there =
     let same : m ≡ j = same_Some m j there in

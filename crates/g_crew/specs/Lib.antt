@@ -7,3 +7,4 @@ pub mod Numbers
 pub mod Seating
 pub mod Taking
 pub mod Turn
+pub mod Weights

@@ -1,12 +1,14 @@
 //! Which job goes next.
-ghost use Rattle.std.specs.Prelude.{◌≡◌, not};
-ghost use Rattle.std.specs.Fn.{FnReturnsAt};
+ghost use Rattle.std.specs.Prelude.{◌≡◌, ◌≤◌, ℕ, length, not};
 ghost use Rattle.g_crew.specs.Choice.{IsFirst, TellsMounted, able_in};
-ghost use Rattle.g_job.specs.Begun.{standing_of};
+ghost use Rattle.g_crew.specs.Numbers.{Rise};
+ghost use Rattle.g_crew.specs.Weights.{AreOthers, AreWeights};
 ghost use Rattle.g_sched.specs.Rule.{IsWeighRule};
 ghost use Rattle.g_step.specs.State.{State};
 ghost use Rattle.g_world.specs.World.{can_step, has_none, has_reel};
 
+use crate::place::place_of;
+use crate::weights::Weights;
 use g_job::Job;
 use g_sched::{Candidate, Standing, WeighRule, earlier};
 
@@ -45,37 +47,70 @@ pub(crate) fn one_can_step<M: Fn(u32) -> bool>(jobs: &[Job], mounted: &M) -> boo
     false
 }
 
-/// What this job would be chosen by: its standing's weight by the rule and its number, as the next of those that can step.
-fn candidate<U: Fn(&Standing) -> u64>(job: &Job, place: usize, weigh: &WeighRule<U>) -> Candidate
-    requires rule { IsWeighRule U.Fn weigh.now }
-    ensures value { result ≡ record { place = place; weight = result.weight; number = job.now.number } }
-    ensures weighed { FnReturnsAt U.Fn weigh.now (standing_of job.now) result.weight }
+/// What this job would be chosen by: its weight and its number, as the next of those that can step.
+fn candidate(job: &Job, place: usize, weight: u64) -> Candidate
+    ensures { result ≡ record { place = place; weight = weight; number = job.now.number } }
 {
-    let standing = job.standing();
     Candidate {
         place,
-        weight: weigh.weight(&standing),
-        number: standing.number,
+        weight,
+        number: job.standing().number,
     }
 }
 
-/// The first of the jobs that can step, by the rule and then by number. Its place is that among those that can step.
+/// The first of the jobs that can step, by their weights and then by number. Its place is that among those that can step.
 pub(crate) fn first_of<U: Fn(&Standing) -> u64, M: Fn(u32) -> bool>(
     jobs: &[Job],
     weigh: &WeighRule<U>,
+    weights: &Weights,
     mounted: &M,
 ) -> Option<Candidate>
-    requires rule { IsWeighRule U.Fn weigh.now }
+    requires weighed { AreWeights U.Fn weigh.now jobs.now weights.now }
     requires callable { M.IsAlwaysCallable mounted.now }
     ensures { (s : State) → TellsMounted M.Fn mounted.now s → IsFirst U.Fn weigh.now (able_in s jobs.now) result }
 {
     let mut able = 0;
     let mut first: Option<Candidate> = None;
-    for job in jobs {
+    for (place, job) in jobs.iter().enumerate() {
         if can_step(job, mounted) {
-            first = Some(earlier(first, candidate(job, able, weigh)));
+            first = Some(earlier(first, candidate(job, able, weights.get(place))));
             able += 1;
         }
     }
     first
+}
+
+/// Weighs each of the jobs by the rule. The weights lie where they are: a turn doesn't pay for the room of others.
+pub(crate) fn weigh_each<U: Fn(&Standing) -> u64>(
+    jobs: &[Job],
+    weigh: &WeighRule<U>,
+    weights: &mut Weights,
+)
+    requires rule { IsWeighRule U.Fn weigh.now }
+    requires few { length jobs.now ≤ 64 }
+    ensures { AreWeights U.Fn weigh.now jobs.now weights.new }
+{
+    weights.clear();
+    for job in jobs {
+        weights.push(weigh.weight(&job.standing()));
+    }
+}
+
+/// Weighs the job of this number again, if there is one, where the others weigh what they did.
+pub(crate) fn weigh_again<U: Fn(&Standing) -> u64>(
+    jobs: &[Job],
+    weigh: &WeighRule<U>,
+    number: u64,
+    weights: &mut Weights,
+)
+    requires rule { IsWeighRule U.Fn weigh.now }
+    requires rise { (next : ℕ) × Rise 1 jobs.now next }
+    requires count { length jobs.now ≡ length weights.old }
+    requires others { AreOthers U.Fn weigh.now number jobs.now weights.old }
+    ensures { AreWeights U.Fn weigh.now jobs.now weights.new }
+{
+    match place_of(jobs, number) {
+        Some(place) => weights.set(place, weigh.weight(&jobs[place].standing())),
+        None => {}
+    }
 }

@@ -7,6 +7,7 @@ ghost use Rattle.g_crew.specs.Choice.{Chooses, TellsMounted, able_in};
 ghost use Rattle.g_crew.specs.Numbers.{AreJobs, AreOpen, job_in};
 ghost use Rattle.g_crew.specs.Taking.{RefusesAsIn, printed};
 ghost use Rattle.g_crew.specs.Turn.{TakesTurn, shown_from};
+ghost use Rattle.g_crew.specs.Weights.{AreOthers, AreWeights};
 ghost use Rattle.g_job.specs.Begun.{job_begun};
 ghost use Rattle.g_job.specs.Spends.{ToldAsBefore};
 ghost use Rattle.g_job.specs.State.{JobState};
@@ -18,11 +19,12 @@ ghost use Rattle.g_world.specs.Accounts.{Opened, rows_of, settled, with_new};
 ghost use Rattle.g_world.specs.World.{has_none, with_job, without_job};
 
 use crate::account::{Account, charge, open_each};
-use crate::choice::{first_of, one_can_step};
+use crate::choice::{first_of, one_can_step, weigh_again, weigh_each};
 use crate::place::place_of;
 use crate::seats::{BoxedSeats, get_up};
 use crate::taken::Taken;
 use crate::taking::{NotTaken, refusal};
+use crate::weights::Weights;
 use g_base::NoMemory;
 use g_budget::{Charge, Tariff, Usage};
 use g_entry::UserRec;
@@ -172,16 +174,45 @@ impl Crew {
     pub fn choose<U: Fn(&Standing) -> u64, M: Fn(u32) -> bool>(
         &self,
         weigh: &WeighRule<U>,
+        weights: &Weights,
         mounted: &M,
     ) -> Option<u64>
-        requires rule { IsWeighRule U.Fn weigh.now }
+        requires weighed { AreWeights U.Fn weigh.now self.now.jobs weights.now }
         requires callable { M.IsAlwaysCallable mounted.now }
         ensures { (s : State) → TellsMounted M.Fn mounted.now s
             → Chooses U.Fn weigh.now self.now.jobs (able_in s self.now.jobs) result }
     {
-        match first_of(self.jobs(), weigh, mounted) {
+        match first_of(self.jobs(), weigh, weights, mounted) {
             Some(first) => Some(first.number),
             None => None,
+        }
+    }
+
+    /// What each job weighs by the rule.
+    pub fn weigh<U: Fn(&Standing) -> u64>(&self, weigh: &WeighRule<U>, weights: &mut Weights)
+        requires rule { IsWeighRule U.Fn weigh.now }
+        ensures { AreWeights U.Fn weigh.now self.now.jobs weights.new }
+    {
+        weigh_each(self.jobs(), weigh, weights);
+    }
+
+    /// The same behind a turn of the job of this number: where no job has gone by then, the others weigh what they did, and that
+    /// one alone is weighed again.
+    pub fn weigh_behind<U: Fn(&Standing) -> u64>(
+        &self,
+        weigh: &WeighRule<U>,
+        number: u64,
+        weights: &mut Weights,
+    )
+        requires rule { IsWeighRule U.Fn weigh.now }
+        requires others { length self.now.jobs ≡ length weights.old → AreOthers U.Fn weigh.now number self.now.jobs weights.old }
+        ensures { AreWeights U.Fn weigh.now self.now.jobs weights.new }
+    {
+        let jobs = self.jobs();
+        if jobs.len() == weights.count() {
+            weigh_again(jobs, weigh, number, weights);
+        } else {
+            weigh_each(jobs, weigh, weights);
         }
     }
 

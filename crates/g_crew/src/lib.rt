@@ -14,6 +14,7 @@ mod taken;
 mod taking;
 mod terminals;
 mod texts;
+mod weights;
 
 pub use account::Account;
 pub use crew::Crew;
@@ -24,3 +25,4 @@ pub use seating::{
 pub use taken::Taken;
 pub use taking::{NotTaken, push_refusal};
 pub use texts::{closing_text, dump_text, job_text, push_operator_line, started_text, tape_text};
+pub use weights::Weights;

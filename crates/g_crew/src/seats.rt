@@ -1,4 +1,4 @@
-//! Which job sits at which terminal. The seats lie in a box: a crew is moved at every tick, and with it a pointer.
+//! Which job sits at which terminal. The seats lie in a box: a crew is moved at every line, and with it a pointer.
 ghost use Rattle.std.specs.Prelude.{◌≡◌, ◌∷◌, ◌++◌, ◌≤◌, [], map, true, IfOk, IfSome, None, OnErr, OnOk, is_some};
 ghost use Rattle.g_mop.specs.Seats.{AreSeats, LogsIn, LogsOut, job_in_seat, left_at, seat_at, seat_taken, without_seat};
 ghost use Rattle.g_crew.specs.Seating.{seats_of};

@@ -9,6 +9,9 @@ use g_monitor::push_number;
 use g_name::Text;
 use std::alloc::Global;
 
+/// The room that is asked for at once for what happened: most of it is shorter.
+const ROOM: usize = 48;
+
 /// Puts a line of the operator's behind the text: the count of turns, a space, what happened, and the line's byte 10. Where
 /// memory is wanting, a front of it may stand there.
 pub fn push_operator_line(text: &mut Text, count: u64, what: &[u8]) -> Result<(), NoMemory>
@@ -24,7 +27,7 @@ pub fn push_operator_line(text: &mut Text, count: u64, what: &[u8]) -> Result<()
 fn numbered(alloc: Global, words: &[u8], number: u64, how: &[u8]) -> Result<Text, NoMemory>
     ensures { IfOk result (λ text. text ≡ ((words.now ++ decimal number) ++ codes " ") ++ how.now) }
 {
-    let mut text = Text::new(alloc);
+    let mut text = Text::from(Vec::with_capacity(alloc, ROOM)?);
     push_number(&mut text, words, number)?;
     text.extend(b" ")?;
     text.extend(how)?;

@@ -94,11 +94,9 @@ fn reads_as(rt: &(impl Abort + AllocGlobal), kept: &mut Kept, files: u8) -> bool
         return false;
     }
     for i in 0..read.online.len() {
-        let (number, boxed) = &read.online[i];
-        let copy = boxed.get();
-        let (other, wanted) = &want.online[i];
-        let same = wanted.get();
-        if number != other
+        let copy = read.online[i].get();
+        let same = want.online[i].get();
+        if read.online[i].number() != want.online[i].number()
             || copy.len != same.len
             || copy.blocks.as_slice() != same.blocks.as_slice()
         {

@@ -3,6 +3,7 @@ use crate::slots::{Changed, directory};
 use g_base::{Block, ReadFailed, WriteFailed};
 use g_dirs::{DirsFault, Listing, Pages, write_changed, write_dirs};
 use g_disc::{Disc, Leave, MemoryDisc};
+use g_entry::boxed;
 use g_slots::Slots;
 use std::process::Abort;
 

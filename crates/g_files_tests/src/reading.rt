@@ -117,13 +117,11 @@ fn compare_files(rt: &impl Abort, dirs: &Dirs) {
     empty.stamp = 9;
     assert!(rt; dirs.files.as_slice() == [online, offline, empty].as_slice());
     assert!(rt; dirs.online.len() == 2);
-    let (number, boxed) = &dirs.online[0];
-    let copy = boxed.get();
-    assert!(rt; *number == 0 && copy.len == 513);
+    let copy = dirs.online[0].get();
+    assert!(rt; dirs.online[0].number() == 0 && copy.len == 513);
     assert!(rt; copy.blocks.as_slice() == [2_177, 2_179].as_slice());
-    let (number, boxed) = &dirs.online[1];
-    let copy = boxed.get();
-    assert!(rt; *number == 1_023 && copy.len == 0);
+    let copy = dirs.online[1].get();
+    assert!(rt; dirs.online[1].number() == 1_023 && copy.len == 0);
     assert!(rt; copy.blocks.as_slice().is_empty());
 }
 

@@ -1,5 +1,5 @@
 //! A job between its turns.
-ghost use Rattle.std.specs.Prelude.{◌≡◌, ◌≤◌, ◌↔◌, ℕ, [], List, Ok, false, true, IfOk, OnErr, length};
+ghost use Rattle.std.specs.Prelude.{◌≡◌, ◌≤◌, ◌↔◌, ℕ, List, Ok, false, true, IfOk, OnErr, length};
 ghost use Rattle.g_budget.specs.Tariff.{IsTariff};
 ghost use Rattle.g_job.specs.Begun.{job_begun, room_of, standing_of};
 ghost use Rattle.g_act.specs.Bounds.{IsWithin};
@@ -91,8 +91,6 @@ impl Job {
         };
         let units = Units::new(alloc)?;
         let monitor = first_line(alloc, number, &name, &user)?;
-        let mut work = Work::new(alloc, levels, units);
-        work.take_back(with_room(alloc, ROOM)?);
         Ok(Job {
             number,
             name,
@@ -102,7 +100,7 @@ impl Job {
             used: 0,
             used_money: 0,
             turns: 0,
-            work,
+            work: Work::new(alloc, levels, units),
             again: None,
             wants: None,
             monitor,
@@ -207,16 +205,6 @@ impl Job {
     }
 }
 
-/// The room with which a monitoring file and the text of a turn begin, in bytes: that of a few lines.
-const ROOM: usize = 256;
-
-/// An empty text with room for so many bytes, so that it doesn't grow bit by bit.
-pub(crate) fn with_room(alloc: Global, room: usize) -> Result<Text, NoMemory>
-    ensures { IfOk result (λ text. text ≡ []) }
-{
-    Ok(Text::from(Vec::with_capacity(alloc, room)?))
-}
-
 /// The first line of a monitoring file, with its byte 10.
 #[tactic(auto, using(crate::proofs::HeaderLemmas::word_short, crate::proofs::HeaderLemmas::header_short))]
 fn first_line(alloc: Global, number: u64, name: &Local, user: &User) -> Result<Text, NoMemory>
@@ -225,7 +213,7 @@ fn first_line(alloc: Global, number: u64, name: &Local, user: &User) -> Result<T
 {
     let is_short = name.as_slice().len() <= 12 && user.as_slice().len() <= 12;
     prove!(is_short);
-    let mut text = with_room(alloc, ROOM)?;
+    let mut text = Text::new(alloc);
     push_header(&mut text, number, name, user)?;
     text.push(b'\n')?;
     Ok(text)

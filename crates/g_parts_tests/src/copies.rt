@@ -58,11 +58,11 @@ fn known(alloc: Global, tapes: &mut KnownReels<MemoryTapes>) -> Result<Option<us
     }
 }
 
-/// The first call takes nine reads, the next ones three: the block behind the dump, and the copy's two. Behind an unmount it
-/// is nine again.
+/// The first call takes nine reads, the next ones three: of the block behind the dump, which isn't there, and of the copy's
+/// two. Behind an unmount it is nine again.
 #[test]
 fn known_dumps_are_read_once(rt: HostRuntime) {
-    for (at, calls) in [(9, 0), (10, 1), (12, 1), (13, 2), (15, 2), (16, 3)] {
+    for (at, calls) in [(9, 0), (11, 1), (12, 1), (14, 2), (15, 2), (17, 3)] {
         let mut tapes = reel(&rt);
         tapes.fail_reads([at].to_vec(rt.alloc()).expect(&rt, "memory"));
         let mut tapes = KnownReels::new(rt.alloc(), tapes);

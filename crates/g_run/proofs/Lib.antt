@@ -27,3 +27,4 @@ pub mod TickedLemmas
 pub mod TopLemmas
 pub mod TurningLemmas
 pub mod UntilLemmas
+pub mod WeighedLemmas

@@ -1,5 +1,5 @@
 //! A step of the open dump.
-ghost use Rattle.std.specs.Prelude.{◌≡◌, ◌++◌, IfOk, codes, option_map, Some};
+ghost use Rattle.std.specs.Prelude.{◌≡◌, ◌++◌, IfOk, codes, false, option_map, Some};
 ghost use Rattle.g_console.specs.Parts.{IsReady, seen};
 ghost use Rattle.g_console.specs.System as system;
 ghost use Rattle.g_crew.specs.Numbers.{AreOpen};
@@ -32,6 +32,7 @@ pub(crate) fn dump_step<K: Sink, D: Disc, T: Tapes>(
         (seen (left_of up.new.store) up.new.crew up.old.count)
         (K.written out.old) (K.written out.new) (K.faults out.old) (K.faults out.new) }
     ensures count { up.new.count ≡ up.old.count }
+    ensures crew { up.new.store.spent ≡ false → up.new.crew ≡ up.old.crew }
 {
     match up.store.dump_number() {
         None => None,
@@ -40,6 +41,8 @@ pub(crate) fn dump_step<K: Sink, D: Disc, T: Tapes>(
 }
 
 /// The step of the dump of this number.
+// A tick seldom comes to it: a function of its own keeps its room out of each.
+#[inline(never)]
 fn step<K: Sink, D: Disc, T: Tapes>(
     alloc: Global,
     up: &mut DayUp<D, T>,
@@ -53,6 +56,7 @@ fn step<K: Sink, D: Disc, T: Tapes>(
         (seen (left_of up.new.store) up.new.crew up.old.count)
         (K.written out.old) (K.written out.new) (K.faults out.old) (K.faults out.new) }
     ensures count { up.new.count ≡ up.old.count }
+    ensures crew { up.new.store.spent ≡ false → up.new.crew ≡ up.old.crew }
 {
     match up.store.dump_step() {
         Ok(DumpStep::Going) => None,

@@ -67,6 +67,8 @@ fn end_untold<K: Sink, D: Disc, T: Tapes>(
 }
 
 /// The system was stopped.
+// A tick seldom comes to it: a function of its own keeps its room out of each.
+#[inline(never)]
 fn stops<K: Sink, D: Disc, T: Tapes>(
     alloc: Global,
     up: &mut DayUp<D, T>,
@@ -93,6 +95,8 @@ fn goes_on<D: Disc, T: Tapes>(up: &mut DayUp<D, T>) -> Option<Failure>
 }
 
 /// The job waits for this reel.
+// A tick seldom comes to it: a function of its own keeps its room out of each.
+#[inline(never)]
 fn waits<K: Sink, D: Disc, T: Tapes>(
     alloc: Global,
     up: &mut DayUp<D, T>,
@@ -125,6 +129,8 @@ pub(crate) fn wants(alloc: Global, number: u64, serial: u32) -> Result<Text, NoM
 }
 
 /// The job of this number has ended: it is taken out, and its file put.
+// A tick seldom comes to it: a function of its own keeps its room out of each.
+#[inline(never)]
 fn ends<K: Sink, D: Disc, T: Tapes>(
     up: &mut DayUp<D, T>,
     number: u64,

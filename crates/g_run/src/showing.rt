@@ -23,6 +23,8 @@ use g_tape::Tapes;
 use std::alloc::Global;
 
 /// The turn of a terminal's job of this number is over, whose file had so many bytes before.
+// A tick seldom comes to it: a function of its own keeps its room out of each.
+#[inline(never)]
 pub(crate) fn end_shown<K: Sink, D: Disc, T: Tapes>(
     alloc: Global,
     up: &mut DayUp<D, T>,

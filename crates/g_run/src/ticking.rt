@@ -1,9 +1,10 @@
 //! A tick: a step of the open dump, and a turn of the next job.
-ghost use Rattle.std.specs.Prelude.{◌≡◌};
+ghost use Rattle.std.specs.Prelude.{◌≡◌, None, false};
 ghost use Rattle.g_budget.specs.Tariff.{IsTariff};
 ghost use Rattle.g_console.specs.Parts.{IsReady, seen};
 ghost use Rattle.g_console.specs.System as system;
 ghost use Rattle.g_crew.specs.Numbers.{AreOpen};
+ghost use Rattle.g_crew.specs.Weights.{AreWeights};
 ghost use Rattle.g_sched.specs.Rule.{IsWeighRule};
 ghost use Rattle.g_run.specs.Tick.{DidTick};
 ghost use Rattle.g_run.specs.Turning.{left_of};
@@ -14,6 +15,7 @@ use crate::rules::Rules;
 use crate::turning::take_turn;
 use g_budget::{Charge, Usage};
 use g_console::Failure;
+use g_crew::Weights;
 use g_disc::Disc;
 use g_io::Sink;
 use g_sched::Standing;
@@ -25,24 +27,27 @@ use std::alloc::Global;
 pub(crate) fn tick<K: Sink, D: Disc, T: Tapes, F: Fn(&Usage) -> Charge, U: Fn(&Standing) -> u64>(
     alloc: Global,
     up: &mut DayUp<D, T>,
+    weights: &mut Weights,
     rules: &Rules<'_, F, U>,
     out: &mut K,
 ) -> Option<Failure>
     requires ready { IsReady (system.Up up.old.store) up.old.crew }
     requires open { AreOpen up.old.crew.jobs }
+    requires weighed { AreWeights U.Fn rules.now.weigh.now up.old.crew.jobs weights.old }
     requires tariff { IsTariff F.Fn rules.now.tariff.now }
     requires rule { IsWeighRule U.Fn rules.now.weigh.now }
     ensures did { DidTick F.Fn rules.now.tariff.now U.Fn rules.now.weigh.now (seen (system.Up up.old.store) up.old.crew up.old.count) result
         (seen (left_of up.new.store) up.new.crew up.old.count)
         (K.written out.old) (K.written out.new) (K.faults out.old) (K.faults out.new) }
     ensures count { up.new.count ≡ up.old.count }
+    ensures weighed { result ≡ None → up.new.store.spent ≡ false → AreWeights U.Fn rules.now.weigh.now up.new.crew.jobs weights.new }
 {
     match dump_step(alloc, up, out) {
         None => {
             if up.store.spent() {
                 None
             } else {
-                take_turn(alloc, up, rules, out)
+                take_turn(alloc, up, weights, rules, out)
             }
         }
         Some(failure) => Some(failure),

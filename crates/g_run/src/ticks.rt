@@ -6,7 +6,7 @@ ghost use Rattle.g_console.specs.System as system;
 ghost use Rattle.g_crew.specs.Numbers.{AreOpen};
 ghost use Rattle.g_sched.specs.Rule.{IsWeighRule};
 ghost use Rattle.g_run.specs.Tick.{some_job_steps};
-ghost use Rattle.g_run.specs.Parts.{DidOne, DidTicks, HasRoom, IsAtRest, is_past, steps_in};
+ghost use Rattle.g_run.specs.Parts.{DidTicks, HasRoom, IsAtRest, is_past, steps_in};
 ghost use Rattle.g_run.specs.Turning.{left_of};
 
 use crate::day_up::DayUp;
@@ -14,7 +14,7 @@ use crate::rules::Rules;
 use crate::ticking::tick;
 use g_budget::{Charge, Usage};
 use g_console::{Day, Ended, Failure, Running, System};
-use g_crew::Crew;
+use g_crew::{Crew, Weights};
 use g_disc::Disc;
 use g_io::Sink;
 use g_sched::Standing;
@@ -55,7 +55,7 @@ pub(crate) fn until<K: Sink, D: Disc, T: Tapes, F: Fn(&Usage) -> Charge, U: Fn(&
     }
 }
 
-/// The same of a system that is up.
+/// The same of a system that is up. No job is weighed where there is no tick.
 fn until_up<K: Sink, D: Disc, T: Tapes, F: Fn(&Usage) -> Charge, U: Fn(&Standing) -> u64>(
     alloc: Global,
     up: DayUp<D, T>,
@@ -71,10 +71,36 @@ fn until_up<K: Sink, D: Disc, T: Tapes, F: Fn(&Usage) -> Charge, U: Fn(&Standing
     ensures { DidTicks F.Fn rules.now.tariff.now U.Fn rules.now.weigh.now IsAtRest limit (seen (system.Up up.store) up.crew up.count) result.failure result.day
         (K.written out.old) (K.written out.new) (K.faults out.old) (K.faults out.new) }
 {
+    if goes_on(&up, None, limit) {
+        tick_on(alloc, up, limit, rules, out)
+    } else {
+        up.ended(None)
+    }
+}
+
+/// Ticks as long as there is one to be done. What the jobs weigh is kept from one to the next.
+fn tick_on<K: Sink, D: Disc, T: Tapes, F: Fn(&Usage) -> Charge, U: Fn(&Standing) -> u64>(
+    alloc: Global,
+    up: DayUp<D, T>,
+    limit: Option<u64>,
+    rules: &Rules<'_, F, U>,
+    out: &mut K,
+) -> Ended<D, T>
+    requires ready { IsReady (system.Up up.store) up.crew }
+    requires open { AreOpen up.crew.jobs }
+    requires room { HasRoom limit (seen (system.Up up.store) up.crew up.count) }
+    requires tariff { IsTariff F.Fn rules.now.tariff.now }
+    requires rule { IsWeighRule U.Fn rules.now.weigh.now }
+    ensures { DidTicks F.Fn rules.now.tariff.now U.Fn rules.now.weigh.now IsAtRest limit (seen (system.Up up.store) up.crew up.count) result.failure result.day
+        (K.written out.old) (K.written out.new) (K.faults out.old) (K.faults out.new) }
+{
     let mut up = up;
+    let mut weights = Weights::new();
+    up.crew.weigh(rules.weigh, &mut weights);
     let mut failure: Option<Failure> = None;
     'ticks: while goes_on(&up, failure, limit) {
-        failure = one_tick(alloc, &mut up, limit, rules, out);
+        failure = tick(alloc, &mut up, &mut weights, rules, out);
+        up.count = counted(up.count, failure);
     }
     up.ended(failure)
 }
@@ -133,30 +159,6 @@ fn job_steps<D: Disc, T: Tapes>(store: &Running<D, T>, crew: &Crew) -> bool
     ensures { (count : ℕ) → result ≡ some_job_steps (seen (system.Up store.now) crew.now count) }
 {
     crew.can_step(&|serial: u32| store.mounted(serial))
-}
-
-/// One tick of a system that is up, on which something can step. The count rises, unless the tick failed.
-fn one_tick<K: Sink, D: Disc, T: Tapes, F: Fn(&Usage) -> Charge, U: Fn(&Standing) -> u64>(
-    alloc: Global,
-    up: &mut DayUp<D, T>,
-    limit: Option<u64>,
-    rules: &Rules<'_, F, U>,
-    out: &mut K,
-) -> Option<Failure>
-    requires ready { IsReady (system.Up up.old.store) up.old.crew }
-    requires open { AreOpen up.old.crew.jobs }
-    requires room { HasRoom limit (seen (system.Up up.old.store) up.old.crew up.old.count) }
-    requires undue { is_past limit up.old.count ≡ false }
-    requires steps { steps_in (seen (system.Up up.old.store) up.old.crew up.old.count) ≡ true }
-    requires tariff { IsTariff F.Fn rules.now.tariff.now }
-    requires rule { IsWeighRule U.Fn rules.now.weigh.now }
-    ensures { DidOne F.Fn rules.now.tariff.now U.Fn rules.now.weigh.now limit (seen (system.Up up.old.store) up.old.crew up.old.count) result
-        (seen (left_of up.new.store) up.new.crew up.new.count)
-        (K.written out.old) (K.written out.new) (K.faults out.old) (K.faults out.new) }
-{
-    let failure = tick(alloc, up, rules, out);
-    up.count = counted(up.count, failure);
-    failure
 }
 
 /// The count behind a tick: one more, and where the tick failed what it was.

@@ -1,10 +1,11 @@
 //! A job's turn.
-ghost use Rattle.std.specs.Prelude.{◌≡◌, ℕ, Some, false};
+ghost use Rattle.std.specs.Prelude.{◌≡◌, ℕ, None, Some, false, length};
 ghost use Rattle.g_budget.specs.Tariff.{IsTariff};
 ghost use Rattle.g_console.specs.Parts.{IsReady, seen};
 ghost use Rattle.g_console.specs.System as system;
 ghost use Rattle.g_crew.specs.Choice.{Chooses, able_in};
 ghost use Rattle.g_crew.specs.Numbers.{AreJobs, AreOpen, job_in};
+ghost use Rattle.g_crew.specs.Weights.{AreOthers, AreWeights};
 ghost use Rattle.g_job.specs.State.{JobState};
 ghost use Rattle.g_sched.specs.Rule.{IsWeighRule};
 ghost use Rattle.g_step.specs.State as state;
@@ -19,7 +20,7 @@ use crate::rules::Rules;
 use g_base::NoMemory;
 use g_budget::{Charge, Tariff, Usage};
 use g_console::{Failure, Running};
-use g_crew::Crew;
+use g_crew::{Crew, Weights};
 use g_disc::Disc;
 use g_io::Sink;
 use g_sched::{Standing, WeighRule};
@@ -33,20 +34,50 @@ pub(crate) fn take_turn<
     T: Tapes,
     F: Fn(&Usage) -> Charge,
     U: Fn(&Standing) -> u64,
->(alloc: Global, up: &mut DayUp<D, T>, rules: &Rules<'_, F, U>, out: &mut K) -> Option<Failure>
+>(
+    alloc: Global,
+    up: &mut DayUp<D, T>,
+    weights: &mut Weights,
+    rules: &Rules<'_, F, U>,
+    out: &mut K,
+) -> Option<Failure>
     requires ready { IsReady (system.Up up.old.store) up.old.crew }
     requires open { AreOpen up.old.crew.jobs }
+    requires weighed { AreWeights U.Fn rules.now.weigh.now up.old.crew.jobs weights.old }
     requires tariff { IsTariff F.Fn rules.now.tariff.now }
     requires rule { IsWeighRule U.Fn rules.now.weigh.now }
     ensures did { DidTurn F.Fn rules.now.tariff.now U.Fn rules.now.weigh.now (seen (system.Up up.old.store) up.old.crew up.old.count) result
         (seen (left_of up.new.store) up.new.crew up.old.count)
         (K.written out.old) (K.written out.new) (K.faults out.old) (K.faults out.new) }
     ensures count { up.new.count ≡ up.old.count }
+    ensures weighed { result ≡ None → AreWeights U.Fn rules.now.weigh.now up.new.crew.jobs weights.new }
 {
     rises(&up.crew);
-    match next_job(&up.store, &up.crew, rules.weigh) {
+    match next_job(&up.store, &up.crew, rules.weigh, weights) {
         None => None,
-        Some(number) => turn_of(alloc, up, number, rules.tariff, out),
+        Some(number) => {
+            let failure = turn_of(alloc, up, number, rules.tariff, out);
+            weigh_behind(&up.crew, failure, number, rules.weigh, weights);
+            failure
+        }
+    }
+}
+
+/// What the jobs weigh behind the turn of the job of this number, unless the turn failed.
+fn weigh_behind<U: Fn(&Standing) -> u64>(
+    crew: &Crew,
+    failure: Option<Failure>,
+    number: u64,
+    weigh: &WeighRule<U>,
+    weights: &mut Weights,
+)
+    requires rule { IsWeighRule U.Fn weigh.now }
+    requires others { failure ≡ None → length crew.now.jobs ≡ length weights.old → AreOthers U.Fn weigh.now number crew.now.jobs weights.old }
+    ensures { failure ≡ None → AreWeights U.Fn weigh.now crew.now.jobs weights.new }
+{
+    match failure {
+        None => crew.weigh_behind(weigh, number, weights),
+        Some(_) => {}
     }
 }
 
@@ -62,12 +93,13 @@ fn next_job<D: Disc, T: Tapes, U: Fn(&Standing) -> u64>(
     store: &Running<D, T>,
     crew: &Crew,
     weigh: &WeighRule<U>,
+    weights: &Weights,
 ) -> Option<u64>
-    requires rule { IsWeighRule U.Fn weigh.now }
+    requires { AreWeights U.Fn weigh.now crew.now.jobs weights.now }
     ensures { (s : State) → ((serial : ℕ) → state.is_mounted s serial ≡ is_mounted (reel serial store.now.rack.reels))
         → Chooses U.Fn weigh.now crew.now.jobs (able_in s crew.now.jobs) result }
 {
-    crew.choose(weigh, &|serial: u32| store.mounted(serial))
+    crew.choose(weigh, weights, &|serial: u32| store.mounted(serial))
 }
 
 /// A turn of the job of this number.

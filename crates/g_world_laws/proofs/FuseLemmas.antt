@@ -1,5 +1,5 @@
 -- What a device's fuse is behind the lines that armed it.
-use Rattle.std.proofs.Common.{◌≡◌, ◌⊎◌, ◌-◌, ◌≤◌, ℕ, List, [], ◌∷◌, ◌++◌, Option, Some, None, refl, sym, ◌∙◌, ap, subst, inl, inr, arith}
+use Rattle.std.proofs.Common.{◌≡◌, ◌⊎◌, ◌+◌, ◌-◌, ◌≤◌, ℕ, List, [], ◌∷◌, ◌++◌, Option, Some, None, refl, sym, ◌∙◌, ap, subst, inl, inr, arith}
 use Rattle.g_base.specs.Counts.{Rose}
 use Rattle.g_base.specs.Fuse.{Arms, IsArmedBy, armed_with, burnt_by, most}
 use Rattle.g_base.proofs.FuseLemmas.{armed_then, burnt_both}

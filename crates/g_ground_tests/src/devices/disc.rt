@@ -40,6 +40,43 @@ fn blocks_lie_where_they_belong(rt: HostRuntime) {
     fs::remove_file(&rt, name).expect(&rt, "a file");
 }
 
+/// Whatever was read and written before, a block is read as it was written last, and at the end the image holds it.
+#[test]
+fn blocks_are_read_as_they_were_written_last(rt: HostRuntime) {
+    let name = "g_devices_last.disc";
+    let mut disc = open_image(&rt, name).expect(&rt, "an image");
+    let mut last = [0; 200];
+    // Runs of up to 128 blocks, in turn written and read, from places that jump about.
+    for round in 0..120u8 {
+        let number = (u32::from(round) * 25_717 + 377) % 65_521;
+        let from = number % 200;
+        for k in from..200u32.min(from + number / 200 % 128) {
+            let mut block = [round; 512];
+            assert!(rt; 2_200 + k < disc.size());
+            if round % 2 == 0 {
+                disc.write(2_200 + k, &block).expect(&rt, "a write");
+                last[k as usize] = round;
+            } else {
+                disc.read(2_200 + k, &mut block).expect(&rt, "a read");
+                assert!(rt;
+                    block == [last[k as usize]; 512],
+                    "block {k} in round {round}"
+                );
+            }
+        }
+    }
+    disc.sync();
+    let image = fs::read(&rt, name).expect(&rt, "a file");
+    for (k, byte) in last.iter().enumerate() {
+        let at = 512 * (2_200 + k);
+        assert!(rt;
+            image.get(at..at + 512) == Some([*byte; 512].as_slice()),
+            "block {k}"
+        );
+    }
+    fs::remove_file(&rt, name).expect(&rt, "a file");
+}
+
 /// What a run left that was cut off while it made the image is in no way of the next, and is no image; anything else
 /// of that name stays.
 #[test]

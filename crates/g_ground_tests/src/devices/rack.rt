@@ -49,6 +49,40 @@ fn reels_end_where_they_were_written(rt: HostRuntime) {
     fs::remove_dir_all(&rt, folder).expect(&rt, "a folder");
 }
 
+/// Whatever was read and written before, a block of a reel is read as it was written last.
+#[test]
+fn reels_are_read_as_they_were_written_last(rt: HostRuntime) {
+    let folder = "g_devices_last.tapes";
+    let mut tapes = open_rack(&rt, folder).expect(&rt, "a rack");
+    let mut block = [0; 512];
+    for serial in 1..=2 {
+        tapes.mount(serial).expect(&rt, "a reel");
+        for k in 0..100 {
+            tapes
+                .write(serial, k, &[serial as u8; 512])
+                .expect(&rt, "a write");
+        }
+    }
+    // Both reels are read in order, by turns, and are cut in the middle of what was read ahead.
+    for end in [90, 40, 15] {
+        for serial in 1..=2 {
+            for k in 0..end {
+                tapes.read(serial, k, &mut block).expect(&rt, "a read");
+                assert!(rt; block == [serial as u8; 512], "block {k} of reel {serial}");
+            }
+            tapes
+                .write(serial, end / 2, &[9; 512])
+                .expect(&rt, "a write");
+            tapes
+                .read(serial, end / 2, &mut block)
+                .expect(&rt, "a read");
+            assert!(rt; block == [9; 512]);
+            assert!(rt; tapes.read(serial, end / 2 + 1, &mut block) == Err(TapeFault::End));
+        }
+    }
+    fs::remove_dir_all(&rt, folder).expect(&rt, "a folder");
+}
+
 #[test]
 fn a_rack_is_one_runs_alone(rt: HostRuntime) {
     let (folder, unready) = ("g_devices_taken.tapes", "g_devices_taken.tapes.new");

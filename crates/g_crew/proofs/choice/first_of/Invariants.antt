@@ -5,5 +5,5 @@ use Rattle.g_crew.specs.Choice.{TellsMounted}
 use Rattle.g_crew.proofs.ChoiceLemmas.{IsSeen}
 use Rattle.g_crew.proofs.choice.first_of.Given as goal
 
-abbrev pub invariant-loop-job : goal.invariant-loop-job
-invariant-loop-job g l = (l.able ≤ l.job-index) × ((s : State) → TellsMounted g.M.Fn l.mounted s → IsSeen g.U.Fn l.weigh s l.jobs l.job-index l.able l.first)
+abbrev pub invariant-loop-place : goal.invariant-loop-place
+invariant-loop-place g l = (l.able ≤ l.place) × ((s : State) → TellsMounted g.M.Fn l.mounted s → IsSeen g.U.Fn l.weigh s l.jobs l.place l.able l.first)

@@ -1,4 +1,7 @@
 use Rattle.std.proofs.Common.{ℕ, None, Option, Some, sym, ◌∙◌, ap, subst}
+use Rattle.std.proofs.lemmas.Bool.{false≢true}
+use Rattle.g_crew.specs.Crew.{CrewState}
+use Rattle.g_crew.specs.Weights.{AreWeights}
 use Rattle.g_console.specs.declared.progress.Failure.{Failure}
 use Rattle.g_console.specs.Parts.{IsReady, seen}
 use Rattle.g_console.specs.System.{SystemFacts, Up}
@@ -16,6 +19,10 @@ take_turn-requires-clause-ready g c =
 
 pub take_turn-requires-clause-open : goal.take_turn-requires-clause-open
 take_turn-requires-clause-open g c = (c.dump_step.ensures.did.keeps.ready c.in-None.is).1
+
+pub take_turn-requires-clause-weighed : goal.take_turn-requires-clause-weighed
+take_turn-requires-clause-weighed g c =
+    subst (λ (k : CrewState). AreWeights g.U.Fn c.args.rules.now.weigh.now k.jobs c.args.weights.now) (sym (c.dump_step.ensures.crew (sym c.spent.ensures ∙ c.if-spent.false))) c.requires.weighed
 
 pub returns-then-spent-clause-did : goal.returns-then-spent-clause-did
 returns-then-spent-clause-did g c =
@@ -54,3 +61,9 @@ returns-in-Some-clause-did g c =
 
 pub returns-else-spent-clause-count : goal.returns-else-spent-clause-count
 returns-else-spent-clause-count g c = c.take_turn.ensures.count ∙ c.dump_step.ensures.count
+
+pub returns-then-spent-clause-weighed : goal.returns-then-spent-clause-weighed
+returns-then-spent-clause-weighed g c = λ none running. absurd (false≢true (sym running ∙ sym c.spent.ensures ∙ c.if-spent.true))
+
+pub returns-else-spent-clause-weighed : goal.returns-else-spent-clause-weighed
+returns-else-spent-clause-weighed g c = λ none running. c.take_turn.ensures.weighed none

@@ -3,7 +3,7 @@ use Rattle.std.proofs.Common.{ap, ne_eqb, ◌==◌, ◌∙◌}
 use Rattle.g_sched.specs.declared.rule.Standing.{Standing}
 use Rattle.g_job.specs.State.{JobState}
 use Rattle.g_crew.proofs.AccountLemmas.{find_more}
-use Rattle.g_crew.proofs.place.place_of.Goals as goal
+use Rattle.g_crew.proofs.place.searched.Goals as goal
 
 pub loop-place-preserved : goal.loop-place-preserved
 loop-place-preserved c =
