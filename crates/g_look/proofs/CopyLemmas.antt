@@ -1,5 +1,5 @@
 -- What a copy on tape was read to hold is what the completed dumps of the rack hold there.
-use Rattle.std.proofs.Common.{◌≡◌, ℕ, ◌<◌, Bool, true, false, cond, List, length, Option, Some, None, Result, Ok, Err, IfOk, refl, sym, ◌∙◌, ap, subst}
+use Rattle.std.proofs.Common.{◌≡◌, ℕ, ◌<◌, true, List, length, Option, Some, None, Result, Ok, Err, IfOk, refl, sym, ◌∙◌, ap, subst}
 use Rattle.std.specs.Prelude.{Contains, is_some}
 use Rattle.std.specs.Option.{ForSome}
 use Rattle.std.proofs.lemmas.List.Elements.{All-contains, All-map}
@@ -12,9 +12,8 @@ use Rattle.g_tape.specs.Rack.{AreReels, Rack, reel, refuses_unmount, told_of}
 use Rattle.g_tape.specs.Reads.{blocks_of, unread}
 use Rattle.g_tape.specs.Reel.{Reel}
 use Rattle.g_incr.specs.Layout.{Dump}
-use Rattle.g_shelf.specs.Completed.{AreCompleted, AreShelved, all_dumps}
+use Rattle.g_shelf.specs.Completed.{AreCompleted, all_dumps}
 use Rattle.g_state.specs.Meaning.{IsContent, told_reels}
-use Rattle.g_state.specs.Reading.{ReelsTold}
 use Rattle.g_state.proofs.OneLemmas.{is_shelved, on_reel}
 use Rattle.g_state_laws.proofs.UpOneLemmas.{on_all}
 use Rattle.g_look.specs.declared.fault.LookFault.{LookFault}
@@ -23,7 +22,7 @@ use Rattle.g_look.specs.Looks.{AreMounted, OfDumps}
 use Rattle.g_look.specs.Shows.{IsNowhere}
 use Rattle.g_look.specs.Texts.{IsDiscText}
 use Rattle.g_look.proofs.CompareLemmas.{not_unmounted}
-use Rattle.g_look.proofs.HeadLemmas.{blocks_there, is_reel, no_reel, told_blocks}
+use Rattle.g_look.proofs.HeadLemmas.{blocks_there, is_reel, no_reel, told_blocks, isnt_there}
 use Rattle.g_look.proofs.SeenLemmas.{told_apart}
 
 -- a reel that can be read is there
@@ -74,15 +73,7 @@ no_tape rack copy len refuses told shelf shelved text long is =
     let reels : List Reel = told_reels rack in
     let on = on_reel shelf reels is.dump is.there in
     let same : on.reel.serial ≡ copy.serial = sym (is_shelved shelf reels told shelved is.dump on.reel on.there on.on).0 ∙ is.reel in
-    no_reel rack copy.serial tape.NoTape (by_reel (reel copy.serial rack.reels) refuses) on.reel on.there same
-  where
-    by_mount : (b : Bool) → cond b None (Some tape.NotMounted) ≡ Some tape.NoTape → ⊥
-    by_mount true wrong = cc
-    by_mount false wrong = cc
-
-    by_reel : (o : Option Reel) → refuses_unmount o ≡ Some tape.NoTape → Err tape.NoTape ≡ told_of (λ r. r.len) o
-    by_reel None is = refl
-    by_reel (Some q) is = absurd (by_mount q.mounted is)
+    no_reel rack copy.serial tape.NoTape (isnt_there (reel copy.serial rack.reels) refuses) on.reel on.there same
 
 -- and none that is mounted isn't
 pub not_mounted : (rack : Rack) (copy : TapeCopy) (len : ℕ) → refuses_unmount (reel copy.serial rack.reels) ≡ Some tape.NotMounted → AreMounted rack → OfDumps rack (λ dumps. IsHeldNowhere dumps copy len)

@@ -1,36 +1,35 @@
 -- The rules 5 to 9, of dumps that are in memory, and of the dumps themselves.
-use Rattle.std.proofs.Common.{◌≡◌, ◌≢◌, ◌⊎◌, inl, inr, ℕ, zero, suc, ◌+◌, ◌^◌, ◌<◌, ◌≤◌, Bool, true, false, cond, ◌&&◌, List, [], ◌∷◌, ◌++◌, length, filter, map, take, Option, Some, None, Result, Ok, Err, refl, sym, ◌∙◌, ap, arith, subst, All}
+use Rattle.std.proofs.Common.{◌≡◌, ◌≢◌, ◌⊎◌, inl, inr, ℕ, zero, suc, ◌+◌, ◌<◌, ◌≤◌, Bool, true, false, cond, ◌&&◌, List, [], ◌∷◌, ◌++◌, length, filter, map, take, Option, Some, None, Result, Ok, Err, refl, sym, ◌∙◌, ap, arith, subst, All}
 use Rattle.std.specs.Prelude.{◌==◌, AllPairs, Contains, IfNone, IfSome, get_or, if◌then◌else◌, is_some, nat_le}
-use Rattle.std.specs.Option.{ForSome}
 use Rattle.std.proofs.lemmas.Bool.{cases_eq, cond-false, cond-true, eq-eqb, ne_eqb}
 use Rattle.std.proofs.lemmas.List.{get_or-map, get_or_default, length-map, take_more}
-use Rattle.std.proofs.lemmas.List.Elements.{All-contains, All-head, All-tail, Contains-append_left, Contains-append_right, filter-append}
+use Rattle.std.proofs.lemmas.List.Elements.{All-contains, filter-append}
 use Rattle.g_entry.specs.declared.head.Head.{Head}
 use Rattle.g_entry.specs.declared.head.Intent.{Intent}
 use Rattle.g_entry.specs.HeadFields.{IsHead, IsIntent}
 use Rattle.g_tape.specs.declared.fault.TapeFault.{TapeFault}
-use Rattle.g_tape.specs.Rack.{Rack, reel, told_of}
+use Rattle.g_tape.specs.declared.fault.TapeFault.TheVariants as tape
+use Rattle.g_tape.specs.Rack.{Rack, reel, refuses_unmount, told_of}
 use Rattle.g_tape.specs.Reads.{blocks_in, blocks_of, unread}
 use Rattle.g_tape.specs.Reel.{Reel}
 use Rattle.g_tree.proofs.ListLemmas.{contains_cases, contains_first, contains_more, pairs_first, pairs_rest}
 use Rattle.g_contents.specs.Contents.{Contents}
-use Rattle.g_incr.specs.Layout.{Dump, StandsOn, count_of, ends, size_of}
-use Rattle.g_shelf.specs.Completed.{AreCompleted, AreNext, AreShelved, all_dumps, end_behind, end_of}
+use Rattle.g_incr.specs.Layout.{Dump, StandsOn, count_of, ends}
+use Rattle.g_shelf.specs.Completed.{AreNext, all_dumps, end_behind, end_of}
 use Rattle.g_shelf.proofs.QuietLemmas.{within}
 use Rattle.g_state.specs.Belong.{IsIntended, IsPlaced}
 use Rattle.g_state.specs.Meaning.{told_reels}
-use Rattle.g_state.specs.Reading.{ReelsTold}
-use Rattle.g_state.proofs.OneLemmas.{is_shelved, on_reel, on_told}
+use Rattle.g_state.proofs.OneLemmas.{is_shelved, on_reel}
 use Rattle.g_restore.specs.declared.dumps.Found.{Found}
-use Rattle.g_restore.specs.Known.{AreKnown, Known, known, known_of}
+use Rattle.g_restore.specs.Known.{Known, known, known_of}
 use Rattle.g_look.specs.declared.broken.Broken.{Broken}
 use Rattle.g_look.specs.declared.broken.Broken.TheVariants.{Twice, Falls, LostDirectory, LostCopy, TooNew, LastMissing, TooFar, NoReel, Misplaced, NoCopy, Lengths, Bytes}
 use Rattle.g_look.specs.declared.broken.DumpAt.{DumpAt}
-use Rattle.g_look.specs.Heads.{EndsLow, HasNumber, HeadFits, IsFirstOfHead, IsIntentBroken, IsIntentPlaced, IsKnown, IsNamed, IsNew, IsOff, IsTooFar, IsTooNew, end_upto, end_with, found_ends}
+use Rattle.g_look.specs.Heads.{EndsLow, HasNumber, HeadFits, IsFirstOfHead, IsIntentBroken, IsIntentPlaced, IsKnown, IsNamed, IsOff, IsTooFar, IsTooNew, end_upto, end_with}
 use Rattle.g_look.specs.Judging.{IsFirstOfDisc}
 use Rattle.g_look.specs.Rules.{BreaksDisc, rule_of}
 use Rattle.g_look.specs.Seen.{IsSeen, IsShort, OtherSerial}
-use Rattle.g_look.proofs.RackLemmas.{HasDump, HasFound, dump_of, found_of, is_at}
+use Rattle.g_look.proofs.RackLemmas.{dump_of, found_of, is_at}
 
 -- THE DUMPS OF ONE SERIAL among all
 abbrev pub is_on : ℕ → Dump → Bool
@@ -264,29 +263,12 @@ module _ (reels : List Reel) (shelf : ℕ → List Dump) (found : List Found) (s
         }
       where
         least : (e : Broken) → BreaksDisc shelf reels c e → 5 ≤ rule_of e
-        least (TooNew a last) is = omega arith
-        least (LastMissing last) is = omega arith
-        least (TooFar a next) is = omega arith
-        least (NoReel serial) is = omega arith
-        least (Misplaced serial place end) is = omega arith
-        least (NoCopy full copy) is = omega arith
-        least (Lengths full stamp len dumped) is = omega arith
-        least (Bytes full stamp one other) is = omega arith
         least (Twice a b) is = absurd is
         least (Falls a b) is = absurd is
         least (LostDirectory user) is = absurd is
         least (LostCopy full serial) is = absurd is
-    first5 (Twice a b) is = absurd is
-    first5 (Falls a b) is = absurd is
-    first5 (LostDirectory user) is = absurd is
-    first5 (LostCopy full serial) is = absurd is
-    first5 (LastMissing last) is = absurd is
-    first5 (TooFar a next) is = absurd is
-    first5 (NoReel serial) is = absurd is
-    first5 (Misplaced serial place end) is = absurd is
-    first5 (NoCopy full copy) is = absurd is
-    first5 (Lengths full stamp len dumped) is = absurd is
-    first5 (Bytes full stamp one other) is = absurd is
+        least other is = omega arith
+    first5 other is = absurd is
 
     abbrev Numbers : Type 0
     Numbers = (d : Dump) → Contains dumps d → (d.number ≤ head.last_dump) ⊎ IsIntended head.last_dump head.intent dumps d
@@ -313,17 +295,11 @@ module _ (reels : List Reel) (shelf : ℕ → List Dump) (found : List Found) (s
       where
         least : (e : Broken) → BreaksDisc shelf reels c e → 6 ≤ rule_of e
         least (TooNew a last) is = absurd (not5 numbers a last is)
-        least (LastMissing last) is = omega arith
-        least (TooFar a next) is = omega arith
-        least (NoReel serial) is = omega arith
-        least (Misplaced serial place end) is = omega arith
-        least (NoCopy full copy) is = omega arith
-        least (Lengths full stamp len dumped) is = omega arith
-        least (Bytes full stamp one other) is = omega arith
         least (Twice a b) is = absurd is
         least (Falls a b) is = absurd is
         least (LostDirectory user) is = absurd is
         least (LostCopy full serial) is = absurd is
+        least other is = omega arith
 
     abbrev HasLast : Type 0
     HasLast = 0 < head.last_dump → (d : Dump) × Contains dumps d × (d.number ≡ head.last_dump)
@@ -346,27 +322,12 @@ module _ (reels : List Reel) (shelf : ℕ → List Dump) (found : List Found) (s
         least : (e : Broken) → BreaksDisc shelf reels c e → 7 ≤ rule_of e
         least (TooNew a last) is = absurd (not5 numbers a last is)
         least (LastMissing last) is = absurd (not6 has last is)
-        least (TooFar a next) is = omega arith
-        least (NoReel serial) is = omega arith
-        least (Misplaced serial place end) is = omega arith
-        least (NoCopy full copy) is = omega arith
-        least (Lengths full stamp len dumped) is = omega arith
-        least (Bytes full stamp one other) is = omega arith
         least (Twice a b) is = absurd is
         least (Falls a b) is = absurd is
         least (LostDirectory user) is = absurd is
         least (LostCopy full serial) is = absurd is
-    first7 numbers has (Twice a b) is = absurd is
-    first7 numbers has (Falls a b) is = absurd is
-    first7 numbers has (LostDirectory user) is = absurd is
-    first7 numbers has (LostCopy full serial) is = absurd is
-    first7 numbers has (TooNew a last) is = absurd is
-    first7 numbers has (LastMissing last) is = absurd is
-    first7 numbers has (NoReel serial) is = absurd is
-    first7 numbers has (Misplaced serial place end) is = absurd is
-    first7 numbers has (NoCopy full copy) is = absurd is
-    first7 numbers has (Lengths full stamp len dumped) is = absurd is
-    first7 numbers has (Bytes full stamp one other) is = absurd is
+        least other is = omega arith
+    first7 numbers has other is = absurd is
 
     abbrev Stamps : Type 0
     Stamps = (d : Dump) → Contains dumps d → d.next ≤ head.next_stamp
@@ -382,15 +343,11 @@ module _ (reels : List Reel) (shelf : ℕ → List Dump) (found : List Found) (s
     least8 numbers has stamps (TooNew a last) is = absurd (not5 numbers a last is)
     least8 numbers has stamps (LastMissing last) is = absurd (not6 has last is)
     least8 numbers has stamps (TooFar a next) is = absurd (not7 stamps a next is)
-    least8 numbers has stamps (NoReel serial) is = omega arith
-    least8 numbers has stamps (Misplaced serial place end) is = omega arith
-    least8 numbers has stamps (NoCopy full copy) is = omega arith
-    least8 numbers has stamps (Lengths full stamp len dumped) is = omega arith
-    least8 numbers has stamps (Bytes full stamp one other) is = omega arith
     least8 numbers has stamps (Twice a b) is = absurd is
     least8 numbers has stamps (Falls a b) is = absurd is
     least8 numbers has stamps (LostDirectory user) is = absurd is
     least8 numbers has stamps (LostCopy full serial) is = absurd is
+    least8 numbers has stamps other is = omega arith
 
     not8 : (i : Intent) → head.intent ≡ Some i → (r : Reel) → Contains reels r → r.serial ≡ i.serial → (serial : ℕ) → BreaksDisc shelf reels c (NoReel serial) → ⊥
     not8 i is r there on serial (j, at, serial_is, none) =
@@ -436,24 +393,12 @@ module _ (reels : List Reel) (shelf : ℕ → List Dump) (found : List Found) (s
         least (TooNew a last) broken = absurd (not5 numbers a last broken)
         least (LastMissing last) broken = absurd (not6 has last broken)
         least (TooFar a next) broken = absurd (not7 stamps a next broken)
-        least (Misplaced s p e) broken = omega arith
-        least (NoCopy full copy) broken = omega arith
-        least (Lengths full stamp len dumped) broken = omega arith
-        least (Bytes full stamp one another) broken = omega arith
         least (Twice a b) broken = absurd broken
         least (Falls a b) broken = absurd broken
         least (LostDirectory user) broken = absurd broken
         least (LostCopy full s) broken = absurd broken
-    first8 numbers has stamps i is (Twice a b) broken = absurd broken
-    first8 numbers has stamps i is (Falls a b) broken = absurd broken
-    first8 numbers has stamps i is (LostDirectory user) broken = absurd broken
-    first8 numbers has stamps i is (LostCopy full serial) broken = absurd broken
-    first8 numbers has stamps i is (TooNew a last) broken = absurd broken
-    first8 numbers has stamps i is (LastMissing last) broken = absurd broken
-    first8 numbers has stamps i is (TooFar a next) broken = absurd broken
-    first8 numbers has stamps i is (NoCopy full copy) broken = absurd broken
-    first8 numbers has stamps i is (Lengths full stamp len dumped) broken = absurd broken
-    first8 numbers has stamps i is (Bytes full stamp one other) broken = absurd broken
+        least other broken = omega arith
+    first8 numbers has stamps i is other broken = absurd broken
 
   -- NONE IS BROKEN
   placed : (i : Intent) → head.intent ≡ Some i → IsIntentPlaced found reels i head.last_dump → IsPlaced shelf reels head.last_dump i
@@ -521,27 +466,14 @@ module _ (reels : List Reel) (shelf : ℕ → List Dump) (c : Contents) (fits : 
   none_of_head (NoCopy full copy) is = omega arith
   none_of_head (Lengths full stamp len dumped) is = omega arith
   none_of_head (Bytes full stamp one other) is = omega arith
-  none_of_head (Twice a b) is = absurd is
-  none_of_head (Falls a b) is = absurd is
-  none_of_head (LostDirectory user) is = absurd is
-  none_of_head (LostCopy full serial) is = absurd is
+  none_of_head other is = absurd is
 
 -- THE REEL OF AN INTENT
 pub off_place : (found : List Found) (reels : List Reel) (i : Intent) (last end : ℕ) (b : Broken) → IsOff i end b → end ≡ end_upto i.serial last 0 found → (r : Reel) × Contains reels r × (r.serial ≡ i.serial)
     → IsIntentBroken found reels i last b
 off_place found reels i last end (Misplaced serial place at) (serial_is, place_is, at_is, other) is there =
     (serial_is, place_is, there, at_is ∙ is, λ same. other (same ∙ at_is))
-off_place found reels i last end (Twice a b) never is there = absurd never
-off_place found reels i last end (Falls a b) never is there = absurd never
-off_place found reels i last end (LostDirectory user) never is there = absurd never
-off_place found reels i last end (LostCopy full serial) never is there = absurd never
-off_place found reels i last end (TooNew a l) never is there = absurd never
-off_place found reels i last end (LastMissing l) never is there = absurd never
-off_place found reels i last end (TooFar a next) never is there = absurd never
-off_place found reels i last end (NoReel serial) never is there = absurd never
-off_place found reels i last end (NoCopy full copy) never is there = absurd never
-off_place found reels i last end (Lengths full stamp len dumped) never is there = absurd never
-off_place found reels i last end (Bytes full stamp one other) never is there = absurd never
+off_place found reels i last end other never is there = absurd never
 
 -- what the rack tells of a serial
 not_ok : (e : TapeFault) (n : ℕ) → (let r : Result ℕ TapeFault = Err e in r ≡ Ok n) → ⊥
@@ -590,6 +522,15 @@ no_number number rack serial e is r there on =
 
 pub no_reel : (rack : Rack) (serial : ℕ) (e : TapeFault) → Err e ≡ told_of (λ r. r.len) (reel serial rack.reels) → (r : Reel) → Contains (told_reels rack) r → r.serial ≡ serial → ⊥
 no_reel rack serial e is r there on = no_number (λ q. q.len) rack serial e is r there on
+
+-- a reel that can't be unmounted since it isn't there
+pub isnt_there : (o : Option Reel) → refuses_unmount o ≡ Some tape.NoTape → Err tape.NoTape ≡ told_of (λ r. r.len) o
+isnt_there None is = refl
+isnt_there (Some q) is = absurd (by_mount q.mounted is)
+  where
+    by_mount : (b : Bool) → cond b None (Some tape.NotMounted) ≡ Some tape.NoTape → ⊥
+    by_mount true wrong = cc
+    by_mount false wrong = cc
 
 pub is_reel : (rack : Rack) (serial n : ℕ) → Ok n ≡ told_of (λ r. r.len) (reel serial rack.reels) → (r : Reel) × Contains (told_reels rack) r × (r.serial ≡ serial)
 is_reel rack serial n is =

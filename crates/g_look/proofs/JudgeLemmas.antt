@@ -1,6 +1,6 @@
 -- The verdict, of what was found broken and of what was not.
-use Rattle.std.proofs.Common.{Global, ◌≡◌, ◌≢◌, ◌⊎◌, inl, inr, ℕ, ◌+◌, ◌<◌, ◌≤◌, List, [], ◌∷◌, Option, Some, None, Result, Ok, Err, refl, sym, ◌∙◌, ap, arith, subst}
-use Rattle.std.specs.Prelude.{Contains, IfNone, IfOk, IfSome, Vec, is_some}
+use Rattle.std.proofs.Common.{Global, ◌≡◌, ◌⊎◌, inl, inr, ℕ, ◌≤◌, List, Option, Some, None, Result, Ok, Err, refl, sym, ◌∙◌, arith, subst}
+use Rattle.std.specs.Prelude.{Contains, IfNone, IfOk, IfSome, Vec}
 use Rattle.std.proofs.lemmas.Option.{same_Some}
 use Rattle.g_entry.specs.declared.file_rec.FileRec.{FileRec}
 use Rattle.g_entry.specs.declared.format.Format.{Format}
@@ -11,17 +11,15 @@ use Rattle.g_dirs.specs.Image.{StandsFor}
 use Rattle.g_contents.specs.Contents.{Contents, Holds, contents_of}
 use Rattle.g_incr.specs.Layout.{Dump}
 use Rattle.g_shelf.specs.Completed.{AreShelved, all_dumps}
-use Rattle.g_state.specs.Belong.{BelongWith}
-use Rattle.g_state.specs.Reading.{AllTold, ReelsTold}
-use Rattle.g_state_laws.specs.States.{AreContents}
+use Rattle.g_state.specs.Reading.{AllTold}
 use Rattle.g_restore.specs.declared.dumps.Found.{Found}
 use Rattle.g_restore.specs.Places.{IsHeld}
 use Rattle.g_look.specs.declared.broken.Broken.{Broken}
-use Rattle.g_look.specs.declared.broken.Broken.TheVariants.{Twice, Falls, LostDirectory, LostCopy, TooNew, LastMissing, TooFar, NoReel, Misplaced, NoCopy, Lengths, Bytes}
+use Rattle.g_look.specs.declared.broken.Broken.TheVariants.{Twice, Falls, LostDirectory, LostCopy}
 use Rattle.g_look.specs.Heads.{HeadFits}
-use Rattle.g_look.specs.Judging.{IsDiscJudged, IsFirstOfDisc, IsJudgedOn}
+use Rattle.g_look.specs.Judging.{IsDiscJudged, IsFirstOfDisc}
 use Rattle.g_look.specs.Recs.{HasSameLengths}
-use Rattle.g_look.specs.Rules.{Breaks, BreaksDisc, BreaksOn, BreaksRack, DiscFits, IsVerdict, RackFits, rule_of}
+use Rattle.g_look.specs.Rules.{Breaks, BreaksDisc, BreaksOn, BreaksRack, DiscFits, IsVerdict, rule_of}
 use Rattle.g_look.specs.Seen.{AreSeen, IsFirstOfRack, IsJudged, IsRackPassed, IsSeen, WhereSeen}
 use Rattle.g_look.specs.declared.disc.Standing.{Standing}
 use Rattle.g_look.specs.declared.fault.LookFault.{LookFault}
@@ -43,28 +41,14 @@ rack_low dumps (Twice a b) is = omega arith
 rack_low dumps (Falls a b) is = omega arith
 rack_low dumps (LostDirectory user) is = omega arith
 rack_low dumps (LostCopy full serial) is = omega arith
-rack_low dumps (TooNew a last) is = absurd is
-rack_low dumps (LastMissing last) is = absurd is
-rack_low dumps (TooFar a next) is = absurd is
-rack_low dumps (NoReel serial) is = absurd is
-rack_low dumps (Misplaced serial place end) is = absurd is
-rack_low dumps (NoCopy full copy) is = absurd is
-rack_low dumps (Lengths full stamp len dumped) is = absurd is
-rack_low dumps (Bytes full stamp one other) is = absurd is
+rack_low dumps other is = absurd is
 
 disc_high : (shelf : ℕ → List Dump) (reels : List Reel) (c : Contents) (e : Broken) → BreaksDisc shelf reels c e → 5 ≤ rule_of e
-disc_high shelf reels c (TooNew a last) is = omega arith
-disc_high shelf reels c (LastMissing last) is = omega arith
-disc_high shelf reels c (TooFar a next) is = omega arith
-disc_high shelf reels c (NoReel serial) is = omega arith
-disc_high shelf reels c (Misplaced serial place end) is = omega arith
-disc_high shelf reels c (NoCopy full copy) is = omega arith
-disc_high shelf reels c (Lengths full stamp len dumped) is = omega arith
-disc_high shelf reels c (Bytes full stamp one other) is = omega arith
 disc_high shelf reels c (Twice a b) is = absurd is
 disc_high shelf reels c (Falls a b) is = absurd is
 disc_high shelf reels c (LostDirectory user) is = absurd is
 disc_high shelf reels c (LostCopy full serial) is = absurd is
+disc_high shelf reels c other is = omega arith
 
 module _ (held : Option (List (List ℕ))) (reels : List Reel) (found : List Found) (seen : AreSeen reels found) (told : AllTold held reels) where
   broken_verdict : (b : Broken) → Breaks held reels b → ((e : Broken) → Breaks held reels e → rule_of b ≤ rule_of e) → IsVerdict held reels (Some b)

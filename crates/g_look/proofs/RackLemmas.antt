@@ -1,15 +1,14 @@
 -- The rules of the rack, of dumps that are in memory, and of the dumps themselves.
-use Rattle.std.proofs.Common.{◌≡◌, ◌≢◌, ◌⊎◌, inl, inr, ℕ, zero, suc, ◌+◌, ◌<◌, ◌≤◌, List, [], ◌∷◌, length, get_or, map, Option, Some, None, Result, Ok, Err, refl, sym, ◌∙◌, ap, arith, subst, All}
+use Rattle.std.proofs.Common.{◌≡◌, ◌⊎◌, inl, inr, ℕ, ◌≤◌, List, [], Result, Err, sym, ◌∙◌, ap, arith, subst, All}
 use Rattle.std.specs.Prelude.{Contains}
 use Rattle.g_entry.specs.declared.file_rec.FileRec.{FileRec}
 use Rattle.g_name.specs.declared.full.Full.{Full}
 use Rattle.g_tape.specs.Reel.{Reel}
 use Rattle.g_plain.specs.declared.faults.StoreFault.{StoreFault}
 use Rattle.g_plain.specs.declared.faults.StoreFault.TheVariants as store
-use Rattle.g_incr.specs.Layout.{Dump, count_of, ends}
-use Rattle.g_shelf.specs.Completed.{AreShelved, all_dumps}
-use Rattle.g_state.specs.Meaning.{DumpedDirectory, files_in}
-use Rattle.g_state.proofs.OneLemmas.{Apart, are_right, same_gathered}
+use Rattle.g_incr.specs.Layout.{Dump, ends}
+use Rattle.g_shelf.specs.Completed.{all_dumps}
+use Rattle.g_state.proofs.OneLemmas.{Apart, are_right}
 use Rattle.g_restore.specs.declared.directory.Dumped.{Dumped}
 use Rattle.g_restore.specs.declared.dumps.Found.{Found}
 use Rattle.g_restore.specs.Known.{AreKnown, Known, known, known_of}
@@ -17,10 +16,10 @@ use Rattle.g_restore.specs.Lost.{AreApart, HasPlace, IsFirstLost, IsLostDirector
 use Rattle.g_restore.specs.Steps.{IsFolded}
 use Rattle.g_restore.proofs.KnownLemmas.{known_at, no_dumps, place_of}
 use Rattle.g_look.specs.declared.broken.Broken.{Broken}
-use Rattle.g_look.specs.declared.broken.Broken.TheVariants.{Twice, Falls, LostDirectory, LostCopy, TooNew, LastMissing, TooFar, NoReel, Misplaced, NoCopy, Lengths, Bytes}
+use Rattle.g_look.specs.declared.broken.Broken.TheVariants.{Twice, Falls, LostDirectory, LostCopy}
 use Rattle.g_look.specs.declared.broken.DumpAt.{DumpAt}
-use Rattle.g_look.specs.Rules.{BreaksRack, IsDumpAt, RackFits, at_of, rule_of}
-use Rattle.g_look.specs.Seen.{HasNoLower, HasNoTwin, HasOne, IsFalling, IsFirstOfRack, IsLower, IsRackPassed, IsSeen, IsTwice, IsTwin, SamePlace, at_found}
+use Rattle.g_look.specs.Rules.{BreaksRack, IsDumpAt, at_of, rule_of}
+use Rattle.g_look.specs.Seen.{HasNoLower, HasNoTwin, IsFalling, IsFirstOfRack, IsRackPassed, IsSeen, IsTwice, at_found}
 use Rattle.g_look.proofs.FitLemmas.{same_files}
 use Rattle.g_look.proofs.LostLemmas.{not_both}
 
@@ -74,17 +73,7 @@ module _ (found : List Found) (dumps : List Dump) (are : AreKnown found dumps) w
           place = ap (λ (k : Known). k.note.place) (e.same ∙ ap known_of (sym same) ∙ sym d.same);
         }),
       )
-  breaks_twice (Falls a b) is = absurd is
-  breaks_twice (LostDirectory user) is = absurd is
-  breaks_twice (LostCopy full serial) is = absurd is
-  breaks_twice (TooNew a last) is = absurd is
-  breaks_twice (LastMissing last) is = absurd is
-  breaks_twice (TooFar a next) is = absurd is
-  breaks_twice (NoReel serial) is = absurd is
-  breaks_twice (Misplaced serial place end) is = absurd is
-  breaks_twice (NoCopy full copy) is = absurd is
-  breaks_twice (Lengths full stamp len dumped) is = absurd is
-  breaks_twice (Bytes full stamp one other) is = absurd is
+  breaks_twice other is = absurd is
 
   -- RULE 2
   breaks_falling : (b : Broken) → IsFalling found b → BreaksRack dumps b
@@ -104,17 +93,7 @@ module _ (found : List Found) (dumps : List Dump) (are : AreKnown found dumps) w
         omega (arith, le, number_d, number_e),
         omega (arith, less, next_d, next_e),
       )
-  breaks_falling (Twice a b) is = absurd is
-  breaks_falling (LostDirectory user) is = absurd is
-  breaks_falling (LostCopy full serial) is = absurd is
-  breaks_falling (TooNew a last) is = absurd is
-  breaks_falling (LastMissing last) is = absurd is
-  breaks_falling (TooFar a next) is = absurd is
-  breaks_falling (NoReel serial) is = absurd is
-  breaks_falling (Misplaced serial place end) is = absurd is
-  breaks_falling (NoCopy full copy) is = absurd is
-  breaks_falling (Lengths full stamp len dumped) is = absurd is
-  breaks_falling (Bytes full stamp one other) is = absurd is
+  breaks_falling other is = absurd is
 
   pub rises : ((f : Found) → Contains found f → HasNoLower found f) → (d e : Dump) → Contains dumps d → Contains dumps e → d.number ≤ e.number → d.next ≤ e.next
   rises none d e in_d in_e le =
@@ -149,31 +128,11 @@ are_apart reels shelf found seen none d e in_d in_e number =
 -- THE FIRST RULE
 no_rule_0 : (e : Broken) → 1 ≤ rule_of e
 no_rule_0 (Twice a b) = omega arith
-no_rule_0 (Falls a b) = omega arith
-no_rule_0 (LostDirectory user) = omega arith
-no_rule_0 (LostCopy full serial) = omega arith
-no_rule_0 (TooNew a last) = omega arith
-no_rule_0 (LastMissing last) = omega arith
-no_rule_0 (TooFar a next) = omega arith
-no_rule_0 (NoReel serial) = omega arith
-no_rule_0 (Misplaced serial place end) = omega arith
-no_rule_0 (NoCopy full copy) = omega arith
-no_rule_0 (Lengths full stamp len dumped) = omega arith
-no_rule_0 (Bytes full stamp one other) = omega arith
+no_rule_0 other = omega arith
 
 no_rule_1 : (dumps : List Dump) → AreApart dumps → (e : Broken) → BreaksRack dumps e → 2 ≤ rule_of e
 no_rule_1 dumps apart (Twice a b) (d, e, in_d, in_e, same, other) = absurd (other (apart d e in_d.there in_e.there same))
-no_rule_1 dumps apart (Falls a b) is = omega arith
-no_rule_1 dumps apart (LostDirectory user) is = omega arith
-no_rule_1 dumps apart (LostCopy full serial) is = omega arith
-no_rule_1 dumps apart (TooNew a last) is = omega arith
-no_rule_1 dumps apart (LastMissing last) is = omega arith
-no_rule_1 dumps apart (TooFar a next) is = omega arith
-no_rule_1 dumps apart (NoReel serial) is = omega arith
-no_rule_1 dumps apart (Misplaced serial place end) is = omega arith
-no_rule_1 dumps apart (NoCopy full copy) is = omega arith
-no_rule_1 dumps apart (Lengths full stamp len dumped) is = omega arith
-no_rule_1 dumps apart (Bytes full stamp one other) is = omega arith
+no_rule_1 dumps apart other is = omega arith
 
 abbrev Rises : List Dump → Type 0
 Rises dumps = (d e : Dump) → Contains dumps d → Contains dumps e → d.number ≤ e.number → d.next ≤ e.next
@@ -183,16 +142,7 @@ no_rule_2 dumps apart up (Twice a b) (d, e, in_d, in_e, same, other) = absurd (o
 no_rule_2 dumps apart up (Falls a b) (d, e, in_d, in_e, le, less) =
     let next = up d e in_d.there in_e.there le in
     absurd (let no : ⊥ = omega (arith, next, less) in no)
-no_rule_2 dumps apart up (LostDirectory user) is = omega arith
-no_rule_2 dumps apart up (LostCopy full serial) is = omega arith
-no_rule_2 dumps apart up (TooNew a last) is = omega arith
-no_rule_2 dumps apart up (LastMissing last) is = omega arith
-no_rule_2 dumps apart up (TooFar a next) is = omega arith
-no_rule_2 dumps apart up (NoReel serial) is = omega arith
-no_rule_2 dumps apart up (Misplaced serial place end) is = omega arith
-no_rule_2 dumps apart up (NoCopy full copy) is = omega arith
-no_rule_2 dumps apart up (Lengths full stamp len dumped) is = omega arith
-no_rule_2 dumps apart up (Bytes full stamp one other) is = omega arith
+no_rule_2 dumps apart up other is = omega arith
 
 no_rule_3 : (dumps : List Dump) → AreApart dumps → Rises dumps → ((user : List ℕ) → IsLostDirectory dumps user → ⊥) → (e : Broken) → BreaksRack dumps e → 4 ≤ rule_of e
 no_rule_3 dumps apart up none (LostDirectory user) is = absurd (none user is)
@@ -200,30 +150,12 @@ no_rule_3 dumps apart up none (Twice a b) (d, e, in_d, in_e, same, other) = absu
 no_rule_3 dumps apart up none (Falls a b) (d, e, in_d, in_e, le, less) =
     let next = up d e in_d.there in_e.there le in
     absurd (let no : ⊥ = omega (arith, next, less) in no)
-no_rule_3 dumps apart up none (LostCopy full serial) is = omega arith
-no_rule_3 dumps apart up none (TooNew a last) is = omega arith
-no_rule_3 dumps apart up none (LastMissing last) is = omega arith
-no_rule_3 dumps apart up none (TooFar a next) is = omega arith
-no_rule_3 dumps apart up none (NoReel serial) is = omega arith
-no_rule_3 dumps apart up none (Misplaced serial place end) is = omega arith
-no_rule_3 dumps apart up none (NoCopy full copy) is = omega arith
-no_rule_3 dumps apart up none (Lengths full stamp len dumped) is = omega arith
-no_rule_3 dumps apart up none (Bytes full stamp one other) is = omega arith
+no_rule_3 dumps apart up none other is = omega arith
 
 module _ (found : List Found) where
   pub first_twice : (b : Broken) → IsTwice found b → (reels : List Reel) (shelf : ℕ → List Dump) → IsSeen reels shelf found → IsFirstOfRack (all_dumps shelf reels) b
   first_twice (Twice a b) is reels shelf seen = record { breaks = breaks_twice found (all_dumps shelf reels) seen.known (Twice a b) is; first = λ e breaks. no_rule_0 e }
-  first_twice (Falls a b) is reels shelf seen = absurd is
-  first_twice (LostDirectory user) is reels shelf seen = absurd is
-  first_twice (LostCopy full serial) is reels shelf seen = absurd is
-  first_twice (TooNew a last) is reels shelf seen = absurd is
-  first_twice (LastMissing last) is reels shelf seen = absurd is
-  first_twice (TooFar a next) is reels shelf seen = absurd is
-  first_twice (NoReel serial) is reels shelf seen = absurd is
-  first_twice (Misplaced serial place end) is reels shelf seen = absurd is
-  first_twice (NoCopy full copy) is reels shelf seen = absurd is
-  first_twice (Lengths full stamp len dumped) is reels shelf seen = absurd is
-  first_twice (Bytes full stamp one other) is reels shelf seen = absurd is
+  first_twice other is reels shelf seen = absurd is
 
   module _ (no_twin : (f : Found) → Contains found f → HasNoTwin found f) where
     pub first_falling : (b : Broken) → IsFalling found b → (reels : List Reel) (shelf : ℕ → List Dump) → IsSeen reels shelf found → IsFirstOfRack (all_dumps shelf reels) b
@@ -231,17 +163,7 @@ module _ (found : List Found) where
       breaks = breaks_falling found (all_dumps shelf reels) seen.known (Falls a b) is;
       first = no_rule_1 (all_dumps shelf reels) (are_apart reels shelf found seen no_twin);
     }
-    first_falling (Twice a b) is reels shelf seen = absurd is
-    first_falling (LostDirectory user) is reels shelf seen = absurd is
-    first_falling (LostCopy full serial) is reels shelf seen = absurd is
-    first_falling (TooNew a last) is reels shelf seen = absurd is
-    first_falling (LastMissing last) is reels shelf seen = absurd is
-    first_falling (TooFar a next) is reels shelf seen = absurd is
-    first_falling (NoReel serial) is reels shelf seen = absurd is
-    first_falling (Misplaced serial place end) is reels shelf seen = absurd is
-    first_falling (NoCopy full copy) is reels shelf seen = absurd is
-    first_falling (Lengths full stamp len dumped) is reels shelf seen = absurd is
-    first_falling (Bytes full stamp one other) is reels shelf seen = absurd is
+    first_falling other is reels shelf seen = absurd is
 
     module _ (no_lower : (f : Found) → Contains found f → HasNoLower found f) where
       pub first_directory : (result : Result Dumped StoreFault) (user : List ℕ) → result ≡ Err (store.LostDirectory user)

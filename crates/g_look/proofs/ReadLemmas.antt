@@ -1,5 +1,5 @@
 -- Each block that disc and dumps name is read by a check that finds nothing broken.
-use Rattle.std.proofs.Common.{◌≡◌, ◌≢◌, ◌⊎◌, inl, inr, ℕ, zero, suc, ◌+◌, ◌<◌, ◌≤◌, Bool, true, false, cond, List, [], ◌∷◌, length, Option, Some, None, Result, Ok, Err, IfOk, refl, sym, ◌∙◌, ap, arith, subst, All}
+use Rattle.std.proofs.Common.{◌≡◌, ◌≢◌, ◌⊎◌, inl, inr, ℕ, zero, suc, ◌+◌, ◌<◌, ◌≤◌, Bool, true, false, List, [], length, Option, Some, None, Result, Ok, Err, IfOk, refl, sym, ◌∙◌, ap, arith, subst, All}
 use Rattle.std.specs.Prelude.{◌==◌, AllPairs, Contains, IfSome, get_or, is_some}
 use Rattle.std.specs.Option.{ForSome}
 use Rattle.std.specs.List.{list_any}
@@ -29,7 +29,7 @@ use Rattle.g_look.specs.Looks.{ReadsRackByCause}
 use Rattle.g_look.specs.Reads.{AreRead, HasBlock, IsFileRead, IsOtherRead, IsReadAt, IsReadFrom, OthersUpto, AreReadUpto, WasRead}
 use Rattle.g_look.specs.Texts.{FileAgrees, IsDumpedPlace, IsSecond}
 use Rattle.g_look.proofs.DiscLemmas.{contained_map}
-use Rattle.g_look.proofs.HeadLemmas.{no_reel, number_there, stands_in, told_blocks}
+use Rattle.g_look.proofs.HeadLemmas.{no_reel, number_there, stands_in, told_blocks, isnt_there}
 use Rattle.g_look.proofs.LoopLemmas.{one_further}
 use Rattle.g_look.proofs.RecLemmas.{one_of_stamp}
 use Rattle.g_look.proofs.SeenLemmas.{told_apart}
@@ -89,15 +89,7 @@ far_read old new copy len are far k from to (r, there, on, inside) =
 
 -- of a reel that isn't there
 pub none_read : (old new : Rack) (copy : TapeCopy) (len : ℕ) → refuses_unmount (reel copy.serial old.reels) ≡ Some tape.NoTape → IsReadFrom old new copy len
-none_read old new copy len refuses k from to (r, there, on, inside) = absurd (no_reel old copy.serial tape.NoTape (by_reel (reel copy.serial old.reels) refuses) r there on)
-  where
-    by_mount : (b : Bool) → cond b None (Some tape.NotMounted) ≡ Some tape.NoTape → ⊥
-    by_mount true wrong = cc
-    by_mount false wrong = cc
-
-    by_reel : (o : Option Reel) → refuses_unmount o ≡ Some tape.NoTape → Err tape.NoTape ≡ told_of (λ r. r.len) o
-    by_reel None is = refl
-    by_reel (Some q) is = absurd (by_mount q.mounted is)
+none_read old new copy len refuses k from to (r, there, on, inside) = absurd (no_reel old copy.serial tape.NoTape (isnt_there (reel copy.serial old.reels) refuses) r there on)
 
 -- A FILE, by its two places
 second_read : (old new : Rack) (tape place second : Option TapeCopy) (len : ℕ) → IsSecond tape place second → IsReadAt old new tape len → IsReadAt old new second len → IsReadAt old new place len

@@ -1,10 +1,9 @@
 -- The rules 10 to 12, of records and texts that were read, and of the files of the disc.
-use Rattle.std.proofs.Common.{◌≡◌, ◌≢◌, ◌⊎◌, inl, inr, ℕ, zero, suc, ◌+◌, ◌<◌, ◌≤◌, List, [], ◌∷◌, length, map, Option, Some, None, refl, sym, ◌∙◌, ap, arith, subst, All}
+use Rattle.std.proofs.Common.{◌≡◌, ◌≢◌, ◌⊎◌, inl, inr, ℕ, zero, suc, ◌<◌, ◌≤◌, List, length, Option, Some, None, refl, sym, ◌∙◌, ap, arith, subst}
 use Rattle.std.specs.Prelude.{AllPairs, Contains, IfSome, get_or}
-use Rattle.std.specs.Option.{ForSome, option_map}
+use Rattle.std.specs.Option.{option_map}
 use Rattle.std.proofs.lemmas.List.{get_or_default}
 use Rattle.std.proofs.lemmas.List.Elements.{All-contains}
-use Rattle.g_base.specs.Block.{blocks_for}
 use Rattle.g_copy.specs.Copy.{bytes_at}
 use Rattle.g_copy.specs.declared.copy.DiscCopy.{DiscCopy}
 use Rattle.g_entry.specs.declared.file_rec.FileRec.{FileRec}
@@ -15,26 +14,27 @@ use Rattle.g_tape.specs.Reel.{Reel}
 use Rattle.g_dirs.specs.declared.dirs.Dirs.{Dirs}
 use Rattle.g_dirs.specs.Directory.{copy_at}
 use Rattle.g_tree.specs.Records.{full_of}
+use Rattle.g_tree.proofs.RuleLemmas.{one_of_key}
 use Rattle.g_contents.specs.Contents.{Contents, File, contents_of, file_of}
 use Rattle.g_incr.specs.Layout.{Dump}
 use Rattle.g_shelf.specs.Completed.{all_dumps}
-use Rattle.g_state.specs.Meaning.{DumpedDirectory, IsContent, files_in}
+use Rattle.g_state.specs.Meaning.{IsContent, files_in}
 use Rattle.g_restore.specs.declared.dumps.Found.{Found}
 use Rattle.g_restore.specs.Lost.{HasPlace}
-use Rattle.g_restore.specs.Places.{AnyHas, IsHeld}
+use Rattle.g_restore.specs.Places.{IsHeld}
 use Rattle.g_restore.proofs.PlaceLemmas.{place_held, place_lost}
 use Rattle.g_look.specs.declared.broken.Broken.{Broken}
-use Rattle.g_look.specs.declared.broken.Broken.TheVariants.{Twice, Falls, LostDirectory, LostCopy, TooNew, LastMissing, TooFar, NoReel, Misplaced, NoCopy, Lengths, Bytes}
+use Rattle.g_look.specs.declared.broken.Broken.TheVariants.{TooNew, LastMissing, TooFar, NoReel, Misplaced, NoCopy, Lengths, Bytes}
 use Rattle.g_look.specs.declared.broken.Lie.{Lie}
 use Rattle.g_look.specs.declared.broken.Lie.TheVariants.{Disc, Tape}
-use Rattle.g_look.specs.Heads.{HeadFits, IsFirstOfHead}
+use Rattle.g_look.specs.Heads.{HeadFits}
 use Rattle.g_look.specs.Judging.{IsFirstOfDisc}
-use Rattle.g_look.specs.Recs.{HasOtherLength, HasSameLengths, IsCopyGone, IsLengthOther}
-use Rattle.g_look.specs.Rules.{BreaksDisc, DiscFits, FileFits, IsDumpedOf, IsFileOf, IsNamedFor, LiesAt, LiesOnTape, rule_of}
+use Rattle.g_look.specs.Recs.{HasSameLengths, IsCopyGone, IsLengthOther}
+use Rattle.g_look.specs.Rules.{BreaksDisc, DiscFits, FileFits, IsDumpedOf, IsFileOf, IsNamedFor, LiesAt, rule_of}
 use Rattle.g_look.specs.Seen.{IsRackPassed, IsSeen}
 use Rattle.g_look.specs.Standing.{directory_in}
-use Rattle.g_look.specs.Texts.{AgreeAt, AreBytesOther, AreCompared, DifferAt, FileAgrees, FileDiffers, IsDiscText, IsDumpedPlace, IsSecond, IsTapeText, WasReadAt}
-use Rattle.g_look.proofs.DiscLemmas.{IsRecOf, file_by, file_there, rec_of_file, rec_there}
+use Rattle.g_look.specs.Texts.{AgreeAt, AreBytesOther, AreCompared, FileAgrees, IsDumpedPlace, IsSecond, IsTapeText, WasReadAt}
+use Rattle.g_look.proofs.DiscLemmas.{file_by, file_there, rec_of_file, rec_there}
 use Rattle.g_look.proofs.HeadLemmas.{none_of_head}
 use Rattle.g_look.proofs.TextLemmas.{text_at}
 
@@ -57,29 +57,7 @@ same_text x y is = cc
 
 -- of files whose stamps are apart there is one of a stamp
 pub one_of_stamp : (files : List FileRec) → AllPairs (λ r s. r.stamp ≢ s.stamp) files → (a b : FileRec) → Contains files a → Contains files b → a.stamp ≡ b.stamp → a ≡ b
-one_of_stamp files apart a b (i, in_a, at_a) (j, in_b, at_b) same = by_order (cmp i j)
-  where
-    cmp : (m n : ℕ) → (m < n) ⊎ ((m ≡ n) ⊎ (n < m))
-    cmp zero zero = inr (inl refl)
-    cmp zero (suc n) = inl (omega arith)
-    cmp (suc m) zero = inr (inr (omega arith))
-    cmp (suc m) (suc n) = later (cmp m n)
-      where
-        later : (m < n) ⊎ ((m ≡ n) ⊎ (n < m)) → (suc m < suc n) ⊎ ((suc m ≡ suc n) ⊎ (suc n < suc m))
-        later (inl less) = inl (omega (arith, less))
-        later (inr (inl is)) = inr (inl (ap suc is))
-        later (inr (inr more)) = inr (inr (omega (arith, more)))
-
-    stamp_i : (d : FileRec) → (get_or files i d).stamp ≡ a.stamp
-    stamp_i d = ap (λ (r : FileRec). r.stamp) (get_or_default files i d a in_a ∙ at_a)
-
-    stamp_j : (d : FileRec) → (get_or files j d).stamp ≡ b.stamp
-    stamp_j d = ap (λ (r : FileRec). r.stamp) (get_or_default files j d b in_b ∙ at_b)
-
-    by_order : (i < j) ⊎ ((i ≡ j) ⊎ (j < i)) → a ≡ b
-    by_order (inl less) = absurd (apart i j a less in_b (stamp_i a ∙ same ∙ sym (stamp_j a)))
-    by_order (inr (inl is)) = sym at_a ∙ ap (λ (n : ℕ). get_or files n a) is ∙ get_or_default files j a b in_b ∙ at_b
-    by_order (inr (inr more)) = absurd (apart j i a more in_a (stamp_j a ∙ sym same ∙ sym (stamp_i a)))
+one_of_stamp files apart a b in_a in_b same = one_of_key (λ r. r.stamp) files a b apart in_a in_b same
 
 module _ (reels : List Reel) (shelf : ℕ → List Dump) (found : List Found) (seen : IsSeen reels shelf found) (dumped : List FileRec) (passed : IsRackPassed (all_dumps shelf reels) dumped)
     (blocks : List (List ℕ)) (dirs : Dirs) where
@@ -121,17 +99,7 @@ module _ (reels : List Reel) (shelf : ℕ → List Dump) (found : List Found) (s
     breaks = (f_of r, is_file r full there named, ap (λ (s : FileRec). s.tape) (rec_is r) ∙ tape, λ has. place_lost found dumps seen.known r copy tape gone (subst (HasPlace dumps) (rec_is r) has));
     first = none_of_head reels shelf c fits;
   }
-  first10 fits (Twice a b) is = absurd is
-  first10 fits (Falls a b) is = absurd is
-  first10 fits (LostDirectory user) is = absurd is
-  first10 fits (LostCopy full serial) is = absurd is
-  first10 fits (TooNew a last) is = absurd is
-  first10 fits (LastMissing last) is = absurd is
-  first10 fits (TooFar a next) is = absurd is
-  first10 fits (NoReel serial) is = absurd is
-  first10 fits (Misplaced serial place end) is = absurd is
-  first10 fits (Lengths full stamp len dumped) is = absurd is
-  first10 fits (Bytes full stamp one other) is = absurd is
+  first10 fits other is = absurd is
 
   abbrev AreHeldAll : Type 0
   AreHeldAll = (r : FileRec) → Contains dirs.files.items r → IsHeld found r
@@ -150,10 +118,7 @@ module _ (reels : List Reel) (shelf : ℕ → List Dump) (found : List Found) (s
   least11 fits held (TooFar a next) is = absurd (let le = none_of_head reels shelf c fits (TooFar a next) is in let no : ⊥ = omega (arith, le) in no)
   least11 fits held (NoReel serial) is = absurd (let le = none_of_head reels shelf c fits (NoReel serial) is in let no : ⊥ = omega (arith, le) in no)
   least11 fits held (Misplaced serial place end) is = absurd (let le = none_of_head reels shelf c fits (Misplaced serial place end) is in let no : ⊥ = omega (arith, le) in no)
-  least11 fits held (Twice a b) is = absurd is
-  least11 fits held (Falls a b) is = absurd is
-  least11 fits held (LostDirectory user) is = absurd is
-  least11 fits held (LostCopy full serial) is = absurd is
+  least11 fits held other is = absurd is
 
   -- RULE 11
   pub first11 : HeadFits shelf reels c.head → AreHeldAll → (b : Broken) → IsLengthOther dirs.users.items dirs.files.items dumped b → IsFirstOfDisc shelf reels c b
@@ -168,17 +133,7 @@ module _ (reels : List Reel) (shelf : ℕ → List Dump) (found : List Found) (s
     );
     first = least11 fits held;
   }
-  first11 fits held (Twice a b) is = absurd is
-  first11 fits held (Falls a b) is = absurd is
-  first11 fits held (LostDirectory user) is = absurd is
-  first11 fits held (LostCopy full serial) is = absurd is
-  first11 fits held (TooNew a last) is = absurd is
-  first11 fits held (LastMissing last) is = absurd is
-  first11 fits held (TooFar a next) is = absurd is
-  first11 fits held (NoReel serial) is = absurd is
-  first11 fits held (Misplaced serial place end) is = absurd is
-  first11 fits held (NoCopy full copy) is = absurd is
-  first11 fits held (Bytes full stamp one other) is = absurd is
+  first11 fits held other is = absurd is
 
   abbrev AreLong : Type 0
   AreLong = (r : FileRec) → Contains dirs.files.items r → HasSameLengths dumped r
@@ -199,10 +154,7 @@ module _ (reels : List Reel) (shelf : ℕ → List Dump) (found : List Found) (s
   least12 fits held long (TooFar a next) is = absurd (let le = least11 fits held (TooFar a next) is in let no : ⊥ = omega (arith, le) in no)
   least12 fits held long (NoReel serial) is = absurd (let le = least11 fits held (NoReel serial) is in let no : ⊥ = omega (arith, le) in no)
   least12 fits held long (Misplaced serial place end) is = absurd (let le = least11 fits held (Misplaced serial place end) is in let no : ⊥ = omega (arith, le) in no)
-  least12 fits held long (Twice a b) is = absurd is
-  least12 fits held long (Falls a b) is = absurd is
-  least12 fits held long (LostDirectory user) is = absurd is
-  least12 fits held long (LostCopy full serial) is = absurd is
+  least12 fits held long other is = absurd is
 
   -- RULE 12: a place that is named, and what was read there
   module _ (held : Option (List (List ℕ))) (told : held ≡ Some blocks) (r : FileRec) (there : Option (List ℕ)) (second : Option TapeCopy) (is : AreCompared held dirs.online.items dumped r there second) where
@@ -324,17 +276,7 @@ module _ (reels : List Reel) (shelf : ℕ → List Dump) (found : List Found) (s
           );
           first = least12 fits are_held are_long;
         }
-    first12 (Twice a b) is = absurd is
-    first12 (Falls a b) is = absurd is
-    first12 (LostDirectory user) is = absurd is
-    first12 (LostCopy full serial) is = absurd is
-    first12 (TooNew a last) is = absurd is
-    first12 (LastMissing last) is = absurd is
-    first12 (TooFar a next) is = absurd is
-    first12 (NoReel serial) is = absurd is
-    first12 (Misplaced serial place end) is = absurd is
-    first12 (NoCopy full copy) is = absurd is
-    first12 (Lengths full stamp len dumped_len) is = absurd is
+    first12 other is = absurd is
 
     file_fits : (r : FileRec) → Contains dirs.files.items r → FileAgrees held reels dirs.online.items dumped r → FileFits dumps (f_of r)
     file_fits r there agrees = record {

@@ -12,7 +12,6 @@ ghost use Rattle.g_look.specs.Reads.{AreRead, IsFileRead, IsOtherRead, IsReadAt}
 ghost use Rattle.g_look.specs.Standing.{IsSound};
 ghost use Rattle.g_look.specs.Texts.{AgreeAt, AllAgree, AreBytesOther, DifferAt, FileAgrees, FileDiffers, IsDiscText, IsDumpedPlace, IsSecond, IsTapeText, TwoDiffer};
 
-use crate::names::full_of;
 use crate::tape::tape_text;
 use crate::{Broken, Lie, LookFault};
 use g_copy::{CopyFault, DiscCopy, read_copy};
@@ -21,6 +20,7 @@ use g_disc::Disc;
 use g_entry::{FileRec, TapeCopy};
 use g_name::Text;
 use g_tape::Tapes;
+use g_tree::full_of;
 use std::alloc::Global;
 
 /// Rule 12: a version whose bytes are others at two of its places. Each place that a file of the disc, or a dumped record

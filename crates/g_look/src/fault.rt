@@ -1,7 +1,4 @@
 //! Why a look answers nothing.
-use g_base::NoMemory;
-use g_incr::ShelfFault;
-use std::alloc::AllocError;
 use thiserror::Error;
 
 /// Why a look tells nothing. No fault changes what disc or reels hold.
@@ -28,26 +25,4 @@ pub enum LookFault {
     /// The memory was refused.
     #[error("out of memory")]
     NoMemory,
-}
-
-impl From<AllocError> for LookFault {
-    ghost use Rattle.std.specs.Prelude.{◌≡◌};
-    ghost use Rattle.g_look.specs.declared.fault.LookFault.TheVariants.{NoMemory};
-
-    ghost from_gives = { λ _ e. e ≡ NoMemory };
-
-    fn from(_e: AllocError) -> LookFault {
-        LookFault::NoMemory
-    }
-}
-
-impl From<NoMemory> for LookFault {
-    ghost use Rattle.std.specs.Prelude.{◌≡◌};
-    ghost use Rattle.g_look.specs.declared.fault.LookFault.TheVariants.{NoMemory};
-
-    ghost from_gives = { λ _ e. e ≡ NoMemory };
-
-    fn from(_e: NoMemory) -> LookFault {
-        LookFault::NoMemory
-    }
 }

@@ -14,7 +14,6 @@ mod file_text;
 mod head;
 mod holding;
 mod listing;
-mod names;
 mod ordered;
 mod pairs;
 mod parts;

@@ -17,7 +17,6 @@ use crate::LookFault;
 use crate::bytes::copy_at;
 use crate::disc::see_directory;
 use crate::file_text::{push_blocks, push_file, push_taped};
-use crate::names::full_of;
 use crate::ordered::asked_numbers;
 use crate::parts::push_told;
 use g_base::NoMemory;
@@ -26,7 +25,7 @@ use g_dirs::{Dirs, FileCopy};
 use g_disc::Disc;
 use g_entry::{FileRec, UserRec};
 use g_name::{Full, Text, User};
-use g_tree::Tree;
+use g_tree::{Tree, full_of};
 use std::alloc::Global;
 
 /// A line for each file of the disc, or of this user: users by number, the files of a user by full name; and how many were

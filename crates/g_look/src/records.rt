@@ -6,10 +6,10 @@ ghost use Rattle.g_restore.specs.Places.{AnyHas, IsHeld};
 ghost use Rattle.g_look.specs.Recs.{HasOtherLength, HasSameLengths, IsCopyGone, IsLengthOther};
 
 use crate::Broken;
-use crate::names::full_of;
 use g_base::blocks_for;
 use g_entry::{FileRec, TapeCopy, UserRec};
 use g_restore::{Found, any_has};
+use g_tree::full_of;
 
 /// Rule 10: a file whose copy isn't content of dumps.
 pub(crate) fn no_copy(found: &[Found], users: &[UserRec], files: &[FileRec]) -> Option<Broken>

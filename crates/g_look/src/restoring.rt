@@ -14,7 +14,6 @@ ghost use Rattle.g_look.specs.Numbers.{all_numbers, dumped_line, lines_at, lines
 
 use crate::LookFault;
 use crate::file_text::{push_file, push_taped};
-use crate::names::full_of;
 use crate::ordered::all_numbers;
 use crate::parts::push_told;
 use crate::rack::see_rack;
@@ -25,7 +24,7 @@ use g_name::{Full, Text};
 use g_plain::StoreFault;
 use g_restore::{Dumped, Found, fold};
 use g_tape::Tapes;
-use g_tree::Tree;
+use g_tree::{Tree, full_of};
 use std::alloc::Global;
 
 /// Whether the rack can be restored, and the text: the files that RESTORE would give and the dump, or its refusal.
@@ -76,11 +75,22 @@ fn refused(alloc: Global, fault: &StoreFault) -> Result<Given, LookFault>
     ensures given { IfOk result (λ g. g.given ≡ false) }
     ensures faults { IfErr result (λ e. e ≡ LookFault.NoMemory) }
 {
+    match refusal_text(alloc, fault) {
+        Ok(text) => Ok(Given { given: false, text }),
+        Err(_) => Err(LookFault::NoMemory),
+    }
+}
+
+/// The text of a refusal, with the end of its line.
+fn refusal_text(alloc: Global, fault: &StoreFault) -> Result<Text, NoMemory>
+    requires printed { IsPrinted fault.now }
+    ensures { IfOk result (λ text. text ≡ refused_text fault.now) }
+{
     let mut text = Text::new(alloc);
     text.extend(b"REFUSED ")?;
     push_fault(&mut text, fault)?;
     text.push(b'\n')?;
-    Ok(Given { given: false, text })
+    Ok(text)
 }
 
 /// The lines of a dumped directory.

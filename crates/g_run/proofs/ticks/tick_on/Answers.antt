@@ -31,8 +31,8 @@ tick-failure-requires-clause-ready g c =
 pub tick-failure-requires-clause-open : goal.tick-failure-requires-clause-open
 tick-failure-requires-clause-open g c = (c.ticks.invariant.did.keeps.ready (c.goes_on.ensures.yes c.ticks-test.true).0).1
 
-pub counted-up-requires : goal.counted-up-requires
-counted-up-requires g c =
+pub counted-requires : goal.counted-requires
+counted-requires g c =
     let yes = c.goes_on.ensures.yes c.ticks-test.true in
     let up = c.ticks.up in
     let room = subst (λ (s : Seen). HasRoom c.args.limit s) (seen_up up.store up.crew up.count yes.2) (c.ticks.invariant.room yes.0) in
@@ -50,8 +50,8 @@ ticks-preserved g c =
     let ready = subst (λ (f : SystemFacts). IsReady f up.crew) (left_up up.store yes.2) (c.ticks.invariant.did.keeps.ready yes.0).0 in
     let done = one_did g.F.Fn c.args.rules.now.tariff.now g.U.Fn c.args.rules.now.weigh.now c.args.limit up.store up.crew up.count ready yes.1 yes.3 (left_of new.store) new.crew
     (g.K.Sink.written c.ticks.out) (g.K.Sink.written c.tick-failure.new.out) (g.K.Sink.faults c.ticks.out) (g.K.Sink.faults c.tick-failure.new.out)
-    c.tick-failure.result c.tick-failure.ensures.did c.tick-failure.result c.counted-up.result refl (λ none. c.counted-up.ensures none ∙ ap (λ (n : ℕ). n + 1) c.tick-failure.ensures.count) in
-    let one = subst (λ (s : Seen). DidOne g.F.Fn c.args.rules.now.tariff.now g.U.Fn c.args.rules.now.weigh.now c.args.limit s c.tick-failure.result (seen (left_of new.store) new.crew c.counted-up.result)
+    c.tick-failure.result c.tick-failure.ensures.did c.tick-failure.result c.counted.result refl (λ none. c.counted.ensures none ∙ ap (λ (n : ℕ). n + 1) c.tick-failure.ensures.count) in
+    let one = subst (λ (s : Seen). DidOne g.F.Fn c.args.rules.now.tariff.now g.U.Fn c.args.rules.now.weigh.now c.args.limit s c.tick-failure.result (seen (left_of new.store) new.crew c.counted.result)
     (g.K.Sink.written c.ticks.out) (g.K.Sink.written c.tick-failure.new.out) (g.K.Sink.faults c.ticks.out) (g.K.Sink.faults c.tick-failure.new.out))
     (sym (seen_up up.store up.crew up.count yes.2)) done in record {
       did = ticks_more g.F.Fn c.args.rules.now.tariff.now g.U.Fn c.args.rules.now.weigh.now c.args.limit _ _ _ _ _ _ _ _ _ _ so_far one;
@@ -67,8 +67,8 @@ ticks-smaller g c =
     let ready = subst (λ (f : SystemFacts). IsReady f up.crew) (left_up up.store yes.2) (c.ticks.invariant.did.keeps.ready yes.0).0 in
     let done = one_did g.F.Fn c.args.rules.now.tariff.now g.U.Fn c.args.rules.now.weigh.now c.args.limit up.store up.crew up.count ready yes.1 yes.3 (left_of new.store) new.crew
     (g.K.Sink.written c.ticks.out) (g.K.Sink.written c.tick-failure.new.out) (g.K.Sink.faults c.ticks.out) (g.K.Sink.faults c.tick-failure.new.out)
-    c.tick-failure.result c.tick-failure.ensures.did c.tick-failure.result c.counted-up.result refl (λ none. c.counted-up.ensures none ∙ ap (λ (n : ℕ). n + 1) c.tick-failure.ensures.count) in
-    let one = subst (λ (s : Seen). DidOne g.F.Fn c.args.rules.now.tariff.now g.U.Fn c.args.rules.now.weigh.now c.args.limit s c.tick-failure.result (seen (left_of new.store) new.crew c.counted-up.result)
+    c.tick-failure.result c.tick-failure.ensures.did c.tick-failure.result c.counted.result refl (λ none. c.counted.ensures none ∙ ap (λ (n : ℕ). n + 1) c.tick-failure.ensures.count) in
+    let one = subst (λ (s : Seen). DidOne g.F.Fn c.args.rules.now.tariff.now g.U.Fn c.args.rules.now.weigh.now c.args.limit s c.tick-failure.result (seen (left_of new.store) new.crew c.counted.result)
     (g.K.Sink.written c.ticks.out) (g.K.Sink.written c.tick-failure.new.out) (g.K.Sink.faults c.ticks.out) (g.K.Sink.faults c.tick-failure.new.out))
     (sym (seen_up up.store up.crew up.count yes.2)) done in
     ticks_fall c.ticks.failure c.tick-failure.result _ _ yes.0 one.falls
