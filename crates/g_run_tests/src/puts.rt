@@ -1,7 +1,9 @@
 //! The texts that tell an event.
 ghost use Rattle.std.specs.Prelude.{◌<◌, ◌≤◌};
 
-use g_console::{Day, Ended, Failure, System, fails, operator_line, push_told, put_made, told};
+use g_console::{
+    Day, Ended, Failure, System, operator_line, push_told, put_made, say_made, tell_fault,
+};
 use g_crew::Crew;
 use g_disc::{Disc, MemoryDisc};
 use g_io::{MemorySink, Sink};
@@ -37,11 +39,14 @@ fn told_of<K: Sink, D: Disc + Drop, T: Tapes + Drop>(
     };
     let Ended { day, failure } = operator_line(alloc, day, Operator::Shut, out);
     went(failure)?;
+    let Day {
+        mut crew,
+        count,
+        ..
+    } = day;
     let made = Text::from_slice(alloc, b"SHOWN");
-    let Ended { day, failure } = told(alloc, day, made, out);
-    went(failure)?;
-    let Ended { failure, .. } = fails(alloc, day, StoreFault::NoFile, out);
-    went(failure)
+    went(say_made(alloc, count, made, out))?;
+    went(tell_fault(alloc, &mut crew, count, &StoreFault::NoFile, out))
 }
 
 /// What each call of this test puts, in order.
