@@ -1,4 +1,6 @@
 //! Fetch and Retrieve, as a store answers them.
+ghost use Rattle.g_plain.specs.Rules.{IsWithinLimits};
+
 use crate::rig::reel;
 use g_base::Block;
 use g_known::KnownReels;
@@ -19,7 +21,9 @@ fn answered(
     files: &[Block; 5],
     tapes: &mut KnownReels<MemoryTapes>,
     call: &StoreCall,
-) -> Answer {
+) -> Answer
+    requires { IsWithinLimits call.now }
+{
     let mut online = match online_with(rt.alloc(), files) {
         Ok(online) => online,
         Err(_) => panic!(rt; "no filestore"),
