@@ -9,7 +9,7 @@ ghost use Rattle.g_sched.specs.Rule.{IsInRange};
 ghost use Rattle.g_script.specs.Script.{IsParsed};
 ghost use Rattle.g_script.specs.declared.operator.Timed.{Timed};
 ghost use Rattle.g_state_process.specs.Moving.{DumpsMove};
-ghost use Rattle.g_world.specs.Top.{AreArmings, IsCutWords};
+ghost use Rattle.g_world.specs.Top.{AreArmings, AreFused, IsCutWords};
 ghost use Rattle.g_world_laws.specs.Anew.{with_new_disc};
 ghost use Rattle.g_world_laws.specs.Filestores.{HasFilestore};
 ghost use Rattle.g_run.specs.Input.{IsRun};
@@ -98,9 +98,10 @@ pub fn run_by_rules<S: Source, K: Sink, D: Disc, T: Tapes>(
         → (both (D.state result.disc) (T.rack result.tapes) ≡ both (D.state disc) (T.rack tapes))
         × top.EndsDemo (answering price) tt (answering share_used) tt result.status demo (K.written out.old) (K.written out.new) }
 
-    // With every status, of all devices, whether they tell or not: who was armed, and that they are the same.
+    // With every status, of all devices, whether they tell or not: what armed them, what their fuses are, and that they are the same.
     ensures arms { IsRun words.now → (left : List ℕ) → S.left script.old ≡ Some left → (lines : List Timed) (bad : Option ℕ) → IsParsed (lines_of left) lines bad →
         AreArmings lines (top.IsThrough result.status) (both (D.state disc) (T.rack tapes)) (both (D.state result.disc) (T.rack result.tapes)) }
+    ensures fuses { AreFused (both (D.state result.disc) (T.rack result.tapes)) }
     ensures same { SameDevices (both (D.state disc) (T.rack tapes)) (both (D.state result.disc) (T.rack result.tapes)) }
 
     // With every status, of devices that tell and belong together: they go on doing so, and a disc that holds a filestore goes on to

@@ -12,7 +12,7 @@ ghost use Rattle.g_sched.specs.Rule.{IsWeighRule};
 ghost use Rattle.g_script.specs.Script.{IsParsed};
 ghost use Rattle.g_script.specs.declared.operator.Timed.{Timed};
 ghost use Rattle.g_state_process.specs.Moving.{DumpsMove};
-ghost use Rattle.g_world.specs.Top.{AreArmings, IsCutWords, words_line};
+ghost use Rattle.g_world.specs.Top.{AreArmings, AreFused, IsCutWords, words_line};
 ghost use Rattle.g_world_laws.specs.Anew.{with_new_disc};
 ghost use Rattle.g_world_laws.specs.Filestores.{HasFilestore};
 ghost use Rattle.g_run.specs.Input.{IsRun};
@@ -109,9 +109,10 @@ pub fn george<
         → (both (D.state result.disc) (T.rack result.tapes) ≡ both (D.state disc) (T.rack tapes))
         × top.EndsDemo F.Fn tariff.now U.Fn weigh.now result.status demo (K.written out.old) (K.written out.new) }
 
-    // With every status, of all devices, whether they tell or not: who was armed, and that they are the same.
+    // With every status, of all devices, whether they tell or not: what armed them, what their fuses are, and that they are the same.
     ensures arms { IsRun words.now → (left : List ℕ) → S.left script.old ≡ Some left → (lines : List Timed) (bad : Option ℕ) → IsParsed (lines_of left) lines bad →
         AreArmings lines (top.IsThrough result.status) (both (D.state disc) (T.rack tapes)) (both (D.state result.disc) (T.rack result.tapes)) }
+    ensures fuses { AreFused (both (D.state result.disc) (T.rack result.tapes)) }
     ensures same { SameDevices (both (D.state disc) (T.rack tapes)) (both (D.state result.disc) (T.rack result.tapes)) }
 
     // With every status, of devices that tell and belong together: they go on doing so, and a disc that holds a filestore goes on to
@@ -129,6 +130,7 @@ pub fn george<
         Some(Asked::Run) => {}
         Some(Asked::Demo(demo)) => {
             let failure = run_demo(alloc, &demo, &rules, out);
+            tell_fuses(&disc, &tapes);
             return Finish {
                 status: demo_status(failure),
                 disc,
@@ -137,6 +139,7 @@ pub fn george<
         }
         None => {
             let failure = put_words(out);
+            tell_fuses(&disc, &tapes);
             return Finish {
                 status: words_status(failure),
                 disc,
@@ -160,6 +163,7 @@ pub fn george<
         tapes,
         failure,
     } = run_boxed(alloc, parsed, (disc, tapes), &rules, out);
+    tell_fuses(&disc, &tapes);
     Finish {
         status: run_status(bad, failure),
         disc,
@@ -169,13 +173,23 @@ pub fn george<
 
 /// Nothing was done.
 fn not_begun<D: Disc, T: Tapes>(status: Status, disc: D, tapes: T) -> Finish<D, T>
-    ensures { result ≡ record { status = status; disc = disc; tapes = tapes } }
+    ensures made { result ≡ record { status = status; disc = disc; tapes = tapes } }
+    ensures fuses { AreFused (both (D.state disc) (T.rack tapes)) }
 {
+    tell_fuses(&disc, &tapes);
     Finish {
         status,
         disc,
         tapes,
     }
+}
+
+/// Each device tells what its fuse is.
+fn tell_fuses<D: Disc, T: Tapes>(disc: &D, tapes: &T)
+    ensures { AreFused (both (D.state disc.now) (T.rack tapes.now)) }
+{
+    let _blocks = disc.size();
+    let _reels = tapes.reels();
 }
 
 /// The status of a demonstration.
