@@ -12,12 +12,12 @@ use std::marker::Model;
 /// taken at once. Nearly all blocks of a slot are zeros: those behind the last one that isn't are remembered without their
 /// bytes, and the memory there isn't touched.
 #[derive(Debug, Drop)]
-pub(crate) struct Known {
+pub(crate) struct RememberedBlocks {
     known: Vec<bool>,
     blocks: Vec<Block>,
 }
 
-impl Model for Known {
+impl Model for RememberedBlocks {
     ghost use Rattle.std.specs.Prelude.{◌≡◌, ℕ, ◌≤◌, List, Option, length, vec_capacity};
     ghost use Rattle.g_dirs.specs.Known.{seen};
 
@@ -28,14 +28,14 @@ impl Model for Known {
     ghost invariant = { λ k. (length k.known.items ≡ 1088) × (1088 ≤ vec_capacity k.blocks) };
 }
 
-impl Known {
+impl RememberedBlocks {
     /// Nothing is known.
-    pub(crate) fn nothing(alloc: Global) -> Result<Known, NoMemory>
+    pub(crate) fn nothing(alloc: Global) -> Result<RememberedBlocks, NoMemory>
         ensures { IfOk result (λ known. known ≡ replicate 1088 None) }
     {
         let known = vec![in alloc; false; SLOT_BLOCKS as usize]?;
         let blocks = Vec::with_capacity(alloc, SLOT_BLOCKS as usize)?;
-        Ok(Known { known, blocks })
+        Ok(RememberedBlocks { known, blocks })
     }
 
     /// Whether block `k` is known to be this one.

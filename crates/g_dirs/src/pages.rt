@@ -9,7 +9,7 @@ ghost use Rattle.g_dirs.specs.Pages.{Covers, LosesMarks, Remembers, RemembersPag
 ghost use Rattle.g_dirs.specs.Writing.{IsEncodable};
 
 use crate::Listing;
-use crate::known::Known;
+use crate::known::RememberedBlocks;
 use crate::marks::Marks;
 use g_base::{Block, NoMemory};
 use g_slots::Side;
@@ -21,8 +21,8 @@ use std::marker::Model;
 /// Contracts see two lists for each slot.
 #[derive(Debug, Drop)]
 pub struct Pages {
-    a: Known,
-    b: Known,
+    a: RememberedBlocks,
+    b: RememberedBlocks,
     marks_a: Marks,
     marks_b: Marks,
 }
@@ -42,8 +42,8 @@ impl Pages {
         ensures stands { IfOk result (λ pages. (blocks : List (List ℕ)) → Remembers pages blocks) }
     {
         Ok(Pages {
-            a: Known::nothing(alloc)?,
-            b: Known::nothing(alloc)?,
+            a: RememberedBlocks::nothing(alloc)?,
+            b: RememberedBlocks::nothing(alloc)?,
             marks_a: Marks::new(alloc)?,
             marks_b: Marks::new(alloc)?,
         })

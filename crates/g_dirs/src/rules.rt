@@ -61,7 +61,7 @@ fn files_lie(files: &[FileRec], online: &[FileCopy]) -> bool
     let mut rest = online;
     for r in files {
         let (copy, others) = next_copy(rest, r.number);
-        if !lies(r, copy) {
+        if !has_storage(r, copy) {
             return false;
         }
         rest = others;
@@ -80,7 +80,7 @@ fn next_copy(online: &[FileCopy], number: u16) -> (Option<&DiscCopy>, &[FileCopy
     }
 }
 
-fn lies(r: &FileRec, copy: Option<&DiscCopy>) -> bool
+fn has_storage(r: &FileRec, copy: Option<&DiscCopy>) -> bool
     ensures { IsTrue result ↔ LiesSomewhere (r.now, option_copied copy.entry) }
 {
     match copy {

@@ -13,8 +13,8 @@ use Rattle.g_tape.specs.Reel.{IsReel, Reel}
 use Rattle.g_tape.proofs.ReadLemmas.{is_reel, reel_after_reads}
 use Rattle.g_plain.specs.declared.faults.StoreFault.{StoreFault}
 use Rattle.g_plain.specs.declared.faults.StoreFault.TheVariants.{CountersSpent, NoTape, NotMounted, Stopped, TapeFull, TapeReadFault}
-use Rattle.g_contents.specs.Contents.{Contents}
-use Rattle.g_contents.specs.Facts.{IsTied, OnlineFacts}
+use Rattle.g_disc_contents.specs.Contents.{Contents}
+use Rattle.g_disc_contents.specs.Facts.{IsTied, OnlineFacts}
 use Rattle.g_incr.specs.declared.fault.ShelfFault.{ShelfFault}
 use Rattle.g_incr.specs.declared.fault.ShelfFault.TheVariants as shelf
 use Rattle.g_incr.specs.Layout.{Dump}
@@ -24,7 +24,7 @@ use Rattle.g_shelf.specs.Completed.{AreCompleted, end_of}
 use Rattle.g_known.specs.Known.{AreFound}
 use Rattle.g_shelf.proofs.OneLemmas.{completed_are_one}
 use Rattle.g_shelf.proofs.ReadLemmas.{end_low, there}
-use Rattle.g_state.specs.Up.{DumpFacts, IsOpen}
+use Rattle.g_store_meaning.specs.Up.{DumpFacts, IsOpen}
 use Rattle.g_dumper.specs.Beginning.{Begins, HasOpened, IsEnd, IsKeptBack, IsSpent, IsTooLong, RefusesOpening, StoppedAtIntent, StoppedOpening, intent_of, plan_of}
 use Rattle.g_dumper.proofs.PlanLemmas.{plan_keeps, plan_pinned}
 

@@ -12,9 +12,9 @@ use Rattle.g_incr.specs.Layout.{holds}
 use Rattle.g_incr.specs.Plan.{ComesBefore}
 use Rattle.g_online.proofs.CloseNoteLemmas.{pairs_map}
 use Rattle.g_tree.proofs.ListLemmas.{filter_none}
-use Rattle.g_state.specs.Meaning.{files_of}
-use Rattle.g_state_laws.proofs.ClosingLemmas.{contains_filter}
-use Rattle.g_state_laws.proofs.RecordLemmas.{OtherUser, from_filter, gathered_by, gathered_few, gathered_pairs, owned, pairs_head, pairs_tail, pairs_append}
+use Rattle.g_store_meaning.specs.Meaning.{files_of}
+use Rattle.g_laws_store.proofs.ClosingLemmas.{contains_filter}
+use Rattle.g_laws_store.proofs.RecordLemmas.{OtherUser, from_filter, gathered_by, gathered_few, gathered_pairs, owned, pairs_head, pairs_tail, pairs_append}
 use Rattle.g_dumper.specs.Beginning.{held_of}
 
 -- A USER FOR EACH NUMBER, so that files go by users

@@ -6,14 +6,14 @@ use Rattle.g_entry.specs.declared.head.Head.{Head}
 use Rattle.g_entry.specs.declared.head.Intent.{Intent}
 use Rattle.g_entry.specs.HeadFields.{IsIntent, IsSerial}
 use Rattle.g_base.specs.Counts.{RoseBy}
-use Rattle.g_contents.specs.Commits.{Commits}
-use Rattle.g_contents.specs.Contents.{Contents, Holds, with_intent}
-use Rattle.g_contents.specs.Facts.{IsTied, OnlineFacts, Pin}
+use Rattle.g_disc_contents.specs.Commits.{Commits}
+use Rattle.g_disc_contents.specs.Contents.{Contents, Holds, with_intent}
+use Rattle.g_disc_contents.specs.Facts.{IsTied, OnlineFacts, Pin}
 use Rattle.g_incr.specs.Plan.{IsPlan, Plan, first_content}
 use Rattle.g_online.specs.declared.change.Change.TheVariants.{SetIntent}
 use Rattle.g_online.specs.Allowed.{IsAllowed, KeepsRules}
 use Rattle.g_online.specs.Change.{changed, unjammed}
-use Rattle.g_online.specs.Done.{AfterStop, HasChanged, HasStopped}
+use Rattle.g_online.specs.Outcomes.{AfterStop, HasChanged, HasStopped}
 use Rattle.g_online.specs.Pins.{HasPinned}
 use Rattle.g_online.proofs.KeepLemmas.{rules_of}
 use Rattle.g_dumper.specs.Beginning.{HasOpened, StoppedAtIntent, intent_of, plan_of}

@@ -11,28 +11,28 @@ use Rattle.g_tape.specs.Reads.{unread}
 use Rattle.g_tape.specs.Reel.{Reel, Remains, Torn, ending, left_by}
 use Rattle.g_plain.specs.declared.faults.StoreFault.{StoreFault}
 use Rattle.g_plain.specs.declared.faults.StoreFault.TheVariants.{DiscReadFault, Stopped}
-use Rattle.g_step.specs.DumpSteps.{Stepped, Going, Completed}
-use Rattle.g_contents.specs.Contents.{Contents, File, Holds, contents_of}
-use Rattle.g_contents.specs.Facts.{IsPinOf, IsTied, OnlineFacts, Pin, noted}
-use Rattle.g_contents.proofs.HoldLemmas.{holds_one}
+use Rattle.g_store_model.specs.DumpSteps.{Stepped, Going, Completed}
+use Rattle.g_disc_contents.specs.Contents.{Contents, File, Holds, contents_of}
+use Rattle.g_disc_contents.specs.Facts.{IsPinOf, IsTied, OnlineFacts, Pin, noted}
+use Rattle.g_disc_contents.proofs.HoldLemmas.{holds_one}
 use Rattle.g_incr.specs.Layout.{Dump, dump_blocks}
 use Rattle.g_incr.specs.Plan.{dump_of, needs}
 use Rattle.g_online.specs.declared.fault.OnlineFault.{OnlineFault}
 use Rattle.g_online.specs.declared.fault.OnlineFault.TheVariants as online
 use Rattle.g_online.specs.Change.{closed as closed_by}
-use Rattle.g_online.specs.Done.{HasClosed, StoppedClosing}
+use Rattle.g_online.specs.Outcomes.{HasClosed, StoppedClosing}
 use Rattle.g_online.specs.Pins.{IsClosing}
 use Rattle.g_shelf.specs.Completed.{AreShelved, all_dumps}
-use Rattle.g_state.specs.Answers.{Belongs, IsStore, Told}
-use Rattle.g_state.specs.Belong.{BelongWith, DiscBelongs, RackBelongs}
-use Rattle.g_state.specs.Meaning.{told_reels}
-use Rattle.g_state.specs.Reading.{AllTold, ReelsTold}
-use Rattle.g_state.specs.Up.{DumpFacts, IsOpen, IsReady, IsUp, KeepsDirectories, StoreFacts, content_in, with_dump}
-use Rattle.g_state_laws.specs.Dumping.{closed_with}
-use Rattle.g_state_laws.proofs.ClosingLemmas.{closing_stays}
-use Rattle.g_state_laws.proofs.DumpingLemmas.{events_stay_up}
-use Rattle.g_state_laws.proofs.PinLemmas.{both_told}
-use Rattle.g_state_laws.proofs.TiedLemmas.{devices_belong}
+use Rattle.g_store_meaning.specs.Answers.{Belongs, IsStore, Told}
+use Rattle.g_store_meaning.specs.Belong.{BelongWith, DiscBelongs, RackBelongs}
+use Rattle.g_store_meaning.specs.Meaning.{told_reels}
+use Rattle.g_store_meaning.specs.Reading.{AllTold, ReelsTold}
+use Rattle.g_store_meaning.specs.Up.{DumpFacts, IsOpen, IsReady, IsUp, KeepsDirectories, StoreFacts, content_in, with_dump}
+use Rattle.g_laws_store.specs.Dumping.{closed_with}
+use Rattle.g_laws_store.proofs.ClosingLemmas.{closing_stays}
+use Rattle.g_laws_store.proofs.DumpingLemmas.{events_stay_up}
+use Rattle.g_laws_store.proofs.PinLemmas.{both_told}
+use Rattle.g_laws_store.proofs.TiedLemmas.{devices_belong}
 use Rattle.g_dumper.specs.Keeps.{CompletesOpening, KeepsStore, behind_step, spent_with, up_with}
 use Rattle.g_dumper.specs.Steps.{Abandoned, FailedWrite, IsNextBlock, Stepping, WroteBlock}
 use Rattle.g_dumper.proofs.ReelLemmas.{same_serials, still_told}

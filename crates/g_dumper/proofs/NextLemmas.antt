@@ -7,14 +7,14 @@ use Rattle.std.proofs.lemmas.List.Sums.{sum_by-cons}
 use Rattle.std.proofs.lemmas.Option.{same_Some}
 use Rattle.g_base.specs.Block.{blocks_for}
 use Rattle.g_entry.specs.declared.file_rec.FileRec.{FileRec}
-use Rattle.g_contents.specs.Facts.{Pin}
+use Rattle.g_disc_contents.specs.Facts.{Pin}
 use Rattle.g_incr.specs.Layout.{Dump, dump_blocks, file_in, header_block, mark_block, user_in}
 use Rattle.g_incr.specs.Plan.{IsContentAt, IsReadyAt, blocks_of, dump_of, first_content, waiting}
 use Rattle.g_incr.proofs.ListLemmas.{get_behind, get_front}
 use Rattle.g_incr.proofs.PlanLemmas.{length-made}
-use Rattle.g_state.specs.Up.{ArePinned, DumpFacts, content_in}
+use Rattle.g_store_meaning.specs.Up.{ArePinned, DumpFacts, content_in}
 use Rattle.g_dumper.specs.Steps.{IsNextBlock}
-use Rattle.g_state_laws.proofs.PinLemmas.{split_told}
+use Rattle.g_laws_store.proofs.PinLemmas.{split_told}
 
 -- THE PIN of a version that waits
 pub pin_at : (serial at : ℕ) (ws : List FileRec) (pins : List Pin) (i : ℕ) (version : FileRec) → ArePinned serial at ws pins → slice_get ws i ≡ Some version

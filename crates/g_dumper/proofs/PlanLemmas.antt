@@ -13,15 +13,15 @@ use Rattle.g_entry.specs.FileFields.{IsFile}
 use Rattle.g_entry.specs.HeadFields.{IsSerial}
 use Rattle.g_entry.specs.Rules.{AreFiles, SameName, StampsBelow}
 use Rattle.g_tree.proofs.ListLemmas.{both_true}
-use Rattle.g_contents.specs.Contents.{Contents, File, recs_in}
-use Rattle.g_contents.specs.Facts.{IsPinOf, IsTied, OnlineFacts, Pin, WaitsByUser}
+use Rattle.g_disc_contents.specs.Contents.{Contents, File, recs_in}
+use Rattle.g_disc_contents.specs.Facts.{IsPinOf, IsTied, OnlineFacts, Pin, WaitsByUser}
 use Rattle.g_incr.specs.Layout.{holds}
 use Rattle.g_incr.specs.Plan.{ComesBefore, IsPlan, waiting, waits}
 use Rattle.g_online.specs.Pins.{ArePinnedFrom, AreWaiting, HasPinned, IsWaiting, ComesBefore as FileBefore}
 use Rattle.g_online.proofs.CloseNoteLemmas.{pairs_map}
-use Rattle.g_state.specs.Up.{ArePinned}
-use Rattle.g_state_laws.proofs.ClosingLemmas.{contains_filter}
-use Rattle.g_state_laws.proofs.RecordLemmas.{from_filter}
+use Rattle.g_store_meaning.specs.Up.{ArePinned}
+use Rattle.g_laws_store.proofs.ClosingLemmas.{contains_filter}
+use Rattle.g_laws_store.proofs.RecordLemmas.{from_filter}
 use Rattle.g_dumper.specs.Beginning.{held_of, plan_of}
 use Rattle.g_dumper.proofs.HeldLemmas.{held_all, held_few, held_ordered, held_pairs, holds_there, in_held, is_held, one_order}
 use Rattle.g_dumper.proofs.IntentLemmas.{rules_here}

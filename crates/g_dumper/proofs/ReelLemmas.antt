@@ -11,8 +11,8 @@ use Rattle.g_tape.specs.Reads.{unread}
 use Rattle.g_tape.specs.Reel.{Reel}
 use Rattle.g_incr.specs.Layout.{Dump}
 use Rattle.g_shelf.specs.Completed.{AreCompleted, AreShelved}
-use Rattle.g_state.specs.Reading.{ReelsTold}
-use Rattle.g_state_laws.proofs.RecordLemmas.{pairs_head, pairs_tail}
+use Rattle.g_store_meaning.specs.Reading.{ReelsTold}
+use Rattle.g_laws_store.proofs.RecordLemmas.{pairs_head, pairs_tail}
 
 abbrev serials : List Reel → List ℕ
 serials reels = map (λ (r : Reel). r.serial) reels

@@ -12,15 +12,15 @@ use Rattle.g_tape.specs.Reads.{blocks_of}
 use Rattle.g_tape.specs.Reel.{Reel}
 use Rattle.g_plain.specs.declared.faults.StoreFault.{StoreFault}
 use Rattle.g_plain.specs.declared.faults.StoreFault.TheVariants.{CountersSpent, NoMemory, NoTape, NotMounted, Stopped, TapeFull, TapeReadFault}
-use Rattle.g_contents.specs.Commits.{Commits}
-use Rattle.g_contents.specs.Contents.{Holds, recs_in, with_intent}
-use Rattle.g_contents.specs.Facts.{OnlineFacts}
+use Rattle.g_disc_contents.specs.Commits.{Commits}
+use Rattle.g_disc_contents.specs.Contents.{Holds, recs_in, with_intent}
+use Rattle.g_disc_contents.specs.Facts.{OnlineFacts}
 use Rattle.g_incr.specs.Layout.{Dump}
 use Rattle.g_incr.specs.Plan.{IsPlan, Plan, first_content, needs}
 use Rattle.g_online.specs.Pins.{HasPinned}
 use Rattle.g_shelf.specs.Completed.{AreCompleted, end_of}
-use Rattle.g_state.specs.Meaning.{files_of}
-use Rattle.g_state.specs.Up.{DumpFacts, IsOpen}
+use Rattle.g_store_meaning.specs.Meaning.{files_of}
+use Rattle.g_store_meaning.specs.Up.{DumpFacts, IsOpen}
 
 -- the files of these users, one user behind the other
 abbrev pub held_of : List ℕ → List FileRec → List FileRec

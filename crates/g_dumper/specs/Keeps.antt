@@ -3,14 +3,14 @@ use Rattle.std.specs.Prelude.{◌≡◌, ℕ, true, false, List, Option, Some, N
 use Rattle.g_tape.specs.Rack.{Rack}
 use Rattle.g_plain.specs.declared.faults.StoreFault.{StoreFault}
 use Rattle.g_plain.specs.declared.faults.StoreFault.TheVariants.{Stopped}
-use Rattle.g_step.specs.DumpSteps.{Stepped, Going, Completed}
-use Rattle.g_contents.specs.Facts.{OnlineFacts}
+use Rattle.g_store_model.specs.DumpSteps.{Stepped, Going, Completed}
+use Rattle.g_disc_contents.specs.Facts.{OnlineFacts}
 use Rattle.g_incr.specs.Layout.{Dump}
 use Rattle.g_incr.specs.Plan.{dump_of}
 use Rattle.g_shelf.specs.Completed.{AreShelved}
-use Rattle.g_state.specs.Answers.{Belongs, IsStore, Told}
-use Rattle.g_state.specs.Meaning.{told_reels}
-use Rattle.g_state.specs.Up.{DumpFacts, IsOpen, IsUp, StoreFacts, content_in, with_dump}
+use Rattle.g_store_meaning.specs.Answers.{Belongs, IsStore, Told}
+use Rattle.g_store_meaning.specs.Meaning.{told_reels}
+use Rattle.g_store_meaning.specs.Up.{DumpFacts, IsOpen, IsUp, StoreFacts, content_in, with_dump}
 
 -- a store that is up, and one that is spent
 abbrev pub up_with : OnlineFacts → Rack → Option DumpFacts → StoreFacts

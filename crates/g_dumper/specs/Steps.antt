@@ -7,13 +7,13 @@ use Rattle.g_tape.specs.Reel.{Remains, ending, left_by}
 use Rattle.g_tape.specs.Rack.{Rack, changed}
 use Rattle.g_plain.specs.declared.faults.StoreFault.{StoreFault}
 use Rattle.g_plain.specs.declared.faults.StoreFault.TheVariants.{DiscReadFault, Stopped}
-use Rattle.g_step.specs.DumpSteps.{Stepped, Going, Completed}
-use Rattle.g_contents.specs.Facts.{OnlineFacts, Pin}
+use Rattle.g_store_model.specs.DumpSteps.{Stepped, Going, Completed}
+use Rattle.g_disc_contents.specs.Facts.{OnlineFacts, Pin}
 use Rattle.g_incr.specs.Layout.{dump_blocks}
 use Rattle.g_incr.specs.Plan.{IsContentAt, IsPlan, Plan, dump_of, needs}
 use Rattle.g_online.specs.declared.fault.OnlineFault.TheVariants as online
 use Rattle.g_online.specs.Pins.{IsClosing}
-use Rattle.g_state.specs.Up.{DumpFacts, content_in}
+use Rattle.g_store_meaning.specs.Up.{DumpFacts, content_in}
 use Rattle.g_dumper.specs.declared.dump.DumpStep.{DumpStep}
 use Rattle.g_dumper.specs.declared.dump.DumpStep.TheVariants as answer
 

@@ -4,9 +4,9 @@ ghost use Rattle.std.specs.Option.{ForSome};
 ghost use Rattle.g_disc.specs.Disc.{Causes};
 ghost use Rattle.g_tape.specs.Rack.{reel};
 ghost use Rattle.g_tape.specs.Reads.{OnlyReads};
-ghost use Rattle.g_contents.specs.Facts.{IsTied};
+ghost use Rattle.g_disc_contents.specs.Facts.{IsTied};
 ghost use Rattle.g_incr.specs.Plan as plan;
-ghost use Rattle.g_state.specs.Meaning.{files_of};
+ghost use Rattle.g_store_meaning.specs.Meaning.{files_of};
 ghost use Rattle.g_dumper.specs.Beginning.{Begins, HasOpened, LeftByRefusal, RefusesOpening, StoppedAtIntent, StoppedOpening, held_of, plan_of};
 ghost use Rattle.g_dumper.specs.Keeps.{KeepsStore, behind_opening, up_with};
 

@@ -10,7 +10,7 @@ use g_base::BlockReader;
 use g_name::Lang;
 
 /// Reads as many bytes as these, and tells whether they are the same.
-pub fn come(reader: &mut BlockReader, bytes: &[u8]) -> bool
+pub fn next_bytes_equal(reader: &mut BlockReader, bytes: &[u8]) -> bool
     requires { length bytes.now ≤ length reader.old }
     ensures { Comes bytes.now reader.old reader.new result }
 {
@@ -25,7 +25,7 @@ pub fn zeros_come(reader: &mut BlockReader, count: usize) -> bool
     ensures { Comes (replicate count 0) reader.old reader.new result }
 {
     let zeros = [0; 512];
-    come(reader, &zeros[..count])
+    next_bytes_equal(reader, &zeros[..count])
 }
 
 /// Whether both are.
@@ -43,8 +43,8 @@ fn word_comes(reader: &mut BlockReader, word: &[u8]) -> bool
     ensures left { length reader.old ≡ 13 + length reader.new }
 {
     let len = [word.len() as u8];
-    let counted = come(reader, &len);
-    let same = come(reader, word);
+    let counted = next_bytes_equal(reader, &len);
+    let same = next_bytes_equal(reader, word);
     let zeros = zeros_come(reader, 12 - word.len());
     both(counted, both(same, zeros))
 }
@@ -57,8 +57,8 @@ fn lang_comes(reader: &mut BlockReader, lang: &Lang) -> bool
 {
     let characters = lang.as_slice();
     let spaces = [b' '; 4];
-    let same = come(reader, characters);
-    let behind = come(reader, &spaces[characters.len()..]);
+    let same = next_bytes_equal(reader, characters);
+    let behind = next_bytes_equal(reader, &spaces[characters.len()..]);
     both(same, behind)
 }
 
@@ -72,9 +72,9 @@ fn copy_comes(reader: &mut BlockReader, copy: Option<TapeCopy>) -> bool
         None => zeros_come(reader, 9),
         Some(copy) => {
             let flag = [1];
-            let there = come(reader, &flag);
-            let serial = come(reader, &copy.serial.to_be_bytes());
-            let first = come(reader, &copy.first.to_be_bytes());
+            let there = next_bytes_equal(reader, &flag);
+            let serial = next_bytes_equal(reader, &copy.serial.to_be_bytes());
+            let first = next_bytes_equal(reader, &copy.first.to_be_bytes());
             both(there, both(serial, first))
         }
     }
@@ -89,14 +89,14 @@ pub fn rec_comes(reader: &mut BlockReader, r: &FileRec) -> bool
     ensures left { length reader.old ≡ 60 + length reader.new }
 {
     let head = [1, r.owner];
-    let used = come(reader, &head);
+    let used = next_bytes_equal(reader, &head);
     let local = word_comes(reader, r.local.as_slice());
-    let generation = come(reader, &r.generation.to_be_bytes());
+    let generation = next_bytes_equal(reader, &r.generation.to_be_bytes());
     let lang = lang_comes(reader, &r.lang);
-    let stamp = come(reader, &r.stamp.to_be_bytes());
-    let len = come(reader, &r.len.to_be_bytes());
+    let stamp = next_bytes_equal(reader, &r.stamp.to_be_bytes());
+    let len = next_bytes_equal(reader, &r.len.to_be_bytes());
     let modes = [r.traps.owner_modes().bits(), 0];
-    let traps = come(reader, &modes);
+    let traps = next_bytes_equal(reader, &modes);
     let others = zeros_come(reader, 16);
     let copy = copy_comes(reader, r.tape);
     let front = both(used, both(local, both(generation, lang)));

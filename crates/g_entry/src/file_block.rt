@@ -6,7 +6,7 @@ ghost use Rattle.g_trap.specs.TrapList.{IsOthers};
 ghost use Rattle.g_entry.specs.FileFields.{IsFile, IsCopy, AreSets, ArePlaces, lacks, file_block, on_tape, online_fields};
 ghost use Rattle.g_entry.specs.Formats.{is_place};
 
-use crate::compare::{both, come, rec_comes, zeros_come};
+use crate::compare::{both, next_bytes_equal, rec_comes, zeros_come};
 use crate::put::{put_copy, put_lang, put_online, put_traps, put_word};
 use crate::same::is_same;
 use crate::take::{take_copy, take_lang, take_local, take_places, take_traps};
@@ -160,7 +160,7 @@ fn fields_stand(r: &FileRec, b: &Block) -> bool
     let mut reader = BlockReader::new(b);
     let fields = rec_comes(&mut reader, r);
     let flag = [online_flag(r.len)];
-    let online = come(&mut reader, &flag);
+    let online = next_bytes_equal(&mut reader, &flag);
     let zeros = zeros_come(&mut reader, 451);
     both(fields, both(online, zeros))
 }
@@ -253,7 +253,7 @@ fn keep_traps(owner: u8, traps: &Traps) -> bool
     ensures others { IsOthers traps.now.others }
 {
     let _owner_modes = traps.owner_modes().bits();
-    are_sets(traps.others()) && lack(owner, traps.others())
+    are_sets(traps.others()) && is_absent(owner, traps.others())
 }
 
 /// Whether the modes are sets, as all that a program makes are.
@@ -263,7 +263,7 @@ fn are_sets(others: &[(u8, Modes)]) -> bool
     others.iter().all(|(_, modes)| modes.bits() < 32)
 }
 
-fn lack(owner: u8, others: &[(u8, Modes)]) -> bool
+fn is_absent(owner: u8, others: &[(u8, Modes)]) -> bool
     ensures { result ≡ lacks owner others.now }
 {
     others.iter().all(|(user, _)| *user != owner)

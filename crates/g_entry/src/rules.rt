@@ -36,10 +36,10 @@ fn places_are_kept(users: &[UserRec]) -> bool
 fn place_is_kept(i: usize, user: &UserRec) -> bool
     ensures { IsTrue result ↔ KeepsPlace i user.now }
 {
-    user.number as usize == i && stands_rightly(i, user)
+    user.number as usize == i && is_valid_user_place(i, user)
 }
 
-fn stands_rightly(i: usize, user: &UserRec) -> bool
+fn is_valid_user_place(i: usize, user: &UserRec) -> bool
     ensures { IsTrue result ↔ StandsRightly i user.now }
 {
     match i {

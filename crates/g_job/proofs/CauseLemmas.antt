@@ -1,7 +1,7 @@
 -- An honest program's work is over by its last answer.
 use Rattle.std.proofs.Common.{◌≡◌, ℕ, List, [], ◌∷◌, Option, Some, Err, refl, sym, ap, ◌∙◌, subst}
-use Rattle.g_act.specs.Causes.{CauseOf, GoesOn, IsHonest, IsOther, StopsAt, last_answer}
-use Rattle.g_act.specs.State.{Broken, Stop, Waits, Work}
+use Rattle.g_turn.specs.Causes.{CauseOf, GoesOn, IsHonest, IsOther, StopsAt, last_answer}
+use Rattle.g_turn.specs.State.{Broken, Stop, Waits, Work}
 use Rattle.g_job.specs.State.{JobState}
 use Rattle.g_job.specs.Turns.{turn_work}
 use Rattle.g_job.proofs.TurnBounds.{turn_honest}

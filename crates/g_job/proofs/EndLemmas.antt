@@ -7,7 +7,7 @@ use Rattle.g_budget.specs.declared.tariff.Charge.{Charge}
 use Rattle.g_job.specs.Ends.{behind_turn, charged, end_by, is_free, is_money_up, is_time_up, money_left, money_of, turn_end, turn_of, units_left, units_of, up_line}
 use Rattle.g_job.specs.Rules.{IsJob}
 use Rattle.g_job.specs.Spends.{ComesTo, EndsFor, Spends}
-use Rattle.g_act.specs.State.{Broken, Done, Full, Stop, Waits, Work}
+use Rattle.g_turn.specs.State.{Broken, Done, Full, Stop, Waits, Work}
 use Rattle.g_job.specs.State.{JobState}
 
 -- a turn ends in one way, charged or not

@@ -9,12 +9,12 @@ use Rattle.g_budget.specs.declared.tariff.Usage.{Usage}
 use Rattle.g_job.specs.Begun.{room_of}
 use Rattle.g_job.specs.Ending.{IsClear, IsWaiting, turn_by, with_last}
 use Rattle.g_job.specs.Ends.{IsTurn, behind_turn, charged, charged_end, end_by, is_free, last_line, money_of, turn_of, units_of}
-use Rattle.g_act.specs.Making.{IsMade}
+use Rattle.g_turn.specs.Making.{IsMade}
 use Rattle.g_job.specs.Rules.{IsJob, IsPending, most_bytes}
-use Rattle.g_act.specs.State.{Broken, Desk, Done, Full, Pending, Stop, Waits, Work}
+use Rattle.g_turn.specs.State.{Broken, Desk, Done, Full, Pending, Stop, Waits, Work}
 use Rattle.g_job.specs.State.{JobState}
-use Rattle.g_act.specs.Values.{stop_of}
-use Rattle.g_act.specs.declared.made.Made.{Made}
+use Rattle.g_turn.specs.Values.{stop_of}
+use Rattle.g_turn.specs.declared.turn_work.TurnWork.{TurnWork}
 use Rattle.g_job.specs.declared.turn.Turn.{Turn}
 use Rattle.g_job.proofs.KeepLemmas.{file_of, rules_kept}
 use Rattle.g_lines.specs.Lines.{ended}
@@ -167,7 +167,7 @@ by_free (Some (Waits serial)) free j w charge = absurd (true≢false free)
 by_free (Some Broken) free j w charge = absurd (true≢false free)
 
 module _ {F : Type 0} (calls : Shared F (Bor Usage × Unit {0}) Charge) (rule : F) where
-  pub charged_turn : (j : JobState) (made : Made) (charge : Charge) (t : Turn) (new : JobState) → is_free (option_map stop_of made.stop) ≡ false
+  pub charged_turn : (j : JobState) (made : TurnWork) (charge : Charge) (t : Turn) (new : JobState) → is_free (option_map stop_of made.stop) ≡ false
       → FnReturnsAt calls rule (record { orders = made.orders; blocks = made.blocks }) charge
       → ((w : Work) → w.desk ≡ j.desk → w.text ≡ made.text → (let both : Turn × JobState = (t, new) in both ≡ charged_end (option_map stop_of made.stop) j w charge))
       → (w : Work) → IsMade j.desk made w → IsTurn calls rule j w t new

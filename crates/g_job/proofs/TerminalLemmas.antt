@@ -3,12 +3,12 @@ use Rattle.std.proofs.Common.{◌≡◌, ◌∙◌, ◌<◌, Bool, true, false, 
 use Rattle.std.proofs.lemmas.Bool.{false≢true}
 use Rattle.std.specs.Fn.{Shared}
 use denote.Ref.{Bor}
-use Rattle.g_act.proofs.DocumentLemmas.{begins_leaves}
-use Rattle.g_act.proofs.WellThen.{well_gives}
-use Rattle.g_act.specs.Bounds.{AlwaysGives}
-use Rattle.g_act.specs.State.{Broken, Desk, Done, Full, Pending, Stop, Waits, Work}
-use Rattle.g_act.specs.Steps.{RanWell}
-use Rattle.g_act.specs.Typing.{can_go_on}
+use Rattle.g_turn.proofs.DocumentLemmas.{begins_leaves}
+use Rattle.g_turn.proofs.WellThen.{well_gives}
+use Rattle.g_turn.specs.Bounds.{AlwaysGives}
+use Rattle.g_turn.specs.State.{Broken, Desk, Done, Full, Pending, Stop, Waits, Work}
+use Rattle.g_turn.specs.Steps.{RanWell}
+use Rattle.g_turn.specs.Typing.{can_go_on}
 use Rattle.g_budget.specs.declared.tariff.Charge.{Charge}
 use Rattle.g_budget.specs.declared.tariff.Usage.{Usage}
 use Rattle.g_job.specs.Begun.{begin, room_of}

@@ -1,13 +1,13 @@
 -- The programs of turns are honest, and keep the limits.
 use Rattle.std.proofs.Common.{ℕ, ◌+◌, ◌-◌, ◌≤◌, List, length, Option, Some, None, IfSome, lit≤, arith}
-use Rattle.g_act.specs.Bounds.{AlwaysGives, IsWithin}
-use Rattle.g_act.specs.Causes.{IsHonest}
-use Rattle.g_act.specs.State.{AgainCommand, AgainLine, Pending}
-use Rattle.g_act.specs.Turns.{begins, with_kept}
-use Rattle.g_act.proofs.BoundLemmas.{gives_more, within_of}
-use Rattle.g_act.proofs.CommandBounds.{does_fired_gives, line_gives, runs_or_takes_gives}
-use Rattle.g_act.proofs.CommandLemmas.{begins_honest}
-use Rattle.g_act.proofs.VerbBounds.{In}
+use Rattle.g_turn.specs.Bounds.{AlwaysGives, IsWithin}
+use Rattle.g_turn.specs.Causes.{IsHonest}
+use Rattle.g_turn.specs.State.{AgainCommand, AgainLine, Pending}
+use Rattle.g_turn.specs.Turns.{begins, with_kept}
+use Rattle.g_turn.proofs.BoundLemmas.{gives_more, within_of}
+use Rattle.g_turn.proofs.CommandBounds.{does_fired_gives, line_gives, runs_or_takes_gives}
+use Rattle.g_turn.proofs.CommandLemmas.{begins_honest}
+use Rattle.g_turn.proofs.VerbBounds.{In}
 use Rattle.g_job.specs.Begun.{begin, room_of}
 use Rattle.g_job.specs.Rules.{IsJob, IsPending}
 use Rattle.g_job.specs.State.{JobState}

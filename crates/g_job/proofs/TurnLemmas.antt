@@ -8,20 +8,20 @@ use Rattle.g_budget.specs.Tariff.{IsCharge, IsTariff, IsUsage}
 use Rattle.g_budget.specs.declared.tariff.Charge.{Charge}
 use Rattle.g_budget.specs.declared.tariff.Usage.{Usage}
 use Rattle.g_job.specs.Begun.{begin, room_of}
-use Rattle.g_act.specs.Bounds.{IsKeptWithin, IsWithin}
-use Rattle.g_act.specs.Causes.{CauseOf, last_answer}
+use Rattle.g_turn.specs.Bounds.{IsKeptWithin, IsWithin}
+use Rattle.g_turn.specs.Causes.{CauseOf, last_answer}
 use Rattle.g_job.specs.Ends.{IsPriced, IsTurn, end_by, turn_end}
-use Rattle.g_act.specs.Going.{IsAgain, IsReady}
-use Rattle.g_act.specs.Making.{FewBlocks, IsMade}
+use Rattle.g_turn.specs.Going.{IsAgain, IsReady}
+use Rattle.g_turn.specs.Making.{FewBlocks, IsMade}
 use Rattle.g_job.specs.Making.{Makes}
 use Rattle.g_job.specs.Rules.{IsGoneOnWith, IsJob, IsPending}
 use Rattle.g_job.specs.Spends.{ComesTo, Spends, ToldAsBefore}
-use Rattle.g_act.specs.State.{AgainCommand, AgainLine, Broken, Desk, Done, Full, Pending, Stop, Waits, Work}
+use Rattle.g_turn.specs.State.{AgainCommand, AgainLine, Broken, Desk, Done, Full, Pending, Stop, Waits, Work}
 use Rattle.g_job.specs.State.{JobState}
-use Rattle.g_act.specs.Steps.{RanWell}
-use Rattle.g_act.specs.Turns.{begins}
+use Rattle.g_turn.specs.Steps.{RanWell}
+use Rattle.g_turn.specs.Turns.{begins}
 use Rattle.g_job.specs.Turns.{turn_work}
-use Rattle.g_act.specs.declared.made.Made.{Made}
+use Rattle.g_turn.specs.declared.turn_work.TurnWork.{TurnWork}
 use Rattle.g_job.specs.declared.turn.Turn.{Turn}
 use Rattle.g_job.specs.declared.turn.Turn.TheVariants as turn
 use Rattle.g_job.proofs.CauseLemmas.{turn_cause}
@@ -65,7 +65,7 @@ gone_of j w rules going within ready =
 
 module _ {S : Type 0} (answers : S → List ℕ → StoreCall → Answer → S → Type 0) (is_spent : S → Bool) (can_wait : S → ℕ → Bool) where
   -- the work of a turn was done
-  pub makes : (j job : JobState) → j ≡ job → (old : S) (left : Desk) (handed : Made) (w : Work) (new : S) → IsJob j → job.over ≡ false → length j.desk.units.writers ≤ 16
+  pub makes : (j job : JobState) → j ≡ job → (old : S) (left : Desk) (handed : TurnWork) (w : Work) (new : S) → IsJob j → job.over ≡ false → length j.desk.units.writers ≤ 16
       → RanWell answers is_spent can_wait j.user old (turn_work j) w new → IsReady w → IsMade left handed w → Makes answers is_spent can_wait job old left handed w new
   makes j job same old left handed w new rules going few r ready made =
       let goes : j.over ≡ false = ap (λ (x : JobState). x.over) same ∙ going in

@@ -1,13 +1,13 @@
 -- Programs that were run over any store: what follows of how they ended.
 use Rattle.std.proofs.Common.{◌≡◌, ◌↔◌, ◌≤◌, length, ℕ, Bool, true, false, List, Option, Some, Ok, Err, refl, sym, ap, ◌∙◌, subst}
 use Rattle.std.proofs.lemmas.Bool.{false≢true}
-use Rattle.g_act.specs.Bounds.{AlwaysGives, IsWithin, MayAnswer}
+use Rattle.g_turn.specs.Bounds.{AlwaysGives, IsWithin, MayAnswer}
 use Rattle.g_job.specs.Begun.{room_of}
-use Rattle.g_act.specs.Causes.{GoesOn, IsHonest, IsOther, StopsAt}
+use Rattle.g_turn.specs.Causes.{GoesOn, IsHonest, IsOther, StopsAt}
 use Rattle.g_job.specs.Rules.{IsJob}
-use Rattle.g_act.specs.State.{Broken, Stop, Waits, Work}
+use Rattle.g_turn.specs.State.{Broken, Stop, Waits, Work}
 use Rattle.g_job.specs.State.{JobState}
-use Rattle.g_act.specs.Steps.{IsStep, RanWell}
+use Rattle.g_turn.specs.Steps.{IsStep, RanWell}
 use Rattle.g_job.specs.Turns.{turn_work}
 use Rattle.g_job.proofs.TurnBounds.{turn_within, turn_honest}
 use Rattle.g_plain.specs.Asks.{Answer, Asks, Call, Gives, IsAnswer, Ran}

@@ -1,7 +1,7 @@
 -- What the code of a turn's end keeps, and what it writes.
 use Rattle.std.specs.Prelude.{Bool, IfSome, List, None, Option, Some, false, is_some, length, true, ℕ, ◌++◌, ◌<◌, ◌≡◌}
 use Rattle.g_job.specs.Rules.{IsPending}
-use Rattle.g_act.specs.State.{Pending}
+use Rattle.g_turn.specs.State.{Pending}
 use Rattle.g_job.specs.State.{JobState}
 use Rattle.g_job.specs.declared.turn.Turn.{Turn}
 use Rattle.g_job.specs.declared.turn.Turn.TheVariants as turn

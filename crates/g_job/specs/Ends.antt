@@ -4,7 +4,7 @@ use Rattle.std.specs.Fn.{FnReturnsAt, Shared}
 use denote.Ref.{Bor}
 use Rattle.g_budget.specs.declared.tariff.Charge.{Charge}
 use Rattle.g_budget.specs.declared.tariff.Usage.{Usage}
-use Rattle.g_act.specs.State.{Broken, Full, Stop, Waits, Work}
+use Rattle.g_turn.specs.State.{Broken, Full, Stop, Waits, Work}
 use Rattle.g_job.specs.State.{JobState}
 use Rattle.g_job.specs.declared.turn.Turn.{Turn}
 use Rattle.g_job.specs.declared.turn.Turn.TheVariants as turn

@@ -1,10 +1,10 @@
 -- The work of a turn, done and handed over.
 use Rattle.std.specs.Prelude.{Bool, List, ℕ}
-use Rattle.g_act.specs.Bounds.{IsWithin}
-use Rattle.g_act.specs.Making.{IsMade}
-use Rattle.g_act.specs.State.{Desk, Work}
-use Rattle.g_act.specs.Steps.{RanWell}
-use Rattle.g_act.specs.declared.made.Made.{Made}
+use Rattle.g_turn.specs.Bounds.{IsWithin}
+use Rattle.g_turn.specs.Making.{IsMade}
+use Rattle.g_turn.specs.State.{Desk, Work}
+use Rattle.g_turn.specs.Steps.{RanWell}
+use Rattle.g_turn.specs.declared.turn_work.TurnWork.{TurnWork}
 use Rattle.g_job.specs.Begun.{room_of}
 use Rattle.g_job.specs.Rules.{IsGoneOnWith, IsJob}
 use Rattle.g_job.specs.State.{JobState}
@@ -14,7 +14,7 @@ use Rattle.g_plain.specs.declared.calls.StoreCall.{StoreCall}
 
 module _ {S : Type 0} (answers : S → List ℕ → StoreCall → Answer → S → Type 0) (is_spent : S → Bool) (can_wait : S → ℕ → Bool) where
   -- the work of a job's turn was done, from this store to that one, and handed over
-  pub record Makes (j : JobState) (old : S) (left : Desk) (handed : Made) (w : Work) (new : S) : Type 0 where
+  pub record Makes (j : JobState) (old : S) (left : Desk) (handed : TurnWork) (w : Work) (new : S) : Type 0 where
     pub rules : IsJob j
     pub made : IsMade left handed w
     pub ran : RanWell answers is_spent can_wait j.user old (turn_work j) w new

@@ -1,6 +1,6 @@
 -- The rules that a job keeps between its turns.
 use Rattle.std.specs.Prelude.{Bool, IfSome, List, false, is_some, length, true, ℕ, ◌+◌, ◌<◌, ◌≡◌, ◌≤◌}
-use Rattle.g_act.specs.State.{AgainCommand, AgainLine, Pending, Work}
+use Rattle.g_turn.specs.State.{AgainCommand, AgainLine, Pending, Work}
 use Rattle.g_job.specs.State.{JobState}
 use Rattle.g_lang.specs.Lines.{IsCommandText}
 

@@ -3,7 +3,7 @@ use Rattle.std.specs.Prelude.{None, Option, Some, false, true, ◌+◌, ◌<◌,
 use Rattle.g_budget.specs.declared.tariff.Charge.{Charge}
 use Rattle.g_job.specs.Begun.{standing_of}
 use Rattle.g_job.specs.Ends.{money_left, units_left}
-use Rattle.g_act.specs.State.{Broken, Done, Full, Stop, Waits, Work}
+use Rattle.g_turn.specs.State.{Broken, Done, Full, Stop, Waits, Work}
 use Rattle.g_job.specs.State.{JobState}
 use Rattle.g_job.specs.declared.turn.Turn.{Turn}
 use Rattle.g_job.specs.declared.turn.Turn.TheVariants as turn

@@ -1,6 +1,6 @@
 -- A JOB AT A TERMINAL: its document is held open, lines are typed behind it, and it goes on where it is ready.
 use Rattle.std.specs.Prelude.{Bool, List, Some, [], is_some, length, true, ℕ, ◌<◌, ◌||◌, ◌≡◌, ◌⊎◌}
-use Rattle.g_act.specs.State.{Work}
+use Rattle.g_turn.specs.State.{Work}
 use Rattle.g_job.specs.State.{JobState}
 use Rattle.g_macro.specs.Holding.{are_ready, document_level, finished, held_open, with_typed}
 use Rattle.g_macro.specs.Levels.{Stack}

@@ -2,19 +2,19 @@
 ghost use Rattle.std.specs.Prelude.{◌≡◌, ◌≤◌, ◌+◌, ◌++◌, min, None, Some, false, length, option_map, true, IfOk, IfSome, OnErr, OnOk};
 ghost use Rattle.g_budget.specs.Tariff.{IsCharge, IsTariff};
 ghost use Rattle.g_job.specs.Begun.{room_of};
-ghost use Rattle.g_act.specs.Bounds.{IsWithin};
+ghost use Rattle.g_turn.specs.Bounds.{IsWithin};
 ghost use Rattle.g_job.specs.Ends as ends;
 ghost use Rattle.g_job.specs.Ending.{IsClear, IsWaiting, turn_by, up_text, with_last};
-ghost use Rattle.g_act.specs.Making.{IsMade};
+ghost use Rattle.g_turn.specs.Making.{IsMade};
 ghost use Rattle.g_job.specs.Rules.{IsGoneOnWith};
-ghost use Rattle.g_act.specs.State.{Work};
-ghost use Rattle.g_act.specs.Values.{pending_of, stop_of};
+ghost use Rattle.g_turn.specs.State.{Work};
+ghost use Rattle.g_turn.specs.Values.{pending_of, stop_of};
 ghost use Rattle.g_lines.specs.Lines.{ended};
 ghost use Rattle.g_monitor.specs.JobLines.{job_line};
 
 use crate::Turn;
 use crate::job::Job;
-use g_act::{Again, Made, Stop};
+use g_turn::{Suspended, TurnWork, Stop};
 use g_base::NoMemory;
 use g_budget::{Charge, Tariff, Usage};
 use g_monitor::{JobLine, push_job_line};
@@ -27,7 +27,7 @@ impl Job {
         &mut self,
         alloc: Global,
         tariff: &Tariff<F>,
-        made: Made,
+        made: TurnWork,
     ) -> Result<Turn, NoMemory>
         requires open { self.old.over ≡ false }
         requires clear { IsClear self.old }
@@ -58,7 +58,7 @@ impl Job {
         &mut self,
         alloc: Global,
         tariff: &Tariff<F>,
-        made: Made,
+        made: TurnWork,
     ) -> Result<Turn, NoMemory>
         requires open { self.old.over ≡ false }
         requires clear { IsClear self.old }
@@ -76,7 +76,7 @@ impl Job {
         let charge = tariff.charge(&usage);
         match self.settle(alloc, &made.text, charge, made.stop) {
             Ok(turn) => {
-                self.take_back(made.text);
+                self.reuse_buffer(made.text);
                 Ok(turn)
             }
             Err(NoMemory) => Err(NoMemory),
@@ -85,14 +85,14 @@ impl Job {
 
     /// Takes back the text of a turn, for the room that the next one's has then. It has no more bytes than the
     /// monitoring file, which keeps them.
-    fn take_back(&mut self, text: Text)
+    fn reuse_buffer(&mut self, text: Text)
         ensures { self.new ≡ self.old }
     {
-        self.work.take_back(text);
+        self.work.reuse_buffer(text);
     }
 
     /// The job waits for the reel of this serial, and goes on with this then.
-    fn wait_for(&mut self, serial: u32, again: Option<Again>)
+    fn wait_for(&mut self, serial: u32, again: Option<Suspended>)
         requires { IsWaiting self.old (option_map pending_of again) }
         ensures { self.new ≡ record self.old {
           pending = option_map pending_of again;
@@ -137,8 +137,8 @@ impl Job {
             (turn, self.new) ≡ ends.charged_end (option_map stop_of stop) self.old w charge) }
     {
         let last = self.last_line(alloc, stop, charge)?;
-        let units = cut(charge.units, self.allowance - self.used);
-        let money = cut(charge.money, self.money - self.used_money);
+        let units = at_most_left(charge.units, self.allowance - self.used);
+        let money = at_most_left(charge.money, self.money - self.used_money);
         add(&mut self.monitor, text, &last)?;
         self.used += units;
         self.used_money += money;
@@ -159,8 +159,8 @@ impl Job {
             (ends.last_line (option_map stop_of stop) self.now charge
             (ends.charged self.now w charge))) }
     {
-        let used = self.used + cut(charge.units, self.allowance - self.used);
-        let used_money = self.used_money + cut(charge.money, self.money - self.used_money);
+        let used = self.used + at_most_left(charge.units, self.allowance - self.used);
+        let used_money = self.used_money + at_most_left(charge.money, self.money - self.used_money);
         let line = match stop {
             Some(Stop::Full) => Some(JobLine::Full),
             Some(_) => Some(JobLine::End(used)),
@@ -175,7 +175,7 @@ impl Job {
 }
 
 /// What is charged: what the tariff says, cut to what is left.
-fn cut(charge: u64, left: u64) -> u64
+fn at_most_left(charge: u64, left: u64) -> u64
     ensures { result ≡ min charge left }
 {
     if charge <= left { charge } else { left }

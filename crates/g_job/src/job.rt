@@ -2,12 +2,12 @@
 ghost use Rattle.std.specs.Prelude.{◌≡◌, ◌≤◌, ◌↔◌, ℕ, List, Ok, false, true, IfOk, OnErr, length};
 ghost use Rattle.g_budget.specs.Tariff.{IsTariff};
 ghost use Rattle.g_job.specs.Begun.{job_begun, room_of, standing_of};
-ghost use Rattle.g_act.specs.Bounds.{IsWithin};
-ghost use Rattle.g_act.specs.Causes.{CauseOf, last_answer};
+ghost use Rattle.g_turn.specs.Bounds.{IsWithin};
+ghost use Rattle.g_turn.specs.Causes.{CauseOf, last_answer};
 ghost use Rattle.g_job.specs.Ends.{IsTurn};
 ghost use Rattle.g_job.specs.Rules.{most_bytes};
 ghost use Rattle.g_job.specs.Spends.{KeepsSeat, Spends, ToldAsBefore};
-ghost use Rattle.g_act.specs.State.{Work};
+ghost use Rattle.g_turn.specs.State.{Work};
 ghost use Rattle.g_job.specs.Turns.{turn_work};
 ghost use Rattle.g_lines.specs.Lines.{ended};
 ghost use Rattle.g_monitor.specs.JobLines.{header};
@@ -17,7 +17,7 @@ ghost use Rattle.g_sched.specs.Rule.{IsInRange};
 
 use crate::new_job::NewJob;
 use crate::turn::Turn;
-use g_act::{Again, Work};
+use g_turn::{Suspended, Work};
 use g_base::NoMemory;
 use g_budget::{Charge, Tariff, Usage};
 use g_macro::Levels;
@@ -43,7 +43,7 @@ pub struct Job {
     pub(crate) turns: u64,
     pub(crate) work: Work,
     /// What the next turn goes on with, where the last one waited.
-    pub(crate) again: Option<Again>,
+    pub(crate) again: Option<Suspended>,
     pub(crate) wants: Option<u32>,
     pub(crate) monitor: Text,
     pub(crate) over: bool,

@@ -3,14 +3,14 @@ ghost use Rattle.std.specs.Prelude.{◌≡◌, ◌≤◌, ℕ, List, length, Opt
 ghost use Rattle.g_budget.specs.Tariff.{IsCharge};
 ghost use Rattle.g_budget.specs.declared.tariff.Charge.{Charge};
 ghost use Rattle.g_job.specs.Begun.{room_of};
-ghost use Rattle.g_act.specs.Bounds.{AlwaysGives, IsWithin};
-ghost use Rattle.g_act.specs.Causes.{CauseOf, IsHonest, last_answer};
+ghost use Rattle.g_turn.specs.Bounds.{AlwaysGives, IsWithin};
+ghost use Rattle.g_turn.specs.Causes.{CauseOf, IsHonest, last_answer};
 ghost use Rattle.g_job.specs.Ends.{is_free, turn_end};
 ghost use Rattle.g_job.specs.Rules.{IsGoneOnWith, IsJob};
 ghost use Rattle.g_job.specs.Spends.{ComesTo, Spends};
-ghost use Rattle.g_act.specs.State.{Broken, Waits, Work};
+ghost use Rattle.g_turn.specs.State.{Broken, Waits, Work};
 ghost use Rattle.g_job.specs.State.{JobState};
-ghost use Rattle.g_act.specs.Steps.{RanWell};
+ghost use Rattle.g_turn.specs.Steps.{RanWell};
 ghost use Rattle.g_job.specs.Terminal.{LeavesDocument};
 ghost use Rattle.g_job.specs.Turns.{turn_work};
 ghost use Rattle.g_lines.specs.Lines.{lines_of};

@@ -1,12 +1,12 @@
 //! The work of a turn of a job, up to its end.
 ghost use Rattle.std.specs.Prelude.{◌≡◌, ℕ, None, false, IfOk, OnErr, OnOk};
 ghost use Rattle.g_job.specs.Making.{Makes};
-ghost use Rattle.g_act.specs.State.{Work};
+ghost use Rattle.g_turn.specs.State.{Work};
 ghost use Rattle.g_job.specs.Turns.{turn_work};
 ghost use Rattle.g_plain.specs.Asks.{RanInPart};
 
 use crate::job::Job;
-use g_act::{Again, Asker, Made};
+use g_turn::{Suspended, Asker, TurnWork};
 use g_base::NoMemory;
 use g_plain::Filestore;
 use std::alloc::Global;
@@ -20,7 +20,7 @@ impl Job {
         &mut self,
         alloc: Global,
         store: &mut S,
-    ) -> Result<Made, NoMemory>
+    ) -> Result<TurnWork, NoMemory>
         requires running { S.is_spent store.old ≡ false }
         requires open { self.old.over ≡ false }
         ensures ok { IfOk result (λ made. (w : Work) × Makes S.answers S.is_spent S.can_wait
@@ -54,7 +54,7 @@ impl Job {
 }
 
 /// What the job waits with, which it does no more. It is large, and mostly nothing: so it is moved only where it is there.
-fn take_again(again: &mut Option<Again>) -> Option<Again>
+fn take_again(again: &mut Option<Suspended>) -> Option<Suspended>
     ensures value { result ≡ again.old }
     ensures none { again.new ≡ None }
 {

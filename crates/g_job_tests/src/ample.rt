@@ -1,7 +1,7 @@
 //! A turn of one line, and a job that begins and a turn of it, with ample memory.
 ghost use Rattle.std.specs.Prelude.{◌≡◌, IfOk, false};
 
-use g_act::{Asker, Made, Work};
+use g_turn::{Asker, TurnWork, Work};
 use g_budget::{Charge, Tariff, Usage};
 use g_job::{Job, NewJob, Turn};
 use g_lines::Document;
@@ -20,7 +20,7 @@ fn work_of(alloc: Global, document: &[u8]) -> Result<Work, Fail> {
 }
 
 /// What a turn of a document makes over a new store.
-fn made_of(alloc: Global, document: &[u8]) -> Result<Made, Fail> {
+fn made_of(alloc: Global, document: &[u8]) -> Result<TurnWork, Fail> {
     let mut work = work_of(alloc, document)?;
     let mut store = PlainStore::new(alloc)?;
     work.begin(alloc);

@@ -19,7 +19,7 @@ use Rattle.g_tape.specs.declared.fault.TapeFault.TheVariants as tape
 use Rattle.g_tape.specs.Rack.{AreReels, Rack, reel, refuses_unmount}
 use Rattle.g_tape.specs.Reads.{OnlyReads, blocks_in, blocks_of, unread}
 use Rattle.g_tape.specs.Reel.{Reel}
-use Rattle.g_state.specs.Meaning.{joined, told_reels}
+use Rattle.g_store_meaning.specs.Meaning.{joined, told_reels}
 use Rattle.g_look.specs.declared.broken.Lie.{Lie}
 use Rattle.g_look.specs.declared.broken.Lie.TheVariants.{Disc, Tape}
 use Rattle.g_look.specs.declared.fault.LookFault.{LookFault}

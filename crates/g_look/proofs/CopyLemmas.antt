@@ -13,9 +13,9 @@ use Rattle.g_tape.specs.Reads.{blocks_of, unread}
 use Rattle.g_tape.specs.Reel.{Reel}
 use Rattle.g_incr.specs.Layout.{Dump}
 use Rattle.g_shelf.specs.Completed.{AreCompleted, all_dumps}
-use Rattle.g_state.specs.Meaning.{IsContent, told_reels}
-use Rattle.g_state.proofs.OneLemmas.{is_shelved, on_reel}
-use Rattle.g_state_laws.proofs.UpOneLemmas.{on_all}
+use Rattle.g_store_meaning.specs.Meaning.{IsContent, told_reels}
+use Rattle.g_store_meaning.proofs.OneLemmas.{is_shelved, on_reel}
+use Rattle.g_laws_store.proofs.UpOneLemmas.{on_all}
 use Rattle.g_look.specs.declared.fault.LookFault.{LookFault}
 use Rattle.g_look.specs.Copies.{AreBytesAt, IsHeldAt, IsHeldBy, IsHeldNowhere}
 use Rattle.g_look.specs.Looks.{AreMounted, OfDumps}

@@ -24,7 +24,7 @@ use Rattle.g_dirs.specs.Directory.{AreCopies, AreRecords, Directory, IsDirectory
 use Rattle.g_dirs.specs.Image.{StandsFor, block_of}
 use Rattle.g_tree.specs.Records.{IsRecords}
 use Rattle.g_tree.proofs.ListLemmas.{contains_first, contains_more, map_of_map}
-use Rattle.g_contents.specs.Contents.{Contents, File, contents_of, file_of}
+use Rattle.g_disc_contents.specs.Contents.{Contents, File, contents_of, file_of}
 use Rattle.g_online.proofs.BytesLemmas.{IsItsCopy, copies_are}
 use Rattle.g_look.specs.Standing.{IsSound, IsStanding, directory_in}
 

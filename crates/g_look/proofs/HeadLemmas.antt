@@ -13,13 +13,13 @@ use Rattle.g_tape.specs.Rack.{Rack, reel, refuses_unmount, told_of}
 use Rattle.g_tape.specs.Reads.{blocks_in, blocks_of, unread}
 use Rattle.g_tape.specs.Reel.{Reel}
 use Rattle.g_tree.proofs.ListLemmas.{contains_cases, contains_first, contains_more, pairs_first, pairs_rest}
-use Rattle.g_contents.specs.Contents.{Contents}
+use Rattle.g_disc_contents.specs.Contents.{Contents}
 use Rattle.g_incr.specs.Layout.{Dump, StandsOn, count_of, ends}
 use Rattle.g_shelf.specs.Completed.{AreNext, all_dumps, end_behind, end_of}
 use Rattle.g_shelf.proofs.QuietLemmas.{within}
-use Rattle.g_state.specs.Belong.{IsIntended, IsPlaced}
-use Rattle.g_state.specs.Meaning.{told_reels}
-use Rattle.g_state.proofs.OneLemmas.{is_shelved, on_reel}
+use Rattle.g_store_meaning.specs.Belong.{IsIntended, IsPlaced}
+use Rattle.g_store_meaning.specs.Meaning.{told_reels}
+use Rattle.g_store_meaning.proofs.OneLemmas.{is_shelved, on_reel}
 use Rattle.g_restore.specs.declared.dumps.Found.{Found}
 use Rattle.g_restore.specs.Known.{Known, known, known_of}
 use Rattle.g_look.specs.declared.broken.Broken.{Broken}

@@ -8,10 +8,10 @@ use Rattle.g_tape.specs.Reel.{Reel}
 use Rattle.g_dirs.specs.declared.dirs.Dirs.{Dirs}
 use Rattle.g_dirs.specs.Directory.{Directory}
 use Rattle.g_dirs.specs.Image.{StandsFor}
-use Rattle.g_contents.specs.Contents.{Contents, Holds, contents_of}
+use Rattle.g_disc_contents.specs.Contents.{Contents, Holds, contents_of}
 use Rattle.g_incr.specs.Layout.{Dump}
 use Rattle.g_shelf.specs.Completed.{AreShelved, all_dumps}
-use Rattle.g_state.specs.Reading.{AllTold}
+use Rattle.g_store_meaning.specs.Reading.{AllTold}
 use Rattle.g_restore.specs.declared.dumps.Found.{Found}
 use Rattle.g_restore.specs.Places.{IsHeld}
 use Rattle.g_look.specs.declared.broken.Broken.{Broken}
@@ -29,7 +29,7 @@ use Rattle.g_look.specs.Standing.{IsStanding, directory_in, found_in}
 use Rattle.g_look.specs.Text.{IsFoundOn}
 use Rattle.g_look.specs.Texts.{AreBytesOther, FileAgrees}
 use Rattle.g_look.proofs.BreakLemmas.{broken_is_not}
-use Rattle.g_contents.proofs.HoldLemmas.{holds_one}
+use Rattle.g_disc_contents.proofs.HoldLemmas.{holds_one}
 use Rattle.g_look.proofs.FitLemmas.{fits_belong}
 use Rattle.g_look.proofs.HeadLemmas.{told_blocks}
 use Rattle.g_look.proofs.RecLemmas.{first12, fits_all}

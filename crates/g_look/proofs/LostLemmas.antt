@@ -7,8 +7,8 @@ use Rattle.g_name.specs.declared.full.Full.{Full}
 use Rattle.g_incr.specs.Layout.{Dump}
 use Rattle.g_incr.specs.Plan.{numbered_from}
 use Rattle.g_incr.proofs.NumberLemmas.{numbered-append}
-use Rattle.g_state.specs.Meaning.{Gathers}
-use Rattle.g_state.proofs.GatheredLemmas.{all_front, files_front, gathers_front}
+use Rattle.g_store_meaning.specs.Meaning.{Gathers}
+use Rattle.g_store_meaning.proofs.GatheredLemmas.{all_front, files_front, gathers_front}
 use Rattle.g_restore.specs.Lost.{AreApart, GoTogether, IsFirstLost, IsLostDirectory}
 
 -- where all directories go together, those of the first users do

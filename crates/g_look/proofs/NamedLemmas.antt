@@ -15,12 +15,12 @@ use Rattle.g_tape.proofs.ReadLemmas.{then_read}
 use Rattle.g_dirs.specs.declared.dirs.Dirs.{Dirs}
 use Rattle.g_dirs.specs.Directory.{Directory, copy_at}
 use Rattle.g_dirs.specs.Image.{StandsFor}
-use Rattle.g_contents.specs.Contents.{Contents, File, Holds, contents_of, recs_in}
-use Rattle.g_contents.proofs.HoldLemmas.{holds_one}
+use Rattle.g_disc_contents.specs.Contents.{Contents, File, Holds, contents_of, recs_in}
+use Rattle.g_disc_contents.proofs.HoldLemmas.{holds_one}
 use Rattle.g_incr.specs.Layout.{Dump}
 use Rattle.g_shelf.specs.Completed.{AreShelved, all_dumps}
-use Rattle.g_state.specs.Meaning.{DumpedDirectory, files_in, told_reels}
-use Rattle.g_state.specs.Reading.{AllTold}
+use Rattle.g_store_meaning.specs.Meaning.{DumpedDirectory, files_in, told_reels}
+use Rattle.g_store_meaning.specs.Reading.{AllTold}
 use Rattle.g_restore.specs.declared.dumps.Found.{Found}
 use Rattle.g_restore.specs.Lost.{HasPlace}
 use Rattle.g_look.specs.declared.broken.Broken.{Broken}

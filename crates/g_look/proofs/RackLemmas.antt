@@ -8,7 +8,7 @@ use Rattle.g_plain.specs.declared.faults.StoreFault.{StoreFault}
 use Rattle.g_plain.specs.declared.faults.StoreFault.TheVariants as store
 use Rattle.g_incr.specs.Layout.{Dump, ends}
 use Rattle.g_shelf.specs.Completed.{all_dumps}
-use Rattle.g_state.proofs.OneLemmas.{Apart, are_right}
+use Rattle.g_store_meaning.proofs.OneLemmas.{Apart, are_right}
 use Rattle.g_restore.specs.declared.directory.Dumped.{Dumped}
 use Rattle.g_restore.specs.declared.dumps.Found.{Found}
 use Rattle.g_restore.specs.Known.{AreKnown, Known, known, known_of}

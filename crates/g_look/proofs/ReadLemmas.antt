@@ -18,10 +18,10 @@ use Rattle.g_tape.proofs.ReadLemmas.{read_then, then_read}
 use Rattle.g_incr.specs.Layout.{Dump, content_at, ends}
 use Rattle.g_shelf.specs.Completed.{AreShelved, all_dumps}
 use Rattle.g_shelf.proofs.QuietLemmas.{within}
-use Rattle.g_state.specs.Meaning.{IsContent, told_reels}
-use Rattle.g_state.specs.Reading.{ReelsTold}
-use Rattle.g_state.proofs.OneLemmas.{is_shelved, on_reel}
-use Rattle.g_state_steps.proofs.UnjamLemmas.{any_found}
+use Rattle.g_store_meaning.specs.Meaning.{IsContent, told_reels}
+use Rattle.g_store_meaning.specs.Reading.{ReelsTold}
+use Rattle.g_store_meaning.proofs.OneLemmas.{is_shelved, on_reel}
+use Rattle.g_laws_memory.proofs.UnjamLemmas.{any_found}
 use Rattle.g_restore.specs.Lost.{HasPlace}
 use Rattle.g_look.specs.declared.fault.LookFault.{LookFault}
 use Rattle.g_look.specs.Compared.{ComparedSoFar}

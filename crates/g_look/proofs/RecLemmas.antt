@@ -15,10 +15,10 @@ use Rattle.g_dirs.specs.declared.dirs.Dirs.{Dirs}
 use Rattle.g_dirs.specs.Directory.{copy_at}
 use Rattle.g_tree.specs.Records.{full_of}
 use Rattle.g_tree.proofs.RuleLemmas.{one_of_key}
-use Rattle.g_contents.specs.Contents.{Contents, File, contents_of, file_of}
+use Rattle.g_disc_contents.specs.Contents.{Contents, File, contents_of, file_of}
 use Rattle.g_incr.specs.Layout.{Dump}
 use Rattle.g_shelf.specs.Completed.{all_dumps}
-use Rattle.g_state.specs.Meaning.{IsContent, files_in}
+use Rattle.g_store_meaning.specs.Meaning.{IsContent, files_in}
 use Rattle.g_restore.specs.declared.dumps.Found.{Found}
 use Rattle.g_restore.specs.Lost.{HasPlace}
 use Rattle.g_restore.specs.Places.{IsHeld}

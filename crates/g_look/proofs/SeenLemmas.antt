@@ -12,8 +12,8 @@ use Rattle.g_tape.specs.Reel.{IsReel, Reel}
 use Rattle.g_incr.specs.Layout.{Dump}
 use Rattle.g_shelf.specs.Completed.{AreShelved, all_dumps}
 use Rattle.g_shelf.proofs.RackLemmas.{serials_kept}
-use Rattle.g_state.specs.Meaning.{told_reels}
-use Rattle.g_state.specs.Reading.{ReelsTold}
+use Rattle.g_store_meaning.specs.Meaning.{told_reels}
+use Rattle.g_store_meaning.specs.Reading.{ReelsTold}
 use Rattle.g_tree.specs.Records.{IsRecords}
 use Rattle.g_restore.specs.declared.directory.Dumped.{Dumped}
 use Rattle.g_restore.specs.Steps.{IsFolded}

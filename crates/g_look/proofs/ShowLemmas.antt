@@ -25,8 +25,8 @@ use Rattle.g_dirs.specs.Image.{StandsFor}
 use Rattle.g_tape.specs.Rack.{Rack}
 use Rattle.g_incr.specs.Layout.{Dump}
 use Rattle.g_shelf.specs.Completed.{AreShelved, all_dumps}
-use Rattle.g_state.specs.Meaning.{told_reels}
-use Rattle.g_state.specs.Reading.{ReelsTold}
+use Rattle.g_store_meaning.specs.Meaning.{told_reels}
+use Rattle.g_store_meaning.specs.Reading.{ReelsTold}
 use Rattle.g_look.specs.declared.fault.LookFault.{LookFault}
 use Rattle.g_look.specs.declared.fault.LookFault.TheVariants.{NoCopy}
 use Rattle.g_look.specs.Copies.{AreBytesAt}

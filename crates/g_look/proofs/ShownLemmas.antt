@@ -25,8 +25,8 @@ use Rattle.g_lines.specs.Lines.{ended, text_of}
 use Rattle.g_monitor.specs.Parts.{modes_text, shown_mode}
 use Rattle.g_trap.specs.declared.mode_set.Mode.TheVariants.{Read, Write, Append, Execute, Erase}
 use Rattle.g_shelf.specs.Completed.{all_dumps, end_of}
-use Rattle.g_state.specs.Meaning.{told_reels}
-use Rattle.g_state.proofs.OneLemmas.{is_shelved}
+use Rattle.g_store_meaning.specs.Meaning.{told_reels}
+use Rattle.g_store_meaning.proofs.OneLemmas.{is_shelved}
 use Rattle.g_restore.specs.declared.dumps.Found.{Found}
 use Rattle.g_restore.specs.Known.{AreKnown, Known, known, known_of}
 use Rattle.g_look.specs.declared.broken.Broken.{Broken}

@@ -8,8 +8,8 @@ use Rattle.g_entry.specs.declared.file_rec.TapeCopy.{TapeCopy}
 use Rattle.g_tape.specs.Reel.{Reel}
 use Rattle.g_incr.specs.Layout.{Dump, content_at, ends}
 use Rattle.g_shelf.specs.Completed.{all_dumps}
-use Rattle.g_state.specs.Meaning.{IsContent, joined}
-use Rattle.g_state.proofs.OneLemmas.{is_shelved, on_reel}
+use Rattle.g_store_meaning.specs.Meaning.{IsContent, joined}
+use Rattle.g_store_meaning.proofs.OneLemmas.{is_shelved, on_reel}
 use Rattle.g_restore.specs.declared.dumps.Found.{Found}
 use Rattle.g_look.specs.Seen.{IsSeen}
 use Rattle.g_look.specs.Texts.{IsTapeText}

@@ -4,7 +4,7 @@ use Rattle.g_copy.specs.declared.copy.DiscCopy.{DiscCopy}
 use Rattle.g_entry.specs.declared.file_rec.FileRec.{FileRec}
 use Rattle.g_disc.specs.Disc.{DiscState, ReadsByCause}
 use Rattle.g_tape.specs.Rack.{Rack}
-use Rattle.g_state.specs.Meaning.{told_reels}
+use Rattle.g_store_meaning.specs.Meaning.{told_reels}
 use Rattle.g_look.specs.Looks.{ReadsRackByCause}
 use Rattle.g_look.specs.Texts.{FileAgrees}
 

@@ -7,7 +7,7 @@ use Rattle.g_entry.specs.declared.file_rec.FileRec.{FileRec}
 use Rattle.g_entry.specs.declared.file_rec.TapeCopy.{TapeCopy}
 use Rattle.g_tape.specs.Rack.{Rack}
 use Rattle.g_incr.specs.Layout.{Dump}
-use Rattle.g_state.specs.Meaning.{IsContent}
+use Rattle.g_store_meaning.specs.Meaning.{IsContent}
 use Rattle.g_look.specs.Looks.{OfDumps}
 
 -- what was read at a copy, or that it is nowhere

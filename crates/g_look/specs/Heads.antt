@@ -3,10 +3,10 @@ use Rattle.std.specs.Prelude.{◌≡◌, ◌⊎◌, ℕ, ◌+◌, ◌^◌, ◌<�
 use Rattle.g_entry.specs.declared.head.Head.{Head}
 use Rattle.g_entry.specs.declared.head.Intent.{Intent}
 use Rattle.g_tape.specs.Reel.{Reel}
-use Rattle.g_contents.specs.Contents.{Contents}
+use Rattle.g_disc_contents.specs.Contents.{Contents}
 use Rattle.g_incr.specs.Layout.{Dump}
 use Rattle.g_shelf.specs.Completed.{all_dumps}
-use Rattle.g_state.specs.Belong.{IsIntended, IsPlaced}
+use Rattle.g_store_meaning.specs.Belong.{IsIntended, IsPlaced}
 use Rattle.g_restore.specs.declared.dumps.Found.{Found}
 use Rattle.g_look.specs.declared.broken.Broken.{Broken}
 use Rattle.g_look.specs.declared.broken.Broken.TheVariants.{TooNew, LastMissing, TooFar, NoReel, Misplaced}

@@ -3,7 +3,7 @@ use Rattle.std.specs.Prelude.{◌≡◌, ℕ, ◌≤◌, List, Option, Some, Non
 use Rattle.g_entry.specs.declared.file_rec.FileRec.{FileRec}
 use Rattle.g_tape.specs.Reel.{Reel}
 use Rattle.g_dirs.specs.declared.dirs.Dirs.{Dirs}
-use Rattle.g_contents.specs.Contents.{Contents, contents_of}
+use Rattle.g_disc_contents.specs.Contents.{Contents, contents_of}
 use Rattle.g_incr.specs.Layout.{Dump}
 use Rattle.g_shelf.specs.Completed.{all_dumps}
 use Rattle.g_restore.specs.declared.dumps.Found.{Found}

@@ -8,10 +8,10 @@ use Rattle.g_entry.specs.declared.file_rec.TapeCopy.{TapeCopy}
 use Rattle.g_tape.specs.Rack.{Rack}
 use Rattle.g_tape.specs.Reads.{HasRead}
 use Rattle.g_tape.specs.Reel.{Reel}
-use Rattle.g_contents.specs.Contents.{Contents, Holds, recs_in}
+use Rattle.g_disc_contents.specs.Contents.{Contents, Holds, recs_in}
 use Rattle.g_shelf.specs.Completed.{AreShelved, all_dumps}
 use Rattle.g_incr.specs.Layout.{Dump}
-use Rattle.g_state.specs.Meaning.{DumpedDirectory, files_in, told_reels}
+use Rattle.g_store_meaning.specs.Meaning.{DumpedDirectory, files_in, told_reels}
 use Rattle.g_look.specs.Texts.{IsDumpedPlace}
 
 -- each block of a record's copy on tape was read in between

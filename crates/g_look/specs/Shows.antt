@@ -13,7 +13,7 @@ use Rattle.g_tape.specs.Reel.{Reel}
 use Rattle.g_tree.specs.Records.{ForTree, full_of}
 use Rattle.g_incr.specs.Layout.{Dump}
 use Rattle.g_shelf.specs.Completed.{AreShelved, all_dumps}
-use Rattle.g_state.specs.Meaning.{IsContent}
+use Rattle.g_store_meaning.specs.Meaning.{IsContent}
 
 -- THE FILE THAT A PATH NAMES for input, where an absent user is MASTER
 pub record IsInput (d : Directory) (path : Path) (f : FileEntry) : Type 0 where

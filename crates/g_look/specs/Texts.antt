@@ -10,7 +10,7 @@ use Rattle.g_entry.specs.declared.user_rec.UserRec.{UserRec}
 use Rattle.g_dirs.specs.Directory.{copy_at}
 use Rattle.g_tape.specs.Reel.{Reel}
 use Rattle.g_tree.specs.Records.{full_of}
-use Rattle.g_state.specs.Meaning.{joined}
+use Rattle.g_store_meaning.specs.Meaning.{joined}
 use Rattle.g_look.specs.declared.broken.Broken.{Broken}
 use Rattle.g_look.specs.declared.broken.Broken.TheVariants.{Bytes}
 use Rattle.g_look.specs.declared.broken.Lie.{Lie}

@@ -6,7 +6,7 @@ ghost use Rattle.g_copy.specs.declared.copy.DiscCopy.{DiscCopy};
 ghost use Rattle.g_disc.specs.Disc.{ReadsByCause};
 ghost use Rattle.g_dirs.specs.Directory.{copy_at};
 ghost use Rattle.g_entry.specs.declared.file_rec.FileRec.{FileRec};
-ghost use Rattle.g_state.specs.Meaning.{told_reels};
+ghost use Rattle.g_store_meaning.specs.Meaning.{told_reels};
 ghost use Rattle.g_look.specs.Looks.{ReadsRackByCause};
 ghost use Rattle.g_look.specs.Reads.{AreRead, IsFileRead, IsOtherRead, IsReadAt};
 ghost use Rattle.g_look.specs.Standing.{IsSound};

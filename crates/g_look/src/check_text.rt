@@ -3,7 +3,7 @@ ghost use Rattle.std.specs.Prelude.{◌≡◌, ◌∷◌, ◌++◌, ℕ, IfOk, I
 ghost use Rattle.g_incr.specs.Layout.{Dump};
 ghost use Rattle.g_lines.specs.Lines.{text_of};
 ghost use Rattle.g_shelf.specs.Completed.{all_dumps};
-ghost use Rattle.g_state.specs.Meaning.{told_reels};
+ghost use Rattle.g_store_meaning.specs.Meaning.{told_reels};
 ghost use Rattle.g_look.specs.Seen.{IsSeen};
 ghost use Rattle.g_look.specs.Standing.{IsSound, found_in};
 ghost use Rattle.g_look.specs.Text.{disc_lines, rack_lines, verdict_line};

@@ -1,7 +1,7 @@
 //! The rules between the head of a directory and the dumps.
 ghost use Rattle.std.specs.Prelude.{◌≡◌, ◌↔◌, ◌<◌, ◌≤◌, ℕ, All, Contains, IfNone, IfSome, IsTrue, List};
 ghost use Rattle.g_entry.specs.HeadFields.{IsHead};
-ghost use Rattle.g_state.specs.Meaning.{told_reels};
+ghost use Rattle.g_store_meaning.specs.Meaning.{told_reels};
 ghost use Rattle.g_incr.specs.Layout.{Dump};
 ghost use Rattle.g_restore.specs.declared.dumps.Found.{Found};
 ghost use Rattle.g_look.specs.Heads.{EndsLow, HasNumber, HeadFits, IsFirstOfHead, IsIntentBroken, IsIntentPlaced, IsKnown, IsNamed, IsNew, IsOff, IsTooFar, IsTooNew, end_upto, end_with, found_ends};

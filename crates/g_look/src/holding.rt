@@ -3,8 +3,8 @@ ghost use Rattle.std.specs.Prelude.{◌≡◌, ◌⊎◌, Err, ℕ, All, IfErr, 
 ghost use Rattle.g_incr.specs.Layout.{Dump};
 ghost use Rattle.g_lines.specs.Lines.{text_of};
 ghost use Rattle.g_shelf.specs.Completed.{AreShelved};
-ghost use Rattle.g_state.specs.Meaning.{told_reels};
-ghost use Rattle.g_state.specs.Reading.{ReelsTold};
+ghost use Rattle.g_store_meaning.specs.Meaning.{told_reels};
+ghost use Rattle.g_store_meaning.specs.Reading.{ReelsTold};
 ghost use Rattle.g_look.specs.Looks.{ReadsRackByCause};
 ghost use Rattle.g_look.specs.Text.{rack_lines};
 

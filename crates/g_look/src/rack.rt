@@ -2,7 +2,7 @@
 ghost use Rattle.std.specs.Prelude.{◌≡◌, ◌⊎◌, All, Err, IfErr, IfOk, List, OnErr, true};
 ghost use Rattle.g_incr.specs.Layout.{Dump};
 ghost use Rattle.g_shelf.specs.Completed.{all_dumps};
-ghost use Rattle.g_state.specs.Meaning.{told_reels};
+ghost use Rattle.g_store_meaning.specs.Meaning.{told_reels};
 ghost use Rattle.g_restore.specs.Gathered.{HasFew};
 ghost use Rattle.g_restore.specs.Known.{AreKnown};
 ghost use Rattle.g_look.specs.Looks.{ReadsRackByCause};

@@ -4,7 +4,7 @@ ghost use Rattle.std.specs.List.{flat_map};
 ghost use Rattle.g_tape.specs.Reel.{Reel};
 ghost use Rattle.g_incr.specs.Layout.{Dump};
 ghost use Rattle.g_lines.specs.Lines.{ended, text_of};
-ghost use Rattle.g_state.specs.Meaning.{told_reels};
+ghost use Rattle.g_store_meaning.specs.Meaning.{told_reels};
 ghost use Rattle.g_restore.specs.Known.{known};
 ghost use Rattle.g_look.specs.Heads.{EndsLow, end_upto};
 ghost use Rattle.g_look.specs.Seen.{IsSeen};

@@ -1,6 +1,6 @@
 //! The bytes at a place on tape.
 ghost use Rattle.std.specs.Prelude.{◌≡◌, ◌⊎◌, ◌≤◌, ◌-◌, ◌++◌, All, Err, IfOk, OnErr, OnOk, length, take, true};
-ghost use Rattle.g_state.specs.Meaning.{joined, told_reels};
+ghost use Rattle.g_store_meaning.specs.Meaning.{joined, told_reels};
 ghost use Rattle.g_look.specs.Looks.{ReadsRackByCause};
 ghost use Rattle.g_look.specs.Reads.{IsReadFrom};
 ghost use Rattle.g_look.specs.Texts.{IsTapeText};

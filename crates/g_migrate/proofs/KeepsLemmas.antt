@@ -3,23 +3,23 @@ use Rattle.std.proofs.Common.{◌≡◌, ℕ, ◌<◌, Bool, true, false, List, 
 use Rattle.std.specs.Prelude.{◌⊎◌, ◌||◌, IfSome, is_some, not}
 use Rattle.g_tape.specs.Rack.{Rack}
 use Rattle.g_tape.specs.Reel.{Reel}
-use Rattle.g_contents.specs.Contents.{Contents, Holds, committed, taken_off, with_intent}
-use Rattle.g_contents.specs.Facts.{IsTied, OnlineFacts}
-use Rattle.g_contents.proofs.HoldLemmas.{holds_one}
+use Rattle.g_disc_contents.specs.Contents.{Contents, Holds, committed, taken_off, with_intent}
+use Rattle.g_disc_contents.specs.Facts.{IsTied, OnlineFacts}
+use Rattle.g_disc_contents.proofs.HoldLemmas.{holds_one}
 use Rattle.g_online.specs.declared.change.Change.TheVariants.{Unload}
 use Rattle.g_online.specs.Change.{changed, with_files}
-use Rattle.g_online.specs.Done.{AfterStop, HasChanged, HasStopped}
+use Rattle.g_online.specs.Outcomes.{AfterStop, HasChanged, HasStopped}
 use Rattle.g_incr.specs.Layout.{Dump, holds}
-use Rattle.g_state.specs.Answers.{Belongs, IsStore}
-use Rattle.g_state.specs.Belong.{DiscBelongs}
-use Rattle.g_state.specs.Laws.{IsQuiet}
-use Rattle.g_state.specs.Meaning.{told_reels}
-use Rattle.g_state.specs.Staying.{behind}
-use Rattle.g_state.specs.Up.{DumpFacts, IsOpen, IsUp, StoreFacts}
-use Rattle.g_state.proofs.ChangeLemmas.{files_belong}
-use Rattle.g_state.proofs.StayLemmas.{stays_open, stays_up}
-use Rattle.g_state_laws.proofs.DumpingLemmas.{events_stay_up}
-use Rattle.g_state_laws.proofs.TiedLemmas.{committed_belongs, devices_belong, moved, spent_store, spent_then}
+use Rattle.g_store_meaning.specs.Answers.{Belongs, IsStore}
+use Rattle.g_store_meaning.specs.Belong.{DiscBelongs}
+use Rattle.g_store_meaning.specs.Laws.{IsQuiet}
+use Rattle.g_store_meaning.specs.Meaning.{told_reels}
+use Rattle.g_store_meaning.specs.Staying.{behind}
+use Rattle.g_store_meaning.specs.Up.{DumpFacts, IsOpen, IsUp, StoreFacts}
+use Rattle.g_store_meaning.proofs.ChangeLemmas.{files_belong}
+use Rattle.g_store_meaning.proofs.StayLemmas.{stays_open, stays_up}
+use Rattle.g_laws_store.proofs.DumpingLemmas.{events_stay_up}
+use Rattle.g_laws_store.proofs.TiedLemmas.{committed_belongs, devices_belong, moved, spent_store, spent_then}
 use Rattle.g_migrate.specs.Keeps.{KeepsStore, with_online}
 
 -- NOTHING HAS CHANGED

@@ -15,14 +15,14 @@ use Rattle.g_plain.specs.declared.faults.StoreFault.{StoreFault}
 use Rattle.g_plain.specs.declared.faults.StoreFault.TheVariants.{NoMemory, NotDumped, Offline, Stopped}
 use Rattle.g_tree.specs.Records.{IsRecords, by_number}
 use Rattle.g_tree.proofs.PutLemmas.{number_found}
-use Rattle.g_contents.specs.Contents.{Contents, File, has, taken_off}
-use Rattle.g_contents.specs.Facts.{IsTied, OnlineFacts}
+use Rattle.g_disc_contents.specs.Contents.{Contents, File, has, taken_off}
+use Rattle.g_disc_contents.specs.Facts.{IsTied, OnlineFacts}
 use Rattle.g_online.specs.declared.change.Change.TheVariants.{Unload}
 use Rattle.g_online.specs.declared.fault.OnlineFault.{OnlineFault}
 use Rattle.g_online.specs.declared.fault.OnlineFault.TheVariants as variants
 use Rattle.g_online.specs.Allowed.{HasNumber, IsAllowed, IsUnjammable, KeepsRules}
 use Rattle.g_online.specs.Change.{changed, with_files}
-use Rattle.g_online.specs.Done.{IsApplied}
+use Rattle.g_online.specs.Outcomes.{IsApplied}
 use Rattle.g_online.proofs.KeepLemmas.{rules_of}
 use Rattle.g_online.proofs.OffRuleLemmas.{MayGo, committed_rules, off_rules}
 use Rattle.g_migrate.specs.Keeps.{KeepsStore}

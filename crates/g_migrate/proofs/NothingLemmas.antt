@@ -4,10 +4,10 @@ use Rattle.std.specs.Prelude.{◌⊎◌, All, AllPairs, Contains, sum_by, nat_lt
 use Rattle.std.proofs.lemmas.Bool.{and_parts, cases_Bool, cond-false, ltb-true}
 use Rattle.std.proofs.lemmas.List.Sums.{sum_by-cons}
 use Rattle.g_base.specs.Block.{blocks_for}
-use Rattle.g_contents.specs.Contents.{File}
-use Rattle.g_contents.specs.Facts.{OnlineFacts, room_of, room_with}
+use Rattle.g_disc_contents.specs.Contents.{File}
+use Rattle.g_disc_contents.specs.Facts.{OnlineFacts, room_of, room_with}
 use Rattle.g_online.proofs.TwoLemmas.{taken_none}
-use Rattle.g_state_steps.specs.Unjam.{IsUnjamPlan, is_candidate, is_taken}
+use Rattle.g_laws_memory.specs.Unjam.{IsUnjamPlan, is_candidate, is_taken}
 use Rattle.g_migrate.specs.Unjam.{IsRoomWithout}
 
 abbrev counted : File → ℕ

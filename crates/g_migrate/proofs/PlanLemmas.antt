@@ -13,12 +13,12 @@ use Rattle.g_base.specs.Block.{blocks_for}
 use Rattle.g_entry.specs.declared.file_rec.FileRec.{FileRec}
 use Rattle.g_tree.specs.Records.{IsRecords}
 use Rattle.g_tree.proofs.ListLemmas.{contains_cases, contains_first, contains_more}
-use Rattle.g_contents.specs.Contents.{File, has, offline_in, recs_in, taken_off}
-use Rattle.g_contents.specs.Facts.{OnlineFacts, Pin, is_current, online_blocks, pinned_blocks, room_of}
+use Rattle.g_disc_contents.specs.Contents.{File, has, offline_in, recs_in, taken_off}
+use Rattle.g_disc_contents.specs.Facts.{OnlineFacts, Pin, is_current, online_blocks, pinned_blocks, room_of}
 use Rattle.g_online.proofs.UseLemmas.{same_apart}
 use Rattle.g_migrate.specs.declared.candidates.Candidate.{Candidate}
 use Rattle.g_migrate.specs.Taken.{TakesFirst, blocks_in, candidate_of, candidates_in}
-use Rattle.g_state_steps.specs.Unjam.{IsUnjamPlan, is_candidate, is_taken, room_until}
+use Rattle.g_laws_memory.specs.Unjam.{IsUnjamPlan, is_candidate, is_taken, room_until}
 use Rattle.g_online.specs.Room.{FitsDisc}
 use Rattle.g_migrate.specs.Unjam.{IsOlder, IsRoomWithout}
 use Rattle.g_migrate.proofs.FrontLemmas.{AreRising, IsFront, below, fewer_below, until_front, until_of}

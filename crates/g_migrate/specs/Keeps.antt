@@ -1,8 +1,8 @@
 -- WHATEVER STORE THE FILESTORE IS IN: it keeps what a store keeps, and that disc and rack belong together.
 use Rattle.std.specs.Prelude.{◌≡◌, false, not}
-use Rattle.g_contents.specs.Facts.{OnlineFacts}
-use Rattle.g_state.specs.Answers.{Belongs, IsStore}
-use Rattle.g_state.specs.Up.{StoreFacts}
+use Rattle.g_disc_contents.specs.Facts.{OnlineFacts}
+use Rattle.g_store_meaning.specs.Answers.{Belongs, IsStore}
+use Rattle.g_store_meaning.specs.Up.{StoreFacts}
 
 -- the store with this filestore in the place of its own; it is spent once a write has failed
 abbrev pub with_online : OnlineFacts → StoreFacts → StoreFacts

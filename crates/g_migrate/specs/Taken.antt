@@ -1,9 +1,9 @@
 -- Candidates in a list, and the first of them taken.
 use Rattle.std.specs.Prelude.{◌≡◌, ◌⊎◌, ℕ, ◌+◌, ◌<◌, ◌≤◌, List, map, filter, length, take, sum_by, Option, Some, None, if◌then◌else◌}
 use Rattle.g_base.specs.Block.{blocks_for}
-use Rattle.g_contents.specs.Contents.{File}
+use Rattle.g_disc_contents.specs.Contents.{File}
 use Rattle.g_migrate.specs.declared.candidates.Candidate.{Candidate}
-use Rattle.g_state_steps.specs.Unjam.{is_candidate}
+use Rattle.g_laws_memory.specs.Unjam.{is_candidate}
 
 -- what is noted of a file
 abbrev pub candidate_of : File → Candidate

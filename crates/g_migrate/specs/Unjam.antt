@@ -1,7 +1,7 @@
--- A PLAN OF UNJAMMING besides what makes it one (`IsUnjamPlan` of g_state_steps): its order, and the room without its files.
+-- A PLAN OF UNJAMMING besides what makes it one (`IsUnjamPlan` of g_laws_memory): its order, and the room without its files.
 use Rattle.std.specs.Prelude.{◌≡◌, ℕ, ◌<◌, List, Contains}
-use Rattle.g_contents.specs.Contents.{File, taken_off}
-use Rattle.g_contents.specs.Facts.{OnlineFacts, room_with}
+use Rattle.g_disc_contents.specs.Contents.{File, taken_off}
+use Rattle.g_disc_contents.specs.Facts.{OnlineFacts, room_with}
 
 -- the files of these numbers: the first one's version is the older one
 abbrev pub IsOlder : List File → ℕ → ℕ → Type 0

@@ -1,8 +1,8 @@
 //! One file is taken off the disc.
 ghost use Rattle.std.specs.Prelude.{◌≡◌, ◌⊎◌, ◌↔◌, [], ◌∷◌, true, false, Contains, Err, IfErr, OnErr, None, is_some};
 ghost use Rattle.g_entry.specs.declared.file_rec.FileRec.{FileRec};
-ghost use Rattle.g_contents.specs.Contents.{File};
-ghost use Rattle.g_contents.specs.Facts.{IsTied};
+ghost use Rattle.g_disc_contents.specs.Contents.{File};
+ghost use Rattle.g_disc_contents.specs.Facts.{IsTied};
 ghost use Rattle.g_online.specs.Allowed.{HasNumber, IsAllowed};
 ghost use Rattle.g_migrate.specs.Keeps.{KeepsStore};
 ghost use Rattle.g_migrate.specs.Migrated.{HasMigrated, as_stored, refusal_of};

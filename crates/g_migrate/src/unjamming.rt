@@ -1,9 +1,9 @@
 //! Which files make room on the disc.
 ghost use Rattle.std.specs.Prelude.{◌≡◌, ◌≤◌, true, [], All, AllPairs, IfOk, length};
 ghost use Rattle.std.specs.List.Sorted.{IsNonDecreasingBy, IsPermutation};
-ghost use Rattle.g_contents.specs.Facts.{IsTied, room_of};
+ghost use Rattle.g_disc_contents.specs.Facts.{IsTied, room_of};
 ghost use Rattle.g_migrate.specs.Taken.{TakesFirst};
-ghost use Rattle.g_state_steps.specs.Unjam.{IsUnjamPlan};
+ghost use Rattle.g_laws_memory.specs.Unjam.{IsUnjamPlan};
 ghost use Rattle.g_migrate.specs.Unjam.{IsOlder, IsRoomWithout};
 
 use crate::candidates::{Candidate, candidates};

@@ -11,8 +11,8 @@ use Rattle.g_order.specs.declared.functions.Function.{Function}
 use Rattle.g_order.specs.declared.functions.Function.TheVariants.{Load, Store, LoadNumber, LoadCharacter, StoreZero, DepositCharacter, Multiply, Branch, Call, Exit, ShiftLeft, ShiftRight, Null, Move, Transfer, Halt, Display, Delete}
 use Rattle.g_mill.specs.declared.event.Event.{Event}
 use Rattle.g_mill.specs.declared.event.Event.TheVariants.{Ran, Peri, Halted, Displayed, Deleted, Illegal}
-use Rattle.g_mill.specs.declared.step.Quick.{Quick}
-use Rattle.g_mill.specs.declared.step.Quick.TheVariants as quick
+use Rattle.g_mill.specs.declared.step.PlainOutcome.{PlainOutcome}
+use Rattle.g_mill.specs.declared.step.PlainOutcome.TheVariants as quick
 use Rattle.g_mill.specs.Machine.{Machine, size, address, operand, text_at, following, going_to, operands}
 use Rattle.g_mill.specs.Effect.{Outcome, effect, shifted, performed, obeyed, order}
 use Rattle.g_mill.specs.Does.{DoesQuick, TellsMore}
@@ -248,9 +248,9 @@ runs_more_at count at old mid new next runs one =
     subst (λ (n : ℕ). RunsTo n old (going_to new next)) more (runs_more count old (going_to mid at) (going_to new next) runs one)
 
 -- what a call answers that does the order of the word that the program has at an address
-pub runs_one : (result : Quick) (at : ℕ) (old new : Machine) (word : ℕ) → slice_get old.words at ≡ Some word → DoesQuick result at old new (option_and_then (performed (going_to old at)) (decoded word)) → RunsOne result at old new
+pub runs_one : (result : PlainOutcome) (at : ℕ) (old new : Machine) (word : ℕ) → slice_get old.words at ≡ Some word → DoesQuick result at old new (option_and_then (performed (going_to old at)) (decoded word)) → RunsOne result at old new
 runs_one quick.Ran at old new word is does = told_there (going_to old at) (going_to old at) (going_to new (following at)) word Ran is refl does
 runs_one (quick.Jumped next) at old new word is does = (told_there (going_to old at) (going_to old at) (going_to new next) word Ran is refl does.0, does.1)
 runs_one (quick.Passed to) at old new word is does = told_there (going_to old at) (going_to old at) (going_to new (following at)) word Ran is refl does
 runs_one quick.Illegal at old new word is does = (does.1, more_there (going_to old at) word is (subst TellsMore (sym does.0) tt))
-runs_one quick.Left at old new word is does = (does.0, more_there (going_to old at) word is does.1)
+runs_one quick.NeedsStep at old new word is does = (does.0, more_there (going_to old at) word is does.1)

@@ -10,7 +10,7 @@ ghost use Rattle.g_mill.specs.Machine.{going_to, operands};
 
 use crate::operations::{is_taken, made, overflow_behind};
 use crate::program::{ADDRESSES, following};
-use crate::step::Quick;
+use crate::step::PlainOutcome;
 use crate::{Event, Program};
 use g_order::{Condition, Operation, Order};
 use g_word::Word;
@@ -25,7 +25,7 @@ impl Program {
         x: u32,
         m: u32,
         n: u32,
-    ) -> Quick
+    ) -> PlainOutcome
         requires at { at < 2 ^ 15 }
         requires x { x < 8 }
         requires m { m < 4 }
@@ -34,16 +34,16 @@ impl Program {
             (effect (function.Load operation) (going_to self.old at) (operands x m n)) }
     {
         let Some(operand) = self.operand(m, n) else {
-            return Quick::Illegal;
+            return PlainOutcome::Illegal;
         };
         let (word, overflow) = made(operation, self.accumulator(x), operand);
         self.put_accumulator(x, word, overflow);
-        Quick::Ran
+        PlainOutcome::Ran
     }
 
     /// The word at the address becomes what the operation makes of it and the accumulator.
     #[inline(always)]
-    pub(crate) fn store(&mut self, at: u32, operation: Operation, x: u32, m: u32, n: u32) -> Quick
+    pub(crate) fn store(&mut self, at: u32, operation: Operation, x: u32, m: u32, n: u32) -> PlainOutcome
         requires at { at < 2 ^ 15 }
         requires x { x < 8 }
         requires m { m < 4 }
@@ -53,11 +53,11 @@ impl Program {
     {
         let address = self.address(m, n);
         let Some(old) = self.operand_at(address) else {
-            return Quick::Illegal;
+            return PlainOutcome::Illegal;
         };
         let (word, overflow) = made(operation, old, self.accumulator(x));
         self.put(address, word, overflow);
-        Quick::Ran
+        PlainOutcome::Ran
     }
 
     /// The accumulator becomes what the operation makes of it and the address itself.
@@ -69,7 +69,7 @@ impl Program {
         x: u32,
         m: u32,
         n: u32,
-    ) -> Quick
+    ) -> PlainOutcome
         requires at { at < 2 ^ 15 }
         requires x { x < 8 }
         requires m { m < 4 }
@@ -80,12 +80,12 @@ impl Program {
         let number = Word::from(self.address(m, n) as u16);
         let (word, overflow) = made(operation, self.accumulator(x), number);
         self.put_accumulator(x, word, overflow);
-        Quick::Ran
+        PlainOutcome::Ran
     }
 
     /// The accumulator becomes a character of the word at the address.
     #[inline(never)]
-    pub(crate) fn load_character(&mut self, at: u32, x: u32, m: u32, n: u32) -> Quick
+    pub(crate) fn load_character(&mut self, at: u32, x: u32, m: u32, n: u32) -> PlainOutcome
         requires at { at < 2 ^ 15 }
         requires x { x < 8 }
         requires m { m < 4 }
@@ -94,16 +94,16 @@ impl Program {
             (effect function.LoadCharacter (going_to self.old at) (operands x m n)) }
     {
         let Some(operand) = self.operand(m, n) else {
-            return Quick::Illegal;
+            return PlainOutcome::Illegal;
         };
         let character = operand.char_at(self.place(m));
         self.put_accumulator(x, Word::from(u16::from(character)), false);
-        Quick::Ran
+        PlainOutcome::Ran
     }
 
     /// The word at the address becomes 0.
     #[inline(always)]
-    pub(crate) fn store_zero(&mut self, at: u32, m: u32, n: u32) -> Quick
+    pub(crate) fn store_zero(&mut self, at: u32, m: u32, n: u32) -> PlainOutcome
         requires at { at < 2 ^ 15 }
         requires m { m < 4 }
         requires n { n < 2 ^ 15 }
@@ -112,15 +112,15 @@ impl Program {
     {
         let address = self.address(m, n);
         let Some(_old) = self.operand_at(address) else {
-            return Quick::Illegal;
+            return PlainOutcome::Illegal;
         };
         self.put(address, Word::ZERO, false);
-        Quick::Ran
+        PlainOutcome::Ran
     }
 
     /// A character of the word at the address becomes the last of the accumulator.
     #[inline(never)]
-    pub(crate) fn deposit_character(&mut self, at: u32, x: u32, m: u32, n: u32) -> Quick
+    pub(crate) fn deposit_character(&mut self, at: u32, x: u32, m: u32, n: u32) -> PlainOutcome
         requires at { at < 2 ^ 15 }
         requires x { x < 8 }
         requires m { m < 4 }
@@ -130,16 +130,16 @@ impl Program {
     {
         let address = self.address(m, n);
         let Some(old) = self.operand_at(address) else {
-            return Quick::Illegal;
+            return PlainOutcome::Illegal;
         };
         let character = (self.accumulator(x).value() % 64) as u8;
         self.put(address, old.with_char(self.place(m), character), false);
-        Quick::Ran
+        PlainOutcome::Ran
     }
 
     /// The accumulator and the next one become the product of the accumulator and the word at the address.
     #[inline(never)]
-    pub(crate) fn multiply(&mut self, at: u32, x: u32, m: u32, n: u32) -> Quick
+    pub(crate) fn multiply(&mut self, at: u32, x: u32, m: u32, n: u32) -> PlainOutcome
         requires at { at < 2 ^ 15 }
         requires x { x < 8 }
         requires m { m < 4 }
@@ -148,17 +148,17 @@ impl Program {
             (effect function.Multiply (going_to self.old at) (operands x m n)) }
     {
         let Some(operand) = self.operand(m, n) else {
-            return Quick::Illegal;
+            return PlainOutcome::Illegal;
         };
         let (high, low, overflow) = self.accumulator(x).mul_parts(operand);
         self.put_accumulator(x, high, false);
         self.put_accumulator((x + 1) % 8, low, overflow);
-        Quick::Ran
+        PlainOutcome::Ran
     }
 
     /// Goes to the address where the condition holds.
     #[inline(always)]
-    pub(crate) fn branch(&mut self, at: u32, condition: Condition, x: u32, n: u32) -> Quick
+    pub(crate) fn branch(&mut self, at: u32, condition: Condition, x: u32, n: u32) -> PlainOutcome
         requires at { at < 2 ^ 15 }
         requires x { x < 8 }
         requires n { n < 2 ^ 15 }
@@ -169,15 +169,15 @@ impl Program {
         let taken = is_taken(condition, self.accumulator(x), overflow);
         self.set_overflow(overflow_behind(condition, overflow));
         if taken {
-            Quick::Jumped(n)
+            PlainOutcome::Jumped(n)
         } else {
-            Quick::Passed(n)
+            PlainOutcome::Passed(n)
         }
     }
 
     /// Goes to a routine, and keeps the address behind the order in the accumulator.
     #[inline(always)]
-    pub(crate) fn call(&mut self, at: u32, x: u32, n: u32) -> Quick
+    pub(crate) fn call(&mut self, at: u32, x: u32, n: u32) -> PlainOutcome
         requires at { at < 2 ^ 15 }
         requires x { x < 8 }
         requires n { n < 2 ^ 15 }
@@ -186,12 +186,12 @@ impl Program {
     {
         let back = following(at);
         self.put_accumulator(x, Word::from(back as u16), false);
-        Quick::Jumped(n)
+        PlainOutcome::Jumped(n)
     }
 
     /// Goes back by the address that the accumulator keeps.
     #[inline(always)]
-    pub(crate) fn exit(&mut self, at: u32, x: u32, n: u32) -> Quick
+    pub(crate) fn exit(&mut self, at: u32, x: u32, n: u32) -> PlainOutcome
         requires at { at < 2 ^ 15 }
         requires x { x < 8 }
         requires n { n < 2 ^ 15 }
@@ -199,12 +199,12 @@ impl Program {
             (effect function.Exit (going_to self.old at) (operands x 0 n)) }
     {
         let back = self.low_bits(x);
-        Quick::Jumped((back + n) % ADDRESSES)
+        PlainOutcome::Jumped((back + n) % ADDRESSES)
     }
 
     /// Shifts the accumulator, as the address tells.
     #[inline(never)]
-    pub(crate) fn shift(&mut self, at: u32, left: bool, x: u32, m: u32, n: u32) -> Quick
+    pub(crate) fn shift(&mut self, at: u32, left: bool, x: u32, m: u32, n: u32) -> PlainOutcome
         requires at { at < 2 ^ 15 }
         requires x { x < 8 }
         requires m { m < 4 }
@@ -218,15 +218,15 @@ impl Program {
         let word = match address % 0x1000 / 0x400 {
             0 => old.rotate(left, places),
             1 => old.shift(left, places),
-            _ => return Quick::Illegal,
+            _ => return PlainOutcome::Illegal,
         };
         self.put_accumulator(x, word, false);
-        Quick::Ran
+        PlainOutcome::Ran
     }
 
     /// Copies words from where the accumulator tells to where the next one does.
     #[inline(never)]
-    pub(crate) fn move_words(&mut self, at: u32, x: u32, m: u32, n: u32) -> Quick
+    pub(crate) fn move_words(&mut self, at: u32, x: u32, m: u32, n: u32) -> PlainOutcome
         requires at { at < 2 ^ 15 }
         requires x { x < 8 }
         requires m { m < 4 }
@@ -240,10 +240,10 @@ impl Program {
         let to = self.low_bits((x + 1) % 8);
         let size = self.size();
         if from + count > size || to + count > size {
-            return Quick::Illegal;
+            return PlainOutcome::Illegal;
         }
         self.copy_words(from, to, count);
-        Quick::Ran
+        PlainOutcome::Ran
     }
 
     /// Asks for a transfer with the control area at the address.

@@ -18,7 +18,7 @@ use g_order::{
 use g_word::Word;
 
 /// What came of an order that stood at an address, and that may tell no more than that it was done.
-pub(crate) enum Quick {
+pub(crate) enum PlainOutcome {
     /// It was done, and tells no more. The program goes on behind it, which it isn't told yet.
     Ran,
     /// It was done, and tells no more. The program goes on at this address, which it isn't told yet.
@@ -30,7 +30,7 @@ pub(crate) enum Quick {
     /// It is illegal. Nothing changed.
     Illegal,
     /// It tells more than that it was done, if it isn't illegal. Nothing changed yet.
-    Left,
+    NeedsStep,
 }
 
 impl Program {
@@ -50,7 +50,7 @@ impl Program {
                 at,
             };
         };
-        match self.obey(word) {
+        match self.step_word(word) {
             Some(event) => event,
             None => Event::Illegal { word, at },
         }
@@ -69,10 +69,10 @@ impl Program {
         // processors decode those that do anew at every order, and an order takes a quarter longer.
         for done in 0..u64::from(most) {
             match self.run_one(at) {
-                Quick::Ran => at = following(at),
-                Quick::Jumped(next) => at = next,
-                Quick::Passed(_) => at = following(at),
-                Quick::Illegal | Quick::Left => {
+                PlainOutcome::Ran => at = following(at),
+                PlainOutcome::Jumped(next) => at = next,
+                PlainOutcome::Passed(_) => at = following(at),
+                PlainOutcome::Illegal | PlainOutcome::NeedsStep => {
                     self.go(at);
                     return done as u32;
                 }
@@ -85,12 +85,12 @@ impl Program {
     /// Does the order at an address if it tells no more than that it was done, and answers where the program goes on. It
     /// isn't told that, since an address that is kept in memory takes longer than an order.
     #[inline(always)]
-    fn run_one(&mut self, at: u32) -> Quick
+    fn run_one(&mut self, at: u32) -> PlainOutcome
         requires { at < 2 ^ 15 }
         ensures { RunsOne result at self.old self.new }
     {
         let Some(word) = self.operand_at(at) else {
-            return Quick::Illegal;
+            return PlainOutcome::Illegal;
         };
         self.quick(at, word)
     }
@@ -99,7 +99,7 @@ impl Program {
     /// the word, of which each function reads its own.
     #[inline(always)]
     #[tactic(auto, using(crate::proofs::RunningLaws::left_by))]
-    fn quick(&mut self, at: u32, word: Word) -> Quick
+    fn quick(&mut self, at: u32, word: Word) -> PlainOutcome
         requires { at < 2 ^ 15 }
         ensures { DoesQuick result at self.old self.new
             (option_and_then (performed (going_to self.old at)) (decoded word)) }
@@ -158,16 +158,16 @@ impl Program {
                 let (m, n) = plain_operands(word);
                 self.move_words(at, x, m, n)
             }
-            Some(Function::Null) => Quick::Ran,
+            Some(Function::Null) => PlainOutcome::Ran,
             Some(Function::Transfer | Function::Halt | Function::Display | Function::Delete) =>
-                Quick::Left,
-            None => Quick::Illegal,
+                PlainOutcome::NeedsStep,
+            None => PlainOutcome::Illegal,
         }
     }
 
     /// `load_word`, written out for each operation, which then isn't asked for once more.
     #[inline(always)]
-    fn load_by(&mut self, at: u32, operation: Operation, x: u32, m: u32, n: u32) -> Quick
+    fn load_by(&mut self, at: u32, operation: Operation, x: u32, m: u32, n: u32) -> PlainOutcome
         requires at { at < 2 ^ 15 }
         requires x { x < 8 }
         requires m { m < 4 }
@@ -188,7 +188,7 @@ impl Program {
 
     /// `store`, written out for each operation.
     #[inline(always)]
-    fn store_by(&mut self, at: u32, operation: Operation, x: u32, m: u32, n: u32) -> Quick
+    fn store_by(&mut self, at: u32, operation: Operation, x: u32, m: u32, n: u32) -> PlainOutcome
         requires at { at < 2 ^ 15 }
         requires x { x < 8 }
         requires m { m < 4 }
@@ -209,7 +209,7 @@ impl Program {
 
     /// `load_number`, written out for each operation.
     #[inline(always)]
-    fn load_number_by(&mut self, at: u32, operation: Operation, x: u32, m: u32, n: u32) -> Quick
+    fn load_number_by(&mut self, at: u32, operation: Operation, x: u32, m: u32, n: u32) -> PlainOutcome
         requires at { at < 2 ^ 15 }
         requires x { x < 8 }
         requires m { m < 4 }
@@ -230,7 +230,7 @@ impl Program {
 
     /// `branch`, written out for each condition.
     #[inline(always)]
-    fn branch_by(&mut self, at: u32, condition: Condition, x: u32, n: u32) -> Quick
+    fn branch_by(&mut self, at: u32, condition: Condition, x: u32, n: u32) -> PlainOutcome
         requires at { at < 2 ^ 15 }
         requires x { x < 8 }
         requires n { n < 2 ^ 15 }
@@ -253,19 +253,19 @@ impl Program {
     /// Does the order of a word that tells more than that it was done; `None` where it is illegal.
     #[inline(never)]
     #[tactic(auto, using(crate::proofs::RunningLaws::performed_by))]
-    fn obey(&mut self, word: Word) -> Option<Event>
+    fn step_word(&mut self, word: Word) -> Option<Event>
         requires { TellsMore (option_and_then (performed self.old) (decoded word)) }
         ensures { Does result self.old self.new
             (option_and_then (performed self.old) (decoded word)) }
     {
         let (function, order) = read_order(word)?;
-        self.tell(function, &order)
+        self.run_telling_order(function, &order)
     }
 
     /// Does what a function makes of an order that tells more than that it was done; `None` where the order is illegal, as
     /// it is of all other functions.
     #[tactic(auto, using(crate::proofs::RunningLaws::illegal_else))]
-    fn tell(&mut self, function: Function, order: &Order) -> Option<Event>
+    fn run_telling_order(&mut self, function: Function, order: &Order) -> Option<Event>
         requires { TellsMore (effect function self.old (fields order.now)) }
         ensures { Does result self.old self.new (effect function self.old (fields order.now)) }
     {

@@ -14,12 +14,12 @@ use Rattle.g_dirs.specs.Directory.{AreCopies, Directory, FileEntry, IsCopyOf, al
 use Rattle.g_dirs.specs.Pages.{Covers, KeepsPages, Remembered, all_marked}
 use Rattle.g_slots.specs.declared.side.Side.{Side}
 use Rattle.g_tree.specs.Records.{IsRecords}
-use Rattle.g_contents.specs.Contents.{copied_rec, copy_of}
-use Rattle.g_contents.specs.Facts.{OnlineFacts}
+use Rattle.g_disc_contents.specs.Contents.{copied_rec, copy_of}
+use Rattle.g_disc_contents.specs.Facts.{OnlineFacts}
 use Rattle.g_online.specs.declared.change.Change.TheVariants.{Adopt}
 use Rattle.g_online.specs.declared.pinned.Pinned.{Pinned}
 use Rattle.g_online.specs.Allowed.{IsAllowed}
-use Rattle.g_online.specs.Kept.{IsAgreed, IsKept, IsPooled, Memory, PinsAre, WaitsFor, directory_in, facts_of, head_after, pins_of}
+use Rattle.g_online.specs.Invariant.{IsAgreed, IsKept, IsPooled, Memory, PinsAre, WaitsFor, directory_in, facts_of, head_after, pins_of}
 use Rattle.g_online.proofs.ChangeLemmas.{adopt_contents}
 use Rattle.g_online.proofs.KeepLemmas.{CopyFits}
 use Rattle.g_online.proofs.ReadyLemmas.{StillRemembers, allowed_here, allowed_live, make_ready, rules_then}

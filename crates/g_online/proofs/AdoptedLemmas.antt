@@ -13,13 +13,13 @@ use Rattle.g_slots.specs.declared.side.Side.{Side}
 use Rattle.g_dirs.specs.Directory.{Directory, FileEntry, copy_at, directory_of, entries_of}
 use Rattle.g_dirs.specs.Pages.{Covers, Remembered, all_marked}
 use Rattle.g_tree.specs.Records.{IsRecords}
-use Rattle.g_contents.specs.Contents.{Contents, File, contents_of, copied_rec, copy_of, file_of, recs_in, with_copies}
-use Rattle.g_contents.specs.Facts.{OnlineFacts}
+use Rattle.g_disc_contents.specs.Contents.{Contents, File, contents_of, copied_rec, copy_of, file_of, recs_in, with_copies}
+use Rattle.g_disc_contents.specs.Facts.{OnlineFacts}
 use Rattle.g_online.specs.declared.change.Change.TheVariants.{Adopt}
 use Rattle.g_online.specs.declared.fault.OnlineFault.{OnlineFault}
 use Rattle.g_online.specs.declared.pinned.Pinned.{Pinned}
 use Rattle.g_online.specs.Allowed.{IsAllowed, KeepsRules}
-use Rattle.g_online.specs.Kept.{AreNoted, IsKept, Memory, PinsAre, WaitsFor, directory_in, facts_of, pins_of}
+use Rattle.g_online.specs.Invariant.{AreNoted, IsKept, Memory, PinsAre, WaitsFor, directory_in, facts_of, pins_of}
 use Rattle.g_online.specs.Ready.{CoverAll, IsAdopting, IsReadyFor, Readied, adopted, ready_with}
 use Rattle.g_online.proofs.AdoptLemmas.{adopt_ready}
 use Rattle.g_online.proofs.NotedLemmas.{IsNotedBy, MayNote, adopted_is}

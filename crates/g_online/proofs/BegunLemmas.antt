@@ -33,15 +33,15 @@ use Rattle.g_dirs.specs.Pages.{Covers, Remembered, Remembers, marks_of, nothing,
 use Rattle.g_dirs.specs.Rules.{AreApart, numbers_of}
 use Rattle.g_dirs.proofs.CopyLemmas.{match_from, places_are, recs-entries}
 use Rattle.g_dirs.proofs.QuietLemmas.{stands_same}
-use Rattle.g_contents.specs.Contents.{Contents, File, Holds, contents_of, file_of, has, with_number}
-use Rattle.g_contents.specs.Facts.{AreNumbers, IsTied, OnlineFacts}
+use Rattle.g_disc_contents.specs.Contents.{Contents, File, Holds, contents_of, file_of, has, with_number}
+use Rattle.g_disc_contents.specs.Facts.{AreNumbers, IsTied, OnlineFacts}
 use Rattle.g_online.specs.declared.fault.OnlineFault.TheVariants.{NoFilestore, NoMemory, ReadFault}
 use Rattle.g_online.specs.declared.pinned.Pinned.{Pinned}
 use Rattle.g_online.specs.Allowed.{KeepsRules}
 use Rattle.g_online.specs.Begun.{AsBeforeOr, HasLoaded, HasMade, HoldsAsBefore, IsFound, empty_copies, empty_copy, first_contents, first_file, memory_of, refusal_of}
 use Rattle.g_online.specs.Change.{told_bytes}
 use Rattle.g_online.specs.Committed.{HasCommitted, IsMarked, commit_blocks}
-use Rattle.g_online.specs.Kept.{AreNoted, AreWhole, IsAgreed, IsPooled, IsStored, Memory, PinsAre, directory_in, facts_of}
+use Rattle.g_online.specs.Invariant.{AreNoted, AreWhole, IsAgreed, IsPooled, IsStored, Memory, PinsAre, directory_in, facts_of}
 use Rattle.g_online.proofs.ContentLemmas.{Told, bytes_are}
 use Rattle.g_online.proofs.CopyLemmas.{Copies, copy_behind, copy_here}
 use Rattle.g_online.proofs.KeepLemmas.{CopyFits, rules_kept}

@@ -13,10 +13,10 @@ use Rattle.g_copy.specs.Copy.{OnlyAt}
 use Rattle.g_disc.specs.Disc.{DiscState}
 use Rattle.g_dirs.specs.Directory.{FileEntry, IsDirectory, all_places, places_of}
 use Rattle.g_dirs.proofs.QuietLemmas.{gate_kept, remembers_kept, stands_beside}
-use Rattle.g_contents.specs.Contents.{Holds, contents_of}
-use Rattle.g_contents.specs.Facts.{Pin}
+use Rattle.g_disc_contents.specs.Contents.{Holds, contents_of}
+use Rattle.g_disc_contents.specs.Facts.{Pin}
 use Rattle.g_online.specs.declared.pinned.Pinned.{Pinned}
-use Rattle.g_online.specs.Kept.{AreWhole, IsAgreed, IsFileOf, IsKept, IsPinned, IsPooled, Memory, PinsAre, directory_in, is_current, orphans, pins_of, used_places}
+use Rattle.g_online.specs.Invariant.{AreWhole, IsAgreed, IsFileOf, IsKept, IsPinned, IsPooled, Memory, PinsAre, directory_in, is_current, orphans, pins_of, used_places}
 use Rattle.g_online.proofs.SameLemmas.{AreSame, IsSame, same_contents, same_contents_told, same_pin_list}
 
 -- a block that is used isn't free

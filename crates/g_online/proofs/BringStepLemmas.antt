@@ -20,16 +20,16 @@ use Rattle.g_dirs.specs.Directory.{AreCopies, Directory, FileEntry, LiesSomewher
 use Rattle.g_dirs.specs.Image.{entry_at}
 use Rattle.g_dirs.specs.Pages.{KeepsPages, Remembered}
 use Rattle.g_dirs.proofs.CopyLemmas.{recs-entries}
-use Rattle.g_contents.specs.Contents.{Contents, File, brought, contents_of, file_of, has, offline_in, taken_off}
-use Rattle.g_contents.specs.Facts.{OnlineFacts}
+use Rattle.g_disc_contents.specs.Contents.{Contents, File, brought, contents_of, file_of, has, offline_in, taken_off}
+use Rattle.g_disc_contents.specs.Facts.{OnlineFacts}
 use Rattle.g_online.specs.declared.change.Change.TheVariants.{Bring, Unload}
 use Rattle.g_online.specs.declared.fault.OnlineFault.{OnlineFault}
 use Rattle.g_online.specs.declared.pinned.Pinned.{Pinned}
 use Rattle.g_online.specs.Allowed.{IsAllowed, KeepsRules}
 use Rattle.g_online.specs.Change.{changed, told_bytes, unjammed}
-use Rattle.g_online.specs.Done.{HasChanged}
+use Rattle.g_online.specs.Outcomes.{HasChanged}
 use Rattle.g_online.specs.Copies.{with_copy_at}
-use Rattle.g_online.specs.Kept.{AreNoted, AreWhole, IsAgreed, IsFileOf, IsKept, IsPinned, IsPooled, Memory, PinsAre, WaitsFor, WaitsPinned, directory_in, facts_of, head_after, orphans, pins_of}
+use Rattle.g_online.specs.Invariant.{AreNoted, AreWhole, IsAgreed, IsFileOf, IsKept, IsPinned, IsPooled, Memory, PinsAre, WaitsFor, WaitsPinned, directory_in, facts_of, head_after, orphans, pins_of}
 use Rattle.g_online.proofs.ChangeLemmas.{bring_contents}
 use Rattle.g_online.proofs.ContentLemmas.{online_is}
 use Rattle.g_online.proofs.CopyLemmas.{Copies}

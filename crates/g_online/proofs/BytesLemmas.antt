@@ -11,11 +11,11 @@ use Rattle.g_copy.specs.Copy.{IsCopy, blocks_at, bytes_at}
 use Rattle.g_disc.specs.Disc.{DiscState}
 use Rattle.g_entry.specs.declared.file_rec.FileRec.{FileRec}
 use Rattle.g_dirs.specs.Directory.{FileEntry, IsCopyOf, LiesSomewhere, all_places, copy_at, entries_of, places_of}
-use Rattle.g_contents.specs.Contents.{File, file_of}
-use Rattle.g_contents.specs.Facts.{OnlineFacts}
-use Rattle.g_contents.specs.Parts.{IsPart}
-use Rattle.g_contents.proofs.PartLemmas.{blocks_are_parts}
-use Rattle.g_online.specs.Kept.{AreWhole, IsKept, Memory, copy_places, facts_of}
+use Rattle.g_disc_contents.specs.Contents.{File, file_of}
+use Rattle.g_disc_contents.specs.Facts.{OnlineFacts}
+use Rattle.g_disc_contents.specs.Parts.{IsPart}
+use Rattle.g_disc_contents.proofs.PartLemmas.{blocks_are_parts}
+use Rattle.g_online.specs.Invariant.{AreWhole, IsKept, Memory, copy_places, facts_of}
 use Rattle.g_online.proofs.ReadyLemmas.{pairs_left}
 use Rattle.g_online.proofs.SameLemmas.{left_part, right_part}
 use Rattle.g_online.proofs.TieLemmas.{block_at}

@@ -10,7 +10,7 @@ use Rattle.g_entry.specs.declared.head.Head.{Head}
 use Rattle.g_entry.specs.declared.user_rec.UserRec.{UserRec}
 use Rattle.g_tree.specs.State.{with_file as tree_with_file, without_file as tree_without_file}
 use Rattle.g_dirs.specs.Directory.{directory_of}
-use Rattle.g_contents.specs.Contents.{Contents, File, committed, contents_of, copied_rec, brought, set_rec, taken_off, with_copies, with_file, without_file}
+use Rattle.g_disc_contents.specs.Contents.{Contents, File, committed, contents_of, copied_rec, brought, set_rec, taken_off, with_copies, with_file, without_file}
 use Rattle.g_online.specs.declared.change.Change.{Change}
 use Rattle.g_online.specs.declared.change.Change.TheVariants.{PutFile, SetFile, EraseFile, Unload, Bring, Adopt}
 use Rattle.g_online.specs.Change.{changed, told_bytes, unjammed, unjammed_by}

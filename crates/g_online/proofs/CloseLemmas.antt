@@ -12,15 +12,15 @@ use Rattle.g_entry.specs.declared.user_rec.UserRec.{UserRec}
 use Rattle.g_dirs.specs.Directory.{FileEntry, copy_at, entries_of}
 use Rattle.g_dirs.specs.Pages.{Remembered, marked}
 use Rattle.g_tree.specs.Records.{IsRecords}
-use Rattle.g_contents.specs.Contents.{Contents, Holds, copied_rec, copy_of, has}
-use Rattle.g_contents.specs.Facts.{OnlineFacts, Pin, noted}
+use Rattle.g_disc_contents.specs.Contents.{Contents, Holds, copied_rec, copy_of, has}
+use Rattle.g_disc_contents.specs.Facts.{OnlineFacts, Pin, noted}
 use Rattle.g_online.specs.declared.change.Change.TheVariants.{Adopt}
 use Rattle.g_online.specs.declared.fault.OnlineFault.{OnlineFault}
 use Rattle.g_online.specs.declared.pinned.Pinned.{Pinned}
 use Rattle.g_online.specs.Allowed.{IsAllowed, KeepsRules}
 use Rattle.g_online.specs.Change.{closed}
 use Rattle.g_online.specs.Dumped.{MarksMade, lost_places, noted_in, pinned_in}
-use Rattle.g_online.specs.Kept.{AreNoted, IsFileOf, IsKept, IsPinned, Memory, PinsAre, WaitsFor, WaitsPinned, directory_in, facts_of, has_stamp, pin_of, pins_of}
+use Rattle.g_online.specs.Invariant.{AreNoted, IsFileOf, IsKept, IsPinned, Memory, PinsAre, WaitsFor, WaitsPinned, directory_in, facts_of, has_stamp, pin_of, pins_of}
 use Rattle.g_online.specs.Pins.{IsClosing}
 use Rattle.g_online.specs.Ready.{adopted}
 use Rattle.g_online.proofs.AdoptLemmas.{adopt_rules, noted_ready}

@@ -6,7 +6,7 @@ use Rattle.std.proofs.lemmas.Bool.{cases_Bool, cases_eq, cond-false, cond-true, 
 use Rattle.g_copy.specs.declared.copy.DiscCopy.{DiscCopy}
 use Rattle.g_entry.specs.declared.file_rec.FileRec.{FileRec}
 use Rattle.g_dirs.specs.Directory.{FileEntry, copy_at, entries_of}
-use Rattle.g_contents.specs.Contents.{File, file_of, has, with_file, without_file, with_rec, set_rec, offline_in, taken_off, online_with, brought, copied_rec, with_copy, with_copies}
+use Rattle.g_disc_contents.specs.Contents.{File, file_of, has, with_file, without_file, with_rec, set_rec, offline_in, taken_off, online_with, brought, copied_rec, with_copy, with_copies}
 use Rattle.g_entry.specs.declared.file_rec.TapeCopy.{TapeCopy}
 use Rattle.g_copy.specs.Copy.{bytes_at}
 use Rattle.g_online.specs.Copies.{with_copy_at, without_copy, without_copies}

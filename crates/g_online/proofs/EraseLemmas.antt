@@ -21,14 +21,14 @@ use Rattle.g_tree.specs.Places.{StandsAt}
 use Rattle.g_tree.specs.Records.{by_number}
 use Rattle.g_tree.specs.State.{without_file}
 use Rattle.g_tree.proofs.PlaceLemmas.{stands_found}
-use Rattle.g_contents.specs.Contents.{File, contents_of, file_of, with_number}
-use Rattle.g_contents.specs.Facts.{OnlineFacts}
+use Rattle.g_disc_contents.specs.Contents.{File, contents_of, file_of, with_number}
+use Rattle.g_disc_contents.specs.Facts.{OnlineFacts}
 use Rattle.g_online.specs.declared.change.Change.TheVariants.{EraseFile}
 use Rattle.g_online.specs.declared.pinned.Pinned.{Pinned}
 use Rattle.g_online.specs.Allowed.{IsAllowed}
 use Rattle.g_online.specs.Change.{owner_in, with_all}
 use Rattle.g_online.specs.Copies.{without_copy}
-use Rattle.g_online.specs.Kept.{AreNoted, GivesUnless, IsAgreed, IsFileOf, IsKept, IsPinned, IsPooled, Memory, PinsAre, WaitsFor, WaitsPinned, copy_places, directory_in, facts_of, has_stamp, head_after, is_pinned, pins_of, used_places}
+use Rattle.g_online.specs.Invariant.{AreNoted, GivesUnless, IsAgreed, IsFileOf, IsKept, IsPinned, IsPooled, Memory, PinsAre, WaitsFor, WaitsPinned, copy_places, directory_in, facts_of, has_stamp, head_after, is_pinned, pins_of, used_places}
 use Rattle.g_online.proofs.ChangeLemmas.{erase_contents}
 use Rattle.g_online.proofs.EntryLemmas.{made-erased}
 use Rattle.g_online.proofs.KeepLemmas.{CopyFits}

@@ -9,7 +9,7 @@ use Rattle.g_entry.specs.declared.user_rec.UserRec.{UserRec}
 use Rattle.g_entry.specs.FileFields.{IsFile}
 use Rattle.g_entry.specs.Rules.{SameName}
 use Rattle.g_tree.specs.Records.{IsRecords}
-use Rattle.g_contents.specs.Contents.{File}
+use Rattle.g_disc_contents.specs.Contents.{File}
 use Rattle.g_online.proofs.CloseNoteLemmas.{pairs_map}
 
 all_back : {A B : Type 0} (P : B → Type 0) (f : A → B) (xs : List A) → All P (map f xs) → All (λ x. P (f x)) xs

@@ -7,7 +7,7 @@ use Rattle.g_entry.specs.declared.user_rec.UserRec.{UserRec}
 use Rattle.g_slots.specs.declared.side.Side.{Side}
 use Rattle.g_dirs.specs.Pages.{Remembered}
 use Rattle.g_online.specs.declared.pinned.Pinned.{Pinned}
-use Rattle.g_online.specs.Kept.{Memory}
+use Rattle.g_online.specs.Invariant.{Memory}
 
 abbrev pub memory : Side → Remembered → List Bool → List UserRec → List FileRec → Head → List (ℕ × DiscCopy) → Option (List Pinned) → List ℕ → List ℕ → Bool → Memory
 memory side pages pool users files head online pins changed touched live = record {

@@ -17,7 +17,7 @@ use Rattle.g_slots.specs.declared.side.Side.{Side}
 use Rattle.g_dirs.specs.Commit.{OldOrNew}
 use Rattle.g_dirs.specs.Directory.{AreCopies, AreRecords, IsDirectory, directory_of}
 use Rattle.g_dirs.specs.Pages.{Remembered}
-use Rattle.g_contents.specs.Facts.{OnlineFacts}
+use Rattle.g_disc_contents.specs.Facts.{OnlineFacts}
 use Rattle.g_online.specs.declared.change.Change.{Change}
 use Rattle.g_online.specs.declared.fault.OnlineFault.{OnlineFault}
 use Rattle.g_online.specs.declared.fault.OnlineFault.TheVariants.{DiscFull, NoMemory, Stopped}
@@ -25,10 +25,10 @@ use Rattle.g_online.specs.Allowed.{IsAllowed}
 use Rattle.g_online.specs.Change.{need_of}
 use Rattle.g_online.specs.Committed.{HasCommitted, IsMarked, commit_blocks}
 use Rattle.g_online.specs.Copies.{without_copies}
-use Rattle.g_online.specs.Done.{IsApplied, room_for}
-use Rattle.g_online.specs.Kept.{AreWhole, IsKept, Memory, directory_in, facts_of, head_after}
-use Rattle.g_online.specs.Off.{places_off}
-use Rattle.g_online.specs.Put.{IsUntouched, Parts, TakesBeside, TakesFilesOff}
+use Rattle.g_online.specs.Outcomes.{IsApplied, room_for}
+use Rattle.g_online.specs.Invariant.{AreWhole, IsKept, Memory, directory_in, facts_of, head_after}
+use Rattle.g_online.specs.Unloading.{places_off}
+use Rattle.g_online.specs.NewBytes.{IsUntouched, Parts, TakesBeside, TakesFilesOff}
 use Rattle.g_online.proofs.CopyLemmas.{Copies}
 use Rattle.g_online.proofs.ReadyLemmas.{allowed_live}
 use Rattle.g_online.proofs.StepLemmas.{IsReadyFrom, applied, refused}

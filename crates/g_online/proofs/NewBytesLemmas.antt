@@ -19,7 +19,7 @@ use Rattle.g_dirs.specs.Pages.{KeepsPages, Remembered}
 use Rattle.g_dirs.proofs.EntryLemmas.{same_lists}
 use Rattle.g_tree.specs.Records.{IsRecords, by_number}
 use Rattle.g_tree.specs.State.{with_file as tree_with_file}
-use Rattle.g_contents.specs.Facts.{OnlineFacts}
+use Rattle.g_disc_contents.specs.Facts.{OnlineFacts}
 use Rattle.g_online.specs.declared.change.Change.{Change}
 use Rattle.g_online.specs.declared.change.Change.TheVariants.{Bring, PutFile}
 use Rattle.g_online.specs.declared.fault.OnlineFault.{OnlineFault}
@@ -28,10 +28,10 @@ use Rattle.g_online.specs.Allowed.{IsAllowed}
 use Rattle.g_online.specs.Change.{need_of}
 use Rattle.g_online.specs.Committed.{HasCommitted, commit_blocks}
 use Rattle.g_online.specs.Copies.{with_copy_at}
-use Rattle.g_online.specs.Done.{IsApplied, room_for}
-use Rattle.g_online.specs.Kept.{AreWhole, GivesUnless, IsKept, Memory, copy_places, facts_of, head_after}
-use Rattle.g_online.specs.Off.{places_off}
-use Rattle.g_online.specs.Put.{IsUntouched, Parts, TakesBeside, TakesFilesOff, is_pinned_at, noted_for, recs_with, stamped, users_with, with_bytes}
+use Rattle.g_online.specs.Outcomes.{IsApplied, room_for}
+use Rattle.g_online.specs.Invariant.{AreWhole, GivesUnless, IsKept, Memory, copy_places, facts_of, head_after}
+use Rattle.g_online.specs.Unloading.{places_off}
+use Rattle.g_online.specs.NewBytes.{IsUntouched, Parts, TakesBeside, TakesFilesOff, is_pinned_at, noted_for, recs_with, stamped, users_with, with_bytes}
 use Rattle.g_online.proofs.BringStepLemmas.{bring_needing, bring_ready, bring_short, is_off}
 use Rattle.g_online.proofs.CopyLemmas.{Copies}
 use Rattle.g_online.proofs.NeedLemmas.{IsAsked, asked_room, asked_unjammed, bytes_stopped, last_answered, new_copy}

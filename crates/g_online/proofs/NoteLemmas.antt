@@ -4,10 +4,10 @@ use Rattle.std.specs.Prelude.{All, is_some}
 use Rattle.std.proofs.lemmas.List.Elements.{All-append, All-cons, All-filter, All-weaker}
 use Rattle.g_entry.specs.declared.file_rec.FileRec.{FileRec}
 use Rattle.g_dirs.specs.Directory.{FileEntry}
-use Rattle.g_contents.specs.Contents.{has, with_number}
-use Rattle.g_contents.specs.Facts.{AreNumbers}
+use Rattle.g_disc_contents.specs.Contents.{has, with_number}
+use Rattle.g_disc_contents.specs.Facts.{AreNumbers}
 use Rattle.g_online.specs.declared.pinned.Pinned.{Pinned}
-use Rattle.g_online.specs.Kept.{AreNoted, PinsAre, WaitsFor, WaitsPinned, has_stamp, pins_of}
+use Rattle.g_online.specs.Invariant.{AreNoted, PinsAre, WaitsFor, WaitsPinned, has_stamp, pins_of}
 use Rattle.g_online.proofs.NumberLemmas.{has_more, has_with, numbers_with}
 
 -- who is touched then

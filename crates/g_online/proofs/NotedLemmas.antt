@@ -11,17 +11,17 @@ use Rattle.g_slots.specs.declared.side.Side.{Side}
 use Rattle.g_dirs.specs.Commit.{OldOrNew}
 use Rattle.g_dirs.specs.Directory.{directory_of}
 use Rattle.g_dirs.specs.Pages.{Remembered}
-use Rattle.g_contents.specs.Commits.{Commits}
-use Rattle.g_contents.specs.Contents.{Holds}
-use Rattle.g_contents.specs.Facts.{IsTied, OnlineFacts, Pin}
+use Rattle.g_disc_contents.specs.Commits.{Commits}
+use Rattle.g_disc_contents.specs.Contents.{Holds}
+use Rattle.g_disc_contents.specs.Facts.{IsTied, OnlineFacts, Pin}
 use Rattle.g_online.specs.declared.change.Change.TheVariants.{Adopt}
 use Rattle.g_online.specs.declared.fault.OnlineFault.{OnlineFault}
 use Rattle.g_online.specs.declared.fault.OnlineFault.TheVariants.{Stopped}
 use Rattle.g_online.specs.declared.pinned.Pinned.{Pinned}
 use Rattle.g_online.specs.Change.{changed, unjammed}
 use Rattle.g_online.specs.Committed.{HasCommitted, commit_blocks}
-use Rattle.g_online.specs.Done.{HasChanged, HasStopped, IsApplied}
-use Rattle.g_online.specs.Kept.{AreNoted, AreWhole, IsKept, Memory, PinsAre, directory_in, facts_of}
+use Rattle.g_online.specs.Outcomes.{HasChanged, HasStopped, IsApplied}
+use Rattle.g_online.specs.Invariant.{AreNoted, AreWhole, IsKept, Memory, PinsAre, directory_in, facts_of}
 use Rattle.g_online.specs.Ready.{StoppedAdopting, adopted}
 use Rattle.g_online.proofs.StepLemmas.{IsReady, applied, kept_behind}
 use Rattle.g_online.proofs.TieLemmas.{tied}

@@ -10,8 +10,8 @@ use Rattle.std.proofs.lemmas.Cmp.{ranked}
 use Rattle.std.proofs.lemmas.List.Elements.{All-append, All-cons, All-filter, All-weaker, filter_passes}
 use Rattle.std.proofs.lemmas.List.Edits.{length-insert}
 use Rattle.std.proofs.lemmas.List.Kept.{AllPairs-cons, AllPairs-filter, AllPairs-from_increasing}
-use Rattle.g_contents.specs.Contents.{has, with_number}
-use Rattle.g_contents.specs.Facts.{AreNumbers}
+use Rattle.g_disc_contents.specs.Contents.{has, with_number}
+use Rattle.g_disc_contents.specs.Facts.{AreNumbers}
 
 -- WHO IS AMONG THEM
 or_left : (a b : Bool) → a ≡ true → (a || b) ≡ true

@@ -14,10 +14,10 @@ use Rattle.g_slots.specs.declared.side.Side.TheVariants.{A, B}
 use Rattle.g_dirs.specs.Directory.{copy_at}
 use Rattle.g_dirs.specs.Pages.{Remembered, marked, marks_of}
 use Rattle.g_dirs.proofs.PageLemmas.{slice_get-set_same}
-use Rattle.g_contents.specs.Contents.{has}
+use Rattle.g_disc_contents.specs.Contents.{has}
 use Rattle.g_online.specs.Copies.{without_copies, without_copy}
-use Rattle.g_online.specs.Kept.{copy_places}
-use Rattle.g_online.specs.Off.{MarksFiles, places_off}
+use Rattle.g_online.specs.Invariant.{copy_places}
+use Rattle.g_online.specs.Unloading.{MarksFiles, places_off}
 use Rattle.g_online.proofs.CopyLemmas.{copy_at-passing}
 use Rattle.g_online.proofs.PoolLemmas.{given_none, given_then, still_taken}
 use Rattle.g_online.proofs.UseLemmas.{left_all, left_apart, right_all, right_apart}

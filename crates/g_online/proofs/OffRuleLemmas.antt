@@ -4,7 +4,7 @@ use Rattle.std.specs.Prelude.{All}
 use Rattle.std.proofs.lemmas.List.Elements.{All-map}
 use Rattle.g_entry.specs.Rules.{StampsBelow}
 use Rattle.g_tree.specs.Records.{IsRecords}
-use Rattle.g_contents.specs.Contents.{Contents, File, committed, has, offline_in, recs_in, taken_off}
+use Rattle.g_disc_contents.specs.Contents.{Contents, File, committed, has, offline_in, recs_in, taken_off}
 use Rattle.g_online.specs.Allowed.{KeepsRules, Lies}
 use Rattle.g_online.specs.Change.{with_files}
 

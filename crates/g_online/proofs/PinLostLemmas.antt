@@ -7,15 +7,15 @@ use Rattle.g_copy.specs.declared.copy.DiscCopy.{DiscCopy}
 use Rattle.g_disc.specs.Disc.{DiscState}
 use Rattle.g_entry.specs.declared.file_rec.FileRec.{FileRec}
 use Rattle.g_dirs.specs.Directory.{FileEntry, all_places, entries_of}
-use Rattle.g_contents.specs.Contents.{has}
-use Rattle.g_contents.specs.Facts.{AreNumbers, OnlineFacts}
+use Rattle.g_disc_contents.specs.Contents.{has}
+use Rattle.g_disc_contents.specs.Facts.{AreNumbers, OnlineFacts}
 use Rattle.g_online.specs.declared.pinned.Pinned.{Pinned}
-use Rattle.g_online.specs.Dumped.{is_filed, lost_places, pinned_in}
-use Rattle.g_online.specs.Kept.{IsKept, IsPooled, Memory, directory_in, facts_of, is_current, orphans, used_places}
+use Rattle.g_online.specs.Dumped.{is_stamp_current, lost_places, pinned_in}
+use Rattle.g_online.specs.Invariant.{IsKept, IsPooled, Memory, directory_in, facts_of, is_current, orphans, used_places}
 use Rattle.g_online.proofs.UseLemmas.{IsUsed, may_give, same_swap, used_given, used_same}
 
 -- these are the blocks that no file has
-filed_is : (files : List FileRec) (online : List (ℕ × DiscCopy)) (s : ℕ) → is_current (entries_of files online) s ≡ is_filed files s
+filed_is : (files : List FileRec) (online : List (ℕ × DiscCopy)) (s : ℕ) → is_current (entries_of files online) s ≡ is_stamp_current files s
 filed_is [] online s = refl
 filed_is (r ∷ files) online s = ap (λ (b : Bool). (r.stamp == s) || b) (filed_is files online s)
 
@@ -29,7 +29,7 @@ lost_list files online [] = refl
 lost_list files online (p ∷ pins) =
     let rest : List Pinned = filter (λ (q : Pinned). not (is_current (entries_of files online) q.stamp)) pins in
     ap (λ (b : Bool). flat_map (λ (q : Pinned). q.blocks) (cond (not b) (p ∷ rest) rest)) (filed_is files online p.stamp)
-    ∙ by_filed (is_filed files p.stamp) p rest (lost_places files pins) (lost_list files online pins)
+    ∙ by_filed (is_stamp_current files p.stamp) p rest (lost_places files pins) (lost_list files online pins)
 
 pub lost_is : (files : List FileRec) (online : List (ℕ × DiscCopy)) (pins : Option (List Pinned)) → orphans pins (entries_of files online) ≡ lost_places files (pinned_in pins)
 lost_is files online None = refl

@@ -7,7 +7,7 @@ use Rattle.std.proofs.lemmas.List.Elements.{All-head, All-tail, All-contains, Al
 use Rattle.std.proofs.lemmas.List.Sums.{sum_by-append, sum_by-cons}
 use Rattle.g_dirs.specs.Directory.{FileEntry, places_of, all_places}
 use Rattle.g_online.specs.declared.pinned.Pinned.{Pinned}
-use Rattle.g_online.specs.Kept.{is_current, orphans, used_places}
+use Rattle.g_online.specs.Invariant.{is_current, orphans, used_places}
 use Rattle.g_online.proofs.UseLemmas.{SameUse}
 
 sum-flat_map : {X : Type 0} (f : ℕ → ℕ) (g : X → List ℕ) (xs : List X) → sum_by f (flat_map g xs) ≡ sum_by (λ x. sum_by f (g x)) xs

@@ -9,8 +9,8 @@ use Rattle.g_blocks.specs.Pool.{ChangesOnly, HasGiven, HasTaken, IsFree, IsTaken
 use Rattle.g_copy.specs.declared.copy.DiscCopy.{DiscCopy}
 use Rattle.g_dirs.specs.Directory.{copy_at}
 use Rattle.g_dirs.proofs.EntryLemmas.{same_lists}
-use Rattle.g_online.specs.Kept.{copy_places}
-use Rattle.g_online.specs.Off.{places_off}
+use Rattle.g_online.specs.Invariant.{copy_places}
+use Rattle.g_online.specs.Unloading.{places_off}
 use Rattle.g_online.proofs.UseLemmas.{contains_or_not, left_all, left_apart, parts_apart, right_all, right_apart}
 
 -- FLAGS: a free block's is false, a taken one's true

@@ -18,12 +18,12 @@ use Rattle.g_tree.specs.State.{with_file as tree_with_file}
 use Rattle.g_dirs.specs.Directory.{AreCopies, Directory, FileEntry, IsCopyOf, copy_at, directory_of, entries_of, places_of}
 use Rattle.g_dirs.specs.Image.{entry_at}
 use Rattle.g_dirs.specs.Pages.{Covers, Remembered}
-use Rattle.g_contents.specs.Contents.{contents_of, has, with_number}
+use Rattle.g_disc_contents.specs.Contents.{contents_of, has, with_number}
 use Rattle.g_online.specs.declared.change.Change.TheVariants.{PutFile}
 use Rattle.g_online.specs.declared.pinned.Pinned.{Pinned}
 use Rattle.g_online.specs.Change.{changed as changed_to}
 use Rattle.g_online.specs.Copies.{with_copy_at, without_copies}
-use Rattle.g_online.specs.Kept.{AreNoted, GivesUnless, IsAgreed, IsFileOf, IsPinned, Memory, PinsAre, WaitsFor, WaitsPinned, directory_in, head_after, used_places}
+use Rattle.g_online.specs.Invariant.{AreNoted, GivesUnless, IsAgreed, IsFileOf, IsPinned, Memory, PinsAre, WaitsFor, WaitsPinned, directory_in, head_after, used_places}
 use Rattle.g_online.proofs.ChangeLemmas.{committed_head, put_contents}
 use Rattle.g_online.proofs.CopyLemmas.{Copies, copy_at-put}
 use Rattle.g_online.proofs.EntryLemmas.{made-put}

@@ -23,15 +23,15 @@ use Rattle.g_tree.proofs.PlaceLemmas.{stands_found}
 use Rattle.g_dirs.specs.Directory.{FileEntry, all_places, copy_at, entries_of, places_of}
 use Rattle.g_dirs.specs.Pages.{KeepsPages, Remembered}
 use Rattle.g_dirs.proofs.CopyLemmas.{recs-entries}
-use Rattle.g_contents.specs.Contents.{contents_of, with_number}
-use Rattle.g_contents.specs.Facts.{OnlineFacts}
+use Rattle.g_disc_contents.specs.Contents.{contents_of, with_number}
+use Rattle.g_disc_contents.specs.Facts.{OnlineFacts}
 use Rattle.g_online.specs.declared.change.Change.TheVariants.{PutFile}
 use Rattle.g_online.specs.declared.fault.OnlineFault.{OnlineFault}
 use Rattle.g_online.specs.Allowed.{KeepsRules}
 use Rattle.g_online.specs.Change.{changed as changed_to}
 use Rattle.g_online.specs.Copies.{with_copy_at}
-use Rattle.g_online.specs.Kept.{AreWhole, GivesUnless, IsAgreed, IsKept, IsPooled, Memory, copy_places, directory_in, head_after, orphans, pins_of, used_places}
-use Rattle.g_online.specs.Put.{is_pinned_at}
+use Rattle.g_online.specs.Invariant.{AreWhole, GivesUnless, IsAgreed, IsKept, IsPooled, Memory, copy_places, directory_in, head_after, orphans, pins_of, used_places}
+use Rattle.g_online.specs.NewBytes.{is_pinned_at}
 use Rattle.g_online.proofs.CopyLemmas.{Copies, copy_behind}
 use Rattle.g_online.proofs.EraseLemmas.{entries_differ, entries_rise, places_are, pooled, use_gone, used}
 use Rattle.g_online.proofs.KeepLemmas.{rules_kept}

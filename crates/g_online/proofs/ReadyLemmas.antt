@@ -9,13 +9,13 @@ use Rattle.g_slots.specs.declared.side.Side.{Side}
 use Rattle.g_dirs.specs.Directory.{AreCopies, AreRecords, Directory, IsDirectory, all_places}
 use Rattle.g_dirs.specs.Image.{block_of}
 use Rattle.g_dirs.specs.Pages.{Covers, KeepsPages, Remembered, Remembers}
-use Rattle.g_contents.specs.Contents.{contents_of}
-use Rattle.g_contents.specs.Facts.{OnlineFacts}
+use Rattle.g_disc_contents.specs.Contents.{contents_of}
+use Rattle.g_disc_contents.specs.Facts.{OnlineFacts}
 use Rattle.g_online.specs.declared.change.Change.{Change}
 use Rattle.g_online.specs.Allowed.{IsAllowed, KeepsRules}
 use Rattle.g_online.specs.Change.{changed as changed_to, changed_after, touched_after, need_of}
-use Rattle.g_online.specs.Done.{commits_of}
-use Rattle.g_online.specs.Kept.{AreNoted, IsKept, IsPooled, Memory, PinsAre, directory_in, facts_of, orphans}
+use Rattle.g_online.specs.Outcomes.{commits_of}
+use Rattle.g_online.specs.Invariant.{AreNoted, IsKept, IsPooled, Memory, PinsAre, directory_in, facts_of, orphans}
 use Rattle.g_online.proofs.KeepLemmas.{CopyFits, rules_kept}
 use Rattle.g_online.proofs.SameLemmas.{left_part}
 use Rattle.g_online.proofs.StepLemmas.{IsReady, beside_none, pins_told}

@@ -14,13 +14,13 @@ use Rattle.g_entry.specs.declared.user_rec.UserRec.{UserRec}
 use Rattle.g_dirs.specs.Directory.{Directory, FileEntry, LiesSomewhere, directory_of, entries_of}
 use Rattle.g_dirs.specs.Pages.{KeepsPages, Remembered, marked}
 use Rattle.g_tree.specs.Records.{IsRecords, name_of}
-use Rattle.g_contents.specs.Contents.{File, contents_of, file_of}
-use Rattle.g_contents.specs.Facts.{OnlineFacts}
+use Rattle.g_disc_contents.specs.Contents.{File, contents_of, file_of}
+use Rattle.g_disc_contents.specs.Facts.{OnlineFacts}
 use Rattle.g_online.specs.declared.change.Change.TheVariants.{SetUser, SetIntent}
 use Rattle.g_online.specs.declared.pinned.Pinned.{Pinned}
 use Rattle.g_online.specs.Allowed.{IsAllowed}
 use Rattle.g_online.specs.Change.{changed}
-use Rattle.g_online.specs.Kept.{AreNoted, IsAgreed, IsKept, Memory, PinsAre, directory_in, facts_of, head_after, pins_of}
+use Rattle.g_online.specs.Invariant.{AreNoted, IsAgreed, IsKept, Memory, PinsAre, directory_in, facts_of, head_after, pins_of}
 use Rattle.g_online.proofs.KeepLemmas.{CopyFits}
 use Rattle.g_online.proofs.MarkLemmas.{but_head, but_user}
 use Rattle.g_online.proofs.ReadyLemmas.{CoversBut, StillRemembers, allowed_here, allowed_live, make_ready, rules_then}

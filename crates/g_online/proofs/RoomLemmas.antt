@@ -8,11 +8,11 @@ use Rattle.g_blocks.specs.Pool.{free_count}
 use Rattle.g_disc.specs.Disc.{DiscState}
 use Rattle.g_entry.specs.declared.file_rec.FileRec.{FileRec}
 use Rattle.g_dirs.specs.Directory.{FileEntry, LiesSomewhere, all_places, places_of}
-use Rattle.g_contents.specs.Contents.{File, file_of}
-use Rattle.g_contents.specs.Facts.{Pin, online_blocks, pinned_blocks, room_of, is_current as is_current_file}
+use Rattle.g_disc_contents.specs.Contents.{File, file_of}
+use Rattle.g_disc_contents.specs.Facts.{Pin, online_blocks, pinned_blocks, room_of, is_current as is_current_file}
 use Rattle.g_online.specs.Room.{FitsDisc}
 use Rattle.g_online.specs.declared.pinned.Pinned.{Pinned}
-use Rattle.g_online.specs.Kept.{IsKept, IsPinned, Memory, PinsAre, directory_in, facts_of, is_current, orphans, pin_of, pins_of}
+use Rattle.g_online.specs.Invariant.{IsKept, IsPinned, Memory, PinsAre, directory_in, facts_of, is_current, orphans, pin_of, pins_of}
 use Rattle.g_online.proofs.ContentLemmas.{Told, rec_is}
 
 -- the blocks of one file

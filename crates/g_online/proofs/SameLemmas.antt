@@ -10,10 +10,10 @@ use Rattle.g_copy.specs.Copy.{blocks_at}
 use Rattle.g_slots.specs.Layout.{copy_area}
 use Rattle.g_dirs.specs.Commit.{NewDirectory}
 use Rattle.g_dirs.specs.Directory.{Directory, FileEntry, all_places, places_of}
-use Rattle.g_contents.specs.Contents.{Contents, File, contents_of, file_of}
-use Rattle.g_contents.specs.Facts.{Pin}
+use Rattle.g_disc_contents.specs.Contents.{Contents, File, contents_of, file_of}
+use Rattle.g_disc_contents.specs.Facts.{Pin}
 use Rattle.g_online.specs.declared.pinned.Pinned.{Pinned}
-use Rattle.g_online.specs.Kept.{IsPinned, PinsAre, pin_of, pins_of}
+use Rattle.g_online.specs.Invariant.{IsPinned, PinsAre, pin_of, pins_of}
 
 -- the blocks of these numbers are as they were
 abbrev pub IsSame : List (List ℕ) → List (List ℕ) → ℕ → Type 0

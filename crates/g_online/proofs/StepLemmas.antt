@@ -15,18 +15,18 @@ use Rattle.g_slots.specs.Layout.{other}
 use Rattle.g_dirs.specs.Commit.{NewDirectory, OldOrNew}
 use Rattle.g_dirs.specs.Directory.{AreCopies, IsDirectory, all_places, directory_of}
 use Rattle.g_dirs.specs.Pages.{KeepsPages, Remembered, pages_of, unwritten}
-use Rattle.g_contents.specs.Commits.{Committed, Commits}
-use Rattle.g_contents.specs.Contents.{Contents, Holds, contents_of}
-use Rattle.g_contents.specs.Facts.{IsTied, OnlineFacts}
-use Rattle.g_contents.proofs.CommitLemmas.{commit_holds}
+use Rattle.g_disc_contents.specs.Commits.{Committed, Commits}
+use Rattle.g_disc_contents.specs.Contents.{Contents, Holds, contents_of}
+use Rattle.g_disc_contents.specs.Facts.{IsTied, OnlineFacts}
+use Rattle.g_disc_contents.proofs.CommitLemmas.{commit_holds}
 use Rattle.g_online.specs.declared.change.Change.{Change}
 use Rattle.g_online.specs.declared.fault.OnlineFault.{OnlineFault}
 use Rattle.g_online.specs.declared.fault.OnlineFault.TheVariants.{DiscFull, NoMemory, Stopped}
 use Rattle.g_online.specs.declared.pinned.Pinned.{Pinned}
 use Rattle.g_online.specs.Change.{changed as changed_to, changed_after, touched_after, need_of, takes_memory, touches, with_all}
 use Rattle.g_online.specs.Committed.{HasCommitted, IsMarked, commit_blocks}
-use Rattle.g_online.specs.Done.{AfterStop, HasChanged, IsApplied, commits_of, room_for}
-use Rattle.g_online.specs.Kept.{AreNoted, AreWhole, IsKept, IsPooled, Memory, PinsAre, directory_in, facts_of, pins_of}
+use Rattle.g_online.specs.Outcomes.{AfterStop, HasChanged, IsApplied, commits_of, room_for}
+use Rattle.g_online.specs.Invariant.{AreNoted, AreWhole, IsKept, IsPooled, Memory, PinsAre, directory_in, facts_of, pins_of}
 use Rattle.g_online.proofs.SameLemmas.{same_area, same_contents, same_pins, AreSame}
 use Rattle.g_online.proofs.TieLemmas.{tied}
 use Rattle.g_online.proofs.WriteLemmas.{same_pages}

@@ -13,10 +13,10 @@ use Rattle.g_slots.specs.Layout.{GateNames}
 use Rattle.g_dirs.specs.Directory.{Directory, FileEntry, IsDirectory}
 use Rattle.g_dirs.specs.Image.{StandsFor}
 use Rattle.g_dirs.specs.Pages.{Remembered, Remembers}
-use Rattle.g_contents.specs.Contents.{File, contents_of, file_of}
-use Rattle.g_contents.specs.Facts.{IsPinOf, IsTied, OnlineFacts}
+use Rattle.g_disc_contents.specs.Contents.{File, contents_of, file_of}
+use Rattle.g_disc_contents.specs.Facts.{IsPinOf, IsTied, OnlineFacts}
 use Rattle.g_online.specs.declared.pinned.Pinned.{Pinned}
-use Rattle.g_online.specs.Kept.{AreWhole, IsFileOf, IsKept, IsPinned, IsPooled, IsStored, Memory, PinsAre, WaitsFor, directory_in, facts_of, pin_of, pins_of}
+use Rattle.g_online.specs.Invariant.{AreWhole, IsFileOf, IsKept, IsPinned, IsPooled, IsStored, Memory, PinsAre, WaitsFor, directory_in, facts_of, pin_of, pins_of}
 
 not_told : (a : List (List ℕ)) → (let none : Option (List (List ℕ)) = None in none ≡ Some a) → ⊥
 not_told a e = cc

@@ -11,16 +11,16 @@ use Rattle.g_entry.specs.declared.file_rec.FileRec.{FileRec}
 use Rattle.g_entry.specs.declared.head.Head.{Head}
 use Rattle.g_entry.specs.declared.user_rec.UserRec.{UserRec}
 use Rattle.g_entry.specs.FileFields.{IsFile}
-use Rattle.g_contents.specs.Commits.{Commits}
-use Rattle.g_contents.specs.Contents.{Contents, File, Holds, taken_off, with_file}
-use Rattle.g_contents.specs.Facts.{Layout, OnlineFacts}
+use Rattle.g_disc_contents.specs.Commits.{Commits}
+use Rattle.g_disc_contents.specs.Contents.{Contents, File, Holds, taken_off, with_file}
+use Rattle.g_disc_contents.specs.Facts.{Layout, OnlineFacts}
 use Rattle.g_online.specs.declared.change.Change.{Change}
 use Rattle.g_online.specs.declared.change.Change.TheVariants.{PutFile, Unload}
 use Rattle.g_online.specs.declared.fault.OnlineFault.{OnlineFault}
 use Rattle.g_online.specs.declared.fault.OnlineFault.TheVariants.{DiscFull, NoMemory, Stopped}
 use Rattle.g_online.specs.Allowed.{AreUnjammable, IsAllowed, KeepsRules}
 use Rattle.g_online.specs.Change.{changed, need_of, takes_memory, told_bytes, touches, unjammed, unjammed_by, with_all}
-use Rattle.g_online.specs.Done.{AfterStop, HasChanged, IsApplied, commits_of, room_for}
+use Rattle.g_online.specs.Outcomes.{AfterStop, HasChanged, IsApplied, commits_of, room_for}
 
 -- which answer it was
 pub stopped_is : (e : OnlineFault) → (let r : Result (Unit {0}) OnlineFault = Err e in r ≡ Err Stopped) → e ≡ Stopped

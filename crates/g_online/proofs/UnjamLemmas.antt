@@ -24,8 +24,8 @@ use Rattle.g_dirs.specs.Directory.{AreCopies, AreRecords, Directory, FileEntry, 
 use Rattle.g_dirs.specs.Image.{entry_at}
 use Rattle.g_dirs.specs.Pages.{KeepsPages, Remembered, marked}
 use Rattle.g_dirs.proofs.CopyLemmas.{recs-entries}
-use Rattle.g_contents.specs.Contents.{File, contents_of, file_of, has, taken_off}
-use Rattle.g_contents.specs.Facts.{OnlineFacts, room_with}
+use Rattle.g_disc_contents.specs.Contents.{File, contents_of, file_of, has, taken_off}
+use Rattle.g_disc_contents.specs.Facts.{OnlineFacts, room_with}
 use Rattle.g_online.specs.declared.change.Change.{Change}
 use Rattle.g_online.specs.declared.change.Change.TheVariants.{Unload}
 use Rattle.g_online.specs.declared.fault.OnlineFault.{OnlineFault}
@@ -34,10 +34,10 @@ use Rattle.g_online.specs.Allowed.{IsAllowed}
 use Rattle.g_online.specs.Change.{need_of}
 use Rattle.g_online.specs.Committed.{HasCommitted, IsMarked, commit_blocks}
 use Rattle.g_online.specs.Copies.{without_copies, without_copy}
-use Rattle.g_online.specs.Done.{IsApplied, room_for}
-use Rattle.g_online.specs.Kept.{AreNoted, AreWhole, IsKept, IsPooled, Memory, PinsAre, directory_in, facts_of, head_after, orphans, used_places}
-use Rattle.g_online.specs.Off.{MarksFiles, places_off}
-use Rattle.g_online.specs.Put.{IsUntouched, Parts, TakesFilesOff}
+use Rattle.g_online.specs.Outcomes.{IsApplied, room_for}
+use Rattle.g_online.specs.Invariant.{AreNoted, AreWhole, IsKept, IsPooled, Memory, PinsAre, directory_in, facts_of, head_after, orphans, used_places}
+use Rattle.g_online.specs.Unloading.{MarksFiles, places_off}
+use Rattle.g_online.specs.NewBytes.{IsUntouched, Parts, TakesFilesOff}
 use Rattle.g_online.proofs.ChangeLemmas.{unload_contents}
 use Rattle.g_online.proofs.ContentLemmas.{taken_away}
 use Rattle.g_online.proofs.CopyLemmas.{Copies}

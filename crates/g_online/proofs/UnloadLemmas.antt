@@ -18,14 +18,14 @@ use Rattle.g_dirs.specs.Image.{block_of, entry_at}
 use Rattle.g_dirs.specs.Pages.{Covers, KeepsPages, Remembered, Remembers, marked}
 use Rattle.g_dirs.proofs.CopyLemmas.{recs-entries}
 use Rattle.g_dirs.proofs.PageLemmas.{same_pages_of}
-use Rattle.g_contents.specs.Contents.{File, contents_of, file_of, has}
-use Rattle.g_contents.specs.Facts.{OnlineFacts}
+use Rattle.g_disc_contents.specs.Contents.{File, contents_of, file_of, has}
+use Rattle.g_disc_contents.specs.Facts.{OnlineFacts}
 use Rattle.g_online.specs.declared.change.Change.TheVariants.{Unload}
 use Rattle.g_online.specs.declared.pinned.Pinned.{Pinned}
 use Rattle.g_online.specs.Allowed.{AreUnjammable, IsAllowed, IsUnjammable}
 use Rattle.g_online.specs.Copies.{without_copies}
-use Rattle.g_online.specs.Kept.{AreNoted, IsAgreed, IsFileOf, IsKept, IsPinned, IsPooled, Memory, PinsAre, WaitsFor, WaitsPinned, copy_places, directory_in, facts_of, head_after, is_current, orphans, used_places}
-use Rattle.g_online.specs.Off.{MarksFiles, places_off}
+use Rattle.g_online.specs.Invariant.{AreNoted, IsAgreed, IsFileOf, IsKept, IsPinned, IsPooled, Memory, PinsAre, WaitsFor, WaitsPinned, copy_places, directory_in, facts_of, head_after, is_current, orphans, used_places}
+use Rattle.g_online.specs.Unloading.{MarksFiles, places_off}
 use Rattle.g_online.proofs.ChangeLemmas.{unload_contents}
 use Rattle.g_online.proofs.CopyLemmas.{Copies, copy_at-failing, copy_at-passing}
 use Rattle.g_online.proofs.KeepLemmas.{CopyFits}

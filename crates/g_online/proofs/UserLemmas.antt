@@ -8,12 +8,12 @@ use Rattle.g_entry.specs.declared.user_rec.UserRec.{UserRec}
 use Rattle.g_dirs.specs.Directory.{Directory, directory_of}
 use Rattle.g_dirs.specs.Pages.{Remembered, marked}
 use Rattle.g_tree.specs.Records.{IsRecords}
-use Rattle.g_contents.specs.Contents.{contents_of, with_number}
-use Rattle.g_contents.specs.Facts.{OnlineFacts}
+use Rattle.g_disc_contents.specs.Contents.{contents_of, with_number}
+use Rattle.g_disc_contents.specs.Facts.{OnlineFacts}
 use Rattle.g_online.specs.declared.change.Change.TheVariants.{AddUser}
 use Rattle.g_online.specs.Allowed.{IsAllowed}
 use Rattle.g_online.specs.Change.{changed}
-use Rattle.g_online.specs.Kept.{IsAgreed, IsKept, Memory, PinsAre, directory_in, facts_of, head_after}
+use Rattle.g_online.specs.Invariant.{IsAgreed, IsKept, Memory, PinsAre, directory_in, facts_of, head_after}
 use Rattle.g_online.proofs.MarkLemmas.{but_head, but_user}
 use Rattle.g_online.proofs.NoteLemmas.{noted_then, pins_then, touched_then, touched_with}
 use Rattle.g_online.proofs.ReadyLemmas.{CoversBut, StillRemembers, allowed_live, make_ready, rules_then}

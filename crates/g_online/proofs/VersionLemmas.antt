@@ -10,9 +10,9 @@ use Rattle.g_copy.specs.declared.copy.DiscCopy.{DiscCopy}
 use Rattle.g_entry.specs.declared.file_rec.FileRec.{FileRec}
 use Rattle.g_dirs.specs.Directory.{FileEntry, IsCopyOf, all_places, copy_at, entries_of, places_of}
 use Rattle.g_dirs.specs.Image.{entry_at}
-use Rattle.g_contents.specs.Contents.{has}
+use Rattle.g_disc_contents.specs.Contents.{has}
 use Rattle.g_online.specs.declared.pinned.Pinned.{Pinned}
-use Rattle.g_online.specs.Kept.{AreNoted, IsFileOf, IsPinned, IsPooled, PinsAre, WaitsFor, WaitsPinned, has_stamp, is_current, orphans, used_places}
+use Rattle.g_online.specs.Invariant.{AreNoted, IsFileOf, IsPinned, IsPooled, PinsAre, WaitsFor, WaitsPinned, has_stamp, is_current, orphans, used_places}
 use Rattle.g_online.proofs.KeepLemmas.{CopyFits}
 
 -- the same version in the same place

@@ -9,14 +9,14 @@ use Rattle.g_copy.specs.declared.copy.DiscCopy.{DiscCopy}
 use Rattle.g_copy.specs.Copy.{OnlyAt}
 use Rattle.g_disc.specs.Disc.{DiscState, WritesOnly}
 use Rattle.g_disc.proofs.CallLemmas.{Causes-WritesOnly_err, Causes-WritesOnly_ok}
-use Rattle.g_contents.specs.Contents.{File, taken_off}
-use Rattle.g_contents.specs.Facts.{OnlineFacts, room_with}
+use Rattle.g_disc_contents.specs.Contents.{File, taken_off}
+use Rattle.g_disc_contents.specs.Facts.{OnlineFacts, room_with}
 use Rattle.g_online.specs.declared.change.Change.{Change}
 use Rattle.g_online.specs.declared.fault.OnlineFault.{OnlineFault}
 use Rattle.g_online.specs.declared.fault.OnlineFault.TheVariants.{Stopped}
 use Rattle.g_online.specs.Change.{need_of, unjammed_by}
-use Rattle.g_online.specs.Done.{IsApplied, room_for}
-use Rattle.g_online.specs.Kept.{AreWhole, IsKept, Memory, facts_of}
+use Rattle.g_online.specs.Outcomes.{IsApplied, room_for}
+use Rattle.g_online.specs.Invariant.{AreWhole, IsKept, Memory, facts_of}
 use Rattle.g_online.proofs.BesideLemmas.{beside_contents, beside_holds, beside_kept, beside_pins}
 use Rattle.g_online.proofs.RoomLemmas.{room_is}
 use Rattle.g_online.proofs.StepLemmas.{IsBeside, both_told}

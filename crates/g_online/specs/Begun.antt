@@ -15,13 +15,13 @@ use Rattle.g_dirs.specs.declared.fault.DirsFault.TheVariants as dirs
 use Rattle.g_dirs.specs.Directory.{AreRecords, Directory, IsDirectory}
 use Rattle.g_dirs.specs.Image.{StandsFor}
 use Rattle.g_dirs.specs.Pages.{Remembered, nothing}
-use Rattle.g_contents.specs.Commits.{Commits}
-use Rattle.g_contents.specs.Contents.{Contents, File, Holds}
-use Rattle.g_contents.specs.Facts.{Layout, OnlineFacts}
+use Rattle.g_disc_contents.specs.Commits.{Commits}
+use Rattle.g_disc_contents.specs.Contents.{Contents, File, Holds}
+use Rattle.g_disc_contents.specs.Facts.{Layout, OnlineFacts}
 use Rattle.g_online.specs.declared.fault.OnlineFault.{OnlineFault}
 use Rattle.g_online.specs.declared.fault.OnlineFault.TheVariants.{NoFilestore, NoMemory, ReadFault, Stopped}
 use Rattle.g_online.specs.Change.{told_bytes}
-use Rattle.g_online.specs.Kept.{Memory}
+use Rattle.g_online.specs.Invariant.{Memory}
 
 -- nothing is pinned or touched; all users are changed
 pub record IsBegun (o : OnlineFacts) : Type 0 where

@@ -9,7 +9,7 @@ use Rattle.g_slots.specs.Layout.{GateNames, other}
 use Rattle.g_dirs.specs.Commit.{NewDirectory}
 use Rattle.g_dirs.specs.Directory.{AreRecords, Directory, IsDirectory}
 use Rattle.g_dirs.specs.Pages.{Covers, Remembered, RemembersAll, Remembers, pages_of, unwritten}
-use Rattle.g_online.specs.Kept.{IsStored}
+use Rattle.g_online.specs.Invariant.{IsStored}
 
 -- the directory may be written: it keeps the rules, and each change is marked
 pub record IsMarked (disc : DiscState) (side : Side) (pages : Remembered) (d : Directory) : Type 0 where

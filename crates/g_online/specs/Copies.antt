@@ -1,7 +1,7 @@
 -- COPIES ON DISC by file number, in order of number, and how their list changes.
 use Rattle.std.specs.Prelude.{ℕ, ◌==◌, nat_lt, not, List, ◌∷◌, ◌++◌, filter}
 use Rattle.g_copy.specs.declared.copy.DiscCopy.{DiscCopy}
-use Rattle.g_contents.specs.Contents.{has}
+use Rattle.g_disc_contents.specs.Contents.{has}
 
 -- a copy among the others, in the place of one of its number
 abbrev pub with_copy_at : ℕ × DiscCopy → List (ℕ × DiscCopy) → List (ℕ × DiscCopy)

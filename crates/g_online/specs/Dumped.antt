@@ -8,9 +8,9 @@ use Rattle.g_entry.specs.declared.file_rec.TapeCopy.{TapeCopy}
 use Rattle.g_slots.specs.declared.side.Side.{Side}
 use Rattle.g_dirs.specs.Directory.{copy_at}
 use Rattle.g_dirs.specs.Pages.{KeepsPages, Remembered, marks_of}
-use Rattle.g_contents.specs.Contents.{copy_of}
+use Rattle.g_disc_contents.specs.Contents.{copy_of}
 use Rattle.g_online.specs.declared.pinned.Pinned.{Pinned}
-use Rattle.g_online.specs.Kept.{copy_places}
+use Rattle.g_online.specs.Invariant.{copy_places}
 
 -- the pinned versions, if there are any
 abbrev pub pinned_in : Option (List Pinned) → List Pinned
@@ -23,11 +23,11 @@ place_in None part = None
 place_in (Some p) part = slice_get p.blocks part
 
 -- WHAT IS LET GO: the blocks of versions that no file has any more
-abbrev pub is_filed : List FileRec → ℕ → Bool
-is_filed files stamp = list_any (λ r. r.stamp == stamp) files
+abbrev pub is_stamp_current : List FileRec → ℕ → Bool
+is_stamp_current files stamp = list_any (λ r. r.stamp == stamp) files
 
 abbrev pub lost_of : List FileRec → Pinned → List ℕ
-lost_of files p = if is_filed files p.stamp then [] else p.blocks
+lost_of files p = if is_stamp_current files p.stamp then [] else p.blocks
 
 abbrev pub lost_places : List FileRec → List Pinned → List ℕ
 lost_places files pins = flat_map (lost_of files) pins

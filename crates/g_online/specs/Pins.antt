@@ -4,11 +4,11 @@ use Rattle.std.specs.Option.{ForSome}
 use Rattle.std.specs.List.{flat_map}
 use Rattle.g_base.specs.Block.{blocks_for}
 use Rattle.g_disc.specs.Disc.{Causes}
-use Rattle.g_contents.specs.Contents.{File}
-use Rattle.g_contents.specs.Facts.{IsTied, OnlineFacts, Pin}
+use Rattle.g_disc_contents.specs.Contents.{File}
+use Rattle.g_disc_contents.specs.Facts.{IsTied, OnlineFacts, Pin}
 use Rattle.g_online.specs.declared.fault.OnlineFault.{OnlineFault}
 use Rattle.g_online.specs.declared.fault.OnlineFault.TheVariants.{Stopped}
-use Rattle.g_online.specs.Done.{HasClosed, StoppedClosing}
+use Rattle.g_online.specs.Outcomes.{HasClosed, StoppedClosing}
 
 -- a version that waits to be dumped: not empty, and without a copy on tape
 pub record IsWaiting (f : File) : Type 0 where

@@ -1,9 +1,9 @@
 //! The copies on tape of a dump that was completed.
 ghost use Rattle.std.specs.Prelude.{◌≡◌, IfOk, map};
 ghost use Rattle.g_tree.specs.Records.{IsRecords};
-ghost use Rattle.g_contents.specs.Contents.{copied_rec, copy_of};
+ghost use Rattle.g_disc_contents.specs.Contents.{copied_rec, copy_of};
 ghost use Rattle.g_online.specs.Allowed.{IsAllowed};
-ghost use Rattle.g_online.specs.Done.{IsApplied};
+ghost use Rattle.g_online.specs.Outcomes.{IsApplied};
 
 use crate::change::{Change, CopyList};
 use crate::commit::commit;

@@ -1,6 +1,6 @@
 //! Any change of the filestore.
 ghost use Rattle.g_online.specs.Allowed.{IsAllowed};
-ghost use Rattle.g_online.specs.Done.{IsApplied};
+ghost use Rattle.g_online.specs.Outcomes.{IsApplied};
 
 use crate::change::Change;
 use crate::{Online, OnlineFault};

@@ -4,10 +4,10 @@ ghost use Rattle.std.specs.Option.{ForSome};
 ghost use Rattle.g_base.specs.Block.{blocks_for};
 ghost use Rattle.g_disc.specs.Disc.{ReadsByCause};
 ghost use Rattle.g_dirs.specs.Directory.{copy_at};
-ghost use Rattle.g_contents.specs.Contents.{File};
-ghost use Rattle.g_contents.specs.Facts.{IsTied};
-ghost use Rattle.g_contents.specs.Parts.{IsPart};
-ghost use Rattle.g_online.specs.Kept.{copy_places};
+ghost use Rattle.g_disc_contents.specs.Contents.{File};
+ghost use Rattle.g_disc_contents.specs.Facts.{IsTied};
+ghost use Rattle.g_disc_contents.specs.Parts.{IsPart};
+ghost use Rattle.g_online.specs.Invariant.{copy_places};
 
 use crate::copies::copy_of;
 use crate::{Online, OnlineFault};

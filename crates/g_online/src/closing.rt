@@ -1,7 +1,7 @@
 //! The commit that closes a dump.
 ghost use Rattle.std.specs.Prelude.{◌≡◌, ◌<◌, IfNone, IfSome, None, is_some, map, true};
 ghost use Rattle.g_tree.specs.Records.{IsRecords};
-ghost use Rattle.g_contents.specs.Contents.{copied_rec, copy_of};
+ghost use Rattle.g_disc_contents.specs.Contents.{copied_rec, copy_of};
 ghost use Rattle.g_online.specs.Allowed.{KeepsRules};
 ghost use Rattle.g_online.specs.Change.{closed};
 ghost use Rattle.g_online.specs.Dumped.{MarksMade, noted_at};
@@ -9,7 +9,7 @@ ghost use Rattle.g_online.specs.Pins.{IsClosing};
 
 use crate::commit::commit;
 use crate::numbers::UserNumbers;
-use crate::pins::{give_lost, pinned_notes, pinned_versions};
+use crate::pins::{free_orphaned_pins, pinned_notes, pinned_versions};
 use crate::{Online, OnlineFault};
 use g_base::FIRST_FILE_BLOCK;
 use g_dirs::Pages;
@@ -31,7 +31,7 @@ impl<D: Disc> Online<D> {
         ensures { IsClosing last self.old self.new result }
     {
         let pins = pinned_versions(&self.pins);
-        give_lost(&mut self.pool, pins, self.tree.files());
+        free_orphaned_pins(&mut self.pool, pins, self.tree.files());
         self.pages.changed(0);
         note_copies(&mut self.tree, &mut self.pages, pinned_notes(&self.pins));
         self.head = Head {

@@ -6,7 +6,7 @@ ghost use Rattle.g_disc.specs.Disc.{WritesOnly};
 ghost use Rattle.g_dirs.specs.Commit.{OldOrNew};
 ghost use Rattle.g_dirs.specs.Directory.{AreCopies, directory_of};
 ghost use Rattle.g_online.specs.Committed.{HasCommitted, IsMarked, commit_blocks};
-ghost use Rattle.g_online.specs.Kept.{AreWhole};
+ghost use Rattle.g_online.specs.Invariant.{AreWhole};
 
 use crate::OnlineFault;
 use g_dirs::{FileCopy, Listing, Pages, write_changed};

@@ -5,14 +5,14 @@ ghost use Rattle.std.specs.Vec.{vec_capacity};
 ghost use Rattle.g_blocks.specs.Pool.{IsTaken};
 ghost use Rattle.g_online.specs.Allowed.{IsAllowed};
 ghost use Rattle.g_online.specs.Copies.{without_copy};
-ghost use Rattle.g_online.specs.Done.{IsApplied};
-ghost use Rattle.g_online.specs.Kept.{GivesUnless, copy_places, is_pinned};
+ghost use Rattle.g_online.specs.Outcomes.{IsApplied};
+ghost use Rattle.g_online.specs.Invariant.{GivesUnless, copy_places, is_pinned};
 
 use crate::change::Change;
 use crate::commit::commit;
 use crate::copies::copy_of;
 use crate::pin_list::PinList;
-use crate::records::{kept_head, note};
+use crate::records::{kept_head, mark_user_changed};
 use crate::{Online, OnlineFault};
 use g_base::FIRST_FILE_BLOCK;
 use g_blocks::Pool;
@@ -38,7 +38,7 @@ impl<D: Disc> Online<D> {
         self.pages.changed(0);
         self.tree.erase(number);
         self.pages.changed(FIRST_FILE_BLOCK + u32::from(number));
-        note(&mut self.changed, &mut self.touched, pinned, owner);
+        mark_user_changed(&mut self.changed, &mut self.touched, pinned, owner);
         commit(
             &mut self.disc,
             &mut self.slots,

@@ -11,11 +11,11 @@ ghost use Rattle.g_dirs.specs.Directory.{AreCopies, Directory, directory_of};
 ghost use Rattle.g_dirs.specs.Image.{StandsFor};
 ghost use Rattle.g_dirs.specs.Pages.{nothing};
 ghost use Rattle.g_dirs.specs.Rules.{AreApart, numbers_of};
-ghost use Rattle.g_contents.specs.Contents.{Contents, Holds};
-ghost use Rattle.g_contents.specs.Facts.{IsTied};
+ghost use Rattle.g_disc_contents.specs.Contents.{Contents, Holds};
+ghost use Rattle.g_disc_contents.specs.Facts.{IsTied};
 ghost use Rattle.g_online.specs.Allowed.{KeepsRules};
 ghost use Rattle.g_online.specs.Begun.{AsBeforeOr, HasLoaded, HasMade, IsFound, empty_copies, first_contents, memory_of, refusal_of};
-ghost use Rattle.g_online.specs.Kept.{IsAgreed, facts_of};
+ghost use Rattle.g_online.specs.Invariant.{IsAgreed, facts_of};
 
 use crate::commit::commit;
 use crate::copies::empty_copy;

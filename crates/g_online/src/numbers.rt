@@ -1,6 +1,6 @@
 //! Rising numbers of users.
 ghost use Rattle.std.specs.Prelude.{◌≡◌, ◌<◌, ◌≤◌, []};
-ghost use Rattle.g_contents.specs.Contents.{with_number};
+ghost use Rattle.g_disc_contents.specs.Contents.{with_number};
 
 use arrayvec::ArrayVec;
 use std::marker::Model;
@@ -13,7 +13,7 @@ pub(crate) struct UserNumbers {
 
 impl Model for UserNumbers {
     ghost use Rattle.std.specs.Prelude.{ℕ, List};
-    ghost use Rattle.g_contents.specs.Facts.{AreNumbers};
+    ghost use Rattle.g_disc_contents.specs.Facts.{AreNumbers};
 
     ghost Value = { List ℕ };
 

@@ -5,9 +5,9 @@ ghost use Rattle.g_dirs.specs.Directory.{copy_at};
 ghost use Rattle.g_dirs.specs.Pages.{marked};
 ghost use Rattle.g_online.specs.Allowed.{IsAllowed};
 ghost use Rattle.g_online.specs.Copies.{without_copies, without_copy};
-ghost use Rattle.g_online.specs.Done.{IsApplied};
-ghost use Rattle.g_online.specs.Kept.{copy_places};
-ghost use Rattle.g_online.specs.Off.{MarksFiles, places_off};
+ghost use Rattle.g_online.specs.Outcomes.{IsApplied};
+ghost use Rattle.g_online.specs.Invariant.{copy_places};
+ghost use Rattle.g_online.specs.Unloading.{MarksFiles, places_off};
 
 use crate::change::Change;
 use crate::commit::commit;

@@ -1,8 +1,8 @@
 //! The filestore that is online: the disc, and in memory what it holds.
 ghost use Rattle.std.specs.Prelude.{◌≡◌, ◌≤◌, true, Contains, Some};
 ghost use Rattle.g_base.specs.Fuse.{armed_with};
-ghost use Rattle.g_contents.specs.Contents.{File, recs_in};
-ghost use Rattle.g_contents.specs.Facts.{IsTied, room_of};
+ghost use Rattle.g_disc_contents.specs.Contents.{File, recs_in};
+ghost use Rattle.g_disc_contents.specs.Facts.{IsTied, room_of};
 ghost use Rattle.g_online.specs.Room.{FitsDisc};
 
 use crate::copies::copy_of;
@@ -36,8 +36,8 @@ pub struct Online<D: Disc> {
 }
 
 impl<D: Disc> Model for Online<D> {
-    ghost use Rattle.g_contents.specs.Facts.{OnlineFacts};
-    ghost use Rattle.g_online.specs.Kept.{IsKept, facts_of};
+    ghost use Rattle.g_disc_contents.specs.Facts.{OnlineFacts};
+    ghost use Rattle.g_online.specs.Invariant.{IsKept, facts_of};
 
     ghost Value = { OnlineFacts };
 

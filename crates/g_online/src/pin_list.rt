@@ -2,7 +2,7 @@
 ghost use Rattle.std.specs.Prelude.{◌≡◌, ◌==◌, IfOk};
 ghost use Rattle.std.specs.List.{list_any};
 ghost use Rattle.g_online.specs.Dumped.{noted_in};
-ghost use Rattle.g_online.specs.Kept.{has_stamp};
+ghost use Rattle.g_online.specs.Invariant.{has_stamp};
 
 use crate::pinned::Pinned;
 use g_base::NoMemory;

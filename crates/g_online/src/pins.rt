@@ -4,9 +4,9 @@ ghost use Rattle.std.specs.Option.{ForSome, option_copied};
 ghost use Rattle.g_base.specs.Block.{blocks_for};
 ghost use Rattle.g_blocks.specs.Pool.{HasGiven, IsTaken};
 ghost use Rattle.g_disc.specs.Disc.{ReadsByCause};
-ghost use Rattle.g_contents.specs.Facts.{IsTied, Pin};
-ghost use Rattle.g_online.specs.Dumped.{HasPut, is_filed, is_waiting, lost_of, lost_places, noted_in, pinned_in, pins_from, place_in, waiting_below, waiting_of};
-ghost use Rattle.g_online.specs.Kept.{copy_places};
+ghost use Rattle.g_disc_contents.specs.Facts.{IsTied, Pin};
+ghost use Rattle.g_online.specs.Dumped.{HasPut, is_stamp_current, is_waiting, lost_of, lost_places, noted_in, pinned_in, pins_from, place_in, waiting_below, waiting_of};
+ghost use Rattle.g_online.specs.Invariant.{copy_places};
 ghost use Rattle.g_online.specs.Pins.{HasPinned};
 
 use crate::copies::copy_of;
@@ -54,7 +54,7 @@ impl<D: Disc> Online<D> {
         ensures free { self.new ≡ record self.old { pins = None; touched = [] } }
         ensures tied { IsTied self.new }
     {
-        give_lost(
+        free_orphaned_pins(
             &mut self.pool,
             pinned_versions(&self.pins),
             self.tree.files(),
@@ -118,7 +118,7 @@ fn place_of(pins: &[Pinned], i: usize, part: u32) -> Option<u32>
 }
 
 /// Gives the blocks of those versions back to the pool that no file has any more.
-pub(crate) fn give_lost(pool: &mut Pool, pins: &[Pinned], files: &[BoxedRec])
+pub(crate) fn free_orphaned_pins(pool: &mut Pool, pins: &[Pinned], files: &[BoxedRec])
     requires apart { AllPairs (λ j k. j ≢ k) (lost_places files.now pins.now) }
     requires taken { All (IsTaken pool.old) (lost_places files.now pins.now) }
     ensures { HasGiven (lost_places files.now pins.now) pool.old pool.new }
@@ -134,7 +134,7 @@ fn give_one_lost(pool: &mut Pool, pin: &Pinned, files: &[BoxedRec])
     requires taken { All (IsTaken pool.old) (lost_of files.now pin.now) }
     ensures { HasGiven (lost_of files.now pin.now) pool.old pool.new }
 {
-    if is_filed(files, pin.stamp) {
+    if is_stamp_current(files, pin.stamp) {
         pool.give(&[]);
     } else {
         pool.give(pin.blocks.as_slice());
@@ -142,8 +142,8 @@ fn give_one_lost(pool: &mut Pool, pin: &Pinned, files: &[BoxedRec])
 }
 
 /// Whether the version of this stamp is a file's.
-fn is_filed(files: &[BoxedRec], stamp: u64) -> bool
-    ensures { result ≡ is_filed files.now stamp }
+fn is_stamp_current(files: &[BoxedRec], stamp: u64) -> bool
+    ensures { result ≡ is_stamp_current files.now stamp }
 {
     files.iter().any(|file| file.get().stamp == stamp)
 }

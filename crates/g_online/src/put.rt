@@ -16,10 +16,10 @@ ghost use Rattle.g_dirs.specs.Pages.{marked};
 ghost use Rattle.g_online.specs.Allowed.{IsAllowed};
 ghost use Rattle.g_online.specs.Committed.{IsMarked};
 ghost use Rattle.g_online.specs.Copies.{with_copy_at, without_copies, without_copy};
-ghost use Rattle.g_online.specs.Done.{IsApplied};
-ghost use Rattle.g_online.specs.Kept.{AreWhole, GivesUnless, copy_places, head_after};
-ghost use Rattle.g_online.specs.Off.{MarksFiles, places_off};
-ghost use Rattle.g_online.specs.Put.{IsUntouched, TakesBeside, TakesFilesOff, is_pinned_at, noted_for, recs_with, stamped, users_with, with_bytes};
+ghost use Rattle.g_online.specs.Outcomes.{IsApplied};
+ghost use Rattle.g_online.specs.Invariant.{AreWhole, GivesUnless, copy_places, head_after};
+ghost use Rattle.g_online.specs.Unloading.{MarksFiles, places_off};
+ghost use Rattle.g_online.specs.NewBytes.{IsUntouched, TakesBeside, TakesFilesOff, is_pinned_at, noted_for, recs_with, stamped, users_with, with_bytes};
 
 use crate::change::Change;
 use crate::commit::commit;
@@ -27,7 +27,7 @@ use crate::copies::{copy_of, empty_copy, put_copy};
 use crate::erase::{forget_copy, give_unless, is_kept};
 use crate::numbers::UserNumbers;
 use crate::pin_list::PinList;
-use crate::records::{kept_head, note};
+use crate::records::{kept_head, mark_user_changed};
 use crate::{Online, OnlineFault};
 use g_base::{BlockList, FIRST_FILE_BLOCK, blocks_for};
 use g_blocks::Pool;
@@ -451,5 +451,5 @@ fn put_record(
     };
     let owner = rec.owner;
     tree.put(rec);
-    note(changed, touched, pinned, owner);
+    mark_user_changed(changed, touched, pinned, owner);
 }

@@ -1,9 +1,9 @@
 //! The changes of records, which touch no bytes.
 ghost use Rattle.std.specs.Prelude.{◌≡◌, ◌<◌, if◌then◌else◌};
-ghost use Rattle.g_contents.specs.Contents.{with_number};
+ghost use Rattle.g_disc_contents.specs.Contents.{with_number};
 ghost use Rattle.g_online.specs.Allowed.{IsAllowed};
-ghost use Rattle.g_online.specs.Done.{IsApplied};
-ghost use Rattle.g_online.specs.Kept.{head_after};
+ghost use Rattle.g_online.specs.Outcomes.{IsApplied};
+ghost use Rattle.g_online.specs.Invariant.{head_after};
 
 use crate::change::Change;
 use crate::commit::commit;
@@ -66,7 +66,7 @@ impl<D: Disc> Online<D> {
         self.pages.changed(0);
         self.tree.add_user(user.copy());
         self.pages.changed(1 + u32::from(user.number));
-        note(&mut self.changed, &mut self.touched, pinned, user.number);
+        mark_user_changed(&mut self.changed, &mut self.touched, pinned, user.number);
         commit(
             &mut self.disc,
             &mut self.slots,
@@ -92,7 +92,7 @@ impl<D: Disc> Online<D> {
         self.pages.changed(0);
         self.tree.put(rec.copy());
         self.pages.changed(FIRST_FILE_BLOCK + u32::from(rec.number));
-        note(&mut self.changed, &mut self.touched, pinned, rec.owner);
+        mark_user_changed(&mut self.changed, &mut self.touched, pinned, rec.owner);
         commit(
             &mut self.disc,
             &mut self.slots,
@@ -107,7 +107,7 @@ impl<D: Disc> Online<D> {
 
 /// Notes that the directory of this user has changed, for the dumps to come; and while versions are pinned also for the
 /// time when they are let go.
-pub(crate) fn note(changed: &mut UserNumbers, touched: &mut UserNumbers, pinned: bool, number: u8)
+pub(crate) fn mark_user_changed(changed: &mut UserNumbers, touched: &mut UserNumbers, pinned: bool, number: u8)
     requires { number < 63 }
     ensures changed { changed.new ≡ with_number number changed.old }
     ensures touched { touched.new ≡ (if pinned then with_number number touched.old else touched.old) }

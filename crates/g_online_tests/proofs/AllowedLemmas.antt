@@ -17,8 +17,8 @@ use Rattle.g_tree.proofs.MapLemmas.{found_one, keyed}
 use Rattle.g_tree.proofs.PlaceLemmas.{numbered_apart}
 use Rattle.g_tree.proofs.RecordLemmas.{name_at}
 use Rattle.g_tree.proofs.RuleLemmas.{one_of_key}
-use Rattle.g_contents.specs.Contents.{Contents, File, committed, offline_in, recs_in, set_rec, taken_off, with_copies, with_intent, with_rec, without_file, has}
-use Rattle.g_contents.specs.Facts.{IsTied, OnlineFacts, Pin, noted}
+use Rattle.g_disc_contents.specs.Contents.{Contents, File, committed, offline_in, recs_in, set_rec, taken_off, with_copies, with_intent, with_rec, without_file, has}
+use Rattle.g_disc_contents.specs.Facts.{IsTied, OnlineFacts, Pin, noted}
 use Rattle.g_base.specs.Block.{blocks_for}
 use Rattle.g_online.specs.declared.change.Change.{Change}
 use Rattle.g_online.specs.declared.change.Change.TheVariants.{Adopt, EraseFile, SetFile, SetIntent, SetUser, Unload}

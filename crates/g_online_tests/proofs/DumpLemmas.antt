@@ -6,8 +6,8 @@ use Rattle.std.proofs.lemmas.List.Elements.{All-cons, All-map}
 use Rattle.g_entry.specs.declared.file_rec.FileRec.{FileRec}
 use Rattle.g_entry.specs.declared.file_rec.TapeCopy.{TapeCopy}
 use Rattle.g_entry.specs.FileFields.{IsCopy}
-use Rattle.g_contents.specs.Contents.{File, recs_in}
-use Rattle.g_contents.specs.Facts.{IsPinOf, IsTied, OnlineFacts, Pin, noted}
+use Rattle.g_disc_contents.specs.Contents.{File, recs_in}
+use Rattle.g_disc_contents.specs.Facts.{IsPinOf, IsTied, OnlineFacts, Pin, noted}
 use Rattle.g_online.specs.Allowed.{KeepsRules}
 use Rattle.g_online.specs.Change.{closed}
 use Rattle.g_online.specs.Pins.{ArePinnedFrom, ComesBefore, HasPinned}

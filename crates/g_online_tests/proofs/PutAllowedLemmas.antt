@@ -14,8 +14,8 @@ use Rattle.g_tree.specs.Records.{IsRecords}
 use Rattle.g_tree.specs.State.{with_file as tree_with_file}
 use Rattle.g_tree.proofs.PlaceLemmas.{numbered_apart}
 use Rattle.g_tree.proofs.RuleLemmas.{one_of_key}
-use Rattle.g_contents.specs.Contents.{Contents, File, recs_in, taken_off, with_file}
-use Rattle.g_contents.specs.Facts.{IsTied, OnlineFacts}
+use Rattle.g_disc_contents.specs.Contents.{Contents, File, recs_in, taken_off, with_file}
+use Rattle.g_disc_contents.specs.Facts.{IsTied, OnlineFacts}
 use Rattle.g_online.specs.declared.change.Change.TheVariants.{PutFile, Unload}
 use Rattle.g_online.specs.Allowed.{AreUnjammable, IsAllowed, KeepsRules, Lies}
 use Rattle.g_online.specs.Change.{changed, told_bytes}

@@ -9,8 +9,8 @@ use Rattle.g_entry.specs.declared.user_rec.UserRec.{UserRec}
 use Rattle.g_entry.specs.UserFields.{IsUser}
 use Rattle.g_tree.specs.Records.{IsRecords}
 use Rattle.g_tree.proofs.ListLemmas.{pairs_first, pairs_rest}
-use Rattle.g_contents.specs.Contents.{Contents, recs_in}
-use Rattle.g_contents.specs.Facts.{IsTied, OnlineFacts}
+use Rattle.g_disc_contents.specs.Contents.{Contents, recs_in}
+use Rattle.g_disc_contents.specs.Facts.{IsTied, OnlineFacts}
 use Rattle.g_online.specs.declared.change.Change.TheVariants.{AddUser}
 use Rattle.g_online.specs.Allowed.{IsAllowed, KeepsRules}
 use Rattle.g_online.proofs.UserLemmas.{slice_get-push}

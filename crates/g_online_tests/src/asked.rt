@@ -1,7 +1,7 @@
 //! Changes that a filestore allows, one call each. What a change asks for is looked at before; where it isn't there,
 //! `NoFilestore` is answered, which no change answers.
 ghost use Rattle.std.specs.Prelude.{◌≡◌, IfOk, None, OnOk, true};
-ghost use Rattle.g_contents.specs.Facts.{IsTied};
+ghost use Rattle.g_disc_contents.specs.Facts.{IsTied};
 ghost use Rattle.g_online.specs.Allowed.{AreUnjammable, IsUnjammable};
 
 use crate::discs::Counted;

@@ -1,6 +1,6 @@
 //! A filestore on a disc that counts its writes, of which each call may be asked at any time.
 ghost use Rattle.std.specs.Prelude.{◌≡◌, None, OnOk, true};
-ghost use Rattle.g_contents.specs.Facts.{IsTied};
+ghost use Rattle.g_disc_contents.specs.Facts.{IsTied};
 
 use crate::asked::bytes_of;
 use crate::discs::{Counted, laid_out};
@@ -21,7 +21,7 @@ pub(crate) struct Bench {
 
 impl Model for Bench {
     ghost use Rattle.std.specs.Prelude.{◌≡◌, Bool, None, false, true};
-    ghost use Rattle.g_contents.specs.Facts.{IsTied};
+    ghost use Rattle.g_disc_contents.specs.Facts.{IsTied};
 
     ghost Value = { Bool };
 

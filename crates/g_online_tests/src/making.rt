@@ -1,6 +1,6 @@
 //! Changes of a filestore, each made where what it asks for is there. `NoFilestore`: it isn't there.
 ghost use Rattle.std.specs.Prelude.{◌≡◌, ◌≢◌, All, IfOk, IfSome, None, OnOk, is_some, true};
-ghost use Rattle.g_contents.specs.Facts.{IsTied};
+ghost use Rattle.g_disc_contents.specs.Facts.{IsTied};
 ghost use Rattle.g_entry.specs.FileFields.{IsCopy};
 ghost use Rattle.g_online.specs.Allowed.{AreUnjammable};
 

@@ -1,13 +1,13 @@
 //! Dumps from end to end, reels that are too short for one, and a dump that is stopped at each of its writes of tape.
 ghost use Rattle.std.specs.Prelude.{◌≡◌, IfOk, IfSome, None, true};
 ghost use Rattle.g_tape.specs.Memory.{rack_of};
-ghost use Rattle.g_contents.specs.Facts.{IsTied};
-ghost use Rattle.g_state.specs.Up.{IsOpen};
+ghost use Rattle.g_disc_contents.specs.Facts.{IsTied};
+ghost use Rattle.g_store_meaning.specs.Up.{IsOpen};
 
 use g_disc::MemoryDisc;
 use g_dumper::{Dump, DumpStep};
 use g_known::KnownReels;
-use g_laid_out::{one_reel, online_with_one};
+use g_fixtures::{one_reel, online_with_one};
 use g_online::Online;
 use g_plain::StoreFault;
 use g_shelf::completed;
@@ -26,7 +26,7 @@ pub(crate) struct Dumper {
 
 impl Model for Dumper {
     ghost use Rattle.std.specs.Prelude.{◌≡◌, Bool, None, false, true};
-    ghost use Rattle.g_contents.specs.Facts.{IsTied};
+    ghost use Rattle.g_disc_contents.specs.Facts.{IsTied};
 
     ghost Value = { Bool };
 

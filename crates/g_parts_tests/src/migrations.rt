@@ -1,7 +1,7 @@
 //! Files that go off the disc, and which of them go for a need.
 use crate::rig::{Rig, reel};
 use g_base::Block;
-use g_laid_out::{on_both, on_disc, one_away};
+use g_fixtures::{on_both, on_disc, one_away};
 use g_plain::StoreFault;
 use std::process::Abort;
 

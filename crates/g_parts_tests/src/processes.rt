@@ -1,12 +1,12 @@
 //! All versions onto one reel and back, reels that aren't free, a process that is stopped at writes of tape, and one
 //! whose reads fail in turn.
 ghost use Rattle.std.specs.Prelude.{◌≡◌, Err, None, true};
-ghost use Rattle.g_contents.specs.Facts.{IsTied};
+ghost use Rattle.g_disc_contents.specs.Facts.{IsTied};
 
 use g_base::Block;
 use g_disc::{Disc, MemoryDisc};
 use g_known::KnownReels;
-use g_laid_out::{disc_with, dumped, one_away, one_reel, online_with_one};
+use g_fixtures::{disc_with, dumped, one_away, one_reel, online_with_one};
 use g_online::Online;
 use g_plain::StoreFault;
 use g_process::process;
@@ -26,7 +26,7 @@ pub(crate) struct Mover {
 
 impl Model for Mover {
     ghost use Rattle.std.specs.Prelude.{◌≡◌, Bool, None, false, true};
-    ghost use Rattle.g_contents.specs.Facts.{IsTied};
+    ghost use Rattle.g_disc_contents.specs.Facts.{IsTied};
 
     ghost Value = { Bool };
 

@@ -1,7 +1,7 @@
 //! Why a file doesn't come back, and that it does behind such a refusal.
 use crate::rig::{Rig, reel};
 use g_base::Block;
-use g_laid_out::{nothing_to_take, one_away, one_to_take, without_mark};
+use g_fixtures::{nothing_to_take, one_away, one_to_take, without_mark};
 use g_plain::StoreFault;
 use g_tape::{MemoryTapes, Tapes};
 use std::process::Abort;

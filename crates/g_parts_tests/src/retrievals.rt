@@ -1,7 +1,7 @@
 //! Files that come back from tape, and what the disc holds when that is stopped.
 use crate::rig::{Rig, reel};
 use g_disc::{Disc, Leave};
-use g_laid_out::{disc_with, one_away};
+use g_fixtures::{disc_with, one_away};
 use g_plain::StoreFault;
 use std::process::Abort;
 

@@ -1,12 +1,12 @@
 //! A filestore on a disc beside a reel, of which each call may be asked at any time: what the calls of the store's parts want is
 //! looked at here.
 ghost use Rattle.std.specs.Prelude.{◌≡◌, true, Err};
-ghost use Rattle.g_contents.specs.Facts.{IsTied};
+ghost use Rattle.g_disc_contents.specs.Facts.{IsTied};
 
 use g_base::{Block, blocks_for};
 use g_disc::{Disc, MemoryDisc};
 use g_known::KnownReels;
-use g_laid_out::{disc_with, dumped};
+use g_fixtures::{disc_with, dumped};
 use g_migrate::{Unjam, migrate, plan_unjam};
 use g_name::Text;
 use g_online::{Online, OnlineFault};
@@ -27,7 +27,7 @@ pub(crate) struct Rig {
 
 impl Model for Rig {
     ghost use Rattle.std.specs.Prelude.{◌≡◌, Bool, false, true};
-    ghost use Rattle.g_contents.specs.Facts.{IsTied};
+    ghost use Rattle.g_disc_contents.specs.Facts.{IsTied};
 
     ghost Value = { Bool };
 

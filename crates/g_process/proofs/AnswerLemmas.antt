@@ -20,19 +20,19 @@ use Rattle.g_tape.specs.Reel.{IsReel, Reel, Remains, left_by}
 use Rattle.g_tape.proofs.ReadLemmas.{blocks_after_reads, is_reel, reel_after_reads, then_read}
 use Rattle.g_plain.specs.declared.faults.StoreFault.{StoreFault}
 use Rattle.g_plain.specs.declared.faults.StoreFault.TheVariants.{DiscReadFault, Stopped, TapeReadFault}
-use Rattle.g_contents.specs.Commits.{Commits}
-use Rattle.g_contents.specs.Contents.{Contents, File, Holds, has, with_intent}
-use Rattle.g_contents.specs.Facts.{IsTied, Layout, OnlineFacts}
+use Rattle.g_disc_contents.specs.Commits.{Commits}
+use Rattle.g_disc_contents.specs.Contents.{Contents, File, Holds, has, with_intent}
+use Rattle.g_disc_contents.specs.Facts.{IsTied, Layout, OnlineFacts}
 use Rattle.g_incr.specs.Layout.{Dump}
 use Rattle.g_incr.specs.Plan.{IsAway, IsPlan, Plan, blocks_of, content_blocks, dump_of, first_content, needs, waiting}
 use Rattle.g_online.specs.Ready.{HasAdopted, adopted}
 use Rattle.g_shelf.specs.Completed.{AreCompleted, AreShelved}
-use Rattle.g_state.specs.Answers.{Belongs, Told, WroteCommits}
-use Rattle.g_state.specs.Meaning.{told_reels}
-use Rattle.g_state.specs.Reading.{AllTold}
-use Rattle.g_state.specs.Up.{IsUp, StoreFacts}
-use Rattle.g_state_process.specs.Forgotten.{bare_rec}
-use Rattle.g_state_process.proofs.ReleaseLemmas.{one_block_is_none}
+use Rattle.g_store_meaning.specs.Answers.{Belongs, Told, WroteCommits}
+use Rattle.g_store_meaning.specs.Meaning.{told_reels}
+use Rattle.g_store_meaning.specs.Reading.{AllTold}
+use Rattle.g_store_meaning.specs.Up.{IsUp, StoreFacts}
+use Rattle.g_laws_process.specs.Forgotten.{bare_rec}
+use Rattle.g_laws_process.proofs.ReleaseLemmas.{one_block_is_none}
 use Rattle.g_dumper.specs.Beginning.{intent_of}
 use Rattle.g_dumper.specs.Keeps.{spent_with, up_with}
 use Rattle.g_dumper.proofs.BeginLemmas.{after_reads, reel_named}

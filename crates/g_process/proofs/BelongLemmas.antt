@@ -12,28 +12,28 @@ use Rattle.g_entry.specs.declared.user_rec.UserRec.{UserRec}
 use Rattle.g_tape.specs.Rack.{Rack, reel}
 use Rattle.g_tape.specs.Reads.{blocks_in, unread}
 use Rattle.g_tape.specs.Reel.{Reel}
-use Rattle.g_contents.specs.Contents.{Contents, File, copied_rec, copy_of, has, recs_in, with_copies, with_copy, with_intent}
-use Rattle.g_contents.specs.Facts.{IsTied, OnlineFacts, Pin, noted}
+use Rattle.g_disc_contents.specs.Contents.{Contents, File, copied_rec, copy_of, has, recs_in, with_copies, with_copy, with_intent}
+use Rattle.g_disc_contents.specs.Facts.{IsTied, OnlineFacts, Pin, noted}
 use Rattle.g_incr.specs.Layout.{Dump, holds}
 use Rattle.g_incr.specs.Plan.{IsPlan, Plan, blocks_of, content_blocks, dump_of, first_content, needs, noted_files, numbered_from, waiting, with_number as numbered}
 use Rattle.g_incr.proofs.PlanLemmas.{length-made}
 use Rattle.g_shelf.specs.Completed.{AreCompleted, AreShelved, all_dumps, end_of}
-use Rattle.g_state.specs.Belong.{DiscBelongs, IsPlaced, KeepsFile, KeepsRecord}
-use Rattle.g_state.specs.Laws.{HasContent, closed}
-use Rattle.g_state.specs.Meaning.{IsContent, told_reels}
-use Rattle.g_state.specs.Reading.{AllTold}
-use Rattle.g_state.specs.Up.{ArePinned, IsOpen, IsReady, IsUp, StoreFacts, content_in, with_dump}
-use Rattle.g_state.proofs.ChangeLemmas.{intents_belong}
-use Rattle.g_state_laws.specs.Dumping.{AreDumpable, IsPlanOf, closed_with, opened_with}
-use Rattle.g_state_laws.proofs.ClosingLemmas.{closing_stays}
-use Rattle.g_state_laws.proofs.DumpingLemmas.{events_stay_up}
-use Rattle.g_state_laws.proofs.OpeningLemmas.{opening_stays}
-use Rattle.g_state_laws.proofs.PinLemmas.{noted_copied, pins_content}
-use Rattle.g_state_laws.proofs.UpOneLemmas.{reel_named as reel_by_name}
-use Rattle.g_state_process.specs.Releasing.{HasAll, without_reel}
-use Rattle.g_state_process.proofs.ReleaseLemmas.{releases_stay}
-use Rattle.g_state_process.specs.Forgotten.{bare, bare_file, bare_rec, every_user, forgotten}
-use Rattle.g_state_process.proofs.ForgetLemmas.{forgetting_stays}
+use Rattle.g_store_meaning.specs.Belong.{DiscBelongs, IsPlaced, KeepsFile, KeepsRecord}
+use Rattle.g_store_meaning.specs.Laws.{HasContent, closed}
+use Rattle.g_store_meaning.specs.Meaning.{IsContent, told_reels}
+use Rattle.g_store_meaning.specs.Reading.{AllTold}
+use Rattle.g_store_meaning.specs.Up.{ArePinned, IsOpen, IsReady, IsUp, StoreFacts, content_in, with_dump}
+use Rattle.g_store_meaning.proofs.ChangeLemmas.{intents_belong}
+use Rattle.g_laws_store.specs.Dumping.{AreDumpable, IsPlanOf, closed_with, opened_with}
+use Rattle.g_laws_store.proofs.ClosingLemmas.{closing_stays}
+use Rattle.g_laws_store.proofs.DumpingLemmas.{events_stay_up}
+use Rattle.g_laws_store.proofs.OpeningLemmas.{opening_stays}
+use Rattle.g_laws_store.proofs.PinLemmas.{noted_copied, pins_content}
+use Rattle.g_laws_store.proofs.UpOneLemmas.{reel_named as reel_by_name}
+use Rattle.g_laws_process.specs.Releasing.{HasAll, without_reel}
+use Rattle.g_laws_process.proofs.ReleaseLemmas.{releases_stay}
+use Rattle.g_laws_process.specs.Forgotten.{bare, bare_file, bare_rec, every_user, forgotten}
+use Rattle.g_laws_process.proofs.ForgetLemmas.{forgetting_stays}
 use Rattle.g_dumper.specs.Keeps.{up_with}
 use Rattle.g_dumper.proofs.BeginLemmas.{reel_named}
 use Rattle.g_dumper.proofs.HeldLemmas.{held_of_one, holds_there}

@@ -10,8 +10,8 @@ use Rattle.g_tape.specs.Rack.{Rack}
 use Rattle.g_tape.specs.Reel.{Reel}
 use Rattle.g_plain.specs.declared.faults.StoreFault.{StoreFault}
 use Rattle.g_plain.specs.declared.faults.StoreFault.TheVariants as store
-use Rattle.g_contents.specs.Contents.{Contents, File, Holds, with_intent}
-use Rattle.g_contents.specs.Facts.{IsTied, OnlineFacts}
+use Rattle.g_disc_contents.specs.Contents.{Contents, File, Holds, with_intent}
+use Rattle.g_disc_contents.specs.Facts.{IsTied, OnlineFacts}
 use Rattle.g_incr.specs.Plan.{Plan, needs}
 use Rattle.g_shelf.specs.declared.rack.Listed.{Listed}
 use Rattle.g_online.specs.declared.change.Change.TheVariants.{SetIntent}
@@ -19,7 +19,7 @@ use Rattle.g_online.specs.declared.fault.OnlineFault.{OnlineFault}
 use Rattle.g_online.specs.declared.fault.OnlineFault.TheVariants.{DiscFull, NoMemory, Stopped}
 use Rattle.g_online.specs.Allowed.{IsAllowed, KeepsRules}
 use Rattle.g_online.specs.Change.{changed, need_of, unjammed}
-use Rattle.g_online.specs.Done.{HasChanged, HasStopped, IsApplied, room_for}
+use Rattle.g_online.specs.Outcomes.{HasChanged, HasStopped, IsApplied, room_for}
 use Rattle.g_online.specs.Ready.{CoverAll, IsAdopting, IsReadyFor, Readied, ready_with, adopted}
 use Rattle.g_dumper.specs.Beginning.{intent_of}
 use Rattle.g_dumper.proofs.IntentLemmas.{intends, may_intend}

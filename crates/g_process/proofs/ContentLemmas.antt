@@ -7,12 +7,12 @@ use Rattle.std.proofs.lemmas.Option.{same_Some}
 use Rattle.g_base.specs.Block.{blocks_for}
 use Rattle.g_entry.specs.declared.file_rec.FileRec.{FileRec}
 use Rattle.g_tape.specs.Rack.{Rack}
-use Rattle.g_contents.specs.Facts.{OnlineFacts}
+use Rattle.g_disc_contents.specs.Facts.{OnlineFacts}
 use Rattle.g_incr.specs.Layout.{Dump, dump_blocks, file_in, header_block, mark_block, user_in}
 use Rattle.g_incr.specs.Plan.{IsContentAt, IsReadyAt, Plan, blocks_of, content_blocks, dump_of, first_content, needs, waiting}
 use Rattle.g_incr.proofs.ListLemmas.{get_behind, get_front, get_some}
 use Rattle.g_incr.proofs.PlanLemmas.{length-made}
-use Rattle.g_state_process.specs.Forgotten.{bare_rec}
+use Rattle.g_laws_process.specs.Forgotten.{bare_rec}
 use Rattle.g_process.specs.Written.{HasWritten, IsBlockOf, IsSource}
 
 -- A BLOCK OF CONTENT in a dump

@@ -11,9 +11,9 @@ use Rattle.g_base.specs.Counts.{RoseBy}
 use Rattle.g_tape.specs.Rack.{Rack}
 use Rattle.g_tape.specs.Reads.{unread}
 use Rattle.g_tape.specs.Reel.{Reel, Remains, Unchanged, Shortened, Torn, ending, left_by}
-use Rattle.g_contents.specs.Commits.{Commits}
-use Rattle.g_contents.specs.Contents.{has}
-use Rattle.g_contents.specs.Facts.{Layout}
+use Rattle.g_disc_contents.specs.Commits.{Commits}
+use Rattle.g_disc_contents.specs.Contents.{has}
+use Rattle.g_disc_contents.specs.Facts.{Layout}
 use Rattle.g_incr.specs.declared.note.DumpNote.{DumpNote}
 use Rattle.g_incr.specs.Layout.{Dump}
 use Rattle.g_shelf.specs.declared.rack.Listed.{Listed}

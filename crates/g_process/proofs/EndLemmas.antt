@@ -10,10 +10,10 @@ use Rattle.std.proofs.lemmas.Option.{same_Some}
 use Rattle.g_tape.specs.Rack.{AreReels, Rack}
 use Rattle.g_tape.specs.Reads.{unread}
 use Rattle.g_tape.specs.Reel.{Reel, Remains, Shortened, Torn, Unchanged, ending, left_by}
-use Rattle.g_contents.specs.Contents.{has}
+use Rattle.g_disc_contents.specs.Contents.{has}
 use Rattle.g_shelf.specs.declared.rack.Listed.{Listed}
 use Rattle.g_known.specs.Known.{AreListed, IsListed}
-use Rattle.g_state_laws.proofs.RecordLemmas.{pairs_head, pairs_tail}
+use Rattle.g_laws_store.proofs.RecordLemmas.{pairs_head, pairs_tail}
 use Rattle.g_process.specs.Exits.{IsBesideDump, IsClearedBy}
 use Rattle.g_process.specs.Planned.{IsFree, IsTaken}
 use Rattle.g_process.specs.Releases.{is_taken, released, taken, zeros}

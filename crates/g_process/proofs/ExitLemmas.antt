@@ -15,9 +15,9 @@ use Rattle.g_entry.specs.declared.file_rec.FileRec.{FileRec}
 use Rattle.g_tape.specs.Rack.{AreReels, Rack, reel}
 use Rattle.g_tape.specs.Reads.{OnlyReads, blocks_in, unread}
 use Rattle.g_tape.specs.Reel.{IsReel, Reel, Remains, Shortened, Torn, Unchanged, ending, left_by}
-use Rattle.g_contents.specs.Contents.{Contents, File, Holds, has}
-use Rattle.g_contents.specs.Facts.{IsTied, OnlineFacts}
-use Rattle.g_contents.specs.Parts.{IsPart}
+use Rattle.g_disc_contents.specs.Contents.{Contents, File, Holds, has}
+use Rattle.g_disc_contents.specs.Facts.{IsTied, OnlineFacts}
+use Rattle.g_disc_contents.specs.Parts.{IsPart}
 use Rattle.g_incr.specs.Layout.{Dump, count_of, is_between}
 use Rattle.g_incr.specs.Plan.{IsAway, IsPlan, IsReadyAt, Plan, blocks_of, content_blocks, dump_of, first_content, needs, waiting}
 use Rattle.g_incr.proofs.PlanLemmas.{length-made}
@@ -26,18 +26,18 @@ use Rattle.g_shelf.specs.declared.rack.Listed.{Listed}
 use Rattle.g_known.specs.Known.{AreListed}
 use Rattle.g_shelf.specs.Quiet.{left_in}
 use Rattle.g_shelf.proofs.MarkLemmas.{mark_completes}
-use Rattle.g_state.specs.Answers.{Belongs}
-use Rattle.g_state.specs.Belong.{DiscBelongs, KeepsFile, RackBelongs}
-use Rattle.g_state.specs.Meaning.{told_reels}
-use Rattle.g_state.specs.Reading.{AllTold, ReelsTold}
-use Rattle.g_state.specs.Up.{IsUp, StoreFacts, with_dump}
-use Rattle.g_state_process.specs.Forgotten.{bare_rec}
-use Rattle.g_state_process.specs.Releasing.{without_reel}
-use Rattle.g_state_process.proofs.ReleaseLemmas.{one_block_is_none}
+use Rattle.g_store_meaning.specs.Answers.{Belongs}
+use Rattle.g_store_meaning.specs.Belong.{DiscBelongs, KeepsFile, RackBelongs}
+use Rattle.g_store_meaning.specs.Meaning.{told_reels}
+use Rattle.g_store_meaning.specs.Reading.{AllTold, ReelsTold}
+use Rattle.g_store_meaning.specs.Up.{IsUp, StoreFacts, with_dump}
+use Rattle.g_laws_process.specs.Forgotten.{bare_rec}
+use Rattle.g_laws_process.specs.Releasing.{without_reel}
+use Rattle.g_laws_process.proofs.ReleaseLemmas.{one_block_is_none}
 use Rattle.g_dumper.specs.Keeps.{spent_with, up_with}
 use Rattle.g_dumper.proofs.ShelfLemmas.{reel_there, told_is}
 use Rattle.g_dumper.proofs.KeepLemmas.{belongs_spent, belongs_up, without_dump}
-use Rattle.g_contents.proofs.HoldLemmas.{holds_one}
+use Rattle.g_disc_contents.proofs.HoldLemmas.{holds_one}
 use Rattle.g_process.specs.Exits.{AreParts, HasReleased, IsClearedBy, IsContentOf, IsLastCut, LacksMark, MayFill, Stops, StopsBefore, StopsCopies, StopsIntent, StopsMark, cleared}
 use Rattle.g_process.specs.Planned.{IsFree, IsTaken, living, process_plan, versions}
 use Rattle.g_process.specs.Named.{intended_by, moved_by}
@@ -54,7 +54,7 @@ use Rattle.g_process.proofs.ReelLemmas.{filled_long, filled_serial}
 use Rattle.g_process.proofs.ReleaseLemmas.{AreApart}
 use Rattle.g_process.proofs.TextLemmas.{source_part}
 use Rattle.g_process.proofs.WholeLemmas.{none_short}
-use Rattle.g_state_laws.proofs.TiedLemmas.{devices_belong}
+use Rattle.g_laws_store.proofs.TiedLemmas.{devices_belong}
 
 -- the plan keeps off its own reel's dumps: no record in it names a copy
 bare_away : (files : List FileRec) (n from to : ℕ) → All (λ (r : FileRec). is_between n from to r.tape ≡ false) (map bare_rec files)

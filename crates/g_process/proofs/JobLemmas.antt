@@ -17,8 +17,8 @@ use Rattle.g_plain.specs.declared.faults.StoreFault.TheVariants.{NoCopy}
 use Rattle.g_tree.specs.Records.{full_of, name_of_file}
 use Rattle.g_tree.proofs.PutLemmas.{number_found}
 use Rattle.g_online.specs.Allowed.{Lies}
-use Rattle.g_contents.specs.Contents.{File, recs_in}
-use Rattle.g_contents.specs.Facts.{IsTied, OnlineFacts}
+use Rattle.g_disc_contents.specs.Contents.{File, recs_in}
+use Rattle.g_disc_contents.specs.Facts.{IsTied, OnlineFacts}
 use Rattle.g_incr.specs.declared.note.DumpNote.{DumpNote}
 use Rattle.g_incr.specs.Layout.{Dump}
 use Rattle.g_incr.specs.Plan.{ComesBefore as RecBefore, needs}
@@ -28,7 +28,7 @@ use Rattle.g_shelf.specs.Held.{AreHeld}
 use Rattle.g_known.specs.Known.{AreListed}
 use Rattle.g_known.proofs.KnownLemmas.{held_fits}
 use Rattle.g_shelf.proofs.OneLemmas.{completed_are_one}
-use Rattle.g_state_process.specs.Forgotten.{every_user}
+use Rattle.g_laws_process.specs.Forgotten.{every_user}
 use Rattle.g_dumper.proofs.BeginLemmas.{after_reads}
 use Rattle.g_dumper.proofs.HeldLemmas.{held_ordered}
 use Rattle.g_dumper.proofs.IntentLemmas.{rules_here}

@@ -9,16 +9,16 @@ use Rattle.std.proofs.lemmas.Option.{same_Some}
 use Rattle.g_base.specs.Block.{IsBlock, blocks_for}
 use Rattle.g_entry.specs.declared.file_rec.FileRec.{FileRec}
 use Rattle.g_entry.specs.declared.file_rec.TapeCopy.{TapeCopy}
-use Rattle.g_contents.specs.Contents.{copy_of}
-use Rattle.g_contents.specs.Facts.{Pin, noted}
-use Rattle.g_contents.proofs.PartLemmas.{parts_join}
+use Rattle.g_disc_contents.specs.Contents.{copy_of}
+use Rattle.g_disc_contents.specs.Facts.{Pin, noted}
+use Rattle.g_disc_contents.proofs.PartLemmas.{parts_join}
 use Rattle.g_incr.specs.Plan.{blocks_of}
 use Rattle.g_incr.proofs.ListLemmas.{get_drop}
-use Rattle.g_state.specs.Meaning.{joined}
-use Rattle.g_state.specs.Up.{ArePinned, content_in}
-use Rattle.g_state_laws.specs.Dumping.{PinsText}
-use Rattle.g_state_laws.proofs.PinLemmas.{both_told}
-use Rattle.g_state_process.specs.Forgotten.{bare_rec}
+use Rattle.g_store_meaning.specs.Meaning.{joined}
+use Rattle.g_store_meaning.specs.Up.{ArePinned, content_in}
+use Rattle.g_laws_store.specs.Dumping.{PinsText}
+use Rattle.g_laws_store.proofs.PinLemmas.{both_told}
+use Rattle.g_laws_process.specs.Forgotten.{bare_rec}
 use Rattle.g_process.specs.Exits.{AreParts}
 use Rattle.g_process.specs.Planned.{copies_from}
 use Rattle.g_process.proofs.DumpLemmas.{from_drop, from_take, get_below}

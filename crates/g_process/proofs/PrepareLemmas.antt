@@ -15,7 +15,7 @@ use Rattle.g_incr.specs.declared.fault.ShelfFault.TheVariants as shelf
 use Rattle.g_incr.specs.Faults.{store_fault}
 use Rattle.g_base.specs.Counts.{Rose}
 use Rattle.g_tree.specs.Records.{full_of}
-use Rattle.g_contents.specs.Facts.{IsTied, OnlineFacts}
+use Rattle.g_disc_contents.specs.Facts.{IsTied, OnlineFacts}
 use Rattle.g_incr.specs.Plan.{IsPlan, Plan, first_content, needs}
 use Rattle.g_shelf.specs.declared.rack.Listed.{Listed}
 use Rattle.g_known.specs.Known.{AreListed}

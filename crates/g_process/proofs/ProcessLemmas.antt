@@ -15,13 +15,13 @@ use Rattle.g_plain.specs.declared.faults.StoreFault.{StoreFault}
 use Rattle.g_plain.specs.declared.faults.StoreFault.TheVariants.{CountersSpent, DiscReadFault, DumpOpen, NoCopy, NoMemory, NoTape, RackNotMounted, ReelNotFree, Stopped, TapeFull, TapeReadFault}
 use Rattle.g_plain.specs.PlainStep.{first_fault}
 use Rattle.g_tree.specs.Records.{full_of}
-use Rattle.g_contents.specs.Contents.{File}
-use Rattle.g_contents.specs.Facts.{IsTied, OnlineFacts}
+use Rattle.g_disc_contents.specs.Contents.{File}
+use Rattle.g_disc_contents.specs.Facts.{IsTied, OnlineFacts}
 use Rattle.g_incr.specs.Plan.{needs}
 use Rattle.g_shelf.specs.Last.{first_unmounted}
-use Rattle.g_step.specs.Rising.{fault_from}
-use Rattle.g_state.specs.Answers.{IsStore, Told, WroteCommits}
-use Rattle.g_state.specs.Up.{StoreFacts}
+use Rattle.g_store_model.specs.Rising.{fault_from}
+use Rattle.g_store_meaning.specs.Answers.{IsStore, Told, WroteCommits}
+use Rattle.g_store_meaning.specs.Up.{StoreFacts}
 use Rattle.g_dumper.specs.Keeps.{up_with}
 use Rattle.g_process.specs.Planned.{IsFirstLost, IsFree, IsTaken, process_plan}
 use Rattle.g_process.specs.Prepared.{IsGranted, RefusesLate}

@@ -9,7 +9,7 @@ use Rattle.g_tape.specs.Rack.{AreReels, Rack, changed, reel, refuses_write, with
 use Rattle.g_tape.specs.Reads.{count_at, time_of, times_in}
 use Rattle.g_tape.specs.Reel.{Reel, Remains, ending, left_by}
 use Rattle.g_tape.proofs.ReadLemmas.{is_reel}
-use Rattle.g_contents.specs.Contents.{has}
+use Rattle.g_disc_contents.specs.Contents.{has}
 use Rattle.g_shelf.specs.declared.rack.Listed.{Listed}
 use Rattle.g_process.specs.Releases.{AreReleased, IsCutAt, is_taken, released, taken, zeros}
 use Rattle.g_process.proofs.WriteLemmas.{free_there}

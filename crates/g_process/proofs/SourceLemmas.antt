@@ -18,11 +18,11 @@ use Rattle.g_tape.specs.Reads.{HasRead, OnlyReads, blocks_in, blocks_of, unread}
 use Rattle.g_tape.specs.Reel.{Reel, Remains, ending, left_by}
 use Rattle.g_tape.proofs.ReadLemmas.{has_read, is_reel, nothing_read, reading_only, reel_after_reads}
 use Rattle.g_plain.specs.declared.faults.StoreFault.{StoreFault}
-use Rattle.g_contents.specs.Contents.{File}
-use Rattle.g_contents.specs.Facts.{OnlineFacts}
-use Rattle.g_contents.specs.Parts.{IsPart}
+use Rattle.g_disc_contents.specs.Contents.{File}
+use Rattle.g_disc_contents.specs.Facts.{OnlineFacts}
+use Rattle.g_disc_contents.specs.Parts.{IsPart}
 use Rattle.g_incr.specs.Plan.{IsContentAt, Plan}
-use Rattle.g_state_process.specs.Forgotten.{bare_rec}
+use Rattle.g_laws_process.specs.Forgotten.{bare_rec}
 use Rattle.g_process.specs.Written.{AreReadable, FailedAt, Fills, IsReadable, ReadsSource}
 use Rattle.g_process.proofs.WriteLemmas.{element, element_below, placed}
 

@@ -12,17 +12,17 @@ use Rattle.g_tape.specs.Rack.{Rack, reel}
 use Rattle.g_tape.specs.Reads.{blocks_in, blocks_of, unread}
 use Rattle.g_tape.specs.Reel.{Reel}
 use Rattle.g_dirs.specs.Directory.{FileEntry}
-use Rattle.g_contents.specs.Contents.{Contents, File, file_of}
-use Rattle.g_contents.specs.Facts.{IsTied, OnlineFacts}
-use Rattle.g_contents.specs.Parts.{IsPart}
-use Rattle.g_contents.proofs.PartLemmas.{joined_are_parts}
+use Rattle.g_disc_contents.specs.Contents.{Contents, File, file_of}
+use Rattle.g_disc_contents.specs.Facts.{IsTied, OnlineFacts}
+use Rattle.g_disc_contents.specs.Parts.{IsPart}
+use Rattle.g_disc_contents.proofs.PartLemmas.{joined_are_parts}
 use Rattle.g_incr.specs.Layout.{Dump, StandsOn, content_at, dump_blocks, ends, size_of}
 use Rattle.g_incr.proofs.ListLemmas.{get_drop, get_some}
 use Rattle.g_shelf.specs.Completed.{AreNext, AreShelved, all_dumps}
-use Rattle.g_state.specs.Meaning.{IsContent, told_reels}
-use Rattle.g_state.specs.Belong.{KeepsFile}
-use Rattle.g_state.specs.Reading.{ReelsTold}
-use Rattle.g_state.proofs.OneLemmas.{on_reel}
+use Rattle.g_store_meaning.specs.Meaning.{IsContent, told_reels}
+use Rattle.g_store_meaning.specs.Belong.{KeepsFile}
+use Rattle.g_store_meaning.specs.Reading.{ReelsTold}
+use Rattle.g_store_meaning.proofs.OneLemmas.{on_reel}
 use Rattle.g_dumper.proofs.BeginLemmas.{reel_named}
 use Rattle.g_dumper.proofs.ShelfLemmas.{reel_there, told_is}
 use Rattle.g_process.specs.Written.{IsReadable, IsSource}

@@ -12,7 +12,7 @@ use Rattle.g_tape.specs.declared.fault.TapeFault.TheVariants.{NotMounted, End}
 use Rattle.g_tape.specs.Rack.{Rack, changed, reel, refuses_write}
 use Rattle.g_tape.specs.Reads.{OnlyReads, time_of}
 use Rattle.g_tape.specs.Reel.{Reel}
-use Rattle.g_contents.specs.Facts.{OnlineFacts}
+use Rattle.g_disc_contents.specs.Facts.{OnlineFacts}
 use Rattle.g_incr.specs.Plan.{Plan, needs}
 use Rattle.g_incr.proofs.ListLemmas.{get_push}
 use Rattle.g_dumper.proofs.BeginLemmas.{after_reads}

@@ -10,14 +10,14 @@ use Rattle.g_tape.specs.Reads.{unread}
 use Rattle.g_tape.specs.Reel.{Reel}
 use Rattle.g_plain.specs.declared.faults.StoreFault.{StoreFault}
 use Rattle.g_plain.specs.declared.faults.StoreFault.TheVariants.{DiscReadFault, Stopped, TapeReadFault}
-use Rattle.g_contents.specs.Contents.{Holds}
-use Rattle.g_contents.specs.Facts.{OnlineFacts}
-use Rattle.g_contents.specs.Parts.{IsPart}
+use Rattle.g_disc_contents.specs.Contents.{Holds}
+use Rattle.g_disc_contents.specs.Facts.{OnlineFacts}
+use Rattle.g_disc_contents.specs.Parts.{IsPart}
 use Rattle.g_incr.specs.Layout.{Dump}
 use Rattle.g_incr.specs.Plan.{IsPlan, blocks_of, content_blocks, dump_of, needs}
 use Rattle.g_shelf.specs.Completed.{AreShelved}
-use Rattle.g_state.specs.Meaning.{told_reels}
-use Rattle.g_state.specs.Up.{StoreFacts, with_dump}
+use Rattle.g_store_meaning.specs.Meaning.{told_reels}
+use Rattle.g_store_meaning.specs.Up.{StoreFacts, with_dump}
 use Rattle.g_process.specs.Named.{intended_by, moved_by}
 use Rattle.g_process.specs.Planned.{IsFree, IsTaken, process_plan, versions}
 

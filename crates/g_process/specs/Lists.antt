@@ -6,8 +6,8 @@ use Rattle.g_entry.specs.declared.file_rec.TapeCopy.{TapeCopy}
 use Rattle.g_plain.specs.declared.faults.StoreFault.{StoreFault}
 use Rattle.g_plain.specs.declared.faults.StoreFault.TheVariants.{NoCopy}
 use Rattle.g_tree.specs.Records.{full_of}
-use Rattle.g_contents.specs.Contents.{File}
-use Rattle.g_contents.specs.Facts.{OnlineFacts}
+use Rattle.g_disc_contents.specs.Contents.{File}
+use Rattle.g_disc_contents.specs.Facts.{OnlineFacts}
 use Rattle.g_incr.specs.declared.note.DumpNote.{DumpNote}
 use Rattle.g_incr.specs.Layout.{Dump}
 use Rattle.g_shelf.specs.declared.rack.Listed.{Listed}

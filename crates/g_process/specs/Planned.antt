@@ -6,14 +6,14 @@ use Rattle.g_entry.specs.declared.file_rec.FileRec.{FileRec}
 use Rattle.g_entry.specs.declared.file_rec.TapeCopy.{TapeCopy}
 use Rattle.g_tape.specs.Rack.{Rack}
 use Rattle.g_tape.specs.Reads.{blocks_of}
-use Rattle.g_contents.specs.Contents.{Contents, File, recs_in}
-use Rattle.g_contents.specs.Facts.{OnlineFacts}
+use Rattle.g_disc_contents.specs.Contents.{Contents, File, recs_in}
+use Rattle.g_disc_contents.specs.Facts.{OnlineFacts}
 use Rattle.g_incr.specs.Plan.{Plan}
 use Rattle.g_incr.specs.Layout.{Dump}
 use Rattle.g_shelf.specs.Completed.{AreCompleted}
 use Rattle.g_shelf.specs.Held.{AreHeld}
 use Rattle.g_dumper.specs.Beginning.{held_of, plan_of}
-use Rattle.g_state_process.specs.Forgotten.{bare, every_user}
+use Rattle.g_laws_process.specs.Forgotten.{bare, every_user}
 
 -- the filestore as if no version had a copy and every directory had changed
 abbrev pub forgotten_online : OnlineFacts → OnlineFacts

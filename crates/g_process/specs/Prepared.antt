@@ -10,9 +10,9 @@ use Rattle.g_tape.specs.Reads.{OnlyReads}
 use Rattle.g_plain.specs.declared.faults.StoreFault.{StoreFault}
 use Rattle.g_plain.specs.declared.faults.StoreFault.TheVariants.{NoCopy, NoMemory, ReelNotFree, Stopped, TapeFull, TapeReadFault}
 use Rattle.g_tree.specs.Records.{full_of}
-use Rattle.g_contents.specs.Commits.{Commits}
-use Rattle.g_contents.specs.Contents.{File, Holds, with_intent}
-use Rattle.g_contents.specs.Facts.{IsTied, OnlineFacts}
+use Rattle.g_disc_contents.specs.Commits.{Commits}
+use Rattle.g_disc_contents.specs.Contents.{File, Holds, with_intent}
+use Rattle.g_disc_contents.specs.Facts.{IsTied, OnlineFacts}
 use Rattle.g_online.specs.declared.fault.OnlineFault.TheVariants as online
 use Rattle.g_online.specs.Ready.{IsAdopting, IsReadyFor}
 use Rattle.g_incr.specs.Plan.{IsPlan, Plan, first_content, needs}

@@ -14,16 +14,16 @@ use Rattle.g_plain.specs.declared.faults.StoreFault.{StoreFault}
 use Rattle.g_plain.specs.declared.faults.StoreFault.TheVariants.{CountersSpent, DiscReadFault, DumpOpen, NoCopy, NoMemory, NoTape, RackNotMounted, ReelNotFree, Stopped, TapeFull, TapeReadFault}
 use Rattle.g_plain.specs.PlainStep.{first_fault}
 use Rattle.g_tree.specs.Records.{full_of}
-use Rattle.g_contents.specs.Contents.{File, Holds}
-use Rattle.g_contents.specs.Facts.{OnlineFacts}
+use Rattle.g_disc_contents.specs.Contents.{File, Holds}
+use Rattle.g_disc_contents.specs.Facts.{OnlineFacts}
 use Rattle.g_incr.specs.Plan.{blocks_of, dump_of, needs}
 use Rattle.g_shelf.specs.Completed.{AreCompleted, AreShelved}
 use Rattle.g_shelf.specs.Last.{first_unmounted}
 use Rattle.g_incr.specs.Layout.{Dump}
-use Rattle.g_step.specs.Rising.{fault_from}
-use Rattle.g_state.specs.Answers.{Belongs, IsStore, Told, WroteCommits}
-use Rattle.g_state.specs.Meaning.{told_reels}
-use Rattle.g_state.specs.Up.{DumpFacts, IsUp, StoreFacts}
+use Rattle.g_store_model.specs.Rising.{fault_from}
+use Rattle.g_store_meaning.specs.Answers.{Belongs, IsStore, Told, WroteCommits}
+use Rattle.g_store_meaning.specs.Meaning.{told_reels}
+use Rattle.g_store_meaning.specs.Up.{DumpFacts, IsUp, StoreFacts}
 use Rattle.g_dumper.specs.Keeps.{spent_with, up_with}
 use Rattle.g_process.specs.Exits.{Exits, IsReadBy}
 use Rattle.g_process.specs.Named.{intended_by, moved_by}

@@ -3,7 +3,7 @@ use Rattle.std.specs.Prelude.{◌≡◌, ℕ, ◌==◌, Bool, true, not, ◌&&�
 use Rattle.g_base.specs.Counts.{Rose}
 use Rattle.g_tape.specs.Rack.{Rack, changed}
 use Rattle.g_tape.specs.Reel.{Reel, Remains, ending, left_by}
-use Rattle.g_contents.specs.Contents.{has}
+use Rattle.g_disc_contents.specs.Contents.{has}
 use Rattle.g_shelf.specs.declared.rack.Listed.{Listed}
 
 abbrev pub zeros : List ℕ

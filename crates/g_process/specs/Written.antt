@@ -10,11 +10,11 @@ use Rattle.g_tape.specs.Reads.{HasRead, OnlyReads, blocks_of}
 use Rattle.g_tape.specs.Reel.{Reel, Remains, ending, left_by}
 use Rattle.g_plain.specs.declared.faults.StoreFault.{StoreFault}
 use Rattle.g_plain.specs.declared.faults.StoreFault.TheVariants.{DiscReadFault, Stopped, TapeReadFault}
-use Rattle.g_contents.specs.Contents.{File}
-use Rattle.g_contents.specs.Facts.{OnlineFacts}
-use Rattle.g_contents.specs.Parts.{IsPart}
+use Rattle.g_disc_contents.specs.Contents.{File}
+use Rattle.g_disc_contents.specs.Facts.{OnlineFacts}
+use Rattle.g_disc_contents.specs.Parts.{IsPart}
 use Rattle.g_incr.specs.Plan.{IsContentAt, IsReadyAt, Plan, needs, waiting}
-use Rattle.g_state_process.specs.Forgotten.{bare_rec}
+use Rattle.g_laws_process.specs.Forgotten.{bare_rec}
 
 -- a reel that holds these blocks from its first one on, once one was written
 abbrev pub filled : List (List ℕ) → Reel → Reel

@@ -1,7 +1,7 @@
 //! The event, from its refusals to the release of the old reels.
 ghost use Rattle.std.specs.Prelude.{◌≡◌, All, Err, IfErr, IfOk, IfNone, IfSome, None, true};
 ghost use Rattle.g_tape.specs.Reads.{OnlyReads};
-ghost use Rattle.g_contents.specs.Facts.{IsTied};
+ghost use Rattle.g_disc_contents.specs.Facts.{IsTied};
 ghost use Rattle.g_dumper.specs.Keeps.{up_with};
 ghost use Rattle.g_process.specs.Prepared.{CarriesOut, IsGranted, MayCarry, Preparing};
 ghost use Rattle.g_process.specs.Processing.{Processes, behind_process, process_refuses};

@@ -2,7 +2,7 @@
 ghost use Rattle.std.specs.Prelude.{◌≡◌, IfOk, true};
 ghost use Rattle.std.specs.Option.{ForSome};
 ghost use Rattle.g_tape.specs.Rack.{Rack, reel};
-ghost use Rattle.g_contents.specs.Facts.{IsTied};
+ghost use Rattle.g_disc_contents.specs.Facts.{IsTied};
 ghost use Rattle.g_incr.specs.Plan as plan;
 ghost use Rattle.g_process.specs.Planned.{living, process_plan};
 ghost use Rattle.g_process.specs.Prepared.{IsCatalogued, IsJob, PlansJob};

@@ -2,8 +2,8 @@
 ghost use Rattle.std.specs.Prelude.{◌≡◌, ◌↔◌, [], All, Contains, IfNone, IfSome, IsFalse, IsTrue, Some, true, false};
 ghost use Rattle.g_entry.specs.declared.file_rec.TapeCopy.{TapeCopy};
 ghost use Rattle.g_tree.specs.Records.{full_of};
-ghost use Rattle.g_contents.specs.Contents.{File};
-ghost use Rattle.g_contents.specs.Facts.{IsTied};
+ghost use Rattle.g_disc_contents.specs.Contents.{File};
+ghost use Rattle.g_disc_contents.specs.Facts.{IsTied};
 ghost use Rattle.g_process.specs.Lists.{IsLost, IsLostIn, IsOfFile, IsThere, notes_at};
 
 use g_base::blocks_for;

@@ -1,7 +1,7 @@
 //! Where the bytes of a version are read.
 ghost use Rattle.std.specs.Prelude.{◌≡◌, ℕ, ◌<◌, true};
 ghost use Rattle.g_base.specs.Block as block;
-ghost use Rattle.g_contents.specs.Facts.{IsTied};
+ghost use Rattle.g_disc_contents.specs.Facts.{IsTied};
 ghost use Rattle.g_process.specs.Written.{IsReadable, ReadsSource};
 
 use g_base::Block;

@@ -1,7 +1,7 @@
 //! The dump, block by block.
 ghost use Rattle.std.specs.Prelude.{◌≡◌, ◌<◌, None, true};
 ghost use Rattle.g_tape.specs.Rack.{reel, refuses_write};
-ghost use Rattle.g_contents.specs.Facts.{IsTied};
+ghost use Rattle.g_disc_contents.specs.Facts.{IsTied};
 ghost use Rattle.g_incr.specs.Plan.{needs};
 ghost use Rattle.g_process.specs.Written.{AreReadable, Fills, MayWrite, WritesBlock, WritesBlocks};
 

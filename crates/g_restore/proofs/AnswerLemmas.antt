@@ -8,11 +8,11 @@ use Rattle.g_tape.specs.Reads.{OnlyReads}
 use Rattle.g_tape.specs.Reel.{Reel}
 use Rattle.g_plain.specs.declared.faults.StoreFault.{StoreFault}
 use Rattle.g_plain.specs.declared.faults.StoreFault.TheVariants.{DiscReadFault, LostCopy, LostDirectory, NoMemory, RackNotMounted, Stopped, TapeReadFault}
-use Rattle.g_contents.specs.Contents.{Contents}
-use Rattle.g_contents.specs.Facts.{IsTied, OnlineFacts}
+use Rattle.g_disc_contents.specs.Contents.{Contents}
+use Rattle.g_disc_contents.specs.Facts.{IsTied, OnlineFacts}
 use Rattle.g_incr.specs.Layout.{Dump}
 use Rattle.g_shelf.specs.Completed.{all_dumps}
-use Rattle.g_state.specs.Meaning.{told_reels}
+use Rattle.g_store_meaning.specs.Meaning.{told_reels}
 use Rattle.g_online.specs.Begun.{AsBeforeOr, HasMade, first_contents}
 use Rattle.g_restore.specs.declared.directory.Dumped.{Dumped}
 use Rattle.g_restore.specs.Lost.{LostIsNamed, NamesLost}

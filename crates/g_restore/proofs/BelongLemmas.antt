@@ -6,17 +6,17 @@ use Rattle.g_disc.specs.Disc.{DiscState}
 use Rattle.g_tape.specs.Rack.{Rack}
 use Rattle.g_tape.specs.Reads.{OnlyReads}
 use Rattle.g_tape.specs.Reel.{Reel}
-use Rattle.g_contents.specs.Contents.{Contents, Holds, contents_of}
-use Rattle.g_contents.specs.Facts.{IsTied, OnlineFacts}
-use Rattle.g_contents.proofs.HoldLemmas.{holds_one}
+use Rattle.g_disc_contents.specs.Contents.{Contents, Holds, contents_of}
+use Rattle.g_disc_contents.specs.Facts.{IsTied, OnlineFacts}
+use Rattle.g_disc_contents.proofs.HoldLemmas.{holds_one}
 use Rattle.g_incr.specs.Layout.{Dump}
 use Rattle.g_shelf.specs.Completed.{all_dumps}
-use Rattle.g_state.specs.Belong.{Belong, BelongWith, DiscBelongs, RackBelongs}
-use Rattle.g_state.specs.Laws.{restored}
-use Rattle.g_state.specs.Meaning.{DumpedDirectory, told_reels}
-use Rattle.g_state.specs.Reading.{ReelsTold}
-use Rattle.g_state.proofs.ChangeLemmas.{restore_belongs}
-use Rattle.g_state.proofs.ViewLemmas.{reads_belong}
+use Rattle.g_store_meaning.specs.Belong.{Belong, BelongWith, DiscBelongs, RackBelongs}
+use Rattle.g_store_meaning.specs.Laws.{restored}
+use Rattle.g_store_meaning.specs.Meaning.{DumpedDirectory, told_reels}
+use Rattle.g_store_meaning.specs.Reading.{ReelsTold}
+use Rattle.g_store_meaning.proofs.ChangeLemmas.{restore_belongs}
+use Rattle.g_store_meaning.proofs.ViewLemmas.{reads_belong}
 use Rattle.g_online.specs.Begun.{AsBeforeOr, HasMade, HoldsAsBefore}
 use Rattle.g_restore.specs.Restored.{IsRestored, KeepsBelonging}
 use Rattle.g_restore.proofs.ReelLemmas.{all_of_reels}

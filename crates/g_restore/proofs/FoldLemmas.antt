@@ -18,8 +18,8 @@ use Rattle.g_plain.specs.declared.faults.StoreFault.TheVariants.{LostDirectory, 
 use Rattle.g_incr.specs.Layout.{Dump, IsDump}
 use Rattle.g_incr.specs.Plan.{numbered_from, with_number}
 use Rattle.g_incr.proofs.NumberLemmas.{file_numbered, length-numbered, number_at, numbered_each}
-use Rattle.g_state.specs.Meaning.{DumpedDirectory, IsGreatest, files_in}
-use Rattle.g_state.proofs.GatheredLemmas.{each_gathered}
+use Rattle.g_store_meaning.specs.Meaning.{DumpedDirectory, IsGreatest, files_in}
+use Rattle.g_store_meaning.proofs.GatheredLemmas.{each_gathered}
 use Rattle.g_restore.specs.declared.dumps.Found.{Found}
 use Rattle.g_restore.specs.declared.directory.Dumped.{Dumped}
 use Rattle.g_restore.specs.Gathered.{AreGathered, IsBest, IsFirstBad}

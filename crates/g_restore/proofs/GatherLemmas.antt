@@ -9,8 +9,8 @@ use Rattle.g_entry.specs.declared.file_rec.FileRec.{FileRec}
 use Rattle.g_entry.specs.declared.user_rec.UserRec.{UserRec}
 use Rattle.g_incr.specs.Layout.{Dump}
 use Rattle.g_incr.specs.Plan.{numbered_from}
-use Rattle.g_state.specs.Meaning.{Gathers, HasDirectory, files_of}
-use Rattle.g_state.proofs.OneLemmas.{IsApart, same_gathered}
+use Rattle.g_store_meaning.specs.Meaning.{Gathers, HasDirectory, files_of}
+use Rattle.g_store_meaning.proofs.OneLemmas.{IsApart, same_gathered}
 use Rattle.g_restore.specs.declared.dumps.Found.{Found}
 use Rattle.g_restore.specs.Gathered.{AreGathered, ArePut, GoWith, IsAdded, IsBadWith, IsBest, IsFirstBad, IsHeldNowhere, IsTaken, NonePasses, SoFar, behind}
 use Rattle.g_restore.specs.Known.{AreKnown, Known, known, known_of}

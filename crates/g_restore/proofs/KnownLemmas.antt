@@ -4,9 +4,9 @@ use Rattle.std.specs.Prelude.{Contains}
 use Rattle.std.proofs.lemmas.List.{get_or-map, get_or_default, length-map}
 use Rattle.std.proofs.lemmas.List.Elements.{All-contains}
 use Rattle.g_incr.specs.Layout.{Dump, IsDump, holds}
-use Rattle.g_state.specs.Meaning.{HasDirectory, IsGreatest}
+use Rattle.g_store_meaning.specs.Meaning.{HasDirectory, IsGreatest}
 use Rattle.g_restore.specs.declared.dumps.Found.{Found}
-use Rattle.g_restore.specs.Gathered.{HasFew, IsBest, NonePasses, number_in, passes}
+use Rattle.g_restore.specs.Gathered.{HasFew, IsBest, NonePasses, number_in, holds_directory}
 use Rattle.g_restore.specs.Known.{Known, known, known_of}
 
 pub at_place : {X : Type 0} (xs : List X) (i : ℕ) → i < length xs → (x : X) × (get_or xs i x ≡ x)
@@ -17,12 +17,12 @@ at_place (x ∷ xs) (suc i) within = let (y, is) = at_place xs i (omega (arith, 
 get_or_same : {X : Type 0} (xs : List X) (k : ℕ) (e x : X) → k < length xs → get_or xs k x ≡ x → get_or xs k e ≡ x
 get_or_same xs k e x within is = get_or_default xs k e x within ∙ is
 
--- the user's directory is in the dump; without a user each dump passes
+-- the user's directory is in the dump; without a user each dump holds_directory
 abbrev pub is_passed : Option ℕ → Dump → Bool
 is_passed None d = true
 is_passed (Some user) d = holds d.held user
 
-pass_same : (user : Option ℕ) (f : Found) (d : Dump) → known f ≡ known_of d → passes user f ≡ is_passed user d
+pass_same : (user : Option ℕ) (f : Found) (d : Dump) → known f ≡ known_of d → holds_directory user f ≡ is_passed user d
 pass_same None f d same = refl
 pass_same (Some user) f d same = ap (λ (k : Known). holds k.held user) same
 
@@ -74,7 +74,7 @@ module _ (found : List Found) (dumps : List Dump) (same : map known found ≡ ma
         passed = sym (pass_same user (get_or found b.0 f) d (known_d f)) ∙ is.passes_is f;
         most = λ e in_e passed_e.
             let (k, within, g, at_g, known_g) = place_of e in_e in
-            let pass : passes user (get_or found k g) ≡ true = ap (passes user) at_g ∙ pass_same user g e known_g ∙ passed_e in
+            let pass : holds_directory user (get_or found k g) ≡ true = ap (holds_directory user) at_g ∙ pass_same user g e known_g ∙ passed_e in
             let low = is.most k g within pass in
             let number_g : number_in (get_or found k g) ≡ e.number = ap number_in at_g ∙ ap (λ (x : Known). x.note.number) known_g in
             let number_d : number_in (get_or found b.0 f) ≡ d.number = ap (λ (x : Known). x.note.number) (known_d f) in
@@ -85,7 +85,7 @@ module _ (found : List Found) (dumps : List Dump) (same : map known found ≡ ma
   pub none_passed : (user : Option ℕ) → NonePasses user found (length found) → (d : Dump) → Contains dumps d → is_passed user d ≡ true → ⊥
   none_passed user none d in_d passed =
       let (k, within, f, at_f, known_f) = place_of d in_d in
-      none k f within (ap (passes user) at_f ∙ pass_same user f d known_f ∙ passed)
+      none k f within (ap (holds_directory user) at_f ∙ pass_same user f d known_f ∙ passed)
 
   pub holder : (user : ℕ) (b : ℕ × ℕ) → IsBest (Some user) found (length found) b → (d : Dump) × HasDirectory dumps user d × ((f : Found) → known (get_or found b.0 f) ≡ known_of d)
   holder user b is = let best = the_best (Some user) b is in (best.dump, record { there = best.there; held = best.passed; newest = best.most }, best.known_is)
@@ -102,7 +102,7 @@ module _ (found : List Found) (dumps : List Dump) (same : map known found ≡ ma
       let long : length (get_or found k f).dir.files.items ≡ length d.files = ap (λ (x : Known). length x.files) (known_d f) in
       omega (arith, long, few)
 
--- where none passes there is none
+-- where none holds_directory there is none
 pub none_there : (found : List Found) → NonePasses None found (length found) → found ≡ []
 none_there [] none = refl
 none_there (f ∷ fs) none = absurd (none 0 f (omega arith) refl)

@@ -7,7 +7,7 @@ use Rattle.std.proofs.lemmas.List.Elements.{All-cons, All-head, All-nil, All-tai
 use Rattle.g_entry.specs.declared.file_rec.FileRec.{FileRec}
 use Rattle.g_incr.specs.Plan.{numbered_from, with_number}
 use Rattle.g_incr.proofs.NumberLemmas.{length-numbered, numbered-append}
-use Rattle.g_state.specs.Meaning.{files_of}
+use Rattle.g_store_meaning.specs.Meaning.{files_of}
 use Rattle.g_restore.specs.Gathered.{added, behind}
 
 -- one more file of a list is looked at

@@ -7,7 +7,7 @@ use Rattle.g_base.specs.Block.{IsBlock, blocks_for}
 use Rattle.g_entry.specs.declared.file_rec.FileRec.{FileRec}
 use Rattle.g_entry.specs.declared.file_rec.TapeCopy.{TapeCopy}
 use Rattle.g_incr.specs.Layout.{Dump, IsDump, content_at, count_of}
-use Rattle.g_state.specs.Meaning.{IsContent, joined}
+use Rattle.g_store_meaning.specs.Meaning.{IsContent, joined}
 use Rattle.g_restore.specs.declared.dumps.Found.{Found}
 use Rattle.g_restore.specs.Known.{AreKnown, Known, known, known_of}
 use Rattle.g_restore.specs.Lost.{HasPlace}

@@ -15,12 +15,12 @@ use Rattle.g_tape.specs.Reel.{Reel}
 use Rattle.g_tree.specs.Records.{IsRecords}
 use Rattle.g_plain.specs.declared.faults.StoreFault.{StoreFault}
 use Rattle.g_plain.specs.declared.faults.StoreFault.TheVariants.{DiscReadFault, NoMemory, Stopped}
-use Rattle.g_contents.specs.Contents.{Contents, File}
-use Rattle.g_contents.specs.Facts.{OnlineFacts}
+use Rattle.g_disc_contents.specs.Contents.{Contents, File}
+use Rattle.g_disc_contents.specs.Facts.{OnlineFacts}
 use Rattle.g_incr.specs.Layout.{Dump}
 use Rattle.g_shelf.specs.Completed.{all_dumps}
-use Rattle.g_state.specs.Laws.{restored, restored_file}
-use Rattle.g_state.specs.Meaning.{files_in}
+use Rattle.g_store_meaning.specs.Laws.{restored, restored_file}
+use Rattle.g_store_meaning.specs.Meaning.{files_in}
 use Rattle.g_online.specs.Allowed.{KeepsRules, Lies}
 use Rattle.g_online.specs.Faults.{store_fault_of}
 use Rattle.g_online.specs.declared.fault.OnlineFault.{OnlineFault}

@@ -17,8 +17,8 @@ use Rattle.g_shelf.specs.Found.{AreInRow, note_of}
 use Rattle.g_shelf.specs.Walk.{AreOf, HasMore}
 use Rattle.g_shelf.proofs.RackLemmas.{reel_at}
 use Rattle.g_shelf.proofs.WalkLemmas.{same_note}
-use Rattle.g_state.specs.Reading.{ReelsTold}
-use Rattle.g_state.proofs.OneLemmas.{one_shelf}
+use Rattle.g_store_meaning.specs.Reading.{ReelsTold}
+use Rattle.g_store_meaning.proofs.OneLemmas.{one_shelf}
 use Rattle.g_restore.specs.declared.dumps.Found.{Found}
 use Rattle.g_restore.specs.Known.{Known, known, known_of}
 use Rattle.g_restore.specs.Reels.{AreAllDumps, AreOn, AreOnReels}

@@ -5,37 +5,37 @@ use Rattle.g_entry.specs.declared.user_rec.UserRec.{UserRec}
 use Rattle.g_entry.specs.Rules.{AreFiles, StampsBelow}
 use Rattle.g_incr.specs.Layout.{Dump, holds}
 use Rattle.g_incr.specs.Plan.{numbered_from, with_number}
-use Rattle.g_state.specs.Meaning.{Gathers, HasDirectory, files_of}
+use Rattle.g_store_meaning.specs.Meaning.{Gathers, HasDirectory, files_of}
 use Rattle.g_restore.specs.declared.dumps.Found.{Found}
 use Rattle.g_restore.specs.Known.{AreKnown}
 use Rattle.g_restore.specs.Lost.{AreApart}
 
--- the user's directory is in the dump; without a user each dump passes
-abbrev pub passes : Option ℕ → Found → Bool
-passes None f = true
-passes (Some user) f = holds f.dir.held.items user
+-- the user's directory is in the dump; without a user each dump holds_directory
+abbrev pub holds_directory : Option ℕ → Found → Bool
+holds_directory None f = true
+holds_directory (Some user) f = holds f.dir.held.items user
 
 abbrev pub number_in : Found → ℕ
 number_in f = f.dir.note.number
 
--- the better one of two, by place and number: that of greater number, the first where they are equal
-abbrev pub greater : Option (ℕ × ℕ) → ℕ → ℕ → Option (ℕ × ℕ)
-greater None i number = Some (i, number)
-greater (Some b) i number = if nat_lt b.1 number then Some (i, number) else Some b
+-- the newer_holder one of two, by place and number: that of newer_of number, the first where they are equal
+abbrev pub newer_of : Option (ℕ × ℕ) → ℕ → ℕ → Option (ℕ × ℕ)
+newer_of None i number = Some (i, number)
+newer_of (Some b) i number = if nat_lt b.1 number then Some (i, number) else Some b
 
-abbrev pub better : Option ℕ → Option (ℕ × ℕ) → ℕ → Found → Option (ℕ × ℕ)
-better user best i f = if passes user f then greater best i (number_in f) else best
+abbrev pub newer_holder : Option ℕ → Option (ℕ × ℕ) → ℕ → Found → Option (ℕ × ℕ)
+newer_holder user best i f = if holds_directory user f then newer_of best i (number_in f) else best
 
 -- of the first n dumps the one of greatest number among those that pass, and its number
 pub record IsBest (user : Option ℕ) (found : List Found) (n : ℕ) (b : ℕ × ℕ) : Type 0 where
   pub within : b.0 < n
   pub number_is : (d : Found) → number_in (get_or found b.0 d) ≡ b.1
-  pub passes_is : (d : Found) → passes user (get_or found b.0 d) ≡ true
-  pub most : (k : ℕ) (d : Found) → k < n → passes user (get_or found k d) ≡ true → number_in (get_or found k d) ≤ b.1
+  pub passes_is : (d : Found) → holds_directory user (get_or found b.0 d) ≡ true
+  pub most : (k : ℕ) (d : Found) → k < n → holds_directory user (get_or found k d) ≡ true → number_in (get_or found k d) ≤ b.1
 
--- none of the first n passes
+-- none of the first n holds_directory
 abbrev pub NonePasses : Option ℕ → List Found → ℕ → Type 0
-NonePasses user found n = (k : ℕ) (d : Found) → k < n → passes user (get_or found k d) ≡ true → ⊥
+NonePasses user found n = (k : ℕ) (d : Found) → k < n → holds_directory user (get_or found k d) ≡ true → ⊥
 
 abbrev pub IsBestOf : Option ℕ → List Found → ℕ → Option (ℕ × ℕ) → Type 0
 IsBestOf user found n best = MatchOption best (NonePasses user found n) (IsBest user found n)

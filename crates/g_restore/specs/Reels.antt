@@ -5,7 +5,7 @@ use Rattle.g_tape.specs.Reel.{Reel}
 use Rattle.g_incr.specs.Layout.{Dump}
 use Rattle.g_shelf.specs.Completed.{AreCompleted, AreShelved, all_dumps}
 use Rattle.g_shelf.specs.Found.{AreInRow}
-use Rattle.g_state.specs.Reading.{ReelsTold}
+use Rattle.g_store_meaning.specs.Reading.{ReelsTold}
 
 -- the dumps of a reel: they lie end to end with rising numbers and keep the rules of dumps, and where the reel tells what it
 -- holds they are its completed ones

@@ -4,12 +4,12 @@ use Rattle.g_tape.specs.Rack.{Rack}
 use Rattle.g_tape.specs.Reel.{Reel}
 use Rattle.g_plain.specs.declared.faults.StoreFault.{StoreFault}
 use Rattle.g_plain.specs.declared.faults.StoreFault.TheVariants as store
-use Rattle.g_contents.specs.Contents.{Contents}
+use Rattle.g_disc_contents.specs.Contents.{Contents}
 use Rattle.g_incr.specs.Layout.{Dump}
-use Rattle.g_state.specs.Belong.{Belong}
-use Rattle.g_state.specs.Laws.{restored}
-use Rattle.g_state.specs.Meaning.{DumpedDirectory, files_in, told_reels}
-use Rattle.g_state.specs.Reading.{ReelsTold}
+use Rattle.g_store_meaning.specs.Belong.{Belong}
+use Rattle.g_store_meaning.specs.Laws.{restored}
+use Rattle.g_store_meaning.specs.Meaning.{DumpedDirectory, files_in, told_reels}
+use Rattle.g_store_meaning.specs.Reading.{ReelsTold}
 use Rattle.g_restore.specs.Reels.{AreOnReels}
 use Rattle.g_restore.specs.Lost.{HasPlace}
 

@@ -6,7 +6,7 @@ use Rattle.g_tree.specs.Records.{IsRecords}
 use Rattle.g_plain.specs.declared.faults.StoreFault.{StoreFault}
 use Rattle.g_plain.specs.declared.faults.StoreFault.TheVariants as store
 use Rattle.g_incr.specs.Layout.{Dump}
-use Rattle.g_state.specs.Meaning.{DumpedDirectory, files_in}
+use Rattle.g_store_meaning.specs.Meaning.{DumpedDirectory, files_in}
 use Rattle.g_restore.specs.declared.directory.Dumped.{Dumped}
 use Rattle.g_tape.specs.Reel.{Reel}
 use Rattle.g_restore.specs.Lost.{HasPlace}

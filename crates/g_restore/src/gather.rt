@@ -2,7 +2,7 @@
 ghost use Rattle.std.specs.Prelude.{◌≡◌, ◌⊎◌, ◌↔◌, ◌+◌, ◌≤◌, ℕ, All, IfErr, IfOk, IfSome, IsTrue, List, OnOk, false, length};
 ghost use Rattle.g_incr.specs.Layout.{Dump};
 ghost use Rattle.g_restore.specs.Known.{AreKnown};
-ghost use Rattle.g_restore.specs.Gathered.{AreGathered, ArePut, GoWith, HasFew, IsAdded, IsBadWith, IsBestOf, IsFirstBad, IsHeldNowhere, IsTaken, added, behind, better, greater, passes};
+ghost use Rattle.g_restore.specs.Gathered.{AreGathered, ArePut, GoWith, HasFew, IsAdded, IsBadWith, IsBestOf, IsFirstBad, IsHeldNowhere, IsTaken, added, behind, newer_holder, newer_of, holds_directory};
 ghost use Rattle.g_restore.specs.Lost.{AreApart};
 
 use crate::dumps::Found;
@@ -18,29 +18,29 @@ pub(crate) fn greatest(found: &[Found], user: Option<u8>) -> Option<(usize, u64)
 {
     let mut best = None;
     for (i, one) in found.iter().enumerate() {
-        best = better(best, i, one, user);
+        best = newer_holder(best, i, one, user);
     }
     best
 }
 
-fn better(
+fn newer_holder(
     best: Option<(usize, u64)>,
     i: usize,
     one: &Found,
     user: Option<u8>,
 ) -> Option<(usize, u64)>
-    ensures { result ≡ better user best i one.now }
+    ensures { result ≡ newer_holder user best i one.now }
 {
-    if passes(one, user) {
-        greater(best, i, one.dir.note.number)
+    if holds_directory(one, user) {
+        newer_of(best, i, one.dir.note.number)
     } else {
         best
     }
 }
 
 /// Of the best dump so far and one behind it the one of greater number, the first where they are equal.
-fn greater(best: Option<(usize, u64)>, i: usize, number: u64) -> Option<(usize, u64)>
-    ensures { result ≡ greater best i number }
+fn newer_of(best: Option<(usize, u64)>, i: usize, number: u64) -> Option<(usize, u64)>
+    ensures { result ≡ newer_of best i number }
 {
     match best {
         None => Some((i, number)),
@@ -55,8 +55,8 @@ fn greater(best: Option<(usize, u64)>, i: usize, number: u64) -> Option<(usize, 
 }
 
 /// Whether the dump holds the directory of this user.
-fn passes(one: &Found, user: Option<u8>) -> bool
-    ensures { result ≡ passes user one.now }
+fn holds_directory(one: &Found, user: Option<u8>) -> bool
+    ensures { result ≡ holds_directory user one.now }
 {
     match user {
         Some(user) => one.dir.held.as_slice().contains(&user),
@@ -109,7 +109,7 @@ fn gather_at_once(
             Err(fault) => return Err(fault),
         }
     }
-    if go_with(alloc, users.len(), next, files.as_slice())? {
+    if keep_file_rules(alloc, users.len(), next, files.as_slice())? {
         Ok(Some(files))
     } else {
         Ok(None)
@@ -157,14 +157,14 @@ fn take_user(
     ensures bad { IfOk result (λ is. is ≡ false → IsBadWith found.now users next user files.old.items) }
 {
     if add_directory(found, user, files)? {
-        go_with(alloc, users, next, files.as_slice())
+        keep_file_rules(alloc, users, next, files.as_slice())
     } else {
         Ok(false)
     }
 }
 
 /// Whether the files keep the rules, where there are so many users and this is the next stamp.
-fn go_with(alloc: Global, users: usize, next: u64, files: &[FileRec]) -> Result<bool, NoMemory>
+fn keep_file_rules(alloc: Global, users: usize, next: u64, files: &[FileRec]) -> Result<bool, NoMemory>
     ensures { IfOk result (λ is. IsTrue is ↔ GoWith users next files.now) }
 {
     if stamps_are_below(next, files) {

@@ -9,17 +9,17 @@ use Rattle.g_entry.specs.declared.file_rec.FileRec.{FileRec}
 use Rattle.g_entry.specs.declared.file_rec.TapeCopy.{TapeCopy}
 use Rattle.g_tree.specs.Records.{IsRecords}
 use Rattle.g_tree.proofs.RuleLemmas.{one_of_key}
-use Rattle.g_contents.specs.Contents.{Contents, File, brought, has, offline_in, online_with, recs_in, taken_off}
-use Rattle.g_contents.specs.Facts.{IsTied, OnlineFacts, Pin, is_current, online_blocks, pinned_blocks, room_with}
+use Rattle.g_disc_contents.specs.Contents.{Contents, File, brought, has, offline_in, online_with, recs_in, taken_off}
+use Rattle.g_disc_contents.specs.Facts.{IsTied, OnlineFacts, Pin, is_current, online_blocks, pinned_blocks, room_with}
 use Rattle.g_online.specs.declared.change.Change.TheVariants.{Bring}
 use Rattle.g_online.specs.Allowed.{IsAllowed, IsUnjammable, KeepsRules, Lies}
 use Rattle.g_online.specs.Change.{changed, told_bytes, with_files}
 use Rattle.g_online.specs.Room.{FitsDisc}
 use Rattle.g_online.proofs.KeepLemmas.{rules_of}
 use Rattle.g_online.proofs.OffRuleLemmas.{MayGo, committed_rules, off_rules, same_recs, rec_off}
-use Rattle.g_state_steps.specs.Unjam.{IsUnjamPlan, is_candidate, is_taken}
-use Rattle.g_state_steps.proofs.UnjamLemmas.{any_found, numbers_apart}
-use Rattle.g_state_steps.proofs.UserLemmas.{any_there}
+use Rattle.g_laws_memory.specs.Unjam.{IsUnjamPlan, is_candidate, is_taken}
+use Rattle.g_laws_memory.proofs.UnjamLemmas.{any_found, numbers_apart}
+use Rattle.g_laws_memory.proofs.UserLemmas.{any_there}
 use Rattle.g_retrieve.specs.Brought.{IsOnTape}
 
 -- THE RULES of the contents, from what ties them to the disc

@@ -17,20 +17,20 @@ use Rattle.g_plain.specs.declared.faults.StoreFault.{StoreFault}
 use Rattle.g_plain.specs.declared.faults.StoreFault.TheVariants.{DiscFull, NoCopy, NoMemory, Stopped, TapeReadFault, WaitTape}
 use Rattle.g_tree.specs.Records.{IsRecords, by_number, full_of, name_of_file}
 use Rattle.g_tree.proofs.PutLemmas.{number_found}
-use Rattle.g_contents.specs.Contents.{File, recs_in}
-use Rattle.g_contents.specs.Facts.{IsTied, OnlineFacts}
+use Rattle.g_disc_contents.specs.Contents.{File, recs_in}
+use Rattle.g_disc_contents.specs.Facts.{IsTied, OnlineFacts}
 use Rattle.g_online.specs.declared.change.Change.TheVariants.{Bring}
 use Rattle.g_online.specs.Faults.{store_fault_of}
 use Rattle.g_online.specs.declared.fault.OnlineFault.{OnlineFault}
 use Rattle.g_online.specs.declared.fault.OnlineFault.TheVariants as online
 use Rattle.g_online.specs.declared.unjam.Unjam.{Unjam}
 use Rattle.g_online.specs.Allowed.{IsAllowed}
-use Rattle.g_online.specs.Done.{HasChanged, IsApplied, room_for}
-use Rattle.g_state_steps.proofs.WaitingLemmas.{mapped_there}
+use Rattle.g_online.specs.Outcomes.{HasChanged, IsApplied, room_for}
+use Rattle.g_laws_memory.proofs.WaitingLemmas.{mapped_there}
 use Rattle.g_retrieve.specs.Brought.{HasBroughtBack, HasCopied, HasReadCopy, IsOnTape, IsBrought, IsPutBack, IsTapeRefusal, ReadsTapes}
 use Rattle.g_retrieve.specs.Keeps.{HasLostCopy, KeepsDevices}
 use Rattle.g_retrieve.proofs.AllowLemmas.{away_filled, may_bring, rules_here}
-use Rattle.g_state_steps.specs.Unjam.{IsUnjamPlan}
+use Rattle.g_laws_memory.specs.Unjam.{IsUnjamPlan}
 use Rattle.g_retrieve.proofs.HeldLemmas.{is_lost}
 use Rattle.g_retrieve.proofs.KeepsLemmas.{keeps_done, keeps_same, keeps_stopped}
 

@@ -14,7 +14,7 @@ use Rattle.g_shelf.specs.Completed.{AreCompleted, AreNext}
 use Rattle.g_shelf.specs.Held.{AreHeld}
 use Rattle.g_shelf.proofs.HeldLemmas.{held_in_one}
 use Rattle.g_shelf.proofs.OneLemmas.{completed_are_one}
-use Rattle.g_state.specs.Meaning.{IsContent, joined}
+use Rattle.g_store_meaning.specs.Meaning.{IsContent, joined}
 
 -- A DUMP'S CONTENT on the reel
 content_behind : (header mark : List ℕ) (users files content : List (List ℕ)) → drop (1 + length users + length files) (header ∷ (users ++ (files ++ (content ++ mark ∷ [])))) ≡ content ++ mark ∷ []

@@ -11,18 +11,18 @@ use Rattle.g_tape.specs.Reads.{blocks_in, blocks_of, unread}
 use Rattle.g_tape.specs.Reel.{Reel}
 use Rattle.g_tree.specs.Records.{full_of}
 use Rattle.g_tree.proofs.ListLemmas.{contains_first, contains_more}
-use Rattle.g_contents.specs.Contents.{File}
-use Rattle.g_contents.specs.Facts.{OnlineFacts}
+use Rattle.g_disc_contents.specs.Contents.{File}
+use Rattle.g_disc_contents.specs.Facts.{OnlineFacts}
 use Rattle.g_incr.specs.Layout.{Dump}
 use Rattle.g_shelf.specs.Completed.{AreCompleted, AreShelved, all_dumps}
-use Rattle.g_state.specs.Answers.{Belongs, IsLostCopy, Told}
-use Rattle.g_state.specs.Belong.{KeepsFile}
-use Rattle.g_state.specs.Meaning.{IsContent, told_reels}
-use Rattle.g_state.specs.Reading.{ReelsTold}
-use Rattle.g_state.specs.Up.{IsUp, StoreFacts}
-use Rattle.g_state.proofs.OneLemmas.{are_right, is_shelved, on_reel, one_content}
-use Rattle.g_state_laws.proofs.UpOneLemmas.{on_all}
-use Rattle.g_state_steps.proofs.WaitingLemmas.{mapped_there}
+use Rattle.g_store_meaning.specs.Answers.{Belongs, IsLostCopy, Told}
+use Rattle.g_store_meaning.specs.Belong.{KeepsFile}
+use Rattle.g_store_meaning.specs.Meaning.{IsContent, told_reels}
+use Rattle.g_store_meaning.specs.Reading.{ReelsTold}
+use Rattle.g_store_meaning.specs.Up.{IsUp, StoreFacts}
+use Rattle.g_store_meaning.proofs.OneLemmas.{are_right, is_shelved, on_reel, one_content}
+use Rattle.g_laws_store.proofs.UpOneLemmas.{on_all}
+use Rattle.g_laws_memory.proofs.WaitingLemmas.{mapped_there}
 use Rattle.g_retrieve.specs.Brought.{HasCopied, IsOnTape, IsNowhere}
 use Rattle.g_retrieve.specs.Keeps.{HasLostCopy, IsOver}
 

@@ -10,27 +10,27 @@ use Rattle.g_tape.specs.Reads.{OnlyReads, unread}
 use Rattle.g_tape.specs.Reel.{Reel}
 use Rattle.g_tape.proofs.ReadLemmas.{reel_after_reads}
 use Rattle.g_tree.proofs.RuleLemmas.{one_of_key}
-use Rattle.g_contents.specs.Contents.{Contents, File, Holds, brought, committed, offline_in, taken_off, with_intent}
-use Rattle.g_contents.specs.Facts.{IsTied, OnlineFacts}
-use Rattle.g_contents.proofs.HoldLemmas.{holds_one}
+use Rattle.g_disc_contents.specs.Contents.{Contents, File, Holds, brought, committed, offline_in, taken_off, with_intent}
+use Rattle.g_disc_contents.specs.Facts.{IsTied, OnlineFacts}
+use Rattle.g_disc_contents.proofs.HoldLemmas.{holds_one}
 use Rattle.g_online.specs.declared.change.Change.TheVariants.{Bring}
 use Rattle.g_online.specs.Change.{changed, told_bytes, unjammed, with_files}
-use Rattle.g_online.specs.Done.{AfterStop, HasChanged, HasStopped}
+use Rattle.g_online.specs.Outcomes.{AfterStop, HasChanged, HasStopped}
 use Rattle.g_online.proofs.OffRuleLemmas.{rec_off}
 use Rattle.g_incr.specs.Layout.{Dump, holds}
 use Rattle.g_shelf.specs.Completed.{AreShelved}
-use Rattle.g_state.specs.Answers.{Belongs, IsStore, Told}
-use Rattle.g_state.specs.Belong.{BelongWith, DiscBelongs}
-use Rattle.g_state.specs.Laws.{BringsText, IsQuiet}
-use Rattle.g_state.specs.Meaning.{told_reels}
-use Rattle.g_state.specs.Reading.{ReelsTold}
-use Rattle.g_state.specs.Staying.{OnlyGrow, behind}
-use Rattle.g_state.specs.Up.{DumpFacts, IsOpen, IsUp, StoreFacts}
-use Rattle.g_state.proofs.ChangeLemmas.{files_belong}
-use Rattle.g_state.proofs.StayLemmas.{stays_open, stays_up}
-use Rattle.g_state_laws.proofs.DumpingLemmas.{events_stay_up}
-use Rattle.g_state_laws.proofs.TiedLemmas.{committed_belongs, devices_belong, moved, spent_store, spent_then}
-use Rattle.g_state_steps.proofs.UnjamLemmas.{numbers_apart}
+use Rattle.g_store_meaning.specs.Answers.{Belongs, IsStore, Told}
+use Rattle.g_store_meaning.specs.Belong.{BelongWith, DiscBelongs}
+use Rattle.g_store_meaning.specs.Laws.{BringsText, IsQuiet}
+use Rattle.g_store_meaning.specs.Meaning.{told_reels}
+use Rattle.g_store_meaning.specs.Reading.{ReelsTold}
+use Rattle.g_store_meaning.specs.Staying.{OnlyGrow, behind}
+use Rattle.g_store_meaning.specs.Up.{DumpFacts, IsOpen, IsUp, StoreFacts}
+use Rattle.g_store_meaning.proofs.ChangeLemmas.{files_belong}
+use Rattle.g_store_meaning.proofs.StayLemmas.{stays_open, stays_up}
+use Rattle.g_laws_store.proofs.DumpingLemmas.{events_stay_up}
+use Rattle.g_laws_store.proofs.TiedLemmas.{committed_belongs, devices_belong, moved, spent_store, spent_then}
+use Rattle.g_laws_memory.proofs.UnjamLemmas.{numbers_apart}
 use Rattle.g_retrieve.specs.Brought.{HasCopied, IsOnTape}
 use Rattle.g_retrieve.specs.Keeps.{IsOver, KeepsDevices}
 use Rattle.g_retrieve.proofs.AllowLemmas.{rules_here}

@@ -16,7 +16,7 @@ use Rattle.g_tape.proofs.ReadLemmas.{blocks_after_reads, is_reel, read_then, the
 use Rattle.g_incr.specs.Reading.{ReadsReel}
 use Rattle.g_incr.proofs.ListLemmas.{get_drop}
 use Rattle.g_incr.proofs.TapeLemmas.{ReadsTape, reads_nothing, reads_then, same_len}
-use Rattle.g_state.specs.Meaning.{joined}
+use Rattle.g_store_meaning.specs.Meaning.{joined}
 
 -- SO FAR: the blocks up to block k were read, and their bytes are there as far as they are asked for
 pub record HasText (s first k len : ℕ) (bytes : List ℕ) (old new : Rack) : Type 0 where

@@ -10,16 +10,16 @@ use Rattle.g_tape.specs.Rack.{Rack, is_mounted, reel}
 use Rattle.g_tape.specs.Reads.{HasRead, OnlyReads, blocks_of}
 use Rattle.g_plain.specs.declared.faults.StoreFault.{StoreFault}
 use Rattle.g_plain.specs.declared.faults.StoreFault.TheVariants.{DiscFull, NoCopy, NoMemory, Stopped, TapeReadFault, WaitTape}
-use Rattle.g_contents.specs.Contents.{File}
-use Rattle.g_contents.specs.Facts.{IsTied, OnlineFacts}
+use Rattle.g_disc_contents.specs.Contents.{File}
+use Rattle.g_disc_contents.specs.Facts.{IsTied, OnlineFacts}
 use Rattle.g_incr.specs.Layout.{Dump}
 use Rattle.g_incr.specs.declared.fault.ShelfFault.{ShelfFault}
 use Rattle.g_incr.specs.declared.fault.ShelfFault.TheVariants as shelf
 use Rattle.g_shelf.specs.Completed.{AreCompleted}
 use Rattle.g_online.specs.declared.change.Change.TheVariants.{Bring}
 use Rattle.g_online.specs.declared.unjam.Unjam.{Unjam}
-use Rattle.g_online.specs.Done.{HasChanged, HasStopped}
-use Rattle.g_state.specs.Meaning.{IsContent}
+use Rattle.g_online.specs.Outcomes.{HasChanged, HasStopped}
+use Rattle.g_store_meaning.specs.Meaning.{IsContent}
 
 -- the file of a number, which isn't on the disc, and its copy on tape
 pub record IsOnTape (number : ℕ) (o : OnlineFacts) (f : File) (c : TapeCopy) : Type 0 where

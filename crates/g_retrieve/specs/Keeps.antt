@@ -5,10 +5,10 @@ use Rattle.g_name.specs.declared.full.Full.{Full}
 use Rattle.g_entry.specs.declared.file_rec.TapeCopy.{TapeCopy}
 use Rattle.g_tape.specs.Rack.{Rack}
 use Rattle.g_tree.specs.Records.{full_of}
-use Rattle.g_contents.specs.Contents.{File}
-use Rattle.g_contents.specs.Facts.{OnlineFacts}
-use Rattle.g_state.specs.Answers.{Belongs, IsLostCopy, IsStore, Told}
-use Rattle.g_state.specs.Up.{StoreFacts}
+use Rattle.g_disc_contents.specs.Contents.{File}
+use Rattle.g_disc_contents.specs.Facts.{OnlineFacts}
+use Rattle.g_store_meaning.specs.Answers.{Belongs, IsLostCopy, IsStore, Told}
+use Rattle.g_store_meaning.specs.Up.{StoreFacts}
 use Rattle.g_retrieve.specs.Brought.{IsNowhere}
 
 -- the store with this filestore and this rack in the place of its own; it is spent once a write has failed

@@ -7,10 +7,10 @@ ghost use Rattle.g_entry.specs.declared.file_rec.FileRec.{FileRec};
 ghost use Rattle.g_entry.specs.declared.file_rec.TapeCopy.{TapeCopy};
 ghost use Rattle.g_tape.specs.Rack.{is_mounted, reel};
 ghost use Rattle.g_tree.specs.Records.{IsRecords, name_of_file};
-ghost use Rattle.g_contents.specs.Contents.{File};
-ghost use Rattle.g_contents.specs.Facts.{IsTied};
+ghost use Rattle.g_disc_contents.specs.Contents.{File};
+ghost use Rattle.g_disc_contents.specs.Facts.{IsTied};
 ghost use Rattle.g_online.specs.Allowed.{IsAllowed};
-ghost use Rattle.g_state_steps.specs.Unjam.{IsUnjamPlan};
+ghost use Rattle.g_laws_memory.specs.Unjam.{IsUnjamPlan};
 ghost use Rattle.g_retrieve.specs.Brought.{HasBroughtBack, HasReadCopy, IsOnTape, IsPutBack, as_read};
 ghost use Rattle.g_retrieve.specs.Keeps.{HasLostCopy, KeepsDevices};
 

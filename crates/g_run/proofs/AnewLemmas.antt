@@ -4,9 +4,9 @@ use Rattle.std.proofs.lemmas.List.Elements.{All-cons, All-head, All-nil, All-pop
 use Rattle.g_base.proofs.CountLemmas.{Rose-before, Rose-behind}
 use Rattle.g_script.specs.declared.operator.Operator.TheVariants as line
 use Rattle.g_script.specs.declared.operator.Timed.{Timed}
-use Rattle.g_world.specs.Devices.{Devices}
-use Rattle.g_world_laws.specs.Anew.{BeginAnew, NoDiscFault, is_aside}
-use Rattle.g_console.specs.System.{SameDevices}
+use Rattle.g_run_model.specs.Devices.{Devices}
+use Rattle.g_laws_runs.specs.Anew.{BeginAnew, NoDiscFault, is_aside}
+use Rattle.g_operator.specs.System.{SameDevices}
 use Rattle.g_run.specs.Parts.{AreAside}
 
 -- WHERE THE DISC COUNTED NO FAILURE in two parts, it counted none in either

@@ -14,10 +14,10 @@ use Rattle.g_lines.specs.Lines.{lines_of}
 use Rattle.g_script.specs.Script.{IsParsed}
 use Rattle.g_script.specs.declared.operator.Timed.{Timed}
 use Rattle.g_tape.specs.Memory.{IsEmptyRack, Memory}
-use Rattle.g_world.specs.Devices.{Devices}
-use Rattle.g_world.specs.Top.{EndsWhole}
-use Rattle.g_console.specs.declared.progress.Failure.{Failure}
-use Rattle.g_console.specs.Puts.{PutsBy}
+use Rattle.g_run_model.specs.Devices.{Devices}
+use Rattle.g_run_model.specs.Top.{EndsWhole}
+use Rattle.g_operator.specs.declared.progress.Failure.{Failure}
+use Rattle.g_operator.specs.Puts.{PutsBy}
 use Rattle.g_run.specs.Demo.{IsDemoText, PutsDemo}
 use Rattle.g_run.specs.Over.{both}
 

@@ -2,7 +2,7 @@
 use Rattle.std.proofs.Common.{◌≡◌, ◌+◌, ◌-◌, ◌≤◌, ◌++◌, append-nil, codes, is_some, ℕ, Bool, true, false, List, [], Option, Some, None, Result, Ok, Err, sum_by, refl, sym, ◌∙◌, ap, subst, inl, inr, arith, if◌then◌else◌}
 use Rattle.std.proofs.lemmas.Bool.{false≢true}
 use Rattle.std.specs.Option.{option_map}
-use Rattle.g_contents.specs.Facts.{OnlineFacts}
+use Rattle.g_disc_contents.specs.Facts.{OnlineFacts}
 use Rattle.g_dumper.specs.Steps.{Stepping, WroteBlock}
 use Rattle.g_incr.specs.Plan.{needs}
 use Rattle.g_io.specs.Streams.{with_more}
@@ -10,38 +10,38 @@ use Rattle.g_job.specs.State.{JobState}
 use Rattle.g_monitor.specs.Refusals.{fault_line}
 use Rattle.g_plain.specs.declared.faults.StoreFault.{StoreFault}
 use Rattle.g_plain.specs.declared.faults.StoreFault.TheVariants.{DiscReadFault, NoMemory, Stopped}
-use Rattle.g_state.specs.Reading.{StandsForState, open_of}
-use Rattle.g_state.specs.Up.{DumpFacts, StoreFacts}
-use Rattle.g_step.specs.CallStep.{Outcome}
-use Rattle.g_step.specs.DumpSteps.{Completed, DumpStep, Going, Stepped}
-use Rattle.g_step.specs.State.{Holding, OpenDump, State}
+use Rattle.g_store_meaning.specs.Reading.{StandsForState, open_of}
+use Rattle.g_store_meaning.specs.Up.{DumpFacts, StoreFacts}
+use Rattle.g_store_model.specs.CallStep.{Outcome}
+use Rattle.g_store_model.specs.DumpSteps.{Completed, DumpStep, Going, Stepped}
+use Rattle.g_store_model.specs.State.{Holding, OpenDump, State}
 use Rattle.g_store.specs.Dumping.{KeepsDumps, LeavesOpen, StepsAs}
 use Rattle.g_store.specs.Events.{IsStepOfDump, LeadsBy, StepsBy, StepsDump}
 use Rattle.g_store.proofs.ArmLemmas.{spent_stands}
 use Rattle.g_store_calls.proofs.SeenLemmas.{seen as seen_of}
 use Rattle.g_tape.specs.Rack.{Rack, is_mounted, reel}
 use Rattle.g_tape.specs.Reel.{Reel, Remains, Shortened, Torn, Unchanged, ending, left_by}
-use Rattle.g_world.specs.Devices.{Devices}
-use Rattle.g_world.specs.Events.{IsDumpStep}
-use Rattle.g_world.specs.Moves.{DumpCounted, dump_told}
-use Rattle.g_world.specs.Texts.{dump_text, operator_line}
-use Rattle.g_world.specs.World.{Stepped as HasStepped, World}
-use Rattle.g_world.proofs.EventToldLemmas.{dump_told as step_told}
-use Rattle.g_world.proofs.TickLemmas.{dump_added, dump_adds}
-use Rattle.g_crew.specs.Crew.{CrewState, IsCrewOf}
-use Rattle.g_crew.specs.Numbers.{AreOpen}
-use Rattle.g_console.specs.declared.progress.Failure.{Failure}
-use Rattle.g_console.specs.Parts.{IsReady, Matches, seen}
-use Rattle.g_console.specs.Puts.{Puts, PutsBy}
-use Rattle.g_console.specs.System.{Down, IsNow, SameDevices, StandsAs, SystemFacts, Up, devices_in, labels}
-use Rattle.g_console.specs.Telling.{TellsFault, system_after, without_jobs}
-use Rattle.g_console.proofs.UpLemmas.{not_spent}
+use Rattle.g_run_model.specs.Devices.{Devices}
+use Rattle.g_run_model.specs.Events.{IsDumpStep}
+use Rattle.g_run_model.specs.Moves.{DumpCounted, dump_told}
+use Rattle.g_run_model.specs.Texts.{dump_text, operator_line}
+use Rattle.g_run_model.specs.World.{Stepped as HasStepped, World}
+use Rattle.g_run_model.proofs.EventToldLemmas.{dump_told as step_told}
+use Rattle.g_run_model.proofs.TickLemmas.{dump_added, dump_adds}
+use Rattle.g_job_table.specs.Crew.{CrewState, IsCrewOf}
+use Rattle.g_job_table.specs.Numbers.{AreOpen}
+use Rattle.g_operator.specs.declared.progress.Failure.{Failure}
+use Rattle.g_operator.specs.Parts.{IsReady, Matches, seen}
+use Rattle.g_operator.specs.Puts.{Puts, PutsBy}
+use Rattle.g_operator.specs.System.{Down, IsNow, SameDevices, StandsAs, SystemFacts, Up, devices_in, labels}
+use Rattle.g_operator.specs.Telling.{TellsFault, system_after, without_jobs}
+use Rattle.g_operator.proofs.UpLemmas.{not_spent}
 use Rattle.g_run.specs.Tick.{DidDump, DumpGoes, Falls, KeepsRun, StepsTo, has_dump, phase_behind, share_in}
 use Rattle.g_run.proofs.RackLemmas.{SameMounted, ending_mounts, failing_mounts, shares_still}
 use Rattle.g_run.proofs.SteppingLemmas.{stepping_counted}
-use Rattle.g_console.proofs.GrowLemmas.{grow_itself, grow_stepped}
+use Rattle.g_operator.proofs.GrowLemmas.{grow_itself, grow_stepped}
 use Rattle.g_base.proofs.CountLemmas.{Rose-later}
-use Rattle.g_console.proofs.LabelLemmas.{labels_with, same_itself, same_still, stands_still}
+use Rattle.g_operator.proofs.LabelLemmas.{labels_with, same_itself, same_still, stands_still}
 
 -- a step never wants memory
 steps_lead : (answer : Result Stepped StoreFault) (s : State) (old new : StoreFacts) (dump after : DumpFacts) → Stepping dump old.online old.rack answer after new.online new.rack

@@ -9,26 +9,26 @@ use Rattle.g_job.specs.Turns.{turn_work}
 use Rattle.g_job.specs.declared.turn.Turn.{Turn}
 use Rattle.g_job.specs.declared.turn.Turn.TheVariants as turns
 use Rattle.g_plain.specs.Asks.{RanInPart}
-use Rattle.g_state.specs.Answers.{Answers}
-use Rattle.g_state.specs.Up.{StoreFacts}
-use Rattle.g_step.specs.State.{State}
+use Rattle.g_store_meaning.specs.Answers.{Answers}
+use Rattle.g_store_meaning.specs.Up.{StoreFacts}
+use Rattle.g_store_model.specs.State.{State}
 use Rattle.g_entry.specs.declared.user_rec.UserRec.{UserRec}
 use Rattle.g_tape.specs.Rack.{is_mounted, reel}
 use Rattle.g_budget.specs.declared.tariff.Usage.{Usage}
 use Rattle.g_budget.specs.declared.tariff.Charge.{Charge}
-use Rattle.g_console.specs.declared.progress.Failure.{Failure}
-use Rattle.g_console.specs.declared.progress.Failure.TheVariants.{Memory}
-use Rattle.g_console.specs.Opening.{Opens}
-use Rattle.g_console.specs.System.{SystemFacts}
-use Rattle.g_crew.specs.Accounts.{AreKept, HaveRows}
-use Rattle.g_crew.specs.Crew.{CrewState}
-use Rattle.g_crew.specs.Numbers.{job_in}
-use Rattle.g_crew.specs.Seating.{pushed_of}
-use Rattle.g_crew.specs.Turn.{TakesTurn, shown_from}
-use Rattle.g_world.specs.Accounts.{Opened, rows_of, with_new}
-use Rattle.g_world.specs.Texts.{ended_file, put_as, shown}
-use Rattle.g_world.specs.World.{with_job}
-use Rattle.g_world.proofs.CrewLemmas.{no_job, one_job}
+use Rattle.g_operator.specs.declared.progress.Failure.{Failure}
+use Rattle.g_operator.specs.declared.progress.Failure.TheVariants.{Memory}
+use Rattle.g_operator.specs.Opening.{Opens}
+use Rattle.g_operator.specs.System.{SystemFacts}
+use Rattle.g_job_table.specs.Accounts.{AreKept, HaveRows}
+use Rattle.g_job_table.specs.Crew.{CrewState}
+use Rattle.g_job_table.specs.Numbers.{job_in}
+use Rattle.g_job_table.specs.Seating.{pushed_of}
+use Rattle.g_job_table.specs.Turn.{TakesTurn, shown_from}
+use Rattle.g_run_model.specs.Accounts.{Opened, rows_of, with_new}
+use Rattle.g_run_model.specs.Texts.{ended_file, put_as, shown}
+use Rattle.g_run_model.specs.World.{with_job}
+use Rattle.g_run_model.proofs.CrewLemmas.{no_job, one_job}
 use Rattle.g_run.specs.Turning.{EndsTurn, LeftBy, ShowsAs, TakenOut, Takes, added_of}
 use Rattle.g_run.proofs.NumberedLemmas.{numbered_is}
 

@@ -8,21 +8,21 @@ use Rattle.g_job.specs.Spends.{SpendsBy}
 use Rattle.g_job.specs.State.{JobState}
 use Rattle.g_job.specs.declared.turn.Turn.{Turn}
 use Rattle.g_job.specs.declared.turn.Turn.TheVariants as turns
-use Rattle.g_state.specs.Up.{DumpFacts, StoreFacts}
-use Rattle.g_step.specs.State as state
-use Rattle.g_step.specs.State.{State}
+use Rattle.g_store_meaning.specs.Up.{DumpFacts, StoreFacts}
+use Rattle.g_store_model.specs.State as state
+use Rattle.g_store_model.specs.State.{State}
 use Rattle.g_tape.specs.Rack.{Rack, is_mounted, reel}
-use Rattle.g_world.specs.World.{can_step, has_none, with_job, without_job}
-use Rattle.g_world.proofs.CrewLemmas.{AreRising, listed, one_job}
-use Rattle.g_world.proofs.ShareLemmas.{share-charged, share-steps, share-waits, sum_by-with, sum_by-without}
-use Rattle.g_crew.specs.Choice.{Chooses, able_in}
-use Rattle.g_crew.specs.Crew.{CrewState}
-use Rattle.g_crew.specs.Numbers.{Rise, job_in}
-use Rattle.g_world.specs.Texts.{shown}
+use Rattle.g_run_model.specs.World.{can_step, has_none, with_job, without_job}
+use Rattle.g_run_model.proofs.CrewLemmas.{AreRising, listed, one_job}
+use Rattle.g_run_model.proofs.ShareLemmas.{share-charged, share-steps, share-waits, sum_by-with, sum_by-without}
+use Rattle.g_job_table.specs.Choice.{Chooses, able_in}
+use Rattle.g_job_table.specs.Crew.{CrewState}
+use Rattle.g_job_table.specs.Numbers.{Rise, job_in}
+use Rattle.g_run_model.specs.Texts.{shown}
 use Rattle.g_job.specs.Terminal.{is_ready}
-use Rattle.g_console.specs.declared.progress.Failure.{Failure}
-use Rattle.g_console.specs.Parts.{Seen, seen}
-use Rattle.g_console.specs.System.{Down, SystemFacts, Up}
+use Rattle.g_operator.specs.declared.progress.Failure.{Failure}
+use Rattle.g_operator.specs.Parts.{Seen, seen}
+use Rattle.g_operator.specs.System.{Down, SystemFacts, Up}
 use Rattle.g_run.specs.Tick.{Falls, dump_left, left, may_step, reel_there, share_in, some_job_steps}
 use Rattle.g_run.specs.Turning.{EndsTurn}
 use Rattle.g_run.proofs.NumberedLemmas.{numbered_is, without_with}

@@ -6,14 +6,14 @@ use Rattle.g_budget.specs.declared.tariff.Charge.{Charge}
 use Rattle.g_budget.specs.declared.tariff.Usage.{Usage}
 use Rattle.g_sched.specs.declared.rule.Standing.{Standing}
 use Rattle.g_script.specs.declared.operator.Timed.{Timed}
-use Rattle.g_state.specs.Meaning.{told_reels}
-use Rattle.g_state_laws.proofs.StateLemmas.{have_states}
-use Rattle.g_step.specs.State.{State}
-use Rattle.g_world.specs.Devices.{Devices, StandFor}
-use Rattle.g_world_laws.specs.Filestores.{HasFilestore}
-use Rattle.g_world_laws.proofs.FilestoreLemmas.{devices_keep}
-use Rattle.g_console.specs.System.{BelongTogether}
-use Rattle.g_console.specs.declared.progress.Failure.{Failure}
+use Rattle.g_store_meaning.specs.Meaning.{told_reels}
+use Rattle.g_laws_store.proofs.StateLemmas.{have_states}
+use Rattle.g_store_model.specs.State.{State}
+use Rattle.g_run_model.specs.Devices.{Devices, StandFor}
+use Rattle.g_laws_runs.specs.Filestores.{HasFilestore}
+use Rattle.g_laws_runs.proofs.FilestoreLemmas.{devices_keep}
+use Rattle.g_operator.specs.System.{BelongTogether}
+use Rattle.g_operator.specs.declared.progress.Failure.{Failure}
 use Rattle.g_run.specs.Top.{EndsBy}
 
 -- the state of such devices

@@ -6,13 +6,13 @@ use Rattle.g_lines.specs.Lines.{lines_of}
 use Rattle.g_script.specs.Script.{IsParsed}
 use Rattle.g_script.specs.declared.operator.Timed.{Timed}
 use Rattle.g_script.proofs.OneReading.{reading_unique}
-use Rattle.g_state_laws.proofs.ClosingLemmas.{all_left, all_right}
-use Rattle.g_state_process.specs.Moving.{DumpsMove}
-use Rattle.g_world.specs.Lines.{is_process}
-use Rattle.g_console.specs.Parts.{DumpsBy}
-use Rattle.g_console.specs.System.{DumpsGrow, labels}
-use Rattle.g_console.proofs.ByLemmas.{moved_by, moves_grown, moves_then}
-use Rattle.g_console.proofs.GrowLemmas.{grow_itself, grow_then}
+use Rattle.g_laws_store.proofs.ClosingLemmas.{all_left, all_right}
+use Rattle.g_laws_process.specs.Moving.{DumpsMove}
+use Rattle.g_run_model.specs.Lines.{is_process}
+use Rattle.g_operator.specs.Parts.{DumpsBy}
+use Rattle.g_operator.specs.System.{DumpsGrow, labels}
+use Rattle.g_operator.proofs.ByLemmas.{moved_by, moves_grown, moves_then}
+use Rattle.g_operator.proofs.GrowLemmas.{grow_itself, grow_then}
 use Rattle.g_run.specs.Parts.{DumpsKept, HaveNoProcess}
 
 -- where they stay, whatever was done

@@ -5,22 +5,22 @@ use Rattle.g_job.specs.Spends.{SpendsBy}
 use Rattle.g_job.specs.State.{JobState}
 use Rattle.g_job.specs.declared.turn.Turn.{Turn}
 use Rattle.g_job.specs.declared.turn.Turn.TheVariants as turns
-use Rattle.g_state.specs.Up.{StoreFacts}
-use Rattle.g_world.specs.Devices.{Devices}
-use Rattle.g_world.specs.World.{with_job}
-use Rattle.g_crew.specs.Crew.{CrewState}
-use Rattle.g_crew.specs.Numbers.{AreOpen, job_in}
-use Rattle.g_world.specs.Texts.{shown}
-use Rattle.g_console.specs.declared.progress.Failure.{Failure}
-use Rattle.g_console.specs.declared.progress.Failure.TheVariants.{Memory}
-use Rattle.g_console.specs.Parts.{IsReady, seen}
-use Rattle.g_console.specs.System.{Down, DumpsGrow, SystemBelongs, SystemFacts, Up, SameDevices, devices_in}
+use Rattle.g_store_meaning.specs.Up.{StoreFacts}
+use Rattle.g_run_model.specs.Devices.{Devices}
+use Rattle.g_run_model.specs.World.{with_job}
+use Rattle.g_job_table.specs.Crew.{CrewState}
+use Rattle.g_job_table.specs.Numbers.{AreOpen, job_in}
+use Rattle.g_run_model.specs.Texts.{shown}
+use Rattle.g_operator.specs.declared.progress.Failure.{Failure}
+use Rattle.g_operator.specs.declared.progress.Failure.TheVariants.{Memory}
+use Rattle.g_operator.specs.Parts.{IsReady, seen}
+use Rattle.g_operator.specs.System.{Down, DumpsGrow, SystemBelongs, SystemFacts, Up, SameDevices, devices_in}
 use Rattle.g_run.specs.Tick.{KeepsRun}
 use Rattle.g_run.specs.Turning.{EndsTurn, LeftBy}
 use Rattle.g_run.proofs.RanLemmas.{StaysOver}
 use Rattle.g_run.proofs.TurningLemmas.{left_devices, numbers_are, open_is, ready_is, same_devices, system_is, text_is, turned_system}
-use Rattle.g_console.proofs.GrowLemmas.{grow_held, grow_itself}
-use Rattle.g_console.proofs.LabelLemmas.{same_itself}
+use Rattle.g_operator.proofs.GrowLemmas.{grow_held, grow_itself}
+use Rattle.g_operator.proofs.LabelLemmas.{same_itself}
 
 belongs_turned : (turn : Turn) (s : StoreFacts) → SystemBelongs (Up s) → SystemBelongs (turned_system turn s)
 belongs_turned turns.Broken s is = record { told = is.0; belong = is.1.devices }

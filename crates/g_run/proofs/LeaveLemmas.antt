@@ -9,14 +9,14 @@ use Rattle.g_plain.specs.declared.faults.StoreFault.{StoreFault}
 use Rattle.g_plain.specs.declared.faults.StoreFault.TheVariants.{NotStarted, Running, Stopped}
 use Rattle.g_script.specs.declared.operator.Operator.{Operator}
 use Rattle.g_script.specs.declared.operator.Operator.TheVariants as line
-use Rattle.g_step.specs.CallStep.{Outcome, Plain}
-use Rattle.g_step.specs.Rising.{FormatStep, RestoreStep, StartStep}
-use Rattle.g_step.specs.State.{OpenDump, State}
-use Rattle.g_world.specs.Events.{IsMigration, IsOpening, IsProcessing, IsTold}
-use Rattle.g_world.specs.Lines.{LineGives, Shuts, at_terminal, changed_at, job_line, job_refusal, line_refused, logged_in, login_refusal, now_stands, open_at, taken_in, tells, up_with}
-use Rattle.g_world.specs.Texts.{dump_text, processed_text, started_text, tape_text}
-use Rattle.g_world.specs.World.{World}
-use Rattle.g_console.specs.Parts.{disc_arms, tape_arms}
+use Rattle.g_store_model.specs.CallStep.{Outcome, Plain}
+use Rattle.g_store_model.specs.Rising.{FormatStep, RestoreStep, StartStep}
+use Rattle.g_store_model.specs.State.{OpenDump, State}
+use Rattle.g_run_model.specs.Events.{IsMigration, IsOpening, IsProcessing, IsTold}
+use Rattle.g_run_model.specs.Lines.{LineGives, Shuts, at_terminal, changed_at, job_line, job_refusal, line_refused, logged_in, login_refusal, now_stands, open_at, taken_in, tells, up_with}
+use Rattle.g_run_model.specs.Texts.{dump_text, processed_text, started_text, tape_text}
+use Rattle.g_run_model.specs.World.{World}
+use Rattle.g_operator.specs.Parts.{disc_arms, tape_arms}
 
 pub record Leaves (what : Operator) (w new : World) : Type 0 where
   pub lines : new.lines ≡ w.lines

@@ -2,12 +2,12 @@
 use Rattle.std.proofs.Common.{◌≡◌, ◌↔◌, ℕ, Bool, true, false, Err, Result, refl, sym, ◌∙◌, ap, inl, inr}
 use Rattle.g_plain.specs.declared.faults.StoreFault.{StoreFault}
 use Rattle.g_plain.specs.declared.faults.StoreFault.TheVariants.{Stopped}
-use Rattle.g_state.specs.Up.{StoreFacts}
-use Rattle.g_step.specs.DumpSteps.{Stepped}
-use Rattle.g_crew.specs.Crew.{CrewState}
-use Rattle.g_console.specs.Parts.{Seen, seen}
-use Rattle.g_console.specs.System.{Down, SystemFacts, Up}
-use Rattle.g_console.specs.Telling.{system_behind}
+use Rattle.g_store_meaning.specs.Up.{StoreFacts}
+use Rattle.g_store_model.specs.DumpSteps.{Stepped}
+use Rattle.g_job_table.specs.Crew.{CrewState}
+use Rattle.g_operator.specs.Parts.{Seen, seen}
+use Rattle.g_operator.specs.System.{Down, SystemFacts, Up}
+use Rattle.g_operator.specs.Telling.{system_behind}
 use Rattle.g_run.specs.Turning.{LeftBy, left_by, left_of}
 
 pub left_up : (s : StoreFacts) → s.spent ≡ false → left_of s ≡ Up s

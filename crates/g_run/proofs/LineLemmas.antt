@@ -12,20 +12,20 @@ use Rattle.g_io.specs.Streams.{HasPutPart}
 use Rattle.g_script.specs.declared.operator.Operator.{Operator}
 use Rattle.g_script.specs.declared.operator.Operator.TheVariants as line
 use Rattle.g_script.specs.declared.operator.Timed.{Timed}
-use Rattle.g_world.specs.Devices.{Devices}
-use Rattle.g_world.specs.Lines.{is_process}
-use Rattle.g_world.specs.Moves.{TakeLine}
-use Rattle.g_world.specs.Top.{AreArmings}
-use Rattle.g_world.specs.World.{World}
-use Rattle.g_world_laws.specs.Anew.{BeginAnew, NoDiscFault}
-use Rattle.g_world.proofs.CountLemmas.{move_counted}
-use Rattle.g_world.proofs.TickLemmas.{line_move}
-use Rattle.g_crew.specs.Numbers.{AreOpen}
-use Rattle.g_console.specs.declared.progress.Failure.{Failure}
-use Rattle.g_console.specs.Anew.{AnewLine, IsBlank, beside}
-use Rattle.g_console.specs.Parts.{ArmsBy, DidLine, DoesLine, DoesNothing, IsReady, LineGoes, Matches, Seen, disc_arms, tape_arms}
-use Rattle.g_console.specs.System.{SystemFacts, devices_in}
-use Rattle.g_console.proofs.AnewLemmas.{aside_line, format_line}
+use Rattle.g_run_model.specs.Devices.{Devices}
+use Rattle.g_run_model.specs.Lines.{is_process}
+use Rattle.g_run_model.specs.Moves.{TakeLine}
+use Rattle.g_run_model.specs.Top.{AreArmings}
+use Rattle.g_run_model.specs.World.{World}
+use Rattle.g_laws_runs.specs.Anew.{BeginAnew, NoDiscFault}
+use Rattle.g_run_model.proofs.CountLemmas.{move_counted}
+use Rattle.g_run_model.proofs.TickLemmas.{line_move}
+use Rattle.g_job_table.specs.Numbers.{AreOpen}
+use Rattle.g_operator.specs.declared.progress.Failure.{Failure}
+use Rattle.g_operator.specs.Anew.{AnewLine, IsBlank, beside}
+use Rattle.g_operator.specs.Parts.{ArmsBy, DidLine, DoesLine, DoesNothing, IsReady, LineGoes, Matches, Seen, disc_arms, tape_arms}
+use Rattle.g_operator.specs.System.{SystemFacts, devices_in}
+use Rattle.g_operator.proofs.AnewLemmas.{aside_line, format_line}
 use Rattle.g_run.specs.Tick.{IsBetween}
 use Rattle.g_run.specs.Parts.{Anything, AreAside, AreDueBy, Breaks, DidAll, DidLines, DidTicks, GoesBy, IsAtRest, Keeps, Leads, PartGoes, turn_of}
 use Rattle.g_run.proofs.AnewLemmas.{aside_head, aside_parts, first_well, is_format, later_well, none_begin, one_more_line}

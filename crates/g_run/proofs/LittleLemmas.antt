@@ -5,12 +5,12 @@ use Rattle.std.proofs.lemmas.List.Elements.{All-head, All-tail}
 use Rattle.std.proofs.lemmas.List.Sums.{sum_by-cons}
 use Rattle.g_incr.specs.Plan.{needs}
 use Rattle.g_job.specs.State.{JobState}
-use Rattle.g_state.specs.Up.{DumpFacts, StoreFacts}
+use Rattle.g_store_meaning.specs.Up.{DumpFacts, StoreFacts}
 use Rattle.g_tape.specs.Rack.{Rack}
-use Rattle.g_crew.specs.Crew.{CrewState}
-use Rattle.g_crew.specs.Numbers.{AreJobs, IsAllowed}
-use Rattle.g_console.specs.Parts.{seen}
-use Rattle.g_console.specs.System.{SystemFacts, Up, devices_in}
+use Rattle.g_job_table.specs.Crew.{CrewState}
+use Rattle.g_job_table.specs.Numbers.{AreJobs, IsAllowed}
+use Rattle.g_operator.specs.Parts.{seen}
+use Rattle.g_operator.specs.System.{SystemFacts, Up, devices_in}
 use Rattle.g_run.specs.Tick.{dump_left, left, may_step, share_in}
 
 -- of a job

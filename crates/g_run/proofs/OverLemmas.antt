@@ -10,36 +10,36 @@ use Rattle.g_budget.specs.declared.tariff.Charge.{Charge}
 use Rattle.g_budget.specs.declared.tariff.Usage.{Usage}
 use Rattle.g_sched.specs.declared.rule.Standing.{Standing}
 use Rattle.g_disc.specs.Disc.{DiscState}
-use Rattle.g_contents.specs.Contents.{Contents}
+use Rattle.g_disc_contents.specs.Contents.{Contents}
 use Rattle.g_io.specs.Streams.{HasPutPart, with_more}
 use Rattle.g_job.specs.State.{JobState}
 use Rattle.g_script.specs.declared.operator.Timed.{Timed}
-use Rattle.g_state.specs.Meaning.{told_reels}
-use Rattle.g_state.specs.Reading.{DevicesStandFor, View, holding_of, state_down, StandsForState}
-use Rattle.g_state.specs.Up.{StoreFacts}
-use Rattle.g_step.specs.CallStep.{down, no_longer_kept}
-use Rattle.g_step.specs.State.{Holding, State}
+use Rattle.g_store_meaning.specs.Meaning.{told_reels}
+use Rattle.g_store_meaning.specs.Reading.{DevicesStandFor, View, holding_of, state_down, StandsForState}
+use Rattle.g_store_meaning.specs.Up.{StoreFacts}
+use Rattle.g_store_model.specs.CallStep.{down, no_longer_kept}
+use Rattle.g_store_model.specs.State.{Holding, State}
 use Rattle.g_store.proofs.ArmLemmas.{spent_stands}
 use Rattle.g_tape.specs.Rack.{Rack}
 use Rattle.g_tape.specs.Reel.{Reel}
-use Rattle.g_world.specs.Devices.{Devices, StandFor}
-use Rattle.g_world.specs.Moves.{Move, MovesCounted, Over}
-use Rattle.g_world.specs.Texts.{closing, waiting_files}
-use Rattle.g_world.specs.Lines.{disc_arms, tape_arms}
-use Rattle.g_world.specs.Top.{AreArmings, EndsShort, RunOf, numbers_of}
-use Rattle.g_world.specs.World.{World, closed, is_due, nothing_steps, start}
-use Rattle.g_world.proofs.CountLemmas.{counted_of, event_none, move_counted, moves_then}
-use Rattle.g_world.proofs.TickLemmas.{over_move}
-use Rattle.g_world.proofs.TurnLemmas.{run_append}
-use Rattle.g_world_laws.specs.Anew.{NoDiscFault, with_new_disc}
-use Rattle.g_crew.specs.Crew.{CrewState}
-use Rattle.g_console.specs.declared.progress.Failure.{Failure}
-use Rattle.g_console.specs.declared.progress.Failure.TheVariants as failures
-use Rattle.g_console.proofs.LabelLemmas.{same_itself}
+use Rattle.g_run_model.specs.Devices.{Devices, StandFor}
+use Rattle.g_run_model.specs.Moves.{Move, MovesCounted, Over}
+use Rattle.g_run_model.specs.Texts.{closing, waiting_files}
+use Rattle.g_run_model.specs.Lines.{disc_arms, tape_arms}
+use Rattle.g_run_model.specs.Top.{AreArmings, EndsShort, RunOf, numbers_of}
+use Rattle.g_run_model.specs.World.{World, closed, is_due, nothing_steps, start}
+use Rattle.g_run_model.proofs.CountLemmas.{counted_of, event_none, move_counted, moves_then}
+use Rattle.g_run_model.proofs.TickLemmas.{over_move}
+use Rattle.g_run_model.proofs.TurnLemmas.{run_append}
+use Rattle.g_laws_runs.specs.Anew.{NoDiscFault, with_new_disc}
+use Rattle.g_job_table.specs.Crew.{CrewState}
+use Rattle.g_operator.specs.declared.progress.Failure.{Failure}
+use Rattle.g_operator.specs.declared.progress.Failure.TheVariants as failures
+use Rattle.g_operator.proofs.LabelLemmas.{same_itself}
 use Rattle.g_run.proofs.KeepLemmas.{kept_itself}
-use Rattle.g_console.specs.Parts.{Matches, Seen, seen}
-use Rattle.g_console.specs.Puts.{FaultCause, Puts, PutsBy}
-use Rattle.g_console.specs.System.{BelongTogether, Down, StandsAs, SystemBelongs, SystemFacts, Up, devices_in, SameDevices}
+use Rattle.g_operator.specs.Parts.{Matches, Seen, seen}
+use Rattle.g_operator.specs.Puts.{FaultCause, Puts, PutsBy}
+use Rattle.g_operator.specs.System.{BelongTogether, Down, StandsAs, SystemBelongs, SystemFacts, Up, devices_in, SameDevices}
 use Rattle.g_run.proofs.TickLemmas.{put_on, with_more-append}
 use Rattle.g_run.specs.Over.{ClosesBy, DidScript, TakenDown, both}
 use Rattle.g_run.specs.Parts.{DidAll, DumpsKept, IsAtRest, Keeps, Leads, PartGoes}

@@ -11,22 +11,22 @@ use Rattle.g_sched.specs.declared.rule.Standing.{Standing}
 use Rattle.g_io.specs.Streams.{with_more}
 use Rattle.g_script.specs.declared.operator.Operator.{Operator}
 use Rattle.g_script.specs.declared.operator.Timed.{Timed}
-use Rattle.g_world.specs.Devices.{Devices}
-use Rattle.g_world.specs.Moves.{Move}
-use Rattle.g_world.specs.Lines.{disc_arms, tape_arms}
-use Rattle.g_world.specs.Top.{AreArmings, numbers_of}
-use Rattle.g_world.specs.World.{World}
-use Rattle.g_world.proofs.CountLemmas.{event_none, moves_then}
-use Rattle.g_world.proofs.TurnLemmas.{run_append}
-use Rattle.g_console.specs.declared.progress.Failure.{Failure}
-use Rattle.g_console.specs.Parts.{Matches, Seen}
-use Rattle.g_console.specs.Puts.{FaultCause}
-use Rattle.g_console.specs.System.{StandsAs, SystemFacts, devices_in}
+use Rattle.g_run_model.specs.Devices.{Devices}
+use Rattle.g_run_model.specs.Moves.{Move}
+use Rattle.g_run_model.specs.Lines.{disc_arms, tape_arms}
+use Rattle.g_run_model.specs.Top.{AreArmings, numbers_of}
+use Rattle.g_run_model.specs.World.{World}
+use Rattle.g_run_model.proofs.CountLemmas.{event_none, moves_then}
+use Rattle.g_run_model.proofs.TurnLemmas.{run_append}
+use Rattle.g_operator.specs.declared.progress.Failure.{Failure}
+use Rattle.g_operator.specs.Parts.{Matches, Seen}
+use Rattle.g_operator.specs.Puts.{FaultCause}
+use Rattle.g_operator.specs.System.{StandsAs, SystemFacts, devices_in}
 use Rattle.g_run.specs.Tick.{IsBetween}
 use Rattle.g_run.proofs.TickLemmas.{put_on, with_more-append}
 use Rattle.g_run.specs.Parts.{Anything, Arrives, GoesBy, Keeps, Leads}
 use Rattle.g_run.proofs.KeepLemmas.{kept_more, kept_then}
-use Rattle.g_console.proofs.LabelLemmas.{same_then}
+use Rattle.g_operator.proofs.LabelLemmas.{same_then}
 
 pub with_more-nil : (before : Option (List ℕ)) → with_more before [] ≡ before
 with_more-nil (Some bytes) = ap (λ t. Some t) (append-nil bytes)

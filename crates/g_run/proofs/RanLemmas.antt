@@ -1,25 +1,25 @@
 -- What a turn's calls leave as it was, whether devices tell or not; and which reels a state has mounted.
 use Rattle.std.proofs.Common.{◌≡◌, ◌⊎◌, ℕ, false, List, [], ◌∷◌, None, Err, refl, sym, ◌∙◌, ap, subst, inl, inr}
 use Rattle.std.proofs.lemmas.Bool.{false≢true}
-use Rattle.g_act.specs.Causes.{IsHonest, IsOther, StopsAt}
-use Rattle.g_act.specs.State.{Broken, Stop, Waits, Work}
+use Rattle.g_turn.specs.Causes.{IsHonest, IsOther, StopsAt}
+use Rattle.g_turn.specs.State.{Broken, Stop, Waits, Work}
 use Rattle.g_plain.specs.Asks.{Answer, Asks, Call, Gives, RanInPart}
 use Rattle.g_plain.specs.RanBy.{RanBy}
 use Rattle.g_plain.specs.declared.calls.StoreCall.{StoreCall}
 use Rattle.g_plain.specs.declared.faults.StoreFault.TheVariants.{NoMemory, Stopped, WaitTape}
-use Rattle.g_state.specs.Answers.{Answers, Belongs, Told}
-use Rattle.g_state.specs.Meaning.{told_reels}
-use Rattle.g_state.specs.Reading.{StandsForState, View, state_up}
-use Rattle.g_state.specs.Up.{StoreFacts}
-use Rattle.g_step.specs.State as state
-use Rattle.g_step.specs.State.{State}
+use Rattle.g_store_meaning.specs.Answers.{Answers, Belongs, Told}
+use Rattle.g_store_meaning.specs.Meaning.{told_reels}
+use Rattle.g_store_meaning.specs.Reading.{StandsForState, View, state_up}
+use Rattle.g_store_meaning.specs.Up.{StoreFacts}
+use Rattle.g_store_model.specs.State as state
+use Rattle.g_store_model.specs.State.{State}
 use Rattle.g_store.proofs.MountLemmas.{mounted_by}
 use Rattle.g_store_calls.proofs.CallLemmas.{same_mounts}
 use Rattle.g_store_calls.proofs.SeenLemmas.{seen}
 use Rattle.g_tape.specs.Rack.{is_mounted, reel}
-use Rattle.g_console.specs.System.{SameDevices, Up, devices_in}
-use Rattle.g_console.proofs.CauseLemmas.{same_caused}
-use Rattle.g_console.proofs.LabelLemmas.{labels_read, same_itself, same_then}
+use Rattle.g_operator.specs.System.{SameDevices, Up, devices_in}
+use Rattle.g_operator.proofs.CauseLemmas.{same_caused}
+use Rattle.g_operator.proofs.LabelLemmas.{labels_read, same_itself, same_then}
 
 -- the store stays over devices of the same sizes, which nobody armed, and whose counts of the disc's failures didn't fall; the same reels are mounted, and they hold the same; and it goes on belonging to them
 pub record StaysOver (old new : StoreFacts) : Type 0 where

@@ -11,7 +11,7 @@ use Rattle.g_script.specs.Script.{Bare, EndsAt, IsBare, IsItem, IsParsed, IsPrin
 use Rattle.g_script.specs.declared.operator.Operator.{Operator}
 use Rattle.g_script.specs.declared.operator.Operator.TheVariants as line
 use Rattle.g_script.specs.declared.operator.Timed.{Timed}
-use Rattle.g_console.specs.Parts.{IsWithin}
+use Rattle.g_operator.specs.Parts.{IsWithin}
 use Rattle.g_run.specs.Parts.{IsTimedWithin}
 
 -- what is typed is one line

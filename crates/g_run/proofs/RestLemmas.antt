@@ -3,15 +3,15 @@ use Rattle.std.proofs.Common.{◌≡◌, ℕ, Bool, true, false, not, List, [], 
 use Rattle.std.specs.Prelude.{◌&&◌, ◌||◌, option_map}
 use Rattle.g_job.specs.State.{JobState}
 use Rattle.g_script.specs.declared.operator.Timed.{Timed}
-use Rattle.g_state.specs.Reading.{open_of}
-use Rattle.g_state.specs.Up.{DumpFacts, StoreFacts}
-use Rattle.g_step.specs.State.{State}
+use Rattle.g_store_meaning.specs.Reading.{open_of}
+use Rattle.g_store_meaning.specs.Up.{DumpFacts, StoreFacts}
+use Rattle.g_store_model.specs.State.{State}
 use Rattle.g_store_calls.proofs.SeenLemmas.{seen as seen_of}
-use Rattle.g_world.specs.Devices.{Devices}
-use Rattle.g_world.specs.World.{World, able, can_step, has_none, is_due, is_dumping, nothing_steps}
-use Rattle.g_crew.specs.Crew.{CrewState}
-use Rattle.g_console.specs.Parts.{IsReady, Matches, seen}
-use Rattle.g_console.specs.System.{Down, SystemFacts, Up}
+use Rattle.g_run_model.specs.Devices.{Devices}
+use Rattle.g_run_model.specs.World.{World, able, can_step, has_none, is_due, is_dumping, nothing_steps}
+use Rattle.g_job_table.specs.Crew.{CrewState}
+use Rattle.g_operator.specs.Parts.{IsReady, Matches, seen}
+use Rattle.g_operator.specs.System.{Down, SystemFacts, Up}
 use Rattle.g_run.specs.Tick.{has_dump, may_step, some_job_steps}
 use Rattle.g_run.proofs.FallLemmas.{able_same}
 use Rattle.g_run.proofs.RanLemmas.{mounted_in}

@@ -7,17 +7,17 @@ use Rattle.g_budget.specs.declared.tariff.Usage.{Usage}
 use Rattle.g_sched.specs.declared.rule.Standing.{Standing}
 use Rattle.g_job.specs.Turns.{turn_work}
 use Rattle.g_job.proofs.TurnBounds.{turn_honest}
-use Rattle.g_state.specs.Up.{StoreFacts}
-use Rattle.g_step.specs.State as state
-use Rattle.g_step.specs.State.{State}
+use Rattle.g_store_meaning.specs.Up.{StoreFacts}
+use Rattle.g_store_model.specs.State as state
+use Rattle.g_store_model.specs.State.{State}
 use Rattle.g_tape.specs.Rack.{is_mounted, reel}
-use Rattle.g_crew.specs.Choice.{Chooses, able_in}
-use Rattle.g_crew.specs.Crew.{CrewState}
-use Rattle.g_crew.specs.Numbers.{AreJobs, AreOpen}
-use Rattle.g_console.specs.declared.progress.Failure.{Failure}
-use Rattle.g_console.specs.declared.progress.Failure.TheVariants.{Memory}
-use Rattle.g_console.specs.Parts.{IsReady, Seen, seen}
-use Rattle.g_console.specs.System.{SystemFacts, Up}
+use Rattle.g_job_table.specs.Choice.{Chooses, able_in}
+use Rattle.g_job_table.specs.Crew.{CrewState}
+use Rattle.g_job_table.specs.Numbers.{AreJobs, AreOpen}
+use Rattle.g_operator.specs.declared.progress.Failure.{Failure}
+use Rattle.g_operator.specs.declared.progress.Failure.TheVariants.{Memory}
+use Rattle.g_operator.specs.Parts.{IsReady, Seen, seen}
+use Rattle.g_operator.specs.System.{SystemFacts, Up}
 use Rattle.g_run.specs.Tick.{DidTurn, some_job_steps}
 use Rattle.g_run.specs.Turning.{Takes, TookPart, TookTurn}
 use Rattle.g_run.proofs.FallLemmas.{chosen_steps, none_falls, none_steps, turn_falls}

@@ -11,25 +11,25 @@ use Rattle.g_sched.specs.declared.rule.Standing.{Standing}
 use Rattle.g_io.specs.Streams.{HasPutPart, with_more}
 use Rattle.g_plain.specs.declared.faults.StoreFault.{StoreFault}
 use Rattle.g_plain.specs.declared.faults.StoreFault.TheVariants.{Stopped}
-use Rattle.g_state.specs.Up.{StoreFacts}
-use Rattle.g_step.specs.DumpSteps.{Completed, Going, Stepped as DumpStepped}
-use Rattle.g_step.specs.State.{OpenDump, State}
-use Rattle.g_world.specs.Devices.{Devices}
-use Rattle.g_world.specs.Moves.{Dumped, Move, MovesCounted, dump_told}
-use Rattle.g_world.specs.World.{KeepsLines, World, is_due, is_dumping}
-use Rattle.g_world.proofs.CountLemmas.{event_none, move_counted, moves_then}
-use Rattle.g_world.proofs.CountedTurnLemmas.{keeps_itself}
-use Rattle.g_world.proofs.TickLemmas.{dump_keeps_lines}
-use Rattle.g_world.proofs.TurnLemmas.{run_append}
-use Rattle.g_crew.specs.Crew.{CrewState}
-use Rattle.g_console.specs.declared.progress.Failure.{Failure}
-use Rattle.g_console.specs.Parts.{Seen, seen}
-use Rattle.g_console.specs.Puts.{FaultCause}
-use Rattle.g_console.specs.System.{Down, StandsAs, SystemFacts, Up, devices_in}
+use Rattle.g_store_meaning.specs.Up.{StoreFacts}
+use Rattle.g_store_model.specs.DumpSteps.{Completed, Going, Stepped as DumpStepped}
+use Rattle.g_store_model.specs.State.{OpenDump, State}
+use Rattle.g_run_model.specs.Devices.{Devices}
+use Rattle.g_run_model.specs.Moves.{Dumped, Move, MovesCounted, dump_told}
+use Rattle.g_run_model.specs.World.{KeepsLines, World, is_due, is_dumping}
+use Rattle.g_run_model.proofs.CountLemmas.{event_none, move_counted, moves_then}
+use Rattle.g_run_model.proofs.CountedTurnLemmas.{keeps_itself}
+use Rattle.g_run_model.proofs.TickLemmas.{dump_keeps_lines}
+use Rattle.g_run_model.proofs.TurnLemmas.{run_append}
+use Rattle.g_job_table.specs.Crew.{CrewState}
+use Rattle.g_operator.specs.declared.progress.Failure.{Failure}
+use Rattle.g_operator.specs.Parts.{Seen, seen}
+use Rattle.g_operator.specs.Puts.{FaultCause}
+use Rattle.g_operator.specs.System.{Down, StandsAs, SystemFacts, Up, devices_in}
 use Rattle.g_run.proofs.DumpLemmas.{one_if}
 use Rattle.g_run.specs.Tick.{Comes, DumpGoes, DidDump, DidTick, DidTurn, DumpComes, Falls, GoesBy, IsThrough, KeepsRun, MayTick, MayTurn, StepsNothing, StepsTo, has_dump, left, some_job_steps}
-use Rattle.g_console.proofs.GrowLemmas.{grow_then}
-use Rattle.g_console.proofs.LabelLemmas.{same_then}
+use Rattle.g_operator.proofs.GrowLemmas.{grow_then}
+use Rattle.g_operator.proofs.LabelLemmas.{same_then}
 
 -- TEXTS, one behind the other
 pub with_more-append : (before : Option (List ℕ)) (a b : List ℕ) → with_more (with_more before a) b ≡ with_more before (a ++ b)

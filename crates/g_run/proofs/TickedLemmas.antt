@@ -8,16 +8,16 @@ use Rattle.g_budget.specs.declared.tariff.Charge.{Charge}
 use Rattle.g_budget.specs.declared.tariff.Usage.{Usage}
 use Rattle.g_sched.specs.declared.rule.Standing.{Standing}
 use Rattle.g_script.specs.declared.operator.Timed.{Timed}
-use Rattle.g_state.specs.Up.{StoreFacts}
-use Rattle.g_world.specs.Moves.{Move, Ticked}
-use Rattle.g_world.specs.World.{Between, World}
-use Rattle.g_world.proofs.CountLemmas.{event_none, move_counted, moves_then}
-use Rattle.g_world.proofs.TickLemmas.{tick_move}
-use Rattle.g_world.proofs.TurnLemmas.{run_append}
-use Rattle.g_crew.specs.Crew.{CrewState}
-use Rattle.g_console.specs.declared.progress.Failure.{Failure}
-use Rattle.g_console.specs.Parts.{IsReady, Matches, Seen, seen}
-use Rattle.g_console.specs.System.{SystemFacts, Up, devices_in}
+use Rattle.g_store_meaning.specs.Up.{StoreFacts}
+use Rattle.g_run_model.specs.Moves.{Move, Ticked}
+use Rattle.g_run_model.specs.World.{Between, World}
+use Rattle.g_run_model.proofs.CountLemmas.{event_none, move_counted, moves_then}
+use Rattle.g_run_model.proofs.TickLemmas.{tick_move}
+use Rattle.g_run_model.proofs.TurnLemmas.{run_append}
+use Rattle.g_job_table.specs.Crew.{CrewState}
+use Rattle.g_operator.specs.declared.progress.Failure.{Failure}
+use Rattle.g_operator.specs.Parts.{IsReady, Matches, Seen, seen}
+use Rattle.g_operator.specs.System.{SystemFacts, Up, devices_in}
 use Rattle.g_run.specs.Tick as ticks
 use Rattle.g_run.specs.Tick.{Comes, DidTick, IsBetween, IsThrough, KeepsRun, MayTick, has_dump, left, some_job_steps}
 use Rattle.g_run.specs.Parts.{Anything, DidOne, Keeps, Leads, PartGoes, is_past, steps_in, turn_of}

@@ -12,21 +12,21 @@ use Rattle.g_lines.specs.Lines.{lines_of}
 use Rattle.g_script.specs.Script.{IsParsed}
 use Rattle.g_script.specs.declared.operator.Timed.{Timed}
 use Rattle.g_script.proofs.OneReading.{reading_unique}
-use Rattle.g_state_laws.proofs.StateLemmas.{have_states}
-use Rattle.g_step.specs.State.{State}
-use Rattle.g_world.specs.Devices.{Devices}
-use Rattle.g_world.specs.Lines.{disc_arms, tape_arms}
-use Rattle.g_world.specs.Top.{AreArmings, EndsWhole, IsCutWords, numbers_of, words_line}
-use Rattle.g_world_laws.specs.Anew.{AreBlank, BeginAnew, NoDiscFault, with_new_disc}
-use Rattle.g_world_laws.proofs.FreshLemmas.{emptied_stand}
-use Rattle.g_console.specs.declared.progress.Failure.{Failure}
-use Rattle.g_console.specs.declared.progress.Failure.TheVariants as failures
+use Rattle.g_laws_store.proofs.StateLemmas.{have_states}
+use Rattle.g_store_model.specs.State.{State}
+use Rattle.g_run_model.specs.Devices.{Devices}
+use Rattle.g_run_model.specs.Lines.{disc_arms, tape_arms}
+use Rattle.g_run_model.specs.Top.{AreArmings, EndsWhole, IsCutWords, numbers_of, words_line}
+use Rattle.g_laws_runs.specs.Anew.{AreBlank, BeginAnew, NoDiscFault, with_new_disc}
+use Rattle.g_laws_runs.proofs.FreshLemmas.{emptied_stand}
+use Rattle.g_operator.specs.declared.progress.Failure.{Failure}
+use Rattle.g_operator.specs.declared.progress.Failure.TheVariants as failures
 use Rattle.g_demo.specs.Words.{IsDemonstration, demo_words}
 use Rattle.g_demo.specs.declared.demonstration.Demonstration.{Demonstration}
 use Rattle.g_demo.specs.declared.words.Asked.TheVariants as asked
 use Rattle.g_demo.proofs.WordLemmas.{one_reading}
-use Rattle.g_console.specs.Puts.{PutsBy}
-use Rattle.g_console.specs.System.{BelongTogether}
+use Rattle.g_operator.specs.Puts.{PutsBy}
+use Rattle.g_operator.specs.System.{BelongTogether}
 use Rattle.g_run.specs.declared.status.Status.{Status}
 use Rattle.g_run.specs.Demo.{PutsDemo}
 use Rattle.g_run.specs.Top.{BeginsAnew, EndsAs, EndsBy, EndsDemo, IsForMemory, IsQuiet, IsThrough, demo_status, status_of, words_status}

@@ -6,7 +6,7 @@ use Rattle.std.specs.Fn.{Shared}
 use denote.Ref.{Bor}
 use Rattle.std.proofs.lemmas.Bool.{false≢true}
 use Rattle.std.proofs.lemmas.List.Elements.{All-nil}
-use Rattle.g_act.specs.State.{Work}
+use Rattle.g_turn.specs.State.{Work}
 use Rattle.g_budget.specs.declared.tariff.Charge.{Charge}
 use Rattle.g_budget.specs.declared.tariff.Usage.{Usage}
 use Rattle.g_sched.specs.declared.rule.Standing.{Standing}
@@ -19,37 +19,37 @@ use Rattle.g_job.specs.State.{JobState}
 use Rattle.g_job.specs.Turns.{turn_work}
 use Rattle.g_job.specs.declared.turn.Turn.{Turn}
 use Rattle.g_job.specs.declared.turn.Turn.TheVariants as turns
-use Rattle.g_state.specs.Answers.{Answers}
-use Rattle.g_state.specs.Reading.{DevicesStandFor, StandsForState}
-use Rattle.g_state.specs.Meaning.{told_reels}
-use Rattle.g_state.specs.Up.{StoreFacts}
-use Rattle.g_step.specs.State.{State}
+use Rattle.g_store_meaning.specs.Answers.{Answers}
+use Rattle.g_store_meaning.specs.Reading.{DevicesStandFor, StandsForState}
+use Rattle.g_store_meaning.specs.Meaning.{told_reels}
+use Rattle.g_store_meaning.specs.Up.{StoreFacts}
+use Rattle.g_store_model.specs.State.{State}
 use Rattle.g_store.proofs.ArmLemmas.{spent_stands}
-use Rattle.g_world.specs.Accounts.{settled}
-use Rattle.g_world.specs.Devices.{Devices}
-use Rattle.g_world.specs.Moves.{Move, MovesCounted}
-use Rattle.g_world.specs.Texts.{job_text, operator_line, shown, ended_file}
-use Rattle.g_world.specs.World.{Between, Stepped, World, able, has_none, is_dumping, job_of, nothing_steps, with_job, without_job, shows}
-use Rattle.g_world.proofs.CountLemmas.{event_none}
-use Rattle.g_world.proofs.CountedTurnLemmas.{keeps_itself, turned_world}
-use Rattle.g_world.proofs.CrewLemmas.{found_same, one_job}
-use Rattle.g_world.proofs.StoreTurnLemmas.{CausesCount, StoreIsNow, devices_of, store_turn, store_turn_in_part}
-use Rattle.g_world.proofs.TickLemmas.{turn_added, turn_adds}
-use Rattle.g_world.proofs.TurnLemmas.{MayBegin, in_turn, with_turn}
-use Rattle.g_crew.specs.Accounts.{AreKept}
-use Rattle.g_crew.specs.Choice.{Chooses, able_in}
-use Rattle.g_crew.specs.Crew.{CrewState, IsCrewOf}
-use Rattle.g_crew.specs.Numbers.{AreOpen, job_in}
-use Rattle.g_crew.specs.Turn.{TakesTurn}
+use Rattle.g_run_model.specs.Accounts.{settled}
+use Rattle.g_run_model.specs.Devices.{Devices}
+use Rattle.g_run_model.specs.Moves.{Move, MovesCounted}
+use Rattle.g_run_model.specs.Texts.{job_text, operator_line, shown, ended_file}
+use Rattle.g_run_model.specs.World.{Between, Stepped, World, able, has_none, is_dumping, job_of, nothing_steps, with_job, without_job, shows}
+use Rattle.g_run_model.proofs.CountLemmas.{event_none}
+use Rattle.g_run_model.proofs.CountedTurnLemmas.{keeps_itself, turned_world}
+use Rattle.g_run_model.proofs.CrewLemmas.{found_same, one_job}
+use Rattle.g_run_model.proofs.StoreTurnLemmas.{CausesCount, StoreIsNow, devices_of, store_turn, store_turn_in_part}
+use Rattle.g_run_model.proofs.TickLemmas.{turn_added, turn_adds}
+use Rattle.g_run_model.proofs.TurnLemmas.{MayBegin, in_turn, with_turn}
+use Rattle.g_job_table.specs.Accounts.{AreKept}
+use Rattle.g_job_table.specs.Choice.{Chooses, able_in}
+use Rattle.g_job_table.specs.Crew.{CrewState, IsCrewOf}
+use Rattle.g_job_table.specs.Numbers.{AreOpen, job_in}
+use Rattle.g_job_table.specs.Turn.{TakesTurn}
 use Rattle.std.proofs.lemmas.List.{append_assoc}
-use Rattle.g_console.specs.declared.progress.Failure.{Failure}
-use Rattle.g_console.specs.declared.progress.Failure.TheVariants.{Memory}
-use Rattle.g_console.specs.Parts.{IsReady, Matches, Seen, seen}
-use Rattle.g_console.specs.Puts.{Puts, PutsBy}
-use Rattle.g_console.specs.System.{Down, StandsAs, SystemFacts, Up, devices_in}
-use Rattle.g_console.proofs.CauseLemmas.{counted_by}
-use Rattle.g_console.proofs.UpLemmas.{of_cause}
-use Rattle.g_console.proofs.UserLemmas.{have_rows}
+use Rattle.g_operator.specs.declared.progress.Failure.{Failure}
+use Rattle.g_operator.specs.declared.progress.Failure.TheVariants.{Memory}
+use Rattle.g_operator.specs.Parts.{IsReady, Matches, Seen, seen}
+use Rattle.g_operator.specs.Puts.{Puts, PutsBy}
+use Rattle.g_operator.specs.System.{Down, StandsAs, SystemFacts, Up, devices_in}
+use Rattle.g_operator.proofs.CauseLemmas.{counted_by}
+use Rattle.g_operator.proofs.UpLemmas.{of_cause}
+use Rattle.g_operator.proofs.UserLemmas.{have_rows}
 use Rattle.g_run.specs.Tick.{Comes, GoesBy, IsThrough, MayTurn}
 use Rattle.g_run.specs.Turning.{EndsTurn, LeftBy, TookTurn}
 use Rattle.g_run.proofs.NumberedLemmas.{numbered_is, open_with, open_without, without_with}

@@ -7,20 +7,20 @@ use Rattle.g_budget.specs.declared.tariff.Charge.{Charge}
 use Rattle.g_budget.specs.declared.tariff.Usage.{Usage}
 use Rattle.g_sched.specs.declared.rule.Standing.{Standing}
 use Rattle.g_script.specs.declared.operator.Timed.{Timed}
-use Rattle.g_world.specs.World.{World}
-use Rattle.g_crew.specs.Crew.{CrewState}
-use Rattle.g_crew.specs.Numbers.{AreOpen}
-use Rattle.g_console.specs.declared.progress.Failure.{Failure}
-use Rattle.g_console.specs.Anew.{beside, beside_new}
-use Rattle.g_console.specs.Parts.{IsReady, Matches, Seen, seen}
-use Rattle.g_console.specs.System.{Down, SystemFacts, Up, devices_in}
+use Rattle.g_run_model.specs.World.{World}
+use Rattle.g_job_table.specs.Crew.{CrewState}
+use Rattle.g_job_table.specs.Numbers.{AreOpen}
+use Rattle.g_operator.specs.declared.progress.Failure.{Failure}
+use Rattle.g_operator.specs.Anew.{beside, beside_new}
+use Rattle.g_operator.specs.Parts.{IsReady, Matches, Seen, seen}
+use Rattle.g_operator.specs.System.{Down, SystemFacts, Up, devices_in}
 use Rattle.g_run.specs.Tick.{left}
 use Rattle.g_run.specs.Parts.{Anything, DidOne, DidTicks, HasRoom, IsAtRest, Keeps, PartGoes, is_past, steps_in, turn_of}
 use Rattle.g_run.proofs.PartLemmas.{arrives_here, goes_then, keeps_then, none_arm}
 use Rattle.g_run.proofs.RestLemmas.{due_is, nothing_is}
 use Rattle.g_run.proofs.KeepLemmas.{kept_itself}
-use Rattle.g_console.proofs.AnewLemmas.{ready_beside}
-use Rattle.g_console.proofs.LabelLemmas.{same_itself}
+use Rattle.g_operator.proofs.AnewLemmas.{ready_beside}
+use Rattle.g_operator.proofs.LabelLemmas.{same_itself}
 
 -- THE COUNT HAS ROOM for a tick where there is one to be done
 pub room_one : (limit : Option ℕ) (s : Seen) → HasRoom limit s → is_past limit s.count ≡ false → s.count < 18446744073709551615

@@ -11,13 +11,13 @@ use Rattle.g_sched.specs.declared.rule.Standing.{Standing}
 use Rattle.g_job.specs.State.{JobState}
 use Rattle.g_job.specs.declared.turn.Turn.{Turn}
 use Rattle.g_job.specs.declared.turn.Turn.TheVariants as turns
-use Rattle.g_state.specs.Up.{StoreFacts}
-use Rattle.g_world.specs.Texts.{shown}
-use Rattle.g_world.specs.World.{with_job, without_job}
-use Rattle.g_crew.specs.Crew.{CrewState}
-use Rattle.g_crew.specs.Numbers.{job_in}
-use Rattle.g_crew.specs.Weights.{AreOthers, AreWeights}
-use Rattle.g_console.specs.System.{SystemFacts}
+use Rattle.g_store_meaning.specs.Up.{StoreFacts}
+use Rattle.g_run_model.specs.Texts.{shown}
+use Rattle.g_run_model.specs.World.{with_job, without_job}
+use Rattle.g_job_table.specs.Crew.{CrewState}
+use Rattle.g_job_table.specs.Numbers.{job_in}
+use Rattle.g_job_table.specs.Weights.{AreOthers, AreWeights}
+use Rattle.g_operator.specs.System.{SystemFacts}
 use Rattle.g_run.specs.Turning.{EndsTurn, Takes, TookTurn}
 use Rattle.g_run.proofs.NumberedLemmas.{numbered_is}
 

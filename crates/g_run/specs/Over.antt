@@ -7,15 +7,15 @@ use Rattle.g_budget.specs.declared.tariff.Usage.{Usage}
 use Rattle.g_disc.specs.Disc.{DiscState}
 use Rattle.g_sched.specs.declared.rule.Standing.{Standing}
 use Rattle.g_script.specs.declared.operator.Timed.{Timed}
-use Rattle.g_step.specs.CallStep.{down}
-use Rattle.g_step.specs.State.{State}
+use Rattle.g_store_model.specs.CallStep.{down}
+use Rattle.g_store_model.specs.State.{State}
 use Rattle.g_tape.specs.Rack.{Rack}
-use Rattle.g_world.specs.Devices.{Devices, StandFor}
-use Rattle.g_world.specs.Top.{AreArmings, EndsWhole}
-use Rattle.g_world_laws.specs.Anew.{AreBlank, BeginAnew, NoDiscFault, with_new_disc}
-use Rattle.g_console.specs.declared.progress.Failure.{Failure}
-use Rattle.g_console.specs.Puts.{FaultCause, Puts}
-use Rattle.g_console.specs.System.{BelongTogether, SameDevices, StandsAs, SystemFacts, devices_in}
+use Rattle.g_run_model.specs.Devices.{Devices, StandFor}
+use Rattle.g_run_model.specs.Top.{AreArmings, EndsWhole}
+use Rattle.g_laws_runs.specs.Anew.{AreBlank, BeginAnew, NoDiscFault, with_new_disc}
+use Rattle.g_operator.specs.declared.progress.Failure.{Failure}
+use Rattle.g_operator.specs.Puts.{FaultCause, Puts}
+use Rattle.g_operator.specs.System.{BelongTogether, SameDevices, StandsAs, SystemFacts, devices_in}
 use Rattle.g_run.specs.Parts.{DumpsKept}
 use Rattle.g_run.specs.Top.{EndsBy}
 

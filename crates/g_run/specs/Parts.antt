@@ -7,19 +7,19 @@ use Rattle.g_budget.specs.declared.tariff.Usage.{Usage}
 use Rattle.g_sched.specs.declared.rule.Standing.{Standing}
 use Rattle.g_io.specs.Streams.{HasPutPart, with_more}
 use Rattle.g_tape.specs.Rack.{Rack}
-use Rattle.g_state_process.specs.Moving.{DumpsMove}
+use Rattle.g_laws_process.specs.Moving.{DumpsMove}
 use Rattle.g_script.specs.declared.operator.Timed.{Timed}
-use Rattle.g_world.specs.Lines.{is_process}
-use Rattle.g_world.specs.Moves.{Move, MovesCounted, Run}
-use Rattle.g_world.specs.Top.{AreArmings}
-use Rattle.g_world.specs.World.{World, is_due, nothing_steps}
-use Rattle.g_world_laws.specs.Anew.{BeginAnew, NoDiscFault, is_aside}
-use Rattle.g_crew.specs.Numbers.{AreOpen}
-use Rattle.g_console.specs.declared.progress.Failure.{Failure}
-use Rattle.g_console.specs.Anew.{IsBlank, beside}
-use Rattle.g_console.specs.Parts.{IsReady, IsWithin, Matches, Seen}
-use Rattle.g_console.specs.Puts.{FaultCause}
-use Rattle.g_console.specs.System.{DumpsGrow, SameDevices, StandsAs, SystemBelongs, SystemFacts, devices_in}
+use Rattle.g_run_model.specs.Lines.{is_process}
+use Rattle.g_run_model.specs.Moves.{Move, MovesCounted, Run}
+use Rattle.g_run_model.specs.Top.{AreArmings}
+use Rattle.g_run_model.specs.World.{World, is_due, nothing_steps}
+use Rattle.g_laws_runs.specs.Anew.{BeginAnew, NoDiscFault, is_aside}
+use Rattle.g_job_table.specs.Numbers.{AreOpen}
+use Rattle.g_operator.specs.declared.progress.Failure.{Failure}
+use Rattle.g_operator.specs.Anew.{IsBlank, beside}
+use Rattle.g_operator.specs.Parts.{IsReady, IsWithin, Matches, Seen}
+use Rattle.g_operator.specs.Puts.{FaultCause}
+use Rattle.g_operator.specs.System.{DumpsGrow, SameDevices, StandsAs, SystemBelongs, SystemFacts, devices_in}
 use Rattle.g_run.specs.Tick.{IsBetween, has_dump, left, some_job_steps}
 
 -- the turn from which on the first of some lines is due

@@ -7,21 +7,21 @@ use Rattle.g_budget.specs.declared.tariff.Usage.{Usage}
 use Rattle.g_budget.specs.declared.tariff.Charge.{Charge}
 use Rattle.g_sched.specs.declared.rule.Standing.{Standing}
 use Rattle.g_plain.specs.declared.faults.StoreFault.{StoreFault}
-use Rattle.g_step.specs.CallStep.{Outcome}
-use Rattle.g_step.specs.DumpSteps.{Stepped as DumpStepped}
-use Rattle.g_step.specs.State.{OpenDump, State}
-use Rattle.g_crew.specs.Numbers.{AreOpen}
-use Rattle.g_console.specs.declared.progress.Failure.{Failure}
+use Rattle.g_store_model.specs.CallStep.{Outcome}
+use Rattle.g_store_model.specs.DumpSteps.{Stepped as DumpStepped}
+use Rattle.g_store_model.specs.State.{OpenDump, State}
+use Rattle.g_job_table.specs.Numbers.{AreOpen}
+use Rattle.g_operator.specs.declared.progress.Failure.{Failure}
 use Rattle.g_job.specs.State.{JobState}
 use Rattle.g_job.specs.Terminal.{is_ready}
 use Rattle.g_incr.specs.Plan.{needs}
 use Rattle.g_tape.specs.Rack.{Rack, is_mounted, reel}
-use Rattle.g_console.specs.Parts.{IsReady, Matches, Seen}
-use Rattle.g_console.specs.Puts.{FaultCause}
-use Rattle.g_console.specs.System.{Down, DumpsGrow, SameDevices, StandsAs, SystemBelongs, SystemFacts, Up, devices_in}
-use Rattle.g_world.specs.Events.{IsDumpStep}
-use Rattle.g_world.specs.Moves.{DumpCounted, Move, MovesCounted, Run, dump_told}
-use Rattle.g_world.specs.World.{Between, KeepsLines, Phase, Stepped, Turned, World, able, has_none, is_due, is_dumping, nothing_steps}
+use Rattle.g_operator.specs.Parts.{IsReady, Matches, Seen}
+use Rattle.g_operator.specs.Puts.{FaultCause}
+use Rattle.g_operator.specs.System.{Down, DumpsGrow, SameDevices, StandsAs, SystemBelongs, SystemFacts, Up, devices_in}
+use Rattle.g_run_model.specs.Events.{IsDumpStep}
+use Rattle.g_run_model.specs.Moves.{DumpCounted, Move, MovesCounted, Run, dump_told}
+use Rattle.g_run_model.specs.World.{Between, KeepsLines, Phase, Stepped, Turned, World, able, has_none, is_due, is_dumping, nothing_steps}
 
 -- between two ticks
 pub record IsBetween (w : World) : Type 0 where
@@ -49,7 +49,7 @@ reel_there rack (Some serial) = is_mounted (reel serial rack.reels)
 abbrev pub may_step : Rack → JobState → Bool
 may_step rack j = reel_there rack j.wants && is_ready j
 
--- (`share` of g_world's ShareLemmas)
+-- (`share` of g_run_model's ShareLemmas)
 abbrev pub share_in : Rack → JobState → ℕ
 share_in rack j = (j.allowance - j.used) + (if may_step rack j then 1 else 0)
 

@@ -11,11 +11,11 @@ use Rattle.g_io.specs.Streams.{with_more}
 use Rattle.g_lines.specs.Lines.{lines_of}
 use Rattle.g_script.specs.Script.{IsParsed}
 use Rattle.g_script.specs.declared.operator.Timed.{Timed}
-use Rattle.g_world.specs.Devices.{Devices}
-use Rattle.g_world.specs.Top.{EndsShort, EndsWhole, IsCut, words_line}
-use Rattle.g_world_laws.specs.Anew.{AreBlank, BeginAnew, NoDiscFault}
-use Rattle.g_console.specs.declared.progress.Failure.{Failure}
-use Rattle.g_console.specs.declared.progress.Failure.TheVariants as failures
+use Rattle.g_run_model.specs.Devices.{Devices}
+use Rattle.g_run_model.specs.Top.{EndsShort, EndsWhole, IsCut, words_line}
+use Rattle.g_laws_runs.specs.Anew.{AreBlank, BeginAnew, NoDiscFault}
+use Rattle.g_operator.specs.declared.progress.Failure.{Failure}
+use Rattle.g_operator.specs.declared.progress.Failure.TheVariants as failures
 use Rattle.g_run.specs.Demo.{PutsDemo}
 use Rattle.g_run.specs.declared.status.Status.{Status}
 use Rattle.g_run.specs.declared.status.Status.TheVariants.{Done, Words, BadScript, ScriptFault, OutputFault, NoMemory, TooLong}

@@ -5,28 +5,28 @@ use Rattle.std.specs.Fn.{Shared}
 use denote.Ref.{Bor}
 use Rattle.g_budget.specs.declared.tariff.Usage.{Usage}
 use Rattle.g_budget.specs.declared.tariff.Charge.{Charge}
-use Rattle.g_console.specs.declared.progress.Failure.{Failure}
-use Rattle.g_console.specs.declared.progress.Failure.TheVariants.{Memory}
-use Rattle.g_console.specs.Opening.{Opens}
-use Rattle.g_console.specs.Puts.{Puts}
-use Rattle.g_console.specs.System.{Down, SystemFacts, Up}
-use Rattle.g_console.specs.Telling.{down_text, without_jobs}
-use Rattle.g_crew.specs.Accounts.{AreKept}
-use Rattle.g_crew.specs.Crew.{CrewState}
-use Rattle.g_crew.specs.Numbers.{job_in}
-use Rattle.g_crew.specs.Seating.{pushed_of}
-use Rattle.g_crew.specs.Turn.{TakesTurn}
+use Rattle.g_operator.specs.declared.progress.Failure.{Failure}
+use Rattle.g_operator.specs.declared.progress.Failure.TheVariants.{Memory}
+use Rattle.g_operator.specs.Opening.{Opens}
+use Rattle.g_operator.specs.Puts.{Puts}
+use Rattle.g_operator.specs.System.{Down, SystemFacts, Up}
+use Rattle.g_operator.specs.Telling.{down_text, without_jobs}
+use Rattle.g_job_table.specs.Accounts.{AreKept}
+use Rattle.g_job_table.specs.Crew.{CrewState}
+use Rattle.g_job_table.specs.Numbers.{job_in}
+use Rattle.g_job_table.specs.Seating.{pushed_of}
+use Rattle.g_job_table.specs.Turn.{TakesTurn}
 use Rattle.g_job.specs.State.{JobState}
 use Rattle.g_job.specs.Turns.{turn_work}
 use Rattle.g_job.specs.declared.turn.Turn.{Turn}
 use Rattle.g_job.specs.declared.turn.Turn.TheVariants as turns
 use Rattle.g_plain.specs.Asks.{RanInPart}
-use Rattle.g_state.specs.Answers.{Answers}
-use Rattle.g_state.specs.Up.{StoreFacts}
+use Rattle.g_store_meaning.specs.Answers.{Answers}
+use Rattle.g_store_meaning.specs.Up.{StoreFacts}
 use Rattle.g_tape.specs.Rack.{is_mounted, reel}
-use Rattle.g_world.specs.Accounts.{Opened, settled}
-use Rattle.g_world.specs.Texts.{ended_file, job_text, operator_line, shown}
-use Rattle.g_world.specs.World.{with_job, without_job}
+use Rattle.g_run_model.specs.Accounts.{Opened, settled}
+use Rattle.g_run_model.specs.Texts.{ended_file, job_text, operator_line, shown}
+use Rattle.g_run_model.specs.World.{with_job, without_job}
 
 -- the store stays up, accounts open for users who have none, and a text is put
 pub record GoesOn (s : StoreFacts) (added : List ℕ) (c : CrewState) (failure : Option Failure) (system : SystemFacts) (c' : CrewState) (before after : Option (List ℕ)) (old new : ℕ) : Type 0 where

@@ -1,11 +1,11 @@
 //! What a run has at hand while its system is up.
 ghost use Rattle.std.specs.Prelude.{◌≡◌};
-ghost use Rattle.g_console.specs.Parts.{seen};
-ghost use Rattle.g_console.specs.System.{facts_of};
+ghost use Rattle.g_operator.specs.Parts.{seen};
+ghost use Rattle.g_operator.specs.System.{facts_of};
 ghost use Rattle.g_run.specs.Turning.{left_of};
 
-use g_console::{Day, Ended, Failure, Running, System, take_down};
-use g_crew::Crew;
+use g_operator::{Day, Ended, Failure, Running, System, take_down};
+use g_job_table::Crew;
 use g_disc::Disc;
 use g_tape::Tapes;
 

@@ -1,7 +1,7 @@
 //! A demonstration, run over devices in memory.
 ghost use Rattle.std.specs.Prelude.{◌≡◌, ◌+◌, ◌<◌, [], ◌∷◌, IfOk, length};
 ghost use Rattle.g_budget.specs.Tariff.{IsTariff};
-ghost use Rattle.g_console.specs.Puts.{FaultCause, Puts};
+ghost use Rattle.g_operator.specs.Puts.{FaultCause, Puts};
 ghost use Rattle.g_demo.specs.Script.{script_text};
 ghost use Rattle.g_demo.specs.Summary as spec;
 ghost use Rattle.g_disc.specs.Memory.{blank};
@@ -13,11 +13,11 @@ ghost use Rattle.g_run.specs.Demo.{IsDemoText, PutsDemo};
 
 use crate::boxed_disc::BoxedDisc;
 use crate::boxed_tapes::BoxedTapes;
-use crate::over::{Over, run_script};
+use crate::over::{ScriptEnd, run_script};
 use crate::rules::Rules;
 use g_base::NoMemory;
 use g_budget::{Charge, Usage};
-use g_console::{Failure, put_made};
+use g_operator::{Failure, put_made};
 use g_demo::{Demonstration, SummarySink, script_of, summary_text};
 use g_disc::MemoryDisc;
 use g_io::Sink;
@@ -72,7 +72,7 @@ fn demo_run<F: Fn(&Usage) -> Charge, U: Fn(&Standing) -> u64>(
     let disc = zero_disc(alloc)?;
     let tapes = one_reel(alloc)?;
     let mut sink = SummarySink::new();
-    let Over { failure, .. } = run_script(alloc, script, (disc, tapes), rules, &mut sink);
+    let ScriptEnd { failure, .. } = run_script(alloc, script, (disc, tapes), rules, &mut sink);
     match failure {
         None => Ok(sink),
         Some(_) => Err(NoMemory),

@@ -1,17 +1,17 @@
 //! A step of the open dump.
 ghost use Rattle.std.specs.Prelude.{◌≡◌, ◌++◌, IfOk, codes, false, option_map, Some};
-ghost use Rattle.g_console.specs.Parts.{IsReady, seen};
-ghost use Rattle.g_console.specs.System as system;
-ghost use Rattle.g_crew.specs.Numbers.{AreOpen};
+ghost use Rattle.g_operator.specs.Parts.{IsReady, seen};
+ghost use Rattle.g_operator.specs.System as system;
+ghost use Rattle.g_job_table.specs.Numbers.{AreOpen};
 ghost use Rattle.g_monitor.specs.Refusals.{fault_line};
-ghost use Rattle.g_world.specs.Texts.{dump_text};
+ghost use Rattle.g_run_model.specs.Texts.{dump_text};
 ghost use Rattle.g_run.specs.Tick.{DidDump};
 ghost use Rattle.g_run.specs.Turning.{left_of};
 
 use crate::day_up::DayUp;
 use g_base::NoMemory;
-use g_console::{Failure, push_told, say_made, tell_fault};
-use g_crew::dump_text;
+use g_operator::{Failure, push_told, say_made, tell_fault};
+use g_job_table::dump_text;
 use g_disc::Disc;
 use g_dumper::DumpStep;
 use g_io::Sink;

@@ -1,18 +1,18 @@
 //! What becomes of a job behind its turn, and what is told of it.
 ghost use Rattle.std.specs.Prelude.{◌≡◌, ◌↔◌, ◌++◌, ℕ, List, Option, None, Some, [], IfOk, codes, true, false};
 ghost use Rattle.std.specs.Fmt.{decimal};
-ghost use Rattle.g_crew.specs.Crew.{CrewState};
-ghost use Rattle.g_crew.specs.Numbers.{job_in};
+ghost use Rattle.g_job_table.specs.Crew.{CrewState};
+ghost use Rattle.g_job_table.specs.Numbers.{job_in};
 ghost use Rattle.g_job.specs.State.{JobState};
-ghost use Rattle.g_world.specs.Texts as texts;
-ghost use Rattle.g_world.specs.Texts.{operator_line};
+ghost use Rattle.g_run_model.specs.Texts as texts;
+ghost use Rattle.g_run_model.specs.Texts.{operator_line};
 ghost use Rattle.g_run.specs.Turning.{EndsTurn, GoesDown, GoesOn, ShowsAs, TakenOut, added_of, left_of};
 
 use crate::day_up::DayUp;
 use crate::showing::end_shown;
 use g_base::NoMemory;
-use g_console::{Failure, put, say_made, tell_fault};
-use g_crew::{Taken, job_text};
+use g_operator::{Failure, put, say_made, tell_fault};
+use g_job_table::{Taken, job_text};
 use g_disc::Disc;
 use g_io::Sink;
 use g_job::{Job, Turn};

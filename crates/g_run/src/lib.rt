@@ -9,7 +9,7 @@ mod dumping;
 mod ending;
 mod input;
 mod law;
-mod little;
+mod remaining_ticks;
 mod over;
 mod rules;
 mod script;

@@ -1,23 +1,23 @@
 //! A script that was read, done to its end.
 ghost use Rattle.std.specs.Prelude.{◌≡◌, ◌+◌, ◌≤◌, ◌<◌, ◌++◌, All, IfErr, IfOk, length};
 ghost use Rattle.g_budget.specs.Tariff.{IsTariff};
-ghost use Rattle.g_console.specs.Parts.{IsReady};
-ghost use Rattle.g_crew.specs.Numbers.{AreOpen};
+ghost use Rattle.g_operator.specs.Parts.{IsReady};
+ghost use Rattle.g_job_table.specs.Numbers.{AreOpen};
 ghost use Rattle.g_sched.specs.Rule.{IsWeighRule};
-ghost use Rattle.g_world.specs.Texts as texts;
+ghost use Rattle.g_run_model.specs.Texts as texts;
 ghost use Rattle.g_run.specs.Over.{ClosesBy, DidScript, TakenDown, both};
 ghost use Rattle.g_run.specs.Parts.{DidAll, IsTimedWithin};
 
 use crate::boxed_disc::BoxedDisc;
 use crate::boxed_tapes::BoxedTapes;
-use crate::little::little_is_left;
+use crate::remaining_ticks::remaining_ticks_fit;
 use crate::rules::Rules;
 use crate::script::do_lines;
-use crate::ticks::until;
+use crate::ticks::tick_until_due;
 use g_base::NoMemory;
 use g_budget::{Charge, Usage};
-use g_console::{Day, Ended, Failure, System, put_made, take_down};
-use g_crew::{Crew, closing_text};
+use g_operator::{Day, Ended, Failure, System, put_made, take_down};
+use g_job_table::{Crew, closing_text};
 use g_disc::Disc;
 use g_io::Sink;
 use g_name::Text;
@@ -28,7 +28,7 @@ use std::alloc::{AllocFailed, Global};
 
 /// Both devices behind a script, and why it was cut short, if it was.
 #[derive(Drop)]
-pub(crate) struct Over<D: Disc, T: Tapes> {
+pub(crate) struct ScriptEnd<D: Disc, T: Tapes> {
     pub(crate) disc: D,
     pub(crate) tapes: T,
     pub(crate) failure: Option<Failure>,
@@ -47,7 +47,7 @@ pub(crate) fn run_script<
     devices: (D, T),
     rules: &Rules<'_, F, U>,
     out: &mut K,
-) -> Over<D, T>
+) -> ScriptEnd<D, T>
     requires size { (2177 < (D.state devices.0).size) × ((D.state devices.0).size ≤ 1048576) }
     requires within { All IsTimedWithin script.lines }
     requires few { length script.lines + 1 < 18446744073709551616 }
@@ -68,7 +68,7 @@ pub(crate) fn run_script<
     let Ended { day, failure } = run_lines(alloc, lines, day, rules, out);
     let failure = close(alloc, &day.crew, bad, failure, out);
     let (disc, tapes) = taken_down(day);
-    Over {
+    ScriptEnd {
         disc,
         tapes,
         failure,
@@ -89,7 +89,7 @@ pub(crate) fn run_boxed<
     devices: (D, T),
     rules: &Rules<'_, F, U>,
     out: &mut K,
-) -> Over<D, T>
+) -> ScriptEnd<D, T>
     requires size { (2177 < (D.state devices.0).size) × ((D.state devices.0).size ≤ 1048576) }
     requires within { All IsTimedWithin script.lines }
     requires few { length script.lines + 1 < 18446744073709551616 }
@@ -101,7 +101,7 @@ pub(crate) fn run_boxed<
 {
     match in_boxes(alloc, devices) {
         Ok(devices) => unboxed(run_script(alloc, script, devices, rules, out)),
-        Err((disc, tapes)) => Over {
+        Err((disc, tapes)) => ScriptEnd {
             disc,
             tapes,
             failure: Some(Failure::Memory),
@@ -129,17 +129,17 @@ fn in_boxes<D: Disc, T: Tapes>(
 }
 
 /// The end of a script, with the devices out of their boxes.
-fn unboxed<D: Disc, T: Tapes>(over: Over<BoxedDisc<D>, BoxedTapes<T>>) -> Over<D, T>
+fn unboxed<D: Disc, T: Tapes>(over: ScriptEnd<BoxedDisc<D>, BoxedTapes<T>>) -> ScriptEnd<D, T>
     ensures disc { D.state result.disc ≡ D.state over.disc.disc.value }
     ensures tapes { T.rack result.tapes ≡ T.rack over.tapes.tapes.value }
     ensures failure { result.failure ≡ over.failure }
 {
-    let Over {
+    let ScriptEnd {
         disc,
         tapes,
         failure,
     } = over;
-    Over {
+    ScriptEnd {
         disc: Box::into_inner(disc.disc),
         tapes: Box::into_inner(tapes.tapes),
         failure,
@@ -167,8 +167,8 @@ fn run_lines<K: Sink, D: Disc, T: Tapes, F: Fn(&Usage) -> Charge, U: Fn(&Standin
     let Ended { day, failure } = do_lines(alloc, lines, day, rules, out);
     match failure {
         None => {
-            little_is_left(&day);
-            until(alloc, day, None, rules, out)
+            remaining_ticks_fit(&day);
+            tick_until_due(alloc, day, None, rules, out)
         }
         Some(failure) => Ended {
             day,

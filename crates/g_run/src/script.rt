@@ -1,15 +1,15 @@
 //! The lines of a script, each done when it is due, or when nothing can step.
 ghost use Rattle.std.specs.Prelude.{◌≡◌, ◌+◌, ◌<◌, [], ◌∷◌, All, length};
 ghost use Rattle.g_budget.specs.Tariff.{IsTariff};
-ghost use Rattle.g_console.specs.Parts.{IsReady};
-ghost use Rattle.g_crew.specs.Numbers.{AreOpen};
+ghost use Rattle.g_operator.specs.Parts.{IsReady};
+ghost use Rattle.g_job_table.specs.Numbers.{AreOpen};
 ghost use Rattle.g_sched.specs.Rule.{IsWeighRule};
 ghost use Rattle.g_run.specs.Parts.{DidLines, IsTimedWithin};
 
 use crate::rules::Rules;
-use crate::ticks::until;
+use crate::ticks::tick_until_due;
 use g_budget::{Charge, Usage};
-use g_console::{Day, Ended, operator_line};
+use g_operator::{Day, Ended, operator_line};
 use g_disc::Disc;
 use g_io::Sink;
 use g_sched::Standing;
@@ -64,7 +64,7 @@ fn next_line<K: Sink, D: Disc, T: Tapes, F: Fn(&Usage) -> Charge, U: Fn(&Standin
         (K.written out.old) (K.written out.new) (K.faults out.old) (K.faults out.new) }
 {
     let Timed { turn, what } = next;
-    let Ended { day, failure } = until(alloc, day, Some(turn), rules, out);
+    let Ended { day, failure } = tick_until_due(alloc, day, Some(turn), rules, out);
     match failure {
         None => operator_line(alloc, day, what, out),
         Some(failure) => Ended {

@@ -2,19 +2,19 @@
 //! is told of it.
 ghost use Rattle.std.specs.Prelude.{◌≡◌, ◌↔◌, ◌++◌, ℕ, List, Option, Some, IfOk, codes, true, false};
 ghost use Rattle.std.specs.Fmt.{decimal};
-ghost use Rattle.g_crew.specs.Crew.{CrewState};
-ghost use Rattle.g_crew.specs.Numbers.{job_in};
-ghost use Rattle.g_crew.specs.Seating.{pushed_of};
+ghost use Rattle.g_job_table.specs.Crew.{CrewState};
+ghost use Rattle.g_job_table.specs.Numbers.{job_in};
+ghost use Rattle.g_job_table.specs.Seating.{pushed_of};
 ghost use Rattle.g_job.specs.State.{JobState};
-ghost use Rattle.g_world.specs.Texts as texts;
-ghost use Rattle.g_world.specs.Texts.{operator_line};
+ghost use Rattle.g_run_model.specs.Texts as texts;
+ghost use Rattle.g_run_model.specs.Texts.{operator_line};
 ghost use Rattle.g_run.specs.Turning.{EndsTurn, GoesDown, GoesOn, TakenOut, left_of};
 
 use crate::day_up::DayUp;
 use crate::ending::wants;
 use g_base::NoMemory;
-use g_console::{Failure, put_made, stops_behind};
-use g_crew::{Crew, push_operator_line};
+use g_operator::{Failure, put_made, stops_behind};
+use g_job_table::{Crew, push_operator_line};
 use g_disc::Disc;
 use g_io::Sink;
 use g_job::Turn;

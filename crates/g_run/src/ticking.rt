@@ -1,10 +1,10 @@
 //! A tick: a step of the open dump, and a turn of the next job.
 ghost use Rattle.std.specs.Prelude.{◌≡◌, None, false};
 ghost use Rattle.g_budget.specs.Tariff.{IsTariff};
-ghost use Rattle.g_console.specs.Parts.{IsReady, seen};
-ghost use Rattle.g_console.specs.System as system;
-ghost use Rattle.g_crew.specs.Numbers.{AreOpen};
-ghost use Rattle.g_crew.specs.Weights.{AreWeights};
+ghost use Rattle.g_operator.specs.Parts.{IsReady, seen};
+ghost use Rattle.g_operator.specs.System as system;
+ghost use Rattle.g_job_table.specs.Numbers.{AreOpen};
+ghost use Rattle.g_job_table.specs.Weights.{AreWeights};
 ghost use Rattle.g_sched.specs.Rule.{IsWeighRule};
 ghost use Rattle.g_run.specs.Tick.{DidTick};
 ghost use Rattle.g_run.specs.Turning.{left_of};
@@ -14,8 +14,8 @@ use crate::dumping::dump_step;
 use crate::rules::Rules;
 use crate::turning::take_turn;
 use g_budget::{Charge, Usage};
-use g_console::Failure;
-use g_crew::Weights;
+use g_operator::Failure;
+use g_job_table::Weights;
 use g_disc::Disc;
 use g_io::Sink;
 use g_sched::Standing;

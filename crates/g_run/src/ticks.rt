@@ -1,9 +1,9 @@
 //! Ticks, as long as something can step and no line is due.
 ghost use Rattle.std.specs.Prelude.{◌≡◌, ◌⊎◌, ◌+◌, ◌<◌, ℕ, None, true, false};
 ghost use Rattle.g_budget.specs.Tariff.{IsTariff};
-ghost use Rattle.g_console.specs.Parts.{IsReady, seen};
-ghost use Rattle.g_console.specs.System as system;
-ghost use Rattle.g_crew.specs.Numbers.{AreOpen};
+ghost use Rattle.g_operator.specs.Parts.{IsReady, seen};
+ghost use Rattle.g_operator.specs.System as system;
+ghost use Rattle.g_job_table.specs.Numbers.{AreOpen};
 ghost use Rattle.g_sched.specs.Rule.{IsWeighRule};
 ghost use Rattle.g_run.specs.Tick.{some_job_steps};
 ghost use Rattle.g_run.specs.Parts.{DidTicks, HasRoom, IsAtRest, is_past, steps_in};
@@ -13,8 +13,8 @@ use crate::day_up::DayUp;
 use crate::rules::Rules;
 use crate::ticking::tick;
 use g_budget::{Charge, Usage};
-use g_console::{Day, Ended, Failure, Running, System};
-use g_crew::{Crew, Weights};
+use g_operator::{Day, Ended, Failure, Running, System};
+use g_job_table::{Crew, Weights};
 use g_disc::Disc;
 use g_io::Sink;
 use g_sched::Standing;
@@ -22,7 +22,7 @@ use g_tape::Tapes;
 use std::alloc::Global;
 
 /// Ticks until nothing can step, or, where a turn is given at which the next line is due, until the count has come to it.
-pub(crate) fn until<K: Sink, D: Disc, T: Tapes, F: Fn(&Usage) -> Charge, U: Fn(&Standing) -> u64>(
+pub(crate) fn tick_until_due<K: Sink, D: Disc, T: Tapes, F: Fn(&Usage) -> Charge, U: Fn(&Standing) -> u64>(
     alloc: Global,
     day: Day<D, T>,
     limit: Option<u64>,

@@ -2,19 +2,19 @@
 ghost use Rattle.std.specs.Prelude.{◌≡◌, ◌<◌, ◌≤◌, ℕ, List, [], Option, Some, drop, length};
 ghost use Rattle.g_base.specs.Counts.{Rose};
 ghost use Rattle.g_budget.specs.Tariff.{IsTariff};
-ghost use Rattle.g_console.specs.Puts.{Puts};
-ghost use Rattle.g_console.specs.declared.progress.Failure.TheVariants as failures;
-ghost use Rattle.g_console.specs.System.{BelongTogether, DumpsGrow, SameDevices};
+ghost use Rattle.g_operator.specs.Puts.{Puts};
+ghost use Rattle.g_operator.specs.declared.progress.Failure.TheVariants as failures;
+ghost use Rattle.g_operator.specs.System.{BelongTogether, DumpsGrow, SameDevices};
 ghost use Rattle.g_demo.specs.Words.{AskNothing, IsDemonstration, demo_words, texts_of};
 ghost use Rattle.g_demo.specs.declared.demonstration.Demonstration.{Demonstration};
 ghost use Rattle.g_lines.specs.Lines.{lines_of};
 ghost use Rattle.g_sched.specs.Rule.{IsWeighRule};
 ghost use Rattle.g_script.specs.Script.{IsParsed};
 ghost use Rattle.g_script.specs.declared.operator.Timed.{Timed};
-ghost use Rattle.g_state_process.specs.Moving.{DumpsMove};
-ghost use Rattle.g_world.specs.Top.{AreArmings, AreFused, IsCutWords, words_line};
-ghost use Rattle.g_world_laws.specs.Anew.{with_new_disc};
-ghost use Rattle.g_world_laws.specs.Filestores.{HasFilestore};
+ghost use Rattle.g_laws_process.specs.Moving.{DumpsMove};
+ghost use Rattle.g_run_model.specs.Top.{AreArmings, AreFused, IsCutWords, words_line};
+ghost use Rattle.g_laws_runs.specs.Anew.{with_new_disc};
+ghost use Rattle.g_laws_runs.specs.Filestores.{HasFilestore};
 ghost use Rattle.g_run.specs.Input.{IsRun};
 ghost use Rattle.g_run.specs.Over.{both};
 ghost use Rattle.g_run.specs.Parts.{HaveNoProcess};
@@ -22,12 +22,12 @@ ghost use Rattle.g_run.specs.Top as top;
 
 use crate::demo::run_demo;
 use crate::input::{Unread, read_script};
-use crate::over::{Over, run_boxed};
+use crate::over::{ScriptEnd, run_boxed};
 use crate::rules::Rules;
 use crate::status::Status;
 use g_base::NoMemory;
 use g_budget::{Charge, Tariff, Usage};
-use g_console::Failure;
+use g_operator::Failure;
 use g_demo::{Asked, asked_by};
 use g_disc::Disc;
 use g_io::{Sink, Source};
@@ -49,7 +49,7 @@ pub struct Finish<D: Disc, T: Tapes> {
 ///
 /// The words are looked at first: `run`, or `demo NUMBER N`, which runs a script that is made from these numbers on devices in
 /// memory and puts the summary of its text. The script is read whole before anything is done (docs/MANUAL.md, "Exit status").
-#[tactic(auto, using(g_console::proofs::GrowLemmas::grow_itself, crate::proofs::KeepLemmas::moves_itself))]
+#[tactic(auto, using(g_operator::proofs::GrowLemmas::grow_itself, crate::proofs::KeepLemmas::moves_itself))]
 pub fn george<
     S: Source,
     K: Sink,
@@ -158,7 +158,7 @@ pub fn george<
         Err(NoMemory) => return not_begun(Status::NoMemory, disc, tapes),
     };
     let bad = parsed.bad;
-    let Over {
+    let ScriptEnd {
         disc,
         tapes,
         failure,

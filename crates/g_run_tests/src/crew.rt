@@ -1,5 +1,5 @@
 //! A crew, and a job from its line to its end.
-use g_crew::{Crew, NewJob, NewLogin, push_operator_line};
+use g_job_table::{Crew, NewJob, NewLogin, push_operator_line};
 use g_entry::UserRec;
 use g_lines::Document;
 use g_name::{Local, Text, User};

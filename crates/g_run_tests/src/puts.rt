@@ -1,10 +1,10 @@
 //! The texts that tell an event.
 ghost use Rattle.std.specs.Prelude.{◌<◌, ◌≤◌};
 
-use g_console::{
+use g_operator::{
     Day, Ended, Failure, System, operator_line, push_told, put_made, say_made, tell_fault,
 };
-use g_crew::Crew;
+use g_job_table::Crew;
 use g_disc::{Disc, MemoryDisc};
 use g_io::{MemorySink, Sink};
 use g_name::Text;

@@ -7,7 +7,7 @@ ghost use Rattle.g_incr.specs.Reading.{ReadsReel};
 ghost use Rattle.g_shelf.specs.Completed.{end_of};
 ghost use Rattle.g_shelf.specs.Found.{AreRead, note_of};
 
-use crate::walk::{OfDump, behind, read_reel};
+use crate::walk::{OfDump, end_block, read_reel};
 use g_incr::{DumpDir, DumpNote, ShelfFault};
 use g_tape::Tapes;
 use std::alloc::Global;
@@ -51,7 +51,7 @@ pub fn end_of<T: Tapes>(alloc: Global, tapes: &mut T, serial: u32) -> Result<u32
 {
     let notes = completed(alloc, tapes, serial)?;
     match notes.last() {
-        Some(note) => Ok(behind(note)),
+        Some(note) => Ok(end_block(note)),
         None => Ok(0),
     }
 }

@@ -39,7 +39,7 @@ pub fn read_reel<T: Tapes, K: OfDump + Drop>(
         // In a loop the proof reads the arms of a `match`, and not what `?` returns.
         match next_dump(alloc, tapes, serial, at, least) {
             Ok(Some(dir)) => {
-                at = behind(&dir.note);
+                at = end_block(&dir.note);
                 least = dir.note.number + 1;
                 match kept.push(K::of_dump(serial, dir)) {
                     Ok(()) => {}
@@ -80,7 +80,7 @@ fn next_dump<T: Tapes>(
 }
 
 /// The block behind the dump: it has two blocks more than its header counts.
-pub(crate) fn behind(note: &DumpNote) -> u32
+pub(crate) fn end_block(note: &DumpNote) -> u32
     requires { note.now.place + note.now.count + 2 < 2 ^ 32 }
     ensures { result ≡ note.now.place + note.now.count + 2 }
 {

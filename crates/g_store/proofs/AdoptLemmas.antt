@@ -6,15 +6,15 @@ use Rattle.std.proofs.lemmas.List.Elements.{All-contains, Contains-get_or}
 use Rattle.g_entry.specs.declared.file_rec.FileRec.{FileRec}
 use Rattle.g_entry.specs.declared.file_rec.TapeCopy.{TapeCopy}
 use Rattle.g_entry.specs.FileFields.{IsCopy, IsFile}
-use Rattle.g_contents.specs.Contents.{Contents, File, recs_in}
-use Rattle.g_contents.specs.Facts.{IsTied, OnlineFacts}
+use Rattle.g_disc_contents.specs.Contents.{Contents, File, recs_in}
+use Rattle.g_disc_contents.specs.Facts.{IsTied, OnlineFacts}
 use Rattle.g_online.specs.declared.change.Change.TheVariants.{Adopt}
 use Rattle.g_online.specs.Allowed.{IsAllowed, KeepsRules}
 use Rattle.g_online.specs.Change.{changed}
 use Rattle.g_online.proofs.CopiedLemmas.{none_copied, rules_copied}
 use Rattle.g_online.proofs.KeepLemmas.{rules_of}
-use Rattle.g_state.specs.Laws.{closed}
-use Rattle.g_state_steps.proofs.WaitingLemmas.{mapped_there}
+use Rattle.g_store_meaning.specs.Laws.{closed}
+use Rattle.g_laws_memory.proofs.WaitingLemmas.{mapped_there}
 use Rattle.g_store.specs.Starting.{adoption, copies_named, has_empty}
 use Rattle.g_store.proofs.OwnPlaceLemmas.{empty_there, named_all}
 

@@ -5,20 +5,20 @@ use Rattle.std.specs.Option.{ForSome}
 use Rattle.std.proofs.lemmas.Bool.{false≢true}
 use Rattle.g_base.specs.Fuse.{Arms}
 use Rattle.g_tape.specs.Rack.{Rack}
-use Rattle.g_contents.specs.Facts.{IsTied, OnlineFacts, Pin}
+use Rattle.g_disc_contents.specs.Facts.{IsTied, OnlineFacts, Pin}
 use Rattle.g_incr.specs.Layout.{Dump}
 use Rattle.g_incr.specs.Plan.{dump_of}
-use Rattle.g_step.specs.State.{State}
-use Rattle.g_step.specs.CallStep.{down}
-use Rattle.g_state.specs.Answers.{Belongs, IsStore}
-use Rattle.g_state.specs.Meaning.{told_reels}
-use Rattle.g_state.specs.Reading.{DevicesStandFor, StandsForState}
-use Rattle.g_state.specs.Up.{DumpFacts, IsReady, IsUp, StoreFacts, content_in}
-use Rattle.g_state.proofs.ViewLemmas.{Stands, back, to}
-use Rattle.g_state.proofs.StayLemmas.{dump_stays_open}
+use Rattle.g_store_model.specs.State.{State}
+use Rattle.g_store_model.specs.CallStep.{down}
+use Rattle.g_store_meaning.specs.Answers.{Belongs, IsStore}
+use Rattle.g_store_meaning.specs.Meaning.{told_reels}
+use Rattle.g_store_meaning.specs.Reading.{DevicesStandFor, StandsForState}
+use Rattle.g_store_meaning.specs.Up.{DumpFacts, IsReady, IsUp, StoreFacts, content_in}
+use Rattle.g_store_meaning.proofs.ViewLemmas.{Stands, back, to}
+use Rattle.g_store_meaning.proofs.StayLemmas.{dump_stays_open}
 use Rattle.g_store.specs.Arming.{MeansTheSame}
 use Rattle.g_store_calls.proofs.SeenLemmas.{seen}
-use Rattle.g_state_laws.proofs.TiedLemmas.{holds_now}
+use Rattle.g_laws_store.proofs.TiedLemmas.{holds_now}
 
 module _ (s : StoreFacts) (f g : Option ℕ) (a b : Arms) where
   abbrev online : OnlineFacts

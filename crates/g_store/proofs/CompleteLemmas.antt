@@ -8,14 +8,14 @@ use Rattle.g_entry.specs.declared.head.Intent.{Intent}
 use Rattle.g_tape.specs.Rack.{Rack, is_mounted, reel}
 use Rattle.g_plain.specs.declared.faults.StoreFault.{StoreFault}
 use Rattle.g_plain.specs.declared.faults.StoreFault.TheVariants.{DiscReadFault, LostCopy, LostDirectory, MountFirst, NoDump, NoFilestore, NoMemory, RackNotEmpty, RackNotMounted, Stopped, TapeReadFault}
-use Rattle.g_contents.specs.Contents.{Contents, Holds}
-use Rattle.g_contents.proofs.HoldLemmas.{holds_one}
+use Rattle.g_disc_contents.specs.Contents.{Contents, Holds}
+use Rattle.g_disc_contents.proofs.HoldLemmas.{holds_one}
 use Rattle.g_incr.specs.Layout.{Dump}
 use Rattle.g_shelf.specs.Completed.{AreShelved, all_dumps}
 use Rattle.g_shelf.specs.Last.{first_unmounted}
-use Rattle.g_state.specs.Belong.{Belong}
-use Rattle.g_state.specs.Meaning.{told_reels}
-use Rattle.g_state.specs.Reading.{ReelsTold}
+use Rattle.g_store_meaning.specs.Belong.{Belong}
+use Rattle.g_store_meaning.specs.Meaning.{told_reels}
+use Rattle.g_store_meaning.specs.Reading.{ReelsTold}
 use Rattle.g_restore.specs.Restored.{IsOfDisc, IsOfReels}
 use Rattle.g_restore.proofs.ReelLemmas.{all_of_reels}
 use Rattle.g_store.specs.Complete.{MakingIsComplete, NoDeviceFailed}

@@ -15,8 +15,8 @@ use Rattle.g_tape.proofs.PlaceLemmas.{reel-first}
 use Rattle.g_incr.specs.Layout.{Dump}
 use Rattle.g_shelf.specs.Completed.{AreCompleted, AreShelved, IsNext, all_dumps}
 use Rattle.g_shelf.proofs.QuietLemmas.{within}
-use Rattle.g_step.specs.State as state
-use Rattle.g_state.specs.Reading.{ReelsTold, row_of}
+use Rattle.g_store_model.specs.State as state
+use Rattle.g_store_meaning.specs.Reading.{ReelsTold, row_of}
 use Rattle.g_store.specs.Refusing.{first_used, is_used}
 
 abbrev pub used : Reel → Bool

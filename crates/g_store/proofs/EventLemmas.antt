@@ -3,13 +3,13 @@ use Rattle.std.proofs.Common.{◌≡◌, ◌≢◌, ℕ, false, Some, Result, Er
 use Rattle.std.proofs.lemmas.Bool.{false≢true}
 use Rattle.g_plain.specs.declared.faults.StoreFault.{StoreFault}
 use Rattle.g_plain.specs.declared.faults.StoreFault.TheVariants.{Stopped}
-use Rattle.g_step.specs.State.{Holding, State}
-use Rattle.g_step.specs.CallStep.{Outcome, Plain}
-use Rattle.g_state.specs.Answers.{IsStore, WroteCommits}
-use Rattle.g_state.specs.Meaning.{told_reels}
-use Rattle.g_state.specs.Reading.{StandsForState, View, state_up}
-use Rattle.g_state.specs.Up.{StoreFacts}
-use Rattle.g_state_steps.specs.Rooms.{held_in}
+use Rattle.g_store_model.specs.State.{Holding, State}
+use Rattle.g_store_model.specs.CallStep.{Outcome, Plain}
+use Rattle.g_store_meaning.specs.Answers.{IsStore, WroteCommits}
+use Rattle.g_store_meaning.specs.Meaning.{told_reels}
+use Rattle.g_store_meaning.specs.Reading.{StandsForState, View, state_up}
+use Rattle.g_store_meaning.specs.Up.{StoreFacts}
+use Rattle.g_laws_memory.specs.Rooms.{held_in}
 use Rattle.g_store.specs.Events.{AnswersEvent, LeadsBy, StepsBy, WroteBy}
 use Rattle.g_store_calls.proofs.SeenLemmas.{Seen, seen}
 

@@ -15,8 +15,8 @@ use Rattle.g_plain.specs.PlainStep.{first_fault}
 use Rattle.g_plain.specs.declared.faults.StoreFault.{StoreFault}
 use Rattle.g_plain.specs.declared.faults.StoreFault.TheVariants.{DiscReadFault, NoMemory, RackNotEmpty, Stopped, TapeReadFault}
 use Rattle.g_tree.specs.Records.{IsRecords, tree_of}
-use Rattle.g_contents.specs.Contents.{Contents, File, Holds, recs_in}
-use Rattle.g_contents.specs.Facts.{IsTied, OnlineFacts}
+use Rattle.g_disc_contents.specs.Contents.{Contents, File, Holds, recs_in}
+use Rattle.g_disc_contents.specs.Facts.{IsTied, OnlineFacts}
 use Rattle.g_incr.specs.Layout.{Dump}
 use Rattle.g_shelf.specs.Completed.{AreShelved, all_dumps}
 use Rattle.g_online.specs.Allowed.{KeepsRules, Lies}
@@ -24,14 +24,14 @@ use Rattle.g_online.specs.Faults.{store_fault_of}
 use Rattle.g_online.specs.declared.fault.OnlineFault.{OnlineFault}
 use Rattle.g_online.specs.declared.fault.OnlineFault.TheVariants as online
 use Rattle.g_online.specs.Begun.{AsBeforeOr, HasMade, HoldsAsBefore, first_contents, first_file}
-use Rattle.g_step.specs.State as state
-use Rattle.g_step.specs.CallStep.{Cut, DiscRead, Plain, down}
-use Rattle.g_step.specs.DumpSteps.{Event}
-use Rattle.g_step.specs.Rising.{FormatStep, coming_up, fault_from}
-use Rattle.g_state.specs.Belong.{Belong, BelongWith, DiscBelongs}
-use Rattle.g_state.specs.Meaning.{told_reels}
-use Rattle.g_state.specs.Reading.{AllTold, DevicesStandFor, HasText, IsView, StandsForState, View, holding_of, names_of, places_of, state_down, state_up, tree_by}
-use Rattle.g_state.proofs.ChangeLemmas.{format_belongs}
+use Rattle.g_store_model.specs.State as state
+use Rattle.g_store_model.specs.CallStep.{Cut, DiscRead, Plain, down}
+use Rattle.g_store_model.specs.DumpSteps.{Event}
+use Rattle.g_store_model.specs.Rising.{FormatStep, coming_up, fault_from}
+use Rattle.g_store_meaning.specs.Belong.{Belong, BelongWith, DiscBelongs}
+use Rattle.g_store_meaning.specs.Meaning.{told_reels}
+use Rattle.g_store_meaning.specs.Reading.{AllTold, DevicesStandFor, HasText, IsView, StandsForState, View, holding_of, names_of, places_of, state_down, state_up, tree_by}
+use Rattle.g_store_meaning.proofs.ChangeLemmas.{format_belongs}
 use Rattle.g_store.specs.Making.{Formats, IsNew, LeadsDown, Refuses, RefusesFormat, StepsDown, new_holding}
 use Rattle.g_store.specs.Refusing.{first_used}
 use Rattle.g_store.proofs.EmptyLemmas.{all_blank, blank_shelf, first_row, no_dump_at_all}

@@ -8,10 +8,10 @@ use Rattle.g_entry.specs.declared.file_rec.FileRec.{FileRec}
 use Rattle.g_entry.specs.declared.user_rec.UserRec.{UserRec}
 use Rattle.g_incr.specs.Layout.{Dump, IsDump, holds}
 use Rattle.g_incr.specs.Plan.{numbered_from, with_number}
-use Rattle.g_state.specs.Belong.{RackBelongs}
-use Rattle.g_state.specs.Meaning.{DumpedDirectory, Gathers, HasDirectory, files_of}
-use Rattle.g_state.proofs.BelongLemmas.{HasKept}
-use Rattle.g_state_laws.proofs.ClosingLemmas.{all_left, all_right, contains_filter}
+use Rattle.g_store_meaning.specs.Belong.{RackBelongs}
+use Rattle.g_store_meaning.specs.Meaning.{DumpedDirectory, Gathers, HasDirectory, files_of}
+use Rattle.g_store_meaning.proofs.BelongLemmas.{HasKept}
+use Rattle.g_laws_store.proofs.ClosingLemmas.{all_left, all_right, contains_filter}
 use Rattle.g_tree.proofs.RecordLemmas.{nobody}
 
 -- what is kept doesn't go by numbers

@@ -10,24 +10,24 @@ use Rattle.g_entry.specs.declared.user_rec.UserRec.{UserRec}
 use Rattle.g_tape.specs.Rack.{Rack}
 use Rattle.g_tape.specs.Reel.{Reel}
 use Rattle.g_tree.proofs.ListLemmas.{contains_cases}
-use Rattle.g_contents.specs.Contents.{Contents, Holds, has}
-use Rattle.g_contents.proofs.HoldLemmas.{holds_one}
-use Rattle.g_contents.specs.Facts.{IsTied, OnlineFacts}
+use Rattle.g_disc_contents.specs.Contents.{Contents, Holds, has}
+use Rattle.g_disc_contents.proofs.HoldLemmas.{holds_one}
+use Rattle.g_disc_contents.specs.Facts.{IsTied, OnlineFacts}
 use Rattle.g_incr.specs.Layout.{Dump}
 use Rattle.g_shelf.specs.Completed.{AreShelved, all_dumps}
 use Rattle.g_online.specs.Begun.{AsBeforeOr, HoldsAsBefore, IsBegun}
-use Rattle.g_step.specs.State as state
-use Rattle.g_step.specs.CallStep.{down}
-use Rattle.g_step.specs.Rising.{coming_up}
-use Rattle.g_state.specs.Answers.{Belongs, IsStore}
-use Rattle.g_state.specs.Belong.{BelongWith, DiscBelongs, RackBelongs}
-use Rattle.g_state.specs.Laws.{IsQuiet}
-use Rattle.g_state.specs.Meaning.{told_reels}
-use Rattle.g_state.specs.Reading.{AllTold, DevicesStandFor, HasText, IsRackView, IsView, StandsForState, View, holding_of, names_of, row_of, state_down, state_up, users_not_in}
-use Rattle.g_state.specs.Up.{StoreFacts}
+use Rattle.g_store_model.specs.State as state
+use Rattle.g_store_model.specs.CallStep.{down}
+use Rattle.g_store_model.specs.Rising.{coming_up}
+use Rattle.g_store_meaning.specs.Answers.{Belongs, IsStore}
+use Rattle.g_store_meaning.specs.Belong.{BelongWith, DiscBelongs, RackBelongs}
+use Rattle.g_store_meaning.specs.Laws.{IsQuiet}
+use Rattle.g_store_meaning.specs.Meaning.{told_reels}
+use Rattle.g_store_meaning.specs.Reading.{AllTold, DevicesStandFor, HasText, IsRackView, IsView, StandsForState, View, holding_of, names_of, row_of, state_down, state_up, users_not_in}
+use Rattle.g_store_meaning.specs.Up.{StoreFacts}
 use Rattle.g_store.proofs.MigrateLemmas.{files_seen, rack_seen}
 use Rattle.g_store_calls.proofs.SeenLemmas.{stands}
-use Rattle.g_state_laws.proofs.TiedLemmas.{devices_belong}
+use Rattle.g_laws_store.proofs.TiedLemmas.{devices_belong}
 
 abbrev pub store_of : OnlineFacts → Rack → StoreFacts
 store_of o rack = record { online = o; rack = rack; dump = None; spent = false }

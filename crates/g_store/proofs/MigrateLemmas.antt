@@ -19,27 +19,27 @@ use Rattle.g_tree.proofs.PutLemmas.{number_found}
 use Rattle.g_tree.proofs.RecordLemmas.{numbers_apart}
 use Rattle.g_tree.proofs.RightLemmas.{row_is}
 use Rattle.g_tree.proofs.RuleLemmas.{one_of_key}
-use Rattle.g_contents.specs.Contents.{Contents, File, committed, has, offline_in, recs_in, taken_off}
-use Rattle.g_contents.specs.Facts.{OnlineFacts}
+use Rattle.g_disc_contents.specs.Contents.{Contents, File, committed, has, offline_in, recs_in, taken_off}
+use Rattle.g_disc_contents.specs.Facts.{OnlineFacts}
 use Rattle.g_online.specs.declared.change.Change.TheVariants.{Unload}
 use Rattle.g_online.specs.Change.{changed, with_files}
 use Rattle.g_incr.specs.Layout.{Dump}
 use Rattle.g_incr.specs.Plan.{needs}
 use Rattle.g_shelf.specs.Completed.{all_dumps}
-use Rattle.g_step.specs.State as state
-use Rattle.g_step.specs.CallStep.{Outcome, is_cut, commits, down, kept_intent, stamp_of}
-use Rattle.g_step.specs.DumpSteps.{migrate_refuses}
-use Rattle.g_state.specs.Answers.{Belongs, IsStore}
-use Rattle.g_state.specs.Belong.{KeepsFile}
-use Rattle.g_state.specs.Meaning.{IsContent, told_reels}
-use Rattle.g_state.specs.Reading.{AllTold, HasText, IsRackView, IsView, View, holding_of, names_of, open_of, open_tree, own_opened, place_of, row_of, state_down, state_up, tree_by, users_in, users_not_in, waiting_of}
-use Rattle.g_state.specs.Up.{DumpFacts, StoreFacts}
-use Rattle.g_state.proofs.OneLemmas.{same_dumps, shelves_agree}
-use Rattle.g_state_steps.specs.Places.{AreDistinct, IsOfStamp}
-use Rattle.g_state_steps.specs.Rooms.{held_in}
-use Rattle.g_state_steps.proofs.RoomLemmas.{files_apart}
-use Rattle.g_state_steps.proofs.UnjamLemmas.{numbers_apart as files_numbered}
-use Rattle.g_state_calls.proofs.FileLemmas.{of_stamp, offline_recs}
+use Rattle.g_store_model.specs.State as state
+use Rattle.g_store_model.specs.CallStep.{Outcome, is_cut, commits, down, kept_intent, stamp_of}
+use Rattle.g_store_model.specs.DumpSteps.{migrate_refuses}
+use Rattle.g_store_meaning.specs.Answers.{Belongs, IsStore}
+use Rattle.g_store_meaning.specs.Belong.{KeepsFile}
+use Rattle.g_store_meaning.specs.Meaning.{IsContent, told_reels}
+use Rattle.g_store_meaning.specs.Reading.{AllTold, HasText, IsRackView, IsView, View, holding_of, names_of, open_of, open_tree, own_opened, place_of, row_of, state_down, state_up, tree_by, users_in, users_not_in, waiting_of}
+use Rattle.g_store_meaning.specs.Up.{DumpFacts, StoreFacts}
+use Rattle.g_store_meaning.proofs.OneLemmas.{same_dumps, shelves_agree}
+use Rattle.g_laws_memory.specs.Places.{AreDistinct, IsOfStamp}
+use Rattle.g_laws_memory.specs.Rooms.{held_in}
+use Rattle.g_laws_memory.proofs.RoomLemmas.{files_apart}
+use Rattle.g_laws_memory.proofs.UnjamLemmas.{numbers_apart as files_numbered}
+use Rattle.g_laws_calls.proofs.FileLemmas.{of_stamp, offline_recs}
 use Rattle.g_migrate.proofs.MigrationLemmas.{rec_there}
 use Rattle.g_migrate.proofs.UsedLemmas.{used_there}
 use Rattle.g_store.specs.Naming.{IsNamedBy, IsNamedFile, naming_refuses}

@@ -9,9 +9,9 @@ use Rattle.g_tape.specs.Rack.{is_mounted, reel, with_reel}
 use Rattle.g_tape.specs.Reads.{unread}
 use Rattle.g_incr.specs.Layout.{Dump}
 use Rattle.g_shelf.specs.Completed.{AreCompleted, AreShelved, all_dumps}
-use Rattle.g_step.specs.State as state
-use Rattle.g_step.specs.DumpSteps as dumps
-use Rattle.g_state.specs.Reading.{AllTold, row_of}
+use Rattle.g_store_model.specs.State as state
+use Rattle.g_store_model.specs.DumpSteps as dumps
+use Rattle.g_store_meaning.specs.Reading.{AllTold, row_of}
 
 abbrev pub serials : List Reel → List ℕ
 serials reels = map (λ (r : Reel). r.serial) reels

@@ -16,11 +16,11 @@ use Rattle.g_shelf.specs.Completed.{AreCompleted, AreNext, IsNext}
 use Rattle.g_shelf.specs.Found.{note_of}
 use Rattle.g_known.specs.Known.{AreFound}
 use Rattle.g_shelf.proofs.OneLemmas.{completed_are_one, same_next}
-use Rattle.g_step.specs.Rising.{is_intended}
-use Rattle.g_state.specs.Reading.{shelved_of}
-use Rattle.g_state_steps.proofs.UnjamLemmas.{any_found}
-use Rattle.g_state_steps.proofs.UserLemmas.{any_there}
-use Rattle.g_state_steps.proofs.WaitingLemmas.{from_mapped, mapped_there}
+use Rattle.g_store_model.specs.Rising.{is_intended}
+use Rattle.g_store_meaning.specs.Reading.{shelved_of}
+use Rattle.g_laws_memory.proofs.UnjamLemmas.{any_found}
+use Rattle.g_laws_memory.proofs.UserLemmas.{any_there}
+use Rattle.g_laws_memory.proofs.WaitingLemmas.{from_mapped, mapped_there}
 use Rattle.g_store.specs.Starting.{HasNamed, IsNamed, NamesNone, names}
 
 -- each completed dump stands on the reel

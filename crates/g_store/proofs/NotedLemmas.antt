@@ -24,23 +24,23 @@ use Rattle.g_tree.specs.Records.{IsRecords, user_row_of}
 use Rattle.g_tree.proofs.ListLemmas.{filter_of_map, filter_same_on, map_of_map, sum_of_map}
 use Rattle.g_tree.proofs.RecordLemmas.{nobody}
 use Rattle.g_tree.proofs.MapLemmas.{entries_kept, entries_permute, entries_valued, found_itself, get_valued, keyed, with_value}
-use Rattle.g_contents.specs.Contents.{has}
-use Rattle.g_contents.specs.Facts.{Pin}
+use Rattle.g_disc_contents.specs.Contents.{has}
+use Rattle.g_disc_contents.specs.Facts.{Pin}
 use Rattle.g_incr.specs.Layout.{Dump, IsDump, holds}
 use Rattle.g_incr.specs.Plan.{IsContentAt, Plan, blocks_of, dump_of, first_content, needs, noted_files, noted_rec, numbered_from, waiting, waits, with_number}
 use Rattle.g_online.proofs.CloseNoteLemmas.{pairs_map}
-use Rattle.g_step.specs.State as state
-use Rattle.g_step.specs.DumpSteps.{kept_now, waiting_blocks, writes_content}
-use Rattle.g_state.specs.Meaning.{DumpedDirectory, Gathers, HasDirectory, files_in, files_of}
-use Rattle.g_state.specs.Reading.{dumped_place, dumped_places, names_of, users_in, users_not_in, waiting_of}
-use Rattle.g_state.specs.Up.{ArePinned}
-use Rattle.g_state_laws.proofs.ClosingLemmas.{IsOf, all_left, all_right, contains_filter}
-use Rattle.g_state_laws.proofs.PinLemmas.{OtherStamp}
-use Rattle.g_state_steps.specs.Places.{AreNotedIn}
-use Rattle.g_state_steps.specs.Users.{IsNamed}
-use Rattle.g_state_steps.proofs.NeedsLemmas.{pins_differ, users_named}
-use Rattle.g_state_steps.proofs.RoomLemmas.{pins_apart}
-use Rattle.g_state_steps.proofs.UserLemmas.{any_none, any_there, called, is_called, named_any}
+use Rattle.g_store_model.specs.State as state
+use Rattle.g_store_model.specs.DumpSteps.{kept_now, waiting_blocks, writes_content}
+use Rattle.g_store_meaning.specs.Meaning.{DumpedDirectory, Gathers, HasDirectory, files_in, files_of}
+use Rattle.g_store_meaning.specs.Reading.{dumped_place, dumped_places, names_of, users_in, users_not_in, waiting_of}
+use Rattle.g_store_meaning.specs.Up.{ArePinned}
+use Rattle.g_laws_store.proofs.ClosingLemmas.{IsOf, all_left, all_right, contains_filter}
+use Rattle.g_laws_store.proofs.PinLemmas.{OtherStamp}
+use Rattle.g_laws_memory.specs.Places.{AreNotedIn}
+use Rattle.g_laws_memory.specs.Users.{IsNamed}
+use Rattle.g_laws_memory.proofs.NeedsLemmas.{pins_differ, users_named}
+use Rattle.g_laws_memory.proofs.RoomLemmas.{pins_apart}
+use Rattle.g_laws_memory.proofs.UserLemmas.{any_none, any_there, called, is_called, named_any}
 
 -- THE USERS who weren't touched are kept
 abbrev user_entry : List UserRec → UserRec → List ℕ × UserRow

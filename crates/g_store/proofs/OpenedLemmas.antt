@@ -24,28 +24,28 @@ use Rattle.g_tape.specs.Reel.{Reel}
 use Rattle.g_plain.specs.declared.faults.StoreFault.{StoreFault}
 use Rattle.g_plain.specs.declared.faults.StoreFault.TheVariants.{CountersSpent, DiscReadFault, DumpOpen, NoMemory, NoTape, NotMounted, Stopped, TapeFull, TapeReadFault}
 use Rattle.g_plain.specs.PlainStep.{first_fault}
-use Rattle.g_contents.specs.Contents.{Contents, File, Holds, recs_in, with_intent}
-use Rattle.g_contents.specs.Facts.{IsPinOf, IsTied, OnlineFacts, Pin}
+use Rattle.g_disc_contents.specs.Contents.{Contents, File, Holds, recs_in, with_intent}
+use Rattle.g_disc_contents.specs.Facts.{IsPinOf, IsTied, OnlineFacts, Pin}
 use Rattle.g_incr.specs.Layout.{Dump, holds}
 use Rattle.g_incr.specs.Plan.{blocks_of, dump_of, first_content, needs, waiting, waits}
 use Rattle.g_shelf.specs.Completed.{AreCompleted, AreShelved, all_dumps, end_behind, end_of}
 use Rattle.g_shelf.proofs.QuietLemmas.{end-within}
-use Rattle.g_step.specs.State as state
-use Rattle.g_step.specs.CallStep.{Cut, Outcome, Plain, TapeRead, down, is_cut, is_tape_read}
-use Rattle.g_step.specs.DumpSteps.{Event, OpenStep, dump_needs, open_number, open_refuses, opening, tape_room}
-use Rattle.g_state.specs.Answers.{Belongs, IsStore, Told, WroteCommits}
-use Rattle.g_state.specs.Belong.{DiscBelongs, KeepsFile}
-use Rattle.g_state.specs.Meaning.{files_of, told_reels}
-use Rattle.g_state.specs.Reading.{DevicesStandFor, IsView, Opened, OpensTo, StandsForState, View, holding_of, open_of, row_of, shelved_of, state_down, state_up}
-use Rattle.g_state.specs.Up.{ArePinned, DumpFacts, IsReady, IsUp, StoreFacts, content_in, with_dump}
-use Rattle.g_state.proofs.ViewLemmas.{Stands, back, reads_keep_state}
-use Rattle.g_state_laws.specs.Dumping.{IsPlanOf, opened_with}
-use Rattle.g_state_laws.proofs.StateLemmas.{is_view, view_by, with_there}
-use Rattle.g_state_laws.proofs.UpOneLemmas.{store_is_one}
-use Rattle.g_state_steps.specs.Rooms.{HasLength, held_in}
-use Rattle.g_state_steps.proofs.NeedsLemmas.{opening_takes}
-use Rattle.g_state_opening.specs.Opening.{IsOpening}
-use Rattle.g_state_opening.proofs.OwnLemmas.{opening_is_step}
+use Rattle.g_store_model.specs.State as state
+use Rattle.g_store_model.specs.CallStep.{Cut, Outcome, Plain, TapeRead, down, is_cut, is_tape_read}
+use Rattle.g_store_model.specs.DumpSteps.{Event, OpenStep, dump_needs, open_number, open_refuses, opening, tape_room}
+use Rattle.g_store_meaning.specs.Answers.{Belongs, IsStore, Told, WroteCommits}
+use Rattle.g_store_meaning.specs.Belong.{DiscBelongs, KeepsFile}
+use Rattle.g_store_meaning.specs.Meaning.{files_of, told_reels}
+use Rattle.g_store_meaning.specs.Reading.{DevicesStandFor, IsView, Opened, OpensTo, StandsForState, View, holding_of, open_of, row_of, shelved_of, state_down, state_up}
+use Rattle.g_store_meaning.specs.Up.{ArePinned, DumpFacts, IsReady, IsUp, StoreFacts, content_in, with_dump}
+use Rattle.g_store_meaning.proofs.ViewLemmas.{Stands, back, reads_keep_state}
+use Rattle.g_laws_store.specs.Dumping.{IsPlanOf, opened_with}
+use Rattle.g_laws_store.proofs.StateLemmas.{is_view, view_by, with_there}
+use Rattle.g_laws_store.proofs.UpOneLemmas.{store_is_one}
+use Rattle.g_laws_memory.specs.Rooms.{HasLength, held_in}
+use Rattle.g_laws_memory.proofs.NeedsLemmas.{opening_takes}
+use Rattle.g_laws_opening.specs.Opening.{IsOpening}
+use Rattle.g_laws_opening.proofs.OwnLemmas.{opening_is_step}
 use Rattle.g_dumper.specs.Beginning.{Begins, IsEnd, IsKeptBack, LeftByRefusal, RefusesOpening, StoppedOpening, held_of, intent_of, plan_of}
 use Rattle.g_dumper.specs.Keeps.{KeepsStore, behind_opening, spent_with, up_with}
 use Rattle.g_dumper.proofs.BeginLemmas.{after_reads, reel_named}
@@ -55,7 +55,7 @@ use Rattle.g_dumper.proofs.PlanLemmas.{plan_keeps}
 use Rattle.g_dumper.proofs.KeepLemmas.{content_told}
 use Rattle.g_dumper.proofs.OpeningLemmas.{IsOpenedUp, opened_up, serial_among}
 use Rattle.g_dumper.proofs.ShelfLemmas.{reel_there, told_is}
-use Rattle.g_state_laws.proofs.RecordLemmas.{pairs_head, pairs_tail}
+use Rattle.g_laws_store.proofs.RecordLemmas.{pairs_head, pairs_tail}
 use Rattle.g_store.specs.Events.{IsOfOpening, LeadsBy, Opens, StepsBy, WroteBy}
 use Rattle.g_store.specs.Refusing.{IsExact, capacity_of, needs_now, number_in, open_refuses as refuses_now}
 use Rattle.g_store.specs.Dumping.{is_stop_at}

@@ -7,8 +7,8 @@ use Rattle.g_tape.specs.Rack.{AreReels, reel}
 use Rattle.g_plain.specs.declared.faults.StoreFault.{StoreFault}
 use Rattle.g_plain.specs.declared.faults.StoreFault.TheVariants.{DiscReadFault, NoCopy, NoMemory, ReelNotFree, Stopped, TapeFull, TapeReadFault}
 use Rattle.g_incr.specs.Plan.{needs}
-use Rattle.g_state.specs.Answers.{Belongs, Told}
-use Rattle.g_state.specs.Up.{StoreFacts}
+use Rattle.g_store_meaning.specs.Answers.{Belongs, Told}
+use Rattle.g_store_meaning.specs.Up.{StoreFacts}
 use Rattle.g_process.specs.Planned.{IsFree, IsTaken, process_plan}
 use Rattle.g_process.specs.Processing.{Processes, process_refuses}
 use Rattle.g_store.specs.Complete.{NoDeviceFailed, ProcessIsComplete}

@@ -11,13 +11,13 @@ use Rattle.g_tape.specs.Rack.{Rack, reel}
 use Rattle.g_tape.specs.Reads.{unread}
 use Rattle.g_tape.specs.Reel.{Reel}
 use Rattle.g_incr.specs.Layout.{Dump}
-use Rattle.g_step.specs.State as state
-use Rattle.g_step.specs.DumpSteps.{with_shelved, with_used}
-use Rattle.g_step.specs.Process.{released_before}
-use Rattle.g_step.specs.Rising.{has_none}
-use Rattle.g_state.specs.Reading.{row_of, shelved_of}
-use Rattle.g_state.specs.Up.{with_dump}
-use Rattle.g_state_laws.proofs.RecordLemmas.{pairs_head, pairs_tail}
+use Rattle.g_store_model.specs.State as state
+use Rattle.g_store_model.specs.DumpSteps.{with_shelved, with_used}
+use Rattle.g_store_model.specs.Process.{released_before}
+use Rattle.g_store_model.specs.Rising.{has_none}
+use Rattle.g_store_meaning.specs.Reading.{row_of, shelved_of}
+use Rattle.g_store_meaning.specs.Up.{with_dump}
+use Rattle.g_laws_store.proofs.RecordLemmas.{pairs_head, pairs_tail}
 use Rattle.g_process.specs.Exits.{IsBesideDump, IsClearedBy, IsReadBy, cleared}
 use Rattle.g_process.specs.Planned.{IsFree, IsTaken}
 use Rattle.g_process.proofs.ExitLemmas.{found_itself}

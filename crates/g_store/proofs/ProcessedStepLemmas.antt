@@ -22,29 +22,29 @@ use Rattle.g_plain.specs.declared.faults.StoreFault.{StoreFault}
 use Rattle.g_plain.specs.declared.faults.StoreFault.TheVariants.{CountersSpent, DiscReadFault, DumpOpen, NoCopy, NoMemory, NoTape, RackNotMounted, ReelNotFree, Stopped, TapeFull, TapeReadFault}
 use Rattle.g_plain.specs.PlainStep.{first_fault}
 use Rattle.g_tree.specs.Records.{IsRecords}
-use Rattle.g_contents.specs.Contents.{Contents, File, Holds, contents_of, has, recs_in, with_copies}
-use Rattle.g_contents.specs.Facts.{IsTied, OnlineFacts}
+use Rattle.g_disc_contents.specs.Contents.{Contents, File, Holds, contents_of, has, recs_in, with_copies}
+use Rattle.g_disc_contents.specs.Facts.{IsTied, OnlineFacts}
 use Rattle.g_incr.specs.Layout.{Dump, ends, holds}
 use Rattle.g_incr.specs.Plan.{needs, first_content, numbered_from}
 use Rattle.g_shelf.specs.Completed.{AreCompleted, AreShelved, all_dumps}
 use Rattle.g_shelf.specs.Last.{first_unmounted}
 use Rattle.g_shelf.proofs.QuietLemmas.{within}
-use Rattle.g_step.specs.State as state
-use Rattle.g_step.specs.CallStep.{Cut, DiscRead, Outcome, Plain, TapeRead, down}
-use Rattle.g_step.specs.DumpSteps as steps
-use Rattle.g_step.specs.DumpSteps.{with_shelved, with_used}
-use Rattle.g_step.specs.Process as step
-use Rattle.g_step.specs.Process.{LeftByRead, Marked, Moved, NotYet, ProcessDone, ProcessLeft, ProcessStep, Processes as ProcessesBy, is_released, marked_by, moved, process_dump, process_needs, process_refuses_late, released_before, with_cut, with_intent}
-use Rattle.g_step.specs.Rising.{fault_from, has_none}
-use Rattle.g_state.specs.Answers.{Belongs, IsStore, Raised, Told}
-use Rattle.g_state.specs.Belong.{KeepsFile, RackBelongs}
-use Rattle.g_state.specs.Meaning.{DumpedDirectory, IsContent, told_reels}
-use Rattle.g_state.specs.Reading.{AllTold, HasText, IsView, StandsForState, View, dumped_of, dumped_places, holding_of, names_of, open_of, own_of, places_of, row_of, shelved_of, state_up, tree_by, users_not_in}
-use Rattle.g_state.specs.Up.{DumpFacts, IsUp, StoreFacts, with_dump}
-use Rattle.g_state.proofs.OneLemmas.{on_reel}
-use Rattle.g_state_laws.proofs.StateLemmas.{is_view, view_by}
-use Rattle.g_state_laws.proofs.UpOneLemmas.{on_all, store_is_one}
-use Rattle.g_state_steps.specs.Rooms.{HasLength, held_in}
+use Rattle.g_store_model.specs.State as state
+use Rattle.g_store_model.specs.CallStep.{Cut, DiscRead, Outcome, Plain, TapeRead, down}
+use Rattle.g_store_model.specs.DumpSteps as steps
+use Rattle.g_store_model.specs.DumpSteps.{with_shelved, with_used}
+use Rattle.g_store_model.specs.Process as step
+use Rattle.g_store_model.specs.Process.{LeftByRead, Marked, Moved, NotYet, ProcessDone, ProcessLeft, ProcessStep, Processes as ProcessesBy, is_released, marked_by, moved, process_dump, process_needs, process_refuses_late, released_before, with_cut, with_intent}
+use Rattle.g_store_model.specs.Rising.{fault_from, has_none}
+use Rattle.g_store_meaning.specs.Answers.{Belongs, IsStore, Raised, Told}
+use Rattle.g_store_meaning.specs.Belong.{KeepsFile, RackBelongs}
+use Rattle.g_store_meaning.specs.Meaning.{DumpedDirectory, IsContent, told_reels}
+use Rattle.g_store_meaning.specs.Reading.{AllTold, HasText, IsView, StandsForState, View, dumped_of, dumped_places, holding_of, names_of, open_of, own_of, places_of, row_of, shelved_of, state_up, tree_by, users_not_in}
+use Rattle.g_store_meaning.specs.Up.{DumpFacts, IsUp, StoreFacts, with_dump}
+use Rattle.g_store_meaning.proofs.OneLemmas.{on_reel}
+use Rattle.g_laws_store.proofs.StateLemmas.{is_view, view_by}
+use Rattle.g_laws_store.proofs.UpOneLemmas.{on_all, store_is_one}
+use Rattle.g_laws_memory.specs.Rooms.{HasLength, held_in}
 use Rattle.g_store_calls.proofs.SeenLemmas.{Seen, stands}
 use Rattle.g_dumper.specs.Keeps.{spent_with, up_with}
 use Rattle.g_dumper.proofs.BeginLemmas.{reel_named}

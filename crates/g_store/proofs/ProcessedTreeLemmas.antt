@@ -25,38 +25,38 @@ use Rattle.g_tree.proofs.ListLemmas.{map_of_map, sum_same_on}
 use Rattle.g_tree.proofs.MapLemmas.{found_itself, found_one, keyed}
 use Rattle.g_tree.proofs.RecordLemmas.{nobody}
 use Rattle.g_tree.proofs.RuleLemmas.{count_files, count_users, file_found}
-use Rattle.g_contents.specs.Contents.{Contents, File, has, recs_in, with_copies, with_copy}
-use Rattle.g_contents.specs.Facts as facts
-use Rattle.g_contents.specs.Facts.{IsTied, OnlineFacts, Pin, noted}
+use Rattle.g_disc_contents.specs.Contents.{Contents, File, has, recs_in, with_copies, with_copy}
+use Rattle.g_disc_contents.specs.Facts as facts
+use Rattle.g_disc_contents.specs.Facts.{IsTied, OnlineFacts, Pin, noted}
 use Rattle.g_incr.specs.Layout.{Dump, holds}
 use Rattle.g_incr.specs.Plan.{IsPlan, Plan, blocks_of, content_blocks, first_content, needs}
 use Rattle.g_shelf.specs.Completed.{AreShelved, all_dumps}
-use Rattle.g_step.specs.State as state
-use Rattle.g_step.specs.DumpSteps.{AreNoted, dump_needs, own_copies, own_copy, waiting_blocks}
-use Rattle.g_step.specs.DumpSteps as steps
-use Rattle.g_step.specs.Process.{AreCopied, AreMoved, HasCopiesOf, IsProcessed, process_content, process_needs}
-use Rattle.g_state.specs.Belong.{KeepsFile}
-use Rattle.g_state.specs.Meaning.{DumpedDirectory, HasDirectory, Gathers, files_of, told_reels}
-use Rattle.g_state.specs.Reading.{AllTold, Opened, View, dumped_of, holding_of, names_of, own_of, place_of, places_of, tree_by, users_not_in}
-use Rattle.g_state.specs.Up.{IsReady, IsUp, StoreFacts, content_in, with_dump}
-use Rattle.g_state_laws.specs.Dumping.{opened_with}
-use Rattle.g_state_laws.proofs.RecordLemmas.{OtherUser, gathered_by, pairs_tail, users_apart}
-use Rattle.g_state_laws.proofs.StateLemmas.{view_by, with_there}
-use Rattle.g_state_laws.proofs.UpOneLemmas.{in_with}
-use Rattle.g_state_steps.specs.Places.{AreDistinct}
-use Rattle.g_state_steps.specs.Rooms.{HasLength, held_in}
-use Rattle.g_state_steps.proofs.PlaceLemmas.{find_mapped, get_place, stamp_of}
-use Rattle.g_state_steps.proofs.NeedsLemmas.{content_is, opening_takes}
-use Rattle.g_state_steps.proofs.RoomLemmas.{current_is, files_apart, sum_is}
-use Rattle.g_state_steps.proofs.UnjamLemmas.{any_found}
-use Rattle.g_state_steps.proofs.UserLemmas.{any_there}
-use Rattle.g_state_steps.proofs.WaitingLemmas.{entries_all, entry_there, mapped_there}
-use Rattle.g_state_opening.specs.Opening.{IsOpening}
-use Rattle.g_state_opening.proofs.CopyLemmas.{copies_by, find_copy, no_copy_of, same_flat}
-use Rattle.g_state_opening.proofs.OpenedLemmas.{are, are_noted, copy_before, long_of, place_of_rec, tree_is}
-use Rattle.g_state_opening.proofs.OwnLemmas.{own_is}
-use Rattle.g_state_process.specs.Forgotten.{bare, bare_file, bare_rec, every_user, forgotten}
-use Rattle.g_state_process.proofs.ForgetLemmas.{forgetting_stays}
+use Rattle.g_store_model.specs.State as state
+use Rattle.g_store_model.specs.DumpSteps.{AreNoted, dump_needs, own_copies, own_copy, waiting_blocks}
+use Rattle.g_store_model.specs.DumpSteps as steps
+use Rattle.g_store_model.specs.Process.{AreCopied, AreMoved, HasCopiesOf, IsProcessed, process_content, process_needs}
+use Rattle.g_store_meaning.specs.Belong.{KeepsFile}
+use Rattle.g_store_meaning.specs.Meaning.{DumpedDirectory, HasDirectory, Gathers, files_of, told_reels}
+use Rattle.g_store_meaning.specs.Reading.{AllTold, Opened, View, dumped_of, holding_of, names_of, own_of, place_of, places_of, tree_by, users_not_in}
+use Rattle.g_store_meaning.specs.Up.{IsReady, IsUp, StoreFacts, content_in, with_dump}
+use Rattle.g_laws_store.specs.Dumping.{opened_with}
+use Rattle.g_laws_store.proofs.RecordLemmas.{OtherUser, gathered_by, pairs_tail, users_apart}
+use Rattle.g_laws_store.proofs.StateLemmas.{view_by, with_there}
+use Rattle.g_laws_store.proofs.UpOneLemmas.{in_with}
+use Rattle.g_laws_memory.specs.Places.{AreDistinct}
+use Rattle.g_laws_memory.specs.Rooms.{HasLength, held_in}
+use Rattle.g_laws_memory.proofs.PlaceLemmas.{find_mapped, get_place, stamp_of}
+use Rattle.g_laws_memory.proofs.NeedsLemmas.{content_is, opening_takes}
+use Rattle.g_laws_memory.proofs.RoomLemmas.{current_is, files_apart, sum_is}
+use Rattle.g_laws_memory.proofs.UnjamLemmas.{any_found}
+use Rattle.g_laws_memory.proofs.UserLemmas.{any_there}
+use Rattle.g_laws_memory.proofs.WaitingLemmas.{entries_all, entry_there, mapped_there}
+use Rattle.g_laws_opening.specs.Opening.{IsOpening}
+use Rattle.g_laws_opening.proofs.CopyLemmas.{copies_by, find_copy, no_copy_of, same_flat}
+use Rattle.g_laws_opening.proofs.OpenedLemmas.{are, are_noted, copy_before, long_of, place_of_rec, tree_is}
+use Rattle.g_laws_opening.proofs.OwnLemmas.{own_is}
+use Rattle.g_laws_process.specs.Forgotten.{bare, bare_file, bare_rec, every_user, forgotten}
+use Rattle.g_laws_process.proofs.ForgetLemmas.{forgetting_stays}
 use Rattle.g_dumper.specs.Keeps.{up_with}
 use Rattle.g_dumper.proofs.BeginLemmas.{reel_named}
 use Rattle.g_dumper.proofs.HeldLemmas.{holds_there}

@@ -3,9 +3,9 @@ use Rattle.std.proofs.Common.{◌≡◌, ℕ, Bool, false, [], Option, Some, Non
 use Rattle.std.proofs.lemmas.List.{append-nil}
 use Rattle.g_tape.specs.Rack.{AreReels, Rack}
 use Rattle.g_plain.specs.declared.faults.StoreFault.{StoreFault}
-use Rattle.g_contents.specs.Facts.{OnlineFacts}
-use Rattle.g_state.specs.Answers.{IsStore}
-use Rattle.g_state.specs.Up.{DumpFacts, StoreFacts}
+use Rattle.g_disc_contents.specs.Facts.{OnlineFacts}
+use Rattle.g_store_meaning.specs.Answers.{IsStore}
+use Rattle.g_store_meaning.specs.Up.{DumpFacts, StoreFacts}
 use Rattle.g_dumper.specs.Keeps.{up_with}
 use Rattle.g_process.specs.Processing.{Processes, behind_process, process_refuses}
 use Rattle.g_store.specs.Processing.{MovesDumps, StepsProcess}

@@ -12,22 +12,22 @@ use Rattle.g_tape.specs.Reel.{Reel}
 use Rattle.g_plain.specs.PlainStep.{first_fault}
 use Rattle.g_plain.specs.declared.faults.StoreFault.{StoreFault}
 use Rattle.g_plain.specs.declared.faults.StoreFault.TheVariants.{DiscReadFault, LostCopy, LostDirectory, NoDump, NoMemory, RackNotMounted, Stopped, TapeReadFault}
-use Rattle.g_contents.specs.Contents.{Contents, Holds}
-use Rattle.g_contents.specs.Facts.{IsTied, OnlineFacts, Pin}
+use Rattle.g_disc_contents.specs.Contents.{Contents, Holds}
+use Rattle.g_disc_contents.specs.Facts.{IsTied, OnlineFacts, Pin}
 use Rattle.g_incr.specs.Layout.{Dump}
 use Rattle.g_incr.specs.Plan.{dump_of}
 use Rattle.g_shelf.specs.Completed.{AreShelved, all_dumps}
 use Rattle.g_shelf.specs.Last.{first_unmounted}
 use Rattle.g_online.specs.Begun.{AsBeforeOr, HasMade, HoldsAsBefore}
-use Rattle.g_step.specs.State as state
-use Rattle.g_step.specs.CallStep.{Cut, DiscRead, Outcome, Plain, TapeRead, down}
-use Rattle.g_step.specs.Rising as rising
-use Rattle.g_state.specs.Answers.{Belongs}
-use Rattle.g_state.specs.Belong.{Belong, BelongWith, DiscBelongs, RackBelongs}
-use Rattle.g_state.specs.Meaning.{told_reels}
-use Rattle.g_state.specs.Reading.{AllTold, DevicesStandFor, HasText, ReelsTold, dumped_of, holding_of, state_down}
-use Rattle.g_state.specs.Up.{IsReady, KeepsDirectories, StoreFacts, content_in}
-use Rattle.g_state.proofs.ViewLemmas.{reads_keep_state}
+use Rattle.g_store_model.specs.State as state
+use Rattle.g_store_model.specs.CallStep.{Cut, DiscRead, Outcome, Plain, TapeRead, down}
+use Rattle.g_store_model.specs.Rising as rising
+use Rattle.g_store_meaning.specs.Answers.{Belongs}
+use Rattle.g_store_meaning.specs.Belong.{Belong, BelongWith, DiscBelongs, RackBelongs}
+use Rattle.g_store_meaning.specs.Meaning.{told_reels}
+use Rattle.g_store_meaning.specs.Reading.{AllTold, DevicesStandFor, HasText, ReelsTold, dumped_of, holding_of, state_down}
+use Rattle.g_store_meaning.specs.Up.{IsReady, KeepsDirectories, StoreFacts, content_in}
+use Rattle.g_store_meaning.proofs.ViewLemmas.{reads_keep_state}
 use Rattle.g_restore.specs.Lost.{LostIsNamed}
 use Rattle.g_restore.specs.Reels.{AreOnReels}
 use Rattle.g_restore.specs.Restored.{IsOfDisc, IsOfReels, IsRestored, KeepsBelonging, NothingIsLost}

@@ -9,17 +9,17 @@ use Rattle.g_tape.specs.Reads.{unread}
 use Rattle.g_tape.specs.Reel.{Reel, Remains, Torn, left_by}
 use Rattle.g_plain.specs.declared.faults.StoreFault.{StoreFault}
 use Rattle.g_plain.specs.declared.faults.StoreFault.TheVariants.{DiscReadFault, Stopped}
-use Rattle.g_contents.specs.Facts.{OnlineFacts}
+use Rattle.g_disc_contents.specs.Facts.{OnlineFacts}
 use Rattle.g_incr.specs.Layout.{Dump}
 use Rattle.g_incr.specs.Plan.{dump_of, needs}
 use Rattle.g_shelf.specs.Completed.{AreCompleted, AreShelved}
-use Rattle.g_step.specs.DumpSteps.{Completed, Going, Stepped}
-use Rattle.g_state.specs.Answers.{Told}
-use Rattle.g_state.specs.Meaning.{told_reels}
-use Rattle.g_state.specs.Reading.{ReelsTold}
-use Rattle.g_state.specs.Up.{DumpFacts, IsOpen, IsUp, content_in, with_dump}
-use Rattle.g_state.proofs.OneLemmas.{Agree, shelves_agree}
-use Rattle.g_state_laws.proofs.UpOneLemmas.{reel_named}
+use Rattle.g_store_model.specs.DumpSteps.{Completed, Going, Stepped}
+use Rattle.g_store_meaning.specs.Answers.{Told}
+use Rattle.g_store_meaning.specs.Meaning.{told_reels}
+use Rattle.g_store_meaning.specs.Reading.{ReelsTold}
+use Rattle.g_store_meaning.specs.Up.{DumpFacts, IsOpen, IsUp, content_in, with_dump}
+use Rattle.g_store_meaning.proofs.OneLemmas.{Agree, shelves_agree}
+use Rattle.g_laws_store.proofs.UpOneLemmas.{reel_named}
 use Rattle.g_dumper.specs.Keeps.{up_with}
 use Rattle.g_dumper.specs.Steps.{FailedWrite, Stepping, WroteBlock}
 use Rattle.g_dumper.proofs.KeepLemmas.{same_reels, shelved_then}

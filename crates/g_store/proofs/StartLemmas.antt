@@ -19,21 +19,21 @@ use Rattle.g_plain.specs.PlainTree.{FileRow, Tree}
 use Rattle.g_plain.specs.PlainStep.{first_fault}
 use Rattle.g_plain.specs.declared.faults.StoreFault.TheVariants.{MountFirst, Stopped, TapeReadFault}
 use Rattle.g_tree.specs.Records.{file_row_of, full_of, user_row_of}
-use Rattle.g_contents.specs.Contents.{Contents, File, Holds, recs_in, with_copies}
+use Rattle.g_disc_contents.specs.Contents.{Contents, File, Holds, recs_in, with_copies}
 use Rattle.g_incr.specs.Layout.{Dump}
 use Rattle.g_shelf.specs.Completed.{AreCompleted, all_dumps}
-use Rattle.g_step.specs.State as state
-use Rattle.g_step.specs.Rising.{adopted, dump_adopted, fault_from, is_completed, is_intended, other_copy, stands_on, unmounted_reel}
-use Rattle.g_state.specs.Belong.{Belong, DiscBelongs, IsIntended, IsPlaced, KeepsFile}
-use Rattle.g_state.specs.Laws.{HasContent, IsQuiet, closed}
-use Rattle.g_state.specs.Meaning.{DumpedDirectory, IsContent, told_reels}
-use Rattle.g_state.specs.Reading.{AllTold, DevicesStandFor, View, dumped_of, holding_of, names_of, own_of, places_of, row_of, shelved_of, state_down, tree_by}
-use Rattle.g_state.proofs.BelongLemmas.{HasKept}
-use Rattle.g_state.proofs.ChangeLemmas.{closing_belongs}
-use Rattle.g_state.proofs.OneLemmas.{are_right, devices_are_one, is_shelved, on_reel}
-use Rattle.g_state_laws.proofs.StateLemmas.{is_view, rack_view, view_by}
-use Rattle.g_state_laws.proofs.UpOneLemmas.{on_all}
-use Rattle.g_state_steps.proofs.WaitingLemmas.{from_mapped}
+use Rattle.g_store_model.specs.State as state
+use Rattle.g_store_model.specs.Rising.{adopted, dump_adopted, fault_from, is_completed, is_intended, other_copy, stands_on, unmounted_reel}
+use Rattle.g_store_meaning.specs.Belong.{Belong, DiscBelongs, IsIntended, IsPlaced, KeepsFile}
+use Rattle.g_store_meaning.specs.Laws.{HasContent, IsQuiet, closed}
+use Rattle.g_store_meaning.specs.Meaning.{DumpedDirectory, IsContent, told_reels}
+use Rattle.g_store_meaning.specs.Reading.{AllTold, DevicesStandFor, View, dumped_of, holding_of, names_of, own_of, places_of, row_of, shelved_of, state_down, tree_by}
+use Rattle.g_store_meaning.proofs.BelongLemmas.{HasKept}
+use Rattle.g_store_meaning.proofs.ChangeLemmas.{closing_belongs}
+use Rattle.g_store_meaning.proofs.OneLemmas.{are_right, devices_are_one, is_shelved, on_reel}
+use Rattle.g_laws_store.proofs.StateLemmas.{is_view, rack_view, view_by}
+use Rattle.g_laws_store.proofs.UpOneLemmas.{on_all}
+use Rattle.g_laws_memory.proofs.WaitingLemmas.{from_mapped}
 use Rattle.g_dumper.proofs.BeginLemmas.{reel_named}
 use Rattle.g_dumper.proofs.ShelfLemmas.{reel_there, told_is}
 use Rattle.g_store.specs.Starting.{HasNamed, IsNamed, NamesNone, copies_named}

@@ -15,27 +15,27 @@ use Rattle.g_tape.proofs.ReadLemmas.{nothing_read}
 use Rattle.g_plain.specs.declared.faults.StoreFault.{StoreFault}
 use Rattle.g_plain.specs.declared.faults.StoreFault.TheVariants.{DiscReadFault, MountFirst, NoFilestore, NoMemory, Stopped, TapeReadFault}
 use Rattle.g_plain.specs.PlainStep.{first_fault}
-use Rattle.g_contents.specs.Contents.{Contents, Holds, recs_in}
-use Rattle.g_contents.specs.Facts.{IsTied, OnlineFacts}
-use Rattle.g_contents.proofs.HoldLemmas.{holds_one}
+use Rattle.g_disc_contents.specs.Contents.{Contents, Holds, recs_in}
+use Rattle.g_disc_contents.specs.Facts.{IsTied, OnlineFacts}
+use Rattle.g_disc_contents.proofs.HoldLemmas.{holds_one}
 use Rattle.g_online.specs.Faults.{store_fault_of}
 use Rattle.g_online.specs.declared.fault.OnlineFault.{OnlineFault}
 use Rattle.g_online.specs.declared.fault.OnlineFault.TheVariants as online
 use Rattle.g_online.specs.Begun.{HasLoaded, IsBegun}
 use Rattle.g_online.specs.Change.{changed, unjammed}
-use Rattle.g_online.specs.Done.{HasChanged, HasStopped}
+use Rattle.g_online.specs.Outcomes.{HasChanged, HasStopped}
 use Rattle.g_shelf.specs.Completed.{AreShelved, all_dumps}
-use Rattle.g_step.specs.State as state
-use Rattle.g_step.specs.CallStep.{Cut, DiscRead, Outcome, Plain, TapeRead, down}
-use Rattle.g_step.specs.DumpSteps.{Event}
-use Rattle.g_step.specs.Rising.{StartStep, Starts, adopted, coming_up, dump_adopted, fault_from, is_completed, unmounted_reel}
-use Rattle.g_state.specs.Answers.{Belongs}
-use Rattle.g_state.specs.Belong.{Belong, BelongWith, DiscBelongs, RackBelongs}
-use Rattle.g_state.specs.Laws.{IsQuiet, closed}
-use Rattle.g_state.specs.Meaning.{told_reels}
-use Rattle.g_state.specs.Reading.{AllTold, DevicesStandFor, IsView, StandsForState, holding_of, names_of, state_down, state_up}
-use Rattle.g_state.proofs.ViewLemmas.{reads_keep_state}
-use Rattle.g_state_laws.proofs.StateLemmas.{is_view}
+use Rattle.g_store_model.specs.State as state
+use Rattle.g_store_model.specs.CallStep.{Cut, DiscRead, Outcome, Plain, TapeRead, down}
+use Rattle.g_store_model.specs.DumpSteps.{Event}
+use Rattle.g_store_model.specs.Rising.{StartStep, Starts, adopted, coming_up, dump_adopted, fault_from, is_completed, unmounted_reel}
+use Rattle.g_store_meaning.specs.Answers.{Belongs}
+use Rattle.g_store_meaning.specs.Belong.{Belong, BelongWith, DiscBelongs, RackBelongs}
+use Rattle.g_store_meaning.specs.Laws.{IsQuiet, closed}
+use Rattle.g_store_meaning.specs.Meaning.{told_reels}
+use Rattle.g_store_meaning.specs.Reading.{AllTold, DevicesStandFor, IsView, StandsForState, holding_of, names_of, state_down, state_up}
+use Rattle.g_store_meaning.proofs.ViewLemmas.{reads_keep_state}
+use Rattle.g_laws_store.proofs.StateLemmas.{is_view}
 use Rattle.g_dumper.proofs.ShelfLemmas.{told_is}
 use Rattle.g_store.specs.Making.{Begun, LeadsDown, Refuses, RefusesStart, StepsDown}
 use Rattle.g_store.specs.Starting.{HasNamed, IsIntent, NamesNone, TakesOver, adoption, copies_named}

@@ -6,14 +6,14 @@ use Rattle.std.proofs.lemmas.Option.{same_Some}
 use Rattle.g_tape.specs.Rack.{AreReels, Rack}
 use Rattle.g_plain.specs.declared.faults.StoreFault.{StoreFault}
 use Rattle.g_plain.specs.declared.faults.StoreFault.TheVariants.{DiscReadFault, Stopped}
-use Rattle.g_contents.specs.Facts.{IsPinOf, OnlineFacts, Pin}
-use Rattle.g_online.specs.Done.{HasClosed}
+use Rattle.g_disc_contents.specs.Facts.{IsPinOf, OnlineFacts, Pin}
+use Rattle.g_online.specs.Outcomes.{HasClosed}
 use Rattle.g_incr.specs.Plan.{needs}
-use Rattle.g_step.specs.State as state
-use Rattle.g_step.specs.DumpSteps.{Completed, Going, Stepped}
-use Rattle.g_state.specs.Answers.{Belongs, IsStore, Told, WroteCommits}
-use Rattle.g_state.specs.Reading.{StandsForState}
-use Rattle.g_state.specs.Up.{DumpFacts, IsOpen, StoreFacts, content_in}
+use Rattle.g_store_model.specs.State as state
+use Rattle.g_store_model.specs.DumpSteps.{Completed, Going, Stepped}
+use Rattle.g_store_meaning.specs.Answers.{Belongs, IsStore, Told, WroteCommits}
+use Rattle.g_store_meaning.specs.Reading.{StandsForState}
+use Rattle.g_store_meaning.specs.Up.{DumpFacts, IsOpen, StoreFacts, content_in}
 use Rattle.g_dumper.specs.Keeps.{KeepsStore, behind_step, spent_with, up_with}
 use Rattle.g_dumper.specs.Steps.{Stepping}
 use Rattle.g_dumper.proofs.KeepLemmas.{content_told}

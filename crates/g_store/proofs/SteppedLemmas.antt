@@ -20,29 +20,29 @@ use Rattle.g_plain.specs.declared.faults.StoreFault.TheVariants.{DiscReadFault, 
 use Rattle.g_plain.specs.PlainTree.{FileRow, Tree}
 use Rattle.g_tree.specs.Records.{IsRecords, file_row_of, full_of, user_row_of}
 use Rattle.g_tree.proofs.ListLemmas.{map_of_map}
-use Rattle.g_contents.specs.Contents.{Contents, File, Holds, contents_of, copied_rec, recs_in, with_copies}
-use Rattle.g_contents.specs.Facts.{OnlineFacts, Pin, noted}
+use Rattle.g_disc_contents.specs.Contents.{Contents, File, Holds, contents_of, copied_rec, recs_in, with_copies}
+use Rattle.g_disc_contents.specs.Facts.{OnlineFacts, Pin, noted}
 use Rattle.g_online.specs.Change.{closed}
-use Rattle.g_online.specs.Done.{HasClosed, StoppedClosing}
+use Rattle.g_online.specs.Outcomes.{HasClosed, StoppedClosing}
 use Rattle.g_incr.specs.Layout.{Dump}
 use Rattle.g_incr.specs.Plan.{IsContentAt, dump_of, needs}
 use Rattle.g_shelf.specs.Completed.{AreShelved, all_dumps}
-use Rattle.g_step.specs.State as state
-use Rattle.g_step.specs.CallStep.{Cut, DiscRead, Outcome, Plain, down}
-use Rattle.g_step.specs.DumpSteps.{Completed, DumpStep, Going, Stepped, UsedByCut, completed, kept_now, marked, shelved, uses, with_noted, with_shelved, with_used, writes_content}
-use Rattle.g_state.specs.Answers.{Belongs, IsStore, Raised, Told}
-use Rattle.g_state.specs.Belong.{DiscBelongs, KeepsFile}
-use Rattle.g_state.specs.Meaning.{DumpedDirectory, told_reels}
-use Rattle.g_state.specs.Reading.{AllTold, HasText, IsView, Opened, OpensTo, StandsForState, View, dumped_of, holding_of, names_of, open_of, own_of, places_of, row_of, shelved_of, state_up, tree_by, users_not_in, waiting_of}
-use Rattle.g_state.specs.Up.{DumpFacts, IsOpen, IsReady, IsUp, StoreFacts, content_in, with_dump}
-use Rattle.g_state.proofs.DirectoryLemmas.{copied_recs}
-use Rattle.g_state_laws.proofs.ClosingLemmas.{closing_stays}
-use Rattle.g_state_laws.proofs.PinLemmas.{OtherStamp}
-use Rattle.g_state_laws.proofs.StateLemmas.{is_view, view_by, with_there}
-use Rattle.g_state_laws.proofs.UpOneLemmas.{in_with, store_is_one}
-use Rattle.g_state_steps.specs.Rooms.{held_in}
-use Rattle.g_state_steps.proofs.PlaceLemmas.{places_go_by_change}
-use Rattle.g_state_steps.proofs.RoomLemmas.{files_apart}
+use Rattle.g_store_model.specs.State as state
+use Rattle.g_store_model.specs.CallStep.{Cut, DiscRead, Outcome, Plain, down}
+use Rattle.g_store_model.specs.DumpSteps.{Completed, DumpStep, Going, Stepped, UsedByCut, completed, kept_now, marked, shelved, uses, with_noted, with_shelved, with_used, writes_content}
+use Rattle.g_store_meaning.specs.Answers.{Belongs, IsStore, Raised, Told}
+use Rattle.g_store_meaning.specs.Belong.{DiscBelongs, KeepsFile}
+use Rattle.g_store_meaning.specs.Meaning.{DumpedDirectory, told_reels}
+use Rattle.g_store_meaning.specs.Reading.{AllTold, HasText, IsView, Opened, OpensTo, StandsForState, View, dumped_of, holding_of, names_of, open_of, own_of, places_of, row_of, shelved_of, state_up, tree_by, users_not_in, waiting_of}
+use Rattle.g_store_meaning.specs.Up.{DumpFacts, IsOpen, IsReady, IsUp, StoreFacts, content_in, with_dump}
+use Rattle.g_store_meaning.proofs.DirectoryLemmas.{copied_recs}
+use Rattle.g_laws_store.proofs.ClosingLemmas.{closing_stays}
+use Rattle.g_laws_store.proofs.PinLemmas.{OtherStamp}
+use Rattle.g_laws_store.proofs.StateLemmas.{is_view, view_by, with_there}
+use Rattle.g_laws_store.proofs.UpOneLemmas.{in_with, store_is_one}
+use Rattle.g_laws_memory.specs.Rooms.{held_in}
+use Rattle.g_laws_memory.proofs.PlaceLemmas.{places_go_by_change}
+use Rattle.g_laws_memory.proofs.RoomLemmas.{files_apart}
 use Rattle.g_store_calls.proofs.SeenLemmas.{Seen, stands}
 use Rattle.g_dumper.specs.Keeps.{spent_with, up_with}
 use Rattle.g_dumper.specs.Steps.{Abandoned, FailedWrite, WroteBlock}

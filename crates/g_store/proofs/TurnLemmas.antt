@@ -12,21 +12,21 @@ use Rattle.g_tape.specs.declared.fault.TapeFault.TheVariants as tape
 use Rattle.g_plain.specs.declared.faults.StoreFault.{StoreFault}
 use Rattle.g_plain.specs.declared.faults.StoreFault.TheVariants.{NoTape, NotMounted, TapeBusy}
 use Rattle.g_plain.specs.PlainStep.{first_fault}
-use Rattle.g_contents.specs.Contents.{Contents, File}
-use Rattle.g_contents.specs.Facts.{OnlineFacts}
+use Rattle.g_disc_contents.specs.Contents.{Contents, File}
+use Rattle.g_disc_contents.specs.Facts.{OnlineFacts}
 use Rattle.g_incr.specs.Plan.{Plan, dump_of}
 use Rattle.g_shelf.specs.Completed.{AreShelved}
-use Rattle.g_step.specs.State as state
-use Rattle.g_step.specs.CallStep.{Outcome, Plain}
-use Rattle.g_step.specs.DumpSteps as dumps
-use Rattle.g_state.specs.Answers.{Belongs, IsStore, Told, WroteCommits}
-use Rattle.g_state.specs.Meaning.{told_reels}
-use Rattle.g_state.specs.Reading.{AllTold, HasText, IsOpenView, IsRackView, IsView, OpensTo, Opened, StandsForState, View, open_of, state_up}
-use Rattle.g_state.specs.Up.{DumpFacts, IsOpen, IsUp, StoreFacts, with_dump}
-use Rattle.g_state.proofs.StayLemmas.{stays_open}
-use Rattle.g_state_laws.proofs.DumpingLemmas.{events_stay_up}
-use Rattle.g_state_laws.proofs.TiedLemmas.{devices_belong}
-use Rattle.g_state_steps.specs.Rooms.{held_in}
+use Rattle.g_store_model.specs.State as state
+use Rattle.g_store_model.specs.CallStep.{Outcome, Plain}
+use Rattle.g_store_model.specs.DumpSteps as dumps
+use Rattle.g_store_meaning.specs.Answers.{Belongs, IsStore, Told, WroteCommits}
+use Rattle.g_store_meaning.specs.Meaning.{told_reels}
+use Rattle.g_store_meaning.specs.Reading.{AllTold, HasText, IsOpenView, IsRackView, IsView, OpensTo, Opened, StandsForState, View, open_of, state_up}
+use Rattle.g_store_meaning.specs.Up.{DumpFacts, IsOpen, IsUp, StoreFacts, with_dump}
+use Rattle.g_store_meaning.proofs.StayLemmas.{stays_open}
+use Rattle.g_laws_store.proofs.DumpingLemmas.{events_stay_up}
+use Rattle.g_laws_store.proofs.TiedLemmas.{devices_belong}
+use Rattle.g_laws_memory.specs.Rooms.{held_in}
 use Rattle.g_store.specs.Refusing.{DoneOr, is_on, mount_refuses, rack_answer, unmount_refuses}
 use Rattle.g_store.specs.Events.{AnswersEvent, LeadsBy, Mounts, Unmounts}
 use Rattle.g_store.proofs.EventLemmas.{held_by, leads_same, none_written, refused}

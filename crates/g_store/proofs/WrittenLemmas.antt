@@ -10,11 +10,11 @@ use Rattle.g_tape.specs.Rack.{AreReels, reel, with_reel}
 use Rattle.g_tape.specs.Reads.{unread}
 use Rattle.g_tape.specs.Reel.{Reel, Remains, Shortened, Torn, Unchanged, left_by}
 use Rattle.g_incr.specs.Layout.{Dump}
-use Rattle.g_step.specs.State as state
-use Rattle.g_step.specs.DumpSteps.{with_shelved, with_used}
-use Rattle.g_state.specs.Reading.{row_of, shelved_of}
-use Rattle.g_state.specs.Up.{with_dump}
-use Rattle.g_state_laws.proofs.RecordLemmas.{pairs_head, pairs_tail}
+use Rattle.g_store_model.specs.State as state
+use Rattle.g_store_model.specs.DumpSteps.{with_shelved, with_used}
+use Rattle.g_store_meaning.specs.Reading.{row_of, shelved_of}
+use Rattle.g_store_meaning.specs.Up.{with_dump}
+use Rattle.g_laws_store.proofs.RecordLemmas.{pairs_head, pairs_tail}
 use Rattle.g_dumper.proofs.BeginLemmas.{reel_named}
 
 abbrev serials : List Reel → List ℕ

@@ -1,8 +1,8 @@
 -- A DEVICE IS ARMED, and nothing changes of what the store means.
-use Rattle.g_step.specs.State.{State}
-use Rattle.g_state.specs.Answers.{Belongs, Told}
-use Rattle.g_state.specs.Reading.{StandsForState}
-use Rattle.g_state.specs.Up.{StoreFacts}
+use Rattle.g_store_model.specs.State.{State}
+use Rattle.g_store_meaning.specs.Answers.{Belongs, Told}
+use Rattle.g_store_meaning.specs.Reading.{StandsForState}
+use Rattle.g_store_meaning.specs.Up.{StoreFacts}
 
 pub record MeansTheSame (old new : StoreFacts) : Type 0 where
   pub told : Told old → Told new

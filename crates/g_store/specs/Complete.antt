@@ -6,16 +6,16 @@ use Rattle.g_disc.specs.Disc.{DiscState}
 use Rattle.g_tape.specs.Rack.{AreReels, Rack, is_mounted, reel}
 use Rattle.g_plain.specs.declared.faults.StoreFault.{StoreFault}
 use Rattle.g_plain.specs.declared.faults.StoreFault.TheVariants.{NoMemory}
-use Rattle.g_contents.specs.Contents.{Contents, Holds}
+use Rattle.g_disc_contents.specs.Contents.{Contents, Holds}
 use Rattle.g_incr.specs.Layout.{Dump}
 use Rattle.g_incr.specs.Plan.{needs}
 use Rattle.g_shelf.specs.Completed.{AreShelved, all_dumps}
 use Rattle.g_shelf.specs.Last.{first_unmounted}
-use Rattle.g_state.specs.Answers.{Belongs, Told}
-use Rattle.g_state.specs.Belong.{Belong}
-use Rattle.g_state.specs.Meaning.{told_reels}
-use Rattle.g_state.specs.Reading.{ReelsTold}
-use Rattle.g_state.specs.Up.{StoreFacts}
+use Rattle.g_store_meaning.specs.Answers.{Belongs, Told}
+use Rattle.g_store_meaning.specs.Belong.{Belong}
+use Rattle.g_store_meaning.specs.Meaning.{told_reels}
+use Rattle.g_store_meaning.specs.Reading.{ReelsTold}
+use Rattle.g_store_meaning.specs.Up.{StoreFacts}
 use Rattle.g_process.specs.Planned.{IsFree, process_plan}
 use Rattle.g_process.specs.Processing.{Processes, process_refuses}
 use Rattle.g_store.specs.Making.{RefusesFormat, RefusesRestore, RefusesStart}

@@ -7,17 +7,17 @@ use Rattle.g_tape.specs.Rack.{changed, reel}
 use Rattle.g_plain.specs.declared.faults.StoreFault.{StoreFault}
 use Rattle.g_plain.specs.declared.faults.StoreFault.TheVariants.{NoMemory, Stopped, TapeFull, TapeReadFault}
 use Rattle.g_plain.specs.PlainTree.{input_name}
-use Rattle.g_step.specs.State.{State, Holding, OpenDump}
-use Rattle.g_step.specs.CallStep.{Outcome, Plain}
-use Rattle.g_step.specs.DumpSteps.{OpenStep, DumpStep, Stepped, Going, Completed, MigrateStep, MountStep, UnmountStep, migrate_refuses}
-use Rattle.g_state.specs.Up.{StoreFacts}
-use Rattle.g_state.specs.Reading.{StandsForState, holding_of}
-use Rattle.g_state.specs.Answers.{Belongs, HasCause, IsStore, Raised, Told, WroteCommits}
-use Rattle.g_contents.specs.Contents.{recs_in}
-use Rattle.g_contents.specs.Facts.{OnlineFacts}
+use Rattle.g_store_model.specs.State.{State, Holding, OpenDump}
+use Rattle.g_store_model.specs.CallStep.{Outcome, Plain}
+use Rattle.g_store_model.specs.DumpSteps.{OpenStep, DumpStep, Stepped, Going, Completed, MigrateStep, MountStep, UnmountStep, migrate_refuses}
+use Rattle.g_store_meaning.specs.Up.{StoreFacts}
+use Rattle.g_store_meaning.specs.Reading.{StandsForState, holding_of}
+use Rattle.g_store_meaning.specs.Answers.{Belongs, HasCause, IsStore, Raised, Told, WroteCommits}
+use Rattle.g_disc_contents.specs.Contents.{recs_in}
+use Rattle.g_disc_contents.specs.Facts.{OnlineFacts}
 use Rattle.g_online.specs.declared.change.Change.{Change}
 use Rattle.g_online.specs.declared.change.Change.TheVariants.{Unload}
-use Rattle.g_online.specs.Done.{HasChanged, HasStopped}
+use Rattle.g_online.specs.Outcomes.{HasChanged, HasStopped}
 use Rattle.g_store.specs.Naming.{IsNamedFile}
 use Rattle.g_store.specs.Refusing.{DoneOr, IsExact, capacity_of, mount_refuses, needs_now, open_refuses, unmount_refuses}
 

@@ -12,20 +12,20 @@ use Rattle.g_shelf.specs.Last.{first_unmounted}
 use Rattle.g_plain.specs.declared.faults.StoreFault.{StoreFault}
 use Rattle.g_plain.specs.declared.faults.StoreFault.TheVariants.{NoMemory, NoFilestore, NoDump, DiscReadFault, TapeReadFault, Stopped, RackNotEmpty, RackNotMounted, MountFirst}
 use Rattle.g_plain.specs.PlainTree.{formatted}
-use Rattle.g_step.specs.State.{Holding, State}
-use Rattle.g_step.specs.CallStep.{Outcome, Plain, DiscRead, TapeRead, Cut}
-use Rattle.g_step.specs.Rising.{FormatStep, StartStep, RestoreStep}
-use Rattle.g_contents.specs.Contents.{Contents, Holds, has}
-use Rattle.g_contents.specs.Facts.{OnlineFacts}
+use Rattle.g_store_model.specs.State.{Holding, State}
+use Rattle.g_store_model.specs.CallStep.{Outcome, Plain, DiscRead, TapeRead, Cut}
+use Rattle.g_store_model.specs.Rising.{FormatStep, StartStep, RestoreStep}
+use Rattle.g_disc_contents.specs.Contents.{Contents, Holds, has}
+use Rattle.g_disc_contents.specs.Facts.{OnlineFacts}
 use Rattle.g_online.specs.Begun.{AsBeforeOr, HasLoaded, WroteFirst}
 use Rattle.g_restore.specs.Lost.{LostIsNamed}
 use Rattle.g_restore.specs.Reels.{AreOnReels}
 use Rattle.g_restore.specs.Restored.{IsOfDisc, IsOfReels, IsRestored, NothingIsLost}
-use Rattle.g_state.specs.Belong.{Belong}
-use Rattle.g_state.specs.Meaning.{told_reels}
-use Rattle.g_state.specs.Up.{StoreFacts}
-use Rattle.g_state.specs.Reading.{AllTold, DevicesStandFor, ReelsTold, StandsForState, holding_of}
-use Rattle.g_state.specs.Answers.{Belongs, IsStore, Told}
+use Rattle.g_store_meaning.specs.Belong.{Belong}
+use Rattle.g_store_meaning.specs.Meaning.{told_reels}
+use Rattle.g_store_meaning.specs.Up.{StoreFacts}
+use Rattle.g_store_meaning.specs.Reading.{AllTold, DevicesStandFor, ReelsTold, StandsForState, holding_of}
+use Rattle.g_store_meaning.specs.Answers.{Belongs, IsStore, Told}
 use Rattle.g_store.specs.Refusing.{first_used}
 use Rattle.g_store.specs.Starting.{Takes}
 

@@ -2,12 +2,12 @@
 -- g_process.
 use Rattle.std.specs.Prelude.{ℕ, Result}
 use Rattle.g_plain.specs.declared.faults.StoreFault.{StoreFault}
-use Rattle.g_step.specs.State.{State}
-use Rattle.g_step.specs.Process.{ProcessStep}
-use Rattle.g_state.specs.Answers.{Belongs, Told}
-use Rattle.g_state.specs.Reading.{StandsForState}
-use Rattle.g_state.specs.Up.{StoreFacts}
-use Rattle.g_state_process.specs.Moving.{DumpsMove}
+use Rattle.g_store_model.specs.State.{State}
+use Rattle.g_store_model.specs.Process.{ProcessStep}
+use Rattle.g_store_meaning.specs.Answers.{Belongs, Told}
+use Rattle.g_store_meaning.specs.Reading.{StandsForState}
+use Rattle.g_store_meaning.specs.Up.{StoreFacts}
+use Rattle.g_laws_process.specs.Moving.{DumpsMove}
 use Rattle.g_store.specs.Events.{StepsBy}
 
 -- from the state that it stands for it goes by the step of a process, where its devices tell and belong together

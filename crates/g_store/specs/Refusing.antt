@@ -8,11 +8,11 @@ use Rattle.g_tape.specs.declared.fault.TapeFault.TheVariants as tape
 use Rattle.g_plain.specs.declared.faults.StoreFault.{StoreFault}
 use Rattle.g_plain.specs.declared.faults.StoreFault.TheVariants.{CountersSpent, DumpOpen, NoTape, NotMounted, TapeBusy}
 use Rattle.g_plain.specs.PlainStep.{first_fault}
-use Rattle.g_contents.specs.Contents.{recs_in}
-use Rattle.g_contents.specs.Facts.{OnlineFacts}
+use Rattle.g_disc_contents.specs.Contents.{recs_in}
+use Rattle.g_disc_contents.specs.Facts.{OnlineFacts}
 use Rattle.g_incr.specs.Layout.{holds}
 use Rattle.g_incr.specs.Plan.{blocks_of, waiting}
-use Rattle.g_state.specs.Up.{DumpFacts, StoreFacts}
+use Rattle.g_store_meaning.specs.Up.{DumpFacts, StoreFacts}
 
 -- An event that asks no device for what it holds: it is refused for this, and nothing has changed, or it is done.
 abbrev pub DoneOr : {A : Type 0} → Option StoreFault → StoreFacts → StoreFacts → Result A StoreFault → StoreFacts → Type 0

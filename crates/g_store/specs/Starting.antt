@@ -11,15 +11,15 @@ use Rattle.g_tape.specs.Rack.{Rack, is_mounted, reel}
 use Rattle.g_tape.specs.Reads.{OnlyReads, blocks_of}
 use Rattle.g_plain.specs.declared.faults.StoreFault.{StoreFault}
 use Rattle.g_plain.specs.declared.faults.StoreFault.TheVariants.{MountFirst, NoMemory, Stopped, TapeReadFault}
-use Rattle.g_contents.specs.Contents.{recs_in}
-use Rattle.g_contents.specs.Facts.{IsTied, OnlineFacts}
+use Rattle.g_disc_contents.specs.Contents.{recs_in}
+use Rattle.g_disc_contents.specs.Facts.{IsTied, OnlineFacts}
 use Rattle.g_online.specs.declared.change.Change.{Change}
 use Rattle.g_online.specs.declared.change.Change.TheVariants.{Adopt}
-use Rattle.g_online.specs.Done.{HasChanged, HasStopped}
+use Rattle.g_online.specs.Outcomes.{HasChanged, HasStopped}
 use Rattle.g_incr.specs.declared.note.DumpNote.{DumpNote}
 use Rattle.g_incr.specs.Layout.{Dump, IsDump}
 use Rattle.g_shelf.specs.Completed.{AreCompleted}
-use Rattle.g_step.specs.State.{copy_entry}
+use Rattle.g_store_model.specs.State.{copy_entry}
 
 -- the intent names the dump of this note
 abbrev pub names : Intent → DumpNote → Bool

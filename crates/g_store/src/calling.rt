@@ -15,7 +15,7 @@ use std::alloc::Global;
 impl<D: Disc, T: Tapes> Filestore for Store<D, T> {
     ghost use Rattle.std.specs.Prelude.{not};
     ghost use Rattle.g_tape.specs.Rack.{is_mounted, reel};
-    ghost use Rattle.g_state.specs.Answers.{Answers};
+    ghost use Rattle.g_store_meaning.specs.Answers.{Answers};
 
     ghost is_spent = { λ s. s.spent };
 

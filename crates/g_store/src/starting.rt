@@ -5,7 +5,7 @@ ghost use Rattle.g_base.specs.Counts.{Rose};
 ghost use Rattle.g_entry.specs.FileFields.{IsFile};
 ghost use Rattle.g_tape.specs.Rack.{is_mounted, reel};
 ghost use Rattle.g_tape.specs.Reads.{OnlyReads};
-ghost use Rattle.g_contents.specs.Facts.{IsTied};
+ghost use Rattle.g_disc_contents.specs.Facts.{IsTied};
 ghost use Rattle.g_store.specs.Making.{Begun, RefusesStart};
 ghost use Rattle.g_store.specs.Starting.{Adopts, HasNamed, NamesNone, TakesOver, copies_named, copy_named, has_empty, names};
 

@@ -5,10 +5,10 @@ ghost use Rattle.g_base.specs.Fuse.{armed_with};
 ghost use Rattle.g_tape.specs.Rack.{is_mounted, reel};
 ghost use Rattle.g_tree.specs.Records.{users_by_name};
 ghost use Rattle.g_incr.specs.Plan.{needs};
-ghost use Rattle.g_step.specs.State.{State};
-ghost use Rattle.g_step.specs.CallStep.{down};
-ghost use Rattle.g_state.specs.Meaning.{told_reels};
-ghost use Rattle.g_state.specs.Reading.{DevicesStandFor, StandsForState};
+ghost use Rattle.g_store_model.specs.State.{State};
+ghost use Rattle.g_store_model.specs.CallStep.{down};
+ghost use Rattle.g_store_meaning.specs.Meaning.{told_reels};
+ghost use Rattle.g_store_meaning.specs.Reading.{DevicesStandFor, StandsForState};
 ghost use Rattle.g_store.specs.Arming.{MeansTheSame};
 
 use g_disc::Disc;
@@ -33,8 +33,8 @@ pub struct Store<D: Disc, T: Tapes> {
 }
 
 impl<D: Disc, T: Tapes> Model for Store<D, T> {
-    ghost use Rattle.g_state.specs.Up.{StoreFacts};
-    ghost use Rattle.g_state.specs.Answers.{IsStore};
+    ghost use Rattle.g_store_meaning.specs.Up.{StoreFacts};
+    ghost use Rattle.g_store_meaning.specs.Answers.{IsStore};
 
     ghost Value = { StoreFacts };
 

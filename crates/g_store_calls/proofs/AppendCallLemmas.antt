@@ -21,12 +21,12 @@ use Rattle.g_tree.proofs.NamedLemmas.{zeros_fit}
 use Rattle.g_tree.proofs.RecordLemmas.{numbers_apart}
 use Rattle.g_tree.proofs.RightLemmas.{row_is}
 use Rattle.g_tree.proofs.RuleLemmas.{one_of_key}
-use Rattle.g_contents.specs.Contents.{File, recs_in}
-use Rattle.g_contents.specs.Facts.{IsTied, OnlineFacts}
-use Rattle.g_state.specs.Answers.{Answers, IsStore}
-use Rattle.g_state.specs.Up.{StoreFacts}
-use Rattle.g_state_calls.specs.Calls.{IsVersionOf}
-use Rattle.g_state_steps.proofs.WaitingLemmas.{from_mapped, mapped_there}
+use Rattle.g_disc_contents.specs.Contents.{File, recs_in}
+use Rattle.g_disc_contents.specs.Facts.{IsTied, OnlineFacts}
+use Rattle.g_store_meaning.specs.Answers.{Answers, IsStore}
+use Rattle.g_store_meaning.specs.Up.{StoreFacts}
+use Rattle.g_laws_calls.specs.Calls.{IsVersionOf}
+use Rattle.g_laws_memory.proofs.WaitingLemmas.{from_mapped, mapped_there}
 use Rattle.g_online.specs.declared.change.Change.TheVariants.{PutFile}
 use Rattle.g_migrate.proofs.MigrationLemmas.{rules_here}
 use Rattle.g_retrieve.specs.Brought.{HasCopied}

@@ -14,15 +14,15 @@ use Rattle.g_plain.specs.declared.faults.StoreFault.{StoreFault}
 use Rattle.g_plain.specs.declared.faults.StoreFault.TheVariants.{DiscReadFault}
 use Rattle.g_tree.specs.Records.{IsRecords, full_of, name_of_file}
 use Rattle.g_tree.proofs.RuleLemmas.{one_of_key}
-use Rattle.g_contents.specs.Contents.{File, recs_in}
-use Rattle.g_contents.specs.Facts.{IsTied, OnlineFacts}
+use Rattle.g_disc_contents.specs.Contents.{File, recs_in}
+use Rattle.g_disc_contents.specs.Facts.{IsTied, OnlineFacts}
 use Rattle.g_online.specs.declared.change.Change.TheVariants.{PutFile}
 use Rattle.g_online.specs.declared.fault.OnlineFault.{OnlineFault}
 use Rattle.g_online.specs.declared.fault.OnlineFault.TheVariants as online
 use Rattle.g_online.specs.declared.unjam.Unjam.{Unjam}
 use Rattle.g_online.specs.Allowed.{Lies}
 use Rattle.g_online.specs.Faults.{store_fault_of}
-use Rattle.g_state_steps.proofs.UnjamLemmas.{numbers_apart}
+use Rattle.g_laws_memory.proofs.UnjamLemmas.{numbers_apart}
 use Rattle.g_migrate.proofs.MigrationLemmas.{rules_here}
 use Rattle.g_retrieve.specs.Brought.{HasReadCopy, IsOnTape}
 use Rattle.g_retrieve.proofs.AllowLemmas.{away_filled}

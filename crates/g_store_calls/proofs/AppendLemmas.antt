@@ -18,17 +18,17 @@ use Rattle.g_plain.specs.declared.faults.StoreFault.TheVariants.{DiscFull, DiscR
 use Rattle.g_plain.specs.PlainStep.{fault_of}
 use Rattle.g_plain.specs.PlainTree.{FileRow, file_row, input_name}
 use Rattle.g_tree.specs.Records.{IsRecords, full_of}
-use Rattle.g_contents.specs.Contents.{File, recs_in}
-use Rattle.g_contents.specs.Facts.{OnlineFacts}
-use Rattle.g_step.specs.State.{Holding, State, is_mounted}
-use Rattle.g_step.specs.CallStep.{CallStep, DiscRead, IsUnjam, Outcome, Plain, TapeRead, is_offline, len_of, need, reel_of, room_until, version_read}
-use Rattle.g_state.specs.Answers.{Answers, Belongs, IsLostCopy, IsStore, Told, WantsCopy}
-use Rattle.g_state.specs.Meaning.{told_reels}
-use Rattle.g_state.specs.Reading.{AllTold, HasText, IsView, View, state_up}
-use Rattle.g_state.specs.Up.{StoreFacts}
-use Rattle.g_state_steps.specs.Rooms.{held_in}
-use Rattle.g_state_steps.specs.Unjam.{ArePlanned, IsUnjamPlan}
-use Rattle.g_state_steps.proofs.UnjamLemmas.{unjam_is}
+use Rattle.g_disc_contents.specs.Contents.{File, recs_in}
+use Rattle.g_disc_contents.specs.Facts.{OnlineFacts}
+use Rattle.g_store_model.specs.State.{Holding, State, is_mounted}
+use Rattle.g_store_model.specs.CallStep.{CallStep, DiscRead, IsUnjam, Outcome, Plain, TapeRead, is_offline, len_of, need, reel_of, room_until, version_read}
+use Rattle.g_store_meaning.specs.Answers.{Answers, Belongs, IsLostCopy, IsStore, Told, WantsCopy}
+use Rattle.g_store_meaning.specs.Meaning.{told_reels}
+use Rattle.g_store_meaning.specs.Reading.{AllTold, HasText, IsView, View, state_up}
+use Rattle.g_store_meaning.specs.Up.{StoreFacts}
+use Rattle.g_laws_memory.specs.Rooms.{held_in}
+use Rattle.g_laws_memory.specs.Unjam.{ArePlanned, IsUnjamPlan}
+use Rattle.g_laws_memory.proofs.UnjamLemmas.{unjam_is}
 use Rattle.g_retrieve.specs.Brought.{IsNowhere, IsOnTape}
 use Rattle.g_retrieve.specs.Keeps.{HasLostCopy, IsOver}
 use Rattle.g_retrieve.proofs.HeldLemmas.{is_lost}

@@ -24,22 +24,22 @@ use Rattle.g_plain.specs.PlainStep.{reply_to}
 use Rattle.g_plain.specs.PlainTree.{FileRow, file_row}
 use Rattle.g_tree.specs.Records.{file_row_of, full_of}
 use Rattle.g_dirs.specs.Directory.{FileEntry}
-use Rattle.g_contents.specs.Contents.{Contents, File, file_of}
-use Rattle.g_contents.specs.Facts.{IsTied, OnlineFacts}
+use Rattle.g_disc_contents.specs.Contents.{Contents, File, file_of}
+use Rattle.g_disc_contents.specs.Facts.{IsTied, OnlineFacts}
 use Rattle.g_incr.specs.Layout.{Dump}
-use Rattle.g_step.specs.State.{Holding, Place, State}
-use Rattle.g_step.specs.CallStep.{Plain, is_offline, len_of, place_of, version_read}
-use Rattle.g_state.specs.Answers.{Answers, Belongs, IsStore, ReadCopy, Told}
-use Rattle.g_state.specs.Meaning.{IsContent, told_reels}
-use Rattle.g_state.specs.Reading.{AllTold, HasText, IsView, ReelsTold, StandsForState, View, state_up}
-use Rattle.g_state.specs.Up.{StoreFacts}
-use Rattle.g_state.proofs.ViewLemmas.{reads_belong}
-use Rattle.g_state_calls.specs.Calls.{IsVersionOf, version_made}
-use Rattle.g_state_steps.specs.Rooms.{held_in}
-use Rattle.g_state_steps.specs.Unjam.{IsUnjamPlan}
+use Rattle.g_store_model.specs.State.{Holding, Place, State}
+use Rattle.g_store_model.specs.CallStep.{Plain, is_offline, len_of, place_of, version_read}
+use Rattle.g_store_meaning.specs.Answers.{Answers, Belongs, IsStore, ReadCopy, Told}
+use Rattle.g_store_meaning.specs.Meaning.{IsContent, told_reels}
+use Rattle.g_store_meaning.specs.Reading.{AllTold, HasText, IsView, ReelsTold, StandsForState, View, state_up}
+use Rattle.g_store_meaning.specs.Up.{StoreFacts}
+use Rattle.g_store_meaning.proofs.ViewLemmas.{reads_belong}
+use Rattle.g_laws_calls.specs.Calls.{IsVersionOf, version_made}
+use Rattle.g_laws_memory.specs.Rooms.{held_in}
+use Rattle.g_laws_memory.specs.Unjam.{IsUnjamPlan}
 use Rattle.g_online.specs.declared.change.Change.{Change}
 use Rattle.g_online.specs.declared.change.Change.TheVariants.{PutFile}
-use Rattle.g_online.specs.Done.{HasChanged, HasStopped}
+use Rattle.g_online.specs.Outcomes.{HasChanged, HasStopped}
 use Rattle.g_retrieve.specs.Brought.{HasCopied}
 use Rattle.g_retrieve.proofs.HeldLemmas.{copied_one}
 use Rattle.g_retrieve.proofs.KeepsLemmas.{keeps_same}

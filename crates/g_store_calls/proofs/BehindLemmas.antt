@@ -8,18 +8,18 @@ use Rattle.std.proofs.lemmas.List.Elements.{All-append, All-cons, All-contains, 
 use Rattle.g_entry.specs.declared.file_rec.FileRec.{FileRec}
 use Rattle.g_tape.specs.Reel.{Reel}
 use Rattle.g_dirs.specs.Directory.{Directory, FileEntry}
-use Rattle.g_contents.specs.Contents.{Contents, File, contents_of, file_of, has, offline_in, taken_off, with_file}
-use Rattle.g_contents.specs.Facts.{OnlineFacts, Pin}
+use Rattle.g_disc_contents.specs.Contents.{Contents, File, contents_of, file_of, has, offline_in, taken_off, with_file}
+use Rattle.g_disc_contents.specs.Facts.{OnlineFacts, Pin}
 use Rattle.g_incr.specs.Layout.{Dump}
 use Rattle.g_shelf.specs.Completed.{all_dumps}
-use Rattle.g_state.specs.Answers.{Belongs, IsStore, Told}
-use Rattle.g_state.specs.Belong.{KeepsFile, KeepsRecord}
-use Rattle.g_state.specs.Laws.{with_text}
-use Rattle.g_state.specs.Meaning.{DumpedDirectory, IsContent, files_in, told_reels}
-use Rattle.g_state.specs.Reading.{AllTold, HasText, IsOpenView, IsRackView, IsView, Opened, OpensTo, View}
-use Rattle.g_state.specs.Up.{DumpFacts, StoreFacts, content_in}
-use Rattle.g_state.proofs.OneLemmas.{same_dumps, shelves_agree}
-use Rattle.g_state_calls.proofs.FileLemmas.{offline_rec}
+use Rattle.g_store_meaning.specs.Answers.{Belongs, IsStore, Told}
+use Rattle.g_store_meaning.specs.Belong.{KeepsFile, KeepsRecord}
+use Rattle.g_store_meaning.specs.Laws.{with_text}
+use Rattle.g_store_meaning.specs.Meaning.{DumpedDirectory, IsContent, files_in, told_reels}
+use Rattle.g_store_meaning.specs.Reading.{AllTold, HasText, IsOpenView, IsRackView, IsView, Opened, OpensTo, View}
+use Rattle.g_store_meaning.specs.Up.{DumpFacts, StoreFacts, content_in}
+use Rattle.g_store_meaning.proofs.OneLemmas.{same_dumps, shelves_agree}
+use Rattle.g_laws_calls.proofs.FileLemmas.{offline_rec}
 
 pub told_then : (held now : Option (List (List ℕ))) (reels : List Reel) → is_some now ≡ is_some held → AllTold now reels → AllTold held reels
 told_then held now reels same told = record { disc = sym same ∙ told.disc; each = told.each }

@@ -20,29 +20,29 @@ use Rattle.g_plain.specs.declared.calls.StoreReply.{StoreReply}
 use Rattle.g_plain.specs.declared.faults.StoreFault.TheVariants.{Stopped}
 use Rattle.g_plain.specs.PlainStep.{fault_of, reply_to}
 use Rattle.g_tree.specs.Records.{IsRecords}
-use Rattle.g_contents.specs.Contents.{Contents, File, Holds, brought, committed, offline_in, online_with, recs_in, taken_off}
-use Rattle.g_contents.specs.Facts.{OnlineFacts}
+use Rattle.g_disc_contents.specs.Contents.{Contents, File, Holds, brought, committed, offline_in, online_with, recs_in, taken_off}
+use Rattle.g_disc_contents.specs.Facts.{OnlineFacts}
 use Rattle.g_online.specs.declared.change.Change.TheVariants.{Bring}
 use Rattle.g_online.specs.declared.unjam.Unjam.{Unjam}
 use Rattle.g_online.specs.Change.{changed, told_bytes, unjammed}
-use Rattle.g_online.specs.Done.{HasChanged, HasStopped}
+use Rattle.g_online.specs.Outcomes.{HasChanged, HasStopped}
 use Rattle.g_online.proofs.OffRuleLemmas.{rec_off}
 use Rattle.g_incr.specs.Layout.{Dump}
-use Rattle.g_step.specs.State.{Holding, OpenDump, State}
-use Rattle.g_step.specs.CallStep.{Cut, LeftByRefusal, Plain, after_call, after_unjam, brings, brings_now, down, is_offline, kept_intent, len_of, need, room_until, version_read, writes}
-use Rattle.g_state.specs.Answers.{Answers, AreCommits, Belongs, Did, From, IsStore, Leads, ReadCopy, Told}
-use Rattle.g_state.specs.Meaning.{IsContent, told_reels}
-use Rattle.g_state.specs.Reading.{AllTold, DevicesStandFor, HasText, IsOpenView, IsRackView, IsView, StandsForState, View, holding_of, names_of, open_of, row_of, state_down, state_up, tree_by}
-use Rattle.g_state.specs.Up.{DumpFacts, StoreFacts}
-use Rattle.g_state.proofs.ViewLemmas.{Stands, back, reads_keep_state}
-use Rattle.g_state_calls.specs.Calls.{IsAsked, IsBehind}
-use Rattle.g_state_calls.proofs.CallLemmas.{calls_go_by_step}
-use Rattle.g_state_calls.proofs.FileLemmas.{of_stamp, offline_recs}
-use Rattle.g_state_steps.specs.Places.{AreDistinct}
-use Rattle.g_state_steps.specs.Rooms.{held_in}
-use Rattle.g_state_steps.specs.Unjam.{IsUnjamPlan}
-use Rattle.g_state_steps.proofs.RoomLemmas.{files_apart}
-use Rattle.g_state_steps.proofs.UnjamLemmas.{numbers_apart, unjam_is}
+use Rattle.g_store_model.specs.State.{Holding, OpenDump, State}
+use Rattle.g_store_model.specs.CallStep.{Cut, LeftByRefusal, Plain, after_call, after_unjam, brings, brings_now, down, is_offline, kept_intent, len_of, need, room_until, version_read, writes}
+use Rattle.g_store_meaning.specs.Answers.{Answers, AreCommits, Belongs, Did, From, IsStore, Leads, ReadCopy, Told}
+use Rattle.g_store_meaning.specs.Meaning.{IsContent, told_reels}
+use Rattle.g_store_meaning.specs.Reading.{AllTold, DevicesStandFor, HasText, IsOpenView, IsRackView, IsView, StandsForState, View, holding_of, names_of, open_of, row_of, state_down, state_up, tree_by}
+use Rattle.g_store_meaning.specs.Up.{DumpFacts, StoreFacts}
+use Rattle.g_store_meaning.proofs.ViewLemmas.{Stands, back, reads_keep_state}
+use Rattle.g_laws_calls.specs.Calls.{IsAsked, IsBehind}
+use Rattle.g_laws_calls.proofs.CallLemmas.{calls_go_by_step}
+use Rattle.g_laws_calls.proofs.FileLemmas.{of_stamp, offline_recs}
+use Rattle.g_laws_memory.specs.Places.{AreDistinct}
+use Rattle.g_laws_memory.specs.Rooms.{held_in}
+use Rattle.g_laws_memory.specs.Unjam.{IsUnjamPlan}
+use Rattle.g_laws_memory.proofs.RoomLemmas.{files_apart}
+use Rattle.g_laws_memory.proofs.UnjamLemmas.{numbers_apart, unjam_is}
 use Rattle.g_retrieve.specs.Brought.{HasCopied, IsOnTape}
 use Rattle.g_retrieve.specs.Keeps.{KeepsDevices}
 use Rattle.g_retrieve.proofs.HeldLemmas.{copied_one}

@@ -24,14 +24,14 @@ use Rattle.g_tree.specs.Records.{ForTree, IsRecords, name_of, tree_of, user_row_
 use Rattle.g_tree.proofs.MapLemmas.{found_itself, found_one, keyed}
 use Rattle.g_tree.proofs.NamedLemmas.{user_row_named, zeros_fit}
 use Rattle.g_tree.proofs.RecordLemmas.{name_at}
-use Rattle.g_contents.specs.Contents.{Contents, committed, recs_in}
-use Rattle.g_contents.specs.Facts.{IsTied, OnlineFacts}
-use Rattle.g_state.specs.Staying.{behind}
-use Rattle.g_state.specs.Up.{DumpFacts, IsUp}
-use Rattle.g_state.proofs.ChangeLemmas.{files_belong}
-use Rattle.g_state_calls.proofs.CallLemmas.{calls_go_by_step}
-use Rattle.g_state_laws.specs.Dumping.{WereThere}
-use Rattle.g_state_laws.proofs.DumpingLemmas.{events_stay_up}
+use Rattle.g_disc_contents.specs.Contents.{Contents, committed, recs_in}
+use Rattle.g_disc_contents.specs.Facts.{IsTied, OnlineFacts}
+use Rattle.g_store_meaning.specs.Staying.{behind}
+use Rattle.g_store_meaning.specs.Up.{DumpFacts, IsUp}
+use Rattle.g_store_meaning.proofs.ChangeLemmas.{files_belong}
+use Rattle.g_laws_calls.proofs.CallLemmas.{calls_go_by_step}
+use Rattle.g_laws_store.specs.Dumping.{WereThere}
+use Rattle.g_laws_store.proofs.DumpingLemmas.{events_stay_up}
 use Rattle.g_online.specs.declared.change.Change.TheVariants.{SetUser}
 use Rattle.g_online.specs.Allowed.{IsAllowed, KeepsRules}
 use Rattle.g_online.specs.Change.{changed}

@@ -9,9 +9,9 @@ use Rattle.g_plain.specs.declared.calls.StoreCall.{StoreCall}
 use Rattle.g_plain.specs.declared.calls.StoreReply.{StoreReply}
 use Rattle.g_plain.specs.declared.faults.StoreFault.{StoreFault}
 use Rattle.g_plain.specs.declared.faults.StoreFault.TheVariants.{Stopped, WaitTape}
-use Rattle.g_contents.specs.Facts.{OnlineFacts}
-use Rattle.g_state.specs.Answers.{Answers, IsStore}
-use Rattle.g_state.specs.Up.{StoreFacts}
+use Rattle.g_disc_contents.specs.Facts.{OnlineFacts}
+use Rattle.g_store_meaning.specs.Answers.{Answers, IsStore}
+use Rattle.g_store_meaning.specs.Up.{StoreFacts}
 use Rattle.g_store_calls.specs.Answering.{AnswersOver, KeepsPlan}
 use Rattle.g_store_calls.specs.Kinds.{IsKind, stops_call}
 

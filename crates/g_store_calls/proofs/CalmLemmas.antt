@@ -16,15 +16,15 @@ use Rattle.g_plain.specs.PlainTree.{Tree, has_user}
 use Rattle.g_tree.specs.Asked.{zeros}
 use Rattle.g_tree.specs.Records.{HasLengths, tree_of}
 use Rattle.g_tree.proofs.NamedLemmas.{zeros_fit}
-use Rattle.g_contents.specs.Contents.{Contents, File, recs_in}
-use Rattle.g_contents.specs.Facts.{OnlineFacts}
-use Rattle.g_step.specs.State.{Holding, State, is_mounted}
-use Rattle.g_step.specs.CallStep.{CallStep, Plain, Planned, IsUnjam, LeftByRefusal, after_call, brings_now, early, is_offline, late, len_of, need, reel_of, room_until, version_read, wants_bytes, writes}
-use Rattle.g_state.specs.Answers.{Answers, Did, IsStore, Leads, Steps}
-use Rattle.g_state.specs.Meaning.{told_reels}
-use Rattle.g_state.specs.Reading.{AllTold, HasText, IsView, StandsForState, View, state_up}
-use Rattle.g_state.specs.Up.{StoreFacts}
-use Rattle.g_state_steps.specs.Rooms.{held_in}
+use Rattle.g_disc_contents.specs.Contents.{Contents, File, recs_in}
+use Rattle.g_disc_contents.specs.Facts.{OnlineFacts}
+use Rattle.g_store_model.specs.State.{Holding, State, is_mounted}
+use Rattle.g_store_model.specs.CallStep.{CallStep, Plain, Planned, IsUnjam, LeftByRefusal, after_call, brings_now, early, is_offline, late, len_of, need, reel_of, room_until, version_read, wants_bytes, writes}
+use Rattle.g_store_meaning.specs.Answers.{Answers, Did, IsStore, Leads, Steps}
+use Rattle.g_store_meaning.specs.Meaning.{told_reels}
+use Rattle.g_store_meaning.specs.Reading.{AllTold, HasText, IsView, StandsForState, View, state_up}
+use Rattle.g_store_meaning.specs.Up.{StoreFacts}
+use Rattle.g_laws_memory.specs.Rooms.{held_in}
 use Rattle.g_migrate.specs.Keeps.{with_online}
 use Rattle.g_store_calls.specs.Answering.{AnswersIn}
 use Rattle.g_store_calls.specs.Replies.{RefusesAs}

@@ -17,18 +17,18 @@ use Rattle.g_tree.specs.Records.{ForTree, IsRecords, by_name, full_of, number_of
 use Rattle.g_tree.proofs.MapLemmas.{found_one, keyed}
 use Rattle.g_tree.proofs.RecordLemmas.{numbers_apart}
 use Rattle.g_tree.proofs.RuleLemmas.{made_of, one_of_key}
-use Rattle.g_contents.specs.Contents.{Contents, File, committed, recs_in, without_file}
-use Rattle.g_contents.specs.Facts.{IsTied, OnlineFacts}
+use Rattle.g_disc_contents.specs.Contents.{Contents, File, committed, recs_in, without_file}
+use Rattle.g_disc_contents.specs.Facts.{IsTied, OnlineFacts}
 use Rattle.g_incr.specs.Layout.{holds}
-use Rattle.g_state.specs.Directories.{IsOwnedIn}
-use Rattle.g_state.specs.Reading.{AllTold, HasText}
-use Rattle.g_state.specs.Staying.{behind}
-use Rattle.g_state.specs.Up.{DumpFacts, IsUp}
-use Rattle.g_state.proofs.ChangeLemmas.{files_belong}
-use Rattle.g_state.proofs.StayLemmas.{stays_up}
-use Rattle.g_state_calls.specs.Calls.{IsBehind, marked}
-use Rattle.g_state_calls.proofs.CallLemmas.{calls_go_by_step}
-use Rattle.g_state_steps.proofs.WaitingLemmas.{from_mapped, mapped_there}
+use Rattle.g_store_meaning.specs.Directories.{IsOwnedIn}
+use Rattle.g_store_meaning.specs.Reading.{AllTold, HasText}
+use Rattle.g_store_meaning.specs.Staying.{behind}
+use Rattle.g_store_meaning.specs.Up.{DumpFacts, IsUp}
+use Rattle.g_store_meaning.proofs.ChangeLemmas.{files_belong}
+use Rattle.g_store_meaning.proofs.StayLemmas.{stays_up}
+use Rattle.g_laws_calls.specs.Calls.{IsBehind, marked}
+use Rattle.g_laws_calls.proofs.CallLemmas.{calls_go_by_step}
+use Rattle.g_laws_memory.proofs.WaitingLemmas.{from_mapped, mapped_there}
 use Rattle.g_online.specs.declared.change.Change.TheVariants.{EraseFile}
 use Rattle.g_online.specs.Allowed.{IsAllowed, KeepsRules, Lies}
 use Rattle.g_online.specs.Change.{changed, owner_in}

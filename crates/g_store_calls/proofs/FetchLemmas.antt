@@ -28,16 +28,16 @@ use Rattle.g_plain.specs.PlainTree.{FileRow, Tree, file_row, input_name}
 use Rattle.g_tree.specs.Records.{ForTree, HasLengths, IsRecords, full_of, tree_of}
 use Rattle.g_tree.proofs.RightLemmas.{row_is}
 use Rattle.g_tree.proofs.RuleLemmas.{one_of_key}
-use Rattle.g_contents.specs.Contents.{File, recs_in}
-use Rattle.g_contents.specs.Facts.{IsTied, OnlineFacts}
-use Rattle.g_step.specs.CallStep.{brings, new_blocks, wants_bytes, writes}
-use Rattle.g_state.specs.Answers.{Answers, IsStore}
-use Rattle.g_state.specs.Meaning.{told_reels}
-use Rattle.g_state.specs.Reading.{AllTold, IsView, View}
-use Rattle.g_state.specs.Up.{StoreFacts}
-use Rattle.g_state_steps.specs.Rooms.{held_in}
-use Rattle.g_state_steps.proofs.UnjamLemmas.{numbers_apart}
-use Rattle.g_state_steps.proofs.WaitingLemmas.{from_mapped, mapped_there}
+use Rattle.g_disc_contents.specs.Contents.{File, recs_in}
+use Rattle.g_disc_contents.specs.Facts.{IsTied, OnlineFacts}
+use Rattle.g_store_model.specs.CallStep.{brings, new_blocks, wants_bytes, writes}
+use Rattle.g_store_meaning.specs.Answers.{Answers, IsStore}
+use Rattle.g_store_meaning.specs.Meaning.{told_reels}
+use Rattle.g_store_meaning.specs.Reading.{AllTold, IsView, View}
+use Rattle.g_store_meaning.specs.Up.{StoreFacts}
+use Rattle.g_laws_memory.specs.Rooms.{held_in}
+use Rattle.g_laws_memory.proofs.UnjamLemmas.{numbers_apart}
+use Rattle.g_laws_memory.proofs.WaitingLemmas.{from_mapped, mapped_there}
 use Rattle.g_retrieve.specs.Brought.{HasCopied, IsOnTape}
 use Rattle.g_retrieve.specs.Keeps.{KeepsDevices}
 use Rattle.g_retrieve.proofs.AllowLemmas.{away_is, rules_here}

@@ -20,8 +20,8 @@ use Rattle.g_tree.specs.declared.asked.Granted.{Granted}
 use Rattle.g_tree.specs.declared.asked.Granted.TheVariants.{Input, Nothing, Output}
 use Rattle.g_tree.specs.Records.{ForTree, IsRecords, full_of, name_of_file, number_of, tree_of}
 use Rattle.g_tree.proofs.NamedLemmas.{name_found, number_there}
-use Rattle.g_contents.specs.Contents.{Contents, recs_in}
-use Rattle.g_contents.specs.Facts.{IsTied, OnlineFacts}
+use Rattle.g_disc_contents.specs.Contents.{Contents, recs_in}
+use Rattle.g_disc_contents.specs.Facts.{IsTied, OnlineFacts}
 use Rattle.g_online.specs.declared.change.Change.{Change}
 use Rattle.g_migrate.proofs.MigrationLemmas.{rules_here}
 use Rattle.g_store_calls.specs.Anew.{IsFileNamed}

@@ -13,17 +13,17 @@ use Rattle.g_plain.specs.declared.faults.StoreFault.TheVariants.{DiscReadFault}
 use Rattle.g_plain.specs.PlainStep.{fault_of, reply_to}
 use Rattle.g_plain.specs.PlainTree.{Tree}
 use Rattle.g_tree.specs.Records.{IsRecords}
-use Rattle.g_contents.specs.Contents.{File, recs_in}
-use Rattle.g_contents.specs.Facts.{IsTied, OnlineFacts}
-use Rattle.g_step.specs.State.{Holding, State}
-use Rattle.g_step.specs.CallStep.{CallStep, DiscRead, Plain, brings, brings_now, is_offline, len_of, need, new_blocks, version_read, wants_bytes, writes}
-use Rattle.g_state.specs.Answers.{Answers, Belongs, Did, IsStore, Leads, Told}
-use Rattle.g_state.specs.Meaning.{told_reels}
-use Rattle.g_state.specs.Reading.{HasText, IsOpenView, IsView, StandsForState, View, state_up}
-use Rattle.g_state.specs.Up.{StoreFacts}
-use Rattle.g_state.proofs.StayLemmas.{dump_stays_open}
-use Rattle.g_state_calls.proofs.CallLemmas.{calls_go_by_step}
-use Rattle.g_state_steps.specs.Rooms.{held_in}
+use Rattle.g_disc_contents.specs.Contents.{File, recs_in}
+use Rattle.g_disc_contents.specs.Facts.{IsTied, OnlineFacts}
+use Rattle.g_store_model.specs.State.{Holding, State}
+use Rattle.g_store_model.specs.CallStep.{CallStep, DiscRead, Plain, brings, brings_now, is_offline, len_of, need, new_blocks, version_read, wants_bytes, writes}
+use Rattle.g_store_meaning.specs.Answers.{Answers, Belongs, Did, IsStore, Leads, Told}
+use Rattle.g_store_meaning.specs.Meaning.{told_reels}
+use Rattle.g_store_meaning.specs.Reading.{HasText, IsOpenView, IsView, StandsForState, View, state_up}
+use Rattle.g_store_meaning.specs.Up.{StoreFacts}
+use Rattle.g_store_meaning.proofs.StayLemmas.{dump_stays_open}
+use Rattle.g_laws_calls.proofs.CallLemmas.{calls_go_by_step}
+use Rattle.g_laws_memory.specs.Rooms.{held_in}
 use Rattle.g_migrate.proofs.MigrationLemmas.{rules_here}
 use Rattle.g_store_calls.specs.Answering.{KeepsPlan, with_devices}
 use Rattle.g_store_calls.proofs.AskedLemmas.{has_bytes, met}
@@ -32,7 +32,7 @@ use Rattle.g_store_calls.proofs.CalmLemmas.{step_done}
 use Rattle.g_store_calls.proofs.SeenLemmas.{Seen, seen, stands}
 use Rattle.g_store_calls.proofs.TapeLemmas.{read_answers, stays}
 use Rattle.g_store_calls.proofs.WantLemmas.{Wants, granted_in, len_in, offline_in}
-use Rattle.g_state_laws.proofs.TiedLemmas.{moved}
+use Rattle.g_laws_store.proofs.TiedLemmas.{moved}
 
 -- THE FILESTORE after a read of the disc that failed
 abbrev pub with_faults : OnlineFacts → ℕ → OnlineFacts

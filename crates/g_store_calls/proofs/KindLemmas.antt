@@ -17,11 +17,11 @@ use Rattle.g_plain.proofs.StepAnswers.{own_fault}
 use Rattle.g_tree.specs.Asked.{zeros}
 use Rattle.g_tree.specs.Records.{tree_of}
 use Rattle.g_tree.proofs.NamedLemmas.{zeros_fit}
-use Rattle.g_contents.specs.Facts.{OnlineFacts}
+use Rattle.g_disc_contents.specs.Facts.{OnlineFacts}
 use Rattle.g_online.specs.declared.change.Change.{Change}
-use Rattle.g_state.specs.Answers.{Answers}
-use Rattle.g_state.specs.Up.{StoreFacts}
-use Rattle.g_state_laws.specs.Refusals.{only_tells}
+use Rattle.g_store_meaning.specs.Answers.{Answers}
+use Rattle.g_store_meaning.specs.Up.{StoreFacts}
+use Rattle.g_laws_store.specs.Refusals.{only_tells}
 use Rattle.g_store_calls.specs.Answering.{AnswersIn, AnswersOver}
 use Rattle.g_store_calls.specs.Applied.{HasApplied, answer_with}
 use Rattle.g_store_calls.specs.Kinds.{IsKind, IsSettled}

@@ -12,18 +12,18 @@ use Rattle.g_tree.specs.Records.{IsRecords}
 use Rattle.g_tree.specs.State as records
 use Rattle.g_tree.proofs.PlaceLemmas.{numbered_apart}
 use Rattle.g_tree.proofs.RuleLemmas.{one_of_key}
-use Rattle.g_contents.specs.Contents.{Contents, File, committed, has, offline_in, recs_in, taken_off}
-use Rattle.g_contents.specs.Facts.{IsTied, OnlineFacts}
+use Rattle.g_disc_contents.specs.Contents.{Contents, File, committed, has, offline_in, recs_in, taken_off}
+use Rattle.g_disc_contents.specs.Facts.{IsTied, OnlineFacts}
 use Rattle.g_online.specs.declared.change.Change.TheVariants.{PutFile}
 use Rattle.g_online.specs.declared.fault.OnlineFault.TheVariants as online
 use Rattle.g_online.specs.Allowed.{AreUnjammable, IsAllowed, IsUnjammable, KeepsRules, Lies}
 use Rattle.g_online.specs.Change.{changed, told_bytes}
-use Rattle.g_online.specs.Done.{IsApplied}
-use Rattle.g_state.specs.Laws.{with_version}
-use Rattle.g_state_calls.proofs.FileLemmas.{offline_recs, recs_with}
-use Rattle.g_state_steps.specs.Unjam.{IsUnjamPlan, is_taken}
-use Rattle.g_state_steps.proofs.UnjamLemmas.{any_found}
-use Rattle.g_state_steps.proofs.WaitingLemmas.{mapped_there}
+use Rattle.g_online.specs.Outcomes.{IsApplied}
+use Rattle.g_store_meaning.specs.Laws.{with_version}
+use Rattle.g_laws_calls.proofs.FileLemmas.{offline_recs, recs_with}
+use Rattle.g_laws_memory.specs.Unjam.{IsUnjamPlan, is_taken}
+use Rattle.g_laws_memory.proofs.UnjamLemmas.{any_found}
+use Rattle.g_laws_memory.proofs.WaitingLemmas.{mapped_there}
 use Rattle.g_migrate.proofs.MigrationLemmas.{rules_here}
 use Rattle.g_store_calls.specs.Versions.{HasMade, HasRoom, IsNext}
 use Rattle.g_store_calls.proofs.AddLemmas.{or_false, rules_committed}

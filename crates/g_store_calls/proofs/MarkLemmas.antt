@@ -3,12 +3,12 @@ use Rattle.std.proofs.Common.{◌≡◌, ℕ, true, List, [], ◌∷◌, Option,
 use Rattle.std.specs.Prelude.{◌⊎◌, IfSome}
 use Rattle.std.proofs.lemmas.Bool.{cases_eq}
 use Rattle.g_incr.specs.Layout.{holds}
-use Rattle.g_contents.specs.Contents.{with_number}
-use Rattle.g_state.specs.Directories.{Grows}
-use Rattle.g_state.specs.Staying.{OnlyGrow}
-use Rattle.g_state.specs.Up.{DumpFacts, StoreFacts}
-use Rattle.g_state_calls.specs.Calls.{marked}
-use Rattle.g_state_steps.proofs.UserLemmas.{apart_any, has_new}
+use Rattle.g_disc_contents.specs.Contents.{with_number}
+use Rattle.g_store_meaning.specs.Directories.{Grows}
+use Rattle.g_store_meaning.specs.Staying.{OnlyGrow}
+use Rattle.g_store_meaning.specs.Up.{DumpFacts, StoreFacts}
+use Rattle.g_laws_calls.specs.Calls.{marked}
+use Rattle.g_laws_memory.proofs.UserLemmas.{apart_any, has_new}
 
 -- one more
 pub grows_with : (n : ℕ) (numbers : List ℕ) → Grows numbers (with_number n numbers)

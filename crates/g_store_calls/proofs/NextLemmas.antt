@@ -22,11 +22,11 @@ use Rattle.g_tree.specs.State.{with_file}
 use Rattle.g_tree.proofs.MapLemmas.{found_one, keyed}
 use Rattle.g_tree.proofs.PutLemmas as found
 use Rattle.g_tree.proofs.RightLemmas.{number_found}
-use Rattle.g_contents.specs.Contents.{recs_in}
-use Rattle.g_contents.specs.Facts.{IsTied, OnlineFacts}
+use Rattle.g_disc_contents.specs.Contents.{recs_in}
+use Rattle.g_disc_contents.specs.Facts.{IsTied, OnlineFacts}
 use Rattle.g_online.specs.Allowed.{KeepsRules}
-use Rattle.g_state_calls.specs.Calls.{IsVersionOf}
-use Rattle.g_state_laws.proofs.RecordLemmas.{apart_in, from_filter, pairs_append}
+use Rattle.g_laws_calls.specs.Calls.{IsVersionOf}
+use Rattle.g_laws_store.proofs.RecordLemmas.{apart_in, from_filter, pairs_append}
 use Rattle.g_migrate.proofs.MigrationLemmas.{rules_here}
 use Rattle.g_store_calls.specs.Versions.{IsNext}
 

@@ -23,14 +23,14 @@ use Rattle.g_tree.specs.Records.{ForTree, IsRecords, number_of, tree_of}
 use Rattle.g_tree.proofs.NamedLemmas.{zeros_fit}
 use Rattle.g_tree.proofs.RecordLemmas.{file_there, newest_few, newest_is}
 use Rattle.g_tree.proofs.RuleLemmas.{count_files}
-use Rattle.g_contents.specs.Contents.{recs_in}
-use Rattle.g_contents.specs.Facts.{IsTied, OnlineFacts}
-use Rattle.g_state.specs.Answers.{Answers, IsStore, Told}
-use Rattle.g_state.specs.Meaning.{told_reels}
-use Rattle.g_state.specs.Reading.{AllTold, IsView, View}
-use Rattle.g_state.specs.Up.{StoreFacts}
-use Rattle.g_state_calls.specs.Calls.{IsVersionOf, version_made}
-use Rattle.g_state_steps.specs.Rooms.{held_in}
+use Rattle.g_disc_contents.specs.Contents.{recs_in}
+use Rattle.g_disc_contents.specs.Facts.{IsTied, OnlineFacts}
+use Rattle.g_store_meaning.specs.Answers.{Answers, IsStore, Told}
+use Rattle.g_store_meaning.specs.Meaning.{told_reels}
+use Rattle.g_store_meaning.specs.Reading.{AllTold, IsView, View}
+use Rattle.g_store_meaning.specs.Up.{StoreFacts}
+use Rattle.g_laws_calls.specs.Calls.{IsVersionOf, version_made}
+use Rattle.g_laws_memory.specs.Rooms.{held_in}
 use Rattle.g_migrate.specs.Keeps.{with_online}
 use Rattle.g_store_calls.specs.Answering.{AnswersOver, KeepsPlan, with_devices}
 use Rattle.g_store_calls.specs.Applied.{answer_with}

@@ -10,21 +10,21 @@ use Rattle.g_plain.specs.declared.calls.StoreCall.{StoreCall}
 use Rattle.g_plain.specs.declared.calls.StoreReply.{StoreReply}
 use Rattle.g_plain.specs.declared.faults.StoreFault.{StoreFault}
 use Rattle.g_plain.specs.declared.faults.StoreFault.TheVariants.{DiscReadFault, NoCopy, Stopped, TapeReadFault}
-use Rattle.g_contents.specs.Facts.{IsTied, OnlineFacts}
-use Rattle.g_step.specs.State.{State}
-use Rattle.g_step.specs.CallStep.{CallStep, Outcome}
-use Rattle.g_state.specs.Answers.{Answers, Belongs, Did, IsLostCopy, IsStore, Leads, Raised, Steps, Told}
-use Rattle.g_state.specs.Meaning.{told_reels}
-use Rattle.g_state.specs.Reading.{IsOpenView, IsView, ReelsTold, StandsForState, View, state_up}
-use Rattle.g_state.specs.Up.{IsUp, StoreFacts}
-use Rattle.g_state.proofs.StayLemmas.{dump_stays_open}
-use Rattle.g_state_steps.specs.Rooms.{held_in}
+use Rattle.g_disc_contents.specs.Facts.{IsTied, OnlineFacts}
+use Rattle.g_store_model.specs.State.{State}
+use Rattle.g_store_model.specs.CallStep.{CallStep, Outcome}
+use Rattle.g_store_meaning.specs.Answers.{Answers, Belongs, Did, IsLostCopy, IsStore, Leads, Raised, Steps, Told}
+use Rattle.g_store_meaning.specs.Meaning.{told_reels}
+use Rattle.g_store_meaning.specs.Reading.{IsOpenView, IsView, ReelsTold, StandsForState, View, state_up}
+use Rattle.g_store_meaning.specs.Up.{IsUp, StoreFacts}
+use Rattle.g_store_meaning.proofs.StayLemmas.{dump_stays_open}
+use Rattle.g_laws_memory.specs.Rooms.{held_in}
 use Rattle.g_retrieve.specs.Keeps.{IsOver}
 use Rattle.g_retrieve.proofs.KeepsLemmas.{keeps_same}
 use Rattle.g_store_calls.specs.Answering.{with_devices}
 use Rattle.g_store_calls.specs.Asking.{HasAsked}
 use Rattle.g_store_calls.proofs.SeenLemmas.{Seen, seen, stands}
-use Rattle.g_state_laws.proofs.TiedLemmas.{moved}
+use Rattle.g_laws_store.proofs.TiedLemmas.{moved}
 
 module _ (s : StoreFacts) (new : OnlineFacts) (after : Rack) (disc_fault tape_fault : Type 0) (unspent : s.spent ≡ false) (store : IsStore s)
     (asked : HasAsked disc_fault tape_fault s.online new s.rack after) where

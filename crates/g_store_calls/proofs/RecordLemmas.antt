@@ -14,30 +14,30 @@ use Rattle.g_plain.specs.declared.faults.StoreFault.{StoreFault}
 use Rattle.g_plain.specs.declared.faults.StoreFault.TheVariants.{DiscFull, DiscReadFault, NoMemory, Stopped, TapeReadFault, WaitTape}
 use Rattle.g_plain.specs.PlainStep.{fault_of, first_fault, reply_to}
 use Rattle.g_tree.specs.Records.{IsRecords}
-use Rattle.g_contents.specs.Commits.{Commits}
-use Rattle.g_contents.specs.Contents.{Contents, File, Holds, committed, recs_in, with_intent, with_number}
-use Rattle.g_contents.specs.Facts.{IsTied, OnlineFacts}
-use Rattle.g_contents.proofs.HoldLemmas.{holds_one}
+use Rattle.g_disc_contents.specs.Commits.{Commits}
+use Rattle.g_disc_contents.specs.Contents.{Contents, File, Holds, committed, recs_in, with_intent, with_number}
+use Rattle.g_disc_contents.specs.Facts.{IsTied, OnlineFacts}
+use Rattle.g_disc_contents.proofs.HoldLemmas.{holds_one}
 use Rattle.g_online.specs.declared.change.Change.{Change}
 use Rattle.g_online.specs.Change.{changed, need_of, touches, unjammed, unjammed_by, with_all}
-use Rattle.g_online.specs.Done.{HasChanged, HasStopped, commits_of}
+use Rattle.g_online.specs.Outcomes.{HasChanged, HasStopped, commits_of}
 use Rattle.g_incr.specs.Layout.{Dump}
-use Rattle.g_step.specs.State.{Holding, State, is_candidate, is_mounted, is_taken, place_at}
-use Rattle.g_step.specs.CallStep.{CallStep, Cut, IsUnjam, LeftByRefusal, Plain, Planned, after_call, brings_now, down, early, is_offline, late, len_of, need, reel_of, room_until, version_read, wants_bytes, writes}
-use Rattle.g_state.specs.Answers.{Answers, Belongs, Did, IsStore, Leads, Told}
-use Rattle.g_state.specs.Belong.{DiscBelongs}
-use Rattle.g_state.specs.Laws.{IsQuiet}
-use Rattle.g_state.specs.Meaning.{told_reels}
-use Rattle.g_state.specs.Reading.{AllTold, DevicesStandFor, HasText, IsOpenView, IsRackView, IsView, StandsForState, View, state_down, state_up}
-use Rattle.g_state.specs.Staying.{behind}
-use Rattle.g_state.specs.Up.{DumpFacts, IsOpen, IsUp, StoreFacts}
-use Rattle.g_state.proofs.ChangeLemmas.{intents_belong}
-use Rattle.g_state.proofs.ViewLemmas.{Stands, back}
-use Rattle.g_state.proofs.StayLemmas.{stays_open}
-use Rattle.g_state_calls.specs.Calls.{IsBehind, IsKnown, marked}
-use Rattle.g_state_laws.proofs.DumpingLemmas.{events_stay_up}
-use Rattle.g_state_laws.proofs.TiedLemmas.{devices_belong, moved}
-use Rattle.g_state_steps.specs.Rooms.{held_in}
+use Rattle.g_store_model.specs.State.{Holding, State, is_candidate, is_mounted, is_taken, place_at}
+use Rattle.g_store_model.specs.CallStep.{CallStep, Cut, IsUnjam, LeftByRefusal, Plain, Planned, after_call, brings_now, down, early, is_offline, late, len_of, need, reel_of, room_until, version_read, wants_bytes, writes}
+use Rattle.g_store_meaning.specs.Answers.{Answers, Belongs, Did, IsStore, Leads, Told}
+use Rattle.g_store_meaning.specs.Belong.{DiscBelongs}
+use Rattle.g_store_meaning.specs.Laws.{IsQuiet}
+use Rattle.g_store_meaning.specs.Meaning.{told_reels}
+use Rattle.g_store_meaning.specs.Reading.{AllTold, DevicesStandFor, HasText, IsOpenView, IsRackView, IsView, StandsForState, View, state_down, state_up}
+use Rattle.g_store_meaning.specs.Staying.{behind}
+use Rattle.g_store_meaning.specs.Up.{DumpFacts, IsOpen, IsUp, StoreFacts}
+use Rattle.g_store_meaning.proofs.ChangeLemmas.{intents_belong}
+use Rattle.g_store_meaning.proofs.ViewLemmas.{Stands, back}
+use Rattle.g_store_meaning.proofs.StayLemmas.{stays_open}
+use Rattle.g_laws_calls.specs.Calls.{IsBehind, IsKnown, marked}
+use Rattle.g_laws_store.proofs.DumpingLemmas.{events_stay_up}
+use Rattle.g_laws_store.proofs.TiedLemmas.{devices_belong, moved}
+use Rattle.g_laws_memory.specs.Rooms.{held_in}
 use Rattle.g_migrate.specs.Keeps.{with_online}
 use Rattle.g_store_calls.specs.Answering.{AnswersIn}
 use Rattle.g_store_calls.specs.Applied.{HasApplied, answer_with}

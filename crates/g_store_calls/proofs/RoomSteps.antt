@@ -7,8 +7,8 @@ use Rattle.g_plain.specs.declared.calls.StoreReply.{StoreReply}
 use Rattle.g_plain.specs.declared.faults.StoreFault.{StoreFault}
 use Rattle.g_plain.specs.declared.faults.StoreFault.TheVariants.{DiscFull, DiscReadFault, Stopped, TapeReadFault, WaitTape}
 use Rattle.g_plain.specs.PlainStep.{fault_of, first_fault, reply_to}
-use Rattle.g_step.specs.State.{Holding, State, is_mounted}
-use Rattle.g_step.specs.CallStep.{CallStep, Cut, IsUnjam, LeftByRefusal, Plain, Planned, after_call, brings_now, early, is_offline, late, len_of, need, reel_of, room_until, version_read, wants_bytes, writes}
+use Rattle.g_store_model.specs.State.{Holding, State, is_mounted}
+use Rattle.g_store_model.specs.CallStep.{CallStep, Cut, IsUnjam, LeftByRefusal, Plain, Planned, after_call, brings_now, early, is_offline, late, len_of, need, reel_of, room_until, version_read, wants_bytes, writes}
 
 module _ (u : State) (k : Holding) (who : List ℕ) (call : StoreCall) (until : ℕ) (unjam : IsUnjam u k who call until) (granted : fault_of k.tree who call ≡ None)
     (waits : (is_offline u k who call && not (is_mounted u (reel_of u k who call))) ≡ false) where

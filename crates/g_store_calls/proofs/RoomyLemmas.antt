@@ -6,17 +6,17 @@ use Rattle.g_disc.proofs.CallLemmas.{Causes-for}
 use Rattle.g_entry.specs.declared.file_rec.FileRec.{FileRec}
 use Rattle.g_plain.specs.declared.faults.StoreFault.{StoreFault}
 use Rattle.g_plain.specs.declared.faults.StoreFault.TheVariants as store
-use Rattle.g_contents.specs.Contents.{taken_off}
-use Rattle.g_contents.specs.Facts.{OnlineFacts, online_blocks, pinned_blocks, room_with}
+use Rattle.g_disc_contents.specs.Contents.{taken_off}
+use Rattle.g_disc_contents.specs.Facts.{OnlineFacts, online_blocks, pinned_blocks, room_with}
 use Rattle.g_online.specs.declared.change.Change.{Change}
 use Rattle.g_online.specs.declared.change.Change.TheVariants.{PutFile}
 use Rattle.g_online.specs.declared.fault.OnlineFault.{OnlineFault}
 use Rattle.g_online.specs.declared.fault.OnlineFault.TheVariants.{DiscFull, NoMemory, Stopped}
 use Rattle.g_online.specs.Change.{need_of}
-use Rattle.g_online.specs.Done.{IsApplied, room_for}
+use Rattle.g_online.specs.Outcomes.{IsApplied, room_for}
 use Rattle.g_online.specs.Faults.{store_fault_of}
 use Rattle.g_migrate.specs.Unjam.{IsRoomWithout}
-use Rattle.g_state_steps.specs.Unjam.{IsUnjamPlan}
+use Rattle.g_laws_memory.specs.Unjam.{IsUnjamPlan}
 use Rattle.g_store_calls.specs.Applied.{HasApplied}
 use Rattle.g_store_calls.specs.Versions.{HasMade, IsNext}
 use Rattle.g_store_calls.proofs.MakeLemmas.{made_starved, made_stopped}

@@ -1,11 +1,11 @@
 -- What a store that is up is seen as: its state is that of a right view.
 use Rattle.std.proofs.Common.{◌≡◌, Bool, false, Option, sym, subst}
-use Rattle.g_step.specs.State.{State}
-use Rattle.g_contents.specs.Facts.{OnlineFacts}
-use Rattle.g_state.specs.Meaning.{told_reels}
-use Rattle.g_state.specs.Reading.{IsOpenView, IsView, StandsForState, View, state_up}
-use Rattle.g_state.specs.Up.{DumpFacts, StoreFacts}
-use Rattle.g_state.proofs.ViewLemmas.{Stands, back, to}
+use Rattle.g_store_model.specs.State.{State}
+use Rattle.g_disc_contents.specs.Facts.{OnlineFacts}
+use Rattle.g_store_meaning.specs.Meaning.{told_reels}
+use Rattle.g_store_meaning.specs.Reading.{IsOpenView, IsView, StandsForState, View, state_up}
+use Rattle.g_store_meaning.specs.Up.{DumpFacts, StoreFacts}
+use Rattle.g_store_meaning.proofs.ViewLemmas.{Stands, back, to}
 
 pub record Seen (s : StoreFacts) (u : State) : Type 0 where
   pub view : View

@@ -21,21 +21,21 @@ use Rattle.g_tree.specs.Records.{IsRecords, full_of, name_of}
 use Rattle.g_tree.specs.State.{with_file}
 use Rattle.g_tree.proofs.RecordLemmas.{numbers_apart}
 use Rattle.g_tree.proofs.RuleLemmas.{one_of_key}
-use Rattle.g_contents.specs.Contents.{Contents, File, committed, recs_in, set_rec, with_rec}
-use Rattle.g_contents.specs.Facts.{IsTied, OnlineFacts}
-use Rattle.g_step.specs.State.{Holding, State}
-use Rattle.g_step.specs.CallStep.{IsUnjam, after_call, is_offline, need, writes}
-use Rattle.g_state.specs.Directories.{IsOwnedBy}
-use Rattle.g_state.specs.Laws.{RecordsAnew}
-use Rattle.g_state.specs.Meaning.{IsContent}
-use Rattle.g_state.specs.Reading.{AllTold, HasText, View, state_up}
-use Rattle.g_state.specs.Staying.{AreMarked, behind}
-use Rattle.g_state.specs.Up.{DumpFacts, IsUp}
-use Rattle.g_state.proofs.ChangeLemmas.{files_belong}
-use Rattle.g_state.proofs.StayLemmas.{stays_up}
-use Rattle.g_state_calls.specs.Calls.{IsBehind, IsKnown, IsRecordOf, marked}
-use Rattle.g_state_steps.specs.Rooms.{held_in}
-use Rattle.g_state_steps.proofs.WaitingLemmas.{from_mapped, mapped_there}
+use Rattle.g_disc_contents.specs.Contents.{Contents, File, committed, recs_in, set_rec, with_rec}
+use Rattle.g_disc_contents.specs.Facts.{IsTied, OnlineFacts}
+use Rattle.g_store_model.specs.State.{Holding, State}
+use Rattle.g_store_model.specs.CallStep.{IsUnjam, after_call, is_offline, need, writes}
+use Rattle.g_store_meaning.specs.Directories.{IsOwnedBy}
+use Rattle.g_store_meaning.specs.Laws.{RecordsAnew}
+use Rattle.g_store_meaning.specs.Meaning.{IsContent}
+use Rattle.g_store_meaning.specs.Reading.{AllTold, HasText, View, state_up}
+use Rattle.g_store_meaning.specs.Staying.{AreMarked, behind}
+use Rattle.g_store_meaning.specs.Up.{DumpFacts, IsUp}
+use Rattle.g_store_meaning.proofs.ChangeLemmas.{files_belong}
+use Rattle.g_store_meaning.proofs.StayLemmas.{stays_up}
+use Rattle.g_laws_calls.specs.Calls.{IsBehind, IsKnown, IsRecordOf, marked}
+use Rattle.g_laws_memory.specs.Rooms.{held_in}
+use Rattle.g_laws_memory.proofs.WaitingLemmas.{from_mapped, mapped_there}
 use Rattle.g_online.specs.declared.change.Change.TheVariants.{SetFile}
 use Rattle.g_online.specs.Allowed.{IsAllowed, KeepsRules, Lies}
 use Rattle.g_online.specs.Change.{changed}

@@ -6,8 +6,8 @@ use Rattle.g_plain.specs.declared.calls.StoreReply.{StoreReply}
 use Rattle.g_plain.specs.declared.faults.StoreFault.{StoreFault}
 use Rattle.g_plain.specs.declared.faults.StoreFault.TheVariants.{DiscFull, DiscReadFault, Stopped, TapeReadFault, WaitTape}
 use Rattle.g_plain.specs.PlainStep.{fault_of, first_fault, reply_to}
-use Rattle.g_step.specs.State.{Holding, State, is_mounted}
-use Rattle.g_step.specs.CallStep.{CallStep, IsUnjam, LeftByRefusal, Outcome, Planned, after_call, brings_now, early, is_cut, is_disc_read, is_offline, is_tape_read, late, len_of, need, reel_of, room_until, version_read, wants_bytes, writes}
+use Rattle.g_store_model.specs.State.{Holding, State, is_mounted}
+use Rattle.g_store_model.specs.CallStep.{CallStep, IsUnjam, LeftByRefusal, Outcome, Planned, after_call, brings_now, early, is_cut, is_disc_read, is_offline, is_tape_read, late, len_of, need, reel_of, room_until, version_read, wants_bytes, writes}
 
 module _ (u : State) (k : Holding) (who : List ℕ) (call : StoreCall) (o : Outcome) where
   -- the tests: it waits; its read of tape failed; too little room; its read of the disc failed; a write failed

@@ -17,18 +17,18 @@ use Rattle.g_plain.specs.declared.faults.StoreFault.{StoreFault}
 use Rattle.g_plain.specs.declared.faults.StoreFault.TheVariants.{DiscFull, DiscReadFault, NoCopy, NoMemory, Stopped, TapeReadFault, WaitTape}
 use Rattle.g_plain.specs.PlainStep.{fault_of}
 use Rattle.g_tree.specs.Records.{IsRecords}
-use Rattle.g_contents.specs.Contents.{File, recs_in}
-use Rattle.g_contents.specs.Facts.{OnlineFacts}
-use Rattle.g_step.specs.State.{Holding, State, is_mounted}
-use Rattle.g_step.specs.CallStep.{CallStep, IsUnjam, Outcome, Plain, TapeRead, brings, brings_now, is_offline, len_of, need, new_blocks, reel_of, room_until, version_read}
-use Rattle.g_state.specs.Answers.{Answers, Belongs, From, IsLostCopy, IsStore, Leads, Raised, Steps, Told, WantsCopy}
-use Rattle.g_state.specs.Meaning.{told_reels}
-use Rattle.g_state.specs.Reading.{AllTold, HasText, IsView, StandsForState, View, state_up}
-use Rattle.g_state.specs.Up.{StoreFacts}
-use Rattle.g_state.proofs.ViewLemmas.{reads_keep_state}
-use Rattle.g_state_steps.specs.Rooms.{held_in}
-use Rattle.g_state_steps.specs.Unjam.{ArePlanned, IsUnjamPlan, room_until as plan_room}
-use Rattle.g_state_steps.proofs.UnjamLemmas.{unjam_is}
+use Rattle.g_disc_contents.specs.Contents.{File, recs_in}
+use Rattle.g_disc_contents.specs.Facts.{OnlineFacts}
+use Rattle.g_store_model.specs.State.{Holding, State, is_mounted}
+use Rattle.g_store_model.specs.CallStep.{CallStep, IsUnjam, Outcome, Plain, TapeRead, brings, brings_now, is_offline, len_of, need, new_blocks, reel_of, room_until, version_read}
+use Rattle.g_store_meaning.specs.Answers.{Answers, Belongs, From, IsLostCopy, IsStore, Leads, Raised, Steps, Told, WantsCopy}
+use Rattle.g_store_meaning.specs.Meaning.{told_reels}
+use Rattle.g_store_meaning.specs.Reading.{AllTold, HasText, IsView, StandsForState, View, state_up}
+use Rattle.g_store_meaning.specs.Up.{StoreFacts}
+use Rattle.g_store_meaning.proofs.ViewLemmas.{reads_keep_state}
+use Rattle.g_laws_memory.specs.Rooms.{held_in}
+use Rattle.g_laws_memory.specs.Unjam.{ArePlanned, IsUnjamPlan, room_until as plan_room}
+use Rattle.g_laws_memory.proofs.UnjamLemmas.{unjam_is}
 use Rattle.g_migrate.proofs.MigrationLemmas.{rules_here}
 use Rattle.g_retrieve.specs.Keeps.{HasLostCopy, IsOver, KeepsDevices}
 use Rattle.g_retrieve.proofs.KeepsLemmas.{keeps_same}

@@ -31,17 +31,17 @@ use Rattle.g_tree.proofs.MapLemmas.{found_one, keyed, with_value}
 use Rattle.g_tree.proofs.NamedLemmas.{zeros_fit}
 use Rattle.g_tree.proofs.RecordLemmas.{file_entries, newest_is, user_there}
 use Rattle.g_tree.proofs.RuleLemmas.{numbered_is}
-use Rattle.g_contents.specs.Contents.{recs_in}
-use Rattle.g_contents.specs.Facts.{OnlineFacts}
-use Rattle.g_step.specs.State.{Holding, State}
-use Rattle.g_step.specs.CallStep.{brings_now, is_offline, need, writes}
-use Rattle.g_state.specs.Answers.{Did, IsStore, Steps}
-use Rattle.g_state.specs.Meaning.{told_reels}
-use Rattle.g_state.specs.Reading.{AllTold, StandsForState, state_up}
-use Rattle.g_state.specs.Up.{StoreFacts}
-use Rattle.g_state_calls.proofs.CallLemmas.{calls_go_by_step}
-use Rattle.g_state_laws.specs.Refusals.{only_tells}
-use Rattle.g_state_steps.specs.Rooms.{held_in}
+use Rattle.g_disc_contents.specs.Contents.{recs_in}
+use Rattle.g_disc_contents.specs.Facts.{OnlineFacts}
+use Rattle.g_store_model.specs.State.{Holding, State}
+use Rattle.g_store_model.specs.CallStep.{brings_now, is_offline, need, writes}
+use Rattle.g_store_meaning.specs.Answers.{Did, IsStore, Steps}
+use Rattle.g_store_meaning.specs.Meaning.{told_reels}
+use Rattle.g_store_meaning.specs.Reading.{AllTold, StandsForState, state_up}
+use Rattle.g_store_meaning.specs.Up.{StoreFacts}
+use Rattle.g_laws_calls.proofs.CallLemmas.{calls_go_by_step}
+use Rattle.g_laws_store.specs.Refusals.{only_tells}
+use Rattle.g_laws_memory.specs.Rooms.{held_in}
 use Rattle.g_store_calls.specs.Answering.{AnswersIn}
 use Rattle.g_store_calls.specs.Replies.{AreLengths, IsThere, RefusesAs, RepliesAs, row_by, row_of}
 use Rattle.g_store_calls.proofs.CalmLemmas.{leads_same, step_done, still, texts_fit}

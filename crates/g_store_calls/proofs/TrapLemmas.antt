@@ -25,11 +25,11 @@ use Rattle.g_tree.specs.Records.{ForTree, IsRecords, by_name, file_row_of, full_
 use Rattle.g_tree.proofs.NamedLemmas.{zeros_fit}
 use Rattle.g_tree.proofs.RightLemmas.{found_named, row_is}
 use Rattle.g_tree.proofs.TrapLemmas.{are_trapped, ninth_by_number}
-use Rattle.g_contents.specs.Contents.{recs_in, set_rec}
-use Rattle.g_contents.specs.Facts.{IsTied, OnlineFacts}
-use Rattle.g_state.specs.Reading.{View}
-use Rattle.g_state_calls.specs.Calls.{modes_by}
-use Rattle.g_state_calls.proofs.CallLemmas.{calls_go_by_step}
+use Rattle.g_disc_contents.specs.Contents.{recs_in, set_rec}
+use Rattle.g_disc_contents.specs.Facts.{IsTied, OnlineFacts}
+use Rattle.g_store_meaning.specs.Reading.{View}
+use Rattle.g_laws_calls.specs.Calls.{modes_by}
+use Rattle.g_laws_calls.proofs.CallLemmas.{calls_go_by_step}
 use Rattle.g_online.specs.declared.change.Change.TheVariants.{SetFile}
 use Rattle.g_store_calls.specs.Anew.{IsFileNamed, IsTrapped}
 use Rattle.g_store_calls.specs.Replies.{RefusesAs}

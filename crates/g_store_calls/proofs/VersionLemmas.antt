@@ -24,38 +24,38 @@ use Rattle.g_plain.specs.PlainStep.{fault_of, reply_to}
 use Rattle.g_tree.specs.Records.{full_of, number_of}
 use Rattle.g_tree.proofs.RecordLemmas.{numbers_apart}
 use Rattle.g_tree.proofs.RuleLemmas.{one_of_key}
-use Rattle.g_contents.specs.Contents.{Contents, File, Holds, committed, recs_in, taken_off, with_intent, with_number}
-use Rattle.g_contents.specs.Facts.{IsTied, OnlineFacts}
-use Rattle.g_contents.proofs.HoldLemmas.{holds_one}
+use Rattle.g_disc_contents.specs.Contents.{Contents, File, Holds, committed, recs_in, taken_off, with_intent, with_number}
+use Rattle.g_disc_contents.specs.Facts.{IsTied, OnlineFacts}
+use Rattle.g_disc_contents.proofs.HoldLemmas.{holds_one}
 use Rattle.g_online.specs.declared.change.Change.TheVariants.{PutFile}
 use Rattle.g_online.specs.Allowed.{KeepsRules}
 use Rattle.g_online.specs.Change.{changed, told_bytes, with_files}
-use Rattle.g_online.specs.Done.{HasChanged, HasStopped, commits_of}
+use Rattle.g_online.specs.Outcomes.{HasChanged, HasStopped, commits_of}
 use Rattle.g_incr.specs.Layout.{Dump, holds}
 use Rattle.g_shelf.specs.Completed.{AreShelved, all_dumps}
-use Rattle.g_step.specs.State as state
-use Rattle.g_step.specs.CallStep.{CallStep, Cut, IsUnjam, LeftByRefusal, Plain, after_call, after_unjam, brings_now, down, is_offline, kept_intent, len_of, need, place_of, reel_of, room_until, version_read, writes}
-use Rattle.g_state.specs.Answers.{Belongs, Did, IsStore, Leads, ReadCopy, Told, Wrote}
-use Rattle.g_state.specs.Belong.{BelongWith, DiscBelongs, RackBelongs}
-use Rattle.g_state.specs.Directories.{IsOwnedBy}
-use Rattle.g_state.specs.Laws.{IsNewVersion, IsQuiet, with_text, with_version}
-use Rattle.g_state.specs.Meaning.{told_reels}
-use Rattle.g_state.specs.Reading.{AllTold, DevicesStandFor, IsView, StandsForState, View, holding_of, names_of, open_of, row_of, state_down, state_up, tree_by}
-use Rattle.g_state.specs.Staying.{AreMarked, behind}
-use Rattle.g_state.specs.Up.{DumpFacts, IsOpen, IsUp, StoreFacts}
-use Rattle.g_state.proofs.BelongLemmas.{new_version_belongs}
-use Rattle.g_state.proofs.ChangeLemmas.{files_belong, intents_belong}
-use Rattle.g_state.proofs.StayLemmas.{stays_open, stays_up}
-use Rattle.g_state.proofs.ViewLemmas.{Stands, back, reads_keep_state}
-use Rattle.g_state_calls.specs.Calls.{IsAsked, IsBehind, IsVersionOf, marked, version_made}
-use Rattle.g_state_calls.proofs.CallLemmas.{calls_go_by_step}
-use Rattle.g_state_calls.proofs.FileLemmas.{offline_recs}
-use Rattle.g_state_laws.proofs.DumpingLemmas.{events_stay_up}
-use Rattle.g_state_laws.proofs.TiedLemmas.{devices_belong, moved}
-use Rattle.g_state_steps.specs.Rooms.{held_in}
-use Rattle.g_state_steps.specs.Unjam.{ArePlanned, IsUnjamPlan}
-use Rattle.g_state_steps.proofs.UnjamLemmas.{unjam_is}
-use Rattle.g_state_steps.proofs.WaitingLemmas.{mapped_there}
+use Rattle.g_store_model.specs.State as state
+use Rattle.g_store_model.specs.CallStep.{CallStep, Cut, IsUnjam, LeftByRefusal, Plain, after_call, after_unjam, brings_now, down, is_offline, kept_intent, len_of, need, place_of, reel_of, room_until, version_read, writes}
+use Rattle.g_store_meaning.specs.Answers.{Belongs, Did, IsStore, Leads, ReadCopy, Told, Wrote}
+use Rattle.g_store_meaning.specs.Belong.{BelongWith, DiscBelongs, RackBelongs}
+use Rattle.g_store_meaning.specs.Directories.{IsOwnedBy}
+use Rattle.g_store_meaning.specs.Laws.{IsNewVersion, IsQuiet, with_text, with_version}
+use Rattle.g_store_meaning.specs.Meaning.{told_reels}
+use Rattle.g_store_meaning.specs.Reading.{AllTold, DevicesStandFor, IsView, StandsForState, View, holding_of, names_of, open_of, row_of, state_down, state_up, tree_by}
+use Rattle.g_store_meaning.specs.Staying.{AreMarked, behind}
+use Rattle.g_store_meaning.specs.Up.{DumpFacts, IsOpen, IsUp, StoreFacts}
+use Rattle.g_store_meaning.proofs.BelongLemmas.{new_version_belongs}
+use Rattle.g_store_meaning.proofs.ChangeLemmas.{files_belong, intents_belong}
+use Rattle.g_store_meaning.proofs.StayLemmas.{stays_open, stays_up}
+use Rattle.g_store_meaning.proofs.ViewLemmas.{Stands, back, reads_keep_state}
+use Rattle.g_laws_calls.specs.Calls.{IsAsked, IsBehind, IsVersionOf, marked, version_made}
+use Rattle.g_laws_calls.proofs.CallLemmas.{calls_go_by_step}
+use Rattle.g_laws_calls.proofs.FileLemmas.{offline_recs}
+use Rattle.g_laws_store.proofs.DumpingLemmas.{events_stay_up}
+use Rattle.g_laws_store.proofs.TiedLemmas.{devices_belong, moved}
+use Rattle.g_laws_memory.specs.Rooms.{held_in}
+use Rattle.g_laws_memory.specs.Unjam.{ArePlanned, IsUnjamPlan}
+use Rattle.g_laws_memory.proofs.UnjamLemmas.{unjam_is}
+use Rattle.g_laws_memory.proofs.WaitingLemmas.{mapped_there}
 use Rattle.g_migrate.specs.Keeps.{with_online}
 use Rattle.g_store_calls.specs.Answering.{KeepsPlan}
 use Rattle.g_store_calls.specs.Versions.{HasRoom}

@@ -14,18 +14,18 @@ use Rattle.g_plain.specs.PlainStep.{fault_of}
 use Rattle.g_plain.specs.PlainTree.{FileRow, file_row}
 use Rattle.g_tree.specs.Records.{ForTree, IsRecords, file_row_of, full_of}
 use Rattle.g_tree.proofs.RightLemmas.{row_is}
-use Rattle.g_contents.specs.Contents.{File, recs_in}
-use Rattle.g_contents.specs.Facts.{OnlineFacts}
+use Rattle.g_disc_contents.specs.Contents.{File, recs_in}
+use Rattle.g_disc_contents.specs.Facts.{OnlineFacts}
 use Rattle.g_incr.specs.Layout.{Dump}
-use Rattle.g_step.specs.State.{Holding, Place, State, is_mounted, mounted_in, place_at, reel_at}
-use Rattle.g_step.specs.CallStep.{copy_serial, is_offline, len_of, place_of, reel_of, stamp_of, version_read}
-use Rattle.g_state.specs.Meaning.{told_reels}
-use Rattle.g_state.specs.Reading.{AllTold, IsView, View, place_of as place_by, row_of, state_up}
-use Rattle.g_state.specs.Up.{DumpFacts}
-use Rattle.g_state_steps.specs.Rooms.{held_in}
-use Rattle.g_state_steps.proofs.PlaceLemmas.{place_found}
-use Rattle.g_state_steps.proofs.RoomLemmas.{files_apart}
-use Rattle.g_state_steps.proofs.WaitingLemmas.{mapped_there}
+use Rattle.g_store_model.specs.State.{Holding, Place, State, is_mounted, mounted_in, place_at, reel_at}
+use Rattle.g_store_model.specs.CallStep.{copy_serial, is_offline, len_of, place_of, reel_of, stamp_of, version_read}
+use Rattle.g_store_meaning.specs.Meaning.{told_reels}
+use Rattle.g_store_meaning.specs.Reading.{AllTold, IsView, View, place_of as place_by, row_of, state_up}
+use Rattle.g_store_meaning.specs.Up.{DumpFacts}
+use Rattle.g_laws_memory.specs.Rooms.{held_in}
+use Rattle.g_laws_memory.proofs.PlaceLemmas.{place_found}
+use Rattle.g_laws_memory.proofs.RoomLemmas.{files_apart}
+use Rattle.g_laws_memory.proofs.WaitingLemmas.{mapped_there}
 use Rattle.g_store_calls.specs.Replies.{RefusesAs}
 use Rattle.g_store_calls.proofs.CalmLemmas.{texts_fit}
 

@@ -4,10 +4,10 @@ use Rattle.g_tape.specs.Rack.{Rack}
 use Rattle.g_plain.specs.declared.calls.StoreCall.{StoreCall}
 use Rattle.g_plain.specs.declared.calls.StoreReply.{StoreReply}
 use Rattle.g_plain.specs.declared.faults.StoreFault.{StoreFault}
-use Rattle.g_contents.specs.Facts.{OnlineFacts}
+use Rattle.g_disc_contents.specs.Facts.{OnlineFacts}
 use Rattle.g_incr.specs.Plan.{IsPlan}
-use Rattle.g_state.specs.Answers.{Answers, IsStore}
-use Rattle.g_state.specs.Up.{DumpFacts, StoreFacts}
+use Rattle.g_store_meaning.specs.Answers.{Answers, IsStore}
+use Rattle.g_store_meaning.specs.Up.{DumpFacts, StoreFacts}
 use Rattle.g_migrate.specs.Keeps.{with_online}
 
 abbrev pub AnswersIn : List ℕ → StoreCall → OnlineFacts → Result StoreReply StoreFault → OnlineFacts → Type 0

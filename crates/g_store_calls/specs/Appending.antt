@@ -8,10 +8,10 @@ use Rattle.g_entry.specs.declared.file_rec.TapeCopy.{TapeCopy}
 use Rattle.g_tape.specs.Rack.{Rack, is_mounted, reel}
 use Rattle.g_plain.specs.declared.faults.StoreFault.{StoreFault}
 use Rattle.g_plain.specs.declared.faults.StoreFault.TheVariants.{DiscFull, DiscReadFault, NoCopy, NoMemory, Stopped, TapeReadFault, WaitTape}
-use Rattle.g_contents.specs.Contents.{File}
-use Rattle.g_contents.specs.Facts.{OnlineFacts}
+use Rattle.g_disc_contents.specs.Contents.{File}
+use Rattle.g_disc_contents.specs.Facts.{OnlineFacts}
 use Rattle.g_online.specs.declared.change.Change.TheVariants.{PutFile}
-use Rattle.g_state_steps.specs.Unjam.{IsUnjamPlan}
+use Rattle.g_laws_memory.specs.Unjam.{IsUnjamPlan}
 use Rattle.g_retrieve.specs.Brought.{HasCopied, IsNowhere}
 use Rattle.g_store_calls.specs.Applied.{HasApplied}
 use Rattle.g_store_calls.specs.Asking.{HasAsked, IsReached}

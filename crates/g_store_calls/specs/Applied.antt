@@ -4,9 +4,9 @@ use Rattle.g_disc.specs.Disc.{Causes}
 use Rattle.g_plain.specs.declared.calls.StoreReply.{StoreReply}
 use Rattle.g_plain.specs.declared.faults.StoreFault.{StoreFault}
 use Rattle.g_plain.specs.declared.faults.StoreFault.TheVariants.{NoMemory, Stopped}
-use Rattle.g_contents.specs.Facts.{IsTied, OnlineFacts}
+use Rattle.g_disc_contents.specs.Facts.{IsTied, OnlineFacts}
 use Rattle.g_online.specs.declared.change.Change.{Change}
-use Rattle.g_online.specs.Done.{HasChanged, HasStopped}
+use Rattle.g_online.specs.Outcomes.{HasChanged, HasStopped}
 
 pub record HasApplied (change : Change) (old new : OnlineFacts) (result : Result (Unit {0}) StoreFault) : Type 0 where
   pub ok : OnOk result (HasChanged change old new)

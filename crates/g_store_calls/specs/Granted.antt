@@ -9,8 +9,8 @@ use Rattle.g_plain.specs.Grants.{name_in}
 use Rattle.g_tree.specs.Asked.{IsGranted}
 use Rattle.g_tree.specs.declared.asked.Granted.{Granted}
 use Rattle.g_tree.specs.Records.{ForTree}
-use Rattle.g_contents.specs.Contents.{recs_in}
-use Rattle.g_contents.specs.Facts.{OnlineFacts}
+use Rattle.g_disc_contents.specs.Contents.{recs_in}
+use Rattle.g_disc_contents.specs.Facts.{OnlineFacts}
 use Rattle.g_store_calls.specs.Answering.{AnswersIn, AnswersOver}
 use Rattle.g_store_calls.specs.Replies.{RefusesAs}
 

@@ -8,11 +8,11 @@ use Rattle.g_plain.specs.declared.faults.StoreFault.{StoreFault}
 use Rattle.g_plain.specs.declared.faults.StoreFault.TheVariants.{DiscFull, NoMemory, Stopped}
 use Rattle.g_tree.specs.Records.{IsRecords}
 use Rattle.g_tree.specs.State.{with_file}
-use Rattle.g_contents.specs.Contents.{recs_in}
-use Rattle.g_contents.specs.Facts.{IsTied, OnlineFacts}
+use Rattle.g_disc_contents.specs.Contents.{recs_in}
+use Rattle.g_disc_contents.specs.Facts.{IsTied, OnlineFacts}
 use Rattle.g_online.specs.declared.change.Change.TheVariants.{PutFile}
-use Rattle.g_online.specs.Done.{HasChanged, HasStopped}
-use Rattle.g_state_steps.specs.Unjam.{IsUnjamPlan}
+use Rattle.g_online.specs.Outcomes.{HasChanged, HasStopped}
+use Rattle.g_laws_memory.specs.Unjam.{IsUnjamPlan}
 
 -- the record of the next version, with these bytes
 pub record IsNext (o : OnlineFacts) (bytes : List ℕ) (r : FileRec) : Type 0 where

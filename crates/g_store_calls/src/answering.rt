@@ -1,8 +1,8 @@
 //! A job's call, whatever it is. Whether it is refused is asked once, and with it the file that its path names; then the call
 //! is taken apart, once.
 ghost use Rattle.std.specs.Prelude.{◌≡◌, IfErr, IfOk, Some, true};
-ghost use Rattle.g_contents.specs.Contents.{recs_in};
-ghost use Rattle.g_contents.specs.Facts.{IsTied};
+ghost use Rattle.g_disc_contents.specs.Contents.{recs_in};
+ghost use Rattle.g_disc_contents.specs.Facts.{IsTied};
 ghost use Rattle.g_plain.specs.Rules.{IsWithinLimits};
 ghost use Rattle.g_tape.specs.Rack.{Rack};
 ghost use Rattle.g_store_calls.specs.Answering.{AnswersIn, AnswersOver};

@@ -1,10 +1,10 @@
 //! Calls that make a user or take a file away, each by one commit; and how a change of records is answered.
 ghost use Rattle.std.specs.Prelude.{◌≡◌, ◌≤◌, None, true, ℕ};
-ghost use Rattle.g_contents.specs.Facts.{IsTied};
+ghost use Rattle.g_disc_contents.specs.Facts.{IsTied};
 ghost use Rattle.g_name.specs.declared.path.Path.{Path};
 ghost use Rattle.g_online.specs.Allowed.{IsAllowed};
 ghost use Rattle.g_online.specs.Change.{need_of};
-ghost use Rattle.g_online.specs.Done.{room_for};
+ghost use Rattle.g_online.specs.Outcomes.{room_for};
 ghost use Rattle.g_plain.specs.declared.calls.StoreCall.TheVariants as call;
 ghost use Rattle.g_plain.specs.Rules.{IsWithinLimits};
 ghost use Rattle.g_tree.specs.declared.asked.Granted.TheVariants as grant;

@@ -1,8 +1,8 @@
 //! Calls that want the bytes of a file: read from the disc, or brought back to it from tape.
 ghost use Rattle.std.specs.Prelude.{◌≡◌, Contains, false, true};
 ghost use Rattle.g_base.specs.Block as block;
-ghost use Rattle.g_contents.specs.Contents.{File};
-ghost use Rattle.g_contents.specs.Facts.{IsTied};
+ghost use Rattle.g_disc_contents.specs.Contents.{File};
+ghost use Rattle.g_disc_contents.specs.Facts.{IsTied};
 ghost use Rattle.g_entry.specs.declared.file_rec.FileRec.{FileRec};
 ghost use Rattle.g_name.specs.declared.path.Path.{Path};
 ghost use Rattle.g_plain.specs.declared.calls.StoreCall.TheVariants as call;

@@ -1,12 +1,12 @@
 //! Calls that put in a new version.
 ghost use Rattle.std.specs.Prelude.{◌≡◌, ◌<◌, ◌≤◌, ◌^◌, true, None, Some, ℕ, length};
-ghost use Rattle.g_contents.specs.Contents.{recs_in};
-ghost use Rattle.g_contents.specs.Facts.{IsTied};
+ghost use Rattle.g_disc_contents.specs.Contents.{recs_in};
+ghost use Rattle.g_disc_contents.specs.Facts.{IsTied};
 ghost use Rattle.g_name.specs.declared.full.Full.{Full};
 ghost use Rattle.g_name.specs.declared.path.Path.{Path};
 ghost use Rattle.g_plain.specs.declared.calls.StoreCall.TheVariants as call;
 ghost use Rattle.g_plain.specs.PlainTree as plain;
-ghost use Rattle.g_state_calls.specs.Calls.{IsVersionOf};
+ghost use Rattle.g_laws_calls.specs.Calls.{IsVersionOf};
 ghost use Rattle.g_tape.specs.Rack.{Rack};
 ghost use Rattle.g_tree.specs.declared.asked.Granted.TheVariants as grant;
 ghost use Rattle.g_tree.specs.Records.{ForTree, name_of_file, number_of};

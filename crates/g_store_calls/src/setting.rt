@@ -1,6 +1,6 @@
 //! Calls that put another record in the place of one: a user's budget, and a file's name and traps. Each by one commit.
 ghost use Rattle.std.specs.Prelude.{◌≡◌, ◌≤◌, ◌<◌, None, true, List, ℕ};
-ghost use Rattle.g_contents.specs.Facts.{IsTied};
+ghost use Rattle.g_disc_contents.specs.Facts.{IsTied};
 ghost use Rattle.g_name.specs.declared.full.Full.{Full};
 ghost use Rattle.g_name.specs.declared.path.Path.{Path};
 ghost use Rattle.g_plain.specs.PlainTree as plain;

@@ -2,7 +2,7 @@
 ghost use Rattle.std.specs.Prelude.{◌≡◌, ◌<◌, true, All, IfOk, ℕ, List, Some, length, map};
 ghost use Rattle.g_name.specs.declared.full.Full.{Full};
 ghost use Rattle.g_name.specs.declared.path.Path.{Path};
-ghost use Rattle.g_contents.specs.Facts.{IsTied};
+ghost use Rattle.g_disc_contents.specs.Facts.{IsTied};
 ghost use Rattle.g_plain.specs.declared.calls.StoreCall.TheVariants as call;
 ghost use Rattle.g_plain.specs.PlainTree as plain;
 ghost use Rattle.g_tree.specs.declared.asked.Granted.TheVariants as grant;

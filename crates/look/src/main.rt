@@ -5,5 +5,5 @@
 use std::process::ExitCode;
 
 fn main(rt: HostRuntime) -> ExitCode {
-    g_look_edge::run_program(&rt)
+    g_look_program::run_program(&rt)
 }

@@ -2,7 +2,7 @@
 use crate::rows::Wrong;
 use crate::system::System;
 use g_disc::{Leave, MemoryDisc};
-use g_laid_out::{disc_with, dumped, one_away};
+use g_fixtures::{disc_with, dumped, one_away};
 use g_tape::{MemoryTapes, TapeLeave};
 use std::alloc::Global;
 use std::test::Fail;

@@ -6,7 +6,7 @@ ghost use Rattle.g_tape.specs.Reel.{empty_reel};
 use g_disc::MemoryDisc;
 use g_duplex::Duplex;
 use g_duplex_tests::racks::pair;
-use g_edge::run_by_rules;
+use g_program::run_by_rules;
 use g_io::{MemorySink, MemorySource};
 use g_run::Finish;
 use g_tape::{MemoryTapes, Tapes};

@@ -4,7 +4,7 @@ ghost use Rattle.std.specs.Prelude.{◌<◌, ◌≤◌, IfOk};
 use crate::row::Row;
 use anyhow::anyhow;
 use g_disc::{Disc, Leave, MemoryDisc};
-use g_edge::run_by_rules;
+use g_program::run_by_rules;
 use g_io::{MemorySink, MemorySource};
 use g_look::list;
 use g_run::Finish;

@@ -1,5 +1,5 @@
 use Rattle.std.proofs.Common.{◌≡◌, ◌++◌, take}
-use Rattle.g_state.specs.Meaning.{files_of}
+use Rattle.g_store_meaning.specs.Meaning.{files_of}
 use Rattle.g_dumper.proofs.begin.add_files_of.Given as goal
 
 abbrev pub invariant-loop-file : goal.invariant-loop-file

@@ -10,8 +10,8 @@ unfolding padded
 returns-clause-comes c =
     let word = c.args.word.now in
     let zeros = replicate {A = ℕ} (12 - length word) 0 in
-    let behind = comes_two word zeros c.come-counted.new.reader c.come-same.new.reader c.zeros_come-zeros.new.reader c.come-same.result c.zeros_come-zeros.result c.both.result c.come-same.ensures c.zeros_come-zeros.ensures c.both.ensures in
-    comes_two (length word ∷ []) (word ++ zeros) c.args.reader.now c.come-counted.new.reader c.zeros_come-zeros.new.reader c.come-counted.result c.both.result c.both-2.result c.come-counted.ensures behind c.both-2.ensures
+    let behind = comes_two word zeros c.next_bytes_equal-counted.new.reader c.next_bytes_equal-same.new.reader c.zeros_come-zeros.new.reader c.next_bytes_equal-same.result c.zeros_come-zeros.result c.both.result c.next_bytes_equal-same.ensures c.zeros_come-zeros.ensures c.both.ensures in
+    comes_two (length word ∷ []) (word ++ zeros) c.args.reader.now c.next_bytes_equal-counted.new.reader c.zeros_come-zeros.new.reader c.next_bytes_equal-counted.result c.both.result c.both-2.result c.next_bytes_equal-counted.ensures behind c.both-2.ensures
 
 pub returns-clause-left : goal.returns-clause-left
 returns-clause-left c =

@@ -1,6 +1,6 @@
 use Rattle.std.specs.Prelude.{is_some}
 use Rattle.g_shelf.specs.Completed.{all_dumps}
-use Rattle.g_state.specs.Meaning.{told_reels}
+use Rattle.g_store_meaning.specs.Meaning.{told_reels}
 use Rattle.g_look.specs.Standing.{found_in}
 use Rattle.g_look.specs.Text.{disc_lines, rack_lines, verdict_line}
 use Rattle.g_look.proofs.ShownLemmas.{all_shown}

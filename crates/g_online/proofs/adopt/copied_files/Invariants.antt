@@ -1,5 +1,5 @@
 use Rattle.std.proofs.Common.{◌≡◌, map, take}
-use Rattle.g_contents.specs.Contents.{copied_rec}
+use Rattle.g_disc_contents.specs.Contents.{copied_rec}
 use Rattle.g_online.proofs.adopt.copied_files.Given as goal
 
 abbrev pub invariant-loop-file : goal.invariant-loop-file

@@ -1,5 +1,5 @@
 use Rattle.std.proofs.Common.{◌≡◌, drop}
-use Rattle.g_contents.specs.Contents.{copy_of}
+use Rattle.g_disc_contents.specs.Contents.{copy_of}
 use Rattle.g_online.proofs.adopt.tape_of.Given as goal
 
 abbrev pub invariant-loop-copy : goal.invariant-loop-copy

@@ -1,6 +1,6 @@
 use Rattle.std.proofs.Common.{List, Option, ◌∙◌, ap, sym}
 use Rattle.g_online.specs.declared.pinned.Pinned.{Pinned}
-use Rattle.g_online.specs.Kept.{is_pinned}
+use Rattle.g_online.specs.Invariant.{is_pinned}
 use Rattle.g_online.proofs.erase.is_kept.Goals as goal
 
 pub returns-in-Some : goal.returns-in-Some

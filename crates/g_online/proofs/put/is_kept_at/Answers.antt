@@ -1,5 +1,5 @@
 use Rattle.std.proofs.Common.{◌∙◌, ap}
-use Rattle.g_online.specs.Put.{is_pinned_at}
+use Rattle.g_online.specs.NewBytes.{is_pinned_at}
 use Rattle.g_online.proofs.put.is_kept_at.Goals as goal
 
 pub returns-in-Some : goal.returns-in-Some

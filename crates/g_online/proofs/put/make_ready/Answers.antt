@@ -2,7 +2,7 @@ use Rattle.std.proofs.Common.{◌≢◌, ◌+◌, ◌<◌, ◌∙◌, ℕ, List,
 use Rattle.g_base.specs.Block.{blocks_for}
 use Rattle.g_blocks.specs.Pool.{HasGiven, HasTaken, IsFree, IsTaken, free_count}
 use Rattle.g_copy.specs.declared.copy.DiscCopy.{DiscCopy}
-use Rattle.g_online.specs.Off.{places_off}
+use Rattle.g_online.specs.Unloading.{places_off}
 use Rattle.g_online.proofs.CopyLemmas.{Copies}
 use Rattle.g_online.proofs.NeedLemmas.{full_done, full_here, full_refused, only_here, ready_few, ready_takes}
 use Rattle.g_online.proofs.PoolLemmas.{retaken}

@@ -1,6 +1,6 @@
 use Rattle.std.proofs.Common.{ℕ, ◌∙◌, List, ap, length, sym}
 use Rattle.std.proofs.lemmas.Bool.{eq-eqb, false≢true}
-use Rattle.g_online.specs.Kept.{head_after}
+use Rattle.g_online.specs.Invariant.{head_after}
 use Rattle.g_online.proofs.RecordLemmas.{keeps_marked, keeps_then}
 use Rattle.g_online.proofs.UnjamLemmas.{takes_off, unjam_copies, unjam_marked}
 use Rattle.g_online.proofs.put.unjam_first.Goals as goal

@@ -1,6 +1,6 @@
 use Rattle.std.proofs.Common.{◌≤◌, ◌∙◌, List, ap, length, subst}
 use Rattle.g_entry.specs.declared.file_rec.FileRec.{FileRec}
-use Rattle.g_contents.specs.Facts.{OnlineFacts}
+use Rattle.g_disc_contents.specs.Facts.{OnlineFacts}
 use Rattle.g_online_tests.proofs.DumpLemmas.{pinned_few}
 use Rattle.g_online_tests.proofs.making.pin.Goals as goal
 

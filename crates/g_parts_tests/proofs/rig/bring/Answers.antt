@@ -1,5 +1,5 @@
 use Rattle.std.proofs.Common.{◌≡◌, true}
-use Rattle.g_contents.specs.Facts.{IsTied}
+use Rattle.g_disc_contents.specs.Facts.{IsTied}
 use Rattle.g_parts_tests.proofs.FileLemmas.{back_with, is_used, is_where, live_back, planned}
 use Rattle.g_parts_tests.proofs.rig.bring.Goals as goal
 

@@ -1,6 +1,6 @@
 use Rattle.std.proofs.Common.{ℕ, ◌+◌, ◌∙◌, List, ap, arith, length, map, refl, subst, sym}
 use Rattle.std.specs.Prelude.{filter}
-use Rattle.g_contents.specs.Contents.{copied_rec, recs_in}
+use Rattle.g_disc_contents.specs.Contents.{copied_rec, recs_in}
 use Rattle.g_entry.specs.declared.file_rec.FileRec.{FileRec}
 use Rattle.g_entry.specs.declared.head.Head.{Head}
 use Rattle.g_entry.specs.declared.user_rec.UserRec.{UserRec}

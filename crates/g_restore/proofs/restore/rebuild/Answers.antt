@@ -1,6 +1,6 @@
 use Rattle.std.proofs.Common.{ℕ, Err, inl, refl}
 use Rattle.g_plain.specs.declared.faults.StoreFault.TheVariants.{DiscReadFault, NoDump, Stopped, TapeReadFault}
-use Rattle.g_contents.specs.Facts.{OnlineFacts}
+use Rattle.g_disc_contents.specs.Facts.{OnlineFacts}
 use Rattle.g_restore.specs.declared.directory.Dumped.{Dumped}
 use Rattle.g_restore.proofs.AnswerLemmas.{belongs_of, found_of, kept_of, lost_over, not_of_reels, ok_of, one_of, one_over, other_over, refused_of, stopped_of, unmounted_of, unmounted_over, unread_of}
 use Rattle.g_restore.proofs.BelongLemmas.{belongs_same}

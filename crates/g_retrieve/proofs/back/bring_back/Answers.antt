@@ -2,10 +2,10 @@ use Rattle.std.proofs.Common.{ℕ, Err, List, Result, length}
 use Rattle.g_base.specs.Block.{blocks_for}
 use Rattle.g_entry.specs.declared.file_rec.TapeCopy.{TapeCopy}
 use Rattle.g_plain.specs.declared.faults.StoreFault.{StoreFault}
-use Rattle.g_contents.specs.Contents.{File}
+use Rattle.g_disc_contents.specs.Contents.{File}
 use Rattle.g_online.specs.declared.change.Change.TheVariants.{Bring}
 use Rattle.g_online.specs.Allowed.{IsAllowed}
-use Rattle.g_state_steps.specs.Unjam.{IsUnjamPlan}
+use Rattle.g_laws_memory.specs.Unjam.{IsUnjamPlan}
 use Rattle.g_retrieve.specs.Brought.{IsOnTape}
 use Rattle.g_retrieve.proofs.AllowLemmas.{away_is}
 use Rattle.g_retrieve.proofs.BackLemmas.{IsAnswered, by_disc, by_tape, filled_here, may_here, not_here, read_here}

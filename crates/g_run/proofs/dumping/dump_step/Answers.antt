@@ -1,5 +1,5 @@
 use Rattle.std.proofs.Common.{sym, ◌∙◌}
-use Rattle.g_console.proofs.JobLemmas.{none_dump}
+use Rattle.g_operator.proofs.JobLemmas.{none_dump}
 use Rattle.g_run.proofs.DumpLemmas.{did_nothing}
 use Rattle.g_run.proofs.LeftLemmas.{seen_up}
 use Rattle.g_run.proofs.SameLemmas.{same_dump}

@@ -5,12 +5,12 @@ use Rattle.g_dumper.specs.declared.dump.DumpStep.{DumpStep}
 use Rattle.g_dumper.specs.Steps.{stepped}
 use Rattle.g_monitor.specs.Refusals.{fault_line}
 use Rattle.g_plain.specs.declared.faults.StoreFault.{StoreFault}
-use Rattle.g_step.specs.DumpSteps.{Stepped}
+use Rattle.g_store_model.specs.DumpSteps.{Stepped}
 use Rattle.g_store.specs.Dumping.{KeepsDumps, StepsAs}
 use Rattle.g_store.specs.Events.{StepsDump}
-use Rattle.g_world.specs.Texts.{dump_text}
-use Rattle.g_console.specs.Parts.{seen}
-use Rattle.g_console.specs.System.{SystemFacts}
+use Rattle.g_run_model.specs.Texts.{dump_text}
+use Rattle.g_operator.specs.Parts.{seen}
+use Rattle.g_operator.specs.System.{SystemFacts}
 use Rattle.g_run.proofs.DumpLemmas.{did_completed, did_fails, did_going, did_lost, one_fault, some_there}
 use Rattle.g_run.proofs.LeftLemmas.{left_fault, seen_up, unstopped}
 use Rattle.g_run.proofs.SameLemmas.{same_dump}

@@ -1,7 +1,7 @@
 use Rattle.std.proofs.Common.{◌++◌}
 use Rattle.std.specs.Prelude.{codes}
 use Rattle.std.specs.Fmt.{decimal}
-use Rattle.g_world.specs.Texts.{job_text}
+use Rattle.g_run_model.specs.Texts.{job_text}
 use Rattle.g_run.proofs.EndedLemmas.{opens_read}
 use Rattle.g_run.proofs.LeftLemmas.{left_up}
 use Rattle.g_run.proofs.ending.waits.Goals as goal

@@ -4,16 +4,16 @@ use Rattle.g_run.proofs.script.next_line.Goals as goal
 
 pub returns-in-None : goal.returns-in-None
 returns-in-None g c =
-    let ticked = rw c.in-None.is at c.until-day.ensures in
+    let ticked = rw c.in-None.is at c.tick_until_due-day.ensures in
     line_done g.F.Fn c.args.rules.now.tariff.now g.U.Fn c.args.rules.now.weigh.now c.args.next _ _ c.operator_line.result.failure _ _ _ _ _ _ _ ticked c.operator_line.ensures.line.count c.operator_line.ensures.line c.operator_line.ensures.anew
 
 pub returns-in-Some : goal.returns-in-Some
 returns-in-Some g c =
-    let ticked = rw c.in-Some.is at c.until-day.ensures in
+    let ticked = rw c.in-Some.is at c.tick_until_due-day.ensures in
     line_undone g.F.Fn c.args.rules.now.tariff.now g.U.Fn c.args.rules.now.weigh.now c.args.next _ c.in-Some.failure _ _ _ _ _ ticked
 
 pub operator_line-requires-clause-ready : goal.operator_line-requires-clause-ready
-operator_line-requires-clause-ready g c = (c.until-day.ensures.keeps.ready c.in-None.is).0
+operator_line-requires-clause-ready g c = (c.tick_until_due-day.ensures.keeps.ready c.in-None.is).0
 
 pub operator_line-requires-clause-numbers : goal.operator_line-requires-clause-numbers
-operator_line-requires-clause-numbers g c = let most = c.until-day.ensures.keeps.numbers c.in-None.is in omega (arith, most, c.requires.numbers)
+operator_line-requires-clause-numbers g c = let most = c.tick_until_due-day.ensures.keeps.numbers c.in-None.is in omega (arith, most, c.requires.numbers)

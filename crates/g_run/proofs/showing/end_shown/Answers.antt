@@ -1,13 +1,13 @@
 use Rattle.std.proofs.Common.{List, [], append-nil, ap, subst, sym, ◌++◌, ◌∙◌, ℕ}
 use Rattle.std.specs.Prelude.{codes}
 use Rattle.std.specs.Fmt.{decimal}
-use Rattle.g_crew.specs.Seating.{pushed_of}
+use Rattle.g_job_table.specs.Seating.{pushed_of}
 use Rattle.g_job.specs.declared.turn.Turn.TheVariants as turns
 use Rattle.g_run.specs.Turning.{GoesOn, left_of}
 use Rattle.g_run.proofs.EndedLemmas.{ends_by, no_file, shown_is}
 use Rattle.g_run.proofs.TurningLemmas.{unbroken}
 use Rattle.g_run.proofs.showing.end_shown.Goals as goal
-use Rattle.g_world.specs.Texts.{job_text, operator_line}
+use Rattle.g_run_model.specs.Texts.{job_text, operator_line}
 
 pub shown-made-requires : goal.shown-made-requires
 shown-made-requires g c = let (job, t, there, at) = c.requires.there in (job, there)

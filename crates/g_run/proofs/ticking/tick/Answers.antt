@@ -1,10 +1,10 @@
 use Rattle.std.proofs.Common.{ℕ, None, Option, Some, sym, ◌∙◌, ap, subst}
 use Rattle.std.proofs.lemmas.Bool.{false≢true}
-use Rattle.g_crew.specs.Crew.{CrewState}
-use Rattle.g_crew.specs.Weights.{AreWeights}
-use Rattle.g_console.specs.declared.progress.Failure.{Failure}
-use Rattle.g_console.specs.Parts.{IsReady, seen}
-use Rattle.g_console.specs.System.{SystemFacts, Up}
+use Rattle.g_job_table.specs.Crew.{CrewState}
+use Rattle.g_job_table.specs.Weights.{AreWeights}
+use Rattle.g_operator.specs.declared.progress.Failure.{Failure}
+use Rattle.g_operator.specs.Parts.{IsReady, seen}
+use Rattle.g_operator.specs.System.{SystemFacts, Up}
 use Rattle.g_run.specs.Tick.{DidDump, DidTurn}
 use Rattle.g_run.specs.Turning.{left_of}
 use Rattle.g_run.proofs.LeftLemmas.{left_down, left_up, seen_up}

@@ -1,7 +1,7 @@
 use Rattle.std.proofs.Common.{rules, sym, ◌∙◌, ap, ◌≡◌, not, List}
 use Rattle.g_job.specs.State.{JobState}
 use Rattle.g_tape.specs.Rack.{is_mounted, reel}
-use Rattle.g_world.specs.World.{has_none}
+use Rattle.g_run_model.specs.World.{has_none}
 use Rattle.g_run.proofs.FallLemmas.{able_same}
 use Rattle.g_run.proofs.RanLemmas.{mounted_some, some_state}
 use Rattle.g_run.proofs.ticks.job_steps.Goals as goal

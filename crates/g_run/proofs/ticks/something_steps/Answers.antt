@@ -1,7 +1,7 @@
 use Rattle.std.proofs.Common.{rules, ◌≡◌, true, false, is_some, option_map, sym, ◌∙◌, ap, subst}
-use Rattle.g_state.specs.Up.{DumpFacts}
-use Rattle.g_console.specs.Parts.{IsReady, Seen, seen}
-use Rattle.g_console.specs.System.{SystemFacts}
+use Rattle.g_store_meaning.specs.Up.{DumpFacts}
+use Rattle.g_operator.specs.Parts.{IsReady, Seen, seen}
+use Rattle.g_operator.specs.System.{SystemFacts}
 use Rattle.g_run.specs.Parts.{steps_in}
 use Rattle.g_run.proofs.LeftLemmas.{left_down, seen_up}
 use Rattle.g_run.proofs.RestLemmas.{down_rests, dump_steps, jobs_step}

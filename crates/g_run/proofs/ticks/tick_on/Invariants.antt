@@ -1,8 +1,8 @@
 -- The ticks so far.
 use Rattle.std.proofs.Common.{◌≡◌, None, false}
-use Rattle.g_crew.specs.Weights.{AreWeights}
-use Rattle.g_console.specs.Parts.{seen}
-use Rattle.g_console.specs.System.{Up}
+use Rattle.g_job_table.specs.Weights.{AreWeights}
+use Rattle.g_operator.specs.Parts.{seen}
+use Rattle.g_operator.specs.System.{Up}
 use Rattle.g_run.specs.Tick.{left}
 use Rattle.g_run.specs.Turning.{left_of}
 use Rattle.g_run.specs.Parts.{Anything, DidTicks, HasRoom}

@@ -1,7 +1,7 @@
 use Rattle.std.proofs.Common.{None, Option, sym, subst}
-use Rattle.g_console.specs.declared.progress.Failure.{Failure}
-use Rattle.g_console.specs.Parts.{IsReady, Seen, seen}
-use Rattle.g_console.specs.System.{SystemFacts, Up}
+use Rattle.g_operator.specs.declared.progress.Failure.{Failure}
+use Rattle.g_operator.specs.Parts.{IsReady, Seen, seen}
+use Rattle.g_operator.specs.System.{SystemFacts, Up}
 use Rattle.g_run.specs.Parts.{Anything, DidTicks, IsAtRest}
 use Rattle.g_run.specs.Turning.{left_of}
 use Rattle.g_run.proofs.LeftLemmas.{left_up, seen_up}

@@ -1,5 +1,5 @@
 use Rattle.std.proofs.Common.{Option, subst}
-use Rattle.g_console.specs.declared.progress.Failure.{Failure}
+use Rattle.g_operator.specs.declared.progress.Failure.{Failure}
 use Rattle.g_run.specs.Turning.{Takes, left_of}
 use Rattle.g_run.proofs.LeftLemmas.{seen_up}
 use Rattle.g_run.proofs.RanLemmas.{mounted_some, some_state}

@@ -1,6 +1,6 @@
 use Rattle.std.proofs.Common.{ap, subst, sym, ◌∙◌}
 use Rattle.g_base.specs.declared.memory.NoMemory.{NoMemory}
-use Rattle.g_crew.specs.Crew.{CrewState}
+use Rattle.g_job_table.specs.Crew.{CrewState}
 use Rattle.g_run.specs.Turning.{EndsTurn, ShowsAs, added_of, left_of}
 use Rattle.g_run.proofs.EndedLemmas.{added_is, shows_as, there_behind, took_part, took_whole}
 use Rattle.g_run.proofs.LeftLemmas.{left_so}

@@ -7,7 +7,7 @@ loop-dir-init g c = nothing_walked _ _ _ _
 
 pub loop-dir-preserved : goal.loop-dir-preserved
 loop-dir-preserved g c =
-    rw c.behind-at.ensures
+    rw c.end_block-at.ensures
     (one_walked _ _ _ _ _ _ _ _ _ _ _ _ _ c.loop-dir.invariant c.in-Ok-Some.ensures.reads (rw c.in-Ok-Some.field-0-is at c.in-Ok-Some.ensures.some) c.of_dump.ensures
     (rw c.in-Ok-Some.field-0-is at c.in-Ok-Some.ensures.low) c.in-Ok.ensures.items)
 

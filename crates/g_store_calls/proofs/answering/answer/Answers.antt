@@ -3,7 +3,7 @@ use Rattle.g_store_calls.specs.Granted.{Grants}
 use Rattle.g_store_calls.proofs.CalmLemmas.{refused}
 use Rattle.g_store_calls.proofs.GrantedLemmas.{input_named, none_named, output_named}
 use Rattle.g_store_calls.proofs.KindLemmas.{kind_of, over, settled_refused}
-use Rattle.g_contents.specs.Contents.{recs_in}
+use Rattle.g_disc_contents.specs.Contents.{recs_in}
 use Rattle.g_store_calls.proofs.answering.answer.Goals as goal
 
 pub returns-in-Err-clause-answers : goal.returns-in-Err-clause-answers

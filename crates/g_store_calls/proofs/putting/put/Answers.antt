@@ -1,5 +1,5 @@
 use Rattle.std.proofs.Common.{Err, Ok}
-use Rattle.g_contents.specs.Contents.{recs_in}
+use Rattle.g_disc_contents.specs.Contents.{recs_in}
 use Rattle.g_migrate.proofs.MigrationLemmas.{rules_here}
 use Rattle.g_store_calls.proofs.GrantedLemmas.{output_called}
 use Rattle.g_store_calls.proofs.PutLemmas.{put_answers, put_known, put_short, settled_made}

@@ -1,5 +1,5 @@
 use Rattle.std.proofs.Common.{◌≤◌, ap, arith, length, List, ℕ, subst, sym}
-use Rattle.g_contents.specs.Contents.{recs_in}
+use Rattle.g_disc_contents.specs.Contents.{recs_in}
 use Rattle.g_migrate.proofs.MigrationLemmas.{rules_here}
 use Rattle.g_store_calls.proofs.GrantedLemmas.{output_called, output_none, output_there}
 use Rattle.g_store_calls.proofs.NextLemmas.{is_next}

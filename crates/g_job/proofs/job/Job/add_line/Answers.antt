@@ -1,6 +1,6 @@
 -- The rules of the job stand, and whether it is ready was told of the levels with the line.
 use Rattle.std.proofs.Common.{List, ap, subst, sym, ℕ, ◌∙◌}
-use Rattle.g_act.specs.State.{Work}
+use Rattle.g_turn.specs.State.{Work}
 use Rattle.g_job.specs.JobValue.{job_of}
 use Rattle.g_job.specs.Rules.{IsJob}
 use Rattle.g_job.specs.State.{JobState}

@@ -1,7 +1,7 @@
 use Rattle.std.proofs.Common.{length, option_map, sym, ap, subst, ◌-◌}
 use Rattle.g_job.specs.JobValue.{job_of}
-use Rattle.g_act.specs.Making.{IsMade}
-use Rattle.g_act.specs.Values.{pending_of}
+use Rattle.g_turn.specs.Making.{IsMade}
+use Rattle.g_turn.specs.Values.{pending_of}
 use Rattle.g_job.proofs.TurnLemmas.{begun, makes}
 use Rattle.g_job.proofs.job.Job.make.Goals as goal
 

@@ -1,13 +1,13 @@
 use Rattle.std.proofs.Common.{option_map}
 use Rattle.g_job.specs.JobValue.{job_of}
-use Rattle.g_act.specs.Values.{stop_of}
+use Rattle.g_turn.specs.Values.{stop_of}
 use Rattle.g_job.proofs.EndingLemmas.{settle_rules}
 use Rattle.g_job.proofs.job.Job.settle.Goals as goal
 
 pub invariant_of-self-2 : goal.invariant_of-self-2
 invariant_of-self-2 c = (
   settle_rules (job_of c.self.inside) c.args.self.now c.self.view_is c.args.text.now c.args.charge (option_map stop_of c.args.stop) c.in_ok-last.last
-      c.cut-units.result c.cut-money.result c.add.new.monitor c.is_some-self-inside.result c.self.invariant.0 c.requires.clear c.requires.open c.requires.fits
-      c.requires.charge c.requires.charged c.in_ok-last.ensures.line c.cut-units.ensures c.cut-money.ensures c.in_ok-add.ensures.ok c.is_some-self-inside.ensures,
+      c.at_most_left-units.result c.at_most_left-money.result c.add.new.monitor c.is_some-self-inside.result c.self.invariant.0 c.requires.clear c.requires.open c.requires.fits
+      c.requires.charge c.requires.charged c.in_ok-last.ensures.line c.at_most_left-units.ensures c.at_most_left-money.ensures c.in_ok-add.ensures.ok c.is_some-self-inside.ensures,
   c.self.invariant.1,
 )

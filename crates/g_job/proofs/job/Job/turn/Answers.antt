@@ -5,7 +5,7 @@ use Rattle.g_job.specs.declared.turn.Turn.TheVariants as turn
 use Rattle.g_job.proofs.TerminalLemmas.{keeps_seat, turn_leaves}
 use Rattle.g_job.proofs.TurnLemmas.{same_turn, spends_of, stopped_of, told, told_before, turn_before, waits_of}
 use Rattle.g_job.proofs.WellLemmas.{turn_spent, turn_waits}
-use Rattle.g_act.proofs.WellThen.{part_whole}
+use Rattle.g_turn.proofs.WellThen.{part_whole}
 use Rattle.g_job.proofs.job.Job.turn.Goals as goal
 
 -- the end of the work that was made

@@ -1,6 +1,6 @@
 use Rattle.std.proofs.Common.{◌∙◌, ap, arith, length, subst, sym}
-use Rattle.g_contents.specs.Contents.{with_number}
-use Rattle.g_contents.specs.Facts.{AreNumbers}
+use Rattle.g_disc_contents.specs.Contents.{with_number}
+use Rattle.g_disc_contents.specs.Facts.{AreNumbers}
 use Rattle.g_online.proofs.NumberLemmas.{absent_here, numbers_with, room_for, there_here}
 use Rattle.g_online.proofs.numbers.UserNumbers.put.Goals as goal
 

@@ -1,9 +1,9 @@
 use Rattle.std.proofs.Common.{Err, refl, subst}
-use Rattle.g_contents.specs.Facts.{OnlineFacts}
+use Rattle.g_disc_contents.specs.Facts.{OnlineFacts}
 use Rattle.g_online.specs.declared.change.Change.TheVariants.{Adopt}
 use Rattle.g_online.specs.declared.fault.OnlineFault.TheVariants.{NoMemory}
-use Rattle.g_online.specs.Done.{IsApplied}
-use Rattle.g_online.specs.Kept.{Memory}
+use Rattle.g_online.specs.Outcomes.{IsApplied}
+use Rattle.g_online.specs.Invariant.{Memory}
 use Rattle.g_online.proofs.MemoryLemmas.{memory}
 use Rattle.g_online.proofs.StepLemmas.{IsReady, applied, copies_for, kept_behind, marked_for, not_applied}
 use Rattle.g_online.proofs.AdoptLemmas.{adopt_ready, adopt_rules}

@@ -8,14 +8,14 @@ use Rattle.g_online.specs.declared.pinned.Pinned.{Pinned}
 use Rattle.g_online.specs.Dumped.{noted_in}
 use Rattle.g_online.proofs.online.Online.close_dump.Goals as goal
 
-pub give_lost-requires-clause-apart : goal.give_lost-requires-clause-apart
-give_lost-requires-clause-apart g c =
+pub free_orphaned_pins-requires-clause-apart : goal.free_orphaned_pins-requires-clause-apart
+free_orphaned_pins-requires-clause-apart g c =
     (lost_to_close c.args.last (g.D.Disc.state c.self.inside.disc) _ (to_close c.args.last (g.D.Disc.state c.self.inside.disc) _ c.args.self.now
     c.self.view_is c.self.invariant c.requires.live c.requires.pinned c.requires.rules)
     c.files.result.now c.pinned_versions-pins.result.now c.files.ensures.value c.pinned_versions-pins.ensures).0
 
-pub give_lost-requires-clause-taken : goal.give_lost-requires-clause-taken
-give_lost-requires-clause-taken g c =
+pub free_orphaned_pins-requires-clause-taken : goal.free_orphaned_pins-requires-clause-taken
+free_orphaned_pins-requires-clause-taken g c =
     (lost_to_close c.args.last (g.D.Disc.state c.self.inside.disc) _ (to_close c.args.last (g.D.Disc.state c.self.inside.disc) _ c.args.self.now
     c.self.view_is c.self.invariant c.requires.live c.requires.pinned c.requires.rules)
     c.files.result.now c.pinned_versions-pins.result.now c.files.ensures.value c.pinned_versions-pins.ensures).1
@@ -28,14 +28,14 @@ pub note_copies-requires : goal.note_copies-requires
 note_copies-requires g c =
     rw (same _ _ _ c.pinned_notes.ensures c.pinned_versions-pins.ensures) (close_rules c.args.last (g.D.Disc.state c.self.inside.disc) _ (to_close c.args.last (g.D.Disc.state c.self.inside.disc) _ c.args.self.now c.self.view_is
     c.self.invariant c.requires.live c.requires.pinned c.requires.rules)
-    c.files.result.now c.pinned_versions-pins.result.now c.files.ensures.value c.pinned_versions-pins.ensures c.give_lost.new.pool c.give_lost.ensures)
+    c.files.result.now c.pinned_versions-pins.result.now c.files.ensures.value c.pinned_versions-pins.ensures c.free_orphaned_pins.new.pool c.free_orphaned_pins.ensures)
 
 pub commit-requires-clause-marked : goal.commit-requires-clause-marked
 commit-requires-clause-marked g c =
     marked_for (Adopt c.args.last (noted_in c.pinned_versions-pins.result.now)) (g.D.Disc.state c.self.inside.disc) _ _
     (close_ready c.args.last (g.D.Disc.state c.self.inside.disc) _ (to_close c.args.last (g.D.Disc.state c.self.inside.disc) _ c.args.self.now c.self.view_is
     c.self.invariant c.requires.live c.requires.pinned c.requires.rules)
-    c.files.result.now c.pinned_versions-pins.result.now c.files.ensures.value c.pinned_versions-pins.ensures c.give_lost.new.pool c.give_lost.ensures
+    c.files.result.now c.pinned_versions-pins.result.now c.files.ensures.value c.pinned_versions-pins.ensures c.free_orphaned_pins.new.pool c.free_orphaned_pins.ensures
     c.note_copies.new.tree.users c.note_copies.new.tree.files c.changed.new.self c.note_copies.new.pages c.note_copies.ensures.users
     (rw (same _ _ _ c.pinned_notes.ensures c.pinned_versions-pins.ensures) at c.note_copies.ensures.files) c.changed.ensures.marks c.changed.ensures.remembers c.changed.ensures.covers (rw (same _ _ _ c.pinned_notes.ensures c.pinned_versions-pins.ensures) at c.note_copies.ensures.marks))
     c.deref.result.now c.deref.ensures.value
@@ -45,7 +45,7 @@ commit-requires-clause-copies g c =
     copies_for (Adopt c.args.last (noted_in c.pinned_versions-pins.result.now)) (g.D.Disc.state c.self.inside.disc) _ _
     (close_ready c.args.last (g.D.Disc.state c.self.inside.disc) _ (to_close c.args.last (g.D.Disc.state c.self.inside.disc) _ c.args.self.now c.self.view_is
     c.self.invariant c.requires.live c.requires.pinned c.requires.rules)
-    c.files.result.now c.pinned_versions-pins.result.now c.files.ensures.value c.pinned_versions-pins.ensures c.give_lost.new.pool c.give_lost.ensures
+    c.files.result.now c.pinned_versions-pins.result.now c.files.ensures.value c.pinned_versions-pins.ensures c.free_orphaned_pins.new.pool c.free_orphaned_pins.ensures
     c.note_copies.new.tree.users c.note_copies.new.tree.files c.changed.new.self c.note_copies.new.pages c.note_copies.ensures.users
     (rw (same _ _ _ c.pinned_notes.ensures c.pinned_versions-pins.ensures) at c.note_copies.ensures.files) c.changed.ensures.marks c.changed.ensures.remembers c.changed.ensures.covers (rw (same _ _ _ c.pinned_notes.ensures c.pinned_versions-pins.ensures) at c.note_copies.ensures.marks))
     c.deref.result.now c.deref.ensures.value
@@ -56,7 +56,7 @@ invariant_of-self g c =
     may_close c.args.last (g.D.Disc.state c.self.inside.disc) _
     (to_close c.args.last (g.D.Disc.state c.self.inside.disc) _ c.args.self.now c.self.view_is c.self.invariant c.requires.live c.requires.pinned
     c.requires.rules)
-    c.files.result.now c.pinned_versions-pins.result.now c.files.ensures.value c.pinned_versions-pins.ensures c.give_lost.new.pool c.give_lost.ensures
+    c.files.result.now c.pinned_versions-pins.result.now c.files.ensures.value c.pinned_versions-pins.ensures c.free_orphaned_pins.new.pool c.free_orphaned_pins.ensures
     c.note_copies.new.tree.users c.note_copies.new.tree.files c.changed.new.self c.note_copies.new.pages c.replace-self-inside.result
     c.replace-self-inside.new.dest
     c.note_copies.ensures.users (rw (same _ _ _ c.pinned_notes.ensures c.pinned_versions-pins.ensures) at c.note_copies.ensures.files) c.changed.ensures.marks c.changed.ensures.remembers c.changed.ensures.covers
@@ -72,7 +72,7 @@ returns g c =
     may_close c.args.last (g.D.Disc.state c.self.inside.disc) _
     (to_close c.args.last (g.D.Disc.state c.self.inside.disc) _ c.args.self.now c.self.view_is c.self.invariant c.requires.live c.requires.pinned
     c.requires.rules)
-    c.files.result.now c.pinned_versions-pins.result.now c.files.ensures.value c.pinned_versions-pins.ensures c.give_lost.new.pool c.give_lost.ensures
+    c.files.result.now c.pinned_versions-pins.result.now c.files.ensures.value c.pinned_versions-pins.ensures c.free_orphaned_pins.new.pool c.free_orphaned_pins.ensures
     c.note_copies.new.tree.users c.note_copies.new.tree.files c.changed.new.self c.note_copies.new.pages c.replace-self-inside.result
     c.replace-self-inside.new.dest
     c.note_copies.ensures.users (rw (same _ _ _ c.pinned_notes.ensures c.pinned_versions-pins.ensures) at c.note_copies.ensures.files) c.changed.ensures.marks c.changed.ensures.remembers c.changed.ensures.covers
@@ -81,7 +81,7 @@ returns g c =
     closing_is c.args.last (g.D.Disc.state c.self.inside.disc) _
     (to_close c.args.last (g.D.Disc.state c.self.inside.disc) _ c.args.self.now c.self.view_is c.self.invariant c.requires.live c.requires.pinned
     c.requires.rules)
-    c.files.result.now c.pinned_versions-pins.result.now c.files.ensures.value c.pinned_versions-pins.ensures c.give_lost.new.pool c.give_lost.ensures
+    c.files.result.now c.pinned_versions-pins.result.now c.files.ensures.value c.pinned_versions-pins.ensures c.free_orphaned_pins.new.pool c.free_orphaned_pins.ensures
     c.replace-self-inside.result c.args.self.now _ c.commit.result c.replace-self-inside.ensures.value c.self.view_is
     (noted_by _ _ _ _ _ _ _ may (g.D.Disc.state c.commit.new.disc) c.commit.new.slots c.commit.new.pages c.commit.new.live c.commit.result c.deref.result.now
     c.deref.ensures.value

@@ -1,9 +1,9 @@
 use Rattle.std.proofs.Common.{◌≡◌, ◌∙◌, Result, ap, subst, sym}
 use Rattle.std.specs.Option.{ForSome}
 use Rattle.std.specs.Prelude.{Contains, OnOk}
-use Rattle.g_contents.specs.Contents.{File}
-use Rattle.g_contents.specs.Facts.{OnlineFacts}
-use Rattle.g_contents.specs.Parts.{IsPart}
+use Rattle.g_disc_contents.specs.Contents.{File}
+use Rattle.g_disc_contents.specs.Facts.{OnlineFacts}
+use Rattle.g_disc_contents.specs.Parts.{IsPart}
 use Rattle.g_online.specs.declared.fault.OnlineFault.{OnlineFault}
 use Rattle.g_online.proofs.BytesLemmas.{part_no, part_read, part_within}
 use Rattle.g_online.proofs.TieLemmas.{kept_still, tied}

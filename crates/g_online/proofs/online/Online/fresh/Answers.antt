@@ -3,7 +3,7 @@ use Rattle.g_blocks.specs.Pool.{IsFresh}
 use Rattle.g_dirs.specs.Directory.{directory_of}
 use Rattle.g_online.specs.Begun.{empty_copies, memory_of}
 use Rattle.g_online.specs.Committed.{HasCommitted}
-use Rattle.g_online.specs.Kept.{facts_of}
+use Rattle.g_online.specs.Invariant.{facts_of}
 use Rattle.g_online.proofs.CopyLemmas.{Copies}
 use Rattle.g_online.proofs.BegunLemmas.{first_agreed, first_copies, first_marked, first_stopped, has_made}
 use Rattle.g_online.proofs.online.Online.fresh.Goals as goal

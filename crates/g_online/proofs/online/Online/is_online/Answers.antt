@@ -1,6 +1,6 @@
 use Rattle.std.proofs.Common.{◌∙◌, ap, sym}
 use Rattle.std.specs.Prelude.{option_copied}
-use Rattle.g_contents.specs.Facts.{OnlineFacts}
+use Rattle.g_disc_contents.specs.Facts.{OnlineFacts}
 use Rattle.g_online.proofs.BytesLemmas.{online_is_there}
 use Rattle.g_online.proofs.TieLemmas.{some_made}
 use Rattle.g_online.proofs.online.Online.is_online.Goals as goal

@@ -1,7 +1,7 @@
 use Rattle.std.proofs.Common.{◌≡◌, ◌∙◌, List, Result, Some, ap, slice_get, subst, sym}
 use Rattle.std.specs.Option.{ForSome}
 use Rattle.std.specs.Prelude.{OnOk}
-use Rattle.g_contents.specs.Facts.{OnlineFacts, Pin}
+use Rattle.g_disc_contents.specs.Facts.{OnlineFacts, Pin}
 use Rattle.g_online.specs.declared.fault.OnlineFault.{OnlineFault}
 use Rattle.g_online.proofs.PinBlockLemmas.{block_read, place_no, place_within}
 use Rattle.g_online.proofs.TieLemmas.{kept_still, tied}

@@ -2,7 +2,7 @@ use Rattle.std.proofs.Common.{ap, subst, sym}
 use Rattle.g_entry.specs.declared.file_rec.FileRec.{FileRec}
 use Rattle.g_online.specs.declared.change.Change.TheVariants.{PutFile}
 use Rattle.g_online.specs.Allowed.{IsAllowed}
-use Rattle.g_online.specs.Done.{IsApplied}
+use Rattle.g_online.specs.Outcomes.{IsApplied}
 use Rattle.g_online.proofs.online.Online.put_file.Goals as goal
 
 pub with_new_copy-requires-clause-number : goal.with_new_copy-requires-clause-number

@@ -1,5 +1,5 @@
 use Rattle.std.proofs.Common.{ap}
-use Rattle.g_contents.specs.Facts.{OnlineFacts}
+use Rattle.g_disc_contents.specs.Facts.{OnlineFacts}
 use Rattle.g_online.proofs.AdoptedLemmas.{ready_rules, readied_is}
 use Rattle.g_online.proofs.online.Online.ready_adopt.Goals as goal
 

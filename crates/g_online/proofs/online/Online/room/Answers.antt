@@ -1,5 +1,5 @@
 use Rattle.std.proofs.Common.{◌∙◌, ap, subst}
-use Rattle.g_contents.specs.Facts.{OnlineFacts, room_of}
+use Rattle.g_disc_contents.specs.Facts.{OnlineFacts, room_of}
 use Rattle.g_online.specs.Room.{FitsDisc}
 use Rattle.g_online.proofs.RoomLemmas.{room_is, room_fits}
 use Rattle.g_online.proofs.online.Online.room.Goals as goal

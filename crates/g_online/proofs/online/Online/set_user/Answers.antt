@@ -1,6 +1,6 @@
 use Rattle.std.proofs.Common.{ℕ, ◌+◌, ap}
 use Rattle.g_online.specs.declared.change.Change.TheVariants.{SetUser}
-use Rattle.g_online.specs.Kept.{Memory}
+use Rattle.g_online.specs.Invariant.{Memory}
 use Rattle.g_online.proofs.RecordLemmas.{user_ready, user_rules}
 use Rattle.g_online.proofs.MemoryLemmas.{memory}
 use Rattle.g_online.proofs.StepLemmas.{IsReady, applied, kept_behind, marked_for}

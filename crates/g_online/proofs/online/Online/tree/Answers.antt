@@ -1,6 +1,6 @@
 use Rattle.std.proofs.Common.{◌∙◌, ap, sym}
-use Rattle.g_contents.specs.Contents.{recs_in}
-use Rattle.g_contents.specs.Facts.{OnlineFacts}
+use Rattle.g_disc_contents.specs.Contents.{recs_in}
+use Rattle.g_disc_contents.specs.Facts.{OnlineFacts}
 use Rattle.g_online.proofs.RecordLemmas.{recs_here}
 use Rattle.g_online.proofs.online.Online.tree.Goals as goal
 

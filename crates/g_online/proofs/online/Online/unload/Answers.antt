@@ -1,8 +1,8 @@
 use Rattle.std.proofs.Common.{◌≢◌, ◌<◌, ℕ, List, All, AllPairs, refl, subst, sym}
 use Rattle.g_blocks.specs.Pool.{IsTaken}
 use Rattle.g_online.specs.declared.change.Change.TheVariants.{Unload}
-use Rattle.g_online.specs.Off.{places_off}
-use Rattle.g_online.specs.Kept.{Memory}
+use Rattle.g_online.specs.Unloading.{places_off}
+use Rattle.g_online.specs.Invariant.{Memory}
 use Rattle.g_online.proofs.MemoryLemmas.{memory}
 use Rattle.g_online.proofs.StepLemmas.{IsReady, applied, copies_for, kept_behind, marked_for}
 use Rattle.g_online.proofs.UnloadLemmas.{is_unloadable, off_blocks, unload_ready}

@@ -3,9 +3,9 @@ use Rattle.std.specs.Prelude.{OnOk}
 use Rattle.g_base.specs.Block.{blocks_for}
 use Rattle.g_blocks.specs.Pool.{HasTaken, free_count}
 use Rattle.g_copy.specs.declared.copy.DiscCopy.{DiscCopy}
-use Rattle.g_online.specs.Kept.{Memory, head_after}
-use Rattle.g_online.specs.Off.{places_off}
-use Rattle.g_online.specs.Put.{TakesBeside, with_bytes}
+use Rattle.g_online.specs.Invariant.{Memory, head_after}
+use Rattle.g_online.specs.Unloading.{places_off}
+use Rattle.g_online.specs.NewBytes.{TakesBeside, with_bytes}
 use Rattle.g_online.proofs.MemoryLemmas.{memory}
 use Rattle.g_online.proofs.NeedLemmas.{IsAsked, asked_below, asked_blocks, asked_copies, asked_marked, asked_moved, asked_refused, asked_rules, asked_stopped}
 use Rattle.g_online.proofs.NeedLemmas.{full_moved, only_moved, taken_moved, unjammed_copy}

@@ -1,6 +1,6 @@
 use Rattle.std.proofs.Common.{Err, None, Ok, Some, ap, ◌∙◌, refl, subst}
-use Rattle.g_step.specs.DumpSteps.{Completed, Going}
-use Rattle.g_state.specs.Up.{StoreFacts}
+use Rattle.g_store_model.specs.DumpSteps.{Completed, Going}
+use Rattle.g_store_meaning.specs.Up.{StoreFacts}
 use Rattle.g_dumper.specs.declared.dump.DumpStep.{DumpStep}
 use Rattle.g_dumper.specs.Keeps.{KeepsStore, behind_step, up_with}
 use Rattle.g_dumper.specs.Steps.{Stepping, stepped}

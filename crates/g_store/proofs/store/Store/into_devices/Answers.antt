@@ -1,5 +1,5 @@
 use Rattle.std.proofs.Common.{subst}
-use Rattle.g_state.specs.Answers.{IsStore}
+use Rattle.g_store_meaning.specs.Answers.{IsStore}
 use Rattle.g_store.proofs.ArmLemmas.{down_stands}
 use Rattle.g_store.proofs.store.Store.into_devices.Goals as goal
 

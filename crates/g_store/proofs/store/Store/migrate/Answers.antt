@@ -1,6 +1,6 @@
 use Rattle.std.proofs.Common.{◌≡◌, subst}
-use Rattle.g_contents.specs.Contents.{recs_in}
-use Rattle.g_state.specs.Answers.{IsStore}
+use Rattle.g_disc_contents.specs.Contents.{recs_in}
+use Rattle.g_store_meaning.specs.Answers.{IsStore}
 use Rattle.g_store.proofs.MigratedLemmas.{migrates, number_used, path_unnamed}
 use Rattle.g_store.proofs.store.Store.migrate.Goals as goal
 

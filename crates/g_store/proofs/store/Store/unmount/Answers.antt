@@ -1,5 +1,5 @@
 use Rattle.std.proofs.Common.{refl, sym, ◌∙◌, subst}
-use Rattle.g_state.specs.Answers.{IsStore}
+use Rattle.g_store_meaning.specs.Answers.{IsStore}
 use Rattle.g_store.proofs.TurnLemmas.{rack_unmounts, reel_busy}
 use Rattle.g_store.proofs.store.Store.unmount.Goals as goal
 

@@ -1,9 +1,0 @@
--- Of the jobs so far that can step the first is kept.
-use Rattle.std.proofs.Common.{◌≤◌}
-use Rattle.g_step.specs.State.{State}
-use Rattle.g_crew.specs.Choice.{TellsMounted}
-use Rattle.g_crew.proofs.ChoiceLemmas.{IsSeen}
-use Rattle.g_crew.proofs.choice.first_of.Given as goal
-
-abbrev pub invariant-loop-place : goal.invariant-loop-place
-invariant-loop-place g l = (l.able ≤ l.place) × ((s : State) → TellsMounted g.M.Fn l.mounted s → IsSeen g.U.Fn l.weigh s l.jobs l.place l.able l.first)

@@ -1,7 +1,0 @@
--- The files so far stand behind the text.
-use Rattle.std.proofs.Common.{◌≡◌, ◌++◌, take}
-use Rattle.g_world.specs.Texts.{broken_files}
-use Rattle.g_crew.proofs.files.push_each_broken.Given as goal
-
-abbrev pub invariant-loop-job : goal.invariant-loop-job
-invariant-loop-job l = l.text ≡ l.fn.text ++ broken_files (take l.job-index l.jobs)

@@ -1,5 +1,0 @@
--- The reel's line.
-use Rattle.g_crew.proofs.files.push_reel.Goals as goal
-
-pub returns-in-Some : goal.returns-in-Some
-returns-in-Some c = rw (c.in-Some.is, ← c.from.ensures) c.push_number.ensures

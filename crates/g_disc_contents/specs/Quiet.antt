@@ -1,0 +1,27 @@
+-- THE WRITES THAT CHANGE NOTHING of what a disc holds, whatever they leave.
+use Rattle.std.specs.Prelude.{◌≡◌, ℕ, ◌+◌, ◌<◌, ◌≤◌, ◌⊎◌, List, length, Contains, Some, slice_set}
+use Rattle.g_slots.specs.Layout.{gate_side, other, start_of}
+use Rattle.g_dirs.specs.Directory.{Directory, IsDirectory, all_places}
+use Rattle.g_dirs.specs.Commit.{OldOrNew}
+use Rattle.g_dirs.specs.Image.{StandsFor}
+use Rattle.g_disc_contents.specs.Contents.{Contents, Holds, contents_of}
+
+-- a write into a copy block that no file has
+abbrev pub QuietHoldsCopy : Type 0
+QuietHoldsCopy = (blocks : List (List ℕ)) (place : ℕ) (left : List ℕ) (c : Contents) → 2177 ≤ place → Holds blocks c
+    → ((d : Directory) → StandsFor blocks d → Contains (all_places d.files) place → ⊥) → Holds (slice_set blocks place left) c
+
+-- a write into the slot that the gate doesn't name
+abbrev pub QuietHoldsSlot : Type 0
+QuietHoldsSlot = (blocks : List (List ℕ)) (k : ℕ) (left : List ℕ) (c : Contents) → k < 1088 → Holds blocks c
+    → Holds (slice_set blocks (start_of (other (gate_side blocks)) + k) left) c
+
+-- A commit, also one that was stopped at any of its writes, leaves what the disc held, or the directory with the bytes that lie
+-- where its files have their blocks.
+abbrev pub CommitHolds : Type 0
+CommitHolds = (before after : List (List ℕ)) (d : Directory) (c : Contents) → OldOrNew d before after → IsDirectory (length before) d → Holds before c
+    → Holds after c ⊎ Holds after (contents_of (Some before) d)
+
+-- a disc holds one contents at most
+abbrev pub HoldsOne : Type 0
+HoldsOne = (blocks : List (List ℕ)) (c e : Contents) → Holds blocks c → Holds blocks e → c ≡ e

@@ -1,0 +1,116 @@
+//! Which job goes next.
+ghost use Rattle.std.specs.Prelude.{◌≡◌, ◌≤◌, ℕ, length, not};
+ghost use Rattle.g_job_table.specs.Choice.{IsFirst, TellsMounted, able_in};
+ghost use Rattle.g_job_table.specs.Numbers.{Rise};
+ghost use Rattle.g_job_table.specs.Weights.{AreOthers, AreWeights};
+ghost use Rattle.g_sched.specs.Rule.{IsWeighRule};
+ghost use Rattle.g_store_model.specs.State.{State};
+ghost use Rattle.g_run_model.specs.World.{can_step, has_none, has_reel};
+
+use crate::place::place_of;
+use crate::weights::Weights;
+use g_job::Job;
+use g_sched::{Candidate, Standing, WeighRule, earlier};
+
+/// The most jobs that there are at a time.
+pub(crate) const MOST_JOBS: usize = 64;
+
+/// Whether the job can step: at a terminal it waits for no line; and it waits for no reel, or for one that is mounted.
+pub(crate) fn can_step<M: Fn(u32) -> bool>(job: &Job, mounted: &M) -> bool
+    requires { M.IsAlwaysCallable mounted.now }
+    ensures { (s : State) → TellsMounted M.Fn mounted.now s → result ≡ can_step s job.now }
+{
+    job.ready() && has_reel(job, mounted)
+}
+
+/// Whether the job waits for no reel, or for one that is mounted.
+fn has_reel<M: Fn(u32) -> bool>(job: &Job, mounted: &M) -> bool
+    requires { M.IsAlwaysCallable mounted.now }
+    ensures { (s : State) → TellsMounted M.Fn mounted.now s → result ≡ has_reel s job.now }
+{
+    match job.wants() {
+        Some(serial) => mounted(serial),
+        None => true,
+    }
+}
+
+/// Whether one of the jobs can step.
+pub(crate) fn one_can_step<M: Fn(u32) -> bool>(jobs: &[Job], mounted: &M) -> bool
+    requires { M.IsAlwaysCallable mounted.now }
+    ensures { (s : State) → TellsMounted M.Fn mounted.now s → result ≡ not (has_none (able_in s jobs.now)) }
+{
+    for job in jobs {
+        if can_step(job, mounted) {
+            return true;
+        }
+    }
+    false
+}
+
+/// What this job would be chosen by: its weight and its number, as the next of those that can step.
+fn candidate(job: &Job, place: usize, weight: u64) -> Candidate
+    ensures { result ≡ record { place = place; weight = weight; number = job.now.number } }
+{
+    Candidate {
+        place,
+        weight,
+        number: job.standing().number,
+    }
+}
+
+/// The first of the jobs that can step, by their weights and then by number. Its place is that among those that can step.
+pub(crate) fn first_of<U: Fn(&Standing) -> u64, M: Fn(u32) -> bool>(
+    jobs: &[Job],
+    weigh: &WeighRule<U>,
+    weights: &Weights,
+    mounted: &M,
+) -> Option<Candidate>
+    requires weighed { AreWeights U.Fn weigh.now jobs.now weights.now }
+    requires callable { M.IsAlwaysCallable mounted.now }
+    ensures { (s : State) → TellsMounted M.Fn mounted.now s → IsFirst U.Fn weigh.now (able_in s jobs.now) result }
+{
+    let mut able = 0;
+    let mut first: Option<Candidate> = None;
+    for (place, job) in jobs.iter().enumerate() {
+        if can_step(job, mounted) {
+            first = Some(earlier(first, candidate(job, able, weights.get(place))));
+            able += 1;
+        }
+    }
+    first
+}
+
+/// Weighs each of the jobs by the rule. The weights lie where they are: a turn doesn't pay for the room of others.
+pub(crate) fn weigh_each<U: Fn(&Standing) -> u64>(
+    jobs: &[Job],
+    weigh: &WeighRule<U>,
+    weights: &mut Weights,
+)
+    requires rule { IsWeighRule U.Fn weigh.now }
+    requires few { length jobs.now ≤ 64 }
+    ensures { AreWeights U.Fn weigh.now jobs.now weights.new }
+{
+    weights.clear();
+    for job in jobs {
+        weights.push(weigh.weight(&job.standing()));
+    }
+}
+
+/// Weighs the job of this number again, if there is one, where the others weigh what they did.
+pub(crate) fn weigh_again<U: Fn(&Standing) -> u64>(
+    jobs: &[Job],
+    weigh: &WeighRule<U>,
+    number: u64,
+    weights: &mut Weights,
+)
+    requires rule { IsWeighRule U.Fn weigh.now }
+    requires rise { (next : ℕ) × Rise 1 jobs.now next }
+    requires count { length jobs.now ≡ length weights.old }
+    requires others { AreOthers U.Fn weigh.now number jobs.now weights.old }
+    ensures { AreWeights U.Fn weigh.now jobs.now weights.new }
+{
+    match place_of(jobs, number) {
+        Some(place) => weights.set(place, weigh.weight(&jobs[place].standing())),
+        None => {}
+    }
+}

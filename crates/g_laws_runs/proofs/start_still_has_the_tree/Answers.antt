@@ -1,0 +1,8 @@
+use Rattle.g_run_model.proofs.TreeLemmas.{all_or_nothing}
+use Rattle.g_laws_runs.proofs.RefusedLemmas.{still_has_the_tree}
+use Rattle.g_laws_runs.proofs.start_still_has_the_tree.Goals as goal
+
+pub returns : goal.returns
+returns g c tariff rule =
+    still_has_the_tree g.F.Fn tariff g.U.Fn rule
+    (all_or_nothing g.F.Fn tariff g.U.Fn rule c.step_is_plain.ensures.answers c.step_is_plain.ensures.refusals c.step_is_plain.ensures.stops c.step_is_plain.ensures.dumps)

@@ -1,6 +1,0 @@
-use Rattle.std.proofs.Common.{inr}
-use Rattle.g_look_edge.specs.declared.status.Status.TheVariants.{NoMemory}
-use Rattle.g_look_edge.proofs.answer.on_files.Goals as goal
-
-pub returns-in-Err : goal.returns-in-Err
-returns-in-Err c d = inr (record { status = NoMemory; so = tt; code_is = d.code.ensures })

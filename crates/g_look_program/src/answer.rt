@@ -1,0 +1,94 @@
+//! What the program does by its words.
+ghost use Rattle.std.specs.Prelude.{◌≡◌, ◌⊎◌, ◌<◌, ℕ, List, Option, All, true};
+ghost use Rattle.std.specs.Option.{ForSome};
+ghost use Rattle.g_name.specs.declared.path.Path.{Path};
+ghost use Rattle.g_incr.specs.Layout.{Dump};
+ghost use Rattle.g_store_meaning.specs.Meaning.{told_reels};
+ghost use Rattle.g_shelf.specs.Completed.{AreShelved};
+ghost use Rattle.g_store_meaning.specs.Reading.{AllTold, ReelsTold};
+ghost use Rattle.g_look.specs.Looks.{OfDumps};
+ghost use Rattle.g_look_program.specs.Exit.{IsExit, IsOfLook, IsOfWords};
+ghost use Rattle.g_look_program.specs.Told as told;
+ghost use Rattle.g_look_program.specs.Words.{AskNothing, texts_of};
+
+use crate::mount::mount_all;
+use crate::tell::{put, tell, tell_bytes, tell_check, tell_restorable};
+use crate::{Asked, Status, asked_by};
+use g_devices::{StdSink, look_at};
+use g_disc::Disc;
+use g_io::Sink;
+use g_look::{check, dumps, list, restorable, show};
+use g_tape::Tapes;
+use std::alloc::Global;
+use std::io::{self, ErrorKind};
+
+/// The exit status where the image or the rack can't be used.
+const NO_IMAGE: u8 = 7;
+
+/// The disc's image, in the present folder.
+const IMAGE: &str = "george.disc";
+
+/// The folder of the reels' images, there too.
+const RACK: &str = "george.tapes";
+
+/// Tells what the words ask for, and gives the exit status. The words are looked at before anything is opened.
+pub fn answer(rt: &HostRuntime, words: &[&str]) -> u8
+    ensures { (AskNothing (texts_of words.now) × IsExit IsOfWords result) ⊎ (result ≡ 7) ⊎ IsExit IsOfLook result }
+{
+    let mut out = StdSink::new(io::writer(rt));
+    match asked_by(words) {
+        Some(asked) => on_files(rt, &asked, &mut out),
+        None => put(&mut out, b"WORDS NOT KNOWN\n", Status::Words).code(),
+    }
+}
+
+/// Looks at image and rack. 7 where they can't be used.
+fn on_files<K: Sink>(rt: &HostRuntime, asked: &Asked, out: &mut K) -> u8
+    ensures { (result ≡ 7) ⊎ IsExit IsOfLook result }
+{
+    let (mut disc, mut tapes) = match look_at(rt, IMAGE, RACK) {
+        Ok(devices) => devices,
+        Err(fault) if fault.kind() == ErrorKind::OutOfMemory => return Status::NoMemory.code(),
+        Err(_) => return NO_IMAGE,
+    };
+    if !mount_all(&mut tapes) {
+        return NO_IMAGE;
+    }
+    look(rt.alloc(), asked, out, &mut disc, &mut tapes).code()
+}
+
+/// Tells of any disc and rack what is asked for; all reels have to be mounted. Both are only read.
+pub fn look<K: Sink, D: Disc, T: Tapes>(
+    alloc: Global,
+    asked: &Asked,
+    out: &mut K,
+    disc: &mut D,
+    tapes: &mut T,
+) -> Status
+    requires size { 2177 < (D.state disc.old).size }
+    requires mounted { All (λ r. r.mounted ≡ true) (T.rack tapes.old).reels }
+    ensures check { asked.now ≡ Asked.Check → AllTold (D.state disc.old).held (told_reels (T.rack tapes.old)) → told.EndsCheck result
+        (D.state disc.old).size (D.state disc.old).held (told_reels (T.rack tapes.old))
+        (record { before = K.written out.old; after = K.written out.new; faults_before = K.faults out.old; faults_after = K.faults out.new }) }
+    ensures dumps { asked.now ≡ Asked.Dumps → ReelsTold (told_reels (T.rack tapes.old)) → (shelf : ℕ → List Dump) → AreShelved shelf (told_reels (T.rack tapes.old))
+        → told.EndsDumps result shelf (told_reels (T.rack tapes.old))
+        (record { before = K.written out.old; after = K.written out.new; faults_before = K.faults out.old; faults_after = K.faults out.new }) }
+    ensures list { (user : Option (List ℕ)) → asked.now ≡ Asked.List user → ForSome (D.state disc.old).held (λ blocks. told.EndsList result blocks user
+        (record { before = K.written out.old; after = K.written out.new; faults_before = K.faults out.old; faults_after = K.faults out.new })) }
+    ensures show { (path : Path) → asked.now ≡ Asked.Show path → ForSome (D.state disc.old).held (λ blocks. OfDumps (T.rack tapes.old) (λ dumps. told.EndsShow result blocks dumps path
+        (record { before = K.written out.old; after = K.written out.new; faults_before = K.faults out.old; faults_after = K.faults out.new }))) }
+    ensures restorable { asked.now ≡ Asked.Restorable → OfDumps (T.rack tapes.old) (λ dumps. told.EndsGiven result dumps
+        (record { before = K.written out.old; after = K.written out.new; faults_before = K.faults out.old; faults_after = K.faults out.new })) }
+    ensures look { IsOfLook result }
+    ensures sink { told.SinkCause result
+        (record { before = K.written out.old; after = K.written out.new; faults_before = K.faults out.old; faults_after = K.faults out.new }) }
+    ensures devices { told.Looked result (D.state disc.old) (D.state disc.new) (T.rack tapes.old) (T.rack tapes.new) }
+{
+    match asked {
+        Asked::Check => tell_check(out, check(alloc, disc, tapes)),
+        Asked::Dumps => tell(out, dumps(alloc, tapes)),
+        Asked::List(user) => tell(out, list(alloc, disc, user.as_ref())),
+        Asked::Show(path) => tell_bytes(out, show(alloc, disc, tapes, path)),
+        Asked::Restorable => tell_restorable(out, restorable(alloc, tapes)),
+    }
+}

@@ -1,0 +1,39 @@
+//! How a look ended.
+ghost use Rattle.std.specs.Prelude.{◌≡◌};
+ghost use Rattle.g_look_program.specs.Exit.{code_of};
+
+/// The status of a look. Each has a number, the program's exit status.
+#[derive(Clone, Copy, Debug, PartialEq, Eq)]
+pub enum Status {
+    /// What was asked for was told; of a check, that disc and rack belong together and the disc holds a filestore.
+    Done,
+    /// The answer is no: a rule is broken, no such file or user is there, the rack can't be restored.
+    No,
+    /// The words of the command line aren't known.
+    Words,
+    /// A block of a device couldn't be read, and that device's count of faults rose.
+    Unread,
+    /// The sink failed, and its count of faults rose.
+    OutputFault,
+    /// Memory was wanting.
+    NoMemory,
+    /// Of a check: disc and rack belong together, and the disc holds no filestore.
+    Nothing,
+}
+
+impl Status {
+    /// The exit status.
+    pub fn code(self) -> u8
+        ensures { result ≡ code_of self }
+    {
+        match self {
+            Status::Done => 0,
+            Status::No => 1,
+            Status::Words => 2,
+            Status::Unread => 3,
+            Status::OutputFault => 4,
+            Status::NoMemory => 5,
+            Status::Nothing => 6,
+        }
+    }
+}

@@ -1,0 +1,119 @@
+//! What is told of an answer, and the status with it.
+ghost use Rattle.std.specs.Prelude.{◌≡◌};
+ghost use Rattle.g_look_program.specs.Told as told;
+
+use crate::Status;
+use g_io::Sink;
+use g_look::{Checked, Given, LookFault};
+use g_name::Text;
+
+/// Tells a check: all of its text, whatever it found.
+pub fn tell_check<K: Sink>(out: &mut K, found: Result<Checked, LookFault>) -> Status
+    ensures { told.TellsCheck found result
+        (record { before = K.written out.old; after = K.written out.new; faults_before = K.faults out.old; faults_after = K.faults out.new }) }
+{
+    match found {
+        Ok(checked) => put(out, checked.text.as_slice(), verdict(&checked)),
+        Err(fault) => tell_fault(out, fault),
+    }
+}
+
+/// The status of a check.
+fn verdict(checked: &Checked) -> Status
+    ensures { result ≡ told.verdict checked.now.broken checked.now.filestore }
+{
+    match &checked.broken {
+        Some(_) => Status::No,
+        None => if checked.filestore {
+            Status::Done
+        } else {
+            Status::Nothing
+        },
+    }
+}
+
+/// Tells what a restore would give, or its refusal.
+pub fn tell_restorable<K: Sink>(out: &mut K, found: Result<Given, LookFault>) -> Status
+    ensures { told.TellsGiven found result
+        (record { before = K.written out.old; after = K.written out.new; faults_before = K.faults out.old; faults_after = K.faults out.new }) }
+{
+    match found {
+        Ok(given) => put(out, given.text.as_slice(), outcome(&given)),
+        Err(fault) => tell_fault(out, fault),
+    }
+}
+
+/// The status of what a restore would give.
+fn outcome(given: &Given) -> Status
+    ensures { result ≡ told.outcome given.now.given }
+{
+    if given.given {
+        Status::Done
+    } else {
+        Status::No
+    }
+}
+
+/// Tells a text.
+pub fn tell<K: Sink>(out: &mut K, found: Result<Text, LookFault>) -> Status
+    ensures { told.Tells found result
+        (record { before = K.written out.old; after = K.written out.new; faults_before = K.faults out.old; faults_after = K.faults out.new }) }
+{
+    match found {
+        Ok(text) => put(out, text.as_slice(), Status::Done),
+        Err(fault) => tell_fault(out, fault),
+    }
+}
+
+/// Tells the bytes of a file, and nothing else whatever happens.
+pub fn tell_bytes<K: Sink>(out: &mut K, found: Result<Text, LookFault>) -> Status
+    ensures { told.TellsBytes found result
+        (record { before = K.written out.old; after = K.written out.new; faults_before = K.faults out.old; faults_after = K.faults out.new }) }
+{
+    match found {
+        Ok(bytes) => put(out, bytes.as_slice(), Status::Done),
+        Err(fault) => status_of(fault),
+    }
+}
+
+/// Tells why nothing else is told.
+fn tell_fault<K: Sink>(out: &mut K, fault: LookFault) -> Status
+    ensures { told.TellsFault fault result
+        (record { before = K.written out.old; after = K.written out.new; faults_before = K.faults out.old; faults_after = K.faults out.new }) }
+{
+    match fault {
+        LookFault::DiscUnread => put(out, b"DISC READ\n", Status::Unread),
+        LookFault::TapeUnread => put(out, b"TAPE READ\n", Status::Unread),
+        LookFault::NoFilestore => put(out, b"NO FILESTORE\n", Status::No),
+        LookFault::NoUser => put(out, b"NO USER\n", Status::No),
+        LookFault::NoFile => Status::No,
+        LookFault::NoCopy => Status::No,
+        LookFault::NoMemory => Status::NoMemory,
+    }
+}
+
+/// The status with which a look ends that tells nothing.
+fn status_of(fault: LookFault) -> Status
+    ensures { result ≡ told.status_of fault }
+{
+    match fault {
+        LookFault::DiscUnread => Status::Unread,
+        LookFault::TapeUnread => Status::Unread,
+        LookFault::NoFilestore => Status::No,
+        LookFault::NoUser => Status::No,
+        LookFault::NoFile => Status::No,
+        LookFault::NoCopy => Status::No,
+        LookFault::NoMemory => Status::NoMemory,
+    }
+}
+
+/// Puts a text, and ends with this status where that was done.
+pub fn put<K: Sink>(out: &mut K, text: &[u8], status: Status) -> Status
+    ensures { told.Puts status text.now result
+        (record { before = K.written out.old; after = K.written out.new; faults_before = K.faults out.old; faults_after = K.faults out.new }) }
+{
+    match out.put(text) {
+        Ok(()) => status,
+        Err(_) => Status::OutputFault,
+    }
+}

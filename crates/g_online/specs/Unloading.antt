@@ -1,0 +1,17 @@
+-- FILES TAKEN OFF the disc.
+use Rattle.std.specs.Prelude.{◌≡◌, ◌≢◌, ℕ, ◌+◌, false, List, All, Some, slice_get}
+use Rattle.std.specs.List.{flat_map}
+use Rattle.g_copy.specs.declared.copy.DiscCopy.{DiscCopy}
+use Rattle.g_slots.specs.declared.side.Side.{Side}
+use Rattle.g_dirs.specs.Directory.{copy_at}
+use Rattle.g_dirs.specs.Pages.{KeepsPages, Remembered, marks_of}
+use Rattle.g_online.specs.Invariant.{copy_places}
+
+-- the blocks of these files
+abbrev pub places_off : List ℕ → List (ℕ × DiscCopy) → List ℕ
+places_off numbers online = flat_map (λ n. copy_places (copy_at online n)) numbers
+
+-- the records of these files are marked in both slots, and nothing else has changed: a block without a mark had none before
+pub record MarksFiles (numbers : List ℕ) (old new : Remembered) : Type 0 where
+  pub pages : KeepsPages old new
+  pub free : (side : Side) (k : ℕ) → slice_get (marks_of side new) k ≡ Some false → (slice_get (marks_of side old) k ≡ Some false) × All (λ n. k ≢ 64 + n) numbers

@@ -1,0 +1,156 @@
+-- A DEVICE IS ARMED by a line.
+use Rattle.std.proofs.Common.{◌≡◌, ℕ, ◌+◌, ◌<◌, ◌≤◌, ◌++◌, List, [], ◌∷◌, Option, refl, sym, ◌∙◌, ap, subst, arith}
+use Rattle.std.specs.Prelude.{codes}
+use Rattle.g_base.specs.Counts.{HasRisenBy}
+use Rattle.g_base.specs.Fuse.{IsArmedBy, armed_with}
+use Rattle.g_base.proofs.CountLemmas.{HasRisenBy-none}
+use Rattle.g_base.proofs.FuseLemmas.{within_all, within_none}
+use Rattle.g_store_model.specs.CallStep.{Plain}
+use Rattle.g_store_meaning.specs.Up.{StoreFacts}
+use Rattle.g_store.specs.Arming.{MeansTheSame}
+use Rattle.g_script.specs.declared.operator.Operator.TheVariants as line
+use Rattle.g_run_model.specs.Devices.{Devices}
+use Rattle.g_run_model.specs.Moves.{EventCounted}
+use Rattle.g_run_model.specs.Texts.{operator_line}
+use Rattle.g_run_model.specs.World.{World, says}
+use Rattle.g_run_model.proofs.CountLemmas.{none_failed}
+use Rattle.g_job_table.specs.Crew.{CrewState}
+use Rattle.g_operator.specs.declared.progress.Failure.{Failure}
+use Rattle.g_operator.specs.Arming.{HasArmed, disc_armed, tape_armed}
+use Rattle.g_operator.specs.Parts.{ArmsBy, DidLine, DoesLine, IsReady, Matches, seen}
+use Rattle.g_operator.specs.Puts.{Puts}
+use Rattle.g_operator.specs.System.{Down, SystemFacts, Up, devices_in, DumpsGrow, SameDevices}
+use Rattle.g_operator.proofs.GrowLemmas.{grow_held}
+use Rattle.g_operator.proofs.LabelLemmas.{same_still}
+use Rattle.g_operator.proofs.LeavesLemmas.{leaves_same}
+use Rattle.g_operator.proofs.LineLemmas.{was_done}
+
+-- a store that means the same
+pub armed_up : (armed : Devices → Devices) (s t : StoreFacts) → MeansTheSame s t → devices_in (Up t) ≡ armed (devices_in (Up s)) → t.spent ≡ s.spent → t.online.disc.size ≡ s.online.disc.size
+    → HasArmed armed (Up s) (Up t)
+armed_up armed s t same devices spent size = record {
+  devices = devices;
+  stands = λ u is. record { told = same.told is.told; belongs = same.belongs is.belongs; stands = same.state u is.stands };
+  belongs = λ is. (same.told is.0, same.belongs is.1);
+  ready = λ c ready.
+      let (unspent, low, high) = ready in
+      (spent ∙ unspent, subst (λ (n : ℕ). 2177 < n) (sym size) low, subst (λ (n : ℕ). n ≤ 1048576) (sym size) high);
+}
+
+-- devices under no store
+pub disc_down : (k : ℕ) (d : Devices) → HasArmed (disc_armed k) (Down d) (Down (disc_armed k d))
+disc_down k d = record {
+  devices = refl;
+  stands = λ u is. (is.0, record { told = is.1.told; belong = is.1.belong; reads = is.1.reads });
+  belongs = λ is. record { told = is.told; belong = is.belong };
+  ready = λ c ready. ready;
+}
+
+pub tape_down : (k : ℕ) (d : Devices) → HasArmed (tape_armed k) (Down d) (Down (tape_armed k d))
+tape_down k d = record {
+  devices = refl;
+  stands = λ u is. (is.0, record { told = is.1.told; belong = is.1.belong; reads = is.1.reads });
+  belongs = λ is. record { told = is.told; belong = is.belong };
+  ready = λ c ready. ready;
+}
+
+none_rose : (a : ℕ) → HasRisenBy 0 a a
+none_rose a = HasRisenBy-none (omega arith)
+
+disc_counted : (k : ℕ) (d : Devices) → EventCounted Plain (k ∷ []) [] d (disc_armed k d)
+disc_counted k d = record {
+  disc_reads_rose = none_rose d.disc.read_faults;
+  tape_reads_rose = none_rose d.rack.read_faults;
+  cuts_rose = none_failed d (disc_armed k d) refl refl;
+  no_disc_read = λ e. refl;
+  no_tape_read = λ e. refl;
+  disc_armed = (d.disc.writes, refl);
+  tape_armed = refl;
+}
+
+tape_counted : (k : ℕ) (d : Devices) → EventCounted Plain [] (k ∷ []) d (tape_armed k d)
+tape_counted k d = record {
+  disc_reads_rose = none_rose d.disc.read_faults;
+  tape_reads_rose = none_rose d.rack.read_faults;
+  cuts_rose = none_failed d (tape_armed k d) refl refl;
+  no_disc_read = λ e. refl;
+  no_tape_read = λ e. refl;
+  disc_armed = refl;
+  tape_armed = (d.rack.write_faults, refl);
+}
+
+module _ (k : ℕ) (old new : SystemFacts) (c : CrewState) (count : ℕ) where
+  abbrev set_text : List ℕ
+  set_text = operator_line count (codes "STOP SET")
+
+  disc_does : HasArmed (disc_armed k) old new → (w : World) → Matches w (seen old c count) → DoesLine (line.StopDisc k) w old new set_text
+  disc_does armed w m = record {
+    outcome = Plain;
+    next = says (codes "STOP SET") (record w { disc_stops = w.disc_stops ++ k ∷ [] });
+    gives = (refl, refl);
+    counted = subst (EventCounted Plain (k ∷ []) [] (devices_in old)) (sym armed.devices) (disc_counted k (devices_in old));
+    stands = armed.stands w.store m.stands;
+    text = ap (λ (n : ℕ). w.text ++ operator_line n (codes "STOP SET")) m.count;
+  }
+
+  tape_does : HasArmed (tape_armed k) old new → (w : World) → Matches w (seen old c count) → DoesLine (line.StopTape k) w old new set_text
+  tape_does armed w m = record {
+    outcome = Plain;
+    next = says (codes "STOP SET") (record w { tape_stops = w.tape_stops ++ k ∷ [] });
+    gives = (refl, refl);
+    counted = subst (EventCounted Plain [] (k ∷ []) (devices_in old)) (sym armed.devices) (tape_counted k (devices_in old));
+    stands = armed.stands w.store m.stands;
+    text = ap (λ (n : ℕ). w.text ++ operator_line n (codes "STOP SET")) m.count;
+  }
+
+  pub disc_stop : HasArmed (disc_armed k) old new → IsReady old c → (failure : Option Failure) (before after : Option (List ℕ)) (faults faults' : ℕ) → Puts failure set_text before after faults faults'
+      → DidLine (line.StopDisc k) (seen old c count) failure (seen new c count) before after faults faults'
+  unfolding disc_does
+  disc_stop armed ready failure before after faults faults' puts = record {
+    goes = was_done (line.StopDisc k) (seen old c count) (seen new c count) failure set_text before after (disc_does armed)
+        (λ w m e. record {
+          stands = (disc_does armed w m).stands;
+          crew = record { jobs = m.crew.jobs; accounts = m.crew.accounts; next_job = m.crew.next_job };
+          count = m.count;
+        }) puts.put;
+    ready = armed.ready c ready;
+    crew = λ none. leaves_same c;
+    arms = subst (ArmsBy (line.StopDisc k) failure (devices_in old)) (sym armed.devices)
+        (let d : Devices = devices_in old in let once : IsArmedBy (k ∷ []) d.disc.arms (disc_armed k d).disc.arms = (d.disc.writes, refl) in record {
+          disc = within_all (k ∷ []) d.disc.arms (disc_armed k d).disc.arms once;
+          tape = within_none [] d.rack.arms d.rack.arms refl;
+          all = λ through. (once, refl);
+        });
+    count = refl;
+    fuses = ap (λ (d : Devices). d.disc.fuse) armed.devices;
+    same = subst (λ (d : Devices). SameDevices (devices_in old) d) (sym armed.devices) (same_still (devices_in old) (disc_armed k (devices_in old)) refl refl refl refl);
+    belongs = armed.belongs;
+    dumps = λ was. subst (λ (d : Devices). DumpsGrow (devices_in old).rack d.rack) (sym armed.devices) (grow_held (devices_in old).rack (disc_armed k (devices_in old)).rack refl);
+    cause = puts.cause;
+  }
+
+  pub tape_stop : HasArmed (tape_armed k) old new → IsReady old c → (failure : Option Failure) (before after : Option (List ℕ)) (faults faults' : ℕ) → Puts failure set_text before after faults faults'
+      → DidLine (line.StopTape k) (seen old c count) failure (seen new c count) before after faults faults'
+  unfolding tape_does
+  tape_stop armed ready failure before after faults faults' puts = record {
+    goes = was_done (line.StopTape k) (seen old c count) (seen new c count) failure set_text before after (tape_does armed)
+        (λ w m e. record {
+          stands = (tape_does armed w m).stands;
+          crew = record { jobs = m.crew.jobs; accounts = m.crew.accounts; next_job = m.crew.next_job };
+          count = m.count;
+        }) puts.put;
+    ready = armed.ready c ready;
+    crew = λ none. leaves_same c;
+    arms = subst (ArmsBy (line.StopTape k) failure (devices_in old)) (sym armed.devices)
+        (let d : Devices = devices_in old in let once : IsArmedBy (k ∷ []) d.rack.arms (tape_armed k d).rack.arms = (d.rack.write_faults, refl) in record {
+          disc = within_none [] d.disc.arms d.disc.arms refl;
+          tape = within_all (k ∷ []) d.rack.arms (tape_armed k d).rack.arms once;
+          all = λ through. (refl, once);
+        });
+    count = refl;
+    fuses = ap (λ (d : Devices). d.rack.fuse) armed.devices;
+    same = subst (λ (d : Devices). SameDevices (devices_in old) d) (sym armed.devices) (same_still (devices_in old) (tape_armed k (devices_in old)) refl refl refl refl);
+    belongs = armed.belongs;
+    dumps = λ was. subst (λ (d : Devices). DumpsGrow (devices_in old).rack d.rack) (sym armed.devices) (grow_held (devices_in old).rack (tape_armed k (devices_in old)).rack refl);
+    cause = puts.cause;
+  }

@@ -1,0 +1,18 @@
+use Rattle.std.proofs.Common.{◌≡◌, ap, false, refl, sym, true, ◌∙◌}
+use Rattle.g_operator.specs.Parts.{Seen}
+use Rattle.g_operator.specs.Terminals.{is_up_in}
+use Rattle.g_operator.proofs.DayLemmas.{same_line}
+use Rattle.g_operator.proofs.TerminalLemmas.{typed_down, typed_up}
+use Rattle.g_operator.proofs.terminals.type_line.Goals as goal
+
+pub returns-then-is_up : goal.returns-then-is_up
+returns-then-is_up g c =
+    let up : is_up_in c.args.day.system ≡ true = ap (λ (s : Seen). is_up_in s.system) (sym c.day.view_is) ∙ sym c.is_up.ensures ∙ c.if-is_up.true in
+    same_line refl c.type_at.ensures.same
+    (typed_up c.args.terminal c.args.text c.args.day.system up c.args.day.crew c.requires.ready c.args.day.count c.type_at.result.failure c.type_at.result.day.crew _ _ _ _ c.type_at.ensures.typed)
+
+pub returns-else-is_up : goal.returns-else-is_up
+returns-else-is_up g c =
+    let down : is_up_in c.args.day.system ≡ false = ap (λ (s : Seen). is_up_in s.system) (sym c.day.view_is) ∙ sym c.is_up.ensures ∙ c.if-is_up.false in
+    same_line refl c.refuse_or_go_down.ensures.day
+    (typed_down c.args.terminal c.args.text c.args.day.system down c.args.day.crew c.requires.ready c.args.day.count c.refuse_or_go_down.result.failure c.refuse_or_go_down.result.day.crew _ _ _ _ c.refuse_or_go_down.ensures.told)

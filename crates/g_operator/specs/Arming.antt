@@ -1,0 +1,20 @@
+-- A DEVICE IS ARMED: its fuse is set, and the arming is counted. Nothing changes of what the system stands for.
+use Rattle.std.specs.Prelude.{◌≡◌, ℕ, Some}
+use Rattle.g_base.specs.Fuse.{armed_with}
+use Rattle.g_store_model.specs.State.{State}
+use Rattle.g_run_model.specs.Devices.{Devices}
+use Rattle.g_job_table.specs.Crew.{CrewState}
+use Rattle.g_operator.specs.Parts.{IsReady}
+use Rattle.g_operator.specs.System.{StandsAs, SystemBelongs, SystemFacts, devices_in}
+
+abbrev pub disc_armed : ℕ → Devices → Devices
+disc_armed k d = record d { disc = record d.disc { fuse = Some k; arms = armed_with k d.disc.writes d.disc.arms } }
+
+abbrev pub tape_armed : ℕ → Devices → Devices
+tape_armed k d = record d { rack = record d.rack { fuse = Some k; arms = armed_with k d.rack.write_faults d.rack.arms } }
+
+pub record HasArmed (armed : Devices → Devices) (old new : SystemFacts) : Type 0 where
+  pub devices : devices_in new ≡ armed (devices_in old)
+  pub stands : (u : State) → StandsAs old u → StandsAs new u
+  pub belongs : SystemBelongs old → SystemBelongs new
+  pub ready : (c : CrewState) → IsReady old c → IsReady new c

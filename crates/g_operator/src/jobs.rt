@@ -1,0 +1,167 @@
+//! A job comes in, and the system is shut.
+ghost use Rattle.std.specs.Prelude.{◌≡◌, ◌+◌, ◌<◌, ◌≤◌, ◌++◌, IfOk, codes};
+ghost use Rattle.g_operator.specs.Jobs.{KnowsIn, TakesJob, TellsWhy};
+ghost use Rattle.g_operator.specs.Parts.{DidLine, IsReady};
+ghost use Rattle.g_operator.specs.System.{IsRunning, facts_of};
+ghost use Rattle.g_job_table.specs.Taking.{IsPrinted, refusal_line};
+ghost use Rattle.g_script.specs.declared.operator.Operator.TheVariants as line;
+ghost use Rattle.g_run_model.specs.Texts as texts;
+
+use crate::day::Day;
+use crate::progress::{Ended, Failure};
+use crate::puts::{say_made, told};
+use crate::stopping::{refuse_or_go_down, goes_down};
+use crate::system::{System, take_down};
+use g_base::NoMemory;
+use g_job_table::{NewJob, NotTaken, job_text, push_refusal};
+use g_disc::Disc;
+use g_io::Sink;
+use g_name::{Local, Text, User};
+use g_plain::StoreFault;
+use g_tape::Tapes;
+use std::alloc::Global;
+
+/// JOB: the job comes in behind the others. `NotStarted`: the system is down; then `NoUser`, 64 jobs are there, TIME, MONEY.
+pub(crate) fn job_line<K: Sink, D: Disc, T: Tapes>(
+    alloc: Global,
+    day: Day<D, T>,
+    job: NewJob,
+    out: &mut K,
+) -> Ended<D, T>
+    requires ready { IsReady day.system day.crew }
+    requires time { (1 ≤ job.time) × (job.time ≤ 1000000) }
+    requires money { job.money ≤ 1000000 }
+    requires numbers { day.crew.next_job + 1 < 18446744073709551616 }
+    ensures { DidLine (line.Job job.name job.user job.time job.money job.lines) day result.failure result.day
+        (K.written out.old) (K.written out.new) (K.faults out.old) (K.faults out.new) }
+{
+    match knows(&day.system, &job.user) {
+        Some(known) => take_job(alloc, day, known, job, out),
+        None => refuse_or_go_down(alloc, day, StoreFault::NotStarted, out),
+    }
+}
+
+/// Whether a system that is up knows the user.
+pub(crate) fn knows<D: Disc, T: Tapes>(system: &System<D, T>, user: &User) -> Option<bool>
+    requires running { IsRunning (facts_of D.state T.rack system.now) }
+    ensures { KnowsIn user.now (facts_of D.state T.rack system.now) result }
+{
+    match system {
+        System::Up(store) => {
+            let known = store.user_time(user).is_some();
+            Some(known)
+        }
+        System::Down(_, _) => None,
+    }
+}
+
+/// The job comes in to a system that is up, where its user is known or isn't.
+fn take_job<K: Sink, D: Disc, T: Tapes>(
+    alloc: Global,
+    day: Day<D, T>,
+    known: bool,
+    job: NewJob,
+    out: &mut K,
+) -> Ended<D, T>
+    requires time { (1 ≤ job.time) × (job.time ≤ 1000000) }
+    requires money { job.money ≤ 1000000 }
+    requires numbers { day.crew.next_job + 1 < 18446744073709551616 }
+    ensures same { result.day ≡ record day { crew = result.day.crew } }
+    ensures taken { TakesJob known job day.count day.crew result.failure result.day.crew (K.written out.old) (K.written out.new) (K.faults out.old) (K.faults out.new) }
+{
+    let mut day = day;
+    let name = job.name.copy();
+    match day.crew.take_in(alloc, known, job) {
+        Ok(number) => {
+            let made = came_in(alloc, number, &name);
+            told(alloc, day, made, out)
+        }
+        Err(why) => {
+            let failure = turned_away(alloc, day.count, why, out);
+            Ended { day, failure }
+        }
+    }
+}
+
+/// Tells why a job isn't taken in; of want of memory nothing.
+pub(crate) fn turned_away<K: Sink>(
+    alloc: Global,
+    count: u64,
+    why: NotTaken,
+    out: &mut K,
+) -> Option<Failure>
+    ensures { TellsWhy why count result (K.written out.old) (K.written out.new) (K.faults out.old) (K.faults out.new) }
+{
+    match why {
+        NotTaken::NoMemory => Some(Failure::Memory),
+        _ => {
+            let made = refusal(alloc, why);
+            say_made(alloc, count, made, out)
+        }
+    }
+}
+
+/// What is told of a job that came in.
+pub(crate) fn came_in(alloc: Global, number: u64, name: &Local) -> Result<Text, NoMemory>
+    ensures { IfOk result (λ text. text ≡ texts.job_text number (name.now ++ codes " IN")) }
+{
+    let mut how = Text::from_slice(alloc, name.as_slice())?;
+    how.extend(b" IN")?;
+    job_text(alloc, number, how.as_slice())
+}
+
+/// What is told of a job that isn't taken in.
+fn refusal(alloc: Global, why: NotTaken) -> Result<Text, NoMemory>
+    requires { IsPrinted why }
+    ensures { IfOk result (λ text. text ≡ codes "REFUSED " ++ refusal_line why) }
+{
+    let mut text = Text::from_slice(alloc, b"REFUSED ")?;
+    push_refusal(&mut text, why)?;
+    Ok(text)
+}
+
+/// SHUT: the system goes down, and each unfinished job is cut off. `NotStarted`; `DumpOpen`: a dump is open.
+pub(crate) fn shut_line<K: Sink, D: Disc, T: Tapes>(
+    alloc: Global,
+    day: Day<D, T>,
+    out: &mut K,
+) -> Ended<D, T>
+    requires ready { IsReady day.system day.crew }
+    ensures { DidLine line.Shut day result.failure result.day (K.written out.old) (K.written out.new) (K.faults out.old) (K.faults out.new) }
+{
+    let Day {
+        system,
+        mut crew,
+        count,
+    } = day;
+    match system {
+        System::Up(store) => match store.dump_number() {
+            Some(number) => {
+                let day = Day {
+                    system: System::Up(store),
+                    crew,
+                    count,
+                };
+                refuse_or_go_down(alloc, day, StoreFault::DumpOpen(number), out)
+            }
+            None => {
+                let failure = goes_down(alloc, &mut crew, count, b"SHUT", out);
+                let (disc, tapes) = take_down(store);
+                let day = Day {
+                    system: System::Down(disc, tapes),
+                    crew,
+                    count,
+                };
+                Ended { day, failure }
+            }
+        },
+        System::Down(disc, tapes) => {
+            let day = Day {
+                system: System::Down(disc, tapes),
+                crew,
+                count,
+            };
+            refuse_or_go_down(alloc, day, StoreFault::NotStarted, out)
+        }
+    }
+}

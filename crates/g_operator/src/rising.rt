@@ -1,0 +1,226 @@
+//! The system comes up: by FORMAT, START or RESTORE.
+ghost use Rattle.std.specs.Prelude.{◌≡◌, ◌++◌, ◌<◌, ◌≤◌, ℕ, List, None, [], IfErr, IfOk, codes, false};
+ghost use Rattle.std.specs.Fmt.{decimal};
+ghost use Rattle.g_cache.specs.Cached.{cached_with};
+ghost use Rattle.g_operator.specs.Anew.{AnewLine};
+ghost use Rattle.g_operator.specs.Opening.{Opens};
+ghost use Rattle.g_operator.specs.Parts.{DidLine, IsReady, seen};
+ghost use Rattle.g_operator.specs.Puts.{Puts};
+ghost use Rattle.g_operator.specs.Rising.{MakesNone, Raises, RefusesRise, line_of};
+ghost use Rattle.g_operator.specs.System as system;
+ghost use Rattle.g_run_model.specs.Texts.{operator_line};
+
+use crate::day::Day;
+use crate::progress::{Ended, Failure};
+use crate::puts::told;
+use crate::running::{EmptyBox, Running};
+use crate::stopping::refuse_or_go_down;
+use crate::system::System;
+use g_base::NoMemory;
+use g_cache::CachedDisc;
+use g_job_table::{Crew, started_text};
+use g_disc::Disc;
+use g_io::Sink;
+use g_name::Text;
+use g_plain::StoreFault;
+use g_store::{Refused, Store, format, restore, start};
+use g_tape::Tapes;
+use std::alloc::Global;
+
+/// How a system comes up: as a new filestore; from what the disc holds, where a dump whose mark was written may be adopted; or from
+/// the tree that the last completed dump opened on.
+#[derive(Clone, Copy, Debug, PartialEq, Eq)]
+pub(crate) enum Rise {
+    Format,
+    Start,
+    Restore,
+}
+
+/// FORMAT, START or RESTORE. `Running`: the system is up; else the refusals of a store that is made so (docs/MANUAL.md).
+pub(crate) fn rise_line<K: Sink, D: Disc, T: Tapes>(
+    alloc: Global,
+    day: Day<D, T>,
+    rise: Rise,
+    out: &mut K,
+) -> Ended<D, T>
+    requires ready { IsReady day.system day.crew }
+    ensures line { DidLine (line_of rise) day result.failure result.day (K.written out.old) (K.written out.new) (K.faults out.old) (K.faults out.new) }
+    ensures anew { AnewLine (line_of rise) day result.failure result.day (K.written out.old) (K.written out.new) (K.faults out.old) (K.faults out.new) }
+{
+    let Day {
+        system,
+        crew,
+        count,
+    } = day;
+    match system {
+        System::Up(store) => {
+            let day = Day {
+                system: System::Up(store),
+                crew,
+                count,
+            };
+            refuse_or_go_down(alloc, day, StoreFault::Running, out)
+        }
+        System::Down(disc, tapes) => match raise(alloc, disc, tapes, rise) {
+            Ok(raised) => comes_up(alloc, raised, crew, count, out),
+            Err(refused) => {
+                let Refused { fault, disc, tapes } = refused;
+                let day = Day {
+                    system: System::Down(disc, tapes),
+                    crew,
+                    count,
+                };
+                refuse_or_go_down(alloc, day, fault, out)
+            }
+        },
+    }
+}
+
+/// A store that was made, and what is told of it.
+#[derive(Drop)]
+struct Raised<D: Disc, T: Tapes> {
+    store: Running<D, T>,
+    made: Result<Text, NoMemory>,
+}
+
+/// A store over both devices. A refusal hands them back; without memory for the box of the store or the cache before the disc they
+/// are as they were.
+fn raise<D: Disc, T: Tapes>(
+    alloc: Global,
+    disc: D,
+    tapes: T,
+    rise: Rise,
+) -> Result<Raised<D, T>, Refused<D, T>>
+    requires size { (2177 < (D.state disc).size) × ((D.state disc).size ≤ 1048576) }
+    ensures ok { IfOk result (λ r. Raises rise (D.state disc) (T.rack tapes) r.store r.made) }
+    ensures refused { IfErr result (λ e. MakesNone rise (D.state disc) (T.rack tapes) e.fault (D.state e.disc) (T.rack e.tapes)) }
+{
+    match box_and_cache(alloc, disc) {
+        Ok((place, disc)) => raise_in(alloc, place, disc, tapes, rise),
+        Err(disc) => Err(Refused {
+            fault: StoreFault::NoMemory,
+            disc,
+            tapes,
+        }),
+    }
+}
+
+/// The same in a box that is there, over a disc that is in its cache.
+fn raise_in<D: Disc, T: Tapes>(
+    alloc: Global,
+    place: EmptyBox<D, T>,
+    disc: CachedDisc<D>,
+    tapes: T,
+    rise: Rise,
+) -> Result<Raised<D, T>, Refused<D, T>>
+    requires size { (2177 < (D.state disc.disc).size) × ((D.state disc.disc).size ≤ 1048576) }
+    ensures ok { IfOk result (λ r. Raises rise (D.state disc.disc) (T.rack tapes) r.store r.made) }
+    ensures refused { IfErr result (λ e. MakesNone rise (D.state disc.disc) (T.rack tapes) e.fault (D.state e.disc) (T.rack e.tapes)) }
+{
+    match made_by(alloc, disc, tapes, rise) {
+        Ok((store, made)) => Ok(Raised {
+            store: place.filled(store),
+            made,
+        }),
+        Err(refused) => {
+            place.discard();
+            let Refused { fault, disc, tapes } = refused;
+            Err(Refused {
+                fault,
+                disc: disc.into_disc(),
+                tapes,
+            })
+        }
+    }
+}
+
+/// A store, and the line that tells it, where there is memory for the line.
+fn made_by<D: Disc, T: Tapes>(
+    alloc: Global,
+    disc: CachedDisc<D>,
+    tapes: T,
+    rise: Rise,
+) -> Result<(Store<CachedDisc<D>, T>, Result<Text, NoMemory>), Refused<CachedDisc<D>, T>>
+    requires size { (2177 < (D.state disc.disc).size) × ((D.state disc.disc).size ≤ 1048576) }
+    ensures ok { IfOk result (λ p. Raises rise (D.state disc.disc) (T.rack tapes) p.0 p.1) }
+    ensures refused { IfErr result (λ e. RefusesRise rise (D.state disc.disc) (T.rack tapes) e.fault (D.state e.disc.disc) (T.rack e.tapes)) }
+{
+    match rise {
+        Rise::Format => match format(alloc, disc, tapes) {
+            Ok(store) => Ok((store, Text::from_slice(alloc, b"FORMATTED"))),
+            Err(refused) => Err(refused),
+        },
+        Rise::Start => match start(alloc, disc, tapes) {
+            Ok((store, adopted)) => Ok((store, started_text(alloc, adopted))),
+            Err(refused) => Err(refused),
+        },
+        Rise::Restore => match restore(alloc, disc, tapes) {
+            Ok((store, number)) => Ok((store, restored(alloc, number))),
+            Err(refused) => Err(refused),
+        },
+    }
+}
+
+/// What a system that comes up needs memory for: a box for its store, and a cache before its disc. Where there is none, the disc comes
+/// back as it was.
+fn box_and_cache<D: Disc, T: Tapes>(alloc: Global, disc: D) -> Result<(EmptyBox<D, T>, CachedDisc<D>), D>
+    ensures empty { IfOk result (λ p. p.1 ≡ cached_with disc []) }
+    ensures unchanged { IfErr result (λ d. d ≡ disc) }
+{
+    match EmptyBox::new(alloc) {
+        Ok(place) => match CachedDisc::new(alloc, disc) {
+            Ok(disc) => Ok((place, disc)),
+            Err((_, disc)) => {
+                place.discard();
+                Err(disc)
+            }
+        },
+        Err(NoMemory) => Err(disc),
+    }
+}
+
+/// The system is up: each user's accounts open, and the line that tells it is put.
+fn comes_up<K: Sink, D: Disc, T: Tapes>(
+    alloc: Global,
+    raised: Raised<D, T>,
+    crew: Crew,
+    count: u64,
+    out: &mut K,
+) -> Ended<D, T>
+    requires running { raised.store.spent ≡ false }
+    ensures day { result.day ≡ seen (system.Up raised.store) result.day.crew count }
+    ensures opened { result.failure ≡ None → Opens raised.store.online.contents.users crew result.day.crew }
+    ensures put { (what : List ℕ) → IfOk raised.made (λ t. t ≡ what)
+        → Puts result.failure (operator_line count what) (K.written out.old) (K.written out.new) (K.faults out.old) (K.faults out.new) }
+{
+    let Raised { store, made } = raised;
+    let mut crew = crew;
+    match crew.open_accounts(store.users()) {
+        Ok(()) => {
+            let day = Day {
+                system: System::Up(store),
+                crew,
+                count,
+            };
+            told(alloc, day, made, out)
+        }
+        Err(NoMemory) => Ended {
+            day: Day {
+                system: System::Up(store),
+                crew,
+                count,
+            },
+            failure: Some(Failure::Memory),
+        },
+    }
+}
+
+/// What is told of a RESTORE.
+fn restored(alloc: Global, number: u64) -> Result<Text, NoMemory>
+    ensures { IfOk result (λ text. text ≡ codes "RESTORED FROM DUMP " ++ decimal number) }
+{
+    let mut text = Text::from_slice(alloc, b"RESTORED FROM DUMP ")?;
+    let digits = number.to_string(alloc)?;
+    text.extend(digits.as_bytes())?;
+    Ok(text)
+}

@@ -1,0 +1,136 @@
+-- A run by rules that answer as others may is a run by those: a run asks them, and looks at nothing else of them.
+use Rattle.std.proofs.Common.{◌≡◌, ℕ, List, [], ◌∷◌, Option, Some, None, inl, inr}
+use Rattle.std.specs.Fn.{Shared, FnReturnsAt}
+use denote.Ref.{Bor}
+use Rattle.g_budget.specs.declared.tariff.Charge.{Charge}
+use Rattle.g_budget.specs.declared.tariff.Usage.{Usage}
+use Rattle.g_operator.specs.declared.progress.Failure.{Failure}
+use Rattle.g_operator.specs.declared.progress.Failure.TheVariants as failures
+use Rattle.g_demo.specs.declared.demonstration.Demonstration.{Demonstration}
+use Rattle.g_job.specs.Ends.{IsPriced}
+use Rattle.g_run.specs.Demo.{IsDemoText, PutsDemo}
+use Rattle.g_run.specs.Top.{EndsAs, EndsDemo}
+use Rattle.g_run.specs.declared.status.Status.{Status}
+use Rattle.g_run.specs.declared.status.Status.TheVariants.{Done, Words, BadScript, ScriptFault, OutputFault, NoMemory, TooLong}
+use Rattle.g_sched.specs.Choice.{IsChosen}
+use Rattle.g_sched.specs.declared.rule.Standing.{Standing}
+use Rattle.g_script.specs.declared.operator.Timed.{Timed}
+use Rattle.g_turn.specs.State.{Work}
+use Rattle.g_store_model.specs.State.{State}
+use Rattle.g_run_model.specs.Devices.{Devices}
+use Rattle.g_run_model.specs.Moves.{Move, Run, Step, TakeLine, Dumped, Begin, Answered, TurnOver, Ticked, Over}
+use Rattle.g_run_model.specs.Top.{EndsShort, EndsWhole, IsCut, RunOf}
+use Rattle.g_run_model.specs.World.{World}
+
+module _ {F G U V : Type 0}
+    (tariffs : Shared F (Bor Usage × Unit {0}) Charge) (tariff : F) (others : Shared G (Bor Usage × Unit {0}) Charge) (other : G)
+    (priced : (usage : Usage) (charge : Charge) → FnReturnsAt tariffs tariff usage charge → FnReturnsAt others other usage charge)
+    (rules : Shared U (Bor Standing × Unit {0}) ℕ) (rule : U) (ways : Shared V (Bor Standing × Unit {0}) ℕ) (way : V)
+    (weighed : (standing : Standing) (weight : ℕ) → FnReturnsAt rules rule standing weight → FnReturnsAt ways way standing weight) where
+  chosen : (list : List Standing) (place : ℕ) → IsChosen rules rule list place → IsChosen ways way list place
+  chosen list place is = record {
+    standing = is.standing;
+    weight = is.weight;
+    there = is.there;
+    weighed = weighed is.standing is.weight is.weighed;
+    least = λ place' standing' there. let (weight', weighs, later) = is.least place' standing' there in
+        (weight', weighed standing' weight' weighs, later);
+  }
+
+  price_of : (w : Work) (charge : Option Charge) → IsPriced tariffs tariff w charge → IsPriced others other w charge
+  price_of w None is = is
+  price_of w (Some charge) is = priced _ charge is
+
+  step_by : (w : World) (move : Move) (new : World) → Step tariffs tariff rules rule w move new → Step others other ways way w move new
+  step_by w (TakeLine process outcome) new it = it
+  step_by w (Dumped outcome) new it = it
+  step_by w (Begin number) new it =
+      let (free, late, phase, begun) = it in
+      let (place, job, is, there, named, next) = begun in (free, late, phase, (place, job, chosen _ _ is, there, named, next))
+  step_by w (Answered outcome) new it = it
+  step_by w (TurnOver number charge) new it =
+      let (work, job, turn, after, gives, there, costs, ended, next) = it in
+      (work, job, turn, after, gives, there, price_of work charge costs, ended, next)
+  step_by w Ticked new it = it
+  step_by w Over new it = it
+
+  run_by : (w : World) (moves : List Move) (last : World) → Run tariffs tariff rules rule w moves last → Run others other ways way w moves last
+  run_by w [] last it = it
+  run_by w (move ∷ moves) last it = let (mid, goes, more) = it in (mid, step_by w move mid goes, run_by mid moves last more)
+
+  run_of : (lines : List Timed) (bad : Option ℕ) (s : State) (old new : Devices) (moves : List Move) (last : World)
+      → RunOf tariffs tariff rules rule lines bad s old new moves last → RunOf others other ways way lines bad s old new moves last
+  run_of lines bad s old new moves last is = record { run = run_by _ moves last is.run; counted = is.counted; stands = is.stands }
+
+  whole_by : (lines : List Timed) (bad : Option ℕ) (old new : Devices) (before after : Option (List ℕ))
+      → EndsWhole tariffs tariff rules rule lines bad old new before after → EndsWhole others other ways way lines bad old new before after
+  whole_by lines bad old new before after it = λ s stands.
+      let e = it s stands in record { moves = e.moves; last = e.last; run_of = run_of lines bad s old new e.moves e.last e.run_of; over = e.over; text = e.text }
+
+  short_by : (lines : List Timed) (bad : Option ℕ) (old new : Devices) (before after : Option (List ℕ))
+      → EndsShort tariffs tariff rules rule lines bad old new before after → EndsShort others other ways way lines bad old new before after
+  short_by lines bad old new before after it = λ s stands.
+      let e = it s stands in record { moves = e.moves; last = e.last; run_of = run_of lines bad s old new e.moves e.last e.run_of; text = e.text }
+
+  cut_by : (left : List ℕ) (old new : Devices) (before after : Option (List ℕ))
+      → IsCut tariffs tariff rules rule left old new before after → IsCut others other ways way left old new before after
+  cut_by left old new before after (inl same) = inl same
+  cut_by left old new before after (inr it) =
+      let (lines, bad, parsed, ends) = it in inr (lines, bad, parsed, short_by lines bad old new before after ends)
+
+  ends_by : (status : Status) (left : List ℕ) (old new : Devices) (before after : Option (List ℕ))
+      → EndsAs tariffs tariff rules rule status left old new before after → EndsAs others other ways way status left old new before after
+  ends_by Done left old new before after it =
+      let (lines, parsed, ends) = it in (lines, parsed, whole_by lines None old new before after ends)
+  ends_by (BadScript line) left old new before after it =
+      let (lines, parsed, ends) = it in (lines, parsed, whole_by lines (Some line) old new before after ends)
+  ends_by OutputFault left old new before after it = cut_by left old new before after it
+  ends_by NoMemory left old new before after it = cut_by left old new before after it
+  ends_by TooLong left old new before after it = it
+  ends_by Words left old new before after it = it
+  ends_by ScriptFault left old new before after it = it
+
+  demo_text_by : (demo : Demonstration) (text : List ℕ) → IsDemoText tariffs tariff rules rule demo text → IsDemoText others other ways way demo text
+  demo_text_by demo text is = record {
+    old = is.old;
+    new = is.new;
+    fresh = is.fresh;
+    lines = is.lines;
+    bad = is.bad;
+    parsed = is.parsed;
+    ends = whole_by is.lines is.bad is.old is.new (Some []) (Some text) is.ends;
+  }
+
+  puts_by : (failure : Option Failure) (demo : Demonstration) (before after : Option (List ℕ))
+      → PutsDemo tariffs tariff rules rule failure demo before after → PutsDemo others other ways way failure demo before after
+  puts_by None demo before after it = let (text, is, more) = it in (text, demo_text_by demo text is, more)
+  puts_by (Some failure) demo before after (inl same) = inl same
+  puts_by (Some failure) demo before after (inr it) = let (text, is, more) = it in inr (text, demo_text_by demo text is, more)
+
+  demo_by : (status : Status) (demo : Demonstration) (before after : Option (List ℕ))
+      → EndsDemo tariffs tariff rules rule status demo before after → EndsDemo others other ways way status demo before after
+  demo_by Done demo before after it = puts_by None demo before after it
+  demo_by OutputFault demo before after it = puts_by (Some failures.Output) demo before after it
+  demo_by NoMemory demo before after it = puts_by (Some failures.Memory) demo before after it
+  demo_by Words demo before after it = it
+  demo_by (BadScript line) demo before after it = it
+  demo_by ScriptFault demo before after it = it
+  demo_by TooLong demo before after it = it
+
+module _ {F G U V : Type 0} {tariffs : Shared F (Bor Usage × Unit {0}) Charge} {tariff : F} {rules : Shared U (Bor Standing × Unit {0}) ℕ} {rule : U}
+    (others : Shared G (Bor Usage × Unit {0}) Charge) (other : G) (ways : Shared V (Bor Standing × Unit {0}) ℕ) (way : V) where
+  pub ends_as : (status : Status) (left : List ℕ) (old new : Devices) (before after : Option (List ℕ))
+      → EndsAs tariffs tariff rules rule status left old new before after
+      → ((usage : Usage) (charge : Charge) → FnReturnsAt tariffs tariff usage charge → FnReturnsAt others other usage charge)
+      → ((standing : Standing) (weight : ℕ) → FnReturnsAt rules rule standing weight → FnReturnsAt ways way standing weight)
+      → EndsAs others other ways way status left old new before after
+  ends_as status left old new before after it priced weighed =
+      ends_by tariffs tariff others other priced rules rule ways way weighed status left old new before after it
+
+  pub demo_as : (status : Status) (demo : Demonstration) (before after : Option (List ℕ))
+      → EndsDemo tariffs tariff rules rule status demo before after
+      → ((usage : Usage) (charge : Charge) → FnReturnsAt tariffs tariff usage charge → FnReturnsAt others other usage charge)
+      → ((standing : Standing) (weight : ℕ) → FnReturnsAt rules rule standing weight → FnReturnsAt ways way standing weight)
+      → EndsDemo others other ways way status demo before after
+  demo_as status demo before after it priced weighed =
+      demo_by tariffs tariff others other priced rules rule ways way weighed status demo before after it

@@ -1,0 +1,131 @@
+//! What the program does by its words: a run on image and rack, or on image and two racks, or what needs none of them.
+ghost use Rattle.std.specs.Prelude.{◌≡◌, ◌<◌, ◌≤◌, ◌⊎◌, IfOk};
+ghost use Rattle.g_demo.specs.Words.{AskNothing, texts_of};
+ghost use Rattle.g_run.specs.Input.{IsRun};
+ghost use Rattle.g_run.specs.Top.{IsOfRun, IsOfWords, code_of};
+ghost use Rattle.g_program.specs.Exit.{IsExit};
+
+use crate::rules::run_by_rules;
+use crate::telling::{tell_lost, tell_rebuilt, tell_unusable};
+use g_base::NoMemory;
+use g_demo::{Asked, asked_by};
+use g_devices::{
+    FileDisc, FileTapes, StdSink, StdSource, is_there, open_duplex, open_image, open_rack,
+};
+use g_disc::{Disc, MemoryDisc};
+use g_duplex::Duplex;
+use g_run::{Finish, Status};
+use g_tape::{MemoryTapes, Tapes};
+use std::alloc::Global;
+use std::io::{self, ErrorKind};
+
+/// The exit status where the image or the rack can't be used.
+const NO_IMAGE: u8 = 7;
+
+/// The disc's image, in the present folder.
+const IMAGE: &str = "george.disc";
+
+/// The folder of the reels' images, there too.
+const RACK: &str = "george.tapes";
+
+/// The folder of each reel's second image, where that is kept.
+const SECOND_RACK: &str = "george.tapes2";
+
+/// The blocks of a disc on which nothing is looked for: no disc has fewer.
+const LEAST_BLOCKS: u32 = 2_178;
+
+/// Does what the words ask for, and gives the exit status. The words are looked at before anything is opened or made.
+pub fn answer(rt: &HostRuntime, words: &[&str]) -> u8
+    ensures unknown { AskNothing (texts_of words.now) → IsExit IsOfWords result }
+    ensures known { IsRun words.now → (result ≡ 7) ⊎ IsExit IsOfRun result }
+{
+    match asked_by(words) {
+        Some(Asked::Run) => on_files(rt, words),
+        Some(Asked::Demo(_demo)) => without_files(rt, words),
+        None => without_files(rt, words),
+    }
+}
+
+/// Runs on image and rack. 7 where they can't be used, which is told, and 5 where memory is wanting before the run.
+fn on_files(rt: &HostRuntime, words: &[&str]) -> u8
+    ensures known { IsRun words.now → (result ≡ 7) ⊎ IsExit IsOfRun result }
+{
+    match run_on_files(rt, words) {
+        Ok(code) => code,
+        Err(fault) if fault.kind() == ErrorKind::OutOfMemory => Status::NoMemory.code(),
+        Err(fault) => {
+            tell_unusable(rt, fault.kind());
+            NO_IMAGE
+        }
+    }
+}
+
+/// Opens the image, and then the rack, for this run alone, and runs on them; each is made where it isn't there. Where anything
+/// has the second rack's name, that is opened too, and both are one rack.
+fn run_on_files(rt: &HostRuntime, words: &[&str]) -> io::Result<u8>
+    ensures known { IfOk result (λ code. IsRun words.now → IsExit IsOfRun code) }
+{
+    let disc = open_image(rt, IMAGE)?;
+    if is_there(rt, SECOND_RACK)? {
+        let (pair, rebuilt) = open_duplex(rt, RACK, SECOND_RACK)?;
+        tell_rebuilt(rt, &rebuilt);
+        return Ok(closed_pair(rt, run(rt, words, disc, pair)));
+    }
+    let tapes = open_rack(rt, RACK)?;
+    Ok(closed(run(rt, words, disc, tapes)))
+}
+
+/// Brings image and rack to the device, and gives the exit status of the run.
+fn closed(finish: Finish<FileDisc, FileTapes>) -> u8
+    ensures { result ≡ code_of finish.status }
+{
+    finish.disc.sync();
+    finish.tapes.sync();
+    finish.status.code()
+}
+
+/// Brings image and both racks to the device, tells which reels were lost in the run, and gives its exit status.
+fn closed_pair(rt: &HostRuntime, finish: Finish<FileDisc, Duplex<FileTapes>>) -> u8
+    ensures { result ≡ code_of finish.status }
+{
+    finish.disc.sync();
+    tell_lost(rt, finish.tapes.lost());
+    let code = finish.status.code();
+    let (first, second) = finish.tapes.into_racks();
+    first.sync();
+    second.sync();
+    code
+}
+
+/// Does what needs no image and no rack, over devices in memory in their place.
+fn without_files(rt: &HostRuntime, words: &[&str]) -> u8
+    ensures unknown { AskNothing (texts_of words.now) → IsExit IsOfWords result }
+{
+    match spare_devices(rt.alloc()) {
+        Ok((disc, tapes)) => {
+            let Finish { status, .. } = run(rt, words, disc, tapes);
+            status.code()
+        }
+        Err(NoMemory) => Status::NoMemory.code(),
+    }
+}
+
+/// A disc without content, and a rack without reels.
+fn spare_devices(alloc: Global) -> Result<(MemoryDisc, MemoryTapes), NoMemory>
+    ensures { IfOk result (λ devices. devices.0.disc.size ≡ 2178) }
+{
+    let disc = MemoryDisc::new(alloc, LEAST_BLOCKS)?;
+    let tapes = MemoryTapes::new(alloc, Vec::new(alloc))?;
+    Ok((disc, tapes))
+}
+
+/// Runs the script of standard input on these devices, by the rules of this program, with the text to standard output.
+fn run<D: Disc, T: Tapes>(rt: &HostRuntime, words: &[&str], disc: D, tapes: T) -> Finish<D, T>
+    requires size { (2177 < (D.state disc).size) × ((D.state disc).size ≤ 1048576) }
+    ensures unknown { AskNothing (texts_of words.now) → IsOfWords result.status }
+    ensures known { IsRun words.now → IsOfRun result.status }
+{
+    let mut script = StdSource::new(rt.reader());
+    let mut out = StdSink::new(io::writer(rt));
+    run_by_rules(rt.alloc(), words, &mut script, &mut out, disc, tapes)
+}

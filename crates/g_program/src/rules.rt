@@ -1,0 +1,124 @@
+//! The rules of this program: what a turn of a job costs, and which job goes next; and a run by them.
+ghost use Rattle.std.specs.Prelude.{◌≡◌, ◌<◌, ◌≤◌, ◌^◌, ℕ, List, [], Option, Some, drop, length};
+ghost use Rattle.g_base.specs.Counts.{Rose};
+ghost use Rattle.g_operator.specs.System.{BelongTogether, DumpsGrow, SameDevices};
+ghost use Rattle.g_demo.specs.Words.{AskNothing, IsDemonstration, demo_words, texts_of};
+ghost use Rattle.g_demo.specs.declared.demonstration.Demonstration.{Demonstration};
+ghost use Rattle.g_lines.specs.Lines.{lines_of};
+ghost use Rattle.g_sched.specs.Rule.{IsInRange};
+ghost use Rattle.g_script.specs.Script.{IsParsed};
+ghost use Rattle.g_script.specs.declared.operator.Timed.{Timed};
+ghost use Rattle.g_laws_process.specs.Moving.{DumpsMove};
+ghost use Rattle.g_run_model.specs.Top.{AreArmings, AreFused, IsCutWords};
+ghost use Rattle.g_laws_runs.specs.Anew.{with_new_disc};
+ghost use Rattle.g_laws_runs.specs.Filestores.{HasFilestore};
+ghost use Rattle.g_run.specs.Input.{IsRun};
+ghost use Rattle.g_run.specs.Over.{both};
+ghost use Rattle.g_run.specs.Parts.{HaveNoProcess};
+ghost use Rattle.g_run.specs.Top as top;
+ghost use Rattle.g_program.specs.Rules.{answering, price, share_used};
+
+use g_budget::{Charge, Tariff, Usage};
+use g_disc::Disc;
+use g_io::{Sink, Source};
+use g_run::{Finish, george};
+use g_sched::{Standing, WeighRule};
+use g_tape::Tapes;
+use std::alloc::Global;
+
+/// What a turn costs: a unit of TIME, one more for each 64 orders and each 64 blocks, and one of MONEY for each
+/// 64 blocks (docs/MANUAL.md, "Ticks").
+fn price_of(usage: &Usage) -> Charge
+    ensures { result ≡ price usage.now }
+{
+    let blocks = u64::from(usage.blocks / 64);
+    Charge {
+        units: 1 + u64::from(usage.orders / 64) + blocks,
+        money: blocks,
+    }
+}
+
+/// What a job weighs, whose turn comes the earlier the less that is: the share of its TIME that it has used, in
+/// millionths, rounded down.
+fn weight_of(standing: &Standing) -> u64
+    requires { IsInRange standing.now }
+    ensures value { result ≡ share_used standing.now }
+    ensures bounded { result ≤ 2 ^ 40 }
+{
+    standing.used * 1_000_000 / standing.allowance
+}
+
+/// Runs the script by the rules of this program, on any disc and rack; both are handed back with every status
+/// (docs/MANUAL.md, "Exit status").
+pub fn run_by_rules<S: Source, K: Sink, D: Disc, T: Tapes>(
+    alloc: Global,
+    words: &[&str],
+    script: &mut S,
+    out: &mut K,
+    disc: D,
+    tapes: T,
+) -> Finish<D, T>
+    requires size { (2177 < (D.state disc).size) × ((D.state disc).size ≤ 1048576) }
+
+    // Which statuses come with which words, and when a script is too long.
+    ensures unknown { AskNothing (texts_of words.now) → top.IsOfWords result.status }
+    ensures known { IsRun words.now → top.IsOfRun result.status }
+    ensures long { (left : List ℕ) → S.left script.old ≡ Some left → IsRun words.now → 16777216 < length left → top.IsNotDone result.status }
+    ensures complete { (left : List ℕ) → S.left script.old ≡ Some left → IsRun words.now → length left ≤ 16777216 →
+        (Rose (S.faults script.old) (S.faults script.new) → ⊥) → (Rose (K.faults out.old) (K.faults out.new) → ⊥) → top.IsComplete result.status }
+
+    // What was read of the source.
+    ensures unread { (IsRun words.now → ⊥) → S.left script.new ≡ S.left script.old }
+    ensures taken { (left : List ℕ) → S.left script.old ≡ Some left → (n : ℕ) × (n ≤ 16777217) × (S.left script.new ≡ Some (drop n left)) }
+    ensures whole { IsRun words.now → top.IsThrough result.status → (left : List ℕ) → S.left script.old ≡ Some left → S.left script.new ≡ Some [] }
+
+    // Each fault has its cause.
+    ensures source { top.SourceCause result.status (S.faults script.old) (S.faults script.new) }
+    ensures sink { top.SinkCause result.status (K.faults out.old) (K.faults out.new) }
+
+    // What was written, and what both devices are then: a run's, whose turns cost what `price` says and whose next job is the
+    // one of the least `share_used`.
+    ensures quiet { top.IsQuiet result.status (both (D.state disc) (T.rack tapes)) (both (D.state result.disc) (T.rack result.tapes)) (K.written out.old) (K.written out.new) }
+    ensures ends { IsRun words.now → (left : List ℕ) → S.left script.old ≡ Some left →
+        top.EndsAs (answering price) tt (answering share_used) tt result.status left (both (D.state disc) (T.rack tapes)) (both (D.state result.disc) (T.rack result.tapes))
+        (K.written out.old) (K.written out.new) }
+    // To begin anew, over a disc that may name copies which no reel has, so that disc and rack don't belong together: the run is one from
+    // the state of a new disc beside the same reels, and they belong together at its end.
+    ensures anew { IsRun words.now → (left : List ℕ) → S.left script.old ≡ Some left → top.IsThrough result.status
+        → top.BeginsAnew left (both (D.state disc) (T.rack tapes)) (both (D.state result.disc) (T.rack result.tapes))
+        → top.EndsAs (answering price) tt (answering share_used) tt result.status left (with_new_disc (both (D.state disc) (T.rack tapes))) (both (D.state result.disc) (T.rack result.tapes))
+        (K.written out.old) (K.written out.new)
+        × BelongTogether (both (D.state result.disc) (T.rack result.tapes)) }
+    ensures words { AskNothing (texts_of words.now)
+        → IsCutWords (both (D.state disc) (T.rack tapes)) (both (D.state result.disc) (T.rack result.tapes)) (K.written out.old) (K.written out.new) }
+    ensures enough { AskNothing (texts_of words.now) → top.IsForMemory result.status → ⊥ }
+
+    // A demonstration: the devices that were handed in come back unchanged, and the summary of its text is put.
+    ensures demo { (demo : Demonstration) → IsDemonstration demo → texts_of words.now ≡ demo_words demo
+        → (both (D.state result.disc) (T.rack result.tapes) ≡ both (D.state disc) (T.rack tapes))
+        × top.EndsDemo (answering price) tt (answering share_used) tt result.status demo (K.written out.old) (K.written out.new) }
+
+    // With every status, of all devices, whether they tell or not: what armed them, what their fuses are, and that they are the same.
+    ensures arms { IsRun words.now → (left : List ℕ) → S.left script.old ≡ Some left → (lines : List Timed) (bad : Option ℕ) → IsParsed (lines_of left) lines bad →
+        AreArmings lines (top.IsThrough result.status) (both (D.state disc) (T.rack tapes)) (both (D.state result.disc) (T.rack result.tapes)) }
+    ensures fuses { AreFused (both (D.state result.disc) (T.rack result.tapes)) }
+    ensures same { SameDevices (both (D.state disc) (T.rack tapes)) (both (D.state result.disc) (T.rack result.tapes)) }
+
+    // With every status, of devices that tell and belong together: they go on doing so, and a disc that holds a filestore goes on to
+    // hold one. Each dump that was completed stays so, whole and in its place, or its whole reel was released, and a newer one stands
+    // that has the directory of each of its users; where no line of the script is a PROCESS, all stay.
+    ensures belongs { BelongTogether (both (D.state disc) (T.rack tapes)) → BelongTogether (both (D.state result.disc) (T.rack result.tapes)) }
+    ensures dumps { BelongTogether (both (D.state disc) (T.rack tapes)) → DumpsMove (T.rack tapes) (T.rack result.tapes) }
+    ensures stay { BelongTogether (both (D.state disc) (T.rack tapes)) → (left : List ℕ) → S.left script.old ≡ Some left → (lines : List Timed) (bad : Option ℕ) → IsParsed (lines_of left) lines bad
+        → HaveNoProcess lines → DumpsGrow (T.rack tapes) (T.rack result.tapes) }
+    ensures stands { BelongTogether (both (D.state disc) (T.rack tapes)) → HasFilestore (both (D.state disc) (T.rack tapes))
+        → HasFilestore (both (D.state result.disc) (T.rack result.tapes)) }
+{
+    let tariff = Tariff::new(|usage: &Usage| -> Charge { price_of(usage) });
+    let weigh = WeighRule::new(
+        |standing: &Standing| -> u64
+            requires { IsInRange standing.now }
+        { weight_of(standing) },
+    );
+    george(alloc, words, script, out, disc, tapes, &tariff, &weigh)
+}

@@ -1,0 +1,186 @@
+-- What the devices count, event by event.
+use Rattle.std.proofs.Common.{◌≡◌, ℕ, ◌+◌, ◌++◌, Bool, true, false, cond, filter, List, [], ◌∷◌, refl, sym, ◌∙◌, subst, arith}
+use Rattle.g_base.specs.Counts.{HasRisenBy, Rose}
+use Rattle.g_base.proofs.CountLemmas.{HasRisenBy-Rose, HasRisenBy-none, HasRisenBy-then}
+use Rattle.g_base.proofs.FuseLemmas.{armed_then}
+use Rattle.g_store_model.specs.CallStep.{Outcome, Plain}
+use Rattle.g_run_model.specs.Devices.{Devices}
+use Rattle.g_run_model.specs.Moves.{Answered, Begin, Counted, Dumped, EventCounted, Happened, LineCounted, Move, MovesCounted, Over, TakeLine, Ticked, TurnOver, WritesFailed, counted, cuts_in, cuts_of_calls, cuts_of_dumps, disc_reads_in, is_dump, not_dump, tape_reads_in}
+use Rattle.g_run_model.specs.World.{World}
+
+pub none_rose : (a b : ℕ) → b ≡ a → HasRisenBy 0 a b
+none_rose a b e = HasRisenBy-none (omega (arith, e))
+
+one_zero : {X : Type 0} → ◌≡◌ {A = ℕ} 1 0 → X
+one_zero e = let no : ⊥ = omega arith in absurd no
+
+-- no write failed; one of the disc did; one of the rack did
+pub none_failed : (old new : Devices) → new.disc.write_faults ≡ old.disc.write_faults → new.rack.write_faults ≡ old.rack.write_faults → WritesFailed 0 0 old new
+none_failed old new disc rack = record {
+  of_disc = 0;
+  of_rack = 0;
+  together = refl;
+  disc_rose = none_rose old.disc.write_faults new.disc.write_faults disc;
+  rack_rose = none_rose old.rack.write_faults new.rack.write_faults rack;
+  no_disc = λ none e. disc;
+  no_rack = λ e. rack;
+}
+
+pub disc_failed : (old new : Devices) → Rose old.disc.write_faults new.disc.write_faults → new.rack.write_faults ≡ old.rack.write_faults → WritesFailed 1 0 old new
+disc_failed old new rose rack = record {
+  of_disc = 0;
+  of_rack = 0;
+  together = refl;
+  disc_rose = HasRisenBy-Rose rose;
+  rack_rose = none_rose old.rack.write_faults new.rack.write_faults rack;
+  no_disc = λ e none. one_zero e;
+  no_rack = λ e. rack;
+}
+
+-- the same of a step of a dump
+pub dump_failed : (old new : Devices) → Rose old.disc.write_faults new.disc.write_faults → new.rack.write_faults ≡ old.rack.write_faults → WritesFailed 0 1 old new
+dump_failed old new rose rack = record {
+  of_disc = 1;
+  of_rack = 0;
+  together = refl;
+  disc_rose = HasRisenBy-Rose rose;
+  rack_rose = none_rose old.rack.write_faults new.rack.write_faults rack;
+  no_disc = λ none e. one_zero e;
+  no_rack = λ e. rack;
+}
+
+pub rack_failed : (old new : Devices) → new.disc.write_faults ≡ old.disc.write_faults → Rose old.rack.write_faults new.rack.write_faults → WritesFailed 0 1 old new
+rack_failed old new disc rose = record {
+  of_disc = 0;
+  of_rack = 1;
+  together = refl;
+  disc_rose = none_rose old.disc.write_faults new.disc.write_faults disc;
+  rack_rose = HasRisenBy-Rose rose;
+  no_disc = λ none e. disc;
+  no_rack = λ e. one_zero e;
+}
+
+-- devices that no event took part in, and devices that are alike but for what they hold
+pub happened_same : (old new : Devices) → new.disc.read_faults ≡ old.disc.read_faults → new.disc.write_faults ≡ old.disc.write_faults → new.disc.arms ≡ old.disc.arms
+    → new.rack.read_faults ≡ old.rack.read_faults → new.rack.write_faults ≡ old.rack.write_faults → new.rack.arms ≡ old.rack.arms → Happened 0 0 0 0 [] [] old new
+happened_same old new disc_reads disc_writes disc_arms tape_reads tape_writes tape_arms = record {
+  disc_reads_rose = none_rose old.disc.read_faults new.disc.read_faults disc_reads;
+  tape_reads_rose = none_rose old.rack.read_faults new.rack.read_faults tape_reads;
+  cuts_rose = none_failed old new disc_writes tape_writes;
+  no_disc_read = λ e. disc_reads;
+  no_tape_read = λ e. tape_reads;
+  disc_armed = disc_arms;
+  tape_armed = tape_arms;
+}
+
+pub event_none : (d : Devices) → Happened 0 0 0 0 [] [] d d
+event_none d = happened_same d d refl refl refl refl refl refl
+
+first_zero : (a b : ℕ) → a + b ≡ 0 → a ≡ 0
+first_zero a b e = omega (arith, e)
+
+second_zero : (a b : ℕ) → a + b ≡ 0 → b ≡ 0
+second_zero a b e = omega (arith, e)
+
+four : (a b c d : ℕ) → (a + b) + (c + d) ≡ (a + c) + (b + d)
+four a b c d = omega arith
+
+-- ONE PART BEHIND THE OTHER
+failed_then : (k l m n : ℕ) (old now new : Devices) → WritesFailed k m old now → WritesFailed l n now new → WritesFailed (k + l) (m + n) old new
+failed_then k l m n old now new was is = record {
+  of_disc = was.of_disc + is.of_disc;
+  of_rack = was.of_rack + is.of_rack;
+  together = let first = was.together in let second = is.together in omega (arith, first, second);
+  disc_rose = subst (λ (x : ℕ). HasRisenBy x old.disc.write_faults new.disc.write_faults) (four k was.of_disc l is.of_disc) (HasRisenBy-then was.disc_rose is.disc_rose);
+  rack_rose = HasRisenBy-then was.rack_rose is.rack_rose;
+  no_disc = λ c e. is.no_disc (second_zero k l c) (second_zero was.of_disc is.of_disc e) ∙ was.no_disc (first_zero k l c) (first_zero was.of_disc is.of_disc e);
+  no_rack = λ e. is.no_rack (second_zero was.of_rack is.of_rack e) ∙ was.no_rack (first_zero was.of_rack is.of_rack e);
+}
+
+pub happened_then : (a b c e : ℕ) (d t : List ℕ) (a' b' c' e' : ℕ) (d' t' : List ℕ) (old now new : Devices) → Happened a b c e d t old now → Happened a' b' c' e' d' t' now new
+    → Happened (a + a') (b + b') (c + c') (e + e') (d ++ d') (t ++ t') old new
+happened_then a b c e d t a' b' c' e' d' t' old now new was is = record {
+  disc_reads_rose = HasRisenBy-then was.disc_reads_rose is.disc_reads_rose;
+  tape_reads_rose = HasRisenBy-then was.tape_reads_rose is.tape_reads_rose;
+  cuts_rose = failed_then c c' e e' old now new was.cuts_rose is.cuts_rose;
+  no_disc_read = λ none. is.no_disc_read (second_zero a a' none) ∙ was.no_disc_read (first_zero a a' none);
+  no_tape_read = λ none. is.no_tape_read (second_zero b b' none) ∙ was.no_tape_read (first_zero b b' none);
+  disc_armed = armed_then d d' old.disc.arms now.disc.arms new.disc.arms was.disc_armed is.disc_armed;
+  tape_armed = armed_then t t' old.rack.arms now.rack.arms new.rack.arms was.tape_armed is.tape_armed;
+}
+
+pub counted_append : (f : Outcome → ℕ) (moves more : List Move) → counted f (moves ++ more) ≡ counted f moves + counted f more
+counted_append f [] more = omega arith
+counted_append f (m ∷ moves) more = let rest = counted_append f moves more in omega (arith, rest)
+
+filtered_append : (p : Move → Bool) (f : Outcome → ℕ) (moves more : List Move) → counted f (filter p (moves ++ more)) ≡ counted f (filter p moves) + counted f (filter p more)
+filtered_append p f [] more = omega arith
+filtered_append p f (m ∷ moves) more = by (p m) (filtered_append p f moves more)
+  where
+    by : (b : Bool) → counted f (filter p (moves ++ more)) ≡ counted f (filter p moves) + counted f (filter p more)
+        → counted f (cond b (m ∷ filter p (moves ++ more)) (filter p (moves ++ more))) ≡ counted f (cond b (m ∷ filter p moves) (filter p moves)) + counted f (filter p more)
+    by true rest = omega (arith, rest)
+    by false rest = rest
+
+-- all cuts are of calls and lines, or of dumps
+pub counted_parts : (f : Outcome → ℕ) (moves : List Move) → counted f moves ≡ counted f (filter not_dump moves) + counted f (filter is_dump moves)
+counted_parts f [] = refl
+counted_parts f (m ∷ moves) = by m (counted_parts f moves)
+  where
+    by : (m : Move) → counted f moves ≡ counted f (filter not_dump moves) + counted f (filter is_dump moves) → counted f (m ∷ moves) ≡ counted f (filter not_dump (m ∷ moves)) + counted f (filter is_dump (m ∷ moves))
+    by (TakeLine true o) rest = omega (arith, rest)
+    by (TakeLine false o) rest = omega (arith, rest)
+    by (Dumped o) rest = omega (arith, rest)
+    by (Begin number) rest = omega (arith, rest)
+    by (Answered o) rest = omega (arith, rest)
+    by (TurnOver number charge) rest = omega (arith, rest)
+    by Ticked rest = omega (arith, rest)
+    by Over rest = omega (arith, rest)
+
+one_more_zero : (n : ℕ) → n + 0 ≡ n
+one_more_zero n = omega arith
+
+-- at other numbers, which are equal
+at_counts : (a b c e a' b' c' e' : ℕ) (d t : List ℕ) (old new : Devices) → a' ≡ a → b' ≡ b → c' ≡ c → e' ≡ e → Happened a b c e d t old new → Happened a' b' c' e' d t old new
+at_counts a b c e a' b' c' e' d t old new sa sb sc se is =
+    subst (λ (n : ℕ). Happened n b' c' e' d t old new) (sym sa)
+    (subst (λ (n : ℕ). Happened a n c' e' d t old new) (sym sb)
+    (subst (λ (n : ℕ). Happened a b n e' d t old new) (sym sc)
+    (subst (λ (n : ℕ). Happened a b c n d t old new) (sym se) is)))
+
+-- the moves of two parts
+pub moves_then : (moves more : List Move) (d t d' t' : List ℕ) (old now new : Devices) → MovesCounted moves d t old now → MovesCounted more d' t' now new → MovesCounted (moves ++ more) (d ++ d') (t ++ t') old new
+moves_then moves more d t d' t' old now new was is =
+    at_counts (counted disc_reads_in moves + counted disc_reads_in more) (counted tape_reads_in moves + counted tape_reads_in more) (cuts_of_calls moves + cuts_of_calls more) (cuts_of_dumps moves + cuts_of_dumps more)
+    (counted disc_reads_in (moves ++ more)) (counted tape_reads_in (moves ++ more)) (cuts_of_calls (moves ++ more)) (cuts_of_dumps (moves ++ more)) (d ++ d') (t ++ t') old new
+    (counted_append disc_reads_in moves more) (counted_append tape_reads_in moves more) (filtered_append not_dump cuts_in moves more) (filtered_append is_dump cuts_in moves more)
+    (happened_then (counted disc_reads_in moves) (counted tape_reads_in moves) (cuts_of_calls moves) (cuts_of_dumps moves) d t
+    (counted disc_reads_in more) (counted tape_reads_in more) (cuts_of_calls more) (cuts_of_dumps more) d' t' old now new was is)
+
+-- one move: a line, a step of the dump, or any other
+abbrev pub MoveCounted : Move → List ℕ → List ℕ → Devices → Devices → Type 0
+MoveCounted (TakeLine tape o) d t old new = LineCounted tape o d t old new
+MoveCounted (Dumped o) d t old new = Happened (disc_reads_in o) (tape_reads_in o) 0 (cuts_in o) d t old new
+MoveCounted (Begin number) d t old new = EventCounted Plain d t old new
+MoveCounted (Answered o) d t old new = EventCounted o d t old new
+MoveCounted (TurnOver number charge) d t old new = EventCounted Plain d t old new
+MoveCounted Ticked d t old new = EventCounted Plain d t old new
+MoveCounted Over d t old new = EventCounted Plain d t old new
+
+at_one : (o : Outcome) (c e : ℕ) (d t : List ℕ) (old new : Devices) (c' e' : ℕ) → c' ≡ c → e' ≡ e → Happened (disc_reads_in o) (tape_reads_in o) c e d t old new → Happened (disc_reads_in o + 0) (tape_reads_in o + 0) c' e' d t old new
+at_one o c e d t old new c' e' sc se is =
+    at_counts (disc_reads_in o) (tape_reads_in o) c e (disc_reads_in o + 0) (tape_reads_in o + 0) c' e' d t old new (one_more_zero (disc_reads_in o)) (one_more_zero (tape_reads_in o)) sc se is
+
+pub move_counted : (m : Move) (d t : List ℕ) (old new : Devices) → MoveCounted m d t old new → MovesCounted (m ∷ []) d t old new
+move_counted (TakeLine true o) d t old new is = at_one o 0 (cuts_in o) d t old new 0 (cuts_in o + 0) refl (one_more_zero (cuts_in o)) is
+move_counted (TakeLine false o) d t old new is = at_one o (cuts_in o) 0 d t old new (cuts_in o + 0) 0 (one_more_zero (cuts_in o)) refl is
+move_counted (Dumped o) d t old new is = at_one o 0 (cuts_in o) d t old new 0 (cuts_in o + 0) refl (one_more_zero (cuts_in o)) is
+move_counted (Begin number) d t old new is = is
+move_counted (Answered o) d t old new is = at_one o (cuts_in o) 0 d t old new (cuts_in o + 0) 0 (one_more_zero (cuts_in o)) refl is
+move_counted (TurnOver number charge) d t old new is = is
+move_counted Ticked d t old new is = is
+move_counted Over d t old new is = is
+
+-- ALL THE MOVES of a run
+pub counted_of : (moves : List Move) (last : World) (old new : Devices) → MovesCounted moves last.disc_stops last.tape_stops old new → Counted moves last old new
+counted_of moves last old new is = is

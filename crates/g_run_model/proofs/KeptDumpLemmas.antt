@@ -1,0 +1,117 @@
+-- Behind each event a tree is dumped wherever a reel has a dump, if it was so before.
+use Rattle.std.proofs.Common.{◌≡◌, ◌==◌, ◌&&◌, ◌||◌, ℕ, Bool, true, false, List, [], ◌∷◌, Option, Some, None, option_map, Result, Ok, Err, MatchOption, refl, sym, ◌∙◌, ap, subst, inl, inr, if◌then◌else◌}
+use Rattle.std.specs.List.{list_all}
+use Rattle.g_name.specs.declared.full.Full.{Full}
+use Rattle.g_plain.specs.declared.calls.StoreCall.{StoreCall}
+use Rattle.g_plain.specs.declared.calls.StoreReply.{StoreReply}
+use Rattle.g_plain.specs.declared.faults.StoreFault.{StoreFault}
+use Rattle.g_plain.specs.declared.faults.StoreFault.TheVariants.{DiscReadFault, Stopped}
+use Rattle.g_plain.specs.PlainStep.{reply_to}
+use Rattle.g_store_model.specs.CallStep.{CallStep, Cut, DiscRead, LeftByRefusal, Outcome, Plain, Planned, TapeRead, after_call, brings_now, commits, down, early, held_after, late, touched_by, writes}
+use Rattle.g_store_model.specs.DumpSteps.{Completed, DumpStep, Event, Going, MigrateStep, MountStep, OpenStep, Stepped as DumpStepped, UnmountStep, with_mounted, with_used}
+use Rattle.g_store_model.specs.Rising.{FormatStep, RestoreStep, Restores, StartStep, Starts, has_none, restore_early}
+use Rattle.g_store_model.specs.State.{Dumped as DumpedTree, Holding, OpenDump, ReelRow, State, with_reel}
+use Rattle.g_run_model.specs.Laws.{HasDumped}
+
+-- what is dumped stays, and so do the reels' dumps
+abbrev pub KeepsDumps : State → State → Type 0
+KeepsDumps s new = HasDumped s → HasDumped new
+
+same_dumps : (s new : State) → new.dumped ≡ s.dumped → list_all has_none new.reels ≡ list_all has_none s.reels → KeepsDumps s new
+same_dumps s new dumped reels has = λ none. reels ∙ has (sym dumped ∙ none)
+
+dumps_of : (s mid new : State) → new ≡ mid → KeepsDumps s mid → KeepsDumps s new
+dumps_of s mid new is keeps = subst (λ (x : State). KeepsDumps s x) (sym is) keeps
+
+event_keeps : {A : Type 0} (f : Option StoreFault) (reply : A) (s after : State) (r : Result A StoreFault) (new : State) → KeepsDumps s after → Event f reply s after r new → KeepsDumps s new
+event_keeps None reply s after r new keeps (ok, is) = dumps_of s after new is keeps
+event_keeps (Some Stopped) reply s after r new keeps (err, inl is) = dumps_of s (down s) new is (λ has. has)
+event_keeps (Some Stopped) reply s after r new keeps (err, inr is) = dumps_of s (down after) new is keeps
+event_keeps (Some fault) reply s after r new keeps (err, is) = dumps_of s s new is (λ has. has)
+
+pub format_keeps : (s : State) (o : Outcome) (r : Result (Unit {0}) StoreFault) (new : State) → FormatStep s o r new → KeepsDumps s new
+format_keeps s o r new event = event_keeps _ _ s _ r new (λ has. has) event
+
+starts_keep : (s : State) (h : Option Holding) (o : Outcome) (r : Result (Option ℕ) StoreFault) (new : State) → Starts s h o r new → KeepsDumps s new
+starts_keep s h DiscRead r new (err, is) = dumps_of s s new is (λ has. has)
+starts_keep s None Plain r new (err, is) = dumps_of s s new is (λ has. has)
+starts_keep s None TapeRead r new (err, is) = dumps_of s s new is (λ has. has)
+starts_keep s None Cut r new (err, is) = dumps_of s s new is (λ has. has)
+starts_keep s (Some k) Plain r new event = event_keeps _ _ s _ r new (λ has. has) event
+starts_keep s (Some k) TapeRead r new event = event_keeps _ _ s _ r new (λ has. has) event
+starts_keep s (Some k) Cut r new event = event_keeps _ _ s _ r new (λ has. has) event
+
+pub start_keeps : (s : State) (o : Outcome) (r : Result (Option ℕ) StoreFault) (new : State) → StartStep s o r new → KeepsDumps s new
+start_keeps s o r new step = starts_keep s s.holding o r new step
+
+restores_keep : (s : State) (d : Option DumpedTree) (o : Outcome) (r : Result ℕ StoreFault) (new : State) → Restores s d o r new → KeepsDumps s new
+restores_keep s None o r new (lost, is) = dumps_of s s new is (λ has. has)
+restores_keep s (Some d) o r new event = event_keeps _ _ s _ r new (λ has. has) event
+
+restored_keep : (s : State) (f : Option StoreFault) (o : Outcome) (r : Result ℕ StoreFault) (new : State) → MatchOption f (Restores s s.dumped o r new) (λ fault. (r ≡ Err fault) × (new ≡ s)) → KeepsDumps s new
+restored_keep s None o r new step = restores_keep s s.dumped o r new step
+restored_keep s (Some fault) o r new (err, is) = dumps_of s s new is (λ has. has)
+
+pub restore_keeps : (s : State) (o : Outcome) (r : Result ℕ StoreFault) (new : State) → RestoreStep s o r new → KeepsDumps s new
+restore_keeps s o r new step = restored_keep s (restore_early s o) o r new step
+
+pub open_keeps : (s : State) (k : Holding) (serial : ℕ) (o : Outcome) (r : Result ℕ StoreFault) (new : State) → OpenStep s k serial o r new → KeepsDumps s new
+open_keeps s k serial o r new (places, noted, event) = event_keeps _ _ s _ r new (λ has. has) event
+
+pub migrate_keeps : (s : State) (k : Holding) (user : Option (List ℕ)) (full : Full) (o : Outcome) (r : Result Full StoreFault) (new : State) → MigrateStep s k user full o r new → KeepsDumps s new
+migrate_keeps s k user full o r new event = event_keeps _ _ s _ r new (λ has. has) event
+
+-- a reel that is changed, but for its dumps
+changed_none : (f : ReelRow → ReelRow) → ((r : ReelRow) → has_none (f r) ≡ has_none r) → (at : ℕ) (rs : List ReelRow) → list_all has_none (with_reel at f rs) ≡ list_all has_none rs
+changed_none f same at [] = refl
+changed_none f same at (r ∷ rs) = by (at == r.serial) (changed_none f same at rs)
+  where
+    by : (b : Bool) → list_all has_none (with_reel at f rs) ≡ list_all has_none rs → list_all has_none (if b then f r ∷ rs else r ∷ with_reel at f rs) ≡ list_all has_none (r ∷ rs)
+    by true rest = ap (λ (b : Bool). b && list_all has_none rs) (same r)
+    by false rest = ap (λ (b : Bool). has_none r && b) rest
+
+pub mount_keeps : (s : State) (serial : ℕ) (r : Result (Unit {0}) StoreFault) (new : State) → MountStep s serial r new → KeepsDumps s new
+mount_keeps s serial r new event = event_keeps _ _ s _ r new (λ has none. changed_none (with_mounted true) (λ row. refl) serial s.reels ∙ has none) event
+
+pub unmount_keeps : (s : State) (serial : ℕ) (r : Result (Unit {0}) StoreFault) (new : State) → UnmountStep s serial r new → KeepsDumps s new
+unmount_keeps s serial r new event = event_keeps _ _ s _ r new (λ has none. changed_none (with_mounted false) (λ row. refl) serial s.reels ∙ has none) event
+
+-- a step of a dump in which no write failed: what completes is dumped
+some_dumped : (s new : State) (d : DumpedTree) → new.dumped ≡ Some d → KeepsDumps s new
+some_dumped s new d is has = λ none. absurd (let both : None ≡ Some d = sym none ∙ is in let no : ⊥ = cc in no)
+
+pub dump_keeps : (s : State) (k : Holding) (d : OpenDump) (r : Result DumpStepped StoreFault) (new : State) → DumpStep s k d Plain r new → KeepsDumps s new
+dump_keeps s k d (Ok Going) new (more, cut, read, is) = dumps_of s _ new is (λ has none. changed_none (with_used true) (λ row. refl) d.serial s.reels ∙ has none)
+dump_keeps s k d (Ok (Completed n)) new (last, cut, number, is) =
+    some_dumped s new (record { number = d.number; tree = d.tree; places = d.places; own = d.own }) (ap (λ (x : State). x.dumped) is)
+dump_keeps s k d (Err DiscReadFault) new (read, content, is) = absurd (let no : ⊥ = cc in no)
+dump_keeps s k d (Err Stopped) new (cut, left) = absurd (let no : ⊥ = cc in no)
+dump_keeps s k d (Err fault) new step = absurd step
+
+-- a job's call
+module _ (s : State) (k : Holding) (who : List ℕ) (call : StoreCall) where
+  after_keeps : (until : ℕ) → KeepsDumps s (after_call s k who call until)
+  after_keeps until = by (writes call || brings_now s k who call)
+    where
+      by : (b : Bool) → KeepsDumps s (if b then record (commits s (held_after s k who call until)) { open_dump = option_map (touched_by s k who call) s.open_dump } else s)
+      by true = λ has. has
+      by false = λ has. has
+
+  left_keeps : (o : Outcome) (until : ℕ) (f : StoreFault) (new : State) → LeftByRefusal s k who call o until f new → KeepsDumps s new
+  left_keeps o until Stopped new (inl is) = dumps_of s (down s) new is (λ has. has)
+  left_keeps o until Stopped new (inr (inl (some, is))) = dumps_of s _ new is (λ has. has)
+  left_keeps o until Stopped new (inr (inr is)) = dumps_of s (down (after_call s k who call until)) new is (after_keeps until)
+  left_keeps o until f new is = dumps_of s s new is (λ has. has)
+
+  late_keeps : (o : Outcome) (until : ℕ) (f : Option StoreFault) (answer : Result StoreReply StoreFault) (new : State)
+      → MatchOption f ((answer ≡ Ok (reply_to k.tree who call)) × (new ≡ after_call s k who call until)) (λ fault. (answer ≡ Err fault) × LeftByRefusal s k who call o until fault new) → KeepsDumps s new
+  late_keeps o until None answer new (ok, is) = dumps_of s (after_call s k who call until) new is (after_keeps until)
+  late_keeps o until (Some f) answer new (err, left) = left_keeps o until f new left
+
+  early_keeps : (o : Outcome) (f : Option StoreFault) (answer : Result StoreReply StoreFault) (new : State)
+      → MatchOption f (Planned s k who call o answer new) (λ fault. (answer ≡ Err fault) × (new ≡ s)) → KeepsDumps s new
+  early_keeps o None answer new plan = late_keeps o plan.until (late s k who call o plan.until) answer new plan.step
+  early_keeps o (Some f) answer new (err, is) = dumps_of s s new is (λ has. has)
+
+  pub call_keeps : (o : Outcome) (answer : Result StoreReply StoreFault) (new : State) → CallStep s k who call o answer new → KeepsDumps s new
+  call_keeps o answer new step = early_keeps o (early s k who call o) answer new step

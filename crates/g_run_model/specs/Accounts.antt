@@ -1,0 +1,59 @@
+-- The accounts of users, as sums.
+use Rattle.std.specs.Prelude.{if◌then◌else◌, ℕ, ◌-◌, Bool, not, List, [], ◌∷◌, ◌++◌, map, filter, sum_by, find, Option, unwrap_or}
+use Rattle.std.specs.List.{list_any}
+use Rattle.std.specs.Option.{option_map}
+use Rattle.std.specs.FinMap.{entries}
+use Rattle.g_name.specs.Order.{same_text}
+use Rattle.g_plain.specs.PlainTree.{Tree, UserRow}
+use Rattle.g_job.specs.State.{JobState}
+use Rattle.g_store_model.specs.State.{State}
+
+-- what was spent of TIME and of MONEY
+pub record Spent : Type 0 where
+  pub time : ℕ
+  pub money : ℕ
+
+-- a user's accounts since the system came up: their openings, and what each ended job has used
+pub record Opened : Type 0 where
+  pub user : List ℕ
+  pub time : ℕ
+  pub money : ℕ
+  pub ended : List Spent
+
+abbrev pub tree_of : State → Option Tree
+tree_of s = option_map (λ k. k.tree) s.holding
+
+abbrev pub rows_of : State → List (List ℕ × UserRow)
+rows_of s = unwrap_or (option_map (λ t. entries t.users) (tree_of s)) []
+
+abbrev pub knows_user : State → List ℕ → Bool
+knows_user s user = list_any (λ e. same_text e.0 user) (rows_of s)
+
+abbrev pub opened_of : List ℕ × UserRow → Opened
+opened_of e = record { user = e.0; time = e.1.time; money = e.1.money; ended = [] }
+
+abbrev pub has_account : List Opened → List ℕ → Bool
+has_account accounts user = list_any (λ a. same_text a.user user) accounts
+
+-- each user who has no account yet gets one, with the budgets of this moment
+abbrev pub with_new : State → List Opened → List Opened
+with_new s accounts = accounts ++ map opened_of (filter (λ e. not (has_account accounts e.0)) (rows_of s))
+
+abbrev pub account_of : List Opened → List ℕ → Option Opened
+account_of accounts user = find (λ a. same_text a.user user) accounts
+
+abbrev pub jobs_of : List ℕ → List JobState → List JobState
+jobs_of user jobs = filter (λ j. same_text j.user user) jobs
+
+-- LEFT: the opening, less what the ended jobs have used, less the allowances of the unfinished ones
+abbrev pub time_left : Opened → List JobState → ℕ
+time_left a jobs = a.time - sum_by (λ s. s.time) a.ended - sum_by (λ j. j.allowance) (jobs_of a.user jobs)
+
+abbrev pub money_left : Opened → List JobState → ℕ
+money_left a jobs = a.money - sum_by (λ s. s.money) a.ended - sum_by (λ j. j.money) (jobs_of a.user jobs)
+
+abbrev pub settled : JobState → List Opened → List Opened
+settled j [] = []
+settled j (a ∷ accounts) =
+    if same_text a.user j.user then record a { ended = a.ended ++ (record { time = j.used; money = j.used_money }) ∷ [] } ∷ accounts
+    else a ∷ settled j accounts

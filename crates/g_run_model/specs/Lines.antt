@@ -1,0 +1,177 @@
+-- What the operator's lines do.
+use Rattle.std.specs.Prelude.{◌≡◌, ◌==◌, ◌&&◌, ℕ, ◌+◌, Bool, true, false, is_some, find, not, nat_le, nat_lt, List, [], ◌∷◌, ◌++◌, length, Option, Some, None, Result, Ok, Err, MatchBool, unwrap_or, codes, if◌then◌else◌}
+use Rattle.std.specs.Fmt.{decimal}
+use Rattle.g_plain.specs.declared.faults.StoreFault.{StoreFault}
+use Rattle.g_plain.specs.declared.faults.StoreFault.TheVariants.{NotStarted, NoUser, Running, DumpOpen, Stopped}
+use Rattle.g_monitor.specs.Refusals.{fault_line}
+use Rattle.g_monitor.specs.Parts.{full_text, with_numbers}
+use Rattle.g_job.specs.Begun.{job_begun}
+use Rattle.g_job.specs.State.{JobState}
+use Rattle.g_job.specs.Terminal.{held, logged_out, seated, typed_to}
+use Rattle.g_mop.specs.Seats.{busy_text, none_text}
+use Rattle.g_mop.specs.Shown.{shown_at, terminal_name}
+use Rattle.g_store_model.specs.State.{State, OpenDump}
+use Rattle.g_store_model.specs.CallStep.{Outcome, Plain}
+use Rattle.g_store_model.specs.Rising.{FormatStep, StartStep, RestoreStep}
+use Rattle.g_store_model.specs.CallStep.{down}
+use Rattle.g_run_model.specs.Events.{IsTold, IsMounting, IsUnmounting, IsOpening, IsProcessing, IsMigration}
+use Rattle.g_script.specs.declared.operator.Operator.{Operator}
+use Rattle.g_script.specs.declared.operator.Operator.TheVariants as line
+use Rattle.g_run_model.specs.Accounts.{Opened, with_new, knows_user, account_of, time_left, money_left}
+use Rattle.g_run_model.specs.Texts.{tape_text, dump_text, job_text, started_text, processed_text}
+use Rattle.g_run_model.specs.World.{World, says, goes_down, system_stopped, with_job}
+
+-- the one line that writes reels
+abbrev pub is_process : Operator → Bool
+is_process (line.Process serial) = true
+is_process what = false
+
+-- the numbers that a line arms the disc and the tapes with: that of a STOP line
+abbrev pub disc_arms : Operator → List ℕ
+disc_arms (line.StopDisc k) = k ∷ []
+disc_arms what = []
+
+abbrev pub tape_arms : Operator → List ℕ
+tape_arms (line.StopTape k) = k ∷ []
+tape_arms what = []
+
+abbrev pub is_up : World → Bool
+is_up w = w.store.up
+
+abbrev pub refusal : List ℕ → World → World
+refusal text w = says (codes "REFUSED " ++ text) w
+
+abbrev pub line_refused : StoreFault → World → World
+line_refused fault w = refusal (fault_line fault) w
+
+-- how an event that was asked of the store is told: granted, by what it did; stopped, by the stop's own line; refused, by its refusal
+abbrev pub tells : {R : Type 0} → (R → State → World → World) → Result R StoreFault → State → World → World
+tells done (Ok r) s w = done r s w
+tells done (Err Stopped) s w = system_stopped s w
+tells done (Err fault) s w = line_refused fault (record w { store = s })
+
+-- the system comes up: each user's accounts open
+abbrev pub up_with : List ℕ → State → World → World
+up_with text s w = record (says text w) { store = s; accounts = with_new s [] }
+
+abbrev pub now_stands : List ℕ → State → World → World
+now_stands text s w = says text (record w { store = s })
+
+-- JOB: its refusals in their order, the text of the first that holds
+abbrev pub first_text : List (Bool × List ℕ) → Option (List ℕ)
+first_text [] = None
+first_text (check ∷ checks) = if check.0 then Some check.1 else first_text checks
+
+-- what a user without accounts has
+abbrev pub no_account : List ℕ → Opened
+no_account user = record { user = user; time = 0; money = 0; ended = [] }
+
+-- 64 jobs are unfinished; the user's accounts have too little left
+abbrev pub room_checks : World → ℕ → ℕ → Opened → List (Bool × List ℕ)
+room_checks w time money a =
+    (nat_le 64 (length w.jobs), codes "41 JOBS FULL")
+    ∷ (nat_lt (time_left a w.jobs) time, with_numbers (codes "40 NO TIME ") time (time_left a w.jobs))
+    ∷ (nat_lt (money_left a w.jobs) money, with_numbers (codes "42 NO MONEY ") money (money_left a w.jobs))
+    ∷ []
+
+abbrev pub job_checks : World → List ℕ → ℕ → ℕ → Opened → List (Bool × List ℕ)
+job_checks w user time money a = (not (knows_user w.store user), fault_line NoUser) ∷ room_checks w time money a
+
+abbrev pub job_refusal : World → List ℕ → ℕ → ℕ → Option (List ℕ)
+job_refusal w user time money = first_text (job_checks w user time money (unwrap_or (account_of w.accounts user) (no_account user)))
+
+abbrev pub taken_in : List ℕ → List ℕ → ℕ → ℕ → List (List ℕ) → World → World
+taken_in name user time money lines w =
+    record (says (job_text w.next_job (name ++ codes " IN")) w) { jobs = w.jobs ++ job_begun w.next_job name user time money lines ∷ []; next_job = w.next_job + 1 }
+
+abbrev pub job_line : Option (List ℕ) → World → World → World
+job_line None taken w = taken
+job_line (Some text) taken w = refusal text w
+
+-- TERMINALS: the unfinished job of one, and that of one that wasn't logged out
+abbrev pub is_terminal : ℕ → Option ℕ → Bool
+is_terminal t None = false
+is_terminal t (Some x) = x == t
+
+abbrev pub sits_at : ℕ → JobState → Bool
+sits_at t j = is_terminal t j.terminal
+
+abbrev pub job_at : ℕ → List JobState → Option JobState
+job_at t jobs = find (sits_at t) jobs
+
+abbrev pub open_at : ℕ → List JobState → Option JobState
+open_at t jobs = find (λ j. sits_at t j && j.desk.levels.held) jobs
+
+-- LOGIN: the refusals of a job of MONEY 1,000, and behind the first of them that the terminal has an unfinished one
+abbrev pub login_checks : World → ℕ → List ℕ → ℕ → Opened → List (Bool × List ℕ)
+login_checks w t user time a =
+    (not (knows_user w.store user), fault_line NoUser)
+    ∷ (is_some (job_at t w.jobs), busy_text t)
+    ∷ room_checks w time 1000 a
+
+abbrev pub login_refusal : World → ℕ → List ℕ → ℕ → Option (List ℕ)
+login_refusal w t user time = first_text (login_checks w t user time (unwrap_or (account_of w.accounts user) (no_account user)))
+
+-- the job of a terminal that begins: its document is empty, and held open
+abbrev pub terminal_job : ℕ → ℕ → List ℕ → ℕ → JobState
+terminal_job number t user time = seated t (held (job_begun number (terminal_name t) user time 1000 []))
+
+-- it comes in, and the first line of its file is put
+abbrev pub logged_in : ℕ → List ℕ → ℕ → World → World
+logged_in t user time w = record (says (job_text w.next_job (terminal_name t ++ codes " IN")) w) {
+  jobs = w.jobs ++ terminal_job w.next_job t user time ∷ [];
+  next_job = w.next_job + 1;
+  text = (says (job_text w.next_job (terminal_name t ++ codes " IN")) w).text ++ shown_at t (terminal_job w.next_job t user time).monitor;
+}
+
+-- TYPE and LOGOUT change that job, and tell nothing; where there is none they are refused
+abbrev pub changed_at : ℕ → (JobState → JobState) → Option JobState → World → World
+changed_at t change None w = refusal (none_text t) w
+changed_at t change (Some j) w = record w { jobs = with_job (change j) w.jobs }
+
+abbrev pub at_terminal : ℕ → (JobState → JobState) → World → World
+at_terminal t change w = changed_at t change (open_at t w.jobs) w
+
+-- SHUT: not while a dump is open
+abbrev pub Shuts : Option OpenDump → World → World → Type 0
+Shuts (Some dump) w new = new ≡ line_refused (DumpOpen dump.number) w
+Shuts None w new = new ≡ goes_down (codes "SHUT") (down w.store) w
+
+module _ (outcome : Outcome) where
+  -- a line that brings the system up: where it is up, it is refused; where it is down, it does its step
+  abbrev pub Rises : {R : Type 0} → (State → Outcome → Result R StoreFault → State → Type 0) → (R → List ℕ) → World → World → Type 0
+  Rises {R = R} Does said w new =
+      MatchBool (is_up w)
+      ((outcome ≡ Plain) × (new ≡ line_refused Running w))
+      ((r : Result R StoreFault) × (s : State) × Does w.store outcome r s × IsTold outcome r × (new ≡ tells (λ x t v. up_with (said x) t v) r s w))
+
+  -- a line that needs a system that is up: where it is up, it does its step; where it is down, it is refused
+  abbrev pub NeedsUp : {R : Type 0} → (Result R StoreFault → State → Type 0) → (R → List ℕ) → World → World → Type 0
+  NeedsUp {R = R} Does said w new =
+      MatchBool (is_up w)
+      ((r : Result R StoreFault) × (s : State) × Does r s × (new ≡ tells (λ x t v. now_stands (said x) t v) r s w))
+      ((outcome ≡ Plain) × (new ≡ line_refused NotStarted w))
+
+  -- reels are mounted and unmounted whether the system is up or down
+  abbrev pub Always : (Result (Unit {0}) StoreFault → State → Type 0) → List ℕ → World → World → Type 0
+  Always Does text w new = (r : Result (Unit {0}) StoreFault) × (s : State) × Does r s × (new ≡ tells (λ x t v. now_stands text t v) r s w)
+
+  -- WHAT A LINE GIVES. A line that asks the store nothing has the outcome Plain.
+  abbrev pub LineGives : Operator → World → World → Type 0
+  LineGives line.Format w new = Rises FormatStep (λ r. codes "FORMATTED") w new
+  LineGives line.Start w new = Rises StartStep started_text w new
+  LineGives line.Restore w new = Rises RestoreStep (λ n. codes "RESTORED FROM DUMP " ++ decimal n) w new
+  LineGives line.Shut w new = (outcome ≡ Plain) × MatchBool (is_up w) (Shuts w.store.open_dump w new) (new ≡ line_refused NotStarted w)
+  LineGives (line.Job name user time money lines) w new =
+      (outcome ≡ Plain) × (new ≡ (if is_up w then job_line (job_refusal w user time money) (taken_in name user time money lines w) w else line_refused NotStarted w))
+  LineGives (line.Mount serial) w new = Always (λ r s. IsMounting w.store serial outcome r s) (tape_text serial (codes "MOUNTED")) w new
+  LineGives (line.Unmount serial) w new = Always (λ r s. IsUnmounting w.store serial outcome r s) (tape_text serial (codes "UNMOUNTED")) w new
+  LineGives (line.Dump serial) w new = NeedsUp (λ r s. IsOpening w.store serial outcome r s) (λ n. dump_text n (codes "OPENED")) w new
+  LineGives (line.Process serial) w new = NeedsUp (λ r s. IsProcessing w.store serial outcome r s) (processed_text serial) w new
+  LineGives (line.Migrate path) w new = NeedsUp (λ r s. IsMigration w.store path outcome r s) (λ full. codes "MIGRATED " ++ full_text full) w new
+  LineGives (line.StopDisc k) w new = (outcome ≡ Plain) × (new ≡ says (codes "STOP SET") (record w { disc_stops = w.disc_stops ++ k ∷ [] }))
+  LineGives (line.StopTape k) w new = (outcome ≡ Plain) × (new ≡ says (codes "STOP SET") (record w { tape_stops = w.tape_stops ++ k ∷ [] }))
+  LineGives (line.Login t user time) w new =
+      (outcome ≡ Plain) × (new ≡ (if is_up w then job_line (login_refusal w t user time) (logged_in t user time w) w else line_refused NotStarted w))
+  LineGives (line.Typed t text) w new = (outcome ≡ Plain) × (new ≡ (if is_up w then at_terminal t (typed_to text) w else line_refused NotStarted w))
+  LineGives (line.Logout t) w new = (outcome ≡ Plain) × (new ≡ (if is_up w then at_terminal t logged_out w else line_refused NotStarted w))

@@ -1,0 +1,187 @@
+-- A run is a list of moves of the world, one for each event.
+use Rattle.std.specs.Prelude.{◌≡◌, ◌⊎◌, ℕ, ◌+◌, Bool, true, false, not, List, [], ◌∷◌, ◌++◌, map, filter, slice_get, Option, Some, None, Result, Ok, Err, codes}
+use Rattle.std.specs.Fmt.{decimal}
+use Rattle.std.specs.Fn.{Shared}
+use denote.Ref.{Bor}
+use Rattle.g_base.specs.Counts.{HasRisenBy}
+use Rattle.g_base.specs.Fuse.{IsArmedBy}
+use Rattle.g_budget.specs.declared.tariff.Usage.{Usage}
+use Rattle.g_budget.specs.declared.tariff.Charge.{Charge}
+use Rattle.g_sched.specs.declared.rule.Standing.{Standing}
+use Rattle.g_sched.specs.Choice.{IsChosen}
+use Rattle.g_plain.specs.declared.calls.StoreCall.{StoreCall}
+use Rattle.g_plain.specs.declared.faults.StoreFault.{StoreFault}
+use Rattle.g_plain.specs.declared.faults.StoreFault.TheVariants.{Stopped}
+use Rattle.g_plain.specs.Asks.{Answer, Asks, Gives, Call, IsAnswer}
+use Rattle.g_job.specs.declared.turn.Turn.{Turn}
+use Rattle.g_job.specs.declared.turn.Turn.TheVariants as turns
+use Rattle.g_job.specs.Begun.{standing_of}
+use Rattle.g_turn.specs.State.{Work}
+use Rattle.g_job.specs.State.{JobState}
+use Rattle.g_job.specs.Turns.{turn_work}
+use Rattle.g_job.specs.Ends.{turn_end, IsPriced}
+use Rattle.g_monitor.specs.Refusals.{fault_line}
+use Rattle.g_store_model.specs.State.{State}
+use Rattle.g_store_model.specs.CallStep.{Outcome, Plain, DiscRead, TapeRead, Cut}
+use Rattle.g_store_model.specs.DumpSteps.{Stepped as DumpStepped, Going, Completed}
+use Rattle.g_run_model.specs.Devices.{Devices}
+use Rattle.g_run_model.specs.Events.{IsDumpStep, IsCall}
+use Rattle.g_script.specs.declared.operator.Timed.{Timed}
+use Rattle.g_run_model.specs.Accounts.{with_new, settled}
+use Rattle.g_run_model.specs.Lines.{LineGives, is_process}
+use Rattle.g_run_model.specs.Texts.{dump_text, ended_file, job_text}
+use Rattle.g_run_model.specs.World.{World, Between, Stepped, Turned, able, is_dumping, nothing_steps, has_none, is_due, job_of, with_job, without_job, says, shows, system_stopped, closed}
+
+-- the operator's next line, and whether it is a PROCESS, the one line that writes reels; a step of the open dump; a turn begins; a call of it
+-- is answered; it is over, with its charge, if there is one; the tick is over; the run is over
+pub data Move : Type 0 where
+  TakeLine : Bool → Outcome → Move
+  Dumped : Outcome → Move
+  Begin : ℕ → Move
+  Answered : Outcome → Move
+  TurnOver : ℕ → Option Charge → Move
+  Ticked : Move
+  Over : Move
+
+-- what a step of the dump tells
+abbrev pub dump_told : ℕ → Result DumpStepped StoreFault → State → World → World
+dump_told number (Ok Going) s w = record w { store = s; phase = Stepped }
+dump_told number (Ok (Completed n)) s w = record (says (dump_text n (codes "COMPLETED")) w) { store = s; phase = Stepped }
+dump_told number (Err Stopped) s w = record (system_stopped s w) { phase = Turned }
+dump_told number (Err fault) s w = record (says (dump_text number (codes "LOST " ++ fault_line fault)) w) { store = s; phase = Stepped }
+
+-- what the end of a turn makes of a world in which what it added to a terminal's file was put: accounts of new users open, unless the turn was stopped
+abbrev pub turn_told : JobState → Turn → World → World
+turn_told j turns.Broken w = system_stopped w.store (record w { jobs = with_job j w.jobs })
+turn_told j (turns.Wants serial) w =
+    record (says (job_text j.number (codes "WANTS TAPE " ++ decimal serial)) w) { jobs = with_job j w.jobs; accounts = with_new w.store w.accounts }
+turn_told j (turns.Ran units money) w = record w { jobs = with_job j w.jobs; accounts = with_new w.store w.accounts }
+turn_told j (turns.Ended units money) w =
+    record w { jobs = without_job j.number w.jobs; accounts = with_new w.store (settled j w.accounts); text = w.text ++ ended_file j }
+
+module _ {F U : Type 0} (tariffs : Shared F (Bor Usage × Unit {0}) Charge) (tariff : F) (rules : Shared U (Bor Standing × Unit {0}) ℕ) (rule : U) where
+  abbrev pub Step : World → Move → World → Type 0
+  Step w (TakeLine tape outcome) new = (line : Timed) × (rest : List Timed) × (w.lines ≡ line ∷ rest) × (w.phase ≡ Between) × (w.turn ≡ None)
+      × ((is_due w ≡ true) ⊎ (nothing_steps w ≡ true)) × (tape ≡ is_process line.what) × LineGives outcome line.what (record w { lines = rest }) new
+  Step w (Dumped outcome) new = (w.phase ≡ Between) × (w.turn ≡ None) × (is_due w ≡ false) × (is_dumping w ≡ true)
+      × ((r : Result DumpStepped StoreFault) × (s : State) × IsDumpStep w.store outcome r s × (new ≡ dump_told (number_of w.store) r s w))
+    where
+      number_of : State → ℕ
+      number_of s = elim s.open_dump [ None ↦ 0 | Some d ↦ d.number ]
+  Step w (Begin number) new = (w.turn ≡ None) × (is_due w ≡ false) × (((w.phase ≡ Between) × (is_dumping w ≡ false)) ⊎ (w.phase ≡ Stepped))
+      × ((place : ℕ) × (job : JobState) × IsChosen rules rule (map standing_of (able w)) place × (slice_get (able w) place ≡ Some job) × (job.number ≡ number)
+      × (new ≡ record w { turn = Some (job.number, turn_work job); phase = Stepped }))
+  Step w (Answered outcome) new = (number : ℕ) × (call : StoreCall) × (more : Answer → Asks Work) × (job : JobState) × (answer : Answer) × (s : State)
+      × (w.turn ≡ Some (number, Call call more)) × (job_of w number ≡ Some job) × IsCall w.store job.user call outcome answer s × IsAnswer answer
+      × (new ≡ record w { store = s; turn = Some (number, more answer) })
+  Step w (TurnOver number charge) new = (work : Work) × (job : JobState) × (turn : Turn) × (after : JobState)
+      × (w.turn ≡ Some (number, Gives work)) × (job_of w number ≡ Some job) × IsPriced tariffs tariff work charge
+      × (turn_end job work charge ≡ Some (turn, after)) × (new ≡ record (turn_told after turn (shows job after w)) { turn = None; phase = Turned })
+  Step w Ticked new = (w.turn ≡ None) × ((w.phase ≡ Turned) ⊎ ((w.phase ≡ Stepped) × (has_none (able w) ≡ true)))
+      × (new ≡ record w { count = w.count + 1; phase = Between })
+  Step w Over new = (w.phase ≡ Between) × (w.turn ≡ None) × (w.lines ≡ []) × (nothing_steps w ≡ true) × (w.over ≡ false) × (new ≡ closed w)
+
+  abbrev pub Run : World → List Move → World → Type 0
+  Run w [] new = new ≡ w
+  Run w (move ∷ moves) new = (mid : World) × Step w move mid × Run mid moves new
+
+-- the outcome of a move that is an event of the store or a line
+abbrev pub outcome_of : Move → Outcome
+outcome_of (TakeLine tape outcome) = outcome
+outcome_of (Dumped outcome) = outcome
+outcome_of (Begin number) = Plain
+outcome_of (Answered outcome) = outcome
+outcome_of (TurnOver number charge) = Plain
+outcome_of Ticked = Plain
+outcome_of Over = Plain
+
+abbrev pub disc_reads_in : Outcome → ℕ
+disc_reads_in Plain = 0
+disc_reads_in DiscRead = 1
+disc_reads_in TapeRead = 0
+disc_reads_in Cut = 0
+
+abbrev pub tape_reads_in : Outcome → ℕ
+tape_reads_in Plain = 0
+tape_reads_in DiscRead = 0
+tape_reads_in TapeRead = 1
+tape_reads_in Cut = 0
+
+abbrev pub cuts_in : Outcome → ℕ
+cuts_in Plain = 0
+cuts_in DiscRead = 0
+cuts_in TapeRead = 0
+cuts_in Cut = 1
+
+-- how often the moves of a run have an outcome
+abbrev pub counted : (Outcome → ℕ) → List Move → ℕ
+counted f [] = 0
+counted f (move ∷ moves) = f (outcome_of move) + counted f moves
+
+-- a step of the open dump or a PROCESS, the events that write reels; and any other move
+abbrev pub is_dump : Move → Bool
+is_dump (TakeLine tape outcome) = tape
+is_dump (Dumped outcome) = true
+is_dump (Begin number) = false
+is_dump (Answered outcome) = false
+is_dump (TurnOver number charge) = false
+is_dump Ticked = false
+is_dump Over = false
+
+abbrev pub not_dump : Move → Bool
+not_dump (TakeLine tape outcome) = not tape
+not_dump (Dumped outcome) = false
+not_dump (Begin number) = true
+not_dump (Answered outcome) = true
+not_dump (TurnOver number charge) = true
+not_dump Ticked = true
+not_dump Over = true
+
+-- the cuts of calls and lines, and those of steps of a dump and of PROCESS
+abbrev pub cuts_of_calls : List Move → ℕ
+cuts_of_calls moves = counted cuts_in (filter not_dump moves)
+
+abbrev pub cuts_of_dumps : List Move → ℕ
+cuts_of_dumps moves = counted cuts_in (filter is_dump moves)
+
+-- So many writes failed: those of calls and lines, each of the disc, and those of steps of a dump and of PROCESS, each of one device, the
+-- disc or the rack; and where none was a device's, its count stands still.
+pub record WritesFailed (calls dumps : ℕ) (old new : Devices) : Type 0 where
+  pub of_disc : ℕ
+  pub of_rack : ℕ
+  pub together : of_disc + of_rack ≡ dumps
+  pub disc_rose : HasRisenBy (calls + of_disc) old.disc.write_faults new.disc.write_faults
+  pub rack_rose : HasRisenBy of_rack old.rack.write_faults new.rack.write_faults
+  pub no_disc : calls ≡ 0 → of_disc ≡ 0 → new.disc.write_faults ≡ old.disc.write_faults
+  pub no_rack : of_rack ≡ 0 → new.rack.write_faults ≡ old.rack.write_faults
+
+-- What the devices counted: so many failed reads of each, and failed writes of calls and lines, and of dumps, at most; none where there were none;
+-- and with which numbers each was armed.
+pub record Happened (disc_reads tape_reads calls dumps : ℕ) (disc_arms tape_arms : List ℕ) (old new : Devices) : Type 0 where
+  pub disc_reads_rose : HasRisenBy disc_reads old.disc.read_faults new.disc.read_faults
+  pub tape_reads_rose : HasRisenBy tape_reads old.rack.read_faults new.rack.read_faults
+  pub cuts_rose : WritesFailed calls dumps old new
+  pub no_disc_read : disc_reads ≡ 0 → new.disc.read_faults ≡ old.disc.read_faults
+  pub no_tape_read : tape_reads ≡ 0 → new.rack.read_faults ≡ old.rack.read_faults
+  pub disc_armed : IsArmedBy disc_arms old.disc.arms new.disc.arms
+  pub tape_armed : IsArmedBy tape_arms old.rack.arms new.rack.arms
+
+-- in one call with this outcome, or a line that writes no reel; in a step of a dump; in any line; and in a part of a run
+abbrev pub EventCounted : Outcome → List ℕ → List ℕ → Devices → Devices → Type 0
+EventCounted o disc_arms tape_arms old new = Happened (disc_reads_in o) (tape_reads_in o) (cuts_in o) 0 disc_arms tape_arms old new
+
+abbrev pub DumpCounted : Outcome → Devices → Devices → Type 0
+DumpCounted o old new = Happened (disc_reads_in o) (tape_reads_in o) 0 (cuts_in o) [] [] old new
+
+abbrev pub LineCounted : Bool → Outcome → List ℕ → List ℕ → Devices → Devices → Type 0
+LineCounted true o disc_arms tape_arms old new = Happened (disc_reads_in o) (tape_reads_in o) 0 (cuts_in o) disc_arms tape_arms old new
+LineCounted false o disc_arms tape_arms old new = EventCounted o disc_arms tape_arms old new
+
+abbrev pub MovesCounted : List Move → List ℕ → List ℕ → Devices → Devices → Type 0
+MovesCounted moves disc_arms tape_arms old new =
+    Happened (counted disc_reads_in moves) (counted tape_reads_in moves) (cuts_of_calls moves) (cuts_of_dumps moves) disc_arms tape_arms old new
+
+-- A run has at most as many failed reads of each device, and failed writes of both, as the counts rose; a count that
+-- moved has one. A failed write of a call, or of a line that is no PROCESS, is the disc's. Each STOP line that was done armed its device with its number, and nobody else did.
+abbrev pub Counted : List Move → World → Devices → Devices → Type 0
+Counted moves last old new = MovesCounted moves last.disc_stops last.tape_stops old new

@@ -1,0 +1,83 @@
+-- How a run ends.
+use Rattle.std.specs.Prelude.{◌≡◌, ◌⊎◌, ℕ, Bool, true, false, List, [], ◌∷◌, ◌++◌, codes, Option}
+use Rattle.g_base.specs.Fuse.{IsArmedBy, IsArmedWithin}
+use Rattle.g_disc.specs.Disc.{IsFused as IsDisc}
+use Rattle.g_tape.specs.Rack.{IsFused as IsRack}
+use Rattle.g_lines.specs.Lines.{lines_of, ended}
+use Rattle.g_script.specs.Script.{IsParsed}
+use Rattle.g_script.specs.declared.operator.Operator.{Operator}
+use Rattle.std.specs.Fn.{Shared}
+use denote.Ref.{Bor}
+use Rattle.g_budget.specs.declared.tariff.Usage.{Usage}
+use Rattle.g_budget.specs.declared.tariff.Charge.{Charge}
+use Rattle.g_sched.specs.declared.rule.Standing.{Standing}
+use Rattle.g_io.specs.Streams.{with_more, HasPutPart}
+use Rattle.g_store_model.specs.State.{State}
+use Rattle.g_run_model.specs.Devices.{Devices}
+use Rattle.g_run_model.specs.Devices.{StandFor}
+use Rattle.g_store_model.specs.CallStep.{down}
+use Rattle.g_script.specs.declared.operator.Timed.{Timed}
+use Rattle.g_run_model.specs.World.{World, start}
+use Rattle.g_run_model.specs.Lines.{disc_arms, tape_arms}
+use Rattle.g_run_model.specs.Moves.{Move, Run, Counted}
+
+module _ {F U : Type 0} (tariffs : Shared F (Bor Usage × Unit {0}) Charge) (tariff : F) (rules : Shared U (Bor Standing × Unit {0}) ℕ) (rule : U) where
+  -- Moves of a run, as many failures as the devices counted, and what the devices stand for behind them: a state that is up is told as it is once it is down.
+  pub record RunOf (lines : List Timed) (bad : Option ℕ) (s : State) (old new : Devices) (moves : List Move) (last : World) : Type 0 where
+    pub run : Run tariffs tariff rules rule (start lines bad s) moves last
+    pub counted : Counted moves last old new
+    pub stands : StandFor new (down last.store)
+
+  -- THE RUN IS OVER, and its text was written whole
+  pub record Ended (lines : List Timed) (bad : Option ℕ) (s : State) (old new : Devices) (before after : Option (List ℕ)) : Type 0 where
+    pub moves : List Move
+    pub last : World
+    pub run_of : RunOf lines bad s old new moves last
+    pub over : last.over ≡ true
+    pub text : after ≡ with_more before last.text
+
+  -- some of its first events were done, and a front part of their text was written
+  pub record CutShort (lines : List Timed) (bad : Option ℕ) (s : State) (old new : Devices) (before after : Option (List ℕ)) : Type 0 where
+    pub moves : List Move
+    pub last : World
+    pub run_of : RunOf lines bad s old new moves last
+    pub text : HasPutPart before last.text after
+
+  -- Of every state for which the devices stand at the beginning. (Where they tell and belong together there is one, which is down, and no other:
+  -- `devices_have_one_state` of g_laws_runs.)
+  abbrev pub EndsWhole : List Timed → Option ℕ → Devices → Devices → Option (List ℕ) → Option (List ℕ) → Type 0
+  EndsWhole lines bad old new before after = (s : State) → StandFor old s → Ended lines bad s old new before after
+
+  abbrev pub EndsShort : List Timed → Option ℕ → Devices → Devices → Option (List ℕ) → Option (List ℕ) → Type 0
+  EndsShort lines bad old new before after = (s : State) → StandFor old s → CutShort lines bad s old new before after
+
+  -- The run was cut short with the word `run`: nothing was done and nothing put; or some of its events were done, and a
+  -- front of their text was put.
+  abbrev pub IsCut : List ℕ → Devices → Devices → Option (List ℕ) → Option (List ℕ) → Type 0
+  IsCut left old new before after = ((new ≡ old) × (after ≡ before))
+      ⊎ ((lines : List Timed) × (bad : Option ℕ) × IsParsed (lines_of left) lines bad × EndsShort lines bad old new before after)
+
+abbrev pub words_line : List ℕ
+words_line = ended (codes "WORDS NOT KNOWN")
+
+-- with other words, whatever the status: nothing was done, and a front of the one line was put
+abbrev pub IsCutWords : Devices → Devices → Option (List ℕ) → Option (List ℕ) → Type 0
+IsCutWords old new before after = (new ≡ old) × HasPutPart before words_line after
+
+-- the numbers that some lines arm a device with, in order
+abbrev pub numbers_of : (Operator → List ℕ) → List Timed → List ℕ
+numbers_of arms [] = []
+numbers_of arms (next ∷ lines) = arms next.what ++ numbers_of arms lines
+
+-- WHAT WAS ARMED, whether devices tell or not: a device with the numbers of its STOP lines, in order and up to some line, and with
+-- nothing else; and, in a run that went through, with each of them
+pub record AreArmings (lines : List Timed) (through : Type 0) (old new : Devices) : Type 0 where
+  pub disc : IsArmedWithin (numbers_of disc_arms lines) old.disc.arms new.disc.arms
+  pub tape : IsArmedWithin (numbers_of tape_arms lines) old.rack.arms new.rack.arms
+  pub all_disc : through → IsArmedBy (numbers_of disc_arms lines) old.disc.arms new.disc.arms
+  pub all_tape : through → IsArmedBy (numbers_of tape_arms lines) old.rack.arms new.rack.arms
+
+-- WHAT THE FUSES ARE, whether devices tell or not: of the disc the last number that it was armed with, burnt by all writes made since; of the
+-- tapes from 1 to that number, or none, and then a write failed since
+abbrev pub AreFused : Devices → Type 0
+AreFused d = IsDisc d.disc × IsRack d.rack

@@ -1,5 +1,0 @@
-use Rattle.g_state.proofs.OneLemmas.{devices_are_one}
-use Rattle.g_state.proofs.one_state.Goals as goal
-
-pub returns : goal.returns
-returns c = record { devices = devices_are_one }

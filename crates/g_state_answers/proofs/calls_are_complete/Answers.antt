@@ -1,5 +1,0 @@
-use Rattle.g_state_answers.proofs.CompleteLemmas.{all_complete}
-use Rattle.g_state_answers.proofs.calls_are_complete.Goals as goal
-
-pub returns : goal.returns
-returns c = all_complete c.refusals_are_plain.ensures.complete

@@ -1,5 +1,0 @@
-use Rattle.g_state_laws.proofs.RefusalLemmas.{refusals_of_calls}
-use Rattle.g_state_laws.proofs.refusals_go_by_calls.Goals as goal
-
-pub returns : goal.returns
-returns c = refusals_of_calls

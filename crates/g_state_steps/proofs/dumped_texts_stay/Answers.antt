@@ -1,5 +1,0 @@
-use Rattle.g_state_steps.proofs.UserLemmas as lemmas
-use Rattle.g_state_steps.proofs.dumped_texts_stay.Goals as goal
-
-pub returns : goal.returns
-returns c = record { texts = lemmas.dumped_texts_stay }

@@ -1,0 +1,195 @@
+-- THE STATE that a store stands for. Bytes of versions are read through one text for each stamp.
+-- There is one switch, `AllTold`. Where every device tells what it holds, a text is what disc and tape hold of its version, the
+-- dumped tree is that of the completed dumps, and an open dump's that of its plan. Where one device doesn't, bytes on tape bind
+-- nothing: of a text its length is known, and what the disc holds of it where the disc tells, and nothing else is asked.
+-- (So a state is there for every store, and every number, name and length in it is exact.)
+use Rattle.std.specs.Prelude.{◌≡◌, ℕ, ◌==◌, true, false, not, nat_lt, List, [], map, filter, length, All, Option, Some, None, IfSome, is_some}
+use Rattle.std.specs.Option.{ForSome, option_map}
+use Rattle.std.specs.List.{flat_map}
+use Rattle.std.specs.Ordering.{nat_cmp}
+use Rattle.std.specs.FinMap.{FinMap, from_entries}
+use Rattle.g_base.specs.Block.{blocks_for}
+use Rattle.g_entry.specs.declared.file_rec.FileRec.{FileRec}
+use Rattle.g_entry.specs.declared.file_rec.TapeCopy.{TapeCopy}
+use Rattle.g_entry.specs.declared.user_rec.UserRec.{UserRec}
+use Rattle.g_plain.specs.PlainTree.{Tree}
+use Rattle.g_tree.specs.Records.{tree_of}
+use Rattle.g_tape.specs.Reel.{Reel}
+use Rattle.g_disc_contents.specs.Contents.{Contents, File, Holds, has, recs_in}
+use Rattle.g_disc_contents.specs.Facts.{OnlineFacts, Pin}
+use Rattle.g_incr.specs.Layout.{Dump, ends}
+use Rattle.g_incr.specs.Plan.{Plan, dump_of, needs}
+use Rattle.g_shelf.specs.Completed.{AreShelved, all_dumps}
+use Rattle.g_store_model.specs.State as state
+use Rattle.g_store_meaning.specs.Meaning.{IsContent, DumpedDirectory, files_in, told_reels}
+use Rattle.g_store_meaning.specs.Belong.{KeepsRecord}
+use Rattle.g_store_meaning.specs.Up.{DumpFacts, StoreFacts, content_in, with_dump}
+
+-- The rack as it would be were the open dump completed: that dump, all completed dumps then, and the directory that they give.
+pub record Opened : Type 0 where
+  pub dump : Dump
+  pub dumps : List Dump
+  pub directory : DumpedDirectory dumps
+
+-- What isn't seen in a store's memory: the texts of the versions, the completed dumps of the reels, the dumped directory, and
+-- what an open dump will leave. It names no rack, so it stays as it is while the reels are only read.
+pub record View : Type 0 where
+  pub text : ℕ → List ℕ
+  pub shelf : ℕ → List Dump
+  pub dumps : List Dump
+  pub dumped : Option (DumpedDirectory dumps)
+  pub opened : Option Opened
+
+-- a version has the text: in length always, on the disc where that tells, and on tape where it is nowhere else and all devices tell
+pub record HasText (told : Type 0) (text : List ℕ) (dumps : List Dump) (f : File) : Type 0 where
+  pub len : length text ≡ f.rec.len
+  pub bytes : ForSome f.bytes (λ bytes. bytes ≡ text)
+  pub tape : told → f.online ≡ false → IfSome f.rec.tape (λ c. IsContent dumps c text)
+
+-- every reel tells what it holds, and so does the disc
+pub record ReelsTold (reels : List Reel) : Type 0 where
+  pub each : All (λ r. is_some r.blocks ≡ true) reels
+
+pub record AllTold (held : Option (List (List ℕ))) (reels : List Reel) : Type 0 where
+  pub disc : is_some held ≡ true
+  pub each : ReelsTold reels
+
+-- THE VIEW IS RIGHT, as far as the devices tell: of the rack, and with it of what a disc holds
+pub record IsRackView (held : Option (List (List ℕ))) (reels : List Reel) (v : View) : Type 0 where
+  pub shelved : AreShelved v.shelf reels
+  pub all : v.dumps ≡ all_dumps v.shelf reels
+  pub dumped : AllTold held reels → IfSome v.dumped (λ t. All (λ r. KeepsRecord (v.text r.stamp) v.dumps r) (files_in t))
+  -- no tree is dumped where no directory has all its bytes
+  pub none : AllTold held reels → v.dumped ≡ None → (t : DumpedDirectory v.dumps) (text : ℕ → List ℕ)
+      → All (λ r. KeepsRecord (text r.stamp) v.dumps r) (files_in t) → ⊥
+
+pub record IsView (held : Option (List (List ℕ))) (reels : List Reel) (c : Contents) (v : View) : Type 0 where
+  pub rack : IsRackView held reels v
+  pub files : All (λ f. HasText (AllTold held reels) (v.text f.rec.stamp) v.dumps f) c.files
+
+-- the dump of the plan with the content that its pinned versions give, behind the completed ones, is what it will leave
+pub record OpensTo (reels : List Reel) (v : View) (plan : Plan) (content : List (List ℕ)) (o : Opened) : Type 0 where
+  pub is : v.opened ≡ Some o
+  pub dump : o.dump ≡ dump_of plan content
+  pub all : o.dumps ≡ all_dumps (with_dump (dump_of plan content) v.shelf) reels
+  pub records : All (λ r. KeepsRecord (v.text r.stamp) o.dumps r) (files_in o.directory)
+
+pub record IsOpenView (reels : List Reel) (v : View) (o : OnlineFacts) (dump : Option DumpFacts) : Type 0 where
+  pub is : AllTold o.disc.held reels → (pins : List Pin) → o.pins ≡ Some pins
+      → IfSome dump (λ d. (content : List (List ℕ)) × (content_in pins ≡ Some content) × (opened : Opened) × OpensTo reels v d.plan content opened)
+
+-- the tree that records stand for
+abbrev pub tree_by : (ℕ → List ℕ) → List UserRec → List FileRec → ℕ → Tree
+tree_by text users files next = tree_of users files (λ r. text r.stamp) next
+
+abbrev pub place_of : File → state.Place
+place_of f = record { online = f.online; copy = f.rec.tape }
+
+abbrev pub places_of : List File → FinMap nat_cmp state.Place
+places_of files = from_entries (map (λ f. (f.rec.stamp, place_of f)) files)
+
+abbrev pub names_of : List UserRec → state.Users
+names_of users = from_entries (map (λ u. (u.user, tt)) users)
+
+abbrev pub users_in : List ℕ → List UserRec → List UserRec
+users_in numbers users = filter (λ u. has numbers u.number) users
+
+abbrev pub users_not_in : List ℕ → List UserRec → List UserRec
+users_not_in numbers users = filter (λ u. not (has numbers u.number)) users
+
+abbrev pub holding_of : (ℕ → List ℕ) → List UserRec → Contents → state.Holding
+holding_of text kept c = record {
+  tree = tree_by text c.users (recs_in c) c.head.next_stamp;
+  places = places_of c.files;
+  last = c.head.last_dump;
+  intent = c.head.intent;
+  kept = names_of kept;
+}
+
+abbrev pub shelved_of : Dump → state.Shelved
+shelved_of d = record { place = d.place; ends = ends d; number = d.number }
+
+abbrev pub row_of : (ℕ → List Dump) → Reel → state.ReelRow
+row_of shelf r = record { serial = r.serial; capacity = r.capacity; mounted = r.mounted; used = nat_lt 0 r.len; dumps = map shelved_of (shelf r.serial) }
+
+-- in a dump each non-empty version lies on tape
+abbrev pub dumped_place : FileRec → state.Place
+dumped_place r = record { online = r.len == 0; copy = r.tape }
+
+abbrev pub dumped_places : List FileRec → FinMap nat_cmp state.Place
+dumped_places files = from_entries (map (λ r. (r.stamp, dumped_place r)) files)
+
+-- the copies that a dump's own records name
+abbrev pub own_of : Dump → FinMap nat_cmp TapeCopy
+own_of d = from_entries (flat_map (λ r. state.copy_entry r.stamp r.tape) d.files)
+
+abbrev pub dumped_of : {dumps : List Dump} → (ℕ → List ℕ) → DumpedDirectory dumps → state.Dumped
+dumped_of text t = record {
+  number = t.last.number;
+  tree = tree_by text t.last.users (files_in t) t.last.next;
+  places = dumped_places (files_in t);
+  own = own_of t.last;
+}
+
+abbrev pub own_opened : Option Opened → FinMap nat_cmp TapeCopy
+own_opened None = from_entries []
+own_opened (Some o) = own_of o.dump
+
+abbrev pub waiting_of : Option (List Pin) → FinMap nat_cmp ℕ
+waiting_of None = from_entries []
+waiting_of (Some pins) = from_entries (map (λ p. (p.stamp, blocks_for p.len)) pins)
+
+abbrev pub open_tree : (ℕ → List ℕ) → Option Opened → Tree × FinMap nat_cmp state.Place
+open_tree text None = (tree_by text [] [] 0, dumped_places [])
+open_tree text (Some o) = (tree_by text o.directory.last.users (files_in o.directory) o.directory.last.next, dumped_places (files_in o.directory))
+
+abbrev pub open_of : View → OnlineFacts → DumpFacts → state.OpenDump
+open_of v o d = record {
+  number = d.plan.number;
+  serial = d.plan.serial;
+  place = d.plan.place;
+  needs = needs d.plan;
+  done = d.done;
+  tree = (open_tree v.text v.opened).0;
+  places = (open_tree v.text v.opened).1;
+  waiting = waiting_of o.pins;
+  own = own_opened v.opened;
+  touched = names_of (users_in o.touched o.contents.users);
+}
+
+-- what devices stand for while no store is over them, and what a store that is up stands for
+abbrev pub state_down : View → List Reel → ℕ → Option Contents → state.State
+state_down v reels size c = record {
+  up = false;
+  size = size;
+  holding = option_map (holding_of v.text []) c;
+  reels = map (row_of v.shelf) reels;
+  dumped = option_map (dumped_of v.text) v.dumped;
+  open_dump = None;
+}
+
+abbrev pub state_up : View → List Reel → OnlineFacts → Option DumpFacts → state.State
+state_up v reels o dump = record {
+  up = true;
+  size = o.disc.size;
+  holding = Some (holding_of v.text (users_not_in o.changed o.contents.users) o.contents);
+  reels = map (row_of v.shelf) reels;
+  dumped = option_map (dumped_of v.text) v.dumped;
+  open_dump = option_map (open_of v o) dump;
+}
+
+-- THE STATE OF DEVICES: of a disc that holds something, and of one that stands for nothing
+pub record DevicesStandFor (size : ℕ) (held : Option (List (List ℕ))) (reels : List Reel) (s : state.State) : Type 0 where
+  pub view : View
+  pub contents : Option Contents
+  pub is : IfSome contents (λ c. (blocks : List (List ℕ)) × (held ≡ Some blocks) × Holds blocks c × IsView held reels c view)
+  pub none : is_some contents ≡ false → (blocks : List (List ℕ)) (c : Contents) → held ≡ Some blocks → Holds blocks c → ⊥
+  pub rack : IsRackView held reels view
+  pub state_is : s ≡ state_down view reels size contents
+
+-- THE STATE OF A STORE: what it has in memory, or, once a write has failed, what its devices stand for
+abbrev pub StandsForState : StoreFacts → state.State → Type 0
+StandsForState s u = elim s.spent as (λ _. Type 0) [
+  | true ↦ DevicesStandFor s.online.disc.size s.online.disc.held (told_reels s.rack) u
+  | false ↦ (v : View) × IsView s.online.disc.held (told_reels s.rack) s.online.contents v × IsOpenView (told_reels s.rack) v s.online s.dump × (u ≡ state_up v (told_reels s.rack) s.online s.dump)
+]

@@ -1,0 +1,65 @@
+-- What lines say that were read, and what is done of a command behind conditions.
+use Rattle.std.proofs.Common.{◌≡◌, ◌∙◌, ℕ, Bool, true, List, [], ◌∷◌, Option, Some, None, Result, Ok, Err, IfSome, option_map, if◌then◌else◌, refl, sym, ap, subst}
+use Rattle.std.proofs.lemmas.Bool.{false≢true}
+use Rattle.g_turn.specs.Commands.{command, done_if}
+use Rattle.g_turn.specs.Met.{IsSpoken, Met}
+use Rattle.g_turn.specs.State.{Work}
+use Rattle.g_lang.specs.Lines.{IsReading, IsWritten, LineSaid, Said, SaidIf, WrittenGoto, WrittenIf, WrittenVerb, WrittenWhenever, Written, said_by}
+use Rattle.g_lang.specs.Said.{command_said, said_inside}
+use Rattle.g_lang.specs.declared.line.Command.{Command}
+use Rattle.g_lang.specs.declared.line.Command.TheVariants.{Blank, Goto, If', Verb, Whenever}
+use Rattle.g_lang.specs.declared.line.Cond.{Cond}
+use Rattle.g_macro.specs.Levels.{holds}
+use Rattle.g_plain.specs.Asks.{Gives}
+use Rattle.g_verbs.specs.Verbs.{IsActionRead}
+use Rattle.g_verbs.specs.declared.action.Action.{Action}
+use Rattle.g_verbs.specs.declared.fault.VerbFault.{VerbFault}
+use Rattle.g_verbs.specs.declared.fault.VerbFault.TheVariants.{BadParameter}
+
+spoken_of : (w : Written) → IsWritten w → IsSpoken (said_by w)
+spoken_of (WrittenGoto label) is = tt
+spoken_of (WrittenIf cond inner) is = spoken_of inner is.1
+spoken_of (WrittenWhenever cond inner) is = (inner, is.1, refl)
+spoken_of (WrittenVerb [] gap parts) is = absurd (false≢true is.0)
+spoken_of (WrittenVerb (letter ∷ name) gap parts) is = tt
+
+option_spoken : (w : Option Written) → IfSome w IsWritten → IfSome (option_map said_by w) IsSpoken
+option_spoken None is = tt
+option_spoken (Some w) is = spoken_of w is
+
+-- what a line says that was read
+pub spoken_read : (text : List ℕ) (said : LineSaid) → IsReading text (Ok said) → IfSome said.command IsSpoken
+spoken_read text said (l, is, same_text, same) = subst (λ (s : LineSaid). IfSome s.command IsSpoken) (sym same) (option_spoken l.command is.command)
+
+-- a command behind a condition isn't blank
+not_blank : (inner : Command) → IsSpoken (said_inside inner) → (room : ℕ) (who : List ℕ) (by : Bool) (w : Work)
+    → command room who by (said_inside inner) w ≡ done_if room who by (command_said inner) w
+not_blank Blank is room who by w = absurd is
+not_blank (If' cond p inner) is room who by w = refl
+not_blank (Goto label) is room who by w = refl
+not_blank (Whenever cond text) is room who by w = refl
+not_blank (Verb name params rest) is room who by w = refl
+
+pub inner_spoken : (inner : Command) → IsSpoken (said_inside inner) → IfSome (command_said inner) IsSpoken
+inner_spoken Blank is = absurd is
+inner_spoken (If' cond p inner) is = is
+inner_spoken (Goto label) is = is
+inner_spoken (Whenever cond text) is = is
+inner_spoken (Verb name params rest) is = is
+
+-- the condition holds
+pub met_holds : (whole : Command) (inner : Command) (cond : Cond) (w : Work) (r : Option Command) → command_said whole ≡ Some (SaidIf cond (said_inside inner))
+    → IsSpoken (said_inside inner) → holds w.desk.levels cond w.desk.outcome ≡ true → Met inner w r → Met whole w r
+met_holds whole inner cond w None is spoken on met = λ room who by.
+    ap (λ (s : Option Said). done_if room who by s w) is
+    ∙ ap (λ (b : Bool). if b then command room who by (said_inside inner) w else Gives w) on ∙ not_blank inner spoken room who by w ∙ met room who by
+met_holds whole inner cond w (Some other) is spoken on met = (
+  met.0,
+  (λ room who by.
+      ap (λ (s : Option Said). done_if room who by s w) is
+      ∙ ap (λ (b : Bool). if b then command room who by (said_inside inner) w else Gives w) on ∙ not_blank inner spoken room who by w ∙ met.1 room who by),
+)
+
+-- the index that a refusal of a verb tells, however it is taken out
+pub index_read : (index : VerbFault → ℕ) → ((n : ℕ) → index (BadParameter n) ≡ n) → (asked : Result Action ℕ) (fault : VerbFault) → IsActionRead asked (Err fault) → asked ≡ Err (index fault)
+index_read index is asked (BadParameter n) read = read ∙ ap (λ (m : ℕ). let r : Result Action ℕ = Err m in r) (sym (is n))

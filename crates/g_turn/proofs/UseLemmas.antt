@@ -1,0 +1,69 @@
+-- What is done with a file's bytes, by what they were fetched for.
+use Rattle.std.proofs.Common.{◌≡◌, ℕ, Bool, true, false, if◌then◌else◌, List, Result, Ok, Err, length, refl, sym, subst, ◌∙◌, ap}
+use Rattle.g_turn.specs.Asking.{append, put}
+use Rattle.g_turn.specs.Say.{in_error, with_bytes}
+use Rattle.g_turn.specs.State.{Work}
+use Rattle.g_turn.specs.Steps.{RanWell}
+use Rattle.g_turn.specs.Uses.{ToAssign, assign, fetch, listed, output_kept, put_or_bad, use_bytes}
+use Rattle.g_turn.specs.Values.{use_of}
+use Rattle.g_turn.specs.declared.uses.Use as uses
+use Rattle.g_turn.specs.declared.uses.Use.TheVariants as uses_for
+use Rattle.g_monitor.specs.declared.errors.CommandError.TheVariants as errors
+use Rattle.g_name.specs.declared.full.Full.{Full}
+use Rattle.g_name.specs.declared.path.Path.{Path}
+use Rattle.g_peri.specs.Held.{is_assigned, is_reader}
+use Rattle.g_peri.specs.declared.unit.Unit as unit
+use Rattle.g_plain.specs.Asks.{Answer, Asks, Gives, RanInPart}
+use Rattle.g_plain.specs.declared.calls.StoreCall.{StoreCall}
+use Rattle.g_plan.specs.Assembly.{assembled}
+use Rattle.g_trap.specs.declared.mode_set.Mode.{Mode}
+use Rattle.g_trap.specs.declared.mode_set.Mode.TheVariants as mode
+
+module _ {S : Type 0} (answers : S → List ℕ → StoreCall → Answer → S → Type 0) (who : List ℕ) (old new : S) (room : ℕ) where
+  abbrev Part : Asks Work → Type 0
+  Part p = RanInPart answers who old p new
+
+  pub put_part : (path : Path) (m : Mode) (use_for : uses.Use) (to : Path) (full : Full) (bytes : List ℕ) (w v : Work) → use_for ≡ uses_for.Put to → v ≡ with_bytes (length bytes) w
+      → Part (put room true to bytes v) → Part (use_bytes room path m (use_of use_for) full bytes (with_bytes (length bytes) w))
+  put_part path m use_for to full bytes w v is counted r =
+      subst (λ (u : uses.Use). Part (use_bytes room path m (use_of u) full bytes (with_bytes (length bytes) w))) (sym is)
+      (subst (λ (y : Work). Part (put room true to bytes y)) counted r)
+
+  pub assemble_part : (path : Path) (m : Mode) (use_for : uses.Use) (to : Path) (full : Full) (bytes given : List ℕ) (w v : Work) → use_for ≡ uses_for.Assemble to
+      → v ≡ with_bytes (length bytes) w → given ≡ bytes → Part (put_or_bad room to (assembled given) v)
+      → Part (use_bytes room path m (use_of use_for) full bytes (with_bytes (length bytes) w))
+  assemble_part path m use_for to full bytes given w v is counted same r =
+      subst (λ (u : uses.Use). Part (use_bytes room path m (use_of u) full bytes (with_bytes (length bytes) w))) (sym is)
+      (subst (λ (y : Work). Part (put_or_bad room to (assembled bytes) y)) counted
+      (subst (λ (text : List ℕ). Part (put_or_bad room to (assembled text) v)) same r))
+
+  pub append_part : (path : Path) (m : Mode) (use_for : uses.Use) (to : Path) (full : Full) (bytes : List ℕ) (w v : Work) → use_for ≡ uses_for.Append to
+      → v ≡ with_bytes (length bytes) w → Part (append room to bytes v) → Part (use_bytes room path m (use_of use_for) full bytes (with_bytes (length bytes) w))
+  append_part path m use_for to full bytes w v is counted r =
+      subst (λ (u : uses.Use). Part (use_bytes room path m (use_of u) full bytes (with_bytes (length bytes) w))) (sym is)
+      (subst (λ (y : Work). Part (append room to bytes y)) counted r)
+
+  pub assign_part : (u : unit.Unit) (file path : Path) (w : Work) → is_assigned w.desk.units u ≡ false → is_reader u.kind ≡ true → path ≡ file
+      → Part (fetch room path mode.Read (ToAssign u) w) → Part (assign room u file w)
+  assign_part u file path w free reader same r =
+      subst (λ (b : Bool). Part (if b then Gives (in_error room errors.InUse w) else if is_reader u.kind then fetch room file mode.Read (ToAssign u) w else Gives (output_kept room u file w))) (sym free)
+      (subst (λ (b : Bool). Part (if b then fetch room file mode.Read (ToAssign u) w else Gives (output_kept room u file w))) (sym reader)
+      (subst (λ (p : Path). Part (fetch room p mode.Read (ToAssign u) w)) same r))
+
+-- a listing asks nothing
+pub list_well : {S : Type 0} (answers : S → List ℕ → StoreCall → Answer → S → Type 0) (is_spent : S → Bool) (can_wait : S → ℕ → Bool) (who : List ℕ) (s : S) (room : ℕ)
+    → (path : Path) (m : Mode) (use_for : uses.Use) (full : Full) (bytes : List ℕ) (w v given : Work) → use_for ≡ uses_for.List → v ≡ with_bytes (length bytes) w
+    → given ≡ listed room path m full bytes v → RanWell answers is_spent can_wait who s (use_bytes room path m (use_of use_for) full bytes (with_bytes (length bytes) w)) given s
+list_well answers is_spent can_wait who s room path m use_for full bytes w v given is counted listing =
+    subst (λ (u : uses.Use). RanWell answers is_spent can_wait who s (use_bytes room path m (use_of u) full bytes (with_bytes (length bytes) w)) given s) (sym is)
+    (subst (λ (y : Work). given ≡ listed room path m full bytes y) counted listing, refl)
+
+-- PLAN asks what the assembly of its source says
+pub assemble_well : {S : Type 0} (answers : S → List ℕ → StoreCall → Answer → S → Type 0) (is_spent : S → Bool) (can_wait : S → ℕ → Bool) (who : List ℕ) (s t : S) (room : ℕ)
+    → (path : Path) (m : Mode) (use_for : uses.Use) (to : Path) (full : Full) (bytes given : List ℕ) (w v made : Work) → use_for ≡ uses_for.Assemble to
+    → v ≡ with_bytes (length bytes) w → given ≡ bytes → RanWell answers is_spent can_wait who s (put_or_bad room to (assembled given) v) made t
+    → RanWell answers is_spent can_wait who s (use_bytes room path m (use_of use_for) full bytes (with_bytes (length bytes) w)) made t
+assemble_well answers is_spent can_wait who s t room path m use_for to full bytes given w v made is counted same r =
+    subst (λ (u : uses.Use). RanWell answers is_spent can_wait who s (use_bytes room path m (use_of u) full bytes (with_bytes (length bytes) w)) made t) (sym is)
+    (subst (λ (y : Work). RanWell answers is_spent can_wait who s (put_or_bad room to (assembled bytes) y) made t) counted
+    (subst (λ (text : List ℕ). RanWell answers is_spent can_wait who s (put_or_bad room to (assembled text) v) made t) same r))

@@ -1,0 +1,15 @@
+-- What the rest of the lines gives is what all give.
+use Rattle.std.proofs.Common.{◌≡◌, length}
+use Rattle.std.specs.Prelude.{map}
+use Rattle.g_turn.specs.Say.{say_all}
+use Rattle.g_monitor.specs.Listing.{listed_lines, shown_line}
+use Rattle.g_turn.proofs.work.Work.say_lines.Given as goal
+
+abbrev pub invariant-loop-run_document_line : goal.invariant-loop-run_document_line
+invariant-loop-run_document_line l = record {
+  rest : say_all l.room (map shown_line l.lines) l.self ≡ say_all l.room (listed_lines l.bytes) l.fn.self;
+  blocks : l.self.blocks ≡ l.fn.self.blocks;
+}
+
+abbrev pub decreases-loop-run_document_line : goal.decreases-loop-run_document_line
+decreases-loop-run_document_line l = length l.lines

@@ -1,0 +1,12 @@
+-- What the rest of the files gives is what all give.
+use Rattle.std.proofs.Common.{◌≡◌, drop}
+use Rattle.std.specs.Prelude.{map}
+use Rattle.g_turn.specs.Say.{say_all}
+use Rattle.g_monitor.specs.Listing.{row_line}
+use Rattle.g_turn.proofs.work.Work.say_rows.Given as goal
+
+abbrev pub invariant-loop-row : goal.invariant-loop-row
+invariant-loop-row l = record {
+  rest : say_all l.room (map row_line (drop l.row-index l.rows)) l.self ≡ say_all l.room (map row_line l.rows) l.fn.self;
+  blocks : l.self.blocks ≡ l.fn.self.blocks;
+}

@@ -1,0 +1,46 @@
+-- One command of a line.
+use Rattle.std.specs.Prelude.{Bool, Err, List, None, Ok, Option, Result, Some, codes, if◌then◌else◌, ℕ}
+use Rattle.g_turn.specs.Actions.{act}
+use Rattle.g_turn.specs.Say.{in_error, with_levels}
+use Rattle.g_turn.specs.State.{Work}
+use Rattle.g_lang.specs.Lines.{Said, SaidGoto, SaidIf, SaidVerb, SaidWhenever}
+use Rattle.g_lang.specs.declared.line.Cond.{Cond}
+use Rattle.g_macro.specs.Levels.{current, document_passed, gone_to, holds, is_full_for, line_of_label, with_whenever}
+use Rattle.g_monitor.specs.declared.errors.CommandError.TheVariants as errors
+use Rattle.g_name.specs.Order.{same_text}
+use Rattle.g_plain.specs.Asks.{Asks, Gives}
+use Rattle.g_verbs.specs.How.{action_read}
+use Rattle.g_verbs.specs.declared.action.Action.{Action}
+
+-- the lines behind an INPUT are passed over, also where its parameters are bad
+abbrev pub passes_document : List ℕ → Work → Work
+passes_document name w = if same_text name (codes "INPUT") then with_levels (document_passed w.desk.levels) w else w
+
+-- GOTO: the first line of the level that has the label, if one has it
+abbrev pub gone : ℕ → Option ℕ → Work → Work
+gone room None w = in_error room errors.NoLabel w
+gone room (Some place) w = with_levels (gone_to place w.desk.levels) w
+
+-- WHENEVER: the command waits in the level
+abbrev pub kept : ℕ → Cond → List ℕ → Work → Work
+kept room cond text w =
+    if is_full_for cond w.desk.levels then in_error room errors.WheneversFull w
+    else with_levels (with_whenever cond text w.desk.levels) w
+
+module _ (room : ℕ) (who : List ℕ) (by : Bool) where
+  -- a verb: its bad parameter is told before anything is asked or looked for
+  abbrev pub acted : List ℕ → Result Action ℕ → Work → Asks Work
+  acted name (Ok action) w = act room who by action w
+  acted name (Err index) w = Gives (in_error room (errors.BadParameter index) (passes_document name w))
+
+  -- ONE COMMAND of the user `who`; `by` tells that a WHENEVER does it. An IF whose condition doesn't hold does nothing
+  abbrev pub command : Said → Work → Asks Work
+  command (SaidGoto label) w = Gives (gone room (line_of_label label (current w.desk.levels).lines) w)
+  command (SaidIf cond inner) w = if holds w.desk.levels cond w.desk.outcome then command inner w else Gives w
+  command (SaidWhenever cond text) w = Gives (kept room cond text w)
+  command (SaidVerb name params rest) w = acted name (action_read name params rest) w
+
+  -- what a text says is done; nothing of a blank line, and of a label alone
+  abbrev pub done_if : Option Said → Work → Asks Work
+  done_if None w = Gives w
+  done_if (Some said) w = command said w

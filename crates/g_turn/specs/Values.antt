@@ -1,0 +1,44 @@
+-- What the values of the code are: why a turn's work is over, what a turn that waits is gone on with, what a file's bytes
+-- are fetched for, and what an order came to.
+use Rattle.std.specs.Prelude.{Bool, None, Option, Some, false, true, ◌≡◌}
+use Rattle.g_turn.specs.Runs.{Ends, Goes, Order, behind_order}
+use Rattle.g_turn.specs.State.{AgainCommand, AgainLine, Broken, Done, Full, Pending, Stop, Waits, Work}
+use Rattle.g_turn.specs.Uses.{ToAppend, ToAssemble, ToAssign, ToList, ToLoad, ToPut, Use}
+use Rattle.g_turn.specs.declared.suspended.Suspended.{Suspended}
+use Rattle.g_turn.specs.declared.suspended.Suspended.TheVariants as again
+use Rattle.g_turn.specs.declared.stop.Stop as code
+use Rattle.g_turn.specs.declared.stop.Stop.TheVariants as stop
+use Rattle.g_turn.specs.declared.uses.Use as uses
+use Rattle.g_turn.specs.declared.uses.Use.TheVariants as uses_for
+use Rattle.g_mill.specs.Machine.{Machine}
+use Rattle.g_peri.specs.Ordered.{order_with}
+use Rattle.g_peri.specs.declared.ordered.OrderEvent.{OrderEvent}
+
+abbrev pub pending_of : Suspended → Pending
+pending_of (again.Line text) = AgainLine text
+pending_of (again.Command text orders blocks command) = AgainCommand text orders blocks command
+
+abbrev pub stop_of : code.Stop → Stop
+stop_of stop.Full = Full
+stop_of (stop.Waits serial) = Waits serial
+stop_of stop.Broken = Broken
+stop_of stop.Done = Done
+
+abbrev pub use_of : uses.Use → Use
+use_of (uses_for.Put path) = ToPut path
+use_of (uses_for.Append path) = ToAppend path
+use_of (uses_for.Assemble path) = ToAssemble path
+use_of uses_for.List = ToList
+use_of uses_for.Load = ToLoad
+use_of (uses_for.Assign unit file) = ToAssign unit
+
+-- whether the run goes on, with the work that it leaves
+abbrev pub order_as : Bool → Work → Order
+order_as true w = Goes w
+order_as false w = Ends w
+
+-- how the next order of the program came out; none did where there is no program
+abbrev pub Stepped : Option OrderEvent → Work → Work → Type 0
+Stepped None old new = (old.desk.program ≡ None) × (new ≡ old)
+Stepped (Some event) old new =
+    (p : Machine) × (old.desk.program ≡ Some p) × (event ≡ (order_with old.desk.units p).event) × (new ≡ behind_order (order_with old.desk.units p) old)

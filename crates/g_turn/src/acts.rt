@@ -1,0 +1,222 @@
+//! What each verb does.
+ghost use Rattle.std.specs.Prelude.{◌≡◌, ◌≤◌, ◌<◌, ◌+◌, ℕ, [], Bool, false, length, unwrap_or, IfErr, IfOk, OnErr, OnOk};
+ghost use Rattle.g_turn.specs.Actions as actions;
+ghost use Rattle.g_turn.specs.Asking as asking;
+ghost use Rattle.g_turn.specs.Say as said;
+ghost use Rattle.g_turn.specs.State as state;
+ghost use Rattle.g_turn.specs.Steps.{RanWell};
+ghost use Rattle.g_lang.specs.Conditions.{IsLetter};
+ghost use Rattle.g_macro.specs.Levels.{document_of, document_passed, with_param};
+ghost use Rattle.g_monitor.specs.JobLines.{marked};
+ghost use Rattle.g_monitor.specs.declared.job_lines.Mark.TheVariants as mark;
+ghost use Rattle.g_plain.specs.Asks.{RanInPart};
+ghost use Rattle.g_plain.specs.Rules.{IsWithinLimits};
+ghost use Rattle.g_verbs.specs.Verbs as verbs;
+
+use crate::asker::Asker;
+use crate::uses::Use;
+use crate::work::Work;
+use g_base::NoMemory;
+use g_monitor::Mark;
+use g_name::{Path, Text, User};
+use g_plain::{Filestore, StoreCall};
+use g_trap::Mode;
+use g_verbs::Action;
+use std::alloc::Global;
+
+/// The MONEY of a user that is made without an amount.
+const MONEY: u64 = 1_000_000;
+
+/// Whether a verb makes one call, hands over no bytes and has its reply said.
+fn is_one_call(action: &Action) -> bool
+    ensures { result ≡ actions.is_one_call action.now }
+{
+    matches!(
+        action,
+        Action::Erase { .. }
+            | Action::Rename { .. }
+            | Action::ListDir { .. }
+            | Action::TrapGo { .. }
+            | Action::TrapStop { .. }
+            | Action::TrapCheck { .. }
+            | Action::NewUser { .. }
+            | Action::Budget { .. }
+            | Action::Retrieve { .. }
+    )
+}
+
+/// The call of a verb that makes one, hands over no bytes and has its reply said; any other verb is given back.
+fn call_of(action: Action, who: &User) -> Result<StoreCall, Action>
+    requires sound { verbs.IsSound action }
+    ensures call { IfOk result (λ call. (room : ℕ) (by : Bool) (w : state.Work)
+        → actions.act room who.now by action w ≡ asking.one_call room call w) }
+    ensures limits { IfOk result (λ call. IsWithinLimits call) }
+    ensures other { IfErr result (λ other. other ≡ action) }
+    ensures kind { IfErr result (λ other. actions.is_one_call other ≡ false) }
+{
+    match action {
+        Action::Erase { file } => Ok(StoreCall::Erase { path: file }),
+        Action::Rename { file, to } => Ok(StoreCall::Rename { path: file, to }),
+        Action::ListDir { user } => Ok(StoreCall::List {
+            user: user.unwrap_or(who.copy()),
+        }),
+        Action::TrapGo { file, user, modes } => Ok(StoreCall::TrapGo {
+            path: file,
+            user,
+            modes,
+        }),
+        Action::TrapStop { file, user, modes } => Ok(StoreCall::TrapStop {
+            path: file,
+            user,
+            modes,
+        }),
+        Action::TrapCheck { file, user } => Ok(StoreCall::TrapCheck {
+            path: file,
+            user: user.unwrap_or(who.copy()),
+        }),
+        Action::NewUser {
+            user,
+            space,
+            time,
+            money,
+        } => Ok(StoreCall::NewUser {
+            user,
+            space: space as u32,
+            time,
+            money: money.unwrap_or(MONEY),
+        }),
+        Action::Budget { user, kind, amount } => Ok(StoreCall::Budget { user, kind, amount }),
+        Action::Retrieve { file } => Ok(StoreCall::Retrieve { path: file }),
+        other => Err(other),
+    }
+}
+
+impl Work {
+    /// Does what a verb with its parameters asks for, of the user `who`; `by` tells that a WHENEVER does it.
+    pub(crate) fn act<S: Filestore>(
+        &mut self,
+        store: &mut S,
+        asker: &Asker<'_>,
+        by: bool,
+        action: Action,
+    ) -> Result<(), NoMemory>
+        requires running { S.is_spent store.old ≡ false }
+        requires open { said.is_over self.old ≡ false }
+        requires few { self.old.blocks ≤ 2048 }
+        requires level { 0 < length self.old.desk.levels.levels }
+        requires sound { verbs.IsSound action }
+        ensures ok { OnOk result (RanWell S.answers S.is_spent S.can_wait asker.now.who.now store.old
+            (actions.act asker.now.room asker.now.who.now by action self.old) self.new store.new) }
+        ensures err { OnErr result (RanInPart S.answers asker.now.who.now store.old
+            (actions.act asker.now.room asker.now.who.now by action self.old) store.new) }
+        ensures live { OnOk result (said.is_over self.new ≡ false → S.is_spent store.new ≡ false) }
+        ensures same_waits { (s : ℕ) → S.can_wait store.new s ≡ S.can_wait store.old s }
+        ensures blocks { OnOk result (self.new.blocks ≤ self.old.blocks + 2048) }
+    {
+        // An action is large: so it is moved on where it stands, unless it becomes a call.
+        if !is_one_call(&action) {
+            return self.act_in_several_calls(store, asker, by, action);
+        }
+        match call_of(action, asker.who) {
+            Ok(call) => self.one_call(store, asker, &call),
+            Err(action) => self.act_in_several_calls(store, asker, by, action),
+        }
+    }
+
+    /// Does what a verb asks for that isn't one call alone.
+    fn act_in_several_calls<S: Filestore>(
+        &mut self,
+        store: &mut S,
+        asker: &Asker<'_>,
+        by: bool,
+        action: Action,
+    ) -> Result<(), NoMemory>
+        requires running { S.is_spent store.old ≡ false }
+        requires open { said.is_over self.old ≡ false }
+        requires few { self.old.blocks ≤ 2048 }
+        requires level { 0 < length self.old.desk.levels.levels }
+        requires sound { verbs.IsSound action }
+        requires kind { actions.is_one_call action ≡ false }
+        ensures ok { OnOk result (RanWell S.answers S.is_spent S.can_wait asker.now.who.now store.old
+            (actions.act asker.now.room asker.now.who.now by action self.old) self.new store.new) }
+        ensures err { OnErr result (RanInPart S.answers asker.now.who.now store.old
+            (actions.act asker.now.room asker.now.who.now by action self.old) store.new) }
+        ensures live { OnOk result (said.is_over self.new ≡ false → S.is_spent store.new ≡ false) }
+        ensures same_waits { (s : ℕ) → S.can_wait store.new s ≡ S.can_wait store.old s }
+        ensures blocks { OnOk result (self.new.blocks ≤ self.old.blocks + 2048) }
+    {
+        match action {
+            Action::Input { file } => self.input(store, asker, file),
+            Action::Copy { from, to } => {
+                self.fetch(store, asker, (from, Mode::Read), Use::Put(to))
+            }
+            Action::Append { from, to } => {
+                self.fetch(store, asker, (from, Mode::Read), Use::Append(to))
+            }
+            Action::ListFile { file } => { self.fetch(store, asker, (file, Mode::Read), Use::List) }
+            Action::Load { file } => { self.fetch(store, asker, (file, Mode::Execute), Use::Load) }
+            Action::Plan { from, to } => {
+                self.fetch(store, asker, (from, Mode::Read), Use::Assemble(to))
+            }
+            Action::Enter { n } => self.enter(asker.alloc, asker.room, by, n as u8),
+            Action::Resume => self.resume(asker.alloc, asker.room, by),
+            Action::Assign { unit, file } => self.assign(store, asker, unit, file),
+            Action::Release { unit } => self.release(store, asker, unit),
+            Action::Delete => self.delete(store, asker),
+            Action::SetParam { letter, text } => {
+                self.set_param(asker.alloc, letter, text);
+                Ok(())
+            }
+            Action::Display { text } => self.display(asker.alloc, asker.room, text.as_slice()),
+            Action::EndJob => self.end_job(store, asker),
+            Action::Macro { name, params } => { self.look_up(store, asker, &name, params) }
+            _ => unreachable!(),
+        }
+    }
+
+    /// INPUT: the lines up to `////` are put, and passed over whatever that answers.
+    fn input<S: Filestore>(
+        &mut self,
+        store: &mut S,
+        asker: &Asker<'_>,
+        file: Path,
+    ) -> Result<(), NoMemory>
+        requires running { S.is_spent store.old ≡ false }
+        requires few { self.old.blocks ≤ 4096 }
+        requires level { 0 < length self.old.desk.levels.levels }
+        ensures ok { OnOk result (RanWell S.answers S.is_spent S.can_wait asker.now.who.now store.old
+            (actions.input asker.now.room file self.old) self.new store.new) }
+        ensures err { OnErr result (RanInPart S.answers asker.now.who.now store.old
+            (actions.input asker.now.room file self.old) store.new) }
+        ensures live { OnOk result (said.is_over self.new ≡ false → S.is_spent store.new ≡ false) }
+        ensures same_waits { (s : ℕ) → S.can_wait store.new s ≡ S.can_wait store.old s }
+        ensures blocks { OnOk result (self.new.blocks ≤ self.old.blocks + 128) }
+    {
+        match self.levels.document(asker.alloc) {
+            Ok(bytes) => self.put(store, asker, true, (file, bytes)),
+            Err(_) => Err(NoMemory),
+        }
+    }
+
+    /// SETPARAM: the empty text where none is given.
+    fn set_param(&mut self, alloc: Global, letter: u8, text: Option<Text>)
+        requires level { 0 < length self.old.desk.levels.levels }
+        requires letter { IsLetter letter }
+        ensures { self.new ≡ said.with_levels
+            (with_param letter (unwrap_or text []) self.old.desk.levels) self.old }
+    {
+        let value = text.unwrap_or(Text::new(alloc));
+        self.levels.set_param(letter, value);
+    }
+
+    /// DISPLAY.
+    fn display(&mut self, alloc: Global, room: usize, text: &[u8]) -> Result<(), NoMemory>
+        ensures ok { OnOk result
+            (self.new ≡ said.say room (marked mark.Displayed text.now) (said.done self.old)) }
+        ensures blocks { OnOk result (self.new.blocks ≡ self.old.blocks) }
+    {
+        self.done();
+        self.say_marked(alloc, room, Mark::Displayed, text)?;
+        Ok(())
+    }
+}

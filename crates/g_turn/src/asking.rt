@@ -1,0 +1,179 @@
+//! Calls of a store, and what a work makes of their answers.
+ghost use Rattle.std.specs.Prelude.{◌≡◌, ◌≤◌, ◌+◌, ◌++◌, ℕ, Err, false, IfOk, OnErr, OnOk, if◌then◌else◌};
+ghost use Rattle.g_turn.specs.Asking as asking;
+ghost use Rattle.g_turn.specs.Say as said;
+ghost use Rattle.g_turn.specs.Steps.{IsStep, RanWell};
+ghost use Rattle.g_monitor.specs.Parts.{full_text};
+ghost use Rattle.g_monitor.specs.Replies.{reply_lines};
+ghost use Rattle.g_plain.specs.Asks.{RanInPart};
+ghost use Rattle.g_plain.specs.Replies.{IsReplyTo};
+ghost use Rattle.g_plain.specs.Rules.{IsWithinLimits};
+
+use crate::asker::Asker;
+use crate::work::Work;
+use g_base::NoMemory;
+use g_name::{Full, Path, Text, User};
+use g_plain::{Filestore, StoreCall, StoreFault, StoreReply, ask};
+use std::alloc::Global;
+
+/// Makes one call, and says of its answer all that is known of any store. Want of memory is no answer.
+pub(crate) fn ask_any<S: Filestore>(
+    alloc: Global,
+    store: &mut S,
+    who: &User,
+    call: &StoreCall,
+) -> Result<Result<StoreReply, StoreFault>, NoMemory>
+    requires running { S.is_spent store.old ≡ false }
+    requires limits { IsWithinLimits call.now }
+    ensures step { IfOk result (λ answer.
+        IsStep S.answers S.is_spent S.can_wait who.now store.old call.now answer store.new) }
+    ensures memory { OnErr result
+        (S.answers store.old who.now call.now (Err StoreFault.NoMemory) store.new) }
+    ensures live { OnErr result (S.is_spent store.new ≡ false) }
+    ensures same_waits { (s : ℕ) → S.can_wait store.new s ≡ S.can_wait store.old s }
+{
+    ask(alloc, store, who, call)
+}
+
+impl Work {
+    /// A verb of one call that hands over no bytes: its reply is said.
+    pub(crate) fn one_call<S: Filestore>(
+        &mut self,
+        store: &mut S,
+        asker: &Asker<'_>,
+        call: &StoreCall,
+    ) -> Result<(), NoMemory>
+        requires running { S.is_spent store.old ≡ false }
+        requires open { said.is_over self.old ≡ false }
+        requires limits { IsWithinLimits call.now }
+        ensures ok { OnOk result (RanWell S.answers S.is_spent S.can_wait asker.now.who.now store.old
+            (asking.one_call asker.now.room call.now self.old) self.new store.new) }
+        ensures err { OnErr result (RanInPart S.answers asker.now.who.now store.old
+            (asking.one_call asker.now.room call.now self.old) store.new) }
+        ensures live { OnOk result (said.is_over self.new ≡ false → S.is_spent store.new ≡ false) }
+        ensures same_waits { (s : ℕ) → S.can_wait store.new s ≡ S.can_wait store.old s }
+        ensures blocks { OnOk result (self.new.blocks ≡ self.old.blocks) }
+    {
+        match ask_any(asker.alloc, store, asker.who, call) {
+            Ok(Ok(reply)) => self.grant(asker.alloc, asker.room, call, &reply),
+            Ok(Err(fault)) => self.refuse(asker.alloc, asker.room, &fault),
+            Err(NoMemory) => Err(NoMemory),
+        }
+    }
+
+    /// A call is granted: the command is done, and the reply is said.
+    fn grant(
+        &mut self,
+        alloc: Global,
+        room: usize,
+        call: &StoreCall,
+        reply: &StoreReply,
+    ) -> Result<(), NoMemory>
+        requires open { said.is_over self.old ≡ false }
+        requires kind { IsReplyTo call.now reply.now }
+        ensures ok { OnOk result
+            (self.new ≡ said.say_all room (reply_lines call.now reply.now) (said.done self.old)) }
+        ensures blocks { OnOk result (self.new.blocks ≡ self.old.blocks) }
+    {
+        self.done();
+        self.say_reply(alloc, room, call, reply)?;
+        Ok(())
+    }
+
+    /// Puts bytes for a path. The command comes out well with them; or, at the release of a unit by DELETE or at the job's
+    /// end, as it stands.
+    pub(crate) fn put<S: Filestore>(
+        &mut self,
+        store: &mut S,
+        asker: &Asker<'_>,
+        comes_well: bool,
+        file: (Path, Text),
+    ) -> Result<(), NoMemory>
+        requires running { S.is_spent store.old ≡ false }
+        requires few { self.old.blocks ≤ 4096 }
+        ensures ok { OnOk result (RanWell S.answers S.is_spent S.can_wait asker.now.who.now store.old
+            (asking.put asker.now.room comes_well file.0 file.1 self.old) self.new store.new) }
+        ensures err { OnErr result (RanInPart S.answers asker.now.who.now store.old
+            (asking.put asker.now.room comes_well file.0 file.1 self.old) store.new) }
+        ensures live { OnOk result (said.is_over self.new ≡ false → S.is_spent store.new ≡ false) }
+        ensures same_waits { (s : ℕ) → S.can_wait store.new s ≡ S.can_wait store.old s }
+        ensures blocks { OnOk result (self.new.blocks ≤ self.old.blocks + 128) }
+    {
+        let (path, bytes) = file;
+        let len = bytes.as_slice().len();
+        let call = StoreCall::Put { path, bytes };
+        match ask_any(asker.alloc, store, asker.who, &call) {
+            Ok(Ok(reply)) => match reply {
+                StoreReply::Made(full) => {
+                    self.done_if(comes_well);
+                    self.say_handed(asker, len, b"MADE ", &full)
+                }
+                _ => Ok(()),
+            },
+            Ok(Err(fault)) => self.refuse(asker.alloc, asker.room, &fault),
+            Err(NoMemory) => Err(NoMemory),
+        }
+    }
+
+    /// Puts bytes behind those of a file.
+    pub(crate) fn append<S: Filestore>(
+        &mut self,
+        store: &mut S,
+        asker: &Asker<'_>,
+        path: Path,
+        bytes: Text,
+    ) -> Result<(), NoMemory>
+        requires running { S.is_spent store.old ≡ false }
+        requires few { self.old.blocks ≤ 4096 }
+        ensures ok { OnOk result (RanWell S.answers S.is_spent S.can_wait asker.now.who.now store.old
+            (asking.append asker.now.room path bytes self.old) self.new store.new) }
+        ensures err { OnErr result (RanInPart S.answers asker.now.who.now store.old
+            (asking.append asker.now.room path bytes self.old) store.new) }
+        ensures live { OnOk result (said.is_over self.new ≡ false → S.is_spent store.new ≡ false) }
+        ensures same_waits { (s : ℕ) → S.can_wait store.new s ≡ S.can_wait store.old s }
+        ensures blocks { OnOk result (self.new.blocks ≤ self.old.blocks + 128) }
+    {
+        let len = bytes.as_slice().len();
+        let call = StoreCall::Append { path, bytes };
+        match ask_any(asker.alloc, store, asker.who, &call) {
+            Ok(Ok(reply)) => match reply {
+                StoreReply::Appended(full) => {
+                    self.done();
+                    self.say_handed(asker, len, b"APPENDED ", &full)
+                }
+                _ => Ok(()),
+            },
+            Ok(Err(fault)) => self.refuse(asker.alloc, asker.room, &fault),
+            Err(NoMemory) => Err(NoMemory),
+        }
+    }
+
+    /// So many bytes were handed over: their blocks count, and the file is said behind these words.
+    fn say_handed(
+        &mut self,
+        asker: &Asker<'_>,
+        len: usize,
+        words: &[u8],
+        full: &Full,
+    ) -> Result<(), NoMemory>
+        requires few { self.old.blocks ≤ 4096 }
+        requires short { len ≤ 65536 }
+        ensures ok { OnOk result (self.new ≡ said.say asker.now.room (words.now ++ full_text full.now)
+            (said.with_bytes len self.old)) }
+        ensures blocks { OnOk result (self.new.blocks ≤ self.old.blocks + 128) }
+    {
+        self.count_bytes(len);
+        self.say_named(asker.alloc, asker.room, words, full)?;
+        Ok(())
+    }
+
+    /// The command comes out well, where this is so.
+    fn done_if(&mut self, comes_well: bool)
+        ensures done { self.new ≡ (if comes_well then said.done self.old else self.old) }
+        ensures blocks { self.new.blocks ≡ self.old.blocks }
+    {
+        if comes_well {
+            self.done();
+        }
+    }
+}

@@ -1,0 +1,232 @@
+//! One command of a line: GOTO, IF, WHENEVER, or a verb.
+ghost use Rattle.std.specs.Prelude.{◌≡◌, ◌≤◌, ◌+◌, ◌<◌, ℕ, false, length, IfSome, IsTrue, OnErr, OnOk};
+ghost use Rattle.g_turn.specs.Commands as commands;
+ghost use Rattle.g_turn.specs.Met.{IsBare, IsSpoken, Met};
+ghost use Rattle.g_turn.specs.Say as said;
+ghost use Rattle.g_turn.specs.Steps.{RanWell};
+ghost use Rattle.g_lang.specs.Lines.{IsCommandText};
+ghost use Rattle.g_lang.specs.Said.{command_said};
+ghost use Rattle.g_macro.specs.Levels.{current, line_of_label};
+ghost use Rattle.g_plain.specs.Asks.{RanInPart};
+ghost use Rattle.g_monitor.specs.declared.errors.CommandError.TheVariants as errors;
+ghost use Rattle.g_verbs.specs.How.{action_read};
+
+use crate::asker::Asker;
+use crate::work::Work;
+use g_base::NoMemory;
+use g_lang::{Command, Cond, Label};
+use g_lines::Texts;
+use g_macro::MacroFault;
+use g_monitor::CommandError;
+use g_name::{Local, Text};
+use g_plain::Filestore;
+use g_verbs::{VerbFault, read_verb};
+use std::alloc::Global;
+
+/// A verb's line: its name, its parameters, and what stands behind them.
+#[derive(Drop)]
+struct VerbLine {
+    name: Local,
+    params: Texts,
+    rest: Text,
+}
+
+/// Whether a command stands behind no condition.
+fn is_bare(command: &Command) -> bool
+    ensures { IsTrue result → IsBare command.now }
+{
+    match command {
+        Command::Goto(_) | Command::Whenever { .. } | Command::Verb { .. } => true,
+        Command::Blank | Command::If { .. } => false,
+    }
+}
+
+impl Work {
+    /// Does what a text says, for the user `who`; `by` tells that a WHENEVER does it. Nothing is done of a blank line,
+    /// of a label alone, and behind an IF whose condition doesn't hold.
+    pub(crate) fn do_command<S: Filestore>(
+        &mut self,
+        store: &mut S,
+        asker: &Asker<'_>,
+        by: bool,
+        command: Command,
+    ) -> Result<(), NoMemory>
+        requires running { S.is_spent store.old ≡ false }
+        requires open { said.is_over self.old ≡ false }
+        requires few { self.old.blocks ≤ 2048 }
+        requires level { 0 < length self.old.desk.levels.levels }
+        requires spoken { IfSome (command_said command) IsSpoken }
+        ensures ok { OnOk result (RanWell S.answers S.is_spent S.can_wait asker.now.who.now store.old
+            (commands.done_if asker.now.room asker.now.who.now by (command_said command) self.old) self.new store.new) }
+        ensures err { OnErr result (RanInPart S.answers asker.now.who.now store.old
+            (commands.done_if asker.now.room asker.now.who.now by (command_said command) self.old) store.new) }
+        ensures live { OnOk result (said.is_over self.new ≡ false → S.is_spent store.new ≡ false) }
+        ensures same_waits { (s : ℕ) → S.can_wait store.new s ≡ S.can_wait store.old s }
+        ensures blocks { OnOk result (self.new.blocks ≤ self.old.blocks + 2048) }
+    {
+        // A command is large: so it is moved on where it stands, unless a condition is before it.
+        if is_bare(&command) {
+            return self.command(store, asker, by, command);
+        }
+        match self.behind_conditions(command) {
+            Some(command) => self.command(store, asker, by, command),
+            None => Ok(()),
+        }
+    }
+
+    /// The command behind the conditions of IF, where they all hold.
+    fn behind_conditions(&self, command: Command) -> Option<Command>
+        requires level { 0 < length self.now.desk.levels.levels }
+        requires spoken { IfSome (command_said command) IsSpoken }
+        ensures met { Met command self.now result }
+        ensures spoken { IfSome result (λ c. IfSome (command_said c) IsSpoken) }
+    {
+        match command {
+            Command::Blank => None,
+            Command::If { cond, inner } => {
+                if self.levels.holds(&cond, &self.outcome) {
+                    self.behind_conditions(Box::into_inner(inner))
+                } else {
+                    None
+                }
+            }
+            other => Some(other),
+        }
+    }
+
+    /// Does a command that stands behind no condition.
+    fn command<S: Filestore>(
+        &mut self,
+        store: &mut S,
+        asker: &Asker<'_>,
+        by: bool,
+        command: Command,
+    ) -> Result<(), NoMemory>
+        requires running { S.is_spent store.old ≡ false }
+        requires open { said.is_over self.old ≡ false }
+        requires few { self.old.blocks ≤ 2048 }
+        requires level { 0 < length self.old.desk.levels.levels }
+        requires spoken { IfSome (command_said command) IsSpoken }
+        requires bare { IsBare command }
+        ensures ok { OnOk result (RanWell S.answers S.is_spent S.can_wait asker.now.who.now store.old
+            (commands.done_if asker.now.room asker.now.who.now by (command_said command) self.old) self.new store.new) }
+        ensures err { OnErr result (RanInPart S.answers asker.now.who.now store.old
+            (commands.done_if asker.now.room asker.now.who.now by (command_said command) self.old) store.new) }
+        ensures live { OnOk result (said.is_over self.new ≡ false → S.is_spent store.new ≡ false) }
+        ensures same_waits { (s : ℕ) → S.can_wait store.new s ≡ S.can_wait store.old s }
+        ensures blocks { OnOk result (self.new.blocks ≤ self.old.blocks + 2048) }
+    {
+        match command {
+            Command::Goto(label) => self.go_to(asker.alloc, asker.room, &label),
+            Command::Whenever { cond, command } => self.keep(
+                asker.alloc,
+                asker.room,
+                cond,
+                command,
+            ),
+            Command::Verb { name, params, rest } => {
+                self.verb(store, asker, by, VerbLine { name, params, rest })
+            }
+            Command::Blank | Command::If { .. } => Ok(()),
+        }
+    }
+
+    /// GOTO: the level goes on at its first line with the label.
+    fn go_to(&mut self, alloc: Global, room: usize, label: &Label) -> Result<(), NoMemory>
+        requires level { 0 < length self.old.desk.levels.levels }
+        ensures ok { OnOk result (self.new ≡ commands.gone room
+            (line_of_label label.now (current self.old.desk.levels).lines) self.old) }
+        ensures blocks { OnOk result (self.new.blocks ≡ self.old.blocks) }
+    {
+        match self.levels.goto(label) {
+            Ok(()) => Ok(()),
+            Err(MacroFault::NoLabel) => self.in_error(alloc, room, CommandError::NoLabel),
+            Err(_) => unreachable!(),
+        }
+    }
+
+    /// WHENEVER: the level keeps the command.
+    fn keep(
+        &mut self,
+        alloc: Global,
+        room: usize,
+        cond: Cond,
+        command: Text,
+    ) -> Result<(), NoMemory>
+        requires level { 0 < length self.old.desk.levels.levels }
+        requires command { IsCommandText command }
+        ensures ok { OnOk result (self.new ≡ commands.kept room cond command self.old) }
+        ensures blocks { OnOk result (self.new.blocks ≡ self.old.blocks) }
+    {
+        match self.levels.whenever(cond, command) {
+            Ok(()) => Ok(()),
+            Err(MacroFault::WheneversFull) => {
+                self.in_error(alloc, room, CommandError::WheneversFull)
+            }
+            Err(MacroFault::NoMemory) => Err(NoMemory),
+            Err(_) => unreachable!(),
+        }
+    }
+
+    /// A verb, or a macro.
+    fn verb<S: Filestore>(
+        &mut self,
+        store: &mut S,
+        asker: &Asker<'_>,
+        by: bool,
+        line: VerbLine,
+    ) -> Result<(), NoMemory>
+        requires running { S.is_spent store.old ≡ false }
+        requires open { said.is_over self.old ≡ false }
+        requires few { self.old.blocks ≤ 2048 }
+        requires level { 0 < length self.old.desk.levels.levels }
+        ensures ok { OnOk result (RanWell S.answers S.is_spent S.can_wait asker.now.who.now store.old
+            (commands.acted asker.now.room asker.now.who.now by line.name (action_read line.name line.params line.rest) self.old)
+            self.new store.new) }
+        ensures err { OnErr result (RanInPart S.answers asker.now.who.now store.old
+            (commands.acted asker.now.room asker.now.who.now by line.name (action_read line.name line.params line.rest) self.old)
+            store.new) }
+        ensures live { OnOk result (said.is_over self.new ≡ false → S.is_spent store.new ≡ false) }
+        ensures same_waits { (s : ℕ) → S.can_wait store.new s ≡ S.can_wait store.old s }
+        ensures blocks { OnOk result (self.new.blocks ≤ self.old.blocks + 2048) }
+    {
+        let VerbLine { name, params, rest } = line;
+        match read_verb(&name, params, rest) {
+            Ok(action) => self.act(store, asker, by, action),
+            Err(VerbFault::BadParameter(index)) => {
+                self.bad_parameter(asker.alloc, asker.room, &name, index)
+            }
+        }
+    }
+
+    /// A bad parameter; the document of an INPUT is passed over all the same.
+    fn bad_parameter(
+        &mut self,
+        alloc: Global,
+        room: usize,
+        name: &Local,
+        index: usize,
+    ) -> Result<(), NoMemory>
+        requires level { 0 < length self.old.desk.levels.levels }
+        ensures ok { OnOk result (self.new ≡ said.in_error room (errors.BadParameter index)
+            (commands.passes_document name.now self.old)) }
+        ensures blocks { OnOk result (self.new.blocks ≡ self.old.blocks) }
+    {
+        self.pass_document(alloc, name)?;
+        self.in_error(alloc, room, CommandError::BadParameter(index))
+    }
+
+    /// Passes over the lines behind an INPUT.
+    fn pass_document(&mut self, alloc: Global, name: &Local) -> Result<(), NoMemory>
+        requires level { 0 < length self.old.desk.levels.levels }
+        ensures { OnOk result (self.new ≡ commands.passes_document name.now self.old) }
+    {
+        if name.as_slice() != b"INPUT".as_slice() {
+            return Ok(());
+        }
+        match self.levels.document(alloc) {
+            Ok(_document) => Ok(()),
+            Err(_) => Err(NoMemory),
+        }
+    }
+}

@@ -1,0 +1,28 @@
+//! The work of a turn: what its lines, commands and verbs ask of a store, what they make of the answers, and what is said.
+#![tactic(auto)]
+
+mod acts;
+mod suspended;
+mod asker;
+mod asking;
+mod command;
+mod fetching;
+mod lines;
+mod listing;
+mod macros;
+mod turn_work;
+mod releases;
+mod room;
+mod runs;
+mod say;
+mod stop;
+mod turning;
+mod typing;
+mod uses;
+mod work;
+
+pub use suspended::Suspended;
+pub use asker::Asker;
+pub use turn_work::TurnWork;
+pub use stop::Stop;
+pub use work::Work;

@@ -1,0 +1,19 @@
+//! What a turn that waits is gone on with.
+use g_name::Text;
+
+/// What a turn that waits for a reel is gone on with once the reel is mounted.
+#[derive(Debug, Drop)]
+pub enum Suspended {
+    /// This line, as it was taken, from its echo on.
+    Line(Text),
+    /// The command of a WHENEVER, behind what the line before it left.
+    Command {
+        /// What the line before it added to the monitoring file.
+        text: Text,
+        /// The orders that were run.
+        orders: u32,
+        /// The blocks of 512 bytes that were handed over.
+        blocks: u32,
+        command: Text,
+    },
+}

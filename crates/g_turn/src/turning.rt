@@ -1,0 +1,222 @@
+//! The work of a turn: what waited, a run of the program that goes on, or the next line.
+ghost use Rattle.std.specs.Prelude.{◌≡◌, ◌≤◌, ◌<◌, ℕ, [], None, false, length, is_some, option_map, true, IfOk, IfSome, OnErr, OnOk};
+ghost use Rattle.g_turn.specs.Going.{IsAgain, IsReady};
+ghost use Rattle.g_turn.specs.Making.{FewBlocks, HasLevel, IsMade, taken_as};
+ghost use Rattle.g_turn.specs.Say as said;
+ghost use Rattle.g_turn.specs.Say.{with_levels};
+ghost use Rattle.g_turn.specs.Steps.{RanWell};
+ghost use Rattle.g_turn.specs.Turns as turns;
+ghost use Rattle.g_turn.specs.Values.{pending_of};
+ghost use Rattle.g_macro.specs.Levels.{next_line};
+ghost use Rattle.g_plain.specs.Asks.{RanInPart};
+
+use crate::suspended::Suspended;
+use crate::asker::Asker;
+use crate::turn_work::TurnWork;
+use crate::room::empty;
+use crate::work::Work;
+use g_base::NoMemory;
+use g_macro::MacroFault;
+use g_name::Text;
+use g_peri::{Kind, Unit};
+use g_plain::Filestore;
+use std::alloc::Global;
+use std::mem;
+
+impl Work {
+    /// A turn begins, with nothing made yet, in the room of the text that is there; the desk is as the last one left it,
+    /// with its 16 places for output. It takes no memory.
+    pub fn begin(&mut self, alloc: Global)
+        ensures ok { self.new ≡ record {
+          desk = self.old.desk;
+          text = [];
+          orders = 0;
+          blocks = 0;
+          sets = false;
+          again = None;
+          stop = None;
+        } }
+        ensures few { length self.old.desk.units.writers ≤ 16 }
+    {
+        let _known = self.units.assigned(Unit {
+            kind: Kind::Lp,
+            number: 0,
+        });
+        empty(alloc, &mut self.text);
+        self.orders = 0;
+        self.blocks = 0;
+        self.sets = false;
+        self.again = None;
+        self.stop = None;
+    }
+
+    /// Takes back a text that was handed over, for its room alone: the next turn begins with it, and takes memory only
+    /// where it makes more.
+    pub fn reuse_buffer(&mut self, text: Text)
+        ensures { self.new ≡ record self.old { text = text } }
+    {
+        self.text = text;
+    }
+
+    /// Hands over what the turn has made, all but the desk, which stays. It takes no memory.
+    pub fn take_made(&mut self, alloc: Global) -> TurnWork
+        ensures made { IsMade self.old.desk result self.old }
+        ensures desk { self.new.desk ≡ self.old.desk }
+    {
+        TurnWork {
+            text: mem::replace(&mut self.text, Text::new(alloc)),
+            orders: self.orders,
+            blocks: self.blocks,
+            again: self.again.take(),
+            stop: self.stop,
+        }
+    }
+
+    /// Does the work of a turn for the user `who`, whose monitoring file has room for so many bytes: goes on with what
+    /// waited; else with a run of the program that isn't over; else takes the next line.
+    ///
+    /// Where memory is wanting, the store has answered a front of the turn's calls, and nothing is known of the work.
+    pub fn go<S: Filestore>(
+        &mut self,
+        store: &mut S,
+        asker: &Asker<'_>,
+        pending: Option<Suspended>,
+    ) -> Result<(), NoMemory>
+        requires running { S.is_spent store.old ≡ false }
+        requires open { said.is_over self.old ≡ false }
+        requires few { self.old.blocks ≡ 0 }
+        requires fresh { self.old.again ≡ None }
+        requires blocks { IfSome (option_map pending_of pending) FewBlocks }
+        requires command { IfSome (option_map pending_of pending) IsAgain }
+        requires level { is_some (option_map pending_of pending) ≡ true
+            → 0 < length self.old.desk.levels.levels }
+        ensures ok { OnOk result (RanWell S.answers S.is_spent S.can_wait asker.now.who.now store.old
+            (turns.begins asker.now.room asker.now.who.now (option_map pending_of pending) self.old) self.new store.new) }
+        ensures err { OnErr result (RanInPart S.answers asker.now.who.now store.old
+            (turns.begins asker.now.room asker.now.who.now (option_map pending_of pending) self.old) store.new) }
+        ensures same_waits { (s : ℕ) → S.can_wait store.new s ≡ S.can_wait store.old s }
+        ensures ready { OnOk result (IsReady self.new) }
+    {
+        match pending {
+            Some(Suspended::Line(text)) => self.run_document_line(store, asker, text),
+            Some(
+                Suspended::Command {
+                    text,
+                    orders,
+                    blocks,
+                    command,
+                },
+            ) => {
+                self.begin_behind(text, orders, blocks);
+                self.run_fired_command(store, asker, command)
+            }
+            None => self.run_or_take(store, asker),
+        }
+    }
+
+    /// Goes on behind what was kept of the line before a command that waited.
+    fn begin_behind(&mut self, text: Text, orders: u32, blocks: u32)
+        ensures { self.new ≡ turns.with_kept text orders blocks self.old }
+    {
+        self.text = text;
+        self.orders = orders;
+        self.blocks = blocks;
+    }
+
+    /// Goes on with a run of the program that isn't over, else takes a line.
+    fn run_or_take<S: Filestore>(
+        &mut self,
+        store: &mut S,
+        asker: &Asker<'_>,
+    ) -> Result<(), NoMemory>
+        requires running { S.is_spent store.old ≡ false }
+        requires open { said.is_over self.old ≡ false }
+        requires few { self.old.blocks ≡ 0 }
+        requires fresh { self.old.again ≡ None }
+        ensures ok { OnOk result (RanWell S.answers S.is_spent S.can_wait asker.now.who.now store.old
+            (turns.runs_or_takes asker.now.room asker.now.who.now self.old.desk.running self.old) self.new store.new) }
+        ensures err { OnErr result (RanInPart S.answers asker.now.who.now store.old
+            (turns.runs_or_takes asker.now.room asker.now.who.now self.old.desk.running self.old) store.new) }
+        ensures same_waits { (s : ℕ) → S.can_wait store.new s ≡ S.can_wait store.old s }
+        ensures ready { OnOk result (IsReady self.new) }
+    {
+        match self.running {
+            Some(by) => self.run_on(store, asker, by),
+            None => self.take(store, asker),
+        }
+    }
+
+    /// A run of the program goes on; a WHENEVER follows its end, unless one began it.
+    fn run_on<S: Filestore>(
+        &mut self,
+        store: &mut S,
+        asker: &Asker<'_>,
+        by: bool,
+    ) -> Result<(), NoMemory>
+        requires running { S.is_spent store.old ≡ false }
+        requires few { self.old.blocks ≡ 0 }
+        requires fresh { self.old.again ≡ None }
+        ensures ok { OnOk result (RanWell S.answers S.is_spent S.can_wait asker.now.who.now store.old
+            (turns.runs_on asker.now.room asker.now.who.now by self.old) self.new store.new) }
+        ensures err { OnErr result (RanInPart S.answers asker.now.who.now store.old
+            (turns.runs_on asker.now.room asker.now.who.now by self.old) store.new) }
+        ensures same_waits { (s : ℕ) → S.can_wait store.new s ≡ S.can_wait store.old s }
+        ensures ready { OnOk result (IsReady self.new) }
+    {
+        self.go_on(asker.alloc, asker.room)?;
+        if self.is_over() {
+            return Ok(());
+        }
+        if by {
+            return Ok(());
+        }
+        self.may_fire(store, asker)
+    }
+
+    /// Takes a line and does it; with no line left the job ends.
+    fn take<S: Filestore>(&mut self, store: &mut S, asker: &Asker<'_>) -> Result<(), NoMemory>
+        requires running { S.is_spent store.old ≡ false }
+        requires open { said.is_over self.old ≡ false }
+        requires few { self.old.blocks ≡ 0 }
+        requires fresh { self.old.again ≡ None }
+        ensures ok { OnOk result (RanWell S.answers S.is_spent S.can_wait asker.now.who.now store.old
+            (turns.takes_line asker.now.room asker.now.who.now (next_line self.old.desk.levels) self.old)
+            self.new store.new) }
+        ensures err { OnErr result (RanInPart S.answers asker.now.who.now store.old
+            (turns.takes_line asker.now.room asker.now.who.now (next_line self.old.desk.levels) self.old) store.new) }
+        ensures same_waits { (s : ℕ) → S.can_wait store.new s ≡ S.can_wait store.old s }
+        ensures ready { OnOk result (IsReady self.new) }
+    {
+        match self.take_line(asker.alloc)? {
+            Next::Line(text) => self.run_document_line(store, asker, text),
+            Next::TooLong(front) => self.long_line(store, asker, front),
+            Next::Nothing => self.end_job(store, asker),
+        }
+    }
+
+    /// The next line of the levels.
+    fn take_line(&mut self, alloc: Global) -> Result<Next, NoMemory>
+        ensures taken { IfOk result (λ next.
+            (next_line self.old.desk.levels).0 ≡ taken_as next) }
+        ensures ok { OnOk result
+            (self.new ≡ with_levels (next_line self.old.desk.levels).1 self.old) }
+        ensures level { IfOk result (λ next. HasLevel next self.new) }
+    {
+        match self.levels.next_line(alloc) {
+            Ok(Some(text)) => Ok(Next::Line(text)),
+            Ok(None) => Ok(Next::Nothing),
+            Err(MacroFault::TooLong(front)) => Ok(Next::TooLong(front)),
+            Err(_) => Err(NoMemory),
+        }
+    }
+}
+
+/// What is taken of the levels.
+#[derive(Drop)]
+enum Next {
+    /// No level has a line.
+    Nothing,
+    Line(Text),
+    /// The first 240 bytes of a line that is longer.
+    TooLong(Text),
+}

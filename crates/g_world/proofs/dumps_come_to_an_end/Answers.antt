@@ -1,5 +1,0 @@
-use Rattle.g_world.proofs.DumpLemmas.{dumps_end}
-use Rattle.g_world.proofs.dumps_come_to_an_end.Goals as goal
-
-pub returns : goal.returns
-returns g c tariff rule = dumps_end g.F.Fn tariff g.U.Fn rule

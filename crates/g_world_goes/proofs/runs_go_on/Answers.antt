@@ -1,5 +1,0 @@
-use Rattle.g_world_goes.proofs.GoesLemmas.{runs_go_on}
-use Rattle.g_world_goes.proofs.runs_go_on.Goals as goal
-
-pub returns : goal.returns
-returns g c tariff rule = runs_go_on g.F.Fn tariff g.U.Fn rule

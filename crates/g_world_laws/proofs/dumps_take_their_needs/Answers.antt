@@ -1,5 +1,0 @@
-use Rattle.g_world_laws.proofs.DumpLemmas.{take_needs}
-use Rattle.g_world_laws.proofs.dumps_take_their_needs.Goals as goal
-
-pub returns : goal.returns
-returns g c tariff rule = take_needs g.F.Fn tariff g.U.Fn rule (c.dumps_come_to_an_end.ensures tariff rule)

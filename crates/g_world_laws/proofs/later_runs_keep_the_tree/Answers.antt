@@ -1,9 +1,0 @@
-use Rattle.g_world.proofs.TreeLemmas.{all_or_nothing}
-use Rattle.g_world_laws.proofs.LaterLemmas.{later_runs_keep}
-use Rattle.g_world_laws.proofs.later_runs_keep_the_tree.Goals as goal
-
-pub returns : goal.returns
-returns g c tariff rule =
-    later_runs_keep g.F.Fn tariff g.U.Fn rule
-    (all_or_nothing g.F.Fn tariff g.U.Fn rule c.step_is_plain.ensures.answers c.step_is_plain.ensures.refusals c.step_is_plain.ensures.stops c.step_is_plain.ensures.dumps)
-    c.one_state.ensures.devices

@@ -1,8 +1,0 @@
-use Rattle.g_world_laws.proofs.CompleteLemmas.{dumps_complete, dumps_go_on}
-use Rattle.g_world_laws.proofs.undisturbed_dumps_complete.Goals as goal
-
-pub returns-clause-going : goal.returns-clause-going
-returns-clause-going g c tariff rule = dumps_go_on g.F.Fn tariff g.U.Fn rule
-
-pub returns-clause-needs : goal.returns-clause-needs
-returns-clause-needs g c tariff rule = dumps_complete g.F.Fn tariff g.U.Fn rule

@@ -1,5 +1,0 @@
-use Rattle.g_world_laws.proofs.UnrisenLemmas.{unrisen_text}
-use Rattle.g_world_laws.proofs.unrisen_text_is_one.Goals as goal
-
-pub returns : goal.returns
-returns g c tariff rule = unrisen_text g.F.Fn tariff g.U.Fn rule (c.text_is_one.ensures tariff rule)
