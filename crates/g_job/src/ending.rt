@@ -14,11 +14,11 @@ ghost use Rattle.g_monitor.specs.JobLines.{job_line};
 
 use crate::Turn;
 use crate::job::Job;
-use g_turn::{Suspended, TurnWork, Stop};
 use g_base::NoMemory;
 use g_budget::{Charge, Tariff, Usage};
 use g_monitor::{JobLine, push_job_line};
 use g_name::Text;
+use g_turn::{Stop, Suspended, TurnWork};
 use std::alloc::Global;
 
 impl Job {

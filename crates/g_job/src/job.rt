@@ -17,7 +17,6 @@ ghost use Rattle.g_sched.specs.Rule.{IsInRange};
 
 use crate::new_job::NewJob;
 use crate::turn::Turn;
-use g_turn::{Suspended, Work};
 use g_base::NoMemory;
 use g_budget::{Charge, Tariff, Usage};
 use g_macro::Levels;
@@ -26,6 +25,7 @@ use g_name::{Local, Text, User};
 use g_peri::Units;
 use g_plain::Filestore;
 use g_sched::Standing;
+use g_turn::{Suspended, Work};
 use std::alloc::Global;
 use std::marker::Model;
 

@@ -6,9 +6,9 @@ ghost use Rattle.g_job.specs.Turns.{turn_work};
 ghost use Rattle.g_plain.specs.Asks.{RanInPart};
 
 use crate::job::Job;
-use g_turn::{Suspended, Asker, TurnWork};
 use g_base::NoMemory;
 use g_plain::Filestore;
+use g_turn::{Asker, Suspended, TurnWork};
 use std::alloc::Global;
 
 /// The most bytes of a monitoring file, before its last line.

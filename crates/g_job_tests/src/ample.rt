@@ -1,7 +1,6 @@
 //! A turn of one line, and a job that begins and a turn of it, with ample memory.
 ghost use Rattle.std.specs.Prelude.{◌≡◌, IfOk, false};
 
-use g_turn::{Asker, TurnWork, Work};
 use g_budget::{Charge, Tariff, Usage};
 use g_job::{Job, NewJob, Turn};
 use g_lines::Document;
@@ -9,6 +8,7 @@ use g_macro::Levels;
 use g_name::{Local, User};
 use g_peri::Units;
 use g_plain::PlainStore;
+use g_turn::{Asker, TurnWork, Work};
 use std::alloc::Global;
 use std::process::Abort;
 use std::test::Fail;

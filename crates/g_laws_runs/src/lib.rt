@@ -18,11 +18,11 @@ ghost use Rattle.g_laws_runs.specs.Turns.{TurnsPrintPlainly};
 ghost use Rattle.g_laws_runs.specs.Unrisen.{UnrisenIsPlain, UnrisenTextIsOne};
 
 use g_budget::{Charge, Usage};
+use g_laws_store::some_state;
+use g_run_model::{dumps_come_to_an_end, text_is_one};
 use g_sched::Standing;
 use g_store_meaning::one_state;
-use g_laws_store::some_state;
 use g_store_model::{process_keeps_all, step_is_plain};
-use g_run_model::{dumps_come_to_an_end, text_is_one};
 
 /// A line that leaves the system down, and in which no write failed, leaves the tree: a FORMAT, START or RESTORE that was refused
 /// too.

@@ -43,7 +43,14 @@ impl Program {
 
     /// The word at the address becomes what the operation makes of it and the accumulator.
     #[inline(always)]
-    pub(crate) fn store(&mut self, at: u32, operation: Operation, x: u32, m: u32, n: u32) -> PlainOutcome
+    pub(crate) fn store(
+        &mut self,
+        at: u32,
+        operation: Operation,
+        x: u32,
+        m: u32,
+        n: u32,
+    ) -> PlainOutcome
         requires at { at < 2 ^ 15 }
         requires x { x < 8 }
         requires m { m < 4 }

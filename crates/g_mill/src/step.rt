@@ -209,7 +209,14 @@ impl Program {
 
     /// `load_number`, written out for each operation.
     #[inline(always)]
-    fn load_number_by(&mut self, at: u32, operation: Operation, x: u32, m: u32, n: u32) -> PlainOutcome
+    fn load_number_by(
+        &mut self,
+        at: u32,
+        operation: Operation,
+        x: u32,
+        m: u32,
+        n: u32,
+    ) -> PlainOutcome
         requires at { at < 2 ^ 15 }
         requires x { x < 8 }
         requires m { m < 4 }

@@ -107,7 +107,12 @@ impl<D: Disc> Online<D> {
 
 /// Notes that the directory of this user has changed, for the dumps to come; and while versions are pinned also for the
 /// time when they are let go.
-pub(crate) fn mark_user_changed(changed: &mut UserNumbers, touched: &mut UserNumbers, pinned: bool, number: u8)
+pub(crate) fn mark_user_changed(
+    changed: &mut UserNumbers,
+    touched: &mut UserNumbers,
+    pinned: bool,
+    number: u8,
+)
     requires { number < 63 }
     ensures changed { changed.new ≡ with_number number changed.old }
     ensures touched { touched.new ≡ (if pinned then with_number number touched.old else touched.old) }

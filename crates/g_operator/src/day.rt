@@ -1,7 +1,7 @@
 //! What a run has at hand between two events, as one value.
 use crate::system::System;
-use g_job_table::Crew;
 use g_disc::Disc;
+use g_job_table::Crew;
 use g_tape::Tapes;
 use std::marker::Model;
 

@@ -18,9 +18,9 @@ use crate::stopping::refuse_or_go_down;
 use crate::system::System;
 use g_base::NoMemory;
 use g_cache::CachedDisc;
-use g_job_table::{Crew, started_text};
 use g_disc::Disc;
 use g_io::Sink;
+use g_job_table::{Crew, started_text};
 use g_name::Text;
 use g_plain::StoreFault;
 use g_store::{Refused, Store, format, restore, start};
@@ -163,7 +163,10 @@ fn made_by<D: Disc, T: Tapes>(
 
 /// What a system that comes up needs memory for: a box for its store, and a cache before its disc. Where there is none, the disc comes
 /// back as it was.
-fn box_and_cache<D: Disc, T: Tapes>(alloc: Global, disc: D) -> Result<(EmptyBox<D, T>, CachedDisc<D>), D>
+fn box_and_cache<D: Disc, T: Tapes>(
+    alloc: Global,
+    disc: D,
+) -> Result<(EmptyBox<D, T>, CachedDisc<D>), D>
     ensures empty { IfOk result (λ p. p.1 ≡ cached_with disc []) }
     ensures unchanged { IfErr result (λ d. d ≡ disc) }
 {

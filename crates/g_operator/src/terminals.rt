@@ -22,12 +22,12 @@ use crate::puts::{line, put_made, say_made};
 use crate::stopping::refuse_or_go_down;
 use crate::system::System;
 use g_base::NoMemory;
+use g_disc::Disc;
+use g_io::Sink;
 use g_job_table::{
     Crew, NewLogin, NotSeated, NotTyped, push_busy, push_no_terminal, push_operator_line,
     terminal_name,
 };
-use g_disc::Disc;
-use g_io::Sink;
 use g_name::Text;
 use g_plain::StoreFault;
 use g_tape::Tapes;

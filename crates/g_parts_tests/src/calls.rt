@@ -3,8 +3,8 @@ ghost use Rattle.g_plain.specs.Rules.{IsWithinLimits};
 
 use crate::rig::reel;
 use g_base::Block;
-use g_known::KnownReels;
 use g_fixtures::{nothing_to_take, one_away, online_with, without_mark};
+use g_known::KnownReels;
 use g_name::{User, parse_path};
 use g_plain::{StoreCall, StoreFault, StoreReply};
 use g_store_calls::answer;

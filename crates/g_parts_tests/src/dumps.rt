@@ -6,8 +6,8 @@ ghost use Rattle.g_store_meaning.specs.Up.{IsOpen};
 
 use g_disc::MemoryDisc;
 use g_dumper::{Dump, DumpStep};
-use g_known::KnownReels;
 use g_fixtures::{one_reel, online_with_one};
+use g_known::KnownReels;
 use g_online::Online;
 use g_plain::StoreFault;
 use g_shelf::completed;

@@ -5,8 +5,8 @@ ghost use Rattle.g_disc_contents.specs.Facts.{IsTied};
 
 use g_base::Block;
 use g_disc::{Disc, MemoryDisc};
-use g_known::KnownReels;
 use g_fixtures::{disc_with, dumped, one_away, one_reel, online_with_one};
+use g_known::KnownReels;
 use g_online::Online;
 use g_plain::StoreFault;
 use g_process::process;

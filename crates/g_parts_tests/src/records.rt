@@ -2,8 +2,8 @@
 ghost use Rattle.g_plain.specs.Rules.{IsWithinLimits};
 
 use crate::rig::reel;
-use g_known::KnownReels;
 use g_fixtures::online_with_one;
+use g_known::KnownReels;
 use g_name::{Local, Path, User, parse_path};
 use g_plain::{BudgetKind, StoreCall, StoreFault, StoreReply};
 use g_store_calls::answer;

@@ -5,8 +5,8 @@ ghost use Rattle.g_disc_contents.specs.Facts.{IsTied};
 
 use g_base::{Block, blocks_for};
 use g_disc::{Disc, MemoryDisc};
-use g_known::KnownReels;
 use g_fixtures::{disc_with, dumped};
+use g_known::KnownReels;
 use g_migrate::{Unjam, migrate, plan_unjam};
 use g_name::Text;
 use g_online::{Online, OnlineFault};

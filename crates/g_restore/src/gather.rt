@@ -164,7 +164,12 @@ fn take_user(
 }
 
 /// Whether the files keep the rules, where there are so many users and this is the next stamp.
-fn keep_file_rules(alloc: Global, users: usize, next: u64, files: &[FileRec]) -> Result<bool, NoMemory>
+fn keep_file_rules(
+    alloc: Global,
+    users: usize,
+    next: u64,
+    files: &[FileRec],
+) -> Result<bool, NoMemory>
     ensures { IfOk result (λ is. IsTrue is ↔ GoWith users next files.now) }
 {
     if stamps_are_below(next, files) {

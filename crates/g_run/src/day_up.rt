@@ -4,9 +4,9 @@ ghost use Rattle.g_operator.specs.Parts.{seen};
 ghost use Rattle.g_operator.specs.System.{facts_of};
 ghost use Rattle.g_run.specs.Turning.{left_of};
 
-use g_operator::{Day, Ended, Failure, Running, System, take_down};
-use g_job_table::Crew;
 use g_disc::Disc;
+use g_job_table::Crew;
+use g_operator::{Day, Ended, Failure, Running, System, take_down};
 use g_tape::Tapes;
 
 /// A day whose system was up as a tick began: its store, the crew and the count of ticks. A tick changes it where it lies. Where

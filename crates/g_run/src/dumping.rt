@@ -10,12 +10,12 @@ ghost use Rattle.g_run.specs.Turning.{left_of};
 
 use crate::day_up::DayUp;
 use g_base::NoMemory;
-use g_operator::{Failure, push_told, say_made, tell_fault};
-use g_job_table::dump_text;
 use g_disc::Disc;
 use g_dumper::DumpStep;
 use g_io::Sink;
+use g_job_table::dump_text;
 use g_name::Text;
+use g_operator::{Failure, push_told, say_made, tell_fault};
 use g_plain::StoreFault;
 use g_tape::Tapes;
 use std::alloc::Global;

@@ -11,12 +11,12 @@ ghost use Rattle.g_run.specs.Turning.{EndsTurn, GoesDown, GoesOn, ShowsAs, Taken
 use crate::day_up::DayUp;
 use crate::showing::end_shown;
 use g_base::NoMemory;
-use g_operator::{Failure, put, say_made, tell_fault};
-use g_job_table::{Taken, job_text};
 use g_disc::Disc;
 use g_io::Sink;
 use g_job::{Job, Turn};
+use g_job_table::{Taken, job_text};
 use g_name::Text;
+use g_operator::{Failure, put, say_made, tell_fault};
 use g_plain::StoreFault;
 use g_tape::Tapes;
 use std::alloc::Global;

@@ -3,8 +3,8 @@ ghost use Rattle.std.specs.Prelude.{◌≤◌};
 ghost use Rattle.g_operator.specs.System.{facts_of};
 ghost use Rattle.g_run.specs.Tick.{dump_left, left};
 
-use g_operator::{Day, System};
 use g_disc::Disc;
+use g_operator::{Day, System};
 use g_tape::Tapes;
 
 /// Says that no more than this is left to do: 64 jobs have at most 1,000,000 units each, and an open dump has fewer than 2^32

@@ -13,12 +13,12 @@ ghost use Rattle.g_run.specs.Turning.{EndsTurn, GoesDown, GoesOn, TakenOut, left
 use crate::day_up::DayUp;
 use crate::ending::wants;
 use g_base::NoMemory;
-use g_operator::{Failure, put_made, stops_behind};
-use g_job_table::{Crew, push_operator_line};
 use g_disc::Disc;
 use g_io::Sink;
 use g_job::Turn;
+use g_job_table::{Crew, push_operator_line};
 use g_name::Text;
+use g_operator::{Failure, put_made, stops_behind};
 use g_tape::Tapes;
 use std::alloc::Global;
 

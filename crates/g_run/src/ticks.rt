@@ -13,16 +13,22 @@ use crate::day_up::DayUp;
 use crate::rules::Rules;
 use crate::ticking::tick;
 use g_budget::{Charge, Usage};
-use g_operator::{Day, Ended, Failure, Running, System};
-use g_job_table::{Crew, Weights};
 use g_disc::Disc;
 use g_io::Sink;
+use g_job_table::{Crew, Weights};
+use g_operator::{Day, Ended, Failure, Running, System};
 use g_sched::Standing;
 use g_tape::Tapes;
 use std::alloc::Global;
 
 /// Ticks until nothing can step, or, where a turn is given at which the next line is due, until the count has come to it.
-pub(crate) fn tick_until_due<K: Sink, D: Disc, T: Tapes, F: Fn(&Usage) -> Charge, U: Fn(&Standing) -> u64>(
+pub(crate) fn tick_until_due<
+    K: Sink,
+    D: Disc,
+    T: Tapes,
+    F: Fn(&Usage) -> Charge,
+    U: Fn(&Standing) -> u64,
+>(
     alloc: Global,
     day: Day<D, T>,
     limit: Option<u64>,

@@ -1,6 +1,6 @@
 //! A crew, and a job from its line to its end.
-use g_job_table::{Crew, NewJob, NewLogin, push_operator_line};
 use g_entry::UserRec;
+use g_job_table::{Crew, NewJob, NewLogin, push_operator_line};
 use g_lines::Document;
 use g_name::{Local, Text, User};
 use std::test::Fail;

@@ -1,13 +1,13 @@
 //! The texts that tell an event.
 ghost use Rattle.std.specs.Prelude.{◌<◌, ◌≤◌};
 
+use g_disc::{Disc, MemoryDisc};
+use g_io::{MemorySink, Sink};
+use g_job_table::Crew;
+use g_name::Text;
 use g_operator::{
     Day, Ended, Failure, System, operator_line, push_told, put_made, say_made, tell_fault,
 };
-use g_job_table::Crew;
-use g_disc::{Disc, MemoryDisc};
-use g_io::{MemorySink, Sink};
-use g_name::Text;
 use g_plain::StoreFault;
 use g_script::Operator;
 use g_tape::{MemoryTapes, Tapes};

@@ -2,7 +2,6 @@
 #![tactic(auto)]
 
 mod acts;
-mod suspended;
 mod asker;
 mod asking;
 mod command;
@@ -10,19 +9,20 @@ mod fetching;
 mod lines;
 mod listing;
 mod macros;
-mod turn_work;
 mod releases;
 mod room;
 mod runs;
 mod say;
 mod stop;
+mod suspended;
+mod turn_work;
 mod turning;
 mod typing;
 mod uses;
 mod work;
 
-pub use suspended::Suspended;
 pub use asker::Asker;
-pub use turn_work::TurnWork;
 pub use stop::Stop;
+pub use suspended::Suspended;
+pub use turn_work::TurnWork;
 pub use work::Work;

@@ -11,8 +11,8 @@ ghost use Rattle.g_monitor.specs.JobLines.{marked};
 ghost use Rattle.g_monitor.specs.declared.job_lines.Mark.TheVariants as mark;
 ghost use Rattle.g_plain.specs.Asks.{Gives, RanInPart, and_then};
 
-use crate::suspended::Suspended;
 use crate::asker::Asker;
+use crate::suspended::Suspended;
 use crate::work::Work;
 use g_base::NoMemory;
 use g_lang::{LangFault, Line, parse_line, trimmed};

@@ -1,6 +1,6 @@
 //! What a turn has made.
-use crate::suspended::Suspended;
 use crate::stop::Stop;
+use crate::suspended::Suspended;
 use g_name::Text;
 
 /// What a turn has made, all but the desk.

@@ -10,10 +10,10 @@ ghost use Rattle.g_turn.specs.Values.{pending_of};
 ghost use Rattle.g_macro.specs.Levels.{next_line};
 ghost use Rattle.g_plain.specs.Asks.{RanInPart};
 
-use crate::suspended::Suspended;
 use crate::asker::Asker;
-use crate::turn_work::TurnWork;
 use crate::room::empty;
+use crate::suspended::Suspended;
+use crate::turn_work::TurnWork;
 use crate::work::Work;
 use g_base::NoMemory;
 use g_macro::MacroFault;

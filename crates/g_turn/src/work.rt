@@ -1,6 +1,6 @@
 //! What a turn makes, on the job's own desk.
-use crate::suspended::Suspended;
 use crate::stop::Stop;
+use crate::suspended::Suspended;
 use g_macro::{EventNote, Levels, Outcome};
 use g_mill::Program;
 use g_name::Text;
