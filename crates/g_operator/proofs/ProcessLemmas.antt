@@ -3,7 +3,7 @@ use Rattle.std.proofs.Common.{◌≡◌, ◌⊎◌, ◌≤◌, ◌-◌, ◌^◌,
 use Rattle.std.specs.Prelude.{Result, Ok, Err}
 use Rattle.std.specs.List.{AllZip}
 use Rattle.g_base.specs.Counts.{Rose}
-use Rattle.g_base.proofs.CountLemmas.{HasRisenBy-Rose, Rose-later}
+use Rattle.g_base.proofs.CountLemmas.{Rose-later}
 use Rattle.g_tape.specs.Reel.{Reel}
 use Rattle.g_plain.specs.declared.faults.StoreFault.{StoreFault}
 use Rattle.g_plain.specs.declared.faults.StoreFault.TheVariants.{CountersSpent, DiscReadFault, DumpOpen, NoTape, RackNotMounted, ReelNotFree, Stopped, TapeFull, TapeReadFault}
@@ -20,7 +20,7 @@ use Rattle.g_run_model.specs.Devices.{Devices}
 use Rattle.g_run_model.specs.Events.{OutcomeTold}
 use Rattle.g_run_model.specs.Moves.{DumpCounted, WritesFailed}
 use Rattle.g_run_model.specs.Texts.{operator_line, processed_text}
-use Rattle.g_run_model.proofs.CountLemmas.{dump_failed, none_failed, none_rose, rack_failed}
+use Rattle.g_run_model.proofs.CountLemmas.{a_failure, dump_failed, no_failure, none_failed, rack_failed}
 use Rattle.g_run_model.proofs.EventToldLemmas.{process_told}
 use Rattle.g_job_table.specs.Crew.{CrewState}
 use Rattle.g_operator.specs.declared.progress.Failure.{Failure}
@@ -41,9 +41,6 @@ labels_same (o ∷ old) (n ∷ new) are =
     let (serial, capacity, mounted) = are.0 in
     ap (λ (x : ℕ). (x, n.capacity) ∷ labels new) serial ∙ ap (λ (x : ℕ). (o.serial, x) ∷ labels new) capacity ∙ ap (λ (ls : List (ℕ × ℕ)). (o.serial, o.capacity) ∷ ls) (labels_same old new are.1)
 
-one_zero : {X : Type 0} → ◌≡◌ {A = ℕ} 1 0 → X
-one_zero e = let no : ⊥ = omega arith in absurd no
-
 -- WHAT THE DEVICES COUNT, by its answer
 module _ (old new : StoreFacts) (answer : Result ℕ StoreFault) (is : ProcessCause old new answer) where
   abbrev was : Devices
@@ -57,44 +54,36 @@ module _ (old new : StoreFacts) (answer : Result ℕ StoreFault) (is : ProcessCa
       let disc = is.disc_read_only (λ e. let no : ◌≡◌ {A = Outcome} Plain DiscRead = told.disc_read e in cc) in
       let tape = is.tape_read_only (λ e. let no : ◌≡◌ {A = Outcome} Plain TapeRead = told.tape_read e in cc) in
       let (disc_cut, tape_cut) = is.uncut (λ e. let no : ◌≡◌ {A = Outcome} Plain Cut = told.cut e in cc) in record {
-        disc_reads_rose = none_rose was.disc.read_faults now.disc.read_faults disc;
-        tape_reads_rose = none_rose was.rack.read_faults now.rack.read_faults tape;
-        cuts_rose = none_failed was now disc_cut tape_cut;
-        no_disc_read = λ e. disc;
-        no_tape_read = λ e. tape;
+        disc_read = no_failure was.disc.read_faults now.disc.read_faults disc;
+        tape_read = no_failure was.rack.read_faults now.rack.read_faults tape;
+        cuts = none_failed was now disc_cut tape_cut;
         disc_armed = is.disc_arms;
         tape_armed = is.tape_arms;
       }
   process_counted DiscRead told =
       let tape = is.tape_read_only (λ e. let no : ◌≡◌ {A = Outcome} DiscRead TapeRead = told.tape_read e in cc) in
       let (disc_cut, tape_cut) = is.uncut (λ e. let no : ◌≡◌ {A = Outcome} DiscRead Cut = told.cut e in cc) in record {
-        disc_reads_rose = HasRisenBy-Rose (is.disc_read told.told);
-        tape_reads_rose = none_rose was.rack.read_faults now.rack.read_faults tape;
-        cuts_rose = none_failed was now disc_cut tape_cut;
-        no_disc_read = λ e. one_zero e;
-        no_tape_read = λ e. tape;
+        disc_read = a_failure was.disc.read_faults now.disc.read_faults (is.disc_read told.told);
+        tape_read = no_failure was.rack.read_faults now.rack.read_faults tape;
+        cuts = none_failed was now disc_cut tape_cut;
         disc_armed = is.disc_arms;
         tape_armed = is.tape_arms;
       }
   process_counted TapeRead told =
       let disc = is.disc_read_only (λ e. let no : ◌≡◌ {A = Outcome} TapeRead DiscRead = told.disc_read e in cc) in
       let (disc_cut, tape_cut) = is.uncut (λ e. let no : ◌≡◌ {A = Outcome} TapeRead Cut = told.cut e in cc) in record {
-        disc_reads_rose = none_rose was.disc.read_faults now.disc.read_faults disc;
-        tape_reads_rose = HasRisenBy-Rose (is.tape_read told.told);
-        cuts_rose = none_failed was now disc_cut tape_cut;
-        no_disc_read = λ e. disc;
-        no_tape_read = λ e. one_zero e;
+        disc_read = no_failure was.disc.read_faults now.disc.read_faults disc;
+        tape_read = a_failure was.rack.read_faults now.rack.read_faults (is.tape_read told.told);
+        cuts = none_failed was now disc_cut tape_cut;
         disc_armed = is.disc_arms;
         tape_armed = is.tape_arms;
       }
   process_counted Cut told =
       let disc = is.disc_read_only (λ e. let no : ◌≡◌ {A = Outcome} Cut DiscRead = told.disc_read e in cc) in
       let tape = is.tape_read_only (λ e. let no : ◌≡◌ {A = Outcome} Cut TapeRead = told.tape_read e in cc) in record {
-        disc_reads_rose = none_rose was.disc.read_faults now.disc.read_faults disc;
-        tape_reads_rose = none_rose was.rack.read_faults now.rack.read_faults tape;
-        cuts_rose = by (is.cut told.told);
-        no_disc_read = λ e. disc;
-        no_tape_read = λ e. tape;
+        disc_read = no_failure was.disc.read_faults now.disc.read_faults disc;
+        tape_read = no_failure was.rack.read_faults now.rack.read_faults tape;
+        cuts = by (is.cut told.told);
         disc_armed = is.disc_arms;
         tape_armed = is.tape_arms;
       }

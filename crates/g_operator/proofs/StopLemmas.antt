@@ -1,9 +1,7 @@
 -- A DEVICE IS ARMED by a line.
 use Rattle.std.proofs.Common.{◌≡◌, ℕ, ◌+◌, ◌<◌, ◌≤◌, ◌++◌, List, [], ◌∷◌, Option, refl, sym, ◌∙◌, ap, subst, arith}
 use Rattle.std.specs.Prelude.{codes}
-use Rattle.g_base.specs.Counts.{HasRisenBy}
 use Rattle.g_base.specs.Fuse.{IsArmedBy, armed_with}
-use Rattle.g_base.proofs.CountLemmas.{HasRisenBy-none}
 use Rattle.g_base.proofs.FuseLemmas.{within_all, within_none}
 use Rattle.g_store_model.specs.CallStep.{Plain}
 use Rattle.g_store_meaning.specs.Up.{StoreFacts}
@@ -13,7 +11,7 @@ use Rattle.g_run_model.specs.Devices.{Devices}
 use Rattle.g_run_model.specs.Moves.{EventCounted}
 use Rattle.g_run_model.specs.Texts.{operator_line}
 use Rattle.g_run_model.specs.World.{World, says}
-use Rattle.g_run_model.proofs.CountLemmas.{none_failed}
+use Rattle.g_run_model.proofs.CountLemmas.{no_failure, none_failed}
 use Rattle.g_job_table.specs.Crew.{CrewState}
 use Rattle.g_operator.specs.declared.progress.Failure.{Failure}
 use Rattle.g_operator.specs.Arming.{HasArmed, disc_armed, tape_armed}
@@ -54,27 +52,20 @@ tape_down k d = record {
   ready = λ c ready. ready;
 }
 
-none_rose : (a : ℕ) → HasRisenBy 0 a a
-none_rose a = HasRisenBy-none (omega arith)
-
 disc_counted : (k : ℕ) (d : Devices) → EventCounted Plain (k ∷ []) [] d (disc_armed k d)
 disc_counted k d = record {
-  disc_reads_rose = none_rose d.disc.read_faults;
-  tape_reads_rose = none_rose d.rack.read_faults;
-  cuts_rose = none_failed d (disc_armed k d) refl refl;
-  no_disc_read = λ e. refl;
-  no_tape_read = λ e. refl;
+  disc_read = no_failure d.disc.read_faults d.disc.read_faults refl;
+  tape_read = no_failure d.rack.read_faults d.rack.read_faults refl;
+  cuts = none_failed d (disc_armed k d) refl refl;
   disc_armed = (d.disc.writes, refl);
   tape_armed = refl;
 }
 
 tape_counted : (k : ℕ) (d : Devices) → EventCounted Plain [] (k ∷ []) d (tape_armed k d)
 tape_counted k d = record {
-  disc_reads_rose = none_rose d.disc.read_faults;
-  tape_reads_rose = none_rose d.rack.read_faults;
-  cuts_rose = none_failed d (tape_armed k d) refl refl;
-  no_disc_read = λ e. refl;
-  no_tape_read = λ e. refl;
+  disc_read = no_failure d.disc.read_faults d.disc.read_faults refl;
+  tape_read = no_failure d.rack.read_faults d.rack.read_faults refl;
+  cuts = none_failed d (tape_armed k d) refl refl;
   disc_armed = refl;
   tape_armed = (d.rack.write_faults, refl);
 }
