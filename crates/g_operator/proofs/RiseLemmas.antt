@@ -116,6 +116,7 @@ module _ {A : Type 0} (what : Operator) (given : Type 0) (by : State → Outcome
       disc = record {
         size = makes.causes.size;
         arms = makes.causes.arms;
+        later = makes.causes.later;
         reads_kept = λ n. makes.causes.reads_kept (λ x. x);
         reads_rose = λ e. let no : ⊥ = cc in absurd no;
         writes_kept = λ n. makes.causes.writes_kept (λ x. x);
@@ -182,6 +183,7 @@ module _ {A : Type 0} (what : Operator) (given : Type 0) (by : State → Outcome
       disc = record {
         size = refuses.causes.size;
         arms = refuses.causes.arms;
+        later = refuses.causes.later;
         reads_kept = λ n. refuses.causes.reads_kept (λ e. n (ap Err e));
         reads_rose = λ e. refuses.causes.reads_rose (let same : fault ≡ DiscReadFault = cc in same);
         writes_kept = λ n. refuses.causes.writes_kept (λ e. n (ap Err e));
