@@ -4,6 +4,7 @@ use Rattle.std.specs.Prelude.{Result, Err}
 use Rattle.g_base.specs.Counts.{Rose}
 use Rattle.g_base.proofs.CountLemmas.{Rose-later}
 use Rattle.g_disc.specs.Disc.{Causes, DiscState}
+use Rattle.g_tape.specs.Reads.{OnlyReads}
 use Rattle.g_plain.specs.declared.faults.StoreFault.{StoreFault}
 use Rattle.g_plain.specs.declared.faults.StoreFault.TheVariants.{DiscReadFault, Stopped, TapeReadFault}
 use Rattle.g_store_model.specs.CallStep.{Cut, DiscRead, Outcome, Plain, TapeRead}
@@ -11,8 +12,8 @@ use Rattle.g_run_model.specs.Devices.{Devices}
 use Rattle.g_run_model.specs.Events.{OutcomeTold}
 use Rattle.g_run_model.specs.Moves.{EventCounted}
 use Rattle.g_run_model.proofs.CountLemmas.{a_failure, disc_failed, no_failure, none_failed}
-use Rattle.g_operator.specs.System.{SameDevices, labels}
-use Rattle.g_operator.proofs.LabelLemmas.{stands_still}
+use Rattle.g_operator.specs.System.{SameDevices}
+use Rattle.g_operator.proofs.LabelLemmas.{labels_read, stands_still}
 
 -- an event that writes no tape: each count moves with its own answer
 pub record OfDisc {A : Type 0} (answer : Result A StoreFault) (old new : Devices) : Type 0 where
@@ -71,6 +72,14 @@ pub writes_later : {A : Type 0} (answer : Result A StoreFault) (old new : DiscSt
 writes_later (Err Stopped) old new is = Rose-later (is.writes_rose refl)
 writes_later answer old new is = stands_still old.write_faults new.write_faults (is.writes_kept (λ e. let no : ⊥ = cc in no))
 
-pub same_caused : {A : Type 0} (answer : Result A StoreFault) (old new : Devices) → Causes (answer ≡ Err DiscReadFault) (answer ≡ Err Stopped) old.disc new.disc → labels new.rack.reels ≡ labels old.rack.reels
-    → SameDevices old new
-same_caused answer old new is reels = record { size = is.size; reads = reads_later answer old.disc new.disc is; writes = writes_later answer old.disc new.disc is; reels = reels }
+-- nor of the tapes, where they were only read
+pub same_caused : {A : Type 0} (answer : Result A StoreFault) (old new : Devices) → Causes (answer ≡ Err DiscReadFault) (answer ≡ Err Stopped) old.disc new.disc → OnlyReads old.rack new.rack → SameDevices old new
+same_caused answer old new is reads = record {
+  size = is.size;
+  read_faults = reads_later answer old.disc new.disc is;
+  write_faults = writes_later answer old.disc new.disc is;
+  writes = is.later;
+  tape_read_faults = reads.read_faults;
+  tape_write_faults = stands_still old.rack.write_faults new.rack.write_faults reads.write_faults;
+  reels = labels_read old.rack.reels new.rack.reels reads.reels;
+}

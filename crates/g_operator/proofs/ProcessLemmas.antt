@@ -141,7 +141,7 @@ module _ (s : State) (k : Holding) (serial : ℕ) (u : State) where
       early_down o (process_refuses s k serial)
       (not_early (lacks s serial) (first_reel (λ r. not r.mounted) s.reels) (is_some s.open_dump) (k.last == 2 ^ 62 - 1) (open_number s.open_dump)) step
 
--- no count of the disc falls in it
+-- no count of the disc falls in it, and none of the tapes
 process_reads : (answer : Result ℕ StoreFault) (old new : StoreFacts) → ProcessCause old new answer → old.online.disc.read_faults ≤ new.online.disc.read_faults
 process_reads (Err DiscReadFault) old new is = Rose-later (is.disc_read refl)
 process_reads answer old new is = stands_still old.online.disc.read_faults new.online.disc.read_faults (is.disc_read_only (λ e. let no : ⊥ = cc in no))
@@ -154,6 +154,19 @@ process_writes (Err Stopped) old new is = by (is.cut refl)
     by (inl disc) = Rose-later disc.0
     by (inr rack) = stands_still old.online.disc.write_faults new.online.disc.write_faults rack.1
 process_writes answer old new is = stands_still old.online.disc.write_faults new.online.disc.write_faults (is.uncut (λ e. let no : ⊥ = cc in no)).0
+
+process_tape_reads : (answer : Result ℕ StoreFault) (old new : StoreFacts) → ProcessCause old new answer → old.rack.read_faults ≤ new.rack.read_faults
+process_tape_reads (Err TapeReadFault) old new is = Rose-later (is.tape_read refl)
+process_tape_reads answer old new is = stands_still old.rack.read_faults new.rack.read_faults (is.tape_read_only (λ e. let no : ⊥ = cc in no))
+
+process_tape_writes : (answer : Result ℕ StoreFault) (old new : StoreFacts) → ProcessCause old new answer → old.rack.write_faults ≤ new.rack.write_faults
+process_tape_writes (Err Stopped) old new is = by (is.cut refl)
+  where
+    by : (Rose old.online.disc.write_faults new.online.disc.write_faults × (new.rack.write_faults ≡ old.rack.write_faults))
+        ⊎ (Rose old.rack.write_faults new.rack.write_faults × (new.online.disc.write_faults ≡ old.online.disc.write_faults)) → old.rack.write_faults ≤ new.rack.write_faults
+    by (inl disc) = stands_still old.rack.write_faults new.rack.write_faults disc.1
+    by (inr rack) = Rose-later rack.0
+process_tape_writes answer old new is = stands_still old.rack.write_faults new.rack.write_faults (is.uncut (λ e. let no : ⊥ = cc in no)).1
 
 -- ITS LINE
 module _ (serial : ℕ) (old new : StoreFacts) (c : CrewState) (ready : IsReady (Up old) c) (count : ℕ) where
@@ -168,8 +181,11 @@ module _ (serial : ℕ) (old new : StoreFacts) (c : CrewState) (ready : IsReady 
     rack_armed = is.answers.cause.tape_arms;
     same = record {
       size = is.answers.cause.size;
-      reads = process_reads answer old new is.answers.cause;
-      writes = process_writes answer old new is.answers.cause;
+      read_faults = process_reads answer old new is.answers.cause;
+      write_faults = process_writes answer old new is.answers.cause;
+      writes = is.answers.cause.later;
+      tape_read_faults = process_tape_reads answer old new is.answers.cause;
+      tape_write_faults = process_tape_writes answer old new is.answers.cause;
       reels = labels_same old.rack.reels new.rack.reels is.answers.cause.reels;
     };
     dumps = λ was. is.dumps was.0 was.1;

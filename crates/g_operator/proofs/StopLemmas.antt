@@ -11,6 +11,7 @@ use Rattle.g_run_model.specs.Devices.{Devices}
 use Rattle.g_run_model.specs.Moves.{EventCounted}
 use Rattle.g_run_model.specs.Texts.{operator_line}
 use Rattle.g_run_model.specs.World.{World, says}
+use Rattle.g_run_model.proofs.ArmLemmas.{in_none, in_once}
 use Rattle.g_run_model.proofs.CountLemmas.{no_failure, none_failed}
 use Rattle.g_job_table.specs.Crew.{CrewState}
 use Rattle.g_operator.specs.declared.progress.Failure.{Failure}
@@ -19,7 +20,7 @@ use Rattle.g_operator.specs.Parts.{ArmsBy, DidLine, DoesLine, IsReady, Matches, 
 use Rattle.g_operator.specs.Puts.{Puts}
 use Rattle.g_operator.specs.System.{Down, SystemFacts, Up, devices_in, DumpsGrow, SameDevices}
 use Rattle.g_operator.proofs.GrowLemmas.{grow_held}
-use Rattle.g_operator.proofs.LabelLemmas.{same_still}
+use Rattle.g_operator.proofs.LabelLemmas.{same_counts}
 use Rattle.g_operator.proofs.LeavesLemmas.{leaves_same}
 use Rattle.g_operator.proofs.LineLemmas.{was_done}
 
@@ -111,10 +112,12 @@ module _ (k : ℕ) (old new : SystemFacts) (c : CrewState) (count : ℕ) where
           disc = within_all (k ∷ []) d.disc.arms (disc_armed k d).disc.arms once;
           tape = within_none [] d.rack.arms d.rack.arms refl;
           all = λ through. (once, refl);
+          disc_since = in_once k d.disc.writes d.disc.arms;
+          tape_since = in_none d.rack.write_faults d.rack.write_faults d.rack.arms d.rack.arms refl;
         });
     count = refl;
     fuses = ap (λ (d : Devices). d.disc.fuse) armed.devices;
-    same = subst (λ (d : Devices). SameDevices (devices_in old) d) (sym armed.devices) (same_still (devices_in old) (disc_armed k (devices_in old)) refl refl refl refl);
+    same = subst (λ (d : Devices). SameDevices (devices_in old) d) (sym armed.devices) (same_counts (devices_in old) (disc_armed k (devices_in old)) refl refl refl refl refl refl refl);
     belongs = armed.belongs;
     dumps = λ was. subst (λ (d : Devices). DumpsGrow (devices_in old).rack d.rack) (sym armed.devices) (grow_held (devices_in old).rack (disc_armed k (devices_in old)).rack refl);
     cause = puts.cause;
@@ -137,10 +140,12 @@ module _ (k : ℕ) (old new : SystemFacts) (c : CrewState) (count : ℕ) where
           disc = within_none [] d.disc.arms d.disc.arms refl;
           tape = within_all (k ∷ []) d.rack.arms (tape_armed k d).rack.arms once;
           all = λ through. (refl, once);
+          disc_since = in_none d.disc.writes d.disc.writes d.disc.arms d.disc.arms refl;
+          tape_since = in_once k d.rack.write_faults d.rack.arms;
         });
     count = refl;
     fuses = ap (λ (d : Devices). d.rack.fuse) armed.devices;
-    same = subst (λ (d : Devices). SameDevices (devices_in old) d) (sym armed.devices) (same_still (devices_in old) (tape_armed k (devices_in old)) refl refl refl refl);
+    same = subst (λ (d : Devices). SameDevices (devices_in old) d) (sym armed.devices) (same_counts (devices_in old) (tape_armed k (devices_in old)) refl refl refl refl refl refl refl);
     belongs = armed.belongs;
     dumps = λ was. subst (λ (d : Devices). DumpsGrow (devices_in old).rack d.rack) (sym armed.devices) (grow_held (devices_in old).rack (tape_armed k (devices_in old)).rack refl);
     cause = puts.cause;
