@@ -13,7 +13,7 @@ use Rattle.g_name.specs.Grammar.{is_letter, is_name_char, is_word}
 use Rattle.g_lines.proofs.LineLemmas.{text-lines}
 use Rattle.g_script.specs.Script.{IsDocumentLine, IsItem, WrittenItem, item_lines, lines_in, timed_said}
 use Rattle.g_demo.specs.Script.{at_turn, behind_job, behind_rounds, behind_three, closing, drawn, drawn_job, file_name, filled_line, next, opening, round_lines, rounds_lines, script_lines}
-use Rattle.g_laws_demo.specs.Good.{IsGood}
+use Rattle.g_laws_demo.specs.GoodScript.{IsGood}
 use Rattle.g_laws_demo.proofs.Items.{bare, behind_items, closing_items, document, dump, last_job, migration, opening_items, round_items, round_job, rounds_items, script_items}
 use Rattle.g_script.specs.declared.operator.Operator.TheVariants as operator
 
