@@ -3,6 +3,7 @@
 //! of the command language, and goes to the label that a GOTO names. There are no units, no filestore, no outcome, no traps
 //! and no table of jobs; nothing is chosen, charged or told, and no tick counts.
 #![tactic(auto)]
+
 ghost use Rattle.std.specs.Prelude.{◌<◌, length};
 
 use g_base::NoMemory;
