@@ -2,7 +2,7 @@
 use Rattle.std.proofs.Common.{◌≡◌, ℕ, List, Option, Some, None, refl, sym, ◌∙◌, ap, subst}
 use Rattle.std.proofs.Math.ListN.{set}
 use Rattle.g_base.specs.Block.{with_block}
-use Rattle.g_base.specs.Told.{Changes}
+use Rattle.g_base.specs.ToldContent.{Changes}
 
 not_told : {X : Type 0} (a : X) → (let none : Option X = None in none ≡ Some a) → ⊥
 not_told a e = cc

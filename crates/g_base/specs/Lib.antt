@@ -3,4 +3,4 @@ pub mod Counts
 pub mod Fields
 pub mod Fuse
 pub mod Limits
-pub mod Told
+pub mod ToldContent

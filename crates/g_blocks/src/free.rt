@@ -7,7 +7,7 @@ use g_base::FIRST_COPY_BLOCK;
 use std::alloc::{AllocError, Global};
 
 /// The n least blocks whose flag isn't set, in rising order. None of them is before the place `low`.
-pub fn least_free(
+pub(crate) fn least_free(
     alloc: Global,
     taken: &[bool],
     low: usize,
@@ -31,11 +31,11 @@ pub fn least_free(
 }
 
 /// How many flags go by one note.
-pub const GROUP: usize = 128;
+pub(crate) const GROUP: usize = 128;
 
 /// The first flag from this place on that isn't set, or their number. Those before the place are set. Groups that are noted
 /// as full are passed whole.
-pub fn first_free(taken: &[bool], full: &[bool], from: usize) -> usize
+pub(crate) fn first_free(taken: &[bool], full: &[bool], from: usize) -> usize
     requires before { AreSetBefore from taken.now }
     requires full { AreFull full.now taken.now }
     ensures { AreSetBefore result taken.now }
@@ -67,7 +67,7 @@ fn behind(taken: &[bool], full: &[bool], place: usize) -> usize
 }
 
 /// Notes as full the groups from one on and in front of another.
-pub fn note_full(full: &mut Vec<bool>, first: usize, end: usize)
+pub(crate) fn note_full(full: &mut Vec<bool>, first: usize, end: usize)
     requires { end ≤ length full.old.items }
     ensures size { length full.new.items ≡ length full.old.items }
     ensures noted { (group : ℕ) → slice_get full.new.items group ≡ Some true

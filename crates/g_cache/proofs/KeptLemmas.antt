@@ -15,7 +15,7 @@ use Rattle.lru.proofs.Splits.{Contains-cons}
 use Rattle.g_base.specs.Block.{with_block}
 use Rattle.g_base.proofs.ToldLemmas.{told_after_write}
 use Rattle.g_disc.specs.Disc.{DiscState, Writes}
-use Rattle.g_cache.specs.Cached.{Agrees, Cached, CachedReads, cached_with, kept_block, without_block}
+use Rattle.g_cache.specs.CachedDisc.{Agrees, Cached, CachedReads, cached_with, kept_block, without_block}
 
 -- THE CACHE
 

@@ -14,7 +14,7 @@ use Rattle.std.proofs.lemmas.List.Kept.{AllPairs-cons}
 use Rattle.std.proofs.lemmas.List.Quantifiers.{all_pairs_push}
 use Rattle.std.proofs.lemmas.Option.{get_or_from_slice_get, slice_get-get_or}
 use Rattle.lru.specs.LruCache.{LruCache, lru_cache, promoted, put_entries}
-use Rattle.g_cache.specs.Cached.{kept_block, without_block}
+use Rattle.g_cache.specs.CachedDisc.{kept_block, without_block}
 use Rattle.g_cache.specs.Places.{kept_at, ArePlaces}
 
 module _ (blocks : List (List ℕ)) (k : ℕ) where

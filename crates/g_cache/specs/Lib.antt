@@ -1,2 +1,2 @@
-pub mod Cached
+pub mod CachedDisc
 pub mod Places

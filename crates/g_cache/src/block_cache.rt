@@ -1,6 +1,6 @@
 //! Blocks that are kept in memory, the ones asked for last.
 ghost use Rattle.std.specs.Prelude.{◌≡◌, ◌<◌, ◌⊎◌, ℕ, [], ◌∷◌, IfOk, None, Some, is_some, length, slice_index_or, take, true, false};
-ghost use Rattle.g_cache.specs.Cached.{kept_block, without_block};
+ghost use Rattle.g_cache.specs.CachedDisc.{kept_block, without_block};
 
 use arrayvec::ArrayVec;
 use g_base::{Block, NoMemory};
@@ -13,7 +13,7 @@ use std::num::NonZeroUsize;
 /// stays at its place from when it is kept until it is kept no more: the places go by use, and no
 /// block moves.
 #[derive(Drop)]
-pub struct BlockCache {
+pub(crate) struct BlockCache {
     places: LruCache<u32, u8>,
     blocks: Vec<Block>,
     free: ArrayVec<u8, 64>,

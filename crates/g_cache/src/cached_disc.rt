@@ -1,7 +1,7 @@
 //! A disc that is read through a cache.
 ghost use Rattle.std.specs.Prelude.{◌≡◌, ◌<◌, ◌≤◌, [], IfErr, IfOk, Some};
 ghost use Rattle.g_base.specs.Fuse.{armed_with};
-ghost use Rattle.g_cache.specs.Cached.{CachedReads, CachedWrites, cached_with};
+ghost use Rattle.g_cache.specs.CachedDisc.{CachedReads, CachedWrites, cached_with};
 
 use crate::block_cache::BlockCache;
 use g_base::{Block, NoMemory};
@@ -18,7 +18,7 @@ pub struct CachedDisc<D: Disc> {
 }
 
 impl<D: Disc> Model for CachedDisc<D> {
-    ghost use Rattle.g_cache.specs.Cached.{Cached, Agrees, cached_code, cached_with};
+    ghost use Rattle.g_cache.specs.CachedDisc.{Cached, Agrees, cached_code, cached_with};
 
     ghost Value = { Cached D };
 

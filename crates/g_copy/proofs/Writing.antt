@@ -6,7 +6,7 @@ use Rattle.std.proofs.Math.Seq.{take-add}
 use Rattle.std.proofs.lemmas.List.{get_or_default, get_or-take, length-take, get_or-set_same, take_all, take_at, length-replicate}
 use Rattle.g_base.specs.Counts.{RoseBy}
 use Rattle.g_base.specs.Fields.{padded}
-use Rattle.g_base.specs.Told.{Changes}
+use Rattle.g_base.specs.ToldContent.{Changes}
 use Rattle.g_base.proofs.CountLemmas.{RoseBy-none, RoseBy-one, RoseBy-then}
 use Rattle.g_base.proofs.ToldLemmas.{Changes-none, Changes-then, Changes-with_block, Changes-weaken}
 use Rattle.g_disc.specs.Disc.{DiscState, Writes}

@@ -1,7 +1,7 @@
 -- Storing a text in the least free blocks of a pool.
 use Rattle.std.specs.Prelude.{ℕ, List, Bool}
 use Rattle.g_base.specs.Block.{blocks_for}
-use Rattle.g_base.specs.Told.{Changes}
+use Rattle.g_base.specs.ToldContent.{Changes}
 use Rattle.g_blocks.specs.Pool.{AreLeastFree, HasTaken}
 use Rattle.g_disc.specs.Disc.{DiscState}
 use Rattle.g_copy.specs.Copy.{OnlyAt}

@@ -3,7 +3,7 @@ ghost use Rattle.std.specs.Prelude.{◌≡◌, ◌≢◌, ◌+◌, ◌<◌, ◌�
 ghost use Rattle.g_base.specs.Block as block;
 ghost use Rattle.g_base.specs.Counts.{RoseBy};
 ghost use Rattle.g_base.specs.Limits.{max_file_blocks, max_file_bytes};
-ghost use Rattle.g_base.specs.Told.{Changes};
+ghost use Rattle.g_base.specs.ToldContent.{Changes};
 ghost use Rattle.g_blocks.specs.Pool.{HasGiven, IsTaken, free_count};
 ghost use Rattle.g_disc.specs.Disc.{Causes};
 ghost use Rattle.g_copy.specs.Copy.{Holds, IsCopy};

@@ -1,7 +1,7 @@
 //! Writes a text into the blocks of its copy.
 ghost use Rattle.std.specs.Prelude.{◌≡◌, ◌*◌, ◌^◌, ◌<◌, ◌≤◌, OnErr, OnOk, Err, drop, length, take};
 ghost use Rattle.g_base.specs.Fields.{padded};
-ghost use Rattle.g_base.specs.Told.{Changes};
+ghost use Rattle.g_base.specs.ToldContent.{Changes};
 ghost use Rattle.g_disc.specs.Disc.{WritesOnly};
 ghost use Rattle.g_copy.specs.Copy.{Holds, IsCopy, OnlyAt};
 

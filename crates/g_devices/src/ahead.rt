@@ -11,7 +11,7 @@ use std::os::unix::fs::FileExt;
 
 /// Blocks that were read ahead, of one file at a time.
 #[derive(Drop)]
-pub struct ReadAhead {
+pub(crate) struct ReadAhead {
     blocks: Neighbours,
     /// Which file they are of.
     owner: u32,

@@ -8,7 +8,7 @@ use crate::file_reel::FileReel;
 use g_duplex::{Twin, standing_by};
 
 /// Whether they are the same reels, as long where neither is lost.
-pub fn are_alike(reels: &[FileReel], beside: &[FileReel], lost: &[(u32, Twin)]) -> bool
+pub(crate) fn are_alike(reels: &[FileReel], beside: &[FileReel], lost: &[(u32, Twin)]) -> bool
     ensures { result ≡ true → ArePaired (standings_by lost.now reels.now) reels.now beside.now }
 {
     if reels.len() != beside.len() {

@@ -8,7 +8,7 @@ use std::io::{self, Error, ErrorKind};
 const BLOCK_BYTES: u64 = 512;
 
 /// The first byte of block k.
-pub fn start_of(k: u32) -> u64
+pub(crate) fn start_of(k: u32) -> u64
     ensures { result ≡ 512 * k }
 {
     u64::from(k) * BLOCK_BYTES
@@ -16,7 +16,7 @@ pub fn start_of(k: u32) -> u64
 
 /// How many blocks the file has, or `InvalidData` where it is no plain file, or where they aren't whole or more than a disc
 /// or a reel can have.
-pub fn blocks_in(file: &File) -> io::Result<u32> {
+pub(crate) fn blocks_in(file: &File) -> io::Result<u32> {
     let about = file.metadata()?;
     let bytes = about.len();
     match u32::try_from(bytes / BLOCK_BYTES) {

@@ -9,7 +9,7 @@ const LAST_STREAM: i32 = 2;
 
 /// What files are opened for.
 #[derive(Clone, Copy, PartialEq, Eq)]
-pub enum Access {
+pub(crate) enum Access {
     /// A run: to be read and written, by it alone.
     Run,
     /// A look: to be read, beside other looks.
@@ -21,7 +21,7 @@ pub enum Access {
 ///
 /// A file that was opened in the place of a closed standard stream is refused: the text of the run
 /// would go into it.
-pub fn claim(file: &File, access: Access) -> io::Result<()> {
+pub(crate) fn claim(file: &File, access: Access) -> io::Result<()> {
     if file.as_raw_fd() <= LAST_STREAM {
         return Err(Error::new(ErrorKind::Unsupported, "a standard stream is closed"));
     }
@@ -33,6 +33,6 @@ pub fn claim(file: &File, access: Access) -> io::Result<()> {
 }
 
 /// Brings the names of this folder to the device, after a file of it was made or renamed.
-pub fn sync_folder(rt: &HostRuntime, folder: &str) -> io::Result<()> {
+pub(crate) fn sync_folder(rt: &HostRuntime, folder: &str) -> io::Result<()> {
     File::open(rt, folder)?.sync_all()
 }

@@ -19,7 +19,7 @@ const MARK: &[u8] = b"G3MK";
 
 /// A reel over an open file, which is locked as long as this lives. Contracts see it as a reel of which nothing is told.
 #[derive(Drop)]
-pub struct FileReel {
+pub(crate) struct FileReel {
     file: File,
     state: ReelState,
     /// Whether the file is known to end where the state does.

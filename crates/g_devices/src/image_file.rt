@@ -19,7 +19,7 @@ const GATE: u32 = 0;
 
 /// An open image, which is locked as long as this lives.
 #[derive(Drop)]
-pub struct ImageFile {
+pub(crate) struct ImageFile {
     file: File,
     /// Whether the gate is known to be on the device as it stands in the file.
     settled: bool,

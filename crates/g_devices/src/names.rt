@@ -17,7 +17,7 @@ pub fn is_there(rt: &HostRuntime, path: &str) -> io::Result<bool> {
 
 /// Opens a plain file, or the one that a link leads to, to be read, and of a run to be written too. `InvalidInput` where it
 /// is anything else, as a pipe, a socket, a device or a folder, which isn't opened.
-pub fn open_plain(rt: &HostRuntime, path: &str, access: Access) -> io::Result<File> {
+pub(crate) fn open_plain(rt: &HostRuntime, path: &str, access: Access) -> io::Result<File> {
     if !fs::metadata(rt, path)?.is_file() {
         return Err(Error::from(ErrorKind::InvalidInput));
     }
@@ -27,7 +27,7 @@ pub fn open_plain(rt: &HostRuntime, path: &str, access: Access) -> io::Result<Fi
 }
 
 /// Opens a folder, or the one that a link leads to. `NotADirectory` where it is anything else, which isn't opened.
-pub fn open_folder(rt: &HostRuntime, path: &str) -> io::Result<File> {
+pub(crate) fn open_folder(rt: &HostRuntime, path: &str) -> io::Result<File> {
     if !fs::metadata(rt, path)?.is_dir() {
         return Err(Error::from(ErrorKind::NotADirectory));
     }
@@ -36,7 +36,7 @@ pub fn open_folder(rt: &HostRuntime, path: &str) -> io::Result<File> {
 
 /// Makes a file that gets another name when it is whole, or opens the one that a run left here which was cut off before
 /// that: a plain file with this name alone. `AlreadyExists` where anything else is here, which stays as it is.
-pub fn open_unready(rt: &HostRuntime, path: &str) -> io::Result<File> {
+pub(crate) fn open_unready(rt: &HostRuntime, path: &str) -> io::Result<File> {
     let mut how = OpenOptions::new();
     how.read(true).write(true);
     match fs::symlink_metadata(rt, path) {
@@ -62,13 +62,13 @@ fn open_left(rt: &HostRuntime, path: &str, how: &OpenOptions, left: &Metadata) -
 
 /// Which file it is, under whatever name.
 #[derive(Clone, Copy, PartialEq, Eq)]
-pub struct FileId {
+pub(crate) struct FileId {
     device: u64,
     number: u64,
 }
 
 /// Tells which file this is.
-pub fn id_of(file: &File) -> io::Result<FileId> {
+pub(crate) fn id_of(file: &File) -> io::Result<FileId> {
     let about = file.metadata()?;
     Ok(FileId {
         device: about.dev(),
@@ -77,6 +77,6 @@ pub fn id_of(file: &File) -> io::Result<FileId> {
 }
 
 /// Whether it is a plain file with one name, and no link.
-pub fn has_one_name(about: &Metadata) -> bool {
+pub(crate) fn has_one_name(about: &Metadata) -> bool {
     about.is_file() && about.nlink() == 1
 }

@@ -9,11 +9,11 @@ use std::io;
 use std::os::unix::fs::FileExt;
 
 /// The most blocks that are in memory at once.
-pub const MOST: u32 = 64;
+pub(crate) const MOST: u32 = 64;
 
 /// The blocks of a file from `first` on, `count` of them and at most 64.
 #[derive(Drop)]
-pub struct Neighbours {
+pub(crate) struct Neighbours {
     bytes: Vec<u8>,
     first: u32,
     count: u32,

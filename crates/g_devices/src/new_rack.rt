@@ -11,7 +11,7 @@ const NEW_REELS: [&str; 2] = ["1.tape", "2.tape"];
 /// Makes the folder of a rack under another name, and gives it the right one when its reels are there. What an earlier
 /// run left under the other name, that was cut off in here, is used. The folder of a rack that another run made meanwhile
 /// stays, since a folder with files isn't replaced.
-pub fn make_folder(rt: &HostRuntime, folder: &str) -> io::Result<()> {
+pub(crate) fn make_folder(rt: &HostRuntime, folder: &str) -> io::Result<()> {
     // A link that leads nowhere stays, and nothing is left beside it.
     if is_there(rt, folder)? {
         return Err(Error::from(ErrorKind::AlreadyExists));

@@ -15,11 +15,11 @@ use std::fs::{self, File};
 use std::io::{self, Error, ErrorKind};
 
 /// How many blocks each reel can hold.
-pub const CAPACITY: u32 = 8_192;
+pub(crate) const CAPACITY: u32 = 8_192;
 
 /// The number of a reel.
 #[derive(Clone, Copy)]
-pub struct Serial {
+pub(crate) struct Serial {
     pub number: u32,
     ghost limits: { (1 ≤ number) × (number ≤ 999999) },
 }
@@ -60,7 +60,7 @@ fn reels_in(rt: &HostRuntime, folder: &str, opened: File, access: Access) -> io:
 }
 
 /// Opens the folder of a rack, or makes it.
-pub fn open_or_make(rt: &HostRuntime, folder: &str) -> io::Result<File> {
+pub(crate) fn open_or_make(rt: &HostRuntime, folder: &str) -> io::Result<File> {
     match open_folder(rt, folder) {
         Err(fault) if fault.kind() == ErrorKind::NotFound => {
             make_folder(rt, folder)?;
@@ -71,7 +71,7 @@ pub fn open_or_make(rt: &HostRuntime, folder: &str) -> io::Result<File> {
 }
 
 /// The serials of the files in the folder that are reels, in any order.
-pub fn serials_in(rt: &HostRuntime, folder: &str) -> io::Result<Vec<Serial>> {
+pub(crate) fn serials_in(rt: &HostRuntime, folder: &str) -> io::Result<Vec<Serial>> {
     let mut serials = Vec::new(rt.alloc());
     for entry in fs::read_dir(rt, folder)? {
         match entry {
@@ -102,7 +102,7 @@ fn serial_in(name: &str) -> Option<Serial> {
 }
 
 /// Opens the file of a reel, of a run for it and this serial alone.
-pub fn open_reel(
+pub(crate) fn open_reel(
     rt: &HostRuntime,
     folder: &str,
     serial: Serial,
@@ -122,7 +122,7 @@ pub fn open_reel(
 }
 
 /// Puts a reel behind the others of a rack, or `InvalidData` where there are 16 already or one has a serial as great.
-pub fn put_behind(reels: &mut Vec<FileReel>, reel: FileReel) -> io::Result<()>
+pub(crate) fn put_behind(reels: &mut Vec<FileReel>, reel: FileReel) -> io::Result<()>
     requires rack { AreReels reels.old.items }
     requires reel { IsReel reel }
     ensures rack { OnOk result (AreReels reels.new.items) }

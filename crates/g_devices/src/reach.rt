@@ -2,7 +2,7 @@
 
 /// How far the writes to a file have come.
 #[derive(Clone, Copy, PartialEq, Eq)]
-pub enum Reach {
+pub(crate) enum Reach {
     /// What an earlier run wrote may not be on the device.
     Unknown,
     /// What this run wrote may not be there.

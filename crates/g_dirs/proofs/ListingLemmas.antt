@@ -23,8 +23,11 @@ use Rattle.g_entry.specs.Formats.{is_place}
 use Rattle.g_entry.specs.Rules.{AreNumbered}
 use Rattle.g_dirs.specs.Directory.{FileEntry, IsCopyOf, LiesSomewhere, copy_at, directory_of, entries_of, places_of}
 use Rattle.g_dirs.specs.Image.{entry_at, file_or_empty}
-use Rattle.g_dirs.specs.Writing.{AreEncodable, IsEncodable, number_of_copy, number_of_file}
+use Rattle.g_dirs.specs.Writing.{AreEncodable, IsEncodable, number_of_file}
 use Rattle.g_dirs.proofs.CopyLemmas.{recs-entries}
+
+abbrev pub number_of_copy : ℕ × DiscCopy → ℕ
+number_of_copy c = c.0
 
 -- the first that passes passes
 find-passes : {X : Type 0} (p : X → Bool) (xs : List X) (x : X) → find p xs ≡ Some x → p x ≡ true

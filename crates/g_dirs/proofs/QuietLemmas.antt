@@ -6,7 +6,7 @@ use Rattle.std.proofs.Math.ListN.{set}
 use Rattle.std.proofs.lemmas.List.{drop-set-add, take-set-le, get_or-drop, get_or-take, get_or_default, length-drop, length-take, same_lists}
 use Rattle.std.proofs.lemmas.List.Elements.{All-contains}
 use Rattle.std.proofs.lemmas.Option.{unwrap_or-slice_get}
-use Rattle.g_base.specs.Told.{Changes}
+use Rattle.g_base.specs.ToldContent.{Changes}
 use Rattle.g_base.proofs.ToldLemmas.{told_after}
 use Rattle.g_blocks.specs.Pool.{IsInArea}
 use Rattle.g_copy.proofs.Blocks.{blocks_at-OnlyAt, slice_get-set_other}

@@ -5,7 +5,7 @@ use Rattle.std.specs.Prelude.{OnErr}
 use Rattle.std.proofs.lemmas.Bool.{cases_lt}
 use Rattle.std.proofs.lemmas.Option.{same_Some}
 use Rattle.g_base.specs.Counts.{RoseBy}
-use Rattle.g_base.specs.Told.{Changes}
+use Rattle.g_base.specs.ToldContent.{Changes}
 use Rattle.g_base.proofs.CountLemmas.{RoseBy-none, RoseBy-then}
 use Rattle.g_base.proofs.ToldLemmas.{Changes-none, Changes-then, Changes-weaken, told_after}
 use Rattle.g_copy.proofs.Blocks.{slice_get-set_other}

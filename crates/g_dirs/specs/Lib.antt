@@ -4,9 +4,9 @@ pub mod Parts
 pub mod Rules
 pub mod Commit
 pub mod Pages
-pub mod Known
+pub mod KnownBlocks
 pub mod Marks
 pub mod Writing
-pub mod Quiet
+pub mod QuietWrites
 pub mod Reading
 pub mod Fault

@@ -1,7 +1,7 @@
 -- The way of a commit through the blocks of a slot.
 use Rattle.std.specs.Prelude.{◌≡◌, true, ℕ, ◌<◌, ◌≤◌, List, All, Some, slice_get}
 use Rattle.g_base.specs.Counts.{RoseBy}
-use Rattle.g_base.specs.Told.{Changes}
+use Rattle.g_base.specs.ToldContent.{Changes}
 use Rattle.g_copy.specs.declared.copy.DiscCopy.{DiscCopy}
 use Rattle.g_disc.specs.Disc.{DiscState}
 use Rattle.g_entry.specs.declared.file_rec.FileRec.{FileRec}
@@ -53,6 +53,3 @@ pub record IsEncodable (d : Directory) : Type 0 where
 
 abbrev pub number_of_file : FileRec → ℕ
 number_of_file r = r.number
-
-abbrev pub number_of_copy : ℕ × DiscCopy → ℕ
-number_of_copy c = c.0

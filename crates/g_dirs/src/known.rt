@@ -19,7 +19,7 @@ pub(crate) struct RememberedBlocks {
 
 impl Model for RememberedBlocks {
     ghost use Rattle.std.specs.Prelude.{◌≡◌, ℕ, ◌≤◌, List, Option, length, vec_capacity};
-    ghost use Rattle.g_dirs.specs.Known.{seen};
+    ghost use Rattle.g_dirs.specs.KnownBlocks.{seen};
 
     ghost Value = { List (Option (List ℕ)) };
 

@@ -1,5 +1,5 @@
 //! Laws of what a disc stands for. They do nothing; their clauses say what holds of every disc.
-ghost use Rattle.g_dirs.specs.Quiet.{QuietBytes, QuietCopy, QuietSlot, StandsForOne};
+ghost use Rattle.g_dirs.specs.QuietWrites.{QuietBytes, QuietCopy, QuietSlot, StandsForOne};
 
 /// Which single writes change nothing of what a disc stands for, whatever a failed write leaves there.
 pub fn quiet_writes()

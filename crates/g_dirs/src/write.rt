@@ -1,7 +1,7 @@
 //! The commit of a directory.
 ghost use Rattle.std.specs.Prelude.{◌≡◌, ◌+◌, ◌<◌, OnErr, OnOk, false, replicate, true, if◌then◌else◌};
 ghost use Rattle.std.specs.Option.{ForSome};
-ghost use Rattle.g_base.specs.Told.{Changes};
+ghost use Rattle.g_base.specs.ToldContent.{Changes};
 ghost use Rattle.g_disc.specs.Disc.{WritesOnly};
 ghost use Rattle.g_slots.specs.Commit.{KeepsCurrent, Prepares};
 ghost use Rattle.g_slots.specs.Layout.{GateNames, GateWritten, other};

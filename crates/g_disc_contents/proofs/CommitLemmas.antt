@@ -10,7 +10,7 @@ use Rattle.g_slots.specs.Layout.{copy_area, current}
 use Rattle.g_dirs.specs.Directory.{Directory, FileEntry, IsDirectory, all_places, places_of}
 use Rattle.g_dirs.specs.Image.{StandsFor, IsImage}
 use Rattle.g_disc_contents.specs.Contents.{Contents, File, Holds, contents_of, file_of}
-use Rattle.g_disc_contents.specs.Quiet.{CommitHolds}
+use Rattle.g_disc_contents.specs.QuietWrites.{CommitHolds}
 
 -- a block of the copy area is read from it
 same_block : (before after : List (List ℕ)) (k : ℕ) → copy_area after ≡ copy_area before → 2177 ≤ k → slice_index_or after k [] ≡ slice_index_or before k []

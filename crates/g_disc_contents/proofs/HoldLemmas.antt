@@ -11,7 +11,7 @@ use Rattle.g_dirs.specs.Image.{StandsFor}
 use Rattle.g_dirs.proofs.Parts.{stands_for_one}
 use Rattle.g_dirs.proofs.QuietLemmas.{quiet_bytes, quiet_copy, quiet_slot}
 use Rattle.g_disc_contents.specs.Contents.{Contents, File, Holds, contents_of, file_of}
-use Rattle.g_disc_contents.specs.Quiet.{HoldsOne, QuietHoldsCopy, QuietHoldsSlot}
+use Rattle.g_disc_contents.specs.QuietWrites.{HoldsOne, QuietHoldsCopy, QuietHoldsSlot}
 
 with_files : List File → Contents → Contents
 with_files files c = record c { files = files }

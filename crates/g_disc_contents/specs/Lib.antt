@@ -1,5 +1,5 @@
 pub mod Commits
 pub mod Contents
 pub mod Facts
-pub mod Quiet
+pub mod QuietWrites
 pub mod Parts

@@ -2,7 +2,7 @@
 #![tactic(auto)]
 
 ghost use Rattle.g_disc_contents.specs.Parts.{BlocksAreParts, JoinedAreParts, PartsJoin};
-ghost use Rattle.g_disc_contents.specs.Quiet.{CommitHolds, HoldsOne, QuietHoldsCopy, QuietHoldsSlot};
+ghost use Rattle.g_disc_contents.specs.QuietWrites.{CommitHolds, HoldsOne, QuietHoldsCopy, QuietHoldsSlot};
 
 /// Which single writes leave what a disc holds, whatever a failed write leaves there; and what a commit leaves that was
 /// stopped at any of its writes.

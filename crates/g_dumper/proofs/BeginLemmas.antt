@@ -20,11 +20,11 @@ use Rattle.g_incr.specs.declared.fault.ShelfFault.TheVariants as shelf
 use Rattle.g_incr.specs.Layout.{Dump}
 use Rattle.g_incr.specs.Plan.{IsPlan, Plan, first_content, needs}
 use Rattle.g_incr.specs.Reading.{ReadsReel}
-use Rattle.g_shelf.specs.Completed.{AreCompleted, end_of}
-use Rattle.g_known.specs.Known.{AreFound}
+use Rattle.g_shelf.specs.CompletedDumps.{AreCompleted, end_of}
+use Rattle.g_known.specs.ReelNotes.{AreFound}
 use Rattle.g_shelf.proofs.OneLemmas.{completed_are_one}
 use Rattle.g_shelf.proofs.ReadLemmas.{end_low, there}
-use Rattle.g_store_meaning.specs.Up.{DumpFacts, IsOpen}
+use Rattle.g_store_meaning.specs.StoreInvariant.{DumpFacts, IsOpen}
 use Rattle.g_dumper.specs.Beginning.{Begins, HasOpened, IsEnd, IsKeptBack, IsSpent, IsTooLong, RefusesOpening, StoppedAtIntent, StoppedOpening, intent_of, plan_of}
 use Rattle.g_dumper.proofs.PlanLemmas.{plan_keeps, plan_pinned}
 

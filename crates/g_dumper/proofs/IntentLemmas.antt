@@ -11,7 +11,7 @@ use Rattle.g_disc_contents.specs.Contents.{Contents, Holds, with_intent}
 use Rattle.g_disc_contents.specs.Facts.{IsTied, OnlineFacts, Pin}
 use Rattle.g_incr.specs.Plan.{IsPlan, Plan, first_content}
 use Rattle.g_online.specs.declared.change.Change.TheVariants.{SetIntent}
-use Rattle.g_online.specs.Allowed.{IsAllowed, KeepsRules}
+use Rattle.g_online.specs.AllowedChanges.{IsAllowed, KeepsRules}
 use Rattle.g_online.specs.Change.{changed, unjammed}
 use Rattle.g_online.specs.Outcomes.{AfterStop, HasChanged, HasStopped}
 use Rattle.g_online.specs.Pins.{HasPinned}

@@ -22,18 +22,18 @@ use Rattle.g_online.specs.declared.fault.OnlineFault.TheVariants as online
 use Rattle.g_online.specs.Change.{closed as closed_by}
 use Rattle.g_online.specs.Outcomes.{HasClosed, StoppedClosing}
 use Rattle.g_online.specs.Pins.{IsClosing}
-use Rattle.g_shelf.specs.Completed.{AreShelved, all_dumps}
+use Rattle.g_shelf.specs.CompletedDumps.{AreShelved, all_dumps}
 use Rattle.g_store_meaning.specs.Answers.{Belongs, IsStore, Told}
-use Rattle.g_store_meaning.specs.Belong.{BelongWith, DiscBelongs, RackBelongs}
+use Rattle.g_store_meaning.specs.Belonging.{BelongWith, DiscBelongs, RackBelongs}
 use Rattle.g_store_meaning.specs.Meaning.{told_reels}
 use Rattle.g_store_meaning.specs.Reading.{AllTold, ReelsTold}
-use Rattle.g_store_meaning.specs.Up.{DumpFacts, IsOpen, IsReady, IsUp, KeepsDirectories, StoreFacts, content_in, with_dump}
+use Rattle.g_store_meaning.specs.StoreInvariant.{DumpFacts, IsOpen, IsReady, IsUp, KeepsDirectories, StoreFacts, content_in, with_dump}
 use Rattle.g_laws_store.specs.Dumping.{closed_with}
 use Rattle.g_laws_store.proofs.ClosingLemmas.{closing_stays}
 use Rattle.g_laws_store.proofs.DumpingLemmas.{events_stay_up}
 use Rattle.g_laws_store.proofs.PinLemmas.{both_told}
 use Rattle.g_laws_store.proofs.TiedLemmas.{devices_belong}
-use Rattle.g_dumper.specs.Keeps.{CompletesOpening, KeepsStore, behind_step, spent_with, up_with}
+use Rattle.g_dumper.specs.Invariant.{CompletesOpening, KeepsStore, behind_step, spent_with, up_with}
 use Rattle.g_dumper.specs.Steps.{Abandoned, FailedWrite, IsNextBlock, Stepping, WroteBlock}
 use Rattle.g_dumper.proofs.ReelLemmas.{same_serials, still_told}
 use Rattle.g_dumper.proofs.ShelfLemmas.{cut_shelf, left_serial, left_told, marked_shelf, quiet_shelf, ready}

@@ -12,7 +12,7 @@ use Rattle.g_incr.specs.Layout.{Dump, dump_blocks, file_in, header_block, mark_b
 use Rattle.g_incr.specs.Plan.{IsContentAt, IsReadyAt, blocks_of, dump_of, first_content, waiting}
 use Rattle.g_incr.proofs.ListLemmas.{get_behind, get_front}
 use Rattle.g_incr.proofs.PlanLemmas.{length-made}
-use Rattle.g_store_meaning.specs.Up.{ArePinned, DumpFacts, content_in}
+use Rattle.g_store_meaning.specs.StoreInvariant.{ArePinned, DumpFacts, content_in}
 use Rattle.g_dumper.specs.Steps.{IsNextBlock}
 use Rattle.g_laws_store.proofs.PinLemmas.{split_told}
 

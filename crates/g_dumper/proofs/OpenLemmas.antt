@@ -12,7 +12,7 @@ use Rattle.g_tape.proofs.ReadLemmas.{is_reel, reel-with_reel}
 use Rattle.g_disc_contents.specs.Facts.{OnlineFacts, Pin}
 use Rattle.g_incr.specs.Layout.{dump_blocks}
 use Rattle.g_incr.specs.Plan.{dump_of, needs}
-use Rattle.g_store_meaning.specs.Up.{DumpFacts, IsOpen, content_in}
+use Rattle.g_store_meaning.specs.StoreInvariant.{DumpFacts, IsOpen, content_in}
 use Rattle.g_dumper.specs.Steps.{IsNextBlock, WroteBlock}
 
 -- so many, and one more

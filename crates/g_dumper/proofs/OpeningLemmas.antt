@@ -19,12 +19,12 @@ use Rattle.g_disc_contents.proofs.HoldLemmas.{holds_one}
 use Rattle.g_incr.specs.Layout.{Dump, holds}
 use Rattle.g_incr.specs.Plan.{IsPlan, Plan, dump_of, first_content, waiting}
 use Rattle.g_online.specs.Pins.{ArePinnedFrom, HasPinned}
-use Rattle.g_shelf.specs.Completed.{AreCompleted, AreShelved, all_dumps, end_of}
+use Rattle.g_shelf.specs.CompletedDumps.{AreCompleted, AreShelved, all_dumps, end_of}
 use Rattle.g_store_meaning.specs.Answers.{Belongs, IsStore, Told}
-use Rattle.g_store_meaning.specs.Belong.{BelongWith, DiscBelongs, IsPlaced, KeepsFile, RackBelongs}
+use Rattle.g_store_meaning.specs.Belonging.{BelongWith, DiscBelongs, IsPlaced, KeepsFile, RackBelongs}
 use Rattle.g_store_meaning.specs.Meaning.{files_of, joined, told_reels}
 use Rattle.g_store_meaning.specs.Reading.{AllTold, ReelsTold}
-use Rattle.g_store_meaning.specs.Up.{ArePinned, DumpFacts, IsOpen, IsReady, IsUp, KeepsDirectories, KeepsOpening, StoreFacts, content_in}
+use Rattle.g_store_meaning.specs.StoreInvariant.{ArePinned, DumpFacts, IsOpen, IsReady, IsUp, KeepsDirectories, KeepsOpening, StoreFacts, content_in}
 use Rattle.g_store_meaning.proofs.ChangeLemmas.{intents_belong}
 use Rattle.g_store_meaning.proofs.DirectoryLemmas.{all_up_to}
 use Rattle.g_laws_store.specs.Dumping.{AreDumpable, IsPlanOf, PinsText, opened_with}
@@ -32,7 +32,7 @@ use Rattle.g_laws_store.proofs.DumpingLemmas.{events_stay_up}
 use Rattle.g_laws_store.proofs.OpeningLemmas.{opening_stays}
 use Rattle.g_laws_store.proofs.UpOneLemmas.{on_all}
 use Rattle.g_dumper.specs.Beginning.{Begins, HasOpened, IsEnd, IsSpent, LeftByRefusal, RefusesOpening, StoppedOpening, intent_of, plan_of}
-use Rattle.g_dumper.specs.Keeps.{KeepsStore, behind_opening, spent_with, up_with}
+use Rattle.g_dumper.specs.Invariant.{KeepsStore, behind_opening, spent_with, up_with}
 use Rattle.g_dumper.proofs.BeginLemmas.{after_reads, reel_named}
 use Rattle.g_dumper.proofs.HeldLemmas.{held_of_one}
 use Rattle.g_dumper.proofs.IntentLemmas.{rules_here}

@@ -19,7 +19,7 @@ use Rattle.g_incr.specs.Layout.{holds}
 use Rattle.g_incr.specs.Plan.{ComesBefore, IsPlan, waiting, waits}
 use Rattle.g_online.specs.Pins.{ArePinnedFrom, AreWaiting, HasPinned, IsWaiting, ComesBefore as FileBefore}
 use Rattle.g_online.proofs.CloseNoteLemmas.{pairs_map}
-use Rattle.g_store_meaning.specs.Up.{ArePinned}
+use Rattle.g_store_meaning.specs.StoreInvariant.{ArePinned}
 use Rattle.g_laws_store.proofs.ClosingLemmas.{contains_filter}
 use Rattle.g_laws_store.proofs.RecordLemmas.{from_filter}
 use Rattle.g_dumper.specs.Beginning.{held_of, plan_of}

@@ -10,7 +10,7 @@ use Rattle.g_tape.specs.Rack.{AreReels, Rack, reel, with_reel}
 use Rattle.g_tape.specs.Reads.{unread}
 use Rattle.g_tape.specs.Reel.{Reel}
 use Rattle.g_incr.specs.Layout.{Dump}
-use Rattle.g_shelf.specs.Completed.{AreCompleted, AreShelved}
+use Rattle.g_shelf.specs.CompletedDumps.{AreCompleted, AreShelved}
 use Rattle.g_store_meaning.specs.Reading.{ReelsTold}
 use Rattle.g_laws_store.proofs.RecordLemmas.{pairs_head, pairs_tail}
 

@@ -12,11 +12,11 @@ use Rattle.g_tape.specs.Rack.{AreReels, Rack}
 use Rattle.g_disc_contents.specs.Contents.{Contents, File, recs_in, with_copies}
 use Rattle.g_disc_contents.specs.Facts.{IsPinOf, IsTied, OnlineFacts, Pin}
 use Rattle.g_incr.specs.Plan.{IsPlan, blocks_of, first_content, waiting}
-use Rattle.g_online.specs.Allowed.{KeepsRules}
+use Rattle.g_online.specs.AllowedChanges.{KeepsRules}
 use Rattle.g_online.specs.Change.{closed}
 use Rattle.g_online.proofs.KeepLemmas.{rules_of}
 use Rattle.g_online.proofs.CopiedLemmas.{rules_copied}
-use Rattle.g_store_meaning.specs.Up.{ArePinned, DumpFacts, IsOpen}
+use Rattle.g_store_meaning.specs.StoreInvariant.{ArePinned, DumpFacts, IsOpen}
 use Rattle.g_laws_store.proofs.PinLemmas.{IsOtherPin, copy_apart, pairs}
 use Rattle.g_dumper.proofs.OpenLemmas.{lies_low}
 

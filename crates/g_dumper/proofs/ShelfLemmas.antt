@@ -14,15 +14,15 @@ use Rattle.g_incr.specs.Layout.{Dump, count_of, dump_blocks, mark_block}
 use Rattle.g_incr.specs.Plan.{dump_of, first_content, needs, waiting}
 use Rattle.g_incr.proofs.PieceLemmas.{at_mark}
 use Rattle.g_incr.proofs.PlanLemmas.{length-made}
-use Rattle.g_shelf.specs.Completed.{AreCompleted, AreShelved, end_of, number_behind}
-use Rattle.g_shelf.specs.Quiet.{IsBegun, left_in}
+use Rattle.g_shelf.specs.CompletedDumps.{AreCompleted, AreShelved, end_of, number_behind}
+use Rattle.g_shelf.specs.QuietWrites.{IsBegun, left_in}
 use Rattle.g_shelf.proofs.MarkLemmas.{completed_by_mark, mark_completes}
 use Rattle.g_shelf.proofs.QuietLemmas.{quiet_blocks}
 use Rattle.g_store_meaning.specs.Meaning.{told_reels}
 use Rattle.g_store_meaning.specs.Reading.{ReelsTold}
-use Rattle.g_store_meaning.specs.Up.{DumpFacts, IsOpen, IsReady, IsUp, content_in, with_dump}
+use Rattle.g_store_meaning.specs.StoreInvariant.{DumpFacts, IsOpen, IsReady, IsUp, content_in, with_dump}
 use Rattle.g_laws_store.proofs.UpOneLemmas.{on_all, placed_at_end}
-use Rattle.g_dumper.specs.Keeps.{up_with}
+use Rattle.g_dumper.specs.Invariant.{up_with}
 use Rattle.g_dumper.specs.Steps.{WroteBlock}
 use Rattle.g_dumper.proofs.BeginLemmas.{reel_named}
 use Rattle.g_dumper.proofs.NextLemmas.{content_long}

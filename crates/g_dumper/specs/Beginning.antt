@@ -18,9 +18,9 @@ use Rattle.g_disc_contents.specs.Facts.{OnlineFacts}
 use Rattle.g_incr.specs.Layout.{Dump}
 use Rattle.g_incr.specs.Plan.{IsPlan, Plan, first_content, needs}
 use Rattle.g_online.specs.Pins.{HasPinned}
-use Rattle.g_shelf.specs.Completed.{AreCompleted, end_of}
+use Rattle.g_shelf.specs.CompletedDumps.{AreCompleted, end_of}
 use Rattle.g_store_meaning.specs.Meaning.{files_of}
-use Rattle.g_store_meaning.specs.Up.{DumpFacts, IsOpen}
+use Rattle.g_store_meaning.specs.StoreInvariant.{DumpFacts, IsOpen}
 
 -- the files of these users, one user behind the other
 abbrev pub held_of : List ℕ → List FileRec → List FileRec

@@ -1,3 +1,3 @@
 pub mod Beginning
-pub mod Keeps
+pub mod Invariant
 pub mod Steps

@@ -13,7 +13,7 @@ use Rattle.g_incr.specs.Layout.{dump_blocks}
 use Rattle.g_incr.specs.Plan.{IsContentAt, IsPlan, Plan, dump_of, needs}
 use Rattle.g_online.specs.declared.fault.OnlineFault.TheVariants as online
 use Rattle.g_online.specs.Pins.{IsClosing}
-use Rattle.g_store_meaning.specs.Up.{DumpFacts, content_in}
+use Rattle.g_store_meaning.specs.StoreInvariant.{DumpFacts, content_in}
 use Rattle.g_dumper.specs.declared.dump.DumpStep.{DumpStep}
 use Rattle.g_dumper.specs.declared.dump.DumpStep.TheVariants as answer
 

@@ -8,7 +8,7 @@ ghost use Rattle.g_disc_contents.specs.Facts.{IsTied};
 ghost use Rattle.g_incr.specs.Plan as plan;
 ghost use Rattle.g_store_meaning.specs.Meaning.{files_of};
 ghost use Rattle.g_dumper.specs.Beginning.{Begins, HasOpened, LeftByRefusal, RefusesOpening, StoppedAtIntent, StoppedOpening, held_of, plan_of};
-ghost use Rattle.g_dumper.specs.Keeps.{KeepsStore, behind_opening, up_with};
+ghost use Rattle.g_dumper.specs.Invariant.{KeepsStore, behind_opening, up_with};
 
 use crate::dump::Dump;
 use g_base::NoMemory;

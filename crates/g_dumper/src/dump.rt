@@ -24,7 +24,7 @@ pub struct Dump {
 }
 
 impl Model for Dump {
-    ghost use Rattle.g_store_meaning.specs.Up.{DumpFacts};
+    ghost use Rattle.g_store_meaning.specs.StoreInvariant.{DumpFacts};
     ghost use Rattle.g_dumper.specs.Steps.{IsNamed};
 
     ghost Value = { DumpFacts };

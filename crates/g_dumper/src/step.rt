@@ -2,9 +2,9 @@
 ghost use Rattle.std.specs.Prelude.{◌≡◌, ℕ, ◌<◌, List, None, Ok, OnErr, OnOk, Some, true};
 ghost use Rattle.g_disc_contents.specs.Facts.{IsTied, Pin};
 ghost use Rattle.g_incr.specs.Plan.{first_content, needs, waiting};
-ghost use Rattle.g_store_meaning.specs.Up.{ArePinned, IsOpen};
+ghost use Rattle.g_store_meaning.specs.StoreInvariant.{ArePinned, IsOpen};
 ghost use Rattle.g_store_model.specs.DumpSteps.{Completed, Going};
-ghost use Rattle.g_dumper.specs.Keeps.{CompletesOpening, KeepsStore, behind_step, up_with};
+ghost use Rattle.g_dumper.specs.Invariant.{CompletesOpening, KeepsStore, behind_step, up_with};
 ghost use Rattle.g_dumper.specs.Steps.{Abandoned, IsNextBlock, Stepping, stepped_of};
 
 use crate::dump::{Dump, DumpStep};

@@ -5,5 +5,5 @@ pub mod Meaning
 pub mod Pair
 pub mod Places
 pub mod Rebuild
-pub mod Seen
+pub mod SeenReels
 pub mod Twins

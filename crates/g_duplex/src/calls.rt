@@ -53,7 +53,7 @@ impl<T: Tapes> Duplex<T> {
 impl<T: Tapes> Tapes for Duplex<T> {
     ghost use Rattle.g_duplex.specs.Calls.{PairArms, PairMounts, PairReads, PairUnmounts, PairWrites};
     ghost use Rattle.g_duplex.specs.Meaning.{pair_of};
-    ghost use Rattle.g_duplex.specs.Seen.{are_reels};
+    ghost use Rattle.g_duplex.specs.SeenReels.{are_reels};
 
     ghost rack = { λ d. shown (pair_of d) };
 

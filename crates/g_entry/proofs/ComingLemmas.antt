@@ -9,7 +9,7 @@ use Rattle.g_entry.specs.declared.format.Format.{Format}
 use Rattle.g_entry.specs.declared.file_rec.FileRec.{FileRec}
 use Rattle.g_entry.specs.declared.file_rec.TapeCopy.{TapeCopy}
 use Rattle.g_trap.specs.TrapList.{TrapList}
-use Rattle.g_entry.specs.Coming.{Comes, back_fields, front_fields, rec_fields}
+use Rattle.g_entry.specs.Comparison.{Comes, back_fields, front_fields, rec_fields}
 use Rattle.g_entry.specs.FileFields.{IsFile, copy_fields, file_block, file_fields, lang_field, on_tape, online_fields, pair_fields}
 use Rattle.g_entry.proofs.FieldLemmas.{length-word, length-lang, length-lang_field, length-pair_fields}
 use Rattle.g_entry.proofs.RecordLemmas.{file_peeled, file_zeros}

@@ -7,7 +7,7 @@ use Rattle.g_entry.specs.declared.file_rec.FileRec.{FileRec}
 use Rattle.g_entry.specs.declared.file_rec.TapeCopy.{TapeCopy}
 use Rattle.g_entry.specs.declared.user_rec.UserRec.{UserRec}
 use Rattle.g_entry.specs.FileFields.{IsCopy, IsFile}
-use Rattle.g_entry.specs.OneByOne.{KeepPlaces, KeepsAlone, KeepsPlace}
+use Rattle.g_entry.specs.SingleRules.{KeepPlaces, KeepsAlone, KeepsPlace}
 use Rattle.g_entry.specs.Rules.{AreFiles, AreUsers, SameName}
 
 -- one user more keeps its place

@@ -4,5 +4,5 @@ pub mod HeadFields
 pub mod Rules
 pub mod UserFields
 pub mod FileNames
-pub mod OneByOne
-pub mod Coming
+pub mod SingleRules
+pub mod Comparison

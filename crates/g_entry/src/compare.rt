@@ -1,7 +1,7 @@
 //! Compares the fields of a block with those of a record, one behind the other.
 ghost use Rattle.std.specs.Prelude.{◌≡◌, ◌↔◌, ◌+◌, ◌≤◌, [], ◌∷◌, IsTrue, length, replicate};
 ghost use Rattle.g_base.specs.Fields.{padded};
-ghost use Rattle.g_entry.specs.Coming.{Comes, rec_fields};
+ghost use Rattle.g_entry.specs.Comparison.{Comes, rec_fields};
 ghost use Rattle.g_entry.specs.FileFields.{IsFile, copy_fields, lang_field};
 
 use crate::same::is_same;
@@ -10,7 +10,7 @@ use g_base::BlockReader;
 use g_name::Lang;
 
 /// Reads as many bytes as these, and tells whether they are the same.
-pub fn next_bytes_equal(reader: &mut BlockReader, bytes: &[u8]) -> bool
+pub(crate) fn next_bytes_equal(reader: &mut BlockReader, bytes: &[u8]) -> bool
     requires { length bytes.now ≤ length reader.old }
     ensures { Comes bytes.now reader.old reader.new result }
 {
@@ -19,7 +19,7 @@ pub fn next_bytes_equal(reader: &mut BlockReader, bytes: &[u8]) -> bool
 }
 
 /// Reads so many bytes, and tells whether they are zeros.
-pub fn zeros_come(reader: &mut BlockReader, count: usize) -> bool
+pub(crate) fn zeros_come(reader: &mut BlockReader, count: usize) -> bool
     requires few { count ≤ 512 }
     requires within { count ≤ length reader.old }
     ensures { Comes (replicate count 0) reader.old reader.new result }
@@ -29,7 +29,7 @@ pub fn zeros_come(reader: &mut BlockReader, count: usize) -> bool
 }
 
 /// Whether both are.
-pub fn both(one: bool, other: bool) -> bool
+pub(crate) fn both(one: bool, other: bool) -> bool
     ensures { IsTrue result ↔ (IsTrue one × IsTrue other) }
 {
     one & other
@@ -81,7 +81,7 @@ fn copy_comes(reader: &mut BlockReader, copy: Option<TapeCopy>) -> bool
 }
 
 /// The fields of a file that traps nobody, up to the block numbers.
-pub fn rec_comes(reader: &mut BlockReader, r: &FileRec) -> bool
+pub(crate) fn rec_comes(reader: &mut BlockReader, r: &FileRec) -> bool
     requires file { IsFile r.now }
     requires nobody { r.now.traps.others ≡ [] }
     requires within { length reader.old ≡ 512 }

@@ -15,7 +15,7 @@ use g_trap::Traps;
 
 /// The length of a word, and a field of 12 bytes with it.
 #[tactic(auto, using(crate::proofs::FieldLemmas::field_lengths))]
-pub fn put_word(writer: &mut BlockWriter, word: &[u8])
+pub(crate) fn put_word(writer: &mut BlockWriter, word: &[u8])
     requires fits { length word.now ≤ 12 }
     requires room { length writer.old + 13 ≤ 512 }
     ensures fields { writer.new ≡ writer.old ++ (length word.now ∷ []) ++ padded 12 word.now }
@@ -27,7 +27,7 @@ pub fn put_word(writer: &mut BlockWriter, word: &[u8])
 
 /// MONEY, where the format has it.
 #[tactic(auto, using(crate::proofs::FieldLemmas::field_lengths))]
-pub fn put_money(writer: &mut BlockWriter, format: Format, money: u64)
+pub(crate) fn put_money(writer: &mut BlockWriter, format: Format, money: u64)
     requires { length writer.old + 8 ≤ 512 }
     ensures fields { writer.new ≡ writer.old ++ money_fields format money }
     ensures len { length writer.new ≤ length writer.old + 8 }
@@ -40,7 +40,7 @@ pub fn put_money(writer: &mut BlockWriter, format: Format, money: u64)
 
 /// An intent, or zeros in its place.
 #[tactic(auto, using(crate::proofs::FieldLemmas::field_lengths))]
-pub fn put_intent(writer: &mut BlockWriter, intent: Option<Intent>)
+pub(crate) fn put_intent(writer: &mut BlockWriter, intent: Option<Intent>)
     requires { length writer.old + 17 ≤ 512 }
     ensures fields { writer.new ≡ writer.old ++ intent_fields intent }
     ensures len { length writer.new ≡ length writer.old + 17 }
@@ -58,7 +58,7 @@ pub fn put_intent(writer: &mut BlockWriter, intent: Option<Intent>)
 
 /// A tape copy, or zeros in its place.
 #[tactic(auto, using(crate::proofs::FieldLemmas::field_lengths))]
-pub fn put_copy(writer: &mut BlockWriter, copy: Option<TapeCopy>)
+pub(crate) fn put_copy(writer: &mut BlockWriter, copy: Option<TapeCopy>)
     requires { length writer.old + 9 ≤ 512 }
     ensures fields { writer.new ≡ writer.old ++ copy_fields copy }
     ensures len { length writer.new ≡ length writer.old + 9 }
@@ -74,7 +74,7 @@ pub fn put_copy(writer: &mut BlockWriter, copy: Option<TapeCopy>)
 }
 
 /// The four characters of a language, with the spaces behind it.
-pub fn put_lang(writer: &mut BlockWriter, lang: &Lang)
+pub(crate) fn put_lang(writer: &mut BlockWriter, lang: &Lang)
     requires { length writer.old + 4 ≤ 512 }
     ensures fields { writer.new ≡ writer.old ++ lang_field lang.now }
     ensures len { length writer.new ≡ length writer.old + 4 }
@@ -86,7 +86,7 @@ pub fn put_lang(writer: &mut BlockWriter, lang: &Lang)
 }
 
 /// The owner's modes, the number of other users, and a field of 16 bytes with each one's number and modes.
-pub fn put_traps(writer: &mut BlockWriter, traps: &Traps)
+pub(crate) fn put_traps(writer: &mut BlockWriter, traps: &Traps)
     requires { length writer.old + 18 ≤ 512 }
     ensures fields { writer.new ≡ writer.old ++ (traps.now.owner ∷ length traps.now.others ∷ []) ++ pair_fields traps.now.others }
     ensures len { length writer.new ≡ length writer.old + 18 }
@@ -102,7 +102,7 @@ pub fn put_traps(writer: &mut BlockWriter, traps: &Traps)
 }
 
 /// Whether a file is online, and its block numbers where it is.
-pub fn put_online(writer: &mut BlockWriter, format: Format, online: Option<&BlockList>)
+pub(crate) fn put_online(writer: &mut BlockWriter, format: Format, online: Option<&BlockList>)
     requires places { IfSome (option_copied online) (λ places. list_all (is_place format) places ≡ true) }
     requires room { length writer.old + 385 ≤ 512 }
     ensures { writer.new ≡ writer.old ++ online_fields format (option_copied online.entry) }

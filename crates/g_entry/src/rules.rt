@@ -2,7 +2,7 @@
 ghost use Rattle.std.specs.Prelude.{◌≡◌, ◌≢◌, ◌↔◌, All, AllPairs, IfOk, IsTrue};
 ghost use Rattle.g_entry.specs.FileNames.{name_of};
 ghost use Rattle.g_entry.specs.Rules.{AreFiles, AreUsers, SameName, StampsBelow};
-ghost use Rattle.g_entry.specs.OneByOne.{KeepPlaces, KeepsAlone, KeepsPlace, StandsRightly};
+ghost use Rattle.g_entry.specs.SingleRules.{KeepPlaces, KeepsAlone, KeepsPlace, StandsRightly};
 
 use crate::{FileRec, UserRec};
 use g_base::{NoMemory, are_distinct};

@@ -17,7 +17,7 @@ use g_name::{Lang, Local, User};
 use g_trap::{Modes, Traps};
 
 /// A user's name.
-pub fn take_user(reader: &mut BlockReader) -> Option<User>
+pub(crate) fn take_user(reader: &mut BlockReader) -> Option<User>
     requires { 13 ≤ length reader.old }
     ensures left { length reader.new + 13 ≡ length reader.old }
     ensures again { (word rest : List ℕ) → is_word word ≡ true → reader.old ≡ length word ∷ (padded 12 word ++ rest)
@@ -29,7 +29,7 @@ pub fn take_user(reader: &mut BlockReader) -> Option<User>
 }
 
 /// A local name.
-pub fn take_local(reader: &mut BlockReader) -> Option<Local>
+pub(crate) fn take_local(reader: &mut BlockReader) -> Option<Local>
     requires { 13 ≤ length reader.old }
     ensures left { length reader.new + 13 ≡ length reader.old }
     ensures again { (word rest : List ℕ) → is_word word ≡ true → reader.old ≡ length word ∷ (padded 12 word ++ rest)
@@ -49,7 +49,7 @@ fn front_of(len: u8, field: &[u8]) -> &[u8]
 }
 
 /// A language, with the spaces behind it.
-pub fn take_lang(reader: &mut BlockReader) -> Option<Lang>
+pub(crate) fn take_lang(reader: &mut BlockReader) -> Option<Lang>
     requires { 4 ≤ length reader.old }
     ensures left { length reader.new + 4 ≡ length reader.old }
     ensures again { (lang rest : List ℕ) → is_lang lang ≡ true → reader.old ≡ lang_field lang ++ rest
@@ -72,7 +72,7 @@ fn without_spaces(field: &[u8]) -> &[u8]
 }
 
 /// MONEY, or 1,000,000 in the format that has none.
-pub fn take_money(reader: &mut BlockReader, format: Format) -> u64
+pub(crate) fn take_money(reader: &mut BlockReader, format: Format) -> u64
     requires { 8 ≤ length reader.old }
     ensures { (money : ℕ) (rest : List ℕ) → IsMoney format money → reader.old ≡ money_fields format money ++ rest → result ≡ money }
 {
@@ -83,7 +83,7 @@ pub fn take_money(reader: &mut BlockReader, format: Format) -> u64
 }
 
 /// An intent, if there is one.
-pub fn take_intent(reader: &mut BlockReader) -> Option<Intent>
+pub(crate) fn take_intent(reader: &mut BlockReader) -> Option<Intent>
     requires { 17 ≤ length reader.old }
     ensures { (last : ℕ) (intent : Option Intent) (rest : List ℕ) → IfSome intent (IsIntent last) → reader.old ≡ intent_fields intent ++ rest
         → result ≡ intent }
@@ -100,7 +100,7 @@ pub fn take_intent(reader: &mut BlockReader) -> Option<Intent>
 }
 
 /// A tape copy, if there is one.
-pub fn take_copy(reader: &mut BlockReader) -> Option<TapeCopy>
+pub(crate) fn take_copy(reader: &mut BlockReader) -> Option<TapeCopy>
     requires { 9 ≤ length reader.old }
     ensures left { length reader.new + 9 ≡ length reader.old }
     ensures again { (copy : Option TapeCopy) (rest : List ℕ) → IfSome copy IsCopy → reader.old ≡ copy_fields copy ++ rest
@@ -113,7 +113,7 @@ pub fn take_copy(reader: &mut BlockReader) -> Option<TapeCopy>
 }
 
 /// The traps of a file.
-pub fn take_traps(reader: &mut BlockReader) -> Option<Traps>
+pub(crate) fn take_traps(reader: &mut BlockReader) -> Option<Traps>
     requires { 18 ≤ length reader.old }
     ensures left { length reader.new + 18 ≡ length reader.old }
     ensures again { (traps : TrapList) (rest : List ℕ) → IsOthers traps.others → AreSets traps
@@ -153,7 +153,7 @@ fn pairs_of(count: u8, field: &[u8]) -> Option<ArrayVec<(u8, Modes), 8>>
 }
 
 /// The block numbers of a file of this length, if it is online.
-pub fn take_places(reader: &mut BlockReader, format: Format, len: u32) -> Option<BlockList>
+pub(crate) fn take_places(reader: &mut BlockReader, format: Format, len: u32) -> Option<BlockList>
     requires { 385 ≤ length reader.old }
     ensures { (online : Option (List ℕ)) (rest : List ℕ) → len ≤ 65536 → IfSome online (ArePlaces format len)
         → reader.old ≡ online_fields format online ++ rest → result ≡ online }

@@ -10,7 +10,7 @@ use std::process::Abort;
 /// A disc of 2,181 blocks that notes which of them are written, in order. Contracts aren't told what it holds, so that a
 /// commit asks nothing of it but its size.
 #[derive(Drop)]
-pub struct Noted {
+pub(crate) struct Noted {
     pub disc: MemoryDisc,
     pub written: Vec<u32>,
 }
@@ -48,7 +48,7 @@ impl Disc for Noted {
 
 /// A disc with what its user keeps from one commit to the next.
 #[derive(Drop)]
-pub struct Kept {
+pub(crate) struct Kept {
     pub disc: Noted,
     pub slots: Slots,
     pub pages: Pages,
@@ -56,21 +56,21 @@ pub struct Kept {
 
 /// Which of the two commits.
 #[derive(Clone, Copy)]
-pub enum Way {
+pub(crate) enum Way {
     Whole,
     Changed,
 }
 
 /// A directory by its number of files and by what differs, and the blocks that are marked before its commit.
 #[derive(Clone, Copy)]
-pub struct Step<'a> {
+pub(crate) struct Step<'a> {
     pub files: u8,
     pub differs: &'a [Changed<'a>],
     pub marks: &'a [u32],
 }
 
 /// A disc of zeros.
-pub fn blank(rt: &(impl Abort + AllocGlobal)) -> Kept {
+pub(crate) fn blank(rt: &(impl Abort + AllocGlobal)) -> Kept {
     let mut disc = Noted {
         disc: MemoryDisc::new(rt.alloc(), 2_181).expect(rt, "memory"),
         written: Vec::new(rt.alloc()),
@@ -83,7 +83,7 @@ pub fn blank(rt: &(impl Abort + AllocGlobal)) -> Kept {
 }
 
 /// Marks what a step marks, and commits its directory. The answer is the commit's.
-pub fn commit(
+pub(crate) fn commit(
     rt: &(impl Abort + AllocGlobal),
     way: Way,
     kept: &mut Kept,
@@ -112,7 +112,7 @@ pub fn commit(
 }
 
 /// What a failing write leaves, by its number: the old block, half of the new one, the new one, or bytes of its own.
-pub fn leave_of(number: usize) -> Leave {
+pub(crate) fn leave_of(number: usize) -> Leave {
     match number {
         0 => Leave::Old,
         1 => Leave::Half,

@@ -23,10 +23,10 @@ const FILE: [u8; 64] =
     *b"\x01\0\x01F\0\0\0\0\0\0\0\0\0\0\0\0\x01    \0\0\0\0\0\0\0\x01\0\0\0\x05\x1f\0\0\0\0\0\0\0\0\0\0\0\0\0\0\0\0\0\0\0\0\0\0\0\0\0\0\x01\0\x08\x81";
 
 /// Bytes of a slot that differ from those with so many files: the block, the place in it, and the bytes.
-pub type Changed<'a> = (u32, usize, &'a [u8]);
+pub(crate) type Changed<'a> = (u32, usize, &'a [u8]);
 
 /// Puts bytes into a block from a place on, where they fit there.
-pub fn put(block: &mut Block, at: usize, bytes: &[u8]) {
+pub(crate) fn put(block: &mut Block, at: usize, bytes: &[u8]) {
     if at <= 512 && bytes.len() <= 512 - at {
         block[at..at + bytes.len()].copy_from_slice(bytes);
     }
@@ -41,7 +41,7 @@ fn put_file(block: &mut Block, number: u8) {
 }
 
 /// Block `k` of the slot with so many files: the head, users 0 and 1, the files, or one of no record.
-pub fn slot_block(files: u8, k: u32) -> Block {
+pub(crate) fn slot_block(files: u8, k: u32) -> Block {
     let mut block = empty_block();
     if k == 0 {
         put(&mut block, 0, &HEAD);
@@ -68,7 +68,7 @@ fn changed_block(files: u8, k: u32, changes: &[Changed]) -> Block {
 }
 
 /// The directory with so many files where these bytes differ, read from a disc on which its blocks were laid out.
-pub fn directory(rt: &(impl Abort + AllocGlobal), files: u8, changes: &[Changed]) -> Dirs
+pub(crate) fn directory(rt: &(impl Abort + AllocGlobal), files: u8, changes: &[Changed]) -> Dirs
     ensures records { AreRecords Format.Two (directory_of result.head result.users.items result.files.items result.online.items) }
     ensures rules { IsDirectory 2181 (directory_of result.head result.users.items result.files.items result.online.items) }
     ensures copies { AreCopies result.files.items result.online.items }

@@ -4,7 +4,7 @@ use g_disc::{Disc, Leave, MemoryDisc};
 use std::process::Abort;
 
 /// The first and the last byte of block k.
-pub fn read_back<D: Disc>(rt: &impl Abort, disc: &mut D, k: u32) -> Result<(u8, u8), ReadFailed> {
+pub(crate) fn read_back<D: Disc>(rt: &impl Abort, disc: &mut D, k: u32) -> Result<(u8, u8), ReadFailed> {
     let mut block = [9; 512];
     assert!(rt; k < disc.size());
     disc.read(k, &mut block)?;
@@ -12,7 +12,7 @@ pub fn read_back<D: Disc>(rt: &impl Abort, disc: &mut D, k: u32) -> Result<(u8, 
 }
 
 /// Fills block k with this byte.
-pub fn write_filled<D: Disc>(
+pub(crate) fn write_filled<D: Disc>(
     rt: &impl Abort,
     disc: &mut D,
     k: u32,

@@ -2,11 +2,11 @@
 use g_base::{ReadFailed, WriteFailed};
 use g_io::{MemorySink, MemorySource, Sink, Source};
 
-pub fn take_from<S: Source>(source: &mut S, into: &mut [u8; 4]) -> Result<usize, ReadFailed> {
+pub(crate) fn take_from<S: Source>(source: &mut S, into: &mut [u8; 4]) -> Result<usize, ReadFailed> {
     source.take(into)
 }
 
-pub fn put_into<K: Sink>(sink: &mut K, piece: &[u8]) -> Result<(), WriteFailed> {
+pub(crate) fn put_into<K: Sink>(sink: &mut K, piece: &[u8]) -> Result<(), WriteFailed> {
     sink.put(piece)
 }
 

@@ -12,10 +12,17 @@ use Rattle.g_entry.specs.FileFields.{IsFile, file_block}
 use Rattle.g_incr.specs.declared.note.DumpNote.{DumpNote}
 use Rattle.g_incr.specs.Layout.{Dump, count_of, dump_blocks, file_in, header_block, mark_block, numbers_in, user_in}
 use Rattle.g_incr.specs.Notes.{IsNoteOf}
-use Rattle.g_incr.specs.Pieces.{IsVersionAt, dumped_rec}
+use Rattle.g_incr.specs.Pieces.{dumped_rec}
 use Rattle.g_incr.specs.Plan.{IsContentAt, IsPlan, IsReadyAt, Plan, blocks_of, content_blocks, dump_of, first_content, needs, noted_rec, waiting, waits, with_number}
 use Rattle.g_incr.proofs.ListLemmas.{get_behind, get_front, get_seam}
 use Rattle.g_incr.proofs.PlanLemmas.{blocks_keeps, blocks_most, blocks_waits, file_keeps, length-made, made, made_keeps, made_of, made_waits}
+
+-- a block of content, counted from the first one, is block `part` of the i-th version that waits
+pub record IsVersionAt (files : List FileRec) (offset i part : ℕ) : Type 0 where
+  pub version : FileRec
+  pub there : slice_get (waiting files) i ≡ Some version
+  pub within : part < blocks_for version.len
+  pub at : offset ≡ blocks_of (take i (waiting files)) + part
 
 -- THE BLOCKS OF A DUMP
 module _ (d : Dump) where

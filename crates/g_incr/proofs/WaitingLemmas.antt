@@ -13,10 +13,10 @@ use Rattle.std.proofs.lemmas.Option.{get_or_from_slice_get}
 use Rattle.g_base.specs.Block.{blocks_for}
 use Rattle.g_entry.specs.declared.file_rec.FileRec.{FileRec}
 use Rattle.g_incr.specs.declared.waiting.Ahead.{Ahead}
-use Rattle.g_incr.specs.Ahead.{AreAhead, IsAhead}
-use Rattle.g_incr.specs.Pieces.{IsVersionAt}
+use Rattle.g_incr.specs.WaitingFiles.{AreAhead, IsAhead}
 use Rattle.g_incr.specs.Plan.{blocks_of, waiting, waits}
 use Rattle.g_incr.proofs.ListLemmas.{split_at, get_seam, get_some}
+use Rattle.g_incr.proofs.PieceLemmas.{IsVersionAt}
 
 waits_one : (r : FileRec) → waits r ≡ true → waiting (r ∷ []) ≡ r ∷ []
 waits_one r is = cond-true (waits r) (r ∷ []) [] is

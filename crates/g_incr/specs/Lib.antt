@@ -1,4 +1,3 @@
-pub mod Ahead
 pub mod Faults
 pub mod Finding
 pub mod Layout
@@ -7,3 +6,4 @@ pub mod Pieces
 pub mod Plan
 pub mod Reading
 pub mod Records
+pub mod WaitingFiles

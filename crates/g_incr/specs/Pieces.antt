@@ -1,6 +1,5 @@
 -- Where the pieces of a plan stand.
-use Rattle.std.specs.Prelude.{◌≡◌, ℕ, ◌+◌, ◌<◌, List, Some, slice_get, take, if◌then◌else◌}
-use Rattle.g_base.specs.Block.{blocks_for}
+use Rattle.std.specs.Prelude.{ℕ, ◌+◌, List, take, if◌then◌else◌}
 use Rattle.g_entry.specs.declared.file_rec.FileRec.{FileRec}
 use Rattle.g_entry.specs.declared.user_rec.UserRec.{UserRec}
 use Rattle.g_incr.specs.Plan.{Plan, blocks_of, first_content, noted_rec, waiting, waits, with_number}
@@ -8,13 +7,6 @@ use Rattle.g_incr.specs.Plan.{Plan, blocks_of, first_content, noted_rec, waiting
 abbrev pub plan_from : ℕ → ℕ → ℕ → ℕ → List UserRec → List ℕ → List FileRec → Plan
 plan_from serial number place next users held files =
     record { serial = serial; place = place; number = number; next = next; users = users; held = held; files = files }
-
--- a block of content, counted from the first one, is block `part` of the i-th version that waits
-pub record IsVersionAt (files : List FileRec) (offset i part : ℕ) : Type 0 where
-  pub version : FileRec
-  pub there : slice_get (waiting files) i ≡ Some version
-  pub within : part < blocks_for version.len
-  pub at : offset ≡ blocks_of (take i (waiting files)) + part
 
 -- the record of file i in the dump, which has its number and, where it waits, its place
 abbrev pub dumped_rec : Plan → ℕ → FileRec → FileRec

@@ -15,7 +15,7 @@ pub struct DumpNote {
 
 /// A note, and the format of the dump's records.
 #[derive(Clone, Copy, Debug, PartialEq, Eq)]
-pub struct Header {
+pub(crate) struct Header {
     pub format: Format,
     pub note: DumpNote,
 }

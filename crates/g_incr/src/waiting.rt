@@ -1,7 +1,7 @@
 //! The versions of a plan that wait: those that have bytes and no copy on tape.
 ghost use Rattle.std.specs.Prelude.{◌≡◌, ◌+◌, ◌≤◌, All, IfOk, length};
 ghost use Rattle.g_entry.specs.FileFields.{IsFile};
-ghost use Rattle.g_incr.specs.Ahead.{AreAhead};
+ghost use Rattle.g_incr.specs.WaitingFiles.{AreAhead};
 ghost use Rattle.g_incr.specs.Plan as plan;
 
 use g_base::{NoMemory, blocks_for};

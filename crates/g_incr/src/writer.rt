@@ -36,7 +36,7 @@ pub struct Writer {
 
 impl Model for Writer {
     ghost use Rattle.std.specs.Prelude.{◌+◌, length};
-    ghost use Rattle.g_incr.specs.Ahead.{AreAhead};
+    ghost use Rattle.g_incr.specs.WaitingFiles.{AreAhead};
     ghost use Rattle.g_incr.specs.Plan.{IsPlan, Plan};
     ghost use Rattle.g_incr.specs.Pieces.{plan_from};
 

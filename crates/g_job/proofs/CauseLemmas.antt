@@ -5,8 +5,8 @@ use Rattle.g_turn.specs.State.{Broken, Stop, Waits, Work}
 use Rattle.g_job.specs.State.{JobState}
 use Rattle.g_job.specs.Turns.{turn_work}
 use Rattle.g_job.proofs.TurnBounds.{turn_honest}
-use Rattle.g_plain.specs.Asks.{Answer, Asks, Call, Gives, IsAnswer}
-use Rattle.g_plain.specs.RanBy.{RanBy}
+use Rattle.g_plain.specs.Programs.{Answer, Asks, Call, Gives, IsAnswer}
+use Rattle.g_plain.specs.Runs.{RanBy}
 use Rattle.g_plain.specs.declared.calls.StoreCall.{StoreCall}
 use Rattle.g_plain.specs.declared.faults.StoreFault.TheVariants as fault
 

@@ -6,9 +6,9 @@ use denote.Ref.{Bor}
 use Rattle.g_budget.specs.Tariff.{IsCharge}
 use Rattle.g_budget.specs.declared.tariff.Charge.{Charge}
 use Rattle.g_budget.specs.declared.tariff.Usage.{Usage}
-use Rattle.g_job.specs.Begun.{room_of}
+use Rattle.g_job.specs.Beginning.{room_of}
 use Rattle.g_job.specs.Ending.{IsClear, IsWaiting, turn_by, with_last}
-use Rattle.g_job.specs.Ends.{IsTurn, behind_turn, charged, charged_end, end_by, is_free, last_line, money_of, turn_of, units_of}
+use Rattle.g_job.specs.TurnEnd.{IsTurn, behind_turn, charged, charged_end, end_by, is_free, last_line, money_of, turn_of, units_of}
 use Rattle.g_turn.specs.Making.{IsMade}
 use Rattle.g_job.specs.Rules.{IsJob, IsPending, most_bytes}
 use Rattle.g_turn.specs.State.{Broken, Desk, Done, Full, Pending, Stop, Waits, Work}

@@ -5,9 +5,9 @@ use Rattle.std.proofs.lemmas.Bool.{leb-false, true≢false}
 use Rattle.std.proofs.lemmas.Fmt.{length-decimal-le}
 use Rattle.g_budget.specs.Tariff.{IsCharge}
 use Rattle.g_budget.specs.declared.tariff.Charge.{Charge}
-use Rattle.g_job.specs.Begun.{room_of}
+use Rattle.g_job.specs.Beginning.{room_of}
 use Rattle.g_turn.specs.Bounds.{HasMore, IsWithin}
-use Rattle.g_job.specs.Ends.{behind_turn, broken, charged, end_by, is_money_up, is_time_up, money_left, money_of, turn_end, units_left, units_of, up_line, waited}
+use Rattle.g_job.specs.TurnEnd.{behind_turn, broken, charged, end_by, is_money_up, is_time_up, money_left, money_of, turn_end, units_left, units_of, up_line, waited}
 use Rattle.g_job.specs.Rules.{IsGoneOnWith, IsJob, most_bytes}
 use Rattle.g_turn.specs.State.{Broken, Done, Full, Stop, Waits, Work}
 use Rattle.g_job.specs.State.{JobState}

@@ -11,10 +11,10 @@ use Rattle.g_turn.specs.Steps.{RanWell}
 use Rattle.g_turn.specs.Typing.{can_go_on}
 use Rattle.g_budget.specs.declared.tariff.Charge.{Charge}
 use Rattle.g_budget.specs.declared.tariff.Usage.{Usage}
-use Rattle.g_job.specs.Begun.{begin, room_of}
-use Rattle.g_job.specs.Ends.{IsTurn, behind_turn, charged, end_by, last_line}
+use Rattle.g_job.specs.Beginning.{begin, room_of}
+use Rattle.g_job.specs.TurnEnd.{IsTurn, behind_turn, charged, end_by, last_line}
 use Rattle.g_job.specs.Rules.{IsJob}
-use Rattle.g_job.specs.Spends.{KeepsSeat}
+use Rattle.g_job.specs.Spending.{KeepsSeat}
 use Rattle.g_job.specs.State.{JobState}
 use Rattle.g_job.specs.Terminal.{LeavesDocument, is_ready, logged_out, seated, typed_lines, typed_to, with_stack}
 use Rattle.g_job.specs.Turns.{turn_work}
@@ -22,7 +22,7 @@ use Rattle.g_job.specs.declared.turn.Turn.{Turn}
 use Rattle.g_macro.proofs.HoldingLemmas.{are_ready_stays}
 use Rattle.g_macro.specs.Holding.{are_ready, line_added, with_document, with_typed}
 use Rattle.g_macro.specs.Levels.{Level, Stack}
-use Rattle.g_plain.specs.Asks.{Answer}
+use Rattle.g_plain.specs.Programs.{Answer}
 use Rattle.g_plain.specs.declared.calls.StoreCall.{StoreCall}
 
 or_true : (b : Bool) → (b || true) ≡ true

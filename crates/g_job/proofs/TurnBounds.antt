@@ -8,7 +8,7 @@ use Rattle.g_turn.proofs.BoundLemmas.{gives_more, within_of}
 use Rattle.g_turn.proofs.CommandBounds.{does_fired_gives, line_gives, runs_or_takes_gives}
 use Rattle.g_turn.proofs.CommandLemmas.{begins_honest}
 use Rattle.g_turn.proofs.VerbBounds.{In}
-use Rattle.g_job.specs.Begun.{begin, room_of}
+use Rattle.g_job.specs.Beginning.{begin, room_of}
 use Rattle.g_job.specs.Rules.{IsJob, IsPending}
 use Rattle.g_job.specs.State.{JobState}
 use Rattle.g_job.specs.Turns.{turn_work}

@@ -7,15 +7,15 @@ use Rattle.g_base.specs.declared.memory.NoMemory.{NoMemory}
 use Rattle.g_budget.specs.Tariff.{IsCharge, IsTariff, IsUsage}
 use Rattle.g_budget.specs.declared.tariff.Charge.{Charge}
 use Rattle.g_budget.specs.declared.tariff.Usage.{Usage}
-use Rattle.g_job.specs.Begun.{begin, room_of}
+use Rattle.g_job.specs.Beginning.{begin, room_of}
 use Rattle.g_turn.specs.Bounds.{IsKeptWithin, IsWithin}
 use Rattle.g_turn.specs.Causes.{CauseOf, last_answer}
-use Rattle.g_job.specs.Ends.{IsPriced, IsTurn, end_by, turn_end}
-use Rattle.g_turn.specs.Going.{IsAgain, IsReady}
+use Rattle.g_job.specs.TurnEnd.{IsPriced, IsTurn, end_by, turn_end}
+use Rattle.g_turn.specs.LineWork.{IsAgain, IsReady}
 use Rattle.g_turn.specs.Making.{FewBlocks, IsMade}
 use Rattle.g_job.specs.Making.{Makes}
 use Rattle.g_job.specs.Rules.{IsGoneOnWith, IsJob, IsPending}
-use Rattle.g_job.specs.Spends.{ComesTo, Spends, ToldAsBefore}
+use Rattle.g_job.specs.Spending.{ComesTo, Spends, ToldAsBefore}
 use Rattle.g_turn.specs.State.{AgainCommand, AgainLine, Broken, Desk, Done, Full, Pending, Stop, Waits, Work}
 use Rattle.g_job.specs.State.{JobState}
 use Rattle.g_turn.specs.Steps.{RanWell}
@@ -29,8 +29,8 @@ use Rattle.g_job.proofs.EndLemmas.{end_comes, end_spends}
 use Rattle.g_job.proofs.KeepLemmas.{file_of}
 use Rattle.g_job.proofs.WellLemmas.{turn_keeps, turn_ran}
 use Rattle.g_plain.proofs.RanByLemmas.{ran_by}
-use Rattle.g_plain.specs.Asks.{Answer}
-use Rattle.g_plain.specs.RanBy.{RanBy}
+use Rattle.g_plain.specs.Programs.{Answer}
+use Rattle.g_plain.specs.Runs.{RanBy}
 use Rattle.g_plain.specs.declared.calls.StoreCall.{StoreCall}
 
 -- what a job waits with is within what a turn begins with

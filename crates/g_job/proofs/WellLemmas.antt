@@ -2,7 +2,7 @@
 use Rattle.std.proofs.Common.{◌≡◌, ◌↔◌, ◌≤◌, length, ℕ, Bool, true, false, List, Option, Some, Ok, Err, refl, sym, ap, ◌∙◌, subst}
 use Rattle.std.proofs.lemmas.Bool.{false≢true}
 use Rattle.g_turn.specs.Bounds.{AlwaysGives, IsWithin, MayAnswer}
-use Rattle.g_job.specs.Begun.{room_of}
+use Rattle.g_job.specs.Beginning.{room_of}
 use Rattle.g_turn.specs.Causes.{GoesOn, IsHonest, IsOther, StopsAt}
 use Rattle.g_job.specs.Rules.{IsJob}
 use Rattle.g_turn.specs.State.{Broken, Stop, Waits, Work}
@@ -10,7 +10,7 @@ use Rattle.g_job.specs.State.{JobState}
 use Rattle.g_turn.specs.Steps.{IsStep, RanWell}
 use Rattle.g_job.specs.Turns.{turn_work}
 use Rattle.g_job.proofs.TurnBounds.{turn_within, turn_honest}
-use Rattle.g_plain.specs.Asks.{Answer, Asks, Call, Gives, IsAnswer, Ran}
+use Rattle.g_plain.specs.Programs.{Answer, Asks, Call, Gives, IsAnswer, Ran}
 use Rattle.g_plain.specs.declared.calls.StoreCall.{StoreCall}
 use Rattle.g_plain.specs.declared.faults.StoreFault.TheVariants as fault
 

@@ -5,11 +5,11 @@ use Rattle.g_turn.specs.Making.{IsMade}
 use Rattle.g_turn.specs.State.{Desk, Work}
 use Rattle.g_turn.specs.Steps.{RanWell}
 use Rattle.g_turn.specs.declared.turn_work.TurnWork.{TurnWork}
-use Rattle.g_job.specs.Begun.{room_of}
+use Rattle.g_job.specs.Beginning.{room_of}
 use Rattle.g_job.specs.Rules.{IsGoneOnWith, IsJob}
 use Rattle.g_job.specs.State.{JobState}
 use Rattle.g_job.specs.Turns.{turn_work}
-use Rattle.g_plain.specs.Asks.{Answer}
+use Rattle.g_plain.specs.Programs.{Answer}
 use Rattle.g_plain.specs.declared.calls.StoreCall.{StoreCall}
 
 module _ {S : Type 0} (answers : S → List ℕ → StoreCall → Answer → S → Type 0) (is_spent : S → Bool) (can_wait : S → ℕ → Bool) where

@@ -1,9 +1,9 @@
 -- THE PROGRAM OF A TURN: what it asks, in order, and what it makes of the answers.
 use Rattle.g_turn.specs.State.{Work}
 use Rattle.g_turn.specs.Turns.{begins}
-use Rattle.g_job.specs.Begun.{begin, room_of}
+use Rattle.g_job.specs.Beginning.{begin, room_of}
 use Rattle.g_job.specs.State.{JobState}
-use Rattle.g_plain.specs.Asks.{Asks}
+use Rattle.g_plain.specs.Programs.{Asks}
 
 -- THE TURN
 abbrev pub turn_work : JobState → Asks Work

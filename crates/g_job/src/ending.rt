@@ -1,9 +1,9 @@
 //! The end of a turn: its charge, its last line, and what the job is then.
 ghost use Rattle.std.specs.Prelude.{◌≡◌, ◌≤◌, ◌+◌, ◌++◌, min, None, Some, false, length, option_map, true, IfOk, IfSome, OnErr, OnOk};
 ghost use Rattle.g_budget.specs.Tariff.{IsCharge, IsTariff};
-ghost use Rattle.g_job.specs.Begun.{room_of};
+ghost use Rattle.g_job.specs.Beginning.{room_of};
 ghost use Rattle.g_turn.specs.Bounds.{IsWithin};
-ghost use Rattle.g_job.specs.Ends as ends;
+ghost use Rattle.g_job.specs.TurnEnd as ends;
 ghost use Rattle.g_job.specs.Ending.{IsClear, IsWaiting, turn_by, up_text, with_last};
 ghost use Rattle.g_turn.specs.Making.{IsMade};
 ghost use Rattle.g_job.specs.Rules.{IsGoneOnWith};

@@ -1,18 +1,18 @@
 //! A job between its turns.
 ghost use Rattle.std.specs.Prelude.{◌≡◌, ◌≤◌, ◌↔◌, ℕ, List, Ok, false, true, IfOk, OnErr, length};
 ghost use Rattle.g_budget.specs.Tariff.{IsTariff};
-ghost use Rattle.g_job.specs.Begun.{job_begun, room_of, standing_of};
+ghost use Rattle.g_job.specs.Beginning.{job_begun, room_of, standing_of};
 ghost use Rattle.g_turn.specs.Bounds.{IsWithin};
 ghost use Rattle.g_turn.specs.Causes.{CauseOf, last_answer};
-ghost use Rattle.g_job.specs.Ends.{IsTurn};
+ghost use Rattle.g_job.specs.TurnEnd.{IsTurn};
 ghost use Rattle.g_job.specs.Rules.{most_bytes};
-ghost use Rattle.g_job.specs.Spends.{KeepsSeat, Spends, ToldAsBefore};
+ghost use Rattle.g_job.specs.Spending.{KeepsSeat, Spends, ToldAsBefore};
 ghost use Rattle.g_turn.specs.State.{Work};
 ghost use Rattle.g_job.specs.Turns.{turn_work};
 ghost use Rattle.g_lines.specs.Lines.{ended};
 ghost use Rattle.g_monitor.specs.JobLines.{header};
-ghost use Rattle.g_plain.specs.Asks.{Answer, RanInPart};
-ghost use Rattle.g_plain.specs.RanBy.{RanBy};
+ghost use Rattle.g_plain.specs.Programs.{Answer, RanInPart};
+ghost use Rattle.g_plain.specs.Runs.{RanBy};
 ghost use Rattle.g_sched.specs.Rule.{IsInRange};
 
 use crate::new_job::NewJob;

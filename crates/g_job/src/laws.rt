@@ -2,12 +2,12 @@
 ghost use Rattle.std.specs.Prelude.{◌≡◌, ◌≤◌, ℕ, List, length, Option, None, Some, IfSome, is_some, not, true, false, ◌↔◌};
 ghost use Rattle.g_budget.specs.Tariff.{IsCharge};
 ghost use Rattle.g_budget.specs.declared.tariff.Charge.{Charge};
-ghost use Rattle.g_job.specs.Begun.{room_of};
+ghost use Rattle.g_job.specs.Beginning.{room_of};
 ghost use Rattle.g_turn.specs.Bounds.{AlwaysGives, IsWithin};
 ghost use Rattle.g_turn.specs.Causes.{CauseOf, IsHonest, last_answer};
-ghost use Rattle.g_job.specs.Ends.{is_free, turn_end};
+ghost use Rattle.g_job.specs.TurnEnd.{is_free, turn_end};
 ghost use Rattle.g_job.specs.Rules.{IsGoneOnWith, IsJob};
-ghost use Rattle.g_job.specs.Spends.{ComesTo, Spends};
+ghost use Rattle.g_job.specs.Spending.{ComesTo, Spends};
 ghost use Rattle.g_turn.specs.State.{Broken, Waits, Work};
 ghost use Rattle.g_job.specs.State.{JobState};
 ghost use Rattle.g_turn.specs.Steps.{RanWell};
@@ -15,10 +15,10 @@ ghost use Rattle.g_job.specs.Terminal.{LeavesDocument};
 ghost use Rattle.g_job.specs.Turns.{turn_work};
 ghost use Rattle.g_lines.specs.Lines.{lines_of};
 ghost use Rattle.g_mill.specs.Lines.{lines};
-ghost use Rattle.g_plain.specs.Asks.{Answer, Ran};
-ghost use Rattle.g_plain.specs.Plainly.{RanPlainly};
+ghost use Rattle.g_plain.specs.Programs.{Answer, Ran};
+ghost use Rattle.g_plain.specs.PlainAnswers.{RanPlainly};
 ghost use Rattle.g_plain.specs.PlainTree.{Tree};
-ghost use Rattle.g_plain.specs.RanBy.{RanBy};
+ghost use Rattle.g_plain.specs.Runs.{RanBy};
 
 use g_plain::{Filestore, HoldsTree};
 

@@ -3,7 +3,7 @@ ghost use Rattle.std.specs.Prelude.{◌≡◌, ℕ, None, false, IfOk, OnErr, On
 ghost use Rattle.g_job.specs.Making.{Makes};
 ghost use Rattle.g_turn.specs.State.{Work};
 ghost use Rattle.g_job.specs.Turns.{turn_work};
-ghost use Rattle.g_plain.specs.Asks.{RanInPart};
+ghost use Rattle.g_plain.specs.Programs.{RanInPart};
 
 use crate::job::Job;
 use g_base::NoMemory;

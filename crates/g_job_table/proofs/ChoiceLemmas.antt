@@ -11,7 +11,7 @@ use Rattle.g_sched.specs.declared.choice.Candidate.{Candidate}
 use Rattle.g_sched.specs.declared.rule.Standing.{Standing}
 use Rattle.g_sched.specs.Choice.{IsNoLater}
 use Rattle.g_sched.proofs.Least.{IsBestOf, IsChosen-from_least, IsLeast-more}
-use Rattle.g_job.specs.Begun.{standing_of}
+use Rattle.g_job.specs.Beginning.{standing_of}
 use Rattle.g_job.specs.State.{JobState}
 use Rattle.g_store_model.specs.State.{State}
 use Rattle.g_run_model.specs.World.{can_step, has_none}

@@ -5,7 +5,7 @@ use denote.Ref.{Bor}
 use Rattle.g_sched.specs.declared.choice.Candidate.{Candidate}
 use Rattle.g_sched.specs.declared.rule.Standing.{Standing}
 use Rattle.g_sched.specs.Choice.{IsChosen}
-use Rattle.g_job.specs.Begun.{standing_of}
+use Rattle.g_job.specs.Beginning.{standing_of}
 use Rattle.g_job.specs.State.{JobState}
 use Rattle.g_store_model.specs.State.{State, is_mounted}
 use Rattle.g_run_model.specs.World.{can_step, has_none}

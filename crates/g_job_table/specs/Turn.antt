@@ -7,15 +7,15 @@ use Rattle.g_budget.specs.declared.tariff.Charge.{Charge}
 use Rattle.g_turn.specs.Bounds.{IsWithin}
 use Rattle.g_turn.specs.Causes.{CauseOf, last_answer}
 use Rattle.g_turn.specs.State.{Work}
-use Rattle.g_job.specs.Begun.{room_of}
-use Rattle.g_job.specs.Ends.{IsTurn}
-use Rattle.g_job.specs.Spends.{KeepsSeat, Spends, ToldAsBefore}
+use Rattle.g_job.specs.Beginning.{room_of}
+use Rattle.g_job.specs.TurnEnd.{IsTurn}
+use Rattle.g_job.specs.Spending.{KeepsSeat, Spends, ToldAsBefore}
 use Rattle.g_job.specs.State.{JobState}
 use Rattle.g_job.specs.Turns.{turn_work}
 use Rattle.g_job.specs.declared.turn.Turn.{Turn}
 use Rattle.g_job.specs.declared.turn.Turn.TheVariants as turns
-use Rattle.g_plain.specs.Asks.{Answer}
-use Rattle.g_plain.specs.RanBy.{RanBy}
+use Rattle.g_plain.specs.Programs.{Answer}
+use Rattle.g_plain.specs.Runs.{RanBy}
 use Rattle.g_plain.specs.declared.calls.StoreCall.{StoreCall}
 
 -- from where on the file of a job is put behind its turn, if it is at a terminal

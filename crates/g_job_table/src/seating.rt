@@ -1,7 +1,7 @@
 //! What a terminal's LOGIN asks for, and why nobody sits down there, or nothing is typed.
 ghost use Rattle.std.specs.Prelude.{◌≡◌, ◌≤◌, ◌++◌, IfOk, OnOk};
 ghost use Rattle.g_mop.specs.Seats.{busy_text, none_text};
-ghost use Rattle.g_mop.specs.Shown.{terminal_name};
+ghost use Rattle.g_mop.specs.TerminalLines.{terminal_name};
 ghost use Rattle.g_run_model.specs.Lines.{terminal_job};
 
 use crate::taking::NotTaken;

@@ -56,7 +56,7 @@ MONITORING FILE FULL\n",
 ];
 
 /// Puts a line behind a document: words, and so many letters.
-pub fn push_line(document: &mut Text, words: &str, letters: usize) -> Result<(), Fail> {
+pub(crate) fn push_line(document: &mut Text, words: &str, letters: usize) -> Result<(), Fail> {
     document.extend(words.as_bytes())?;
     for _ in 0..letters {
         document.push(b'X')?;

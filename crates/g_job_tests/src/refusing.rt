@@ -6,7 +6,7 @@ use std::test::Fail;
 
 /// How a call is refused.
 #[derive(Clone, Copy)]
-pub enum Refusal {
+pub(crate) enum Refusal {
     /// The call waits for reel 1, where it may have to.
     Wait,
     /// The disc can't be read.
@@ -17,7 +17,7 @@ pub enum Refusal {
 
 /// A plain store whose calls with these numbers are refused; the first is 0.
 #[derive(Drop)]
-pub struct Refusing {
+pub(crate) struct Refusing {
     pub store: PlainStore,
     pub calls: u64,
     pub from: u64,

@@ -2,7 +2,7 @@
 
 /// A job: its number, name and user, its TIME and MONEY, its document, and its
 /// monitoring file at its end.
-pub struct Row {
+pub(crate) struct Row {
     pub number: u64,
     pub name: &'static str,
     pub user: &'static str,
@@ -13,7 +13,7 @@ pub struct Row {
 }
 
 /// A file is put and listed.
-pub static PUT: [Row; 1] = [Row {
+pub(crate) static PUT: [Row; 1] = [Row {
     number: 1,
     name: "ONE",
     user: "MASTER",
@@ -38,7 +38,7 @@ END 3 UNITS\n\
 }];
 
 /// The ninth level is too deep, and a WHENEVER goes on behind that.
-pub static DEEP: [Row; 1] = [Row {
+pub(crate) static DEEP: [Row; 1] = [Row {
     number: 1,
     name: "DEEP",
     user: "MASTER",
@@ -72,7 +72,7 @@ END 12 UNITS\n\
 }];
 
 /// A program displays a text and deletes itself in the next job.
-pub static PROGRAM: [Row; 2] = [
+pub(crate) static PROGRAM: [Row; 2] = [
     Row {
         number: 1,
         name: "P",
@@ -141,7 +141,7 @@ END 4 UNITS\n\
 ];
 
 /// Conditions, macros with their parameters, and errors of commands.
-pub static LANGUAGE: [Row; 1] = [Row {
+pub(crate) static LANGUAGE: [Row; 1] = [Row {
     number: 1,
     name: "L",
     user: "MASTER",
@@ -252,7 +252,7 @@ END 39 UNITS\n\
 }];
 
 /// Units that a program writes to, and what their releases put.
-pub static UNITS: [Row; 1] = [Row {
+pub(crate) static UNITS: [Row; 1] = [Row {
     number: 1,
     name: "U",
     user: "MASTER",
@@ -357,7 +357,7 @@ END 20 UNITS\n\
 }];
 
 /// Users, budgets and traps; and what another user may do.
-pub static USERS: [Row; 2] = [
+pub(crate) static USERS: [Row; 2] = [
     Row {
         number: 1,
         name: "A",
@@ -442,7 +442,7 @@ END 6 UNITS\n\
 ];
 
 /// The last generation of a file: there is none behind it.
-pub static LAST: [Row; 1] = [Row {
+pub(crate) static LAST: [Row; 1] = [Row {
     number: 1,
     name: "A",
     user: "MASTER",
@@ -463,7 +463,7 @@ END 3 UNITS\n",
 }];
 
 /// Who may do what with a file, of three users.
-pub static TRAPS: [Row; 7] = [
+pub(crate) static TRAPS: [Row; 7] = [
     Row {
         number: 1,
         name: "M",
@@ -567,7 +567,7 @@ END 3 UNITS\n",
 
 /// A run past the program's end, behind which a WHENEVER follows; then one that never ends, of which each turn takes two
 /// units, the last one cut to what is left.
-pub static ENDLESS: [Row; 1] = [Row {
+pub(crate) static ENDLESS: [Row; 1] = [Row {
     number: 1,
     name: "P",
     user: "MASTER",
@@ -617,7 +617,7 @@ TIME UP 9 UNITS\n",
 
 /// A program that halts with its 64th order. The WHENEVER behind that is said in the same turn, which has no order left for its
 /// command: the program goes on in the next turn, with one order. Two units for the first turn and one for the second.
-pub static EXACT: [Row; 1] = [Row {
+pub(crate) static EXACT: [Row; 1] = [Row {
     number: 1,
     name: "P",
     user: "MASTER",

@@ -1,6 +1,6 @@
 //! Jobs that are run to their end, over a plain store some of whose calls may be refused.
 ghost use Rattle.std.specs.Prelude.{◌≡◌, IfOk, false};
-ghost use Rattle.g_job.specs.Spends.{Spends};
+ghost use Rattle.g_job.specs.Spending.{Spends};
 
 use crate::refusing::Refusing;
 use g_budget::{Charge, Tariff, Usage};
@@ -12,7 +12,7 @@ use std::test::Fail;
 
 /// A job: its number, its name and its user, and its TIME and MONEY.
 #[derive(Clone, Copy)]
-pub struct Begin<'a> {
+pub(crate) struct Begin<'a> {
     pub number: u64,
     pub name: &'a str,
     pub user: &'a str,
@@ -22,7 +22,7 @@ pub struct Begin<'a> {
 
 /// How a job ended: how often it waited, its last turn, and its monitoring file.
 #[derive(Drop)]
-pub struct Ended {
+pub(crate) struct Ended {
     pub waits: u64,
     pub turn: Turn,
     pub text: Text,
@@ -83,7 +83,7 @@ fn finish(alloc: Global, store: &mut Refusing, job: &mut Job) -> Result<(u64, Tu
 }
 
 /// Runs a job to its end.
-pub fn run(
+pub(crate) fn run(
     alloc: Global,
     store: &mut Refusing,
     begin: &Begin,

@@ -1,6 +1,6 @@
 //! A job at a terminal: when it can go on, and what its turns say of the lines typed so far.
 ghost use Rattle.std.specs.Prelude.{◌≡◌, IfOk, OnOk, false};
-ghost use Rattle.g_job.specs.Spends.{Spends};
+ghost use Rattle.g_job.specs.Spending.{Spends};
 
 use crate::refusing::Refusing;
 use g_budget::{Charge, Tariff, Usage};

@@ -21,17 +21,17 @@ use Rattle.g_incr.specs.declared.note.DumpNote.{DumpNote}
 use Rattle.g_incr.specs.Layout.{Dump, StandsOn, count_of, ends}
 use Rattle.g_incr.specs.Reading.{ReadsReel}
 use Rattle.g_shelf.specs.declared.rack.Listed.{Listed}
-use Rattle.g_shelf.specs.Completed.{AreNext, IsNext, end_behind, end_of, number_behind}
-use Rattle.g_shelf.specs.Found.{AreInRow, note_of}
+use Rattle.g_shelf.specs.CompletedDumps.{AreNext, IsNext, end_behind, end_of, number_behind}
+use Rattle.g_shelf.specs.FoundDumps.{AreInRow, note_of}
 use Rattle.g_shelf.specs.Walk.{IsNextDump}
-use Rattle.g_shelf.specs.Held.{AreHeld}
+use Rattle.g_shelf.specs.HeldBlocks.{AreHeld}
 use Rattle.g_shelf.proofs.HeldLemmas.{held_in_row}
 use Rattle.g_shelf.proofs.QuietLemmas.{carried, within}
 use Rattle.g_shelf.proofs.RackLemmas.{reel_at}
 use Rattle.g_shelf.proofs.ReadLemmas.{len-unread, refuses_after_reads, there}
 use Rattle.g_shelf.proofs.RowLemmas.{end_then, in_row, row_end, row_then}
 use Rattle.g_shelf.proofs.WalkLemmas.{same_note}
-use Rattle.g_known.specs.Known.{AreFirst, AreFound, AreListed, IsKnown, IsListed, IsNoted, IsTakenOut, end_in, number_in, stays}
+use Rattle.g_known.specs.ReelNotes.{AreFirst, AreFound, AreListed, IsKnown, IsListed, IsNoted, IsTakenOut, end_in, number_in, stays}
 
 -- WHERE NOTES END
 pub end_noted : (at : ℕ) (ds : List Dump) → end_in at (map note_of ds) ≡ end_behind at ds

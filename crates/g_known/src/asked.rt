@@ -2,7 +2,7 @@
 ghost use Rattle.std.specs.Prelude.{◌≡◌, ◌⊎◌, All, Err, IfOk, OnErr, true};
 ghost use Rattle.g_base.specs.Counts.{Rose};
 ghost use Rattle.g_tape.specs.Reads.{OnlyReads};
-ghost use Rattle.g_known.specs.Known.{AreListed};
+ghost use Rattle.g_known.specs.ReelNotes.{AreListed};
 
 use crate::known::KnownReels;
 use g_incr::ShelfFault;

@@ -4,9 +4,9 @@ ghost use Rattle.std.specs.Option.{ForSome};
 ghost use Rattle.g_tape.specs.Rack.{reel};
 ghost use Rattle.g_incr.specs.Layout.{Dump};
 ghost use Rattle.g_incr.specs.Reading.{ReadsReel};
-ghost use Rattle.g_shelf.specs.Completed.{end_of};
-ghost use Rattle.g_shelf.specs.Held.{AreHeld};
-ghost use Rattle.g_known.specs.Known.{AreFound, IsKnown, IsNoted};
+ghost use Rattle.g_shelf.specs.CompletedDumps.{end_of};
+ghost use Rattle.g_shelf.specs.HeldBlocks.{AreHeld};
+ghost use Rattle.g_known.specs.ReelNotes.{AreFound, IsKnown, IsNoted};
 
 use crate::lists::{end, forget, forget_from, take_out};
 use crate::reading::read_on;
@@ -31,7 +31,7 @@ pub struct KnownReels<T: Tapes> {
 
 impl<T: Tapes> Model for KnownReels<T> {
     ghost use Rattle.std.specs.Prelude.{All};
-    ghost use Rattle.g_known.specs.Known.{IsKnown};
+    ghost use Rattle.g_known.specs.ReelNotes.{IsKnown};
 
     ghost Value = { T };
 

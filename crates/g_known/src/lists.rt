@@ -1,7 +1,7 @@
 //! The lists of the reels of which something is known.
 ghost use Rattle.std.specs.Prelude.{◌≡◌, ◌+◌, ◌<◌, ◌==◌, IfSome, filter, length, not, slice_index_or};
 ghost use Rattle.g_shelf.specs.declared.rack.Listed.{Listed};
-ghost use Rattle.g_known.specs.Known.{IsTakenOut, end_in, stays};
+ghost use Rattle.g_known.specs.ReelNotes.{IsTakenOut, end_in, stays};
 
 use g_incr::DumpNote;
 use g_shelf::{Listed, Notes};

@@ -4,7 +4,7 @@ ghost use Rattle.std.specs.Option.{ForSome};
 ghost use Rattle.g_tape.specs.Reads.{blocks_of};
 ghost use Rattle.g_incr.specs.Layout.{Dump};
 ghost use Rattle.g_incr.specs.Reading.{ReadsReel};
-ghost use Rattle.g_shelf.specs.Completed.{IsNext};
+ghost use Rattle.g_shelf.specs.CompletedDumps.{IsNext};
 ghost use Rattle.g_shelf.specs.Walk.{IsNextDump};
 
 use g_incr::{DumpDir, ShelfFault, read_dump};

@@ -2,7 +2,7 @@
 ghost use Rattle.std.specs.Prelude.{◌≡◌, ◌≤◌, ◌^◌, IfOk};
 ghost use Rattle.g_tape.specs.Rack.{reel};
 ghost use Rattle.g_incr.specs.Reading.{ReadsReel};
-ghost use Rattle.g_known.specs.Known.{AreFirst, IsKnown, IsNoted, number_in};
+ghost use Rattle.g_known.specs.ReelNotes.{AreFirst, IsKnown, IsNoted, number_in};
 
 use crate::lists::end;
 use crate::next::next_dump;

@@ -4,9 +4,9 @@ use Rattle.std.proofs.lemmas.Bool.{cond_both, false≢true}
 use Rattle.g_lang.proofs.ReadingLemmas.{none_wrong, reading-grammar, reading_is}
 use Rattle.g_lang.proofs.RestLemmas.{only-lines}
 use Rattle.g_lang.proofs.ValueLemmas.{behind-is}
-use Rattle.g_lang.specs.How.{Front, before_comma, behind, behind_comma, behind_word, command_read, cond_read, line_read, option_read, params_read, parts_of, reading, verb_read, wrong_from}
+use Rattle.g_lang.specs.LineReader.{Front, before_comma, behind, behind_comma, behind_word, command_read, cond_read, line_read, option_read, params_read, parts_of, reading, verb_read, wrong_from}
 use Rattle.g_lang.specs.Lines.{IsLineText, IsReading, LineSaid, Said, SaidGoto, SaidIf, SaidWhenever}
-use Rattle.g_lang.specs.Said.{command_said, is_input_of, is_input_said, said_inside}
+use Rattle.g_lang.specs.Meaning.{command_said, is_input_of, is_input_said, said_inside}
 use Rattle.g_lang.specs.Words.{is_label, trimmed, word_of}
 use Rattle.g_lang.specs.declared.line.Command.{Command}
 use Rattle.g_lang.specs.declared.line.Command.TheVariants.{Blank, Goto, If', Verb, Whenever}

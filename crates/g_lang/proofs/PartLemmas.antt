@@ -6,7 +6,7 @@ use Rattle.g_lang.proofs.PlaceLemmas.{takes}
 use Rattle.g_lang.proofs.SpaceLemmas.{StartsWell}
 use Rattle.g_lang.proofs.TakeLemmas.{params_spaces}
 use Rattle.g_lang.proofs.ValueLemmas.{are_parts}
-use Rattle.g_lang.specs.How.{Params, State, depth_behind, in_params, parts_of}
+use Rattle.g_lang.specs.LineReader.{Params, State, depth_behind, in_params, parts_of}
 use Rattle.g_lang.specs.Words.{before_rest, ends_well, is_part, is_printed, is_trimmed, joined, spaces, without_back}
 use Rattle.g_lines.specs.Lines.{onto_first}
 

@@ -6,7 +6,7 @@ use Rattle.std.proofs.lemmas.List.{take_more}
 use Rattle.std.specs.Prelude.{if◌then◌else◌}
 use Rattle.g_lang.proofs.SpaceLemmas.{EndsWell, back-same, ends-append}
 use Rattle.g_lang.proofs.ValueLemmas.{behind-append, behind-is}
-use Rattle.g_lang.specs.How.{before_comma, behind, behind_comma, behind_word, depth_behind, parts_of, without_last}
+use Rattle.g_lang.specs.LineReader.{before_comma, behind, behind_comma, behind_word, depth_behind, parts_of, without_last}
 use Rattle.g_lang.specs.Words.{before_rest, without_back, without_front, word_of}
 use Rattle.g_lines.specs.Lines.{onto_first}
 

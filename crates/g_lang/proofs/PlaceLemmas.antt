@@ -1,11 +1,38 @@
 -- The place where a line goes wrong: from what the reader takes, and from what completes it.
 use Rattle.std.proofs.Common.{Bool, List, None, Option, Some, [], ap, arith, eq-eqb, false, get_or, inl, inr, is_some, length, ne_eqb, refl, subst, suc, sym, take, true, zero, ℕ, ◌++◌, ◌+◌, ◌==◌, ◌∙◌, ◌∷◌, ◌≡◌, ◌≤◌, ◌⊎◌}
 use Rattle.std.proofs.lemmas.Bool.{false≢true}
-use Rattle.std.specs.Prelude.{if◌then◌else◌}
-use Rattle.g_lang.specs.How.{AComma, ALetter, ATest, AText, Front, Next, Params, State, closing, completing, completing_next, fixed, may_end, step, wrong_from}
+use Rattle.std.specs.Prelude.{if◌then◌else◌, codes}
+use Rattle.g_lang.specs.LineReader.{AComma, ALetter, ATest, AText, Front, Next, Params, State, fixed, may_end, step, wrong_from, ALabel, ATestFrom, Back, BeforeComma, Fixed, Gap, InGoto, InLabel, InText, Letter, VerbGap, Word}
 use Rattle.g_name.proofs.BadPlaceLemmas.{wrong_at}
 use Rattle.g_name.specs.BadPlace.{Begins, IsBadPlace}
 use Rattle.g_name.specs.Machine.{run}
+
+-- a text that completes the line from here
+abbrev pub completing_next : Next → List ℕ
+completing_next ATest = codes "FAILED,X"
+completing_next AComma = codes ",X"
+completing_next AText = codes "),X"
+completing_next (ALetter equals) = if equals then codes "A)=(),X" else codes "A),X"
+
+abbrev pub closing : ℕ → List ℕ
+closing zero = []
+closing (suc depth) = 41 ∷ closing depth
+
+abbrev pub completing : State → List ℕ
+completing Front = []
+completing (InLabel n) = []
+completing Gap = []
+completing (Word word inner) = if may_end (Word word inner) then [] else codes "X"
+completing (ATestFrom negated) = codes "FAILED,X"
+completing (Fixed f rest next) = (f ∷ rest) ++ completing_next next
+completing (Letter equals) = completing_next (ALetter equals)
+completing InText = codes "),X"
+completing BeforeComma = codes ",X"
+completing ALabel = codes "1"
+completing (InGoto n) = []
+completing Back = []
+completing VerbGap = []
+completing (Params depth) = closing depth
 
 -- the reader takes all of the text from this state, and a line may end behind it
 abbrev pub takes : State → List ℕ → Bool

@@ -7,7 +7,7 @@ use Rattle.std.specs.Prelude.{if◌then◌else◌}
 use Rattle.g_lang.proofs.SpaceLemmas.{EndsWell, StartsWell, at_space, behind-front, digit-name_char, ends-append, front-same, front-spaces, front_of_spaces, label-no_space, letter-name_char, name_char-no_space, no_space, no_space-ends, spaces-add, spaces-two, starts-append, trim-text, trimmed-ends, trimmed-starts, word-front, word-no_space}
 use Rattle.g_lang.proofs.ValueLemmas.{are_parts, before-part, behind-part, cond-part, cond-read, not_keyword, parts-joined}
 use Rattle.g_lang.specs.Conditions.{IsCond, cond_text}
-use Rattle.g_lang.specs.How.{before_comma, behind, behind_comma, behind_word, command_read, cond_read, line_read, option_read, params_read, parts_of, read_trimmed, verb_read}
+use Rattle.g_lang.specs.LineReader.{before_comma, behind, behind_comma, behind_word, command_read, cond_read, line_read, option_read, params_read, parts_of, read_trimmed, verb_read}
 use Rattle.g_lang.specs.Lines.{AreParts, IsCommandText, IsLine, IsLineText, IsWritten, KeepsCommand, LineSaid, Said, SaidIf, SaidVerb, SaidWhenever, Written, WrittenGoto, WrittenIf, WrittenLine, WrittenVerb, WrittenWhenever, command_text, is_verb, line_text, params_text, said_by, said_in}
 use Rattle.g_lang.specs.Texts.{HasCommands, IsVerbText}
 use Rattle.g_lang.specs.Words.{before_rest, is_label, is_part, joined, label_in, spaces, trimmed, without_back, without_front, word_of}

@@ -1,7 +1,7 @@
 -- A word of a command that ends with a space.
 use Rattle.std.proofs.Common.{Bool, List, [], eq-eqb, false, length, refl, sym, ℕ, ◌==◌, ◌∷◌, ◌≡◌}
 use Rattle.std.proofs.lemmas.Bool.{false≢true}
-use Rattle.g_lang.specs.How.{in_word, state_behind_word}
+use Rattle.g_lang.specs.LineReader.{in_word, state_behind_word}
 use Rattle.g_name.specs.Words.{extends}
 
 pub behind_in_word : (word : List ℕ) (inner : Bool) (c : ℕ) → extends word c ≡ false → (length word == 0) ≡ false → c ≡ 32 → in_word word inner c ≡ state_behind_word word inner

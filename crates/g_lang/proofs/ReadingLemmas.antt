@@ -2,12 +2,12 @@
 use Rattle.std.proofs.Common.{Bool, Err, IfSome, List, None, Ok, Option, Some, [], ap, append-nil, codes, false, option_map, refl, subst, sym, true, ℕ, ⊎_elim, ◌&&◌, ◌+◌, ◌||◌, ◌∙◌, ◌∷◌, ◌≡◌}
 use Rattle.std.proofs.lemmas.Bool.{and_parts, cases_order, cond_both, false≢true, not-false, or_cases}
 use Rattle.std.specs.Prelude.{if◌then◌else◌}
-use Rattle.g_lang.proofs.PlaceLemmas.{closes, fixed_completes, takes, wrong_place}
+use Rattle.g_lang.proofs.PlaceLemmas.{closes, fixed_completes, takes, wrong_place, completing, completing_next}
 use Rattle.g_lang.proofs.ReadLemmas.{keeps-said, line-read}
 use Rattle.g_lang.proofs.RestLemmas.{only-lines}
 use Rattle.g_lang.proofs.TakeLemmas.{line-taken}
 use Rattle.g_lang.proofs.ValueLemmas.{same_text-eq}
-use Rattle.g_lang.specs.How.{ALabel, ALetter, ATestFrom, Back, BeforeComma, Fixed, Front, Gap, InGoto, InLabel, InText, Letter, Params, State, VerbGap, Word, completing, completing_next, line_read, may_end, reading, step, wrong_from}
+use Rattle.g_lang.specs.LineReader.{ALabel, ALetter, ATestFrom, Back, BeforeComma, Fixed, Front, Gap, InGoto, InLabel, InText, Letter, Params, State, VerbGap, Word, line_read, may_end, reading, step, wrong_from}
 use Rattle.g_lang.specs.Lines.{IsLine, IsLineText, IsReading, IsWritten, KeepsCommand, LineSaid, Reading, Said, Written, WrittenLine, command_text, line_text, said_by, said_in}
 use Rattle.g_name.specs.BadPlace.{IsBadPlace}
 use Rattle.g_name.specs.Order.{same_text}

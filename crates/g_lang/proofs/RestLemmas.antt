@@ -10,7 +10,7 @@ use Rattle.g_lang.proofs.SpaceLemmas.{spaces-two}
 use Rattle.g_lang.proofs.TakeLemmas.{goes-on}
 use Rattle.g_lang.proofs.ValueLemmas.{are_parts, same_text-eq}
 use Rattle.g_lang.specs.Conditions.{IsCond, IsTest, cond_text, is_param_letter, is_plain_text, test_text}
-use Rattle.g_lang.specs.How.{AComma, ALabel, ALetter, ATest, ATestFrom, AText, Back, BeforeComma, Fixed, Front, Gap, InGoto, InLabel, InText, Letter, Next, Params, State, VerbGap, Word, fixed, in_params, in_word, may_end, state_behind_word, step}
+use Rattle.g_lang.specs.LineReader.{AComma, ALabel, ALetter, ATest, ATestFrom, AText, Back, BeforeComma, Fixed, Front, Gap, InGoto, InLabel, InText, Letter, Next, Params, State, VerbGap, Word, fixed, in_params, in_word, may_end, state_behind_word, step}
 use Rattle.g_lang.specs.Lines.{IsLineText, IsWritten, Written, WrittenGoto, WrittenIf, WrittenLine, WrittenVerb, WrittenWhenever, command_text, is_input, is_verb, line_text, option_text}
 use Rattle.g_lang.specs.Words.{is_label, is_part, is_printed, joined, spaces}
 use Rattle.g_lang.specs.declared.line.Cond.{Cond}

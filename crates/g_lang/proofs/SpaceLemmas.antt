@@ -2,7 +2,7 @@
 use Rattle.std.proofs.Common.{Bool, List, [], ap, append-nil, arith, false, length, nat_le, ne_eqb, not, refl, suc, sym, true, zero, ℕ, ◌&&◌, ◌++◌, ◌+◌, ◌==◌, ◌∙◌, ◌∷◌, ◌≡◌}
 use Rattle.std.proofs.lemmas.Bool.{and_from, and_parts, false≢true, not-true, not_from_false, or_left, or_right}
 use Rattle.std.specs.List.{list_all}
-use Rattle.g_lang.specs.How.{behind_word}
+use Rattle.g_lang.specs.LineReader.{behind_word}
 use Rattle.g_lang.specs.Words.{ends_well, is_label, is_trimmed, spaces, trimmed, without_back, without_front, word_of}
 use Rattle.g_name.specs.Grammar.{is_digit, is_letter, is_name_char, is_word}
 

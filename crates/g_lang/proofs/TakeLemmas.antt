@@ -9,7 +9,7 @@ use Rattle.g_lang.proofs.ReadLemmas.{LetterFirst, all-parts, command-letter, let
 use Rattle.g_lang.proofs.SpaceLemmas.{StartsWell, digit-name_char, letter-name_char, name_char-no_space, spaces-two, starts-append, trimmed-starts}
 use Rattle.g_lang.proofs.ValueLemmas.{are_parts, part_byte}
 use Rattle.g_lang.specs.Conditions.{IsTest, cond_text, is_param_letter, is_plain_text, test_text}
-use Rattle.g_lang.specs.How.{AComma, ALabel, ATestFrom, AText, Back, BeforeComma, Front, Gap, InGoto, InLabel, InText, Letter, Params, State, VerbGap, Word, depth_behind, fixed, in_params, in_word, may_end, state_behind_word, step}
+use Rattle.g_lang.specs.LineReader.{AComma, ALabel, ATestFrom, AText, Back, BeforeComma, Front, Gap, InGoto, InLabel, InText, Letter, Params, State, VerbGap, Word, depth_behind, fixed, in_params, in_word, may_end, state_behind_word, step}
 use Rattle.g_lang.specs.Lines.{AreParts, IsLine, IsWritten, Written, WrittenGoto, WrittenIf, WrittenLine, WrittenVerb, WrittenWhenever, command_text, is_input, is_verb, line_text, option_text, params_text}
 use Rattle.g_lang.specs.Words.{is_label, is_part, is_printed, joined, spaces}
 use Rattle.g_lang.specs.declared.line.Test.{Test}

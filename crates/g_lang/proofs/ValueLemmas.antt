@@ -5,7 +5,7 @@ use Rattle.std.proofs.lemmas.Slice.Eq.{bytes_eq-Decides}
 use Rattle.std.specs.Prelude.{if◌then◌else◌}
 use Rattle.g_lang.proofs.SpaceLemmas.{at_space, no_space, word-front}
 use Rattle.g_lang.specs.Conditions.{IsTest, is_param_letter, is_plain_text, test_text}
-use Rattle.g_lang.specs.How.{before_comma, behind, behind_comma, cond_read, depth_behind, parts_of, test_read, without_last}
+use Rattle.g_lang.specs.LineReader.{before_comma, behind, behind_comma, cond_read, depth_behind, parts_of, test_read, without_last}
 use Rattle.g_lang.specs.Words.{is_part, is_printed, joined, word_of}
 use Rattle.g_lang.specs.declared.line.Test.{Test}
 use Rattle.g_lang.specs.declared.line.Test.TheVariants.{Absent, CommandError, Deleted, Equals, Failed, Halted, Present}

@@ -5,7 +5,7 @@ use Rattle.std.specs.List.{list_all}
 use Rattle.g_lang.proofs.ReadLemmas.{letter_no_digit}
 use Rattle.g_lang.proofs.SpaceLemmas.{at_space, letter-name_char, name_char-no_space}
 use Rattle.g_lang.proofs.TakeLemmas.{verb_end, verb_state, word_parts}
-use Rattle.g_lang.specs.How.{Front, Params, State, VerbGap, Word, behind_word, in_params, may_end, step, wrong_from}
+use Rattle.g_lang.specs.LineReader.{Front, Params, State, VerbGap, Word, behind_word, in_params, may_end, step, wrong_from}
 use Rattle.g_lang.specs.Lines.{is_verb}
 use Rattle.g_lang.specs.Words.{spaces, without_front, word_of}
 use Rattle.g_name.specs.Grammar.{is_name_char, is_word}

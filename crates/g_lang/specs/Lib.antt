@@ -1,7 +1,7 @@
 pub mod Conditions
-pub mod How
+pub mod LineReader
 pub mod Lines
+pub mod Meaning
 pub mod Places
-pub mod Said
 pub mod Texts
 pub mod Words

@@ -1,7 +1,7 @@
 -- Where the code's reader stands, as a state of the reader of lines.
 use Rattle.std.specs.Prelude.{◌≡◌, ◌≤◌, ℕ, List, Option, Some, None, drop, length}
-use Rattle.g_lang.specs.How as how
-use Rattle.g_lang.specs.How.{State, Next}
+use Rattle.g_lang.specs.LineReader as how
+use Rattle.g_lang.specs.LineReader.{State, Next}
 use Rattle.g_lang.specs.declared.reader.Behind.{Behind}
 use Rattle.g_lang.specs.declared.reader.Behind.TheVariants as behind
 use Rattle.g_lang.specs.declared.reader.Place.{Place}

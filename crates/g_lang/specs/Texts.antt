@@ -1,6 +1,6 @@
 -- Texts that are cut out of a line.
 use Rattle.std.specs.Prelude.{List, [], false, true, ℕ, ◌≡◌, ◌≢◌}
-use Rattle.g_lang.specs.How.{behind_word}
+use Rattle.g_lang.specs.LineReader.{behind_word}
 use Rattle.g_lang.specs.Lines.{IsCommandText}
 use Rattle.g_lang.specs.Words.{is_label, word_of}
 use Rattle.g_name.specs.Grammar.{is_word}

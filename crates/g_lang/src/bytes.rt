@@ -7,14 +7,14 @@ ghost use Rattle.g_lang.specs.Conditions as conditions;
 use g_name::{are_name_chars, is_letter};
 
 /// Whether a byte is one of `0` to `9`.
-pub fn is_digit(byte: u8) -> bool
+pub(crate) fn is_digit(byte: u8) -> bool
     ensures { result ≡ grammar.is_digit byte }
 {
     byte.is_ascii_digit()
 }
 
 /// Whether a byte is one from space to tilde.
-pub fn is_printed(byte: u8) -> bool
+pub(crate) fn is_printed(byte: u8) -> bool
     ensures { result ≡ words.is_printed byte }
 {
     (b' '..=b'~').contains(&byte)
@@ -28,7 +28,7 @@ pub fn is_param_letter(byte: u8) -> bool
 }
 
 /// Whether a text is a word, as the names of verbs are.
-pub fn is_word(text: &[u8]) -> bool
+pub(crate) fn is_word(text: &[u8]) -> bool
     ensures { result ≡ grammar.is_word text.now }
 {
     match text.split_first() {
@@ -40,7 +40,7 @@ pub fn is_word(text: &[u8]) -> bool
 }
 
 /// Whether a text is a label.
-pub fn is_label(text: &[u8]) -> bool
+pub(crate) fn is_label(text: &[u8]) -> bool
     ensures { result ≡ words.is_label text.now }
 {
     match text.split_first() {

@@ -1,7 +1,7 @@
 //! Laws of the language. They do nothing; their clauses say what holds of every text.
 ghost use Rattle.std.specs.Prelude.{◌≡◌, ◌↔◌, true, ℕ, List, Option, None, Some, Ok};
 ghost use Rattle.g_lang.specs.Conditions.{same_cond};
-ghost use Rattle.g_lang.specs.How.{reading};
+ghost use Rattle.g_lang.specs.LineReader.{reading};
 ghost use Rattle.g_lang.specs.Lines.{Written, IsWritten, command_text, said_by, WrittenLine, IsLine, line_text, said_in, Said, KeepsCommand, Reading, IsReading};
 ghost use Rattle.g_lang.specs.Words.{label_in};
 ghost use Rattle.g_lang.specs.declared.line.Cond.{Cond};

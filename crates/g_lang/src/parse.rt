@@ -1,8 +1,8 @@
 //! From the text of a line to what it says.
 ghost use Rattle.std.specs.Prelude.{◌≡◌, ◌≢◌, ◌↔◌, ◌≤◌, ℕ, [], length, None, Some, true, IfOk, IfSome, IsSome};
-ghost use Rattle.g_lang.specs.How as how;
+ghost use Rattle.g_lang.specs.LineReader as how;
 ghost use Rattle.g_lang.specs.Lines.{IsCommandText, KeepsCommand};
-ghost use Rattle.g_lang.specs.Said.{Reads, IsReadAs, command_said, line_said, is_input_said};
+ghost use Rattle.g_lang.specs.Meaning.{Reads, IsReadAs, command_said, line_said, is_input_said};
 ghost use Rattle.g_lang.specs.Texts.{HasCommands, IsVerbText};
 ghost use Rattle.g_lang.specs.Words.{is_label, label_in, word_of};
 

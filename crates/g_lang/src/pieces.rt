@@ -1,10 +1,10 @@
 //! Texts cut at spaces, commas and fixed words; each takes no memory.
 ghost use Rattle.std.specs.Prelude.{◌≡◌, ◌^◌, ◌<◌, ◌≤◌, [], ◌∷◌, length, None, Some, MatchOption};
-ghost use Rattle.g_lang.specs.How as how;
+ghost use Rattle.g_lang.specs.LineReader as how;
 ghost use Rattle.g_lang.specs.Words as words;
 
 /// The text without the spaces in front.
-pub fn without_front(text: &[u8]) -> &[u8]
+pub(crate) fn without_front(text: &[u8]) -> &[u8]
     ensures { result.now ≡ words.without_front text.now }
 {
     let mut rest = text;
@@ -36,7 +36,7 @@ pub fn trimmed(text: &[u8]) -> &[u8]
 }
 
 /// The first word of a text, and what comes behind it and its spaces.
-pub fn split_word(text: &[u8]) -> (&[u8], &[u8])
+pub(crate) fn split_word(text: &[u8]) -> (&[u8], &[u8])
     ensures word { result.0.now ≡ words.word_of text.now }
     ensures behind { result.1.now ≡ how.behind_word text.now }
 {
@@ -49,7 +49,7 @@ pub fn split_word(text: &[u8]) -> (&[u8], &[u8])
 }
 
 /// The text before its first comma outside of brackets, and the text behind, if there is one.
-pub fn split_at_comma(text: &[u8]) -> (&[u8], Option<&[u8]>)
+pub(crate) fn split_at_comma(text: &[u8]) -> (&[u8], Option<&[u8]>)
     ensures before { result.0.now ≡ how.before_comma 0 text.now }
     ensures behind { MatchOption result.1 (how.behind_comma 0 text.now ≡ [])
         (λ rest. (rest.now ≡ how.behind_comma 0 text.now) × (length rest.now < length text.now)) }
@@ -67,7 +67,7 @@ pub fn split_at_comma(text: &[u8]) -> (&[u8], Option<&[u8]>)
 }
 
 /// A condition, and the command behind its comma.
-pub fn split_condition(text: &[u8]) -> (&[u8], &[u8])
+pub(crate) fn split_condition(text: &[u8]) -> (&[u8], &[u8])
     ensures before { result.0.now ≡ how.before_comma 0 text.now }
     ensures behind { result.1.now ≡ how.behind_comma 0 text.now }
     ensures shorter { length result.1.now ≤ length text.now }
@@ -99,7 +99,7 @@ pub fn behind<'a>(front: &[u8], text: &'a [u8]) -> Option<&'a [u8]>
 }
 
 /// The text without its last byte.
-pub fn without_last(text: &[u8]) -> &[u8]
+pub(crate) fn without_last(text: &[u8]) -> &[u8]
     ensures { result.now ≡ how.without_last text.now }
 {
     match text {

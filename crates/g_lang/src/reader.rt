@@ -3,7 +3,7 @@ ghost use Rattle.std.specs.Option.{option_map};
 ghost use Rattle.std.specs.Prelude.{◌≡◌, ◌^◌, ◌<◌, ◌≤◌, ◌+◌, ◌||◌, ◌∷◌, ◌++◌, [], IfSome, List, codes, drop, length, ℕ};
 ghost use Rattle.g_lang.specs.Lines as lines;
 ghost use Rattle.g_name.specs.Order.{same_text};
-ghost use Rattle.g_lang.specs.How as how;
+ghost use Rattle.g_lang.specs.LineReader as how;
 ghost use Rattle.g_lang.specs.Places.{Goes, Steps, state_of, next_of, depth_of, word_start};
 
 use crate::bytes::{is_digit, is_param_letter, is_printed, is_word};
@@ -66,7 +66,7 @@ enum Place {
 
 /// The place where a text goes wrong as a line, if it does: the length of its longest front that begins some line.
 #[tactic(auto, using(crate::proofs::VerbLemmas::verb_line, crate::proofs::VerbLemmas::behind_short))]
-pub fn wrong_place(text: &[u8]) -> Option<usize>
+pub(crate) fn wrong_place(text: &[u8]) -> Option<usize>
     ensures { result ≡ how.wrong_from how.Front 0 text.now }
 {
     // Most lines are a verb and its parameters.

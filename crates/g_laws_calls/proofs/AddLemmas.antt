@@ -27,7 +27,7 @@ use Rattle.g_disc_contents.specs.Facts.{OnlineFacts}
 use Rattle.g_store_model.specs.State as state
 use Rattle.g_store_model.specs.CallStep.{IsUnjam}
 use Rattle.g_store_meaning.specs.Reading.{View, names_of, state_up, users_in}
-use Rattle.g_store_meaning.specs.Up.{DumpFacts}
+use Rattle.g_store_meaning.specs.StoreInvariant.{DumpFacts}
 use Rattle.g_laws_memory.specs.Rooms.{held_in}
 use Rattle.g_laws_memory.proofs.NeedsLemmas.{users_named}
 use Rattle.g_laws_memory.proofs.UserLemmas.{called, named_any, users_go_by_change}

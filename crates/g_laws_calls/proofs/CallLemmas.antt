@@ -28,10 +28,10 @@ use Rattle.g_store_model.specs.State as state
 use Rattle.g_store_model.specs.CallStep.{IsUnjam, after_call, brings, brings_now, changes, is_offline, need, places_after, stamp_of, version_read, writes}
 use Rattle.g_store_meaning.specs.Laws.{with_text, with_version}
 use Rattle.g_store_meaning.specs.Reading.{View, names_of, places_of, state_up, tree_by, users_in}
-use Rattle.g_store_meaning.specs.Up.{DumpFacts}
+use Rattle.g_store_meaning.specs.StoreInvariant.{DumpFacts}
 use Rattle.g_laws_memory.specs.Places.{AreDistinct}
 use Rattle.g_laws_memory.specs.Rooms.{held_in}
-use Rattle.g_laws_memory.specs.Unjam.{IsUnjamPlan}
+use Rattle.g_laws_memory.specs.UnjamPlan.{IsUnjamPlan}
 use Rattle.g_laws_memory.proofs.PlaceLemmas.{places_go_by_change}
 use Rattle.g_laws_memory.proofs.RoomLemmas.{files_apart}
 use Rattle.g_laws_memory.proofs.UnjamLemmas.{numbers_apart, unjam_is}

@@ -28,7 +28,7 @@ use Rattle.g_store_model.specs.CallStep.{after_call, brings_now, changes, commit
 use Rattle.g_store_meaning.specs.Laws.{with_text}
 use Rattle.g_store_meaning.specs.Meaning.{DumpedDirectory}
 use Rattle.g_store_meaning.specs.Reading.{Opened, View, dumped_of, names_of, open_of, open_tree, own_opened, places_of, row_of, state_up, tree_by, users_in, users_not_in, waiting_of}
-use Rattle.g_store_meaning.specs.Up.{DumpFacts}
+use Rattle.g_store_meaning.specs.StoreInvariant.{DumpFacts}
 use Rattle.g_laws_memory.specs.Rooms.{held_in}
 use Rattle.g_laws_memory.proofs.NeedsLemmas.{users_named}
 use Rattle.g_laws_memory.proofs.UserLemmas.{dumped_texts_stay, users_go_by_change}

@@ -28,7 +28,7 @@ use Rattle.g_disc_contents.specs.Facts.{OnlineFacts}
 use Rattle.g_store_model.specs.State as state
 use Rattle.g_store_model.specs.CallStep.{IsUnjam, brings_now, changes, need, places_after, writes}
 use Rattle.g_store_meaning.specs.Reading.{View, names_of, places_of, state_up, tree_by, users_in}
-use Rattle.g_store_meaning.specs.Up.{DumpFacts}
+use Rattle.g_store_meaning.specs.StoreInvariant.{DumpFacts}
 use Rattle.g_laws_store.proofs.RecordLemmas.{pairs_head, pairs_tail}
 use Rattle.g_laws_memory.specs.Rooms.{held_in}
 use Rattle.g_laws_memory.proofs.PlaceLemmas.{places_go_by_change}

@@ -20,9 +20,9 @@ use Rattle.g_disc_contents.specs.Facts.{OnlineFacts}
 use Rattle.g_store_model.specs.CallStep.{IsUnjam, after_call, brings_now, need, version_read, writes}
 use Rattle.g_store_meaning.specs.Laws.{with_text, with_version}
 use Rattle.g_store_meaning.specs.Reading.{View, state_up}
-use Rattle.g_store_meaning.specs.Up.{DumpFacts}
+use Rattle.g_store_meaning.specs.StoreInvariant.{DumpFacts}
 use Rattle.g_laws_memory.specs.Rooms.{ArePins, HasLength, held_in}
-use Rattle.g_laws_memory.specs.Unjam.{IsUnjamPlan}
+use Rattle.g_laws_memory.specs.UnjamPlan.{IsUnjamPlan}
 
 -- what is known of a store where a call comes: its records keep their rules, and versions are pinned just where a dump is open
 pub record IsKnown (o : OnlineFacts) (dump : Option DumpFacts) : Type 0 where

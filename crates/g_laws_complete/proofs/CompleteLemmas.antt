@@ -14,8 +14,8 @@ use Rattle.g_store_model.specs.CallStep.{CallStep, Cut, DiscRead, Outcome, Plain
 use Rattle.g_store_model.specs.Laws.{GrantedIsDone}
 use Rattle.g_store_meaning.specs.Answers.{Answers, Belongs, From, Leads, Raised, Steps, Told}
 use Rattle.g_store_meaning.specs.Reading.{StandsForState}
-use Rattle.g_store_meaning.specs.Up.{StoreFacts}
-use Rattle.g_laws_complete.specs.Complete.{CallsAreComplete, IsAnswered, MayBeDone, NothingFailed}
+use Rattle.g_store_meaning.specs.StoreInvariant.{StoreFacts}
+use Rattle.g_laws_complete.specs.Completeness.{CallsAreComplete, IsAnswered, MayBeDone, NothingFailed}
 
 module _ (complete : GrantedIsDone) (old new : StoreFacts) (who : List ℕ) (call : StoreCall) (none : NothingFailed old new) where
   plainly : (o : Outcome) → Raised o old new → o ≡ Plain

@@ -16,14 +16,14 @@ use Rattle.g_tape.specs.Reel.{Reel}
 use Rattle.g_tree.proofs.ListLemmas.{pairs_first, pairs_rest}
 use Rattle.g_disc_contents.specs.Contents.{File, contents_of, file_of}
 use Rattle.g_incr.specs.Layout.{Dump}
-use Rattle.g_shelf.specs.Completed.{AreShelved, all_dumps}
+use Rattle.g_shelf.specs.CompletedDumps.{AreShelved, all_dumps}
 use Rattle.g_store_model.specs.State.{State}
 use Rattle.g_store_meaning.specs.Answers.{IsStore, Told}
 use Rattle.g_store_meaning.specs.Meaning.{told_reels}
 use Rattle.g_store_meaning.specs.Reading.{AllTold, HasText, StandsForState, View, state_up}
-use Rattle.g_store_meaning.specs.Up.{StoreFacts}
+use Rattle.g_store_meaning.specs.StoreInvariant.{StoreFacts}
 use Rattle.g_store_meaning.proofs.ViewLemmas.{Stands, back}
-use Rattle.g_laws_complete.specs.Untold.{HasBlocks, RealHaveStates, UntoldHaveStates}
+use Rattle.g_laws_complete.specs.UntoldStores.{HasBlocks, RealHaveStates, UntoldHaveStates}
 
 -- A FILE'S BYTES, where they are told, and zeros where they aren't
 abbrev bytes_by : Option (List ℕ) → ℕ → List ℕ

@@ -1,2 +1,2 @@
-pub mod Complete
-pub mod Untold
+pub mod Completeness
+pub mod UntoldStores

@@ -2,8 +2,8 @@
 //! state. Laws alone.
 #![tactic(auto)]
 
-ghost use Rattle.g_laws_complete.specs.Complete.{CallsAreComplete};
-ghost use Rattle.g_laws_complete.specs.Untold.{RealHaveStates, UntoldHaveStates};
+ghost use Rattle.g_laws_complete.specs.Completeness.{CallsAreComplete};
+ghost use Rattle.g_laws_complete.specs.UntoldStores.{RealHaveStates, UntoldHaveStates};
 
 use g_store_model::refusals_are_plain;
 

@@ -16,7 +16,7 @@ use Rattle.g_script.proofs.SaidLemmas.{items_say}
 use Rattle.g_script.specs.Reading.{lines_in}
 use Rattle.g_script.specs.Script.{IsDocumentLine, IsItem, WrittenItem, item_lines, timed_said}
 use Rattle.g_demo.specs.Script.{at_turn, behind_job, behind_rounds, behind_three, closing, drawn, drawn_job, file_name, filled_line, next, opening, round_lines, rounds_lines, script_lines, script_text}
-use Rattle.g_laws_demo.specs.Good.{IsGood}
+use Rattle.g_laws_demo.specs.GoodScript.{IsGood}
 use Rattle.g_laws_demo.proofs.Items.{bare, behind_items, closing_items, document, dump, last_job, migration, opening_items, round_items, round_job, rounds_items, script_items}
 use Rattle.g_script.specs.declared.operator.Operator.TheVariants as operator
 

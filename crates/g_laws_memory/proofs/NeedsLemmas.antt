@@ -32,11 +32,11 @@ use Rattle.g_store_model.specs.State as state
 use Rattle.g_store_model.specs.DumpSteps.{dump_needs, waiting, waiting_blocks}
 use Rattle.g_store_meaning.specs.Meaning.{files_of}
 use Rattle.g_store_meaning.specs.Reading.{holding_of, names_of, users_not_in}
-use Rattle.g_store_meaning.specs.Up.{ArePinned}
+use Rattle.g_store_meaning.specs.StoreInvariant.{ArePinned}
 use Rattle.g_laws_store.proofs.ClosingLemmas.{contains_filter}
 use Rattle.g_laws_store.proofs.PinLemmas.{OtherStamp}
 use Rattle.g_laws_store.proofs.RecordLemmas.{OtherUser, apart_in, gathered_by, pairs_cons, pairs_head, pairs_tail, users_apart}
-use Rattle.g_laws_memory.specs.Opened.{AreOpened, OpeningTakes}
+use Rattle.g_laws_memory.specs.OpeningNeeds.{AreOpened, OpeningTakes}
 use Rattle.g_laws_memory.specs.Users.{IsNamed}
 use Rattle.g_laws_memory.proofs.RoomLemmas.{pins_apart, sum_is}
 use Rattle.g_laws_memory.proofs.UserLemmas.{any_none, any_there, called, is_called, named_any}

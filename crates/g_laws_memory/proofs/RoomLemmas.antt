@@ -25,7 +25,7 @@ use Rattle.g_disc_contents.specs.Contents.{Contents, File, recs_in}
 use Rattle.g_disc_contents.specs.Facts as facts
 use Rattle.g_store_model.specs.State as state
 use Rattle.g_store_meaning.specs.Reading.{View, holding_of, open_of, users_not_in, waiting_of}
-use Rattle.g_store_meaning.specs.Up.{DumpFacts}
+use Rattle.g_store_meaning.specs.StoreInvariant.{DumpFacts}
 use Rattle.g_laws_memory.specs.Places.{AreDistinct}
 use Rattle.g_laws_memory.specs.Rooms.{ArePins, HasLength, RoomIs}
 use Rattle.g_laws_memory.proofs.PlaceLemmas.{place_found}

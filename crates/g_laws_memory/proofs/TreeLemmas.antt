@@ -23,7 +23,7 @@ use Rattle.g_disc_contents.specs.Contents.{copied_rec, recs_in}
 use Rattle.g_incr.specs.Layout.{Dump}
 use Rattle.g_store_meaning.specs.Meaning.{Gathers, files_in, files_of}
 use Rattle.g_store_meaning.specs.Reading.{tree_by}
-use Rattle.g_store_meaning.specs.Up.{IsKept, unnumbered}
+use Rattle.g_store_meaning.specs.StoreInvariant.{IsKept, unnumbered}
 use Rattle.g_store_meaning.proofs.DirectoryLemmas.{copied_files, copied_recs}
 use Rattle.g_laws_store.proofs.ClosingLemmas.{contains_filter}
 use Rattle.g_laws_store.proofs.RecordLemmas.{gathered_all_of, gathered_by, gathered_pairs, numbers_none, users_apart}

@@ -24,10 +24,10 @@ use Rattle.g_disc_contents.specs.Facts.{OnlineFacts, room_of}
 use Rattle.g_store_model.specs.State as state
 use Rattle.g_store_model.specs.CallStep.{IsUnjam, need, room_until as room_by_step}
 use Rattle.g_store_meaning.specs.Reading.{View, place_of, places_of, state_up, users_not_in}
-use Rattle.g_store_meaning.specs.Up.{DumpFacts}
+use Rattle.g_store_meaning.specs.StoreInvariant.{DumpFacts}
 use Rattle.g_laws_memory.specs.Places.{AreDistinct}
 use Rattle.g_laws_memory.specs.Rooms.{held_in}
-use Rattle.g_laws_memory.specs.Unjam.{ArePlanned, IsUnjamPlan, UnjamIs, is_candidate, is_taken, room_until}
+use Rattle.g_laws_memory.specs.UnjamPlan.{ArePlanned, IsUnjamPlan, UnjamIs, is_candidate, is_taken, room_until}
 use Rattle.g_laws_memory.proofs.PlaceLemmas.{get_place, place_found, places_go_by_change}
 use Rattle.g_laws_memory.proofs.RoomLemmas.{files_apart, room_is, sum_is}
 use Rattle.g_laws_memory.proofs.UserLemmas.{any_there}

@@ -28,10 +28,10 @@ use Rattle.g_incr.specs.Plan.{Plan, first_content, waiting as waiting_files, wai
 use Rattle.g_store_model.specs.State as state
 use Rattle.g_store_model.specs.DumpSteps.{waiting, waits}
 use Rattle.g_store_meaning.specs.Reading.{holding_of, waiting_of}
-use Rattle.g_store_meaning.specs.Up.{ArePinned}
+use Rattle.g_store_meaning.specs.StoreInvariant.{ArePinned}
 use Rattle.g_laws_store.proofs.ClosingLemmas.{contains_filter}
 use Rattle.g_laws_store.proofs.RecordLemmas.{from_filter}
-use Rattle.g_laws_memory.specs.Opened.{AreOpened}
+use Rattle.g_laws_memory.specs.OpeningNeeds.{AreOpened}
 use Rattle.g_laws_memory.specs.Rooms.{HasLength}
 use Rattle.g_laws_memory.proofs.PlaceLemmas.{place_found}
 use Rattle.g_laws_memory.proofs.RoomLemmas.{files_apart}

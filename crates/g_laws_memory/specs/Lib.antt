@@ -1,6 +1,6 @@
-pub mod Opened
+pub mod OpeningNeeds
 pub mod Places
 pub mod Rooms
 pub mod Trees
-pub mod Unjam
+pub mod UnjamPlan
 pub mod Users

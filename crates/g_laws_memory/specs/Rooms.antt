@@ -6,7 +6,7 @@ use Rattle.g_disc_contents.specs.Contents.{File, recs_in}
 use Rattle.g_disc_contents.specs.Facts.{OnlineFacts, Pin, room_of}
 use Rattle.g_store_model.specs.State.{Holding, room}
 use Rattle.g_store_meaning.specs.Reading.{View, holding_of, state_up, users_not_in}
-use Rattle.g_store_meaning.specs.Up.{DumpFacts}
+use Rattle.g_store_meaning.specs.StoreInvariant.{DumpFacts}
 
 -- the text of a version is as long as its record says
 abbrev pub HasLength : (ℕ → List ℕ) → File → Type 0

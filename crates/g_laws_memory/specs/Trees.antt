@@ -7,7 +7,7 @@ use Rattle.g_disc_contents.specs.Contents.{Contents, recs_in, with_copies}
 use Rattle.g_incr.specs.Layout.{Dump}
 use Rattle.g_store_meaning.specs.Meaning.{DumpedDirectory, files_in, files_of}
 use Rattle.g_store_meaning.specs.Reading.{tree_by}
-use Rattle.g_store_meaning.specs.Up.{IsKept}
+use Rattle.g_store_meaning.specs.StoreInvariant.{IsKept}
 
 -- no two dumps have one number
 abbrev pub AreNumberedApart : List Dump → Type 0

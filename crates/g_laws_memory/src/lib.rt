@@ -2,11 +2,11 @@
 //! alone.
 #![tactic(auto)]
 
-ghost use Rattle.g_laws_memory.specs.Opened.{OpeningTakes};
+ghost use Rattle.g_laws_memory.specs.OpeningNeeds.{OpeningTakes};
 ghost use Rattle.g_laws_memory.specs.Places.{PlacesGoByChange, TakenHaveCopies};
 ghost use Rattle.g_laws_memory.specs.Rooms.{RoomIs};
 ghost use Rattle.g_laws_memory.specs.Trees.{DumpedTreeIs};
-ghost use Rattle.g_laws_memory.specs.Unjam.{UnjamIs};
+ghost use Rattle.g_laws_memory.specs.UnjamPlan.{UnjamIs};
 ghost use Rattle.g_laws_memory.specs.Users.{DumpedTextsStay, UsersGoByChange};
 
 /// The room that memory counts, over files and pins, is the room of the state.

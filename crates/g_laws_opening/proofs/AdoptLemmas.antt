@@ -23,7 +23,7 @@ use Rattle.g_store_model.specs.State as state
 use Rattle.g_store_model.specs.DumpSteps.{AreNoted, noted_copy, own_copies, own_copy, waiting, waits}
 use Rattle.g_store_model.specs.Rising.{other_copy}
 use Rattle.g_store_meaning.specs.Reading.{Opened, View}
-use Rattle.g_store_meaning.specs.Up.{StoreFacts}
+use Rattle.g_store_meaning.specs.StoreInvariant.{StoreFacts}
 use Rattle.g_laws_store.proofs.ClosingLemmas.{contains_filter}
 use Rattle.g_laws_store.proofs.RecordLemmas.{from_filter}
 use Rattle.g_laws_memory.specs.Rooms.{held_in}
@@ -32,7 +32,7 @@ use Rattle.g_laws_memory.proofs.UnjamLemmas.{any_found}
 use Rattle.g_laws_memory.proofs.UserLemmas.{any_there}
 use Rattle.g_laws_memory.proofs.WaitingLemmas.{find_nothing, find_value, from_mapped, no_copy}
 use Rattle.g_laws_opening.specs.Opening.{IsOpening}
-use Rattle.g_laws_opening.specs.Owns.{IsDumpable, OwnsStand}
+use Rattle.g_laws_opening.specs.Adoption.{IsDumpable, OwnsStand}
 use Rattle.g_laws_opening.proofs.CopyLemmas.{copies_by, find_copy, no_copy_of, same_flat}
 use Rattle.g_laws_opening.proofs.OpenedLemmas.{waits_same}
 use Rattle.g_laws_opening.proofs.OwnLemmas.{chosen_copy}

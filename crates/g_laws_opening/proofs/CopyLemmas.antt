@@ -17,7 +17,7 @@ use Rattle.g_disc_contents.specs.Contents.{copy_of}
 use Rattle.g_disc_contents.specs.Facts.{Pin}
 use Rattle.g_incr.specs.Plan.{blocks_of, numbered_from}
 use Rattle.g_store_model.specs.State.{copy_entry}
-use Rattle.g_store_meaning.specs.Up.{ArePinned}
+use Rattle.g_store_meaning.specs.StoreInvariant.{ArePinned}
 use Rattle.g_laws_store.proofs.PinLemmas.{OtherStamp, pairs}
 use Rattle.g_laws_store.proofs.RecordLemmas.{pairs_head, pairs_tail}
 

@@ -24,13 +24,13 @@ use Rattle.g_disc_contents.specs.Facts as facts
 use Rattle.g_disc_contents.specs.Facts.{Pin, noted}
 use Rattle.g_incr.specs.Layout.{Dump}
 use Rattle.g_incr.specs.Plan.{Plan, blocks_of, dump_of, first_content, waiting as waiting_files, waits as file_waits}
-use Rattle.g_shelf.specs.Completed.{all_dumps}
+use Rattle.g_shelf.specs.CompletedDumps.{all_dumps}
 use Rattle.g_store_model.specs.State as state
 use Rattle.g_store_model.specs.DumpSteps.{AreNoted, dump_needs, waiting, waiting_blocks, waits}
-use Rattle.g_store_meaning.specs.Belong.{KeepsFile}
+use Rattle.g_store_meaning.specs.Belonging.{KeepsFile}
 use Rattle.g_store_meaning.specs.Meaning.{DumpedDirectory, Gathers, files_in, files_of, told_reels}
 use Rattle.g_store_meaning.specs.Reading.{Opened, View, dumped_place, dumped_places, tree_by, users_not_in}
-use Rattle.g_store_meaning.specs.Up.{IsKept, IsReady, StoreFacts, unnumbered}
+use Rattle.g_store_meaning.specs.StoreInvariant.{IsKept, IsReady, StoreFacts, unnumbered}
 use Rattle.g_store_meaning.proofs.DirectoryLemmas.{copied_recs}
 use Rattle.g_laws_store.specs.Dumping.{opened_with}
 use Rattle.g_laws_store.proofs.OpeningLemmas.{opening_stays}
@@ -38,7 +38,7 @@ use Rattle.g_laws_store.proofs.PinLemmas.{IsOtherPin, OtherStamp, copy_apart, pa
 use Rattle.g_laws_store.proofs.RecordLemmas.{gathered_by, gathered_pairs, numbers_none, users_apart}
 use Rattle.g_laws_store.proofs.StateLemmas.{with_there}
 use Rattle.g_laws_store.proofs.UpOneLemmas.{in_with, reel_named}
-use Rattle.g_laws_memory.specs.Opened.{AreOpened}
+use Rattle.g_laws_memory.specs.OpeningNeeds.{AreOpened}
 use Rattle.g_laws_memory.specs.Places.{AreDistinct}
 use Rattle.g_laws_memory.specs.Rooms.{HasLength, held_in}
 use Rattle.g_laws_memory.specs.Trees.{AreNumberedApart}

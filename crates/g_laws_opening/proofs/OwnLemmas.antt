@@ -23,13 +23,13 @@ use Rattle.g_disc_contents.specs.Contents.{Contents, File, copied_rec, copy_of, 
 use Rattle.g_disc_contents.specs.Facts.{Pin}
 use Rattle.g_incr.specs.Layout.{Dump, ends, holds}
 use Rattle.g_incr.specs.Plan.{Plan, dump_of, first_content, needs, noted_files}
-use Rattle.g_shelf.specs.Completed.{end_behind, end_of as end_of_shelf}
+use Rattle.g_shelf.specs.CompletedDumps.{end_behind, end_of as end_of_shelf}
 use Rattle.g_store_model.specs.State as state
 use Rattle.g_store_model.specs.CallStep.{Plain}
 use Rattle.g_store_model.specs.DumpSteps.{Event, dump_needs, open_refuses, opening, own_copies, own_copy, waiting}
 use Rattle.g_store_meaning.specs.Meaning.{files_in, told_reels}
 use Rattle.g_store_meaning.specs.Reading.{Opened, View, dumped_places, names_of, open_tree, own_of, own_opened, row_of, shelved_of, state_up, users_in, users_not_in, waiting_of}
-use Rattle.g_store_meaning.specs.Up.{StoreFacts}
+use Rattle.g_store_meaning.specs.StoreInvariant.{StoreFacts}
 use Rattle.g_laws_store.specs.Dumping.{opened_with}
 use Rattle.g_laws_store.proofs.ClosingLemmas.{contains_filter}
 use Rattle.g_laws_store.proofs.PinLemmas.{noted_copied, pairs}

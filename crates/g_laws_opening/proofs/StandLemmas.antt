@@ -23,7 +23,7 @@ use Rattle.g_store_model.specs.CallStep.{LeftByRefusal, Outcome, after_call, bri
 use Rattle.g_store_model.specs.DumpSteps.{AreNoted, Event, OpenStep, dump_begun, dump_needs, migrate_refuses, noted_copy, open_refuses, opening, waiting, waiting_blocks}
 use Rattle.g_store_model.specs.Rising.{other_copy}
 use Rattle.g_laws_memory.proofs.PlaceLemmas.{get_by}
-use Rattle.g_laws_opening.specs.Owns.{IsDumpable, OwnsStand, OwnsStay, StandIn}
+use Rattle.g_laws_opening.specs.Adoption.{IsDumpable, OwnsStand, OwnsStay, StandIn}
 use Rattle.g_laws_opening.proofs.AdoptLemmas.{dumpable, stands}
 
 not_ok : {A : Type 0} (reply : StoreReply) (fault : StoreFault) → (let one : Result StoreReply StoreFault = Ok reply in one ≡ Err fault) → A

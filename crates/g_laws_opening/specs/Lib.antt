@@ -1,2 +1,2 @@
+pub mod Adoption
 pub mod Opening
-pub mod Owns

@@ -5,10 +5,10 @@ use Rattle.g_store_model.specs.CallStep.{Plain}
 use Rattle.g_store_model.specs.DumpSteps.{AreNoted, OpenStep, dump_needs, open_refuses, opening, own_copies, waiting, waiting_blocks}
 use Rattle.g_disc_contents.specs.Facts.{Pin}
 use Rattle.g_incr.specs.Plan.{Plan, first_content, waiting as waiting_files}
-use Rattle.g_shelf.specs.Completed.{AreShelved}
+use Rattle.g_shelf.specs.CompletedDumps.{AreShelved}
 use Rattle.g_store_meaning.specs.Meaning.{files_in, told_reels}
 use Rattle.g_store_meaning.specs.Reading.{Opened, OpensTo, ReelsTold, View, dumped_places, own_of, state_up}
-use Rattle.g_store_meaning.specs.Up.{ArePinned, IsUp, StoreFacts, content_in}
+use Rattle.g_store_meaning.specs.StoreInvariant.{ArePinned, IsUp, StoreFacts, content_in}
 use Rattle.g_laws_store.specs.Dumping.{AreDumpable, IsPlanOf, PinsText, opened_with}
 use Rattle.g_laws_memory.specs.Rooms.{held_in}
 

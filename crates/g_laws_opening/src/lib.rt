@@ -2,7 +2,7 @@
 #![tactic(auto)]
 
 ghost use Rattle.g_laws_opening.specs.Opening.{OpeningIsStep};
-ghost use Rattle.g_laws_opening.specs.Owns.{OwnsStay};
+ghost use Rattle.g_laws_opening.specs.Adoption.{OwnsStay};
 
 /// Behind an opening the store stands for the state that the step of an opening makes of the one before: its tree, its places, the
 /// copies that its own records name, and the versions that wait.

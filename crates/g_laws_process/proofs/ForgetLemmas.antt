@@ -19,15 +19,15 @@ use Rattle.g_disc_contents.specs.Contents.{Contents, File, recs_in, with_intent}
 use Rattle.g_disc_contents.specs.Facts.{Pin, WaitsByUser}
 use Rattle.g_incr.specs.Layout.{Dump, holds}
 use Rattle.g_incr.specs.Plan.{dump_of}
-use Rattle.g_shelf.specs.Completed.{all_dumps}
-use Rattle.g_store_meaning.specs.Belong.{DiscBelongs, KeepsFile}
+use Rattle.g_shelf.specs.CompletedDumps.{all_dumps}
+use Rattle.g_store_meaning.specs.Belonging.{DiscBelongs, KeepsFile}
 use Rattle.g_store_meaning.specs.Meaning.{IsContent, told_reels}
-use Rattle.g_store_meaning.specs.Up.{DumpFacts, IsReady, IsUp, StoreFacts, content_in, with_dump}
+use Rattle.g_store_meaning.specs.StoreInvariant.{DumpFacts, IsReady, IsUp, StoreFacts, content_in, with_dump}
 use Rattle.g_store_meaning.proofs.OneLemmas.{on_reel}
 use Rattle.g_laws_store.specs.Dumping.{AreDumpable}
 use Rattle.g_laws_store.proofs.RecordLemmas.{pairs_mapped}
 use Rattle.g_laws_store.proofs.UpOneLemmas.{on_all}
-use Rattle.g_laws_process.specs.Forgotten.{ForgettingStaysUp, bare, bare_file, bare_rec, every_user, forgotten}
+use Rattle.g_laws_process.specs.ForgottenCopies.{ForgettingStaysUp, bare, bare_file, bare_rec, every_user, forgotten}
 
 -- every user is among all
 all_held : (us : List UserRec) (u : UserRec) → Contains us u → holds (map (λ (v : UserRec). v.number) us) u.number ≡ true

@@ -16,11 +16,11 @@ use Rattle.g_disc_contents.specs.Facts.{Pin}
 use Rattle.g_incr.specs.Layout.{Dump, holds}
 use Rattle.g_incr.specs.Plan.{dump_of, numbered_from}
 use Rattle.g_incr.proofs.NumberLemmas.{numbered_each}
-use Rattle.g_shelf.specs.Completed.{all_dumps}
+use Rattle.g_shelf.specs.CompletedDumps.{all_dumps}
 use Rattle.g_shelf.proofs.QuietLemmas.{within}
-use Rattle.g_store_meaning.specs.Belong.{DiscBelongs, IsPlaced, KeepsFile, KeepsRecord, RackBelongs}
+use Rattle.g_store_meaning.specs.Belonging.{DiscBelongs, IsPlaced, KeepsFile, KeepsRecord, RackBelongs}
 use Rattle.g_store_meaning.specs.Meaning.{DumpedDirectory, Gathers, HasDirectory, IsContent, files_of, told_reels}
-use Rattle.g_store_meaning.specs.Up.{DumpFacts, IsKept, IsReady, IsUp, KeepsDirectories, StoreFacts, content_in, up_to}
+use Rattle.g_store_meaning.specs.StoreInvariant.{DumpFacts, IsKept, IsReady, IsUp, KeepsDirectories, StoreFacts, content_in, up_to}
 use Rattle.g_store_meaning.proofs.DirectoryLemmas.{all_up_to}
 use Rattle.g_store_meaning.proofs.OneLemmas.{IsApart, on_reel, same_gathered}
 use Rattle.g_laws_store.proofs.RecordLemmas.{gathered_all_of, gathered_by}

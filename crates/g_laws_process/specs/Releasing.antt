@@ -2,10 +2,10 @@
 use Rattle.std.specs.Prelude.{◌≡◌, ℕ, ◌==◌, true, List, [], ◌∷◌, All, Contains, None, if◌then◌else◌}
 use Rattle.g_tape.specs.Reel.{Reel}
 use Rattle.g_incr.specs.Layout.{Dump, holds}
-use Rattle.g_shelf.specs.Completed.{AreCompleted}
-use Rattle.g_store_meaning.specs.Belong.{KeepsFile, KeepsRecord}
+use Rattle.g_shelf.specs.CompletedDumps.{AreCompleted}
+use Rattle.g_store_meaning.specs.Belonging.{KeepsFile, KeepsRecord}
 use Rattle.g_store_meaning.specs.Meaning.{told_reels}
-use Rattle.g_store_meaning.specs.Up.{IsUp, StoreFacts}
+use Rattle.g_store_meaning.specs.StoreInvariant.{IsUp, StoreFacts}
 use Rattle.std.specs.Prelude.{◌≤◌, length}
 
 -- the completed dumps without those of a reel

@@ -1,7 +1,7 @@
 //! What PROCESS keeps: a store that has forgotten its copies, and the release of reels where one dump has all. Laws alone.
 #![tactic(auto)]
 
-ghost use Rattle.g_laws_process.specs.Forgotten.{ForgettingStaysUp};
+ghost use Rattle.g_laws_process.specs.ForgottenCopies.{ForgettingStaysUp};
 ghost use Rattle.g_laws_process.specs.Moving.{MovingGoesOn};
 ghost use Rattle.g_laws_process.specs.Releasing.{OneBlockIsNone, ReleasesStayUp};
 

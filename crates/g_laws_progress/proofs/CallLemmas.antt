@@ -6,7 +6,7 @@ use Rattle.std.specs.Cmp.{unsigned_tied}
 use Rattle.std.specs.Ordering.{nat_cmp}
 use Rattle.std.specs.FinMap.{FinMap, entries, find, get, get-entries}
 use Rattle.g_plain.proofs.StepAnswers.{is_plain, own_fault}
-use Rattle.g_plain.specs.Asks.{Answer, IsAnswer, is_memory}
+use Rattle.g_plain.specs.Programs.{Answer, IsAnswer, is_memory}
 use Rattle.g_plain.specs.PlainStep.{fault_of, first_fault, reply_to}
 use Rattle.g_plain.specs.declared.calls.StoreCall.{StoreCall}
 use Rattle.g_plain.specs.declared.faults.StoreFault.{StoreFault}

@@ -3,7 +3,7 @@ use Rattle.std.proofs.Common.{◌≡◌, ℕ, zero, suc, ◌<◌, ◌==◌, List
 use Rattle.std.specs.Prelude.{◌⊎◌, filter, cond}
 use Rattle.std.specs.Fn.{FnReturnsAt, Shared}
 use denote.Ref.{Bor}
-use Rattle.g_job.specs.Begun.{standing_of}
+use Rattle.g_job.specs.Beginning.{standing_of}
 use Rattle.g_job.specs.State.{JobState}
 use Rattle.g_sched.specs.Choice.{IsChosen, IsNoLater}
 use Rattle.g_sched.specs.declared.rule.Standing.{Standing}

@@ -7,12 +7,12 @@ use denote.Ref.{Bor}
 use Rattle.g_turn.specs.State.{Broken, Done, Full, Stop, Waits, Work}
 use Rattle.g_budget.specs.declared.tariff.Charge.{Charge}
 use Rattle.g_budget.specs.declared.tariff.Usage.{Usage}
-use Rattle.g_job.specs.Begun.{standing_of}
-use Rattle.g_job.specs.Ends.{IsPriced, broken, end_by, waited}
+use Rattle.g_job.specs.Beginning.{standing_of}
+use Rattle.g_job.specs.TurnEnd.{IsPriced, broken, end_by, waited}
 use Rattle.g_job.specs.State.{JobState}
 use Rattle.g_job.specs.declared.turn.Turn.{Turn}
 use Rattle.g_job.specs.declared.turn.Turn.TheVariants as turns
-use Rattle.g_plain.specs.Asks.{Answer, Asks, Call, Gives}
+use Rattle.g_plain.specs.Programs.{Answer, Asks, Call, Gives}
 use Rattle.g_plain.specs.declared.calls.StoreCall.{StoreCall}
 use Rattle.g_plain.specs.declared.faults.StoreFault.{StoreFault}
 use Rattle.g_sched.specs.Choice.{IsChosen}
@@ -25,7 +25,7 @@ use Rattle.g_run_model.specs.Lines.{is_process}
 use Rattle.g_run_model.specs.Moves.{Answered, Begin, Dumped, Move, Over, Step, TakeLine, Ticked, TurnOver}
 use Rattle.g_run_model.specs.World.{Between, Phase, Stepped, Turned, World, able, has_none, is_dumping, is_due, job_of, nothing_steps, start}
 use Rattle.g_laws_runs.specs.Filestores.{HoldsOne}
-use Rattle.g_laws_progress.specs.Goes.{AreAnswered, RunsGoOn}
+use Rattle.g_laws_progress.specs.Progress.{AreAnswered, RunsGoOn}
 use Rattle.g_laws_progress.proofs.CallLemmas.{call_some}
 use Rattle.g_laws_progress.proofs.ChoiceLemmas.{job_chosen, order}
 use Rattle.g_laws_progress.proofs.LineLemmas.{line_some}

@@ -1,7 +1,7 @@
 //! That a run goes on: a law of every run that `g_run_model` defines. No code.
 #![tactic(auto)]
 
-ghost use Rattle.g_laws_progress.specs.Goes.{RunsGoOn};
+ghost use Rattle.g_laws_progress.specs.Progress.{RunsGoOn};
 
 use g_budget::{Charge, Usage};
 use g_sched::Standing;

@@ -10,17 +10,17 @@ use Rattle.g_incr.specs.Layout.{Dump}
 use Rattle.g_plain.specs.PlainStep.{first_fault}
 use Rattle.g_plain.specs.declared.faults.StoreFault.{StoreFault}
 use Rattle.g_plain.specs.declared.faults.StoreFault.TheVariants.{DiscReadFault, RackNotEmpty, Stopped}
-use Rattle.g_shelf.specs.Completed.{AreCompleted, AreNext, AreShelved, all_dumps}
+use Rattle.g_shelf.specs.CompletedDumps.{AreCompleted, AreNext, AreShelved, all_dumps}
 use Rattle.g_store_meaning.specs.Meaning.{DumpedDirectory, told_reels}
 use Rattle.g_store_meaning.specs.Reading.{DevicesStandFor, StandsForState, View, dumped_of, holding_of, open_of, row_of, state_up, users_not_in}
-use Rattle.g_store_meaning.specs.Up.{DumpFacts, StoreFacts}
+use Rattle.g_store_meaning.specs.StoreInvariant.{DumpFacts, StoreFacts}
 use Rattle.g_store_model.specs.CallStep.{Plain}
 use Rattle.g_store_model.specs.DumpSteps.{Event}
 use Rattle.g_store_model.specs.Rising.{FormatStep, coming_up, fault_from}
 use Rattle.g_store_model.specs.State.{Dumped as DumpedTree, Holding, OpenDump, ReelRow, State, first_reel}
 use Rattle.g_tape.specs.Reel.{Reel}
 use Rattle.g_run_model.specs.Devices.{Devices, StandFor}
-use Rattle.g_laws_runs.specs.Anew.{AreEmptied, FormatsAnew, IsFormatted, first_holding, with_new_disc}
+use Rattle.g_laws_runs.specs.BeginningAnew.{AreEmptied, FormatsAnew, IsFormatted, first_holding, with_new_disc}
 use Rattle.g_laws_runs.proofs.FreshLemmas.{IsEmptyReel, no_dumps, nobody, none_next}
 
 -- no dump is completed on a reel without blocks

@@ -27,7 +27,7 @@ use Rattle.g_run_model.specs.World.{World, start}
 use Rattle.g_run_model.proofs.EventToldLemmas.{call_told, migrate_told, open_told}
 use Rattle.g_run_model.proofs.ProcessedLemmas.{marked_only, noted, of_each}
 use Rattle.g_run_model.proofs.TreeLemmas.{dump_store}
-use Rattle.g_laws_runs.specs.Completes.{Completes, DumpsComplete, DumpsGoOn, IsOpenAt}
+use Rattle.g_laws_runs.specs.Completion.{Completes, DumpsComplete, DumpsGoOn, IsOpenAt}
 use Rattle.g_laws_runs.specs.Dumps.{IsSameDump, dump_steps}
 use Rattle.g_laws_runs.proofs.DumpLemmas.{one_dump, open_refused}
 use Rattle.g_laws_runs.proofs.RefusedLemmas.{unstopped}

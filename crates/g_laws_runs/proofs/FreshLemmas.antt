@@ -10,10 +10,10 @@ use Rattle.g_base.specs.Fields.{padded}
 use Rattle.g_entry.specs.HeadFields.{head_fields}
 use Rattle.g_incr.proofs.ListLemmas.{get_drop, get_take}
 use Rattle.g_incr.specs.Layout.{Dump, dump_blocks, size_of}
-use Rattle.g_shelf.specs.Completed.{AreCompleted, IsNext, all_dumps}
+use Rattle.g_shelf.specs.CompletedDumps.{AreCompleted, IsNext, all_dumps}
 use Rattle.g_slots.specs.Layout.{gate_side, slot, start_of}
 use Rattle.g_slots.specs.declared.side.Side.{Side}
-use Rattle.g_store_meaning.specs.Belong.{BelongWith, RackBelongs}
+use Rattle.g_store_meaning.specs.Belonging.{BelongWith, RackBelongs}
 use Rattle.g_store_meaning.specs.Meaning.{told_reels}
 use Rattle.g_store_meaning.specs.Reading.{AllTold, DevicesStandFor, IsView, holding_of}
 use Rattle.g_laws_store.specs.States.{AreContents, HaveStates}
@@ -22,8 +22,8 @@ use Rattle.g_tape.specs.Memory.{IsEmptyRack, Memory}
 use Rattle.g_tape.specs.Reads.{unread}
 use Rattle.g_tape.specs.Reel.{Reel, empty_reel_of}
 use Rattle.g_run_model.specs.Devices.{Devices}
-use Rattle.g_laws_runs.specs.Anew.{EmptiedStand, with_new_disc}
-use Rattle.g_laws_runs.specs.Fresh.{NewDevicesStand, NewState, NotStateless}
+use Rattle.g_laws_runs.specs.BeginningAnew.{EmptiedStand, with_new_disc}
+use Rattle.g_laws_runs.specs.NewDevices.{NewDevicesStand, NewState, NotStateless}
 
 -- THERE IS A STATE, since there would be one of any contents, and one of none
 pub not_stateless : HaveStates → NotStateless

@@ -7,14 +7,14 @@ use Rattle.g_budget.specs.declared.tariff.Charge.{Charge}
 use Rattle.g_budget.specs.declared.tariff.Usage.{Usage}
 use Rattle.g_sched.specs.declared.rule.Standing.{Standing}
 use Rattle.g_store_meaning.specs.Meaning.{told_reels}
-use Rattle.g_store_meaning.specs.One.{DevicesAreOne}
+use Rattle.g_store_meaning.specs.OneState.{DevicesAreOne}
 use Rattle.g_store_model.specs.CallStep.{down, no_longer_kept}
 use Rattle.g_store_model.specs.State.{Holding, State}
 use Rattle.g_run_model.specs.Accounts.{tree_of}
 use Rattle.g_run_model.specs.Laws.{AllOrNothing, tree_behind}
 use Rattle.g_run_model.specs.World.{start}
-use Rattle.g_laws_runs.specs.Fresh.{StatesAreOne}
-use Rattle.g_laws_runs.specs.Later.{LaterRunsKeep, StartIsBehind}
+use Rattle.g_laws_runs.specs.NewDevices.{StatesAreOne}
+use Rattle.g_laws_runs.specs.LaterRuns.{LaterRunsKeep, StartIsBehind}
 use Rattle.g_laws_runs.proofs.RefusedLemmas.{keeping}
 
 -- a store that goes down keeps its tree

@@ -21,7 +21,7 @@ use Rattle.g_run_model.proofs.DeviceDumpLemmas.{devices_dumped}
 use Rattle.g_run_model.proofs.KeptDumpLemmas.{call_keeps, dump_keeps, format_keeps, migrate_keeps, mount_keeps, open_keeps, restore_keeps, start_keeps, unmount_keeps}
 use Rattle.g_run_model.proofs.ProcessedLemmas.{process_keeps}
 use Rattle.g_run_model.proofs.TreeLemmas.{dump_store}
-use Rattle.g_laws_runs.specs.Lost.{NothingIsLost}
+use Rattle.g_laws_runs.specs.NoLoss.{NothingIsLost}
 use Rattle.g_laws_runs.proofs.CompleteLemmas.{kind}
 use Rattle.g_laws_runs.proofs.WalkLemmas.{AreKept, IsQuiet, quiet_kept}
 

@@ -25,7 +25,7 @@ use Rattle.g_run_model.specs.Moves.{Answered, Begin, Dumped, Move, Over, Step, T
 use Rattle.g_run_model.specs.World.{World}
 use Rattle.g_run_model.proofs.EventToldLemmas.{ToldBy, format_told, restore_told}
 use Rattle.g_run_model.proofs.TreeLemmas.{told_up}
-use Rattle.g_laws_runs.specs.Refused.{KeepsTree, RefusedLinesLeave, RunKeeping, StartStillHasTheTree}
+use Rattle.g_laws_runs.specs.RefusedLines.{KeepsTree, RefusedLinesLeave, RunKeeping, StartStillHasTheTree}
 
 -- an answer that is told isn't a stop where no write failed
 pub unstopped : {A : Type 0} (By : Outcome → Result A StoreFault → State → Type 0) (o : Outcome) (r : Result A StoreFault) (new : State) → ToldBy By o r new → o ≢ Cut → r ≢ Err Stopped

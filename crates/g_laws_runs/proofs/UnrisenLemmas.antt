@@ -15,7 +15,7 @@ use Rattle.g_run_model.specs.Moves.{Move, WritesFailed, counted, cuts_in, cuts_o
 use Rattle.g_run_model.specs.Devices.{Devices}
 use Rattle.g_run_model.proofs.CountLemmas.{counted_parts}
 use Rattle.g_run_model.proofs.DeviceDumpLemmas.{devices_dumped}
-use Rattle.g_laws_runs.specs.Unrisen.{NothingRose, UnrisenIsPlain, UnrisenTextIsOne}
+use Rattle.g_laws_runs.specs.FaultlessRuns.{NothingRose, UnrisenIsPlain, UnrisenTextIsOne}
 
 one_at_least : (n before now : ℕ) → before ≤ now → min (before + suc n) (2 ^ 64 - 1) ≤ now → one_more before ≤ now
 one_at_least n before now later by = omega (arith, later, by)

@@ -8,9 +8,9 @@ use Rattle.g_budget.specs.declared.tariff.Usage.{Usage}
 use Rattle.g_sched.specs.declared.rule.Standing.{Standing}
 use Rattle.g_turn.specs.State.{Work}
 use Rattle.g_job.specs.State.{JobState}
-use Rattle.g_plain.specs.Asks.{Answer, Asks, Call}
+use Rattle.g_plain.specs.Programs.{Answer, Asks, Call}
 use Rattle.g_plain.specs.PlainTree.{Tree}
-use Rattle.g_plain.specs.Plainly.{PlainOrDevice}
+use Rattle.g_plain.specs.PlainAnswers.{PlainOrDevice}
 use Rattle.g_plain.specs.declared.calls.StoreCall.{StoreCall}
 use Rattle.g_run_model.specs.Accounts.{tree_of}
 use Rattle.g_run_model.specs.Laws.{tree_behind}

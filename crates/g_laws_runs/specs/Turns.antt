@@ -5,12 +5,12 @@ use denote.Ref.{Bor}
 use Rattle.g_turn.specs.State.{Work}
 use Rattle.g_budget.specs.declared.tariff.Charge.{Charge}
 use Rattle.g_budget.specs.declared.tariff.Usage.{Usage}
-use Rattle.g_job.specs.Ends.{IsPriced, turn_end}
+use Rattle.g_job.specs.TurnEnd.{IsPriced, turn_end}
 use Rattle.g_job.specs.State.{JobState}
 use Rattle.g_job.specs.Turns.{turn_work}
 use Rattle.g_job.specs.declared.turn.Turn.{Turn}
 use Rattle.g_plain.specs.PlainTree.{Tree}
-use Rattle.g_plain.specs.Plainly.{RanPlainly}
+use Rattle.g_plain.specs.PlainAnswers.{RanPlainly}
 use Rattle.g_sched.specs.declared.rule.Standing.{Standing}
 use Rattle.g_script.specs.declared.operator.Timed.{Timed}
 use Rattle.g_store_model.specs.State.{State}

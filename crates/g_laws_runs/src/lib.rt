@@ -2,20 +2,20 @@
 //! completed, and of what lines leave that are refused while the system is down.
 #![tactic(auto)]
 
-ghost use Rattle.g_laws_runs.specs.Anew.{EmptiedStand, FormatsAnew};
-ghost use Rattle.g_laws_runs.specs.Completes.{DumpsComplete, DumpsGoOn};
+ghost use Rattle.g_laws_runs.specs.BeginningAnew.{EmptiedStand, FormatsAnew};
+ghost use Rattle.g_laws_runs.specs.Completion.{DumpsComplete, DumpsGoOn};
 ghost use Rattle.g_laws_runs.specs.Cuts.{TapesCutNoCall};
 ghost use Rattle.g_laws_runs.specs.Dumps.{DumpsStay, DumpsTakeNeeds};
 ghost use Rattle.g_laws_runs.specs.Filestores.{DevicesKeepFilestores, FilestoresStay};
-ghost use Rattle.g_laws_runs.specs.Fresh.{NewDevicesStand, NotStateless, StatesAreOne};
+ghost use Rattle.g_laws_runs.specs.NewDevices.{NewDevicesStand, NotStateless, StatesAreOne};
 ghost use Rattle.g_laws_runs.specs.Fuses.{ArmedBurns, ArmingsGo, NumberIsLast, RacksBurn, UnarmedBurns};
-ghost use Rattle.g_laws_runs.specs.Later.{LaterRunsKeep, StartIsBehind};
-ghost use Rattle.g_laws_runs.specs.Lost.{NothingIsLost};
+ghost use Rattle.g_laws_runs.specs.LaterRuns.{LaterRunsKeep, StartIsBehind};
+ghost use Rattle.g_laws_runs.specs.NoLoss.{NothingIsLost};
 ghost use Rattle.g_laws_runs.specs.OneTree.{RunsOnOneTree};
 ghost use Rattle.g_laws_runs.specs.Reels.{CompletedDumpsStay, ProcessLeavesLists};
-ghost use Rattle.g_laws_runs.specs.Refused.{RefusedLinesLeave, StartStillHasTheTree};
+ghost use Rattle.g_laws_runs.specs.RefusedLines.{RefusedLinesLeave, StartStillHasTheTree};
 ghost use Rattle.g_laws_runs.specs.Turns.{TurnsPrintPlainly};
-ghost use Rattle.g_laws_runs.specs.Unrisen.{UnrisenIsPlain, UnrisenTextIsOne};
+ghost use Rattle.g_laws_runs.specs.FaultlessRuns.{UnrisenIsPlain, UnrisenTextIsOne};
 
 use g_budget::{Charge, Usage};
 use g_laws_store::some_state;

@@ -13,12 +13,12 @@ use Rattle.g_entry.specs.declared.user_rec.UserRec.{UserRec}
 use Rattle.g_disc_contents.specs.Facts.{Pin, noted}
 use Rattle.g_incr.specs.Layout.{Dump, IsDump, holds}
 use Rattle.g_incr.specs.Plan.{dump_of, first_content, noted_files, noted_rec, numbered_from, waiting, waits, with_number}
-use Rattle.g_shelf.specs.Completed.{all_dumps}
-use Rattle.g_store_meaning.specs.Belong.{IsPlaced, KeepsRecord}
+use Rattle.g_shelf.specs.CompletedDumps.{all_dumps}
+use Rattle.g_store_meaning.specs.Belonging.{IsPlaced, KeepsRecord}
 use Rattle.g_laws_store.specs.Dumping.{ClosingStaysUp}
 use Rattle.g_store_meaning.specs.Laws.{HasContent}
 use Rattle.g_store_meaning.specs.Meaning.{Gathers, HasDirectory, IsContent, files_in, files_of, told_reels}
-use Rattle.g_store_meaning.specs.Up.{ArePinned, DumpFacts, IsReady, content_in, with_dump}
+use Rattle.g_store_meaning.specs.StoreInvariant.{ArePinned, DumpFacts, IsReady, content_in, with_dump}
 use Rattle.g_store_meaning.proofs.ChangeLemmas.{closing_belongs}
 use Rattle.g_store_meaning.proofs.DirectoryLemmas.{closing_keeps_directories}
 use Rattle.g_laws_store.proofs.StateLemmas.{with_there}

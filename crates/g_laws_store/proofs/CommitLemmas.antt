@@ -6,7 +6,7 @@ use Rattle.g_slots.specs.Layout.{other}
 use Rattle.g_disc_contents.specs.Commits.{Commits}
 use Rattle.g_disc_contents.specs.Facts.{Layout}
 use Rattle.g_store_meaning.specs.Answers.{WroteCommits}
-use Rattle.g_store_meaning.specs.Up.{StoreFacts}
+use Rattle.g_store_meaning.specs.StoreInvariant.{StoreFacts}
 use Rattle.g_laws_store.specs.Commits.{CommitsAreTold, side_after}
 
 sides : (k n : ℕ) (old new : Layout) → Commits k old new n → new.side ≡ side_after k old.side

@@ -11,12 +11,12 @@ use Rattle.g_disc_contents.specs.Contents.{Contents}
 use Rattle.g_disc_contents.specs.Facts.{OnlineFacts, Pin}
 use Rattle.g_incr.specs.Layout.{Dump}
 use Rattle.g_incr.specs.Plan.{dump_of}
-use Rattle.g_shelf.specs.Completed.{all_dumps}
-use Rattle.g_store_meaning.specs.Belong.{DiscBelongs, IsIntended, IsPlaced, KeepsFile, RackBelongs}
+use Rattle.g_shelf.specs.CompletedDumps.{all_dumps}
+use Rattle.g_store_meaning.specs.Belonging.{DiscBelongs, IsIntended, IsPlaced, KeepsFile, RackBelongs}
 use Rattle.g_laws_store.specs.Dumping.{EventsStayUp, SameReels, WereThere, given_up, without_intent}
 use Rattle.g_store_meaning.specs.Meaning.{told_reels}
 use Rattle.g_store_meaning.specs.Staying.{OnlyGrow, behind}
-use Rattle.g_store_meaning.specs.Up.{DumpFacts, IsReady, IsUp, KeepsDirectories, KeepsOpening, StoreFacts, content_in, with_dump}
+use Rattle.g_store_meaning.specs.StoreInvariant.{DumpFacts, IsReady, IsUp, KeepsDirectories, KeepsOpening, StoreFacts, content_in, with_dump}
 use Rattle.g_store_meaning.proofs.ChangeLemmas.{files_belong, intents_belong}
 use Rattle.g_store_meaning.proofs.DirectoryLemmas.{changes_keep_others}
 use Rattle.g_store_meaning.proofs.StayLemmas.{Carries, both_open, up_after}

@@ -19,13 +19,13 @@ use Rattle.g_incr.specs.Layout.{Dump, IsDump, holds, is_between}
 use Rattle.g_incr.specs.Plan.{IsAway, Plan, content_blocks, dump_of, first_content, noted_files, numbered_from, waiting, with_number}
 use Rattle.g_incr.proofs.PlanLemmas.{plan_gives_dump}
 use Rattle.g_incr.proofs.NumberLemmas.{file_numbered, number_at, numbered_each}
-use Rattle.g_shelf.specs.Completed.{AreShelved, all_dumps, end_of}
-use Rattle.g_store_meaning.specs.Belong.{DiscBelongs, IsIntended, IsPlaced, KeepsFile, KeepsRecord, RackBelongs}
+use Rattle.g_shelf.specs.CompletedDumps.{AreShelved, all_dumps, end_of}
+use Rattle.g_store_meaning.specs.Belonging.{DiscBelongs, IsIntended, IsPlaced, KeepsFile, KeepsRecord, RackBelongs}
 use Rattle.g_laws_store.specs.Dumping.{AreDumpable, IsPlanOf, OpeningStaysUp, PinsText, opened_with}
 use Rattle.g_store_meaning.specs.Laws.{HasContent}
 use Rattle.g_store_meaning.specs.Meaning.{DumpedDirectory, Gathers, HasDirectory, IsContent, files_in, files_of, told_reels}
 use Rattle.g_store_meaning.specs.Reading.{ReelsTold}
-use Rattle.g_store_meaning.specs.Up.{ArePinned, IsKept, IsReady, IsUp, KeepsOpening, StoreFacts, content_in, unnumbered, up_to, with_dump}
+use Rattle.g_store_meaning.specs.StoreInvariant.{ArePinned, IsKept, IsReady, IsUp, KeepsOpening, StoreFacts, content_in, unnumbered, up_to, with_dump}
 use Rattle.g_store_meaning.proofs.ChangeLemmas.{copy_is, intents_belong}
 use Rattle.g_laws_store.proofs.ClosingLemmas.{contains_filter}
 use Rattle.g_store_meaning.proofs.DirectoryLemmas.{all_up_to, copied_files, copied_recs}

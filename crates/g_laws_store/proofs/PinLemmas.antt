@@ -17,7 +17,7 @@ use Rattle.g_incr.specs.Plan.{blocks_of, noted_files, noted_rec, waiting, waits}
 use Rattle.g_laws_store.specs.Dumping.{PinsText}
 use Rattle.g_store_meaning.specs.Laws.{HasContent}
 use Rattle.g_store_meaning.specs.Meaning.{IsContent, joined}
-use Rattle.g_store_meaning.specs.Up.{ArePinned, content_in}
+use Rattle.g_store_meaning.specs.StoreInvariant.{ArePinned, content_in}
 
 abbrev pub pairs : List Pin → List (ℕ × TapeCopy)
 pairs pins = map (λ (p : Pin). (p.stamp, p.copy)) pins

@@ -12,7 +12,7 @@ use Rattle.g_entry.specs.declared.user_rec.UserRec.{UserRec}
 use Rattle.g_entry.specs.Rules.{AreUsers}
 use Rattle.g_incr.specs.Plan.{numbered_from, with_number}
 use Rattle.g_store_meaning.specs.Meaning.{files_of}
-use Rattle.g_store_meaning.specs.Up.{unnumbered}
+use Rattle.g_store_meaning.specs.StoreInvariant.{unnumbered}
 
 -- a filter has nothing of its own
 pub from_filter : {A : Type 0} (p : A → Bool) (xs : List A) (x : A) → Contains (filter p xs) x → Contains xs x

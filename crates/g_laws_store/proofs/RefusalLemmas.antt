@@ -16,7 +16,7 @@ use Rattle.g_plain.proofs.StepAnswers.{is_plain, own_fault}
 use Rattle.g_store_model.specs.State.{Holding, State, is_mounted, place_at}
 use Rattle.g_store_model.specs.CallStep.{CallStep, LeftByRefusal, Outcome, Planned, brings_now, copy_serial, early, is_cut, is_disc_read, is_offline, is_tape_read, late, len_of, need, reel_of, room_until, stamp_of, version_read, wants_bytes, writes}
 use Rattle.g_store_meaning.specs.Answers.{Leads, WantsCopy}
-use Rattle.g_store_meaning.specs.Up.{StoreFacts}
+use Rattle.g_store_meaning.specs.StoreInvariant.{StoreFacts}
 use Rattle.g_laws_store.specs.Refusals.{CallIsGranted, ReadsOffline, RefusalsOfCalls, asks_bytes, only_tells, takes_room}
 
 -- THE CAUSE of a refusal of the step

@@ -12,14 +12,14 @@ use Rattle.g_disc_contents.specs.Contents.{Contents, File, Holds}
 use Rattle.g_disc_contents.specs.Facts.{IsPinOf, OnlineFacts, Pin}
 use Rattle.g_incr.specs.Layout.{Dump}
 use Rattle.g_incr.specs.Plan.{dump_of}
-use Rattle.g_shelf.specs.Completed.{AreShelved, all_dumps}
+use Rattle.g_shelf.specs.CompletedDumps.{AreShelved, all_dumps}
 use Rattle.g_store_model.specs.State.{State}
 use Rattle.g_store_meaning.specs.Answers.{Belongs, IsStore}
-use Rattle.g_store_meaning.specs.Belong.{BelongWith, DiscBelongs, IsPlaced, KeepsFile, KeepsRecord, RackBelongs}
+use Rattle.g_store_meaning.specs.Belonging.{BelongWith, DiscBelongs, IsPlaced, KeepsFile, KeepsRecord, RackBelongs}
 use Rattle.g_store_meaning.specs.Meaning.{DumpedDirectory, files_in, told_reels}
 use Rattle.g_laws_store.specs.States.{AreContents, HaveStates}
 use Rattle.g_store_meaning.specs.Reading.{AllTold, DevicesStandFor, HasText, IsRackView, IsView, OpensTo, Opened, StandsForState, View, state_down, state_up}
-use Rattle.g_store_meaning.specs.Up.{DumpFacts, IsOpen, IsReady, StoreFacts, content_in, with_dump}
+use Rattle.g_store_meaning.specs.StoreInvariant.{DumpFacts, IsOpen, IsReady, StoreFacts, content_in, with_dump}
 use Rattle.g_laws_store.proofs.PinLemmas.{both_told}
 use Rattle.g_laws_store.proofs.UpOneLemmas.{on_all, reel_named}
 use Rattle.g_store_meaning.proofs.ViewLemmas.{Stands, back}

@@ -8,12 +8,12 @@ use Rattle.g_disc_contents.specs.Facts.{IsTied, OnlineFacts, Pin}
 use Rattle.g_disc_contents.proofs.HoldLemmas.{holds_one}
 use Rattle.g_incr.specs.Layout.{Dump}
 use Rattle.g_incr.specs.Plan.{dump_of}
-use Rattle.g_shelf.specs.Completed.{AreShelved, all_dumps}
-use Rattle.g_store_meaning.specs.Belong.{BelongWith, DiscBelongs, RackBelongs}
+use Rattle.g_shelf.specs.CompletedDumps.{AreShelved, all_dumps}
+use Rattle.g_store_meaning.specs.Belonging.{BelongWith, DiscBelongs, RackBelongs}
 use Rattle.g_store_meaning.specs.Laws.{IsQuiet}
 use Rattle.g_store_meaning.specs.Meaning.{told_reels}
 use Rattle.g_store_meaning.specs.Staying.{behind}
-use Rattle.g_store_meaning.specs.Up.{DumpFacts, IsReady, IsUp, StoreFacts, content_in}
+use Rattle.g_store_meaning.specs.StoreInvariant.{DumpFacts, IsReady, IsUp, StoreFacts, content_in}
 use Rattle.g_store_meaning.proofs.ChangeLemmas.{intents_belong}
 use Rattle.g_store_meaning.specs.Answers.{IsStore}
 

@@ -17,15 +17,15 @@ use Rattle.g_disc_contents.specs.Contents.{Contents, Holds, contents_of, recs_in
 use Rattle.g_disc_contents.specs.Facts.{IsTied, OnlineFacts, Pin}
 use Rattle.g_incr.specs.Layout.{Dump, IsDump, ends}
 use Rattle.g_incr.specs.Plan.{dump_of, needs}
-use Rattle.g_shelf.specs.Completed.{AreNext, AreShelved, all_dumps, end_behind, end_of}
+use Rattle.g_shelf.specs.CompletedDumps.{AreNext, AreShelved, all_dumps, end_behind, end_of}
 use Rattle.g_shelf.proofs.QuietLemmas.{end_behind-le}
 use Rattle.g_store_model.specs.State as state
 use Rattle.g_store_meaning.specs.Answers.{Belongs, IsStore, Told}
-use Rattle.g_store_meaning.specs.Belong.{DiscBelongs, IsPlaced}
+use Rattle.g_store_meaning.specs.Belonging.{DiscBelongs, IsPlaced}
 use Rattle.g_store_meaning.specs.Meaning.{DumpedDirectory, told_reels}
 use Rattle.g_laws_store.specs.States.{StoreIsOne}
 use Rattle.g_store_meaning.specs.Reading.{AllTold, HasText, OpensTo, Opened, ReelsTold, View, dumped_of, holding_of, names_of, open_of, open_tree, own_of, own_opened, places_of, row_of, users_in, users_not_in, waiting_of}
-use Rattle.g_store_meaning.specs.Up.{DumpFacts, IsOpen, IsReady, StoreFacts, content_in, with_dump}
+use Rattle.g_store_meaning.specs.StoreInvariant.{DumpFacts, IsOpen, IsReady, StoreFacts, content_in, with_dump}
 use Rattle.g_store_meaning.proofs.DirectoryLemmas.{all_up_to}
 use Rattle.g_store_meaning.proofs.OneLemmas.{Agree, Apart, AreRight, IsApart, KeepsIn, NoneIn, are_right, devices_are_one, is_shelved, on_reel, on_told, over_dumps, reel_told, same_dumps, same_rows, same_tree, shelves_agree, texts_on}
 use Rattle.g_store_meaning.proofs.ViewLemmas.{Stands, to}

@@ -5,7 +5,7 @@ use Rattle.g_slots.specs.Layout.{other}
 use Rattle.g_disc_contents.specs.Commits.{Commits}
 use Rattle.g_disc_contents.specs.Facts.{Layout}
 use Rattle.g_store_meaning.specs.Answers.{WroteCommits}
-use Rattle.g_store_meaning.specs.Up.{StoreFacts}
+use Rattle.g_store_meaning.specs.StoreInvariant.{StoreFacts}
 
 -- the slot that is current behind so many commits
 abbrev pub side_after : ℕ → Side → Side

@@ -11,12 +11,12 @@ use Rattle.g_disc_contents.specs.Contents.{Contents, recs_in, with_intent}
 use Rattle.g_disc_contents.specs.Facts.{Pin, WaitsByUser, noted}
 use Rattle.g_incr.specs.Layout.{Dump, holds}
 use Rattle.g_incr.specs.Plan.{IsPlan, Plan, dump_of, first_content, waiting}
-use Rattle.g_shelf.specs.Completed.{AreShelved, end_of}
+use Rattle.g_shelf.specs.CompletedDumps.{AreShelved, end_of}
 use Rattle.g_store_meaning.specs.Laws.{closed}
 use Rattle.g_store_meaning.specs.Meaning.{files_of, joined, told_reels}
 use Rattle.g_store_meaning.specs.Reading.{ReelsTold}
 use Rattle.g_store_meaning.specs.Staying.{OnlyGrow, behind}
-use Rattle.g_store_meaning.specs.Up.{ArePinned, DumpFacts, IsOpen, IsUp, StoreFacts, content_in, with_dump}
+use Rattle.g_store_meaning.specs.StoreInvariant.{ArePinned, DumpFacts, IsOpen, IsUp, StoreFacts, content_in, with_dump}
 
 -- who isn't among these numbers was a user before
 abbrev pub WereThere : List ℕ → List UserRec → Contents → Type 0

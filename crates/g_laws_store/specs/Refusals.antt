@@ -12,7 +12,7 @@ use Rattle.g_plain.specs.PlainTree.{file_row, input_name}
 use Rattle.g_store_model.specs.State.{Holding, State, is_mounted, place_at}
 use Rattle.g_store_meaning.specs.Answers.{Answers, Belongs, Told}
 use Rattle.g_store_meaning.specs.Reading.{StandsForState}
-use Rattle.g_store_meaning.specs.Up.{StoreFacts}
+use Rattle.g_store_meaning.specs.StoreInvariant.{StoreFacts}
 
 -- the calls that read a file, with its path
 abbrev pub path_read : StoreCall → Option Path

@@ -4,9 +4,9 @@ use Rattle.g_tape.specs.Reel.{Reel}
 use Rattle.g_store_model.specs.State.{State}
 use Rattle.g_disc_contents.specs.Contents.{Contents, Holds}
 use Rattle.g_store_meaning.specs.Answers.{Belongs, IsStore, Told}
-use Rattle.g_store_meaning.specs.Belong.{BelongWith}
+use Rattle.g_store_meaning.specs.Belonging.{BelongWith}
 use Rattle.g_store_meaning.specs.Reading.{DevicesStandFor, StandsForState}
-use Rattle.g_store_meaning.specs.Up.{StoreFacts}
+use Rattle.g_store_meaning.specs.StoreInvariant.{StoreFacts}
 
 -- a store that tells what it holds, and belongs together, stands for one state, whether it is up, an open dump with it, or spent
 abbrev pub StoreIsOne : Type 0

@@ -58,7 +58,7 @@ impl<'a> Lines<'a> {
 }
 
 /// The first line of a text, and what comes behind its byte 10.
-pub fn split_line(text: &[u8]) -> (&[u8], &[u8])
+pub(crate) fn split_line(text: &[u8]) -> (&[u8], &[u8])
     requires { 0 < length text.now }
     ensures { lines_of text.now ≡ result.0.now ∷ lines_of result.1.now }
 {

@@ -13,14 +13,14 @@ use Rattle.g_tape.specs.Reads.{OnlyReads, unread}
 use Rattle.g_tape.specs.Reel.{Reel}
 use Rattle.g_incr.specs.Layout.{Dump}
 use Rattle.g_lines.specs.Lines.{text_of}
-use Rattle.g_shelf.specs.Completed.{AreShelved, all_dumps}
+use Rattle.g_shelf.specs.CompletedDumps.{AreShelved, all_dumps}
 use Rattle.g_store_meaning.specs.Meaning.{told_reels}
 use Rattle.g_store_meaning.specs.Reading.{AllTold, ReelsTold}
 use Rattle.g_restore.specs.declared.dumps.Found.{Found}
 use Rattle.g_look.specs.declared.broken.Broken.{Broken}
 use Rattle.g_look.specs.declared.disc.Standing.{Standing}
 use Rattle.g_look.specs.Rules.{IsVerdict}
-use Rattle.g_look.specs.Seen.{AreSeen, IsSeen}
+use Rattle.g_look.specs.SeenDumps.{AreSeen, IsSeen}
 use Rattle.g_look.specs.Standing.{IsStanding, directory_in, found_in}
 use Rattle.g_look.specs.Text.{IsChecked, IsFoundOn, disc_lines, rack_lines, verdict_line}
 use Rattle.g_look.proofs.HeadLemmas.{told_blocks}

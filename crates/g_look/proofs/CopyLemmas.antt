@@ -12,14 +12,14 @@ use Rattle.g_tape.specs.Rack.{AreReels, Rack, reel, refuses_unmount, told_of}
 use Rattle.g_tape.specs.Reads.{blocks_of, unread}
 use Rattle.g_tape.specs.Reel.{Reel}
 use Rattle.g_incr.specs.Layout.{Dump}
-use Rattle.g_shelf.specs.Completed.{AreCompleted, all_dumps}
+use Rattle.g_shelf.specs.CompletedDumps.{AreCompleted, all_dumps}
 use Rattle.g_store_meaning.specs.Meaning.{IsContent, told_reels}
 use Rattle.g_store_meaning.proofs.OneLemmas.{is_shelved, on_reel}
 use Rattle.g_laws_store.proofs.UpOneLemmas.{on_all}
 use Rattle.g_look.specs.declared.fault.LookFault.{LookFault}
 use Rattle.g_look.specs.Copies.{AreBytesAt, IsHeldAt, IsHeldBy, IsHeldNowhere}
 use Rattle.g_look.specs.Looks.{AreMounted, OfDumps}
-use Rattle.g_look.specs.Shows.{IsNowhere}
+use Rattle.g_look.specs.ShownBytes.{IsNowhere}
 use Rattle.g_look.specs.Texts.{IsDiscText}
 use Rattle.g_look.proofs.CompareLemmas.{not_unmounted}
 use Rattle.g_look.proofs.HeadLemmas.{blocks_there, is_reel, no_reel, told_blocks, isnt_there}

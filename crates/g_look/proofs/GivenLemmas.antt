@@ -6,18 +6,18 @@ use Rattle.g_plain.specs.declared.faults.StoreFault.{StoreFault}
 use Rattle.g_tape.specs.Reel.{Reel}
 use Rattle.g_incr.specs.Layout.{Dump}
 use Rattle.g_lines.specs.Lines.{text_of}
-use Rattle.g_shelf.specs.Completed.{AreShelved, all_dumps}
+use Rattle.g_shelf.specs.CompletedDumps.{AreShelved, all_dumps}
 use Rattle.g_store_meaning.specs.Meaning.{files_in}
 use Rattle.g_store_meaning.specs.Reading.{ReelsTold}
 use Rattle.g_restore.specs.declared.directory.Dumped.{Dumped}
 use Rattle.g_restore.specs.declared.dumps.Found.{Found}
-use Rattle.g_restore.specs.Known.{AreKnown, Known, known, known_of}
-use Rattle.g_restore.specs.Lost.{AreApart}
+use Rattle.g_restore.specs.KnownDumps.{AreKnown, Known, known, known_of}
+use Rattle.g_restore.specs.Losses.{AreApart}
 use Rattle.g_restore.specs.Steps.{IsFolded}
 use Rattle.g_look.specs.declared.fault.LookFault.{LookFault}
 use Rattle.g_look.specs.declared.restoring.Given.{Given}
 use Rattle.g_look.specs.Lists.{IsRefusal, IsRestorable, dumped_lines, refused_text}
-use Rattle.g_look.specs.Seen.{AreSeen}
+use Rattle.g_look.specs.SeenDumps.{AreSeen}
 
 -- where nothing was found there is no dump
 pub none_known : (found : List Found) (dumps : List Dump) → found ≡ [] → AreKnown found dumps → dumps ≡ []

@@ -15,20 +15,20 @@ use Rattle.g_tape.specs.Reel.{Reel}
 use Rattle.g_tree.proofs.ListLemmas.{contains_cases, contains_first, contains_more, pairs_first, pairs_rest}
 use Rattle.g_disc_contents.specs.Contents.{Contents}
 use Rattle.g_incr.specs.Layout.{Dump, StandsOn, count_of, ends}
-use Rattle.g_shelf.specs.Completed.{AreNext, all_dumps, end_behind, end_of}
+use Rattle.g_shelf.specs.CompletedDumps.{AreNext, all_dumps, end_behind, end_of}
 use Rattle.g_shelf.proofs.QuietLemmas.{within}
-use Rattle.g_store_meaning.specs.Belong.{IsIntended, IsPlaced}
+use Rattle.g_store_meaning.specs.Belonging.{IsIntended, IsPlaced}
 use Rattle.g_store_meaning.specs.Meaning.{told_reels}
 use Rattle.g_store_meaning.proofs.OneLemmas.{is_shelved, on_reel}
 use Rattle.g_restore.specs.declared.dumps.Found.{Found}
-use Rattle.g_restore.specs.Known.{Known, known, known_of}
+use Rattle.g_restore.specs.KnownDumps.{Known, known, known_of}
 use Rattle.g_look.specs.declared.broken.Broken.{Broken}
 use Rattle.g_look.specs.declared.broken.Broken.TheVariants.{Twice, Falls, LostDirectory, LostCopy, TooNew, LastMissing, TooFar, NoReel, Misplaced, NoCopy, Lengths, Bytes}
 use Rattle.g_look.specs.declared.broken.DumpAt.{DumpAt}
 use Rattle.g_look.specs.Heads.{EndsLow, HasNumber, HeadFits, IsFirstOfHead, IsIntentBroken, IsIntentPlaced, IsKnown, IsNamed, IsOff, IsTooFar, IsTooNew, end_upto, end_with}
 use Rattle.g_look.specs.Judging.{IsFirstOfDisc}
 use Rattle.g_look.specs.Rules.{BreaksDisc, rule_of}
-use Rattle.g_look.specs.Seen.{IsSeen, IsShort, OtherSerial}
+use Rattle.g_look.specs.SeenDumps.{IsSeen, IsShort, OtherSerial}
 use Rattle.g_look.proofs.RackLemmas.{dump_of, found_of, is_at}
 
 -- THE DUMPS OF ONE SERIAL among all

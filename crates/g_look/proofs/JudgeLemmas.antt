@@ -10,7 +10,7 @@ use Rattle.g_dirs.specs.Directory.{Directory}
 use Rattle.g_dirs.specs.Image.{StandsFor}
 use Rattle.g_disc_contents.specs.Contents.{Contents, Holds, contents_of}
 use Rattle.g_incr.specs.Layout.{Dump}
-use Rattle.g_shelf.specs.Completed.{AreShelved, all_dumps}
+use Rattle.g_shelf.specs.CompletedDumps.{AreShelved, all_dumps}
 use Rattle.g_store_meaning.specs.Reading.{AllTold}
 use Rattle.g_restore.specs.declared.dumps.Found.{Found}
 use Rattle.g_restore.specs.Places.{IsHeld}
@@ -20,7 +20,7 @@ use Rattle.g_look.specs.Heads.{HeadFits}
 use Rattle.g_look.specs.Judging.{IsDiscJudged, IsFirstOfDisc}
 use Rattle.g_look.specs.Recs.{HasSameLengths}
 use Rattle.g_look.specs.Rules.{Breaks, BreaksDisc, BreaksOn, BreaksRack, DiscFits, IsVerdict, rule_of}
-use Rattle.g_look.specs.Seen.{AreSeen, IsFirstOfRack, IsJudged, IsRackPassed, IsSeen, WhereSeen}
+use Rattle.g_look.specs.SeenDumps.{AreSeen, IsFirstOfRack, IsJudged, IsRackPassed, IsSeen, WhereSeen}
 use Rattle.g_look.specs.declared.disc.Standing.{Standing}
 use Rattle.g_look.specs.declared.fault.LookFault.{LookFault}
 use Rattle.g_look.specs.declared.rack.Judged.{Judged}

@@ -9,7 +9,7 @@ use Rattle.g_incr.specs.Plan.{numbered_from}
 use Rattle.g_incr.proofs.NumberLemmas.{numbered-append}
 use Rattle.g_store_meaning.specs.Meaning.{Gathers}
 use Rattle.g_store_meaning.proofs.GatheredLemmas.{all_front, files_front, gathers_front}
-use Rattle.g_restore.specs.Lost.{AreApart, GoTogether, IsFirstLost, IsLostDirectory}
+use Rattle.g_restore.specs.Losses.{AreApart, GoTogether, IsFirstLost, IsLostDirectory}
 
 -- where all directories go together, those of the first users do
 go_front : (dumps : List Dump) (last : Dump) (users : List UserRec) → GoTogether dumps last users → (k : ℕ) → GoTogether dumps last (take k users)

@@ -18,11 +18,11 @@ use Rattle.g_dirs.specs.Image.{StandsFor}
 use Rattle.g_disc_contents.specs.Contents.{Contents, File, Holds, contents_of, recs_in}
 use Rattle.g_disc_contents.proofs.HoldLemmas.{holds_one}
 use Rattle.g_incr.specs.Layout.{Dump}
-use Rattle.g_shelf.specs.Completed.{AreShelved, all_dumps}
+use Rattle.g_shelf.specs.CompletedDumps.{AreShelved, all_dumps}
 use Rattle.g_store_meaning.specs.Meaning.{DumpedDirectory, files_in, told_reels}
 use Rattle.g_store_meaning.specs.Reading.{AllTold}
 use Rattle.g_restore.specs.declared.dumps.Found.{Found}
-use Rattle.g_restore.specs.Lost.{HasPlace}
+use Rattle.g_restore.specs.Losses.{HasPlace}
 use Rattle.g_look.specs.declared.broken.Broken.{Broken}
 use Rattle.g_look.specs.declared.disc.Standing.{Standing}
 use Rattle.g_look.specs.declared.fault.LookFault.{LookFault}
@@ -31,7 +31,7 @@ use Rattle.g_look.specs.declared.rack.Judged.TheVariants.{Fits}
 use Rattle.g_look.specs.Judging.{IsDiscJudged}
 use Rattle.g_look.specs.Reads.{AreNamedRead, AreRead, IsReadAt, WasRead}
 use Rattle.g_look.specs.Rules.{DiscFits, FileFits}
-use Rattle.g_look.specs.Seen.{AreSeen, IsJudged, IsRackPassed, WhereSeen}
+use Rattle.g_look.specs.SeenDumps.{AreSeen, IsJudged, IsRackPassed, WhereSeen}
 use Rattle.g_look.specs.Standing.{IsStanding, directory_in, found_in}
 use Rattle.g_look.specs.Text.{IsFoundOn}
 use Rattle.g_look.proofs.DiscLemmas.{file_by, file_there, rec_of_file, rec_there}

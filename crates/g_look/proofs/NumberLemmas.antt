@@ -19,7 +19,7 @@ use Rattle.g_name.proofs.Order.{full_total}
 use Rattle.g_plain.proofs.TextMaps.{full_exact, text_exact, text_total}
 use Rattle.g_plain.proofs.TreeLemmas.{all_map, entries_found}
 use Rattle.g_tree.specs.Answers.{listed}
-use Rattle.g_tree.specs.Asked.{zeros}
+use Rattle.g_tree.specs.AskedRecords.{zeros}
 use Rattle.g_tree.specs.Records.{ForTree, IsRecords, by_name, by_number, file_row_of, full_of, name_of, number_of, tree_of, users_by_name}
 use Rattle.g_tree.proofs.ListLemmas.{filter_of_map, kept_same_on, map_of_map}
 use Rattle.g_tree.proofs.MapLemmas.{found_itself, found_one, keyed, with_value}
@@ -30,7 +30,7 @@ use Rattle.g_dirs.specs.Directory.{Directory, FileEntry, copy_at, directory_of}
 use Rattle.g_dirs.specs.Image.{StandsFor}
 use Rattle.g_lines.specs.Lines.{ended, text_of}
 use Rattle.g_look.specs.declared.fault.LookFault.{LookFault}
-use Rattle.g_look.specs.Listed.{disc_file_line, dumped_file_line}
+use Rattle.g_look.specs.FileLines.{disc_file_line, dumped_file_line}
 use Rattle.g_look.specs.Lists.{HasUser, IsListed, dumped_lines, file_lines, files_named, list_lines, user_lines}
 use Rattle.g_look.specs.Numbers.{all_numbers, asked_numbers, disc_line, dumped_line, line_if, lines_at, lines_dumped, lines_listed, numbers_named}
 use Rattle.g_look.specs.Text.{told}

@@ -7,19 +7,19 @@ use Rattle.g_tape.specs.Reel.{Reel}
 use Rattle.g_plain.specs.declared.faults.StoreFault.{StoreFault}
 use Rattle.g_plain.specs.declared.faults.StoreFault.TheVariants as store
 use Rattle.g_incr.specs.Layout.{Dump, ends}
-use Rattle.g_shelf.specs.Completed.{all_dumps}
+use Rattle.g_shelf.specs.CompletedDumps.{all_dumps}
 use Rattle.g_store_meaning.proofs.OneLemmas.{Apart, are_right}
 use Rattle.g_restore.specs.declared.directory.Dumped.{Dumped}
 use Rattle.g_restore.specs.declared.dumps.Found.{Found}
-use Rattle.g_restore.specs.Known.{AreKnown, Known, known, known_of}
-use Rattle.g_restore.specs.Lost.{AreApart, HasPlace, IsFirstLost, IsLostDirectory, NamesLost}
+use Rattle.g_restore.specs.KnownDumps.{AreKnown, Known, known, known_of}
+use Rattle.g_restore.specs.Losses.{AreApart, HasPlace, IsFirstLost, IsLostDirectory, NamesLost}
 use Rattle.g_restore.specs.Steps.{IsFolded}
 use Rattle.g_restore.proofs.KnownLemmas.{known_at, no_dumps, place_of}
 use Rattle.g_look.specs.declared.broken.Broken.{Broken}
 use Rattle.g_look.specs.declared.broken.Broken.TheVariants.{Twice, Falls, LostDirectory, LostCopy}
 use Rattle.g_look.specs.declared.broken.DumpAt.{DumpAt}
 use Rattle.g_look.specs.Rules.{BreaksRack, IsDumpAt, at_of, rule_of}
-use Rattle.g_look.specs.Seen.{HasNoLower, HasNoTwin, IsFalling, IsFirstOfRack, IsRackPassed, IsSeen, IsTwice, at_found}
+use Rattle.g_look.specs.SeenDumps.{HasNoLower, HasNoTwin, IsFalling, IsFirstOfRack, IsRackPassed, IsSeen, IsTwice, at_found}
 use Rattle.g_look.proofs.FitLemmas.{same_files}
 use Rattle.g_look.proofs.LostLemmas.{not_both}
 

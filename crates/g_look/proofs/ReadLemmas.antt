@@ -16,23 +16,33 @@ use Rattle.g_tape.specs.Reads.{HasRead, OnlyReads, unread}
 use Rattle.g_tape.specs.Reel.{IsReel, Reel}
 use Rattle.g_tape.proofs.ReadLemmas.{read_then, then_read}
 use Rattle.g_incr.specs.Layout.{Dump, content_at, ends}
-use Rattle.g_shelf.specs.Completed.{AreShelved, all_dumps}
+use Rattle.g_shelf.specs.CompletedDumps.{AreShelved, all_dumps}
 use Rattle.g_shelf.proofs.QuietLemmas.{within}
 use Rattle.g_store_meaning.specs.Meaning.{IsContent, told_reels}
 use Rattle.g_store_meaning.specs.Reading.{ReelsTold}
 use Rattle.g_store_meaning.proofs.OneLemmas.{is_shelved, on_reel}
 use Rattle.g_laws_memory.proofs.UnjamLemmas.{any_found}
-use Rattle.g_restore.specs.Lost.{HasPlace}
+use Rattle.g_restore.specs.Losses.{HasPlace}
 use Rattle.g_look.specs.declared.fault.LookFault.{LookFault}
-use Rattle.g_look.specs.Compared.{ComparedSoFar}
 use Rattle.g_look.specs.Looks.{ReadsRackByCause}
-use Rattle.g_look.specs.Reads.{AreRead, HasBlock, IsFileRead, IsOtherRead, IsReadAt, IsReadFrom, OthersUpto, AreReadUpto, WasRead}
+use Rattle.g_look.specs.Reads.{AreRead, HasBlock, IsFileRead, IsOtherRead, IsReadAt, IsReadFrom, WasRead}
 use Rattle.g_look.specs.Texts.{FileAgrees, IsDumpedPlace, IsSecond}
 use Rattle.g_look.proofs.DiscLemmas.{contained_map}
 use Rattle.g_look.proofs.HeadLemmas.{no_reel, number_there, stands_in, told_blocks, isnt_there}
 use Rattle.g_look.proofs.LoopLemmas.{one_further}
 use Rattle.g_look.proofs.RecLemmas.{one_of_stamp}
 use Rattle.g_look.proofs.SeenLemmas.{told_apart}
+
+abbrev pub AreReadUpto : Rack → Rack → List FileRec → List FileRec → ℕ → Type 0
+AreReadUpto old new dumped files i = (k : ℕ) (d : FileRec) → k < i → IsFileRead old new dumped (get_or files k d)
+
+abbrev pub OthersUpto : Rack → Rack → List FileRec → List FileRec → ℕ → Type 0
+OthersUpto old new files dumped i = (k : ℕ) (d : FileRec) → k < i → IsOtherRead old new files (get_or dumped k d)
+
+pub record ComparedSoFar (disc now : DiscState) (old new : Rack) (online : List (ℕ × DiscCopy)) (dumped files : List FileRec) (i : ℕ) : Type 0 where
+  pub disc_reads : ReadsByCause ⊥ disc now
+  pub tape_reads : ReadsRackByCause ⊥ old new
+  pub agree : (k : ℕ) (d : FileRec) → k < i → FileAgrees disc.held (told_reels old) online dumped (get_or files k d)
 
 -- MORE READS, behind and before
 pub read_at_then : (old mid new : Rack) (place : Option TapeCopy) (len : ℕ) → IsReadAt old mid place len → OnlyReads mid new → IsReadAt old new place len

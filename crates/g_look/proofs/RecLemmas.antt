@@ -17,10 +17,10 @@ use Rattle.g_tree.specs.Records.{full_of}
 use Rattle.g_tree.proofs.RuleLemmas.{one_of_key}
 use Rattle.g_disc_contents.specs.Contents.{Contents, File, contents_of, file_of}
 use Rattle.g_incr.specs.Layout.{Dump}
-use Rattle.g_shelf.specs.Completed.{all_dumps}
+use Rattle.g_shelf.specs.CompletedDumps.{all_dumps}
 use Rattle.g_store_meaning.specs.Meaning.{IsContent, files_in}
 use Rattle.g_restore.specs.declared.dumps.Found.{Found}
-use Rattle.g_restore.specs.Lost.{HasPlace}
+use Rattle.g_restore.specs.Losses.{HasPlace}
 use Rattle.g_restore.specs.Places.{IsHeld}
 use Rattle.g_restore.proofs.PlaceLemmas.{place_held, place_lost}
 use Rattle.g_look.specs.declared.broken.Broken.{Broken}
@@ -31,7 +31,7 @@ use Rattle.g_look.specs.Heads.{HeadFits}
 use Rattle.g_look.specs.Judging.{IsFirstOfDisc}
 use Rattle.g_look.specs.Recs.{HasSameLengths, IsCopyGone, IsLengthOther}
 use Rattle.g_look.specs.Rules.{BreaksDisc, DiscFits, FileFits, IsDumpedOf, IsFileOf, IsNamedFor, LiesAt, rule_of}
-use Rattle.g_look.specs.Seen.{IsRackPassed, IsSeen}
+use Rattle.g_look.specs.SeenDumps.{IsRackPassed, IsSeen}
 use Rattle.g_look.specs.Standing.{directory_in}
 use Rattle.g_look.specs.Texts.{AgreeAt, AreBytesOther, AreCompared, FileAgrees, IsDumpedPlace, IsSecond, IsTapeText, WasReadAt}
 use Rattle.g_look.proofs.DiscLemmas.{file_by, file_there, rec_of_file, rec_there}

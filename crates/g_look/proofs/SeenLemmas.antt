@@ -10,7 +10,7 @@ use Rattle.g_tape.specs.Rack.{AreReels, Rack}
 use Rattle.g_tape.specs.Reads.{unread}
 use Rattle.g_tape.specs.Reel.{IsReel, Reel}
 use Rattle.g_incr.specs.Layout.{Dump}
-use Rattle.g_shelf.specs.Completed.{AreShelved, all_dumps}
+use Rattle.g_shelf.specs.CompletedDumps.{AreShelved, all_dumps}
 use Rattle.g_shelf.proofs.RackLemmas.{serials_kept}
 use Rattle.g_store_meaning.specs.Meaning.{told_reels}
 use Rattle.g_store_meaning.specs.Reading.{ReelsTold}
@@ -19,12 +19,12 @@ use Rattle.g_restore.specs.declared.directory.Dumped.{Dumped}
 use Rattle.g_restore.specs.Steps.{IsFolded}
 use Rattle.g_restore.proofs.FoldLemmas.{can_be_made}
 use Rattle.g_restore.specs.declared.dumps.Found.{Found}
-use Rattle.g_restore.specs.Known.{AreKnown, Known, known, known_of}
+use Rattle.g_restore.specs.KnownDumps.{AreKnown, Known, known, known_of}
 use Rattle.g_restore.specs.Reels.{AreOnReels}
 use Rattle.g_restore.proofs.ReelLemmas.{all_of_reels, all_rules, on_unread}
 use Rattle.g_restore.proofs.KnownLemmas.{have_few}
-use Rattle.g_restore.specs.Gathered.{HasFew}
-use Rattle.g_look.specs.Seen.{AreSeen, IsSeen, IsShort, OtherSerial}
+use Rattle.g_restore.specs.Gathering.{HasFew}
+use Rattle.g_look.specs.SeenDumps.{AreSeen, IsSeen, IsShort, OtherSerial}
 use Rattle.g_look.proofs.ShelfLemmas.{is_shelf}
 
 -- serials of reels that rise are apart

@@ -13,7 +13,7 @@ use Rattle.g_name.specs.declared.path.Path.{Path}
 use Rattle.g_name.proofs.Order.{full_total}
 use Rattle.g_plain.specs.PlainTree.{has_file, input_name}
 use Rattle.g_plain.proofs.TextMaps.{full_exact}
-use Rattle.g_tree.specs.Asked.{zeros}
+use Rattle.g_tree.specs.AskedRecords.{zeros}
 use Rattle.g_tree.specs.Records.{ForTree, IsRecords, by_name, by_number, full_of, name_of, number_of, tree_of}
 use Rattle.g_tree.proofs.MapLemmas.{found_one, keyed}
 use Rattle.g_tree.proofs.RecordLemmas.{name_at, nobody}
@@ -24,14 +24,14 @@ use Rattle.g_dirs.specs.Directory.{FileEntry, LiesSomewhere, copy_at, entries_of
 use Rattle.g_dirs.specs.Image.{StandsFor}
 use Rattle.g_tape.specs.Rack.{Rack}
 use Rattle.g_incr.specs.Layout.{Dump}
-use Rattle.g_shelf.specs.Completed.{AreShelved, all_dumps}
+use Rattle.g_shelf.specs.CompletedDumps.{AreShelved, all_dumps}
 use Rattle.g_store_meaning.specs.Meaning.{told_reels}
 use Rattle.g_store_meaning.specs.Reading.{ReelsTold}
 use Rattle.g_look.specs.declared.fault.LookFault.{LookFault}
 use Rattle.g_look.specs.declared.fault.LookFault.TheVariants.{NoCopy}
 use Rattle.g_look.specs.Copies.{AreBytesAt}
 use Rattle.g_look.specs.Looks.{AreMounted, OfDumps}
-use Rattle.g_look.specs.Shows.{AreBytesOf, IsInput, IsLost, IsNoFile, IsNowhere, IsShown}
+use Rattle.g_look.specs.ShownBytes.{AreBytesOf, IsInput, IsLost, IsNoFile, IsNowhere, IsShown}
 use Rattle.g_look.specs.Standing.{IsSound, directory_in}
 use Rattle.g_look.proofs.DiscLemmas.{contains_map, recs_back, records_sound}
 

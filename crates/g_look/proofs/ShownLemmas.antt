@@ -24,15 +24,15 @@ use Rattle.g_incr.specs.Layout.{Dump, IsDump, count_of}
 use Rattle.g_lines.specs.Lines.{ended, text_of}
 use Rattle.g_monitor.specs.Parts.{modes_text, shown_mode}
 use Rattle.g_trap.specs.declared.mode_set.Mode.TheVariants.{Read, Write, Append, Execute, Erase}
-use Rattle.g_shelf.specs.Completed.{all_dumps, end_of}
+use Rattle.g_shelf.specs.CompletedDumps.{all_dumps, end_of}
 use Rattle.g_store_meaning.specs.Meaning.{told_reels}
 use Rattle.g_store_meaning.proofs.OneLemmas.{is_shelved}
 use Rattle.g_restore.specs.declared.dumps.Found.{Found}
-use Rattle.g_restore.specs.Known.{AreKnown, Known, known, known_of}
+use Rattle.g_restore.specs.KnownDumps.{AreKnown, Known, known, known_of}
 use Rattle.g_look.specs.declared.broken.Broken.{Broken}
 use Rattle.g_look.specs.Heads.{EndsLow, end_upto}
-use Rattle.g_look.specs.Seen.{IsSeen}
-use Rattle.g_look.specs.Shown.{copy_blocks, count_on, counts_text, dirs_text, known_line, lines_on, names_found, on_reel, state_text, tape_text, used_by}
+use Rattle.g_look.specs.SeenDumps.{IsSeen}
+use Rattle.g_look.specs.MemoryLines.{copy_blocks, count_on, counts_text, dirs_text, known_line, lines_on, names_found, on_reel, state_text, tape_text, used_by}
 use Rattle.g_look.specs.Standing.{directory_in, found_in}
 use Rattle.g_look.specs.Text.{disc_front, disc_lines, dump_line, holder_text, intent_lines, is_there, rack_lines, reel_lines, tape_line, told, verdict_line}
 use Rattle.g_look.proofs.PushLemmas.{then_more}

@@ -7,11 +7,11 @@ use Rattle.g_base.specs.Block.{IsBlock, blocks_for}
 use Rattle.g_entry.specs.declared.file_rec.TapeCopy.{TapeCopy}
 use Rattle.g_tape.specs.Reel.{Reel}
 use Rattle.g_incr.specs.Layout.{Dump, content_at, ends}
-use Rattle.g_shelf.specs.Completed.{all_dumps}
+use Rattle.g_shelf.specs.CompletedDumps.{all_dumps}
 use Rattle.g_store_meaning.specs.Meaning.{IsContent, joined}
 use Rattle.g_store_meaning.proofs.OneLemmas.{is_shelved, on_reel}
 use Rattle.g_restore.specs.declared.dumps.Found.{Found}
-use Rattle.g_look.specs.Seen.{IsSeen}
+use Rattle.g_look.specs.SeenDumps.{IsSeen}
 use Rattle.g_look.specs.Texts.{IsTapeText}
 use Rattle.g_look.proofs.HeadLemmas.{low_end, stands_in, told_blocks}
 use Rattle.g_retrieve.proofs.ContentLemmas.{front_text, part_stands}

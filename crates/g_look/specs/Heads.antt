@@ -5,13 +5,13 @@ use Rattle.g_entry.specs.declared.head.Intent.{Intent}
 use Rattle.g_tape.specs.Reel.{Reel}
 use Rattle.g_disc_contents.specs.Contents.{Contents}
 use Rattle.g_incr.specs.Layout.{Dump}
-use Rattle.g_shelf.specs.Completed.{all_dumps}
-use Rattle.g_store_meaning.specs.Belong.{IsIntended, IsPlaced}
+use Rattle.g_shelf.specs.CompletedDumps.{all_dumps}
+use Rattle.g_store_meaning.specs.Belonging.{IsIntended, IsPlaced}
 use Rattle.g_restore.specs.declared.dumps.Found.{Found}
 use Rattle.g_look.specs.declared.broken.Broken.{Broken}
 use Rattle.g_look.specs.declared.broken.Broken.TheVariants.{TooNew, LastMissing, TooFar, NoReel, Misplaced}
 use Rattle.g_look.specs.Judging.{IsFirstOfDisc}
-use Rattle.g_look.specs.Seen.{at_found}
+use Rattle.g_look.specs.SeenDumps.{at_found}
 
 -- the intent names the dump that is in memory
 abbrev pub IsNamed : Option Intent → Found → Type 0

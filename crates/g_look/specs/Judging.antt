@@ -5,11 +5,11 @@ use Rattle.g_tape.specs.Reel.{Reel}
 use Rattle.g_dirs.specs.declared.dirs.Dirs.{Dirs}
 use Rattle.g_disc_contents.specs.Contents.{Contents, contents_of}
 use Rattle.g_incr.specs.Layout.{Dump}
-use Rattle.g_shelf.specs.Completed.{all_dumps}
+use Rattle.g_shelf.specs.CompletedDumps.{all_dumps}
 use Rattle.g_restore.specs.declared.dumps.Found.{Found}
 use Rattle.g_look.specs.declared.broken.Broken.{Broken}
 use Rattle.g_look.specs.Rules.{BreaksDisc, DiscFits, rule_of}
-use Rattle.g_look.specs.Seen.{IsRackPassed, IsSeen}
+use Rattle.g_look.specs.SeenDumps.{IsRackPassed, IsSeen}
 use Rattle.g_look.specs.Standing.{directory_in}
 
 pub record IsFirstOfDisc (shelf : ℕ → List Dump) (reels : List Reel) (c : Contents) (b : Broken) : Type 0 where

@@ -15,8 +15,8 @@ use Rattle.g_incr.specs.Layout.{Dump}
 use Rattle.g_lines.specs.Lines.{ended, text_of}
 use Rattle.g_monitor.specs.Refusals.{fault_line}
 use Rattle.g_store_meaning.specs.Meaning.{DumpedDirectory, files_in}
-use Rattle.g_restore.specs.Lost.{AreApart, HasPlace, IsFirstLost, IsLostDirectory}
-use Rattle.g_look.specs.Listed.{disc_file_line, dumped_file_line}
+use Rattle.g_restore.specs.Losses.{AreApart, HasPlace, IsFirstLost, IsLostDirectory}
+use Rattle.g_look.specs.FileLines.{disc_file_line, dumped_file_line}
 use Rattle.g_look.specs.Text.{told}
 
 -- files with their full names, in the order of these; and those of one user

@@ -7,7 +7,7 @@ use Rattle.g_entry.specs.declared.file_rec.FileRec.{FileRec}
 use Rattle.g_entry.specs.declared.user_rec.UserRec.{UserRec}
 use Rattle.g_dirs.specs.Directory.{copy_at}
 use Rattle.g_tree.specs.Records.{by_number, full_of}
-use Rattle.g_look.specs.Listed.{disc_file_line, dumped_file_line}
+use Rattle.g_look.specs.FileLines.{disc_file_line, dumped_file_line}
 use Rattle.g_look.specs.Lists.{HasUser, files_named}
 use Rattle.g_look.specs.Text.{told}
 

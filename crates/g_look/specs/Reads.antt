@@ -1,5 +1,5 @@
 -- WHICH BLOCKS OF TAPE WERE READ.
-use Rattle.std.specs.Prelude.{◌≡◌, ℕ, ◌+◌, ◌<◌, ◌≤◌, ◌==◌, List, get_or, false, All, Contains, Option, IfSome}
+use Rattle.std.specs.Prelude.{◌≡◌, ℕ, ◌+◌, ◌<◌, ◌≤◌, ◌==◌, List, false, All, Contains, Option, IfSome}
 use Rattle.std.specs.Option.{ForSome}
 use Rattle.std.specs.List.{list_any}
 use Rattle.g_base.specs.Block.{blocks_for}
@@ -9,7 +9,7 @@ use Rattle.g_tape.specs.Rack.{Rack}
 use Rattle.g_tape.specs.Reads.{HasRead}
 use Rattle.g_tape.specs.Reel.{Reel}
 use Rattle.g_disc_contents.specs.Contents.{Contents, Holds, recs_in}
-use Rattle.g_shelf.specs.Completed.{AreShelved, all_dumps}
+use Rattle.g_shelf.specs.CompletedDumps.{AreShelved, all_dumps}
 use Rattle.g_incr.specs.Layout.{Dump}
 use Rattle.g_store_meaning.specs.Meaning.{DumpedDirectory, files_in, told_reels}
 use Rattle.g_look.specs.Texts.{IsDumpedPlace}
@@ -41,15 +41,9 @@ pub record IsFileRead (old new : Rack) (dumped : List FileRec) (r : FileRec) : T
   pub place_is : IsDumpedPlace dumped r.stamp place
   pub second : IsReadAt old new place r.len
 
-abbrev pub AreReadUpto : Rack → Rack → List FileRec → List FileRec → ℕ → Type 0
-AreReadUpto old new dumped files i = (k : ℕ) (d : FileRec) → k < i → IsFileRead old new dumped (get_or files k d)
-
 -- of a dumped record whose stamp no file has its copy
 abbrev pub IsOtherRead : Rack → Rack → List FileRec → FileRec → Type 0
 IsOtherRead old new files of = list_any (λ r. r.stamp == of.stamp) files ≡ false → IsReadAt old new of.tape of.len
-
-abbrev pub OthersUpto : Rack → Rack → List FileRec → List FileRec → ℕ → Type 0
-OthersUpto old new files dumped i = (k : ℕ) (d : FileRec) → k < i → IsOtherRead old new files (get_or dumped k d)
 
 -- both, of all of them
 pub record AreRead (old new : Rack) (files dumped : List FileRec) : Type 0 where

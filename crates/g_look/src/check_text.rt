@@ -2,9 +2,9 @@
 ghost use Rattle.std.specs.Prelude.{◌≡◌, ◌∷◌, ◌++◌, ℕ, IfOk, IfSome, List, [], is_some};
 ghost use Rattle.g_incr.specs.Layout.{Dump};
 ghost use Rattle.g_lines.specs.Lines.{text_of};
-ghost use Rattle.g_shelf.specs.Completed.{all_dumps};
+ghost use Rattle.g_shelf.specs.CompletedDumps.{all_dumps};
 ghost use Rattle.g_store_meaning.specs.Meaning.{told_reels};
-ghost use Rattle.g_look.specs.Seen.{IsSeen};
+ghost use Rattle.g_look.specs.SeenDumps.{IsSeen};
 ghost use Rattle.g_look.specs.Standing.{IsSound, found_in};
 ghost use Rattle.g_look.specs.Text.{disc_lines, rack_lines, verdict_line};
 

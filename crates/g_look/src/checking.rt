@@ -6,12 +6,12 @@ ghost use Rattle.g_dirs.specs.Directory.{Directory};
 ghost use Rattle.g_dirs.specs.Image.{StandsFor};
 ghost use Rattle.g_store_meaning.specs.Meaning.{told_reels};
 ghost use Rattle.g_store_meaning.specs.Reading.{AllTold};
-ghost use Rattle.g_restore.specs.Gathered.{HasFew};
+ghost use Rattle.g_restore.specs.Gathering.{HasFew};
 ghost use Rattle.g_look.specs.Judging.{IsDiscJudged};
 ghost use Rattle.g_look.specs.Looks.{ReadsRackByCause};
 ghost use Rattle.g_look.specs.Reads.{AreNamedRead, AreRead};
 ghost use Rattle.g_look.specs.Rules.{IsVerdict};
-ghost use Rattle.g_look.specs.Seen.{AreSeen};
+ghost use Rattle.g_look.specs.SeenDumps.{AreSeen};
 ghost use Rattle.g_look.specs.Standing.{IsSound, IsStanding};
 ghost use Rattle.g_look.specs.Text.{IsChecked};
 

@@ -4,8 +4,8 @@ ghost use Rattle.std.specs.List.{list_any};
 ghost use Rattle.g_incr.specs.Layout.{Dump};
 ghost use Rattle.g_dirs.specs.Directory.{copy_at};
 ghost use Rattle.g_lines.specs.Lines.{ended, text_of};
-ghost use Rattle.g_restore.specs.Known.{AreKnown};
-ghost use Rattle.g_look.specs.Shown.{copy_blocks, counts_text, dirs_text, names_found, state_text, used_by};
+ghost use Rattle.g_restore.specs.KnownDumps.{AreKnown};
+ghost use Rattle.g_look.specs.MemoryLines.{copy_blocks, counts_text, dirs_text, names_found, state_text, used_by};
 ghost use Rattle.g_look.specs.Standing.{IsSound, found_in};
 ghost use Rattle.g_look.specs.Text.{disc_front, disc_lines, intent_lines, side_text};
 

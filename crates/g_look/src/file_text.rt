@@ -2,7 +2,7 @@
 ghost use Rattle.std.specs.Prelude.{◌≡◌, ◌++◌, OnOk};
 ghost use Rattle.std.specs.List.{flat_map};
 ghost use Rattle.g_monitor.specs.Parts.{modes_text, shown_mode};
-ghost use Rattle.g_look.specs.Listed.{blocks_text, file_front, place_text, taped_text, trap_text};
+ghost use Rattle.g_look.specs.FileLines.{blocks_text, file_front, place_text, taped_text, trap_text};
 
 use crate::parts::{push_copy, push_told};
 use crate::rack_text::push_holder;

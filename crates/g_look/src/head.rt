@@ -5,7 +5,7 @@ ghost use Rattle.g_store_meaning.specs.Meaning.{told_reels};
 ghost use Rattle.g_incr.specs.Layout.{Dump};
 ghost use Rattle.g_restore.specs.declared.dumps.Found.{Found};
 ghost use Rattle.g_look.specs.Heads.{EndsLow, HasNumber, HeadFits, IsFirstOfHead, IsIntentBroken, IsIntentPlaced, IsKnown, IsNamed, IsNew, IsOff, IsTooFar, IsTooNew, end_upto, end_with, found_ends};
-ghost use Rattle.g_look.specs.Seen.{IsSeen};
+ghost use Rattle.g_look.specs.SeenDumps.{IsSeen};
 
 use crate::Broken;
 use crate::pairs::at_of;

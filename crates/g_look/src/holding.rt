@@ -2,7 +2,7 @@
 ghost use Rattle.std.specs.Prelude.{◌≡◌, ◌⊎◌, Err, ℕ, All, IfErr, IfOk, List, true};
 ghost use Rattle.g_incr.specs.Layout.{Dump};
 ghost use Rattle.g_lines.specs.Lines.{text_of};
-ghost use Rattle.g_shelf.specs.Completed.{AreShelved};
+ghost use Rattle.g_shelf.specs.CompletedDumps.{AreShelved};
 ghost use Rattle.g_store_meaning.specs.Meaning.{told_reels};
 ghost use Rattle.g_store_meaning.specs.Reading.{ReelsTold};
 ghost use Rattle.g_look.specs.Looks.{ReadsRackByCause};

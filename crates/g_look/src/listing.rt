@@ -7,7 +7,7 @@ ghost use Rattle.g_dirs.specs.Directory.{Directory};
 ghost use Rattle.g_dirs.specs.Image.{StandsFor};
 ghost use Rattle.g_lines.specs.Lines.{ended, text_of};
 ghost use Rattle.g_tree.specs.Records.{IsRecords, name_of};
-ghost use Rattle.g_look.specs.Listed.{disc_file_line};
+ghost use Rattle.g_look.specs.FileLines.{disc_file_line};
 ghost use Rattle.g_look.specs.Lists.{HasUser, IsListed, IsNobody, list_lines};
 ghost use Rattle.g_look.specs.Looks.{IsOfList};
 ghost use Rattle.g_look.specs.Numbers.{IsNobodyOf, asked_numbers, disc_line, lines_at, lines_listed};

@@ -1,7 +1,7 @@
 //! The rules about pairs of dumps.
 ghost use Rattle.std.specs.Prelude.{◌≡◌, ◌↔◌, All, Contains, IfNone, IfSome, IsTrue};
 ghost use Rattle.g_restore.specs.declared.dumps.Found.{Found};
-ghost use Rattle.g_look.specs.Seen.{HasNoLower, HasNoTwin, HasOne, IsFalling, IsLower, IsTwice, IsTwin, at_found};
+ghost use Rattle.g_look.specs.SeenDumps.{HasNoLower, HasNoTwin, HasOne, IsFalling, IsLower, IsTwice, IsTwin, at_found};
 
 use crate::{Broken, DumpAt};
 use g_restore::Found;

@@ -1,12 +1,12 @@
 //! The completed dumps of a rack, and the rules that they keep among themselves.
 ghost use Rattle.std.specs.Prelude.{◌≡◌, ◌⊎◌, All, Err, IfErr, IfOk, List, OnErr, true};
 ghost use Rattle.g_incr.specs.Layout.{Dump};
-ghost use Rattle.g_shelf.specs.Completed.{all_dumps};
+ghost use Rattle.g_shelf.specs.CompletedDumps.{all_dumps};
 ghost use Rattle.g_store_meaning.specs.Meaning.{told_reels};
-ghost use Rattle.g_restore.specs.Gathered.{HasFew};
-ghost use Rattle.g_restore.specs.Known.{AreKnown};
+ghost use Rattle.g_restore.specs.Gathering.{HasFew};
+ghost use Rattle.g_restore.specs.KnownDumps.{AreKnown};
 ghost use Rattle.g_look.specs.Looks.{ReadsRackByCause};
-ghost use Rattle.g_look.specs.Seen.{AreSeen, IsJudged, WhereSeen};
+ghost use Rattle.g_look.specs.SeenDumps.{AreSeen, IsJudged, WhereSeen};
 
 use crate::pairs::{falling, twice};
 use crate::{Broken, LookFault};

@@ -5,10 +5,10 @@ ghost use Rattle.g_tape.specs.Reel.{Reel};
 ghost use Rattle.g_incr.specs.Layout.{Dump};
 ghost use Rattle.g_lines.specs.Lines.{ended, text_of};
 ghost use Rattle.g_store_meaning.specs.Meaning.{told_reels};
-ghost use Rattle.g_restore.specs.Known.{known};
+ghost use Rattle.g_restore.specs.KnownDumps.{known};
 ghost use Rattle.g_look.specs.Heads.{EndsLow, end_upto};
-ghost use Rattle.g_look.specs.Seen.{IsSeen};
-ghost use Rattle.g_look.specs.Shown.{count_on, known_line, lines_on, tape_text};
+ghost use Rattle.g_look.specs.SeenDumps.{IsSeen};
+ghost use Rattle.g_look.specs.MemoryLines.{count_on, known_line, lines_on, tape_text};
 ghost use Rattle.g_look.specs.Text.{holder_text, rack_lines, reel_lines};
 
 use crate::head::end_upto;

@@ -7,7 +7,7 @@ ghost use Rattle.g_dirs.specs.Directory.{Directory, copy_at};
 ghost use Rattle.g_dirs.specs.Image.{StandsFor};
 ghost use Rattle.g_look.specs.Copies.{AreBytesAt, IsHeldAt, IsHeldBy, IsHeldNowhere};
 ghost use Rattle.g_look.specs.Looks.{AreMounted, IsOfBytes, IsOfCopy, OfDumps, ReadsRackByCause};
-ghost use Rattle.g_look.specs.Shows.{IsLost, IsNoFile, IsNowhere, IsShown};
+ghost use Rattle.g_look.specs.ShownBytes.{IsLost, IsNoFile, IsNowhere, IsShown};
 
 use crate::LookFault;
 use crate::bytes::file_text;

@@ -16,13 +16,13 @@ use Rattle.g_look.specs.declared.fault.LookFault.TheVariants as fault
 use Rattle.g_look.specs.declared.restoring.Given.{Given}
 use Rattle.g_look.specs.Lists.{IsListed, IsNobody, IsRestorable}
 use Rattle.g_look.specs.Looks.{IsOfList, OfDumps}
-use Rattle.g_look.specs.Shows.{IsLost, IsNoFile, IsShown}
+use Rattle.g_look.specs.ShownBytes.{IsLost, IsNoFile, IsShown}
 use Rattle.g_look.specs.Text.{IsChecked, rack_lines}
 use Rattle.g_look_program.specs.declared.status.Status.{Status}
 use Rattle.g_look_program.specs.declared.status.Status.TheVariants as status
 use Rattle.g_look_program.specs.declared.words.Asked.{Asked}
 use Rattle.g_look_program.specs.declared.words.Asked.TheVariants as asked
-use Rattle.g_look_program.specs.Told.{Written, IsCut, IsFaultLine, IsQuiet, IsWhole, Puts, EndsQuietly, TellsFault, Tells, TellsBytes, TellsCheck, TellsGiven, verdict, outcome, HoldsOne, EndsCheck, EndsDumps, EndsGiven, EndsList, EndsShow}
+use Rattle.g_look_program.specs.Telling.{Written, IsCut, IsFaultLine, IsQuiet, IsWhole, Puts, EndsQuietly, TellsFault, Tells, TellsBytes, TellsCheck, TellsGiven, verdict, outcome, HoldsOne, EndsCheck, EndsDumps, EndsGiven, EndsList, EndsShow}
 
 -- A TEXT THAT WAS PUT, or a sink that failed
 ends_put : (size : ℕ) (held : Option (List (List ℕ))) (reels : List Reel) (broken : Option Broken) (filestore : Bool) (text : List ℕ) (w : Written)

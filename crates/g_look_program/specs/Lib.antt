@@ -1,3 +1,3 @@
 pub mod Exit
-pub mod Told
+pub mod Telling
 pub mod Words

@@ -4,11 +4,11 @@ ghost use Rattle.std.specs.Option.{ForSome};
 ghost use Rattle.g_name.specs.declared.path.Path.{Path};
 ghost use Rattle.g_incr.specs.Layout.{Dump};
 ghost use Rattle.g_store_meaning.specs.Meaning.{told_reels};
-ghost use Rattle.g_shelf.specs.Completed.{AreShelved};
+ghost use Rattle.g_shelf.specs.CompletedDumps.{AreShelved};
 ghost use Rattle.g_store_meaning.specs.Reading.{AllTold, ReelsTold};
 ghost use Rattle.g_look.specs.Looks.{OfDumps};
 ghost use Rattle.g_look_program.specs.Exit.{IsExit, IsOfLook, IsOfWords};
-ghost use Rattle.g_look_program.specs.Told as told;
+ghost use Rattle.g_look_program.specs.Telling as told;
 ghost use Rattle.g_look_program.specs.Words.{AskNothing, texts_of};
 
 use crate::mount::mount_all;

@@ -6,7 +6,7 @@ use g_shelf::first_unmounted;
 use g_tape::Tapes;
 
 /// Mounts each reel, and says whether all are.
-pub fn mount_all<T: Tapes>(tapes: &mut T) -> bool
+pub(crate) fn mount_all<T: Tapes>(tapes: &mut T) -> bool
     ensures mounted { IsTrue result → All (λ r. r.mounted ≡ true) (T.rack tapes.new).reels }
 {
     for i in 0..MAX_REELS {

@@ -1,6 +1,6 @@
 //! What is told of an answer, and the status with it.
 ghost use Rattle.std.specs.Prelude.{◌≡◌};
-ghost use Rattle.g_look_program.specs.Told as told;
+ghost use Rattle.g_look_program.specs.Telling as told;
 
 use crate::Status;
 use g_io::Sink;
@@ -8,7 +8,7 @@ use g_look::{Checked, Given, LookFault};
 use g_name::Text;
 
 /// Tells a check: all of its text, whatever it found.
-pub fn tell_check<K: Sink>(out: &mut K, found: Result<Checked, LookFault>) -> Status
+pub(crate) fn tell_check<K: Sink>(out: &mut K, found: Result<Checked, LookFault>) -> Status
     ensures { told.TellsCheck found result
         (record { before = K.written out.old; after = K.written out.new; faults_before = K.faults out.old; faults_after = K.faults out.new }) }
 {
@@ -33,7 +33,7 @@ fn verdict(checked: &Checked) -> Status
 }
 
 /// Tells what a restore would give, or its refusal.
-pub fn tell_restorable<K: Sink>(out: &mut K, found: Result<Given, LookFault>) -> Status
+pub(crate) fn tell_restorable<K: Sink>(out: &mut K, found: Result<Given, LookFault>) -> Status
     ensures { told.TellsGiven found result
         (record { before = K.written out.old; after = K.written out.new; faults_before = K.faults out.old; faults_after = K.faults out.new }) }
 {
@@ -55,7 +55,7 @@ fn outcome(given: &Given) -> Status
 }
 
 /// Tells a text.
-pub fn tell<K: Sink>(out: &mut K, found: Result<Text, LookFault>) -> Status
+pub(crate) fn tell<K: Sink>(out: &mut K, found: Result<Text, LookFault>) -> Status
     ensures { told.Tells found result
         (record { before = K.written out.old; after = K.written out.new; faults_before = K.faults out.old; faults_after = K.faults out.new }) }
 {
@@ -66,7 +66,7 @@ pub fn tell<K: Sink>(out: &mut K, found: Result<Text, LookFault>) -> Status
 }
 
 /// Tells the bytes of a file, and nothing else whatever happens.
-pub fn tell_bytes<K: Sink>(out: &mut K, found: Result<Text, LookFault>) -> Status
+pub(crate) fn tell_bytes<K: Sink>(out: &mut K, found: Result<Text, LookFault>) -> Status
     ensures { told.TellsBytes found result
         (record { before = K.written out.old; after = K.written out.new; faults_before = K.faults out.old; faults_after = K.faults out.new }) }
 {
@@ -108,7 +108,7 @@ fn status_of(fault: LookFault) -> Status
 }
 
 /// Puts a text, and ends with this status where that was done.
-pub fn put<K: Sink>(out: &mut K, text: &[u8], status: Status) -> Status
+pub(crate) fn put<K: Sink>(out: &mut K, text: &[u8], status: Status) -> Status
     ensures { told.Puts status text.now result
         (record { before = K.written out.old; after = K.written out.new; faults_before = K.faults out.old; faults_after = K.faults out.new }) }
 {

@@ -8,8 +8,8 @@ use Rattle.std.proofs.lemmas.List.Folds.{list_any-append}
 use Rattle.std.proofs.lemmas.List.Sorted.{IsPermutation-reverse, list_any-IsPermutation}
 use Rattle.std.specs.List.{list_any}
 use Rattle.std.specs.Prelude.{nat_le}
-use Rattle.g_lang.specs.How.{reading}
-use Rattle.g_lang.specs.Said.{is_input_said}
+use Rattle.g_lang.specs.LineReader.{reading}
+use Rattle.g_lang.specs.Meaning.{is_input_said}
 use Rattle.g_lines.specs.Lines.{lines_of}
 use Rattle.g_macro.proofs.FrontLemmas.{expand-plain}
 use Rattle.g_macro.specs.Expansion.{substituted}

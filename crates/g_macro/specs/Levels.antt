@@ -5,7 +5,7 @@ use Rattle.g_lang.specs.Lines.{IsCommandText}
 use Rattle.g_lang.specs.Words.{label_in}
 use Rattle.g_lang.specs.declared.line.Cond.{Cond}
 use Rattle.g_lines.specs.Lines.{text_of}
-use Rattle.g_macro.specs.Asked.{cond_holds}
+use Rattle.g_macro.specs.Questions.{cond_holds}
 use Rattle.g_macro.specs.Expansion.{substituted}
 use Rattle.g_macro.specs.declared.entry.Entry.{Entry}
 use Rattle.g_macro.specs.declared.outcome.Outcome.{Outcome}

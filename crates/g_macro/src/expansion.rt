@@ -16,14 +16,14 @@ const MOST: usize = 240;
 
 /// A line once the parameters are put in: its first bytes, up to 240, and whether it is longer.
 #[derive(Debug, Drop)]
-pub struct Filled {
+pub(crate) struct Filled {
     pub text: Text,
     pub is_cut: bool,
 }
 
 /// The front of a text, up to 240 bytes, and whether the text is longer.
 #[derive(Debug, Drop)]
-pub struct Front {
+pub(crate) struct Front {
     pub bytes: ArrayVec<u8, 240>,
     pub is_cut: bool,
 }
@@ -58,7 +58,7 @@ impl Front {
 }
 
 /// A line once the parameters are put in. One that has no `%` is copied as it stands.
-pub fn fill_in(alloc: Global, params: &[Text], line: &[u8]) -> Result<Filled, NoMemory>
+pub(crate) fn fill_in(alloc: Global, params: &[Text], line: &[u8]) -> Result<Filled, NoMemory>
     requires { length params.now ≡ 24 }
     ensures { IfOk result (IsFilled (expansion.substituted params.now line.now)) }
 {
@@ -79,7 +79,7 @@ pub fn fill_in(alloc: Global, params: &[Text], line: &[u8]) -> Result<Filled, No
 
 /// Whether the verb of a line is INPUT once the parameters are put in; a line that is longer than 240 bytes then is none.
 /// It takes no memory.
-pub fn is_input(params: &[Text], line: &[u8]) -> bool
+pub(crate) fn is_input(params: &[Text], line: &[u8]) -> bool
     requires { length params.now ≡ 24 }
     ensures { result ≡ takes_input (as_taken (expansion.substituted params.now line.now)) }
 {

@@ -3,7 +3,7 @@ ghost use Rattle.std.specs.List.{list_any};
 ghost use Rattle.std.specs.Prelude.{◌≡◌, ◌++◌, ◌+◌, ◌-◌, ◌<◌, ◌≤◌, true, false, None, Some, drop, length, IfOk, IfSome, MatchOption, OnErr, OnOk, slice_index_or, take};
 ghost use Rattle.g_lang.specs.Conditions.{IsLetter};
 ghost use Rattle.g_lang.specs.Lines.{IsCommandText};
-ghost use Rattle.g_macro.specs.Asked as asked;
+ghost use Rattle.g_macro.specs.Questions as asked;
 ghost use Rattle.g_macro.specs.Expansion.{substituted, param_of};
 ghost use Rattle.g_macro.specs.Fronts.{IsFilled};
 ghost use Rattle.g_macro.specs.Holding as holding;
@@ -31,7 +31,7 @@ const ENTRIES: usize = 16;
 
 /// A level. Contracts see its lines, its 24 parameters, how many lines were taken, and the commands that wait.
 #[derive(Debug, Drop)]
-pub struct Level {
+pub(crate) struct Level {
     cursor: Cursor,
     params: Vec<Text>,
     entries: Vec<Entry>,
@@ -230,7 +230,7 @@ pub(crate) struct Span {
 
 /// Where a line stands: how many lines are before it, and how many bytes these have, with their bytes 10.
 #[derive(Clone, Copy)]
-pub struct LinePlace {
+pub(crate) struct LinePlace {
     pub lines: usize,
     pub bytes: usize,
 }

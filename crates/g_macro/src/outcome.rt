@@ -1,6 +1,6 @@
 //! How the last command went.
 ghost use Rattle.std.specs.Prelude.{◌≡◌};
-ghost use Rattle.g_macro.specs.Asked as asked;
+ghost use Rattle.g_macro.specs.Questions as asked;
 
 use g_mill::Text40;
 

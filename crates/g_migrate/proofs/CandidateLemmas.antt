@@ -15,8 +15,8 @@ use Rattle.g_tree.specs.Records.{IsRecords}
 use Rattle.g_disc_contents.specs.Contents.{File, recs_in}
 use Rattle.g_disc_contents.specs.Facts.{IsTied, OnlineFacts, room_of}
 use Rattle.g_migrate.specs.declared.candidates.Candidate.{Candidate}
-use Rattle.g_migrate.specs.Taken.{candidate_in, candidate_of, candidates_in}
-use Rattle.g_laws_memory.specs.Unjam.{is_candidate}
+use Rattle.g_migrate.specs.Candidates.{candidate_in, candidate_of, candidates_in}
+use Rattle.g_laws_memory.specs.UnjamPlan.{is_candidate}
 
 -- the file of a record at a place
 pub record IsFileAt (files : List File) (i : ℕ) (r : FileRec) : Type 0 where

@@ -5,7 +5,7 @@ use Rattle.std.proofs.lemmas.Bool.{cases_lt, cases_order, cond-false, cond-true,
 use Rattle.std.proofs.lemmas.List.Elements.{All-head, All-tail}
 use Rattle.std.proofs.lemmas.List.Sums.{sum_by-cons}
 use Rattle.g_migrate.specs.declared.candidates.Candidate.{Candidate}
-use Rattle.g_migrate.specs.Taken.{blocks_in}
+use Rattle.g_migrate.specs.Candidates.{blocks_in}
 
 abbrev pub stamp_of : Candidate → ℕ
 stamp_of c = c.stamp

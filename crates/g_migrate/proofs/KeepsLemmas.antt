@@ -11,16 +11,16 @@ use Rattle.g_online.specs.Change.{changed, with_files}
 use Rattle.g_online.specs.Outcomes.{AfterStop, HasChanged, HasStopped}
 use Rattle.g_incr.specs.Layout.{Dump, holds}
 use Rattle.g_store_meaning.specs.Answers.{Belongs, IsStore}
-use Rattle.g_store_meaning.specs.Belong.{DiscBelongs}
+use Rattle.g_store_meaning.specs.Belonging.{DiscBelongs}
 use Rattle.g_store_meaning.specs.Laws.{IsQuiet}
 use Rattle.g_store_meaning.specs.Meaning.{told_reels}
 use Rattle.g_store_meaning.specs.Staying.{behind}
-use Rattle.g_store_meaning.specs.Up.{DumpFacts, IsOpen, IsUp, StoreFacts}
+use Rattle.g_store_meaning.specs.StoreInvariant.{DumpFacts, IsOpen, IsUp, StoreFacts}
 use Rattle.g_store_meaning.proofs.ChangeLemmas.{files_belong}
 use Rattle.g_store_meaning.proofs.StayLemmas.{stays_open, stays_up}
 use Rattle.g_laws_store.proofs.DumpingLemmas.{events_stay_up}
 use Rattle.g_laws_store.proofs.TiedLemmas.{committed_belongs, devices_belong, moved, spent_store, spent_then}
-use Rattle.g_migrate.specs.Keeps.{KeepsStore, with_online}
+use Rattle.g_migrate.specs.Invariant.{KeepsStore, with_online}
 
 -- NOTHING HAS CHANGED
 same_store : (s : StoreFacts) (o : OnlineFacts) → s.online ≡ o → s.spent ≡ false → o.live ≡ true → s ≡ with_online o s

@@ -20,13 +20,13 @@ use Rattle.g_disc_contents.specs.Facts.{IsTied, OnlineFacts}
 use Rattle.g_online.specs.declared.change.Change.TheVariants.{Unload}
 use Rattle.g_online.specs.declared.fault.OnlineFault.{OnlineFault}
 use Rattle.g_online.specs.declared.fault.OnlineFault.TheVariants as variants
-use Rattle.g_online.specs.Allowed.{HasNumber, IsAllowed, IsUnjammable, KeepsRules}
+use Rattle.g_online.specs.AllowedChanges.{HasNumber, IsAllowed, IsUnjammable, KeepsRules}
 use Rattle.g_online.specs.Change.{changed, with_files}
 use Rattle.g_online.specs.Outcomes.{IsApplied}
 use Rattle.g_online.proofs.KeepLemmas.{rules_of}
 use Rattle.g_online.proofs.OffRuleLemmas.{MayGo, committed_rules, off_rules}
-use Rattle.g_migrate.specs.Keeps.{KeepsStore}
-use Rattle.g_migrate.specs.Migrated.{HasMigrated, as_stored, refusal_by, refusal_of}
+use Rattle.g_migrate.specs.Invariant.{KeepsStore}
+use Rattle.g_migrate.specs.Migration.{HasMigrated, as_stored, refusal_by, refusal_of}
 use Rattle.g_migrate.proofs.KeepsLemmas.{keeps_done, keeps_same, keeps_stopped}
 
 -- THE RULES of the contents, from what ties them to the disc

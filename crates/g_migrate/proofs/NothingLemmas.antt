@@ -7,8 +7,8 @@ use Rattle.g_base.specs.Block.{blocks_for}
 use Rattle.g_disc_contents.specs.Contents.{File}
 use Rattle.g_disc_contents.specs.Facts.{OnlineFacts, room_of, room_with}
 use Rattle.g_online.proofs.TwoLemmas.{taken_none}
-use Rattle.g_laws_memory.specs.Unjam.{IsUnjamPlan, is_candidate, is_taken}
-use Rattle.g_migrate.specs.Unjam.{IsRoomWithout}
+use Rattle.g_laws_memory.specs.UnjamPlan.{IsUnjamPlan, is_candidate, is_taken}
+use Rattle.g_migrate.specs.UnjamPlan.{IsRoomWithout}
 
 abbrev counted : File → ℕ
 counted f = if is_taken 0 f then blocks_for f.rec.len else 0

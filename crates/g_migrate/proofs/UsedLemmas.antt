@@ -7,7 +7,7 @@ use Rattle.g_entry.specs.declared.user_rec.UserRec.{UserRec}
 use Rattle.g_tree.specs.Records.{IsRecords, by_number}
 use Rattle.g_tree.proofs.RightLemmas.{numbered_there}
 use Rattle.g_disc_contents.specs.Contents.{File}
-use Rattle.g_online.specs.Allowed.{HasNumber}
+use Rattle.g_online.specs.AllowedChanges.{HasNumber}
 
 file_there : (files : List File) (r : FileRec) → Contains (map (λ (f : File). f.rec) files) r → (f : File) × Contains files f × (f.rec ≡ r)
 file_there [] r (i, inside, at) = let no : ⊥ = omega (arith, inside) in absurd no

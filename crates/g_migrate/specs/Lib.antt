@@ -1,4 +1,4 @@
-pub mod Keeps
-pub mod Migrated
-pub mod Taken
-pub mod Unjam
+pub mod Candidates
+pub mod Invariant
+pub mod Migration
+pub mod UnjamPlan

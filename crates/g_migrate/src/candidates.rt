@@ -2,8 +2,8 @@
 ghost use Rattle.std.specs.Prelude.{◌≡◌, ◌&&◌, ◌++◌, true, Contains, IfOk, OnOk, is_some, nat_lt};
 ghost use Rattle.std.specs.Option.{option_to_list};
 ghost use Rattle.g_disc_contents.specs.Contents.{File};
-ghost use Rattle.g_migrate.specs.Taken.{candidate_in, candidates_in};
-ghost use Rattle.g_laws_memory.specs.Unjam.{is_candidate};
+ghost use Rattle.g_migrate.specs.Candidates.{candidate_in, candidates_in};
+ghost use Rattle.g_laws_memory.specs.UnjamPlan.{is_candidate};
 
 use g_base::{NoMemory, blocks_for};
 use g_disc::Disc;

@@ -3,9 +3,9 @@ ghost use Rattle.std.specs.Prelude.{◌≡◌, ◌⊎◌, ◌↔◌, [], ◌∷�
 ghost use Rattle.g_entry.specs.declared.file_rec.FileRec.{FileRec};
 ghost use Rattle.g_disc_contents.specs.Contents.{File};
 ghost use Rattle.g_disc_contents.specs.Facts.{IsTied};
-ghost use Rattle.g_online.specs.Allowed.{HasNumber, IsAllowed};
-ghost use Rattle.g_migrate.specs.Keeps.{KeepsStore};
-ghost use Rattle.g_migrate.specs.Migrated.{HasMigrated, as_stored, refusal_of};
+ghost use Rattle.g_online.specs.AllowedChanges.{HasNumber, IsAllowed};
+ghost use Rattle.g_migrate.specs.Invariant.{KeepsStore};
+ghost use Rattle.g_migrate.specs.Migration.{HasMigrated, as_stored, refusal_of};
 
 use g_disc::Disc;
 use g_online::{Change, Online, OnlineFault};

@@ -2,9 +2,9 @@
 ghost use Rattle.std.specs.Prelude.{◌≡◌, ◌≤◌, true, [], All, AllPairs, IfOk, length};
 ghost use Rattle.std.specs.List.Sorted.{IsNonDecreasingBy, IsPermutation};
 ghost use Rattle.g_disc_contents.specs.Facts.{IsTied, room_of};
-ghost use Rattle.g_migrate.specs.Taken.{TakesFirst};
-ghost use Rattle.g_laws_memory.specs.Unjam.{IsUnjamPlan};
-ghost use Rattle.g_migrate.specs.Unjam.{IsOlder, IsRoomWithout};
+ghost use Rattle.g_migrate.specs.Candidates.{TakesFirst};
+ghost use Rattle.g_laws_memory.specs.UnjamPlan.{IsUnjamPlan};
+ghost use Rattle.g_migrate.specs.UnjamPlan.{IsOlder, IsRoomWithout};
 
 use crate::candidates::{Candidate, candidates};
 use g_base::NoMemory;

@@ -15,7 +15,7 @@ use Rattle.g_mill.specs.declared.step.PlainOutcome.{PlainOutcome}
 use Rattle.g_mill.specs.declared.step.PlainOutcome.TheVariants as quick
 use Rattle.g_mill.specs.Machine.{Machine, size, address, operand, text_at, following, going_to, operands}
 use Rattle.g_mill.specs.Effect.{Outcome, effect, shifted, performed, obeyed, order}
-use Rattle.g_mill.specs.Does.{DoesQuick, TellsMore}
+use Rattle.g_mill.specs.OrderReplies.{DoesQuick, TellsMore}
 use Rattle.g_mill.specs.Running.{RunsOne, RunsTo}
 
 -- one more order behind the others

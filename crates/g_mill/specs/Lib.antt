@@ -1,4 +1,4 @@
-pub mod Does
+pub mod OrderReplies
 pub mod Effect
 pub mod Loading
 pub mod Lines

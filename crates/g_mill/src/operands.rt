@@ -4,7 +4,7 @@ ghost use Rattle.std.specs.Prelude.{◌≡◌, ◌+◌, ◌<◌, ◌≤◌, ◌^
 ghost use Rattle.std.specs.List.{range_with_len};
 ghost use Rattle.g_order.specs.Coding.{fields};
 ghost use Rattle.g_mill.specs.Machine as machine;
-ghost use Rattle.g_mill.specs.Does.{TellsText};
+ghost use Rattle.g_mill.specs.OrderReplies.{TellsText};
 
 use crate::Program;
 use crate::event::Text40;

@@ -4,7 +4,7 @@
 ghost use Rattle.std.specs.Prelude.{◌≡◌, ◌<◌, ◌^◌, Some};
 ghost use Rattle.g_order.specs.Coding.{fields};
 ghost use Rattle.g_order.specs.declared.functions.Function.TheVariants as function;
-ghost use Rattle.g_mill.specs.Does.{Does, DoesQuick};
+ghost use Rattle.g_mill.specs.OrderReplies.{Does, DoesQuick};
 ghost use Rattle.g_mill.specs.Effect.{effect, shifted};
 ghost use Rattle.g_mill.specs.Machine.{going_to, operands};
 

@@ -8,7 +8,7 @@ use g_word::{Word, byte_of};
 use std::marker::Model;
 
 /// The words of the longest program, and one more than the greatest address.
-pub const LIMIT: u16 = 0x8000;
+pub(crate) const LIMIT: u16 = 0x8000;
 
 /// The same for addresses on which orders reckon.
 pub(crate) const ADDRESSES: u32 = 0x8000;

@@ -4,7 +4,7 @@ ghost use Rattle.std.specs.Prelude.{◌≡◌, ◌≢◌, ◌<◌, ◌≤◌, �
 ghost use Rattle.g_order.specs.Order.{decoded};
 ghost use Rattle.g_order.specs.Coding.{fields};
 ghost use Rattle.g_order.specs.declared.functions.Function.TheVariants as function;
-ghost use Rattle.g_mill.specs.Does.{Does, DoesQuick, TellsMore};
+ghost use Rattle.g_mill.specs.OrderReplies.{Does, DoesQuick, TellsMore};
 ghost use Rattle.g_mill.specs.Effect.{effect, order, performed};
 ghost use Rattle.g_mill.specs.Machine.{going_to, operands};
 ghost use Rattle.g_mill.specs.Running.{RunsOne, RunsTo};

@@ -1,7 +1,7 @@
 //! The mark before each line that is put at a terminal.
 ghost use Rattle.std.specs.Prelude.{◌≡◌, ◌++◌, IfOk, OnOk};
 ghost use Rattle.g_lines.specs.Lines.{ended};
-ghost use Rattle.g_mop.specs.Shown.{mark_of, shown_at};
+ghost use Rattle.g_mop.specs.TerminalLines.{mark_of, shown_at};
 
 use g_base::NoMemory;
 use g_lines::{Lines, push_decimal};

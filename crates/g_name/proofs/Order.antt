@@ -6,9 +6,14 @@ use Rattle.std.specs.Cmp.Lexicographic.{texts_ties}
 use Rattle.std.specs.declared.cmp.Ordering.{Ordering}
 use Rattle.std.proofs.lemmas.Cmp.{nat_cmp_total, nat_list_cmp_total, on_total, then_total}
 use Rattle.std.proofs.lemmas.Map.Lookups.{CmpEqualImpliesEq, exact_unsigned, exact_bytes, exact_pairs}
-use Rattle.std.specs.Prelude.{Bool, ◌&&◌}
+use Rattle.std.specs.Prelude.{Bool, ◌&&◌, nat_eq}
 use Rattle.g_name.specs.declared.full.Full.{Full}
-use Rattle.g_name.specs.Order.{text_cmp, full_cmp, full_eq}
+use Rattle.g_name.specs.Order.{text_cmp, full_cmp, same_text}
+
+-- the same full name
+abbrev pub full_eq : Full → Full → Bool
+full_eq a b =
+    same_text a.user b.user && (same_text a.local b.local && (nat_eq a.generation b.generation && same_text a.lang b.lang))
 
 pub full_total : IsTotalOrder full_cmp
 full_total =

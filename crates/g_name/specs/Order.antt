@@ -1,5 +1,5 @@
 -- Names compared by their bytes, and the order of full names.
-use Rattle.std.specs.Prelude.{ℕ, Bool, ◌&&◌, List, nat_eq}
+use Rattle.std.specs.Prelude.{ℕ, Bool, List, nat_eq}
 use Rattle.std.specs.Ordering.{ordering_then, nat_cmp}
 use Rattle.std.specs.declared.cmp.Ordering.{Ordering}
 use Rattle.std.specs.Cmp.Lexicographic.{pointwise, slice_cmp}
@@ -18,8 +18,3 @@ abbrev pub full_cmp : Full → Full → Ordering
 full_cmp a b =
     ordering_then (text_cmp a.user b.user)
     (ordering_then (text_cmp a.local b.local) (ordering_then (nat_cmp a.generation b.generation) (text_cmp a.lang b.lang)))
-
--- the same full name
-abbrev pub full_eq : Full → Full → Bool
-full_eq a b =
-    same_text a.user b.user && (same_text a.local b.local && (nat_eq a.generation b.generation && same_text a.lang b.lang))

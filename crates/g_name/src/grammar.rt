@@ -23,7 +23,7 @@ pub fn is_name_char(byte: u8) -> bool
 }
 
 /// Whether a text is a user name without its colon, or a local name.
-pub fn is_word(text: &[u8]) -> bool
+pub(crate) fn is_word(text: &[u8]) -> bool
     ensures { result ≡ grammar.is_word text.now }
 {
     match text.split_first() {
@@ -33,7 +33,7 @@ pub fn is_word(text: &[u8]) -> bool
 }
 
 /// Whether a text is a language.
-pub fn is_lang(text: &[u8]) -> bool
+pub(crate) fn is_lang(text: &[u8]) -> bool
     ensures { result ≡ grammar.is_lang text.now }
 {
     text.len() <= 4 && are_name_chars(text)
@@ -57,7 +57,7 @@ pub fn extends(word: &[u8], byte: u8) -> bool
 }
 
 /// The place where a text goes wrong as a word; where it is one, its length.
-pub fn word_end(text: &[u8]) -> usize
+pub(crate) fn word_end(text: &[u8]) -> usize
     ensures { IsBadPlace IsLocalText text.now result }
 {
     for (place, byte) in text.iter().enumerate() {
@@ -69,7 +69,7 @@ pub fn word_end(text: &[u8]) -> usize
 }
 
 /// The characters of a text in a list of their own, which takes no memory.
-pub fn copied<const N: usize>(text: &[u8]) -> ArrayVec<u8, N>
+pub(crate) fn copied<const N: usize>(text: &[u8]) -> ArrayVec<u8, N>
     requires { length text.now ≤ N }
     ensures { result.items ≡ text.now }
 {

@@ -18,7 +18,7 @@ use Rattle.g_disc_contents.specs.Contents.{copied_rec, copy_of}
 use Rattle.g_disc_contents.specs.Facts.{OnlineFacts}
 use Rattle.g_online.specs.declared.change.Change.TheVariants.{Adopt}
 use Rattle.g_online.specs.declared.pinned.Pinned.{Pinned}
-use Rattle.g_online.specs.Allowed.{IsAllowed}
+use Rattle.g_online.specs.AllowedChanges.{IsAllowed}
 use Rattle.g_online.specs.Invariant.{IsAgreed, IsKept, IsPooled, Memory, PinsAre, WaitsFor, directory_in, facts_of, head_after, pins_of}
 use Rattle.g_online.proofs.ChangeLemmas.{adopt_contents}
 use Rattle.g_online.proofs.KeepLemmas.{CopyFits}

@@ -18,9 +18,9 @@ use Rattle.g_disc_contents.specs.Facts.{OnlineFacts}
 use Rattle.g_online.specs.declared.change.Change.TheVariants.{Adopt}
 use Rattle.g_online.specs.declared.fault.OnlineFault.{OnlineFault}
 use Rattle.g_online.specs.declared.pinned.Pinned.{Pinned}
-use Rattle.g_online.specs.Allowed.{IsAllowed, KeepsRules}
+use Rattle.g_online.specs.AllowedChanges.{IsAllowed, KeepsRules}
 use Rattle.g_online.specs.Invariant.{AreNoted, IsKept, Memory, PinsAre, WaitsFor, directory_in, facts_of, pins_of}
-use Rattle.g_online.specs.Ready.{CoverAll, IsAdopting, IsReadyFor, Readied, adopted, ready_with}
+use Rattle.g_online.specs.ReadyCopies.{CoverAll, IsAdopting, IsReadyFor, Readied, adopted, ready_with}
 use Rattle.g_online.proofs.AdoptLemmas.{adopt_ready}
 use Rattle.g_online.proofs.NotedLemmas.{IsNotedBy, MayNote, adopted_is}
 use Rattle.g_online.proofs.PinLostLemmas.{no_numbers}

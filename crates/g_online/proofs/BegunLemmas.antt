@@ -8,7 +8,7 @@ use Rattle.std.proofs.lemmas.List.Elements.{All-cons, All-head, All-map, All-tai
 use Rattle.std.proofs.lemmas.Option.{get_or_from_slice_get, slice_get_within}
 use Rattle.g_base.specs.Block.{blocks_for}
 use Rattle.g_base.specs.Counts.{RoseBy}
-use Rattle.g_base.specs.Told.{Changes}
+use Rattle.g_base.specs.ToldContent.{Changes}
 use Rattle.g_base.proofs.ToldLemmas.{Changes-weaken}
 use Rattle.g_blocks.specs.Pool.{IsFresh, IsInArea}
 use Rattle.g_copy.specs.declared.copy.DiscCopy.{DiscCopy}
@@ -37,10 +37,10 @@ use Rattle.g_disc_contents.specs.Contents.{Contents, File, Holds, contents_of, f
 use Rattle.g_disc_contents.specs.Facts.{AreNumbers, IsTied, OnlineFacts}
 use Rattle.g_online.specs.declared.fault.OnlineFault.TheVariants.{NoFilestore, NoMemory, ReadFault}
 use Rattle.g_online.specs.declared.pinned.Pinned.{Pinned}
-use Rattle.g_online.specs.Allowed.{KeepsRules}
-use Rattle.g_online.specs.Begun.{AsBeforeOr, HasLoaded, HasMade, HoldsAsBefore, IsFound, empty_copies, empty_copy, first_contents, first_file, memory_of, refusal_of}
+use Rattle.g_online.specs.AllowedChanges.{KeepsRules}
+use Rattle.g_online.specs.Beginning.{AsBeforeOr, HasLoaded, HasMade, HoldsAsBefore, IsFound, empty_copies, empty_copy, first_contents, first_file, memory_of, refusal_of}
 use Rattle.g_online.specs.Change.{told_bytes}
-use Rattle.g_online.specs.Committed.{HasCommitted, IsMarked, commit_blocks}
+use Rattle.g_online.specs.Commit.{HasCommitted, IsMarked, commit_blocks}
 use Rattle.g_online.specs.Invariant.{AreNoted, AreWhole, IsAgreed, IsPooled, IsStored, Memory, PinsAre, directory_in, facts_of}
 use Rattle.g_online.proofs.ContentLemmas.{Told, bytes_are}
 use Rattle.g_online.proofs.CopyLemmas.{Copies, copy_behind, copy_here}

@@ -6,7 +6,7 @@ use Rattle.std.proofs.lemmas.Bool.{cases_eq, cond-false, cond-true, eq-eqb, ne_e
 use Rattle.std.proofs.lemmas.List.{get_or-map, length-map}
 use Rattle.std.proofs.lemmas.List.Elements.{All-contains, All-head, All-tail, All-weaker}
 use Rattle.g_base.specs.Block.{blocks_for}
-use Rattle.g_base.specs.Told.{Changes}
+use Rattle.g_base.specs.ToldContent.{Changes}
 use Rattle.g_base.proofs.ToldLemmas.{Changes-weaken, told_after}
 use Rattle.g_blocks.specs.Pool.{HasTaken, IsInArea}
 use Rattle.g_copy.specs.declared.copy.DiscCopy.{DiscCopy}
@@ -25,7 +25,7 @@ use Rattle.g_disc_contents.specs.Facts.{OnlineFacts}
 use Rattle.g_online.specs.declared.change.Change.TheVariants.{Bring, Unload}
 use Rattle.g_online.specs.declared.fault.OnlineFault.{OnlineFault}
 use Rattle.g_online.specs.declared.pinned.Pinned.{Pinned}
-use Rattle.g_online.specs.Allowed.{IsAllowed, KeepsRules}
+use Rattle.g_online.specs.AllowedChanges.{IsAllowed, KeepsRules}
 use Rattle.g_online.specs.Change.{changed, told_bytes, unjammed}
 use Rattle.g_online.specs.Outcomes.{HasChanged}
 use Rattle.g_online.specs.Copies.{with_copy_at}

@@ -17,12 +17,12 @@ use Rattle.g_disc_contents.specs.Facts.{OnlineFacts, Pin, noted}
 use Rattle.g_online.specs.declared.change.Change.TheVariants.{Adopt}
 use Rattle.g_online.specs.declared.fault.OnlineFault.{OnlineFault}
 use Rattle.g_online.specs.declared.pinned.Pinned.{Pinned}
-use Rattle.g_online.specs.Allowed.{IsAllowed, KeepsRules}
+use Rattle.g_online.specs.AllowedChanges.{IsAllowed, KeepsRules}
 use Rattle.g_online.specs.Change.{closed}
-use Rattle.g_online.specs.Dumped.{MarksMade, lost_places, noted_in, pinned_in}
+use Rattle.g_online.specs.DumpedVersions.{MarksMade, lost_places, noted_in, pinned_in}
 use Rattle.g_online.specs.Invariant.{AreNoted, IsFileOf, IsKept, IsPinned, Memory, PinsAre, WaitsFor, WaitsPinned, directory_in, facts_of, has_stamp, pin_of, pins_of}
 use Rattle.g_online.specs.Pins.{IsClosing}
-use Rattle.g_online.specs.Ready.{adopted}
+use Rattle.g_online.specs.ReadyCopies.{adopted}
 use Rattle.g_online.proofs.AdoptLemmas.{adopt_rules, noted_ready}
 use Rattle.g_online.proofs.CloseMarkLemmas.{covers_noted}
 use Rattle.g_online.proofs.NotedLemmas.{IsNotedBy, MayNote, adopted_is}

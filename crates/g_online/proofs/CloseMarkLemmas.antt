@@ -14,7 +14,7 @@ use Rattle.g_dirs.specs.Pages.{Covers, Remembered, marked}
 use Rattle.g_dirs.proofs.PageLemmas.{same_pages_of}
 use Rattle.g_tree.specs.Records.{IsRecords}
 use Rattle.g_disc_contents.specs.Contents.{copied_rec}
-use Rattle.g_online.specs.Dumped.{MarksMade, noted_at}
+use Rattle.g_online.specs.DumpedVersions.{MarksMade, noted_at}
 use Rattle.g_online.proofs.CloseNoteLemmas.{Tapes, all_noted, more_noted, noted_below, none_noted, other_noted}
 use Rattle.g_online.proofs.MarkLemmas.{but_head, same_block}
 use Rattle.g_online.proofs.OffLemmas.{marks_more, marks_none}

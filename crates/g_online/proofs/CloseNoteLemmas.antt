@@ -25,7 +25,7 @@ use Rattle.g_tree.proofs.RecordLemmas.{names_apart}
 use Rattle.g_tree.proofs.RuleLemmas.{one_of_key}
 use Rattle.g_disc_contents.specs.Contents.{copied_rec, copy_of}
 use Rattle.g_online.specs.declared.pinned.Pinned.{Pinned}
-use Rattle.g_online.specs.Dumped.{noted_at, noted_in}
+use Rattle.g_online.specs.DumpedVersions.{noted_at, noted_in}
 use Rattle.g_online.proofs.EntryLemmas.{put-set}
 use Rattle.g_online.proofs.VersionLemmas.{put_one}
 

@@ -12,7 +12,7 @@ use Rattle.g_entry.specs.Rules.{SameName, StampsBelow}
 use Rattle.g_entry.proofs.RuleLemmas.{file_anew}
 use Rattle.g_tree.specs.Records.{IsRecords}
 use Rattle.g_disc_contents.specs.Contents.{Contents, File, copied_rec, copy_of, recs_in, with_copies, with_copy}
-use Rattle.g_online.specs.Allowed.{KeepsRules, Lies}
+use Rattle.g_online.specs.AllowedChanges.{KeepsRules, Lies}
 use Rattle.g_online.proofs.CloseNoteLemmas.{Tapes, pairs_map}
 
 -- WHATEVER PLACE each record gets

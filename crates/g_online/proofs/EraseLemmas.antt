@@ -25,7 +25,7 @@ use Rattle.g_disc_contents.specs.Contents.{File, contents_of, file_of, with_numb
 use Rattle.g_disc_contents.specs.Facts.{OnlineFacts}
 use Rattle.g_online.specs.declared.change.Change.TheVariants.{EraseFile}
 use Rattle.g_online.specs.declared.pinned.Pinned.{Pinned}
-use Rattle.g_online.specs.Allowed.{IsAllowed}
+use Rattle.g_online.specs.AllowedChanges.{IsAllowed}
 use Rattle.g_online.specs.Change.{owner_in, with_all}
 use Rattle.g_online.specs.Copies.{without_copy}
 use Rattle.g_online.specs.Invariant.{AreNoted, GivesUnless, IsAgreed, IsFileOf, IsKept, IsPinned, IsPooled, Memory, PinsAre, WaitsFor, WaitsPinned, copy_places, directory_in, facts_of, has_stamp, head_after, is_pinned, pins_of, used_places}

@@ -14,7 +14,7 @@ use Rattle.g_tree.specs.State.{with_file}
 use Rattle.g_disc_contents.specs.Contents.{Contents, File, contents_of, file_of, set_rec, with_number}
 use Rattle.g_disc_contents.specs.Facts.{OnlineFacts}
 use Rattle.g_online.specs.declared.change.Change.TheVariants.{SetFile}
-use Rattle.g_online.specs.Allowed.{IsAllowed, IsSameVersion}
+use Rattle.g_online.specs.AllowedChanges.{IsAllowed, IsSameVersion}
 use Rattle.g_online.specs.Change.{changed}
 use Rattle.g_online.specs.Invariant.{IsAgreed, IsKept, Memory, PinsAre, directory_in, facts_of, head_after}
 use Rattle.g_online.proofs.ContentLemmas.{record_set}

@@ -7,8 +7,7 @@ use Rattle.std.proofs.lemmas.Bool.{cond-false, cond-true, eq-eqb, ne_eqb}
 use Rattle.std.proofs.lemmas.Cmp.{ranked}
 use Rattle.std.proofs.lemmas.List.Elements.{All-head, All-tail, All-weaker}
 use Rattle.g_copy.specs.declared.copy.DiscCopy.{DiscCopy}
-use Rattle.g_dirs.specs.Writing.{number_of_copy}
-use Rattle.g_dirs.proofs.ListingLemmas.{missing_at_place}
+use Rattle.g_dirs.proofs.ListingLemmas.{missing_at_place, number_of_copy}
 use Rattle.g_online.specs.Copies.{without_copy}
 
 keep_all : (n : ℕ) (cs : List (ℕ × DiscCopy)) → All (λ (c : ℕ × DiscCopy). c.0 ≢ n) cs → without_copy n cs ≡ cs

@@ -11,7 +11,7 @@ use Rattle.g_entry.specs.Formats.{is_place}
 use Rattle.g_entry.specs.Rules.{AreFiles, AreNumbered, StampsBelow}
 use Rattle.g_dirs.specs.Directory.{AreRecords, Directory, FileEntry, IsCopyOf, IsDirectory, LiesSomewhere, all_places, recs}
 use Rattle.g_disc_contents.specs.Contents.{contents_of, file_of, recs_in}
-use Rattle.g_online.specs.Allowed.{KeepsRules, Lies}
+use Rattle.g_online.specs.AllowedChanges.{KeepsRules, Lies}
 use Rattle.g_online.proofs.ContentLemmas.{recs_are}
 
 abbrev pub Told : Type 0

@@ -4,7 +4,7 @@ use Rattle.std.specs.Prelude.{IfSome, OnErr, OnOk, is_some}
 use Rattle.std.specs.Option.{ForSome}
 use Rattle.std.specs.FinMap as finmap
 use Rattle.std.proofs.lemmas.List.Elements.{All-cons, All-contains}
-use Rattle.g_base.specs.Told.{Changes}
+use Rattle.g_base.specs.ToldContent.{Changes}
 use Rattle.g_blocks.specs.Pool.{HasGiven, HasTaken, IsTaken}
 use Rattle.g_copy.specs.declared.copy.DiscCopy.{DiscCopy}
 use Rattle.g_copy.specs.Copy.{Holds as Copied, OnlyAt}
@@ -24,9 +24,9 @@ use Rattle.g_online.specs.declared.change.Change.{Change}
 use Rattle.g_online.specs.declared.change.Change.TheVariants.{Bring, PutFile}
 use Rattle.g_online.specs.declared.fault.OnlineFault.{OnlineFault}
 use Rattle.g_online.specs.declared.fault.OnlineFault.TheVariants.{Stopped}
-use Rattle.g_online.specs.Allowed.{IsAllowed}
+use Rattle.g_online.specs.AllowedChanges.{IsAllowed}
 use Rattle.g_online.specs.Change.{need_of}
-use Rattle.g_online.specs.Committed.{HasCommitted, commit_blocks}
+use Rattle.g_online.specs.Commit.{HasCommitted, commit_blocks}
 use Rattle.g_online.specs.Copies.{with_copy_at}
 use Rattle.g_online.specs.Outcomes.{IsApplied, room_for}
 use Rattle.g_online.specs.Invariant.{AreWhole, GivesUnless, IsKept, Memory, copy_places, facts_of, head_after}

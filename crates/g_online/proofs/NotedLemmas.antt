@@ -3,7 +3,7 @@ use Rattle.std.proofs.Common.{◌≡◌, ◌⊎◌, ℕ, ◌+◌, ◌<◌, Bool,
 use Rattle.std.specs.Prelude.{is_some, OnErr, OnOk}
 use Rattle.std.specs.Option.{ForSome}
 use Rattle.g_base.specs.Counts.{RoseBy}
-use Rattle.g_base.specs.Told.{Changes}
+use Rattle.g_base.specs.ToldContent.{Changes}
 use Rattle.g_copy.specs.declared.copy.DiscCopy.{DiscCopy}
 use Rattle.g_disc.specs.Disc.{Causes, DiscState, WritesOnly}
 use Rattle.g_entry.specs.declared.file_rec.TapeCopy.{TapeCopy}
@@ -19,10 +19,10 @@ use Rattle.g_online.specs.declared.fault.OnlineFault.{OnlineFault}
 use Rattle.g_online.specs.declared.fault.OnlineFault.TheVariants.{Stopped}
 use Rattle.g_online.specs.declared.pinned.Pinned.{Pinned}
 use Rattle.g_online.specs.Change.{changed, unjammed}
-use Rattle.g_online.specs.Committed.{HasCommitted, commit_blocks}
+use Rattle.g_online.specs.Commit.{HasCommitted, commit_blocks}
 use Rattle.g_online.specs.Outcomes.{HasChanged, HasStopped, IsApplied}
 use Rattle.g_online.specs.Invariant.{AreNoted, AreWhole, IsKept, Memory, PinsAre, directory_in, facts_of}
-use Rattle.g_online.specs.Ready.{StoppedAdopting, adopted}
+use Rattle.g_online.specs.ReadyCopies.{StoppedAdopting, adopted}
 use Rattle.g_online.proofs.StepLemmas.{IsReady, applied, kept_behind}
 use Rattle.g_online.proofs.TieLemmas.{tied}
 

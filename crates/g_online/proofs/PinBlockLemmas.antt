@@ -9,7 +9,7 @@ use Rattle.g_dirs.specs.Directory.{FileEntry}
 use Rattle.g_tree.proofs.RuleLemmas.{made_of}
 use Rattle.g_disc_contents.specs.Facts.{OnlineFacts, Pin}
 use Rattle.g_online.specs.declared.pinned.Pinned.{Pinned}
-use Rattle.g_online.specs.Dumped.{pinned_in, place_in}
+use Rattle.g_online.specs.DumpedVersions.{pinned_in, place_in}
 use Rattle.g_online.specs.Invariant.{ArePinned, IsKept, IsPinned, Memory, PinsAre, directory_in, facts_of, pin_of, pins_of}
 
 -- the version in memory that contracts see

@@ -20,7 +20,7 @@ use Rattle.g_tree.proofs.RuleLemmas.{one_of_key}
 use Rattle.g_disc_contents.specs.Contents.{File, file_of}
 use Rattle.g_disc_contents.specs.Facts.{OnlineFacts}
 use Rattle.g_online.specs.declared.pinned.Pinned.{Pinned}
-use Rattle.g_online.specs.Dumped.{pinned_of, pins_from, waiting_below}
+use Rattle.g_online.specs.DumpedVersions.{pinned_of, pins_from, waiting_below}
 use Rattle.g_online.specs.Invariant.{ArePinned, IsAgreed, IsFileOf, IsKept, IsPinned, IsPooled, Memory, PinsAre, WaitsPinned, copy_places, directory_in, facts_of, has_stamp, is_current, orphans, pin_of, pins_of}
 use Rattle.g_online.specs.Pins.{AreWaiting, ArePinnedFrom, ComesBefore, HasPinned, IsPinnedAt, IsWaiting}
 use Rattle.g_online.proofs.CloseNoteLemmas.{pairs_map}

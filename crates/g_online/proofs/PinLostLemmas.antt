@@ -10,7 +10,7 @@ use Rattle.g_dirs.specs.Directory.{FileEntry, all_places, entries_of}
 use Rattle.g_disc_contents.specs.Contents.{has}
 use Rattle.g_disc_contents.specs.Facts.{AreNumbers, OnlineFacts}
 use Rattle.g_online.specs.declared.pinned.Pinned.{Pinned}
-use Rattle.g_online.specs.Dumped.{is_stamp_current, lost_places, pinned_in}
+use Rattle.g_online.specs.DumpedVersions.{is_stamp_current, lost_places, pinned_in}
 use Rattle.g_online.specs.Invariant.{IsKept, IsPooled, Memory, directory_in, facts_of, is_current, orphans, used_places}
 use Rattle.g_online.proofs.UseLemmas.{IsUsed, may_give, same_swap, used_given, used_same}
 

@@ -10,7 +10,7 @@ use Rattle.g_entry.specs.declared.user_rec.UserRec.{UserRec}
 use Rattle.g_entry.specs.FileFields.{IsFile}
 use Rattle.g_tree.specs.Records.{IsRecords}
 use Rattle.g_online.specs.declared.pinned.Pinned.{Pinned}
-use Rattle.g_online.specs.Dumped.{HasPut, blocks_of, is_waiting, pinned_of, pins_from, waiting_below, waiting_of}
+use Rattle.g_online.specs.DumpedVersions.{HasPut, blocks_of, is_waiting, pinned_of, pins_from, waiting_below, waiting_of}
 
 further : (a b c : ℕ) → (a + b) + c ≡ a + (b + c)
 further a b c = omega arith

@@ -8,7 +8,7 @@ use Rattle.g_entry.specs.declared.file_rec.FileRec.{FileRec}
 use Rattle.g_entry.specs.declared.file_rec.TapeCopy.{TapeCopy}
 use Rattle.g_tree.proofs.ListLemmas.{pairs_first, pairs_rest}
 use Rattle.g_tree.proofs.RuleLemmas.{one_of_key}
-use Rattle.g_online.specs.Dumped.{is_waiting, waiting_below, waiting_of}
+use Rattle.g_online.specs.DumpedVersions.{is_waiting, waiting_below, waiting_of}
 
 -- A RECORD WHOSE VERSION WAITS
 pub record Waits (r : FileRec) : Type 0 where

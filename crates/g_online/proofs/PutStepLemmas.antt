@@ -6,7 +6,7 @@ use Rattle.std.specs.FinMap as finmap
 use Rattle.std.proofs.lemmas.List.{get_or_default}
 use Rattle.std.proofs.lemmas.List.Elements.{All-cons, All-weaker}
 use Rattle.g_base.specs.Block.{blocks_for}
-use Rattle.g_base.specs.Told.{Changes}
+use Rattle.g_base.specs.ToldContent.{Changes}
 use Rattle.g_base.proofs.ToldLemmas.{Changes-weaken, told_after}
 use Rattle.g_blocks.specs.Pool.{HasTaken, IsInArea, IsTaken}
 use Rattle.g_copy.specs.declared.copy.DiscCopy.{DiscCopy}
@@ -27,7 +27,7 @@ use Rattle.g_disc_contents.specs.Contents.{contents_of, with_number}
 use Rattle.g_disc_contents.specs.Facts.{OnlineFacts}
 use Rattle.g_online.specs.declared.change.Change.TheVariants.{PutFile}
 use Rattle.g_online.specs.declared.fault.OnlineFault.{OnlineFault}
-use Rattle.g_online.specs.Allowed.{KeepsRules}
+use Rattle.g_online.specs.AllowedChanges.{KeepsRules}
 use Rattle.g_online.specs.Change.{changed as changed_to}
 use Rattle.g_online.specs.Copies.{with_copy_at}
 use Rattle.g_online.specs.Invariant.{AreWhole, GivesUnless, IsAgreed, IsKept, IsPooled, Memory, copy_places, directory_in, head_after, orphans, pins_of, used_places}

@@ -12,7 +12,7 @@ use Rattle.g_dirs.specs.Pages.{Covers, KeepsPages, Remembered, Remembers}
 use Rattle.g_disc_contents.specs.Contents.{contents_of}
 use Rattle.g_disc_contents.specs.Facts.{OnlineFacts}
 use Rattle.g_online.specs.declared.change.Change.{Change}
-use Rattle.g_online.specs.Allowed.{IsAllowed, KeepsRules}
+use Rattle.g_online.specs.AllowedChanges.{IsAllowed, KeepsRules}
 use Rattle.g_online.specs.Change.{changed as changed_to, changed_after, touched_after, need_of}
 use Rattle.g_online.specs.Outcomes.{commits_of}
 use Rattle.g_online.specs.Invariant.{AreNoted, IsKept, IsPooled, Memory, PinsAre, directory_in, facts_of, orphans}

@@ -18,7 +18,7 @@ use Rattle.g_disc_contents.specs.Contents.{File, contents_of, file_of}
 use Rattle.g_disc_contents.specs.Facts.{OnlineFacts}
 use Rattle.g_online.specs.declared.change.Change.TheVariants.{SetUser, SetIntent}
 use Rattle.g_online.specs.declared.pinned.Pinned.{Pinned}
-use Rattle.g_online.specs.Allowed.{IsAllowed}
+use Rattle.g_online.specs.AllowedChanges.{IsAllowed}
 use Rattle.g_online.specs.Change.{changed}
 use Rattle.g_online.specs.Invariant.{AreNoted, IsAgreed, IsKept, Memory, PinsAre, directory_in, facts_of, head_after, pins_of}
 use Rattle.g_online.proofs.KeepLemmas.{CopyFits}

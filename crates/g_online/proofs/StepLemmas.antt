@@ -4,7 +4,7 @@ use Rattle.std.specs.Prelude.{is_some, length, ◌<◌, ◌⊎◌, ◌↔◌, �
 use Rattle.std.specs.Option.{ForSome}
 use Rattle.std.proofs.lemmas.Bool.{true≢false}
 use Rattle.g_base.specs.Counts.{RoseBy}
-use Rattle.g_base.specs.Told.{Changes}
+use Rattle.g_base.specs.ToldContent.{Changes}
 use Rattle.g_base.proofs.CountLemmas.{RoseBy-none, RoseBy-then}
 use Rattle.g_base.proofs.ToldLemmas.{Changes-weaken, Changes-back}
 use Rattle.g_copy.specs.declared.copy.DiscCopy.{DiscCopy}
@@ -24,7 +24,7 @@ use Rattle.g_online.specs.declared.fault.OnlineFault.{OnlineFault}
 use Rattle.g_online.specs.declared.fault.OnlineFault.TheVariants.{DiscFull, NoMemory, Stopped}
 use Rattle.g_online.specs.declared.pinned.Pinned.{Pinned}
 use Rattle.g_online.specs.Change.{changed as changed_to, changed_after, touched_after, need_of, takes_memory, touches, with_all}
-use Rattle.g_online.specs.Committed.{HasCommitted, IsMarked, commit_blocks}
+use Rattle.g_online.specs.Commit.{HasCommitted, IsMarked, commit_blocks}
 use Rattle.g_online.specs.Outcomes.{AfterStop, HasChanged, IsApplied, commits_of, room_for}
 use Rattle.g_online.specs.Invariant.{AreNoted, AreWhole, IsKept, IsPooled, Memory, PinsAre, directory_in, facts_of, pins_of}
 use Rattle.g_online.proofs.SameLemmas.{same_area, same_contents, same_pins, AreSame}

@@ -18,7 +18,7 @@ use Rattle.g_online.specs.declared.change.Change.{Change}
 use Rattle.g_online.specs.declared.change.Change.TheVariants.{PutFile, Unload}
 use Rattle.g_online.specs.declared.fault.OnlineFault.{OnlineFault}
 use Rattle.g_online.specs.declared.fault.OnlineFault.TheVariants.{DiscFull, NoMemory, Stopped}
-use Rattle.g_online.specs.Allowed.{AreUnjammable, IsAllowed, KeepsRules}
+use Rattle.g_online.specs.AllowedChanges.{AreUnjammable, IsAllowed, KeepsRules}
 use Rattle.g_online.specs.Change.{changed, need_of, takes_memory, told_bytes, touches, unjammed, unjammed_by, with_all}
 use Rattle.g_online.specs.Outcomes.{AfterStop, HasChanged, IsApplied, commits_of, room_for}
 

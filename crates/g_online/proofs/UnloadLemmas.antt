@@ -22,7 +22,7 @@ use Rattle.g_disc_contents.specs.Contents.{File, contents_of, file_of, has}
 use Rattle.g_disc_contents.specs.Facts.{OnlineFacts}
 use Rattle.g_online.specs.declared.change.Change.TheVariants.{Unload}
 use Rattle.g_online.specs.declared.pinned.Pinned.{Pinned}
-use Rattle.g_online.specs.Allowed.{AreUnjammable, IsAllowed, IsUnjammable}
+use Rattle.g_online.specs.AllowedChanges.{AreUnjammable, IsAllowed, IsUnjammable}
 use Rattle.g_online.specs.Copies.{without_copies}
 use Rattle.g_online.specs.Invariant.{AreNoted, IsAgreed, IsFileOf, IsKept, IsPinned, IsPooled, Memory, PinsAre, WaitsFor, WaitsPinned, copy_places, directory_in, facts_of, head_after, is_current, orphans, used_places}
 use Rattle.g_online.specs.Unloading.{MarksFiles, places_off}

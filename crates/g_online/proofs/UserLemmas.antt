@@ -11,7 +11,7 @@ use Rattle.g_tree.specs.Records.{IsRecords}
 use Rattle.g_disc_contents.specs.Contents.{contents_of, with_number}
 use Rattle.g_disc_contents.specs.Facts.{OnlineFacts}
 use Rattle.g_online.specs.declared.change.Change.TheVariants.{AddUser}
-use Rattle.g_online.specs.Allowed.{IsAllowed}
+use Rattle.g_online.specs.AllowedChanges.{IsAllowed}
 use Rattle.g_online.specs.Change.{changed}
 use Rattle.g_online.specs.Invariant.{IsAgreed, IsKept, Memory, PinsAre, directory_in, facts_of, head_after}
 use Rattle.g_online.proofs.MarkLemmas.{but_head, but_user}

@@ -1,7 +1,7 @@
 -- What one commit leaves.
 use Rattle.std.proofs.Common.{◌≡◌, ℕ, Bool, List, Option, sym, ◌∙◌, ap, subst, slice_get}
 use Rattle.std.specs.Option.{ForSome}
-use Rattle.g_base.specs.Told.{Changes}
+use Rattle.g_base.specs.ToldContent.{Changes}
 use Rattle.g_base.proofs.ToldLemmas.{told_after}
 use Rattle.g_disc.specs.Disc.{DiscState}
 use Rattle.g_slots.specs.declared.side.Side.{Side}
@@ -10,7 +10,7 @@ use Rattle.g_slots.specs.Layout.{GateNames, other}
 use Rattle.g_dirs.specs.Commit.{NewDirectory}
 use Rattle.g_dirs.specs.Directory.{Directory, IsDirectory}
 use Rattle.g_dirs.specs.Pages.{Covers, KeepsPages, Remembered, RemembersAll, Remembers, marks_of, pages_of}
-use Rattle.g_online.specs.Committed.{HasCommitted, IsMarked}
+use Rattle.g_online.specs.Commit.{HasCommitted, IsMarked}
 
 -- the blocks of the slot that was current keep their marks
 kept_side : (d : Directory) (side : Side) (old new : Remembered) → pages_of side new ≡ pages_of side old → marks_of side new ≡ marks_of side old → Covers d side old → Covers d side new

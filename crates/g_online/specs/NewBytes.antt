@@ -2,7 +2,7 @@
 use Rattle.std.specs.Prelude.{◌≡◌, ℕ, ◌+◌, Bool, false, List, Option, Some, None, Result, Ok, Err, OnOk, OnErr, if◌then◌else◌}
 use Rattle.std.specs.Option.{ForSome}
 use Rattle.g_base.specs.Block.{blocks_for}
-use Rattle.g_base.specs.Told.{Changes}
+use Rattle.g_base.specs.ToldContent.{Changes}
 use Rattle.g_blocks.specs.Pool.{AreLeastFree, HasGiven, HasTaken}
 use Rattle.g_copy.specs.declared.copy.DiscCopy.{DiscCopy}
 use Rattle.g_disc.specs.Disc.{DiscState, WritesOnly}
@@ -20,7 +20,7 @@ use Rattle.g_online.specs.declared.change.Change.TheVariants.{Bring, PutFile}
 use Rattle.g_online.specs.declared.fault.OnlineFault.{OnlineFault}
 use Rattle.g_online.specs.declared.fault.OnlineFault.TheVariants.{Stopped}
 use Rattle.g_online.specs.declared.pinned.Pinned.{Pinned}
-use Rattle.g_online.specs.Committed.{HasCommitted, IsMarked, commit_blocks}
+use Rattle.g_online.specs.Commit.{HasCommitted, IsMarked, commit_blocks}
 use Rattle.g_online.specs.Copies.{without_copies}
 use Rattle.g_online.specs.Invariant.{AreWhole, head_after, is_pinned}
 

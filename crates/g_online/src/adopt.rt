@@ -2,7 +2,7 @@
 ghost use Rattle.std.specs.Prelude.{◌≡◌, IfOk, map};
 ghost use Rattle.g_tree.specs.Records.{IsRecords};
 ghost use Rattle.g_disc_contents.specs.Contents.{copied_rec, copy_of};
-ghost use Rattle.g_online.specs.Allowed.{IsAllowed};
+ghost use Rattle.g_online.specs.AllowedChanges.{IsAllowed};
 ghost use Rattle.g_online.specs.Outcomes.{IsApplied};
 
 use crate::change::{Change, CopyList};

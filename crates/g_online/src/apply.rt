@@ -1,5 +1,5 @@
 //! Any change of the filestore.
-ghost use Rattle.g_online.specs.Allowed.{IsAllowed};
+ghost use Rattle.g_online.specs.AllowedChanges.{IsAllowed};
 ghost use Rattle.g_online.specs.Outcomes.{IsApplied};
 
 use crate::change::Change;

@@ -1,5 +1,5 @@
 //! The bytes of a file come back to the disc.
-ghost use Rattle.g_online.specs.Allowed.{IsAllowed};
+ghost use Rattle.g_online.specs.AllowedChanges.{IsAllowed};
 ghost use Rattle.g_online.specs.Outcomes.{IsApplied};
 
 use crate::change::Change;

@@ -2,9 +2,9 @@
 ghost use Rattle.std.specs.Prelude.{◌≡◌, ◌<◌, IfNone, IfSome, None, is_some, map, true};
 ghost use Rattle.g_tree.specs.Records.{IsRecords};
 ghost use Rattle.g_disc_contents.specs.Contents.{copied_rec, copy_of};
-ghost use Rattle.g_online.specs.Allowed.{KeepsRules};
+ghost use Rattle.g_online.specs.AllowedChanges.{KeepsRules};
 ghost use Rattle.g_online.specs.Change.{closed};
-ghost use Rattle.g_online.specs.Dumped.{MarksMade, noted_at};
+ghost use Rattle.g_online.specs.DumpedVersions.{MarksMade, noted_at};
 ghost use Rattle.g_online.specs.Pins.{IsClosing};
 
 use crate::commit::commit;

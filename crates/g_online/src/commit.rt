@@ -1,11 +1,11 @@
 //! One commit of the directory in memory.
 ghost use Rattle.std.specs.Prelude.{◌≡◌, OnErr, OnOk, false};
 ghost use Rattle.std.specs.Option.{ForSome};
-ghost use Rattle.g_base.specs.Told.{Changes};
+ghost use Rattle.g_base.specs.ToldContent.{Changes};
 ghost use Rattle.g_disc.specs.Disc.{WritesOnly};
 ghost use Rattle.g_dirs.specs.Commit.{OldOrNew};
 ghost use Rattle.g_dirs.specs.Directory.{AreCopies, directory_of};
-ghost use Rattle.g_online.specs.Committed.{HasCommitted, IsMarked, commit_blocks};
+ghost use Rattle.g_online.specs.Commit.{HasCommitted, IsMarked, commit_blocks};
 ghost use Rattle.g_online.specs.Invariant.{AreWhole};
 
 use crate::OnlineFault;

@@ -3,7 +3,7 @@ ghost use Rattle.std.specs.Prelude.{◌≡◌, ◌≢◌, ◌<◌, All, AllPairs
 ghost use Rattle.std.specs.Option.{option_copied};
 ghost use Rattle.std.specs.Vec.{vec_capacity};
 ghost use Rattle.g_blocks.specs.Pool.{IsTaken};
-ghost use Rattle.g_online.specs.Allowed.{IsAllowed};
+ghost use Rattle.g_online.specs.AllowedChanges.{IsAllowed};
 ghost use Rattle.g_online.specs.Copies.{without_copy};
 ghost use Rattle.g_online.specs.Outcomes.{IsApplied};
 ghost use Rattle.g_online.specs.Invariant.{GivesUnless, copy_places, is_pinned};

@@ -1,7 +1,7 @@
 //! The beginnings of a filestore that is online: it is loaded from its disc, or made on it anew.
 ghost use Rattle.std.specs.Prelude.{◌≡◌, ◌≢◌, ◌⊎◌, ◌<◌, ◌≤◌, ℕ, AllPairs, IfErr, IfOk, List, map, is_some, [], OnErr};
 ghost use Rattle.std.specs.Option.{ForSome};
-ghost use Rattle.g_base.specs.Told.{Changes};
+ghost use Rattle.g_base.specs.ToldContent.{Changes};
 ghost use Rattle.g_blocks.specs.Pool.{IsFresh};
 ghost use Rattle.g_disc.specs.Disc.{Causes, ReadsByCause};
 ghost use Rattle.g_entry.specs.Rules.{AreUsers};
@@ -13,8 +13,8 @@ ghost use Rattle.g_dirs.specs.Pages.{nothing};
 ghost use Rattle.g_dirs.specs.Rules.{AreApart, numbers_of};
 ghost use Rattle.g_disc_contents.specs.Contents.{Contents, Holds};
 ghost use Rattle.g_disc_contents.specs.Facts.{IsTied};
-ghost use Rattle.g_online.specs.Allowed.{KeepsRules};
-ghost use Rattle.g_online.specs.Begun.{AsBeforeOr, HasLoaded, HasMade, IsFound, empty_copies, first_contents, memory_of, refusal_of};
+ghost use Rattle.g_online.specs.AllowedChanges.{KeepsRules};
+ghost use Rattle.g_online.specs.Beginning.{AsBeforeOr, HasLoaded, HasMade, IsFound, empty_copies, first_contents, memory_of, refusal_of};
 ghost use Rattle.g_online.specs.Invariant.{IsAgreed, facts_of};
 
 use crate::commit::commit;

@@ -3,7 +3,7 @@ ghost use Rattle.std.specs.Prelude.{◌≡◌, ◌≢◌, ◌+◌, ◌<◌, All,
 ghost use Rattle.g_blocks.specs.Pool.{HasGiven, IsTaken};
 ghost use Rattle.g_dirs.specs.Directory.{copy_at};
 ghost use Rattle.g_dirs.specs.Pages.{marked};
-ghost use Rattle.g_online.specs.Allowed.{IsAllowed};
+ghost use Rattle.g_online.specs.AllowedChanges.{IsAllowed};
 ghost use Rattle.g_online.specs.Copies.{without_copies, without_copy};
 ghost use Rattle.g_online.specs.Outcomes.{IsApplied};
 ghost use Rattle.g_online.specs.Invariant.{copy_places};

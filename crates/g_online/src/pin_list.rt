@@ -1,7 +1,7 @@
 //! The versions that are pinned, and what is noted for each beside them.
 ghost use Rattle.std.specs.Prelude.{◌≡◌, ◌==◌, IfOk};
 ghost use Rattle.std.specs.List.{list_any};
-ghost use Rattle.g_online.specs.Dumped.{noted_in};
+ghost use Rattle.g_online.specs.DumpedVersions.{noted_in};
 ghost use Rattle.g_online.specs.Invariant.{has_stamp};
 
 use crate::pinned::Pinned;
@@ -21,7 +21,7 @@ pub(crate) struct PinList {
 impl Model for PinList {
     ghost use Rattle.std.specs.Prelude.{◌≡◌, List};
     ghost use Rattle.g_online.specs.declared.pinned.Pinned.{Pinned};
-    ghost use Rattle.g_online.specs.Dumped.{noted_in};
+    ghost use Rattle.g_online.specs.DumpedVersions.{noted_in};
 
     ghost Value = { List Pinned };
 

@@ -5,7 +5,7 @@ ghost use Rattle.g_base.specs.Block.{blocks_for};
 ghost use Rattle.g_blocks.specs.Pool.{HasGiven, IsTaken};
 ghost use Rattle.g_disc.specs.Disc.{ReadsByCause};
 ghost use Rattle.g_disc_contents.specs.Facts.{IsTied, Pin};
-ghost use Rattle.g_online.specs.Dumped.{HasPut, is_stamp_current, is_waiting, lost_of, lost_places, noted_in, pinned_in, pins_from, place_in, waiting_below, waiting_of};
+ghost use Rattle.g_online.specs.DumpedVersions.{HasPut, is_stamp_current, is_waiting, lost_of, lost_places, noted_in, pinned_in, pins_from, place_in, waiting_below, waiting_of};
 ghost use Rattle.g_online.specs.Invariant.{copy_places};
 ghost use Rattle.g_online.specs.Pins.{HasPinned};
 

@@ -3,7 +3,7 @@ ghost use Rattle.std.specs.Prelude.{◌≡◌, ℕ, IfOk, List, None, map, true}
 ghost use Rattle.g_entry.specs.declared.file_rec.TapeCopy.{TapeCopy};
 ghost use Rattle.g_tree.specs.Records.{IsRecords};
 ghost use Rattle.g_disc_contents.specs.Contents.{copied_rec, recs_in};
-ghost use Rattle.g_online.specs.Ready.{IsAdopting, IsReadyFor, ready_with};
+ghost use Rattle.g_online.specs.ReadyCopies.{IsAdopting, IsReadyFor, ready_with};
 
 use crate::adopt::noted;
 use crate::commit::commit;
@@ -23,7 +23,7 @@ pub struct Ready {
 }
 
 impl Model for Ready {
-    ghost use Rattle.g_online.specs.Ready.{Readied};
+    ghost use Rattle.g_online.specs.ReadyCopies.{Readied};
 
     ghost Value = { Readied };
 

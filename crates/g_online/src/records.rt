@@ -1,7 +1,7 @@
 //! The changes of records, which touch no bytes.
 ghost use Rattle.std.specs.Prelude.{◌≡◌, ◌<◌, if◌then◌else◌};
 ghost use Rattle.g_disc_contents.specs.Contents.{with_number};
-ghost use Rattle.g_online.specs.Allowed.{IsAllowed};
+ghost use Rattle.g_online.specs.AllowedChanges.{IsAllowed};
 ghost use Rattle.g_online.specs.Outcomes.{IsApplied};
 ghost use Rattle.g_online.specs.Invariant.{head_after};
 

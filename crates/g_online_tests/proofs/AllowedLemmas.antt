@@ -22,7 +22,7 @@ use Rattle.g_disc_contents.specs.Facts.{IsTied, OnlineFacts, Pin, noted}
 use Rattle.g_base.specs.Block.{blocks_for}
 use Rattle.g_online.specs.declared.change.Change.{Change}
 use Rattle.g_online.specs.declared.change.Change.TheVariants.{Adopt, EraseFile, SetFile, SetIntent, SetUser, Unload}
-use Rattle.g_online.specs.Allowed.{AreUnjammable, Fits, IsAllowed, IsUnjammable, KeepsRules, Lies}
+use Rattle.g_online.specs.AllowedChanges.{AreUnjammable, Fits, IsAllowed, IsUnjammable, KeepsRules, Lies}
 use Rattle.g_online.specs.Change.{changed, closed, made, sets_intent}
 use Rattle.g_online.specs.Pins.{ArePinnedFrom, HasPinned, IsWaiting}
 use Rattle.g_online.proofs.CloseNoteLemmas.{map_same}

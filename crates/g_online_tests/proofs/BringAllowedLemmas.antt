@@ -8,7 +8,7 @@ use Rattle.g_tree.specs.Records.{IsRecords}
 use Rattle.g_disc_contents.specs.Contents.{Contents, File, brought, online_with}
 use Rattle.g_disc_contents.specs.Facts.{IsTied, OnlineFacts}
 use Rattle.g_online.specs.declared.change.Change.TheVariants.{Bring, Unload}
-use Rattle.g_online.specs.Allowed.{AreUnjammable, IsAllowed, KeepsRules, Lies}
+use Rattle.g_online.specs.AllowedChanges.{AreUnjammable, IsAllowed, KeepsRules, Lies}
 use Rattle.g_online.specs.Change.{changed, made, told_bytes}
 use Rattle.g_online.proofs.BringStepLemmas.{bring_needing}
 use Rattle.g_online.proofs.TwoLemmas.{taken_none}

@@ -8,7 +8,7 @@ use Rattle.g_entry.specs.declared.file_rec.TapeCopy.{TapeCopy}
 use Rattle.g_entry.specs.FileFields.{IsCopy}
 use Rattle.g_disc_contents.specs.Contents.{File, recs_in}
 use Rattle.g_disc_contents.specs.Facts.{IsPinOf, IsTied, OnlineFacts, Pin, noted}
-use Rattle.g_online.specs.Allowed.{KeepsRules}
+use Rattle.g_online.specs.AllowedChanges.{KeepsRules}
 use Rattle.g_online.specs.Change.{closed}
 use Rattle.g_online.specs.Pins.{ArePinnedFrom, ComesBefore, HasPinned}
 use Rattle.g_online.proofs.CopiedLemmas.{none_copied, rules_copied}

@@ -4,8 +4,8 @@ use Rattle.g_entry.specs.declared.file_rec.FileRec.{FileRec}
 use Rattle.g_entry.specs.declared.head.Head.{Head}
 use Rattle.g_entry.specs.declared.user_rec.UserRec.{UserRec}
 use Rattle.g_tree.specs.Records.{IsRecords}
-use Rattle.g_online.specs.Allowed.{KeepsRules}
-use Rattle.g_online.specs.Begun.{first_contents}
+use Rattle.g_online.specs.AllowedChanges.{KeepsRules}
+use Rattle.g_online.specs.Beginning.{first_contents}
 
 abbrev first_head : Head
 first_head = record { next_stamp = 1; last_dump = 0; intent = None }

@@ -17,7 +17,7 @@ use Rattle.g_tree.proofs.RuleLemmas.{one_of_key}
 use Rattle.g_disc_contents.specs.Contents.{Contents, File, recs_in, taken_off, with_file}
 use Rattle.g_disc_contents.specs.Facts.{IsTied, OnlineFacts}
 use Rattle.g_online.specs.declared.change.Change.TheVariants.{PutFile, Unload}
-use Rattle.g_online.specs.Allowed.{AreUnjammable, IsAllowed, KeepsRules, Lies}
+use Rattle.g_online.specs.AllowedChanges.{AreUnjammable, IsAllowed, KeepsRules, Lies}
 use Rattle.g_online.specs.Change.{changed, told_bytes}
 use Rattle.g_online.proofs.EntryLemmas.{put-set, set_one}
 use Rattle.g_online.proofs.TwoLemmas.{put_two, taken_none}

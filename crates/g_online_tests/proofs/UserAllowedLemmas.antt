@@ -12,7 +12,7 @@ use Rattle.g_tree.proofs.ListLemmas.{pairs_first, pairs_rest}
 use Rattle.g_disc_contents.specs.Contents.{Contents, recs_in}
 use Rattle.g_disc_contents.specs.Facts.{IsTied, OnlineFacts}
 use Rattle.g_online.specs.declared.change.Change.TheVariants.{AddUser}
-use Rattle.g_online.specs.Allowed.{IsAllowed, KeepsRules}
+use Rattle.g_online.specs.AllowedChanges.{IsAllowed, KeepsRules}
 use Rattle.g_online.proofs.UserLemmas.{slice_get-push}
 use Rattle.g_online_tests.proofs.AllowedLemmas.{allow, rules_here}
 

@@ -2,7 +2,7 @@
 //! `NoFilestore` is answered, which no change answers.
 ghost use Rattle.std.specs.Prelude.{◌≡◌, IfOk, None, OnOk, true};
 ghost use Rattle.g_disc_contents.specs.Facts.{IsTied};
-ghost use Rattle.g_online.specs.Allowed.{AreUnjammable, IsUnjammable};
+ghost use Rattle.g_online.specs.AllowedChanges.{AreUnjammable, IsUnjammable};
 
 use crate::discs::Counted;
 use g_entry::FileRec;

@@ -2,7 +2,7 @@
 ghost use Rattle.std.specs.Prelude.{◌≡◌, ◌≢◌, All, IfOk, IfSome, None, OnOk, is_some, true};
 ghost use Rattle.g_disc_contents.specs.Facts.{IsTied};
 ghost use Rattle.g_entry.specs.FileFields.{IsCopy};
-ghost use Rattle.g_online.specs.Allowed.{AreUnjammable};
+ghost use Rattle.g_online.specs.AllowedChanges.{AreUnjammable};
 
 use crate::asked::{bring_back, first_two, no_intent, only, put_again, put_over};
 use crate::discs::{Counted, block_of};

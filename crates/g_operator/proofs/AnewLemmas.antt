@@ -15,7 +15,7 @@ use Rattle.g_plain.specs.declared.faults.StoreFault.TheVariants.{DiscReadFault, 
 use Rattle.g_store_meaning.specs.Answers.{Belongs}
 use Rattle.g_store_meaning.specs.Meaning.{told_reels}
 use Rattle.g_store_meaning.specs.Reading.{AllTold, DevicesStandFor, StandsForState}
-use Rattle.g_store_meaning.specs.Up.{StoreFacts}
+use Rattle.g_store_meaning.specs.StoreInvariant.{StoreFacts}
 use Rattle.g_laws_store.proofs.StateLemmas.{have_states}
 use Rattle.g_store_model.specs.CallStep.{Plain}
 use Rattle.g_store_model.specs.Rising.{FormatStep}
@@ -27,14 +27,14 @@ use Rattle.g_script.specs.declared.operator.Operator.{Operator}
 use Rattle.g_script.specs.declared.operator.Operator.TheVariants as line
 use Rattle.g_run_model.specs.Devices.{Devices}
 use Rattle.g_run_model.specs.Texts.{operator_line}
-use Rattle.g_laws_runs.specs.Anew.{AreBlank, IsFormatted, NoDiscFault, is_aside, with_new_disc}
+use Rattle.g_laws_runs.specs.BeginningAnew.{AreBlank, IsFormatted, NoDiscFault, is_aside, with_new_disc}
 use Rattle.g_laws_runs.proofs.AnewLemmas.{formats_anew}
 use Rattle.g_laws_runs.proofs.FreshLemmas.{emptied_stand}
 use Rattle.g_job_table.specs.Crew.{CrewState}
 use Rattle.g_operator.specs.declared.progress.Failure.{Failure}
 use Rattle.g_operator.specs.declared.rising.Rise.{Rise}
 use Rattle.g_operator.specs.declared.rising.Rise.TheVariants as rise
-use Rattle.g_operator.specs.Anew.{AnewLine, FormatsAnew, IsBlank, WentAside, beside, beside_new}
+use Rattle.g_operator.specs.BeginningAnew.{AnewLine, FormatsAnew, IsBlank, WentAside, beside, beside_new}
 use Rattle.g_operator.specs.Arming.{disc_armed, tape_armed}
 use Rattle.g_operator.specs.Opening.{Opens}
 use Rattle.g_operator.specs.Parts.{DidLine, IsReady, Seen, seen}

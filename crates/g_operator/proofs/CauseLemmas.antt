@@ -8,11 +8,11 @@ use Rattle.g_plain.specs.declared.faults.StoreFault.{StoreFault}
 use Rattle.g_plain.specs.declared.faults.StoreFault.TheVariants.{DiscReadFault, Stopped, TapeReadFault}
 use Rattle.g_store_model.specs.CallStep.{Cut, DiscRead, Outcome, Plain, TapeRead}
 use Rattle.g_run_model.specs.Devices.{Devices}
-use Rattle.g_run_model.specs.Events.{OutcomeTold}
 use Rattle.g_run_model.specs.Moves.{EventCounted}
 use Rattle.g_run_model.proofs.CountLemmas.{disc_failed, none_failed, none_rose}
 use Rattle.g_operator.specs.System.{SameDevices, labels}
 use Rattle.g_operator.proofs.LabelLemmas.{stands_still}
+use Rattle.g_run_model.proofs.EventToldLemmas.{OutcomeTold}
 
 -- an event that writes no tape: each count moves with its own answer
 pub record OfDisc {A : Type 0} (answer : Result A StoreFault) (old new : Devices) : Type 0 where

@@ -8,11 +8,11 @@ use Rattle.g_plain.specs.declared.faults.StoreFault.{StoreFault}
 use Rattle.g_plain.specs.declared.faults.StoreFault.TheVariants.{Stopped}
 use Rattle.g_incr.specs.Layout.{Dump}
 use Rattle.g_incr.specs.Plan.{dump_of}
-use Rattle.g_shelf.specs.Completed.{AreCompleted, AreShelved}
+use Rattle.g_shelf.specs.CompletedDumps.{AreCompleted, AreShelved}
 use Rattle.g_store_model.specs.DumpSteps.{Completed, Going, Stepped}
 use Rattle.g_store_meaning.specs.Answers.{Belongs, Told}
 use Rattle.g_store_meaning.specs.Meaning.{told_reels}
-use Rattle.g_store_meaning.specs.Up.{StoreFacts, with_dump}
+use Rattle.g_store_meaning.specs.StoreInvariant.{StoreFacts, with_dump}
 use Rattle.g_store.specs.Dumping.{Adds, KeepsDumps}
 use Rattle.g_store.proofs.MountLemmas.{shelved_turned, told_turned}
 use Rattle.g_operator.specs.System.{DumpsGrow}

@@ -7,13 +7,13 @@ use Rattle.std.proofs.lemmas.Option.{none-some, same_Some}
 use Rattle.g_plain.specs.declared.faults.StoreFault.TheVariants.{DumpOpen, NotStarted}
 use Rattle.g_entry.specs.declared.user_rec.UserRec.{UserRec}
 use Rattle.g_tree.specs.Records.{users_by_name}
-use Rattle.g_job.specs.Begun.{job_begun}
+use Rattle.g_job.specs.Beginning.{job_begun}
 use Rattle.g_job.specs.State.{JobState}
 use Rattle.g_store_model.specs.State.{OpenDump, State}
 use Rattle.g_store_model.specs.CallStep.{Outcome, Plain, down}
 use Rattle.g_store_meaning.specs.Reading.{DevicesStandFor, StandsForState, open_of}
 use Rattle.g_store_meaning.specs.Meaning.{told_reels}
-use Rattle.g_store_meaning.specs.Up.{DumpFacts, StoreFacts}
+use Rattle.g_store_meaning.specs.StoreInvariant.{DumpFacts, StoreFacts}
 use Rattle.g_store_calls.proofs.SeenLemmas.{seen as seen_of}
 use Rattle.g_script.specs.declared.operator.Operator.{Operator}
 use Rattle.g_script.specs.declared.operator.Operator.TheVariants as line

@@ -14,14 +14,13 @@ use Rattle.g_store_model.specs.DumpSteps.{open_number}
 use Rattle.g_store_model.specs.Process.{Marked, Moved, NotYet, ProcessLeft, ProcessStep, Processes as Steps, process_needs, process_refuses, process_refuses_late}
 use Rattle.g_store_model.specs.Rising.{fault_from}
 use Rattle.g_store_model.specs.State.{Holding, State, capacity_in, end_of, first_reel, lacks, reel_at}
-use Rattle.g_store_meaning.specs.Up.{StoreFacts}
+use Rattle.g_store_meaning.specs.StoreInvariant.{StoreFacts}
 use Rattle.g_script.specs.declared.operator.Operator.TheVariants as line
 use Rattle.g_run_model.specs.Devices.{Devices}
-use Rattle.g_run_model.specs.Events.{OutcomeTold}
 use Rattle.g_run_model.specs.Moves.{DumpCounted, WritesFailed}
 use Rattle.g_run_model.specs.Texts.{operator_line, processed_text}
 use Rattle.g_run_model.proofs.CountLemmas.{dump_failed, none_failed, none_rose, rack_failed}
-use Rattle.g_run_model.proofs.EventToldLemmas.{process_told}
+use Rattle.g_run_model.proofs.EventToldLemmas.{process_told, OutcomeTold}
 use Rattle.g_job_table.specs.Crew.{CrewState}
 use Rattle.g_operator.specs.declared.progress.Failure.{Failure}
 use Rattle.g_operator.specs.Asking.{Processed}

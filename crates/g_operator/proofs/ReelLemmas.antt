@@ -14,10 +14,10 @@ use Rattle.g_incr.specs.Layout.{Dump}
 use Rattle.g_disc_contents.specs.Contents.{Contents, Holds}
 use Rattle.g_store_model.specs.State as state
 use Rattle.g_store_model.specs.DumpSteps as dumps
-use Rattle.g_store_meaning.specs.Belong.{BelongWith, DiscBelongs, IsIntended, IsPlaced, KeepsFile, RackBelongs}
+use Rattle.g_store_meaning.specs.Belonging.{BelongWith, DiscBelongs, IsIntended, IsPlaced, KeepsFile, RackBelongs}
 use Rattle.g_store_meaning.specs.Meaning.{told_reels}
 use Rattle.g_store_meaning.specs.Reading.{AllTold, DevicesStandFor, IsView, View, state_down}
-use Rattle.g_store_meaning.specs.Up.{StoreFacts}
+use Rattle.g_store_meaning.specs.StoreInvariant.{StoreFacts}
 use Rattle.g_store.specs.Events.{AnswersEvent, Mounts, Unmounts}
 use Rattle.g_store.specs.Refusing.{DoneOr, is_on, mount_refuses, rack_answer, unmount_refuses}
 use Rattle.g_store.proofs.MountLemmas.{dumps_stay, lacks_by, mounted_by, rows_turned, serials_stay, shelved_turned, told_after, told_turned, turned}

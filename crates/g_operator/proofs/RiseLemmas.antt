@@ -14,23 +14,23 @@ use Rattle.g_store_model.specs.State.{Dumped, Holding, State, first_reel}
 use Rattle.g_store_model.specs.CallStep.{DiscRead, Outcome, Plain, is_cut, is_disc_read}
 use Rattle.g_store_model.specs.DumpSteps.{Event}
 use Rattle.g_store_model.specs.Rising.{FormatStep, RestoreStep, Restores, StartStep, Starts, adopted, coming_up, dump_adopted, fault_from, restore_early, restore_late, restored, start_refuses}
-use Rattle.g_store_meaning.specs.Belong.{Belong}
+use Rattle.g_store_meaning.specs.Belonging.{Belong}
 use Rattle.g_store_meaning.specs.Meaning.{told_reels}
 use Rattle.g_store_meaning.specs.Answers.{Belongs, IsStore, Told}
 use Rattle.g_store_meaning.specs.Reading.{AllTold, DevicesStandFor, StandsForState}
-use Rattle.g_store_meaning.specs.Up.{StoreFacts}
+use Rattle.g_store_meaning.specs.StoreInvariant.{StoreFacts}
 use Rattle.g_store.specs.Making.{Begun, Formats, LeadsDown, Makes, Refuses, RefusesFormat, RefusesRestore, RefusesStart, Restored, StepsDown, commits_of_start}
 use Rattle.g_script.specs.declared.operator.Operator.{Operator}
 use Rattle.g_script.specs.declared.operator.Operator.TheVariants as line
 use Rattle.g_run_model.specs.Devices.{Devices}
-use Rattle.g_run_model.specs.Events.{IsTold, OutcomeTold}
+use Rattle.g_run_model.specs.Events.{IsTold}
 use Rattle.g_run_model.specs.Lines.{LineGives, Asks, is_process, line_refused, tells, up_with}
 use Rattle.g_run_model.specs.Moves.{EventCounted}
 use Rattle.g_run_model.specs.Texts.{operator_line, started_text}
 use Rattle.g_run_model.specs.World.{World}
 use Rattle.g_job_table.specs.Accounts.{AreKept, kept_for}
 use Rattle.g_job_table.specs.Crew.{CrewState}
-use Rattle.g_run_model.proofs.EventToldLemmas.{ToldBy, format_told, restore_told, start_told}
+use Rattle.g_run_model.proofs.EventToldLemmas.{ToldBy, format_told, restore_told, start_told, OutcomeTold}
 use Rattle.g_operator.specs.declared.progress.Failure.{Failure}
 use Rattle.g_operator.specs.Opening.{Opens}
 use Rattle.g_operator.specs.Parts.{DidLine, DoesLine, IsReady, CountedBy, Matches, Seen, disc_arms, seen, tape_arms}

@@ -6,7 +6,7 @@ use Rattle.g_base.specs.Fuse.{IsArmedBy, armed_with}
 use Rattle.g_base.proofs.CountLemmas.{HasRisenBy-none}
 use Rattle.g_base.proofs.FuseLemmas.{within_all, within_none}
 use Rattle.g_store_model.specs.CallStep.{Plain}
-use Rattle.g_store_meaning.specs.Up.{StoreFacts}
+use Rattle.g_store_meaning.specs.StoreInvariant.{StoreFacts}
 use Rattle.g_store.specs.Arming.{MeansTheSame}
 use Rattle.g_script.specs.declared.operator.Operator.TheVariants as line
 use Rattle.g_run_model.specs.Devices.{Devices}

@@ -11,11 +11,11 @@ use Rattle.g_job.specs.State.{JobState}
 use Rattle.g_job.specs.Terminal.{logged_out, typed_to}
 use Rattle.g_base.specs.declared.memory.NoMemory.{NoMemory}
 use Rattle.g_mop.specs.Seats.{busy_text, none_text}
-use Rattle.g_mop.specs.Shown.{shown_at, terminal_name}
+use Rattle.g_mop.specs.TerminalLines.{shown_at, terminal_name}
 use Rattle.g_store_model.specs.State.{State}
 use Rattle.g_store_model.specs.CallStep.{Plain}
 use Rattle.g_store_meaning.specs.Reading.{StandsForState}
-use Rattle.g_store_meaning.specs.Up.{StoreFacts}
+use Rattle.g_store_meaning.specs.StoreInvariant.{StoreFacts}
 use Rattle.g_script.specs.declared.operator.Operator.{Operator}
 use Rattle.g_script.specs.declared.operator.Operator.TheVariants as line
 use Rattle.g_run_model.specs.Accounts.{knows_user}

@@ -12,19 +12,19 @@ use Rattle.g_store_model.specs.CallStep.{Outcome, Plain, commits, stamp_of}
 use Rattle.g_store_model.specs.DumpSteps.{Event, MigrateStep, OpenStep, migrate_refuses, open_refuses, opening}
 use Rattle.g_store_meaning.specs.Answers.{Belongs, HasCause, IsStore, Told}
 use Rattle.g_store_meaning.specs.Reading.{StandsForState}
-use Rattle.g_store_meaning.specs.Up.{StoreFacts}
+use Rattle.g_store_meaning.specs.StoreInvariant.{StoreFacts}
 use Rattle.g_store.specs.Events.{AnswersEvent, LeadsBy, Migrates, Opens, StepsBy}
 use Rattle.g_store.proofs.ArmLemmas.{spent_stands}
 use Rattle.g_store_calls.proofs.SeenLemmas.{seen as seen_of}
 use Rattle.g_script.specs.declared.operator.Operator.{Operator}
 use Rattle.g_script.specs.declared.operator.Operator.TheVariants as line
 use Rattle.g_run_model.specs.Devices.{Devices}
-use Rattle.g_run_model.specs.Events.{IsTold, OutcomeTold}
+use Rattle.g_run_model.specs.Events.{IsTold}
 use Rattle.g_run_model.specs.Moves.{EventCounted}
 use Rattle.g_run_model.specs.Lines.{LineGives, Asks, is_process, line_refused, now_stands, tells}
 use Rattle.g_run_model.specs.Texts.{dump_text, operator_line}
 use Rattle.g_run_model.specs.World.{World}
-use Rattle.g_run_model.proofs.EventToldLemmas.{ToldBy, migrate_told, open_told}
+use Rattle.g_run_model.proofs.EventToldLemmas.{ToldBy, migrate_told, open_told, OutcomeTold}
 use Rattle.g_job_table.specs.Crew.{CrewState}
 use Rattle.g_operator.specs.declared.progress.Failure.{Failure}
 use Rattle.g_operator.specs.Parts.{ArmsBy, DidLine, DoesLine, DumpsBy, IsReady, CountedBy, Matches, Seen, disc_arms, seen, tape_arms}

@@ -5,7 +5,7 @@ use Rattle.std.specs.FinMap as finmap
 use Rattle.g_tree.specs.Records.{users_by_name}
 use Rattle.g_store_model.specs.State.{State}
 use Rattle.g_store_meaning.specs.Reading.{StandsForState}
-use Rattle.g_store_meaning.specs.Up.{StoreFacts}
+use Rattle.g_store_meaning.specs.StoreInvariant.{StoreFacts}
 use Rattle.g_disc_contents.specs.Contents.{recs_in}
 use Rattle.g_store_calls.proofs.SeenLemmas.{seen}
 use Rattle.g_run_model.specs.Accounts.{knows_user, rows_of}

@@ -6,7 +6,7 @@ use Rattle.g_disc.specs.Disc.{DiscState}
 use Rattle.g_tape.specs.Rack.{Rack}
 use Rattle.g_plain.specs.declared.faults.StoreFault.{StoreFault}
 use Rattle.g_plain.specs.declared.faults.StoreFault.TheVariants.{NoMemory, Running}
-use Rattle.g_store_meaning.specs.Up.{StoreFacts}
+use Rattle.g_store_meaning.specs.StoreInvariant.{StoreFacts}
 use Rattle.g_store_model.specs.Rising.{FormatStep, RestoreStep, StartStep}
 use Rattle.g_run_model.specs.Devices.{Devices}
 use Rattle.g_run_model.specs.Texts.{operator_line, started_text}

@@ -1,6 +1,6 @@
 -- A JOB COMES IN to a crew, or isn't taken in, and it is told.
 use Rattle.std.specs.Prelude.{◌≡◌, ◌⊎◌, ℕ, ◌+◌, Bool, List, [], ◌∷◌, ◌++◌, Option, Some, None, codes}
-use Rattle.g_job.specs.Begun.{job_begun}
+use Rattle.g_job.specs.Beginning.{job_begun}
 use Rattle.g_store_model.specs.State.{State}
 use Rattle.g_store_meaning.specs.Reading.{StandsForState}
 use Rattle.g_run_model.specs.Accounts.{knows_user}

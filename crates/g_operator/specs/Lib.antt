@@ -1,7 +1,7 @@
-pub mod Anew
 pub mod Arming
 pub mod Asking
-pub mod Boxed
+pub mod BeginningAnew
+pub mod Box
 pub mod Jobs
 pub mod Opening
 pub mod Parts

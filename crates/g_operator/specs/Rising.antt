@@ -5,7 +5,7 @@ use Rattle.g_disc.specs.Disc.{DiscState}
 use Rattle.g_tape.specs.Rack.{Rack}
 use Rattle.g_plain.specs.declared.faults.StoreFault.{StoreFault}
 use Rattle.g_plain.specs.declared.faults.StoreFault.TheVariants as faults
-use Rattle.g_store_meaning.specs.Up.{StoreFacts}
+use Rattle.g_store_meaning.specs.StoreInvariant.{StoreFacts}
 use Rattle.g_store.specs.Making.{Begun, Formats, RefusesFormat, RefusesRestore, RefusesStart, Restored}
 use Rattle.g_script.specs.declared.operator.Operator.{Operator}
 use Rattle.g_script.specs.declared.operator.Operator.TheVariants as line

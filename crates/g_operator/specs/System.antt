@@ -4,13 +4,13 @@ use Rattle.g_disc.specs.Disc.{DiscState}
 use Rattle.g_tape.specs.Rack.{Rack}
 use Rattle.g_tape.specs.Reel.{Reel}
 use Rattle.g_incr.specs.Layout.{Dump}
-use Rattle.g_shelf.specs.Completed.{AreShelved}
+use Rattle.g_shelf.specs.CompletedDumps.{AreShelved}
 use Rattle.g_store_model.specs.State.{State}
 use Rattle.g_store_meaning.specs.Meaning.{told_reels}
-use Rattle.g_store_meaning.specs.Belong.{Belong}
+use Rattle.g_store_meaning.specs.Belonging.{Belong}
 use Rattle.g_store_meaning.specs.Reading.{AllTold, StandsForState}
 use Rattle.g_store_meaning.specs.Answers.{Belongs, Told}
-use Rattle.g_store_meaning.specs.Up.{StoreFacts}
+use Rattle.g_store_meaning.specs.StoreInvariant.{StoreFacts}
 use Rattle.g_run_model.specs.Devices.{Devices, StandFor}
 use Rattle.g_operator.specs.declared.system.System.{System}
 use Rattle.g_operator.specs.declared.system.System.TheVariants as systems

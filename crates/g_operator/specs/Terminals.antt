@@ -2,7 +2,7 @@
 use Rattle.std.specs.Prelude.{◌≡◌, ◌⊎◌, ℕ, ◌+◌, Bool, true, false, List, [], ◌∷◌, ◌++◌, Option, Some, None, codes}
 use Rattle.g_job.specs.State.{JobState}
 use Rattle.g_mop.specs.Seats.{busy_text, none_text}
-use Rattle.g_mop.specs.Shown.{shown_at, terminal_name}
+use Rattle.g_mop.specs.TerminalLines.{shown_at, terminal_name}
 use Rattle.g_run_model.specs.Lines.{open_at, terminal_job}
 use Rattle.g_run_model.specs.Texts.{job_text, operator_line}
 use Rattle.g_run_model.specs.World.{with_job}

@@ -1,6 +1,6 @@
 //! The operator arms a device, so that a write of it fails.
 ghost use Rattle.std.specs.Prelude.{◌≡◌, ◌≤◌};
-ghost use Rattle.g_operator.specs.Anew.{IsBlank, WentAside, beside_new};
+ghost use Rattle.g_operator.specs.BeginningAnew.{IsBlank, WentAside, beside_new};
 ghost use Rattle.g_operator.specs.Arming.{HasArmed, disc_armed, tape_armed};
 ghost use Rattle.g_operator.specs.Parts.{DidLine, IsReady};
 ghost use Rattle.g_operator.specs.System.{IsRunning, devices_in, facts_of};

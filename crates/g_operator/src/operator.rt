@@ -1,6 +1,6 @@
 //! One of the operator's lines.
 ghost use Rattle.std.specs.Prelude.{◌≡◌, ◌+◌, ◌<◌};
-ghost use Rattle.g_operator.specs.Anew.{AnewLine};
+ghost use Rattle.g_operator.specs.BeginningAnew.{AnewLine};
 ghost use Rattle.g_operator.specs.Parts.{DidLine, IsReady, IsWithin};
 
 use crate::arming::{stop_disc_line, stop_tape_line};

@@ -39,7 +39,7 @@ pub fn put_made<K: Sink>(out: &mut K, made: Result<Text, NoMemory>) -> Option<Fa
 }
 
 /// Puts a line of the operator's: the count of ticks, and what was done.
-pub fn say<K: Sink>(alloc: Global, count: u64, what: &[u8], out: &mut K) -> Option<Failure>
+pub(crate) fn say<K: Sink>(alloc: Global, count: u64, what: &[u8], out: &mut K) -> Option<Failure>
     ensures { Puts result (operator_line count what.now) (K.written out.old) (K.written out.new) (K.faults out.old) (K.faults out.new) }
 {
     let made = line(alloc, count, what);
@@ -78,7 +78,7 @@ pub(crate) fn told<K: Sink, D: Disc, T: Tapes>(
 }
 
 /// Puts the line that tells why a line was refused.
-pub fn refuse<K: Sink>(
+pub(crate) fn refuse<K: Sink>(
     alloc: Global,
     count: u64,
     fault: &StoreFault,

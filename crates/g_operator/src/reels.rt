@@ -1,6 +1,6 @@
 //! Reels are mounted and unmounted, whether the system is up or down.
 ghost use Rattle.std.specs.Prelude.{◌≡◌};
-ghost use Rattle.g_operator.specs.Anew.{IsBlank, WentAside, beside_new};
+ghost use Rattle.g_operator.specs.BeginningAnew.{IsBlank, WentAside, beside_new};
 ghost use Rattle.g_operator.specs.Parts.{DidLine, IsReady};
 ghost use Rattle.g_operator.specs.Reels.{MountsOn, UnmountsOn};
 ghost use Rattle.g_operator.specs.System.{IsRunning, facts_of};

@@ -1,8 +1,8 @@
 //! The system comes up: by FORMAT, START or RESTORE.
 ghost use Rattle.std.specs.Prelude.{◌≡◌, ◌++◌, ◌<◌, ◌≤◌, ℕ, List, None, [], IfErr, IfOk, codes, false};
 ghost use Rattle.std.specs.Fmt.{decimal};
-ghost use Rattle.g_cache.specs.Cached.{cached_with};
-ghost use Rattle.g_operator.specs.Anew.{AnewLine};
+ghost use Rattle.g_cache.specs.CachedDisc.{cached_with};
+ghost use Rattle.g_operator.specs.BeginningAnew.{AnewLine};
 ghost use Rattle.g_operator.specs.Opening.{Opens};
 ghost use Rattle.g_operator.specs.Parts.{DidLine, IsReady, seen};
 ghost use Rattle.g_operator.specs.Puts.{Puts};

@@ -81,8 +81,8 @@ pub struct Running<D: Disc, T: Tapes> {
 
 impl<D: Disc, T: Tapes> Model for Running<D, T> {
     ghost use Rattle.std.specs.Prelude.{◌≡◌, true, is_some};
-    ghost use Rattle.g_store_meaning.specs.Up.{StoreFacts};
-    ghost use Rattle.g_operator.specs.Boxed.{boxed};
+    ghost use Rattle.g_store_meaning.specs.StoreInvariant.{StoreFacts};
+    ghost use Rattle.g_operator.specs.Box.{boxed};
 
     ghost Value = { StoreFacts };
 

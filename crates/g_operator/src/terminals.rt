@@ -11,7 +11,7 @@ ghost use Rattle.g_job.specs.State.{JobState};
 ghost use Rattle.g_job.specs.Terminal.{logged_out, typed_to};
 ghost use Rattle.g_lines.specs.Documents.{IsOneLine};
 ghost use Rattle.g_mop.specs.Seats.{busy_text, none_text};
-ghost use Rattle.g_mop.specs.Shown as shown;
+ghost use Rattle.g_mop.specs.TerminalLines as shown;
 ghost use Rattle.g_script.specs.declared.operator.Operator.TheVariants as line;
 ghost use Rattle.g_run_model.specs.Texts as texts;
 

@@ -14,13 +14,13 @@ use Rattle.g_tree.specs.Records.{IsRecords, by_number}
 use Rattle.g_tree.proofs.PutLemmas.{number_found}
 use Rattle.g_disc_contents.specs.Contents.{File, recs_in}
 use Rattle.g_disc_contents.specs.Facts.{IsTied, OnlineFacts}
-use Rattle.g_online.specs.Allowed.{HasNumber}
+use Rattle.g_online.specs.AllowedChanges.{HasNumber}
 use Rattle.g_online.specs.declared.unjam.Unjam.{Unjam}
-use Rattle.g_migrate.specs.Migrated.{HasMigrated}
+use Rattle.g_migrate.specs.Migration.{HasMigrated}
 use Rattle.g_migrate.proofs.UsedLemmas.{used_there}
-use Rattle.g_laws_memory.specs.Unjam.{IsUnjamPlan}
+use Rattle.g_laws_memory.specs.UnjamPlan.{IsUnjamPlan}
 use Rattle.g_laws_memory.proofs.WaitingLemmas.{mapped_there}
-use Rattle.g_retrieve.specs.Brought.{HasBroughtBack, IsOnTape}
+use Rattle.g_retrieve.specs.Retrieval.{HasBroughtBack, IsOnTape}
 use Rattle.g_retrieve.proofs.AllowLemmas.{away_is}
 
 -- the file is there

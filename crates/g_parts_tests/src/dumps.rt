@@ -2,7 +2,7 @@
 ghost use Rattle.std.specs.Prelude.{◌≡◌, IfOk, IfSome, None, true};
 ghost use Rattle.g_tape.specs.Memory.{rack_of};
 ghost use Rattle.g_disc_contents.specs.Facts.{IsTied};
-ghost use Rattle.g_store_meaning.specs.Up.{IsOpen};
+ghost use Rattle.g_store_meaning.specs.StoreInvariant.{IsOpen};
 
 use g_disc::MemoryDisc;
 use g_dumper::{Dump, DumpStep};

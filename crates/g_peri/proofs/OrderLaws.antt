@@ -8,9 +8,9 @@ use Rattle.g_mill.specs.Machine.{Machine, size, following, preceding, going_to, 
 use Rattle.g_mill.specs.Effect.{order}
 use Rattle.g_mill.proofs.StepLaws.{Leaves, order_leaves}
 use Rattle.g_peri.specs.declared.ordered.OrderEvent.{OrderEvent}
-use Rattle.g_peri.specs.Held.{Held}
+use Rattle.g_peri.specs.JobUnits.{Held}
 use Rattle.g_peri.specs.Transfer.{transfer}
-use Rattle.g_peri.specs.Ordered.{Ordered, transferred, Transferred, Stays}
+use Rattle.g_peri.specs.OneOrder.{Ordered, transferred, Transferred, Stays}
 
 -- STEPPING ON AND BACK IS NOTHING
 pub back : (a : ℕ) → a < 2 ^ 15 → preceding (following a) ≡ a

@@ -1,4 +1,4 @@
-pub mod Held
+pub mod JobUnits
 pub mod Layout
-pub mod Ordered
+pub mod OneOrder
 pub mod Transfer

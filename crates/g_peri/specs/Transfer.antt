@@ -6,7 +6,7 @@ use Rattle.g_name.specs.declared.path.Path.{Path}
 use Rattle.g_mill.specs.Machine.{Machine, size, word_at, with_word, going_to, preceding, characters, words_for}
 use Rattle.g_peri.specs.declared.units.PeriFault.{PeriFault}
 use Rattle.g_peri.specs.declared.units.PeriFault.TheVariants.{Illegal, NoMemory}
-use Rattle.g_peri.specs.Held.{Held, at_place, with_reader, with_writer}
+use Rattle.g_peri.specs.JobUnits.{Held, at_place, with_reader, with_writer}
 use Rattle.g_peri.specs.Layout.{line_words, with_words, trimmed}
 
 -- the area and the buffer stand in the program, and there is such a unit and such a count

@@ -20,7 +20,7 @@ pub(crate) struct Control {
 
 impl Model for Control {
     ghost use Rattle.std.specs.Prelude.{◌<◌, ◌≤◌, ◌^◌};
-    ghost use Rattle.g_peri.specs.Held.{number_of};
+    ghost use Rattle.g_peri.specs.JobUnits.{number_of};
     ghost use Rattle.g_peri.specs.Transfer.{Area};
 
     ghost Value = { Area };

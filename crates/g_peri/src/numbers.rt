@@ -1,7 +1,7 @@
 //! The numbers of units in control areas, and their places.
 
 ghost use Rattle.std.specs.Prelude.{◌≡◌, ◌+◌, ◌<◌, ◌≤◌, MatchOption, nat_lt};
-ghost use Rattle.g_peri.specs.Held.{is_reader, place_of, number_of};
+ghost use Rattle.g_peri.specs.JobUnits.{is_reader, place_of, number_of};
 
 use crate::unit::{Kind, Unit};
 

@@ -2,7 +2,7 @@
 
 ghost use Rattle.std.specs.Prelude.{◌≡◌, ◌<◌, IfOk};
 ghost use Rattle.g_mill.specs.Machine.{size, preceding};
-ghost use Rattle.g_peri.specs.Ordered.{Orders, Transferred, Stays};
+ghost use Rattle.g_peri.specs.OneOrder.{Orders, Transferred, Stays};
 
 use crate::units::{PeriFault, Units};
 use g_base::NoMemory;

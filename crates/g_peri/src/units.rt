@@ -8,7 +8,7 @@ ghost use Rattle.g_peri.specs.Layout.{trimmed};
 ghost use Rattle.g_peri.specs.Transfer.{answered, read_by, written_by, has_room, puts, Transfers};
 ghost use Rattle.g_mill.specs.Machine as machine;
 ghost use Rattle.g_peri.specs.Transfer as transfer;
-ghost use Rattle.g_peri.specs.Held as held;
+ghost use Rattle.g_peri.specs.JobUnits as held;
 
 use crate::control::{Control, read_control};
 use crate::deck::Deck;
@@ -56,7 +56,7 @@ impl Model for Units {
     ghost use Rattle.std.specs.Prelude.{◌≡◌, vec_len, All};
     ghost use Rattle.std.specs.Coded.{codes};
     ghost use Rattle.g_name.specs.contracts.path.Path as path;
-    ghost use Rattle.g_peri.specs.Held.{Held, IsShort};
+    ghost use Rattle.g_peri.specs.JobUnits.{Held, IsShort};
 
     ghost Value = { Held };
 

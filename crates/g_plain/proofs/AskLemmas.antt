@@ -2,7 +2,7 @@
 use Rattle.std.proofs.Common.{◌≡◌, ℕ, Bool, true, false, List, Err, refl, sym, ap, subst, ◌∙◌, inl, inr, if◌then◌else◌}
 use Rattle.g_plain.specs.declared.calls.StoreCall.{StoreCall}
 use Rattle.g_plain.specs.declared.faults.StoreFault.TheVariants.{NoMemory}
-use Rattle.g_plain.specs.Asks.{Answer, Asks, Gives, Call, Ran, RanInPart, and_then}
+use Rattle.g_plain.specs.Programs.{Answer, Asks, Gives, Call, Ran, RanInPart, and_then}
 
 module _ {S A : Type 0} (answers : S → List ℕ → StoreCall → Answer → S → Type 0) (who : List ℕ) where
   -- nothing was asked yet

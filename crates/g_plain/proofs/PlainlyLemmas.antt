@@ -2,8 +2,8 @@
 use Rattle.std.proofs.Common.{ℕ, List, refl, sym, subst}
 use Rattle.g_plain.specs.PlainTree.{Tree}
 use Rattle.g_plain.specs.declared.calls.StoreCall.{StoreCall}
-use Rattle.g_plain.specs.Asks.{Answer, Asks, Gives, Call, IsAnswer, Ran}
-use Rattle.g_plain.specs.Plainly.{PlainOrDevice, RanPlainly}
+use Rattle.g_plain.specs.Programs.{Answer, Asks, Gives, Call, IsAnswer, Ran}
+use Rattle.g_plain.specs.PlainAnswers.{PlainOrDevice, RanPlainly}
 
 module _ {S : Type 0} (answers : S → List ℕ → StoreCall → Answer → S → Type 0) (who : List ℕ) (HasTree : S → Tree → Type 0)
     (plainly : (s : S) (t : Tree) (call : StoreCall) (answer : Answer) (s' : S) → HasTree s t → answers s who call answer s' → IsAnswer answer → (t' : Tree) × PlainOrDevice t who call answer t' × HasTree s' t') where

@@ -1,12 +1,12 @@
 -- The plain directory tree, and what the calls of jobs do to it.
-pub mod Asks
+pub mod Programs
 pub mod Codes
 pub mod Faults
 pub mod Grants
-pub mod Plainly
-pub mod PlainHolds
+pub mod PlainAnswers
+pub mod PlainHolding
 pub mod PlainStep
 pub mod PlainTree
-pub mod RanBy
+pub mod Runs
 pub mod Replies
 pub mod Rules

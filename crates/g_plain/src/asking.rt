@@ -1,7 +1,7 @@
 //! One question to a store, the step of which programs that ask are made.
 ghost use Rattle.std.specs.Prelude.{◌≡◌, ℕ, false, true, ◌↔◌, IfOk, OnErr};
-ghost use Rattle.g_plain.specs.Asks.{Asks, Gives, Call, Ran, RanInPart};
-ghost use Rattle.g_plain.specs.Plainly.{may_wait};
+ghost use Rattle.g_plain.specs.Programs.{Asks, Gives, Call, Ran, RanInPart};
+ghost use Rattle.g_plain.specs.PlainAnswers.{may_wait};
 ghost use Rattle.g_plain.specs.Replies.{IsReplyTo};
 ghost use Rattle.g_plain.specs.Rules.{IsWithinLimits};
 

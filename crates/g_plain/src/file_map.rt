@@ -20,7 +20,7 @@ use std::marker::Model;
 /// A file's traps, its bytes, at most 65,536, and the stamp of its version. Contracts see a row of
 /// the tree.
 #[derive(Debug, Drop)]
-pub struct FileEntry {
+pub(crate) struct FileEntry {
     traps: TrapMap,
     bytes: Text,
     stamp: u64,
@@ -103,7 +103,7 @@ impl FileEntry {
 
 /// A map from full names to rows.
 #[derive(Debug, Drop)]
-pub struct FileMap {
+pub(crate) struct FileMap {
     rows: BTreeMap<Full, FileEntry>,
 }
 

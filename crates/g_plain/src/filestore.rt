@@ -1,6 +1,6 @@
 //! What a job knows of a store.
 ghost use Rattle.std.specs.Prelude.{◌≡◌, ℕ, false, true, Err, IfOk, ◌↔◌, IsErrOf};
-ghost use Rattle.g_plain.specs.Plainly.{may_wait};
+ghost use Rattle.g_plain.specs.PlainAnswers.{may_wait};
 ghost use Rattle.g_plain.specs.Replies.{IsReplyTo};
 ghost use Rattle.g_plain.specs.Rules.{IsWithinLimits};
 

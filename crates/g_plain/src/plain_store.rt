@@ -129,7 +129,7 @@ impl Filestore for PlainStore {
 
 impl HoldsTree for PlainStore {
     ghost use Rattle.std.specs.Prelude.{◌≡◌};
-    ghost use Rattle.g_plain.specs.PlainHolds.{plain_holds};
+    ghost use Rattle.g_plain.specs.PlainHolding.{plain_holds};
 
     ghost holds = { λ s t. s ≡ t };
 

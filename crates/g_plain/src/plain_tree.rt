@@ -20,7 +20,7 @@ use std::marker::Model;
 
 /// Users, files and the next stamp. Contracts see a tree, of whose rules the calls make use.
 #[derive(Debug, Drop)]
-pub struct PlainTree {
+pub(crate) struct PlainTree {
     users: UserMap,
     files: FileMap,
     next: u64,

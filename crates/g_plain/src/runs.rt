@@ -1,9 +1,9 @@
 //! Laws of programs that ask a store: with which answers they ran, and what a store stands for.
 ghost use Rattle.std.specs.Prelude.{ℕ, List};
 ghost use Rattle.g_plain.specs.PlainTree.{Tree};
-ghost use Rattle.g_plain.specs.Asks.{Answer, Asks, Ran, RanInPart};
-ghost use Rattle.g_plain.specs.Plainly.{RanPlainly};
-ghost use Rattle.g_plain.specs.RanBy.{RanBy};
+ghost use Rattle.g_plain.specs.Programs.{Answer, Asks, Ran, RanInPart};
+ghost use Rattle.g_plain.specs.PlainAnswers.{RanPlainly};
+ghost use Rattle.g_plain.specs.Runs.{RanBy};
 
 use crate::Filestore;
 
@@ -11,7 +11,7 @@ use crate::Filestore;
 pub trait StandsFor<T: Filestore>: Filestore {
     ghost use Rattle.std.specs.Prelude.{ℕ, List};
     ghost use Rattle.g_plain.specs.declared.calls.StoreCall.{StoreCall};
-    ghost use Rattle.g_plain.specs.Asks.{Answer};
+    ghost use Rattle.g_plain.specs.Programs.{Answer};
 
     // The store that it stands for.
     ghost stands: { Self → T };
@@ -27,8 +27,8 @@ pub trait HoldsTree: Filestore {
     ghost use Rattle.std.specs.Prelude.{ℕ, List};
     ghost use Rattle.g_plain.specs.declared.calls.StoreCall.{StoreCall};
     ghost use Rattle.g_plain.specs.PlainTree.{Tree};
-    ghost use Rattle.g_plain.specs.Asks.{Answer, IsAnswer};
-    ghost use Rattle.g_plain.specs.Plainly.{PlainOrDevice};
+    ghost use Rattle.g_plain.specs.Programs.{Answer, IsAnswer};
+    ghost use Rattle.g_plain.specs.PlainAnswers.{PlainOrDevice};
 
     // The store holds this tree.
     ghost holds: { Self → Tree → Type 0 };

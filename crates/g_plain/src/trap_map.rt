@@ -12,7 +12,7 @@ use std::marker::Model;
 
 /// A map from user names to sets of modes.
 #[derive(Debug, Drop)]
-pub struct TrapMap {
+pub(crate) struct TrapMap {
     modes: BTreeMap<User, Modes>,
 }
 

@@ -15,7 +15,7 @@ use std::marker::Model;
 
 /// A user's superior and budgets. Contracts see a row of the tree.
 #[derive(Debug, Drop)]
-pub struct UserEntry {
+pub(crate) struct UserEntry {
     pub superior: User,
     pub space: u32,
     pub time: u64,
@@ -46,7 +46,7 @@ impl UserEntry {
 
 /// A map from user names to rows.
 #[derive(Debug, Drop)]
-pub struct UserMap {
+pub(crate) struct UserMap {
     rows: BTreeMap<User, UserEntry>,
 }
 

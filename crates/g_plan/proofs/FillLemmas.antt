@@ -9,7 +9,7 @@ use Rattle.std.proofs.lemmas.List.{append-nil, drop_all, take_all}
 use Rattle.std.proofs.lemmas.Option.{same_Some}
 use Rattle.g_lines.specs.Lines.{lines_of}
 use Rattle.g_plan.specs.Assembly.{all_cells, are_free, assembled, bad_behind, bad_or_first, cells, file_of, file_or_bad, first_bad, given, is_below, is_good, size_in, source}
-use Rattle.g_plan.specs.Filled.{IsImageOf}
+use Rattle.g_plan.specs.SecondPass.{IsImageOf}
 use Rattle.g_plan.specs.Passes.{IsFilled, IsFormPut, IsLinePut}
 use Rattle.g_plan.specs.declared.form.Form.{Form}
 use Rattle.g_plan.specs.declared.image.Image.{Image}

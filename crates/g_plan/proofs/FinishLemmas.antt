@@ -6,7 +6,7 @@ use Rattle.std.proofs.lemmas.Option.{slice_get_read}
 use Rattle.g_lines.specs.Lines.{lines_of, text_of}
 use Rattle.g_word.specs.Octal.{octal_digits}
 use Rattle.g_plan.specs.Assembly.{all_cells, assembled, bad_behind, end_of, file_of, program_words, size_in, source, words_up_to}
-use Rattle.g_plan.specs.Filled.{AllFit, IsImageOf, MayFit}
+use Rattle.g_plan.specs.SecondPass.{AllFit, IsImageOf, MayFit}
 use Rattle.g_plan.specs.Laws.{Assembles, IsLoadedAs, size_or_none}
 use Rattle.g_plan.specs.Passes.{IsFilled, IsFormPut, IsLinePut}
 use Rattle.g_plan.specs.declared.fault.PlanFault.{PlanFault}

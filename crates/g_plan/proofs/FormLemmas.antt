@@ -16,7 +16,7 @@ use Rattle.g_name.specs.Grammar.{is_digit, is_letter}
 use Rattle.g_name.specs.Order.{same_text}
 use Rattle.g_lines.specs.Numbers.{number_read}
 use Rattle.g_plan.specs.Forms.{HasPlace, IsAccumulator, IsAddressOf, IsForm, IsModifier, IsNegative, IsValue, IsWord, MayBeNamed, Says}
-use Rattle.g_plan.specs.How.{from_least, in_brackets, modifier_read, named_or, negative, negative_read, number_value, only, value_read, word_read}
+use Rattle.g_plan.specs.LineReader.{from_least, in_brackets, modifier_read, named_or, negative, negative_read, number_value, only, value_read, word_read}
 use Rattle.g_plan.specs.Laws.{IsReading, ReadByForms}
 use Rattle.g_plan.specs.Table.{mnemonic_of, mnemonics, name_text, row_of}
 use Rattle.g_plan.specs.Words.{before, behind_label, front_of, is_label, is_label_byte, is_printed, is_some_text, label_in, label_read, without_back, without_front, words}

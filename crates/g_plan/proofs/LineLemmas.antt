@@ -11,7 +11,7 @@ use Rattle.std.proofs.Math.Seq.{drop-append_seam}
 use Rattle.g_name.specs.Order.{same_text}
 use Rattle.g_lines.specs.Numbers.{number_read}
 use Rattle.g_plan.specs.Forms.{HasPlace, IsAccumulator, IsAddressOf, IsForm, IsModifier, IsValue, IsWord, MayBeNamed, Says}
-use Rattle.g_plan.specs.How.{accumulated, accumulator_read, address_read, alone_read, at_read, chars_line_read, chars_read, form_read, from_least, modifier_read, named_read, only, operand_of, operand_read, order_line_read, order_of, order_read, program_read, value_read, with_accumulator, with_modifier, word_line_read, word_read, words_read}
+use Rattle.g_plan.specs.LineReader.{accumulated, accumulator_read, address_read, alone_read, at_read, chars_line_read, chars_read, form_read, from_least, modifier_read, named_read, only, operand_of, operand_read, order_line_read, order_of, order_read, program_read, value_read, with_accumulator, with_modifier, word_line_read, word_read, words_read}
 use Rattle.g_plan.specs.Laws.{IsReading, ReadByForms}
 use Rattle.g_plan.specs.Table.{mnemonic_of, mnemonics, name_text, row_of}
 use Rattle.g_plan.specs.Words.{before, before_rest, behind_label, front_of, is_label, is_printed, is_some_text, label_in, label_read, without_back, without_front, words}

@@ -8,9 +8,9 @@ use Rattle.std.proofs.lemmas.Option.{cond_some, same_Some}
 use Rattle.g_order.specs.Order.{are_operands, is_branch, is_order}
 use Rattle.g_order.specs.Table.{function_of}
 use Rattle.g_plan.specs.Assembly.{address, at_most, form_behind, in_place, is_among, is_blank, moved, resolved}
-use Rattle.g_plan.specs.Filled.{AllFit, Fits, HasAddress, HasM, HasX, IsOperand, IsWordValue, MayFit}
+use Rattle.g_plan.specs.SecondPass.{AllFit, Fits, HasAddress, HasM, HasX, IsOperand, IsWordValue, MayFit}
 use Rattle.g_plan.specs.Forms.{IsAccumulator, IsAddressOf, IsModifier, IsNegative, IsValue, IsWord, Says}
-use Rattle.g_plan.specs.How.{form_read}
+use Rattle.g_plan.specs.LineReader.{form_read}
 use Rattle.g_plan.specs.Reading.{read_from}
 use Rattle.g_plan.specs.Table.{row_of}
 use Rattle.g_plan.specs.Words.{behind_label, label_in, words}

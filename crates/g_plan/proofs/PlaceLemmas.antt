@@ -6,7 +6,7 @@ use Rattle.std.specs.Option.{option_map}
 use Rattle.std.proofs.lemmas.List.{append-nil}
 use Rattle.g_order.specs.Order.{word_of}
 use Rattle.g_plan.specs.Assembly.{address, are_free, char_words, fields_with, given, is_below, resolved}
-use Rattle.g_plan.specs.Filled.{IsImageOf, IsPut}
+use Rattle.g_plan.specs.SecondPass.{IsImageOf, IsPut}
 use Rattle.g_plan.specs.Passes.{IsFormPut}
 use Rattle.g_plan.specs.Table.{row_of}
 use Rattle.g_plan.specs.declared.form.Form.{Form}

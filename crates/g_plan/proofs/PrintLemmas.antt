@@ -6,7 +6,7 @@ use Rattle.std.proofs.lemmas.List.{append-nil, map-append}
 use Rattle.g_lines.specs.Lines.{ended, text_of}
 use Rattle.g_word.specs.Octal.{octal_digits}
 use Rattle.g_plan.specs.Assembly.{end_of, word_at, words_up_to}
-use Rattle.g_plan.specs.Filled.{IsImageOf}
+use Rattle.g_plan.specs.SecondPass.{IsImageOf}
 use Rattle.g_plan.specs.declared.image.Image.{Image}
 
 -- the lines so far: the size and the words before a place

@@ -9,7 +9,7 @@ use Rattle.std.proofs.lemmas.List.Folds.{find-append, list_all-append, list_any-
 use Rattle.std.proofs.lemmas.List.Sums.{fold-append}
 use Rattle.std.proofs.lemmas.Option.{get_or_from_slice_get, slice_get_read}
 use Rattle.g_plan.specs.Assembly.{are_free, char_words, end_of, four, is_at, is_free}
-use Rattle.g_plan.specs.Filled.{AreSmall, IsImageOf, IsPut}
+use Rattle.g_plan.specs.SecondPass.{AreSmall, IsImageOf, IsPut}
 use Rattle.g_plan.specs.declared.image.Image.{Image}
 
 -- looked for by a test

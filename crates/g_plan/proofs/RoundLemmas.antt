@@ -17,7 +17,7 @@ use Rattle.g_order.specs.Order.{Fields, decoded, word_of}
 use Rattle.g_order.proofs.CodingLaws.{decoded-word_of}
 use Rattle.g_word.specs.Octal.{octal_digits}
 use Rattle.g_plan.specs.Assembly.{address, all_cells, are_free, assembled, bad_behind, bad_or_first, cells, end_of, fields_with, file_of, file_or_bad, first_bad, given, is_at, is_below, is_free, is_good, program_words, size_in, size_of, source, word_at, words_up_to}
-use Rattle.g_plan.specs.Filled.{AllFit, AreSmall, Fits, IsOperand, MayFit}
+use Rattle.g_plan.specs.SecondPass.{AllFit, AreSmall, Fits, IsOperand, MayFit}
 use Rattle.g_plan.specs.Laws.{IsLoadedAs, IsPlaced, size_or_none, whole_program}
 use Rattle.g_plan.specs.Table.{row_of}
 use Rattle.g_plan.specs.declared.form.Form.{Form}

@@ -10,8 +10,8 @@ use Rattle.std.proofs.lemmas.List.Folds.{find-append, list_all-append}
 use Rattle.std.proofs.lemmas.List.{append-nil}
 use Rattle.g_name.specs.Order.{same_text, text_cmp}
 use Rattle.g_plan.specs.Assembly.{form_behind, forms_behind, has_label, in_place, is_among, is_blank, is_this, lines_with, moved, resolved, size_in, size_of, source}
-use Rattle.g_plan.specs.How.{form_read}
-use Rattle.g_plan.specs.Indexed.{IsIndexed, noted, place_in}
+use Rattle.g_plan.specs.LineReader.{form_read}
+use Rattle.g_plan.specs.LineIndex.{IsIndexed, noted, place_in}
 use Rattle.g_plan.specs.Reading.{IsReadBehind, form_at, has_place, place_from, read_from}
 use Rattle.g_plan.specs.Words.{label_in}
 use Rattle.g_plan.specs.declared.form.Form.{Form}

@@ -4,7 +4,7 @@ use Rattle.std.specs.Prelude.{◌&&◌, ◌==◌, is_some, nat_le, nat_lt, if◌
 use Rattle.std.specs.List.{list_all}
 use Rattle.g_order.specs.Order.{is_branch}
 use Rattle.g_order.specs.Table.{function_of}
-use Rattle.g_plan.specs.How.{named_read, order_read}
+use Rattle.g_plan.specs.LineReader.{named_read, order_read}
 use Rattle.g_plan.specs.Table.{mnemonic_of, name_text, row_of}
 use Rattle.g_plan.specs.declared.mnemonic.Mnemonic.{Mnemonic}
 use Rattle.g_plan.specs.declared.mnemonic.Mnemonic.TheVariants as name

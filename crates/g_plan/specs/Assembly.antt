@@ -7,7 +7,7 @@ use Rattle.g_name.specs.Order.{same_text}
 use Rattle.g_order.specs.Order.{Fields, word_of}
 use Rattle.g_word.specs.Characters.{code_of}
 use Rattle.g_word.specs.Octal.{octal_digits}
-use Rattle.g_plan.specs.How.{form_read}
+use Rattle.g_plan.specs.LineReader.{form_read}
 use Rattle.g_plan.specs.Table.{row_of}
 use Rattle.g_plan.specs.Words.{is_space, label_in}
 use Rattle.g_plan.specs.declared.form.Form.{Form}

@@ -7,7 +7,7 @@ use Rattle.g_mill.specs.Loading.{bad_line, program_of}
 use Rattle.g_order.specs.Order.{decoded, word_of}
 use Rattle.g_plan.specs.Assembly.{address, assembled, fields_with, program_words, size_in, source}
 use Rattle.g_plan.specs.Forms.{IsForm}
-use Rattle.g_plan.specs.How.{form_read}
+use Rattle.g_plan.specs.LineReader.{form_read}
 use Rattle.g_plan.specs.Table.{row_of}
 use Rattle.g_plan.specs.declared.form.Form.{Form}
 use Rattle.g_plan.specs.declared.form.Form.TheVariants.{Order}

@@ -1,10 +1,10 @@
 pub mod Assembly
-pub mod Filled
 pub mod Forms
-pub mod How
-pub mod Indexed
 pub mod Laws
+pub mod LineIndex
+pub mod LineReader
 pub mod Passes
 pub mod Reading
+pub mod SecondPass
 pub mod Table
 pub mod Words

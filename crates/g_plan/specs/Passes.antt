@@ -4,7 +4,7 @@ use Rattle.std.specs.List.{enumerate_from}
 use Rattle.std.specs.Option.{option_map}
 use Rattle.g_lines.specs.Lines.{lines_of}
 use Rattle.g_plan.specs.Assembly.{all_cells, are_free, bad_behind, given, is_below, is_good, source}
-use Rattle.g_plan.specs.Filled.{IsImageOf}
+use Rattle.g_plan.specs.SecondPass.{IsImageOf}
 use Rattle.g_plan.specs.Laws.{Assembles, IsLoadedAs, size_or_none}
 use Rattle.g_plan.specs.declared.fault.PlanFault.{PlanFault}
 use Rattle.g_plan.specs.declared.fault.PlanFault.TheVariants.{BadPlan, NoMemory}

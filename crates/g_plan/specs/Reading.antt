@@ -3,7 +3,7 @@ use Rattle.std.specs.Prelude.{◌≡◌, ◌++◌, ℕ, List, [], ◌∷◌, Boo
 use Rattle.std.specs.Option.{option_and_then}
 use Rattle.std.specs.List.{list_all}
 use Rattle.g_plan.specs.Assembly.{form_behind, in_place, is_blank, moved, resolved}
-use Rattle.g_plan.specs.How.{form_read}
+use Rattle.g_plan.specs.LineReader.{form_read}
 use Rattle.g_plan.specs.Words.{label_in}
 use Rattle.g_plan.specs.declared.form.Form.{Form}
 use Rattle.g_plan.specs.declared.form.Form.TheVariants.{Nothing}

@@ -1,6 +1,6 @@
 //! The second pass over a source: the words of its lines, each at its place.
 ghost use Rattle.std.specs.Prelude.{◌≡◌, Ok, IfOk};
-ghost use Rattle.g_plan.specs.Filled.{AllFit, Fits, MayFit};
+ghost use Rattle.g_plan.specs.SecondPass.{AllFit, Fits, MayFit};
 ghost use Rattle.g_plan.specs.Laws.{Assembles, IsLoadedAs, size_or_none};
 ghost use Rattle.g_plan.specs.Passes.{IsFilled, IsFinished, IsFormPut, IsLinePut};
 

@@ -5,7 +5,7 @@ ghost use Rattle.g_plan.specs.Assembly as assembly;
 use g_word::{Word, code_of};
 
 /// The word of a text's first four characters, with spaces behind the last.
-pub fn first_four(text: &[u8]) -> Word
+pub(crate) fn first_four(text: &[u8]) -> Word
     ensures { result ≡ assembly.four (get_or text.now 0 32) (get_or text.now 1 32) (get_or text.now 2 32) (get_or text.now 3 32) }
 {
     four(

@@ -3,7 +3,7 @@ ghost use Rattle.std.specs.Prelude.{◌≡◌};
 ghost use Rattle.std.specs.Option.{option_map};
 ghost use Rattle.g_order.specs.Order.{word_of};
 ghost use Rattle.g_plan.specs.Assembly as assembly;
-ghost use Rattle.g_plan.specs.Filled.{IsOperand, IsWordValue};
+ghost use Rattle.g_plan.specs.SecondPass.{IsOperand, IsWordValue};
 ghost use Rattle.g_plan.specs.Table.{row_of};
 
 use crate::form::Value;
@@ -13,7 +13,7 @@ use g_order::{Order, encode};
 use g_word::Word;
 
 /// The word of a value.
-pub fn word_for(source: &Source, value: &Value) -> Option<Word>
+pub(crate) fn word_for(source: &Source, value: &Value) -> Option<Word>
     requires { IsWordValue value.now }
     ensures { result ≡ assembly.resolved source.now value.now }
 {
@@ -51,7 +51,7 @@ fn address(source: &Source, row: &Row, value: &Value) -> Option<u32>
 }
 
 /// The word of an order.
-pub fn order_for(source: &Source, name: Mnemonic, x: u8, m: u8, value: &Value) -> Option<Word>
+pub(crate) fn order_for(source: &Source, name: Mnemonic, x: u8, m: u8, value: &Value) -> Option<Word>
     requires { IsOperand (row_of name) x m value.now }
     ensures { result ≡ option_map (λ a. word_of (assembly.fields_with (row_of name) x m a)) (assembly.address source.now (row_of name) value.now) }
 {

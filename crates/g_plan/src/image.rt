@@ -3,7 +3,7 @@ ghost use Rattle.std.specs.Prelude.{◌≡◌, ◌≤◌, ◌∷◌, ◌<◌, �
 ghost use Rattle.std.specs.List.{enumerate_from};
 ghost use Rattle.std.specs.Option.{option_map};
 ghost use Rattle.g_plan.specs.Assembly as assembly;
-ghost use Rattle.g_plan.specs.Filled.{IsImageOf, IsPut};
+ghost use Rattle.g_plan.specs.SecondPass.{IsImageOf, IsPut};
 
 use crate::chars::first_four;
 use g_base::NoMemory;
@@ -12,7 +12,7 @@ use std::alloc::Global;
 
 /// The words of a program, of which some are filled.
 #[derive(Drop)]
-pub struct Image {
+pub(crate) struct Image {
     words: Vec<Option<Word>>,
     /// The place behind the last filled word.
     end: usize,

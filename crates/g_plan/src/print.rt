@@ -2,7 +2,7 @@
 ghost use Rattle.std.specs.Prelude.{◌≡◌, ◌++◌, ◌∷◌, ℕ, List, map, IfOk, OnOk};
 ghost use Rattle.g_lines.specs.Lines.{ended, text_of};
 ghost use Rattle.g_plan.specs.Assembly.{end_of, words_up_to};
-ghost use Rattle.g_plan.specs.Filled.{IsImageOf};
+ghost use Rattle.g_plan.specs.SecondPass.{IsImageOf};
 ghost use Rattle.g_word.specs.Octal.{octal_digits};
 
 use crate::image::Image;
@@ -12,7 +12,7 @@ use g_word::Word;
 use std::alloc::Global;
 
 /// The file: the size and the words up to the last that is filled, each in a line of eight octal digits.
-pub fn program_file(alloc: Global, size: u16, image: &Image) -> Result<Text, NoMemory>
+pub(crate) fn program_file(alloc: Global, size: u16, image: &Image) -> Result<Text, NoMemory>
     ensures { IfOk result (λ file. (most : ℕ) (filled : List (ℕ × ℕ)) → IsImageOf most filled image.now
         → file ≡ text_of (map (octal_digits 8) (size ∷ words_up_to filled (end_of filled)))) }
 {

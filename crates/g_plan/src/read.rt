@@ -1,6 +1,6 @@
 //! The form of a line.
 ghost use Rattle.std.specs.Prelude.{◌≡◌, ◌-◌, ◌≤◌, ◌<◌, IfSome};
-ghost use Rattle.g_plan.specs.How as how;
+ghost use Rattle.g_plan.specs.LineReader as how;
 ghost use Rattle.g_plan.specs.Words.{words};
 
 use crate::form::{Characters, Form, Value};
@@ -11,7 +11,7 @@ use crate::words::{
 use g_lines::number;
 
 /// The form of a line; `None` where it has none.
-pub fn read_line(line: &[u8]) -> Option<Form>
+pub(crate) fn read_line(line: &[u8]) -> Option<Form>
     ensures { result ≡ how.form_read line.now }
 {
     if !is_printed(line) {

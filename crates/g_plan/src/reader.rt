@@ -30,7 +30,7 @@ struct Reader {
 }
 
 /// The lines of a source.
-pub fn read_source(alloc: Global, text: &[u8]) -> Result<Source, NoMemory>
+pub(crate) fn read_source(alloc: Global, text: &[u8]) -> Result<Source, NoMemory>
     ensures { IfOk result (λ source. source ≡ assembly.source (lines_of text.now)) }
 {
     let mut lines = Lines::new(text);

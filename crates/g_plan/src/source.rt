@@ -1,7 +1,7 @@
 //! The lines of a source, and where its labels stand.
 ghost use Rattle.std.specs.Prelude.{◌≡◌, ◌++◌, ◌∷◌, ℕ, List, [], IfOk, OnOk};
 ghost use Rattle.g_plan.specs.Assembly.{resolved, size_in, size_of};
-ghost use Rattle.g_plan.specs.Indexed.{noted, place_in};
+ghost use Rattle.g_plan.specs.LineIndex.{noted, place_in};
 ghost use Rattle.g_plan.specs.declared.form.Value.TheVariants.{Named};
 
 use crate::form::Form;
@@ -32,7 +32,7 @@ pub struct Source {
 
 impl Model for Source {
     ghost use Rattle.std.specs.Prelude.{List};
-    ghost use Rattle.g_plan.specs.Indexed.{IsIndexed};
+    ghost use Rattle.g_plan.specs.LineIndex.{IsIndexed};
     ghost use Rattle.g_plan.specs.declared.source.Line.{Line};
 
     ghost Value = { List Line };

@@ -1,28 +1,28 @@
 //! Lines of a source, cut at spaces.
 ghost use Rattle.std.specs.Prelude.{◌≡◌, ◌≢◌, ◌≤◌, ◌∷◌, ◌++◌, [], Some, None, All, MatchOption, length};
 ghost use Rattle.std.specs.List.{list_all};
-ghost use Rattle.g_plan.specs.How as how;
+ghost use Rattle.g_plan.specs.LineReader as how;
 ghost use Rattle.g_plan.specs.Words as words;
 
 use g_lines::split_at_byte;
 use g_name::Local;
 
 /// Whether each byte is one from space to tilde.
-pub fn is_printed(text: &[u8]) -> bool
+pub(crate) fn is_printed(text: &[u8]) -> bool
     ensures { result ≡ list_all words.is_printed text.now }
 {
     text.iter().all(|byte| b' ' <= *byte && *byte <= b'~')
 }
 
 /// Whether a text is spaces alone.
-pub fn is_blank(text: &[u8]) -> bool
+pub(crate) fn is_blank(text: &[u8]) -> bool
     ensures { result ≡ list_all words.is_space text.now }
 {
     text.iter().all(|byte| *byte == b' ')
 }
 
 /// What stands before the first byte of that value, and the whole text where there is none.
-pub fn before(stop: u8, text: &[u8]) -> &[u8]
+pub(crate) fn before(stop: u8, text: &[u8]) -> &[u8]
     ensures value { result.now ≡ words.before stop text.now }
     ensures short { length result.now ≤ length text.now }
 {
@@ -33,7 +33,7 @@ pub fn before(stop: u8, text: &[u8]) -> &[u8]
 }
 
 /// The text without the spaces in front.
-pub fn without_front(text: &[u8]) -> &[u8]
+pub(crate) fn without_front(text: &[u8]) -> &[u8]
     ensures { result.now ≡ words.without_front text.now }
 {
     let mut rest = text;
@@ -44,7 +44,7 @@ pub fn without_front(text: &[u8]) -> &[u8]
 }
 
 /// The text without the spaces behind.
-pub fn without_back(text: &[u8]) -> &[u8]
+pub(crate) fn without_back(text: &[u8]) -> &[u8]
     ensures { result.now ≡ words.without_back text.now }
 {
     let mut rest = text;
@@ -58,7 +58,7 @@ pub fn without_back(text: &[u8]) -> &[u8]
 }
 
 /// The first word of a text, and what is behind it; `None` where there is no word.
-pub fn next_word(text: &[u8]) -> Option<(&[u8], &[u8])>
+pub(crate) fn next_word(text: &[u8]) -> Option<(&[u8], &[u8])>
     ensures { MatchOption result (words.words text.now ≡ [])
         (λ parts. words.words text.now ≡ parts.0.now ∷ words.words parts.1.now) }
 {
@@ -71,7 +71,7 @@ pub fn next_word(text: &[u8]) -> Option<(&[u8], &[u8])>
 }
 
 /// The only word of a text; `None` where there is none, or more.
-pub fn only_word(text: &[u8]) -> Option<&[u8]>
+pub(crate) fn only_word(text: &[u8]) -> Option<&[u8]>
     ensures { MatchOption result (how.only (words.words text.now) ≡ None)
         (λ word. how.only (words.words text.now) ≡ Some word.now) }
 {
@@ -83,7 +83,7 @@ pub fn only_word(text: &[u8]) -> Option<&[u8]>
 }
 
 /// The label that a text is, if it is one.
-pub fn label(text: &[u8]) -> Option<Local>
+pub(crate) fn label(text: &[u8]) -> Option<Local>
     ensures { result ≡ words.label_read text.now }
 {
     if is_label(text) {
@@ -94,7 +94,7 @@ pub fn label(text: &[u8]) -> Option<Local>
 }
 
 /// Whether a text is a letter with up to 7 letters and digits behind it.
-pub fn is_label(text: &[u8]) -> bool
+pub(crate) fn is_label(text: &[u8]) -> bool
     ensures { result ≡ words.is_label text.now }
 {
     match text.split_first() {

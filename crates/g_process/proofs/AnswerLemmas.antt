@@ -25,28 +25,28 @@ use Rattle.g_disc_contents.specs.Contents.{Contents, File, Holds, has, with_inte
 use Rattle.g_disc_contents.specs.Facts.{IsTied, Layout, OnlineFacts}
 use Rattle.g_incr.specs.Layout.{Dump}
 use Rattle.g_incr.specs.Plan.{IsAway, IsPlan, Plan, blocks_of, content_blocks, dump_of, first_content, needs, waiting}
-use Rattle.g_online.specs.Ready.{HasAdopted, adopted}
-use Rattle.g_shelf.specs.Completed.{AreCompleted, AreShelved}
+use Rattle.g_online.specs.ReadyCopies.{HasAdopted, adopted}
+use Rattle.g_shelf.specs.CompletedDumps.{AreCompleted, AreShelved}
 use Rattle.g_store_meaning.specs.Answers.{Belongs, Told, WroteCommits}
 use Rattle.g_store_meaning.specs.Meaning.{told_reels}
 use Rattle.g_store_meaning.specs.Reading.{AllTold}
-use Rattle.g_store_meaning.specs.Up.{IsUp, StoreFacts}
-use Rattle.g_laws_process.specs.Forgotten.{bare_rec}
+use Rattle.g_store_meaning.specs.StoreInvariant.{IsUp, StoreFacts}
+use Rattle.g_laws_process.specs.ForgottenCopies.{bare_rec}
 use Rattle.g_laws_process.proofs.ReleaseLemmas.{one_block_is_none}
 use Rattle.g_dumper.specs.Beginning.{intent_of}
-use Rattle.g_dumper.specs.Keeps.{spent_with, up_with}
+use Rattle.g_dumper.specs.Invariant.{spent_with, up_with}
 use Rattle.g_dumper.proofs.BeginLemmas.{after_reads, reel_named}
 use Rattle.g_dumper.proofs.IntentLemmas.{rules_here}
 use Rattle.g_dumper.proofs.KeepLemmas.{store_spent}
 use Rattle.g_shelf.specs.declared.rack.Listed.{Listed}
 use Rattle.g_process.specs.declared.job.Job.{Job}
-use Rattle.g_process.specs.Planned.{IsFree, copies_from, process_plan, versions}
-use Rattle.g_process.specs.Prepared.{AtBlock, AtCopies, AtIntent, AtRelease, CarriesOut, HasIntended, IsGranted, IsPrepared, Preparing, StopsAt, copies_of}
-use Rattle.g_process.specs.Named.{intended_by, moved_by, process_copies, process_intent}
+use Rattle.g_process.specs.ProcessPlan.{IsFree, copies_from, process_plan, versions}
+use Rattle.g_process.specs.Preparation.{AtBlock, AtCopies, AtIntent, AtRelease, CarriesOut, HasIntended, IsGranted, IsPrepared, Preparing, StopsAt, copies_of}
+use Rattle.g_process.specs.NamedCopies.{intended_by, moved_by, process_copies, process_intent}
 use Rattle.g_process.specs.Exits.{IsReadBy, Stops, StopsRelease}
 use Rattle.g_process.specs.Processing.{CutCopies, CutDump, CutIntent, CutRelease, StopLeaves, IsDumped, IsLeftBy, IsOther, IsReleased, HasReadFile, Processes, behind_process, process_refuses}
 use Rattle.g_process.specs.Releases.{AreReleased, is_taken, released, taken}
-use Rattle.g_process.specs.Written.{AreReadable, FailedAt, FailsReading, HasWritten, IsBlockOf, IsSource, filled}
+use Rattle.g_process.specs.Progress.{AreReadable, FailedAt, FailsReading, HasWritten, IsBlockOf, IsSource, filled}
 use Rattle.g_process.proofs.BecomeLemmas.{Becomes, all_cons, apart_of, at_name, at_serial, becomes_filled, becomes_left, becomes_read, becomes_released, becomes_then, both_at, label_left, labels, left_name, released_name, times_left, labels_beside, labels_changed, labels_reads, labels_released, same_serials, same_told, zip_labels}
 use Rattle.g_process.proofs.ContentLemmas.{all_read, within_content}
 use Rattle.g_process.proofs.ExitLemmas.{cut_belongs, exit_before, exit_copies, exit_cut, exit_done, exit_intent, exit_mark, exit_read, failed_read, found_itself, held_whole, process_away, left_whole, processed_belongs, stopped_copies, stopped_intent, torn_before, torn_mark}

@@ -17,12 +17,12 @@ use Rattle.g_disc_contents.specs.Facts.{IsTied, OnlineFacts, Pin, noted}
 use Rattle.g_incr.specs.Layout.{Dump, holds}
 use Rattle.g_incr.specs.Plan.{IsPlan, Plan, blocks_of, content_blocks, dump_of, first_content, needs, noted_files, numbered_from, waiting, with_number as numbered}
 use Rattle.g_incr.proofs.PlanLemmas.{length-made}
-use Rattle.g_shelf.specs.Completed.{AreCompleted, AreShelved, all_dumps, end_of}
-use Rattle.g_store_meaning.specs.Belong.{DiscBelongs, IsPlaced, KeepsFile, KeepsRecord}
+use Rattle.g_shelf.specs.CompletedDumps.{AreCompleted, AreShelved, all_dumps, end_of}
+use Rattle.g_store_meaning.specs.Belonging.{DiscBelongs, IsPlaced, KeepsFile, KeepsRecord}
 use Rattle.g_store_meaning.specs.Laws.{HasContent, closed}
 use Rattle.g_store_meaning.specs.Meaning.{IsContent, told_reels}
 use Rattle.g_store_meaning.specs.Reading.{AllTold}
-use Rattle.g_store_meaning.specs.Up.{ArePinned, IsOpen, IsReady, IsUp, StoreFacts, content_in, with_dump}
+use Rattle.g_store_meaning.specs.StoreInvariant.{ArePinned, IsOpen, IsReady, IsUp, StoreFacts, content_in, with_dump}
 use Rattle.g_store_meaning.proofs.ChangeLemmas.{intents_belong}
 use Rattle.g_laws_store.specs.Dumping.{AreDumpable, IsPlanOf, closed_with, opened_with}
 use Rattle.g_laws_store.proofs.ClosingLemmas.{closing_stays}
@@ -32,9 +32,9 @@ use Rattle.g_laws_store.proofs.PinLemmas.{noted_copied, pins_content}
 use Rattle.g_laws_store.proofs.UpOneLemmas.{reel_named as reel_by_name}
 use Rattle.g_laws_process.specs.Releasing.{HasAll, without_reel}
 use Rattle.g_laws_process.proofs.ReleaseLemmas.{releases_stay}
-use Rattle.g_laws_process.specs.Forgotten.{bare, bare_file, bare_rec, every_user, forgotten}
+use Rattle.g_laws_process.specs.ForgottenCopies.{bare, bare_file, bare_rec, every_user, forgotten}
 use Rattle.g_laws_process.proofs.ForgetLemmas.{forgetting_stays}
-use Rattle.g_dumper.specs.Keeps.{up_with}
+use Rattle.g_dumper.specs.Invariant.{up_with}
 use Rattle.g_dumper.proofs.BeginLemmas.{reel_named}
 use Rattle.g_dumper.proofs.HeldLemmas.{held_of_one, holds_there}
 use Rattle.g_dumper.proofs.IntentLemmas.{rules_here}
@@ -42,8 +42,8 @@ use Rattle.g_dumper.proofs.KeepLemmas.{without_dump}
 use Rattle.g_dumper.proofs.OpeningLemmas.{serial_among}
 use Rattle.g_dumper.proofs.ShelfLemmas.{reel_there, told_is}
 use Rattle.g_process.specs.Exits.{AreParts}
-use Rattle.g_process.specs.Planned.{IsFree, living, process_plan, versions}
-use Rattle.g_process.specs.Named.{intended_by, moved_by, process_copies, process_intent}
+use Rattle.g_process.specs.ProcessPlan.{IsFree, living, process_plan, versions}
+use Rattle.g_process.specs.NamedCopies.{intended_by, moved_by, process_copies, process_intent}
 use Rattle.g_process.proofs.BecomeLemmas.{Becomes, all_cons, labels, same_serials}
 use Rattle.g_process.proofs.PinsLemmas.{are_pinned, content_pins, copy_same, noted_pins, pins_of, pins_texts}
 use Rattle.g_process.proofs.PlanLemmas.{all_versions, living_there, plan_content, plan_files, plan_waiting, users_rise}

@@ -17,15 +17,15 @@ use Rattle.g_shelf.specs.declared.rack.Listed.{Listed}
 use Rattle.g_online.specs.declared.change.Change.TheVariants.{SetIntent}
 use Rattle.g_online.specs.declared.fault.OnlineFault.{OnlineFault}
 use Rattle.g_online.specs.declared.fault.OnlineFault.TheVariants.{DiscFull, NoMemory, Stopped}
-use Rattle.g_online.specs.Allowed.{IsAllowed, KeepsRules}
+use Rattle.g_online.specs.AllowedChanges.{IsAllowed, KeepsRules}
 use Rattle.g_online.specs.Change.{changed, need_of, unjammed}
 use Rattle.g_online.specs.Outcomes.{HasChanged, HasStopped, IsApplied, room_for}
-use Rattle.g_online.specs.Ready.{CoverAll, IsAdopting, IsReadyFor, Readied, ready_with, adopted}
+use Rattle.g_online.specs.ReadyCopies.{CoverAll, IsAdopting, IsReadyFor, Readied, ready_with, adopted}
 use Rattle.g_dumper.specs.Beginning.{intent_of}
 use Rattle.g_dumper.proofs.IntentLemmas.{intends, may_intend}
 use Rattle.g_process.specs.declared.job.Job.{Job}
-use Rattle.g_process.specs.Prepared.{AtBlock, AtCopies, AtIntent, CarriesOut, HasIntended, HasMoved, MayCarry, StoppedIntending, StopsAt, copies_of}
-use Rattle.g_process.specs.Written.{HasWritten, IsReadable, MayWrite, WritesBlocks}
+use Rattle.g_process.specs.Preparation.{AtBlock, AtCopies, AtIntent, CarriesOut, HasIntended, HasMoved, MayCarry, StoppedIntending, StopsAt, copies_of}
+use Rattle.g_process.specs.Progress.{HasWritten, IsReadable, MayWrite, WritesBlocks}
 use Rattle.g_process.proofs.BecomeLemmas.{labels_beside, same_mounted, same_serials}
 use Rattle.g_disc.proofs.CallLemmas.{Causes-for}
 

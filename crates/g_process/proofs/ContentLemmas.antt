@@ -12,8 +12,8 @@ use Rattle.g_incr.specs.Layout.{Dump, dump_blocks, file_in, header_block, mark_b
 use Rattle.g_incr.specs.Plan.{IsContentAt, IsReadyAt, Plan, blocks_of, content_blocks, dump_of, first_content, needs, waiting}
 use Rattle.g_incr.proofs.ListLemmas.{get_behind, get_front, get_some}
 use Rattle.g_incr.proofs.PlanLemmas.{length-made}
-use Rattle.g_laws_process.specs.Forgotten.{bare_rec}
-use Rattle.g_process.specs.Written.{HasWritten, IsBlockOf, IsSource}
+use Rattle.g_laws_process.specs.ForgottenCopies.{bare_rec}
+use Rattle.g_process.specs.Progress.{HasWritten, IsBlockOf, IsSource}
 
 -- A BLOCK OF CONTENT in a dump
 pub at_content : (d : Dump) (j k : ℕ) (block : List ℕ) → slice_get d.content j ≡ Some block → k ≡ 1 + length d.users + length d.files + j → slice_get (dump_blocks d) k ≡ Some block

@@ -17,14 +17,14 @@ use Rattle.g_disc_contents.specs.Facts.{Layout}
 use Rattle.g_incr.specs.declared.note.DumpNote.{DumpNote}
 use Rattle.g_incr.specs.Layout.{Dump}
 use Rattle.g_shelf.specs.declared.rack.Listed.{Listed}
-use Rattle.g_shelf.specs.Found.{note_of}
-use Rattle.g_known.specs.Known.{AreListed, IsListed}
+use Rattle.g_shelf.specs.FoundDumps.{note_of}
+use Rattle.g_known.specs.ReelNotes.{AreListed, IsListed}
 use Rattle.g_shelf.proofs.OneLemmas.{completed_are_one}
-use Rattle.g_process.specs.Planned.{IsFree, IsTaken}
+use Rattle.g_process.specs.ProcessPlan.{IsFree, IsTaken}
 use Rattle.g_process.specs.Exits.{IsReadBy}
 use Rattle.g_process.specs.Processing.{IsCutBy, IsLeftBy, IsReleased}
 use Rattle.g_process.specs.Releases.{is_taken, released, taken, zeros}
-use Rattle.g_process.specs.Written.{filled}
+use Rattle.g_process.specs.Progress.{filled}
 use Rattle.g_process.proofs.BecomeLemmas.{Becomes, at_serial, zip_becomes}
 use Rattle.g_process.proofs.ReelLemmas.{filled_long, filled_serial}
 

@@ -12,10 +12,10 @@ use Rattle.g_incr.specs.Layout.{Dump, IsDump, count_of, dump_blocks, size_of}
 use Rattle.g_incr.specs.Plan.{IsAway, IsPlan, Plan, blocks_of, content_blocks, dump_of, first_content, needs, waiting}
 use Rattle.g_incr.proofs.ListLemmas.{get_drop}
 use Rattle.g_incr.proofs.PlanLemmas.{length-made, plan_gives_dump}
-use Rattle.g_shelf.specs.Completed.{AreCompleted}
-use Rattle.g_shelf.specs.Quiet.{IsBegun}
+use Rattle.g_shelf.specs.CompletedDumps.{AreCompleted}
+use Rattle.g_shelf.specs.QuietWrites.{IsBegun}
 use Rattle.g_shelf.proofs.QuietLemmas.{length_dump, within}
-use Rattle.g_process.specs.Written.{HasWritten, IsBlockOf}
+use Rattle.g_process.specs.Progress.{HasWritten, IsBlockOf}
 use Rattle.g_process.proofs.ContentLemmas.{at_content, within_content}
 use Rattle.g_process.proofs.WriteLemmas.{element_below}
 

@@ -12,12 +12,12 @@ use Rattle.g_tape.specs.Reads.{unread}
 use Rattle.g_tape.specs.Reel.{Reel, Remains, Shortened, Torn, Unchanged, ending, left_by}
 use Rattle.g_disc_contents.specs.Contents.{has}
 use Rattle.g_shelf.specs.declared.rack.Listed.{Listed}
-use Rattle.g_known.specs.Known.{AreListed, IsListed}
+use Rattle.g_known.specs.ReelNotes.{AreListed, IsListed}
 use Rattle.g_laws_store.proofs.RecordLemmas.{pairs_head, pairs_tail}
 use Rattle.g_process.specs.Exits.{IsBesideDump, IsClearedBy}
-use Rattle.g_process.specs.Planned.{IsFree, IsTaken}
+use Rattle.g_process.specs.ProcessPlan.{IsFree, IsTaken}
 use Rattle.g_process.specs.Releases.{is_taken, released, taken, zeros}
-use Rattle.g_process.specs.Written.{filled}
+use Rattle.g_process.specs.Progress.{filled}
 use Rattle.g_process.proofs.BecomeLemmas.{Becomes, at_serial, zip_becomes}
 use Rattle.g_process.proofs.DoneLemmas.{at_other, at_this, has_free, has_taken, held_left, held_part, in_serials, one_taken}
 use Rattle.g_process.proofs.ReelLemmas.{filled_long}

@@ -21,28 +21,28 @@ use Rattle.g_disc_contents.specs.Parts.{IsPart}
 use Rattle.g_incr.specs.Layout.{Dump, count_of, is_between}
 use Rattle.g_incr.specs.Plan.{IsAway, IsPlan, IsReadyAt, Plan, blocks_of, content_blocks, dump_of, first_content, needs, waiting}
 use Rattle.g_incr.proofs.PlanLemmas.{length-made}
-use Rattle.g_shelf.specs.Completed.{AreCompleted, AreShelved, all_dumps}
+use Rattle.g_shelf.specs.CompletedDumps.{AreCompleted, AreShelved, all_dumps}
 use Rattle.g_shelf.specs.declared.rack.Listed.{Listed}
-use Rattle.g_known.specs.Known.{AreListed}
-use Rattle.g_shelf.specs.Quiet.{left_in}
+use Rattle.g_known.specs.ReelNotes.{AreListed}
+use Rattle.g_shelf.specs.QuietWrites.{left_in}
 use Rattle.g_shelf.proofs.MarkLemmas.{mark_completes}
 use Rattle.g_store_meaning.specs.Answers.{Belongs}
-use Rattle.g_store_meaning.specs.Belong.{DiscBelongs, KeepsFile, RackBelongs}
+use Rattle.g_store_meaning.specs.Belonging.{DiscBelongs, KeepsFile, RackBelongs}
 use Rattle.g_store_meaning.specs.Meaning.{told_reels}
 use Rattle.g_store_meaning.specs.Reading.{AllTold, ReelsTold}
-use Rattle.g_store_meaning.specs.Up.{IsUp, StoreFacts, with_dump}
-use Rattle.g_laws_process.specs.Forgotten.{bare_rec}
+use Rattle.g_store_meaning.specs.StoreInvariant.{IsUp, StoreFacts, with_dump}
+use Rattle.g_laws_process.specs.ForgottenCopies.{bare_rec}
 use Rattle.g_laws_process.specs.Releasing.{without_reel}
 use Rattle.g_laws_process.proofs.ReleaseLemmas.{one_block_is_none}
-use Rattle.g_dumper.specs.Keeps.{spent_with, up_with}
+use Rattle.g_dumper.specs.Invariant.{spent_with, up_with}
 use Rattle.g_dumper.proofs.ShelfLemmas.{reel_there, told_is}
 use Rattle.g_dumper.proofs.KeepLemmas.{belongs_spent, belongs_up, without_dump}
 use Rattle.g_disc_contents.proofs.HoldLemmas.{holds_one}
 use Rattle.g_process.specs.Exits.{AreParts, HasReleased, IsClearedBy, IsContentOf, IsLastCut, LacksMark, MayFill, Stops, StopsBefore, StopsCopies, StopsIntent, StopsMark, cleared}
-use Rattle.g_process.specs.Planned.{IsFree, IsTaken, living, process_plan, versions}
-use Rattle.g_process.specs.Named.{intended_by, moved_by}
+use Rattle.g_process.specs.ProcessPlan.{IsFree, IsTaken, living, process_plan, versions}
+use Rattle.g_process.specs.NamedCopies.{intended_by, moved_by}
 use Rattle.g_process.specs.Releases.{AreReleased, is_taken, released, taken, zeros}
-use Rattle.g_process.specs.Written.{AreReadable, HasWritten, IsBlockOf, IsReadable, filled}
+use Rattle.g_process.specs.Progress.{AreReadable, HasWritten, IsBlockOf, IsReadable, filled}
 use Rattle.g_process.proofs.BecomeLemmas.{zip_becomes, Becomes, all_cons, apart_of, at_serial, becomes_filled, becomes_read, becomes_released, becomes_then, labels, labels_beside, labels_reads, left_name, same_serials}
 use Rattle.g_process.proofs.BelongLemmas.{disc_intended, disc_marked, none_on, ready, shelved_by, up_at, up_intended, up_moved, up_released, without_all}
 use Rattle.g_process.proofs.ContentLemmas.{all_read, within_content}

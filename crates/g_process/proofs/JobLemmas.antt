@@ -16,26 +16,26 @@ use Rattle.g_plain.specs.declared.faults.StoreFault.{StoreFault}
 use Rattle.g_plain.specs.declared.faults.StoreFault.TheVariants.{NoCopy}
 use Rattle.g_tree.specs.Records.{full_of, name_of_file}
 use Rattle.g_tree.proofs.PutLemmas.{number_found}
-use Rattle.g_online.specs.Allowed.{Lies}
+use Rattle.g_online.specs.AllowedChanges.{Lies}
 use Rattle.g_disc_contents.specs.Contents.{File, recs_in}
 use Rattle.g_disc_contents.specs.Facts.{IsTied, OnlineFacts}
 use Rattle.g_incr.specs.declared.note.DumpNote.{DumpNote}
 use Rattle.g_incr.specs.Layout.{Dump}
 use Rattle.g_incr.specs.Plan.{ComesBefore as RecBefore, needs}
 use Rattle.g_shelf.specs.declared.rack.Listed.{Listed}
-use Rattle.g_shelf.specs.Found.{AreInRow, note_of}
-use Rattle.g_shelf.specs.Held.{AreHeld}
-use Rattle.g_known.specs.Known.{AreListed}
+use Rattle.g_shelf.specs.FoundDumps.{AreInRow, note_of}
+use Rattle.g_shelf.specs.HeldBlocks.{AreHeld}
+use Rattle.g_known.specs.ReelNotes.{AreListed}
 use Rattle.g_known.proofs.KnownLemmas.{held_fits}
 use Rattle.g_shelf.proofs.OneLemmas.{completed_are_one}
-use Rattle.g_laws_process.specs.Forgotten.{every_user}
+use Rattle.g_laws_process.specs.ForgottenCopies.{every_user}
 use Rattle.g_dumper.proofs.BeginLemmas.{after_reads}
 use Rattle.g_dumper.proofs.HeldLemmas.{held_ordered}
 use Rattle.g_dumper.proofs.IntentLemmas.{rules_here}
 use Rattle.g_process.specs.Lists.{IsLost, IsLostIn, IsOfFile, IsThere, notes_at}
-use Rattle.g_process.specs.Planned.{IsFirstLost, IsHeld, living, process_plan, versions}
-use Rattle.g_process.specs.Prepared.{IsGranted}
-use Rattle.g_process.specs.Written.{IsReadable, MayWrite}
+use Rattle.g_process.specs.ProcessPlan.{IsFirstLost, IsHeld, living, process_plan, versions}
+use Rattle.g_process.specs.Preparation.{IsGranted}
+use Rattle.g_process.specs.Progress.{IsReadable, MayWrite}
 use Rattle.g_process.proofs.ListLemmas.{noted_at, unlisted}
 use Rattle.g_process.proofs.PlanLemmas.{all_living, living_there, number_one, plan_waiting, users_rise, version_there}
 use Rattle.g_process.proofs.ReleaseLemmas.{mounted_at, reel_among, take_next}

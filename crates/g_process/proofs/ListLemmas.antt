@@ -10,11 +10,11 @@ use Rattle.g_tape.specs.Reel.{Reel}
 use Rattle.g_incr.specs.declared.note.DumpNote.{DumpNote}
 use Rattle.g_incr.specs.Layout.{Dump}
 use Rattle.g_shelf.specs.declared.rack.Listed.{Listed}
-use Rattle.g_shelf.specs.Found.{note_of}
-use Rattle.g_known.specs.Known.{AreFound, AreListed, IsListed}
+use Rattle.g_shelf.specs.FoundDumps.{note_of}
+use Rattle.g_known.specs.ReelNotes.{AreFound, AreListed, IsListed}
 use Rattle.g_shelf.proofs.OneLemmas.{completed_are_one}
 use Rattle.g_process.specs.Lists.{notes_at}
-use Rattle.g_process.specs.Planned.{IsFree, IsTaken}
+use Rattle.g_process.specs.ProcessPlan.{IsFree, IsTaken}
 
 abbrev serials : List Listed → List ℕ
 serials ls = map (λ (l : Listed). l.serial) ls

@@ -15,12 +15,12 @@ use Rattle.g_disc_contents.proofs.PartLemmas.{parts_join}
 use Rattle.g_incr.specs.Plan.{blocks_of}
 use Rattle.g_incr.proofs.ListLemmas.{get_drop}
 use Rattle.g_store_meaning.specs.Meaning.{joined}
-use Rattle.g_store_meaning.specs.Up.{ArePinned, content_in}
+use Rattle.g_store_meaning.specs.StoreInvariant.{ArePinned, content_in}
 use Rattle.g_laws_store.specs.Dumping.{PinsText}
 use Rattle.g_laws_store.proofs.PinLemmas.{both_told}
-use Rattle.g_laws_process.specs.Forgotten.{bare_rec}
+use Rattle.g_laws_process.specs.ForgottenCopies.{bare_rec}
 use Rattle.g_process.specs.Exits.{AreParts}
-use Rattle.g_process.specs.Planned.{copies_from}
+use Rattle.g_process.specs.ProcessPlan.{copies_from}
 use Rattle.g_process.proofs.DumpLemmas.{from_drop, from_take, get_below}
 
 abbrev pub pins_of : ℕ → ℕ → List FileRec → List (List ℕ) → List Pin

@@ -18,15 +18,15 @@ use Rattle.g_tree.specs.Records.{full_of}
 use Rattle.g_disc_contents.specs.Facts.{IsTied, OnlineFacts}
 use Rattle.g_incr.specs.Plan.{IsPlan, Plan, first_content, needs}
 use Rattle.g_shelf.specs.declared.rack.Listed.{Listed}
-use Rattle.g_known.specs.Known.{AreListed}
-use Rattle.g_online.specs.Ready.{IsReadyFor}
+use Rattle.g_known.specs.ReelNotes.{AreListed}
+use Rattle.g_online.specs.ReadyCopies.{IsReadyFor}
 use Rattle.g_dumper.specs.Beginning.{intent_of}
 use Rattle.g_dumper.proofs.BeginLemmas.{after_reads, reel_named}
 use Rattle.g_process.specs.declared.job.Job.{Job}
 use Rattle.g_process.specs.Lists.{IsLostIn, IsThere, notes_at}
-use Rattle.g_process.specs.Planned.{copies_from, living, process_plan, versions}
-use Rattle.g_process.specs.Prepared.{IsCatalogued, IsGranted, IsJob, IsPrepared, PlansJob, Preparing}
-use Rattle.g_process.specs.Written.{MayWrite}
+use Rattle.g_process.specs.ProcessPlan.{copies_from, living, process_plan, versions}
+use Rattle.g_process.specs.Preparation.{IsCatalogued, IsGranted, IsJob, IsPrepared, PlansJob, Preparing}
+use Rattle.g_process.specs.Progress.{MayWrite}
 use Rattle.g_process.proofs.BecomeLemmas.{labels_reads, same_mounted, same_serials}
 use Rattle.g_process.proofs.JobLemmas.{first_lost_is, may_write}
 use Rattle.g_process.proofs.ListLemmas.{free_by_list, taken_by_list}

@@ -18,13 +18,13 @@ use Rattle.g_tree.specs.Records.{full_of}
 use Rattle.g_disc_contents.specs.Contents.{File}
 use Rattle.g_disc_contents.specs.Facts.{IsTied, OnlineFacts}
 use Rattle.g_incr.specs.Plan.{needs}
-use Rattle.g_shelf.specs.Last.{first_unmounted}
+use Rattle.g_shelf.specs.LastDump.{first_unmounted}
 use Rattle.g_store_model.specs.Rising.{fault_from}
 use Rattle.g_store_meaning.specs.Answers.{IsStore, Told, WroteCommits}
-use Rattle.g_store_meaning.specs.Up.{StoreFacts}
-use Rattle.g_dumper.specs.Keeps.{up_with}
-use Rattle.g_process.specs.Planned.{IsFirstLost, IsFree, IsTaken, process_plan}
-use Rattle.g_process.specs.Prepared.{IsGranted, RefusesLate}
+use Rattle.g_store_meaning.specs.StoreInvariant.{StoreFacts}
+use Rattle.g_dumper.specs.Invariant.{up_with}
+use Rattle.g_process.specs.ProcessPlan.{IsFirstLost, IsFree, IsTaken, process_plan}
+use Rattle.g_process.specs.Preparation.{IsGranted, RefusesLate}
 use Rattle.g_dumper.proofs.OpeningLemmas.{refused_belongs}
 use Rattle.g_incr.specs.Layout.{Dump}
 use Rattle.g_process.specs.Exits.{Exits, IsReadBy, Untouched}

@@ -6,7 +6,7 @@ use Rattle.g_tape.specs.Rack.{Rack, changed, reel, with_reel}
 use Rattle.g_tape.specs.Reads.{HasRead, OnlyReads, blocks_in, blocks_of, count_at, time_of, times_in, unread}
 use Rattle.g_tape.specs.Reel.{Reel, ending}
 use Rattle.g_tape.proofs.ReadLemmas.{blocks_after_reads, nothing_read, reel-with_reel, reel-with_reel_other, reel_after_reads, then_read}
-use Rattle.g_process.specs.Written.{IsBeside, filled}
+use Rattle.g_process.specs.Progress.{IsBeside, filled}
 
 -- ONE MORE BLOCK behind those that stand
 abbrev holding : ℕ → Option (List (List ℕ)) → Reel → Reel

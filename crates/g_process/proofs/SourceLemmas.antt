@@ -22,8 +22,8 @@ use Rattle.g_disc_contents.specs.Contents.{File}
 use Rattle.g_disc_contents.specs.Facts.{OnlineFacts}
 use Rattle.g_disc_contents.specs.Parts.{IsPart}
 use Rattle.g_incr.specs.Plan.{IsContentAt, Plan}
-use Rattle.g_laws_process.specs.Forgotten.{bare_rec}
-use Rattle.g_process.specs.Written.{AreReadable, FailedAt, Fills, IsReadable, ReadsSource}
+use Rattle.g_laws_process.specs.ForgottenCopies.{bare_rec}
+use Rattle.g_process.specs.Progress.{AreReadable, FailedAt, Fills, IsReadable, ReadsSource}
 use Rattle.g_process.proofs.WriteLemmas.{element, element_below, placed}
 
 -- A DISC THAT WAS READ is as it was, but for the count of failed reads

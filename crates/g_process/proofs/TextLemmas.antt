@@ -18,14 +18,14 @@ use Rattle.g_disc_contents.specs.Parts.{IsPart}
 use Rattle.g_disc_contents.proofs.PartLemmas.{joined_are_parts}
 use Rattle.g_incr.specs.Layout.{Dump, StandsOn, content_at, dump_blocks, ends, size_of}
 use Rattle.g_incr.proofs.ListLemmas.{get_drop, get_some}
-use Rattle.g_shelf.specs.Completed.{AreNext, AreShelved, all_dumps}
+use Rattle.g_shelf.specs.CompletedDumps.{AreNext, AreShelved, all_dumps}
 use Rattle.g_store_meaning.specs.Meaning.{IsContent, told_reels}
-use Rattle.g_store_meaning.specs.Belong.{KeepsFile}
+use Rattle.g_store_meaning.specs.Belonging.{KeepsFile}
 use Rattle.g_store_meaning.specs.Reading.{ReelsTold}
 use Rattle.g_store_meaning.proofs.OneLemmas.{on_reel}
 use Rattle.g_dumper.proofs.BeginLemmas.{reel_named}
 use Rattle.g_dumper.proofs.ShelfLemmas.{reel_there, told_is}
-use Rattle.g_process.specs.Written.{IsReadable, IsSource}
+use Rattle.g_process.specs.Progress.{IsReadable, IsSource}
 use Rattle.g_process.proofs.ContentLemmas.{at_content}
 use Rattle.g_process.proofs.DumpLemmas.{from_drop, get_below}
 

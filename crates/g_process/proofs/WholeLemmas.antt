@@ -9,7 +9,7 @@ use Rattle.g_incr.specs.Plan.{IsAway, IsPlan, IsReadyAt, Plan, content_blocks, d
 use Rattle.g_incr.proofs.OneLemmas.{same_header}
 use Rattle.g_incr.proofs.PieceLemmas.{at_header}
 use Rattle.g_incr.proofs.PlanLemmas.{length-made, plan_gives_dump}
-use Rattle.g_shelf.specs.Completed.{AreCompleted}
+use Rattle.g_shelf.specs.CompletedDumps.{AreCompleted}
 use Rattle.g_shelf.proofs.QuietLemmas.{within}
 use Rattle.g_process.proofs.ContentLemmas.{long_copies}
 use Rattle.g_process.proofs.DumpLemmas.{get_below}

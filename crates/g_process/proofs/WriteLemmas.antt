@@ -16,7 +16,7 @@ use Rattle.g_disc_contents.specs.Facts.{OnlineFacts}
 use Rattle.g_incr.specs.Plan.{Plan, needs}
 use Rattle.g_incr.proofs.ListLemmas.{get_push}
 use Rattle.g_dumper.proofs.BeginLemmas.{after_reads}
-use Rattle.g_process.specs.Written.{AreReadable, HasWritten, IsBeside, IsBlockOf, IsReadable, IsSource, MayWrite, WroteAt, filled}
+use Rattle.g_process.specs.Progress.{AreReadable, HasWritten, IsBeside, IsBlockOf, IsReadable, IsSource, MayWrite, WroteAt, filled}
 use Rattle.g_process.proofs.ReelLemmas.{beside_ending, beside_more, beside_none, blocks_beside, filled_capacity, filled_mounted, other_beside, read_beside, read_later, this_beside, times_ending}
 
 -- an element of a list is in it

@@ -15,11 +15,11 @@ use Rattle.g_disc_contents.specs.Facts.{OnlineFacts}
 use Rattle.g_disc_contents.specs.Parts.{IsPart}
 use Rattle.g_incr.specs.Layout.{Dump}
 use Rattle.g_incr.specs.Plan.{IsPlan, blocks_of, content_blocks, dump_of, needs}
-use Rattle.g_shelf.specs.Completed.{AreShelved}
+use Rattle.g_shelf.specs.CompletedDumps.{AreShelved}
 use Rattle.g_store_meaning.specs.Meaning.{told_reels}
-use Rattle.g_store_meaning.specs.Up.{StoreFacts, with_dump}
-use Rattle.g_process.specs.Named.{intended_by, moved_by}
-use Rattle.g_process.specs.Planned.{IsFree, IsTaken, process_plan, versions}
+use Rattle.g_store_meaning.specs.StoreInvariant.{StoreFacts, with_dump}
+use Rattle.g_process.specs.NamedCopies.{intended_by, moved_by}
+use Rattle.g_process.specs.ProcessPlan.{IsFree, IsTaken, process_plan, versions}
 
 -- the blocks of the content have the texts of the versions, one behind the other
 abbrev pub AreParts : (ℕ → List ℕ) → List FileRec → List (List ℕ) → Type 0

@@ -1,8 +1,8 @@
 pub mod Exits
 pub mod Lists
-pub mod Named
-pub mod Planned
-pub mod Prepared
+pub mod NamedCopies
+pub mod Preparation
+pub mod ProcessPlan
 pub mod Processing
+pub mod Progress
 pub mod Releases
-pub mod Written

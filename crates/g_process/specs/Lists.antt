@@ -11,8 +11,8 @@ use Rattle.g_disc_contents.specs.Facts.{OnlineFacts}
 use Rattle.g_incr.specs.declared.note.DumpNote.{DumpNote}
 use Rattle.g_incr.specs.Layout.{Dump}
 use Rattle.g_shelf.specs.declared.rack.Listed.{Listed}
-use Rattle.g_shelf.specs.Found.{AreInRow, note_of}
-use Rattle.g_shelf.specs.Held.{AreHeld}
+use Rattle.g_shelf.specs.FoundDumps.{AreInRow, note_of}
+use Rattle.g_shelf.specs.HeldBlocks.{AreHeld}
 
 -- the notes of the reel of a serial
 abbrev pub notes_at : ℕ → List Listed → List DumpNote

@@ -17,19 +17,19 @@ use Rattle.g_tree.specs.Records.{full_of}
 use Rattle.g_disc_contents.specs.Contents.{File, Holds}
 use Rattle.g_disc_contents.specs.Facts.{OnlineFacts}
 use Rattle.g_incr.specs.Plan.{blocks_of, dump_of, needs}
-use Rattle.g_shelf.specs.Completed.{AreCompleted, AreShelved}
-use Rattle.g_shelf.specs.Last.{first_unmounted}
+use Rattle.g_shelf.specs.CompletedDumps.{AreCompleted, AreShelved}
+use Rattle.g_shelf.specs.LastDump.{first_unmounted}
 use Rattle.g_incr.specs.Layout.{Dump}
 use Rattle.g_store_model.specs.Rising.{fault_from}
 use Rattle.g_store_meaning.specs.Answers.{Belongs, IsStore, Told, WroteCommits}
 use Rattle.g_store_meaning.specs.Meaning.{told_reels}
-use Rattle.g_store_meaning.specs.Up.{DumpFacts, IsUp, StoreFacts}
-use Rattle.g_dumper.specs.Keeps.{spent_with, up_with}
+use Rattle.g_store_meaning.specs.StoreInvariant.{DumpFacts, IsUp, StoreFacts}
+use Rattle.g_dumper.specs.Invariant.{spent_with, up_with}
 use Rattle.g_process.specs.Exits.{Exits, IsReadBy}
-use Rattle.g_process.specs.Named.{intended_by, moved_by}
-use Rattle.g_process.specs.Planned.{IsFirstLost, IsFree, IsTaken, process_plan, versions}
+use Rattle.g_process.specs.NamedCopies.{intended_by, moved_by}
+use Rattle.g_process.specs.ProcessPlan.{IsFirstLost, IsFree, IsTaken, process_plan, versions}
 use Rattle.g_process.specs.Releases.{zeros}
-use Rattle.g_process.specs.Written.{IsSource}
+use Rattle.g_process.specs.Progress.{IsSource}
 
 abbrev pub open_number : Option DumpFacts → ℕ
 open_number None = 0

@@ -2,8 +2,8 @@
 ghost use Rattle.std.specs.Prelude.{◌≡◌, All, Err, IfErr, IfOk, IfNone, IfSome, None, true};
 ghost use Rattle.g_tape.specs.Reads.{OnlyReads};
 ghost use Rattle.g_disc_contents.specs.Facts.{IsTied};
-ghost use Rattle.g_dumper.specs.Keeps.{up_with};
-ghost use Rattle.g_process.specs.Prepared.{CarriesOut, IsGranted, MayCarry, Preparing};
+ghost use Rattle.g_dumper.specs.Invariant.{up_with};
+ghost use Rattle.g_process.specs.Preparation.{CarriesOut, IsGranted, MayCarry, Preparing};
 ghost use Rattle.g_process.specs.Processing.{Processes, behind_process, process_refuses};
 
 use crate::job::{Job, planned};

@@ -4,8 +4,8 @@ ghost use Rattle.std.specs.Option.{ForSome};
 ghost use Rattle.g_tape.specs.Rack.{Rack, reel};
 ghost use Rattle.g_disc_contents.specs.Facts.{IsTied};
 ghost use Rattle.g_incr.specs.Plan as plan;
-ghost use Rattle.g_process.specs.Planned.{living, process_plan};
-ghost use Rattle.g_process.specs.Prepared.{IsCatalogued, IsJob, PlansJob};
+ghost use Rattle.g_process.specs.ProcessPlan.{living, process_plan};
+ghost use Rattle.g_process.specs.Preparation.{IsCatalogued, IsJob, PlansJob};
 
 use crate::living::{bare, copies_from, every_user, filled, living};
 use crate::shelves::{first_lost, is_free};

@@ -1,8 +1,8 @@
 //! The versions that are written, and the copies that they get.
 ghost use Rattle.std.specs.Prelude.{◌≡◌, ◌+◌, ◌<◌, ◌^◌, IfOk, filter, map, true};
 ghost use Rattle.g_incr.specs.Plan.{blocks_of};
-ghost use Rattle.g_laws_process.specs.Forgotten.{bare_rec};
-ghost use Rattle.g_process.specs.Planned.{copies_from, is_filled, living, versions};
+ghost use Rattle.g_laws_process.specs.ForgottenCopies.{bare_rec};
+ghost use Rattle.g_process.specs.ProcessPlan.{copies_from, is_filled, living, versions};
 
 use g_base::{NoMemory, blocks_for};
 use g_disc::Disc;

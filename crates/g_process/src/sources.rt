@@ -2,7 +2,7 @@
 ghost use Rattle.std.specs.Prelude.{◌≡◌, ℕ, ◌<◌, true};
 ghost use Rattle.g_base.specs.Block as block;
 ghost use Rattle.g_disc_contents.specs.Facts.{IsTied};
-ghost use Rattle.g_process.specs.Written.{IsReadable, ReadsSource};
+ghost use Rattle.g_process.specs.Progress.{IsReadable, ReadsSource};
 
 use g_base::Block;
 use g_disc::Disc;

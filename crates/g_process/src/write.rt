@@ -3,7 +3,7 @@ ghost use Rattle.std.specs.Prelude.{◌≡◌, ◌<◌, None, true};
 ghost use Rattle.g_tape.specs.Rack.{reel, refuses_write};
 ghost use Rattle.g_disc_contents.specs.Facts.{IsTied};
 ghost use Rattle.g_incr.specs.Plan.{needs};
-ghost use Rattle.g_process.specs.Written.{AreReadable, Fills, MayWrite, WritesBlock, WritesBlocks};
+ghost use Rattle.g_process.specs.Progress.{AreReadable, Fills, MayWrite, WritesBlock, WritesBlocks};
 
 use crate::job::Job;
 use crate::sources::read_source;

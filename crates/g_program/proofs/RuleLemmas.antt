@@ -7,7 +7,7 @@ use Rattle.g_budget.specs.declared.tariff.Usage.{Usage}
 use Rattle.g_operator.specs.declared.progress.Failure.{Failure}
 use Rattle.g_operator.specs.declared.progress.Failure.TheVariants as failures
 use Rattle.g_demo.specs.declared.demonstration.Demonstration.{Demonstration}
-use Rattle.g_job.specs.Ends.{IsPriced}
+use Rattle.g_job.specs.TurnEnd.{IsPriced}
 use Rattle.g_run.specs.Demo.{IsDemoText, PutsDemo}
 use Rattle.g_run.specs.Top.{EndsAs, EndsDemo}
 use Rattle.g_run.specs.declared.status.Status.{Status}

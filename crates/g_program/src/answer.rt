@@ -35,7 +35,7 @@ const SECOND_RACK: &str = "george.tapes2";
 const LEAST_BLOCKS: u32 = 2_178;
 
 /// Does what the words ask for, and gives the exit status. The words are looked at before anything is opened or made.
-pub fn answer(rt: &HostRuntime, words: &[&str]) -> u8
+pub(crate) fn answer(rt: &HostRuntime, words: &[&str]) -> u8
     ensures unknown { AskNothing (texts_of words.now) → IsExit IsOfWords result }
     ensures known { IsRun words.now → (result ≡ 7) ⊎ IsExit IsOfRun result }
 {

@@ -5,7 +5,7 @@ use g_duplex::Twin;
 use std::io::ErrorKind;
 
 /// Tells which reels were made again from the other rack's before the run.
-pub fn tell_rebuilt(rt: &HostRuntime, rebuilt: &[(u32, Twin)]) {
+pub(crate) fn tell_rebuilt(rt: &HostRuntime, rebuilt: &[(u32, Twin)]) {
     for entry in rebuilt {
         let serial = entry.0;
         let twin = name_of(entry.1);
@@ -14,7 +14,7 @@ pub fn tell_rebuilt(rt: &HostRuntime, rebuilt: &[(u32, Twin)]) {
 }
 
 /// Tells which reels were lost in the run: what was written behind that is on the other rack alone.
-pub fn tell_lost(rt: &HostRuntime, lost: &[(u32, Twin)]) {
+pub(crate) fn tell_lost(rt: &HostRuntime, lost: &[(u32, Twin)]) {
     for entry in lost {
         let serial = entry.0;
         let twin = name_of(entry.1);
@@ -23,7 +23,7 @@ pub fn tell_lost(rt: &HostRuntime, lost: &[(u32, Twin)]) {
 }
 
 /// Tells why image and rack can't be used.
-pub fn tell_unusable(rt: &HostRuntime, kind: ErrorKind) {
+pub(crate) fn tell_unusable(rt: &HostRuntime, kind: ErrorKind) {
     let cause = cause_of(kind);
     let _told = eprintln!(rt; "george: {cause}");
 }

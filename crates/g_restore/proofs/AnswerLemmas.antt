@@ -1,7 +1,7 @@
 -- The answers of a restore, from those of what was made.
 use Rattle.std.proofs.Common.{◌≡◌, ◌≢◌, ◌⊎◌, ◌↔◌, ℕ, List, Option, Some, Result, Ok, Err, refl, sym, subst, inr}
 use Rattle.std.specs.Prelude.{IfErr, IfOk, is_some}
-use Rattle.g_base.specs.Told.{Changes}
+use Rattle.g_base.specs.ToldContent.{Changes}
 use Rattle.g_disc.specs.Disc.{DiscState}
 use Rattle.g_tape.specs.Rack.{Rack}
 use Rattle.g_tape.specs.Reads.{OnlyReads}
@@ -11,12 +11,12 @@ use Rattle.g_plain.specs.declared.faults.StoreFault.TheVariants.{DiscReadFault, 
 use Rattle.g_disc_contents.specs.Contents.{Contents}
 use Rattle.g_disc_contents.specs.Facts.{IsTied, OnlineFacts}
 use Rattle.g_incr.specs.Layout.{Dump}
-use Rattle.g_shelf.specs.Completed.{all_dumps}
+use Rattle.g_shelf.specs.CompletedDumps.{all_dumps}
 use Rattle.g_store_meaning.specs.Meaning.{told_reels}
-use Rattle.g_online.specs.Begun.{AsBeforeOr, HasMade, first_contents}
+use Rattle.g_online.specs.Beginning.{AsBeforeOr, HasMade, first_contents}
 use Rattle.g_restore.specs.declared.directory.Dumped.{Dumped}
-use Rattle.g_restore.specs.Lost.{LostIsNamed, NamesLost}
-use Rattle.g_restore.specs.Restored.{IsOfDisc, IsOfReels, IsRestored, KeepsBelonging, NothingIsLost, answer_of}
+use Rattle.g_restore.specs.Losses.{LostIsNamed, NamesLost}
+use Rattle.g_restore.specs.Restoration.{IsOfDisc, IsOfReels, IsRestored, KeepsBelonging, NothingIsLost, answer_of}
 use Rattle.g_restore.specs.Steps.{IsGiven, head_of}
 use Rattle.g_restore.proofs.BelongLemmas.{belongs_made, belongs_same, belongs_stopped}
 use Rattle.g_restore.proofs.DirectoryLemmas.{err_of, not_err}

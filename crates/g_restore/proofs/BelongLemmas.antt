@@ -1,7 +1,7 @@
 -- Disc and rack go on belonging together.
 use Rattle.std.proofs.Common.{◌≡◌, ◌⊎◌, ℕ, true, List, Option, Some, None, refl, sym, ◌∙◌, ap, subst, inl, inr}
 use Rattle.std.proofs.lemmas.Option.{same_Some}
-use Rattle.g_base.specs.Told.{Changes}
+use Rattle.g_base.specs.ToldContent.{Changes}
 use Rattle.g_disc.specs.Disc.{DiscState}
 use Rattle.g_tape.specs.Rack.{Rack}
 use Rattle.g_tape.specs.Reads.{OnlyReads}
@@ -10,15 +10,15 @@ use Rattle.g_disc_contents.specs.Contents.{Contents, Holds, contents_of}
 use Rattle.g_disc_contents.specs.Facts.{IsTied, OnlineFacts}
 use Rattle.g_disc_contents.proofs.HoldLemmas.{holds_one}
 use Rattle.g_incr.specs.Layout.{Dump}
-use Rattle.g_shelf.specs.Completed.{all_dumps}
-use Rattle.g_store_meaning.specs.Belong.{Belong, BelongWith, DiscBelongs, RackBelongs}
+use Rattle.g_shelf.specs.CompletedDumps.{all_dumps}
+use Rattle.g_store_meaning.specs.Belonging.{Belong, BelongWith, DiscBelongs, RackBelongs}
 use Rattle.g_store_meaning.specs.Laws.{restored}
 use Rattle.g_store_meaning.specs.Meaning.{DumpedDirectory, told_reels}
 use Rattle.g_store_meaning.specs.Reading.{ReelsTold}
 use Rattle.g_store_meaning.proofs.ChangeLemmas.{restore_belongs}
 use Rattle.g_store_meaning.proofs.ViewLemmas.{reads_belong}
-use Rattle.g_online.specs.Begun.{AsBeforeOr, HasMade, HoldsAsBefore}
-use Rattle.g_restore.specs.Restored.{IsRestored, KeepsBelonging}
+use Rattle.g_online.specs.Beginning.{AsBeforeOr, HasMade, HoldsAsBefore}
+use Rattle.g_restore.specs.Restoration.{IsRestored, KeepsBelonging}
 use Rattle.g_restore.proofs.ReelLemmas.{all_of_reels}
 
 restored_belongs : (text : ℕ → List ℕ) (shelf : ℕ → List Dump) (reels : List Reel) (held : Option (List (List ℕ))) (dumps : List Dump) → all_dumps shelf reels ≡ dumps

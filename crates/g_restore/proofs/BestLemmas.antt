@@ -4,7 +4,7 @@ use Rattle.std.specs.Prelude.{nat_lt}
 use Rattle.std.proofs.lemmas.Bool.{cases_Bool, cond-false, cond-true, false≢true, ltb-false, ltb-true}
 use Rattle.std.proofs.lemmas.List.{get_or_default, get_or_read}
 use Rattle.g_restore.specs.declared.dumps.Found.{Found}
-use Rattle.g_restore.specs.Gathered.{IsBest, IsBestOf, newer_holder, newer_of, number_in, holds_directory}
+use Rattle.g_restore.specs.Gathering.{IsBest, IsBestOf, newer_holder, newer_of, number_in, holds_directory}
 
 pub none_best : (user : Option ℕ) (found : List Found) → IsBestOf user found 0 None
 none_best user found = λ k d below passed. let no : ⊥ = omega (arith, below) in no

@@ -10,14 +10,14 @@ use Rattle.g_incr.specs.declared.fault.ShelfFault.{ShelfFault}
 use Rattle.g_incr.specs.Faults.{store_fault}
 use Rattle.g_incr.specs.declared.fault.ShelfFault.TheVariants as shelf
 use Rattle.g_incr.specs.Layout.{Dump}
-use Rattle.g_shelf.specs.Completed.{all_dumps}
+use Rattle.g_shelf.specs.CompletedDumps.{all_dumps}
 use Rattle.g_restore.specs.declared.dumps.Found.{Found}
 use Rattle.g_restore.specs.declared.directory.Dumped.{Dumped}
-use Rattle.g_restore.specs.Gathered.{HasFew}
-use Rattle.g_restore.specs.Known.{AreKnown, known, known_of}
-use Rattle.g_restore.specs.Lost.{AreApart, LostIsNamed, NamesLost}
+use Rattle.g_restore.specs.Gathering.{HasFew}
+use Rattle.g_restore.specs.KnownDumps.{AreKnown, known, known_of}
+use Rattle.g_restore.specs.Losses.{AreApart, LostIsNamed, NamesLost}
 use Rattle.g_restore.specs.Reels.{AreOnReels}
-use Rattle.g_restore.specs.Restored.{IsOfReels}
+use Rattle.g_restore.specs.Restoration.{IsOfReels}
 use Rattle.g_restore.specs.Steps.{IsFolded, IsGiven, IsOfDumps}
 use Rattle.g_restore.proofs.FoldLemmas.{can_be_made}
 use Rattle.g_restore.proofs.KnownLemmas.{have_few, no_dumps}

@@ -22,9 +22,9 @@ use Rattle.g_store_meaning.specs.Meaning.{DumpedDirectory, IsGreatest, files_in}
 use Rattle.g_store_meaning.proofs.GatheredLemmas.{each_gathered}
 use Rattle.g_restore.specs.declared.dumps.Found.{Found}
 use Rattle.g_restore.specs.declared.directory.Dumped.{Dumped}
-use Rattle.g_restore.specs.Gathered.{AreGathered, IsBest, IsFirstBad}
-use Rattle.g_restore.specs.Known.{AreKnown, Known, known, known_of}
-use Rattle.g_restore.specs.Lost.{AreApart, GoTogether, HasPlace, IsFirstLost, IsLostDirectory, NamesLost}
+use Rattle.g_restore.specs.Gathering.{AreGathered, IsBest, IsFirstBad}
+use Rattle.g_restore.specs.KnownDumps.{AreKnown, Known, known, known_of}
+use Rattle.g_restore.specs.Losses.{AreApart, GoTogether, HasPlace, IsFirstLost, IsLostDirectory, NamesLost}
 use Rattle.g_restore.specs.Places.{AnyHas, IsFirstNotHeld, IsHeld}
 use Rattle.g_restore.specs.Steps.{CanBeMade, IsFolded}
 use Rattle.g_restore.proofs.KnownLemmas.{greatest_of}

@@ -12,11 +12,17 @@ use Rattle.g_incr.specs.Plan.{numbered_from}
 use Rattle.g_store_meaning.specs.Meaning.{Gathers, HasDirectory, files_of}
 use Rattle.g_store_meaning.proofs.OneLemmas.{IsApart, same_gathered}
 use Rattle.g_restore.specs.declared.dumps.Found.{Found}
-use Rattle.g_restore.specs.Gathered.{AreGathered, ArePut, GoWith, IsAdded, IsBadWith, IsBest, IsFirstBad, IsHeldNowhere, IsTaken, NonePasses, SoFar, behind}
-use Rattle.g_restore.specs.Known.{AreKnown, Known, known, known_of}
-use Rattle.g_restore.specs.Lost.{AreApart}
+use Rattle.g_restore.specs.Gathering.{AreGathered, ArePut, GoWith, IsAdded, IsBadWith, IsBest, IsFirstBad, IsHeldNowhere, IsTaken, NonePasses, behind}
+use Rattle.g_restore.specs.KnownDumps.{AreKnown, Known, known, known_of}
+use Rattle.g_restore.specs.Losses.{AreApart}
 use Rattle.g_restore.proofs.KnownLemmas.{holder, none_passed}
 use Rattle.g_restore.proofs.NumberLemmas.{behind_is}
+
+-- what was gathered of the first i users
+pub record SoFar (found : List Found) (users : List UserRec) (next i : ℕ) (files : List FileRec) : Type 0 where
+  pub go : GoWith (length users) next files
+  pub all : (dumps : List Dump) → AreKnown found dumps → AreGathered dumps (length users) next (take i users) files
+  pub lower : (dumps : List Dump) → AreKnown found dumps → (k : ℕ) → k < i → (fs : List FileRec) × AreGathered dumps (length users) next (take (k + 1) users) fs
 
 -- ONE DIRECTORY
 pub held_nowhere : (found : List Found) (user : ℕ) → NonePasses (Some user) found (length found) → IsHeldNowhere found user

@@ -6,8 +6,8 @@ use Rattle.std.proofs.lemmas.List.Elements.{All-contains}
 use Rattle.g_incr.specs.Layout.{Dump, IsDump, holds}
 use Rattle.g_store_meaning.specs.Meaning.{HasDirectory, IsGreatest}
 use Rattle.g_restore.specs.declared.dumps.Found.{Found}
-use Rattle.g_restore.specs.Gathered.{HasFew, IsBest, NonePasses, number_in, holds_directory}
-use Rattle.g_restore.specs.Known.{Known, known, known_of}
+use Rattle.g_restore.specs.Gathering.{HasFew, IsBest, NonePasses, number_in, holds_directory}
+use Rattle.g_restore.specs.KnownDumps.{Known, known, known_of}
 
 pub at_place : {X : Type 0} (xs : List X) (i : ℕ) → i < length xs → (x : X) × (get_or xs i x ≡ x)
 at_place [] i within = let no : ⊥ = omega (arith, within) in absurd no

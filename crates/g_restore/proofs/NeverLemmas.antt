@@ -14,14 +14,14 @@ use Rattle.g_plain.specs.declared.faults.StoreFault.TheVariants.{LostCopy, LostD
 use Rattle.g_incr.specs.Layout.{Dump}
 use Rattle.g_incr.specs.Plan.{numbered_from, with_number}
 use Rattle.g_incr.proofs.NumberLemmas.{numbered-append}
-use Rattle.g_shelf.specs.Completed.{all_dumps}
-use Rattle.g_store_meaning.specs.Belong.{BelongWith, KeepsRecord, RackBelongs}
+use Rattle.g_shelf.specs.CompletedDumps.{all_dumps}
+use Rattle.g_store_meaning.specs.Belonging.{BelongWith, KeepsRecord, RackBelongs}
 use Rattle.g_store_meaning.specs.Meaning.{DumpedDirectory, Gathers, IsContent, files_in}
 use Rattle.g_store_meaning.specs.Reading.{ReelsTold}
 use Rattle.g_store_meaning.proofs.OneLemmas.{same_gathered}
 use Rattle.g_store_meaning.proofs.GatheredLemmas.{all_front, files_front, gathers_front}
-use Rattle.g_restore.specs.Lost.{AreApart, GoTogether, HasPlace, IsFirstLost, IsLostDirectory, LostIsNamed}
-use Rattle.g_restore.specs.Restored.{NothingIsLost}
+use Rattle.g_restore.specs.Losses.{AreApart, GoTogether, HasPlace, IsFirstLost, IsLostDirectory, LostIsNamed}
+use Rattle.g_restore.specs.Restoration.{NothingIsLost}
 use Rattle.g_restore.proofs.GatherLemmas.{apart_is}
 
 -- where all directories go together, those of the first users do

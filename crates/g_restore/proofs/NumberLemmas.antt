@@ -8,7 +8,7 @@ use Rattle.g_entry.specs.declared.file_rec.FileRec.{FileRec}
 use Rattle.g_incr.specs.Plan.{numbered_from, with_number}
 use Rattle.g_incr.proofs.NumberLemmas.{length-numbered, numbered-append}
 use Rattle.g_store_meaning.specs.Meaning.{files_of}
-use Rattle.g_restore.specs.Gathered.{added, behind}
+use Rattle.g_restore.specs.Gathering.{added, behind}
 
 -- one more file of a list is looked at
 pub one_added : (old : List FileRec) (user : ℕ) (from : List FileRec) (i : ℕ) (x : FileRec) → i < length from → x ≡ get_or from i x

@@ -9,8 +9,8 @@ use Rattle.g_entry.specs.declared.file_rec.TapeCopy.{TapeCopy}
 use Rattle.g_incr.specs.Layout.{Dump, IsDump, content_at, count_of}
 use Rattle.g_store_meaning.specs.Meaning.{IsContent, joined}
 use Rattle.g_restore.specs.declared.dumps.Found.{Found}
-use Rattle.g_restore.specs.Known.{AreKnown, Known, known, known_of}
-use Rattle.g_restore.specs.Lost.{HasPlace}
+use Rattle.g_restore.specs.KnownDumps.{AreKnown, Known, known, known_of}
+use Rattle.g_restore.specs.Losses.{HasPlace}
 use Rattle.g_restore.specs.Places.{AnyHas, HasBlocks, IsFirstNotHeld, IsHeld}
 use Rattle.g_restore.proofs.KnownLemmas.{known_at, place_of}
 

@@ -4,7 +4,7 @@ use Rattle.std.specs.Prelude.{◌==◌, IfErr, is_some, if◌then◌else◌}
 use Rattle.std.specs.Option.{option_map}
 use Rattle.std.proofs.lemmas.Bool.{cases_eq, cond-false, cond-true, eq-eqb, ne_eqb}
 use Rattle.std.proofs.lemmas.List.Elements.{All-map, All-weaker}
-use Rattle.g_base.specs.Told.{Changes}
+use Rattle.g_base.specs.ToldContent.{Changes}
 use Rattle.g_disc.specs.Disc.{Causes, DiscState}
 use Rattle.g_disc.proofs.CallLemmas.{Causes-for, Causes-none}
 use Rattle.g_entry.specs.declared.file_rec.FileRec.{FileRec}
@@ -18,19 +18,19 @@ use Rattle.g_plain.specs.declared.faults.StoreFault.TheVariants.{DiscReadFault, 
 use Rattle.g_disc_contents.specs.Contents.{Contents, File}
 use Rattle.g_disc_contents.specs.Facts.{OnlineFacts}
 use Rattle.g_incr.specs.Layout.{Dump}
-use Rattle.g_shelf.specs.Completed.{all_dumps}
+use Rattle.g_shelf.specs.CompletedDumps.{all_dumps}
 use Rattle.g_store_meaning.specs.Laws.{restored, restored_file}
 use Rattle.g_store_meaning.specs.Meaning.{files_in}
-use Rattle.g_online.specs.Allowed.{KeepsRules, Lies}
+use Rattle.g_online.specs.AllowedChanges.{KeepsRules, Lies}
 use Rattle.g_online.specs.Faults.{store_fault_of}
 use Rattle.g_online.specs.declared.fault.OnlineFault.{OnlineFault}
 use Rattle.g_online.specs.declared.fault.OnlineFault.TheVariants as online
-use Rattle.g_online.specs.Begun.{AsBeforeOr, HasMade, first_contents, first_file}
+use Rattle.g_online.specs.Beginning.{AsBeforeOr, HasMade, first_contents, first_file}
 use Rattle.g_online.specs.Change.{told_bytes}
 use Rattle.g_restore.specs.declared.directory.Dumped.{Dumped}
-use Rattle.g_restore.specs.Lost.{LostIsNamed, NamesLost}
+use Rattle.g_restore.specs.Losses.{LostIsNamed, NamesLost}
 use Rattle.g_restore.specs.Reels.{AreOnReels}
-use Rattle.g_restore.specs.Restored.{IsOfDisc, IsOfReels, IsRestored, answer_of}
+use Rattle.g_restore.specs.Restoration.{IsOfDisc, IsOfReels, IsRestored, answer_of}
 use Rattle.g_restore.specs.Steps.{CanBeMade, IsFolded, head_of}
 use Rattle.g_restore.proofs.DirectoryLemmas.{not_err, same_err}
 

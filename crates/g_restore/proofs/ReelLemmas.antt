@@ -12,15 +12,15 @@ use Rattle.g_tape.proofs.ReadLemmas.{blocks_after_reads, more_reads, nothing_rea
 use Rattle.g_incr.specs.declared.note.DumpNote.{DumpNote}
 use Rattle.g_incr.specs.Layout.{Dump, IsDump, ends}
 use Rattle.g_incr.specs.Notes.{IsDirOf}
-use Rattle.g_shelf.specs.Completed.{AreCompleted, AreShelved}
-use Rattle.g_shelf.specs.Found.{AreInRow, note_of}
+use Rattle.g_shelf.specs.CompletedDumps.{AreCompleted, AreShelved}
+use Rattle.g_shelf.specs.FoundDumps.{AreInRow, note_of}
 use Rattle.g_shelf.specs.Walk.{AreOf, HasMore}
 use Rattle.g_shelf.proofs.RackLemmas.{reel_at}
 use Rattle.g_shelf.proofs.WalkLemmas.{same_note}
 use Rattle.g_store_meaning.specs.Reading.{ReelsTold}
 use Rattle.g_store_meaning.proofs.OneLemmas.{one_shelf}
 use Rattle.g_restore.specs.declared.dumps.Found.{Found}
-use Rattle.g_restore.specs.Known.{Known, known, known_of}
+use Rattle.g_restore.specs.KnownDumps.{Known, known, known_of}
 use Rattle.g_restore.specs.Reels.{AreAllDumps, AreOn, AreOnReels}
 
 -- WHAT IS KNOWN of a dump is what its records say

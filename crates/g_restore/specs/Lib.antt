@@ -1,7 +1,7 @@
-pub mod Gathered
-pub mod Known
-pub mod Lost
+pub mod Gathering
+pub mod KnownDumps
+pub mod Losses
 pub mod Places
 pub mod Reels
-pub mod Restored
+pub mod Restoration
 pub mod Steps

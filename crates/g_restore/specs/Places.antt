@@ -3,7 +3,7 @@ use Rattle.std.specs.Prelude.{◌≡◌, ℕ, ◌<◌, List, length, take, get_o
 use Rattle.g_base.specs.Block.{blocks_for}
 use Rattle.g_entry.specs.declared.file_rec.FileRec.{FileRec}
 use Rattle.g_entry.specs.declared.file_rec.TapeCopy.{TapeCopy}
-use Rattle.g_shelf.specs.Next.{Holds}
+use Rattle.g_shelf.specs.ReaderSteps.{Holds}
 use Rattle.g_restore.specs.declared.dumps.Found.{Found}
 
 -- so many blocks from the copy's first one on are content of the dump

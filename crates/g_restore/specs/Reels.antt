@@ -3,8 +3,8 @@ use Rattle.std.specs.Prelude.{◌≡◌, ℕ, List, [], ◌∷◌, ◌++◌}
 use Rattle.std.specs.Option.{ForSome}
 use Rattle.g_tape.specs.Reel.{Reel}
 use Rattle.g_incr.specs.Layout.{Dump}
-use Rattle.g_shelf.specs.Completed.{AreCompleted, AreShelved, all_dumps}
-use Rattle.g_shelf.specs.Found.{AreInRow}
+use Rattle.g_shelf.specs.CompletedDumps.{AreCompleted, AreShelved, all_dumps}
+use Rattle.g_shelf.specs.FoundDumps.{AreInRow}
 use Rattle.g_store_meaning.specs.Reading.{ReelsTold}
 
 -- the dumps of a reel: they lie end to end with rising numbers and keep the rules of dumps, and where the reel tells what it

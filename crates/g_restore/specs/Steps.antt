@@ -9,7 +9,7 @@ use Rattle.g_incr.specs.Layout.{Dump}
 use Rattle.g_store_meaning.specs.Meaning.{DumpedDirectory, files_in}
 use Rattle.g_restore.specs.declared.directory.Dumped.{Dumped}
 use Rattle.g_tape.specs.Reel.{Reel}
-use Rattle.g_restore.specs.Lost.{HasPlace}
+use Rattle.g_restore.specs.Losses.{HasPlace}
 use Rattle.g_restore.specs.Reels.{AreOnReels}
 
 -- the refusals that come of what the dumps hold

@@ -1,9 +1,9 @@
 //! The directory that dumps give together.
 ghost use Rattle.std.specs.Prelude.{◌≡◌, All, IfErr, IfOk, List, []};
 ghost use Rattle.g_incr.specs.Layout.{Dump};
-ghost use Rattle.g_restore.specs.Known.{AreKnown};
-ghost use Rattle.g_restore.specs.Gathered.{HasFew};
-ghost use Rattle.g_restore.specs.Lost.{AreApart, NamesLost};
+ghost use Rattle.g_restore.specs.KnownDumps.{AreKnown};
+ghost use Rattle.g_restore.specs.Gathering.{HasFew};
+ghost use Rattle.g_restore.specs.Losses.{AreApart, NamesLost};
 ghost use Rattle.g_restore.specs.Steps.{IsFolded, IsOfDumps};
 
 use crate::dumps::Found;

@@ -3,7 +3,7 @@ ghost use Rattle.std.specs.Prelude.{◌≡◌, ◌⊎◌, All, IfOk, List, OnErr
 ghost use Rattle.g_base.specs.Counts.{Rose};
 ghost use Rattle.g_tape.specs.Reads.{OnlyReads};
 ghost use Rattle.g_incr.specs.Layout.{Dump};
-ghost use Rattle.g_restore.specs.Known.{known, known_of};
+ghost use Rattle.g_restore.specs.KnownDumps.{known, known_of};
 ghost use Rattle.g_restore.specs.Reels.{AreOnReels};
 
 use g_incr::{DumpDir, ShelfFault};
@@ -20,7 +20,7 @@ pub struct Found {
 
 impl OfDump for Found {
     ghost use Rattle.std.specs.Prelude.{◌≡◌};
-    ghost use Rattle.g_restore.specs.Known.{known, known_of};
+    ghost use Rattle.g_restore.specs.KnownDumps.{known, known_of};
 
     ghost is_of = { λ found d. known found ≡ known_of d };
 

@@ -1,9 +1,9 @@
 //! The directories of users, each from the newest dump that holds it, one behind the other.
 ghost use Rattle.std.specs.Prelude.{◌≡◌, ◌⊎◌, ◌↔◌, ◌+◌, ◌≤◌, ℕ, All, IfErr, IfOk, IfSome, IsTrue, List, OnOk, false, length};
 ghost use Rattle.g_incr.specs.Layout.{Dump};
-ghost use Rattle.g_restore.specs.Known.{AreKnown};
-ghost use Rattle.g_restore.specs.Gathered.{AreGathered, ArePut, GoWith, HasFew, IsAdded, IsBadWith, IsBestOf, IsFirstBad, IsHeldNowhere, IsTaken, added, behind, newer_holder, newer_of, holds_directory};
-ghost use Rattle.g_restore.specs.Lost.{AreApart};
+ghost use Rattle.g_restore.specs.KnownDumps.{AreKnown};
+ghost use Rattle.g_restore.specs.Gathering.{AreGathered, ArePut, GoWith, HasFew, IsAdded, IsBadWith, IsBestOf, IsFirstBad, IsHeldNowhere, IsTaken, added, behind, newer_holder, newer_of, holds_directory};
+ghost use Rattle.g_restore.specs.Losses.{AreApart};
 
 use crate::dumps::Found;
 use g_base::NoMemory;

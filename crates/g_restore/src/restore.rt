@@ -1,20 +1,20 @@
 //! The rebuilding of a filestore from the completed dumps of a rack.
 ghost use Rattle.std.specs.Prelude.{◌≡◌, ◌≢◌, ◌⊎◌, ◌↔◌, ◌<◌, ◌≤◌, ℕ, All, IfErr, IfOk, List, OnErr, [], is_some};
 ghost use Rattle.g_base.specs.Counts.{Rose};
-ghost use Rattle.g_base.specs.Told.{Changes};
+ghost use Rattle.g_base.specs.ToldContent.{Changes};
 ghost use Rattle.g_disc.specs.Disc.{Causes};
 ghost use Rattle.g_tape.specs.Reads.{OnlyReads};
 ghost use Rattle.g_disc_contents.specs.Contents.{Contents};
 ghost use Rattle.g_disc_contents.specs.Facts.{IsTied};
 ghost use Rattle.g_incr.specs.Layout.{Dump};
-ghost use Rattle.g_shelf.specs.Last.{first_unmounted};
-ghost use Rattle.g_store_meaning.specs.Belong.{Belong};
+ghost use Rattle.g_shelf.specs.LastDump.{first_unmounted};
+ghost use Rattle.g_store_meaning.specs.Belonging.{Belong};
 ghost use Rattle.g_store_meaning.specs.Meaning.{told_reels};
 ghost use Rattle.g_store_meaning.specs.Reading.{ReelsTold};
-ghost use Rattle.g_online.specs.Begun.{AsBeforeOr, HasMade, first_contents};
+ghost use Rattle.g_online.specs.Beginning.{AsBeforeOr, HasMade, first_contents};
 ghost use Rattle.g_restore.specs.Reels.{AreOnReels};
-ghost use Rattle.g_restore.specs.Lost.{LostIsNamed};
-ghost use Rattle.g_restore.specs.Restored.{IsOfDisc, IsOfReels, IsRestored, KeepsBelonging, NothingIsLost, answer_of};
+ghost use Rattle.g_restore.specs.Losses.{LostIsNamed};
+ghost use Rattle.g_restore.specs.Restoration.{IsOfDisc, IsOfReels, IsRestored, KeepsBelonging, NothingIsLost, answer_of};
 ghost use Rattle.g_restore.specs.Steps.{CanBeMade, IsGiven, head_of};
 
 use crate::directory::{Dumped, fold};

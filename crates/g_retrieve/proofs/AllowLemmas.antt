@@ -12,15 +12,15 @@ use Rattle.g_tree.proofs.RuleLemmas.{one_of_key}
 use Rattle.g_disc_contents.specs.Contents.{Contents, File, brought, has, offline_in, online_with, recs_in, taken_off}
 use Rattle.g_disc_contents.specs.Facts.{IsTied, OnlineFacts, Pin, is_current, online_blocks, pinned_blocks, room_with}
 use Rattle.g_online.specs.declared.change.Change.TheVariants.{Bring}
-use Rattle.g_online.specs.Allowed.{IsAllowed, IsUnjammable, KeepsRules, Lies}
+use Rattle.g_online.specs.AllowedChanges.{IsAllowed, IsUnjammable, KeepsRules, Lies}
 use Rattle.g_online.specs.Change.{changed, told_bytes, with_files}
 use Rattle.g_online.specs.Room.{FitsDisc}
 use Rattle.g_online.proofs.KeepLemmas.{rules_of}
 use Rattle.g_online.proofs.OffRuleLemmas.{MayGo, committed_rules, off_rules, same_recs, rec_off}
-use Rattle.g_laws_memory.specs.Unjam.{IsUnjamPlan, is_candidate, is_taken}
+use Rattle.g_laws_memory.specs.UnjamPlan.{IsUnjamPlan, is_candidate, is_taken}
 use Rattle.g_laws_memory.proofs.UnjamLemmas.{any_found, numbers_apart}
 use Rattle.g_laws_memory.proofs.UserLemmas.{any_there}
-use Rattle.g_retrieve.specs.Brought.{IsOnTape}
+use Rattle.g_retrieve.specs.Retrieval.{IsOnTape}
 
 -- THE RULES of the contents, from what ties them to the disc
 pub rules_here : (o : OnlineFacts) → o.live ≡ true → IsTied o → KeepsRules o.contents

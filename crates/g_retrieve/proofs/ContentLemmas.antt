@@ -10,8 +10,8 @@ use Rattle.g_entry.specs.declared.file_rec.TapeCopy.{TapeCopy}
 use Rattle.g_tape.specs.Rack.{Rack}
 use Rattle.g_tape.specs.Reads.{blocks_of}
 use Rattle.g_incr.specs.Layout.{Dump, StandsOn, content_at, dump_blocks, ends, file_in, header_block, mark_block, size_of, user_in}
-use Rattle.g_shelf.specs.Completed.{AreCompleted, AreNext}
-use Rattle.g_shelf.specs.Held.{AreHeld}
+use Rattle.g_shelf.specs.CompletedDumps.{AreCompleted, AreNext}
+use Rattle.g_shelf.specs.HeldBlocks.{AreHeld}
 use Rattle.g_shelf.proofs.HeldLemmas.{held_in_one}
 use Rattle.g_shelf.proofs.OneLemmas.{completed_are_one}
 use Rattle.g_store_meaning.specs.Meaning.{IsContent, joined}

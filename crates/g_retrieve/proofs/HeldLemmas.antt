@@ -14,17 +14,17 @@ use Rattle.g_tree.proofs.ListLemmas.{contains_first, contains_more}
 use Rattle.g_disc_contents.specs.Contents.{File}
 use Rattle.g_disc_contents.specs.Facts.{OnlineFacts}
 use Rattle.g_incr.specs.Layout.{Dump}
-use Rattle.g_shelf.specs.Completed.{AreCompleted, AreShelved, all_dumps}
+use Rattle.g_shelf.specs.CompletedDumps.{AreCompleted, AreShelved, all_dumps}
 use Rattle.g_store_meaning.specs.Answers.{Belongs, IsLostCopy, Told}
-use Rattle.g_store_meaning.specs.Belong.{KeepsFile}
+use Rattle.g_store_meaning.specs.Belonging.{KeepsFile}
 use Rattle.g_store_meaning.specs.Meaning.{IsContent, told_reels}
 use Rattle.g_store_meaning.specs.Reading.{ReelsTold}
-use Rattle.g_store_meaning.specs.Up.{IsUp, StoreFacts}
+use Rattle.g_store_meaning.specs.StoreInvariant.{IsUp, StoreFacts}
 use Rattle.g_store_meaning.proofs.OneLemmas.{are_right, is_shelved, on_reel, one_content}
 use Rattle.g_laws_store.proofs.UpOneLemmas.{on_all}
 use Rattle.g_laws_memory.proofs.WaitingLemmas.{mapped_there}
-use Rattle.g_retrieve.specs.Brought.{HasCopied, IsOnTape, IsNowhere}
-use Rattle.g_retrieve.specs.Keeps.{HasLostCopy, IsOver}
+use Rattle.g_retrieve.specs.Retrieval.{HasCopied, IsOnTape, IsNowhere}
+use Rattle.g_retrieve.specs.Invariant.{HasLostCopy, IsOver}
 
 -- THE REEL of a serial
 reel_there : (s : ℕ) (rs : List Reel) (q : Reel) → reel s rs ≡ Some q → Contains rs q × (q.serial ≡ s)

@@ -18,21 +18,21 @@ use Rattle.g_online.specs.Change.{changed, told_bytes, unjammed, with_files}
 use Rattle.g_online.specs.Outcomes.{AfterStop, HasChanged, HasStopped}
 use Rattle.g_online.proofs.OffRuleLemmas.{rec_off}
 use Rattle.g_incr.specs.Layout.{Dump, holds}
-use Rattle.g_shelf.specs.Completed.{AreShelved}
+use Rattle.g_shelf.specs.CompletedDumps.{AreShelved}
 use Rattle.g_store_meaning.specs.Answers.{Belongs, IsStore, Told}
-use Rattle.g_store_meaning.specs.Belong.{BelongWith, DiscBelongs}
+use Rattle.g_store_meaning.specs.Belonging.{BelongWith, DiscBelongs}
 use Rattle.g_store_meaning.specs.Laws.{BringsText, IsQuiet}
 use Rattle.g_store_meaning.specs.Meaning.{told_reels}
 use Rattle.g_store_meaning.specs.Reading.{ReelsTold}
 use Rattle.g_store_meaning.specs.Staying.{OnlyGrow, behind}
-use Rattle.g_store_meaning.specs.Up.{DumpFacts, IsOpen, IsUp, StoreFacts}
+use Rattle.g_store_meaning.specs.StoreInvariant.{DumpFacts, IsOpen, IsUp, StoreFacts}
 use Rattle.g_store_meaning.proofs.ChangeLemmas.{files_belong}
 use Rattle.g_store_meaning.proofs.StayLemmas.{stays_open, stays_up}
 use Rattle.g_laws_store.proofs.DumpingLemmas.{events_stay_up}
 use Rattle.g_laws_store.proofs.TiedLemmas.{committed_belongs, devices_belong, moved, spent_store, spent_then}
 use Rattle.g_laws_memory.proofs.UnjamLemmas.{numbers_apart}
-use Rattle.g_retrieve.specs.Brought.{HasCopied, IsOnTape}
-use Rattle.g_retrieve.specs.Keeps.{IsOver, KeepsDevices}
+use Rattle.g_retrieve.specs.Retrieval.{HasCopied, IsOnTape}
+use Rattle.g_retrieve.specs.Invariant.{IsOver, KeepsDevices}
 use Rattle.g_retrieve.proofs.AllowLemmas.{rules_here}
 use Rattle.g_retrieve.proofs.HeldLemmas.{copied_one, text_is}
 

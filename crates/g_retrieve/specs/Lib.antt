@@ -1,2 +1,2 @@
-pub mod Brought
-pub mod Keeps
+pub mod Invariant
+pub mod Retrieval

@@ -9,10 +9,10 @@ ghost use Rattle.g_tape.specs.Rack.{is_mounted, reel};
 ghost use Rattle.g_tree.specs.Records.{IsRecords, name_of_file};
 ghost use Rattle.g_disc_contents.specs.Contents.{File};
 ghost use Rattle.g_disc_contents.specs.Facts.{IsTied};
-ghost use Rattle.g_online.specs.Allowed.{IsAllowed};
-ghost use Rattle.g_laws_memory.specs.Unjam.{IsUnjamPlan};
-ghost use Rattle.g_retrieve.specs.Brought.{HasBroughtBack, HasReadCopy, IsOnTape, IsPutBack, as_read};
-ghost use Rattle.g_retrieve.specs.Keeps.{HasLostCopy, KeepsDevices};
+ghost use Rattle.g_online.specs.AllowedChanges.{IsAllowed};
+ghost use Rattle.g_laws_memory.specs.UnjamPlan.{IsUnjamPlan};
+ghost use Rattle.g_retrieve.specs.Retrieval.{HasBroughtBack, HasReadCopy, IsOnTape, IsPutBack, as_read};
+ghost use Rattle.g_retrieve.specs.Invariant.{HasLostCopy, KeepsDevices};
 
 use crate::bytes::known_bytes;
 use g_disc::Disc;

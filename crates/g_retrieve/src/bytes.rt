@@ -6,7 +6,7 @@ ghost use Rattle.g_tape.specs.Rack.{reel, refuses_unmount};
 ghost use Rattle.g_tape.specs.Reads.{HasRead, blocks_of};
 ghost use Rattle.g_incr.specs.Layout.{Dump};
 ghost use Rattle.g_incr.specs.Reading.{ReadsReel};
-ghost use Rattle.g_shelf.specs.Completed.{AreCompleted};
+ghost use Rattle.g_shelf.specs.CompletedDumps.{AreCompleted};
 ghost use Rattle.g_store_meaning.specs.Meaning.{IsContent, joined};
 
 use g_base::{Block, blocks_for};

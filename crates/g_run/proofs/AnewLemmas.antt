@@ -5,7 +5,7 @@ use Rattle.g_base.proofs.CountLemmas.{Rose-before, Rose-behind}
 use Rattle.g_script.specs.declared.operator.Operator.TheVariants as line
 use Rattle.g_script.specs.declared.operator.Timed.{Timed}
 use Rattle.g_run_model.specs.Devices.{Devices}
-use Rattle.g_laws_runs.specs.Anew.{BeginAnew, NoDiscFault, is_aside}
+use Rattle.g_laws_runs.specs.BeginningAnew.{BeginAnew, NoDiscFault, is_aside}
 use Rattle.g_operator.specs.System.{SameDevices}
 use Rattle.g_run.specs.Parts.{AreAside}
 

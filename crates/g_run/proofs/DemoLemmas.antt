@@ -19,7 +19,7 @@ use Rattle.g_run_model.specs.Top.{EndsWhole}
 use Rattle.g_operator.specs.declared.progress.Failure.{Failure}
 use Rattle.g_operator.specs.Puts.{PutsBy}
 use Rattle.g_run.specs.Demo.{IsDemoText, PutsDemo}
-use Rattle.g_run.specs.Over.{both}
+use Rattle.g_run.specs.ScriptEnd.{both}
 
 module _ {F U : Type 0} (tariffs : Shared F (Bor Usage × Unit {0}) Charge) (tariff : F) (rules : Shared U (Bor Standing × Unit {0}) ℕ) (rule : U) where
   pub puts_demo : (demo : Demonstration) (text : List ℕ) → IsDemoText tariffs tariff rules rule demo text → (failure : Option Failure) (before after : Option (List ℕ))

@@ -11,7 +11,7 @@ use Rattle.g_monitor.specs.Refusals.{fault_line}
 use Rattle.g_plain.specs.declared.faults.StoreFault.{StoreFault}
 use Rattle.g_plain.specs.declared.faults.StoreFault.TheVariants.{DiscReadFault, NoMemory, Stopped}
 use Rattle.g_store_meaning.specs.Reading.{StandsForState, open_of}
-use Rattle.g_store_meaning.specs.Up.{DumpFacts, StoreFacts}
+use Rattle.g_store_meaning.specs.StoreInvariant.{DumpFacts, StoreFacts}
 use Rattle.g_store_model.specs.CallStep.{Outcome}
 use Rattle.g_store_model.specs.DumpSteps.{Completed, DumpStep, Going, Stepped}
 use Rattle.g_store_model.specs.State.{Holding, OpenDump, State}

@@ -8,9 +8,9 @@ use Rattle.g_job.specs.State.{JobState}
 use Rattle.g_job.specs.Turns.{turn_work}
 use Rattle.g_job.specs.declared.turn.Turn.{Turn}
 use Rattle.g_job.specs.declared.turn.Turn.TheVariants as turns
-use Rattle.g_plain.specs.Asks.{RanInPart}
+use Rattle.g_plain.specs.Programs.{RanInPart}
 use Rattle.g_store_meaning.specs.Answers.{Answers}
-use Rattle.g_store_meaning.specs.Up.{StoreFacts}
+use Rattle.g_store_meaning.specs.StoreInvariant.{StoreFacts}
 use Rattle.g_store_model.specs.State.{State}
 use Rattle.g_entry.specs.declared.user_rec.UserRec.{UserRec}
 use Rattle.g_tape.specs.Rack.{is_mounted, reel}

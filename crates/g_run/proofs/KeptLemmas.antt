@@ -1,11 +1,11 @@
 -- What holds of every device behind a turn.
 use Rattle.std.proofs.Common.{◌≡◌, ℕ, true, List, Option, Some, None, refl, sym, ◌∙◌, ap, subst, inl, inr}
 use Rattle.std.specs.Prelude.{◌↔◌}
-use Rattle.g_job.specs.Spends.{SpendsBy}
+use Rattle.g_job.specs.Spending.{SpendsBy}
 use Rattle.g_job.specs.State.{JobState}
 use Rattle.g_job.specs.declared.turn.Turn.{Turn}
 use Rattle.g_job.specs.declared.turn.Turn.TheVariants as turns
-use Rattle.g_store_meaning.specs.Up.{StoreFacts}
+use Rattle.g_store_meaning.specs.StoreInvariant.{StoreFacts}
 use Rattle.g_run_model.specs.Devices.{Devices}
 use Rattle.g_run_model.specs.World.{with_job}
 use Rattle.g_job_table.specs.Crew.{CrewState}

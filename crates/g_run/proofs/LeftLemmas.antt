@@ -2,7 +2,7 @@
 use Rattle.std.proofs.Common.{◌≡◌, ◌↔◌, ℕ, Bool, true, false, Err, Result, refl, sym, ◌∙◌, ap, inl, inr}
 use Rattle.g_plain.specs.declared.faults.StoreFault.{StoreFault}
 use Rattle.g_plain.specs.declared.faults.StoreFault.TheVariants.{Stopped}
-use Rattle.g_store_meaning.specs.Up.{StoreFacts}
+use Rattle.g_store_meaning.specs.StoreInvariant.{StoreFacts}
 use Rattle.g_store_model.specs.DumpSteps.{Stepped}
 use Rattle.g_job_table.specs.Crew.{CrewState}
 use Rattle.g_operator.specs.Parts.{Seen, seen}

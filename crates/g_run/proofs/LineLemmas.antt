@@ -17,12 +17,12 @@ use Rattle.g_run_model.specs.Lines.{is_process}
 use Rattle.g_run_model.specs.Moves.{TakeLine}
 use Rattle.g_run_model.specs.Top.{AreArmings}
 use Rattle.g_run_model.specs.World.{World}
-use Rattle.g_laws_runs.specs.Anew.{BeginAnew, NoDiscFault}
+use Rattle.g_laws_runs.specs.BeginningAnew.{BeginAnew, NoDiscFault}
 use Rattle.g_run_model.proofs.CountLemmas.{move_counted}
 use Rattle.g_run_model.proofs.TickLemmas.{line_move}
 use Rattle.g_job_table.specs.Numbers.{AreOpen}
 use Rattle.g_operator.specs.declared.progress.Failure.{Failure}
-use Rattle.g_operator.specs.Anew.{AnewLine, IsBlank, beside}
+use Rattle.g_operator.specs.BeginningAnew.{AnewLine, IsBlank, beside}
 use Rattle.g_operator.specs.Parts.{ArmsBy, DidLine, DoesLine, DoesNothing, IsReady, LineGoes, Matches, Seen, disc_arms, tape_arms}
 use Rattle.g_operator.specs.System.{SystemFacts, devices_in}
 use Rattle.g_operator.proofs.AnewLemmas.{aside_line, format_line}

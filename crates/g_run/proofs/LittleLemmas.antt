@@ -5,7 +5,7 @@ use Rattle.std.proofs.lemmas.List.Elements.{All-head, All-tail}
 use Rattle.std.proofs.lemmas.List.Sums.{sum_by-cons}
 use Rattle.g_incr.specs.Plan.{needs}
 use Rattle.g_job.specs.State.{JobState}
-use Rattle.g_store_meaning.specs.Up.{DumpFacts, StoreFacts}
+use Rattle.g_store_meaning.specs.StoreInvariant.{DumpFacts, StoreFacts}
 use Rattle.g_tape.specs.Rack.{Rack}
 use Rattle.g_job_table.specs.Crew.{CrewState}
 use Rattle.g_job_table.specs.Numbers.{AreJobs, IsAllowed}

@@ -16,7 +16,7 @@ use Rattle.g_job.specs.State.{JobState}
 use Rattle.g_script.specs.declared.operator.Timed.{Timed}
 use Rattle.g_store_meaning.specs.Meaning.{told_reels}
 use Rattle.g_store_meaning.specs.Reading.{DevicesStandFor, View, holding_of, state_down, StandsForState}
-use Rattle.g_store_meaning.specs.Up.{StoreFacts}
+use Rattle.g_store_meaning.specs.StoreInvariant.{StoreFacts}
 use Rattle.g_store_model.specs.CallStep.{down, no_longer_kept}
 use Rattle.g_store_model.specs.State.{Holding, State}
 use Rattle.g_store.proofs.ArmLemmas.{spent_stands}
@@ -31,7 +31,7 @@ use Rattle.g_run_model.specs.World.{World, closed, is_due, nothing_steps, start}
 use Rattle.g_run_model.proofs.CountLemmas.{counted_of, event_none, move_counted, moves_then}
 use Rattle.g_run_model.proofs.TickLemmas.{over_move}
 use Rattle.g_run_model.proofs.TurnLemmas.{run_append}
-use Rattle.g_laws_runs.specs.Anew.{NoDiscFault, with_new_disc}
+use Rattle.g_laws_runs.specs.BeginningAnew.{NoDiscFault, with_new_disc}
 use Rattle.g_job_table.specs.Crew.{CrewState}
 use Rattle.g_operator.specs.declared.progress.Failure.{Failure}
 use Rattle.g_operator.specs.declared.progress.Failure.TheVariants as failures
@@ -41,7 +41,7 @@ use Rattle.g_operator.specs.Parts.{Matches, Seen, seen}
 use Rattle.g_operator.specs.Puts.{FaultCause, Puts, PutsBy}
 use Rattle.g_operator.specs.System.{BelongTogether, Down, StandsAs, SystemBelongs, SystemFacts, Up, devices_in, SameDevices}
 use Rattle.g_run.proofs.TickLemmas.{put_on, with_more-append}
-use Rattle.g_run.specs.Over.{ClosesBy, DidScript, TakenDown, both}
+use Rattle.g_run.specs.ScriptEnd.{ClosesBy, DidScript, TakenDown, both}
 use Rattle.g_run.specs.Parts.{DidAll, DumpsKept, IsAtRest, Keeps, Leads, PartGoes}
 use Rattle.g_run.specs.Top.{EndsBy}
 use Rattle.g_run.proofs.PartLemmas.{with_more-nil}

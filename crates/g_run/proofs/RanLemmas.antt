@@ -3,14 +3,14 @@ use Rattle.std.proofs.Common.{◌≡◌, ◌⊎◌, ℕ, false, List, [], ◌∷
 use Rattle.std.proofs.lemmas.Bool.{false≢true}
 use Rattle.g_turn.specs.Causes.{IsHonest, IsOther, StopsAt}
 use Rattle.g_turn.specs.State.{Broken, Stop, Waits, Work}
-use Rattle.g_plain.specs.Asks.{Answer, Asks, Call, Gives, RanInPart}
-use Rattle.g_plain.specs.RanBy.{RanBy}
+use Rattle.g_plain.specs.Programs.{Answer, Asks, Call, Gives, RanInPart}
+use Rattle.g_plain.specs.Runs.{RanBy}
 use Rattle.g_plain.specs.declared.calls.StoreCall.{StoreCall}
 use Rattle.g_plain.specs.declared.faults.StoreFault.TheVariants.{NoMemory, Stopped, WaitTape}
 use Rattle.g_store_meaning.specs.Answers.{Answers, Belongs, Told}
 use Rattle.g_store_meaning.specs.Meaning.{told_reels}
 use Rattle.g_store_meaning.specs.Reading.{StandsForState, View, state_up}
-use Rattle.g_store_meaning.specs.Up.{StoreFacts}
+use Rattle.g_store_meaning.specs.StoreInvariant.{StoreFacts}
 use Rattle.g_store_model.specs.State as state
 use Rattle.g_store_model.specs.State.{State}
 use Rattle.g_store.proofs.MountLemmas.{mounted_by}

@@ -4,7 +4,7 @@ use Rattle.std.specs.Prelude.{◌&&◌, ◌||◌, option_map}
 use Rattle.g_job.specs.State.{JobState}
 use Rattle.g_script.specs.declared.operator.Timed.{Timed}
 use Rattle.g_store_meaning.specs.Reading.{open_of}
-use Rattle.g_store_meaning.specs.Up.{DumpFacts, StoreFacts}
+use Rattle.g_store_meaning.specs.StoreInvariant.{DumpFacts, StoreFacts}
 use Rattle.g_store_model.specs.State.{State}
 use Rattle.g_store_calls.proofs.SeenLemmas.{seen as seen_of}
 use Rattle.g_run_model.specs.Devices.{Devices}

@@ -8,15 +8,15 @@ use Rattle.g_online.specs.declared.fault.OnlineFault.{OnlineFault}
 use Rattle.g_online.specs.declared.fault.OnlineFault.TheVariants as online
 use Rattle.g_plain.specs.declared.faults.StoreFault.{StoreFault}
 use Rattle.g_plain.specs.declared.faults.StoreFault.TheVariants.{DiscReadFault, Stopped}
-use Rattle.g_store_meaning.specs.Up.{DumpFacts}
+use Rattle.g_store_meaning.specs.StoreInvariant.{DumpFacts}
 use Rattle.g_disc_contents.specs.Facts.{Pin}
 use Rattle.g_store_model.specs.CallStep.{Cut, DiscRead, Outcome, Plain, TapeRead}
 use Rattle.g_store_model.specs.DumpSteps.{Completed, Going, Stepped}
 use Rattle.g_tape.specs.Rack.{Rack}
 use Rattle.g_run_model.specs.Devices.{Devices}
-use Rattle.g_run_model.specs.Events.{OutcomeTold}
 use Rattle.g_run_model.specs.Moves.{DumpCounted}
 use Rattle.g_run_model.proofs.CountLemmas.{dump_failed, happened_same, none_failed, none_rose, rack_failed}
+use Rattle.g_run_model.proofs.EventToldLemmas.{OutcomeTold}
 
 abbrev both : OnlineFacts → Rack → Devices
 both o r = record { disc = o.disc; rack = r }

@@ -8,7 +8,7 @@ use Rattle.g_budget.specs.declared.tariff.Charge.{Charge}
 use Rattle.g_budget.specs.declared.tariff.Usage.{Usage}
 use Rattle.g_sched.specs.declared.rule.Standing.{Standing}
 use Rattle.g_script.specs.declared.operator.Timed.{Timed}
-use Rattle.g_store_meaning.specs.Up.{StoreFacts}
+use Rattle.g_store_meaning.specs.StoreInvariant.{StoreFacts}
 use Rattle.g_run_model.specs.Moves.{Move, Ticked}
 use Rattle.g_run_model.specs.World.{Between, World}
 use Rattle.g_run_model.proofs.CountLemmas.{event_none, move_counted, moves_then}

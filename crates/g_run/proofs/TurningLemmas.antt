@@ -12,9 +12,9 @@ use Rattle.g_budget.specs.declared.tariff.Usage.{Usage}
 use Rattle.g_sched.specs.declared.rule.Standing.{Standing}
 use Rattle.g_sched.specs.Choice.{IsChosen}
 use Rattle.g_io.specs.Streams.{with_more}
-use Rattle.g_plain.specs.Asks.{Gives, RanInPart}
-use Rattle.g_job.specs.Begun.{standing_of}
-use Rattle.g_job.specs.Spends.{SpendsBy}
+use Rattle.g_plain.specs.Programs.{Gives, RanInPart}
+use Rattle.g_job.specs.Beginning.{standing_of}
+use Rattle.g_job.specs.Spending.{SpendsBy}
 use Rattle.g_job.specs.State.{JobState}
 use Rattle.g_job.specs.Turns.{turn_work}
 use Rattle.g_job.specs.declared.turn.Turn.{Turn}
@@ -22,7 +22,7 @@ use Rattle.g_job.specs.declared.turn.Turn.TheVariants as turns
 use Rattle.g_store_meaning.specs.Answers.{Answers}
 use Rattle.g_store_meaning.specs.Reading.{DevicesStandFor, StandsForState}
 use Rattle.g_store_meaning.specs.Meaning.{told_reels}
-use Rattle.g_store_meaning.specs.Up.{StoreFacts}
+use Rattle.g_store_meaning.specs.StoreInvariant.{StoreFacts}
 use Rattle.g_store_model.specs.State.{State}
 use Rattle.g_store.proofs.ArmLemmas.{spent_stands}
 use Rattle.g_run_model.specs.Accounts.{settled}

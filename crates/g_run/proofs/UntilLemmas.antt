@@ -11,7 +11,7 @@ use Rattle.g_run_model.specs.World.{World}
 use Rattle.g_job_table.specs.Crew.{CrewState}
 use Rattle.g_job_table.specs.Numbers.{AreOpen}
 use Rattle.g_operator.specs.declared.progress.Failure.{Failure}
-use Rattle.g_operator.specs.Anew.{beside, beside_new}
+use Rattle.g_operator.specs.BeginningAnew.{beside, beside_new}
 use Rattle.g_operator.specs.Parts.{IsReady, Matches, Seen, seen}
 use Rattle.g_operator.specs.System.{Down, SystemFacts, Up, devices_in}
 use Rattle.g_run.specs.Tick.{left}

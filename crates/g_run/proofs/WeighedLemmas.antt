@@ -11,7 +11,7 @@ use Rattle.g_sched.specs.declared.rule.Standing.{Standing}
 use Rattle.g_job.specs.State.{JobState}
 use Rattle.g_job.specs.declared.turn.Turn.{Turn}
 use Rattle.g_job.specs.declared.turn.Turn.TheVariants as turns
-use Rattle.g_store_meaning.specs.Up.{StoreFacts}
+use Rattle.g_store_meaning.specs.StoreInvariant.{StoreFacts}
 use Rattle.g_run_model.specs.Texts.{shown}
 use Rattle.g_run_model.specs.World.{with_job, without_job}
 use Rattle.g_job_table.specs.Crew.{CrewState}

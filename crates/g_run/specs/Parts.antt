@@ -13,10 +13,10 @@ use Rattle.g_run_model.specs.Lines.{is_process}
 use Rattle.g_run_model.specs.Moves.{Move, MovesCounted, Run}
 use Rattle.g_run_model.specs.Top.{AreArmings}
 use Rattle.g_run_model.specs.World.{World, is_due, nothing_steps}
-use Rattle.g_laws_runs.specs.Anew.{BeginAnew, NoDiscFault, is_aside}
+use Rattle.g_laws_runs.specs.BeginningAnew.{BeginAnew, NoDiscFault, is_aside}
 use Rattle.g_job_table.specs.Numbers.{AreOpen}
 use Rattle.g_operator.specs.declared.progress.Failure.{Failure}
-use Rattle.g_operator.specs.Anew.{IsBlank, beside}
+use Rattle.g_operator.specs.BeginningAnew.{IsBlank, beside}
 use Rattle.g_operator.specs.Parts.{IsReady, IsWithin, Matches, Seen}
 use Rattle.g_operator.specs.Puts.{FaultCause}
 use Rattle.g_operator.specs.System.{DumpsGrow, SameDevices, StandsAs, SystemBelongs, SystemFacts, devices_in}

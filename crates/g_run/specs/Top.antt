@@ -13,7 +13,7 @@ use Rattle.g_script.specs.Script.{IsParsed}
 use Rattle.g_script.specs.declared.operator.Timed.{Timed}
 use Rattle.g_run_model.specs.Devices.{Devices}
 use Rattle.g_run_model.specs.Top.{EndsShort, EndsWhole, IsCut, words_line}
-use Rattle.g_laws_runs.specs.Anew.{AreBlank, BeginAnew, NoDiscFault}
+use Rattle.g_laws_runs.specs.BeginningAnew.{AreBlank, BeginAnew, NoDiscFault}
 use Rattle.g_operator.specs.declared.progress.Failure.{Failure}
 use Rattle.g_operator.specs.declared.progress.Failure.TheVariants as failures
 use Rattle.g_run.specs.Demo.{PutsDemo}

@@ -13,7 +13,7 @@ const PIECE: usize = 4_096;
 
 /// Why a script wasn't read whole.
 #[derive(Clone, Copy, Debug, PartialEq, Eq)]
-pub enum Unread {
+pub(crate) enum Unread {
     /// The source failed.
     Fault,
     /// There are more than 16,777,216 bytes; one more was taken.
@@ -32,7 +32,7 @@ impl From<AllocError> for Unread {
 }
 
 /// Reads all that the source has left.
-pub fn read_script<S: Source>(alloc: Global, script: &mut S) -> Result<Vec<u8>, Unread>
+pub(crate) fn read_script<S: Source>(alloc: Global, script: &mut S) -> Result<Vec<u8>, Unread>
     ensures all { IfOk result (λ text. (left : List ℕ) → S.left script.old ≡ Some left → (text.items ≡ left) × (S.left script.new ≡ Some [])) }
     ensures short { IfOk result (λ text. length text.items ≤ 16777216) }
     ensures long { IsErrOf result Unread.TooLong → (left : List ℕ) → S.left script.old ≡ Some left → 16777216 < length left }

@@ -5,7 +5,7 @@ ghost use Rattle.g_operator.specs.Parts.{IsReady};
 ghost use Rattle.g_job_table.specs.Numbers.{AreOpen};
 ghost use Rattle.g_sched.specs.Rule.{IsWeighRule};
 ghost use Rattle.g_run_model.specs.Texts as texts;
-ghost use Rattle.g_run.specs.Over.{ClosesBy, DidScript, TakenDown, both};
+ghost use Rattle.g_run.specs.ScriptEnd.{ClosesBy, DidScript, TakenDown, both};
 ghost use Rattle.g_run.specs.Parts.{DidAll, IsTimedWithin};
 
 use crate::boxed_disc::BoxedDisc;

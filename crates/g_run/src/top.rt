@@ -13,10 +13,10 @@ ghost use Rattle.g_script.specs.Script.{IsParsed};
 ghost use Rattle.g_script.specs.declared.operator.Timed.{Timed};
 ghost use Rattle.g_laws_process.specs.Moving.{DumpsMove};
 ghost use Rattle.g_run_model.specs.Top.{AreArmings, AreFused, IsCutWords, words_line};
-ghost use Rattle.g_laws_runs.specs.Anew.{with_new_disc};
+ghost use Rattle.g_laws_runs.specs.BeginningAnew.{with_new_disc};
 ghost use Rattle.g_laws_runs.specs.Filestores.{HasFilestore};
 ghost use Rattle.g_run.specs.Input.{IsRun};
-ghost use Rattle.g_run.specs.Over.{both};
+ghost use Rattle.g_run.specs.ScriptEnd.{both};
 ghost use Rattle.g_run.specs.Parts.{HaveNoProcess};
 ghost use Rattle.g_run.specs.Top as top;
 

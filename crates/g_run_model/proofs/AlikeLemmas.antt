@@ -9,7 +9,7 @@ use Rattle.g_entry.specs.declared.file_rec.TapeCopy.{TapeCopy}
 use Rattle.g_entry.specs.declared.head.Intent.{Intent}
 use Rattle.g_name.specs.declared.full.Full.{Full}
 use Rattle.g_name.specs.declared.path.Path.{Path}
-use Rattle.g_plain.specs.Asks.{Answer}
+use Rattle.g_plain.specs.Programs.{Answer}
 use Rattle.g_plain.specs.PlainStep.{first_fault}
 use Rattle.g_plain.specs.PlainTree.{formatted, has_file, has_user, input_name}
 use Rattle.g_plain.specs.declared.calls.StoreCall.{StoreCall}

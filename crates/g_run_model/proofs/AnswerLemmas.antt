@@ -10,9 +10,13 @@ use Rattle.g_plain.specs.PlainStep.{first_fault, fault_of, plain_tree, reply_to,
 use Rattle.g_store_model.specs.State.{State, Holding, is_mounted}
 use Rattle.g_store_model.specs.CallStep.{Outcome, CallStep, Planned, LeftByRefusal, early, late, is_offline, is_tape_read, reel_of}
 use Rattle.g_store_model.specs.Laws.{tree_in, AnswersPlainly, RefusalsKeep, StopsLeave}
-use Rattle.g_run_model.specs.Laws.{RefusalsArePlain}
-use Rattle.g_plain.specs.Plainly.{PlainOrDevice, IsDeviceRefusal, IsStop}
+use Rattle.g_plain.specs.PlainAnswers.{PlainOrDevice, IsDeviceRefusal, IsStop}
 use Rattle.g_run_model.proofs.StepLemmas.{refused, not_err, tree_held}
+
+-- THE GROUND of the first law: a refusal is the plain step's, or a device's, or a stop
+abbrev pub RefusalsArePlain : Type 0
+RefusalsArePlain = (s : State) (k : Holding) (who : List ℕ) (call : StoreCall) (o : Outcome) (fault : StoreFault) (new : State) → CallStep s k who call o (Err fault) new
+    → (fault_of k.tree who call ≡ Some fault) ⊎ (IsDeviceRefusal (Err fault) ⊎ (fault ≡ Stopped))
 
 is_device : (f g : StoreFault) → (let one : Option StoreFault = Some f in one ≡ Some g) → IsDeviceRefusal (Err f) → IsDeviceRefusal (Err g)
 is_device f g e device = subst (λ (x : StoreFault). IsDeviceRefusal (Err x)) (the_one f g e) device

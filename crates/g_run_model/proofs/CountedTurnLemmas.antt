@@ -6,13 +6,13 @@ use denote.Ref.{Bor}
 use Rattle.g_turn.specs.State.{Work}
 use Rattle.g_budget.specs.declared.tariff.Charge.{Charge}
 use Rattle.g_budget.specs.declared.tariff.Usage.{Usage}
-use Rattle.g_job.specs.Begun.{standing_of}
-use Rattle.g_job.specs.Ends.{IsPriced, turn_end}
+use Rattle.g_job.specs.Beginning.{standing_of}
+use Rattle.g_job.specs.TurnEnd.{IsPriced, turn_end}
 use Rattle.g_job.specs.State.{JobState}
 use Rattle.g_job.specs.Turns.{turn_work}
 use Rattle.g_job.specs.declared.turn.Turn.{Turn}
 use Rattle.g_job.specs.declared.turn.Turn.TheVariants as turns
-use Rattle.g_plain.specs.Asks.{Answer, Asks, Call, Gives, IsAnswer, Ran, RanInPart}
+use Rattle.g_plain.specs.Programs.{Answer, Asks, Call, Gives, IsAnswer, Ran, RanInPart}
 use Rattle.g_plain.specs.declared.calls.StoreCall.{StoreCall}
 use Rattle.g_plain.specs.declared.faults.StoreFault.TheVariants.{NoMemory}
 use Rattle.g_sched.specs.Choice.{IsChosen}

@@ -14,7 +14,7 @@ use Rattle.g_name.proofs.Order.{full_total}
 use Rattle.g_name.specs.Order.{full_cmp}
 use Rattle.g_name.specs.declared.full.Full.{Full}
 use Rattle.g_plain.specs.PlainTree.{FileRow}
-use Rattle.g_store_meaning.specs.Belong.{KeepsRecord}
+use Rattle.g_store_meaning.specs.Belonging.{KeepsRecord}
 use Rattle.g_store_meaning.specs.Meaning.{DumpedDirectory, files_in, told_reels}
 use Rattle.g_store_meaning.specs.Reading.{AllTold, HasText, IsView, View, dumped_of, holding_of}
 use Rattle.g_store_model.specs.State.{State}

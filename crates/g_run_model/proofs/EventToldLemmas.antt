@@ -16,10 +16,19 @@ use Rattle.g_store_model.specs.CallStep.{CallStep, Cut, DiscRead, LeftByRefusal,
 use Rattle.g_store_model.specs.DumpSteps.{Completed, DumpStep, Event, Going, MigrateStep, OpenStep, opening, Stepped as DumpStepped, dump_needs, migrate_refuses, open_number, open_refuses, tape_room}
 use Rattle.g_store_model.specs.Rising.{FormatStep, IsLost, RestoreStep, Restores, StartStep, Starts, adopted, coming_up, dump_adopted, fault_from, has_none, is_completed, restore_early, restore_late, restored, start_refuses, unmounted_reel}
 use Rattle.g_store_model.specs.State.{Dumped as DumpedTree, Holding, OpenDump, State, first_reel, is_mounted, lacks, place_at, with_online, capacity_in, end_of, reel_at}
-use Rattle.g_run_model.specs.Events.{OutcomeTold}
 use Rattle.g_run_model.proofs.StepLemmas.{not_err, refused}
 use Rattle.g_run_model.proofs.ToldLemmas.{plain_too}
 use Rattle.g_store_model.specs.Process.{ProcessStep, Processes, process_needs, process_refuses, process_refuses_late}
+use Rattle.g_plain.specs.declared.faults.StoreFault.TheVariants as fault
+use Rattle.g_run_model.specs.Events.{IsTold}
+
+-- An outcome and an answer that tell each other: an outcome is told by the answer, and an answer of a device's own comes
+-- with its outcome alone.
+pub record OutcomeTold {A : Type 0} (outcome : Outcome) (answer : Result A StoreFault) : Type 0 where
+  pub told : IsTold outcome answer
+  pub disc_read : answer ≡ Err fault.DiscReadFault → outcome ≡ DiscRead
+  pub tape_read : answer ≡ Err fault.TapeReadFault → outcome ≡ TapeRead
+  pub cut : answer ≡ Err fault.Stopped → outcome ≡ Cut
 
 -- a refusal that is none of the devices' own
 abbrev pub IsOwn : StoreFault → Type 0

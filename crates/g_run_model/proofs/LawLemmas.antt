@@ -7,7 +7,7 @@ use Rattle.g_budget.specs.declared.tariff.Charge.{Charge}
 use Rattle.g_sched.specs.declared.rule.Standing.{Standing}
 use Rattle.g_plain.specs.PlainTree.{Tree}
 use Rattle.g_run_model.specs.Accounts.{tree_of}
-use Rattle.g_plain.specs.Plainly.{PlainOrDevice}
+use Rattle.g_plain.specs.PlainAnswers.{PlainOrDevice}
 use Rattle.g_run_model.specs.World.{World}
 use Rattle.g_run_model.specs.Laws.{AnswersArePlain}
 use Rattle.g_run_model.proofs.AnswerLemmas.{call_plain}

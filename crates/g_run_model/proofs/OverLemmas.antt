@@ -9,7 +9,7 @@ use Rattle.g_budget.specs.declared.tariff.Charge.{Charge}
 use Rattle.g_sched.specs.declared.rule.Standing.{Standing}
 use Rattle.g_plain.specs.declared.faults.StoreFault.{StoreFault}
 use Rattle.g_plain.specs.declared.faults.StoreFault.TheVariants.{Stopped, Running, NotStarted}
-use Rattle.g_plain.specs.Asks.{Asks}
+use Rattle.g_plain.specs.Programs.{Asks}
 use Rattle.g_monitor.specs.Parts.{full_text}
 use Rattle.g_turn.specs.State.{Work}
 use Rattle.g_job.specs.State.{JobState}

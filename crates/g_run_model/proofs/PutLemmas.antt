@@ -17,7 +17,7 @@ use Rattle.g_macro.specs.Holding.{finished, with_typed}
 use Rattle.g_macro.specs.Levels.{Stack}
 use Rattle.g_monitor.specs.Parts.{full_text}
 use Rattle.g_monitor.specs.Refusals.{fault_line}
-use Rattle.g_mop.specs.Shown.{shown_at, terminal_name}
+use Rattle.g_mop.specs.TerminalLines.{shown_at, terminal_name}
 use Rattle.g_plain.specs.declared.faults.StoreFault.{StoreFault}
 use Rattle.g_plain.specs.declared.faults.StoreFault.TheVariants.{DumpOpen, NotStarted, Running, Stopped}
 use Rattle.g_script.specs.declared.operator.Operator.{Operator}

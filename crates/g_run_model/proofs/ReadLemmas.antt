@@ -10,8 +10,8 @@ use Rattle.g_turn.specs.Bounds.{AlwaysGives, MayAnswer}
 use Rattle.g_turn.specs.State.{Broken, Done, Full, Pending, Stop, Waits, Work}
 use Rattle.g_budget.specs.declared.tariff.Charge.{Charge}
 use Rattle.g_budget.specs.declared.tariff.Usage.{Usage}
-use Rattle.g_job.specs.Begun.{begin, job_begun, room_of}
-use Rattle.g_job.specs.Ends.{behind_turn, charged, end_by, is_money_up, is_time_up, up_line}
+use Rattle.g_job.specs.Beginning.{begin, job_begun, room_of}
+use Rattle.g_job.specs.TurnEnd.{behind_turn, charged, end_by, is_money_up, is_time_up, up_line}
 use Rattle.g_job.specs.State.{JobState}
 use Rattle.g_job.specs.Terminal.{typed_to, with_stack}
 use Rattle.g_job.specs.Turns.{turn_work}
@@ -20,7 +20,7 @@ use Rattle.g_job.specs.declared.turn.Turn.TheVariants as turns
 use Rattle.g_macro.specs.Holding.{document_level, finished, line_added, with_document}
 use Rattle.g_macro.specs.Levels.{Level}
 use Rattle.g_monitor.specs.Parts.{full_text}
-use Rattle.g_plain.specs.Asks.{Answer, Asks, Call, Gives}
+use Rattle.g_plain.specs.Programs.{Answer, Asks, Call, Gives}
 use Rattle.g_plain.specs.declared.calls.StoreCall.{StoreCall}
 use Rattle.g_plain.specs.declared.faults.StoreFault.{StoreFault}
 use Rattle.g_plain.specs.declared.faults.StoreFault.TheVariants.{NotStarted, Running, Stopped}

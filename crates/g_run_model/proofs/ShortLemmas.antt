@@ -10,8 +10,8 @@ use Rattle.g_name.proofs.Order.{full_total}
 use Rattle.g_name.specs.Order.{full_cmp}
 use Rattle.g_name.specs.declared.full.Full.{Full}
 use Rattle.g_plain.proofs.StepKept.{all_passed, not_above}
-use Rattle.g_plain.specs.Asks.{Answer, IsAnswer}
-use Rattle.g_plain.specs.Plainly.{may_wait}
+use Rattle.g_plain.specs.Programs.{Answer, IsAnswer}
+use Rattle.g_plain.specs.PlainAnswers.{may_wait}
 use Rattle.g_plain.specs.PlainStep.{checks, fault_of, plain_answer, plain_tree, reply_to, tree_after}
 use Rattle.g_plain.specs.PlainTree.{FileRow, Tree, file_row, formatted, has_user, input_name, no_row, output_name}
 use Rattle.g_plain.specs.Replies.{IsReplyTo}

@@ -2,16 +2,16 @@
 use Rattle.std.proofs.Common.{◌≡◌, ℕ, List, Err, refl, sym, subst}
 use Rattle.std.proofs.lemmas.Bool.{false≢true}
 use Rattle.g_name.specs.declared.full.Full.{Full}
-use Rattle.g_plain.specs.Asks.{Answer, IsAnswer}
+use Rattle.g_plain.specs.Programs.{Answer, IsAnswer}
 use Rattle.g_plain.specs.declared.calls.StoreCall.{StoreCall}
 use Rattle.g_plain.specs.declared.faults.StoreFault.TheVariants.{NoCopy, NoMemory, Stopped}
 use Rattle.g_store_meaning.specs.Answers.{Answers, Belongs, From, Leads, Steps, Told}
 use Rattle.g_store_meaning.specs.Reading.{StandsForState}
-use Rattle.g_store_meaning.specs.Up.{StoreFacts}
+use Rattle.g_store_meaning.specs.StoreInvariant.{StoreFacts}
 use Rattle.g_store_model.specs.CallStep.{Outcome}
 use Rattle.g_store_model.specs.State.{State}
-use Rattle.g_run_model.specs.Events.{IsCall, OutcomeTold}
-use Rattle.g_run_model.proofs.EventToldLemmas.{call_told}
+use Rattle.g_run_model.specs.Events.{IsCall}
+use Rattle.g_run_model.proofs.EventToldLemmas.{call_told, OutcomeTold}
 
 -- the call was an event from this state, and the store stands for the state behind it
 pub record IsEvent (t : State) (who : List ℕ) (call : StoreCall) (answer : Answer) (new : StoreFacts) : Type 0 where

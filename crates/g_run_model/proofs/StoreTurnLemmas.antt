@@ -5,29 +5,29 @@ use denote.Ref.{Bor}
 use Rattle.g_turn.specs.State.{Work}
 use Rattle.g_budget.specs.declared.tariff.Charge.{Charge}
 use Rattle.g_budget.specs.declared.tariff.Usage.{Usage}
-use Rattle.g_job.specs.Begun.{standing_of}
-use Rattle.g_job.specs.Ends.{IsTurn}
+use Rattle.g_job.specs.Beginning.{standing_of}
+use Rattle.g_job.specs.TurnEnd.{IsTurn}
 use Rattle.g_job.specs.State.{JobState}
 use Rattle.g_job.specs.Turns.{turn_work}
 use Rattle.g_job.specs.declared.turn.Turn.{Turn}
 use Rattle.g_plain.proofs.RanByLemmas.{ran_of}
-use Rattle.g_plain.specs.Asks.{Answer, Asks, IsAnswer, RanInPart}
-use Rattle.g_plain.specs.RanBy.{RanBy}
+use Rattle.g_plain.specs.Programs.{Answer, Asks, IsAnswer, RanInPart}
+use Rattle.g_plain.specs.Runs.{RanBy}
 use Rattle.g_plain.specs.declared.calls.StoreCall.{StoreCall}
 use Rattle.g_plain.specs.declared.faults.StoreFault.TheVariants.{NoMemory}
 use Rattle.g_sched.specs.Choice.{IsChosen}
 use Rattle.g_sched.specs.declared.rule.Standing.{Standing}
 use Rattle.g_store_meaning.specs.Answers.{Answers, Belongs, HasCause, Told}
 use Rattle.g_store_meaning.specs.Reading.{StandsForState}
-use Rattle.g_store_meaning.specs.Up.{StoreFacts}
+use Rattle.g_store_meaning.specs.StoreInvariant.{StoreFacts}
 use Rattle.g_store_model.specs.CallStep.{Outcome, Plain}
 use Rattle.g_store_model.specs.State.{State}
 use Rattle.g_run_model.specs.Devices.{Devices}
-use Rattle.g_run_model.specs.Events.{IsCall, OutcomeTold}
+use Rattle.g_run_model.specs.Events.{IsCall}
 use Rattle.g_run_model.specs.Moves.{EventCounted, Move, MovesCounted, Run}
 use Rattle.g_run_model.specs.World.{KeepsLines, World, able, is_due, job_of}
 use Rattle.g_run_model.proofs.CountedTurnLemmas.{turn_counted, turn_in_part, turned_world}
-use Rattle.g_run_model.proofs.EventToldLemmas.{told_own}
+use Rattle.g_run_model.proofs.EventToldLemmas.{told_own, OutcomeTold}
 use Rattle.g_run_model.proofs.StoreLemmas.{answer_event, memory_keeps}
 use Rattle.g_run_model.proofs.TurnLemmas.{MayBegin, in_turn, with_turn}
 

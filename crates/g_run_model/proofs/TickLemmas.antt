@@ -16,12 +16,12 @@ use Rattle.g_script.specs.declared.operator.Timed.{Timed}
 use Rattle.g_store_model.specs.CallStep.{Outcome}
 use Rattle.g_store_model.specs.DumpSteps.{Completed, DumpStep, Going, Stepped as DumpStepped}
 use Rattle.g_store_model.specs.State.{Holding, OpenDump, State}
-use Rattle.g_run_model.specs.Events.{IsDumpStep, OutcomeTold}
+use Rattle.g_run_model.specs.Events.{IsDumpStep}
 use Rattle.g_run_model.specs.Lines.{LineGives, is_process}
 use Rattle.g_run_model.specs.Moves.{Dumped, Over, Run, TakeLine, Ticked, dump_told, turn_told}
 use Rattle.g_run_model.specs.Texts.{broken_files, dump_text, ended_file, job_text, operator_line}
 use Rattle.g_run_model.specs.World.{Between, KeepsLines, Stepped, Turned, World, able, closed, has_none, is_due, nothing_steps, with_job}
-use Rattle.g_run_model.proofs.EventToldLemmas.{dump_told as step_told}
+use Rattle.g_run_model.proofs.EventToldLemmas.{dump_told as step_told, OutcomeTold}
 
 -- what a step of the dump adds to the text
 abbrev pub dump_added : ℕ → ℕ → Result DumpStepped StoreFault → List JobState → List ℕ

@@ -11,7 +11,7 @@ use Rattle.g_plain.specs.declared.faults.StoreFault.{StoreFault}
 use Rattle.g_plain.specs.declared.faults.StoreFault.TheVariants.{Stopped, Running, NotStarted}
 use Rattle.g_plain.specs.PlainTree.{Tree, formatted}
 use Rattle.g_plain.specs.PlainStep.{plain_tree}
-use Rattle.g_plain.specs.Asks.{Answer}
+use Rattle.g_plain.specs.Programs.{Answer}
 use Rattle.g_job.specs.State.{JobState}
 use Rattle.g_job.specs.declared.turn.Turn.{Turn}
 use Rattle.g_job.specs.declared.turn.Turn.TheVariants as turns
@@ -33,7 +33,7 @@ use Rattle.g_run_model.specs.Events.{IsTold, IsOpening, IsMigration, IsProcessin
 use Rattle.g_run_model.specs.Lines.{LineGives, tells, up_with, now_stands, job_line, taken_in, job_refusal, line_refused, shut_with, at_terminal, changed_at, logged_in, login_refusal, open_at}
 use Rattle.g_job.specs.Terminal.{logged_out, typed_to}
 use Rattle.g_run_model.specs.Moves.{Move, TakeLine, Dumped, Begin, Answered, TurnOver, Ticked, Over, dump_told, turn_told}
-use Rattle.g_plain.specs.Plainly.{PlainOrDevice}
+use Rattle.g_plain.specs.PlainAnswers.{PlainOrDevice}
 use Rattle.g_run_model.specs.Laws.{AllOrNothing, RisesOn, StartHasTheTree, RunLeaving, tree_behind, tree_by_turn, tree_by_call, tree_by_lines, tree_by_line, tree_of_dump}
 use Rattle.g_run_model.proofs.AnswerLemmas.{call_plain}
 use Rattle.g_run_model.proofs.StepLemmas.{tree_held}

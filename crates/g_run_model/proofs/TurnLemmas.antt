@@ -7,8 +7,8 @@ use Rattle.g_budget.specs.declared.tariff.Usage.{Usage}
 use Rattle.g_budget.specs.declared.tariff.Charge.{Charge}
 use Rattle.g_sched.specs.declared.rule.Standing.{Standing}
 use Rattle.g_plain.specs.declared.calls.StoreCall.{StoreCall}
-use Rattle.g_plain.specs.Asks.{Answer, Asks, Gives, Call, Ran, IsAnswer}
-use Rattle.g_job.specs.Begun.{standing_of}
+use Rattle.g_plain.specs.Programs.{Answer, Asks, Gives, Call, Ran, IsAnswer}
+use Rattle.g_job.specs.Beginning.{standing_of}
 use Rattle.g_turn.specs.State.{Work}
 use Rattle.g_job.specs.State.{JobState}
 use Rattle.g_store_model.specs.State.{State}
@@ -17,7 +17,7 @@ use Rattle.g_run_model.specs.Events.{IsCall}
 use Rattle.g_sched.specs.Choice.{IsChosen}
 use Rattle.g_job.specs.declared.turn.Turn.{Turn}
 use Rattle.g_job.specs.Turns.{turn_work}
-use Rattle.g_job.specs.Ends.{turn_end, IsPriced}
+use Rattle.g_job.specs.TurnEnd.{turn_end, IsPriced}
 use Rattle.g_run_model.specs.Moves.{Move, Begin, Answered, TurnOver, Run, turn_told}
 use Rattle.g_run_model.specs.World.{World, Between, Stepped, Turned, able, is_dumping, is_due, job_of, shows}
 

@@ -5,7 +5,7 @@ use Rattle.g_name.specs.declared.path.Path.{Path}
 use Rattle.g_plain.specs.declared.calls.StoreCall.{StoreCall}
 use Rattle.g_plain.specs.declared.faults.StoreFault.{StoreFault}
 use Rattle.g_plain.specs.declared.faults.StoreFault.TheVariants as fault
-use Rattle.g_plain.specs.Asks.{Answer}
+use Rattle.g_plain.specs.Programs.{Answer}
 use Rattle.g_plain.specs.PlainTree.{input_name}
 use Rattle.g_store_model.specs.State.{State, Holding, OpenDump}
 use Rattle.g_store_model.specs.CallStep.{Outcome, Plain, DiscRead, TapeRead, Cut}
@@ -22,14 +22,6 @@ IsTold Plain answer = Unit {0}
 IsTold DiscRead answer = answer ≡ Err fault.DiscReadFault
 IsTold TapeRead answer = answer ≡ Err fault.TapeReadFault
 IsTold Cut answer = answer ≡ Err fault.Stopped
-
--- An outcome and an answer that tell each other: an outcome is told by the answer, and an answer of a device's own comes
--- with its outcome alone.
-pub record OutcomeTold {A : Type 0} (outcome : Outcome) (answer : Result A StoreFault) : Type 0 where
-  pub told : IsTold outcome answer
-  pub disc_read : answer ≡ Err fault.DiscReadFault → outcome ≡ DiscRead
-  pub tape_read : answer ≡ Err fault.TapeReadFault → outcome ≡ TapeRead
-  pub cut : answer ≡ Err fault.Stopped → outcome ≡ Cut
 
 -- a job's call
 abbrev pub IsCall : State → List ℕ → StoreCall → Outcome → Answer → State → Type 0

@@ -1,5 +1,5 @@
 -- The laws of a run, over the same moves.
-use Rattle.std.specs.Prelude.{◌≡◌, ◌⊎◌, ℕ, ◌+◌, ◌-◌, ◌≤◌, ◌<◌, ◌==◌, Bool, true, false, List, [], ◌∷◌, ◌++◌, length, take, sum_by, All, filter, Option, Some, None, IfSome, Err, if◌then◌else◌}
+use Rattle.std.specs.Prelude.{◌≡◌, ◌⊎◌, ℕ, ◌+◌, ◌-◌, ◌≤◌, ◌<◌, ◌==◌, Bool, true, false, List, [], ◌∷◌, ◌++◌, length, take, sum_by, All, filter, Option, Some, None, IfSome, if◌then◌else◌}
 use Rattle.std.specs.Fn.{Shared}
 use denote.Ref.{Bor}
 use Rattle.g_budget.specs.declared.tariff.Usage.{Usage}
@@ -10,17 +10,15 @@ use Rattle.g_sched.specs.Rule.{IsWeighRule}
 use Rattle.std.specs.FinMap.{get}
 use Rattle.g_name.specs.declared.full.Full.{Full}
 use Rattle.g_plain.specs.PlainTree.{FileRow, Tree, formatted}
-use Rattle.g_plain.specs.PlainStep.{fault_of, plain_tree}
+use Rattle.g_plain.specs.PlainStep.{plain_tree}
 use Rattle.g_plain.specs.declared.calls.StoreCall.{StoreCall}
-use Rattle.g_plain.specs.declared.faults.StoreFault.{StoreFault}
-use Rattle.g_plain.specs.declared.faults.StoreFault.TheVariants.{Stopped}
-use Rattle.g_plain.specs.Asks.{Answer, Asks, Gives, Call}
+use Rattle.g_plain.specs.Programs.{Answer, Asks, Gives, Call}
 use Rattle.g_turn.specs.State.{Work}
 use Rattle.g_job.specs.State.{JobState}
-use Rattle.g_store_model.specs.State.{State, Holding, OpenDump, Dumped}
+use Rattle.g_store_model.specs.State.{State, OpenDump, Dumped}
 use Rattle.std.specs.List.{list_all}
 use Rattle.g_store_model.specs.Rising.{has_none}
-use Rattle.g_store_model.specs.CallStep.{Outcome, Plain, CallStep}
+use Rattle.g_store_model.specs.CallStep.{Outcome, Plain}
 use Rattle.g_script.specs.declared.operator.Operator.{Operator}
 use Rattle.g_script.specs.declared.operator.Operator.TheVariants as line
 use Rattle.g_script.specs.declared.operator.Timed.{Timed}
@@ -28,7 +26,7 @@ use Rattle.g_run_model.specs.Accounts.{tree_of}
 use Rattle.g_run_model.specs.Lines.{is_up}
 use Rattle.g_run_model.specs.World.{World, start, job_of}
 use Rattle.g_run_model.specs.Moves.{Move, TakeLine, Dumped as DumpMove, Answered, TurnOver, Step, Run, outcome_of}
-use Rattle.g_plain.specs.Plainly.{IsDeviceRefusal, PlainOrDevice}
+use Rattle.g_plain.specs.PlainAnswers.{PlainOrDevice}
 
 -- the tree that a line puts in the place of the one that there is
 abbrev pub tree_of_dump : Option Dumped → Option Tree → Option Tree
@@ -122,11 +120,6 @@ abbrev pub charges_of : List Move → List (Option Charge)
 charges_of [] = []
 charges_of (TurnOver number charge ∷ moves) = charge ∷ charges_of moves
 charges_of (move ∷ moves) = charges_of moves
-
--- THE GROUND of the first law: a refusal is the plain step's, or a device's, or a stop
-abbrev pub RefusalsArePlain : Type 0
-RefusalsArePlain = (s : State) (k : Holding) (who : List ℕ) (call : StoreCall) (o : Outcome) (fault : StoreFault) (new : State) → CallStep s k who call o (Err fault) new
-    → (fault_of k.tree who call ≡ Some fault) ⊎ (IsDeviceRefusal (Err fault) ⊎ (fault ≡ Stopped))
 
 module _ {F U : Type 0} (tariffs : Shared F (Bor Usage × Unit {0}) Charge) (tariff : F) (rules : Shared U (Bor Standing × Unit {0}) ℕ) (rule : U) where
   -- "Jobs print what they would on a plain directory tree": at each call, the job's answer and the trees before and behind

@@ -5,11 +5,11 @@ use Rattle.g_plain.specs.declared.faults.StoreFault.{StoreFault}
 use Rattle.g_plain.specs.declared.faults.StoreFault.TheVariants.{NotStarted, NoUser, Running, DumpOpen, Stopped}
 use Rattle.g_monitor.specs.Refusals.{fault_line}
 use Rattle.g_monitor.specs.Parts.{full_text, with_numbers}
-use Rattle.g_job.specs.Begun.{job_begun}
+use Rattle.g_job.specs.Beginning.{job_begun}
 use Rattle.g_job.specs.State.{JobState}
 use Rattle.g_job.specs.Terminal.{held, logged_out, seated, typed_to}
 use Rattle.g_mop.specs.Seats.{busy_text, none_text}
-use Rattle.g_mop.specs.Shown.{shown_at, terminal_name}
+use Rattle.g_mop.specs.TerminalLines.{shown_at, terminal_name}
 use Rattle.g_store_model.specs.State.{State, OpenDump}
 use Rattle.g_store_model.specs.CallStep.{Outcome, Plain, down}
 use Rattle.g_run_model.specs.Events.{IsFormat, IsStart, IsRestore, IsMounting, IsUnmounting, IsOpening, IsProcessing, IsMigration}

@@ -12,14 +12,14 @@ use Rattle.g_sched.specs.Choice.{IsChosen}
 use Rattle.g_plain.specs.declared.calls.StoreCall.{StoreCall}
 use Rattle.g_plain.specs.declared.faults.StoreFault.{StoreFault}
 use Rattle.g_plain.specs.declared.faults.StoreFault.TheVariants.{Stopped}
-use Rattle.g_plain.specs.Asks.{Answer, Asks, Gives, Call, IsAnswer}
+use Rattle.g_plain.specs.Programs.{Answer, Asks, Gives, Call, IsAnswer}
 use Rattle.g_job.specs.declared.turn.Turn.{Turn}
 use Rattle.g_job.specs.declared.turn.Turn.TheVariants as turns
-use Rattle.g_job.specs.Begun.{standing_of}
+use Rattle.g_job.specs.Beginning.{standing_of}
 use Rattle.g_turn.specs.State.{Work}
 use Rattle.g_job.specs.State.{JobState}
 use Rattle.g_job.specs.Turns.{turn_work}
-use Rattle.g_job.specs.Ends.{turn_end, IsPriced}
+use Rattle.g_job.specs.TurnEnd.{turn_end, IsPriced}
 use Rattle.g_monitor.specs.Refusals.{fault_line}
 use Rattle.g_store_model.specs.State.{State}
 use Rattle.g_store_model.specs.CallStep.{Outcome, Plain, DiscRead, TapeRead, Cut}

@@ -9,7 +9,7 @@ use Rattle.g_sched.specs.declared.rule.Standing.{Standing}
 use Rattle.g_job.specs.State.{JobState}
 use Rattle.g_job.specs.Terminal.{typed_lines}
 use Rattle.g_lines.specs.Lines.{ended}
-use Rattle.g_mop.specs.Shown.{shown_at}
+use Rattle.g_mop.specs.TerminalLines.{shown_at}
 use Rattle.g_monitor.specs.JobLines.{job_line}
 use Rattle.g_monitor.specs.declared.job_lines.JobLine.{JobLine}
 use Rattle.g_monitor.specs.declared.job_lines.JobLine.TheVariants as ending

@@ -1,6 +1,6 @@
 -- The world of a run.
 use Rattle.std.specs.Prelude.{◌≡◌, if◌then◌else◌, ℕ, ◌==◌, Bool, true, false, not, ◌&&◌, nat_le, List, [], ◌∷◌, ◌++◌, map, filter, find, Option, Some, None, is_some, codes}
-use Rattle.g_plain.specs.Asks.{Asks}
+use Rattle.g_plain.specs.Programs.{Asks}
 use Rattle.g_turn.specs.State.{Work}
 use Rattle.g_job.specs.State.{JobState}
 use Rattle.g_job.specs.Terminal.{is_ready}

@@ -7,7 +7,7 @@ use Rattle.std.proofs.lemmas.Bool.{cond_both, false≢true}
 use Rattle.std.proofs.lemmas.List.{append-nil, append_assoc}
 use Rattle.std.proofs.lemmas.Option.{option_and_then_some, same_Some, some_pair_parts}
 use Rattle.g_lang.proofs.ValueLemmas.{behind-is, same_text-eq}
-use Rattle.g_lang.specs.How.{behind}
+use Rattle.g_lang.specs.LineReader.{behind}
 use Rattle.g_lines.proofs.NumberLemmas.{number-complete, number-sound}
 use Rattle.g_lines.specs.Numbers.{number_read}
 use Rattle.g_name.specs.Grammar.{is_word}
@@ -15,7 +15,7 @@ use Rattle.g_name.specs.Names.{name_text, path_name}
 use Rattle.g_name.specs.Order.{same_text}
 use Rattle.g_name.specs.declared.path.Path.{Path}
 use Rattle.g_script.proofs.PieceLemmas.{Without, number-without, split-is, split-none, split-some, without-append, word-without}
-use Rattle.g_script.specs.How.{allowances_in, allowances_read, argument_read, at_terminal, bare_or, dump_read, from_one_read, head_read, job_behind, job_named, job_of, job_read, job_user_read, job_with, login_at, login_behind, login_of, login_read, login_with, logout_read, migration_read, money_read, name_read, named, number_behind, number_or, numbered_read, process_read, of_user, positive, split_at, stop_read, terminal_read, time_read, timed, timed_in, typed_as, typed_read, unmount_read, what_read, with_money, without_money, word_or, word_read}
+use Rattle.g_script.specs.HeadReader.{allowances_in, allowances_read, argument_read, at_terminal, bare_or, dump_read, from_one_read, head_read, job_behind, job_named, job_of, job_read, job_user_read, job_with, login_at, login_behind, login_of, login_read, login_with, logout_read, migration_read, money_read, name_read, named, number_behind, number_or, numbered_read, process_read, of_user, positive, split_at, stop_read, terminal_read, time_read, timed, timed_in, typed_as, typed_read, unmount_read, what_read, with_money, without_money, word_or, word_read}
 use Rattle.g_script.specs.Script.{Bare, IsBare, IsDocumentLine, IsItem, IsJob, IsTerminal, IsWrittenOperator, Job, WrittenItem, WrittenOperator, head_line, money_text, operator_text, written_text}
 use Rattle.g_script.specs.declared.head.Head.{Head}
 use Rattle.g_script.specs.declared.head.What.{What}
@@ -23,7 +23,7 @@ use Rattle.g_script.specs.declared.head.What.TheVariants as what
 use Rattle.g_script.specs.declared.operator.Operator.{Operator}
 use Rattle.g_script.specs.declared.operator.Operator.TheVariants as line
 use Rattle.g_verbs.proofs.ParamLemmas.{file-complete, file-sound, local-complete, local-sound, user-complete, user-sound}
-use Rattle.g_verbs.specs.How.{file_read, local_read, user_read}
+use Rattle.g_verbs.specs.VerbReader.{file_read, local_read, user_read}
 
 -- numbers from 1
 positive-is : (n : ℕ) → 1 ≤ n → positive n ≡ Some n

@@ -10,7 +10,7 @@ use Rattle.std.proofs.lemmas.List.Elements.{recursion_from_All}
 use Rattle.std.proofs.lemmas.Option.{some_pair_parts}
 use Rattle.std.proofs.lemmas.Str.Parse.{digit_at}
 use Rattle.g_name.specs.Grammar.{is_letter, is_name_char, is_word}
-use Rattle.g_script.specs.How.{onto_before, split_at}
+use Rattle.g_script.specs.HeadReader.{onto_before, split_at}
 
 -- no such byte in a text
 abbrev pub Without : ℕ → List ℕ → Type 0

@@ -1,3 +1,3 @@
-pub mod How
+pub mod HeadReader
 pub mod Reading
 pub mod Script

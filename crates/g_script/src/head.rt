@@ -1,7 +1,7 @@
 //! The first line of an item: its turn, and what is asked for.
 ghost use Rattle.std.specs.Prelude.{◌≡◌, None, Some, IfOk, MatchOption};
-ghost use Rattle.g_script.specs.How as how;
-ghost use Rattle.g_verbs.specs.How as verbs;
+ghost use Rattle.g_script.specs.HeadReader as how;
+ghost use Rattle.g_verbs.specs.VerbReader as verbs;
 
 use crate::Operator;
 use crate::number::{from_one, is_same, number_behind, parts_at};
@@ -25,7 +25,7 @@ const MOST_ALLOWANCE: u64 = 1_000_000;
 
 /// What a first line asks for: a job without its document, or all else.
 #[derive(Debug, Drop)]
-pub enum What {
+pub(crate) enum What {
     Bare(Operator),
     Job {
         name: Local,
@@ -37,13 +37,13 @@ pub enum What {
 
 /// What a first line says.
 #[derive(Debug, Drop)]
-pub struct Head {
+pub(crate) struct Head {
     pub turn: u64,
     pub what: What,
 }
 
 /// What a first line says, if it is one. It takes memory for the text of a TYPE alone.
-pub fn head_of(alloc: Global, line: &[u8]) -> Result<Option<Head>, NoMemory>
+pub(crate) fn head_of(alloc: Global, line: &[u8]) -> Result<Option<Head>, NoMemory>
     ensures { IfOk result (λ head. head ≡ how.head_read line.now) }
 {
     match parts_at(line, b' ') {

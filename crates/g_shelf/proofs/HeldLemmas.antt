@@ -7,9 +7,9 @@ use Rattle.g_entry.specs.declared.file_rec.TapeCopy.{TapeCopy}
 use Rattle.g_tape.specs.Rack.{Rack, reel}
 use Rattle.g_incr.specs.declared.note.DumpNote.{DumpNote}
 use Rattle.g_incr.specs.Layout.{Dump, content_at, count_of, ends}
-use Rattle.g_shelf.specs.Found.{AreInRow, AreRead, note_of}
-use Rattle.g_shelf.specs.Held.{AreHeld, AreInOne, HeldInOne, IsContentBlock}
-use Rattle.g_shelf.specs.Next.{AnyHolds}
+use Rattle.g_shelf.specs.FoundDumps.{AreInRow, AreRead, note_of}
+use Rattle.g_shelf.specs.HeldBlocks.{AreHeld, AreInOne, HeldInOne, IsContentBlock}
+use Rattle.g_shelf.specs.ReaderSteps.{AnyHolds}
 use Rattle.g_shelf.proofs.RowLemmas.{apart_in_row, in_row, row_of}
 
 -- the block behind a dump's content is its mark, and so content of none

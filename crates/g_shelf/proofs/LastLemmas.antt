@@ -15,10 +15,10 @@ use Rattle.g_incr.specs.declared.fault.ShelfFault.TheVariants.{NoTape, NotMounte
 use Rattle.g_incr.specs.declared.note.DumpNote.{DumpNote}
 use Rattle.g_incr.specs.Layout.{Dump}
 use Rattle.g_incr.specs.Reading.{HasReadDump, ReadsReel}
-use Rattle.g_shelf.specs.Completed.{AreCompleted, end_of}
-use Rattle.g_shelf.specs.Found.{AreInRow, AreRead, note_of}
-use Rattle.g_shelf.specs.Last.{HasBelow, HasDumps, HasUpTo, HaveNone, IsLast, first_unmounted}
-use Rattle.g_shelf.specs.Next.{later}
+use Rattle.g_shelf.specs.CompletedDumps.{AreCompleted, end_of}
+use Rattle.g_shelf.specs.FoundDumps.{AreInRow, AreRead, note_of}
+use Rattle.g_shelf.specs.LastDump.{HasBelow, HasDumps, HasUpTo, HaveNone, IsLast, first_unmounted}
+use Rattle.g_shelf.specs.ReaderSteps.{later}
 use Rattle.g_shelf.proofs.RackLemmas.{IsAt, reel_at}
 use Rattle.g_shelf.proofs.ReadLemmas.{last-map, len-unread, read_dump_then, then_read_dump}
 use Rattle.g_shelf.proofs.RowLemmas.{IsTop, in_row, none_last, top}

@@ -9,9 +9,9 @@ use Rattle.g_tape.proofs.ReadLemmas.{blocks_after_reads, more_reads, nothing_rea
 use Rattle.g_incr.specs.Layout.{Dump}
 use Rattle.g_incr.specs.Reading.{HasReadDump}
 use Rattle.g_shelf.specs.declared.rack.Listed.{Listed}
-use Rattle.g_shelf.specs.Completed.{end_of}
-use Rattle.g_shelf.specs.Found.{AreRead, note_of}
-use Rattle.g_shelf.specs.Listed.{AreListed, IsListed}
+use Rattle.g_shelf.specs.CompletedDumps.{end_of}
+use Rattle.g_shelf.specs.FoundDumps.{AreRead, note_of}
+use Rattle.g_shelf.specs.Catalogue.{AreListed, IsListed}
 use Rattle.g_shelf.proofs.RackLemmas.{reel_at}
 use Rattle.g_shelf.proofs.ReadLemmas.{len-unread, read_dump_then, then_read_dump}
 

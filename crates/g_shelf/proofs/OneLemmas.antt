@@ -4,7 +4,7 @@ use Rattle.std.specs.Prelude.{map}
 use Rattle.std.proofs.lemmas.List.{take-take}
 use Rattle.g_incr.specs.Layout.{Dump, StandsOn, size_of, ends, dump_blocks, header_block, mark_block, user_in, file_in}
 use Rattle.g_incr.proofs.OneLemmas.{SameHeader, same_cons, same_dump, same_header}
-use Rattle.g_shelf.specs.Completed.{AreNext, CompletedAreOne, IsNext}
+use Rattle.g_shelf.specs.CompletedDumps.{AreNext, CompletedAreOne, IsNext}
 
 -- the first block of each is the block of the reel at that place
 same_first : (reel : List (List ℕ)) (d e : Dump) → d.place ≡ e.place → StandsOn reel d → StandsOn reel e → SameHeader d e

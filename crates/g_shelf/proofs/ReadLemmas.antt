@@ -16,8 +16,8 @@ use Rattle.g_incr.specs.declared.note.DumpDir.{DumpDir}
 use Rattle.g_incr.specs.declared.note.DumpNote.{DumpNote}
 use Rattle.g_incr.specs.Layout.{Dump, count_of}
 use Rattle.g_incr.specs.Reading.{HasReadDump, IsFound, ReadsReel}
-use Rattle.g_shelf.specs.Completed.{IsNext, end_of}
-use Rattle.g_shelf.specs.Found.{AreInRow, AreRead, note_of}
+use Rattle.g_shelf.specs.CompletedDumps.{IsNext, end_of}
+use Rattle.g_shelf.specs.FoundDumps.{AreInRow, AreRead, note_of}
 use Rattle.g_shelf.proofs.OneLemmas.{same_next}
 use Rattle.g_shelf.proofs.RowLemmas.{top}
 

@@ -4,8 +4,8 @@ use Rattle.std.specs.Prelude.{Contains}
 use Rattle.std.proofs.lemmas.List.Elements.{All-cons, All-nil}
 use Rattle.std.proofs.lemmas.Option.{same_Some}
 use Rattle.g_incr.specs.Layout.{Dump, IsDump, ends}
-use Rattle.g_shelf.specs.Completed.{AreNext, end_behind, number_behind}
-use Rattle.g_shelf.specs.Found.{AreInRow, Follows}
+use Rattle.g_shelf.specs.CompletedDumps.{AreNext, end_behind, number_behind}
+use Rattle.g_shelf.specs.FoundDumps.{AreInRow, Follows}
 
 pub row_of : (serial : ℕ) (reel : List (List ℕ)) (at from : ℕ) (ds : List Dump) → AreNext serial reel at from ds → AreInRow serial at from ds
 row_of serial reel at from [] are = tt

@@ -11,8 +11,8 @@ use Rattle.g_incr.specs.declared.note.DumpNote.{DumpNote}
 use Rattle.g_incr.specs.Layout.{Dump, count_of, ends}
 use Rattle.g_incr.specs.Notes.{IsDirOf, IsNoteOf}
 use Rattle.g_incr.specs.Reading.{HasReadDump, ReadsReel}
-use Rattle.g_shelf.specs.Completed.{AreNext, IsNext, end_of, number_behind}
-use Rattle.g_shelf.specs.Found.{AreInRow, AreRead, note_of}
+use Rattle.g_shelf.specs.CompletedDumps.{AreNext, IsNext, end_of, number_behind}
+use Rattle.g_shelf.specs.FoundDumps.{AreInRow, AreRead, note_of}
 use Rattle.g_shelf.specs.Walk.{AreOf, HasMore, IsNextDump}
 use Rattle.g_shelf.proofs.ReadLemmas.{len-unread, read_dump_then, then_read_dump}
 use Rattle.g_shelf.proofs.RowLemmas.{end_then, number_then, row_then}

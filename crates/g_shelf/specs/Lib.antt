@@ -1,8 +1,8 @@
-pub mod Completed
-pub mod Found
-pub mod Held
-pub mod Last
-pub mod Listed
-pub mod Next
-pub mod Quiet
+pub mod Catalogue
+pub mod CompletedDumps
+pub mod FoundDumps
+pub mod HeldBlocks
+pub mod LastDump
+pub mod QuietWrites
+pub mod ReaderSteps
 pub mod Walk

@@ -4,7 +4,7 @@ use Rattle.g_tape.specs.Rack.{Rack}
 use Rattle.g_incr.specs.declared.note.DumpDir.{DumpDir}
 use Rattle.g_incr.specs.Layout.{Dump}
 use Rattle.g_incr.specs.Reading.{HasReadDump, IsFound}
-use Rattle.g_shelf.specs.Found.{AreRead}
+use Rattle.g_shelf.specs.FoundDumps.{AreRead}
 
 -- one thing is kept of each dump, in their order
 abbrev pub AreOf : {K : Type 0} → (K → Dump → Type 0) → List K → List Dump → Type 0

@@ -4,9 +4,9 @@ ghost use Rattle.std.specs.Option.{ForSome};
 ghost use Rattle.g_tape.specs.Rack.{reel};
 ghost use Rattle.g_incr.specs.Layout.{Dump};
 ghost use Rattle.g_incr.specs.Reading.{ReadsReel};
-ghost use Rattle.g_shelf.specs.Found.{AreInRow, AreRead, note_of};
-ghost use Rattle.g_shelf.specs.Held.{AreHeld};
-ghost use Rattle.g_shelf.specs.Next.{AnyHolds, Holds};
+ghost use Rattle.g_shelf.specs.FoundDumps.{AreInRow, AreRead, note_of};
+ghost use Rattle.g_shelf.specs.HeldBlocks.{AreHeld};
+ghost use Rattle.g_shelf.specs.ReaderSteps.{AnyHolds, Holds};
 
 use crate::notes::completed;
 use g_entry::TapeCopy;

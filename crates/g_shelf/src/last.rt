@@ -4,8 +4,8 @@ ghost use Rattle.std.specs.Option.{option_copied};
 ghost use Rattle.g_base.specs.Counts.{Rose};
 ghost use Rattle.g_tape.specs.Reads.{OnlyReads};
 ghost use Rattle.g_incr.specs.Reading.{HasReadDump};
-ghost use Rattle.g_shelf.specs.Last.{HaveNone, IsLast, first_unmounted};
-ghost use Rattle.g_shelf.specs.Next.{later};
+ghost use Rattle.g_shelf.specs.LastDump.{HaveNone, IsLast, first_unmounted};
+ghost use Rattle.g_shelf.specs.ReaderSteps.{later};
 
 use crate::notes::completed;
 use g_incr::{DumpNote, ShelfFault};

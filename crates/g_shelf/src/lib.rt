@@ -7,9 +7,9 @@ mod notes;
 mod rack;
 mod walk;
 
-ghost use Rattle.g_shelf.specs.Completed.{CompletedAreOne};
-ghost use Rattle.g_shelf.specs.Held.{HeldInOne};
-ghost use Rattle.g_shelf.specs.Quiet.{MarkCompletes, QuietBlocks};
+ghost use Rattle.g_shelf.specs.CompletedDumps.{CompletedAreOne};
+ghost use Rattle.g_shelf.specs.HeldBlocks.{HeldInOne};
+ghost use Rattle.g_shelf.specs.QuietWrites.{MarkCompletes, QuietBlocks};
 
 pub use copy::{find_copy, holds, is_held};
 pub use last::{first_unmounted, last_dump};

@@ -4,8 +4,8 @@ ghost use Rattle.std.specs.Option.{ForSome};
 ghost use Rattle.g_tape.specs.Rack.{reel};
 ghost use Rattle.g_incr.specs.Layout.{Dump};
 ghost use Rattle.g_incr.specs.Reading.{ReadsReel};
-ghost use Rattle.g_shelf.specs.Completed.{end_of};
-ghost use Rattle.g_shelf.specs.Found.{AreRead, note_of};
+ghost use Rattle.g_shelf.specs.CompletedDumps.{end_of};
+ghost use Rattle.g_shelf.specs.FoundDumps.{AreRead, note_of};
 
 use crate::walk::{OfDump, end_block, read_reel};
 use g_incr::{DumpDir, DumpNote, ShelfFault};
@@ -14,7 +14,7 @@ use std::alloc::Global;
 
 impl OfDump for DumpNote {
     ghost use Rattle.std.specs.Prelude.{◌≡◌};
-    ghost use Rattle.g_shelf.specs.Found.{note_of};
+    ghost use Rattle.g_shelf.specs.FoundDumps.{note_of};
 
     ghost is_of = { λ note d. note ≡ note_of d };
 

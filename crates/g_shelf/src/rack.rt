@@ -2,7 +2,7 @@
 ghost use Rattle.std.specs.Prelude.{◌≡◌, ◌⊎◌, All, IfOk, OnErr, true};
 ghost use Rattle.g_base.specs.Counts.{Rose};
 ghost use Rattle.g_tape.specs.Reads.{OnlyReads};
-ghost use Rattle.g_shelf.specs.Listed.{AreListed};
+ghost use Rattle.g_shelf.specs.Catalogue.{AreListed};
 
 use crate::notes::completed;
 use g_incr::{DumpNote, ShelfFault};

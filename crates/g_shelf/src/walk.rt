@@ -5,7 +5,7 @@ ghost use Rattle.g_tape.specs.Reads.{blocks_of};
 ghost use Rattle.g_incr.specs.Layout.{Dump};
 ghost use Rattle.g_incr.specs.Notes.{IsDirOf};
 ghost use Rattle.g_incr.specs.Reading.{ReadsReel};
-ghost use Rattle.g_shelf.specs.Completed.{IsNext};
+ghost use Rattle.g_shelf.specs.CompletedDumps.{IsNext};
 ghost use Rattle.g_shelf.specs.Walk.{HasMore, IsNextDump};
 
 use g_incr::{DumpDir, DumpNote, ShelfFault, read_dump};

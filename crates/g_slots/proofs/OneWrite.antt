@@ -6,7 +6,7 @@ use Rattle.std.proofs.Math.Seq.{take-set-lt}
 use Rattle.std.proofs.lemmas.List.{drop-set-add, drop-set-lt, take-set-le, get_or-drop, get_or-take}
 use Rattle.std.proofs.lemmas.Option.{get_or_from_slice_get, slice_get-get_or, slice_get_within}
 use Rattle.g_base.specs.Block.{IsBlock, with_block}
-use Rattle.g_base.specs.Told.{Changes}
+use Rattle.g_base.specs.ToldContent.{Changes}
 use Rattle.g_base.proofs.ToldLemmas.{Changes-with_block, told_after_write}
 use Rattle.g_slots.specs.declared.side.Side.{Side}
 use Rattle.g_slots.specs.declared.side.Side.TheVariants.{A, B}

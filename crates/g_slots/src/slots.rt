@@ -2,7 +2,7 @@
 
 ghost use Rattle.std.specs.Prelude.{◌≡◌, ◌<◌, IfOk, OnOk, OnErr, Some, length, slice_get};
 ghost use Rattle.std.specs.Option.{ForSome};
-ghost use Rattle.g_base.specs.Told.{Changes};
+ghost use Rattle.g_base.specs.ToldContent.{Changes};
 ghost use Rattle.g_disc.specs.Disc.{ReadsOnly, WritesOnly};
 ghost use Rattle.g_slots.specs.Layout.{GateNames, GateWritten, other, slot};
 ghost use Rattle.g_slots.specs.Commit.{Commits, CommitsOrNot, Fills, Flips, KeepsCurrent, Prepares, Tears};

@@ -9,7 +9,7 @@ use Rattle.g_entry.specs.FileFields.{IsCopy, IsFile}
 use Rattle.g_disc_contents.specs.Contents.{Contents, File, recs_in}
 use Rattle.g_disc_contents.specs.Facts.{IsTied, OnlineFacts}
 use Rattle.g_online.specs.declared.change.Change.TheVariants.{Adopt}
-use Rattle.g_online.specs.Allowed.{IsAllowed, KeepsRules}
+use Rattle.g_online.specs.AllowedChanges.{IsAllowed, KeepsRules}
 use Rattle.g_online.specs.Change.{changed}
 use Rattle.g_online.proofs.CopiedLemmas.{none_copied, rules_copied}
 use Rattle.g_online.proofs.KeepLemmas.{rules_of}

@@ -13,7 +13,7 @@ use Rattle.g_store_model.specs.CallStep.{down}
 use Rattle.g_store_meaning.specs.Answers.{Belongs, IsStore}
 use Rattle.g_store_meaning.specs.Meaning.{told_reels}
 use Rattle.g_store_meaning.specs.Reading.{DevicesStandFor, StandsForState}
-use Rattle.g_store_meaning.specs.Up.{DumpFacts, IsReady, IsUp, StoreFacts, content_in}
+use Rattle.g_store_meaning.specs.StoreInvariant.{DumpFacts, IsReady, IsUp, StoreFacts, content_in}
 use Rattle.g_store_meaning.proofs.ViewLemmas.{Stands, back, to}
 use Rattle.g_store_meaning.proofs.StayLemmas.{dump_stays_open}
 use Rattle.g_store.specs.Arming.{MeansTheSame}

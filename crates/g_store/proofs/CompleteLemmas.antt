@@ -11,14 +11,14 @@ use Rattle.g_plain.specs.declared.faults.StoreFault.TheVariants.{DiscReadFault, 
 use Rattle.g_disc_contents.specs.Contents.{Contents, Holds}
 use Rattle.g_disc_contents.proofs.HoldLemmas.{holds_one}
 use Rattle.g_incr.specs.Layout.{Dump}
-use Rattle.g_shelf.specs.Completed.{AreShelved, all_dumps}
-use Rattle.g_shelf.specs.Last.{first_unmounted}
-use Rattle.g_store_meaning.specs.Belong.{Belong}
+use Rattle.g_shelf.specs.CompletedDumps.{AreShelved, all_dumps}
+use Rattle.g_shelf.specs.LastDump.{first_unmounted}
+use Rattle.g_store_meaning.specs.Belonging.{Belong}
 use Rattle.g_store_meaning.specs.Meaning.{told_reels}
 use Rattle.g_store_meaning.specs.Reading.{ReelsTold}
-use Rattle.g_restore.specs.Restored.{IsOfDisc, IsOfReels}
+use Rattle.g_restore.specs.Restoration.{IsOfDisc, IsOfReels}
 use Rattle.g_restore.proofs.ReelLemmas.{all_of_reels}
-use Rattle.g_store.specs.Complete.{MakingIsComplete, NoDeviceFailed}
+use Rattle.g_store.specs.Completeness.{MakingIsComplete, NoDeviceFailed}
 use Rattle.g_store.specs.Making.{RefusesFormat, RefusesRestore, RefusesStart}
 use Rattle.g_store.specs.Refusing.{first_used}
 

@@ -13,7 +13,7 @@ use Rattle.g_tape.specs.Reads.{unread}
 use Rattle.g_tape.specs.Reel.{IsReel, Reel}
 use Rattle.g_tape.proofs.PlaceLemmas.{reel-first}
 use Rattle.g_incr.specs.Layout.{Dump}
-use Rattle.g_shelf.specs.Completed.{AreCompleted, AreShelved, IsNext, all_dumps}
+use Rattle.g_shelf.specs.CompletedDumps.{AreCompleted, AreShelved, IsNext, all_dumps}
 use Rattle.g_shelf.proofs.QuietLemmas.{within}
 use Rattle.g_store_model.specs.State as state
 use Rattle.g_store_meaning.specs.Reading.{ReelsTold, row_of}

@@ -3,7 +3,7 @@ use Rattle.std.proofs.Common.{◌≡◌, ◌≢◌, ℕ, ◌<◌, Bool, true, fa
 use Rattle.std.specs.Prelude.{◌⊎◌, All, Contains, map}
 use Rattle.std.proofs.lemmas.List.Elements.{All-nil}
 use Rattle.std.proofs.lemmas.Option.{none-some, same_Some}
-use Rattle.g_base.specs.Told.{Changes}
+use Rattle.g_base.specs.ToldContent.{Changes}
 use Rattle.g_disc.specs.Disc.{Causes, DiscState}
 use Rattle.g_entry.specs.declared.file_rec.FileRec.{FileRec}
 use Rattle.g_entry.specs.declared.head.Head.{Head}
@@ -18,17 +18,17 @@ use Rattle.g_tree.specs.Records.{IsRecords, tree_of}
 use Rattle.g_disc_contents.specs.Contents.{Contents, File, Holds, recs_in}
 use Rattle.g_disc_contents.specs.Facts.{IsTied, OnlineFacts}
 use Rattle.g_incr.specs.Layout.{Dump}
-use Rattle.g_shelf.specs.Completed.{AreShelved, all_dumps}
-use Rattle.g_online.specs.Allowed.{KeepsRules, Lies}
+use Rattle.g_shelf.specs.CompletedDumps.{AreShelved, all_dumps}
+use Rattle.g_online.specs.AllowedChanges.{KeepsRules, Lies}
 use Rattle.g_online.specs.Faults.{store_fault_of}
 use Rattle.g_online.specs.declared.fault.OnlineFault.{OnlineFault}
 use Rattle.g_online.specs.declared.fault.OnlineFault.TheVariants as online
-use Rattle.g_online.specs.Begun.{AsBeforeOr, HasMade, HoldsAsBefore, first_contents, first_file}
+use Rattle.g_online.specs.Beginning.{AsBeforeOr, HasMade, HoldsAsBefore, first_contents, first_file}
 use Rattle.g_store_model.specs.State as state
 use Rattle.g_store_model.specs.CallStep.{Cut, DiscRead, Plain, down}
 use Rattle.g_store_model.specs.DumpSteps.{Event}
 use Rattle.g_store_model.specs.Rising.{FormatStep, coming_up, fault_from}
-use Rattle.g_store_meaning.specs.Belong.{Belong, BelongWith, DiscBelongs}
+use Rattle.g_store_meaning.specs.Belonging.{Belong, BelongWith, DiscBelongs}
 use Rattle.g_store_meaning.specs.Meaning.{told_reels}
 use Rattle.g_store_meaning.specs.Reading.{AllTold, DevicesStandFor, HasText, IsView, StandsForState, View, holding_of, names_of, places_of, state_down, state_up, tree_by}
 use Rattle.g_store_meaning.proofs.ChangeLemmas.{format_belongs}

@@ -4,7 +4,7 @@ use Rattle.std.specs.Prelude.{◌⊎◌, ◌==◌, ◌^◌, ◌-◌, is_none, is
 use Rattle.g_tape.specs.Rack.{Rack, is_mounted, reel}
 use Rattle.g_plain.specs.declared.faults.StoreFault.{StoreFault}
 use Rattle.g_plain.specs.declared.faults.StoreFault.TheVariants.{CountersSpent, DumpOpen, NoTape, NotMounted, Stopped, TapeFull}
-use Rattle.g_store_meaning.specs.Up.{StoreFacts}
+use Rattle.g_store_meaning.specs.StoreInvariant.{StoreFacts}
 use Rattle.g_dumper.specs.Beginning.{RefusesOpening, StoppedOpening}
 use Rattle.g_store.specs.Dumping.{RefusesDump}
 use Rattle.g_store.specs.Refusing.{number_in, open_refuses}

@@ -8,7 +8,7 @@ use Rattle.g_entry.specs.declared.file_rec.FileRec.{FileRec}
 use Rattle.g_entry.specs.declared.user_rec.UserRec.{UserRec}
 use Rattle.g_incr.specs.Layout.{Dump, IsDump, holds}
 use Rattle.g_incr.specs.Plan.{numbered_from, with_number}
-use Rattle.g_store_meaning.specs.Belong.{RackBelongs}
+use Rattle.g_store_meaning.specs.Belonging.{RackBelongs}
 use Rattle.g_store_meaning.specs.Meaning.{DumpedDirectory, Gathers, HasDirectory, files_of}
 use Rattle.g_store_meaning.proofs.BelongLemmas.{HasKept}
 use Rattle.g_laws_store.proofs.ClosingLemmas.{all_left, all_right, contains_filter}

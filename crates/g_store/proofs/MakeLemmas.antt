@@ -4,7 +4,7 @@ use Rattle.std.specs.Prelude.{◌⊎◌, ◌==◌, All, Contains, IfSome, filter
 use Rattle.std.proofs.lemmas.Bool.{eq-eqb, false≢true, or_left, or_right}
 use Rattle.std.proofs.lemmas.List.Elements.{All-contains_itself, All-head, All-tail, All-weaker}
 use Rattle.std.proofs.lemmas.Option.{same_Some}
-use Rattle.g_base.specs.Told.{Changes}
+use Rattle.g_base.specs.ToldContent.{Changes}
 use Rattle.g_disc.specs.Disc.{DiscState}
 use Rattle.g_entry.specs.declared.user_rec.UserRec.{UserRec}
 use Rattle.g_tape.specs.Rack.{Rack}
@@ -14,17 +14,17 @@ use Rattle.g_disc_contents.specs.Contents.{Contents, Holds, has}
 use Rattle.g_disc_contents.proofs.HoldLemmas.{holds_one}
 use Rattle.g_disc_contents.specs.Facts.{IsTied, OnlineFacts}
 use Rattle.g_incr.specs.Layout.{Dump}
-use Rattle.g_shelf.specs.Completed.{AreShelved, all_dumps}
-use Rattle.g_online.specs.Begun.{AsBeforeOr, HoldsAsBefore, IsBegun}
+use Rattle.g_shelf.specs.CompletedDumps.{AreShelved, all_dumps}
+use Rattle.g_online.specs.Beginning.{AsBeforeOr, HoldsAsBefore, IsBegun}
 use Rattle.g_store_model.specs.State as state
 use Rattle.g_store_model.specs.CallStep.{down}
 use Rattle.g_store_model.specs.Rising.{coming_up}
 use Rattle.g_store_meaning.specs.Answers.{Belongs, IsStore}
-use Rattle.g_store_meaning.specs.Belong.{BelongWith, DiscBelongs, RackBelongs}
+use Rattle.g_store_meaning.specs.Belonging.{BelongWith, DiscBelongs, RackBelongs}
 use Rattle.g_store_meaning.specs.Laws.{IsQuiet}
 use Rattle.g_store_meaning.specs.Meaning.{told_reels}
 use Rattle.g_store_meaning.specs.Reading.{AllTold, DevicesStandFor, HasText, IsRackView, IsView, StandsForState, View, holding_of, names_of, row_of, state_down, state_up, users_not_in}
-use Rattle.g_store_meaning.specs.Up.{StoreFacts}
+use Rattle.g_store_meaning.specs.StoreInvariant.{StoreFacts}
 use Rattle.g_store.proofs.MigrateLemmas.{files_seen, rack_seen}
 use Rattle.g_store_calls.proofs.SeenLemmas.{stands}
 use Rattle.g_laws_store.proofs.TiedLemmas.{devices_belong}

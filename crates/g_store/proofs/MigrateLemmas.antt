@@ -25,15 +25,15 @@ use Rattle.g_online.specs.declared.change.Change.TheVariants.{Unload}
 use Rattle.g_online.specs.Change.{changed, with_files}
 use Rattle.g_incr.specs.Layout.{Dump}
 use Rattle.g_incr.specs.Plan.{needs}
-use Rattle.g_shelf.specs.Completed.{all_dumps}
+use Rattle.g_shelf.specs.CompletedDumps.{all_dumps}
 use Rattle.g_store_model.specs.State as state
 use Rattle.g_store_model.specs.CallStep.{Outcome, is_cut, commits, down, kept_intent, stamp_of}
 use Rattle.g_store_model.specs.DumpSteps.{migrate_refuses}
 use Rattle.g_store_meaning.specs.Answers.{Belongs, IsStore}
-use Rattle.g_store_meaning.specs.Belong.{KeepsFile}
+use Rattle.g_store_meaning.specs.Belonging.{KeepsFile}
 use Rattle.g_store_meaning.specs.Meaning.{IsContent, told_reels}
 use Rattle.g_store_meaning.specs.Reading.{AllTold, HasText, IsRackView, IsView, View, holding_of, names_of, open_of, open_tree, own_opened, place_of, row_of, state_down, state_up, tree_by, users_in, users_not_in, waiting_of}
-use Rattle.g_store_meaning.specs.Up.{DumpFacts, StoreFacts}
+use Rattle.g_store_meaning.specs.StoreInvariant.{DumpFacts, StoreFacts}
 use Rattle.g_store_meaning.proofs.OneLemmas.{same_dumps, shelves_agree}
 use Rattle.g_laws_memory.specs.Places.{AreDistinct, IsOfStamp}
 use Rattle.g_laws_memory.specs.Rooms.{held_in}

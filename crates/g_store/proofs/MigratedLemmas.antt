@@ -19,7 +19,7 @@ use Rattle.g_plain.specs.PlainTree.{Tree, has_file, has_user, input_name}
 use Rattle.g_tree.specs.Records.{ForTree, tree_of}
 use Rattle.g_disc_contents.specs.Contents.{Contents, File, Holds, committed, recs_in, taken_off}
 use Rattle.g_disc_contents.specs.Facts.{OnlineFacts}
-use Rattle.g_online.specs.Allowed.{HasNumber}
+use Rattle.g_online.specs.AllowedChanges.{HasNumber}
 use Rattle.g_online.specs.declared.change.Change.TheVariants.{Unload}
 use Rattle.g_online.specs.Change.{changed, with_files}
 use Rattle.g_online.specs.Outcomes.{HasChanged, HasStopped}
@@ -29,11 +29,11 @@ use Rattle.g_store_model.specs.DumpSteps.{Event, MigrateStep, migrate_refuses}
 use Rattle.g_store_meaning.specs.Answers.{Belongs, HasCause, IsStore, Told}
 use Rattle.g_store_meaning.specs.Meaning.{told_reels}
 use Rattle.g_store_meaning.specs.Reading.{AllTold, DevicesStandFor, IsOpenView, IsView, StandsForState, View, holding_of, state_down, state_up, users_not_in}
-use Rattle.g_store_meaning.specs.Up.{DumpFacts, IsOpen, StoreFacts}
+use Rattle.g_store_meaning.specs.StoreInvariant.{DumpFacts, IsOpen, StoreFacts}
 use Rattle.g_store_meaning.proofs.ViewLemmas.{Stands, back}
 use Rattle.g_laws_memory.specs.Rooms.{held_in}
-use Rattle.g_migrate.specs.Keeps.{KeepsStore, with_online}
-use Rattle.g_migrate.specs.Migrated.{HasMigrated}
+use Rattle.g_migrate.specs.Invariant.{KeepsStore, with_online}
+use Rattle.g_migrate.specs.Migration.{HasMigrated}
 use Rattle.g_store.specs.Events.{IsOfMigration, LeadsBy, Migrates, StepsBy, WroteBy}
 use Rattle.g_store.specs.Naming.{IsNamedFile, named_answer, naming_refuses, stops}
 use Rattle.g_store.specs.Refusing.{IsExact}

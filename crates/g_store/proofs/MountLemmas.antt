@@ -8,7 +8,7 @@ use Rattle.g_tape.specs.Reel.{Reel, with_mounted}
 use Rattle.g_tape.specs.Rack.{is_mounted, reel, with_reel}
 use Rattle.g_tape.specs.Reads.{unread}
 use Rattle.g_incr.specs.Layout.{Dump}
-use Rattle.g_shelf.specs.Completed.{AreCompleted, AreShelved, all_dumps}
+use Rattle.g_shelf.specs.CompletedDumps.{AreCompleted, AreShelved, all_dumps}
 use Rattle.g_store_model.specs.State as state
 use Rattle.g_store_model.specs.DumpSteps as dumps
 use Rattle.g_store_meaning.specs.Reading.{AllTold, row_of}

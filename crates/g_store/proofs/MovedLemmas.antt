@@ -12,11 +12,11 @@ use Rattle.g_plain.specs.declared.faults.StoreFault.{StoreFault}
 use Rattle.g_plain.specs.declared.faults.StoreFault.TheVariants.{DiscReadFault, Stopped, TapeReadFault}
 use Rattle.g_disc_contents.specs.Contents.{has}
 use Rattle.g_incr.specs.Layout.{Dump}
-use Rattle.g_shelf.specs.Completed.{AreCompleted, AreShelved, all_dumps}
+use Rattle.g_shelf.specs.CompletedDumps.{AreCompleted, AreShelved, all_dumps}
 use Rattle.g_shelf.proofs.OneLemmas.{completed_are_one}
 use Rattle.g_store_meaning.specs.Meaning.{told_reels}
 use Rattle.g_store_meaning.specs.Reading.{AllTold}
-use Rattle.g_store_meaning.specs.Up.{IsUp, StoreFacts, with_dump}
+use Rattle.g_store_meaning.specs.StoreInvariant.{IsUp, StoreFacts, with_dump}
 use Rattle.g_laws_store.proofs.UpOneLemmas.{on_all}
 use Rattle.g_laws_process.specs.Moving.{AreKept, DumpsMove, IsReplaced}
 use Rattle.g_dumper.proofs.ShelfLemmas.{told_is}

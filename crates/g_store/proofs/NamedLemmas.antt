@@ -12,9 +12,9 @@ use Rattle.g_incr.specs.declared.note.DumpDir.{DumpDir}
 use Rattle.g_incr.specs.declared.note.DumpNote.{DumpNote}
 use Rattle.g_incr.specs.Layout.{Dump, ends}
 use Rattle.g_incr.specs.Reading.{HasNone, IsFound}
-use Rattle.g_shelf.specs.Completed.{AreCompleted, AreNext, IsNext}
-use Rattle.g_shelf.specs.Found.{note_of}
-use Rattle.g_known.specs.Known.{AreFound}
+use Rattle.g_shelf.specs.CompletedDumps.{AreCompleted, AreNext, IsNext}
+use Rattle.g_shelf.specs.FoundDumps.{note_of}
+use Rattle.g_known.specs.ReelNotes.{AreFound}
 use Rattle.g_shelf.proofs.OneLemmas.{completed_are_one, same_next}
 use Rattle.g_store_model.specs.Rising.{is_intended}
 use Rattle.g_store_meaning.specs.Reading.{shelved_of}

@@ -33,7 +33,7 @@ use Rattle.g_store_model.specs.State as state
 use Rattle.g_store_model.specs.DumpSteps.{kept_now, waiting_blocks, writes_content}
 use Rattle.g_store_meaning.specs.Meaning.{DumpedDirectory, Gathers, HasDirectory, files_in, files_of}
 use Rattle.g_store_meaning.specs.Reading.{dumped_place, dumped_places, names_of, users_in, users_not_in, waiting_of}
-use Rattle.g_store_meaning.specs.Up.{ArePinned}
+use Rattle.g_store_meaning.specs.StoreInvariant.{ArePinned}
 use Rattle.g_laws_store.proofs.ClosingLemmas.{IsOf, all_left, all_right, contains_filter}
 use Rattle.g_laws_store.proofs.PinLemmas.{OtherStamp}
 use Rattle.g_laws_memory.specs.Places.{AreNotedIn}

@@ -28,16 +28,16 @@ use Rattle.g_disc_contents.specs.Contents.{Contents, File, Holds, recs_in, with_
 use Rattle.g_disc_contents.specs.Facts.{IsPinOf, IsTied, OnlineFacts, Pin}
 use Rattle.g_incr.specs.Layout.{Dump, holds}
 use Rattle.g_incr.specs.Plan.{blocks_of, dump_of, first_content, needs, waiting, waits}
-use Rattle.g_shelf.specs.Completed.{AreCompleted, AreShelved, all_dumps, end_behind, end_of}
+use Rattle.g_shelf.specs.CompletedDumps.{AreCompleted, AreShelved, all_dumps, end_behind, end_of}
 use Rattle.g_shelf.proofs.QuietLemmas.{end-within}
 use Rattle.g_store_model.specs.State as state
 use Rattle.g_store_model.specs.CallStep.{Cut, Outcome, Plain, TapeRead, down, is_cut, is_tape_read}
 use Rattle.g_store_model.specs.DumpSteps.{Event, OpenStep, dump_needs, open_number, open_refuses, opening, tape_room}
 use Rattle.g_store_meaning.specs.Answers.{Belongs, IsStore, Told, WroteCommits}
-use Rattle.g_store_meaning.specs.Belong.{DiscBelongs, KeepsFile}
+use Rattle.g_store_meaning.specs.Belonging.{DiscBelongs, KeepsFile}
 use Rattle.g_store_meaning.specs.Meaning.{files_of, told_reels}
 use Rattle.g_store_meaning.specs.Reading.{DevicesStandFor, IsView, Opened, OpensTo, StandsForState, View, holding_of, open_of, row_of, shelved_of, state_down, state_up}
-use Rattle.g_store_meaning.specs.Up.{ArePinned, DumpFacts, IsReady, IsUp, StoreFacts, content_in, with_dump}
+use Rattle.g_store_meaning.specs.StoreInvariant.{ArePinned, DumpFacts, IsReady, IsUp, StoreFacts, content_in, with_dump}
 use Rattle.g_store_meaning.proofs.ViewLemmas.{Stands, back, reads_keep_state}
 use Rattle.g_laws_store.specs.Dumping.{IsPlanOf, opened_with}
 use Rattle.g_laws_store.proofs.StateLemmas.{is_view, view_by, with_there}
@@ -47,7 +47,7 @@ use Rattle.g_laws_memory.proofs.NeedsLemmas.{opening_takes}
 use Rattle.g_laws_opening.specs.Opening.{IsOpening}
 use Rattle.g_laws_opening.proofs.OwnLemmas.{opening_is_step}
 use Rattle.g_dumper.specs.Beginning.{Begins, IsEnd, IsKeptBack, LeftByRefusal, RefusesOpening, StoppedOpening, held_of, intent_of, plan_of}
-use Rattle.g_dumper.specs.Keeps.{KeepsStore, behind_opening, spent_with, up_with}
+use Rattle.g_dumper.specs.Invariant.{KeepsStore, behind_opening, spent_with, up_with}
 use Rattle.g_dumper.proofs.BeginLemmas.{after_reads, reel_named}
 use Rattle.g_dumper.proofs.HeldLemmas.{held_of_one}
 use Rattle.g_dumper.proofs.IntentLemmas.{rules_here}

@@ -8,10 +8,10 @@ use Rattle.g_plain.specs.declared.faults.StoreFault.{StoreFault}
 use Rattle.g_plain.specs.declared.faults.StoreFault.TheVariants.{DiscReadFault, NoCopy, NoMemory, ReelNotFree, Stopped, TapeFull, TapeReadFault}
 use Rattle.g_incr.specs.Plan.{needs}
 use Rattle.g_store_meaning.specs.Answers.{Belongs, Told}
-use Rattle.g_store_meaning.specs.Up.{StoreFacts}
-use Rattle.g_process.specs.Planned.{IsFree, IsTaken, process_plan}
+use Rattle.g_store_meaning.specs.StoreInvariant.{StoreFacts}
+use Rattle.g_process.specs.ProcessPlan.{IsFree, IsTaken, process_plan}
 use Rattle.g_process.specs.Processing.{Processes, process_refuses}
-use Rattle.g_store.specs.Complete.{NoDeviceFailed, ProcessIsComplete}
+use Rattle.g_store.specs.Completeness.{NoDeviceFailed, ProcessIsComplete}
 use Rattle.g_store.proofs.ProcessedStepLemmas.{found_in, free_none, none_lost, taken_some, there_is}
 
 pub process_complete : ProcessIsComplete

@@ -10,11 +10,11 @@ use Rattle.g_plain.specs.declared.faults.StoreFault.{StoreFault}
 use Rattle.g_plain.specs.declared.faults.StoreFault.TheVariants.{CountersSpent, DiscReadFault, DumpOpen, NoCopy, NoTape, RackNotMounted, ReelNotFree, Stopped, TapeFull, TapeReadFault}
 use Rattle.g_plain.specs.PlainStep.{first_fault}
 use Rattle.g_disc_contents.specs.Facts.{OnlineFacts}
-use Rattle.g_shelf.specs.Last.{first_unmounted}
+use Rattle.g_shelf.specs.LastDump.{first_unmounted}
 use Rattle.g_store_model.specs.Rising.{fault_from}
 use Rattle.g_store_meaning.specs.Answers.{IsStore, WroteCommits}
-use Rattle.g_store_meaning.specs.Up.{DumpFacts, StoreFacts}
-use Rattle.g_dumper.specs.Keeps.{up_with}
+use Rattle.g_store_meaning.specs.StoreInvariant.{DumpFacts, StoreFacts}
+use Rattle.g_dumper.specs.Invariant.{up_with}
 use Rattle.g_incr.specs.Layout.{Dump}
 use Rattle.g_process.specs.Exits.{Exits}
 use Rattle.g_process.specs.Processing.{Does, IsLate, Processes, Wrote, behind_process, open_number, process_refuses}

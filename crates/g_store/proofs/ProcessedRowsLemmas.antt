@@ -16,10 +16,10 @@ use Rattle.g_store_model.specs.DumpSteps.{with_shelved, with_used}
 use Rattle.g_store_model.specs.Process.{released_before}
 use Rattle.g_store_model.specs.Rising.{has_none}
 use Rattle.g_store_meaning.specs.Reading.{row_of, shelved_of}
-use Rattle.g_store_meaning.specs.Up.{with_dump}
+use Rattle.g_store_meaning.specs.StoreInvariant.{with_dump}
 use Rattle.g_laws_store.proofs.RecordLemmas.{pairs_head, pairs_tail}
 use Rattle.g_process.specs.Exits.{IsBesideDump, IsClearedBy, IsReadBy, cleared}
-use Rattle.g_process.specs.Planned.{IsFree, IsTaken}
+use Rattle.g_process.specs.ProcessPlan.{IsFree, IsTaken}
 use Rattle.g_process.proofs.ExitLemmas.{found_itself}
 use Rattle.g_process.proofs.ReleaseLemmas.{AreApart}
 

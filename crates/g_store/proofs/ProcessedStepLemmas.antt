@@ -26,8 +26,8 @@ use Rattle.g_disc_contents.specs.Contents.{Contents, File, Holds, contents_of, h
 use Rattle.g_disc_contents.specs.Facts.{IsTied, OnlineFacts}
 use Rattle.g_incr.specs.Layout.{Dump, ends, holds}
 use Rattle.g_incr.specs.Plan.{needs, first_content, numbered_from}
-use Rattle.g_shelf.specs.Completed.{AreCompleted, AreShelved, all_dumps}
-use Rattle.g_shelf.specs.Last.{first_unmounted}
+use Rattle.g_shelf.specs.CompletedDumps.{AreCompleted, AreShelved, all_dumps}
+use Rattle.g_shelf.specs.LastDump.{first_unmounted}
 use Rattle.g_shelf.proofs.QuietLemmas.{within}
 use Rattle.g_store_model.specs.State as state
 use Rattle.g_store_model.specs.CallStep.{Cut, DiscRead, Outcome, Plain, TapeRead, down}
@@ -37,16 +37,16 @@ use Rattle.g_store_model.specs.Process as step
 use Rattle.g_store_model.specs.Process.{LeftByRead, Marked, Moved, NotYet, ProcessDone, ProcessLeft, ProcessStep, Processes as ProcessesBy, is_released, marked_by, moved, process_dump, process_needs, process_refuses_late, released_before, with_cut, with_intent}
 use Rattle.g_store_model.specs.Rising.{fault_from, has_none}
 use Rattle.g_store_meaning.specs.Answers.{Belongs, IsStore, Raised, Told}
-use Rattle.g_store_meaning.specs.Belong.{KeepsFile, RackBelongs}
+use Rattle.g_store_meaning.specs.Belonging.{KeepsFile, RackBelongs}
 use Rattle.g_store_meaning.specs.Meaning.{DumpedDirectory, IsContent, told_reels}
 use Rattle.g_store_meaning.specs.Reading.{AllTold, HasText, IsView, StandsForState, View, dumped_of, dumped_places, holding_of, names_of, open_of, own_of, places_of, row_of, shelved_of, state_up, tree_by, users_not_in}
-use Rattle.g_store_meaning.specs.Up.{DumpFacts, IsUp, StoreFacts, with_dump}
+use Rattle.g_store_meaning.specs.StoreInvariant.{DumpFacts, IsUp, StoreFacts, with_dump}
 use Rattle.g_store_meaning.proofs.OneLemmas.{on_reel}
 use Rattle.g_laws_store.proofs.StateLemmas.{is_view, view_by}
 use Rattle.g_laws_store.proofs.UpOneLemmas.{on_all, store_is_one}
 use Rattle.g_laws_memory.specs.Rooms.{HasLength, held_in}
 use Rattle.g_store_calls.proofs.SeenLemmas.{Seen, stands}
-use Rattle.g_dumper.specs.Keeps.{spent_with, up_with}
+use Rattle.g_dumper.specs.Invariant.{spent_with, up_with}
 use Rattle.g_dumper.proofs.BeginLemmas.{reel_named}
 use Rattle.g_dumper.proofs.IntentLemmas.{rules_here}
 use Rattle.g_dumper.proofs.ShelfLemmas.{reel_there, told_is}
@@ -54,8 +54,8 @@ use Rattle.g_incr.proofs.PlanLemmas.{length-made}
 use Rattle.std.specs.List.Sorted.{IsStrictlyIncreasing}
 use Rattle.g_process.proofs.TextLemmas.{among}
 use Rattle.g_process.specs.Exits.{HasCompleted, HasReleased, IsContentOf, IsReadBy, LacksMark, MayFill, Stops, StopsBefore, StopsCopies, StopsIntent, StopsMark, StopsRelease, Untouched, cleared, new_dump, IsBesideDump, IsClearedBy, IsLastCut}
-use Rattle.g_process.specs.Named.{intended_by, moved_by, process_copies}
-use Rattle.g_process.specs.Planned.{IsFirstLost, IsFree, IsTaken, process_plan}
+use Rattle.g_process.specs.NamedCopies.{intended_by, moved_by, process_copies}
+use Rattle.g_process.specs.ProcessPlan.{IsFirstLost, IsFree, IsTaken, process_plan}
 use Rattle.g_process.specs.Processing.{Processes, behind_process, open_number, process_refuses}
 use Rattle.g_process.proofs.BecomeLemmas.{apart_of}
 use Rattle.g_process.proofs.BelongLemmas.{disc_marked, none_on, up_moved, up_released, without_all}

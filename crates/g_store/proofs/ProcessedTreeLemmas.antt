@@ -30,15 +30,15 @@ use Rattle.g_disc_contents.specs.Facts as facts
 use Rattle.g_disc_contents.specs.Facts.{IsTied, OnlineFacts, Pin, noted}
 use Rattle.g_incr.specs.Layout.{Dump, holds}
 use Rattle.g_incr.specs.Plan.{IsPlan, Plan, blocks_of, content_blocks, first_content, needs}
-use Rattle.g_shelf.specs.Completed.{AreShelved, all_dumps}
+use Rattle.g_shelf.specs.CompletedDumps.{AreShelved, all_dumps}
 use Rattle.g_store_model.specs.State as state
 use Rattle.g_store_model.specs.DumpSteps.{AreNoted, dump_needs, own_copies, own_copy, waiting_blocks}
 use Rattle.g_store_model.specs.DumpSteps as steps
 use Rattle.g_store_model.specs.Process.{AreCopied, AreMoved, HasCopiesOf, IsProcessed, process_content, process_needs}
-use Rattle.g_store_meaning.specs.Belong.{KeepsFile}
+use Rattle.g_store_meaning.specs.Belonging.{KeepsFile}
 use Rattle.g_store_meaning.specs.Meaning.{DumpedDirectory, HasDirectory, Gathers, files_of, told_reels}
 use Rattle.g_store_meaning.specs.Reading.{AllTold, Opened, View, dumped_of, holding_of, names_of, own_of, place_of, places_of, tree_by, users_not_in}
-use Rattle.g_store_meaning.specs.Up.{IsReady, IsUp, StoreFacts, content_in, with_dump}
+use Rattle.g_store_meaning.specs.StoreInvariant.{IsReady, IsUp, StoreFacts, content_in, with_dump}
 use Rattle.g_laws_store.specs.Dumping.{opened_with}
 use Rattle.g_laws_store.proofs.RecordLemmas.{OtherUser, gathered_by, pairs_tail, users_apart}
 use Rattle.g_laws_store.proofs.StateLemmas.{view_by, with_there}
@@ -55,16 +55,16 @@ use Rattle.g_laws_opening.specs.Opening.{IsOpening}
 use Rattle.g_laws_opening.proofs.CopyLemmas.{copies_by, find_copy, no_copy_of, same_flat}
 use Rattle.g_laws_opening.proofs.OpenedLemmas.{are, are_noted, copy_before, long_of, place_of_rec, tree_is}
 use Rattle.g_laws_opening.proofs.OwnLemmas.{own_is}
-use Rattle.g_laws_process.specs.Forgotten.{bare, bare_file, bare_rec, every_user, forgotten}
+use Rattle.g_laws_process.specs.ForgottenCopies.{bare, bare_file, bare_rec, every_user, forgotten}
 use Rattle.g_laws_process.proofs.ForgetLemmas.{forgetting_stays}
-use Rattle.g_dumper.specs.Keeps.{up_with}
+use Rattle.g_dumper.specs.Invariant.{up_with}
 use Rattle.g_dumper.proofs.BeginLemmas.{reel_named}
 use Rattle.g_dumper.proofs.HeldLemmas.{holds_there}
 use Rattle.g_dumper.proofs.IntentLemmas.{rules_here}
 use Rattle.g_dumper.proofs.ShelfLemmas.{reel_there}
 use Rattle.g_process.specs.Exits.{IsContentOf, new_dump}
-use Rattle.g_process.specs.Named.{process_copies}
-use Rattle.g_process.specs.Planned.{IsFree, is_filled, living, process_plan, versions}
+use Rattle.g_process.specs.NamedCopies.{process_copies}
+use Rattle.g_process.specs.ProcessPlan.{IsFree, is_filled, living, process_plan, versions}
 use Rattle.g_process.proofs.BelongLemmas.{copy_moved, dumpable, pinned, planned, serial_there, stays}
 use Rattle.g_process.proofs.PinsLemmas.{content_pins, pins_of, pins_texts}
 use Rattle.g_process.proofs.PlanLemmas.{plan_content, plan_long}

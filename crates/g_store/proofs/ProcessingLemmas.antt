@@ -5,8 +5,8 @@ use Rattle.g_tape.specs.Rack.{AreReels, Rack}
 use Rattle.g_plain.specs.declared.faults.StoreFault.{StoreFault}
 use Rattle.g_disc_contents.specs.Facts.{OnlineFacts}
 use Rattle.g_store_meaning.specs.Answers.{IsStore}
-use Rattle.g_store_meaning.specs.Up.{DumpFacts, StoreFacts}
-use Rattle.g_dumper.specs.Keeps.{up_with}
+use Rattle.g_store_meaning.specs.StoreInvariant.{DumpFacts, StoreFacts}
+use Rattle.g_dumper.specs.Invariant.{up_with}
 use Rattle.g_process.specs.Processing.{Processes, behind_process, process_refuses}
 use Rattle.g_store.specs.Processing.{MovesDumps, StepsProcess}
 use Rattle.g_store.proofs.MovedLemmas.{exit_moves}

@@ -19,21 +19,21 @@ use Rattle.g_tree.proofs.ListLemmas.{map_of_map}
 use Rattle.g_disc_contents.specs.Contents.{Contents, File, Holds}
 use Rattle.g_disc_contents.specs.Facts.{IsTied, OnlineFacts}
 use Rattle.g_incr.specs.Layout.{Dump}
-use Rattle.g_shelf.specs.Completed.{AreShelved, all_dumps}
-use Rattle.g_shelf.specs.Last.{first_unmounted}
-use Rattle.g_online.specs.Begun.{HasMade}
+use Rattle.g_shelf.specs.CompletedDumps.{AreShelved, all_dumps}
+use Rattle.g_shelf.specs.LastDump.{first_unmounted}
+use Rattle.g_online.specs.Beginning.{HasMade}
 use Rattle.g_store_model.specs.State as state
 use Rattle.g_store_model.specs.CallStep.{Outcome, Plain}
 use Rattle.g_store_model.specs.DumpSteps.{Event}
 use Rattle.g_store_model.specs.Rising as rising
 use Rattle.g_store_meaning.specs.Answers.{Belongs}
-use Rattle.g_store_meaning.specs.Belong.{Belong, DiscBelongs, KeepsFile, KeepsRecord}
+use Rattle.g_store_meaning.specs.Belonging.{Belong, DiscBelongs, KeepsFile, KeepsRecord}
 use Rattle.g_store_meaning.specs.Laws.{restored, restored_file}
 use Rattle.g_store_meaning.specs.Meaning.{DumpedDirectory, files_in, told_reels}
 use Rattle.g_store_meaning.specs.Reading.{AllTold, DevicesStandFor, HasText, IsRackView, IsView, ReelsTold, StandsForState, View, dumped_of, holding_of, names_of, place_of, row_of, shelved_of, state_down, state_up, tree_by}
 use Rattle.g_store_meaning.proofs.ChangeLemmas.{restore_belongs}
 use Rattle.g_store_meaning.proofs.OneLemmas.{devices_are_one}
-use Rattle.g_restore.specs.Restored.{IsRestored}
+use Rattle.g_restore.specs.Restoration.{IsRestored}
 use Rattle.g_restore.proofs.ReelLemmas.{all_of_reels}
 use Rattle.g_store.proofs.MakeLemmas.{belongs_made, stands_up, store_of, up_is}
 use Rattle.g_store.proofs.MigrateLemmas.{rack_seen}

@@ -4,7 +4,7 @@ use Rattle.std.specs.Prelude.{◌⊎◌, ◌↔◌, All, Contains, IfSome, Match
 use Rattle.std.specs.Option.{ForSome}
 use Rattle.std.specs.List.{list_all}
 use Rattle.g_base.specs.Counts.{Rose}
-use Rattle.g_base.specs.Told.{Changes}
+use Rattle.g_base.specs.ToldContent.{Changes}
 use Rattle.g_disc.specs.Disc.{Causes, DiscState}
 use Rattle.g_tape.specs.Rack.{Rack}
 use Rattle.g_tape.specs.Reads.{OnlyReads}
@@ -16,21 +16,21 @@ use Rattle.g_disc_contents.specs.Contents.{Contents, Holds}
 use Rattle.g_disc_contents.specs.Facts.{IsTied, OnlineFacts, Pin}
 use Rattle.g_incr.specs.Layout.{Dump}
 use Rattle.g_incr.specs.Plan.{dump_of}
-use Rattle.g_shelf.specs.Completed.{AreShelved, all_dumps}
-use Rattle.g_shelf.specs.Last.{first_unmounted}
-use Rattle.g_online.specs.Begun.{AsBeforeOr, HasMade, HoldsAsBefore}
+use Rattle.g_shelf.specs.CompletedDumps.{AreShelved, all_dumps}
+use Rattle.g_shelf.specs.LastDump.{first_unmounted}
+use Rattle.g_online.specs.Beginning.{AsBeforeOr, HasMade, HoldsAsBefore}
 use Rattle.g_store_model.specs.State as state
 use Rattle.g_store_model.specs.CallStep.{Cut, DiscRead, Outcome, Plain, TapeRead, down}
 use Rattle.g_store_model.specs.Rising as rising
 use Rattle.g_store_meaning.specs.Answers.{Belongs}
-use Rattle.g_store_meaning.specs.Belong.{Belong, BelongWith, DiscBelongs, RackBelongs}
+use Rattle.g_store_meaning.specs.Belonging.{Belong, BelongWith, DiscBelongs, RackBelongs}
 use Rattle.g_store_meaning.specs.Meaning.{told_reels}
 use Rattle.g_store_meaning.specs.Reading.{AllTold, DevicesStandFor, HasText, ReelsTold, dumped_of, holding_of, state_down}
-use Rattle.g_store_meaning.specs.Up.{IsReady, KeepsDirectories, StoreFacts, content_in}
+use Rattle.g_store_meaning.specs.StoreInvariant.{IsReady, KeepsDirectories, StoreFacts, content_in}
 use Rattle.g_store_meaning.proofs.ViewLemmas.{reads_keep_state}
-use Rattle.g_restore.specs.Lost.{LostIsNamed}
+use Rattle.g_restore.specs.Losses.{LostIsNamed}
 use Rattle.g_restore.specs.Reels.{AreOnReels}
-use Rattle.g_restore.specs.Restored.{IsOfDisc, IsOfReels, IsRestored, KeepsBelonging, NothingIsLost}
+use Rattle.g_restore.specs.Restoration.{IsOfDisc, IsOfReels, IsRestored, KeepsBelonging, NothingIsLost}
 use Rattle.g_restore.proofs.ReelLemmas.{all_of_reels}
 use Rattle.g_store.specs.Making.{LeadsDown, RefusesRestore, Restored, StepsDown}
 use Rattle.g_store.proofs.MakeLemmas.{Stood, before_stands, down_again, moved, new_down, new_stands, stood, store_made, store_of, told_then, unkept}

@@ -12,15 +12,15 @@ use Rattle.g_plain.specs.declared.faults.StoreFault.TheVariants.{DiscReadFault, 
 use Rattle.g_disc_contents.specs.Facts.{OnlineFacts}
 use Rattle.g_incr.specs.Layout.{Dump}
 use Rattle.g_incr.specs.Plan.{dump_of, needs}
-use Rattle.g_shelf.specs.Completed.{AreCompleted, AreShelved}
+use Rattle.g_shelf.specs.CompletedDumps.{AreCompleted, AreShelved}
 use Rattle.g_store_model.specs.DumpSteps.{Completed, Going, Stepped}
 use Rattle.g_store_meaning.specs.Answers.{Told}
 use Rattle.g_store_meaning.specs.Meaning.{told_reels}
 use Rattle.g_store_meaning.specs.Reading.{ReelsTold}
-use Rattle.g_store_meaning.specs.Up.{DumpFacts, IsOpen, IsUp, content_in, with_dump}
+use Rattle.g_store_meaning.specs.StoreInvariant.{DumpFacts, IsOpen, IsUp, content_in, with_dump}
 use Rattle.g_store_meaning.proofs.OneLemmas.{Agree, shelves_agree}
 use Rattle.g_laws_store.proofs.UpOneLemmas.{reel_named}
-use Rattle.g_dumper.specs.Keeps.{up_with}
+use Rattle.g_dumper.specs.Invariant.{up_with}
 use Rattle.g_dumper.specs.Steps.{FailedWrite, Stepping, WroteBlock}
 use Rattle.g_dumper.proofs.KeepLemmas.{same_reels, shelved_then}
 use Rattle.g_dumper.proofs.ShelfLemmas.{cut_shelf, marked_shelf, quiet_shelf}

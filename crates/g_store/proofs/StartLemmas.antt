@@ -21,10 +21,10 @@ use Rattle.g_plain.specs.declared.faults.StoreFault.TheVariants.{MountFirst, Sto
 use Rattle.g_tree.specs.Records.{file_row_of, full_of, user_row_of}
 use Rattle.g_disc_contents.specs.Contents.{Contents, File, Holds, recs_in, with_copies}
 use Rattle.g_incr.specs.Layout.{Dump}
-use Rattle.g_shelf.specs.Completed.{AreCompleted, all_dumps}
+use Rattle.g_shelf.specs.CompletedDumps.{AreCompleted, all_dumps}
 use Rattle.g_store_model.specs.State as state
 use Rattle.g_store_model.specs.Rising.{adopted, dump_adopted, fault_from, is_completed, is_intended, other_copy, stands_on, unmounted_reel}
-use Rattle.g_store_meaning.specs.Belong.{Belong, DiscBelongs, IsIntended, IsPlaced, KeepsFile}
+use Rattle.g_store_meaning.specs.Belonging.{Belong, DiscBelongs, IsIntended, IsPlaced, KeepsFile}
 use Rattle.g_store_meaning.specs.Laws.{HasContent, IsQuiet, closed}
 use Rattle.g_store_meaning.specs.Meaning.{DumpedDirectory, IsContent, told_reels}
 use Rattle.g_store_meaning.specs.Reading.{AllTold, DevicesStandFor, View, dumped_of, holding_of, names_of, own_of, places_of, row_of, shelved_of, state_down, tree_by}

@@ -21,16 +21,16 @@ use Rattle.g_disc_contents.proofs.HoldLemmas.{holds_one}
 use Rattle.g_online.specs.Faults.{store_fault_of}
 use Rattle.g_online.specs.declared.fault.OnlineFault.{OnlineFault}
 use Rattle.g_online.specs.declared.fault.OnlineFault.TheVariants as online
-use Rattle.g_online.specs.Begun.{HasLoaded, IsBegun}
+use Rattle.g_online.specs.Beginning.{HasLoaded, IsBegun}
 use Rattle.g_online.specs.Change.{changed, unjammed}
 use Rattle.g_online.specs.Outcomes.{HasChanged, HasStopped}
-use Rattle.g_shelf.specs.Completed.{AreShelved, all_dumps}
+use Rattle.g_shelf.specs.CompletedDumps.{AreShelved, all_dumps}
 use Rattle.g_store_model.specs.State as state
 use Rattle.g_store_model.specs.CallStep.{Cut, DiscRead, Outcome, Plain, TapeRead, down}
 use Rattle.g_store_model.specs.DumpSteps.{Event}
 use Rattle.g_store_model.specs.Rising.{StartStep, Starts, adopted, coming_up, dump_adopted, fault_from, is_completed, unmounted_reel}
 use Rattle.g_store_meaning.specs.Answers.{Belongs}
-use Rattle.g_store_meaning.specs.Belong.{Belong, BelongWith, DiscBelongs, RackBelongs}
+use Rattle.g_store_meaning.specs.Belonging.{Belong, BelongWith, DiscBelongs, RackBelongs}
 use Rattle.g_store_meaning.specs.Laws.{IsQuiet, closed}
 use Rattle.g_store_meaning.specs.Meaning.{told_reels}
 use Rattle.g_store_meaning.specs.Reading.{AllTold, DevicesStandFor, IsView, StandsForState, holding_of, names_of, state_down, state_up}

@@ -13,8 +13,8 @@ use Rattle.g_store_model.specs.State as state
 use Rattle.g_store_model.specs.DumpSteps.{Completed, Going, Stepped}
 use Rattle.g_store_meaning.specs.Answers.{Belongs, IsStore, Told, WroteCommits}
 use Rattle.g_store_meaning.specs.Reading.{StandsForState}
-use Rattle.g_store_meaning.specs.Up.{DumpFacts, IsOpen, StoreFacts, content_in}
-use Rattle.g_dumper.specs.Keeps.{KeepsStore, behind_step, spent_with, up_with}
+use Rattle.g_store_meaning.specs.StoreInvariant.{DumpFacts, IsOpen, StoreFacts, content_in}
+use Rattle.g_dumper.specs.Invariant.{KeepsStore, behind_step, spent_with, up_with}
 use Rattle.g_dumper.specs.Steps.{Stepping}
 use Rattle.g_dumper.proofs.KeepLemmas.{content_told}
 use Rattle.g_store.specs.Dumping.{KeepsDumps, LeavesOpen, NoneRose, Progresses, StepsAs, is_stop_at}

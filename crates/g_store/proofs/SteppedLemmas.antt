@@ -26,15 +26,15 @@ use Rattle.g_online.specs.Change.{closed}
 use Rattle.g_online.specs.Outcomes.{HasClosed, StoppedClosing}
 use Rattle.g_incr.specs.Layout.{Dump}
 use Rattle.g_incr.specs.Plan.{IsContentAt, dump_of, needs}
-use Rattle.g_shelf.specs.Completed.{AreShelved, all_dumps}
+use Rattle.g_shelf.specs.CompletedDumps.{AreShelved, all_dumps}
 use Rattle.g_store_model.specs.State as state
 use Rattle.g_store_model.specs.CallStep.{Cut, DiscRead, Outcome, Plain, down}
 use Rattle.g_store_model.specs.DumpSteps.{Completed, DumpStep, Going, Stepped, UsedByCut, completed, kept_now, marked, shelved, uses, with_noted, with_shelved, with_used, writes_content}
 use Rattle.g_store_meaning.specs.Answers.{Belongs, IsStore, Raised, Told}
-use Rattle.g_store_meaning.specs.Belong.{DiscBelongs, KeepsFile}
+use Rattle.g_store_meaning.specs.Belonging.{DiscBelongs, KeepsFile}
 use Rattle.g_store_meaning.specs.Meaning.{DumpedDirectory, told_reels}
 use Rattle.g_store_meaning.specs.Reading.{AllTold, HasText, IsView, Opened, OpensTo, StandsForState, View, dumped_of, holding_of, names_of, open_of, own_of, places_of, row_of, shelved_of, state_up, tree_by, users_not_in, waiting_of}
-use Rattle.g_store_meaning.specs.Up.{DumpFacts, IsOpen, IsReady, IsUp, StoreFacts, content_in, with_dump}
+use Rattle.g_store_meaning.specs.StoreInvariant.{DumpFacts, IsOpen, IsReady, IsUp, StoreFacts, content_in, with_dump}
 use Rattle.g_store_meaning.proofs.DirectoryLemmas.{copied_recs}
 use Rattle.g_laws_store.proofs.ClosingLemmas.{closing_stays}
 use Rattle.g_laws_store.proofs.PinLemmas.{OtherStamp}
@@ -44,7 +44,7 @@ use Rattle.g_laws_memory.specs.Rooms.{held_in}
 use Rattle.g_laws_memory.proofs.PlaceLemmas.{places_go_by_change}
 use Rattle.g_laws_memory.proofs.RoomLemmas.{files_apart}
 use Rattle.g_store_calls.proofs.SeenLemmas.{Seen, stands}
-use Rattle.g_dumper.specs.Keeps.{spent_with, up_with}
+use Rattle.g_dumper.specs.Invariant.{spent_with, up_with}
 use Rattle.g_dumper.specs.Steps.{Abandoned, FailedWrite, WroteBlock}
 use Rattle.g_dumper.proofs.BeginLemmas.{reel_named}
 use Rattle.g_dumper.proofs.IntentLemmas.{rules_here}

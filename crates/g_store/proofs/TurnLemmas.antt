@@ -15,14 +15,14 @@ use Rattle.g_plain.specs.PlainStep.{first_fault}
 use Rattle.g_disc_contents.specs.Contents.{Contents, File}
 use Rattle.g_disc_contents.specs.Facts.{OnlineFacts}
 use Rattle.g_incr.specs.Plan.{Plan, dump_of}
-use Rattle.g_shelf.specs.Completed.{AreShelved}
+use Rattle.g_shelf.specs.CompletedDumps.{AreShelved}
 use Rattle.g_store_model.specs.State as state
 use Rattle.g_store_model.specs.CallStep.{Outcome, Plain}
 use Rattle.g_store_model.specs.DumpSteps as dumps
 use Rattle.g_store_meaning.specs.Answers.{Belongs, IsStore, Told, WroteCommits}
 use Rattle.g_store_meaning.specs.Meaning.{told_reels}
 use Rattle.g_store_meaning.specs.Reading.{AllTold, HasText, IsOpenView, IsRackView, IsView, OpensTo, Opened, StandsForState, View, open_of, state_up}
-use Rattle.g_store_meaning.specs.Up.{DumpFacts, IsOpen, IsUp, StoreFacts, with_dump}
+use Rattle.g_store_meaning.specs.StoreInvariant.{DumpFacts, IsOpen, IsUp, StoreFacts, with_dump}
 use Rattle.g_store_meaning.proofs.StayLemmas.{stays_open}
 use Rattle.g_laws_store.proofs.DumpingLemmas.{events_stay_up}
 use Rattle.g_laws_store.proofs.TiedLemmas.{devices_belong}

@@ -13,7 +13,7 @@ use Rattle.g_incr.specs.Layout.{Dump}
 use Rattle.g_store_model.specs.State as state
 use Rattle.g_store_model.specs.DumpSteps.{with_shelved, with_used}
 use Rattle.g_store_meaning.specs.Reading.{row_of, shelved_of}
-use Rattle.g_store_meaning.specs.Up.{with_dump}
+use Rattle.g_store_meaning.specs.StoreInvariant.{with_dump}
 use Rattle.g_laws_store.proofs.RecordLemmas.{pairs_head, pairs_tail}
 use Rattle.g_dumper.proofs.BeginLemmas.{reel_named}
 

@@ -2,7 +2,7 @@
 use Rattle.g_store_model.specs.State.{State}
 use Rattle.g_store_meaning.specs.Answers.{Belongs, Told}
 use Rattle.g_store_meaning.specs.Reading.{StandsForState}
-use Rattle.g_store_meaning.specs.Up.{StoreFacts}
+use Rattle.g_store_meaning.specs.StoreInvariant.{StoreFacts}
 
 pub record MeansTheSame (old new : StoreFacts) : Type 0 where
   pub told : Told old → Told new

@@ -8,10 +8,10 @@ use Rattle.g_store_model.specs.DumpSteps.{Completed, Going, Stepped}
 use Rattle.g_disc_contents.specs.Facts.{Pin}
 use Rattle.g_incr.specs.Layout.{Dump}
 use Rattle.g_incr.specs.Plan.{dump_of, needs}
-use Rattle.g_shelf.specs.Completed.{AreShelved}
+use Rattle.g_shelf.specs.CompletedDumps.{AreShelved}
 use Rattle.g_store_meaning.specs.Answers.{Belongs, Told}
 use Rattle.g_store_meaning.specs.Meaning.{told_reels}
-use Rattle.g_store_meaning.specs.Up.{DumpFacts, StoreFacts, content_in, with_dump}
+use Rattle.g_store_meaning.specs.StoreInvariant.{DumpFacts, StoreFacts, content_in, with_dump}
 use Rattle.g_dumper.specs.Beginning.{Begins, IsTooLong, StoppedOpening}
 use Rattle.g_dumper.specs.Steps.{Stepping}
 

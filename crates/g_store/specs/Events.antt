@@ -10,7 +10,7 @@ use Rattle.g_plain.specs.PlainTree.{input_name}
 use Rattle.g_store_model.specs.State.{State, Holding, OpenDump}
 use Rattle.g_store_model.specs.CallStep.{Outcome, Plain}
 use Rattle.g_store_model.specs.DumpSteps.{OpenStep, DumpStep, Stepped, Going, Completed, MigrateStep, MountStep, UnmountStep, migrate_refuses}
-use Rattle.g_store_meaning.specs.Up.{StoreFacts}
+use Rattle.g_store_meaning.specs.StoreInvariant.{StoreFacts}
 use Rattle.g_store_meaning.specs.Reading.{StandsForState, holding_of}
 use Rattle.g_store_meaning.specs.Answers.{Belongs, HasCause, IsStore, Raised, Told, WroteCommits}
 use Rattle.g_disc_contents.specs.Contents.{recs_in}

@@ -1,5 +1,5 @@
 pub mod Arming
-pub mod Complete
+pub mod Completeness
 pub mod Dumping
 pub mod Events
 pub mod Making

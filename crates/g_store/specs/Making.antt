@@ -3,12 +3,12 @@ use Rattle.std.specs.Prelude.{◌≡◌, ◌≢◌, ◌⊎◌, ℕ, ◌↔◌, t
 use Rattle.std.specs.Option.{ForSome}
 use Rattle.std.specs.FinMap.{empty}
 use Rattle.g_base.specs.Counts.{Rose}
-use Rattle.g_base.specs.Told.{Changes}
+use Rattle.g_base.specs.ToldContent.{Changes}
 use Rattle.g_disc.specs.Disc.{Causes, DiscState}
 use Rattle.g_entry.specs.declared.head.Intent.{Intent}
 use Rattle.g_tape.specs.Rack.{Rack, is_mounted, reel}
 use Rattle.g_tape.specs.Reads.{OnlyReads}
-use Rattle.g_shelf.specs.Last.{first_unmounted}
+use Rattle.g_shelf.specs.LastDump.{first_unmounted}
 use Rattle.g_plain.specs.declared.faults.StoreFault.{StoreFault}
 use Rattle.g_plain.specs.declared.faults.StoreFault.TheVariants.{NoMemory, NoFilestore, NoDump, DiscReadFault, TapeReadFault, Stopped, RackNotEmpty, RackNotMounted, MountFirst}
 use Rattle.g_plain.specs.PlainTree.{formatted}
@@ -17,13 +17,13 @@ use Rattle.g_store_model.specs.CallStep.{Outcome, Plain, DiscRead, TapeRead, Cut
 use Rattle.g_store_model.specs.Rising.{FormatStep, StartStep, RestoreStep}
 use Rattle.g_disc_contents.specs.Contents.{Contents, Holds, has}
 use Rattle.g_disc_contents.specs.Facts.{OnlineFacts}
-use Rattle.g_online.specs.Begun.{AsBeforeOr, HasLoaded, WroteFirst}
-use Rattle.g_restore.specs.Lost.{LostIsNamed}
+use Rattle.g_online.specs.Beginning.{AsBeforeOr, HasLoaded, WroteFirst}
+use Rattle.g_restore.specs.Losses.{LostIsNamed}
 use Rattle.g_restore.specs.Reels.{AreOnReels}
-use Rattle.g_restore.specs.Restored.{IsOfDisc, IsOfReels, IsRestored, NothingIsLost}
-use Rattle.g_store_meaning.specs.Belong.{Belong}
+use Rattle.g_restore.specs.Restoration.{IsOfDisc, IsOfReels, IsRestored, NothingIsLost}
+use Rattle.g_store_meaning.specs.Belonging.{Belong}
 use Rattle.g_store_meaning.specs.Meaning.{told_reels}
-use Rattle.g_store_meaning.specs.Up.{StoreFacts}
+use Rattle.g_store_meaning.specs.StoreInvariant.{StoreFacts}
 use Rattle.g_store_meaning.specs.Reading.{AllTold, DevicesStandFor, ReelsTold, StandsForState, holding_of}
 use Rattle.g_store_meaning.specs.Answers.{Belongs, IsStore, Told}
 use Rattle.g_store.specs.Refusing.{first_used}

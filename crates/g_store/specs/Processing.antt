@@ -6,7 +6,7 @@ use Rattle.g_store_model.specs.State.{State}
 use Rattle.g_store_model.specs.Process.{ProcessStep}
 use Rattle.g_store_meaning.specs.Answers.{Belongs, Told}
 use Rattle.g_store_meaning.specs.Reading.{StandsForState}
-use Rattle.g_store_meaning.specs.Up.{StoreFacts}
+use Rattle.g_store_meaning.specs.StoreInvariant.{StoreFacts}
 use Rattle.g_laws_process.specs.Moving.{DumpsMove}
 use Rattle.g_store.specs.Events.{StepsBy}
 

@@ -12,7 +12,7 @@ use Rattle.g_disc_contents.specs.Contents.{recs_in}
 use Rattle.g_disc_contents.specs.Facts.{OnlineFacts}
 use Rattle.g_incr.specs.Layout.{holds}
 use Rattle.g_incr.specs.Plan.{blocks_of, waiting}
-use Rattle.g_store_meaning.specs.Up.{DumpFacts, StoreFacts}
+use Rattle.g_store_meaning.specs.StoreInvariant.{DumpFacts, StoreFacts}
 
 -- An event that asks no device for what it holds: it is refused for this, and nothing has changed, or it is done.
 abbrev pub DoneOr : {A : Type 0} → Option StoreFault → StoreFacts → StoreFacts → Result A StoreFault → StoreFacts → Type 0

@@ -18,7 +18,7 @@ use Rattle.g_online.specs.declared.change.Change.TheVariants.{Adopt}
 use Rattle.g_online.specs.Outcomes.{HasChanged, HasStopped}
 use Rattle.g_incr.specs.declared.note.DumpNote.{DumpNote}
 use Rattle.g_incr.specs.Layout.{Dump, IsDump}
-use Rattle.g_shelf.specs.Completed.{AreCompleted}
+use Rattle.g_shelf.specs.CompletedDumps.{AreCompleted}
 use Rattle.g_store_model.specs.State.{copy_entry}
 
 -- the intent names the dump of this note

@@ -1,5 +1,5 @@
 //! What follows of the clauses of a store's making, and of a process. Laws alone.
-ghost use Rattle.g_store.specs.Complete.{MakingIsComplete, ProcessIsComplete};
+ghost use Rattle.g_store.specs.Completeness.{MakingIsComplete, ProcessIsComplete};
 
 /// Where no count of faults rose, FORMAT over empty reels, START over a disc that holds something, without an intent or with
 /// its reel mounted, and RESTORE with all reels mounted and a completed dump, where disc and rack belong together, are done,

@@ -33,7 +33,7 @@ pub struct Store<D: Disc, T: Tapes> {
 }
 
 impl<D: Disc, T: Tapes> Model for Store<D, T> {
-    ghost use Rattle.g_store_meaning.specs.Up.{StoreFacts};
+    ghost use Rattle.g_store_meaning.specs.StoreInvariant.{StoreFacts};
     ghost use Rattle.g_store_meaning.specs.Answers.{IsStore};
 
     ghost Value = { StoreFacts };

@@ -18,7 +18,7 @@ use Rattle.g_plain.specs.declared.faults.StoreFault.TheVariants.{NoUser}
 use Rattle.g_plain.specs.PlainStep.{checks}
 use Rattle.g_plain.specs.PlainTree.{Tree, UserRow, has_user}
 use Rattle.g_plain.specs.Rules.{IsWithinLimits}
-use Rattle.g_tree.specs.Asked.{zeros}
+use Rattle.g_tree.specs.AskedRecords.{zeros}
 use Rattle.g_tree.specs.Records.{ForTree, IsRecords, name_of, tree_of}
 use Rattle.g_tree.proofs.NamedLemmas.{zeros_fit}
 use Rattle.g_tree.proofs.RecordLemmas.{name_at}
@@ -27,17 +27,17 @@ use Rattle.g_disc_contents.specs.Contents.{Contents, committed, recs_in}
 use Rattle.g_disc_contents.specs.Facts.{IsTied, OnlineFacts}
 use Rattle.g_incr.specs.Layout.{holds}
 use Rattle.g_store_meaning.specs.Staying.{behind}
-use Rattle.g_store_meaning.specs.Up.{DumpFacts, IsUp}
+use Rattle.g_store_meaning.specs.StoreInvariant.{DumpFacts, IsUp}
 use Rattle.g_store_meaning.proofs.ChangeLemmas.{files_belong}
 use Rattle.g_laws_calls.specs.Calls.{marked}
 use Rattle.g_laws_calls.proofs.CallLemmas.{calls_go_by_step}
 use Rattle.g_laws_store.specs.Dumping.{WereThere}
 use Rattle.g_laws_store.proofs.DumpingLemmas.{events_stay_up}
 use Rattle.g_online.specs.declared.change.Change.TheVariants.{AddUser}
-use Rattle.g_online.specs.Allowed.{IsAllowed, KeepsRules}
+use Rattle.g_online.specs.AllowedChanges.{IsAllowed, KeepsRules}
 use Rattle.g_online.specs.Change.{changed}
 use Rattle.g_migrate.proofs.MigrationLemmas.{rules_here}
-use Rattle.g_store_calls.specs.Made.{IsNewUser}
+use Rattle.g_store_calls.specs.NewRecords.{IsNewUser}
 use Rattle.g_store_calls.specs.Replies.{RefusesAs}
 use Rattle.g_store_calls.proofs.MarkLemmas.{has_first, only_grow}
 use Rattle.g_store_calls.proofs.RecordLemmas.{IsRecorded}

@@ -12,18 +12,18 @@ use Rattle.g_disc_contents.specs.Contents.{File}
 use Rattle.g_disc_contents.specs.Facts.{Pin}
 use Rattle.g_incr.specs.Layout.{Dump}
 use Rattle.g_incr.specs.Plan.{dump_of, first_content, waiting, waits}
-use Rattle.g_shelf.specs.Completed.{AreShelved, all_dumps}
+use Rattle.g_shelf.specs.CompletedDumps.{AreShelved, all_dumps}
 use Rattle.g_store_model.specs.State.{State}
 use Rattle.g_store_meaning.specs.Answers.{Belongs, IsStore, Told}
 use Rattle.g_store_meaning.specs.Meaning.{DumpedDirectory, told_reels}
 use Rattle.g_store_meaning.specs.Reading.{AllTold, HasText, IsOpenView, IsView, Opened, OpensTo, ReelsTold, StandsForState, View, state_up}
-use Rattle.g_store_meaning.specs.Up.{DumpFacts, IsOpen, IsReady, IsUp, StoreFacts, content_in, with_dump}
+use Rattle.g_store_meaning.specs.StoreInvariant.{DumpFacts, IsOpen, IsReady, IsUp, StoreFacts, content_in, with_dump}
 use Rattle.g_store_meaning.proofs.OneLemmas.{Agree, same_dumps, shelves_agree}
 use Rattle.g_laws_calls.specs.Calls.{IsAsked}
 use Rattle.g_laws_memory.specs.Rooms.{ArePins, HasLength}
-use Rattle.g_laws_memory.specs.Unjam.{ArePlanned}
+use Rattle.g_laws_memory.specs.UnjamPlan.{ArePlanned}
 use Rattle.g_laws_memory.proofs.NeedsLemmas.{pins_differ}
-use Rattle.g_online.specs.Allowed.{KeepsRules}
+use Rattle.g_online.specs.AllowedChanges.{KeepsRules}
 use Rattle.g_migrate.proofs.MigrationLemmas.{rules_here}
 use Rattle.g_store_calls.specs.Answering.{KeepsPlan}
 use Rattle.g_store_calls.proofs.SeenLemmas.{Seen, seen, stands}

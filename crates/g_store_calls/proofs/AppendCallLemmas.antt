@@ -15,7 +15,7 @@ use Rattle.g_plain.specs.declared.faults.StoreFault.{StoreFault}
 use Rattle.g_plain.specs.declared.faults.StoreFault.TheVariants.{DiscFull, DiscReadFault, NoCopy, NoMemory, NoUser, Stopped, TapeReadFault, WaitTape}
 use Rattle.g_plain.specs.PlainStep.{checks}
 use Rattle.g_plain.specs.PlainTree.{FileRow, Tree, file_row, has_user, input_name}
-use Rattle.g_tree.specs.Asked.{zeros}
+use Rattle.g_tree.specs.AskedRecords.{zeros}
 use Rattle.g_tree.specs.Records.{IsRecords, file_row_of, full_of, tree_of}
 use Rattle.g_tree.proofs.NamedLemmas.{zeros_fit}
 use Rattle.g_tree.proofs.RecordLemmas.{numbers_apart}
@@ -24,17 +24,17 @@ use Rattle.g_tree.proofs.RuleLemmas.{one_of_key}
 use Rattle.g_disc_contents.specs.Contents.{File, recs_in}
 use Rattle.g_disc_contents.specs.Facts.{IsTied, OnlineFacts}
 use Rattle.g_store_meaning.specs.Answers.{Answers, IsStore}
-use Rattle.g_store_meaning.specs.Up.{StoreFacts}
+use Rattle.g_store_meaning.specs.StoreInvariant.{StoreFacts}
 use Rattle.g_laws_calls.specs.Calls.{IsVersionOf}
 use Rattle.g_laws_memory.proofs.WaitingLemmas.{from_mapped, mapped_there}
 use Rattle.g_online.specs.declared.change.Change.TheVariants.{PutFile}
 use Rattle.g_migrate.proofs.MigrationLemmas.{rules_here}
-use Rattle.g_retrieve.specs.Brought.{HasCopied}
+use Rattle.g_retrieve.specs.Retrieval.{HasCopied}
 use Rattle.g_store_calls.specs.Answering.{AnswersOver, KeepsPlan, with_devices}
 use Rattle.g_store_calls.specs.Appending.{HasAppended, HasPutBehind, IsAtHand, IsOldText, version_of}
-use Rattle.g_store_calls.specs.Applied.{answer_with}
+use Rattle.g_store_calls.specs.AppliedChange.{answer_with}
 use Rattle.g_store_calls.specs.Kinds.{IsKind}
-use Rattle.g_store_calls.specs.Made.{IsFileAt}
+use Rattle.g_store_calls.specs.NewRecords.{IsFileAt}
 use Rattle.g_store_calls.specs.Replies.{RefusesAs}
 use Rattle.g_store_calls.proofs.AppendLemmas.{failed_answer, full_answer, lost_answer, starved, unread_answer, waits_answer}
 use Rattle.g_store_calls.proofs.AppendedLemmas.{causes_over, changed_over, done_answers, stopped_answers, stopped_over}

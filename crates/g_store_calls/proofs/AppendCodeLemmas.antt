@@ -20,14 +20,14 @@ use Rattle.g_online.specs.declared.change.Change.TheVariants.{PutFile}
 use Rattle.g_online.specs.declared.fault.OnlineFault.{OnlineFault}
 use Rattle.g_online.specs.declared.fault.OnlineFault.TheVariants as online
 use Rattle.g_online.specs.declared.unjam.Unjam.{Unjam}
-use Rattle.g_online.specs.Allowed.{Lies}
+use Rattle.g_online.specs.AllowedChanges.{Lies}
 use Rattle.g_online.specs.Faults.{store_fault_of}
 use Rattle.g_laws_memory.proofs.UnjamLemmas.{numbers_apart}
 use Rattle.g_migrate.proofs.MigrationLemmas.{rules_here}
-use Rattle.g_retrieve.specs.Brought.{HasReadCopy, IsOnTape}
+use Rattle.g_retrieve.specs.Retrieval.{HasReadCopy, IsOnTape}
 use Rattle.g_retrieve.proofs.AllowLemmas.{away_filled}
 use Rattle.g_store_calls.specs.Appending.{HasAppended, version_of}
-use Rattle.g_store_calls.specs.Applied.{HasApplied}
+use Rattle.g_store_calls.specs.AppliedChange.{HasApplied}
 use Rattle.g_store_calls.specs.Asking.{HasAsked, HasPlanned}
 use Rattle.g_store_calls.proofs.FaultLemmas.{IsReadFault, Unread, full_no_read, none_no_read, stop_no_read}
 use Rattle.g_store_calls.proofs.AppendPartLemmas.{asked_none, copy_text, disc_asked, nothing_asked, tapes_read, then_put, undisclosed, unplanned, unread}

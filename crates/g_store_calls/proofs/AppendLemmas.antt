@@ -25,12 +25,12 @@ use Rattle.g_store_model.specs.CallStep.{CallStep, DiscRead, IsUnjam, Outcome, P
 use Rattle.g_store_meaning.specs.Answers.{Answers, Belongs, IsLostCopy, IsStore, Told, WantsCopy}
 use Rattle.g_store_meaning.specs.Meaning.{told_reels}
 use Rattle.g_store_meaning.specs.Reading.{AllTold, HasText, IsView, View, state_up}
-use Rattle.g_store_meaning.specs.Up.{StoreFacts}
+use Rattle.g_store_meaning.specs.StoreInvariant.{StoreFacts}
 use Rattle.g_laws_memory.specs.Rooms.{held_in}
-use Rattle.g_laws_memory.specs.Unjam.{ArePlanned, IsUnjamPlan}
+use Rattle.g_laws_memory.specs.UnjamPlan.{ArePlanned, IsUnjamPlan}
 use Rattle.g_laws_memory.proofs.UnjamLemmas.{unjam_is}
-use Rattle.g_retrieve.specs.Brought.{IsNowhere, IsOnTape}
-use Rattle.g_retrieve.specs.Keeps.{HasLostCopy, IsOver}
+use Rattle.g_retrieve.specs.Retrieval.{IsNowhere, IsOnTape}
+use Rattle.g_retrieve.specs.Invariant.{HasLostCopy, IsOver}
 use Rattle.g_retrieve.proofs.HeldLemmas.{is_lost}
 use Rattle.g_store_calls.specs.Answering.{KeepsPlan, with_devices}
 use Rattle.g_store_calls.specs.Appending.{IsAtHand, IsAway, IsFor}

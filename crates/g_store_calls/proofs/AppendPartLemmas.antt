@@ -17,14 +17,14 @@ use Rattle.g_disc_contents.specs.Contents.{File, recs_in}
 use Rattle.g_disc_contents.specs.Facts.{IsTied, OnlineFacts}
 use Rattle.g_online.specs.declared.change.Change.TheVariants.{PutFile}
 use Rattle.g_online.specs.declared.unjam.Unjam.{Unjam}
-use Rattle.g_online.specs.Allowed.{IsAllowed}
+use Rattle.g_online.specs.AllowedChanges.{IsAllowed}
 use Rattle.g_migrate.proofs.MigrationLemmas.{rules_here}
-use Rattle.g_laws_memory.specs.Unjam.{IsUnjamPlan}
+use Rattle.g_laws_memory.specs.UnjamPlan.{IsUnjamPlan}
 use Rattle.g_laws_memory.proofs.WaitingLemmas.{mapped_there}
-use Rattle.g_retrieve.specs.Brought.{HasCopied, HasReadCopy, IsOnTape, IsTapeRefusal, ReadsTapes}
+use Rattle.g_retrieve.specs.Retrieval.{HasCopied, HasReadCopy, IsOnTape, IsTapeRefusal, ReadsTapes}
 use Rattle.g_retrieve.proofs.BackLemmas.{named}
 use Rattle.g_store_calls.specs.Appending.{HasAppended, HasPutBehind, IsAtHand, IsAway, IsOldText, version_of}
-use Rattle.g_store_calls.specs.Applied.{HasApplied}
+use Rattle.g_store_calls.specs.AppliedChange.{HasApplied}
 use Rattle.g_store_calls.specs.Asking.{HasAsked, HasPlanned}
 use Rattle.g_store_calls.specs.Versions.{IsNext}
 use Rattle.g_store_calls.proofs.MakeLemmas.{put_allowed}

@@ -32,15 +32,15 @@ use Rattle.g_store_model.specs.CallStep.{Plain, is_offline, len_of, place_of, ve
 use Rattle.g_store_meaning.specs.Answers.{Answers, Belongs, IsStore, ReadCopy, Told}
 use Rattle.g_store_meaning.specs.Meaning.{IsContent, told_reels}
 use Rattle.g_store_meaning.specs.Reading.{AllTold, HasText, IsView, ReelsTold, StandsForState, View, state_up}
-use Rattle.g_store_meaning.specs.Up.{StoreFacts}
+use Rattle.g_store_meaning.specs.StoreInvariant.{StoreFacts}
 use Rattle.g_store_meaning.proofs.ViewLemmas.{reads_belong}
 use Rattle.g_laws_calls.specs.Calls.{IsVersionOf, version_made}
 use Rattle.g_laws_memory.specs.Rooms.{held_in}
-use Rattle.g_laws_memory.specs.Unjam.{IsUnjamPlan}
+use Rattle.g_laws_memory.specs.UnjamPlan.{IsUnjamPlan}
 use Rattle.g_online.specs.declared.change.Change.{Change}
 use Rattle.g_online.specs.declared.change.Change.TheVariants.{PutFile}
 use Rattle.g_online.specs.Outcomes.{HasChanged, HasStopped}
-use Rattle.g_retrieve.specs.Brought.{HasCopied}
+use Rattle.g_retrieve.specs.Retrieval.{HasCopied}
 use Rattle.g_retrieve.proofs.HeldLemmas.{copied_one}
 use Rattle.g_retrieve.proofs.KeepsLemmas.{keeps_same}
 use Rattle.g_store_calls.specs.Answering.{KeepsPlan}

@@ -17,20 +17,20 @@ use Rattle.g_disc_contents.specs.Contents.{Contents, File, contents_of, file_of,
 use Rattle.g_disc_contents.specs.Facts.{OnlineFacts, Pin}
 use Rattle.g_incr.specs.Layout.{Dump}
 use Rattle.g_incr.specs.Plan.{dump_of, first_content, waiting, waits}
-use Rattle.g_shelf.specs.Completed.{all_dumps}
+use Rattle.g_shelf.specs.CompletedDumps.{all_dumps}
 use Rattle.g_store_model.specs.State.{State}
 use Rattle.g_store_meaning.specs.Answers.{Belongs, IsStore, Told}
-use Rattle.g_store_meaning.specs.Belong.{KeepsFile}
+use Rattle.g_store_meaning.specs.Belonging.{KeepsFile}
 use Rattle.g_store_meaning.specs.Laws.{with_text}
 use Rattle.g_store_meaning.specs.Meaning.{DumpedDirectory, IsContent, told_reels}
 use Rattle.g_store_meaning.specs.Reading.{AllTold, HasText, IsOpenView, IsView, Opened, OpensTo, StandsForState, View, state_up}
-use Rattle.g_store_meaning.specs.Up.{DumpFacts, IsOpen, IsReady, StoreFacts, content_in, with_dump}
+use Rattle.g_store_meaning.specs.StoreInvariant.{DumpFacts, IsOpen, IsReady, StoreFacts, content_in, with_dump}
 use Rattle.g_store_meaning.proofs.OneLemmas.{Agree, same_dumps, shelves_agree}
 use Rattle.g_laws_calls.specs.Calls.{IsAsked}
 use Rattle.g_laws_store.proofs.PinLemmas.{OtherStamp}
 use Rattle.g_laws_memory.specs.Places.{AreDistinct}
 use Rattle.g_laws_memory.specs.Rooms.{ArePins, HasLength}
-use Rattle.g_laws_memory.specs.Unjam.{ArePlanned}
+use Rattle.g_laws_memory.specs.UnjamPlan.{ArePlanned}
 use Rattle.g_laws_memory.proofs.NeedsLemmas.{pins_differ}
 use Rattle.g_laws_memory.proofs.RoomLemmas.{files_apart}
 use Rattle.g_migrate.proofs.MigrationLemmas.{rules_here}

@@ -11,13 +11,13 @@ use Rattle.g_dirs.specs.Directory.{Directory, FileEntry}
 use Rattle.g_disc_contents.specs.Contents.{Contents, File, contents_of, file_of, has, offline_in, taken_off, with_file}
 use Rattle.g_disc_contents.specs.Facts.{OnlineFacts, Pin}
 use Rattle.g_incr.specs.Layout.{Dump}
-use Rattle.g_shelf.specs.Completed.{all_dumps}
+use Rattle.g_shelf.specs.CompletedDumps.{all_dumps}
 use Rattle.g_store_meaning.specs.Answers.{Belongs, IsStore, Told}
-use Rattle.g_store_meaning.specs.Belong.{KeepsFile, KeepsRecord}
+use Rattle.g_store_meaning.specs.Belonging.{KeepsFile, KeepsRecord}
 use Rattle.g_store_meaning.specs.Laws.{with_text}
 use Rattle.g_store_meaning.specs.Meaning.{DumpedDirectory, IsContent, files_in, told_reels}
 use Rattle.g_store_meaning.specs.Reading.{AllTold, HasText, IsOpenView, IsRackView, IsView, Opened, OpensTo, View}
-use Rattle.g_store_meaning.specs.Up.{DumpFacts, StoreFacts, content_in}
+use Rattle.g_store_meaning.specs.StoreInvariant.{DumpFacts, StoreFacts, content_in}
 use Rattle.g_store_meaning.proofs.OneLemmas.{same_dumps, shelves_agree}
 use Rattle.g_laws_calls.proofs.FileLemmas.{offline_rec}
 

@@ -19,7 +19,7 @@ use Rattle.g_plain.specs.PlainStep.{with_budget}
 use Rattle.g_plain.specs.PlainTree.{has_user, user_row}
 use Rattle.g_plain.specs.Rules.{most_of}
 use Rattle.g_plain.proofs.TextMaps.{text_exact, text_total}
-use Rattle.g_tree.specs.Asked.{zeros}
+use Rattle.g_tree.specs.AskedRecords.{zeros}
 use Rattle.g_tree.specs.Records.{ForTree, IsRecords, name_of, tree_of, user_row_of, users_by_name}
 use Rattle.g_tree.proofs.MapLemmas.{found_itself, found_one, keyed}
 use Rattle.g_tree.proofs.NamedLemmas.{user_row_named, zeros_fit}
@@ -27,16 +27,16 @@ use Rattle.g_tree.proofs.RecordLemmas.{name_at}
 use Rattle.g_disc_contents.specs.Contents.{Contents, committed, recs_in}
 use Rattle.g_disc_contents.specs.Facts.{IsTied, OnlineFacts}
 use Rattle.g_store_meaning.specs.Staying.{behind}
-use Rattle.g_store_meaning.specs.Up.{DumpFacts, IsUp}
+use Rattle.g_store_meaning.specs.StoreInvariant.{DumpFacts, IsUp}
 use Rattle.g_store_meaning.proofs.ChangeLemmas.{files_belong}
 use Rattle.g_laws_calls.proofs.CallLemmas.{calls_go_by_step}
 use Rattle.g_laws_store.specs.Dumping.{WereThere}
 use Rattle.g_laws_store.proofs.DumpingLemmas.{events_stay_up}
 use Rattle.g_online.specs.declared.change.Change.TheVariants.{SetUser}
-use Rattle.g_online.specs.Allowed.{IsAllowed, KeepsRules}
+use Rattle.g_online.specs.AllowedChanges.{IsAllowed, KeepsRules}
 use Rattle.g_online.specs.Change.{changed}
 use Rattle.g_migrate.proofs.MigrationLemmas.{rules_here}
-use Rattle.g_store_calls.specs.Anew.{IsBudgeted, budgeted}
+use Rattle.g_store_calls.specs.ReplacedRecords.{IsBudgeted, budgeted}
 use Rattle.g_store_calls.specs.Replies.{RefusesAs}
 use Rattle.g_store_calls.proofs.AddLemmas.{or_false, rules_committed}
 use Rattle.g_store_calls.proofs.MarkLemmas.{only_grow}

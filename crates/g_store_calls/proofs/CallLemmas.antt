@@ -11,7 +11,7 @@ use Rattle.g_plain.specs.declared.faults.StoreFault.{StoreFault}
 use Rattle.g_plain.specs.declared.faults.StoreFault.TheVariants.{Stopped, WaitTape}
 use Rattle.g_disc_contents.specs.Facts.{OnlineFacts}
 use Rattle.g_store_meaning.specs.Answers.{Answers, IsStore}
-use Rattle.g_store_meaning.specs.Up.{StoreFacts}
+use Rattle.g_store_meaning.specs.StoreInvariant.{StoreFacts}
 use Rattle.g_store_calls.specs.Answering.{AnswersOver, KeepsPlan}
 use Rattle.g_store_calls.specs.Kinds.{IsKind, stops_call}
 

@@ -13,7 +13,7 @@ use Rattle.g_plain.specs.declared.faults.StoreFault.{StoreFault}
 use Rattle.g_plain.specs.declared.faults.StoreFault.TheVariants.{DiscFull, DiscReadFault, NoCopy, NoMemory, NoUser, Stopped, TapeReadFault, WaitTape}
 use Rattle.g_plain.specs.PlainStep.{Checks, checks, fault_of, first_fault, reply_to}
 use Rattle.g_plain.specs.PlainTree.{Tree, has_user}
-use Rattle.g_tree.specs.Asked.{zeros}
+use Rattle.g_tree.specs.AskedRecords.{zeros}
 use Rattle.g_tree.specs.Records.{HasLengths, tree_of}
 use Rattle.g_tree.proofs.NamedLemmas.{zeros_fit}
 use Rattle.g_disc_contents.specs.Contents.{Contents, File, recs_in}
@@ -23,9 +23,9 @@ use Rattle.g_store_model.specs.CallStep.{CallStep, Plain, Planned, IsUnjam, Left
 use Rattle.g_store_meaning.specs.Answers.{Answers, Did, IsStore, Leads, Steps}
 use Rattle.g_store_meaning.specs.Meaning.{told_reels}
 use Rattle.g_store_meaning.specs.Reading.{AllTold, HasText, IsView, StandsForState, View, state_up}
-use Rattle.g_store_meaning.specs.Up.{StoreFacts}
+use Rattle.g_store_meaning.specs.StoreInvariant.{StoreFacts}
 use Rattle.g_laws_memory.specs.Rooms.{held_in}
-use Rattle.g_migrate.specs.Keeps.{with_online}
+use Rattle.g_migrate.specs.Invariant.{with_online}
 use Rattle.g_store_calls.specs.Answering.{AnswersIn}
 use Rattle.g_store_calls.specs.Replies.{RefusesAs}
 use Rattle.g_store_calls.proofs.SeenLemmas.{seen}

@@ -23,18 +23,18 @@ use Rattle.g_incr.specs.Layout.{holds}
 use Rattle.g_store_meaning.specs.Directories.{IsOwnedIn}
 use Rattle.g_store_meaning.specs.Reading.{AllTold, HasText}
 use Rattle.g_store_meaning.specs.Staying.{behind}
-use Rattle.g_store_meaning.specs.Up.{DumpFacts, IsUp}
+use Rattle.g_store_meaning.specs.StoreInvariant.{DumpFacts, IsUp}
 use Rattle.g_store_meaning.proofs.ChangeLemmas.{files_belong}
 use Rattle.g_store_meaning.proofs.StayLemmas.{stays_up}
 use Rattle.g_laws_calls.specs.Calls.{IsBehind, marked}
 use Rattle.g_laws_calls.proofs.CallLemmas.{calls_go_by_step}
 use Rattle.g_laws_memory.proofs.WaitingLemmas.{from_mapped, mapped_there}
 use Rattle.g_online.specs.declared.change.Change.TheVariants.{EraseFile}
-use Rattle.g_online.specs.Allowed.{IsAllowed, KeepsRules, Lies}
+use Rattle.g_online.specs.AllowedChanges.{IsAllowed, KeepsRules, Lies}
 use Rattle.g_online.specs.Change.{changed, owner_in}
 use Rattle.g_online.proofs.FewerLemmas.{all_fewer, records_fewer}
 use Rattle.g_migrate.proofs.MigrationLemmas.{rules_here}
-use Rattle.g_store_calls.specs.Made.{IsFileAt}
+use Rattle.g_store_calls.specs.NewRecords.{IsFileAt}
 use Rattle.g_store_calls.specs.Replies.{RefusesAs}
 use Rattle.g_store_calls.proofs.AddLemmas.{or_false, rules_committed}
 use Rattle.g_store_calls.proofs.MarkLemmas.{has_first, only_grow}

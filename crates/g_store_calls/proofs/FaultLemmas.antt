@@ -9,7 +9,7 @@ use Rattle.g_disc_contents.specs.Facts.{IsTied, OnlineFacts}
 use Rattle.g_online.specs.declared.fault.OnlineFault.{OnlineFault}
 use Rattle.g_online.specs.declared.fault.OnlineFault.TheVariants.{DiscFull, ReadFault, Stopped, NoFilestore, NoMemory}
 use Rattle.g_online.specs.Faults.{store_fault_of}
-use Rattle.g_store_calls.specs.Fetched.{HasReadDisc}
+use Rattle.g_store_calls.specs.FetchedBytes.{HasReadDisc}
 
 -- what a read may answer
 abbrev pub IsReadFault : OnlineFault → Type 0

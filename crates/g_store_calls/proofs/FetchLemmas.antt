@@ -22,7 +22,7 @@ use Rattle.g_plain.specs.declared.calls.StoreReply.TheVariants.{Bytes, Retrieved
 use Rattle.g_plain.specs.declared.faults.StoreFault.{StoreFault}
 use Rattle.g_plain.specs.declared.faults.StoreFault.TheVariants.{DiscFull, DiscReadFault, NoCopy, NoMemory, Stopped, TapeReadFault, WaitTape}
 use Rattle.g_plain.specs.PlainStep.{reply_to}
-use Rattle.g_plain.specs.Plainly.{may_wait}
+use Rattle.g_plain.specs.PlainAnswers.{may_wait}
 use Rattle.g_plain.specs.Replies.{IsReplyTo}
 use Rattle.g_plain.specs.PlainTree.{FileRow, Tree, file_row, input_name}
 use Rattle.g_tree.specs.Records.{ForTree, HasLengths, IsRecords, full_of, tree_of}
@@ -34,17 +34,17 @@ use Rattle.g_store_model.specs.CallStep.{brings, new_blocks, wants_bytes, writes
 use Rattle.g_store_meaning.specs.Answers.{Answers, IsStore}
 use Rattle.g_store_meaning.specs.Meaning.{told_reels}
 use Rattle.g_store_meaning.specs.Reading.{AllTold, IsView, View}
-use Rattle.g_store_meaning.specs.Up.{StoreFacts}
+use Rattle.g_store_meaning.specs.StoreInvariant.{StoreFacts}
 use Rattle.g_laws_memory.specs.Rooms.{held_in}
 use Rattle.g_laws_memory.proofs.UnjamLemmas.{numbers_apart}
 use Rattle.g_laws_memory.proofs.WaitingLemmas.{from_mapped, mapped_there}
-use Rattle.g_retrieve.specs.Brought.{HasCopied, IsOnTape}
-use Rattle.g_retrieve.specs.Keeps.{KeepsDevices}
+use Rattle.g_retrieve.specs.Retrieval.{HasCopied, IsOnTape}
+use Rattle.g_retrieve.specs.Invariant.{KeepsDevices}
 use Rattle.g_retrieve.proofs.AllowLemmas.{away_is, rules_here}
 use Rattle.g_store_calls.specs.Answering.{AnswersOver, KeepsPlan, with_devices}
-use Rattle.g_store_calls.specs.Fetched.{ComesBack, HasComeBack, HasReadDisc, IsBackFault, IsStarved, answer_by}
+use Rattle.g_store_calls.specs.FetchedBytes.{ComesBack, HasComeBack, HasReadDisc, IsBackFault, IsStarved, answer_by}
 use Rattle.g_store_calls.specs.Kinds.{IsKind}
-use Rattle.g_store_calls.specs.Made.{IsFileAt}
+use Rattle.g_store_calls.specs.NewRecords.{IsFileAt}
 use Rattle.g_store_calls.specs.Replies.{RefusesAs}
 use Rattle.g_store_calls.proofs.BroughtLemmas.{Brings, done_then, stopped_then}
 use Rattle.g_store_calls.proofs.CalmLemmas.{texts_fit}

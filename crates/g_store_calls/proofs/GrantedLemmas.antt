@@ -15,7 +15,7 @@ use Rattle.g_plain.specs.declared.refusals.CallName.TheVariants as name
 use Rattle.g_plain.specs.Grants.{name_in}
 use Rattle.g_plain.specs.PlainTree.{Tree, input_name, output_name}
 use Rattle.g_plain.specs.Replies.{IsReplyTo}
-use Rattle.g_tree.specs.Asked.{IsGranted, zeros}
+use Rattle.g_tree.specs.AskedRecords.{IsGranted, zeros}
 use Rattle.g_tree.specs.declared.asked.Granted.{Granted}
 use Rattle.g_tree.specs.declared.asked.Granted.TheVariants.{Input, Nothing, Output}
 use Rattle.g_tree.specs.Records.{ForTree, IsRecords, full_of, name_of_file, number_of, tree_of}
@@ -24,16 +24,15 @@ use Rattle.g_disc_contents.specs.Contents.{Contents, recs_in}
 use Rattle.g_disc_contents.specs.Facts.{IsTied, OnlineFacts}
 use Rattle.g_online.specs.declared.change.Change.{Change}
 use Rattle.g_migrate.proofs.MigrationLemmas.{rules_here}
-use Rattle.g_store_calls.specs.Anew.{IsFileNamed}
 use Rattle.g_store_calls.specs.Answering.{AnswersIn}
-use Rattle.g_store_calls.specs.Applied.{HasAnswered, answer_with}
-use Rattle.g_store_calls.specs.Granted.{Grants, names_input, names_none, names_output}
+use Rattle.g_store_calls.specs.AppliedChange.{HasAnswered, answer_with}
+use Rattle.g_store_calls.specs.GrantedCalls.{Grants, names_input, names_none, names_output}
 use Rattle.g_store_calls.specs.Kinds.{IsSettled}
-use Rattle.g_store_calls.specs.Made.{GrantsFile, IsFileAt}
+use Rattle.g_store_calls.specs.NewRecords.{GrantsFile, IsFileAt}
 use Rattle.g_store_calls.specs.Replies.{IsThere, RefusesAs}
 use Rattle.g_store_calls.proofs.EraseLemmas.{file_at}
 use Rattle.g_store_calls.proofs.KindLemmas.{settled_applied}
-use Rattle.g_store_calls.proofs.RecordLemmas.{IsRecorded, recorded}
+use Rattle.g_store_calls.proofs.RecordLemmas.{IsRecorded, recorded, IsFileNamed}
 use Rattle.g_store_calls.proofs.TellLemmas.{refuses_of}
 
 -- THE FILE that a call names for input

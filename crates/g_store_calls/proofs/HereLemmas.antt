@@ -20,7 +20,7 @@ use Rattle.g_store_model.specs.CallStep.{CallStep, DiscRead, Plain, brings, brin
 use Rattle.g_store_meaning.specs.Answers.{Answers, Belongs, Did, IsStore, Leads, Told}
 use Rattle.g_store_meaning.specs.Meaning.{told_reels}
 use Rattle.g_store_meaning.specs.Reading.{HasText, IsOpenView, IsView, StandsForState, View, state_up}
-use Rattle.g_store_meaning.specs.Up.{StoreFacts}
+use Rattle.g_store_meaning.specs.StoreInvariant.{StoreFacts}
 use Rattle.g_store_meaning.proofs.StayLemmas.{dump_stays_open}
 use Rattle.g_laws_calls.proofs.CallLemmas.{calls_go_by_step}
 use Rattle.g_laws_memory.specs.Rooms.{held_in}

@@ -14,18 +14,21 @@ use Rattle.g_plain.specs.PlainStep.{reply_to}
 use Rattle.g_plain.specs.PlainTree.{Tree}
 use Rattle.g_plain.specs.Replies.{IsReplyTo}
 use Rattle.g_plain.proofs.StepAnswers.{own_fault}
-use Rattle.g_tree.specs.Asked.{zeros}
-use Rattle.g_tree.specs.Records.{tree_of}
+use Rattle.g_tree.specs.AskedRecords.{zeros}
+use Rattle.g_tree.specs.Records.{tree_of, HasLengths}
 use Rattle.g_tree.proofs.NamedLemmas.{zeros_fit}
 use Rattle.g_disc_contents.specs.Facts.{OnlineFacts}
 use Rattle.g_online.specs.declared.change.Change.{Change}
 use Rattle.g_store_meaning.specs.Answers.{Answers}
-use Rattle.g_store_meaning.specs.Up.{StoreFacts}
+use Rattle.g_store_meaning.specs.StoreInvariant.{StoreFacts}
 use Rattle.g_laws_store.specs.Refusals.{only_tells}
 use Rattle.g_store_calls.specs.Answering.{AnswersIn, AnswersOver}
-use Rattle.g_store_calls.specs.Applied.{HasApplied, answer_with}
+use Rattle.g_store_calls.specs.AppliedChange.{HasApplied, answer_with}
 use Rattle.g_store_calls.specs.Kinds.{IsKind, IsSettled}
-use Rattle.g_store_calls.specs.Replies.{RefusesAs, RepliesAs}
+use Rattle.g_store_calls.specs.Replies.{RefusesAs}
+
+abbrev pub RepliesAs : List UserRec → List FileRec → ℕ → List ℕ → StoreCall → StoreReply → Type 0
+RepliesAs users files next who call reply = (bytes : FileRec → List ℕ) → HasLengths files bytes → reply ≡ reply_to (tree_of users files bytes next) who call
 
 -- REFUSED by the plain step
 pub settled_refused : (users : List UserRec) (files : List FileRec) (next : ℕ) (who : List ℕ) (call : StoreCall) (fault : StoreFault) → RefusesAs users files next who call (Some fault) → IsSettled call (Err fault)

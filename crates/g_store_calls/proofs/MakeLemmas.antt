@@ -16,12 +16,12 @@ use Rattle.g_disc_contents.specs.Contents.{Contents, File, committed, has, offli
 use Rattle.g_disc_contents.specs.Facts.{IsTied, OnlineFacts}
 use Rattle.g_online.specs.declared.change.Change.TheVariants.{PutFile}
 use Rattle.g_online.specs.declared.fault.OnlineFault.TheVariants as online
-use Rattle.g_online.specs.Allowed.{AreUnjammable, IsAllowed, IsUnjammable, KeepsRules, Lies}
+use Rattle.g_online.specs.AllowedChanges.{AreUnjammable, IsAllowed, IsUnjammable, KeepsRules, Lies}
 use Rattle.g_online.specs.Change.{changed, told_bytes}
 use Rattle.g_online.specs.Outcomes.{IsApplied}
 use Rattle.g_store_meaning.specs.Laws.{with_version}
 use Rattle.g_laws_calls.proofs.FileLemmas.{offline_recs, recs_with}
-use Rattle.g_laws_memory.specs.Unjam.{IsUnjamPlan, is_taken}
+use Rattle.g_laws_memory.specs.UnjamPlan.{IsUnjamPlan, is_taken}
 use Rattle.g_laws_memory.proofs.UnjamLemmas.{any_found}
 use Rattle.g_laws_memory.proofs.WaitingLemmas.{mapped_there}
 use Rattle.g_migrate.proofs.MigrationLemmas.{rules_here}

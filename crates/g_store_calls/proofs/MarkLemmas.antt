@@ -6,7 +6,7 @@ use Rattle.g_incr.specs.Layout.{holds}
 use Rattle.g_disc_contents.specs.Contents.{with_number}
 use Rattle.g_store_meaning.specs.Directories.{Grows}
 use Rattle.g_store_meaning.specs.Staying.{OnlyGrow}
-use Rattle.g_store_meaning.specs.Up.{DumpFacts, StoreFacts}
+use Rattle.g_store_meaning.specs.StoreInvariant.{DumpFacts, StoreFacts}
 use Rattle.g_laws_calls.specs.Calls.{marked}
 use Rattle.g_laws_memory.proofs.UserLemmas.{apart_any, has_new}
 

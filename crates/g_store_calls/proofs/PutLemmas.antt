@@ -18,7 +18,7 @@ use Rattle.g_plain.specs.declared.faults.StoreFault.{StoreFault}
 use Rattle.g_plain.specs.declared.faults.StoreFault.TheVariants.{DiscFull, NoMemory, NoUser, Stopped}
 use Rattle.g_plain.specs.PlainStep.{checks}
 use Rattle.g_plain.specs.PlainTree.{Tree, has_file, has_user, named, newest, output_name}
-use Rattle.g_tree.specs.Asked.{zeros}
+use Rattle.g_tree.specs.AskedRecords.{zeros}
 use Rattle.g_tree.specs.Records.{ForTree, IsRecords, number_of, tree_of}
 use Rattle.g_tree.proofs.NamedLemmas.{zeros_fit}
 use Rattle.g_tree.proofs.RecordLemmas.{file_there, newest_few, newest_is}
@@ -28,12 +28,12 @@ use Rattle.g_disc_contents.specs.Facts.{IsTied, OnlineFacts}
 use Rattle.g_store_meaning.specs.Answers.{Answers, IsStore, Told}
 use Rattle.g_store_meaning.specs.Meaning.{told_reels}
 use Rattle.g_store_meaning.specs.Reading.{AllTold, IsView, View}
-use Rattle.g_store_meaning.specs.Up.{StoreFacts}
+use Rattle.g_store_meaning.specs.StoreInvariant.{StoreFacts}
 use Rattle.g_laws_calls.specs.Calls.{IsVersionOf, version_made}
 use Rattle.g_laws_memory.specs.Rooms.{held_in}
-use Rattle.g_migrate.specs.Keeps.{with_online}
+use Rattle.g_migrate.specs.Invariant.{with_online}
 use Rattle.g_store_calls.specs.Answering.{AnswersOver, KeepsPlan, with_devices}
-use Rattle.g_store_calls.specs.Applied.{answer_with}
+use Rattle.g_store_calls.specs.AppliedChange.{answer_with}
 use Rattle.g_store_calls.specs.Kinds.{IsSettled}
 use Rattle.g_store_calls.specs.Replies.{RefusesAs}
 use Rattle.g_store_calls.specs.Versions.{HasMade, HasPut, HasStoppedPut, IsFull, IsNext}

@@ -16,10 +16,10 @@ use Rattle.g_store_model.specs.CallStep.{CallStep, Outcome}
 use Rattle.g_store_meaning.specs.Answers.{Answers, Belongs, Did, IsLostCopy, IsStore, Leads, Raised, Steps, Told}
 use Rattle.g_store_meaning.specs.Meaning.{told_reels}
 use Rattle.g_store_meaning.specs.Reading.{IsOpenView, IsView, ReelsTold, StandsForState, View, state_up}
-use Rattle.g_store_meaning.specs.Up.{IsUp, StoreFacts}
+use Rattle.g_store_meaning.specs.StoreInvariant.{IsUp, StoreFacts}
 use Rattle.g_store_meaning.proofs.StayLemmas.{dump_stays_open}
 use Rattle.g_laws_memory.specs.Rooms.{held_in}
-use Rattle.g_retrieve.specs.Keeps.{IsOver}
+use Rattle.g_retrieve.specs.Invariant.{IsOver}
 use Rattle.g_retrieve.proofs.KeepsLemmas.{keeps_same}
 use Rattle.g_store_calls.specs.Answering.{with_devices}
 use Rattle.g_store_calls.specs.Asking.{HasAsked}

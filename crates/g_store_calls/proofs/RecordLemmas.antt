@@ -1,6 +1,6 @@
 -- A call that changes records by one commit, whatever store the filestore is in.
 use Rattle.std.proofs.Common.{◌≡◌, ◌≢◌, ℕ, ◌<◌, ◌≤◌, ◌+◌, Bool, true, false, List, [], ◌∷◌, length, Option, Some, None, Result, Ok, Err, refl, sym, ◌∙◌, ap, arith, inl, inr, subst, true≢false, All}
-use Rattle.std.specs.Prelude.{◌⊎◌, ◌||◌, ◌&&◌, IfSome, MatchOption, if◌then◌else◌, is_some, nat_lt, not, unwrap_or}
+use Rattle.std.specs.Prelude.{◌⊎◌, ◌||◌, ◌&&◌, IfSome, MatchOption, if◌then◌else◌, is_some, nat_lt, not, unwrap_or, Contains}
 use Rattle.std.proofs.lemmas.Bool.{false≢true, le-ltb}
 use Rattle.g_base.specs.Counts.{RoseBy}
 use Rattle.g_disc.specs.Disc.{Causes}
@@ -13,7 +13,7 @@ use Rattle.g_plain.specs.declared.calls.StoreReply.{StoreReply}
 use Rattle.g_plain.specs.declared.faults.StoreFault.{StoreFault}
 use Rattle.g_plain.specs.declared.faults.StoreFault.TheVariants.{DiscFull, DiscReadFault, NoMemory, Stopped, TapeReadFault, WaitTape}
 use Rattle.g_plain.specs.PlainStep.{fault_of, first_fault, reply_to}
-use Rattle.g_tree.specs.Records.{IsRecords}
+use Rattle.g_tree.specs.Records.{IsRecords, ForTree, full_of}
 use Rattle.g_disc_contents.specs.Commits.{Commits}
 use Rattle.g_disc_contents.specs.Contents.{Contents, File, Holds, committed, recs_in, with_intent, with_number}
 use Rattle.g_disc_contents.specs.Facts.{IsTied, OnlineFacts}
@@ -25,12 +25,12 @@ use Rattle.g_incr.specs.Layout.{Dump}
 use Rattle.g_store_model.specs.State.{Holding, State, is_candidate, is_mounted, is_taken, place_at}
 use Rattle.g_store_model.specs.CallStep.{CallStep, Cut, IsUnjam, LeftByRefusal, Plain, Planned, after_call, brings_now, down, early, is_offline, late, len_of, need, reel_of, room_until, version_read, wants_bytes, writes}
 use Rattle.g_store_meaning.specs.Answers.{Answers, Belongs, Did, IsStore, Leads, Told}
-use Rattle.g_store_meaning.specs.Belong.{DiscBelongs}
+use Rattle.g_store_meaning.specs.Belonging.{DiscBelongs}
 use Rattle.g_store_meaning.specs.Laws.{IsQuiet}
 use Rattle.g_store_meaning.specs.Meaning.{told_reels}
 use Rattle.g_store_meaning.specs.Reading.{AllTold, DevicesStandFor, HasText, IsOpenView, IsRackView, IsView, StandsForState, View, state_down, state_up}
 use Rattle.g_store_meaning.specs.Staying.{behind}
-use Rattle.g_store_meaning.specs.Up.{DumpFacts, IsOpen, IsUp, StoreFacts}
+use Rattle.g_store_meaning.specs.StoreInvariant.{DumpFacts, IsOpen, IsUp, StoreFacts}
 use Rattle.g_store_meaning.proofs.ChangeLemmas.{intents_belong}
 use Rattle.g_store_meaning.proofs.ViewLemmas.{Stands, back}
 use Rattle.g_store_meaning.proofs.StayLemmas.{stays_open}
@@ -38,12 +38,24 @@ use Rattle.g_laws_calls.specs.Calls.{IsBehind, IsKnown, marked}
 use Rattle.g_laws_store.proofs.DumpingLemmas.{events_stay_up}
 use Rattle.g_laws_store.proofs.TiedLemmas.{devices_belong, moved}
 use Rattle.g_laws_memory.specs.Rooms.{held_in}
-use Rattle.g_migrate.specs.Keeps.{with_online}
+use Rattle.g_migrate.specs.Invariant.{with_online}
 use Rattle.g_store_calls.specs.Answering.{AnswersIn}
-use Rattle.g_store_calls.specs.Applied.{HasApplied, answer_with}
-use Rattle.g_store_calls.specs.Replies.{RefusesAs, RepliesAs}
+use Rattle.g_store_calls.specs.AppliedChange.{HasApplied, answer_with}
+use Rattle.g_store_calls.specs.Replies.{RefusesAs}
 use Rattle.g_store_calls.proofs.CalmLemmas.{calmly, nothing_unjammed, same_store, step_done, texts_fit}
 use Rattle.g_store_calls.proofs.SeenLemmas.{Seen, seen, stands}
+use Rattle.g_store_calls.proofs.KindLemmas.{RepliesAs}
+use Rattle.g_entry.specs.declared.file_rec.FileRec.{FileRec}
+use Rattle.g_entry.specs.declared.user_rec.UserRec.{UserRec}
+use Rattle.g_name.specs.declared.full.Full.{Full}
+use Rattle.g_name.specs.declared.path.Path.{Path}
+use Rattle.g_plain.specs.PlainTree.{input_name}
+
+-- the file that a path names for input, and its full name
+pub record IsFileNamed (users : List UserRec) (files : List FileRec) (who : List ℕ) (path : Path) (r : FileRec) (full : Full) : Type 0 where
+  pub there : Contains files r
+  pub name_is : full_of users r ≡ full
+  pub named : ForTree users files (λ t. full ≡ input_name t who path)
 
 -- WHAT IS KNOWN of the call, of its change, of the contents that it makes, and of the users that it marks
 pub record IsRecorded (o : OnlineFacts) (who : List ℕ) (call : StoreCall) (change : Change) (e : Contents) (owners : List ℕ) (reply : StoreReply) : Type 0 where

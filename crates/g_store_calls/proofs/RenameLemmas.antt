@@ -13,7 +13,7 @@ use Rattle.g_name.specs.Grammar.{is_word}
 use Rattle.g_plain.specs.declared.calls.StoreCall.TheVariants.{Rename}
 use Rattle.g_plain.specs.declared.calls.StoreReply.TheVariants.{Renamed}
 use Rattle.g_plain.specs.PlainTree.{Tree, has_file, input_name}
-use Rattle.g_tree.specs.Asked.{zeros}
+use Rattle.g_tree.specs.AskedRecords.{zeros}
 use Rattle.g_tree.specs.Records.{IsRecords, full_of, tree_of}
 use Rattle.g_tree.proofs.NamedLemmas.{zeros_fit}
 use Rattle.g_tree.proofs.RecordLemmas.{file_there}
@@ -22,9 +22,9 @@ use Rattle.g_disc_contents.specs.Contents.{recs_in, set_rec}
 use Rattle.g_disc_contents.specs.Facts.{IsTied, OnlineFacts}
 use Rattle.g_laws_calls.proofs.CallLemmas.{calls_go_by_step}
 use Rattle.g_online.specs.declared.change.Change.TheVariants.{SetFile}
-use Rattle.g_store_calls.specs.Anew.{IsFileNamed, IsRenamed}
+use Rattle.g_store_calls.specs.ReplacedRecords.{IsRenamed}
 use Rattle.g_store_calls.specs.Replies.{RefusesAs}
-use Rattle.g_store_calls.proofs.RecordLemmas.{IsRecorded}
+use Rattle.g_store_calls.proofs.RecordLemmas.{IsRecorded, IsFileNamed}
 use Rattle.g_store_calls.proofs.SetLemmas.{found, named_in, record_of, records_set, sets}
 use Rattle.g_store_calls.proofs.TellLemmas.{granted_off}
 

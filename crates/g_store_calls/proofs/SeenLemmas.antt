@@ -4,7 +4,7 @@ use Rattle.g_store_model.specs.State.{State}
 use Rattle.g_disc_contents.specs.Facts.{OnlineFacts}
 use Rattle.g_store_meaning.specs.Meaning.{told_reels}
 use Rattle.g_store_meaning.specs.Reading.{IsOpenView, IsView, StandsForState, View, state_up}
-use Rattle.g_store_meaning.specs.Up.{DumpFacts, StoreFacts}
+use Rattle.g_store_meaning.specs.StoreInvariant.{DumpFacts, StoreFacts}
 use Rattle.g_store_meaning.proofs.ViewLemmas.{Stands, back, to}
 
 pub record Seen (s : StoreFacts) (u : State) : Type 0 where

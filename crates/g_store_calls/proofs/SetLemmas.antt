@@ -30,23 +30,24 @@ use Rattle.g_store_meaning.specs.Laws.{RecordsAnew}
 use Rattle.g_store_meaning.specs.Meaning.{IsContent}
 use Rattle.g_store_meaning.specs.Reading.{AllTold, HasText, View, state_up}
 use Rattle.g_store_meaning.specs.Staying.{AreMarked, behind}
-use Rattle.g_store_meaning.specs.Up.{DumpFacts, IsUp}
+use Rattle.g_store_meaning.specs.StoreInvariant.{DumpFacts, IsUp}
 use Rattle.g_store_meaning.proofs.ChangeLemmas.{files_belong}
 use Rattle.g_store_meaning.proofs.StayLemmas.{stays_up}
 use Rattle.g_laws_calls.specs.Calls.{IsBehind, IsKnown, IsRecordOf, marked}
 use Rattle.g_laws_memory.specs.Rooms.{held_in}
 use Rattle.g_laws_memory.proofs.WaitingLemmas.{from_mapped, mapped_there}
 use Rattle.g_online.specs.declared.change.Change.TheVariants.{SetFile}
-use Rattle.g_online.specs.Allowed.{IsAllowed, KeepsRules, Lies}
+use Rattle.g_online.specs.AllowedChanges.{IsAllowed, KeepsRules, Lies}
 use Rattle.g_online.specs.Change.{changed}
 use Rattle.g_online.proofs.CloseNoteLemmas.{pairs_map}
 use Rattle.g_online.proofs.EntryLemmas.{put-set, set_one}
 use Rattle.g_migrate.proofs.MigrationLemmas.{rules_here}
-use Rattle.g_store_calls.specs.Anew.{IsSetFile}
-use Rattle.g_store_calls.specs.Replies.{RefusesAs, RepliesAs}
+use Rattle.g_store_calls.specs.ReplacedRecords.{IsSetFile}
+use Rattle.g_store_calls.specs.Replies.{RefusesAs}
 use Rattle.g_store_calls.proofs.AddLemmas.{or_false, rules_committed}
 use Rattle.g_store_calls.proofs.MarkLemmas.{has_first, only_grow}
 use Rattle.g_store_calls.proofs.RecordLemmas.{IsRecorded}
+use Rattle.g_store_calls.proofs.KindLemmas.{RepliesAs}
 
 -- WITH ANOTHER RECORD in the place of one, of a name that no other file has, the records keep their rules
 module _ (users : List UserRec) (files : List FileRec) (is : IsRecords users files) (r old : FileRec) (there : Contains files old) (number : r.number ≡ old.number) where

@@ -24,7 +24,7 @@ use Rattle.g_plain.specs.PlainTree.{Tree, file_row, has_user, input_name, length
 use Rattle.g_plain.proofs.TextMaps.{full_exact}
 use Rattle.g_plain.proofs.TreeLemmas.{all_map, entries_found}
 use Rattle.g_tree.specs.Answers.{listed}
-use Rattle.g_tree.specs.Asked.{zeros}
+use Rattle.g_tree.specs.AskedRecords.{zeros}
 use Rattle.g_tree.specs.Records.{ForFile, ForTree, HasLengths, IsRecords, by_name, by_number, file_row_of, full_of, name_of, name_of_file, number_of, tree_of}
 use Rattle.g_tree.proofs.ListLemmas.{filter_of_map, kept_same_on, map_of_map}
 use Rattle.g_tree.proofs.MapLemmas.{found_one, keyed, with_value}
@@ -38,13 +38,14 @@ use Rattle.g_store_model.specs.CallStep.{brings_now, is_offline, need, writes}
 use Rattle.g_store_meaning.specs.Answers.{Did, IsStore, Steps}
 use Rattle.g_store_meaning.specs.Meaning.{told_reels}
 use Rattle.g_store_meaning.specs.Reading.{AllTold, StandsForState, state_up}
-use Rattle.g_store_meaning.specs.Up.{StoreFacts}
+use Rattle.g_store_meaning.specs.StoreInvariant.{StoreFacts}
 use Rattle.g_laws_calls.proofs.CallLemmas.{calls_go_by_step}
 use Rattle.g_laws_store.specs.Refusals.{only_tells}
 use Rattle.g_laws_memory.specs.Rooms.{held_in}
 use Rattle.g_store_calls.specs.Answering.{AnswersIn}
-use Rattle.g_store_calls.specs.Replies.{AreLengths, IsThere, RefusesAs, RepliesAs, row_by, row_of}
+use Rattle.g_store_calls.specs.Replies.{AreLengths, IsThere, RefusesAs, row_by, row_of}
 use Rattle.g_store_calls.proofs.CalmLemmas.{leads_same, step_done, still, texts_fit}
+use Rattle.g_store_calls.proofs.KindLemmas.{RepliesAs}
 
 -- A REPLY that changes nothing
 module _ (o : OnlineFacts) (who : List ℕ) (call : StoreCall) (live : o.live ≡ true)

@@ -20,7 +20,7 @@ use Rattle.g_plain.specs.declared.calls.StoreCall.{StoreCall}
 use Rattle.g_plain.specs.declared.calls.StoreCall.TheVariants.{TrapGo, TrapStop}
 use Rattle.g_plain.specs.declared.calls.StoreReply.TheVariants.{Done}
 use Rattle.g_plain.specs.PlainTree.{FileRow, Tree, file_row, has_user, input_name}
-use Rattle.g_tree.specs.Asked.{zeros}
+use Rattle.g_tree.specs.AskedRecords.{zeros}
 use Rattle.g_tree.specs.Records.{ForTree, IsRecords, by_name, file_row_of, full_of, name_of, traps_named, tree_of}
 use Rattle.g_tree.proofs.NamedLemmas.{zeros_fit}
 use Rattle.g_tree.proofs.RightLemmas.{found_named, row_is}
@@ -31,9 +31,9 @@ use Rattle.g_store_meaning.specs.Reading.{View}
 use Rattle.g_laws_calls.specs.Calls.{modes_by}
 use Rattle.g_laws_calls.proofs.CallLemmas.{calls_go_by_step}
 use Rattle.g_online.specs.declared.change.Change.TheVariants.{SetFile}
-use Rattle.g_store_calls.specs.Anew.{IsFileNamed, IsTrapped}
+use Rattle.g_store_calls.specs.ReplacedRecords.{IsTrapped}
 use Rattle.g_store_calls.specs.Replies.{RefusesAs}
-use Rattle.g_store_calls.proofs.RecordLemmas.{IsRecorded}
+use Rattle.g_store_calls.proofs.RecordLemmas.{IsRecorded, IsFileNamed}
 use Rattle.g_store_calls.proofs.SetLemmas.{found, named_in, record_of, records_set, sets}
 use Rattle.g_store_calls.proofs.TellLemmas.{granted_off, not_not, user_any}
 

@@ -28,21 +28,21 @@ use Rattle.g_disc_contents.specs.Contents.{Contents, File, Holds, committed, rec
 use Rattle.g_disc_contents.specs.Facts.{IsTied, OnlineFacts}
 use Rattle.g_disc_contents.proofs.HoldLemmas.{holds_one}
 use Rattle.g_online.specs.declared.change.Change.TheVariants.{PutFile}
-use Rattle.g_online.specs.Allowed.{KeepsRules}
+use Rattle.g_online.specs.AllowedChanges.{KeepsRules}
 use Rattle.g_online.specs.Change.{changed, told_bytes, with_files}
 use Rattle.g_online.specs.Outcomes.{HasChanged, HasStopped, commits_of}
 use Rattle.g_incr.specs.Layout.{Dump, holds}
-use Rattle.g_shelf.specs.Completed.{AreShelved, all_dumps}
+use Rattle.g_shelf.specs.CompletedDumps.{AreShelved, all_dumps}
 use Rattle.g_store_model.specs.State as state
 use Rattle.g_store_model.specs.CallStep.{CallStep, Cut, IsUnjam, LeftByRefusal, Plain, after_call, after_unjam, brings_now, down, is_offline, kept_intent, len_of, need, place_of, reel_of, room_until, version_read, writes}
 use Rattle.g_store_meaning.specs.Answers.{Belongs, Did, IsStore, Leads, ReadCopy, Told, Wrote}
-use Rattle.g_store_meaning.specs.Belong.{BelongWith, DiscBelongs, RackBelongs}
+use Rattle.g_store_meaning.specs.Belonging.{BelongWith, DiscBelongs, RackBelongs}
 use Rattle.g_store_meaning.specs.Directories.{IsOwnedBy}
 use Rattle.g_store_meaning.specs.Laws.{IsNewVersion, IsQuiet, with_text, with_version}
 use Rattle.g_store_meaning.specs.Meaning.{told_reels}
 use Rattle.g_store_meaning.specs.Reading.{AllTold, DevicesStandFor, IsView, StandsForState, View, holding_of, names_of, open_of, row_of, state_down, state_up, tree_by}
 use Rattle.g_store_meaning.specs.Staying.{AreMarked, behind}
-use Rattle.g_store_meaning.specs.Up.{DumpFacts, IsOpen, IsUp, StoreFacts}
+use Rattle.g_store_meaning.specs.StoreInvariant.{DumpFacts, IsOpen, IsUp, StoreFacts}
 use Rattle.g_store_meaning.proofs.BelongLemmas.{new_version_belongs}
 use Rattle.g_store_meaning.proofs.ChangeLemmas.{files_belong, intents_belong}
 use Rattle.g_store_meaning.proofs.StayLemmas.{stays_open, stays_up}
@@ -53,10 +53,10 @@ use Rattle.g_laws_calls.proofs.FileLemmas.{offline_recs}
 use Rattle.g_laws_store.proofs.DumpingLemmas.{events_stay_up}
 use Rattle.g_laws_store.proofs.TiedLemmas.{devices_belong, moved}
 use Rattle.g_laws_memory.specs.Rooms.{held_in}
-use Rattle.g_laws_memory.specs.Unjam.{ArePlanned, IsUnjamPlan}
+use Rattle.g_laws_memory.specs.UnjamPlan.{ArePlanned, IsUnjamPlan}
 use Rattle.g_laws_memory.proofs.UnjamLemmas.{unjam_is}
 use Rattle.g_laws_memory.proofs.WaitingLemmas.{mapped_there}
-use Rattle.g_migrate.specs.Keeps.{with_online}
+use Rattle.g_migrate.specs.Invariant.{with_online}
 use Rattle.g_store_calls.specs.Answering.{KeepsPlan}
 use Rattle.g_store_calls.specs.Versions.{HasRoom}
 use Rattle.g_store_calls.proofs.AddLemmas.{or_false}

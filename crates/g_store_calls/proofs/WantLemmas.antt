@@ -21,7 +21,7 @@ use Rattle.g_store_model.specs.State.{Holding, Place, State, is_mounted, mounted
 use Rattle.g_store_model.specs.CallStep.{copy_serial, is_offline, len_of, place_of, reel_of, stamp_of, version_read}
 use Rattle.g_store_meaning.specs.Meaning.{told_reels}
 use Rattle.g_store_meaning.specs.Reading.{AllTold, IsView, View, place_of as place_by, row_of, state_up}
-use Rattle.g_store_meaning.specs.Up.{DumpFacts}
+use Rattle.g_store_meaning.specs.StoreInvariant.{DumpFacts}
 use Rattle.g_laws_memory.specs.Rooms.{held_in}
 use Rattle.g_laws_memory.proofs.PlaceLemmas.{place_found}
 use Rattle.g_laws_memory.proofs.RoomLemmas.{files_apart}

@@ -7,8 +7,8 @@ use Rattle.g_plain.specs.declared.faults.StoreFault.{StoreFault}
 use Rattle.g_disc_contents.specs.Facts.{OnlineFacts}
 use Rattle.g_incr.specs.Plan.{IsPlan}
 use Rattle.g_store_meaning.specs.Answers.{Answers, IsStore}
-use Rattle.g_store_meaning.specs.Up.{DumpFacts, StoreFacts}
-use Rattle.g_migrate.specs.Keeps.{with_online}
+use Rattle.g_store_meaning.specs.StoreInvariant.{DumpFacts, StoreFacts}
+use Rattle.g_migrate.specs.Invariant.{with_online}
 
 abbrev pub AnswersIn : List ℕ → StoreCall → OnlineFacts → Result StoreReply StoreFault → OnlineFacts → Type 0
 AnswersIn who call old answer new = (s : StoreFacts) → s.online ≡ old → s.spent ≡ false → IsStore s → Answers s who call answer (with_online new s)

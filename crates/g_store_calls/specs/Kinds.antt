@@ -5,7 +5,7 @@ use Rattle.g_plain.specs.declared.calls.StoreCall.{StoreCall}
 use Rattle.g_plain.specs.declared.calls.StoreReply.{StoreReply}
 use Rattle.g_plain.specs.declared.faults.StoreFault.{StoreFault}
 use Rattle.g_plain.specs.declared.faults.StoreFault.TheVariants.{Stopped, WaitTape}
-use Rattle.g_plain.specs.Plainly.{may_wait}
+use Rattle.g_plain.specs.PlainAnswers.{may_wait}
 use Rattle.g_plain.specs.Replies.{IsReplyTo}
 
 -- rack is the one before the call

@@ -1,11 +1,11 @@
-pub mod Anew
 pub mod Answering
 pub mod Appending
-pub mod Applied
+pub mod AppliedChange
 pub mod Asking
-pub mod Fetched
-pub mod Granted
+pub mod FetchedBytes
+pub mod GrantedCalls
 pub mod Kinds
-pub mod Made
+pub mod NewRecords
+pub mod ReplacedRecords
 pub mod Replies
 pub mod Versions

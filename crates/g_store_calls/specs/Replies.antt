@@ -5,17 +5,13 @@ use Rattle.g_name.specs.declared.full.Full.{Full}
 use Rattle.g_entry.specs.declared.file_rec.FileRec.{FileRec}
 use Rattle.g_entry.specs.declared.user_rec.UserRec.{UserRec}
 use Rattle.g_plain.specs.declared.calls.StoreCall.{StoreCall}
-use Rattle.g_plain.specs.declared.calls.StoreReply.{StoreReply}
 use Rattle.g_plain.specs.declared.faults.StoreFault.{StoreFault}
-use Rattle.g_plain.specs.PlainStep.{fault_of, reply_to}
+use Rattle.g_plain.specs.PlainStep.{fault_of}
 use Rattle.g_plain.specs.PlainTree.{lengths}
 use Rattle.g_tree.specs.Records.{HasLengths, by_number, full_of, tree_of}
 
 abbrev pub RefusesAs : List UserRec → List FileRec → ℕ → List ℕ → StoreCall → Option StoreFault → Type 0
 RefusesAs users files next who call refusal = (bytes : FileRec → List ℕ) → HasLengths files bytes → refusal ≡ fault_of (tree_of users files bytes next) who call
-
-abbrev pub RepliesAs : List UserRec → List FileRec → ℕ → List ℕ → StoreCall → StoreReply → Type 0
-RepliesAs users files next who call reply = (bytes : FileRec → List ℕ) → HasLengths files bytes → reply ≡ reply_to (tree_of users files bytes next) who call
 
 -- the file of a number is there
 abbrev pub IsThere : List FileRec → ℕ → Type 0

@@ -6,7 +6,7 @@ ghost use Rattle.g_disc_contents.specs.Facts.{IsTied};
 ghost use Rattle.g_plain.specs.Rules.{IsWithinLimits};
 ghost use Rattle.g_tape.specs.Rack.{Rack};
 ghost use Rattle.g_store_calls.specs.Answering.{AnswersIn, AnswersOver};
-ghost use Rattle.g_store_calls.specs.Granted.{AnswersGrantedOver, Grants, GrantsOne, names_input, names_none, names_output};
+ghost use Rattle.g_store_calls.specs.GrantedCalls.{AnswersGrantedOver, Grants, GrantsOne, names_input, names_none, names_output};
 ghost use Rattle.g_store_calls.specs.Kinds.{IsKind, IsSettled};
 ghost use Rattle.g_store_calls.specs.Replies.{RefusesAs};
 

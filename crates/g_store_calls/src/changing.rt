@@ -2,17 +2,17 @@
 ghost use Rattle.std.specs.Prelude.{◌≡◌, ◌≤◌, None, true, ℕ};
 ghost use Rattle.g_disc_contents.specs.Facts.{IsTied};
 ghost use Rattle.g_name.specs.declared.path.Path.{Path};
-ghost use Rattle.g_online.specs.Allowed.{IsAllowed};
+ghost use Rattle.g_online.specs.AllowedChanges.{IsAllowed};
 ghost use Rattle.g_online.specs.Change.{need_of};
 ghost use Rattle.g_online.specs.Outcomes.{room_for};
 ghost use Rattle.g_plain.specs.declared.calls.StoreCall.TheVariants as call;
 ghost use Rattle.g_plain.specs.Rules.{IsWithinLimits};
 ghost use Rattle.g_tree.specs.declared.asked.Granted.TheVariants as grant;
 ghost use Rattle.g_store_calls.specs.Answering.{AnswersIn};
-ghost use Rattle.g_store_calls.specs.Applied.{HasAnswered, HasApplied};
-ghost use Rattle.g_store_calls.specs.Granted.{AnswersGranted, Grants, GrantsOne};
+ghost use Rattle.g_store_calls.specs.AppliedChange.{HasAnswered, HasApplied};
+ghost use Rattle.g_store_calls.specs.GrantedCalls.{AnswersGranted, Grants, GrantsOne};
 ghost use Rattle.g_store_calls.specs.Kinds.{IsSettled};
-ghost use Rattle.g_store_calls.specs.Made.{IsNewUser};
+ghost use Rattle.g_store_calls.specs.NewRecords.{IsNewUser};
 ghost use Rattle.g_store_calls.specs.Replies.{RefusesAs};
 
 use g_disc::Disc;

@@ -7,11 +7,11 @@ ghost use Rattle.g_entry.specs.declared.file_rec.FileRec.{FileRec};
 ghost use Rattle.g_name.specs.declared.path.Path.{Path};
 ghost use Rattle.g_plain.specs.declared.calls.StoreCall.TheVariants as call;
 ghost use Rattle.g_plain.specs.declared.calls.StoreReply.TheVariants as reply;
-ghost use Rattle.g_retrieve.specs.Keeps.{KeepsDevices};
+ghost use Rattle.g_retrieve.specs.Invariant.{KeepsDevices};
 ghost use Rattle.g_trap.specs.declared.mode_set.Mode.{Mode};
 ghost use Rattle.g_tree.specs.declared.asked.Granted.TheVariants as grant;
-ghost use Rattle.g_store_calls.specs.Fetched.{HasComeBack, HasReadDisc, answer_by};
-ghost use Rattle.g_store_calls.specs.Granted.{AnswersGrantedOver, GrantsOne};
+ghost use Rattle.g_store_calls.specs.FetchedBytes.{HasComeBack, HasReadDisc, answer_by};
+ghost use Rattle.g_store_calls.specs.GrantedCalls.{AnswersGrantedOver, GrantsOne};
 ghost use Rattle.g_store_calls.specs.Kinds.{IsKind};
 
 use g_base::blocks_for;

@@ -10,7 +10,7 @@ ghost use Rattle.g_laws_calls.specs.Calls.{IsVersionOf};
 ghost use Rattle.g_tape.specs.Rack.{Rack};
 ghost use Rattle.g_tree.specs.declared.asked.Granted.TheVariants as grant;
 ghost use Rattle.g_tree.specs.Records.{ForTree, name_of_file, number_of};
-ghost use Rattle.g_store_calls.specs.Granted.{AnswersGrantedOver, GrantsOne};
+ghost use Rattle.g_store_calls.specs.GrantedCalls.{AnswersGrantedOver, GrantsOne};
 ghost use Rattle.g_store_calls.specs.Kinds.{IsSettled};
 ghost use Rattle.g_store_calls.specs.Versions.{HasMade, IsNext};
 

@@ -9,10 +9,10 @@ ghost use Rattle.g_plain.specs.Rules.{IsWithinLimits, most_of};
 ghost use Rattle.g_trap.specs.TrapList.{IsOthers};
 ghost use Rattle.g_tree.specs.Records.{ForTree};
 ghost use Rattle.g_tree.specs.declared.asked.Granted.TheVariants as grant;
-ghost use Rattle.g_store_calls.specs.Anew.{IsBudgeted, IsRenamed, IsTrapped, budgeted};
-ghost use Rattle.g_store_calls.specs.Granted.{AnswersGranted, GrantsOne};
+ghost use Rattle.g_store_calls.specs.ReplacedRecords.{IsBudgeted, IsRenamed, IsTrapped, budgeted};
+ghost use Rattle.g_store_calls.specs.GrantedCalls.{AnswersGranted, GrantsOne};
 ghost use Rattle.g_store_calls.specs.Kinds.{IsSettled};
-ghost use Rattle.g_store_calls.specs.Made.{GrantsFile, IsFileAt};
+ghost use Rattle.g_store_calls.specs.NewRecords.{GrantsFile, IsFileAt};
 ghost use Rattle.g_store_calls.specs.Replies.{RefusesAs};
 
 use crate::changing::changed;

@@ -7,7 +7,7 @@ ghost use Rattle.g_plain.specs.declared.calls.StoreCall.TheVariants as call;
 ghost use Rattle.g_plain.specs.PlainTree as plain;
 ghost use Rattle.g_tree.specs.declared.asked.Granted.TheVariants as grant;
 ghost use Rattle.g_tree.specs.Records.{ForTree, name_of, name_of_file};
-ghost use Rattle.g_store_calls.specs.Granted.{AnswersGranted, GrantsOne};
+ghost use Rattle.g_store_calls.specs.GrantedCalls.{AnswersGranted, GrantsOne};
 ghost use Rattle.g_store_calls.specs.Kinds.{IsSettled};
 ghost use Rattle.g_store_calls.specs.Replies.{AreLengths, IsThere, row_of};
 

@@ -8,9 +8,9 @@ use Rattle.g_entry.specs.declared.file_rec.FileRec.{FileRec}
 use Rattle.g_entry.specs.declared.file_rec.TapeCopy.{TapeCopy}
 use Rattle.g_disc_contents.specs.Contents.{Contents, File, has, offline_in, taken_off}
 use Rattle.g_incr.specs.Layout.{Dump}
-use Rattle.g_shelf.specs.Completed.{all_dumps}
+use Rattle.g_shelf.specs.CompletedDumps.{all_dumps}
 use Rattle.g_store_meaning.specs.Meaning.{IsContent, files_in}
-use Rattle.g_store_meaning.specs.Belong.{KeepsFile, KeepsRecord}
+use Rattle.g_store_meaning.specs.Belonging.{KeepsFile, KeepsRecord}
 use Rattle.g_store_meaning.specs.Laws.{IsNewVersion, NewVersionBelongs, with_text}
 
 abbrev Below : ℕ → File → Type 0

@@ -9,9 +9,9 @@ use Rattle.g_entry.specs.declared.file_rec.TapeCopy.{TapeCopy}
 use Rattle.g_tape.specs.Reel.{Reel}
 use Rattle.g_disc_contents.specs.Contents.{Contents, File, brought, copy_of, has, offline_in, online_with, set_rec, taken_off, with_copies, with_copy, with_rec, without_file}
 use Rattle.g_incr.specs.Layout.{Dump}
-use Rattle.g_shelf.specs.Completed.{all_dumps}
+use Rattle.g_shelf.specs.CompletedDumps.{all_dumps}
 use Rattle.g_store_meaning.specs.Meaning.{IsContent, files_in}
-use Rattle.g_store_meaning.specs.Belong.{DiscBelongs, IsIntended, KeepsFile, KeepsRecord}
+use Rattle.g_store_meaning.specs.Belonging.{DiscBelongs, IsIntended, KeepsFile, KeepsRecord}
 use Rattle.g_store_meaning.specs.Laws.{BringsText, ClosingBelongs, FilesBelong, FormatBelongs, HasContent, IntentsBelong, RecordsAnew, RestoreBelongs, restored_file}
 use Rattle.g_store_meaning.proofs.BelongLemmas.{HasKept, Keeps, none_is}
 

@@ -11,7 +11,7 @@ use Rattle.g_disc_contents.specs.Facts.{noted}
 use Rattle.g_incr.specs.Layout.{Dump, holds}
 use Rattle.g_store_meaning.specs.Directories.{ChangesKeepOthers, ClosingKeepsDirectories, Grows, IsOwnedBy, IsOwnedIn, KeepsOthers, OthersStay}
 use Rattle.g_store_meaning.specs.Meaning.{files_of}
-use Rattle.g_store_meaning.specs.Up.{IsKept, KeepsDirectories, up_to}
+use Rattle.g_store_meaning.specs.StoreInvariant.{IsKept, KeepsDirectories, up_to}
 
 abbrev pub recs : List File → List FileRec
 recs files = map (λ f. f.rec) files

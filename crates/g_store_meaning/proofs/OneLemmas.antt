@@ -16,12 +16,12 @@ use Rattle.g_disc_contents.specs.Contents.{Contents, File, Holds, file_of, recs_
 use Rattle.g_disc_contents.proofs.HoldLemmas.{holds_one}
 use Rattle.g_incr.specs.Layout.{Dump, IsDump, content_at, ends, holds}
 use Rattle.g_incr.specs.Plan.{numbered_from, with_number}
-use Rattle.g_shelf.specs.Completed.{AreCompleted, AreNext, AreShelved, all_dumps}
+use Rattle.g_shelf.specs.CompletedDumps.{AreCompleted, AreNext, AreShelved, all_dumps}
 use Rattle.g_shelf.proofs.OneLemmas.{completed_are_one}
 use Rattle.g_store_model.specs.State as state
-use Rattle.g_store_meaning.specs.Belong.{KeepsRecord}
+use Rattle.g_store_meaning.specs.Belonging.{KeepsRecord}
 use Rattle.g_store_meaning.specs.Meaning.{DumpedDirectory, Gathers, HasDirectory, IsContent, IsGreatest, files_in, files_of, joined}
-use Rattle.g_store_meaning.specs.One.{DevicesAreOne}
+use Rattle.g_store_meaning.specs.OneState.{DevicesAreOne}
 use Rattle.g_store_meaning.specs.Reading.{AllTold, HasText, IsRackView, IsView, ReelsTold, View, dumped_of, dumped_places, holding_of, names_of, own_of, places_of, row_of, tree_by}
 
 -- REELS: each has one list of completed dumps

@@ -8,13 +8,13 @@ use Rattle.g_disc_contents.specs.Contents.{Contents, brought, set_rec, taken_off
 use Rattle.g_disc_contents.specs.Facts.{OnlineFacts, Pin}
 use Rattle.g_incr.specs.Layout.{Dump}
 use Rattle.g_incr.specs.Plan.{dump_of}
-use Rattle.g_shelf.specs.Completed.{all_dumps}
-use Rattle.g_store_meaning.specs.Belong.{DiscBelongs, RackBelongs}
+use Rattle.g_shelf.specs.CompletedDumps.{all_dumps}
+use Rattle.g_store_meaning.specs.Belonging.{DiscBelongs, RackBelongs}
 use Rattle.g_store_meaning.specs.Directories.{Grows, KeepsOthers}
 use Rattle.g_store_meaning.specs.Laws.{with_text, with_version}
 use Rattle.g_store_meaning.specs.Meaning.{told_reels}
 use Rattle.g_store_meaning.specs.Staying.{StaysUp, behind}
-use Rattle.g_store_meaning.specs.Up.{DumpFacts, IsOpen, IsReady, IsUp, StoreFacts, content_in, with_dump}
+use Rattle.g_store_meaning.specs.StoreInvariant.{DumpFacts, IsOpen, IsReady, IsUp, StoreFacts, content_in, with_dump}
 use Rattle.g_store_meaning.proofs.BelongLemmas.{new_version_belongs}
 use Rattle.g_store_meaning.proofs.ChangeLemmas.{files_belong}
 use Rattle.g_store_meaning.proofs.DirectoryLemmas.{changes_keep_others, others_stay}

@@ -5,9 +5,9 @@ use Rattle.g_tape.specs.Reel.{Reel}
 use Rattle.g_tape.specs.Rack.{Rack}
 use Rattle.g_store_model.specs.State.{State}
 use Rattle.g_disc_contents.specs.Facts.{OnlineFacts}
-use Rattle.g_store_meaning.specs.Belong.{BelongWith}
+use Rattle.g_store_meaning.specs.Belonging.{BelongWith}
 use Rattle.g_store_meaning.specs.Meaning.{told_reels}
-use Rattle.g_store_meaning.specs.Up.{DumpFacts}
+use Rattle.g_store_meaning.specs.StoreInvariant.{DumpFacts}
 use Rattle.g_store_meaning.specs.Reading.{DevicesStandFor, IsOpenView, IsView, StandsForState, View, state_up}
 use Rattle.g_store_meaning.specs.Laws.{ReadsBelong, ReadsKeepState}
 

@@ -19,12 +19,12 @@ use Rattle.g_disc_contents.specs.Contents.{File}
 use Rattle.g_disc_contents.specs.Commits.{Commits}
 use Rattle.g_disc_contents.specs.Facts.{IsTied}
 use Rattle.g_incr.specs.Layout.{Dump}
-use Rattle.g_shelf.specs.Completed.{AreShelved}
+use Rattle.g_shelf.specs.CompletedDumps.{AreShelved}
 use Rattle.g_plain.specs.PlainStep.{fault_of}
 use Rattle.g_store_model.specs.State.{State, Holding, is_mounted, is_taken}
 use Rattle.g_store_model.specs.CallStep.{Outcome, Plain, DiscRead, TapeRead, Cut, CallStep, IsUnjam, brings_now, is_offline, len_of, need, place_of, reel_of, version_read, writes}
-use Rattle.g_store_meaning.specs.Belong.{Belong}
-use Rattle.g_store_meaning.specs.Up.{StoreFacts, IsOpen, IsUp}
+use Rattle.g_store_meaning.specs.Belonging.{Belong}
+use Rattle.g_store_meaning.specs.StoreInvariant.{StoreFacts, IsOpen, IsUp}
 use Rattle.g_tree.specs.Records.{full_of}
 use Rattle.g_store_meaning.specs.Meaning.{IsContent, told_reels}
 use Rattle.g_store_meaning.specs.Reading.{AllTold, StandsForState}

@@ -9,7 +9,7 @@ use Rattle.g_disc_contents.specs.Facts.{OnlineFacts, noted}
 use Rattle.g_incr.specs.Layout.{Dump, holds}
 use Rattle.g_store_meaning.specs.Laws.{closed, with_version}
 use Rattle.g_store_meaning.specs.Meaning.{files_of}
-use Rattle.g_store_meaning.specs.Up.{KeepsDirectories, KeepsOpening}
+use Rattle.g_store_meaning.specs.StoreInvariant.{KeepsDirectories, KeepsOpening}
 
 abbrev pub Grows : List ℕ → List ℕ → Type 0
 Grows old new = (n : ℕ) → holds old n ≡ true → holds new n ≡ true

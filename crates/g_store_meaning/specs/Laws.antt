@@ -8,13 +8,13 @@ use Rattle.g_entry.specs.declared.user_rec.UserRec.{UserRec}
 use Rattle.g_tape.specs.Reel.{Reel}
 use Rattle.g_disc_contents.specs.Contents.{Contents, File, brought, set_rec, taken_off, with_copies, with_file, with_intent, without_file}
 use Rattle.g_incr.specs.Layout.{Dump}
-use Rattle.g_shelf.specs.Completed.{all_dumps}
+use Rattle.g_shelf.specs.CompletedDumps.{all_dumps}
 use Rattle.g_tape.specs.Rack.{Rack}
 use Rattle.g_tape.specs.Reads.{OnlyReads}
 use Rattle.g_store_model.specs.State.{State}
-use Rattle.g_store_meaning.specs.Up.{StoreFacts}
+use Rattle.g_store_meaning.specs.StoreInvariant.{StoreFacts}
 use Rattle.g_store_meaning.specs.Reading.{StandsForState}
-use Rattle.g_store_meaning.specs.Belong.{Belong, DiscBelongs, IsPlaced, RackBelongs}
+use Rattle.g_store_meaning.specs.Belonging.{Belong, DiscBelongs, IsPlaced, RackBelongs}
 use Rattle.g_store_meaning.specs.Meaning.{DumpedDirectory, IsContent, files_in}
 
 abbrev pub with_text : ℕ → List ℕ → (ℕ → List ℕ) → ℕ → List ℕ

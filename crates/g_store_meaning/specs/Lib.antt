@@ -1,9 +1,9 @@
 pub mod Answers
-pub mod Belong
+pub mod Belonging
 pub mod Directories
 pub mod Laws
 pub mod Meaning
-pub mod One
+pub mod OneState
 pub mod Reading
 pub mod Staying
-pub mod Up
+pub mod StoreInvariant

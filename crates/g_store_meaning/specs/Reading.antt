@@ -19,11 +19,11 @@ use Rattle.g_disc_contents.specs.Contents.{Contents, File, Holds, has, recs_in}
 use Rattle.g_disc_contents.specs.Facts.{OnlineFacts, Pin}
 use Rattle.g_incr.specs.Layout.{Dump, ends}
 use Rattle.g_incr.specs.Plan.{Plan, dump_of, needs}
-use Rattle.g_shelf.specs.Completed.{AreShelved, all_dumps}
+use Rattle.g_shelf.specs.CompletedDumps.{AreShelved, all_dumps}
 use Rattle.g_store_model.specs.State as state
 use Rattle.g_store_meaning.specs.Meaning.{IsContent, DumpedDirectory, files_in, told_reels}
-use Rattle.g_store_meaning.specs.Belong.{KeepsRecord}
-use Rattle.g_store_meaning.specs.Up.{DumpFacts, StoreFacts, content_in, with_dump}
+use Rattle.g_store_meaning.specs.Belonging.{KeepsRecord}
+use Rattle.g_store_meaning.specs.StoreInvariant.{DumpFacts, StoreFacts, content_in, with_dump}
 
 -- The rack as it would be were the open dump completed: that dump, all completed dumps then, and the directory that they give.
 pub record Opened : Type 0 where

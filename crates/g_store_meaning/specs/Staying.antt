@@ -6,7 +6,7 @@ use Rattle.g_disc_contents.specs.Contents.{Contents, File, brought, recs_in, set
 use Rattle.g_incr.specs.Layout.{Dump, holds}
 use Rattle.g_store_meaning.specs.Directories.{Grows, IsOwnedBy, IsOwnedIn}
 use Rattle.g_store_meaning.specs.Laws.{BringsText, IsNewVersion, RecordsAnew, with_text, with_version}
-use Rattle.g_store_meaning.specs.Up.{IsUp, StoreFacts}
+use Rattle.g_store_meaning.specs.StoreInvariant.{IsUp, StoreFacts}
 
 -- the store with these contents, and these users changed and touched
 abbrev pub behind : StoreFacts → Contents → List ℕ → List ℕ → StoreFacts

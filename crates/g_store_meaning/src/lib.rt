@@ -3,7 +3,7 @@
 #![tactic(auto)]
 
 ghost use Rattle.g_store_meaning.specs.Directories.{ChangesKeepOthers, ClosingKeepsDirectories, OthersStay};
-ghost use Rattle.g_store_meaning.specs.One.{DevicesAreOne};
+ghost use Rattle.g_store_meaning.specs.OneState.{DevicesAreOne};
 ghost use Rattle.g_store_meaning.specs.Staying.{StaysUp};
 ghost use Rattle.g_store_meaning.specs.Laws.{ClosingBelongs, FilesBelong, FormatBelongs, IntentsBelong, NewVersionBelongs, ReadsBelong, ReadsKeepState, RestoreBelongs};
 

@@ -15,7 +15,7 @@ use std::slice::from_ref;
 
 /// A reel whose content is told. Contracts see it as such.
 #[derive(Drop)]
-pub struct MemoryReel {
+pub(crate) struct MemoryReel {
     state: ReelState,
     store: Vec<Block>,
     times: Vec<u64>,
@@ -163,7 +163,7 @@ fn put_last(store: &mut Vec<Block>, k: usize, block: &Block)
 }
 
 /// The empty reels of these serials and capacities, in their order.
-pub fn empty_reels(alloc: Global, labels: &[(u32, u32)]) -> Result<Vec<MemoryReel>, NoMemory>
+pub(crate) fn empty_reels(alloc: Global, labels: &[(u32, u32)]) -> Result<Vec<MemoryReel>, NoMemory>
     ensures { IfOk result (λ reels. reels.items ≡ map empty_reel_of labels.now) }
 {
     let mut reels = Vec::with_capacity(alloc, labels.len())?;

@@ -6,7 +6,7 @@ ghost use Rattle.g_tape.specs.Place.{IsPlaceOf};
 use crate::memory_reel::MemoryReel;
 
 /// The place of the reel, if it is there.
-pub fn place_of(reels: &[MemoryReel], serial: u32) -> Option<usize>
+pub(crate) fn place_of(reels: &[MemoryReel], serial: u32) -> Option<usize>
     ensures { MatchOption result (reel serial reels.now ≡ None) (IsPlaceOf serial reels.now) }
 {
     for (i, reel) in reels.iter().enumerate() {

@@ -17,7 +17,7 @@ use Rattle.g_plain.specs.PlainStep.{checks, fault_of}
 use Rattle.g_plain.specs.Grants.{fault_or, granted_of, name_in}
 use Rattle.g_plain.proofs.StepKept.{all_passed, not_false}
 use Rattle.g_tree.specs.Records.{ForTree, HasLengths, IsRecords, tree_of}
-use Rattle.g_tree.specs.Asked.{IsGranted, zeros}
+use Rattle.g_tree.specs.AskedRecords.{IsGranted, zeros}
 use Rattle.g_tree.specs.declared.asked.Granted.{Granted}
 use Rattle.g_tree.proofs.FaultLemmas.{fault_same}
 use Rattle.g_tree.proofs.NamedLemmas.{zeros_fit}

@@ -4,8 +4,8 @@ use Rattle.std.specs.Map.{lookup}
 use Rattle.std.specs.BTreeMap.{is_at}
 use Rattle.std.specs.FinMap.{get, insert, remove, from_entries}
 use Rattle.g_name.specs.declared.full.Full.{Full}
-use Rattle.g_name.specs.Order.{full_cmp, full_eq}
-use Rattle.g_name.proofs.Order.{full_total, full_ties}
+use Rattle.g_name.specs.Order.{full_cmp}
+use Rattle.g_name.proofs.Order.{full_total, full_ties, full_eq}
 use Rattle.g_plain.proofs.Maps.{get-made, made_insert, made_remove}
 use Rattle.g_plain.proofs.TextMaps.{full_exact}
 

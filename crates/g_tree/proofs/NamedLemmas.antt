@@ -9,7 +9,7 @@ use Rattle.g_entry.specs.declared.file_rec.FileRec.{FileRec}
 use Rattle.g_name.proofs.Order.{full_total}
 use Rattle.g_plain.specs.PlainTree.{Tree, file_row, no_row, user_row, no_budgets}
 use Rattle.g_plain.proofs.TextMaps.{full_exact}
-use Rattle.g_tree.specs.Asked.{zeros}
+use Rattle.g_tree.specs.AskedRecords.{zeros}
 use Rattle.g_tree.specs.Records.{IsRecords, HasLengths, full_of, user_row_of, file_row_of, tree_of, users_by_name, by_name, by_number, number_of, name_of_file}
 use Rattle.g_tree.proofs.MapLemmas.{keyed, found_one}
 use Rattle.g_tree.proofs.RecordLemmas.{get_user, get_file}

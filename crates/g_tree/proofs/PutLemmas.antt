@@ -11,8 +11,8 @@ use Rattle.std.specs.Option.{option_map}
 use Rattle.std.proofs.lemmas.List.{map-append, take-append-drop, length-take-le, length-drop, get_or-take, get_or-drop, get_or_default, set_split, append-nil}
 use Rattle.std.proofs.lemmas.List.Elements.{All-cons, All-nil, All-contains, All-weaker, Contains-append_right, filter-append}
 use Rattle.g_name.specs.declared.full.Full.{Full}
-use Rattle.g_name.specs.Order.{full_cmp, full_eq}
-use Rattle.g_name.proofs.Order.{full_total, full_ties}
+use Rattle.g_name.specs.Order.{full_cmp}
+use Rattle.g_name.proofs.Order.{full_total, full_ties, full_eq}
 use Rattle.g_entry.specs.declared.user_rec.UserRec.{UserRec}
 use Rattle.g_entry.specs.declared.file_rec.FileRec.{FileRec}
 use Rattle.g_entry.specs.FileFields.{IsFile}

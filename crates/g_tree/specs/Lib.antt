@@ -4,4 +4,4 @@ pub mod State
 pub mod Codes
 pub mod Places
 pub mod Answers
-pub mod Asked
+pub mod AskedRecords

@@ -6,7 +6,7 @@ ghost use Rattle.g_plain.specs.Grants.{name_in};
 ghost use Rattle.g_plain.specs.PlainTree.{file_row, has_file};
 ghost use Rattle.g_plain.specs.PlainStep.{fault_of};
 ghost use Rattle.g_tree.specs.Records.{ForTree, HasLengths, tree_of};
-ghost use Rattle.g_tree.specs.Asked.{IsGranted, zeros};
+ghost use Rattle.g_tree.specs.AskedRecords.{IsGranted, zeros};
 
 use crate::Tree;
 use g_base::blocks_for;
@@ -50,7 +50,7 @@ impl<'a> Records<'a> {
 
 impl<'a> Questions for Records<'a> {
     ghost use Rattle.g_tree.specs.Records.{tree_of};
-    ghost use Rattle.g_tree.specs.Asked.{zeros};
+    ghost use Rattle.g_tree.specs.AskedRecords.{zeros};
 
     ghost tree = { λ s. tree_of s.tree.now.users s.tree.now.files zeros s.next };
 

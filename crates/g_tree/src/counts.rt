@@ -12,7 +12,7 @@ use std::alloc::Global;
 /// The greatest generation of each file's versions, by its full name with generation 0, and the blocks
 /// of 512 bytes of each owner's files, by the owner's number.
 #[derive(Drop)]
-pub struct Counts {
+pub(crate) struct Counts {
     generations: Index,
     blocks: Vec<u32>,
 }

@@ -11,7 +11,7 @@ use std::marker::Model;
 /// A map from full names to numbers. Contracts see it beside how many more names fit without taking
 /// memory.
 #[derive(Drop)]
-pub struct Index {
+pub(crate) struct Index {
     numbers: IndexMap<Full, u16>,
 }
 

@@ -28,7 +28,7 @@ pub fn full_of(users: &[UserRec], file: &FileRec) -> Full
 }
 
 /// Where the file of a number stands among files in order of number, or where it would stand.
-pub fn place_of(files: &[BoxedRec], number: u16) -> Result<usize, usize>
+pub(crate) fn place_of(files: &[BoxedRec], number: u16) -> Result<usize, usize>
     requires { AreNumbered files.now }
     ensures found { IfOk result (StandsAt files.now number) }
     ensures absent { IfErr result (FitsAt files.now number) }
@@ -48,7 +48,7 @@ fn is_version_of(users: &[UserRec], name: &Full, file: &FileRec) -> bool
 }
 
 /// The greatest generation of the files of this user, local name and language, or 0.
-pub fn newest_of(users: &[UserRec], name: &Full, files: &[BoxedRec]) -> u16
+pub(crate) fn newest_of(users: &[UserRec], name: &Full, files: &[BoxedRec]) -> u16
     requires { All (λ r. r.owner < length users.now) files.now }
     ensures { result ≡ newest_of users.now name.now files.now }
 {
@@ -62,7 +62,7 @@ pub fn newest_of(users: &[UserRec], name: &Full, files: &[BoxedRec]) -> u16
 }
 
 /// The greatest generation of the versions of a file among the files but the one at this place.
-pub fn newest_besides(users: &[UserRec], name: &Full, files: &[BoxedRec], place: usize) -> u16
+pub(crate) fn newest_besides(users: &[UserRec], name: &Full, files: &[BoxedRec], place: usize) -> u16
     requires owners { All (λ r. r.owner < length users.now) files.now }
     requires there { place < length files.now }
     ensures { result ≡ newest_of users.now name.now (remove files.now place) }
@@ -72,7 +72,7 @@ pub fn newest_besides(users: &[UserRec], name: &Full, files: &[BoxedRec], place:
 }
 
 /// The numbers of an owner's files by full name.
-pub fn sorted_of(
+pub(crate) fn sorted_of(
     alloc: Global,
     users: &[UserRec],
     owner: u8,

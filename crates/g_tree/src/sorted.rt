@@ -13,7 +13,7 @@ use std::marker::Model;
 
 /// Numbers by full name, in order.
 #[derive(Drop)]
-pub struct Sorted {
+pub(crate) struct Sorted {
     numbers: BTreeMap<Full, u16>,
 }
 

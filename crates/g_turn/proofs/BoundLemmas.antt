@@ -3,7 +3,7 @@ use Rattle.std.proofs.Common.{◌≡◌, ℕ, ◌+◌, ◌≤◌, Bool, true, fa
 use Rattle.std.proofs.lemmas.Bool.{ltb-false}
 use Rattle.g_base.specs.Block.{blocks_for}
 use Rattle.g_turn.specs.Bounds.{AlwaysGives, HasMore, IsKeptWithin, IsWithin, MayAnswer}
-use Rattle.g_turn.specs.Say.{set_outcome, in_error, is_over, refused, say, say_all, stopped, with_bytes}
+use Rattle.g_turn.specs.Outcomes.{set_outcome, in_error, is_over, refused, say, say_all, stopped, with_bytes}
 use Rattle.g_turn.specs.State.{Broken, Done, Full, Pending, Stop, Waits, Work}
 use Rattle.g_lines.specs.Lines.{ended}
 use Rattle.g_macro.specs.declared.outcome.EventNote.TheVariants as note
@@ -11,8 +11,8 @@ use Rattle.g_monitor.specs.JobLines.{marked}
 use Rattle.g_monitor.specs.Refusals.{error_line, fault_line}
 use Rattle.g_monitor.specs.declared.errors.CommandError.{CommandError}
 use Rattle.g_monitor.specs.declared.job_lines.Mark.TheVariants as mark
-use Rattle.g_plain.specs.Asks.{Asks, Call, Gives, and_then}
-use Rattle.g_plain.specs.Plainly.{may_wait}
+use Rattle.g_plain.specs.Programs.{Asks, Call, Gives, and_then}
+use Rattle.g_plain.specs.PlainAnswers.{may_wait}
 use Rattle.g_plain.specs.declared.calls.StoreCall.{StoreCall}
 use Rattle.g_plain.specs.declared.faults.StoreFault.{StoreFault}
 use Rattle.g_plain.specs.declared.faults.StoreFault.TheVariants as fault

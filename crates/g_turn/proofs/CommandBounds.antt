@@ -4,13 +4,13 @@ use Rattle.g_turn.specs.Bounds.{AlwaysGives}
 use Rattle.g_turn.specs.Commands.{acted, command, done_if, gone, kept, passes_document}
 use Rattle.g_turn.specs.Lines.{behind_echo, does_fired, does_line, does_read, fires, line, long_line, may_fire, says_fired, says_line, takes, to_go_on, too_long}
 use Rattle.g_turn.specs.Runs.{goes_on}
-use Rattle.g_turn.specs.Say.{in_error, say, with_levels}
+use Rattle.g_turn.specs.Outcomes.{in_error, say, with_levels}
 use Rattle.g_turn.specs.State.{AgainCommand, AgainLine, Work}
 use Rattle.g_turn.specs.Turns.{fires_unless, runs_on, runs_or_takes}
 use Rattle.g_turn.proofs.BoundLemmas.{There, error_good, gives_more, good_more, if_gives, if_good, more_some, say_good, say_there, then_gives}
 use Rattle.g_turn.proofs.RunBounds.{goes_on_good}
 use Rattle.g_turn.proofs.VerbBounds.{In, act_gives, end_gives}
-use Rattle.g_lang.specs.How.{reading}
+use Rattle.g_lang.specs.LineReader.{reading}
 use Rattle.g_lang.specs.Lines.{Reading, Said, SaidGoto, SaidIf, SaidVerb, SaidWhenever}
 use Rattle.g_lang.specs.Words.{trimmed}
 use Rattle.g_lang.specs.declared.line.Cond.{Cond}
@@ -19,8 +19,8 @@ use Rattle.g_monitor.specs.JobLines.{marked}
 use Rattle.g_monitor.specs.declared.errors.CommandError.TheVariants as errors
 use Rattle.g_monitor.specs.declared.job_lines.Mark.TheVariants as mark
 use Rattle.g_name.specs.Order.{same_text}
-use Rattle.g_plain.specs.Asks.{Gives}
-use Rattle.g_verbs.specs.How.{action_read}
+use Rattle.g_plain.specs.Programs.{Gives}
+use Rattle.g_verbs.specs.VerbReader.{action_read}
 use Rattle.g_verbs.specs.declared.action.Action.{Action}
 
 module _ (room : ℕ) (who : List ℕ) where

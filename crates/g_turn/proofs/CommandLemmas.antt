@@ -4,13 +4,13 @@ use Rattle.g_turn.specs.Causes.{GoesOn, IsHonest}
 use Rattle.g_turn.specs.Commands.{acted, command, done_if, gone, kept, passes_document}
 use Rattle.g_turn.specs.Lines.{behind_echo, does_fired, does_line, does_read, fires, line, long_line, may_fire, says_fired, says_line, takes, to_go_on, too_long}
 use Rattle.g_turn.specs.Runs.{goes_on}
-use Rattle.g_turn.specs.Say.{in_error, say, with_levels}
+use Rattle.g_turn.specs.Outcomes.{in_error, say, with_levels}
 use Rattle.g_turn.specs.State.{AgainCommand, AgainLine, Pending, Work}
 use Rattle.g_turn.specs.Turns.{begins, fires_unless, goes_on_with, runs_on, runs_or_takes, with_kept}
 use Rattle.g_turn.proofs.HonestLemmas.{error_goes, honest_then, if_goes, if_honest, not_over_goes, say_goes}
 use Rattle.g_turn.proofs.RunLemmas.{goes_on_goes}
 use Rattle.g_turn.proofs.VerbLemmas.{act_honest, end_honest}
-use Rattle.g_lang.specs.How.{reading}
+use Rattle.g_lang.specs.LineReader.{reading}
 use Rattle.g_lang.specs.Lines.{Reading, Said, SaidGoto, SaidIf, SaidVerb, SaidWhenever}
 use Rattle.g_lang.specs.Words.{trimmed}
 use Rattle.g_lang.specs.declared.line.Cond.{Cond}
@@ -19,8 +19,8 @@ use Rattle.g_monitor.specs.JobLines.{marked}
 use Rattle.g_monitor.specs.declared.errors.CommandError.TheVariants as errors
 use Rattle.g_monitor.specs.declared.job_lines.Mark.TheVariants as mark
 use Rattle.g_name.specs.Order.{same_text}
-use Rattle.g_plain.specs.Asks.{Gives}
-use Rattle.g_verbs.specs.How.{action_read}
+use Rattle.g_plain.specs.Programs.{Gives}
+use Rattle.g_verbs.specs.VerbReader.{action_read}
 use Rattle.g_verbs.specs.declared.action.Action.{Action}
 
 passes_goes : (name : List ℕ) (w : Work) → GoesOn w.stop → GoesOn (passes_document name w).stop

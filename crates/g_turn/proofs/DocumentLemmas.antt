@@ -6,12 +6,12 @@ use Rattle.g_turn.specs.Commands.{done_if}
 use Rattle.g_turn.specs.Lines.{behind_echo, does_fired, does_line, does_read, fires, line, long_line, may_fire, says_fired, says_line, takes, to_go_on, too_long}
 use Rattle.g_turn.specs.Releases.{end_job}
 use Rattle.g_turn.specs.Runs.{goes_on}
-use Rattle.g_turn.specs.Say.{in_error, say, with_levels}
+use Rattle.g_turn.specs.Outcomes.{in_error, say, with_levels}
 use Rattle.g_turn.specs.State.{AgainCommand, AgainLine, Pending, Work}
 use Rattle.g_turn.specs.Turns.{begins, fires_unless, runs_on, runs_or_takes, with_kept}
 use Rattle.g_turn.proofs.BoundLemmas.{gives_more, if_gives, then_gives}
 use Rattle.g_turn.proofs.KeptLemmas.{Keeps, KeepsLines, end_keeps, error_keeps, goes_on_keeps, said_keeps, say_keeps}
-use Rattle.g_lang.specs.How.{reading}
+use Rattle.g_lang.specs.LineReader.{reading}
 use Rattle.g_lang.specs.Lines.{Reading, Said}
 use Rattle.g_lang.specs.Words.{trimmed}
 use Rattle.g_macro.specs.Holding.{document_level}
@@ -22,7 +22,7 @@ use Rattle.g_macro.specs.declared.outcome.Outcome.{Outcome}
 use Rattle.g_monitor.specs.JobLines.{marked}
 use Rattle.g_monitor.specs.declared.errors.CommandError.TheVariants as errors
 use Rattle.g_monitor.specs.declared.job_lines.Mark.TheVariants as mark
-use Rattle.g_plain.specs.Asks.{Asks, Gives}
+use Rattle.g_plain.specs.Programs.{Asks, Gives}
 
 -- the document is there, with these lines
 abbrev pub Document : List (List ℕ) → List Level → Type 0

@@ -1,7 +1,7 @@
 -- Works that go on, and programs that are honest: what is made of others.
 use Rattle.std.proofs.Common.{◌≡◌, ℕ, Bool, true, false, List, [], ◌∷◌, ◌++◌, ◌+◌, length, nat_lt, Option, Some, None, Err, is_some, if◌then◌else◌, refl, sym, ap, subst}
 use Rattle.g_turn.specs.Causes.{GoesOn, IsHonest, IsOther, StopsAt}
-use Rattle.g_turn.specs.Say.{set_outcome, in_error, is_over, refused, say, say_all, stopped}
+use Rattle.g_turn.specs.Outcomes.{set_outcome, in_error, is_over, refused, say, say_all, stopped}
 use Rattle.g_turn.specs.State.{Broken, Full, Stop, Waits, Work}
 use Rattle.g_lines.specs.Lines.{ended}
 use Rattle.g_macro.specs.declared.outcome.EventNote.TheVariants as note
@@ -9,7 +9,7 @@ use Rattle.g_monitor.specs.JobLines.{marked}
 use Rattle.g_monitor.specs.Refusals.{error_line, fault_line}
 use Rattle.g_monitor.specs.declared.errors.CommandError.{CommandError}
 use Rattle.g_monitor.specs.declared.job_lines.Mark.TheVariants as mark
-use Rattle.g_plain.specs.Asks.{Asks, Call, Gives, and_then}
+use Rattle.g_plain.specs.Programs.{Asks, Call, Gives, and_then}
 use Rattle.g_plain.specs.declared.faults.StoreFault.{StoreFault}
 use Rattle.g_plain.specs.declared.faults.StoreFault.TheVariants as fault
 

@@ -8,7 +8,7 @@ use Rattle.g_turn.specs.Commands.{acted, command, done_if, gone, kept, passes_do
 use Rattle.g_turn.specs.Macros.{first_looked, look_up, macro_called, macro_path, second_looked}
 use Rattle.g_turn.specs.Releases.{delete, deleted, dropped, end_job, finished, given_back, release, release_all, release_each, release_one, without_readers}
 use Rattle.g_turn.specs.Runs.{Ends, Goes, Order, behind_event, behind_order, by_event, entered, goes_on, one_order, order_of, resumed, run_ended, run_orders, running_by, without_program}
-use Rattle.g_turn.specs.Say.{set_outcome, done, in_error, is_over, refused, say, say_all, stopped, with_bytes, with_levels, with_units}
+use Rattle.g_turn.specs.Outcomes.{set_outcome, done, in_error, is_over, refused, say, say_all, stopped, with_bytes, with_levels, with_units}
 use Rattle.g_turn.specs.State.{Full, Pending, Work}
 use Rattle.g_turn.specs.Uses.{ToAppend, ToAssemble, ToAssign, ToList, ToLoad, ToPut, Use, assign, fetch, fetched, loaded_by, output_kept, put_or_bad, use_bytes, with_program}
 use Rattle.g_turn.proofs.BoundLemmas.{if_gives, then_gives}
@@ -31,12 +31,12 @@ use Rattle.g_monitor.specs.declared.job_lines.Mark.TheVariants as mark
 use Rattle.g_name.specs.Order.{same_text}
 use Rattle.g_name.specs.declared.full.Full as name
 use Rattle.g_name.specs.declared.path.Path.{Path}
-use Rattle.g_peri.specs.Held.{is_assigned, is_reader, output_of, place_of, released, with_reader, with_writer}
-use Rattle.g_peri.specs.Ordered.{order_with}
+use Rattle.g_peri.specs.JobUnits.{is_assigned, is_reader, output_of, place_of, released, with_reader, with_writer}
+use Rattle.g_peri.specs.OneOrder.{order_with}
 use Rattle.g_peri.specs.declared.ordered.OrderEvent.{OrderEvent}
 use Rattle.g_peri.specs.declared.ordered.OrderEvent.TheVariants as came
 use Rattle.g_peri.specs.declared.unit.Unit as unit
-use Rattle.g_plain.specs.Asks.{Answer, Gives}
+use Rattle.g_plain.specs.Programs.{Answer, Gives}
 use Rattle.g_plain.specs.declared.calls.StoreCall.{StoreCall}
 use Rattle.g_plain.specs.declared.calls.StoreCall.TheVariants as call
 use Rattle.g_plain.specs.declared.calls.StoreReply.TheVariants.{Appended, Bytes, Made}
@@ -45,7 +45,7 @@ use Rattle.g_plain.specs.declared.faults.StoreFault.TheVariants as fault
 use Rattle.g_plan.specs.Assembly.{assembled}
 use Rattle.g_trap.specs.declared.mode_set.Mode.{Mode}
 use Rattle.g_trap.specs.declared.mode_set.Mode.TheVariants as mode
-use Rattle.g_verbs.specs.How.{action_read}
+use Rattle.g_verbs.specs.VerbReader.{action_read}
 use Rattle.g_verbs.specs.declared.action.Action.{Action}
 use Rattle.g_verbs.specs.declared.action.Action.TheVariants as action
 

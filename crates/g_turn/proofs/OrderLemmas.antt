@@ -1,15 +1,15 @@
 -- A run of the program, order by order.
 use Rattle.std.proofs.Common.{◌≡◌, ◌+◌, ◌-◌, ◌<◌, ◌≤◌, ℕ, suc, Bool, true, false, List, Option, Some, None, if◌then◌else◌, length, nat_lt, refl, sym, ap, ◌∙◌, subst, arith}
 use Rattle.g_turn.specs.Runs.{Ends, Goes, behind_event, behind_order, by_event, goes_on, next_order, order_of, run_orders}
-use Rattle.g_turn.specs.Say.{is_over, say}
+use Rattle.g_turn.specs.Outcomes.{is_over, say}
 use Rattle.g_turn.specs.State.{Work}
 use Rattle.g_turn.specs.Values.{Stepped, order_as}
 use Rattle.g_lines.specs.Lines.{ended}
 use Rattle.g_mill.specs.Machine.{Machine}
 use Rattle.g_monitor.specs.JobLines.{marked}
 use Rattle.g_monitor.specs.declared.job_lines.Mark.TheVariants as mark
-use Rattle.g_peri.specs.Held.{Held}
-use Rattle.g_peri.specs.Ordered.{order_with}
+use Rattle.g_peri.specs.JobUnits.{Held}
+use Rattle.g_peri.specs.OneOrder.{order_with}
 use Rattle.g_peri.specs.declared.ordered.OrderEvent.{OrderEvent}
 use Rattle.g_peri.specs.declared.ordered.OrderEvent.TheVariants as came
 

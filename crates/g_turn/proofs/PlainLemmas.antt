@@ -1,7 +1,7 @@
 -- Orders that tell no more than that they were done, many at once: a run goes on behind them as behind each of them.
 use Rattle.std.proofs.Common.{◌≡◌, ◌+◌, ◌<◌, ◌≤◌, ℕ, zero, suc, Bool, true, false, Option, Some, None, refl, sym, ap, ◌∙◌, arith}
 use Rattle.g_turn.specs.Runs.{Goes, behind_order, by_event, goes_on, next_order}
-use Rattle.g_turn.specs.Say.{is_over}
+use Rattle.g_turn.specs.Outcomes.{is_over}
 use Rattle.g_turn.specs.State.{Work}
 use Rattle.g_turn.proofs.OrderLemmas.{run_on}
 use Rattle.g_mill.specs.Effect.{order}
@@ -9,8 +9,8 @@ use Rattle.g_mill.specs.Machine.{Machine}
 use Rattle.g_mill.specs.Running.{RunsTo}
 use Rattle.g_mill.specs.declared.event.Event.{Event}
 use Rattle.g_mill.specs.declared.event.Event.TheVariants as event
-use Rattle.g_peri.specs.Held.{Held}
-use Rattle.g_peri.specs.Ordered.{Ordered, order_with, ordered_by}
+use Rattle.g_peri.specs.JobUnits.{Held}
+use Rattle.g_peri.specs.OneOrder.{Ordered, order_with, ordered_by}
 use Rattle.g_peri.specs.declared.ordered.OrderEvent.TheVariants as came
 
 -- behind so many orders that left this program

@@ -3,10 +3,10 @@ use Rattle.std.proofs.Common.{◌≡◌, ℕ, ◌<◌, ◌≤◌, Bool, true, fa
 use Rattle.std.proofs.lemmas.Bool.{false≢true}
 use Rattle.g_base.specs.declared.memory.NoMemory.{NoMemory}
 use Rattle.g_turn.specs.Commands.{done_if}
-use Rattle.g_turn.specs.Going.{FiredAs, IsAgain, IsReady}
+use Rattle.g_turn.specs.LineWork.{FiredAs, IsAgain, IsReady}
 use Rattle.g_turn.specs.Releases.{end_job}
 use Rattle.g_turn.specs.Runs.{goes_on}
-use Rattle.g_turn.specs.Say.{say, stopped, with_levels}
+use Rattle.g_turn.specs.Outcomes.{say, stopped, with_levels}
 use Rattle.g_turn.specs.State.{Full, Pending, Work}
 use Rattle.g_turn.specs.Steps.{RanWell}
 use Rattle.g_turn.proofs.KeptLemmas.{Keeps, KeepsLines, end_keeps, goes_on_keeps, said_keeps}
@@ -18,7 +18,7 @@ use Rattle.g_macro.specs.Replies.{Fires}
 use Rattle.g_macro.specs.declared.entry.Entry.{Entry}
 use Rattle.g_macro.specs.declared.outcome.Outcome.{Outcome}
 use Rattle.g_plain.proofs.AskLemmas.{RanInPart-none}
-use Rattle.g_plain.specs.Asks.{Answer, Asks, RanInPart}
+use Rattle.g_plain.specs.Programs.{Answer, Asks, RanInPart}
 use Rattle.g_plain.specs.declared.calls.StoreCall.{StoreCall}
 use Rattle.std.specs.Prelude.{nat_lt, if◌then◌else◌, ◌++◌, ◌+◌}
 

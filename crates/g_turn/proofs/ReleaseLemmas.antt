@@ -1,11 +1,11 @@
 -- What is done behind the release of all units.
 use Rattle.std.proofs.Common.{◌≡◌, ℕ, Bool, true, false, List, subst}
 use Rattle.g_turn.specs.Releases.{release_all}
-use Rattle.g_turn.specs.Say.{is_over}
+use Rattle.g_turn.specs.Outcomes.{is_over}
 use Rattle.g_turn.specs.State.{Work}
 use Rattle.g_turn.specs.Steps.{RanWell}
 use Rattle.g_turn.proofs.WellThen.{part_first, part_then, well_over, well_then}
-use Rattle.g_plain.specs.Asks.{Answer, Asks, RanInPart, and_then}
+use Rattle.g_plain.specs.Programs.{Answer, Asks, RanInPart, and_then}
 use Rattle.g_plain.specs.declared.calls.StoreCall.{StoreCall}
 
 module _ {S : Type 0} (answers : S → List ℕ → StoreCall → Answer → S → Type 0) (is_spent : S → Bool) (can_wait : S → ℕ → Bool) (who : List ℕ) (room : ℕ) (next : Work → Asks Work) where

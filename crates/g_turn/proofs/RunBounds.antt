@@ -1,7 +1,7 @@
 -- A run of the program keeps its orders and all other limits.
 use Rattle.std.proofs.Common.{ℕ, zero, suc, ◌+◌, ◌-◌, ◌≤◌, Bool, true, false, List, Option, Some, None, le_refl, sym, subst, arith}
 use Rattle.g_turn.specs.Runs.{Ends, Goes, Order, behind_event, behind_order, by_event, entered, goes_on, one_order, order_of, resumed, run_orders, run_over, running_by, without_program}
-use Rattle.g_turn.specs.Say.{set_outcome, in_error, is_over}
+use Rattle.g_turn.specs.Outcomes.{set_outcome, in_error, is_over}
 use Rattle.g_turn.specs.State.{Work}
 use Rattle.g_turn.proofs.BoundLemmas.{Good, error_good, good_more, if_good, say_good}
 use Rattle.g_turn.proofs.RunLemmas.{work_of}
@@ -13,7 +13,7 @@ use Rattle.g_monitor.specs.JobLines.{job_line, marked}
 use Rattle.g_monitor.specs.declared.errors.CommandError.TheVariants as errors
 use Rattle.g_monitor.specs.declared.job_lines.JobLine.TheVariants as line
 use Rattle.g_monitor.specs.declared.job_lines.Mark.TheVariants as mark
-use Rattle.g_peri.specs.Ordered.{order_with}
+use Rattle.g_peri.specs.OneOrder.{order_with}
 use Rattle.g_peri.specs.declared.ordered.OrderEvent.{OrderEvent}
 use Rattle.g_peri.specs.declared.ordered.OrderEvent.TheVariants as came
 

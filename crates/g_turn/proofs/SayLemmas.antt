@@ -2,7 +2,7 @@
 use Rattle.std.proofs.Common.{◌≡◌, ℕ, ◌+◌, ◌≤◌, Bool, true, false, true≢false, List, [], ◌∷◌, ◌++◌, length, length-append, take, drop, append_assoc, nat_lt, if◌then◌else◌, refl, sym, ap, subst, ◌∙◌}
 use Rattle.std.proofs.Math.Seq.{take-append_seam, drop-append_seam}
 use Rattle.std.proofs.lemmas.List.{take-append-drop, take-append-le}
-use Rattle.g_turn.specs.Say.{error_said, is_over, refused, say, say_all, stopped}
+use Rattle.g_turn.specs.Outcomes.{error_said, is_over, refused, say, say_all, stopped}
 use Rattle.g_turn.specs.State.{Full, Work}
 use Rattle.g_monitor.specs.Refusals.{IsPrinted, fault_line}
 use Rattle.g_plain.specs.declared.faults.StoreFault.{StoreFault}

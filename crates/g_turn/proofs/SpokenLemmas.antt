@@ -2,15 +2,15 @@
 use Rattle.std.proofs.Common.{◌≡◌, ◌∙◌, ℕ, Bool, true, List, [], ◌∷◌, Option, Some, None, Result, Ok, Err, IfSome, option_map, if◌then◌else◌, refl, sym, ap, subst}
 use Rattle.std.proofs.lemmas.Bool.{false≢true}
 use Rattle.g_turn.specs.Commands.{command, done_if}
-use Rattle.g_turn.specs.Met.{IsSpoken, Met}
+use Rattle.g_turn.specs.LineMeaning.{IsSpoken, Met}
 use Rattle.g_turn.specs.State.{Work}
 use Rattle.g_lang.specs.Lines.{IsReading, IsWritten, LineSaid, Said, SaidIf, WrittenGoto, WrittenIf, WrittenVerb, WrittenWhenever, Written, said_by}
-use Rattle.g_lang.specs.Said.{command_said, said_inside}
+use Rattle.g_lang.specs.Meaning.{command_said, said_inside}
 use Rattle.g_lang.specs.declared.line.Command.{Command}
 use Rattle.g_lang.specs.declared.line.Command.TheVariants.{Blank, Goto, If', Verb, Whenever}
 use Rattle.g_lang.specs.declared.line.Cond.{Cond}
 use Rattle.g_macro.specs.Levels.{holds}
-use Rattle.g_plain.specs.Asks.{Gives}
+use Rattle.g_plain.specs.Programs.{Gives}
 use Rattle.g_verbs.specs.Verbs.{IsActionRead}
 use Rattle.g_verbs.specs.declared.action.Action.{Action}
 use Rattle.g_verbs.specs.declared.fault.VerbFault.{VerbFault}

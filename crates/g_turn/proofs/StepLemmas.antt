@@ -3,8 +3,8 @@ use Rattle.std.proofs.Common.{◌≡◌, ◌↔◌, ℕ, Bool, true, List, Resul
 use Rattle.g_base.specs.declared.memory.NoMemory.{NoMemory}
 use Rattle.g_turn.specs.Bounds.{MayAnswer}
 use Rattle.g_turn.specs.Steps.{IsStep}
-use Rattle.g_plain.specs.Asks.{Answer, Call, Gives, IsAnswer, Ran}
-use Rattle.g_plain.specs.Plainly.{may_wait}
+use Rattle.g_plain.specs.Programs.{Answer, Call, Gives, IsAnswer, Ran}
+use Rattle.g_plain.specs.PlainAnswers.{may_wait}
 use Rattle.g_plain.specs.Replies.{IsReplyTo}
 use Rattle.g_plain.specs.declared.calls.StoreCall.{StoreCall}
 use Rattle.g_plain.specs.declared.faults.StoreFault.TheVariants as fault

@@ -5,8 +5,8 @@ use Rattle.g_mill.specs.Machine.{Machine}
 use Rattle.g_mill.specs.declared.event.Event.{Event}
 use Rattle.g_mill.specs.declared.event.Event.TheVariants as event
 use Rattle.g_name.specs.declared.path.Path.{Path}
-use Rattle.g_peri.specs.Held.{Held, at_place, with_writer}
-use Rattle.g_peri.specs.Ordered.{order_with, ordered_by, transferred}
+use Rattle.g_peri.specs.JobUnits.{Held, at_place, with_writer}
+use Rattle.g_peri.specs.OneOrder.{order_with, ordered_by, transferred}
 use Rattle.g_peri.specs.Transfer.{Area, Reply, answered, control_of, given, read_by, replied, written_by}
 
 -- as many outputs

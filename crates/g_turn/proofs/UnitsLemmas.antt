@@ -7,7 +7,7 @@ use Rattle.std.specs.Prelude.{slice_index_or, slice_set}
 use Rattle.g_turn.specs.Asking.{put, put_told}
 use Rattle.g_turn.specs.Bounds.{AlwaysGives, MayAnswer}
 use Rattle.g_turn.specs.Releases.{release_each, release_one, without_readers}
-use Rattle.g_turn.specs.Say.{set_outcome, done, is_over, refused, say, stopped, with_bytes, with_units}
+use Rattle.g_turn.specs.Outcomes.{set_outcome, done, is_over, refused, say, stopped, with_bytes, with_units}
 use Rattle.g_turn.specs.State.{Full, Work}
 use Rattle.g_turn.specs.Steps.{RanWell}
 use Rattle.g_turn.proofs.BoundLemmas.{gives_more}
@@ -19,8 +19,8 @@ use Rattle.g_monitor.specs.Refusals.{fault_line}
 use Rattle.g_monitor.specs.Replies.{last_line}
 use Rattle.g_monitor.specs.declared.job_lines.Mark.TheVariants as mark
 use Rattle.g_name.specs.declared.path.Path.{Path}
-use Rattle.g_peri.specs.Held.{Held, at_place, with_reader, with_writer}
-use Rattle.g_plain.specs.Asks.{Answer, Asks, RanInPart}
+use Rattle.g_peri.specs.JobUnits.{Held, at_place, with_reader, with_writer}
+use Rattle.g_plain.specs.Programs.{Answer, Asks, RanInPart}
 use Rattle.g_plain.specs.declared.calls.StoreCall.{StoreCall}
 use Rattle.g_plain.specs.declared.calls.StoreCall.TheVariants as call
 use Rattle.g_plain.specs.declared.calls.StoreReply.TheVariants.{Made}

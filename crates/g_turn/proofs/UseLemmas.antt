@@ -1,7 +1,7 @@
 -- What is done with a file's bytes, by what they were fetched for.
 use Rattle.std.proofs.Common.{◌≡◌, ℕ, Bool, true, false, if◌then◌else◌, List, Result, Ok, Err, length, refl, sym, subst, ◌∙◌, ap}
 use Rattle.g_turn.specs.Asking.{append, put}
-use Rattle.g_turn.specs.Say.{in_error, with_bytes}
+use Rattle.g_turn.specs.Outcomes.{in_error, with_bytes}
 use Rattle.g_turn.specs.State.{Work}
 use Rattle.g_turn.specs.Steps.{RanWell}
 use Rattle.g_turn.specs.Uses.{ToAssign, assign, fetch, listed, output_kept, put_or_bad, use_bytes}
@@ -11,9 +11,9 @@ use Rattle.g_turn.specs.declared.uses.Use.TheVariants as uses_for
 use Rattle.g_monitor.specs.declared.errors.CommandError.TheVariants as errors
 use Rattle.g_name.specs.declared.full.Full.{Full}
 use Rattle.g_name.specs.declared.path.Path.{Path}
-use Rattle.g_peri.specs.Held.{is_assigned, is_reader}
+use Rattle.g_peri.specs.JobUnits.{is_assigned, is_reader}
 use Rattle.g_peri.specs.declared.unit.Unit as unit
-use Rattle.g_plain.specs.Asks.{Answer, Asks, Gives, RanInPart}
+use Rattle.g_plain.specs.Programs.{Answer, Asks, Gives, RanInPart}
 use Rattle.g_plain.specs.declared.calls.StoreCall.{StoreCall}
 use Rattle.g_plan.specs.Assembly.{assembled}
 use Rattle.g_trap.specs.declared.mode_set.Mode.{Mode}

@@ -6,7 +6,7 @@ use Rattle.g_turn.specs.Asking.{append, append_told, by_answer, one_call, put, p
 use Rattle.g_turn.specs.Bounds.{AlwaysGives, MayAnswer}
 use Rattle.g_turn.specs.Macros.{first_looked, look_up, macro_called, macro_path, second_looked}
 use Rattle.g_turn.specs.Releases.{delete, deleted, dropped, end_job, finished, given_back, release, release_all, release_each, release_one, without_readers}
-use Rattle.g_turn.specs.Say.{done, in_error, with_bytes, with_levels, with_units}
+use Rattle.g_turn.specs.Outcomes.{done, in_error, with_bytes, with_levels, with_units}
 use Rattle.g_turn.specs.State.{Work}
 use Rattle.g_turn.specs.Uses.{ToAppend, ToAssemble, ToAssign, ToList, ToLoad, ToPut, Use, assign, fetch, fetched, loaded_by, output_kept, put_or_bad, use_bytes, with_program}
 use Rattle.g_turn.proofs.BoundLemmas.{Good, There, bytes_good, error_good, gives_more, good_more, if_gives, if_good, refused_good, say_all_good, say_good, then_gives}
@@ -23,9 +23,9 @@ use Rattle.g_monitor.specs.declared.job_lines.JobLine.TheVariants as line
 use Rattle.g_monitor.specs.declared.job_lines.Mark.TheVariants as mark
 use Rattle.g_name.specs.declared.full.Full.{Full}
 use Rattle.g_name.specs.declared.path.Path.{Path}
-use Rattle.g_peri.specs.Held.{is_assigned, is_reader, output_of, place_of, released, with_reader, with_writer}
+use Rattle.g_peri.specs.JobUnits.{is_assigned, is_reader, output_of, place_of, released, with_reader, with_writer}
 use Rattle.g_peri.specs.declared.unit.Unit as unit
-use Rattle.g_plain.specs.Asks.{Answer, Asks, Gives}
+use Rattle.g_plain.specs.Programs.{Answer, Asks, Gives}
 use Rattle.g_plain.specs.declared.calls.StoreCall.{StoreCall}
 use Rattle.g_plain.specs.declared.calls.StoreCall.TheVariants as call
 use Rattle.g_plain.specs.declared.calls.StoreReply.TheVariants.{Appended, Bytes, Made}

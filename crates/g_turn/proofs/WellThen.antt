@@ -1,11 +1,11 @@
 -- Programs that were made of others, as they were run over any store.
 use Rattle.std.proofs.Common.{◌≡◌, ℕ, Bool, true, false, List, Ok, Err, refl, sym, ap, ◌∙◌, subst, inr, if◌then◌else◌}
 use Rattle.g_turn.specs.Bounds.{AlwaysGives, MayAnswer}
-use Rattle.g_turn.specs.Say.{is_over}
+use Rattle.g_turn.specs.Outcomes.{is_over}
 use Rattle.g_turn.specs.State.{Work}
 use Rattle.g_turn.specs.Steps.{RanWell}
 use Rattle.g_plain.proofs.AskLemmas.{RanInPart-first, RanInPart-none, RanInPart-then}
-use Rattle.g_plain.specs.Asks.{Answer, Asks, Call, Gives, IsAnswer, Ran, RanInPart, and_then}
+use Rattle.g_plain.specs.Programs.{Answer, Asks, Call, Gives, IsAnswer, Ran, RanInPart, and_then}
 use Rattle.g_plain.specs.declared.calls.StoreCall.{StoreCall}
 use Rattle.g_plain.specs.declared.faults.StoreFault.TheVariants as fault
 

@@ -4,14 +4,14 @@ use Rattle.g_turn.specs.Asking.{one_call, put}
 use Rattle.g_turn.specs.Macros.{look_up}
 use Rattle.g_turn.specs.Releases.{delete, end_job, release}
 use Rattle.g_turn.specs.Runs.{entered, resumed}
-use Rattle.g_turn.specs.Say.{done, say, with_levels}
+use Rattle.g_turn.specs.Outcomes.{done, say, with_levels}
 use Rattle.g_turn.specs.State.{Work}
 use Rattle.g_turn.specs.Uses.{ToAppend, ToAssemble, ToList, ToLoad, ToPut, assign, fetch}
 use Rattle.g_macro.specs.Levels.{document_of, document_passed, with_param}
 use Rattle.g_monitor.specs.JobLines.{marked}
 use Rattle.g_monitor.specs.declared.job_lines.Mark.TheVariants as mark
 use Rattle.g_name.specs.declared.path.Path.{Path}
-use Rattle.g_plain.specs.Asks.{Asks, Gives}
+use Rattle.g_plain.specs.Programs.{Asks, Gives}
 use Rattle.g_plain.specs.declared.calls.StoreCall.TheVariants as call
 use Rattle.g_trap.specs.declared.mode_set.Mode.TheVariants as mode
 use Rattle.g_verbs.specs.declared.action.Action.{Action}

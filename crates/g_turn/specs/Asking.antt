@@ -1,10 +1,10 @@
 -- What is made of the answer to a call: its lines, its bytes, whether the command came out well.
 use Rattle.std.specs.Prelude.{Bool, Err, List, Ok, if◌then◌else◌, length, ℕ}
-use Rattle.g_turn.specs.Say.{done, refused, say, say_all, with_bytes}
+use Rattle.g_turn.specs.Outcomes.{done, refused, say, say_all, with_bytes}
 use Rattle.g_turn.specs.State.{Work}
 use Rattle.g_monitor.specs.Replies.{last_line, reply_lines}
 use Rattle.g_name.specs.declared.path.Path.{Path}
-use Rattle.g_plain.specs.Asks.{Answer, Asks, Call, Gives}
+use Rattle.g_plain.specs.Programs.{Answer, Asks, Call, Gives}
 use Rattle.g_plain.specs.declared.calls.StoreCall.{StoreCall}
 use Rattle.g_plain.specs.declared.calls.StoreCall.TheVariants as call
 use Rattle.g_plain.specs.declared.calls.StoreReply.TheVariants.{Appended, Made}

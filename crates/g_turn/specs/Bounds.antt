@@ -1,8 +1,8 @@
 -- What a turn uses at most, whatever a store may answer.
 use Rattle.std.specs.Prelude.{Err, IfSome, Ok, Option, Some, is_some, length, true, ℕ, ◌≡◌, ◌≤◌}
 use Rattle.g_turn.specs.State.{AgainCommand, AgainLine, Pending, Stop, Waits, Work}
-use Rattle.g_plain.specs.Asks.{Answer, Asks, Call, Gives}
-use Rattle.g_plain.specs.Plainly.{may_wait}
+use Rattle.g_plain.specs.Programs.{Answer, Asks, Call, Gives}
+use Rattle.g_plain.specs.PlainAnswers.{may_wait}
 use Rattle.g_plain.specs.Replies.{IsReplyTo}
 use Rattle.g_plain.specs.declared.calls.StoreCall.{StoreCall}
 use Rattle.g_plain.specs.declared.faults.StoreFault.TheVariants as fault

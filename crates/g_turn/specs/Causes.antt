@@ -1,7 +1,7 @@
 -- Why a turn's work is over, by the last answer that it got.
 use Rattle.std.specs.Prelude.{Err, List, None, Option, Some, [], ℕ, ◌∷◌, ◌≡◌}
 use Rattle.g_turn.specs.State.{Broken, Stop, Waits, Work}
-use Rattle.g_plain.specs.Asks.{Answer, Asks, Call, Gives}
+use Rattle.g_plain.specs.Programs.{Answer, Asks, Call, Gives}
 use Rattle.g_plain.specs.declared.faults.StoreFault.TheVariants as fault
 
 abbrev pub last_answer : List Answer → Option Answer

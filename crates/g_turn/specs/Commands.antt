@@ -1,15 +1,15 @@
 -- One command of a line.
 use Rattle.std.specs.Prelude.{Bool, Err, List, None, Ok, Option, Result, Some, codes, if◌then◌else◌, ℕ}
 use Rattle.g_turn.specs.Actions.{act}
-use Rattle.g_turn.specs.Say.{in_error, with_levels}
+use Rattle.g_turn.specs.Outcomes.{in_error, with_levels}
 use Rattle.g_turn.specs.State.{Work}
 use Rattle.g_lang.specs.Lines.{Said, SaidGoto, SaidIf, SaidVerb, SaidWhenever}
 use Rattle.g_lang.specs.declared.line.Cond.{Cond}
 use Rattle.g_macro.specs.Levels.{current, document_passed, gone_to, holds, is_full_for, line_of_label, with_whenever}
 use Rattle.g_monitor.specs.declared.errors.CommandError.TheVariants as errors
 use Rattle.g_name.specs.Order.{same_text}
-use Rattle.g_plain.specs.Asks.{Asks, Gives}
-use Rattle.g_verbs.specs.How.{action_read}
+use Rattle.g_plain.specs.Programs.{Asks, Gives}
+use Rattle.g_verbs.specs.VerbReader.{action_read}
 use Rattle.g_verbs.specs.declared.action.Action.{Action}
 
 -- the lines behind an INPUT are passed over, also where its parameters are bad

@@ -4,14 +4,14 @@ pub mod Asking
 pub mod Bounds
 pub mod Causes
 pub mod Commands
-pub mod Going
+pub mod LineMeaning
+pub mod LineWork
 pub mod Lines
 pub mod Macros
 pub mod Making
-pub mod Met
+pub mod Outcomes
 pub mod Releases
 pub mod Runs
-pub mod Say
 pub mod State
 pub mod Steps
 pub mod Turns

@@ -2,16 +2,16 @@
 use Rattle.std.specs.Prelude.{Err, List, None, Ok, Option, Some, false, if◌then◌else◌, true, ℕ}
 use Rattle.g_turn.specs.Commands.{done_if}
 use Rattle.g_turn.specs.Releases.{end_job}
-use Rattle.g_turn.specs.Say.{in_error, is_over, say, with_levels}
+use Rattle.g_turn.specs.Outcomes.{in_error, is_over, say, with_levels}
 use Rattle.g_turn.specs.State.{AgainCommand, AgainLine, Work}
-use Rattle.g_lang.specs.How.{reading}
+use Rattle.g_lang.specs.LineReader.{reading}
 use Rattle.g_lang.specs.Lines.{Reading}
 use Rattle.g_lang.specs.Words.{trimmed}
 use Rattle.g_macro.specs.Levels.{Level, Line, Nothing, Taken, TooLong, fired}
 use Rattle.g_monitor.specs.JobLines.{marked}
 use Rattle.g_monitor.specs.declared.errors.CommandError.TheVariants as errors
 use Rattle.g_monitor.specs.declared.job_lines.Mark.TheVariants as mark
-use Rattle.g_plain.specs.Asks.{Asks, Gives, and_then}
+use Rattle.g_plain.specs.Programs.{Asks, Gives, and_then}
 
 -- where the command of a WHENEVER waits, the turn is gone on with at this command
 abbrev pub to_go_on : List ℕ → Work → Work

@@ -1,12 +1,12 @@
 -- A macro: the file of that name in the job's own directory, else in that of MACROS.
 use Rattle.std.specs.Prelude.{Err, List, None, Ok, Option, Some, codes, if◌then◌else◌, length, ℕ}
-use Rattle.g_turn.specs.Say.{done, in_error, refused, with_bytes, with_levels}
+use Rattle.g_turn.specs.Outcomes.{done, in_error, refused, with_bytes, with_levels}
 use Rattle.g_turn.specs.State.{Work}
 use Rattle.g_lines.specs.Lines.{lines_of}
 use Rattle.g_macro.specs.Levels.{called, is_deepest}
 use Rattle.g_monitor.specs.declared.errors.CommandError.TheVariants as errors
 use Rattle.g_name.specs.declared.path.Path.{Path}
-use Rattle.g_plain.specs.Asks.{Answer, Asks, Call, Gives}
+use Rattle.g_plain.specs.Programs.{Answer, Asks, Call, Gives}
 use Rattle.g_plain.specs.declared.calls.StoreCall.TheVariants as call
 use Rattle.g_plain.specs.declared.calls.StoreReply.TheVariants.{Bytes}
 use Rattle.g_plain.specs.declared.faults.StoreFault.TheVariants as fault

@@ -1,16 +1,16 @@
 -- Units that are released, by RELEASE, by DELETE and at the job's end.
 use Rattle.std.specs.Prelude.{List, None, Option, Some, [], false, if◌then◌else◌, replicate, true, ℕ, ◌+◌, ◌∷◌}
 use Rattle.g_turn.specs.Asking.{put}
-use Rattle.g_turn.specs.Say.{done, in_error, is_over, say, stopped, with_units}
+use Rattle.g_turn.specs.Outcomes.{done, in_error, is_over, say, stopped, with_units}
 use Rattle.g_turn.specs.State.{Done, Work}
 use Rattle.g_mill.specs.Machine.{Machine}
 use Rattle.g_monitor.specs.JobLines.{job_line}
 use Rattle.g_monitor.specs.declared.errors.CommandError.TheVariants as errors
 use Rattle.g_monitor.specs.declared.job_lines.JobLine.TheVariants as line
 use Rattle.g_name.specs.declared.path.Path.{Path}
-use Rattle.g_peri.specs.Held.{is_assigned, output_of, released, with_writer}
+use Rattle.g_peri.specs.JobUnits.{is_assigned, output_of, released, with_writer}
 use Rattle.g_peri.specs.declared.unit.Unit as unit
-use Rattle.g_plain.specs.Asks.{Asks, Gives, and_then}
+use Rattle.g_plain.specs.Programs.{Asks, Gives, and_then}
 
 -- no card reader is assigned; nothing is printed of them
 abbrev pub without_readers : Work → Work

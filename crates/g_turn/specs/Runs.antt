@@ -1,6 +1,6 @@
 -- The runs of a job's program: up to 64 orders in a turn.
 use Rattle.std.specs.Prelude.{Bool, List, None, Option, Some, false, if◌then◌else◌, suc, true, zero, ℕ, ◌+◌, ◌-◌}
-use Rattle.g_turn.specs.Say.{set_outcome, in_error, is_over, say}
+use Rattle.g_turn.specs.Outcomes.{set_outcome, in_error, is_over, say}
 use Rattle.g_turn.specs.State.{Work}
 use Rattle.g_macro.specs.declared.outcome.EventNote.{EventNote}
 use Rattle.g_macro.specs.declared.outcome.EventNote.TheVariants as note
@@ -9,7 +9,7 @@ use Rattle.g_monitor.specs.JobLines.{job_line, marked}
 use Rattle.g_monitor.specs.declared.errors.CommandError.TheVariants as errors
 use Rattle.g_monitor.specs.declared.job_lines.JobLine.TheVariants as line
 use Rattle.g_monitor.specs.declared.job_lines.Mark.TheVariants as mark
-use Rattle.g_peri.specs.Ordered.{Ordered, order_with}
+use Rattle.g_peri.specs.OneOrder.{Ordered, order_with}
 use Rattle.g_peri.specs.declared.ordered.OrderEvent.{OrderEvent}
 use Rattle.g_peri.specs.declared.ordered.OrderEvent.TheVariants as came
 

@@ -3,7 +3,7 @@ use Rattle.std.specs.Prelude.{Bool, List, Option, ℕ}
 use Rattle.g_macro.specs.Levels.{Stack}
 use Rattle.g_macro.specs.declared.outcome.Outcome.{Outcome}
 use Rattle.g_mill.specs.Machine.{Machine}
-use Rattle.g_peri.specs.Held.{Held}
+use Rattle.g_peri.specs.JobUnits.{Held}
 
 -- What commands change: the levels, the outcome of the last command, the program, whether its last run ended with a
 -- halt, whether a run of it isn't over yet (and if so, whether a WHENEVER began it), and the units.

@@ -2,7 +2,7 @@
 use Rattle.std.specs.Prelude.{Bool, Err, List, true, ℕ, ◌↔◌, ◌≡◌}
 use Rattle.g_turn.specs.Bounds.{MayAnswer}
 use Rattle.g_turn.specs.State.{Work}
-use Rattle.g_plain.specs.Asks.{Answer, Asks, Call, Gives}
+use Rattle.g_plain.specs.Programs.{Answer, Asks, Call, Gives}
 use Rattle.g_plain.specs.declared.calls.StoreCall.{StoreCall}
 use Rattle.g_plain.specs.declared.faults.StoreFault.TheVariants as fault
 

@@ -2,10 +2,10 @@
 use Rattle.std.specs.Prelude.{Bool, List, None, Option, Some, if◌then◌else◌, ℕ}
 use Rattle.g_turn.specs.Lines.{does_fired, line, may_fire, takes}
 use Rattle.g_turn.specs.Runs.{goes_on}
-use Rattle.g_turn.specs.Say.{is_over, with_levels}
+use Rattle.g_turn.specs.Outcomes.{is_over, with_levels}
 use Rattle.g_turn.specs.State.{AgainCommand, AgainLine, Pending, Work}
 use Rattle.g_macro.specs.Levels.{Stack, Taken, next_line}
-use Rattle.g_plain.specs.Asks.{Asks, Gives, and_then}
+use Rattle.g_plain.specs.Programs.{Asks, Gives, and_then}
 
 -- what was kept of the line before the command of a WHENEVER that waited
 abbrev pub with_kept : List ℕ → ℕ → ℕ → Work → Work

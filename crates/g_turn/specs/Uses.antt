@@ -1,7 +1,7 @@
 -- What a file's bytes are fetched for: COPY, APPEND, PLAN, LISTFILE, LOAD, and ASSIGN of a card reader.
 use Rattle.std.specs.Prelude.{Err, List, None, Ok, Option, Result, Some, [], false, if◌then◌else◌, length, true, ℕ, ◌≡◌}
 use Rattle.g_turn.specs.Asking.{append, put}
-use Rattle.g_turn.specs.Say.{done, in_error, refused, say, say_all, with_bytes, with_units}
+use Rattle.g_turn.specs.Outcomes.{done, in_error, refused, say, say_all, with_bytes, with_units}
 use Rattle.g_turn.specs.State.{Work}
 use Rattle.g_mill.specs.Lines.{lines}
 use Rattle.g_mill.specs.Loading.{bad_line, program_of}
@@ -12,9 +12,9 @@ use Rattle.g_monitor.specs.declared.errors.CommandError.TheVariants as errors
 use Rattle.g_monitor.specs.declared.job_lines.JobLine.TheVariants as line
 use Rattle.g_name.specs.declared.full.Full.{Full}
 use Rattle.g_name.specs.declared.path.Path.{Path}
-use Rattle.g_peri.specs.Held.{Held, is_assigned, is_reader, place_of, with_reader, with_writer}
+use Rattle.g_peri.specs.JobUnits.{Held, is_assigned, is_reader, place_of, with_reader, with_writer}
 use Rattle.g_peri.specs.declared.unit.Unit as unit
-use Rattle.g_plain.specs.Asks.{Answer, Asks, Call, Gives}
+use Rattle.g_plain.specs.Programs.{Answer, Asks, Call, Gives}
 use Rattle.g_plain.specs.declared.calls.StoreCall.TheVariants as call
 use Rattle.g_plain.specs.declared.calls.StoreReply.TheVariants.{Bytes}
 use Rattle.g_plan.specs.Assembly.{assembled}

@@ -11,7 +11,7 @@ use Rattle.g_turn.specs.declared.stop.Stop.TheVariants as stop
 use Rattle.g_turn.specs.declared.uses.Use as uses
 use Rattle.g_turn.specs.declared.uses.Use.TheVariants as uses_for
 use Rattle.g_mill.specs.Machine.{Machine}
-use Rattle.g_peri.specs.Ordered.{order_with}
+use Rattle.g_peri.specs.OneOrder.{order_with}
 use Rattle.g_peri.specs.declared.ordered.OrderEvent.{OrderEvent}
 
 abbrev pub pending_of : Suspended → Pending

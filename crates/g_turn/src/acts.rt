@@ -2,14 +2,14 @@
 ghost use Rattle.std.specs.Prelude.{◌≡◌, ◌≤◌, ◌<◌, ◌+◌, ℕ, [], Bool, false, length, unwrap_or, IfErr, IfOk, OnErr, OnOk};
 ghost use Rattle.g_turn.specs.Actions as actions;
 ghost use Rattle.g_turn.specs.Asking as asking;
-ghost use Rattle.g_turn.specs.Say as said;
+ghost use Rattle.g_turn.specs.Outcomes as said;
 ghost use Rattle.g_turn.specs.State as state;
 ghost use Rattle.g_turn.specs.Steps.{RanWell};
 ghost use Rattle.g_lang.specs.Conditions.{IsLetter};
 ghost use Rattle.g_macro.specs.Levels.{document_of, document_passed, with_param};
 ghost use Rattle.g_monitor.specs.JobLines.{marked};
 ghost use Rattle.g_monitor.specs.declared.job_lines.Mark.TheVariants as mark;
-ghost use Rattle.g_plain.specs.Asks.{RanInPart};
+ghost use Rattle.g_plain.specs.Programs.{RanInPart};
 ghost use Rattle.g_plain.specs.Rules.{IsWithinLimits};
 ghost use Rattle.g_verbs.specs.Verbs as verbs;
 

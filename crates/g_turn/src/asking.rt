@@ -1,11 +1,11 @@
 //! Calls of a store, and what a work makes of their answers.
 ghost use Rattle.std.specs.Prelude.{◌≡◌, ◌≤◌, ◌+◌, ◌++◌, ℕ, Err, false, IfOk, OnErr, OnOk, if◌then◌else◌};
 ghost use Rattle.g_turn.specs.Asking as asking;
-ghost use Rattle.g_turn.specs.Say as said;
+ghost use Rattle.g_turn.specs.Outcomes as said;
 ghost use Rattle.g_turn.specs.Steps.{IsStep, RanWell};
 ghost use Rattle.g_monitor.specs.Parts.{full_text};
 ghost use Rattle.g_monitor.specs.Replies.{reply_lines};
-ghost use Rattle.g_plain.specs.Asks.{RanInPart};
+ghost use Rattle.g_plain.specs.Programs.{RanInPart};
 ghost use Rattle.g_plain.specs.Replies.{IsReplyTo};
 ghost use Rattle.g_plain.specs.Rules.{IsWithinLimits};
 

@@ -1,15 +1,15 @@
 //! One command of a line: GOTO, IF, WHENEVER, or a verb.
 ghost use Rattle.std.specs.Prelude.{◌≡◌, ◌≤◌, ◌+◌, ◌<◌, ℕ, false, length, IfSome, IsTrue, OnErr, OnOk};
 ghost use Rattle.g_turn.specs.Commands as commands;
-ghost use Rattle.g_turn.specs.Met.{IsBare, IsSpoken, Met};
-ghost use Rattle.g_turn.specs.Say as said;
+ghost use Rattle.g_turn.specs.LineMeaning.{IsBare, IsSpoken, Met};
+ghost use Rattle.g_turn.specs.Outcomes as said;
 ghost use Rattle.g_turn.specs.Steps.{RanWell};
 ghost use Rattle.g_lang.specs.Lines.{IsCommandText};
-ghost use Rattle.g_lang.specs.Said.{command_said};
+ghost use Rattle.g_lang.specs.Meaning.{command_said};
 ghost use Rattle.g_macro.specs.Levels.{current, line_of_label};
-ghost use Rattle.g_plain.specs.Asks.{RanInPart};
+ghost use Rattle.g_plain.specs.Programs.{RanInPart};
 ghost use Rattle.g_monitor.specs.declared.errors.CommandError.TheVariants as errors;
-ghost use Rattle.g_verbs.specs.How.{action_read};
+ghost use Rattle.g_verbs.specs.VerbReader.{action_read};
 
 use crate::asker::Asker;
 use crate::work::Work;

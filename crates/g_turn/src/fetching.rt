@@ -1,12 +1,12 @@
 //! Files that are fetched, and what becomes of their bytes.
 ghost use Rattle.std.specs.Prelude.{◌≡◌, ◌≤◌, ◌+◌, ℕ, None, true, false, length, OnErr, OnOk};
-ghost use Rattle.g_turn.specs.Say as said;
+ghost use Rattle.g_turn.specs.Outcomes as said;
 ghost use Rattle.g_turn.specs.Steps.{RanWell};
 ghost use Rattle.g_turn.specs.Uses as uses;
 ghost use Rattle.g_turn.specs.Values.{use_of};
 ghost use Rattle.g_name.specs.declared.path.Path.{Path};
-ghost use Rattle.g_peri.specs.Held as held;
-ghost use Rattle.g_plain.specs.Asks.{RanInPart};
+ghost use Rattle.g_peri.specs.JobUnits as held;
+ghost use Rattle.g_plain.specs.Programs.{RanInPart};
 ghost use Rattle.g_plan.specs.Assembly.{assembled};
 ghost use Rattle.g_trap.specs.declared.mode_set.Mode.{Mode};
 

@@ -1,15 +1,15 @@
 //! One line, and the WHENEVER behind it.
 ghost use Rattle.std.specs.Prelude.{◌≡◌, ◌≤◌, ◌+◌, ◌<◌, ℕ, false, length, IfOk, OnErr, OnOk};
-ghost use Rattle.g_turn.specs.Going.{FiredAs, IsReady};
+ghost use Rattle.g_turn.specs.LineWork.{FiredAs, IsReady};
 ghost use Rattle.g_turn.specs.Lines as lines;
-ghost use Rattle.g_turn.specs.Met.{IsReadWell, IsSpoken, read_as};
-ghost use Rattle.g_turn.specs.Say as said;
+ghost use Rattle.g_turn.specs.LineMeaning.{IsReadWell, IsSpoken, read_as};
+ghost use Rattle.g_turn.specs.Outcomes as said;
 ghost use Rattle.g_turn.specs.Steps.{RanWell};
-ghost use Rattle.g_lang.specs.How.{reading};
+ghost use Rattle.g_lang.specs.LineReader.{reading};
 ghost use Rattle.g_lang.specs.Lines.{IsCommandText};
 ghost use Rattle.g_monitor.specs.JobLines.{marked};
 ghost use Rattle.g_monitor.specs.declared.job_lines.Mark.TheVariants as mark;
-ghost use Rattle.g_plain.specs.Asks.{Gives, RanInPart, and_then};
+ghost use Rattle.g_plain.specs.Programs.{Gives, RanInPart, and_then};
 
 use crate::asker::Asker;
 use crate::suspended::Suspended;

@@ -1,6 +1,6 @@
 //! Replies and listings, said line by line.
 ghost use Rattle.std.specs.Prelude.{◌≡◌, ◌++◌, ◌∷◌, [], false, map, OnOk};
-ghost use Rattle.g_turn.specs.Say as said;
+ghost use Rattle.g_turn.specs.Outcomes as said;
 ghost use Rattle.g_turn.specs.Uses as uses;
 ghost use Rattle.g_lines.specs.Lines.{lines_of};
 ghost use Rattle.g_monitor.specs.Listing.{listed_lines, row_line, shown_line};

@@ -1,10 +1,10 @@
 //! Macros: looked for, and called.
 ghost use Rattle.std.specs.Prelude.{◌≡◌, ◌≤◌, ◌+◌, ℕ, false, length, OnErr, OnOk};
 ghost use Rattle.g_turn.specs.Macros as macros;
-ghost use Rattle.g_turn.specs.Say as said;
+ghost use Rattle.g_turn.specs.Outcomes as said;
 ghost use Rattle.g_turn.specs.Steps.{RanWell};
 ghost use Rattle.g_name.specs.declared.path.Path.{Path};
-ghost use Rattle.g_plain.specs.Asks.{RanInPart};
+ghost use Rattle.g_plain.specs.Programs.{RanInPart};
 ghost use Rattle.g_trap.specs.declared.mode_set.Mode.TheVariants as mode;
 ghost use Rattle.g_plain.specs.declared.calls.StoreCall.TheVariants as call;
 

@@ -1,10 +1,10 @@
 //! Units that are released: by RELEASE, by DELETE and at the job's end.
 ghost use Rattle.std.specs.Prelude.{◌≡◌, ◌≤◌, ◌<◌, ◌+◌, ℕ, None, false, drop, length, MatchOption, OnErr, OnOk};
 ghost use Rattle.g_turn.specs.Releases as releases;
-ghost use Rattle.g_turn.specs.Say as said;
+ghost use Rattle.g_turn.specs.Outcomes as said;
 ghost use Rattle.g_turn.specs.Steps.{RanWell};
-ghost use Rattle.g_peri.specs.Held as held;
-ghost use Rattle.g_plain.specs.Asks.{RanInPart};
+ghost use Rattle.g_peri.specs.JobUnits as held;
+ghost use Rattle.g_plain.specs.Programs.{RanInPart};
 
 use crate::asker::Asker;
 use crate::stop::Stop;

@@ -1,11 +1,11 @@
 //! What is said, and what becomes of a command.
 ghost use Rattle.std.specs.Prelude.{◌≡◌, ◌≤◌, ◌+◌, ◌∷◌, ◌++◌, [], false, length, take, drop, OnOk};
 ghost use Rattle.g_base.specs.Block.{blocks_for};
-ghost use Rattle.g_turn.specs.Say as said;
+ghost use Rattle.g_turn.specs.Outcomes as said;
 ghost use Rattle.g_turn.specs.Values.{stop_of};
 ghost use Rattle.g_monitor.specs.JobLines.{job_line, marked};
 ghost use Rattle.g_monitor.specs.Refusals.{IsPrinted, fault_line};
-ghost use Rattle.g_plain.specs.Asks.{is_memory};
+ghost use Rattle.g_plain.specs.Programs.{is_memory};
 
 use crate::stop::Stop;
 use crate::work::Work;

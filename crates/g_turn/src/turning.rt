@@ -1,14 +1,14 @@
 //! The work of a turn: what waited, a run of the program that goes on, or the next line.
 ghost use Rattle.std.specs.Prelude.{◌≡◌, ◌≤◌, ◌<◌, ℕ, [], None, false, length, is_some, option_map, true, IfOk, IfSome, OnErr, OnOk};
-ghost use Rattle.g_turn.specs.Going.{IsAgain, IsReady};
+ghost use Rattle.g_turn.specs.LineWork.{IsAgain, IsReady};
 ghost use Rattle.g_turn.specs.Making.{FewBlocks, HasLevel, IsMade, taken_as};
-ghost use Rattle.g_turn.specs.Say as said;
-ghost use Rattle.g_turn.specs.Say.{with_levels};
+ghost use Rattle.g_turn.specs.Outcomes as said;
+ghost use Rattle.g_turn.specs.Outcomes.{with_levels};
 ghost use Rattle.g_turn.specs.Steps.{RanWell};
 ghost use Rattle.g_turn.specs.Turns as turns;
 ghost use Rattle.g_turn.specs.Values.{pending_of};
 ghost use Rattle.g_macro.specs.Levels.{next_line};
-ghost use Rattle.g_plain.specs.Asks.{RanInPart};
+ghost use Rattle.g_plain.specs.Programs.{RanInPart};
 
 use crate::asker::Asker;
 use crate::room::empty;

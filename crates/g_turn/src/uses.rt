@@ -4,7 +4,7 @@ use g_peri::Unit;
 
 /// What a file's bytes are fetched for.
 #[derive(Debug, Drop)]
-pub enum Use {
+pub(crate) enum Use {
     /// They are put for this path.
     Put(Path),
     /// They are put behind those of this file.

@@ -3,7 +3,7 @@ use Rattle.std.proofs.Common.{IfSome, List, None, Option, Some, [], arith, get_o
 use Rattle.g_name.specs.declared.path.Path.{Path}
 use Rattle.g_verbs.proofs.WalkLemmas.{Walked, walked}
 use Rattle.g_verbs.specs.Forms.{AreGood, just}
-use Rattle.g_verbs.specs.How.{file_of, file_read, first_wrong, param}
+use Rattle.g_verbs.specs.VerbReader.{file_of, file_read, first_wrong, param}
 use Rattle.g_verbs.specs.declared.form.Form.TheVariants as form
 
 good_alone : (text : List ℕ) (path : Path) → file_read text ≡ Some path → AreGood (just (form.File ∷ [])) (text ∷ [])

@@ -18,7 +18,7 @@ use Rattle.g_verbs.proofs.ParamLemmas.{found, is_of-complete}
 use Rattle.g_verbs.proofs.SaidLemmas.{amount_of-is, budget_of-is, digit_of-is, file_of-is, good-says, letter_of-is, local_of-is, macro-few, modes_read-words, unit_of-is, user_of-is}
 use Rattle.g_verbs.proofs.WalkLemmas.{Walked, walked, wrong-none, wrong-some}
 use Rattle.g_verbs.specs.Forms.{AreGood, Fits, Forms, IsFirstWrong, IsGoodPlace, IsOf, at_least, just, or_any}
-use Rattle.g_verbs.specs.How.{action_of, action_read, amount_of, asked, asked_or_wrong, budget_of, file_of, first_wrong, is_of, local_of, modes_read, read_as, unit_of, user_of}
+use Rattle.g_verbs.specs.VerbReader.{action_of, action_read, amount_of, asked, asked_or_wrong, budget_of, file_of, first_wrong, is_of, local_of, modes_read, read_as, unit_of, user_of}
 use Rattle.g_monitor.specs.Parts.{mode_word}
 use Rattle.g_verbs.specs.Parameters.{IsAmount, IsFile, IsUser}
 use Rattle.g_verbs.specs.Verbs.{FileVerb, IsRead, IsSound, MayBeMoney, MayBeText, MayBeUser, Says, TrapVerb, TwoFiles, forms_with, macro_forms, verb_forms, verb_of, verb_word, verbs}

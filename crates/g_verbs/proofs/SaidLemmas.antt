@@ -15,7 +15,7 @@ use Rattle.g_verbs.proofs.ParamLemmas.{amount-complete, budget-complete, file-co
 use Rattle.g_lines.proofs.NumberLemmas.{number-complete}
 use Rattle.g_verbs.specs.Ranges.{no_path, no_unit}
 use Rattle.g_verbs.specs.Forms.{AreGood, Fits, Forms, IsGoodPlace, IsOf, at_least, just, or_any}
-use Rattle.g_verbs.specs.How.{action_of, amount_of, budget_of, digit_of, file_of, letter_of, local_of, modes_read, money_at, param, unit_of, user_at, user_of, with_mode}
+use Rattle.g_verbs.specs.VerbReader.{action_of, amount_of, budget_of, digit_of, file_of, letter_of, local_of, modes_read, money_at, param, unit_of, user_at, user_of, with_mode}
 use Rattle.g_monitor.specs.Parts.{mode_word}
 use Rattle.g_verbs.specs.Parameters.{AreModes, IsAmount, IsFile, IsLocal, IsUnit, IsUser, modes_of}
 use Rattle.g_verbs.specs.Verbs.{MayBeMoney, MayBeText, MayBeUser, Says, macro_forms, verb_forms, verb_word}

@@ -7,7 +7,7 @@ use Rattle.std.proofs.lemmas.Bool.{cases_lt, cond_both, eqb-false, eqb-true, fal
 use Rattle.std.proofs.lemmas.Option.{get_or_from_slice_get, slice_get-get_or, slice_get_past, slice_get_read, slice_get_within}
 use Rattle.g_verbs.proofs.ParamLemmas.{is_of-complete, is_of-sound}
 use Rattle.g_verbs.specs.Forms.{AreGood, Fits, Forms, IsFirstWrong, IsGoodPlace, IsOf, form_at, or_any}
-use Rattle.g_verbs.specs.How.{first_wrong, fits, is_of, param, wrong_in}
+use Rattle.g_verbs.specs.VerbReader.{first_wrong, fits, is_of, param, wrong_in}
 use Rattle.g_verbs.specs.Tables.{IsThere}
 use Rattle.g_verbs.specs.declared.form.Form.{Form}
 

@@ -1,6 +1,6 @@
 pub mod Forms
-pub mod How
 pub mod Parameters
 pub mod Ranges
 pub mod Tables
+pub mod VerbReader
 pub mod Verbs

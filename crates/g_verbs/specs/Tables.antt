@@ -1,7 +1,7 @@
 -- What the values of the code say, and what its functions are handed.
 use Rattle.std.specs.Prelude.{List, length, true, ℕ, ◌<◌, ◌≡◌}
 use Rattle.g_verbs.specs.Forms.{Forms}
-use Rattle.g_verbs.specs.How.{is_of, param}
+use Rattle.g_verbs.specs.VerbReader.{is_of, param}
 use Rattle.g_verbs.specs.declared.form.Form.{Form}
 use Rattle.g_verbs.specs.declared.form.Forms as code
 

@@ -2,7 +2,7 @@
 ghost use Rattle.std.specs.Prelude.{◌≡◌, [], ◌∷◌};
 ghost use Rattle.g_verbs.specs.Forms as forms;
 ghost use Rattle.g_verbs.specs.Forms.{AreGood};
-ghost use Rattle.g_verbs.specs.How as how;
+ghost use Rattle.g_verbs.specs.VerbReader as how;
 ghost use Rattle.g_verbs.specs.Verbs as verbs;
 ghost use Rattle.g_verbs.specs.declared.form.Form.TheVariants as form;
 ghost use Rattle.g_verbs.specs.declared.verb.Verb.TheVariants as verb;
@@ -17,7 +17,7 @@ use g_name::{Path, Text};
 use g_plain::BudgetKind;
 
 /// The file of a verb that takes one file alone.
-pub fn only_file(params: &[Text]) -> Path
+pub(crate) fn only_file(params: &[Text]) -> Path
     requires { AreGood (forms.just (form.File ∷ [])) params.now }
     ensures { result ≡ how.file_of (how.param params.now 0) }
 {
@@ -25,7 +25,7 @@ pub fn only_file(params: &[Text]) -> Path
 }
 
 /// COPY with both files.
-pub fn copy(params: &[Text]) -> Action
+pub(crate) fn copy(params: &[Text]) -> Action
     requires { AreGood (verbs.verb_forms verb.Copy) params.now }
     ensures { result ≡ how.action_of verb.Copy params.now [] }
 {
@@ -36,7 +36,7 @@ pub fn copy(params: &[Text]) -> Action
 }
 
 /// APPEND with both files.
-pub fn append(params: &[Text]) -> Action
+pub(crate) fn append(params: &[Text]) -> Action
     requires { AreGood (verbs.verb_forms verb.Append) params.now }
     ensures { result ≡ how.action_of verb.Append params.now [] }
 {
@@ -47,7 +47,7 @@ pub fn append(params: &[Text]) -> Action
 }
 
 /// PLAN with its source and its program file.
-pub fn plan(params: &[Text]) -> Action
+pub(crate) fn plan(params: &[Text]) -> Action
     requires { AreGood (verbs.verb_forms verb.Plan) params.now }
     ensures { result ≡ how.action_of verb.Plan params.now [] }
 {
@@ -58,7 +58,7 @@ pub fn plan(params: &[Text]) -> Action
 }
 
 /// RENAME with its file and the new name.
-pub fn rename(params: &[Text]) -> Action
+pub(crate) fn rename(params: &[Text]) -> Action
     requires { AreGood (verbs.verb_forms verb.Rename) params.now }
     ensures { result ≡ how.action_of verb.Rename params.now [] }
 {
@@ -69,7 +69,7 @@ pub fn rename(params: &[Text]) -> Action
 }
 
 /// LISTDIR, which may name a user.
-pub fn list_dir(params: &[Text]) -> Action
+pub(crate) fn list_dir(params: &[Text]) -> Action
     requires { AreGood (verbs.verb_forms verb.ListDir) params.now }
     ensures { result ≡ how.action_of verb.ListDir params.now [] }
 {
@@ -79,7 +79,7 @@ pub fn list_dir(params: &[Text]) -> Action
 }
 
 /// TRAPGO with its file, a user and the modes.
-pub fn trap_go(params: &[Text]) -> Action
+pub(crate) fn trap_go(params: &[Text]) -> Action
     requires { AreGood (verbs.verb_forms verb.TrapGo) params.now }
     ensures { result ≡ how.action_of verb.TrapGo params.now [] }
 {
@@ -91,7 +91,7 @@ pub fn trap_go(params: &[Text]) -> Action
 }
 
 /// TRAPSTOP with its file, a user and the modes.
-pub fn trap_stop(params: &[Text]) -> Action
+pub(crate) fn trap_stop(params: &[Text]) -> Action
     requires { AreGood (verbs.verb_forms verb.TrapStop) params.now }
     ensures { result ≡ how.action_of verb.TrapStop params.now [] }
 {
@@ -103,7 +103,7 @@ pub fn trap_stop(params: &[Text]) -> Action
 }
 
 /// TRAPCHECK with its file, which may name a user.
-pub fn trap_check(params: &[Text]) -> Action
+pub(crate) fn trap_check(params: &[Text]) -> Action
     requires { AreGood (verbs.verb_forms verb.TrapCheck) params.now }
     ensures { result ≡ how.action_of verb.TrapCheck params.now [] }
 {
@@ -114,7 +114,7 @@ pub fn trap_check(params: &[Text]) -> Action
 }
 
 /// NEWUSER with its user, SPACE and TIME, which may have MONEY.
-pub fn new_user(params: &[Text]) -> Action
+pub(crate) fn new_user(params: &[Text]) -> Action
     requires { AreGood (verbs.verb_forms verb.NewUser) params.now }
     ensures { result ≡ how.action_of verb.NewUser params.now [] }
 {
@@ -127,7 +127,7 @@ pub fn new_user(params: &[Text]) -> Action
 }
 
 /// BUDGET with its user and an amount.
-pub fn budget(params: &[Text]) -> Action
+pub(crate) fn budget(params: &[Text]) -> Action
     requires { AreGood (verbs.verb_forms verb.Budget) params.now }
     ensures { result ≡ how.action_of verb.Budget params.now [] }
 {
@@ -140,7 +140,7 @@ pub fn budget(params: &[Text]) -> Action
 }
 
 /// ENTER with its number.
-pub fn enter(params: &[Text]) -> Action
+pub(crate) fn enter(params: &[Text]) -> Action
     requires { AreGood (verbs.verb_forms verb.Enter) params.now }
     ensures { result ≡ how.action_of verb.Enter params.now [] }
 {
@@ -150,7 +150,7 @@ pub fn enter(params: &[Text]) -> Action
 }
 
 /// ASSIGN with its unit and a file.
-pub fn assign(params: &[Text]) -> Action
+pub(crate) fn assign(params: &[Text]) -> Action
     requires { AreGood (verbs.verb_forms verb.Assign) params.now }
     ensures { result ≡ how.action_of verb.Assign params.now [] }
 {
@@ -161,7 +161,7 @@ pub fn assign(params: &[Text]) -> Action
 }
 
 /// RELEASE with its unit.
-pub fn release(params: &[Text]) -> Action
+pub(crate) fn release(params: &[Text]) -> Action
     requires { AreGood (verbs.verb_forms verb.Release) params.now }
     ensures { result ≡ how.action_of verb.Release params.now [] }
 {
@@ -171,7 +171,7 @@ pub fn release(params: &[Text]) -> Action
 }
 
 /// SETPARAM with its letter, which may have a text.
-pub fn set_param(params: Texts) -> Action
+pub(crate) fn set_param(params: Texts) -> Action
     requires { AreGood (verbs.verb_forms verb.SetParam) params }
     ensures { result ≡ how.action_of verb.SetParam params [] }
 {

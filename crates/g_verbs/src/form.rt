@@ -1,7 +1,7 @@
 //! The forms of parameters, and the first parameter that isn't of the form that is asked for at its place.
 ghost use Rattle.std.specs.Prelude.{◌≡◌, MatchOption};
 ghost use Rattle.g_verbs.specs.Forms.{AreGood, IsFirstWrong, form_at};
-ghost use Rattle.g_verbs.specs.How as how;
+ghost use Rattle.g_verbs.specs.VerbReader as how;
 ghost use Rattle.g_verbs.specs.Tables.{forms_said};
 
 use crate::parameter;

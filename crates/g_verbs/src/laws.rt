@@ -1,7 +1,7 @@
 //! Laws of the verbs. They do nothing; their clauses say what holds of every name with every parameters.
 ghost use Rattle.std.specs.Prelude.{◌≡◌, ℕ, true, List, Result};
 ghost use Rattle.g_name.specs.Grammar.{is_word};
-ghost use Rattle.g_verbs.specs.How.{action_read};
+ghost use Rattle.g_verbs.specs.VerbReader.{action_read};
 ghost use Rattle.g_verbs.specs.Verbs.{Says, IsRead, IsSound};
 ghost use Rattle.g_verbs.specs.declared.action.Action.{Action};
 

@@ -1,7 +1,7 @@
 //! One parameter of each form; none of these takes memory.
 ghost use Rattle.std.specs.Prelude.{◌≡◌};
 ghost use Rattle.g_lines.specs.Numbers.{number_read};
-ghost use Rattle.g_verbs.specs.How as how;
+ghost use Rattle.g_verbs.specs.VerbReader as how;
 ghost use Rattle.g_verbs.specs.Parameters as parameters;
 
 use g_lang::{behind, is_param_letter};
@@ -22,28 +22,28 @@ const MODES: [Mode; 5] = [
 ];
 
 /// The path of a file.
-pub fn file(text: &[u8]) -> Option<Path>
+pub(crate) fn file(text: &[u8]) -> Option<Path>
     ensures { result ≡ how.file_read text.now }
 {
     parse_path(text).ok()
 }
 
 /// A user with its colon.
-pub fn user(text: &[u8]) -> Option<User>
+pub(crate) fn user(text: &[u8]) -> Option<User>
     ensures { result ≡ how.user_read text.now }
 {
     User::parse(text).ok()
 }
 
 /// A local name.
-pub fn local(text: &[u8]) -> Option<Local>
+pub(crate) fn local(text: &[u8]) -> Option<Local>
     ensures { result ≡ how.local_read text.now }
 {
     Local::new(text)
 }
 
 /// An amount of a budget: its word, a space and a number up to the budget's most.
-pub fn amount(kind: BudgetKind, text: &[u8]) -> Option<u64>
+pub(crate) fn amount(kind: BudgetKind, text: &[u8]) -> Option<u64>
     ensures { result ≡ how.amount_read kind text.now }
 {
     match behind(front(kind), text) {
@@ -53,7 +53,7 @@ pub fn amount(kind: BudgetKind, text: &[u8]) -> Option<u64>
 }
 
 /// An amount of any budget.
-pub fn budget(text: &[u8]) -> Option<(BudgetKind, u64)>
+pub(crate) fn budget(text: &[u8]) -> Option<(BudgetKind, u64)>
     ensures { result ≡ how.budget_read text.now }
 {
     if let Some(amount) = amount(BudgetKind::Space, text) {
@@ -90,7 +90,7 @@ fn most(kind: BudgetKind) -> u64
 }
 
 /// A unit: its kind and its digit.
-pub fn unit(text: &[u8]) -> Option<Unit>
+pub(crate) fn unit(text: &[u8]) -> Option<Unit>
     ensures { result ≡ how.unit_read text.now }
 {
     if let Some(digit) = behind(b"*CR", text) {
@@ -119,14 +119,14 @@ fn digit_unit(kind: Kind, text: &[u8]) -> Option<Unit>
 }
 
 /// A mode by its word.
-pub fn mode(text: &[u8]) -> Option<Mode>
+pub(crate) fn mode(text: &[u8]) -> Option<Mode>
     ensures { result ≡ how.mode_read text.now }
 {
     MODES.iter().copied().find(|mode| mode_word(*mode) == text)
 }
 
 /// A letter, `A` to `X`.
-pub fn letter(text: &[u8]) -> Option<u8>
+pub(crate) fn letter(text: &[u8]) -> Option<u8>
     ensures { result ≡ how.letter_read text.now }
 {
     match text {
@@ -136,7 +136,7 @@ pub fn letter(text: &[u8]) -> Option<u8>
 }
 
 /// A number from 0 to 9.
-pub fn digit(text: &[u8]) -> Option<u64>
+pub(crate) fn digit(text: &[u8]) -> Option<u64>
     ensures { result ≡ number_read 9 text.now }
 {
     number(text, 9)

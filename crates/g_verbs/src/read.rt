@@ -1,7 +1,7 @@
 //! From a verb and its parameters to what it asks for.
 ghost use Rattle.std.specs.Prelude.{◌≡◌, ◌∷◌, ℕ, [], List, IfOk, IfSome};
 ghost use Rattle.g_verbs.specs.Forms.{AreGood, just};
-ghost use Rattle.g_verbs.specs.How as how;
+ghost use Rattle.g_verbs.specs.VerbReader as how;
 ghost use Rattle.g_verbs.specs.Tables.{forms_said};
 ghost use Rattle.g_verbs.specs.Verbs as verbs;
 ghost use Rattle.g_verbs.specs.declared.form.Form.TheVariants as form;

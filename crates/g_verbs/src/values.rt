@@ -1,7 +1,7 @@
 //! The values of parameters that are of their forms.
 ghost use Rattle.std.specs.Prelude.{◌≡◌, ◌<◌, length};
 ghost use Rattle.g_plain.specs.declared.calls.BudgetKind.TheVariants as kind;
-ghost use Rattle.g_verbs.specs.How as how;
+ghost use Rattle.g_verbs.specs.VerbReader as how;
 ghost use Rattle.g_verbs.specs.Tables.{IsThere};
 ghost use Rattle.g_verbs.specs.declared.form.Form.TheVariants as form;
 
@@ -20,7 +20,7 @@ fn text_at(params: &[Text], place: usize) -> &[u8]
 }
 
 /// The file that a parameter names.
-pub fn file_at(params: &[Text], place: usize) -> Path
+pub(crate) fn file_at(params: &[Text], place: usize) -> Path
     requires { IsThere form.File params.now place }
     ensures { result ≡ how.file_of (how.param params.now place) }
 {
@@ -28,7 +28,7 @@ pub fn file_at(params: &[Text], place: usize) -> Path
 }
 
 /// The user that a parameter names.
-pub fn user_at(params: &[Text], place: usize) -> User
+pub(crate) fn user_at(params: &[Text], place: usize) -> User
     requires { IsThere form.User params.now place }
     ensures { result ≡ how.user_of (how.param params.now place) }
 {
@@ -36,7 +36,7 @@ pub fn user_at(params: &[Text], place: usize) -> User
 }
 
 /// The user that a parameter names, if it is there.
-pub fn user_if_at(params: &[Text], place: usize) -> Option<User>
+pub(crate) fn user_if_at(params: &[Text], place: usize) -> Option<User>
     requires { place < length params.now → IsThere form.User params.now place }
     ensures { result ≡ how.user_at params.now place }
 {
@@ -48,7 +48,7 @@ pub fn user_if_at(params: &[Text], place: usize) -> Option<User>
 }
 
 /// The local name that a parameter is.
-pub fn local_at(params: &[Text], place: usize) -> Local
+pub(crate) fn local_at(params: &[Text], place: usize) -> Local
     requires { IsThere form.Local params.now place }
     ensures { result ≡ how.local_of (how.param params.now place) }
 {
@@ -56,7 +56,7 @@ pub fn local_at(params: &[Text], place: usize) -> Local
 }
 
 /// The amount of a budget that a parameter names.
-pub fn amount_at(kind: BudgetKind, params: &[Text], place: usize) -> u64
+pub(crate) fn amount_at(kind: BudgetKind, params: &[Text], place: usize) -> u64
     requires { IsThere (form.Amount kind) params.now place }
     ensures { result ≡ how.amount_of kind (how.param params.now place) }
 {
@@ -64,7 +64,7 @@ pub fn amount_at(kind: BudgetKind, params: &[Text], place: usize) -> u64
 }
 
 /// The amount of MONEY that a parameter names, if it is there.
-pub fn money_if_at(params: &[Text], place: usize) -> Option<u64>
+pub(crate) fn money_if_at(params: &[Text], place: usize) -> Option<u64>
     requires { place < length params.now → IsThere (form.Amount kind.Money) params.now place }
     ensures { result ≡ how.money_at params.now place }
 {
@@ -76,7 +76,7 @@ pub fn money_if_at(params: &[Text], place: usize) -> Option<u64>
 }
 
 /// The budget that a parameter names, and its amount.
-pub fn budget_at(params: &[Text], place: usize) -> (BudgetKind, u64)
+pub(crate) fn budget_at(params: &[Text], place: usize) -> (BudgetKind, u64)
     requires { IsThere form.AnyAmount params.now place }
     ensures { result ≡ how.budget_of (how.param params.now place) }
 {
@@ -84,7 +84,7 @@ pub fn budget_at(params: &[Text], place: usize) -> (BudgetKind, u64)
 }
 
 /// The unit that a parameter names.
-pub fn unit_at(params: &[Text], place: usize) -> Unit
+pub(crate) fn unit_at(params: &[Text], place: usize) -> Unit
     requires { IsThere form.Unit params.now place }
     ensures { result ≡ how.unit_of (how.param params.now place) }
 {
@@ -92,7 +92,7 @@ pub fn unit_at(params: &[Text], place: usize) -> Unit
 }
 
 /// The digit that a parameter is.
-pub fn digit_at(params: &[Text], place: usize) -> u64
+pub(crate) fn digit_at(params: &[Text], place: usize) -> u64
     requires { IsThere form.Digit params.now place }
     ensures { result ≡ how.digit_of (how.param params.now place) }
 {
@@ -100,7 +100,7 @@ pub fn digit_at(params: &[Text], place: usize) -> u64
 }
 
 /// The letter that a parameter is.
-pub fn letter_at(params: &[Text], place: usize) -> u8
+pub(crate) fn letter_at(params: &[Text], place: usize) -> u8
     requires { IsThere form.Letter params.now place }
     ensures { result ≡ how.letter_of (how.param params.now place) }
 {
@@ -108,7 +108,7 @@ pub fn letter_at(params: &[Text], place: usize) -> u8
 }
 
 /// All the modes that these parameters name.
-pub fn modes_of(params: &[Text]) -> Modes
+pub(crate) fn modes_of(params: &[Text]) -> Modes
     ensures { result ≡ how.modes_read params.now }
 {
     match params.split_first() {

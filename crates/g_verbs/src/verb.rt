@@ -162,7 +162,7 @@ const NEW_USER_FORMS: [Form; 4] = [
 ];
 
 /// The parameters of a macro: up to 24 texts.
-pub fn macro_forms() -> Forms
+pub(crate) fn macro_forms() -> Forms
     ensures { forms_said result ≡ table.macro_forms }
 {
     at_least(0, &[Form::Text; 24])

@@ -1,6 +1,6 @@
 use Rattle.std.proofs.Common.{◌≡◌, ◌≢◌, ℕ, ◌<◌, List, length, subst, sym, ap, arith}
 use Rattle.std.specs.Prelude.{All, AllPairs}
-use Rattle.g_base.specs.Told.{Changes}
+use Rattle.g_base.specs.ToldContent.{Changes}
 use Rattle.g_copy.specs.Copy.{Holds, OnlyAt}
 use Rattle.g_copy.proofs.Writing.{written_none, written_more, written_torn, written_all}
 use Rattle.g_copy.proofs.write.write_copy.Goals as goal

@@ -1,8 +1,7 @@
 use Rattle.std.proofs.Common.{Some, rules, ap, ◌∙◌}
 use Rattle.std.proofs.lemmas.List.Sorted.{answers_always}
 use Rattle.g_copy.specs.declared.copy.DiscCopy.{DiscCopy}
-use Rattle.g_dirs.specs.Writing.{number_of_copy}
-use Rattle.g_dirs.proofs.ListingLemmas.{found_at_place, missing_at_place, places_found, places_missing}
+use Rattle.g_dirs.proofs.ListingLemmas.{found_at_place, missing_at_place, places_found, places_missing, number_of_copy}
 use Rattle.g_dirs.proofs.listing.places_of.Goals as goal
 
 pub returns-in-Ok : goal.returns-in-Ok

@@ -1,5 +1,5 @@
 use Rattle.std.proofs.Common.{refl}
-use Rattle.g_store_meaning.specs.Up.{DumpFacts}
+use Rattle.g_store_meaning.specs.StoreInvariant.{DumpFacts}
 use Rattle.g_dumper.proofs.NextLemmas.{content_there, next_content, next_ready}
 use Rattle.g_dumper.proofs.step.next_block.Goals as goal
 

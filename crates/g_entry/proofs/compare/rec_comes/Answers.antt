@@ -2,7 +2,7 @@ use Rattle.std.proofs.Common.{ℕ, List, [], ◌∷◌, ◌++◌, length, ap, sy
 use Rattle.std.specs.Prelude.{replicate}
 use Rattle.g_base.specs.Fields.{number, padded}
 use Rattle.g_entry.specs.FileFields.{copy_fields, lang_field, pair_fields}
-use Rattle.g_entry.specs.Coming.{back_fields, front_fields}
+use Rattle.g_entry.specs.Comparison.{back_fields, front_fields}
 use Rattle.g_entry.proofs.ComingLemmas.{comes_as, comes_two, word_as, traps_as, length-rec}
 use Rattle.g_entry.proofs.compare.rec_comes.Goals as goal
 

@@ -1,6 +1,6 @@
 use Rattle.std.proofs.Common.{ℕ, List, [], ◌∷◌, ◌++◌, ap, sym, ◌∙◌, length}
 use Rattle.std.specs.Prelude.{◌==◌, replicate, if◌then◌else◌}
-use Rattle.g_entry.specs.Coming.{Comes, rec_fields}
+use Rattle.g_entry.specs.Comparison.{Comes, rec_fields}
 use Rattle.g_entry.proofs.ComingLemmas.{block_stands, comes_as, comes_two, reads_block}
 use Rattle.g_entry.proofs.file_block.fields_stand.Goals as goal
 

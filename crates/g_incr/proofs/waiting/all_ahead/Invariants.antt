@@ -1,4 +1,4 @@
-use Rattle.g_incr.specs.Ahead.{AreAhead, IsAhead}
+use Rattle.g_incr.specs.WaitingFiles.{AreAhead, IsAhead}
 use Rattle.g_incr.proofs.waiting.all_ahead.Given as goal
 
 abbrev pub invariant-loop-r : goal.invariant-loop-r

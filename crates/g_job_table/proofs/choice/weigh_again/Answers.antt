@@ -3,7 +3,7 @@ use Rattle.std.proofs.Common.{List, ap, subst, sym, ◌∙◌, ℕ}
 use Rattle.std.specs.Fn.{FnReturnsAt}
 use Rattle.std.proofs.lemmas.Option.{get_or_from_slice_get}
 use Rattle.g_sched.specs.declared.rule.Standing.{Standing}
-use Rattle.g_job.specs.Begun.{standing_of}
+use Rattle.g_job.specs.Beginning.{standing_of}
 use Rattle.g_job_table.specs.Weights.{AreWeights}
 use Rattle.g_job_table.proofs.WeightLemmas.{weights-again, weights-same}
 use Rattle.g_job_table.proofs.choice.weigh_again.Goals as goal

@@ -1,6 +1,6 @@
 use Rattle.std.proofs.Common.{rules}
 use Rattle.std.proofs.lemmas.Fn.{filter_same}
-use Rattle.g_known.specs.Known.{stays}
+use Rattle.g_known.specs.ReelNotes.{stays}
 use Rattle.g_known.proofs.lists.forget_from.Goals as goal
 
 pub returns : goal.returns

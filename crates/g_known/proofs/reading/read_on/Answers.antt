@@ -1,6 +1,6 @@
 use Rattle.std.proofs.Common.{◌≡◌, ◌∙◌, ap, arith, refl, subst, sym}
 use Rattle.g_shelf.proofs.ReadLemmas.{starved, went_on, went_wrong}
-use Rattle.g_known.specs.Known.{IsNoted, end_in, number_in}
+use Rattle.g_known.specs.ReelNotes.{IsNoted, end_in, number_in}
 use Rattle.g_known.proofs.KnownLemmas.{all_known, all_noted, first_low, first_number, one_read_on}
 use Rattle.g_known.proofs.reading.read_on.Goals as goal
 

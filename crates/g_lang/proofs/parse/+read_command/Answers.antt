@@ -1,7 +1,7 @@
 use Rattle.std.proofs.Common.{Option, Some, ◌≡◌, ◌∙◌, ◌≤◌, ◌<◌, ap, sym, subst, arith, length, List, ℕ, codes}
 use Rattle.g_lang.specs.Lines.{IsCommandText, Said, SaidIf}
-use Rattle.g_lang.specs.How.{cond_read, command_read}
-use Rattle.g_lang.specs.Said.{said_inside}
+use Rattle.g_lang.specs.LineReader.{cond_read, command_read}
+use Rattle.g_lang.specs.Meaning.{said_inside}
 use Rattle.g_lang.specs.declared.line.Command.{Command}
 use Rattle.g_lang.proofs.ReadLemmas.{if-inside, goto-label, verb-text}
 use Rattle.g_lang.proofs.ParseLemmas.{behind-length, if-read, whenever-read, verb-reads}

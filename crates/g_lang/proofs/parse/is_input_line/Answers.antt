@@ -2,7 +2,7 @@ use Rattle.std.proofs.Common.{sym, ap, ◌∙◌, ◌≡◌, Bor, true, false, L
 use Rattle.std.proofs.lemmas.Bool.{false≢true}
 use Rattle.g_name.specs.Order.{same_text}
 use Rattle.g_lang.proofs.ParseLemmas.{wrong-input, right-input}
-use Rattle.g_lang.specs.How.{behind_word}
+use Rattle.g_lang.specs.LineReader.{behind_word}
 use Rattle.g_lang.specs.Words.{is_label, word_of, trimmed}
 use Rattle.g_lang.proofs.parse.is_input_line.Goals as goal
 use Rattle.g_lang.proofs.parse.is_input_line.Goals.{then-is_label, else-is_label}

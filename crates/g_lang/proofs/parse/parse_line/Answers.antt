@@ -1,7 +1,7 @@
 use Rattle.std.proofs.Common.{is_ok, ◌∙◌, sym, ap, subst, Some, Ok}
-use Rattle.g_lang.specs.How.{read_trimmed}
+use Rattle.g_lang.specs.LineReader.{read_trimmed}
 use Rattle.g_lang.specs.Lines.{LineSaid, Reading}
-use Rattle.g_lang.specs.Said.{line_said}
+use Rattle.g_lang.specs.Meaning.{line_said}
 use Rattle.g_lang.specs.Texts.{HasCommands}
 use Rattle.g_lang.proofs.ReadLemmas.{line-commands}
 use Rattle.g_lang.proofs.ReadingLemmas.{reading_is, keeps-reading}

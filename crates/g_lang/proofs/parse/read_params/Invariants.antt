@@ -1,5 +1,5 @@
 use Rattle.std.proofs.Common.{◌≡◌, ◌++◌}
-use Rattle.g_lang.specs.How.{params_read}
+use Rattle.g_lang.specs.LineReader.{params_read}
 use Rattle.g_lang.proofs.ParseLemmas.{parts_left, left_size}
 use Rattle.g_lang.proofs.parse.read_params.Given as goal
 

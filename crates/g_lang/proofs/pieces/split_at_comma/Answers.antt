@@ -1,5 +1,5 @@
 use Rattle.std.proofs.Common.{ap, sym, ◌∙◌, ◌∷◌, ◌+◌, ◌-◌, ◌<◌, List, ℕ, arith, drop, length, take, get_or, length-drop}
-use Rattle.g_lang.specs.How.{parts_of}
+use Rattle.g_lang.specs.LineReader.{parts_of}
 use Rattle.g_lang.proofs.PieceLemmas.{up_to-more, up_to-all, a_comma, before-stop, past-stop, parts-stop, tail-all}
 use Rattle.g_lang.proofs.pieces.split_at_comma.Goals as goal
 use Rattle.g_lang.proofs.pieces.split_at_comma.Goals.{else-byte-eq44-via-then-byte-eq44+else-depth-eq0, else-byte-eq44-via-else-byte-eq44}

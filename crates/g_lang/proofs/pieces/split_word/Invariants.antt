@@ -1,5 +1,5 @@
 use Rattle.std.proofs.Common.{◌≡◌, ◌++◌, take, drop}
-use Rattle.g_lang.specs.How.{behind_word}
+use Rattle.g_lang.specs.LineReader.{behind_word}
 use Rattle.g_lang.specs.Words.{word_of}
 use Rattle.g_lang.proofs.pieces.split_word.Given as goal
 

@@ -1,7 +1,7 @@
 use Rattle.std.proofs.Common.{List, Option, [], ap, drop, false, length, subst, sym, ℕ, ◌==◌, ◌++◌, ◌∙◌, ◌∷◌, ◌≡◌}
 use Rattle.std.proofs.lemmas.List.{take_rest}
 use Rattle.g_lang.proofs.ReaderLemmas.{behind_in_word}
-use Rattle.g_lang.specs.How.{State, state_behind_word}
+use Rattle.g_lang.specs.LineReader.{State, state_behind_word}
 use Rattle.g_lang.specs.Places.{Steps}
 use Rattle.g_name.specs.Words.{extends}
 use Rattle.g_lang.proofs.reader.in_word.Goals as goal

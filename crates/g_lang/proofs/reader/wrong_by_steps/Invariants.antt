@@ -1,6 +1,6 @@
 -- Where the reader stands, the rest of the text goes wrong where the whole does.
 use Rattle.std.proofs.Common.{◌≡◌, ◌≤◌, drop, take}
-use Rattle.g_lang.specs.How.{Front, wrong_from}
+use Rattle.g_lang.specs.LineReader.{Front, wrong_from}
 use Rattle.g_lang.specs.Places.{state_of, depth_of, word_start}
 use Rattle.g_lang.proofs.reader.wrong_by_steps.Given as goal
 

@@ -1,8 +1,7 @@
 use Rattle.std.proofs.Common.{ℕ, ◌<◌, get_or}
 use Rattle.g_entry.specs.declared.file_rec.FileRec.{FileRec}
-use Rattle.g_look.specs.Compared.{ComparedSoFar}
-use Rattle.g_look.specs.Reads.{AreReadUpto}
 use Rattle.g_look.proofs.bytes.compare_files.Given as goal
+use Rattle.g_look.proofs.ReadLemmas.{ComparedSoFar, AreReadUpto}
 
 abbrev pub invariant-loop-file : goal.invariant-loop-file
 invariant-loop-file g l =

@@ -1,6 +1,6 @@
 use Rattle.g_look.specs.Looks.{ReadsRackByCause}
-use Rattle.g_look.specs.Reads.{OthersUpto}
 use Rattle.g_look.proofs.bytes.read_others.Given as goal
+use Rattle.g_look.proofs.ReadLemmas.{OthersUpto}
 
 abbrev pub invariant-loop-of : goal.invariant-loop-of
 invariant-loop-of g l =

@@ -1,5 +1,5 @@
 use Rattle.std.specs.Prelude.{is_some}
-use Rattle.g_shelf.specs.Completed.{all_dumps}
+use Rattle.g_shelf.specs.CompletedDumps.{all_dumps}
 use Rattle.g_store_meaning.specs.Meaning.{told_reels}
 use Rattle.g_look.specs.Standing.{found_in}
 use Rattle.g_look.specs.Text.{disc_lines, rack_lines, verdict_line}

@@ -1,5 +1,5 @@
 use Rattle.std.proofs.Common.{◌≡◌, ◌*◌, ◌≤◌, take}
-use Rattle.g_look.specs.Shown.{used_by}
+use Rattle.g_look.specs.MemoryLines.{used_by}
 use Rattle.g_look.proofs.disc_text.used_blocks.Given as goal
 
 abbrev pub invariant-loop-file : goal.invariant-loop-file

@@ -1,6 +1,6 @@
 use Rattle.std.proofs.Common.{◌≡◌, ◌++◌, drop}
 use Rattle.std.specs.List.{flat_map}
-use Rattle.g_look.specs.Listed.{trap_text}
+use Rattle.g_look.specs.FileLines.{trap_text}
 use Rattle.g_look.proofs.file_text.push_others.Given as goal
 
 abbrev pub invariant-loop-other : goal.invariant-loop-other

@@ -1,6 +1,6 @@
 use Rattle.std.proofs.Common.{◌≡◌, ◌++◌, drop}
 use Rattle.std.specs.List.{flat_map}
-use Rattle.g_look.specs.Listed.{place_text}
+use Rattle.g_look.specs.FileLines.{place_text}
 use Rattle.g_look.proofs.file_text.push_places.Given as goal
 
 abbrev pub invariant-loop-place : goal.invariant-loop-place

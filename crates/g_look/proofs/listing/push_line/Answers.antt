@@ -1,5 +1,5 @@
 use Rattle.std.proofs.Common.{[], ◌++◌, ◌∷◌}
-use Rattle.g_look.specs.Listed.{blocks_text, disc_file_line, file_front, taped_text}
+use Rattle.g_look.specs.FileLines.{blocks_text, disc_file_line, file_front, taped_text}
 use Rattle.g_look.proofs.PushLemmas.{last_more, then_more}
 use Rattle.g_look.proofs.listing.push_line.Goals as goal
 

@@ -1,6 +1,6 @@
 use Rattle.std.proofs.Common.{ℕ, ◌<◌, get_or}
 use Rattle.g_restore.specs.declared.dumps.Found.{Found}
-use Rattle.g_look.specs.Seen.{HasNoLower}
+use Rattle.g_look.specs.SeenDumps.{HasNoLower}
 use Rattle.g_look.proofs.pairs.falling.Given as goal
 
 abbrev pub invariant-loop-one : goal.invariant-loop-one

@@ -1,5 +1,5 @@
 use Rattle.std.proofs.Common.{arith, sym}
-use Rattle.g_look.specs.Seen.{HasNoTwin}
+use Rattle.g_look.specs.SeenDumps.{HasNoTwin}
 use Rattle.g_look.proofs.LoopLemmas.{all_seen, one_further}
 use Rattle.g_look.proofs.pairs.twice.Goals as goal
 

@@ -1,6 +1,6 @@
 use Rattle.std.proofs.Common.{◌≡◌, ℕ, ◌<◌, get_or}
 use Rattle.g_restore.specs.declared.dumps.Found.{Found}
-use Rattle.g_look.specs.Seen.{SamePlace}
+use Rattle.g_look.specs.SeenDumps.{SamePlace}
 use Rattle.g_look.proofs.pairs.twin.Given as goal
 
 abbrev pub invariant-loop-other : goal.invariant-loop-other

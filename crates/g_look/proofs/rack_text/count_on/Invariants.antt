@@ -1,5 +1,5 @@
 use Rattle.std.proofs.Common.{◌≡◌, ◌≤◌, take}
-use Rattle.g_look.specs.Shown.{count_on}
+use Rattle.g_look.specs.MemoryLines.{count_on}
 use Rattle.g_look.proofs.rack_text.count_on.Given as goal
 
 abbrev pub invariant-loop-one : goal.invariant-loop-one

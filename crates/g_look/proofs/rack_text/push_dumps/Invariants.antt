@@ -1,6 +1,6 @@
 use Rattle.std.proofs.Common.{◌≡◌, ◌++◌, drop}
 use Rattle.g_lines.specs.Lines.{text_of}
-use Rattle.g_look.specs.Shown.{lines_on}
+use Rattle.g_look.specs.MemoryLines.{lines_on}
 use Rattle.g_look.proofs.rack_text.push_dumps.Given as goal
 
 abbrev pub invariant-loop-one : goal.invariant-loop-one

@@ -2,7 +2,7 @@ use Rattle.std.proofs.Common.{◌≡◌, ◌++◌, ℕ, List, take}
 use Rattle.g_incr.specs.Layout.{Dump}
 use Rattle.g_lines.specs.Lines.{text_of}
 use Rattle.g_store_meaning.specs.Meaning.{told_reels}
-use Rattle.g_look.specs.Seen.{IsSeen}
+use Rattle.g_look.specs.SeenDumps.{IsSeen}
 use Rattle.g_look.specs.Text.{rack_lines}
 use Rattle.g_look.proofs.rack_text.push_rack.Given as goal
 

@@ -1,5 +1,5 @@
 use Rattle.std.proofs.Common.{[], ◌++◌, ◌∷◌}
-use Rattle.g_look.specs.Listed.{dumped_file_line, empty_text, file_front, taped_text}
+use Rattle.g_look.specs.FileLines.{dumped_file_line, empty_text, file_front, taped_text}
 use Rattle.g_look.proofs.PushLemmas.{last_more, then_more}
 use Rattle.g_look.proofs.restoring.push_line.Goals as goal
 

@@ -1,5 +1,5 @@
 use Rattle.g_look.specs.Looks.{OfDumps}
-use Rattle.g_look.specs.Shows.{IsShown}
+use Rattle.g_look.specs.ShownBytes.{IsShown}
 use Rattle.g_look_program.proofs.LookLemmas.{ends_check, ends_dumps, ends_given, list_ends, of_blocks, of_dumps, show_ends}
 use Rattle.g_look_program.proofs.answer.look.Goals as goal
 

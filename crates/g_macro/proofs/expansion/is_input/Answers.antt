@@ -1,6 +1,6 @@
 use Rattle.std.proofs.Common.{Bool, List, ap, not, sym, ℕ, ◌&&◌, ◌∙◌}
-use Rattle.g_lang.specs.How.{reading}
-use Rattle.g_lang.specs.Said.{is_input_said}
+use Rattle.g_lang.specs.LineReader.{reading}
+use Rattle.g_lang.specs.Meaning.{is_input_said}
 use Rattle.g_macro.proofs.HoldingLemmas.{input_front, input_unfilled}
 use Rattle.g_macro.specs.Expansion.{substituted}
 use Rattle.g_macro.proofs.expansion.is_input.Goals as goal

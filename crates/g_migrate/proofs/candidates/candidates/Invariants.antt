@@ -1,5 +1,5 @@
 use Rattle.std.proofs.Common.{◌≡◌, take}
-use Rattle.g_migrate.specs.Taken.{candidates_in}
+use Rattle.g_migrate.specs.Candidates.{candidates_in}
 use Rattle.g_migrate.proofs.candidates.candidates.Given as goal
 
 abbrev pub invariant-loop-file : goal.invariant-loop-file

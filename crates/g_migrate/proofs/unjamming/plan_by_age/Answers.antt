@@ -4,7 +4,7 @@ use Rattle.std.specs.List.Sorted.{IsNonDecreasingBy, IsPermutation}
 use Rattle.std.proofs.lemmas.Result.{IfOk-weaker}
 use Rattle.g_migrate.specs.declared.candidates.Candidate.{Candidate}
 use Rattle.g_online.specs.declared.unjam.Unjam.{Unjam}
-use Rattle.g_migrate.specs.Taken.{TakesFirst}
+use Rattle.g_migrate.specs.Candidates.{TakesFirst}
 use Rattle.g_migrate.proofs.CandidateLemmas.{few_files, few_sorted, small_room, small_sorted}
 use Rattle.g_migrate.proofs.MigrationLemmas.{rules_here}
 use Rattle.g_migrate.proofs.PlanLemmas.{none_taken, oldest_first, plan_is, room_behind}

@@ -1,7 +1,7 @@
 use Rattle.std.proofs.Common.{List, ℕ, ◌++◌, ◌≡◌, length}
 use Rattle.std.specs.List.{flat_map}
 use Rattle.g_lines.specs.Lines.{ended}
-use Rattle.g_mop.specs.Shown.{mark_of, shown_at}
+use Rattle.g_mop.specs.TerminalLines.{mark_of, shown_at}
 use Rattle.g_mop.proofs.shown.push_mark.Given as goal
 
 -- what was put so far, and the lines that are left, are all that is to be put

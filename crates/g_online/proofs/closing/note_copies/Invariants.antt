@@ -1,4 +1,4 @@
-use Rattle.g_online.specs.Dumped.{MarksMade}
+use Rattle.g_online.specs.DumpedVersions.{MarksMade}
 use Rattle.g_online.proofs.CloseNoteLemmas.{IsNoting, noted_below}
 use Rattle.g_online.proofs.closing.note_copies.Given as goal
 

@@ -1,7 +1,7 @@
 use Rattle.std.proofs.Common.{ℕ, ◌+◌, ap, inr, subst, sym, ◌∙◌}
 use Rattle.g_dirs.specs.Pages.{marked}
 use Rattle.g_tree.specs.Records.{IsRecords}
-use Rattle.g_online.specs.Dumped.{noted_at}
+use Rattle.g_online.specs.DumpedVersions.{noted_at}
 use Rattle.g_online.proofs.CloseMarkLemmas.{none_made, one_made}
 use Rattle.g_online.proofs.CloseNoteLemmas.{kept_here, name_there, none_at, put_here}
 use Rattle.g_online.proofs.closing.note_copy.Goals as goal

@@ -1,6 +1,6 @@
 use Rattle.std.proofs.Common.{◌≡◌, ◌∙◌, subst, sym}
 use Rattle.g_dirs.specs.Directory.{Directory, directory_of}
-use Rattle.g_online.specs.Committed.{HasCommitted, IsMarked}
+use Rattle.g_online.specs.Commit.{HasCommitted, IsMarked}
 use Rattle.g_online.proofs.WriteLemmas.{has_committed}
 use Rattle.g_online.proofs.commit.commit.Goals as goal
 

@@ -1,8 +1,7 @@
 use Rattle.std.proofs.Common.{ℕ, Option, Some, rules, ap, sym, ◌∙◌, option_map}
 use Rattle.std.proofs.lemmas.List.Sorted.{answers_always}
 use Rattle.g_copy.specs.declared.copy.DiscCopy.{DiscCopy}
-use Rattle.g_dirs.specs.Writing.{number_of_copy}
-use Rattle.g_dirs.proofs.ListingLemmas.{found_at_place, missing_at_place}
+use Rattle.g_dirs.proofs.ListingLemmas.{found_at_place, missing_at_place, number_of_copy}
 use Rattle.g_online.proofs.copies.copy_of.Goals as goal
 
 abbrev copy_in : Option (ℕ × DiscCopy) → Option DiscCopy

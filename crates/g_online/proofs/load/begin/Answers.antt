@@ -1,5 +1,5 @@
 use Rattle.std.proofs.Common.{◌∙◌, ap, subst, ℕ}
-use Rattle.g_online.specs.Begun.{memory_of}
+use Rattle.g_online.specs.Beginning.{memory_of}
 use Rattle.g_online.specs.Invariant.{AreWhole}
 use Rattle.g_online.proofs.BegunLemmas.{all_numbers, begun_tied}
 use Rattle.g_online.proofs.load.begin.Goals as goal

@@ -1,5 +1,5 @@
 use Rattle.std.proofs.Common.{◌≡◌, take}
-use Rattle.g_online.specs.Begun.{empty_copies}
+use Rattle.g_online.specs.Beginning.{empty_copies}
 use Rattle.g_online.proofs.load.empty_copies.Given as goal
 
 abbrev pub invariant-loop-file : goal.invariant-loop-file

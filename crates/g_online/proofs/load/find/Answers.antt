@@ -1,7 +1,7 @@
 use Rattle.std.proofs.Common.{◌≡◌, ◌∙◌}
 use Rattle.g_dirs.specs.declared.fault.DirsFault.TheVariants as dirs
 use Rattle.g_online.specs.declared.fault.OnlineFault.TheVariants.{NoFilestore}
-use Rattle.g_online.specs.Begun.{refusal_of}
+use Rattle.g_online.specs.Beginning.{refusal_of}
 use Rattle.g_online.proofs.BegunLemmas.{none_found}
 use Rattle.g_online.proofs.load.find.Goals as goal
 

@@ -1,6 +1,6 @@
 use Rattle.g_blocks.specs.Pool.{HasGiven, IsTaken}
 use Rattle.std.proofs.Common.{sym}
-use Rattle.g_online.specs.Dumped.{lost_of}
+use Rattle.g_online.specs.DumpedVersions.{lost_of}
 use Rattle.g_online.proofs.PoolLemmas.{given_none, given_then, next_apart, next_may, one_more, still_taken}
 use Rattle.g_online.proofs.pins.free_orphaned_pins.Goals as goal
 

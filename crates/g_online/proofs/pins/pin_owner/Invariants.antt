@@ -1,5 +1,5 @@
 use Rattle.std.proofs.Common.{take}
-use Rattle.g_online.specs.Dumped.{HasPut, waiting_of}
+use Rattle.g_online.specs.DumpedVersions.{HasPut, waiting_of}
 use Rattle.g_online.proofs.pins.pin_owner.Given as goal
 
 abbrev pub invariant-loop-file : goal.invariant-loop-file

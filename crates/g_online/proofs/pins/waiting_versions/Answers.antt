@@ -1,7 +1,7 @@
 use Rattle.std.proofs.Common.{◌∙◌, ◌≤◌, List, All, ap, arith, length, subst, sym}
 use Rattle.g_entry.specs.declared.file_rec.FileRec.{FileRec}
 use Rattle.g_tree.specs.Records.{IsRecords}
-use Rattle.g_online.specs.Dumped.{pins_from, waiting_below}
+use Rattle.g_online.specs.DumpedVersions.{pins_from, waiting_below}
 use Rattle.g_online.proofs.PinPutLemmas.{lengths_are, owner_fits, owner_more, owner_none, owners_all}
 use Rattle.g_online.proofs.pins.waiting_versions.Goals as goal
 

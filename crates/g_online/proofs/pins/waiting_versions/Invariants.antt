@@ -1,5 +1,5 @@
 use Rattle.std.proofs.Common.{[]}
-use Rattle.g_online.specs.Dumped.{HasPut, waiting_below}
+use Rattle.g_online.specs.DumpedVersions.{HasPut, waiting_below}
 use Rattle.g_online.proofs.pins.waiting_versions.Given as goal
 
 abbrev pub invariant-loop-owner : goal.invariant-loop-owner

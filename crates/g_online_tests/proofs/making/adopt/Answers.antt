@@ -1,7 +1,7 @@
 use Rattle.std.proofs.Common.{◌∙◌, ℕ, List, lit<, subst, sym}
 use Rattle.g_entry.specs.declared.file_rec.TapeCopy.{TapeCopy}
 use Rattle.g_online.specs.declared.change.Change.TheVariants.{Adopt}
-use Rattle.g_online.specs.Allowed.{IsAllowed}
+use Rattle.g_online.specs.AllowedChanges.{IsAllowed}
 use Rattle.g_online_tests.proofs.AllowedLemmas.{adopt_allowed}
 use Rattle.g_online_tests.proofs.making.adopt.Goals as goal
 

@@ -1,7 +1,7 @@
 use Rattle.std.proofs.Common.{subst, sym}
 use Rattle.g_entry.specs.declared.file_rec.FileRec.{FileRec}
 use Rattle.g_online.specs.declared.change.Change.TheVariants.{SetFile}
-use Rattle.g_online.specs.Allowed.{IsAllowed}
+use Rattle.g_online.specs.AllowedChanges.{IsAllowed}
 use Rattle.g_online_tests.proofs.AllowedLemmas.{file_allowed, there_is}
 use Rattle.g_online_tests.proofs.making.set_file.Goals as goal
 

@@ -1,5 +1,5 @@
 use Rattle.std.proofs.Common.{◌≡◌, refl, sym, subst}
-use Rattle.g_operator.specs.Anew.{beside_new}
+use Rattle.g_operator.specs.BeginningAnew.{beside_new}
 use Rattle.g_operator.specs.Arming.{tape_armed}
 use Rattle.g_operator.specs.Parts.{IsReady, Seen}
 use Rattle.g_operator.specs.System.{devices_in, facts_of}

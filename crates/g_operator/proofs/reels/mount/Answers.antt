@@ -3,8 +3,8 @@ use Rattle.std.specs.Prelude.{Result}
 use Rattle.g_tape.specs.Rack.{refuses_mount}
 use Rattle.g_plain.specs.declared.faults.StoreFault.{StoreFault}
 use Rattle.g_run_model.specs.Devices.{Devices}
-use Rattle.g_laws_runs.specs.Anew.{with_new_disc}
-use Rattle.g_operator.specs.Anew.{IsBlank, beside_new}
+use Rattle.g_laws_runs.specs.BeginningAnew.{with_new_disc}
+use Rattle.g_operator.specs.BeginningAnew.{IsBlank, beside_new}
 use Rattle.g_operator.specs.Reels.{MountsOn}
 use Rattle.g_operator.specs.System.{Down, IsRunning, SystemFacts, Up, facts_of}
 use Rattle.g_operator.proofs.AnewLemmas.{blank_mounting}

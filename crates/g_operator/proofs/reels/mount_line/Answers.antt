@@ -4,7 +4,7 @@ use Rattle.g_plain.specs.declared.faults.StoreFault.{StoreFault}
 use Rattle.g_script.specs.declared.operator.Operator.TheVariants as line
 use Rattle.g_store_model.specs.DumpSteps.{MountStep}
 use Rattle.g_run_model.specs.Texts.{tape_text}
-use Rattle.g_operator.specs.Anew.{beside_new}
+use Rattle.g_operator.specs.BeginningAnew.{beside_new}
 use Rattle.g_operator.specs.Parts.{IsReady, Seen}
 use Rattle.g_operator.specs.Reels.{StepsReels}
 use Rattle.g_operator.specs.System.{facts_of}

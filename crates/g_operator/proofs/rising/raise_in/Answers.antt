@@ -1,6 +1,6 @@
 use Rattle.std.proofs.Common.{◌≡◌, sym, ap, subst, inr}
 use Rattle.g_disc.specs.Disc.{DiscState}
-use Rattle.g_store_meaning.specs.Up.{StoreFacts}
+use Rattle.g_store_meaning.specs.StoreInvariant.{StoreFacts}
 use Rattle.g_operator.specs.Rising.{Raises, RefusesRise}
 use Rattle.g_operator.proofs.rising.raise_in.Goals as goal
 

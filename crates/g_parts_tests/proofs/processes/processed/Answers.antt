@@ -4,7 +4,7 @@ use Rattle.g_tape.specs.Rack.{Rack}
 use Rattle.g_plain.specs.declared.faults.StoreFault.{StoreFault}
 use Rattle.g_plain.specs.declared.faults.StoreFault.TheVariants.{Stopped}
 use Rattle.g_disc_contents.specs.Facts.{IsTied, OnlineFacts}
-use Rattle.g_store_meaning.specs.Up.{StoreFacts}
+use Rattle.g_store_meaning.specs.StoreInvariant.{StoreFacts}
 use Rattle.g_process.specs.Processing.{Processes, behind_process}
 use Rattle.g_parts_tests.proofs.processes.processed.Goals as goal
 

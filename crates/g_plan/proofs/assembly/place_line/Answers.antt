@@ -1,5 +1,5 @@
 use Rattle.std.proofs.Common.{subst}
-use Rattle.g_plan.specs.Filled.{MayFit}
+use Rattle.g_plan.specs.SecondPass.{MayFit}
 use Rattle.g_plan.proofs.FinishLemmas.{line-placed, line-refused}
 use Rattle.g_plan.proofs.assembly.place_line.Goals as goal
 

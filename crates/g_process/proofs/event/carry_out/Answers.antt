@@ -1,6 +1,6 @@
 use Rattle.std.proofs.Common.{◌∙◌, List, ap, map, refl, subst}
 use Rattle.g_shelf.specs.declared.rack.Listed.{Listed}
-use Rattle.g_process.specs.Prepared.{AtRelease, copies_of}
+use Rattle.g_process.specs.Preparation.{AtRelease, copies_of}
 use Rattle.g_process.specs.Releases.{AreReleased, IsCutAt, taken}
 use Rattle.g_process.proofs.CarryLemmas.{begin_fails, begun_by, blocks_fail, copies_fail, has_moved, may_begin, may_still, ready_still, still_listed, still_mounted}
 use Rattle.g_process.proofs.event.carry_out.Goals as goal

@@ -6,8 +6,8 @@ use Rattle.g_entry.specs.declared.head.Head.{Head}
 use Rattle.g_entry.specs.declared.user_rec.UserRec.{UserRec}
 use Rattle.g_incr.specs.Plan.{blocks_of}
 use Rattle.g_tree.specs.Records.{IsRecords}
-use Rattle.g_online.specs.Ready.{IsReadyFor, ready_with}
-use Rattle.g_process.specs.Planned.{copies_from, is_filled, versions}
+use Rattle.g_online.specs.ReadyCopies.{IsReadyFor, ready_with}
+use Rattle.g_process.specs.ProcessPlan.{copies_from, is_filled, versions}
 use Rattle.g_process.proofs.PlanLemmas.{few_blocks, first_is, made_ready, ready_rules}
 use Rattle.g_process.proofs.job.made_ready.Goals as goal
 

@@ -1,6 +1,6 @@
 use Rattle.std.proofs.Common.{◌≡◌, ◌+◌, take}
 use Rattle.g_incr.specs.Plan.{blocks_of}
-use Rattle.g_process.specs.Planned.{copies_from}
+use Rattle.g_process.specs.ProcessPlan.{copies_from}
 use Rattle.g_process.proofs.living.copies_from.Given as goal
 
 abbrev pub invariant-loop-version : goal.invariant-loop-version

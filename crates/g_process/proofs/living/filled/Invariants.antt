@@ -1,6 +1,6 @@
 use Rattle.std.proofs.Common.{◌≡◌, take}
 use Rattle.std.specs.Prelude.{filter}
-use Rattle.g_process.specs.Planned.{is_filled}
+use Rattle.g_process.specs.ProcessPlan.{is_filled}
 use Rattle.g_process.proofs.living.filled.Given as goal
 
 abbrev pub invariant-loop-file : goal.invariant-loop-file

@@ -1,6 +1,6 @@
 use Rattle.std.proofs.Common.{◌<◌, ℕ, ◌∙◌, refl, subst, sym}
 use Rattle.g_disc_contents.specs.Facts.{OnlineFacts}
-use Rattle.g_process.specs.Written.{AreReadable, WroteAt}
+use Rattle.g_process.specs.Progress.{AreReadable, WroteAt}
 use Rattle.g_process.proofs.WriteLemmas.{next_free, nothing_written, readable_then, wrote_one}
 use Rattle.g_process.proofs.write.write_blocks.Goals as goal
 

@@ -1,5 +1,5 @@
 use Rattle.std.proofs.Common.{◌≡◌}
-use Rattle.g_process.specs.Written.{HasWritten}
+use Rattle.g_process.specs.Progress.{HasWritten}
 use Rattle.g_process.proofs.write.write_blocks.Given as goal
 
 abbrev pub invariant-loop-k : goal.invariant-loop-k

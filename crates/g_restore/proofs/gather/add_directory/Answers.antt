@@ -1,6 +1,6 @@
 use Rattle.std.proofs.Common.{◌∙◌, ap, sym}
 use Rattle.g_restore.specs.declared.dumps.Found.{Found}
-use Rattle.g_restore.specs.Gathered.{behind}
+use Rattle.g_restore.specs.Gathering.{behind}
 use Rattle.g_restore.proofs.GatherLemmas.{held_nowhere, is_added}
 use Rattle.g_restore.proofs.gather.add_directory.Goals as goal
 

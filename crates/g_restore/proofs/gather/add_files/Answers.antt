@@ -1,6 +1,6 @@
 use Rattle.std.proofs.Common.{◌∙◌, List, ap, arith, length}
 use Rattle.g_entry.specs.declared.file_rec.FileRec.{FileRec}
-use Rattle.g_restore.specs.Gathered.{added}
+use Rattle.g_restore.specs.Gathering.{added}
 use Rattle.g_restore.proofs.NumberLemmas.{added_few, one_added}
 use Rattle.g_restore.proofs.gather.add_files.Goals as goal
 

@@ -1,5 +1,5 @@
 use Rattle.std.proofs.Common.{◌≡◌, ◌≤◌, ◌+◌, length, take}
-use Rattle.g_restore.specs.Gathered.{behind}
+use Rattle.g_restore.specs.Gathering.{behind}
 use Rattle.g_restore.proofs.gather.add_files.Given as goal
 
 abbrev pub invariant-loop-r : goal.invariant-loop-r

@@ -1,5 +1,5 @@
 use Rattle.std.proofs.Common.{◌≡◌, ◌∙◌, sym, subst, arith}
-use Rattle.g_restore.specs.Gathered.{IsFirstBad}
+use Rattle.g_restore.specs.Gathering.{IsFirstBad}
 use Rattle.g_restore.proofs.GatherLemmas.{all_gathered, nothing_gathered, one_bad, one_taken}
 use Rattle.g_restore.proofs.gather.gather_by_user.Goals as goal
 

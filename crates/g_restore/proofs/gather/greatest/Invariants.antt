@@ -1,4 +1,4 @@
-use Rattle.g_restore.specs.Gathered.{IsBestOf}
+use Rattle.g_restore.specs.Gathering.{IsBestOf}
 use Rattle.g_restore.proofs.gather.greatest.Given as goal
 
 abbrev pub invariant-loop-i : goal.invariant-loop-i

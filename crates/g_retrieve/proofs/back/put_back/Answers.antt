@@ -1,6 +1,6 @@
 use Rattle.std.proofs.Common.{Err, subst, sym}
 use Rattle.g_plain.specs.declared.faults.StoreFault.{StoreFault}
-use Rattle.g_retrieve.specs.Brought.{IsPutBack}
+use Rattle.g_retrieve.specs.Retrieval.{IsPutBack}
 use Rattle.g_retrieve.proofs.AllowLemmas.{plan_room, rules_here}
 use Rattle.g_retrieve.proofs.BackLemmas.{not_put, was_put}
 use Rattle.g_retrieve.proofs.back.put_back.Goals as goal

@@ -3,7 +3,7 @@ use Rattle.g_run_model.specs.Texts.{closing, waiting_files}
 use Rattle.g_job_table.specs.Crew.{CrewState}
 use Rattle.g_operator.specs.Parts.{Seen, seen}
 use Rattle.g_operator.specs.System.{Down}
-use Rattle.g_run.specs.Over.{ClosesBy, both}
+use Rattle.g_run.specs.ScriptEnd.{ClosesBy, both}
 use Rattle.g_run.specs.Parts.{DidAll}
 use Rattle.g_run.proofs.OverLemmas.{script_over}
 use Rattle.g_run.proofs.over.run_script.Goals as goal

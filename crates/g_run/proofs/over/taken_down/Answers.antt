@@ -1,7 +1,7 @@
 use Rattle.std.proofs.Common.{sym, ap, subst}
 use Rattle.g_operator.specs.Parts.{Seen}
 use Rattle.g_operator.specs.System.{SystemFacts, facts_of}
-use Rattle.g_run.specs.Over.{TakenDown, both}
+use Rattle.g_run.specs.ScriptEnd.{TakenDown, both}
 use Rattle.g_run.proofs.OverLemmas.{up_taken_down}
 use Rattle.g_run.proofs.over.taken_down.Goals as goal
 

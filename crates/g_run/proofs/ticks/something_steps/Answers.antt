@@ -1,5 +1,5 @@
 use Rattle.std.proofs.Common.{rules, ◌≡◌, true, false, is_some, option_map, sym, ◌∙◌, ap, subst}
-use Rattle.g_store_meaning.specs.Up.{DumpFacts}
+use Rattle.g_store_meaning.specs.StoreInvariant.{DumpFacts}
 use Rattle.g_operator.specs.Parts.{IsReady, Seen, seen}
 use Rattle.g_operator.specs.System.{SystemFacts}
 use Rattle.g_run.specs.Parts.{steps_in}

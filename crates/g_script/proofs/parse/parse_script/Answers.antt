@@ -1,9 +1,9 @@
 use Rattle.std.proofs.Common.{List, Some, [], ap, arith, length, subst, sym, ℕ, ◌+◌}
 use Rattle.g_lines.specs.Lines.{lines_of}
-use Rattle.g_script.specs.Reading.{IsFront, IsTaken}
+use Rattle.g_script.specs.Reading.{IsTaken}
 use Rattle.g_script.specs.Script.{Say}
 use Rattle.g_script.specs.declared.operator.Timed.{Timed}
-use Rattle.g_script.proofs.ReadLemmas.{bad_few, front_few, front_next, parsed_bad, taken_few}
+use Rattle.g_script.proofs.ReadLemmas.{bad_few, front_few, front_next, parsed_bad, taken_few, IsFront}
 use Rattle.g_script.proofs.parse.parse_script.Goals as goal
 
 pub read_item-requires : goal.read_item-requires

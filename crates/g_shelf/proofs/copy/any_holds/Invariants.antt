@@ -1,6 +1,6 @@
 use Rattle.std.proofs.Common.{ℕ, ◌<◌, get_or}
 use Rattle.g_incr.specs.declared.note.DumpNote.{DumpNote}
-use Rattle.g_shelf.specs.Next.{Holds}
+use Rattle.g_shelf.specs.ReaderSteps.{Holds}
 use Rattle.g_shelf.proofs.copy.any_holds.Given as goal
 
 abbrev pub invariant-loop-note : goal.invariant-loop-note

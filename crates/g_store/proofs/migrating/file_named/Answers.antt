@@ -1,7 +1,7 @@
 use Rattle.std.proofs.Common.{[], sym, ◌∙◌}
 use Rattle.std.proofs.lemmas.Option.{none-some, same_Some}
 use Rattle.g_plain.specs.PlainTree.{input_name}
-use Rattle.g_tree.specs.Asked.{zeros}
+use Rattle.g_tree.specs.AskedRecords.{zeros}
 use Rattle.g_tree.specs.Records.{name_of, tree_of}
 use Rattle.g_tree.proofs.NamedLemmas.{name_found}
 use Rattle.g_tree.proofs.PutLemmas.{named_found}

@@ -2,7 +2,7 @@ use Rattle.std.proofs.Common.{ℕ, List, ◌∙◌, ap, subst, sym}
 use Rattle.g_entry.specs.declared.file_rec.FileRec.{FileRec}
 use Rattle.g_entry.specs.declared.file_rec.TapeCopy.{TapeCopy}
 use Rattle.g_online.specs.declared.change.Change.TheVariants.{Adopt}
-use Rattle.g_online.specs.Allowed.{IsAllowed}
+use Rattle.g_online.specs.AllowedChanges.{IsAllowed}
 use Rattle.g_store.specs.Starting.{copies_named}
 use Rattle.g_store.proofs.AdoptLemmas.{may_adopt}
 use Rattle.g_store.proofs.starting.adopt.Goals as goal

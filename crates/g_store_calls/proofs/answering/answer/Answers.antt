@@ -1,5 +1,5 @@
 use Rattle.std.proofs.Common.{Err, subst}
-use Rattle.g_store_calls.specs.Granted.{Grants}
+use Rattle.g_store_calls.specs.GrantedCalls.{Grants}
 use Rattle.g_store_calls.proofs.CalmLemmas.{refused}
 use Rattle.g_store_calls.proofs.GrantedLemmas.{input_named, none_named, output_named}
 use Rattle.g_store_calls.proofs.KindLemmas.{kind_of, over, settled_refused}

@@ -1,7 +1,7 @@
 use Rattle.std.proofs.Common.{subst, sym}
 use Rattle.g_plain.specs.declared.calls.StoreCall.{StoreCall}
 use Rattle.g_tree.specs.declared.asked.Granted.TheVariants.{Output}
-use Rattle.g_store_calls.specs.Granted.{AnswersGrantedOver, GrantsOne}
+use Rattle.g_store_calls.specs.GrantedCalls.{AnswersGrantedOver, GrantsOne}
 use Rattle.g_store_calls.specs.Kinds.{IsSettled}
 use Rattle.g_store_calls.proofs.answering.for_output.Goals as goal
 

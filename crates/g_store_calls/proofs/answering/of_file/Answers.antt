@@ -2,7 +2,7 @@ use Rattle.std.proofs.Common.{subst, sym}
 use Rattle.g_plain.specs.declared.calls.StoreCall.{StoreCall}
 use Rattle.g_plain.specs.declared.calls.StoreCall.TheVariants.{Erase, Rename, TrapCheck, TrapGo, TrapStop}
 use Rattle.g_tree.specs.declared.asked.Granted.TheVariants.{Input}
-use Rattle.g_store_calls.specs.Granted.{AnswersGrantedOver, GrantsOne}
+use Rattle.g_store_calls.specs.GrantedCalls.{AnswersGrantedOver, GrantsOne}
 use Rattle.g_store_calls.specs.Kinds.{IsKind}
 use Rattle.g_store_calls.proofs.KindLemmas.{kind_of, over}
 use Rattle.g_store_calls.proofs.answering.of_file.Goals as goal

@@ -3,7 +3,7 @@ use Rattle.g_plain.specs.declared.calls.StoreCall.{StoreCall}
 use Rattle.g_plain.specs.Rules.{IsWithinLimits}
 use Rattle.g_tree.specs.declared.asked.Granted.TheVariants.{Nothing}
 use Rattle.g_store_calls.specs.Answering.{AnswersIn}
-use Rattle.g_store_calls.specs.Granted.{Grants}
+use Rattle.g_store_calls.specs.GrantedCalls.{Grants}
 use Rattle.g_store_calls.specs.Kinds.{IsSettled}
 use Rattle.g_store_calls.proofs.answering.without_file.Goals as goal
 

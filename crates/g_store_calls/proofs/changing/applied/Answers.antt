@@ -1,6 +1,6 @@
 use Rattle.std.proofs.Common.{Err, subst, sym}
 use Rattle.g_plain.specs.declared.faults.StoreFault.{StoreFault}
-use Rattle.g_store_calls.specs.Applied.{HasApplied}
+use Rattle.g_store_calls.specs.AppliedChange.{HasApplied}
 use Rattle.g_store_calls.proofs.RoomyLemmas.{applied_refused}
 use Rattle.g_store_calls.proofs.changing.applied.Goals as goal
 

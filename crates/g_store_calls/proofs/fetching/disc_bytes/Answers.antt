@@ -1,7 +1,7 @@
 use Rattle.std.proofs.Common.{List, ℕ, Result, Err, subst, sym}
 use Rattle.g_disc.proofs.CallLemmas.{ReadsByCause-for}
 use Rattle.g_plain.specs.declared.faults.StoreFault.{StoreFault}
-use Rattle.g_store_calls.specs.Fetched.{HasReadDisc}
+use Rattle.g_store_calls.specs.FetchedBytes.{HasReadDisc}
 use Rattle.g_store_calls.proofs.FaultLemmas.{disc_unread}
 use Rattle.g_store_calls.proofs.fetching.disc_bytes.Goals as goal
 

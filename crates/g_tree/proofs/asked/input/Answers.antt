@@ -1,6 +1,6 @@
 -- A file that is there has a number.
 use Rattle.std.proofs.Common.{sym, ◌∙◌, true≢false}
-use Rattle.g_tree.specs.Asked.{zeros}
+use Rattle.g_tree.specs.AskedRecords.{zeros}
 use Rattle.g_tree.proofs.asked.input.Goals as goal
 
 pub unreachable-requires : goal.unreachable-requires

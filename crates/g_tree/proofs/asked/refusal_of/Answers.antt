@@ -4,7 +4,7 @@ use Rattle.g_plain.specs.declared.refusals.CallName.{CallName}
 use Rattle.g_plain.specs.declared.faults.StoreFault.{StoreFault}
 use Rattle.g_plain.specs.PlainTree.{Tree}
 use Rattle.g_plain.specs.Grants.{granted_of}
-use Rattle.g_tree.specs.Asked.{IsGranted, zeros}
+use Rattle.g_tree.specs.AskedRecords.{IsGranted, zeros}
 use Rattle.g_tree.specs.Records.{tree_of}
 use Rattle.g_tree.specs.declared.asked.Granted.TheVariants.{Nothing}
 use Rattle.g_tree.proofs.GrantLemmas.{allowed_as, granted_as, input_found, refused_as}

@@ -1,4 +1,4 @@
-use Rattle.g_lang.specs.Said.{line_said}
+use Rattle.g_lang.specs.Meaning.{line_said}
 use Rattle.g_turn.proofs.SpokenLemmas.{spoken_read}
 use Rattle.g_turn.proofs.lines.read_line.Goals as goal
 

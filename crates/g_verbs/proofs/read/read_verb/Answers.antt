@@ -1,6 +1,6 @@
 use Rattle.std.proofs.Common.{List, ap, ℕ, ◌∙◌, ◌≡◌}
 use Rattle.g_verbs.proofs.ReadLemmas.{IsAsked, read-asked, read-wrong}
-use Rattle.g_verbs.specs.How.{asked}
+use Rattle.g_verbs.specs.VerbReader.{asked}
 use Rattle.g_verbs.specs.Tables.{forms_said}
 use Rattle.g_verbs.specs.Verbs.{forms_with, verb_of}
 use Rattle.g_verbs.proofs.read.read_verb.Goals as goal

@@ -1,7 +1,7 @@
 -- The block at the place of the number is copied, and the place goes first.
 use Rattle.std.proofs.Common.{◌<◌, ◌∷◌, [], Some, is_some, length, sym, ap, ◌∙◌, arith, true≢false}
 use Rattle.std.proofs.lemmas.List.{get_or_default}
-use Rattle.g_cache.specs.Cached.{without_block}
+use Rattle.g_cache.specs.CachedDisc.{without_block}
 use Rattle.g_cache.proofs.PlaceLemmas.{recall_places, recall_found, recall_first, recall_none, recall_same, place_within}
 use Rattle.g_cache.proofs.block_cache.BlockCache.recall.Goals as goal
 use Rattle.g_cache.proofs.block_cache.BlockCache.recall.Goals.{in-Some, in-None}

@@ -1,8 +1,8 @@
 use Rattle.std.proofs.Common.{◌+◌, ◌<◌, arith, subst, sym}
 use Rattle.g_disc_contents.specs.Facts.{OnlineFacts}
-use Rattle.g_online.specs.Allowed.{KeepsRules}
+use Rattle.g_online.specs.AllowedChanges.{KeepsRules}
 use Rattle.g_online.specs.Change.{closed}
-use Rattle.g_store_meaning.specs.Up.{DumpFacts, IsOpen}
+use Rattle.g_store_meaning.specs.StoreInvariant.{DumpFacts, IsOpen}
 use Rattle.g_dumper.proofs.OpenLemmas.{goes_on, more_fits, place_fits}
 use Rattle.g_dumper.proofs.RulesLemmas.{closing_rules}
 use Rattle.g_dumper.proofs.dump.Dump.write_next.Goals as goal

@@ -1,5 +1,5 @@
 use Rattle.std.proofs.Common.{sym, ◌∙◌}
-use Rattle.g_duplex.specs.Seen.{long_seen}
+use Rattle.g_duplex.specs.SeenReels.{long_seen}
 use Rattle.g_duplex.proofs.calls.DuplexTapes.reels.Goals as goal
 
 pub returns : goal.returns

@@ -1,8 +1,8 @@
 use Rattle.std.proofs.Common.{rules, arith, ◌≡◌, ◌+◌, ◌-◌, ◌≤◌, length, refl, sym, ap, subst}
 use Rattle.g_incr.specs.declared.waiting.Ahead.{Ahead}
-use Rattle.g_incr.specs.Pieces.{IsVersionAt, plan_from}
+use Rattle.g_incr.specs.Pieces.{plan_from}
 use Rattle.g_incr.specs.Plan.{IsContentAt, Plan, needs}
-use Rattle.g_incr.proofs.PieceLemmas.{content_at_version}
+use Rattle.g_incr.proofs.PieceLemmas.{content_at_version, IsVersionAt}
 use Rattle.g_incr.proofs.WaitingLemmas.{search_found}
 use Rattle.g_incr.proofs.writer.Writer.content.Goals as goal
 

@@ -1,5 +1,5 @@
 use Rattle.std.proofs.Common.{subst, sym}
-use Rattle.g_job.specs.Ends.{IsTurn}
+use Rattle.g_job.specs.TurnEnd.{IsTurn}
 use Rattle.g_job.proofs.EndingLemmas.{charged_turn}
 use Rattle.g_job.proofs.job.Job.charge.Goals as goal
 

@@ -1,5 +1,5 @@
 use Rattle.std.proofs.Common.{subst}
-use Rattle.g_job.specs.Ends.{IsTurn}
+use Rattle.g_job.specs.TurnEnd.{IsTurn}
 use Rattle.g_job.specs.Turns.{turn_work}
 use Rattle.g_job.specs.declared.turn.Turn.TheVariants as turn
 use Rattle.g_job.proofs.TerminalLemmas.{keeps_seat, turn_leaves}

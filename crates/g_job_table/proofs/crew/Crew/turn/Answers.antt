@@ -5,7 +5,7 @@ use Rattle.g_base.specs.declared.memory.NoMemory.{NoMemory}
 use Rattle.g_job.specs.State.{JobState}
 use Rattle.g_job.specs.Turns.{turn_work}
 use Rattle.g_job.specs.declared.turn.Turn.{Turn}
-use Rattle.g_plain.specs.Asks.{RanInPart}
+use Rattle.g_plain.specs.Programs.{RanInPart}
 use Rattle.g_job_table.specs.Crew.{CrewState}
 use Rattle.g_job_table.specs.Numbers.{job_in}
 use Rattle.g_job_table.specs.Seating.{seats_in}

@@ -1,4 +1,4 @@
-use Rattle.g_known.specs.Known.{IsKnown}
+use Rattle.g_known.specs.ReelNotes.{IsKnown}
 use Rattle.g_known.proofs.KnownLemmas.{all_after_reads, all_taken_out}
 use Rattle.g_known.proofs.known.KnownReels.completed.Goals as goal
 

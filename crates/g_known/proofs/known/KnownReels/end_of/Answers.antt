@@ -1,6 +1,6 @@
 use Rattle.std.proofs.Common.{◌≡◌, ◌∙◌, ap, arith}
-use Rattle.g_shelf.specs.Completed.{end_of}
-use Rattle.g_known.specs.Known.{end_in}
+use Rattle.g_shelf.specs.CompletedDumps.{end_of}
+use Rattle.g_known.specs.ReelNotes.{end_in}
 use Rattle.g_known.proofs.KnownLemmas.{found_low, noted_end}
 use Rattle.g_known.proofs.known.KnownReels.end_of.Goals as goal
 

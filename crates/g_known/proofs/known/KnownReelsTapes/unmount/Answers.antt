@@ -1,5 +1,5 @@
 use Rattle.std.proofs.Common.{All, subst, sym}
-use Rattle.g_known.specs.Known.{IsKnown}
+use Rattle.g_known.specs.ReelNotes.{IsKnown}
 use Rattle.g_known.proofs.KnownLemmas.{known_unmounted}
 use Rattle.g_known.proofs.known.KnownReelsTapes.unmount.Goals as goal
 

@@ -1,5 +1,5 @@
 use Rattle.std.proofs.Common.{◌≡◌, drop, find}
-use Rattle.g_macro.specs.Asked.{cond_holds}
+use Rattle.g_macro.specs.Questions.{cond_holds}
 use Rattle.g_macro.specs.Levels.{entry_that_holds}
 use Rattle.g_macro.proofs.level.Level.entry_that_holds.Given as goal
 

@@ -5,7 +5,7 @@ use Rattle.g_online.proofs.NotedLemmas.{noted_by, noted_kept}
 use Rattle.g_online.proofs.StepLemmas.{copies_for, marked_for}
 use Rattle.g_online.specs.declared.change.Change.TheVariants.{Adopt}
 use Rattle.g_online.specs.declared.pinned.Pinned.{Pinned}
-use Rattle.g_online.specs.Dumped.{noted_in}
+use Rattle.g_online.specs.DumpedVersions.{noted_in}
 use Rattle.g_online.proofs.online.Online.close_dump.Goals as goal
 
 pub free_orphaned_pins-requires-clause-apart : goal.free_orphaned_pins-requires-clause-apart

@@ -1,8 +1,8 @@
 use Rattle.std.proofs.Common.{◌≡◌, ◌∙◌, ℕ, [], ap, subst, sym}
 use Rattle.g_blocks.specs.Pool.{IsFresh}
 use Rattle.g_dirs.specs.Directory.{directory_of}
-use Rattle.g_online.specs.Begun.{empty_copies, memory_of}
-use Rattle.g_online.specs.Committed.{HasCommitted}
+use Rattle.g_online.specs.Beginning.{empty_copies, memory_of}
+use Rattle.g_online.specs.Commit.{HasCommitted}
 use Rattle.g_online.specs.Invariant.{facts_of}
 use Rattle.g_online.proofs.CopyLemmas.{Copies}
 use Rattle.g_online.proofs.BegunLemmas.{first_agreed, first_copies, first_marked, first_stopped, has_made}

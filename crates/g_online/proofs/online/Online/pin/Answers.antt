@@ -1,7 +1,7 @@
 use Rattle.std.proofs.Common.{◌∙◌, ℕ, List, ap, subst}
 use Rattle.g_copy.specs.declared.copy.DiscCopy.{DiscCopy}
 use Rattle.g_disc_contents.specs.Facts.{IsTied}
-use Rattle.g_online.specs.Dumped.{pins_from, waiting_below}
+use Rattle.g_online.specs.DumpedVersions.{pins_from, waiting_below}
 use Rattle.g_online.proofs.PinLemmas.{pinned_facts, pinned_kept}
 use Rattle.g_online.proofs.TieLemmas.{tied}
 use Rattle.g_online.proofs.online.Online.pin.Goals as goal

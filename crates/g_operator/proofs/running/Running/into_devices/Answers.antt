@@ -3,8 +3,8 @@ use Rattle.g_store_model.specs.CallStep.{down}
 use Rattle.g_store_model.specs.State.{State}
 use Rattle.g_store_meaning.specs.Meaning.{told_reels}
 use Rattle.g_store_meaning.specs.Reading.{DevicesStandFor, StandsForState}
-use Rattle.g_store_meaning.specs.Up.{StoreFacts}
-use Rattle.g_operator.specs.Boxed.{boxed}
+use Rattle.g_store_meaning.specs.StoreInvariant.{StoreFacts}
+use Rattle.g_operator.specs.Box.{boxed}
 use Rattle.g_operator.proofs.running.Running.into_devices.Goals as goal
 
 pub returns-clause-down : goal.returns-clause-down

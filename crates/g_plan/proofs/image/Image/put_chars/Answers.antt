@@ -1,7 +1,7 @@
 use Rattle.std.proofs.Common.{◌≡◌, ◌≤◌, ◌-◌, ◌+◌, ◌∙◌, Bool, Some, false, true, [], ◌∷◌, ap, arith, drop, length, length-drop, min, subst, sym, take, ℕ}
 use Rattle.std.proofs.lemmas.Bool.{eqb-false, eqb-true}
 use Rattle.std.proofs.lemmas.List.{take_all}
-use Rattle.g_plan.specs.Filled.{IsPut}
+use Rattle.g_plan.specs.SecondPass.{IsPut}
 use Rattle.g_plan.proofs.PutLemmas.{PutSoFar, chars-done, chars-next, chars-refused, put_none}
 use Rattle.g_plan.proofs.WordLemmas.{no_length, some_length}
 use Rattle.g_plan.proofs.image.Image.put_chars.Goals as goal

@@ -1,6 +1,6 @@
 use Rattle.std.proofs.Common.{Option, subst, sym, ℕ, ◌∷◌, []}
 use Rattle.std.specs.Option.{option_map}
-use Rattle.g_plan.specs.Filled.{IsPut}
+use Rattle.g_plan.specs.SecondPass.{IsPut}
 use Rattle.g_plan.proofs.image.Image.put_one.Goals as goal
 
 pub returns-in-Some : goal.returns-in-Some

@@ -1,6 +1,6 @@
 use Rattle.std.proofs.Common.{List, ap, subst, sym, ◌∙◌}
 use Rattle.std.specs.Option.{option_or}
-use Rattle.g_plan.specs.Indexed.{IsIndexed}
+use Rattle.g_plan.specs.LineIndex.{IsIndexed}
 use Rattle.g_plan.specs.declared.source.Line.{Line}
 use Rattle.g_plan.proofs.SourceLemmas.{indexed-one}
 use Rattle.g_plan.proofs.source.Source.with.Goals as goal

@@ -1,8 +1,8 @@
 use Rattle.std.proofs.Common.{Err, None, Ok, Some, ap, ◌∙◌, refl, subst}
 use Rattle.g_store_model.specs.DumpSteps.{Completed, Going}
-use Rattle.g_store_meaning.specs.Up.{StoreFacts}
+use Rattle.g_store_meaning.specs.StoreInvariant.{StoreFacts}
 use Rattle.g_dumper.specs.declared.dump.DumpStep.{DumpStep}
-use Rattle.g_dumper.specs.Keeps.{KeepsStore, behind_step, up_with}
+use Rattle.g_dumper.specs.Invariant.{KeepsStore, behind_step, up_with}
 use Rattle.g_dumper.specs.Steps.{Stepping, stepped}
 use Rattle.g_store.proofs.StepLemmas.{event_by, shelves_by}
 use Rattle.g_store.proofs.store.Store.dump_step.Goals as goal

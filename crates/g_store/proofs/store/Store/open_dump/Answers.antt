@@ -1,6 +1,6 @@
 use Rattle.std.proofs.Common.{ℕ, Bool, Err, Ok, Some, subst, sym}
 use Rattle.g_store_meaning.specs.Answers.{IsStore}
-use Rattle.g_store_meaning.specs.Up.{StoreFacts}
+use Rattle.g_store_meaning.specs.StoreInvariant.{StoreFacts}
 use Rattle.g_store.specs.Events.{Opens}
 use Rattle.g_store.proofs.FullLemmas.{opened_so, refused_by, refused_early}
 use Rattle.g_store.proofs.OpenedLemmas.{opens_by, opens_refused}

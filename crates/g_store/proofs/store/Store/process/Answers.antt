@@ -1,7 +1,7 @@
 use Rattle.std.proofs.Common.{Err, Ok, Result, ℕ, ◌∙◌, ap, subst, sym}
 use Rattle.g_plain.specs.declared.faults.StoreFault.{StoreFault}
 use Rattle.g_store_meaning.specs.Answers.{IsStore}
-use Rattle.g_store_meaning.specs.Up.{StoreFacts}
+use Rattle.g_store_meaning.specs.StoreInvariant.{StoreFacts}
 use Rattle.g_store.proofs.ProcessedLemmas.{err_store, not_open, ok_store, process_early, process_err, process_ok}
 use Rattle.g_store.proofs.ProcessingLemmas.{moves_of, refused_moves, refused_steps, steps_of}
 use Rattle.g_store.proofs.store.Store.process.Goals as goal

@@ -4,7 +4,7 @@ use Rattle.std.specs.Option.{option_map}
 use Rattle.g_plain.specs.PlainTree.{file_row}
 use Rattle.g_plain.proofs.TreeLemmas.{length-no_row}
 use Rattle.g_tree.specs.Records.{file_row_of, tree_of}
-use Rattle.g_tree.specs.Asked.{zeros}
+use Rattle.g_tree.specs.AskedRecords.{zeros}
 use Rattle.g_tree.proofs.RecordLemmas.{get_file}
 use Rattle.g_tree.proofs.NamedLemmas.{none_mapped, zeros_fit}
 use Rattle.g_tree.proofs.asked.Records.len.Goals as goal

@@ -1,6 +1,6 @@
 -- As many files as records.
 use Rattle.std.proofs.Common.{length, sym, ap, ◌∙◌}
-use Rattle.g_tree.specs.Asked.{zeros}
+use Rattle.g_tree.specs.AskedRecords.{zeros}
 use Rattle.g_tree.proofs.RuleLemmas.{count_files}
 use Rattle.g_tree.proofs.asked.RecordsQuestions.files.Goals as goal
 

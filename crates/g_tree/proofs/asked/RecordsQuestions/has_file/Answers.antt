@@ -1,6 +1,6 @@
 -- A file is there where it has a number.
 use Rattle.std.proofs.Common.{◌∙◌}
-use Rattle.g_tree.specs.Asked.{zeros}
+use Rattle.g_tree.specs.AskedRecords.{zeros}
 use Rattle.g_tree.proofs.asked.RecordsQuestions.has_file.Goals as goal
 
 pub returns : goal.returns

@@ -1,5 +1,5 @@
 -- The users are those of the records.
-use Rattle.g_tree.specs.Asked.{zeros}
+use Rattle.g_tree.specs.AskedRecords.{zeros}
 use Rattle.g_tree.proofs.asked.RecordsQuestions.has_user.Goals as goal
 
 pub returns : goal.returns

@@ -4,7 +4,7 @@ use Rattle.std.specs.FinMap.{FinMap, get, len}
 use Rattle.g_name.specs.Order.{text_cmp}
 use Rattle.g_plain.specs.PlainTree.{file_row}
 use Rattle.g_tree.specs.Records.{name_of, tree_of}
-use Rattle.g_tree.specs.Asked.{zeros}
+use Rattle.g_tree.specs.AskedRecords.{zeros}
 use Rattle.g_tree.proofs.NamedLemmas.{number_there}
 use Rattle.g_tree.proofs.asked.RecordsQuestions.is_ninth.Goals as goal
 

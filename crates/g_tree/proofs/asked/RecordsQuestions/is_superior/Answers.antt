@@ -3,7 +3,7 @@ use Rattle.std.proofs.Common.{sym, ◌∙◌, true≢false}
 use Rattle.g_name.specs.Order.{same_text}
 use Rattle.g_plain.specs.PlainTree.{user_row}
 use Rattle.g_tree.specs.Records.{tree_of}
-use Rattle.g_tree.specs.Asked.{zeros}
+use Rattle.g_tree.specs.AskedRecords.{zeros}
 use Rattle.g_tree.proofs.asked.RecordsQuestions.is_superior.Goals as goal
 
 pub unreachable-requires : goal.unreachable-requires

@@ -2,7 +2,7 @@
 use Rattle.std.proofs.Common.{◌≡◌, IfSome, sym, ap, subst, ◌∙◌, true≢false}
 use Rattle.g_plain.specs.PlainTree.{file_row, modes_of}
 use Rattle.g_tree.specs.Records.{name_of, tree_of}
-use Rattle.g_tree.specs.Asked.{zeros}
+use Rattle.g_tree.specs.AskedRecords.{zeros}
 use Rattle.g_tree.proofs.NamedLemmas.{number_there}
 use Rattle.g_tree.proofs.asked.RecordsQuestions.modes_of.Goals as goal
 

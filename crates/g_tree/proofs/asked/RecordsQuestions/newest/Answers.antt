@@ -1,6 +1,6 @@
 -- The greatest generation among records is that of the tree.
 use Rattle.std.proofs.Common.{◌∙◌}
-use Rattle.g_tree.specs.Asked.{zeros}
+use Rattle.g_tree.specs.AskedRecords.{zeros}
 use Rattle.g_tree.proofs.AnswerLemmas.{newest_there}
 use Rattle.g_tree.proofs.asked.RecordsQuestions.newest.Goals as goal
 

@@ -3,7 +3,7 @@ use Rattle.std.proofs.Common.{◌≡◌, ◌-◌, Some, length, sym, ap, ◌∙�
 use Rattle.g_base.specs.Block.{blocks_for}
 use Rattle.g_plain.specs.PlainTree.{user_row, used_blocks}
 use Rattle.g_tree.specs.Records.{tree_of}
-use Rattle.g_tree.specs.Asked.{zeros}
+use Rattle.g_tree.specs.AskedRecords.{zeros}
 use Rattle.g_tree.proofs.LawLemmas.{named_by_number}
 use Rattle.g_tree.proofs.NamedLemmas.{user_row_named, zeros_fit}
 use Rattle.g_tree.proofs.asked.RecordsQuestions.space_left.Goals as goal

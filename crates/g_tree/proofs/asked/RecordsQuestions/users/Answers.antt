@@ -1,6 +1,6 @@
 -- As many users as records.
 use Rattle.std.proofs.Common.{length, sym, ap, ◌∙◌}
-use Rattle.g_tree.specs.Asked.{zeros}
+use Rattle.g_tree.specs.AskedRecords.{zeros}
 use Rattle.g_tree.proofs.RuleLemmas.{count_users}
 use Rattle.g_tree.proofs.asked.RecordsQuestions.users.Goals as goal
 

@@ -1,6 +1,6 @@
 use Rattle.std.proofs.Common.{◌∙◌, IfSome, sym, ap, subst}
-use Rattle.g_turn.specs.Met.{IsSpoken, Met}
-use Rattle.g_lang.specs.Said.{command_said}
+use Rattle.g_turn.specs.LineMeaning.{IsSpoken, Met}
+use Rattle.g_lang.specs.Meaning.{command_said}
 use Rattle.g_macro.specs.Levels.{holds}
 use Rattle.g_turn.proofs.SpokenLemmas.{met_holds}
 use Rattle.g_turn.proofs.work.Work.+behind_conditions.Goals as goal

@@ -1,7 +1,7 @@
 use Rattle.std.proofs.Common.{◌∙◌, ap, sym}
 use Rattle.std.proofs.lemmas.Result.{on_err_weaker}
 use Rattle.g_turn.specs.State.{Work}
-use Rattle.g_peri.specs.Held.{is_assigned}
+use Rattle.g_peri.specs.JobUnits.{is_assigned}
 use Rattle.g_turn.proofs.UseLemmas.{assign_part}
 use Rattle.g_turn.proofs.work.Work.assign.Goals as goal
 

@@ -2,7 +2,7 @@ use Rattle.std.proofs.Common.{sym, ◌∙◌}
 use Rattle.std.proofs.lemmas.Result.{on_ok_weaker, on_err_weaker}
 use Rattle.g_turn.proofs.ReadyLemmas.{on_err}
 use Rattle.g_turn.specs.Lines.{does_line, may_fire}
-use Rattle.g_turn.specs.Met.{read_as}
+use Rattle.g_turn.specs.LineMeaning.{read_as}
 use Rattle.g_turn.proofs.WellThen.{part_first, part_then, well_over, well_then}
 use Rattle.g_turn.proofs.work.Work.behind_echo.Goals as goal
 

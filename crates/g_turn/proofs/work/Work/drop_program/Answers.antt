@@ -2,7 +2,7 @@ use Rattle.std.proofs.Common.{◌∙◌, ap, refl, sym}
 use Rattle.std.proofs.lemmas.Result.{on_ok_weaker}
 use Rattle.g_turn.proofs.ReadyLemmas.{on_err}
 use Rattle.g_turn.specs.Releases.{deleted, dropped}
-use Rattle.g_turn.specs.Say.{done}
+use Rattle.g_turn.specs.Outcomes.{done}
 use Rattle.g_turn.specs.State.{Work}
 use Rattle.g_turn.proofs.ReleaseLemmas.{release_first, release_over, release_part, release_then}
 use Rattle.g_turn.proofs.work.Work.drop_program.Goals as goal

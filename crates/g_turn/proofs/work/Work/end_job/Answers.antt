@@ -1,6 +1,6 @@
 use Rattle.std.proofs.Common.{◌∙◌, refl, sym}
 use Rattle.g_turn.specs.Releases.{finished}
-use Rattle.g_turn.specs.Say.{done}
+use Rattle.g_turn.specs.Outcomes.{done}
 use Rattle.g_turn.proofs.ReleaseLemmas.{release_first, release_over, release_then}
 use Rattle.g_turn.proofs.work.Work.end_job.Goals as goal
 

@@ -1,8 +1,8 @@
 use Rattle.g_turn.specs.Lines.{does_fired}
-use Rattle.g_turn.specs.Say.{is_over, say}
+use Rattle.g_turn.specs.Outcomes.{is_over, say}
 use Rattle.g_monitor.specs.JobLines.{marked}
 use Rattle.g_monitor.specs.declared.job_lines.Mark.TheVariants as mark
-use Rattle.g_plain.specs.Asks.{Gives, and_then}
+use Rattle.g_plain.specs.Programs.{Gives, and_then}
 use Rattle.g_turn.proofs.ReadyLemmas.{err_none}
 use Rattle.g_turn.proofs.work.Work.fires.Goals as goal
 

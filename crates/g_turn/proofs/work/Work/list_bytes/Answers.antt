@@ -1,6 +1,6 @@
 use Rattle.std.proofs.Common.{codes, ap, ◌++◌, ◌∙◌, sym}
 use Rattle.g_turn.proofs.SayLemmas.{all_on, all_over}
-use Rattle.g_turn.specs.Say.{done, say_all}
+use Rattle.g_turn.specs.Outcomes.{done, say_all}
 use Rattle.g_turn.specs.State.{Work}
 use Rattle.g_monitor.specs.Listing.{listed_lines}
 use Rattle.g_monitor.specs.Parts.{full_text}

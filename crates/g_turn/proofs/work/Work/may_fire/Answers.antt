@@ -1,5 +1,5 @@
 use Rattle.std.proofs.Common.{subst}
-use Rattle.g_turn.specs.Going.{FiredAs}
+use Rattle.g_turn.specs.LineWork.{FiredAs}
 use Rattle.g_turn.specs.Lines.{may_fire}
 use Rattle.g_turn.proofs.ReadyLemmas.{err_none, fired_level, fired_ready}
 use Rattle.g_turn.proofs.work.Work.may_fire.Goals as goal

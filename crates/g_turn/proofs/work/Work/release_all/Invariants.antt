@@ -1,10 +1,10 @@
 -- What the places to come give is what all give.
 use Rattle.std.proofs.Common.{◌≡◌, ℕ, ◌+◌, ◌*◌, ◌≤◌, false, drop, length}
 use Rattle.g_turn.specs.Releases.{release_all, release_each}
-use Rattle.g_turn.specs.Say.{is_over}
+use Rattle.g_turn.specs.Outcomes.{is_over}
 use Rattle.g_turn.specs.State.{Work}
 use Rattle.g_turn.specs.Steps.{RanWell}
-use Rattle.g_plain.specs.Asks.{RanInPart}
+use Rattle.g_plain.specs.Programs.{RanInPart}
 use Rattle.g_turn.proofs.work.Work.release_all.Given as goal
 
 abbrev pub invariant-loop-place : goal.invariant-loop-place

@@ -1,5 +1,5 @@
 use Rattle.std.proofs.Common.{false}
-use Rattle.g_lang.specs.Said.{command_said}
+use Rattle.g_lang.specs.Meaning.{command_said}
 use Rattle.std.proofs.lemmas.Result.{on_ok_weaker}
 use Rattle.g_turn.proofs.ReadyLemmas.{said_ready}
 use Rattle.g_turn.proofs.work.Work.run_parsed_line.Goals as goal

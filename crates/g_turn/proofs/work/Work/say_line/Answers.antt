@@ -1,5 +1,5 @@
 use Rattle.std.proofs.Common.{Some, ap, ◌∙◌}
-use Rattle.g_turn.specs.Say.{say}
+use Rattle.g_turn.specs.Outcomes.{say}
 use Rattle.g_turn.specs.State.{AgainLine}
 use Rattle.g_turn.specs.contracts.work.Work.{the_view}
 use Rattle.g_lang.specs.Words.{trimmed}

@@ -1,7 +1,7 @@
 -- What the rest of the lines gives is what all give.
 use Rattle.std.proofs.Common.{◌≡◌, length}
 use Rattle.std.specs.Prelude.{map}
-use Rattle.g_turn.specs.Say.{say_all}
+use Rattle.g_turn.specs.Outcomes.{say_all}
 use Rattle.g_monitor.specs.Listing.{listed_lines, shown_line}
 use Rattle.g_turn.proofs.work.Work.say_lines.Given as goal
 

@@ -1,6 +1,6 @@
 use Rattle.std.proofs.Common.{subst}
-use Rattle.g_turn.specs.Going.{FiredAs}
-use Rattle.g_turn.specs.Say.{with_levels}
+use Rattle.g_turn.specs.LineWork.{FiredAs}
+use Rattle.g_turn.specs.Outcomes.{with_levels}
 use Rattle.g_turn.specs.contracts.work.Work.{the_view}
 use Rattle.g_turn.proofs.ReadyLemmas.{fired_as}
 use Rattle.g_turn.proofs.work.Work.take_fired.Goals as goal

@@ -1,6 +1,6 @@
 use Rattle.std.proofs.Common.{ℕ, List, length, ◌∙◌, ap}
 use Rattle.std.proofs.lemmas.Result.{on_ok_weaker, on_err_weaker}
-use Rattle.g_turn.specs.Say.{with_bytes}
+use Rattle.g_turn.specs.Outcomes.{with_bytes}
 use Rattle.g_turn.specs.Uses.{listed}
 use Rattle.g_turn.proofs.UseLemmas.{append_part, assemble_part, assemble_well, list_well, put_part}
 use Rattle.g_turn.proofs.work.Work.use_fetched.Goals as goal

@@ -4,7 +4,7 @@ use Rattle.std.proofs.lemmas.Result.{on_ok_weaker}
 use Rattle.g_turn.specs.Commands.{acted}
 use Rattle.g_turn.specs.Steps.{RanWell}
 use Rattle.g_turn.proofs.SpokenLemmas.{index_read}
-use Rattle.g_verbs.specs.How.{action_read}
+use Rattle.g_verbs.specs.VerbReader.{action_read}
 use Rattle.g_verbs.specs.contracts.fault.VerbFault.{enum}
 use Rattle.g_turn.proofs.work.Work.verb.Goals as goal
 

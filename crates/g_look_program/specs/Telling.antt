@@ -1,0 +1,190 @@
+-- What a look tells of its answer, the status with which it ends, and the cause of each.
+use Rattle.std.specs.Prelude.{◌≡◌, ◌⊎◌, ℕ, List, Option, Some, None, Bool, true, false, Result, Ok, Err, codes}
+use Rattle.g_base.specs.Counts.{Rose}
+use Rattle.g_dirs.specs.Directory.{Directory}
+use Rattle.g_dirs.specs.Image.{StandsFor}
+use Rattle.g_disc.specs.Disc.{DiscState}
+use Rattle.g_incr.specs.Layout.{Dump}
+use Rattle.g_io.specs.Streams.{HasPutPart, with_more}
+use Rattle.g_lines.specs.Lines.{text_of}
+use Rattle.g_name.specs.declared.path.Path.{Path}
+use Rattle.g_tape.specs.Rack.{Rack}
+use Rattle.g_tape.specs.Reads.{OnlyReads}
+use Rattle.g_tape.specs.Reel.{Reel}
+use Rattle.g_look.specs.declared.broken.Broken.{Broken}
+use Rattle.g_look.specs.declared.checking.Checked.{Checked}
+use Rattle.g_look.specs.declared.fault.LookFault.{LookFault}
+use Rattle.g_look.specs.declared.fault.LookFault.TheVariants as fault
+use Rattle.g_look.specs.declared.restoring.Given.{Given}
+use Rattle.g_look.specs.Lists.{IsListed, IsNobody, IsRestorable}
+use Rattle.g_look.specs.ShownBytes.{IsLost, IsNoFile, IsShown}
+use Rattle.g_look.specs.Text.{IsChecked, rack_lines}
+use Rattle.g_look_program.specs.declared.status.Status.{Status}
+use Rattle.g_look_program.specs.declared.status.Status.TheVariants as status
+
+-- what was written to a sink before and behind a look, and the counts of its faults
+pub record Written : Type 0 where
+  pub before : Option (List ℕ)
+  pub after : Option (List ℕ)
+  pub faults_before : ℕ
+  pub faults_after : ℕ
+
+-- nothing was put
+pub record IsQuiet (w : Written) : Type 0 where
+  pub same : w.after ≡ w.before
+  pub kept : w.faults_after ≡ w.faults_before
+
+-- the text was put
+pub record IsWhole (text : List ℕ) (w : Written) : Type 0 where
+  pub all : w.after ≡ with_more w.before text
+  pub kept : w.faults_after ≡ w.faults_before
+
+-- the sink failed, and a front of the text was put
+pub record IsCut (text : List ℕ) (w : Written) : Type 0 where
+  pub part : HasPutPart w.before text w.after
+  pub rose : Rose w.faults_before w.faults_after
+
+-- the same of one of such texts
+abbrev pub IsCutOf : (List ℕ → Type 0) → Written → Type 0
+IsCutOf IsSo w = (text : List ℕ) × IsSo text × IsCut text w
+
+-- the one line that is told in the place of a text
+abbrev pub IsFaultLine : List ℕ → Type 0
+IsFaultLine text = (text ≡ codes "DISC READ\n") ⊎ ((text ≡ codes "TAPE READ\n") ⊎ ((text ≡ codes "NO FILESTORE\n") ⊎ (text ≡ codes "NO USER\n")))
+
+-- A TEXT IS PUT, and that ends with this status where the sink didn't fail
+abbrev pub Puts : Status → List ℕ → Status → Written → Type 0
+Puts due text ended w = ((ended ≡ due) × IsWhole text w) ⊎ ((ended ≡ status.OutputFault) × IsCut text w)
+
+abbrev pub EndsQuietly : Status → Status → Written → Type 0
+EndsQuietly due ended w = (ended ≡ due) × IsQuiet w
+
+-- WHAT IS TOLD OF A FAULT
+abbrev pub TellsFault : LookFault → Status → Written → Type 0
+TellsFault fault.DiscUnread ended w = Puts status.Unread (codes "DISC READ\n") ended w
+TellsFault fault.TapeUnread ended w = Puts status.Unread (codes "TAPE READ\n") ended w
+TellsFault fault.NoFilestore ended w = Puts status.No (codes "NO FILESTORE\n") ended w
+TellsFault fault.NoUser ended w = Puts status.No (codes "NO USER\n") ended w
+TellsFault fault.NoFile ended w = EndsQuietly status.No ended w
+TellsFault fault.NoCopy ended w = EndsQuietly status.No ended w
+TellsFault fault.NoMemory ended w = EndsQuietly status.NoMemory ended w
+
+-- the status of a fault where nothing is told of it
+abbrev pub status_of : LookFault → Status
+status_of fault.DiscUnread = status.Unread
+status_of fault.TapeUnread = status.Unread
+status_of fault.NoFilestore = status.No
+status_of fault.NoUser = status.No
+status_of fault.NoFile = status.No
+status_of fault.NoCopy = status.No
+status_of fault.NoMemory = status.NoMemory
+
+-- a text, or why there is none
+abbrev pub Tells : Result (List ℕ) LookFault → Status → Written → Type 0
+Tells (Ok text) ended w = Puts status.Done text ended w
+Tells (Err why) ended w = TellsFault why ended w
+
+-- the bytes of a file, or nothing
+abbrev pub TellsBytes : Result (List ℕ) LookFault → Status → Written → Type 0
+TellsBytes (Ok bytes) ended w = Puts status.Done bytes ended w
+TellsBytes (Err why) ended w = EndsQuietly (status_of why) ended w
+
+-- the status of a check: what is broken, and whether the disc holds a filestore
+abbrev pub verdict : Option Broken → Bool → Status
+verdict (Some broken) filestore = status.No
+verdict None true = status.Done
+verdict None false = status.Nothing
+
+abbrev pub TellsCheck : Result Checked LookFault → Status → Written → Type 0
+TellsCheck (Ok c) ended w = Puts (verdict c.broken c.filestore) c.text ended w
+TellsCheck (Err why) ended w = TellsFault why ended w
+
+-- the status of what a restore would give, or of its refusal
+abbrev pub outcome : Bool → Status
+outcome true = status.Done
+outcome false = status.No
+
+abbrev pub TellsGiven : Result Given LookFault → Status → Written → Type 0
+TellsGiven (Ok r) ended w = Puts (outcome r.given) r.text ended w
+TellsGiven (Err why) ended w = TellsFault why ended w
+
+-- the disc stands for a filestore
+abbrev pub HoldsOne : Option (List (List ℕ)) → Type 0
+HoldsOne held = (blocks : List (List ℕ)) × (held ≡ Some blocks) × (d : Directory) × StandsFor blocks d
+
+-- the text of a check with this verdict
+abbrev pub IsTextOf : ℕ → Option (List (List ℕ)) → List Reel → Option Broken → Written → Type 0
+IsTextOf size held reels broken w = (text : List ℕ) × IsChecked size held reels broken text × IsWhole text w
+
+-- THE END OF A CHECK of devices that tell: its text is put, and the status says whether they belong together, and whether the disc
+-- holds a filestore. Or a device, the sink or memory failed; where the sink failed a front of the due text was put.
+abbrev pub EndsCheck : Status → ℕ → Option (List (List ℕ)) → List Reel → Written → Type 0
+EndsCheck status.Done size held reels w = IsTextOf size held reels None w × HoldsOne held
+EndsCheck status.Nothing size held reels w = IsTextOf size held reels None w × (HoldsOne held → ⊥)
+EndsCheck status.No size held reels w = (b : Broken) × IsTextOf size held reels (Some b) w
+EndsCheck status.Unread size held reels w = IsWhole (codes "DISC READ\n") w ⊎ IsWhole (codes "TAPE READ\n") w
+EndsCheck status.OutputFault size held reels w = IsCutOf (λ text. ((broken : Option Broken) × IsChecked size held reels broken text) ⊎ IsFaultLine text) w
+EndsCheck status.NoMemory size held reels w = IsQuiet w
+EndsCheck status.Words size held reels w = ⊥
+
+-- THE END OF A LOOK AT THE DUMPS, where the reels tell
+abbrev pub EndsDumps : Status → (ℕ → List Dump) → List Reel → Written → Type 0
+EndsDumps status.Done shelf reels w = IsWhole (text_of (rack_lines shelf reels)) w
+EndsDumps status.Unread shelf reels w = IsWhole (codes "TAPE READ\n") w
+EndsDumps status.OutputFault shelf reels w = IsCutOf (λ text. (text ≡ text_of (rack_lines shelf reels)) ⊎ IsFaultLine text) w
+EndsDumps status.NoMemory shelf reels w = IsQuiet w
+EndsDumps other shelf reels w = ⊥
+
+-- THE END OF A LIST of what a disc stands for that tells
+abbrev pub EndsList : Status → List (List ℕ) → Option (List ℕ) → Written → Type 0
+EndsList status.Done blocks only w = (text : List ℕ) × IsListed blocks only text × IsWhole text w
+EndsList status.No blocks only w =
+    (((d : Directory) → StandsFor blocks d → ⊥) × IsWhole (codes "NO FILESTORE\n") w) ⊎ (IsNobody blocks only × IsWhole (codes "NO USER\n") w)
+EndsList status.Unread blocks only w = IsWhole (codes "DISC READ\n") w
+EndsList status.OutputFault blocks only w = IsCutOf (λ text. IsListed blocks only text ⊎ IsFaultLine text) w
+EndsList status.NoMemory blocks only w = IsQuiet w
+EndsList other blocks only w = ⊥
+
+-- why no bytes are shown: no filestore, no file, or its copy is nowhere
+abbrev pub HasNoBytes : List (List ℕ) → List Dump → Path → Type 0
+HasNoBytes blocks dumps path = ((d : Directory) → StandsFor blocks d → ⊥) ⊎ (IsNoFile blocks path ⊎ IsLost blocks dumps path)
+
+-- THE END OF A LOOK AT A FILE, where disc and reels tell: its bytes are put, and nothing else whatever happens
+abbrev pub EndsShow : Status → List (List ℕ) → List Dump → Path → Written → Type 0
+EndsShow status.Done blocks dumps path w = (text : List ℕ) × IsShown blocks dumps path text × IsWhole text w
+EndsShow status.No blocks dumps path w = HasNoBytes blocks dumps path × IsQuiet w
+EndsShow status.Unread blocks dumps path w = IsQuiet w
+EndsShow status.OutputFault blocks dumps path w = IsCutOf (IsShown blocks dumps path) w
+EndsShow status.NoMemory blocks dumps path w = IsQuiet w
+EndsShow other blocks dumps path w = ⊥
+
+-- THE END OF A LOOK AT WHAT CAN BE RESTORED, where the reels tell
+abbrev pub EndsGiven : Status → List Dump → Written → Type 0
+EndsGiven status.Done dumps w = (text : List ℕ) × IsRestorable dumps true text × IsWhole text w
+EndsGiven status.No dumps w = (text : List ℕ) × IsRestorable dumps false text × IsWhole text w
+EndsGiven status.Unread dumps w = IsWhole (codes "TAPE READ\n") w
+EndsGiven status.OutputFault dumps w = IsCutOf (λ text. ((given : Bool) × IsRestorable dumps given text) ⊎ IsFaultLine text) w
+EndsGiven status.NoMemory dumps w = IsQuiet w
+EndsGiven other dumps w = ⊥
+
+-- A LOOK LEAVES THE DISC as it was, but for the count of failed reads
+pub record LeavesDisc (before after : DiscState) : Type 0 where
+  pub held : after.held ≡ before.held
+  pub size : after.size ≡ before.size
+  pub write_faults : after.write_faults ≡ before.write_faults
+  pub writes : after.writes ≡ before.writes
+  pub fuse : after.fuse ≡ before.fuse
+  pub arms : after.arms ≡ before.arms
+
+-- WHAT A LOOK DOES to disc and rack, which ended so: it reads them. Where it says so a block couldn't be read
+pub record Looked (ended : Status) (disc disc_after : DiscState) (rack rack_after : Rack) : Type 0 where
+  pub disc_left : LeavesDisc disc disc_after
+  pub rack_left : OnlyReads rack rack_after
+  pub cause : ended ≡ status.Unread → Rose disc.read_faults disc_after.read_faults ⊎ Rose rack.read_faults rack_after.read_faults
+  pub quiet : (ended ≡ status.Unread → ⊥) → (ended ≡ status.OutputFault → ⊥)
+      → (disc_after.read_faults ≡ disc.read_faults) × (rack_after.read_faults ≡ rack.read_faults)
+
+-- the sink's fault is told exactly where it failed
+pub record SinkCause (ended : Status) (w : Written) : Type 0 where
+  pub rose : ended ≡ status.OutputFault → Rose w.faults_before w.faults_after
+  pub kept : (ended ≡ status.OutputFault → ⊥) → w.faults_after ≡ w.faults_before

@@ -1,0 +1,44 @@
+-- A SCRIPT that was read, done to its end: whose lines were done, the system taken down, and both devices handed back.
+use Rattle.std.specs.Prelude.{◌≡◌, ℕ, List, Option, Some, None}
+use Rattle.std.specs.Fn.{Shared}
+use denote.Ref.{Bor}
+use Rattle.g_budget.specs.declared.tariff.Charge.{Charge}
+use Rattle.g_budget.specs.declared.tariff.Usage.{Usage}
+use Rattle.g_disc.specs.Disc.{DiscState}
+use Rattle.g_sched.specs.declared.rule.Standing.{Standing}
+use Rattle.g_script.specs.declared.operator.Timed.{Timed}
+use Rattle.g_store_model.specs.CallStep.{down}
+use Rattle.g_store_model.specs.State.{State}
+use Rattle.g_tape.specs.Rack.{Rack}
+use Rattle.g_run_model.specs.Devices.{Devices, StandFor}
+use Rattle.g_run_model.specs.Top.{AreArmings, EndsWhole}
+use Rattle.g_laws_runs.specs.BeginningAnew.{AreBlank, BeginAnew, NoDiscFault, with_new_disc}
+use Rattle.g_operator.specs.declared.progress.Failure.{Failure}
+use Rattle.g_operator.specs.Puts.{FaultCause, Puts}
+use Rattle.g_operator.specs.System.{BelongTogether, SameDevices, StandsAs, SystemFacts, devices_in}
+use Rattle.g_run.specs.Parts.{DumpsKept}
+use Rattle.g_run.specs.Top.{EndsBy}
+
+abbrev pub both : DiscState → Rack → Devices
+both d r = record { disc = d; rack = r }
+
+-- the text of the end is put, unless a failure came before it
+abbrev pub ClosesBy : Option Failure → List ℕ → Option Failure → Option (List ℕ) → Option (List ℕ) → ℕ → ℕ → Type 0
+ClosesBy None text failure before after old new = Puts failure text before after old new
+ClosesBy (Some came) text failure before after old new = (failure ≡ Some came) × (after ≡ before) × (new ≡ old)
+
+-- A SYSTEM TAKEN DOWN: its devices, which stand for what it stood for, down
+pub record TakenDown (f : SystemFacts) (d : Devices) : Type 0 where
+  pub devices : d ≡ devices_in f
+  pub stands : (u : State) → StandsAs f u → StandFor d (down u)
+
+module _ {F U : Type 0} (tariffs : Shared F (Bor Usage × Unit {0}) Charge) (tariff : F) (rules : Shared U (Bor Standing × Unit {0}) ℕ) (rule : U) where
+  pub record DidScript (lines : List Timed) (bad : Option ℕ) (old : Devices) (failure : Option Failure) (new : Devices) (before after : Option (List ℕ)) (faults faults' : ℕ) : Type 0 where
+    pub ends : EndsBy tariffs tariff rules rule failure lines bad old new before after
+    -- over devices to begin anew with, where it was done to its end: from the state of a new disc
+    pub anew : failure ≡ None → AreBlank old → NoDiscFault old new → BeginAnew lines → EndsWhole tariffs tariff rules rule lines bad (with_new_disc old) new before after
+    pub arms : AreArmings lines (failure ≡ None) old new
+    pub same : SameDevices old new
+    pub belongs : BelongTogether old → BelongTogether new
+    pub dumps : BelongTogether old → DumpsKept lines old.rack new.rack
+    pub cause : FaultCause failure faults faults'

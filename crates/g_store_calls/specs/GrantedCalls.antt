@@ -1,0 +1,48 @@
+-- WHAT A CALL IS GRANTED: it isn't refused, and this is the file that it names; and how it is answered then.
+use Rattle.std.specs.Prelude.{ℕ, Bool, false, true, List, None, Result}
+use Rattle.g_tape.specs.Rack.{Rack}
+use Rattle.g_plain.specs.declared.calls.StoreCall.{StoreCall}
+use Rattle.g_plain.specs.declared.calls.StoreCall.TheVariants.{Budget, List as ListFiles, NewUser, Put}
+use Rattle.g_plain.specs.declared.calls.StoreReply.{StoreReply}
+use Rattle.g_plain.specs.declared.faults.StoreFault.{StoreFault}
+use Rattle.g_plain.specs.Grants.{name_in}
+use Rattle.g_tree.specs.AskedRecords.{IsGranted}
+use Rattle.g_tree.specs.declared.asked.Granted.{Granted}
+use Rattle.g_tree.specs.Records.{ForTree}
+use Rattle.g_disc_contents.specs.Contents.{recs_in}
+use Rattle.g_disc_contents.specs.Facts.{OnlineFacts}
+use Rattle.g_store_calls.specs.Answering.{AnswersIn, AnswersOver}
+use Rattle.g_store_calls.specs.Replies.{RefusesAs}
+
+pub record Grants (o : OnlineFacts) (who : List ℕ) (call : StoreCall) (granted : Granted) : Type 0 where
+  pub allowed : RefusesAs o.contents.users (recs_in o.contents) o.contents.head.next_stamp who call None
+  pub file : ForTree o.contents.users (recs_in o.contents) (λ t. IsGranted o.contents.users (recs_in o.contents) (name_in t who call) granted)
+
+-- to somebody
+abbrev pub GrantsOne : OnlineFacts → Granted → StoreCall → Type 0
+GrantsOne o granted call = (who : List ℕ) × Grants o who call granted
+
+-- the answer to whoever is granted this, of a call that needs no tape, and of one that takes or brings bytes
+abbrev pub AnswersGranted : OnlineFacts → Granted → Result StoreReply StoreFault → OnlineFacts → StoreCall → Type 0
+AnswersGranted old granted answer new call = (who : List ℕ) → Grants old who call granted → AnswersIn who call old answer new
+
+abbrev pub AnswersGrantedOver : OnlineFacts → Rack → Granted → Result StoreReply StoreFault → OnlineFacts → Rack → StoreCall → Type 0
+AnswersGrantedOver old rack granted answer new after call = (who : List ℕ) → Grants old who call granted → AnswersOver who call old rack answer new after
+
+-- the calls that name no file, those that name one for input, and the one that names one for output
+abbrev pub names_none : StoreCall → Bool
+names_none (NewUser user space time money) = true
+names_none (Budget user kind amount) = true
+names_none (ListFiles user) = true
+names_none call = false
+
+abbrev pub names_output : StoreCall → Bool
+names_output (Put path bytes) = true
+names_output call = false
+
+abbrev pub names_input : StoreCall → Bool
+names_input (NewUser user space time money) = false
+names_input (Budget user kind amount) = false
+names_input (ListFiles user) = false
+names_input (Put path bytes) = false
+names_input call = true

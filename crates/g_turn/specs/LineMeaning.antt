@@ -1,0 +1,39 @@
+-- What lines say that were read, and the command behind the conditions of a line.
+use Rattle.std.specs.Prelude.{Bool, Err, IfSome, List, None, Ok, Option, Result, Some, [], ℕ, ◌∷◌, ◌≡◌}
+use Rattle.g_turn.specs.Commands.{done_if}
+use Rattle.g_turn.specs.State.{Work}
+use Rattle.g_lang.specs.Lines.{IsCommandText, Reading, Said, SaidGoto, SaidIf, SaidVerb, SaidWhenever}
+use Rattle.g_lang.specs.Meaning.{command_said, line_said}
+use Rattle.g_lang.specs.declared.line.Command.{Command}
+use Rattle.g_lang.specs.declared.line.Command.TheVariants.{Blank, If'}
+use Rattle.g_lang.specs.declared.line.Line.{Line}
+use Rattle.g_plain.specs.Programs.{Gives}
+
+-- what a line says: a verb has a name, and a command that waits for a condition is the text of one
+abbrev pub IsSpoken : Said → Type 0
+IsSpoken (SaidGoto label) = Unit {0}
+IsSpoken (SaidIf cond inner) = IsSpoken inner
+IsSpoken (SaidWhenever cond command) = IsCommandText command
+IsSpoken (SaidVerb [] params rest) = ⊥
+IsSpoken (SaidVerb (letter ∷ name) params rest) = Unit {0}
+
+-- the reading of a text, as the code has it: what its line says, or the place where it goes wrong
+abbrev pub read_as : Result Line ℕ → Reading
+read_as (Ok line) = Ok (line_said line)
+read_as (Err place) = Err place
+
+abbrev pub IsReadWell : Result Line ℕ → Type 0
+IsReadWell (Ok line) = IfSome (command_said line.command) IsSpoken
+IsReadWell (Err place) = Unit {0}
+
+-- a command that stands behind no condition
+abbrev pub IsBare : Command → Type 0
+IsBare Blank = ⊥
+IsBare (If' cond p inner) = ⊥
+IsBare command = Unit {0}
+
+-- what is done of a command: nothing, or another that stands behind no condition
+abbrev pub Met : Command → Work → Option Command → Type 0
+Met command w None = (room : ℕ) (who : List ℕ) (by : Bool) → done_if room who by (command_said command) w ≡ Gives w
+Met command w (Some other) =
+    IsBare other × ((room : ℕ) (who : List ℕ) (by : Bool) → done_if room who by (command_said command) w ≡ done_if room who by (command_said other) w)
