@@ -10,6 +10,7 @@ use Rattle.g_base.specs.ToldContent.{Changes}
 use Rattle.g_base.proofs.CountLemmas.{RoseBy-none, RoseBy-one, RoseBy-then}
 use Rattle.g_base.proofs.ToldLemmas.{Changes-none, Changes-then, Changes-with_block, Changes-weaken}
 use Rattle.g_disc.specs.Disc.{DiscState, Writes}
+use Rattle.g_disc.proofs.CallLemmas.{more_later, stands_later, then_later}
 use Rattle.g_copy.specs.Copy.{OnlyAt, Holds, blocks_at}
 use Rattle.g_copy.proofs.Blocks.{block-padded, slice_get-set_other, blocks_at-set_other, blocks_at-more}
 
@@ -26,6 +27,7 @@ pub record Written (n : ℕ) (places bytes : List ℕ) (before after : DiscState
   pub write_faults : after.write_faults ≡ before.write_faults
   pub arms : after.arms ≡ before.arms
   pub writes : RoseBy n before.writes after.writes
+  pub later : before.writes ≤ after.writes
 
 only_none : (places : List ℕ) (b : List (List ℕ)) → OnlyAt places b b
 only_none places b = record { size = refl; others = λ k other. refl }
@@ -75,6 +77,7 @@ written_none places bytes s = record {
   write_faults = refl;
   arms = refl;
   writes = RoseBy-none refl;
+  later = stands_later refl;
 }
 
 -- the next block was written
@@ -89,6 +92,7 @@ written_more n places bytes before mid after x within fits apart inside was writ
   write_faults = write.kept ∙ was.write_faults;
   arms = write.arms ∙ was.arms;
   writes = RoseBy-then was.writes (RoseBy-one write.writes);
+  later = then_later was.later (more_later write.writes);
 }
 
 -- the next write failed

@@ -10,6 +10,7 @@ use Rattle.g_base.proofs.CountLemmas.{RoseBy-none, RoseBy-then}
 use Rattle.g_base.proofs.ToldLemmas.{Changes-none, Changes-then, Changes-weaken, told_after}
 use Rattle.g_copy.proofs.Blocks.{slice_get-set_other}
 use Rattle.g_disc.specs.Disc.{DiscState, WritesOnly}
+use Rattle.g_disc.proofs.CallLemmas.{stands_later, then_later}
 use Rattle.g_entry.specs.declared.format.Format.TheVariants.{Two}
 use Rattle.g_slots.specs.declared.side.Side.{Side}
 use Rattle.g_slots.specs.declared.side.Side.TheVariants.{A, B}
@@ -118,6 +119,7 @@ wrote_none side d disc pages = record {
   content = Changes-none (HoldsFirst side d 0) disc.held disc.held refl (λ b was. record { kept = stays side b; here = λ k below. absurd (omega arith); rest = λ k above. refl });
   pages = record { here = λ k below. absurd (omega arith); rest = λ k above. refl; kept = refl };
   writes = subst (λ (n : ℕ). RoseBy n disc.writes disc.writes) (sym (unwritten_none d (pages_of (other side) pages))) (RoseBy-none refl);
+  later = stands_later refl;
   size = refl;
   read_faults = refl;
   write_faults = refl;
@@ -138,6 +140,7 @@ wrote_more side d k x y z old mid new u below large long so_far step counts page
       content = Changes-then so_far.content step (λ a b c told. holds_more side d k a b c below (let l = long a told in omega arith));
       pages = remembers_more side d k old mid new so_far.pages page;
       writes = subst (λ (n : ℕ). RoseBy n x.writes z.writes) sum (RoseBy-then so_far.writes counts.writes);
+      later = then_later so_far.later counts.later;
       size = counts.size ∙ so_far.size;
       read_faults = counts.read_faults ∙ so_far.read_faults;
       write_faults = counts.kept ∙ so_far.write_faults;
@@ -175,6 +178,7 @@ wrote_past side d k n x y old new forth was there so_far = record {
   content = Changes-weaken so_far.content (λ a b told holds. holds_past side d k n old a b forth (was a told) there holds);
   pages = remembers_past side d k n old new forth there so_far.pages;
   writes = subst (λ (m : ℕ). RoseBy m x.writes y.writes) (sym (unwritten_past d (pages_of (other side) old) k n forth there)) so_far.writes;
+  later = so_far.later;
   size = so_far.size;
   read_faults = so_far.read_faults;
   write_faults = so_far.write_faults;
@@ -299,6 +303,7 @@ wrote_counts side d n x y old new u wrote = record {
   read_faults = wrote.read_faults;
   arms = wrote.arms;
   writes = wrote.writes;
+  later = wrote.later;
   kept = wrote.write_faults;
   rose = tt;
 }

@@ -33,6 +33,7 @@ pub record WroteFirst (side : Side) (d : Directory) (n : ℕ) (before after : Di
   pub content : Changes (HoldsFirst side d n) before.held after.held
   pub pages : RemembersFirst side d n old new
   pub writes : RoseBy (unwritten d (pages_of (other side) old) n) before.writes after.writes
+  pub later : before.writes ≤ after.writes
   pub size : after.size ≡ before.size
   pub read_faults : after.read_faults ≡ before.read_faults
   pub write_faults : after.write_faults ≡ before.write_faults

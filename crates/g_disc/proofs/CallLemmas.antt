@@ -1,12 +1,22 @@
 -- How the calls on a disc follow each other, and what they are the cause of.
-use Rattle.std.proofs.Common.{◌≡◌, ℕ, ◌+◌, List, Ok, Err, refl, subst, ◌∙◌}
+use Rattle.std.proofs.Common.{◌≡◌, ◌≤◌, ℕ, ◌+◌, List, Ok, Err, refl, subst, ◌∙◌, arith}
 use Rattle.std.specs.Prelude.{Result}
-use Rattle.g_base.specs.Counts.{Rose}
+use Rattle.g_base.specs.Counts.{Rose, one_more}
 use Rattle.g_base.proofs.CountLemmas.{RoseBy-one, RoseBy-then}
 use Rattle.g_disc.specs.Disc.{DiscState, Reads, Writes, ReadsOnly, ReadsByCause, WritesOnly, Causes}
 
 rose_then : {a b c : ℕ} → b ≡ a → Rose b c → Rose a c
 rose_then {c = c} same rose = subst (λ (n : ℕ). Rose n c) same rose
+
+-- a count that stands still, one that is one more, and one behind the other
+pub stands_later : {a b : ℕ} → b ≡ a → a ≤ b
+stands_later same = omega (arith, same)
+
+pub more_later : {a b : ℕ} → b ≡ one_more a → a ≤ b
+more_later more = omega (arith, more)
+
+pub then_later : {a b c : ℕ} → a ≤ b → b ≤ c → a ≤ c
+then_later first second = omega (arith, first, second)
 
 -- READS
 
@@ -114,6 +124,7 @@ WritesOnly-Writes (Ok t) write = record {
   read_faults = write.read_faults;
   arms = write.arms;
   writes = RoseBy-one write.writes;
+  later = more_later write.writes;
   kept = write.kept;
   rose = tt;
 }
@@ -122,6 +133,7 @@ WritesOnly-Writes (Err e) write = record {
   read_faults = write.read_faults;
   arms = write.arms;
   writes = tt;
+  later = more_later write.writes;
   kept = tt;
   rose = write.rose;
 }
@@ -134,6 +146,7 @@ WritesOnly-then (Ok u) first second = record {
   read_faults = second.read_faults ∙ first.read_faults;
   arms = second.arms ∙ first.arms;
   writes = RoseBy-then first.writes second.writes;
+  later = then_later first.later second.later;
   kept = second.kept ∙ first.kept;
   rose = tt;
 }
@@ -142,6 +155,7 @@ WritesOnly-then (Err f) first second = record {
   read_faults = second.read_faults ∙ first.read_faults;
   arms = second.arms ∙ first.arms;
   writes = tt;
+  later = then_later first.later second.later;
   kept = tt;
   rose = rose_then first.kept second.rose;
 }
@@ -153,6 +167,7 @@ pub Causes-none : {P Q : Type 0} (state : DiscState) → (P → ⊥) → (Q → 
 Causes-none state not_read not_written = record {
   size = refl;
   arms = refl;
+  later = stands_later refl;
   reads_kept = λ no. refl;
   reads_rose = λ is. absurd (not_read is);
   writes_kept = λ no. refl;
@@ -164,6 +179,7 @@ pub Causes-ReadsByCause : {P Q : Type 0} {x y : DiscState} → (Q → ⊥) → R
 Causes-ReadsByCause never reads = record {
   size = reads.size;
   arms = reads.arms;
+  later = stands_later reads.writes;
   reads_kept = reads.kept;
   reads_rose = reads.rose;
   writes_kept = λ no. reads.write_faults;
@@ -176,6 +192,7 @@ pub Causes-WritesOnly_ok : {T E P Q : Type 0} {n : ℕ} {x y : DiscState} {t : T
 Causes-WritesOnly_ok not_read not_written writes = record {
   size = writes.size;
   arms = writes.arms;
+  later = writes.later;
   reads_kept = λ no. writes.read_faults;
   reads_rose = λ is. absurd (not_read is);
   writes_kept = λ no. writes.kept;
@@ -187,6 +204,7 @@ pub Causes-WritesOnly_err : {T E P Q : Type 0} {n : ℕ} {x y : DiscState} {e : 
 Causes-WritesOnly_err not_read stopped writes = record {
   size = writes.size;
   arms = writes.arms;
+  later = writes.later;
   reads_kept = λ no. writes.read_faults;
   reads_rose = λ is. absurd (not_read is);
   writes_kept = λ no. absurd (no stopped);
@@ -199,6 +217,7 @@ pub Causes-then : {P Q R S : Type 0} {x y z : DiscState} → (P → ⊥) → (Q 
 Causes-then not_read not_written first second = record {
   size = second.size ∙ first.size;
   arms = second.arms ∙ first.arms;
+  later = then_later first.later second.later;
   reads_kept = λ no. second.reads_kept no ∙ first.reads_kept not_read;
   reads_rose = λ is. rose_then (first.reads_kept not_read) (second.reads_rose is);
   writes_kept = λ no. second.writes_kept no ∙ first.writes_kept not_written;
@@ -211,6 +230,7 @@ pub Causes-for : {P Q R S : Type 0} {x y : DiscState} → (P → R) → (R → P
 Causes-for there back there' back' causes = record {
   size = causes.size;
   arms = causes.arms;
+  later = causes.later;
   reads_kept = λ no. causes.reads_kept (λ p. no (there p));
   reads_rose = λ r. causes.reads_rose (back r);
   writes_kept = λ no. causes.writes_kept (λ q. no (there' q));

@@ -1,5 +1,5 @@
 -- What a disc is to its callers, and what its calls do to it.
-use Rattle.std.specs.Prelude.{◌≡◌, ℕ, List, Option, Some, Result, OnOk, OnErr, slice_get}
+use Rattle.std.specs.Prelude.{◌≡◌, ◌≤◌, ℕ, List, Option, Some, Result, OnOk, OnErr, slice_get}
 use Rattle.std.specs.Option.{ForSome}
 use Rattle.g_base.specs.Block.{IsBlock, with_block}
 use Rattle.g_base.specs.Counts.{one_more, Rose, RoseBy}
@@ -67,20 +67,22 @@ pub record ReadsByCause (read_fault : Type 0) (before after : DiscState) : Type 
   pub kept : (read_fault → ⊥) → after.read_faults ≡ before.read_faults
   pub rose : read_fault → Rose before.read_faults after.read_faults
 
--- a call that writes and doesn't read: n blocks where it is Ok; it fails only where a write failed
+-- A call that writes and doesn't read: n blocks where it is Ok; it fails only where a write failed. The count of writes never falls.
 pub record WritesOnly {T E : Type 0} (n : ℕ) (before after : DiscState) (result : Result T E) : Type 0 where
   pub size : after.size ≡ before.size
   pub read_faults : after.read_faults ≡ before.read_faults
   pub arms : after.arms ≡ before.arms
   pub writes : OnOk result (RoseBy n before.writes after.writes)
+  pub later : before.writes ≤ after.writes
   pub kept : OnOk result (after.write_faults ≡ before.write_faults)
   pub rose : OnErr result (Rose before.write_faults after.write_faults)
 
 -- A call that may read and write, with the facts that it answered for a failed read or a failed write:
--- a count of faults moves only with its own answer, that answer comes only where it rose, and nobody arms.
+-- a count of faults moves only with its own answer, that answer comes only where it rose, the count of writes never falls, and nobody arms.
 pub record Causes (read_fault stopped : Type 0) (before after : DiscState) : Type 0 where
   pub size : after.size ≡ before.size
   pub arms : after.arms ≡ before.arms
+  pub later : before.writes ≤ after.writes
   pub reads_kept : (read_fault → ⊥) → after.read_faults ≡ before.read_faults
   pub reads_rose : read_fault → Rose before.read_faults after.read_faults
   pub writes_kept : (stopped → ⊥) → after.write_faults ≡ before.write_faults

@@ -65,7 +65,10 @@ fn laid_out(
 }
 
 /// The directory for which a disc stands.
-pub(crate) fn read<D: Disc>(rt: &(impl Abort + AllocGlobal), disc: &mut D) -> Result<Dirs, DirsFault> {
+pub(crate) fn read<D: Disc>(
+    rt: &(impl Abort + AllocGlobal),
+    disc: &mut D,
+) -> Result<Dirs, DirsFault> {
     assert!(rt; 2177 < disc.size());
     match Slots::find(disc) {
         Ok(slots) => read_dirs(rt.alloc(), disc, &slots),

@@ -4,7 +4,11 @@ use g_disc::{Disc, Leave, MemoryDisc};
 use std::process::Abort;
 
 /// The first and the last byte of block k.
-pub(crate) fn read_back<D: Disc>(rt: &impl Abort, disc: &mut D, k: u32) -> Result<(u8, u8), ReadFailed> {
+pub(crate) fn read_back<D: Disc>(
+    rt: &impl Abort,
+    disc: &mut D,
+    k: u32,
+) -> Result<(u8, u8), ReadFailed> {
     let mut block = [9; 512];
     assert!(rt; k < disc.size());
     disc.read(k, &mut block)?;

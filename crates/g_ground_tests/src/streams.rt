@@ -2,7 +2,10 @@
 use g_base::{ReadFailed, WriteFailed};
 use g_io::{MemorySink, MemorySource, Sink, Source};
 
-pub(crate) fn take_from<S: Source>(source: &mut S, into: &mut [u8; 4]) -> Result<usize, ReadFailed> {
+pub(crate) fn take_from<S: Source>(
+    source: &mut S,
+    into: &mut [u8; 4],
+) -> Result<usize, ReadFailed> {
     source.take(into)
 }
 

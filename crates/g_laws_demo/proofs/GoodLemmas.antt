@@ -12,8 +12,8 @@ use Rattle.std.proofs.lemmas.List.Folds.{list_all-append}
 use Rattle.g_name.specs.Grammar.{is_letter, is_name_char, is_word}
 use Rattle.g_lines.proofs.LineLemmas.{text-lines}
 use Rattle.g_lines.specs.Lines.{lines_of}
+use Rattle.g_script.proofs.ReadLemmas.{lines_in}
 use Rattle.g_script.proofs.SaidLemmas.{items_say}
-use Rattle.g_script.specs.Reading.{lines_in}
 use Rattle.g_script.specs.Script.{IsDocumentLine, IsItem, WrittenItem, item_lines, timed_said}
 use Rattle.g_demo.specs.Script.{at_turn, behind_job, behind_rounds, behind_three, closing, drawn, drawn_job, file_name, filled_line, next, opening, round_lines, rounds_lines, script_lines, script_text}
 use Rattle.g_laws_demo.specs.GoodScript.{IsGood}

@@ -28,5 +28,5 @@ uncut (move ∷ moves) none = by (not_dump move) refl none (λ rest. uncut moves
 
 pub tapes_cut_no_call : TapesCutNoCall
 tapes_cut_no_call moves last old new counts none =
-    let cuts = counts.cuts_rose in
-    All-from_recursion Uncut moves (uncut moves (first_none (cuts_of_calls moves) cuts.of_disc (unrisen (cuts_of_calls moves + cuts.of_disc) old.disc.write_faults new.disc.write_faults cuts.disc_rose none)))
+    let cuts = counts.cuts in
+    All-from_recursion Uncut moves (uncut moves (first_none (cuts_of_calls moves) cuts.of_disc (unrisen (cuts_of_calls moves + cuts.of_disc) old.disc.write_faults new.disc.write_faults cuts.disc.rose none)))

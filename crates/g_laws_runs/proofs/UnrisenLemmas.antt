@@ -48,16 +48,16 @@ all_plain (move ∷ moves) d t c = (
 
 no_cuts : (calls dumps : ℕ) (old new : Devices) → WritesFailed calls dumps old new → NothingRose old new → (calls ≡ 0) × (dumps ≡ 0)
 no_cuts calls dumps old new failed none =
-    let disc = unrisen (calls + failed.of_disc) old.disc.write_faults new.disc.write_faults failed.disc_rose none.disc_writes in
-    let rack = unrisen failed.of_rack old.rack.write_faults new.rack.write_faults failed.rack_rose none.tape_writes in
+    let disc = unrisen (calls + failed.of_disc) old.disc.write_faults new.disc.write_faults failed.disc.rose none.disc_writes in
+    let rack = unrisen failed.of_rack old.rack.write_faults new.rack.write_faults failed.rack.rose none.tape_writes in
     (first_none calls failed.of_disc disc, none_of failed.of_disc failed.of_rack dumps failed.together (rest_none calls failed.of_disc disc) rack)
 
 pub unrisen_is_plain : UnrisenIsPlain
 unrisen_is_plain moves last old new counts none =
-    let cuts = no_cuts (cuts_of_calls moves) (cuts_of_dumps moves) old new counts.cuts_rose none in
+    let cuts = no_cuts (cuts_of_calls moves) (cuts_of_dumps moves) old new counts.cuts none in
     All-from_recursion IsPlain moves (all_plain moves
-    (unrisen (counted disc_reads_in moves) old.disc.read_faults new.disc.read_faults counts.disc_reads_rose none.disc_reads)
-    (unrisen (counted tape_reads_in moves) old.rack.read_faults new.rack.read_faults counts.tape_reads_rose none.tape_reads)
+    (unrisen (counted disc_reads_in moves) old.disc.read_faults new.disc.read_faults counts.disc_read.rose none.disc_reads)
+    (unrisen (counted tape_reads_in moves) old.rack.read_faults new.rack.read_faults counts.tape_read.rose none.tape_reads)
     (none_of (cuts_of_calls moves) (cuts_of_dumps moves) (counted cuts_in moves) (sym (counted_parts cuts_in moves)) cuts.0 cuts.1))
 
 module _ {F U : Type 0} (tariffs : Shared F (Bor Usage × Unit {0}) Charge) (tariff : F) (rules : Shared U (Bor Standing × Unit {0}) ℕ) (rule : U) (one : OneText tariffs tariff rules rule) where

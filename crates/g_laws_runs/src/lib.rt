@@ -8,7 +8,7 @@ ghost use Rattle.g_laws_runs.specs.Cuts.{TapesCutNoCall};
 ghost use Rattle.g_laws_runs.specs.Dumps.{DumpsStay, DumpsTakeNeeds};
 ghost use Rattle.g_laws_runs.specs.Filestores.{DevicesKeepFilestores, FilestoresStay};
 ghost use Rattle.g_laws_runs.specs.NewDevices.{NewDevicesStand, NotStateless, StatesAreOne};
-ghost use Rattle.g_laws_runs.specs.Fuses.{ArmedBurns, ArmingsGo, NumberIsLast, RacksBurn, UnarmedBurns};
+ghost use Rattle.g_laws_runs.specs.Fuses.{ArmedBurns, ArmingsGo, DiscSpends, NumberIsLast, RackSpends, RacksBurn, UnarmedBurns};
 ghost use Rattle.g_laws_runs.specs.LaterRuns.{LaterRunsKeep, StartIsBehind};
 ghost use Rattle.g_laws_runs.specs.NoLoss.{NothingIsLost};
 ghost use Rattle.g_laws_runs.specs.OneTree.{RunsOnOneTree};
@@ -145,13 +145,15 @@ pub fn tapes_cut_no_call()
 {}
 
 /// A device's fuse goes by the last STOP line that armed it, and by the writes made since; where there was none, by the old fuse and
-/// all writes.
+/// all writes. One that was armed in a call is spent only by the writes of that call.
 pub fn fuses_go_by_lines()
     ensures armings { ArmingsGo }
     ensures numbers { NumberIsLast }
     ensures unarmed { UnarmedBurns }
     ensures armed { ArmedBurns }
     ensures racks { RacksBurn }
+    ensures disc_spends { DiscSpends }
+    ensures rack_spends { RackSpends }
 {}
 
 /// A PROCESS leaves the completed dumps of before; or its own dump stands whole on its reel, of the tree that there is, and of the

@@ -7,7 +7,7 @@ use Rattle.std.proofs.lemmas.List.{get_or-map, length-map}
 use Rattle.std.proofs.lemmas.Option.{same_Some}
 use Rattle.std.proofs.lemmas.List.Elements.{All-cons, All-contains, All-nil, Contains-get_or}
 use Rattle.g_disc.specs.Disc.{Causes, DiscState}
-use Rattle.g_disc.proofs.CallLemmas.{Causes-for}
+use Rattle.g_disc.proofs.CallLemmas.{Causes-for, stands_later}
 use Rattle.g_entry.specs.declared.file_rec.FileRec.{FileRec}
 use Rattle.g_entry.specs.declared.file_rec.TapeCopy.{TapeCopy}
 use Rattle.g_entry.specs.declared.user_rec.UserRec.{UserRec}
@@ -90,6 +90,7 @@ still : (d : DiscState) (stopped : Type 0) → (stopped → ⊥) → Causes ⊥ 
 still d stopped never = record {
   size = refl;
   arms = refl;
+  later = stands_later refl;
   reads_kept = λ none. refl;
   reads_rose = λ none. absurd none;
   writes_kept = λ none. refl;

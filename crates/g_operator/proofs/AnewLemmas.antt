@@ -128,6 +128,7 @@ module _ (d : Devices) (blank : AreBlank d) where
       causes = record {
         size = is.makes.causes.size;
         arms = is.makes.causes.arms;
+        later = is.makes.causes.later;
         reads_kept = is.makes.causes.reads_kept;
         reads_rose = is.makes.causes.reads_rose;
         writes_kept = is.makes.causes.writes_kept;

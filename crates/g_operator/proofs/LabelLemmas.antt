@@ -38,22 +38,36 @@ twice_later : (a b c : ℕ) → a ≤ b → b ≤ c → a ≤ c
 twice_later a b c first later = omega (arith, first, later)
 
 -- where no failure of the disc was counted
-pub same_still : (a b : Devices) → b.disc.size ≡ a.disc.size → b.disc.read_faults ≡ a.disc.read_faults → b.disc.write_faults ≡ a.disc.write_faults → labels b.rack.reels ≡ labels a.rack.reels → SameDevices a b
-same_still a b size reads writes reels = record {
+pub same_still : (a b : Devices) → b.disc.size ≡ a.disc.size → b.disc.read_faults ≡ a.disc.read_faults → b.disc.write_faults ≡ a.disc.write_faults → a.disc.writes ≤ b.disc.writes
+    → a.rack.read_faults ≤ b.rack.read_faults → a.rack.write_faults ≤ b.rack.write_faults → labels b.rack.reels ≡ labels a.rack.reels → SameDevices a b
+same_still a b size reads faults writes tape_reads tape_writes reels = record {
   size = size;
-  reads = stands_still a.disc.read_faults b.disc.read_faults reads;
-  writes = stands_still a.disc.write_faults b.disc.write_faults writes;
+  read_faults = stands_still a.disc.read_faults b.disc.read_faults reads;
+  write_faults = stands_still a.disc.write_faults b.disc.write_faults faults;
+  writes = writes;
+  tape_read_faults = tape_reads;
+  tape_write_faults = tape_writes;
   reels = reels;
 }
 
+-- nor anything else
+pub same_counts : (a b : Devices) → b.disc.size ≡ a.disc.size → b.disc.read_faults ≡ a.disc.read_faults → b.disc.write_faults ≡ a.disc.write_faults → b.disc.writes ≡ a.disc.writes
+    → b.rack.read_faults ≡ a.rack.read_faults → b.rack.write_faults ≡ a.rack.write_faults → labels b.rack.reels ≡ labels a.rack.reels → SameDevices a b
+same_counts a b size reads faults writes tape_reads tape_writes reels =
+    same_still a b size reads faults (stands_still a.disc.writes b.disc.writes writes) (stands_still a.rack.read_faults b.rack.read_faults tape_reads)
+    (stands_still a.rack.write_faults b.rack.write_faults tape_writes) reels
+
 pub same_itself : (d : Devices) → SameDevices d d
-same_itself d = same_still d d refl refl refl refl
+same_itself d = same_counts d d refl refl refl refl refl refl refl
 
 pub same_then : (a b c : Devices) → SameDevices a b → SameDevices b c → SameDevices a c
 same_then a b c first later = record {
   size = later.size ∙ first.size;
-  reads = twice_later a.disc.read_faults b.disc.read_faults c.disc.read_faults first.reads later.reads;
-  writes = twice_later a.disc.write_faults b.disc.write_faults c.disc.write_faults first.writes later.writes;
+  read_faults = twice_later a.disc.read_faults b.disc.read_faults c.disc.read_faults first.read_faults later.read_faults;
+  write_faults = twice_later a.disc.write_faults b.disc.write_faults c.disc.write_faults first.write_faults later.write_faults;
+  writes = twice_later a.disc.writes b.disc.writes c.disc.writes first.writes later.writes;
+  tape_read_faults = twice_later a.rack.read_faults b.rack.read_faults c.rack.read_faults first.tape_read_faults later.tape_read_faults;
+  tape_write_faults = twice_later a.rack.write_faults b.rack.write_faults c.rack.write_faults first.tape_write_faults later.tape_write_faults;
   reels = later.reels ∙ first.reels;
 }
 

@@ -15,6 +15,7 @@ use Rattle.g_run_model.specs.Lines.{LineGives, is_process, line_refused, tells}
 use Rattle.g_run_model.specs.Moves.{EventCounted}
 use Rattle.g_run_model.specs.Texts.{broken_files, operator_line}
 use Rattle.g_run_model.specs.World.{World, system_stopped}
+use Rattle.g_run_model.proofs.ArmLemmas.{in_none}
 use Rattle.g_run_model.proofs.CountLemmas.{event_none}
 use Rattle.g_job_table.specs.Crew.{CrewState, IsCrewOf}
 use Rattle.g_operator.specs.declared.progress.Failure.{Failure}
@@ -50,6 +51,8 @@ none_armed what failure old new no_disc no_tape disc tape = record {
     armed_none (disc_arms what) old.disc.arms new.disc.arms no_disc disc,
     armed_none (tape_arms what) old.rack.arms new.rack.arms no_tape tape,
   );
+  disc_since = in_none old.disc.writes new.disc.writes old.disc.arms new.disc.arms disc;
+  tape_since = in_none old.rack.write_faults new.rack.write_faults old.rack.arms new.rack.arms tape;
 }
 
 -- A REFUSAL before anything is asked: nothing changes but the text

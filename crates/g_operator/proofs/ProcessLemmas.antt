@@ -3,7 +3,7 @@ use Rattle.std.proofs.Common.{◌≡◌, ◌⊎◌, ◌≤◌, ◌-◌, ◌^◌,
 use Rattle.std.specs.Prelude.{Result, Ok, Err}
 use Rattle.std.specs.List.{AllZip}
 use Rattle.g_base.specs.Counts.{Rose}
-use Rattle.g_base.proofs.CountLemmas.{HasRisenBy-Rose, Rose-later}
+use Rattle.g_base.proofs.CountLemmas.{Rose-later}
 use Rattle.g_tape.specs.Reel.{Reel}
 use Rattle.g_plain.specs.declared.faults.StoreFault.{StoreFault}
 use Rattle.g_plain.specs.declared.faults.StoreFault.TheVariants.{CountersSpent, DiscReadFault, DumpOpen, NoTape, RackNotMounted, ReelNotFree, Stopped, TapeFull, TapeReadFault}
@@ -19,7 +19,7 @@ use Rattle.g_script.specs.declared.operator.Operator.TheVariants as line
 use Rattle.g_run_model.specs.Devices.{Devices}
 use Rattle.g_run_model.specs.Moves.{DumpCounted, WritesFailed}
 use Rattle.g_run_model.specs.Texts.{operator_line, processed_text}
-use Rattle.g_run_model.proofs.CountLemmas.{dump_failed, none_failed, none_rose, rack_failed}
+use Rattle.g_run_model.proofs.CountLemmas.{a_failure, dump_failed, no_failure, none_failed, rack_failed}
 use Rattle.g_run_model.proofs.EventToldLemmas.{process_told, OutcomeTold}
 use Rattle.g_job_table.specs.Crew.{CrewState}
 use Rattle.g_operator.specs.declared.progress.Failure.{Failure}
@@ -40,9 +40,6 @@ labels_same (o ∷ old) (n ∷ new) are =
     let (serial, capacity, mounted) = are.0 in
     ap (λ (x : ℕ). (x, n.capacity) ∷ labels new) serial ∙ ap (λ (x : ℕ). (o.serial, x) ∷ labels new) capacity ∙ ap (λ (ls : List (ℕ × ℕ)). (o.serial, o.capacity) ∷ ls) (labels_same old new are.1)
 
-one_zero : {X : Type 0} → ◌≡◌ {A = ℕ} 1 0 → X
-one_zero e = let no : ⊥ = omega arith in absurd no
-
 -- WHAT THE DEVICES COUNT, by its answer
 module _ (old new : StoreFacts) (answer : Result ℕ StoreFault) (is : ProcessCause old new answer) where
   abbrev was : Devices
@@ -56,44 +53,36 @@ module _ (old new : StoreFacts) (answer : Result ℕ StoreFault) (is : ProcessCa
       let disc = is.disc_read_only (λ e. let no : ◌≡◌ {A = Outcome} Plain DiscRead = told.disc_read e in cc) in
       let tape = is.tape_read_only (λ e. let no : ◌≡◌ {A = Outcome} Plain TapeRead = told.tape_read e in cc) in
       let (disc_cut, tape_cut) = is.uncut (λ e. let no : ◌≡◌ {A = Outcome} Plain Cut = told.cut e in cc) in record {
-        disc_reads_rose = none_rose was.disc.read_faults now.disc.read_faults disc;
-        tape_reads_rose = none_rose was.rack.read_faults now.rack.read_faults tape;
-        cuts_rose = none_failed was now disc_cut tape_cut;
-        no_disc_read = λ e. disc;
-        no_tape_read = λ e. tape;
+        disc_read = no_failure was.disc.read_faults now.disc.read_faults disc;
+        tape_read = no_failure was.rack.read_faults now.rack.read_faults tape;
+        cuts = none_failed was now disc_cut tape_cut;
         disc_armed = is.disc_arms;
         tape_armed = is.tape_arms;
       }
   process_counted DiscRead told =
       let tape = is.tape_read_only (λ e. let no : ◌≡◌ {A = Outcome} DiscRead TapeRead = told.tape_read e in cc) in
       let (disc_cut, tape_cut) = is.uncut (λ e. let no : ◌≡◌ {A = Outcome} DiscRead Cut = told.cut e in cc) in record {
-        disc_reads_rose = HasRisenBy-Rose (is.disc_read told.told);
-        tape_reads_rose = none_rose was.rack.read_faults now.rack.read_faults tape;
-        cuts_rose = none_failed was now disc_cut tape_cut;
-        no_disc_read = λ e. one_zero e;
-        no_tape_read = λ e. tape;
+        disc_read = a_failure was.disc.read_faults now.disc.read_faults (is.disc_read told.told);
+        tape_read = no_failure was.rack.read_faults now.rack.read_faults tape;
+        cuts = none_failed was now disc_cut tape_cut;
         disc_armed = is.disc_arms;
         tape_armed = is.tape_arms;
       }
   process_counted TapeRead told =
       let disc = is.disc_read_only (λ e. let no : ◌≡◌ {A = Outcome} TapeRead DiscRead = told.disc_read e in cc) in
       let (disc_cut, tape_cut) = is.uncut (λ e. let no : ◌≡◌ {A = Outcome} TapeRead Cut = told.cut e in cc) in record {
-        disc_reads_rose = none_rose was.disc.read_faults now.disc.read_faults disc;
-        tape_reads_rose = HasRisenBy-Rose (is.tape_read told.told);
-        cuts_rose = none_failed was now disc_cut tape_cut;
-        no_disc_read = λ e. disc;
-        no_tape_read = λ e. one_zero e;
+        disc_read = no_failure was.disc.read_faults now.disc.read_faults disc;
+        tape_read = a_failure was.rack.read_faults now.rack.read_faults (is.tape_read told.told);
+        cuts = none_failed was now disc_cut tape_cut;
         disc_armed = is.disc_arms;
         tape_armed = is.tape_arms;
       }
   process_counted Cut told =
       let disc = is.disc_read_only (λ e. let no : ◌≡◌ {A = Outcome} Cut DiscRead = told.disc_read e in cc) in
       let tape = is.tape_read_only (λ e. let no : ◌≡◌ {A = Outcome} Cut TapeRead = told.tape_read e in cc) in record {
-        disc_reads_rose = none_rose was.disc.read_faults now.disc.read_faults disc;
-        tape_reads_rose = none_rose was.rack.read_faults now.rack.read_faults tape;
-        cuts_rose = by (is.cut told.told);
-        no_disc_read = λ e. disc;
-        no_tape_read = λ e. tape;
+        disc_read = no_failure was.disc.read_faults now.disc.read_faults disc;
+        tape_read = no_failure was.rack.read_faults now.rack.read_faults tape;
+        cuts = by (is.cut told.told);
         disc_armed = is.disc_arms;
         tape_armed = is.tape_arms;
       }
@@ -151,7 +140,7 @@ module _ (s : State) (k : Holding) (serial : ℕ) (u : State) where
       early_down o (process_refuses s k serial)
       (not_early (lacks s serial) (first_reel (λ r. not r.mounted) s.reels) (is_some s.open_dump) (k.last == 2 ^ 62 - 1) (open_number s.open_dump)) step
 
--- no count of the disc falls in it
+-- no count of the disc falls in it, and none of the tapes
 process_reads : (answer : Result ℕ StoreFault) (old new : StoreFacts) → ProcessCause old new answer → old.online.disc.read_faults ≤ new.online.disc.read_faults
 process_reads (Err DiscReadFault) old new is = Rose-later (is.disc_read refl)
 process_reads answer old new is = stands_still old.online.disc.read_faults new.online.disc.read_faults (is.disc_read_only (λ e. let no : ⊥ = cc in no))
@@ -164,6 +153,19 @@ process_writes (Err Stopped) old new is = by (is.cut refl)
     by (inl disc) = Rose-later disc.0
     by (inr rack) = stands_still old.online.disc.write_faults new.online.disc.write_faults rack.1
 process_writes answer old new is = stands_still old.online.disc.write_faults new.online.disc.write_faults (is.uncut (λ e. let no : ⊥ = cc in no)).0
+
+process_tape_reads : (answer : Result ℕ StoreFault) (old new : StoreFacts) → ProcessCause old new answer → old.rack.read_faults ≤ new.rack.read_faults
+process_tape_reads (Err TapeReadFault) old new is = Rose-later (is.tape_read refl)
+process_tape_reads answer old new is = stands_still old.rack.read_faults new.rack.read_faults (is.tape_read_only (λ e. let no : ⊥ = cc in no))
+
+process_tape_writes : (answer : Result ℕ StoreFault) (old new : StoreFacts) → ProcessCause old new answer → old.rack.write_faults ≤ new.rack.write_faults
+process_tape_writes (Err Stopped) old new is = by (is.cut refl)
+  where
+    by : (Rose old.online.disc.write_faults new.online.disc.write_faults × (new.rack.write_faults ≡ old.rack.write_faults))
+        ⊎ (Rose old.rack.write_faults new.rack.write_faults × (new.online.disc.write_faults ≡ old.online.disc.write_faults)) → old.rack.write_faults ≤ new.rack.write_faults
+    by (inl disc) = stands_still old.rack.write_faults new.rack.write_faults disc.1
+    by (inr rack) = Rose-later rack.0
+process_tape_writes answer old new is = stands_still old.rack.write_faults new.rack.write_faults (is.uncut (λ e. let no : ⊥ = cc in no)).1
 
 -- ITS LINE
 module _ (serial : ℕ) (old new : StoreFacts) (c : CrewState) (ready : IsReady (Up old) c) (count : ℕ) where
@@ -178,8 +180,11 @@ module _ (serial : ℕ) (old new : StoreFacts) (c : CrewState) (ready : IsReady 
     rack_armed = is.answers.cause.tape_arms;
     same = record {
       size = is.answers.cause.size;
-      reads = process_reads answer old new is.answers.cause;
-      writes = process_writes answer old new is.answers.cause;
+      read_faults = process_reads answer old new is.answers.cause;
+      write_faults = process_writes answer old new is.answers.cause;
+      writes = is.answers.cause.later;
+      tape_read_faults = process_tape_reads answer old new is.answers.cause;
+      tape_write_faults = process_tape_writes answer old new is.answers.cause;
       reels = labels_same old.rack.reels new.rack.reels is.answers.cause.reels;
     };
     dumps = λ was. is.dumps was.0 was.1;

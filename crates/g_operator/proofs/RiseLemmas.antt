@@ -44,7 +44,7 @@ use Rattle.g_operator.proofs.LeavesLemmas.{leaves_opened, leaves_told}
 use Rattle.g_operator.proofs.LineLemmas.{FaultDone, Faulted, none_armed, refused_line, tells_fault, told_of, told_same, was_done}
 use Rattle.g_operator.proofs.UpLemmas.{up_is}
 use Rattle.g_operator.proofs.UserLemmas.{have_rows}
-use Rattle.g_operator.proofs.LabelLemmas.{labels_read, no_fuse, same_still}
+use Rattle.g_operator.proofs.LabelLemmas.{labels_read, no_fuse, same_still, stands_still}
 
 -- a plain outcome of an answer that isn't refused
 pub plain_ok : {A : Type 0} (reply : A) → (let answer : Result A StoreFault = Ok reply in OutcomeTold Plain answer)
@@ -115,6 +115,7 @@ module _ {A : Type 0} (what : Operator) (given : Type 0) (by : State → Outcome
       disc = record {
         size = makes.causes.size;
         arms = makes.causes.arms;
+        later = makes.causes.later;
         reads_kept = λ n. makes.causes.reads_kept (λ x. x);
         reads_rose = λ e. let no : ⊥ = cc in absurd no;
         writes_kept = λ n. makes.causes.writes_kept (λ x. x);
@@ -163,7 +164,8 @@ module _ {A : Type 0} (what : Operator) (given : Type 0) (by : State → Outcome
       arms = none_armed what failure old_devices (devices_in (Up new)) no_disc no_tape makes.causes.arms makes.tapes.arms;
       count = refl;
       fuses = no_fuse what no_disc no_tape (devices_in (Up new));
-      same = same_still old_devices (devices_in (Up new)) makes.causes.size (makes.causes.reads_kept (λ e. e)) (makes.causes.writes_kept (λ e. e)) (labels_read rack.reels new.rack.reels makes.tapes.reels);
+      same = same_still old_devices (devices_in (Up new)) makes.causes.size (makes.causes.reads_kept (λ e. e)) (makes.causes.writes_kept (λ e. e)) makes.causes.later makes.tapes.read_faults
+          (stands_still rack.write_faults new.rack.write_faults makes.tapes.write_faults) (labels_read rack.reels new.rack.reels makes.tapes.reels);
       belongs = λ is. (makes.told is.told, makes.belongs is.told (gives is));
       dumps = λ is. grown_by (is_process what) rack new.rack (grow_held rack new.rack makes.tapes.reels);
       cause = puts.cause;
@@ -181,6 +183,7 @@ module _ {A : Type 0} (what : Operator) (given : Type 0) (by : State → Outcome
       disc = record {
         size = refuses.causes.size;
         arms = refuses.causes.arms;
+        later = refuses.causes.later;
         reads_kept = λ n. refuses.causes.reads_kept (λ e. n (ap Err e));
         reads_rose = λ e. refuses.causes.reads_rose (let same : fault ≡ DiscReadFault = cc in same);
         writes_kept = λ n. refuses.causes.writes_kept (λ e. n (ap Err e));
@@ -241,7 +244,7 @@ module _ {A : Type 0} (what : Operator) (given : Type 0) (by : State → Outcome
         arms = none_armed what failure old_devices d no_disc no_tape refuses.causes.arms refuses.tapes.arms;
         count = refl;
         fuses = no_fuse what no_disc no_tape d;
-        same = same_caused {A = A} (Err fault) old_devices d (of_fault fault disc' rack' refuses told_too stays).disc (labels_read rack.reels rack'.reels refuses.tapes.reels);
+        same = same_caused {A = A} (Err fault) old_devices d (of_fault fault disc' rack' refuses told_too stays).disc refuses.tapes;
         belongs = λ is. record { told = refuses.told is.told; belong = refuses.belongs is.told is.belong };
         dumps = λ is. grown_by (is_process what) rack rack' (grow_held rack rack' refuses.tapes.reels);
         cause = both.1;

@@ -1,9 +1,7 @@
 -- A DEVICE IS ARMED by a line.
 use Rattle.std.proofs.Common.{◌≡◌, ℕ, ◌+◌, ◌<◌, ◌≤◌, ◌++◌, List, [], ◌∷◌, Option, refl, sym, ◌∙◌, ap, subst, arith}
 use Rattle.std.specs.Prelude.{codes}
-use Rattle.g_base.specs.Counts.{HasRisenBy}
 use Rattle.g_base.specs.Fuse.{IsArmedBy, armed_with}
-use Rattle.g_base.proofs.CountLemmas.{HasRisenBy-none}
 use Rattle.g_base.proofs.FuseLemmas.{within_all, within_none}
 use Rattle.g_store_model.specs.CallStep.{Plain}
 use Rattle.g_store_meaning.specs.StoreInvariant.{StoreFacts}
@@ -13,7 +11,8 @@ use Rattle.g_run_model.specs.Devices.{Devices}
 use Rattle.g_run_model.specs.Moves.{EventCounted}
 use Rattle.g_run_model.specs.Texts.{operator_line}
 use Rattle.g_run_model.specs.World.{World, says}
-use Rattle.g_run_model.proofs.CountLemmas.{none_failed}
+use Rattle.g_run_model.proofs.ArmLemmas.{in_none, in_once}
+use Rattle.g_run_model.proofs.CountLemmas.{no_failure, none_failed}
 use Rattle.g_job_table.specs.Crew.{CrewState}
 use Rattle.g_operator.specs.declared.progress.Failure.{Failure}
 use Rattle.g_operator.specs.Arming.{HasArmed, disc_armed, tape_armed}
@@ -21,7 +20,7 @@ use Rattle.g_operator.specs.Parts.{ArmsBy, DidLine, DoesLine, IsReady, Matches, 
 use Rattle.g_operator.specs.Puts.{Puts}
 use Rattle.g_operator.specs.System.{Down, SystemFacts, Up, devices_in, DumpsGrow, SameDevices}
 use Rattle.g_operator.proofs.GrowLemmas.{grow_held}
-use Rattle.g_operator.proofs.LabelLemmas.{same_still}
+use Rattle.g_operator.proofs.LabelLemmas.{same_counts}
 use Rattle.g_operator.proofs.LeavesLemmas.{leaves_same}
 use Rattle.g_operator.proofs.LineLemmas.{was_done}
 
@@ -54,27 +53,20 @@ tape_down k d = record {
   ready = λ c ready. ready;
 }
 
-none_rose : (a : ℕ) → HasRisenBy 0 a a
-none_rose a = HasRisenBy-none (omega arith)
-
 disc_counted : (k : ℕ) (d : Devices) → EventCounted Plain (k ∷ []) [] d (disc_armed k d)
 disc_counted k d = record {
-  disc_reads_rose = none_rose d.disc.read_faults;
-  tape_reads_rose = none_rose d.rack.read_faults;
-  cuts_rose = none_failed d (disc_armed k d) refl refl;
-  no_disc_read = λ e. refl;
-  no_tape_read = λ e. refl;
+  disc_read = no_failure d.disc.read_faults d.disc.read_faults refl;
+  tape_read = no_failure d.rack.read_faults d.rack.read_faults refl;
+  cuts = none_failed d (disc_armed k d) refl refl;
   disc_armed = (d.disc.writes, refl);
   tape_armed = refl;
 }
 
 tape_counted : (k : ℕ) (d : Devices) → EventCounted Plain [] (k ∷ []) d (tape_armed k d)
 tape_counted k d = record {
-  disc_reads_rose = none_rose d.disc.read_faults;
-  tape_reads_rose = none_rose d.rack.read_faults;
-  cuts_rose = none_failed d (tape_armed k d) refl refl;
-  no_disc_read = λ e. refl;
-  no_tape_read = λ e. refl;
+  disc_read = no_failure d.disc.read_faults d.disc.read_faults refl;
+  tape_read = no_failure d.rack.read_faults d.rack.read_faults refl;
+  cuts = none_failed d (tape_armed k d) refl refl;
   disc_armed = refl;
   tape_armed = (d.rack.write_faults, refl);
 }
@@ -120,10 +112,12 @@ module _ (k : ℕ) (old new : SystemFacts) (c : CrewState) (count : ℕ) where
           disc = within_all (k ∷ []) d.disc.arms (disc_armed k d).disc.arms once;
           tape = within_none [] d.rack.arms d.rack.arms refl;
           all = λ through. (once, refl);
+          disc_since = in_once k d.disc.writes d.disc.arms;
+          tape_since = in_none d.rack.write_faults d.rack.write_faults d.rack.arms d.rack.arms refl;
         });
     count = refl;
     fuses = ap (λ (d : Devices). d.disc.fuse) armed.devices;
-    same = subst (λ (d : Devices). SameDevices (devices_in old) d) (sym armed.devices) (same_still (devices_in old) (disc_armed k (devices_in old)) refl refl refl refl);
+    same = subst (λ (d : Devices). SameDevices (devices_in old) d) (sym armed.devices) (same_counts (devices_in old) (disc_armed k (devices_in old)) refl refl refl refl refl refl refl);
     belongs = armed.belongs;
     dumps = λ was. subst (λ (d : Devices). DumpsGrow (devices_in old).rack d.rack) (sym armed.devices) (grow_held (devices_in old).rack (disc_armed k (devices_in old)).rack refl);
     cause = puts.cause;
@@ -146,10 +140,12 @@ module _ (k : ℕ) (old new : SystemFacts) (c : CrewState) (count : ℕ) where
           disc = within_none [] d.disc.arms d.disc.arms refl;
           tape = within_all (k ∷ []) d.rack.arms (tape_armed k d).rack.arms once;
           all = λ through. (refl, once);
+          disc_since = in_none d.disc.writes d.disc.writes d.disc.arms d.disc.arms refl;
+          tape_since = in_once k d.rack.write_faults d.rack.arms;
         });
     count = refl;
     fuses = ap (λ (d : Devices). d.rack.fuse) armed.devices;
-    same = subst (λ (d : Devices). SameDevices (devices_in old) d) (sym armed.devices) (same_still (devices_in old) (tape_armed k (devices_in old)) refl refl refl refl);
+    same = subst (λ (d : Devices). SameDevices (devices_in old) d) (sym armed.devices) (same_counts (devices_in old) (tape_armed k (devices_in old)) refl refl refl refl refl refl refl);
     belongs = armed.belongs;
     dumps = λ was. subst (λ (d : Devices). DumpsGrow (devices_in old).rack d.rack) (sym armed.devices) (grow_held (devices_in old).rack (tape_armed k (devices_in old)).rack refl);
     cause = puts.cause;

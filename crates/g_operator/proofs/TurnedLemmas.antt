@@ -25,7 +25,7 @@ use Rattle.g_operator.specs.Telling.{refusal_text}
 use Rattle.g_operator.proofs.LeavesLemmas.{leaves_same}
 use Rattle.g_operator.proofs.ByLemmas.{grown_by, plain_counted}
 use Rattle.g_operator.proofs.LineLemmas.{none_armed, was_done}
-use Rattle.g_operator.proofs.LabelLemmas.{no_fuse, same_still}
+use Rattle.g_operator.proofs.LabelLemmas.{no_fuse, same_counts}
 
 -- no count moved
 counted_same : (old new : Devices) → new.disc ≡ old.disc → new.rack.read_faults ≡ old.rack.read_faults → new.rack.write_faults ≡ old.rack.write_faults → new.rack.arms ≡ old.rack.arms
@@ -110,7 +110,8 @@ module _ (what : Operator) (no_disc : disc_arms what ≡ []) (no_tape : tape_arm
     arms = none_armed what failure (devices_in old) (devices_in new) no_disc no_tape (ap (λ (d : DiscState). d.arms) is.disc) is.arms;
     count = refl;
     fuses = no_fuse what no_disc no_tape (devices_in new);
-    same = same_still (devices_in old) (devices_in new) (ap (λ (d : DiscState). d.size) is.disc) (ap (λ (d : DiscState). d.read_faults) is.disc) (ap (λ (d : DiscState). d.write_faults) is.disc) is.reels;
+    same = same_counts (devices_in old) (devices_in new) (ap (λ (d : DiscState). d.size) is.disc) (ap (λ (d : DiscState). d.read_faults) is.disc) (ap (λ (d : DiscState). d.write_faults) is.disc)
+        (ap (λ (d : DiscState). d.writes) is.disc) is.read_faults is.write_faults is.reels;
     belongs = is.belongs;
     dumps = λ was. grown_by (is_process what) (devices_in old).rack (devices_in new).rack is.dumps;
     cause = puts.cause;

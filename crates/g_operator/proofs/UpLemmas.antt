@@ -36,7 +36,7 @@ use Rattle.g_operator.proofs.CauseLemmas.{OfDisc, counted_by, same_caused}
 use Rattle.g_operator.proofs.GrowLemmas.{grow_held}
 use Rattle.g_operator.proofs.LeavesLemmas.{leaves_same, leaves_told}
 use Rattle.g_operator.proofs.LineLemmas.{FaultDone, none_armed, refused_line, tells_fault, told_of, told_same, was_done}
-use Rattle.g_operator.proofs.LabelLemmas.{labels_read, no_fuse}
+use Rattle.g_operator.proofs.LabelLemmas.{no_fuse}
 
 -- the state of a store that is up is up
 pub up_is : (s : StoreFacts) (u : State) → s.spent ≡ false → StandsForState s u → u.up ≡ true
@@ -88,7 +88,7 @@ caused what counts old new answer cause = record {
   still = λ told. counted_by answer (devices_in (Up old)) (devices_in (Up new)) (of_cause old new answer cause) Plain told;
   disc_armed = cause.disc.arms;
   rack_armed = cause.tapes.arms;
-  same = same_caused answer (devices_in (Up old)) (devices_in (Up new)) cause.disc (labels_read old.rack.reels new.rack.reels cause.tapes.reels);
+  same = same_caused answer (devices_in (Up old)) (devices_in (Up new)) cause.disc cause.tapes;
   dumps = λ is. grown_by (is_process what) old.rack new.rack (grow_held old.rack new.rack cause.tapes.reels);
 }
 

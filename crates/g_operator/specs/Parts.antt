@@ -12,6 +12,7 @@ use Rattle.g_run_model.specs.Devices.{Devices}
 use Rattle.g_run_model.specs.Lines.{LineGives, is_process}
 pub use Rattle.g_run_model.specs.Lines.{disc_arms, tape_arms}
 use Rattle.g_run_model.specs.Moves.{EventCounted, LineCounted}
+use Rattle.g_run_model.specs.Top.{IsArmedIn}
 use Rattle.g_run_model.specs.World.{World}
 use Rattle.g_job_table.specs.Crew.{CrewState, IsCrewOf}
 use Rattle.g_job_table.specs.Numbers.{AreOpen}
@@ -82,11 +83,13 @@ LineGoes what old None new before after = (w : World) → Matches w old
 LineGoes what old (Some failure) new before after = (w : World) → Matches w old
     → DoesNothing w old.system new.system before after ⊎ ((added : List ℕ) × DoesLine what w old.system new.system added × HasPutPart before added after)
 
--- whether devices tell or not, a line arms a device with its number, or, where it isn't done, not at all
+-- whether devices tell or not, a line arms a device with its number, or, where it isn't done, not at all; and no sooner and no later than in it
 pub record ArmsBy (what : Operator) (failure : Option Failure) (old new : Devices) : Type 0 where
   pub disc : IsArmedWithin (disc_arms what) old.disc.arms new.disc.arms
   pub tape : IsArmedWithin (tape_arms what) old.rack.arms new.rack.arms
   pub all : failure ≡ None → IsArmedBy (disc_arms what) old.disc.arms new.disc.arms × IsArmedBy (tape_arms what) old.rack.arms new.rack.arms
+  pub disc_since : IsArmedIn old.disc.writes new.disc.writes old.disc.arms new.disc.arms
+  pub tape_since : IsArmedIn old.rack.write_faults new.rack.write_faults old.rack.arms new.rack.arms
 
 -- whether devices tell or not, a line leaves jobs that can take turns, and gives out one number at most
 pub record LeavesCrew (old new : CrewState) : Type 0 where

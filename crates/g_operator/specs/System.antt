@@ -31,11 +31,14 @@ devices_in (Down d) = d
 abbrev pub labels : List Reel → List (ℕ × ℕ)
 labels reels = map (λ r. (r.serial, r.capacity)) reels
 
--- THE SAME DEVICES: a disc of the same size, whose counts of failures didn't fall, and the same reels
+-- THE SAME DEVICES: a disc of the same size, and the same reels; and no count of either fell
 pub record SameDevices (old new : Devices) : Type 0 where
   pub size : new.disc.size ≡ old.disc.size
-  pub reads : old.disc.read_faults ≤ new.disc.read_faults
-  pub writes : old.disc.write_faults ≤ new.disc.write_faults
+  pub read_faults : old.disc.read_faults ≤ new.disc.read_faults
+  pub write_faults : old.disc.write_faults ≤ new.disc.write_faults
+  pub writes : old.disc.writes ≤ new.disc.writes
+  pub tape_read_faults : old.rack.read_faults ≤ new.rack.read_faults
+  pub tape_write_faults : old.rack.write_faults ≤ new.rack.write_faults
   pub reels : labels new.rack.reels ≡ labels old.rack.reels
 
 -- COMPLETED DUMPS STAY: all that are completed on the reels of the one rack are so on those of the other, each whole, and maybe more

@@ -51,7 +51,13 @@ fn address(source: &Source, row: &Row, value: &Value) -> Option<u32>
 }
 
 /// The word of an order.
-pub(crate) fn order_for(source: &Source, name: Mnemonic, x: u8, m: u8, value: &Value) -> Option<Word>
+pub(crate) fn order_for(
+    source: &Source,
+    name: Mnemonic,
+    x: u8,
+    m: u8,
+    value: &Value,
+) -> Option<Word>
     requires { IsOperand (row_of name) x m value.now }
     ensures { result ≡ option_map (λ a. word_of (assembly.fields_with (row_of name) x m a)) (assembly.address source.now (row_of name) value.now) }
 {

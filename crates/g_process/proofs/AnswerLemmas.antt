@@ -11,6 +11,7 @@ use Rattle.std.proofs.lemmas.List.Sums.{sum_by-cons}
 use Rattle.std.proofs.lemmas.Option.{none-some, same_Some}
 use Rattle.g_base.specs.Block.{IsBlock, blocks_for}
 use Rattle.g_base.specs.Counts.{Rose, RoseBy}
+use Rattle.g_disc.proofs.CallLemmas.{stands_later, then_later}
 use Rattle.g_entry.specs.declared.file_rec.FileRec.{FileRec}
 use Rattle.g_entry.specs.declared.file_rec.TapeCopy.{TapeCopy}
 use Rattle.g_entry.specs.declared.head.Intent.{Intent}
@@ -201,6 +202,7 @@ module _ (job : Job) (o : OnlineFacts) (old mid : Rack) (live : o.live ≡ true)
       };
       cause = record {
         size = ap (λ (x : OnlineFacts). x.disc.size) is ∙ intended.causes.size;
+        later = then_later intended.causes.later (stands_later (ap (λ (x : OnlineFacts). x.disc.writes) is));
         reels = zip_labels old.reels new.reels (ap (λ (x : Rack). labels x.reels) same ∙ labels_written begun k m so);
         disc_arms = ap (λ (x : OnlineFacts). x.disc.arms) is ∙ intended.causes.arms;
         tape_arms = ap (λ (x : Rack). x.arms) same ∙ so.rack.arms ∙ only.arms;
@@ -250,6 +252,7 @@ module _ (job : Job) (o : OnlineFacts) (old mid : Rack) (live : o.live ≡ true)
       };
       cause = record {
         size = ap (λ (x : OnlineFacts). x.disc.size) is ∙ intended.causes.size;
+        later = then_later intended.causes.later (stands_later (ap (λ (x : OnlineFacts). x.disc.writes) is));
         reels = zip_labels old.reels new.reels (ap (λ (x : Rack). labels x.reels) same ∙ labels_written begun k m so);
         disc_arms = ap (λ (x : OnlineFacts). x.disc.arms) is ∙ intended.causes.arms;
         tape_arms = ap (λ (x : Rack). x.arms) same ∙ so.rack.arms ∙ only.arms;
@@ -487,10 +490,10 @@ module _ (job : Job) (o : OnlineFacts) (old mid : Rack) (live : o.live ≡ true)
     TheStop = let r : Result ℕ StoreFault = Err Stopped in Processes serial was r (spent_with o' new)
 
     a_stop : (Told was → Belongs was → Belongs (spent_with o' new)) → (Told was → (text : ℕ → List ℕ) (shelf : ℕ → List Dump) → AreShelved shelf (told_reels old) → IsUp text shelf was → Stops text shelf serial was (spent_with o' new))
-        → StopLeaves serial was (spent_with o' new) → labels new.reels ≡ labels old.reels → is_some o'.disc.held ≡ is_some o.disc.held → o'.disc.size ≡ o.disc.size → o'.disc.arms ≡ o.disc.arms
+        → StopLeaves serial was (spent_with o' new) → labels new.reels ≡ labels old.reels → is_some o'.disc.held ≡ is_some o.disc.held → o'.disc.size ≡ o.disc.size → o.disc.writes ≤ o'.disc.writes → o'.disc.arms ≡ o.disc.arms
         → new.arms ≡ old.arms → o'.disc.read_faults ≡ o.disc.read_faults → new.read_faults ≡ old.read_faults
         → (Rose o.disc.write_faults o'.disc.write_faults × (new.write_faults ≡ old.write_faults)) ⊎ (Rose old.write_faults new.write_faults × (o'.disc.write_faults ≡ o.disc.write_faults)) → TheStop
-    a_stop together exits reels same told size disc_arms tape_arms disc_reads tape_reads cut = record {
+    a_stop together exits reels same told size later disc_arms tape_arms disc_reads tape_reads cut = record {
       refused = never_refused (Err Stopped) (spent_with o' new);
       granted = λ _. tt;
       same = λ early. absurd (early tt);
@@ -500,6 +503,7 @@ module _ (job : Job) (o : OnlineFacts) (old mid : Rack) (live : o.live ≡ true)
       done = reels;
       cause = record {
         size = size;
+        later = later;
         reels = zip_labels old.reels new.reels same;
         disc_arms = disc_arms;
         tape_arms = tape_arms;
@@ -528,7 +532,7 @@ module _ (job : Job) (o : OnlineFacts) (old mid : Rack) (live : o.live ≡ true)
         (ap (λ (x : Rack). map unread x.reels) same ∙ only.reels) (subst (λ (i : Intent). ForSome o'.disc.held (λ blocks. Holds blocks o.contents ⊎ Holds blocks (with_intent (Some i) o.contents))) intent_is stopped.holds))
         (CutIntent (subst (λ (i : Intent). ForSome o'.disc.held (λ blocks. Holds blocks o.contents ⊎ Holds blocks (with_intent (Some i) o.contents))) intent_is stopped.holds)
         (ap (λ (x : Rack). map unread x.reels) same ∙ only.reels)) (ap (λ (x : Rack). labels x.reels) same ∙ labels_mid)
-        stopped.told stopped.causes.size stopped.causes.arms (ap (λ (x : Rack). x.arms) same ∙ only.arms) (stopped.causes.reads_kept (λ no. no)) (ap (λ (x : Rack). x.read_faults) same ∙ ready.kept)
+        stopped.told stopped.causes.size stopped.causes.later stopped.causes.arms (ap (λ (x : Rack). x.arms) same ∙ only.arms) (stopped.causes.reads_kept (λ no. no)) (ap (λ (x : Rack). x.read_faults) same ∙ ready.kept)
         (inl (stopped.causes.writes_rose tt, ap (λ (x : Rack). x.write_faults) same ∙ only.write_faults))
     stops (AtBlock intended k less m so failed) =
         let same_m = labels_written o' k m so in
@@ -543,7 +547,7 @@ module _ (job : Job) (o : OnlineFacts) (old mid : Rack) (live : o.live ≡ true)
         (λ told text shelf shelved up. torn_exits told text shelf shelved up k m so intended failed.how less beside (labels_failed k serial m new failed same_m))
         (CutDump intended.live (intended.contents ∙ begun_is)
         (reels_read serial (λ r. left_by failed.how k (filled so.written r)) old new (both_at serial (filled so.written) (left_by failed.how k) old new (filled_serial so.written) all)))
-        (labels_failed k serial m new failed same_m) intended.told intended.causes.size intended.causes.arms
+        (labels_failed k serial m new failed same_m) intended.told intended.causes.size intended.causes.later intended.causes.arms
         (ap (λ (x : Rack). x.arms) failed.rack ∙ failed.reads.arms ∙ so.rack.arms ∙ only.arms) (intended.causes.reads_kept (λ no. no))
         (ap (λ (x : Rack). x.read_faults) failed.rack ∙ failed.kept ∙ so.kept ∙ ready.kept)
         (inr (subst (λ (n : ℕ). Rose n new.write_faults) (failed.reads.write_faults ∙ so.rack.write_faults ∙ only.write_faults) failed.rose, intended.causes.writes_kept (λ no. no)))
@@ -560,7 +564,7 @@ module _ (job : Job) (o : OnlineFacts) (old mid : Rack) (live : o.live ≡ true)
         (the_dump new begun intended so (λ s k. omega arith) (reels_held serial (at_serial serial (filled so.written)) so.written old new (let long = so.long in omega (arith, long))
         (at_name serial (filled so.written) (filled_serial so.written)) (at_this serial (filled so.written)) all))
         (reels_read serial (filled so.written) old new all)) (labels_written begun (needs plan) new so)
-        (adopting.told ∙ intended.told) (adopting.causes.size ∙ intended.causes.size) (adopting.causes.arms ∙ intended.causes.arms) (so.rack.arms ∙ only.arms)
+        (adopting.told ∙ intended.told) (adopting.causes.size ∙ intended.causes.size) (then_later intended.causes.later adopting.causes.later) (adopting.causes.arms ∙ intended.causes.arms) (so.rack.arms ∙ only.arms)
         (adopting.causes.reads_kept (λ no. no) ∙ intended.causes.reads_kept (λ no. no)) (so.kept ∙ ready.kept)
         (inl (subst (λ (n : ℕ). Rose n o'.disc.write_faults) (intended.causes.writes_kept (λ no. no)) (adopting.causes.writes_rose refl), so.rack.write_faults ∙ only.write_faults))
     stops (AtRelease m moved cut) =
@@ -596,7 +600,7 @@ module _ (job : Job) (o : OnlineFacts) (old mid : Rack) (live : o.live ≡ true)
         (held_part serial old mid job.lists.items ready.listed so.written cut.place cut.list cut.how cut.at cut.taken_is) all))
         (reels_part serial old mid job.lists.items ready.listed so.written cut.place cut.list cut.how new cut.at cut.taken_is all))
         (labels_changed cut.list.serial (left_by cut.how 0) (label_left cut.how 0) cut.mid new (ap (λ (x : Rack). x.reels) cut.rack) ∙ same_c)
-        (moved.adopted.told ∙ moved.intended.told) (moved.adopted.causes.size ∙ moved.intended.causes.size) (moved.adopted.causes.arms ∙ moved.intended.causes.arms)
+        (moved.adopted.told ∙ moved.intended.told) (moved.adopted.causes.size ∙ moved.intended.causes.size) (then_later moved.intended.causes.later moved.adopted.causes.later) (moved.adopted.causes.arms ∙ moved.intended.causes.arms)
         (ap (λ (x : Rack). x.arms) cut.rack ∙ ap (λ (x : Rack). x.arms) cut.before ∙ so.rack.arms ∙ only.arms)
         (moved.adopted.causes.reads_kept (λ no. no) ∙ moved.intended.causes.reads_kept (λ no. no))
         (ap (λ (x : Rack). x.read_faults) cut.rack ∙ ap (λ (x : Rack). x.read_faults) cut.before ∙ so.kept ∙ ready.kept)
@@ -642,6 +646,7 @@ module _ (job : Job) (o : OnlineFacts) (old mid : Rack) (live : o.live ≡ true)
           };
           cause = record {
             size = moved.adopted.causes.size ∙ moved.intended.causes.size;
+            later = then_later moved.intended.causes.later moved.adopted.causes.later;
             reels = zip_labels old.reels new.reels same_new;
             disc_arms = moved.adopted.causes.arms ∙ moved.intended.causes.arms;
             tape_arms = ap (λ (x : Rack). x.arms) gone ∙ so.rack.arms ∙ only.arms;

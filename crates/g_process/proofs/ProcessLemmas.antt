@@ -5,6 +5,7 @@ use Rattle.std.specs.Option.{ForSome}
 use Rattle.std.proofs.lemmas.Bool.{ne_eqb}
 use Rattle.std.proofs.lemmas.List.Elements.{All-head, All-tail}
 use Rattle.std.proofs.lemmas.Option.{none-some, same_Some}
+use Rattle.g_disc.proofs.CallLemmas.{stands_later}
 use Rattle.g_name.specs.declared.full.Full.{Full}
 use Rattle.g_entry.specs.declared.file_rec.TapeCopy.{TapeCopy}
 use Rattle.g_tape.specs.Rack.{Rack, reel}
@@ -137,6 +138,7 @@ module _ (serial : ℕ) (o : OnlineFacts) (old new : Rack) (live : o.live ≡ tr
     done = does_nothing serial fault before (up_with o new None) never;
     cause = record {
       size = refl;
+      later = stands_later refl;
       reels = zip_labels old.reels new.reels (labels_reads old new only.reels);
       disc_arms = refl;
       tape_arms = only.arms;
@@ -220,6 +222,7 @@ module _ (serial : ℕ) (o : OnlineFacts) (old new : Rack) (live : o.live ≡ tr
       done = record { contents = inl refl; changed = refl; reels = zip_becomes (λ r. r) old new (IsReadBy serial) (becomes_read old new only.reels) (λ r q there is. inr is) };
       cause = record {
         size = refl;
+        later = stands_later refl;
         reels = zip_labels old.reels new.reels (labels_reads old new only.reels);
         disc_arms = refl;
         tape_arms = only.arms;

@@ -62,10 +62,11 @@ IsLate DiscReadFault = Unit {0}
 IsLate Stopped = Unit {0}
 IsLate fault = ⊥
 
--- EACH COUNT moves with its own answer alone; a stop is one write, of the disc or of the tapes; nobody arms a device, and the reels
--- are the same ones, mounted as they were
+-- EACH COUNT of failures moves with its own answer alone; a stop is one write, of the disc or of the tapes; the disc's count of writes
+-- never falls, nobody arms a device, and the reels are the same ones, mounted as they were
 pub record ProcessCause (old new : StoreFacts) (answer : Result ℕ StoreFault) : Type 0 where
   pub size : new.online.disc.size ≡ old.online.disc.size
+  pub later : old.online.disc.writes ≤ new.online.disc.writes
   pub reels : AllZip (λ (o : Reel) (n : Reel). (n.serial ≡ o.serial) × (n.capacity ≡ o.capacity) × (n.mounted ≡ o.mounted)) old.rack.reels new.rack.reels
   pub disc_arms : new.online.disc.arms ≡ old.online.disc.arms
   pub tape_arms : new.rack.arms ≡ old.rack.arms

@@ -12,14 +12,14 @@ use Rattle.g_run.specs.Parts.{AreAside}
 -- WHERE THE DISC COUNTED NO FAILURE in two parts, it counted none in either
 pub first_well : (a b c : Devices) → SameDevices b c → NoDiscFault a c → NoDiscFault a b
 first_well a b c later well = record {
-  no_read = λ rose. well.no_read (Rose-before {a = a.disc.read_faults} {b = b.disc.read_faults} {c = c.disc.read_faults} rose later.reads);
-  no_write = λ rose. well.no_write (Rose-before {a = a.disc.write_faults} {b = b.disc.write_faults} {c = c.disc.write_faults} rose later.writes);
+  no_read = λ rose. well.no_read (Rose-before {a = a.disc.read_faults} {b = b.disc.read_faults} {c = c.disc.read_faults} rose later.read_faults);
+  no_write = λ rose. well.no_write (Rose-before {a = a.disc.write_faults} {b = b.disc.write_faults} {c = c.disc.write_faults} rose later.write_faults);
 }
 
 pub later_well : (a b c : Devices) → SameDevices a b → NoDiscFault a c → NoDiscFault b c
 later_well a b c first well = record {
-  no_read = λ rose. well.no_read (Rose-behind {a = a.disc.read_faults} {b = b.disc.read_faults} {c = c.disc.read_faults} first.reads rose);
-  no_write = λ rose. well.no_write (Rose-behind {a = a.disc.write_faults} {b = b.disc.write_faults} {c = c.disc.write_faults} first.writes rose);
+  no_read = λ rose. well.no_read (Rose-behind {a = a.disc.read_faults} {b = b.disc.read_faults} {c = c.disc.read_faults} first.read_faults rose);
+  no_write = λ rose. well.no_write (Rose-behind {a = a.disc.write_faults} {b = b.disc.write_faults} {c = c.disc.write_faults} first.write_faults rose);
 }
 
 -- THE FORMAT OF SOME LINES and one more: it is the one, with nothing but such lines before it, or it is among the others

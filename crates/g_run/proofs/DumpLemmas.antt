@@ -41,7 +41,7 @@ use Rattle.g_run.proofs.RackLemmas.{SameMounted, ending_mounts, failing_mounts, 
 use Rattle.g_run.proofs.SteppingLemmas.{stepping_counted}
 use Rattle.g_operator.proofs.GrowLemmas.{grow_itself, grow_stepped}
 use Rattle.g_base.proofs.CountLemmas.{Rose-later}
-use Rattle.g_operator.proofs.LabelLemmas.{labels_with, same_itself, same_still, stands_still}
+use Rattle.g_operator.proofs.LabelLemmas.{labels_with, same_counts, same_itself, same_still, stands_still}
 
 -- a step never wants memory
 steps_lead : (answer : Result Stepped StoreFault) (s : State) (old new : StoreFacts) (dump after : DumpFacts) → Stepping dump old.online old.rack answer after new.online new.rack
@@ -125,24 +125,33 @@ module _ (d e : DumpFacts) (o p : OnlineFacts) (r t : Rack) where
 
   step_same : (answer : Result Stepped StoreFault) → Stepping d o r answer e p t → SameDevices was now
   step_same (Ok Going) (more, dump, is, wrote) =
-      same_still was now (ap (λ (x : OnlineFacts). x.disc.size) is) (ap (λ (x : OnlineFacts). x.disc.read_faults) is) (ap (λ (x : OnlineFacts). x.disc.write_faults) is) (wrote_same wrote)
+      same_counts was now (ap (λ (x : OnlineFacts). x.disc.size) is) (ap (λ (x : OnlineFacts). x.disc.read_faults) is) (ap (λ (x : OnlineFacts). x.disc.write_faults) is)
+      (ap (λ (x : OnlineFacts). x.disc.writes) is) (ap (λ (x : Rack). x.read_faults) wrote.rack) (ap (λ (x : Rack). x.write_faults) wrote.rack) (wrote_same wrote)
   step_same (Ok (Completed n)) (last, number, plan, wrote, closing) =
-      same_still was now closing.causes.size (closing.causes.reads_kept (λ x. x)) (closing.causes.writes_kept (λ x. let no : ⊥ = cc in no)) (wrote_same wrote)
+      same_still was now closing.causes.size (closing.causes.reads_kept (λ x. x)) (closing.causes.writes_kept (λ x. let no : ⊥ = cc in no)) closing.causes.later
+      (stands_still r.read_faults t.read_faults (ap (λ (x : Rack). x.read_faults) wrote.rack)) (stands_still r.write_faults t.write_faults (ap (λ (x : Rack). x.write_faults) wrote.rack)) (wrote_same wrote)
   step_same (Err DiscReadFault) (dump, is, gone) = record {
     size = ap (λ (x : OnlineFacts). x.disc.size) gone.facts;
-    reads = Rose-later gone.rose;
-    writes = stands_still o.disc.write_faults p.disc.write_faults (ap (λ (x : OnlineFacts). x.disc.write_faults) gone.facts);
+    read_faults = Rose-later gone.rose;
+    write_faults = stands_still o.disc.write_faults p.disc.write_faults (ap (λ (x : OnlineFacts). x.disc.write_faults) gone.facts);
+    writes = stands_still o.disc.writes p.disc.writes (ap (λ (x : OnlineFacts). x.disc.writes) gone.facts);
+    tape_read_faults = stands_still r.read_faults t.read_faults (ap (λ (x : Rack). x.read_faults) is);
+    tape_write_faults = stands_still r.write_faults t.write_faults (ap (λ (x : Rack). x.write_faults) is);
     reels = ap (λ (x : Rack). labels x.reels) is;
   }
   step_same (Err Stopped) (plan, inl (failed, is)) =
-      same_still was now (ap (λ (x : OnlineFacts). x.disc.size) is) (ap (λ (x : OnlineFacts). x.disc.read_faults) is) (ap (λ (x : OnlineFacts). x.disc.write_faults) is) (
+      same_still was now (ap (λ (x : OnlineFacts). x.disc.size) is) (ap (λ (x : OnlineFacts). x.disc.read_faults) is) (ap (λ (x : OnlineFacts). x.disc.write_faults) is)
+      (stands_still o.disc.writes p.disc.writes (ap (λ (x : OnlineFacts). x.disc.writes) is)) (stands_still r.read_faults t.read_faults (ap (λ (x : Rack). x.read_faults) failed.rack)) (Rose-later failed.rose) (
       ap (λ (x : Rack). labels x.reels) failed.rack
       ∙ labels_with d.plan.serial (left_by failed.how (d.plan.place + d.done)) (left_named failed.how (d.plan.place + d.done)) (left_holds failed.how (d.plan.place + d.done)) r.reels
       )
   step_same (Err Stopped) (plan, inr (last, wrote, closing)) = record {
     size = closing.causes.size;
-    reads = stands_still o.disc.read_faults p.disc.read_faults (closing.causes.reads_kept (λ x. x));
-    writes = Rose-later (closing.causes.writes_rose refl);
+    read_faults = stands_still o.disc.read_faults p.disc.read_faults (closing.causes.reads_kept (λ x. x));
+    write_faults = Rose-later (closing.causes.writes_rose refl);
+    writes = closing.causes.later;
+    tape_read_faults = stands_still r.read_faults t.read_faults (ap (λ (x : Rack). x.read_faults) wrote.rack);
+    tape_write_faults = stands_still r.write_faults t.write_faults (ap (λ (x : Rack). x.write_faults) wrote.rack);
     reels = wrote_same wrote;
   }
   step_same (Err fault) step = absurd step

@@ -41,6 +41,8 @@ line_arms next failure old new arms = record {
   tape = within_more (tape_arms next.what) [] old.rack.arms new.rack.arms arms.tape;
   all_disc = λ went. subst (λ (ks : List ℕ). IsArmedBy ks old.disc.arms new.disc.arms) (sym (append-nil (disc_arms next.what))) (arms.all went).0;
   all_tape = λ went. subst (λ (ks : List ℕ). IsArmedBy ks old.rack.arms new.rack.arms) (sym (append-nil (tape_arms next.what))) (arms.all went).1;
+  disc_since = arms.disc_since;
+  tape_since = arms.tape_since;
 }
 
 line_keeps : (next : Timed) (old : Seen) (failure : Option Failure) (new : Seen) (before after : Option (List ℕ)) (faults faults' : ℕ) → DidLine next.what old failure new before after faults faults'

@@ -28,6 +28,7 @@ use Rattle.g_run_model.specs.Texts.{closing, waiting_files}
 use Rattle.g_run_model.specs.Lines.{disc_arms, tape_arms}
 use Rattle.g_run_model.specs.Top.{AreArmings, EndsShort, RunOf, numbers_of}
 use Rattle.g_run_model.specs.World.{World, closed, is_due, nothing_steps, start}
+use Rattle.g_run_model.proofs.ArmLemmas.{in_none}
 use Rattle.g_run_model.proofs.CountLemmas.{counted_of, event_none, move_counted, moves_then}
 use Rattle.g_run_model.proofs.TickLemmas.{over_move}
 use Rattle.g_run_model.proofs.TurnLemmas.{run_append}
@@ -235,6 +236,8 @@ module _ {F U : Type 0} (tariffs : Shared F (Bor Usage × Unit {0}) Charge) (tar
       tape = arms.tape;
       all_disc = λ went. arms.all_disc refl;
       all_tape = λ went. arms.all_tape refl;
+      disc_since = arms.disc_since;
+      tape_since = arms.tape_since;
     };
     same = same_down None faults faults1 did.keeps;
     belongs = belongs_down None faults faults1 did.keeps;
@@ -273,6 +276,8 @@ module _ {F U : Type 0} (tariffs : Shared F (Bor Usage × Unit {0}) Charge) (tar
           tape = within_none (numbers_of tape_arms lines) old.rack.arms old.rack.arms refl;
           all_disc = λ through. absurd (none-some failures.Memory (sym through));
           all_tape = λ through. absurd (none-some failures.Memory (sym through));
+          disc_since = in_none old.disc.writes old.disc.writes old.disc.arms old.disc.arms refl;
+          tape_since = in_none old.rack.write_faults old.rack.write_faults old.rack.arms old.rack.arms refl;
         };
         same = same_itself old;
         belongs = λ is. is;

@@ -16,12 +16,13 @@ use Rattle.g_run_model.specs.Moves.{Move}
 use Rattle.g_run_model.specs.Lines.{disc_arms, tape_arms}
 use Rattle.g_run_model.specs.Top.{AreArmings, numbers_of}
 use Rattle.g_run_model.specs.World.{World}
+use Rattle.g_run_model.proofs.ArmLemmas.{in_none, in_then}
 use Rattle.g_run_model.proofs.CountLemmas.{event_none, moves_then}
 use Rattle.g_run_model.proofs.TurnLemmas.{run_append}
 use Rattle.g_operator.specs.declared.progress.Failure.{Failure}
 use Rattle.g_operator.specs.Parts.{Matches, Seen}
 use Rattle.g_operator.specs.Puts.{FaultCause}
-use Rattle.g_operator.specs.System.{StandsAs, SystemFacts, devices_in}
+use Rattle.g_operator.specs.System.{SameDevices, StandsAs, SystemFacts, devices_in}
 use Rattle.g_run.specs.Tick.{IsBetween}
 use Rattle.g_run.proofs.TickLemmas.{put_on, with_more-append}
 use Rattle.g_run.specs.Parts.{Anything, Arrives, GoesBy, Keeps, Leads}
@@ -39,6 +40,8 @@ none_arm through old new disc tape = record {
   tape = within_none [] old.rack.arms new.rack.arms tape;
   all_disc = λ went. disc;
   all_tape = λ went. tape;
+  disc_since = in_none old.disc.writes new.disc.writes old.disc.arms new.disc.arms disc;
+  tape_since = in_none old.rack.write_faults new.rack.write_faults old.rack.arms new.rack.arms tape;
 }
 
 -- the numbers of two lists of lines
@@ -58,12 +61,14 @@ then_some arms a b old now new first later =
 and_more : (arms : Operator → List ℕ) (a b : List Timed) (old new : Arms) → IsArmedWithin (numbers_of arms a) old new → IsArmedWithin (numbers_of arms (a ++ b)) old new
 and_more arms a b old new first = subst (λ (ks : List ℕ). IsArmedWithin ks old new) (sym (both_numbers arms a b)) (within_more (numbers_of arms a) (numbers_of arms b) old new first)
 
-pub arms_then : {One Two : Type 0} (a b : List Timed) (old now new : Devices) → One → AreArmings a One old now → AreArmings b Two now new → AreArmings (a ++ b) Two old new
-arms_then a b old now new went first later = record {
+pub arms_then : {One Two : Type 0} (a b : List Timed) (old now new : Devices) → SameDevices old now → SameDevices now new → One → AreArmings a One old now → AreArmings b Two now new → AreArmings (a ++ b) Two old new
+arms_then a b old now new early late went first later = record {
   disc = then_some disc_arms a b old.disc.arms now.disc.arms new.disc.arms (first.all_disc went) later.disc;
   tape = then_some tape_arms a b old.rack.arms now.rack.arms new.rack.arms (first.all_tape went) later.tape;
   all_disc = λ all. two_parts disc_arms a b old.disc.arms now.disc.arms new.disc.arms (first.all_disc went) (later.all_disc all);
   all_tape = λ all. two_parts tape_arms a b old.rack.arms now.rack.arms new.rack.arms (first.all_tape went) (later.all_tape all);
+  disc_since = in_then old.disc.writes now.disc.writes new.disc.writes old.disc.arms now.disc.arms new.disc.arms early.writes late.writes first.disc_since later.disc_since;
+  tape_since = in_then old.rack.write_faults now.rack.write_faults new.rack.write_faults old.rack.arms now.rack.arms new.rack.arms early.tape_write_faults late.tape_write_faults first.tape_since later.tape_since;
 }
 
 -- lines that weren't come to
@@ -73,6 +78,8 @@ arms_more a b old new cut first = record {
   tape = and_more tape_arms a b old.rack.arms new.rack.arms first.tape;
   all_disc = λ all. absurd (cut all);
   all_tape = λ all. absurd (cut all);
+  disc_since = first.disc_since;
+  tape_since = first.tape_since;
 }
 
 -- WHAT HOLDS OF ALL DEVICES behind two parts
@@ -85,7 +92,7 @@ keeps_then a b old mid failure new faults faults1 faults2 first later = record {
       let two : new.crew.next_job ≤ mid.crew.next_job + length b = later.numbers none in
       let sum : length (a ++ b) ≡ length a + length b = length-append a b in
       omega (arith, one, two, sum);
-  arms = arms_then a b (devices_in old.system) (devices_in mid.system) (devices_in new.system) refl first.arms later.arms;
+  arms = arms_then a b (devices_in old.system) (devices_in mid.system) (devices_in new.system) first.same later.same refl first.arms later.arms;
   same = same_then (devices_in old.system) (devices_in mid.system) (devices_in new.system) first.same later.same;
   belongs = λ was. later.belongs (first.belongs was);
   dumps = λ was. kept_then a b (devices_in old.system).rack (devices_in mid.system).rack (devices_in new.system).rack later.same.reels (first.dumps was) (later.dumps (first.belongs was));

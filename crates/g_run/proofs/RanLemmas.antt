@@ -19,7 +19,7 @@ use Rattle.g_store_calls.proofs.SeenLemmas.{seen}
 use Rattle.g_tape.specs.Rack.{is_mounted, reel}
 use Rattle.g_operator.specs.System.{SameDevices, Up, devices_in}
 use Rattle.g_operator.proofs.CauseLemmas.{same_caused}
-use Rattle.g_operator.proofs.LabelLemmas.{labels_read, same_itself, same_then}
+use Rattle.g_operator.proofs.LabelLemmas.{same_itself, same_then}
 
 -- the store stays over devices of the same sizes, which nobody armed, and whose counts of the disc's failures didn't fall; the same reels are mounted, and they hold the same; and it goes on belonging to them
 pub record StaysOver (old new : StoreFacts) : Type 0 where
@@ -48,7 +48,7 @@ stays_then s t u one more = record {
 
 call_stays : (old new : StoreFacts) (who : List ℕ) (call : StoreCall) (answer : Answer) → Answers old who call answer new → StaysOver old new
 call_stays old new who call answer is = record {
-  same = same_caused answer (devices_in (Up old)) (devices_in (Up new)) is.cause.disc (labels_read old.rack.reels new.rack.reels is.cause.tapes.reels);
+  same = same_caused answer (devices_in (Up old)) (devices_in (Up new)) is.cause.disc is.cause.tapes;
   disc_arms = is.cause.disc.arms;
   tape_arms = is.cause.tapes.arms;
   mounted = λ serial. same_mounts old.rack new.rack is.cause.tapes serial;

@@ -1,6 +1,5 @@
 -- What the devices count in a step of the open dump, by its outcome.
 use Rattle.std.proofs.Common.{◌≡◌, ℕ, List, Option, Result, Ok, Err, refl, sym, ap, subst, inl, inr, arith}
-use Rattle.g_base.proofs.CountLemmas.{HasRisenBy-Rose}
 use Rattle.g_disc_contents.specs.Facts.{OnlineFacts}
 use Rattle.g_dumper.specs.Steps.{Abandoned, FailedWrite, Stepping, WroteBlock}
 use Rattle.g_online.specs.Pins.{IsClosing}
@@ -15,14 +14,11 @@ use Rattle.g_store_model.specs.DumpSteps.{Completed, Going, Stepped}
 use Rattle.g_tape.specs.Rack.{Rack}
 use Rattle.g_run_model.specs.Devices.{Devices}
 use Rattle.g_run_model.specs.Moves.{DumpCounted}
-use Rattle.g_run_model.proofs.CountLemmas.{dump_failed, happened_same, none_failed, none_rose, rack_failed}
+use Rattle.g_run_model.proofs.CountLemmas.{a_failure, dump_failed, happened_same, no_failure, none_failed, rack_failed}
 use Rattle.g_run_model.proofs.EventToldLemmas.{OutcomeTold}
 
 abbrev both : OnlineFacts → Rack → Devices
 both o r = record { disc = o.disc; rack = r }
-
-one_zero : {P : Type 0} → ◌≡◌ {A = ℕ} 1 0 → P
-one_zero e = absurd (let no : ⊥ = omega arith in no)
 
 -- a block that was written moves no count
 module _ (d : DumpFacts) (pins : Option (List Pin)) (r s : Rack) (wrote : WroteBlock d pins r s) where
@@ -58,11 +54,9 @@ module _ (d d2 : DumpFacts) (o o2 : OnlineFacts) (r r2 : Rack) where
   unread gone is =
       let writes = ap (λ (x : OnlineFacts). x.disc.write_faults) gone.facts in
       record {
-        disc_reads_rose = HasRisenBy-Rose gone.rose;
-        tape_reads_rose = none_rose r.read_faults r2.read_faults (ap (λ (x : Rack). x.read_faults) is);
-        cuts_rose = none_failed (both o r) (both o2 r2) writes (ap (λ (x : Rack). x.write_faults) is);
-        no_disc_read = λ e. one_zero e;
-        no_tape_read = λ e. ap (λ (x : Rack). x.read_faults) is;
+        disc_read = a_failure o.disc.read_faults o2.disc.read_faults gone.rose;
+        tape_read = no_failure r.read_faults r2.read_faults (ap (λ (x : Rack). x.read_faults) is);
+        cuts = none_failed (both o r) (both o2 r2) writes (ap (λ (x : Rack). x.write_faults) is);
         disc_armed = ap (λ (x : OnlineFacts). x.disc.arms) gone.facts;
         tape_armed = ap (λ (x : Rack). x.arms) is;
       }
@@ -71,22 +65,18 @@ module _ (d d2 : DumpFacts) (o o2 : OnlineFacts) (r r2 : Rack) where
   tape_cut failed is =
       let reads = ap (λ (x : Rack). x.read_faults) failed.rack in
       record {
-        disc_reads_rose = none_rose o.disc.read_faults o2.disc.read_faults (ap (λ (x : OnlineFacts). x.disc.read_faults) is);
-        tape_reads_rose = none_rose r.read_faults r2.read_faults reads;
-        cuts_rose = rack_failed (both o r) (both o2 r2) (ap (λ (x : OnlineFacts). x.disc.write_faults) is) failed.rose;
-        no_disc_read = λ e. ap (λ (x : OnlineFacts). x.disc.read_faults) is;
-        no_tape_read = λ e. reads;
+        disc_read = no_failure o.disc.read_faults o2.disc.read_faults (ap (λ (x : OnlineFacts). x.disc.read_faults) is);
+        tape_read = no_failure r.read_faults r2.read_faults reads;
+        cuts = rack_failed (both o r) (both o2 r2) (ap (λ (x : OnlineFacts). x.disc.write_faults) is) failed.rose;
         disc_armed = ap (λ (x : OnlineFacts). x.disc.arms) is;
         tape_armed = ap (λ (x : Rack). x.arms) failed.rack;
       }
 
   disc_cut : (n : ℕ) → WroteBlock d o.pins r r2 → IsClosing n o o2 (Err online.Stopped) → DumpCounted Cut (both o r) (both o2 r2)
   disc_cut n wrote closing = record {
-    disc_reads_rose = none_rose o.disc.read_faults o2.disc.read_faults (closing.causes.reads_kept (λ x. x));
-    tape_reads_rose = none_rose r.read_faults r2.read_faults (block_reads d o.pins r r2 wrote);
-    cuts_rose = dump_failed (both o r) (both o2 r2) (closing.causes.writes_rose refl) (block_writes d o.pins r r2 wrote);
-    no_disc_read = λ e. closing.causes.reads_kept (λ x. x);
-    no_tape_read = λ e. block_reads d o.pins r r2 wrote;
+    disc_read = no_failure o.disc.read_faults o2.disc.read_faults (closing.causes.reads_kept (λ x. x));
+    tape_read = no_failure r.read_faults r2.read_faults (block_reads d o.pins r r2 wrote);
+    cuts = dump_failed (both o r) (both o2 r2) (closing.causes.writes_rose refl) (block_writes d o.pins r r2 wrote);
     disc_armed = closing.causes.arms;
     tape_armed = block_arms d o.pins r r2 wrote;
   }

@@ -26,6 +26,7 @@ use Rattle.g_demo.specs.declared.demonstration.Demonstration.{Demonstration}
 use Rattle.g_demo.specs.declared.words.Asked.TheVariants as asked
 use Rattle.g_demo.proofs.WordLemmas.{one_reading}
 use Rattle.g_operator.specs.Puts.{PutsBy}
+use Rattle.g_run_model.proofs.ArmLemmas.{in_none}
 use Rattle.g_operator.specs.System.{BelongTogether}
 use Rattle.g_run.specs.declared.status.Status.{Status}
 use Rattle.g_run.specs.Demo.{PutsDemo}
@@ -46,6 +47,8 @@ none_armed status lines d cut = record {
   tape = within_none (numbers_of tape_arms lines) d.rack.arms d.rack.arms refl;
   all_disc = λ went. absurd (cut went);
   all_tape = λ went. absurd (cut went);
+  disc_since = in_none d.disc.writes d.disc.writes d.disc.arms d.disc.arms refl;
+  tape_since = in_none d.rack.write_faults d.rack.write_faults d.rack.arms d.rack.arms refl;
 }
 
 went_through : (bad : Option ℕ) (failure : Option Failure) → IsThrough (status_of bad failure) → failure ≡ None

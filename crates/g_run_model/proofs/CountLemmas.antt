@@ -1,18 +1,31 @@
 -- What the devices count, event by event.
 use Rattle.std.proofs.Common.{◌≡◌, ℕ, ◌+◌, ◌++◌, Bool, true, false, cond, filter, List, [], ◌∷◌, refl, sym, ◌∙◌, subst, arith}
-use Rattle.g_base.specs.Counts.{HasRisenBy, Rose}
+use Rattle.g_base.specs.Counts.{Rose}
 use Rattle.g_base.proofs.CountLemmas.{HasRisenBy-Rose, HasRisenBy-none, HasRisenBy-then}
 use Rattle.g_base.proofs.FuseLemmas.{armed_then}
 use Rattle.g_store_model.specs.CallStep.{Outcome, Plain}
 use Rattle.g_run_model.specs.Devices.{Devices}
-use Rattle.g_run_model.specs.Moves.{Answered, Begin, Counted, Dumped, EventCounted, Happened, LineCounted, Move, MovesCounted, Over, TakeLine, Ticked, TurnOver, WritesFailed, counted, cuts_in, cuts_of_calls, cuts_of_dumps, disc_reads_in, is_dump, not_dump, tape_reads_in}
+use Rattle.g_run_model.specs.Moves.{Answered, Begin, Counted, Dumped, EventCounted, Failures, Happened, LineCounted, Move, MovesCounted, Over, TakeLine, Ticked, TurnOver, WritesFailed, counted, cuts_in, cuts_of_calls, cuts_of_dumps, disc_reads_in, is_dump, not_dump, tape_reads_in}
 use Rattle.g_run_model.specs.World.{World}
 
-pub none_rose : (a b : ℕ) → b ≡ a → HasRisenBy 0 a b
-none_rose a b e = HasRisenBy-none (omega (arith, e))
+first_zero : (a b : ℕ) → a + b ≡ 0 → a ≡ 0
+first_zero a b e = omega (arith, e)
 
-one_zero : {X : Type 0} → ◌≡◌ {A = ℕ} 1 0 → X
-one_zero e = let no : ⊥ = omega arith in absurd no
+second_zero : (a b : ℕ) → a + b ≡ 0 → b ≡ 0
+second_zero a b e = omega (arith, e)
+
+-- A COUNT OF FAILURES: none came; one did; and some behind others
+pub no_failure : (a b : ℕ) → b ≡ a → Failures 0 a b
+no_failure a b e = record { rose = HasRisenBy-none (omega (arith, e)); none = λ none. e }
+
+pub a_failure : (a b : ℕ) → Rose a b → Failures 1 a b
+a_failure a b rose = record { rose = HasRisenBy-Rose rose; none = λ e. absurd (let no : ⊥ = omega (arith, e) in no) }
+
+failures_then : (m n a b c : ℕ) → Failures m a b → Failures n b c → Failures (m + n) a c
+failures_then m n a b c was is = record {
+  rose = HasRisenBy-then was.rose is.rose;
+  none = λ e. is.none (second_zero m n e) ∙ was.none (first_zero m n e);
+}
 
 -- no write failed; one of the disc did; one of the rack did
 pub none_failed : (old new : Devices) → new.disc.write_faults ≡ old.disc.write_faults → new.rack.write_faults ≡ old.rack.write_faults → WritesFailed 0 0 old new
@@ -20,10 +33,8 @@ none_failed old new disc rack = record {
   of_disc = 0;
   of_rack = 0;
   together = refl;
-  disc_rose = none_rose old.disc.write_faults new.disc.write_faults disc;
-  rack_rose = none_rose old.rack.write_faults new.rack.write_faults rack;
-  no_disc = λ none e. disc;
-  no_rack = λ e. rack;
+  disc = no_failure old.disc.write_faults new.disc.write_faults disc;
+  rack = no_failure old.rack.write_faults new.rack.write_faults rack;
 }
 
 pub disc_failed : (old new : Devices) → Rose old.disc.write_faults new.disc.write_faults → new.rack.write_faults ≡ old.rack.write_faults → WritesFailed 1 0 old new
@@ -31,10 +42,8 @@ disc_failed old new rose rack = record {
   of_disc = 0;
   of_rack = 0;
   together = refl;
-  disc_rose = HasRisenBy-Rose rose;
-  rack_rose = none_rose old.rack.write_faults new.rack.write_faults rack;
-  no_disc = λ e none. one_zero e;
-  no_rack = λ e. rack;
+  disc = a_failure old.disc.write_faults new.disc.write_faults rose;
+  rack = no_failure old.rack.write_faults new.rack.write_faults rack;
 }
 
 -- the same of a step of a dump
@@ -43,10 +52,8 @@ dump_failed old new rose rack = record {
   of_disc = 1;
   of_rack = 0;
   together = refl;
-  disc_rose = HasRisenBy-Rose rose;
-  rack_rose = none_rose old.rack.write_faults new.rack.write_faults rack;
-  no_disc = λ none e. one_zero e;
-  no_rack = λ e. rack;
+  disc = a_failure old.disc.write_faults new.disc.write_faults rose;
+  rack = no_failure old.rack.write_faults new.rack.write_faults rack;
 }
 
 pub rack_failed : (old new : Devices) → new.disc.write_faults ≡ old.disc.write_faults → Rose old.rack.write_faults new.rack.write_faults → WritesFailed 0 1 old new
@@ -54,33 +61,23 @@ rack_failed old new disc rose = record {
   of_disc = 0;
   of_rack = 1;
   together = refl;
-  disc_rose = none_rose old.disc.write_faults new.disc.write_faults disc;
-  rack_rose = HasRisenBy-Rose rose;
-  no_disc = λ none e. disc;
-  no_rack = λ e. one_zero e;
+  disc = no_failure old.disc.write_faults new.disc.write_faults disc;
+  rack = a_failure old.rack.write_faults new.rack.write_faults rose;
 }
 
 -- devices that no event took part in, and devices that are alike but for what they hold
 pub happened_same : (old new : Devices) → new.disc.read_faults ≡ old.disc.read_faults → new.disc.write_faults ≡ old.disc.write_faults → new.disc.arms ≡ old.disc.arms
     → new.rack.read_faults ≡ old.rack.read_faults → new.rack.write_faults ≡ old.rack.write_faults → new.rack.arms ≡ old.rack.arms → Happened 0 0 0 0 [] [] old new
 happened_same old new disc_reads disc_writes disc_arms tape_reads tape_writes tape_arms = record {
-  disc_reads_rose = none_rose old.disc.read_faults new.disc.read_faults disc_reads;
-  tape_reads_rose = none_rose old.rack.read_faults new.rack.read_faults tape_reads;
-  cuts_rose = none_failed old new disc_writes tape_writes;
-  no_disc_read = λ e. disc_reads;
-  no_tape_read = λ e. tape_reads;
+  disc_read = no_failure old.disc.read_faults new.disc.read_faults disc_reads;
+  tape_read = no_failure old.rack.read_faults new.rack.read_faults tape_reads;
+  cuts = none_failed old new disc_writes tape_writes;
   disc_armed = disc_arms;
   tape_armed = tape_arms;
 }
 
 pub event_none : (d : Devices) → Happened 0 0 0 0 [] [] d d
 event_none d = happened_same d d refl refl refl refl refl refl
-
-first_zero : (a b : ℕ) → a + b ≡ 0 → a ≡ 0
-first_zero a b e = omega (arith, e)
-
-second_zero : (a b : ℕ) → a + b ≡ 0 → b ≡ 0
-second_zero a b e = omega (arith, e)
 
 four : (a b c d : ℕ) → (a + b) + (c + d) ≡ (a + c) + (b + d)
 four a b c d = omega arith
@@ -91,20 +88,17 @@ failed_then k l m n old now new was is = record {
   of_disc = was.of_disc + is.of_disc;
   of_rack = was.of_rack + is.of_rack;
   together = let first = was.together in let second = is.together in omega (arith, first, second);
-  disc_rose = subst (λ (x : ℕ). HasRisenBy x old.disc.write_faults new.disc.write_faults) (four k was.of_disc l is.of_disc) (HasRisenBy-then was.disc_rose is.disc_rose);
-  rack_rose = HasRisenBy-then was.rack_rose is.rack_rose;
-  no_disc = λ c e. is.no_disc (second_zero k l c) (second_zero was.of_disc is.of_disc e) ∙ was.no_disc (first_zero k l c) (first_zero was.of_disc is.of_disc e);
-  no_rack = λ e. is.no_rack (second_zero was.of_rack is.of_rack e) ∙ was.no_rack (first_zero was.of_rack is.of_rack e);
+  disc = subst (λ (x : ℕ). Failures x old.disc.write_faults new.disc.write_faults) (four k was.of_disc l is.of_disc)
+      (failures_then (k + was.of_disc) (l + is.of_disc) old.disc.write_faults now.disc.write_faults new.disc.write_faults was.disc is.disc);
+  rack = failures_then was.of_rack is.of_rack old.rack.write_faults now.rack.write_faults new.rack.write_faults was.rack is.rack;
 }
 
 pub happened_then : (a b c e : ℕ) (d t : List ℕ) (a' b' c' e' : ℕ) (d' t' : List ℕ) (old now new : Devices) → Happened a b c e d t old now → Happened a' b' c' e' d' t' now new
     → Happened (a + a') (b + b') (c + c') (e + e') (d ++ d') (t ++ t') old new
 happened_then a b c e d t a' b' c' e' d' t' old now new was is = record {
-  disc_reads_rose = HasRisenBy-then was.disc_reads_rose is.disc_reads_rose;
-  tape_reads_rose = HasRisenBy-then was.tape_reads_rose is.tape_reads_rose;
-  cuts_rose = failed_then c c' e e' old now new was.cuts_rose is.cuts_rose;
-  no_disc_read = λ none. is.no_disc_read (second_zero a a' none) ∙ was.no_disc_read (first_zero a a' none);
-  no_tape_read = λ none. is.no_tape_read (second_zero b b' none) ∙ was.no_tape_read (first_zero b b' none);
+  disc_read = failures_then a a' old.disc.read_faults now.disc.read_faults new.disc.read_faults was.disc_read is.disc_read;
+  tape_read = failures_then b b' old.rack.read_faults now.rack.read_faults new.rack.read_faults was.tape_read is.tape_read;
+  cuts = failed_then c c' e e' old now new was.cuts is.cuts;
   disc_armed = armed_then d d' old.disc.arms now.disc.arms new.disc.arms was.disc_armed is.disc_armed;
   tape_armed = armed_then t t' old.rack.arms now.rack.arms new.rack.arms was.tape_armed is.tape_armed;
 }

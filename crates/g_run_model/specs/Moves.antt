@@ -144,25 +144,26 @@ cuts_of_calls moves = counted cuts_in (filter not_dump moves)
 abbrev pub cuts_of_dumps : List Move → ℕ
 cuts_of_dumps moves = counted cuts_in (filter is_dump moves)
 
+-- A count of failures, by n of them: it rose by as many at least, and where there were none it stands still.
+pub record Failures (n before now : ℕ) : Type 0 where
+  pub rose : HasRisenBy n before now
+  pub none : n ≡ 0 → now ≡ before
+
 -- So many writes failed: those of calls and lines, each of the disc, and those of steps of a dump and of PROCESS, each of one device, the
--- disc or the rack; and where none was a device's, its count stands still.
+-- disc or the rack.
 pub record WritesFailed (calls dumps : ℕ) (old new : Devices) : Type 0 where
   pub of_disc : ℕ
   pub of_rack : ℕ
   pub together : of_disc + of_rack ≡ dumps
-  pub disc_rose : HasRisenBy (calls + of_disc) old.disc.write_faults new.disc.write_faults
-  pub rack_rose : HasRisenBy of_rack old.rack.write_faults new.rack.write_faults
-  pub no_disc : calls ≡ 0 → of_disc ≡ 0 → new.disc.write_faults ≡ old.disc.write_faults
-  pub no_rack : of_rack ≡ 0 → new.rack.write_faults ≡ old.rack.write_faults
+  pub disc : Failures (calls + of_disc) old.disc.write_faults new.disc.write_faults
+  pub rack : Failures of_rack old.rack.write_faults new.rack.write_faults
 
--- What the devices counted: so many failed reads of each, and failed writes of calls and lines, and of dumps, at most; none where there were none;
--- and with which numbers each was armed.
+-- What the devices counted: so many failed reads of each, and failed writes of calls and lines, and of dumps; and with which numbers each was
+-- armed.
 pub record Happened (disc_reads tape_reads calls dumps : ℕ) (disc_arms tape_arms : List ℕ) (old new : Devices) : Type 0 where
-  pub disc_reads_rose : HasRisenBy disc_reads old.disc.read_faults new.disc.read_faults
-  pub tape_reads_rose : HasRisenBy tape_reads old.rack.read_faults new.rack.read_faults
-  pub cuts_rose : WritesFailed calls dumps old new
-  pub no_disc_read : disc_reads ≡ 0 → new.disc.read_faults ≡ old.disc.read_faults
-  pub no_tape_read : tape_reads ≡ 0 → new.rack.read_faults ≡ old.rack.read_faults
+  pub disc_read : Failures disc_reads old.disc.read_faults new.disc.read_faults
+  pub tape_read : Failures tape_reads old.rack.read_faults new.rack.read_faults
+  pub cuts : WritesFailed calls dumps old new
   pub disc_armed : IsArmedBy disc_arms old.disc.arms new.disc.arms
   pub tape_armed : IsArmedBy tape_arms old.rack.arms new.rack.arms
 

@@ -1,6 +1,6 @@
 -- How a run ends.
-use Rattle.std.specs.Prelude.{◌≡◌, ◌⊎◌, ℕ, Bool, true, false, List, [], ◌∷◌, ◌++◌, codes, Option}
-use Rattle.g_base.specs.Fuse.{IsArmedBy, IsArmedWithin}
+use Rattle.std.specs.Prelude.{◌≡◌, ◌⊎◌, ◌≤◌, ℕ, Bool, true, false, List, [], ◌∷◌, ◌++◌, codes, Option}
+use Rattle.g_base.specs.Fuse.{Arms, IsArmedBy, IsArmedWithin}
 use Rattle.g_disc.specs.Disc.{IsFused as IsDisc}
 use Rattle.g_tape.specs.Rack.{IsFused as IsRack}
 use Rattle.g_lines.specs.Lines.{lines_of, ended}
@@ -69,13 +69,20 @@ abbrev pub numbers_of : (Operator → List ℕ) → List Timed → List ℕ
 numbers_of arms [] = []
 numbers_of arms (next ∷ lines) = arms next.what ++ numbers_of arms lines
 
+-- WHEN: a device that was armed was so last at a count between these two
+abbrev pub IsArmedIn : ℕ → ℕ → Arms → Arms → Type 0
+IsArmedIn from until old new = (new ≡ old) ⊎ ((from ≤ new.since) × (new.since ≤ until))
+
 -- WHAT WAS ARMED, whether devices tell or not: a device with the numbers of its STOP lines, in order and up to some line, and with
--- nothing else; and, in a run that went through, with each of them
+-- nothing else; in a run that went through, with each of them; and while it counted from what it had counted before to what it has: a disc its
+-- writes, the tapes their failed writes
 pub record AreArmings (lines : List Timed) (through : Type 0) (old new : Devices) : Type 0 where
   pub disc : IsArmedWithin (numbers_of disc_arms lines) old.disc.arms new.disc.arms
   pub tape : IsArmedWithin (numbers_of tape_arms lines) old.rack.arms new.rack.arms
   pub all_disc : through → IsArmedBy (numbers_of disc_arms lines) old.disc.arms new.disc.arms
   pub all_tape : through → IsArmedBy (numbers_of tape_arms lines) old.rack.arms new.rack.arms
+  pub disc_since : IsArmedIn old.disc.writes new.disc.writes old.disc.arms new.disc.arms
+  pub tape_since : IsArmedIn old.rack.write_faults new.rack.write_faults old.rack.arms new.rack.arms
 
 -- WHAT THE FUSES ARE, whether devices tell or not: of the disc the last number that it was armed with, burnt by all writes made since; of the
 -- tapes from 1 to that number, or none, and then a write failed since

@@ -2,8 +2,7 @@
 use Rattle.std.proofs.Common.{All, List, None, Option, [], ap, arith, length, map, refl, subst, sym, ℕ, ◌++◌, ◌+◌, ◌∙◌, ◌∷◌, ◌≡◌, ◌≤◌}
 use Rattle.std.proofs.lemmas.List.{append-nil, length-append}
 use Rattle.std.proofs.lemmas.List.Elements.{All-cons, All-nil}
-use Rattle.g_script.proofs.ReadLemmas.{parsed_whole}
-use Rattle.g_script.specs.Reading.{lines_in}
+use Rattle.g_script.proofs.ReadLemmas.{lines_in, parsed_whole}
 use Rattle.g_script.specs.Script.{IsItem, IsParsed, Say, WrittenItem, item_lines, timed_said}
 use Rattle.g_script.specs.declared.operator.Timed.{Timed}
 

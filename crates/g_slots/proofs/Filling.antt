@@ -7,6 +7,7 @@ use Rattle.g_base.specs.ToldContent.{Changes}
 use Rattle.g_base.proofs.CountLemmas.{RoseBy-none, RoseBy-then}
 use Rattle.g_base.proofs.ToldLemmas.{Changes-none, Changes-then}
 use Rattle.g_disc.specs.Disc.{DiscState, WritesOnly}
+use Rattle.g_disc.proofs.CallLemmas.{stands_later, then_later}
 use Rattle.g_slots.specs.declared.side.Side.{Side}
 use Rattle.g_slots.specs.declared.fault.SlotFault.{SlotFault}
 use Rattle.g_slots.specs.Layout.{other, start_of, slot}
@@ -26,6 +27,7 @@ pub record Filled (side : Side) (n : ℕ) (image : List (List ℕ)) (before afte
   pub write_faults : after.write_faults ≡ before.write_faults
   pub arms : after.arms ≡ before.arms
   pub writes : RoseBy n before.writes after.writes
+  pub later : before.writes ≤ after.writes
 
 pub filled_none : (side : Side) (image : List (List ℕ)) (disc : DiscState) → Filled side 0 image disc disc
 filled_none side image disc = record {
@@ -35,6 +37,7 @@ filled_none side image disc = record {
   write_faults = refl;
   arms = refl;
   writes = RoseBy-none refl;
+  later = stands_later refl;
 }
 
 fills_more : (side : Side) (k : ℕ) (image a b c : List (List ℕ)) → k < 1088 → k < length image → 2177 ≤ length a → FillsTo side k image a b → Prepares side k (get_or image k []) b c → FillsTo side (k + 1) image a c
@@ -64,6 +67,7 @@ filled_more side k image x y z u within whole large long so_far step counts = re
   write_faults = counts.kept ∙ so_far.write_faults;
   arms = counts.arms ∙ so_far.arms;
   writes = RoseBy-then so_far.writes counts.writes;
+  later = then_later so_far.later counts.later;
 }
 
 -- all blocks of the image were written

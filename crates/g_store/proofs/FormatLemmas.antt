@@ -5,6 +5,7 @@ use Rattle.std.proofs.lemmas.List.Elements.{All-nil}
 use Rattle.std.proofs.lemmas.Option.{none-some, same_Some}
 use Rattle.g_base.specs.ToldContent.{Changes}
 use Rattle.g_disc.specs.Disc.{Causes, DiscState}
+use Rattle.g_disc.proofs.CallLemmas.{stands_later}
 use Rattle.g_entry.specs.declared.file_rec.FileRec.{FileRec}
 use Rattle.g_entry.specs.declared.head.Head.{Head}
 use Rattle.g_entry.specs.declared.user_rec.UserRec.{UserRec}
@@ -185,6 +186,7 @@ module _ (disc : DiscState) (users : List UserRec) (files : List FileRec) (none 
           causes = record {
             size = causes.size;
             arms = causes.arms;
+            later = causes.later;
             reads_kept = λ _. causes.reads_kept (λ no. no);
             reads_rose = λ is. absurd (let no : ⊥ = cc in no);
             writes_kept = λ no. absurd (no refl);
@@ -270,6 +272,7 @@ pub nothing_caused : (disc : DiscState) (fault : StoreFault) → fault ≢ DiscR
 nothing_caused disc fault read stop = record {
   size = refl;
   arms = refl;
+  later = stands_later refl;
   reads_kept = λ _. refl;
   reads_rose = λ is. absurd (read is);
   writes_kept = λ _. refl;
@@ -305,6 +308,7 @@ module _ (disc : DiscState) (users : List UserRec) (files : List FileRec) (none 
       (record {
         size = said.causes.size;
         arms = said.causes.arms;
+        later = said.causes.later;
         reads_kept = λ no. absurd (no refl);
         reads_rose = λ _. said.causes.reads_rose refl;
         writes_kept = λ _. said.causes.writes_kept (λ e. let no : ⊥ = cc in no);
@@ -317,6 +321,7 @@ module _ (disc : DiscState) (users : List UserRec) (files : List FileRec) (none 
       (record {
         size = said.causes.size;
         arms = said.causes.arms;
+        later = said.causes.later;
         reads_kept = λ _. said.causes.reads_kept (λ e. let no : ⊥ = cc in no);
         reads_rose = λ no. absurd no;
         writes_kept = λ no. absurd (no tt);
@@ -330,6 +335,7 @@ module _ (disc : DiscState) (users : List UserRec) (files : List FileRec) (none 
       (record {
         size = said.causes.size;
         arms = said.causes.arms;
+        later = said.causes.later;
         reads_kept = λ _. said.causes.reads_kept (λ e. let no : ⊥ = cc in no);
         reads_rose = λ is. absurd (let no : ⊥ = cc in no);
         writes_kept = λ _. said.causes.writes_kept (λ e. let no : ⊥ = cc in no);

@@ -5,7 +5,7 @@ use Rattle.std.proofs.lemmas.Bool.{false≢true}
 use Rattle.std.proofs.lemmas.Option.{none-some}
 use Rattle.g_base.specs.Counts.{RoseBy}
 use Rattle.g_disc.specs.Disc.{Causes}
-use Rattle.g_disc.proofs.CallLemmas.{Causes-for}
+use Rattle.g_disc.proofs.CallLemmas.{Causes-for, stands_later}
 use Rattle.g_entry.specs.declared.file_rec.FileRec.{FileRec}
 use Rattle.g_entry.specs.declared.file_rec.TapeCopy.{TapeCopy}
 use Rattle.g_entry.specs.declared.user_rec.UserRec.{UserRec}
@@ -62,6 +62,7 @@ no_cause t fault disc tape stop = record {
   disc = record {
     size = refl;
     arms = refl;
+    later = stands_later refl;
     reads_kept = λ _. refl;
     reads_rose = λ is. absurd (disc (let same : fault ≡ DiscReadFault = cc in same));
     writes_kept = λ _. refl;
@@ -260,6 +261,7 @@ module _ (path : Path) (t : StoreFacts) (unspent : t.spent ≡ false) (keeps : I
               disc = record {
                 size = causes.size;
                 arms = causes.arms;
+                later = causes.later;
                 reads_kept = λ _. causes.reads_kept (λ no. no);
                 reads_rose = λ is. absurd (let no : ⊥ = cc in no);
                 writes_kept = λ _. causes.writes_kept (λ no. no);
@@ -346,6 +348,7 @@ module _ (path : Path) (t : StoreFacts) (unspent : t.spent ≡ false) (keeps : I
               disc = record {
                 size = causes.size;
                 arms = causes.arms;
+                later = causes.later;
                 reads_kept = λ _. causes.reads_kept (λ no. no);
                 reads_rose = λ is. absurd (let no : ⊥ = cc in no);
                 writes_kept = λ none. absurd (none refl);

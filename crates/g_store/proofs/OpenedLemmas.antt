@@ -12,7 +12,7 @@ use Rattle.std.proofs.lemmas.List.Elements.{All-contains, All-head, All-tail, Al
 use Rattle.g_base.specs.Counts.{Rose}
 use Rattle.g_base.specs.Block.{blocks_for}
 use Rattle.g_disc.specs.Disc.{Causes}
-use Rattle.g_disc.proofs.CallLemmas.{Causes-for}
+use Rattle.g_disc.proofs.CallLemmas.{Causes-for, stands_later}
 use Rattle.g_entry.specs.declared.file_rec.FileRec.{FileRec}
 use Rattle.g_entry.specs.HeadFields.{IsSerial}
 use Rattle.g_tape.specs.declared.fault.TapeFault.{TapeFault}
@@ -374,6 +374,7 @@ module _ (serial : ℕ) (o : OnlineFacts) (rack : Rack) (on : Reel) (on_is : ree
           disc = record {
             size = causes.size;
             arms = causes.arms;
+            later = causes.later;
             reads_kept = λ _. causes.reads_kept (λ no. no);
             reads_rose = λ is. absurd (let no : ⊥ = cc in no);
             writes_kept = λ _. causes.writes_kept (λ no. no);
@@ -427,6 +428,7 @@ module _ (serial : ℕ) (o : OnlineFacts) (rack : Rack) (on : Reel) (on_is : ree
         disc = record {
           size = ap (λ (x : OnlineFacts). x.disc.size) is;
           arms = ap (λ (x : OnlineFacts). x.disc.arms) is;
+          later = stands_later (ap (λ (x : OnlineFacts). x.disc.writes) is);
           reads_kept = λ _. ap (λ (x : OnlineFacts). x.disc.read_faults) is;
           reads_rose = λ no. absurd (disc (let same : fault ≡ DiscReadFault = cc in same));
           writes_kept = λ _. ap (λ (x : OnlineFacts). x.disc.write_faults) is;
@@ -688,9 +690,9 @@ module _ (serial : ℕ) (o : OnlineFacts) (rack : Rack) (on : Reel) (on_is : ree
           by_held u v stopped.place f.state_is refused (end_then serial o rack on on_is mounted unspent v ∙ end_same)
           (files_seen o.disc.held new.disc.held (told_reels rack) v o.contents stopped.left.told f.is) blocks held (stopped.left.holds blocks held)
 
-      pub cut : AreReels rack.reels → StoppedOpening serial o new rack → new.disc.arms ≡ o.disc.arms → new.disc.read_faults ≡ o.disc.read_faults → KeepsStore was_up (spent_with new after) → Refusal Stopped
+      pub cut : AreReels rack.reels → StoppedOpening serial o new rack → new.disc.arms ≡ o.disc.arms → o.disc.writes ≤ new.disc.writes → new.disc.read_faults ≡ o.disc.read_faults → KeepsStore was_up (spent_with new after) → Refusal Stopped
           → Opens serial was_up (Err Stopped) (spent_with new after)
-      cut right stopped arms kept_reads kept refuses = record {
+      cut right stopped arms later kept_reads kept refuses = record {
         event = record {
           step = leads_cut right stopped;
           wrote = tt;
@@ -703,6 +705,7 @@ module _ (serial : ℕ) (o : OnlineFacts) (rack : Rack) (on : Reel) (on_is : ree
           disc = record {
             size = size;
             arms = arms;
+            later = later;
             reads_kept = λ _. kept_reads;
             reads_rose = λ no. absurd (let it : ⊥ = cc in it);
             writes_kept = λ no. absurd (no refl);
@@ -862,6 +865,7 @@ module _ (serial : ℕ) (t : StoreFacts) (unspent : t.spent ≡ false) (keeps : 
       disc = record {
         size = refl;
         arms = refl;
+        later = stands_later refl;
         reads_kept = λ _. refl;
         reads_rose = λ no. absurd (disc (let same : fault ≡ DiscReadFault = cc in same));
         writes_kept = λ _. refl;

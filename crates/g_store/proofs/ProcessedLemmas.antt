@@ -3,6 +3,7 @@ use Rattle.std.proofs.Common.{◌≡◌, ℕ, ◌-◌, ◌^◌, ◌==◌, Bool, 
 use Rattle.std.specs.Prelude.{Result, is_none, is_some}
 use Rattle.std.specs.List.{AllZip}
 use Rattle.std.proofs.lemmas.Option.{none-some, same_Some}
+use Rattle.g_disc.proofs.CallLemmas.{stands_later}
 use Rattle.g_tape.specs.Rack.{Rack, reel}
 use Rattle.g_tape.specs.Reel.{Reel}
 use Rattle.g_tape.proofs.ReadLemmas.{nothing_read}
@@ -102,6 +103,7 @@ process_early serial s fault is_store running is =
       done = does_nothing serial fault s early;
       cause = record {
         size = refl;
+        later = stands_later refl;
         reels = same_reels s.rack.reels;
         disc_arms = refl;
         tape_arms = refl;

@@ -4,7 +4,7 @@ use Rattle.std.specs.Prelude.{◌⊎◌, ◌<◌, IfSome, map, if◌then◌else�
 use Rattle.std.specs.Option.{ForSome, option_map}
 use Rattle.g_base.specs.Counts.{Rose, RoseBy}
 use Rattle.g_disc.specs.Disc.{Causes, DiscState, ReadsByCause}
-use Rattle.g_disc.proofs.CallLemmas.{Causes-for}
+use Rattle.g_disc.proofs.CallLemmas.{Causes-for, stands_later, then_later}
 use Rattle.g_entry.specs.declared.head.Intent.{Intent}
 use Rattle.g_entry.specs.declared.file_rec.FileRec.{FileRec}
 use Rattle.g_entry.specs.declared.user_rec.UserRec.{UserRec}
@@ -50,6 +50,7 @@ counted : (read stop late : Type 0) (a b c : DiscState) → (read → ⊥) → (
 counted read stop late a b c never to back one two = record {
   size = two.size ∙ one.size;
   arms = two.arms ∙ one.arms;
+  later = then_later (stands_later one.writes) two.later;
   reads_kept = λ no. two.reads_kept (λ x. x) ∙ one.kept (λ x. x);
   reads_rose = λ is. absurd (never is);
   writes_kept = λ no. two.writes_kept (λ is. no (back is)) ∙ one.write_faults;
@@ -103,6 +104,7 @@ module _ (disc : DiscState) (rack : Rack) where
     by_reads fault read to back other reads = record {
       size = reads.size;
       arms = reads.arms;
+      later = stands_later reads.writes;
       reads_kept = λ no. reads.kept (λ is. no (back is));
       reads_rose = λ is. reads.rose (to is);
       writes_kept = λ no. reads.write_faults;
@@ -246,6 +248,7 @@ module _ (disc : DiscState) (rack : Rack) (o : OnlineFacts) (loaded : HasLoaded 
         causes = record {
           size = loaded.reads.size;
           arms = loaded.reads.arms;
+          later = stands_later loaded.reads.writes;
           reads_kept = λ no. loaded.reads.kept (λ x. x);
           reads_rose = λ is. absurd is;
           writes_kept = λ no. loaded.reads.write_faults;
@@ -463,6 +466,7 @@ module _ (disc : DiscState) (rack : Rack) (o : OnlineFacts) (loaded : HasLoaded 
         (record {
           size = loaded.reads.size;
           arms = loaded.reads.arms;
+          later = stands_later loaded.reads.writes;
           reads_kept = λ no. loaded.reads.kept (λ x. x);
           reads_rose = λ is. absurd (read is);
           writes_kept = λ no. loaded.reads.write_faults;

@@ -3,7 +3,7 @@ use Rattle.std.proofs.Common.{◌≡◌, ◌≢◌, ℕ, ◌^◌, ◌<◌, true,
 use Rattle.std.specs.Prelude.{◌⊎◌, Bool, IfSome, if◌then◌else◌}
 use Rattle.g_base.specs.Counts.{Rose}
 use Rattle.g_disc.specs.Disc.{Causes, DiscState}
-use Rattle.g_disc.proofs.CallLemmas.{Causes-for}
+use Rattle.g_disc.proofs.CallLemmas.{Causes-for, stands_later}
 use Rattle.g_entry.specs.declared.file_rec.FileRec.{FileRec}
 use Rattle.g_entry.specs.declared.head.Intent.{Intent}
 use Rattle.g_entry.specs.HeadFields as head
@@ -32,6 +32,7 @@ no_causes : (stopped : Type 0) (d : DiscState) → (stopped → ⊥) → Causes 
 no_causes stopped d never = record {
   size = refl;
   arms = refl;
+  later = stands_later refl;
   reads_kept = λ _. refl;
   reads_rose = λ is. absurd is;
   writes_kept = λ _. refl;

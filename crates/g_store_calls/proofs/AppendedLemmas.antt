@@ -8,7 +8,7 @@ use Rattle.std.proofs.lemmas.Option.{none-some}
 use Rattle.g_base.specs.Block.{blocks_for}
 use Rattle.g_base.specs.Counts.{Rose}
 use Rattle.g_disc.specs.Disc.{Causes}
-use Rattle.g_disc.proofs.CallLemmas.{Causes-for}
+use Rattle.g_disc.proofs.CallLemmas.{Causes-for, stands_later, then_later}
 use Rattle.g_name.specs.declared.full.Full.{Full}
 use Rattle.g_name.specs.declared.path.Path.{Path}
 use Rattle.g_entry.specs.declared.file_rec.FileRec.{FileRec}
@@ -73,6 +73,7 @@ module _ (change : Change) (s : StoreFacts) (mid new : OnlineFacts) (after : Rac
   causes_over causes = record {
     size = causes.size ∙ asked.disc.size;
     arms = causes.arms ∙ asked.disc.arms;
+    later = then_later (stands_later asked.disc.writes) causes.later;
     reads_kept = λ no. causes.reads_kept no ∙ asked.disc.kept no;
     reads_rose = λ no. absurd no;
     writes_kept = λ no. causes.writes_kept no ∙ asked.disc.write_faults;

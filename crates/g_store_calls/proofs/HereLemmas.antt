@@ -6,6 +6,7 @@ use Rattle.std.proofs.lemmas.Bool.{and_right, false≢true, or_from}
 use Rattle.std.proofs.lemmas.List.Elements.{All-contains}
 use Rattle.g_base.specs.Block.{blocks_for}
 use Rattle.g_base.specs.Counts.{Rose}
+use Rattle.g_disc.proofs.CallLemmas.{stands_later}
 use Rattle.g_tape.proofs.ReadLemmas.{nothing_read}
 use Rattle.g_plain.specs.declared.calls.StoreCall.{StoreCall}
 use Rattle.g_plain.specs.declared.calls.StoreReply.{StoreReply}
@@ -181,6 +182,7 @@ module _ (s : StoreFacts) (who : List ℕ) (call : StoreCall) (f : File) (unspen
         disc = record {
           size = refl;
           arms = refl;
+          later = stands_later refl;
           reads_kept = λ isnt. absurd (isnt refl);
           reads_rose = λ is. rose;
           writes_kept = λ isnt. refl;

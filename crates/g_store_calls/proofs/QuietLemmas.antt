@@ -3,6 +3,7 @@ use Rattle.std.proofs.Common.{◌≡◌, ℕ, Bool, true, false, List, Result, E
 use Rattle.std.specs.Prelude.{OnOk, not}
 use Rattle.std.proofs.lemmas.Bool.{false≢true}
 use Rattle.g_disc.specs.Disc.{DiscState}
+use Rattle.g_disc.proofs.CallLemmas.{stands_later}
 use Rattle.g_name.specs.declared.full.Full.{Full}
 use Rattle.g_tape.specs.Rack.{Rack}
 use Rattle.g_tape.specs.Reel.{Reel}
@@ -156,6 +157,7 @@ quietly s new after who call answer unspent store asked going steps lost never =
         disc = record {
           size = refl;
           arms = refl;
+          later = stands_later refl;
           reads_kept = asked.disc.kept;
           reads_rose = asked.disc.rose;
           writes_kept = λ no. refl;

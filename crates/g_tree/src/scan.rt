@@ -62,7 +62,12 @@ pub(crate) fn newest_of(users: &[UserRec], name: &Full, files: &[BoxedRec]) -> u
 }
 
 /// The greatest generation of the versions of a file among the files but the one at this place.
-pub(crate) fn newest_besides(users: &[UserRec], name: &Full, files: &[BoxedRec], place: usize) -> u16
+pub(crate) fn newest_besides(
+    users: &[UserRec],
+    name: &Full,
+    files: &[BoxedRec],
+    place: usize,
+) -> u16
     requires owners { All (λ r. r.owner < length users.now) files.now }
     requires there { place < length files.now }
     ensures { result ≡ newest_of users.now name.now (remove files.now place) }

@@ -1,4 +1,4 @@
-use Rattle.g_laws_runs.proofs.FuseLemmas.{armed_burns, armings_go, number_is_last, racks_burn, unarmed_burns}
+use Rattle.g_laws_runs.proofs.FuseLemmas.{armed_burns, armings_go, disc_spends, number_is_last, rack_spends, racks_burn, unarmed_burns}
 use Rattle.g_laws_runs.proofs.fuses_go_by_lines.Goals as goal
 
 pub returns-clause-armings : goal.returns-clause-armings
@@ -15,3 +15,9 @@ returns-clause-armed c = armed_burns
 
 pub returns-clause-racks : goal.returns-clause-racks
 returns-clause-racks c = racks_burn
+
+pub returns-clause-disc_spends : goal.returns-clause-disc_spends
+returns-clause-disc_spends c = disc_spends
+
+pub returns-clause-rack_spends : goal.returns-clause-rack_spends
+returns-clause-rack_spends c = rack_spends
