@@ -1,6 +1,6 @@
 -- The step of a call is the call told as a value.
-use Rattle.std.proofs.Common.{◌≡◌, ℕ, zero, suc, ◌+◌, ◌<◌, ◌≤◌, List, [], ◌∷◌, ◌++◌, Option, Some, None, refl, sym, ◌∙◌, ap, subst, inl, inr, arith}
-use Rattle.std.specs.Prelude.{◌⊎◌, ◌↔◌, Bool, true, false, nat_lt, nat_le, ◌==◌, ◌&&◌, ◌||◌, not, Result, Ok, Err, MatchOption, is_some, option_map, unwrap_or, if◌then◌else◌}
+use Rattle.std.proofs.Common.{◌≡◌, ℕ, ◌+◌, ◌<◌, ◌≤◌, List, [], ◌∷◌, ◌++◌, Option, Some, None, refl, sym, ◌∙◌, ap, subst, inl, inr, arith}
+use Rattle.std.specs.Prelude.{◌⊎◌, ◌↔◌, Bool, true, false, nat_lt, nat_le, ◌&&◌, ◌||◌, not, Result, Ok, Err, MatchOption, is_some, option_map, unwrap_or, if◌then◌else◌}
 use Rattle.std.proofs.lemmas.Bool.{eq-eqb, false≢true, le-leb, leb-false, leb-true, lt-leb}
 use Rattle.g_plain.specs.declared.calls.StoreCall.{StoreCall}
 use Rattle.g_plain.specs.declared.calls.StoreReply.{StoreReply}
@@ -8,10 +8,10 @@ use Rattle.g_plain.specs.declared.faults.StoreFault.{StoreFault}
 use Rattle.g_plain.specs.declared.faults.StoreFault.TheVariants.{DiscFull, DiscReadFault, Stopped, TapeReadFault, WaitTape}
 use Rattle.g_plain.specs.PlainStep.{fault_of, first_fault, reply_to}
 use Rattle.g_store_model.specs.State.{Holding, State, is_candidate, is_mounted, is_taken, place_at, room, taken_blocks, taken_offline}
-use Rattle.g_store_model.specs.CallStep.{CallStep, IsUnjam, LeftByRefusal, Outcome, Planned, after_call, after_unjam, brings_now, commits, down, early, is_cut, is_disc_read, is_offline, is_tape_read, late, len_of, need, reel_of, room_until, touched_by, version_read, wants_bytes, writes}
-use Rattle.g_laws_model.specs.Calls.{CallsAreSimple, DoesCall, GoesWith, candidates, done, held, is_among, offline, room_with, shortest, taken, taken_first, writes_now}
-use Rattle.g_laws_model.specs.Refusals.{Goes, IsCutAt, first_of, or_else, when}
-use Rattle.g_laws_model.proofs.FrontLemmas.{IsEnough, IsLeast, Under, below, find_shortest, is_shortest}
+use Rattle.g_store_model.specs.CallStep.{IsUnjam, LeftByRefusal, Outcome, Planned, after_call, after_unjam, commits, down, is_cut, is_disc_read, is_offline, is_tape_read, late, len_of, need, reel_of, room_until, touched_by, version_read, wants_bytes}
+use Rattle.g_laws_model.specs.Calls.{CallsAreSimple, candidates, done, held, is_among, offline, room_with, taken, taken_first, writes_now}
+use Rattle.g_laws_model.specs.Refusals.{Goes, IsCutAt, first_of, when}
+use Rattle.g_laws_model.proofs.FrontLemmas.{IsEnough, below, find_shortest, is_shortest}
 use Rattle.g_laws_model.proofs.TakenLemmas.{all_under, among_taken, candidates_rise, same_offline, same_room, under_is_all}
 
 -- THE EARLY REFUSALS, whatever comes behind them

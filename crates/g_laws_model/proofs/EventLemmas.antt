@@ -1,11 +1,10 @@
 -- The operator's events, told with refusals as options.
-use Rattle.std.proofs.Common.{◌≡◌, ℕ, ◌+◌, ◌-◌, ◌^◌, ◌==◌, Bool, true, false, List, [], ◌∷◌, ◌++◌, map, Option, Some, None, refl, sym, ◌∙◌, ap, subst, inl, inr}
-use Rattle.std.specs.Prelude.{◌⊎◌, ◌↔◌, ◌&&◌, ◌||◌, nat_lt, not, is_none, Result, Ok, Err, MatchOption, option_map, is_some, if◌then◌else◌}
+use Rattle.std.proofs.Common.{◌≡◌, ℕ, ◌+◌, ◌-◌, ◌^◌, ◌==◌, Bool, true, false, List, [], ◌∷◌, ◌++◌, map, Option, Some, None, refl, sym, ap, subst, inl, inr}
+use Rattle.std.specs.Prelude.{◌⊎◌, ◌↔◌, ◌||◌, nat_lt, not, is_none, Result, Err, MatchOption, option_map, is_some, if◌then◌else◌}
 use Rattle.std.specs.List.{AllByRecursion, list_all}
 use Rattle.g_plain.specs.declared.faults.StoreFault.{StoreFault}
-use Rattle.g_plain.specs.declared.faults.StoreFault.TheVariants.{CountersSpent, DiscReadFault, DumpOpen, MountFirst, NoDump, NoFile, NoFilestore, NoTape, NoUser, NotDumped, NotMounted, Offline, RackNotEmpty, RackNotMounted, Stopped, TapeBusy, TapeFull, TapeReadFault}
+use Rattle.g_plain.specs.declared.faults.StoreFault.TheVariants.{CountersSpent, DiscReadFault, DumpOpen, MountFirst, NoDump, NoFile, NoTape, NoUser, NotDumped, NotMounted, Offline, RackNotEmpty, RackNotMounted, Stopped, TapeBusy, TapeFull, TapeReadFault}
 use Rattle.std.specs.FinMap.{empty}
-use Rattle.g_name.specs.declared.full.Full.{Full}
 use Rattle.g_plain.specs.PlainTree.{formatted, has_file, has_user}
 use Rattle.g_plain.specs.PlainStep.{Checks, first_fault}
 use Rattle.g_store_model.specs.State.{Dumped, Holding, State, first_reel, is_mounted, lacks, place_at, with_online, with_reel}

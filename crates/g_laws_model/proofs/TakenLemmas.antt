@@ -1,12 +1,12 @@
 -- The candidates below some stamp are what is taken offline below it.
-use Rattle.std.proofs.Common.{◌≡◌, ℕ, zero, suc, ◌+◌, ◌<◌, ◌≤◌, List, [], ◌∷◌, Option, Some, None, refl, sym, ◌∙◌, ap, subst, inl, inr, arith}
-use Rattle.std.specs.Prelude.{◌⊎◌, Bool, true, false, T, cond, filter, map, nat_lt, nat_le, ◌==◌, ◌&&◌, ◌||◌, not, sum_by, unwrap_or, if◌then◌else◌}
+use Rattle.std.proofs.Common.{◌≡◌, ℕ, suc, ◌+◌, ◌<◌, ◌≤◌, List, [], ◌∷◌, Option, Some, None, refl, sym, ◌∙◌, ap, subst, inl, inr, arith}
+use Rattle.std.specs.Prelude.{◌⊎◌, Bool, true, false, T, cond, filter, map, nat_lt, ◌==◌, ◌&&◌, ◌||◌, sum_by, unwrap_or, if◌then◌else◌}
 use Rattle.std.specs.Cmp.{unsigned_tied}
 use Rattle.std.specs.FinMap.{entries, entries_sorted, from_sorted, get-entries}
 use Rattle.std.specs.FinMap.Entries.{below_all, find, is_sorted}
 use Rattle.std.specs.Ordering.{eq_by_cmp, is_lt, nat_cmp}
 use Rattle.std.specs.declared.cmp.Ordering.TheVariants.{Less, Equal, Greater}
-use Rattle.std.proofs.lemmas.Bool.{and_right, cases_Bool, eq-eqb, eqb-true, le-leb, leb-true, lt-ltb, ltb-true, ne_eqb}
+use Rattle.std.proofs.lemmas.Bool.{and_right, cases_Bool, eq-eqb, eqb-true, lt-ltb, ltb-true, ne_eqb}
 use Rattle.g_name.specs.declared.full.Full.{Full}
 use Rattle.g_plain.specs.PlainTree.{FileRow}
 use Rattle.g_store_model.specs.State.{Holding, Place, State, blocks_of, is_candidate, is_taken, offline_before, only_if, place_at, room, taken_blocks, taken_offline}
@@ -73,8 +73,7 @@ not_among until stamp (e ∷ es) from =
     let rest = not_among until stamp es from.1 in
     let other : (stamp == e.0) ≡ false = ne_eqb stamp e.0 (λ same. let no : ⊥ = omega (arith, from.0, same) in no) in
     let with_it : is_among stamp (e.0 ∷ below until (stamps_in es)) ≡ false = ap (λ (b : Bool). b || is_among stamp (below until (stamps_in es))) other ∙ rest in
-    elim (is_candidate e.1) as (λ b. is_among stamp (below until (keys_of (cond b (e ∷ which_may es) (which_may es)))) ≡ false)
-    [
+    elim (is_candidate e.1) as (λ b. is_among stamp (below until (keys_of (cond b (e ∷ which_may es) (which_may es)))) ≡ false) [
       | true ↦ elim (nat_lt e.0 until) as (λ b. is_among stamp (cond b (e.0 ∷ below until (stamps_in es)) (below until (stamps_in es))) ≡ false) [ true ↦ with_it | false ↦ rest ]
       | false ↦ rest
     ]
@@ -97,8 +96,7 @@ among_found until stamp (e ∷ es) sorted = by (cases_Bool (stamp == e.0)) (amon
         not_among until stamp es (subst (λ (n : ℕ). From (suc n) es) (sym same) (above_key e.0 es (first_of_two (below_all nat_cmp e.0 es) (is_sorted nat_cmp es) sorted))) in
         let first : is_among stamp (e.0 ∷ below until (stamps_in es)) ≡ true = ap (λ (b : Bool). b || is_among stamp (below until (stamps_in es))) here in
         let is : (c : Bool) → is_among stamp (below until (keys_of (cond c (e ∷ which_may es) (which_may es)))) ≡ (nat_lt e.0 until && c) =
-        λ c. elim c as (λ c. is_among stamp (below until (keys_of (cond c (e ∷ which_may es) (which_may es)))) ≡ (nat_lt e.0 until && c))
-        [
+        λ c. elim c as (λ c. is_among stamp (below until (keys_of (cond c (e ∷ which_may es) (which_may es)))) ≡ (nat_lt e.0 until && c)) [
           | true ↦ elim (nat_lt e.0 until) as (λ b. is_among stamp (cond b (e.0 ∷ below until (stamps_in es)) (below until (stamps_in es))) ≡ (b && true)) [ true ↦ first | false ↦ none ]
           | false ↦ none ∙ sym (and_right (nat_lt e.0 until) false refl)
         ] in
@@ -106,8 +104,7 @@ among_found until stamp (e ∷ es) sorted = by (cases_Bool (stamp == e.0)) (amon
     by (inr other) rest =
         let first : is_among stamp (e.0 ∷ below until (stamps_in es)) ≡ is_among stamp (below until (stamps_in es)) = ap (λ (b : Bool). b || is_among stamp (below until (stamps_in es))) other in
         let is : (c : Bool) → is_among stamp (below until (keys_of (cond c (e ∷ which_may es) (which_may es)))) ≡ is_among stamp (below until (stamps_in es)) =
-        λ c. elim c as (λ c. is_among stamp (below until (keys_of (cond c (e ∷ which_may es) (which_may es)))) ≡ is_among stamp (below until (stamps_in es)))
-        [
+        λ c. elim c as (λ c. is_among stamp (below until (keys_of (cond c (e ∷ which_may es) (which_may es)))) ≡ is_among stamp (below until (stamps_in es))) [
           | true ↦ elim (nat_lt e.0 until) as (λ b. is_among stamp (cond b (e.0 ∷ below until (stamps_in es)) (below until (stamps_in es))) ≡ is_among stamp (below until (stamps_in es))) [ true ↦ first | false ↦ refl ]
           | false ↦ refl
         ] in

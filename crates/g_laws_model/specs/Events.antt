@@ -28,11 +28,11 @@ DoesStart s (Some k) o answer new =
 abbrev pub DoesRestore : State → Dumped → Outcome → Result ℕ StoreFault → State → Type 0
 DoesRestore s d o answer new =
     Goes (first_of (
-        option_map RackNotMounted (first_reel (λ r. not r.mounted) s.reels)
-        ∷ when (is_tape_read o) TapeReadFault
-        ∷ when (list_all has_none s.reels) NoDump
-        ∷ when (is_disc_read o) DiscReadFault
-        ∷ []))
+    option_map RackNotMounted (first_reel (λ r. not r.mounted) s.reels)
+    ∷ when (is_tape_read o) TapeReadFault
+    ∷ when (list_all has_none s.reels) NoDump
+    ∷ when (is_disc_read o) DiscReadFault
+    ∷ []))
     (is_cut o) d.number s [] (coming_up s (restored d)) answer new
 
 abbrev pub opening_refusal : State → Holding → ℕ → Outcome → Option StoreFault
@@ -56,11 +56,11 @@ abbrev pub DoesMigrate : State → Holding → Option (List ℕ) → Full → Ou
 DoesMigrate s k user full o answer new =
     let place = place_at k.places (stamp_of k.tree full) in
     Goes (first_of (
-        when (is_none user || not (has_user k.tree full.user)) NoUser
-        ∷ when (not (has_file k.tree full)) NoFile
-        ∷ when (not place.online) Offline
-        ∷ when (is_none place.copy) NotDumped
-        ∷ []))
+    when (is_none user || not (has_user k.tree full.user)) NoUser
+    ∷ when (not (has_file k.tree full)) NoFile
+    ∷ when (not place.online) Offline
+    ∷ when (is_none place.copy) NotDumped
+    ∷ []))
     (is_cut o) full s [] (commits s (record k { places = with_online false (stamp_of k.tree full) k.places })) answer new
 
 -- a mount and an unmount write nothing, so nothing cuts them
