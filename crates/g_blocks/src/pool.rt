@@ -57,7 +57,6 @@ impl Pool {
             return Err(PoolFault::NoMemory);
         };
         pool.mark_all_taken(used);
-        pool.skip_taken();
         Ok(pool)
     }
 
@@ -85,11 +84,12 @@ impl Pool {
                 room: self.free,
             });
         }
+        // The walk to the least free block comes only now: where that block is given back first, there is none.
+        self.skip_taken();
         let Ok(blocks) = least_free(alloc, &self.taken, self.low, n as usize) else {
             return Err(PoolFault::NoMemory);
         };
         self.mark_all_taken(&blocks);
-        self.skip_taken();
         Ok(blocks)
     }
 

@@ -5,3 +5,4 @@ pub mod NameLemmas
 pub mod RuleLemmas
 pub mod SameLemmas
 pub mod ComingLemmas
+pub mod PlaceLemmas

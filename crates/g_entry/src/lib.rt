@@ -15,7 +15,7 @@ mod take;
 mod user_block;
 mod user_rec;
 
-pub use boxed_rec::{BoxedRec, boxed};
+pub use boxed_rec::{BoxedRec, boxed, place_of};
 pub use file_block::{
     decode_file, decode_file_1, decode_file_in, decode_file_on_tape, encode_file, encode_file_1,
     encode_file_in,

@@ -21,6 +21,7 @@ use g_cache::CachedDisc;
 use g_disc::Disc;
 use g_io::Sink;
 use g_job_table::{Crew, started_text};
+use g_known::KnownReels;
 use g_name::Text;
 use g_plain::StoreFault;
 use g_store::{Refused, Store, format, restore, start};
@@ -88,7 +89,7 @@ struct Raised<D: Disc, T: Tapes> {
 fn raise<D: Disc, T: Tapes>(
     alloc: Global,
     disc: D,
-    tapes: T,
+    tapes: KnownReels<T>,
     rise: Rise,
 ) -> Result<Raised<D, T>, Refused<D, T>>
     requires size { (2177 < (D.state disc).size) × ((D.state disc).size ≤ 1048576) }
@@ -110,7 +111,7 @@ fn raise_in<D: Disc, T: Tapes>(
     alloc: Global,
     place: EmptyBox<D, T>,
     disc: CachedDisc<D>,
-    tapes: T,
+    tapes: KnownReels<T>,
     rise: Rise,
 ) -> Result<Raised<D, T>, Refused<D, T>>
     requires size { (2177 < (D.state disc.disc).size) × ((D.state disc.disc).size ≤ 1048576) }
@@ -138,7 +139,7 @@ fn raise_in<D: Disc, T: Tapes>(
 fn made_by<D: Disc, T: Tapes>(
     alloc: Global,
     disc: CachedDisc<D>,
-    tapes: T,
+    tapes: KnownReels<T>,
     rise: Rise,
 ) -> Result<(Store<CachedDisc<D>, T>, Result<Text, NoMemory>), Refused<CachedDisc<D>, T>>
     requires size { (2177 < (D.state disc.disc).size) × ((D.state disc.disc).size ≤ 1048576) }

@@ -21,6 +21,7 @@ use g_cache::CachedDisc;
 use g_disc::Disc;
 use g_dumper::DumpStep;
 use g_entry::UserRec;
+use g_known::KnownReels;
 use g_name::{Full, Path, User};
 use g_plain::{Filestore, StoreCall, StoreFault, StoreReply};
 use g_store::Store;
@@ -253,7 +254,7 @@ impl<D: Disc, T: Tapes> Running<D, T> {
     }
 
     /// Both devices as they then are, the disc in its cache, also out of a spent store.
-    pub(crate) fn into_devices(self) -> (CachedDisc<D>, T)
+    pub(crate) fn into_devices(self) -> (CachedDisc<D>, KnownReels<T>)
         ensures disc { D.state result.0.disc ≡ self.online.disc }
         ensures tapes { T.rack result.1 ≡ self.rack }
         // Where the disc tells what it holds, they stand for what the store stood for, down.

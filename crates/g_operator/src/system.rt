@@ -7,18 +7,19 @@ ghost use Rattle.g_store_meaning.specs.Reading.{DevicesStandFor, StandsForState}
 
 use crate::running::Running;
 use g_disc::Disc;
+use g_known::KnownReels;
 use g_tape::Tapes;
 
-/// The system: up, as a store over its devices, or down, when the devices stand alone. Contracts see it by `facts_of`
-/// (docs/DEFINITIONS.md, "The whole run").
+/// The system: up, as a store over its devices, or down, when the devices stand alone. What is known of the reels stays with them.
+/// Contracts see it by `facts_of` (docs/DEFINITIONS.md, "The whole run").
 #[derive(Drop)]
 pub enum System<D: Disc, T: Tapes> {
     Up(Running<D, T>),
-    Down(D, T),
+    Down(D, KnownReels<T>),
 }
 
 /// Both devices as they then are, the disc out of its cache, also of a spent store.
-pub fn take_down<D: Disc, T: Tapes>(store: Running<D, T>) -> (D, T)
+pub fn take_down<D: Disc, T: Tapes>(store: Running<D, T>) -> (D, KnownReels<T>)
     ensures disc { D.state result.0 ≡ store.online.disc }
     ensures tapes { T.rack result.1 ≡ store.rack }
     // Where the disc tells what it holds, they stand for what the store stood for, down.

@@ -19,6 +19,7 @@ use g_budget::{Charge, Usage};
 use g_disc::Disc;
 use g_io::Sink;
 use g_job_table::{Crew, closing_text};
+use g_known::KnownReels;
 use g_name::Text;
 use g_operator::{Day, Ended, Failure, System, put_made, take_down};
 use g_sched::Standing;
@@ -59,6 +60,7 @@ pub(crate) fn run_script<
 {
     let Script { lines, bad } = script;
     let (disc, tapes) = devices;
+    let tapes = KnownReels::new(alloc, tapes);
     let crew = Crew::new(alloc);
     let day = Day {
         system: System::Down(disc, tapes),
@@ -76,7 +78,7 @@ pub(crate) fn run_script<
 }
 
 /// The same over devices that are put into boxes for it: a run hands its system on at every line, and of a system that is down
-/// then two pointers move. Without memory for the boxes nothing is done.
+/// then two pointers move, and the list of what is known of the reels. Without memory for the boxes nothing is done.
 pub(crate) fn run_boxed<
     K: Sink,
     D: Disc,
@@ -215,7 +217,10 @@ fn taken_down<D: Disc, T: Tapes>(day: Day<D, T>) -> (D, T)
 {
     let Day { system, .. } = day;
     match system {
-        System::Up(store) => take_down(store),
-        System::Down(disc, tapes) => (disc, tapes),
+        System::Up(store) => {
+            let (disc, tapes) = take_down(store);
+            (disc, tapes.into_tapes())
+        }
+        System::Down(disc, tapes) => (disc, tapes.into_tapes()),
     }
 }

@@ -4,6 +4,7 @@ ghost use Rattle.std.specs.Prelude.{◌<◌, ◌≤◌};
 use g_disc::{Disc, MemoryDisc};
 use g_io::{MemorySink, Sink};
 use g_job_table::Crew;
+use g_known::KnownReels;
 use g_name::Text;
 use g_operator::{
     Day, Ended, Failure, System, operator_line, push_told, put_made, say_made, tell_fault,
@@ -33,7 +34,7 @@ fn told_of<K: Sink, D: Disc + Drop, T: Tapes + Drop>(
     requires size { (2177 < (D.state disc).size) × ((D.state disc).size ≤ 1048576) }
 {
     let day = Day {
-        system: System::Down(disc, tapes),
+        system: System::Down(disc, KnownReels::new(alloc, tapes)),
         crew: Crew::new(alloc),
         count: 8,
     };

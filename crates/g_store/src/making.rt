@@ -15,12 +15,12 @@ use g_tape::Tapes;
 use g_tree::Tree;
 use std::alloc::Global;
 
-/// Why no store was made, and both devices as they are then.
+/// Why no store was made, and both devices as they are then. What is known of the reels is kept.
 #[derive(Drop)]
 pub struct Refused<D: Disc, T: Tapes> {
     pub fault: StoreFault,
     pub disc: D,
-    pub tapes: T,
+    pub tapes: KnownReels<T>,
 }
 
 /// Makes a new filestore on the disc, whatever it held, by one commit: `:MASTER` and `:MACROS`, and no file
@@ -32,7 +32,7 @@ pub struct Refused<D: Disc, T: Tapes> {
 pub fn format<D: Disc, T: Tapes>(
     alloc: Global,
     disc: D,
-    tapes: T,
+    tapes: KnownReels<T>,
 ) -> Result<Store<D, T>, Refused<D, T>>
     requires low { 2177 < (D.state disc).size }
     requires high { (D.state disc).size ≤ 1_048_576 }
@@ -68,7 +68,7 @@ pub fn format<D: Disc, T: Tapes>(
     match Online::fresh(alloc, disc, tree, head) {
         Ok(online) => Ok(Store {
             online,
-            tapes: KnownReels::new(alloc, tapes),
+            tapes,
             dump: None,
             spent: false,
         }),
@@ -93,7 +93,7 @@ pub fn format<D: Disc, T: Tapes>(
 pub fn restore<D: Disc, T: Tapes>(
     alloc: Global,
     disc: D,
-    mut tapes: T,
+    mut tapes: KnownReels<T>,
 ) -> Result<(Store<D, T>, u64), Refused<D, T>>
     requires low { 2177 < (D.state disc).size }
     requires high { (D.state disc).size ≤ 1_048_576 }
@@ -104,7 +104,7 @@ pub fn restore<D: Disc, T: Tapes>(
         Ok((online, number)) => Ok((
             Store {
                 online,
-                tapes: KnownReels::new(alloc, tapes),
+                tapes,
                 dump: None,
                 spent: false,
             },

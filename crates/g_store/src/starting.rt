@@ -32,7 +32,7 @@ use std::alloc::Global;
 pub fn start<D: Disc, T: Tapes>(
     alloc: Global,
     disc: D,
-    tapes: T,
+    mut tapes: KnownReels<T>,
 ) -> Result<(Store<D, T>, Option<u64>), Refused<D, T>>
     requires low { 2177 < (D.state disc).size }
     requires high { (D.state disc).size ≤ 1_048_576 }
@@ -49,7 +49,6 @@ pub fn start<D: Disc, T: Tapes>(
             });
         }
     };
-    let mut tapes = KnownReels::new(alloc, tapes);
     match take_over(alloc, &mut online, &mut tapes) {
         Ok(number) => Ok((
             Store {
@@ -63,7 +62,7 @@ pub fn start<D: Disc, T: Tapes>(
         Err(fault) => Err(Refused {
             fault,
             disc: online.into_disc(),
-            tapes: tapes.into_tapes(),
+            tapes,
         }),
     }
 }

@@ -135,8 +135,8 @@ impl<D: Disc, T: Tapes> Store<D, T> {
         self.tapes.arm(k);
     }
 
-    /// Both devices as they then are, also out of a spent store.
-    pub fn into_devices(self) -> (D, T)
+    /// Both devices as they then are, also out of a spent store. What is known of the reels is kept.
+    pub fn into_devices(self) -> (D, KnownReels<T>)
         ensures disc { D.state result.0 ≡ self.online.disc }
         ensures tapes { T.rack result.1 ≡ self.rack }
         // Where the disc tells what it holds, they stand for what the store stood for, down.
@@ -146,6 +146,6 @@ impl<D: Disc, T: Tapes> Store<D, T> {
         ensures spent { self.spent ≡ true → (s : State) → StandsForState self s
             → DevicesStandFor self.online.disc.size self.online.disc.held (told_reels self.rack) s }
     {
-        (self.online.into_disc(), self.tapes.into_tapes())
+        (self.online.into_disc(), self.tapes)
     }
 }

@@ -6,6 +6,7 @@ use crate::rows::Outcome;
 use crate::system::System;
 use g_disc::{Disc, MemoryDisc};
 use g_incr::read_dump;
+use g_known::KnownReels;
 use g_plain::StoreFault;
 use g_store::{Refused, format, restore, start};
 use g_tape::{MemoryTapes, Tapes};
@@ -15,7 +16,7 @@ use std::alloc::Global;
 pub(crate) fn happens_down(
     alloc: Global,
     disc: MemoryDisc,
-    tapes: MemoryTapes,
+    tapes: KnownReels<MemoryTapes>,
     event: &Event,
 ) -> (System, Outcome) {
     if disc.size() <= 2177 || disc.size() > 1_048_576 {
@@ -29,7 +30,7 @@ pub(crate) fn happens_down(
     }
 }
 
-fn formatted(alloc: Global, disc: MemoryDisc, tapes: MemoryTapes) -> (System, Outcome)
+fn formatted(alloc: Global, disc: MemoryDisc, tapes: KnownReels<MemoryTapes>) -> (System, Outcome)
     requires low { 2177 < disc.disc.size }
     requires high { disc.disc.size ≤ 1_048_576 }
 {
@@ -47,7 +48,7 @@ fn taken_over(number: Option<u64>) -> Answer {
     }
 }
 
-fn started(alloc: Global, disc: MemoryDisc, tapes: MemoryTapes) -> (System, Outcome)
+fn started(alloc: Global, disc: MemoryDisc, tapes: KnownReels<MemoryTapes>) -> (System, Outcome)
     requires low { 2177 < disc.disc.size }
     requires high { disc.disc.size ≤ 1_048_576 }
 {
@@ -57,7 +58,7 @@ fn started(alloc: Global, disc: MemoryDisc, tapes: MemoryTapes) -> (System, Outc
     }
 }
 
-fn restored(alloc: Global, disc: MemoryDisc, tapes: MemoryTapes) -> (System, Outcome)
+fn restored(alloc: Global, disc: MemoryDisc, tapes: KnownReels<MemoryTapes>) -> (System, Outcome)
     requires low { 2177 < disc.disc.size }
     requires high { disc.disc.size ≤ 1_048_576 }
 {
@@ -76,7 +77,7 @@ fn stays_down(refused: Refused<MemoryDisc, MemoryTapes>) -> (System, Outcome) {
 fn turned(
     alloc: Global,
     mut disc: MemoryDisc,
-    mut tapes: MemoryTapes,
+    mut tapes: KnownReels<MemoryTapes>,
     event: &Event,
 ) -> (System, Outcome) {
     let answer = match event {
@@ -107,21 +108,21 @@ fn unread(alloc: Global, disc: &mut MemoryDisc, call: u32) -> Outcome {
     Ok(Answer::Done)
 }
 
-fn mounted(tapes: &mut MemoryTapes, serial: u32) -> Outcome {
+fn mounted(tapes: &mut KnownReels<MemoryTapes>, serial: u32) -> Outcome {
     match tapes.mount(serial) {
         Ok(()) => Ok(Answer::Done),
         Err(_) => Err(StoreFault::NoTape),
     }
 }
 
-fn unmounted(tapes: &mut MemoryTapes, serial: u32) -> Outcome {
+fn unmounted(tapes: &mut KnownReels<MemoryTapes>, serial: u32) -> Outcome {
     match tapes.unmount(serial) {
         Ok(()) => Ok(Answer::Done),
         Err(_) => Err(StoreFault::NotMounted),
     }
 }
 
-fn length(tapes: &MemoryTapes, serial: u32) -> Outcome {
+fn length(tapes: &KnownReels<MemoryTapes>, serial: u32) -> Outcome {
     match tapes.length(serial) {
         Ok(len) => Ok(Answer::Blocks(len)),
         Err(_) => Err(StoreFault::NoTape),
@@ -129,7 +130,7 @@ fn length(tapes: &MemoryTapes, serial: u32) -> Outcome {
 }
 
 /// The first block of a file's copy, as a dump of reel 1 notes it.
-fn noted(alloc: Global, tapes: &mut MemoryTapes, place: u32, i: usize) -> Outcome {
+fn noted(alloc: Global, tapes: &mut KnownReels<MemoryTapes>, place: u32, i: usize) -> Outcome {
     let dir = match read_dump(alloc, tapes, 1, place) {
         Ok(Some(dir)) => dir,
         Ok(None) => return Err(StoreFault::NoDump),

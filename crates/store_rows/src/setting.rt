@@ -3,6 +3,7 @@ use crate::rows::Wrong;
 use crate::system::System;
 use g_disc::{Leave, MemoryDisc};
 use g_fixtures::{disc_with, dumped, one_away};
+use g_known::KnownReels;
 use g_tape::{MemoryTapes, TapeLeave};
 use std::alloc::Global;
 use std::test::Fail;
@@ -71,7 +72,7 @@ impl<'a> Setting<'a> {
         disc.set_leave(leave_of(self.leave)?);
         let mut tapes = self.tapes(alloc)?;
         tapes.set_leave(tape_leave_of(self.tape_leave)?);
-        Ok(System::Down(disc, tapes))
+        Ok(System::Down(disc, KnownReels::new(alloc, tapes)))
     }
 
     fn tapes(&self, alloc: Global) -> Result<MemoryTapes, Wrong> {
@@ -105,7 +106,7 @@ impl<'a> Setting<'a> {
         }
         let mut disc = disc_with(alloc, &one_away([0, 0, 0, 5]))?;
         disc.set_leave(leave_of(self.leave)?);
-        Ok(System::Down(disc, dumped(alloc)?))
+        Ok(System::Down(disc, KnownReels::new(alloc, dumped(alloc)?)))
     }
 }
 

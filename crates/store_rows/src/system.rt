@@ -5,6 +5,7 @@ use crate::events::{Answer, Event};
 use crate::operating::operated;
 use crate::rows::Outcome;
 use g_disc::MemoryDisc;
+use g_known::KnownReels;
 use g_plain::StoreFault;
 use g_store::Store;
 use g_tape::MemoryTapes;
@@ -14,7 +15,7 @@ use std::alloc::Global;
 #[derive(Drop)]
 pub(crate) enum System {
     Up(Store<MemoryDisc, MemoryTapes>),
-    Down(MemoryDisc, MemoryTapes),
+    Down(MemoryDisc, KnownReels<MemoryTapes>),
 }
 
 /// What happens, and the system then. An event that the system can't take as it is, up or down, is refused by `Running` or

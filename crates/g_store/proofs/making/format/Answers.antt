@@ -1,8 +1,6 @@
-use Rattle.std.proofs.Common.{ap, sym, subst}
-use Rattle.g_tape.specs.Rack.{Rack}
-use Rattle.g_store.specs.Making.{Formats, RefusesFormat}
+use Rattle.std.proofs.Common.{sym, subst}
+use Rattle.g_store.specs.Making.{RefusesFormat}
 use Rattle.g_store.proofs.FormatLemmas.{format_refused, formatted_is, not_empty}
-use Rattle.g_store.proofs.MakeLemmas.{store_of}
 use Rattle.g_store.proofs.making.format.Goals as goal
 
 pub returns-in-Some-clause-refused : goal.returns-in-Some-clause-refused
@@ -10,9 +8,8 @@ returns-in-Some-clause-refused g c = not_empty (g.D.Disc.state c.args.disc) (g.T
 
 pub returns-in-Ok-fresh-clause-ok : goal.returns-in-Ok-fresh-clause-ok
 returns-in-Ok-fresh-clause-ok g c =
-    subst (λ (r : Rack). Formats (g.D.Disc.state c.args.disc) (g.T.Tapes.rack c.args.tapes) (store_of c.in-Ok-fresh.online r)) (sym (ap g.T.Tapes.rack c.new-in-Ok-fresh.ensures))
-    (formatted_is (g.D.Disc.state c.args.disc) c.in-Ok.tree.users c.in-Ok.tree.files c.in-Ok.ensures.files c.in-Ok.ensures.tree (g.T.Tapes.rack c.args.tapes) (g.met.T.Tapes.well_formed c.args.tapes)
-    (sym c.in-None.ensures) c.in-Ok-fresh.online c.in-Ok-fresh.ensures.ok c.in-Ok-fresh.ensures.tied)
+    formatted_is (g.D.Disc.state c.args.disc) c.in-Ok.tree.users c.in-Ok.tree.files c.in-Ok.ensures.files c.in-Ok.ensures.tree (g.T.Tapes.rack c.args.tapes) (g.met.T.Tapes.well_formed c.args.tapes)
+    (sym c.in-None.ensures) c.in-Ok-fresh.online c.in-Ok-fresh.ensures.ok c.in-Ok-fresh.ensures.tied
 
 pub returns-in-Err-fresh-clause-refused : goal.returns-in-Err-fresh-clause-refused
 returns-in-Err-fresh-clause-refused g c =

@@ -1,16 +1,12 @@
-use Rattle.std.proofs.Common.{Err, ap, sym, subst}
-use Rattle.g_tape.specs.Rack.{Rack}
-use Rattle.g_store.specs.Making.{Restored}
-use Rattle.g_store.proofs.MakeLemmas.{store_of}
+use Rattle.std.proofs.Common.{Err, ap}
 use Rattle.g_store.proofs.RestoredLemmas.{none_unmounted, restore_refused, restored_is, same_refusal}
 use Rattle.g_store.proofs.making.restore.Goals as goal
 
 pub returns-in-Ok-clause-ok : goal.returns-in-Ok-clause-ok
 returns-in-Ok-clause-ok g c =
     let (made, is, has) = c.in-Ok.ensures.ok in
-    subst (λ (r : Rack). Restored (g.D.Disc.state c.args.disc) (g.T.Tapes.rack c.args.tapes) c.in-Ok.number (store_of c.in-Ok.online r)) (sym (ap g.T.Tapes.rack c.new.ensures))
-    (restored_is (g.D.Disc.state c.args.disc) (g.T.Tapes.rack c.args.tapes) (g.T.Tapes.rack c.rebuild.new.tapes) c.in-Ok.ensures.reads c.in-Ok.number made c.in-Ok.online is has c.in-Ok.ensures.tied
-    (c.in-Ok.ensures.kept (λ e. let no : ⊥ = cc in no)) (none_unmounted (c.in-Ok.online, c.in-Ok.number) _ c.in-Ok.ensures.unmounted) c.in-Ok.ensures.lost)
+    restored_is (g.D.Disc.state c.args.disc) (g.T.Tapes.rack c.args.tapes) (g.T.Tapes.rack c.rebuild.new.tapes) c.in-Ok.ensures.reads c.in-Ok.number made c.in-Ok.online is has c.in-Ok.ensures.tied
+    (c.in-Ok.ensures.kept (λ e. let no : ⊥ = cc in no)) (none_unmounted (c.in-Ok.online, c.in-Ok.number) _ c.in-Ok.ensures.unmounted) c.in-Ok.ensures.lost
 
 pub returns-in-Err-clause-refused : goal.returns-in-Err-clause-refused
 returns-in-Err-clause-refused g c =

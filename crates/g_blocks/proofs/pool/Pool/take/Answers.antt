@@ -1,5 +1,5 @@
 -- The least free blocks rise, so they are apart. Where the search begins is not seen.
-use Rattle.std.proofs.Common.{◌≢◌, AllPairs, List, ℕ, sym, subst}
+use Rattle.std.proofs.Common.{◌≢◌, AllPairs, Bool, List, ℕ, sym, subst}
 use Rattle.g_blocks.specs.Pool.{HasTaken}
 use Rattle.g_blocks.proofs.Marks.{apart-rising}
 use Rattle.g_blocks.proofs.pool.Pool.take.Goals as goal
@@ -10,6 +10,6 @@ mark_all_taken-requires-clause-apart c =
 
 pub returns-clause-taken : goal.returns-clause-taken
 returns-clause-taken c =
-    let taken : HasTaken c.in-Ok.blocks.items c.args.self.now c.mark_all_taken.new.self =
-    subst (λ (blocks : List ℕ). HasTaken blocks c.args.self.now c.mark_all_taken.new.self) c.deref-2.ensures.value c.mark_all_taken.ensures in
-    subst (HasTaken c.in-Ok.blocks.items c.args.self.now) (sym c.skip_taken.ensures) taken
+    let taken : HasTaken c.in-Ok.blocks.items c.skip_taken.new.self c.mark_all_taken.new.self =
+    subst (λ (blocks : List ℕ). HasTaken blocks c.skip_taken.new.self c.mark_all_taken.new.self) c.deref-2.ensures.value c.mark_all_taken.ensures in
+    subst (λ (old : List Bool). HasTaken c.in-Ok.blocks.items old c.mark_all_taken.new.self) c.skip_taken.ensures taken
