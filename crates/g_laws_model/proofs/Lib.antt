@@ -1,0 +1,4 @@
+pub mod CallLemmas
+pub mod EventLemmas
+pub mod FrontLemmas
+pub mod TakenLemmas
