@@ -19,7 +19,7 @@ use Rattle.g_store_model.specs.DumpSteps.{Event}
 use Rattle.g_store_model.specs.Rising.{FormatStep, coming_up, fault_from}
 use Rattle.g_store_model.specs.State.{Dumped as DumpedTree, Holding, OpenDump, ReelRow, State, first_reel}
 use Rattle.g_tape.specs.Reel.{Reel}
-use Rattle.g_run_model.specs.Devices.{Devices, StandFor}
+use Rattle.g_run_model.specs.Devices.{AreReadAs, Devices}
 use Rattle.g_laws_runs.specs.BeginningAnew.{AreEmptied, FormatsAnew, IsFormatted, first_holding, with_new_disc}
 use Rattle.g_laws_runs.proofs.FreshLemmas.{IsEmptyReel, no_dumps, nobody, none_next}
 
@@ -72,7 +72,7 @@ formats s (Some serial) t none is = absurd (let no : ⊥ = cc in no)
 abbrev made : ℕ → Option Holding → List ReelRow → Option DumpedTree → Option OpenDump → State
 made size holding reels dumped opened = record { up = true; size = size; holding = holding; reels = reels; dumped = dumped; open_dump = opened }
 
-module _ (d : Devices) (s t : State) (new : StoreFacts) (emptied : AreEmptied d) (is : IsFormatted d new) (stand : StandFor (with_new_disc d) s) where
+module _ (d : Devices) (s t : State) (new : StoreFacts) (emptied : AreEmptied d) (is : IsFormatted d new) (stand : AreReadAs (with_new_disc d) s) where
   -- what the old state has
   rows_before : s.reels ≡ map (row_of no_dumps) (told_reels d.rack)
   rows_before = ap (λ (x : State). x.reels) stand.reads.state_is ∙ rows_none stand.reads.view.shelf (told_reels d.rack) (none_shelved stand.reads.view.shelf (told_reels d.rack) stand.reads.rack.shelved emptied.reels)

@@ -1,6 +1,6 @@
 -- What a store holds, event by event.
 use Rattle.std.proofs.Common.{◌≡◌, ℕ, List, [], ◌∷◌, Option, Some, None, refl, sym, ◌∙◌, ap, subst, inl, inr}
-use Rattle.std.specs.Prelude.{◌⊎◌, ◌||◌, Bool, true, false, IfSome, Result, Ok, Err, MatchOption, option_map, is_some, if◌then◌else◌}
+use Rattle.std.specs.Prelude.{◌⊎◌, ◌||◌, Bool, true, false, Result, Ok, Err, MatchOption, option_map, is_some, if◌then◌else◌}
 use Rattle.std.proofs.lemmas.Bool.{false≢true}
 use Rattle.std.specs.FinMap.{FinMap}
 use Rattle.std.specs.Fn.{Shared}
@@ -9,20 +9,20 @@ use denote.Ref.{Bor}
 use Rattle.g_budget.specs.declared.tariff.Charge.{Charge}
 use Rattle.g_budget.specs.declared.tariff.Usage.{Usage}
 use Rattle.g_sched.specs.declared.rule.Standing.{Standing}
-use Rattle.g_disc_contents.specs.Contents.{Contents, Holds}
+use Rattle.g_disc_contents.specs.Contents.{Contents}
 use Rattle.g_plain.specs.PlainStep.{reply_to}
 use Rattle.g_plain.specs.declared.calls.StoreCall.{StoreCall}
 use Rattle.g_plain.specs.declared.calls.StoreReply.{StoreReply}
 use Rattle.g_plain.specs.declared.faults.StoreFault.{StoreFault}
 use Rattle.g_plain.specs.declared.faults.StoreFault.TheVariants.{DiscReadFault, Stopped}
 use Rattle.g_store_meaning.specs.Meaning.{told_reels}
-use Rattle.g_store_meaning.specs.Reading.{DevicesStandFor, IsView, holding_of}
+use Rattle.g_store_meaning.specs.Reading.{holding_of}
 use Rattle.g_store_model.specs.CallStep.{Cut, DiscRead, LeftByRefusal, Outcome, Plain, Planned, TapeRead, after_call, brings_now, commits, down, early, held_after, late, no_longer_kept, touched_by, writes}
 use Rattle.g_store_model.specs.DumpSteps.{Completed, DumpStep, Event, Going, Stepped}
 use Rattle.g_store_model.specs.Process.{ProcessStep, moved, with_cut}
 use Rattle.g_store_model.specs.Rising.{Restores, Starts, restore_early}
 use Rattle.g_store_model.specs.State.{Dumped as DumpedTree, Holding, OpenDump, Place, State}
-use Rattle.g_run_model.specs.Devices.{Devices, StandFor}
+use Rattle.g_run_model.specs.Devices.{Devices, HoldsThis, StandFor}
 use Rattle.g_run_model.specs.Moves.{Dumped, Move, Step}
 use Rattle.g_run_model.specs.World.{World}
 use Rattle.g_run_model.proofs.ProcessedLemmas.{of_each}
@@ -136,29 +136,19 @@ dump_one s k d o (Err Stopped) new old (cut, inr (last, inr is)) = ap (λ (x : S
 dump_one s k d o (Err fault) new old step = absurd step
 
 -- devices that stand for a state have a filestore just where it holds one
-none_held : (text : ℕ → List ℕ) (contents : Option Contents) → (let none : Bool = false in is_some contents ≡ none) → is_some (option_map (holding_of text []) contents) ≡ true → ⊥
-none_held text None isnt has = let no : ⊥ = cc in no
-none_held text (Some c) isnt has = let no : ⊥ = cc in no
-
-held_by : (text : ℕ → List ℕ) (contents : Option Contents) → ((let none : Bool = false in is_some contents ≡ none) → ⊥) → is_some (option_map (holding_of text []) contents) ≡ true
-held_by text None isnt = absurd (isnt refl)
-held_by text (Some c) isnt = refl
-
 pub state_holds : (d : Devices) (s : State) → StandFor d s → HasFilestore d → HoldsOne s
-state_holds d s stand has =
-    let reads = stand.reads in
-    ap (λ (x : State). is_some x.holding) reads.state_is ∙ held_by reads.view.text reads.contents (λ none. reads.none none has.blocks has.contents has.held has.holds)
+state_holds d s stand has = ap (λ (x : State). is_some x.holding) stand.is ∙ by stand.contents stand.disc
+  where
+    by : (contents : Option Contents) → HoldsThis d.disc.held stand.text stand.shelf (told_reels d.rack) contents → is_some (option_map (holding_of stand.text []) contents) ≡ true
+    by None none = absurd (none has.blocks has.contents has.held has.holds)
+    by (Some c) is = refl
 
 pub devices_hold : (d : Devices) (s : State) → StandFor d s → HoldsOne s → HasFilestore d
-devices_hold d s stand has = by reads.contents reads.is (sym (ap (λ (x : State). is_some x.holding) reads.state_is) ∙ has)
+devices_hold d s stand has = by stand.contents stand.disc (sym (ap (λ (x : State). is_some x.holding) stand.is) ∙ has)
   where
-    reads : DevicesStandFor d.disc.size d.disc.held (told_reels d.rack) s
-    reads = stand.reads
-
-    by : (contents : Option Contents) → IfSome contents (λ c. (blocks : List (List ℕ)) × (d.disc.held ≡ Some blocks) × Holds blocks c × IsView d.disc.held (told_reels d.rack) c stand.reads.view)
-        → is_some (option_map (holding_of stand.reads.view.text []) contents) ≡ true → HasFilestore d
+    by : (contents : Option Contents) → HoldsThis d.disc.held stand.text stand.shelf (told_reels d.rack) contents → is_some (option_map (holding_of stand.text []) contents) ≡ true → HasFilestore d
     by None is some = absurd (false≢true some)
-    by (Some c) (blocks, held, holds, viewed) some = record { blocks = blocks; contents = c; held = held; holds = holds }
+    by (Some c) (blocks, held, holds, belongs) some = record { blocks = blocks; contents = c; held = held; holds = holds }
 
 module _ {F U : Type 0} (tariffs : Shared F (Bor Usage × Unit {0}) Charge) (tariff : F) (rules : Shared U (Bor Standing × Unit {0}) ℕ) (rule : U) where
   pub one_move : (w new : World) (move : Move) → HoldsOne w.store → Step tariffs tariff rules rule w move new → ((o : Outcome) × (move ≡ Dumped o)) ⊎ IsQuiet move → HoldsOne new.store

@@ -21,6 +21,7 @@ use Rattle.g_store_model.specs.State.{Holding, State}
 use Rattle.g_tape.specs.Memory.{IsEmptyRack, Memory}
 use Rattle.g_tape.specs.Reads.{unread}
 use Rattle.g_tape.specs.Reel.{Reel, empty_reel_of}
+use Rattle.g_run_model.proofs.StandLemmas.{stands_as}
 use Rattle.g_run_model.specs.Devices.{Devices}
 use Rattle.g_laws_runs.specs.BeginningAnew.{EmptiedStand, with_new_disc}
 use Rattle.g_laws_runs.specs.NewDevices.{NewDevicesStand, NewState, NotStateless}
@@ -35,7 +36,7 @@ not_stateless have d told belong none = no_contents None (record {
     no_contents : (contents : Option Contents) → AreContents d.disc.held contents → ⊥
     no_contents contents are =
         let (u, reads) = have.devices d.disc.size d.disc.held (told_reels d.rack) contents are belong in
-        none u (ap (λ (s : State). s.up) reads.state_is) (record { told = told; belong = belong; reads = reads })
+        none u (ap (λ (s : State). s.up) reads.state_is) (stands_as d u (record { told = told; belong = belong; reads = reads }))
 
 -- a disc of zeros holds nothing
 of_replicate : (n i : ℕ) (z x : List ℕ) → slice_get (replicate n z) i ≡ Some x → x ≡ z
@@ -166,11 +167,11 @@ module _ (have : HaveStates) where
       }) belong in
       record {
         state = s;
-        stands = record {
+        stands = stands_as d s (record {
           told = subst (λ x. AllTold x (told_reels d.rack)) (sym held) (all_told n (told_reels d.rack) empty);
           belong = subst (λ x. BelongWith x (told_reels d.rack)) (sym held) belong;
           reads = subst (λ x. DevicesStandFor d.disc.size x (told_reels d.rack) s) (sym held) (subst (λ x. DevicesStandFor x (Some (replicate n (replicate 512 0))) (told_reels d.rack) s) (sym size) reads);
-        };
+        });
         holding = ap (λ (x : State). x.holding) reads.state_is ∙ none_holding reads.view.text reads.contents (no_contents n (told_reels d.rack) s reads);
       }
 

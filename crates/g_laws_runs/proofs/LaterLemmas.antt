@@ -10,6 +10,7 @@ use Rattle.g_store_meaning.specs.Meaning.{told_reels}
 use Rattle.g_store_meaning.specs.OneState.{DevicesAreOne}
 use Rattle.g_store_model.specs.CallStep.{down, no_longer_kept}
 use Rattle.g_store_model.specs.State.{Holding, State}
+use Rattle.g_run_model.proofs.StandLemmas.{read_as}
 use Rattle.g_run_model.specs.Accounts.{tree_of}
 use Rattle.g_run_model.specs.Laws.{AllOrNothing, tree_behind}
 use Rattle.g_run_model.specs.World.{start}
@@ -23,7 +24,8 @@ tree_down None = refl
 tree_down (Some k) = refl
 
 pub states_are_one : DevicesAreOne → StatesAreOne
-states_are_one one d s t stand other = one d.disc.size d.disc.held (told_reels d.rack) s t stand.told stand.belong stand.reads other.reads
+states_are_one one d s t stand other =
+    let here = read_as d s stand in one d.disc.size d.disc.held (told_reels d.rack) s t here.told here.belong here.reads (read_as d t other).reads
 
 module _ {F U : Type 0} (tariffs : Shared F (Bor Usage × Unit {0}) Charge) (tariff : F) (rules : Shared U (Bor Standing × Unit {0}) ℕ) (rule : U) (all : AllOrNothing tariffs tariff rules rule) where
   pub start_is_behind : StartIsBehind tariffs tariff rules rule

@@ -14,7 +14,7 @@ use Rattle.g_store_meaning.specs.StoreInvariant.{StoreFacts}
 use Rattle.g_store_model.specs.CallStep.{Plain}
 use Rattle.g_store_model.specs.Rising.{FormatStep}
 use Rattle.g_store_model.specs.State.{Holding, State}
-use Rattle.g_run_model.specs.Devices.{Devices, StandFor}
+use Rattle.g_run_model.specs.Devices.{AreReadAs, Devices}
 use Rattle.g_laws_runs.specs.NewDevices.{NewState}
 
 -- every reel tells that it holds nothing
@@ -73,4 +73,4 @@ pub record IsFormatted (d : Devices) (new : StoreFacts) : Type 0 where
 
 -- IT STANDS FOR THE STATE that FORMAT makes of that of a new disc beside the same reels
 abbrev pub FormatsAnew : Type 0
-FormatsAnew = (d : Devices) (s t : State) (new : StoreFacts) → AreEmptied d → IsFormatted d new → StandFor (with_new_disc d) s → StandsForState new t → FormatStep s Plain (Ok tt) t
+FormatsAnew = (d : Devices) (s t : State) (new : StoreFacts) → AreEmptied d → IsFormatted d new → AreReadAs (with_new_disc d) s → StandsForState new t → FormatStep s Plain (Ok tt) t

@@ -7,7 +7,7 @@ ghost use Rattle.g_laws_runs.specs.Completion.{DumpsComplete, DumpsGoOn};
 ghost use Rattle.g_laws_runs.specs.Cuts.{TapesCutNoCall};
 ghost use Rattle.g_laws_runs.specs.Dumps.{DumpsStay, DumpsTakeNeeds};
 ghost use Rattle.g_laws_runs.specs.Filestores.{DevicesKeepFilestores, FilestoresStay};
-ghost use Rattle.g_laws_runs.specs.NewDevices.{NewDevicesStand, NotStateless, StatesAreOne};
+ghost use Rattle.g_laws_runs.specs.NewDevices.{NewDevicesStand, NotStateless, StandingIsReading, StatesAreOne};
 ghost use Rattle.g_laws_runs.specs.Fuses.{ArmedBurns, ArmingsGo, DiscSpends, NumberIsLast, RackSpends, RacksBurn, UnarmedBurns};
 ghost use Rattle.g_laws_runs.specs.LaterRuns.{LaterRunsKeep, StartIsBehind};
 ghost use Rattle.g_laws_runs.specs.NoLoss.{NothingIsLost};
@@ -113,11 +113,12 @@ pub fn unrisen_text_is_one<F: Fn(&Usage) -> Charge, U: Fn(&Standing) -> u64>()
     text_is_one::<F, U>();
 }
 
-/// Devices that tell and belong together stand for a state, and for no more than one; new ones do, for one without a filestore, and so
-/// does a new disc beside any reels that were emptied.
+/// Devices that tell and belong together stand for a state, and for no more than one, which is what they are read as; new ones do, for
+/// one without a filestore, and so does a new disc beside any reels that were emptied.
 pub fn devices_have_one_state()
     ensures some { NotStateless }
     ensures one { StatesAreOne }
+    ensures reading { StandingIsReading }
     ensures new { NewDevicesStand }
     ensures emptied { EmptiedStand }
 {

@@ -27,6 +27,7 @@ use Rattle.g_script.specs.declared.operator.Operator.{Operator}
 use Rattle.g_script.specs.declared.operator.Operator.TheVariants as line
 use Rattle.g_run_model.specs.Devices.{Devices}
 use Rattle.g_run_model.specs.Texts.{operator_line}
+use Rattle.g_run_model.proofs.StandLemmas.{read_as}
 use Rattle.g_laws_runs.specs.BeginningAnew.{AreBlank, IsFormatted, NoDiscFault, is_aside, with_new_disc}
 use Rattle.g_laws_runs.proofs.AnewLemmas.{formats_anew}
 use Rattle.g_laws_runs.proofs.FreshLemmas.{emptied_stand}
@@ -117,7 +118,8 @@ module _ (d : Devices) (blank : AreBlank d) where
 
     steps : (s : State) → DevicesStandFor d.disc.size new_disc.held (told_reels d.rack) s → (u : State) × StandsForState new u × FormatStep s Plain (Ok tt) u
     steps s reads =
-        let stands = (emptied_stand have_states d more blank.emptied).stands in
+        let there = emptied_stand have_states d more blank.emptied in
+        let stands = read_as (with_new_disc d) there.state there.stands in
         let (u, now) = have_states.up new is.makes.running belongs_now is.makes.keeps in
         (u, now, formats_anew d s u new blank.emptied formatted (record { told = stands.told; belong = stands.belong; reads = reads }) now)
 

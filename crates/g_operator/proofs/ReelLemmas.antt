@@ -22,7 +22,7 @@ use Rattle.g_store.specs.Events.{AnswersEvent, Mounts, Unmounts}
 use Rattle.g_store.specs.Refusing.{DoneOr, is_on, mount_refuses, rack_answer, unmount_refuses}
 use Rattle.g_store.proofs.MountLemmas.{dumps_stay, lacks_by, mounted_by, rows_turned, serials_stay, shelved_turned, told_after, told_turned, turned}
 use Rattle.g_store.proofs.TurnLemmas.{files_view, rack_view}
-use Rattle.g_run_model.specs.Devices.{Devices, StandFor}
+use Rattle.g_run_model.specs.Devices.{AreReadAs, Devices}
 use Rattle.g_operator.specs.Reels.{MountsOn, StepsReels, UnmountsOn}
 use Rattle.g_operator.specs.System.{BelongTogether, Down, DumpsGrow, Up, labels}
 use Rattle.g_operator.proofs.GrowLemmas.{grow_itself, grow_turned}
@@ -68,7 +68,7 @@ module _ (s : ℕ) (is : Bool) (d : Devices) where
   told_then : told_reels (turned_devices s is d).rack ≡ turned s is reels
   told_then = told_turned s is d.rack.reels
 
-  stand_turned : (u : state.State) → StandFor d u → StandFor (turned_devices s is d) (turned_state s is u)
+  stand_turned : (u : state.State) → AreReadAs d u → AreReadAs (turned_devices s is d) (turned_state s is u)
   stand_turned u stand = record {
     told = subst (AllTold d.disc.held) (sym told_then) (told_after s is d.disc.held reels stand.told);
     belong = subst (BelongWith d.disc.held) (sym told_then) (belong_turned s is d.disc.held reels stand.belong);
@@ -92,13 +92,13 @@ module _ (s : ℕ) (is : Bool) (d : Devices) where
       }
 
 -- REFUSALS under no store
-lacks_is : (s : ℕ) (d : Devices) (u : state.State) → StandFor d u → state.lacks u s ≡ is_none (reel s d.rack.reels)
+lacks_is : (s : ℕ) (d : Devices) (u : state.State) → AreReadAs d u → state.lacks u s ≡ is_none (reel s d.rack.reels)
 lacks_is s d u stand = ap (λ (t : state.State). state.lacks t s) stand.reads.state_is ∙ lacks_by stand.reads.view.shelf s d.rack.reels
 
-mounted_is : (s : ℕ) (d : Devices) (u : state.State) → StandFor d u → state.is_mounted u s ≡ is_mounted (reel s d.rack.reels)
+mounted_is : (s : ℕ) (d : Devices) (u : state.State) → AreReadAs d u → state.is_mounted u s ≡ is_mounted (reel s d.rack.reels)
 mounted_is s d u stand = ap (λ (t : state.State). state.is_mounted t s) stand.reads.state_is ∙ mounted_by stand.reads.view.shelf s d.rack.reels
 
-none_open : (d : Devices) (u : state.State) → StandFor d u → u.open_dump ≡ None
+none_open : (d : Devices) (u : state.State) → AreReadAs d u → u.open_dump ≡ None
 none_open d u stand = ap (λ (t : state.State). t.open_dump) stand.reads.state_is
 
 same_belongs : (s : ℕ) (is : Bool) (d : Devices) → BelongTogether d → BelongTogether (turned_devices s is d)
@@ -112,7 +112,7 @@ module _ (s : ℕ) (d : Devices) where
   here = reel s d.rack.reels
 
   -- a reel is turned
-  steps_turned : (is : Bool) (by : state.State → Result (Unit {0}) StoreFault → state.State → Type 0) → ((u : state.State) → StandFor d u → by u (Ok tt) (turned_state s is u))
+  steps_turned : (is : Bool) (by : state.State → Result (Unit {0}) StoreFault → state.State → Type 0) → ((u : state.State) → AreReadAs d u → by u (Ok tt) (turned_state s is u))
       → StepsReels by (Down d) (Ok tt) (Down (turned_devices s is d))
   steps_turned is by step = record {
     stays = refl;
@@ -128,7 +128,7 @@ module _ (s : ℕ) (d : Devices) where
   }
 
   -- or it isn't
-  steps_none : (fault : StoreFault) → fault ≢ Stopped → (by : state.State → Result (Unit {0}) StoreFault → state.State → Type 0) → ((u : state.State) → StandFor d u → by u (Err fault) u) → StepsReels by (Down d) (Err fault) (Down d)
+  steps_none : (fault : StoreFault) → fault ≢ Stopped → (by : state.State → Result (Unit {0}) StoreFault → state.State → Type 0) → ((u : state.State) → AreReadAs d u → by u (Err fault) u) → StepsReels by (Down d) (Err fault) (Down d)
   steps_none fault other by step = record {
     stays = refl;
     only = λ f e is. other (let same : fault ≡ f = cc in same ∙ is);
@@ -142,10 +142,10 @@ module _ (s : ℕ) (d : Devices) where
     step = λ u stands. (u, stands, step u stands.1);
   }
 
-  mount_first : (u : state.State) → StandFor d u → first_fault ((state.lacks u s, NoTape) ∷ []) ≡ first_fault ((is_none here, NoTape) ∷ [])
+  mount_first : (u : state.State) → AreReadAs d u → first_fault ((state.lacks u s, NoTape) ∷ []) ≡ first_fault ((is_none here, NoTape) ∷ [])
   mount_first u stand = ap (λ (b : Bool). first_fault ((b, NoTape) ∷ [])) (lacks_is s d u stand)
 
-  unmount_first : (u : state.State) → StandFor d u
+  unmount_first : (u : state.State) → AreReadAs d u
       → first_fault ((state.lacks u s, NoTape) ∷ (not (state.is_mounted u s), NotMounted) ∷ (dumps.is_busy s u.open_dump, TapeBusy) ∷ [])
       ≡ first_fault ((is_none here, NoTape) ∷ (not (is_mounted here), NotMounted) ∷ [])
   unmount_first u stand =

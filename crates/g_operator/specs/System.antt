@@ -11,7 +11,7 @@ use Rattle.g_store_meaning.specs.Belonging.{Belong}
 use Rattle.g_store_meaning.specs.Reading.{AllTold, StandsForState}
 use Rattle.g_store_meaning.specs.Answers.{Belongs, Told}
 use Rattle.g_store_meaning.specs.StoreInvariant.{StoreFacts}
-use Rattle.g_run_model.specs.Devices.{Devices, StandFor}
+use Rattle.g_run_model.specs.Devices.{AreReadAs, Devices}
 use Rattle.g_operator.specs.declared.system.System.{System}
 use Rattle.g_operator.specs.declared.system.System.TheVariants as systems
 
@@ -60,7 +60,7 @@ pub record IsNow (s : StoreFacts) (t : State) : Type 0 where
 -- THE SYSTEM STANDS FOR A STATE
 abbrev pub StandsAs : SystemFacts → State → Type 0
 StandsAs (Up s) t = IsNow s t
-StandsAs (Down d) t = (t.up ≡ false) × StandFor d t
+StandsAs (Down d) t = (t.up ≡ false) × AreReadAs d t
 
 -- devices that tell and belong together
 pub record BelongTogether (d : Devices) : Type 0 where

@@ -9,6 +9,7 @@ use Rattle.g_script.specs.declared.operator.Timed.{Timed}
 use Rattle.g_store_meaning.specs.Meaning.{told_reels}
 use Rattle.g_laws_store.proofs.StateLemmas.{have_states}
 use Rattle.g_store_model.specs.State.{State}
+use Rattle.g_run_model.proofs.StandLemmas.{stands_as}
 use Rattle.g_run_model.specs.Devices.{Devices, StandFor}
 use Rattle.g_laws_runs.specs.Filestores.{HasFilestore}
 use Rattle.g_laws_runs.proofs.FilestoreLemmas.{devices_keep}
@@ -21,7 +22,7 @@ state_there : (d : Devices) → BelongTogether d → HasFilestore d → (s : Sta
 state_there d both has =
     let (s, reads) = have_states.devices d.disc.size d.disc.held (told_reels d.rack) (Some has.contents)
     (record { are = (has.blocks, has.held, has.holds); none = λ no. absurd (let never : ⊥ = cc in never) }) both.belong in
-    (s, record { told = both.told; belong = both.belong; reads = reads })
+    (s, stands_as d s (record { told = both.told; belong = both.belong; reads = reads }))
 
 module _ {F U : Type 0} (tariffs : Shared F (Bor Usage × Unit {0}) Charge) (tariff : F) (rules : Shared U (Bor Standing × Unit {0}) ℕ) (rule : U) where
   pub keeps_filestore : (failure : Option Failure) (lines : List Timed) (bad : Option ℕ) (old new : Devices) (before after : Option (List ℕ))

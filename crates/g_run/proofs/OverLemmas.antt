@@ -22,7 +22,8 @@ use Rattle.g_store_model.specs.State.{Holding, State}
 use Rattle.g_store.proofs.ArmLemmas.{spent_stands}
 use Rattle.g_tape.specs.Rack.{Rack}
 use Rattle.g_tape.specs.Reel.{Reel}
-use Rattle.g_run_model.specs.Devices.{Devices, StandFor}
+use Rattle.g_run_model.proofs.StandLemmas.{read_as, stands_as}
+use Rattle.g_run_model.specs.Devices.{AreReadAs, Devices}
 use Rattle.g_run_model.specs.Moves.{Move, MovesCounted, Over}
 use Rattle.g_run_model.specs.Texts.{closing, waiting_files}
 use Rattle.g_run_model.specs.Lines.{disc_arms, tape_arms}
@@ -55,23 +56,23 @@ kept_nothing text (Some c) = refl
 down_of : (v : View) (reels : List Reel) (size : ℕ) (c : Option Contents) → down (state_down v reels size c) ≡ state_down v reels size c
 down_of v reels size c = ap (λ (h : Option Holding). let s : State = record (state_down v reels size c) { holding = h } in s) (kept_nothing v.text c)
 
-pub down_same : (d : Devices) (u : State) → StandFor d u → down u ≡ u
+pub down_same : (d : Devices) (u : State) → AreReadAs d u → down u ≡ u
 down_same d u is =
     let r = is.reads in
     ap down r.state_is ∙ down_of r.view (told_reels d.rack) d.disc.size r.contents ∙ sym r.state_is
 
-devices_down : (d : Devices) (u : State) → StandFor d u → StandFor d (down u)
-devices_down d u is = subst (λ (s : State). StandFor d s) (sym (down_same d u is)) is
+devices_down : (d : Devices) (u : State) → AreReadAs d u → AreReadAs d (down u)
+devices_down d u is = subst (λ (s : State). AreReadAs d s) (sym (down_same d u is)) is
 
 -- a store that is up
 up_down : (s : StoreFacts) → (is_some s.online.disc.held ≡ true → s.spent ≡ false → (u : State) → StandsForState s u → DevicesStandFor s.online.disc.size s.online.disc.held (told_reels s.rack) (down u))
-    → (u : State) → StandsAs (Up s) u → (let d : Devices = record { disc = s.online.disc; rack = s.rack } in StandFor d (down u))
+    → (u : State) → StandsAs (Up s) u → (let d : Devices = record { disc = s.online.disc; rack = s.rack } in AreReadAs d (down u))
 up_down s clause u now = by (cases_Bool s.spent)
   where
-    by : (s.spent ≡ true) ⊎ (s.spent ≡ false) → (let d : Devices = record { disc = s.online.disc; rack = s.rack } in StandFor d (down u))
+    by : (s.spent ≡ true) ⊎ (s.spent ≡ false) → (let d : Devices = record { disc = s.online.disc; rack = s.rack } in AreReadAs d (down u))
     by (inl spent) =
         let d : Devices = record { disc = s.online.disc; rack = s.rack } in
-        let is : StandFor d u = record { told = now.told; belong = now.belongs.devices; reads = spent_stands s spent u now.stands } in devices_down d u is
+        let is : AreReadAs d u = record { told = now.told; belong = now.belongs.devices; reads = spent_stands s spent u now.stands } in devices_down d u is
     by (inr unspent) = record { told = now.told; belong = now.belongs.devices; reads = clause now.told.disc unspent u now.stands }
 
 pub up_taken_down : (s : StoreFacts) → (is_some s.online.disc.held ≡ true → s.spent ≡ false → (u : State) → StandsForState s u → DevicesStandFor s.online.disc.size s.online.disc.held (told_reels s.rack) (down u))
@@ -96,7 +97,7 @@ module _ {F U : Type 0} (tariffs : Shared F (Bor Usage × Unit {0}) Charge) (tar
   abbrev before_all : Seen
   before_all = seen (Down old) nobody 0
 
-  matches_start : (s : State) → StandFor old s → Matches (start lines bad s) before_all
+  matches_start : (s : State) → AreReadAs old s → Matches (start lines bad s) before_all
   matches_start s stands = record {
     stands = (ap (λ (u : State). u.up) stands.reads.state_is, stands);
     crew = record { jobs = refl; accounts = λ user. refl; next_job = refl };
@@ -115,13 +116,13 @@ module _ {F U : Type 0} (tariffs : Shared F (Bor Usage × Unit {0}) Charge) (tar
   ends_short : (failure : Failure) (before after : Option (List ℕ)) (faults faults' : ℕ) → DidAll tariffs tariff rules rule lines before_all (Some failure) (seen f c count) before after faults faults'
       → EndsShort tariffs tariff rules rule lines bad old new before after
   ends_short failure before after faults faults' did = λ s stands.
-      let b = did.goes (start lines bad s) (matches_start s stands) (record { phase = refl; turn = refl }) refl in record {
+      let b = did.goes (start lines bad s) (matches_start s (read_as old s stands)) (record { phase = refl; turn = refl }) refl in record {
         moves = b.moves;
         last = b.next;
         run_of = record {
           run = b.leads.run;
           counted = counted_of b.moves b.next old new (counted_from s b.moves b.next b.added b.leads);
-          stands = down_is.stands b.next.store b.leads.stands;
+          stands = stands_as new (down b.next.store) (down_is.stands b.next.store b.leads.stands);
         };
         text = subst (λ (t : List ℕ). HasPutPart before t after) (sym b.leads.text) b.put;
       }
@@ -148,7 +149,7 @@ module _ {F U : Type 0} (tariffs : Shared F (Bor Usage × Unit {0}) Charge) (tar
     put : middle ≡ with_more before added
 
   closes : (before middle : Option (List ℕ)) → PartGoes tariffs tariff rules rule IsAtRest lines [] before_all None (seen f c count) before middle
-      → (s : State) → StandFor old s → Closes s before middle
+      → (s : State) → AreReadAs old s → Closes s before middle
   closes before middle goes s stands =
       let a = goes (start lines bad s) (matches_start s stands) (record { phase = refl; turn = refl }) refl in record {
         moves = a.moves ++ Over ∷ [];
@@ -158,7 +159,7 @@ module _ {F U : Type 0} (tariffs : Shared F (Bor Usage × Unit {0}) Charge) (tar
           run = run_append tariffs tariff rules rule (start lines bad s) a.moves (Over ∷ []) a.next (closed a.next) a.leads.run
               (over_move tariffs tariff rules rule a.next a.between.phase a.between.turn a.lines (nothing_left a.next a.lines a.rests) a.leads.over);
           counted = counted_of (a.moves ++ Over ∷ []) (closed a.next) old new (over_counted a.moves a.next a.added s a.leads);
-          stands = down_is.stands a.next.store a.leads.stands;
+          stands = stands_as new (down a.next.store) (down_is.stands a.next.store a.leads.stands);
         };
         over = refl;
         text = ap (λ (t : List ℕ). (t ++ waiting_files a.next.jobs) ++ closing a.next.bad) a.leads.text
@@ -178,7 +179,7 @@ module _ {F U : Type 0} (tariffs : Shared F (Bor Usage × Unit {0}) Charge) (tar
   pub ends_closed : (failure : Option Failure) (before middle after : Option (List ℕ)) → PartGoes tariffs tariff rules rule IsAtRest lines [] before_all None (seen f c count) before middle
       → PutsBy failure (waiting_files c.jobs ++ closing bad) middle after → EndsBy tariffs tariff rules rule failure lines bad old new before after
   ends_closed None before middle after goes put = λ s stands.
-      let z = closes before middle goes s stands in record {
+      let z = closes before middle goes s (read_as old s stands) in record {
         moves = z.moves;
         last = z.last;
         run_of = z.run_of;
@@ -187,7 +188,7 @@ module _ {F U : Type 0} (tariffs : Shared F (Bor Usage × Unit {0}) Charge) (tar
             ∙ ap (λ (t : List ℕ). with_more before t) (sym z.text);
       }
   ends_closed (Some failure) before middle after goes put = λ s stands.
-      let z = closes before middle goes s stands in record {
+      let z = closes before middle goes s (read_as old s stands) in record {
         moves = z.moves;
         last = z.last;
         run_of = z.run_of;
@@ -267,7 +268,7 @@ module _ {F U : Type 0} (tariffs : Shared F (Bor Usage × Unit {0}) Charge) (tar
         ends = λ s stands. record {
           moves = [];
           last = start lines bad s;
-          run_of = record { run = refl; counted = counted_of [] (start lines bad s) old old (event_none old); stands = devices_down old s stands };
+          run_of = record { run = refl; counted = counted_of [] (start lines bad s) old old (event_none old); stands = stands_as old (down s) (devices_down old s (read_as old s stands)) };
           text = (0, omega arith, sym (with_more-nil before));
         };
         anew = λ none blank well begin. absurd (none-some failures.Memory (sym none));

@@ -14,6 +14,8 @@ use Rattle.g_script.specs.declared.operator.Timed.{Timed}
 use Rattle.g_script.proofs.OneReading.{reading_unique}
 use Rattle.g_laws_store.proofs.StateLemmas.{have_states}
 use Rattle.g_store_model.specs.State.{State}
+use Rattle.g_store_model.specs.CallStep.{down}
+use Rattle.g_run_model.proofs.StandLemmas.{read_as}
 use Rattle.g_run_model.specs.Devices.{Devices}
 use Rattle.g_run_model.specs.Lines.{disc_arms, tape_arms}
 use Rattle.g_run_model.specs.Top.{AreArmings, EndsWhole, IsCutWords, numbers_of, words_line}
@@ -63,7 +65,8 @@ module _ {F U : Type 0} (tariffs : Shared F (Bor Usage × Unit {0}) Charge) (tar
       → EndsWhole tariffs tariff rules rule lines bad (with_new_disc old) new before after → BelongTogether new
   belongs_anew lines bad old new before after more blank ends =
       let there = emptied_stand have_states old more blank.emptied in
-      let stands = (ends there.state there.stands).run_of.stands in record { told = stands.told; belong = stands.belong }
+      let behind = ends there.state there.stands in
+      let stands = read_as new (down behind.last.store) behind.run_of.stands in record { told = stands.told; belong = stands.belong }
 
   pub anew_as : (bad : Option ℕ) (failure : Option Failure) (left : List ℕ) (lines : List Timed) (old new : Devices) (before after : Option (List ℕ)) → IsParsed (lines_of left) lines bad → 2177 < old.disc.size
       → (failure ≡ None → AreBlank old → NoDiscFault old new → BeginAnew lines → EndsWhole tariffs tariff rules rule lines bad (with_new_disc old) new before after)

@@ -10,7 +10,7 @@ use Rattle.g_script.specs.declared.operator.Timed.{Timed}
 use Rattle.g_store_model.specs.CallStep.{down}
 use Rattle.g_store_model.specs.State.{State}
 use Rattle.g_tape.specs.Rack.{Rack}
-use Rattle.g_run_model.specs.Devices.{Devices, StandFor}
+use Rattle.g_run_model.specs.Devices.{AreReadAs, Devices}
 use Rattle.g_run_model.specs.Top.{AreArmings, EndsWhole}
 use Rattle.g_laws_runs.specs.BeginningAnew.{AreBlank, BeginAnew, NoDiscFault, with_new_disc}
 use Rattle.g_operator.specs.declared.progress.Failure.{Failure}
@@ -30,7 +30,7 @@ ClosesBy (Some came) text failure before after old new = (failure ≡ Some came)
 -- A SYSTEM TAKEN DOWN: its devices, which stand for what it stood for, down
 pub record TakenDown (f : SystemFacts) (d : Devices) : Type 0 where
   pub devices : d ≡ devices_in f
-  pub stands : (u : State) → StandsAs f u → StandFor d (down u)
+  pub stands : (u : State) → StandsAs f u → AreReadAs d (down u)
 
 module _ {F U : Type 0} (tariffs : Shared F (Bor Usage × Unit {0}) Charge) (tariff : F) (rules : Shared U (Bor Standing × Unit {0}) ℕ) (rule : U) where
   pub record DidScript (lines : List Timed) (bad : Option ℕ) (old : Devices) (failure : Option Failure) (new : Devices) (before after : Option (List ℕ)) (faults faults' : ℕ) : Type 0 where

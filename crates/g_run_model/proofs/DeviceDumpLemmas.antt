@@ -1,12 +1,10 @@
 -- In a state for which devices stand a tree is dumped wherever a reel has a dump.
-use Rattle.std.proofs.Common.{◌≡◌, ◌&&◌, ◌++◌, ℕ, Bool, true, List, [], ◌∷◌, Contains, map, Option, Some, None, option_map, refl, sym, ◌∙◌, ap, subst, arith}
+use Rattle.std.proofs.Common.{◌≡◌, ◌&&◌, ◌++◌, ℕ, Bool, true, List, [], ◌∷◌, map, Option, Some, None, option_map, refl, sym, ◌∙◌, ap, subst}
 use Rattle.std.specs.List.{list_all}
 use Rattle.g_incr.specs.Layout.{Dump}
 use Rattle.g_shelf.specs.CompletedDumps.{all_dumps}
-use Rattle.g_store_meaning.proofs.OneLemmas.{same_dumps, shelves_agree}
-use Rattle.g_store_meaning.specs.Belonging.{RackBelongs}
 use Rattle.g_store_meaning.specs.Meaning.{DumpedDirectory, told_reels}
-use Rattle.g_store_meaning.specs.Reading.{View, dumped_of, row_of}
+use Rattle.g_store_meaning.specs.Reading.{dumped_of, row_of}
 use Rattle.g_store_model.specs.Rising.{has_none}
 use Rattle.g_store_model.specs.State.{Dumped, ReelRow, State}
 use Rattle.g_tape.specs.Reel.{Reel}
@@ -27,22 +25,10 @@ all_none shelf (r ∷ reels) e =
     let first = first_none r (shelf r.serial) (all_dumps shelf reels) e in
     ap (λ (b : Bool). b && list_all has_none (map (row_of shelf) reels)) first.0 ∙ all_none shelf reels first.1
 
-nobody : (ds : List Dump) → ((d : Dump) → Contains ds d → ⊥) → ds ≡ []
-nobody [] none = refl
-nobody (d ∷ ds) none = absurd (none d (0, omega arith, refl))
-
-none_dumped : (v : View) (t : Option (DumpedDirectory v.dumps)) → (let none : Option Dumped = None in option_map (dumped_of v.text) t ≡ none) → t ≡ None
-none_dumped v None e = refl
-none_dumped v (Some t) e = absurd (let no : ⊥ = cc in no)
+none_dumped : {dumps : List Dump} (text : ℕ → List ℕ) (t : Option (DumpedDirectory dumps)) → (let none : Option Dumped = None in option_map (dumped_of text) t ≡ none) → t ≡ None
+none_dumped text None e = refl
+none_dumped text (Some t) e = absurd (let no : ⊥ = cc in no)
 
 pub devices_dumped : (d : Devices) (s : State) → StandFor d s → HasDumped s
 devices_dumped d s stand =
-    let reads = stand.reads in
-    let belong = stand.belong in
-    let reels = told_reels d.rack in
-    let v : View = reads.view in
-    let same : v.dumps ≡ all_dumps belong.shelf reels = reads.rack.all ∙ same_dumps v.shelf belong.shelf reels (shelves_agree v.shelf belong.shelf reels stand.told.each reads.rack.shelved belong.shelved) in
-    let rack : RackBelongs belong.text v.dumps = subst (λ (ds : List Dump). RackBelongs belong.text ds) (sym same) belong.rack in
-    subst HasDumped (sym reads.state_is)
-    (λ none. all_none v.shelf reels
-    (sym reads.rack.all ∙ nobody v.dumps (λ x there. let t = rack.tree x there in reads.rack.none stand.told (none_dumped v v.dumped none) t belong.text (rack.records t))))
+    subst HasDumped (sym stand.is) (λ none. all_none stand.shelf (told_reels d.rack) (stand.undumped (none_dumped stand.text stand.dumped none)))

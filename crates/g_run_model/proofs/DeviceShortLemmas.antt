@@ -22,6 +22,7 @@ use Rattle.g_tape.specs.Reel.{Reel}
 use Rattle.g_tree.specs.Records.{file_row_of, full_of, tree_of}
 use Rattle.g_run_model.specs.Devices.{Devices, StandFor}
 use Rattle.g_run_model.specs.Laws.{AreShort, IsShort}
+use Rattle.g_run_model.proofs.StandLemmas.{read_as}
 
 one_row : (a b : FileRow) → (let one : Option FileRow = Some a in one ≡ Some b) → a ≡ b
 one_row a b e = cc
@@ -85,7 +86,7 @@ dumped_short v (Some t) keeps =
 
 pub devices_short : (d : Devices) (s : State) → StandFor d s → AreShort s
 devices_short d s stand =
-    let reads = stand.reads in
+    let reads = (read_as d s stand).reads in
     subst AreShort (sym reads.state_is) (record {
       held = disc_short d.disc.held (told_reels d.rack) reads.view reads.contents reads.is;
       dumped = dumped_short reads.view reads.view.dumped (reads.rack.dumped stand.told);
