@@ -1,5 +1,5 @@
 -- The summary of a text: its lines, its bytes, and a number into which every byte is folded.
-use Rattle.std.specs.Prelude.{List, codes, if◌then◌else◌, length, [], ℕ, ◌%◌, ◌*◌, ◌+◌, ◌++◌, ◌==◌, ◌^◌, ◌∷◌}
+use Rattle.std.specs.Prelude.{List, codes, length, [], ℕ, ◌%◌, ◌*◌, ◌+◌, ◌++◌, ◌==◌, ◌^◌, ◌∷◌}
 use Rattle.std.specs.Fmt.{decimal}
 use Rattle.std.specs.List.{count_by, fold}
 use Rattle.g_demo.specs.declared.demonstration.Demonstration.{Demonstration}
@@ -20,11 +20,6 @@ fold_of text = fold folded 0 text
 -- THE SUMMARY of a text
 abbrev pub summary_of : List ℕ → Summary
 summary_of text = record { lines = line_count text; bytes = length text; fold = fold_of text }
-
--- the summary with one byte more
-abbrev pub with_byte : Summary → ℕ → Summary
-with_byte s byte =
-    record { lines = s.lines + (if byte == 10 then 1 else 0); bytes = s.bytes + 1; fold = folded s.fold byte }
 
 -- the four lines that a demonstration prints of it
 abbrev pub summary_lines : Demonstration → Summary → List (List ℕ)

@@ -1,5 +1,6 @@
 //! The summary of a text, piece by piece as the text comes.
-ghost use Rattle.std.specs.Prelude.{◌≡◌, ◌+◌, ◌*◌, ◌<◌, ◌≤◌, ◌^◌, ◌++◌, [], ℕ, List, IfOk, length, take};
+ghost use Rattle.std.specs.List.{fold};
+ghost use Rattle.std.specs.Prelude.{◌≡◌, ◌+◌, ◌*◌, ◌%◌, ◌<◌, ◌≤◌, ◌^◌, ◌++◌, [], ℕ, List, IfOk, length};
 ghost use Rattle.g_demo.specs.Summary as spec;
 
 use crate::demonstration::Demonstration;
@@ -44,71 +45,81 @@ impl Summary {
         requires room { self.old.bytes + length piece.now < 2 ^ 64 }
         ensures { (text : List ℕ) → self.old ≡ spec.summary_of text → self.new ≡ spec.summary_of (text ++ piece.now) }
     {
-        let fours = piece.len() / 4;
-        let front = with_fours(*self, piece, fours);
-        *self = with_bytes(front, &piece[4 * fours..]);
+        self.lines += line_count(piece);
+        self.bytes += piece.len() as u64;
+        self.fold = folded_on(self.fold, piece);
     }
 }
 
-/// The summary with the first bytes of a piece more, so many times four: taken one by one each fold would wait for the one before.
-fn with_fours(summary: Summary, piece: &[u8], fours: usize) -> Summary
-    requires within { 4 * fours ≤ length piece.now }
-    requires lines { summary.lines ≤ summary.bytes }
-    requires room { summary.bytes + length piece.now < 2 ^ 64 }
-    ensures sums { (text : List ℕ) → summary ≡ spec.summary_of text → result ≡ spec.summary_of (text ++ take (4 * fours) piece.now) }
-    ensures lines { result.lines ≤ result.bytes }
-    ensures bytes { result.bytes ≡ summary.bytes + 4 * fours }
+/// How many bytes are counted at once.
+const FEW: usize = 128;
+
+/// How many bytes 10 a piece has.
+fn line_count(piece: &[u8]) -> u64
+    ensures { result ≡ spec.line_count piece.now }
 {
-    let mut so_far = summary;
-    for i in 0..fours {
-        let k = 4 * i;
-        so_far = with_four(so_far, piece[k], piece[k + 1], piece[k + 2], piece[k + 3]);
+    let mut count = 0u64;
+    let mut rest = piece;
+    while !rest.is_empty() {
+        let (front, behind) = rest.split_at(rest.len().min(FEW));
+        count += u64::from(few_lines(front));
+        rest = behind;
     }
-    so_far
+    count
 }
 
-/// The summary with a piece more.
-fn with_bytes(summary: Summary, piece: &[u8]) -> Summary
-    requires lines { summary.lines ≤ summary.bytes }
-    requires room { summary.bytes + length piece.now < 2 ^ 64 }
-    ensures { (text : List ℕ) → summary ≡ spec.summary_of text → result ≡ spec.summary_of (text ++ piece.now) }
+/// The same of a piece so short that a byte can count them: many are looked at at once then.
+fn few_lines(piece: &[u8]) -> u8
+    requires { length piece.now ≤ 128 }
+    ensures { result ≡ spec.line_count piece.now }
 {
-    let mut so_far = summary;
+    let mut count = 0u8;
     for byte in piece {
-        so_far = with_byte(so_far, *byte);
+        count += u8::from(*byte == b'\n');
     }
-    so_far
+    count
 }
 
-/// The summary with four bytes more.
-fn with_four(summary: Summary, a: u8, b: u8, c: u8, d: u8) -> Summary
-    requires lines { summary.lines ≤ summary.bytes }
-    requires room { summary.bytes + 4 < 2 ^ 64 }
-    ensures { result ≡ spec.with_byte (spec.with_byte (spec.with_byte (spec.with_byte summary a) b) c) d }
+/// A number into which a piece is folded, eight bytes at a time: one by one each fold would wait for the one before.
+fn folded_on(so_far: u32, piece: &[u8]) -> u32
+    ensures { result ≡ fold spec.folded so_far piece.now }
 {
-    let lines = summary.lines
-        + u64::from(a == b'\n')
-        + u64::from(b == b'\n')
-        + u64::from(c == b'\n')
-        + u64::from(d == b'\n');
-    Summary {
-        lines,
-        bytes: summary.bytes + 4,
-        fold: folded_four(summary.fold, a, b, c, d),
+    let mut number = so_far;
+    let mut rest = piece;
+    while let [a, b, c, d, e, f, g, h, behind @ ..] = rest {
+        number = folded_twice(number, four(*a, *b, *c, *d), four(*e, *f, *g, *h));
+        rest = behind;
     }
+    with_bytes(number, rest)
 }
 
-/// The summary with one byte more.
-fn with_byte(summary: Summary, byte: u8) -> Summary
-    requires lines { summary.lines ≤ summary.bytes }
-    requires room { summary.bytes + 1 < 2 ^ 64 }
-    ensures { result ≡ spec.with_byte summary byte }
+/// A number into which bytes are folded one by one.
+fn with_bytes(so_far: u32, piece: &[u8]) -> u32
+    ensures { result ≡ fold spec.folded so_far piece.now }
 {
-    Summary {
-        lines: summary.lines + u64::from(byte == b'\n'),
-        bytes: summary.bytes + 1,
-        fold: folded(summary.fold, byte),
+    let mut number = so_far;
+    for byte in piece {
+        number = folded(number, *byte);
     }
+    number
+}
+
+/// What four bytes add to a number into which they are folded.
+fn four(a: u8, b: u8, c: u8, d: u8) -> u64
+    ensures value { result ≡ 29791 * a + 961 * b + 31 * c + d }
+    ensures most { result ≤ 7849920 }
+{
+    29_791 * u64::from(a) + 961 * u64::from(b) + 31 * u64::from(c) + u64::from(d)
+}
+
+/// A number into which four bytes are folded, and four more, by what they add.
+fn folded_twice(so_far: u32, front: u64, back: u64) -> u32
+    requires { (front ≤ 7849920) × (back ≤ 7849920) }
+    ensures { result ≡ (2487512833 * so_far + 923521 * front + back) % 2 ^ 32 }
+{
+    // The first factor is 31 to the eighth, the second 31 to the fourth, each less what goes beyond 32 bits.
+    let sum = 2_487_512_833 * u64::from(so_far) + 923_521 * front + back;
+    (sum % 4_294_967_296) as u32
 }
 
 /// One byte folded into a number.
@@ -116,14 +127,6 @@ fn folded(so_far: u32, byte: u8) -> u32
     ensures { result ≡ spec.folded so_far byte }
 {
     ((31 * u64::from(so_far) + u64::from(byte)) % 4_294_967_296) as u32
-}
-
-/// Four bytes folded into a number, one behind the other.
-fn folded_four(so_far: u32, a: u8, b: u8, c: u8, d: u8) -> u32
-    ensures { result ≡ spec.folded (spec.folded (spec.folded (spec.folded so_far a) b) c) d }
-{
-    let bytes = 29_791 * u64::from(a) + 961 * u64::from(b) + 31 * u64::from(c) + u64::from(d);
-    ((923_521 * u64::from(so_far) + bytes) % 4_294_967_296) as u32
 }
 
 /// The four lines that a demonstration prints: `DEMO` with its two numbers, `LINES`, `BYTES`, `FOLD`.

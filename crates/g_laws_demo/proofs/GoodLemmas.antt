@@ -11,8 +11,11 @@ use Rattle.std.proofs.lemmas.List.Elements.{All-append, All-cons, All-from_recur
 use Rattle.std.proofs.lemmas.List.Folds.{list_all-append}
 use Rattle.g_name.specs.Grammar.{is_letter, is_name_char, is_word}
 use Rattle.g_lines.proofs.LineLemmas.{text-lines}
-use Rattle.g_script.specs.Script.{IsDocumentLine, IsItem, WrittenItem, item_lines, lines_in, timed_said}
-use Rattle.g_demo.specs.Script.{at_turn, behind_job, behind_rounds, behind_three, closing, drawn, drawn_job, file_name, filled_line, next, opening, round_lines, rounds_lines, script_lines}
+use Rattle.g_lines.specs.Lines.{lines_of}
+use Rattle.g_script.proofs.ReadLemmas.{lines_in}
+use Rattle.g_script.proofs.SaidLemmas.{items_say}
+use Rattle.g_script.specs.Script.{IsDocumentLine, IsItem, WrittenItem, item_lines, timed_said}
+use Rattle.g_demo.specs.Script.{at_turn, behind_job, behind_rounds, behind_three, closing, drawn, drawn_job, file_name, filled_line, next, opening, round_lines, rounds_lines, script_lines, script_text}
 use Rattle.g_laws_demo.specs.GoodScript.{IsGood}
 use Rattle.g_laws_demo.proofs.Items.{bare, behind_items, closing_items, document, dump, last_job, migration, opening_items, round_items, round_job, rounds_items, script_items}
 use Rattle.g_script.specs.declared.operator.Operator.TheVariants as operator
@@ -415,4 +418,7 @@ apart_script number rounds few =
 
 pub is_good : IsGood
 is_good number rounds few =
-    (map timed_said (script_items number rounds), (script_items number rounds, good_items number rounds few, refl, text-lines (script_lines number rounds) (apart_script number rounds few) ∙ sym (lines_of_script number rounds)))
+    (
+      map timed_said (script_items number rounds),
+      items_say (lines_of (script_text number rounds)) (script_items number rounds) (good_items number rounds few) (text-lines (script_lines number rounds) (apart_script number rounds few) ∙ sym (lines_of_script number rounds)),
+    )

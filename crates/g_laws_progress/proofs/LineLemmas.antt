@@ -19,7 +19,7 @@ use Rattle.g_store_model.specs.Process.{NotYet, ProcessStep, Processes, process_
 use Rattle.g_store_model.specs.Rising.{FormatStep, RestoreStep, Restores, StartStep, Starts, coming_up, restore_early, restored}
 use Rattle.g_store_model.specs.State.{Dumped as DumpedTree, Holding, OpenDump, State, is_mounted, lacks}
 use Rattle.g_run_model.specs.Events.{IsMigration, IsOpening, IsProcessing, IsTold}
-use Rattle.g_run_model.specs.Lines.{LineGives, Shuts, at_terminal, changed_at, job_line, job_refusal, line_refused, logged_in, login_refusal, now_stands, open_at, taken_in, tells, up_with}
+use Rattle.g_run_model.specs.Lines.{LineGives, shut_with, at_terminal, changed_at, job_line, job_refusal, line_refused, logged_in, login_refusal, now_stands, open_at, taken_in, tells, up_with}
 use Rattle.g_run_model.specs.Texts.{dump_text, processed_text, started_text, tape_text}
 use Rattle.g_run_model.specs.World.{World}
 
@@ -101,9 +101,9 @@ abbrev pub GivesSome : Operator → World → Type 0
 GivesSome what w = (o : Outcome) × (new : World) × LineGives o what w new
 
 rises_some : {R : Type 0} (Does : State → Outcome → Result R StoreFault → State → Type 0) (said : R → List ℕ) (w : World) → ((r : Result R StoreFault) × (s : State) × Does w.store Plain r s) → (b : Bool)
-    → (new : World) × MatchBool b ((Plain ≡ Plain) × (new ≡ line_refused Running w)) ((r : Result R StoreFault) × (s : State) × Does w.store Plain r s × IsTold Plain r × (new ≡ tells (λ x t v. up_with (said x) t v) r s w))
+    → (new : World) × MatchBool (not b) ((r : Result R StoreFault) × (s : State) × (Does w.store Plain r s × IsTold Plain r) × (new ≡ tells (λ x t v. up_with (said x) t v) r s w)) ((Plain ≡ Plain) × (new ≡ line_refused Running w))
 rises_some Does said w does true = (line_refused Running w, (refl, refl))
-rises_some Does said w (r, s, does) false = (tells (λ x t v. up_with (said x) t v) r s w, (r, s, does, tt, refl))
+rises_some Does said w (r, s, does) false = (tells (λ x t v. up_with (said x) t v) r s w, (r, s, (does, tt), refl))
 
 -- of a line that needs a system that is up
 needs_some : {R : Type 0} (Does : Outcome → Result R StoreFault → State → Type 0) (said : R → List ℕ) (w : World) → (b : Bool) → (b ≡ true → (o : Outcome) × (r : Result R StoreFault) × (s : State) × Does o r s)
@@ -111,11 +111,11 @@ needs_some : {R : Type 0} (Does : Outcome → Result R StoreFault → State → 
 needs_some Does said w true does = let (o, r, s, done) = does refl in (o, tells (λ x t v. now_stands (said x) t v) r s w, (r, s, done, refl))
 needs_some Does said w false does = (Plain, line_refused NotStarted w, (refl, refl))
 
-shut_some : (d : Option OpenDump) (w : World) → (new : World) × Shuts d w new
+shut_some : (d : Option OpenDump) (w : World) → (new : World) × (new ≡ shut_with d w)
 shut_some None w = (_, refl)
 shut_some (Some dump) w = (_, refl)
 
-shut_by : (w : World) (b : Bool) → (new : World) × MatchBool b (Shuts w.store.open_dump w new) (new ≡ line_refused NotStarted w)
+shut_by : (w : World) (b : Bool) → (new : World) × (new ≡ (if b then shut_with w.store.open_dump w else line_refused NotStarted w))
 shut_by w true = shut_some w.store.open_dump w
 shut_by w false = (line_refused NotStarted w, refl)
 
@@ -168,10 +168,10 @@ told_stands said (Err Stopped) s w = record { turn = refl; phase = refl; jobs = 
 told_stands said (Err fault) s w = record { turn = refl; phase = refl; jobs = inl refl }
 
 rises_leaves : {R : Type 0} (Does : State → Outcome → Result R StoreFault → State → Type 0) (said : R → List ℕ) (o : Outcome) (w new : World) (b : Bool)
-    → MatchBool b ((o ≡ Plain) × (new ≡ line_refused Running w)) ((r : Result R StoreFault) × (s : State) × Does w.store o r s × IsTold o r × (new ≡ tells (λ x t v. up_with (said x) t v) r s w))
+    → MatchBool (not b) ((r : Result R StoreFault) × (s : State) × (Does w.store o r s × IsTold o r) × (new ≡ tells (λ x t v. up_with (said x) t v) r s w)) ((o ≡ Plain) × (new ≡ line_refused Running w))
     → LineLeaves w new
 rises_leaves Does said o w new true (plain, is) = leaves_is w new (line_refused Running w) is (record { turn = refl; phase = refl; jobs = inl refl })
-rises_leaves Does said o w new false (r, s, does, so, is) = leaves_is w new (tells (λ x t v. up_with (said x) t v) r s w) is (told_up said r s w)
+rises_leaves Does said o w new false (r, s, (does, so), is) = leaves_is w new (tells (λ x t v. up_with (said x) t v) r s w) is (told_up said r s w)
 
 needs_leaves : {R : Type 0} (Does : Result R StoreFault → State → Type 0) (said : R → List ℕ) (o : Outcome) (w new : World) (b : Bool)
     → MatchBool b ((r : Result R StoreFault) × (s : State) × Does r s × (new ≡ tells (λ x t v. now_stands (said x) t v) r s w)) ((o ≡ Plain) × (new ≡ line_refused NotStarted w))
@@ -179,11 +179,11 @@ needs_leaves : {R : Type 0} (Does : Result R StoreFault → State → Type 0) (s
 needs_leaves Does said o w new true (r, s, does, is) = leaves_is w new (tells (λ x t v. now_stands (said x) t v) r s w) is (told_stands said r s w)
 needs_leaves Does said o w new false (plain, is) = leaves_is w new (line_refused NotStarted w) is (record { turn = refl; phase = refl; jobs = inl refl })
 
-shuts_leaves : (d : Option OpenDump) (w new : World) → Shuts d w new → LineLeaves w new
+shuts_leaves : (d : Option OpenDump) (w new : World) → new ≡ shut_with d w → LineLeaves w new
 shuts_leaves (Some dump) w new is = leaves_is w new _ is (record { turn = refl; phase = refl; jobs = inl refl })
 shuts_leaves None w new is = leaves_is w new _ is (record { turn = refl; phase = refl; jobs = inr (inl refl) })
 
-shut_leaves : (w new : World) (b : Bool) → MatchBool b (Shuts w.store.open_dump w new) (new ≡ line_refused NotStarted w) → LineLeaves w new
+shut_leaves : (w new : World) (b : Bool) → new ≡ (if b then shut_with w.store.open_dump w else line_refused NotStarted w) → LineLeaves w new
 shut_leaves w new true shuts = shuts_leaves w.store.open_dump w new shuts
 shut_leaves w new false is = leaves_is w new (line_refused NotStarted w) is (record { turn = refl; phase = refl; jobs = inl refl })
 

@@ -22,7 +22,7 @@ use Rattle.g_store_model.specs.Rising.{FormatStep, RestoreStep, Restores, StartS
 use Rattle.g_store_model.specs.State.{Dumped as DumpedTree, Holding, OpenDump, State, is_mounted, lacks}
 use Rattle.g_run_model.specs.Events.{IsMigration, IsOpening, IsTold, IsProcessing}
 use Rattle.g_run_model.specs.Laws.{DumpsEnd}
-use Rattle.g_run_model.specs.Lines.{LineGives, Shuts, line_refused, now_stands, tells, up_with}
+use Rattle.g_run_model.specs.Lines.{LineGives, shut_with, line_refused, now_stands, tells, up_with}
 use Rattle.g_run_model.specs.Moves.{Answered, Begin, Dumped, Move, Over, Step, TakeLine, Ticked, TurnOver}
 use Rattle.g_run_model.specs.Texts.{dump_text, started_text, tape_text, processed_text}
 use Rattle.g_run_model.specs.World.{World, shows}
@@ -105,10 +105,10 @@ module _ (d : OpenDump) where
 
   rises_stays : {R : Type 0} (Does : State → Outcome → Result R StoreFault → State → Type 0) (said : R → List ℕ) (o : Outcome) (w new : World) → w.store.open_dump ≡ Some d
       → ((r : Result R StoreFault) (s : State) → Does w.store o r s → StaysOrGoes d s.open_dump) → (b : Bool)
-      → MatchBool b ((o ≡ Plain) × (new ≡ line_refused Running w)) ((r : Result R StoreFault) × (s : State) × Does w.store o r s × IsTold o r × (new ≡ tells (λ x t v. up_with (said x) t v) r s w))
+      → MatchBool (not b) ((r : Result R StoreFault) × (s : State) × (Does w.store o r s × IsTold o r) × (new ≡ tells (λ x t v. up_with (said x) t v) r s w)) ((o ≡ Plain) × (new ≡ line_refused Running w))
       → StaysOrGoes d new.store.open_dump
   rises_stays Does said o w new opened leaves true (plain, is) = still w new (line_refused Running w) opened is refl
-  rises_stays Does said o w new opened leaves false (r, s, does, says_so, is) = told w new (tells (λ x t v. up_with (said x) t v) r s w) s is (told_up said r s w) (leaves r s does)
+  rises_stays Does said o w new opened leaves false (r, s, (does, says_so), is) = told w new (tells (λ x t v. up_with (said x) t v) r s w) s is (told_up said r s w) (leaves r s does)
 
   needs_stays : {R : Type 0} (Does : Result R StoreFault → State → Type 0) (said : R → List ℕ) (o : Outcome) (w new : World) → w.store.open_dump ≡ Some d
       → ((r : Result R StoreFault) (s : State) → Does r s → StaysOrGoes d s.open_dump) → (b : Bool)
@@ -117,11 +117,11 @@ module _ (d : OpenDump) where
   needs_stays Does said o w new opened leaves true (r, s, does, is) = told w new (tells (λ x t v. now_stands (said x) t v) r s w) s is (told_stands said r s w) (leaves r s does)
   needs_stays Does said o w new opened leaves false (plain, is) = still w new (line_refused NotStarted w) opened is refl
 
-  shut_stays : (e : Option OpenDump) (w new : World) → w.store.open_dump ≡ Some d → Shuts e w new → StaysOrGoes d new.store.open_dump
+  shut_stays : (e : Option OpenDump) (w new : World) → w.store.open_dump ≡ Some d → new ≡ shut_with e w → StaysOrGoes d new.store.open_dump
   shut_stays (Some dump) w new opened is = still w new _ opened is refl
   shut_stays None w new opened is = goes d new.store.open_dump (ap (λ (x : World). x.store.open_dump) is)
 
-  shut_by : (o : Outcome) (w new : World) (b : Bool) → w.store.open_dump ≡ Some d → MatchBool b (Shuts w.store.open_dump w new) (new ≡ line_refused NotStarted w) → StaysOrGoes d new.store.open_dump
+  shut_by : (o : Outcome) (w new : World) (b : Bool) → w.store.open_dump ≡ Some d → new ≡ (if b then shut_with w.store.open_dump w else line_refused NotStarted w) → StaysOrGoes d new.store.open_dump
   shut_by o w new true opened shuts = shut_stays w.store.open_dump w new opened shuts
   shut_by o w new false opened is = still w new (line_refused NotStarted w) opened is refl
 

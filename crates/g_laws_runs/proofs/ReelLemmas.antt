@@ -1,6 +1,6 @@
 -- The reels of a rack, move by move.
 use Rattle.std.proofs.Common.{◌≡◌, ℕ, ◌+◌, ◌≤◌, List, [], ◌∷◌, ◌++◌, Option, Some, None, refl, sym, ◌∙◌, ap, subst, inl, inr, arith, append-nil, append_assoc, length, length-append}
-use Rattle.std.specs.Prelude.{◌==◌, ◌||◌, Bool, true, false, Result, Ok, Err, MatchBool, MatchOption, if◌then◌else◌, sum_by, codes, ◌⊎◌}
+use Rattle.std.specs.Prelude.{not, ◌==◌, ◌||◌, Bool, true, false, Result, Ok, Err, MatchBool, MatchOption, if◌then◌else◌, sum_by, codes, ◌⊎◌}
 use Rattle.std.proofs.lemmas.List.Sums.{sum_by-cons}
 use Rattle.std.specs.Fmt.{decimal}
 use Rattle.std.specs.Fn.{Shared}
@@ -20,7 +20,7 @@ use Rattle.g_store_model.specs.DumpSteps.{Completed, DumpStep, Event, Going, Ste
 use Rattle.g_store_model.specs.Rising.{FormatStep, RestoreStep, Restores, StartStep, Starts, restore_early}
 use Rattle.g_store_model.specs.State.{Dumped as DumpedTree, Holding, OpenDump, ReelRow, Shelved, State, with_reel}
 use Rattle.g_run_model.specs.Events.{IsMigration, IsOpening, IsTold, IsProcessing}
-use Rattle.g_run_model.specs.Lines.{LineGives, Shuts, is_process, line_refused, now_stands, tells, up_with}
+use Rattle.g_run_model.specs.Lines.{LineGives, shut_with, is_process, line_refused, now_stands, tells, up_with}
 use Rattle.g_run_model.specs.Moves.{Answered, Begin, Dumped, Move, Over, Step, TakeLine, Ticked, TurnOver}
 use Rattle.g_run_model.specs.Texts.{dump_text, started_text, tape_text, processed_text}
 use Rattle.g_run_model.specs.World.{World, shows}
@@ -120,10 +120,10 @@ quiet w new v is same = told w new v w.store is same (rows_itself 0 w.store.reel
 
 rises_grows : {R : Type 0} (Does : State → Outcome → Result R StoreFault → State → Type 0) (said : R → List ℕ) (o : Outcome) (w new : World)
     → ((r : Result R StoreFault) (s : State) → Does w.store o r s → Grows 0 w.store s) → (b : Bool)
-    → MatchBool b ((o ≡ Plain) × (new ≡ line_refused Running w)) ((r : Result R StoreFault) × (s : State) × Does w.store o r s × IsTold o r × (new ≡ tells (λ x t v. up_with (said x) t v) r s w))
+    → MatchBool (not b) ((r : Result R StoreFault) × (s : State) × (Does w.store o r s × IsTold o r) × (new ≡ tells (λ x t v. up_with (said x) t v) r s w)) ((o ≡ Plain) × (new ≡ line_refused Running w))
     → Grows 0 w.store new.store
 rises_grows Does said o w new leaves true (plain, is) = quiet w new (line_refused Running w) is refl
-rises_grows Does said o w new leaves false (r, s, does, says_so, is) = told w new (tells (λ x t v. up_with (said x) t v) r s w) s is (told_up said r s w) (leaves r s does)
+rises_grows Does said o w new leaves false (r, s, (does, says_so), is) = told w new (tells (λ x t v. up_with (said x) t v) r s w) s is (told_up said r s w) (leaves r s does)
 
 needs_grows : {R : Type 0} (Does : Result R StoreFault → State → Type 0) (said : R → List ℕ) (o : Outcome) (w new : World)
     → ((r : Result R StoreFault) (s : State) → Does r s → Grows 0 w.store s) → (b : Bool)
@@ -132,11 +132,11 @@ needs_grows : {R : Type 0} (Does : Result R StoreFault → State → Type 0) (sa
 needs_grows Does said o w new leaves true (r, s, does, is) = told w new (tells (λ x t v. now_stands (said x) t v) r s w) s is (told_stands said r s w) (leaves r s does)
 needs_grows Does said o w new leaves false (plain, is) = quiet w new (line_refused NotStarted w) is refl
 
-shut_grows : (e : Option OpenDump) (w new : World) → Shuts e w new → Grows 0 w.store new.store
+shut_grows : (e : Option OpenDump) (w new : World) → new ≡ shut_with e w → Grows 0 w.store new.store
 shut_grows (Some dump) w new is = quiet w new _ is refl
 shut_grows None w new is = still 0 w.store new.store (ap (λ (x : World). x.store.reels) is)
 
-shut_by : (w new : World) (b : Bool) → MatchBool b (Shuts w.store.open_dump w new) (new ≡ line_refused NotStarted w) → Grows 0 w.store new.store
+shut_by : (w new : World) (b : Bool) → new ≡ (if b then shut_with w.store.open_dump w else line_refused NotStarted w) → Grows 0 w.store new.store
 shut_by w new true shuts = shut_grows w.store.open_dump w new shuts
 shut_by w new false is = quiet w new (line_refused NotStarted w) is refl
 

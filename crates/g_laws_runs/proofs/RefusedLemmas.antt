@@ -1,6 +1,6 @@
 -- What a line that is refused while the system is down leaves.
 use Rattle.std.proofs.Common.{◌≡◌, ℕ, List, [], ◌∷◌, Option, Some, None, refl, sym, ◌∙◌, ap, inl, inr}
-use Rattle.std.specs.Prelude.{◌≢◌, ◌⊎◌, Bool, true, false, Result, Err, MatchBool, MatchOption, if◌then◌else◌, codes, ◌++◌}
+use Rattle.std.specs.Prelude.{not, ◌≢◌, ◌⊎◌, Bool, true, false, Result, Err, MatchBool, MatchOption, if◌then◌else◌, codes, ◌++◌}
 use Rattle.std.specs.Fmt.{decimal}
 use Rattle.std.specs.Fn.{Shared}
 use denote.Ref.{Bor}
@@ -55,10 +55,10 @@ restore_low s (Some fault) o r new low whole (err, is) = ap tree_in is
 rises_low : {R : Type 0} (Does : State → Outcome → Result R StoreFault → State → Type 0) (said : R → List ℕ) (o : Outcome) (w new : World) → new.store.up ≡ false
     → ((r : Result R StoreFault) (s : State) → s.up ≡ false → Does w.store o r s → tree_in s ≡ tree_in w.store)
     → (b : Bool) → b ≡ false
-    → MatchBool b ((o ≡ Plain) × (new ≡ line_refused Running w)) ((r : Result R StoreFault) × (s : State) × Does w.store o r s × IsTold o r × (new ≡ tells (λ x t v. up_with (said x) t v) r s w))
+    → MatchBool (not b) ((r : Result R StoreFault) × (s : State) × (Does w.store o r s × IsTold o r) × (new ≡ tells (λ x t v. up_with (said x) t v) r s w)) ((o ≡ Plain) × (new ≡ line_refused Running w))
     → tree_in new.store ≡ tree_in w.store
 rises_low Does said o w new low leaves true e gives = absurd (let no : ⊥ = cc in no)
-rises_low Does said o w new low leaves false e (r, s, does, says_so, is) =
+rises_low Does said o w new low leaves false e (r, s, (does, says_so), is) =
     let at_s : new.store ≡ s = ap (λ (x : World). x.store) is ∙ told_up said r s w in
     ap tree_in at_s ∙ leaves r s (sym (ap (λ (x : State). x.up) at_s) ∙ low) does
 

@@ -1,6 +1,6 @@
 -- What every event of the store keeps, by its outcome, every move of a run keeps.
 use Rattle.std.proofs.Common.{◌≡◌, ℕ, List, [], ◌++◌, Option, Some, None, refl, sym, ◌∙◌, ap, subst}
-use Rattle.std.specs.Prelude.{Bool, true, false, Result, MatchBool, codes}
+use Rattle.std.specs.Prelude.{if◌then◌else◌, not, Bool, true, false, Result, MatchBool, codes}
 use Rattle.std.specs.Fmt.{decimal}
 use Rattle.std.specs.Fn.{Shared}
 use denote.Ref.{Bor}
@@ -23,7 +23,7 @@ use Rattle.g_store_model.specs.Process.{ProcessStep}
 use Rattle.g_store_model.specs.Rising.{FormatStep, RestoreStep, StartStep}
 use Rattle.g_store_model.specs.State.{Holding, OpenDump, State}
 use Rattle.g_run_model.specs.Events.{IsMigration, IsOpening, IsProcessing, IsTold}
-use Rattle.g_run_model.specs.Lines.{LineGives, Shuts, line_refused, now_stands, tells, up_with}
+use Rattle.g_run_model.specs.Lines.{LineGives, shut_with, line_refused, now_stands, tells, up_with}
 use Rattle.g_run_model.specs.Moves.{Answered, Begin, Dumped, Move, Over, Step, TakeLine, Ticked, TurnOver, outcome_of}
 use Rattle.g_run_model.specs.Texts.{dump_text, processed_text, started_text, tape_text}
 use Rattle.g_run_model.specs.World.{World, shows}
@@ -59,10 +59,10 @@ module _ (K : Outcome → State → State → Type 0) (kept : AreKept K) where
 
   rises_kept : {R : Type 0} (Does : State → Outcome → Result R StoreFault → State → Type 0) (said : R → List ℕ) (o : Outcome) (w new : World)
       → ((r : Result R StoreFault) (s : State) → w.store.up ≡ false → Does w.store o r s → IsTold o r → K o w.store s) → (b : Bool) → w.store.up ≡ b
-      → MatchBool b ((o ≡ Plain) × (new ≡ line_refused Running w)) ((r : Result R StoreFault) × (s : State) × Does w.store o r s × IsTold o r × (new ≡ tells (λ x t v. up_with (said x) t v) r s w))
+      → MatchBool (not b) ((r : Result R StoreFault) × (s : State) × (Does w.store o r s × IsTold o r) × (new ≡ tells (λ x t v. up_with (said x) t v) r s w)) ((o ≡ Plain) × (new ≡ line_refused Running w))
       → K o w.store new.store
   rises_kept Does said o w new leaves true e (plain, is) = still o w new (line_refused Running w) plain is refl
-  rises_kept Does said o w new leaves false e (r, s, does, says_so, is) = told o w new (tells (λ x t v. up_with (said x) t v) r s w) s is (told_up said r s w) (leaves r s e does says_so)
+  rises_kept Does said o w new leaves false e (r, s, (does, says_so), is) = told o w new (tells (λ x t v. up_with (said x) t v) r s w) s is (told_up said r s w) (leaves r s e does says_so)
 
   needs_kept : {R : Type 0} (Does : Result R StoreFault → State → Type 0) (said : R → List ℕ) (o : Outcome) (w new : World)
       → ((r : Result R StoreFault) (s : State) → w.store.up ≡ true → Does r s → K o w.store s) → (b : Bool) → w.store.up ≡ b
@@ -71,12 +71,12 @@ module _ (K : Outcome → State → State → Type 0) (kept : AreKept K) where
   needs_kept Does said o w new leaves true e (r, s, does, is) = told o w new (tells (λ x t v. now_stands (said x) t v) r s w) s is (told_stands said r s w) (leaves r s e does)
   needs_kept Does said o w new leaves false e (plain, is) = still o w new (line_refused NotStarted w) plain is refl
 
-  shut_kept : (o : Outcome) (d : Option OpenDump) (w new : World) → o ≡ Plain → w.store.open_dump ≡ d → Shuts d w new → K o w.store new.store
+  shut_kept : (o : Outcome) (d : Option OpenDump) (w new : World) → o ≡ Plain → w.store.open_dump ≡ d → new ≡ shut_with d w → K o w.store new.store
   shut_kept o (Some dump) w new plain e is = still o w new _ plain is refl
   shut_kept o None w new plain e is =
       subst (λ (x : Outcome). K x w.store new.store) (sym plain) (subst (λ (x : State). K Plain w.store x) (sym (ap (λ (x : World). x.store) is)) (kept.shut w.store e))
 
-  shut_by : (o : Outcome) (w new : World) (b : Bool) → o ≡ Plain → MatchBool b (Shuts w.store.open_dump w new) (new ≡ line_refused NotStarted w) → K o w.store new.store
+  shut_by : (o : Outcome) (w new : World) (b : Bool) → o ≡ Plain → new ≡ (if b then shut_with w.store.open_dump w else line_refused NotStarted w) → K o w.store new.store
   shut_by o w new true plain shuts = shut_kept o w.store.open_dump w new plain refl shuts
   shut_by o w new false plain is = still o w new (line_refused NotStarted w) plain is refl
 

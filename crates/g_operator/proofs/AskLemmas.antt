@@ -16,7 +16,7 @@ use Rattle.g_script.specs.declared.operator.Operator.{Operator}
 use Rattle.g_script.specs.declared.operator.Operator.TheVariants as line
 use Rattle.g_run_model.specs.Devices.{Devices}
 use Rattle.g_run_model.specs.Events.{IsTold}
-use Rattle.g_run_model.specs.Lines.{LineGives, NeedsUp}
+use Rattle.g_run_model.specs.Lines.{now_stands, LineGives, Asks}
 use Rattle.g_run_model.specs.Texts.{dump_text, operator_line, processed_text}
 use Rattle.g_run_model.specs.World.{World}
 use Rattle.g_job_table.specs.Crew.{CrewState}
@@ -31,7 +31,7 @@ use Rattle.g_operator.proofs.UpLemmas.{down_line, migrated_line, opened_line, un
 
 -- a system that is down refuses it
 down_asked : {A : Type 0} (what : Operator) (by : State → Holding → Outcome → Result A StoreFault → State → Type 0) (said : A → List ℕ)
-    → ((o : Outcome) (w next : World) → NeedsUp o (λ r s. (k : Holding) × (w.store.holding ≡ Some k) × by w.store k o r s × IsTold o r) said w next → LineGives o what w next)
+    → ((o : Outcome) (w next : World) → Asks o w.store.up NotStarted (λ r s. (k : Holding) × (w.store.holding ≡ Some k) × by w.store k o r s × IsTold o r) (λ x. now_stands (said x)) w next → LineGives o what w next)
     → disc_arms what ≡ [] → tape_arms what ≡ [] → (d e : Devices) (c c' : CrewState) (count : ℕ) → IsReady (Down d) c → (fault : StoreFault) → (let answer : Result A StoreFault = Err fault in answer ≡ Err NotStarted) → e ≡ d
     → (failure : Option Failure) (before after : Option (List ℕ)) (faults faults' : ℕ) → TellsFault fault count c failure c' before after faults faults'
     → DidLine what (seen (Down d) c count) failure (seen (Down e) c' count) before after faults faults'

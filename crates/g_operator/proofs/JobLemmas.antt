@@ -1,6 +1,6 @@
 -- A JOB'S LINE, AND SHUT.
 use Rattle.std.proofs.Common.{◌≡◌, ℕ, ◌+◌, ◌++◌, Bool, true, false, List, [], ◌∷◌, Option, Some, None, refl, sym, ◌∙◌, ap, subst, inl, inr}
-use Rattle.std.specs.Prelude.{◌⊎◌, Err, MatchBool, Result, codes, is_some, option_map, if◌then◌else◌}
+use Rattle.std.specs.Prelude.{◌⊎◌, Err, Result, codes, is_some, option_map, if◌then◌else◌}
 use Rattle.std.specs.FinMap as finmap
 use Rattle.std.proofs.lemmas.List.{append_assoc}
 use Rattle.std.proofs.lemmas.Option.{none-some, same_Some}
@@ -19,7 +19,7 @@ use Rattle.g_script.specs.declared.operator.Operator.{Operator}
 use Rattle.g_script.specs.declared.operator.Operator.TheVariants as line
 use Rattle.g_run_model.specs.Devices.{Devices}
 use Rattle.g_run_model.specs.Accounts.{knows_user}
-use Rattle.g_run_model.specs.Lines.{LineGives, Shuts, job_line, job_refusal, line_refused, refusal, taken_in}
+use Rattle.g_run_model.specs.Lines.{LineGives, shut_with, job_line, job_refusal, line_refused, refusal, taken_in}
 use Rattle.g_run_model.specs.Texts.{broken_files, job_text, operator_line}
 use Rattle.g_run_model.specs.World.{World, goes_down}
 use Rattle.g_run_model.proofs.CountLemmas.{event_none}
@@ -222,21 +222,21 @@ pub down_shuts_not : (d : Devices) (c : CrewState) (count : ℕ) (failure : Opti
     → Puts failure (refusal_text count NotStarted) before after faults faults' → DidLine line.Shut (seen (Down d) c count) failure (seen (Down d) c count) before after faults faults'
 down_shuts_not d c count failure before after faults faults' ready puts =
     refused_line line.Shut refl refl NotStarted (Down d) c count
-    (λ w m. (refl, subst (λ (b : Bool). MatchBool b (Shuts w.store.open_dump w (line_refused NotStarted w)) (line_refused NotStarted w ≡ line_refused NotStarted w)) (sym m.stands.0) refl))
+    (λ w m. (refl, subst (λ (b : Bool). line_refused NotStarted w ≡ (if b then shut_with w.store.open_dump w else line_refused NotStarted w)) (sym m.stands.0) refl))
     failure before after faults faults' ready puts
 
 module _ (s : StoreFacts) (c : CrewState) (ready : IsReady (Up s) c) (count : ℕ) where
   abbrev shut_before : Seen
   shut_before = seen (Up s) c count
 
-  shuts : (w next : World) → Matches w shut_before → Shuts w.store.open_dump w next → LineGives Plain line.Shut w next
-  shuts w next m is = (refl, subst (λ (b : Bool). MatchBool b (Shuts w.store.open_dump w next) (next ≡ line_refused NotStarted w)) (sym (up_is s w.store ready.0 m.stands.stands)) is)
+  shuts : (w next : World) → Matches w shut_before → next ≡ shut_with w.store.open_dump w → LineGives Plain line.Shut w next
+  shuts w next m is = (refl, subst (λ (b : Bool). next ≡ (if b then shut_with w.store.open_dump w else line_refused NotStarted w)) (sym (up_is s w.store ready.0 m.stands.stands)) is)
 
   -- a dump is open
-  shut_open : (dump : Option DumpFacts) (d : DumpFacts) → dump ≡ Some d → (w : World) → Matches w shut_before → s.dump ≡ dump → Shuts w.store.open_dump w (line_refused (DumpOpen d.plan.number) w)
+  shut_open : (dump : Option DumpFacts) (d : DumpFacts) → dump ≡ Some d → (w : World) → Matches w shut_before → s.dump ≡ dump → line_refused (DumpOpen d.plan.number) w ≡ shut_with w.store.open_dump w
   shut_open dump d is w m at =
       let sn = seen_of s w.store ready.0 m.stands.stands in
-      subst (λ (o : Option OpenDump). Shuts o w (line_refused (DumpOpen d.plan.number) w))
+      subst (λ (o : Option OpenDump). line_refused (DumpOpen d.plan.number) w ≡ shut_with o w)
       (sym (ap (λ (t : State). t.open_dump) sn.state_is ∙ ap (option_map (open_of sn.view s.online)) (at ∙ is))) refl
 
   pub open_shuts_not : (number : ℕ) (d : DumpFacts) → s.dump ≡ Some d → d.plan.number ≡ number → (failure : Option Failure) (before after : Option (List ℕ)) (faults faults' : ℕ)
@@ -244,7 +244,7 @@ module _ (s : StoreFacts) (c : CrewState) (ready : IsReady (Up s) c) (count : �
   open_shuts_not number d at same failure before after faults faults' puts =
       refused_line line.Shut refl refl (DumpOpen number) (Up s) c count
       (λ w m. shuts w (line_refused (DumpOpen number) w) m
-      (subst (λ (n : ℕ). Shuts w.store.open_dump w (line_refused (DumpOpen n) w)) same (shut_open s.dump d at w m refl)))
+      (subst (λ (n : ℕ). line_refused (DumpOpen n) w ≡ shut_with w.store.open_dump w) same (shut_open s.dump d at w m refl)))
       failure before after faults faults' ready puts
 
   -- none is
@@ -257,7 +257,7 @@ module _ (s : StoreFacts) (c : CrewState) (ready : IsReady (Up s) c) (count : �
         outcome = Plain;
         next = goes_down (codes "SHUT") (down w.store) w;
         gives = shuts w (goes_down (codes "SHUT") (down w.store) w) m
-            (subst (λ (o : Option OpenDump). Shuts o w (goes_down (codes "SHUT") (down w.store) w))
+            (subst (λ (o : Option OpenDump). goes_down (codes "SHUT") (down w.store) w ≡ shut_with o w)
             (sym (ap (λ (t : State). t.open_dump) sn.state_is ∙ ap (option_map (open_of sn.view s.online)) none)) refl);
         counted = event_none (devices_in (Up s));
         stands = (

@@ -1,6 +1,6 @@
 -- FORMAT, START AND RESTORE on a system that is down: it comes up, or isn't made, by the step of its state.
 use Rattle.std.proofs.Common.{◌≡◌, ℕ, ◌<◌, ◌≤◌, ◌++◌, false, List, [], ◌∷◌, Option, Some, None, refl, sym, ◌∙◌, ap, subst, inl, inr}
-use Rattle.std.specs.Prelude.{◌≢◌, Bool, MatchBool, MatchOption, option_map, Result, Ok, Err, codes}
+use Rattle.std.specs.Prelude.{not, ◌≢◌, Bool, MatchBool, MatchOption, option_map, Result, Ok, Err, codes}
 use Rattle.g_disc.specs.Disc.{Causes, DiscState}
 use Rattle.g_tape.specs.Rack.{Rack}
 use Rattle.g_tape.specs.Reads.{OnlyReads}
@@ -24,7 +24,7 @@ use Rattle.g_script.specs.declared.operator.Operator.{Operator}
 use Rattle.g_script.specs.declared.operator.Operator.TheVariants as line
 use Rattle.g_run_model.specs.Devices.{Devices}
 use Rattle.g_run_model.specs.Events.{IsTold}
-use Rattle.g_run_model.specs.Lines.{LineGives, Rises, is_process, line_refused, tells, up_with}
+use Rattle.g_run_model.specs.Lines.{LineGives, Asks, is_process, line_refused, tells, up_with}
 use Rattle.g_run_model.specs.Moves.{EventCounted}
 use Rattle.g_run_model.specs.Texts.{operator_line, started_text}
 use Rattle.g_run_model.specs.World.{World}
@@ -84,7 +84,7 @@ came_up given by count_of disc rack reply new m =
 
 -- the events of one line, which brings the system up
 module _ {A : Type 0} (what : Operator) (given : Type 0) (by : State → Outcome → Result A StoreFault → State → Type 0) (said : A → List ℕ)
-    (lifts : (o : Outcome) (w next : World) → Rises o by said w next → LineGives o what w next) (counts : (o : Outcome) (d e : Devices) → EventCounted o [] [] d e → CountedBy what o d e)
+    (lifts : (o : Outcome) (w next : World) → Asks o (not w.store.up) Running (λ r s. by w.store o r s × IsTold o r) (λ x. up_with (said x)) w next → LineGives o what w next) (counts : (o : Outcome) (d e : Devices) → EventCounted o [] [] d e → CountedBy what o d e)
     (no_disc : disc_arms what ≡ []) (no_tape : tape_arms what ≡ []) (disc : DiscState) (rack : Rack) (c : CrewState) (count : ℕ) (gives : (let d : Devices = record { disc = disc; rack = rack } in BelongTogether d) → given) where
   abbrev old_devices : Devices
   old_devices = record { disc = disc; rack = rack }
@@ -96,8 +96,7 @@ module _ {A : Type 0} (what : Operator) (given : Type 0) (by : State → Outcome
       → LineGives o what w next
   rises o w next m r s step told is =
       lifts o w next
-      (subst (λ b. MatchBool b ((o ≡ Plain) × (next ≡ line_refused Running w))
-      ((r' : Result A StoreFault) × (s' : State) × by w.store o r' s' × IsTold o r' × (next ≡ tells (λ x t v. up_with (said x) t v) r' s' w))) (sym m.stands.0)
+      (subst (λ b. MatchBool (not b) ((r' : Result A StoreFault) × (s' : State) × (by w.store o r' s' × IsTold o r') × (next ≡ tells (λ x t v. up_with (said x) t v) r' s' w)) ((o ≡ Plain) × (next ≡ line_refused Running w))) (sym m.stands.0)
       (r, s, step, told.told, is))
 
   -- IT COMES UP
@@ -328,12 +327,11 @@ module _ (disc : DiscState) (rack : Rack) (c : CrewState) (count : ℕ) (ready :
 
 -- a system that is up doesn't come up
 pub running_line : {A : Type 0} (what : Operator) (by : State → Outcome → Result A StoreFault → State → Type 0) (said : A → List ℕ)
-    → ((o : Outcome) (w next : World) → Rises o by said w next → LineGives o what w next) → disc_arms what ≡ [] → tape_arms what ≡ []
+    → ((o : Outcome) (w next : World) → Asks o (not w.store.up) Running (λ r s. by w.store o r s × IsTold o r) (λ x. up_with (said x)) w next → LineGives o what w next) → disc_arms what ≡ [] → tape_arms what ≡ []
     → (s : StoreFacts) (c : CrewState) → IsReady (Up s) c → (count : ℕ) (failure : Option Failure) (before_text after : Option (List ℕ)) (faults faults' : ℕ)
     → Puts failure (refusal_text count Running) before_text after faults faults' → DidLine what (seen (Up s) c count) failure (seen (Up s) c count) before_text after faults faults'
 running_line {A = A} what by said lifts no_disc no_tape s c ready count failure before_text after faults faults' puts =
     refused_line what no_disc no_tape Running (Up s) c count
     (λ w m. lifts Plain w (line_refused Running w)
-    (subst (λ (b : Bool). MatchBool b ((Plain ≡ Plain) × (line_refused Running w ≡ line_refused Running w))
-    ((r' : Result A StoreFault) × (s' : State) × by w.store Plain r' s' × IsTold Plain r' × (line_refused Running w ≡ tells (λ x t v. up_with (said x) t v) r' s' w))) (sym (up_is s w.store ready.0 m.stands.stands)) (refl, refl)))
+    (subst (λ (b : Bool). MatchBool (not b) ((r' : Result A StoreFault) × (s' : State) × (by w.store Plain r' s' × IsTold Plain r') × (line_refused Running w ≡ tells (λ x t v. up_with (said x) t v) r' s' w)) ((Plain ≡ Plain) × (line_refused Running w ≡ line_refused Running w))) (sym (up_is s w.store ready.0 m.stands.stands)) (refl, refl)))
     failure before_text after faults faults' ready puts

@@ -21,7 +21,7 @@ use Rattle.g_script.specs.declared.operator.Operator.TheVariants as line
 use Rattle.g_run_model.specs.Devices.{Devices}
 use Rattle.g_run_model.specs.Events.{IsTold}
 use Rattle.g_run_model.specs.Moves.{EventCounted}
-use Rattle.g_run_model.specs.Lines.{LineGives, NeedsUp, is_process, line_refused, now_stands, tells}
+use Rattle.g_run_model.specs.Lines.{LineGives, Asks, is_process, line_refused, now_stands, tells}
 use Rattle.g_run_model.specs.Texts.{dump_text, operator_line}
 use Rattle.g_run_model.specs.World.{World}
 use Rattle.g_run_model.proofs.EventToldLemmas.{ToldBy, migrate_told, open_told, OutcomeTold}
@@ -98,7 +98,7 @@ same_devices Stopped s = refl
 same_devices fault s = refl
 
 module _ {A : Type 0} (what : Operator) (by : State → Holding → Outcome → Result A StoreFault → State → Type 0) (said : A → List ℕ)
-    (lifts : (o : Outcome) (w next : World) → NeedsUp o (λ r s. (k : Holding) × (w.store.holding ≡ Some k) × by w.store k o r s × IsTold o r) said w next → LineGives o what w next)
+    (lifts : (o : Outcome) (w next : World) → Asks o w.store.up NotStarted (λ r s. (k : Holding) × (w.store.holding ≡ Some k) × by w.store k o r s × IsTold o r) (λ x. now_stands (said x)) w next → LineGives o what w next)
     (no_disc : disc_arms what ≡ []) (no_tape : tape_arms what ≡ [])
     (told_too : (s : State) (k : Holding) (o : Outcome) (r : Result A StoreFault) (u : State) → by s k o r u → ToldBy (by s k) o r u)
     (old new : StoreFacts) (unspent : old.spent ≡ false) (c : CrewState) (count : ℕ) where
@@ -241,7 +241,7 @@ stop_down (Some f) reply s after u (same, is) = let never : ⊥ = cc in absurd n
 
 -- a system that is down is asked for nothing
 pub down_line : {A : Type 0} (what : Operator) (by : State → Holding → Outcome → Result A StoreFault → State → Type 0) (said : A → List ℕ)
-    → ((o : Outcome) (w next : World) → NeedsUp o (λ r s. (k : Holding) × (w.store.holding ≡ Some k) × by w.store k o r s × IsTold o r) said w next → LineGives o what w next)
+    → ((o : Outcome) (w next : World) → Asks o w.store.up NotStarted (λ r s. (k : Holding) × (w.store.holding ≡ Some k) × by w.store k o r s × IsTold o r) (λ x. now_stands (said x)) w next → LineGives o what w next)
     → disc_arms what ≡ [] → tape_arms what ≡ [] → (d : Devices) (c : CrewState) (count : ℕ) → IsReady (Down d) c → (failure : Option Failure) (before_text after : Option (List ℕ)) (faults faults' : ℕ)
     → Puts failure (refusal_text count NotStarted) before_text after faults faults' → DidLine what (seen (Down d) c count) failure (seen (Down d) c count) before_text after faults faults'
 down_line {A = A} what by said lifts no_disc no_tape d c count ready failure before_text after faults faults' puts =

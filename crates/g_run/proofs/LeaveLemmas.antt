@@ -1,6 +1,6 @@
 -- What a line leaves of the world but for what it does: it is taken between two ticks, and stays there.
 use Rattle.std.proofs.Common.{◌≡◌, ◌+◌, ◌++◌, ℕ, Bool, true, false, List, [], Option, Some, None, append-nil, refl, sym, ◌∙◌, ap, subst, arith}
-use Rattle.std.specs.Prelude.{MatchBool, Result, Ok, Err, codes, if◌then◌else◌}
+use Rattle.std.specs.Prelude.{not, MatchBool, Result, Ok, Err, codes, if◌then◌else◌}
 use Rattle.std.specs.Fmt.{decimal}
 use Rattle.g_monitor.specs.Parts.{full_text}
 use Rattle.g_job.specs.State.{JobState}
@@ -13,7 +13,7 @@ use Rattle.g_store_model.specs.CallStep.{Outcome, Plain}
 use Rattle.g_store_model.specs.Rising.{FormatStep, RestoreStep, StartStep}
 use Rattle.g_store_model.specs.State.{OpenDump, State}
 use Rattle.g_run_model.specs.Events.{IsMigration, IsOpening, IsProcessing, IsTold}
-use Rattle.g_run_model.specs.Lines.{LineGives, Shuts, at_terminal, changed_at, job_line, job_refusal, line_refused, logged_in, login_refusal, now_stands, open_at, taken_in, tells, up_with}
+use Rattle.g_run_model.specs.Lines.{LineGives, shut_with, at_terminal, changed_at, job_line, job_refusal, line_refused, logged_in, login_refusal, now_stands, open_at, taken_in, tells, up_with}
 use Rattle.g_run_model.specs.Texts.{dump_text, processed_text, started_text, tape_text}
 use Rattle.g_run_model.specs.World.{World}
 use Rattle.g_operator.specs.Parts.{disc_arms, tape_arms}
@@ -65,10 +65,10 @@ refused_same : (fault : StoreFault) (w : World) → Same w (line_refused fault w
 refused_same fault w = record { lines = refl; bad = refl; over = refl; phase = refl; turn = refl; disc_stops = refl; tape_stops = refl }
 
 rises_same : {R : Type 0} (Does : State → Outcome → Result R StoreFault → State → Type 0) (said : R → List ℕ) (o : Outcome) (w new : World) (b : Bool)
-    → MatchBool b ((o ≡ Plain) × (new ≡ line_refused Running w)) ((r : Result R StoreFault) × (s : State) × Does w.store o r s × IsTold o r × (new ≡ tells (λ x t v. up_with (said x) t v) r s w))
+    → MatchBool (not b) ((r : Result R StoreFault) × (s : State) × (Does w.store o r s × IsTold o r) × (new ≡ tells (λ x t v. up_with (said x) t v) r s w)) ((o ≡ Plain) × (new ≡ line_refused Running w))
     → Same w new
 rises_same Does said o w new true (plain, is) = is_same w new (line_refused Running w) is (refused_same Running w)
-rises_same Does said o w new false (r, s, does, so, is) = is_same w new (tells (λ x t v. up_with (said x) t v) r s w) is (told_up said r s w)
+rises_same Does said o w new false (r, s, (does, so), is) = is_same w new (tells (λ x t v. up_with (said x) t v) r s w) is (told_up said r s w)
 
 needs_same : {R : Type 0} (Does : Result R StoreFault → State → Type 0) (said : R → List ℕ) (o : Outcome) (w new : World) (b : Bool)
     → MatchBool b ((r : Result R StoreFault) × (s : State) × Does r s × (new ≡ tells (λ x t v. now_stands (said x) t v) r s w)) ((o ≡ Plain) × (new ≡ line_refused NotStarted w))
@@ -76,11 +76,11 @@ needs_same : {R : Type 0} (Does : Result R StoreFault → State → Type 0) (sai
 needs_same Does said o w new true (r, s, does, is) = is_same w new (tells (λ x t v. now_stands (said x) t v) r s w) is (told_stands said r s w)
 needs_same Does said o w new false (plain, is) = is_same w new (line_refused NotStarted w) is (refused_same NotStarted w)
 
-shut_at : (d : Option OpenDump) (w new : World) → Shuts d w new → Same w new
+shut_at : (d : Option OpenDump) (w new : World) → new ≡ shut_with d w → Same w new
 shut_at (Some dump) w new is = is_same w new _ is (record { lines = refl; bad = refl; over = refl; phase = refl; turn = refl; disc_stops = refl; tape_stops = refl })
 shut_at None w new is = is_same w new _ is (record { lines = refl; bad = refl; over = refl; phase = refl; turn = refl; disc_stops = refl; tape_stops = refl })
 
-shut_same : (w new : World) (b : Bool) → MatchBool b (Shuts w.store.open_dump w new) (new ≡ line_refused NotStarted w) → Same w new
+shut_same : (w new : World) (b : Bool) → new ≡ (if b then shut_with w.store.open_dump w else line_refused NotStarted w) → Same w new
 shut_same w new true shuts = shut_at w.store.open_dump w new shuts
 shut_same w new false is = is_same w new (line_refused NotStarted w) is (refused_same NotStarted w)
 

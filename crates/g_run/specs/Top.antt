@@ -1,5 +1,5 @@
 -- What the top call answers: each status with its cause, and with what stands then.
-use Rattle.std.specs.Prelude.{◌≡◌, ◌<◌, ℕ, List, Option, Some, None, length}
+use Rattle.std.specs.Prelude.{◌≡◌, ◌<◌, ℕ, Bool, true, false, List, Option, Some, None, length}
 use Rattle.std.specs.Fn.{Shared}
 use denote.Ref.{Bor}
 use Rattle.g_base.specs.Counts.{Rose}
@@ -20,54 +20,75 @@ use Rattle.g_run.specs.Demo.{PutsDemo}
 use Rattle.g_run.specs.declared.status.Status.{Status}
 use Rattle.g_run.specs.declared.status.Status.TheVariants.{Done, Words, BadScript, ScriptFault, OutputFault, NoMemory, TooLong}
 
+-- WHAT A STATUS SAYS of a call
+pub record Meaning : Type 0 where
+  -- its number, the exit status of the program
+  pub code : ℕ
+  -- it comes for words that ask for nothing; for the word `run`; for a script that is too long
+  pub of_words : Bool
+  pub of_run : Bool
+  pub of_long : Bool
+  -- it comes with known words, a script that isn't too long, and no fault of source or sink
+  pub complete : Bool
+  -- the script was read whole and done to its end, or to its first bad line
+  pub through : Bool
+  -- the count of faults of the source rose; that of the sink
+  pub source_rose : Bool
+  pub sink_rose : Bool
+
+abbrev pub meaning : Status → Meaning
+meaning Done = record { code = 0; of_words = false; of_run = true; of_long = false; complete = true; through = true; source_rose = false; sink_rose = false }
+meaning Words = record { code = 1; of_words = true; of_run = false; of_long = false; complete = false; through = false; source_rose = false; sink_rose = false }
+meaning (BadScript line) = record { code = 2; of_words = false; of_run = true; of_long = false; complete = true; through = true; source_rose = false; sink_rose = false }
+meaning ScriptFault = record { code = 3; of_words = false; of_run = true; of_long = true; complete = false; through = false; source_rose = true; sink_rose = false }
+meaning OutputFault = record { code = 4; of_words = true; of_run = true; of_long = false; complete = false; through = false; source_rose = false; sink_rose = true }
+meaning NoMemory = record { code = 5; of_words = true; of_run = true; of_long = true; complete = true; through = false; source_rose = false; sink_rose = false }
+meaning TooLong = record { code = 6; of_words = false; of_run = true; of_long = true; complete = false; through = false; source_rose = false; sink_rose = false }
+
 abbrev pub code_of : Status → ℕ
-code_of Done = 0
-code_of Words = 1
-code_of (BadScript line) = 2
-code_of ScriptFault = 3
-code_of OutputFault = 4
-code_of NoMemory = 5
-code_of TooLong = 6
+code_of status = (meaning status).code
 
--- the source's count of faults moves with its own status alone
+abbrev pub Holds : Bool → Type 0
+Holds true = Unit {0}
+Holds false = ⊥
+
+-- a count rose, or stands still
+abbrev pub RisesIf : Bool → ℕ → ℕ → Type 0
+RisesIf true old new = Rose old new
+RisesIf false old new = new ≡ old
+
+-- the counts of faults of source and sink move with the statuses of their own alone
 abbrev pub SourceCause : Status → ℕ → ℕ → Type 0
-SourceCause ScriptFault old new = Rose old new
-SourceCause Done old new = new ≡ old
-SourceCause Words old new = new ≡ old
-SourceCause (BadScript line) old new = new ≡ old
-SourceCause OutputFault old new = new ≡ old
-SourceCause NoMemory old new = new ≡ old
-SourceCause TooLong old new = new ≡ old
+SourceCause status old new = RisesIf (meaning status).source_rose old new
 
--- and so does the sink's
 abbrev pub SinkCause : Status → ℕ → ℕ → Type 0
-SinkCause OutputFault old new = Rose old new
-SinkCause Done old new = new ≡ old
-SinkCause Words old new = new ≡ old
-SinkCause (BadScript line) old new = new ≡ old
-SinkCause ScriptFault old new = new ≡ old
-SinkCause NoMemory old new = new ≡ old
-SinkCause TooLong old new = new ≡ old
+SinkCause status old new = RisesIf (meaning status).sink_rose old new
 
--- the statuses of a script that was read whole and done to its end, or to its first bad line
 abbrev pub IsThrough : Status → Type 0
-IsThrough Done = Unit {0}
-IsThrough (BadScript line) = Unit {0}
-IsThrough Words = ⊥
-IsThrough ScriptFault = ⊥
-IsThrough OutputFault = ⊥
-IsThrough NoMemory = ⊥
-IsThrough TooLong = ⊥
+IsThrough status = Holds (meaning status).through
+
+abbrev pub IsOfWords : Status → Type 0
+IsOfWords status = Holds (meaning status).of_words
+
+abbrev pub IsOfRun : Status → Type 0
+IsOfRun status = Holds (meaning status).of_run
+
+abbrev pub IsNotDone : Status → Type 0
+IsNotDone status = Holds (meaning status).of_long
+
+abbrev pub IsComplete : Status → Type 0
+IsComplete status = Holds (meaning status).complete
+
+-- memory was wanting; so it never is for words that ask for nothing
+abbrev pub IsForMemory : Status → Type 0
+IsForMemory status = status ≡ NoMemory
 
 -- with the statuses at which nothing was done both devices are as they were, and no more was put than the line of unknown words
 abbrev pub IsQuiet : Status → Devices → Devices → Option (List ℕ) → Option (List ℕ) → Type 0
 IsQuiet Words old new before after = (new ≡ old) × (after ≡ with_more before words_line)
 IsQuiet ScriptFault old new before after = (new ≡ old) × (after ≡ before)
 IsQuiet TooLong old new before after = (new ≡ old) × (after ≡ before)
-IsQuiet Done old new before after = Unit {0}
-IsQuiet (BadScript line) old new before after = Unit {0}
-IsQuiet OutputFault old new before after = Unit {0}
-IsQuiet NoMemory old new before after = Unit {0}
+IsQuiet status old new before after = Unit {0}
 
 module _ {F U : Type 0} (tariffs : Shared F (Bor Usage × Unit {0}) Charge) (tariff : F) (rules : Shared U (Bor Standing × Unit {0}) ℕ) (rule : U) where
   -- WHAT STANDS WITH EACH STATUS of a run, where the source told that it had these bytes left.
@@ -78,8 +99,7 @@ module _ {F U : Type 0} (tariffs : Shared F (Bor Usage × Unit {0}) Charge) (tar
   EndsAs OutputFault left old new before after = IsCut tariffs tariff rules rule left old new before after
   EndsAs NoMemory left old new before after = IsCut tariffs tariff rules rule left old new before after
   EndsAs TooLong left old new before after = 16777216 < length left
-  EndsAs Words left old new before after = Unit {0}
-  EndsAs ScriptFault left old new before after = Unit {0}
+  EndsAs status left old new before after = Unit {0}
 
   -- A script that was read, done to its end or as far as a failure lets it
   abbrev pub EndsBy : Option Failure → List Timed → Option ℕ → Devices → Devices → Option (List ℕ) → Option (List ℕ) → Type 0
@@ -91,10 +111,7 @@ module _ {F U : Type 0} (tariffs : Shared F (Bor Usage × Unit {0}) Charge) (tar
   EndsDemo Done demo before after = PutsDemo tariffs tariff rules rule None demo before after
   EndsDemo OutputFault demo before after = PutsDemo tariffs tariff rules rule (Some failures.Output) demo before after
   EndsDemo NoMemory demo before after = PutsDemo tariffs tariff rules rule (Some failures.Memory) demo before after
-  EndsDemo Words demo before after = ⊥
-  EndsDemo (BadScript line) demo before after = ⊥
-  EndsDemo ScriptFault demo before after = ⊥
-  EndsDemo TooLong demo before after = ⊥
+  EndsDemo status demo before after = ⊥
 
 -- TO BEGIN ANEW: the first line of the script beside MOUNT, UNMOUNT and STOP is a FORMAT, the devices tell and no reel holds anything, whatever
 -- the disc holds; and the disc counts no failed read and no failed write in the run
@@ -105,50 +122,6 @@ pub record BeginsAnew (left : List ℕ) (old new : Devices) : Type 0 where
   pub begin : BeginAnew lines
   pub blank : AreBlank old
   pub well : NoDiscFault old new
-
--- a script that is too long gives no other statuses than these
-abbrev pub IsNotDone : Status → Type 0
-IsNotDone TooLong = Unit {0}
-IsNotDone ScriptFault = Unit {0}
-IsNotDone NoMemory = Unit {0}
-IsNotDone Done = ⊥
-IsNotDone Words = ⊥
-IsNotDone (BadScript line) = ⊥
-IsNotDone OutputFault = ⊥
-
--- words that ask for nothing give no other statuses than these
-abbrev pub IsOfWords : Status → Type 0
-IsOfWords Words = Unit {0}
-IsOfWords OutputFault = Unit {0}
-IsOfWords NoMemory = Unit {0}
-IsOfWords Done = ⊥
-IsOfWords (BadScript line) = ⊥
-IsOfWords ScriptFault = ⊥
-IsOfWords TooLong = ⊥
-
--- memory was wanting; so it never is for words that ask for nothing
-abbrev pub IsForMemory : Status → Type 0
-IsForMemory status = status ≡ NoMemory
-
--- the word `run` gives any status but that of unknown words
-abbrev pub IsOfRun : Status → Type 0
-IsOfRun Words = ⊥
-IsOfRun Done = Unit {0}
-IsOfRun (BadScript line) = Unit {0}
-IsOfRun ScriptFault = Unit {0}
-IsOfRun OutputFault = Unit {0}
-IsOfRun NoMemory = Unit {0}
-IsOfRun TooLong = Unit {0}
-
--- with known words, a script that isn't too long, and no fault of source or sink
-abbrev pub IsComplete : Status → Type 0
-IsComplete Done = Unit {0}
-IsComplete (BadScript line) = Unit {0}
-IsComplete NoMemory = Unit {0}
-IsComplete Words = ⊥
-IsComplete ScriptFault = ⊥
-IsComplete OutputFault = ⊥
-IsComplete TooLong = ⊥
 
 -- the status of a run behind its parts
 abbrev pub status_of : Option ℕ → Option Failure → Status

@@ -30,7 +30,7 @@ use Rattle.g_script.specs.declared.operator.Operator.TheVariants as line
 use Rattle.g_run_model.specs.World.{World, start, shows}
 use Rattle.g_run_model.specs.Texts.{started_text, tape_text, dump_text, processed_text}
 use Rattle.g_run_model.specs.Events.{IsTold, IsOpening, IsMigration, IsProcessing}
-use Rattle.g_run_model.specs.Lines.{LineGives, is_process, tells, up_with, now_stands, line_refused, Shuts}
+use Rattle.g_run_model.specs.Lines.{LineGives, is_process, tells, up_with, now_stands, line_refused, shut_with}
 use Rattle.g_run_model.specs.Moves.{Move, TakeLine, Dumped, Begin, Answered, TurnOver, Ticked, Over, Step, Run}
 use Rattle.g_run_model.specs.Laws.{DumpedIsOpened, OpenedIn, ProcessedIn}
 use Rattle.g_run_model.proofs.StepLemmas.{tree_held}
@@ -182,16 +182,16 @@ goes w new v s is same keeps = moved w.store s new.store keeps (ap (λ (x : Worl
 
 rises_dumps : {R : Type 0} (Does : State → Outcome → Result R StoreFault → State → Type 0) (said : R → List ℕ) (o : Outcome) (w new : World)
     → ((r : Result R StoreFault) (s : State) → Does w.store o r s → Keeps w.store s) → (b : Bool)
-    → MatchBool b ((o ≡ Plain) × (new ≡ line_refused Running w)) ((r : Result R StoreFault) × (s : State) × Does w.store o r s × IsTold o r × (new ≡ tells (λ x t v. up_with (said x) t v) r s w))
+    → MatchBool (not b) ((r : Result R StoreFault) × (s : State) × (Does w.store o r s × IsTold o r) × (new ≡ tells (λ x t v. up_with (said x) t v) r s w)) ((o ≡ Plain) × (new ≡ line_refused Running w))
     → Keeps w.store new.store
 rises_dumps Does said o w new keeps true (plain, is) = stays w new (line_refused Running w) is refl
-rises_dumps Does said o w new keeps false (r, s, does, says_so, is) = goes w new (tells (λ x t v. up_with (said x) t v) r s w) s is (told_up said r s w) (keeps r s does)
+rises_dumps Does said o w new keeps false (r, s, (does, says_so), is) = goes w new (tells (λ x t v. up_with (said x) t v) r s w) s is (told_up said r s w) (keeps r s does)
 
-shut_at : (d : Option OpenDump) (w new : World) → Shuts d w new → Keeps w.store new.store
+shut_at : (d : Option OpenDump) (w new : World) → new ≡ shut_with d w → Keeps w.store new.store
 shut_at (Some dump) w new is = stays w new _ is refl
 shut_at None w new is = gone_down w.store w.store new.store refl (ap (λ (x : World). x.store) is)
 
-shut_dumps : (w new : World) (b : Bool) → MatchBool b (Shuts w.store.open_dump w new) (new ≡ line_refused NotStarted w) → Keeps w.store new.store
+shut_dumps : (w new : World) (b : Bool) → new ≡ (if b then shut_with w.store.open_dump w else line_refused NotStarted w) → Keeps w.store new.store
 shut_dumps w new true shuts = shut_at w.store.open_dump w new shuts
 shut_dumps w new false is = stays w new (line_refused NotStarted w) is refl
 

@@ -4,7 +4,7 @@ use Rattle.std.proofs.lemmas.Bool.{false≢true}
 use Rattle.std.proofs.lemmas.List.Elements.{recursion_from_All}
 use Rattle.std.proofs.lemmas.List.Sums.{sum_by-cons}
 use Rattle.std.specs.List.{AllByRecursion}
-use Rattle.std.specs.Prelude.{MatchBool, Result, Ok, Err}
+use Rattle.std.specs.Prelude.{not, MatchBool, Result, Ok, Err}
 use Rattle.std.specs.Fmt.{decimal}
 use Rattle.std.specs.Fn.{Shared}
 use denote.Ref.{Bor}
@@ -31,7 +31,7 @@ use Rattle.g_store_model.specs.Rising.{FormatStep, RestoreStep, StartStep}
 use Rattle.g_store_model.specs.State.{Holding, OpenDump, State}
 use Rattle.g_run_model.specs.Events.{IsMigration, IsOpening, IsTold, IsProcessing}
 use Rattle.g_run_model.specs.Laws.{IsTimed, RunsEnd, charged_in, free_in, is_mount, lines_done}
-use Rattle.g_run_model.specs.Lines.{LineGives, Shuts, at_terminal, changed_at, job_line, job_refusal, line_refused, logged_in, login_refusal, now_stands, open_at, sits_at, taken_in, tells, terminal_job, up_with}
+use Rattle.g_run_model.specs.Lines.{LineGives, shut_with, at_terminal, changed_at, job_line, job_refusal, line_refused, logged_in, login_refusal, now_stands, open_at, sits_at, taken_in, tells, terminal_job, up_with}
 use Rattle.g_job.specs.Terminal.{with_stack}
 use Rattle.g_macro.specs.Holding.{finished, with_typed}
 use Rattle.g_macro.specs.Levels.{Stack}
@@ -96,10 +96,10 @@ module _ (n : ℕ) (u q : Bool) (a : ℕ) where
 
     rises_keeps : {R : Type 0} (Does : State → Outcome → Result R StoreFault → State → Type 0) (said : R → List ℕ) (o : Outcome) (w new : World) (b : Bool) → w.turn ≡ None
         → ((r : Result R StoreFault) (s : State) → Does w.store o r s → NoMount w.store s) → Keeps f m c rest w
-        → MatchBool b ((o ≡ Plain) × (new ≡ line_refused Running w)) ((r : Result R StoreFault) × (s : State) × Does w.store o r s × IsTold o r × (new ≡ tells (λ x t v. up_with (said x) t v) r s w))
+        → MatchBool (not b) ((r : Result R StoreFault) × (s : State) × (Does w.store o r s × IsTold o r) × (new ≡ tells (λ x t v. up_with (said x) t v) r s w)) ((o ≡ Plain) × (new ≡ line_refused Running w))
         → Keeps f m c rest new
     rises_keeps Does said o w new true idle fewer h (plain, is) = keeps_is new (line_refused Running w) is h
-    rises_keeps Does said o w new false idle fewer h (r, s, does, so, is) = keeps_is new (tells (λ x t v. up_with (said x) t v) r s w) is (up_keeps said r s w idle (fewer r s does) h)
+    rises_keeps Does said o w new false idle fewer h (r, s, (does, so), is) = keeps_is new (tells (λ x t v. up_with (said x) t v) r s w) is (up_keeps said r s w idle (fewer r s does) h)
 
     needs_keeps : {R : Type 0} (Does : Result R StoreFault → State → Type 0) (said : R → List ℕ) (o : Outcome) (w new : World) (b : Bool) → w.turn ≡ None
         → ((r : Result R StoreFault) (s : State) → Does r s → NoMount w.store s) → Keeps f m c rest w
@@ -108,11 +108,11 @@ module _ (n : ℕ) (u q : Bool) (a : ℕ) where
     needs_keeps Does said o w new true idle fewer h (r, s, does, is) = keeps_is new (tells (λ x t v. now_stands (said x) t v) r s w) is (stands_keeps said r s w idle (fewer r s does) h)
     needs_keeps Does said o w new false idle fewer h (plain, is) = keeps_is new (line_refused NotStarted w) is h
 
-    shuts_keeps : (d : Option OpenDump) (w new : World) → w.turn ≡ None → Keeps f m c rest w → Shuts d w new → Keeps f m c rest new
+    shuts_keeps : (d : Option OpenDump) (w new : World) → w.turn ≡ None → Keeps f m c rest w → new ≡ shut_with d w → Keeps f m c rest new
     shuts_keeps (Some dump) w new idle h is = keeps_is new _ is h
     shuts_keeps None w new idle h is = keeps_is new _ is (taken_gone n u q a f m c w.jobs w.next_job w.store _ w.turn w.turn idle h.0, h.1)
 
-    shut_keeps : (w new : World) (b : Bool) → w.turn ≡ None → Keeps f m c rest w → MatchBool b (Shuts w.store.open_dump w new) (new ≡ line_refused NotStarted w) → Keeps f m c rest new
+    shut_keeps : (w new : World) (b : Bool) → w.turn ≡ None → Keeps f m c rest w → new ≡ (if b then shut_with w.store.open_dump w else line_refused NotStarted w) → Keeps f m c rest new
     shut_keeps w new true idle h shuts = shuts_keeps w.store.open_dump w new idle h shuts
     shut_keeps w new false idle h is = keeps_is new (line_refused NotStarted w) is h
 

@@ -34,7 +34,7 @@ use Rattle.g_store_model.specs.Rising.{FormatStep, RestoreStep, StartStep}
 use Rattle.g_store_model.specs.State.{OpenDump, State}
 use Rattle.g_run_model.specs.Events.{IsCall, IsDumpStep, IsMigration, IsOpening, IsTold, IsProcessing}
 use Rattle.g_run_model.specs.Laws.{HasDumped, IsPlain, IsTimed, OneText, charges_of}
-use Rattle.g_run_model.specs.Lines.{LineGives, Shuts, line_refused, now_stands, tells, up_with}
+use Rattle.g_run_model.specs.Lines.{LineGives, shut_with, line_refused, now_stands, tells, up_with}
 use Rattle.g_run_model.specs.Moves.{Answered, Begin, Dumped, Move, Over, Run, Step, TakeLine, Ticked, TurnOver, turn_told}
 use Rattle.g_run_model.specs.Texts.{dump_text, started_text, tape_text, processed_text}
 use Rattle.g_run_model.specs.World.{Between, Phase, Stepped, Turned, World, able, can_step, closed, has_none, is_dumping, is_due, start, shows}
@@ -197,10 +197,10 @@ same_stored : (w new v : World) → new ≡ v → v.store ≡ w.store → KeepsD
 same_stored w new v is same = stored w.store w.store new.store (ap (λ (x : World). x.store) is ∙ same) (λ has. has)
 
 rises_stored : {R : Type 0} (Does : State → Outcome → Result R StoreFault → State → Type 0) (said : R → List ℕ) (o : Outcome) (w new : World) → ((r : Result R StoreFault) (s : State) → Does w.store o r s → KeepsDumps w.store s) → (b : Bool)
-    → MatchBool b ((o ≡ Plain) × (new ≡ line_refused Running w)) ((r : Result R StoreFault) × (s : State) × Does w.store o r s × IsTold o r × (new ≡ tells (λ x t v. up_with (said x) t v) r s w))
+    → MatchBool (not b) ((r : Result R StoreFault) × (s : State) × (Does w.store o r s × IsTold o r) × (new ≡ tells (λ x t v. up_with (said x) t v) r s w)) ((o ≡ Plain) × (new ≡ line_refused Running w))
     → KeepsDumps w.store new.store
 rises_stored Does said o w new keeps true (plain, is) = same_stored w new (line_refused Running w) is refl
-rises_stored Does said o w new keeps false (r, s, does, so, is) = stored w.store s new.store (ap (λ (x : World). x.store) is ∙ told_up said r s w) (keeps r s does)
+rises_stored Does said o w new keeps false (r, s, (does, so), is) = stored w.store s new.store (ap (λ (x : World). x.store) is ∙ told_up said r s w) (keeps r s does)
 
 needs_stored : {R : Type 0} (Does : Result R StoreFault → State → Type 0) (said : R → List ℕ) (o : Outcome) (w new : World) → ((r : Result R StoreFault) (s : State) → Does r s → KeepsDumps w.store s) → (b : Bool)
     → MatchBool b ((r : Result R StoreFault) × (s : State) × Does r s × (new ≡ tells (λ x t v. now_stands (said x) t v) r s w)) ((o ≡ Plain) × (new ≡ line_refused NotStarted w))
@@ -208,11 +208,11 @@ needs_stored : {R : Type 0} (Does : Result R StoreFault → State → Type 0) (s
 needs_stored Does said o w new keeps true (r, s, does, is) = stored w.store s new.store (ap (λ (x : World). x.store) is ∙ told_stands said r s w) (keeps r s does)
 needs_stored Does said o w new keeps false (plain, is) = same_stored w new (line_refused NotStarted w) is refl
 
-shuts_stored : (d : Option OpenDump) (w new : World) → Shuts d w new → KeepsDumps w.store new.store
+shuts_stored : (d : Option OpenDump) (w new : World) → new ≡ shut_with d w → KeepsDumps w.store new.store
 shuts_stored (Some dump) w new is = same_stored w new _ is refl
 shuts_stored None w new is = stored w.store _ new.store (ap (λ (x : World). x.store) is) (λ has. has)
 
-shut_stored : (w new : World) (b : Bool) → MatchBool b (Shuts w.store.open_dump w new) (new ≡ line_refused NotStarted w) → KeepsDumps w.store new.store
+shut_stored : (w new : World) (b : Bool) → new ≡ (if b then shut_with w.store.open_dump w else line_refused NotStarted w) → KeepsDumps w.store new.store
 shut_stored w new true shuts = shuts_stored w.store.open_dump w new shuts
 shut_stored w new false is = same_stored w new (line_refused NotStarted w) is refl
 

@@ -25,7 +25,7 @@ use Rattle.g_script.specs.declared.operator.Timed.{Timed}
 use Rattle.g_run_model.specs.World.{World, Between, Stepped, Turned, start, able, can_step, is_dumping, has_none, closed, shows}
 use Rattle.g_run_model.specs.Texts.{started_text, tape_text, dump_text, processed_text}
 use Rattle.g_run_model.specs.Events.{IsTold, IsOpening, IsMigration, IsProcessing}
-use Rattle.g_run_model.specs.Lines.{LineGives, tells, up_with, now_stands, job_line, taken_in, job_refusal, line_refused, Shuts, at_terminal, changed_at, logged_in, login_refusal, open_at}
+use Rattle.g_run_model.specs.Lines.{LineGives, tells, up_with, now_stands, job_line, taken_in, job_refusal, line_refused, shut_with, at_terminal, changed_at, logged_in, login_refusal, open_at}
 use Rattle.g_job.specs.Terminal.{logged_out, typed_to}
 use Rattle.g_run_model.specs.Moves.{Move, TakeLine, Dumped, Begin, Answered, TurnOver, Ticked, Over, Step, Run, dump_told, turn_told}
 use Rattle.g_run_model.specs.Laws.{NothingBehindOver}
@@ -61,10 +61,10 @@ over_is : (w new v : World) → new ≡ v → v.over ≡ w.over → new.over ≡
 over_is w new v is same = ap (λ (x : World). x.over) is ∙ same
 
 rises_over : {R : Type 0} (Does : State → Outcome → Result R StoreFault → State → Type 0) (said : R → List ℕ) (o : Outcome) (w new : World) (b : Bool)
-    → MatchBool b ((o ≡ Plain) × (new ≡ line_refused Running w)) ((r : Result R StoreFault) × (s : State) × Does w.store o r s × IsTold o r × (new ≡ tells (λ x t v. up_with (said x) t v) r s w))
+    → MatchBool (not b) ((r : Result R StoreFault) × (s : State) × (Does w.store o r s × IsTold o r) × (new ≡ tells (λ x t v. up_with (said x) t v) r s w)) ((o ≡ Plain) × (new ≡ line_refused Running w))
     → new.over ≡ w.over
 rises_over Does said o w new true (plain, is) = over_is w new (line_refused Running w) is refl
-rises_over Does said o w new false (r, s, does, so, is) = over_is w new (tells (λ x t v. up_with (said x) t v) r s w) is (told_up said r s w)
+rises_over Does said o w new false (r, s, (does, so), is) = over_is w new (tells (λ x t v. up_with (said x) t v) r s w) is (told_up said r s w)
 
 needs_over : {R : Type 0} (Does : Result R StoreFault → State → Type 0) (said : R → List ℕ) (o : Outcome) (w new : World) (b : Bool)
     → MatchBool b ((r : Result R StoreFault) × (s : State) × Does r s × (new ≡ tells (λ x t v. now_stands (said x) t v) r s w)) ((o ≡ Plain) × (new ≡ line_refused NotStarted w))
@@ -72,11 +72,11 @@ needs_over : {R : Type 0} (Does : Result R StoreFault → State → Type 0) (sai
 needs_over Does said o w new true (r, s, does, is) = over_is w new (tells (λ x t v. now_stands (said x) t v) r s w) is (told_stands said r s w)
 needs_over Does said o w new false (plain, is) = over_is w new (line_refused NotStarted w) is refl
 
-shut_at : (d : Option OpenDump) (w new : World) → Shuts d w new → new.over ≡ w.over
+shut_at : (d : Option OpenDump) (w new : World) → new ≡ shut_with d w → new.over ≡ w.over
 shut_at (Some dump) w new is = over_is w new _ is refl
 shut_at None w new is = over_is w new _ is refl
 
-shut_over : (w new : World) (b : Bool) → MatchBool b (Shuts w.store.open_dump w new) (new ≡ line_refused NotStarted w) → new.over ≡ w.over
+shut_over : (w new : World) (b : Bool) → new ≡ (if b then shut_with w.store.open_dump w else line_refused NotStarted w) → new.over ≡ w.over
 shut_over w new true shuts = shut_at w.store.open_dump w new shuts
 shut_over w new false is = over_is w new (line_refused NotStarted w) is refl
 

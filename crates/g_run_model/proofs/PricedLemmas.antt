@@ -35,7 +35,7 @@ use Rattle.g_store_model.specs.Rising.{FormatStep, RestoreStep, StartStep}
 use Rattle.g_store_model.specs.State.{OpenDump, State}
 use Rattle.g_run_model.specs.Events.{IsMigration, IsOpening, IsTold, IsProcessing}
 use Rattle.g_run_model.specs.Laws.{AreShort}
-use Rattle.g_run_model.specs.Lines.{LineGives, Shuts, at_terminal, changed_at, job_line, job_refusal, line_refused, logged_in, login_refusal, now_stands, open_at, sits_at, taken_in, tells, terminal_job, up_with}
+use Rattle.g_run_model.specs.Lines.{LineGives, shut_with, at_terminal, changed_at, job_line, job_refusal, line_refused, logged_in, login_refusal, now_stands, open_at, sits_at, taken_in, tells, terminal_job, up_with}
 use Rattle.g_job.specs.Terminal.{with_stack}
 use Rattle.g_macro.specs.Holding.{finished, with_typed}
 use Rattle.g_macro.specs.Levels.{Stack}
@@ -178,20 +178,20 @@ stands_both said (Err Stopped) s w idle short h = (fit_gone w.next_job w.turn id
 stands_both said (Err fault) s w idle short h = (h.0, short)
 
 rises_both : {R : Type 0} (Does : State → Outcome → Result R StoreFault → State → Type 0) (said : R → List ℕ) (o : Outcome) (w new : World) (b : Bool) → w.turn ≡ None → ((r : Result R StoreFault) (s : State) → Does w.store o r s → KeepsShort w.store s) → Both w
-    → MatchBool b ((o ≡ Plain) × (new ≡ line_refused Running w)) ((r : Result R StoreFault) × (s : State) × Does w.store o r s × IsTold o r × (new ≡ tells (λ x t v. up_with (said x) t v) r s w)) → Both new
+    → MatchBool (not b) ((r : Result R StoreFault) × (s : State) × (Does w.store o r s × IsTold o r) × (new ≡ tells (λ x t v. up_with (said x) t v) r s w)) ((o ≡ Plain) × (new ≡ line_refused Running w)) → Both new
 rises_both Does said o w new true idle keeps h (plain, is) = both_is new (line_refused Running w) is h
-rises_both Does said o w new false idle keeps h (r, s, does, so, is) = both_is new (tells (λ x t v. up_with (said x) t v) r s w) is (up_both said r s w idle (keeps r s does h.1) h)
+rises_both Does said o w new false idle keeps h (r, s, (does, so), is) = both_is new (tells (λ x t v. up_with (said x) t v) r s w) is (up_both said r s w idle (keeps r s does h.1) h)
 
 needs_both : {R : Type 0} (Does : Result R StoreFault → State → Type 0) (said : R → List ℕ) (o : Outcome) (w new : World) (b : Bool) → w.turn ≡ None → ((r : Result R StoreFault) (s : State) → Does r s → KeepsShort w.store s) → Both w
     → MatchBool b ((r : Result R StoreFault) × (s : State) × Does r s × (new ≡ tells (λ x t v. now_stands (said x) t v) r s w)) ((o ≡ Plain) × (new ≡ line_refused NotStarted w)) → Both new
 needs_both Does said o w new true idle keeps h (r, s, does, is) = both_is new (tells (λ x t v. now_stands (said x) t v) r s w) is (stands_both said r s w idle (keeps r s does h.1) h)
 needs_both Does said o w new false idle keeps h (plain, is) = both_is new (line_refused NotStarted w) is h
 
-shuts_both : (d : Option OpenDump) (w new : World) → w.turn ≡ None → Both w → Shuts d w new → Both new
+shuts_both : (d : Option OpenDump) (w new : World) → w.turn ≡ None → Both w → new ≡ shut_with d w → Both new
 shuts_both (Some dump) w new idle h is = both_is new _ is h
 shuts_both None w new idle h is = both_is new _ is (fit_gone w.next_job w.turn idle, short_down w.store h.1)
 
-shut_both : (w new : World) (b : Bool) → w.turn ≡ None → Both w → MatchBool b (Shuts w.store.open_dump w new) (new ≡ line_refused NotStarted w) → Both new
+shut_both : (w new : World) (b : Bool) → w.turn ≡ None → Both w → new ≡ (if b then shut_with w.store.open_dump w else line_refused NotStarted w) → Both new
 shut_both w new true idle h shuts = shuts_both w.store.open_dump w new idle h shuts
 shut_both w new false idle h is = both_is new (line_refused NotStarted w) is h
 

@@ -27,7 +27,7 @@ use Rattle.g_store_model.specs.DumpSteps.{Completed, Going, Stepped as DumpStepp
 use Rattle.g_store_model.specs.Rising.{FormatStep, RestoreStep, StartStep}
 use Rattle.g_store_model.specs.State.{OpenDump, State}
 use Rattle.g_run_model.specs.Events.{IsMigration, IsOpening, IsTold, IsProcessing}
-use Rattle.g_run_model.specs.Lines.{LineGives, Shuts, at_terminal, changed_at, job_line, job_refusal, line_refused, logged_in, login_refusal, now_stands, open_at, sits_at, taken_in, tells, terminal_job, up_with}
+use Rattle.g_run_model.specs.Lines.{LineGives, shut_with, at_terminal, changed_at, job_line, job_refusal, line_refused, logged_in, login_refusal, now_stands, open_at, sits_at, taken_in, tells, terminal_job, up_with}
 use Rattle.g_run_model.specs.Moves.{Answered, Begin, Dumped, Move, Over, Run, Step, TakeLine, Ticked, TurnOver, dump_told, turn_told}
 use Rattle.g_run_model.specs.Terminals.{At, GoesTo, IsLastLine, IsOther, Other, Piece, TerminalsPrint, output_at, text_of_pieces}
 use Rattle.g_run_model.specs.Texts.{broken_files, closing, dump_text, job_text, operator_line, put_as, shown, started_text, tape_text, waiting_files, waiting_line, processed_text}
@@ -128,10 +128,10 @@ refused_puts : (fault : StoreFault) (w : World) → AreRising 0 w.jobs w.next_jo
 refused_puts fault w rising = puts_line w (line_refused fault w) w.count (codes "REFUSED " ++ fault_line fault) rising refl refl refl
 
 rises_puts : {R : Type 0} (Does : State → Outcome → Result R StoreFault → State → Type 0) (said : R → List ℕ) (o : Outcome) (w new : World) (b : Bool) → AreRising 0 w.jobs w.next_job
-    → MatchBool b ((o ≡ Plain) × (new ≡ line_refused Running w)) ((r : Result R StoreFault) × (s : State) × Does w.store o r s × IsTold o r × (new ≡ tells (λ x t v. up_with (said x) t v) r s w))
+    → MatchBool (not b) ((r : Result R StoreFault) × (s : State) × (Does w.store o r s × IsTold o r) × (new ≡ tells (λ x t v. up_with (said x) t v) r s w)) ((o ≡ Plain) × (new ≡ line_refused Running w))
     → Puts w new
 rises_puts Does said o w new true rising (plain, is) = puts_is w new _ is (refused_puts Running w rising)
-rises_puts Does said o w new false rising (r, s, does, so, is) = puts_is w new _ is (up_puts said r s w rising)
+rises_puts Does said o w new false rising (r, s, (does, so), is) = puts_is w new _ is (up_puts said r s w rising)
 
 needs_puts : {R : Type 0} (Does : Result R StoreFault → State → Type 0) (said : R → List ℕ) (o : Outcome) (w new : World) (b : Bool) → AreRising 0 w.jobs w.next_job
     → MatchBool b ((r : Result R StoreFault) × (s : State) × Does r s × (new ≡ tells (λ x t v. now_stands (said x) t v) r s w)) ((o ≡ Plain) × (new ≡ line_refused NotStarted w))
@@ -139,11 +139,11 @@ needs_puts : {R : Type 0} (Does : Result R StoreFault → State → Type 0) (sai
 needs_puts Does said o w new true rising (r, s, does, is) = puts_is w new _ is (stands_puts said r s w rising)
 needs_puts Does said o w new false rising (plain, is) = puts_is w new _ is (refused_puts NotStarted w rising)
 
-shuts_puts : (d : Option OpenDump) (w new : World) → AreRising 0 w.jobs w.next_job → Shuts d w new → Puts w new
+shuts_puts : (d : Option OpenDump) (w new : World) → AreRising 0 w.jobs w.next_job → new ≡ shut_with d w → Puts w new
 shuts_puts (Some dump) w new rising is = puts_is w new _ is (refused_puts (DumpOpen dump.number) w rising)
 shuts_puts None w new rising is = puts_is w new _ is (puts_down w _ w.count (codes "SHUT") rising refl refl refl)
 
-shut_puts : (w new : World) (b : Bool) → AreRising 0 w.jobs w.next_job → MatchBool b (Shuts w.store.open_dump w new) (new ≡ line_refused NotStarted w) → Puts w new
+shut_puts : (w new : World) (b : Bool) → AreRising 0 w.jobs w.next_job → new ≡ (if b then shut_with w.store.open_dump w else line_refused NotStarted w) → Puts w new
 shut_puts w new true rising shuts = shuts_puts w.store.open_dump w new rising shuts
 shut_puts w new false rising is = puts_is w new _ is (refused_puts NotStarted w rising)
 

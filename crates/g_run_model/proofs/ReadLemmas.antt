@@ -1,5 +1,5 @@
 -- WHAT A TERMINAL'S JOB READS: at each event its document has just the lines that were typed for it.
-use Rattle.std.proofs.Common.{◌≡◌, ◌⊎◌, ◌<◌, ◌≤◌, ◌+◌, ◌==◌, ◌&&◌, ◌++◌, ℕ, Bool, true, false, List, [], ◌∷◌, filter, length, Option, Some, None, IfSome, is_some, slice_get, Result, Ok, Err, MatchBool, codes, if◌then◌else◌, append_assoc, append-nil, refl, sym, ◌∙◌, ap, subst, inl, inr, eqb-true, ne_eqb, arith}
+use Rattle.std.proofs.Common.{not, ◌≡◌, ◌⊎◌, ◌<◌, ◌≤◌, ◌+◌, ◌==◌, ◌&&◌, ◌++◌, ℕ, Bool, true, false, List, [], ◌∷◌, filter, length, Option, Some, None, IfSome, is_some, slice_get, Result, Ok, Err, MatchBool, codes, if◌then◌else◌, append_assoc, append-nil, refl, sym, ◌∙◌, ap, subst, inl, inr, eqb-true, ne_eqb, arith}
 use Rattle.std.proofs.lemmas.Bool.{false≢true}
 use Rattle.std.proofs.lemmas.Option.{some_pair_parts}
 use Rattle.std.specs.Fmt.{decimal}
@@ -34,7 +34,7 @@ use Rattle.g_store_model.specs.Laws.{AnswersPlainly}
 use Rattle.g_store_model.specs.Rising.{FormatStep, RestoreStep, StartStep}
 use Rattle.g_store_model.specs.State.{OpenDump, State}
 use Rattle.g_run_model.specs.Events.{IsMigration, IsOpening, IsProcessing, IsTold}
-use Rattle.g_run_model.specs.Lines.{LineGives, Shuts, changed_at, job_line, job_refusal, line_refused, logged_in, login_refusal, now_stands, open_at, sits_at, taken_in, tells, terminal_job, up_with}
+use Rattle.g_run_model.specs.Lines.{LineGives, shut_with, changed_at, job_line, job_refusal, line_refused, logged_in, login_refusal, now_stands, open_at, sits_at, taken_in, tells, terminal_job, up_with}
 use Rattle.g_run_model.specs.Moves.{Answered, Begin, Dumped, Move, Over, Run, Step, TakeLine, Ticked, TurnOver, dump_told, turn_told}
 use Rattle.g_run_model.specs.Terminals.{TerminalsRead, is_number, typed, typed_by, typed_line, typed_of}
 use Rattle.g_run_model.specs.Texts.{dump_text, processed_text, started_text, tape_text}
@@ -237,20 +237,20 @@ module _ (so : At) where
   stands_has said (Err fault) s w h = h
 
   rises_has : {R : Type 0} (Does : State → Outcome → Result R StoreFault → State → Type 0) (said : R → List ℕ) (o : Outcome) (w new : World) (b : Bool) → Has so w
-      → MatchBool b ((o ≡ Plain) × (new ≡ line_refused Running w)) ((r : Result R StoreFault) × (s : State) × Does w.store o r s × IsTold o r × (new ≡ tells (λ x t v. up_with (said x) t v) r s w)) → Has so new
+      → MatchBool (not b) ((r : Result R StoreFault) × (s : State) × (Does w.store o r s × IsTold o r) × (new ≡ tells (λ x t v. up_with (said x) t v) r s w)) ((o ≡ Plain) × (new ≡ line_refused Running w)) → Has so new
   rises_has Does said o w new true h (plain, is) = has_is so new (line_refused Running w) is h
-  rises_has Does said o w new false h (r, s, does, told, is) = has_is so new _ is (up_has said r s w h)
+  rises_has Does said o w new false h (r, s, (does, told), is) = has_is so new _ is (up_has said r s w h)
 
   needs_has : {R : Type 0} (Does : Result R StoreFault → State → Type 0) (said : R → List ℕ) (o : Outcome) (w new : World) (b : Bool) → Has so w
       → MatchBool b ((r : Result R StoreFault) × (s : State) × Does r s × (new ≡ tells (λ x t v. now_stands (said x) t v) r s w)) ((o ≡ Plain) × (new ≡ line_refused NotStarted w)) → Has so new
   needs_has Does said o w new true h (r, s, does, is) = has_is so new _ is (stands_has said r s w h)
   needs_has Does said o w new false h (plain, is) = has_is so new (line_refused NotStarted w) is h
 
-  shuts_has : (d : Option OpenDump) (w new : World) → Has so w → Shuts d w new → Has so new
+  shuts_has : (d : Option OpenDump) (w new : World) → Has so w → new ≡ shut_with d w → Has so new
   shuts_has (Some dump) w new h is = has_is so new _ is h
   shuts_has None w new h is = has_is so new _ is (reads_gone so w.jobs w.next_job w.turn w.turn h)
 
-  shut_has : (w new : World) (b : Bool) → Has so w → MatchBool b (Shuts w.store.open_dump w new) (new ≡ line_refused NotStarted w) → Has so new
+  shut_has : (w new : World) (b : Bool) → Has so w → new ≡ (if b then shut_with w.store.open_dump w else line_refused NotStarted w) → Has so new
   shut_has w new true h shuts = shuts_has w.store.open_dump w new h shuts
   shut_has w new false h is = has_is so new (line_refused NotStarted w) is h
 

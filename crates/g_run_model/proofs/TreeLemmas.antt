@@ -1,6 +1,6 @@
 -- What each move does to the tree.
 use Rattle.std.proofs.Common.{◌≡◌, ℕ, List, [], ◌∷◌, Option, Some, None, refl, sym, ◌∙◌, ap, inl, inr}
-use Rattle.std.specs.Prelude.{◌⊎◌, Bool, true, false, Result, Ok, Err, option_map, MatchBool, MatchOption, if◌then◌else◌}
+use Rattle.std.specs.Prelude.{not, ◌⊎◌, Bool, true, false, Result, Ok, Err, option_map, MatchBool, MatchOption, if◌then◌else◌}
 use Rattle.std.specs.Fn.{Shared}
 use denote.Ref.{Bor}
 use Rattle.g_budget.specs.declared.tariff.Usage.{Usage}
@@ -30,7 +30,7 @@ use Rattle.g_monitor.specs.Parts.{full_text}
 use Rattle.g_store_model.specs.Rising.{FormatStep, StartStep, RestoreStep}
 use Rattle.g_run_model.specs.Texts.{started_text, tape_text, dump_text, processed_text}
 use Rattle.g_run_model.specs.Events.{IsTold, IsOpening, IsMigration, IsProcessing}
-use Rattle.g_run_model.specs.Lines.{LineGives, tells, up_with, now_stands, job_line, taken_in, job_refusal, line_refused, Shuts, at_terminal, changed_at, logged_in, login_refusal, open_at}
+use Rattle.g_run_model.specs.Lines.{LineGives, tells, up_with, now_stands, job_line, taken_in, job_refusal, line_refused, shut_with, at_terminal, changed_at, logged_in, login_refusal, open_at}
 use Rattle.g_job.specs.Terminal.{logged_out, typed_to}
 use Rattle.g_run_model.specs.Moves.{Move, TakeLine, Dumped, Begin, Answered, TurnOver, Ticked, Over, dump_told, turn_told}
 use Rattle.g_plain.specs.PlainAnswers.{PlainOrDevice}
@@ -132,10 +132,10 @@ puts what w new t e (inr put) is = inr (is ∙ put ∙ sym (ap (λ (b : Bool). i
 rises_at : {R : Type 0} (Does : State → Outcome → Result R StoreFault → State → Type 0) (said : R → List ℕ) (o : Outcome) (what : Operator) (w new : World)
     → ((r : Result R StoreFault) (s : State) → Does w.store o r s → (tree_in s ≡ tree_in w.store) ⊎ (tree_in s ≡ tree_by_line what w.store))
     → (b : Bool) → w.store.up ≡ b
-    → MatchBool b ((o ≡ Plain) × (new ≡ line_refused Running w)) ((r : Result R StoreFault) × (s : State) × Does w.store o r s × IsTold o r × (new ≡ tells (λ x t v. up_with (said x) t v) r s w))
+    → MatchBool (not b) ((r : Result R StoreFault) × (s : State) × (Does w.store o r s × IsTold o r) × (new ≡ tells (λ x t v. up_with (said x) t v) r s w)) ((o ≡ Plain) × (new ≡ line_refused Running w))
     → LineLeaves what w new
 rises_at Does said o what w new leaves true e (plain, is) = inl (stays w new (line_refused Running w) is refl)
-rises_at Does said o what w new leaves false e (r, s, does, says_so, is) =
+rises_at Does said o what w new leaves false e (r, s, (does, says_so), is) =
     puts what w new (tree_in s) e (leaves r s does) (goes w new (tells (λ x t v. up_with (said x) t v) r s w) s is (told_up said r s w))
 
 needs_at : {R : Type 0} (Does : Result R StoreFault → State → Type 0) (said : R → List ℕ) (o : Outcome) (what : Operator) (w new : World)
@@ -145,11 +145,11 @@ needs_at : {R : Type 0} (Does : Result R StoreFault → State → Type 0) (said 
 needs_at Does said o what w new keeps true (r, s, does, is) = inl (goes w new (tells (λ x t v. now_stands (said x) t v) r s w) s is (told_stands said r s w) ∙ keeps r s does)
 needs_at Does said o what w new keeps false (plain, is) = inl (stays w new (line_refused NotStarted w) is refl)
 
-shut_at : (o : Outcome) (d : Option OpenDump) (w new : World) → Shuts d w new → tree_in new.store ≡ tree_in w.store
+shut_at : (o : Outcome) (d : Option OpenDump) (w new : World) → new ≡ shut_with d w → tree_in new.store ≡ tree_in w.store
 shut_at o (Some dump) w new is = stays w new _ is refl
 shut_at o None w new is = goes w new _ (down w.store) is refl ∙ tree_down w.store
 
-shut_by : (o : Outcome) (w new : World) (b : Bool) → MatchBool b (Shuts w.store.open_dump w new) (new ≡ line_refused NotStarted w) → tree_in new.store ≡ tree_in w.store
+shut_by : (o : Outcome) (w new : World) (b : Bool) → new ≡ (if b then shut_with w.store.open_dump w else line_refused NotStarted w) → tree_in new.store ≡ tree_in w.store
 shut_by o w new true shuts = shut_at o w.store.open_dump w new shuts
 shut_by o w new false is = stays w new (line_refused NotStarted w) is refl
 
@@ -270,10 +270,10 @@ restore_up s (Some fault) o r new low up (err, is) = not_up s new low is up
 rises_up : {R : Type 0} (Does : State → Outcome → Result R StoreFault → State → Type 0) (said : R → List ℕ) (o : Outcome) (w new : World) (t : Option Tree) → new.store.up ≡ true
     → ((r : Result R StoreFault) (s : State) → s.up ≡ true → Does w.store o r s → tree_in s ≡ t)
     → (b : Bool) → w.store.up ≡ b → b ≡ false
-    → MatchBool b ((o ≡ Plain) × (new ≡ line_refused Running w)) ((r : Result R StoreFault) × (s : State) × Does w.store o r s × IsTold o r × (new ≡ tells (λ x t v. up_with (said x) t v) r s w))
+    → MatchBool (not b) ((r : Result R StoreFault) × (s : State) × (Does w.store o r s × IsTold o r) × (new ≡ tells (λ x t v. up_with (said x) t v) r s w)) ((o ≡ Plain) × (new ≡ line_refused Running w))
     → tree_in new.store ≡ t
 rises_up Does said o w new t up leaves true e low gives = absurd (let no : ⊥ = cc in no)
-rises_up Does said o w new t up leaves false e low (r, s, does, says_so, is) =
+rises_up Does said o w new t up leaves false e low (r, s, (does, says_so), is) =
     let at_s : new.store ≡ s = ap (λ (x : World). x.store) is ∙ told_up said r s w in
     ap tree_in at_s ∙ leaves r s (sym (ap (λ (x : State). x.up) at_s) ∙ up) does
 

@@ -21,7 +21,7 @@ use Rattle.g_store_model.specs.State.{Holding, OpenDump, State}
 use Rattle.g_run_model.specs.Accounts.{Opened, account_of, has_account, knows_user, money_left, opened_of, rows_of, settled, time_left, with_new}
 use Rattle.g_run_model.specs.Events.{IsMigration, IsOpening, IsTold, IsProcessing}
 use Rattle.g_run_model.specs.Laws.{HasDumped}
-use Rattle.g_run_model.specs.Lines.{LineGives, Shuts, at_terminal, changed_at, first_text, job_at, job_line, job_refusal, line_refused, logged_in, login_refusal, no_account, now_stands, open_at, taken_in, tells, up_with}
+use Rattle.g_run_model.specs.Lines.{LineGives, shut_with, at_terminal, changed_at, first_text, job_at, job_line, job_refusal, line_refused, logged_in, login_refusal, no_account, now_stands, open_at, taken_in, tells, up_with}
 use Rattle.g_job.specs.Terminal.{logged_out, typed_to}
 use Rattle.g_mop.specs.Seats.{busy_text}
 use Rattle.g_run_model.specs.Moves.{dump_told, turn_told}
@@ -94,11 +94,11 @@ false_true e = absurd (let no : ⊥ = cc in no)
 
 rises_alike : {R : Type 0} (Does : State → Outcome → Result R StoreFault → State → Type 0) (said : R → List ℕ) (w v new other : World) → AreAlike w v
     → ((a b : Result R StoreFault) (s t : State) → Does w.store Plain a s → Does v.store Plain b t → AreSame a b s t) → (up upper : Bool) → up ≡ upper
-    → MatchBool up ((Plain ≡ Plain) × (new ≡ line_refused Running w)) ((r : Result R StoreFault) × (s : State) × Does w.store Plain r s × IsTold Plain r × (new ≡ tells (λ x t y. up_with (said x) t y) r s w))
-    → MatchBool upper ((Plain ≡ Plain) × (other ≡ line_refused Running v)) ((r : Result R StoreFault) × (s : State) × Does v.store Plain r s × IsTold Plain r × (other ≡ tells (λ x t y. up_with (said x) t y) r s v))
+    → MatchBool (not up) ((r : Result R StoreFault) × (s : State) × (Does w.store Plain r s × IsTold Plain r) × (new ≡ tells (λ x t y. up_with (said x) t y) r s w)) ((Plain ≡ Plain) × (new ≡ line_refused Running w))
+    → MatchBool (not upper) ((r : Result R StoreFault) × (s : State) × (Does v.store Plain r s × IsTold Plain r) × (other ≡ tells (λ x t y. up_with (said x) t y) r s v)) ((Plain ≡ Plain) × (other ≡ line_refused Running v))
     → AreAlike new other
 rises_alike Does said w v new other alike does true true e (plain, is) (plain2, is2) = refused_alike Running w v new other alike is is2
-rises_alike Does said w v new other alike does false false e (a, s, one, so, is) (b, t, two, so2, is2) = ups_alike said w v new other alike a b s t (does a b s t one two) is is2
+rises_alike Does said w v new other alike does false false e (a, s, (one, so), is) (b, t, (two, so2), is2) = ups_alike said w v new other alike a b s t (does a b s t one two) is is2
 rises_alike Does said w v new other alike does true false e one two = true_false e
 rises_alike Does said w v new other alike does false true e one two = false_true e
 
@@ -122,7 +122,7 @@ down_alike w v alike =
 one_open : (d e : OpenDump) → (let one : Option OpenDump = Some d in one ≡ Some e) → d ≡ e
 one_open d e is = cc
 
-shuts_alike : (d e : Option OpenDump) (w v new other : World) → AreAlike w v → option_map bare_open d ≡ option_map bare_open e → Shuts d w new → Shuts e v other → AreAlike new other
+shuts_alike : (d e : Option OpenDump) (w v new other : World) → AreAlike w v → option_map bare_open d ≡ option_map bare_open e → new ≡ shut_with d w → other ≡ shut_with e v → AreAlike new other
 shuts_alike (Some d) (Some e) w v new other alike same is is2 =
     ap bare_world is ∙ ap (λ (n : ℕ). line_refused (DumpOpen n) (bare_world w)) (ap (λ (x : OpenDump). x.number) (one_open (bare_open d) (bare_open e) same))
     ∙ ap (λ (x : World). line_refused (DumpOpen e.number) x) alike ∙ sym (ap bare_world is2)
@@ -130,8 +130,8 @@ shuts_alike None None w v new other alike same is is2 = ap bare_world is ∙ dow
 shuts_alike (Some d) None w v new other alike same is is2 = absurd (let no : ⊥ = cc in no)
 shuts_alike None (Some e) w v new other alike same is is2 = absurd (let no : ⊥ = cc in no)
 
-shut_alike : (w v new other : World) → AreAlike w v → (up upper : Bool) → up ≡ upper → MatchBool up (Shuts w.store.open_dump w new) (new ≡ line_refused NotStarted w)
-    → MatchBool upper (Shuts v.store.open_dump v other) (other ≡ line_refused NotStarted v) → AreAlike new other
+shut_alike : (w v new other : World) → AreAlike w v → (up upper : Bool) → up ≡ upper → new ≡ (if up then shut_with w.store.open_dump w else line_refused NotStarted w)
+    → other ≡ (if upper then shut_with v.store.open_dump v else line_refused NotStarted v) → AreAlike new other
 shut_alike w v new other alike true true e one two = shuts_alike w.store.open_dump v.store.open_dump w v new other alike (ap (λ (x : World). x.store.open_dump) alike) one two
 shut_alike w v new other alike false false e is is2 = refused_alike NotStarted w v new other alike is is2
 shut_alike w v new other alike true false e one two = true_false e

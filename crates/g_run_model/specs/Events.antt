@@ -13,6 +13,7 @@ use Rattle.g_store_model.specs.DumpSteps.{Stepped}
 use Rattle.g_store_model.specs.DumpSteps.{MountStep, UnmountStep, OpenStep, DumpStep, MigrateStep}
 use Rattle.g_store_model.specs.CallStep.{CallStep}
 use Rattle.g_store_model.specs.Process.{ProcessStep}
+use Rattle.g_store_model.specs.Rising.{FormatStep, StartStep, RestoreStep}
 
 -- An outcome is told by the answer: a read that failed by its refusal, a write that failed by a stop. So no event has an
 -- outcome that it didn't tell.
@@ -39,6 +40,16 @@ IsProcessing s serial o r new = (k : Holding) × (s.holding ≡ Some k) × Proce
 -- no user is the caller of MIGRATE: the path has to name one
 abbrev pub IsMigration : State → Path → Outcome → Result Full StoreFault → State → Type 0
 IsMigration s path o r new = (k : Holding) × (s.holding ≡ Some k) × MigrateStep s k path.user (input_name k.tree [] path) o r new × IsTold o r
+
+-- the three that bring up a system that is down
+abbrev pub IsFormat : State → Outcome → Result (Unit {0}) StoreFault → State → Type 0
+IsFormat s o r new = FormatStep s o r new × IsTold o r
+
+abbrev pub IsStart : State → Outcome → Result (Option ℕ) StoreFault → State → Type 0
+IsStart s o r new = StartStep s o r new × IsTold o r
+
+abbrev pub IsRestore : State → Outcome → Result ℕ StoreFault → State → Type 0
+IsRestore s o r new = RestoreStep s o r new × IsTold o r
 
 -- reels are mounted and unmounted without a read or a write
 abbrev pub IsMounting : State → ℕ → Outcome → Result (Unit {0}) StoreFault → State → Type 0

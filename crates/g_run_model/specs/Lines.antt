@@ -11,10 +11,8 @@ use Rattle.g_job.specs.Terminal.{held, logged_out, seated, typed_to}
 use Rattle.g_mop.specs.Seats.{busy_text, none_text}
 use Rattle.g_mop.specs.TerminalLines.{shown_at, terminal_name}
 use Rattle.g_store_model.specs.State.{State, OpenDump}
-use Rattle.g_store_model.specs.CallStep.{Outcome, Plain}
-use Rattle.g_store_model.specs.Rising.{FormatStep, StartStep, RestoreStep}
-use Rattle.g_store_model.specs.CallStep.{down}
-use Rattle.g_run_model.specs.Events.{IsTold, IsMounting, IsUnmounting, IsOpening, IsProcessing, IsMigration}
+use Rattle.g_store_model.specs.CallStep.{Outcome, Plain, down}
+use Rattle.g_run_model.specs.Events.{IsFormat, IsStart, IsRestore, IsMounting, IsUnmounting, IsOpening, IsProcessing, IsMigration}
 use Rattle.g_script.specs.declared.operator.Operator.{Operator}
 use Rattle.g_script.specs.declared.operator.Operator.TheVariants as line
 use Rattle.g_run_model.specs.Accounts.{Opened, with_new, knows_user, account_of, time_left, money_left}
@@ -133,45 +131,36 @@ abbrev pub at_terminal : ℕ → (JobState → JobState) → World → World
 at_terminal t change w = changed_at t change (open_at t w.jobs) w
 
 -- SHUT: not while a dump is open
-abbrev pub Shuts : Option OpenDump → World → World → Type 0
-Shuts (Some dump) w new = new ≡ line_refused (DumpOpen dump.number) w
-Shuts None w new = new ≡ goes_down (codes "SHUT") (down w.store) w
+abbrev pub shut_with : Option OpenDump → World → World
+shut_with (Some dump) w = line_refused (DumpOpen dump.number) w
+shut_with None w = goes_down (codes "SHUT") (down w.store) w
 
 module _ (outcome : Outcome) where
-  -- a line that brings the system up: where it is up, it is refused; where it is down, it does its step
-  abbrev pub Rises : {R : Type 0} → (State → Outcome → Result R StoreFault → State → Type 0) → (R → List ℕ) → World → World → Type 0
-  Rises {R = R} Does said w new =
-      MatchBool (is_up w)
-      ((outcome ≡ Plain) × (new ≡ line_refused Running w))
-      ((r : Result R StoreFault) × (s : State) × Does w.store outcome r s × IsTold outcome r × (new ≡ tells (λ x t v. up_with (said x) t v) r s w))
+  -- A LINE THAT ASKS THE STORE FOR AN EVENT: while it may, the event is done, and told by what it gave; else the line is refused.
+  abbrev pub Asks : {R : Type 0} → Bool → StoreFault → (Result R StoreFault → State → Type 0) → (R → State → World → World) → World → World → Type 0
+  Asks {R = R} may fault Does told w new =
+      MatchBool may
+      ((r : Result R StoreFault) × (s : State) × Does r s × (new ≡ tells told r s w))
+      ((outcome ≡ Plain) × (new ≡ line_refused fault w))
 
-  -- a line that needs a system that is up: where it is up, it does its step; where it is down, it is refused
-  abbrev pub NeedsUp : {R : Type 0} → (Result R StoreFault → State → Type 0) → (R → List ℕ) → World → World → Type 0
-  NeedsUp {R = R} Does said w new =
-      MatchBool (is_up w)
-      ((r : Result R StoreFault) × (s : State) × Does r s × (new ≡ tells (λ x t v. now_stands (said x) t v) r s w))
-      ((outcome ≡ Plain) × (new ≡ line_refused NotStarted w))
+  -- a line that asks it for nothing, and has the outcome Plain: while it may, this comes of it; else it is refused
+  abbrev pub Gives : Bool → StoreFault → World → World → World → Type 0
+  Gives may fault done w new = (outcome ≡ Plain) × (new ≡ (if may then done else line_refused fault w))
 
-  -- reels are mounted and unmounted whether the system is up or down
-  abbrev pub Always : (Result (Unit {0}) StoreFault → State → Type 0) → List ℕ → World → World → Type 0
-  Always Does text w new = (r : Result (Unit {0}) StoreFault) × (s : State) × Does r s × (new ≡ tells (λ x t v. now_stands text t v) r s w)
-
-  -- WHAT A LINE GIVES. A line that asks the store nothing has the outcome Plain.
+  -- WHAT A LINE GIVES: while it may be asked, or refused so; what is asked of the store; what comes of it.
   abbrev pub LineGives : Operator → World → World → Type 0
-  LineGives line.Format w new = Rises FormatStep (λ r. codes "FORMATTED") w new
-  LineGives line.Start w new = Rises StartStep started_text w new
-  LineGives line.Restore w new = Rises RestoreStep (λ n. codes "RESTORED FROM DUMP " ++ decimal n) w new
-  LineGives line.Shut w new = (outcome ≡ Plain) × MatchBool (is_up w) (Shuts w.store.open_dump w new) (new ≡ line_refused NotStarted w)
-  LineGives (line.Job name user time money lines) w new =
-      (outcome ≡ Plain) × (new ≡ (if is_up w then job_line (job_refusal w user time money) (taken_in name user time money lines w) w else line_refused NotStarted w))
-  LineGives (line.Mount serial) w new = Always (λ r s. IsMounting w.store serial outcome r s) (tape_text serial (codes "MOUNTED")) w new
-  LineGives (line.Unmount serial) w new = Always (λ r s. IsUnmounting w.store serial outcome r s) (tape_text serial (codes "UNMOUNTED")) w new
-  LineGives (line.Dump serial) w new = NeedsUp (λ r s. IsOpening w.store serial outcome r s) (λ n. dump_text n (codes "OPENED")) w new
-  LineGives (line.Process serial) w new = NeedsUp (λ r s. IsProcessing w.store serial outcome r s) (processed_text serial) w new
-  LineGives (line.Migrate path) w new = NeedsUp (λ r s. IsMigration w.store path outcome r s) (λ full. codes "MIGRATED " ++ full_text full) w new
-  LineGives (line.StopDisc k) w new = (outcome ≡ Plain) × (new ≡ says (codes "STOP SET") (record w { disc_stops = w.disc_stops ++ k ∷ [] }))
-  LineGives (line.StopTape k) w new = (outcome ≡ Plain) × (new ≡ says (codes "STOP SET") (record w { tape_stops = w.tape_stops ++ k ∷ [] }))
-  LineGives (line.Login t user time) w new =
-      (outcome ≡ Plain) × (new ≡ (if is_up w then job_line (login_refusal w t user time) (logged_in t user time w) w else line_refused NotStarted w))
-  LineGives (line.Typed t text) w new = (outcome ≡ Plain) × (new ≡ (if is_up w then at_terminal t (typed_to text) w else line_refused NotStarted w))
-  LineGives (line.Logout t) w new = (outcome ≡ Plain) × (new ≡ (if is_up w then at_terminal t logged_out w else line_refused NotStarted w))
+  LineGives line.Format w new = Asks (not (is_up w)) Running (IsFormat w.store outcome) (λ r. up_with (codes "FORMATTED")) w new
+  LineGives line.Start w new = Asks (not (is_up w)) Running (IsStart w.store outcome) (λ n. up_with (started_text n)) w new
+  LineGives line.Restore w new = Asks (not (is_up w)) Running (IsRestore w.store outcome) (λ n. up_with (codes "RESTORED FROM DUMP " ++ decimal n)) w new
+  LineGives line.Shut w new = Gives (is_up w) NotStarted (shut_with w.store.open_dump w) w new
+  LineGives (line.Job name user time money lines) w new = Gives (is_up w) NotStarted (job_line (job_refusal w user time money) (taken_in name user time money lines w) w) w new
+  LineGives (line.Mount serial) w new = Asks true NotStarted (IsMounting w.store serial outcome) (λ r. now_stands (tape_text serial (codes "MOUNTED"))) w new
+  LineGives (line.Unmount serial) w new = Asks true NotStarted (IsUnmounting w.store serial outcome) (λ r. now_stands (tape_text serial (codes "UNMOUNTED"))) w new
+  LineGives (line.Dump serial) w new = Asks (is_up w) NotStarted (IsOpening w.store serial outcome) (λ n. now_stands (dump_text n (codes "OPENED"))) w new
+  LineGives (line.Process serial) w new = Asks (is_up w) NotStarted (IsProcessing w.store serial outcome) (λ n. now_stands (processed_text serial n)) w new
+  LineGives (line.Migrate path) w new = Asks (is_up w) NotStarted (IsMigration w.store path outcome) (λ full. now_stands (codes "MIGRATED " ++ full_text full)) w new
+  LineGives (line.StopDisc k) w new = Gives true NotStarted (says (codes "STOP SET") (record w { disc_stops = w.disc_stops ++ k ∷ [] })) w new
+  LineGives (line.StopTape k) w new = Gives true NotStarted (says (codes "STOP SET") (record w { tape_stops = w.tape_stops ++ k ∷ [] })) w new
+  LineGives (line.Login t user time) w new = Gives (is_up w) NotStarted (job_line (login_refusal w t user time) (logged_in t user time w) w) w new
+  LineGives (line.Typed t text) w new = Gives (is_up w) NotStarted (at_terminal t (typed_to text) w) w new
+  LineGives (line.Logout t) w new = Gives (is_up w) NotStarted (at_terminal t logged_out w) w new

@@ -5,3 +5,4 @@ pub mod OneReading
 pub mod PieceLemmas
 pub mod PrintedLemmas
 pub mod ReadLemmas
+pub mod SaidLemmas

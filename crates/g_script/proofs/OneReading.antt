@@ -1,80 +1,86 @@
 -- The lines of a script determine what it says.
-use Rattle.std.proofs.Common.{All, List, None, Option, Some, [], ap, arith, drop, inl, inr, length, map, refl, subst, sym, take, ℕ, ◌++◌, ◌+◌, ◌-◌, ◌<◌, ◌∙◌, ◌∷◌, ◌≡◌}
-use Rattle.std.proofs.lemmas.Bool.{cases_order}
-use Rattle.std.proofs.lemmas.List.{append-nil, append_assoc, append_cancel_left, take-append-drop, take-take}
-use Rattle.std.proofs.lemmas.List.Concat.{flat_map-append}
-use Rattle.std.proofs.lemmas.List.Elements.{All-push, recursion_from_All}
-use Rattle.g_script.proofs.ItemLemmas.{end_line, items_unique, open_some}
-use Rattle.g_script.specs.Script.{Begins, IsBadLine, IsBegun, IsFirstBad, IsItem, IsParsed, IsUnclosed, WrittenItem, item_lines, lines_in, timed_said}
+use Rattle.std.proofs.Common.{List, None, Option, Some, [], ap, arith, inl, inr, length, refl, subst, sym, ℕ, ◌++◌, ◌+◌, ◌∙◌, ◌∷◌, ◌≡◌, ◌≤◌, ◌⊎◌}
+use Rattle.std.proofs.lemmas.List.{append_assoc, length-append}
+use Rattle.g_script.proofs.ItemLemmas.{item_unique, nil_cons, none_between, nothing_behind, same_first, same_rest}
+use Rattle.g_script.specs.Script.{GoesOn, IsFirstBad, IsItem, IsUnclosed, Say, WrittenItem, behind_head, head_line, item_lines, timed_said}
 use Rattle.g_script.specs.declared.operator.Timed.{Timed}
 
-same_items : (items others : List WrittenItem) (begun also : List (List ℕ)) → All IsItem items → All IsItem others → IsBegun begun → IsBegun also → lines_in items ++ begun ≡ lines_in others ++ also → items ≡ others
-same_items items others begun also are are_others is is_also e =
-    items_unique items others begun also (recursion_from_All IsItem items are) (recursion_from_All IsItem others are_others) is is_also e
+-- of two fronts of some lines, one goes on behind the other
+abbrev Meet : List (List ℕ) → List (List ℕ) → List ℕ → Type 0
+Meet xs front x = ((more : List (List ℕ)) × (xs ≡ front ++ x ∷ more)) ⊎ ((more : List (List ℕ)) × (front ≡ xs ++ more))
 
--- what stands before a bad line begins a script
-front_begins : (items : List WrittenItem) (begun : List (List ℕ)) → All IsItem items → IsBegun begun → Begins (lines_in items ++ begun)
-front_begins items begun are (inl none) =
-    (items, are, ([], sym (append-nil (lines_in items ++ begun) ∙ ap (λ (b : List (List ℕ)). lines_in items ++ b) none ∙ append-nil (lines_in items))))
-front_begins items begun are (inr (j, is_j, unclosed)) = (
-  items ++ j ∷ [],
-  All-push IsItem items j are is_j,
-  (
-    end_line ∷ [],
-    flat_map-append item_lines items (j ∷ []) ∙ ap (λ (ls : List (List ℕ)). lines_in items ++ ls) (append-nil (item_lines j) ∙ sym unclosed) ∙ sym (append_assoc (lines_in items) begun (end_line ∷ [])),
-  ),
-)
+meet_on : (y z x : List ℕ) (xs front : List (List ℕ)) → y ≡ z → Meet xs front x → Meet (y ∷ xs) (z ∷ front) x
+meet_on y z x xs front same (inl (more, is)) = inl (more, ap (λ (w : List ℕ). w ∷ xs) same ∙ ap (λ (ws : List (List ℕ)). z ∷ ws) is)
+meet_on y z x xs front same (inr (more, is)) = inr (more, ap (λ (w : List ℕ). w ∷ front) (sym same) ∙ ap (λ (ws : List (List ℕ)). y ∷ ws) is)
 
--- a front of lines that begin a script begins one
-Begins-take : (lines : List (List ℕ)) (k : ℕ) → Begins lines → Begins (take k lines)
-Begins-take lines k (items, are, (more, e)) =
-    (items, are, (drop k lines ++ more, e ∙ ap (λ (ls : List (List ℕ)). ls ++ more) (sym (take-append-drop k lines)) ∙ append_assoc (take k lines) (drop k lines) more))
+meet : (xs rest front : List (List ℕ)) (x : List ℕ) (behind : List (List ℕ)) → xs ++ rest ≡ front ++ x ∷ behind → Meet xs front x
+meet [] rest front x behind e = inr (front, refl)
+meet (y ∷ xs) rest [] x behind e = inl (xs, ap (λ (w : List ℕ). w ∷ xs) (same_first y x (xs ++ rest) behind e))
+meet (y ∷ xs) rest (z ∷ front) x behind e =
+    meet_on y z x xs front (same_first y z (xs ++ rest) (front ++ x ∷ behind) e) (meet xs rest front x behind (same_rest y z (xs ++ rest) (front ++ x ∷ behind) e))
 
-not_before : (lines : List (List ℕ)) (items others : List WrittenItem) (j k : ℕ) (begun also : List (List ℕ)) → All IsItem others → IsFirstBad lines items j begun → IsFirstBad lines others k also → j < k → ⊥
-not_before lines items others j k begun also are a b less =
-    let front = subst Begins (sym b.before) (front_begins others also are b.is_begun) in
-    a.bad (subst Begins (take-take j (k - 1) lines (omega arith)) (Begins-take (take (k - 1) lines) j front))
+-- what goes on behind a longer front goes on behind a shorter one, with its next line
+goes_on_before : (front more : List (List ℕ)) (line next : List ℕ) → GoesOn (front ++ line ∷ more) next → GoesOn front line
+goes_on_before front more line next (item, is, (others, e)) = (item, is, (more ++ next ∷ others, e ∙ append_assoc front (line ∷ more) (next ∷ others)))
 
-same_place : (lines : List (List ℕ)) (items others : List WrittenItem) (j k : ℕ) (begun also : List (List ℕ)) → All IsItem items → All IsItem others → IsFirstBad lines items j begun → IsFirstBad lines others k also → j ≡ k
-same_place lines items others j k begun also are are_others a b =
-    elim (cases_order j k) [
-      | inl e ↦ e
-      | inr r ↦ elim r [ inl less ↦ absurd (not_before lines items others j k begun also are_others a b less) | inr more ↦ absurd (not_before lines others items k j also begun are b a more) ]
+-- where an item stands there is no bad line
+item_or_bad : (n : ℕ) (lines rest : List (List ℕ)) (item : WrittenItem) (k : ℕ) → IsItem item → lines ≡ item_lines item ++ rest → IsFirstBad n lines k ⊎ IsUnclosed n lines k → ⊥
+item_or_bad n lines rest item k is e (inl b) =
+    elim (meet (item_lines item) rest b.front b.line b.behind (sym e ∙ b.all)) [
+      | inl (more, on) ↦ b.bad (item, is, (more, on))
+      | inr (more, on) ↦ let (next, (other, is_other, (others, goes))) = b.begun in
+          nothing_behind item other more others next is is_other (goes ∙ ap (λ (ls : List (List ℕ)). ls ++ next ∷ others) on)
     ]
+item_or_bad n lines rest item k is e (inr b) =
+    let (next, (other, is_other, (others, goes))) = b.begun in
+    nothing_behind item other rest others next is is_other (goes ∙ ap (λ (ls : List (List ℕ)). ls ++ next ∷ others) e)
 
--- all lines of a script whose last job isn't closed begin a script
-unclosed_begins : (lines : List (List ℕ)) (items : List WrittenItem) (k : ℕ) (begun : List (List ℕ)) → All IsItem items → IsUnclosed lines items k begun → Begins lines
-unclosed_begins lines items k begun are a = subst Begins (sym a.all) (front_begins items begun are (inr a.is_open))
+-- the first bad line isn't behind another
+not_behind : (n : ℕ) (lines : List (List ℕ)) (j k : ℕ) (a : IsFirstBad n lines j) (b : IsFirstBad n lines k) → Meet a.front b.front b.line → length a.front ≤ length b.front
+not_behind n lines j k a b (inl (more, on)) =
+    let (next, goes) = a.begun in
+    absurd (b.bad (goes_on_before b.front more b.line next (subst (λ (ls : List (List ℕ)). GoesOn ls next) on goes)))
+not_behind n lines j k a b (inr (more, on)) = omega (arith, ap length on, length-append a.front more)
 
-good_begins : (lines : List (List ℕ)) (items : List WrittenItem) → All IsItem items → lines ≡ lines_in items → Begins lines
-good_begins lines items are e = (items, are, ([], sym e ∙ sym (append-nil lines)))
+one_bad : (n : ℕ) (lines : List (List ℕ)) (j k : ℕ) → IsFirstBad n lines j → IsFirstBad n lines k → j ≡ k
+one_bad n lines j k a b =
+    let less = not_behind n lines j k a b (meet a.front (a.line ∷ a.behind) b.front b.line b.behind (sym a.all ∙ b.all)) in
+    let more = not_behind n lines k j b a (meet b.front (b.line ∷ b.behind) a.front a.line a.behind (sym b.all ∙ a.all)) in
+    omega (arith, less, more, a.place, b.place)
 
-good_not_bad : (lines : List (List ℕ)) (items others : List WrittenItem) (k : ℕ) → All IsItem items → All IsItem others → lines ≡ lines_in items → IsBadLine lines others k → ⊥
-good_not_bad lines items others k are are_others e (begun, inl a) = a.bad (Begins-take lines k (good_begins lines items are e))
-good_not_bad lines items others k are are_others e (begun, inr a) =
-    let both : lines_in items ++ [] ≡ lines_in others ++ begun = append-nil (lines_in items) ∙ sym e ∙ a.all in
-    let same : items ≡ others = same_items items others [] begun are are_others (inl refl) (inr a.is_open) both in
-    open_some begun a.is_open (sym (append_cancel_left (lines_in others) [] begun (ap (λ (is : List WrittenItem). lines_in is ++ []) (sym same) ∙ both)))
+not_both : (n : ℕ) (lines : List (List ℕ)) (j k : ℕ) → IsFirstBad n lines j → IsUnclosed n lines k → ⊥
+not_both n lines j k a b =
+    let (next, goes) = b.begun in
+    a.bad (goes_on_before a.front a.behind a.line next (subst (λ (ls : List (List ℕ)). GoesOn ls next) a.all goes))
 
-bad_unique : (lines : List (List ℕ)) (items others : List WrittenItem) (j k : ℕ) → All IsItem items → All IsItem others → IsBadLine lines items j → IsBadLine lines others k → (items ≡ others) × (j ≡ k)
-bad_unique lines items others j k are are_others (begun, inl a) (also, inl b) =
-    let place = same_place lines items others j k begun also are are_others a b in
-    (same_items items others begun also are are_others a.is_begun b.is_begun (sym a.before ∙ ap (λ (n : ℕ). take (n - 1) lines) place ∙ b.before), place)
-bad_unique lines items others j k are are_others (begun, inl a) (also, inr b) = absurd (a.bad (Begins-take lines j (unclosed_begins lines others k also are_others b)))
-bad_unique lines items others j k are are_others (begun, inr a) (also, inl b) = absurd (b.bad (Begins-take lines k (unclosed_begins lines items j begun are a)))
-bad_unique lines items others j k are are_others (begun, inr a) (also, inr b) =
-    let same = same_items items others begun also are are_others (inr a.is_open) (inr b.is_open) (sym a.all ∙ b.all) in
-    (same, a.job_line ∙ ap (λ (is : List WrittenItem). length (lines_in is) + 1) same ∙ sym b.job_line)
+bad_unique : (n : ℕ) (lines : List (List ℕ)) (j k : ℕ) → IsFirstBad n lines j ⊎ IsUnclosed n lines j → IsFirstBad n lines k ⊎ IsUnclosed n lines k → j ≡ k
+bad_unique n lines j k (inl a) (inl b) = one_bad n lines j k a b
+bad_unique n lines j k (inl a) (inr b) = absurd (not_both n lines j k a b)
+bad_unique n lines j k (inr a) (inl b) = absurd (not_both n lines k j b a)
+bad_unique n lines j k (inr a) (inr b) = a.place ∙ sym b.place
 
-said_same : (said other : List Timed) (items others : List WrittenItem) → said ≡ map timed_said items → other ≡ map timed_said others → items ≡ others → said ≡ other
-said_same said other items others is is_other same = is ∙ ap (λ (xs : List WrittenItem). map timed_said xs) same ∙ sym is_other
+-- no lines have no bad one
+none_bad : (n : ℕ) (lines : List (List ℕ)) (k : ℕ) → lines ≡ [] → IsFirstBad n lines k ⊎ IsUnclosed n lines k → ⊥
+none_bad n lines k none (inl b) = none_between b.front b.behind b.line (sym none ∙ b.all)
+none_bad n lines k none (inr b) = b.some none
 
-pub reading_unique : (lines : List (List ℕ)) (said other : List Timed) (bad other_bad : Option ℕ) → IsParsed lines said bad → IsParsed lines other other_bad → (said ≡ other) × (bad ≡ other_bad)
-reading_unique lines said other None None (items, are, is, e) (others, are_others, is_other, f) =
-    let same = same_items items others [] [] are are_others (inl refl) (inl refl) (append-nil (lines_in items) ∙ sym e ∙ f ∙ sym (append-nil (lines_in others))) in
-    (said_same said other items others is is_other same, refl)
-reading_unique lines said other None (Some k) (items, are, is, e) (others, are_others, is_other, b) = absurd (good_not_bad lines items others k are are_others e b)
-reading_unique lines said other (Some j) None (items, are, is, a) (others, are_others, is_other, f) = absurd (good_not_bad lines others items j are_others are f a)
-reading_unique lines said other (Some j) (Some k) (items, are, is, a) (others, are_others, is_other, b) =
-    let both = bad_unique lines items others j k are are_others a b in
-    (said_same said other items others is is_other both.0, ap (λ (n : ℕ). let o : Option ℕ = Some n in o) both.1)
+none_stands : (lines rest : List (List ℕ)) (item : WrittenItem) → lines ≡ [] → lines ≡ item_lines item ++ rest → ⊥
+none_stands lines rest item none e = nil_cons (head_line item) (behind_head item.what ++ rest) (sym none ∙ e)
+
+pub reading_unique : (n : ℕ) (lines : List (List ℕ)) (said other : List Timed) (bad other_bad : Option ℕ) → Say n lines said bad → Say n lines other other_bad → (said ≡ other) × (bad ≡ other_bad)
+reading_unique n lines [] [] None None a b = (refl, refl)
+reading_unique n lines [] [] None (Some k) a b = absurd (none_bad n lines k a b)
+reading_unique n lines [] [] (Some j) None a b = absurd (none_bad n lines j b a)
+reading_unique n lines [] [] (Some j) (Some k) a b = (refl, ap (λ (i : ℕ). let o : Option ℕ = Some i in o) (bad_unique n lines j k a b))
+reading_unique n lines [] (next ∷ other) None bad a (item, is, same, (rest, all, behind)) = absurd (none_stands lines rest item a all)
+reading_unique n lines [] (next ∷ other) (Some k) bad a (item, is, same, (rest, all, behind)) = absurd (item_or_bad n lines rest item k is all a)
+reading_unique n lines (next ∷ said) [] bad None (item, is, same, (rest, all, behind)) b = absurd (none_stands lines rest item b all)
+reading_unique n lines (next ∷ said) [] bad (Some k) (item, is, same, (rest, all, behind)) b = absurd (item_or_bad n lines rest item k is all b)
+reading_unique n lines (next ∷ said) (after ∷ other) bad other_bad (item, is, same, (rest, all, behind)) (item', is', same', (rest', all', behind')) =
+    let both = item_unique item item' rest rest' is is' (sym all ∙ all') in
+    let firsts : next ≡ after = same ∙ ap timed_said both.0 ∙ sym same' in
+    let here : Say (n + length (item_lines item)) rest other other_bad =
+    subst (λ (i : WrittenItem). Say (n + length (item_lines i)) rest other other_bad) (sym both.0)
+    (subst (λ (ls : List (List ℕ)). Say (n + length (item_lines item')) ls other other_bad) (sym both.1) behind') in
+    let others = reading_unique (n + length (item_lines item)) rest said other bad other_bad behind here in
+    (ap (λ (t : Timed). t ∷ said) firsts ∙ ap (λ (ts : List Timed). after ∷ ts) others.0, others.1)

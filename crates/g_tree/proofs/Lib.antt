@@ -7,6 +7,7 @@ pub mod FirstLemmas
 pub mod FreeLemmas
 pub mod GrantLemmas
 pub mod IndexLemmas
+pub mod InUserLemmas
 pub mod LawLemmas
 pub mod ListLemmas
 pub mod MapLemmas

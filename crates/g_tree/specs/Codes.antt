@@ -1,10 +1,12 @@
 -- The states of this crate as data that proofs can tell apart.
-use Rattle.std.specs.Prelude.{ℕ, refl}
+use Rattle.std.specs.Prelude.{ℕ, List, refl}
 use Rattle.std.specs.Coded.{Coded, code_by, coded×, coded_ℕ}
 use Rattle.std.specs.FinMap as map
 use Rattle.g_name.specs.Order.{full_cmp}
-use Rattle.g_plain.specs.Codes.{full_code}
+use Rattle.g_plain.specs.Codes.{full_code, text_code}
+use Rattle.g_tree.specs.Names.{name_cmp}
 use Rattle.g_tree.specs.State.{IndexState}
+use Rattle.g_tree.specs.declared.sorted.LocalName.{LocalName}
 
 abbrev pub numbers_code : Coded (map.FinMap full_cmp ℕ)
 numbers_code = map.code full_code coded_ℕ
@@ -13,3 +15,11 @@ abbrev pub index_code : Coded IndexState
 index_code =
     code_by (map.FinMap full_cmp ℕ × ℕ) (coded× numbers_code coded_ℕ)
     (λ i. (i.numbers, i.spare)) (λ p. record { numbers = p.0; spare = p.1 }) (λ _. refl)
+
+abbrev pub name_code : Coded LocalName
+name_code =
+    code_by (List ℕ × (ℕ × List ℕ)) (coded× text_code (coded× coded_ℕ text_code))
+    (λ n. (n.local, (n.generation, n.lang))) (λ p. record { local = p.0; generation = p.1.0; lang = p.1.1 }) (λ _. refl)
+
+abbrev pub names_code : Coded (map.FinMap name_cmp ℕ)
+names_code = map.code name_code coded_ℕ

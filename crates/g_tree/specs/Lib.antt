@@ -5,3 +5,4 @@ pub mod Codes
 pub mod Places
 pub mod Answers
 pub mod AskedRecords
+pub mod Names

@@ -1,14 +1,14 @@
 //! What is read off the records of users and files, one after another.
 ghost use Rattle.std.specs.Prelude.{◌≡◌, ◌<◌, ◌==◌, ◌&&◌, map, filter, remove, length, All, IfOk, IfErr};
 ghost use Rattle.std.specs.FinMap as finmap;
-ghost use Rattle.g_name.specs.Order.{full_cmp};
 ghost use Rattle.g_plain.specs.PlainTree.{is_version_of};
 ghost use Rattle.g_entry.specs.Rules.{AreNumbered};
 ghost use Rattle.g_tree.specs.Records.{full_of};
 ghost use Rattle.g_tree.specs.Places.{StandsAt, FitsAt};
 ghost use Rattle.g_tree.specs.Answers.{newest_of};
+ghost use Rattle.g_tree.specs.Names.{name_in};
 
-use crate::sorted::Sorted;
+use crate::sorted::{Sorted, name_in};
 use g_base::NoMemory;
 use g_entry::{BoxedRec, FileRec, UserRec};
 use g_name::Full;
@@ -33,7 +33,7 @@ pub(crate) fn place_of(files: &[BoxedRec], number: u16) -> Result<usize, usize>
     ensures found { IfOk result (StandsAt files.now number) }
     ensures absent { IfErr result (FitsAt files.now number) }
 {
-    files.binary_search_by_key(&number, |file| file.get().number)
+    g_entry::place_of(files, number)
 }
 
 /// Whether a file whose owner is there has this full name, but for the generation.
@@ -76,16 +76,10 @@ pub(crate) fn newest_besides(
     before.max(newest_of(users, name, &files[place + 1..]))
 }
 
-/// The numbers of an owner's files by full name.
-pub(crate) fn sorted_of(
-    alloc: Global,
-    users: &[UserRec],
-    owner: u8,
-    files: &[BoxedRec],
-) -> Result<Sorted, NoMemory>
-    requires { All (λ r. r.owner < length users.now) files.now }
+/// The numbers of an owner's files by name.
+pub(crate) fn sorted_of(alloc: Global, owner: u8, files: &[BoxedRec]) -> Result<Sorted, NoMemory>
     ensures { IfOk result (λ sorted. sorted
-        ≡ finmap.from_entries (map (λ r. (full_of users.now r, r.number))
+        ≡ finmap.from_entries (map (λ r. (name_in r, r.number))
         (filter (λ r. r.owner == owner) files.now))) }
 {
     let mut sorted = Sorted::new(alloc);
@@ -94,7 +88,7 @@ pub(crate) fn sorted_of(
         left -= 1;
         let file = files[left].get();
         if file.owner == owner {
-            sorted.insert(full_of(users, file), file.number)?;
+            sorted.insert(name_in(file), file.number)?;
         }
     }
     Ok(sorted)

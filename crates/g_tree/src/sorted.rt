@@ -1,31 +1,52 @@
-//! The numbers of files in the order of their full names.
+//! The numbers of one user's files in the order of their names.
 ghost use Rattle.std.specs.Prelude.{◌≡◌, OnOk, IfOk, map};
 ghost use Rattle.std.specs.FinMap as finmap;
 ghost use Rattle.std.specs.BTreeMap.{IsOrdered};
-ghost use Rattle.g_name.specs.Order.{full_cmp};
+ghost use Rattle.g_tree.specs.Names.{name_cmp, name_in};
 
 use crate::NumberList;
 use g_base::NoMemory;
-use g_name::Full;
+use g_entry::FileRec;
+use g_name::{Lang, Local};
 use std::alloc::Global;
 use std::collections::BTreeMap;
 use std::marker::Model;
 
-/// Numbers by full name, in order.
+/// A full name without the user. The order is by local name, generation and language, which is that of the full names of
+/// one user's files.
+#[derive(Debug, Drop, PartialEq, Eq, PartialOrd, Ord)]
+pub(crate) struct LocalName {
+    pub(crate) local: Local,
+    pub(crate) generation: u16,
+    pub(crate) lang: Lang,
+}
+
+/// The name of a file without its user.
+pub(crate) fn name_in(file: &FileRec) -> LocalName
+    ensures { result ≡ name_in file.now }
+{
+    LocalName {
+        local: file.local.copy(),
+        generation: file.generation,
+        lang: file.lang.copy(),
+    }
+}
+
+/// Numbers of one user's files by name, in order.
 #[derive(Drop)]
 pub(crate) struct Sorted {
-    numbers: BTreeMap<Full, u16>,
+    numbers: BTreeMap<LocalName, u16>,
 }
 
 impl Model for Sorted {
     ghost use Rattle.std.specs.Prelude.{ℕ};
     ghost use Rattle.std.specs.FinMap.{FinMap, from_entries};
-    ghost use Rattle.g_name.specs.Order.{full_cmp};
-    ghost use Rattle.g_tree.specs.Codes.{numbers_code};
+    ghost use Rattle.g_tree.specs.Codes.{names_code};
+    ghost use Rattle.g_tree.specs.Names.{name_cmp};
 
-    ghost Value = { FinMap full_cmp ℕ };
+    ghost Value = { FinMap name_cmp ℕ };
 
-    ghost coded = { numbers_code };
+    ghost coded = { names_code };
 
     ghost view = { λ s. from_entries s.numbers.entries };
 }
@@ -40,10 +61,10 @@ impl Sorted {
         }
     }
 
-    pub fn insert(&mut self, full: Full, number: u16) -> Result<(), NoMemory>
-        ensures { OnOk result (self.new ≡ finmap.insert self.old full number) }
+    pub fn insert(&mut self, name: LocalName, number: u16) -> Result<(), NoMemory>
+        ensures { OnOk result (self.new ≡ finmap.insert self.old name number) }
     {
-        self.numbers.insert(full, number)?;
+        self.numbers.insert(name, number)?;
         Ok(())
     }
 
@@ -55,12 +76,12 @@ impl Sorted {
     }
 }
 
-fn numbers_in(alloc: Global, numbers: &BTreeMap<Full, u16>) -> Result<NumberList, NoMemory>
+fn numbers_in(alloc: Global, numbers: &BTreeMap<LocalName, u16>) -> Result<NumberList, NoMemory>
     ensures list { IfOk result (λ list. list ≡ map (λ e. e.1) numbers.now.entries) }
-    ensures ordered { IsOrdered full_cmp numbers.now }
+    ensures ordered { IsOrdered name_cmp numbers.now }
 {
     let mut list = NumberList::new(alloc);
-    for (_full, number) in numbers {
+    for (_name, number) in numbers {
         list.push(*number)?;
     }
     Ok(list)

@@ -191,7 +191,7 @@ impl Tree {
         ensures { IfOk result (λ list. ForTree self.now.users self.now.files
             (λ t. list ≡ listed self.now.users self.now.files (name_of self.now.users owner) t)) }
     {
-        let sorted = sorted_of(alloc, self.users.as_slice(), owner, self.files.as_slice())?;
+        let sorted = sorted_of(alloc, owner, self.files.as_slice())?;
         sorted.numbers(alloc)
     }
 

@@ -1,9 +1,7 @@
-use Rattle.std.proofs.Common.{take, ◌+◌, ◌≡◌, ◌≤◌}
-use Rattle.g_demo.proofs.SummaryLemmas.{SumsUp}
+use Rattle.std.proofs.Common.{take, ◌≡◌}
+use Rattle.std.specs.List.{fold}
+use Rattle.g_demo.specs.Summary.{folded}
 use Rattle.g_demo.proofs.summary.with_bytes.Given as goal
 
 abbrev pub invariant-loop-byte : goal.invariant-loop-byte
-invariant-loop-byte l =
-    (l.so_far.lines ≤ l.so_far.bytes)
-    × (l.so_far.bytes ≡ l.fn.summary.bytes + l.byte-index)
-    × SumsUp l.fn.summary l.so_far (take l.byte-index l.piece)
+invariant-loop-byte l = l.number ≡ fold folded l.fn.so_far (take l.byte-index l.piece)

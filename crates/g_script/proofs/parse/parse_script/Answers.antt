@@ -1,7 +1,7 @@
-use Rattle.std.proofs.Common.{List, [], ap, arith, length, subst, sym, ℕ, ◌+◌}
+use Rattle.std.proofs.Common.{List, Some, [], ap, arith, length, subst, sym, ℕ, ◌+◌}
 use Rattle.g_lines.specs.Lines.{lines_of}
 use Rattle.g_script.specs.Reading.{IsTaken}
-use Rattle.g_script.specs.Script.{IsBadLine}
+use Rattle.g_script.specs.Script.{Say}
 use Rattle.g_script.specs.declared.operator.Timed.{Timed}
 use Rattle.g_script.proofs.ReadLemmas.{bad_few, front_few, front_next, parsed_bad, taken_few, IsFront}
 use Rattle.g_script.proofs.parse.parse_script.Goals as goal
@@ -35,4 +35,4 @@ overflow_add-bad c =
 pub returns-in-BadAt : goal.returns-in-BadAt
 returns-in-BadAt c =
     parsed_bad (lines_of c.args.bytes.now) c.loop-line.lines c.loop-line.said c.loop-line.before c.in-BadAt.place c.loop-line.invariant
-    (subst (λ (ls : List (List ℕ)). IsBadLine ls [] c.in-BadAt.place) (sym c.in-Some.ensures.line) (rw c.in-BadAt.is at c.in_ok-next.ensures))
+    (subst (λ (ls : List (List ℕ)). Say 1 ls [] (Some c.in-BadAt.place)) (sym c.in-Some.ensures.line) (rw c.in-BadAt.is at c.in_ok-next.ensures))

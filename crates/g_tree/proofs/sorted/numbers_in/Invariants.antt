@@ -2,5 +2,5 @@
 use Rattle.std.proofs.Common.{◌≡◌, ◌++◌, map}
 use Rattle.g_tree.proofs.sorted.numbers_in.Given as goal
 
-abbrev pub invariant-loop-full : goal.invariant-loop-full
-invariant-loop-full l = l.list ++ map (λ e. e.1) l._full-iterator ≡ map (λ e. e.1) l.numbers.entries
+abbrev pub invariant-loop-name : goal.invariant-loop-name
+invariant-loop-name l = l.list ++ map (λ e. e.1) l._name-iterator ≡ map (λ e. e.1) l.numbers.entries

@@ -1,17 +1,18 @@
 -- The owner's numbers in the order of names are those of the tree's entries.
 use Rattle.std.proofs.Common.{◌≡◌, ◌==◌, map, filter, ap, subst, ◌∙◌}
 use Rattle.std.specs.FinMap.{entries, from_entries}
-use Rattle.g_name.specs.Order.{full_cmp}
-use Rattle.g_tree.specs.Records.{IsRecords, full_of}
+use Rattle.g_tree.specs.Names.{name_cmp, name_in}
+use Rattle.g_tree.specs.Records.{IsRecords}
+use Rattle.g_tree.proofs.InUserLemmas.{names_listed}
 use Rattle.g_tree.proofs.RecordLemmas.{listed_is}
 use Rattle.g_tree.proofs.ResultLemmas.{ok_then}
 use Rattle.g_tree.proofs.tree.Tree.listing.Goals as goal
 
 pub returns : goal.returns
 returns c =
-    let users : c.as_slice.result.now ≡ c.args.self.now.users = c.as_slice.ensures.value ∙ ap (λ s. s.users) c.self.view_is in
-    let files : c.as_slice-2.result.now ≡ c.args.self.now.files = c.as_slice-2.ensures.value ∙ ap (λ s. s.files) c.self.view_is in
-    let sorted = c.in_ok-sorted.ensures ∙ (λ i. from_entries {R = full_cmp} (map (λ r. (full_of (users i) r, r.number)) (filter (λ r. r.owner == c.args.owner) (files i)))) in
+    let files : c.as_slice.result.now ≡ c.args.self.now.files = c.as_slice.ensures.value ∙ ap (λ s. s.files) c.self.view_is in
+    let sorted = c.in_ok-sorted.ensures ∙ (λ i. from_entries {R = name_cmp} (map (λ r. (name_in r, r.number)) (filter (λ r. r.owner == c.args.owner) (files i)))) in
     ok_then c.numbers.result
     (λ list is bytes next. is ∙ ap (λ m. map (λ e. e.1) (entries m)) sorted
+    ∙ names_listed c.args.self.now.users c.args.owner c.args.self.now.files
     ∙ listed_is c.args.self.now.users c.args.self.now.files bytes next c.args.owner (subst (λ s. IsRecords s.users s.files) c.self.view_is c.self.invariant.records)) c.numbers.ensures
