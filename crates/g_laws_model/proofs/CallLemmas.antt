@@ -9,9 +9,9 @@ use Rattle.g_plain.specs.declared.faults.StoreFault.TheVariants.{DiscFull, DiscR
 use Rattle.g_plain.specs.PlainStep.{fault_of, first_fault, reply_to}
 use Rattle.g_store_model.specs.State.{Holding, State, is_candidate, is_mounted, is_taken, place_at, room, taken_blocks, taken_offline}
 use Rattle.g_store_model.specs.CallStep.{IsUnjam, LeftByRefusal, Outcome, Planned, after_call, after_unjam, commits, down, is_cut, is_disc_read, is_offline, is_tape_read, late, len_of, need, reel_of, room_until, touched_by, version_read, wants_bytes}
-use Rattle.g_laws_model.specs.Calls.{CallsAreSimple, candidates, done, held, is_among, offline, room_with, taken, taken_first, writes_now}
+use Rattle.g_laws_model.specs.Calls.{CallsAreSimple, UnjamsTake, candidates, done, held, is_among, offline, room_with, taken, taken_first, writes_now}
 use Rattle.g_laws_model.specs.Refusals.{Goes, IsCutAt, first_of, when}
-use Rattle.g_laws_model.proofs.FrontLemmas.{IsEnough, below, find_shortest, is_shortest}
+use Rattle.g_laws_model.proofs.FrontLemmas.{Found, IsEnough, below, find_shortest, is_shortest}
 use Rattle.g_laws_model.proofs.TakenLemmas.{all_under, among_taken, candidates_rise, same_offline, same_room, under_is_all}
 
 -- THE EARLY REFUSALS, whatever comes behind them
@@ -29,6 +29,42 @@ record IsAs (s : State) (k : Holding) (stamps : List ℕ) (until : ℕ) : Type 0
   there : (stamp : ℕ) → is_among stamp stamps ≡ is_taken k until stamp
   room_is : room_with s k stamps ≡ room s k + taken_blocks k until
   offline_is : offline stamps k ≡ taken_offline until k
+
+-- WHAT IS TAKEN
+module _ (s : State) (k : Holding) (who : List ℕ) (call : StoreCall) where
+  abbrev enough : List ℕ → Bool
+  enough stamps = nat_le (need s k who call) (room_with s k stamps)
+
+  as_below : (until : ℕ) → IsAs s k (below until (candidates k)) until
+  as_below until = record { there = among_taken k until; room_is = same_room s k until; offline_is = same_offline k until }
+
+  enough_to : (until : ℕ) → (need s k who call ≤ room_until s k who call until) ⊎ ((stamp : ℕ) → is_candidate (place_at k.places stamp) ≡ true → stamp < until) → IsEnough enough until (candidates k)
+  enough_to until (inl le) = inl (le-leb (need s k who call) (room_with s k (below until (candidates k))) (subst (λ (n : ℕ). need s k who call ≤ n) (sym (same_room s k until)) le))
+  enough_to until (inr all) = inr (all_under k until all)
+
+  enough_from : (until : ℕ) → IsEnough enough until (candidates k) → (need s k who call ≤ room_until s k who call until) ⊎ ((stamp : ℕ) → is_candidate (place_at k.places stamp) ≡ true → stamp < until)
+  enough_from until (inl is) = inl (subst (λ (n : ℕ). need s k who call ≤ n) (same_room s k until) (leb-true (need s k who call) (room_with s k (below until (candidates k))) is))
+  enough_from until (inr under) = inr (under_is_all k until under)
+
+  taken_is : (until : ℕ) → IsUnjam s k who call until → below until (candidates k) ≡ taken s k who call
+  taken_is until unjam =
+      is_shortest enough until 0 (candidates k) (candidates_rise k) (enough_to until unjam.enough)
+      (λ lower ge less. lt-leb (need s k who call) (room_with s k (below lower (candidates k))) (subst (λ (n : ℕ). n < need s k who call) (sym (same_room s k lower)) (unjam.least lower less)))
+
+  -- some stamp unjams
+  found_unjam : (found : Found enough 0 (candidates k)) → IsUnjam s k who call found.until
+  found_unjam found = record {
+    enough = enough_from found.until found.enough_is;
+    least = λ lower less. subst (λ (n : ℕ). n < need s k who call) (same_room s k lower)
+        (leb-false (need s k who call) (room_with s k (below lower (candidates k))) (found.least lower (let low : 0 ≤ lower = omega arith in low) less));
+  }
+
+pub unjams_take : UnjamsTake
+unjams_take = record {
+  takes = λ s k who call until unjam. subst (λ (stamps : List ℕ). ((stamp : ℕ) → is_taken k until stamp ≡ is_among stamp stamps) × (taken_offline until k ≡ offline stamps k)) (taken_is s k who call until unjam)
+      ((λ stamp. sym (among_taken k until stamp)), sym (same_offline k until));
+  some = λ s k who call. let found = find_shortest (enough s k who call) 0 (candidates k) (candidates_rise k) in (found.until, found_unjam s k who call found);
+}
 
 module _ (s : State) (k : Holding) (who : List ℕ) (call : StoreCall) (o : Outcome) (answer : Result StoreReply StoreFault) (new : State) where
   abbrev behind : Holding → State
@@ -89,41 +125,17 @@ module _ (s : State) (k : Holding) (who : List ℕ) (call : StoreCall) (o : Outc
       ↔ Later stamps (nat_lt n (need s k who call)) reads_disc (is_cut o && writes_now s k who call) n) (sym as_it.room_is)
       (late_ways stamps until as_it (nat_lt (room_until s k who call until) (need s k who call)) reads_disc (is_cut o && writes_now s k who call) (room_until s k who call until))
 
-  -- WHAT IS TAKEN
-  abbrev enough : List ℕ → Bool
-  enough stamps = nat_le (need s k who call) (room_with s k stamps)
-
-  as_below : (until : ℕ) → IsAs s k (below until (candidates k)) until
-  as_below until = record { there = among_taken k until; room_is = same_room s k until; offline_is = same_offline k until }
-
-  enough_to : (until : ℕ) → (need s k who call ≤ room_until s k who call until) ⊎ ((stamp : ℕ) → is_candidate (place_at k.places stamp) ≡ true → stamp < until) → IsEnough enough until (candidates k)
-  enough_to until (inl le) = inl (le-leb (need s k who call) (room_with s k (below until (candidates k))) (subst (λ (n : ℕ). need s k who call ≤ n) (sym (same_room s k until)) le))
-  enough_to until (inr all) = inr (all_under k until all)
-
-  enough_from : (until : ℕ) → IsEnough enough until (candidates k) → (need s k who call ≤ room_until s k who call until) ⊎ ((stamp : ℕ) → is_candidate (place_at k.places stamp) ≡ true → stamp < until)
-  enough_from until (inl is) = inl (subst (λ (n : ℕ). need s k who call ≤ n) (same_room s k until) (leb-true (need s k who call) (room_with s k (below until (candidates k))) is))
-  enough_from until (inr under) = inr (under_is_all k until under)
-
-  taken_is : (until : ℕ) → IsUnjam s k who call until → below until (candidates k) ≡ taken s k who call
-  taken_is until unjam =
-      is_shortest enough until 0 (candidates k) (candidates_rise k) (enough_to until unjam.enough)
-      (λ lower ge less. lt-leb (need s k who call) (room_with s k (below lower (candidates k))) (subst (λ (n : ℕ). n < need s k who call) (sym (same_room s k lower)) (unjam.least lower less)))
-
   planned_to : Planned s k who call o answer new → LaterWith (taken s k who call)
-  planned_to p = subst LaterWith (taken_is p.until p.unjam) ((at_until (below p.until (candidates k)) p.until (as_below p.until)).0 p.step)
+  planned_to p = subst LaterWith (taken_is s k who call p.until p.unjam) ((at_until (below p.until (candidates k)) p.until (as_below s k who call p.until)).0 p.step)
 
   planned_from : LaterWith (taken s k who call) → Planned s k who call o answer new
   planned_from it =
-      let found = find_shortest enough 0 (candidates k) (candidates_rise k) in
+      let found = find_shortest (enough s k who call) 0 (candidates k) (candidates_rise k) in
       let until = found.until in
       record {
         until = until;
-        unjam = record {
-          enough = enough_from until found.enough_is;
-          least = λ lower less. subst (λ (n : ℕ). n < need s k who call) (same_room s k lower)
-              (leb-false (need s k who call) (room_with s k (below lower (candidates k))) (found.least lower (let low : 0 ≤ lower = omega arith in low) less));
-        };
-        step = (at_until (below until (candidates k)) until (as_below until)).1 (subst LaterWith (sym found.is) it);
+        unjam = found_unjam s k who call found;
+        step = (at_until (below until (candidates k)) until (as_below s k who call until)).1 (subst LaterWith (sym found.is) it);
       }
 
 pub calls_are_simple : CallsAreSimple

@@ -7,8 +7,8 @@ use Rattle.g_plain.specs.declared.calls.StoreReply.{StoreReply}
 use Rattle.g_plain.specs.declared.faults.StoreFault.{StoreFault}
 use Rattle.g_plain.specs.declared.faults.StoreFault.TheVariants.{DiscFull, DiscReadFault, TapeReadFault, WaitTape}
 use Rattle.g_plain.specs.PlainStep.{fault_of, plain_tree, reply_to}
-use Rattle.g_store_model.specs.State.{Holding, State, blocks_of, is_candidate, is_mounted, only_if, room, without_all}
-use Rattle.g_store_model.specs.CallStep.{CallStep, Outcome, brings_now, changes, commits, is_cut, is_disc_read, is_offline, is_tape_read, len_of, need, places_after, reel_of, touched_by, version_read, wants_bytes, writes}
+use Rattle.g_store_model.specs.State.{Holding, State, blocks_of, is_candidate, is_mounted, is_taken, only_if, room, taken_offline, without_all}
+use Rattle.g_store_model.specs.CallStep.{CallStep, IsUnjam, Outcome, brings_now, changes, commits, is_cut, is_disc_read, is_offline, is_tape_read, len_of, need, places_after, reel_of, touched_by, version_read, wants_bytes, writes}
 use Rattle.g_laws_model.specs.Refusals.{Goes, first_of, when}
 
 abbrev pub is_among : ℕ → List ℕ → Bool
@@ -75,3 +75,9 @@ module _ (s : State) (k : Holding) (who : List ℕ) (call : StoreCall) where
 abbrev pub CallsAreSimple : Type 0
 CallsAreSimple = (s : State) (k : Holding) (who : List ℕ) (call : StoreCall) (o : Outcome) (answer : Result StoreReply StoreFault) (new : State)
     → CallStep s k who call o answer new ↔ DoesCall s k who call o answer new
+
+-- whatever stamp unjams, just these are taken below it; and there is one
+pub record UnjamsTake : Type 0 where
+  pub takes : (s : State) (k : Holding) (who : List ℕ) (call : StoreCall) (until : ℕ) → IsUnjam s k who call until
+      → ((stamp : ℕ) → is_taken k until stamp ≡ is_among stamp (taken s k who call)) × (taken_offline until k ≡ offline (taken s k who call) k)
+  pub some : (s : State) (k : Holding) (who : List ℕ) (call : StoreCall) → (until : ℕ) × IsUnjam s k who call until

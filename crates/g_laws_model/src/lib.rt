@@ -2,14 +2,15 @@
 //! a list. Laws alone, which say that these are the steps of g_store_model.
 #![tactic(auto)]
 
-ghost use Rattle.g_laws_model.specs.Calls.{CallsAreSimple};
+ghost use Rattle.g_laws_model.specs.Calls.{CallsAreSimple, UnjamsTake};
 ghost use Rattle.g_laws_model.specs.Events.{EventsAreSimple};
 
 /// The step of a job's call is the call told as a value: with its refusals in one list, and with just enough of the versions that may
-/// be taken offline, the oldest first, or with all.
-#[tactic(auto, using(crate::proofs::CallLemmas::calls_are_simple))]
+/// be taken offline, the oldest first, or with all. Whatever stamp unjams, these are what is taken below it.
+#[tactic(auto, using(crate::proofs::CallLemmas::calls_are_simple, crate::proofs::CallLemmas::unjams_take))]
 pub fn calls_are_simple()
-    ensures { CallsAreSimple }
+    ensures calls { CallsAreSimple }
+    ensures unjams { UnjamsTake }
 {}
 
 /// So are the steps of the operator's events of one commit, and of a mount and an unmount.

@@ -1,5 +1,5 @@
 -- What devices stand for is what they are read as.
-use Rattle.std.proofs.Common.{◌≡◌, ℕ, false, List, [], ◌∷◌, Contains, Option, Some, None, refl, sym, subst, arith}
+use Rattle.std.proofs.Common.{◌≡◌, ℕ, false, List, [], ◌∷◌, Contains, Option, Some, None, refl, sym, ◌∙◌, subst, arith}
 use Rattle.std.specs.Prelude.{All, IfSome, is_some, map}
 use Rattle.std.specs.Option.{option_map}
 use Rattle.std.proofs.lemmas.List.Elements.{All-weaker}
@@ -13,7 +13,7 @@ use Rattle.g_store_model.specs.State.{State}
 use Rattle.g_store_meaning.proofs.OneLemmas.{devices_are_one}
 use Rattle.g_store_meaning.specs.Belonging.{DiscBelongs, KeepsFile, KeepsRecord, RackBelongs}
 use Rattle.g_store_meaning.specs.Meaning.{DumpedDirectory, files_in, told_reels}
-use Rattle.g_store_meaning.specs.Reading.{AllTold, DevicesStandFor, HasText, IsRackView, IsView, View, dumped_of, holding_of, row_of}
+use Rattle.g_store_meaning.specs.Reading.{AllTold, HasText, IsRackView, IsView, View, dumped_of, holding_of, row_of}
 use Rattle.g_run_model.specs.Devices.{AreReadAs, Devices, HoldsThis, StandFor}
 
 nobody : {P : Type 0} (ds : List Dump) (d : Dump) → ds ≡ [] → Contains ds d → P
