@@ -13,7 +13,7 @@ mod read;
 mod rules;
 mod write;
 
-pub use boxed_copy::{BoxedCopy, FileCopy};
+pub use boxed_copy::{BoxedCopy, FileCopy, place_of_copy};
 pub use dirs::Dirs;
 pub use fault::DirsFault;
 pub use laws::{one_directory, quiet_writes};

@@ -7,10 +7,11 @@ ghost use Rattle.g_dirs.specs.Directory.{AreCopies, copy_at, directory_of, entri
 ghost use Rattle.g_dirs.specs.Image.{block_of, entry_at, file_or_empty, user_or_empty};
 ghost use Rattle.g_dirs.specs.Writing.{AreEncodable, IsEncodable, number_of_file};
 
-use crate::FileCopy;
+use crate::{FileCopy, place_of_copy};
 use g_base::{Block, BlockList};
 use g_entry::{
     BoxedRec, FileRec, Format, Head, UserRec, empty_block, encode_file, encode_head, encode_user,
+    place_of,
 };
 use std::marker::Model;
 
@@ -116,7 +117,7 @@ fn file_of(files: &[BoxedRec], number: u16) -> Option<&FileRec>
     requires { AreNumbered files.now }
     ensures { option_copied result ≡ find (λ r. number_of_file r == number) files.now }
 {
-    match files.binary_search_by_key(&number, |r| r.get().number) {
+    match place_of(files, number) {
         Ok(place) => Some(files[place].get()),
         Err(_) => None,
     }
@@ -127,7 +128,7 @@ fn places_of(online: &[FileCopy], number: u16) -> Option<&BlockList>
     requires { AllPairs (λ c d. c.0 < d.0) online.now }
     ensures { option_copied result ≡ option_map (λ c. c.blocks) (copy_at online.now number) }
 {
-    match online.binary_search_by_key(&number, |c| c.number()) {
+    match place_of_copy(online, number) {
         Ok(place) => Some(&online[place].get().blocks),
         Err(_) => None,
     }

@@ -80,7 +80,7 @@ taken_step : (o : Option State) (at : ℕ) (cs : List ℕ) → ((t : State) → 
 taken_step None at cs again taken = absurd (false≢true taken)
 taken_step (Some t) at cs again taken = again t taken
 
-taken_none : (s : State) (at : ℕ) (text : List ℕ) → takes s text ≡ true → wrong_from s at text ≡ None
+pub taken_none : (s : State) (at : ℕ) (text : List ℕ) → takes s text ≡ true → wrong_from s at text ≡ None
 taken_none s at [] taken = taken_end (may_end s) at taken
 taken_none s at (c ∷ cs) taken = taken_step (step c s) at cs (λ t more. taken_none t (at + 1) cs more) taken
 

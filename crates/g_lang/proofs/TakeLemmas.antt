@@ -80,7 +80,7 @@ begins_label c cs t is =
     let goes : step c Front ≡ Some (InLabel 1) = rw (other, parts.0) refl in
     goes-on c Front (InLabel 1) (cs ++ t) goes ∙ label_taken 1 cs t parts.2 (let h = parts.1 in omega (arith, h))
 
-label_goto : (label : List ℕ) (back : ℕ) → is_label label ≡ true → takes ALabel (label ++ spaces back) ≡ true
+pub label_goto : (label : List ℕ) (back : ℕ) → is_label label ≡ true → takes ALabel (label ++ spaces back) ≡ true
 label_goto [] back is = absurd (false≢true is)
 label_goto (c ∷ cs) back is =
     let parts = label_parts c cs is in

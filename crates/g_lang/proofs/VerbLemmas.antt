@@ -3,11 +3,14 @@ use Rattle.std.proofs.Common.{List, None, Option, Some, [], ap, append-nil, appe
 use Rattle.std.proofs.lemmas.Bool.{and_parts, and_right, cond_both, false≢true}
 use Rattle.std.specs.List.{list_all}
 use Rattle.g_lang.proofs.ReadLemmas.{letter_no_digit}
-use Rattle.g_lang.proofs.SpaceLemmas.{at_space, letter-name_char, name_char-no_space}
-use Rattle.g_lang.proofs.TakeLemmas.{verb_end, verb_state, word_parts}
-use Rattle.g_lang.specs.LineReader.{Front, Params, State, VerbGap, Word, behind_word, in_params, may_end, step, wrong_from}
+use Rattle.g_lang.proofs.PlaceLemmas.{takes}
+use Rattle.g_lang.proofs.ReadingLemmas.{taken_none}
+use Rattle.g_lang.proofs.ValueLemmas.{behind-is}
+use Rattle.g_lang.proofs.SpaceLemmas.{at_space, digit-name_char, letter-name_char, name_char-no_space}
+use Rattle.g_lang.proofs.TakeLemmas.{label_goto, label_parts, verb_end, verb_state, word_parts}
+use Rattle.g_lang.specs.LineReader.{ALabel, Front, Gap, InLabel, Params, State, VerbGap, Word, behind, behind_word, in_params, may_end, step, wrong_from}
 use Rattle.g_lang.specs.Lines.{is_verb}
-use Rattle.g_lang.specs.Words.{spaces, without_front, word_of}
+use Rattle.g_lang.specs.Words.{is_label, spaces, without_front, word_of}
 use Rattle.g_name.specs.Grammar.{is_name_char, is_word}
 use Rattle.g_name.specs.Order.{same_text}
 
@@ -157,3 +160,145 @@ behind_short text =
     let h = length-append (spaces f.count) (without_front cut.rest) in
     let i = ap length cut.behind in
     omega (arith, a, b, c, d, g, h, i)
+
+-- the characters of a label
+label_on : (xs t : List ℕ) (n at : ℕ) → list_all is_name_char xs ≡ true → n + length xs ≤ 12 → wrong_from (InLabel n) at (xs ++ t) ≡ wrong_from (InLabel (n + length xs)) (at + length xs) t
+label_on [] t n at all fits =
+    ap (λ (m : ℕ). wrong_from (InLabel m) at t) (let e : n ≡ n + 0 = omega arith in e) ∙ from (InLabel (n + 0)) t at (at + 0) (omega arith)
+label_on (c ∷ xs) t n at all fits =
+    let both = and_parts (is_name_char c) (list_all is_name_char xs) all in
+    let room : nat_lt n 12 ≡ true = lt-ltb n 12 (omega (arith, fits)) in
+    let goes : step c (InLabel n) ≡ Some (InLabel (n + 1)) = rw (both.0, room) refl in
+    on (InLabel n) (InLabel (n + 1)) at c (xs ++ t) goes
+    ∙ label_on xs t (n + 1) (at + 1) both.1 (omega (arith, fits))
+    ∙ ap (λ (m : ℕ). wrong_from (InLabel m) (at + 1 + length xs) t) (let e : n + 1 + length xs ≡ n + suc (length xs) = omega arith in e)
+    ∙ from (InLabel (n + suc (length xs))) t (at + 1 + length xs) (at + suc (length xs)) (omega arith)
+
+whole_label : (label t : List ℕ) (at : ℕ) → is_label label ≡ true → wrong_from Front at (label ++ t) ≡ wrong_from (InLabel (length label)) (at + length label) t
+whole_label [] t at is = absurd (false≢true is)
+whole_label (c ∷ cs) t at is =
+    let parts = label_parts c cs is in
+    let fits = parts.1 in
+    let goes : step c Front ≡ Some (InLabel 1) = rw (name_char-no_space c (digit-name_char c parts.0), parts.0) refl in
+    on Front (InLabel 1) at c (cs ++ t) goes ∙ label_on cs t 1 (at + 1) parts.2 (omega (arith, fits))
+    ∙ ap (λ (m : ℕ). wrong_from (InLabel m) (at + 1 + length cs) t) (let e : 1 + length cs ≡ suc (length cs) = omega arith in e)
+    ∙ from (InLabel (suc (length cs))) t (at + 1 + length cs) (at + suc (length cs)) (omega arith)
+
+-- the spaces behind a label
+gap_on : (n at : ℕ) (t : List ℕ) → wrong_from Gap at (spaces n ++ t) ≡ wrong_from Gap (at + n) t
+gap_on zero at t = from Gap t at (at + 0) (omega arith)
+gap_on (suc n) at t = gap_on n (at + 1) t ∙ from Gap t (at + 1 + n) (at + suc n) (omega arith)
+
+behind_label : (n : ℕ) (rest : List ℕ) (at : ℕ) → at_space rest ≡ true
+    → wrong_from (InLabel n) at rest ≡ wrong_from Gap (at + (length rest - length (without_front rest))) (without_front rest)
+behind_label n [] at space = refl
+behind_label n (c ∷ cs) at space =
+    let same : c ≡ 32 = eqb-true c 32 space in
+    let cut = front_cut (c ∷ cs) in
+    let goes : step c (InLabel n) ≡ Some Gap = subst (λ (d : ℕ). step d (InLabel n) ≡ Some Gap) (sym same) refl in
+    let gap : step c Gap ≡ Some Gap = subst (λ (d : ℕ). step d Gap ≡ Some Gap) (sym same) refl in
+    let long = ap length cut.whole in
+    let parts = length-append (spaces cut.count) (without_front (c ∷ cs)) in
+    on (InLabel n) Gap at c cs goes ∙ sym (on Gap Gap at c cs gap)
+    ∙ ap (wrong_from Gap at) cut.whole ∙ gap_on cut.count at (without_front (c ∷ cs))
+    ∙ from Gap (without_front (c ∷ cs)) (at + cut.count) (at + (length (c ∷ cs) - length (without_front (c ∷ cs)))) (omega (arith, long, parts, spaces_long cut.count))
+
+-- a line that begins with a label goes wrong where the command behind it does
+label_line : (text : List ℕ) → is_label (word_of (without_front text)) ≡ true
+    → wrong_from Front 0 text ≡ wrong_from Gap (length text - length (behind_word (without_front text))) (behind_word (without_front text))
+label_line text is =
+    let line = without_front text in
+    let label = word_of line in
+    let front = front_cut text in
+    let cut = word_cut line in
+    let command = without_front cut.rest in
+    let n = front.count in
+    let a = ap length front.whole in
+    let b = length-append (spaces n) line in
+    let c = ap length cut.whole in
+    let d = length-append label cut.rest in
+    let e = spaces_long n in
+    let f = front_cut cut.rest in
+    let g = ap length f.whole in
+    let h = length-append (spaces f.count) command in
+    let place : 0 + n + length label + (length cut.rest - length command) ≡ length text - length command = omega (arith, a, b, c, d, e, g, h) in
+    ap (wrong_from Front 0) front.whole ∙ front_on n 0 line ∙ ap (wrong_from Front (0 + n)) cut.whole ∙ whole_label label cut.rest (0 + n) is
+    ∙ behind_label (length label) cut.rest (0 + n + length label) cut.space
+    ∙ from Gap command (0 + n + length label + (length cut.rest - length command)) (length text - length command) place
+    ∙ ap (λ (ps : List ℕ). wrong_from Gap (length text - length ps) ps) (sym cut.behind)
+
+-- a verb behind a label
+whole_gap : (name t : List ℕ) (at : ℕ) → is_word name ≡ true → wrong_from Gap at (name ++ t) ≡ wrong_from (Word name false) (at + length name) t
+whole_gap [] t at is = absurd (false≢true is)
+whole_gap (c ∷ cs) t at is =
+    let parts = word_parts c cs is in
+    let fits = parts.1 in
+    let goes : step c Gap ≡ Some (Word (c ∷ []) false) = rw (name_char-no_space c (letter-name_char c parts.0), parts.0) refl in
+    on Gap (Word (c ∷ []) false) at c (cs ++ t) goes ∙ word_on c [] cs t (at + 1) parts.2 (omega (arith, fits))
+    ∙ from (Word (c ∷ cs) false) t (at + 1 + length cs) (at + suc (length cs)) (omega arith)
+
+word_short : (text : List ℕ) → length (behind_word text) ≤ length text
+word_short text =
+    let cut = word_cut text in
+    let f = front_cut cut.rest in
+    let a = ap length cut.whole in
+    let b = length-append (word_of text) cut.rest in
+    let c = ap length f.whole in
+    let d = length-append (spaces f.count) (without_front cut.rest) in
+    let e = ap length cut.behind in
+    omega (arith, a, b, c, d, e)
+
+verb_gap : (command : List ℕ) (at : ℕ) → is_verb (word_of command) ≡ true
+    → wrong_from Gap at command ≡ wrong_from (Params 0) (at + (length command - length (behind_word command))) (behind_word command)
+verb_gap command at is =
+    let name = word_of command in
+    let cut = word_cut command in
+    let params = without_front cut.rest in
+    let word : is_word name ≡ true = (and_parts (is_word name) _ is).0 in
+    let f = front_cut cut.rest in
+    let a = ap length cut.whole in
+    let b = length-append name cut.rest in
+    let c = ap length f.whole in
+    let d = length-append (spaces f.count) params in
+    ap (wrong_from Gap at) cut.whole ∙ whole_gap name cut.rest at word ∙ behind_on name cut.rest (at + length name) is cut.space
+    ∙ from (Params 0) params (at + length name + (length cut.rest - length params)) (at + (length command - length params)) (omega (arith, a, b, c, d))
+    ∙ ap (λ (ps : List ℕ). wrong_from (Params 0) (at + (length command - length ps)) ps) (sym cut.behind)
+
+-- A LINE THAT BEGINS WITH A LABEL AND A VERB
+pub labelled_verb : (text : List ℕ) → is_label (word_of (without_front text)) ≡ true → is_verb (word_of (behind_word (without_front text))) ≡ true
+    → wrong_from Front 0 text ≡ wrong_from (Params 0) (length text - length (behind_word (behind_word (without_front text)))) (behind_word (behind_word (without_front text)))
+labelled_verb text label verb =
+    let command = behind_word (without_front text) in
+    let params = behind_word command in
+    let a = behind_short text in
+    let b = word_short command in
+    label_line text label ∙ verb_gap command (length text - length command) verb
+    ∙ from (Params 0) params (length text - length command + (length command - length params)) (length text - length params) (omega (arith, a, b))
+
+pub params_short : (text : List ℕ) → length (behind_word (behind_word (without_front text))) ≤ length text
+params_short text =
+    let a = behind_short text in
+    let b = word_short (behind_word (without_front text)) in
+    omega (arith, a, b)
+
+-- GOTO with its label
+goto_label : (label : List ℕ) (at : ℕ) → is_label label ≡ true → wrong_from ALabel at label ≡ None
+goto_label label at is = taken_none ALabel at label (ap (takes ALabel) (sym (append-nil label)) ∙ label_goto label 0 is)
+
+goto_front : (command label : List ℕ) (at : ℕ) → behind (codes "GOTO ") command ≡ Some label → is_label label ≡ true → wrong_from Front at command ≡ None
+goto_front command label at goes is = ap (wrong_from Front at) (behind-is (codes "GOTO ") command label goes) ∙ goto_label label (at + 1 + 1 + 1 + 1 + 1) is
+
+goto_gap : (command label : List ℕ) (at : ℕ) → behind (codes "GOTO ") command ≡ Some label → is_label label ≡ true → wrong_from Gap at command ≡ None
+goto_gap command label at goes is = ap (wrong_from Gap at) (behind-is (codes "GOTO ") command label goes) ∙ goto_label label (at + 1 + 1 + 1 + 1 + 1) is
+
+-- A LINE THAT IS ONE
+pub goto_line : (text label : List ℕ) → behind (codes "GOTO ") (without_front text) ≡ Some label → is_label label ≡ true → wrong_from Front 0 text ≡ None
+goto_line text label goes is =
+    let front = front_cut text in
+    ap (wrong_from Front 0) front.whole ∙ front_on front.count 0 (without_front text) ∙ goto_front (without_front text) label (0 + front.count) goes is
+
+pub labelled_goto : (text label : List ℕ) → is_label (word_of (without_front text)) ≡ true → behind (codes "GOTO ") (behind_word (without_front text)) ≡ Some label → is_label label ≡ true
+    → wrong_from Front 0 text ≡ None
+labelled_goto text label named goes is =
+    let command = behind_word (without_front text) in
+    label_line text named ∙ goto_gap command label (length text - length command) goes is

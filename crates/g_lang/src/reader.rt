@@ -1,13 +1,14 @@
 //! A reader of lines that takes one byte after another: it tells where a text goes wrong, and takes no memory.
 ghost use Rattle.std.specs.Option.{option_map};
-ghost use Rattle.std.specs.Prelude.{◌≡◌, ◌^◌, ◌<◌, ◌≤◌, ◌+◌, ◌||◌, ◌∷◌, ◌++◌, [], IfSome, List, codes, drop, length, ℕ};
+ghost use Rattle.std.specs.Prelude.{◌≡◌, ◌^◌, ◌<◌, ◌≤◌, ◌+◌, ◌||◌, ◌∷◌, ◌++◌, [], IfSome, IsTrue, List, Some, codes, drop, length, true, ℕ};
 ghost use Rattle.g_lang.specs.Lines as lines;
 ghost use Rattle.g_name.specs.Order.{same_text};
 ghost use Rattle.g_lang.specs.LineReader as how;
+ghost use Rattle.g_lang.specs.Words.{is_label, without_front, word_of};
 ghost use Rattle.g_lang.specs.Places.{Goes, Steps, state_of, next_of, depth_of, word_start};
 
-use crate::bytes::{is_digit, is_param_letter, is_printed, is_word};
-use crate::pieces::{split_word, without_front};
+use crate::bytes::{is_digit, is_label, is_param_letter, is_printed, is_word};
+use crate::pieces::{behind, split_word, without_front};
 use g_name::{extends, is_name_char};
 
 /// What comes behind a fixed text of a condition.
@@ -65,16 +66,48 @@ enum Place {
 }
 
 /// The place where a text goes wrong as a line, if it does: the length of its longest front that begins some line.
-#[tactic(auto, using(crate::proofs::VerbLemmas::verb_line, crate::proofs::VerbLemmas::behind_short))]
+#[tactic(auto, using(crate::proofs::VerbLemmas::verb_line, crate::proofs::VerbLemmas::behind_short, crate::proofs::VerbLemmas::goto_line))]
 pub(crate) fn wrong_place(text: &[u8]) -> Option<usize>
     ensures { result ≡ how.wrong_from how.Front 0 text.now }
 {
-    // Most lines are a verb and its parameters.
-    let (word, params) = split_word(without_front(text));
+    // Most lines are a verb and its parameters, or a GOTO, behind a label or none.
+    let line = without_front(text);
+    let (word, rest) = split_word(line);
     if is_verb(word) {
-        wrong_in_params(params, text.len() - params.len())
+        wrong_in_params(rest, text.len() - rest.len())
+    } else if is_label(word) {
+        wrong_behind_label(text, rest)
+    } else if is_goto(line) {
+        None
     } else {
         wrong_by_steps(text)
+    }
+}
+
+/// The same of a text that begins with a label, behind which this stands.
+#[tactic(auto, using(crate::proofs::VerbLemmas::labelled_verb, crate::proofs::VerbLemmas::params_short, crate::proofs::VerbLemmas::labelled_goto))]
+fn wrong_behind_label(text: &[u8], command: &[u8]) -> Option<usize>
+    requires label { is_label (word_of (without_front text.now)) ≡ true }
+    requires command { command.now ≡ how.behind_word (without_front text.now) }
+    ensures { result ≡ how.wrong_from how.Front 0 text.now }
+{
+    let (word, params) = split_word(command);
+    if is_verb(word) {
+        wrong_in_params(params, text.len() - params.len())
+    } else if is_goto(command) {
+        None
+    } else {
+        wrong_by_steps(text)
+    }
+}
+
+/// Whether a command is a GOTO with its label. The other answer says nothing: it may have spaces behind.
+fn is_goto(command: &[u8]) -> bool
+    ensures { IsTrue result → (label : List ℕ) × (how.behind (codes "GOTO ") command.now ≡ Some label) × (is_label label ≡ true) }
+{
+    match behind(b"GOTO ", command) {
+        Some(label) => is_label(label),
+        None => false,
     }
 }
 

@@ -1,7 +1,7 @@
 -- Loops that look for a line or an entry.
 use Rattle.std.proofs.Common.{List, None, Option, Some, [], ap, append_assoc, arith, cond, drop, drop-cons, drop_of_length-le, false, get_or, length, option_map, refl, suc, sym, take, true, ℕ, ◌++◌, ◌+◌, ◌<◌, ◌∙◌, ◌∷◌, ◌≡◌, ◌≤◌}
 use Rattle.std.proofs.lemmas.Bool.{cond_both}
-use Rattle.std.proofs.lemmas.List.{length-append, take_at}
+use Rattle.std.proofs.lemmas.List.{drop_more, length-append, take_at}
 use Rattle.g_lang.specs.Conditions.{same_cond}
 use Rattle.g_lang.specs.declared.line.Cond.{Cond}
 use Rattle.g_lines.specs.Lines.{ended, lines_of, text_of}
@@ -114,3 +114,11 @@ passed-within [] = omega arith
 passed-within (line ∷ lines) =
     let within = passed-within lines in
     cond_both (is_closing line) 1 (1 + passed lines) (λ (n : ℕ). n ≤ length (line ∷ lines)) (λ _. omega arith) (λ _. omega (arith, within))
+
+-- the next of the lines that are left, and how many bytes it has with its byte 10
+pub one-left : (lines : List (List ℕ)) (taken : ℕ) → taken < length lines → (1 ≤ length (drop taken lines)) × (length (get_or lines taken []) + 1 ≡ length (text_of (take 1 (drop taken lines))))
+one-left lines taken inside =
+    let line = get_or lines taken [] in
+    let cut : drop taken lines ≡ line ∷ drop (taken + 1) lines = drop_more lines taken [] inside in
+    let text : text_of (take 1 (drop taken lines)) ≡ ended line ++ [] = ap (λ (ls : List (List ℕ)). text_of (take 1 ls)) cut in
+    (omega (arith, ap length cut), omega (arith, ap length text, length-append (ended line) [], length-append line (10 ∷ [])))

@@ -78,20 +78,28 @@ impl Level {
         self.cursor.has_line()
     }
 
-    /// The next line, with the parameters put in.
-    pub fn next_line(&self, alloc: Global) -> Result<Filled, NoMemory>
+    /// The next line, as it stands.
+    pub fn line(&self) -> &[u8]
         requires { levels.has_line self.now ≡ true }
-        ensures { IfOk result (IsFilled (substituted self.now.params (levels.line_at self.now))) }
+        ensures { result.now ≡ levels.line_at self.now }
     {
-        fill_in(alloc, self.params.as_slice(), self.cursor.line())
+        self.cursor.line()
     }
 
-    /// Counts the next line as taken.
-    pub fn take_line(&mut self)
-        requires { levels.has_line self.old ≡ true }
+    /// A line, with the parameters put in.
+    pub fn filled(&self, alloc: Global, line: &[u8]) -> Result<Filled, NoMemory>
+        ensures { IfOk result (IsFilled (substituted self.now.params line.now)) }
+    {
+        fill_in(alloc, self.params.as_slice(), line)
+    }
+
+    /// Counts the next line as taken, which has so many bytes with its byte 10.
+    pub fn pass_line(&mut self, bytes: usize)
+        requires line { levels.has_line self.old ≡ true }
+        requires bytes { bytes ≡ length (levels.line_at self.old) + 1 }
         ensures { self.new ≡ levels.line_taken self.old }
     {
-        self.cursor.take_line();
+        self.cursor.pass(1, bytes);
     }
 
     /// Takes the lines up to `////`, which is taken too, or to the end, and gives those in front of it, each with its byte

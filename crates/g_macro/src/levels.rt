@@ -66,9 +66,12 @@ impl Levels {
             self.levels.truncate(live);
             return Ok(None);
         }
-        let filled = self.levels[live - 1].next_line(alloc)?;
+        let level = &self.levels[live - 1];
+        let line = level.line();
+        let bytes = line.len() + 1;
+        let filled = level.filled(alloc, line)?;
         self.levels.truncate(live);
-        self.levels[live - 1].take_line();
+        self.levels[live - 1].pass_line(bytes);
         if filled.is_cut {
             Err(MacroFault::TooLong(filled.text))
         } else {

@@ -7,7 +7,7 @@ ghost use Rattle.g_online.specs.Copies.{with_copy_at};
 
 use g_base::{BlockList, NoMemory};
 use g_copy::DiscCopy;
-use g_dirs::{BoxedCopy, FileCopy};
+use g_dirs::{BoxedCopy, FileCopy, place_of_copy};
 use std::alloc::Global;
 
 /// The copy on disc of the file of this number, where there is one.
@@ -15,7 +15,7 @@ pub(crate) fn copy_of(online: &[FileCopy], number: u16) -> Option<&DiscCopy>
     requires { AllPairs (λ c d. c.0 < d.0) online.now }
     ensures { option_copied result ≡ copy_at online.now number }
 {
-    match online.binary_search_by_key(&number, |c| c.number()) {
+    match place_of_copy(online, number) {
         Ok(place) => Some(online[place].get()),
         Err(_) => None,
     }
@@ -28,7 +28,7 @@ pub(crate) fn put_copy(online: &mut Vec<FileCopy>, number: u16, copy: BoxedCopy)
     ensures { online.new.items ≡ with_copy_at (number, copy) online.old.items }
 {
     let copy = copy.of_file(number);
-    match online.binary_search_by_key(&number, |c| c.number()) {
+    match place_of_copy(online, number) {
         Ok(place) => {
             online[place] = copy;
         }

@@ -17,7 +17,7 @@ use crate::{Online, OnlineFault};
 use g_base::FIRST_FILE_BLOCK;
 use g_blocks::Pool;
 use g_copy::DiscCopy;
-use g_dirs::FileCopy;
+use g_dirs::{FileCopy, place_of_copy};
 use g_disc::Disc;
 
 impl<D: Disc> Online<D> {
@@ -82,7 +82,7 @@ pub(crate) fn forget_copy(online: &mut Vec<FileCopy>, number: u16)
     ensures copies { online.new.items ≡ without_copy number online.old.items }
     ensures room { vec_len online.old < vec_capacity online.old → vec_len online.new < vec_capacity online.new }
 {
-    match online.binary_search_by_key(&number, |c| c.number()) {
+    match place_of_copy(online, number) {
         Ok(place) => {
             online.remove(place);
         }

@@ -29,7 +29,7 @@ use crate::numbers::UserNumbers;
 use crate::pin_list::PinList;
 use crate::records::{kept_head, mark_user_changed};
 use crate::{Online, OnlineFault};
-use g_base::{BlockList, FIRST_FILE_BLOCK, blocks_for};
+use g_base::{FIRST_FILE_BLOCK, blocks_for};
 use g_blocks::Pool;
 use g_copy::{DiscCopy, write_copy};
 use g_dirs::{BoxedCopy, FileCopy, Pages};
@@ -214,22 +214,11 @@ fn take_blocks(
     };
     match pool.take(alloc, n) {
         Ok(blocks) => {
-            copy.set(DiscCopy {
-                blocks: list_of(&blocks),
-                len,
-            });
+            copy.fill(&blocks, len);
             Ok(copy)
         }
         Err(_) => Err(OnlineFault::NoMemory),
     }
-}
-
-/// The list of these numbers.
-fn list_of(numbers: &[u32]) -> BlockList
-    requires { length numbers.now ≤ 128 }
-    ensures { result ≡ numbers.now }
-{
-    BlockList::from_slice(numbers).unwrap()
 }
 
 /// Gives the blocks of these files back to the pool.

@@ -1,5 +1,5 @@
 -- WHAT DEVICES COUNT in an event, by its answer.
-use Rattle.std.proofs.Common.{◌≡◌, ◌≤◌, ℕ, [], refl, sym, ◌∙◌, ap, arith}
+use Rattle.std.proofs.Common.{◌≡◌, ◌≤◌, [], refl}
 use Rattle.std.specs.Prelude.{Result, Err}
 use Rattle.g_base.specs.Counts.{Rose}
 use Rattle.g_base.proofs.CountLemmas.{Rose-later}

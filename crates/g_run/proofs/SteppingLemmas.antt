@@ -1,5 +1,5 @@
 -- What the devices count in a step of the open dump, by its outcome.
-use Rattle.std.proofs.Common.{◌≡◌, ℕ, List, Option, Result, Ok, Err, refl, sym, ap, subst, inl, inr, arith}
+use Rattle.std.proofs.Common.{◌≡◌, ℕ, List, Option, Result, Ok, Err, refl, sym, ap, subst, inl, inr}
 use Rattle.g_disc_contents.specs.Facts.{OnlineFacts}
 use Rattle.g_dumper.specs.Steps.{Abandoned, FailedWrite, Stepping, WroteBlock}
 use Rattle.g_online.specs.Pins.{IsClosing}

@@ -1,6 +1,5 @@
 pub mod HeldLemmas
 pub mod LastLemmas
-pub mod ListedLemmas
 pub mod MarkLemmas
 pub mod OneLemmas
 pub mod QuietLemmas

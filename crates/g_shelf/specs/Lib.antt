@@ -1,4 +1,3 @@
-pub mod Catalogue
 pub mod CompletedDumps
 pub mod FoundDumps
 pub mod HeldBlocks

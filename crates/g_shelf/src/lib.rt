@@ -14,8 +14,8 @@ ghost use Rattle.g_shelf.specs.QuietWrites.{MarkCompletes, QuietBlocks};
 pub use copy::{find_copy, holds, is_held};
 pub use last::{first_unmounted, last_dump};
 pub use notes::{completed, end_of};
-pub use rack::{Listed, Notes, catalogue};
-pub use walk::{OfDump, read_reel};
+pub use rack::{Listed, Notes};
+pub use walk::{OfDump, next_dump, read_reel};
 
 /// A write of the next block of a dump that begins behind the completed ones, whatever it leaves, leaves the completed
 /// dumps as they are, where the block stands before the mark; and a write of the mark leaves them, or adds that dump.

@@ -52,8 +52,9 @@ pub fn read_reel<T: Tapes, K: OfDump + Drop>(
     }
 }
 
-/// The dump that stands whole at block `at`, if its number is `least` or greater.
-fn next_dump<T: Tapes>(
+/// The dump that stands whole at block `at` of the reel, if its number is `least` or greater (docs/FORMATS.md): the next one of
+/// a walk. Its content isn't read. `NoTape`, `NotMounted`, `ReadFault`, `NoMemory`; the reel is as it was.
+pub fn next_dump<T: Tapes>(
     alloc: Global,
     tapes: &mut T,
     serial: u32,

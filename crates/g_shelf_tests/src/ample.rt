@@ -1,7 +1,8 @@
 //! Each call with ample memory, over a dump without files.
 use g_entry::TapeCopy;
 use g_incr::{DumpNote, ShelfFault};
-use g_shelf::{catalogue, completed, end_of, find_copy, first_unmounted, is_held, last_dump};
+use g_known::{KnownReels, catalogue};
+use g_shelf::{completed, end_of, find_copy, first_unmounted, is_held, last_dump};
 use g_tape::{MemoryTapes, Tapes};
 use std::test::Fail;
 
@@ -48,6 +49,13 @@ fn ample(rt: HostRuntime) -> Result<(), Fail> {
         first: 3,
     };
     assert!(rt; find_copy(alloc, &mut tapes, &copy, 1) == Ok(false));
+    let mut tapes = KnownReels::new(alloc, tapes);
+    for _ in 0..2 {
+        assert!(rt; tapes.end_of(alloc, 9) == Ok(4));
+        assert!(rt; tapes.find_copy(alloc, &copy, 1) == Ok(false));
+        let notes = tapes.notes(alloc, 9)?;
+        assert!(rt; notes.as_slice() == [note].as_slice());
+    }
     let lists = match first_unmounted(&tapes) {
         None => catalogue(alloc, &mut tapes)?,
         Some(_) => return Err("a reel that isn't mounted".into()),
@@ -57,5 +65,6 @@ fn ample(rt: HostRuntime) -> Result<(), Fail> {
     assert!(rt; list.serial == 9 && list.notes.as_slice() == [note].as_slice());
     assert!(rt; !is_held(list.notes.as_slice(), &copy, 1));
     assert!(rt; is_held(list.notes.as_slice(), &copy, 0));
+    assert!(rt; tapes.into_tapes().length(9) == Ok(4));
     Ok(())
 }

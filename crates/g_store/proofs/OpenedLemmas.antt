@@ -740,7 +740,7 @@ module _ (serial : ℕ) (o : OnlineFacts) (rack : Rack) (on : Reel) (on_is : ree
       opens_ok new after d said.tied said.reads (said.refused.kept (λ no. let it : ⊥ = cc in it)) begins
       (Causes-for (λ p. p) (λ p. p) (λ no. absurd (let it : ⊥ = cc in it)) (λ no. absurd no) said.causes) (omega (arith, room, capacity)) said.keeps
   by_answer right new after (Err Stopped) said =
-      cut new after said.tied said.reads said.causes.size (said.causes.writes_rose refl) right (said.stopped refl) said.causes.arms (said.causes.reads_kept (λ no. no)) said.keeps said.refused
+      cut new after said.tied said.reads said.causes.size (said.causes.writes_rose refl) right (said.stopped refl) said.causes.arms said.causes.later (said.causes.reads_kept (λ no. no)) said.keeps said.refused
   by_answer right new after (Err TapeReadFault) said = couldnt_read new after said.tied said.reads said.left said.keeps said.refused
   by_answer right new after (Err (TapeFull need room)) said = too_short new after said.tied said.reads right need room said.left said.keeps said.refused
   by_answer right new after (Err NoMemory) said = forgetful new after said.tied said.reads said.left said.keeps said.refused

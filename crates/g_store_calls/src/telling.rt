@@ -17,7 +17,7 @@ use g_name::{Full, User};
 use g_online::Online;
 use g_plain::{Listing, StoreFault, StoreReply};
 use g_trap::Modes;
-use g_tree::Tree;
+use g_tree::{Tree, full_of};
 use std::alloc::Global;
 
 /// The answer to `List`: no device is asked, and nothing changes. `NoMemory`.
@@ -90,12 +90,8 @@ fn row_of(tree: &Tree, number: u16) -> (Full, u32)
     requires { IsThere tree.now.files number }
     ensures { result ≡ row_of tree.now.users tree.now.files number }
 {
-    let Some(file) = tree.file_at(number) else {
-        unreachable!()
-    };
-    let len = file.len;
-    match tree.full_name(number) {
-        Some(full) => (full, len),
+    match tree.file_at(number) {
+        Some(file) => (full_of(tree.users(), file), file.len),
         None => unreachable!(),
     }
 }

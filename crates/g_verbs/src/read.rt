@@ -1,5 +1,5 @@
 //! From a verb and its parameters to what it asks for.
-ghost use Rattle.std.specs.Prelude.{◌≡◌, ◌∷◌, ℕ, [], List, IfOk, IfSome};
+ghost use Rattle.std.specs.Prelude.{◌≡◌, ◌∷◌, ℕ, [], List, IfOk, IfSome, IsTrue};
 ghost use Rattle.g_verbs.specs.Forms.{AreGood, just};
 ghost use Rattle.g_verbs.specs.VerbReader as how;
 ghost use Rattle.g_verbs.specs.Tables.{forms_said};
@@ -22,14 +22,26 @@ pub fn read_verb(name: &Local, params: Texts, rest: Text) -> Result<Action, Verb
     ensures sound { IfOk result verbs.IsSound }
 {
     let verb = Verb::of(name.as_slice());
-    if let Some(action) = on_file(verb, params.rows()) {
-        return Ok(action);
+    if is_of_one_file(verb) {
+        if let Some(action) = on_file(verb, params.rows()) {
+            return Ok(action);
+        }
     }
     let forms = forms_of(verb);
     if let Some(index) = forms.first_wrong(params.rows()) {
         return Err(VerbFault::BadParameter(index));
     }
     Ok(asked_by(verb, name, params, rest))
+}
+
+/// Whether a verb takes one file and nothing else. The others don't pay for what `on_file` may answer, which is large.
+fn is_of_one_file(verb: Option<Verb>) -> bool
+    ensures { IsTrue result → verbs.forms_with verb ≡ just (form.File ∷ []) }
+{
+    match verb {
+        Some(Verb::Input | Verb::Erase | Verb::ListFile | Verb::Retrieve | Verb::Load) => true,
+        _ => false,
+    }
 }
 
 /// What a verb of one file asks for, where this is its only parameter, which is read once then; `None` elsewhere.

@@ -1,10 +1,9 @@
-use Rattle.std.proofs.Common.{◌<◌, AllPairs, rules, ap, subst, sym, ◌∙◌}
+use Rattle.std.proofs.Common.{◌<◌, AllPairs, ap, subst, sym, ◌∙◌}
 use Rattle.std.proofs.Common.{not, ℕ}
 use Rattle.std.specs.List.{insert}
 use Rattle.std.specs.Result.{is_ok}
 use Rattle.std.proofs.lemmas.Bool.{cond-true}
 use Rattle.std.proofs.Math.ListN.{set}
-use Rattle.std.proofs.lemmas.List.Sorted.{answers_always}
 use Rattle.g_copy.specs.declared.copy.DiscCopy.{DiscCopy}
 use Rattle.g_online.specs.Copies.{with_copy_at}
 use Rattle.g_online.proofs.CopyLemmas.{Copies}
@@ -14,9 +13,12 @@ use Rattle.g_online.proofs.copies.put_copy.Goals as goal
 abbrev Rises : Copies → Type 0
 Rises online = AllPairs (λ c d. c.0 < d.0) online
 
+pub place_of_copy-requires : goal.place_of_copy-requires
+place_of_copy-requires c = subst Rises (sym c.deref.ensures.value) c.requires.rising
+
 pub returns-in-Ok : goal.returns-in-Ok
 returns-in-Ok c =
-    let by_key = c.in-Ok.ensures.position (λ r. r.0) (answers_always _ _ _ (λ f a r g called. search rules)) in
+    let by_key = c.in-Ok.ensures.position in
     let same = c.deref.ensures.value in
     let rising : Rises c.deref.result.now = subst Rises (sym same) c.requires.rising in
     ap (λ (x : ℕ × DiscCopy). set c.args.online.now.items c.in-Ok.place x) c.of_file-copy.ensures
@@ -26,7 +28,7 @@ returns-in-Ok c =
 
 pub returns-else-is_err : goal.returns-else-is_err
 returns-else-is_err c =
-    let by_key = c.in-Err.ensures.position (λ r. r.0) (answers_always _ _ _ (λ f a r g called. search rules)) in
+    let by_key = c.in-Err.ensures.position in
     let same = c.deref.ensures.value in
     let rising : Rises c.deref.result.now = subst Rises (sym same) c.requires.rising in
     c.insert.ensures.items

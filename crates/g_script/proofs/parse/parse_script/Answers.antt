@@ -3,7 +3,7 @@ use Rattle.g_lines.specs.Lines.{lines_of}
 use Rattle.g_script.specs.Reading.{IsTaken}
 use Rattle.g_script.specs.Script.{Say}
 use Rattle.g_script.specs.declared.operator.Timed.{Timed}
-use Rattle.g_script.proofs.ReadLemmas.{bad_few, front_few, front_next, parsed_bad, taken_few, IsFront}
+use Rattle.g_script.proofs.ReadLemmas.{IsFront, bad_few, front_few, front_next, parsed_bad, parsed_whole, taken_few}
 use Rattle.g_script.proofs.parse.parse_script.Goals as goal
 
 pub read_item-requires : goal.read_item-requires
@@ -36,3 +36,7 @@ pub returns-in-BadAt : goal.returns-in-BadAt
 returns-in-BadAt c =
     parsed_bad (lines_of c.args.bytes.now) c.loop-line.lines c.loop-line.said c.loop-line.before c.in-BadAt.place c.loop-line.invariant
     (subst (λ (ls : List (List ℕ)). Say 1 ls [] (Some c.in-BadAt.place)) (sym c.in-Some.ensures.line) (rw c.in-BadAt.is at c.in_ok-next.ensures))
+
+pub returns : goal.returns
+returns c =
+    parsed_whole (lines_of c.args.bytes.now) c.loop-line.lines c.loop-line.said c.loop-line.before c.loop-line.invariant c.in_default.ensures.line
