@@ -4,8 +4,8 @@
 mod asked;
 mod known;
 mod lists;
-mod next;
 mod reading;
+mod remembered;
 
 pub use asked::catalogue;
 pub use known::KnownReels;

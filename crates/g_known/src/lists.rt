@@ -1,11 +1,15 @@
-//! The lists of the reels of which something is known.
-ghost use Rattle.std.specs.Prelude.{◌≡◌, ◌+◌, ◌<◌, ◌==◌, IfSome, filter, length, not, slice_index_or};
-ghost use Rattle.g_shelf.specs.declared.rack.Listed.{Listed};
-ghost use Rattle.g_known.specs.ReelNotes.{IsTakenOut, end_in, stays};
+//! The lists of what is remembered, one for each reel that was asked for.
+ghost use Rattle.std.specs.Prelude.{◌≡◌, ◌+◌, MatchOption};
+ghost use Rattle.g_known.specs.ReelNotes.{HasForgotten, HasNone, HasWritten, IsPlaceIn, end_in, noted};
 
 use g_incr::DumpNote;
-use g_shelf::{Listed, Notes};
-use std::alloc::Global;
+
+/// The notes of the first dumps of a reel, in their order.
+#[derive(Debug, Drop)]
+pub(crate) struct NotedReel {
+    pub(crate) serial: u32,
+    pub(crate) notes: Vec<DumpNote>,
+}
 
 /// The block behind the dumps of these notes.
 pub(crate) fn end(notes: &[DumpNote]) -> u64
@@ -24,50 +28,43 @@ fn behind(note: &DumpNote) -> u64
     u64::from(note.place) + (u64::from(note.count) + 2)
 }
 
-/// Takes the list of the reel out, an empty one where nothing is known of it.
-pub(crate) fn take_out(alloc: Global, known: &mut Vec<Listed>, serial: u32) -> Listed
-    ensures serial { result.serial ≡ serial }
-    ensures taken { IsTakenOut known.old.items result known.new.items }
+/// The place of the reel's list.
+pub(crate) fn place_of(lists: &[NotedReel], serial: u32) -> Option<usize>
+    ensures { MatchOption result (HasNone serial lists.now) (IsPlaceIn serial lists.now) }
 {
-    match place_of(known, serial) {
-        Some(place) => known.remove(place),
-        None => Listed {
-            serial,
-            notes: Notes::from(Vec::new(alloc)),
-        },
-    }
-}
-
-/// The place of the first list of the reel.
-fn place_of(known: &[Listed], serial: u32) -> Option<usize>
-    ensures within { IfSome result (λ place. place < length known.now) }
-    ensures there { IfSome result (λ place. (d : Listed) → (slice_index_or known.now place d).serial ≡ serial) }
-{
-    for (place, list) in known.iter().enumerate() {
+    for (i, list) in lists.iter().enumerate() {
         if list.serial == serial {
-            return Some(place);
+            return Some(i);
         }
     }
     None
 }
 
-/// Drops what is known of the reel.
-pub(crate) fn forget(known: &mut Vec<Listed>, serial: u32)
-    ensures { known.new.items ≡ filter (λ list. not (list.serial == serial)) known.old.items }
+/// What is remembered of the reel: nothing, where it has no list.
+pub(crate) fn notes_of(lists: &[NotedReel], serial: u32) -> &[DumpNote]
+    ensures { result.now ≡ noted serial lists.now }
 {
-    known.retain(|list| list.serial != serial);
+    match place_of(lists, serial) {
+        Some(place) => lists[place].notes.as_slice(),
+        None => &[],
+    }
 }
 
-/// Drops what is known of the reel, if it ends behind block `k`.
-pub(crate) fn forget_from(known: &mut Vec<Listed>, serial: u32, k: u32)
-    ensures { known.new.items ≡ filter (stays serial k) known.old.items }
+/// Forgets the reel.
+pub(crate) fn forget(lists: &mut Vec<NotedReel>, serial: u32)
+    ensures { HasForgotten serial lists.old.items lists.new.items }
 {
-    known.retain(|list| stays(list, serial, k));
+    match place_of(lists.as_slice(), serial) {
+        Some(place) => lists[place].notes.clear(),
+        None => {}
+    }
 }
 
-/// Whether a write of block `k` of the reel leaves the dumps of the list.
-fn stays(list: &Listed, serial: u32, k: u32) -> bool
-    ensures { result ≡ stays serial k list.now }
+/// Forgets the reel, if dumps that are remembered of it reach block `k` or stand behind it.
+pub(crate) fn forget_from(lists: &mut Vec<NotedReel>, serial: u32, k: u32)
+    ensures { HasWritten serial k lists.old.items lists.new.items }
 {
-    list.serial != serial || end(list.notes.as_slice()) <= u64::from(k)
+    if u64::from(k) < end(notes_of(lists.as_slice(), serial)) {
+        forget(lists, serial);
+    }
 }

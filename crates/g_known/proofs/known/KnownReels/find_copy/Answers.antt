@@ -2,12 +2,12 @@ use Rattle.std.proofs.Common.{◌∙◌}
 use Rattle.g_known.proofs.KnownLemmas.{held_fits}
 use Rattle.g_known.proofs.known.KnownReels.find_copy.Goals as goal
 
-pub returns-in-Ok-clause-held : goal.returns-in-Ok-clause-held
-returns-in-Ok-clause-held g c =
-    let noted = c.in-Ok.ensures.noted in
-    (noted.dumps, noted.found, c.is_held-held.ensures noted.dumps (c.as_slice.ensures ∙ noted.notes_are) noted.found.row)
+pub returns-clause-held : goal.returns-clause-held
+returns-clause-held g c =
+    let noted = rw c.self.view_is at c.in-Ok.ensures.noted in
+    (noted.dumps, noted.found, c.is_held.ensures noted.dumps (c.notes.ensures ∙ noted.notes_are) noted.found.row)
 
-pub returns-in-Ok-clause-fits : goal.returns-in-Ok-clause-fits
-returns-in-Ok-clause-fits g c = λ is some.
-    let noted = c.in-Ok.ensures.noted in
-    held_fits _ _ noted.dumps _ noted.found some ((c.is_held-held.ensures noted.dumps (c.as_slice.ensures ∙ noted.notes_are) noted.found.row).0 is)
+pub returns-clause-fits : goal.returns-clause-fits
+returns-clause-fits g c = λ is some.
+    let noted = rw c.self.view_is at c.in-Ok.ensures.noted in
+    held_fits _ _ noted.dumps _ noted.found some ((c.is_held.ensures noted.dumps (c.notes.ensures ∙ noted.notes_are) noted.found.row).0 is)
