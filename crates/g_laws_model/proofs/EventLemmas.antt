@@ -139,6 +139,16 @@ mount_ways : (s : State) (serial : ℕ) (answer : Result (Unit {0}) StoreFault) 
 mount_ways s serial answer new true = ((λ x. x), (λ x. x))
 mount_ways s serial answer new false = ((λ x. x), (λ x. x))
 
+-- PROCESS
+process_same : (lacking : Bool) (reel : Option ℕ) (is_open : Bool) (n : ℕ) (spent : Bool)
+    → first_fault ((lacking, NoTape) ∷ fault_from RackNotMounted reel ∷ (is_open, DumpOpen n) ∷ (spent, CountersSpent) ∷ [])
+    ≡ first_of (when lacking NoTape ∷ option_map RackNotMounted reel ∷ when is_open (DumpOpen n) ∷ when spent CountersSpent ∷ [])
+process_same true reel is_open n spent = refl
+process_same false (Some serial) is_open n spent = refl
+process_same false None true n spent = refl
+process_same false None false n true = refl
+process_same false None false n false = refl
+
 pub events_are_simple : EventsAreSimple
 events_are_simple = record {
   format = λ s o answer new. of_reel tt s (coming_up s (record { tree = formatted; places = empty; last = 0; intent = None; kept = empty })) answer new (is_cut o) RackNotEmpty (λ n. refl) (first_reel (λ r. r.used) s.reels) ((is_disc_read o, DiscReadFault) ∷ []) (refl, tt);
@@ -150,6 +160,7 @@ events_are_simple = record {
       with_cut full s (commits s (record k { places = with_online false (stamp_of k.tree full) k.places })) answer new (is_cut o)
       ((is_none user || not (has_user k.tree full.user), NoUser) ∷ (not (has_file k.tree full), NoFile) ∷ (not place.online, Offline) ∷ (is_none place.copy, NotDumped) ∷ [])
       (refl, (refl, (refl, (refl, tt))));
+  processing = λ s k serial. process_same (lacks s serial) (first_reel (λ r. not r.mounted) s.reels) (is_some s.open_dump) (open_number s.open_dump) (k.last == 2 ^ 62 - 1);
   mount = λ s serial answer new. mount_ways s serial answer new (lacks s serial);
   unmount = λ s serial answer new.
       uncut tt s (record s { reels = with_reel serial (with_mounted false) s.reels }) answer new

@@ -1,5 +1,5 @@
 -- A JOB'S CALL TOLD AS A VALUE: its refusals in one list, and what is taken offline for it as a list of versions.
-use Rattle.std.specs.Prelude.{ℕ, ◌+◌, ◌==◌, Bool, false, not, ◌&&◌, ◌||◌, ◌↔◌, nat_lt, nat_le, List, [], ◌∷◌, map, filter, sum_by, Option, Result, option_map, if◌then◌else◌}
+use Rattle.std.specs.Prelude.{◌≡◌, ℕ, ◌+◌, ◌==◌, Bool, false, not, ◌&&◌, ◌||◌, ◌↔◌, nat_lt, nat_le, List, [], ◌∷◌, map, filter, sum_by, Option, Result, option_map, if◌then◌else◌}
 use Rattle.std.specs.List.{list_any}
 use Rattle.std.specs.FinMap.{entries, from_sorted}
 use Rattle.g_plain.specs.declared.calls.StoreCall.{StoreCall}

@@ -10,6 +10,7 @@ use Rattle.g_plain.specs.PlainTree.{formatted, has_file, has_user}
 use Rattle.g_store_model.specs.State.{Dumped, Holding, Place, State, end_of, first_reel, is_mounted, lacks, place_at, with_online, with_reel}
 use Rattle.g_store_model.specs.CallStep.{Outcome, commits, is_cut, is_disc_read, is_tape_read, stamp_of}
 use Rattle.g_store_model.specs.DumpSteps.{AreNoted, MigrateStep, MountStep, OpenStep, UnmountStep, dump_needs, is_busy, open_number, opening, tape_room, waiting, waiting_blocks, with_mounted}
+use Rattle.g_store_model.specs.Process.{process_refuses}
 use Rattle.g_store_model.specs.Rising.{FormatStep, RestoreStep, StartStep, adopted, coming_up, dump_adopted, has_none, is_completed, restored, unmounted_reel}
 use Rattle.g_laws_model.specs.Refusals.{Goes, first_of, when}
 
@@ -72,6 +73,15 @@ DoesUnmount s serial answer new =
     Goes (first_of (when (lacks s serial) NoTape ∷ when (not (is_mounted s serial)) NotMounted ∷ when (is_busy serial s.open_dump) TapeBusy ∷ []))
     false tt s [] (record s { reels = with_reel serial (with_mounted false) s.reels }) answer new
 
+-- the refusals of PROCESS before the reels are read
+abbrev pub process_refusal : State → Holding → ℕ → Option StoreFault
+process_refusal s k serial = first_of (
+    when (lacks s serial) NoTape
+    ∷ option_map RackNotMounted (first_reel (λ r. not r.mounted) s.reels)
+    ∷ when (is_some s.open_dump) (DumpOpen (open_number s.open_dump))
+    ∷ when (k.last == 2 ^ 62 - 1) CountersSpent
+    ∷ [])
+
 -- they are the steps of these events
 pub record EventsAreSimple : Type 0 where
   pub format : (s : State) (o : Outcome) (answer : Result (Unit {0}) StoreFault) (new : State) → FormatStep s o answer new ↔ DoesFormat s o answer new
@@ -80,5 +90,6 @@ pub record EventsAreSimple : Type 0 where
   pub opening : (s : State) (k : Holding) (serial : ℕ) (o : Outcome) (answer : Result ℕ StoreFault) (new : State) → OpenStep s k serial o answer new ↔ DoesOpening s k serial o answer new
   pub migrate : (s : State) (k : Holding) (user : Option (List ℕ)) (full : Full) (o : Outcome) (answer : Result Full StoreFault) (new : State)
       → MigrateStep s k user full o answer new ↔ DoesMigrate s k user full o answer new
+  pub processing : (s : State) (k : Holding) (serial : ℕ) → process_refuses s k serial ≡ process_refusal s k serial
   pub mount : (s : State) (serial : ℕ) (answer : Result (Unit {0}) StoreFault) (new : State) → MountStep s serial answer new ↔ DoesMount s serial answer new
   pub unmount : (s : State) (serial : ℕ) (answer : Result (Unit {0}) StoreFault) (new : State) → UnmountStep s serial answer new ↔ DoesUnmount s serial answer new

@@ -72,11 +72,17 @@ formats s (Some serial) t none is = absurd (let no : ⊥ = cc in no)
 abbrev made : ℕ → Option Holding → List ReelRow → Option DumpedTree → Option OpenDump → State
 made size holding reels dumped opened = record { up = true; size = size; holding = holding; reels = reels; dumped = dumped; open_dump = opened }
 
-module _ (d : Devices) (s t : State) (new : StoreFacts) (emptied : AreEmptied d) (is : IsFormatted d new) (stand : AreReadAs (with_new_disc d) s) where
-  -- what the old state has
-  rows_before : s.reels ≡ map (row_of no_dumps) (told_reels d.rack)
-  rows_before = ap (λ (x : State). x.reels) stand.reads.state_is ∙ rows_none stand.reads.view.shelf (told_reels d.rack) (none_shelved stand.reads.view.shelf (told_reels d.rack) stand.reads.rack.shelved emptied.reels)
+-- what the old state has
+rows_before : (d : Devices) (s : State) → AreEmptied d → AreReadAs (with_new_disc d) s → s.reels ≡ map (row_of no_dumps) (told_reels d.rack)
+rows_before d s emptied stand =
+    ap (λ (x : State). x.reels) stand.reads.state_is ∙ rows_none stand.reads.view.shelf (told_reels d.rack) (none_shelved stand.reads.view.shelf (told_reels d.rack) stand.reads.rack.shelved emptied.reels)
 
+-- so FORMAT isn't refused for a reel
+pub no_used_reel : (d : Devices) (s : State) → AreEmptied d → All (λ r. nat_lt 0 r.len ≡ false) (told_reels d.rack) → AreReadAs (with_new_disc d) s → first_reel (λ r. r.used) s.reels ≡ None
+no_used_reel d s emptied unused stand =
+    ap (λ (rows : List ReelRow). first_reel (λ r. r.used) rows) (rows_before d s emptied stand) ∙ unused_rows (told_reels d.rack) (recursion_from_All (λ r. nat_lt 0 r.len ≡ false) (told_reels d.rack) unused)
+
+module _ (d : Devices) (s t : State) (new : StoreFacts) (emptied : AreEmptied d) (is : IsFormatted d new) (stand : AreReadAs (with_new_disc d) s) where
   dumped_before : s.dumped ≡ None
   dumped_before =
       ap (λ (x : State). x.dumped) stand.reads.state_is
@@ -97,7 +103,7 @@ module _ (d : Devices) (s t : State) (new : StoreFacts) (emptied : AreEmptied d)
   came_up v shelved all t_is =
       let empties : All IsEmptyReel (told_reels new.rack) = subst (λ (rs : List Reel). All IsEmptyReel rs) (sym is.reels) emptied.reels in
       let none = none_shelved v.shelf (told_reels new.rack) shelved empties in
-      let rows : map (row_of v.shelf) (told_reels new.rack) ≡ s.reels = rows_none v.shelf (told_reels new.rack) none ∙ ap (λ (rs : List Reel). map (row_of no_dumps) rs) is.reels ∙ sym rows_before in
+      let rows : map (row_of v.shelf) (told_reels new.rack) ≡ s.reels = rows_none v.shelf (told_reels new.rack) none ∙ ap (λ (rs : List Reel). map (row_of no_dumps) rs) is.reels ∙ sym (rows_before d s emptied stand) in
       let dumped : option_map (dumped_of v.text) v.dumped ≡ s.dumped = undumped v.text v.dumps v.dumped (all ∙ all_none v.shelf (told_reels new.rack) none) ∙ sym dumped_before in
       t_is
       ∙ ap (λ (n : ℕ). made n (Some (holding_of v.text (users_not_in new.online.changed new.online.contents.users) new.online.contents)) (map (row_of v.shelf) (told_reels new.rack)) (option_map (dumped_of v.text) v.dumped) (option_map (open_of v new.online) new.dump))
@@ -114,8 +120,7 @@ module _ (d : Devices) (s t : State) (new : StoreFacts) (emptied : AreEmptied d)
 
   formatted_by : StandsForState (record new { spent = false }) t → FormatStep s Plain (Ok tt) t
   formatted_by (v, viewed, opened, t_is) =
-      formats s (first_reel (λ r. r.used) s.reels) t
-      (ap (λ (rows : List ReelRow). first_reel (λ r. r.used) rows) rows_before ∙ unused_rows (told_reels d.rack) (recursion_from_All (λ r. nat_lt 0 r.len ≡ false) (told_reels d.rack) is.unused))
+      formats s (first_reel (λ r. r.used) s.reels) t (no_used_reel d s emptied is.unused stand)
       (came_up v viewed.rack.shelved viewed.rack.all t_is)
 
 pub formats_anew : FormatsAnew

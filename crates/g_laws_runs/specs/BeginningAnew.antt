@@ -44,6 +44,11 @@ is_aside (line.StopDisc k) = true
 is_aside (line.StopTape k) = true
 is_aside what = false
 
+-- lines that may stand before a system comes up anew: those, and FORMAT
+abbrev pub is_first : Operator → Bool
+is_first line.Format = true
+is_first what = is_aside what
+
 -- the first line beside these is a FORMAT
 pub record BeginAnew (lines : List Timed) : Type 0 where
   pub front : List Timed

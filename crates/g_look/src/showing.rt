@@ -17,6 +17,7 @@ use g_dirs::FileCopy;
 use g_disc::Disc;
 use g_entry::{FileRec, TapeCopy};
 use g_incr::ShelfFault;
+use g_known::KnownReels;
 use g_name::{Path, Text};
 use g_retrieve::tape_bytes;
 use g_tape::Tapes;
@@ -29,7 +30,7 @@ use std::alloc::Global;
 pub fn show<D: Disc, T: Tapes>(
     alloc: Global,
     disc: &mut D,
-    tapes: &mut T,
+    tapes: &mut KnownReels<T>,
     path: &Path,
 ) -> Result<Text, LookFault>
     requires size { 2177 < (D.state disc.old).size }
@@ -66,7 +67,7 @@ pub fn show<D: Disc, T: Tapes>(
 fn file_bytes<D: Disc, T: Tapes>(
     alloc: Global,
     disc: &mut D,
-    tapes: &mut T,
+    tapes: &mut KnownReels<T>,
     online: &[FileCopy],
     file: &FileRec,
 ) -> Result<Text, LookFault>
@@ -88,7 +89,11 @@ fn file_bytes<D: Disc, T: Tapes>(
 }
 
 /// The bytes of a file, from its copy on tape.
-fn taped_text<T: Tapes>(alloc: Global, tapes: &mut T, file: &FileRec) -> Result<Text, LookFault>
+fn taped_text<T: Tapes>(
+    alloc: Global,
+    tapes: &mut KnownReels<T>,
+    file: &FileRec,
+) -> Result<Text, LookFault>
     ensures bytes { IfOk result (λ text. OfDumps (T.rack tapes.old) (λ dumps. IsHeldBy dumps file.now text)) }
     ensures lost { result ≡ Err LookFault.NoCopy → AreMounted (T.rack tapes.old)
         → OfDumps (T.rack tapes.old) (λ dumps. IsNowhere dumps file.now) }
@@ -104,7 +109,7 @@ fn taped_text<T: Tapes>(alloc: Global, tapes: &mut T, file: &FileRec) -> Result<
 /// The bytes of a copy.
 fn copy_text<T: Tapes>(
     alloc: Global,
-    tapes: &mut T,
+    tapes: &mut KnownReels<T>,
     copy: &TapeCopy,
     len: u32,
 ) -> Result<Text, LookFault>

@@ -17,6 +17,7 @@ use crate::{Asked, Status, asked_by};
 use g_devices::{StdSink, look_at};
 use g_disc::Disc;
 use g_io::Sink;
+use g_known::KnownReels;
 use g_look::{check, dumps, list, restorable, show};
 use g_tape::Tapes;
 use std::alloc::Global;
@@ -46,11 +47,12 @@ pub fn answer(rt: &HostRuntime, words: &[&str]) -> u8
 fn on_files<K: Sink>(rt: &HostRuntime, asked: &Asked, out: &mut K) -> u8
     ensures { (result ≡ 7) ⊎ IsExit IsOfLook result }
 {
-    let (mut disc, mut tapes) = match look_at(rt, IMAGE, RACK) {
+    let (mut disc, tapes) = match look_at(rt, IMAGE, RACK) {
         Ok(devices) => devices,
         Err(fault) if fault.kind() == ErrorKind::OutOfMemory => return Status::NoMemory.code(),
         Err(_) => return NO_IMAGE,
     };
+    let mut tapes = KnownReels::new(rt.alloc(), tapes);
     if !mount_all(&mut tapes) {
         return NO_IMAGE;
     }
@@ -63,7 +65,7 @@ pub fn look<K: Sink, D: Disc, T: Tapes>(
     asked: &Asked,
     out: &mut K,
     disc: &mut D,
-    tapes: &mut T,
+    tapes: &mut KnownReels<T>,
 ) -> Status
     requires size { 2177 < (D.state disc.old).size }
     requires mounted { All (λ r. r.mounted ≡ true) (T.rack tapes.old).reels }

@@ -1,7 +1,7 @@
 -- TO BEGIN ANEW: reels are mounted and devices armed beside a new disc as beside any, and FORMAT makes of devices to begin anew with what it makes
--- of a new disc beside the same reels.
+-- of a new disc beside the same reels, or leaves them to begin anew with.
 use Rattle.std.proofs.Common.{◌≡◌, ◌<◌, ℕ, true, false, Bool, List, [], ◌∷◌, Option, Some, None, map, find, nat_lt, option_map, refl, sym, ◌∙◌, ap, subst, inl, inr}
-use Rattle.std.specs.Prelude.{All, Result, Ok, Err, IfOk, codes, if◌then◌else◌}
+use Rattle.std.specs.Prelude.{All, Result, Ok, Err, IfOk, codes, replicate, if◌then◌else◌}
 use Rattle.std.specs.List.{AllByRecursion}
 use Rattle.std.proofs.lemmas.List.Elements.{All-from_recursion, All-map, All-weaker, recursion_from_All}
 use Rattle.std.proofs.lemmas.Option.{none-some}
@@ -10,6 +10,7 @@ use Rattle.g_tape.specs.Rack.{Mounting, Rack, changed}
 use Rattle.g_tape.specs.Reads.{unread}
 use Rattle.g_tape.specs.Reel.{Reel, with_mounted}
 use Rattle.g_tape.specs.declared.fault.TapeFault.{TapeFault}
+use Rattle.g_plain.specs.PlainStep.{first_fault}
 use Rattle.g_plain.specs.declared.faults.StoreFault.{StoreFault}
 use Rattle.g_plain.specs.declared.faults.StoreFault.TheVariants.{DiscReadFault, NoMemory, RackNotEmpty, Stopped}
 use Rattle.g_store_meaning.specs.Answers.{Belongs}
@@ -17,34 +18,38 @@ use Rattle.g_store_meaning.specs.Meaning.{told_reels}
 use Rattle.g_store_meaning.specs.Reading.{AllTold, DevicesStandFor, StandsForState}
 use Rattle.g_store_meaning.specs.StoreInvariant.{StoreFacts}
 use Rattle.g_laws_store.proofs.StateLemmas.{have_states}
-use Rattle.g_store_model.specs.CallStep.{Plain}
-use Rattle.g_store_model.specs.Rising.{FormatStep}
-use Rattle.g_store_model.specs.State.{State}
+use Rattle.g_store_model.specs.CallStep.{Cut, DiscRead, Plain, down}
+use Rattle.g_store_model.specs.DumpSteps.{Event}
+use Rattle.g_store_model.specs.Rising.{FormatStep, coming_up, fault_from}
+use Rattle.g_store_model.specs.State.{State, first_reel}
 use Rattle.g_store.proofs.MountLemmas.{told_after, told_turned, turned}
-use Rattle.g_store.specs.Making.{Formats, IsOfFormat, RefusesFormat}
+use Rattle.g_store.specs.Making.{Formats, IsOfFormat, Refuses, RefusesFormat, StepsDown}
 use Rattle.g_store.specs.Refusing.{first_used}
 use Rattle.g_script.specs.declared.operator.Operator.{Operator}
 use Rattle.g_script.specs.declared.operator.Operator.TheVariants as line
-use Rattle.g_run_model.specs.Devices.{Devices}
+use Rattle.g_run_model.specs.Devices.{AreReadAs, Devices}
 use Rattle.g_run_model.specs.Texts.{operator_line}
 use Rattle.g_run_model.proofs.StandLemmas.{read_as}
-use Rattle.g_laws_runs.specs.BeginningAnew.{AreBlank, IsFormatted, NoDiscFault, is_aside, with_new_disc}
-use Rattle.g_laws_runs.proofs.AnewLemmas.{formats_anew}
+use Rattle.g_run_model.proofs.EventToldLemmas.{format_told}
+use Rattle.g_laws_runs.specs.BeginningAnew.{AreBlank, IsFormatted, NoDiscFault, first_holding, is_first, with_new_disc}
+use Rattle.g_laws_runs.proofs.AnewLemmas.{formats_anew, no_used_reel}
 use Rattle.g_laws_runs.proofs.FreshLemmas.{emptied_stand}
 use Rattle.g_job_table.specs.Crew.{CrewState}
 use Rattle.g_operator.specs.declared.progress.Failure.{Failure}
 use Rattle.g_operator.specs.declared.rising.Rise.{Rise}
 use Rattle.g_operator.specs.declared.rising.Rise.TheVariants as rise
-use Rattle.g_operator.specs.BeginningAnew.{AnewLine, FormatsAnew, IsBlank, WentAside, beside, beside_new}
+use Rattle.g_operator.specs.BeginningAnew.{AnewLine, GoesFirst, WentAside, beside_new}
 use Rattle.g_operator.specs.Arming.{disc_armed, tape_armed}
 use Rattle.g_operator.specs.Opening.{Opens}
 use Rattle.g_operator.specs.Parts.{DidLine, IsReady, Seen, seen}
 use Rattle.g_operator.specs.Puts.{Puts}
 use Rattle.g_operator.specs.Rising.{MakesNone, Raises, line_of}
-use Rattle.g_operator.specs.System.{Down, SystemFacts, Up, devices_in}
+use Rattle.g_operator.specs.System.{Down, SystemFacts, Up}
 use Rattle.g_operator.specs.Telling.{TellsFault}
+use Rattle.g_operator.proofs.DownLemmas.{down_same}
 use Rattle.g_operator.proofs.LabelLemmas.{parts_with}
-use Rattle.g_operator.proofs.RiseLemmas.{CameUp, comes_up}
+use Rattle.g_operator.proofs.RiseLemmas.{CameUp, comes_up, format_down, not_made}
+use Rattle.g_operator.proofs.WayLemmas.{unrisen_line}
 
 -- DEVICES TO BEGIN ANEW WITH stay so: a reel is turned, or a device armed
 blank_rack : (d : Devices) (rack : Rack) → rack ≡ d.rack → AreBlank d → (let e : Devices = record d { rack = rack } in AreBlank e)
@@ -97,6 +102,9 @@ module _ (d : Devices) (blank : AreBlank d) where
   pub unused_first : first_used d.rack.reels ≡ None
   unused_first = none_used d.rack.reels (recursion_from_All (λ (r : Reel). r.len ≡ 0) (told_reels d.rack) blank.unused)
 
+  unused_reels : All (λ (r : Reel). nat_lt 0 r.len ≡ false) (told_reels d.rack)
+  unused_reels = All-weaker (λ (r : Reel). r.len ≡ 0) (λ (r : Reel). nat_lt 0 r.len ≡ false) (λ r e. ap (λ (n : ℕ). nat_lt 0 n) e) (told_reels d.rack) blank.unused
+
   -- FORMAT from a new disc
   module _ (more : 2177 < d.disc.size) (new : StoreFacts) (is : Formats d.disc d.rack new) where
     abbrev new_disc : DiscState
@@ -110,7 +118,7 @@ module _ (d : Devices) (blank : AreBlank d) where
       holds = is.holds;
       size = is.makes.causes.size;
       reels = is.makes.tapes.reels;
-      unused = All-weaker (λ (r : Reel). r.len ≡ 0) (λ (r : Reel). nat_lt 0 r.len ≡ false) (λ r e. ap (λ (n : ℕ). nat_lt 0 n) e) (told_reels d.rack) blank.unused;
+      unused = unused_reels;
     }
 
     belongs_now : Belongs new
@@ -143,17 +151,95 @@ module _ (d : Devices) (blank : AreBlank d) where
       belongs = λ told given. belongs_now;
     }
 
--- ITS LINE: from a new disc where it comes up, and where it doesn't a failure was counted
+-- IT ISN'T MADE: refused for a failed read, or cut by a failed write, as it would be beside a new disc
+read_refused : (s after : State) (m : Option ℕ) → m ≡ None
+    → (let answer : Result (Unit {0}) StoreFault = Err DiscReadFault in Event {A = Unit {0}} (first_fault (fault_from RackNotEmpty m ∷ (true, DiscReadFault) ∷ (false, Stopped) ∷ [])) tt s after answer s)
+read_refused s after None none = (refl, refl)
+read_refused s after (Some serial) none = absurd (none-some serial (sym none))
+
+cut_undone : (s after : State) (m : Option ℕ) → m ≡ None → s ≡ down s
+    → (let answer : Result (Unit {0}) StoreFault = Err Stopped in Event {A = Unit {0}} (first_fault (fault_from RackNotEmpty m ∷ (false, DiscReadFault) ∷ (true, Stopped) ∷ [])) tt s after answer s)
+cut_undone s after None none is = (refl, inl is)
+cut_undone s after (Some serial) none is = absurd (none-some serial (sym none))
+
+module _ (d e : Devices) (more : 2177 < d.disc.size) (blank : AreBlank d) where
+  blank_still : (fault : StoreFault) → RefusesFormat d.disc d.rack fault e.disc e.rack → AreBlank e
+  blank_still fault is = record {
+    told = is.refuses.told blank.told;
+    emptied = record { reels = subst (λ (rs : List Reel). All (λ (r : Reel). r.blocks ≡ Some []) rs) (sym is.refuses.tapes.reels) blank.emptied.reels };
+    unused = subst (λ (rs : List Reel). All (λ (r : Reel). r.len ≡ 0) rs) (sym is.refuses.tapes.reels) blank.unused;
+  }
+
+  abbrev StandsBeside : Devices → State → Type 0
+  StandsBeside x s = DevicesStandFor x.disc.size (with_new_disc x).disc.held (told_reels x.rack) s
+
+  stand_beside : (s : State) → StandsBeside d s → AreReadAs (with_new_disc d) s
+  stand_beside s reads =
+      let there = emptied_stand have_states d more blank.emptied in
+      let stands = read_as (with_new_disc d) there.state there.stands in record { told = stands.told; belong = stands.belong; reads = reads }
+
+  left_beside : (fault : StoreFault) → RefusesFormat d.disc d.rack fault e.disc e.rack → (s : State) → StandsBeside d s → StandsBeside e s
+  left_beside fault is s reads =
+      subst (λ (n : ℕ). DevicesStandFor n (Some (replicate n (replicate 512 0))) (told_reels e.rack) s) (sym is.refuses.causes.size)
+      (subst (λ (rs : List Reel). DevicesStandFor d.disc.size (with_new_disc d).disc.held rs s) (sym is.refuses.tapes.reels) reads)
+
+  none_in : (s : State) → StandsBeside d s → first_reel (λ r. r.used) s.reels ≡ None
+  none_in s reads = no_used_reel d s blank.emptied (unused_reels d blank) (stand_beside s reads)
+
+  steps_beside : (fault : StoreFault) → IsOfFormat fault → RefusesFormat d.disc d.rack fault e.disc e.rack → (s : State) → StandsBeside d s
+      → StepsDown {A = Unit {0}} FormatStep s (with_new_disc d).disc d.rack fault (with_new_disc e).disc e.rack
+  steps_beside (RackNotEmpty serial) of is s reads = absurd (none-some serial (sym (unused_first d blank) ∙ (is.full serial).0 refl))
+  steps_beside DiscReadFault of is s reads = record {
+    after = s;
+    left = left_beside DiscReadFault is s reads;
+    outcome = DiscRead;
+    raised = is.refuses.causes.reads_rose refl;
+    step = read_refused s (coming_up s first_holding) (first_reel (λ r. r.used) s.reels) (none_in s reads);
+  }
+  steps_beside Stopped of is s reads = record {
+    after = s;
+    left = left_beside Stopped is s reads;
+    outcome = Cut;
+    raised = is.refuses.causes.writes_rose refl;
+    step = cut_undone s (coming_up s first_holding) (first_reel (λ r. r.used) s.reels) (none_in s reads) (sym (down_same (with_new_disc d) s (stand_beside s reads)));
+  }
+  steps_beside NoMemory of is s reads = left_beside NoMemory is s reads
+  steps_beside fault of is s reads = absurd of
+
+  refuses_beside : (fault : StoreFault) → RefusesFormat d.disc d.rack fault e.disc e.rack → Refuses (Unit {0}) FormatStep (with_new_disc d).disc d.rack fault (with_new_disc e).disc e.rack
+  refuses_beside fault is = record {
+    causes = record {
+      size = is.refuses.causes.size;
+      arms = is.refuses.causes.arms;
+      later = is.refuses.causes.later;
+      reads_kept = is.refuses.causes.reads_kept;
+      reads_rose = is.refuses.causes.reads_rose;
+      writes_kept = is.refuses.causes.writes_kept;
+      writes_rose = is.refuses.causes.writes_rose;
+    };
+    tapes = is.refuses.tapes;
+    tape_read = is.refuses.tape_read;
+    tape_read_only = is.refuses.tape_read_only;
+    held = λ other. ap (λ (n : ℕ). Some (replicate n (replicate 512 0))) is.refuses.causes.size;
+    writes = is.refuses.writes;
+    told = λ told. record { disc = refl; each = (is.refuses.told blank.told).each };
+    step = λ told given s reads. steps_beside fault is.only is s reads;
+    belongs = λ told belong.
+        let there = emptied_stand have_states e (subst (λ (n : ℕ). 2177 < n) (sym is.refuses.causes.size) more) (blank_still fault is).emptied in
+        (read_as (with_new_disc e) there.state there.stands).belong;
+  }
+
+-- ITS LINE: from a new disc where a store comes up; and beside a new disc where none does
 module _ (disc : DiscState) (rack : Rack) (c : CrewState) (count : ℕ) (ready : (let d : Devices = record { disc = disc; rack = rack } in IsReady (Down d) c))
     (failure : Option Failure) (c' : CrewState) (before after : Option (List ℕ)) (faults faults' : ℕ) where
   abbrev devices : Devices
   devices = record { disc = disc; rack = rack }
 
   risen_format : (new : StoreFacts) → Formats disc rack new → (failure ≡ None → Opens new.online.contents.users c c') → Puts failure (operator_line count (codes "FORMATTED")) before after faults faults'
-      → FormatsAnew (seen (Down devices) c count) failure (seen (Up new) c' count) before after faults faults'
-  risen_format new is opens puts none blank well =
+      → GoesFirst line.Format (seen (Down devices) c count) failure (seen (Up new) c' count) before after faults faults'
+  risen_format new is opens puts blank = inr (
       comes_up line.Format (Unit {0}) FormatStep (λ r. codes "FORMATTED") (λ o w next it. it) (λ o d e it. it) refl refl (with_new_disc devices).disc rack c count (λ it. tt) tt new
-      (came_anew devices blank ready.0 new is) ready.3 c' failure before after faults faults' opens puts
+      (came_anew devices blank ready.0 new is) ready.3 c' failure before after faults faults' opens puts)
 
   refused_format : (fault : StoreFault) (disc' : DiscState) (rack' : Rack) → IsOfFormat fault → RefusesFormat disc rack fault disc' rack' → TellsFault fault count c failure c' before after faults faults'
       → (let e : Devices = record { disc = disc'; rack = rack' } in failure ≡ None → AreBlank devices → NoDiscFault devices e → ⊥)
@@ -163,11 +249,30 @@ module _ (disc : DiscState) (rack : Rack) (c : CrewState) (count : ℕ) (ready :
   refused_format NoMemory disc' rack' of is tells none blank well = let (failed, crew, text, still) = tells in let no : ⊥ = cc in no
   refused_format fault disc' rack' of is tells none blank well = of
 
+  unformatted_beside : (fault : StoreFault) (disc' : DiscState) (rack' : Rack) → RefusesFormat disc rack fault disc' rack' → AreBlank devices → TellsFault fault count c failure c' before after faults faults'
+      → (let e : Devices = record { disc = disc'; rack = rack' } in
+      DidLine line.Format (seen (Down (with_new_disc devices)) c count) failure (seen (Down (with_new_disc e)) c' count) before after faults faults')
+  unformatted_beside fault disc' rack' is blank tells =
+      let e : Devices = record { disc = disc'; rack = rack' } in
+      not_made line.Format (Unit {0}) FormatStep (λ r. codes "FORMATTED") (λ o w next it. it) (λ o d e it. it) refl refl (with_new_disc devices).disc rack c count (λ it. tt) fault (with_new_disc e).disc rack'
+      (refuses_beside devices e ready.0 blank fault is)
+      (λ s o u step. format_told s o (Err fault) u step) (format_down fault) failure c' before after faults faults' ready tells
+
   unrisen_format : (fault : StoreFault) (disc' : DiscState) (rack' : Rack) → MakesNone rise.Format disc rack fault disc' rack' → TellsFault fault count c failure c' before after faults faults'
-      → (let e : Devices = record { disc = disc'; rack = rack' } in FormatsAnew (seen (Down devices) c count) failure (seen (Down e) c' count) before after faults faults')
-  unrisen_format fault disc' rack' (inl (is, same_disc, same_rack)) tells none blank well =
-      let (failed, crew, text, still) = subst (λ (f : StoreFault). TellsFault f count c failure c' before after faults faults') is tells in absurd (let no : ⊥ = cc in no)
-  unrisen_format fault disc' rack' (inr is) tells none blank well = absurd (refused_format fault disc' rack' is.only is tells none blank well)
+      → (let e : Devices = record { disc = disc'; rack = rack' } in GoesFirst line.Format (seen (Down devices) c count) failure (seen (Down e) c' count) before after faults faults')
+  unrisen_format fault disc' rack' (inl (is, same_disc, same_rack)) tells blank = inl (record {
+    went = unrisen_line (with_new_disc devices).disc rack c count ready failure c' before after faults faults' rise.Format fault
+        (with_new_disc (let e : Devices = record { disc = disc'; rack = rack' } in e)).disc rack'
+        (inl (is, ap (λ (x : DiscState). let e : Devices = record { disc = x; rack = rack' } in (with_new_disc e).disc) same_disc, same_rack)) tells;
+    blank = subst (λ (x : DiscState). let e : Devices = record { disc = x; rack = rack' } in AreBlank e) (sym same_disc) (blank_rack devices rack' same_rack blank);
+    unwell = λ none same well.
+        let (failed, crew, text, still) = subst (λ (f : StoreFault). TellsFault f count c failure c' before after faults faults') is tells in absurd (let no : ⊥ = cc in no);
+  })
+  unrisen_format fault disc' rack' (inr is) tells blank = inl (record {
+    went = unformatted_beside fault disc' rack' is blank tells;
+    blank = blank_still devices (let e : Devices = record { disc = disc'; rack = rack' } in e) ready.0 blank fault is;
+    unwell = λ none same well. refused_format fault disc' rack' is.only is tells none blank well;
+  })
 
   -- of the three lines that bring a system up
   pub anew_risen : {E : Type 0} (how : Rise) (new : StoreFacts) (made : Result (List ℕ) E) → Raises how disc rack new made → (failure ≡ None → Opens new.online.contents.users c c')
@@ -186,7 +291,7 @@ module _ (disc : DiscState) (rack : Rack) (c : CrewState) (count : ℕ) (ready :
 -- a system that is up isn't one to begin anew
 pub anew_up : (how : Rise) (s : StoreFacts) (c : CrewState) (count : ℕ) (failure : Option Failure) (new : Seen) (before after : Option (List ℕ)) (faults faults' : ℕ)
     → AnewLine (line_of how) (seen (Up s) c count) failure new before after faults faults'
-anew_up rise.Format s c count failure new before after faults faults' = λ none blank well. absurd blank
+anew_up rise.Format s c count failure new before after faults faults' = λ blank. absurd blank
 anew_up rise.Start s c count failure new before after faults faults' = tt
 anew_up rise.Restore s c count failure new before after faults faults' = tt
 
@@ -202,19 +307,20 @@ pub same_aside : {what : Operator} {failure : Option Failure} {old old' new : Se
 same_aside {what = what} {failure = failure} {new = new} {before = before} {after = after} {faults = faults} {faults' = faults'} opens did =
     subst (λ (s : Seen). WentAside what s failure new before after faults faults') opens did
 
--- A LINE BESIDE A NEW DISC, whichever it is
-pub aside_line : (what : Operator) → is_aside what ≡ true → (old : Seen) (failure : Option Failure) (new : Seen) (before after : Option (List ℕ)) (faults faults' : ℕ)
-    → AnewLine what old failure new before after faults faults' → WentAside what old failure new before after faults faults'
-aside_line (line.Mount serial) is old failure new before after faults faults' anew = anew
-aside_line (line.Unmount serial) is old failure new before after faults faults' anew = anew
-aside_line (line.StopDisc k) is old failure new before after faults faults' anew = anew
-aside_line (line.StopTape k) is old failure new before after faults faults' anew = anew
-aside_line what is old failure new before after faults faults' anew = absurd (let no : ⊥ = cc in no)
+-- A LINE OVER DEVICES TO BEGIN ANEW WITH, whichever it is
+aside_first : (what : Operator) (old : Seen) (failure : Option Failure) (new : Seen) (before after : Option (List ℕ)) (faults faults' : ℕ)
+    → (what ≡ line.Format → ⊥) → WentAside what old failure new before after faults faults' → GoesFirst what old failure new before after faults faults'
+aside_first what old failure new before after faults faults' isnt went blank = inl (record { went = went.line; blank = went.blank blank; unwell = λ none same well. isnt same })
 
--- and FORMAT
-pub format_line : (what : Operator) → what ≡ line.Format → (old : Seen) (failure : Option Failure) (new : Seen) (before after : Option (List ℕ)) (faults faults' : ℕ)
-    → AnewLine what old failure new before after faults faults' → failure ≡ None → IsBlank old.system → NoDiscFault (devices_in old.system) (devices_in new.system)
-    → DidLine what (beside old) failure new before after faults faults'
-format_line what is old failure new before after faults faults' anew none blank well =
-    subst (λ (x : Operator). DidLine x (beside old) failure new before after faults faults') (sym is)
-    (subst (λ (x : Operator). AnewLine x old failure new before after faults faults') is anew none blank well)
+pub first_line : (what : Operator) → is_first what ≡ true → (old : Seen) (failure : Option Failure) (new : Seen) (before after : Option (List ℕ)) (faults faults' : ℕ)
+    → AnewLine what old failure new before after faults faults' → GoesFirst what old failure new before after faults faults'
+first_line line.Format is old failure new before after faults faults' anew = anew
+first_line (line.Mount serial) is old failure new before after faults faults' anew =
+    aside_first (line.Mount serial) old failure new before after faults faults' (λ e. let no : ⊥ = cc in no) anew
+first_line (line.Unmount serial) is old failure new before after faults faults' anew =
+    aside_first (line.Unmount serial) old failure new before after faults faults' (λ e. let no : ⊥ = cc in no) anew
+first_line (line.StopDisc k) is old failure new before after faults faults' anew =
+    aside_first (line.StopDisc k) old failure new before after faults faults' (λ e. let no : ⊥ = cc in no) anew
+first_line (line.StopTape k) is old failure new before after faults faults' anew =
+    aside_first (line.StopTape k) old failure new before after faults faults' (λ e. let no : ⊥ = cc in no) anew
+first_line what is old failure new before after faults faults' anew = absurd (let no : ⊥ = cc in no)

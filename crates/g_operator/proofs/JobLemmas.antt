@@ -41,6 +41,7 @@ use Rattle.g_operator.proofs.LineLemmas.{none_armed, refused_line, was_done, was
 use Rattle.g_operator.proofs.UpLemmas.{up_is}
 use Rattle.g_operator.proofs.UserLemmas.{user_known}
 use Rattle.g_operator.proofs.LabelLemmas.{same_itself}
+use Rattle.g_operator.proofs.PutLemmas.{puts_grown, same_grown}
 
 -- it isn't taken in, and is told why
 pub turned_away_is : (known : Bool) (job : NewJob) (count : ℕ) (c : CrewState) (w : NotTaken) (failure : Option Failure) (c' : CrewState) (before after : Option (List ℕ)) (old new : ℕ)
@@ -143,6 +144,7 @@ module _ (job : NewJob) (s : StoreFacts) (known : Bool) (known_is : (u : State) 
         belongs = λ is. is;
         dumps = λ is. grow_itself s.rack;
         cause = comes.put.cause;
+        grows = puts_grown comes.put;
       })
   taken_line failure c' before_text after faults faults' (inr (inl refused)) =
       subst (λ (k : CrewState). Did failure k before_text after faults faults') (sym refused.crew)
@@ -158,6 +160,7 @@ module _ (job : NewJob) (s : StoreFacts) (known : Bool) (known_is : (u : State) 
         belongs = λ is. is;
         dumps = λ is. grow_itself s.rack;
         cause = refused.put.cause;
+        grows = puts_grown refused.put;
       })
   taken_line failure c' before_text after faults faults' (inr (inr (is, same, text, still))) =
       subst (λ (f : Option Failure). Did f c' before_text after faults faults') (sym is)
@@ -172,6 +175,7 @@ module _ (job : NewJob) (s : StoreFacts) (known : Bool) (known_is : (u : State) 
         belongs = λ was. was;
         dumps = λ was. grow_itself s.rack;
         cause = still;
+        grows = same_grown before_text after text;
       })
 
 -- a system that is down takes no job
@@ -292,4 +296,5 @@ module _ (s : StoreFacts) (c : CrewState) (ready : IsReady (Up s) c) (count : �
     belongs = λ is. record { told = is.0; belong = is.1.devices };
     dumps = λ is. grow_itself s.rack;
     cause = puts.cause;
+    grows = puts_grown puts;
   }

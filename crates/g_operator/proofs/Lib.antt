@@ -3,12 +3,14 @@ pub mod AskLemmas
 pub mod ByLemmas
 pub mod CauseLemmas
 pub mod DayLemmas
+pub mod DownLemmas
 pub mod GrowLemmas
 pub mod JobLemmas
 pub mod LabelLemmas
 pub mod LeavesLemmas
 pub mod LineLemmas
 pub mod ProcessLemmas
+pub mod PutLemmas
 pub mod ReelLemmas
 pub mod RiseLemmas
 pub mod StopLemmas

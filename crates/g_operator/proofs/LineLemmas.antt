@@ -28,6 +28,7 @@ use Rattle.g_operator.proofs.ByLemmas.{grown_by, plain_counted}
 use Rattle.g_operator.proofs.GrowLemmas.{grow_itself}
 use Rattle.g_operator.proofs.LeavesLemmas.{leaves_same}
 use Rattle.g_operator.proofs.LabelLemmas.{no_fuse, same_itself}
+use Rattle.g_operator.proofs.PutLemmas.{puts_grown, same_grown}
 
 -- done, and its text put whole or in part
 pub was_done : (what : Operator) (old new : Seen) (failure : Option Failure) (added : List ℕ) (before after : Option (List ℕ))
@@ -85,6 +86,7 @@ module _ (what : Operator) (no_disc : disc_arms what ≡ []) (no_tape : tape_arm
     belongs = λ is. is;
     dumps = λ is. grown_by (is_process what) (devices_in f).rack (devices_in f).rack (grow_itself (devices_in f).rack);
     cause = puts.cause;
+    grows = puts_grown puts;
   }
 
 -- NOTHING WAS TRIED, for want of memory
@@ -106,6 +108,7 @@ untried_line what no_disc no_tape old new c count same ready failure is text fau
       belongs = λ is. is;
       dumps = λ is. grown_by (is_process what) (devices_in old).rack (devices_in old).rack (grow_itself (devices_in old).rack);
       cause = refl;
+      grows = same_grown text text refl;
     }
 
 -- WHAT A FAULT MAKES OF THE WORLD: a stop takes it down, and any other fault is a refusal

@@ -45,6 +45,7 @@ use Rattle.g_operator.proofs.LineLemmas.{FaultDone, Faulted, none_armed, refused
 use Rattle.g_operator.proofs.UpLemmas.{up_is}
 use Rattle.g_operator.proofs.UserLemmas.{have_rows}
 use Rattle.g_operator.proofs.LabelLemmas.{labels_read, no_fuse, same_still, stands_still}
+use Rattle.g_operator.proofs.PutLemmas.{puts_grown, told_grown}
 
 -- a plain outcome of an answer that isn't refused
 pub plain_ok : {A : Type 0} (reply : A) → (let answer : Result A StoreFault = Ok reply in OutcomeTold Plain answer)
@@ -169,6 +170,7 @@ module _ {A : Type 0} (what : Operator) (given : Type 0) (by : State → Outcome
       belongs = λ is. (makes.told is.told, makes.belongs is.told (gives is));
       dumps = λ is. grown_by (is_process what) rack new.rack (grow_held rack new.rack makes.tapes.reels);
       cause = puts.cause;
+      grows = puts_grown puts;
     }
 
   -- IT ISN'T MADE
@@ -248,6 +250,7 @@ module _ {A : Type 0} (what : Operator) (given : Type 0) (by : State → Outcome
         belongs = λ is. record { told = refuses.told is.told; belong = refuses.belongs is.told is.belong };
         dumps = λ is. grown_by (is_process what) rack rack' (grow_held rack rack' refuses.tapes.reels);
         cause = both.1;
+        grows = told_grown fault count c failure c' before_text after faults faults' tells;
       }
 
 -- WHAT IS DOWN stays down where the system doesn't come up

@@ -23,6 +23,7 @@ use Rattle.g_operator.proofs.GrowLemmas.{grow_held}
 use Rattle.g_operator.proofs.LabelLemmas.{same_counts}
 use Rattle.g_operator.proofs.LeavesLemmas.{leaves_same}
 use Rattle.g_operator.proofs.LineLemmas.{was_done}
+use Rattle.g_operator.proofs.PutLemmas.{puts_grown}
 
 -- a store that means the same
 pub armed_up : (armed : Devices → Devices) (s t : StoreFacts) → MeansTheSame s t → devices_in (Up t) ≡ armed (devices_in (Up s)) → t.spent ≡ s.spent → t.online.disc.size ≡ s.online.disc.size
@@ -121,6 +122,7 @@ module _ (k : ℕ) (old new : SystemFacts) (c : CrewState) (count : ℕ) where
     belongs = armed.belongs;
     dumps = λ was. subst (λ (d : Devices). DumpsGrow (devices_in old).rack d.rack) (sym armed.devices) (grow_held (devices_in old).rack (disc_armed k (devices_in old)).rack refl);
     cause = puts.cause;
+    grows = puts_grown puts;
   }
 
   pub tape_stop : HasArmed (tape_armed k) old new → IsReady old c → (failure : Option Failure) (before after : Option (List ℕ)) (faults faults' : ℕ) → Puts failure set_text before after faults faults'
@@ -149,4 +151,5 @@ module _ (k : ℕ) (old new : SystemFacts) (c : CrewState) (count : ℕ) where
     belongs = armed.belongs;
     dumps = λ was. subst (λ (d : Devices). DumpsGrow (devices_in old).rack d.rack) (sym armed.devices) (grow_held (devices_in old).rack (tape_armed k (devices_in old)).rack refl);
     cause = puts.cause;
+    grows = puts_grown puts;
   }

@@ -49,6 +49,7 @@ use Rattle.g_operator.proofs.LeavesLemmas.{leaves_same}
 use Rattle.g_operator.proofs.LineLemmas.{none_armed, refused_line, untried_line, was_done}
 use Rattle.g_operator.proofs.UpLemmas.{up_is}
 use Rattle.g_operator.proofs.LabelLemmas.{no_fuse, same_itself}
+use Rattle.g_operator.proofs.PutLemmas.{puts_grown, same_grown}
 
 more_none : (before : Option (List ℕ)) → before ≡ with_more before []
 more_none None = refl
@@ -182,6 +183,7 @@ module _ (login : NewLogin) (s : StoreFacts) (known : Bool) (known_is : (u : Sta
         belongs = λ is. is;
         dumps = λ is. grow_itself s.rack;
         cause = sits.put.cause;
+        grows = puts_grown sits.put;
       })
   seated_line failure c' before after faults faults' (inr (inl away)) =
       subst (λ (k : CrewState). DidLogin failure k before after faults faults') (sym away.crew)
@@ -197,6 +199,7 @@ module _ (login : NewLogin) (s : StoreFacts) (known : Bool) (known_is : (u : Sta
         belongs = λ is. is;
         dumps = λ is. grow_itself s.rack;
         cause = away.put.cause;
+        grows = puts_grown away.put;
       })
   seated_line failure c' before after faults faults' (inr (inr nothing)) = nothing_done (login_of_line login) refl refl (Up s) c count ready failure c' before after faults faults' nothing
 
@@ -346,6 +349,7 @@ module _ (t : ℕ) (change : JobState → JobState) (stays : (j : JobState) → 
     belongs = λ is. is;
     dumps = λ is. grown_by (is_process what) s.rack s.rack (grow_itself s.rack);
     cause = refl;
+    grows = same_grown before before refl;
   }
 
   pub changed_line : (failure : Option Failure) (c' : CrewState) (before after : Option (List ℕ)) (faults faults' : ℕ) → ChangesAt t change count c failure c' before after faults faults' → DidIt failure c' before after faults faults'
@@ -369,6 +373,7 @@ module _ (t : ℕ) (change : JobState → JobState) (stays : (j : JobState) → 
         belongs = λ is. is;
         dumps = λ is. grown_by (is_process what) s.rack s.rack (grow_itself s.rack);
         cause = nowhere.put.cause;
+        grows = puts_grown nowhere.put;
       })
   changed_line failure c' before after faults faults' (inr (inr nothing)) = nothing_done what no_disc no_tape (Up s) c count ready failure c' before after faults faults' nothing
 

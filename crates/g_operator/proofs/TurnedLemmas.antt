@@ -26,6 +26,7 @@ use Rattle.g_operator.proofs.LeavesLemmas.{leaves_same}
 use Rattle.g_operator.proofs.ByLemmas.{grown_by, plain_counted}
 use Rattle.g_operator.proofs.LineLemmas.{none_armed, was_done}
 use Rattle.g_operator.proofs.LabelLemmas.{no_fuse, same_counts}
+use Rattle.g_operator.proofs.PutLemmas.{puts_grown}
 
 -- no count moved
 counted_same : (old new : Devices) → new.disc ≡ old.disc → new.rack.read_faults ≡ old.rack.read_faults → new.rack.write_faults ≡ old.rack.write_faults → new.rack.arms ≡ old.rack.arms
@@ -115,4 +116,5 @@ module _ (what : Operator) (no_disc : disc_arms what ≡ []) (no_tape : tape_arm
     belongs = is.belongs;
     dumps = λ was. grown_by (is_process what) (devices_in old).rack (devices_in new).rack is.dumps;
     cause = puts.cause;
+    grows = puts_grown puts;
   }

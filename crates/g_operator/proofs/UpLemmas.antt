@@ -37,6 +37,7 @@ use Rattle.g_operator.proofs.GrowLemmas.{grow_held}
 use Rattle.g_operator.proofs.LeavesLemmas.{leaves_same, leaves_told}
 use Rattle.g_operator.proofs.LineLemmas.{FaultDone, none_armed, refused_line, tells_fault, told_of, told_same, was_done}
 use Rattle.g_operator.proofs.LabelLemmas.{no_fuse}
+use Rattle.g_operator.proofs.PutLemmas.{puts_grown, told_grown}
 
 -- the state of a store that is up is up
 pub up_is : (s : StoreFacts) (u : State) → s.spent ≡ false → StandsForState s u → u.up ≡ true
@@ -150,6 +151,7 @@ module _ {A : Type 0} (what : Operator) (by : State → Holding → Outcome → 
       belongs = λ is. (event.told is.0, event.belongs is.0 is.1);
       dumps = cause.dumps;
       cause = puts.cause;
+      grows = puts_grown puts;
     }
 
   -- refused, or stopped
@@ -230,6 +232,7 @@ module _ {A : Type 0} (what : Operator) (by : State → Holding → Outcome → 
           belongs = belongs_by fault refl;
           dumps = λ is. subst (λ (d : Devices). DumpsBy (is_process what) old.rack d.rack) (sym (same_devices fault new)) (cause.dumps is);
           cause = both.1;
+          grows = told_grown fault count c failure c' before_text after faults faults' tells;
         }
 
 -- a stop takes an event's state down

@@ -17,7 +17,7 @@ use Rattle.g_run_model.specs.World.{World}
 use Rattle.g_job_table.specs.Crew.{CrewState, IsCrewOf}
 use Rattle.g_job_table.specs.Numbers.{AreOpen}
 use Rattle.g_operator.specs.declared.progress.Failure.{Failure}
-use Rattle.g_operator.specs.Puts.{FaultCause}
+use Rattle.g_operator.specs.Puts.{FaultCause, HasGrown}
 use Rattle.g_operator.specs.System.{Down, DumpsGrow, SameDevices, StandsAs, SystemBelongs, SystemFacts, Up, devices_in}
 
 -- what a run has at hand
@@ -114,3 +114,4 @@ pub record DidLine (what : Operator) (old : Seen) (failure : Option Failure) (ne
   pub belongs : SystemBelongs old.system → SystemBelongs new.system
   pub dumps : SystemBelongs old.system → DumpsBy (is_process what) (devices_in old.system).rack (devices_in new.system).rack
   pub cause : FaultCause failure faults faults'
+  pub grows : HasGrown before after

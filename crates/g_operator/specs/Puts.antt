@@ -19,3 +19,8 @@ PutsBy (Some failure) text before after = HasPutPart before text after
 pub record Puts (failure : Option Failure) (text : List ℕ) (before after : Option (List ℕ)) (old new : ℕ) : Type 0 where
   pub put : PutsBy failure text before after
   pub cause : FaultCause failure old new
+
+-- some text was put, whatever it is
+pub record HasGrown (before after : Option (List ℕ)) : Type 0 where
+  pub more : List ℕ
+  pub put : after ≡ with_more before more

@@ -2,16 +2,17 @@
 use crate::rig::reel;
 use g_entry::TapeCopy;
 use g_incr::ShelfFault;
-use g_known::KnownReels;
+use g_known::{KnownReels, catalogue};
 use g_name::Text;
-use g_retrieve::{known_bytes, tape_bytes};
+use g_retrieve::tape_bytes;
+use g_shelf::first_unmounted;
 use g_tape::{MemoryTapes, Tapes};
 use std::alloc::Global;
 
 /// So many bytes from this block of reel 9 on, where a completed dump holds them.
 fn copied(
     alloc: Global,
-    tapes: &mut MemoryTapes,
+    tapes: &mut KnownReels<MemoryTapes>,
     first: u32,
     len: u32,
 ) -> Result<Option<Text>, ShelfFault> {
@@ -22,7 +23,7 @@ fn copied(
 /// F's bytes are in two blocks.
 #[test]
 fn ample(rt: HostRuntime) {
-    let mut tapes = reel(&rt);
+    let mut tapes = KnownReels::new(rt.alloc(), reel(&rt));
     let Ok(Some(text)) = copied(rt.alloc(), &mut tapes, 5, 600) else {
         panic!(rt; "no text");
     };
@@ -38,6 +39,7 @@ fn ample(rt: HostRuntime) {
 fn a_read_fails_in_the_middle(rt: HostRuntime) {
     let mut tapes = reel(&rt);
     tapes.fail_reads([9].to_vec(rt.alloc()).expect(&rt, "memory"));
+    let mut tapes = KnownReels::new(rt.alloc(), tapes);
     assert!(rt; copied(rt.alloc(), &mut tapes, 5, 600).err() == Some(ShelfFault::ReadFault));
     let Ok(Some(text)) = copied(rt.alloc(), &mut tapes, 5, 600) else {
         panic!(rt; "no text");
@@ -47,11 +49,7 @@ fn a_read_fails_in_the_middle(rt: HostRuntime) {
 
 /// How many bytes F has on a rack that knows its dumps.
 fn known(alloc: Global, tapes: &mut KnownReels<MemoryTapes>) -> Result<Option<usize>, ShelfFault> {
-    let copy = TapeCopy {
-        serial: 9,
-        first: 5,
-    };
-    match known_bytes(alloc, tapes, &copy, 600) {
+    match copied(alloc, tapes, 5, 600) {
         Ok(Some(text)) => Ok(Some(text.as_slice().len())),
         Ok(None) => Ok(None),
         Err(fault) => Err(fault),
@@ -82,10 +80,31 @@ fn known_dumps_are_read_once(rt: HostRuntime) {
     assert!(rt; known(rt.alloc(), &mut tapes) == Err(ShelfFault::ReadFault));
 }
 
+/// A mount forgets nothing: the tenth read, and the thirteenth and fourteenth, of the end of the dumps and of the catalogue, are of
+/// the block behind the dump. It isn't there, so they don't fail.
+#[test]
+fn what_is_known_stays(rt: HostRuntime) {
+    let mut tapes = reel(&rt);
+    tapes.fail_reads([10, 13, 14].to_vec(rt.alloc()).expect(&rt, "memory"));
+    let mut tapes = KnownReels::new(rt.alloc(), tapes);
+    assert!(rt; known(rt.alloc(), &mut tapes) == Ok(Some(600)));
+    assert!(rt; tapes.mount(9) == Ok(()));
+    assert!(rt; known(rt.alloc(), &mut tapes) == Ok(Some(600)));
+    assert!(rt; tapes.end_of(rt.alloc(), 9) == Ok(11));
+    let listed = match first_unmounted(&tapes) {
+        None => catalogue(rt.alloc(), &mut tapes),
+        Some(_) => Err(ShelfFault::NotMounted),
+    };
+    let Ok(lists) = listed else {
+        panic!(rt; "no catalogue");
+    };
+    assert!(rt; lists.len() == 1);
+}
+
 /// Places that no completed dump holds: one block too many, the record before the content, a block near 2^32.
 #[test]
 fn places_that_are_not_held(rt: HostRuntime) {
-    let mut tapes = reel(&rt);
+    let mut tapes = KnownReels::new(rt.alloc(), reel(&rt));
     for (first, len) in [(5, 2561), (4, 512), (9, 513), (10, 1), (4_294_967_295, 1)] {
         let text = copied(rt.alloc(), &mut tapes, first, len);
         assert!(rt; matches!(&text, Ok(None)), "{len} from {first}");

@@ -56,7 +56,7 @@ pub record IsPrepared (serial : ℕ) (o : OnlineFacts) (old new : Rack) (job : J
   pub kept : new.read_faults ≡ old.read_faults
   pub may : MayCarry o new job
 
--- the reels were all read by an event that isn't refused without a read
+-- what is known of all reels is what an event wants that isn't refused without a read
 pub record IsCatalogued (serial : ℕ) (o : OnlineFacts) (old new : Rack) (lists : List Listed) : Type 0 where
   pub granted : IsGranted serial o old
   pub reels : AreReels old.reels

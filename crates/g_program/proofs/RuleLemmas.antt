@@ -9,7 +9,7 @@ use Rattle.g_operator.specs.declared.progress.Failure.TheVariants as failures
 use Rattle.g_demo.specs.declared.demonstration.Demonstration.{Demonstration}
 use Rattle.g_job.specs.TurnEnd.{IsPriced}
 use Rattle.g_run.specs.Demo.{IsDemoText, PutsDemo}
-use Rattle.g_run.specs.Top.{EndsAs, EndsDemo}
+use Rattle.g_run.specs.Top.{EndsAnew, EndsAs, EndsDemo}
 use Rattle.g_run.specs.declared.status.Status.{Status}
 use Rattle.g_run.specs.declared.status.Status.TheVariants.{Done, Words, BadScript, ScriptFault, OutputFault, NoMemory, TooLong}
 use Rattle.g_sched.specs.Choice.{IsChosen}
@@ -21,6 +21,7 @@ use Rattle.g_run_model.specs.Devices.{Devices}
 use Rattle.g_run_model.specs.Moves.{Move, Run, Step, TakeLine, Dumped, Begin, Answered, TurnOver, Ticked, Over}
 use Rattle.g_run_model.specs.Top.{EndsShort, EndsWhole, IsCut, RunOf}
 use Rattle.g_run_model.specs.World.{World}
+use Rattle.g_laws_runs.specs.BeginningAnew.{with_new_disc}
 
 module _ {F G U V : Type 0}
     (tariffs : Shared F (Bor Usage × Unit {0}) Charge) (tariff : F) (others : Shared G (Bor Usage × Unit {0}) Charge) (other : G)
@@ -90,6 +91,32 @@ module _ {F G U V : Type 0}
   ends_by Words left old new before after it = it
   ends_by ScriptFault left old new before after it = it
 
+  -- to begin anew
+  anew_by : (status : Status) (left : List ℕ) (old new : Devices) (before after : Option (List ℕ))
+      → EndsAnew tariffs tariff rules rule status left old new before after → EndsAnew others other ways way status left old new before after
+  anew_by status left old new before after (inl took) = inl (record { ends = ends_by status left (with_new_disc old) new before after took.ends; together = took.together })
+  anew_by status left old new before after (inr (inl none)) =
+      inr (inl (record { ends = ends_by status left (with_new_disc old) (with_new_disc new) before after none.ends; blank = none.blank; unwell = none.unwell }))
+  anew_by status left old new before after (inr (inr it)) =
+      let (lines, bad, parsed, missed) = it in inr (inr (
+        lines,
+        bad,
+        parsed,
+        λ s stands.
+            let m = missed s stands in record {
+              moves = m.moves;
+              last = m.last;
+              mid = m.mid;
+              run_of = run_of lines bad s (with_new_disc old) (with_new_disc m.mid) m.moves m.last m.run_of;
+              down = m.down;
+              other = m.other;
+              blank = m.blank;
+              unwell = m.unwell;
+              same = m.same;
+              text = m.text;
+            },
+      ))
+
   demo_text_by : (demo : Demonstration) (text : List ℕ) → IsDemoText tariffs tariff rules rule demo text → IsDemoText others other ways way demo text
   demo_text_by demo text is = record {
     old = is.old;
@@ -126,6 +153,14 @@ module _ {F G U V : Type 0} {tariffs : Shared F (Bor Usage × Unit {0}) Charge} 
       → EndsAs others other ways way status left old new before after
   ends_as status left old new before after it priced weighed =
       ends_by tariffs tariff others other priced rules rule ways way weighed status left old new before after it
+
+  pub anew_as : (status : Status) (left : List ℕ) (old new : Devices) (before after : Option (List ℕ))
+      → EndsAnew tariffs tariff rules rule status left old new before after
+      → ((usage : Usage) (charge : Charge) → FnReturnsAt tariffs tariff usage charge → FnReturnsAt others other usage charge)
+      → ((standing : Standing) (weight : ℕ) → FnReturnsAt rules rule standing weight → FnReturnsAt ways way standing weight)
+      → EndsAnew others other ways way status left old new before after
+  anew_as status left old new before after it priced weighed =
+      anew_by tariffs tariff others other priced rules rule ways way weighed status left old new before after it
 
   pub demo_as : (status : Status) (demo : Demonstration) (before after : Option (List ℕ))
       → EndsDemo tariffs tariff rules rule status demo before after

@@ -10,7 +10,6 @@ ghost use Rattle.g_script.specs.Script.{IsParsed};
 ghost use Rattle.g_script.specs.declared.operator.Timed.{Timed};
 ghost use Rattle.g_laws_process.specs.Moving.{DumpsMove};
 ghost use Rattle.g_run_model.specs.Top.{AreArmings, AreFused, IsCutWords};
-ghost use Rattle.g_laws_runs.specs.BeginningAnew.{with_new_disc};
 ghost use Rattle.g_laws_runs.specs.Filestores.{HasFilestore};
 ghost use Rattle.g_run.specs.Input.{IsRun};
 ghost use Rattle.g_run.specs.ScriptEnd.{both};
@@ -82,13 +81,11 @@ pub fn run_by_rules<S: Source, K: Sink, D: Disc, T: Tapes>(
     ensures ends { IsRun words.now → (left : List ℕ) → S.left script.old ≡ Some left →
         top.EndsAs (answering price) tt (answering share_used) tt result.status left (both (D.state disc) (T.rack tapes)) (both (D.state result.disc) (T.rack result.tapes))
         (K.written out.old) (K.written out.new) }
-    // To begin anew, over a disc that may name copies which no reel has, so that disc and rack don't belong together: the run is one from
-    // the state of a new disc beside the same reels, and they belong together at its end.
-    ensures anew { IsRun words.now → (left : List ℕ) → S.left script.old ≡ Some left → top.IsThrough result.status
-        → top.BeginsAnew left (both (D.state disc) (T.rack tapes)) (both (D.state result.disc) (T.rack result.tapes))
-        → top.EndsAs (answering price) tt (answering share_used) tt result.status left (with_new_disc (both (D.state disc) (T.rack tapes))) (both (D.state result.disc) (T.rack result.tapes))
-        (K.written out.old) (K.written out.new)
-        × BelongTogether (both (D.state result.disc) (T.rack result.tapes)) }
+    // To begin anew, over a disc that may name copies which no reel has, so that disc and rack don't belong together: with every status the run
+    // is one from the state of a new disc beside the same reels. Where a FORMAT took, they belong together at its end.
+    ensures anew { IsRun words.now → (left : List ℕ) → S.left script.old ≡ Some left → top.BeginsAnew left (both (D.state disc) (T.rack tapes))
+        → top.EndsAnew (answering price) tt (answering share_used) tt result.status left (both (D.state disc) (T.rack tapes)) (both (D.state result.disc) (T.rack result.tapes))
+        (K.written out.old) (K.written out.new) }
     ensures words { AskNothing (texts_of words.now)
         → IsCutWords (both (D.state disc) (T.rack tapes)) (both (D.state result.disc) (T.rack result.tapes)) (K.written out.old) (K.written out.new) }
     ensures enough { AskNothing (texts_of words.now) → top.IsForMemory result.status → ⊥ }

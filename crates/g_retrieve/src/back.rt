@@ -14,7 +14,7 @@ ghost use Rattle.g_laws_memory.specs.UnjamPlan.{IsUnjamPlan};
 ghost use Rattle.g_retrieve.specs.Retrieval.{HasBroughtBack, HasReadCopy, IsOnTape, IsPutBack, as_read};
 ghost use Rattle.g_retrieve.specs.Invariant.{HasLostCopy, KeepsDevices};
 
-use crate::bytes::known_bytes;
+use crate::bytes::tape_bytes;
 use g_disc::Disc;
 use g_entry::{FileRec, TapeCopy};
 use g_incr::ShelfFault;
@@ -105,7 +105,7 @@ pub fn read_copy<T: Tapes>(
     ensures { HasReadCopy (name_of_file tree.now.users tree.now.files number) copy.now len
         (T.rack tapes.old) (T.rack tapes.new) result }
 {
-    match known_bytes(alloc, tapes, copy, len) {
+    match tape_bytes(alloc, tapes, copy, len) {
         Ok(Some(text)) => Ok(text),
         Ok(None) => Err(lost(tree, number, copy.serial)),
         Err(fault) => Err(read_fault(fault, copy.serial)),

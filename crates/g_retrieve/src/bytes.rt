@@ -14,46 +14,13 @@ use g_entry::TapeCopy;
 use g_incr::{ShelfFault, read_block};
 use g_known::KnownReels;
 use g_name::Text;
-use g_shelf::find_copy;
 use g_tape::Tapes;
 use std::alloc::Global;
 
-/// The `len` bytes of the copy, read from its reel in this call, each of its blocks. None exactly where the completed dumps
-/// of the reel don't hold the place (docs/DEFINITIONS.md, "Content"); an empty file has no bytes that they would have to
-/// hold. `NoTape`, `NotMounted`, `ReadFault`, `NoMemory`; nothing changes but how often the reel's blocks were read.
+/// The `len` bytes of the copy, read from its reel in this call, each of its blocks, and of the reel's dumps what isn't known
+/// yet. None exactly where the completed dumps of the reel don't hold the place (docs/DEFINITIONS.md, "Content"); an empty file
+/// has no bytes that they would have to hold. `NoTape`, `NotMounted`, `ReadFault`, `NoMemory`; nothing changes but how often the reel's blocks were read.
 pub fn tape_bytes<T: Tapes>(
-    alloc: Global,
-    tapes: &mut T,
-    copy: &TapeCopy,
-    len: u32,
-) -> Result<Option<Text>, ShelfFault>
-    ensures reads { ReadsReel copy.now.serial result (T.rack tapes.old) (T.rack tapes.new) }
-    ensures len { IfOk result (λ found. IfSome found (λ text. length text ≡ len)) }
-
-    // What it says of the place it says where the reel tells what it holds.
-    ensures some { IfOk result (λ found. IfSome found (λ text. ForSome (blocks_of copy.now.serial (T.rack tapes.old))
-        (λ blocks. (dumps : List Dump) → AreCompleted copy.now.serial blocks dumps → 0 < len → IsContent dumps copy.now text))) }
-    ensures none { IfOk result (λ found. IfNone found (ForSome (blocks_of copy.now.serial (T.rack tapes.old))
-        (λ blocks. (dumps : List Dump) → AreCompleted copy.now.serial blocks dumps
-        → (text : List ℕ) → length text ≡ len → IsContent dumps copy.now text → ⊥))) }
-    ensures filled { IfOk result (λ found. IfNone found (0 < len)) }
-    ensures read { IfOk result (λ found. IfSome found (λ text. (k : ℕ) → copy.now.first ≤ k
-        → k < copy.now.first + block.blocks_for len → HasRead copy.now.serial k (T.rack tapes.old) (T.rack tapes.new))) }
-{
-    match find_copy(alloc, tapes, copy, blocks_for(len)) {
-        Ok(true) => {}
-        Ok(false) => return Ok(None),
-        Err(fault) => return Err(fault),
-    }
-    match read_text(alloc, tapes, copy.serial, copy.first, len) {
-        Ok(text) => Ok(Some(text)),
-        Err(fault) => Err(fault),
-    }
-}
-
-/// The same bytes from a rack that knows the dumps of its reels: the copy's blocks are read in this call, and of the dumps what
-/// isn't known yet. Faults as those of `tape_bytes`.
-pub fn known_bytes<T: Tapes>(
     alloc: Global,
     tapes: &mut KnownReels<T>,
     copy: &TapeCopy,

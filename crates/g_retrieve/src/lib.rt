@@ -5,4 +5,4 @@ mod back;
 mod bytes;
 
 pub use back::{bring_back, file_of, read_copy};
-pub use bytes::{known_bytes, tape_bytes};
+pub use bytes::tape_bytes;

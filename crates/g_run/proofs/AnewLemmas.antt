@@ -1,13 +1,15 @@
 -- TO BEGIN ANEW: lines one behind the other over devices to begin anew with, the first of which beside MOUNT, UNMOUNT and STOP is a FORMAT.
 use Rattle.std.proofs.Common.{◌≡◌, ◌⊎◌, ◌≤◌, ◌++◌, ℕ, true, List, [], ◌∷◌, Some, None, All, refl, sym, ◌∙◌, ap, subst, inl, inr}
-use Rattle.std.proofs.lemmas.List.Elements.{All-cons, All-head, All-nil, All-pop}
+use Rattle.std.proofs.lemmas.List.Elements.{All-cons, All-head, All-nil, All-pop, All-tail, All-weaker}
 use Rattle.g_base.proofs.CountLemmas.{Rose-before, Rose-behind}
+use Rattle.g_script.specs.declared.operator.Operator.{Operator}
 use Rattle.g_script.specs.declared.operator.Operator.TheVariants as line
 use Rattle.g_script.specs.declared.operator.Timed.{Timed}
 use Rattle.g_run_model.specs.Devices.{Devices}
-use Rattle.g_laws_runs.specs.BeginningAnew.{BeginAnew, NoDiscFault, is_aside}
-use Rattle.g_operator.specs.System.{SameDevices}
-use Rattle.g_run.specs.Parts.{AreAside}
+use Rattle.g_laws_runs.specs.BeginningAnew.{AreBlank, BeginAnew, NoDiscFault, is_aside, is_first, with_new_disc}
+use Rattle.g_operator.specs.BeginningAnew.{IsBlank, beside_new}
+use Rattle.g_operator.specs.System.{Down, SameDevices, SystemFacts, Up, devices_in}
+use Rattle.g_run.specs.Parts.{AreAside, AreFirst}
 
 -- WHERE THE DISC COUNTED NO FAILURE in two parts, it counted none in either
 pub first_well : (a b c : Devices) → SameDevices b c → NoDiscFault a c → NoDiscFault a b
@@ -40,6 +42,32 @@ split (d ∷ done) (f ∷ front) rest next format is = by (split done front rest
     by (inl (same, it)) = inl (ap (λ (t : Timed). t ∷ done) head ∙ ap (λ (ts : List Timed). f ∷ ts) same, it)
     by (inr (more, same)) = inr (more, ap (λ (t : Timed). t ∷ done) head ∙ ap (λ (ts : List Timed). f ∷ ts) same)
 
+-- some of the lines: they are such lines, or they have the FORMAT
+cut : (a b front rest : List Timed) (format : Timed) → a ++ b ≡ front ++ format ∷ rest → ((more : List Timed) × (front ≡ a ++ more)) ⊎ ((more : List Timed) × (a ≡ front ++ format ∷ more))
+cut [] b front rest format is = inl (front, refl)
+cut (x ∷ a) b [] rest format is = inr (a, ap (λ (t : Timed). t ∷ a) (let same : x ≡ format = cc in same))
+cut (x ∷ a) b (f ∷ front) rest format is = by (cut a b front rest format (let same : a ++ b ≡ front ++ format ∷ rest = cc in same))
+  where
+    head : x ≡ f
+    head = cc
+
+    by : ((more : List Timed) × (front ≡ a ++ more)) ⊎ ((more : List Timed) × (a ≡ front ++ format ∷ more))
+        → ((more : List Timed) × (f ∷ front ≡ x ∷ (a ++ more))) ⊎ ((more : List Timed) × (x ∷ a ≡ f ∷ (front ++ format ∷ more)))
+    by (inl (more, same)) = inl (more, ap (λ (t : Timed). t ∷ front) (sym head) ∙ ap (λ (ts : List Timed). x ∷ ts) same)
+    by (inr (more, same)) = inr (more, ap (λ (t : Timed). t ∷ a) head ∙ ap (λ (ts : List Timed). f ∷ ts) same)
+
+-- what is so of all lines is so of some of them
+first_some : (P : Timed → Type 0) (a b : List Timed) → All P (a ++ b) → All P a
+first_some P [] b all = All-nil P
+first_some P (x ∷ a) b all = All-cons P x a (All-head P x (a ++ b) all) (first_some P a b (All-tail P x (a ++ b) all))
+
+pub begin_parts : (a b : List Timed) → BeginAnew (a ++ b) → AreAside a ⊎ BeginAnew a
+begin_parts a b begin = by (cut a b begin.front begin.rest begin.format begin.are)
+  where
+    by : ((more : List Timed) × (begin.front ≡ a ++ more)) ⊎ ((more : List Timed) × (a ≡ begin.front ++ begin.format ∷ more)) → AreAside a ⊎ BeginAnew a
+    by (inl (more, same)) = inl (first_some (λ (t : Timed). is_aside t.what ≡ true) a more (subst AreAside same begin.aside))
+    by (inr (more, same)) = inr (record { front = begin.front; format = begin.format; rest = more; are = same; aside = begin.aside; formats = begin.formats })
+
 pub one_more_line : (done : List Timed) (next : Timed) → BeginAnew (done ++ next ∷ []) → (AreAside done × BeginAnew (next ∷ [])) ⊎ BeginAnew done
 one_more_line done next begin = by (split done begin.front begin.rest next begin.format begin.are)
   where
@@ -69,11 +97,34 @@ none_begin begin = by begin.front begin.are
     by [] e = let no : ⊥ = cc in no
     by (l ∷ ls) e = let no : ⊥ = cc in no
 
--- lines that ask the filestore for nothing, and one more
-pub aside_parts : (done : List Timed) (next : Timed) → AreAside (done ++ next ∷ []) → AreAside done × AreAside (next ∷ [])
-aside_parts done next all =
-    let (some, it) = All-pop (λ (t : Timed). is_aside t.what ≡ true) (done ++ next ∷ []) done (Some next) refl all in
-    (some, All-cons (λ (t : Timed). is_aside t.what ≡ true) next [] it (All-nil (λ (t : Timed). is_aside t.what ≡ true)))
+-- LINES THAT MAY STAND FIRST
+first_is : (what : Operator) → is_aside what ≡ true → is_first what ≡ true
+first_is line.Format is = refl
+first_is what is = is
 
-pub aside_head : (next : Timed) → AreAside (next ∷ []) → is_aside next.what ≡ true
-aside_head next all = All-head (λ (t : Timed). is_aside t.what ≡ true) next [] all
+pub asides_first : (lines : List Timed) → AreAside lines → AreFirst lines
+asides_first lines all = All-weaker (λ (t : Timed). is_aside t.what ≡ true) (λ (t : Timed). is_first t.what ≡ true) (λ t is. first_is t.what is) lines all
+
+pub format_first : (next : Timed) → next.what ≡ line.Format → is_first next.what ≡ true
+format_first next is = ap is_first is
+
+pub firsts_parts : (done more : List Timed) → AreFirst (done ++ more) → AreFirst done
+firsts_parts done more all = first_some (λ (t : Timed). is_first t.what ≡ true) done more all
+
+pub first_last : (done : List Timed) (next : Timed) → AreFirst (done ++ next ∷ []) → is_first next.what ≡ true
+first_last done next all = (All-pop (λ (t : Timed). is_first t.what ≡ true) (done ++ next ∷ []) done (Some next) refl all).1
+
+pub first_one : (next : Timed) → is_first next.what ≡ true → AreFirst (next ∷ [])
+first_one next is = All-cons (λ (t : Timed). is_first t.what ≡ true) next [] is (All-nil (λ (t : Timed). is_first t.what ≡ true))
+
+pub first_head : (next : Timed) → AreFirst (next ∷ []) → is_first next.what ≡ true
+first_head next all = All-head (λ (t : Timed). is_first t.what ≡ true) next [] all
+
+-- WHAT IS AT HAND over devices to begin anew with
+pub blank_devices : (f : SystemFacts) → IsBlank f → AreBlank (devices_in f)
+blank_devices (Up s) blank = absurd blank
+blank_devices (Down d) blank = blank
+
+pub blank_beside : (f : SystemFacts) → IsBlank f → beside_new f ≡ Down (with_new_disc (devices_in f))
+blank_beside (Up s) blank = absurd blank
+blank_beside (Down d) blank = refl

@@ -1,11 +1,10 @@
 -- The step of the open dump, from each world that is what is at hand, and what holds of all devices behind it.
-use Rattle.std.proofs.Common.{◌≡◌, ◌+◌, ◌-◌, ◌≤◌, ◌++◌, append-nil, codes, is_some, ℕ, Bool, true, false, List, [], Option, Some, None, Result, Ok, Err, sum_by, refl, sym, ◌∙◌, ap, subst, inl, inr, arith, if◌then◌else◌}
+use Rattle.std.proofs.Common.{◌≡◌, ◌+◌, ◌-◌, ◌≤◌, ◌++◌, codes, is_some, ℕ, Bool, true, false, List, [], Option, Some, None, Result, Ok, Err, sum_by, refl, sym, ◌∙◌, ap, subst, inl, inr, arith, if◌then◌else◌}
 use Rattle.std.proofs.lemmas.Bool.{false≢true}
 use Rattle.std.specs.Option.{option_map}
 use Rattle.g_disc_contents.specs.Facts.{OnlineFacts}
 use Rattle.g_dumper.specs.Steps.{Stepping, WroteBlock}
 use Rattle.g_incr.specs.Plan.{needs}
-use Rattle.g_io.specs.Streams.{with_more}
 use Rattle.g_job.specs.State.{JobState}
 use Rattle.g_monitor.specs.Refusals.{fault_line}
 use Rattle.g_plain.specs.declared.faults.StoreFault.{StoreFault}
@@ -42,6 +41,7 @@ use Rattle.g_run.proofs.SteppingLemmas.{stepping_counted}
 use Rattle.g_operator.proofs.GrowLemmas.{grow_itself, grow_stepped}
 use Rattle.g_base.proofs.CountLemmas.{Rose-later}
 use Rattle.g_operator.proofs.LabelLemmas.{labels_with, same_counts, same_itself, same_still, stands_still}
+use Rattle.g_operator.proofs.PutLemmas.{puts_grown, same_grown, with_more-nil}
 
 -- a step never wants memory
 steps_lead : (answer : Result Stepped StoreFault) (s : State) (old new : StoreFacts) (dump after : DumpFacts) → Stepping dump old.online old.rack answer after new.online new.rack
@@ -172,10 +172,6 @@ step_drops d e o p r t (Err fault) dump step left = none_left d dump left
 abbrev is_there : Option DumpFacts → Bool
 is_there d = elim d [ None ↦ false | Some x ↦ true ]
 
-with_more-nil : (before : Option (List ℕ)) → with_more before [] ≡ before
-with_more-nil (Some bytes) = ap (λ t. Some t) (append-nil bytes)
-with_more-nil None = refl
-
 nobody : AreOpen []
 nobody = λ k d less. let no : ⊥ = omega (arith, less) in absurd no
 
@@ -300,6 +296,7 @@ module _ (old new : StoreFacts) (unspent : old.spent ≡ false) (c : CrewState) 
     goes = goes_up isnt failure before after puts.put;
     keeps = keeps_up isnt stay taking failure added before after faults faults' puts;
     falls = falls_up failure;
+    grows = puts_grown puts;
     idle = λ e. absurd (false≢true (sym e ∙ has));
   }
 
@@ -371,6 +368,7 @@ module _ (old new : StoreFacts) (unspent : old.spent ≡ false) (c : CrewState) 
       goes = stop_goes;
       keeps = stop_keeps;
       falls = stop_falls;
+      grows = puts_grown tells.1;
       idle = λ e. absurd (false≢true (sym e ∙ has old new unspent c count (Err Stopped) event is));
     }
 
@@ -391,6 +389,7 @@ did_nothing old c count ready taking none before faults = record {
   };
   falls = λ e. let no : has_dump (Up old) ≡ false = ap (λ (d : Option DumpFacts). is_there d) none in
       let zero : one_if (has_dump (Up old)) ≡ one_if false = ap one_if no in omega (arith, zero);
+  grows = same_grown before before refl;
   idle = λ e. refl;
 }
   where

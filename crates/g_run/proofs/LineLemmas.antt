@@ -1,5 +1,6 @@
 -- A line behind the ticks that come before it, and lines one behind the other.
-use Rattle.std.proofs.Common.{◌≡◌, ◌⊎◌, ◌≤◌, ◌++◌, ℕ, true, false, List, [], ◌∷◌, Option, Some, None, length, drop, is_some, append_assoc, append-nil, refl, sym, ◌∙◌, ap, subst, inl, inr, arith}
+use Rattle.std.proofs.Common.{◌≡◌, ◌⊎◌, ◌≤◌, ◌++◌, ℕ, Bool, true, false, List, [], ◌∷◌, Option, Some, None, length, drop, is_some, append_assoc, append-nil, refl, sym, ◌∙◌, ap, subst, inl, inr, arith}
+use Rattle.std.proofs.lemmas.Option.{none-some}
 use Rattle.std.proofs.lemmas.List.Elements.{All-cons, All-head, All-nil, All-pop}
 use Rattle.std.specs.Fn.{Shared}
 use denote.Ref.{Bor}
@@ -8,30 +9,31 @@ use Rattle.g_base.proofs.FuseLemmas.{within_more}
 use Rattle.g_budget.specs.declared.tariff.Charge.{Charge}
 use Rattle.g_budget.specs.declared.tariff.Usage.{Usage}
 use Rattle.g_sched.specs.declared.rule.Standing.{Standing}
-use Rattle.g_io.specs.Streams.{HasPutPart}
-use Rattle.g_script.specs.declared.operator.Operator.{Operator}
-use Rattle.g_script.specs.declared.operator.Operator.TheVariants as line
+use Rattle.g_io.specs.Streams.{HasPutPart, with_more}
 use Rattle.g_script.specs.declared.operator.Timed.{Timed}
 use Rattle.g_run_model.specs.Devices.{Devices}
 use Rattle.g_run_model.specs.Lines.{is_process}
 use Rattle.g_run_model.specs.Moves.{TakeLine}
 use Rattle.g_run_model.specs.Top.{AreArmings}
 use Rattle.g_run_model.specs.World.{World}
-use Rattle.g_laws_runs.specs.BeginningAnew.{BeginAnew, NoDiscFault}
+use Rattle.g_laws_runs.specs.BeginningAnew.{BeginAnew, NoDiscFault, is_first}
 use Rattle.g_run_model.proofs.CountLemmas.{move_counted}
 use Rattle.g_run_model.proofs.TickLemmas.{line_move}
 use Rattle.g_job_table.specs.Numbers.{AreOpen}
 use Rattle.g_operator.specs.declared.progress.Failure.{Failure}
-use Rattle.g_operator.specs.BeginningAnew.{AnewLine, IsBlank, beside}
+use Rattle.g_operator.specs.BeginningAnew.{AnewLine, IsBlank, IsUntaken, beside, beside_new}
 use Rattle.g_operator.specs.Parts.{ArmsBy, DidLine, DoesLine, DoesNothing, IsReady, LineGoes, Matches, Seen, disc_arms, tape_arms}
-use Rattle.g_operator.specs.System.{SystemFacts, devices_in}
-use Rattle.g_operator.proofs.AnewLemmas.{aside_line, format_line}
+use Rattle.g_operator.specs.Puts.{HasGrown}
+use Rattle.g_operator.specs.System.{SameDevices, SystemFacts, devices_in}
+use Rattle.g_operator.proofs.AnewLemmas.{first_line}
+use Rattle.g_operator.proofs.LabelLemmas.{same_then}
 use Rattle.g_run.specs.Tick.{IsBetween}
-use Rattle.g_run.specs.Parts.{Anything, AreAside, AreDueBy, Breaks, DidAll, DidLines, DidTicks, GoesBy, IsAtRest, Keeps, Leads, PartGoes, turn_of}
-use Rattle.g_run.proofs.AnewLemmas.{aside_head, aside_parts, first_well, is_format, later_well, none_begin, one_more_line}
+use Rattle.g_run.specs.Parts.{Anything, AreAside, AreDueBy, AreFirst, BeginsBy, Breaks, DidAll, DidLines, DidTicks, GoesBy, IsAtRest, IsOther, Keeps, Leads, LinesGo, Misses, NoneTook, PartGoes, PartMisses, turn_of}
+use Rattle.g_run.proofs.AnewLemmas.{asides_first, begin_parts, blank_beside, blank_devices, first_head, first_last, first_one, first_well, firsts_parts, format_first, is_format, later_well, none_begin, one_more_line}
 use Rattle.g_run.proofs.KeepLemmas.{kept_line}
 use Rattle.g_run.proofs.LeaveLemmas.{line_leaves}
-use Rattle.g_run.proofs.PartLemmas.{arrives_here, goes_then, keeps_more, keeps_then, with_more-nil}
+use Rattle.g_operator.proofs.PutLemmas.{grown_then, same_grown, with_more-nil}
+use Rattle.g_run.proofs.PartLemmas.{arrives_here, goes_then, keeps_more, keeps_then}
 use Rattle.g_run.proofs.UntilLemmas.{keeps_here}
 
 -- what a line arms each device with
@@ -140,12 +142,25 @@ module _ {F U : Type 0} (tariffs : Shared F (Bor Usage × Unit {0}) Charge) (tar
       }
 
   -- behind its ticks
-  behind_ticks : (next : Timed) (old mid new : Seen) (before middle after : Option (List ℕ))
-      → ((lines : List Timed) → turn_of lines ≡ Some next.turn → PartGoes tariffs tariff rules rule IsAtRest lines lines old None mid before middle) → LineGoes next.what mid None new middle after
-      → (rest : List Timed) → PartGoes tariffs tariff rules rule Anything ((next ∷ []) ++ rest) rest old None new before after
-  behind_ticks next old mid new before middle after went goes rest w m between is =
+  behind_ticks : (next : Timed) (old mid : Seen) (failure : Option Failure) (new : Seen) (before middle after : Option (List ℕ))
+      → ((lines : List Timed) → turn_of lines ≡ Some next.turn → PartGoes tariffs tariff rules rule IsAtRest lines lines old None mid before middle) → LineGoes next.what mid failure new middle after
+      → (rest : List Timed) → PartGoes tariffs tariff rules rule Anything ((next ∷ []) ++ rest) rest old failure new before after
+  behind_ticks next old mid failure new before middle after went goes rest w m between is =
       let a = went (next ∷ rest) refl w m between is in
-      goes_then tariffs tariff rules rule IsAtRest Anything w (next ∷ rest) rest old mid before middle a None new after (line_goes next rest mid None new middle after goes a.next a.matches a.between a.rests a.lines)
+      goes_then tariffs tariff rules rule IsAtRest Anything w (next ∷ rest) rest old mid before middle a failure new after (line_goes next rest mid failure new middle after goes a.next a.matches a.between a.rests a.lines)
+
+  -- to begin anew: a FORMAT, or a line that asks the filestore for nothing
+  first_done : (next : Timed) (old mid : Seen) (failure : Option Failure) (new : Seen) (before middle after : Option (List ℕ)) (faults1 faults2 : ℕ) → SameDevices (devices_in old.system) (devices_in mid.system)
+      → ((lines : List Timed) → turn_of lines ≡ Some next.turn → PartGoes tariffs tariff rules rule IsAtRest lines lines (beside old) None (beside mid) before middle)
+      → IsUntaken next.what mid failure new middle after faults1 faults2 ⊎ DidLine next.what (beside mid) failure new middle after faults1 faults2
+      → BeginsBy (λ x. LinesGo tariffs tariff rules rule (next ∷ []) old failure x before after) (next ∷ []) old failure new
+  first_done next old mid failure new before middle after faults1 faults2 same went (inl u) = inl (record {
+    goes = behind_ticks next (beside old) (beside mid) failure (beside new) before middle after went u.went.goes;
+    blank = u.blank;
+    unwell = λ none begin well. u.unwell none (is_format next begin) (later_well (devices_in old.system) (devices_in mid.system) (devices_in new.system) same well);
+  })
+  first_done next old mid failure new before middle after faults1 faults2 same went (inr took) =
+      inr (behind_ticks next (beside old) (beside mid) failure new before middle after went took.goes)
 
   -- A LINE behind its ticks
   pub line_done : (next : Timed) (old mid : Seen) (failure : Option Failure) (new : Seen) (before middle after : Option (List ℕ)) (faults faults1 faults2 : ℕ)
@@ -153,35 +168,41 @@ module _ {F U : Type 0} (tariffs : Shared F (Bor Usage × Unit {0}) Charge) (tar
       → AnewLine next.what mid failure new middle after faults1 faults2
       → DidLines tariffs tariff rules rule (next ∷ []) old failure new before after faults faults2
   line_done next old mid failure new before middle after faults faults1 faults2 ticked same did anew = record {
-    goes = λ rest w m between is.
-        let a = ticked.goes (next ∷ rest) refl w m between is in
-        goes_then tariffs tariff rules rule IsAtRest Anything w (next ∷ rest) rest old mid before middle a failure new after
-        (line_goes next rest mid failure new middle after did.goes a.next a.matches a.between a.rests a.lines);
+    goes = behind_ticks next old mid failure new before middle after ticked.goes did.goes;
     keeps = keeps_then [] (next ∷ []) old mid failure new faults faults1 faults2 ticked.keeps
         (line_keeps next mid failure new middle after faults1 faults2 did (ticked.keeps.ready refl).1);
     late = λ none most due few. late_by next.turn most old.count mid.count new.count (All-head (λ (t : Timed). t.turn ≤ most) next [] due) few same (ticked.late refl next.turn refl);
-    aside = λ none blank well all.
-        let (blank_mid, went) = ticked.aside refl blank in
-        let it = aside_line next.what (aside_head next all) mid failure new middle after faults1 faults2 anew in (
-          it.blank blank_mid,
-          behind_ticks next (beside old) (beside mid) (beside new) before middle after went (subst (λ (f : Option Failure). LineGoes next.what (beside mid) f (beside new) middle after) none it.line.goes),
-        );
-    anew = λ none blank well begin.
-        let (blank_mid, went) = ticked.aside refl blank in
-        let now = later_well (devices_in old.system) (devices_in mid.system) (devices_in new.system) ticked.keeps.same well in
-        behind_ticks next (beside old) (beside mid) new before middle after went
-        (subst (λ (f : Option Failure). LineGoes next.what (beside mid) f new middle after) none (format_line next.what (is_format next begin) mid failure new middle after faults1 faults2 anew none blank_mid now).goes);
+    grows = grown_then before middle after ticked.grows did.grows;
+    first = λ all blank.
+        let (blank_mid, went) = ticked.aside blank in
+        first_done next old mid failure new before middle after faults1 faults2 ticked.keeps.same went
+        (first_line next.what (first_head next all) mid failure new middle after faults1 faults2 anew blank_mid);
+    anew = λ begin blank.
+        let (blank_mid, went) = ticked.aside blank in
+        inl (first_done next old mid failure new before middle after faults1 faults2 ticked.keeps.same went
+        (first_line next.what (format_first next (is_format next begin)) mid failure new middle after faults1 faults2 anew blank_mid));
   }
 
   -- its ticks failed
+  none_took : (next : Timed) (old : Seen) (failure : Failure) (new : Seen) (before after : Option (List ℕ)) (faults faults' : ℕ)
+      → DidTicks tariffs tariff rules rule IsAtRest (Some next.turn) old (Some failure) new before after faults faults' → IsBlank old.system
+      → BeginsBy (λ x. LinesGo tariffs tariff rules rule (next ∷ []) old (Some failure) x before after) (next ∷ []) old (Some failure) new
+  none_took next old failure new before after faults faults' ticked blank =
+      let (blank_new, went) = ticked.aside blank in inl (record {
+        goes = λ rest w m between is. went (next ∷ rest) refl w m between is;
+        blank = blank_new;
+        unwell = λ none begin well. none-some failure (sym none);
+      })
+
   pub line_undone : (next : Timed) (old : Seen) (failure : Failure) (new : Seen) (before after : Option (List ℕ)) (faults faults' : ℕ)
       → DidTicks tariffs tariff rules rule IsAtRest (Some next.turn) old (Some failure) new before after faults faults' → DidLines tariffs tariff rules rule (next ∷ []) old (Some failure) new before after faults faults'
   line_undone next old failure new before after faults faults' ticked = record {
     goes = λ rest w m between is. ticked.goes (next ∷ rest) refl w m between is;
     keeps = keeps_more [] (next ∷ []) old failure new faults faults' ticked.keeps;
     late = λ none most due few. absurd (let no : ⊥ = cc in no);
-    aside = λ none blank well all. absurd (let no : ⊥ = cc in no);
-    anew = λ none blank well begin. absurd (let no : ⊥ = cc in no);
+    grows = ticked.grows;
+    first = λ all blank. none_took next old failure new before after faults faults' ticked blank;
+    anew = λ begin blank. inl (none_took next old failure new before after faults faults' ticked blank);
   }
 
   -- LINES: none yet
@@ -190,63 +211,158 @@ module _ {F U : Type 0} (tariffs : Shared F (Bor Usage × Unit {0}) Charge) (tar
     goes = λ rest w m between is. arrives_here tariffs tariff rules rule w rest s before m between is;
     keeps = keeps_here s faults ready still;
     late = λ none most due few. few;
-    aside = λ none blank well all. (blank, λ rest w m between is. arrives_here tariffs tariff rules rule w rest (beside s) before m between is);
-    anew = λ none blank well begin. absurd (none_begin begin);
+    grows = same_grown before before refl;
+    first = λ all blank. inl (record {
+      goes = λ rest w m between is. arrives_here tariffs tariff rules rule w rest (beside s) before m between is;
+      blank = blank;
+      unwell = λ none begin well. none_begin begin;
+    });
+    anew = λ begin blank. absurd (none_begin begin);
+  }
+
+  -- what was missed in the first of two parts
+  misses_then : (w : World) (s mid new : Seen) (before middle after : Option (List ℕ)) → SameDevices (devices_in mid.system) (devices_in new.system) → HasGrown middle after
+      → Misses tariffs tariff rules rule w s mid before middle → Misses tariffs tariff rules rule w s new before after
+  misses_then w s mid new before middle after behind more missed = record {
+    moves = missed.moves;
+    next = missed.next;
+    added = missed.added;
+    mid = missed.mid;
+    leads = missed.leads;
+    blank = missed.blank;
+    unwell = missed.unwell;
+    same = same_then missed.mid (devices_in mid.system) (devices_in new.system) missed.same behind;
+    other = missed.other;
+    text = grown_then (with_more before missed.added) middle after missed.text more;
   }
 
   -- two parts, one behind the other
-  both_go : (done : List Timed) (next : Timed) (s mid new : Seen) (before middle after : Option (List ℕ))
+  both_go : (done : List Timed) (next : Timed) (s mid : Seen) (failure : Option Failure) (new : Seen) (before middle after : Option (List ℕ))
       → ((rest : List Timed) → PartGoes tariffs tariff rules rule Anything (done ++ rest) rest s None mid before middle)
-      → ((rest : List Timed) → PartGoes tariffs tariff rules rule Anything ((next ∷ []) ++ rest) rest mid None new middle after)
-      → (rest : List Timed) → PartGoes tariffs tariff rules rule Anything ((done ++ next ∷ []) ++ rest) rest s None new before after
-  both_go done next s mid new before middle after first one rest w m between is =
+      → ((rest : List Timed) → PartGoes tariffs tariff rules rule Anything ((next ∷ []) ++ rest) rest mid failure new middle after)
+      → (rest : List Timed) → PartGoes tariffs tariff rules rule Anything ((done ++ next ∷ []) ++ rest) rest s failure new before after
+  both_go done next s mid failure new before middle after first one rest w m between is =
       let a = first (next ∷ rest) w m between (is ∙ append_assoc done (next ∷ []) rest) in
-      goes_then tariffs tariff rules rule Anything Anything w (next ∷ rest) rest s mid before middle a None new after (one rest a.next a.matches a.between a.lines)
+      goes_then tariffs tariff rules rule Anything Anything w (next ∷ rest) rest s mid before middle a failure new after (one rest a.next a.matches a.between a.lines)
+
+  -- to begin anew
+  module _ (done : List Timed) (next : Timed) (s mid : Seen) (failure : Option Failure) (new : Seen) (before middle after : Option (List ℕ))
+      (here : SameDevices (devices_in s.system) (devices_in mid.system)) (behind : SameDevices (devices_in mid.system) (devices_in new.system)) (grows : HasGrown middle after)
+      (goes : (rest : List Timed) → PartGoes tariffs tariff rules rule Anything ((next ∷ []) ++ rest) rest mid failure new middle after) where
+    abbrev SomeBegin : Type 0
+    SomeBegin = BeginsBy (λ x. LinesGo tariffs tariff rules rule done s None x before middle) done s None mid
+
+    abbrev OneBegins : Type 0
+    OneBegins = BeginsBy (λ x. LinesGo tariffs tariff rules rule (next ∷ []) mid failure x middle after) (next ∷ []) mid failure new
+
+    abbrev AllBegin : Type 0
+    AllBegin = BeginsBy (λ x. LinesGo tariffs tariff rules rule (done ++ next ∷ []) s failure x before after) (done ++ next ∷ []) s failure new
+
+    abbrev NoneOfSome : Type 0
+    NoneOfSome = NoneTook (λ x. LinesGo tariffs tariff rules rule done s None x before middle) done s None mid
+
+    then_first : SomeBegin → (IsBlank mid.system → OneBegins) → AllBegin
+    then_first (inl u) one = by (one u.blank)
+      where
+        unwell_by : (failure ≡ None → BeginAnew (next ∷ []) → NoDiscFault (devices_in mid.system) (devices_in new.system) → ⊥) → failure ≡ None → NoDiscFault (devices_in s.system) (devices_in new.system)
+            → (AreAside done × BeginAnew (next ∷ [])) ⊎ BeginAnew done → ⊥
+        unwell_by it none well (inl (all, begin)) = it none begin (later_well (devices_in s.system) (devices_in mid.system) (devices_in new.system) here well)
+        unwell_by it none well (inr begin) = u.unwell refl begin (first_well (devices_in s.system) (devices_in mid.system) (devices_in new.system) behind well)
+
+        by : OneBegins → AllBegin
+        by (inl v) = inl (record {
+          goes = both_go done next (beside s) (beside mid) failure (beside new) before middle after u.goes v.goes;
+          blank = v.blank;
+          unwell = λ none begin well. unwell_by v.unwell none well (one_more_line done next begin);
+        })
+        by (inr took) = inr (both_go done next (beside s) (beside mid) failure new before middle after u.goes took)
+    then_first (inr took) one = inr (both_go done next (beside s) mid failure new before middle after took goes)
+
+    -- a line that is another is come to
+    missed_here : NoneOfSome → BeginAnew done → is_first next.what ≡ false → (rest : List Timed) → PartMisses tariffs tariff rules rule ((done ++ next ∷ []) ++ rest) s new before after
+    missed_here u begin isnt rest w m between is =
+        let a = u.goes (next ∷ rest) w m between (is ∙ append_assoc done (next ∷ []) rest) in record {
+          moves = a.moves;
+          next = a.next;
+          added = a.added;
+          mid = devices_in mid.system;
+          leads = subst (λ (f : SystemFacts). Leads tariffs tariff rules rule w (beside_new s.system) f a.moves a.next a.added) (blank_beside mid.system u.blank) a.leads;
+          blank = blank_devices mid.system u.blank;
+          unwell = u.unwell refl begin;
+          same = behind;
+          other = subst IsOther (sym a.lines) isnt;
+          text = subst (λ (t : Option (List ℕ)). HasGrown t after) a.put grows;
+        }
+
+    then_anew : (first : AreFirst done → IsBlank s.system → SomeBegin) → (BeginAnew done → IsBlank s.system → SomeBegin ⊎ ((rest : List Timed) → PartMisses tariffs tariff rules rule (done ++ rest) s mid before middle))
+        → (AreFirst (next ∷ []) → IsBlank mid.system → OneBegins) → BeginAnew (done ++ next ∷ []) → IsBlank s.system
+        → AllBegin ⊎ ((rest : List Timed) → PartMisses tariffs tariff rules rule ((done ++ next ∷ []) ++ rest) s new before after)
+    then_anew first anew one begin blank = by (one_more_line done next begin)
+      where
+        on : NoneOfSome → BeginAnew done → (b : Bool) → is_first next.what ≡ b → AllBegin ⊎ ((rest : List Timed) → PartMisses tariffs tariff rules rule ((done ++ next ∷ []) ++ rest) s new before after)
+        on u had true is = inl (then_first (inl u) (one (first_one next is)))
+        on u had false is = inr (missed_here u had is)
+
+        over : BeginAnew done → SomeBegin ⊎ ((rest : List Timed) → PartMisses tariffs tariff rules rule (done ++ rest) s mid before middle)
+            → AllBegin ⊎ ((rest : List Timed) → PartMisses tariffs tariff rules rule ((done ++ next ∷ []) ++ rest) s new before after)
+        over had (inl (inl u)) = on u had (is_first next.what) refl
+        over had (inl (inr took)) = inl (inr (both_go done next (beside s) mid failure new before middle after took goes))
+        over had (inr missed) = inr (λ rest w m between is. misses_then w s mid new before middle after behind grows (missed (next ∷ rest) w m between (is ∙ append_assoc done (next ∷ []) rest)))
+
+        by : (AreAside done × BeginAnew (next ∷ [])) ⊎ BeginAnew done → AllBegin ⊎ ((rest : List Timed) → PartMisses tariffs tariff rules rule ((done ++ next ∷ []) ++ rest) s new before after)
+        by (inl (all, it)) = inl (then_first (first (asides_first done all) blank) (one (first_one next (format_first next (is_format next it)))))
+        by (inr had) = over had (anew had blank)
 
   -- one more
   pub lines_more : (done : List Timed) (next : Timed) (s mid : Seen) (failure : Option Failure) (new : Seen) (before middle after : Option (List ℕ)) (faults faults1 faults2 : ℕ)
       → DidLines tariffs tariff rules rule done s None mid before middle faults faults1 → DidLines tariffs tariff rules rule (next ∷ []) mid failure new middle after faults1 faults2
       → DidLines tariffs tariff rules rule (done ++ next ∷ []) s failure new before after faults faults2
   lines_more done next s mid failure new before middle after faults faults1 faults2 first one = record {
-    goes = λ rest w m between is.
-        let a = first.goes (next ∷ rest) w m between (is ∙ append_assoc done (next ∷ []) rest) in
-        goes_then tariffs tariff rules rule Anything Anything w (next ∷ rest) rest s mid before middle a failure new after (one.goes rest a.next a.matches a.between a.lines);
+    goes = both_go done next s mid failure new before middle after first.goes one.goes;
     keeps = keeps_then done (next ∷ []) s mid failure new faults faults1 faults2 first.keeps one.keeps;
     late = λ none most due few.
         let (before_it, it) = due_parts most done next due in
         one.late none most (All-cons (λ (t : Timed). t.turn ≤ most) next [] it (All-nil (λ (t : Timed). t.turn ≤ most))) (first.late refl most before_it few);
-    aside = λ none blank well all.
-        let (some, it) = aside_parts done next all in
-        let (blank_mid, went) = first.aside refl blank (well_before well) some in
-        let (blank_new, goes) = one.aside none blank_mid (well_behind well) it in (blank_new, both_go done next (beside s) (beside mid) (beside new) before middle after went goes);
-    anew = λ none blank well begin. by none blank well (one_more_line done next begin);
+    grows = grown_then before middle after first.grows one.grows;
+    first = λ all blank.
+        then_first done next s mid failure new before middle after first.keeps.same one.keeps.same one.grows one.goes
+        (first.first (firsts_parts done (next ∷ []) all) blank) (one.first (first_one next (first_last done next all)));
+    anew = then_anew done next s mid failure new before middle after first.keeps.same one.keeps.same one.grows one.goes first.first first.anew one.first;
   }
-    where
-      well_before : NoDiscFault (devices_in s.system) (devices_in new.system) → NoDiscFault (devices_in s.system) (devices_in mid.system)
-      well_before well = first_well (devices_in s.system) (devices_in mid.system) (devices_in new.system) one.keeps.same well
-
-      well_behind : NoDiscFault (devices_in s.system) (devices_in new.system) → NoDiscFault (devices_in mid.system) (devices_in new.system)
-      well_behind well = later_well (devices_in s.system) (devices_in mid.system) (devices_in new.system) first.keeps.same well
-
-      by : failure ≡ None → IsBlank s.system → NoDiscFault (devices_in s.system) (devices_in new.system) → (AreAside done × BeginAnew (next ∷ [])) ⊎ BeginAnew done
-          → (rest : List Timed) → PartGoes tariffs tariff rules rule Anything ((done ++ next ∷ []) ++ rest) rest (beside s) None new before after
-      by none blank well (inl (all, begin)) =
-          let (blank_mid, went) = first.aside refl blank (well_before well) all in
-          both_go done next (beside s) (beside mid) new before middle after went (one.anew none blank_mid (well_behind well) begin)
-      by none blank well (inr begin) =
-          both_go done next (beside s) mid new before middle after (first.anew refl blank (well_before well) begin)
-          (λ rest. subst (λ (f : Option Failure). PartGoes tariffs tariff rules rule Anything ((next ∷ []) ++ rest) rest mid f new middle after) none (one.goes rest))
 
   -- a failure ends them
+  short_begins : (done more : List Timed) (s : Seen) (failure : Failure) (new : Seen) (before after : Option (List ℕ))
+      → BeginsBy (λ x. LinesGo tariffs tariff rules rule done s (Some failure) x before after) done s (Some failure) new
+      → BeginsBy (λ x. LinesGo tariffs tariff rules rule (done ++ more) s (Some failure) x before after) (done ++ more) s (Some failure) new
+  short_begins done more s failure new before after (inl u) = inl (record {
+    goes = λ rest w m between is. u.goes (more ++ rest) w m between (is ∙ append_assoc done more rest);
+    blank = u.blank;
+    unwell = λ none begin well. none-some failure (sym none);
+  })
+  short_begins done more s failure new before after (inr took) = inr (λ rest w m between is. took (more ++ rest) w m between (is ∙ append_assoc done more rest))
+
   pub lines_short : (done more : List Timed) (s : Seen) (failure : Failure) (new : Seen) (before after : Option (List ℕ)) (faults faults' : ℕ)
       → DidLines tariffs tariff rules rule done s (Some failure) new before after faults faults' → DidLines tariffs tariff rules rule (done ++ more) s (Some failure) new before after faults faults'
   lines_short done more s failure new before after faults faults' did = record {
     goes = λ rest w m between is. did.goes (more ++ rest) w m between (is ∙ append_assoc done more rest);
     keeps = keeps_more done more s failure new faults faults' did.keeps;
     late = λ none most due few. absurd (let no : ⊥ = cc in no);
-    aside = λ none blank well all. absurd (let no : ⊥ = cc in no);
-    anew = λ none blank well begin. absurd (let no : ⊥ = cc in no);
+    grows = did.grows;
+    first = λ all blank. short_begins done more s failure new before after (did.first (firsts_parts done more all) blank);
+    anew = λ begin blank. by blank (begin_parts done more begin);
   }
+    where
+      over : BeginsBy (λ x. LinesGo tariffs tariff rules rule done s (Some failure) x before after) done s (Some failure) new ⊎ ((rest : List Timed) → PartMisses tariffs tariff rules rule (done ++ rest) s new before after)
+          → BeginsBy (λ x. LinesGo tariffs tariff rules rule (done ++ more) s (Some failure) x before after) (done ++ more) s (Some failure) new
+          ⊎ ((rest : List Timed) → PartMisses tariffs tariff rules rule ((done ++ more) ++ rest) s new before after)
+      over (inl begun) = inl (short_begins done more s failure new before after begun)
+      over (inr missed) = inr (λ rest w m between is. missed (more ++ rest) w m between (is ∙ append_assoc done more rest))
+
+      by : IsBlank s.system → AreAside done ⊎ BeginAnew done
+          → BeginsBy (λ x. LinesGo tariffs tariff rules rule (done ++ more) s (Some failure) x before after) (done ++ more) s (Some failure) new
+          ⊎ ((rest : List Timed) → PartMisses tariffs tariff rules rule ((done ++ more) ++ rest) s new before after)
+      by blank (inl all) = inl (short_begins done more s failure new before after (did.first (asides_first done all) blank))
+      by blank (inr begin) = over (did.anew begin blank)
 
   -- where the next one fails they are cut short
   pub lines_cut : (all done rest : List Timed) (next : Timed) (s mid : Seen) (failure : Option Failure) (new : Seen) (before middle after : Option (List ℕ)) (faults faults1 faults2 : ℕ)
@@ -270,20 +386,41 @@ module _ {F U : Type 0} (tariffs : Shared F (Bor Usage × Unit {0}) Charge) (tar
         let a = first.goes [] w m between (is ∙ sym (append-nil lines)) in
         goes_then tariffs tariff rules rule Anything IsAtRest w [] [] s mid before middle a failure new after (ticked.goes [] refl a.next a.matches a.between a.lines);
     keeps = subst (λ (ls : List Timed). Keeps ls s failure new faults faults2) (append-nil lines) (keeps_then lines [] s mid failure new faults faults1 faults2 first.keeps ticked.keeps);
-    anew = λ none blank well begin w m between is.
-        let before_it = first_well (devices_in s.system) (devices_in mid.system) (devices_in new.system) ticked.keeps.same well in
-        let a = first.anew refl blank before_it begin [] w m between (is ∙ sym (append-nil lines)) in
-        goes_then tariffs tariff rules rule Anything IsAtRest w [] [] (beside s) mid before middle a None new after
-        (subst (λ (f : Option Failure). PartGoes tariffs tariff rules rule IsAtRest [] [] mid f new middle after) none (ticked.goes [] refl) a.next a.matches a.between a.lines);
+    anew = λ begin blank. by begin (first.anew begin blank);
   }
+    where
+      by : BeginAnew lines → BeginsBy (λ x. LinesGo tariffs tariff rules rule lines s None x before middle) lines s None mid ⊎ ((rest : List Timed) → PartMisses tariffs tariff rules rule (lines ++ rest) s mid before middle)
+          → BeginsBy (λ x. PartGoes tariffs tariff rules rule IsAtRest lines [] (beside s) failure x before after) lines s failure new ⊎ PartMisses tariffs tariff rules rule lines s new before after
+      by begin (inl (inl u)) =
+          let (blank_new, went) = ticked.aside u.blank in inl (inl (record {
+            goes = λ w m between is.
+                let a = u.goes [] w m between (is ∙ sym (append-nil lines)) in
+                goes_then tariffs tariff rules rule Anything IsAtRest w [] [] (beside s) (beside mid) before middle a failure (beside new) after (went [] refl a.next a.matches a.between a.lines);
+            blank = blank_new;
+            unwell = λ none it well. u.unwell refl it (first_well (devices_in s.system) (devices_in mid.system) (devices_in new.system) ticked.keeps.same well);
+          }))
+      by begin (inl (inr took)) = inl (inr (λ w m between is.
+          let a = took [] w m between (is ∙ sym (append-nil lines)) in
+          goes_then tariffs tariff rules rule Anything IsAtRest w [] [] (beside s) mid before middle a failure new after (ticked.goes [] refl a.next a.matches a.between a.lines)))
+      by begin (inr missed) = inr (λ w m between is. misses_then w s mid new before middle after ticked.keeps.same ticked.grows (missed [] w m between (is ∙ sym (append-nil lines))))
 
   pub all_short : (lines : List Timed) (s : Seen) (failure : Failure) (new : Seen) (before after : Option (List ℕ)) (faults faults' : ℕ)
       → DidLines tariffs tariff rules rule lines s (Some failure) new before after faults faults' → DidAll tariffs tariff rules rule lines s (Some failure) new before after faults faults'
   all_short lines s failure new before after faults faults' did = record {
     goes = λ w m between is. did.goes [] w m between (is ∙ sym (append-nil lines));
     keeps = did.keeps;
-    anew = λ none blank well begin. absurd (let no : ⊥ = cc in no);
+    anew = λ begin blank. by (did.anew begin blank);
   }
+    where
+      by : BeginsBy (λ x. LinesGo tariffs tariff rules rule lines s (Some failure) x before after) lines s (Some failure) new ⊎ ((rest : List Timed) → PartMisses tariffs tariff rules rule (lines ++ rest) s new before after)
+          → BeginsBy (λ x. PartGoes tariffs tariff rules rule IsAtRest lines [] (beside s) (Some failure) x before after) lines s (Some failure) new ⊎ PartMisses tariffs tariff rules rule lines s new before after
+      by (inl (inl u)) = inl (inl (record {
+        goes = λ w m between is. u.goes [] w m between (is ∙ sym (append-nil lines));
+        blank = u.blank;
+        unwell = λ none begin well. none-some failure (sym none);
+      }))
+      by (inl (inr took)) = inl (inr (λ w m between is. took [] w m between (is ∙ sym (append-nil lines))))
+      by (inr missed) = inr (λ w m between is. missed [] w m between (is ∙ sym (append-nil lines)))
 
 -- A QUEUE OF LINES from which none came is empty
 pub none_popped : (was now : List Timed) → was ≡ now → now ≡ drop 1 was → was ≡ []

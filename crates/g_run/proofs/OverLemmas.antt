@@ -1,6 +1,5 @@
 -- The end of a run, behind all its lines, and both devices behind it.
 use Rattle.std.proofs.Common.{◌≡◌, ◌⊎◌, ◌+◌, ◌++◌, ℕ, true, false, List, [], ◌∷◌, Option, Some, None, is_some, append_assoc, append-nil, refl, sym, ◌∙◌, ap, subst, inl, inr, arith}
-use Rattle.std.specs.Prelude.{option_map}
 use Rattle.std.specs.Fn.{Shared}
 use denote.Ref.{Bor}
 use Rattle.std.proofs.lemmas.Bool.{cases_Bool}
@@ -10,18 +9,16 @@ use Rattle.g_budget.specs.declared.tariff.Charge.{Charge}
 use Rattle.g_budget.specs.declared.tariff.Usage.{Usage}
 use Rattle.g_sched.specs.declared.rule.Standing.{Standing}
 use Rattle.g_disc.specs.Disc.{DiscState}
-use Rattle.g_disc_contents.specs.Contents.{Contents}
 use Rattle.g_io.specs.Streams.{HasPutPart, with_more}
 use Rattle.g_job.specs.State.{JobState}
 use Rattle.g_script.specs.declared.operator.Timed.{Timed}
 use Rattle.g_store_meaning.specs.Meaning.{told_reels}
-use Rattle.g_store_meaning.specs.Reading.{DevicesStandFor, View, holding_of, state_down, StandsForState}
+use Rattle.g_store_meaning.specs.Reading.{DevicesStandFor, StandsForState}
 use Rattle.g_store_meaning.specs.StoreInvariant.{StoreFacts}
-use Rattle.g_store_model.specs.CallStep.{down, no_longer_kept}
-use Rattle.g_store_model.specs.State.{Holding, State}
+use Rattle.g_store_model.specs.CallStep.{down}
+use Rattle.g_store_model.specs.State.{State}
 use Rattle.g_store.proofs.ArmLemmas.{spent_stands}
 use Rattle.g_tape.specs.Rack.{Rack}
-use Rattle.g_tape.specs.Reel.{Reel}
 use Rattle.g_run_model.proofs.StandLemmas.{read_as, stands_as}
 use Rattle.g_run_model.specs.Devices.{AreReadAs, Devices}
 use Rattle.g_run_model.specs.Moves.{Move, MovesCounted, Over}
@@ -33,34 +30,25 @@ use Rattle.g_run_model.proofs.ArmLemmas.{in_none}
 use Rattle.g_run_model.proofs.CountLemmas.{counted_of, event_none, move_counted, moves_then}
 use Rattle.g_run_model.proofs.TickLemmas.{over_move}
 use Rattle.g_run_model.proofs.TurnLemmas.{run_append}
-use Rattle.g_laws_runs.specs.BeginningAnew.{NoDiscFault, with_new_disc}
+use Rattle.g_laws_runs.specs.BeginningAnew.{AreBlank, BeginAnew, NoDiscFault, with_new_disc}
 use Rattle.g_job_table.specs.Crew.{CrewState}
 use Rattle.g_operator.specs.declared.progress.Failure.{Failure}
 use Rattle.g_operator.specs.declared.progress.Failure.TheVariants as failures
+use Rattle.g_operator.specs.BeginningAnew.{IsBlank, beside, beside_new}
+use Rattle.g_operator.proofs.DownLemmas.{down_same}
 use Rattle.g_operator.proofs.LabelLemmas.{same_itself}
 use Rattle.g_run.proofs.KeepLemmas.{kept_itself}
 use Rattle.g_operator.specs.Parts.{Matches, Seen, seen}
-use Rattle.g_operator.specs.Puts.{FaultCause, Puts, PutsBy}
+use Rattle.g_operator.specs.Puts.{FaultCause, HasGrown, Puts, PutsBy}
 use Rattle.g_operator.specs.System.{BelongTogether, Down, StandsAs, SystemBelongs, SystemFacts, Up, devices_in, SameDevices}
-use Rattle.g_run.proofs.TickLemmas.{put_on, with_more-append}
-use Rattle.g_run.specs.ScriptEnd.{ClosesBy, DidScript, TakenDown, both}
-use Rattle.g_run.specs.Parts.{DidAll, DumpsKept, IsAtRest, Keeps, Leads, PartGoes}
-use Rattle.g_run.specs.Top.{EndsBy}
-use Rattle.g_run.proofs.PartLemmas.{with_more-nil}
+use Rattle.g_operator.proofs.PutLemmas.{grown_then, put_grown, with_more-append, with_more-nil}
+use Rattle.g_run.proofs.TickLemmas.{put_on}
+use Rattle.g_run.specs.ScriptEnd.{ClosesBy, DidScript, EndsBeside, TakenDown, both}
+use Rattle.g_run.specs.Parts.{BeginsBy, DidAll, DumpsKept, IsAtRest, Keeps, Leads, Misses, PartGoes, PartMisses}
+use Rattle.g_run.specs.Top.{EndsBy, HasMissed}
+use Rattle.g_run.proofs.AnewLemmas.{blank_devices}
 
 -- A STATE OF DEVICES is down already
-kept_nothing : (text : ℕ → List ℕ) (c : Option Contents) → option_map no_longer_kept (option_map (holding_of text []) c) ≡ option_map (holding_of text []) c
-kept_nothing text None = refl
-kept_nothing text (Some c) = refl
-
-down_of : (v : View) (reels : List Reel) (size : ℕ) (c : Option Contents) → down (state_down v reels size c) ≡ state_down v reels size c
-down_of v reels size c = ap (λ (h : Option Holding). let s : State = record (state_down v reels size c) { holding = h } in s) (kept_nothing v.text c)
-
-pub down_same : (d : Devices) (u : State) → AreReadAs d u → down u ≡ u
-down_same d u is =
-    let r = is.reads in
-    ap down r.state_is ∙ down_of r.view (told_reels d.rack) d.disc.size r.contents ∙ sym r.state_is
-
 devices_down : (d : Devices) (u : State) → AreReadAs d u → AreReadAs d (down u)
 devices_down d u is = subst (λ (s : State). AreReadAs d s) (sym (down_same d u is)) is
 
@@ -83,6 +71,11 @@ up_taken_down s clause disc rack disc_is rack_is =
 
 pub down_taken_down : (d : Devices) → TakenDown (Down d) d
 down_taken_down d = record { devices = refl; stands = λ u is. devices_down d u is.1 }
+
+-- beside a new disc
+taken_beside : (f : SystemFacts) (new : Devices) → TakenDown f new → IsBlank f → TakenDown (beside_new f) (with_new_disc new)
+taken_beside (Up s) new is blank = absurd blank
+taken_beside (Down d) new is blank = subst (λ (x : Devices). TakenDown (Down (with_new_disc d)) (with_new_disc x)) (sym is.devices) (down_taken_down (with_new_disc d))
 
 belongs_of : (f : SystemFacts) → SystemBelongs f → BelongTogether (devices_in f)
 belongs_of (Up s) is = record { told = is.0; belong = is.1.devices }
@@ -113,10 +106,10 @@ module _ {F U : Type 0} (tariffs : Shared F (Bor Usage × Unit {0}) Charge) (tar
       (subst (λ (ks : List ℕ). MovesCounted moves leads.disc_arms ks old (devices_in f)) (sym leads.tape_stops) leads.counted))
 
   -- CUT SHORT before its end
-  ends_short : (failure : Failure) (before after : Option (List ℕ)) (faults faults' : ℕ) → DidAll tariffs tariff rules rule lines before_all (Some failure) (seen f c count) before after faults faults'
+  ends_short : (failure : Failure) (before after : Option (List ℕ)) → PartGoes tariffs tariff rules rule IsAtRest lines [] before_all (Some failure) (seen f c count) before after
       → EndsShort tariffs tariff rules rule lines bad old new before after
-  ends_short failure before after faults faults' did = λ s stands.
-      let b = did.goes (start lines bad s) (matches_start s (read_as old s stands)) (record { phase = refl; turn = refl }) refl in record {
+  ends_short failure before after goes = λ s stands.
+      let b = goes (start lines bad s) (matches_start s (read_as old s stands)) (record { phase = refl; turn = refl }) refl in record {
         moves = b.moves;
         last = b.next;
         run_of = record {
@@ -210,12 +203,80 @@ module _ {F U : Type 0} (tariffs : Shared F (Bor Usage × Unit {0}) Charge) (tar
   dumps_down : (failure : Option Failure) (faults faults' : ℕ) → Keeps lines at_start failure (seen f c count) faults faults' → BelongTogether old → DumpsKept lines old.rack new.rack
   dumps_down failure faults faults' keeps was = subst (λ (d : Devices). DumpsKept lines old.rack d.rack) (sym down_is.devices) (keeps.dumps was)
 
+  -- TO BEGIN ANEW: no FORMAT took, one did, or it was missed
+  unwell_down : (failure : Option Failure) → (failure ≡ None → BeginAnew lines → NoDiscFault old (devices_in f) → ⊥) → BeginAnew lines → failure ≡ None → NoDiscFault old new → ⊥
+  unwell_down failure it begin none well = it none begin (subst (λ (d : Devices). NoDiscFault old d) down_is.devices well)
+
+  blank_down : IsBlank f → AreBlank new
+  blank_down blank = subst AreBlank (sym down_is.devices) (blank_devices f blank)
+
+  misses_put : (w : World) (before middle after : Option (List ℕ)) → HasGrown middle after → Misses tariffs tariff rules rule w at_start (seen f c count) before middle → Misses tariffs tariff rules rule w at_start (seen f c count) before after
+  misses_put w before middle after more m = record {
+    moves = m.moves;
+    next = m.next;
+    added = m.added;
+    mid = m.mid;
+    leads = m.leads;
+    blank = m.blank;
+    unwell = m.unwell;
+    same = m.same;
+    other = m.other;
+    text = grown_then (with_more before m.added) middle after m.text more;
+  }
+
+  missed_run : (before after : Option (List ℕ)) → PartMisses tariffs tariff rules rule lines at_start (seen f c count) before after → HasMissed tariffs tariff rules rule lines bad old new before after
+  missed_run before after misses s stands =
+      let m = misses (start lines bad s) (matches_start tariffs tariff rules rule lines bad (with_new_disc old) f c count new down_is s (read_as (with_new_disc old) s stands)) (record { phase = refl; turn = refl }) refl in
+      let d = with_new_disc m.mid in record {
+        moves = m.moves;
+        last = m.next;
+        mid = m.mid;
+        run_of = record {
+          run = m.leads.run;
+          counted = counted_of m.moves m.next (with_new_disc old) d (counted_from tariffs tariff rules rule lines bad (with_new_disc old) (Down d) c count d (down_taken_down d) s m.moves m.next m.added m.leads);
+          stands = stands_as d (down m.next.store) ((down_taken_down d).stands m.next.store m.leads.stands);
+        };
+        down = m.leads.stands.0;
+        other = m.other;
+        blank = m.blank;
+        unwell = m.unwell;
+        same = subst (λ (x : Devices). SameDevices m.mid x) (sym down_is.devices) m.same;
+        text = subst (λ (t : List ℕ). HasGrown (with_more before t) after) (sym m.leads.text) m.text;
+      }
+
+  begins_cut : (failure : Failure) (before after : Option (List ℕ))
+      → BeginsBy (λ x. PartGoes tariffs tariff rules rule IsAtRest lines [] (beside at_start) (Some failure) x before after) lines at_start (Some failure) (seen f c count)
+      ⊎ PartMisses tariffs tariff rules rule lines at_start (seen f c count) before after
+      → EndsBeside tariffs tariff rules rule (Some failure) lines bad old new before after
+      ⊎ (EndsBy tariffs tariff rules rule (Some failure) lines bad (with_new_disc old) new before after ⊎ HasMissed tariffs tariff rules rule lines bad old new before after)
+  begins_cut failure before after (inl (inl u)) = inl (record {
+    ends = ends_short tariffs tariff rules rule lines bad (with_new_disc old) (beside_new f) c count (with_new_disc new) (taken_beside f new down_is u.blank) failure before after u.goes;
+    blank = blank_down u.blank;
+    unwell = λ none well. none-some failure (sym none);
+  })
+  begins_cut failure before after (inl (inr took)) = inr (inl (ends_short tariffs tariff rules rule lines bad (with_new_disc old) f c count new down_is failure before after took))
+  begins_cut failure before after (inr missed) = inr (inr (missed_run before after missed))
+
+  begins_closed : (failure : Option Failure) (before middle after : Option (List ℕ)) → PutsBy failure (waiting_files c.jobs ++ closing bad) middle after → BeginAnew lines
+      → BeginsBy (λ x. PartGoes tariffs tariff rules rule IsAtRest lines [] (beside at_start) None x before middle) lines at_start None (seen f c count)
+      ⊎ PartMisses tariffs tariff rules rule lines at_start (seen f c count) before middle
+      → EndsBeside tariffs tariff rules rule failure lines bad old new before after
+      ⊎ (EndsBy tariffs tariff rules rule failure lines bad (with_new_disc old) new before after ⊎ HasMissed tariffs tariff rules rule lines bad old new before after)
+  begins_closed failure before middle after put begin (inl (inl u)) = inl (record {
+    ends = ends_closed tariffs tariff rules rule lines bad (with_new_disc old) (beside_new f) c count (with_new_disc new) (taken_beside f new down_is u.blank) failure before middle after u.goes put;
+    blank = blank_down u.blank;
+    unwell = λ none well. unwell_down None u.unwell begin refl well;
+  })
+  begins_closed failure before middle after put begin (inl (inr took)) =
+      inr (inl (ends_closed tariffs tariff rules rule lines bad (with_new_disc old) f c count new down_is failure before middle after took put))
+  begins_closed failure before middle after put begin (inr missed) = inr (inr (missed_run before after (λ w m between is. misses_put w before middle after (put_grown failure (waiting_files c.jobs ++ closing bad) middle after put) (missed w m between is))))
+
   -- A SCRIPT, cut short before its end
   pub script_short : (failure : Failure) (before after : Option (List ℕ)) (faults faults' : ℕ) → DidAll tariffs tariff rules rule lines at_start (Some failure) (seen f c count) before after faults faults'
       → DidScript tariffs tariff rules rule lines bad old (Some failure) new before after faults faults'
   script_short failure before after faults faults' did = record {
-    ends = ends_short tariffs tariff rules rule lines bad old f c count new down_is failure before after faults faults' did;
-    anew = λ none blank well begin. absurd (none-some failure (sym none));
+    ends = ends_short tariffs tariff rules rule lines bad old f c count new down_is failure before after did.goes;
+    anew = λ begin blank. begins_cut failure before after (did.anew begin blank);
     arms = subst (λ (d : Devices). AreArmings lines ((let g : Option Failure = Some failure in g) ≡ None) old d) (sym down_is.devices) did.keeps.arms;
     same = same_down (Some failure) faults faults' did.keeps;
     belongs = belongs_down (Some failure) faults faults' did.keeps;
@@ -229,9 +290,7 @@ module _ {F U : Type 0} (tariffs : Shared F (Bor Usage × Unit {0}) Charge) (tar
       → Puts failure (waiting_files c.jobs ++ closing bad) middle after faults1 faults2 → DidScript tariffs tariff rules rule lines bad old failure new before after faults faults2
   script_closed failure before middle after faults faults1 faults2 did puts = record {
     ends = ends_closed tariffs tariff rules rule lines bad old f c count new down_is failure before middle after did.goes puts.put;
-    anew = λ none blank well begin.
-        ends_closed tariffs tariff rules rule lines bad (with_new_disc old) f c count new down_is None before middle after
-        (did.anew refl blank (subst (λ (d : Devices). NoDiscFault old d) down_is.devices well) begin) (subst (λ (g : Option Failure). PutsBy g (waiting_files c.jobs ++ closing bad) middle after) none puts.put);
+    anew = λ begin blank. begins_closed failure before middle after puts.put begin (did.anew begin blank);
     arms = record {
       disc = arms.disc;
       tape = arms.tape;
@@ -261,17 +320,20 @@ module _ {F U : Type 0} (tariffs : Shared F (Bor Usage × Unit {0}) Charge) (tar
 
 -- NOTHING WAS DONE, for want of memory
 module _ {F U : Type 0} (tariffs : Shared F (Bor Usage × Unit {0}) Charge) (tariff : F) (rules : Shared U (Bor Standing × Unit {0}) ℕ) (rule : U) (lines : List Timed) (bad : Option ℕ) where
+  none_done : (d : Devices) (before : Option (List ℕ)) → EndsShort tariffs tariff rules rule lines bad d d before before
+  none_done d before s stands = record {
+    moves = [];
+    last = start lines bad s;
+    run_of = record { run = refl; counted = counted_of [] (start lines bad s) d d (event_none d); stands = stands_as d (down s) (devices_down d s (read_as d s stands)) };
+    text = (0, omega arith, sym (with_more-nil before));
+  }
+
   pub nothing_done : (old new : Devices) (before : Option (List ℕ)) (faults : ℕ) → new ≡ old
       → DidScript tariffs tariff rules rule lines bad old (Some failures.Memory) new before before faults faults
   nothing_done old new before faults same =
       subst (λ (d : Devices). DidScript tariffs tariff rules rule lines bad old (Some failures.Memory) d before before faults faults) (sym same) (record {
-        ends = λ s stands. record {
-          moves = [];
-          last = start lines bad s;
-          run_of = record { run = refl; counted = counted_of [] (start lines bad s) old old (event_none old); stands = stands_as old (down s) (devices_down old s (read_as old s stands)) };
-          text = (0, omega arith, sym (with_more-nil before));
-        };
-        anew = λ none blank well begin. absurd (none-some failures.Memory (sym none));
+        ends = none_done old before;
+        anew = λ begin blank. inl (record { ends = none_done (with_new_disc old) before; blank = blank; unwell = λ none well. none-some failures.Memory (sym none) });
         arms = record {
           disc = within_none (numbers_of disc_arms lines) old.disc.arms old.disc.arms refl;
           tape = within_none (numbers_of tape_arms lines) old.rack.arms old.rack.arms refl;

@@ -24,14 +24,11 @@ use Rattle.g_operator.specs.Parts.{Matches, Seen}
 use Rattle.g_operator.specs.Puts.{FaultCause}
 use Rattle.g_operator.specs.System.{SameDevices, StandsAs, SystemFacts, devices_in}
 use Rattle.g_run.specs.Tick.{IsBetween}
-use Rattle.g_run.proofs.TickLemmas.{put_on, with_more-append}
+use Rattle.g_operator.proofs.PutLemmas.{with_more-append, with_more-nil}
+use Rattle.g_run.proofs.TickLemmas.{put_on}
 use Rattle.g_run.specs.Parts.{Anything, Arrives, GoesBy, Keeps, Leads}
 use Rattle.g_run.proofs.KeepLemmas.{kept_more, kept_then}
 use Rattle.g_operator.proofs.LabelLemmas.{same_then}
-
-pub with_more-nil : (before : Option (List ℕ)) → with_more before [] ≡ before
-with_more-nil (Some bytes) = ap (λ t. Some t) (append-nil bytes)
-with_more-nil None = refl
 
 -- ARMINGS, one part behind the other
 pub none_arm : (through : Type 0) (old new : Devices) → new.disc.arms ≡ old.disc.arms → new.rack.arms ≡ old.rack.arms → AreArmings [] through old new

@@ -21,9 +21,10 @@ use Rattle.g_operator.specs.System.{SystemFacts, Up}
 use Rattle.g_run.specs.Tick.{DidTurn, some_job_steps}
 use Rattle.g_run.specs.Turning.{Takes, TookPart, TookTurn}
 use Rattle.g_run.proofs.FallLemmas.{chosen_steps, none_falls, none_steps, turn_falls}
+use Rattle.g_operator.proofs.PutLemmas.{puts_grown, same_grown}
 use Rattle.g_run.proofs.KeptLemmas.{none_keeps_run, part_keeps_run, turn_keeps_run}
 use Rattle.g_run.proofs.RanLemmas.{dump_stays, mounted_in, mounted_some, part_stays, ran_stays, some_state}
-use Rattle.g_run.proofs.TurningLemmas.{none_goes, part_goes, turn_goes, unbroken}
+use Rattle.g_run.proofs.TurningLemmas.{none_goes, part_goes, text_is, turn_goes, unbroken}
 
 -- what the choice says, in every state that has these reels mounted
 abbrev pub ChoosesFor : {U : Type 0} → Shared U (Bor Standing × Unit {0}) ℕ → U → StoreFacts → CrewState → Option ℕ → Type 0
@@ -41,6 +42,7 @@ module _ {F U : Type 0} (tariffs : Shared F (Bor Usage × Unit {0}) Charge) (tar
     goes = none_goes tariffs tariff rules rule old c count 0 ready (λ u here. choice u (mounted_in old ready.0 u here)) before;
     keeps = none_keeps_run old c count ready still faults;
     falls = none_falls (some_job_steps before_it) before_it (none_steps rules rule old c jobs.rise count (choice (some_state old) (mounted_some old)));
+    grows = same_grown before before refl;
   }
 
   -- the chosen job takes a turn, whole
@@ -54,6 +56,7 @@ module _ {F U : Type 0} (tariffs : Shared F (Bor Usage × Unit {0}) Charge) (tar
         falls = turn_falls old took.new count number c jobs.rise took.job took.behind took.there (chosen_steps rules rule old c jobs.rise number took.job (choice (some_state old) (mounted_some old)) took.there)
             takes.spends.0 takes.spends.1 stays (some_job_steps before_it) took.turn failure system c' before after faults faults' took.ends takes.spends.2 took.waits
             (λ isnt. dump_stays took.job.user (turn_work took.job) (turn_honest took.job) takes.told old takes.work took.new takes.ran (unbroken took.turn took.new took.stopped isnt));
+        grows = puts_grown (text_is number count old took.new c took.job took.behind took.there takes.spends.0 failure system c' before after faults faults' took.turn took.ends);
       }
 
   -- or a front of one
@@ -66,6 +69,7 @@ module _ {F U : Type 0} (tariffs : Shared F (Bor Usage × Unit {0}) Charge) (tar
         goes = part_goes tariffs tariff rules rule old c count number ready (λ u here. choice u (mounted_in old ready.0 u here)) took.job took.there system c' before took.new took.ran took.left;
         keeps = part_keeps_run old took.new c count stays system c' took.left faults;
         falls = λ none. absurd (let no : ⊥ = cc in no);
+        grows = same_grown before before refl;
       } in
       subst (λ (f : Option Failure). DidTurn tariffs tariff rules rule before_it f (seen system c' count) before after faults faults') (sym took.failed)
       (subst (λ (o : Option (List ℕ)). DidTurn tariffs tariff rules rule before_it memory (seen system c' count) before o faults faults') (sym took.put)

@@ -30,12 +30,9 @@ use Rattle.g_run.proofs.DumpLemmas.{one_if}
 use Rattle.g_run.specs.Tick.{Comes, DumpGoes, DidDump, DidTick, DidTurn, DumpComes, Falls, GoesBy, IsThrough, KeepsRun, MayTick, MayTurn, StepsNothing, StepsTo, has_dump, left, some_job_steps}
 use Rattle.g_operator.proofs.GrowLemmas.{grow_then}
 use Rattle.g_operator.proofs.LabelLemmas.{same_then}
+use Rattle.g_operator.proofs.PutLemmas.{grown_then, with_more-append}
 
 -- TEXTS, one behind the other
-pub with_more-append : (before : Option (List ℕ)) (a b : List ℕ) → with_more (with_more before a) b ≡ with_more before (a ++ b)
-with_more-append (Some bytes) a b = ap (λ t. Some t) (append_assoc bytes a b)
-with_more-append None a b = refl
-
 pub put_on : (before middle after : Option (List ℕ)) (a b : List ℕ) → middle ≡ with_more before a → HasPutPart middle b after → HasPutPart before (a ++ b) after
 put_on before middle after a b whole part = (
   length a + part.0,
@@ -180,13 +177,14 @@ module _ {F U : Type 0} (tariffs : Shared F (Bor Usage × Unit {0}) Charge) (tar
     goes = both_go old c count mid c1 before middle faults faults1 dumped new c2 after faults2 failure turned.goes;
     keeps = both_keep old c count mid c1 before middle faults faults1 dumped new c2 after faults2 failure turned.keeps;
     falls = both_fall old c count mid c1 before middle faults faults1 dumped new c2 after faults2 failure turned.falls;
+    grows = grown_then before middle after dumped.grows turned.grows;
   }
 
   -- where the dump's step ends it: by a failure, or by a stop
   pub dump_did : (old : StoreFacts) (c : CrewState) (count : ℕ) (new : SystemFacts) (c2 : CrewState) (failure : Option Failure) (before after : Option (List ℕ)) (faults faults2 : ℕ)
       → (failure ≡ None → (d : Devices) × (new ≡ Down d)) → DidDump (seen (Up old) c count) failure (seen new c2 count) before after faults faults2
       → DidTick tariffs tariff rules rule (seen (Up old) c count) failure (seen new c2 count) before after faults faults2
-  dump_did old c count new c2 failure before after faults faults2 down dumped = record { goes = go failure dumped.goes down; keeps = dumped.keeps; falls = fall }
+  dump_did old c count new c2 failure before after faults faults2 down dumped = record { goes = go failure dumped.goes down; keeps = dumped.keeps; falls = fall; grows = dumped.grows }
     where
       go : (f : Option Failure) → DumpGoes (seen (Up old) c count) f (seen new c2 count) before after → (f ≡ None → (d : Devices) × (new ≡ Down d))
           → GoesBy tariffs tariff rules rule MayTick IsThrough (seen (Up old) c count) f (seen new c2 count) before after

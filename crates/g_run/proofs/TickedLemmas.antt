@@ -95,7 +95,7 @@ module _ {F U : Type 0} (tariffs : Shared F (Bor Usage × Unit {0}) Charge) (tar
     pub ticked : DidTick tariffs tariff rules rule (seen (Up old) c count) None (seen new c' count) before after faults faults'
         → DidOne tariffs tariff rules rule limit (seen (Up old) c count) None (seen new c' (count + 1)) before after faults faults'
     ticked did = record {
-      did = record { goes = goes; keeps = keeps; late = λ none turn is. inl (early turn is); aside = λ none blank. absurd blank };
+      did = record { goes = goes; keeps = keeps; late = λ none turn is. inl (early turn is); grows = did.grows; aside = λ blank. absurd blank };
       counts = λ none. refl;
       falls = fall None did.falls;
     }
@@ -133,7 +133,7 @@ module _ {F U : Type 0} (tariffs : Shared F (Bor Usage × Unit {0}) Charge) (tar
       pub failed : (failure : Failure) → DidTick tariffs tariff rules rule (seen (Up old) c count) (Some failure) (seen new c' count) before after faults faults'
           → DidOne tariffs tariff rules rule limit (seen (Up old) c count) (Some failure) (seen new c' count') before after faults faults'
       failed failure did = record {
-        did = record { goes = goes; keeps = short_keeps failure did.keeps; late = λ none turn is. absurd (let no : ⊥ = cc in no); aside = λ none blank. absurd blank };
+        did = record { goes = goes; keeps = short_keeps failure did.keeps; late = λ none turn is. absurd (let no : ⊥ = cc in no); grows = did.grows; aside = λ blank. absurd blank };
         counts = λ none. absurd (let no : ⊥ = cc in no);
         falls = fall (Some failure) did.falls;
       }

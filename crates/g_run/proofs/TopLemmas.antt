@@ -1,5 +1,5 @@
 -- A run that was ended, whole or cut short, as its status tells.
-use Rattle.std.proofs.Common.{◌≡◌, ◌<◌, ◌∙◌, ℕ, List, [], ◌∷◌, codes, Option, Some, None, length, refl, sym, ap, subst, inr, arith}
+use Rattle.std.proofs.Common.{◌≡◌, ◌⊎◌, ◌<◌, ◌∙◌, ℕ, List, [], ◌∷◌, codes, Option, Some, None, length, refl, sym, ap, subst, inl, inr, arith}
 use Rattle.std.specs.Fn.{Shared}
 use denote.Ref.{Bor}
 use Rattle.std.proofs.lemmas.List.{take_all}
@@ -18,8 +18,8 @@ use Rattle.g_store_model.specs.CallStep.{down}
 use Rattle.g_run_model.proofs.StandLemmas.{read_as}
 use Rattle.g_run_model.specs.Devices.{Devices}
 use Rattle.g_run_model.specs.Lines.{disc_arms, tape_arms}
-use Rattle.g_run_model.specs.Top.{AreArmings, EndsWhole, IsCutWords, numbers_of, words_line}
-use Rattle.g_laws_runs.specs.BeginningAnew.{AreBlank, BeginAnew, NoDiscFault, with_new_disc}
+use Rattle.g_run_model.specs.Top.{AreArmings, IsCutWords, numbers_of, words_line}
+use Rattle.g_laws_runs.specs.BeginningAnew.{AreBlank, BeginAnew, with_new_disc}
 use Rattle.g_laws_runs.proofs.FreshLemmas.{emptied_stand}
 use Rattle.g_operator.specs.declared.progress.Failure.{Failure}
 use Rattle.g_operator.specs.declared.progress.Failure.TheVariants as failures
@@ -31,8 +31,10 @@ use Rattle.g_operator.specs.Puts.{PutsBy}
 use Rattle.g_run_model.proofs.ArmLemmas.{in_none}
 use Rattle.g_operator.specs.System.{BelongTogether}
 use Rattle.g_run.specs.declared.status.Status.{Status}
+use Rattle.g_run.specs.declared.status.Status.TheVariants.{NoMemory, ScriptFault, TooLong}
 use Rattle.g_run.specs.Demo.{PutsDemo}
-use Rattle.g_run.specs.Top.{BeginsAnew, EndsAs, EndsBy, EndsDemo, IsForMemory, IsQuiet, IsThrough, demo_status, status_of, words_status}
+use Rattle.g_run.specs.ScriptEnd.{EndsBeside}
+use Rattle.g_run.specs.Top.{BeginsAnew, EndsAnew, EndsAs, EndsBy, EndsDemo, HasMissed, IsForMemory, IsQuiet, IsThrough, demo_status, status_of, words_status}
 
 module _ {F U : Type 0} (tariffs : Shared F (Bor Usage × Unit {0}) Charge) (tariff : F) (rules : Shared U (Bor Standing × Unit {0}) ℕ) (rule : U) where
   pub ends_as : (bad : Option ℕ) (failure : Option Failure) (left : List ℕ) (lines : List Timed) (old new : Devices) (before after : Option (List ℕ)) →
@@ -61,24 +63,51 @@ went_through bad (Some failures.Memory) went = absurd went
 -- TO BEGIN ANEW
 module _ {F U : Type 0} (tariffs : Shared F (Bor Usage × Unit {0}) Charge) (tariff : F) (rules : Shared U (Bor Standing × Unit {0}) ℕ) (rule : U) where
   -- the devices belong together at the end, since there is a state of a new disc beside emptied reels
-  belongs_anew : (lines : List Timed) (bad : Option ℕ) (old new : Devices) (before after : Option (List ℕ)) → 2177 < old.disc.size → AreBlank old
-      → EndsWhole tariffs tariff rules rule lines bad (with_new_disc old) new before after → BelongTogether new
-  belongs_anew lines bad old new before after more blank ends =
+  belongs_anew : (failure : Option Failure) (lines : List Timed) (bad : Option ℕ) (old new : Devices) (before after : Option (List ℕ)) → 2177 < old.disc.size → AreBlank old
+      → EndsBy tariffs tariff rules rule failure lines bad (with_new_disc old) new before after → BelongTogether new
+  belongs_anew None lines bad old new before after more blank ends =
+      let there = emptied_stand have_states old more blank.emptied in
+      let behind = ends there.state there.stands in
+      let stands = read_as new (down behind.last.store) behind.run_of.stands in record { told = stands.told; belong = stands.belong }
+  belongs_anew (Some failure) lines bad old new before after more blank ends =
       let there = emptied_stand have_states old more blank.emptied in
       let behind = ends there.state there.stands in
       let stands = read_as new (down behind.last.store) behind.run_of.stands in record { told = stands.told; belong = stands.belong }
 
   pub anew_as : (bad : Option ℕ) (failure : Option Failure) (left : List ℕ) (lines : List Timed) (old new : Devices) (before after : Option (List ℕ)) → IsParsed (lines_of left) lines bad → 2177 < old.disc.size
-      → (failure ≡ None → AreBlank old → NoDiscFault old new → BeginAnew lines → EndsWhole tariffs tariff rules rule lines bad (with_new_disc old) new before after)
-      → IsThrough (status_of bad failure) → BeginsAnew left old new → EndsAs tariffs tariff rules rule (status_of bad failure) left (with_new_disc old) new before after × BelongTogether new
-  anew_as bad failure left lines old new before after parsed more ends through begins =
-      let none = went_through bad failure through in
-      let same : begins.lines ≡ lines = (reading_unique (lines_of left) begins.lines lines begins.bad bad begins.parsed parsed).0 in
-      let whole = ends none begins.blank begins.well (subst BeginAnew same begins.begin) in (
-        subst (λ (f : Option Failure). EndsAs tariffs tariff rules rule (status_of bad f) left (with_new_disc old) new before after) (sym none)
-            (ends_as tariffs tariff rules rule bad None left lines (with_new_disc old) new before after parsed whole),
-        belongs_anew lines bad old new before after more begins.blank whole,
-      )
+      → (BeginAnew lines → AreBlank old → EndsBeside tariffs tariff rules rule failure lines bad old new before after
+      ⊎ (EndsBy tariffs tariff rules rule failure lines bad (with_new_disc old) new before after ⊎ HasMissed tariffs tariff rules rule lines bad old new before after))
+      → BeginsAnew left old → EndsAnew tariffs tariff rules rule (status_of bad failure) left old new before after
+  anew_as bad failure left lines old new before after parsed more ends begins =
+      by (ends (subst BeginAnew (reading_unique (lines_of left) begins.lines lines begins.bad bad begins.parsed parsed).0 begins.begin) begins.blank)
+    where
+      by : EndsBeside tariffs tariff rules rule failure lines bad old new before after
+          ⊎ (EndsBy tariffs tariff rules rule failure lines bad (with_new_disc old) new before after ⊎ HasMissed tariffs tariff rules rule lines bad old new before after)
+          → EndsAnew tariffs tariff rules rule (status_of bad failure) left old new before after
+      by (inl none) = inr (inl (record {
+        ends = ends_as tariffs tariff rules rule bad failure left lines (with_new_disc old) (with_new_disc new) before after parsed none.ends;
+        blank = none.blank;
+        unwell = λ through well. none.unwell (went_through bad failure through) well;
+      }))
+      by (inr (inl took)) = inl (record {
+        ends = ends_as tariffs tariff rules rule bad failure left lines (with_new_disc old) new before after parsed took;
+        together = belongs_anew failure lines bad old new before after more begins.blank took;
+      })
+      by (inr (inr missed)) = inr (inr (lines, bad, parsed, missed))
+
+  -- where nothing was done
+  anew_quiet : (status : Status) (left : List ℕ) (old : Devices) (before : Option (List ℕ)) → (IsThrough status → ⊥) → EndsAs tariffs tariff rules rule status left (with_new_disc old) (with_new_disc old) before before
+      → BeginsAnew left old → EndsAnew tariffs tariff rules rule status left old old before before
+  anew_quiet status left old before cut ends begins = inr (inl (record { ends = ends; blank = begins.blank; unwell = λ through well. cut through }))
+
+  pub anew_unread : (left : List ℕ) (old : Devices) (before : Option (List ℕ)) → BeginsAnew left old → EndsAnew tariffs tariff rules rule ScriptFault left old old before before
+  anew_unread left old before begins = anew_quiet ScriptFault left old before (λ e. e) tt begins
+
+  pub anew_long : (left : List ℕ) (old : Devices) (before : Option (List ℕ)) → 16777216 < length left → BeginsAnew left old → EndsAnew tariffs tariff rules rule TooLong left old old before before
+  anew_long left old before more begins = anew_quiet TooLong left old before (λ e. e) more begins
+
+  pub anew_none : (left : List ℕ) (old : Devices) (before : Option (List ℕ)) → BeginsAnew left old → EndsAnew tariffs tariff rules rule NoMemory left old old before before
+  anew_none left old before begins = anew_quiet NoMemory left old before (λ e. e) (inl (refl, refl)) begins
 
 -- the lines that were read are those of the script
 pub arms_as : (left : List ℕ) (lines said : List Timed) (bad said_bad : Option ℕ) (failure : Option Failure) (old new : Devices) → IsParsed (lines_of left) said said_bad → IsParsed (lines_of left) lines bad
@@ -90,6 +119,8 @@ arms_as left lines said bad said_bad failure old new was is arms =
       tape = arms.tape;
       all_disc = λ went. arms.all_disc (went_through said_bad failure went);
       all_tape = λ went. arms.all_tape (went_through said_bad failure went);
+      disc_since = arms.disc_since;
+      tape_since = arms.tape_since;
     })
 
 -- all of a text is a part of it

@@ -21,6 +21,7 @@ use Rattle.g_run.proofs.RestLemmas.{due_is, nothing_is}
 use Rattle.g_run.proofs.KeepLemmas.{kept_itself}
 use Rattle.g_operator.proofs.AnewLemmas.{ready_beside}
 use Rattle.g_operator.proofs.LabelLemmas.{same_itself}
+use Rattle.g_operator.proofs.PutLemmas.{grown_then, same_grown}
 
 -- THE COUNT HAS ROOM for a tick where there is one to be done
 pub room_one : (limit : Option ℕ) (s : Seen) → HasRoom limit s → is_past limit s.count ≡ false → s.count < 18446744073709551615
@@ -64,7 +65,8 @@ module _ {F U : Type 0} (tariffs : Shared F (Bor Usage × Unit {0}) Charge) (tar
     goes = λ lines at w m between is. arrives_here tariffs tariff rules rule w lines s before m between is;
     keeps = keeps_here s faults ready still;
     late = λ none turn is. inr refl;
-    aside = λ none blank. (blank, λ lines at w m between is. arrives_here tariffs tariff rules rule w lines (beside s) before m between is);
+    grows = same_grown before before refl;
+    aside = λ blank. (blank, λ lines at w m between is. arrives_here tariffs tariff rules rule w lines (beside s) before m between is);
   }
 
   -- one more
@@ -77,13 +79,14 @@ module _ {F U : Type 0} (tariffs : Shared F (Bor Usage × Unit {0}) Charge) (tar
         goes_then tariffs tariff rules rule Anything Anything w lines lines s mid before middle a failure new after (one.did.goes lines at a.next a.matches a.between a.lines);
     keeps = keeps_then [] [] s mid failure new faults faults1 faults2 first.keeps one.did.keeps;
     late = λ none turn is. late_then turn s.count mid.count new.count (first.late refl turn is) (one.did.late none turn is);
-    aside = λ none blank.
-        let (blank_mid, went) = first.aside refl blank in
-        let (blank_new, goes) = one.did.aside none blank_mid in (
+    grows = grown_then before middle after first.grows one.did.grows;
+    aside = λ blank.
+        let (blank_mid, went) = first.aside blank in
+        let (blank_new, goes) = one.did.aside blank_mid in (
           blank_new,
           λ lines at w m between is.
               let a = went lines at w m between is in
-              goes_then tariffs tariff rules rule Anything Anything w lines lines (beside s) (beside mid) before middle a None (beside new) after (goes lines at a.next a.matches a.between a.lines),
+              goes_then tariffs tariff rules rule Anything Anything w lines lines (beside s) (beside mid) before middle a failure (beside new) after (goes lines at a.next a.matches a.between a.lines),
         );
   }
 
@@ -115,11 +118,12 @@ module _ {F U : Type 0} (tariffs : Shared F (Bor Usage × Unit {0}) Charge) (tar
     goes = rested s f c count before after (did.keeps.ready refl).0 (ends refl) did.goes;
     keeps = did.keeps;
     late = did.late;
-    aside = λ none blank.
-        let (blank_new, goes) = did.aside refl blank in
+    grows = did.grows;
+    aside = λ blank.
+        let (blank_new, goes) = did.aside blank in
         (blank_new, rested (beside s) (beside_new f) c count before after (ready_beside f c (did.keeps.ready refl).0) (ends_beside f c count limit (ends refl)) goes);
   }
-  ticks_end s (Some failure) f c count before after faults faults' did ends = record { goes = did.goes; keeps = did.keeps; late = did.late; aside = λ none blank. absurd (let no : ⊥ = cc in no) }
+  ticks_end s (Some failure) f c count before after faults faults' did ends = record { goes = did.goes; keeps = did.keeps; late = did.late; grows = did.grows; aside = did.aside }
 
 -- what a loop over ticks has left to do
 abbrev pub ticks_left : Option Failure → ℕ → ℕ

@@ -13,13 +13,14 @@ use Rattle.g_run_model.specs.Lines.{is_process}
 use Rattle.g_run_model.specs.Moves.{Move, MovesCounted, Run}
 use Rattle.g_run_model.specs.Top.{AreArmings}
 use Rattle.g_run_model.specs.World.{World, is_due, nothing_steps}
-use Rattle.g_laws_runs.specs.BeginningAnew.{BeginAnew, NoDiscFault, is_aside}
+use Rattle.g_run_model.specs.Devices.{Devices}
+use Rattle.g_laws_runs.specs.BeginningAnew.{AreBlank, BeginAnew, NoDiscFault, is_aside, is_first, with_new_disc}
 use Rattle.g_job_table.specs.Numbers.{AreOpen}
 use Rattle.g_operator.specs.declared.progress.Failure.{Failure}
-use Rattle.g_operator.specs.BeginningAnew.{IsBlank, beside}
+use Rattle.g_operator.specs.BeginningAnew.{IsBlank, beside, beside_new}
 use Rattle.g_operator.specs.Parts.{IsReady, IsWithin, Matches, Seen}
-use Rattle.g_operator.specs.Puts.{FaultCause}
-use Rattle.g_operator.specs.System.{DumpsGrow, SameDevices, StandsAs, SystemBelongs, SystemFacts, devices_in}
+use Rattle.g_operator.specs.Puts.{FaultCause, HasGrown}
+use Rattle.g_operator.specs.System.{Down, DumpsGrow, SameDevices, StandsAs, SystemBelongs, SystemFacts, devices_in}
 use Rattle.g_run.specs.Tick.{IsBetween, has_dump, left, some_job_steps}
 
 -- the turn from which on the first of some lines is due
@@ -126,9 +127,47 @@ pub record Keeps (done : List Timed) (old : Seen) (failure : Option Failure) (ne
 abbrev pub AreAside : List Timed → Type 0
 AreAside lines = All (λ next. is_aside next.what ≡ true) lines
 
--- TO BEGIN ANEW: what is so of a part over devices to begin anew with, where nothing failed, nor the disc
-abbrev pub WhereBlank : Seen → Option Failure → Seen → Type 0 → Type 0
-WhereBlank old failure new Holds = failure ≡ None → IsBlank old.system → NoDiscFault (devices_in old.system) (devices_in new.system) → Holds
+-- lines that may stand before a system comes up anew: those, and FORMAT
+abbrev pub AreFirst : List Timed → Type 0
+AreFirst lines = All (λ next. is_first next.what ≡ true) lines
+
+-- a line is left, and it is another
+abbrev pub IsOther : List Timed → Type 0
+IsOther [] = ⊥
+IsOther (next ∷ lines) = is_first next.what ≡ false
+
+-- NO FORMAT OF SOME LINES TOOK, over devices to begin anew with: `Goes` is so to what is at hand beside a new disc. Where all lines were done,
+-- one of them a FORMAT, the disc counted a failure.
+pub record NoneTook (Goes : Seen → Type 0) (done : List Timed) (old : Seen) (failure : Option Failure) (new : Seen) : Type 0 where
+  pub goes : Goes (beside new)
+  pub blank : IsBlank new.system
+  pub unwell : failure ≡ None → BeginAnew done → NoDiscFault (devices_in old.system) (devices_in new.system) → ⊥
+
+-- or one did, and it is so to what is at hand
+abbrev pub BeginsBy : (Seen → Type 0) → List Timed → Seen → Option Failure → Seen → Type 0
+BeginsBy Goes done old failure new = NoneTook Goes done old failure new ⊎ Goes new
+
+module _ {F U : Type 0} (tariffs : Shared F (Bor Usage × Unit {0}) Charge) (tariff : F) (rules : Shared U (Bor Standing × Unit {0}) ℕ) (rule : U) where
+  -- these lines, from what is at hand beside a new disc
+  abbrev pub LinesGo : List Timed → Seen → Option Failure → Seen → Option (List ℕ) → Option (List ℕ) → Type 0
+  LinesGo done old failure new before after = (rest : List Timed) → PartGoes tariffs tariff rules rule Anything (done ++ rest) rest (beside old) failure new before after
+
+  -- NO FORMAT TOOK, AND ANOTHER LINE WAS COME TO. Up to that line a run beside a new disc tells what was done and put; the disc had counted a
+  -- failure by then. What such a line does over what the disc holds is told by nothing.
+  pub record Misses (w : World) (old new : Seen) (before after : Option (List ℕ)) : Type 0 where
+    pub moves : List Move
+    pub next : World
+    pub added : List ℕ
+    pub mid : Devices
+    pub leads : Leads tariffs tariff rules rule w (beside_new old.system) (Down (with_new_disc mid)) moves next added
+    pub blank : AreBlank mid
+    pub unwell : NoDiscFault (devices_in old.system) mid → ⊥
+    pub same : SameDevices mid (devices_in new.system)
+    pub other : IsOther next.lines
+    pub text : HasGrown (with_more before added) after
+
+  abbrev pub PartMisses : List Timed → Seen → Seen → Option (List ℕ) → Option (List ℕ) → Type 0
+  PartMisses lines old new before after = (w : World) → Matches w (beside old) → IsBetween w → w.lines ≡ lines → Misses w old new before after
 
 module _ {F U : Type 0} (tariffs : Shared F (Bor Usage × Unit {0}) Charge) (tariff : F) (rules : Shared U (Bor Standing × Unit {0}) ℕ) (rule : U) where
   -- TICKS, as long as something steps, up to the turn of the next line, which the count doesn't pass
@@ -136,9 +175,10 @@ module _ {F U : Type 0} (tariffs : Shared F (Bor Usage × Unit {0}) Charge) (tar
     pub goes : (lines : List Timed) → turn_of lines ≡ limit → PartGoes tariffs tariff rules rule Rests lines lines old failure new before after
     pub keeps : Keeps [] old failure new faults faults'
     pub late : failure ≡ None → (turn : ℕ) → limit ≡ Some turn → (new.count ≤ turn) ⊎ (new.count ≡ old.count)
+    pub grows : HasGrown before after
     -- beside a new disc none was done
-    pub aside : failure ≡ None → IsBlank old.system
-        → IsBlank new.system × ((lines : List Timed) → turn_of lines ≡ limit → PartGoes tariffs tariff rules rule Rests lines lines (beside old) None (beside new) before after)
+    pub aside : IsBlank old.system
+        → IsBlank new.system × ((lines : List Timed) → turn_of lines ≡ limit → PartGoes tariffs tariff rules rule Rests lines lines (beside old) failure (beside new) before after)
 
   -- ONE TICK: the count is one more, and less is left to do
   pub record DidOne (limit : Option ℕ) (old : Seen) (failure : Option Failure) (new : Seen) (before after : Option (List ℕ)) (faults faults' : ℕ) : Type 0 where
@@ -151,14 +191,17 @@ module _ {F U : Type 0} (tariffs : Shared F (Bor Usage × Unit {0}) Charge) (tar
     pub goes : (rest : List Timed) → PartGoes tariffs tariff rules rule Anything (done ++ rest) rest old failure new before after
     pub keeps : Keeps done old failure new faults faults'
     pub late : failure ≡ None → (most : ℕ) → AreDueBy most done → old.count ≤ most → new.count ≤ most
-    -- to begin anew: as long as they ask the filestore for nothing, from and to what is at hand beside a new disc
-    pub aside : WhereBlank old failure new (AreAside done
-        → IsBlank new.system × ((rest : List Timed) → PartGoes tariffs tariff rules rule Anything (done ++ rest) rest (beside old) None (beside new) before after))
-    -- and with the FORMAT behind such lines, from what is at hand beside a new disc
-    pub anew : WhereBlank old failure new (BeginAnew done → (rest : List Timed) → PartGoes tariffs tariff rules rule Anything (done ++ rest) rest (beside old) None new before after)
+    pub grows : HasGrown before after
+    -- to begin anew: FORMATs, and lines that ask the filestore for nothing
+    pub first : AreFirst done → IsBlank old.system → BeginsBy (λ s. LinesGo tariffs tariff rules rule done old failure s before after) done old failure new
+    -- and a FORMAT behind such lines, and any lines behind it
+    pub anew : BeginAnew done → IsBlank old.system
+        → BeginsBy (λ s. LinesGo tariffs tariff rules rule done old failure s before after) done old failure new ⊎ ((rest : List Timed) → PartMisses tariffs tariff rules rule (done ++ rest) old new before after)
 
   -- ALL OF THEM, and nothing steps behind them
   pub record DidAll (lines : List Timed) (old : Seen) (failure : Option Failure) (new : Seen) (before after : Option (List ℕ)) (faults faults' : ℕ) : Type 0 where
     pub goes : PartGoes tariffs tariff rules rule IsAtRest lines [] old failure new before after
     pub keeps : Keeps lines old failure new faults faults'
-    pub anew : WhereBlank old failure new (BeginAnew lines → PartGoes tariffs tariff rules rule IsAtRest lines [] (beside old) None new before after)
+    pub anew : BeginAnew lines → IsBlank old.system
+        → BeginsBy (λ s. PartGoes tariffs tariff rules rule IsAtRest lines [] (beside old) failure s before after) lines old failure new
+        ⊎ PartMisses tariffs tariff rules rule lines old new before after

@@ -1,5 +1,5 @@
 -- A SCRIPT that was read, done to its end: whose lines were done, the system taken down, and both devices handed back.
-use Rattle.std.specs.Prelude.{◌≡◌, ℕ, List, Option, Some, None}
+use Rattle.std.specs.Prelude.{◌≡◌, ◌⊎◌, ℕ, List, Option, Some, None}
 use Rattle.std.specs.Fn.{Shared}
 use denote.Ref.{Bor}
 use Rattle.g_budget.specs.declared.tariff.Charge.{Charge}
@@ -11,13 +11,13 @@ use Rattle.g_store_model.specs.CallStep.{down}
 use Rattle.g_store_model.specs.State.{State}
 use Rattle.g_tape.specs.Rack.{Rack}
 use Rattle.g_run_model.specs.Devices.{AreReadAs, Devices}
-use Rattle.g_run_model.specs.Top.{AreArmings, EndsWhole}
+use Rattle.g_run_model.specs.Top.{AreArmings}
 use Rattle.g_laws_runs.specs.BeginningAnew.{AreBlank, BeginAnew, NoDiscFault, with_new_disc}
 use Rattle.g_operator.specs.declared.progress.Failure.{Failure}
 use Rattle.g_operator.specs.Puts.{FaultCause, Puts}
 use Rattle.g_operator.specs.System.{BelongTogether, SameDevices, StandsAs, SystemFacts, devices_in}
 use Rattle.g_run.specs.Parts.{DumpsKept}
-use Rattle.g_run.specs.Top.{EndsBy}
+use Rattle.g_run.specs.Top.{EndsBy, HasMissed}
 
 abbrev pub both : DiscState → Rack → Devices
 both d r = record { disc = d; rack = r }
@@ -33,10 +33,17 @@ pub record TakenDown (f : SystemFacts) (d : Devices) : Type 0 where
   pub stands : (u : State) → StandsAs f u → AreReadAs d (down u)
 
 module _ {F U : Type 0} (tariffs : Shared F (Bor Usage × Unit {0}) Charge) (tariff : F) (rules : Shared U (Bor Standing × Unit {0}) ℕ) (rule : U) where
+  -- to begin anew: no FORMAT took, and nothing else was done
+  pub record EndsBeside (failure : Option Failure) (lines : List Timed) (bad : Option ℕ) (old new : Devices) (before after : Option (List ℕ)) : Type 0 where
+    pub ends : EndsBy tariffs tariff rules rule failure lines bad (with_new_disc old) (with_new_disc new) before after
+    pub blank : AreBlank new
+    pub unwell : failure ≡ None → NoDiscFault old new → ⊥
+
   pub record DidScript (lines : List Timed) (bad : Option ℕ) (old : Devices) (failure : Option Failure) (new : Devices) (before after : Option (List ℕ)) (faults faults' : ℕ) : Type 0 where
     pub ends : EndsBy tariffs tariff rules rule failure lines bad old new before after
-    -- over devices to begin anew with, where it was done to its end: from the state of a new disc
-    pub anew : failure ≡ None → AreBlank old → NoDiscFault old new → BeginAnew lines → EndsWhole tariffs tariff rules rule lines bad (with_new_disc old) new before after
+    -- over devices to begin anew with: from the state of a new disc
+    pub anew : BeginAnew lines → AreBlank old → EndsBeside failure lines bad old new before after
+        ⊎ (EndsBy tariffs tariff rules rule failure lines bad (with_new_disc old) new before after ⊎ HasMissed tariffs tariff rules rule lines bad old new before after)
     pub arms : AreArmings lines (failure ≡ None) old new
     pub same : SameDevices old new
     pub belongs : BelongTogether old → BelongTogether new

@@ -17,7 +17,7 @@ use Rattle.g_job.specs.Terminal.{is_ready}
 use Rattle.g_incr.specs.Plan.{needs}
 use Rattle.g_tape.specs.Rack.{Rack, is_mounted, reel}
 use Rattle.g_operator.specs.Parts.{IsReady, Matches, Seen}
-use Rattle.g_operator.specs.Puts.{FaultCause}
+use Rattle.g_operator.specs.Puts.{FaultCause, HasGrown}
 use Rattle.g_operator.specs.System.{Down, DumpsGrow, SameDevices, StandsAs, SystemBelongs, SystemFacts, Up, devices_in}
 use Rattle.g_run_model.specs.Events.{IsDumpStep}
 use Rattle.g_run_model.specs.Moves.{DumpCounted, Move, MovesCounted, Run, dump_told}
@@ -135,25 +135,27 @@ module _ {F U : Type 0} (tariffs : Shared F (Bor Usage × Unit {0}) Charge) (tar
       → (moves : List Move) × (next : World) × (added : List ℕ) × Comes w old.system new.system moves next added × HasPutPart before added after
 
 -- A PART, whole: what it does from each world, what holds of all devices, and what it leaves to do
-pub record DidPart (Goes : Type 0) (less : Bool) (old : Seen) (failure : Option Failure) (new : Seen) (faults faults' : ℕ) : Type 0 where
+pub record DidPart (Goes : Type 0) (less : Bool) (old : Seen) (failure : Option Failure) (new : Seen) (before after : Option (List ℕ)) (faults faults' : ℕ) : Type 0 where
   pub goes : Goes
   pub keeps : KeepsRun old failure new faults faults'
   pub falls : Falls less old failure new
+  pub grows : HasGrown before after
 
 -- the step of the open dump; without one all is as it was
 pub record DidDump (old : Seen) (failure : Option Failure) (new : Seen) (before after : Option (List ℕ)) (faults faults' : ℕ) : Type 0 where
   pub goes : DumpGoes old failure new before after
   pub keeps : KeepsRun old failure new faults faults'
   pub falls : Falls (has_dump old.system) old failure new
+  pub grows : HasGrown before after
   pub idle : has_dump old.system ≡ false → new ≡ old
 
 module _ {F U : Type 0} (tariffs : Shared F (Bor Usage × Unit {0}) Charge) (tariff : F) (rules : Shared U (Bor Standing × Unit {0}) ℕ) (rule : U) where
   -- A TURN, if a job can step
   abbrev pub DidTurn : Seen → Option Failure → Seen → Option (List ℕ) → Option (List ℕ) → ℕ → ℕ → Type 0
   DidTurn old failure new before after faults faults' =
-      DidPart (GoesBy tariffs tariff rules rule MayTurn IsThrough old failure new before after) (some_job_steps old) old failure new faults faults'
+      DidPart (GoesBy tariffs tariff rules rule MayTurn IsThrough old failure new before after) (some_job_steps old) old failure new before after faults faults'
 
   -- A TICK
   abbrev pub DidTick : Seen → Option Failure → Seen → Option (List ℕ) → Option (List ℕ) → ℕ → ℕ → Type 0
   DidTick old failure new before after faults faults' =
-      DidPart (GoesBy tariffs tariff rules rule MayTick IsThrough old failure new before after) (has_dump old.system || some_job_steps old) old failure new faults faults'
+      DidPart (GoesBy tariffs tariff rules rule MayTick IsThrough old failure new before after) (has_dump old.system || some_job_steps old) old failure new before after faults faults'

@@ -1,5 +1,5 @@
 -- What the top call answers: each status with its cause, and with what stands then.
-use Rattle.std.specs.Prelude.{◌≡◌, ◌<◌, ℕ, Bool, true, false, List, Option, Some, None, length}
+use Rattle.std.specs.Prelude.{◌≡◌, ◌⊎◌, ◌<◌, ℕ, Bool, true, false, List, Option, Some, None, length}
 use Rattle.std.specs.Fn.{Shared}
 use denote.Ref.{Bor}
 use Rattle.g_base.specs.Counts.{Rose}
@@ -11,12 +11,18 @@ use Rattle.g_io.specs.Streams.{with_more}
 use Rattle.g_lines.specs.Lines.{lines_of}
 use Rattle.g_script.specs.Script.{IsParsed}
 use Rattle.g_script.specs.declared.operator.Timed.{Timed}
-use Rattle.g_run_model.specs.Devices.{Devices}
-use Rattle.g_run_model.specs.Top.{EndsShort, EndsWhole, IsCut, words_line}
-use Rattle.g_laws_runs.specs.BeginningAnew.{AreBlank, BeginAnew, NoDiscFault}
+use Rattle.g_store_model.specs.State.{State}
+use Rattle.g_run_model.specs.Devices.{Devices, StandFor}
+use Rattle.g_run_model.specs.Moves.{Move}
+use Rattle.g_run_model.specs.Top.{EndsShort, EndsWhole, IsCut, RunOf, words_line}
+use Rattle.g_run_model.specs.World.{World}
+use Rattle.g_laws_runs.specs.BeginningAnew.{AreBlank, BeginAnew, NoDiscFault, with_new_disc}
 use Rattle.g_operator.specs.declared.progress.Failure.{Failure}
 use Rattle.g_operator.specs.declared.progress.Failure.TheVariants as failures
+use Rattle.g_operator.specs.Puts.{HasGrown}
+use Rattle.g_operator.specs.System.{BelongTogether, SameDevices}
 use Rattle.g_run.specs.Demo.{PutsDemo}
+use Rattle.g_run.specs.Parts.{IsOther}
 use Rattle.g_run.specs.declared.status.Status.{Status}
 use Rattle.g_run.specs.declared.status.Status.TheVariants.{Done, Words, BadScript, ScriptFault, OutputFault, NoMemory, TooLong}
 
@@ -114,14 +120,48 @@ module _ {F U : Type 0} (tariffs : Shared F (Bor Usage × Unit {0}) Charge) (tar
   EndsDemo status demo before after = ⊥
 
 -- TO BEGIN ANEW: the first line of the script beside MOUNT, UNMOUNT and STOP is a FORMAT, the devices tell and no reel holds anything, whatever
--- the disc holds; and the disc counts no failed read and no failed write in the run
-pub record BeginsAnew (left : List ℕ) (old new : Devices) : Type 0 where
+-- the disc holds
+pub record BeginsAnew (left : List ℕ) (old : Devices) : Type 0 where
   pub lines : List Timed
   pub bad : Option ℕ
   pub parsed : IsParsed (lines_of left) lines bad
   pub begin : BeginAnew lines
   pub blank : AreBlank old
-  pub well : NoDiscFault old new
+
+module _ {F U : Type 0} (tariffs : Shared F (Bor Usage × Unit {0}) Charge) (tariff : F) (rules : Shared U (Bor Standing × Unit {0}) ℕ) (rule : U) where
+  -- A FORMAT TOOK: the run is one from the state of a new disc beside the same reels, and disc and rack belong together at its end.
+  pub record Took (status : Status) (left : List ℕ) (old new : Devices) (before after : Option (List ℕ)) : Type 0 where
+    pub ends : EndsAs tariffs tariff rules rule status left (with_new_disc old) new before after
+    pub together : BelongTogether new
+
+  -- NONE DID, and nothing else was done but MOUNT, UNMOUNT and STOP: the run is one beside a new disc from its first state to its last, and the
+  -- devices are ones to begin anew with. A script that was done to its end had a FORMAT that failed at the disc, which counted it.
+  pub record NoneDid (status : Status) (left : List ℕ) (old new : Devices) (before after : Option (List ℕ)) : Type 0 where
+    pub ends : EndsAs tariffs tariff rules rule status left (with_new_disc old) (with_new_disc new) before after
+    pub blank : AreBlank new
+    pub unwell : IsThrough status → NoDiscFault old new → ⊥
+
+  -- NONE DID, and another line was come to, over what the disc held or a cut FORMAT left: up to it the run is one beside a new disc, in which each
+  -- FORMAT failed at the disc, which counted it, and the text begins with that run's. What was done from there on is told by nothing.
+  pub record Missed (lines : List Timed) (bad : Option ℕ) (s : State) (old new : Devices) (before after : Option (List ℕ)) : Type 0 where
+    pub moves : List Move
+    pub last : World
+    pub mid : Devices
+    pub run_of : RunOf tariffs tariff rules rule lines bad s (with_new_disc old) (with_new_disc mid) moves last
+    pub down : last.store.up ≡ false
+    pub other : IsOther last.lines
+    pub blank : AreBlank mid
+    pub unwell : NoDiscFault old mid → ⊥
+    pub same : SameDevices mid new
+    pub text : HasGrown (with_more before last.text) after
+
+  abbrev pub HasMissed : List Timed → Option ℕ → Devices → Devices → Option (List ℕ) → Option (List ℕ) → Type 0
+  HasMissed lines bad old new before after = (s : State) → StandFor (with_new_disc old) s → Missed lines bad s old new before after
+
+  -- HOW A RUN TO BEGIN ANEW ENDS, with each status
+  abbrev pub EndsAnew : Status → List ℕ → Devices → Devices → Option (List ℕ) → Option (List ℕ) → Type 0
+  EndsAnew status left old new before after = Took status left old new before after
+      ⊎ (NoneDid status left old new before after ⊎ ((lines : List Timed) × (bad : Option ℕ) × IsParsed (lines_of left) lines bad × HasMissed lines bad old new before after))
 
 -- the status of a run behind its parts
 abbrev pub status_of : Option ℕ → Option Failure → Status

@@ -13,7 +13,6 @@ ghost use Rattle.g_script.specs.Script.{IsParsed};
 ghost use Rattle.g_script.specs.declared.operator.Timed.{Timed};
 ghost use Rattle.g_laws_process.specs.Moving.{DumpsMove};
 ghost use Rattle.g_run_model.specs.Top.{AreArmings, AreFused, IsCutWords, words_line};
-ghost use Rattle.g_laws_runs.specs.BeginningAnew.{with_new_disc};
 ghost use Rattle.g_laws_runs.specs.Filestores.{HasFilestore};
 ghost use Rattle.g_run.specs.Input.{IsRun};
 ghost use Rattle.g_run.specs.ScriptEnd.{both};
@@ -49,7 +48,7 @@ pub struct Finish<D: Disc, T: Tapes> {
 ///
 /// The words are looked at first: `run`, or `demo NUMBER N`, which runs a script that is made from these numbers on devices in
 /// memory and puts the summary of its text. The script is read whole before anything is done (docs/MANUAL.md, "Exit status").
-#[tactic(auto, using(g_operator::proofs::GrowLemmas::grow_itself, crate::proofs::KeepLemmas::moves_itself))]
+#[tactic(auto, using(g_operator::proofs::GrowLemmas::grow_itself, crate::proofs::KeepLemmas::moves_itself, crate::proofs::TopLemmas::anew_unread, crate::proofs::TopLemmas::anew_long, crate::proofs::TopLemmas::anew_none))]
 pub fn george<
     S: Source,
     K: Sink,
@@ -93,13 +92,11 @@ pub fn george<
     ensures ends { IsRun words.now → (left : List ℕ) → S.left script.old ≡ Some left →
         top.EndsAs F.Fn tariff.now U.Fn weigh.now result.status left (both (D.state disc) (T.rack tapes)) (both (D.state result.disc) (T.rack result.tapes))
         (K.written out.old) (K.written out.new) }
-    // To begin anew, over a disc that may name copies which no reel has, so that disc and rack don't belong together: the run is one from
-    // the state of a new disc beside the same reels, and they belong together at its end.
-    ensures anew { IsRun words.now → (left : List ℕ) → S.left script.old ≡ Some left → top.IsThrough result.status
-        → top.BeginsAnew left (both (D.state disc) (T.rack tapes)) (both (D.state result.disc) (T.rack result.tapes))
-        → top.EndsAs F.Fn tariff.now U.Fn weigh.now result.status left (with_new_disc (both (D.state disc) (T.rack tapes))) (both (D.state result.disc) (T.rack result.tapes))
-        (K.written out.old) (K.written out.new)
-        × BelongTogether (both (D.state result.disc) (T.rack result.tapes)) }
+    // To begin anew, over a disc that may name copies which no reel has, so that disc and rack don't belong together: with every status the run
+    // is one from the state of a new disc beside the same reels. Where a FORMAT took, they belong together at its end.
+    ensures anew { IsRun words.now → (left : List ℕ) → S.left script.old ≡ Some left → top.BeginsAnew left (both (D.state disc) (T.rack tapes))
+        → top.EndsAnew F.Fn tariff.now U.Fn weigh.now result.status left (both (D.state disc) (T.rack tapes)) (both (D.state result.disc) (T.rack result.tapes))
+        (K.written out.old) (K.written out.new) }
 
     ensures words { AskNothing (texts_of words.now)
         → IsCutWords (both (D.state disc) (T.rack tapes)) (both (D.state result.disc) (T.rack result.tapes)) (K.written out.old) (K.written out.new) }

@@ -1,5 +1,5 @@
 -- The events of a run, as steps of the store's state.
-use Rattle.std.specs.Prelude.{◌≡◌, ℕ, List, [], Some, Result, Err}
+use Rattle.std.specs.Prelude.{◌≡◌, ℕ, List, [], Option, Some, Result, Err}
 use Rattle.g_name.specs.declared.full.Full.{Full}
 use Rattle.g_name.specs.declared.path.Path.{Path}
 use Rattle.g_plain.specs.declared.calls.StoreCall.{StoreCall}
