@@ -13,7 +13,7 @@ ghost use Rattle.g_lines.specs.Lines.{ended};
 ghost use Rattle.g_monitor.specs.JobLines.{job_line};
 
 use crate::Turn;
-use crate::job::Job;
+use crate::job::{Job, with_room};
 use g_base::NoMemory;
 use g_budget::{Charge, Tariff, Usage};
 use g_monitor::{JobLine, push_job_line};
@@ -201,7 +201,7 @@ fn line_text(alloc: Global, line: Option<JobLine>) -> Result<Option<Text>, NoMem
     let Some(line) = line else {
         return Ok(None);
     };
-    let mut text = Text::new(alloc);
+    let mut text = with_room(alloc)?;
     push_job_line(&mut text, line)?;
     text.push(b'\n')?;
     Ok(Some(text))

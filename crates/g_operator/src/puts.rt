@@ -90,11 +90,14 @@ pub(crate) fn refuse<K: Sink>(
     say_made(alloc, count, made, out)
 }
 
+/// The room that is asked for at once for a line of the operator's: most are shorter.
+const ROOM: usize = 64;
+
 /// A line of the operator's.
 pub(crate) fn line(alloc: Global, count: u64, what: &[u8]) -> Result<Text, NoMemory>
     ensures { IfOk result (λ text. text ≡ operator_line count what.now) }
 {
-    let mut text = Text::new(alloc);
+    let mut text = Text::from(Vec::with_capacity(alloc, ROOM)?);
     push_operator_line(&mut text, count, what)?;
     Ok(text)
 }
