@@ -417,8 +417,7 @@ apart_script number rounds few =
     (All-append IsOneLine (rounds_lines number rounds) closing (apart_rounds number rounds few) (apart_known closing refl))
 
 pub is_good : IsGood
-is_good number rounds few =
-    (
-      map timed_said (script_items number rounds),
-      items_say (lines_of (script_text number rounds)) (script_items number rounds) (good_items number rounds few) (text-lines (script_lines number rounds) (apart_script number rounds few) ∙ sym (lines_of_script number rounds)),
-    )
+is_good number rounds few = (
+  map timed_said (script_items number rounds),
+  items_say (lines_of (script_text number rounds)) (script_items number rounds) (good_items number rounds few) (text-lines (script_lines number rounds) (apart_script number rounds few) ∙ sym (lines_of_script number rounds)),
+)
