@@ -98,7 +98,7 @@ module _ {A : Type 0} (what : Operator) (given : Type 0) (by : State → Outcome
   rises o w next m r s step told is =
       lifts o w next
       (subst (λ b. MatchBool (not b) ((r' : Result A StoreFault) × (s' : State) × (by w.store o r' s' × IsTold o r') × (next ≡ tells (λ x t v. up_with (said x) t v) r' s' w)) ((o ≡ Plain) × (next ≡ line_refused Running w))) (sym m.stands.0)
-      (r, s, step, told.told, is))
+      (r, s, (step, told.told), is))
 
   -- IT COMES UP
   module _ (reply : A) (new : StoreFacts) (makes : CameUp given by disc rack reply new) (empty : c.accounts ≡ []) (c' : CrewState) where
