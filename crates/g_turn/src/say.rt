@@ -55,7 +55,7 @@ impl Work {
 
     /// The command sets the outcome.
     pub(crate) fn set_outcome(&mut self, error: bool, event: EventNote)
-        ensures { self.new ≡ said.comes_out error event self.old }
+        ensures { self.new ≡ said.set_outcome error event self.old }
     {
         self.sets = true;
         self.outcome = Outcome { error, event };

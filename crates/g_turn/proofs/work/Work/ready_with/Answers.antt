@@ -6,4 +6,4 @@ pub ready_with-requires : goal.ready_with-requires
 ready_with-requires c = waits_for_lines _ c.args.self.now c.self.view_is c.requires
 
 pub returns : goal.returns
-returns c = c.ready_with.ensures ∙ goes_on_typed _ c.args.self.now c.args.run_document_line.now c.self.view_is c.requires
+returns c = c.ready_with.ensures ∙ goes_on_typed _ c.args.self.now c.args.line.now c.self.view_is c.requires

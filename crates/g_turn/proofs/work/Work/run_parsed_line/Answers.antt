@@ -6,5 +6,5 @@ use Rattle.g_turn.proofs.work.Work.run_parsed_line.Goals as goal
 
 pub returns-in-Ok-clause-ready : goal.returns-in-Ok-clause-ready
 returns-in-Ok-clause-ready g c =
-    on_ok_weaker c.do_command.result (λ did. said_ready g.S.Filestore.answers g.S.Filestore.is_spent g.S.Filestore.can_wait c.args.asker.now.who.now c.args.asker.now.room false (command_said c.in-Ok.run_document_line.command)
+    on_ok_weaker c.do_command.result (λ did. said_ready g.S.Filestore.answers g.S.Filestore.is_spent g.S.Filestore.can_wait c.args.asker.now.who.now c.args.asker.now.room false (command_said c.in-Ok.line.command)
     c.args.self.now c.do_command.new.self c.args.store.now c.do_command.new.store c.requires.ready c.requires.level did) c.do_command.ensures.ok
