@@ -50,4 +50,4 @@ kept_more a b old new first = record { move = first.move; stay = λ none. first.
 -- the lines that were read are those of the script
 pub stay_as : (left : List ℕ) (lines said : List Timed) (bad said_bad : Option ℕ) (old new : Rack) → IsParsed (lines_of left) said said_bad → IsParsed (lines_of left) lines bad
     → DumpsKept said old new → HaveNoProcess lines → DumpsGrow old new
-stay_as left lines said bad said_bad old new was is kept none = kept.stay (subst HaveNoProcess (sym (reading_unique (lines_of left) said lines said_bad bad was is).0) none)
+stay_as left lines said bad said_bad old new was is kept none = kept.stay (subst HaveNoProcess (sym (reading_unique 1 (lines_of left) said lines said_bad bad was is).0) none)

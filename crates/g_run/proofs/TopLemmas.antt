@@ -79,7 +79,7 @@ module _ {F U : Type 0} (tariffs : Shared F (Bor Usage × Unit {0}) Charge) (tar
       ⊎ (EndsBy tariffs tariff rules rule failure lines bad (with_new_disc old) new before after ⊎ HasMissed tariffs tariff rules rule lines bad old new before after))
       → BeginsAnew left old → EndsAnew tariffs tariff rules rule (status_of bad failure) left old new before after
   anew_as bad failure left lines old new before after parsed more ends begins =
-      by (ends (subst BeginAnew (reading_unique (lines_of left) begins.lines lines begins.bad bad begins.parsed parsed).0 begins.begin) begins.blank)
+      by (ends (subst BeginAnew (reading_unique 1 (lines_of left) begins.lines lines begins.bad bad begins.parsed parsed).0 begins.begin) begins.blank)
     where
       by : EndsBeside tariffs tariff rules rule failure lines bad old new before after
           ⊎ (EndsBy tariffs tariff rules rule failure lines bad (with_new_disc old) new before after ⊎ HasMissed tariffs tariff rules rule lines bad old new before after)
@@ -113,7 +113,7 @@ module _ {F U : Type 0} (tariffs : Shared F (Bor Usage × Unit {0}) Charge) (tar
 pub arms_as : (left : List ℕ) (lines said : List Timed) (bad said_bad : Option ℕ) (failure : Option Failure) (old new : Devices) → IsParsed (lines_of left) said said_bad → IsParsed (lines_of left) lines bad
     → AreArmings said (failure ≡ None) old new → AreArmings lines (IsThrough (status_of said_bad failure)) old new
 arms_as left lines said bad said_bad failure old new was is arms =
-    subst (λ (ls : List Timed). AreArmings ls (IsThrough (status_of said_bad failure)) old new) (reading_unique (lines_of left) said lines said_bad bad was is).0
+    subst (λ (ls : List Timed). AreArmings ls (IsThrough (status_of said_bad failure)) old new) (reading_unique 1 (lines_of left) said lines said_bad bad was is).0
     (record {
       disc = arms.disc;
       tape = arms.tape;
