@@ -1,5 +1,5 @@
 -- What was read of a script is within the limits of its lines, and no more than the script has bytes.
-use Rattle.std.proofs.Common.{All, List, Option, [], arith, length, refl, sym, subst, ap, ℕ, ◌++◌, ◌∙◌, ◌∷◌, ◌≡◌, ◌≤◌}
+use Rattle.std.proofs.Common.{All, List, Option, [], arith, length, ℕ, ◌++◌, ◌∷◌, ◌≤◌}
 use Rattle.std.specs.Fmt.{decimal}
 use Rattle.std.specs.List.{AllByRecursion}
 use Rattle.std.specs.Prelude.{codes, ◌≢◌}
