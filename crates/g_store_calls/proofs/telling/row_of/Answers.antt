@@ -13,7 +13,7 @@ full_of-requires c =
     subst (λ us. c.in-Some.file.now.owner < length us) (sym c.users.ensures.value)
     (owner_used users files is c.in-Some.file.now (numbered_there users files is c.args.number c.in-Some.file.now (sym c.in-Some.ensures.value)).0)
 
-pub returns-in-Some : goal.returns-in-Some
-returns-in-Some c =
+pub returns : goal.returns
+returns c =
     let full = c.full_of.ensures ∙ ap (λ us. full_of us c.in-Some.file.now) c.users.ensures.value in
     (λ i. (full i, c.in-Some.file.now.len)) ∙ ap (row_by c.args.tree.now.users) c.in-Some.ensures.value
