@@ -9,7 +9,7 @@ ghost use Rattle.g_run_model.specs.Texts.{operator_line};
 ghost use Rattle.g_run.specs.Turning.{EndsTurn, GoesDown, GoesOn, ShowsAs, TakenOut, added_of, left_of};
 
 use crate::day_up::DayUp;
-use crate::showing::end_shown;
+use crate::showing::{Seated, end_shown};
 use g_base::NoMemory;
 use g_disc::Disc;
 use g_io::Sink;
@@ -40,7 +40,7 @@ pub(crate) fn end_turn<K: Sink, D: Disc, T: Tapes>(
 {
     match taken.shown {
         None => end_untold(alloc, up, number, taken.turn, out),
-        Some(before) => end_shown(alloc, up, number, before, taken.turn, out),
+        Some(before) => end_shown(alloc, up, Seated { number, before }, taken.turn, out),
     }
 }
 

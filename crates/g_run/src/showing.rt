@@ -22,33 +22,38 @@ use g_operator::{Failure, put_made, stops_behind};
 use g_tape::Tapes;
 use std::alloc::Global;
 
-/// The turn of a terminal's job of this number is over, whose file had so many bytes before.
+/// A terminal's job by its number, and how many bytes its file had before its turn.
+pub(crate) struct Seated {
+    pub(crate) number: u64,
+    pub(crate) before: usize,
+}
+
+/// The turn of this terminal's job is over.
 // A tick seldom comes to it: a function of its own keeps its room out of each.
 #[inline(never)]
 pub(crate) fn end_shown<K: Sink, D: Disc, T: Tapes>(
     alloc: Global,
     up: &mut DayUp<D, T>,
-    number: u64,
-    before: usize,
+    seated: Seated,
     turn: Turn,
     out: &mut K,
 ) -> Option<Failure>
     requires stopped { (up.old.store.spent ≡ true) ↔ (turn ≡ Turn.Broken) }
-    requires there { (job : JobState) × (terminal : ℕ) × (job_in number up.old.crew.jobs ≡ Some job) × (job.terminal ≡ Some terminal) }
-    ensures ends { (job : JobState) → job_in number up.old.crew.jobs ≡ Some job
-        → EndsTurn up.old.count number up.old.store up.old.crew (pushed_of job before) turn result (left_of up.new.store) up.new.crew
+    requires there { (job : JobState) × (terminal : ℕ) × (job_in seated.number up.old.crew.jobs ≡ Some job) × (job.terminal ≡ Some terminal) }
+    ensures ends { (job : JobState) → job_in seated.number up.old.crew.jobs ≡ Some job
+        → EndsTurn up.old.count seated.number up.old.store up.old.crew (pushed_of job seated.before) turn result (left_of up.new.store) up.new.crew
         (K.written out.old) (K.written out.new) (K.faults out.old) (K.faults out.new) }
     ensures count { up.new.count ≡ up.old.count }
 {
-    let made = shown(alloc, &up.crew, number, before);
+    let made = shown(alloc, &up.crew, seated.number, seated.before);
     match turn {
         Turn::Broken => stops(up, made, out),
         Turn::Wants { serial } => {
-            let told = wants_behind(alloc, made, up.count, number, serial);
+            let told = wants_behind(alloc, made, up.count, seated.number, serial);
             goes_on(up, told, out)
         }
         Turn::Ran { .. } => goes_on(up, made, out),
-        Turn::Ended { .. } => ends(up, number, made, out),
+        Turn::Ended { .. } => ends(up, seated.number, made, out),
     }
 }
 
