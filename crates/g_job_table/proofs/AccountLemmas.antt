@@ -10,7 +10,7 @@ use Rattle.std.proofs.lemmas.Option.{none-some, same_Some}
 use Rattle.std.proofs.lemmas.Slice.Eq.{bytes_eq-Decides}
 use Rattle.g_entry.proofs.SameLemmas.{Agree}
 use Rattle.g_name.specs.Order.{same_text}
-use Rattle.g_job_table.specs.Accounts.{AreKept, charged, kept_for, left_behind, less}
+use Rattle.g_job_table.specs.Accounts.{AreKept, KeepAccounts, charged, kept_for, left_behind, less}
 use Rattle.g_job_table.specs.Keeping.{IsLeft, IsPlaceFor, empty_for, less_held}
 use Rattle.g_job_table.specs.declared.account.Account.{Account}
 use Rattle.g_job.specs.State.{JobState}
@@ -150,6 +150,15 @@ both-settled : (j : JobState) (here : Bool) (old : Option Opened) (kept : Option
 both-settled j true None kept e = ap (option_map (less j)) e
 both-settled j true (Some a) kept e = ap (option_map (less j)) e ∙ ap (λ (x : Account). Some x) (left-spent j a)
 both-settled j false old kept e = e
+
+-- who has an account has it still
+pub charged-keeps : (j : JobState) (kept : List Account) → KeepAccounts kept (charged j kept)
+charged-keeps j kept user some = ap is_some (kept-charged j kept user) ∙ both (same_text j.user user) (kept_for kept user) some
+  where
+    both : (b : Bool) (o : Option Account) → is_some o ≡ true → is_some (cond b (option_map (less j) o) o) ≡ true
+    both b None none = absurd (false≢true none)
+    both true (Some a) some = refl
+    both false (Some a) some = refl
 
 -- an ended job's account is settled in both
 pub AreKept-settled : (j : JobState) (accounts : List Opened) (kept : List Account) → AreKept accounts kept → AreKept (settled j accounts) (charged j kept)

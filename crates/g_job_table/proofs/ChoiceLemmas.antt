@@ -1,5 +1,5 @@
 -- The jobs that can step, one after another.
-use Rattle.std.proofs.Common.{◌≡◌, ◌+◌, ◌<◌, ◌≤◌, ◌∙◌, ◌++◌, ◌∷◌, ◌⊎◌, [], Bool, IfSome, List, None, Option, Some, ap, arith, cond, false, get_or, length, map, not, refl, slice_get, sym, suc, take, true, zero, ℕ}
+use Rattle.std.proofs.Common.{◌≡◌, ◌+◌, ◌<◌, ◌≤◌, ◌∙◌, ◌++◌, ◌∷◌, ◌⊎◌, [], Bool, IfSome, List, None, Option, Some, ap, arith, cond, false, get_or, inl, inr, length, map, not, refl, slice_get, subst, sym, suc, take, true, zero, ℕ}
 use Rattle.std.specs.Fn.{FnReturnsAt, Shared}
 use Rattle.std.specs.Option.{option_map}
 use denote.Ref.{Bor}
@@ -17,7 +17,7 @@ use Rattle.g_store_model.specs.State.{State}
 use Rattle.g_run_model.specs.World.{can_step, has_none}
 use Rattle.g_job_table.specs.Choice.{Chooses, IsFirst, able_in}
 use Rattle.g_job_table.specs.Numbers.{Rise, job_in}
-use Rattle.g_job_table.proofs.NumberLemmas.{found-able}
+use Rattle.g_job_table.proofs.NumberLemmas.{Rise-two, found-able}
 
 -- the next job can step
 pub able-more : (s : State) (jobs : List JobState) (i : ℕ) (j : JobState) → i < length jobs → j ≡ get_or jobs i j → can_step s j ≡ true
@@ -62,6 +62,24 @@ able-at s (m ∷ jobs) (suc i) j there can =
         → slice_get (cond b (m ∷ ks) ks) (length (cond b (m ∷ before) before)) ≡ Some j
     behind true ks before m j there = there
     behind false ks before m j there = there
+
+-- no job from a place on has a number below that of the best before
+abbrev pub NoLess : List JobState → ℕ → Option Candidate → Type 0
+NoLess jobs i first = IfSome first (λ b. (k : ℕ) (j : JobState) → i ≤ k → slice_get jobs k ≡ Some j → b.number ≤ j.number)
+
+pub less-more : (jobs : List JobState) (i : ℕ) (first : Option Candidate) → NoLess jobs i first → NoLess jobs (i + 1) first
+less-more jobs i None before = tt
+less-more jobs i (Some b) before = λ k j from there. before k j (omega (arith, from)) there
+
+pub less-here : (jobs : List JobState) (i : ℕ) (first : Option Candidate) (j : JobState) → NoLess jobs i first → slice_get jobs i ≡ Some j → IfSome first (λ b. b.number ≤ j.number)
+less-here jobs i None j before there = tt
+less-here jobs i (Some b) j before there = before i j (omega arith) there
+
+pub less-kept : (jobs : List JobState) (next i able weight : ℕ) (first : Option Candidate) (j : JobState) (kept : Candidate) → Rise 1 jobs next → slice_get jobs i ≡ Some j
+    → (kept ≡ record { place = able; weight = weight; number = j.number }) ⊎ (first ≡ Some kept) → NoLess jobs i first → NoLess jobs (i + 1) (Some kept)
+less-kept jobs next i able weight first j kept rise there (inl is) before = λ k b from later.
+    subst (λ (n : ℕ). n ≤ b.number) (sym (ap (λ (c : Candidate). c.number) is)) (Rise-two 1 jobs next i k j b rise (omega (arith, from)) there later)
+less-kept jobs next i able weight first j kept rise there (inr is) before = less-more jobs i (Some kept) (subst (λ (o : Option Candidate). NoLess jobs i o) is before)
 
 has_none-empty : (jobs : List JobState) → length jobs ≡ 0 → has_none jobs ≡ true
 has_none-empty [] e = refl

@@ -23,6 +23,20 @@ pub Rise-push : (low : ℕ) (jobs : List JobState) (next : ℕ) (j : JobState) �
 Rise-push low [] next j r is = (omega (arith, r, is), omega (arith, is))
 Rise-push low (k ∷ jobs) next j (first, more) is = (first, Rise-push (k.number + 1) jobs next j more is)
 
+pub Rise-at : (low : ℕ) (jobs : List JobState) (next k : ℕ) (b : JobState) → Rise low jobs next → slice_get jobs k ≡ Some b → low ≤ b.number
+Rise-at low [] next k b r there = absurd (none-some b there)
+Rise-at low (j ∷ jobs) next zero b (first, more) there = omega (arith, first, ap (λ (x : JobState). x.number) (same_Some j b there))
+Rise-at low (j ∷ jobs) next (suc k) b (first, more) there = let later = Rise-at (j.number + 1) jobs next k b more there in omega (arith, first, later)
+
+-- of two the one in front has no greater number
+pub Rise-two : (low : ℕ) (jobs : List JobState) (next i k : ℕ) (a b : JobState) → Rise low jobs next → i ≤ k → slice_get jobs i ≡ Some a → slice_get jobs k ≡ Some b → a.number ≤ b.number
+Rise-two low [] next i k a b r order here there = absurd (none-some a here)
+Rise-two low (j ∷ jobs) next zero k a b (first, more) order here there =
+    let least : j.number ≤ b.number = Rise-at j.number (j ∷ jobs) next k b (omega arith, more) there in
+    omega (arith, least, ap (λ (x : JobState). x.number) (same_Some j a here))
+Rise-two low (j ∷ jobs) next (suc i) zero a b r order here there = absurd (omega (arith, order))
+Rise-two low (j ∷ jobs) next (suc i) (suc k) a b (first, more) order here there = Rise-two (j.number + 1) jobs next i k a b more (omega (arith, order)) here there
+
 pub Rise-filter : (p : JobState → Bool) (low : ℕ) (jobs : List JobState) (next : ℕ) → Rise low jobs next → Rise low (filter p jobs) next
 Rise-filter p low [] next r = r
 Rise-filter p low (j ∷ jobs) next (first, more) =

@@ -9,7 +9,7 @@ use Rattle.g_name.specs.Order.{same_text}
 use Rattle.g_entry.specs.declared.user_rec.UserRec.{UserRec}
 use Rattle.g_plain.specs.PlainTree.{UserRow}
 use Rattle.g_store_model.specs.State.{State}
-use Rattle.g_job_table.specs.Accounts.{AreKept, HaveRows, kept_for, left_behind, record_budgets, row_budgets}
+use Rattle.g_job_table.specs.Accounts.{AreKept, HaveAccounts, HaveRows, kept_for, left_behind, record_budgets, row_budgets}
 use Rattle.g_job_table.specs.Keeping.{Opens, opening, user_in}
 use Rattle.g_job_table.specs.declared.account.Account.{Account}
 use Rattle.g_job_table.proofs.AccountLemmas.{cond_none, find_passes, same_eq}
@@ -29,6 +29,16 @@ module _ {X Y : Type 0} (f : X → Y) where
   or_stays None (Some p) t u some = refl
   or_stays None None true u some = absurd (false≢true (some refl))
   or_stays None None false u some = refl
+
+  or_some : (o : Option Y) (seen : Option X) → is_some seen ≡ true → is_some (option_or o (option_map f seen)) ≡ true
+  or_some (Some y) seen some = refl
+  or_some None (Some x) some = refl
+  or_some None None some = absurd (false≢true some)
+
+  or_same : (o : Option Y) (seen : Option X) → (is_some seen ≡ true → is_some o ≡ true) → o ≡ option_or o (option_map f seen)
+  or_same (Some y) seen has = refl
+  or_same None (Some x) has = absurd (false≢true (has refl))
+  or_same None None has = refl
 
 user_in-more : (users : List UserRec) (i : ℕ) (u : UserRec) (user : List ℕ) → i < length users → u ≡ get_or users i u
     → user_in (take (i + 1) users) user ≡ option_or (user_in (take i users) user) (cond (same_text u.user user) (Some u) None)
@@ -127,3 +137,12 @@ AreKept-opened s accounts old new users rows are opens user =
     (λ e is. same_eq e.0 user (find_passes (λ (d : List ℕ × UserRow). same_text d.0 user) (rows_of s) e is))
     (λ u is. same_eq u.user user (find_passes (λ (r : UserRec). same_text r.user user) users u is)) (rows user))
     ∙ ap (option_map left_behind) (sym (find-append (λ (a : Opened). same_text a.user user) accounts more))
+
+-- behind the opening each user has one
+pub Opens-all : (old new : List Account) (users : List UserRec) → Opens old users new → HaveAccounts users new
+Opens-all old new users opens user some = ap is_some (opens user) ∙ or_some opening (kept_for old user) (user_in users user) some
+
+-- where each user has one, none opens
+pub none_opens : (s : State) (accounts : List Opened) (kept : List Account) (users : List UserRec) → HaveAccounts users kept → HaveRows users (rows_of s) → AreKept accounts kept
+    → AreKept (with_new s accounts) kept
+none_opens s accounts kept users all rows are = AreKept-opened s accounts kept kept users rows are (λ user. or_same opening (kept_for kept user) (user_in users user) (all user))

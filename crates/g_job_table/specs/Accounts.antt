@@ -1,5 +1,5 @@
 -- Accounts as they are kept, beside those of a world.
-use Rattle.std.specs.Prelude.{◌≡◌, ℕ, ◌-◌, List, [], ◌∷◌, Option, find, sum_by, if◌then◌else◌}
+use Rattle.std.specs.Prelude.{◌≡◌, ℕ, ◌-◌, true, List, [], ◌∷◌, Option, find, is_some, sum_by, if◌then◌else◌}
 use Rattle.std.specs.Option.{option_map}
 use Rattle.g_name.specs.Order.{same_text}
 use Rattle.g_entry.specs.declared.user_rec.UserRec.{UserRec}
@@ -44,3 +44,11 @@ record_budgets r = (r.time, r.money)
 abbrev pub HaveRows : List UserRec → List (List ℕ × UserRow) → Type 0
 HaveRows users rows = (user : List ℕ)
     → option_map record_budgets (find (λ r. same_text r.user user) users) ≡ option_map row_budgets (find (λ e. same_text e.0 user) rows)
+
+-- each of these users has an account
+abbrev pub HaveAccounts : List UserRec → List Account → Type 0
+HaveAccounts users kept = (user : List ℕ) → is_some (find (λ r. same_text r.user user) users) ≡ true → is_some (kept_for kept user) ≡ true
+
+-- who has an account keeps it
+abbrev pub KeepAccounts : List Account → List Account → Type 0
+KeepAccounts old new = (user : List ℕ) → is_some (kept_for old user) ≡ true → is_some (kept_for new user) ≡ true

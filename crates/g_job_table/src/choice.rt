@@ -1,8 +1,9 @@
 //! Which job goes next.
-ghost use Rattle.std.specs.Prelude.{◌≡◌, ◌≤◌, ℕ, length, not};
+ghost use Rattle.std.specs.Prelude.{◌≡◌, ◌⊎◌, ◌≤◌, ℕ, IfSome, Some, length, not};
 ghost use Rattle.g_job_table.specs.Choice.{IsFirst, TellsMounted, able_in};
 ghost use Rattle.g_job_table.specs.Numbers.{Rise};
 ghost use Rattle.g_job_table.specs.Weights.{AreOthers, AreWeights};
+ghost use Rattle.g_sched.specs.Choice.{IsNoLater};
 ghost use Rattle.g_sched.specs.Rule.{IsWeighRule};
 ghost use Rattle.g_store_model.specs.State.{State};
 ghost use Rattle.g_run_model.specs.World.{can_step, has_none, has_reel};
@@ -10,7 +11,7 @@ ghost use Rattle.g_run_model.specs.World.{can_step, has_none, has_reel};
 use crate::place::place_of;
 use crate::weights::Weights;
 use g_job::Job;
-use g_sched::{Candidate, Standing, WeighRule, earlier};
+use g_sched::{Candidate, Standing, WeighRule};
 
 /// The most jobs that there are at a time.
 pub(crate) const MOST_JOBS: usize = 64;
@@ -58,6 +59,19 @@ fn candidate(job: &Job, place: usize, weight: u64) -> Candidate
     }
 }
 
+/// Which of two goes first, where the one before has no greater number: by weight alone. A turn asks it for each job.
+fn lighter(best: Option<Candidate>, candidate: Candidate) -> Candidate
+    requires { IfSome best (λ b. b.number ≤ candidate.number) }
+    ensures one { (result ≡ candidate) ⊎ (best ≡ Some result) }
+    ensures before { IsNoLater result.weight result.number candidate.weight candidate.number }
+    ensures before_best { IfSome best (λ b. IsNoLater result.weight result.number b.weight b.number) }
+{
+    match best {
+        Some(best) if best.weight <= candidate.weight => best,
+        _ => candidate,
+    }
+}
+
 /// The first of the jobs that can step, by their weights and then by number. Its place is that among those that can step.
 pub(crate) fn first_of<U: Fn(&Standing) -> u64, M: Fn(u32) -> bool>(
     jobs: &[Job],
@@ -67,13 +81,14 @@ pub(crate) fn first_of<U: Fn(&Standing) -> u64, M: Fn(u32) -> bool>(
 ) -> Option<Candidate>
     requires weighed { AreWeights U.Fn weigh.now jobs.now weights.now }
     requires callable { M.IsAlwaysCallable mounted.now }
+    requires rise { (next : ℕ) × Rise 1 jobs.now next }
     ensures { (s : State) → TellsMounted M.Fn mounted.now s → IsFirst U.Fn weigh.now (able_in s jobs.now) result }
 {
     let mut able = 0;
     let mut first: Option<Candidate> = None;
     for (place, job) in jobs.iter().enumerate() {
         if can_step(job, mounted) {
-            first = Some(earlier(first, candidate(job, able, weights.get(place))));
+            first = Some(lighter(first, candidate(job, able, weights.get(place))));
             able += 1;
         }
     }

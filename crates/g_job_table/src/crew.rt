@@ -2,7 +2,7 @@
 ghost use Rattle.std.specs.Prelude.{◌≡◌, ◌↔◌, ◌+◌, ◌<◌, ◌≤◌, ◌≢◌, ◌++◌, ℕ, [], ◌∷◌, Bool, true, false, not, List, Ok, Err, None, Some, IfOk, IfSome, OnErr, OnOk, length};
 ghost use Rattle.std.specs.List.{remove};
 ghost use Rattle.g_budget.specs.Tariff.{IsTariff};
-ghost use Rattle.g_job_table.specs.Accounts.{AreKept, HaveRows};
+ghost use Rattle.g_job_table.specs.Accounts.{AreKept, HaveAccounts, HaveRows, KeepAccounts};
 ghost use Rattle.g_job_table.specs.Choice.{Chooses, TellsMounted, able_in};
 ghost use Rattle.g_job_table.specs.Numbers.{AreJobs, AreOpen, job_in};
 ghost use Rattle.g_job_table.specs.Taking.{RefusesAsIn, printed};
@@ -81,6 +81,7 @@ impl Crew {
     pub fn open_accounts(&mut self, users: &[UserRec]) -> Result<(), NoMemory>
         ensures opened { OnOk result ((s : State) (accounts : List Opened) → HaveRows users.now (rows_of s)
             → AreKept accounts self.old.accounts → AreKept (with_new s accounts) self.new.accounts) }
+        ensures all { OnOk result (HaveAccounts users.now self.new.accounts) }
         ensures others { self.new ≡ record self.old { accounts = self.new.accounts } }
         ensures err { OnErr result (self.new ≡ self.old) }
     {
@@ -266,6 +267,7 @@ impl Crew {
         ensures jobs { self.new.jobs ≡ without_job number self.old.jobs }
         ensures settled { IfSome result (λ job. (accounts : List Opened) → AreKept accounts self.old.accounts
             → AreKept (settled job accounts) self.new.accounts) }
+        ensures kept { KeepAccounts self.old.accounts self.new.accounts }
         ensures none { result ≡ None → self.new ≡ self.old }
         ensures number { self.new.next_job ≡ self.old.next_job }
     {

@@ -1,9 +1,10 @@
--- Of the jobs so far that can step the first is kept.
+-- Of the jobs so far that can step the first is kept, whose number no later job's is below.
 use Rattle.std.proofs.Common.{◌≤◌}
 use Rattle.g_store_model.specs.State.{State}
 use Rattle.g_job_table.specs.Choice.{TellsMounted}
-use Rattle.g_job_table.proofs.ChoiceLemmas.{IsSeen}
+use Rattle.g_job_table.proofs.ChoiceLemmas.{IsSeen, NoLess}
 use Rattle.g_job_table.proofs.choice.first_of.Given as goal
 
 abbrev pub invariant-loop-place : goal.invariant-loop-place
-invariant-loop-place g l = (l.able ≤ l.place) × ((s : State) → TellsMounted g.M.Fn l.mounted s → IsSeen g.U.Fn l.weigh s l.jobs l.place l.able l.first)
+invariant-loop-place g l =
+    (l.able ≤ l.place) × NoLess l.jobs l.place l.first × ((s : State) → TellsMounted g.M.Fn l.mounted s → IsSeen g.U.Fn l.weigh s l.jobs l.place l.able l.first)

@@ -1,12 +1,12 @@
 -- The job at the place is the one of its number.
-use Rattle.std.proofs.Common.{List, Option, Some, ap, arith, drop, length, slice_get, subst, sym, take, ◌++◌, ◌∙◌, ◌≡◌}
+use Rattle.std.proofs.Common.{List, Option, Some, ap, arith, drop, is_some, length, slice_get, subst, sym, take, true, ◌++◌, ◌∙◌, ◌≡◌}
 use Rattle.std.proofs.lemmas.Option.{get_or_from_slice_get, slice_get_within}
 use Rattle.g_job.specs.State.{JobState}
 use Rattle.g_job_table.specs.Accounts.{AreKept, charged, kept_for}
 use Rattle.g_job_table.specs.Crew.{CrewState}
 use Rattle.g_job_table.specs.Numbers.{job_in}
 use Rattle.g_job_table.specs.declared.account.Account.{Account}
-use Rattle.g_job_table.proofs.AccountLemmas.{AreKept-settled, charged-whole}
+use Rattle.g_job_table.proofs.AccountLemmas.{AreKept-settled, charged-keeps, charged-whole}
 use Rattle.g_job_table.proofs.NumberLemmas.{AreJobs-remove, IsOnly-at, without-none}
 use Rattle.g_job_table.specs.Seating.{seats_in}
 use Rattle.g_job_table.proofs.SeatLemmas.{seats-without}
@@ -60,3 +60,12 @@ returns-clause-settled c = λ accounts are user.
     ap (λ (xs : List Account). kept_for (take c.self.inside.accounts.len (xs ++ drop (length xs) items)) user) new
     ∙ ap (λ (xs : List Account). kept_for xs user) (charged-whole c.remove-job.result items c.self.inside.accounts.len c.self.inside.accounts.ok.0)
     ∙ AreKept-settled c.remove-job.result accounts items kept user
+
+pub returns-clause-kept : goal.returns-clause-kept
+returns-clause-kept c = λ user some.
+    let items = c.self.inside.accounts.items in
+    let had : is_some (kept_for items user) ≡ true = ap (λ (v : CrewState). is_some (kept_for v.accounts user)) c.self.view_is ∙ some in
+    let new = c.charge.ensures ∙ ap (λ (xs : List Account). charged c.remove-job.result xs) c.deref_mut.ensures.value in
+    ap (λ (xs : List Account). is_some (kept_for (take c.self.inside.accounts.len (xs ++ drop (length xs) items)) user)) new
+    ∙ ap (λ (xs : List Account). is_some (kept_for xs user)) (charged-whole c.remove-job.result items c.self.inside.accounts.len c.self.inside.accounts.ok.0)
+    ∙ charged-keeps c.remove-job.result items user had
