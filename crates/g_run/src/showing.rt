@@ -23,6 +23,7 @@ use g_tape::Tapes;
 use std::alloc::Global;
 
 /// A terminal's job by its number, and how many bytes its file had before its turn.
+#[derive(Drop)]
 pub(crate) struct Seated {
     pub(crate) number: u64,
     pub(crate) before: usize,
