@@ -12,8 +12,8 @@ returns-in-Up g c =
     (subst (λ (f : SystemFacts). TakenDown f (both (g.D.Disc.state c.take_down-disc.result.0) (g.T.Tapes.rack c.into_tapes.result))) (sym (ap (facts_of g.D.Disc.state g.T.Tapes.rack) c.in-Up.is))
     (up_taken_down c.in-Up.store c.take_down-disc.ensures.down _ _ c.take_down-disc.ensures.disc (ap g.T.Tapes.rack c.into_tapes.ensures ∙ c.take_down-disc.ensures.tapes)))
 
-pub returns-in-Down : goal.returns-in-Down
-returns-in-Down g c =
+pub returns : goal.returns
+returns g c =
     subst (λ (s : Seen). TakenDown s.system (both (g.D.Disc.state c.in-Down.disc) (g.T.Tapes.rack c.into_tapes-in-Down.result))) c.day.view_is
     (subst (λ (f : SystemFacts). TakenDown f (both (g.D.Disc.state c.in-Down.disc) (g.T.Tapes.rack c.into_tapes-in-Down.result))) (sym (ap (facts_of g.D.Disc.state g.T.Tapes.rack) c.in-Down.is))
     (subst (λ (r : Rack). TakenDown (Down (both (g.D.Disc.state c.in-Down.disc) (g.T.Tapes.rack c.in-Down.tapes))) (both (g.D.Disc.state c.in-Down.disc) r)) (sym (ap g.T.Tapes.rack c.into_tapes-in-Down.ensures))
