@@ -79,13 +79,18 @@ fn one(rt: &HostRuntime, system: System, line: &str) -> Result<System, Wrong> {
     };
     let event = event_of(event)?;
     let (next, outcome) = happens(rt.alloc(), system, &event);
-    let told = told(rt.alloc(), &outcome)?;
+    as_wanted(rt, line, wanted, &outcome)?;
+    Ok(next)
+}
+
+/// Whether just what was wanted came of a line's event; else the line is printed.
+fn as_wanted(rt: &HostRuntime, line: &str, wanted: &str, outcome: &Outcome) -> Result<(), Wrong> {
+    let told = told(rt.alloc(), outcome)?;
     if told.as_str() == wanted {
-        Ok(next)
-    } else {
-        println!(rt; "{line}, but {}", told.as_str())?;
-        Err(Wrong("another answer"))
+        return Ok(());
     }
+    println!(rt; "{line}, but {}", told.as_str())?;
+    Err(Wrong("another answer"))
 }
 
 /// What came of an event, as rows have it.
