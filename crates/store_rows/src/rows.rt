@@ -77,11 +77,25 @@ fn one(rt: &HostRuntime, system: System, line: &str) -> Result<System, Wrong> {
         Some((event, wanted)) => (event, wanted),
         None => (line, "Ok(Done)"),
     };
-    let event = event_of(event)?;
+    let event = match event_of(event) {
+        Ok(event) => event,
+        Err(wrong) => {
+            let_go(system);
+            return Err(wrong);
+        }
+    };
     let (next, outcome) = happens(rt.alloc(), system, &event);
-    as_wanted(rt, line, wanted, &outcome)?;
-    Ok(next)
+    match as_wanted(rt, line, wanted, &outcome) {
+        Ok(()) => Ok(next),
+        Err(wrong) => {
+            let_go(next);
+            Err(wrong)
+        }
+    }
 }
+
+/// A system that nobody wants any more: in a function of its own, since the proof of what is let go is long.
+fn let_go(_system: System) {}
 
 /// Whether just what was wanted came of a line's event; else the line is printed.
 fn as_wanted(rt: &HostRuntime, line: &str, wanted: &str, outcome: &Outcome) -> Result<(), Wrong> {
