@@ -11,7 +11,7 @@ use Rattle.g_plain.proofs.TextMaps.{text_total}
 use Rattle.g_tree.specs.Records.{users_by_name}
 use Rattle.g_tree.proofs.MapLemmas.{keyed}
 use Rattle.g_tree.proofs.RecordLemmas.{user_there}
-use Rattle.g_tree.proofs.tree.Tree.user.Goals as goal
+use Rattle.g_tree.proofs.tree.Tree.find_user.Goals as goal
 
 abbrev named : List ℕ → List UserRec → Option UserRec
 named name users = find text_cmp name (keyed (λ u. u.user) users)
@@ -36,8 +36,7 @@ drop_past (u ∷ users) (suc i) past = drop_past users i (omega arith)
 pub returns-then-eq-clause-value : goal.returns-then-eq-clause-value
 returns-then-eq-clause-value c =
     let users = c.deref-user-items.result.now in
-    ap Some c.copy.ensures
-    ∙ sym (one_of c.args.name.now users c.loop-user.user-index c.user-item.result c.loop-user-test.true c.user-item.is
+    sym (one_of c.args.name.now users c.loop-user.user-index c.user-item.result c.loop-user-test.true c.user-item.is
     ∙ ap (λ b. cond b (Some c.user-item.result) (named c.args.name.now (drop (c.loop-user.user-index + 1) users))) (sym c.if-eq.ensures))
     ∙ c.loop-user.invariant ∙ by_name_is c.args.name.now c.args.self.now.users
 
