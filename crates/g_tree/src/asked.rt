@@ -113,14 +113,25 @@ impl<'a> Questions for Records<'a> {
     fn input_name(&self, who: &User, path: &Path) -> Full {
         match path.generation {
             Some(generation) => named(who, path, generation),
-            None => named(who, path, self.newest(who, path)),
+            None => {
+                let full = named(who, path, 0);
+                let generation = self.tree.newest(&full);
+                Full { generation, ..full }
+            }
         }
     }
 
     fn output_name(&self, who: &User, path: &Path) -> Full {
         match path.generation {
             Some(generation) => named(who, path, generation),
-            None => named(who, path, self.newest(who, path) + 1),
+            None => {
+                let full = named(who, path, 0);
+                let newest = self.tree.newest(&full);
+                Full {
+                    generation: newest + 1,
+                    ..full
+                }
+            }
         }
     }
 
