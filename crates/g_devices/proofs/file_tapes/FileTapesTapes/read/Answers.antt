@@ -2,7 +2,7 @@ use Rattle.std.proofs.Common.{◌≡◌, List, Some, None, subst, sym, ap, ◌�
 use Rattle.g_tape.specs.Reel.{Reel}
 use Rattle.g_tape.specs.Rack.{Rack, refuses_read}
 use Rattle.g_tape.specs.Place.{IsPlaceOf}
-use Rattle.g_tape.proofs.MemoryLemmas.{same-place}
+use Rattle.g_tape.proofs.RackLemmas.{same-place}
 use Rattle.g_devices.proofs.FileRack.{read_done}
 use Rattle.g_devices.proofs.file_tapes.FileTapesTapes.read.Goals as goal
 

@@ -3,8 +3,7 @@ use Rattle.g_base.proofs.FuseLemmas.{fused_failed, fused_well}
 use Rattle.g_tape.specs.Reel.{Reel}
 use Rattle.g_tape.specs.Rack.{Rack, refuses_write}
 use Rattle.g_tape.specs.Place.{IsPlaceOf}
-use Rattle.g_tape.proofs.MemoryLemmas.{same-place}
-use Rattle.g_tape.proofs.RackLemmas.{AreReels-set}
+use Rattle.g_tape.proofs.RackLemmas.{AreReels-set, same-place}
 use Rattle.g_devices.proofs.FileRack.{write_done, write_failed}
 use Rattle.g_devices.proofs.file_tapes.FileTapesTapes.write.Goals as goal
 
