@@ -64,7 +64,7 @@ GROWING = {
     "Fetch": over(["LISTFILE F1(1)"]),
     "Fetch of the newest": over(["LISTFILE F1"]),
     "APPEND": over(["APPEND E(1),F1(1)"]),
-    "RENAME": over(["RENAME F2(1),G2(1)", "RENAME G2(1),F2(1)"], 2),
+    "RENAME": over(["RENAME F2(1),G2", "RENAME G2(1),F2"], 2),
     "Put and ERASE of the last": over(["INPUT F1", "X", "////", "ERASE F1"]),
     "Put and ERASE of the first": over(["ERASE F0(1)", "INPUT F0(1)", "X", "////"]),
 }

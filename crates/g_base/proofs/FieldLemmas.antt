@@ -2,7 +2,9 @@
 -- equal fields have.
 use Rattle.std.proofs.Common.{◌≡◌, ℕ, ◌+◌, ◌-◌, ◌^◌, ◌<◌, ◌≤◌, List, [], ◌∷◌, ◌++◌, length, take, drop, replicate, refl, sym, ap, ◌∙◌, arith, length-append, length-set, length-take-le, take-append-drop}
 use Rattle.std.proofs.Math.ListN.{set}
-use Rattle.std.proofs.lemmas.List.{length-replicate, drop-set-lt, drop-drop, drop-replicate, take_at, drop_at, append-nil}
+use Rattle.std.proofs.lemmas.Slice.{drop-put_mid}
+use borrow.Rule.Slice.PartMut.{put_mid, mid_len, same_len_mid}
+use Rattle.std.proofs.lemmas.List.{length-replicate, drop-set-lt, drop-drop, drop-take, drop-replicate, replicate-append-replicate, take-replicate, take-take, take_at, drop_at, append-nil}
 use Rattle.byteorder.specs.Endian.{big_number}
 use Rattle.byteorder.specs.Numbers.{big_number-reads_back, length-bytes_high_first}
 use Rattle.g_base.specs.Fields.{number, padded, IsPartWritten}
@@ -24,6 +26,12 @@ pub zeros_behind : (at : ℕ) (block : List ℕ) (x : ℕ) → at < 512 → drop
 zeros_behind at block x below zeros =
     drop-set-lt (at + 1) block at x (omega arith) ∙ sym (drop-drop 1 at block) ∙ ap (drop 1) zeros ∙ drop-replicate 1 (512 - at) 0 ∙ ap (λ (n : ℕ). replicate {A = ℕ} n 0) (let e : 512 - at - 1 ≡ 512 - (at + 1) = omega arith in e)
 
+-- the zeros further behind
+pub zeros_further : (at count : ℕ) (block : List ℕ) → at + count ≤ 512 → drop at block ≡ replicate (512 - at) 0 → drop (at + count) block ≡ replicate (512 - (at + count)) 0
+zeros_further at count block fits zeros =
+    sym (drop-drop count at block) ∙ ap (drop count) zeros ∙ drop-replicate count (512 - at) 0
+    ∙ ap (λ (n : ℕ). replicate {A = ℕ} n 0) (let e : 512 - at - count ≡ 512 - (at + count) = omega arith in e)
+
 -- a writer's block keeps its form under one byte more
 pub one_more_byte : (at : ℕ) (block : List ℕ) (x : ℕ) → at < 512 → IsPartWritten at block → IsPartWritten (at + 1) (set block at x)
 one_more_byte at block x below was = record {
@@ -31,6 +39,55 @@ one_more_byte at block x below was = record {
   size = length-set block at x ∙ was.size;
   zeros = zeros_behind at block x below was.zeros;
 }
+
+-- and under more bytes, which are put in the place of as many zeros
+pub more_bytes : (at : ℕ) (block bytes now : List ℕ) → now ≡ bytes → at + length bytes ≤ 512 → IsPartWritten at block
+    → IsPartWritten (at + length bytes) (put_mid at (at + length bytes - at) block now)
+more_bytes at block bytes now is fits was =
+    let end = at + length bytes in
+    let size = was.size in
+    let long : length now ≡ end - at = let e = ap length is in omega (arith, e) in
+    let ends : drop end (put_mid at (end - at) block now) ≡ drop end block =
+    drop-put_mid at (end - at) block now end (omega arith) (omega (arith, size)) long in
+    record {
+      within = fits;
+      size = same_len_mid at (end - at) block now (long ∙ sym (mid_len at end block (omega (arith, size)))) ∙ size;
+      zeros = ends ∙ zeros_further at (length bytes) block fits was.zeros;
+    }
+
+-- and under more zeros, which stand there already
+pub more_zeros : (at count : ℕ) (block : List ℕ) → at + count ≤ 512 → IsPartWritten at block → IsPartWritten (at + count) block
+more_zeros at count block fits was = record {
+  within = fits;
+  size = was.size;
+  zeros = zeros_further at count block fits was.zeros;
+}
+
+-- what was put, with these zeros
+pub zeros_put : (at count : ℕ) (block : List ℕ) → at + count ≤ 512 → IsPartWritten at block → take (at + count) block ≡ take at block ++ replicate count 0
+zeros_put at count block fits was =
+    let split : take at block ++ drop at (take (at + count) block) ≡ take (at + count) block =
+    ap (λ (front : List ℕ). front ++ drop at (take (at + count) block)) (sym (take-take at (at + count) block (omega arith)))
+    ∙ take-append-drop at (take (at + count) block) in
+    sym split ∙ ap (λ (zeros : List ℕ). take at block ++ zeros)
+    (drop-take at count block ∙ ap (take count) was.zeros ∙ take-replicate count (512 - at) 0 (omega arith))
+
+-- a block whose front is zeros again has nothing put
+pub begun_again : (at : ℕ) (block front : List ℕ) → front ≡ replicate (length (take at block)) 0 → IsPartWritten at block → IsPartWritten 0 (front ++ drop at block)
+begun_again at block front is was =
+    let size = was.size in
+    let within = was.within in
+    let long : length (take at block) ≡ at = length-take-le at block (omega arith) in
+    let all : front ++ drop at block ≡ replicate 512 0 =
+    ap (λ (zeros : List ℕ). zeros ++ drop at block) (is ∙ ap (λ (n : ℕ). replicate {A = ℕ} n 0) long)
+    ∙ ap (λ (rest : List ℕ). replicate {A = ℕ} at 0 ++ rest) was.zeros
+    ∙ replicate-append-replicate at (512 - at) 0
+    ∙ ap (λ (n : ℕ). replicate {A = ℕ} n 0) (let e : at + (512 - at) ≡ 512 = omega (arith, within) in e) in
+    record {
+      within = omega arith;
+      size = ap length all ∙ length-replicate {A = ℕ} 512 0;
+      zeros = all;
+    }
 
 -- a writer's block is what was put, with zeros behind it
 pub block_is_padded : (at : ℕ) (block : List ℕ) → IsPartWritten at block → block ≡ padded 512 (take at block)

@@ -50,19 +50,17 @@ impl BlockWriter {
         requires { length self.old + length bytes.now ≤ 512 }
         ensures { self.new ≡ self.old ++ bytes.now }
     {
-        for x in bytes {
-            self.put_u8(*x);
-        }
+        let end = self.at + bytes.len();
+        self.block[self.at..end].copy_from_slice(bytes);
+        self.at = end;
     }
 
-    /// So many zeros.
+    /// So many zeros. They stand there already.
     pub fn put_zeros(&mut self, count: usize)
         requires { length self.old + count ≤ 512 }
         ensures { self.new ≡ self.old ++ replicate count 0 }
     {
-        for _zero in 0..count {
-            self.put_u8(0);
-        }
+        self.at += count;
     }
 
     /// A field of `width` bytes: the bytes, and zeros behind them.
@@ -126,5 +124,21 @@ impl BlockWriter {
         ensures { result ≡ padded 512 self }
     {
         self.block
+    }
+
+    /// The same by reference, so that no block moves.
+    pub fn block(&self) -> &Block
+        ensures { result.now ≡ padded 512 self.now }
+    {
+        &self.block
+    }
+
+    /// Begins another block in the place of this one.
+    pub fn restart(&mut self)
+        ensures { self.new ≡ [] }
+    {
+        // Behind the place nothing was put.
+        self.block[..self.at].fill(0);
+        self.at = 0;
     }
 }

@@ -1,5 +1,4 @@
 //! What can stand in the way of a copy.
-use g_base::NoMemory;
 use g_blocks::PoolFault;
 use std::alloc::AllocError;
 use thiserror::Error;
@@ -28,17 +27,6 @@ impl From<AllocError> for CopyFault {
     ghost from_gives = { λ _ e. e ≡ NoMemory };
 
     fn from(_e: AllocError) -> CopyFault {
-        CopyFault::NoMemory
-    }
-}
-
-impl From<NoMemory> for CopyFault {
-    ghost use Rattle.std.specs.Prelude.{◌≡◌};
-    ghost use Rattle.g_copy.specs.declared.fault.CopyFault.TheVariants.{NoMemory};
-
-    ghost from_gives = { λ _ e. e ≡ NoMemory };
-
-    fn from(_e: NoMemory) -> CopyFault {
         CopyFault::NoMemory
     }
 }

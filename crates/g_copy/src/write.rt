@@ -1,13 +1,12 @@
 //! Writes a text into the blocks of its copy.
-ghost use Rattle.std.specs.Prelude.{◌≡◌, ◌*◌, ◌^◌, ◌<◌, ◌≤◌, OnErr, OnOk, Err, drop, length, take};
-ghost use Rattle.g_base.specs.Fields.{padded};
+ghost use Rattle.std.specs.Prelude.{◌≡◌, ◌*◌, ◌^◌, ◌<◌, OnErr, OnOk, Err, drop, length, take};
 ghost use Rattle.g_base.specs.ToldContent.{Changes};
 ghost use Rattle.g_disc.specs.Disc.{WritesOnly};
 ghost use Rattle.g_copy.specs.Copy.{Holds, IsCopy, OnlyAt};
 
 use crate::copy::DiscCopy;
 use crate::fault::CopyFault;
-use g_base::Block;
+use g_base::BlockWriter;
 use g_disc::Disc;
 
 /// Writes the bytes into the blocks of the copy, with zeros behind the last of them. It takes no
@@ -25,9 +24,10 @@ pub fn write_copy<D: Disc>(disc: &mut D, copy: &DiscCopy, bytes: &[u8]) -> Resul
 {
     let _size = disc.size();
     let places = copy.blocks.as_slice();
+    let mut writer = BlockWriter::new();
     for (i, place) in places.iter().enumerate() {
-        let block = block_of(bytes, i);
-        match disc.write(*place, &block) {
+        put_part(&mut writer, bytes, i);
+        match disc.write(*place, writer.block()) {
             Ok(()) => {}
             Err(_) => return Err(CopyFault::Stopped),
         }
@@ -35,22 +35,13 @@ pub fn write_copy<D: Disc>(disc: &mut D, copy: &DiscCopy, bytes: &[u8]) -> Resul
     Ok(())
 }
 
-/// Block i of the bytes; zeros behind the last of them.
-fn block_of(bytes: &[u8], i: usize) -> Block
+/// Makes a writer hold the bytes of block i, in the place of what it held.
+fn put_part(writer: &mut BlockWriter, bytes: &[u8], i: usize)
     requires { i < 2 ^ 32 }
-    ensures { result ≡ padded 512 (take 512 (drop (512 * i) bytes.now)) }
+    ensures { writer.new ≡ take 512 (drop (512 * i) bytes.now) }
 {
     let start = (512 * i).min(bytes.len());
     let end = (start + 512).min(bytes.len());
-    padded_block(&bytes[start..end])
-}
-
-/// A block of these bytes, with zeros behind them.
-fn padded_block(bytes: &[u8]) -> Block
-    requires { length bytes.now ≤ 512 }
-    ensures { result ≡ padded 512 bytes.now }
-{
-    let mut block = [0; 512];
-    block[..bytes.len()].copy_from_slice(bytes);
-    block
+    writer.restart();
+    writer.put_bytes(&bytes[start..end]);
 }

@@ -15,6 +15,11 @@ use Rattle.g_tape.specs.Rack.{AreReels, Rack, Reading, Writing, refuses_read, re
 use Rattle.g_tape.specs.Place.{IsPlaceOf}
 use Rattle.g_tape.proofs.MemoryLemmas.{at-place}
 use Rattle.g_tape.proofs.RackLemmas.{with_reel-place}
+use Rattle.g_devices.specs.declared.file_tapes.FileTapes.{FileTapes}
+
+-- a rack over files, as every rack is seen
+abbrev pub rack_of : FileTapes → Rack
+rack_of t = record { reels = t.reels.items; read_faults = t.read_faults; write_faults = t.write_faults; fuse = t.fuse; arms = t.arms }
 
 -- a reel that tells no counts of reads is the same when it was read
 unread : (k : ℕ) (r : Reel) → r.times_read ≡ None → r ≡ read_at k r

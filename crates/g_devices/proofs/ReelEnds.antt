@@ -1,8 +1,10 @@
 -- A reel of which nothing is told, when it ends elsewhere.
-use Rattle.std.proofs.Common.{◌≡◌, ℕ, ◌+◌, List, [], ◌∷◌, ◌++◌, Option, Some, None, take, option_map, ap, sym, ◌∙◌, arith}
+use Rattle.std.proofs.Common.{◌≡◌, ℕ, ◌+◌, List, [], ◌∷◌, ◌++◌, Option, Some, None, take, option_map, ap, sym, ◌∙◌, subst}
+use Rattle.std.specs.Prelude.{replicate}
+use Rattle.g_base.proofs.BlockLemmas.{IsBlock-zeros}
 use Rattle.g_tape.specs.Reel.{IsReel, Reel, ending}
 use Rattle.g_tape.specs.Rack.{refuses_write}
-use Rattle.g_tape.proofs.ReelLemmas.{allowed-write}
+use Rattle.g_tape.proofs.ReelLemmas.{IsReel-ending}
 
 -- whatever its last block is, it is the same reel
 pub untold-ending : (k : ℕ) (block : List ℕ) (r : Reel) → r.blocks ≡ None → (let new : Reel = record r { len = k + 1 } in new) ≡ ending k block r
@@ -14,14 +16,4 @@ untold-ending k block r none =
 pub IsReel-untold : (k : ℕ) (r : Reel) → refuses_write k (Some r) ≡ None → r.blocks ≡ None → IsReel r
     → IsReel (let new : Reel = record r { len = k + 1 } in new)
 IsReel-untold k r allowed none kept =
-    let (on, under) = allowed-write k r allowed in
-    record {
-      numbered = kept.numbered;
-      numbered_most = kept.numbered_most;
-      sized = kept.sized;
-      sized_most = kept.sized_most;
-      within = omega arith;
-      told = λ bs is. absurd (cc);
-      whole = kept.whole;
-      counted = kept.counted;
-    }
+    subst IsReel (sym (untold-ending k (replicate 512 0) r none)) (IsReel-ending k (replicate 512 0) r allowed IsBlock-zeros kept)

@@ -27,8 +27,8 @@ fn is_alike(reel: &FileReel, other: &FileReel, lost: &[(u32, Twin)]) -> bool
     ensures { result ≡ true → AreTwins (standing_by reel.now.serial lost.now) reel.now other.now }
 {
     reel.tells_nothing();
-    let standing = standing_by(reel.serial(), lost);
-    reel.serial() == other.serial()
-        && reel.capacity() == other.capacity()
-        && (standing.is_lost() || reel.len() == other.len())
+    let standing = standing_by(reel.state().serial(), lost);
+    reel.state().serial() == other.state().serial()
+        && reel.state().capacity() == other.state().capacity()
+        && (standing.is_lost() || reel.state().len() == other.state().len())
 }

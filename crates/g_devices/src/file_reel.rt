@@ -1,6 +1,6 @@
 //! One reel in a file of whole blocks. It tells no content: only its length is known, as a number.
 ghost use Rattle.std.specs.Prelude.{◌≡◌, ℕ, ◌+◌, ◌^◌, ◌<◌, ◌≤◌, List, None, Some, false};
-ghost use Rattle.g_tape.specs.Rack.{refuses_read, refuses_unmount, refuses_write};
+ghost use Rattle.g_tape.specs.Rack.{refuses_write};
 ghost use Rattle.g_tape.specs.Reel.{IsReel, ending, untold_reel, with_mounted};
 
 use crate::ahead::ReadAhead;
@@ -8,7 +8,7 @@ use crate::blocks::start_of;
 use crate::names::{FileId, id_of};
 use crate::reach::Reach;
 use g_base::Block;
-use g_tape::{ReelState, TapeFault};
+use g_tape::ReelState;
 use std::fs::File;
 use std::io;
 use std::marker::Model;
@@ -58,49 +58,11 @@ impl FileReel {
         let _state = &self.state;
     }
 
-    pub fn serial(&self) -> u32
-        ensures { result ≡ self.now.serial }
+    /// What every reel has.
+    pub fn state(&self) -> &ReelState
+        ensures { result.now ≡ self.now }
     {
-        self.state.serial()
-    }
-
-    pub fn capacity(&self) -> u32
-        ensures { result ≡ self.now.capacity }
-    {
-        self.state.capacity()
-    }
-
-    pub fn len(&self) -> u32
-        ensures { result ≡ self.now.len }
-    {
-        self.state.len()
-    }
-
-    pub fn is_mounted(&self) -> bool
-        ensures { result ≡ self.now.mounted }
-    {
-        self.state.is_mounted()
-    }
-
-    /// Why an unmount is refused, if it is.
-    pub fn refuses_unmount(&self) -> Option<TapeFault>
-        ensures { result ≡ refuses_unmount (Some self.now) }
-    {
-        self.state.refuses_unmount()
-    }
-
-    /// Why a read of block k is refused, if it is.
-    pub fn refuses_read(&self, k: u32) -> Option<TapeFault>
-        ensures { result ≡ refuses_read k (Some self.now) }
-    {
-        self.state.refuses_read(k)
-    }
-
-    /// Why a write of block k is refused, if it is.
-    pub fn refuses_write(&self, k: u32) -> Option<TapeFault>
-        ensures { result ≡ refuses_write k (Some self.now) }
-    {
-        self.state.refuses_write(k)
+        &self.state
     }
 
     pub fn set_mounted(&mut self, mounted: bool)
@@ -114,7 +76,7 @@ impl FileReel {
     pub fn read(&self, ahead: &mut ReadAhead, k: u32, into: &mut Block) -> io::Result<()>
         ensures untold { (self.now.blocks ≡ None) × (self.now.times_read ≡ None) }
     {
-        ahead.read(&self.file, self.serial(), k, into)
+        ahead.read(&self.file, self.state.serial(), k, into)
     }
 
     /// Drops what stands from block k on, writes these bytes there and counts the block, also where this

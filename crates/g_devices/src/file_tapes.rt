@@ -79,26 +79,26 @@ impl Tapes for FileTapes {
     }
 
     fn serial(&self, i: usize) -> u32 {
-        self.reels[i].serial()
+        self.reels[i].state().serial()
     }
 
     fn mounted(&self, serial: u32) -> bool {
         match place_of(&self.reels, serial) {
-            Some(place) => self.reels[place].is_mounted(),
+            Some(place) => self.reels[place].state().is_mounted(),
             None => false,
         }
     }
 
     fn capacity(&self, serial: u32) -> Result<u32, TapeFault> {
         match place_of(&self.reels, serial) {
-            Some(place) => Ok(self.reels[place].capacity()),
+            Some(place) => Ok(self.reels[place].state().capacity()),
             None => Err(TapeFault::NoTape),
         }
     }
 
     fn length(&self, serial: u32) -> Result<u32, TapeFault> {
         match place_of(&self.reels, serial) {
-            Some(place) => Ok(self.reels[place].len()),
+            Some(place) => Ok(self.reels[place].state().len()),
             None => Err(TapeFault::NoTape),
         }
     }
@@ -116,7 +116,7 @@ impl Tapes for FileTapes {
         let Some(place) = place_of(&self.reels, serial) else {
             return Err(TapeFault::NoTape);
         };
-        if let Some(fault) = self.reels[place].refuses_unmount() {
+        if let Some(fault) = self.reels[place].state().refuses_unmount() {
             return Err(fault);
         }
         self.reels[place].unmount(self.was_read);
@@ -127,7 +127,7 @@ impl Tapes for FileTapes {
         let Some(place) = place_of(&self.reels, serial) else {
             return Err(TapeFault::NoTape);
         };
-        if let Some(fault) = self.reels[place].refuses_read(k) {
+        if let Some(fault) = self.reels[place].state().refuses_read(k) {
             return Err(fault);
         }
         self.was_read = true;
@@ -145,7 +145,7 @@ impl Tapes for FileTapes {
         let Some(place) = place_of(&self.reels, serial) else {
             return Err(TapeFault::NoTape);
         };
-        if let Some(fault) = self.reels[place].refuses_write(k) {
+        if let Some(fault) = self.reels[place].state().refuses_write(k) {
             return Err(fault);
         }
         self.ahead.forget(k);
@@ -178,7 +178,7 @@ fn place_of(reels: &[FileReel], serial: u32) -> Option<usize>
     ensures { MatchOption result (reel serial reels.now ≡ None) (IsPlaceOf serial reels.now) }
 {
     for (i, reel) in reels.iter().enumerate() {
-        if reel.serial() == serial {
+        if reel.state().serial() == serial {
             return Some(i);
         }
     }

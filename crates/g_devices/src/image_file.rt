@@ -87,7 +87,9 @@ impl ImageFile {
         if k == GATE {
             return self.put(k, block);
         }
-        self.settle()?;
+        if !self.settled {
+            self.settle()?;
+        }
         if !self.held.push(k, block) {
             self.release()?;
             let _first = self.held.push(k, block);
@@ -98,12 +100,18 @@ impl ImageFile {
     /// Writes these bytes at block k, behind all that is held. The gate, block 0, makes a commit: all that was written before
     /// it is on the device before it, and it is there before all that comes behind it.
     pub fn put(&mut self, k: u32, bytes: &[u8]) -> io::Result<()> {
-        self.settle()?;
-        self.release()?;
+        if !self.settled {
+            self.settle()?;
+        }
+        if !self.held.is_empty() {
+            self.release()?;
+        }
         if k != GATE {
             return self.write_at(k, bytes);
         }
-        self.bring()?;
+        if self.reach != Reach::There {
+            self.bring()?;
+        }
         self.settled = false;
         self.write_at(GATE, bytes)?;
         self.bring()?;
@@ -114,9 +122,6 @@ impl ImageFile {
     /// Brings the gate to the device, before the first write and behind a gate whose sync failed. The system may take
     /// what such a sync didn't bring there for brought, so it is written once more.
     fn settle(&mut self) -> io::Result<()> {
-        if self.settled {
-            return Ok(());
-        }
         let mut gate = [0; 512];
         self.file.read_exact_at(&mut gate, start_of(GATE))?;
         self.write_at(GATE, &gate)?;
@@ -127,9 +132,6 @@ impl ImageFile {
 
     /// Writes what is held to the file; nothing is held then, also where this fails.
     fn release(&mut self) -> io::Result<()> {
-        if self.held.is_empty() {
-            return Ok(());
-        }
         self.ahead.forget(0);
         self.reach = Reach::Behind;
         let written = self.held.write(&self.file);
@@ -144,12 +146,10 @@ impl ImageFile {
         self.file.write_all_at(bytes, start_of(k))
     }
 
-    /// Brings what was written to the device, where anything was since it was brought there last.
+    /// Brings what was written to the device.
     fn bring(&mut self) -> io::Result<()> {
-        if self.reach != Reach::There {
-            self.file.sync_data()?;
-            self.reach = Reach::There;
-        }
+        self.file.sync_data()?;
+        self.reach = Reach::There;
         Ok(())
     }
 

@@ -123,7 +123,7 @@ fn open_twins(
     if hold_same(rt, &reel, &other)? {
         return Ok((reel, other, None));
     }
-    if reel.len() == 0 {
+    if reel.state().len() == 0 {
         let again = open_again(rt, first, serial)?;
         return Ok((again, other, Some(Twin::First)));
     }
@@ -159,12 +159,12 @@ fn open_again(rt: &HostRuntime, folder: &str, serial: Serial) -> io::Result<File
 
 /// Whether two reels hold the same blocks.
 fn hold_same(rt: &HostRuntime, reel: &FileReel, other: &FileReel) -> io::Result<bool> {
-    if reel.len() != other.len() {
+    if reel.state().len() != other.state().len() {
         return Ok(false);
     }
     let mut ahead = ReadAhead::new(rt.alloc())?;
     let mut ahead_beside = ReadAhead::new(rt.alloc())?;
-    for k in 0..reel.len() {
+    for k in 0..reel.state().len() {
         let mut block = [0; 512];
         let mut beside = [0; 512];
         reel.read(&mut ahead, k, &mut block)?;

@@ -128,7 +128,7 @@ pub(crate) fn put_behind(reels: &mut Vec<FileReel>, reel: FileReel) -> io::Resul
     ensures rack { OnOk result (AreReels reels.new.items) }
     ensures behind { OnOk result (reels.new.items ≡ reels.old.items ++ reel ∷ []) }
 {
-    if reels.len() >= MAX_REELS || !is_above(reel.serial(), reels) {
+    if reels.len() >= MAX_REELS || !is_above(reel.state().serial(), reels) {
         return Err(Error::from(ErrorKind::InvalidData));
     }
     reels.push(reel)?;
@@ -139,5 +139,5 @@ pub(crate) fn put_behind(reels: &mut Vec<FileReel>, reel: FileReel) -> io::Resul
 fn is_above(serial: u32, reels: &[FileReel]) -> bool
     ensures { IsTrue result ↔ All (λ reel. reel.serial < serial) reels.now }
 {
-    reels.iter().all(|reel| reel.serial() < serial)
+    reels.iter().all(|reel| reel.state().serial() < serial)
 }

@@ -1,11 +1,11 @@
 -- Marks that are taken off.
-use Rattle.std.proofs.Common.{◌≡◌, ℕ, ◌+◌, ◌-◌, ◌*◌, ◌/◌, ◌%◌, ◌<◌, ◌≤◌, List, ◌++◌, Bool, true, false, Some, length, take, drop, slice_get, get_or, replicate, ap, subst, sym, ◌∙◌, inl, inr, arith, length-drop, length-set}
+use Rattle.std.proofs.Common.{◌≡◌, ◌⊎◌, ℕ, ◌+◌, ◌-◌, ◌*◌, ◌/◌, ◌%◌, ◌<◌, ◌≤◌, List, ◌++◌, Bool, true, false, Some, length, take, drop, slice_get, get_or, replicate, ap, subst, sym, ◌∙◌, inl, inr, arith, length-drop, length-set}
 use Rattle.std.proofs.Math.ListN.{set}
 use Rattle.std.proofs.lemmas.Bool.{cases_eq, cases_lt}
 use Rattle.std.proofs.lemmas.List.{ext_get_or, get_or-drop, get_or-replicate, get_or-set_same, length-replicate, length-take-le, replicate-append-replicate, take-append-le, take_all}
 use Rattle.std.proofs.lemmas.Option.{get_or_from_slice_get, slice_get-get_or}
 use Rattle.g_copy.proofs.Blocks.{slice_get-set_other}
-use Rattle.g_dirs.specs.Marks.{AreNoted, IsBehind}
+use Rattle.g_dirs.specs.Marks.{AreNoted, AreOffBefore, IsBehind}
 
 -- no mark stands from `end` on, and those before are taken off
 pub unmarked : (end : ℕ) (blocks front : List Bool) → front ≡ replicate (length (take end blocks)) false → end ≤ length blocks
@@ -85,6 +85,43 @@ behind_group noted marks k within are whole off =
           let same : k / 32 ≡ j / 32 = omega (arith, least, less, first) in
           are.each j (omega (arith, within, first, less)) (subst (λ (g : ℕ). slice_get noted g ≡ Some false) same off);
     }
+
+pub behind_low : (marks : List Bool) (low k : ℕ) → AreOffBefore low marks → k + 1 < low → slice_get marks k ≡ Some false → IsBehind marks k low
+behind_low marks low k are before off = record {
+  later = omega (arith, before);
+  within = are.within;
+  passed = λ j least less.
+      elim (cases_lt k j) [
+        | inl more ↦ are.off j (omega (arith, more)) less
+        | inr back ↦ let same : k ≡ j = omega (arith, least, back) in subst (λ (i : ℕ). slice_get marks i ≡ Some false) same off
+      ];
+}
+
+-- THE FIRST MARK behind block 0
+pub off_set : (marks : List Bool) (low k next : ℕ) → AreOffBefore low marks → next ≤ low → (next ≤ k) ⊎ (k ≡ 0) → AreOffBefore next (set marks k true)
+off_set marks low k next are less here = record {
+  within = let most = are.within in omega (arith, most, less);
+  off = λ i first below.
+      slice_get-set_other marks k i true (λ (is : i ≡ k). elim here [
+        | inl under ↦ let no : ⊥ = omega (arith, under, below, is) in absurd no
+        | inr zero_is ↦ let no : ⊥ = omega (arith, first, is, zero_is) in absurd no
+      ])
+      ∙ are.off i first (omega (arith, below, less));
+}
+
+pub off_none : (marks : List Bool) → marks ≡ replicate 1088 false → AreOffBefore 1088 marks
+off_none marks is = record {
+  within = omega arith;
+  off = λ i first below.
+      let long : length marks ≡ 1088 = ap length is ∙ length-replicate 1088 false in
+      slice_get-get_or marks i false (omega (arith, below, long)) ∙ ap Some (ap (λ (l : List Bool). get_or l i false) is ∙ get_or-replicate 1088 i false false below);
+}
+
+pub off_first : (marks : List Bool) → AreOffBefore 0 marks
+off_first marks = record {
+  within = omega arith;
+  off = λ i first below. let no : ⊥ = omega (arith, below) in absurd no;
+}
 
 pub passed_on : (marks : List Bool) (k j next : ℕ) → k ≤ j → ((i : ℕ) → k ≤ i → i < j → slice_get marks i ≡ Some false) → IsBehind marks j next
     → (k ≤ next) × (next ≤ 1088) × ((i : ℕ) → k ≤ i → i < next → slice_get marks i ≡ Some false)

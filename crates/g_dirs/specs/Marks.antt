@@ -13,6 +13,11 @@ pub record AreNoted (noted marks : List Bool) : Type 0 where
   pub size : length noted ≡ 34
   pub each : (i : ℕ) → i < 1088 → slice_get noted (i / 32) ≡ Some false → slice_get marks i ≡ Some false
 
+-- no block between block 0 and this one is marked
+pub record AreOffBefore (low : ℕ) (marks : List Bool) : Type 0 where
+  pub within : low ≤ 1088
+  pub off : (i : ℕ) → 0 < i → i < low → slice_get marks i ≡ Some false
+
 -- the next place where a mark may stand, and what was passed to it
 pub record IsBehind (marks : List Bool) (k next : ℕ) : Type 0 where
   pub later : k < next

@@ -1,7 +1,6 @@
 //! What can stand in the way of a directory.
 use g_base::NoMemory;
 use g_slots::SlotFault;
-use std::alloc::AllocError;
 use thiserror::Error;
 
 /// Why a directory was not read or not written.
@@ -19,17 +18,6 @@ pub enum DirsFault {
     /// The memory was refused.
     #[error("out of memory")]
     NoMemory,
-}
-
-impl From<AllocError> for DirsFault {
-    ghost use Rattle.std.specs.Prelude.{◌≡◌};
-    ghost use Rattle.g_dirs.specs.declared.fault.DirsFault.TheVariants.{NoMemory};
-
-    ghost from_gives = { λ _ e. e ≡ NoMemory };
-
-    fn from(_e: AllocError) -> DirsFault {
-        DirsFault::NoMemory
-    }
 }
 
 impl From<NoMemory> for DirsFault {

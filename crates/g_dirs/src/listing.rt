@@ -1,6 +1,7 @@
 //! A directory over lists that stand elsewhere, and its blocks by their numbers.
-ghost use Rattle.std.specs.Prelude.{◌≡◌, ◌<◌, ◌==◌, All, AllPairs, find, slice_get};
+ghost use Rattle.std.specs.Prelude.{◌≡◌, ◌<◌, ◌==◌, [], All, AllPairs, find, slice_get};
 ghost use Rattle.std.specs.Option.{option_copied, option_map};
+ghost use Rattle.g_base.specs.Fields.{padded};
 ghost use Rattle.g_entry.specs.Rules.{AreNumbered};
 ghost use Rattle.g_entry.specs.UserFields.{IsUser};
 ghost use Rattle.g_dirs.specs.Directory.{AreCopies, copy_at, directory_of, entries_of};
@@ -8,11 +9,8 @@ ghost use Rattle.g_dirs.specs.Image.{block_of, entry_at, file_or_empty, user_or_
 ghost use Rattle.g_dirs.specs.Writing.{AreEncodable, IsEncodable, number_of_file};
 
 use crate::{FileCopy, place_of_copy};
-use g_base::{Block, BlockList};
-use g_entry::{
-    BoxedRec, FileRec, Format, Head, UserRec, empty_block, encode_file, encode_head, encode_user,
-    place_of,
-};
+use g_base::{Block, BlockList, BlockWriter};
+use g_entry::{BoxedRec, FileRec, Format, Head, UserRec, place_of, put_file, put_head, put_user};
 use std::marker::Model;
 
 /// A directory that is borrowed: the head, the users and the files in order of number, and by file number the copies on
@@ -60,55 +58,73 @@ impl<'a> Listing<'a> {
         requires directory { IsEncodable self.now }
         ensures { result ≡ block_of Format.Two self.now k }
     {
-        slot_block(self.head, self.users, self.files, self.online, k)
+        let mut writer = BlockWriter::new();
+        self.put_block(&mut writer, k);
+        writer.finish()
+    }
+
+    /// Makes a writer hold block `k` of the slot, in the place of what it held.
+    pub(crate) fn put_block(&self, writer: &mut BlockWriter, k: u32)
+        requires place { k < 1088 }
+        requires directory { IsEncodable self.now }
+        ensures { padded 512 writer.new ≡ block_of Format.Two self.now k }
+    {
+        writer.restart();
+        put_slot_block(writer, self.head, self.users, self.files, self.online, k);
     }
 }
 
-/// Block `k` of the slot of these lists.
+/// Puts block `k` of the slot of these lists into a writer that has nothing yet.
 #[tactic(auto, unfolding(crate::specs::Image::block_of))]
-fn slot_block(
+fn put_slot_block(
+    writer: &mut BlockWriter,
     head: &Head,
     users: &[UserRec],
     files: &[BoxedRec],
     online: &[FileCopy],
     k: u32,
-) -> Block
+)
+    requires empty { writer.old ≡ [] }
     requires place { k < 1088 }
     requires directory { IsEncodable (directory_of head.now users.now files.now online.now) }
     requires copies { AreCopies files.now online.now }
-    ensures { result ≡ block_of Format.Two (directory_of head.now users.now files.now online.now) k }
+    ensures { padded 512 writer.new ≡ block_of Format.Two (directory_of head.now users.now files.now online.now) k }
 {
     if k == 0 {
-        return encode_head(head);
+        put_head(writer, Format::Two, head);
+        return;
     }
     if k < 64 {
-        return user_block(users, k as usize - 1);
+        put_user_block(writer, users, k as usize - 1);
+        return;
     }
-    file_block(files, online, k as u16 - 64)
+    put_file_block(writer, files, online, k as u16 - 64);
 }
 
-/// The block of user `number`, zeros where it is unused.
+/// The block of user `number`; nothing, which stands for zeros, where it is unused.
 #[tactic(auto, unfolding(crate::specs::Image::user_or_empty))]
-fn user_block(users: &[UserRec], number: usize) -> Block
-    requires { All (IsUser Format.Two) users.now }
-    ensures { result ≡ user_or_empty Format.Two (slice_get users.now number) }
+fn put_user_block(writer: &mut BlockWriter, users: &[UserRec], number: usize)
+    requires empty { writer.old ≡ [] }
+    requires users { All (IsUser Format.Two) users.now }
+    ensures { padded 512 writer.new ≡ user_or_empty Format.Two (slice_get users.now number) }
 {
     match users.get(number) {
-        Some(user) => encode_user(user),
-        None => empty_block(),
+        Some(user) => put_user(writer, Format::Two, user, false),
+        None => {}
     }
 }
 
-/// The block of file `number`, zeros where it is unused.
-fn file_block(files: &[BoxedRec], online: &[FileCopy], number: u16) -> Block
+/// The block of file `number`; nothing, which stands for zeros, where it is unused.
+fn put_file_block(writer: &mut BlockWriter, files: &[BoxedRec], online: &[FileCopy], number: u16)
+    requires empty { writer.old ≡ [] }
     requires files { AreEncodable files.now online.now }
     requires copies { AreCopies files.now online.now }
-    ensures { result ≡ file_or_empty Format.Two (entry_at (entries_of files.now online.now) number) }
+    ensures { padded 512 writer.new ≡ file_or_empty Format.Two (entry_at (entries_of files.now online.now) number) }
 {
     let places = places_of(online, number);
     match file_of(files, number) {
-        Some(rec) => encode_file(rec, places),
-        None => empty_block(),
+        Some(rec) => put_file(writer, Format::Two, rec, places),
+        None => {}
     }
 }
 

@@ -1,5 +1,5 @@
 //! A mark at each block of a slot that may have to be written.
-ghost use Rattle.std.specs.Prelude.{◌≡◌, ℕ, ◌<◌, ◌≤◌, IfOk, Some, false, length, replicate, slice_get, slice_set, true};
+ghost use Rattle.std.specs.Prelude.{◌≡◌, ◌⊎◌, ℕ, ◌<◌, ◌≤◌, IfOk, Some, false, length, replicate, slice_get, slice_set, true};
 ghost use Rattle.g_dirs.specs.Marks.{IsBehind, IsNext};
 
 use g_base::{NoMemory, SLOT_BLOCKS};
@@ -17,13 +17,15 @@ pub(crate) struct Marks {
     blocks: Vec<bool>,
     /// Whether any block of a group may be marked, so that a look for marks passes the others whole.
     noted: Vec<bool>,
+    /// Between block 0 and this one no block is marked: a commit marks block 0, and often one other.
+    low: u32,
     /// From here on no block is marked, so that a look for marks ends here.
     end: u32,
 }
 
 impl Model for Marks {
     ghost use Rattle.std.specs.Prelude.{◌≡◌, ◌≤◌, ◌<◌, ℕ, Bool, List, Some, false, slice_get, vec_len};
-    ghost use Rattle.g_dirs.specs.Marks.{AreNoted};
+    ghost use Rattle.g_dirs.specs.Marks.{AreNoted, AreOffBefore};
 
     ghost Value = { List Bool };
 
@@ -31,6 +33,7 @@ impl Model for Marks {
 
     ghost invariant = { λ m. (vec_len m.blocks ≡ 1088) × (m.end ≤ 1088)
         × ((i : ℕ) → m.end ≤ i → i < 1088 → slice_get m.blocks.items i ≡ Some false)
+        × AreOffBefore m.low m.blocks.items
         × AreNoted m.noted.items m.blocks.items };
 }
 
@@ -45,38 +48,44 @@ impl Marks {
         Ok(Marks {
             blocks,
             noted,
+            low: 0,
             end: SLOT_BLOCKS,
         })
     }
 
     /// Marks block `k`.
-    #[tactic(auto, using(crate::proofs::MarkLemmas::noted_set))]
+    #[tactic(auto, using(crate::proofs::MarkLemmas::noted_set, crate::proofs::MarkLemmas::off_set))]
     pub(crate) fn set(&mut self, k: u32)
         requires { k < 1088 }
         ensures { self.new ≡ slice_set self.old k true }
     {
         self.blocks[k as usize] = true;
         self.noted[(k / GROUP) as usize] = true;
+        self.low = lowered(self.low, k);
         if self.end <= k {
             self.end = k + 1;
         }
     }
 
     /// Marks all blocks.
+    #[tactic(auto, using(crate::proofs::MarkLemmas::off_first))]
     pub(crate) fn set_all(&mut self)
         ensures { self.new ≡ replicate 1088 true }
     {
         self.blocks.fill(true);
         self.noted.fill(true);
+        self.low = 0;
         self.end = SLOT_BLOCKS;
     }
 
     /// Takes all marks off.
+    #[tactic(auto, using(crate::proofs::MarkLemmas::off_none))]
     pub(crate) fn clear(&mut self)
         ensures { self.new ≡ replicate 1088 false }
     {
         unmark(&mut self.blocks, self.end as usize);
         self.noted.fill(false);
+        self.low = SLOT_BLOCKS;
         self.end = 0;
     }
 
@@ -96,13 +105,17 @@ impl Marks {
         1088
     }
 
-    /// The block behind this one, which isn't marked; behind its group, where it is the first of one without a note.
-    #[tactic(auto, using(crate::proofs::MarkLemmas::behind_one, crate::proofs::MarkLemmas::behind_group))]
+    /// The block behind this one, which isn't marked; behind its group, where it is the first of one without a note; the first
+    /// that may be marked, where that is further on.
+    #[tactic(auto, using(crate::proofs::MarkLemmas::behind_one, crate::proofs::MarkLemmas::behind_group, crate::proofs::MarkLemmas::behind_low))]
     fn behind(&self, j: u32) -> u32
         requires within { j < 1088 }
         requires unmarked { slice_get self.now j ≡ Some false }
         ensures { IsBehind self.now j result }
     {
+        if j + 1 < self.low {
+            return self.low;
+        }
         if j % GROUP != 0 {
             return j + 1;
         }
@@ -111,6 +124,14 @@ impl Marks {
         }
         j + GROUP
     }
+}
+
+/// The first block behind block 0 that may be marked, where block `k` is marked too.
+fn lowered(low: u32, k: u32) -> u32
+    ensures here { (result ≤ k) ⊎ (k ≡ 0) }
+    ensures less { result ≤ low }
+{
+    if k == 0 { low } else { low.min(k) }
 }
 
 /// Takes the marks off that stand before `end`, behind which there are none.

@@ -11,7 +11,7 @@ ghost use Rattle.g_dirs.specs.Pages.{Covers, KeepsMarks, Remembers, RemembersAll
 ghost use Rattle.g_dirs.specs.Writing.{WroteFirst};
 
 use crate::{DirsFault, Listing, Pages};
-use g_base::Block;
+use g_base::{Block, BlockWriter};
 use g_disc::Disc;
 use g_entry::Format;
 use g_slots::Slots;
@@ -120,11 +120,13 @@ fn fill<D: Disc>(
 {
     let _size = disc.size();
     let side = slots.side().other();
+    // All blocks are made in one place, from where they are compared and written.
+    let mut writer = BlockWriter::new();
     let mut k = last.next_marked(side, 0);
     while k < 1088 {
-        let block = listing.block(k);
+        listing.put_block(&mut writer, k);
         // In a loop the proof reads the arms of a `match`, and not what `?` returns.
-        match write_page(disc, slots, k, &block, last) {
+        match write_page(disc, slots, k, writer.block(), last) {
             Ok(()) => {}
             Err(fault) => return Err(fault),
         }

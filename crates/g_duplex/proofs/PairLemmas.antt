@@ -7,6 +7,7 @@ use Rattle.g_tape.specs.Rack.{reel, with_reel}
 use Rattle.g_duplex.specs.Twins.{AreTwins, pair_reel}
 use Rattle.g_duplex.specs.Pair.{ArePaired, pair_reels, standing, with_standing}
 use Rattle.g_duplex.specs.declared.twin.Standing.{Standing}
+use Rattle.g_duplex.proofs.PlaceLemmas.{standing_none}
 
 -- the twins of serial s
 pub record AreAt (s : ℕ) (t : Standing) (a b : Reel) (ts : List Standing) (xs ys : List Reel) : Type 0 where
@@ -83,21 +84,15 @@ at_of s a (u ∷ ts) (c ∷ xs) (d ∷ ys) (twins, rest) is =
 -- and so is one whose standing is known
 pub at_standing : (s : ℕ) (t : Standing) (ts : List Standing) (xs ys : List Reel) → ArePaired ts xs ys → standing s xs ts ≡ Some t
     → (a : Reel) × (b : Reel) × AreTwins t a b × AreAt s t a b ts xs ys
-at_standing s t ts [] ys paired is = let never : None ≡ Some t = is in absurd (cc)
-at_standing s t [] (c ∷ xs) ys paired is = absurd paired
-at_standing s t (u ∷ ts) (c ∷ xs) [] paired is = absurd paired
-at_standing s t (u ∷ ts) (c ∷ xs) (d ∷ ys) (twins, rest) is =
-    elim (eqb_tells s c.serial) [
-      | inl here ↦
-          let here' : (s == d.serial) ≡ true = eq-eqb s d.serial (here.1 ∙ twins.serial) in
-          let same : Some u ≡ Some t = rw here.0 at is in
-          let one : u ≡ t = cc in
-          (c, d, subst (λ (x : Standing). AreTwins x c d) one twins, record { standing = rw here.0 same; first = rw here.0 refl; second = rw here' refl })
-      | inr apart ↦
-          let apart' : (s == d.serial) ≡ false = ne_eqb s d.serial (λ e. apart.1 (e ∙ sym twins.serial)) in
-          let (a, b, are, at) = at_standing s t ts xs ys rest (rw apart.0 at is) in
-          (a, b, are, record { standing = rw apart.0 at.standing; first = rw apart.0 at.first; second = rw apart' at.second })
-    ]
+at_standing s t ts xs ys paired is = by_reel (reel s xs) refl
+  where
+    by_reel : (o : Option Reel) → reel s xs ≡ o → (a : Reel) × (b : Reel) × AreTwins t a b × AreAt s t a b ts xs ys
+    by_reel None none = let never : None ≡ Some t = sym (standing_none s xs ts none) ∙ is in absurd (cc)
+    by_reel (Some a) there =
+        let (u, b, twins, at) = at_of s a ts xs ys paired there in
+        let both : Some u ≡ Some t = sym at.standing ∙ is in
+        let same : u ≡ t = cc in
+        (a, b, subst (λ (x : Standing). AreTwins x a b) same twins, subst (λ (x : Standing). AreAt s x a b ts xs ys) same at)
 
 -- twins stay twins where those of one serial do
 pub paired_changed : (s : ℕ) (g h : Reel → Reel) (c : Standing → Standing) (ts : List Standing) (xs ys : List Reel) → ArePaired ts xs ys

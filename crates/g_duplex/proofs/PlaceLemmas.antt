@@ -31,6 +31,13 @@ long_standings (t ∷ ts) [] ys paired = absurd paired
 long_standings (t ∷ ts) (a ∷ xs) [] paired = absurd paired
 long_standings (t ∷ ts) (a ∷ xs) (b ∷ ys) (twins, rest) = ap suc (long_standings ts xs ys rest)
 
+-- the place of a serial is one of the standings' too
+pub first_within : (s : ℕ) (ts : List Standing) (xs ys : List Reel) (i : ℕ) → ArePaired ts xs ys → IsFirst s xs i → i < length ts
+first_within s ts xs ys i paired first =
+    let within = first.within in
+    let long = long_standings ts xs ys paired in
+    omega (arith, within, long)
+
 -- the standing at the place of a reel
 standing_there : (s : ℕ) (xs : List Reel) (ts : List Standing) (i : ℕ) (d : Standing) → i < length xs → ((e : Reel) → (get_or xs i e).serial ≡ s)
     → ((k : ℕ) (e : Reel) → k < i → (get_or xs k e).serial ≡ s → ⊥) → length ts ≡ length xs → standing s xs ts ≡ Some (get_or ts i d)

@@ -242,18 +242,17 @@ pair_reads s k p t first' second' result into paired stands free asked =
       refused = λ fault is. absurd (let never : None ≡ Some fault = sym free ∙ is in cc);
     }
 
+-- what holds of each refusal holds of one
+pub by_refusal : (P : TapeFault → Type 0) (fault : TapeFault) → (fault ≡ NoTape) ⊎ (fault ≡ NotMounted) ⊎ (fault ≡ End) → P NoTape → P NotMounted → P End → P fault
+by_refusal P fault (inl is) no_tape not_mounted end = subst P (sym is) no_tape
+by_refusal P fault (inr (inl is)) no_tape not_mounted end = subst P (sym is) not_mounted
+by_refusal P fault (inr (inr is)) no_tape not_mounted end = subst P (sym is) end
+
 -- a read that is refused
 refused_reading : (s k : ℕ) (p : Rack) (fault : TapeFault) (into : List ℕ) → (fault ≡ NoTape) ⊎ (fault ≡ NotMounted) ⊎ (fault ≡ End) → refuses_read k (reel s p.reels) ≡ Some fault
     → Reading s k p (Err fault) into p
-refused_reading s k p NoTape into of is = (is, refl)
-refused_reading s k p NotMounted into of is = (is, refl)
-refused_reading s k p End into of is = (is, refl)
-refused_reading s k p ReadFailed into (inl e) is = absurd (cc)
-refused_reading s k p ReadFailed into (inr (inl e)) is = absurd (cc)
-refused_reading s k p ReadFailed into (inr (inr e)) is = absurd (cc)
-refused_reading s k p WriteFailed into (inl e) is = absurd (cc)
-refused_reading s k p WriteFailed into (inr (inl e)) is = absurd (cc)
-refused_reading s k p WriteFailed into (inr (inr e)) is = absurd (cc)
+refused_reading s k p fault into of =
+    by_refusal (λ (f : TapeFault). refuses_read k (reel s p.reels) ≡ Some f → Reading s k p (Err f) into p) fault of (λ is. (is, refl)) (λ is. (is, refl)) (λ is. (is, refl))
 
 pub pair_refuses_read : (s k : ℕ) (p : Pair) (fault : TapeFault) (into : List ℕ) → refuses_read k (reel s (shown p).reels) ≡ Some fault → PairReads s k p (Err fault) into p
 pair_refuses_read s k p fault into is = record {

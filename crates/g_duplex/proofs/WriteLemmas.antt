@@ -19,7 +19,7 @@ use Rattle.g_duplex.proofs.KeepLemmas.{agree_both, agree_failed}
 use Rattle.g_duplex.proofs.LossLemmas.{told-first}
 use Rattle.g_duplex.proofs.PlaceLemmas.{eq_from}
 use Rattle.g_duplex.proofs.PairLemmas.{AreAt, at_standing, pair_changed, paired_changed, same_reels, seen_at}
-use Rattle.g_duplex.proofs.ReadLemmas.{first_of, leader_at, leader_up, one_standing, other_at, second_of}
+use Rattle.g_duplex.proofs.ReadLemmas.{first_of, leader_at, leader_up, one_standing, other_at, second_of, by_refusal}
 
 abbrev Blocks : Type 0
 Blocks = List (List ℕ)
@@ -376,15 +376,8 @@ pair_writes s k block p t first' second' result after are are' paired stands fre
 -- a write that is refused
 refused_writing : (s k : ℕ) (block : List ℕ) (p : Rack) (fault : TapeFault) → (fault ≡ NoTape) ⊎ (fault ≡ NotMounted) ⊎ (fault ≡ End) → refuses_write k (reel s p.reels) ≡ Some fault
     → Writing s k block p (Err fault) p
-refused_writing s k block p NoTape of is = (is, refl)
-refused_writing s k block p NotMounted of is = (is, refl)
-refused_writing s k block p End of is = (is, refl)
-refused_writing s k block p ReadFailed (inl e) is = absurd (cc)
-refused_writing s k block p ReadFailed (inr (inl e)) is = absurd (cc)
-refused_writing s k block p ReadFailed (inr (inr e)) is = absurd (cc)
-refused_writing s k block p WriteFailed (inl e) is = absurd (cc)
-refused_writing s k block p WriteFailed (inr (inl e)) is = absurd (cc)
-refused_writing s k block p WriteFailed (inr (inr e)) is = absurd (cc)
+refused_writing s k block p fault of =
+    by_refusal (λ (f : TapeFault). refuses_write k (reel s p.reels) ≡ Some f → Writing s k block p (Err f) p) fault of (λ is. (is, refl)) (λ is. (is, refl)) (λ is. (is, refl))
 
 pub pair_refuses_write : (s k : ℕ) (block : List ℕ) (p : Pair) (fault : TapeFault) → refuses_write k (reel s (shown p).reels) ≡ Some fault → PairWrites s k block p (Err fault) p
 pair_refuses_write s k block p fault is = record {

@@ -3,7 +3,7 @@ ghost use Rattle.std.specs.Prelude.{◌≡◌, ◌≤◌, ◌==◌, ◌↔◌, [
 ghost use Rattle.std.specs.List.{list_all};
 ghost use Rattle.std.specs.Option.{option_copied};
 ghost use Rattle.g_trap.specs.TrapList.{IsOthers};
-ghost use Rattle.g_entry.specs.FileFields.{IsFile, IsCopy, AreSets, ArePlaces, lacks, file_block, on_tape, online_fields};
+ghost use Rattle.g_entry.specs.FileFields.{IsFile, IsCopy, AreSets, ArePlaces, lacks, file_block, file_fields, on_tape, online_fields};
 ghost use Rattle.g_entry.specs.Formats.{is_place};
 
 use crate::compare::{both, next_bytes_equal, rec_comes, zeros_come};
@@ -65,24 +65,34 @@ pub fn decode_file_1(b: &Block, number: u16) -> Option<(FileRec, Option<BlockLis
 }
 
 /// The block of a file in a format.
-#[tactic(auto, using(crate::proofs::FieldLemmas::field_lengths, crate::proofs::FieldLemmas::name_lengths), unfolding(crate::specs::FileFields::file_fields))]
 pub fn encode_file_in(format: Format, r: &FileRec, online: Option<&BlockList>) -> Block
     requires file { IsFile r.now }
     requires places { IfSome (option_copied online) (ArePlaces format r.now.len) }
     ensures { result ≡ file_block format r.now (option_copied online.entry) }
 {
     let mut writer = BlockWriter::new();
+    put_file(&mut writer, format, r, online);
+    writer.finish()
+}
+
+/// Puts the fields of a file's block into a writer that has nothing yet, so that the block needn't move.
+#[tactic(auto, using(crate::proofs::FieldLemmas::field_lengths, crate::proofs::FieldLemmas::name_lengths), unfolding(crate::specs::FileFields::file_fields))]
+pub fn put_file(writer: &mut BlockWriter, format: Format, r: &FileRec, online: Option<&BlockList>)
+    requires empty { writer.old ≡ [] }
+    requires file { IsFile r.now }
+    requires places { IfSome (option_copied online) (ArePlaces format r.now.len) }
+    ensures { writer.new ≡ file_fields format r.now (option_copied online.entry) }
+{
     writer.put_u8(1);
     writer.put_u8(r.owner);
-    put_word(&mut writer, r.local.as_slice());
+    put_word(writer, r.local.as_slice());
     writer.put_u16(r.generation);
-    put_lang(&mut writer, &r.lang);
+    put_lang(writer, &r.lang);
     writer.put_u64(r.stamp);
     writer.put_u32(r.len);
-    put_traps(&mut writer, &r.traps);
-    put_copy(&mut writer, r.tape);
-    put_online(&mut writer, format, online);
-    writer.finish()
+    put_traps(writer, &r.traps);
+    put_copy(writer, r.tape);
+    put_online(writer, format, online);
 }
 
 /// The file of this number whose block in a format it is, with its block numbers where it is online. None exactly where

@@ -1,6 +1,6 @@
 //! The block of a head, written and read.
-ghost use Rattle.std.specs.Prelude.{◌≡◌, ◌^◌, ◌<◌, ◌↔◌, IsTrue, IfSome, IfNone, Some};
-ghost use Rattle.g_entry.specs.HeadFields.{IsHead, IsIntent, head_block};
+ghost use Rattle.std.specs.Prelude.{◌≡◌, [], ◌^◌, ◌<◌, ◌↔◌, IsTrue, IfSome, IfNone, Some};
+ghost use Rattle.g_entry.specs.HeadFields.{IsHead, IsIntent, head_block, head_fields};
 
 use crate::put::put_intent;
 use crate::take::take_intent;
@@ -46,18 +46,27 @@ pub fn decode_head_1(b: &Block) -> Option<Head>
 }
 
 /// The block of a head in a format.
-#[tactic(auto, using(crate::proofs::FieldLemmas::field_lengths), unfolding(crate::specs::HeadFields::head_fields))]
 pub fn encode_head_in(format: Format, h: &Head) -> Block
     requires { IsHead h.now }
     ensures { result ≡ head_block format h.now }
 {
     let mut writer = BlockWriter::new();
+    put_head(&mut writer, format, h);
+    writer.finish()
+}
+
+/// Puts the fields of a head's block into a writer that has nothing yet, so that the block needn't move.
+#[tactic(auto, using(crate::proofs::FieldLemmas::field_lengths), unfolding(crate::specs::HeadFields::head_fields))]
+pub fn put_head(writer: &mut BlockWriter, format: Format, h: &Head)
+    requires empty { writer.old ≡ [] }
+    requires head { IsHead h.now }
+    ensures { writer.new ≡ head_fields format h.now }
+{
     writer.put_bytes(b"G3SL");
     writer.put_u16(format.number());
     writer.put_u64(h.next_stamp);
     writer.put_u64(h.last_dump);
-    put_intent(&mut writer, h.intent);
-    writer.finish()
+    put_intent(writer, h.intent);
 }
 
 /// The head whose block in a format it is. None exactly where no head has that block.

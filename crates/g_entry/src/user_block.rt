@@ -1,7 +1,7 @@
 //! The block of a user, written and read.
-ghost use Rattle.std.specs.Prelude.{◌≡◌, ◌↔◌, Bool, IsTrue, IfSome, IfNone, Some};
+ghost use Rattle.std.specs.Prelude.{◌≡◌, [], ◌↔◌, Bool, IsTrue, IfSome, IfNone, Some};
 ghost use Rattle.g_entry.specs.Formats.{IsMoney};
-ghost use Rattle.g_entry.specs.UserFields.{IsUser, held_byte, user_block};
+ghost use Rattle.g_entry.specs.UserFields.{IsUser, held_byte, user_block, user_fields};
 
 use crate::put::{put_money, put_word};
 use crate::same::is_same;
@@ -81,20 +81,29 @@ pub fn decode_user_in(format: Format, b: &Block, number: u8) -> Option<UserRec>
 
 /// The block of a user in a dump, whose byte 27 says whether the user's files are held in that dump (docs/FORMATS.md). On
 /// disc it is 0 for all.
-#[tactic(auto, using(crate::proofs::FieldLemmas::field_lengths, crate::proofs::FieldLemmas::name_lengths), unfolding(crate::specs::UserFields::user_fields))]
 pub fn encode_user_held(format: Format, r: &UserRec, held: bool) -> Block
     requires { IsUser format r.now }
     ensures { result ≡ user_block format (held_byte held) r.now }
 {
     let mut writer = BlockWriter::new();
+    put_user(&mut writer, format, r, held);
+    writer.finish()
+}
+
+/// Puts the fields of a user's block into a writer that has nothing yet, so that the block needn't move.
+#[tactic(auto, using(crate::proofs::FieldLemmas::field_lengths, crate::proofs::FieldLemmas::name_lengths), unfolding(crate::specs::UserFields::user_fields))]
+pub fn put_user(writer: &mut BlockWriter, format: Format, r: &UserRec, held: bool)
+    requires empty { writer.old ≡ [] }
+    requires user { IsUser format r.now }
+    ensures { writer.new ≡ user_fields format (held_byte held) r.now }
+{
     writer.put_u8(1);
-    put_word(&mut writer, r.user.as_slice());
+    put_word(writer, r.user.as_slice());
     writer.put_u8(r.superior);
     writer.put_u32(r.space);
     writer.put_u64(r.time);
     writer.put_u8(flag(held));
-    put_money(&mut writer, format, r.money);
-    writer.finish()
+    put_money(writer, format, r.money);
 }
 
 /// The byte that says whether a user is held.

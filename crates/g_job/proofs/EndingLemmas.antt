@@ -1,5 +1,5 @@
 -- The end of a turn in the code: the job's rules, and that it is the end that is defined.
-use Rattle.std.proofs.Common.{◌≡◌, ℕ, ◌+◌, ◌≤◌, Bool, true, false, List, ◌++◌, length, length-append, Option, Some, None, IfSome, is_some, option_map, refl, sym, ap, ◌∙◌, subst, lit≤, le_trans, arith}
+use Rattle.std.proofs.Common.{◌≡◌, ℕ, ◌+◌, ◌≤◌, Bool, true, false, List, [], ◌∷◌, ◌++◌, append_assoc, length, length-append, Option, Some, None, IfSome, is_some, option_map, refl, sym, ap, ◌∙◌, subst, lit≤, le_trans, arith}
 use Rattle.std.proofs.lemmas.Bool.{false≢true, true≢false}
 use Rattle.std.specs.Fn.{FnReturnsAt, Shared}
 use denote.Ref.{Bor}
@@ -194,3 +194,16 @@ settle_rules j job same text charge stop last units money monitor over rules cle
     (subst (λ (m : List ℕ). IsJob (record j { used = j.used + units; used_money = j.used_money + money; turns = j.turns + 1; monitor = m; over = is_some last })) (sym et)
     (subst (λ (n : ℕ). IsJob (record j { used = j.used + units; used_money = j.used_money + n; turns = j.turns + 1; monitor = with_last (j.monitor ++ text) last; over = is_some last })) (sym em)
     (subst (λ (n : ℕ). IsJob (record j { used = j.used + n; used_money = j.used_money + money_of j charge; turns = j.turns + 1; monitor = with_last (j.monitor ++ text) last; over = is_some last })) (sym eu) k)))
+
+-- a last line behind a text that stands behind another
+pub behind_last : (before text : List ℕ) (last : Option (List ℕ)) → before ++ with_last text last ≡ with_last (before ++ text) last
+behind_last before text None = refl
+behind_last before text (Some last) = sym (append_assoc before text last)
+
+-- a line with its byte 10, put behind a text
+pub ended_behind : (text line : List ℕ) → (text ++ line) ++ 10 ∷ [] ≡ text ++ ended line
+ended_behind text line = append_assoc text line (10 ∷ [])
+
+pub is_last : {X : Type 0} (f : X → List ℕ) (line : Option X) → is_some line ≡ is_some (option_map ended (option_map f line))
+is_last f None = refl
+is_last f (Some line) = refl

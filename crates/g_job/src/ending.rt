@@ -13,19 +13,17 @@ ghost use Rattle.g_lines.specs.Lines.{ended};
 ghost use Rattle.g_monitor.specs.JobLines.{job_line};
 
 use crate::Turn;
-use crate::job::{Job, with_room};
+use crate::job::Job;
 use g_base::NoMemory;
 use g_budget::{Charge, Tariff, Usage};
 use g_monitor::{JobLine, push_job_line};
 use g_name::Text;
 use g_turn::{Stop, Suspended, TurnWork};
-use std::alloc::Global;
 
 impl Job {
     /// Ends a turn by what it has made.
     pub(crate) fn end<F: Fn(&Usage) -> Charge>(
         &mut self,
-        alloc: Global,
         tariff: &Tariff<F>,
         made: TurnWork,
     ) -> Result<Turn, NoMemory>
@@ -46,7 +44,7 @@ impl Job {
                 self.break_off(&made.text)?;
                 Ok(Turn::Broken)
             }
-            Some(Stop::Full | Stop::Done) | None => match self.charge(alloc, tariff, made) {
+            Some(Stop::Full | Stop::Done) | None => match self.charge(tariff, made) {
                 Ok(turn) => Ok(turn),
                 Err(NoMemory) => Err(NoMemory),
             },
@@ -56,7 +54,6 @@ impl Job {
     /// Charges a turn by the tariff.
     fn charge<F: Fn(&Usage) -> Charge>(
         &mut self,
-        alloc: Global,
         tariff: &Tariff<F>,
         made: TurnWork,
     ) -> Result<Turn, NoMemory>
@@ -74,7 +71,8 @@ impl Job {
             blocks: made.blocks,
         };
         let charge = tariff.charge(&usage);
-        match self.settle(alloc, &made.text, charge, made.stop) {
+        let mut made = made;
+        match self.settle(&mut made.text, charge, made.stop) {
             Ok(turn) => {
                 self.reuse_buffer(made.text);
                 Ok(turn)
@@ -120,26 +118,25 @@ impl Job {
     }
 
     /// Charges a turn that added this text, of each kind no more than is left, and says the job's last line where it
-    /// ends.
+    /// ends, behind the text.
     fn settle(
         &mut self,
-        alloc: Global,
-        text: &Text,
+        text: &mut Text,
         charge: Charge,
         stop: Option<Stop>,
     ) -> Result<Turn, NoMemory>
         requires open { self.old.over ≡ false }
         requires clear { IsClear self.old }
-        requires fits { length text.now ≤ room_of self.old }
+        requires fits { length text.old ≤ room_of self.old }
         requires charge { IsCharge charge }
         requires charged { ends.is_free (option_map stop_of stop) ≡ false }
-        ensures ok { (w : Work) → w.desk ≡ self.old.desk → w.text ≡ text.now → IfOk result (λ turn.
+        ensures ok { (w : Work) → w.desk ≡ self.old.desk → w.text ≡ text.old → IfOk result (λ turn.
             (turn, self.new) ≡ ends.charged_end (option_map stop_of stop) self.old w charge) }
     {
-        let last = self.last_line(alloc, stop, charge)?;
+        let last = self.last_line(stop, charge);
         let units = at_most_left(charge.units, self.allowance - self.used);
         let money = at_most_left(charge.money, self.money - self.used_money);
-        add(&mut self.monitor, text, &last)?;
+        add(&mut self.monitor, text, last)?;
         self.used += units;
         self.used_money += money;
         self.turns += 1;
@@ -147,21 +144,15 @@ impl Job {
         Ok(turn_of(units, money, last.is_some()))
     }
 
-    /// The last line of the job behind a turn of this charge, with its byte 10, where the job ends.
-    fn last_line(
-        &self,
-        alloc: Global,
-        stop: Option<Stop>,
-        charge: Charge,
-    ) -> Result<Option<Text>, NoMemory>
+    /// The last line of the job behind a turn of this charge, where the job ends.
+    fn last_line(&self, stop: Option<Stop>, charge: Charge) -> Option<JobLine>
         requires charged { ends.is_free (option_map stop_of stop) ≡ false }
-        ensures line { (w : Work) → IfOk result (λ last. last ≡ option_map ended
-            (ends.last_line (option_map stop_of stop) self.now charge
-            (ends.charged self.now w charge))) }
+        ensures line { (w : Work) → option_map job_line result
+            ≡ ends.last_line (option_map stop_of stop) self.now charge (ends.charged self.now w charge) }
     {
         let used = self.used + at_most_left(charge.units, self.allowance - self.used);
         let used_money = self.used_money + at_most_left(charge.money, self.money - self.used_money);
-        let line = match stop {
+        match stop {
             Some(Stop::Full) => Some(JobLine::Full),
             Some(_) => Some(JobLine::End(used)),
             None => {
@@ -169,8 +160,7 @@ impl Job {
                 let money_up = self.money - self.used_money < charge.money;
                 up_line(time_up, money_up, used, used_money)
             }
-        };
-        line_text(alloc, line)
+        }
     }
 }
 
@@ -194,29 +184,27 @@ fn up_line(time_up: bool, money_up: bool, used: u64, used_money: u64) -> Option<
     }
 }
 
-/// A line with its byte 10, where there is one.
-fn line_text(alloc: Global, line: Option<JobLine>) -> Result<Option<Text>, NoMemory>
-    ensures { IfOk result (λ text. text ≡ option_map ended (option_map job_line line)) }
+/// Puts a text behind a monitoring file, and behind both the last line, where there is one. It is put behind the text first, in
+/// whose room it is made. Where memory is wanting, the file is as it was.
+fn add(monitor: &mut Text, text: &mut Text, last: Option<JobLine>) -> Result<(), NoMemory>
+    ensures ok { OnOk result (monitor.new ≡ with_last (monitor.old ++ text.old) (option_map ended (option_map job_line last))) }
+    ensures err { OnErr result (monitor.new ≡ monitor.old) }
 {
-    let Some(line) = line else {
-        return Ok(None);
-    };
-    let mut text = with_room(alloc)?;
-    push_job_line(&mut text, line)?;
-    text.push(b'\n')?;
-    Ok(Some(text))
+    push_last(text, last)?;
+    add_text(monitor, text)
 }
 
-/// Puts a text and a last line behind a monitoring file. Where memory is wanting, it has at most the text.
-fn add(monitor: &mut Text, text: &Text, last: &Option<Text>) -> Result<(), NoMemory>
-    ensures ok { OnOk result (monitor.new ≡ with_last (monitor.old ++ text.now) last.now) }
-    ensures err { OnErr result (length monitor.new ≤ length monitor.old + length text.now) }
+/// Puts a last line with its byte 10 behind a text, where there is one.
+fn push_last(text: &mut Text, last: Option<JobLine>) -> Result<(), NoMemory>
+    ensures { OnOk result (text.new ≡ with_last text.old (option_map ended (option_map job_line last))) }
 {
-    add_text(monitor, text)?;
-    if let Some(line) = last {
-        monitor.extend(line.as_slice())?;
+    match last {
+        Some(line) => {
+            push_job_line(text, line)?;
+            text.push(b'\n')
+        }
+        None => Ok(()),
     }
-    Ok(())
 }
 
 /// Puts a text behind a monitoring file, unless it is empty, as that of most turns of a program is.

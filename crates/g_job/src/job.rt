@@ -91,6 +91,8 @@ impl Job {
         };
         let units = Units::new(alloc)?;
         let monitor = first_line(with_room(alloc)?, number, &name, &user)?;
+        let mut work = Work::new(alloc, levels, units);
+        work.reuse_buffer(with_room(alloc)?);
         Ok(Job {
             number,
             name,
@@ -100,7 +102,7 @@ impl Job {
             used: 0,
             used_money: 0,
             turns: 0,
-            work: Work::new(alloc, levels, units),
+            work,
             again: None,
             wants: None,
             monitor,
@@ -145,7 +147,7 @@ impl Job {
         ensures waited { (s : ℕ) → result ≡ Ok (Turn.Wants s) → ToldAsBefore self.old self.new }
     {
         match self.make(alloc, store) {
-            Ok(made) => match self.end(alloc, tariff, made) {
+            Ok(made) => match self.end(tariff, made) {
                 Ok(turn) => Ok(turn),
                 Err(NoMemory) => Err(NoMemory),
             },
@@ -205,11 +207,11 @@ impl Job {
     }
 }
 
-/// The room with which a monitoring file begins, and a job's last line is made, in bytes: that of a few lines.
+/// The room with which a monitoring file and the text of a job's turns begin, in bytes: that of a few lines.
 const ROOM: usize = 256;
 
 /// An empty text with room for a few lines, so that it doesn't grow bit by bit.
-pub(crate) fn with_room(alloc: Global) -> Result<Text, NoMemory>
+fn with_room(alloc: Global) -> Result<Text, NoMemory>
     ensures { IfOk result (λ text. text ≡ []) }
 {
     Ok(Text::from(Vec::with_capacity(alloc, ROOM)?))

@@ -1,5 +1,5 @@
 -- Jobs by number: the order of numbers is kept, and a job at a place is the one of its number.
-use Rattle.std.proofs.Common.{◌≡◌, ◌+◌, ◌<◌, ◌≤◌, ◌∙◌, ◌==◌, ◌++◌, ◌∷◌, [], All, Bool, List, None, Some, ap, arith, cond, eq-eqb, false, filter, length, length-set, ne_eqb, not, refl, set, slice_get, subst, suc, sym, true, zero, ℕ}
+use Rattle.std.proofs.Common.{◌≡◌, ◌+◌, ◌<◌, ◌≤◌, ◌∙◌, ◌==◌, ◌++◌, ◌∷◌, [], All, Bool, List, None, Some, ap, arith, cond, eq-eqb, false, filter, get_or, length, length-set, ne_eqb, not, refl, set, slice_get, subst, suc, sym, true, zero, ℕ}
 use Rattle.std.specs.List.{remove}
 use Rattle.std.proofs.lemmas.Bool.{cond_both}
 use Rattle.std.proofs.lemmas.List.{drop-set-lt, length_push, take-set}
@@ -192,3 +192,7 @@ found-pushed low (k ∷ jobs) next j (first, more) is =
     let later = Rise-next (k.number + 1) jobs next more in
     let apart : (k.number == j.number) ≡ false = ne_eqb k.number j.number (λ e. absurd (omega (arith, e, later, is))) in
     ap (λ (b : Bool). cond b (Some k) (job_in j.number (jobs ++ j ∷ []))) apart ∙ found-pushed (k.number + 1) jobs next j more is
+
+-- what stands at a place is one job
+pub same-at : (jobs : List JobState) (place : ℕ) (job a b : JobState) → slice_get jobs place ≡ Some job → a ≡ get_or jobs place a → b ≡ get_or jobs place b → a ≡ b
+same-at jobs place job a b there first second = first ∙ get_or_from_slice_get jobs place job a there ∙ sym (second ∙ get_or_from_slice_get jobs place job b there)

@@ -274,10 +274,10 @@ impl Crew {
         let Some(place) = place_of(&self.jobs, number) else {
             return None;
         };
-        let job = self.jobs.remove(place);
-        charge(&mut self.accounts, &job);
+        charge(&mut self.accounts, &self.jobs[place]);
         get_up(&mut self.terminals, number);
-        Some(job)
+        // A job is large: so it is moved once.
+        Some(self.jobs.remove(place))
     }
 
     /// The system is down: jobs and accounts are gone. Numbers of jobs go on.

@@ -1,5 +1,5 @@
 //! From the text of a line to what it says.
-ghost use Rattle.std.specs.Prelude.{◌≡◌, ◌≢◌, ◌↔◌, ◌≤◌, ℕ, [], length, None, Some, true, IfOk, IfSome, IsSome};
+ghost use Rattle.std.specs.Prelude.{◌≡◌, ◌≢◌, ◌↔◌, ◌≤◌, ℕ, [], codes, length, None, Some, true, IfOk, IfSome, IsFalse, IsSome};
 ghost use Rattle.g_lang.specs.LineReader as how;
 ghost use Rattle.g_lang.specs.Lines.{IsCommandText, KeepsCommand};
 ghost use Rattle.g_lang.specs.Meaning.{Reads, IsReadAs, command_said, line_said, is_input_said};
@@ -114,6 +114,9 @@ fn read_command(alloc: Global, text: &[u8]) -> Result<Command, NoMemory>
     ensures { (n : ℕ) → length text.now ≤ n
         → IfOk result (λ command. command_said command ≡ Some (how.command_read n text.now)) }
 {
+    if !may_be_keyword(text) {
+        return read_verb(alloc, text);
+    }
     if let Some(rest) = behind(b"IF ", text) {
         let (cond, inner) = split_condition(rest);
         let cond = read_cond(alloc, cond)?;
@@ -131,6 +134,17 @@ fn read_command(alloc: Global, text: &[u8]) -> Result<Command, NoMemory>
         return Ok(Command::Goto(Label::new(label).unwrap()));
     }
     read_verb(alloc, text)
+}
+
+/// Whether a command may begin with IF, WHENEVER or GOTO. Most don't: their first byte tells it.
+fn may_be_keyword(text: &[u8]) -> bool
+    ensures { IsFalse result → (how.behind (codes "IF ") text.now ≡ None)
+        × (how.behind (codes "WHENEVER ") text.now ≡ None) × (how.behind (codes "GOTO ") text.now ≡ None) }
+{
+    match text.split_first() {
+        Some((first, _)) => *first == b'I' || *first == b'W' || *first == b'G',
+        None => false,
+    }
 }
 
 /// A verb with its parameters.

@@ -22,7 +22,7 @@ use Rattle.g_tree.specs.Records.{IsRecords, name_of, user_row_of}
 use Rattle.g_tree.proofs.ListLemmas.{filter_of_map, map_of_map}
 use Rattle.g_tree.proofs.RecordLemmas.{name_at}
 use Rattle.g_tree.proofs.UserLemmas.{tree_more, tree_set}
-use Rattle.g_disc_contents.specs.Contents.{Contents, has, recs_in}
+use Rattle.g_disc_contents.specs.Contents.{has, recs_in}
 use Rattle.g_disc_contents.specs.Facts.{OnlineFacts}
 use Rattle.g_store_model.specs.State as state
 use Rattle.g_store_model.specs.CallStep.{IsUnjam}
@@ -125,57 +125,51 @@ keys_kept users n u within number name numbered =
         ∙ sym (get_or-map key_of users n u (0, []) within)
 
 module _ (v : View) (reels : List Reel) (o : OnlineFacts) (dump : Option DumpFacts) (who : List ℕ) (asked : IsKnown o dump) (u : UserRec) where
-  abbrev c : Contents
-  c = o.contents
-
   abbrev s : state.State
   s = state_up v reels o dump
 
   abbrev k : state.Holding
   k = held_in v o
 
-  abbrev xs : List FileRec
-  xs = recs_in c
-
   abbrev more : List UserRec
-  more = c.users ++ u ∷ []
+  more = o.contents.users ++ u ∷ []
 
-  pub add_parts : (new : OnlineFacts) (user : List ℕ) (space time money until : ℕ) → IsRecords more xs → u.user ≡ user
-      → user_row_of c.users u ≡ record { superior = who; space = space; time = time; money = money }
+  pub add_parts : (new : OnlineFacts) (user : List ℕ) (space time money until : ℕ) → IsRecords more (recs_in o.contents) → u.user ≡ user
+      → user_row_of o.contents.users u ≡ record { superior = who; space = space; time = time; money = money }
       → fault_of k.tree who (NewUser user space time money) ≡ None → IsUnjam s k who (NewUser user space time money) until
-      → GoesBy v reels o new dump who (NewUser user space time money) until v.text (record c { users = more }) (u.number ∷ [])
+      → GoesBy v reels o new dump who (NewUser user space time money) until v.text (record o.contents { users = more }) (u.number ∷ [])
   add_parts new user space time money until rules name row granted unjam = record {
     does = refl;
-    tree = tree_more c.users xs u asked.records (λ (r : FileRec). v.text r.stamp) c.head.next_stamp rules
+    tree = tree_more o.contents.users (recs_in o.contents) u asked.records (λ (r : FileRec). v.text r.stamp) o.contents.head.next_stamp rules
         ∙ (λ i. let t : Tree = record k.tree { users = insert k.tree.users (name i) (row i) } in t)
         ∙ sym (granted_tree k.tree who (NewUser user space time money) granted);
     places = sym (still s k who (NewUser user space time money) until refl unjam);
     last = refl;
     intent = refl;
-    kept = users_go_by_change.kept more o.changed u (users_named more xs rules u (Contains-push c.users u))
-        ∙ removed_more (λ (w : UserRec). not (has o.changed w.number)) c.users u ∙ ap (λ (n : List ℕ). remove k.kept n) name;
-    touched = users_go_by_change.touched more o.touched u (Contains-push c.users u) (users_named more xs rules u (Contains-push c.users u))
-        ∙ inserted_more (λ (w : UserRec). has o.touched w.number) c.users u ∙ ap (λ (n : List ℕ). insert (names_of (users_in o.touched c.users)) n tt) name;
+    kept = users_go_by_change.kept more o.changed u (users_named more (recs_in o.contents) rules u (Contains-push o.contents.users u))
+        ∙ removed_more (λ (w : UserRec). not (has o.changed w.number)) o.contents.users u ∙ ap (λ (n : List ℕ). remove k.kept n) name;
+    touched = users_go_by_change.touched more o.touched u (Contains-push o.contents.users u) (users_named more (recs_in o.contents) rules u (Contains-push o.contents.users u))
+        ∙ inserted_more (λ (w : UserRec). has o.touched w.number) o.contents.users u ∙ ap (λ (n : List ℕ). insert (names_of (users_in o.touched o.contents.users)) n tt) name;
     dumped = refl;
     opened = refl;
   }
 
-  pub budget_parts : (new : OnlineFacts) (user : List ℕ) (kind : BudgetKind) (amount until : ℕ) → IsRecords (slice_set c.users u.number u) xs → u.number < length c.users
-      → name_of c.users u.number ≡ u.user → u.user ≡ user → user_row_of c.users u ≡ with_budget (user_row k.tree user) kind amount
+  pub budget_parts : (new : OnlineFacts) (user : List ℕ) (kind : BudgetKind) (amount until : ℕ) → IsRecords (slice_set o.contents.users u.number u) (recs_in o.contents) → u.number < length o.contents.users
+      → name_of o.contents.users u.number ≡ u.user → u.user ≡ user → user_row_of o.contents.users u ≡ with_budget (user_row k.tree user) kind amount
       → fault_of k.tree who (Budget user kind amount) ≡ None → IsUnjam s k who (Budget user kind amount) until
-      → GoesBy v reels o new dump who (Budget user kind amount) until v.text (record c { users = slice_set c.users u.number u }) []
+      → GoesBy v reels o new dump who (Budget user kind amount) until v.text (record o.contents { users = slice_set o.contents.users u.number u }) []
   budget_parts new user kind amount until rules within named name row granted unjam =
-      let keys = keys_kept c.users u.number u within refl named asked.records.among_users.numbered in record {
+      let keys = keys_kept o.contents.users u.number u within refl named asked.records.among_users.numbered in record {
         does = refl;
-        tree = tree_set c.users xs u.number u named (λ (r : FileRec). v.text r.stamp) c.head.next_stamp within rules
+        tree = tree_set o.contents.users (recs_in o.contents) u.number u named (λ (r : FileRec). v.text r.stamp) o.contents.head.next_stamp within rules
             ∙ (λ i. let t : Tree = record k.tree { users = insert k.tree.users (name i) (row i) } in t)
             ∙ sym (granted_tree k.tree who (Budget user kind amount) granted);
         places = sym (still s k who (Budget user kind amount) until refl unjam);
         last = refl;
         intent = refl;
-        kept = names_by_keys (λ (n : ℕ). not (has o.changed n)) (slice_set c.users u.number u) ∙ ap (names_from (λ (n : ℕ). not (has o.changed n))) keys
-            ∙ sym (names_by_keys (λ (n : ℕ). not (has o.changed n)) c.users);
-        touched = names_by_keys (has o.touched) (slice_set c.users u.number u) ∙ ap (names_from (has o.touched)) keys ∙ sym (names_by_keys (has o.touched) c.users);
+        kept = names_by_keys (λ (n : ℕ). not (has o.changed n)) (slice_set o.contents.users u.number u) ∙ ap (names_from (λ (n : ℕ). not (has o.changed n))) keys
+            ∙ sym (names_by_keys (λ (n : ℕ). not (has o.changed n)) o.contents.users);
+        touched = names_by_keys (has o.touched) (slice_set o.contents.users u.number u) ∙ ap (names_from (has o.touched)) keys ∙ sym (names_by_keys (has o.touched) o.contents.users);
         dumped = refl;
         opened = refl;
       }

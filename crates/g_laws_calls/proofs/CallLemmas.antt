@@ -55,48 +55,42 @@ tells v reels o dump who call until none =
     after_none b x is = cond-false b x (state_up v reels o dump) is
 
 module _ (v : View) (reels : List Reel) (o : OnlineFacts) (dump : Option DumpFacts) (who : List ℕ) (asked : IsKnown o dump) where
-  abbrev c : Contents
-  c = o.contents
-
   abbrev s : state.State
   s = state_up v reels o dump
 
   abbrev k : state.Holding
   k = held_in v o
 
-  abbrev xs : List FileRec
-  xs = recs_in c
+  distinct : AreDistinct o.contents.files
+  distinct = files_apart o.contents.files asked.records.among_files.stamps
 
-  distinct : AreDistinct c.files
-  distinct = files_apart c.files asked.records.among_files.stamps
+  numbered : AreApart (λ (f : File). f.rec.number) o.contents.files
+  numbered = numbers_apart o.contents.files asked.records.numbers.rising
 
-  numbered : AreApart (λ (f : File). f.rec.number) c.files
-  numbered = numbers_apart c.files asked.records.numbers.rising
+  rec_there : (f : File) → Contains o.contents.files f → Contains (recs_in o.contents) f.rec
+  rec_there f there = mapped_there (λ (g : File). g.rec) o.contents.files f there
 
-  rec_there : (f : File) → Contains c.files f → Contains xs f.rec
-  rec_there f there = mapped_there (λ (g : File). g.rec) c.files f there
-
-  owner_there : (f : File) → Contains c.files f → f.rec.owner < length c.users
-  owner_there f there = All-contains (λ (r : FileRec). r.owner < length c.users) xs f.rec asked.records.among_files.owners (rec_there f there)
+  owner_there : (f : File) → Contains o.contents.files f → f.rec.owner < length o.contents.users
+  owner_there f there = All-contains (λ (r : FileRec). r.owner < length o.contents.users) (recs_in o.contents) f.rec asked.records.among_files.owners (rec_there f there)
 
   -- the stamp by the tree is the record's
-  stamp_is : (f : File) (full : Full) → Contains c.files f → full_of c.users f.rec ≡ full → stamp_of k.tree full ≡ f.rec.stamp
+  stamp_is : (f : File) (full : Full) → Contains o.contents.files f → full_of o.contents.users f.rec ≡ full → stamp_of k.tree full ≡ f.rec.stamp
   stamp_is f full there named =
       ap (λ (n : Full). stamp_of k.tree n) (sym named)
-      ∙ ap (λ (row : FileRow). row.stamp) (row_is c.users xs asked.records (λ (r : FileRec). v.text r.stamp) c.head.next_stamp f.rec (rec_there f there))
+      ∙ ap (λ (row : FileRow). row.stamp) (row_is o.contents.users (recs_in o.contents) asked.records (λ (r : FileRec). v.text r.stamp) o.contents.head.next_stamp f.rec (rec_there f there))
 
   -- BROUGHT BACK
-  module _ (call : StoreCall) (f : File) (bytes : Option (List ℕ)) (take : List ℕ) (room : ℕ) (there : Contains c.files f)
-      (reads : version_read k.tree who call ≡ Some (full_of c.users f.rec)) (granted : fault_of k.tree who call ≡ None) (does : brings_now s k who call ≡ true)
+  module _ (call : StoreCall) (f : File) (bytes : Option (List ℕ)) (take : List ℕ) (room : ℕ) (there : Contains o.contents.files f)
+      (reads : version_read k.tree who call ≡ Some (full_of o.contents.users f.rec)) (granted : fault_of k.tree who call ≡ None) (does : brings_now s k who call ≡ true)
       (plan : IsUnjamPlan (need s k who call) o take room) (whole : IsAsked v o dump) where
     abbrev taken : List File
-    taken = taken_off take c.files
+    taken = taken_off take o.contents.files
 
     abbrev back : Contents
-    back = record c { files = brought f.rec.number bytes taken }
+    back = record o.contents { files = brought f.rec.number bytes taken }
 
-    same_recs : recs_in back ≡ xs
-    same_recs = online_recs f.rec.number bytes taken ∙ offline_recs take c.files
+    same_recs : recs_in back ≡ (recs_in o.contents)
+    same_recs = online_recs f.rec.number bytes taken ∙ offline_recs take o.contents.files
 
     -- the file among those that are left
     left : File
@@ -108,14 +102,14 @@ module _ (v : View) (reels : List Reel) (o : OnlineFacts) (dump : Option DumpFac
 
     left_there : Contains taken left
     unfolding left
-    left_there = mapped_there (offline_in take) c.files f there
+    left_there = mapped_there (offline_in take) o.contents.files f there
 
     taken_distinct : AreDistinct taken
     taken_distinct =
-        files_apart taken (subst (λ (rs : List FileRec). AllPairs (λ (r q : FileRec). r.stamp ≢ q.stamp) rs) (sym (offline_recs take c.files)) asked.records.among_files.stamps)
+        files_apart taken (subst (λ (rs : List FileRec). AllPairs (λ (r q : FileRec). r.stamp ≢ q.stamp) rs) (sym (offline_recs take o.contents.files)) asked.records.among_files.stamps)
 
     taken_numbered : AreApart (λ (g : File). g.rec.number) taken
-    taken_numbered = numbers_apart taken (subst (λ (rs : List FileRec). AllPairs (λ (r q : FileRec). r.number < q.number) rs) (sym (offline_recs take c.files)) asked.records.numbers.rising)
+    taken_numbered = numbers_apart taken (subst (λ (rs : List FileRec). AllPairs (λ (r q : FileRec). r.number < q.number) rs) (sym (offline_recs take o.contents.files)) asked.records.numbers.rising)
 
     planned : places_of taken ≡ (state.taken_offline plan.until k).places
     planned = unjam_is.places_are v o dump (need s k who call) take room (record { records = whole.records; long = whole.long; pins = whole.pins }) plan
@@ -129,14 +123,14 @@ module _ (v : View) (reels : List Reel) (o : OnlineFacts) (dump : Option DumpFac
     brings_it : brings call ≡ true
     brings_it = (and_parts (brings call) (is_offline s k who call) does).0
 
-    place_by : (x : StoreCall) → brings x ≡ true → version_read k.tree who x ≡ Some (full_of c.users f.rec) → (m : FinMap nat_cmp state.Place)
+    place_by : (x : StoreCall) → brings x ≡ true → version_read k.tree who x ≡ Some (full_of o.contents.users f.rec) → (m : FinMap nat_cmp state.Place)
         → places_after k.tree who x m ≡ state.with_online true f.rec.stamp m
     place_by (Fetch path mode) is read m =
         ap (λ (n : ℕ). state.with_online true n m)
-        (stamp_is f (input_name k.tree who path) there (sym (same_Some (input_name k.tree who path) (full_of c.users f.rec) read)))
+        (stamp_is f (input_name k.tree who path) there (sym (same_Some (input_name k.tree who path) (full_of o.contents.users f.rec) read)))
     place_by (Retrieve path) is read m =
         ap (λ (n : ℕ). state.with_online true n m)
-        (stamp_is f (input_name k.tree who path) there (sym (same_Some (input_name k.tree who path) (full_of c.users f.rec) read)))
+        (stamp_is f (input_name k.tree who path) there (sym (same_Some (input_name k.tree who path) (full_of o.contents.users f.rec) read)))
     place_by x is read m = absurd (let no : ⊥ = cc in no)
 
     tree_stays : (x : StoreCall) → brings x ≡ true → tree_after k.tree who x ≡ k.tree
@@ -152,38 +146,38 @@ module _ (v : View) (reels : List Reel) (o : OnlineFacts) (dump : Option DumpFac
     pub brings_parts : (new : OnlineFacts) → GoesBy v reels o new dump who call plan.until v.text back []
     brings_parts new = record {
       does = or_right (writes call) (brings_now s k who call) does;
-      tree = ap (λ (rs : List FileRec). tree_by v.text c.users rs c.head.next_stamp) same_recs ∙ sym (granted_tree k.tree who call granted ∙ tree_stays call brings_it);
+      tree = ap (λ (rs : List FileRec). tree_by v.text o.contents.users rs o.contents.head.next_stamp) same_recs ∙ sym (granted_tree k.tree who call granted ∙ tree_stays call brings_it);
       places = back_places ∙ sym (place_by call brings_it reads (state.taken_offline plan.until k).places);
       last = refl;
       intent = refl;
       kept = sym (ap (λ (names : List (List ℕ)). state.without_all names k.kept) (nobody_changes call brings_it));
-      touched = sym (ap (λ (names : List (List ℕ)). state.with_all names (names_of (users_in o.touched c.users))) (nobody_changes call brings_it));
+      touched = sym (ap (λ (names : List (List ℕ)). state.with_all names (names_of (users_in o.touched o.contents.users))) (nobody_changes call brings_it));
       dumped = refl;
       opened = refl;
     }
 
   -- ERASED
-  module _ (path : Path) (f : File) (until : ℕ) (there : Contains c.files f) (named : full_of c.users f.rec ≡ input_name k.tree who path)
+  module _ (path : Path) (f : File) (until : ℕ) (there : Contains o.contents.files f) (named : full_of o.contents.users f.rec ≡ input_name k.tree who path)
       (granted : fault_of k.tree who (Erase path) ≡ None) (unjam : IsUnjam s k who (Erase path) until) where
     abbrev without : Contents
-    without = record c { files = without_file f.rec.number c.files }
+    without = record o.contents { files = without_file f.rec.number o.contents.files }
 
-    without_recs : recs_in without ≡ records.without_file f.rec.number xs
-    without_recs = sym (filter_of_map (λ (r : FileRec). not (r.number == f.rec.number)) (λ (g : File). g.rec) c.files)
+    without_recs : recs_in without ≡ records.without_file f.rec.number (recs_in o.contents)
+    without_recs = sym (filter_of_map (λ (r : FileRec). not (r.number == f.rec.number)) (λ (g : File). g.rec) o.contents.files)
 
-    erased_tree : tree_by v.text c.users (recs_in without) c.head.next_stamp ≡ tree_after k.tree who (Erase path)
+    erased_tree : tree_by v.text o.contents.users (recs_in without) o.contents.head.next_stamp ≡ tree_after k.tree who (Erase path)
     erased_tree =
-        ap (λ (rs : List FileRec). tree_by v.text c.users rs c.head.next_stamp) without_recs
-        ∙ tree_erased c.users xs (λ (r : FileRec). v.text r.stamp) c.head.next_stamp asked.records f.rec.number
-        ∙ ap (λ (x : Option FileRec). let t : Tree = record k.tree { files = elim x [ Some r ↦ remove k.tree.files (full_of c.users r) | None ↦ k.tree.files ] } in t)
-        (number_found c.users xs asked.records f.rec.number f.rec (rec_there f there) refl)
+        ap (λ (rs : List FileRec). tree_by v.text o.contents.users rs o.contents.head.next_stamp) without_recs
+        ∙ tree_erased o.contents.users (recs_in o.contents) (λ (r : FileRec). v.text r.stamp) o.contents.head.next_stamp asked.records f.rec.number
+        ∙ ap (λ (x : Option FileRec). let t : Tree = record k.tree { files = elim x [ Some r ↦ remove k.tree.files (full_of o.contents.users r) | None ↦ k.tree.files ] } in t)
+        (number_found o.contents.users (recs_in o.contents) asked.records f.rec.number f.rec (rec_there f there) refl)
         ∙ ap (λ (n : Full). let t : Tree = record k.tree { files = remove k.tree.files n } in t) named
 
-    erased_places : places_of (without_file f.rec.number c.files) ≡ places_after k.tree who (Erase path) (state.taken_offline until k).places
+    erased_places : places_of (without_file f.rec.number o.contents.files) ≡ places_after k.tree who (Erase path) (state.taken_offline until k).places
     erased_places =
-        places_go_by_change.erased c.files f.rec.number f.rec.stamp distinct
-        (AllPairs-filter (λ (g h : File). g.rec.stamp ≢ h.rec.stamp) (λ (g : File). not (g.rec.number == f.rec.number)) c.files distinct)
-        (of_stamp c.files f distinct numbered there)
+        places_go_by_change.erased o.contents.files f.rec.number f.rec.stamp distinct
+        (AllPairs-filter (λ (g h : File). g.rec.stamp ≢ h.rec.stamp) (λ (g : File). not (g.rec.number == f.rec.number)) o.contents.files distinct)
+        (of_stamp o.contents.files f distinct numbered there)
         ∙ ap (λ (m : FinMap nat_cmp state.Place). remove m f.rec.stamp) (sym (still s k who (Erase path) until refl unjam))
         ∙ ap (λ (n : ℕ). remove (state.taken_offline until k).places n) (sym (stamp_is f (input_name k.tree who path) there named))
 
@@ -194,8 +188,8 @@ module _ (v : View) (reels : List Reel) (o : OnlineFacts) (dump : Option DumpFac
       places = erased_places;
       last = refl;
       intent = refl;
-      kept = kept_without c.users xs o.changed f.rec.owner asked.records (owner_there f there) ∙ ap (λ (n : Full). remove k.kept n.user) named;
-      touched = touched_with c.users xs o.touched f.rec.owner asked.records (owner_there f there) ∙ ap (λ (n : Full). insert (names_of (users_in o.touched c.users)) n.user tt) named;
+      kept = kept_without o.contents.users (recs_in o.contents) o.changed f.rec.owner asked.records (owner_there f there) ∙ ap (λ (n : Full). remove k.kept n.user) named;
+      touched = touched_with o.contents.users (recs_in o.contents) o.touched f.rec.owner asked.records (owner_there f there) ∙ ap (λ (n : Full). insert (names_of (users_in o.touched o.contents.users)) n.user tt) named;
       dumped = refl;
       opened = refl;
     }

@@ -117,101 +117,95 @@ row_by traps bytes stamp = record { traps = traps; bytes = bytes; stamp = stamp 
 
 module _ (v : View) (reels : List Reel) (o : OnlineFacts) (dump : Option DumpFacts) (who : List ℕ) (asked : IsKnown o dump)
     (full : Full) (f : File) (r : FileRec) (there : Contains o.contents.files f) (named : full_of o.contents.users f.rec ≡ full) (is : IsRecordOf o f.rec r) where
-  abbrev c : Contents
-  c = o.contents
-
   abbrev s : state.State
   s = state_up v reels o dump
 
   abbrev k : state.Holding
   k = held_in v o
 
-  abbrev xs : List FileRec
-  xs = recs_in c
-
   abbrev bytes : FileRec → List ℕ
   bytes q = v.text q.stamp
 
   abbrev after : Contents
-  after = record c { files = set_rec r c.files }
+  after = record o.contents { files = set_rec r o.contents.files }
 
-  rec_there : Contains xs f.rec
-  rec_there = mapped_there (λ (g : File). g.rec) c.files f there
+  rec_there : Contains (recs_in o.contents) f.rec
+  rec_there = mapped_there (λ (g : File). g.rec) o.contents.files f there
 
-  after_recs : recs_in after ≡ records.with_file r xs
-  after_recs = set_recs r c.files ∙ set_is r xs asked.records.numbers.rising f.rec rec_there (sym is.number)
+  after_recs : recs_in after ≡ records.with_file r (recs_in o.contents)
+  after_recs = set_recs r o.contents.files ∙ set_is r (recs_in o.contents) asked.records.numbers.rising f.rec rec_there (sym is.number)
 
-  at : get (by_number xs) r.number ≡ Some f.rec
-  at = found.number_found c.users xs asked.records r.number f.rec rec_there (sym is.number)
+  at : get (by_number (recs_in o.contents)) r.number ≡ Some f.rec
+  at = found.number_found o.contents.users (recs_in o.contents) asked.records r.number f.rec rec_there (sym is.number)
 
-  row_before : file_row k.tree full ≡ file_row_of c.users bytes f.rec
-  row_before = ap (λ (n : Full). file_row k.tree n) (sym named) ∙ row_is c.users xs asked.records bytes c.head.next_stamp f.rec rec_there
+  row_before : file_row k.tree full ≡ file_row_of o.contents.users bytes f.rec
+  row_before = ap (λ (n : Full). file_row k.tree n) (sym named) ∙ row_is o.contents.users (recs_in o.contents) asked.records bytes o.contents.head.next_stamp f.rec rec_there
 
   -- the tree with the record's row, under its name
-  set_tree : tree_by v.text c.users (recs_in after) c.head.next_stamp
-      ≡ record k.tree { files = insert (records.without_number c.users xs r.number k.tree.files) (full_of c.users r) (file_row_of c.users bytes r) }
-  set_tree = ap (λ (rs : List FileRec). tree_by v.text c.users rs c.head.next_stamp) after_recs ∙ tree_put c.users xs bytes c.head.next_stamp asked.records r is.rules
+  set_tree : tree_by v.text o.contents.users (recs_in after) o.contents.head.next_stamp
+      ≡ record k.tree { files = insert (records.without_number o.contents.users (recs_in o.contents) r.number k.tree.files) (full_of o.contents.users r) (file_row_of o.contents.users bytes r) }
+  set_tree = ap (λ (rs : List FileRec). tree_by v.text o.contents.users rs o.contents.head.next_stamp) after_recs ∙ tree_put o.contents.users (recs_in o.contents) bytes o.contents.head.next_stamp asked.records r is.rules
 
-  renamed_tree : (to : List ℕ) → r.traps ≡ f.rec.traps → full_of c.users r ≡ record full { local = to }
-      → tree_by v.text c.users (recs_in after) c.head.next_stamp ≡ record k.tree { files = insert (remove k.tree.files full) (record full { local = to }) (file_row k.tree full) }
+  renamed_tree : (to : List ℕ) → r.traps ≡ f.rec.traps → full_of o.contents.users r ≡ record full { local = to }
+      → tree_by v.text o.contents.users (recs_in after) o.contents.head.next_stamp ≡ record k.tree { files = insert (remove k.tree.files full) (record full { local = to }) (file_row k.tree full) }
   unfolding row_by
   renamed_tree to traps name =
-      let row : file_row_of c.users bytes r ≡ file_row k.tree full =
-      (λ i. row_by (traps_named c.users (is.owner i) (traps i)) (v.text (is.stamp i)) (is.stamp i)) ∙ sym row_before in
+      let row : file_row_of o.contents.users bytes r ≡ file_row k.tree full =
+      (λ i. row_by (traps_named o.contents.users (is.owner i) (traps i)) (v.text (is.stamp i)) (is.stamp i)) ∙ sym row_before in
       set_tree
-      ∙ ap (λ (x : Option FileRec). let t : Tree = record k.tree { files = insert (elim x [ Some q ↦ remove k.tree.files (full_of c.users q) | None ↦ k.tree.files ]) (full_of c.users r) (file_row_of c.users bytes r) } in t) at
+      ∙ ap (λ (x : Option FileRec). let t : Tree = record k.tree { files = insert (elim x [ Some q ↦ remove k.tree.files (full_of o.contents.users q) | None ↦ k.tree.files ]) (full_of o.contents.users r) (file_row_of o.contents.users bytes r) } in t) at
       ∙ (λ i. let t : Tree = record k.tree { files = insert (remove k.tree.files (named i)) (name i) (row i) } in t)
 
-  trapped_tree : (user : List ℕ) (number modes : ℕ) → name_of c.users number ≡ user → number < length c.users → full_of c.users r ≡ full
+  trapped_tree : (user : List ℕ) (number modes : ℕ) → name_of o.contents.users number ≡ user → number < length o.contents.users → full_of o.contents.users r ≡ full
       → r.traps ≡ with_numbered f.rec.traps f.rec.owner number modes
-      → tree_by v.text c.users (recs_in after) c.head.next_stamp
+      → tree_by v.text o.contents.users (recs_in after) o.contents.head.next_stamp
       ≡ record k.tree { files = insert k.tree.files full (record (file_row k.tree full) { traps = with_modes full user modes (file_row k.tree full).traps }) }
   unfolding row_by
   trapped_tree user number modes name within same traps =
-      let trap_list = are_trapped c.users xs f.rec asked.records rec_there in
-      let owned : full.user ≡ name_of c.users f.rec.owner = ap (λ (n : Full). n.user) (sym named) in
-      let numbered : number_of c.users xs (full_of c.users r) ≡ Some r.number =
-      ap (λ (n : Full). number_of c.users xs n) (same ∙ sym named) ∙ number_found c.users xs asked.records r.number f.rec at in
-      let traps_are : traps_named c.users r.owner r.traps ≡ with_modes full user modes (file_row k.tree full).traps =
-      (λ i. traps_named c.users (is.owner i) (traps i))
-      ∙ sym (modes_changed c.users f.rec.owner f.rec.traps trap_list full number modes owned within)
-      ∙ ap (λ (n : List ℕ). with_modes full n modes (traps_named c.users f.rec.owner f.rec.traps)) name
+      let trap_list = are_trapped o.contents.users (recs_in o.contents) f.rec asked.records rec_there in
+      let owned : full.user ≡ name_of o.contents.users f.rec.owner = ap (λ (n : Full). n.user) (sym named) in
+      let numbered : number_of o.contents.users (recs_in o.contents) (full_of o.contents.users r) ≡ Some r.number =
+      ap (λ (n : Full). number_of o.contents.users (recs_in o.contents) n) (same ∙ sym named) ∙ number_found o.contents.users (recs_in o.contents) asked.records r.number f.rec at in
+      let traps_are : traps_named o.contents.users r.owner r.traps ≡ with_modes full user modes (file_row k.tree full).traps =
+      (λ i. traps_named o.contents.users (is.owner i) (traps i))
+      ∙ sym (modes_changed o.contents.users f.rec.owner f.rec.traps trap_list full number modes owned within)
+      ∙ ap (λ (n : List ℕ). with_modes full n modes (traps_named o.contents.users f.rec.owner f.rec.traps)) name
       ∙ ap (λ (w : FileRow). with_modes full user modes w.traps) (sym row_before) in
-      let row : file_row_of c.users bytes r ≡ record (file_row k.tree full) { traps = with_modes full user modes (file_row k.tree full).traps } =
+      let row : file_row_of o.contents.users bytes r ≡ record (file_row k.tree full) { traps = with_modes full user modes (file_row k.tree full).traps } =
       (λ i. row_by (traps_are i) (v.text (is.stamp i)) (is.stamp i))
       ∙ (λ i. row_by (with_modes full user modes (file_row k.tree full).traps) (sym row_before i).bytes (sym row_before i).stamp) in
       set_tree
       ∙ ap (λ (m : FinMap full_cmp FileRow). let t : Tree = record k.tree { files = m } in t)
-      (put_over c.users xs bytes c.head.next_stamp asked.records r k.tree.files (file_row_of c.users bytes r) numbered)
+      (put_over o.contents.users (recs_in o.contents) bytes o.contents.head.next_stamp asked.records r k.tree.files (file_row_of o.contents.users bytes r) numbered)
       ∙ (λ i. let t : Tree = record k.tree { files = insert k.tree.files (same i) (row i) } in t)
 
   -- the modes that the user had
-  had_modes : (user : List ℕ) (number : ℕ) → name_of c.users number ≡ user → unwrap_or (get (file_row k.tree full).traps user) 0 ≡ modes_of f.rec.traps f.rec.owner number
+  had_modes : (user : List ℕ) (number : ℕ) → name_of o.contents.users number ≡ user → unwrap_or (get (file_row k.tree full).traps user) 0 ≡ modes_of f.rec.traps f.rec.owner number
   had_modes user number name =
       ap (λ (w : FileRow). unwrap_or (get w.traps user) 0) row_before
-      ∙ ap (λ (n : List ℕ). unwrap_or (get (traps_named c.users f.rec.owner f.rec.traps) n) 0) (sym name)
-      ∙ modes_found c.users f.rec.owner f.rec.traps (are_trapped c.users xs f.rec asked.records rec_there) number
+      ∙ ap (λ (n : List ℕ). unwrap_or (get (traps_named o.contents.users f.rec.owner f.rec.traps) n) 0) (sym name)
+      ∙ modes_found o.contents.users f.rec.owner f.rec.traps (are_trapped o.contents.users (recs_in o.contents) f.rec asked.records rec_there) number
 
   -- the places stay
-  places_stay : places_of (set_rec r c.files) ≡ places_of c.files
+  places_stay : places_of (set_rec r o.contents.files) ≡ places_of o.contents.files
   places_stay =
-      places_go_by_change.recorded c.files r
+      places_go_by_change.recorded o.contents.files r
       (λ i d within same.
-      let g = get_or c.files i d in
-      let one : g ≡ f = one_of_key (λ (h : File). h.rec.number) c.files g f (numbers_apart c.files asked.records.numbers.rising) (Contains-get_or c.files i d within) there (same ∙ is.number) in
+      let g = get_or o.contents.files i d in
+      let one : g ≡ f = one_of_key (λ (h : File). h.rec.number) o.contents.files g f (numbers_apart o.contents.files asked.records.numbers.rising) (Contains-get_or o.contents.files i d within) there (same ∙ is.number) in
       record {
         stamp = is.stamp ∙ ap (λ (h : File). h.rec.stamp) (sym one);
         len = is.len ∙ ap (λ (h : File). h.rec.len) (sym one);
         tape = is.tape ∙ ap (λ (h : File). h.rec.tape) (sym one);
       })
 
-  owner_within : r.owner < length c.users
-  owner_within = subst (λ (n : ℕ). n < length c.users) (sym is.owner) (All-contains (λ (q : FileRec). q.owner < length c.users) xs f.rec asked.records.among_files.owners rec_there)
+  owner_within : r.owner < length o.contents.users
+  owner_within = subst (λ (n : ℕ). n < length o.contents.users) (sym is.owner) (All-contains (λ (q : FileRec). q.owner < length o.contents.users) (recs_in o.contents) f.rec asked.records.among_files.owners rec_there)
 
-  owner_name : name_of c.users r.owner ≡ full.user
-  owner_name = ap (name_of c.users) is.owner ∙ ap (λ (n : Full). n.user) named
+  owner_name : name_of o.contents.users r.owner ≡ full.user
+  owner_name = ap (name_of o.contents.users) is.owner ∙ ap (λ (n : Full). n.user) named
 
-  set_parts : (new : OnlineFacts) (call : StoreCall) (until : ℕ) → writes call ≡ true → tree_by v.text c.users (recs_in after) c.head.next_stamp ≡ plain_tree k.tree who call
+  set_parts : (new : OnlineFacts) (call : StoreCall) (until : ℕ) → writes call ≡ true → tree_by v.text o.contents.users (recs_in after) o.contents.head.next_stamp ≡ plain_tree k.tree who call
       → ((m : FinMap nat_cmp state.Place) → places_after k.tree who call m ≡ m) → changes k.tree who call ≡ full.user ∷ []
       → (state.taken_offline until k).places ≡ k.places → GoesBy v reels o new dump who call until v.text after (r.owner ∷ [])
   set_parts new call until does tree_goes stays mine unmoved = record {
@@ -220,15 +214,15 @@ module _ (v : View) (reels : List Reel) (o : OnlineFacts) (dump : Option DumpFac
     places = places_stay ∙ sym (stays (state.taken_offline until k).places ∙ unmoved);
     last = refl;
     intent = refl;
-    kept = kept_without c.users xs o.changed r.owner asked.records owner_within ∙ ap (λ (n : List ℕ). remove k.kept n) owner_name
+    kept = kept_without o.contents.users (recs_in o.contents) o.changed r.owner asked.records owner_within ∙ ap (λ (n : List ℕ). remove k.kept n) owner_name
         ∙ ap (λ (names : List (List ℕ)). state.without_all names k.kept) (sym mine);
-    touched = touched_with c.users xs o.touched r.owner asked.records owner_within ∙ ap (λ (n : List ℕ). insert (names_of (users_in o.touched c.users)) n tt) owner_name
-        ∙ ap (λ (names : List (List ℕ)). state.with_all names (names_of (users_in o.touched c.users))) (sym mine);
+    touched = touched_with o.contents.users (recs_in o.contents) o.touched r.owner asked.records owner_within ∙ ap (λ (n : List ℕ). insert (names_of (users_in o.touched o.contents.users)) n tt) owner_name
+        ∙ ap (λ (names : List (List ℕ)). state.with_all names (names_of (users_in o.touched o.contents.users))) (sym mine);
     dumped = refl;
     opened = refl;
   }
 
-  pub rename_parts : (new : OnlineFacts) (path : Path) (to : List ℕ) (until : ℕ) → full ≡ input_name k.tree who path → r.traps ≡ f.rec.traps → full_of c.users r ≡ record full { local = to }
+  pub rename_parts : (new : OnlineFacts) (path : Path) (to : List ℕ) (until : ℕ) → full ≡ input_name k.tree who path → r.traps ≡ f.rec.traps → full_of o.contents.users r ≡ record full { local = to }
       → fault_of k.tree who (Rename path to) ≡ None → IsUnjam s k who (Rename path to) until → GoesBy v reels o new dump who (Rename path to) until v.text after (r.owner ∷ [])
   rename_parts new path to until input traps name granted unjam =
       set_parts new (Rename path to) until refl
@@ -239,13 +233,13 @@ module _ (v : View) (reels : List Reel) (o : OnlineFacts) (dump : Option DumpFac
       (still s k who (Rename path to) until refl unjam)
 
   -- TrapGo and TrapStop
-  trap_tree : (call : StoreCall) (path : Path) (user : List ℕ) (number : ℕ) → trapped call ≡ Some (path, user) → full ≡ input_name k.tree who path → name_of c.users number ≡ user → number < length c.users
-      → full_of c.users r ≡ full → r.traps ≡ with_numbered f.rec.traps f.rec.owner number (modes_by call (modes_of f.rec.traps f.rec.owner number))
-      → tree_by v.text c.users (recs_in after) c.head.next_stamp ≡ tree_after k.tree who call
+  trap_tree : (call : StoreCall) (path : Path) (user : List ℕ) (number : ℕ) → trapped call ≡ Some (path, user) → full ≡ input_name k.tree who path → name_of o.contents.users number ≡ user → number < length o.contents.users
+      → full_of o.contents.users r ≡ full → r.traps ≡ with_numbered f.rec.traps f.rec.owner number (modes_by call (modes_of f.rec.traps f.rec.owner number))
+      → tree_by v.text o.contents.users (recs_in after) o.contents.head.next_stamp ≡ tree_after k.tree who call
   trap_tree (TrapGo p u given) path user number is_call input name within same traps =
       let of : (p, u) ≡ (path, user) = same_Some (p, u) (path, user) is_call in
       let at_path : full ≡ input_name k.tree who p = input ∙ ap (λ (x : Path × List ℕ). input_name k.tree who x.0) (sym of) in
-      let at_user : name_of c.users number ≡ u = name ∙ ap (λ (x : Path × List ℕ). x.1) (sym of) in
+      let at_user : name_of o.contents.users number ≡ u = name ∙ ap (λ (x : Path × List ℕ). x.1) (sym of) in
       trapped_tree u number (bit_or (modes_of f.rec.traps f.rec.owner number) given) at_user within same traps
       ∙ ap (λ (had : ℕ). let t : Tree = record k.tree { files = insert k.tree.files full (record (file_row k.tree full) { traps = with_modes full u (bit_or had given) (file_row k.tree full).traps }) } in t)
       (sym (had_modes u number at_user))
@@ -253,7 +247,7 @@ module _ (v : View) (reels : List Reel) (o : OnlineFacts) (dump : Option DumpFac
   trap_tree (TrapStop p u given) path user number is_call input name within same traps =
       let of : (p, u) ≡ (path, user) = same_Some (p, u) (path, user) is_call in
       let at_path : full ≡ input_name k.tree who p = input ∙ ap (λ (x : Path × List ℕ). input_name k.tree who x.0) (sym of) in
-      let at_user : name_of c.users number ≡ u = name ∙ ap (λ (x : Path × List ℕ). x.1) (sym of) in
+      let at_user : name_of o.contents.users number ≡ u = name ∙ ap (λ (x : Path × List ℕ). x.1) (sym of) in
       let had : ℕ = modes_of f.rec.traps f.rec.owner number in
       trapped_tree u number (had - bit_and had given) at_user within same traps
       ∙ ap (λ (h : ℕ). let t : Tree = record k.tree { files = insert k.tree.files full (record (file_row k.tree full) { traps = with_modes full u (h - bit_and h given) (file_row k.tree full).traps }) } in t)
@@ -270,7 +264,7 @@ module _ (v : View) (reels : List Reel) (o : OnlineFacts) (dump : Option DumpFac
   trap_facts call path user is_call = absurd (let no : ⊥ = cc in no)
 
   pub trap_parts : (new : OnlineFacts) (call : StoreCall) (path : Path) (user : List ℕ) (number until : ℕ) → trapped call ≡ Some (path, user) → full ≡ input_name k.tree who path
-      → name_of c.users number ≡ user → number < length c.users → full_of c.users r ≡ full
+      → name_of o.contents.users number ≡ user → number < length o.contents.users → full_of o.contents.users r ≡ full
       → r.traps ≡ with_numbered f.rec.traps f.rec.owner number (modes_by call (modes_of f.rec.traps f.rec.owner number))
       → fault_of k.tree who call ≡ None → IsUnjam s k who call until → GoesBy v reels o new dump who call until v.text after (r.owner ∷ [])
   trap_parts new call path user number until is_call input name within same traps granted unjam =

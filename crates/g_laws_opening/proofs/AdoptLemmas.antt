@@ -16,7 +16,7 @@ use Rattle.g_plain.specs.PlainTree.{FileRow, Tree}
 use Rattle.g_plain.proofs.TreeLemmas.{entries_found}
 use Rattle.g_tree.specs.Records.{full_of, name_of}
 use Rattle.g_tree.proofs.RuleLemmas.{file_found, one_of_key}
-use Rattle.g_disc_contents.specs.Contents.{Contents, File, has, recs_in}
+use Rattle.g_disc_contents.specs.Contents.{File, has, recs_in}
 use Rattle.g_disc_contents.specs.Facts.{Pin}
 use Rattle.g_incr.specs.Plan.{Plan, waits as file_waits}
 use Rattle.g_store_model.specs.State as state
@@ -39,43 +39,37 @@ use Rattle.g_laws_opening.proofs.OwnLemmas.{chosen_copy}
 
 -- A STORE that opens a dump
 module _ (v : View) (s : StoreFacts) (plan : Plan) (pins : List Pin) (content : List (List ℕ)) (opened : Opened) (is : IsOpening v s plan pins content opened) where
-  abbrev c : Contents
-  c = s.online.contents
-
   abbrev changed : List ℕ
   changed = s.online.changed
-
-  abbrev xs : List FileRec
-  xs = recs_in c
 
   abbrev text_of : FileRec → List ℕ
   text_of r = v.text r.stamp
 
-  waits_by_change : (r : FileRec) → Contains xs r → file_waits r ≡ true → has changed r.owner ≡ true
+  waits_by_change : (r : FileRec) → Contains (recs_in s.online.contents) r → file_waits r ≡ true → has changed r.owner ≡ true
   waits_by_change r there waits_it =
-      let (f, in_files, same) = from_mapped (λ (g : File). g.rec) c.files r there in
+      let (f, in_files, same) = from_mapped (λ (g : File). g.rec) s.online.contents.files r there in
       let (long, none) = and_parts (nat_lt 0 r.len) (is_none r.tape) waits_it in
-      let by_file = All-contains (λ (g : File). 0 < g.rec.len → g.rec.tape ≡ None → has changed g.rec.owner ≡ true) c.files f is.dumpable.waits in_files in
+      let by_file = All-contains (λ (g : File). 0 < g.rec.len → g.rec.tape ≡ None → has changed g.rec.owner ≡ true) s.online.contents.files f is.dumpable.waits in_files in
       subst (λ (q : FileRec). 0 < q.len → q.tape ≡ None → has changed q.owner ≡ true) same by_file (ltb-true 0 r.len long) (no_copy r.tape none)
 
-  never_kept : (r : FileRec) → Contains xs r → file_waits r ≡ true → state.is_in (held_in v s.online).kept (name_of c.users r.owner) ≡ false
+  never_kept : (r : FileRec) → Contains (recs_in s.online.contents) r → file_waits r ≡ true → state.is_in (held_in v s.online).kept (name_of s.online.contents.users r.owner) ≡ false
   never_kept r there waits_it =
-      let owner : r.owner < length c.users = All-contains (λ (q : FileRec). q.owner < length c.users) xs r is.dumpable.records.among_files.owners there in
-      not-true (state.is_in (held_in v s.online).kept (name_of c.users r.owner)) (kept_is c.users xs changed r.owner is.dumpable.records owner ∙ waits_by_change r there waits_it)
+      let owner : r.owner < length s.online.contents.users = All-contains (λ (q : FileRec). q.owner < length s.online.contents.users) (recs_in s.online.contents) r is.dumpable.records.among_files.owners there in
+      not-true (state.is_in (held_in v s.online).kept (name_of s.online.contents.users r.owner)) (kept_is s.online.contents.users (recs_in s.online.contents) changed r.owner is.dumpable.records owner ∙ waits_by_change r there waits_it)
 
   pub dumpable : IsDumpable (held_in v s.online)
   dumpable = record {
     apart = λ full other row another e f same.
-        let (r, in_r, named_r, row_r) = file_found c.users xs text_of c.head.next_stamp is.dumpable.records full row e in
-        let (q, in_q, named_q, row_q) = file_found c.users xs text_of c.head.next_stamp is.dumpable.records other another f in
-        let one : r ≡ q = one_of_key (λ (w : FileRec). w.stamp) xs r q is.dumpable.records.among_files.stamps in_r in_q
+        let (r, in_r, named_r, row_r) = file_found s.online.contents.users (recs_in s.online.contents) text_of s.online.contents.head.next_stamp is.dumpable.records full row e in
+        let (q, in_q, named_q, row_q) = file_found s.online.contents.users (recs_in s.online.contents) text_of s.online.contents.head.next_stamp is.dumpable.records other another f in
+        let one : r ≡ q = one_of_key (λ (w : FileRec). w.stamp) (recs_in s.online.contents) r q is.dumpable.records.among_files.stamps in_r in_q
         (ap (λ (w : FileRow). w.stamp) row_r ∙ same ∙ ap (λ (w : FileRow). w.stamp) (sym row_q)) in
-        sym named_r ∙ ap (full_of c.users) one ∙ named_q;
+        sym named_r ∙ ap (full_of s.online.contents.users) one ∙ named_q;
     dated = λ full row e.
-        let (r, in_r, named_r, row_r) = file_found c.users xs text_of c.head.next_stamp is.dumpable.records full row e in
-        subst (λ (w : FileRow). w.stamp < c.head.next_stamp) row_r (All-contains (λ (w : FileRec). w.stamp < c.head.next_stamp) xs r is.dumpable.dated in_r);
+        let (r, in_r, named_r, row_r) = file_found s.online.contents.users (recs_in s.online.contents) text_of s.online.contents.head.next_stamp is.dumpable.records full row e in
+        subst (λ (w : FileRow). w.stamp < s.online.contents.head.next_stamp) row_r (All-contains (λ (w : FileRec). w.stamp < s.online.contents.head.next_stamp) (recs_in s.online.contents) r is.dumpable.dated in_r);
     kept = λ full row e is_kept.
-        let (r, in_r, named_r, row_r) = file_found c.users xs text_of c.head.next_stamp is.dumpable.records full row e in
+        let (r, in_r, named_r, row_r) = file_found s.online.contents.users (recs_in s.online.contents) text_of s.online.contents.head.next_stamp is.dumpable.records full row e in
         subst (λ (w : FileRow). (nat_lt 0 (length w.bytes) && is_none (state.place_at (held_in v s.online).places w.stamp).copy) ≡ false) row_r
         (waits_same v s plan pins content opened is r in_r
         ∙ false_from_ne_true (file_waits r)

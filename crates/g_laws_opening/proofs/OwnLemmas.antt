@@ -19,7 +19,7 @@ use Rattle.g_tree.specs.Records.{file_row_of, full_of, name_of}
 use Rattle.g_tree.proofs.ListLemmas.{filter_none}
 use Rattle.g_tree.proofs.MapLemmas.{found_itself, found_one, keyed}
 use Rattle.g_tree.proofs.RuleLemmas.{one_of_key}
-use Rattle.g_disc_contents.specs.Contents.{Contents, File, copied_rec, copy_of, has, recs_in}
+use Rattle.g_disc_contents.specs.Contents.{File, copied_rec, copy_of, has, recs_in}
 use Rattle.g_disc_contents.specs.Facts.{Pin}
 use Rattle.g_incr.specs.Layout.{Dump, ends, holds}
 use Rattle.g_incr.specs.Plan.{Plan, dump_of, first_content, needs, noted_files}
@@ -74,20 +74,14 @@ chosen_copy true n o = refl
 chosen_copy false n o = refl
 
 module _ (v : View) (s : StoreFacts) (plan : Plan) (pins : List Pin) (content : List (List ℕ)) (opened : Opened) (is : IsOpening v s plan pins content opened) where
-  abbrev c : Contents
-  c = s.online.contents
-
   abbrev changed : List ℕ
   changed = s.online.changed
 
   abbrev reels : List Reel
   reels = told_reels s.rack
 
-  abbrev xs : List FileRec
-  xs = recs_in c
-
   abbrev kept : List UserRec
-  kept = users_not_in changed c.users
+  kept = users_not_in changed s.online.contents.users
 
   abbrev k : state.Holding
   k = held_in v s.online
@@ -108,51 +102,51 @@ module _ (v : View) (s : StoreFacts) (plan : Plan) (pins : List Pin) (content : 
   entry_copy e = if state.is_in k.kept e.0.user then None else (state.place_at places e.1.stamp).copy
 
   abbrev entry : File → Full × FileRow
-  entry f = (full_of c.users f.rec, file_row_of c.users (λ r. v.text r.stamp) f.rec)
+  entry f = (full_of s.online.contents.users f.rec, file_row_of s.online.contents.users (λ r. v.text r.stamp) f.rec)
 
   -- THE FILES OF THE PLAN
-  in_recs : (r : FileRec) → Contains plan.files r → Contains xs r × (holds changed r.owner ≡ true)
+  in_recs : (r : FileRec) → Contains plan.files r → Contains (recs_in s.online.contents) r × (holds changed r.owner ≡ true)
   in_recs r there =
       let held : holds changed r.owner ≡ true =
       subst (λ (ns : List ℕ). holds ns r.owner ≡ true) is.planned.held (All-contains (λ (q : FileRec). holds plan.held q.owner ≡ true) plan.files r is.planned.rules.owners there) in (
-        from_filter (λ (q : FileRec). q.owner == r.owner) xs r
+        from_filter (λ (q : FileRec). q.owner == r.owner) (recs_in s.online.contents) r
             (subst (λ (rs : List FileRec). Contains rs r) (is.planned.files r.owner held)
             (contains_filter (λ (q : FileRec). q.owner == r.owner) plan.files r there (eq-eqb r.owner r.owner refl))),
         held,
       )
 
-  in_plan_files : (r : FileRec) → Contains xs r → holds changed r.owner ≡ true → Contains plan.files r
+  in_plan_files : (r : FileRec) → Contains (recs_in s.online.contents) r → holds changed r.owner ≡ true → Contains plan.files r
   in_plan_files r there held =
       from_filter (λ (q : FileRec). q.owner == r.owner) plan.files r
       (subst (λ (rs : List FileRec). Contains rs r) (sym (is.planned.files r.owner held))
-      (contains_filter (λ (q : FileRec). q.owner == r.owner) xs r there (eq-eqb r.owner r.owner refl)))
+      (contains_filter (λ (q : FileRec). q.owner == r.owner) (recs_in s.online.contents) r there (eq-eqb r.owner r.owner refl)))
 
-  one_rec : (q r : FileRec) → Contains xs q → Contains xs r → q.stamp ≡ r.stamp → q ≡ r
-  one_rec q r in_q in_r same = one_of_key stamp_of xs q r is.dumpable.records.among_files.stamps in_q in_r same
+  one_rec : (q r : FileRec) → Contains (recs_in s.online.contents) q → Contains (recs_in s.online.contents) r → q.stamp ≡ r.stamp → q ≡ r
+  one_rec q r in_q in_r same = one_of_key stamp_of (recs_in s.online.contents) q r is.dumpable.records.among_files.stamps in_q in_r same
 
   -- BY STAMP: the copies of the plan's records and those of the state
-  here : (q : ℕ) (f : File) → Contains c.files f → f.rec.stamp ≡ q → (holds changed f.rec.owner ≡ true) ⊎ (holds changed f.rec.owner ≡ false)
+  here : (q : ℕ) (f : File) → Contains s.online.contents.files f → f.rec.stamp ≡ q → (holds changed f.rec.owner ≡ true) ⊎ (holds changed f.rec.owner ≡ false)
       → find nat_cmp q (copies_by stamp_of copy_by plan.files) ≡ find nat_cmp q (copies_by entry_stamp entry_copy (entries k.tree.files))
   here q f in_files stamp by_owner =
       by_plan by_owner
       ∙ sym (find_copy entry_stamp entry_copy (entries k.tree.files) q (entry_copy (entry f)) (entry f)
-      (entry_there v.text v.shelf changed c plan pins (are v s plan pins content opened is) kept f in_files) stamp
-      (entries_all v.text v.shelf changed c plan pins (are v s plan pins content opened is) kept (λ (e : Full × FileRow). entry_stamp e ≡ q → entry_copy e ≡ entry_copy (entry f))
+      (entry_there v.text v.shelf changed s.online.contents plan pins (are v s plan pins content opened is) kept f in_files) stamp
+      (entries_all v.text v.shelf changed s.online.contents plan pins (are v s plan pins content opened is) kept (λ (e : Full × FileRow). entry_stamp e ≡ q → entry_copy e ≡ entry_copy (entry f))
       (λ i d within same.
-      let g = get_or c.files i d in
-      let in_g : Contains xs g.rec = mapped_there (λ (h : File). h.rec) c.files g (Contains-get_or c.files i d within) in
-      ap (λ (r : FileRec). entry_copy (full_of c.users r, file_row_of c.users (λ (w : FileRec). v.text w.stamp) r)) (one_rec g.rec f.rec in_g there (same ∙ sym stamp)))))
+      let g = get_or s.online.contents.files i d in
+      let in_g : Contains (recs_in s.online.contents) g.rec = mapped_there (λ (h : File). h.rec) s.online.contents.files g (Contains-get_or s.online.contents.files i d within) in
+      ap (λ (r : FileRec). entry_copy (full_of s.online.contents.users r, file_row_of s.online.contents.users (λ (w : FileRec). v.text w.stamp) r)) (one_rec g.rec f.rec in_g there (same ∙ sym stamp)))))
     where
-      there : Contains xs f.rec
-      there = mapped_there (λ (h : File). h.rec) c.files f in_files
+      there : Contains (recs_in s.online.contents) f.rec
+      there = mapped_there (λ (h : File). h.rec) s.online.contents.files f in_files
 
-      owner : f.rec.owner < length c.users
-      owner = All-contains (λ (r : FileRec). r.owner < length c.users) xs f.rec is.dumpable.records.among_files.owners there
+      owner : f.rec.owner < length s.online.contents.users
+      owner = All-contains (λ (r : FileRec). r.owner < length s.online.contents.users) (recs_in s.online.contents) f.rec is.dumpable.records.among_files.owners there
 
-      is_kept : (b : Bool) → holds changed f.rec.owner ≡ b → not (state.is_in k.kept (name_of c.users f.rec.owner)) ≡ b
-      is_kept b is_b = kept_is c.users xs changed f.rec.owner is.dumpable.records owner ∙ is_b
+      is_kept : (b : Bool) → holds changed f.rec.owner ≡ b → not (state.is_in k.kept (name_of s.online.contents.users f.rec.owner)) ≡ b
+      is_kept b is_b = kept_is s.online.contents.users (recs_in s.online.contents) changed f.rec.owner is.dumpable.records owner ∙ is_b
 
-      value_is : (b : Bool) → state.is_in k.kept (name_of c.users f.rec.owner) ≡ b → entry_copy (entry f) ≡ (if b then None else copy_by f.rec)
+      value_is : (b : Bool) → state.is_in k.kept (name_of s.online.contents.users f.rec.owner) ≡ b → entry_copy (entry f) ≡ (if b then None else copy_by f.rec)
       value_is b is_b =
           ap (λ (x : Bool). if x then None else (state.place_at places f.rec.stamp).copy) is_b
           ∙ ap (λ (p : state.Place). let o : Option TapeCopy = if b then None else p.copy in o) (place_of_rec v s plan pins content opened is f.rec there)
@@ -163,39 +157,39 @@ module _ (v : View) (s : StoreFacts) (plan : Plan) (pins : List Pin) (content : 
           (λ i d within same.
           let r = get_or plan.files i d in
           ap copy_by (one_rec r f.rec (in_recs r (Contains-get_or plan.files i d within)).0 there (same ∙ sym stamp)))
-          ∙ sym (value_is false (not-true (state.is_in k.kept (name_of c.users f.rec.owner)) (is_kept true held)))
+          ∙ sym (value_is false (not-true (state.is_in k.kept (name_of s.online.contents.users f.rec.owner)) (is_kept true held)))
       by_plan (inr isnt) =
           no_copy_of stamp_of copy_by plan.files q
           (λ i d within same.
           let r = get_or plan.files i d in
           let (in_r, held) = in_recs r (Contains-get_or plan.files i d within) in
           both_ways (holds changed f.rec.owner) isnt (ap (λ (w : FileRec). holds changed w.owner) (sym (one_rec r f.rec in_r there (same ∙ sym stamp))) ∙ held))
-          ∙ sym (value_is true (not-false (state.is_in k.kept (name_of c.users f.rec.owner)) (is_kept false isnt)))
+          ∙ sym (value_is true (not-false (state.is_in k.kept (name_of s.online.contents.users f.rec.owner)) (is_kept false isnt)))
 
-  nowhere : (q : ℕ) → ((f : File) → Contains c.files f → f.rec.stamp ≡ q → ⊥)
+  nowhere : (q : ℕ) → ((f : File) → Contains s.online.contents.files f → f.rec.stamp ≡ q → ⊥)
       → find nat_cmp q (copies_by stamp_of copy_by plan.files) ≡ find nat_cmp q (copies_by entry_stamp entry_copy (entries k.tree.files))
   nowhere q none =
       no_copy_of stamp_of copy_by plan.files q
       (λ i d within same.
       let r = get_or plan.files i d in
-      let (f, in_files, is_r) = from_mapped (λ (h : File). h.rec) c.files r (in_recs r (Contains-get_or plan.files i d within)).0 in
+      let (f, in_files, is_r) = from_mapped (λ (h : File). h.rec) s.online.contents.files r (in_recs r (Contains-get_or plan.files i d within)).0 in
       none f in_files (ap (λ (w : FileRec). w.stamp) is_r ∙ same))
       ∙ sym (no_copy_of entry_stamp entry_copy (entries k.tree.files) q
-      (entries_all v.text v.shelf changed c plan pins (are v s plan pins content opened is) kept (λ (e : Full × FileRow). entry_stamp e ≡ q → ⊥)
-      (λ i d within same. none (get_or c.files i d) (Contains-get_or c.files i d within) same)))
+      (entries_all v.text v.shelf changed s.online.contents plan pins (are v s plan pins content opened is) kept (λ (e : Full × FileRow). entry_stamp e ≡ q → ⊥)
+      (λ i d within same. none (get_or s.online.contents.files i d) (Contains-get_or s.online.contents.files i d within) same)))
 
-  own_by : (q : ℕ) (o : Option File) → find nat_cmp q (keyed (λ (f : File). f.rec.stamp) c.files) ≡ o
+  own_by : (q : ℕ) (o : Option File) → find nat_cmp q (keyed (λ (f : File). f.rec.stamp) s.online.contents.files) ≡ o
       → find nat_cmp q (copies_by stamp_of copy_by plan.files) ≡ find nat_cmp q (copies_by entry_stamp entry_copy (entries k.tree.files))
   own_by q (Some f) e =
-      let one = found_one nat_cmp_total nat_cmp-IsAntisymmetric (λ (g : File). g.rec.stamp) q c.files f e in
+      let one = found_one nat_cmp_total nat_cmp-IsAntisymmetric (λ (g : File). g.rec.stamp) q s.online.contents.files f e in
       here q f one.0 one.1 (cases_Bool (holds changed f.rec.owner))
   own_by q None e = nowhere q (λ f in_files same. no_file f in_files same)
     where
-      no_file : (f : File) → Contains c.files f → f.rec.stamp ≡ q → ⊥
+      no_file : (f : File) → Contains s.online.contents.files f → f.rec.stamp ≡ q → ⊥
       no_file f in_files same =
           none-some f
-          (sym e ∙ subst (λ (n : ℕ). find nat_cmp n (keyed (λ (g : File). g.rec.stamp) c.files) ≡ Some f) same
-          (found_itself nat_cmp_total nat_cmp-IsAntisymmetric (λ (g : File). g.rec.stamp) c.files f (distinct v s plan pins content opened is) in_files))
+          (sym e ∙ subst (λ (n : ℕ). find nat_cmp n (keyed (λ (g : File). g.rec.stamp) s.online.contents.files) ≡ Some f) same
+          (found_itself nat_cmp_total nat_cmp-IsAntisymmetric (λ (g : File). g.rec.stamp) s.online.contents.files f (distinct v s plan pins content opened is) in_files))
 
   -- the copies of the dump's records, whatever their numbers
   plan_copies : own_of (dump_of plan content) ≡ from_entries {R = nat_cmp} (copies_by stamp_of copy_by plan.files)
@@ -216,7 +210,7 @@ module _ (v : View) (s : StoreFacts) (plan : Plan) (pins : List Pin) (content : 
       ap own_of is.opens.dump ∙ plan_copies
       ∙ same_map nat_cmp_total nat_cmp-IsAntisymmetric (from_entries (copies_by stamp_of copy_by plan.files)) (from_entries (copies_by entry_stamp entry_copy (entries k.tree.files)))
       (λ q. get-from_entries nat_cmp_total (copies_by stamp_of copy_by plan.files) q
-      ∙ own_by q (find nat_cmp q (keyed (λ (f : File). f.rec.stamp) c.files)) refl
+      ∙ own_by q (find nat_cmp q (keyed (λ (f : File). f.rec.stamp) s.online.contents.files)) refl
       ∙ sym (get-from_entries nat_cmp_total (copies_by entry_stamp entry_copy (entries k.tree.files)) q))
       ∙ sym state_copies
 
@@ -227,8 +221,8 @@ module _ (v : View) (s : StoreFacts) (plan : Plan) (pins : List Pin) (content : 
   place_is : state.end_of old plan.serial ≡ plan.place
   place_is = reel_end v.shelf plan.serial reels is.on ∙ sym is.planned.place
 
-  none_touched : names_of (users_in [] c.users) ≡ empty
-  none_touched = ap names_of (filter_none (λ (u : UserRec). has [] u.number) c.users (λ i d within. refl))
+  none_touched : names_of (users_in [] s.online.contents.users) ≡ empty
+  none_touched = ap names_of (filter_none (λ (u : UserRec). has [] u.number) s.online.contents.users (λ i d within. refl))
 
   state_by : ℕ → ℕ → ℕ → Tree → FinMap nat_cmp state.Place → FinMap nat_cmp ℕ → FinMap nat_cmp TapeCopy → state.Users → state.State
   state_by place number needed tree where_ waits own touched = record old {
@@ -248,10 +242,10 @@ module _ (v : View) (s : StoreFacts) (plan : Plan) (pins : List Pin) (content : 
   }
 
   needs_is : needs plan ≡ dump_needs k
-  needs_is = sym (opening_takes.needs v.text v.shelf changed c plan pins (are v s plan pins content opened is))
+  needs_is = sym (opening_takes.needs v.text v.shelf changed s.online.contents plan pins (are v s plan pins content opened is))
 
   waits_is : waiting_of (Some pins) ≡ waiting k
-  waits_is = opening_takes.waits v.text v.shelf changed c plan pins kept (are v s plan pins content opened is)
+  waits_is = opening_takes.waits v.text v.shelf changed s.online.contents plan pins kept (are v s plan pins content opened is)
 
   trees : (open_tree v.text v.opened).0 ≡ k.tree
   trees = ap (λ (o : Option Opened). (open_tree v.text o).0) is.opens.is ∙ tree_is v s plan pins content opened is

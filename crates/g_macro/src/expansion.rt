@@ -69,6 +69,14 @@ pub(crate) fn fill_in(alloc: Global, params: &[Text], line: &[u8]) -> Result<Fil
             is_cut: false,
         });
     }
+    expanded(alloc, params, line)
+}
+
+/// The same by way of a front. That is large, so a line that has no `%` doesn't make one.
+fn expanded(alloc: Global, params: &[Text], line: &[u8]) -> Result<Filled, NoMemory>
+    requires { length params.now ≡ 24 }
+    ensures { IfOk result (IsFilled (expansion.substituted params.now line.now)) }
+{
     let front = expand(params, line);
     let text = Text::from_slice(alloc, front.bytes.as_slice())?;
     Ok(Filled {

@@ -35,14 +35,13 @@ impl<D: Disc> Online<D> {
         ensures tied { IsTied self.new }
         ensures only { IfErr result (λ e. (e ≡ OnlineFault.ReadFault) ⊎ (e ≡ OnlineFault.NoMemory)) }
     {
-        let Some(found) = copy_of(&self.online, number) else {
+        let Some(copy) = copy_of(&self.online, number) else {
             unreachable!()
         };
-        let copy = found.copy();
         if copy.len == 0 {
             return Ok(Text::from(Vec::new(alloc)));
         }
-        match read_copy(alloc, &mut self.disc, &copy) {
+        match read_copy(alloc, &mut self.disc, copy) {
             Ok(text) => Ok(text),
             Err(CopyFault::ReadFault) => Err(OnlineFault::ReadFault),
             Err(_) => Err(OnlineFault::NoMemory),

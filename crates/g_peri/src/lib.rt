@@ -8,6 +8,7 @@ mod numbers;
 mod ordered;
 mod unit;
 mod units;
+mod writers;
 
 pub use ordered::OrderEvent;
 pub use unit::{Kind, Unit};

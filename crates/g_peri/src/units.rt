@@ -14,6 +14,7 @@ use crate::control::{Control, read_control};
 use crate::deck::Deck;
 use crate::layout::{put_line, trimmed_len};
 use crate::unit::{Kind, Unit};
+use crate::writers::{Writers, vacant};
 use arrayvec::ArrayVec;
 use g_base::{MAX_FILE_BYTES, NoMemory};
 use g_mill::Program;
@@ -48,12 +49,12 @@ pub enum PeriFault {
 #[derive(Debug, Drop)]
 pub struct Units {
     readers: Vec<Option<Deck>>,
-    writers: Vec<Option<(Path, Text)>>,
+    writers: Writers,
     alloc: Global,
 }
 
 impl Model for Units {
-    ghost use Rattle.std.specs.Prelude.{◌≡◌, vec_len, All};
+    ghost use Rattle.std.specs.Prelude.{◌≡◌, vec_len, length, All};
     ghost use Rattle.std.specs.Coded.{codes};
     ghost use Rattle.g_name.specs.contracts.path.Path as path;
     ghost use Rattle.g_peri.specs.JobUnits.{Held, IsShort};
@@ -62,10 +63,9 @@ impl Model for Units {
 
     ghost coded = { Prim.hlevel (codes, path.the_row.coded) };
 
-    ghost view = { λ u. record { readers = u.readers.items; writers = u.writers.items } };
+    ghost view = { λ u. record { readers = u.readers.items; writers = u.writers } };
 
-    ghost invariant = { λ u. (vec_len u.readers ≡ 8) × (vec_len u.writers ≡ 16)
-        × All IsShort u.writers.items };
+    ghost invariant = { λ u. (vec_len u.readers ≡ 8) × (length u.writers ≡ 16) × All IsShort u.writers };
 }
 
 impl Units {
@@ -74,7 +74,7 @@ impl Units {
         ensures { IfOk result (λ u. u ≡ held.vacant) }
     {
         let readers = vacant(alloc, 8)?;
-        let writers = vacant(alloc, 16)?;
+        let writers = Writers::new(alloc)?;
         Ok(Units {
             readers,
             writers,
@@ -89,7 +89,7 @@ impl Units {
     {
         match unit.kind {
             Kind::Cr => self.readers[usize::from(unit.number)].is_some(),
-            Kind::Lp | Kind::Tp => self.writers[unit.place()].is_some(),
+            Kind::Lp | Kind::Tp => self.writers.get(unit.place()).is_some(),
         }
     }
 
@@ -124,7 +124,7 @@ impl Units {
             return Err(UnitFault::InUse);
         }
         let text = Text::new(self.alloc);
-        self.writers[unit.place()] = Some((path, text));
+        self.writers.set(unit.place(), Some((path, text)));
         Ok(())
     }
 
@@ -145,7 +145,7 @@ impl Units {
                 self.readers[usize::from(unit.number)] = None;
                 Ok(None)
             }
-            Kind::Lp | Kind::Tp => Ok(self.writers[unit.place()].take()),
+            Kind::Lp | Kind::Tp => Ok(self.writers.take(unit.place())),
         }
     }
 
@@ -238,7 +238,7 @@ impl Units {
         ensures no_memory { IfErr result
             (λ _. has_room (held.at_place self.old.writers place) bytes.now ≡ true) }
     {
-        let Some((_path, text)) = &self.writers[place] else {
+        let Some((_path, text)) = self.writers.get(place) else {
             return Ok(2);
         };
         if bytes.len() > LIMIT - text.as_slice().len() {
@@ -257,10 +257,7 @@ impl Units {
             (option_map (λ o. (o.0, o.1 ++ bytes.now)) (held.at_place self.old.writers place))) }
         ensures err { OnErr result (self.new ≡ self.old) }
     {
-        match &mut self.writers[place] {
-            Some((_path, text)) => text.extend(bytes),
-            None => Ok(()),
-        }
+        self.writers.extend(place, bytes)
     }
 }
 
@@ -286,15 +283,4 @@ fn end_line(bytes: &mut ArrayVec<u8, 161>)
     let end = trimmed_len(bytes.as_slice());
     bytes.truncate(end);
     bytes.push(b'\n');
-}
-
-/// Places of which none is assigned.
-fn vacant<T: Drop>(alloc: Global, count: usize) -> Result<Vec<Option<T>>, NoMemory>
-    ensures { IfOk result (λ v. v.items ≡ replicate count None) }
-{
-    let mut places = Vec::with_capacity(alloc, count)?;
-    for _ in 0..count {
-        places.push(None)?;
-    }
-    Ok(places)
 }

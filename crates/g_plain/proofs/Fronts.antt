@@ -1,13 +1,14 @@
 -- Tests that come before others.
 use Rattle.std.proofs.Common.{◌≡◌, Bool, true, false, cond, not, ◌++◌, List, [], ◌∷◌, ℕ, Option, Some, None, Result, Ok, Err, is_some, refl, sym, ap, ◌∙◌, true≢false}
 use Rattle.std.specs.List.{AllByRecursion}
-use Rattle.g_plain.specs.declared.refusals.CallName.{CallName}
+use Rattle.g_name.specs.declared.full.Full.{Full}
+use Rattle.g_plain.specs.declared.refusals.GrantedName.{GrantedName}
 use Rattle.g_plain.specs.declared.calls.StoreCall.{StoreCall}
 use Rattle.g_plain.specs.declared.faults.StoreFault.{StoreFault}
 use Rattle.g_plain.specs.declared.faults.StoreFault.TheVariants.{NoUser}
 use Rattle.g_plain.specs.PlainTree.{Tree, has_user}
 use Rattle.g_plain.specs.PlainStep.{Checks, first_fault, checks, fault_of}
-use Rattle.g_plain.specs.Grants.{fault_or, granted_by, granted_of, name_in}
+use Rattle.g_plain.specs.Grants.{fault_or, granted_by, granted_of, name_granted, name_in}
 use Rattle.g_plain.proofs.StepKept.{all_passed}
 
 front_some : (a b : Checks) → is_some (first_fault a) ≡ true → first_fault a ≡ first_fault (a ++ b)
@@ -52,10 +53,10 @@ known t who call other r there is e =
     e ∙ ap (λ b. cond (not b) (Some NoUser) (first_fault (checks t who other))) (sym there) ∙ ap (fault_of t who) (sym is)
 
 -- what is granted to a caller who is there
-pub known_granted : (t : Tree) (who : List ℕ) (call other : StoreCall) (r : Result CallName StoreFault) → has_user t who ≡ true → call ≡ other
-    → r ≡ granted_by (checks t who other) (name_in t who other) → r ≡ granted_of t who call
-known_granted t who call other r there is e =
-    e ∙ ap (λ b. fault_or (cond (not b) (Some NoUser) (first_fault (checks t who other))) (name_in t who other)) (sym there) ∙ ap (granted_of t who) (sym is)
+pub known_granted : (numbers : Full → Option ℕ) (t : Tree) (who : List ℕ) (call other : StoreCall) (r : Result GrantedName StoreFault) → has_user t who ≡ true → call ≡ other
+    → r ≡ granted_by (checks t who other) (name_granted numbers (name_in t who other)) → r ≡ granted_of numbers t who call
+known_granted numbers t who call other r there is e =
+    e ∙ ap (λ b. fault_or (cond (not b) (Some NoUser) (first_fault (checks t who other))) (name_granted numbers (name_in t who other))) (sym there) ∙ ap (granted_of numbers t who) (sym is)
 
 fault_is : {A : Type 0} (o : Option StoreFault) (v : A) (f : StoreFault) → Err f ≡ fault_or o v → o ≡ Some f
 fault_is (Some g) v f e = cc

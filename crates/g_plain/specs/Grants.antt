@@ -1,10 +1,13 @@
 -- What a call that isn't refused is granted.
 use Rattle.std.specs.Prelude.{ℕ, List, Option, Some, None, Result, Ok, Err}
+use Rattle.g_name.specs.declared.full.Full.{Full}
 use Rattle.g_plain.specs.declared.calls.StoreCall.{StoreCall}
 use Rattle.g_plain.specs.declared.calls.StoreCall.TheVariants.{NewUser, Budget, Put, List as ListFiles, Append, Fetch, Erase, Rename, TrapGo, TrapStop, TrapCheck, Retrieve}
 use Rattle.g_plain.specs.declared.faults.StoreFault.{StoreFault}
+use Rattle.g_plain.specs.declared.names.NamedFile.{NamedFile}
 use Rattle.g_plain.specs.declared.refusals.CallName.{CallName}
 use Rattle.g_plain.specs.declared.refusals.CallName.TheVariants.{Nothing, Input, Output}
+use Rattle.g_plain.specs.declared.refusals.GrantedName.{GrantedName}
 use Rattle.g_plain.specs.PlainTree.{Tree, input_name, output_name}
 use Rattle.g_plain.specs.PlainStep.{Checks, first_fault, fault_of}
 
@@ -32,6 +35,19 @@ name_in tree who (TrapStop path user modes) = Input (input_name tree who path)
 name_in tree who (TrapCheck path user) = Input (input_name tree who path)
 name_in tree who (Retrieve path) = Input (input_name tree who path)
 
--- WHAT A CALL IS GRANTED: the name of its file, where it has no fault
-abbrev pub granted_of : Tree → List ℕ → StoreCall → Result CallName StoreFault
-granted_of tree who call = fault_or (fault_of tree who call) (name_in tree who call)
+-- a full name with the number of the file that has it
+abbrev pub file_named : (Full → Option ℕ) → Full → NamedFile
+file_named numbers full = record { full = full; number = numbers full }
+
+-- the number of the file that has the name of a call
+abbrev pub number_in : (Full → Option ℕ) → CallName → Option ℕ
+number_in numbers Nothing = None
+number_in numbers (Input full) = numbers full
+number_in numbers (Output full) = numbers full
+
+abbrev pub name_granted : (Full → Option ℕ) → CallName → GrantedName
+name_granted numbers name = record { name = name; number = number_in numbers name }
+
+-- WHAT A CALL IS GRANTED: the name of its file, where it has no fault, and the number of the file that has it
+abbrev pub granted_of : (Full → Option ℕ) → Tree → List ℕ → StoreCall → Result GrantedName StoreFault
+granted_of numbers tree who call = fault_or (fault_of tree who call) (name_granted numbers (name_in tree who call))

@@ -8,6 +8,15 @@ ghost use Rattle.g_plain.specs.Rules.{IsNamed};
 use crate::StoreCall;
 use g_name::{Full, Lang, Local, Path, User};
 
+/// A full name, and the number of the file that has it: whoever answers for the files gives it, and
+/// knows the file by it.
+#[derive(Debug, Drop)]
+pub struct NamedFile {
+    pub full: Full,
+    /// None where no file has the name.
+    pub number: Option<u16>,
+}
+
 /// The full name that a path gives with a generation, where an absent user is the caller, and an
 /// absent language that of four spaces.
 pub fn named(who: &User, path: &Path, generation: u16) -> Full

@@ -4,7 +4,9 @@ ghost use Rattle.g_plain.specs.PlainTree.{formatted};
 
 use crate::names::call_is_named;
 use crate::plain_tree::PlainTree;
-use crate::{Filestore, HoldsTree, Questions, StoreCall, StoreFault, StoreReply, refusal};
+use crate::{
+    Filestore, HoldsTree, NamedFile, Questions, StoreCall, StoreFault, StoreReply, refusal,
+};
 use g_base::NoMemory;
 use g_name::{Full, Path, User};
 use g_trap::Modes;
@@ -44,7 +46,13 @@ impl PlainStore {
 }
 
 impl Questions for PlainStore {
+    ghost use Rattle.std.specs.Option.{option_map};
+    ghost use Rattle.std.specs.FinMap.{get};
+
     ghost tree = { λ s. s };
+
+    // A file is known by its name here: its number tells that it is there.
+    ghost numbers = { λ s full. option_map (λ row. 0) (get s.files full) };
 
     fn has_user(&self, user: &User) -> bool {
         self.tree.has_user(user)
@@ -78,20 +86,29 @@ impl Questions for PlainStore {
         self.tree.output_name(who, path)
     }
 
-    fn len_of(&self, full: &Full) -> u32 {
-        self.tree.len_of(full)
+    fn find(&self, full: Full) -> NamedFile {
+        let number = if self.tree.has_file(&full) {
+            Some(0)
+        } else {
+            None
+        };
+        NamedFile { full, number }
     }
 
-    fn space_left(&self, full: &Full) -> u32 {
-        self.tree.space_left(full)
+    fn len_of(&self, file: &NamedFile) -> u32 {
+        self.tree.len_of(&file.full)
     }
 
-    fn modes_of(&self, full: &Full, user: &User) -> Modes {
-        self.tree.modes_of(full, user)
+    fn space_left(&self, file: &NamedFile) -> u32 {
+        self.tree.space_left(&file.full)
     }
 
-    fn is_ninth(&self, full: &Full, user: &User, modes: Modes) -> bool {
-        self.tree.is_ninth(full, user, modes)
+    fn modes_of(&self, file: &NamedFile, user: &User) -> Modes {
+        self.tree.modes_of(&file.full, user)
+    }
+
+    fn is_ninth(&self, file: &NamedFile, user: &User, modes: Modes) -> bool {
+        self.tree.is_ninth(&file.full, user, modes)
     }
 
     fn stamps_spent(&self) -> bool {

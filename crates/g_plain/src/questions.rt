@@ -1,20 +1,27 @@
 //! What has to be known of a tree to tell whether a call is granted.
-ghost use Rattle.std.specs.Prelude.{◌≡◌, ◌≤◌, ◌^◌, ◌&&◌, ◌==◌, not, nat_le, true, length, is_none};
+ghost use Rattle.std.specs.Prelude.{◌≡◌, ◌≤◌, ◌^◌, ◌&&◌, ◌==◌, not, nat_le, true, length, is_none, is_some};
 ghost use Rattle.std.specs.FinMap.{get, len};
 ghost use Rattle.g_name.specs.Order.{same_text};
 ghost use Rattle.g_plain.specs.PlainTree as plain;
 ghost use Rattle.g_plain.specs.PlainStep as step;
+ghost use Rattle.g_plain.specs.Grants.{file_named};
 
+use crate::NamedFile;
 use g_name::{Full, Path, User};
 use g_trap::Modes;
 
 /// Whoever answers for a tree of users and files, by name. The tree in memory answers, and so do
 /// numbered records. No answer takes memory or reads a device.
 pub trait Questions {
+    ghost use Rattle.std.specs.Prelude.{ℕ, Option};
+    ghost use Rattle.g_name.specs.declared.full.Full.{Full};
     ghost use Rattle.g_plain.specs.PlainTree.{Tree};
 
     // The tree that is asked about.
     ghost tree: { Self → Tree };
+
+    // The number that whoever answers has for the file of a full name.
+    ghost numbers: { Self → Full → Option ℕ };
 
     fn has_user(&self, user: &User) -> bool
         ensures { result ≡ plain.has_user (tree self.now) user.now };
@@ -49,29 +56,39 @@ pub trait Questions {
     fn output_name(&self, who: &User, path: &Path) -> Full
         ensures { result ≡ plain.output_name (tree self.now) who.now path.now };
 
+    /// The file of a full name with its number, which all that is asked about the file goes by. So the
+    /// name is looked for once.
+    fn find(&self, full: Full) -> NamedFile
+        ensures named { result ≡ file_named (numbers self.now) full }
+        ensures there { is_some result.number ≡ plain.has_file (tree self.now) full };
+
     /// The length of a file in bytes.
-    fn len_of(&self, full: &Full) -> u32
-        requires { plain.has_file (tree self.now) full.now ≡ true }
-        ensures len { result ≡ length (plain.file_row (tree self.now) full.now).bytes }
+    fn len_of(&self, file: &NamedFile) -> u32
+        requires there { plain.has_file (tree self.now) file.now.full ≡ true }
+        requires numbered { file.now.number ≡ numbers self.now file.now.full }
+        ensures len { result ≡ length (plain.file_row (tree self.now) file.now.full).bytes }
         ensures few { result ≤ 65536 };
 
     /// The blocks of 512 bytes that the owner has left for a file of this name.
-    fn space_left(&self, full: &Full) -> u32
-        requires { plain.has_user (tree self.now) full.now.user ≡ true }
-        ensures { result ≡ step.space_left (tree self.now) full.now };
+    fn space_left(&self, file: &NamedFile) -> u32
+        requires owner { plain.has_user (tree self.now) file.now.full.user ≡ true }
+        requires numbered { file.now.number ≡ numbers self.now file.now.full }
+        ensures { result ≡ step.space_left (tree self.now) file.now.full };
 
     /// What a user may do with a file.
-    fn modes_of(&self, full: &Full, user: &User) -> Modes
-        requires file { plain.has_file (tree self.now) full.now ≡ true }
+    fn modes_of(&self, file: &NamedFile, user: &User) -> Modes
+        requires file { plain.has_file (tree self.now) file.now.full ≡ true }
         requires user { plain.has_user (tree self.now) user.now ≡ true }
-        ensures { let row = plain.file_row (tree self.now) full.now in
-            result ≡ plain.modes_of row full.now user.now };
+        requires numbered { file.now.number ≡ numbers self.now file.now.full }
+        ensures { let row = plain.file_row (tree self.now) file.now.full in
+            result ≡ plain.modes_of row file.now.full user.now };
 
     /// Whether a user who is to get these modes of a file would be the ninth beside its owner.
-    fn is_ninth(&self, full: &Full, user: &User, modes: Modes) -> bool
-        requires file { plain.has_file (tree self.now) full.now ≡ true }
+    fn is_ninth(&self, file: &NamedFile, user: &User, modes: Modes) -> bool
+        requires file { plain.has_file (tree self.now) file.now.full ≡ true }
         requires user { plain.has_user (tree self.now) user.now ≡ true }
-        ensures { let traps = (plain.file_row (tree self.now) full.now).traps in
+        requires numbered { file.now.number ≡ numbers self.now file.now.full }
+        ensures { let traps = (plain.file_row (tree self.now) file.now.full).traps in
             result ≡ (not (modes == 0) && is_none (get traps user.now) && nat_le 9 (len traps)) };
 
     /// Whether no stamp is left for a new version.

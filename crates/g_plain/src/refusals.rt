@@ -1,14 +1,14 @@
 //! Why a call is refused: the tests of each call, in the order in which its faults come. The name that
 //! its path gives is looked up once, and handed on.
-ghost use Rattle.std.specs.Prelude.{◌≡◌, ℕ, List, [], ◌∷◌, None, Some, true};
+ghost use Rattle.std.specs.Prelude.{◌≡◌, ℕ, List, [], ◌∷◌, None, Some, is_some, true};
 ghost use Rattle.g_plain.specs.declared.calls.BudgetKind.{BudgetKind};
 ghost use Rattle.g_plain.specs.PlainTree as plain;
 ghost use Rattle.g_plain.specs.PlainStep.{Checks, checks, first_fault, fault_in, fault_of};
 ghost use Rattle.g_plain.specs.PlainStep.{input_checks, size_checks, spent_check};
-ghost use Rattle.g_plain.specs.Grants.{fault_or, granted_by, granted_of};
+ghost use Rattle.g_plain.specs.Grants.{fault_or, file_named, granted_by, granted_of};
 
 use crate::names::with_local;
-use crate::{Questions, StoreCall, StoreFault};
+use crate::{NamedFile, Questions, StoreCall, StoreFault};
 use g_base::blocks_for;
 use g_name::{Full, Local, Path, Text, User};
 use g_trap::{Mode, Modes};
@@ -24,6 +24,14 @@ pub enum CallName {
     Output(Full),
 }
 
+/// What a granted call is given: the full name of its file, and the number of the file that has it.
+#[derive(Debug, Drop)]
+pub struct GrantedName {
+    pub name: CallName,
+    /// None where the call names no file, or no file has the name.
+    pub number: Option<u16>,
+}
+
 /// The fault of a call, or None where it is granted. A caller who isn't there is NoUser, first of
 /// all.
 pub fn refusal<Q: Questions>(questions: &Q, who: &User, call: &StoreCall) -> Option<StoreFault>
@@ -35,13 +43,13 @@ pub fn refusal<Q: Questions>(questions: &Q, who: &User, call: &StoreCall) -> Opt
     }
 }
 
-/// The full name that a granted call gives its file. Else the call's fault, as `refusal` tells it.
+/// The full name that a granted call gives its file, with the file's number. Else the call's fault, as `refusal` tells it.
 pub fn granted_name<Q: Questions>(
     questions: &Q,
     who: &User,
     call: &StoreCall,
-) -> Result<CallName, StoreFault>
-    ensures { result ≡ granted_of (Q.tree questions.now) who.now call.now }
+) -> Result<GrantedName, StoreFault>
+    ensures { result ≡ granted_of (Q.numbers questions.now) (Q.tree questions.now) who.now call.now }
 {
     if !questions.has_user(who) {
         return Err(StoreFault::NoUser);
@@ -65,33 +73,42 @@ pub fn granted_name<Q: Questions>(
 }
 
 /// What is granted to a call that names no file.
-fn nameless(fault: Option<StoreFault>) -> Result<CallName, StoreFault>
-    ensures { result ≡ fault_or fault CallName.Nothing }
+fn nameless(fault: Option<StoreFault>) -> Result<GrantedName, StoreFault>
+    ensures { result ≡ fault_or fault (record { name = CallName.Nothing; number = None }) }
 {
     match fault {
         Some(fault) => Err(fault),
-        None => Ok(CallName::Nothing),
+        None => Ok(GrantedName {
+            name: CallName::Nothing,
+            number: None,
+        }),
     }
 }
 
 /// What is granted to a call that names a file for input.
-fn input(named: Result<Full, StoreFault>) -> Result<CallName, StoreFault>
-    ensures { (checks : Checks) (full : Full) → named ≡ granted_by checks full
-        → result ≡ granted_by checks (CallName.Input full) }
+fn input(named: Result<NamedFile, StoreFault>) -> Result<GrantedName, StoreFault>
+    ensures { (checks : Checks) (file : NamedFile) → named ≡ granted_by checks file
+        → result ≡ granted_by checks (record { name = CallName.Input file.full; number = file.number }) }
 {
     match named {
-        Ok(full) => Ok(CallName::Input(full)),
+        Ok(NamedFile { full, number }) => Ok(GrantedName {
+            name: CallName::Input(full),
+            number,
+        }),
         Err(fault) => Err(fault),
     }
 }
 
 /// What is granted to a call that names a file for output.
-fn output(named: Result<Full, StoreFault>) -> Result<CallName, StoreFault>
-    ensures { (checks : Checks) (full : Full) → named ≡ granted_by checks full
-        → result ≡ granted_by checks (CallName.Output full) }
+fn output(named: Result<NamedFile, StoreFault>) -> Result<GrantedName, StoreFault>
+    ensures { (checks : Checks) (file : NamedFile) → named ≡ granted_by checks file
+        → result ≡ granted_by checks (record { name = CallName.Output file.full; number = file.number }) }
 {
     match named {
-        Ok(full) => Ok(CallName::Output(full)),
+        Ok(NamedFile { full, number }) => Ok(GrantedName {
+            name: CallName::Output(full),
+            number,
+        }),
         Err(fault) => Err(fault),
     }
 }
@@ -146,16 +163,16 @@ fn put<Q: Questions>(
     who: &User,
     path: &Path,
     bytes: &Text,
-) -> Result<Full, StoreFault>
+) -> Result<NamedFile, StoreFault>
     requires { plain.has_user (Q.tree questions.now) who.now ≡ true }
     ensures { let t = Q.tree questions.now in
         result ≡ granted_by (checks t who.now (StoreCall.Put path.now bytes.now))
-        (plain.output_name t who.now path.now) }
+        (file_named (Q.numbers questions.now) (plain.output_name t who.now path.now)) }
 {
-    let full = questions.output_name(who, path);
-    match put_fault(questions, who, path, bytes, &full) {
+    let file = questions.find(questions.output_name(who, path));
+    match put_fault(questions, who, path, bytes, &file) {
         Some(fault) => Err(fault),
-        None => Ok(full),
+        None => Ok(file),
     }
 }
 
@@ -165,27 +182,29 @@ fn put_fault<Q: Questions>(
     who: &User,
     path: &Path,
     bytes: &Text,
-    full: &Full,
+    file: &NamedFile,
 ) -> Option<StoreFault>
     requires caller { plain.has_user (Q.tree questions.now) who.now ≡ true }
-    requires named { full.now ≡ plain.output_name (Q.tree questions.now) who.now path.now }
+    requires named { file.now.full ≡ plain.output_name (Q.tree questions.now) who.now path.now }
+    requires numbered { file.now.number ≡ Q.numbers questions.now file.now.full }
+    requires there { is_some file.now.number ≡ plain.has_file (Q.tree questions.now) file.now.full }
     ensures { result ≡ fault_in (Q.tree questions.now) who.now (StoreCall.Put path.now bytes.now) }
 {
-    if !questions.has_user(&full.user) {
+    if !has_owner(questions, who, &file.full) {
         return Some(StoreFault::NoUser);
     }
     // Without a generation the path gives the one behind the greatest.
-    if path.generation.is_none() && full.generation == 4096 {
+    if path.generation.is_none() && file.full.generation == 4096 {
         return Some(StoreFault::NoGeneration);
     }
-    let there = questions.has_file(full);
-    if there && !questions.modes_of(full, who).contains(Mode::Write) {
+    let there = file.number.is_some();
+    if there && !questions.modes_of(file, who).contains(Mode::Write) {
         return Some(StoreFault::Trapped(Mode::Write));
     }
-    if !there && *who != full.user {
+    if !there && *who != file.full.user {
         return Some(StoreFault::NotOwner);
     }
-    let over = over_size(questions, full, bytes.as_slice().len() as u64);
+    let over = over_size(questions, file, bytes.as_slice().len() as u64);
     if over.is_some() {
         return over;
     }
@@ -201,23 +220,23 @@ fn append<Q: Questions>(
     who: &User,
     path: &Path,
     bytes: &Text,
-) -> Result<Full, StoreFault>
+) -> Result<NamedFile, StoreFault>
     requires { plain.has_user (Q.tree questions.now) who.now ≡ true }
     ensures { let t = Q.tree questions.now in
         result ≡ granted_by (checks t who.now (StoreCall.Append path.now bytes.now))
-        (plain.input_name t who.now path.now) }
+        (file_named (Q.numbers questions.now) (plain.input_name t who.now path.now)) }
 {
-    let full = match open_to(questions, who, path, Mode::Append) {
-        Ok(full) => full,
+    let file = match open_to(questions, who, path, Mode::Append) {
+        Ok(file) => file,
         Err(fault) => return Err(fault),
     };
-    let size = u64::from(questions.len_of(&full)) + bytes.as_slice().len() as u64;
-    if let Some(fault) = over_size(questions, &full, size) {
+    let size = u64::from(questions.len_of(&file)) + bytes.as_slice().len() as u64;
+    if let Some(fault) = over_size(questions, &file, size) {
         return Err(fault);
     }
     match spent(questions) {
         Some(fault) => Err(fault),
-        None => Ok(full),
+        None => Ok(file),
     }
 }
 
@@ -227,21 +246,22 @@ fn rename<Q: Questions>(
     who: &User,
     path: &Path,
     to: &Local,
-) -> Result<Full, StoreFault>
+) -> Result<NamedFile, StoreFault>
+    requires { plain.has_user (Q.tree questions.now) who.now ≡ true }
     ensures { let t = Q.tree questions.now in
         result ≡ granted_by (checks t who.now (StoreCall.Rename path.now to.now))
-        (plain.input_name t who.now path.now) }
+        (file_named (Q.numbers questions.now) (plain.input_name t who.now path.now)) }
 {
-    let full = match present(questions, who, path) {
-        Ok(full) => full,
+    let file = match present(questions, who, path) {
+        Ok(file) => file,
         Err(fault) => return Err(fault),
     };
-    if *who != full.user {
+    if *who != file.full.user {
         Err(StoreFault::NotOwner)
-    } else if questions.has_file(&with_local(&full, to)) {
+    } else if questions.has_file(&with_local(&file.full, to)) {
         Err(StoreFault::Exists)
     } else {
-        Ok(full)
+        Ok(file)
     }
 }
 
@@ -252,19 +272,20 @@ fn trap_go<Q: Questions>(
     path: &Path,
     user: &User,
     modes: Modes,
-) -> Result<Full, StoreFault>
+) -> Result<NamedFile, StoreFault>
+    requires { plain.has_user (Q.tree questions.now) who.now ≡ true }
     ensures { let t = Q.tree questions.now in
         result ≡ granted_by (checks t who.now (StoreCall.TrapGo path.now user.now modes))
-        (plain.input_name t who.now path.now) }
+        (file_named (Q.numbers questions.now) (plain.input_name t who.now path.now)) }
 {
-    let full = match trap_stop(questions, who, path, user) {
-        Ok(full) => full,
+    let file = match trap_stop(questions, who, path, user) {
+        Ok(file) => file,
         Err(fault) => return Err(fault),
     };
-    if questions.is_ninth(&full, user, modes) {
+    if questions.is_ninth(&file, user, modes) {
         Err(StoreFault::TrapsFull)
     } else {
-        Ok(full)
+        Ok(file)
     }
 }
 
@@ -274,21 +295,22 @@ fn trap_stop<Q: Questions>(
     who: &User,
     path: &Path,
     user: &User,
-) -> Result<Full, StoreFault>
+) -> Result<NamedFile, StoreFault>
+    requires { plain.has_user (Q.tree questions.now) who.now ≡ true }
     ensures { (modes : ℕ) → let t = Q.tree questions.now in
         result ≡ granted_by (checks t who.now (StoreCall.TrapStop path.now user.now modes))
-        (plain.input_name t who.now path.now) }
+        (file_named (Q.numbers questions.now) (plain.input_name t who.now path.now)) }
 {
-    let full = match present(questions, who, path) {
-        Ok(full) => full,
+    let file = match present(questions, who, path) {
+        Ok(file) => file,
         Err(fault) => return Err(fault),
     };
     if !questions.has_user(user) {
         Err(StoreFault::NoUser)
-    } else if *who != full.user {
+    } else if *who != file.full.user {
         Err(StoreFault::NotOwner)
     } else {
-        Ok(full)
+        Ok(file)
     }
 }
 
@@ -298,37 +320,47 @@ fn trap_check<Q: Questions>(
     who: &User,
     path: &Path,
     user: &User,
-) -> Result<Full, StoreFault>
+) -> Result<NamedFile, StoreFault>
+    requires { plain.has_user (Q.tree questions.now) who.now ≡ true }
     ensures { let t = Q.tree questions.now in
         result ≡ granted_by (checks t who.now (StoreCall.TrapCheck path.now user.now))
-        (plain.input_name t who.now path.now) }
+        (file_named (Q.numbers questions.now) (plain.input_name t who.now path.now)) }
 {
-    let full = match present(questions, who, path) {
-        Ok(full) => full,
+    let file = match present(questions, who, path) {
+        Ok(file) => file,
         Err(fault) => return Err(fault),
     };
     if !questions.has_user(user) {
         Err(StoreFault::NoUser)
-    } else if *who != full.user && *who != *user {
+    } else if *who != file.full.user && *who != *user {
         Err(StoreFault::NotOwner)
     } else {
-        Ok(full)
+        Ok(file)
     }
 }
 
+/// Whether the owner of a file of this name is there. The caller is, who needn't be looked for again.
+fn has_owner<Q: Questions>(questions: &Q, who: &User, full: &Full) -> bool
+    requires { plain.has_user (Q.tree questions.now) who.now ≡ true }
+    ensures { result ≡ plain.has_user (Q.tree questions.now) full.now.user }
+{
+    *who == full.user || questions.has_user(&full.user)
+}
+
 /// The file that a path names for input; whom its name names has to be there, and the file.
-fn present<Q: Questions>(questions: &Q, who: &User, path: &Path) -> Result<Full, StoreFault>
+fn present<Q: Questions>(questions: &Q, who: &User, path: &Path) -> Result<NamedFile, StoreFault>
+    requires { plain.has_user (Q.tree questions.now) who.now ≡ true }
     ensures { let t = Q.tree questions.now in
         result ≡ granted_by (input_checks t who.now path.now)
-        (plain.input_name t who.now path.now) }
+        (file_named (Q.numbers questions.now) (plain.input_name t who.now path.now)) }
 {
-    let full = questions.input_name(who, path);
-    if !questions.has_user(&full.user) {
+    let file = questions.find(questions.input_name(who, path));
+    if !has_owner(questions, who, &file.full) {
         Err(StoreFault::NoUser)
-    } else if !questions.has_file(&full) {
+    } else if file.number.is_none() {
         Err(StoreFault::NoFile)
     } else {
-        Ok(full)
+        Ok(file)
     }
 }
 
@@ -338,33 +370,34 @@ fn open_to<Q: Questions>(
     who: &User,
     path: &Path,
     mode: Mode,
-) -> Result<Full, StoreFault>
+) -> Result<NamedFile, StoreFault>
     requires { plain.has_user (Q.tree questions.now) who.now ≡ true }
     ensures { let t = Q.tree questions.now in
         result ≡ granted_by (checks t who.now (StoreCall.Fetch path.now mode))
-        (plain.input_name t who.now path.now) }
+        (file_named (Q.numbers questions.now) (plain.input_name t who.now path.now)) }
 {
-    let full = match present(questions, who, path) {
-        Ok(full) => full,
+    let file = match present(questions, who, path) {
+        Ok(file) => file,
         Err(fault) => return Err(fault),
     };
-    if questions.modes_of(&full, who).contains(mode) {
-        Ok(full)
+    if questions.modes_of(&file, who).contains(mode) {
+        Ok(file)
     } else {
         Err(StoreFault::Trapped(mode))
     }
 }
 
 /// So many bytes have to be no more than a file may have, and than its owner has room for.
-fn over_size<Q: Questions>(questions: &Q, full: &Full, size: u64) -> Option<StoreFault>
-    requires { plain.has_user (Q.tree questions.now) full.now.user ≡ true }
-    ensures { result ≡ first_fault (size_checks (Q.tree questions.now) full.now size) }
+fn over_size<Q: Questions>(questions: &Q, file: &NamedFile, size: u64) -> Option<StoreFault>
+    requires owner { plain.has_user (Q.tree questions.now) file.now.full.user ≡ true }
+    requires numbered { file.now.number ≡ Q.numbers questions.now file.now.full }
+    ensures { result ≡ first_fault (size_checks (Q.tree questions.now) file.now.full size) }
 {
     if size > 65536 {
         return Some(StoreFault::TooLong(size));
     }
     let need = blocks_for(size as u32);
-    let left = questions.space_left(full);
+    let left = questions.space_left(file);
     if need > left {
         Some(StoreFault::OverSpace { need, left })
     } else {

@@ -27,4 +27,5 @@ pub mod TickedLemmas
 pub mod TopLemmas
 pub mod TurningLemmas
 pub mod UntilLemmas
+pub mod WatchedLemmas
 pub mod WeighedLemmas

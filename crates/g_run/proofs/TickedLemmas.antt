@@ -20,10 +20,11 @@ use Rattle.g_operator.specs.Parts.{IsReady, Matches, Seen, seen}
 use Rattle.g_operator.specs.System.{SystemFacts, Up, devices_in}
 use Rattle.g_run.specs.Tick as ticks
 use Rattle.g_run.specs.Tick.{Comes, DidTick, IsBetween, IsThrough, KeepsRun, MayTick, has_dump, left, some_job_steps}
-use Rattle.g_run.specs.Parts.{Anything, DidOne, Keeps, Leads, PartGoes, is_past, steps_in, turn_of}
+use Rattle.g_run.specs.Parts.{Anything, Keeps, Leads, PartGoes, is_past, steps_in, turn_of}
 use Rattle.g_run.proofs.KeepLemmas.{kept_grown}
 use Rattle.g_run.proofs.PartLemmas.{none_arm}
 use Rattle.g_run.proofs.RestLemmas.{due_is, nothing_is}
+use Rattle.g_run.proofs.SameLemmas.{DidOne}
 
 keeps_of : (old new : Seen) (failure : Option Failure) (faults faults' : ℕ) → KeepsRun old failure new faults faults' → Keeps [] old failure new faults faults'
 keeps_of old new failure faults faults' keeps = record {

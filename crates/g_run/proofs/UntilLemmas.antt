@@ -15,9 +15,10 @@ use Rattle.g_operator.specs.BeginningAnew.{beside, beside_new}
 use Rattle.g_operator.specs.Parts.{IsReady, Matches, Seen, seen}
 use Rattle.g_operator.specs.System.{Down, SystemFacts, Up, devices_in}
 use Rattle.g_run.specs.Tick.{left}
-use Rattle.g_run.specs.Parts.{Anything, DidOne, DidTicks, HasRoom, IsAtRest, Keeps, PartGoes, is_past, steps_in, turn_of}
+use Rattle.g_run.specs.Parts.{Anything, DidTicks, HasRoom, IsAtRest, Keeps, PartGoes, is_past, steps_in, turn_of}
 use Rattle.g_run.proofs.PartLemmas.{arrives_here, goes_then, keeps_then, none_arm}
 use Rattle.g_run.proofs.RestLemmas.{due_is, nothing_is}
+use Rattle.g_run.proofs.SameLemmas.{DidOne}
 use Rattle.g_run.proofs.KeepLemmas.{kept_itself}
 use Rattle.g_operator.proofs.AnewLemmas.{ready_beside}
 use Rattle.g_operator.proofs.LabelLemmas.{same_itself}

@@ -6,3 +6,4 @@ pub mod ScriptEnd
 pub mod Tick
 pub mod Top
 pub mod Turning
+pub mod Watch

@@ -180,12 +180,6 @@ module _ {F U : Type 0} (tariffs : Shared F (Bor Usage × Unit {0}) Charge) (tar
     pub aside : IsBlank old.system
         → IsBlank new.system × ((lines : List Timed) → turn_of lines ≡ limit → PartGoes tariffs tariff rules rule Rests lines lines (beside old) failure (beside new) before after)
 
-  -- ONE TICK: the count is one more, and less is left to do
-  pub record DidOne (limit : Option ℕ) (old : Seen) (failure : Option Failure) (new : Seen) (before after : Option (List ℕ)) (faults faults' : ℕ) : Type 0 where
-    pub did : DidTicks Anything limit old failure new before after faults faults'
-    pub counts : failure ≡ None → new.count ≡ old.count + 1
-    pub falls : failure ≡ None → left new + 1 ≤ left old
-
   -- THESE LINES, each when it is due or nothing steps; the count doesn't pass the turns of all
   pub record DidLines (done : List Timed) (old : Seen) (failure : Option Failure) (new : Seen) (before after : Option (List ℕ)) (faults faults' : ℕ) : Type 0 where
     pub goes : (rest : List Timed) → PartGoes tariffs tariff rules rule Anything (done ++ rest) rest old failure new before after

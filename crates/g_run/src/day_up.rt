@@ -1,9 +1,13 @@
 //! What a run has at hand while its system is up.
-ghost use Rattle.std.specs.Prelude.{◌≡◌};
+ghost use Rattle.std.specs.Prelude.{◌≡◌, false, OnOk};
+ghost use Rattle.g_operator.specs.Opening.{Opens};
 ghost use Rattle.g_operator.specs.Parts.{seen};
 ghost use Rattle.g_operator.specs.System.{facts_of};
 ghost use Rattle.g_run.specs.Turning.{left_of};
+ghost use Rattle.g_run.specs.Watch.{HaveAll};
 
+use crate::watched::Watched;
+use g_base::NoMemory;
 use g_disc::Disc;
 use g_job_table::Crew;
 use g_operator::{Day, Ended, Failure, Running, System, take_down};
@@ -14,7 +18,7 @@ use g_tape::Tapes;
 /// out of the store behind the last tick.
 #[derive(Drop)]
 pub(crate) struct DayUp<D: Disc, T: Tapes> {
-    pub(crate) store: Running<D, T>,
+    pub(crate) store: Watched<D, T>,
     pub(crate) crew: Crew,
     pub(crate) count: u64,
 }
@@ -22,17 +26,50 @@ pub(crate) struct DayUp<D: Disc, T: Tapes> {
 impl<D: Disc, T: Tapes> DayUp<D, T> {
     /// The day behind its ticks, and why a run ends there, if it does.
     pub(crate) fn ended(self, failure: Option<Failure>) -> Ended<D, T>
-        ensures day { result.day ≡ seen (left_of self.store) self.crew self.count }
+        ensures day { result.day ≡ seen (left_of self.store.running) self.crew self.count }
         ensures failure { result.failure ≡ failure }
     {
         let DayUp { store, crew, count } = self;
-        let system = left_of(store);
+        let system = left_of(store.taken());
         let day = Day {
             system,
             crew,
             count,
         };
         Ended { day, failure }
+    }
+
+    /// Opens accounts for users who have none, where there may be some: a call that was made may have brought them.
+    pub(crate) fn open_accounts(&mut self) -> Result<(), NoMemory>
+        requires running { self.old.store.running.spent ≡ false }
+        requires accounts { HaveAll self.old.store self.old.crew }
+        ensures opens { OnOk result (Opens self.old.store.running.online.contents.users self.old.crew self.new.crew) }
+        ensures accounts { OnOk result (HaveAll self.new.store self.new.crew) }
+        ensures store { self.new.store.running ≡ self.old.store.running }
+        ensures count { self.new.count ≡ self.old.count }
+    {
+        if self.store.asked() {
+            self.open_each()
+        } else {
+            Ok(())
+        }
+    }
+
+    /// The same where there may be such users.
+    fn open_each(&mut self) -> Result<(), NoMemory>
+        requires running { self.old.store.running.spent ≡ false }
+        ensures opens { OnOk result (Opens self.old.store.running.online.contents.users self.old.crew self.new.crew) }
+        ensures accounts { OnOk result (HaveAll self.new.store self.new.crew) }
+        ensures store { self.new.store.running ≡ self.old.store.running }
+        ensures count { self.new.count ≡ self.old.count }
+    {
+        match self.crew.open_accounts(self.store.running().users()) {
+            Ok(()) => {
+                self.store.looked();
+                Ok(())
+            }
+            Err(NoMemory) => Err(NoMemory),
+        }
     }
 }
 

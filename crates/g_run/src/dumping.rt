@@ -1,5 +1,5 @@
 //! A step of the open dump.
-ghost use Rattle.std.specs.Prelude.{◌≡◌, ◌++◌, IfOk, codes, false, option_map, Some};
+ghost use Rattle.std.specs.Prelude.{◌≡◌, ◌++◌, IfOk, codes, false, option_map, true, Some};
 ghost use Rattle.g_operator.specs.Parts.{IsReady, seen};
 ghost use Rattle.g_operator.specs.System as system;
 ghost use Rattle.g_job_table.specs.Numbers.{AreOpen};
@@ -7,6 +7,7 @@ ghost use Rattle.g_monitor.specs.Refusals.{fault_line};
 ghost use Rattle.g_run_model.specs.Texts.{dump_text};
 ghost use Rattle.g_run.specs.Tick.{DidDump};
 ghost use Rattle.g_run.specs.Turning.{left_of};
+ghost use Rattle.g_run.specs.Watch.{HaveAll};
 
 use crate::day_up::DayUp;
 use g_base::NoMemory;
@@ -26,13 +27,14 @@ pub(crate) fn dump_step<K: Sink, D: Disc, T: Tapes>(
     up: &mut DayUp<D, T>,
     out: &mut K,
 ) -> Option<Failure>
-    requires ready { IsReady (system.Up up.old.store) up.old.crew }
+    requires ready { IsReady (system.Up up.old.store.running) up.old.crew }
     requires open { AreOpen up.old.crew.jobs }
-    ensures did { DidDump (seen (system.Up up.old.store) up.old.crew up.old.count) result
-        (seen (left_of up.new.store) up.new.crew up.old.count)
+    ensures did { DidDump (seen (system.Up up.old.store.running) up.old.crew up.old.count) result
+        (seen (left_of up.new.store.running) up.new.crew up.old.count)
         (K.written out.old) (K.written out.new) (K.faults out.old) (K.faults out.new) }
     ensures count { up.new.count ≡ up.old.count }
-    ensures crew { up.new.store.spent ≡ false → up.new.crew ≡ up.old.crew }
+    ensures crew { up.new.store.running.spent ≡ false → up.new.crew ≡ up.old.crew }
+    ensures accounts { HaveAll up.old.store up.old.crew → HaveAll up.new.store up.new.crew }
 {
     match up.store.dump_number() {
         None => None,
@@ -49,14 +51,15 @@ fn step<K: Sink, D: Disc, T: Tapes>(
     number: u64,
     out: &mut K,
 ) -> Option<Failure>
-    requires ready { IsReady (system.Up up.old.store) up.old.crew }
+    requires ready { IsReady (system.Up up.old.store.running) up.old.crew }
     requires open { AreOpen up.old.crew.jobs }
-    requires number { option_map (λ d. d.plan.number) up.old.store.dump ≡ Some number }
-    ensures did { DidDump (seen (system.Up up.old.store) up.old.crew up.old.count) result
-        (seen (left_of up.new.store) up.new.crew up.old.count)
+    requires number { option_map (λ d. d.plan.number) up.old.store.running.dump ≡ Some number }
+    ensures did { DidDump (seen (system.Up up.old.store.running) up.old.crew up.old.count) result
+        (seen (left_of up.new.store.running) up.new.crew up.old.count)
         (K.written out.old) (K.written out.new) (K.faults out.old) (K.faults out.new) }
     ensures count { up.new.count ≡ up.old.count }
-    ensures crew { up.new.store.spent ≡ false → up.new.crew ≡ up.old.crew }
+    ensures crew { up.new.store.running.spent ≡ false → up.new.crew ≡ up.old.crew }
+    ensures asked { up.new.store.asked ≡ true }
 {
     match up.store.dump_step() {
         Ok(DumpStep::Going) => None,

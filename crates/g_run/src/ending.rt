@@ -7,6 +7,7 @@ ghost use Rattle.g_job.specs.State.{JobState};
 ghost use Rattle.g_run_model.specs.Texts as texts;
 ghost use Rattle.g_run_model.specs.Texts.{operator_line};
 ghost use Rattle.g_run.specs.Turning.{EndsTurn, GoesDown, GoesOn, ShowsAs, TakenOut, added_of, left_of};
+ghost use Rattle.g_run.specs.Watch.{HaveAll};
 
 use crate::day_up::DayUp;
 use crate::showing::{Seated, end_shown};
@@ -31,12 +32,14 @@ pub(crate) fn end_turn<K: Sink, D: Disc, T: Tapes>(
     taken: Taken,
     out: &mut K,
 ) -> Option<Failure>
-    requires stopped { (up.old.store.spent ≡ true) ↔ (taken.turn ≡ Turn.Broken) }
+    requires stopped { (up.old.store.running.spent ≡ true) ↔ (taken.turn ≡ Turn.Broken) }
     requires there { (job : JobState) × (job_in number up.old.crew.jobs ≡ Some job) × ShowsAs taken.shown job.terminal }
+    requires accounts { HaveAll up.old.store up.old.crew }
     ensures ends { (job : JobState) → job_in number up.old.crew.jobs ≡ Some job
-        → EndsTurn up.old.count number up.old.store up.old.crew (added_of taken.shown job) taken.turn result (left_of up.new.store) up.new.crew
+        → EndsTurn up.old.count number up.old.store.running up.old.crew (added_of taken.shown job) taken.turn result (left_of up.new.store.running) up.new.crew
         (K.written out.old) (K.written out.new) (K.faults out.old) (K.faults out.new) }
     ensures count { up.new.count ≡ up.old.count }
+    ensures accounts { result ≡ None → up.new.store.running.spent ≡ false → HaveAll up.new.store up.new.crew }
 {
     match taken.shown {
         None => end_untold(alloc, up, number, taken.turn, out),
@@ -52,11 +55,13 @@ fn end_untold<K: Sink, D: Disc, T: Tapes>(
     turn: Turn,
     out: &mut K,
 ) -> Option<Failure>
-    requires stopped { (up.old.store.spent ≡ true) ↔ (turn ≡ Turn.Broken) }
+    requires stopped { (up.old.store.running.spent ≡ true) ↔ (turn ≡ Turn.Broken) }
     requires there { (job : JobState) × (job_in number up.old.crew.jobs ≡ Some job) × (job.terminal ≡ None) }
-    ensures ends { EndsTurn up.old.count number up.old.store up.old.crew [] turn result (left_of up.new.store) up.new.crew
+    requires accounts { HaveAll up.old.store up.old.crew }
+    ensures ends { EndsTurn up.old.count number up.old.store.running up.old.crew [] turn result (left_of up.new.store.running) up.new.crew
         (K.written out.old) (K.written out.new) (K.faults out.old) (K.faults out.new) }
     ensures count { up.new.count ≡ up.old.count }
+    ensures accounts { result ≡ None → up.new.store.running.spent ≡ false → HaveAll up.new.store up.new.crew }
 {
     match turn {
         Turn::Broken => stops(alloc, up, out),
@@ -74,21 +79,24 @@ fn stops<K: Sink, D: Disc, T: Tapes>(
     up: &mut DayUp<D, T>,
     out: &mut K,
 ) -> Option<Failure>
-    requires stopped { up.old.store.spent ≡ true }
-    ensures ends { GoesDown up.old.store [] up.old.count up.old.crew result (left_of up.new.store) up.new.crew
+    requires stopped { up.old.store.running.spent ≡ true }
+    ensures ends { GoesDown up.old.store.running [] up.old.count up.old.crew result (left_of up.new.store.running) up.new.crew
         (K.written out.old) (K.written out.new) (K.faults out.old) (K.faults out.new) }
     ensures count { up.new.count ≡ up.old.count }
+    ensures accounts { result ≡ None → up.new.store.running.spent ≡ false → HaveAll up.new.store up.new.crew }
 {
     tell_fault(alloc, &mut up.crew, up.count, &StoreFault::Stopped, out)
 }
 
 /// The job goes on.
 fn goes_on<D: Disc, T: Tapes>(up: &mut DayUp<D, T>) -> Option<Failure>
-    requires running { up.old.store.spent ≡ false }
-    ensures goes { (text : Option (List ℕ)) (faults : ℕ) → GoesOn up.old.store [] up.old.crew result (left_of up.new.store) up.new.crew text text faults faults }
+    requires running { up.old.store.running.spent ≡ false }
+    requires accounts { HaveAll up.old.store up.old.crew }
+    ensures goes { (text : Option (List ℕ)) (faults : ℕ) → GoesOn up.old.store.running [] up.old.crew result (left_of up.new.store.running) up.new.crew text text faults faults }
     ensures count { up.new.count ≡ up.old.count }
+    ensures accounts { result ≡ None → up.new.store.running.spent ≡ false → HaveAll up.new.store up.new.crew }
 {
-    match up.crew.open_accounts(up.store.users()) {
+    match up.open_accounts() {
         Ok(()) => None,
         Err(NoMemory) => Some(Failure::Memory),
     }
@@ -104,12 +112,14 @@ fn waits<K: Sink, D: Disc, T: Tapes>(
     serial: u32,
     out: &mut K,
 ) -> Option<Failure>
-    requires running { up.old.store.spent ≡ false }
-    ensures goes { GoesOn up.old.store (operator_line up.old.count (texts.job_text number (codes "WANTS TAPE " ++ decimal serial))) up.old.crew result
-        (left_of up.new.store) up.new.crew (K.written out.old) (K.written out.new) (K.faults out.old) (K.faults out.new) }
+    requires running { up.old.store.running.spent ≡ false }
+    requires accounts { HaveAll up.old.store up.old.crew }
+    ensures goes { GoesOn up.old.store.running (operator_line up.old.count (texts.job_text number (codes "WANTS TAPE " ++ decimal serial))) up.old.crew result
+        (left_of up.new.store.running) up.new.crew (K.written out.old) (K.written out.new) (K.faults out.old) (K.faults out.new) }
     ensures count { up.new.count ≡ up.old.count }
+    ensures accounts { result ≡ None → up.new.store.running.spent ≡ false → HaveAll up.new.store up.new.crew }
 {
-    match up.crew.open_accounts(up.store.users()) {
+    match up.open_accounts() {
         Ok(()) => {
             let made = wants(alloc, number, serial);
             say_made(alloc, up.count, made, out)
@@ -136,11 +146,13 @@ fn ends<K: Sink, D: Disc, T: Tapes>(
     number: u64,
     out: &mut K,
 ) -> Option<Failure>
-    requires running { up.old.store.spent ≡ false }
+    requires running { up.old.store.running.spent ≡ false }
+    requires accounts { HaveAll up.old.store up.old.crew }
     requires there { (job : JobState) × (job_in number up.old.crew.jobs ≡ Some job) }
-    ensures ends { (job : JobState) × (mid : CrewState) × TakenOut job number up.old.crew mid × GoesOn up.old.store job.monitor mid result
-        (left_of up.new.store) up.new.crew (K.written out.old) (K.written out.new) (K.faults out.old) (K.faults out.new) }
+    ensures ends { (job : JobState) × (mid : CrewState) × TakenOut job number up.old.crew mid × GoesOn up.old.store.running job.monitor mid result
+        (left_of up.new.store.running) up.new.crew (K.written out.old) (K.written out.new) (K.faults out.old) (K.faults out.new) }
     ensures count { up.new.count ≡ up.old.count }
+    ensures accounts { result ≡ None → up.new.store.running.spent ≡ false → HaveAll up.new.store up.new.crew }
 {
     match up.crew.end(number) {
         Some(job) => put_file(up, &job, out),
@@ -154,12 +166,14 @@ fn put_file<K: Sink, D: Disc, T: Tapes>(
     job: &Job,
     out: &mut K,
 ) -> Option<Failure>
-    requires running { up.old.store.spent ≡ false }
-    ensures goes { GoesOn up.old.store job.now.monitor up.old.crew result (left_of up.new.store) up.new.crew
+    requires running { up.old.store.running.spent ≡ false }
+    requires accounts { HaveAll up.old.store up.old.crew }
+    ensures goes { GoesOn up.old.store.running job.now.monitor up.old.crew result (left_of up.new.store.running) up.new.crew
         (K.written out.old) (K.written out.new) (K.faults out.old) (K.faults out.new) }
     ensures count { up.new.count ≡ up.old.count }
+    ensures accounts { result ≡ None → up.new.store.running.spent ≡ false → HaveAll up.new.store up.new.crew }
 {
-    match up.crew.open_accounts(up.store.users()) {
+    match up.open_accounts() {
         Ok(()) => put(out, job.monitor()),
         Err(NoMemory) => Some(Failure::Memory),
     }

@@ -19,6 +19,7 @@ mod ticking;
 mod ticks;
 mod top;
 mod turning;
+mod watched;
 
 pub use law::{jobs_of_a_script_end, text_of_a_script_is_one, typed_lines_are_read};
 pub use status::Status;

@@ -9,6 +9,7 @@ ghost use Rattle.g_job.specs.State.{JobState};
 ghost use Rattle.g_run_model.specs.Texts as texts;
 ghost use Rattle.g_run_model.specs.Texts.{operator_line};
 ghost use Rattle.g_run.specs.Turning.{EndsTurn, GoesDown, GoesOn, TakenOut, left_of};
+ghost use Rattle.g_run.specs.Watch.{HaveAll};
 
 use crate::day_up::DayUp;
 use crate::ending::wants;
@@ -39,12 +40,14 @@ pub(crate) fn end_shown<K: Sink, D: Disc, T: Tapes>(
     turn: Turn,
     out: &mut K,
 ) -> Option<Failure>
-    requires stopped { (up.old.store.spent ≡ true) ↔ (turn ≡ Turn.Broken) }
+    requires stopped { (up.old.store.running.spent ≡ true) ↔ (turn ≡ Turn.Broken) }
     requires there { (job : JobState) × (terminal : ℕ) × (job_in seated.number up.old.crew.jobs ≡ Some job) × (job.terminal ≡ Some terminal) }
+    requires accounts { HaveAll up.old.store up.old.crew }
     ensures ends { (job : JobState) → job_in seated.number up.old.crew.jobs ≡ Some job
-        → EndsTurn up.old.count seated.number up.old.store up.old.crew (pushed_of job seated.before) turn result (left_of up.new.store) up.new.crew
+        → EndsTurn up.old.count seated.number up.old.store.running up.old.crew (pushed_of job seated.before) turn result (left_of up.new.store.running) up.new.crew
         (K.written out.old) (K.written out.new) (K.faults out.old) (K.faults out.new) }
     ensures count { up.new.count ≡ up.old.count }
+    ensures accounts { result ≡ None → up.new.store.running.spent ≡ false → HaveAll up.new.store up.new.crew }
 {
     let made = shown(alloc, &up.crew, seated.number, seated.before);
     match turn {
@@ -91,11 +94,12 @@ fn stops<K: Sink, D: Disc, T: Tapes>(
     made: Result<Text, NoMemory>,
     out: &mut K,
 ) -> Option<Failure>
-    requires stopped { up.old.store.spent ≡ true }
+    requires stopped { up.old.store.running.spent ≡ true }
     ensures ends { (text : List ℕ) → IfOk made (λ t. t ≡ text)
-        → GoesDown up.old.store text up.old.count up.old.crew result (left_of up.new.store) up.new.crew
+        → GoesDown up.old.store.running text up.old.count up.old.crew result (left_of up.new.store.running) up.new.crew
         (K.written out.old) (K.written out.new) (K.faults out.old) (K.faults out.new) }
     ensures count { up.new.count ≡ up.old.count }
+    ensures accounts { result ≡ None → up.new.store.running.spent ≡ false → HaveAll up.new.store up.new.crew }
 {
     stops_behind(&mut up.crew, up.count, made, out)
 }
@@ -106,13 +110,15 @@ fn goes_on<K: Sink, D: Disc, T: Tapes>(
     made: Result<Text, NoMemory>,
     out: &mut K,
 ) -> Option<Failure>
-    requires running { up.old.store.spent ≡ false }
+    requires running { up.old.store.running.spent ≡ false }
+    requires accounts { HaveAll up.old.store up.old.crew }
     ensures goes { (text : List ℕ) → IfOk made (λ t. t ≡ text)
-        → GoesOn up.old.store text up.old.crew result (left_of up.new.store) up.new.crew
+        → GoesOn up.old.store.running text up.old.crew result (left_of up.new.store.running) up.new.crew
         (K.written out.old) (K.written out.new) (K.faults out.old) (K.faults out.new) }
     ensures count { up.new.count ≡ up.old.count }
+    ensures accounts { result ≡ None → up.new.store.running.spent ≡ false → HaveAll up.new.store up.new.crew }
 {
-    match up.crew.open_accounts(up.store.users()) {
+    match up.open_accounts() {
         Ok(()) => put_made(out, made),
         Err(NoMemory) => Some(Failure::Memory),
     }
@@ -125,13 +131,15 @@ fn ends<K: Sink, D: Disc, T: Tapes>(
     made: Result<Text, NoMemory>,
     out: &mut K,
 ) -> Option<Failure>
-    requires running { up.old.store.spent ≡ false }
+    requires running { up.old.store.running.spent ≡ false }
+    requires accounts { HaveAll up.old.store up.old.crew }
     requires there { (job : JobState) × (job_in number up.old.crew.jobs ≡ Some job) }
     ensures ends { (text : List ℕ) → IfOk made (λ t. t ≡ text)
         → (job : JobState) × (mid : CrewState) × TakenOut job number up.old.crew mid
-        × GoesOn up.old.store text mid result (left_of up.new.store) up.new.crew
+        × GoesOn up.old.store.running text mid result (left_of up.new.store.running) up.new.crew
         (K.written out.old) (K.written out.new) (K.faults out.old) (K.faults out.new) }
     ensures count { up.new.count ≡ up.old.count }
+    ensures accounts { result ≡ None → up.new.store.running.spent ≡ false → HaveAll up.new.store up.new.crew }
 {
     match up.crew.end(number) {
         Some(_job) => goes_on(up, made, out),

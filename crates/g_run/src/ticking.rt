@@ -8,6 +8,7 @@ ghost use Rattle.g_job_table.specs.Weights.{AreWeights};
 ghost use Rattle.g_sched.specs.Rule.{IsWeighRule};
 ghost use Rattle.g_run.specs.Tick.{DidTick};
 ghost use Rattle.g_run.specs.Turning.{left_of};
+ghost use Rattle.g_run.specs.Watch.{HaveAll};
 
 use crate::day_up::DayUp;
 use crate::dumping::dump_step;
@@ -31,16 +32,18 @@ pub(crate) fn tick<K: Sink, D: Disc, T: Tapes, F: Fn(&Usage) -> Charge, U: Fn(&S
     rules: &Rules<'_, F, U>,
     out: &mut K,
 ) -> Option<Failure>
-    requires ready { IsReady (system.Up up.old.store) up.old.crew }
+    requires ready { IsReady (system.Up up.old.store.running) up.old.crew }
     requires open { AreOpen up.old.crew.jobs }
     requires weighed { AreWeights U.Fn rules.now.weigh.now up.old.crew.jobs weights.old }
+    requires accounts { HaveAll up.old.store up.old.crew }
     requires tariff { IsTariff F.Fn rules.now.tariff.now }
     requires rule { IsWeighRule U.Fn rules.now.weigh.now }
-    ensures did { DidTick F.Fn rules.now.tariff.now U.Fn rules.now.weigh.now (seen (system.Up up.old.store) up.old.crew up.old.count) result
-        (seen (left_of up.new.store) up.new.crew up.old.count)
+    ensures did { DidTick F.Fn rules.now.tariff.now U.Fn rules.now.weigh.now (seen (system.Up up.old.store.running) up.old.crew up.old.count) result
+        (seen (left_of up.new.store.running) up.new.crew up.old.count)
         (K.written out.old) (K.written out.new) (K.faults out.old) (K.faults out.new) }
     ensures count { up.new.count ≡ up.old.count }
-    ensures weighed { result ≡ None → up.new.store.spent ≡ false → AreWeights U.Fn rules.now.weigh.now up.new.crew.jobs weights.new }
+    ensures weighed { result ≡ None → up.new.store.running.spent ≡ false → AreWeights U.Fn rules.now.weigh.now up.new.crew.jobs weights.new }
+    ensures accounts { result ≡ None → up.new.store.running.spent ≡ false → HaveAll up.new.store up.new.crew }
 {
     match dump_step(alloc, up, out) {
         None => {

@@ -12,11 +12,12 @@ ghost use Rattle.g_run.specs.Turning.{left_of};
 use crate::day_up::DayUp;
 use crate::rules::Rules;
 use crate::ticking::tick;
+use crate::watched::Watched;
 use g_budget::{Charge, Usage};
 use g_disc::Disc;
 use g_io::Sink;
 use g_job_table::{Crew, Weights};
-use g_operator::{Day, Ended, Failure, Running, System};
+use g_operator::{Day, Ended, Failure, System};
 use g_sched::Standing;
 use g_tape::Tapes;
 use std::alloc::Global;
@@ -49,7 +50,13 @@ pub(crate) fn tick_until_due<
         count,
     } = day;
     match system {
-        System::Up(store) => until_up(alloc, DayUp { store, crew, count }, limit, rules, out),
+        System::Up(store) => {
+            let store = Watched {
+                running: store,
+                asked: true,
+            };
+            until_up(alloc, DayUp { store, crew, count }, limit, rules, out)
+        }
         System::Down(disc, tapes) => Ended {
             day: Day {
                 system: System::Down(disc, tapes),
@@ -69,12 +76,13 @@ fn until_up<K: Sink, D: Disc, T: Tapes, F: Fn(&Usage) -> Charge, U: Fn(&Standing
     rules: &Rules<'_, F, U>,
     out: &mut K,
 ) -> Ended<D, T>
-    requires ready { IsReady (system.Up up.store) up.crew }
+    requires ready { IsReady (system.Up up.store.running) up.crew }
     requires open { AreOpen up.crew.jobs }
-    requires room { HasRoom limit (seen (system.Up up.store) up.crew up.count) }
+    requires room { HasRoom limit (seen (system.Up up.store.running) up.crew up.count) }
+    requires asked { up.store.asked ≡ true }
     requires tariff { IsTariff F.Fn rules.now.tariff.now }
     requires rule { IsWeighRule U.Fn rules.now.weigh.now }
-    ensures { DidTicks F.Fn rules.now.tariff.now U.Fn rules.now.weigh.now IsAtRest limit (seen (system.Up up.store) up.crew up.count) result.failure result.day
+    ensures { DidTicks F.Fn rules.now.tariff.now U.Fn rules.now.weigh.now IsAtRest limit (seen (system.Up up.store.running) up.crew up.count) result.failure result.day
         (K.written out.old) (K.written out.new) (K.faults out.old) (K.faults out.new) }
 {
     if goes_on(&up, None, limit) {
@@ -92,12 +100,13 @@ fn tick_on<K: Sink, D: Disc, T: Tapes, F: Fn(&Usage) -> Charge, U: Fn(&Standing)
     rules: &Rules<'_, F, U>,
     out: &mut K,
 ) -> Ended<D, T>
-    requires ready { IsReady (system.Up up.store) up.crew }
+    requires ready { IsReady (system.Up up.store.running) up.crew }
     requires open { AreOpen up.crew.jobs }
-    requires room { HasRoom limit (seen (system.Up up.store) up.crew up.count) }
+    requires room { HasRoom limit (seen (system.Up up.store.running) up.crew up.count) }
+    requires asked { up.store.asked ≡ true }
     requires tariff { IsTariff F.Fn rules.now.tariff.now }
     requires rule { IsWeighRule U.Fn rules.now.weigh.now }
-    ensures { DidTicks F.Fn rules.now.tariff.now U.Fn rules.now.weigh.now IsAtRest limit (seen (system.Up up.store) up.crew up.count) result.failure result.day
+    ensures { DidTicks F.Fn rules.now.tariff.now U.Fn rules.now.weigh.now IsAtRest limit (seen (system.Up up.store.running) up.crew up.count) result.failure result.day
         (K.written out.old) (K.written out.new) (K.faults out.old) (K.faults out.new) }
 {
     let mut up = up;
@@ -117,11 +126,11 @@ fn goes_on<D: Disc, T: Tapes>(
     failure: Option<Failure>,
     limit: Option<u64>,
 ) -> bool
-    requires ready { failure ≡ None → IsReady (left_of up.now.store) up.now.crew }
-    ensures yes { result ≡ true → (failure ≡ None) × (is_past limit up.now.count ≡ false) × (up.now.store.spent ≡ false)
-        × (steps_in (seen (system.Up up.now.store) up.now.crew up.now.count) ≡ true) }
+    requires ready { failure ≡ None → IsReady (left_of up.now.store.running) up.now.crew }
+    ensures yes { result ≡ true → (failure ≡ None) × (is_past limit up.now.count ≡ false) × (up.now.store.running.spent ≡ false)
+        × (steps_in (seen (system.Up up.now.store.running) up.now.crew up.now.count) ≡ true) }
     ensures no { result ≡ false → failure ≡ None → (is_past limit up.now.count ≡ true)
-        ⊎ (steps_in (seen (left_of up.now.store) up.now.crew up.now.count) ≡ false) }
+        ⊎ (steps_in (seen (left_of up.now.store.running) up.now.crew up.now.count) ≡ false) }
 {
     match failure {
         Some(_) => false,
@@ -147,9 +156,9 @@ fn is_past(limit: Option<u64>, count: u64) -> bool
 
 /// Whether the store wasn't stopped, and its open dump or a job can step.
 fn something_steps<D: Disc, T: Tapes>(up: &DayUp<D, T>) -> bool
-    requires ready { IsReady (left_of up.now.store) up.now.crew }
-    ensures yes { result ≡ true → (up.now.store.spent ≡ false) × (steps_in (seen (system.Up up.now.store) up.now.crew up.now.count) ≡ true) }
-    ensures no { result ≡ false → steps_in (seen (left_of up.now.store) up.now.crew up.now.count) ≡ false }
+    requires ready { IsReady (left_of up.now.store.running) up.now.crew }
+    ensures yes { result ≡ true → (up.now.store.running.spent ≡ false) × (steps_in (seen (system.Up up.now.store.running) up.now.crew up.now.count) ≡ true) }
+    ensures no { result ≡ false → steps_in (seen (left_of up.now.store.running) up.now.crew up.now.count) ≡ false }
 {
     if up.store.spent() {
         false
@@ -161,8 +170,8 @@ fn something_steps<D: Disc, T: Tapes>(up: &DayUp<D, T>) -> bool
 }
 
 /// Whether a job can step.
-fn job_steps<D: Disc, T: Tapes>(store: &Running<D, T>, crew: &Crew) -> bool
-    ensures { (count : ℕ) → result ≡ some_job_steps (seen (system.Up store.now) crew.now count) }
+fn job_steps<D: Disc, T: Tapes>(store: &Watched<D, T>, crew: &Crew) -> bool
+    ensures { (count : ℕ) → result ≡ some_job_steps (seen (system.Up store.now.running) crew.now count) }
 {
     crew.can_step(&|serial: u32| store.mounted(serial))
 }

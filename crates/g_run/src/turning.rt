@@ -13,16 +13,18 @@ ghost use Rattle.g_store_model.specs.State.{State};
 ghost use Rattle.g_tape.specs.Rack.{is_mounted, reel};
 ghost use Rattle.g_run.specs.Tick.{DidTurn};
 ghost use Rattle.g_run.specs.Turning.{Takes, left_of};
+ghost use Rattle.g_run.specs.Watch.{HaveAll};
 
 use crate::day_up::DayUp;
 use crate::ending::end_turn;
 use crate::rules::Rules;
+use crate::watched::Watched;
 use g_base::NoMemory;
 use g_budget::{Charge, Tariff, Usage};
 use g_disc::Disc;
 use g_io::Sink;
 use g_job_table::{Crew, Weights};
-use g_operator::{Failure, Running};
+use g_operator::Failure;
 use g_sched::{Standing, WeighRule};
 use g_tape::Tapes;
 use std::alloc::Global;
@@ -41,16 +43,18 @@ pub(crate) fn take_turn<
     rules: &Rules<'_, F, U>,
     out: &mut K,
 ) -> Option<Failure>
-    requires ready { IsReady (system.Up up.old.store) up.old.crew }
+    requires ready { IsReady (system.Up up.old.store.running) up.old.crew }
     requires open { AreOpen up.old.crew.jobs }
     requires weighed { AreWeights U.Fn rules.now.weigh.now up.old.crew.jobs weights.old }
+    requires accounts { HaveAll up.old.store up.old.crew }
     requires tariff { IsTariff F.Fn rules.now.tariff.now }
     requires rule { IsWeighRule U.Fn rules.now.weigh.now }
-    ensures did { DidTurn F.Fn rules.now.tariff.now U.Fn rules.now.weigh.now (seen (system.Up up.old.store) up.old.crew up.old.count) result
-        (seen (left_of up.new.store) up.new.crew up.old.count)
+    ensures did { DidTurn F.Fn rules.now.tariff.now U.Fn rules.now.weigh.now (seen (system.Up up.old.store.running) up.old.crew up.old.count) result
+        (seen (left_of up.new.store.running) up.new.crew up.old.count)
         (K.written out.old) (K.written out.new) (K.faults out.old) (K.faults out.new) }
     ensures count { up.new.count ≡ up.old.count }
     ensures weighed { result ≡ None → AreWeights U.Fn rules.now.weigh.now up.new.crew.jobs weights.new }
+    ensures accounts { result ≡ None → up.new.store.running.spent ≡ false → HaveAll up.new.store up.new.crew }
 {
     rises(&up.crew);
     match next_job(&up.store, &up.crew, rules.weigh, weights) {
@@ -90,13 +94,13 @@ fn rises(crew: &Crew)
 
 /// The number of the job that goes next.
 fn next_job<D: Disc, T: Tapes, U: Fn(&Standing) -> u64>(
-    store: &Running<D, T>,
+    store: &Watched<D, T>,
     crew: &Crew,
     weigh: &WeighRule<U>,
     weights: &Weights,
 ) -> Option<u64>
     requires { AreWeights U.Fn weigh.now crew.now.jobs weights.now }
-    ensures { (s : State) → ((serial : ℕ) → state.is_mounted s serial ≡ is_mounted (reel serial store.now.rack.reels))
+    ensures { (s : State) → ((serial : ℕ) → state.is_mounted s serial ≡ is_mounted (reel serial store.now.running.rack.reels))
         → Chooses U.Fn weigh.now crew.now.jobs (able_in s crew.now.jobs) result }
 {
     crew.choose(weigh, weights, &|serial: u32| store.mounted(serial))
@@ -110,13 +114,15 @@ fn turn_of<K: Sink, D: Disc, T: Tapes, F: Fn(&Usage) -> Charge>(
     tariff: &Tariff<F>,
     out: &mut K,
 ) -> Option<Failure>
-    requires running { up.old.store.spent ≡ false }
+    requires running { up.old.store.running.spent ≡ false }
     requires open { AreOpen up.old.crew.jobs }
     requires there { (job : JobState) × (job_in number up.old.crew.jobs ≡ Some job) }
+    requires accounts { HaveAll up.old.store up.old.crew }
     requires tariff { IsTariff F.Fn tariff.now }
-    ensures turn { Takes F.Fn tariff.now up.old.store up.old.crew up.old.count number result (left_of up.new.store) up.new.crew
+    ensures turn { Takes F.Fn tariff.now up.old.store.running up.old.crew up.old.count number result (left_of up.new.store.running) up.new.crew
         (K.written out.old) (K.written out.new) (K.faults out.old) (K.faults out.new) }
     ensures count { up.new.count ≡ up.old.count }
+    ensures accounts { result ≡ None → up.new.store.running.spent ≡ false → HaveAll up.new.store up.new.crew }
 {
     match up.crew.turn(alloc, number, &mut up.store, tariff) {
         Ok(taken) => end_turn(alloc, up, number, taken, out),

@@ -19,7 +19,8 @@ use Rattle.g_plain.specs.declared.faults.StoreFault.TheVariants.{DiscFull, NoMem
 use Rattle.g_plain.specs.PlainStep.{checks}
 use Rattle.g_plain.specs.PlainTree.{Tree, has_file, has_user, named, newest, output_name}
 use Rattle.g_tree.specs.AskedRecords.{zeros}
-use Rattle.g_tree.specs.Records.{ForTree, IsRecords, number_of, tree_of}
+use Rattle.g_tree.specs.declared.asked.Granted.TheVariants.{Output}
+use Rattle.g_tree.specs.Records.{ForTree, IsRecords, name_of_file, number_of, tree_of}
 use Rattle.g_tree.proofs.NamedLemmas.{zeros_fit}
 use Rattle.g_tree.proofs.RecordLemmas.{file_there, newest_few, newest_is}
 use Rattle.g_tree.proofs.RuleLemmas.{count_files}
@@ -32,13 +33,16 @@ use Rattle.g_store_meaning.specs.StoreInvariant.{StoreFacts}
 use Rattle.g_laws_calls.specs.Calls.{IsVersionOf, version_made}
 use Rattle.g_laws_memory.specs.Rooms.{held_in}
 use Rattle.g_migrate.specs.Invariant.{with_online}
+use Rattle.g_migrate.proofs.MigrationLemmas.{rules_here}
 use Rattle.g_store_calls.specs.Answering.{AnswersOver, KeepsPlan, with_devices}
 use Rattle.g_store_calls.specs.AppliedChange.{answer_with}
+use Rattle.g_store_calls.specs.GrantedCalls.{GrantsOne}
 use Rattle.g_store_calls.specs.Kinds.{IsSettled}
 use Rattle.g_store_calls.specs.Replies.{RefusesAs}
 use Rattle.g_store_calls.specs.Versions.{HasMade, HasPut, HasStoppedPut, IsFull, IsNext}
 use Rattle.g_store_calls.proofs.AheadLemmas.{ahead_stands, before_of}
 use Rattle.g_store_calls.proofs.CalmLemmas.{calmly, same_store, texts_fit}
+use Rattle.g_store_calls.proofs.GrantedLemmas.{output_called, output_none, output_there}
 use Rattle.g_store_calls.proofs.TellLemmas.{AreOff, granted_off, not_not, user_any, user_missing, below_of, most_of}
 use Rattle.g_store_calls.proofs.VersionLemmas.{IsMet, belongs_done, belongs_stopped, leads_done, leads_full, leads_stopped, store_done}
 
@@ -97,6 +101,36 @@ module _ (users : List UserRec) (files : List FileRec) (next : ℕ) (who : List 
             let it : full.generation ≡ newest t who path + 1 = ap (λ (f : Full). f.generation) (called zeros next) ∙ ap (λ (g : Option ℕ). unwrap_or g (newest t who path + 1)) given in
             let not_last : not (newest t who path == 4095) ≡ true = both_on (is_none path.generation) (newest t who path == 4095) off.1.1.0 (ap is_none given) in
             subst (λ (m : ℕ). (1 ≤ m) × (m ≤ 4095)) (sym it) (next_one (newest t who path) most not_last)
+
+-- WHAT IS KNOWN of a call that is granted, whoever makes it by whatever path
+pub record IsGrantedPut (o : OnlineFacts) (number : Option ℕ) (full : Full) (bytes : List ℕ) : Type 0 where
+  pub there : (n : ℕ) → number ≡ Some n → name_of_file o.contents.users (recs_in o.contents) n ≡ Some full
+  pub free : number ≡ None → number_of o.contents.users (recs_in o.contents) full ≡ None
+  pub few : number ≡ None → length (recs_in o.contents) < 1024
+  pub owner : ForTree o.contents.users (recs_in o.contents) (λ t. has_user t full.user ≡ true)
+  pub generation : (1 ≤ full.generation) × (full.generation ≤ 4095)
+  pub early : o.contents.head.next_stamp < 2 ^ 62
+  pub short : length bytes ≤ 65536
+
+pub put_granted : (o : OnlineFacts) → o.live ≡ true → IsTied o → (number : Option ℕ) (full : Full) (bytes : List ℕ) → (path : Path) × GrantsOne o (Output number full) (Put path bytes)
+    → IsGrantedPut o number full bytes
+put_granted o live tied number full bytes some =
+    let (path, one) = some in
+    let (who, granted) = one in
+    let us = o.contents.users in
+    let rs = recs_in o.contents in
+    let next = o.contents.head.next_stamp in
+    let is = (rules_here o live tied).records in
+    let called = output_called o live tied who path bytes number full granted in
+    let free = output_none o live tied who path bytes number full granted in record {
+      there = output_there o live tied who path bytes number full granted;
+      free = free;
+      few = λ none. put_few us rs next who path bytes is granted.allowed full called (free none);
+      owner = put_owner us rs next who path bytes is granted.allowed full called;
+      generation = put_generation us rs next who path bytes is granted.allowed full called;
+      early = put_early us rs next who path bytes is granted.allowed full called;
+      short = put_short us rs next who path bytes is granted.allowed full called;
+    }
 
 -- WHAT IS KNOWN of the call and of the record of its version
 pub record IsPut (o : OnlineFacts) (who : List ℕ) (path : Path) (bytes : List ℕ) (full : Full) (r : FileRec) : Type 0 where

@@ -121,13 +121,13 @@ told_by true bytes = inl refl
 told_by false bytes = inr refl
 
 -- THE INTENT of a commit
-intent_by : (b : Bool) (e : Contents) (dump : Option state.OpenDump) → b ≡ is_some dump → (committed b e).head.intent ≡ kept_intent dump e.head.intent
+pub intent_by : (b : Bool) (e : Contents) (dump : Option state.OpenDump) → b ≡ is_some dump → (committed b e).head.intent ≡ kept_intent dump e.head.intent
 intent_by true e (Some d) same = refl
 intent_by false e None same = refl
 intent_by true e None same = absurd (true≢false same)
 intent_by false e (Some d) same = absurd (false≢true same)
 
-held_with : (text : ℕ → List ℕ) (kept : List UserRec) (b : Bool) (e : Contents) → holding_of text kept (committed b e) ≡ record (holding_of text kept e) { intent = (committed b e).head.intent }
+pub held_with : (text : ℕ → List ℕ) (kept : List UserRec) (b : Bool) (e : Contents) → holding_of text kept (committed b e) ≡ record (holding_of text kept e) { intent = (committed b e).head.intent }
 held_with text kept true e = refl
 held_with text kept false e = refl
 

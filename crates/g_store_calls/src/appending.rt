@@ -79,9 +79,9 @@ fn append_to<D: Disc, T: Tapes>(
 {
     let file = file_of(online.tree(), number);
     if online.is_online(number) {
-        append_here(alloc, online, &file, bytes)
+        append_here(alloc, online, file, bytes)
     } else {
-        append_from_tape(alloc, online, tapes, &file, bytes)
+        append_from_tape(alloc, online, tapes, file, bytes)
     }
 }
 
@@ -89,15 +89,15 @@ fn append_to<D: Disc, T: Tapes>(
 fn append_here<D: Disc>(
     alloc: Global,
     online: &mut Online<D>,
-    file: &FileRec,
+    file: FileRec,
     bytes: &Text,
 ) -> Result<(), StoreFault>
     requires live { online.old.live ≡ true }
     requires tied { IsTied online.old }
-    requires here { (f : File) × Contains online.old.contents.files f × (f.rec ≡ file.now) × (f.online ≡ true) }
-    requires fits { file.now.len + length bytes.now ≤ 65536 }
+    requires here { (f : File) × Contains online.old.contents.files f × (f.rec ≡ file) × (f.online ≡ true) }
+    requires fits { file.len + length bytes.now ≤ 65536 }
     requires stamps { online.old.contents.head.next_stamp < 2 ^ 62 }
-    ensures { (f : File) → Contains online.old.contents.files f → f.rec ≡ file.now → (rack : Rack)
+    ensures { (f : File) → Contains online.old.contents.files f → f.rec ≡ file → (rack : Rack)
         → HasAppended (full_of online.old.contents.users f.rec) f bytes.now online.old online.new rack rack result }
 {
     let need = blocks_for(file.len + bytes.as_slice().len() as u32);
@@ -117,15 +117,15 @@ fn append_from_tape<D: Disc, T: Tapes>(
     alloc: Global,
     online: &mut Online<D>,
     tapes: &mut KnownReels<T>,
-    file: &FileRec,
+    file: FileRec,
     bytes: &Text,
 ) -> Result<(), StoreFault>
     requires live { online.old.live ≡ true }
     requires tied { IsTied online.old }
-    requires away { (f : File) × Contains online.old.contents.files f × (f.rec ≡ file.now) × (f.online ≡ false) }
-    requires fits { file.now.len + length bytes.now ≤ 65536 }
+    requires away { (f : File) × Contains online.old.contents.files f × (f.rec ≡ file) × (f.online ≡ false) }
+    requires fits { file.len + length bytes.now ≤ 65536 }
     requires stamps { online.old.contents.head.next_stamp < 2 ^ 62 }
-    ensures { (f : File) → Contains online.old.contents.files f → f.rec ≡ file.now
+    ensures { (f : File) → Contains online.old.contents.files f → f.rec ≡ file
         → HasAppended (full_of online.old.contents.users f.rec) f bytes.now online.old online.new
         (T.rack tapes.old) (T.rack tapes.new) result }
 {
@@ -168,22 +168,22 @@ fn plan_for<D: Disc>(alloc: Global, online: &Online<D>, need: u32) -> Result<Unj
 fn put_behind<D: Disc>(
     alloc: Global,
     online: &mut Online<D>,
-    file: &FileRec,
+    file: FileRec,
     old: Text,
     bytes: &Text,
     plan: Unjam,
 ) -> Result<(), StoreFault>
     requires live { online.old.live ≡ true }
     requires tied { IsTied online.old }
-    requires there { (f : File) × Contains online.old.contents.files f × (f.rec ≡ file.now) }
-    requires long { length old ≡ file.now.len }
-    requires fits { file.now.len + length bytes.now ≤ 65536 }
+    requires there { (f : File) × Contains online.old.contents.files f × (f.rec ≡ file) }
+    requires long { length old ≡ file.len }
+    requires fits { file.len + length bytes.now ≤ 65536 }
     requires stamps { online.old.contents.head.next_stamp < 2 ^ 62 }
-    requires plan { IsUnjamPlan (block.blocks_for (file.now.len + length bytes.now)) online.old plan.take plan.room }
-    requires roomy { block.blocks_for (file.now.len + length bytes.now)
+    requires plan { IsUnjamPlan (block.blocks_for (file.len + length bytes.now)) online.old plan.take plan.room }
+    requires roomy { block.blocks_for (file.len + length bytes.now)
         ≤ room_with (taken_off plan.take online.old.contents.files) online.old }
     ensures { HasApplied
-        (Change.PutFile (version_of file.now online.old.contents.head.next_stamp (file.now.len + length bytes.now))
+        (Change.PutFile (version_of file online.old.contents.head.next_stamp (file.len + length bytes.now))
         (old ++ bytes.now) plan.take)
         online.old online.new result }
 {
@@ -203,12 +203,13 @@ fn put_behind<D: Disc>(
 }
 
 /// The record of a new version of a file, which has no copy on tape yet.
-fn next_version(file: &FileRec, stamp: u64, len: u32) -> FileRec
-    ensures { result ≡ version_of file.now stamp len }
+fn next_version(file: FileRec, stamp: u64, len: u32) -> FileRec
+    ensures { result ≡ version_of file stamp len }
 {
-    let mut rec = file.copy();
-    rec.stamp = stamp;
-    rec.len = len;
-    rec.tape = None;
-    rec
+    FileRec {
+        stamp,
+        len,
+        tape: None,
+        ..file
+    }
 }

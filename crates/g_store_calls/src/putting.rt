@@ -44,7 +44,7 @@ pub(crate) fn put<D: Disc>(
         → IsSettled (call.Put path bytes.now) result }
 {
     let rec = version_of(online, number, &full, bytes);
-    match make_version(alloc, online, &rec, bytes) {
+    match make_version(alloc, online, rec, bytes) {
         Ok(()) => Ok(StoreReply::Made(full)),
         Err(fault) => Err(fault),
     }
@@ -134,13 +134,13 @@ fn first_of<D: Disc>(online: &Online<D>, full: &Full, len: u32) -> FileRec
 fn make_version<D: Disc>(
     alloc: Global,
     online: &mut Online<D>,
-    rec: &FileRec,
+    rec: FileRec,
     bytes: &Text,
 ) -> Result<(), StoreFault>
     requires live { online.old.live ≡ true }
     requires tied { IsTied online.old }
-    requires next { IsNext online.old bytes.now rec.now }
-    ensures { HasMade rec.now bytes.now online.old online.new result }
+    requires next { IsNext online.old bytes.now rec }
+    ensures { HasMade rec bytes.now online.old online.new result }
 {
     let need = blocks_for(rec.len);
     let plan = match plan_unjam(alloc, online, need) {
@@ -153,7 +153,7 @@ fn make_version<D: Disc>(
             room: plan.room,
         });
     }
-    match online.put_file(alloc, rec, bytes, &plan.take) {
+    match online.put_file(alloc, &rec, bytes, &plan.take) {
         Ok(()) => Ok(()),
         Err(fault) => Err(StoreFault::from(fault)),
     }

@@ -96,7 +96,7 @@ pub(crate) fn rename<D: Disc>(
     ensures answers { (path : Path) → AnswersGranted online.old (grant.Input number full) result online.new (call.Rename path to.now) }
     ensures kind { (path : Path) → IsSettled (call.Rename path to.now) result }
 {
-    let (rec, name) = renamed_file(online.tree(), number, &full, to);
+    let (rec, name) = renamed_file(online.tree(), number, full, to);
     changed(
         alloc,
         online,
@@ -106,36 +106,34 @@ pub(crate) fn rename<D: Disc>(
 }
 
 /// The record of the file with another local name, and its full name then. The call isn't refused.
-fn renamed_file(tree: &Tree, number: u16, full: &Full, to: &Local) -> (FileRec, Full)
-    requires granted { (who : List ℕ) × (path : Path) × GrantsFile tree.now.users tree.now.files who (call.Rename path to.now) path number full.now }
-    ensures { (who : List ℕ) (path : Path) → GrantsFile tree.now.users tree.now.files who (call.Rename path to.now) path number full.now
+fn renamed_file(tree: &Tree, number: u16, full: Full, to: &Local) -> (FileRec, Full)
+    requires granted { (who : List ℕ) × (path : Path) × GrantsFile tree.now.users tree.now.files who (call.Rename path to.now) path number full }
+    ensures { (who : List ℕ) (path : Path) → GrantsFile tree.now.users tree.now.files who (call.Rename path to.now) path number full
         → IsRenamed tree.now.users tree.now.files who path to.now result.0 result.1 }
 {
     // That the name is one is known from here.
     let _word = to.as_slice();
     let old = file_of(tree, number);
-    (with_local(&old, to), renamed(full, to))
+    (with_local(old, to), renamed(full, to))
 }
 
 /// The name with another local name.
-fn renamed(full: &Full, local: &Local) -> Full
-    ensures { result ≡ record full.now { local = local.now } }
+fn renamed(full: Full, local: &Local) -> Full
+    ensures { result ≡ record full { local = local.now } }
 {
     Full {
-        user: full.user.copy(),
         local: local.copy(),
-        generation: full.generation,
-        lang: full.lang.copy(),
+        ..full
     }
 }
 
 /// The record with another local name.
-fn with_local(file: &FileRec, local: &Local) -> FileRec
-    ensures { result ≡ record file.now { local = local.now } }
+fn with_local(file: FileRec, local: &Local) -> FileRec
+    ensures { result ≡ record file { local = local.now } }
 {
     FileRec {
         local: local.copy(),
-        ..file.copy()
+        ..file
     }
 }
 
@@ -172,7 +170,7 @@ fn opened_file(tree: &Tree, number: u16, user: &User, modes: Modes) -> FileRec
     let user = number_of_user(tree, user);
     let mut traps = old.traps.copy();
     match traps.go(old.owner, user, modes) {
-        Ok(()) => with_traps(&old, traps),
+        Ok(()) => with_traps(old, traps),
         Err(_) => unreachable!(),
     }
 }
@@ -210,20 +208,17 @@ fn closed_file(tree: &Tree, number: u16, user: &User, modes: Modes) -> FileRec
     let user = number_of_user(tree, user);
     let mut traps = old.traps.copy();
     traps.stop(old.owner, user, modes);
-    with_traps(&old, traps)
+    with_traps(old, traps)
 }
 
 /// The record with other traps.
-fn with_traps(file: &FileRec, traps: Traps) -> FileRec
-    ensures value { result ≡ record file.now { traps = traps } }
+fn with_traps(file: FileRec, traps: Traps) -> FileRec
+    ensures value { result ≡ record file { traps = traps } }
     ensures others { IsOthers traps.others }
     ensures owner { traps.owner < 32 }
 {
     // That these are traps is known from here.
     let _others = traps.others();
     let _modes = traps.owner_modes().bits();
-    FileRec {
-        traps,
-        ..file.copy()
-    }
+    FileRec { traps, ..file }
 }

@@ -3,7 +3,6 @@ use Rattle.std.proofs.Common.{◌≡◌, ℕ, ◌<◌, ◌≤◌, List, false, O
 use Rattle.std.specs.Option.{ForSome}
 use Rattle.std.proofs.Math.ListN.{set}
 use Rattle.std.proofs.lemmas.Bool.{eqb-false}
-use Rattle.std.proofs.lemmas.List.{get_or_default}
 use Rattle.g_base.specs.Counts.{one_more}
 use Rattle.g_base.specs.Fuse.{burnt}
 use Rattle.g_tape.specs.declared.fault.TapeFault.TheVariants.{WriteFailed}
@@ -13,10 +12,6 @@ use Rattle.g_tape.specs.Place.{IsPlaceOf}
 use Rattle.g_tape.specs.Leave.{remains_of}
 use Rattle.g_tape.specs.Memory.{Memory, MemoryReads, MemoryWrites}
 use Rattle.g_tape.proofs.RackLemmas.{with_reel-place}
-
--- what stands at one place, read twice
-pub same-place : (reels : List Reel) (i : ℕ) (here was : Reel) → i < length reels → here ≡ get_or reels i here → was ≡ get_or reels i was → here ≡ was
-same-place reels i here was within one two = one ∙ get_or_default reels i here was within ∙ sym two
 
 -- the reel of the serial is the one that stands at its place
 pub at-place : (s i : ℕ) (reels : List Reel) (was : Reel) → IsPlaceOf s reels i → was ≡ get_or reels i was → reel s reels ≡ Some was

@@ -1,6 +1,7 @@
 -- The first reel of a serial, found by place.
-use Rattle.std.proofs.Common.{◌≡◌, ℕ, zero, suc, ◌<◌, List, [], ◌∷◌, Some, None, Bool, true, false, ◌==◌, if◌then◌else◌, length, get_or, sym, ap, ◌∙◌, refl, arith, eq-eqb}
+use Rattle.std.proofs.Common.{◌≡◌, ℕ, zero, suc, ◌<◌, List, [], ◌∷◌, Some, None, Bool, true, false, ◌==◌, if◌then◌else◌, Contains, length, get_or, inl, inr, sym, ap, ◌∙◌, refl, arith, eq-eqb}
 use Rattle.std.proofs.lemmas.Bool.{ne_eqb}
+use Rattle.std.proofs.lemmas.Bool.Decides.{eqb_tells}
 use Rattle.g_tape.specs.Reel.{Reel}
 use Rattle.g_tape.specs.Rack.{reel, with_reel}
 use Rattle.g_tape.specs.Place.{IsPlaceOf}
@@ -30,3 +31,17 @@ reel-first s (r ∷ rs) (suc i) within here before =
       there = λ d. ap (λ (b : Bool). if b then Some r else reel s rs) differs ∙ rest.there d;
       change = λ f d. ap (λ (b : Bool). if b then f r ∷ rs else r ∷ with_reel s f rs) differs ∙ ap (λ (xs : List Reel). r ∷ xs) (rest.change f d);
     }
+
+-- the reel of a serial is among the reels, and has it
+pub reel-found : (s : ℕ) (reels : List Reel) (r : Reel) → reel s reels ≡ Some r → Contains reels r × (r.serial ≡ s)
+reel-found s [] r is = absurd (cc)
+reel-found s (q ∷ qs) r is =
+    elim (eqb_tells s q.serial) [
+      | inl h ↦
+          let found : Some q ≡ Some r = sym (ap (λ (b : Bool). if b then Some q else reel s qs) h.0) ∙ is in
+          let same : q ≡ r = cc in
+          ((0, omega arith, same), ap (λ (x : Reel). x.serial) (sym same) ∙ sym h.1)
+      | inr h ↦
+          let ((k, within, at), named) = reel-found s qs r (sym (ap (λ (b : Bool). if b then Some q else reel s qs) h.0) ∙ is) in
+          ((suc k, omega (arith, within), at), named)
+    ]

@@ -1,9 +1,10 @@
 -- What reads leave as it is, and how they add up.
-use Rattle.std.proofs.Common.{◌≡◌, ℕ, suc, ◌<◌, ◌≤◌, List, [], ◌∷◌, Bool, true, false, ◌==◌, nat_lt, if◌then◌else◌, Option, Some, None, Result, Ok, Err, All, length, map, get_or, option_map, refl, subst, sym, ap, ◌∙◌, inl, inr, eq-eqb, arith}
+use Rattle.std.proofs.Common.{◌≡◌, ℕ, ◌<◌, ◌≤◌, List, [], ◌∷◌, Bool, true, false, ◌==◌, nat_lt, if◌then◌else◌, Option, Some, None, Result, Ok, Err, All, length, map, get_or, option_map, refl, subst, sym, ap, ◌∙◌, inl, inr, eq-eqb, arith}
 use Rattle.std.proofs.Math.ListN.{set, get_or-eq_default}
 use Rattle.std.specs.Option.{ForSome}
 use Rattle.std.proofs.lemmas.Bool.{ne_eqb, cases_eq, cases_lt, ltb-true}
 use Rattle.std.proofs.lemmas.Bool.Decides.{eqb_tells}
+use Rattle.std.proofs.lemmas.List.Elements.{All-contains}
 use Rattle.std.proofs.lemmas.List.{get_or-set_same, get_or-set_other}
 use Rattle.g_base.specs.Counts.{one_more}
 use Rattle.g_tape.specs.declared.fault.TapeFault.{TapeFault}
@@ -12,6 +13,7 @@ use Rattle.g_tape.specs.Reel.{Reel, IsReel, read_at}
 use Rattle.g_tape.specs.Rack.{Rack, AreReels, reel, with_reel, changed, refuses_read, Reading}
 use Rattle.g_tape.specs.Reads.{unread, blocks_in, times_in, count_at, blocks_of, OnlyReads, HasRead}
 use Rattle.g_tape.specs.Laws.{ReadsOnlyRead}
+use Rattle.g_tape.proofs.PlaceLemmas.{reel-found}
 
 -- the changed reel is found changed
 pub reel-with_reel : (s : ℕ) (f : Reel → Reel) → ((r : Reel) → (f r).serial ≡ r.serial) → (rs : List Reel) → reel s (with_reel s f rs) ≡ option_map f (reel s rs)
@@ -172,15 +174,7 @@ allowed-read k r is = ltb-true k r.len (reads-pass r.mounted (nat_lt k r.len) is
 
 -- a reel of the rack is one
 pub is_reel : (s : ℕ) (rs : List Reel) (r : Reel) → All IsReel rs → reel s rs ≡ Some r → IsReel r
-is_reel s [] r all is = absurd (cc)
-is_reel s (x ∷ xs) r all is =
-    elim (eqb_tells s x.serial) [
-      | inl h ↦
-          let found : Some x ≡ Some r = sym (ap (λ (b : Bool). if b then Some x else reel s xs) h.0) ∙ is in
-          let same : x ≡ r = cc in
-          subst IsReel same (all 0 x (omega arith))
-      | inr h ↦ is_reel s xs r (λ k d h'. all (suc k) d (omega (arith, h'))) (sym (ap (λ (b : Bool). if b then Some x else reel s xs) h.0) ∙ is)
-    ]
+is_reel s rs r all is = All-contains IsReel rs r all (reel-found s rs r is).0
 
 counted-once : (k : ℕ) (o : Option (List ℕ)) (n : ℕ) → k < n → ForSome o (λ ts. length ts ≡ n) → ForSome o (λ ts. one_more (count_at k o) ≤ count_at k (option_map (λ ts'. set ts' k (one_more (get_or ts' k 0))) o))
 counted-once k None n below long ts is = absurd (cc)

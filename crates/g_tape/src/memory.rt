@@ -79,26 +79,26 @@ impl Tapes for MemoryTapes {
     }
 
     fn serial(&self, i: usize) -> u32 {
-        self.reels[i].serial()
+        self.reels[i].state().serial()
     }
 
     fn mounted(&self, serial: u32) -> bool {
         match place_of(&self.reels, serial) {
-            Some(place) => self.reels[place].is_mounted(),
+            Some(place) => self.reels[place].state().is_mounted(),
             None => false,
         }
     }
 
     fn capacity(&self, serial: u32) -> Result<u32, TapeFault> {
         match place_of(&self.reels, serial) {
-            Some(place) => Ok(self.reels[place].capacity()),
+            Some(place) => Ok(self.reels[place].state().capacity()),
             None => Err(TapeFault::NoTape),
         }
     }
 
     fn length(&self, serial: u32) -> Result<u32, TapeFault> {
         match place_of(&self.reels, serial) {
-            Some(place) => Ok(self.reels[place].len()),
+            Some(place) => Ok(self.reels[place].state().len()),
             None => Err(TapeFault::NoTape),
         }
     }
@@ -121,7 +121,7 @@ impl Tapes for MemoryTapes {
         let Some(place) = place_of(&self.reels, serial) else {
             return Err(TapeFault::NoTape);
         };
-        if let Some(fault) = self.reels[place].refuses_unmount() {
+        if let Some(fault) = self.reels[place].state().refuses_unmount() {
             return Err(fault);
         }
         self.reels[place].set_mounted(false);
@@ -135,7 +135,7 @@ impl Tapes for MemoryTapes {
         let Some(place) = place_of(&self.reels, serial) else {
             return Err(TapeFault::NoTape);
         };
-        if let Some(fault) = self.reels[place].refuses_read(k) {
+        if let Some(fault) = self.reels[place].state().refuses_read(k) {
             return Err(fault);
         }
         if self.fail.contains(&self.reads) {
@@ -152,7 +152,7 @@ impl Tapes for MemoryTapes {
         let Some(place) = place_of(&self.reels, serial) else {
             return Err(TapeFault::NoTape);
         };
-        if let Some(fault) = self.reels[place].refuses_write(k) {
+        if let Some(fault) = self.reels[place].state().refuses_write(k) {
             return Err(fault);
         }
         if self.fuse.burn() {

@@ -1,11 +1,10 @@
 //! One reel in memory: a store with room for as many blocks as its capacity, of which the first are on the reel.
 ghost use Rattle.std.specs.Prelude.{◌≡◌, ◌<◌, ◌≤◌, [], ◌∷◌, ◌++◌, IfOk, None, Some, map, slice_get, take, vec_capacity, vec_len};
 ghost use Rattle.std.specs.Option.{ForSome};
-ghost use Rattle.g_tape.specs.Rack.{refuses_unmount, refuses_read, refuses_write};
+ghost use Rattle.g_tape.specs.Rack.{refuses_read, refuses_write};
 ghost use Rattle.g_tape.specs.Leave.{remains_of};
 ghost use Rattle.g_tape.specs.Reel.{IsReel, empty_reel, empty_reel_of, with_mounted, cut_at, ending, read_at, left_by};
 
-use crate::fault::TapeFault;
 use crate::leave::{TapeLeave, half_of};
 use crate::reel_state::ReelState;
 use g_base::{Block, NoMemory, raised};
@@ -49,49 +48,11 @@ impl MemoryReel {
         })
     }
 
-    pub fn serial(&self) -> u32
-        ensures { result ≡ self.now.serial }
+    /// What every reel has, wherever its blocks are kept.
+    pub fn state(&self) -> &ReelState
+        ensures { result.now ≡ record self.now { blocks = result.now.blocks; times_read = result.now.times_read } }
     {
-        self.state.serial()
-    }
-
-    pub fn capacity(&self) -> u32
-        ensures { result ≡ self.now.capacity }
-    {
-        self.state.capacity()
-    }
-
-    pub fn len(&self) -> u32
-        ensures { result ≡ self.now.len }
-    {
-        self.state.len()
-    }
-
-    pub fn is_mounted(&self) -> bool
-        ensures { result ≡ self.now.mounted }
-    {
-        self.state.is_mounted()
-    }
-
-    /// Why an unmount is refused, if it is.
-    pub fn refuses_unmount(&self) -> Option<TapeFault>
-        ensures { result ≡ refuses_unmount (Some self.now) }
-    {
-        self.state.refuses_unmount()
-    }
-
-    /// Why a read of block k is refused, if it is.
-    pub fn refuses_read(&self, k: u32) -> Option<TapeFault>
-        ensures { result ≡ refuses_read k (Some self.now) }
-    {
-        self.state.refuses_read(k)
-    }
-
-    /// Why a write of block k is refused, if it is.
-    pub fn refuses_write(&self, k: u32) -> Option<TapeFault>
-        ensures { result ≡ refuses_write k (Some self.now) }
-    {
-        self.state.refuses_write(k)
+        &self.state
     }
 
     pub fn set_mounted(&mut self, mounted: bool)

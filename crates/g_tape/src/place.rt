@@ -10,7 +10,7 @@ pub(crate) fn place_of(reels: &[MemoryReel], serial: u32) -> Option<usize>
     ensures { MatchOption result (reel serial reels.now ≡ None) (IsPlaceOf serial reels.now) }
 {
     for (i, reel) in reels.iter().enumerate() {
-        if reel.serial() == serial {
+        if reel.state().serial() == serial {
             return Some(i);
         }
     }

@@ -75,10 +75,14 @@ module _ (users : List UserRec) (files : List FileRec) (bytes : FileRec → List
   pub newest_there : (full : Full) → IsRecords users files → full ≡ named who path 0 → newest_of users full files ≡ newest tree who path
   newest_there full rules is = ap (λ f. newest_of users f files) is ∙ sym (newest_is users files bytes next who path rules)
 
+  pub output_newest : (full : Full) (n : ℕ) → IsRecords users files → full ≡ named who path 0 → path.generation ≡ None → n ≡ newest_of users full files → with_generation full (n + 1) ≡ output_name tree who path
+  output_newest full n rules is none top =
+      (λ i. with_generation (is i) (n + 1)) ∙ ap (λ m. named who path (m + 1)) (top ∙ newest_there full rules is)
+      ∙ ap (λ o. named who path (unwrap_or o (newest tree who path + 1))) (sym none)
+
   pub output_next : (full : Full) (n : ℕ) (output : Output) → IsRecords users files → full ≡ named who path 0 → path.generation ≡ None → n ≡ newest_of users full files → n ≢ 4095
       → IsFileOrNew users files (with_generation full (n + 1)) output → IsOutput users files who path tree output
   output_next full n output rules is none top below found =
       let same : n ≡ newest tree who path = top ∙ newest_there full rules is in
-      output_found (with_generation full (n + 1)) output found
-      ((λ i. with_generation (is i) (n + 1)) ∙ ap (λ m. named who path (m + 1)) same ∙ ap (λ o. named who path (unwrap_or o (newest tree who path + 1))) (sym none))
+      output_found (with_generation full (n + 1)) output found (output_newest full n rules is none top)
       (ap (λ o. is_none o && (newest tree who path == 4095)) none ∙ ap (λ m. m == 4095) (sym same) ∙ not_same n 4095 below)

@@ -463,6 +463,9 @@ module _ (users : List UserRec) (files : List FileRec) (is : IsRecords users fil
     inside : place < length (set files place file)
     inside = let len = length-set files place file in omega (arith, within, len)
 
+    pub put_owned : file.owner < length users
+    put_owned = subst (λ s. s.owner < length users) there (rules.among_files.owners place file inside)
+
     pub put_owner : file.owner < 63
     put_owner = owner_at users (set files place file) rules place file inside (sym there)
 

@@ -1,14 +1,12 @@
 -- Why a call is refused, where only the bytes of files differ.
-use Rattle.std.proofs.Common.{◌≡◌, ℕ, ◌==◌, cond, List, length, get_or, sum_by, Option, Some, None, unwrap_or, refl, sym, ap, ◌∙◌}
+use Rattle.std.proofs.Common.{◌≡◌, ℕ, cond, List, length, get_or, Option, Some, None, unwrap_or, refl, sym, ap, ◌∙◌}
 use Rattle.std.specs.Option.{option_map}
-use Rattle.std.specs.FinMap.{FinMap, get, len, entries, from_entries, get-from_entries}
-use Rattle.std.specs.List.{Contains}
+use Rattle.std.specs.FinMap.{get, len, get-from_entries}
 use Rattle.std.proofs.lemmas.List.Elements.{Contains-get_or}
-use Rattle.std.proofs.lemmas.List.Sorted.{sum_by-IsPermutation}
 use Rattle.g_base.specs.Block.{blocks_for}
 use Rattle.g_name.specs.declared.full.Full.{Full}
 use Rattle.g_name.specs.declared.path.Path.{Path}
-use Rattle.g_name.specs.Order.{text_cmp, full_cmp, same_text}
+use Rattle.g_name.specs.Order.{same_text}
 use Rattle.g_name.proofs.Order.{full_total}
 use Rattle.g_entry.specs.declared.user_rec.UserRec.{UserRec}
 use Rattle.g_entry.specs.declared.file_rec.FileRec.{FileRec}
@@ -18,9 +16,9 @@ use Rattle.g_plain.specs.PlainTree.{Tree, has_file, file_row, no_row, newest, us
 use Rattle.g_plain.specs.PlainStep.{fault_of}
 use Rattle.g_plain.proofs.TextMaps.{full_exact}
 use Rattle.g_tree.specs.Records.{IsRecords, HasLengths, name_of, full_of, file_row_of, tree_of, by_name}
-use Rattle.g_tree.proofs.ListLemmas.{sum_same_on, sum_of_map}
-use Rattle.g_tree.proofs.MapLemmas.{with_value, keyed, apart_keyed, entries_permute, found_one}
-use Rattle.g_tree.proofs.RecordLemmas.{names_apart, file_there, file_entries, newest_is, blocks_in, used_named}
+use Rattle.g_tree.proofs.ListLemmas.{sum_same_on}
+use Rattle.g_tree.proofs.MapLemmas.{keyed, found_one}
+use Rattle.g_tree.proofs.RecordLemmas.{file_there, newest_is, blocks_in, used_named}
 use Rattle.g_tree.proofs.RuleLemmas.{count_files}
 use Rattle.g_tree.proofs.NamedLemmas.{row_named}
 

@@ -1,5 +1,5 @@
 -- What a call is granted, by the name that the plain step's look-up gives.
-use Rattle.std.proofs.Common.{◌≡◌, ℕ, ◌+◌, true, false, not, List, ◌∷◌, Option, Some, None, is_some, Result, Ok, Err, unwrap_or, refl, sym, ap, subst, ◌∙◌}
+use Rattle.std.proofs.Common.{◌≡◌, ℕ, ◌+◌, true, false, not, List, ◌∷◌, Option, Some, None, Result, Ok, Err, unwrap_or, refl, sym, ap, subst, ◌∙◌}
 use Rattle.std.specs.Result.{result_err}
 use Rattle.std.specs.List.{AllByRecursion}
 use Rattle.g_name.specs.declared.full.Full.{Full}
@@ -12,11 +12,12 @@ use Rattle.g_plain.specs.declared.faults.StoreFault.{StoreFault}
 use Rattle.g_plain.specs.declared.faults.StoreFault.TheVariants.{NoUser}
 use Rattle.g_plain.specs.declared.refusals.CallName.{CallName}
 use Rattle.g_plain.specs.declared.refusals.CallName.TheVariants as name
+use Rattle.g_plain.specs.declared.refusals.GrantedName.{GrantedName}
 use Rattle.g_plain.specs.PlainTree.{Tree, has_file, has_user, input_name, newest, named}
 use Rattle.g_plain.specs.PlainStep.{checks, fault_of}
-use Rattle.g_plain.specs.Grants.{fault_or, granted_of, name_in}
+use Rattle.g_plain.specs.Grants.{fault_or, granted_of, name_granted, name_in, number_in}
 use Rattle.g_plain.proofs.StepKept.{all_passed, not_false}
-use Rattle.g_tree.specs.Records.{ForTree, HasLengths, IsRecords, tree_of}
+use Rattle.g_tree.specs.Records.{ForTree, HasLengths, IsRecords, number_of, tree_of}
 use Rattle.g_tree.specs.AskedRecords.{IsGranted, zeros}
 use Rattle.g_tree.specs.declared.asked.Granted.{Granted}
 use Rattle.g_tree.proofs.FaultLemmas.{fault_same}
@@ -81,22 +82,28 @@ module _ (users : List UserRec) (files : List FileRec) (is : IsRecords users fil
     t = tree_of users files zeros next
 
     -- refused on zeros as on the bytes
-    pub refused_as : (bytes : FileRec → List ℕ) (fault : StoreFault) → Err fault ≡ granted_of t who call → HasLengths files bytes → Some fault ≡ fault_of (tree_of users files bytes next) who call
-    refused_as bytes fault e lengths =
-        fault_is (fault_of t who call) (name_in t who call) (Err fault) e ∙ fault_same users files zeros bytes next is (zeros_fit files) lengths who call
+    pub refused_as : {A : Type 0} (bytes : FileRec → List ℕ) (fault : StoreFault) (v : A) → Err fault ≡ fault_or (fault_of t who call) v → HasLengths files bytes → Some fault ≡ fault_of (tree_of users files bytes next) who call
+    refused_as bytes fault v e lengths = fault_is (fault_of t who call) v (Err fault) e ∙ fault_same users files zeros bytes next is (zeros_fit files) lengths who call
 
-    pub allowed_as : (bytes : FileRec → List ℕ) (called : CallName) → Ok called ≡ granted_of t who call → HasLengths files bytes → None ≡ fault_of (tree_of users files bytes next) who call
-    allowed_as bytes called e lengths =
-        sym (none_is (fault_of t who call) (name_in t who call) called e) ∙ fault_same users files zeros bytes next is (zeros_fit files) lengths who call
+    module _ (called : GrantedName) (e : Ok called ≡ granted_of (number_of users files) t who call) where
+      abbrev none : fault_of t who call ≡ None
+      none = none_is (fault_of t who call) (name_granted (number_of users files) (name_in t who call)) called e
 
-    -- what is granted by the name on zeros is so on any bytes
-    pub granted_as : (called : CallName) (granted : Granted) → Ok called ≡ granted_of t who call → IsGranted users files called granted
-        → ForTree users files (λ u. IsGranted users files (name_in u who call) granted)
-    granted_as called granted e by bytes other =
-        subst (λ (c : CallName). IsGranted users files c granted) (value_is (fault_of t who call) (name_in t who call) called e ∙ name_same zeros bytes next other who call) by
+      abbrev value : called ≡ name_granted (number_of users files) (name_in t who call)
+      value = value_is (fault_of t who call) (name_granted (number_of users files) (name_in t who call)) called e
 
-    pub input_found : (full : Full) → Ok (name.Input full) ≡ granted_of t who call → ForTree users files (λ u. has_file u full ≡ true)
-    input_found full e bytes other =
-        let none = none_is (fault_of t who call) (name_in t who call) (name.Input full) e in
-        let there = input_there t who call full (all_passed ((not (has_user t who), NoUser) ∷ checks t who call) none) (value_is (fault_of t who call) (name_in t who call) (name.Input full) e) in
-        sym (file_there users files bytes other full) ∙ file_there users files zeros next full ∙ there
+      pub allowed_as : (bytes : FileRec → List ℕ) → HasLengths files bytes → None ≡ fault_of (tree_of users files bytes next) who call
+      allowed_as bytes lengths = sym none ∙ fault_same users files zeros bytes next is (zeros_fit files) lengths who call
+
+      pub numbered : called.number ≡ number_in (number_of users files) called.name
+      numbered = ap (λ c. c.number) value ∙ sym (ap (λ c. number_in (number_of users files) c.name) value)
+
+      -- what is granted by the name on zeros is so on any bytes
+      pub granted_as : (granted : Granted) → IsGranted users files called.name granted → ForTree users files (λ u. IsGranted users files (name_in u who call) granted)
+      granted_as granted by bytes other =
+          subst (λ (c : CallName). IsGranted users files c granted) (ap (λ c. c.name) value ∙ name_same zeros bytes next other who call) by
+
+      pub input_found : (full : Full) → called.name ≡ name.Input full → ForTree users files (λ u. has_file u full ≡ true)
+      input_found full named bytes other =
+          let there = input_there t who call full (all_passed ((not (has_user t who), NoUser) ∷ checks t who call) none) (sym named ∙ ap (λ c. c.name) value) in
+          sym (file_there users files bytes other full) ∙ file_there users files zeros next full ∙ there

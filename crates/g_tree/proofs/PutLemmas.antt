@@ -1,5 +1,5 @@
 -- How a changed record changes the maps that records stand for.
-use Rattle.std.proofs.Common.{◌≡◌, ◌≢◌, ℕ, suc, ◌+◌, ◌<◌, ◌≤◌, Bool, true, false, cond, List, [], ◌∷◌, ◌++◌, length, map, filter, take, drop, nat_lt, get_or, Option, Some, None, refl, sym, ap, subst, ◌∙◌, arith, is_some, true≢false, ◌⊎◌, inl, inr, not}
+use Rattle.std.proofs.Common.{◌≡◌, ◌≢◌, ℕ, suc, ◌+◌, ◌<◌, ◌≤◌, Bool, true, false, cond, List, [], ◌∷◌, ◌++◌, length, map, filter, take, drop, nat_eq, nat_lt, ◌&&◌, get_or, Option, Some, None, refl, sym, ap, subst, ◌∙◌, arith, is_some, true≢false, ◌⊎◌, inl, inr, not}
 use Rattle.std.proofs.Math.ListN.{set}
 use Rattle.std.specs.List.{All, AllWithin, Contains}
 use Rattle.std.specs.List as list
@@ -11,7 +11,7 @@ use Rattle.std.specs.Option.{option_map}
 use Rattle.std.proofs.lemmas.List.{map-append, take-append-drop, length-take-le, length-drop, get_or-take, get_or-drop, get_or_default, set_split, append-nil}
 use Rattle.std.proofs.lemmas.List.Elements.{All-cons, All-nil, All-contains, All-weaker, Contains-append_right, filter-append}
 use Rattle.g_name.specs.declared.full.Full.{Full}
-use Rattle.g_name.specs.Order.{full_cmp}
+use Rattle.g_name.specs.Order.{full_cmp, same_text}
 use Rattle.g_name.proofs.Order.{full_total, full_ties, full_eq}
 use Rattle.g_entry.specs.declared.user_rec.UserRec.{UserRec}
 use Rattle.g_entry.specs.declared.file_rec.FileRec.{FileRec}
@@ -23,10 +23,11 @@ use Rattle.g_plain.proofs.Found.{same_some, tied_are}
 use Rattle.std.proofs.lemmas.Cmp.{nat_cmp_total}
 use Rattle.g_tree.specs.Records.{IsRecords, full_of, file_row_of, tree_of, by_name, by_number, number_of}
 use Rattle.g_tree.specs.State.{with_file, without_number}
+use Rattle.g_tree.specs.Names.{same_name}
 use Rattle.g_tree.specs.Places.{StandsAt, FitsAt}
 use Rattle.g_tree.proofs.ListLemmas.{pairs_first, pairs_rest, contains_first, filter_none, filter_whole, around}
 use Rattle.g_tree.proofs.MapLemmas.{keyed, AreApart, none_found, found_one, found_itself, find_valued, made_middle, made_without}
-use Rattle.g_tree.proofs.RecordLemmas.{IsIndexed, valued, names_apart}
+use Rattle.g_tree.proofs.RecordLemmas.{IsIndexed, valued, names_apart, same_user}
 use Rattle.g_tree.proofs.PlaceLemmas.{numbered_apart, stands_found, fits_none}
 
 module _ {A : Type 0} where
@@ -191,6 +192,28 @@ names_agree a b t is e =
 pub names_differ : (a b : Full) (t : Bool) → t ≡ not (full_eq a b) → t ≡ true → a ≡ b → ⊥
 names_differ a b t is e same =
     true≢false (sym e ∙ is ∙ ap not (full_ties a b ∙ ap (λ x. eq_by_cmp full_cmp x b) same ∙ (eq_by_cmp_equiv full_total).refl b))
+
+-- by the parts of a record they are the same as by the name of the owner
+pub same_parts : (users : List UserRec) (files : List FileRec) (a b : FileRec) → IsRecords users files → a.owner < length users → same_name a b ≡ full_eq (full_of users a) (full_of users b)
+same_parts users files a b is there =
+    ap (λ t. t && (same_text a.local b.local && (nat_eq a.generation b.generation && same_text a.lang b.lang)))
+    (sym (same_user users a.owner b.owner is.each_user is.among_users.names (inl there)))
+
+module _ (users : List UserRec) (files : List FileRec) (place : ℕ) (r file : FileRec) (same : Bool) (is : IsRecords users files) (at : StandsAt files file.number place)
+    (here : r ≡ get_or files place r) (told : same ≡ same_name r file) where
+  by_names : not same ≡ not (full_eq (full_of users r) (full_of users file))
+  by_names = ap not (told ∙ same_parts users files r file is (subst (λ s. s.owner < length users) (sym here) (is.among_files.owners place r at.within)))
+
+  -- the file that stands there has the name, whatever stands for none
+  pub stands_named : same ≡ true → (d : FileRec) → full_of users (get_or files place d) ≡ full_of users file
+  stands_named named d =
+      ap (full_of users) (get_or_default files place d r at.within ∙ sym here) ∙ names_agree (full_of users r) (full_of users file) (not same) by_names (ap not named)
+
+  -- the name isn't that of the number
+  pub named_apart : same ≡ false → number_of users files (full_of users file) ≡ Some file.number → ⊥
+  named_apart apart e =
+      names_differ (full_of users r) (full_of users file) (not same) by_names (ap not apart)
+      (named_stands users files is file.number (full_of users file) place r e at here)
 
 pub still_room : (users : List UserRec) (files : List FileRec) (full : Full) (number spare : ℕ) → (1 ≤ spare) ⊎ (number_of users files full ≡ Some number) → (number_of users files full ≡ Some number → ⊥) → 1 ≤ spare
 still_room users files full number spare room apart = elim room as (λ _. 1 ≤ spare) [ inl some ↦ some | inr e ↦ absurd (apart e) ]

@@ -1,5 +1,5 @@
 -- Boxes for files to come.
-use Rattle.std.proofs.Common.{◌≡◌, ◌≤◌, ℕ, Option, Some, None, is_some, true, subst, sym, arith, true≢false}
+use Rattle.std.proofs.Common.{◌≡◌, ◌≤◌, Option, Some, None, is_some, true, subst, sym, arith, true≢false}
 use Rattle.g_entry.specs.declared.file_rec.FileRec.{FileRec}
 use Rattle.g_tree.specs.State.{room_of}
 

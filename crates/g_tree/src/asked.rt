@@ -1,17 +1,20 @@
 //! Whether a call is refused, asked of records: by their numbers, and by no byte of a file.
-ghost use Rattle.std.specs.Prelude.{◌≡◌, ◌≤◌, ℕ, List, length, IfOk, true};
+ghost use Rattle.std.specs.Prelude.{◌≡◌, ◌≤◌, ℕ, List, Some, length, IfOk, true};
 ghost use Rattle.std.specs.Result.{result_err};
+ghost use Rattle.g_name.specs.declared.full.Full.{Full};
 ghost use Rattle.g_entry.specs.declared.file_rec.FileRec.{FileRec};
-ghost use Rattle.g_plain.specs.Grants.{name_in};
+ghost use Rattle.g_plain.specs.Grants.{name_in, number_in};
 ghost use Rattle.g_plain.specs.PlainTree.{file_row, has_file};
 ghost use Rattle.g_plain.specs.PlainStep.{fault_of};
-ghost use Rattle.g_tree.specs.Records.{ForTree, HasLengths, tree_of};
+ghost use Rattle.g_tree.specs.Records.{ForTree, HasLengths, name_of_file, number_of, tree_of};
 ghost use Rattle.g_tree.specs.AskedRecords.{IsGranted, zeros};
 
 use crate::Tree;
 use g_base::blocks_for;
 use g_name::{Full, Path, User};
-use g_plain::{CallName, Questions, StoreCall, StoreFault, granted_name, named};
+use g_plain::{
+    CallName, GrantedName, NamedFile, Questions, StoreCall, StoreFault, granted_name, named,
+};
 use g_trap::Modes;
 
 /// What a call is granted that isn't refused: the file that its path names.
@@ -34,14 +37,35 @@ struct Records<'a> {
 }
 
 impl<'a> Records<'a> {
+    /// The number of a file that is there.
+    fn number(&self, file: &NamedFile) -> u16
+        requires there { let s = self.now.tree.now in
+            has_file (tree_of s.users s.files zeros self.now.next) file.now.full ≡ true }
+        requires numbered { let s = self.now.tree.now in
+            file.now.number ≡ number_of s.users s.files file.now.full }
+        ensures { let s = self.now.tree.now in
+            name_of_file s.users s.files result ≡ Some file.now.full }
+    {
+        // That the records keep their rules is known from here.
+        let _users = self.tree.users();
+        match file.number {
+            Some(number) => number,
+            None => unreachable!(),
+        }
+    }
+
     /// The bytes of a file, 0 where there is none.
-    fn len(&self, full: &Full) -> u32
+    fn len(&self, file: &NamedFile) -> u32
+        requires { let s = self.now.tree.now in
+            file.now.number ≡ number_of s.users s.files file.now.full }
         ensures len { let s = self.now.tree.now in
             let t = tree_of s.users s.files zeros self.now.next in
-            result ≡ length (file_row t full.now).bytes }
+            result ≡ length (file_row t file.now.full).bytes }
         ensures few { result ≤ 65536 }
     {
-        match self.tree.number_of(full) {
+        // That the records keep their rules is known from here.
+        let _users = self.tree.users();
+        match file.number {
             Some(number) => self.tree.len_of(number),
             None => 0,
         }
@@ -49,10 +73,12 @@ impl<'a> Records<'a> {
 }
 
 impl<'a> Questions for Records<'a> {
-    ghost use Rattle.g_tree.specs.Records.{tree_of};
+    ghost use Rattle.g_tree.specs.Records.{number_of, tree_of};
     ghost use Rattle.g_tree.specs.AskedRecords.{zeros};
 
     ghost tree = { λ s. tree_of s.tree.now.users s.tree.now.files zeros s.next };
+
+    ghost numbers = { λ s. number_of s.tree.now.users s.tree.now.files };
 
     fn has_user(&self, user: &User) -> bool {
         self.tree.has_user(user)
@@ -87,48 +113,58 @@ impl<'a> Questions for Records<'a> {
     fn input_name(&self, who: &User, path: &Path) -> Full {
         match path.generation {
             Some(generation) => named(who, path, generation),
-            None => named(who, path, self.newest(who, path)),
+            None => {
+                let full = named(who, path, 0);
+                let generation = self.tree.newest(&full);
+                Full { generation, ..full }
+            }
         }
     }
 
     fn output_name(&self, who: &User, path: &Path) -> Full {
         match path.generation {
             Some(generation) => named(who, path, generation),
-            None => named(who, path, self.newest(who, path) + 1),
+            None => {
+                let full = named(who, path, 0);
+                let newest = self.tree.newest(&full);
+                Full {
+                    generation: newest + 1,
+                    ..full
+                }
+            }
         }
     }
 
-    fn len_of(&self, full: &Full) -> u32 {
-        self.len(full)
+    fn find(&self, full: Full) -> NamedFile {
+        let number = self.tree.number_of(&full);
+        NamedFile { full, number }
     }
 
-    fn space_left(&self, full: &Full) -> u32 {
-        let Some(owner) = self.tree.user(&full.user) else {
+    fn len_of(&self, file: &NamedFile) -> u32 {
+        self.len(file)
+    }
+
+    fn space_left(&self, file: &NamedFile) -> u32 {
+        let Some(owner) = self.tree.find_user(&file.full.user) else {
             unreachable!()
         };
         let used = self.tree.used(owner.number);
-        let others = used.saturating_sub(blocks_for(self.len(full)));
+        let others = used.saturating_sub(blocks_for(self.len(file)));
         owner.space.saturating_sub(others)
     }
 
-    fn modes_of(&self, full: &Full, user: &User) -> Modes {
-        let Some(file) = self.tree.number_of(full) else {
-            unreachable!()
-        };
+    fn modes_of(&self, file: &NamedFile, user: &User) -> Modes {
         let Some(user) = self.tree.user_number(user) else {
             unreachable!()
         };
-        self.tree.modes_of(file, user)
+        self.tree.modes_of(self.number(file), user)
     }
 
-    fn is_ninth(&self, full: &Full, user: &User, modes: Modes) -> bool {
-        let Some(file) = self.tree.number_of(full) else {
-            unreachable!()
-        };
+    fn is_ninth(&self, file: &NamedFile, user: &User, modes: Modes) -> bool {
         let Some(user) = self.tree.user_number(user) else {
             unreachable!()
         };
-        self.tree.is_ninth(file, user, modes)
+        self.tree.is_ninth(self.number(file), user, modes)
     }
 
     fn stamps_spent(&self) -> bool {
@@ -154,28 +190,26 @@ pub fn refusal_of(
     // That the records keep their rules is known from here.
     let _users = tree.users();
     match granted_name(&Records { tree, next }, who, call) {
-        Ok(CallName::Nothing) => Ok(Granted::Nothing),
-        Ok(CallName::Input(full)) => Ok(input(tree, full)),
-        Ok(CallName::Output(full)) => Ok(output(tree, full)),
+        Ok(granted) => Ok(by_number(tree, granted)),
         Err(fault) => Err(fault),
     }
 }
 
-/// The file of this name, which is there.
-fn input(tree: &Tree, full: Full) -> Granted
-    requires { ForTree tree.now.users tree.now.files (λ t. has_file t full ≡ true) }
-    ensures { IsGranted tree.now.users tree.now.files (CallName.Input full) result }
+/// The file of the name that a call is granted, which is there for input.
+fn by_number(tree: &Tree, granted: GrantedName) -> Granted
+    requires numbered { granted.number
+        ≡ number_in (number_of tree.now.users tree.now.files) granted.name }
+    requires there { (full : Full) → granted.name ≡ CallName.Input full
+        → ForTree tree.now.users tree.now.files (λ t. has_file t full ≡ true) }
+    ensures { IsGranted tree.now.users tree.now.files granted.name result }
 {
-    match tree.number_of(&full) {
-        Some(number) => Granted::Input { number, full },
-        None => unreachable!(),
+    let GrantedName { name, number } = granted;
+    match name {
+        CallName::Nothing => Granted::Nothing,
+        CallName::Input(full) => match number {
+            Some(number) => Granted::Input { number, full },
+            None => unreachable!(),
+        },
+        CallName::Output(full) => Granted::Output { number, full },
     }
-}
-
-/// The file of this name, if there is one.
-fn output(tree: &Tree, full: Full) -> Granted
-    ensures { IsGranted tree.now.users tree.now.files (CallName.Output full) result }
-{
-    let number = tree.number_of(&full);
-    Granted::Output { number, full }
 }

@@ -6,7 +6,7 @@ ghost use Rattle.g_entry.specs.Rules.{AreNumbered};
 ghost use Rattle.g_tree.specs.Records.{full_of};
 ghost use Rattle.g_tree.specs.Places.{StandsAt, FitsAt};
 ghost use Rattle.g_tree.specs.Answers.{newest_of};
-ghost use Rattle.g_tree.specs.Names.{name_in};
+ghost use Rattle.g_tree.specs.Names.{name_in, same_name};
 
 use crate::sorted::{Sorted, name_in};
 use g_base::NoMemory;
@@ -34,6 +34,13 @@ pub(crate) fn place_of(files: &[BoxedRec], number: u16) -> Result<usize, usize>
     ensures absent { IfErr result (FitsAt files.now number) }
 {
     g_entry::place_of(files, number)
+}
+
+/// Whether two files have the same full name. No name of a user is looked at.
+pub(crate) fn has_same_name(a: &FileRec, b: &FileRec) -> bool
+    ensures { result ≡ same_name a.now b.now }
+{
+    a.owner == b.owner && a.local == b.local && a.generation == b.generation && a.lang == b.lang
 }
 
 /// Whether a file whose owner is there has this full name, but for the generation.

@@ -76,9 +76,22 @@ impl Tree {
             (λ t. is_some result ≡ tree.has_user t name.now) }
         ensures records { IsRecords self.now.users self.now.files }
     {
+        match self.find_user(name) {
+            Some(user) => Some(user.copy()),
+            None => None,
+        }
+    }
+
+    /// The record of the user of this name, where it stands.
+    pub(crate) fn find_user(&self, name: &User) -> Option<&UserRec>
+        ensures value { option_copied result ≡ finmap.get (users_by_name self.now.users) name.now }
+        ensures there { ForTree self.now.users self.now.files
+            (λ t. is_some result ≡ tree.has_user t name.now) }
+        ensures records { IsRecords self.now.users self.now.files }
+    {
         for user in &self.users {
             if user.user == *name {
-                return Some(user.copy());
+                return Some(user);
             }
         }
         None

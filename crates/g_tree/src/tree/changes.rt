@@ -10,7 +10,7 @@ ghost use Rattle.g_tree.specs.State.{AreNewest, AreUsed, room_of, with_file, wit
 
 use crate::counts::Counts;
 use crate::index::Index;
-use crate::scan::{full_of, place_of};
+use crate::scan::{full_of, has_same_name, place_of};
 use crate::tree::Tree;
 use g_base::NoMemory;
 use g_entry::{BoxedRec, FileRec, UserRec, boxed};
@@ -117,10 +117,10 @@ impl Tree {
                   (full_of self.old.users file) (file_row_of self.old.users bytes file);
             } }
     {
-        let full = full_of(self.users.as_slice(), &file);
         match place_of(self.files.as_slice(), file.number) {
-            Ok(place) => self.replace(place, full, file),
+            Ok(place) => self.replace(place, file),
             Err(place) => {
+                let full = full_of(self.users.as_slice(), &file);
                 self.counts.rise(&full);
                 self.counts.take(file.owner, file.len);
                 self.index.insert(full, file.number);
@@ -129,24 +129,26 @@ impl Tree {
         }
     }
 
-    /// Puts a file in the place of the one of its number, under this full name of it.
-    fn replace(&mut self, place: usize, full: Full, file: FileRec)
+    /// Puts a file in the place of the one of its number, whatever its full name is.
+    fn replace(&mut self, place: usize, file: FileRec)
         requires at { StandsAt self.old.files file.number place }
-        requires name { full ≡ full_of self.old.users file }
         requires room { (1 ≤ self.old.spare) ⊎
-            (number_of self.old.users self.old.files full ≡ Some file.number) }
+            (number_of self.old.users self.old.files (full_of self.old.users file)
+            ≡ Some file.number) }
         requires rules { IsRecords self.old.users (slice_set self.old.files place file) }
         ensures users { self.new.users ≡ self.old.users }
         ensures files { self.new.files ≡ slice_set self.old.files place file }
         ensures spare { self.old.spare ≤ self.new.spare + 1 }
-        ensures same_name { number_of self.old.users self.old.files full ≡ Some file.number
-            → self.new.spare ≡ self.old.spare }
+        ensures same_name { number_of self.old.users self.old.files (full_of self.old.users file)
+            ≡ Some file.number → self.new.spare ≡ self.old.spare }
     {
-        let old = full_of(self.users.as_slice(), self.files[place].get());
-        if old != full {
-            self.rename(place, &old, full, file);
-        } else {
+        let old = self.files[place].get();
+        if has_same_name(old, &file) {
             self.renew(place, file);
+        } else {
+            let was = full_of(self.users.as_slice(), old);
+            let full = full_of(self.users.as_slice(), &file);
+            self.rename(place, &was, full, file);
         }
     }
 

@@ -16,7 +16,7 @@ impl Tree {
     pub fn has_user(&self, name: &User) -> bool
         ensures { ForTree self.now.users self.now.files (λ t. result ≡ tree.has_user t name.now) }
     {
-        self.user(name).is_some()
+        self.find_user(name).is_some()
     }
 
     /// The number of the user of this name.
@@ -27,7 +27,7 @@ impl Tree {
         ensures there { ForTree self.now.users self.now.files
             (λ t. is_some result ≡ tree.has_user t name.now) }
     {
-        match self.user(name) {
+        match self.find_user(name) {
             Some(user) => Some(user.number),
             None => None,
         }

@@ -1,5 +1,6 @@
-use Rattle.std.proofs.Common.{◌≡◌, ◌≢◌, ℕ, ◌<◌, List, length, subst, sym, ap, arith}
+use Rattle.std.proofs.Common.{◌≡◌, ◌≢◌, ℕ, ◌<◌, List, length, subst, sym, ap, ◌∙◌, arith}
 use Rattle.std.specs.Prelude.{All, AllPairs}
+use Rattle.g_base.specs.Fields.{padded}
 use Rattle.g_base.specs.ToldContent.{Changes}
 use Rattle.g_copy.specs.Copy.{Holds, OnlyAt}
 use Rattle.g_copy.proofs.Writing.{written_none, written_more, written_torn, written_all}
@@ -25,7 +26,7 @@ loop-i-preserved g c =
     let sized = c.size-size.ensures.blocks a told in
     let size = c.size-size.ensures.size in
     subst (All (λ k. k < length a)) (sym is) (λ i d below. let at = copy.area i d below in omega arith))
-    c.loop-i.invariant (rw c.block_of-block.ensures at c.in-Ok.ensures)
+    c.loop-i.invariant (rw (c.block.ensures ∙ ap (padded 512) c.put_part.ensures) at c.in-Ok.ensures)
 
 pub returns-clause-ok : goal.returns-clause-ok
 returns-clause-ok g c =

@@ -8,7 +8,7 @@ use Rattle.g_devices.proofs.file_tapes.place_of.Goals as goal
 pub returns-then-serial : goal.returns-then-serial
 returns-then-serial c =
     reel-first _ _ _ c.loop-i-test.true
-    (λ d. ap (λ (r : Reel). r.serial) (get_or_default _ _ d _ c.loop-i-test.true ∙ sym c.index-reels-i.is) ∙ sym c.serial.ensures
+    (λ d. ap (λ (r : Reel). r.serial) (get_or_default _ _ d _ c.loop-i-test.true ∙ sym c.index-reels-i.is) ∙ sym (c.serial.ensures ∙ ap (λ (r : Reel). r.serial) c.state.ensures)
     ∙ c.if-serial.true)
     c.loop-i.invariant
 

@@ -34,7 +34,17 @@ pub unwrap-requires : goal.unwrap-requires
 unwrap-requires t c = c.new-in-Some-behind-2.ensures.label.1 (goto-label c.args.text.now c.in-Some-behind-2.label.now c.requires c.in-Some-behind-2.ensures)
 
 pub read_verb-requires : goal.read_verb-requires
-read_verb-requires t c = verb-text c.args.text.now c.requires c.in_default.ensures c.in_default-behind.ensures c.in_default-behind-2.ensures
+read_verb-requires t c =
+    let none = c.may_be_keyword.ensures c.if-not-may_be_keyword.true in
+    verb-text c.args.text.now c.requires none.0 none.1 none.2
+
+pub returns-then-not-may_be_keyword : goal.returns-then-not-may_be_keyword
+returns-then-not-may_be_keyword t c n enough =
+    let none = c.may_be_keyword.ensures c.if-not-may_be_keyword.true in
+    verb-reads c.args.text.now n c.read_verb.result none.0 none.1 none.2 c.read_verb.ensures
+
+pub read_verb-requires-2 : goal.read_verb-requires-2
+read_verb-requires-2 t c = verb-text c.args.text.now c.requires c.in_default.ensures c.in_default-behind.ensures c.in_default-behind-2.ensures
 
 pub returns : goal.returns
-returns t c n enough = verb-reads c.args.text.now n c.read_verb.result c.in_default.ensures c.in_default-behind.ensures c.in_default-behind-2.ensures c.read_verb.ensures
+returns t c n enough = verb-reads c.args.text.now n c.read_verb-2.result c.in_default.ensures c.in_default-behind.ensures c.in_default-behind-2.ensures c.read_verb-2.ensures

@@ -14,14 +14,14 @@ shown-made-requires g c = let (job, t, there, at) = c.requires.there in (job, th
 
 pub returns-in-Broken-clause-ends : goal.returns-in-Broken-clause-ends
 returns-in-Broken-clause-ends g c = λ job found.
-    ends_by c.args.up.now.count c.args.seated.number c.args.up.now.store c.args.up.now.crew (pushed_of job c.args.seated.before) turns.Broken c.args.turn c.stops.result (left_of c.stops.new.up.store) c.stops.new.up.crew
+    ends_by c.args.up.now.count c.args.seated.number c.args.up.now.store.running c.args.up.now.crew (pushed_of job c.args.seated.before) turns.Broken c.args.turn c.stops.result (left_of c.stops.new.up.store.running) c.stops.new.up.crew
     (g.K.Sink.written c.args.out.now) (g.K.Sink.written c.stops.new.out) (g.K.Sink.faults c.args.out.now) (g.K.Sink.faults c.stops.new.out)
     c.in-Broken.is (c.stops.ensures.ends (pushed_of job c.args.seated.before) (shown_is c.shown-made.result c.args.seated.number c.args.seated.before c.args.up.now.crew.jobs job c.shown-made.ensures found))
 
 pub returns-in-Wants-clause-ends : goal.returns-in-Wants-clause-ends
 returns-in-Wants-clause-ends g c = λ job found.
-    ends_by c.args.up.now.count c.args.seated.number c.args.up.now.store c.args.up.now.crew (pushed_of job c.args.seated.before) (turns.Wants c.in-Wants.serial) c.args.turn
-    c.goes_on.result (left_of c.goes_on.new.up.store) c.goes_on.new.up.crew
+    ends_by c.args.up.now.count c.args.seated.number c.args.up.now.store.running c.args.up.now.crew (pushed_of job c.args.seated.before) (turns.Wants c.in-Wants.serial) c.args.turn
+    c.goes_on.result (left_of c.goes_on.new.up.store.running) c.goes_on.new.up.crew
     (g.K.Sink.written c.args.out.now) (g.K.Sink.written c.goes_on.new.out) (g.K.Sink.faults c.args.out.now) (g.K.Sink.faults c.goes_on.new.out)
     c.in-Wants.is
     (c.goes_on.ensures.goes (pushed_of job c.args.seated.before ++ operator_line c.args.up.now.count (job_text c.args.seated.number (codes "WANTS TAPE " ++ decimal c.in-Wants.serial)))
@@ -31,7 +31,7 @@ pub stops-requires : goal.stops-requires
 stops-requires g c = record { stopped = c.requires.stopped.1 c.in-Broken.is }
 
 pub ends-requires-clause-running : goal.ends-requires-clause-running
-ends-requires-clause-running g c = unbroken c.args.turn c.args.up.now.store c.requires.stopped (λ e. let is = c.in-Ended.is in let no : ⊥ = cc in no)
+ends-requires-clause-running g c = unbroken c.args.turn c.args.up.now.store.running c.requires.stopped (λ e. let is = c.in-Ended.is in let no : ⊥ = cc in no)
 
 pub ends-requires-clause-there : goal.ends-requires-clause-there
 ends-requires-clause-there g c = let (job, t, there, at) = c.requires.there in (job, there)
@@ -40,13 +40,13 @@ pub returns-in-Ended-clause-ends : goal.returns-in-Ended-clause-ends
 returns-in-Ended-clause-ends g c = λ job found.
     let (one, t, there, at) = c.requires.there in
     let (gone, mid, out, on) = c.ends.ensures.ends (pushed_of job c.args.seated.before) (shown_is c.shown-made.result c.args.seated.number c.args.seated.before c.args.up.now.crew.jobs job c.shown-made.ensures found) in
-    ends_by c.args.up.now.count c.args.seated.number c.args.up.now.store c.args.up.now.crew (pushed_of job c.args.seated.before) _ c.args.turn c.ends.result (left_of c.ends.new.up.store) c.ends.new.up.crew
+    ends_by c.args.up.now.count c.args.seated.number c.args.up.now.store.running c.args.up.now.crew (pushed_of job c.args.seated.before) _ c.args.turn c.ends.result (left_of c.ends.new.up.store.running) c.ends.new.up.crew
     (g.K.Sink.written c.args.out.now) (g.K.Sink.written c.ends.new.out) (g.K.Sink.faults c.args.out.now) (g.K.Sink.faults c.ends.new.out)
     c.in-Ended.is (
       gone,
       mid,
       out,
-      subst (λ (l : List ℕ). GoesOn c.args.up.now.store l mid c.ends.result (left_of c.ends.new.up.store) c.ends.new.up.crew
+      subst (λ (l : List ℕ). GoesOn c.args.up.now.store.running l mid c.ends.result (left_of c.ends.new.up.store.running) c.ends.new.up.crew
           (g.K.Sink.written c.args.out.now) (g.K.Sink.written c.ends.new.out) (g.K.Sink.faults c.args.out.now) (g.K.Sink.faults c.ends.new.out))
           (sym (ap (λ (l : List ℕ). pushed_of job c.args.seated.before ++ l) (no_file c.args.seated.number t c.args.up.now.crew mid gone one out there at) ∙ append-nil (pushed_of job c.args.seated.before))) on,
     )

@@ -8,6 +8,6 @@ use Rattle.g_run.proofs.ticks.job_steps.Goals as goal
 
 pub returns : goal.returns
 returns g c = λ count.
-    let s = c.args.store.now in
+    let s = c.args.store.now.running in
     c.can_step.ensures (some_state s) (λ serial answer post. let is : answer ≡ is_mounted (reel serial s.rack.reels) = search rules in is ∙ sym (mounted_some s serial))
     ∙ ap (λ (js : List JobState). not (has_none js)) (able_same (some_state s) s.rack (mounted_some s) c.args.crew.now.jobs)

@@ -6,9 +6,9 @@ use Rattle.g_store_calls.proofs.appending.put_behind.Goals as goal
 
 pub applied-requires : goal.applied-requires
 applied-requires g c = record {
-  allowed = may_append c.args.online.now c.args.file.now c.args.old c.args.bytes.now c.requires.live c.requires.tied c.requires.there c.requires.long c.requires.fits c.requires.stamps
+  allowed = may_append c.args.online.now c.args.file c.args.old c.args.bytes.now c.requires.live c.requires.tied c.requires.there c.requires.long c.requires.fits c.requires.stamps
       c.extend.new.self c.next_version-rec.result c.args.plan.take c.args.plan.room _ _ c.requires.plan (c.in-Ok.ensures.ok ∙ ap (λ (b : List ℕ). c.args.old ++ b) c.as_slice.ensures)
       (ap length c.as_slice-2.ensures) (ap (λ (h : Head). h.next_stamp) c.head.ensures) c.next_version-rec.ensures;
-  roomy = roomy_behind c.args.online.now c.next_version-rec.result c.args.plan.take c.args.file.now.len c.args.old c.args.bytes.now c.extend.new.self c.requires.roomy c.requires.long
+  roomy = roomy_behind c.args.online.now c.next_version-rec.result c.args.plan.take c.args.file.len c.args.old c.args.bytes.now c.extend.new.self c.requires.roomy c.requires.long
       (c.in-Ok.ensures.ok ∙ ap (λ (b : List ℕ). c.args.old ++ b) c.as_slice.ensures);
 }

@@ -8,7 +8,8 @@ use Rattle.g_tape.proofs.place.place_of.Goals as goal
 pub returns-then-serial : goal.returns-then-serial
 returns-then-serial c =
     reel-first _ _ _ c.loop-i-test.true
-    (λ d. ap (λ (r : Reel). r.serial) (get_or_default _ _ d _ c.loop-i-test.true ∙ sym c.index-reels-i.is) ∙ sym c.serial.ensures ∙ c.if-serial.true)
+    (λ d. ap (λ (r : Reel). r.serial) (get_or_default _ _ d _ c.loop-i-test.true ∙ sym c.index-reels-i.is) ∙ sym (c.serial.ensures ∙ ap (λ (r : Reel). r.serial) c.state.ensures)
+    ∙ c.if-serial.true)
     c.loop-i.invariant
 
 pub returns : goal.returns

@@ -1,11 +1,10 @@
-use Rattle.std.proofs.Common.{◌≡◌, List, [], Some, None, true, subst, sym, ap, ◌∙◌}
+use Rattle.std.proofs.Common.{◌≡◌, List, [], Some, true, subst, ap, ◌∙◌}
 use Rattle.g_base.proofs.FuseLemmas.{fused_failed, fused_well}
 use Rattle.g_tape.specs.Reel.{Reel}
-use Rattle.g_tape.specs.Rack.{Rack, refuses_write}
+use Rattle.g_tape.specs.Rack.{refuses_write}
 use Rattle.g_tape.specs.Place.{IsPlaceOf}
-use Rattle.g_tape.proofs.MemoryLemmas.{same-place}
-use Rattle.g_tape.proofs.RackLemmas.{AreReels-set}
-use Rattle.g_devices.proofs.FileRack.{write_done, write_failed}
+use Rattle.g_tape.proofs.RackLemmas.{AreReels-set, still-free}
+use Rattle.g_devices.proofs.FileRack.{rack_of, write_done, write_failed}
 use Rattle.g_devices.proofs.file_tapes.FileTapesTapes.write.Goals as goal
 
 pub invariant_of-self : goal.invariant_of-self
@@ -41,50 +40,26 @@ invariant_of-self-in-Err c =
 pub returns-then-burn : goal.returns-then-burn
 returns-then-burn c =
     let place = subst (λ (rs : List Reel). IsPlaceOf c.args.serial rs c.in-Some.place) c.deref.ensures.value c.in-Some.ensures in
-    let old : Rack = record {
-      reels = c.args.self.now.reels.items;
-      read_faults = c.args.self.now.read_faults;
-      write_faults = c.args.self.now.write_faults;
-      fuse = c.args.self.now.fuse;
-      arms = c.args.self.now.arms;
-    } in
-    let one : c.index.result.now ≡ c.index_mut.result.now = same-place _ _ _ _ place.within c.index.ensures c.index_mut.ensures.value in
-    let free : refuses_write c.args.k (Some c.index_mut.result.now) ≡ None =
-    ap (λ (r : Reel). refuses_write c.args.k (Some r)) (sym one) ∙ sym c.refuses_write.ensures ∙ c.in_default-refuses_write.is in
-    write_failed c.args.serial c.args.k c.in-Some.place old c.index_mut.result.now place c.index_mut.ensures.value c.args.from.now []
+    let free = still-free (refuses_write c.args.k) _ _ _ _ _ place.within c.index.ensures c.index_mut.ensures.value
+    (c.refuses_write.ensures ∙ ap (λ (r : Reel). refuses_write c.args.k (Some r)) c.state.ensures) c.in_default-refuses_write.is in
+    write_failed c.args.serial c.args.k c.in-Some.place (rack_of c.args.self.now) c.index_mut.result.now place c.index_mut.ensures.value c.args.from.now []
     c.burn.new.self c.raised-self.result c.end_with-left.new.self free (c.end_with-left.ensures.value []) c.burn.ensures.left
     c.raised-self.ensures
 
 pub returns-in-Ok : goal.returns-in-Ok
 returns-in-Ok c =
     let place = subst (λ (rs : List Reel). IsPlaceOf c.args.serial rs c.in-Some.place) c.deref.ensures.value c.in-Some.ensures in
-    let old : Rack = record {
-      reels = c.args.self.now.reels.items;
-      read_faults = c.args.self.now.read_faults;
-      write_faults = c.args.self.now.write_faults;
-      fuse = c.args.self.now.fuse;
-      arms = c.args.self.now.arms;
-    } in
-    let one : c.index.result.now ≡ c.index_mut-2.result.now = same-place _ _ _ _ place.within c.index.ensures c.index_mut-2.ensures.value in
-    let free : refuses_write c.args.k (Some c.index_mut-2.result.now) ≡ None =
-    ap (λ (r : Reel). refuses_write c.args.k (Some r)) (sym one) ∙ sym c.refuses_write.ensures ∙ c.in_default-refuses_write.is in
-    write_done c.args.serial c.args.k c.in-Some.place old c.index_mut-2.result.now place c.index_mut-2.ensures.value c.args.from.now
+    let free = still-free (refuses_write c.args.k) _ _ _ _ _ place.within c.index.ensures c.index_mut-2.ensures.value
+    (c.refuses_write.ensures ∙ ap (λ (r : Reel). refuses_write c.args.k (Some r)) c.state.ensures) c.in_default-refuses_write.is in
+    write_done c.args.serial c.args.k c.in-Some.place (rack_of c.args.self.now) c.index_mut-2.result.now place c.index_mut-2.ensures.value c.args.from.now
     c.burn.new.self c.end_with.new.self free (c.end_with.ensures.value c.args.from.now) c.burn.ensures.left
     (λ armed. let fires : c.burn.result ≡ true = c.burn.ensures.fires.1 armed in cc)
 
 pub returns-in-Err : goal.returns-in-Err
 returns-in-Err c =
     let place = subst (λ (rs : List Reel). IsPlaceOf c.args.serial rs c.in-Some.place) c.deref.ensures.value c.in-Some.ensures in
-    let old : Rack = record {
-      reels = c.args.self.now.reels.items;
-      read_faults = c.args.self.now.read_faults;
-      write_faults = c.args.self.now.write_faults;
-      fuse = c.args.self.now.fuse;
-      arms = c.args.self.now.arms;
-    } in
-    let one : c.index.result.now ≡ c.index_mut-2.result.now = same-place _ _ _ _ place.within c.index.ensures c.index_mut-2.ensures.value in
-    let free : refuses_write c.args.k (Some c.index_mut-2.result.now) ≡ None =
-    ap (λ (r : Reel). refuses_write c.args.k (Some r)) (sym one) ∙ sym c.refuses_write.ensures ∙ c.in_default-refuses_write.is in
-    write_failed c.args.serial c.args.k c.in-Some.place old c.index_mut-2.result.now place c.index_mut-2.ensures.value c.args.from.now
+    let free = still-free (refuses_write c.args.k) _ _ _ _ _ place.within c.index.ensures c.index_mut-2.ensures.value
+    (c.refuses_write.ensures ∙ ap (λ (r : Reel). refuses_write c.args.k (Some r)) c.state.ensures) c.in_default-refuses_write.is in
+    write_failed c.args.serial c.args.k c.in-Some.place (rack_of c.args.self.now) c.index_mut-2.result.now place c.index_mut-2.ensures.value c.args.from.now
     [] c.burn.new.self c.raised-self-in-Err.result c.end_with.new.self free (c.end_with.ensures.value []) c.burn.ensures.left
     c.raised-self-in-Err.ensures

@@ -1,9 +1,9 @@
-use Rattle.std.proofs.Common.{◌∙◌, arith, refl, sym}
+use Rattle.std.proofs.Common.{◌∙◌, refl, sym}
 use Rattle.g_tape.proofs.FuseLemmas.{fused_then}
 use Rattle.g_duplex.specs.Meaning.{pair_of}
 use Rattle.g_duplex.specs.Pair.{shown}
 use Rattle.g_duplex.proofs.MountLemmas.{none_seen}
-use Rattle.g_duplex.proofs.PlaceLemmas.{changed-first, long_standings, standing-first}
+use Rattle.g_duplex.proofs.PlaceLemmas.{changed-first, long_standings, standing-first, first_within}
 use Rattle.g_duplex.proofs.WriteLemmas.{pair_writes_as, pair_writes_none}
 use Rattle.g_duplex.proofs.calls.DuplexTapes.write.Goals as goal
 
@@ -16,16 +16,10 @@ pub invariant_of-self : goal.invariant_of-self
 invariant_of-self g c = record { paired = c.args.self.now.paired; told = c.args.self.now.told; fused = c.args.self.now.fused }
 
 pub get-standing-requires : goal.get-standing-requires
-get-standing-requires g c =
-    let first = c.in-Some.ensures in
-    let long = long_standings c.args.self.now.standings (g.T.Tapes.rack c.args.self.now.first).reels (g.T.Tapes.rack c.args.self.now.second).reels c.args.self.now.paired in
-    omega (arith, first.within, long)
+get-standing-requires g c = first_within _ _ _ _ _ c.args.self.now.paired c.in-Some.ensures
 
 pub set-requires : goal.set-requires
-set-requires g c =
-    let first = c.in-Some.ensures in
-    let long = long_standings c.args.self.now.standings (g.T.Tapes.rack c.args.self.now.first).reels (g.T.Tapes.rack c.args.self.now.second).reels c.args.self.now.paired in
-    omega (arith, first.within, long)
+set-requires g c = first_within _ _ _ _ _ c.args.self.now.paired c.in-Some.ensures
 
 pub lost_among-self-requires : goal.lost_among-self-requires
 lost_among-self-requires g c =

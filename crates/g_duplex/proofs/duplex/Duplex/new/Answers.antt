@@ -1,11 +1,10 @@
-use Rattle.std.proofs.Common.{◌∙◌, ℕ, List, Option, None, ap, length, subst, sym}
+use Rattle.std.proofs.Common.{◌∙◌, List, ap, length, subst, sym}
 use Rattle.std.proofs.lemmas.List.{length-map}
-use Rattle.g_base.specs.Fuse.{Arms}
 use Rattle.g_base.proofs.FuseLemmas.{unfailed_never}
 use Rattle.g_tape.specs.Reel.{Reel}
 use Rattle.g_duplex.specs.declared.twin.Standing.{Standing}
 use Rattle.g_duplex.specs.Pair.{ArePaired, Pair}
-use Rattle.g_duplex.specs.Places.{standing_by, standings_by}
+use Rattle.g_duplex.specs.Places.{standing_by}
 use Rattle.g_duplex.proofs.duplex.Duplex.new.Goals as goal
 
 pub lost_among-lost-requires : goal.lost_among-lost-requires
@@ -20,31 +19,13 @@ invariant_of-result g c = record {
 }
 
 pub returns : goal.returns
-returns g c =
-    ap (λ (ts : List Standing). let p : Pair = record {
+returns g c = λ i.
+    let p : Pair = record {
       first = g.T.Tapes.rack c.args.first;
       second = g.T.Tapes.rack c.args.second;
-      standings = ts;
+      standings = c.standings_by-standings.ensures i;
       read_faults = 0;
       write_faults = 0;
-      fuse = c.new.result;
-      arms = c.new-2.result;
-    } in p) c.standings_by-standings.ensures
-    ∙ ap (λ (f : Option ℕ). let p : Pair = record {
-      first = g.T.Tapes.rack c.args.first;
-      second = g.T.Tapes.rack c.args.second;
-      standings = standings_by c.args.lost.now (g.T.Tapes.rack c.args.first).reels;
-      read_faults = 0;
-      write_faults = 0;
-      fuse = f;
-      arms = c.new-2.result;
-    } in p) c.new.ensures
-    ∙ ap (λ (a : Arms). let p : Pair = record {
-      first = g.T.Tapes.rack c.args.first;
-      second = g.T.Tapes.rack c.args.second;
-      standings = standings_by c.args.lost.now (g.T.Tapes.rack c.args.first).reels;
-      read_faults = 0;
-      write_faults = 0;
-      fuse = None;
-      arms = a;
-    } in p) c.new-2.ensures
+      fuse = c.new.ensures i;
+      arms = c.new-2.ensures i;
+    } in p

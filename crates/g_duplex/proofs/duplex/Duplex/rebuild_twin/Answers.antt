@@ -1,9 +1,9 @@
-use Rattle.std.proofs.Common.{◌∙◌, arith, ap, sym}
+use Rattle.std.proofs.Common.{◌∙◌, ap, sym}
 use Rattle.std.proofs.Math.ListN.{set}
 use Rattle.g_duplex.specs.declared.twin.Standing.{Standing}
 use Rattle.g_duplex.specs.Meaning.{pair_of}
 use Rattle.g_duplex.specs.Rebuild.{stands_rebuilt}
-use Rattle.g_duplex.proofs.PlaceLemmas.{changed-first, long_standings}
+use Rattle.g_duplex.proofs.PlaceLemmas.{changed-first, long_standings, first_within}
 use Rattle.g_duplex.proofs.RebuildLemmas.{pair_rebuilds_as, same_room}
 use Rattle.g_duplex.proofs.duplex.Duplex.rebuild_twin.Goals as goal
 
@@ -15,10 +15,7 @@ copy_twin-answer-requires-clause-room g c =
     same_room c.args.serial c.args.self.now.standings (g.T.Tapes.rack c.args.self.now.first).reels (g.T.Tapes.rack c.args.self.now.second).reels c.args.self.now.paired
 
 pub set-requires : goal.set-requires
-set-requires g c =
-    let first = c.in-Some.ensures in
-    let long = long_standings c.args.self.now.standings (g.T.Tapes.rack c.args.self.now.first).reels (g.T.Tapes.rack c.args.self.now.second).reels c.args.self.now.paired in
-    omega (arith, first.within, long)
+set-requires g c = first_within _ _ _ _ _ c.args.self.now.paired c.in-Some.ensures
 
 pub lost_among-self-requires : goal.lost_among-self-requires
 lost_among-self-requires g c =

@@ -1,7 +1,6 @@
-use Rattle.std.proofs.Common.{◌≡◌, ℕ, List, Result, Some, ◌∙◌, ap, arith, length, subst, sym}
+use Rattle.std.proofs.Common.{◌≡◌, ℕ, List, Result, ◌∙◌, ap, arith, length, subst, sym}
 use Rattle.std.specs.Option.{ForSome}
 use Rattle.std.specs.Prelude.{Contains, IfOk}
-use Rattle.g_copy.specs.declared.copy.DiscCopy.{DiscCopy}
 use Rattle.g_disc_contents.specs.Contents.{File}
 use Rattle.g_disc_contents.specs.Facts.{IsTied, OnlineFacts}
 use Rattle.g_online.specs.declared.fault.OnlineFault.{OnlineFault}
@@ -20,8 +19,7 @@ pub returns-then-copy-eq0-clause-text : goal.returns-then-copy-eq0-clause-text
 returns-then-copy-eq0-clause-text g c = λ f there at.
     subst (λ (text : List ℕ). ForSome f.bytes (λ bytes. text ≡ bytes) × (length text ≡ f.rec.len)) (sym (c.from.ensures ∙ c.new.ensures.items))
     (empty_is (g.D.Disc.state c.self.inside.disc) _ c.args.self.now c.self.view_is c.self.invariant (ap (λ (o : OnlineFacts). o.live) c.self.view_is ∙
-    c.requires.live) c.args.number c.deref.result.now c.deref.ensures.value c.copy-copy.result (ap (λ (x : DiscCopy). Some x) c.copy-copy.ensures ∙
-    c.in-Some.ensures) c.if-copy-eq0.true f there at)
+    c.requires.live) c.args.number c.deref.result.now c.deref.ensures.value c.in-Some.copy.now c.in-Some.ensures c.if-copy-eq0.true f there at)
 
 pub returns-then-copy-eq0-clause-tied : goal.returns-then-copy-eq0-clause-tied
 returns-then-copy-eq0-clause-tied g c = subst IsTied c.self.view_is (tied (g.D.Disc.state c.self.inside.disc) _ c.self.invariant)
@@ -30,8 +28,7 @@ pub read_copy-requires-clause-copy : goal.read_copy-requires-clause-copy
 read_copy-requires-clause-copy g c =
     let on = c.requires.online in
     copy_is (g.D.Disc.state c.self.inside.disc) _ c.args.self.now c.self.view_is c.self.invariant (ap (λ (o : OnlineFacts). o.live) c.self.view_is ∙
-    c.requires.live) c.args.number c.deref.result.now c.deref.ensures.value c.copy-copy.result (ap (λ (x : DiscCopy). Some x) c.copy-copy.ensures ∙
-    c.in-Some.ensures) on.0 on.1 on.2
+    c.requires.live) c.args.number c.deref.result.now c.deref.ensures.value c.in-Some.copy.now c.in-Some.ensures on.0 on.1 on.2
 
 pub returns-clause-text : goal.returns-clause-text
 returns-clause-text g c =
@@ -42,7 +39,7 @@ returns-clause-text g c =
       | in-Ok w ↦ subst (λ (r : Result (List ℕ) OnlineFault). IfOk r Reads) (sym w.result-is)
           (text_is (g.D.Disc.state c.self.inside.disc) _ c.args.self.now c.self.view_is c.self.invariant (ap (λ (o : OnlineFacts). o.live) c.self.view_is ∙
           c.requires.live) c.args.number c.deref.result.now c.deref.ensures.value
-          c.copy-copy.result (ap (λ (x : DiscCopy). Some x) c.copy-copy.ensures ∙ c.in-Some.ensures) w.in-Ok.text w.in-Ok.ensures.text w.in-Ok.ensures.len)
+          c.in-Some.copy.now c.in-Some.ensures w.in-Ok.text w.in-Ok.ensures.text w.in-Ok.ensures.len)
       | in-Err-ReadFault w ↦ subst (λ (r : Result (List ℕ) OnlineFault). IfOk r Reads) (sym w.result-is) tt
       | in-Err w ↦ subst (λ (r : Result (List ℕ) OnlineFault). IfOk r Reads) (sym w.result-is) tt
     ]
@@ -50,8 +47,7 @@ returns-clause-text g c =
 pub returns-clause-filled : goal.returns-clause-filled
 returns-clause-filled g c = λ fault f there at.
     let len = len_is (g.D.Disc.state c.self.inside.disc) _ c.args.self.now c.self.view_is c.self.invariant (ap (λ (o : OnlineFacts). o.live) c.self.view_is ∙
-    c.requires.live) c.args.number c.deref.result.now c.deref.ensures.value c.copy-copy.result (ap (λ (x : DiscCopy). Some x) c.copy-copy.ensures ∙
-    c.in-Some.ensures) f there at in
+    c.requires.live) c.args.number c.deref.result.now c.deref.ensures.value c.in-Some.copy.now c.in-Some.ensures f there at in
     let filled = c.if-copy-eq0.false in
     omega (arith, len, filled)
 

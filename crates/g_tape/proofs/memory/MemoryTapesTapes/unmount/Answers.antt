@@ -1,26 +1,23 @@
 -- The reel that was found is changed where it stands.
-use Rattle.std.proofs.Common.{List, false, subst, sym, ap, ◌∙◌}
-use Rattle.g_tape.specs.Reel.{Reel, with_mounted}
-use Rattle.g_tape.specs.Rack.{Rack, refuses_unmount}
+use Rattle.std.proofs.Common.{List, Some, false, ap, subst, ◌∙◌}
+use Rattle.g_tape.specs.Reel.{Reel}
+use Rattle.g_tape.specs.Rack.{refuses_unmount}
 use Rattle.g_tape.specs.Place.{IsPlaceOf}
 use Rattle.g_tape.specs.Memory.{rack_of}
-use Rattle.g_tape.proofs.MemoryLemmas.{at-place}
-use Rattle.g_tape.proofs.RackLemmas.{AreReels-set, with_reel-place}
+use Rattle.g_tape.proofs.RackLemmas.{mounted-there, still-free, well-mounted}
 use Rattle.g_tape.proofs.memory.MemoryTapesTapes.unmount.Goals as goal
 
 pub invariant_of-self : goal.invariant_of-self
-invariant_of-self c =
-    let place = subst (λ (rs : List Reel). IsPlaceOf c.args.serial rs c.in-Some.place) c.deref.ensures.value c.in-Some.ensures in
-    record {
-      well_formed = AreReels-set _ _ _ _ c.args.self.now.well_formed place.within c.index_mut.ensures.value c.set_mounted.ensures.keeps
-          (ap (λ (r : Reel). r.serial) c.set_mounted.ensures.value);
-      fused = c.args.self.now.fused;
-    }
+invariant_of-self c = record {
+  well_formed = well-mounted false c.args.serial c.in-Some.place (rack_of c.args.self.now) _ _ _ c.deref.ensures.value c.in-Some.ensures c.index_mut.ensures.value
+      c.set_mounted.ensures.value c.args.self.now.well_formed;
+  fused = c.args.self.now.fused;
+}
 
 pub returns-clause-mounting : goal.returns-clause-mounting
 returns-clause-mounting c =
-    let place = subst (λ (rs : List Reel). IsPlaceOf c.args.serial rs c.in-Some.place) c.deref.ensures.value c.in-Some.ensures in (
-      ap refuses_unmount (at-place _ _ _ _ place c.index.ensures) ∙ sym c.refuses_unmount.ensures ∙ c.in_default-refuses_unmount.is,
-      ap (λ (rs : List Reel). let old : Rack = rack_of c.args.self.now in let new : Rack = record old { reels = rs } in new)
-          (with_reel-place _ _ _ (with_mounted false) _ _ place c.index_mut.ensures.value c.set_mounted.ensures.value),
-    )
+    let place = subst (λ (rs : List Reel). IsPlaceOf c.args.serial rs c.in-Some.place) c.deref.ensures.value c.in-Some.ensures in
+    let free = still-free refuses_unmount _ _ _ _ _ place.within c.index.ensures c.index_mut.ensures.value
+    (c.refuses_unmount.ensures ∙ ap (λ (r : Reel). refuses_unmount (Some r)) c.state.ensures) c.in_default-refuses_unmount.is in
+    mounted-there false c.args.serial c.in-Some.place (rack_of c.args.self.now) _ _ _ c.deref.ensures.value c.in-Some.ensures c.index_mut.ensures.value
+    c.set_mounted.ensures.value refuses_unmount free

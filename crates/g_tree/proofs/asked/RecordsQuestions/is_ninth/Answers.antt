@@ -9,13 +9,10 @@ use Rattle.g_tree.proofs.NamedLemmas.{number_there}
 use Rattle.g_tree.proofs.asked.RecordsQuestions.is_ninth.Goals as goal
 
 pub unreachable-requires : goal.unreachable-requires
-unreachable-requires c = true≢false (sym c.requires.file ∙ sym (c.in_default.ensures.there zeros c.args.self.now.next))
-
-pub unreachable-requires-in_default-user_number : goal.unreachable-requires-in_default-user_number
-unreachable-requires-in_default-user_number c = true≢false (sym c.requires.user ∙ sym (c.in_default-user_number.ensures.there zeros c.args.self.now.next))
+unreachable-requires c = true≢false (sym c.requires.user ∙ sym (c.in_default.ensures.there zeros c.args.self.now.next))
 
 pub is_ninth-requires : goal.is_ninth-requires
-is_ninth-requires c = let s = c.args.self.now in number_there s.tree.now.users s.tree.now.files c.args.full.now c.in-Some.file c.in-Some.ensures.named
+is_ninth-requires c = let s = c.args.self.now in number_there s.tree.now.users s.tree.now.files c.args.file.now.full c.number.result c.number.ensures
 
 pub returns : goal.returns
 returns c =
@@ -23,6 +20,6 @@ returns c =
     let users = s.tree.now.users in
     let t = tree_of users s.tree.now.files zeros s.next in
     let ninth : FinMap text_cmp ℕ → List ℕ → Bool = λ rows name. not (c.args.modes == 0) && is_none (get rows name) && nat_le 9 (len rows) in
-    subst (λ o. IfSome o (λ full. c.is_ninth.result ≡ ninth (file_row t full).traps (name_of users c.in-Some-user_number.user))) c.in-Some.ensures.named
+    subst (λ o. IfSome o (λ full. c.is_ninth.result ≡ ninth (file_row t full).traps (name_of users c.in-Some.user))) c.number.ensures
     (c.is_ninth.ensures zeros s.next)
-    ∙ ap (ninth (file_row t c.args.full.now).traps) c.in-Some-user_number.ensures.named.1
+    ∙ ap (ninth (file_row t c.args.file.now.full).traps) c.in-Some.ensures.named.1

@@ -7,19 +7,16 @@ use Rattle.g_tree.proofs.NamedLemmas.{number_there}
 use Rattle.g_tree.proofs.asked.RecordsQuestions.modes_of.Goals as goal
 
 pub unreachable-requires : goal.unreachable-requires
-unreachable-requires c = true≢false (sym c.requires.file ∙ sym (c.in_default.ensures.there zeros c.args.self.now.next))
-
-pub unreachable-requires-in_default-user_number : goal.unreachable-requires-in_default-user_number
-unreachable-requires-in_default-user_number c = true≢false (sym c.requires.user ∙ sym (c.in_default-user_number.ensures.there zeros c.args.self.now.next))
+unreachable-requires c = true≢false (sym c.requires.user ∙ sym (c.in_default.ensures.there zeros c.args.self.now.next))
 
 pub modes_of-requires : goal.modes_of-requires
-modes_of-requires c = let s = c.args.self.now in number_there s.tree.now.users s.tree.now.files c.args.full.now c.in-Some.file c.in-Some.ensures.named
+modes_of-requires c = let s = c.args.self.now in number_there s.tree.now.users s.tree.now.files c.args.file.now.full c.number.result c.number.ensures
 
 pub returns : goal.returns
 returns c =
     let s = c.args.self.now in
     let users = s.tree.now.users in
     let t = tree_of users s.tree.now.files zeros s.next in
-    subst (λ o. IfSome o (λ full. c.modes_of.result ≡ modes_of (file_row t full) full (name_of users c.in-Some-user_number.user))) c.in-Some.ensures.named
+    subst (λ o. IfSome o (λ full. c.modes_of.result ≡ modes_of (file_row t full) full (name_of users c.in-Some.user))) c.number.ensures
     (c.modes_of.ensures zeros s.next)
-    ∙ ap (modes_of (file_row t c.args.full.now) c.args.full.now) c.in-Some-user_number.ensures.named.1
+    ∙ ap (modes_of (file_row t c.args.file.now.full) c.args.file.now.full) c.in-Some.ensures.named.1

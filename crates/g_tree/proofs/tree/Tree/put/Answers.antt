@@ -21,20 +21,20 @@ room_there users files file place spare is fits room = still_room users files (f
 
 pub full_of-full-requires : goal.full_of-full-requires
 full_of-full-requires c =
-    subst (λ us. c.args.file.owner < length us) (ap (λ s. s.users) (sym c.self.view_is) ∙ sym c.as_slice.ensures.value) (owner_there c.args.self.now.users c.args.self.now.files c.args.file c.requires.rules)
+    subst (λ us. c.args.file.owner < length us) (ap (λ s. s.users) (sym c.self.view_is) ∙ sym c.as_slice-in-Err.ensures.value) (owner_there c.args.self.now.users c.args.self.now.files c.args.file c.requires.rules)
 
 pub replace-requires-clause-rules : goal.replace-requires-clause-rules
 replace-requires-clause-rules c =
     let is : IsRecords c.args.self.now.users c.args.self.now.files = subst (λ s. IsRecords s.users s.files) c.self.view_is c.self.invariant.records in
     let at : StandsAt c.args.self.now.files c.args.file.number c.in-Ok.place =
-    subst (λ fs. StandsAt fs c.args.file.number c.in-Ok.place) (c.as_slice-2.ensures.value ∙ ap (λ s. s.files) c.self.view_is) c.in-Ok.ensures.found in
+    subst (λ fs. StandsAt fs c.args.file.number c.in-Ok.place) (c.as_slice.ensures.value ∙ ap (λ s. s.files) c.self.view_is) c.in-Ok.ensures.found in
     subst (IsRecords c.args.self.now.users) (with_other c.args.file c.args.self.now.files c.in-Ok.place is.numbers at) c.requires.rules
 
 pub returns-in-Ok-clause-files : goal.returns-in-Ok-clause-files
 returns-in-Ok-clause-files c =
     let is : IsRecords c.args.self.now.users c.args.self.now.files = subst (λ s. IsRecords s.users s.files) c.self.view_is c.self.invariant.records in
     let at : StandsAt c.args.self.now.files c.args.file.number c.in-Ok.place =
-    subst (λ fs. StandsAt fs c.args.file.number c.in-Ok.place) (c.as_slice-2.ensures.value ∙ ap (λ s. s.files) c.self.view_is) c.in-Ok.ensures.found in
+    subst (λ fs. StandsAt fs c.args.file.number c.in-Ok.place) (c.as_slice.ensures.value ∙ ap (λ s. s.files) c.self.view_is) c.in-Ok.ensures.found in
     c.replace.ensures.files ∙ sym (with_other c.args.file c.args.self.now.files c.in-Ok.place is.numbers at)
 
 pub returns-in-Ok-clause-tree : goal.returns-in-Ok-clause-tree
@@ -44,28 +44,28 @@ returns-in-Ok-clause-tree c = λ bytes next.
 
 pub insert-requires : goal.insert-requires
 insert-requires c =
-    let fits : FitsAt c.self.inside.files.items c.args.file.number c.in-Err.place = subst (λ fs. FitsAt fs c.args.file.number c.in-Err.place) c.as_slice-2.ensures.value c.in-Err.ensures.absent in
+    let fits : FitsAt c.self.inside.files.items c.args.file.number c.in-Err.place = subst (λ fs. FitsAt fs c.args.file.number c.in-Err.place) c.as_slice.ensures.value c.in-Err.ensures.absent in
     let room = subst (λ s. (1 ≤ s.spare) ⊎ (number_of s.users s.files (full_of s.users c.args.file) ≡ Some c.args.file.number)) (sym c.self.view_is) c.requires.room in
     let spare = room_there c.self.inside.users.items c.self.inside.files.items c.args.file c.in-Err.place _ c.self.invariant.records fits room in
     omega (arith, spare)
 
 pub put_between-requires-clause-places : goal.put_between-requires-clause-places
 put_between-requires-clause-places c =
-    let fits : FitsAt c.self.inside.files.items c.args.file.number c.in-Err.place = subst (λ fs. FitsAt fs c.args.file.number c.in-Err.place) c.as_slice-2.ensures.value c.in-Err.ensures.absent in
+    let fits : FitsAt c.self.inside.files.items c.args.file.number c.in-Err.place = subst (λ fs. FitsAt fs c.args.file.number c.in-Err.place) c.as_slice.ensures.value c.in-Err.ensures.absent in
     let room = subst (λ s. (1 ≤ s.spare) ⊎ (number_of s.users s.files (full_of s.users c.args.file) ≡ Some c.args.file.number)) (sym c.self.view_is) c.requires.room in
     let spare = room_there c.self.inside.users.items c.self.inside.files.items c.args.file c.in-Err.place _ c.self.invariant.records fits room in
     omega (arith, spare)
 
 pub put_between-requires-clause-room : goal.put_between-requires-clause-room
 put_between-requires-clause-room c =
-    let fits : FitsAt c.self.inside.files.items c.args.file.number c.in-Err.place = subst (λ fs. FitsAt fs c.args.file.number c.in-Err.place) c.as_slice-2.ensures.value c.in-Err.ensures.absent in
+    let fits : FitsAt c.self.inside.files.items c.args.file.number c.in-Err.place = subst (λ fs. FitsAt fs c.args.file.number c.in-Err.place) c.as_slice.ensures.value c.in-Err.ensures.absent in
     let room = subst (λ s. (1 ≤ s.spare) ⊎ (number_of s.users s.files (full_of s.users c.args.file) ≡ Some c.args.file.number)) (sym c.self.view_is) c.requires.room in
     let spare = room_there c.self.inside.users.items c.self.inside.files.items c.args.file c.in-Err.place _ c.self.invariant.records fits room in
     omega (arith, spare)
 
 pub rise-requires : goal.rise-requires
 rise-requires c =
-    let fits : FitsAt c.self.inside.files.items c.args.file.number c.in-Err.place = subst (λ fs. FitsAt fs c.args.file.number c.in-Err.place) c.as_slice-2.ensures.value c.in-Err.ensures.absent in
+    let fits : FitsAt c.self.inside.files.items c.args.file.number c.in-Err.place = subst (λ fs. FitsAt fs c.args.file.number c.in-Err.place) c.as_slice.ensures.value c.in-Err.ensures.absent in
     let room = subst (λ s. (1 ≤ s.spare) ⊎ (number_of s.users s.files (full_of s.users c.args.file) ≡ Some c.args.file.number)) (sym c.self.view_is) c.requires.room in
     let spare = room_there c.self.inside.users.items c.self.inside.files.items c.args.file c.in-Err.place _ c.self.invariant.records fits room in
     omega (arith, spare)
@@ -89,10 +89,10 @@ pub invariant_of-self : goal.invariant_of-self
 invariant_of-self c =
     let users = c.self.inside.users.items in
     let files = c.self.inside.files.items in
-    let fits : FitsAt files c.args.file.number c.in-Err.place = subst (λ fs. FitsAt fs c.args.file.number c.in-Err.place) c.as_slice-2.ensures.value c.in-Err.ensures.absent in
+    let fits : FitsAt files c.args.file.number c.in-Err.place = subst (λ fs. FitsAt fs c.args.file.number c.in-Err.place) c.as_slice.ensures.value c.in-Err.ensures.absent in
     let rules : IsRecords users (with_file c.args.file files) = subst (λ s. IsRecords s.users (with_file c.args.file s.files)) (sym c.self.view_is) c.requires.rules in
     let items : c.put_between.new.files.items ≡ list.insert files c.in-Err.place c.args.file = c.put_between.ensures in
-    let named : c.full_of-full.result ≡ full_of users c.args.file = c.full_of-full.ensures ∙ ap (λ us. full_of us c.args.file) c.as_slice.ensures.value in
+    let named : c.full_of-full.result ≡ full_of users c.args.file = c.full_of-full.ensures ∙ ap (λ us. full_of us c.args.file) c.as_slice-in-Err.ensures.value in
     let indexed =
     indexed_new users files c.in-Err.place c.args.file c.self.inside.index.numbers c.insert.new.self.numbers (record { records = c.self.invariant.records; index = c.self.invariant.index })
     (subst (IsRecords users) (with_new c.args.file files c.in-Err.place fits) rules)
@@ -110,13 +110,13 @@ invariant_of-self c =
 pub returns-in-Err-clause-files : goal.returns-in-Err-clause-files
 returns-in-Err-clause-files c =
     let files = c.self.inside.files.items in
-    let fits : FitsAt files c.args.file.number c.in-Err.place = subst (λ fs. FitsAt fs c.args.file.number c.in-Err.place) c.as_slice-2.ensures.value c.in-Err.ensures.absent in
+    let fits : FitsAt files c.args.file.number c.in-Err.place = subst (λ fs. FitsAt fs c.args.file.number c.in-Err.place) c.as_slice.ensures.value c.in-Err.ensures.absent in
     c.put_between.ensures ∙ sym (with_new c.args.file files c.in-Err.place fits) ∙ ap (λ s. with_file c.args.file s.files) c.self.view_is
 
 pub returns-in-Err-clause-same_name : goal.returns-in-Err-clause-same_name
 returns-in-Err-clause-same_name c = λ e.
     let fits : FitsAt c.args.self.now.files c.args.file.number c.in-Err.place =
-    subst (λ fs. FitsAt fs c.args.file.number c.in-Err.place) (c.as_slice-2.ensures.value ∙ ap (λ s. s.files) c.self.view_is) c.in-Err.ensures.absent in
+    subst (λ fs. FitsAt fs c.args.file.number c.in-Err.place) (c.as_slice.ensures.value ∙ ap (λ s. s.files) c.self.view_is) c.in-Err.ensures.absent in
     absurd (named_fits c.args.self.now.users c.args.self.now.files (subst (λ s. IsRecords s.users s.files) c.self.view_is c.self.invariant.records) c.args.file.number (full_of c.args.self.now.users c.args.file) c.in-Err.place e fits)
 
 pub returns-in-Err-clause-tree : goal.returns-in-Err-clause-tree

@@ -1,23 +1,47 @@
 -- Another name than the one before has room, and the same name needs none.
-use Rattle.std.proofs.Common.{◌≡◌, sym, ap, subst, ◌∙◌}
-use Rattle.g_tree.specs.Records.{full_of, number_of}
+use Rattle.std.proofs.Common.{◌≡◌, ◌<◌, length, get_or, sym, ap, subst, ◌∙◌}
+use Rattle.std.proofs.Math.ListN.{set}
+use Rattle.g_tree.specs.Records.{IsRecords, full_of, number_of}
 use Rattle.g_tree.specs.Places.{StandsAt}
-use Rattle.g_tree.proofs.PutLemmas.{named_stands, names_differ, still_room}
+use Rattle.g_tree.proofs.CountLemmas.{put_owned}
+use Rattle.g_tree.proofs.PutLemmas.{named_apart, stands_named, still_room}
 use Rattle.g_tree.proofs.tree.Tree.replace.Goals as goal
+
+pub renew-requires-clause-name : goal.renew-requires-clause-name
+renew-requires-clause-name c = λ d.
+    let users = c.self.inside.users.items in
+    let files = c.self.inside.files.items in
+    let r = c.get-old.result.now in
+    let here : r ≡ get_or files c.args.place r = subst (λ x. x ≡ get_or files c.args.place x) (sym c.get-old.ensures) c.index.ensures in
+    let at : StandsAt files c.args.file.number c.args.place = subst (λ s. StandsAt s.files c.args.file.number c.args.place) (sym c.self.view_is) c.requires.at in
+    subst (λ s. full_of s.users (get_or s.files c.args.place d) ≡ full_of s.users c.args.file) c.self.view_is
+    (stands_named users files c.args.place r c.args.file c.has_same_name.result c.self.invariant.records at here c.has_same_name.ensures c.if-has_same_name.true d)
+
+pub full_of-full-requires : goal.full_of-full-requires
+full_of-full-requires c =
+    let users = c.self.inside.users.items in
+    let files = c.self.inside.files.items in
+    let r = c.get-old.result.now in
+    let here : r ≡ get_or files c.args.place r = subst (λ x. x ≡ get_or files c.args.place x) (sym c.get-old.ensures) c.index.ensures in
+    let at : StandsAt files c.args.file.number c.args.place = subst (λ s. StandsAt s.files c.args.file.number c.args.place) (sym c.self.view_is) c.requires.at in
+    let rules : IsRecords users (set files c.args.place c.args.file) = subst (λ s. IsRecords s.users (set s.files c.args.place c.args.file)) (sym c.self.view_is) c.requires.rules in
+    subst (λ us. c.args.file.owner < length us) (sym c.as_slice-else-has_same_name.ensures.value) (put_owned users files c.self.invariant.records c.args.place r at.within here c.args.file rules)
 
 pub rename-requires-clause-room : goal.rename-requires-clause-room
 rename-requires-clause-room c =
-    let old : c.full_of-old.result ≡ full_of c.self.inside.users.items c.index.result.now = c.full_of-old.ensures ∙ (λ i. full_of (c.as_slice.ensures.value i) (c.get.ensures i)) in
-    let at : StandsAt c.self.inside.files.items c.args.file.number c.args.place = subst (λ s. StandsAt s.files c.args.file.number c.args.place) (sym c.self.view_is) c.requires.at in
-    still_room c.args.self.now.users c.args.self.now.files c.args.full c.args.file.number c.args.self.now.spare c.requires.room
-    (λ e. names_differ _ _ _ c.ne.ensures c.if-ne.true
-    (old ∙ named_stands c.self.inside.users.items c.self.inside.files.items c.self.invariant.records c.args.file.number c.args.full c.args.place c.index.result.now
-    (ap (λ s. number_of s.users s.files c.args.full) c.self.view_is ∙ e) at c.index.ensures))
+    let files = c.self.inside.files.items in
+    let r = c.get-old.result.now in
+    let here : r ≡ get_or files c.args.place r = subst (λ x. x ≡ get_or files c.args.place x) (sym c.get-old.ensures) c.index.ensures in
+    let at : StandsAt files c.args.file.number c.args.place = subst (λ s. StandsAt s.files c.args.file.number c.args.place) (sym c.self.view_is) c.requires.at in
+    still_room c.args.self.now.users c.args.self.now.files (full_of c.args.self.now.users c.args.file) c.args.file.number c.args.self.now.spare c.requires.room
+    (λ e. named_apart c.self.inside.users.items files c.args.place r c.args.file c.has_same_name.result c.self.invariant.records at here c.has_same_name.ensures c.if-has_same_name.false
+    (ap (λ s. number_of s.users s.files (full_of s.users c.args.file)) c.self.view_is ∙ e))
 
-pub returns-then-ne-clause-same_name : goal.returns-then-ne-clause-same_name
-returns-then-ne-clause-same_name c = λ e.
-    let old : c.full_of-old.result ≡ full_of c.self.inside.users.items c.index.result.now = c.full_of-old.ensures ∙ (λ i. full_of (c.as_slice.ensures.value i) (c.get.ensures i)) in
-    let at : StandsAt c.self.inside.files.items c.args.file.number c.args.place = subst (λ s. StandsAt s.files c.args.file.number c.args.place) (sym c.self.view_is) c.requires.at in
-    absurd (names_differ _ _ _ c.ne.ensures c.if-ne.true
-    (old ∙ named_stands c.self.inside.users.items c.self.inside.files.items c.self.invariant.records c.args.file.number c.args.full c.args.place c.index.result.now
-    (ap (λ s. number_of s.users s.files c.args.full) c.self.view_is ∙ e) at c.index.ensures))
+pub returns-else-has_same_name-clause-same_name : goal.returns-else-has_same_name-clause-same_name
+returns-else-has_same_name-clause-same_name c = λ e.
+    let files = c.self.inside.files.items in
+    let r = c.get-old.result.now in
+    let here : r ≡ get_or files c.args.place r = subst (λ x. x ≡ get_or files c.args.place x) (sym c.get-old.ensures) c.index.ensures in
+    let at : StandsAt files c.args.file.number c.args.place = subst (λ s. StandsAt s.files c.args.file.number c.args.place) (sym c.self.view_is) c.requires.at in
+    absurd (named_apart c.self.inside.users.items files c.args.place r c.args.file c.has_same_name.result c.self.invariant.records at here c.has_same_name.ensures c.if-has_same_name.false
+    (ap (λ s. number_of s.users s.files (full_of s.users c.args.file)) c.self.view_is ∙ e))

@@ -1,5 +1,0 @@
-use Rattle.g_dirs.proofs.ListingLemmas.{are_encodable}
-use Rattle.g_dirs.proofs.listing.slot_block.Goals as goal
-
-pub file_block-requires-clause-files : goal.file_block-requires-clause-files
-file_block-requires-clause-files c = are_encodable c.args.head.now c.args.users.now c.args.files.now c.args.online.now c.requires.directory

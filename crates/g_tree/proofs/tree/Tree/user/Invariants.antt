@@ -1,9 +1,0 @@
--- The user stands among those that are left, if anywhere.
-use Rattle.std.proofs.Common.{◌≡◌, drop}
-use Rattle.std.specs.FinMap.{find}
-use Rattle.g_name.specs.Order.{text_cmp}
-use Rattle.g_tree.proofs.MapLemmas.{keyed}
-use Rattle.g_tree.proofs.tree.Tree.user.Given as goal
-
-abbrev pub invariant-loop-user : goal.invariant-loop-user
-invariant-loop-user l = find text_cmp l.name (keyed (λ u. u.user) (drop l.user-index l.user-items)) ≡ find text_cmp l.name (keyed (λ u. u.user) l.self.users)
