@@ -1,0 +1,2 @@
+-- The rows of the tests.
+pub mod RowLemmas
