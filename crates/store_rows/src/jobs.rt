@@ -3,6 +3,7 @@ ghost use Rattle.std.specs.Prelude.{◌≡◌, false};
 
 use crate::rows::{Wrong, play};
 use crate::setting::Setting;
+use crate::system::System;
 use g_budget::{Charge, Tariff, Usage};
 use g_job::{Job, NewJob, Turn};
 use g_lines::Document;
@@ -60,16 +61,15 @@ fn over_plain(alloc: Global, document: &[u8]) -> Result<Job, Wrong> {
 
 /// The same over the whole one, on a new disc.
 fn over_whole(rt: &HostRuntime, document: &[u8]) -> Result<Job, Wrong> {
-    let mut system = Setting::parse("one_job_over_both")?.system(rt.alloc())?;
-    play(rt, &mut system, "format")?;
-    match &mut system.up {
-        Some(store) => {
+    let system = Setting::parse("one_job_over_both")?.system(rt.alloc())?;
+    match play(rt, system, "format")? {
+        System::Up(mut store) => {
             if store.spent() {
                 return Err(Wrong("a store that is spent"));
             }
-            ended(rt.alloc(), store, document)
+            ended(rt.alloc(), &mut store, document)
         }
-        None => Err(Wrong("no store")),
+        System::Down(_disc, _tapes) => Err(Wrong("no store")),
     }
 }
 
