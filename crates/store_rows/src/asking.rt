@@ -2,10 +2,10 @@
 ghost use Rattle.std.specs.Prelude.{◌≡◌, IfOk, false};
 ghost use Rattle.g_plain.specs.Rules.{IsWithinLimits};
 
-use crate::events::{Answer, Ask};
-use g_name::{Path, Text, User, parse_path};
-use g_plain::{Filestore, StoreCall, StoreFault, StoreReply};
-use g_trap::Mode;
+use crate::events::{Answer, Ask, OnFile, Trapping};
+use g_name::{Local, Path, Text, User, parse_path};
+use g_plain::{BudgetKind, Filestore, StoreCall, StoreFault, StoreReply};
+use g_trap::{Mode, Modes};
 use std::alloc::Global;
 
 /// What comes of a call.
@@ -49,21 +49,55 @@ fn call_of(alloc: Global, ask: &Ask) -> Result<StoreCall, StoreFault>
 {
     match ask {
         Ask::NewUser(name, space) => new_user(name, *space),
-        Ask::Put(name, letter, len) => Ok(StoreCall::Put {
-            path: path(name)?,
-            bytes: text(alloc, *letter, *len)?,
-        }),
-        Ask::Append(name, letter, len) => Ok(StoreCall::Append {
-            path: path(name)?,
-            bytes: text(alloc, *letter, *len)?,
-        }),
-        Ask::Fetch(name) => Ok(StoreCall::Fetch {
-            path: path(name)?,
+        Ask::Budget(name, amount) => budget(name, *amount),
+        Ask::List(name) => Ok(StoreCall::List { user: user(name)? }),
+        Ask::OnFile(name, what) => on_file(alloc, path(name)?, what),
+    }
+}
+
+/// The call on a file.
+fn on_file(alloc: Global, path: Path, what: &OnFile) -> Result<StoreCall, StoreFault>
+    ensures { IfOk result IsWithinLimits }
+{
+    match what {
+        OnFile::Put(letter, len) => {
+            let bytes = text(alloc, *letter, *len)?;
+            Ok(StoreCall::Put { path, bytes })
+        }
+        OnFile::Append(letter, len) => {
+            let bytes = text(alloc, *letter, *len)?;
+            Ok(StoreCall::Append { path, bytes })
+        }
+        OnFile::Fetch => Ok(StoreCall::Fetch {
+            path,
             mode: Mode::Read,
         }),
-        Ask::Retrieve(name) => Ok(StoreCall::Retrieve { path: path(name)? }),
-        Ask::Erase(name) => Ok(StoreCall::Erase { path: path(name)? }),
-        Ask::List(name) => Ok(StoreCall::List { user: user(name)? }),
+        OnFile::Retrieve => Ok(StoreCall::Retrieve { path }),
+        OnFile::Erase => Ok(StoreCall::Erase { path }),
+        OnFile::Rename(to) => renamed(path, to),
+        OnFile::Trap(how, about, bits) => trapped(*how, path, user(about)?, *bits),
+    }
+}
+
+fn renamed(path: Path, to: &str) -> Result<StoreCall, StoreFault>
+    ensures { IfOk result IsWithinLimits }
+{
+    match Local::new(to.as_bytes()) {
+        Some(to) => Ok(StoreCall::Rename { path, to }),
+        None => Err(StoreFault::NoFile),
+    }
+}
+
+fn trapped(how: Trapping, path: Path, user: User, bits: u8) -> Result<StoreCall, StoreFault>
+    ensures { IfOk result IsWithinLimits }
+{
+    let Some(modes) = Modes::from_bits(bits) else {
+        return Err(StoreFault::NoFile);
+    };
+    match how {
+        Trapping::Go => Ok(StoreCall::TrapGo { path, user, modes }),
+        Trapping::Stop => Ok(StoreCall::TrapStop { path, user, modes }),
+        Trapping::Check => Ok(StoreCall::TrapCheck { path, user }),
     }
 }
 
@@ -78,6 +112,16 @@ fn new_user(name: &str, space: u16) -> Result<StoreCall, StoreFault>
     })
 }
 
+fn budget(name: &str, amount: u16) -> Result<StoreCall, StoreFault>
+    ensures { IfOk result IsWithinLimits }
+{
+    Ok(StoreCall::Budget {
+        user: user(name)?,
+        kind: BudgetKind::Money,
+        amount: u64::from(amount),
+    })
+}
+
 /// What is told of a reply.
 fn told(reply: &StoreReply) -> Answer {
     match reply {
@@ -89,6 +133,7 @@ fn told(reply: &StoreReply) -> Answer {
             }
         }
         StoreReply::Listing(listing) => Answer::Files(listing.rows().len()),
+        StoreReply::Modes(modes) => Answer::Modes(modes.bits()),
         _ => Answer::Done,
     }
 }

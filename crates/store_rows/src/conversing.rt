@@ -1,9 +1,9 @@
 //! A conversation of some hundred calls, with dumps, migrations and starts in it, beside a plain store.
 use crate::asking::asked;
-use crate::events::{Ask, Device, Event};
+use crate::events::{Ask, Device, Event, OnFile};
 use crate::rows::{Wrong, play, told};
 use crate::setting::Setting;
-use crate::system::{System, happens};
+use crate::system::System;
 use g_plain::PlainStore;
 use std::alloc::Global;
 
@@ -45,13 +45,14 @@ fn drawn_call(dice: &mut Dice) -> Ask<'static> {
     let name = path(dice.roll(6));
     let letter = dice.roll(200);
     let len = usize::from(dice.roll(250)).wrapping_mul(7);
-    match dice.roll(9) {
-        0..=3 => Ask::Put(name, letter, len),
-        4 => Ask::Append(name, letter, len),
-        5 => Ask::Erase(name),
-        6 => Ask::List("MASTER"),
-        _ => Ask::Fetch(name),
-    }
+    let what = match dice.roll(9) {
+        0..=3 => OnFile::Put(letter, len),
+        4 => OnFile::Append(letter, len),
+        5 => OnFile::Erase,
+        6 => return Ask::List("MASTER"),
+        _ => OnFile::Fetch,
+    };
+    Ask::OnFile(name, what)
 }
 
 /// What an operator does.
@@ -68,44 +69,26 @@ fn drawn_event(dice: &mut Dice) -> Event<'static> {
 }
 
 /// What the operator does, whatever comes of it, and a start where the system is down.
-fn operate(alloc: Global, system: System, dice: &mut Dice) -> System {
-    let mut system = system;
+fn operate(alloc: Global, system: &mut System, dice: &mut Dice) {
     for _ in 0..6 {
-        let (next, _answer) = happens(alloc, system, &drawn_event(dice));
-        system = match next {
-            System::Up(store) => System::Up(store),
-            System::Down(disc, tapes) => {
-                let (again, _answer) = happens(alloc, System::Down(disc, tapes), &Event::Start);
-                again
-            }
-        };
+        let _answer = system.happens(alloc, &drawn_event(dice));
+        if system.up.is_none() {
+            let _answer = system.happens(alloc, &Event::Start);
+        }
     }
-    system
 }
 
 /// A call that both stores answer alike.
 fn ask_both(
     rt: &HostRuntime,
-    system: System,
+    system: &mut System,
     plain: &mut PlainStore,
     ask: Ask<'static>,
-) -> Result<System, Wrong> {
-    let wanted = wanted_of(rt.alloc(), plain, &ask)?;
-    let (next, seen) = seen_of(rt.alloc(), system, ask)?;
-    compare(rt, seen.as_str(), wanted.as_str())?;
-    Ok(next)
-}
-
-/// What the plain store answers.
-fn wanted_of(alloc: Global, plain: &mut PlainStore, ask: &Ask) -> Result<String, Wrong> {
-    Ok(told(alloc, &asked(alloc, plain, "MASTER", ask))?)
-}
-
-/// What the system answers, and the system behind it.
-fn seen_of(alloc: Global, system: System, ask: Ask<'static>) -> Result<(System, String), Wrong> {
-    let (next, outcome) = happens(alloc, system, &Event::Ask("MASTER", ask));
-    let seen = told(alloc, &outcome)?;
-    Ok((next, seen))
+) -> Result<(), Wrong> {
+    let wanted = told(rt.alloc(), &asked(rt.alloc(), plain, "MASTER", &ask))?;
+    let seen = system.happens(rt.alloc(), &Event::Ask("MASTER", ask));
+    let seen = told(rt.alloc(), &seen)?;
+    compare(rt, seen.as_str(), wanted.as_str())
 }
 
 /// Tells the two answers where they aren't the same.
@@ -118,8 +101,7 @@ fn compare(rt: &HostRuntime, seen: &str, wanted: &str) -> Result<(), Wrong> {
 }
 
 /// What is dumped at the end is restored whole.
-fn restore(rt: &HostRuntime, system: System, plain: &mut PlainStore) -> Result<(), Wrong> {
-    let mut system = system;
+fn restore(rt: &HostRuntime, system: &mut System, plain: &mut PlainStore) -> Result<(), Wrong> {
     for event in [
         Event::Finish,
         Event::Device(Device::Open, 1),
@@ -127,12 +109,11 @@ fn restore(rt: &HostRuntime, system: System, plain: &mut PlainStore) -> Result<(
         Event::Shut,
         Event::Restore,
     ] {
-        let (next, _answer) = happens(rt.alloc(), system, &event);
-        system = next;
+        let _answer = system.happens(rt.alloc(), &event);
     }
-    system = ask_both(rt, system, plain, Ask::List("MASTER"))?;
+    ask_both(rt, system, plain, Ask::List("MASTER"))?;
     for roll in 0..6 {
-        system = ask_both(rt, system, plain, Ask::Fetch(path(roll)))?;
+        ask_both(rt, system, plain, Ask::OnFile(path(roll), OnFile::Fetch))?;
     }
     Ok(())
 }
@@ -140,15 +121,19 @@ fn restore(rt: &HostRuntime, system: System, plain: &mut PlainStore) -> Result<(
 /// The system answers as the plain store does, and behind the restore too.
 fn converse(rt: &HostRuntime) -> Result<(), Wrong> {
     let mut plain = PlainStore::new(rt.alloc())?;
+    let mut system = Setting::parse("as_a_plain_store reels=2")?.system(rt.alloc())?;
+    play(rt, &mut system, "format\nmount 1\nmount 2")?;
+    converse_on(rt, &mut system, &mut plain)
+}
+
+fn converse_on(rt: &HostRuntime, system: &mut System, plain: &mut PlainStore) -> Result<(), Wrong> {
     let mut dice = Dice { state: 7 };
-    let system = Setting::parse("as_a_plain_store reels=2")?.system(rt.alloc())?;
-    let mut system = play(rt, system, "format\nmount 1\nmount 2")?;
     for _ in 0..150 {
         let ask = drawn_call(&mut dice);
-        system = ask_both(rt, system, &mut plain, ask)?;
-        system = operate(rt.alloc(), system, &mut dice);
+        ask_both(rt, system, plain, ask)?;
+        operate(rt.alloc(), system, &mut dice);
     }
-    restore(rt, system, &mut plain)
+    restore(rt, system, plain)
 }
 
 /// Prints what became of the conversation.

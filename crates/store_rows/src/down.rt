@@ -1,42 +1,42 @@
 //! Events of a system that is down: its devices alone.
 ghost use Rattle.std.specs.Prelude.{◌<◌, ◌≤◌};
 
+use crate::blocks::{holds, put_on_reel, write};
 use crate::events::{Answer, Device, Event};
 use crate::rows::Outcome;
-use crate::system::System;
+use crate::system::Devices;
 use g_disc::{Disc, MemoryDisc};
 use g_incr::read_dump;
 use g_known::KnownReels;
 use g_plain::StoreFault;
-use g_store::{Refused, format, restore, start};
+use g_store::{Refused, Store, format, restore, start};
 use g_tape::{MemoryTapes, Tapes};
 use std::alloc::Global;
 
-/// What happens to the devices, and the system then.
-pub(crate) fn happens_down(
-    alloc: Global,
-    disc: MemoryDisc,
-    tapes: KnownReels<MemoryTapes>,
-    event: &Event,
-) -> (System, Outcome) {
+/// A store that came up and what is told of it, or the devices.
+type Opened = Result<(Store<MemoryDisc, MemoryTapes>, Answer), Refused<MemoryDisc, MemoryTapes>>;
+
+/// The filestore is made, started or restored.
+pub(crate) fn comes_up(alloc: Global, devices: Devices, event: &Event) -> Opened {
+    let Devices { disc, tapes } = devices;
     if disc.size() <= 2177 || disc.size() > 1_048_576 {
-        return (System::Down(disc, tapes), Err(StoreFault::NoFilestore));
+        let fault = StoreFault::NoFilestore;
+        return Err(Refused { fault, disc, tapes });
     }
     match event {
         Event::Format => formatted(alloc, disc, tapes),
         Event::Start => started(alloc, disc, tapes),
-        Event::Restore => restored(alloc, disc, tapes),
-        _ => turned(alloc, disc, tapes, event),
+        _ => restored(alloc, disc, tapes),
     }
 }
 
-fn formatted(alloc: Global, disc: MemoryDisc, tapes: KnownReels<MemoryTapes>) -> (System, Outcome)
+fn formatted(alloc: Global, disc: MemoryDisc, tapes: KnownReels<MemoryTapes>) -> Opened
     requires low { 2177 < disc.disc.size }
     requires high { disc.disc.size ≤ 1_048_576 }
 {
     match format(alloc, disc, tapes) {
-        Ok(store) => (System::Up(store), Ok(Answer::Done)),
-        Err(refused) => stays_down(refused),
+        Ok(store) => Ok((store, Answer::Done)),
+        Err(refused) => Err(refused),
     }
 }
 
@@ -48,51 +48,43 @@ fn taken_over(number: Option<u64>) -> Answer {
     }
 }
 
-fn started(alloc: Global, disc: MemoryDisc, tapes: KnownReels<MemoryTapes>) -> (System, Outcome)
+fn started(alloc: Global, disc: MemoryDisc, tapes: KnownReels<MemoryTapes>) -> Opened
     requires low { 2177 < disc.disc.size }
     requires high { disc.disc.size ≤ 1_048_576 }
 {
     match start(alloc, disc, tapes) {
-        Ok((store, taken)) => (System::Up(store), Ok(taken_over(taken))),
-        Err(refused) => stays_down(refused),
+        Ok((store, taken)) => Ok((store, taken_over(taken))),
+        Err(refused) => Err(refused),
     }
 }
 
-fn restored(alloc: Global, disc: MemoryDisc, tapes: KnownReels<MemoryTapes>) -> (System, Outcome)
+fn restored(alloc: Global, disc: MemoryDisc, tapes: KnownReels<MemoryTapes>) -> Opened
     requires low { 2177 < disc.disc.size }
     requires high { disc.disc.size ≤ 1_048_576 }
 {
     match restore(alloc, disc, tapes) {
-        Ok((store, number)) => (System::Up(store), Ok(Answer::Dump(number))),
-        Err(refused) => stays_down(refused),
+        Ok((store, number)) => Ok((store, Answer::Dump(number))),
+        Err(refused) => Err(refused),
     }
 }
 
-fn stays_down(refused: Refused<MemoryDisc, MemoryTapes>) -> (System, Outcome) {
-    let Refused { fault, disc, tapes } = refused;
-    (System::Down(disc, tapes), Err(fault))
-}
-
 /// A device alone is turned or asked.
-fn turned(
-    alloc: Global,
-    mut disc: MemoryDisc,
-    mut tapes: KnownReels<MemoryTapes>,
-    event: &Event,
-) -> (System, Outcome) {
-    let answer = match event {
+pub(crate) fn turned(alloc: Global, devices: &mut Devices, event: &Event) -> Outcome {
+    match event {
         Event::Device(device, number) => match device {
-            Device::StopDisc => stop_disc(&mut disc, *number),
-            Device::Unread => unread(alloc, &mut disc, *number),
-            Device::Mount => mounted(&mut tapes, *number),
-            Device::Unmount => unmounted(&mut tapes, *number),
-            Device::Length => length(&tapes, *number),
+            Device::StopDisc => stop_disc(&mut devices.disc, *number),
+            Device::Unread => unread(alloc, &mut devices.disc, *number),
+            Device::Mount => mounted(&mut devices.tapes, *number),
+            Device::Unmount => unmounted(&mut devices.tapes, *number),
+            Device::Length => length(&devices.tapes, *number),
             _ => Err(StoreFault::NotStarted),
         },
-        Event::Noted(place, i) => noted(alloc, &mut tapes, *place, *i),
+        Event::Noted(place, i) => noted(alloc, &mut devices.tapes, *place, *i),
+        Event::Write(k, fields) => write(&mut devices.disc, *k, fields),
+        Event::Holds(k, fields) => holds(&mut devices.disc, *k, fields),
+        Event::Reel(serial, fields) => put_on_reel(&mut devices.tapes, *serial, fields),
         _ => Err(StoreFault::NotStarted),
-    };
-    (System::Down(disc, tapes), answer)
+    }
 }
 
 fn stop_disc(disc: &mut MemoryDisc, k: u32) -> Outcome {

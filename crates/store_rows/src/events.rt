@@ -18,6 +18,12 @@ pub(crate) enum Event<'a> {
     Noted(u32, usize),
     /// What the store tells of itself.
     Told,
+    /// A block of the disc is written, with these fields.
+    Write(u32, &'a str),
+    /// Whether a block of the disc has these fields and else zeros.
+    Holds(u32, &'a str),
+    /// A block with these fields is put behind those of a reel.
+    Reel(u32, &'a str),
     /// A call of a user.
     Ask(&'a str, Ask<'a>),
 }
@@ -33,6 +39,8 @@ pub(crate) enum Device {
     StopTape,
     /// The disc's read of this number, counted from the making of the disc, fails.
     Unread,
+    /// The same of the tapes.
+    UnreadTape,
     /// A dump is opened on the reel.
     Open,
     /// All versions are written onto the reel, and the other reels released.
@@ -46,19 +54,41 @@ pub(crate) enum Device {
 pub(crate) enum Ask<'a> {
     /// A user with so many blocks of SPACE.
     NewUser(&'a str, u16),
-    Put(&'a str, u8, usize),
-    Append(&'a str, u8, usize),
-    Fetch(&'a str),
-    Retrieve(&'a str),
-    Erase(&'a str),
+    /// Another MONEY.
+    Budget(&'a str, u16),
     /// How many files a user has.
     List(&'a str),
+    /// A call on a file, by its path.
+    OnFile(&'a str, OnFile<'a>),
+}
+
+/// What is asked of a file.
+#[derive(Clone, Copy)]
+pub(crate) enum OnFile<'a> {
+    Put(u8, usize),
+    Append(u8, usize),
+    Fetch,
+    Retrieve,
+    Erase,
+    Rename(&'a str),
+    /// About a user, and the sum of the modes' bits.
+    Trap(Trapping, &'a str, u8),
+}
+
+/// A user is let into a file, kept out of it, or asked about.
+#[derive(Clone, Copy)]
+pub(crate) enum Trapping {
+    Go,
+    Stop,
+    Check,
 }
 
 /// What is told of an event that isn't refused.
 #[derive(Clone, Copy, Debug)]
 pub(crate) enum Answer {
     Done,
+    /// A block isn't so.
+    Differs,
     /// The number of a dump.
     Dump(u64),
     /// The number of a dump, and how many of its steps there were.
@@ -67,6 +97,8 @@ pub(crate) enum Answer {
     Blocks(u32),
     /// How many files.
     Files(usize),
+    /// The sum of the bits of modes.
+    Modes(u8),
     /// So many bytes, and the last of them, 0 where there is none.
     Bytes(usize, char),
     Facts(Facts),

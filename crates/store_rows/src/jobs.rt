@@ -3,7 +3,6 @@ ghost use Rattle.std.specs.Prelude.{◌≡◌, false};
 
 use crate::rows::{Wrong, play};
 use crate::setting::Setting;
-use crate::system::System;
 use g_budget::{Charge, Tariff, Usage};
 use g_job::{Job, NewJob, Turn};
 use g_lines::Document;
@@ -61,15 +60,16 @@ fn over_plain(alloc: Global, document: &[u8]) -> Result<Job, Wrong> {
 
 /// The same over the whole one, on a new disc.
 fn over_whole(rt: &HostRuntime, document: &[u8]) -> Result<Job, Wrong> {
-    let system = Setting::parse("one_job_over_both")?.system(rt.alloc())?;
-    match play(rt, system, "format")? {
-        System::Up(mut store) => {
+    let mut system = Setting::parse("one_job_over_both")?.system(rt.alloc())?;
+    play(rt, &mut system, "format")?;
+    match &mut system.up {
+        Some(store) => {
             if store.spent() {
                 return Err(Wrong("a store that is spent"));
             }
-            ended(rt.alloc(), &mut store, document)
+            ended(rt.alloc(), store, document)
         }
-        System::Down(_disc, _tapes) => Err(Wrong("no store")),
+        None => Err(Wrong("no store")),
     }
 }
 

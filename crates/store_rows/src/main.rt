@@ -3,6 +3,7 @@
 #![tactic(auto)]
 
 mod asking;
+mod blocks;
 mod conversing;
 mod down;
 mod events;
@@ -19,8 +20,11 @@ use std::fs;
 use std::test::Fail;
 
 fn main(rt: HostRuntime) -> Result<(), Fail> {
+    let beginnings = fs::read_to_string(&rt, "beginnings.txt")?;
     for name in [
         "ample.rows",
+        "by_hand.rows",
+        "calls.rows",
         "dumps.rows",
         "offline.rows",
         "processed.rows",
@@ -28,7 +32,7 @@ fn main(rt: HostRuntime) -> Result<(), Fail> {
         "stops.rows",
     ] {
         let text = fs::read_to_string(&rt, name)?;
-        rows::run(&rt, text.as_str())?;
+        rows::run(&rt, beginnings.as_str(), text.as_str())?;
     }
     let before = fs::read_to_string(&rt, "makes_room.rows")?;
     stops::run(&rt, before.as_str())?;

@@ -2,7 +2,8 @@
 use crate::events::{Answer, Device, Event};
 use crate::rows::{Wrong, play};
 use crate::setting::Setting;
-use crate::system::{System, happens};
+use crate::stops::stops;
+use crate::system::System;
 use g_plain::StoreFault;
 
 /// What the disc's writes leave that fail: of a torn gate an even byte names the new slot, an odd one the old.
@@ -58,71 +59,65 @@ fn tell(rt: &HostRuntime, leave: &str, stops: u32, fits: bool) -> Result<(), Wro
 
 /// At how many writes of this device the PROCESS can be stopped, 39 where it is more often.
 fn stops_of(rt: &HostRuntime, before: &str, device: Device, leave: &str) -> Result<u32, Wrong> {
-    let mut stops = 0;
+    let mut count = 0;
     for k in 1..40 {
-        let Some(system) = stopped(rt, before, device, leave, k)? else {
+        if !is_stopped(rt, before, device, leave, k)? {
             break;
-        };
-        goes_on(rt, system)?;
-        if let Some(system) = stopped(rt, before, device, leave, k)? {
-            restores(rt, system)?;
         }
-        stops = k;
+        count = k;
     }
-    Ok(stops)
+    Ok(count)
 }
 
-/// The system behind a PROCESS that was stopped at this write of the device, none where it has fewer.
-fn stopped(
+/// Whether the PROCESS is stopped at this write of the device, which it isn't where it has fewer. Behind such a stop comes a start,
+/// and behind another a restore.
+fn is_stopped(
     rt: &HostRuntime,
     before: &str,
     device: Device,
     leave: &str,
     k: u32,
-) -> Result<Option<System>, Wrong> {
+) -> Result<bool, Wrong> {
     let head = format!(in rt.alloc(); "P reels=3 {leave}")?;
-    let system = Setting::parse(head.as_str())?.system(rt.alloc())?;
-    let system = play(rt, system, before)?;
-    let (system, outcome) = happens(rt.alloc(), system, &Event::Device(device, k));
-    if !matches!(outcome, Ok(Answer::Done)) {
-        return Err(Wrong("the device takes no stop"));
+    let setting = Setting::parse(head.as_str())?;
+    let process = Event::Device(Device::Process, 3);
+    let mut system = setting.system(rt.alloc())?;
+    play(rt, &mut system, before)?;
+    if !stops(rt, &mut system, device, k, &process)? {
+        return Ok(false);
     }
-    let (system, outcome) = happens(rt.alloc(), system, &Event::Device(Device::Process, 3));
-    match outcome {
-        Ok(Answer::Dump(3)) => Ok(None),
-        Err(StoreFault::Stopped) => Ok(Some(system)),
-        _ => Err(Wrong("a process that isn't stopped")),
-    }
+    goes_on(rt, &mut system)?;
+    let mut system = setting.system(rt.alloc())?;
+    play(rt, &mut system, before)?;
+    stops(rt, &mut system, device, k, &process)?;
+    restores(rt, &mut system)?;
+    Ok(true)
 }
 
 /// A start has all files, and takes the dump over where it is whole and wasn't. Where it isn't whole, the PROCESS is made
 /// again, and reads from the old reels. Then these are wanted no more.
-fn goes_on(rt: &HostRuntime, system: System) -> Result<(), Wrong> {
-    let (system, outcome) = happens(rt.alloc(), system, &Event::Start);
-    if !matches!(outcome, Ok(Answer::Done | Answer::Dump(3))) {
-        return Err(Wrong("no start"));
+fn goes_on(rt: &HostRuntime, system: &mut System) -> Result<(), Wrong> {
+    match system.happens(rt.alloc(), &Event::Start) {
+        Ok(Answer::Done | Answer::Dump(3)) => {}
+        _ => return Err(Wrong("no start")),
     }
-    let system = play(rt, system, WITH_E)?;
-    let (system, outcome) = happens(rt.alloc(), system, &Event::Device(Device::Process, 3));
-    match outcome {
+    play(rt, system, WITH_E)?;
+    match system.happens(rt.alloc(), &Event::Device(Device::Process, 3)) {
         Ok(Answer::Dump(3)) | Err(StoreFault::ReelNotFree(3)) => {}
         _ => return Err(Wrong("no process behind a start")),
     }
-    let system = play(rt, system, "unmount 1\nunmount 2")?;
-    let system = play(rt, system, DUMPED)?;
-    play(rt, system, WITH_E)?;
-    Ok(())
+    play(rt, system, "unmount 1\nunmount 2")?;
+    play(rt, system, DUMPED)?;
+    play(rt, system, WITH_E)
 }
 
 /// A restore has the tree of the dump that was there before, or of the new one.
-fn restores(rt: &HostRuntime, system: System) -> Result<(), Wrong> {
-    let (system, outcome) = happens(rt.alloc(), system, &Event::Restore);
-    let last = match outcome {
+fn restores(rt: &HostRuntime, system: &mut System) -> Result<(), Wrong> {
+    let last = match system.happens(rt.alloc(), &Event::Restore) {
         Ok(Answer::Dump(2)) => WITHOUT_E,
         Ok(Answer::Dump(3)) => WITH_E,
         _ => return Err(Wrong("no restore")),
     };
-    let system = play(rt, system, DUMPED)?;
-    play(rt, system, last)?;
-    Ok(())
+    play(rt, system, DUMPED)?;
+    play(rt, system, last)
 }

@@ -1,5 +1,5 @@
 //! The event of a line.
-use crate::events::{Ask, Device, Event};
+use crate::events::{Ask, Device, Event, OnFile, Trapping};
 use crate::rows::Wrong;
 
 /// The events that are one word.
@@ -14,7 +14,7 @@ static BARE: [(&str, Event<'static>); 7] = [
 ];
 
 /// Those with a number.
-static DEVICES: [(&str, Device); 8] = [
+static DEVICES: [(&str, Device); 9] = [
     ("mount", Device::Mount),
     ("unmount", Device::Unmount),
     ("open", Device::Open),
@@ -23,6 +23,7 @@ static DEVICES: [(&str, Device); 8] = [
     ("stop_disc", Device::StopDisc),
     ("stop_tape", Device::StopTape),
     ("unread", Device::Unread),
+    ("unread_tape", Device::UnreadTape),
 ];
 
 /// The event that these words are.
@@ -39,7 +40,22 @@ pub(crate) fn event_of<'a>(line: &'a str) -> Result<Event<'a>, Wrong> {
         let (place, file) = halves(rest)?;
         Ok(Event::Noted(place.parse()?, file.parse()?))
     } else {
-        numbered(name, rest.parse()?)
+        of_blocks(name, rest)
+    }
+}
+
+/// An event with a block, or with a number alone.
+fn of_blocks<'a>(name: &str, rest: &'a str) -> Result<Event<'a>, Wrong> {
+    let (number, fields) = rest.split_once(' ').unwrap_or((rest, ""));
+    let number = number.parse()?;
+    if name == "write" {
+        Ok(Event::Write(number, fields))
+    } else if name == "holds" {
+        Ok(Event::Holds(number, fields))
+    } else if name == "reel" {
+        Ok(Event::Reel(number, fields))
+    } else {
+        numbered(name, number)
     }
 }
 
@@ -69,34 +85,68 @@ fn numbered(name: &str, number: u32) -> Result<Event<'static>, Wrong> {
 /// A call by its name and what it is about.
 fn call_of<'a>(text: &'a str) -> Result<Ask<'a>, Wrong> {
     let (call, rest) = halves(text)?;
-    if call == "fetch" {
-        Ok(Ask::Fetch(rest))
-    } else if call == "retrieve" {
-        Ok(Ask::Retrieve(rest))
-    } else if call == "erase" {
-        Ok(Ask::Erase(rest))
-    } else if call == "list" {
+    if call == "list" {
         Ok(Ask::List(rest))
     } else if call == "new_user" {
         let (name, space) = halves(rest)?;
         Ok(Ask::NewUser(name, space.parse()?))
+    } else if call == "budget" {
+        let (name, amount) = halves(rest)?;
+        Ok(Ask::Budget(name, amount.parse()?))
     } else {
-        call_with_bytes(call, rest)
+        let (path, rest) = rest.split_once(' ').unwrap_or((rest, ""));
+        Ok(Ask::OnFile(path, on_file(call, rest)?))
     }
 }
 
-/// A call with a file's bytes: its path, their letter and how many they are.
-fn call_with_bytes<'a>(call: &str, rest: &'a str) -> Result<Ask<'a>, Wrong> {
-    let (path, bytes) = halves(rest)?;
-    let (letter, len) = halves(bytes)?;
+/// The calls on a file that say no more.
+static ON_FILE: [(&str, OnFile<'static>); 3] = [
+    ("fetch", OnFile::Fetch),
+    ("retrieve", OnFile::Retrieve),
+    ("erase", OnFile::Erase),
+];
+
+/// Those about a user, with the bits of modes.
+static TRAPS: [(&str, Trapping); 3] = [
+    ("let_in", Trapping::Go),
+    ("keep_out", Trapping::Stop),
+    ("traps", Trapping::Check),
+];
+
+fn on_file<'a>(call: &str, rest: &'a str) -> Result<OnFile<'a>, Wrong> {
+    for (known, what) in &ON_FILE {
+        if *known == call {
+            return Ok(*what);
+        }
+    }
+    for (known, how) in &TRAPS {
+        if *known == call {
+            return about_user(*how, rest);
+        }
+    }
+    if call == "rename" {
+        Ok(OnFile::Rename(rest))
+    } else {
+        with_bytes(call, rest)
+    }
+}
+
+fn about_user<'a>(how: Trapping, rest: &'a str) -> Result<OnFile<'a>, Wrong> {
+    let (user, bits) = halves(rest)?;
+    Ok(OnFile::Trap(how, user, bits.parse()?))
+}
+
+/// A call with a file's bytes: their letter and how many they are.
+fn with_bytes(call: &str, rest: &str) -> Result<OnFile<'static>, Wrong> {
+    let (letter, len) = halves(rest)?;
     let Some(letter) = letter.as_bytes().first() else {
         return Err(Wrong("no letter"));
     };
     let len = len.parse()?;
     if call == "put" {
-        Ok(Ask::Put(path, *letter, len))
+        Ok(OnFile::Put(*letter, len))
     } else if call == "append" {
-        Ok(Ask::Append(path, *letter, len))
+        Ok(OnFile::Append(*letter, len))
     } else {
         Err(Wrong("no call"))
     }

@@ -2,7 +2,7 @@
 use crate::events::Answer;
 use crate::reading::event_of;
 use crate::setting::Setting;
-use crate::system::{System, happens};
+use crate::system::System;
 use g_base::NoMemory;
 use g_plain::StoreFault;
 use std::alloc::{AllocError, Global};
@@ -41,66 +41,78 @@ impl From<io::Error> for Wrong {
     }
 }
 
-/// Runs each row of a file, and prints what became of it.
-pub(crate) fn run(rt: &HostRuntime, text: &str) -> Result<(), Fail> {
+/// Runs each row of a file, and prints what became of it. What rows begin with stands in the other text.
+pub(crate) fn run(rt: &HostRuntime, beginnings: &str, text: &str) -> Result<(), Fail> {
     for part in text.split("\n\n") {
         let Some((head, lines)) = part.split_once('\n') else {
             return Err("a row without events".into());
         };
         let setting = Setting::parse(head)?;
-        let system = setting.any_system(rt.alloc())?;
-        match play(rt, system, lines) {
-            Ok(_system) => println!(rt; "{} as it should be", setting.name)?,
+        match played(rt, &setting, beginnings, lines)? {
+            Ok(()) => println!(rt; "{} as it should be", setting.name)?,
             Err(why) => println!(rt; "{} differs: {}", setting.name, why.0)?,
         }
     }
     Ok(())
 }
 
-/// Makes these events happen, one behind the other: the system then. A line is an event and, behind ` = `, what is to come of
-/// it, `Ok(Done)` where nothing else is said; one that begins with `#` says what it is about. An error: something else came of
-/// an event, whose line is printed.
-pub(crate) fn play(rt: &HostRuntime, system: System, lines: &str) -> Result<System, Wrong> {
-    let mut system = system;
-    for line in lines.lines() {
-        if line.is_empty() || line.starts_with('#') {
-            continue;
-        }
-        system = one(rt, system, line)?;
+/// Runs a row.
+fn played(
+    rt: &HostRuntime,
+    setting: &Setting,
+    beginnings: &str,
+    lines: &str,
+) -> Result<Result<(), Wrong>, Fail> {
+    let mut system = setting.system(rt.alloc())?;
+    for name in setting.on.split(',') {
+        play(rt, &mut system, beginning(beginnings, name))?;
     }
-    Ok(system)
+    Ok(play(rt, &mut system, lines))
+}
+
+/// The events with which a row begins, none where the text has no such name.
+fn beginning<'a>(text: &'a str, name: &str) -> &'a str {
+    for part in text.split("\n\n") {
+        if let Some((head, lines)) = part.split_once('\n') {
+            if head == name {
+                return lines;
+            }
+        }
+    }
+    ""
+}
+
+/// Makes these events happen, one behind the other. A line is an event and, behind ` = `, what is to come of it, `Ok(Done)` where
+/// nothing else is said; one that begins with `#` says what it is about. An error: something else came of an event, whose line is
+/// printed.
+pub(crate) fn play(rt: &HostRuntime, system: &mut System, lines: &str) -> Result<(), Wrong> {
+    for line in lines.lines() {
+        if !line.is_empty() && !line.starts_with('#') {
+            one(rt, system, line)?;
+        }
+    }
+    Ok(())
 }
 
 /// The event of a line.
-fn one(rt: &HostRuntime, system: System, line: &str) -> Result<System, Wrong> {
+fn one(rt: &HostRuntime, system: &mut System, line: &str) -> Result<(), Wrong> {
     let (event, wanted) = match line.split_once(" = ") {
         Some((event, wanted)) => (event, wanted),
         None => (line, "Ok(Done)"),
     };
-    let event = match event_of(event) {
-        Ok(event) => event,
-        Err(wrong) => {
-            let_go(system);
-            return Err(wrong);
-        }
-    };
-    let (next, outcome) = happens(rt.alloc(), system, &event);
-    match as_wanted(rt, line, wanted, &outcome) {
-        Ok(()) => Ok(next),
-        Err(wrong) => {
-            let_go(next);
-            Err(wrong)
-        }
-    }
+    let outcome = system.happens(rt.alloc(), &event_of(event)?);
+    as_wanted(rt, line, wanted, &outcome)
 }
 
-/// A system that nobody wants any more: in a function of its own, since the proof of what is let go is long.
-fn let_go(_system: System) {}
-
-/// Whether just what was wanted came of a line's event; else the line is printed.
+/// Whether just what was wanted came of a line's event, or what begins so, where two points stand behind it; else the line is
+/// printed.
 fn as_wanted(rt: &HostRuntime, line: &str, wanted: &str, outcome: &Outcome) -> Result<(), Wrong> {
     let told = told(rt.alloc(), outcome)?;
-    if told.as_str() == wanted {
+    let is_so = match wanted.strip_suffix("..") {
+        Some(front) => told.as_str().starts_with(front),
+        None => told.as_str() == wanted,
+    };
+    if is_so {
         return Ok(());
     }
     println!(rt; "{line}, but {}", told.as_str())?;

@@ -2,11 +2,9 @@
 use crate::rows::Wrong;
 use crate::system::System;
 use g_disc::{Leave, MemoryDisc};
-use g_fixtures::{disc_with, dumped, one_away};
 use g_known::KnownReels;
 use g_tape::{MemoryTapes, TapeLeave};
 use std::alloc::Global;
-use std::test::Fail;
 
 /// The name of a row, and what differs from a blank disc of 4,096 blocks and one empty reel of 8,192, whose writes that fail
 /// leave what was there.
@@ -18,8 +16,8 @@ pub(crate) struct Setting<'a> {
     capacity: u32,
     leave: &'a str,
     tape_leave: &'a str,
-    /// Whether disc and reel were written out by hand instead.
-    by_hand: bool,
+    /// The names of the events with which it begins, with commas between.
+    pub(crate) on: &'a str,
 }
 
 impl<'a> Setting<'a> {
@@ -36,7 +34,7 @@ impl<'a> Setting<'a> {
             capacity: 8_192,
             leave: "old",
             tape_leave: "old",
-            by_hand: false,
+            on: "",
         };
         for word in words {
             let Some((key, value)) = word.split_once('=') else {
@@ -52,8 +50,8 @@ impl<'a> Setting<'a> {
             self.leave = value;
         } else if key == "tape_leave" {
             self.tape_leave = value;
-        } else if key == "disc" && value == "by_hand" {
-            self.by_hand = true;
+        } else if key == "on" {
+            self.on = value;
         } else if key == "disc" {
             self.blocks = value.parse()?;
         } else if key == "reels" {
@@ -68,11 +66,12 @@ impl<'a> Setting<'a> {
 
     /// The devices, with no filestore that is up.
     pub(crate) fn system(&self, alloc: Global) -> Result<System, Wrong> {
-        let mut disc = MemoryDisc::new(alloc, self.blocks)?;
-        disc.set_leave(leave_of(self.leave)?);
         let mut tapes = self.tapes(alloc)?;
         tapes.set_leave(tape_leave_of(self.tape_leave)?);
-        Ok(System::Down(disc, KnownReels::new(alloc, tapes)))
+        let leave = leave_of(self.leave)?;
+        let mut disc = MemoryDisc::new(alloc, self.blocks)?;
+        disc.set_leave(leave);
+        Ok(System::new(disc, KnownReels::new(alloc, tapes)))
     }
 
     fn tapes(&self, alloc: Global) -> Result<MemoryTapes, Wrong> {
@@ -97,16 +96,6 @@ impl<'a> Setting<'a> {
             }
         };
         Ok(MemoryTapes::new(alloc, reels)?)
-    }
-
-    /// The same over the disc and the reel that were written out by hand, where the row asks for them.
-    pub(crate) fn any_system(&self, alloc: Global) -> Result<System, Fail> {
-        if !self.by_hand {
-            return Ok(self.system(alloc)?);
-        }
-        let mut disc = disc_with(alloc, &one_away([0, 0, 0, 5]))?;
-        disc.set_leave(leave_of(self.leave)?);
-        Ok(System::Down(disc, KnownReels::new(alloc, dumped(alloc)?)))
     }
 }
 

@@ -1,8 +1,8 @@
 //! A put that takes two files off the disc, stopped at each of its writes.
-use crate::events::{Answer, Ask, Device, Event};
+use crate::events::{Answer, Ask, Device, Event, OnFile};
 use crate::rows::{Wrong, play};
 use crate::setting::Setting;
-use crate::system::{System, happens};
+use crate::system::System;
 use g_plain::StoreFault;
 
 /// What the writes leave that fail: of a torn gate an even byte names the new slot, an odd one the old.
@@ -37,40 +37,51 @@ fn stops_of(rt: &HostRuntime, before: &str, leave: &str) -> Result<u32, Wrong> {
 /// if it has so many, and then D is there as before, and E whole, so that A can't come back, or not at all, and A does.
 fn is_stopped(rt: &HostRuntime, before: &str, leave: &str, k: u32) -> Result<bool, Wrong> {
     let head = format!(in rt.alloc(); "E disc=2181 capacity=20 leave={leave}")?;
-    let system = Setting::parse(head.as_str())?.system(rt.alloc())?;
-    let system = play(rt, system, before)?;
-    let (system, outcome) = happens(rt.alloc(), system, &Event::Device(Device::StopDisc, k));
-    if !matches!(outcome, Ok(Answer::Done)) {
-        return Err(Wrong("the disc takes no stop"));
+    let mut system = Setting::parse(head.as_str())?.system(rt.alloc())?;
+    play(rt, &mut system, before)?;
+    let put = Event::Ask("MASTER", Ask::OnFile("E", OnFile::Put(b'E', 600)));
+    if !stops(rt, &mut system, Device::StopDisc, k, &put)? {
+        return Ok(false);
     }
-    let (system, outcome) = happens(
-        rt.alloc(),
-        system,
-        &Event::Ask("MASTER", Ask::Put("E", b'E', 600)),
-    );
-    match outcome {
-        Ok(Answer::Done) => Ok(false),
-        Err(StoreFault::Stopped) => {
-            is_whole(rt, system)?;
-            Ok(true)
-        }
-        _ => Err(Wrong("a put that isn't stopped")),
+    is_whole(rt, &mut system)?;
+    Ok(true)
+}
+
+/// Whether this write of the device, which fails, stops the event.
+pub(crate) fn stops(
+    rt: &HostRuntime,
+    system: &mut System,
+    device: Device,
+    k: u32,
+    event: &Event,
+) -> Result<bool, Wrong> {
+    if !matches!(
+        system.happens(rt.alloc(), &Event::Device(device, k)),
+        Ok(Answer::Done)
+    ) {
+        return Err(Wrong("the device takes no stop"));
+    }
+    match system.happens(rt.alloc(), event) {
+        Ok(_) => Ok(false),
+        Err(StoreFault::Stopped) => Ok(true),
+        Err(_) => Err(Wrong("an event that isn't stopped")),
     }
 }
 
 /// D is there, and E or A.
-fn is_whole(rt: &HostRuntime, system: System) -> Result<(), Wrong> {
-    let system = play(
+fn is_whole(rt: &HostRuntime, system: &mut System) -> Result<(), Wrong> {
+    play(
         rt,
         system,
         "start\nask MASTER fetch D = Ok(Bytes(513, 'D'))",
     )?;
-    let (system, outcome) = happens(rt.alloc(), system, &Event::Ask("MASTER", Ask::Fetch("E")));
-    let first = match outcome {
+    let first = match system.happens(
+        rt.alloc(),
+        &Event::Ask("MASTER", Ask::OnFile("E", OnFile::Fetch)),
+    ) {
         Ok(Answer::Bytes(600, 'E')) => "ask MASTER fetch A = Err(DiscFull { need: 1, room: 0 })",
         Err(StoreFault::NoFile) => "ask MASTER fetch A = Ok(Bytes(1, 'A'))",
         _ => return Err(Wrong("another E")),
     };
-    play(rt, system, first)?;
-    Ok(())
+    play(rt, system, first)
 }

@@ -1,58 +1,125 @@
 //! A system that is up or down, and what happens to it.
 use crate::asking::asked;
-use crate::down::happens_down;
-use crate::events::{Answer, Event};
+use crate::down::{comes_up, turned};
+use crate::events::{Answer, Device, Event};
 use crate::operating::operated;
 use crate::rows::Outcome;
 use g_disc::MemoryDisc;
 use g_known::KnownReels;
 use g_plain::StoreFault;
-use g_store::Store;
+use g_store::{Refused, Store};
 use g_tape::MemoryTapes;
 use std::alloc::Global;
 
-/// A store, or its devices alone.
+/// A store, or the devices of one that is down. It is handed on by reference and changed where it lies, so that what lets it go is
+/// proved for a single function.
 #[derive(Drop)]
-pub(crate) enum System {
-    Up(Store<MemoryDisc, MemoryTapes>),
-    Down(MemoryDisc, KnownReels<MemoryTapes>),
+pub(crate) struct System {
+    pub(crate) up: Option<Store<MemoryDisc, MemoryTapes>>,
+    down: Option<Devices>,
 }
 
-/// What happens, and the system then. An event that the system can't take as it is, up or down, is refused by `Running` or
-/// `NotStarted`.
-pub(crate) fn happens(alloc: Global, system: System, event: &Event) -> (System, Outcome) {
-    match system {
-        System::Up(store) => happens_up(alloc, store, event),
-        System::Down(disc, tapes) => happens_down(alloc, disc, tapes, event),
+/// The devices of a system that is down.
+#[derive(Drop)]
+pub(crate) struct Devices {
+    pub(crate) disc: MemoryDisc,
+    pub(crate) tapes: KnownReels<MemoryTapes>,
+}
+
+impl System {
+    /// A system that is down, on these devices.
+    pub(crate) fn new(disc: MemoryDisc, tapes: KnownReels<MemoryTapes>) -> System {
+        System {
+            up: None,
+            down: Some(Devices { disc, tapes }),
+        }
+    }
+
+    /// What happens. An event that the system can't take as it is, up or down, is refused by `Running` or `NotStarted`.
+    pub(crate) fn happens(&mut self, alloc: Global, event: &Event) -> Outcome {
+        match event {
+            Event::Format | Event::Start | Event::Restore => self.opened(alloc, event),
+            Event::Shut => self.shut(),
+            Event::Device(Device::UnreadTape, call) => self.unread_tape(alloc, *call),
+            _ => match &mut self.up {
+                Some(store) => {
+                    let answer = happens_up(alloc, store, event);
+                    self.settle();
+                    answer
+                }
+                None => match &mut self.down {
+                    Some(devices) => turned(alloc, devices, event),
+                    None => Err(StoreFault::NotStarted),
+                },
+            },
+        }
+    }
+
+    /// A system that is down comes up, if it does.
+    fn opened(&mut self, alloc: Global, event: &Event) -> Outcome {
+        match self.down.take() {
+            Some(devices) => match comes_up(alloc, devices, event) {
+                Ok((store, answer)) => {
+                    self.up = Some(store);
+                    Ok(answer)
+                }
+                Err(refused) => self.stays_down(refused),
+            },
+            None => Err(StoreFault::Running),
+        }
+    }
+
+    fn stays_down(&mut self, refused: Refused<MemoryDisc, MemoryTapes>) -> Outcome {
+        let Refused { fault, disc, tapes } = refused;
+        self.down = Some(Devices { disc, tapes });
+        Err(fault)
+    }
+
+    fn shut(&mut self) -> Outcome {
+        match self.up.take() {
+            Some(store) => {
+                let (disc, tapes) = store.into_devices();
+                self.down = Some(Devices { disc, tapes });
+                Ok(Answer::Done)
+            }
+            None => Err(StoreFault::NotStarted),
+        }
+    }
+
+    /// A read of the tapes of a system that is down fails.
+    fn unread_tape(&mut self, alloc: Global, call: u32) -> Outcome {
+        let calls = [u64::from(call)].to_vec(alloc)?;
+        match self.down.take() {
+            Some(Devices { disc, tapes }) => {
+                let mut tapes = tapes.into_tapes();
+                tapes.fail_reads(calls);
+                let tapes = KnownReels::new(alloc, tapes);
+                self.down = Some(Devices { disc, tapes });
+                Ok(Answer::Done)
+            }
+            None => Err(StoreFault::NotStarted),
+        }
+    }
+
+    /// A store that is spent is down.
+    fn settle(&mut self) {
+        let is_spent = match &self.up {
+            Some(store) => store.spent(),
+            None => false,
+        };
+        if is_spent {
+            let _down = self.shut();
+        }
     }
 }
 
-/// The same to a store that is up. One that is stopped is down then.
-fn happens_up(
-    alloc: Global,
-    mut store: Store<MemoryDisc, MemoryTapes>,
-    event: &Event,
-) -> (System, Outcome) {
-    if let Event::Shut = event {
-        let (disc, tapes) = store.into_devices();
-        return (System::Down(disc, tapes), Ok(Answer::Done));
-    }
+/// The same to a store that is up.
+fn happens_up(alloc: Global, store: &mut Store<MemoryDisc, MemoryTapes>, event: &Event) -> Outcome {
     if store.spent() {
-        return (System::Up(store), Err(StoreFault::NotStarted));
+        return Err(StoreFault::NotStarted);
     }
-    let answer = match event {
-        Event::Ask(who, ask) => asked(alloc, &mut store, who, ask),
-        _ => operated(alloc, &mut store, event),
-    };
-    (behind(store), answer)
-}
-
-/// A store that isn't spent is up.
-fn behind(store: Store<MemoryDisc, MemoryTapes>) -> System {
-    if store.spent() {
-        let (disc, tapes) = store.into_devices();
-        System::Down(disc, tapes)
-    } else {
-        System::Up(store)
+    match event {
+        Event::Ask(who, ask) => asked(alloc, store, who, ask),
+        _ => operated(alloc, store, event),
     }
 }
