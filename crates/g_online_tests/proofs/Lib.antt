@@ -1,6 +1,0 @@
-pub mod FirstLemmas
-pub mod AllowedLemmas
-pub mod PutAllowedLemmas
-pub mod BringAllowedLemmas
-pub mod DumpLemmas
-pub mod UserAllowedLemmas
