@@ -1,2 +1,0 @@
--- The rows of the tests.
-pub mod RowLemmas
