@@ -26,13 +26,10 @@ pub fn catalogue<T: Tapes>(
     let mut lists = Vec::new(alloc);
     for i in 0..tapes.reels() {
         let serial = tapes.serial(i);
-        // In a loop the proof reads the arms of a `match`, and not what `?` returns.
-        match tapes.notes(alloc, serial) {
-            Ok(notes) => match lists.push(Listed { serial, notes }) {
-                Ok(()) => {}
-                Err(_) => return Err(ShelfFault::NoMemory),
-            },
-            Err(fault) => return Err(fault),
+        let notes = tapes.notes(alloc, serial)?;
+        match lists.push(Listed { serial, notes }) {
+            Ok(()) => {}
+            Err(_) => return Err(ShelfFault::NoMemory),
         }
     }
     Ok(lists)

@@ -121,12 +121,16 @@ fn restore(rt: &HostRuntime, system: &mut System, plain: &mut PlainStore) -> Res
 /// The system answers as the plain store does, and behind the restore too.
 fn converse(rt: &HostRuntime) -> Result<(), Wrong> {
     let mut plain = PlainStore::new(rt.alloc())?;
+    converse_beside(rt, &mut plain)
+}
+
+fn converse_beside(rt: &HostRuntime, plain: &mut PlainStore) -> Result<(), Wrong> {
     let mut system = Setting::parse("as_a_plain_store reels=2")?.system(rt.alloc())?;
-    play(rt, &mut system, "format\nmount 1\nmount 2")?;
-    converse_on(rt, &mut system, &mut plain)
+    converse_on(rt, &mut system, plain)
 }
 
 fn converse_on(rt: &HostRuntime, system: &mut System, plain: &mut PlainStore) -> Result<(), Wrong> {
+    play(rt, system, "format\nmount 1\nmount 2")?;
     let mut dice = Dice { state: 7 };
     for _ in 0..150 {
         let ask = drawn_call(&mut dice);

@@ -3,6 +3,7 @@ ghost use Rattle.std.specs.Prelude.{◌≡◌, false};
 
 use crate::rows::{Wrong, play};
 use crate::setting::Setting;
+use crate::system::System;
 use g_budget::{Charge, Tariff, Usage};
 use g_job::{Job, NewJob, Turn};
 use g_lines::Document;
@@ -61,7 +62,11 @@ fn over_plain(alloc: Global, document: &[u8]) -> Result<Job, Wrong> {
 /// The same over the whole one, on a new disc.
 fn over_whole(rt: &HostRuntime, document: &[u8]) -> Result<Job, Wrong> {
     let mut system = Setting::parse("one_job_over_both")?.system(rt.alloc())?;
-    play(rt, &mut system, "format")?;
+    over_system(rt, &mut system, document)
+}
+
+fn over_system(rt: &HostRuntime, system: &mut System, document: &[u8]) -> Result<Job, Wrong> {
+    play(rt, system, "format")?;
     match &mut system.up {
         Some(store) => {
             if store.spent() {
@@ -73,11 +78,23 @@ fn over_whole(rt: &HostRuntime, document: &[u8]) -> Result<Job, Wrong> {
     }
 }
 
+/// Whether the job over the plain store says this text.
+fn plain_says(alloc: Global, document: &[u8], text: &[u8]) -> Result<bool, Wrong> {
+    let job = over_plain(alloc, document)?;
+    Ok(job.monitor() == text)
+}
+
+/// The same over the whole one.
+fn whole_says(rt: &HostRuntime, document: &[u8], text: &[u8]) -> Result<bool, Wrong> {
+    let job = over_whole(rt, document)?;
+    Ok(job.monitor() == text)
+}
+
 /// Compares what both say with this text: the ninth level is too deep, and a WHENEVER goes on behind that.
 pub(crate) fn run(rt: &HostRuntime, document: &str, text: &str) -> Result<(), Wrong> {
-    let plain = over_plain(rt.alloc(), document.as_bytes())?;
-    let whole = over_whole(rt, document.as_bytes())?;
-    if plain.monitor() == text.as_bytes() && whole.monitor() == text.as_bytes() {
+    let is_plain = plain_says(rt.alloc(), document.as_bytes(), text.as_bytes())?;
+    let is_whole = whole_says(rt, document.as_bytes(), text.as_bytes())?;
+    if is_plain && is_whole {
         println!(rt; "one_job_over_both as it should be")?;
     } else {
         println!(rt; "one_job_over_both differs")?;

@@ -20,7 +20,15 @@ use std::fs;
 use std::test::Fail;
 
 fn main(rt: HostRuntime) -> Result<(), Fail> {
-    let beginnings = fs::read_to_string(&rt, "beginnings.txt")?;
+    files_of_rows(&rt)?;
+    stopped_puts(&rt)?;
+    stopped_processes(&rt)?;
+    conversing::run(&rt)?;
+    job_over_both(&rt)
+}
+
+fn files_of_rows(rt: &HostRuntime) -> Result<(), Fail> {
+    let beginnings = fs::read_to_string(rt, "beginnings.txt")?;
     for name in [
         "ample.rows",
         "by_hand.rows",
@@ -31,16 +39,31 @@ fn main(rt: HostRuntime) -> Result<(), Fail> {
         "replaced.rows",
         "stops.rows",
     ] {
-        let text = fs::read_to_string(&rt, name)?;
-        rows::run(&rt, beginnings.as_str(), text.as_str())?;
+        rows_of(rt, beginnings.as_str(), name)?;
     }
-    let before = fs::read_to_string(&rt, "makes_room.rows")?;
-    stops::run(&rt, before.as_str())?;
-    let before = fs::read_to_string(&rt, "processes.rows")?;
-    processing::run(&rt, before.as_str())?;
-    conversing::run(&rt)?;
-    let document = fs::read_to_string(&rt, "deep.job")?;
-    let text = fs::read_to_string(&rt, "deep.text")?;
-    jobs::run(&rt, document.as_str(), text.as_str())?;
+    Ok(())
+}
+
+fn rows_of(rt: &HostRuntime, beginnings: &str, name: &str) -> Result<(), Fail> {
+    let text = fs::read_to_string(rt, name)?;
+    rows::run(rt, beginnings, text.as_str())
+}
+
+fn stopped_puts(rt: &HostRuntime) -> Result<(), Fail> {
+    let before = fs::read_to_string(rt, "makes_room.rows")?;
+    stops::run(rt, before.as_str())?;
+    Ok(())
+}
+
+fn stopped_processes(rt: &HostRuntime) -> Result<(), Fail> {
+    let before = fs::read_to_string(rt, "processes.rows")?;
+    processing::run(rt, before.as_str())?;
+    Ok(())
+}
+
+fn job_over_both(rt: &HostRuntime) -> Result<(), Fail> {
+    let document = fs::read_to_string(rt, "deep.job")?;
+    let text = fs::read_to_string(rt, "deep.text")?;
+    jobs::run(rt, document.as_str(), text.as_str())?;
     Ok(())
 }

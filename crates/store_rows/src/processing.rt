@@ -80,17 +80,40 @@ fn is_stopped(
 ) -> Result<bool, Wrong> {
     let head = format!(in rt.alloc(); "P reels=3 {leave}")?;
     let setting = Setting::parse(head.as_str())?;
-    let process = Event::Device(Device::Process, 3);
-    let mut system = setting.system(rt.alloc())?;
-    play(rt, &mut system, before)?;
-    if !stops(rt, &mut system, device, k, &process)? {
+    if !is_stopped_once(rt, &setting, before, &Event::Device(device, k), false)? {
         return Ok(false);
     }
-    goes_on(rt, &mut system)?;
+    is_stopped_once(rt, &setting, before, &Event::Device(device, k), true)
+}
+
+/// The same with one of the two behind it.
+fn is_stopped_once(
+    rt: &HostRuntime,
+    setting: &Setting,
+    before: &str,
+    stop: &Event,
+    is_restored: bool,
+) -> Result<bool, Wrong> {
     let mut system = setting.system(rt.alloc())?;
-    play(rt, &mut system, before)?;
-    stops(rt, &mut system, device, k, &process)?;
-    restores(rt, &mut system)?;
+    is_stopped_on(rt, &mut system, before, stop, is_restored)
+}
+
+fn is_stopped_on(
+    rt: &HostRuntime,
+    system: &mut System,
+    before: &str,
+    stop: &Event,
+    is_restored: bool,
+) -> Result<bool, Wrong> {
+    play(rt, system, before)?;
+    if !stops(rt, system, stop, &Event::Device(Device::Process, 3))? {
+        return Ok(false);
+    }
+    if is_restored {
+        restores(rt, system)?;
+    } else {
+        goes_on(rt, system)?;
+    }
     Ok(true)
 }
 

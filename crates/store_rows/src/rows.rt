@@ -48,7 +48,7 @@ pub(crate) fn run(rt: &HostRuntime, beginnings: &str, text: &str) -> Result<(), 
             return Err("a row without events".into());
         };
         let setting = Setting::parse(head)?;
-        match played(rt, &setting, beginnings, lines)? {
+        match played(rt, &setting, beginnings, lines) {
             Ok(()) => println!(rt; "{} as it should be", setting.name)?,
             Err(why) => println!(rt; "{} differs: {}", setting.name, why.0)?,
         }
@@ -57,17 +57,22 @@ pub(crate) fn run(rt: &HostRuntime, beginnings: &str, text: &str) -> Result<(), 
 }
 
 /// Runs a row.
-fn played(
+fn played(rt: &HostRuntime, setting: &Setting, beginnings: &str, lines: &str) -> Result<(), Wrong> {
+    let mut system = setting.system(rt.alloc())?;
+    played_on(rt, &mut system, setting.on, beginnings, lines)
+}
+
+fn played_on(
     rt: &HostRuntime,
-    setting: &Setting,
+    system: &mut System,
+    on: &str,
     beginnings: &str,
     lines: &str,
-) -> Result<Result<(), Wrong>, Fail> {
-    let mut system = setting.system(rt.alloc())?;
-    for name in setting.on.split(',') {
-        play(rt, &mut system, beginning(beginnings, name))?;
+) -> Result<(), Wrong> {
+    for name in on.split(',') {
+        play(rt, system, beginning(beginnings, name))?;
     }
-    Ok(play(rt, &mut system, lines))
+    play(rt, system, lines)
 }
 
 /// The events with which a row begins, none where the text has no such name.

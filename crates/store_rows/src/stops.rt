@@ -38,27 +38,33 @@ fn stops_of(rt: &HostRuntime, before: &str, leave: &str) -> Result<u32, Wrong> {
 fn is_stopped(rt: &HostRuntime, before: &str, leave: &str, k: u32) -> Result<bool, Wrong> {
     let head = format!(in rt.alloc(); "E disc=2181 capacity=20 leave={leave}")?;
     let mut system = Setting::parse(head.as_str())?.system(rt.alloc())?;
-    play(rt, &mut system, before)?;
+    is_stopped_on(rt, &mut system, before, k)
+}
+
+fn is_stopped_on(
+    rt: &HostRuntime,
+    system: &mut System,
+    before: &str,
+    k: u32,
+) -> Result<bool, Wrong> {
+    play(rt, system, before)?;
+    let stop = Event::Device(Device::StopDisc, k);
     let put = Event::Ask("MASTER", Ask::OnFile("E", OnFile::Put(b'E', 600)));
-    if !stops(rt, &mut system, Device::StopDisc, k, &put)? {
+    if !stops(rt, system, &stop, &put)? {
         return Ok(false);
     }
-    is_whole(rt, &mut system)?;
+    is_whole(rt, system)?;
     Ok(true)
 }
 
-/// Whether this write of the device, which fails, stops the event.
+/// Whether an event is stopped, where a write of a device is to fail.
 pub(crate) fn stops(
     rt: &HostRuntime,
     system: &mut System,
-    device: Device,
-    k: u32,
+    stop: &Event,
     event: &Event,
 ) -> Result<bool, Wrong> {
-    if !matches!(
-        system.happens(rt.alloc(), &Event::Device(device, k)),
-        Ok(Answer::Done)
-    ) {
+    if !matches!(system.happens(rt.alloc(), stop), Ok(Answer::Done)) {
         return Err(Wrong("the device takes no stop"));
     }
     match system.happens(rt.alloc(), event) {

@@ -1,4 +1,5 @@
 use Rattle.std.proofs.Common.{◌<◌, ◌∙◌, Err, ap, arith, inl, inr, length, refl}
+use Rattle.std.proofs.lemmas.Result.{err_from_is_err_and}
 use Rattle.g_shelf.proofs.LastLemmas.{only_these}
 use Rattle.g_shelf.proofs.RackLemmas.{many_after_reads, none_refused}
 use Rattle.g_known.proofs.KnownLemmas.{all_listed, none_listed, one_listed}
@@ -13,14 +14,15 @@ loop-i-init g c = rw c.new-lists.ensures.items (none_listed _)
 pub loop-i-preserved : goal.loop-i-preserved
 loop-i-preserved g c =
     let within : c.loop-i.i < length (g.T.Tapes.rack c.args.tapes.now).reels = omega arith in
-    one_listed _ _ _ _ _ _ _ (g.met.T.Tapes.well_formed _) c.loop-i.invariant within c.serial-serial.ensures c.in-Ok.ensures.noted c.in-Ok.ensures.reads.only
-    (c.in-Ok.ensures.reads.kept (λ wrong. let no : ⊥ = cc in no)) c.in-Ok-push.ensures.items
+    one_listed _ _ _ _ _ _ _ (g.met.T.Tapes.well_formed _) c.loop-i.invariant within c.serial-serial.ensures c.in_ok-notes.ensures.noted c.in_ok-notes.ensures.reads.only
+    (c.in_ok-notes.ensures.reads.kept (λ wrong. let no : ⊥ = cc in no)) c.in-Ok.ensures.items
 
-pub returns-in-Err-clause-faults : goal.returns-in-Err-clause-faults
-returns-in-Err-clause-faults g c =
+pub returns-in_err-notes-clause-faults : goal.returns-in_err-notes-clause-faults
+returns-in_err-notes-clause-faults g c =
     let within : c.loop-i.i < length (g.T.Tapes.rack c.args.tapes.now).reels = omega arith in
     let free = none_refused _ _ _ _ (g.met.T.Tapes.well_formed _) c.requires.mounted c.loop-i.invariant.only within c.serial-serial.ensures in
-    elim (only_these _ _ _ _ free c.in-Err.ensures.reads) [ inl is ↦ inl (ap Err is) | inr is ↦ inr (ap Err is) ]
+    let (fault, is, same) = err_from_is_err_and c.from_residual.result c.from_residual.ensures.1 in
+    rw is (elim (only_these _ _ _ _ free c.in_err-notes.ensures.reads) [ inl read ↦ inl (cc) | inr memory ↦ inr (cc) ])
 
 pub returns-clause-lists : goal.returns-clause-lists
 returns-clause-lists g c = all_listed _ _ _ _ (omega arith) c.loop-i.invariant
