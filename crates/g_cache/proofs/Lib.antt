@@ -1,2 +1,3 @@
+pub mod AbsentLemmas
 pub mod KeptLemmas
 pub mod PlaceLemmas

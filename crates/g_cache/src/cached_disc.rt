@@ -1,8 +1,10 @@
 //! A disc that is read through a cache.
-ghost use Rattle.std.specs.Prelude.{◌≡◌, ◌<◌, ◌≤◌, [], IfErr, IfOk, Some};
+ghost use Rattle.std.specs.Prelude.{◌≡◌, ◌<◌, ◌≤◌, [], IfErr, IfOk, None, Some};
 ghost use Rattle.g_base.specs.Fuse.{armed_with};
-ghost use Rattle.g_cache.specs.CachedDisc.{CachedReads, CachedWrites, cached_with};
+ghost use Rattle.g_cache.specs.Absent.{AreAbsent};
+ghost use Rattle.g_cache.specs.CachedDisc.{CachedReads, CachedWrites, cached_with, kept_block, without_block};
 
+use crate::absent::AbsentBlocks;
 use crate::block_cache::BlockCache;
 use g_base::{Block, NoMemory};
 use g_disc::{Disc, ReadFailed, WriteFailed};
@@ -15,9 +17,12 @@ use std::marker::Model;
 pub struct CachedDisc<D: Disc> {
     disc: D,
     cache: BlockCache,
+    /// Blocks that the cache hasn't, so that a write needn't look for them there.
+    absent: AbsentBlocks,
 }
 
 impl<D: Disc> Model for CachedDisc<D> {
+    ghost use Rattle.g_cache.specs.Absent.{AreAbsent};
     ghost use Rattle.g_cache.specs.CachedDisc.{Cached, Agrees, cached_code, cached_with};
 
     ghost Value = { Cached D };
@@ -26,7 +31,7 @@ impl<D: Disc> Model for CachedDisc<D> {
 
     ghost view = { λ c. cached_with c.disc c.cache };
 
-    ghost invariant = { λ c. Agrees c.cache (D.state c.disc).held };
+    ghost invariant = { λ c. (Agrees c.cache (D.state c.disc).held) × (AreAbsent c.absent c.cache) };
 }
 
 impl<D: Disc> CachedDisc<D> {
@@ -37,7 +42,11 @@ impl<D: Disc> CachedDisc<D> {
         ensures unchanged { IfErr result (λ e. e.1 ≡ disc) }
     {
         match BlockCache::new(alloc) {
-            Ok(cache) => Ok(CachedDisc { disc, cache }),
+            Ok(cache) => Ok(CachedDisc {
+                disc,
+                cache,
+                absent: AbsentBlocks::new(),
+            }),
             Err(_) => Err((NoMemory, disc)),
         }
     }
@@ -68,6 +77,7 @@ impl<D: Disc> Disc for CachedDisc<D> {
         }
         self.disc.read(k, into)?;
         self.cache.keep(k, into);
+        self.absent.strike(k);
         Ok(())
     }
 
@@ -76,7 +86,7 @@ impl<D: Disc> Disc for CachedDisc<D> {
         requires { k < (D.state self.old.disc).size }
         ensures { CachedWrites D.state k from.now self.old self.new result }
     {
-        self.cache.forget(k);
+        forget(&mut self.cache, &mut self.absent, k);
         self.disc.write(k, from)
     }
 
@@ -88,4 +98,18 @@ impl<D: Disc> Disc for CachedDisc<D> {
     {
         self.disc.arm(k);
     }
+}
+
+/// Keeps block k no more, and looks for it only where it isn't known to be absent; then it is.
+fn forget(cache: &mut BlockCache, absent: &mut AbsentBlocks, k: u32)
+    requires { AreAbsent absent.old cache.old }
+    ensures gone { kept_block k cache.new ≡ None }
+    ensures others { cache.new ≡ without_block k cache.old }
+    ensures absent { AreAbsent absent.new cache.new }
+{
+    if absent.has(k) {
+        return;
+    }
+    cache.forget(k);
+    absent.note(k);
 }

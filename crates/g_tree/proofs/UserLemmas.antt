@@ -17,7 +17,7 @@ use Rattle.g_entry.specs.Rules.{AreUsers}
 use Rattle.g_plain.specs.PlainTree.{UserRow, FileRow, Tree, is_version_of}
 use Rattle.g_plain.proofs.TextMaps.{text_total, text_exact}
 use Rattle.g_tree.specs.Records.{IsRecords, name_of, full_of, traps_named, user_row_of, file_row_of, tree_of}
-use Rattle.g_tree.specs.State.{IsKept}
+use Rattle.g_tree.specs.State.{IsKept, later}
 use Rattle.g_tree.proofs.ListLemmas.{map_of_map, around, filter_same_on}
 use Rattle.g_tree.proofs.MapLemmas.{keyed, with_value, AreApart, none_found, find_valued, made_middle, made_other}
 use Rattle.g_tree.proofs.RecordLemmas.{name_at}
@@ -112,7 +112,7 @@ module _ (users : List UserRec) (files : List FileRec) (n : ℕ) (u : UserRec) (
   kept_set numbers generations blocks is rules = record {
     records = rules;
     index = is.index ∙ ap (λ ns. numbers_by ns files) (sym names_kept);
-    newest = λ full. is.newest full ∙ ap (λ ns. newest_by ns full files) (sym names_kept);
+    newest = λ full. is.newest full ∙ ap (λ ns. later (newest_by ns full files)) (sym names_kept);
     used = is.used;
   }
 
@@ -168,7 +168,7 @@ module _ (users : List UserRec) (files : List FileRec) (u : UserRec) (is : IsRec
         (map_same_on (λ r. (full_of users r, r.number)) (λ r. (full_of (users ++ u ∷ []) r, r.number)) files (λ k d within i. (sym (full_kept k d within) i, (get_or files k d).number)));
     newest = λ full.
         kept.newest full
-        ∙ ap (λ rs. fold max 0 (map (λ (r : FileRec). r.generation) rs))
+        ∙ ap (λ rs. later (fold max 0 (map (λ (r : FileRec). r.generation) rs)))
         (filter_same_on (λ r. is_version_of full (full_of users r)) (λ r. is_version_of full (full_of (users ++ u ∷ []) r)) files (λ k d within. ap (is_version_of full) (sym (full_kept k d within))));
     used = kept.used;
   }

@@ -25,9 +25,13 @@ pub record IndexState : Type 0 where
   pub numbers : FinMap full_cmp ℕ
   pub spare : ℕ
 
--- what all versions of a file are found by
+-- what all versions of a file are found by: the name of the first
 abbrev pub versions_of : Full → Full
-versions_of full = record full { generation = 0 }
+versions_of full = record full { generation = 1 }
+
+-- a generation behind the first, which is remembered; 0 for no other
+abbrev pub later : ℕ → ℕ
+later generation = if nat_lt 1 generation then generation else 0
 
 -- the greatest generation of a file's versions among those that are remembered, or 0
 abbrev pub newest_in : FinMap full_cmp ℕ → Full → ℕ
@@ -41,9 +45,9 @@ HasNewest old new full newest = (other : Full) → newest_in new other ≡ (if i
 abbrev pub used_of : List FileRec → ℕ → ℕ
 used_of files owner = sum_by (λ r. if r.owner == owner then blocks_for r.len else 0) files
 
--- the greatest generations that are remembered are those of the files
+-- the greatest generations that are remembered are those of the files, where they aren't the first
 abbrev pub AreNewest : List UserRec → List FileRec → FinMap full_cmp ℕ → Type 0
-AreNewest users files generations = (full : Full) → newest_in generations full ≡ newest_of users full files
+AreNewest users files generations = (full : Full) → newest_in generations full ≡ later (newest_of users full files)
 
 -- each owner's blocks are a number
 pub record AreUsed (files : List FileRec) (blocks : List ℕ) : Type 0 where

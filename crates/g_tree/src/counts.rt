@@ -1,16 +1,22 @@
 //! What is remembered of files beside their records, so that no call walks over all of them.
-ghost use Rattle.std.specs.Prelude.{◌≡◌, ℕ, ◌+◌, ◌-◌, ◌<◌, ◌≤◌, length, max, replicate, OnOk, IfOk, slice_index_or, slice_set};
+ghost use Rattle.std.specs.Prelude.{◌≡◌, ℕ, ◌+◌, ◌-◌, ◌<◌, ◌≤◌, length, map, max, remove, replicate, OnOk, IfOk, slice_index_or, slice_set};
 ghost use Rattle.std.specs.FinMap as finmap;
 ghost use Rattle.g_base.specs.Block.{blocks_for};
-ghost use Rattle.g_tree.specs.State.{versions_of, newest_in, HasNewest};
+ghost use Rattle.g_entry.specs.declared.file_rec.FileRec.{FileRec};
+ghost use Rattle.g_tree.specs.Answers.{newest_of};
+ghost use Rattle.g_tree.specs.Records.{IsRecords, full_of};
+ghost use Rattle.g_tree.specs.State.{AreNewest, HasNewest, later, newest_in, versions_of};
 
 use crate::index::Index;
+use crate::scan::newest_besides;
 use g_base::{NoMemory, blocks_for};
+use g_entry::{BoxedRec, UserRec};
 use g_name::Full;
 use std::alloc::Global;
 
-/// The greatest generation of each file's versions, by its full name with generation 0, and the blocks
-/// of 512 bytes of each owner's files, by the owner's number.
+/// The greatest generation of each file's versions where it isn't the first, by the full name of the
+/// first, and the blocks of 512 bytes of each owner's files, by the owner's number. Most files have a
+/// first generation alone: what the index says of it isn't said twice.
 #[derive(Drop)]
 pub(crate) struct Counts {
     generations: Index,
@@ -39,7 +45,7 @@ impl Counts {
         self.generations.reserve(more)
     }
 
-    /// The greatest generation of the versions of this file, or 0.
+    /// The greatest generation of the versions of this file where it isn't the first, or 0.
     pub fn newest(&self, full: &Full) -> u16
         ensures { result ≡ newest_in self.now.generations.numbers full.now }
     {
@@ -51,24 +57,89 @@ impl Counts {
         requires { 1 ≤ self.old.generations.spare }
         ensures generations { let newest = newest_in self.old.generations.numbers full.now in
             HasNewest self.old.generations.numbers self.new.generations.numbers full.now
-            (max newest full.now.generation) }
+            (max newest (later full.now.generation)) }
         ensures blocks { self.new.blocks.items ≡ self.old.blocks.items }
         ensures spare { self.old.generations.spare ≤ self.new.generations.spare + 1 }
     {
+        if full.generation < 2 {
+            return;
+        }
         if self.newest(full) < full.generation {
             self.generations.insert(versions_of(full), full.generation);
         }
     }
 
-    /// A version fewer: the greatest generation of those that are left, or 0.
-    pub fn fall(&mut self, full: &Full, newest: u16)
+    /// A version fewer: that of the file at this place.
+    pub fn drop_version(
+        &mut self,
+        index: &Index,
+        users: &[UserRec],
+        files: &[BoxedRec],
+        place: usize,
+        full: &Full,
+    )
+        requires records { IsRecords users.now files.now }
+        requires index { index.now.numbers
+            ≡ finmap.from_entries (map (λ r. (full_of users.now r, r.number)) files.now) }
+        requires newest { AreNewest users.now files.now self.old.generations.numbers }
+        requires there { place < length files.now }
+        requires named { (d : FileRec) → full.now ≡ full_of users.now (slice_index_or files.now place d) }
+        ensures newest { AreNewest users.now (remove files.now place) self.new.generations.numbers }
+        ensures blocks { self.new.blocks.items ≡ self.old.blocks.items }
+        ensures spare { self.old.generations.spare ≤ self.new.generations.spare }
+    {
+        if full.generation < 2 {
+            return;
+        }
+        let newest = self.newest_but(index, users, files, place, full);
+        self.fall(full, newest);
+    }
+
+    /// The greatest generation of the versions of the file at this place, which isn't the first of
+    /// them, but of itself.
+    fn newest_but(
+        &self,
+        index: &Index,
+        users: &[UserRec],
+        files: &[BoxedRec],
+        place: usize,
+        full: &Full,
+    ) -> u16
+        requires records { IsRecords users.now files.now }
+        requires index { index.now.numbers
+            ≡ finmap.from_entries (map (λ r. (full_of users.now r, r.number)) files.now) }
+        requires newest { AreNewest users.now files.now self.now.generations.numbers }
+        requires there { place < length files.now }
+        requires named { (d : FileRec) → full.now ≡ full_of users.now (slice_index_or files.now place d) }
+        requires behind { 1 < full.now.generation }
+        ensures { result ≡ newest_of users.now full.now (remove files.now place) }
+    {
+        let newest = self.newest(full);
+        if newest != full.generation {
+            return newest;
+        }
+        // Most often the version before is there.
+        let generation = newest - 1;
+        let before = Full {
+            generation,
+            ..full.copy()
+        };
+        if index.find(&before).is_some() {
+            return generation;
+        }
+        newest_besides(users, full, files, place)
+    }
+
+    /// The greatest generation of the versions of this file is this one now, or there is none: 0.
+    fn fall(&mut self, full: &Full, newest: u16)
         requires { 1 ≤ newest_in self.old.generations.numbers full.now }
-        ensures generations { HasNewest self.old.generations.numbers self.new.generations.numbers full.now newest }
+        ensures generations { HasNewest self.old.generations.numbers self.new.generations.numbers full.now
+            (later newest) }
         ensures blocks { self.new.blocks.items ≡ self.old.blocks.items }
         ensures spare { self.old.generations.spare ≤ self.new.generations.spare }
     {
         let name = versions_of(full);
-        if newest == 0 {
+        if newest < 2 {
             self.generations.remove(&name);
         } else {
             self.generations.replace(&name, newest);
@@ -109,14 +180,14 @@ impl Counts {
     }
 }
 
-/// What all versions of a file are found by.
-fn versions_of(full: &Full) -> Full
+/// What all versions of a file are found by: the name of the first.
+pub(crate) fn versions_of(full: &Full) -> Full
     ensures { result ≡ versions_of full.now }
 {
     Full {
         user: full.user.copy(),
         local: full.local.copy(),
-        generation: 0,
+        generation: 1,
         lang: full.lang.copy(),
     }
 }

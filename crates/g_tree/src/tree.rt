@@ -1,18 +1,18 @@
 //! The users and files of a filestore, and what is asked of them.
-ghost use Rattle.std.specs.Prelude.{◌≡◌, ℕ, ◌≤◌, ◌*◌, List, IfOk, IfSome, IfNone, is_some, slice_get, slice_index_or, length, remove, ◌<◌, []};
+ghost use Rattle.std.specs.Prelude.{◌≡◌, ℕ, ◌≤◌, ◌*◌, List, IfOk, IfSome, IfNone, is_some, slice_get, []};
 ghost use Rattle.std.specs.Option.{option_copied};
 ghost use Rattle.std.specs.FinMap as finmap;
 ghost use Rattle.g_plain.specs.PlainTree as tree;
-ghost use Rattle.g_tree.specs.Records.{IsRecords, ForTree, HasLengths, name_of, name_of_file, full_of, tree_of, users_by_name, by_number, number_of};
+ghost use Rattle.g_tree.specs.Records.{IsRecords, ForTree, HasLengths, name_of, name_of_file, tree_of, users_by_name, by_number, number_of};
 ghost use Rattle.g_tree.specs.State.{first_user, first_users};
 ghost use Rattle.g_tree.specs.Answers.{IsOutput, IsFileOrNew, newest_of, listed};
 
 mod changes;
 mod rights;
 
-use crate::counts::Counts;
+use crate::counts::{Counts, versions_of};
 use crate::index::Index;
-use crate::scan::{newest_besides, place_of, sorted_of};
+use crate::scan::{place_of, sorted_of};
 use crate::{NumberList, Output};
 use g_base::NoMemory;
 use g_entry::{BoxedRec, FileRec, UserRec};
@@ -285,30 +285,14 @@ impl Tree {
         ensures few { result ≤ 4095 }
         ensures records { IsRecords self.now.users self.now.files }
     {
-        self.counts.newest(name)
-    }
-
-    /// The greatest generation of the versions of the file at this place, but of itself.
-    fn newest_but(&self, place: usize, full: &Full) -> u16
-        requires there { place < length self.now.files }
-        requires named { (d : FileRec) → full.now
-            ≡ full_of self.now.users (slice_index_or self.now.files place d) }
-        ensures { result ≡ newest_of self.now.users full.now (remove self.now.files place) }
-    {
-        let newest = self.newest(full);
-        if newest != full.generation {
+        let newest = self.counts.newest(name);
+        if newest > 0 {
             return newest;
         }
-        // Most often the version before is there, or there is no other.
-        let generation = newest - 1;
-        let before = Full {
-            generation,
-            ..full.copy()
-        };
-        if generation == 0 || self.number_of(&before).is_some() {
-            return generation;
+        match self.index.find(&versions_of(name)) {
+            Some(_) => 1,
+            None => 0,
         }
-        newest_besides(self.users.as_slice(), full, self.files.as_slice(), place)
     }
 }
 

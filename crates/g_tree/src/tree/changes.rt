@@ -180,9 +180,14 @@ impl Tree {
         ensures files { self.new.files ≡ slice_set self.old.files place file }
         ensures spare { self.old.spare ≤ self.new.spare + 1 }
     {
-        let newest = self.newest_but(place, old);
+        self.counts.drop_version(
+            &self.index,
+            self.users.as_slice(),
+            self.files.as_slice(),
+            place,
+            old,
+        );
         let was = self.files[place].get();
-        self.counts.fall(old, newest);
         self.counts.rise(&full);
         self.counts.give(was.owner, was.len);
         self.counts.take(file.owner, file.len);
@@ -206,10 +211,15 @@ impl Tree {
         match place_of(self.files.as_slice(), number) {
             Ok(place) => {
                 let full = full_of(self.users.as_slice(), self.files[place].get());
-                let newest = self.newest_but(place, &full);
+                self.counts.drop_version(
+                    &self.index,
+                    self.users.as_slice(),
+                    self.files.as_slice(),
+                    place,
+                    &full,
+                );
                 let boxed = self.files.remove(place);
                 let file = boxed.get();
-                self.counts.fall(&full, newest);
                 self.counts.give(file.owner, file.len);
                 self.index.remove(&full);
                 keep_room(&mut self.room, boxed);
