@@ -50,14 +50,16 @@ pub enum PeriFault {
 pub struct Units {
     readers: Vec<Option<Deck>>,
     writers: Writers,
+    /// None was assigned yet, so that a job's end needn't look at each.
+    is_unused: bool,
     alloc: Global,
 }
 
 impl Model for Units {
-    ghost use Rattle.std.specs.Prelude.{◌≡◌, vec_len, length, All};
+    ghost use Rattle.std.specs.Prelude.{◌≡◌, vec_len, length, true, All};
     ghost use Rattle.std.specs.Coded.{codes};
     ghost use Rattle.g_name.specs.contracts.path.Path as path;
-    ghost use Rattle.g_peri.specs.JobUnits.{Held, IsShort};
+    ghost use Rattle.g_peri.specs.JobUnits.{Held, IsShort, vacant};
 
     ghost Value = { Held };
 
@@ -65,7 +67,8 @@ impl Model for Units {
 
     ghost view = { λ u. record { readers = u.readers.items; writers = u.writers } };
 
-    ghost invariant = { λ u. (vec_len u.readers ≡ 8) × (length u.writers ≡ 16) × All IsShort u.writers };
+    ghost invariant = { λ u. (vec_len u.readers ≡ 8) × (length u.writers ≡ 16) × All IsShort u.writers
+        × (u.is_unused ≡ true → record { readers = u.readers.items; writers = u.writers } ≡ vacant) };
 }
 
 impl Units {
@@ -78,8 +81,16 @@ impl Units {
         Ok(Units {
             readers,
             writers,
+            is_unused: true,
             alloc,
         })
+    }
+
+    /// Whether no unit was assigned since they were made; behind that of one they aren't unused any more. It looks at none.
+    pub fn are_unused(&self) -> bool
+        ensures { result ≡ true → self.now ≡ held.vacant }
+    {
+        self.is_unused
     }
 
     /// Whether a unit is assigned.
@@ -106,6 +117,7 @@ impl Units {
         if self.assigned(unit) {
             return Err(UnitFault::InUse);
         }
+        self.is_unused = false;
         self.readers[usize::from(unit.number)] = Some(Deck::new(bytes));
         Ok(())
     }
@@ -124,6 +136,7 @@ impl Units {
             return Err(UnitFault::InUse);
         }
         let text = Text::new(self.alloc);
+        self.is_unused = false;
         self.writers.set(unit.place(), Some((path, text)));
         Ok(())
     }
@@ -140,6 +153,7 @@ impl Units {
         if !self.assigned(unit) {
             return Err(UnitFault::NotAssigned);
         }
+        self.is_unused = false;
         match unit.kind {
             Kind::Cr => {
                 self.readers[usize::from(unit.number)] = None;
@@ -210,6 +224,7 @@ impl Units {
         ensures { self.new ≡ held.with_reader self.old place
             (option_map (drop 1) (held.at_place self.old.readers place)) }
     {
+        self.is_unused = false;
         if let Some(deck) = &mut self.readers[place] {
             deck.pass();
         }
@@ -257,6 +272,7 @@ impl Units {
             (option_map (λ o. (o.0, o.1 ++ bytes.now)) (held.at_place self.old.writers place))) }
         ensures err { OnErr result (self.new ≡ self.old) }
     {
+        self.is_unused = false;
         self.writers.extend(place, bytes)
     }
 }

@@ -115,7 +115,7 @@ pub(crate) fn vacant<T: Drop>(alloc: Global, count: usize) -> Result<Vec<Option<
 {
     let mut places = Vec::with_capacity(alloc, count)?;
     for _ in 0..count {
-        places.push(None)?;
+        places.push_reserved(None);
     }
     Ok(places)
 }
