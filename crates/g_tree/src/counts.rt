@@ -23,6 +23,14 @@ pub(crate) struct Counts {
     blocks: Vec<u32>,
 }
 
+/// A file at its place among the others, and the users who own them.
+#[derive(Drop)]
+pub(crate) struct Standing<'a> {
+    pub users: &'a [UserRec],
+    pub files: &'a [BoxedRec],
+    pub place: usize,
+}
+
 impl Counts {
     /// No file.
     pub fn new(alloc: Global) -> Result<Counts, NoMemory>
@@ -70,49 +78,37 @@ impl Counts {
     }
 
     /// A version fewer: that of the file at this place.
-    pub fn drop_version(
-        &mut self,
-        index: &Index,
-        users: &[UserRec],
-        files: &[BoxedRec],
-        place: usize,
-        full: &Full,
-    )
-        requires records { IsRecords users.now files.now }
+    pub fn drop_version(&mut self, index: &Index, at: Standing, full: &Full)
+        requires records { IsRecords at.users.now at.files.now }
         requires index { index.now.numbers
-            ≡ finmap.from_entries (map (λ r. (full_of users.now r, r.number)) files.now) }
-        requires newest { AreNewest users.now files.now self.old.generations.numbers }
-        requires there { place < length files.now }
-        requires named { (d : FileRec) → full.now ≡ full_of users.now (slice_index_or files.now place d) }
-        ensures newest { AreNewest users.now (remove files.now place) self.new.generations.numbers }
+            ≡ finmap.from_entries (map (λ r. (full_of at.users.now r, r.number)) at.files.now) }
+        requires newest { AreNewest at.users.now at.files.now self.old.generations.numbers }
+        requires there { at.place < length at.files.now }
+        requires named { (d : FileRec) → full.now
+            ≡ full_of at.users.now (slice_index_or at.files.now at.place d) }
+        ensures newest { let a = at.entry in AreNewest a.users.now (remove a.files.now a.place) self.new.generations.numbers }
         ensures blocks { self.new.blocks.items ≡ self.old.blocks.items }
         ensures spare { self.old.generations.spare ≤ self.new.generations.spare }
     {
         if full.generation < 2 {
             return;
         }
-        let newest = self.newest_but(index, users, files, place, full);
+        let newest = self.newest_but(index, at, full);
         self.fall(full, newest);
     }
 
     /// The greatest generation of the versions of the file at this place, which isn't the first of
     /// them, but of itself.
-    fn newest_but(
-        &self,
-        index: &Index,
-        users: &[UserRec],
-        files: &[BoxedRec],
-        place: usize,
-        full: &Full,
-    ) -> u16
-        requires records { IsRecords users.now files.now }
+    fn newest_but(&self, index: &Index, at: Standing, full: &Full) -> u16
+        requires records { IsRecords at.users.now at.files.now }
         requires index { index.now.numbers
-            ≡ finmap.from_entries (map (λ r. (full_of users.now r, r.number)) files.now) }
-        requires newest { AreNewest users.now files.now self.now.generations.numbers }
-        requires there { place < length files.now }
-        requires named { (d : FileRec) → full.now ≡ full_of users.now (slice_index_or files.now place d) }
+            ≡ finmap.from_entries (map (λ r. (full_of at.users.now r, r.number)) at.files.now) }
+        requires newest { AreNewest at.users.now at.files.now self.now.generations.numbers }
+        requires there { at.place < length at.files.now }
+        requires named { (d : FileRec) → full.now
+            ≡ full_of at.users.now (slice_index_or at.files.now at.place d) }
         requires behind { 1 < full.now.generation }
-        ensures { result ≡ newest_of users.now full.now (remove files.now place) }
+        ensures { let a = at.entry in result ≡ newest_of a.users.now full.now (remove a.files.now a.place) }
     {
         let newest = self.newest(full);
         if newest != full.generation {
@@ -127,7 +123,7 @@ impl Counts {
         if index.find(&before).is_some() {
             return generation;
         }
-        newest_besides(users, full, files, place)
+        newest_besides(at.users, full, at.files, at.place)
     }
 
     /// The greatest generation of the versions of this file is this one now, or there is none: 0.

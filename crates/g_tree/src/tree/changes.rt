@@ -8,7 +8,7 @@ ghost use Rattle.g_tree.specs.Records.{IsRecords, name_of, full_of, user_row_of,
 ghost use Rattle.g_tree.specs.Places.{StandsAt};
 ghost use Rattle.g_tree.specs.State.{AreNewest, AreUsed, room_of, with_file, without_file, without_number};
 
-use crate::counts::Counts;
+use crate::counts::{Counts, Standing};
 use crate::index::Index;
 use crate::scan::{full_of, has_same_name, place_of};
 use crate::tree::Tree;
@@ -180,13 +180,12 @@ impl Tree {
         ensures files { self.new.files ≡ slice_set self.old.files place file }
         ensures spare { self.old.spare ≤ self.new.spare + 1 }
     {
-        self.counts.drop_version(
-            &self.index,
-            self.users.as_slice(),
-            self.files.as_slice(),
+        let at = Standing {
+            users: self.users.as_slice(),
+            files: self.files.as_slice(),
             place,
-            old,
-        );
+        };
+        self.counts.drop_version(&self.index, at, old);
         let was = self.files[place].get();
         self.counts.rise(&full);
         self.counts.give(was.owner, was.len);
@@ -211,13 +210,12 @@ impl Tree {
         match place_of(self.files.as_slice(), number) {
             Ok(place) => {
                 let full = full_of(self.users.as_slice(), self.files[place].get());
-                self.counts.drop_version(
-                    &self.index,
-                    self.users.as_slice(),
-                    self.files.as_slice(),
+                let at = Standing {
+                    users: self.users.as_slice(),
+                    files: self.files.as_slice(),
                     place,
-                    &full,
-                );
+                };
+                self.counts.drop_version(&self.index, at, &full);
                 let boxed = self.files.remove(place);
                 let file = boxed.get();
                 self.counts.give(file.owner, file.len);
