@@ -100,6 +100,10 @@ up_again text shelf rack p q d contents pins changed touched was =
           record { rules = is.rules; rack = is.rack; disc = is.disc; opening = record { each = is.opening.each } };
     }
 
+-- a serial that a reel has
+pub serial_among : (rs : List Reel) (r : Reel) → Contains rs r → Contains (map (λ (x : Reel). x.serial) rs) r.serial
+serial_among rs r there = mapped_there (λ (x : Reel). x.serial) rs r there
+
 -- THE REEL is there, and the place is the end of its dumps
 module _ (serial place : ℕ) (rack after : Rack) (on : Reel) (reads : OnlyReads rack after) (on_is : reel serial after.reels ≡ Some on) (end_is : IsEnd serial rack place)
     (told : ReelsTold (told_reels after)) (shelf : ℕ → List Dump) (shelved : AreShelved shelf (told_reels after)) where
