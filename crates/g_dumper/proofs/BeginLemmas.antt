@@ -1,8 +1,7 @@
 -- How an opening is answered, from what was read of the reel and what became of the filestore.
-use Rattle.std.proofs.Common.{◌≡◌, ◌≢◌, ℕ, zero, suc, ◌+◌, ◌-◌, ◌^◌, ◌<◌, ◌≤◌, ◌==◌, Bool, true, false, List, [], ◌∷◌, Option, Some, None, Ok, Err, refl, sym, ◌∙◌, ap, arith, subst, inl, inr}
-use Rattle.std.specs.Prelude.{◌⊎◌, IfOk, Result, if◌then◌else◌, is_some, option_map}
+use Rattle.std.proofs.Common.{◌≡◌, ◌≢◌, ℕ, zero, suc, ◌+◌, ◌-◌, ◌^◌, ◌<◌, ◌≤◌, Bool, true, false, List, [], Option, Some, None, Ok, Err, refl, sym, ◌∙◌, ap, arith, subst}
+use Rattle.std.specs.Prelude.{IfOk, Result, if◌then◌else◌, is_some, option_map}
 use Rattle.std.specs.Option.{ForSome}
-use Rattle.std.proofs.lemmas.Bool.{cases_Bool, cond-false, cond-true, eqb-true}
 use Rattle.std.proofs.lemmas.Option.{none-some, same_Some}
 use Rattle.g_entry.specs.HeadFields.{IsSerial}
 use Rattle.g_tape.specs.declared.fault.TapeFault.{TapeFault}
@@ -11,6 +10,7 @@ use Rattle.g_tape.specs.Rack.{AreReels, Rack, reel, refuses_unmount}
 use Rattle.g_tape.specs.Reads.{OnlyReads, blocks_of, unread}
 use Rattle.g_tape.specs.Reel.{IsReel, Reel}
 use Rattle.g_tape.proofs.ReadLemmas.{is_reel, reel_after_reads}
+use Rattle.g_tape.proofs.PlaceLemmas.{reel-found}
 use Rattle.g_plain.specs.declared.faults.StoreFault.{StoreFault}
 use Rattle.g_plain.specs.declared.faults.StoreFault.TheVariants.{CountersSpent, NoTape, NotMounted, Stopped, TapeFull, TapeReadFault}
 use Rattle.g_disc_contents.specs.Contents.{Contents}
@@ -30,13 +30,7 @@ use Rattle.g_dumper.proofs.PlanLemmas.{plan_keeps, plan_pinned}
 
 -- the reel of a serial has it
 pub reel_named : (s : ℕ) (rs : List Reel) (r : Reel) → reel s rs ≡ Some r → r.serial ≡ s
-reel_named s [] r is = absurd (none-some r is)
-reel_named s (q ∷ qs) r is = by_serial (cases_Bool (s == q.serial)) (reel_named s qs r)
-  where
-    by_serial : ((s == q.serial) ≡ true) ⊎ ((s == q.serial) ≡ false) → (reel s qs ≡ Some r → r.serial ≡ s) → r.serial ≡ s
-    by_serial (inl same) rest =
-        sym (ap (λ (x : Reel). x.serial) (same_Some q r (sym (cond-true (s == q.serial) (Some q) (reel s qs) same) ∙ is))) ∙ sym (eqb-true s q.serial same)
-    by_serial (inr other) rest = rest (sym (cond-false (s == q.serial) (Some q) (reel s qs) other) ∙ is)
+reel_named s rs r is = (reel-found s rs r is).1
 
 -- a reel behind reads is the same but for how often it was read
 pub after_reads : (o p : Option Reel) (r : Reel) → p ≡ Some r → option_map unread o ≡ option_map unread p → (q : Reel) × (o ≡ Some q) × (unread q ≡ unread r)

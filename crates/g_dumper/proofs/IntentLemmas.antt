@@ -23,7 +23,7 @@ pub rules_here : (o : OnlineFacts) → o.live ≡ true → IsTied o → KeepsRul
 rules_here o live tied = subst KeepsRules (sym (tied.contents live)) (rules_of o.disc.size o.disc.held o.layout.directory (tied.records live) (tied.rules live))
 
 -- WHAT THE COMMIT MAKES of the contents
-intended : (told pinned : Bool) (i : Option Intent) (c : Contents) → changed told pinned (SetIntent i) c ≡ with_intent i c
+pub intended : (told pinned : Bool) (i : Option Intent) (c : Contents) → changed told pinned (SetIntent i) c ≡ with_intent i c
 unfolding changed
 intended told true i c = refl
 intended told false i c = refl

@@ -62,7 +62,7 @@ content_block serial at (r ∷ rs) pins content (suc i) part k pin block (p, res
     ∙ get_behind both.one both.rest j ∙ deeper
 
 -- A BLOCK OF CONTENT in a dump
-at_content : (d : Dump) (j k : ℕ) (block : List ℕ) → slice_get d.content j ≡ Some block → k ≡ 1 + length d.users + length d.files + j → slice_get (dump_blocks d) k ≡ Some block
+pub at_content : (d : Dump) (j k : ℕ) (block : List ℕ) → slice_get d.content j ≡ Some block → k ≡ 1 + length d.users + length d.files + j → slice_get (dump_blocks d) k ≡ Some block
 unfolding dump_blocks
 at_content d j k block is sum =
     let users : List (List ℕ) = map (user_in d) d.users in

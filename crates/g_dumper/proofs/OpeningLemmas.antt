@@ -1,5 +1,5 @@
 -- A store keeps what it keeps over the opening of a dump.
-use Rattle.std.proofs.Common.{◌≡◌, ◌≢◌, ℕ, zero, suc, ◌+◌, ◌<◌, ◌≤◌, Bool, true, false, List, [], ◌∷◌, ◌++◌, get_or, length, map, take, Option, Some, None, Ok, Err, refl, sym, ◌∙◌, ap, arith, subst, inl, inr}
+use Rattle.std.proofs.Common.{◌≡◌, ◌≢◌, ℕ, ◌+◌, ◌<◌, ◌≤◌, Bool, true, false, List, [], ◌∷◌, ◌++◌, get_or, length, map, take, Option, Some, None, Ok, Err, refl, sym, ◌∙◌, ap, subst, inl, inr}
 use Rattle.std.specs.Prelude.{◌⊎◌, All, Contains, IfErr, IfOk, IfSome, Result, is_some}
 use Rattle.std.specs.Option.{ForSome}
 use Rattle.std.proofs.lemmas.List.Elements.{All-contains, All-cons, All-head, All-nil, All-tail, Contains-get_or}
@@ -31,6 +31,7 @@ use Rattle.g_laws_store.specs.Dumping.{AreDumpable, IsPlanOf, PinsText, opened_w
 use Rattle.g_laws_store.proofs.DumpingLemmas.{events_stay_up}
 use Rattle.g_laws_store.proofs.OpeningLemmas.{opening_stays}
 use Rattle.g_laws_store.proofs.UpOneLemmas.{on_all}
+use Rattle.g_laws_memory.proofs.WaitingLemmas.{mapped_there}
 use Rattle.g_dumper.specs.Beginning.{Begins, HasOpened, IsEnd, IsSpent, LeftByRefusal, RefusesOpening, StoppedOpening, intent_of, plan_of}
 use Rattle.g_dumper.specs.Invariant.{KeepsStore, behind_opening, spent_with, up_with}
 use Rattle.g_dumper.proofs.BeginLemmas.{after_reads, reel_named}
@@ -101,11 +102,7 @@ up_again text shelf rack p q d contents pins changed touched was =
 
 -- a serial that a reel has
 pub serial_among : (rs : List Reel) (r : Reel) → Contains rs r → Contains (map (λ (x : Reel). x.serial) rs) r.serial
-serial_among [] r (i, within, is) = let no : ⊥ = omega (arith, within) in absurd no
-serial_among (q ∷ qs) r (zero, within, is) = (0, omega arith, ap (λ (x : Reel). x.serial) is)
-serial_among (q ∷ qs) r (suc i, within, is) =
-    let (j, inside, at) = serial_among qs r (i, omega (arith, within), is) in
-    (suc j, omega (arith, inside), at)
+serial_among rs r there = mapped_there (λ (x : Reel). x.serial) rs r there
 
 -- THE REEL is there, and the place is the end of its dumps
 module _ (serial place : ℕ) (rack after : Rack) (on : Reel) (reads : OnlyReads rack after) (on_is : reel serial after.reels ≡ Some on) (end_is : IsEnd serial rack place)
@@ -117,7 +114,7 @@ module _ (serial place : ℕ) (rack after : Rack) (on : Reel) (reads : OnlyReads
   on_named = reel_named serial after.reels on on_is
 
   pub serial_there : Contains (map (λ (r : Reel). r.serial) (told_reels after)) serial
-  serial_there = subst (Contains (map (λ (r : Reel). r.serial) (told_reels after))) on_named (serial_among (told_reels after) (unread on) on_there)
+  serial_there = subst (Contains (map (λ (r : Reel). r.serial) (told_reels after))) on_named (mapped_there (λ (x : Reel). x.serial) (told_reels after) (unread on) on_there)
 
   pub place_at_end : place ≡ end_of (shelf serial)
   place_at_end =

@@ -1,5 +1,5 @@
 -- The plan of a dump that is opened now keeps the rules of a plan, and its versions that wait are those that are pinned.
-use Rattle.std.proofs.Common.{◌≡◌, ◌≢◌, ℕ, zero, suc, ◌+◌, ◌-◌, ◌^◌, ◌<◌, ◌≤◌, Bool, true, false, List, [], ◌∷◌, get_or, length, map, Option, Some, None, refl, sym, ◌∙◌, ap, arith, subst, inl, inr}
+use Rattle.std.proofs.Common.{◌≡◌, ◌≢◌, ℕ, ◌+◌, ◌-◌, ◌^◌, ◌<◌, ◌≤◌, Bool, true, false, List, [], ◌∷◌, get_or, length, map, Option, Some, None, refl, sym, ◌∙◌, ap, arith, subst, inl, inr}
 use Rattle.std.specs.Prelude.{◌⊎◌, ◌&&◌, All, AllPairs, Contains, IfSome, filter, is_none, is_some, nat_lt}
 use Rattle.std.specs.Option.{ForSome}
 use Rattle.std.proofs.lemmas.Bool.{lt-ltb, ltb-true}
@@ -22,6 +22,7 @@ use Rattle.g_online.proofs.CloseNoteLemmas.{pairs_map}
 use Rattle.g_store_meaning.specs.StoreInvariant.{ArePinned}
 use Rattle.g_laws_store.proofs.ClosingLemmas.{contains_filter}
 use Rattle.g_laws_store.proofs.RecordLemmas.{from_filter}
+use Rattle.g_laws_memory.proofs.WaitingLemmas.{from_mapped, mapped_there}
 use Rattle.g_dumper.specs.Beginning.{held_of, plan_of}
 use Rattle.g_dumper.proofs.HeldLemmas.{held_all, held_few, held_ordered, held_pairs, holds_there, in_held, is_held, one_order}
 use Rattle.g_dumper.proofs.IntentLemmas.{rules_here}
@@ -83,22 +84,7 @@ yes_waits f is = record {
 abbrev rec_of : File → FileRec
 rec_of f = f.rec
 
--- a record of the files is that of a file
-file_there : (files : List File) (r : FileRec) → Contains (map rec_of files) r → (f : File) × Contains files f × (f.rec ≡ r)
-file_there [] r (i, within, is) = let no : ⊥ = omega (arith, within) in absurd no
-file_there (f ∷ fs) r (zero, within, is) = (f, (0, omega arith, refl), is)
-file_there (f ∷ fs) r (suc i, within, is) =
-    let (g, (j, inside, at), same) = file_there fs r (i, omega (arith, within), is) in
-    (g, (suc j, omega (arith, inside), at), same)
-
-rec_there : (files : List File) (f : File) → Contains files f → Contains (map rec_of files) f.rec
-rec_there [] f (i, within, is) = let no : ⊥ = omega (arith, within) in absurd no
-rec_there (g ∷ gs) f (zero, within, is) = (0, omega arith, ap rec_of is)
-rec_there (g ∷ gs) f (suc i, within, is) =
-    let (j, inside, at) = rec_there gs f (i, omega (arith, within), is) in
-    (suc j, omega (arith, inside), at)
-
-turns : (r s : FileRec) → ComesBefore r s → ComesBefore s r → ⊥
+pub turns : (r s : FileRec) → ComesBefore r s → ComesBefore s r → ⊥
 turns r s (inl less) (inl more) = omega (arith, less, more)
 turns r s (inl less) (inr (same, more)) = omega (arith, less, same)
 turns r s (inr (same, less)) (inl more) = omega (arith, same, more)
@@ -114,20 +100,20 @@ module _ (o : OnlineFacts) (live : o.live ≡ true) (tied : IsTied o) (ws : List
   is_pinned r there =
       let in_plan = (in_held o.changed (recs_in o.contents) r (from_filter waits (held_of o.changed (recs_in o.contents)) r there)).0 in
       let wait : waits r ≡ true = All-contains (λ (s : FileRec). waits s ≡ true) (waiting (held_of o.changed (recs_in o.contents))) r (filter_passes waits (held_of o.changed (recs_in o.contents))) there in
-      let (f, in_files, same) = file_there o.contents.files r in_plan in
+      let (f, in_files, same) = from_mapped rec_of o.contents.files r in_plan in
       let is : IsWaiting f = yes_waits f (ap waits same ∙ wait) in
-      subst (Contains (map rec_of ws)) same (rec_there ws f (are.every f in_files is))
+      subst (Contains (map rec_of ws)) same (mapped_there rec_of ws f (are.every f in_files is))
 
   -- and the other way round, since it is of a changed user
   is_planned : (r : FileRec) → Contains (map rec_of ws) r → Contains planned r
   unfolding planned
   is_planned r there =
-      let (f, in_ws, same) = file_there ws r there in
+      let (f, in_ws, same) = from_mapped rec_of ws r there in
       let in_files = All-contains (Contains o.contents.files) ws f are.from in_ws in
       let wait = All-contains IsWaiting ws f are.each in_ws in
       let by_user = All-contains (WaitsByUser o.changed) o.contents.files f (tied.waits live) in_files wait.filled wait.none in
       subst (Contains (waiting (held_of o.changed (recs_in o.contents)))) same
-      (contains_filter waits (held_of o.changed (recs_in o.contents)) f.rec (is_held o.changed (recs_in o.contents) f.rec (rec_there o.contents.files f in_files) by_user) (waits_yes f wait))
+      (contains_filter waits (held_of o.changed (recs_in o.contents)) f.rec (is_held o.changed (recs_in o.contents) f.rec (mapped_there rec_of o.contents.files f in_files) by_user) (waits_yes f wait))
 
   pub same_waiting : waiting (held_of o.changed (recs_in o.contents)) ≡ map rec_of ws
   unfolding planned

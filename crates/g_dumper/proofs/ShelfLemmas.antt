@@ -1,14 +1,15 @@
 -- The completed dumps of the rack behind a write of the next block of an open dump.
-use Rattle.std.proofs.Common.{◌≡◌, ◌≢◌, ℕ, zero, suc, ◌+◌, ◌<◌, ◌≤◌, ◌==◌, Bool, true, false, List, [], ◌∷◌, ◌++◌, get_or, length, map, take, Option, Some, None, refl, sym, ◌∙◌, ap, arith, subst, inl, inr}
+use Rattle.std.proofs.Common.{◌≡◌, ◌≢◌, ℕ, zero, suc, ◌+◌, ◌<◌, ◌≤◌, ◌==◌, Bool, true, List, [], ◌∷◌, ◌++◌, get_or, length, map, take, Option, Some, None, refl, sym, ◌∙◌, ap, arith, subst, inl, inr}
 use Rattle.std.specs.Prelude.{◌⊎◌, All, Contains, is_some, option_map, slice_get}
 use Rattle.std.specs.Option.{ForSome}
-use Rattle.std.proofs.lemmas.Bool.{cases_Bool, cond-false, cond-true, eq-eqb, eqb-true, ne_eqb}
-use Rattle.std.proofs.lemmas.List.Elements.{All-contains, All-head, All-tail, Contains-append_right, Contains-get_or}
-use Rattle.std.proofs.lemmas.Option.{none-some, same_Some}
+use Rattle.std.proofs.lemmas.Bool.{cond-false, cond-true, eq-eqb, eqb-true, ne_eqb}
+use Rattle.std.proofs.lemmas.List.Elements.{All-contains, All-head, All-tail, Contains-get_or}
+use Rattle.std.proofs.lemmas.Option.{same_Some}
 use Rattle.g_tape.specs.Rack.{AreReels, Rack, reel, with_reel}
 use Rattle.g_tape.specs.Reads.{unread}
 use Rattle.g_tape.specs.Reel.{IsReel, Reel, Remains, Shortened, Torn, Unchanged, ending, left_by}
 use Rattle.g_tape.proofs.ReadLemmas.{is_reel}
+use Rattle.g_tape.proofs.PlaceLemmas.{reel-found}
 use Rattle.g_disc_contents.specs.Facts.{OnlineFacts}
 use Rattle.g_incr.specs.Layout.{Dump, count_of, dump_blocks, mark_block}
 use Rattle.g_incr.specs.Plan.{dump_of, first_content, needs, waiting}
@@ -22,6 +23,7 @@ use Rattle.g_store_meaning.specs.Meaning.{told_reels}
 use Rattle.g_store_meaning.specs.Reading.{ReelsTold}
 use Rattle.g_store_meaning.specs.StoreInvariant.{DumpFacts, IsOpen, IsReady, IsUp, content_in, with_dump}
 use Rattle.g_laws_store.proofs.UpOneLemmas.{on_all, placed_at_end}
+use Rattle.g_laws_memory.proofs.WaitingLemmas.{mapped_there}
 use Rattle.g_dumper.specs.Invariant.{up_with}
 use Rattle.g_dumper.specs.Steps.{WroteBlock}
 use Rattle.g_dumper.proofs.BeginLemmas.{reel_named}
@@ -30,13 +32,7 @@ use Rattle.g_dumper.proofs.ReelLemmas.{shelf_after}
 
 -- THE REEL of a serial is among the reels that are told
 pub reel_there : (s : ℕ) (rs : List Reel) (r : Reel) → reel s rs ≡ Some r → Contains (map unread rs) (unread r)
-reel_there s [] r is = absurd (none-some r is)
-reel_there s (q ∷ qs) r is = by_serial (cases_Bool (s == q.serial)) (reel_there s qs r)
-  where
-    by_serial : ((s == q.serial) ≡ true) ⊎ ((s == q.serial) ≡ false) → (reel s qs ≡ Some r → Contains (map unread qs) (unread r)) → Contains (map unread (q ∷ qs)) (unread r)
-    by_serial (inl same) rest = (0, omega arith, ap unread (same_Some q r (sym (cond-true (s == q.serial) (Some q) (reel s qs) same) ∙ is)))
-    by_serial (inr other) rest =
-        Contains-append_right (unread q ∷ []) (map unread qs) (unread r) (rest (sym (cond-false (s == q.serial) (Some q) (reel s qs) other) ∙ is))
+reel_there s rs r is = mapped_there unread rs r (reel-found s rs r is).0
 
 pub told_is : (o : Option (List (List ℕ))) → is_some o ≡ true → (blocks : List (List ℕ)) × (o ≡ Some blocks)
 told_is None is = let no : ⊥ = cc in absurd no

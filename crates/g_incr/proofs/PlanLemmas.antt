@@ -38,6 +38,11 @@ pub record IsMade (serial from to : ℕ) (r s : FileRec) : Type 0 where
   pub traps : s.traps ≡ r.traps
   pub copy : GetsCopy serial from to r s ⊎ KeepsCopy r s
 
+-- a record is one of itself with another number and place on tape
+as_made : (serial from to n : ℕ) (r : FileRec) (tape : Option TapeCopy) → (let s : FileRec = record r { number = n; tape = tape } in GetsCopy serial from to r s ⊎ KeepsCopy r s)
+    → IsMade serial from to r (record r { number = n; tape = tape })
+as_made serial from to n r tape copy = record { owner = refl; local = refl; generation = refl; lang = refl; stamp = refl; len = refl; traps = refl; copy = copy }
+
 abbrev pub made : ℕ → ℕ → ℕ → List FileRec → List FileRec
 made serial n at rs = numbered_from n (noted_files serial at rs)
 
@@ -78,30 +83,14 @@ made_of serial n from at to (r ∷ rs) le fits i d within =
         → IsMade serial from to (get_or (r ∷ rs) i d) (get_or (made serial n at (r ∷ rs)) i d)
     by_copy (inl is) zero inside gets keeps =
         let sum = blocks_waits r rs is in
-        subst (λ (ss : List FileRec). IsMade serial from to r (get_or ss 0 d)) (sym (made_waits serial n at r rs is)) (record {
-          owner = refl;
-          local = refl;
-          generation = refl;
-          lang = refl;
-          stamp = refl;
-          len = refl;
-          traps = refl;
-          copy = inl (record { waits = is; at = at; least = le; most = omega (arith, fits, sum); tape = refl });
-        })
+        subst (λ (ss : List FileRec). IsMade serial from to r (get_or ss 0 d)) (sym (made_waits serial n at r rs is))
+        (as_made serial from to n r (Some (record { serial = serial; first = at })) (inl (record { waits = is; at = at; least = le; most = omega (arith, fits, sum); tape = refl })))
     by_copy (inl is) (suc j) inside gets keeps =
         let sum = blocks_waits r rs is in
         subst (λ (ss : List FileRec). IsMade serial from to (get_or rs j d) (get_or ss (suc j) d)) (sym (made_waits serial n at r rs is)) (gets (omega (arith, fits, sum)) j d (omega (arith, inside)))
     by_copy (inr is) zero inside gets keeps =
-        subst (λ (ss : List FileRec). IsMade serial from to r (get_or ss 0 d)) (sym (made_keeps serial n at r rs is)) (record {
-          owner = refl;
-          local = refl;
-          generation = refl;
-          lang = refl;
-          stamp = refl;
-          len = refl;
-          traps = refl;
-          copy = inr (record { waits = is; tape = refl });
-        })
+        subst (λ (ss : List FileRec). IsMade serial from to r (get_or ss 0 d)) (sym (made_keeps serial n at r rs is))
+        (as_made serial from to n r r.tape (inr (record { waits = is; tape = refl })))
     by_copy (inr is) (suc j) inside gets keeps =
         let sum = blocks_keeps r rs is in
         subst (λ (ss : List FileRec). IsMade serial from to (get_or rs j d) (get_or ss (suc j) d)) (sym (made_keeps serial n at r rs is)) (keeps (omega (arith, fits, sum)) j d (omega (arith, inside)))

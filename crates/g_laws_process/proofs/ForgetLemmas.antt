@@ -1,13 +1,12 @@
 -- A store that has forgotten its copies keeps what it kept.
-use Rattle.std.proofs.Common.{◌≡◌, ◌≢◌, ℕ, zero, suc, ◌<◌, ◌≤◌, true, false, List, [], ◌∷◌, ◌++◌, get_or, length, Option, Some, None, refl, sym, ◌∙◌, ap, arith, subst, inl, inr}
-use Rattle.std.specs.Prelude.{◌⊎◌, Bool, ◌==◌, ◌||◌, All, AllPairs, Contains, IfSome, map}
+use Rattle.std.proofs.Common.{◌≡◌, ◌≢◌, ℕ, zero, suc, ◌<◌, ◌≤◌, true, false, List, [], ◌∷◌, get_or, length, Option, Some, None, refl, sym, ◌∙◌, ap, arith, subst}
+use Rattle.std.specs.Prelude.{Bool, ◌==◌, ◌||◌, All, AllPairs, Contains, IfSome, map}
 use Rattle.std.specs.Option.{ForSome}
-use Rattle.std.proofs.lemmas.Bool.{both_ways, cases_Bool, cond-false, cond-true, eq-eqb}
+use Rattle.std.proofs.lemmas.Bool.{both_ways, eq-eqb}
 use Rattle.std.proofs.lemmas.List.{length-map}
 use Rattle.std.proofs.lemmas.Option.{slice_get-get_or}
-use Rattle.std.proofs.lemmas.List.Elements.{All-map, All-weaker, Contains-append_left, Contains-get_or}
+use Rattle.std.proofs.lemmas.List.Elements.{All-map, All-weaker, Contains-get_or}
 use Rattle.g_entry.specs.declared.file_rec.FileRec.{FileRec}
-use Rattle.g_entry.specs.declared.file_rec.TapeCopy.{TapeCopy}
 use Rattle.g_entry.specs.declared.head.Intent.{Intent}
 use Rattle.g_entry.specs.declared.user_rec.UserRec.{UserRec}
 use Rattle.g_entry.specs.FileFields.{IsFile}
@@ -21,12 +20,11 @@ use Rattle.g_incr.specs.Layout.{Dump, holds}
 use Rattle.g_incr.specs.Plan.{dump_of}
 use Rattle.g_shelf.specs.CompletedDumps.{all_dumps}
 use Rattle.g_store_meaning.specs.Belonging.{DiscBelongs, KeepsFile}
-use Rattle.g_store_meaning.specs.Meaning.{IsContent, told_reels}
+use Rattle.g_store_meaning.specs.Meaning.{told_reels}
 use Rattle.g_store_meaning.specs.StoreInvariant.{DumpFacts, IsReady, IsUp, StoreFacts, content_in, with_dump}
-use Rattle.g_store_meaning.proofs.OneLemmas.{on_reel}
 use Rattle.g_laws_store.specs.Dumping.{AreDumpable}
 use Rattle.g_laws_store.proofs.RecordLemmas.{pairs_mapped}
-use Rattle.g_laws_store.proofs.UpOneLemmas.{on_all}
+use Rattle.g_laws_store.proofs.OpeningLemmas.{old_with, more_content}
 use Rattle.g_laws_process.specs.ForgottenCopies.{ForgettingStaysUp, bare, bare_file, bare_rec, every_user, forgotten}
 
 -- every user is among all
@@ -138,18 +136,6 @@ bare_dumpable changed c is = record {
 }
 
 -- THE RACK with the dump: the old copies are content still
-more_with : (made : Dump) (shelf : ℕ → List Dump) (reels : List Reel) (e : Dump) → Contains (all_dumps shelf reels) e → Contains (all_dumps (with_dump made shelf) reels) e
-more_with made shelf reels e there =
-    let on = on_reel shelf reels e there in on_all (with_dump made shelf) reels on.reel e on.there (by_serial on.reel (cases_Bool (on.reel.serial == made.serial)) on.on)
-  where
-    by_serial : (r : Reel) → ((r.serial == made.serial) ≡ true) ⊎ ((r.serial == made.serial) ≡ false) → Contains (shelf r.serial) e → Contains (with_dump made shelf r.serial) e
-    by_serial r (inl is) on =
-        subst (λ (ds : List Dump). Contains ds e) (sym (cond-true (r.serial == made.serial) (shelf r.serial ++ made ∷ []) (shelf r.serial) is)) (Contains-append_left (shelf r.serial) (made ∷ []) e on)
-    by_serial r (inr isnt) on = subst (λ (ds : List Dump). Contains ds e) (sym (cond-false (r.serial == made.serial) (shelf r.serial ++ made ∷ []) (shelf r.serial) isnt)) on
-
-more_content : (old new : List Dump) → ((e : Dump) → Contains old e → Contains new e) → (tape : Option TapeCopy) (t : List ℕ) → IfSome tape (λ c. IsContent old c t) → IfSome tape (λ c. IsContent new c t)
-more_content old new more None t is = tt
-more_content old new more (Some c) t is = record { dump = is.dump; there = more is.dump is.there; reel = is.reel; from = is.from; to = is.to; text_is = is.text_is }
 
 marked_disc : (text : ℕ → List ℕ) (shelf : ℕ → List Dump) (reels : List Reel) (made : Dump) (c : Contents) (i : Intent)
     → DiscBelongs text shelf reels c → DiscBelongs text (with_dump made shelf) reels (with_intent (Some i) (bare c)) → DiscBelongs text (with_dump made shelf) reels (with_intent (Some i) c)
@@ -158,7 +144,7 @@ marked_disc text shelf reels made c i was bared = record {
       (λ f keeps. record {
         rec = record {
           len = keeps.rec.len;
-          copy = more_content (all_dumps shelf reels) (all_dumps (with_dump made shelf) reels) (λ e there. more_with made shelf reels e there) f.rec.tape (text f.rec.stamp) keeps.rec.copy;
+          copy = more_content (all_dumps shelf reels) (all_dumps (with_dump made shelf) reels) (λ e there. old_with made shelf reels e there) f.rec.tape (text f.rec.stamp) keeps.rec.copy;
         };
         bytes = keeps.bytes;
       }) c.files was.files;

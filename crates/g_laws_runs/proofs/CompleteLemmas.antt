@@ -16,7 +16,7 @@ use Rattle.g_plain.specs.declared.calls.StoreCall.{StoreCall}
 use Rattle.g_plain.specs.declared.calls.StoreReply.{StoreReply}
 use Rattle.g_plain.specs.declared.faults.StoreFault.{StoreFault}
 use Rattle.g_plain.specs.declared.faults.StoreFault.TheVariants.{DiscReadFault, NoTape, NotMounted, Stopped, TapeBusy, TapeReadFault}
-use Rattle.g_store_model.specs.CallStep.{CallStep, Cut, DiscRead, LeftByRefusal, Outcome, Plain, Planned, TapeRead, after_call, brings_now, commits, down, early, held_after, late, touched_by, writes}
+use Rattle.g_store_model.specs.CallStep.{CallStep, Cut, DiscRead, LeftByRefusal, Outcome, Plain, Planned, TapeRead, after_call, brings_now, commits, down, early, held_after, late, touched_by, writes, after_unjam}
 use Rattle.g_store_model.specs.DumpSteps.{Completed, DumpStep, Event, Going, MigrateStep, OpenStep, Stepped, completed, is_busy, open_refuses, opening, uses}
 use Rattle.g_store_model.specs.Process.{ProcessStep, Processes, moved, process_refuses, process_refuses_late, with_cut}
 use Rattle.g_store_model.specs.Rising.{Restores, Starts, restore_early}
@@ -32,6 +32,7 @@ use Rattle.g_laws_runs.specs.Dumps.{IsSameDump, dump_steps}
 use Rattle.g_laws_runs.proofs.DumpLemmas.{one_dump, open_refused}
 use Rattle.g_laws_runs.proofs.RefusedLemmas.{unstopped}
 use Rattle.g_laws_runs.proofs.WalkLemmas.{AreKept, IsQuiet, quiet_kept}
+use Rattle.g_run_model.proofs.StepLemmas.{call_kept}
 
 -- A DUMP IS OPEN only of a system that is up, and has a step left
 abbrev pub IsSound : State → Type 0
@@ -100,21 +101,10 @@ after_sound s k who call until old =
     let then_held : State = record (commits s (held_after s k who call until)) { open_dump = option_map (touched_by s k who call) s.open_dump } in
     either_sound (writes call || brings_now s k who call) then_held s (touched_sound s then_held k who call s.open_dump refl refl refl old) old
 
-left_sound : (s : State) (k : Holding) (who : List ℕ) (call : StoreCall) (o : Outcome) (until : ℕ) (fault : StoreFault) (new : State) → IsSound s → LeftByRefusal s k who call o until fault new → IsSound new
-left_sound s k who call o until Stopped new old (inl is) = sound_none new (ap (λ (x : State). x.open_dump) is)
-left_sound s k who call o until Stopped new old (inr (inl (some, is))) = sound_none new (ap (λ (x : State). x.open_dump) is)
-left_sound s k who call o until Stopped new old (inr (inr is)) = sound_none new (ap (λ (x : State). x.open_dump) is)
-left_sound s k who call o until fault new old is = sound_at s new is old
-
-late_sound : (s : State) (k : Holding) (who : List ℕ) (call : StoreCall) (o : Outcome) (until : ℕ) (f : Option StoreFault) (answer : Result StoreReply StoreFault) (new : State) → IsSound s
-    → MatchOption f ((answer ≡ Ok (reply_to k.tree who call)) × (new ≡ after_call s k who call until)) (λ fault. (answer ≡ Err fault) × LeftByRefusal s k who call o until fault new) → IsSound new
-late_sound s k who call o until None answer new old (ok, is) = sound_at (after_call s k who call until) new is (after_sound s k who call until old)
-late_sound s k who call o until (Some fault) answer new old (err, left) = left_sound s k who call o until fault new old left
-
-call_sound : (s : State) (k : Holding) (who : List ℕ) (call : StoreCall) (o : Outcome) (f : Option StoreFault) (answer : Result StoreReply StoreFault) (new : State) → IsSound s
-    → MatchOption f (Planned s k who call o answer new) (λ fault. (answer ≡ Err fault) × (new ≡ s)) → IsSound new
-call_sound s k who call o None answer new old planned = late_sound s k who call o planned.until (late s k who call o planned.until) answer new old planned.step
-call_sound s k who call o (Some fault) answer new old (err, is) = sound_at s new is old
+call_sound : (s : State) (k : Holding) (who : List ℕ) (call : StoreCall) (o : Outcome) (answer : Result StoreReply StoreFault) (new : State) → IsSound s → CallStep s k who call o answer new → IsSound new
+call_sound s k who call o answer new old step =
+    call_kept (λ (x : State). IsSound x) s k who call old (sound_none (down s) refl) (λ until. sound_none (down (after_unjam s k who call until)) refl) (λ until. after_sound s k who call until old)
+    (λ until. sound_none (down (after_call s k who call until)) refl) o answer new step
 
 -- a PROCESS leaves an open dump as it was, or, where it stops, none
 process_sound : (s : State) (k : Holding) (serial : ℕ) (o : Outcome) (r : Result ℕ StoreFault) (new : State) → IsSound s → ProcessStep s k serial o r new → IsSound new
@@ -142,7 +132,7 @@ sound_kept = record {
   opening = λ s k serial o r new up holds (places, noted, event) so old. event_sound _ _ s _ r new old (opened_sound (opening s k serial places) _ up refl (two_more _ _ _)) event;
   process = λ s k serial o r new up holds step so old. process_sound s k serial o r new old step;
   migrate = λ s k user full o r new holds event so old. event_sound _ _ s _ r new old old event;
-  call = λ s k who call o answer new holds step so old. call_sound s k who call o (early s k who call o) answer new old step;
+  call = λ s k who call o answer new holds step so old. call_sound s k who call o answer new old step;
 }
 
 dump_sound : (s : State) (k : Holding) (d : OpenDump) (o : Outcome) (r : Result Stepped StoreFault) (new : State) → s.up ≡ true → DumpStep s k d o r new → IsSound new

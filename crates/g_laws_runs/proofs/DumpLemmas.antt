@@ -1,6 +1,6 @@
 -- An open dump, move by move.
 use Rattle.std.proofs.Common.{◌≡◌, ℕ, ◌+◌, ◌≤◌, ◌<◌, List, [], ◌∷◌, Option, Some, None, refl, sym, ◌∙◌, ap, subst, inl, inr, arith}
-use Rattle.std.specs.Prelude.{◌⊎◌, ◌-◌, ◌^◌, ◌==◌, ◌||◌, Bool, true, false, not, nat_lt, Result, Ok, Err, MatchBool, MatchOption, if◌then◌else◌, is_some, option_map, sum_by, codes, ◌++◌}
+use Rattle.std.specs.Prelude.{◌⊎◌, ◌-◌, ◌^◌, ◌==◌, ◌||◌, Bool, true, false, not, nat_lt, Result, Err, MatchBool, MatchOption, if◌then◌else◌, is_some, option_map, sum_by, codes, ◌++◌}
 use Rattle.std.proofs.lemmas.List.Sums.{sum_by-cons}
 use Rattle.std.specs.Fmt.{decimal}
 use Rattle.std.specs.Fn.{Shared}
@@ -16,7 +16,7 @@ use Rattle.g_plain.specs.declared.faults.StoreFault.TheVariants.{CountersSpent, 
 use Rattle.g_plain.specs.PlainStep.{Checks, first_fault}
 use Rattle.g_script.specs.declared.operator.Operator.{Operator}
 use Rattle.g_script.specs.declared.operator.Operator.TheVariants as line
-use Rattle.g_store_model.specs.CallStep.{Cut, DiscRead, LeftByRefusal, Outcome, Plain, Planned, TapeRead, after_call, brings_now, early, is_cut, is_tape_read, late, touched_by, writes}
+use Rattle.g_store_model.specs.CallStep.{Cut, DiscRead, Outcome, Plain, TapeRead, after_call, brings_now, is_cut, is_tape_read, touched_by, writes, CallStep}
 use Rattle.g_store_model.specs.DumpSteps.{Event, dump_needs, open_number, open_refuses, tape_room}
 use Rattle.g_store_model.specs.Rising.{FormatStep, RestoreStep, Restores, StartStep, Starts, restore_early}
 use Rattle.g_store_model.specs.State.{Dumped as DumpedTree, Holding, OpenDump, State, is_mounted, lacks}
@@ -31,6 +31,7 @@ use Rattle.g_job.specs.Terminal.{logged_out, typed_to}
 use Rattle.g_laws_runs.specs.Dumps.{DumpsStay, DumpsTakeNeeds, IsSameDump, RunOpen, StaysOrGoes, dump_steps}
 use Rattle.g_run_model.proofs.ProcessedLemmas.{of_each}
 use Rattle.g_store_model.specs.Process.{ProcessStep}
+use Rattle.g_run_model.proofs.StepLemmas.{call_kept}
 
 pub one_dump : (a b : OpenDump) → (let one : Option OpenDump = Some a in one ≡ Some b) → a ≡ b
 one_dump a b e = cc
@@ -188,23 +189,11 @@ module _ (d : OpenDump) where
   call_after s k who call until opened =
       either (writes call || brings_now s k who call) _ s (touched_stays s k who call s.open_dump opened) (stays d s.open_dump opened)
 
-  refusal_stays : (s : State) (k : Holding) (who : List ℕ) (call : StoreCall) (o : Outcome) (until : ℕ) (fault : StoreFault) (new : State) → s.open_dump ≡ Some d
-      → LeftByRefusal s k who call o until fault new → StaysOrGoes d new.open_dump
-  refusal_stays s k who call o until Stopped new opened (inl is) = goes d new.open_dump (ap (λ (x : State). x.open_dump) is)
-  refusal_stays s k who call o until Stopped new opened (inr (inl (some, is))) = goes d new.open_dump (ap (λ (x : State). x.open_dump) is)
-  refusal_stays s k who call o until Stopped new opened (inr (inr is)) = goes d new.open_dump (ap (λ (x : State). x.open_dump) is)
-  refusal_stays s k who call o until fault new opened is = at_state s new is (stays d s.open_dump opened)
-
-  late_stays : (s : State) (k : Holding) (who : List ℕ) (call : StoreCall) (o : Outcome) (until : ℕ) (f : Option StoreFault) (answer : Result StoreReply StoreFault) (reply : StoreReply) (new : State)
-      → s.open_dump ≡ Some d
-      → MatchOption f ((answer ≡ Ok reply) × (new ≡ after_call s k who call until)) (λ fault. (answer ≡ Err fault) × LeftByRefusal s k who call o until fault new) → StaysOrGoes d new.open_dump
-  late_stays s k who call o until None answer reply new opened (ok, is) = at_state (after_call s k who call until) new is (call_after s k who call until opened)
-  late_stays s k who call o until (Some fault) answer reply new opened (err, left) = refusal_stays s k who call o until fault new opened left
-
-  call_stays : (s : State) (k : Holding) (who : List ℕ) (call : StoreCall) (o : Outcome) (f : Option StoreFault) (answer : Result StoreReply StoreFault) (new : State) → s.open_dump ≡ Some d
-      → MatchOption f (Planned s k who call o answer new) (λ fault. (answer ≡ Err fault) × (new ≡ s)) → StaysOrGoes d new.open_dump
-  call_stays s k who call o None answer new opened planned = late_stays s k who call o planned.until (late s k who call o planned.until) answer _ new opened planned.step
-  call_stays s k who call o (Some fault) answer new opened (err, is) = at_state s new is (stays d s.open_dump opened)
+  call_stays : (s : State) (k : Holding) (who : List ℕ) (call : StoreCall) (o : Outcome) (answer : Result StoreReply StoreFault) (new : State) → s.open_dump ≡ Some d
+      → CallStep s k who call o answer new → StaysOrGoes d new.open_dump
+  call_stays s k who call o answer new opened step =
+      call_kept (λ (x : State). StaysOrGoes d x.open_dump) s k who call (stays d s.open_dump opened) (goes d None refl) (λ until. goes d None refl) (λ until. call_after s k who call until opened)
+      (λ until. goes d None refl) o answer new step
 
 module _ {F U : Type 0} (tariffs : Shared F (Bor Usage × Unit {0}) Charge) (tariff : F) (rules : Shared U (Bor Standing × Unit {0}) ℕ) (rule : U) where
   pub dumps_stay : DumpsStay tariffs tariff rules rule
@@ -212,7 +201,7 @@ module _ {F U : Type 0} (tariffs : Shared F (Bor Usage × Unit {0}) Charge) (tar
   dumps_stay w new (Dumped o) d opened step quiet = absurd (let no : ⊥ = omega (arith, quiet) in no)
   dumps_stay w new (Begin number) d opened (idle, undue, ready, (place, job, chosen, there, number_is, is)) quiet = still d w new _ opened is refl
   dumps_stay w new (Answered o) d opened (number, call, more, job, answer, s, asks, here, (k, holds, step, says_so), real, is) quiet =
-      told d w new _ s is refl (call_stays d w.store k job.user call o (early w.store k job.user call o) answer s opened step)
+      told d w new _ s is refl (call_stays d w.store k job.user call o answer s opened step)
   dumps_stay w new (TurnOver number charge) d opened (work, job, turn, after, asks, here, priced, ends, is) quiet = still d w new _ opened is (turn_store after turn (shows job after w))
   dumps_stay w new Ticked d opened (idle, phase, is) quiet = still d w new _ opened is refl
   dumps_stay w new Over d opened (between, idle, lines, nothing, over, is) quiet = still d w new _ opened is refl

@@ -10,14 +10,13 @@ use Rattle.g_budget.specs.declared.tariff.Charge.{Charge}
 use Rattle.g_budget.specs.declared.tariff.Usage.{Usage}
 use Rattle.g_sched.specs.declared.rule.Standing.{Standing}
 use Rattle.g_disc_contents.specs.Contents.{Contents}
-use Rattle.g_plain.specs.PlainStep.{reply_to}
 use Rattle.g_plain.specs.declared.calls.StoreCall.{StoreCall}
 use Rattle.g_plain.specs.declared.calls.StoreReply.{StoreReply}
 use Rattle.g_plain.specs.declared.faults.StoreFault.{StoreFault}
 use Rattle.g_plain.specs.declared.faults.StoreFault.TheVariants.{DiscReadFault, Stopped}
 use Rattle.g_store_meaning.specs.Meaning.{told_reels}
 use Rattle.g_store_meaning.specs.Reading.{holding_of}
-use Rattle.g_store_model.specs.CallStep.{Cut, DiscRead, LeftByRefusal, Outcome, Plain, Planned, TapeRead, after_call, brings_now, commits, down, early, held_after, late, no_longer_kept, touched_by, writes}
+use Rattle.g_store_model.specs.CallStep.{Cut, DiscRead, Outcome, Plain, TapeRead, after_call, brings_now, commits, down, held_after, no_longer_kept, touched_by, writes, CallStep}
 use Rattle.g_store_model.specs.DumpSteps.{Completed, DumpStep, Event, Going, Stepped}
 use Rattle.g_store_model.specs.Process.{ProcessStep, moved, with_cut}
 use Rattle.g_store_model.specs.Rising.{Restores, Starts, restore_early}
@@ -30,6 +29,7 @@ use Rattle.g_run_model.proofs.TreeLemmas.{dump_store}
 use Rattle.g_laws_runs.specs.Filestores.{DevicesKeepFilestores, FilestoresStay, HasFilestore, HoldsOne}
 use Rattle.g_laws_runs.proofs.CompleteLemmas.{kind}
 use Rattle.g_laws_runs.proofs.WalkLemmas.{AreKept, IsQuiet, quiet_kept}
+use Rattle.g_run_model.proofs.StepLemmas.{call_kept}
 
 abbrev pub KeepsOne : Outcome → State → State → Type 0
 KeepsOne o s new = HoldsOne s → HoldsOne new
@@ -76,21 +76,10 @@ after_one : (s : State) (k : Holding) (who : List ℕ) (call : StoreCall) (until
 after_one s k who call until old =
     either_one (writes call || brings_now s k who call) (record (commits s (held_after s k who call until)) { open_dump = option_map (touched_by s k who call) s.open_dump }) s refl old
 
-left_one : (s : State) (k : Holding) (who : List ℕ) (call : StoreCall) (o : Outcome) (until : ℕ) (fault : StoreFault) (new : State) → HoldsOne s → LeftByRefusal s k who call o until fault new → HoldsOne new
-left_one s k who call o until Stopped new old (inl is) = one_at (down s) new is (one_down s old)
-left_one s k who call o until Stopped new old (inr (inl (some, is))) = ap (λ (x : State). is_some x.holding) is
-left_one s k who call o until Stopped new old (inr (inr is)) = one_at (down (after_call s k who call until)) new is (one_down (after_call s k who call until) (after_one s k who call until old))
-left_one s k who call o until fault new old is = one_at s new is old
-
-late_one : (s : State) (k : Holding) (who : List ℕ) (call : StoreCall) (o : Outcome) (until : ℕ) (f : Option StoreFault) (answer : Result StoreReply StoreFault) (new : State) → HoldsOne s
-    → MatchOption f ((answer ≡ Ok (reply_to k.tree who call)) × (new ≡ after_call s k who call until)) (λ fault. (answer ≡ Err fault) × LeftByRefusal s k who call o until fault new) → HoldsOne new
-late_one s k who call o until None answer new old (ok, is) = one_at (after_call s k who call until) new is (after_one s k who call until old)
-late_one s k who call o until (Some fault) answer new old (err, left) = left_one s k who call o until fault new old left
-
-call_one : (s : State) (k : Holding) (who : List ℕ) (call : StoreCall) (o : Outcome) (f : Option StoreFault) (answer : Result StoreReply StoreFault) (new : State) → HoldsOne s
-    → MatchOption f (Planned s k who call o answer new) (λ fault. (answer ≡ Err fault) × (new ≡ s)) → HoldsOne new
-call_one s k who call o None answer new old planned = late_one s k who call o planned.until (late s k who call o planned.until) answer new old planned.step
-call_one s k who call o (Some fault) answer new old (err, is) = one_at s new is old
+call_one : (s : State) (k : Holding) (who : List ℕ) (call : StoreCall) (o : Outcome) (answer : Result StoreReply StoreFault) (new : State) → HoldsOne s → CallStep s k who call o answer new → HoldsOne new
+call_one s k who call o answer new old step =
+    call_kept (λ (x : State). HoldsOne x) s k who call old (one_down s old) (λ until. refl) (λ until. after_one s k who call until old)
+    (λ until. one_down (after_call s k who call until) (after_one s k who call until old)) o answer new step
 
 process_one : (s : State) (k : Holding) (serial : ℕ) (o : Outcome) (r : Result ℕ StoreFault) (new : State) → HoldsOne s → ProcessStep s k serial o r new → HoldsOne new
 process_one s k serial o r new old step =
@@ -121,7 +110,7 @@ one_kept = record {
   opening = λ s k serial o r new up holds (places, noted, event) so old. event_one _ _ s _ r new old refl event;
   process = λ s k serial o r new up holds step so old. process_one s k serial o r new old step;
   migrate = λ s k user full o r new holds event so old. event_one _ _ s _ r new old refl event;
-  call = λ s k who call o answer new holds step so old. call_one s k who call o (early s k who call o) answer new old step;
+  call = λ s k who call o answer new holds step so old. call_one s k who call o answer new old step;
 }
 
 pub dump_one : (s : State) (k : Holding) (d : OpenDump) (o : Outcome) (r : Result Stepped StoreFault) (new : State) → HoldsOne s → DumpStep s k d o r new → HoldsOne new

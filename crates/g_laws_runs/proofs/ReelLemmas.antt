@@ -15,7 +15,7 @@ use Rattle.g_plain.specs.declared.faults.StoreFault.{StoreFault}
 use Rattle.g_plain.specs.declared.faults.StoreFault.TheVariants.{DiscReadFault, NotStarted, Running, Stopped}
 use Rattle.g_script.specs.declared.operator.Operator.{Operator}
 use Rattle.g_script.specs.declared.operator.Operator.TheVariants as line
-use Rattle.g_store_model.specs.CallStep.{Cut, DiscRead, LeftByRefusal, Outcome, Plain, Planned, TapeRead, after_call, brings_now, early, late, writes}
+use Rattle.g_store_model.specs.CallStep.{Cut, DiscRead, Outcome, Plain, TapeRead, after_call, brings_now, writes, CallStep}
 use Rattle.g_store_model.specs.DumpSteps.{Completed, DumpStep, Event, Going, Stepped, shelved, with_mounted, with_shelved, with_used}
 use Rattle.g_store_model.specs.Rising.{FormatStep, RestoreStep, Restores, StartStep, Starts, restore_early}
 use Rattle.g_store_model.specs.State.{Dumped as DumpedTree, Holding, OpenDump, ReelRow, Shelved, State, with_reel}
@@ -34,6 +34,7 @@ use Rattle.g_store_model.specs.ProcessLaws.{IsBefore, IsBehind, KeepsDumps, Proc
 use Rattle.std.specs.List.{AllZip}
 use Rattle.std.proofs.lemmas.Bool.{false≢true}
 use Rattle.g_script.specs.declared.operator.Timed.{Timed}
+use Rattle.g_run_model.proofs.StepLemmas.{call_kept}
 
 -- a reel that is as it was, or was mounted, unmounted or written
 row_same : (n : ℕ) (r q : ReelRow) → q.serial ≡ r.serial → q.capacity ≡ r.capacity → q.dumps ≡ r.dumps → IsGrown n r q
@@ -176,21 +177,8 @@ either false t s same = refl
 call_after : (s : State) (k : Holding) (who : List ℕ) (call : StoreCall) (until : ℕ) → (after_call s k who call until).reels ≡ s.reels
 call_after s k who call until = either (writes call || brings_now s k who call) _ s refl
 
-refusal_leaves : (s : State) (k : Holding) (who : List ℕ) (call : StoreCall) (o : Outcome) (until : ℕ) (fault : StoreFault) (new : State) → LeftByRefusal s k who call o until fault new → new.reels ≡ s.reels
-refusal_leaves s k who call o until Stopped new (inl is) = ap (λ (x : State). x.reels) is
-refusal_leaves s k who call o until Stopped new (inr (inl (some, is))) = ap (λ (x : State). x.reels) is
-refusal_leaves s k who call o until Stopped new (inr (inr is)) = ap (λ (x : State). x.reels) is ∙ call_after s k who call until
-refusal_leaves s k who call o until fault new is = ap (λ (x : State). x.reels) is
-
-late_leaves : (s : State) (k : Holding) (who : List ℕ) (call : StoreCall) (o : Outcome) (until : ℕ) (f : Option StoreFault) (answer : Result StoreReply StoreFault) (reply : StoreReply) (new : State)
-    → MatchOption f ((answer ≡ Ok reply) × (new ≡ after_call s k who call until)) (λ fault. (answer ≡ Err fault) × LeftByRefusal s k who call o until fault new) → new.reels ≡ s.reels
-late_leaves s k who call o until None answer reply new (ok, is) = ap (λ (x : State). x.reels) is ∙ call_after s k who call until
-late_leaves s k who call o until (Some fault) answer reply new (err, left) = refusal_leaves s k who call o until fault new left
-
-call_leaves : (s : State) (k : Holding) (who : List ℕ) (call : StoreCall) (o : Outcome) (f : Option StoreFault) (answer : Result StoreReply StoreFault) (new : State)
-    → MatchOption f (Planned s k who call o answer new) (λ fault. (answer ≡ Err fault) × (new ≡ s)) → new.reels ≡ s.reels
-call_leaves s k who call o None answer new planned = late_leaves s k who call o planned.until (late s k who call o planned.until) answer _ new planned.step
-call_leaves s k who call o (Some fault) answer new (err, is) = ap (λ (x : State). x.reels) is
+call_leaves : (s : State) (k : Holding) (who : List ℕ) (call : StoreCall) (o : Outcome) (answer : Result StoreReply StoreFault) (new : State) → CallStep s k who call o answer new → new.reels ≡ s.reels
+call_leaves s k who call = call_kept (λ (x : State). x.reels ≡ s.reels) s k who call refl refl (λ until. refl) (call_after s k who call) (call_after s k who call)
 
 -- A STEP OF THE OPEN DUMP
 module _ (d : OpenDump) where
@@ -236,7 +224,7 @@ module _ {F U : Type 0} (tariffs : Shared F (Bor Usage × Unit {0}) Charge) (tar
       at_state 1 w.store s new.store (ap (λ (x : World). x.store) is ∙ dump_store _ r s w) (step_grows d w.store k o r s step)
   move_grows w new (Begin number) isnt (idle, undue, ready, (place, job, chosen, there, number_is, is)) = quiet w new _ is refl
   move_grows w new (Answered o) isnt (number, call, more, job, answer, s, asks, here, (k, holds, step, says_so), real, is) =
-      told w new _ s is refl (still 0 w.store s (call_leaves w.store k job.user call o (early w.store k job.user call o) answer s step))
+      told w new _ s is refl (still 0 w.store s (call_leaves w.store k job.user call o answer s step))
   move_grows w new (TurnOver number charge) isnt (work, job, turn, after, asks, here, priced, ends, is) = quiet w new _ is (turn_store after turn (shows job after w))
   move_grows w new Ticked isnt (idle, phase, is) = quiet w new _ is refl
   move_grows w new Over isnt (between, idle, lines, nothing, over, is) = quiet w new _ is refl

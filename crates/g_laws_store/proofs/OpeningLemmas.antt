@@ -37,7 +37,7 @@ use Rattle.g_laws_store.proofs.StateLemmas.{with_there}
 use Rattle.g_laws_store.proofs.UpOneLemmas.{ends_before, in_with, on_all, reel_named, right_with}
 
 -- what was there is there with a dump more
-old_with : (d : Dump) (shelf : ℕ → List Dump) (reels : List Reel) (e : Dump) → Contains (all_dumps shelf reels) e → Contains (all_dumps (with_dump d shelf) reels) e
+pub old_with : (d : Dump) (shelf : ℕ → List Dump) (reels : List Reel) (e : Dump) → Contains (all_dumps shelf reels) e → Contains (all_dumps (with_dump d shelf) reels) e
 old_with d shelf reels e there =
     let on = on_reel shelf reels e there in on_all (with_dump d shelf) reels on.reel e on.there (by_serial on.reel (cases_Bool (on.reel.serial == d.serial)) on.on)
   where
@@ -46,7 +46,7 @@ old_with d shelf reels e there =
         subst (λ (ds : List Dump). Contains ds e) (sym (cond-true (r.serial == d.serial) (shelf r.serial ++ d ∷ []) (shelf r.serial) is)) (Contains-append_left (shelf r.serial) (d ∷ []) e on)
     by_serial r (inr isnt) on = subst (λ (ds : List Dump). Contains ds e) (sym (cond-false (r.serial == d.serial) (shelf r.serial ++ d ∷ []) (shelf r.serial) isnt)) on
 
-more_content : (old new : List Dump) → ((e : Dump) → Contains old e → Contains new e) → (tape : Option TapeCopy) (t : List ℕ) → IfSome tape (λ c. IsContent old c t) → IfSome tape (λ c. IsContent new c t)
+pub more_content : (old new : List Dump) → ((e : Dump) → Contains old e → Contains new e) → (tape : Option TapeCopy) (t : List ℕ) → IfSome tape (λ c. IsContent old c t) → IfSome tape (λ c. IsContent new c t)
 more_content old new more None t is = tt
 more_content old new more (Some c) t is = record { dump = is.dump; there = more is.dump is.there; reel = is.reel; from = is.from; to = is.to; text_is = is.text_is }
 

@@ -1,13 +1,11 @@
 -- How PROCESS is answered, where something was written.
-use Rattle.std.proofs.Common.{◌≡◌, ◌≢◌, ℕ, zero, suc, ◌+◌, ◌-◌, ◌<◌, ◌≤◌, Bool, true, false, List, [], ◌∷◌, get_or, length, map, take, Option, Some, None, Ok, Err, refl, sym, ◌∙◌, ap, arith, subst, inl, inr, slice_get, ◌==◌}
+use Rattle.std.proofs.Common.{◌≡◌, ◌≢◌, ℕ, zero, suc, ◌+◌, ◌-◌, ◌<◌, ◌≤◌, Bool, true, false, List, [], ◌∷◌, get_or, length, map, take, Option, Some, None, Ok, Err, refl, sym, ◌∙◌, ap, arith, subst, inl, inr, slice_get}
 use Rattle.std.specs.Prelude.{All, Contains, Result, is_some, nat_lt, not, ◌&&◌, ◌⊎◌}
 use Rattle.std.specs.List.{AllZip}
 use Rattle.std.specs.List.Sorted.{IsStrictlyIncreasing}
 use Rattle.std.specs.Option.{ForSome}
-use Rattle.std.proofs.lemmas.Bool.{cond-false, cond-true, eq-eqb}
-use Rattle.std.proofs.lemmas.Bool.Decides.{eqb_tells}
+use Rattle.std.proofs.lemmas.Bool.{eq-eqb}
 use Rattle.std.proofs.lemmas.List.Elements.{All-contains, All-head, All-tail, Contains-append_right, Contains-get_or}
-use Rattle.std.proofs.lemmas.List.Sums.{sum_by-cons}
 use Rattle.std.proofs.lemmas.Option.{none-some, same_Some}
 use Rattle.g_base.specs.Block.{IsBlock, blocks_for}
 use Rattle.g_base.specs.Counts.{Rose, RoseBy}
@@ -19,8 +17,10 @@ use Rattle.g_tape.specs.Rack.{AreReels, Rack, reel}
 use Rattle.g_tape.specs.Reads.{HasRead, OnlyReads, blocks_in, blocks_of as blocks_at, time_of, unread}
 use Rattle.g_tape.specs.Reel.{IsReel, Reel, Remains, left_by}
 use Rattle.g_tape.proofs.ReadLemmas.{blocks_after_reads, is_reel, reel_after_reads, then_read}
+use Rattle.g_tape.proofs.PlaceLemmas.{reel-found}
 use Rattle.g_plain.specs.declared.faults.StoreFault.{StoreFault}
 use Rattle.g_plain.specs.declared.faults.StoreFault.TheVariants.{DiscReadFault, Stopped, TapeReadFault}
+use Rattle.g_plain.proofs.Found.{some_of}
 use Rattle.g_disc_contents.specs.Commits.{Commits}
 use Rattle.g_disc_contents.specs.Contents.{Contents, File, Holds, has, with_intent}
 use Rattle.g_disc_contents.specs.Facts.{IsTied, Layout, OnlineFacts}
@@ -40,6 +40,7 @@ use Rattle.g_dumper.proofs.BeginLemmas.{after_reads, reel_named}
 use Rattle.g_dumper.proofs.IntentLemmas.{rules_here}
 use Rattle.g_dumper.proofs.KeepLemmas.{store_spent}
 use Rattle.g_shelf.specs.declared.rack.Listed.{Listed}
+use Rattle.g_laws_memory.proofs.WaitingLemmas.{mapped_there}
 use Rattle.g_process.specs.declared.job.Job.{Job}
 use Rattle.g_process.specs.ProcessPlan.{IsFree, copies_from, process_plan, versions}
 use Rattle.g_process.specs.Preparation.{AtBlock, AtCopies, AtIntent, AtRelease, CarriesOut, HasIntended, IsGranted, IsPrepared, Preparing, StopsAt, copies_of}
@@ -49,7 +50,7 @@ use Rattle.g_process.specs.Processing.{CutCopies, CutDump, CutIntent, CutRelease
 use Rattle.g_process.specs.Releases.{AreReleased, is_taken, released, taken}
 use Rattle.g_process.specs.Progress.{AreReadable, FailedAt, FailsReading, HasWritten, IsBlockOf, IsSource, filled}
 use Rattle.g_process.proofs.BecomeLemmas.{Becomes, all_cons, apart_of, at_name, at_serial, becomes_filled, becomes_left, becomes_read, becomes_released, becomes_then, both_at, label_left, labels, left_name, released_name, times_left, labels_beside, labels_changed, labels_reads, labels_released, same_serials, same_told, zip_labels}
-use Rattle.g_process.proofs.ContentLemmas.{all_read, within_content}
+use Rattle.g_process.proofs.ContentLemmas.{all_read, within_content, front_bare}
 use Rattle.g_process.proofs.ExitLemmas.{cut_belongs, exit_before, exit_copies, exit_cut, exit_done, exit_intent, exit_mark, exit_read, failed_read, found_itself, held_whole, process_away, left_whole, processed_belongs, stopped_copies, stopped_intent, torn_before, torn_mark}
 use Rattle.g_process.proofs.DumpLemmas.{content_at, content_of, one_dump}
 use Rattle.g_process.proofs.DoneLemmas.{IsHeldBy, at_this, has_taken, held_left, held_part, part_never, reels_held, reels_left, reels_part, reels_read, two_commits, two_rise}
@@ -58,21 +59,7 @@ use Rattle.g_process.proofs.PlanLemmas.{all_versions}
 use Rattle.g_process.proofs.ProcessLemmas.{none_refused, refuses_early, refuses_late, store_up}
 use Rattle.g_process.proofs.ReelLemmas.{filled_serial, read_later}
 use Rattle.g_process.proofs.ReleaseLemmas.{AreApart, times_released}
-use Rattle.g_process.proofs.WriteLemmas.{contained}
-
-some_reel : (x : Option Reel) → is_some x ≡ true → (r : Reel) × (x ≡ Some r)
-some_reel None is = absurd (let no : ⊥ = cc in no)
-some_reel (Some r) is = (r, refl)
-
-reel_within : (n : ℕ) (xs : List Reel) (q : Reel) → reel n xs ≡ Some q → Contains xs q
-reel_within n [] q is = absurd (none-some q is)
-reel_within n (x ∷ xs) q is = by_first (eqb_tells n x.serial) (λ it. reel_within n xs q it)
-  where
-    by_first : (((n == x.serial) ≡ true) × (n ≡ x.serial)) ⊎ (((n == x.serial) ≡ false) × (n ≡ x.serial → ⊥)) → (reel n xs ≡ Some q → Contains xs q) → Contains (x ∷ xs) q
-    by_first (inl h) rest = (0, omega arith, same_Some x q (sym (cond-true (n == x.serial) (Some x) (reel n xs) h.0) ∙ is))
-    by_first (inr h) rest =
-        let (i, inside, at) = rest (sym (cond-false (n == x.serial) (Some x) (reel n xs) h.0) ∙ is) in
-        (suc i, omega (arith, inside), at)
+use Rattle.g_process.proofs.WriteLemmas.{contained, get_map}
 
 module _ (job : Job) (o : OnlineFacts) (old mid : Rack) (live : o.live ≡ true) (pins : o.pins ≡ None) (tied : IsTied o) (are : AreReels old.reels) (only : OnlyReads old mid)
     (granted : IsGranted job.serial o old) (ready : IsPrepared job.serial o old mid job) where
@@ -93,7 +80,7 @@ module _ (job : Job) (o : OnlineFacts) (old mid : Rack) (live : o.live ≡ true)
 
   free : IsFree serial old
   free =
-      let (r, at) = some_reel (reel serial old.reels) granted.there in
+      let (r, at) = some_of (reel serial old.reels) granted.there in
       free_by_list serial old mid job.lists.items r ready.listed at ready.free
 
   -- serials, capacities, mountings, and whether a reel tells
@@ -147,10 +134,10 @@ module _ (job : Job) (o : OnlineFacts) (old mid : Rack) (live : o.live ≡ true)
   rules_are = subst IsPlan ready.plan ready.may.rules
 
   the_reel : (r : Reel) × (reel serial old.reels ≡ Some r)
-  the_reel = some_reel (reel serial old.reels) granted.there
+  the_reel = some_of (reel serial old.reels) granted.there
 
   mounted_on : the_reel.0.mounted ≡ true
-  mounted_on = All-contains (λ (r : Reel). r.mounted ≡ true) old.reels the_reel.0 granted.mounted (reel_within serial old.reels the_reel.0 the_reel.1)
+  mounted_on = All-contains (λ (r : Reel). r.mounted ≡ true) old.reels the_reel.0 granted.mounted (reel-found serial old.reels the_reel.0 the_reel.1).0
 
   room_on : needs (process_plan serial o) ≤ the_reel.0.capacity
   room_on =
@@ -284,12 +271,6 @@ module _ (job : Job) (o : OnlineFacts) (old mid : Rack) (live : o.live ≡ true)
     }
 
     -- DONE
-    file_there : (fs : List File) (f : File) → Contains fs f → Contains (map (λ (x : File). x.rec) fs) f.rec
-    file_there [] f (i, within, same) = absurd (let no : ⊥ = omega (arith, within) in no)
-    file_there (g ∷ gs) f (zero, within, same) = (0, omega arith, ap (λ (x : File). x.rec) same)
-    file_there (g ∷ gs) f (suc i, within, same) =
-        let (j, inside, at) = file_there gs f (i, omega (arith, within), same) in
-        (suc j, omega (arith, inside), at)
 
     -- each block of each version, by the rack as it was and as it is
     source_all : (m : Rack) (begun : OnlineFacts) → HasIntended (intent_of plan) o begun → (so : HasWritten serial plan rs begun (needs plan) mid m) → ((s k : ℕ) → time_of s k m ≤ time_of s k new)
@@ -315,7 +296,7 @@ module _ (job : Job) (o : OnlineFacts) (old mid : Rack) (live : o.live ≡ true)
     read_all m begun intended so gone f there = λ off copy tape i from to.
         let rules = rules_here o live tied in
         let some : 0 < f.rec.len = omega (arith, from, to) in
-        let in_versions = all_versions o.contents f.rec rules.records (file_there o.contents.files f there) some in
+        let in_versions = all_versions o.contents f.rec rules.records (mapped_there (λ (x : File). x.rec) o.contents.files f there) some in
         let (n, at) = contained rs f.rec (subst (λ (xs : List FileRec). Contains xs f.rec) (sym ready.versions_are) in_versions) in
         let part : ℕ = i - copy.first in
         let inside : part < blocks_for f.rec.len = omega (arith, from, to) in
@@ -327,24 +308,11 @@ module _ (job : Job) (o : OnlineFacts) (old mid : Rack) (live : o.live ≡ true)
     plan_away : IsAway plan
     plan_away = subst IsAway (sym ready.plan) (process_away serial o)
 
-    serial_of : (rs' : List Reel) (n : ℕ) (q : Reel) → reel n rs' ≡ Some q → Contains rs' q × (q.serial ≡ n)
-    serial_of [] n q is = absurd (none-some q is)
-    serial_of (x ∷ xs) n q is = by_first (eqb_tells n x.serial) (λ it. serial_of xs n q it)
-      where
-        later : Contains xs q × (q.serial ≡ n) → Contains (x ∷ xs) q × (q.serial ≡ n)
-        later ((i, inside, at), named) = ((suc i, omega (arith, inside), at), named)
-
-        by_first : (((n == x.serial) ≡ true) × (n ≡ x.serial)) ⊎ (((n == x.serial) ≡ false) × (n ≡ x.serial → ⊥)) → (reel n xs ≡ Some q → Contains xs q × (q.serial ≡ n)) → Contains (x ∷ xs) q × (q.serial ≡ n)
-        by_first (inl h) rest =
-            let same : x ≡ q = same_Some x q (sym (cond-true (n == x.serial) (Some x) (reel n xs) h.0) ∙ is) in
-            ((0, omega arith, same), ap (λ (y : Reel). y.serial) (sym same) ∙ sym h.1)
-        by_first (inr h) rest = later (rest (sym (cond-false (n == x.serial) (Some x) (reel n xs) h.0) ∙ is))
-
     the_dump : (m : Rack) (begun : OnlineFacts) → HasIntended (intent_of plan) o begun → (so : HasWritten serial plan rs begun (needs plan) mid m)
         → ((s k : ℕ) → time_of s k m ≤ time_of s k new) → AllZip (IsHeldBy serial so.written) old.reels new.reels → (blocks : List (List ℕ)) → blocks_at serial new ≡ Some blocks → IsDumped serial was new blocks
     the_dump m begun intended so times held blocks told =
         let (q, found, q_blocks) = reel_told (reel serial new.reels) told in
-        let (q_in, named) = serial_of new.reels serial q found in
+        let (q_in, named) = reel-found serial new.reels q found in
         let right = is_reel serial new.reels q are_new.each found in
         let is : blocks ≡ so.written = held_at old.reels new.reels held q q_in named blocks q_blocks in
         let whole : All IsBlock so.written = subst (All IsBlock) is (right.whole blocks q_blocks) in
@@ -358,7 +326,7 @@ module _ (job : Job) (o : OnlineFacts) (old mid : Rack) (live : o.live ≡ true)
               let (block, here, source) = source_all m begun intended so times i r at_rs part inside in
               let waits : waiting plan.files ≡ map bare_rec (versions o.contents) = ready.may.writable.readable.waiting_are ∙ ap (map bare_rec) ready.versions_are in
               let front : blocks_of (take i (waiting plan.files)) ≡ blocks_of (take i (versions o.contents)) = ap (λ (xs : List FileRec). blocks_of (take i xs)) waits ∙ front_bare i (versions o.contents) in
-              let at_waits : slice_get (waiting plan.files) i ≡ Some (bare_rec r) = ap (λ (xs : List FileRec). slice_get xs i) waits ∙ mapped_at (versions o.contents) i r at in
+              let at_waits : slice_get (waiting plan.files) i ≡ Some (bare_rec r) = ap (λ (xs : List FileRec). slice_get xs i) waits ∙ get_map bare_rec (versions o.contents) i r at in
               let less : blocks_of (take i (waiting plan.files)) + part < content_blocks plan = within_content (waiting plan.files) i part (bare_rec r) at_waits inside in (
                 block,
                 ap (slice_get (content_of plan so.written)) (let e : blocks_of (take i (versions o.contents)) + part ≡ blocks_of (take i (waiting plan.files)) + part = omega (arith, front) in e)
@@ -377,18 +345,6 @@ module _ (job : Job) (o : OnlineFacts) (old mid : Rack) (live : o.live ≡ true)
         held_at (x ∷ xs) [] zip q there named bs is = absurd zip
         held_at (x ∷ xs) (y ∷ ys) (one, zip) q (zero, inside, at) named bs is = one (ap (λ (z : Reel). z.serial) at ∙ named) bs (ap (λ (z : Reel). z.blocks) at ∙ is)
         held_at (x ∷ xs) (y ∷ ys) (one, zip) q (suc i, inside, at) named bs is = held_at xs ys zip q (i, omega (arith, inside), at) named bs is
-
-        front_bare : (n : ℕ) (xs : List FileRec) → blocks_of (take n (map bare_rec xs)) ≡ blocks_of (take n xs)
-        front_bare zero xs = refl
-        front_bare (suc n) [] = refl
-        front_bare (suc n) (x ∷ xs) =
-            sum_by-cons (λ (y : FileRec). blocks_for y.len) (bare_rec x) (take n (map bare_rec xs)) ∙ ap (λ (k : ℕ). blocks_for x.len + k) (front_bare n xs)
-            ∙ sym (sum_by-cons (λ (y : FileRec). blocks_for y.len) x (take n xs))
-
-        mapped_at : (xs : List FileRec) (n : ℕ) (x : FileRec) → slice_get xs n ≡ Some x → slice_get (map bare_rec xs) n ≡ Some (bare_rec x)
-        mapped_at [] n x is = absurd (let no : ⊥ = cc in no)
-        mapped_at (y ∷ ys) zero x is = ap (λ (z : FileRec). Some (bare_rec z)) (same_Some y x is)
-        mapped_at (y ∷ ys) (suc n) x is = mapped_at ys n x is
 
     -- what the other reels hold
     no_dump_by : (r q : Reel) → IsOther serial old (λ x y. IsReleased y) r q → Contains old.reels r → q.serial ≡ r.serial → ForSome q.blocks (λ blocks. AreCompleted q.serial blocks [])
@@ -424,7 +380,7 @@ module _ (job : Job) (o : OnlineFacts) (old mid : Rack) (live : o.live ≡ true)
     whole_by : (w : List (List ℕ)) → AllZip (IsHeldBy serial w) old.reels new.reels → labels new.reels ≡ labels old.reels → AllTold o.disc.held (told_reels old) → All IsBlock w
     whole_by w held same told =
         held_whole serial w old.reels new.reels (zip_whole old.reels new.reels held are_new.each) (zip_labels old.reels new.reels same) (same_told old.reels new.reels same told.each.each) the_reel.0
-        (reel_within serial old.reels the_reel.0 the_reel.1) (reel_named serial old.reels the_reel.0 the_reel.1)
+        (reel-found serial old.reels the_reel.0 the_reel.1).0 (reel_named serial old.reels the_reel.0 the_reel.1)
       where
         zip_whole : (xs ys : List Reel) → AllZip (IsHeldBy serial w) xs ys → All IsReel ys → AllZip (λ (x y : Reel). y.serial ≡ serial → (bs : List (List ℕ)) → y.blocks ≡ Some bs → All IsBlock w) xs ys
         zip_whole [] [] zip all = tt
@@ -448,7 +404,7 @@ module _ (job : Job) (o : OnlineFacts) (old mid : Rack) (live : o.live ≡ true)
         → Becomes (at_serial serial (λ r. left_by how k (filled so.written r))) old new → labels new.reels ≡ labels old.reels → All IsBlock so.written
     whole_left k m so how told beside same =
         left_whole serial so.written k so.long how old new beside are_new.each (zip_labels old.reels new.reels same) (same_told old.reels new.reels same told.each.each) the_reel.0
-        (reel_within serial old.reels the_reel.0 the_reel.1) (reel_named serial old.reels the_reel.0 the_reel.1)
+        (reel-found serial old.reels the_reel.0 the_reel.1).0 (reel_named serial old.reels the_reel.0 the_reel.1)
 
     -- the block that failed is the mark, or one before it
     k_cases : (a b : ℕ) → a ≤ b → (a < b) ⊎ (a ≡ b)

@@ -11,6 +11,7 @@ use Rattle.g_tape.specs.Rack.{Rack, changed, reel, with_reel}
 use Rattle.g_tape.specs.Reads.{count_at, time_of, times_in, unread}
 use Rattle.g_tape.specs.Reel.{Reel, Remains, Shortened, Torn, Unchanged, ending, left_by}
 use Rattle.g_disc_contents.specs.Contents.{has}
+use Rattle.g_laws_memory.proofs.WaitingLemmas.{mapped_there}
 use Rattle.g_process.specs.Releases.{AreReleased, released, zeros}
 use Rattle.g_process.specs.Progress.{IsBeside, filled}
 use Rattle.g_process.proofs.ReelLemmas.{times_changed, unread_filled}
@@ -116,18 +117,11 @@ same_told (x ∷ xs) (y ∷ ys) same all =
 pub apart_of : (rs : List Reel) → IsStrictlyIncreasing (map (λ (r : Reel). r.serial) rs) → AreApart rs
 apart_of rs rising = by_pairs rs (AllPairs-from_increasing (map (λ (r : Reel). r.serial) rs) rising)
   where
-    in_serials : (xs : List Reel) (q : Reel) → Contains xs q → Contains (map (λ (r : Reel). r.serial) xs) q.serial
-    in_serials [] q (i, within, is) = absurd (let no : ⊥ = omega (arith, within) in no)
-    in_serials (x ∷ xs) q (zero, within, is) = (0, omega arith, ap (λ (r : Reel). r.serial) is)
-    in_serials (x ∷ xs) q (suc i, within, is) =
-        let (j, inside, at) = in_serials xs q (i, omega (arith, within), is) in
-        (suc j, omega (arith, inside), at)
-
     by_pairs : (xs : List Reel) → AllPairs (λ (m n : ℕ). m < n) (map (λ (r : Reel). r.serial) xs) → AreApart xs
     by_pairs [] all = tt
     by_pairs (x ∷ xs) all = (
       (λ q there same.
-          let below = All-contains (λ (n : ℕ). x.serial < n) (map (λ (r : Reel). r.serial) xs) q.serial (λ k d within. all 0 (suc k) d (omega arith) (omega (arith, within))) (in_serials xs q there) in
+          let below = All-contains (λ (n : ℕ). x.serial < n) (map (λ (r : Reel). r.serial) xs) q.serial (λ k d within. all 0 (suc k) d (omega arith) (omega (arith, within))) (mapped_there (λ (x : Reel). x.serial) xs q there) in
           (let no : ⊥ = omega (arith, below, same) in no)),
       by_pairs xs (λ i j d less within. all (suc i) (suc j) d (omega (arith, less)) (omega (arith, within))),
     )

@@ -39,8 +39,8 @@ use Rattle.g_dumper.proofs.BeginLemmas.{reel_named}
 use Rattle.g_dumper.proofs.HeldLemmas.{held_of_one, holds_there}
 use Rattle.g_dumper.proofs.IntentLemmas.{rules_here}
 use Rattle.g_dumper.proofs.KeepLemmas.{without_dump}
-use Rattle.g_dumper.proofs.OpeningLemmas.{serial_among}
 use Rattle.g_dumper.proofs.ShelfLemmas.{reel_there, told_is}
+use Rattle.g_laws_memory.proofs.WaitingLemmas.{mapped_there}
 use Rattle.g_process.specs.Exits.{AreParts}
 use Rattle.g_process.specs.ProcessPlan.{IsFree, living, process_plan, versions}
 use Rattle.g_process.specs.NamedCopies.{intended_by, moved_by, process_copies, process_intent}
@@ -59,16 +59,9 @@ pub shelved_by : (F : Reel → Reel) (old new : Rack) (shelf next : ℕ → List
     → ((r : Reel) → Contains old.reels r → ForSome r.blocks (λ bs. AreCompleted r.serial bs (shelf r.serial)) → ForSome (F (unread r)).blocks (λ bs. AreCompleted (F (unread r)).serial bs (next (F (unread r)).serial)))
     → AreShelved next (told_reels new)
 shelved_by F old new shelf next is shelved make = record {
-  each = λ q there. in_reels old.reels (λ r in_old. make r in_old (shelved.each (unread r) (mapped old.reels r in_old))) q (subst (λ (rs : List Reel). Contains rs q) is.all there);
+  each = λ q there. in_reels old.reels (λ r in_old. make r in_old (shelved.each (unread r) (mapped_there unread old.reels r in_old))) q (subst (λ (rs : List Reel). Contains rs q) is.all there);
 }
   where
-    mapped : (rs : List Reel) (r : Reel) → Contains rs r → Contains (map unread rs) (unread r)
-    mapped [] r (i, inside, at) = absurd (let no : ⊥ = omega (arith, inside) in no)
-    mapped (x ∷ xs) r (zero, inside, at) = (0, omega arith, ap unread at)
-    mapped (x ∷ xs) r (suc i, inside, at) =
-        let (j, within, same) = mapped xs r (i, omega (arith, inside), at) in
-        (suc j, omega (arith, within), same)
-
     in_reels : (rs : List Reel) → ((r : Reel) → Contains rs r → ForSome (F (unread r)).blocks (λ bs. AreCompleted (F (unread r)).serial bs (next (F (unread r)).serial))) → (q : Reel)
         → Contains (map (λ (r : Reel). F (unread r)) rs) q → ForSome q.blocks (λ bs. AreCompleted q.serial bs (next q.serial))
     in_reels [] one q (i, inside, at) = absurd (let no : ⊥ = omega (arith, inside) in no)
@@ -100,7 +93,7 @@ module _ (serial : ℕ) (o : OnlineFacts) (old : Rack) (live : o.live ≡ true) 
       free.none blocks (ap blocks_in on_is ∙ at) (shelf serial) (subst (λ (n : ℕ). AreCompleted n blocks (shelf n)) on_named (shelved.each (unread on) on_there blocks at))
 
   pub serial_there : Contains (map (λ (r : Reel). r.serial) (told_reels old)) serial
-  serial_there = subst (Contains (map (λ (r : Reel). r.serial) (told_reels old))) on_named (serial_among (told_reels old) (unread on) on_there)
+  serial_there = subst (Contains (map (λ (r : Reel). r.serial) (told_reels old))) on_named (mapped_there (λ (x : Reel). x.serial) (told_reels old) (unread on) on_there)
 
   unread_serials : (rs : List Reel) → map (λ (r : Reel). r.serial) (map unread rs) ≡ map (λ (r : Reel). r.serial) rs
   unread_serials [] = refl
@@ -182,21 +175,14 @@ module _ (serial : ℕ) (o : OnlineFacts) (old : Rack) (live : o.live ≡ true) 
     copy_moved g there =
         ap (λ (cs : List (ℕ × TapeCopy)). copy_of cs g.rec.stamp None) (noted_pins serial (first_content plan) (versions c) content) ∙ by_len (len_cases g.rec.len)
       where
-        rec_there : (gs : List File) (h : File) → Contains gs h → Contains (map (λ (y : File). y.rec) gs) h.rec
-        rec_there [] h (i, inside, is) = absurd (let no : ⊥ = omega (arith, inside) in no)
-        rec_there (y ∷ ys) h (zero, inside, is) = (0, omega arith, ap (λ (z : File). z.rec) is)
-        rec_there (y ∷ ys) h (suc i, inside, is) =
-            let (j, within, at) = rec_there ys h (i, omega (arith, inside), is) in
-            (suc j, omega (arith, within), at)
-
         by_len : (g.rec.len ≡ 0) ⊎ (0 < g.rec.len) → copy_of (process_copies serial o) g.rec.stamp None ≡ copy_of (process_copies serial o) g.rec.stamp g.rec.tape
         by_len (inl empty) =
             let kept = rules_here o live tied in
-            let none : g.rec.tape ≡ None = All-contains (λ (r : FileRec). r.len ≡ 0 → r.tape ≡ None) (recs_in c) g.rec kept.records.among_files.empty (rec_there c.files g there) empty in
+            let none : g.rec.tape ≡ None = All-contains (λ (r : FileRec). r.len ≡ 0 → r.tape ≡ None) (recs_in c) g.rec kept.records.among_files.empty (mapped_there (λ (x : File). x.rec) c.files g there) empty in
             ap (copy_of (process_copies serial o) g.rec.stamp) (sym none)
         by_len (inr some) =
             let kept = rules_here o live tied in
-            copy_same serial (first_content plan) (versions c) g.rec None g.rec.tape (all_versions c g.rec kept.records (rec_there c.files g there) some)
+            copy_same serial (first_content plan) (versions c) g.rec None g.rec.tape (all_versions c g.rec kept.records (mapped_there (λ (x : File). x.rec) c.files g there) some)
 
         len_cases : (n : ℕ) → (n ≡ 0) ⊎ (0 < n)
         len_cases zero = inl refl
@@ -325,14 +311,7 @@ module _ (serial : ℕ) (o : OnlineFacts) (old : Rack) (live : o.live ≡ true) 
       s_moved = up_with o_moved x None
 
       users_held : All (λ (u : UserRec). holds (every_user c) u.number ≡ true) c.users
-      users_held k d inside = holds_there (every_user c) (get_or c.users k d).number (number_in c.users (get_or c.users k d) (Contains-get_or c.users k d inside))
-        where
-          number_in : (us : List UserRec) (u : UserRec) → Contains us u → Contains (map (λ (v : UserRec). v.number) us) u.number
-          number_in [] u (i, within, is) = absurd (let no : ⊥ = omega (arith, within) in no)
-          number_in (v ∷ vs) u (zero, within, is) = (0, omega arith, ap (λ (w : UserRec). w.number) is)
-          number_in (v ∷ vs) u (suc i, within, is) =
-              let (j, inside', at) = number_in vs u (i, omega (arith, within), is) in
-              (suc j, omega (arith, inside'), at)
+      users_held k d inside = holds_there (every_user c) (get_or c.users k d).number (mapped_there (λ (x : UserRec). x.number) c.users (get_or c.users k d) (Contains-get_or c.users k d inside))
 
       has_all : (sh : ℕ → List Dump) → Contains (sh serial) made → (a : HasAll text sh s_moved made) × (a.reel.serial ≡ serial)
       has_all sh there =

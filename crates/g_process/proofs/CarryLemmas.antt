@@ -1,5 +1,5 @@
 -- What is done with a job, from what each of its steps says.
-use Rattle.std.proofs.Common.{◌≡◌, ℕ, ◌+◌, ◌<◌, Bool, true, false, List, [], map, Option, Some, None, Ok, Err, refl, sym, ◌∙◌, ap, arith, subst, inl, inr, if◌then◌else◌}
+use Rattle.std.proofs.Common.{◌≡◌, ℕ, ◌+◌, ◌<◌, true, List, [], map, Option, Some, None, Ok, Err, refl, sym, ◌∙◌, ap, arith, subst, inl, inr, if◌then◌else◌}
 use Rattle.std.specs.Prelude.{◌⊎◌, All, Contains, Result, is_some}
 use Rattle.g_base.specs.Counts.{RoseBy}
 use Rattle.g_entry.specs.declared.file_rec.FileRec.{FileRec}
@@ -22,7 +22,7 @@ use Rattle.g_online.specs.Change.{changed, need_of, unjammed}
 use Rattle.g_online.specs.Outcomes.{HasChanged, HasStopped, IsApplied, room_for}
 use Rattle.g_online.specs.ReadyCopies.{CoverAll, IsAdopting, IsReadyFor, Readied, ready_with, adopted}
 use Rattle.g_dumper.specs.Beginning.{intent_of}
-use Rattle.g_dumper.proofs.IntentLemmas.{intends, may_intend}
+use Rattle.g_dumper.proofs.IntentLemmas.{intends, may_intend, intended}
 use Rattle.g_process.specs.declared.job.Job.{Job}
 use Rattle.g_process.specs.Preparation.{AtBlock, AtCopies, AtIntent, CarriesOut, HasIntended, HasMoved, MayCarry, StoppedIntending, StopsAt, copies_of}
 use Rattle.g_process.specs.Progress.{HasWritten, IsReadable, MayWrite, WritesBlocks}
@@ -30,10 +30,6 @@ use Rattle.g_process.proofs.BecomeLemmas.{labels_beside, same_mounted, same_seri
 use Rattle.g_disc.proofs.CallLemmas.{Causes-for}
 
 -- WHAT THE INTENT'S COMMIT MAKES
-intended : (told pinned : Bool) (i : Option Intent) (c : Contents) → changed told pinned (SetIntent i) c ≡ with_intent i c
-unfolding changed
-intended told true i c = refl
-intended told false i c = refl
 
 pub has_intended : (i : Intent) (o new : OnlineFacts) (u : Unit {0}) → o.pins ≡ None → (let r : Result (Unit {0}) OnlineFault = Ok u in IsApplied (SetIntent (Some i)) o new r) → HasIntended i o new
 has_intended i o new u none done =

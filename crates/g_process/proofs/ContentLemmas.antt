@@ -1,31 +1,19 @@
 -- Which block of the dump is which block of which version; and each of them was read.
-use Rattle.std.proofs.Common.{◌≡◌, ℕ, zero, suc, ◌+◌, ◌<◌, ◌≤◌, List, [], ◌∷◌, ◌++◌, length, map, take, Some, refl, sym, ◌∙◌, ap, arith, subst, inl, inr, slice_get}
+use Rattle.std.proofs.Common.{◌≡◌, ℕ, zero, suc, ◌+◌, ◌<◌, ◌≤◌, List, [], ◌∷◌, length, map, take, Some, refl, sym, ◌∙◌, ap, arith, subst, inl, inr, slice_get}
 use Rattle.std.specs.Prelude.{replicate}
-use Rattle.std.proofs.lemmas.List.{length-map}
 use Rattle.std.proofs.lemmas.List.Sums.{sum_by-cons}
 use Rattle.std.proofs.lemmas.Option.{same_Some}
 use Rattle.g_base.specs.Block.{blocks_for}
 use Rattle.g_entry.specs.declared.file_rec.FileRec.{FileRec}
 use Rattle.g_tape.specs.Rack.{Rack}
 use Rattle.g_disc_contents.specs.Facts.{OnlineFacts}
-use Rattle.g_incr.specs.Layout.{Dump, dump_blocks, file_in, header_block, mark_block, user_in}
 use Rattle.g_incr.specs.Plan.{IsContentAt, IsReadyAt, Plan, blocks_of, content_blocks, dump_of, first_content, needs, waiting}
-use Rattle.g_incr.proofs.ListLemmas.{get_behind, get_front, get_some}
+use Rattle.g_incr.proofs.ListLemmas.{get_some}
 use Rattle.g_incr.proofs.PlanLemmas.{length-made}
 use Rattle.g_laws_process.specs.ForgottenCopies.{bare_rec}
+use Rattle.g_dumper.proofs.NextLemmas.{at_content}
 use Rattle.g_process.specs.Progress.{HasWritten, IsBlockOf, IsSource}
-
--- A BLOCK OF CONTENT in a dump
-pub at_content : (d : Dump) (j k : ℕ) (block : List ℕ) → slice_get d.content j ≡ Some block → k ≡ 1 + length d.users + length d.files + j → slice_get (dump_blocks d) k ≡ Some block
-unfolding dump_blocks
-at_content d j k block is sum =
-    let users : List (List ℕ) = map (user_in d) d.users in
-    let files : List (List ℕ) = map (file_in d) d.files in
-    let rest : List (List ℕ) = d.content ++ mark_block d ∷ [] in
-    let long = length-map d.users (user_in d) in
-    let long_files = length-map d.files (file_in d) in
-    ap (slice_get (header_block d ∷ (users ++ (files ++ rest)))) (let next : k ≡ suc (length users + (length files + j)) = omega (arith, sum, long, long_files) in next)
-    ∙ get_behind users (files ++ rest) (length files + j) ∙ get_behind files rest j ∙ get_front d.content (mark_block d ∷ []) j block is
+use Rattle.g_process.proofs.WriteLemmas.{get_map}
 
 -- a version's blocks lie within the content
 pub within_content : (ws : List FileRec) (i part : ℕ) (v : FileRec) → slice_get ws i ≡ Some v → part < blocks_for v.len → blocks_of (take i ws) + part < blocks_of ws
@@ -92,7 +80,7 @@ pub all_read : (serial : ℕ) (p : Plan) (rs : List FileRec) (o : OnlineFacts) (
     → (block : List ℕ) × (slice_get so.written (1 + length p.users + length p.files + (blocks_of (take i (waiting p.files)) + part)) ≡ Some block) × IsSource o old new r part block
 all_read serial p rs o old new are n enough so i r at part less =
     let v : FileRec = bare_rec r in
-    let there : slice_get (waiting p.files) i ≡ Some v = ap (λ (ws : List FileRec). slice_get ws i) are ∙ mapped rs i r at in
+    let there : slice_get (waiting p.files) i ≡ Some v = ap (λ (ws : List FileRec). slice_get ws i) are ∙ get_map bare_rec rs i r at in
     let j : ℕ = blocks_of (take i (waiting p.files)) + part in
     let k : ℕ = 1 + length p.users + length p.files + j in
     let below : j < content_blocks p = within_content (waiting p.files) i part v there less in
@@ -101,11 +89,6 @@ all_read serial p rs o old new are n enough so i r at part less =
     let (block, is) = get_some so.written k (omega (arith, long, below, enough)) in
     (block, is, by_block k stands there block (so.each k block is))
   where
-    mapped : (qs : List FileRec) (n : ℕ) (q : FileRec) → slice_get qs n ≡ Some q → slice_get (map bare_rec qs) n ≡ Some (bare_rec q)
-    mapped [] n q is = absurd (let no : ⊥ = cc in no)
-    mapped (x ∷ xs) zero q is = ap (λ (y : FileRec). Some (bare_rec y)) (same_Some x q is)
-    mapped (x ∷ xs) (suc n) q is = mapped xs n q is
-
     by_block : (k : ℕ) → IsContentAt p k i part → slice_get (waiting p.files) i ≡ Some (bare_rec r) → (block : List ℕ) → IsBlockOf p rs o old new k block → IsSource o old new r part block
     by_block k stands there block (inl ready) = absurd (not_ready p k i part block ready stands)
     by_block k stands there block (inr (i', part', r', at', stands', source)) =
@@ -114,3 +97,11 @@ all_read serial p rs o old new are n enough so i r at part less =
         let (same, parts) = content_one (waiting p.files) i' i part' part stands'.version stands.version stands'.there stands.there stands'.within stands.within (omega (arith, a, b)) in
         let one : r' ≡ r = same_Some r' r (sym at' ∙ ap (slice_get rs) same ∙ at) in
         subst (λ (n : ℕ). IsSource o old new r n block) parts (subst (λ (x : FileRec). IsSource o old new x part' block) one source)
+
+-- as many blocks in front of a version, with and without places on tape
+pub front_bare : (n : ℕ) (xs : List FileRec) → blocks_of (take n (map bare_rec xs)) ≡ blocks_of (take n xs)
+front_bare zero xs = refl
+front_bare (suc n) [] = refl
+front_bare (suc n) (x ∷ xs) =
+    sum_by-cons (λ (y : FileRec). blocks_for y.len) (bare_rec x) (take n (map bare_rec xs)) ∙ ap (λ (k : ℕ). blocks_for x.len + k) (front_bare n xs)
+    ∙ sym (sum_by-cons (λ (y : FileRec). blocks_for y.len) x (take n xs))

@@ -20,6 +20,7 @@ use Rattle.g_shelf.specs.declared.rack.Listed.{Listed}
 use Rattle.g_shelf.specs.FoundDumps.{note_of}
 use Rattle.g_known.specs.ReelNotes.{AreListed, IsListed}
 use Rattle.g_shelf.proofs.OneLemmas.{completed_are_one}
+use Rattle.g_laws_memory.proofs.WaitingLemmas.{mapped_there}
 use Rattle.g_process.specs.ProcessPlan.{IsFree, IsTaken}
 use Rattle.g_process.specs.Exits.{IsReadBy}
 use Rattle.g_process.specs.Processing.{IsCutBy, IsLeftBy, IsReleased}
@@ -40,12 +41,12 @@ no_dumps l [] are none = refl
 no_dumps l (d ∷ ds) are none =
     absurd (let long : length l.notes ≡ suc (length (map note_of ds)) = ap (λ (ns : List DumpNote). length ns) are in (let low = ltb-false 0 (length l.notes) none in (let no : ⊥ = omega (arith, long, low) in no)))
 
-both_true : (a b : Bool) → (a && b) ≡ true → (a ≡ true) × (b ≡ true)
+pub both_true : (a b : Bool) → (a && b) ≡ true → (a ≡ true) × (b ≡ true)
 both_true true true is = (refl, refl)
 both_true true false is = absurd (let no : ⊥ = cc in no)
 both_true false b is = absurd (let no : ⊥ = cc in no)
 
-not_true : (b : Bool) → not b ≡ true → b ≡ false
+pub not_true : (b : Bool) → not b ≡ true → b ≡ false
 not_true true is = absurd (let no : ⊥ = cc in no)
 not_true false is = refl
 
@@ -78,7 +79,7 @@ taken_yes serial l ls is = ap (map (λ (x : Listed). x.serial)) (cond-true (is_t
 taken_no : (serial : ℕ) (l : Listed) (ls : List Listed) → is_taken serial l ≡ false → taken serial (l ∷ ls) ≡ taken serial ls
 taken_no serial l ls is = ap (map (λ (x : Listed). x.serial)) (cond-false (is_taken serial l) (l ∷ filter (is_taken serial) ls) (filter (is_taken serial) ls) is)
 
-or_cases : (a b : Bool) → (a || b) ≡ true → (a ≡ true) ⊎ (b ≡ true)
+pub or_cases : (a b : Bool) → (a || b) ≡ true → (a ≡ true) ⊎ (b ≡ true)
 or_cases true b is = inl refl
 or_cases false b is = inr is
 
@@ -159,13 +160,6 @@ is_released_by r q is = record {
   block = subst (λ (o : Option (List (List ℕ))). ForSome o (λ blocks. blocks ≡ zeros ∷ [])) (sym (ap (λ (x : Reel). x.blocks) is)) (released_block r.blocks);
 }
 
-pub in_serials : (xs : List Reel) (q : Reel) → Contains xs q → Contains (map (λ (r : Reel). r.serial) xs) q.serial
-in_serials [] q (i, within, is) = absurd (let no : ⊥ = omega (arith, within) in no)
-in_serials (x ∷ xs) q (zero, within, is) = (0, omega arith, ap (λ (r : Reel). r.serial) is)
-in_serials (x ∷ xs) q (suc i, within, is) =
-    let (j, inside, at) = in_serials xs q (i, omega (arith, within), is) in
-    (suc j, omega (arith, inside), at)
-
 pub at_other : (s : ℕ) (f : Reel → Reel) (r : Reel) → (s ≡ r.serial → ⊥) → at_serial s f r ≡ r
 at_other s f r apart = cond-false (s == r.serial) (f r) r (ne_eqb s r.serial apart)
 
@@ -197,7 +191,7 @@ module _ (serial : ℕ) (old mid : Rack) (lists : List Listed) (listed : AreList
   ss = taken serial lists
 
   on_list : (r : Reel) → Contains old.reels r → Contains (map (λ (l : Listed). l.serial) lists) r.serial
-  on_list r there = subst (λ (ns : List ℕ). Contains ns r.serial) (sym listed.serials) (in_serials old.reels r there)
+  on_list r there = subst (λ (ns : List ℕ). Contains ns r.serial) (sym listed.serials) (mapped_there (λ (x : Reel). x.serial) old.reels r there)
 
   never_this : has ss serial ≡ true → ⊥
   never_this is = (has_taken serial serial old mid lists listed.each is).1 refl

@@ -15,8 +15,9 @@ use Rattle.g_incr.proofs.PlanLemmas.{length-made, plan_gives_dump}
 use Rattle.g_shelf.specs.CompletedDumps.{AreCompleted}
 use Rattle.g_shelf.specs.QuietWrites.{IsBegun}
 use Rattle.g_shelf.proofs.QuietLemmas.{length_dump, within}
+use Rattle.g_dumper.proofs.NextLemmas.{at_content}
 use Rattle.g_process.specs.Progress.{HasWritten, IsBlockOf}
-use Rattle.g_process.proofs.ContentLemmas.{at_content, within_content}
+use Rattle.g_process.proofs.ContentLemmas.{within_content}
 use Rattle.g_process.proofs.WriteLemmas.{element_below}
 
 -- lists of the same elements

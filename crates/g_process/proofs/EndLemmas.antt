@@ -14,12 +14,13 @@ use Rattle.g_disc_contents.specs.Contents.{has}
 use Rattle.g_shelf.specs.declared.rack.Listed.{Listed}
 use Rattle.g_known.specs.ReelNotes.{AreListed, IsListed}
 use Rattle.g_laws_store.proofs.RecordLemmas.{pairs_head, pairs_tail}
+use Rattle.g_laws_memory.proofs.WaitingLemmas.{mapped_there}
 use Rattle.g_process.specs.Exits.{IsBesideDump, IsClearedBy}
 use Rattle.g_process.specs.ProcessPlan.{IsFree, IsTaken}
 use Rattle.g_process.specs.Releases.{is_taken, released, taken, zeros}
 use Rattle.g_process.specs.Progress.{filled}
 use Rattle.g_process.proofs.BecomeLemmas.{Becomes, at_serial, zip_becomes}
-use Rattle.g_process.proofs.DoneLemmas.{at_other, at_this, has_free, has_taken, held_left, held_part, in_serials, one_taken}
+use Rattle.g_process.proofs.DoneLemmas.{at_other, at_this, has_free, has_taken, held_left, held_part, one_taken}
 use Rattle.g_process.proofs.ReelLemmas.{filled_long}
 
 -- A NUMBER ABOVE all of these
@@ -127,7 +128,7 @@ module _ (serial : ℕ) (old mid : Rack) (lists : List Listed) (listed : AreList
   rising = subst (AllPairs Below) (sym listed.serials) (AllPairs-from_increasing (map (λ (r : Reel). r.serial) old.reels) are.rising)
 
   listed_there : (r : Reel) → Contains old.reels r → Contains (names lists) r.serial
-  listed_there r there = subst (λ (ns : List ℕ). Contains ns r.serial) (sym listed.serials) (in_serials old.reels r there)
+  listed_there r there = subst (λ (ns : List ℕ). Contains ns r.serial) (sym listed.serials) (mapped_there (λ (x : Reel). x.serial) old.reels r there)
 
   -- ALL ARE RELEASED
   pub all_below : (n : ℕ) → has (taken serial lists) n ≡ true → (n < top_of (names lists)) × (n ≢ serial)

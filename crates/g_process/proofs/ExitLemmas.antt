@@ -4,13 +4,12 @@ use Rattle.std.specs.Prelude.{◌⊎◌, ◌&&◌, ◌||◌, All, Contains, is_s
 use Rattle.std.specs.List.{AllZip}
 use Rattle.std.specs.List.Sorted.{IsStrictlyIncreasing}
 use Rattle.std.specs.Option.{ForSome}
-use Rattle.std.proofs.lemmas.List.Sums.{sum_by-cons}
 use Rattle.std.proofs.lemmas.Bool.{cases_Bool, cases_order, cond-false, cond-true, eq-eqb, eqb-true, lt-ltb, ltb-true, ne_eqb}
 use Rattle.std.proofs.lemmas.Bool.Decides.{eqb_tells}
 use Rattle.std.proofs.lemmas.List.{length-append, length-take, take_all}
 use Rattle.std.proofs.lemmas.List.Elements.{All-contains, All-head, All-tail, Contains-get_or}
 use Rattle.std.proofs.lemmas.Option.{none-some, same_Some}
-use Rattle.g_base.specs.Block.{IsBlock, blocks_for}
+use Rattle.g_base.specs.Block.{IsBlock}
 use Rattle.g_entry.specs.declared.file_rec.FileRec.{FileRec}
 use Rattle.g_tape.specs.Rack.{AreReels, Rack, reel}
 use Rattle.g_tape.specs.Reads.{OnlyReads, blocks_in, unread}
@@ -45,15 +44,16 @@ use Rattle.g_process.specs.Releases.{AreReleased, is_taken, released, taken, zer
 use Rattle.g_process.specs.Progress.{AreReadable, HasWritten, IsBlockOf, IsReadable, filled}
 use Rattle.g_process.proofs.BecomeLemmas.{zip_becomes, Becomes, all_cons, apart_of, at_serial, becomes_filled, becomes_read, becomes_released, becomes_then, labels, labels_beside, labels_reads, left_name, same_serials}
 use Rattle.g_process.proofs.BelongLemmas.{disc_intended, disc_marked, none_on, ready, shelved_by, up_at, up_intended, up_moved, up_released, without_all}
-use Rattle.g_process.proofs.ContentLemmas.{all_read, within_content}
+use Rattle.g_process.proofs.ContentLemmas.{all_read, within_content, front_bare}
 use Rattle.g_process.proofs.DumpLemmas.{begun, content_at, content_is_long, content_of, from_drop, from_take, one_dump}
 use Rattle.g_process.proofs.PlanLemmas.{plan_files}
-use Rattle.g_process.proofs.DoneLemmas.{reels_read}
+use Rattle.g_process.proofs.DoneLemmas.{reels_read, both_true, not_true, or_cases}
 use Rattle.g_process.proofs.EndLemmas.{all_above, all_below, all_free, all_zip, beside_zip, l_taken, l_there, left_long, names, part_below, part_free, part_zip, top_of}
 use Rattle.g_process.proofs.ReelLemmas.{filled_long, filled_serial}
 use Rattle.g_process.proofs.ReleaseLemmas.{AreApart}
 use Rattle.g_process.proofs.TextLemmas.{source_part}
 use Rattle.g_process.proofs.WholeLemmas.{none_short}
+use Rattle.g_process.proofs.WriteLemmas.{element, get_map}
 use Rattle.g_laws_store.proofs.TiedLemmas.{devices_belong}
 
 -- the plan keeps off its own reel's dumps: no record in it names a copy
@@ -185,29 +185,20 @@ stays_all (m ∷ ms) shelf n is = by_first (eqb_tells m n) (stays_all ms shelf n
         cond-false (n == m) [] (without_all ms shelf n) (ne_eqb n m (λ e. h.1 (sym e)))
         ∙ rest (ap (λ (b : Bool). b || has ms n) (sym h.0) ∙ is)
 
+pub two_true : (a b : Bool) → a ≡ true → b ≡ true → (a && b) ≡ true
+two_true true true x y = refl
+two_true true false x y = absurd (let no : ⊥ = cc in no)
+two_true false b x y = absurd (let no : ⊥ = cc in no)
+
 -- and those of the reels that are free weren't there
 cleared_same : (ns : List ℕ) (serial until : ℕ) (w : ℕ → List Dump) (n : ℕ) → (has ns n ≡ true → (n < until) × (n ≢ serial)) → (n < until → n ≢ serial → has ns n ≡ false → w n ≡ [])
     → without_all ns w n ≡ cleared serial until w n
 cleared_same ns serial until w n below free = by_has (cases_Bool (has ns n))
   where
-    two_true : (a b : Bool) → a ≡ true → b ≡ true → (a && b) ≡ true
-    two_true true true x y = refl
-    two_true true false x y = absurd (let no : ⊥ = cc in no)
-    two_true false b x y = absurd (let no : ⊥ = cc in no)
-
-    both_true : (a b : Bool) → (a && b) ≡ true → (a ≡ true) × (b ≡ true)
-    both_true true true is = (refl, refl)
-    both_true true false is = absurd (let no : ⊥ = cc in no)
-    both_true false b is = absurd (let no : ⊥ = cc in no)
-
-    apart_of : (b : Bool) → not b ≡ true → b ≡ false
-    apart_of true is = absurd (let no : ⊥ = cc in no)
-    apart_of false is = refl
-
     by_test : has ns n ≡ false → ((nat_lt n until && not (n == serial)) ≡ true) ⊎ ((nat_lt n until && not (n == serial)) ≡ false) → w n ≡ cleared serial until w n
     by_test isnt (inl is) =
         let (less, apart) = both_true (nat_lt n until) (not (n == serial)) is in
-        free (ltb-true n until less) (λ e. let one = eq-eqb n serial e in (let two = apart_of (n == serial) apart in (let no : ⊥ = cc in no))) isnt
+        free (ltb-true n until less) (λ e. let one = eq-eqb n serial e in (let two = not_true (n == serial) apart in (let no : ⊥ = cc in no))) isnt
         ∙ sym (cond-true (nat_lt n until && not (n == serial)) [] (w n) is)
     by_test isnt (inr is) = sym (cond-false (nat_lt n until && not (n == serial)) [] (w n) is)
 
@@ -486,32 +477,13 @@ module _ (serial : ℕ) (o : OnlineFacts) (old mid : Rack) (live : o.live ≡ tr
       parts i part r b at less is =
           let (block, here, source) = all_read serial plan rs begun_o mid m readable.waiting_are k enough so i r at part less in
           let front : blocks_of (take i (waiting plan.files)) ≡ blocks_of (take i rs) = ap (λ (xs : List FileRec). blocks_of (take i xs)) readable.waiting_are ∙ front_bare i rs in
-          let at_waits : slice_get (waiting plan.files) i ≡ Some (bare_rec r) = ap (λ (xs : List FileRec). slice_get xs i) readable.waiting_are ∙ mapped_at rs i r at in
+          let at_waits : slice_get (waiting plan.files) i ≡ Some (bare_rec r) = ap (λ (xs : List FileRec). slice_get xs i) readable.waiting_are ∙ get_map bare_rec rs i r at in
           let below : blocks_of (take i (waiting plan.files)) + part < content_blocks plan = within_content (waiting plan.files) i part (bare_rec r) at_waits less in
           let same : b ≡ block = same_Some b block (sym is ∙ ap (slice_get content) (let e : blocks_of (take i rs) + part ≡ blocks_of (take i (waiting plan.files)) + part = omega (arith, front) in e)
           ∙ content_at serial plan rs begun_o mid m rules (process_away serial o) k enough so (blocks_of (take i (waiting plan.files)) + part) below ∙ here) in
-          let readable_r = All-contains (IsReadable serial o mid) rs r readable.each (contains_at rs i r at) in
+          let readable_r = All-contains (IsReadable serial o mid) rs r readable.each (element rs i r at) in
           let it = source_part shelf mid (subst (AreShelved shelf) (sym only.reels) shelved) (subst (λ (reels : List Reel). ReelsTold reels) (sym only.reels) told.each) text serial o begun_o m r part block live tied told.disc files keeps_mid readable_r less source in
           subst (IsPart (text r.stamp) part) (sym same) it.1
-        where
-          contains_at : (xs : List FileRec) (n : ℕ) (x : FileRec) → slice_get xs n ≡ Some x → Contains xs x
-          contains_at [] n x is = absurd (let no : ⊥ = cc in no)
-          contains_at (y ∷ ys) zero x is = (0, omega arith, same_Some y x is)
-          contains_at (y ∷ ys) (suc n) x is =
-              let (j, inside, at) = contains_at ys n x is in
-              (suc j, omega (arith, inside), at)
-
-          front_bare : (n : ℕ) (xs : List FileRec) → blocks_of (take n (map bare_rec xs)) ≡ blocks_of (take n xs)
-          front_bare zero xs = refl
-          front_bare (suc n) [] = refl
-          front_bare (suc n) (x ∷ xs) =
-              sum_by-cons (λ (y : FileRec). blocks_for y.len) (bare_rec x) (take n (map bare_rec xs)) ∙ ap (λ (j : ℕ). blocks_for x.len + j) (front_bare n xs)
-              ∙ sym (sum_by-cons (λ (y : FileRec). blocks_for y.len) x (take n xs))
-
-          mapped_at : (xs : List FileRec) (n : ℕ) (x : FileRec) → slice_get xs n ≡ Some x → slice_get (map bare_rec xs) n ≡ Some (bare_rec x)
-          mapped_at [] n x is = absurd (let no : ⊥ = cc in no)
-          mapped_at (y ∷ ys) zero x is = ap (λ (z : FileRec). Some (bare_rec z)) (same_Some y x is)
-          mapped_at (y ∷ ys) (suc n) x is = mapped_at ys n x is
 
       its_content : IsContentOf text serial o content
       its_content = record { long = long_content; blocks = whole_content; lens = lens; parts = parts }
@@ -623,10 +595,6 @@ module _ (serial : ℕ) (o : OnlineFacts) (old mid : Rack) (live : o.live ≡ tr
               becomes =
                   becomes_then (λ r. released (taken serial (take i lists)) (at_serial serial (filled so.written) r)) (at_serial l.serial (left_by how 0)) old x end.rack
                   (becomes_then (at_serial serial (filled so.written)) (released (taken serial (take i lists))) old m x becomes_w (becomes_released (taken serial (take i lists)) m x gone)) cut
-
-              or_cases : (a b : Bool) → (a || b) ≡ true → (a ≡ true) ⊎ (b ≡ true)
-              or_cases true b is = inl refl
-              or_cases false b is = inr is
 
               -- the reel whose release was cut
               with_cut : (other : Remains) → AreShelved (without_reel l.serial (without_all (taken serial (take i lists)) with_it)) (told_reels end.rack)

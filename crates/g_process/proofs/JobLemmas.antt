@@ -4,6 +4,7 @@ use Rattle.std.specs.Prelude.{◌⊎◌, ◌↔◌, All, AllPairs, Contains, IsT
 use Rattle.std.specs.Option.{ForSome}
 use Rattle.std.proofs.lemmas.List.Elements.{All-contains, All-push, Contains-get_or}
 use Rattle.std.proofs.lemmas.Option.{none-some, same_Some}
+use Rattle.std.proofs.lemmas.Bool.{cases_order}
 use Rattle.g_base.specs.Block.{blocks_for}
 use Rattle.g_entry.specs.declared.file_rec.FileRec.{FileRec}
 use Rattle.g_entry.specs.declared.file_rec.TapeCopy.{TapeCopy}
@@ -14,6 +15,7 @@ use Rattle.g_tape.specs.Reel.{Reel}
 use Rattle.g_tape.proofs.ReadLemmas.{reel_after_reads}
 use Rattle.g_plain.specs.declared.faults.StoreFault.{StoreFault}
 use Rattle.g_plain.specs.declared.faults.StoreFault.TheVariants.{NoCopy}
+use Rattle.g_plain.proofs.Found.{some_of}
 use Rattle.g_tree.specs.Records.{full_of, name_of_file}
 use Rattle.g_tree.proofs.PutLemmas.{number_found}
 use Rattle.g_online.specs.AllowedChanges.{Lies}
@@ -32,6 +34,8 @@ use Rattle.g_laws_process.specs.ForgottenCopies.{every_user}
 use Rattle.g_dumper.proofs.BeginLemmas.{after_reads}
 use Rattle.g_dumper.proofs.HeldLemmas.{held_ordered}
 use Rattle.g_dumper.proofs.IntentLemmas.{rules_here}
+use Rattle.g_dumper.proofs.PlanLemmas.{turns}
+use Rattle.g_laws_memory.proofs.WaitingLemmas.{from_mapped, mapped_there}
 use Rattle.g_process.specs.Lists.{IsLost, IsLostIn, IsOfFile, IsThere, notes_at}
 use Rattle.g_process.specs.ProcessPlan.{IsFirstLost, IsHeld, living, process_plan, versions}
 use Rattle.g_process.specs.Preparation.{IsGranted}
@@ -43,21 +47,7 @@ use Rattle.g_process.proofs.WriteLemmas.{contained, element, element_below}
 
 -- A RECORD that is there is that of a file
 pub of_file : (o : OnlineFacts) (r : FileRec) → Contains (recs_in o.contents) r → IsOfFile o r
-of_file o r there = in_files o.contents.files there
-  where
-    in_files : (fs : List File) → Contains (map (λ (f : File). f.rec) fs) r → (f : File) × Contains fs f × (f.rec ≡ r)
-    in_files [] (i, within, is) = absurd (let no : ⊥ = omega (arith, within) in no)
-    in_files (f ∷ fs) (zero, within, is) = (f, (0, omega arith, refl), is)
-    in_files (f ∷ fs) (suc i, within, is) =
-        let (g, (j, inside, at), same) = in_files fs (i, omega (arith, within), is) in
-        (g, (suc j, omega (arith, inside), at), same)
-
-rec_there : (fs : List File) (f : File) → Contains fs f → Contains (map (λ (x : File). x.rec) fs) f.rec
-rec_there [] f (i, within, same) = absurd (let no : ⊥ = omega (arith, within) in no)
-rec_there (g ∷ gs) f (zero, within, same) = (0, omega arith, ap (λ (x : File). x.rec) same)
-rec_there (g ∷ gs) f (suc i, within, same) =
-    let (j, inside, at_j) = rec_there gs f (i, omega (arith, within), same) in
-    (suc j, omega (arith, inside), at_j)
+of_file o r there = from_mapped (λ (f : File). f.rec) o.contents.files r there
 
 pub living_are_files : (o : OnlineFacts) → All (IsOfFile o) (living o.contents)
 living_are_files o k d within =
@@ -93,34 +83,17 @@ module _ (serial : ℕ) (o : OnlineFacts) (old now : Rack) (lists : List Listed)
         let rules = rules_here o live tied in
         held_ordered (every_user o.contents) (recs_in o.contents) (users_rise o.contents.users rules.records.among_users) rules.records.numbers.rising
 
-    turns : (a b : FileRec) → RecBefore a b → RecBefore b a → ⊥
-    turns a b (inl less) (inl more) = omega (arith, less, more)
-    turns a b (inl less) (inr (same, more)) = omega (arith, less, same)
-    turns a b (inr (same, less)) (inl more) = omega (arith, same, more)
-    turns a b (inr (same, less)) (inr (also, more)) = omega (arith, less, more)
-
     below_place : (rs : List FileRec) → AllPairs RecBefore rs → (place j : ℕ) (file q : FileRec) → slice_get rs place ≡ Some file → slice_get rs j ≡ Some q → RecBefore q file → j < place
-    below_place rs all place j file q at at_j before = by_order (cases j place)
+    below_place rs all place j file q at at_j before = by_order (cases_order j place)
       where
-        cases : (m n : ℕ) → (m < n) ⊎ ((m ≡ n) ⊎ (n < m))
-        cases zero zero = inr (inl refl)
-        cases zero (suc n) = inl (omega arith)
-        cases (suc m) zero = inr (inr (omega arith))
-        cases (suc m) (suc n) = more (cases m n)
-          where
-            more : (m < n) ⊎ ((m ≡ n) ⊎ (n < m)) → (suc m < suc n) ⊎ ((suc m ≡ suc n) ⊎ (suc n < suc m))
-            more (inl less) = inl (omega (arith, less))
-            more (inr (inl e)) = inr (inl (ap suc e))
-            more (inr (inr less)) = inr (inr (omega (arith, less)))
-
         got : (xs : List FileRec) (k : ℕ) (x d : FileRec) → slice_get xs k ≡ Some x → get_or xs k d ≡ x
         got [] k x d is = absurd (let no : ⊥ = cc in no)
         got (y ∷ ys) zero x d is = same_Some y x is
         got (y ∷ ys) (suc k) x d is = got ys k x d is
 
-        by_order : (j < place) ⊎ ((j ≡ place) ⊎ (place < j)) → j < place
-        by_order (inl less) = less
-        by_order (inr (inl e)) =
+        by_order : (j ≡ place) ⊎ ((j < place) ⊎ (place < j)) → j < place
+        by_order (inr (inl less)) = less
+        by_order (inl e) =
             let same : q ≡ file = same_Some q file (sym at_j ∙ ap (slice_get rs) e ∙ at) in
             let twice : RecBefore file file = subst (λ (x : FileRec). RecBefore x file) same before in
             absurd (turns file file twice twice)
@@ -146,7 +119,7 @@ module _ (serial : ℕ) (o : OnlineFacts) (old now : Rack) (lists : List Listed)
                 lost.lost.missing lost.copy lost.tape dumped.dumps dumped.notes_are dumped.found.row
                 (subst (λ (n : ℕ). AreHeld dumped.dumps lost.copy (blocks_for n)) (ap (λ (x : FileRec). x.len) is) (subst (λ (ds : List Dump). AreHeld ds lost.copy (blocks_for f.rec.len)) same held));
             before = λ g in_g off_g comes.
-                let (j, at_j) = contained (living o.contents) g.rec (all_living o.contents g.rec rules.records (rec_there o.contents.files g in_g)) in
+                let (j, at_j) = contained (living o.contents) g.rec (all_living o.contents g.rec rules.records (mapped_there (λ (x : File). x.rec) o.contents.files g in_g)) in
                 let comes_rec : RecBefore g.rec lost.file = subst (λ (x : FileRec). RecBefore g.rec x) is comes in
                 let less = below_place (living o.contents) ordered lost.place j lost.file g.rec lost.at at_j comes_rec in
                 held_by_list g in_g off_g (All-contains (IsThere o lists) (take lost.place (living o.contents)) g.rec lost.before (in_front (living o.contents) lost.place j g.rec less at_j));
@@ -186,7 +159,7 @@ module _ (serial : ℕ) (o : OnlineFacts) (old now : Rack) (lists : List Listed)
           record {
             file = (file, in_files, is);
             offline = λ f in_f named off.
-                let one : f.rec ≡ r = number_one (recs_in o.contents) rules.records.numbers.rising r f.rec in_recs (rec_there o.contents.files f in_f) named in
+                let one : f.rec ≡ r = number_one (recs_in o.contents) rules.records.numbers.rising r f.rec in_recs (mapped_there (λ (x : File). x.rec) o.contents.files f in_f) named in
                 let alive = all_living o.contents r rules.records in_recs in
                 let (copy, tape, noted) = (All-contains (IsThere o lists) (living o.contents) r all alive).there f in_f one off in
                 by_reel copy tape noted some (reel copy.serial old.reels) refl;
@@ -216,7 +189,7 @@ module _ (serial : ℕ) (o : OnlineFacts) (old now : Rack) (lists : List Listed)
 
       pub may_write : (room : ℕ) → ForSome (reel serial now.reels) (λ r. room ≡ r.capacity) → needs (process_plan serial o) ≤ room → MayWrite serial (process_plan serial o) (versions o.contents) o now
       may_write room capacity enough =
-          let (r, at) = some_reel (reel serial old.reels) granted.there in
+          let (r, at) = some_of (reel serial old.reels) granted.there in
           let (q, found, same) = after_reads (reel serial now.reels) (reel serial old.reels) r at (reel_after_reads serial old now only) in
           let is = capacity q found in
           record {
@@ -229,17 +202,13 @@ module _ (serial : ℕ) (o : OnlineFacts) (old now : Rack) (lists : List Listed)
             mounted = ap (λ (x : Reel). x.mounted) same ∙ mounted_at serial old.reels granted.mounted r at;
             room = omega (arith, enough, is);
           }
-        where
-          some_reel : (x : Option Reel) → is_some x ≡ true → (r : Reel) × (x ≡ Some r)
-          some_reel None is = absurd (let no : ⊥ = cc in no)
-          some_reel (Some r) is = (r, refl)
 
 -- A FILE THAT ISN'T ON THE DISC has a name and a copy
 pub named_as : (o : OnlineFacts) (r : FileRec) → o.live ≡ true → IsTied o → IsOfFile o r → name_of_file o.contents.users (recs_in o.contents) r.number ≡ Some (full_of o.contents.users r)
 named_as o r live tied (f, there, is) =
     let rules = rules_here o live tied in
     ap (option_map (full_of o.contents.users))
-    (number_found o.contents.users (recs_in o.contents) rules.records r.number r (subst (λ (x : FileRec). Contains (recs_in o.contents) x) is (rec_there o.contents.files f there)) refl)
+    (number_found o.contents.users (recs_in o.contents) rules.records r.number r (subst (λ (x : FileRec). Contains (recs_in o.contents) x) is (mapped_there (λ (x : File). x.rec) o.contents.files f there)) refl)
 
 pub copied_off : (o : OnlineFacts) (r : FileRec) → o.live ≡ true → IsTied o → IsOfFile o r → ((f : File) → Contains o.contents.files f → f.rec ≡ r → f.online ≡ false) → r.tape ≡ None → ⊥
 copied_off o r live tied (f, there, is) off none =

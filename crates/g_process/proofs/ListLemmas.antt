@@ -4,15 +4,17 @@ use Rattle.std.specs.Prelude.{◌⊎◌, All, Contains}
 use Rattle.std.proofs.lemmas.Bool.{cond-false, cond-true, eq-eqb, ne_eqb}
 use Rattle.std.proofs.lemmas.Bool.Decides.{eqb_tells}
 use Rattle.std.proofs.lemmas.List.Elements.{All-head, All-tail}
-use Rattle.std.proofs.lemmas.Option.{none-some, same_Some}
+use Rattle.std.proofs.lemmas.Option.{same_Some}
 use Rattle.g_tape.specs.Rack.{Rack, reel}
 use Rattle.g_tape.specs.Reel.{Reel}
+use Rattle.g_tape.proofs.PlaceLemmas.{reel-found}
 use Rattle.g_incr.specs.declared.note.DumpNote.{DumpNote}
 use Rattle.g_incr.specs.Layout.{Dump}
 use Rattle.g_shelf.specs.declared.rack.Listed.{Listed}
 use Rattle.g_shelf.specs.FoundDumps.{note_of}
 use Rattle.g_known.specs.ReelNotes.{AreFound, AreListed, IsListed}
 use Rattle.g_shelf.proofs.OneLemmas.{completed_are_one}
+use Rattle.g_laws_memory.proofs.WaitingLemmas.{mapped_there}
 use Rattle.g_process.specs.Lists.{notes_at}
 use Rattle.g_process.specs.ProcessPlan.{IsFree, IsTaken}
 
@@ -45,18 +47,9 @@ noted_in serial old new (l ∷ ls) all there = by_serial (eqb_tells l.serial ser
 
 pub noted_at : (serial : ℕ) (old new : Rack) (lists : List Listed) (r : Reel) → AreListed old lists → reel serial old.reels ≡ Some r → IsNotedAt serial old new lists
 noted_at serial old new lists r are at =
-    noted_in serial old new lists are.each (subst (λ (ns : List ℕ). Contains ns serial) (sym are.serials) (among serial old.reels r at))
-  where
-    among : (n : ℕ) (rs : List Reel) (q : Reel) → reel n rs ≡ Some q → Contains (map (λ (x : Reel). x.serial) rs) n
-    among n [] q is = absurd (none-some q is)
-    among n (x ∷ xs) q is = by_first (eqb_tells n x.serial) (λ it. among n xs q it)
-      where
-        by_first : (((n == x.serial) ≡ true) × (n ≡ x.serial)) ⊎ (((n == x.serial) ≡ false) × (n ≡ x.serial → ⊥)) → (reel n xs ≡ Some q → Contains (map (λ (y : Reel). y.serial) xs) n)
-            → Contains (map (λ (y : Reel). y.serial) (x ∷ xs)) n
-        by_first (inl h) rest = (0, omega arith, sym h.1)
-        by_first (inr h) rest =
-            let (i, within, same) = rest (sym (cond-false (n == x.serial) (Some x) (reel n xs) h.0) ∙ is) in
-            (suc i, omega (arith, within), same)
+    let (there, named) = reel-found serial old.reels r at in
+    noted_in serial old new lists are.each (subst (λ (ns : List ℕ). Contains ns serial) (sym are.serials)
+    (subst (λ (n : ℕ). Contains (map (λ (x : Reel). x.serial) old.reels) n) named (mapped_there (λ (x : Reel). x.serial) old.reels r there)))
 
 pub unlisted : (serial : ℕ) (lists : List Listed) → (Contains (serials lists) serial → ⊥) → notes_at serial lists ≡ []
 unlisted serial [] apart = refl

@@ -15,6 +15,7 @@ use Rattle.g_entry.specs.FileFields.{IsCopy, IsFile}
 use Rattle.g_entry.specs.HeadFields.{IsSerial}
 use Rattle.g_entry.specs.Rules.{AreUsers, SameName}
 use Rattle.g_tree.specs.Records.{IsRecords}
+use Rattle.g_tree.proofs.RuleLemmas.{one_of_key}
 use Rattle.g_disc_contents.specs.Contents.{Contents, File, copied_rec, copy_of, recs_in}
 use Rattle.g_disc_contents.specs.Facts.{IsTied, OnlineFacts}
 use Rattle.g_incr.proofs.PlanLemmas.{blocks_most}
@@ -28,6 +29,7 @@ use Rattle.g_laws_process.proofs.ForgetLemmas.{forgetting_stays}
 use Rattle.g_dumper.specs.Beginning.{held_of}
 use Rattle.g_dumper.proofs.HeldLemmas.{held_all, held_few, held_ordered, held_pairs, holds_there, in_held, is_held}
 use Rattle.g_dumper.proofs.IntentLemmas.{rules_here}
+use Rattle.g_laws_memory.proofs.WaitingLemmas.{mapped_there}
 use Rattle.g_process.specs.ProcessPlan.{copies_from, is_filled, living, process_plan, versions}
 use Rattle.g_process.proofs.ReleaseLemmas.{take_next}
 use Rattle.g_process.proofs.WriteLemmas.{contained}
@@ -255,29 +257,8 @@ copied_apart serial at (q ∷ qs) stamp old apart =
     later p (i, within, is) = (suc i, omega (arith, within), is)
 
 -- two records of one key are one
-get_any : (xs : List FileRec) (k : ℕ) (d e : FileRec) → k < length xs → get_or xs k d ≡ get_or xs k e
-get_any [] k d e within = absurd (let no : ⊥ = omega (arith, within) in no)
-get_any (x ∷ xs) zero d e within = refl
-get_any (x ∷ xs) (suc k) d e within = get_any xs k d e (omega (arith, within))
-
-in_order : (m n : ℕ) → (m < n) ⊎ ((m ≡ n) ⊎ (n < m))
-in_order zero zero = inr (inl refl)
-in_order zero (suc n) = inl (omega arith)
-in_order (suc m) zero = inr (inr (omega arith))
-in_order (suc m) (suc n) = more (in_order m n)
-  where
-    more : (m < n) ⊎ ((m ≡ n) ⊎ (n < m)) → (suc m < suc n) ⊎ ((suc m ≡ suc n) ⊎ (suc n < suc m))
-    more (inl less) = inl (omega (arith, less))
-    more (inr (inl e)) = inr (inl (ap suc e))
-    more (inr (inr less)) = inr (inr (omega (arith, less)))
-
 pub key_one : (key : FileRec → ℕ) (rs : List FileRec) → AllPairs (λ (r s : FileRec). key r ≢ key s) rs → (r q : FileRec) → Contains rs r → Contains rs q → key q ≡ key r → q ≡ r
-key_one key rs apart r q (i, in_i, at_i) (j, in_j, at_j) same = by_order (in_order i j)
-  where
-    by_order : (i < j) ⊎ ((i ≡ j) ⊎ (j < i)) → q ≡ r
-    by_order (inl less) = absurd (apart i j r less in_j (ap key at_i ∙ sym same ∙ ap key (sym at_j ∙ get_any rs j q r in_j)))
-    by_order (inr (inl e)) = sym at_j ∙ get_any rs j q r in_j ∙ ap (λ (n : ℕ). get_or rs n r) (sym e) ∙ at_i
-    by_order (inr (inr less)) = absurd (apart j i q less in_i (ap key at_j ∙ same ∙ ap key (sym at_i ∙ get_any rs i r q in_i)))
+key_one key rs apart r q in_r in_q same = one_of_key key rs q r apart in_q in_r same
 
 pub stamp_one : (rs : List FileRec) → AllPairs (λ (r s : FileRec). r.stamp ≢ s.stamp) rs → (r q : FileRec) → Contains rs r → Contains rs q → q.stamp ≡ r.stamp → q ≡ r
 stamp_one rs apart r q in_r in_q same = key_one (λ (x : FileRec). x.stamp) rs apart r q in_r in_q same
@@ -313,18 +294,11 @@ made_ready serial at last o ready live tied named number low is =
         each = λ k d within some.
             let f = get_or o.contents.files k d in
             copied_some serial at (versions o.contents) f.rec f.rec.tape
-            (all_versions o.contents f.rec rules.records (rec_there o.contents.files f (Contains-get_or o.contents.files k d within)) some);
+            (all_versions o.contents f.rec rules.records (mapped_there (λ (x : File). x.rec) o.contents.files f (Contains-get_or o.contents.files k d within)) some);
       };
       rules = rules_copied (copies_from serial at (versions o.contents)) (places_fit serial at (versions o.contents) named low) o.contents last number
           (empty_kept serial at o.contents rules.records) rules;
     }
-  where
-    rec_there : (files : List File) (f : File) → Contains files f → Contains (map (λ (x : File). x.rec) files) f.rec
-    rec_there [] f (i, within, same) = absurd (let no : ⊥ = omega (arith, within) in no)
-    rec_there (g ∷ gs) f (zero, within, same) = (0, omega arith, ap (λ (x : File). x.rec) same)
-    rec_there (g ∷ gs) f (suc i, within, same) =
-        let (j, inside, at_j) = rec_there gs f (i, omega (arith, within), same) in
-        (suc j, omega (arith, inside), at_j)
 
 -- ONE MORE COPY behind the others
 pub copies_push : (serial at : ℕ) (rs : List FileRec) (r : FileRec) → copies_from serial at (rs ++ r ∷ []) ≡ copies_from serial at rs ++ (r.stamp, record { serial = serial; first = at + blocks_of rs }) ∷ []

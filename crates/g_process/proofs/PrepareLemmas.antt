@@ -1,6 +1,6 @@
 -- How the planning ends, by the catalogue and by what is in memory.
-use Rattle.std.proofs.Common.{◌≡◌, ℕ, ◌+◌, ◌<◌, ◌≤◌, true, List, [], map, Option, Some, None, Ok, Err, refl, sym, ◌∙◌, ap, subst, inl, inr}
-use Rattle.std.specs.Prelude.{◌⊎◌, All, Result, is_some}
+use Rattle.std.proofs.Common.{◌≡◌, ℕ, ◌+◌, ◌<◌, ◌≤◌, true, List, [], map, Some, Ok, Err, refl, sym, ◌∙◌, ap, subst, inl, inr}
+use Rattle.std.specs.Prelude.{◌⊎◌, All, Result}
 use Rattle.std.specs.Option.{ForSome}
 use Rattle.g_entry.specs.declared.file_rec.FileRec.{FileRec}
 use Rattle.g_entry.specs.declared.head.Intent.{Intent}
@@ -10,6 +10,7 @@ use Rattle.g_tape.specs.Reel.{Reel}
 use Rattle.g_tape.proofs.ReadLemmas.{is_reel, reel_after_reads}
 use Rattle.g_plain.specs.declared.faults.StoreFault.{StoreFault}
 use Rattle.g_plain.specs.declared.faults.StoreFault.TheVariants.{ReelNotFree, TapeFull, TapeReadFault}
+use Rattle.g_plain.proofs.Found.{some_of}
 use Rattle.g_incr.specs.declared.fault.ShelfFault.{ShelfFault}
 use Rattle.g_incr.specs.declared.fault.ShelfFault.TheVariants as shelf
 use Rattle.g_incr.specs.Faults.{store_fault}
@@ -32,13 +33,9 @@ use Rattle.g_process.proofs.JobLemmas.{first_lost_is, may_write}
 use Rattle.g_process.proofs.ListLemmas.{free_by_list, taken_by_list}
 use Rattle.g_process.proofs.PlanLemmas.{process_rules}
 
-some_reel : (x : Option Reel) → is_some x ≡ true → (r : Reel) × (x ≡ Some r)
-some_reel None is = absurd (let no : ⊥ = cc in no)
-some_reel (Some r) is = (r, refl)
-
 module _ (serial : ℕ) (o : OnlineFacts) (old now : Rack) (lists : List Listed) (was : IsCatalogued serial o old now lists) (live : o.live ≡ true) (tied : IsTied o) where
   the_reel : (r : Reel) × (reel serial old.reels ≡ Some r)
-  the_reel = some_reel (reel serial old.reels) was.granted.there
+  the_reel = some_of (reel serial old.reels) was.granted.there
 
   pub named : IsSerial serial
   named =

@@ -159,16 +159,16 @@ module _ (serial : ℕ) (o : OnlineFacts) (old new : Rack) (live : o.live ≡ tr
   })
 
 -- ALL OF THEM
+-- known without a read, or behind one
+pub early_never : (fault : StoreFault) → IsEarly fault → IsLate fault → ⊥
+early_never TapeReadFault early late = early
+early_never DiscReadFault early late = early
+early_never Stopped early late = early
+early_never fault early late = late
+
 module _ (serial : ℕ) (o : OnlineFacts) (old new : Rack) (live : o.live ≡ true) (pins : o.pins ≡ None) (tied : IsTied o) (only : OnlyReads old new) where
   abbrev was : StoreFacts
   was = up_with o old None
-
-  -- known without a read
-  early_never : (fault : StoreFault) → IsEarly fault → IsLate fault → ⊥
-  early_never TapeReadFault early late = early
-  early_never DiscReadFault early late = early
-  early_never Stopped early late = early
-  early_never fault early late = late
 
   early_unlike : (fault other : StoreFault) → IsEarly fault → (IsEarly other → ⊥) → (let r : Result ℕ StoreFault = Err fault in r ≡ Err other) → ⊥
   early_unlike fault other early not_early is = not_early (subst IsEarly (let e : fault ≡ other = cc in e) early)

@@ -3,16 +3,19 @@ use Rattle.std.proofs.Common.{◌≡◌, ℕ, zero, suc, ◌+◌, ◌≤◌, ◌
 use Rattle.std.specs.Prelude.{◌⊎◌, ◌||◌, All, Contains, filter}
 use Rattle.std.proofs.lemmas.Bool.{cases_Bool, cond-false, cond-true, ne_eqb}
 use Rattle.std.proofs.lemmas.Bool.Decides.{eqb_tells}
-use Rattle.std.proofs.lemmas.Option.{none-some, same_Some}
+use Rattle.std.proofs.lemmas.Option.{same_Some}
+use Rattle.std.proofs.lemmas.List.Elements.{All-contains}
 use Rattle.g_base.specs.Counts.{Rose}
 use Rattle.g_tape.specs.Rack.{AreReels, Rack, changed, reel, refuses_write, with_reel}
 use Rattle.g_tape.specs.Reads.{count_at, time_of, times_in}
 use Rattle.g_tape.specs.Reel.{Reel, Remains, ending, left_by}
 use Rattle.g_tape.proofs.ReadLemmas.{is_reel}
+use Rattle.g_tape.proofs.PlaceLemmas.{reel-found}
 use Rattle.g_disc_contents.specs.Contents.{has}
 use Rattle.g_shelf.specs.declared.rack.Listed.{Listed}
+use Rattle.g_laws_memory.proofs.WaitingLemmas.{mapped_there}
 use Rattle.g_process.specs.Releases.{AreReleased, IsCutAt, is_taken, released, taken, zeros}
-use Rattle.g_process.proofs.WriteLemmas.{free_there}
+use Rattle.g_process.proofs.WriteLemmas.{free_there, element}
 
 -- the serials so far
 pub taken_none : (serial : ℕ) (lists : List Listed) (l : Listed) → is_taken serial l ≡ false → taken serial (lists ++ l ∷ []) ≡ taken serial lists
@@ -164,13 +167,7 @@ released_capacity ss r = by_case (has ss r.serial)
     by_case false = refl
 
 pub mounted_at : (n : ℕ) (rs : List Reel) → All (λ r. r.mounted ≡ true) rs → (r : Reel) → reel n rs ≡ Some r → r.mounted ≡ true
-mounted_at n [] all r is = absurd (none-some r is)
-mounted_at n (q ∷ qs) all r is = by_serial (cases_Bool (n == q.serial)) (mounted_at n qs (λ k d within. all (suc k) d (omega (arith, within))) r)
-  where
-    by_serial : ((n == q.serial) ≡ true) ⊎ ((n == q.serial) ≡ false) → (reel n qs ≡ Some r → r.mounted ≡ true) → r.mounted ≡ true
-    by_serial (inl same) rest =
-        subst (λ (x : Reel). x.mounted ≡ true) (same_Some q r (sym (cond-true (n == q.serial) (Some q) (reel n qs) same) ∙ is)) (all 0 q (omega arith))
-    by_serial (inr other) rest = rest (sym (cond-false (n == q.serial) (Some q) (reel n qs) other) ∙ is)
+mounted_at n rs all r is = All-contains (λ (q : Reel). q.mounted ≡ true) rs r all (reel-found n rs r is).0
 
 -- so its block 0 can be written
 pub release_free : (s : ℕ) (ss : List ℕ) (old mid : Rack) → AreReels old.reels → All (λ r. r.mounted ≡ true) old.reels → Contains (serials old.reels) s → AreReleased ss old mid
@@ -215,14 +212,7 @@ release_ends serial lists i old new all so = subst (λ (ls : List Listed). AreRe
 pub listed_free : (serial : ℕ) (lists : List Listed) (i : ℕ) (l : Listed) (old mid : Rack) → AreReels old.reels → All (λ r. r.mounted ≡ true) old.reels → map (λ (x : Listed). x.serial) lists ≡ serials old.reels
     → slice_get lists i ≡ Some l → AreReleased (taken serial (take i lists)) old mid → refuses_write 0 (reel l.serial mid.reels) ≡ None
 listed_free serial lists i l old mid are mounted listed at so =
-    release_free l.serial (taken serial (take i lists)) old mid are mounted (subst (λ (ns : List ℕ). Contains ns l.serial) listed (mapped lists i at)) so
-  where
-    mapped : (ls : List Listed) (n : ℕ) → slice_get ls n ≡ Some l → Contains (map (λ (x : Listed). x.serial) ls) l.serial
-    mapped [] n is = absurd (let no : ⊥ = cc in no)
-    mapped (x ∷ xs) zero is = (0, omega arith, ap (λ (y : Listed). y.serial) (same_Some x l is))
-    mapped (x ∷ xs) (suc n) is =
-        let (j, within, same) = mapped xs n is in
-        (suc j, omega (arith, within), same)
+    release_free l.serial (taken serial (take i lists)) old mid are mounted (subst (λ (ns : List ℕ). Contains ns l.serial) listed (mapped_there (λ (x : Listed). x.serial) lists l (element lists i l at))) so
 
 pub release_cuts : (serial : ℕ) (lists : List Listed) (i : ℕ) (l : Listed) (old mid new : Rack) → slice_get lists i ≡ Some l → is_taken serial l ≡ true → AreReleased (taken serial (take i lists)) old mid
     → Rose mid.write_faults new.write_faults × ((how : Remains) × (new ≡ record (changed l.serial (left_by how 0) mid) { write_faults = new.write_faults; fuse = new.fuse }))

@@ -25,8 +25,8 @@ use Rattle.g_store_meaning.specs.Reading.{ReelsTold}
 use Rattle.g_store_meaning.proofs.OneLemmas.{on_reel}
 use Rattle.g_dumper.proofs.BeginLemmas.{reel_named}
 use Rattle.g_dumper.proofs.ShelfLemmas.{reel_there, told_is}
+use Rattle.g_dumper.proofs.NextLemmas.{at_content}
 use Rattle.g_process.specs.Progress.{IsReadable, IsSource}
-use Rattle.g_process.proofs.ContentLemmas.{at_content}
 use Rattle.g_process.proofs.DumpLemmas.{from_drop, get_below}
 
 -- a completed dump stands on its reel

@@ -1,5 +1,5 @@
 -- The dump, block by block: what stands behind each write, and that the next one can be made.
-use Rattle.std.proofs.Common.{◌≡◌, ◌≢◌, ℕ, zero, suc, ◌+◌, ◌<◌, ◌≤◌, Bool, true, List, [], ◌∷◌, ◌++◌, get_or, length, Some, None, refl, sym, ◌∙◌, ap, arith, subst, inl, inr, option_map, if◌then◌else◌, slice_get}
+use Rattle.std.proofs.Common.{◌≡◌, ◌≢◌, ℕ, zero, suc, ◌+◌, ◌<◌, ◌≤◌, Bool, true, List, [], ◌∷◌, ◌++◌, get_or, length, Some, None, refl, sym, ◌∙◌, ap, arith, subst, inl, inr, map, option_map, if◌then◌else◌, slice_get}
 use Rattle.std.specs.Prelude.{◌⊎◌, ◌||◌, Contains, nat_lt, not}
 use Rattle.std.proofs.lemmas.Bool.{cond-true, le-ltb, lt-ltb}
 use Rattle.std.proofs.lemmas.List.{length-append}
@@ -26,6 +26,11 @@ element (y ∷ ys) zero x is = (0, omega arith, same_Some y x is)
 element (y ∷ ys) (suc i) x is =
     let (j, within, same) = element ys i x is in
     (suc j, omega (arith, within), same)
+
+pub get_map : {X Y : Type 0} (f : X → Y) (xs : List X) (i : ℕ) (x : X) → slice_get xs i ≡ Some x → slice_get (map f xs) i ≡ Some (f x)
+get_map {X = X} f [] i x is = absurd (let no : ⊥ = cc in no)
+get_map {X = X} f (y ∷ ys) zero x is = ap (λ (z : X). Some (f z)) (same_Some y x is)
+get_map {X = X} f (y ∷ ys) (suc i) x is = get_map f ys i x is
 
 pub contained : {X : Type 0} (xs : List X) (x : X) → Contains xs x → (i : ℕ) × (slice_get xs i ≡ Some x)
 contained [] x (i, within, is) = absurd (let no : ⊥ = omega (arith, within) in no)

@@ -61,33 +61,36 @@ rising_filter p low (j ∷ jobs) top r = by (p j) (rising_filter p (j.number + 1
     by true rest = (r.0, rest)
     by false rest = rising_lower (j.number + 1) low (filter p jobs) top (let least : low ≤ j.number = r.0 in omega (arith, least)) rest
 
+-- a job is the one of its number where it is the first, or one behind it
+abbrev IsOne : (JobState → Bool) → ℕ → List JobState → JobState → Type 0
+IsOne p low jobs job = (low ≤ job.number) × (numbered job.number jobs ≡ Some job) × (p job ≡ true)
+
+module _ (p : JobState → Bool) (low : ℕ) (j : JobState) (jobs : List JobState) (top : ℕ) (job : JobState) (r : AreRising low (j ∷ jobs) top) where
+  one_here : p j ≡ true → j ≡ job → IsOne p low (j ∷ jobs) job
+  one_here e same = (
+    subst (λ (x : JobState). low ≤ x.number) same r.0,
+    subst (λ (x : JobState). numbered x.number (j ∷ jobs) ≡ Some x) same (ap (λ (b : Bool). cond b (Some j) (numbered j.number jobs)) (itself j.number)),
+    ap p (sym same) ∙ e,
+  )
+
+  one_behind : IsOne p (j.number + 1) jobs job → IsOne p low (j ∷ jobs) job
+  one_behind more =
+      let least : low ≤ j.number = r.0 in
+      let above : j.number + 1 ≤ job.number = more.0 in
+      let other : (j.number == job.number) ≡ false = ne_eqb j.number job.number (λ same. let no : ⊥ = omega (arith, same, above) in no) in
+      (omega (arith, least, above), ap (λ (b : Bool). cond b (Some j) (numbered job.number jobs)) other ∙ more.1, more.2)
+
 -- a job at a place of those that pass a test is the one of its number
 pub listed : (p : JobState → Bool) (low : ℕ) (jobs : List JobState) (top place : ℕ) (job : JobState) → AreRising low jobs top → slice_get (filter p jobs) place ≡ Some job
     → (low ≤ job.number) × (numbered job.number jobs ≡ Some job) × (p job ≡ true)
 listed p low [] top place job r there = nobody_there place job there
 listed p low (j ∷ jobs) top place job r there = by (p j) refl place there (λ n e. listed p (j.number + 1) jobs top n job r.1 e)
   where
-    later : ((n : ℕ) → slice_get (filter p jobs) n ≡ Some job → (j.number + 1 ≤ job.number) × (numbered job.number jobs ≡ Some job) × (p job ≡ true)) → (place : ℕ) → slice_get (filter p jobs) place ≡ Some job → (low ≤ job.number) × (numbered job.number (j ∷ jobs) ≡ Some job) × (p job ≡ true)
-    later again place there =
-        let more = again place there in
-        let least : low ≤ j.number = r.0 in
-        let above : j.number + 1 ≤ job.number = more.0 in
-        let other : (j.number == job.number) ≡ false = ne_eqb j.number job.number (λ same. let no : ⊥ = omega (arith, same, above) in no) in
-        (omega (arith, least, above), ap (λ (b : Bool). cond b (Some j) (numbered job.number jobs)) other ∙ more.1, more.2)
-
-    here : p j ≡ true → j ≡ job → (low ≤ job.number) × (numbered job.number (j ∷ jobs) ≡ Some job) × (p job ≡ true)
-    here e same = (
-      subst (λ (x : JobState). low ≤ x.number) same r.0,
-      subst (λ (x : JobState). numbered x.number (j ∷ jobs) ≡ Some x) same (ap (λ (b : Bool). cond b (Some j) (numbered j.number jobs)) (itself j.number)),
-      ap p (sym same) ∙ e,
-    )
-
     by : (b : Bool) → p j ≡ b → (place : ℕ) → slice_get (cond b (j ∷ filter p jobs) (filter p jobs)) place ≡ Some job
-        → ((n : ℕ) → slice_get (filter p jobs) n ≡ Some job → (j.number + 1 ≤ job.number) × (numbered job.number jobs ≡ Some job) × (p job ≡ true))
-        → (low ≤ job.number) × (numbered job.number (j ∷ jobs) ≡ Some job) × (p job ≡ true)
-    by true e zero there again = here e (one_job j job there)
-    by true e (suc place) there again = later again place there
-    by false e place there again = later again place there
+        → ((n : ℕ) → slice_get (filter p jobs) n ≡ Some job → IsOne p (j.number + 1) jobs job) → IsOne p low (j ∷ jobs) job
+    by true e zero there again = one_here p low j jobs top job r e (one_job j job there)
+    by true e (suc place) there again = one_behind p low j jobs top job r (again place there)
+    by false e place there again = one_behind p low j jobs top job r (again place there)
 
 -- the job of a number has it, and it is below the next one
 pub number_of : (number low : ℕ) (jobs : List JobState) (top : ℕ) (job : JobState) → AreRising low jobs top → numbered number jobs ≡ Some job → (job.number ≡ number) × (number < top)
@@ -162,21 +165,6 @@ pub found_by : (p : JobState → Bool) (low : ℕ) (jobs : List JobState) (top :
 found_by p low [] top job r is = no_job job is
 found_by p low (j ∷ jobs) top job r is = by (p j) refl is (λ e. found_by p (j.number + 1) jobs top job r.1 e)
   where
-    later : (j.number + 1 ≤ job.number) × (numbered job.number jobs ≡ Some job) × (p job ≡ true) → (low ≤ job.number) × (numbered job.number (j ∷ jobs) ≡ Some job) × (p job ≡ true)
-    later more =
-        let least : low ≤ j.number = r.0 in
-        let above : j.number + 1 ≤ job.number = more.0 in
-        let other : (j.number == job.number) ≡ false = ne_eqb j.number job.number (λ same. let no : ⊥ = omega (arith, same, above) in no) in
-        (omega (arith, least, above), ap (λ (b : Bool). cond b (Some j) (numbered job.number jobs)) other ∙ more.1, more.2)
-
-    here : p j ≡ true → j ≡ job → (low ≤ job.number) × (numbered job.number (j ∷ jobs) ≡ Some job) × (p job ≡ true)
-    here e same = (
-      subst (λ (x : JobState). low ≤ x.number) same r.0,
-      subst (λ (x : JobState). numbered x.number (j ∷ jobs) ≡ Some x) same (ap (λ (b : Bool). cond b (Some j) (numbered j.number jobs)) (itself j.number)),
-      ap p (sym same) ∙ e,
-    )
-
-    by : (b : Bool) → p j ≡ b → cond b (Some j) (find p jobs) ≡ Some job → (find p jobs ≡ Some job → (j.number + 1 ≤ job.number) × (numbered job.number jobs ≡ Some job) × (p job ≡ true))
-        → (low ≤ job.number) × (numbered job.number (j ∷ jobs) ≡ Some job) × (p job ≡ true)
-    by true e is again = here e (one_job j job is)
-    by false e is again = later (again is)
+    by : (b : Bool) → p j ≡ b → cond b (Some j) (find p jobs) ≡ Some job → (find p jobs ≡ Some job → IsOne p (j.number + 1) jobs job) → IsOne p low (j ∷ jobs) job
+    by true e is again = one_here p low j jobs top job r e (one_job j job is)
+    by false e is again = one_behind p low j jobs top job r (again is)

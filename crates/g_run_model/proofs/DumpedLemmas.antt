@@ -19,9 +19,9 @@ use Rattle.g_plain.specs.declared.calls.StoreReply.{StoreReply}
 use Rattle.g_plain.specs.declared.faults.StoreFault.{StoreFault}
 use Rattle.g_plain.specs.declared.faults.StoreFault.TheVariants.{CountersSpent, DiscReadFault, DumpOpen, NoTape, NotMounted, NotStarted, Running, Stopped, TapeFull, TapeReadFault}
 use Rattle.g_plain.specs.PlainTree.{Tree}
-use Rattle.g_plain.specs.PlainStep.{first_fault, reply_to}
+use Rattle.g_plain.specs.PlainStep.{first_fault}
 use Rattle.g_store_model.specs.State.{State, Holding, OpenDump, Place, Dumped as DumpedTree, is_mounted, lacks}
-use Rattle.g_store_model.specs.CallStep.{Outcome, Plain, DiscRead, TapeRead, Cut, CallStep, Planned, LeftByRefusal, after_call, brings_now, commits, down, early, held_after, is_cut, is_tape_read, late, touched_by, writes}
+use Rattle.g_store_model.specs.CallStep.{Outcome, Plain, DiscRead, TapeRead, Cut, CallStep, after_call, brings_now, commits, down, held_after, is_cut, is_tape_read, touched_by, writes}
 use Rattle.g_store_model.specs.DumpSteps.{Completed, DumpStep, Event, Going, Stepped as DumpStepped, UsedByCut, dump_begun, dump_needs, open_number, open_refuses, opening, tape_room}
 use Rattle.g_store_model.specs.Rising.{FormatStep, StartStep, RestoreStep, Starts, Restores, restore_early}
 use Rattle.g_store_model.specs.Laws.{tree_in}
@@ -33,7 +33,7 @@ use Rattle.g_run_model.specs.Events.{IsTold, IsOpening, IsMigration, IsProcessin
 use Rattle.g_run_model.specs.Lines.{LineGives, is_process, tells, up_with, now_stands, line_refused, shut_with}
 use Rattle.g_run_model.specs.Moves.{Move, TakeLine, Dumped, Begin, Answered, TurnOver, Ticked, Over, Step, Run}
 use Rattle.g_run_model.specs.Laws.{DumpedIsOpened, OpenedIn, ProcessedIn}
-use Rattle.g_run_model.proofs.StepLemmas.{tree_held}
+use Rattle.g_run_model.proofs.StepLemmas.{call_kept, tree_held}
 use Rattle.g_run_model.proofs.TreeLemmas.{dump_store, job_by, login_by, told_stands, told_up, turn_store, typed_by}
 use Rattle.g_job.specs.Terminal.{logged_out, typed_to}
 use Rattle.g_run_model.proofs.TurnLemmas.{run_append}
@@ -154,24 +154,8 @@ module _ (s : State) (k : Holding) (who : List ℕ) (call : StoreCall) where
   called : (until : ℕ) → Keeps s (after_call s k who call until)
   called until = after_dumps until (writes call || brings_now s k who call)
 
-  left_dumps : (o : Outcome) (until : ℕ) (fault : StoreFault) (new : State) → LeftByRefusal s k who call o until fault new → Keeps s new
-  left_dumps o until Stopped new (inl is) = gone_down s s new refl is
-  left_dumps o until Stopped new (inr (inl (some, is))) = (ap (λ (x : State). x.dumped) is, inl (ap (λ (x : State). about x.open_dump) is))
-  left_dumps o until Stopped new (inr (inr is)) = gone_down s (after_call s k who call until) new (called until).0 is
-  left_dumps o until fault new is = same_state s new is
-
-  late_dumps : (o : Outcome) (until : ℕ) (answer : Result StoreReply StoreFault) (new : State) (f : Option StoreFault)
-      → MatchOption f ((answer ≡ Ok (reply_to k.tree who call)) × (new ≡ after_call s k who call until)) (λ fault. (answer ≡ Err fault) × LeftByRefusal s k who call o until fault new) → Keeps s new
-  late_dumps o until answer new None (ok, is) = moved s (after_call s k who call until) new (called until) is
-  late_dumps o until answer new (Some fault) (err, left) = left_dumps o until fault new left
-
-  early_dumps : (o : Outcome) (answer : Result StoreReply StoreFault) (new : State) (f : Option StoreFault)
-      → MatchOption f (Planned s k who call o answer new) (λ fault. (answer ≡ Err fault) × (new ≡ s)) → Keeps s new
-  early_dumps o answer new None plan = late_dumps o plan.until answer new (late s k who call o plan.until) plan.step
-  early_dumps o answer new (Some fault) (err, is) = same_state s new is
-
   call_dumps : (o : Outcome) (answer : Result StoreReply StoreFault) (new : State) → CallStep s k who call o answer new → Keeps s new
-  call_dumps o answer new step = early_dumps o answer new (early s k who call o) step
+  call_dumps = call_kept (λ (x : State). Keeps s x) s k who call (refl, inr refl) (refl, inl refl) (λ until. (refl, inl refl)) called (λ until. ((called until).0, inl refl))
 
 -- the world's store behind a line
 stays : (w new v : World) → new ≡ v → v.store ≡ w.store → Keeps w.store new.store

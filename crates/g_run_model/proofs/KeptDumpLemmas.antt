@@ -6,12 +6,12 @@ use Rattle.g_plain.specs.declared.calls.StoreCall.{StoreCall}
 use Rattle.g_plain.specs.declared.calls.StoreReply.{StoreReply}
 use Rattle.g_plain.specs.declared.faults.StoreFault.{StoreFault}
 use Rattle.g_plain.specs.declared.faults.StoreFault.TheVariants.{DiscReadFault, Stopped}
-use Rattle.g_plain.specs.PlainStep.{reply_to}
-use Rattle.g_store_model.specs.CallStep.{CallStep, Cut, DiscRead, LeftByRefusal, Outcome, Plain, Planned, TapeRead, after_call, brings_now, commits, down, early, held_after, late, touched_by, writes}
+use Rattle.g_store_model.specs.CallStep.{CallStep, Cut, DiscRead, Outcome, Plain, TapeRead, after_call, brings_now, commits, down, held_after, touched_by, writes}
 use Rattle.g_store_model.specs.DumpSteps.{Completed, DumpStep, Event, Going, MigrateStep, MountStep, OpenStep, Stepped as DumpStepped, UnmountStep, with_mounted, with_used}
 use Rattle.g_store_model.specs.Rising.{FormatStep, RestoreStep, Restores, StartStep, Starts, has_none, restore_early}
 use Rattle.g_store_model.specs.State.{Dumped as DumpedTree, Holding, OpenDump, ReelRow, State, with_reel}
 use Rattle.g_run_model.specs.Laws.{HasDumped}
+use Rattle.g_run_model.proofs.StepLemmas.{call_kept}
 
 -- what is dumped stays, and so do the reels' dumps
 abbrev pub KeepsDumps : State → State → Type 0
@@ -97,21 +97,5 @@ module _ (s : State) (k : Holding) (who : List ℕ) (call : StoreCall) where
       by true = λ has. has
       by false = λ has. has
 
-  left_keeps : (o : Outcome) (until : ℕ) (f : StoreFault) (new : State) → LeftByRefusal s k who call o until f new → KeepsDumps s new
-  left_keeps o until Stopped new (inl is) = dumps_of s (down s) new is (λ has. has)
-  left_keeps o until Stopped new (inr (inl (some, is))) = dumps_of s _ new is (λ has. has)
-  left_keeps o until Stopped new (inr (inr is)) = dumps_of s (down (after_call s k who call until)) new is (after_keeps until)
-  left_keeps o until f new is = dumps_of s s new is (λ has. has)
-
-  late_keeps : (o : Outcome) (until : ℕ) (f : Option StoreFault) (answer : Result StoreReply StoreFault) (new : State)
-      → MatchOption f ((answer ≡ Ok (reply_to k.tree who call)) × (new ≡ after_call s k who call until)) (λ fault. (answer ≡ Err fault) × LeftByRefusal s k who call o until fault new) → KeepsDumps s new
-  late_keeps o until None answer new (ok, is) = dumps_of s (after_call s k who call until) new is (after_keeps until)
-  late_keeps o until (Some f) answer new (err, left) = left_keeps o until f new left
-
-  early_keeps : (o : Outcome) (f : Option StoreFault) (answer : Result StoreReply StoreFault) (new : State)
-      → MatchOption f (Planned s k who call o answer new) (λ fault. (answer ≡ Err fault) × (new ≡ s)) → KeepsDumps s new
-  early_keeps o None answer new plan = late_keeps o plan.until (late s k who call o plan.until) answer new plan.step
-  early_keeps o (Some f) answer new (err, is) = dumps_of s s new is (λ has. has)
-
   pub call_keeps : (o : Outcome) (answer : Result StoreReply StoreFault) (new : State) → CallStep s k who call o answer new → KeepsDumps s new
-  call_keeps o answer new step = early_keeps o (early s k who call o) answer new step
+  call_keeps = call_kept (λ (x : State). KeepsDumps s x) s k who call (λ has. has) (λ has. has) (λ until has. has) after_keeps after_keeps

@@ -13,7 +13,7 @@ use Rattle.g_store_model.specs.DumpSteps.{Completed, DumpStep, Event, Going, Mig
 use Rattle.g_store_model.specs.Rising.{FormatStep, RestoreStep, Restores, StartStep, Starts, restore_early}
 use Rattle.g_store_model.specs.State.{Dumped as DumpedTree, Holding, OpenDump, ReelRow, State, is_mounted, mounted_in, reel_at, with_reel}
 use Rattle.g_name.specs.declared.full.Full.{Full}
-use Rattle.g_run_model.proofs.StepLemmas.{refused}
+use Rattle.g_run_model.proofs.StepLemmas.{call_kept, refused}
 
 -- every reel that is mounted was mounted
 abbrev pub NoMount : State → State → Type 0
@@ -123,24 +123,9 @@ module _ (s : State) (k : Holding) (who : List ℕ) (call : StoreCall) where
       by true = refl
       by false = refl
 
-  left_mounts : (o : Outcome) (until : ℕ) (f : StoreFault) (new : State) → LeftByRefusal s k who call o until f new → NoMount s new
-  left_mounts o until Stopped new (inl is) = no_mount_of s (down s) new is (λ serial mounted. mounted)
-  left_mounts o until Stopped new (inr (inl (some, is))) = no_mount_of s _ new is (λ serial mounted. mounted)
-  left_mounts o until Stopped new (inr (inr is)) = no_mount_of s (down (after_call s k who call until)) new is (same_reels s (down (after_call s k who call until)) (after_reels until))
-  left_mounts o until f new is = no_mount_of s s new is (λ serial mounted. mounted)
-
-  late_mounts : (o : Outcome) (until : ℕ) (f : Option StoreFault) (answer : Result StoreReply StoreFault) (new : State)
-      → MatchOption f ((answer ≡ Ok (reply_to k.tree who call)) × (new ≡ after_call s k who call until)) (λ fault. (answer ≡ Err fault) × LeftByRefusal s k who call o until fault new) → NoMount s new
-  late_mounts o until None answer new (ok, is) = no_mount_of s (after_call s k who call until) new is (same_reels s (after_call s k who call until) (after_reels until))
-  late_mounts o until (Some f) answer new (err, left) = left_mounts o until f new left
-
-  early_mounts : (o : Outcome) (f : Option StoreFault) (answer : Result StoreReply StoreFault) (new : State)
-      → MatchOption f (Planned s k who call o answer new) (λ fault. (answer ≡ Err fault) × (new ≡ s)) → NoMount s new
-  early_mounts o None answer new plan = late_mounts o plan.until (late s k who call o plan.until) answer new plan.step
-  early_mounts o (Some f) answer new (err, is) = no_mount_of s s new is (λ serial mounted. mounted)
-
   pub call_mounts : (o : Outcome) (answer : Result StoreReply StoreFault) (new : State) → CallStep s k who call o answer new → NoMount s new
-  call_mounts o answer new step = early_mounts o (early s k who call o) answer new step
+  call_mounts = call_kept (λ (x : State). NoMount s x) s k who call (λ serial mounted. mounted) (λ serial mounted. mounted) (λ until serial mounted. mounted)
+      (λ until. same_reels s (after_call s k who call until) (after_reels until)) (λ until. same_reels s (down (after_call s k who call until)) (after_reels until))
 
 -- a wait is for the version's reel, where that isn't mounted
 wait_early : (f : Option StoreFault) (a b : Bool) (reel serial : ℕ) → first_fault ((is_some f, unwrap_or f Stopped) ∷ (a, WaitTape reel) ∷ (b, TapeReadFault) ∷ []) ≡ Some (WaitTape serial)

@@ -120,6 +120,23 @@ some_at (Some p) e = refl
 pub no_bytes : (row : FileRow) → nat_lt 0 (length row.bytes) ≡ false → length row.bytes ≡ 0
 no_bytes row e = let le : length row.bytes ≤ 0 = ltb-false 0 (length row.bytes) e in omega (arith, le)
 
+-- places are alike, but for their first blocks, where those of the current files are
+module _ (t u : Tree) (trees : t ≡ u) (places others : FinMap nat_cmp Place) (current : (q : ℕ) → is_some (get places q) ≡ is_current t q)
+    (current_too : (q : ℕ) → is_some (get others q) ≡ is_current u q)
+    (at_file : (q : ℕ) (full : Full) (row : FileRow) → get t.files full ≡ Some row → row.stamp ≡ q → bare_place (place_at places q) ≡ bare_place (place_at others q)) where
+  at_stamp : (q : ℕ) (b : Bool) → is_current t q ≡ b → option_map bare_place (get places q) ≡ option_map bare_place (get others q)
+  at_stamp q false e =
+      ap (option_map bare_place) (none_at (get places q) (current q ∙ e))
+      ∙ sym (ap (option_map bare_place) (none_at (get others q) (current_too q ∙ ap (λ (x : Tree). is_current x q) (sym trees) ∙ e)))
+  at_stamp q true e =
+      let file = current_file t q e in
+      ap (option_map bare_place) (some_at (get places q) (current q ∙ e))
+      ∙ ap (λ (p : Place). let o : Option Place = Some p in o) (at_file q file.0 file.1 file.2 file.3)
+      ∙ sym (ap (option_map bare_place) (some_at (get others q) (current_too q ∙ ap (λ (x : Tree). is_current x q) (sym trees) ∙ e)))
+
+  pub places_alike : bare_places places ≡ bare_places others
+  places_alike = same_maps _ _ (λ q. get-mapped (λ n p. bare_place p) places q ∙ at_stamp q (is_current t q) refl ∙ sym (get-mapped (λ n p. bare_place p) others q))
+
 -- the place of a version by a dump, but for its first block
 abbrev noted_place : ℕ → Bool → Option TapeCopy → Place
 noted_place serial false copy = record { online = true; copy = None }
@@ -157,17 +174,8 @@ module _ (serial from to from2 to2 : ℕ) (k h : Holding) (same : bare_holding k
       ∙ bare_noted serial (nat_lt 0 (length row.bytes)) (place_at h.places row.stamp).copy
       ∙ sym (noted_at serial from2 to2 h others two full row (subst (λ (t : Tree). get t.files full ≡ Some row) trees there)))
 
-  at_stamp : (q : ℕ) (b : Bool) → is_current k.tree q ≡ b → option_map bare_place (get places q) ≡ option_map bare_place (get others q)
-  at_stamp q false e =
-      ap (option_map bare_place) (none_at (get places q) (one.current q ∙ e)) ∙ sym (ap (option_map bare_place) (none_at (get others q) (two.current q ∙ ap (λ (t : Tree). is_current t q) (sym trees) ∙ e)))
-  at_stamp q true e =
-      let file = current_file k.tree q e in
-      ap (option_map bare_place) (some_at (get places q) (one.current q ∙ e))
-      ∙ ap (λ (p : Place). let o : Option Place = Some p in o) (at_file q file.0 file.1 file.2 file.3)
-      ∙ sym (ap (option_map bare_place) (some_at (get others q) (two.current q ∙ ap (λ (t : Tree). is_current t q) (sym trees) ∙ e)))
-
   pub noted_alike : bare_places places ≡ bare_places others
-  noted_alike = same_maps _ _ (λ q. get-mapped (λ n p. bare_place p) places q ∙ at_stamp q (is_current k.tree q) refl ∙ sym (get-mapped (λ n p. bare_place p) others q))
+  noted_alike = places_alike k.tree h.tree trees places others one.current two.current at_file
 
 -- the copies that its own records name
 entry_bare : (stamp : ℕ) (c : Option TapeCopy) → changed (λ n x. bare_copy x) (copy_entry stamp c) ≡ copy_entry stamp (option_map bare_copy c)

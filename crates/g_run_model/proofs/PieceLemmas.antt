@@ -1,5 +1,5 @@
 -- The text that a move puts, in pieces, and what they are of the files of jobs at terminals.
-use Rattle.std.proofs.Common.{◌≡◌, ◌<◌, ◌≤◌, ◌+◌, ◌==◌, ◌&&◌, ℕ, Bool, true, false, cond, List, [], ◌∷◌, ◌++◌, drop, length, Option, Some, None, IfSome, append_assoc, append-nil, refl, sym, ◌∙◌, ap, subst, inl, inr, if◌then◌else◌, eq-eqb, eqb-true, ne_eqb, arith}
+use Rattle.std.proofs.Common.{◌≡◌, ◌+◌, ◌==◌, ◌&&◌, ℕ, Bool, true, false, cond, List, [], ◌∷◌, ◌++◌, drop, length, Option, Some, None, IfSome, append_assoc, append-nil, refl, sym, ◌∙◌, ap, subst, inl, inr, if◌then◌else◌, eq-eqb, eqb-true, arith}
 use Rattle.std.specs.List.{AllByRecursion}
 use Rattle.g_turn.specs.State.{Broken, Done, Full, Stop, Waits, Work}
 use Rattle.g_budget.specs.declared.tariff.Charge.{Charge}
@@ -13,6 +13,7 @@ use Rattle.g_monitor.specs.declared.job_lines.JobLine.TheVariants as ending
 use Rattle.g_run_model.specs.Terminals.{At, IsLastLine, IsOther, Other, Piece, output_at, piece_text, text_of_pieces}
 use Rattle.g_run_model.specs.Texts.{file_with, files_with, put_as}
 use Rattle.g_run_model.proofs.CrewLemmas.{AreRising, no_job, numbered, one_job}
+use Rattle.g_run_model.proofs.ShareLemmas.{below_none}
 
 -- pieces one behind the other
 pub text_append : (xs ys : List Piece) → text_of_pieces (xs ++ ys) ≡ text_of_pieces xs ++ text_of_pieces ys
@@ -80,13 +81,6 @@ module _ (last : JobState → List ℕ) where
           → output_at number t (pieces_of (k ∷ jobs)) ≡ []
       by true e none again = absurd (let no : ⊥ = cc in no)
       by false e none again = other_number k.terminal k.number number t (k.monitor ++ ended (last k)) (ended (last k)) (pieces_of jobs) e ∙ again none
-
-  below_none : (number low : ℕ) (jobs : List JobState) (top : ℕ) → number < low → AreRising low jobs top → numbered number jobs ≡ None
-  below_none number low [] top less r = refl
-  below_none number low (j ∷ jobs) top less r =
-      let least : low ≤ j.number = r.0 in
-      let other : (j.number == number) ≡ false = ne_eqb j.number number (λ same. let no : ⊥ = omega (arith, less, least, same) in no) in
-      ap (λ (b : Bool). cond b (Some j) (numbered number jobs)) other ∙ below_none number (j.number + 1) jobs top (omega (arith, less, least)) r.1
 
   -- and its last line for the job of a number, at its terminal
   pub files_one : (number t low : ℕ) (jobs : List JobState) (top : ℕ) (job : JobState) → AreRising low jobs top → numbered number jobs ≡ Some job → job.terminal ≡ Some t

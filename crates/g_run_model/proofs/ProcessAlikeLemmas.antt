@@ -14,12 +14,12 @@ use Rattle.g_store_model.specs.CallStep.{Plain, TapeRead}
 use Rattle.g_store_model.specs.DumpSteps.{open_number, with_shelved, with_used}
 use Rattle.g_store_model.specs.Process.{AreCopied, AreMoved, IsProcessed, Processes, moved, process_dump, process_needs, process_refuses, process_refuses_late, released_before}
 use Rattle.g_store_model.specs.Rising.{fault_from, has_none}
-use Rattle.g_store_model.specs.State.{Dumped as DumpedTree, Holding, Place, ReelRow, Shelved, State, capacity_in, end_in, first_reel, is_current, place_at, reel_at, with_reel}
+use Rattle.g_store_model.specs.State.{Dumped as DumpedTree, Holding, Place, ReelRow, Shelved, State, capacity_in, end_in, first_reel, place_at, reel_at, with_reel}
 use Rattle.g_run_model.specs.Events.{IsProcessing}
 use Rattle.g_run_model.proofs.AlikeLemmas.{AreSame, held_alike}
 use Rattle.g_run_model.proofs.BareLemmas.{bare_copies, bare_copy, bare_dumped, bare_holding, bare_open, bare_place, bare_places, bare_state, place_at_bare, some_bare}
 use Rattle.g_run_model.proofs.MappedLemmas.{get-mapped, same_maps}
-use Rattle.g_run_model.proofs.OpenAlikeLemmas.{current_file, no_bytes, none_at, number_bare, some_at}
+use Rattle.g_run_model.proofs.OpenAlikeLemmas.{no_bytes, number_bare, places_alike}
 
 one_fault : (f g : StoreFault) → (let one : Option StoreFault = Some f in one ≡ Some g) → f ≡ g
 one_fault f g e = cc
@@ -50,17 +50,8 @@ module _ (serial : ℕ) (k h : Holding) (trees : k.tree ≡ h.tree) (places othe
       subst (λ (x : ℕ). bare_place (place_at places x) ≡ bare_place (place_at others x)) is
       (λ i. let p : Place = record { online = online full row there i; copy = copies full row there i } in p)
 
-  at_stamp : (q : ℕ) (b : Bool) → is_current k.tree q ≡ b → option_map bare_place (get places q) ≡ option_map bare_place (get others q)
-  at_stamp q false e =
-      ap (option_map bare_place) (none_at (get places q) (one.current q ∙ e)) ∙ sym (ap (option_map bare_place) (none_at (get others q) (two.current q ∙ ap (λ (t : Tree). is_current t q) (sym trees) ∙ e)))
-  at_stamp q true e =
-      let file = current_file k.tree q e in
-      ap (option_map bare_place) (some_at (get places q) (one.current q ∙ e))
-      ∙ ap (λ (p : Place). let o : Option Place = Some p in o) (at_file q file.0 file.1 file.2 file.3)
-      ∙ sym (ap (option_map bare_place) (some_at (get others q) (two.current q ∙ ap (λ (t : Tree). is_current t q) (sym trees) ∙ e)))
-
   pub copied_alike : bare_places places ≡ bare_places others
-  copied_alike = same_maps _ _ (λ q. get-mapped (λ n p. bare_place p) places q ∙ at_stamp q (is_current k.tree q) refl ∙ sym (get-mapped (λ n p. bare_place p) others q))
+  copied_alike = places_alike k.tree h.tree trees places others one.current two.current at_file
 
 -- THE NEW DUMP
 module _ (serial : ℕ) (k h : Holding) (trees : k.tree ≡ h.tree) (lasts : k.last ≡ h.last) (d e : DumpedTree) (one : IsProcessed serial k d) (two : IsProcessed serial h e) where

@@ -10,7 +10,7 @@ abbrev pub share : (JobState → Bool) → JobState → ℕ
 share can j = (j.allowance - j.used) + (if can j then 1 else 0)
 
 -- nobody below the first number
-below_none : (number low : ℕ) (jobs : List JobState) (top : ℕ) → number < low → AreRising low jobs top → numbered number jobs ≡ None
+pub below_none : (number low : ℕ) (jobs : List JobState) (top : ℕ) → number < low → AreRising low jobs top → numbered number jobs ≡ None
 below_none number low [] top less r = refl
 below_none number low (j ∷ jobs) top less r =
     let least : low ≤ j.number = r.0 in

@@ -20,13 +20,14 @@ use Rattle.g_plain.specs.declared.calls.StoreCall.TheVariants as call
 use Rattle.g_plain.specs.declared.calls.StoreReply.{StoreReply}
 use Rattle.g_plain.specs.declared.faults.StoreFault.{StoreFault}
 use Rattle.g_plain.specs.declared.faults.StoreFault.TheVariants.{DiscReadFault, NoMemory, NoUser, Stopped, WaitTape}
-use Rattle.g_store_model.specs.CallStep.{CallStep, Cut, DiscRead, LeftByRefusal, Outcome, Plain, Planned, TapeRead, after_call, brings_now, commits, down, early, held_after, is_offline, late, no_longer_kept, touched_by, writes}
+use Rattle.g_store_model.specs.CallStep.{CallStep, Cut, DiscRead, Outcome, Plain, TapeRead, after_call, brings_now, commits, down, held_after, is_offline, no_longer_kept, touched_by, writes}
 use Rattle.g_store_model.specs.DumpSteps.{Completed, DumpStep, Event, Going, MigrateStep, MountStep, OpenStep, Stepped as DumpStepped, UnmountStep, UsedByCut}
 use Rattle.g_store_model.specs.Laws.{AnswersPlainly}
 use Rattle.g_store_model.specs.Rising.{FormatStep, RestoreStep, Restores, StartStep, Starts, adopted, dump_adopted, restore_early}
 use Rattle.g_store_model.specs.State.{Dumped as DumpedTree, Holding, OpenDump, State}
 use Rattle.g_run_model.specs.Laws.{AreShort, IsShort}
 use Rattle.g_run_model.proofs.MountLemmas.{wait_offline}
+use Rattle.g_run_model.proofs.StepLemmas.{call_kept}
 
 -- A TREE
 some_row : (a b : FileRow) → (let one : Option FileRow = Some a in one ≡ Some b) → a ≡ b
@@ -182,24 +183,9 @@ module _ (s : State) (k : Holding) (who : List ℕ) (asked : StoreCall) (holds :
       by true = λ h. record { held = plain_short k.tree who asked (held_short s k holds h); dumped = h.dumped; opened = touched_short s.open_dump h.opened }
       by false = λ h. h
 
-  left_short : (o : Outcome) (until : ℕ) (f : StoreFault) (new : State) → LeftByRefusal s k who asked o until f new → KeepsShort s new
-  left_short o until Stopped new (inl is) = short_of s (down s) new is (λ h. short_down s h)
-  left_short o until Stopped new (inr (inl (some, is))) = short_of s _ new is (λ h. record { held = held_short s k holds h; dumped = h.dumped; opened = tt })
-  left_short o until Stopped new (inr (inr is)) = short_of s (down (after_call s k who asked until)) new is (λ h. short_down (after_call s k who asked until) (call_after_short until h))
-  left_short o until f new is = short_of s s new is (λ h. h)
-
-  late_short : (o : Outcome) (until : ℕ) (f : Option StoreFault) (answer : Result StoreReply StoreFault) (new : State)
-      → MatchOption f ((answer ≡ Ok (reply_to k.tree who asked)) × (new ≡ after_call s k who asked until)) (λ fault. (answer ≡ Err fault) × LeftByRefusal s k who asked o until fault new) → KeepsShort s new
-  late_short o until None answer new (ok, is) = short_of s (after_call s k who asked until) new is (call_after_short until)
-  late_short o until (Some f) answer new (err, left) = left_short o until f new left
-
-  early_short : (o : Outcome) (f : Option StoreFault) (answer : Result StoreReply StoreFault) (new : State)
-      → MatchOption f (Planned s k who asked o answer new) (λ fault. (answer ≡ Err fault) × (new ≡ s)) → KeepsShort s new
-  early_short o None answer new plan = late_short o plan.until (late s k who asked o plan.until) answer new plan.step
-  early_short o (Some f) answer new (err, is) = short_of s s new is (λ h. h)
-
   pub call_short : (o : Outcome) (answer : Result StoreReply StoreFault) (new : State) → CallStep s k who asked o answer new → KeepsShort s new
-  call_short o answer new step = early_short o (early s k who asked o) answer new step
+  call_short = call_kept (λ (x : State). KeepsShort s x) s k who asked (λ h. h) (λ h. short_down s h) (λ until h. record { held = held_short s k holds h; dumped = h.dumped; opened = tt }) call_after_short
+      (λ until h. short_down (after_call s k who asked until) (call_after_short until h))
 
 -- WHAT A CALL MAY ANSWER
 kind_short : (t : Tree) (who : List ℕ) (asked : StoreCall) → IsShort t → AllByRecursion (λ c. c.0 ≡ false) ((not (has_user t who), NoUser) ∷ checks t who asked) → IsReplyTo asked (reply_to t who asked)

@@ -6,7 +6,8 @@ use Rattle.g_plain.specs.declared.calls.StoreReply.{StoreReply}
 use Rattle.g_plain.specs.declared.faults.StoreFault.{StoreFault}
 use Rattle.g_plain.specs.declared.faults.StoreFault.TheVariants.{Stopped}
 use Rattle.g_store_model.specs.State.{State, Holding}
-use Rattle.g_store_model.specs.CallStep.{Outcome, LeftByRefusal}
+use Rattle.g_plain.specs.PlainStep.{reply_to}
+use Rattle.g_store_model.specs.CallStep.{CallStep, LeftByRefusal, Outcome, Planned, after_call, after_unjam, down, early, late}
 use Rattle.g_store_model.specs.Laws.{tree_in}
 
 pub tree_held : (s : State) (k : Holding) → s.holding ≡ Some k → tree_in s ≡ Some k.tree
@@ -30,3 +31,26 @@ refused Q None fault step = inl (refl, step)
 refused Q (Some g) fault step =
     let same : fault ≡ g = one_fault fault g step.0 in
     inr (ap Some (sym same), subst Q (sym same) step.1)
+
+-- WHAT A CALL LEAVES: what holds of the state before it and of that behind it, of both when they are down, and of the one before with files put
+-- off when it is down, holds whatever was answered
+module _ (P : State → Type 0) (s : State) (k : Holding) (who : List ℕ) (call : StoreCall) (same : P s) (gone : P (down s)) (cut : (until : ℕ) → P (down (after_unjam s k who call until)))
+    (after : (until : ℕ) → P (after_call s k who call until)) (after_gone : (until : ℕ) → P (down (after_call s k who call until))) where
+  left_kept : (o : Outcome) (until : ℕ) (f : StoreFault) (new : State) → LeftByRefusal s k who call o until f new → P new
+  left_kept o until Stopped new (inl is) = subst P (sym is) gone
+  left_kept o until Stopped new (inr (inl (some, is))) = subst P (sym is) (cut until)
+  left_kept o until Stopped new (inr (inr is)) = subst P (sym is) (after_gone until)
+  left_kept o until f new is = subst P (sym is) same
+
+  late_kept : (o : Outcome) (until : ℕ) (f : Option StoreFault) (answer : Result StoreReply StoreFault) (new : State)
+      → MatchOption f ((answer ≡ Ok (reply_to k.tree who call)) × (new ≡ after_call s k who call until)) (λ fault. (answer ≡ Err fault) × LeftByRefusal s k who call o until fault new) → P new
+  late_kept o until None answer new (ok, is) = subst P (sym is) (after until)
+  late_kept o until (Some f) answer new (err, left) = left_kept o until f new left
+
+  early_kept : (o : Outcome) (f : Option StoreFault) (answer : Result StoreReply StoreFault) (new : State)
+      → MatchOption f (Planned s k who call o answer new) (λ fault. (answer ≡ Err fault) × (new ≡ s)) → P new
+  early_kept o None answer new plan = late_kept o plan.until (late s k who call o plan.until) answer new plan.step
+  early_kept o (Some f) answer new (err, is) = subst P (sym is) same
+
+  pub call_kept : (o : Outcome) (answer : Result StoreReply StoreFault) (new : State) → CallStep s k who call o answer new → P new
+  call_kept o answer new step = early_kept o (early s k who call o) answer new step

@@ -119,6 +119,21 @@ module _ (n : ℕ) (u q : Bool) (a : ℕ) where
     pub born : q ≡ true → (u ≡ true) × (n < next) × (c ≤ a) × ((job : JobState) → numbered n jobs ≡ Some job → job.allowance ≡ a)
     pub taking : (p : Asks Work) → turn ≡ Some (n, p) → (f ≤ m) × IsCandid s p
 
+  -- what is said of the jobs stays, whatever becomes of the store and the turn
+  same_jobs : {f m c next : ℕ} {jobs : List JobState} {s : State} {t : Option (ℕ × Asks Work)} (m2 : ℕ) (new : State) (left : Option (ℕ × Asks Work)) → IsTaken f m c jobs next s t → f ≤ 1 + m2
+      → ((job : JobState) → numbered n jobs ≡ Some job → has_reel new job ≡ true → f ≤ m2) → ((p : Asks Work) → left ≡ Some (n, p) → (f ≤ m2) × IsCandid new p)
+      → IsTaken f m2 c jobs next new left
+  same_jobs m2 new left h free able taking = record {
+    rising = h.rising;
+    free = free;
+    able = able;
+    within = h.within;
+    spent = h.spent;
+    unborn = h.unborn;
+    born = h.born;
+    taking = taking;
+  }
+
   abbrev pub IsTakenIn : ℕ → ℕ → ℕ → World → Type 0
   IsTakenIn f m c w = IsTaken f m c w.jobs w.next_job w.store w.turn
 
@@ -131,31 +146,14 @@ module _ (n : ℕ) (u q : Bool) (a : ℕ) where
 
   -- the store goes on, and mounts nothing
   pub taken_on : (f m c : ℕ) (jobs : List JobState) (next : ℕ) (s new : State) (t : Option (ℕ × Asks Work)) → t ≡ None → NoMount s new → IsTaken f m c jobs next s t → IsTaken f m c jobs next new t
-  taken_on f m c jobs next s new t idle fewer h = record {
-    rising = h.rising;
-    free = h.free;
-    able = λ job found can. h.able job found (can_lower s new fewer job job.wants can);
-    within = h.within;
-    spent = h.spent;
-    unborn = h.unborn;
-    born = h.born;
-    taking = λ p is. no_turn t (n, p) idle is;
-  }
+  taken_on f m c jobs next s new t idle fewer h =
+      same_jobs m new t h h.free (λ job found can. h.able job found (can_lower s new fewer job job.wants can)) (λ p is. no_turn t (n, p) idle is)
 
   -- a MOUNT was done
   pub taken_mount : (f m c : ℕ) (jobs : List JobState) (next : ℕ) (s new : State) (t : Option (ℕ × Asks Work)) → t ≡ None → IsTaken f m c jobs next s t → IsTaken f (m + 1) c jobs next new t
   taken_mount f m c jobs next s new t idle h =
       let free : f ≤ 1 + m = h.free in
-      record {
-        rising = h.rising;
-        free = omega (arith, free);
-        able = λ job found can. omega (arith, free);
-        within = h.within;
-        spent = h.spent;
-        unborn = h.unborn;
-        born = h.born;
-        taking = λ p is. no_turn t (n, p) idle is;
-      }
+      same_jobs (m + 1) new t h (omega (arith, free)) (λ job found can. omega (arith, free)) (λ p is. no_turn t (n, p) idle is)
 
   -- the jobs are gone
   pub taken_gone : (f m c : ℕ) (jobs : List JobState) (next : ℕ) (s new : State) (t : Option (ℕ × Asks Work)) (left : Option (ℕ × Asks Work)) → left ≡ None
@@ -259,38 +257,21 @@ module _ (n : ℕ) (u q : Bool) (a : ℕ) where
   -- a turn begins
   pub taken_begin : (f m c : ℕ) (jobs : List JobState) (next : ℕ) (s : State) (t : Option (ℕ × Asks Work)) (place : ℕ) (job : JobState) → slice_get (filter (can_step s) jobs) place ≡ Some job
       → IsTaken f m c jobs next s t → IsTaken f m c jobs next s (Some (job.number, turn_work job))
-  taken_begin f m c jobs next s t place job there h = record {
-    rising = h.rising;
-    free = h.free;
-    able = h.able;
-    within = h.within;
-    spent = h.spent;
-    unborn = h.unborn;
-    born = h.born;
-    taking = λ p is.
-        let parts = some_pair_parts job.number n (turn_work job) p is in
-        let found = listed (can_step s) 0 jobs next place job h.rising there in (
-          h.able job (subst (λ (x : ℕ). numbered x jobs ≡ Some job) parts.0 found.1) (both_first (has_reel s job) (is_ready job) found.2),
-          subst (λ (x : Asks Work). IsCandid s x) parts.1 (inl (turn_honest job)),
-        );
-  }
+  taken_begin f m c jobs next s t place job there h = same_jobs m s (Some (job.number, turn_work job)) h h.free h.able (λ p is.
+      let parts = some_pair_parts job.number n (turn_work job) p is in
+      let found = listed (can_step s) 0 jobs next place job h.rising there in (
+        h.able job (subst (λ (x : ℕ). numbered x jobs ≡ Some job) parts.0 found.1) (both_first (has_reel s job) (is_ready job) found.2),
+        subst (λ (x : Asks Work). IsCandid s x) parts.1 (inl (turn_honest job)),
+      ))
 
   -- a call of it is answered
   pub taken_answer : (f m c : ℕ) (jobs : List JobState) (next : ℕ) (s new : State) (number : ℕ) (p more : Asks Work) → NoMount s new → (IsCandid s p → IsCandid new more)
       → IsTaken f m c jobs next s (Some (number, p)) → IsTaken f m c jobs next new (Some (number, more))
-  taken_answer f m c jobs next s new number p more fewer on h = record {
-    rising = h.rising;
-    free = h.free;
-    able = λ job found can. h.able job found (can_lower s new fewer job job.wants can);
-    within = h.within;
-    spent = h.spent;
-    unborn = h.unborn;
-    born = h.born;
-    taking = λ x is.
-        let parts = some_pair_parts number n more x is in
-        let old = h.taking p (ap (λ (y : ℕ). let t : Option (ℕ × Asks Work) = Some (y, p) in t) parts.0) in
-        (old.0, subst (λ (y : Asks Work). IsCandid new y) parts.1 (on old.1));
-  }
+  taken_answer f m c jobs next s new number p more fewer on h =
+      same_jobs m new (Some (number, more)) h h.free (λ job found can. h.able job found (can_lower s new fewer job job.wants can)) (λ x is.
+      let parts = some_pair_parts number n more x is in
+      let old = h.taking p (ap (λ (y : ℕ). let t : Option (ℕ × Asks Work) = Some (y, p) in t) parts.0) in
+      (old.0, subst (λ (y : Asks Work). IsCandid new y) parts.1 (on old.1)))
 
   -- so many free and charged turns more, behind a turn
   abbrev pub Turned : ℕ → ℕ → ℕ → List JobState → ℕ → State → ℕ → ℕ → Type 0

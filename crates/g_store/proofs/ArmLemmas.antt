@@ -2,7 +2,6 @@
 use Rattle.std.proofs.Common.{◌≡◌, ℕ, Bool, true, false, List, Option, Some, None, is_some, refl, sym, ap, subst, true≢false}
 use Rattle.std.specs.Prelude.{IfSome}
 use Rattle.std.specs.Option.{ForSome}
-use Rattle.std.proofs.lemmas.Bool.{false≢true}
 use Rattle.g_base.specs.Fuse.{Arms}
 use Rattle.g_tape.specs.Rack.{Rack}
 use Rattle.g_disc_contents.specs.Facts.{IsTied, OnlineFacts, Pin}
@@ -16,6 +15,7 @@ use Rattle.g_store_meaning.specs.Reading.{DevicesStandFor, StandsForState}
 use Rattle.g_store_meaning.specs.StoreInvariant.{DumpFacts, IsReady, IsUp, StoreFacts, content_in}
 use Rattle.g_store_meaning.proofs.ViewLemmas.{Stands, back, to}
 use Rattle.g_store_meaning.proofs.StayLemmas.{dump_stays_open}
+use Rattle.g_plain.proofs.Found.{some_of}
 use Rattle.g_store.specs.Arming.{MeansTheSame}
 use Rattle.g_store_calls.proofs.SeenLemmas.{seen}
 use Rattle.g_laws_store.proofs.TiedLemmas.{holds_now}
@@ -78,9 +78,6 @@ tape_armed s t f a r at is =
     (subst (λ (q : Rack). MeansTheSame t (record t { rack = q })) (sym is) (means_the_same t t.online.disc.fuse f t.online.disc.arms a))
 
 -- THE DEVICES of a store that was up
-some_of : {A : Type 0} (o : Option A) → is_some o ≡ true → (x : A) × (o ≡ Some x)
-some_of None is = absurd (false≢true is)
-some_of (Some x) is = (x, refl)
 
 pub down_stands : (s : StoreFacts) → IsStore s → is_some s.online.disc.held ≡ true → s.spent ≡ false → (u : State) → StandsForState s u
     → DevicesStandFor s.online.disc.size s.online.disc.held (told_reels s.rack) (down u)

@@ -5,7 +5,7 @@ use Rattle.g_plain.specs.declared.faults.StoreFault.{StoreFault}
 use Rattle.g_plain.specs.declared.faults.StoreFault.TheVariants.{Stopped}
 use Rattle.g_store_model.specs.State.{Holding, State}
 use Rattle.g_store_model.specs.CallStep.{Outcome, Plain}
-use Rattle.g_store_meaning.specs.Answers.{IsStore, WroteCommits}
+use Rattle.g_store_meaning.specs.Answers.{IsStore, WroteCommits, Raised}
 use Rattle.g_store_meaning.specs.Meaning.{told_reels}
 use Rattle.g_store_meaning.specs.Reading.{StandsForState, View, state_up}
 use Rattle.g_store_meaning.specs.StoreInvariant.{StoreFacts}
@@ -19,6 +19,19 @@ held_by s u is = ap (λ (t : State). t.holding) is.state_is
 
 pub none_written : (s : StoreFacts) → WroteCommits 0 s s
 none_written s = record { blocks = 0; commits = (refl, refl); writes = record { exactly = λ less. omega arith } }
+
+-- AN EVENT THAT LED from the state that it was looked at in, to this one
+pub leads_at : {A : Type 0} (by : State → Holding → Outcome → Result A StoreFault → State → Type 0) (old new : StoreFacts) (answer : Result A StoreFault) (s u : State) (k : Holding) → s.holding ≡ Some k → u ≡ s → (end : State) (out : Outcome)
+    → StandsForState new end → Raised out old new → by s k out answer end → LeadsBy by u old new answer
+leads_at by old new answer s u k holds same end out left raised step = record {
+  after = end;
+  left = left;
+  held = k;
+  holds = ap (λ (x : State). x.holding) same ∙ holds;
+  outcome = out;
+  raised = raised;
+  step = subst (λ (x : State). by x k out answer end) (sym same) step;
+}
 
 module _ {A : Type 0} (by : State → Holding → Outcome → Result A StoreFault → State → Type 0) (count : A → ℕ) (s : StoreFacts) (unspent : s.spent ≡ false) where
   pub leads_same : (fault : StoreFault) (u : State) (here : StandsForState s u)

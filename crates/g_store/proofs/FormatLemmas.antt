@@ -5,7 +5,7 @@ use Rattle.std.proofs.lemmas.List.Elements.{All-nil}
 use Rattle.std.proofs.lemmas.Option.{none-some, same_Some}
 use Rattle.g_base.specs.ToldContent.{Changes}
 use Rattle.g_disc.specs.Disc.{Causes, DiscState}
-use Rattle.g_disc.proofs.CallLemmas.{stands_later}
+use Rattle.g_disc.proofs.CallLemmas.{Causes-for, Causes-none}
 use Rattle.g_entry.specs.declared.file_rec.FileRec.{FileRec}
 use Rattle.g_entry.specs.declared.head.Head.{Head}
 use Rattle.g_entry.specs.declared.user_rec.UserRec.{UserRec}
@@ -33,11 +33,11 @@ use Rattle.g_store_meaning.specs.Belonging.{Belong, BelongWith, DiscBelongs}
 use Rattle.g_store_meaning.specs.Meaning.{told_reels}
 use Rattle.g_store_meaning.specs.Reading.{AllTold, DevicesStandFor, HasText, IsView, StandsForState, View, holding_of, names_of, places_of, state_down, state_up, tree_by}
 use Rattle.g_store_meaning.proofs.ChangeLemmas.{format_belongs}
+use Rattle.g_store_calls.proofs.BehindLemmas.{rack_seen, told_then as told_back}
 use Rattle.g_store.specs.Making.{Formats, IsNew, LeadsDown, Refuses, RefusesFormat, StepsDown, new_holding}
 use Rattle.g_store.specs.Refusing.{first_used}
 use Rattle.g_store.proofs.EmptyLemmas.{all_blank, blank_shelf, first_row, no_dump_at_all}
 use Rattle.g_store.proofs.MakeLemmas.{Stood, before_belongs, before_stands, belongs_made, down_again, moved, new_belongs, new_down, new_stands, stands_up, stood, store_made, store_of, told_then, unkept, up_is}
-use Rattle.g_store.proofs.MigrateLemmas.{rack_seen, told_back}
 
 abbrev pub first_head : Head
 first_head = record { next_stamp = 1; last_dump = 0; intent = None }
@@ -183,15 +183,7 @@ module _ (disc : DiscState) (users : List UserRec) (files : List FileRec) (none 
       pub cut_is : RefusesFormat disc rack Stopped now rack
       cut_is = record {
         refuses = record {
-          causes = record {
-            size = causes.size;
-            arms = causes.arms;
-            later = causes.later;
-            reads_kept = λ _. causes.reads_kept (λ no. no);
-            reads_rose = λ is. absurd (let no : ⊥ = cc in no);
-            writes_kept = λ no. absurd (no refl);
-            writes_rose = λ _. causes.writes_rose tt;
-          };
+          causes = Causes-for (λ no. absurd no) (λ is. (let no : ⊥ = cc in no)) (λ _. refl) (λ _. tt) causes;
           tapes = record { reels = refl; write_faults = refl; fuse = refl; arms = refl; read_faults = omega arith; times = λ s k. omega arith };
           tape_read = λ is. absurd (let no : ⊥ = cc in no);
           tape_read_only = λ _. refl;
@@ -269,15 +261,7 @@ module _ (disc now : DiscState) (rack : Rack) (held : now.held ≡ disc.held) (w
   }
 
 pub nothing_caused : (disc : DiscState) (fault : StoreFault) → fault ≢ DiscReadFault → fault ≢ Stopped → Causes (fault ≡ DiscReadFault) (fault ≡ Stopped) disc disc
-nothing_caused disc fault read stop = record {
-  size = refl;
-  arms = refl;
-  later = stands_later refl;
-  reads_kept = λ _. refl;
-  reads_rose = λ is. absurd (read is);
-  writes_kept = λ _. refl;
-  writes_rose = λ is. absurd (stop is);
-}
+nothing_caused disc fault read stop = Causes-none disc read stop
 
 -- as the filestore answered
 pub not_empty : (disc : DiscState) (rack : Rack) (n : ℕ) → Some n ≡ first_used rack.reels → RefusesFormat disc rack (RackNotEmpty n) disc rack
@@ -305,42 +289,18 @@ module _ (disc : DiscState) (users : List UserRec) (files : List FileRec) (none 
   unread_said said =
       let both = said.same (λ e. let no : ⊥ = cc in no) in
       unread_is disc now rack both.0 both.1
-      (record {
-        size = said.causes.size;
-        arms = said.causes.arms;
-        later = said.causes.later;
-        reads_kept = λ no. absurd (no refl);
-        reads_rose = λ _. said.causes.reads_rose refl;
-        writes_kept = λ _. said.causes.writes_kept (λ e. let no : ⊥ = cc in no);
-        writes_rose = λ is. absurd (let no : ⊥ = cc in no);
-      }) (sym empty)
+      (Causes-for (λ _. refl) (λ _. refl) (λ e. absurd (let no : ⊥ = cc in no)) (λ is. absurd (let no : ⊥ = cc in no)) said.causes) (sym empty)
 
   stop_said : Says online.Stopped
   stop_said said =
       cut_is disc users files none whole rack are (sym empty) now
-      (record {
-        size = said.causes.size;
-        arms = said.causes.arms;
-        later = said.causes.later;
-        reads_kept = λ _. said.causes.reads_kept (λ e. let no : ⊥ = cc in no);
-        reads_rose = λ no. absurd no;
-        writes_kept = λ no. absurd (no tt);
-        writes_rose = λ _. said.causes.writes_rose refl;
-      }) (said.stopped refl)
+      (Causes-for (λ e. (let no : ⊥ = cc in no)) (λ no. absurd no) (λ _. tt) (λ _. refl) said.causes) (said.stopped refl)
 
   memory_said : Says online.NoMemory
   memory_said said =
       let both = said.same (λ e. let no : ⊥ = cc in no) in
       memory_is disc now rack both.0 both.1
-      (record {
-        size = said.causes.size;
-        arms = said.causes.arms;
-        later = said.causes.later;
-        reads_kept = λ _. said.causes.reads_kept (λ e. let no : ⊥ = cc in no);
-        reads_rose = λ is. absurd (let no : ⊥ = cc in no);
-        writes_kept = λ _. said.causes.writes_kept (λ e. let no : ⊥ = cc in no);
-        writes_rose = λ is. absurd (let no : ⊥ = cc in no);
-      }) (sym empty)
+      (Causes-for (λ e. absurd (let no : ⊥ = cc in no)) (λ is. absurd (let no : ⊥ = cc in no)) (λ e. absurd (let no : ⊥ = cc in no)) (λ is. absurd (let no : ⊥ = cc in no)) said.causes) (sym empty)
 
   pub format_refused : (fault : OnlineFault) → Says fault
   format_refused fault said = by_case said.only

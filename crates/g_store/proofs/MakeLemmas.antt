@@ -25,8 +25,9 @@ use Rattle.g_store_meaning.specs.Laws.{IsQuiet}
 use Rattle.g_store_meaning.specs.Meaning.{told_reels}
 use Rattle.g_store_meaning.specs.Reading.{AllTold, DevicesStandFor, HasText, IsRackView, IsView, StandsForState, View, holding_of, names_of, row_of, state_down, state_up, users_not_in}
 use Rattle.g_store_meaning.specs.StoreInvariant.{StoreFacts}
-use Rattle.g_store.proofs.MigrateLemmas.{files_seen, rack_seen}
+use Rattle.g_plain.proofs.Found.{some_of}
 use Rattle.g_store_calls.proofs.SeenLemmas.{stands}
+use Rattle.g_store_calls.proofs.BehindLemmas.{files_seen, rack_seen}
 use Rattle.g_laws_store.proofs.TiedLemmas.{devices_belong}
 
 abbrev pub store_of : OnlineFacts → Rack → StoreFacts
@@ -108,10 +109,6 @@ pub moved : (size now : ℕ) (held then_held : Option (List (List ℕ))) (reels 
     → DevicesStandFor now then_held reels s
 moved size now held then_held reels s sizes helds is =
     subst (λ (n : ℕ). DevicesStandFor n then_held reels s) (sym sizes) (subst (λ (h : Option (List (List ℕ))). DevicesStandFor size h reels s) (sym helds) is)
-
-some_of : {A : Type 0} (o : Option A) → is_some o ≡ true → (x : A) × (o ≡ Some x)
-some_of None is = absurd (false≢true is)
-some_of (Some x) is = (x, refl)
 
 -- a store that is down is what it was
 pub down_again : (size : ℕ) (held : Option (List (List ℕ))) (reels : List Reel) (s : state.State) → DevicesStandFor size held reels s → s ≡ down s

@@ -14,6 +14,7 @@ use Rattle.g_plain.specs.declared.faults.StoreFault.{StoreFault}
 use Rattle.g_plain.specs.declared.faults.StoreFault.TheVariants.{NoFile, NoUser, NotDumped, Offline, Stopped}
 use Rattle.g_plain.specs.PlainStep.{first_fault}
 use Rattle.g_plain.specs.PlainTree.{Tree, file_row, has_file, has_user, input_name}
+use Rattle.g_plain.proofs.Found.{some_of}
 use Rattle.g_tree.specs.Records.{full_of}
 use Rattle.g_tree.proofs.PutLemmas.{number_found}
 use Rattle.g_tree.proofs.RecordLemmas.{numbers_apart}
@@ -32,7 +33,7 @@ use Rattle.g_store_model.specs.DumpSteps.{migrate_refuses}
 use Rattle.g_store_meaning.specs.Answers.{Belongs, IsStore}
 use Rattle.g_store_meaning.specs.Belonging.{KeepsFile}
 use Rattle.g_store_meaning.specs.Meaning.{IsContent, told_reels}
-use Rattle.g_store_meaning.specs.Reading.{AllTold, HasText, IsRackView, IsView, View, holding_of, names_of, open_of, open_tree, own_opened, place_of, row_of, state_down, state_up, tree_by, users_in, users_not_in, waiting_of}
+use Rattle.g_store_meaning.specs.Reading.{AllTold, HasText, IsView, View, holding_of, names_of, open_of, open_tree, own_opened, place_of, row_of, state_down, state_up, tree_by, users_in, users_not_in, waiting_of}
 use Rattle.g_store_meaning.specs.StoreInvariant.{DumpFacts, StoreFacts}
 use Rattle.g_store_meaning.proofs.OneLemmas.{same_dumps, shelves_agree}
 use Rattle.g_laws_memory.specs.Places.{AreDistinct, IsOfStamp}
@@ -42,6 +43,7 @@ use Rattle.g_laws_memory.proofs.UnjamLemmas.{numbers_apart as files_numbered}
 use Rattle.g_laws_calls.proofs.FileLemmas.{of_stamp, offline_recs}
 use Rattle.g_migrate.proofs.MigrationLemmas.{rec_there}
 use Rattle.g_migrate.proofs.UsedLemmas.{used_there}
+use Rattle.g_store_calls.proofs.BehindLemmas.{rack_seen, told_then}
 use Rattle.g_store.specs.Naming.{IsNamedBy, IsNamedFile, naming_refuses}
 use Rattle.g_store.proofs.OffLemmas.{TellsOnline, off_places, place_is, tells_online}
 
@@ -228,30 +230,9 @@ module _ (v : View) (reels : List Reel) (o : OnlineFacts) (dump : Option DumpFac
         let s : state.State = record { up = false; size = size i; holding = Some (held_off [] (is_some o.pins) pinned i); reels = map (row_of v.shelf) reels; dumped = up.dumped; open_dump = None } in s
 
 -- THE VIEW stays right
-pub told_back : (held now : Option (List (List ℕ))) (reels : List Reel) → is_some now ≡ is_some held → AllTold now reels → AllTold held reels
-told_back disc now reels same told = record { disc = sym same ∙ told.disc; each = told.each }
-
-pub rack_seen : (held now : Option (List (List ℕ))) (reels : List Reel) (v : View) → is_some now ≡ is_some held → IsRackView held reels v → IsRackView now reels v
-rack_seen held now reels v same right = record {
-  shelved = right.shelved;
-  all = right.all;
-  dumped = λ told. right.dumped (told_back held now reels same told);
-  none = λ told. right.none (told_back held now reels same told);
-}
-
-pub files_seen : (held now : Option (List (List ℕ))) (reels : List Reel) (v : View) (c : Contents) → is_some now ≡ is_some held → IsView held reels c v → IsView now reels c v
-files_seen held now reels v c same right = record {
-  rack = rack_seen held now reels v same right.rack;
-  files = λ i d within.
-      let has = right.files i d within in record { len = has.len; bytes = has.bytes; tape = λ told. has.tape (told_back held now reels same told) };
-}
 
 off : Bool → File → File
 off b g = if b then record g { online = false; bytes = None } else g
-
-some_of : {A : Type 0} (o : Option A) → is_some o ≡ true → (x : A) × (o ≡ Some x)
-some_of None is = absurd (false≢true is)
-some_of (Some x) is = (x, refl)
 
 -- a copy holds the text of its version, where that is on the disc too
 abbrev CopyHolds : Type 0 → (ℕ → List ℕ) → List Dump → File → Type 0
@@ -298,6 +279,6 @@ module _ (t : StoreFacts) (unspent : t.spent ≡ false) (keeps : IsStore t) (bel
         (All-map (λ (g : File). HasText (AllTold now reels) (v.text g.rec.stamp) v.dumps g) (offline_in numbers) t.online.contents.files
         (λ i d within.
         let g = get_or t.online.contents.files i d in
-        off_text (AllTold t.online.disc.held reels) (AllTold now reels) v.text v.dumps (has numbers g.rec.number) g (told_back t.online.disc.held now reels same)
+        off_text (AllTold t.online.disc.held reels) (AllTold now reels) v.text v.dumps (has numbers g.rec.number) g (told_then t.online.disc.held now reels same)
         (copy_holds g (Contains-get_or t.online.contents.files i d within)) (right.files i d within)));
   }

@@ -1,11 +1,11 @@
 -- How a store answers a migration.
-use Rattle.std.proofs.Common.{◌≡◌, ◌≢◌, ℕ, ◌+◌, Bool, true, false, List, [], ◌∷◌, Option, Some, None, is_some, Result, Ok, Err, refl, sym, ◌∙◌, ap, arith, subst, inl, inr, true≢false}
+use Rattle.std.proofs.Common.{◌≡◌, ◌≢◌, ℕ, ◌+◌, Bool, true, false, List, [], ◌∷◌, Option, Some, None, is_some, Result, Ok, Err, refl, sym, ◌∙◌, ap, arith, subst, inl, inr}
 use Rattle.std.specs.Prelude.{◌⊎◌, ◌||◌, ◌<◌, ◌↔◌, Contains, IfErr, IfSome, OnErr, is_none, not, if◌then◌else◌}
 use Rattle.std.proofs.lemmas.Bool.{false≢true}
 use Rattle.std.proofs.lemmas.Option.{none-some}
 use Rattle.g_base.specs.Counts.{RoseBy}
 use Rattle.g_disc.specs.Disc.{Causes}
-use Rattle.g_disc.proofs.CallLemmas.{Causes-for, stands_later}
+use Rattle.g_disc.proofs.CallLemmas.{Causes-for, Causes-none}
 use Rattle.g_entry.specs.declared.file_rec.FileRec.{FileRec}
 use Rattle.g_entry.specs.declared.file_rec.TapeCopy.{TapeCopy}
 use Rattle.g_entry.specs.declared.user_rec.UserRec.{UserRec}
@@ -16,6 +16,7 @@ use Rattle.g_plain.specs.declared.faults.StoreFault.{StoreFault}
 use Rattle.g_plain.specs.declared.faults.StoreFault.TheVariants.{DiscReadFault, NoFile, NoMemory, NoUser, NotDumped, Offline, Stopped, TapeReadFault}
 use Rattle.g_plain.specs.PlainStep.{first_fault}
 use Rattle.g_plain.specs.PlainTree.{Tree, has_file, has_user, input_name}
+use Rattle.g_plain.proofs.Found.{some_of}
 use Rattle.g_tree.specs.Records.{ForTree, tree_of}
 use Rattle.g_disc_contents.specs.Contents.{Contents, File, Holds, committed, recs_in, taken_off}
 use Rattle.g_disc_contents.specs.Facts.{OnlineFacts}
@@ -38,8 +39,10 @@ use Rattle.g_store.specs.Events.{IsOfMigration, LeadsBy, Migrates, StepsBy, Wrot
 use Rattle.g_store.specs.Naming.{IsNamedFile, named_answer, naming_refuses, stops}
 use Rattle.g_store.specs.Refusing.{IsExact}
 use Rattle.g_store.proofs.EventLemmas.{held_by, leads_same, none_written, refused}
-use Rattle.g_store.proofs.MigrateLemmas.{IsFileOf, file_of, down_before, down_behind, files_seen, name_refused, refusal_is, stamp_is, state_done, told_back, tree_in, two_faults, unload_is, view_off}
+use Rattle.g_store.proofs.MigrateLemmas.{IsFileOf, file_of, down_before, down_behind, name_refused, refusal_is, stamp_is, state_done, tree_in, two_faults, unload_is, view_off}
+use Rattle.g_store.proofs.OpenedLemmas.{devices_hold}
 use Rattle.g_store_calls.proofs.SeenLemmas.{Seen, seen, stands}
+use Rattle.g_store_calls.proofs.BehindLemmas.{files_seen, told_then}
 
 abbrev pub MigratesBy : Path → state.State → state.Holding → Outcome → Result Full StoreFault → state.State → Type 0
 MigratesBy path s k o a n = MigrateStep s k path.user (input_name k.tree [] path) o a n
@@ -59,24 +62,12 @@ exact_none refusal t new r is others = record {
 
 no_cause : (t : StoreFacts) (fault : StoreFault) → fault ≢ DiscReadFault → fault ≢ TapeReadFault → fault ≢ Stopped → (let r : Result Full StoreFault = Err fault in HasCause t t r)
 no_cause t fault disc tape stop = record {
-  disc = record {
-    size = refl;
-    arms = refl;
-    later = stands_later refl;
-    reads_kept = λ _. refl;
-    reads_rose = λ is. absurd (disc (let same : fault ≡ DiscReadFault = cc in same));
-    writes_kept = λ _. refl;
-    writes_rose = λ is. absurd (stop (let same : fault ≡ Stopped = cc in same));
-  };
+  disc = Causes-none t.online.disc (λ is. disc (let same : fault ≡ DiscReadFault = cc in same)) (λ is. stop (let same : fault ≡ Stopped = cc in same));
   tapes = record { reels = refl; write_faults = refl; fuse = refl; arms = refl; read_faults = omega arith; times = λ s k. omega arith };
   tape_read = λ is. absurd (tape (let same : fault ≡ TapeReadFault = cc in same));
   tape_read_only = λ _. refl;
   writes = λ f is other. refl;
 }
-
-some_of : {A : Type 0} (o : Option A) → is_some o ≡ true → (x : A) × (o ≡ Some x)
-some_of None is = absurd (false≢true is)
-some_of (Some x) is = (x, refl)
 
 stands_spent : (o : OnlineFacts) (dump : Option DumpFacts) (u : state.State) (rack : Rack) → DevicesStandFor o.disc.size o.disc.held (told_reels rack) u
     → StandsForState (record { online = o; rack = rack; dump = dump; spent = true }) u
@@ -198,10 +189,10 @@ module _ (path : Path) (t : StoreFacts) (unspent : t.spent ≡ false) (keeps : I
         held_new = new.disc.held
 
         back_to : AllTold held_new (told_reels t.rack) → Told t
-        back_to told = told_back t.online.disc.held held_new (told_reels t.rack) same told
+        back_to told = told_then t.online.disc.held held_new (told_reels t.rack) same told
 
         told_on : Told t → AllTold held_new (told_reels t.rack)
-        told_on told = told_back held_new t.online.disc.held (told_reels t.rack) (sym same) told
+        told_on told = told_then held_new t.online.disc.held (told_reels t.rack) (sym same) told
 
         -- by one commit
         module _ (done : HasChanged (Unload (f.rec.number ∷ [])) t.online new) where
@@ -258,15 +249,7 @@ module _ (path : Path) (t : StoreFacts) (unspent : t.spent ≡ false) (keeps : I
               spent = (λ is. absurd (false≢true is), λ is. absurd (let no : ⊥ = cc in no));
             };
             cause = record {
-              disc = record {
-                size = causes.size;
-                arms = causes.arms;
-                later = causes.later;
-                reads_kept = λ _. causes.reads_kept (λ no. no);
-                reads_rose = λ is. absurd (let no : ⊥ = cc in no);
-                writes_kept = λ _. causes.writes_kept (λ no. no);
-                writes_rose = λ is. absurd (let no : ⊥ = cc in no);
-              };
+              disc = Causes-for (λ no. absurd no) (λ is. (let no : ⊥ = cc in no)) (λ no. absurd no) (λ is. (let no : ⊥ = cc in no)) causes;
               tapes = record { reels = refl; write_faults = refl; fuse = refl; arms = refl; read_faults = omega arith; times = λ s k. omega arith };
               tape_read = λ is. absurd (let no : ⊥ = cc in no);
               tape_read_only = λ _. refl;
@@ -298,14 +281,7 @@ module _ (path : Path) (t : StoreFacts) (unspent : t.spent ≡ false) (keeps : I
                 → (let end = state_down v (told_reels t.rack) new.disc.size (Some x) in (end ≡ down (up v)) ⊎ (end ≡ down (behind v))) → LeadsBy (MigratesBy path) u t spent (Err Stopped)
             leads_by x blocks held holds view which =
                 let end = state_down v (told_reels t.rack) new.disc.size (Some x) in
-                let devices : DevicesStandFor new.disc.size held_new (told_reels t.rack) end = record {
-                  view = v;
-                  contents = Some x;
-                  is = (blocks, held, holds, view);
-                  none = λ no. absurd (true≢false no);
-                  rack = view.rack;
-                  state_is = refl;
-                } in
+                let devices = devices_hold new.disc.size held_new (told_reels t.rack) end v x blocks held holds view refl in
                 record {
                   after = end;
                   left = stands_spent new t.dump end t.rack devices;
@@ -345,15 +321,7 @@ module _ (path : Path) (t : StoreFacts) (unspent : t.spent ≡ false) (keeps : I
               spent = (λ _. refl, λ _. refl);
             };
             cause = record {
-              disc = record {
-                size = causes.size;
-                arms = causes.arms;
-                later = causes.later;
-                reads_kept = λ _. causes.reads_kept (λ no. no);
-                reads_rose = λ is. absurd (let no : ⊥ = cc in no);
-                writes_kept = λ none. absurd (none refl);
-                writes_rose = λ _. causes.writes_rose tt;
-              };
+              disc = Causes-for (λ no. absurd no) (λ is. (let no : ⊥ = cc in no)) (λ _. refl) (λ _. tt) causes;
               tapes = record { reels = refl; write_faults = refl; fuse = refl; arms = refl; read_faults = omega arith; times = λ s k. omega arith };
               tape_read = λ is. absurd (let no : ⊥ = cc in no);
               tape_read_only = λ _. refl;

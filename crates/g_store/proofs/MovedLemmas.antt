@@ -8,6 +8,7 @@ use Rattle.std.proofs.lemmas.List.{append-nil}
 use Rattle.std.proofs.lemmas.List.Elements.{All-contains, Contains-get_or, Contains-push}
 use Rattle.g_tape.specs.Reads.{unread}
 use Rattle.g_tape.specs.Reel.{Reel}
+use Rattle.g_tape.proofs.PlaceLemmas.{reel-found}
 use Rattle.g_plain.specs.declared.faults.StoreFault.{StoreFault}
 use Rattle.g_plain.specs.declared.faults.StoreFault.TheVariants.{DiscReadFault, Stopped, TapeReadFault}
 use Rattle.g_disc_contents.specs.Contents.{has}
@@ -21,8 +22,9 @@ use Rattle.g_laws_store.proofs.UpOneLemmas.{on_all}
 use Rattle.g_laws_process.specs.Moving.{AreKept, DumpsMove, IsReplaced}
 use Rattle.g_dumper.proofs.ShelfLemmas.{told_is}
 use Rattle.g_process.specs.Exits.{Exits, MayFill, StopsBefore, StopsCopies, StopsIntent, StopsMark, StopsRelease, cleared, new_dump}
-use Rattle.g_store.proofs.ProcessedRowsLemmas.{IsLabelled}
-use Rattle.g_store.proofs.ProcessedStepLemmas.{all_same, found_in, name_in, named_there, unread_names, zip_names}
+use Rattle.g_laws_memory.proofs.WaitingLemmas.{mapped_there, from_mapped}
+use Rattle.g_store.proofs.ProcessedRowsLemmas.{IsLabelled, below_this}
+use Rattle.g_store.proofs.ProcessedStepLemmas.{all_same, unread_names, zip_names}
 use Rattle.g_store.proofs.ProcessedTreeLemmas.{held_all}
 
 has_there : (ns : List ℕ) (n : ℕ) → has ns n ≡ true → Contains ns n
@@ -58,7 +60,7 @@ module _ (text : ℕ → List ℕ) (shelf : ℕ → List Dump) (old new : StoreF
   -- a shelf of the rack has what this one has
   one_shelf : (sh : ℕ → List Dump) → AreShelved sh (told_reels old.rack) → (n : ℕ) → Contains names n → sh n ≡ shelf n
   one_shelf sh shelved_sh n there =
-      let (r, in_rack, named) = named_there (told_reels old.rack) n there in
+      let (r, in_rack, named) = from_mapped (λ (x : Reel). x.serial) (told_reels old.rack) n there in
       let (blocks, tells) = told_is r.blocks (All-contains (λ (q : Reel). is_some q.blocks ≡ true) (told_reels old.rack) r told.each.each in_rack) in
       subst (λ (m : ℕ). sh m ≡ shelf m) named (completed_are_one r.serial blocks (sh r.serial) (shelf r.serial) (shelved_sh.each r in_rack blocks tells) (shelved_as.each r in_rack blocks tells))
 
@@ -81,7 +83,7 @@ module _ (text : ℕ → List ℕ) (shelf : ℕ → List Dump) (old new : StoreF
       picked sh n is = cond-true (has names n) (next n) (sh n) is
 
       in_names : (q : Reel) → Contains (told_reels new.rack) q → Contains names q.serial
-      in_names q there = subst (λ (ns : List ℕ). Contains ns q.serial) names_new (name_in (told_reels new.rack) q there)
+      in_names q there = subst (λ (ns : List ℕ). Contains ns q.serial) names_new (mapped_there (λ (x : Reel). x.serial) (told_reels new.rack) q there)
 
       by_moves : (sh : ℕ → List Dump) (n : ℕ) → sh n ≡ shelf n → pick sh n ≡ next n → Moves next n → AreKept (sh n) (pick sh n) ⊎ IsReplaced (pick sh) (told_reels new.rack) (sh n)
       by_moves sh n same is (inl (more, kept)) = inl (more, is ∙ kept ∙ ap (λ (ds : List Dump). ds ++ more) (sym same))
@@ -124,30 +126,22 @@ module _ (text : ℕ → List ℕ) (shelf : ℕ → List Dump) (old new : StoreF
         next : ℕ → List Dump
         next = cleared serial until (with_dump (new_dump serial old.online content) shelf)
 
-        below_this : below serial ≡ false
-        below_this = no_and (nat_lt serial until) (not (serial == serial)) (ap not (eq-eqb serial serial refl))
-          where
-            no_and : (a b : Bool) → b ≡ false → (a && b) ≡ false
-            no_and true false is = refl
-            no_and false false is = refl
-            no_and a true is = absurd (let no : ⊥ = cc in no)
-
         -- the reel of the new dump
         there_made : Contains (all_dumps next (told_reels new.rack)) made
         there_made =
-            let (in_old, named) = found_in old.rack.reels serial may.on may.reel_is in
+            let (in_old, named) = reel-found serial old.rack.reels may.on may.reel_is in
             let in_names : Contains (map (λ (r : Reel). r.serial) (told_reels new.rack)) serial =
-            subst (λ (ns : List ℕ). Contains ns serial) (sym (names_new ∙ unread_names old.rack.reels)) (subst (Contains (map (λ (r : Reel). r.serial) old.rack.reels)) named (name_in old.rack.reels may.on in_old)) in
-            let (r, in_new, is_r) = named_there (told_reels new.rack) serial in_names in
+            subst (λ (ns : List ℕ). Contains ns serial) (sym (names_new ∙ unread_names old.rack.reels)) (subst (Contains (map (λ (r : Reel). r.serial) old.rack.reels)) named (mapped_there (λ (x : Reel). x.serial) old.rack.reels may.on in_old)) in
+            let (r, in_new, is_r) = from_mapped (λ (x : Reel). x.serial) (told_reels new.rack) serial in_names in
             on_all next (told_reels new.rack) r made in_new
             (subst (λ (n : ℕ). Contains (next n) made) (sym is_r)
             (subst (λ (ds : List Dump). Contains ds made)
-            (sym (cond-false (below serial) [] (with_dump made shelf serial) below_this ∙ cond-true (serial == serial) (shelf serial ++ made ∷ []) (shelf serial) (eq-eqb serial serial refl)))
+            (sym (cond-false (below serial) [] (with_dump made shelf serial) (below_this serial until) ∙ cond-true (serial == serial) (shelf serial ++ made ∷ []) (shelf serial) (eq-eqb serial serial refl)))
             (Contains-push (shelf serial) made)))
 
         older : (n : ℕ) → Contains names n → All (λ (d : Dump). d.number < made.number) (shelf n)
         older n there i d within =
-            let (r, in_rack, named) = named_there (told_reels old.rack) n there in
+            let (r, in_rack, named) = from_mapped (λ (x : Reel). x.serial) (told_reels old.rack) n there in
             let x = get_or (shelf n) i d in
             let least = up.quiet x (on_all shelf (told_reels old.rack) r x in_rack (subst (λ (m : ℕ). Contains (shelf m) x) (sym named) (Contains-get_or (shelf n) i d within))) in
             omega (arith, least)

@@ -12,7 +12,7 @@ use Rattle.std.proofs.lemmas.List.Elements.{All-contains, All-head, All-tail, Al
 use Rattle.g_base.specs.Counts.{Rose}
 use Rattle.g_base.specs.Block.{blocks_for}
 use Rattle.g_disc.specs.Disc.{Causes}
-use Rattle.g_disc.proofs.CallLemmas.{Causes-for, stands_later}
+use Rattle.g_disc.proofs.CallLemmas.{Causes-for, stands_later, Causes-none}
 use Rattle.g_entry.specs.declared.file_rec.FileRec.{FileRec}
 use Rattle.g_entry.specs.HeadFields.{IsSerial}
 use Rattle.g_tape.specs.declared.fault.TapeFault.{TapeFault}
@@ -36,7 +36,7 @@ use Rattle.g_store_model.specs.DumpSteps.{Event, OpenStep, dump_needs, open_numb
 use Rattle.g_store_meaning.specs.Answers.{Belongs, IsStore, Told, WroteCommits}
 use Rattle.g_store_meaning.specs.Belonging.{DiscBelongs, KeepsFile}
 use Rattle.g_store_meaning.specs.Meaning.{files_of, told_reels}
-use Rattle.g_store_meaning.specs.Reading.{DevicesStandFor, IsView, Opened, OpensTo, StandsForState, View, holding_of, open_of, row_of, shelved_of, state_down, state_up}
+use Rattle.g_store_meaning.specs.Reading.{DevicesStandFor, IsView, Opened, OpensTo, StandsForState, View, holding_of, open_of, row_of, shelved_of, state_down, state_up, dumped_of}
 use Rattle.g_store_meaning.specs.StoreInvariant.{ArePinned, DumpFacts, IsReady, IsUp, StoreFacts, content_in, with_dump}
 use Rattle.g_store_meaning.proofs.ViewLemmas.{Stands, back, reads_keep_state}
 use Rattle.g_laws_store.specs.Dumping.{IsPlanOf, opened_with}
@@ -44,6 +44,7 @@ use Rattle.g_laws_store.proofs.StateLemmas.{is_view, view_by, with_there}
 use Rattle.g_laws_store.proofs.UpOneLemmas.{store_is_one}
 use Rattle.g_laws_memory.specs.Rooms.{HasLength, held_in}
 use Rattle.g_laws_memory.proofs.NeedsLemmas.{opening_takes}
+use Rattle.g_laws_memory.proofs.WaitingLemmas.{mapped_there}
 use Rattle.g_laws_opening.specs.Opening.{IsOpening}
 use Rattle.g_laws_opening.proofs.OwnLemmas.{opening_is_step}
 use Rattle.g_dumper.specs.Beginning.{Begins, IsEnd, IsKeptBack, LeftByRefusal, RefusesOpening, StoppedOpening, held_of, intent_of, plan_of}
@@ -53,16 +54,16 @@ use Rattle.g_dumper.proofs.HeldLemmas.{held_of_one}
 use Rattle.g_dumper.proofs.IntentLemmas.{rules_here}
 use Rattle.g_dumper.proofs.PlanLemmas.{plan_keeps}
 use Rattle.g_dumper.proofs.KeepLemmas.{content_told}
-use Rattle.g_dumper.proofs.OpeningLemmas.{IsOpenedUp, opened_up, serial_among}
+use Rattle.g_dumper.proofs.OpeningLemmas.{IsOpenedUp, opened_up}
 use Rattle.g_dumper.proofs.ShelfLemmas.{reel_there, told_is}
 use Rattle.g_laws_store.proofs.RecordLemmas.{pairs_head, pairs_tail}
 use Rattle.g_store.specs.Events.{IsOfOpening, LeadsBy, Opens, StepsBy, WroteBy}
 use Rattle.g_store.specs.Refusing.{IsExact, capacity_of, needs_now, number_in, open_refuses as refuses_now}
 use Rattle.g_store.specs.Dumping.{is_stop_at}
 use Rattle.g_store.proofs.EventLemmas.{leads_same, none_written, refused}
-use Rattle.g_store.proofs.MigrateLemmas.{files_seen}
 use Rattle.g_store.proofs.MountLemmas.{lacks_by, mounted_by, reel_unread, row_found}
 use Rattle.g_store_calls.proofs.SeenLemmas.{Seen, seen, stands}
+use Rattle.g_store_calls.proofs.BehindLemmas.{files_seen}
 
 abbrev pub OpensBy : ℕ → state.State → state.Holding → Outcome → Result ℕ StoreFault → state.State → Type 0
 OpensBy serial s k o a n = OpenStep s k serial o a n
@@ -86,6 +87,26 @@ number_of (Err fault) = Err fault
 pub spent_stands : (o : OnlineFacts) (rack : Rack) (u : state.State) → DevicesStandFor o.disc.size o.disc.held (told_reels rack) u → StandsForState (spent_with o rack) u
 unfolding Stands
 spent_stands o rack u is = let devices : Stands true o None u (told_reels rack) = is in back true o None u rack devices
+
+-- what devices stand for whose disc holds these contents
+pub devices_hold : (size : ℕ) (held : Option (List (List ℕ))) (reels : List Reel) (u : state.State) (v : View) (c : Contents) (blocks : List (List ℕ)) → held ≡ Some blocks → Holds blocks c
+    → IsView held reels c v → u ≡ state_down v reels size (Some c) → DevicesStandFor size held reels u
+devices_hold size held reels u v c blocks has holds seen is = record {
+  view = v;
+  contents = Some c;
+  is = (blocks, has, holds, seen);
+  none = λ no. absurd (true≢false no);
+  rack = seen.rack;
+  state_is = is;
+}
+
+-- and a spent store over them, part by part
+pub spent_holding : (o : OnlineFacts) (rack : Rack) (u : state.State) (v : View) (c : Contents) (blocks : List (List ℕ)) → o.disc.held ≡ Some blocks → Holds blocks c
+    → IsView o.disc.held (told_reels rack) c v → u.up ≡ false → u.open_dump ≡ None → u.size ≡ o.disc.size → u.holding ≡ Some (holding_of v.text [] c)
+    → u.reels ≡ map (row_of v.shelf) (told_reels rack) → u.dumped ≡ option_map (dumped_of v.text) v.dumped → StandsForState (spent_with o rack) u
+spent_holding o rack u v c blocks has holds seen up open_dump size holding reels dumped =
+    spent_stands o rack u (devices_hold o.disc.size o.disc.held (told_reels rack) u v c blocks has holds seen (λ i.
+    let s : state.State = record { up = up i; size = size i; holding = holding i; reels = reels i; dumped = dumped i; open_dump = open_dump i } in s))
 
 -- THE BLOCK BEHIND the dumps, as the state counts it
 ends_same : (at : ℕ) (d : Dump) (ds : List Dump) → state.end_of_dumps (map shelved_of (d ∷ ds)) ≡ end_behind at (d ∷ ds)
@@ -182,7 +203,7 @@ module _ (serial : ℕ) (o : OnlineFacts) (rack : Rack) (on : Reel) (on_is : ree
           none = refl;
           told = told.each;
           shelved = shelved;
-          on = subst (Contains (map (λ (r : Reel). r.serial) reels)) (reel_named serial rack.reels on on_is ∙ sym serial_is) (serial_among reels (unread on) (reel_there serial rack.reels on on_is));
+          on = subst (Contains (map (λ (r : Reel). r.serial) reels)) (reel_named serial rack.reels on on_is ∙ sym serial_is) (mapped_there (λ (x : Reel). x.serial) reels (unread on) (reel_there serial rack.reels on on_is));
           dumpable = opened.dumpable;
           planned = opened.planned;
           pinned = opened.are;
@@ -371,15 +392,7 @@ module _ (serial : ℕ) (o : OnlineFacts) (rack : Rack) (on : Reel) (on_is : ree
           spent = (λ is. absurd (false≢true is), λ is. absurd (let no : ⊥ = cc in no));
         };
         cause = record {
-          disc = record {
-            size = causes.size;
-            arms = causes.arms;
-            later = causes.later;
-            reads_kept = λ _. causes.reads_kept (λ no. no);
-            reads_rose = λ is. absurd (let no : ⊥ = cc in no);
-            writes_kept = λ _. causes.writes_kept (λ no. no);
-            writes_rose = λ is. absurd (let no : ⊥ = cc in no);
-          };
+          disc = Causes-for (λ no. absurd no) (λ is. (let no : ⊥ = cc in no)) (λ no. absurd no) (λ is. (let no : ⊥ = cc in no)) causes;
           tapes = reads;
           tape_read = λ is. absurd (let no : ⊥ = cc in no);
           tape_read_only = λ _. quiet;
@@ -631,14 +644,7 @@ module _ (serial : ℕ) (o : OnlineFacts) (rack : Rack) (on : Reel) (on_is : ree
           let end = state_down v (told_reels after) new.disc.size (Some x) in
           let old = state_up v (told_reels rack) o None in
           let is_after : IsView new.disc.held (told_reels after) x v = subst (λ (rs : List Reel). IsView new.disc.held rs x v) (sym reads.reels) is in
-          let devices : DevicesStandFor new.disc.size new.disc.held (told_reels after) end = record {
-            view = v;
-            contents = Some x;
-            is = (blocks, held, holds, is_after);
-            none = λ no. absurd (true≢false no);
-            rack = is_after.rack;
-            state_is = refl;
-          } in
+          let devices = devices_hold new.disc.size new.disc.held (told_reels after) end v x blocks held holds is_after refl in
           record {
             after = end;
             left = spent_stands new after end devices;
@@ -862,15 +868,7 @@ module _ (serial : ℕ) (t : StoreFacts) (unspent : t.spent ≡ false) (keeps : 
               (event (t.online.contents.head.last_dump + 1) s (opening s (held_in v t.online) serial places)),
         )))) wrote;
     cause = record {
-      disc = record {
-        size = refl;
-        arms = refl;
-        later = stands_later refl;
-        reads_kept = λ _. refl;
-        reads_rose = λ no. absurd (disc (let same : fault ≡ DiscReadFault = cc in same));
-        writes_kept = λ _. refl;
-        writes_rose = λ no. absurd (stop (let same : fault ≡ Stopped = cc in same));
-      };
+      disc = Causes-none t.online.disc (λ no. disc (let same : fault ≡ DiscReadFault = cc in same)) (λ no. stop (let same : fault ≡ Stopped = cc in same));
       tapes = nothing_read t.rack;
       tape_read = λ no. absurd (tape_read (let same : fault ≡ TapeReadFault = cc in same));
       tape_read_only = λ _. refl;

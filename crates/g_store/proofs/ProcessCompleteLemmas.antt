@@ -4,6 +4,7 @@ use Rattle.std.specs.Prelude.{◌⊎◌}
 use Rattle.std.specs.Option.{ForSome}
 use Rattle.g_base.specs.Counts.{Rose}
 use Rattle.g_tape.specs.Rack.{AreReels, reel}
+use Rattle.g_tape.proofs.PlaceLemmas.{reel-found}
 use Rattle.g_plain.specs.declared.faults.StoreFault.{StoreFault}
 use Rattle.g_plain.specs.declared.faults.StoreFault.TheVariants.{DiscReadFault, NoCopy, NoMemory, ReelNotFree, Stopped, TapeFull, TapeReadFault}
 use Rattle.g_incr.specs.Plan.{needs}
@@ -12,7 +13,7 @@ use Rattle.g_store_meaning.specs.StoreInvariant.{StoreFacts}
 use Rattle.g_process.specs.ProcessPlan.{IsFree, IsTaken, process_plan}
 use Rattle.g_process.specs.Processing.{Processes, process_refuses}
 use Rattle.g_store.specs.Completeness.{NoDeviceFailed, ProcessIsComplete}
-use Rattle.g_store.proofs.ProcessedStepLemmas.{found_in, free_none, none_lost, taken_some, there_is}
+use Rattle.g_store.proofs.ProcessedStepLemmas.{free_none, none_lost, taken_some, there_is}
 
 pub process_complete : ProcessIsComplete
 process_complete = record { process = λ serial old new fault up right told was granted free fits no_disc no_tape it. by_fault fault serial old new up right told was granted free fits no_disc no_tape it }
@@ -32,7 +33,7 @@ process_complete = record { process = λ serial old new fault up right told was 
     by_fault (ReelNotFree n) serial old new up right told was granted free fits no_disc no_tape it =
         let (text, shelf, shelved, is_up) = was.up up in
         let (r, found) = there_is serial old granted in
-        let (in_old, named) = found_in old.rack.reels serial r found in
+        let (in_old, named) = reel-found serial old.rack.reels r found in
         let (n_is, taken) = it.taken n refl in
         absurd ((taken_some old.online old.rack right told shelf shelved r in_old (subst (λ (m : ℕ). IsTaken m old.rack) (sym named) taken)).0
         (free_none old.online old.rack right told shelf shelved r in_old (subst (λ (m : ℕ). IsFree m old.rack) (sym named) free)))

@@ -20,8 +20,17 @@ use Rattle.g_store_meaning.specs.StoreInvariant.{with_dump}
 use Rattle.g_laws_store.proofs.RecordLemmas.{pairs_head, pairs_tail}
 use Rattle.g_process.specs.Exits.{IsBesideDump, IsClearedBy, IsReadBy, cleared}
 use Rattle.g_process.specs.ProcessPlan.{IsFree, IsTaken}
-use Rattle.g_process.proofs.ExitLemmas.{found_itself}
+use Rattle.g_process.proofs.ExitLemmas.{found_itself, two_true}
 use Rattle.g_process.proofs.ReleaseLemmas.{AreApart}
+
+-- a reel isn't below a bound that leaves it out
+pub no_and : (a b : Bool) → b ≡ false → (a && b) ≡ false
+no_and true false is = refl
+no_and false false is = refl
+no_and a true is = absurd (let no : ⊥ = cc in no)
+
+pub below_this : (serial until : ℕ) → (nat_lt serial until && not (serial == serial)) ≡ false
+below_this serial until = no_and (nat_lt serial until) (not (serial == serial)) (ap not (eq-eqb serial serial refl))
 
 abbrev Below : ℕ → ℕ → Type 0
 Below m n = m < n
@@ -178,19 +187,9 @@ module _ (serial : ℕ) (old new : Rack) (rising : AllPairs Below (serials old.r
       abbrev frees : state.ReelRow → state.ReelRow
       frees r = released_before serial until (at_row serial marks r)
 
-      no_and : (a b : Bool) → b ≡ false → (a && b) ≡ false
-      no_and true false is = refl
-      no_and false false is = refl
-      no_and a true is = absurd (let no : ⊥ = cc in no)
-
       first_no : (a b : Bool) → a ≡ false → (a && b) ≡ false
       first_no false b is = refl
       first_no true b is = absurd (let no : ⊥ = cc in no)
-
-      two_true : (a b : Bool) → a ≡ true → b ≡ true → (a && b) ≡ true
-      two_true true true x y = refl
-      two_true true false x y = absurd (let no : ⊥ = cc in no)
-      two_true false b x y = absurd (let no : ⊥ = cc in no)
 
       here_next : (n : ℕ) → n ≡ serial → next n ≡ with_dump made shelf n
       here_next n is = cond-false (nat_lt n until && not (n == serial)) [] (with_dump made shelf n) (no_and (nat_lt n until) (not (n == serial)) (ap not (eq-eqb n serial is)))

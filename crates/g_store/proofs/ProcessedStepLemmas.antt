@@ -5,10 +5,9 @@ use Rattle.std.specs.List.{AllZip, flat_map}
 use Rattle.std.specs.Ordering.{nat_cmp}
 use Rattle.std.specs.FinMap.{FinMap, entries, from_entries}
 use Rattle.std.proofs.lemmas.Bool.{cases_Bool, cond-false, cond-true, eq-eqb, le-ltb, lt-ltb, ne_eqb, lt-leb}
-use Rattle.std.proofs.lemmas.Bool.Decides.{eqb_tells}
 use Rattle.std.proofs.lemmas.List.Elements.{All-contains, All-head, All-tail, All-weaker, Contains-push}
 use Rattle.std.proofs.lemmas.List.Kept.{AllPairs-from_increasing}
-use Rattle.std.proofs.lemmas.Option.{none-some, same_Some}
+use Rattle.std.proofs.lemmas.Option.{none-some}
 use Rattle.g_base.specs.Block.{blocks_for}
 use Rattle.g_base.specs.Counts.{Rose}
 use Rattle.g_entry.specs.declared.file_rec.FileRec.{FileRec}
@@ -18,6 +17,7 @@ use Rattle.g_tape.specs.Rack.{AreReels, Rack, reel}
 use Rattle.g_tape.specs.Reads.{blocks_in, unread, blocks_of}
 use Rattle.g_tape.specs.Reel.{Reel}
 use Rattle.g_tape.proofs.ReadLemmas.{is_reel}
+use Rattle.g_tape.proofs.PlaceLemmas.{reel-found}
 use Rattle.g_plain.specs.declared.faults.StoreFault.{StoreFault}
 use Rattle.g_plain.specs.declared.faults.StoreFault.TheVariants.{CountersSpent, DiscReadFault, DumpOpen, NoCopy, NoMemory, NoTape, RackNotMounted, ReelNotFree, Stopped, TapeFull, TapeReadFault}
 use Rattle.g_plain.specs.PlainStep.{first_fault}
@@ -45,6 +45,7 @@ use Rattle.g_store_meaning.proofs.OneLemmas.{on_reel}
 use Rattle.g_laws_store.proofs.StateLemmas.{is_view, view_by}
 use Rattle.g_laws_store.proofs.UpOneLemmas.{on_all, store_is_one}
 use Rattle.g_laws_memory.specs.Rooms.{HasLength, held_in}
+use Rattle.g_laws_memory.proofs.WaitingLemmas.{from_mapped, mapped_there}
 use Rattle.g_store_calls.proofs.SeenLemmas.{Seen, stands}
 use Rattle.g_dumper.specs.Invariant.{spent_with, up_with}
 use Rattle.g_dumper.proofs.BeginLemmas.{reel_named}
@@ -62,12 +63,12 @@ use Rattle.g_process.proofs.BelongLemmas.{disc_marked, none_on, up_moved, up_rel
 use Rattle.g_process.proofs.ExitLemmas.{found_itself, gone_all, stays_all}
 use Rattle.g_process.proofs.ReleaseLemmas.{AreApart}
 use Rattle.g_store.specs.Events.{LeadsBy, StepsBy}
-use Rattle.g_store.proofs.EventLemmas.{leads_same}
+use Rattle.g_store.proofs.EventLemmas.{leads_at, leads_same}
 use Rattle.g_store.proofs.MountLemmas.{lacks_by, reel_unread, row_found}
 use Rattle.g_store.proofs.NotedLemmas.{kept_all}
-use Rattle.g_store.proofs.OpenedLemmas.{spent_stands}
+use Rattle.g_store.proofs.OpenedLemmas.{spent_holding}
 use Rattle.g_store.proofs.ProcessedLemmas.{IsEarly}
-use Rattle.g_store.proofs.ProcessedRowsLemmas.{IsLabelled, rows_cleared, rows_cut, rows_marked, rows_read, used_in}
+use Rattle.g_store.proofs.ProcessedRowsLemmas.{IsLabelled, rows_cleared, rows_cut, rows_marked, rows_read, used_in, below_this}
 use Rattle.g_store.proofs.ProcessedTreeLemmas.{are_moved, dumped_tree, gathered_made, held_all, is_processed, is_ready, last_made, made_there, process_counts, same_copies}
 use Rattle.g_store.proofs.RestoreLemmas.{first_down}
 use Rattle.g_store.proofs.SteppedLemmas.{tree_copied}
@@ -183,40 +184,6 @@ first_above until shelf (r ∷ rs) all =
     (lt-leb until r.serial (All-head (λ (x : Reel). x.serial < until) r rs all))
     ∙ first_above until shelf rs (All-tail (λ (x : Reel). x.serial < until) r rs all)
 
-pub unread_there : (rs : List Reel) (q : Reel) → Contains (map unread rs) q → (r : Reel) × Contains rs r × (unread r ≡ q)
-unread_there [] q (i, inside, is) = absurd (let no : ⊥ = omega (arith, inside) in no)
-unread_there (x ∷ xs) q (zero, inside, is) = (x, (0, omega arith, refl), is)
-unread_there (x ∷ xs) q (suc i, inside, is) =
-    let (r, (j, within, at), same) = unread_there xs q (i, omega (arith, inside), is) in
-    (r, (suc j, omega (arith, within), at), same)
-
-pub named_there : (rs : List Reel) (n : ℕ) → Contains (serials rs) n → (r : Reel) × Contains rs r × (r.serial ≡ n)
-named_there [] n (i, inside, is) = absurd (let no : ⊥ = omega (arith, inside) in no)
-named_there (x ∷ xs) n (zero, inside, is) = (x, (0, omega arith, refl), is)
-named_there (x ∷ xs) n (suc i, inside, is) =
-    let (r, (j, within, at), same) = named_there xs n (i, omega (arith, inside), is) in
-    (r, (suc j, omega (arith, within), at), same)
-
-pub name_in : (rs : List Reel) (r : Reel) → Contains rs r → Contains (serials rs) r.serial
-name_in [] r (i, inside, is) = absurd (let no : ⊥ = omega (arith, inside) in no)
-name_in (x ∷ xs) r (zero, inside, is) = (0, omega arith, ap (λ (y : Reel). y.serial) is)
-name_in (x ∷ xs) r (suc i, inside, is) =
-    let (j, within, at) = name_in xs r (i, omega (arith, inside), is) in
-    (suc j, omega (arith, within), at)
-
-pub found_in : (rs : List Reel) (n : ℕ) (r : Reel) → reel n rs ≡ Some r → Contains rs r × (r.serial ≡ n)
-found_in [] n r is = absurd (none-some r is)
-found_in (x ∷ xs) n r is = by_first (eqb_tells n x.serial) (λ it. found_in xs n r it)
-  where
-    later : Contains xs r × (r.serial ≡ n) → Contains (x ∷ xs) r × (r.serial ≡ n)
-    later ((i, inside, at), named) = ((suc i, omega (arith, inside), at), named)
-
-    by_first : (((n == x.serial) ≡ true) × (n ≡ x.serial)) ⊎ (((n == x.serial) ≡ false) × (n ≡ x.serial → ⊥)) → (reel n xs ≡ Some r → Contains xs r × (r.serial ≡ n)) → Contains (x ∷ xs) r × (r.serial ≡ n)
-    by_first (inl h) rest =
-        let same : x ≡ r = same_Some x r (sym (cond-true (n == x.serial) (Some x) (reel n xs) h.0) ∙ is) in
-        ((0, omega arith, same), ap (λ (y : Reel). y.serial) (sym same) ∙ sym h.1)
-    by_first (inr h) rest = later (rest (sym (cond-false (n == x.serial) (Some x) (reel n xs) h.0) ∙ is))
-
 has_reel : (x : Option Reel) (second : Bool × StoreFault) (third : Bool) (n : ℕ) (last : Bool) → first_fault ((is_none x, NoTape) ∷ second ∷ (third, DumpOpen n) ∷ (last, CountersSpent) ∷ []) ≡ None
     → (r : Reel) × (x ≡ Some r)
 has_reel None second third n last is = absurd (none-some NoTape (sym is))
@@ -289,7 +256,7 @@ module _ (o : OnlineFacts) (old : Rack) (reels : AreReels old.reels) (told : All
       let kept = All-contains (λ (g : File). KeepsFile (text g.rec.stamp) (all_dumps shelf (told_reels old)) g) o.contents.files f files lost.there in
       let content : IsContent (all_dumps shelf (told_reels old)) copy (text f.rec.stamp) = subst (λ (x : Option TapeCopy). IfSome x (λ y. IsContent (all_dumps shelf (told_reels old)) y (text f.rec.stamp))) lost.tape kept.rec.copy in
       let on = on_reel shelf (told_reels old) content.dump content.there in
-      let (r, in_old, is_r) = unread_there old.reels on.reel on.there in
+      let (r, in_old, is_r) = from_mapped unread old.reels on.reel on.there in
       let it = tells_at r in_old in
       let on_r : Contains (shelf r.serial) content.dump = subst (λ (q : Reel). Contains (shelf q.serial) content.dump) (sym is_r) on.on in
       let here = among r.serial it.blocks 0 0 (shelf r.serial) it.completed.are content.dump on_r in
@@ -399,17 +366,7 @@ module _ (serial : ℕ) (o : OnlineFacts) (old : Rack) (reels : AreReels old.ree
 
   leads : (answer : Result ℕ StoreFault) (after : StoreFacts) (end : state.State) (out : Outcome) → StandsForState after end → Raised out before after → ProcessStep s k serial out answer end
       → (u : state.State) → StandsForState before u → LeadsBy (IsProcess serial) u before after answer
-  leads answer after end out left raised by_step u here =
-      let same = state_of u here in
-      record {
-        after = end;
-        left = left;
-        held = k;
-        holds = ap (λ (x : state.State). x.holding) same;
-        outcome = out;
-        raised = raised;
-        step = subst (λ (x : state.State). IsProcess serial x k out answer end) (sym same) by_step;
-      }
+  leads answer after end out left raised by_step u here = leads_at (IsProcess serial) before after answer s u k refl (state_of u here) end out left raised by_step
 
   -- NOTHING WAS WRITTEN
   same_stands : (o' : OnlineFacts) (new : Rack) → o' ≡ o → map unread new.reels ≡ map unread old.reels → StandsForState (up_with o' new None) s
@@ -482,44 +439,16 @@ module _ (serial : ℕ) (o : OnlineFacts) (old : Rack) (reels : AreReels old.ree
     cut_stands : (blocks : List (List ℕ)) → o'.disc.held ≡ Some blocks → Holds blocks c → map unread new.reels ≡ map unread old.reels → StandsForState (spent_with o' new) (down s)
     cut_stands blocks held holds same =
         let seen_then = view_then o'.disc.held c refl (subst (AreShelved shelf) (sym same) shelved_as) in
-        spent_stands o' new (down s) (record {
-          view = v;
-          contents = Some c;
-          is = (blocks, held, holds, seen_then);
-          none = λ no. absurd (true≢false no);
-          rack = seen_then.rack;
-          state_is = λ i.
-              let u : state.State = record {
-                up = false;
-                size = sym size i;
-                holding = Some (holding_of text [] c);
-                reels = map (row_of shelf) (sym same i);
-                dumped = s.dumped;
-                open_dump = None;
-              } in u;
-        })
+        spent_holding o' new (down s) v c blocks held holds seen_then refl refl
+        (sym size) refl (ap (map (row_of shelf)) (sym same)) refl
 
     -- or that with the intent
     intent_stands : (blocks : List (List ℕ)) → o'.disc.held ≡ Some blocks → Holds blocks (intended_by serial o) → AllZip (IsReadBy serial) old.reels new.reels → AreShelved shelf (told_reels new)
         → StandsForState (spent_with o' new) (down begun)
     intent_stands blocks held holds zip shelved_new =
         let seen_then = view_then o'.disc.held (intended_by serial o) refl shelved_new in
-        spent_stands o' new (down begun) (record {
-          view = v;
-          contents = Some (intended_by serial o);
-          is = (blocks, held, holds, seen_then);
-          none = λ no. absurd (true≢false no);
-          rack = seen_then.rack;
-          state_is = λ i.
-              let u : state.State = record {
-                up = false;
-                size = sym size i;
-                holding = Some (holding_of text [] (intended_by serial o));
-                reels = sym (rows_begun zip) i;
-                dumped = s.dumped;
-                open_dump = None;
-              } in u;
-        })
+        spent_holding o' new (down begun) v (intended_by serial o) blocks held holds seen_then refl refl
+        (sym size) refl (sym (rows_begun zip)) refl
 
     -- WITH THE NEW DUMP
     module _ (may : MayFill serial before) (content : List (List ℕ)) (its : IsContentOf text serial o content) where
@@ -599,22 +528,8 @@ module _ (serial : ℕ) (o : OnlineFacts) (old : Rack) (reels : AreReels old.ree
       marked_stands blocks held holds zip shelved_new =
           let disc = disc_marked serial o old live keeps.tied may.rules may.on may.reel_is may.free told text shelf shelved_as up content its.long its.blocks its.lens its.parts old refl may.room may.mounted in
           let seen_then = view_marked o'.disc.held (intended_by serial o) shelved_new disc.files in
-          spent_stands o' new (down (record (marked_by s k serial d) { holding = Some (with_intent s serial k) })) (record {
-            view = v_marked;
-            contents = Some (intended_by serial o);
-            is = (blocks, held, holds, seen_then);
-            none = λ no. absurd (true≢false no);
-            rack = seen_then.rack;
-            state_is = λ i.
-                let u : state.State = record {
-                  up = false;
-                  size = sym size i;
-                  holding = Some (holding_of text [] (intended_by serial o));
-                  reels = sym (rows_now zip) i;
-                  dumped = Some d;
-                  open_dump = None;
-                } in u;
-          })
+          spent_holding o' new (down (record (marked_by s k serial d) { holding = Some (with_intent s serial k) })) v_marked (intended_by serial o) blocks held holds seen_then refl refl
+          (sym size) refl (sym (rows_now zip)) refl
 
       -- THE NEW COPIES are noted
       tree_moved : tree_by text c.users (recs_in (moved_by serial o)) c.head.next_stamp ≡ k.tree
@@ -631,22 +546,8 @@ module _ (serial : ℕ) (o : OnlineFacts) (old : Rack) (reels : AreReels old.ree
           → StandsForState (spent_with o' new) (down (moved s k serial places d 0))
       copies_stand blocks held holds zip shelved_new =
           let seen_then = view_marked o'.disc.held (moved_by serial o) shelved_new up_copied.disc.files in
-          spent_stands o' new (down (moved s k serial places d 0)) (record {
-            view = v_marked;
-            contents = Some (moved_by serial o);
-            is = (blocks, held, holds, seen_then);
-            none = λ no. absurd (true≢false no);
-            rack = seen_then.rack;
-            state_is = λ i.
-                let u : state.State = record {
-                  up = false;
-                  size = sym size i;
-                  holding = Some (sym (held_moved []) i);
-                  reels = sym (rows_now zip ∙ sym (none_released serial (state.with_reel serial (λ r. with_used true (with_shelved (process_dump k) r)) s.reels))) i;
-                  dumped = Some d;
-                  open_dump = None;
-                } in u;
-          })
+          spent_holding o' new (down (moved s k serial places d 0)) v_marked (moved_by serial o) blocks held holds seen_then refl refl
+          (sym size) (ap Some (sym (held_moved []))) (sym (rows_now zip ∙ sym (none_released serial (state.with_reel serial (λ r. with_used true (with_shelved (process_dump k) r)) s.reels)))) refl
 
       -- REELS ARE RELEASED
       module _ (until : ℕ) where
@@ -659,16 +560,8 @@ module _ (serial : ℕ) (o : OnlineFacts) (old : Rack) (reels : AreReels old.ree
         abbrev gone : List ℕ
         gone = filter below (serials (told_reels old))
 
-        below_this : below serial ≡ false
-        below_this = no_and (nat_lt serial until) (not (serial == serial)) (ap not (eq-eqb serial serial refl))
-          where
-            no_and : (a b : Bool) → b ≡ false → (a && b) ≡ false
-            no_and true false is = refl
-            no_and false false is = refl
-            no_and a true is = absurd (let no : ⊥ = cc in no)
-
         never : has gone serial ≡ true → ⊥
-        never is = true≢false (sym is ∙ fails below (serials rs) serial below_this)
+        never is = true≢false (sym is ∙ fails below (serials rs) serial (below_this serial until))
 
         up_gone : IsUp text (without_all gone with_made) (up_with (record o { contents = moved_by serial o; changed = [] }) old None)
         up_gone = up_released serial o old live keeps.tied may.rules may.on may.reel_is may.free told text shelf shelved_as up content its.long its.blocks its.lens its.parts old refl may.room may.mounted gone never
@@ -677,7 +570,7 @@ module _ (serial : ℕ) (o : OnlineFacts) (old : Rack) (reels : AreReels old.ree
         same_c = all_same (without_all gone with_made) shelf_c rs (λ r there. by_test r there (cases_Bool (below r.serial)))
           where
             by_test : (r : Reel) → Contains rs r → (below r.serial ≡ true) ⊎ (below r.serial ≡ false) → without_all gone with_made r.serial ≡ shelf_c r.serial
-            by_test r there (inl is) = gone_all gone with_made r.serial (passes below (serials rs) r.serial (name_in rs r there) is) ∙ sym (cond-true (below r.serial) [] (with_made r.serial) is)
+            by_test r there (inl is) = gone_all gone with_made r.serial (passes below (serials rs) r.serial (mapped_there (λ (x : Reel). x.serial) rs r there) is) ∙ sym (cond-true (below r.serial) [] (with_made r.serial) is)
             by_test r there (inr isnt) = stays_all gone with_made r.serial (fails below (serials rs) r.serial isnt) ∙ sym (cond-false (below r.serial) [] (with_made r.serial) isnt)
 
         rack_c : RackBelongs text (all_dumps shelf_c rs)
@@ -691,7 +584,7 @@ module _ (serial : ℕ) (o : OnlineFacts) (old : Rack) (reels : AreReels old.ree
             on_all shelf_c rs (unread may.on) made (reel_there serial old.reels may.on may.reel_is)
             (subst (λ (n : ℕ). Contains (shelf_c n) made) (sym (reel_named serial old.reels may.on may.reel_is))
             (subst (λ (ds : List Dump). Contains ds made)
-            (sym (cond-false (below serial) [] (with_made serial) below_this ∙ cond-true (serial == serial) (shelf serial ++ made ∷ []) (shelf serial) (eq-eqb serial serial refl)))
+            (sym (cond-false (below serial) [] (with_made serial) (below_this serial until) ∙ cond-true (serial == serial) (shelf serial ++ made ∷ []) (shelf serial) (eq-eqb serial serial refl)))
             (Contains-push (shelf serial) made)))
 
         low_c : (e : Dump) → Contains (all_dumps shelf_c rs) e → e.number ≤ made.number
@@ -763,22 +656,8 @@ module _ (serial : ℕ) (o : OnlineFacts) (old : Rack) (reels : AreReels old.ree
         released_stand blocks held holds zip shelved_new =
             let seen_then = view_c o'.disc.held (moved_by serial o) refl shelved_new in
             let rows_c = rows_cleared serial old new rising apart_new labels shelf made refl (process_dump k) shelved_is until None none_at some_at refl zip in
-            spent_stands o' new (down (moved s k serial places d until)) (record {
-              view = v_c;
-              contents = Some (moved_by serial o);
-              is = (blocks, held, holds, seen_then);
-              none = λ no. absurd (true≢false no);
-              rack = seen_then.rack;
-              state_is = λ i.
-                  let u : state.State = record {
-                    up = false;
-                    size = sym size i;
-                    holding = Some (sym (held_moved []) i);
-                    reels = sym rows_c i;
-                    dumped = Some (sym dumped_c i);
-                    open_dump = None;
-                  } in u;
-            })
+            spent_holding o' new (down (moved s k serial places d until)) v_c (moved_by serial o) blocks held holds seen_then refl refl
+            (sym size) (ap Some (sym (held_moved []))) (sym rows_c) (ap Some (sym dumped_c))
 
         cut_release_stands : (n : ℕ) → until ≡ n + 1 → n ≢ serial → IsTaken n old → (blocks : List (List ℕ)) → o'.disc.held ≡ Some blocks → Holds blocks (moved_by serial o)
             → AllZip (IsClearedBy serial until (Some n) old) old.reels new.reels → AreShelved shelf_c (told_reels new)
@@ -786,22 +665,8 @@ module _ (serial : ℕ) (o : OnlineFacts) (old : Rack) (reels : AreReels old.ree
         cut_release_stands n until_is apart_n taken_n blocks held holds zip shelved_new =
             let seen_then = view_c o'.disc.held (moved_by serial o) refl shelved_new in
             let rows_c = rows_cut serial old new rising apart_new labels shelf made refl (process_dump k) shelved_is until (Some n) none_at some_at n refl until_is apart_n taken_n zip in
-            spent_stands o' new (down (with_cut (Some (n, used_in (reel n new.reels))) (moved s k serial places d until))) (record {
-              view = v_c;
-              contents = Some (moved_by serial o);
-              is = (blocks, held, holds, seen_then);
-              none = λ no. absurd (true≢false no);
-              rack = seen_then.rack;
-              state_is = λ i.
-                  let u : state.State = record {
-                    up = false;
-                    size = sym size i;
-                    holding = Some (sym (held_moved []) i);
-                    reels = sym rows_c i;
-                    dumped = Some (sym dumped_c i);
-                    open_dump = None;
-                  } in u;
-            })
+            spent_holding o' new (down (with_cut (Some (n, used_in (reel n new.reels))) (moved s k serial places d until))) v_c (moved_by serial o) blocks held holds seen_then refl refl
+            (sym size) (ap Some (sym (held_moved []))) (sym rows_c) (ap Some (sym dumped_c))
 
   -- BY ITS ANSWER
   module _ (o' : OnlineFacts) (new : Rack) (u : state.State) (here : StandsForState before u) where
@@ -871,7 +736,7 @@ module _ (serial : ℕ) (o : OnlineFacts) (old : Rack) (reels : AreReels old.ree
         let same = it.exit told text shelf shelved_as up refl in
         let (n_is, taken) = it.taken n refl in
         let (r, found) = there_is serial before granted in
-        let (in_old, named) = found_in old.reels serial r found in
+        let (in_old, named) = reel-found serial old.reels r found in
         let some = some_at r in_old (subst (λ (m : ℕ). IsTaken m old) (sym named) taken) in
         let long = end_taken serial r found some.0 in
         refused_leads (ReelNotFree n)
@@ -882,7 +747,7 @@ module _ (serial : ℕ) (o : OnlineFacts) (old : Rack) (reels : AreReels old.ree
         let same = it.exit told text shelf shelved_as up refl in
         let (need_is, less, room_is, free) = it.full need room refl in
         let (r, found) = there_is serial before granted in
-        let (in_old, named) = found_in old.reels serial r found in
+        let (in_old, named) = reel-found serial old.reels r found in
         let empty = none_at r in_old (subst (λ (m : ℕ). IsFree m old) (sym named) free) in
         let needed : process_needs k ≡ need = sym counts ∙ sym need_is in
         let roomy : state.capacity_in (state.reel_at serial s.reels) ≡ room = ap state.capacity_in (row_at serial r found) ∙ sym (room_is r found) in
@@ -940,7 +805,7 @@ module _ (serial : ℕ) (o : OnlineFacts) (old : Rack) (reels : AreReels old.ree
             (moved_are o' new it.cause.reels it.cause.size is.may is.content is.has) (copies_same o' new it.cause.reels it.cause.size is.may is.content is.has) is.until None tt refl)
         by_release is holds (Some n) cut_is =
             let (until_is, apart_n, taken_n, in_names) = subst (λ (x : Option ℕ). IsLastCut serial is.until old x) cut_is is.last in
-            let (r, in_old, named) = named_there old.reels n in_names in
+            let (r, in_old, named) = from_mapped (λ (x : Reel). x.serial) old.reels n in_names in
             let found : reel n old.reels ≡ Some r = ap (λ (m : ℕ). reel m old.reels) (sym named) ∙ found_itself old.reels r (apart_of old.reels reels.rising) in_old in
             let some = some_at r in_old (subst (λ (m : ℕ). IsTaken m old) (sym named) taken_n) in
             cut_at is.may

@@ -245,13 +245,6 @@ no_tape [] r (i, within, is) = absurd (let no : ⊥ = omega (arith, within) in n
 no_tape (x ∷ xs) r (zero, within, is) = ap (λ (y : FileRec). y.tape) (sym is)
 no_tape (x ∷ xs) r (suc i, within, is) = no_tape xs r (i, omega (arith, within), is)
 
-bare_there : (fs : List File) (f : File) → Contains fs f → Contains (map bare_file fs) (bare_file f)
-bare_there [] f (i, within, is) = absurd (let no : ⊥ = omega (arith, within) in no)
-bare_there (x ∷ xs) f (zero, within, is) = (0, omega arith, ap bare_file is)
-bare_there (x ∷ xs) f (suc i, within, is) =
-    let (j, inside, at) = bare_there xs f (i, omega (arith, within), is) in
-    (suc j, omega (arith, inside), at)
-
 none_kept : (us : List UserRec) (ns : List ℕ) → ((u : UserRec) → Contains us u → has ns u.number ≡ true) → users_not_in ns us ≡ []
 none_kept [] ns all = refl
 none_kept (u ∷ us) ns all =
@@ -261,17 +254,10 @@ none_kept (u ∷ us) ns all =
     later : (v : UserRec) → Contains us v → Contains (u ∷ us) v
     later v (i, within, is) = (suc i, omega (arith, within), is)
 
-number_in : (us : List UserRec) (u : UserRec) → Contains us u → Contains (map (λ (v : UserRec). v.number) us) u.number
-number_in [] u (i, within, is) = absurd (let no : ⊥ = omega (arith, within) in no)
-number_in (v ∷ vs) u (zero, within, is) = (0, omega arith, ap (λ (w : UserRec). w.number) is)
-number_in (v ∷ vs) u (suc i, within, is) =
-    let (j, inside', at) = number_in vs u (i, omega (arith, within), is) in
-    (suc j, omega (arith, inside'), at)
-
 -- it holds every directory
 pub held_all : (serial : ℕ) (o : OnlineFacts) (content : List (List ℕ)) → All (λ (u : UserRec). holds (new_dump serial o content).held u.number ≡ true) (new_dump serial o content).users
 held_all serial o content = λ i e within.
-    holds_there (every_user o.contents) (get_or o.contents.users i e).number (number_in o.contents.users (get_or o.contents.users i e) (Contains-get_or o.contents.users i e within))
+    holds_there (every_user o.contents) (get_or o.contents.users i e).number (mapped_there (λ (x : UserRec). x.number) o.contents.users (get_or o.contents.users i e) (Contains-get_or o.contents.users i e within))
 
 tree_of_rows : List UserRec → ℕ → List (Full × FileRow) → Tree
 tree_of_rows users next rows = record { users = from_entries (map (λ u. (u.user, user_row_of users u)) users); files = from_entries rows; next = next }
@@ -433,7 +419,7 @@ module _ (serial : ℕ) (o : OnlineFacts) (old : Rack) (live : o.live ≡ true) 
 
     -- nobody is kept in it
     none_in : (name : List ℕ) → state.is_in forgot.kept name ≡ false
-    none_in name = ap (λ (us : List UserRec). state.is_in (names_of us) name) (none_kept c.users (every_user c) (λ u there. holds_there (every_user c) u.number (number_in c.users u there)))
+    none_in name = ap (λ (us : List UserRec). state.is_in (names_of us) name) (none_kept c.users (every_user c) (λ u there. holds_there (every_user c) u.number (mapped_there (λ (x : UserRec). x.number) c.users u there)))
         ∙ ap is_some (get-empty text_cmp name)
 
     abbrev entry_stamp : Full × FileRow → ℕ
@@ -527,7 +513,7 @@ module _ (serial : ℕ) (o : OnlineFacts) (old : Rack) (live : o.live ≡ true) 
             let one = found_one nat_cmp_total nat_cmp-IsAntisymmetric stamp_of q c.files f is in
             sym (copy_moved serial o old live tied rules on on_is free told text shelf shelved up content its.long its.blocks its.lens its.parts f one.0)
             ∙ sym (ap (λ (p : state.Place). p.copy)
-            (place_of_rec v ghost plan pins content op opening (bare_rec f.rec) (mapped_there (λ (g : File). g.rec) (bare c).files (bare_file f) (bare_there c.files f one.0))))
+            (place_of_rec v ghost plan pins content op opening (bare_rec f.rec) (mapped_there (λ (g : File). g.rec) (bare c).files (bare_file f) (mapped_there bare_file c.files f one.0))))
             ∙ ap (λ (n : ℕ). (state.place_at d.places n).copy) one.1
 
     current_now : (q : ℕ) → is_some (get places q) ≡ state.is_current k.tree q

@@ -35,8 +35,8 @@ use Rattle.g_store_meaning.proofs.ChangeLemmas.{restore_belongs}
 use Rattle.g_store_meaning.proofs.OneLemmas.{devices_are_one}
 use Rattle.g_restore.specs.Restoration.{IsRestored}
 use Rattle.g_restore.proofs.ReelLemmas.{all_of_reels}
+use Rattle.g_store_calls.proofs.BehindLemmas.{rack_seen}
 use Rattle.g_store.proofs.MakeLemmas.{belongs_made, stands_up, store_of, up_is}
-use Rattle.g_store.proofs.MigrateLemmas.{rack_seen}
 
 -- WHAT THE STATE SEES of the reels
 pub first_down : (shelf : ℕ → List Dump) (reels : List Reel) → state.first_reel (λ row. not row.mounted) (map (row_of shelf) (map unread reels)) ≡ first_unmounted reels

@@ -32,9 +32,9 @@ use Rattle.g_restore.specs.Losses.{LostIsNamed}
 use Rattle.g_restore.specs.Reels.{AreOnReels}
 use Rattle.g_restore.specs.Restoration.{IsOfDisc, IsOfReels, IsRestored, KeepsBelonging, NothingIsLost}
 use Rattle.g_restore.proofs.ReelLemmas.{all_of_reels}
+use Rattle.g_store_calls.proofs.BehindLemmas.{told_then as told_back}
 use Rattle.g_store.specs.Making.{LeadsDown, RefusesRestore, Restored, StepsDown}
 use Rattle.g_store.proofs.MakeLemmas.{Stood, before_stands, down_again, moved, new_down, new_stands, stood, store_made, store_of, told_then, unkept}
-use Rattle.g_store.proofs.MigrateLemmas.{told_back}
 use Rattle.g_store.proofs.RestoreLemmas.{RestoredAt, all_none, by_dumped, early, first_down, held_is, is_there, restored_at, right, stands_there, steps, belongs as belongs_before, texts_are, there, v}
 
 module _ (disc : DiscState) (rack after : Rack) (only : OnlyReads rack after) where

@@ -37,11 +37,11 @@ use Rattle.g_store_meaning.specs.Reading.{AllTold, DevicesStandFor, IsView, Stan
 use Rattle.g_store_meaning.proofs.ViewLemmas.{reads_keep_state}
 use Rattle.g_laws_store.proofs.StateLemmas.{is_view}
 use Rattle.g_dumper.proofs.ShelfLemmas.{told_is}
+use Rattle.g_store_calls.proofs.BehindLemmas.{told_then}
 use Rattle.g_store.specs.Making.{Begun, LeadsDown, Refuses, RefusesStart, StepsDown}
 use Rattle.g_store.specs.Starting.{HasNamed, IsIntent, NamesNone, TakesOver, adoption, copies_named}
 use Rattle.g_store.proofs.AdoptLemmas.{adopt_then}
 use Rattle.g_store.proofs.MakeLemmas.{belongs_made, down_again, moved, stands_up, store_made, store_of, unkept, up_is}
-use Rattle.g_store.proofs.MigrateLemmas.{told_back}
 use Rattle.g_store.proofs.RestoredLemmas.{same_refusal}
 use Rattle.g_store.proofs.StartLemmas as start
 
@@ -206,7 +206,7 @@ module _ (disc : DiscState) (rack : Rack) (o : OnlineFacts) (loaded : HasLoaded 
 
   tells : (new : OnlineFacts) → is_some new.disc.held ≡ is_some o.disc.held → AllTold disc.held (told_reels rack) → AllTold new.disc.held (told_reels after)
   tells new same told =
-      subst (AllTold new.disc.held) (sym only.reels) (told_back new.disc.held disc.held (told_reels rack) (ap is_some (sym loaded.reads.held) ∙ sym same) told)
+      subst (AllTold new.disc.held) (sym only.reels) (told_then new.disc.held disc.held (told_reels rack) (ap is_some (sym loaded.reads.held) ∙ sym same) told)
 
   -- NOTHING IS ADOPTED
   record AdoptsNothing (told : AllTold disc.held (told_reels rack)) (belong : Belong disc.held rack) : Type 0 where

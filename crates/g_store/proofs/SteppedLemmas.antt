@@ -1,5 +1,5 @@
 -- How a store answers a step of its open dump: the state behind each answer.
-use Rattle.std.proofs.Common.{◌≡◌, ℕ, zero, suc, ◌+◌, ◌<◌, ◌≤◌, ◌==◌, Bool, true, false, List, [], ◌∷◌, ◌++◌, map, Option, Some, None, Result, Ok, Err, refl, sym, ◌∙◌, ap, arith, subst, inl, inr, true≢false}
+use Rattle.std.proofs.Common.{◌≡◌, ℕ, zero, suc, ◌+◌, ◌<◌, ◌≤◌, ◌==◌, Bool, true, false, List, [], ◌∷◌, ◌++◌, map, Option, Some, None, Result, Ok, Err, refl, sym, ◌∙◌, ap, arith, subst, inl, inr}
 use Rattle.std.specs.Prelude.{◌⊎◌, AllPairs, Contains, is_some, nat_lt, option_map}
 use Rattle.std.specs.Ordering.{nat_cmp}
 use Rattle.std.specs.FinMap.{FinMap, from_entries}
@@ -14,7 +14,7 @@ use Rattle.g_entry.specs.declared.file_rec.TapeCopy.{TapeCopy}
 use Rattle.g_entry.specs.declared.user_rec.UserRec.{UserRec}
 use Rattle.g_tape.specs.Rack.{AreReels, Rack, changed, reel, with_reel}
 use Rattle.g_tape.specs.Reads.{unread}
-use Rattle.g_tape.specs.Reel.{Reel, Remains, Shortened, Torn, Unchanged, left_by}
+use Rattle.g_tape.specs.Reel.{Reel, Remains, Torn, left_by}
 use Rattle.g_plain.specs.declared.faults.StoreFault.{StoreFault}
 use Rattle.g_plain.specs.declared.faults.StoreFault.TheVariants.{DiscReadFault, Stopped}
 use Rattle.g_plain.specs.PlainTree.{FileRow, Tree}
@@ -50,10 +50,12 @@ use Rattle.g_dumper.proofs.BeginLemmas.{reel_named}
 use Rattle.g_dumper.proofs.IntentLemmas.{rules_here}
 use Rattle.g_dumper.proofs.KeepLemmas.{shelved_then}
 use Rattle.g_dumper.proofs.ShelfLemmas.{counts, cut_shelf, left_serial, marked_shelf, quiet_shelf, ready, reel_there, told_is}
+use Rattle.g_process.proofs.EndLemmas.{left_long}
 use Rattle.g_store.specs.Events.{IsStepOfDump, LeadsBy}
+use Rattle.g_store.proofs.EventLemmas.{leads_at}
 use Rattle.g_store.proofs.MountLemmas.{reel_unread, row_found}
 use Rattle.g_store.proofs.NotedLemmas.{content_written, kept_after, last_is, noted_in, plan_stamps}
-use Rattle.g_store.proofs.OpenedLemmas.{spent_stands}
+use Rattle.g_store.proofs.OpenedLemmas.{spent_holding}
 use Rattle.g_store.proofs.WrittenLemmas.{rows_marked, rows_used, used_same}
 
 -- THE SAME DUMPS, where reels are written
@@ -87,12 +89,6 @@ row_of_reel : (shelf : ℕ → List Dump) (serial : ℕ) (reels : List Reel) (on
     → state.reel_at serial (map (row_of shelf) (map unread reels)) ≡ Some r → row_of shelf (unread on) ≡ r
 row_of_reel shelf serial reels on on_is r at =
     same_Some (row_of shelf (unread on)) r (sym (row_found shelf serial (map unread reels) ∙ ap (option_map (row_of shelf)) (reel_unread serial reels ∙ ap (option_map unread) on_is)) ∙ at)
-
--- a reel that is written, or cut, isn't empty behind its first block
-left_long : (how : Remains) (n : ℕ) (r : Reel) → 0 < n → 0 < r.len → 0 < (left_by how n r).len
-left_long Unchanged n r more long = long
-left_long Shortened n r more long = more
-left_long (Torn block) n r more long = omega arith
 
 on_long : (n : ℕ) (d : DumpFacts) (o : OnlineFacts) (old : Rack) (is : IsOpen d o old) → d.done ≡ n → 0 < d.plan.place + d.done → 0 < is.on.len
 on_long zero d o old is none more = let from = is.from in omega (arith, none, more, from)
@@ -168,17 +164,7 @@ module _ (d : DumpFacts) (o : OnlineFacts) (old : Rack) (reels : AreReels old.re
   -- A STEP from it
   pub leads : (answer : Result Stepped StoreFault) (after : StoreFacts) (end : state.State) (out : Outcome) → StandsForState after end → Raised out before after → DumpStep s k od out answer end
       → (u : state.State) → StandsForState before u → LeadsBy IsStepOfDump u before after answer
-  leads answer after end out left raised step u here =
-      let same = state_of u here in
-      record {
-        after = end;
-        left = left;
-        held = k;
-        holds = ap (λ (x : state.State). x.holding) same;
-        outcome = out;
-        raised = raised;
-        step = subst (λ (x : state.State). IsStepOfDump x k out answer end) (sym same) (od, refl, step);
-      }
+  leads answer after end out left raised step u here = leads_at IsStepOfDump before after answer s u k refl (state_of u here) end out left raised (od, refl, step)
 
   -- THE TREE of the dump, and its number
   low : (e : Dump) → Contains (all_dumps with_made rs) e → e.number ≤ d.plan.number
@@ -354,68 +340,23 @@ module _ (d : DumpFacts) (o : OnlineFacts) (old : Rack) (reels : AreReels old.re
           → StandsForState (spent_with o' new) (uses true od (down (marked od s)))
       marked_devices o' size blocks held holds =
           let seen_then = view_marked o'.disc.held c shelved_new is_ready.disc in
-          spent_stands o' new (uses true od (down (marked od s)))
-          (record {
-            view = v_marked;
-            contents = Some c;
-            is = (blocks, held, holds, seen_then);
-            none = λ no. absurd (true≢false no);
-            rack = seen_then.rack;
-            state_is = λ i.
-                let u : state.State = record {
-                  up = false;
-                  size = sym size i;
-                  holding = Some (holding_of text [] c);
-                  reels = sym (rows_with true used) i;
-                  dumped = Some (sym dumped_is i);
-                  open_dump = None;
-                } in u;
-          })
+          spent_holding o' new (uses true od (down (marked od s))) v_marked c blocks held holds seen_then refl refl
+          (sym size) refl (sym (rows_with true used)) (ap Some (sym dumped_is))
 
       closed_devices : (o' : OnlineFacts) → o'.disc.size ≡ o.disc.size → (blocks : List (List ℕ)) → o'.disc.held ≡ Some blocks → Holds blocks (closed d.plan.number o)
           → StandsForState (spent_with o' new) (uses true od (down (completed od k s)))
       closed_devices o' size blocks held holds =
           let seen_then = view_marked o'.disc.held (closed d.plan.number o) shelved_new disc_closed in
-          spent_stands o' new (uses true od (down (completed od k s)))
-          (record {
-            view = v_marked;
-            contents = Some (closed d.plan.number o);
-            is = (blocks, held, holds, seen_then);
-            none = λ no. absurd (true≢false no);
-            rack = seen_then.rack;
-            state_is = λ i.
-                let u : state.State = record {
-                  up = false;
-                  size = sym size i;
-                  holding = Some (sym held_cut i);
-                  reels = sym (rows_with true used) i;
-                  dumped = Some (sym dumped_is i);
-                  open_dump = None;
-                } in u;
-          })
+          spent_holding o' new (uses true od (down (completed od k s))) v_marked (closed d.plan.number o) blocks held holds seen_then refl refl
+          (sym size) (ap Some (sym held_cut)) (sym (rows_with true used)) (ap Some (sym dumped_is))
 
     -- STOPPED at the write, and no dump was completed
     cut_devices : (b : Bool) → nat_lt 0 (left_by how at is.on).len ≡ b → AreShelved shelf (told_reels new) → (blocks : List (List ℕ)) → o.disc.held ≡ Some blocks → Holds blocks c
         → StandsForState (spent_with o new) (uses b od (down s))
     cut_devices b used shelved_new blocks held holds =
         let seen_then = view_then o.disc.held shelved_new in
-        spent_stands o new (uses b od (down s))
-        (record {
-          view = v;
-          contents = Some c;
-          is = (blocks, held, holds, seen_then);
-          none = λ no. absurd (true≢false no);
-          rack = seen_then.rack;
-          state_is = λ i.
-              let u : state.State = record {
-                up = false;
-                size = o.disc.size;
-                holding = Some (holding_of text [] c);
-                reels = sym (rows_now b used) i;
-                dumped = s.dumped;
-                open_dump = None;
-              } in u;
-        })
+        spent_holding o new (uses b od (down s)) v c blocks held holds seen_then refl refl
+        refl refl (sym (rows_now b used)) refl
 
     used_behind : 0 < at → nat_lt 0 (left_by how at is.on).len ≡ true
     used_behind more = lt-ltb 0 (left_by how at is.on).len (left_long how at is.on more (on_long d.done d o old is refl more))

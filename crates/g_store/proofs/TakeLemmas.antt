@@ -3,7 +3,7 @@ use Rattle.std.proofs.Common.{◌≡◌, ◌≢◌, ℕ, ◌^◌, ◌<◌, true,
 use Rattle.std.specs.Prelude.{◌⊎◌, Bool, IfSome, if◌then◌else◌}
 use Rattle.g_base.specs.Counts.{Rose}
 use Rattle.g_disc.specs.Disc.{Causes, DiscState}
-use Rattle.g_disc.proofs.CallLemmas.{Causes-for, stands_later}
+use Rattle.g_disc.proofs.CallLemmas.{Causes-for, Causes-none}
 use Rattle.g_entry.specs.declared.file_rec.FileRec.{FileRec}
 use Rattle.g_entry.specs.declared.head.Intent.{Intent}
 use Rattle.g_entry.specs.HeadFields as head
@@ -28,22 +28,11 @@ use Rattle.g_shelf.proofs.ReadLemmas.{refuses_after_reads}
 use Rattle.g_store.proofs.AdoptLemmas.{rules_here}
 
 -- NOTHING HAS CHANGED but that reels were read
-no_causes : (stopped : Type 0) (d : DiscState) → (stopped → ⊥) → Causes ⊥ stopped d d
-no_causes stopped d never = record {
-  size = refl;
-  arms = refl;
-  later = stands_later refl;
-  reads_kept = λ _. refl;
-  reads_rose = λ is. absurd is;
-  writes_kept = λ _. refl;
-  writes_rose = λ is. absurd (never is);
-}
-
 pub takes_still : (o : OnlineFacts) (rack after : Rack) (result : Result (Option ℕ) StoreFault) → IsTied o → Takes o rack result o → OnlyReads rack after → (result ≡ Err Stopped → ⊥)
     → ((result ≡ Err TapeReadFault → ⊥) → after.read_faults ≡ rack.read_faults) → (result ≡ Err TapeReadFault → Rose rack.read_faults after.read_faults)
     → TakesOver o rack result o after
 takes_still o rack after result tied takes only running kept rose =
-    record { takes = takes; causes = no_causes (result ≡ Err Stopped) o.disc running; tied = tied; told = refl; reads = only; kept = kept; rose = rose }
+    record { takes = takes; causes = Causes-none o.disc (λ no. no) running; tied = tied; told = refl; reads = only; kept = kept; rose = rose }
 
 module _ (o : OnlineFacts) (rack : Rack) (tied : IsTied o) where
   -- there is no intent
@@ -126,7 +115,7 @@ none_adopted o number dumped tied = record {
   ok = tt;
   stopped = λ e. let no : ⊥ = cc in absurd no;
   same = λ other. refl;
-  causes = no_causes (let r : Result (Unit {0}) StoreFault = Err NoMemory in r ≡ Err Stopped) o.disc (λ e. let no : ⊥ = cc in no);
+  causes = Causes-none o.disc (λ no. no) (λ e. let no : ⊥ = cc in no);
   tied = tied;
   told = refl;
   only = inr refl;
