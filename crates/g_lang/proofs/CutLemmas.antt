@@ -1,5 +1,5 @@
 -- Lines that are cut behind their label, and read at once where their command is a verb or a GOTO.
-use Rattle.std.proofs.Common.{Err, IfOk, IfSome, List, None, Ok, Option, Result, Some, [], ap, append-nil, arith, codes, false, is_ok, length, refl, subst, suc, sym, true, zero, ℕ, ⊎_elim, ◌++◌, ◌-◌, ◌==◌, ◌∙◌, ◌∷◌, ◌≡◌, ◌≢◌, ◌≤◌}
+use Rattle.std.proofs.Common.{Err, IfOk, IfSome, List, None, Ok, Option, Result, Some, [], ap, append-nil, arith, codes, is_ok, length, refl, subst, suc, sym, true, zero, ℕ, ⊎_elim, ◌-◌, ◌==◌, ◌∙◌, ◌∷◌, ◌≡◌, ◌≢◌, ◌≤◌}
 use Rattle.std.proofs.lemmas.Bool.{cases_Bool, cond_both, false≢true}
 use Rattle.std.specs.Prelude.{if◌then◌else◌}
 use Rattle.g_lang.proofs.ParseLemmas.{bad-grammar, read-grammar, verb_reads}
