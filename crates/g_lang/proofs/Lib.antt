@@ -1,3 +1,4 @@
+pub mod CutLemmas
 pub mod ParseLemmas
 pub mod PartLemmas
 pub mod PieceLemmas

@@ -1,6 +1,8 @@
 -- What the code reads out of a text of the grammar.
 use Rattle.std.proofs.Common.{Bor, Err, IfOk, List, MatchOption, None, Ok, Option, Result, Some, [], ap, arith, codes, cond, false, is_some, le_refl, length, length-append, map, refl, subst, suc, sym, true, zero, ℕ, ◌+◌, ◌<◌, ◌∙◌, ◌∷◌, ◌≡◌, ◌≤◌}
 use Rattle.std.proofs.lemmas.Bool.{cond_both, false≢true}
+use Rattle.std.proofs.lemmas.List.{length-map}
+use Rattle.g_lang.proofs.PartLemmas.{some-parts}
 use Rattle.g_lang.proofs.ReadingLemmas.{none_wrong, reading-grammar, reading_is}
 use Rattle.g_lang.proofs.RestLemmas.{only-lines}
 use Rattle.g_lang.proofs.ValueLemmas.{behind-is}
@@ -39,6 +41,45 @@ pub left-less : (rest : List ℕ) (more : Option (Bor (List ℕ))) → MatchOpti
     → left_size more < suc (length rest)
 left-less rest None is = omega arith
 left-less rest (Some r) is = let h = is.1 in omega (arith, h)
+
+-- no parameter, the only one, or several
+pub params-some : (text : List ℕ) → (text ≡ [] → ⊥) → 1 ≤ length (params_read text)
+params-some [] some = absurd (some refl)
+params-some (c ∷ cs) some = omega (arith, some-parts 0 (c ∷ cs), length-map (parts_of 0 (c ∷ cs)) trimmed)
+
+pub one-param : (text part : List ℕ) → (text ≡ [] → ⊥) → parts_of 0 text ≡ part ∷ [] → params_read text ≡ trimmed part ∷ []
+one-param [] part some is = absurd (some refl)
+one-param (c ∷ cs) part some is = ap (map trimmed) is
+
+pub more-params : (text part rest : List ℕ) → parts_of 0 text ≡ part ∷ parts_of 0 rest → length (params_read text) ≡ 1 → ⊥
+more-params [] part rest is one = absurd (omega (arith, one))
+more-params (c ∷ cs) part rest is one =
+    let more : 1 ≤ length (parts_of 0 rest) = some-parts 0 rest in
+    let whole : length (parts_of 0 (c ∷ cs)) ≡ suc (length (parts_of 0 rest)) = ap length is in
+    omega (arith, one, more, whole, length-map (parts_of 0 (c ∷ cs)) trimmed)
+
+-- two parameters, one, or more
+pub not-two : (text part : List ℕ) → parts_of 0 text ≡ part ∷ [] → length (params_read text) ≡ 2 → ⊥
+not-two [] part is two = absurd (omega (arith, two))
+not-two (c ∷ cs) part is two =
+    let whole : length (parts_of 0 (c ∷ cs)) ≡ 1 = ap length is in
+    omega (arith, two, whole, length-map (parts_of 0 (c ∷ cs)) trimmed)
+
+pub two-params : (text first rest second : List ℕ) → parts_of 0 text ≡ first ∷ parts_of 0 rest → parts_of 0 rest ≡ second ∷ []
+    → params_read text ≡ trimmed first ∷ trimmed second ∷ []
+two-params [] first rest second is more =
+    let whole : 1 ≡ suc (length (parts_of 0 rest)) = ap length is in
+    absurd (omega (arith, whole, some-parts 0 rest))
+two-params (c ∷ cs) first rest second is more = ap (map trimmed) (is ∙ ap (λ (ps : List (List ℕ)). first ∷ ps) more)
+
+pub more-than-two : (text first rest second others : List ℕ) → parts_of 0 text ≡ first ∷ parts_of 0 rest → parts_of 0 rest ≡ second ∷ parts_of 0 others
+    → length (params_read text) ≡ 2 → ⊥
+more-than-two [] first rest second others is more two = absurd (omega (arith, two))
+more-than-two (c ∷ cs) first rest second others is more two =
+    let some : 1 ≤ length (parts_of 0 others) = some-parts 0 others in
+    let behind : length (parts_of 0 rest) ≡ suc (length (parts_of 0 others)) = ap length more in
+    let whole : length (parts_of 0 (c ∷ cs)) ≡ suc (length (parts_of 0 rest)) = ap length is in
+    omega (arith, two, some, behind, whole, length-map (parts_of 0 (c ∷ cs)) trimmed)
 
 -- which lines are an INPUT
 goto_input : (t : List ℕ) (o : Option (List ℕ)) → behind (codes "GOTO ") t ≡ o
@@ -99,7 +140,7 @@ inside-said Blank said is = absurd cc
 inside-said (If' cond p inner) said is = cc
 inside-said (Goto label) said is = cc
 inside-said (Whenever cond command) said is = cc
-inside-said (Verb name params rest) said is = cc
+inside-said (Verb name rest) said is = cc
 
 -- what a line is read as
 pub right-grammar : (text : List ℕ) (o : Option ℕ) → o ≡ wrong_from Front 0 text → o ≡ None → reading text ≡ Ok (line_read text)
@@ -139,7 +180,7 @@ pub goto-read : (t label : List ℕ) (n : ℕ) → behind (codes "IF ") t ≡ No
 goto-read t label zero no_if no_whenever front enough = absurd (omega (arith, enough, behind-length (codes "GOTO ") t label front))
 goto-read t label (suc n) no_if no_whenever front enough = rw (no_if, no_whenever, front, command_read) refl
 
-verb_reads : (t : List ℕ) (n : ℕ) → behind (codes "IF ") t ≡ None → behind (codes "WHENEVER ") t ≡ None → behind (codes "GOTO ") t ≡ None → command_read n t ≡ verb_read t
+pub verb_reads : (t : List ℕ) (n : ℕ) → behind (codes "IF ") t ≡ None → behind (codes "WHENEVER ") t ≡ None → behind (codes "GOTO ") t ≡ None → command_read n t ≡ verb_read t
 verb_reads t zero no_if no_whenever no_goto = refl
 verb_reads t (suc n) no_if no_whenever no_goto = rw (no_if, no_whenever, no_goto, command_read) refl
 

@@ -1,5 +1,5 @@
 -- A text whose brackets match is parts with commas between them, and spaces behind.
-use Rattle.std.proofs.Common.{Bool, List, None, Option, Some, [], ap, eqb-true, false, pred, refl, subst, suc, sym, true, ℕ, ◌&&◌, ◌++◌, ◌+◌, ◌==◌, ◌∙◌, ◌∷◌, ◌≡◌}
+use Rattle.std.proofs.Common.{Bool, List, None, Option, Some, [], ap, arith, eqb-true, false, length, pred, refl, subst, suc, sym, true, ℕ, ◌&&◌, ◌++◌, ◌+◌, ◌==◌, ◌∙◌, ◌∷◌, ◌≡◌, ◌≤◌}
 use Rattle.std.proofs.lemmas.Bool.{and_from, and_parts, cond_both, false≢true, not_from_false}
 use Rattle.std.specs.Prelude.{if◌then◌else◌}
 use Rattle.g_lang.proofs.PlaceLemmas.{takes}
@@ -142,6 +142,13 @@ some_parts : (d : ℕ) (u : List ℕ) → AreSome (parts_of d u)
 some_parts d [] = tt
 some_parts d (c ∷ cs) =
     cond_both (c == 44 && d == 0) ([] ∷ parts_of 0 cs) (onto_first c (parts_of (depth_behind c d) cs)) AreSome (λ _. tt) (λ _. onto_some c (parts_of (depth_behind c d) cs))
+
+are_some : (ps : List (List ℕ)) → AreSome ps → 1 ≤ length ps
+are_some [] some = absurd some
+are_some (p ∷ ps) some = omega arith
+
+pub some-parts : (d : ℕ) (u : List ℕ) → 1 ≤ length (parts_of d u)
+some-parts d u = are_some (parts_of d u) (some_parts d u)
 
 joined_onto : (c : ℕ) (ps : List (List ℕ)) → AreSome ps → joined (onto_first c ps) ≡ c ∷ joined ps
 joined_onto c [] some = absurd some

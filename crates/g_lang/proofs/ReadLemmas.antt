@@ -181,13 +181,13 @@ labelled t = record { label = Some (word_of t); command = option_read (behind_wo
 abbrev bare : List ℕ → LineSaid
 bare t = record { label = None; command = option_read t }
 
-by_label : (t label : List ℕ) (o : Option Said) → is_label label ≡ true → word_of t ≡ label → option_read (behind_word t) ≡ o
+pub by_label : (t label : List ℕ) (o : Option Said) → is_label label ≡ true → word_of t ≡ label → option_read (behind_word t) ≡ o
     → read_trimmed t ≡ record { label = Some label; command = o }
 by_label t label o is word more =
     let holds : is_label (word_of t) ≡ true = ap is_label word ∙ is in
     cond-true (is_label (word_of t)) (labelled t) (bare t) holds ∙ rw (word, more) refl
 
-by_command : (t : List ℕ) (o : Option Said) → is_label (word_of t) ≡ false → option_read t ≡ o → read_trimmed t ≡ record { label = None; command = o }
+pub by_command : (t : List ℕ) (o : Option Said) → is_label (word_of t) ≡ false → option_read t ≡ o → read_trimmed t ≡ record { label = None; command = o }
 by_command t o none more = cond-false (is_label (word_of t)) (labelled t) (bare t) none ∙ rw more refl
 
 abbrev the_line : ℕ → Option (List ℕ) → ℕ → Option Written → ℕ → WrittenLine
@@ -314,7 +314,7 @@ word_before c cs [] same =
     (λ other. rw other (ap (λ (t : List ℕ). c ∷ t) same))
 word_before c cs (d ∷ ds) same = ap (λ (ts : List ℕ). if c == 32 then [] else c ∷ ts) same
 
-word_back : (t : List ℕ) → word_of (without_back t) ≡ word_of t
+pub word_back : (t : List ℕ) → word_of (without_back t) ≡ word_of t
 word_back [] = refl
 word_back (c ∷ cs) = word_before c cs (without_back cs) (word_back cs)
 

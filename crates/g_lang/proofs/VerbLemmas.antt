@@ -81,13 +81,13 @@ front_cut (c ∷ cs) =
     (λ space. record { count = suc more.count; whole = rw space (ap (λ (x : ℕ). x ∷ cs) (eqb-true c 32 space) ∙ ap (λ (xs : List ℕ). 32 ∷ xs) more.whole) })
     (λ other. record { count = 0; whole = rw other refl })
 
-record CutsWord (t : List ℕ) : Type 0 where
-  rest : List ℕ
-  whole : t ≡ word_of t ++ rest
-  behind : behind_word t ≡ without_front rest
-  space : at_space rest ≡ true
+pub record CutsWord (t : List ℕ) : Type 0 where
+  pub rest : List ℕ
+  pub whole : t ≡ word_of t ++ rest
+  pub behind : behind_word t ≡ without_front rest
+  pub space : at_space rest ≡ true
 
-word_cut : (t : List ℕ) → CutsWord t
+pub word_cut : (t : List ℕ) → CutsWord t
 word_cut [] = record { rest = []; whole = refl; behind = refl; space = refl }
 word_cut (c ∷ cs) =
     let more = word_cut cs in

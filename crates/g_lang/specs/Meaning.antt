@@ -1,5 +1,6 @@
 -- What the values of the code say.
 use Rattle.std.specs.Prelude.{Bool, Err, List, None, Ok, Option, Result, Some, [], codes, false, is_ok, true, ℕ, ◌≡◌}
+use Rattle.g_lang.specs.LineReader.{params_read}
 use Rattle.g_lang.specs.Lines.{IsLineText, IsReading, LineSaid, Reading, Said, SaidGoto, SaidIf, SaidVerb, SaidWhenever}
 use Rattle.g_lang.specs.declared.fault.LangFault.{LangFault}
 use Rattle.g_lang.specs.declared.fault.LangFault.TheVariants.{BadLine, NoMemory}
@@ -8,13 +9,14 @@ use Rattle.g_lang.specs.declared.line.Command.TheVariants.{Blank, Goto, If', Ver
 use Rattle.g_lang.specs.declared.line.Line.{Line}
 use Rattle.g_name.specs.Order.{same_text}
 
--- what a command says that stands behind a condition; a blank one never stands there, so it says what no line says
+-- what a command says that stands behind a condition; a blank one never stands there, so it says what no line says; the
+-- parameters of a verb are those in its text
 abbrev pub said_inside : Command → Said
 said_inside Blank = SaidVerb [] [] []
 said_inside (If' cond p inner) = SaidIf cond (said_inside inner)
 said_inside (Goto label) = SaidGoto label
 said_inside (Whenever cond command) = SaidWhenever cond command
-said_inside (Verb name params rest) = SaidVerb name params rest
+said_inside (Verb name rest) = SaidVerb name (params_read rest) rest
 
 -- a blank command says nothing
 abbrev pub command_said : Command → Option Said

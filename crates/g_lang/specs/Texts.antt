@@ -1,8 +1,10 @@
 -- Texts that are cut out of a line.
-use Rattle.std.specs.Prelude.{List, [], false, true, ℕ, ◌≡◌, ◌≢◌}
-use Rattle.g_lang.specs.LineReader.{behind_word}
+use Rattle.std.specs.Prelude.{Err, List, None, Ok, Option, Result, Some, [], false, true, ℕ, ◌≡◌, ◌≢◌}
+use Rattle.g_lang.specs.LineReader.{Params, behind_word, wrong_from}
 use Rattle.g_lang.specs.Lines.{IsCommandText}
-use Rattle.g_lang.specs.Words.{is_label, word_of}
+use Rattle.g_lang.specs.Words.{is_label, without_back, word_of}
+use Rattle.g_lang.specs.declared.fault.LangFault.{LangFault}
+use Rattle.g_lang.specs.declared.fault.LangFault.TheVariants.{BadLine, NoMemory}
 use Rattle.g_name.specs.Grammar.{is_word}
 
 -- the text of a verb with its parameters
@@ -12,3 +14,14 @@ IsVerbText text = is_word (word_of text) ≡ true
 -- what is no label in a line without spaces at its ends is a command
 abbrev pub HasCommands : List ℕ → Type 0
 HasCommands text = ((is_label (word_of text) ≡ true) → behind_word text ≢ [] → IsCommandText (behind_word text)) × ((is_label (word_of text) ≡ false) → text ≢ [] → IsCommandText text)
+
+-- a line without spaces in front, cut behind its label, if it has one
+abbrev pub IsCut : List ℕ → Option (List ℕ) → List ℕ → Type 0
+IsCut line None command = (is_label (word_of line) ≡ false) × (command ≡ line)
+IsCut line (Some label) command = (is_label (word_of line) ≡ true) × (label ≡ word_of line) × (command ≡ behind_word line)
+
+-- the parameters of a verb that begin at a byte of the line: their text, or the place where it goes wrong
+abbrev pub ReadsParams : ℕ → List ℕ → Result (List ℕ) LangFault → Type 0
+ReadsParams from params (Ok text) = (wrong_from (Params 0) from params ≡ None) × (text ≡ without_back params)
+ReadsParams from params (Err (BadLine place)) = wrong_from (Params 0) from params ≡ Some place
+ReadsParams from params (Err NoMemory) = wrong_from (Params 0) from params ≡ None

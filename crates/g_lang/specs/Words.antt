@@ -2,6 +2,7 @@
 use Rattle.std.specs.List.{list_all}
 use Rattle.std.specs.Prelude.{Bool, List, None, Option, Some, [], false, if◌then◌else◌, length, nat_le, not, pred, replicate, ℕ, ◌&&◌, ◌++◌, ◌+◌, ◌==◌, ◌∷◌}
 use Rattle.g_name.specs.Grammar.{is_digit, is_name_char}
+use Rattle.g_name.specs.Order.{same_text}
 
 -- a byte from space to tilde
 abbrev pub is_printed : ℕ → Bool
@@ -42,6 +43,14 @@ word_of (c ∷ cs) = if c == 32 then [] else c ∷ word_of cs
 -- the label of a line: its first word, if that is one
 abbrev pub label_in : List ℕ → Option (List ℕ)
 label_in text = if is_label (word_of (without_front text)) then Some (word_of (without_front text)) else None
+
+-- this label is that of the line
+abbrev pub is_that_label : List ℕ → Option (List ℕ) → Bool
+is_that_label label None = false
+is_that_label label (Some other) = same_text other label
+
+abbrev pub has_label : List ℕ → List ℕ → Bool
+has_label label line = is_that_label label (label_in line)
 
 -- a part between commas: its brackets match, from this depth on, and no comma stands outside of them
 abbrev pub is_part : ℕ → List ℕ → Bool

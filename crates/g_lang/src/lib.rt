@@ -15,5 +15,7 @@ pub use fault::LangFault;
 pub use label::Label;
 pub use laws::{lines_are_read_by_the_grammar, same_conditions_are_equal};
 pub use line::{Command, Cond, Line, Test};
-pub use parse::{is_input_line, label_of, parse_line};
+pub use parse::{
+    has_label, is_input_line, label_of, only_param, parse_line, read_params, two_params,
+};
 pub use pieces::{behind, trimmed};

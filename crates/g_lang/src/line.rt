@@ -3,7 +3,6 @@ ghost use Rattle.std.specs.Prelude.{◌≡◌};
 ghost use Rattle.g_lang.specs.Conditions.{same_cond};
 
 use crate::Label;
-use g_lines::Texts;
 use g_name::{Local, Text};
 
 /// A line: a label and a command, each of which may be absent.
@@ -19,24 +18,14 @@ pub enum Command {
     /// No command stands on the line.
     Blank,
     /// The inner command is done where the condition holds.
-    If {
-        cond: Cond,
-        inner: Box<Command>,
-    },
+    If { cond: Cond, inner: Box<Command> },
     /// The level goes on at its first line with this label.
     Goto(Label),
     /// The level keeps the command's text, to be done once the condition holds.
-    Whenever {
-        cond: Cond,
-        command: Text,
-    },
+    Whenever { cond: Cond, command: Text },
     /// A verb or a macro; `rest` is what stands from the first parameter on, as it was written,
-    /// without the spaces at the line's end.
-    Verb {
-        name: Local,
-        params: Texts,
-        rest: Text,
-    },
+    /// without the spaces at the line's end. `read_params` and `only_param` take the parameters out of it.
+    Verb { name: Local, rest: Text },
 }
 
 /// A test, or that it fails.

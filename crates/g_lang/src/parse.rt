@@ -1,16 +1,17 @@
 //! From the text of a line to what it says.
-ghost use Rattle.std.specs.Prelude.{◌≡◌, ◌≢◌, ◌↔◌, ◌≤◌, ℕ, [], codes, length, None, Some, true, IfOk, IfSome, IsFalse, IsSome};
+ghost use Rattle.std.specs.Prelude.{◌≡◌, ◌≢◌, ◌^◌, ◌<◌, ◌≤◌, ◌+◌, ◌∷◌, ℕ, [], codes, length, None, Some, true, IfOk, IfSome, IsFalse, MatchOption};
 ghost use Rattle.g_lang.specs.LineReader as how;
-ghost use Rattle.g_lang.specs.Lines.{IsCommandText, KeepsCommand};
+ghost use Rattle.g_lang.specs.Lines.{IsCommandText, KeepsCommand, is_verb};
 ghost use Rattle.g_lang.specs.Meaning.{Reads, IsReadAs, command_said, line_said, is_input_said};
-ghost use Rattle.g_lang.specs.Texts.{HasCommands, IsVerbText};
-ghost use Rattle.g_lang.specs.Words.{is_label, label_in, word_of};
+ghost use Rattle.g_lang.specs.Texts.{HasCommands, IsCut, IsVerbText, ReadsParams};
+ghost use Rattle.g_lang.specs.Words.{has_label, is_label, label_in, without_front};
 
 use crate::bytes::{is_digit, is_label};
 use crate::pieces::{
-    behind, split_at_comma, split_condition, split_word, trimmed, without_front, without_last,
+    behind, split_at_comma, split_condition, split_word, trimmed, without_back, without_front,
+    without_last,
 };
-use crate::reader::wrong_place;
+use crate::reader::{is_keyword, wrong_by_steps, wrong_in_params, wrong_place};
 use crate::{Command, Cond, Label, LangFault, Line, Test};
 use g_base::NoMemory;
 use g_lines::Texts;
@@ -18,24 +19,37 @@ use g_name::{Local, Text};
 use std::alloc::Global;
 
 /// The label of a line, also of one that isn't in the language: its first word, if that is a label.
+#[tactic(auto, using(crate::proofs::CutLemmas::cut_label))]
 pub fn label_of(text: &[u8]) -> Option<Label>
     ensures { result ≡ label_in text.now }
 {
-    label_at(without_front(text))
+    let (label, _) = split_label(without_front(text));
+    label
 }
 
-/// The first word of a text, if that is a label.
-fn label_at(text: &[u8]) -> Option<Label>
-    ensures label { IsSome result ↔ (is_label (word_of text.now) ≡ true) }
-    ensures value { IfSome result (λ label. label ≡ word_of text.now) }
+/// Whether this is the label of a line, also of one that isn't in the language.
+#[tactic(auto, using(crate::proofs::CutLemmas::has_word))]
+pub fn has_label(text: &[u8], label: &Label) -> bool
+    ensures { result ≡ has_label label.now text.now }
+{
+    let (word, _) = split_word(without_front(text));
+    word == label.as_slice()
+}
+
+/// The label of a line without spaces in front, if it has one, and the command behind.
+fn split_label(line: &[u8]) -> (Option<Label>, &[u8])
+    ensures { IsCut line.now result.0 result.1.now }
 {
     // Most lines have no label: the first byte tells it.
-    match text.split_first() {
+    match line.split_first() {
         Some((first, _)) if is_digit(*first) => {
-            let (word, _) = split_word(text);
-            Label::new(word)
+            let (word, command) = split_word(line);
+            match Label::new(word) {
+                Some(label) => (Some(label), command),
+                None => (None, line),
+            }
         }
-        _ => None,
+        _ => (None, line),
     }
 }
 
@@ -44,12 +58,86 @@ fn label_at(text: &[u8]) -> Option<Label>
 /// A text that is no line of the language is refused with the place where it goes wrong. It takes memory for the
 /// value alone, so want of memory comes only for a line of the language. It calls itself once for each condition of
 /// the line; lines of the program have at most 240 bytes.
+#[tactic(auto, using(crate::proofs::CutLemmas::reads_grammar, crate::proofs::CutLemmas::reads_waiting))]
 pub fn parse_line(alloc: Global, text: &[u8]) -> Result<Line, LangFault>
     ensures grammar { Reads text.now result }
     ensures one { IsReadAs (how.reading text.now) result }
     ensures waiting { IfOk result (λ line. IfSome (command_said line.command) KeepsCommand) }
 {
-    if let Some(place) = wrong_place(text) {
+    let (label, command) = split_label(without_front(text));
+    parse_command(alloc, text, label, command)
+}
+
+/// The same of a text that was cut behind its label.
+#[tactic(auto, using(crate::proofs::CutLemmas::verb_cut, crate::proofs::CutLemmas::verb_fault, crate::proofs::CutLemmas::goto_cut, crate::proofs::CutLemmas::cut_short))]
+fn parse_command(
+    alloc: Global,
+    text: &[u8],
+    label: Option<Label>,
+    command: &[u8],
+) -> Result<Line, LangFault>
+    requires { IsCut (without_front text.now) label command.now }
+    ensures { IsReadAs (how.reading text.now) result }
+{
+    // Most commands are a verb and its parameters, or a GOTO: each of their bytes is looked at once.
+    let (word, params) = split_word(command);
+    if let Some(name) = verb_name(word) {
+        return match parse_params(alloc, params, text.len() - params.len()) {
+            Ok(rest) => Ok(Line {
+                label,
+                command: Command::Verb { name, rest },
+            }),
+            Err(fault) => Err(fault),
+        };
+    }
+    if let Some(to) = goto_label(command) {
+        return Ok(Line {
+            label,
+            command: Command::Goto(to),
+        });
+    }
+    parse_by_steps(alloc, text)
+}
+
+/// The name of a verb, if a word is one.
+fn verb_name(word: &[u8]) -> Option<Local>
+    ensures { IfSome result (λ name. (is_verb word.now ≡ true) × (name ≡ word.now)) }
+{
+    if is_keyword(word) {
+        return None;
+    }
+    Local::new(word)
+}
+
+/// The text of a verb's parameters, which begin behind so many bytes of the line, without the spaces behind them.
+fn parse_params(alloc: Global, params: &[u8], from: usize) -> Result<Text, LangFault>
+    requires { from + length params.now < 2 ^ 64 }
+    ensures { ReadsParams from params.now result }
+{
+    if let Some(place) = wrong_in_params(params, from) {
+        return Err(LangFault::BadLine(place));
+    }
+    match Text::from_slice(alloc, without_back(params)) {
+        Ok(rest) => Ok(rest),
+        Err(NoMemory) => Err(LangFault::NoMemory),
+    }
+}
+
+/// The label of a GOTO. Where it has spaces behind, this says nothing.
+fn goto_label(command: &[u8]) -> Option<Label>
+    ensures { IfSome result (λ label. (how.behind (codes "GOTO ") command.now ≡ Some label) × (is_label label ≡ true)) }
+{
+    match behind(b"GOTO ", command) {
+        Some(label) => Label::new(label),
+        None => None,
+    }
+}
+
+/// What any line says: where it goes wrong is looked for first, byte by byte.
+fn parse_by_steps(alloc: Global, text: &[u8]) -> Result<Line, LangFault>
+    ensures { IsReadAs (how.reading text.now) result }
+{
+    if let Some(place) = wrong_by_steps(text) {
         return Err(LangFault::BadLine(place));
     }
     match read_line(alloc, trimmed(text)) {
@@ -74,27 +162,14 @@ pub fn is_input_line(text: &[u8]) -> bool
 }
 
 /// What a line of the language says, without the spaces at its ends.
+#[tactic(auto, using(crate::proofs::CutLemmas::cut_trimmed, crate::proofs::CutLemmas::cut_commands))]
 fn read_line(alloc: Global, text: &[u8]) -> Result<Line, NoMemory>
     requires { HasCommands text.now }
     ensures { IfOk result (λ line. line_said line ≡ how.read_trimmed text.now) }
 {
-    match label_at(text) {
-        Some(label) => {
-            let (_, rest) = split_word(text);
-            let command = read_option(alloc, rest)?;
-            Ok(Line {
-                label: Some(label),
-                command,
-            })
-        }
-        None => {
-            let command = read_option(alloc, text)?;
-            Ok(Line {
-                label: None,
-                command,
-            })
-        }
-    }
+    let (label, command) = split_label(text);
+    let command = read_option(alloc, command)?;
+    Ok(Line { label, command })
 }
 
 /// A command, or none.
@@ -155,12 +230,11 @@ fn read_verb(alloc: Global, text: &[u8]) -> Result<Command, NoMemory>
     let (word, params) = split_word(text);
     let name = Local::new(word).unwrap();
     let rest = Text::from_slice(alloc, params)?;
-    let params = read_params(alloc, params)?;
-    Ok(Command::Verb { name, params, rest })
+    Ok(Command::Verb { name, rest })
 }
 
-/// The parameters of a verb, without the spaces around them.
-fn read_params(alloc: Global, text: &[u8]) -> Result<Texts, NoMemory>
+/// The parameters of a verb, without the spaces around them, out of the text in which they stand.
+pub fn read_params(alloc: Global, text: &[u8]) -> Result<Texts, NoMemory>
     ensures { IfOk result (λ params. params ≡ how.params_read text.now) }
 {
     let mut params = Texts::new(alloc);
@@ -172,6 +246,34 @@ fn read_params(alloc: Global, text: &[u8]) -> Result<Texts, NoMemory>
         left = behind;
     }
     Ok(params)
+}
+
+/// The parameter of a verb, without the spaces around it, where it is the only one; it takes no memory.
+pub fn only_param(text: &[u8]) -> Option<&[u8]>
+    ensures { MatchOption result (length (how.params_read text.now) ≢ 1)
+        (λ param. how.params_read text.now ≡ param.now ∷ []) }
+{
+    if text.is_empty() {
+        return None;
+    }
+    match split_at_comma(text) {
+        (param, None) => Some(trimmed(param)),
+        (_, Some(_)) => None,
+    }
+}
+
+/// Both parameters of a verb, without the spaces around them, where there are two; it takes no memory.
+pub fn two_params(text: &[u8]) -> Option<(&[u8], &[u8])>
+    ensures { MatchOption result (length (how.params_read text.now) ≢ 2)
+        (λ both. how.params_read text.now ≡ both.0.now ∷ both.1.now ∷ []) }
+{
+    match split_at_comma(text) {
+        (first, Some(rest)) => match split_at_comma(rest) {
+            (second, None) => Some((trimmed(first), trimmed(second))),
+            (_, Some(_)) => None,
+        },
+        (_, None) => None,
+    }
 }
 
 /// A condition.

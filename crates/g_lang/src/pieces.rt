@@ -15,7 +15,7 @@ pub(crate) fn without_front(text: &[u8]) -> &[u8]
 }
 
 /// The text without the spaces behind.
-fn without_back(text: &[u8]) -> &[u8]
+pub(crate) fn without_back(text: &[u8]) -> &[u8]
     ensures { result.now ≡ words.without_back text.now }
 {
     let mut rest = text;

@@ -112,7 +112,7 @@ fn is_goto(command: &[u8]) -> bool
 }
 
 /// The same, byte by byte.
-fn wrong_by_steps(text: &[u8]) -> Option<usize>
+pub(crate) fn wrong_by_steps(text: &[u8]) -> Option<usize>
     ensures { result ≡ how.wrong_from how.Front 0 text.now }
 {
     let mut place = Place::Front;
@@ -130,7 +130,7 @@ fn wrong_by_steps(text: &[u8]) -> Option<usize>
 }
 
 /// The place where the parameters of a verb go wrong, counted on from where they begin.
-fn wrong_in_params(params: &[u8], from: usize) -> Option<usize>
+pub(crate) fn wrong_in_params(params: &[u8], from: usize) -> Option<usize>
     requires { from + length params.now < 2 ^ 64 }
     ensures { result ≡ how.wrong_from (how.Params 0) from params.now }
 {
@@ -156,11 +156,17 @@ fn is_verb(word: &[u8]) -> bool
 }
 
 /// Whether a word is IF, WHENEVER or GOTO, behind which no parameters stand.
-fn is_keyword(word: &[u8]) -> bool
+pub(crate) fn is_keyword(word: &[u8]) -> bool
     ensures { result
         ≡ (same_text word.now (codes "IF") || same_text word.now (codes "WHENEVER") || same_text word.now (codes "GOTO")) }
 {
-    word == b"IF".as_slice() || word == b"WHENEVER".as_slice() || word == b"GOTO".as_slice()
+    // Most words are none: the first byte tells it.
+    match word {
+        [b'I', ..] => word == b"IF".as_slice(),
+        [b'W', ..] => word == b"WHENEVER".as_slice(),
+        [b'G', ..] => word == b"GOTO".as_slice(),
+        _ => false,
+    }
 }
 
 impl Place {

@@ -1,6 +1,7 @@
 //! A line that is parsed with ample memory.
-use g_lang::{Command, Cond, Label, Test, parse_line};
+use g_lang::{Command, Cond, Label, Test, parse_line, read_params};
 use g_lines::Texts;
+use std::alloc::Global;
 use std::test::Fail;
 
 /// Whether a condition is that parameter B isn't `X,Y`.
@@ -24,22 +25,25 @@ fn are_two(params: &Texts) -> bool {
 }
 
 /// Whether a command is a COPY with these parameters.
-fn is_copy(command: &Command) -> bool {
+fn is_copy(alloc: Global, command: &Command) -> Result<bool, Fail> {
     match command {
-        Command::Verb { name, params, rest } => {
-            name.as_slice() == b"COPY".as_slice()
-                && are_two(params)
-                && rest.as_slice() == b"A (B,C) , D".as_slice()
+        Command::Verb { name, rest } => {
+            let params = read_params(alloc, rest.as_slice())?;
+            Ok(
+                name.as_slice() == b"COPY".as_slice()
+                    && are_two(&params)
+                    && rest.as_slice() == b"A (B,C) , D".as_slice(),
+            )
         }
-        _ => false,
+        _ => Ok(false),
     }
 }
 
 /// Whether a command does that COPY under that condition.
-fn is_done(command: &Command) -> bool {
+fn is_done(alloc: Global, command: &Command) -> Result<bool, Fail> {
     match command {
-        Command::If { cond, inner } => is_asked(cond) && is_copy(inner),
-        _ => false,
+        Command::If { cond, inner } => Ok(is_asked(cond) && is_copy(alloc, inner)?),
+        _ => Ok(false),
     }
 }
 
@@ -53,6 +57,6 @@ fn is_label(label: Option<&Label>) -> bool {
 fn ample(rt: HostRuntime) -> Result<(), Fail> {
     let line = parse_line(rt.alloc(), b" 1A IF NOT STRING(%B)=(X,Y),COPY A (B,C) , D ")?;
     assert!(rt; is_label(line.label.as_ref()));
-    assert!(rt; is_done(&line.command));
+    assert!(rt; is_done(rt.alloc(), &line.command)?);
     Ok(())
 }

@@ -1,5 +1,8 @@
 //! Lines, good and bad, with what they say and with their places taken from the grammar by hand.
-use g_lang::{Command, Label, LangFault, Line, Test, is_input_line, label_of, parse_line};
+use g_lang::{
+    Command, Label, LangFault, Line, Test, is_input_line, label_of, only_param, parse_line,
+    read_params, two_params,
+};
 use g_lines::Texts;
 use std::alloc::Global;
 use std::test::Fail;
@@ -175,21 +178,30 @@ static LABELS: [(&[u8], Option<&[u8]>); 7] = [
 ];
 
 /// Whether a command is this verb with these parameters.
-fn is_verb(command: &Command, verb: &[u8], params: &[&[u8]], rest: &[u8]) -> bool {
-    let Command::Verb {
-        name,
-        params: told,
-        rest: all,
-    } = command
-    else {
-        return false;
+fn is_verb(
+    alloc: Global,
+    command: &Command,
+    verb: &[u8],
+    params: &[&[u8]],
+    rest: &[u8],
+) -> Result<bool, Fail> {
+    let Command::Verb { name, rest: all } = command else {
+        return Ok(false);
     };
-    name.as_slice() == verb && all.as_slice() == rest && are_params(told, params)
+    let told = read_params(alloc, all.as_slice())?;
+    Ok(
+        name.as_slice() == verb
+            && all.as_slice() == rest
+            && are_params(&told, all.as_slice(), params),
+    )
 }
 
-fn are_params(told: &Texts, params: &[&[u8]]) -> bool {
+fn are_params(told: &Texts, all: &[u8], params: &[&[u8]]) -> bool {
     let told = told.rows();
-    if told.len() != params.len() {
+    if told.len() != params.len()
+        || only_param(all).is_some() != (params.len() == 1)
+        || two_params(all).is_some() != (params.len() == 2)
+    {
         return false;
     }
     for i in 0..told.len() {
@@ -213,7 +225,7 @@ fn is_label(told: Option<&Label>, label: Option<&[u8]>) -> bool {
 fn is_verb_read(alloc: Global, row: &Verb) -> Result<bool, Fail> {
     let (text, label, verb, params, rest) = row;
     let line = parse_line(alloc, text)?;
-    Ok(is_label(line.label.as_ref(), *label) && is_verb(&line.command, verb, params, rest))
+    Ok(is_label(line.label.as_ref(), *label) && is_verb(alloc, &line.command, verb, params, rest)?)
 }
 
 #[test]

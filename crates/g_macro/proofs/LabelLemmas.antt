@@ -1,12 +1,13 @@
 -- Where the line with a label stands, line by line.
 use Rattle.std.proofs.Common.{List, ap, arith, drop, false, length, option_map, refl, sym, take, true, ℕ, ◌+◌, ◌<◌, ◌∙◌, ◌∷◌, ◌≡◌, ◌≤◌}
 use Rattle.std.proofs.lemmas.List.{length-drop}
+use Rattle.g_lang.specs.Words.{has_label}
 use Rattle.g_lines.proofs.CursorLemmas.{bytes_next, bytes_within}
 use Rattle.g_lines.proofs.DocumentLemmas.{lines_few}
 use Rattle.g_lines.specs.Documents.{IsWhole}
 use Rattle.g_lines.specs.Lines.{lines_of, text_of}
 use Rattle.g_macro.proofs.PlaceLemmas.{label-first, label-found, label-next}
-use Rattle.g_macro.specs.Levels.{has_label, line_of_label}
+use Rattle.g_macro.specs.Levels.{line_of_label}
 use Rattle.g_macro.specs.Spans.{IsLinePlace}
 
 -- so many lines were looked at, which have so many bytes, and none of them has the label

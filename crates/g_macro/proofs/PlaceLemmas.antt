@@ -3,9 +3,10 @@ use Rattle.std.proofs.Common.{List, None, Option, Some, [], ap, append_assoc, ar
 use Rattle.std.proofs.lemmas.Bool.{cond_both}
 use Rattle.std.proofs.lemmas.List.{drop_more, length-append, take_at}
 use Rattle.g_lang.specs.Conditions.{same_cond}
+use Rattle.g_lang.specs.Words.{has_label}
 use Rattle.g_lang.specs.declared.line.Cond.{Cond}
 use Rattle.g_lines.specs.Lines.{ended, lines_of, text_of}
-use Rattle.g_macro.specs.Levels.{before_closing, has_label, is_closing, line_of_label, passed, place_of_cond}
+use Rattle.g_macro.specs.Levels.{before_closing, is_closing, line_of_label, passed, place_of_cond}
 use Rattle.g_macro.specs.declared.entry.Entry.{Entry}
 
 map-some : (f : ℕ → ℕ) (o : Option ℕ) (n : ℕ) → o ≡ Some n → option_map f o ≡ Some (f n)

@@ -2,7 +2,7 @@
 use Rattle.std.specs.Prelude.{All, Bool, List, None, Option, Some, [], codes, drop, false, find, if◌then◌else◌, length, nat_le, nat_lt, not, option_map, replicate, slice_index_or, slice_set, take, true, ℕ, ◌&&◌, ◌++◌, ◌+◌, ◌-◌, ◌||◌, ◌∷◌, ◌≡◌, ◌≤◌}
 use Rattle.g_lang.specs.Conditions.{same_cond}
 use Rattle.g_lang.specs.Lines.{IsCommandText}
-use Rattle.g_lang.specs.Words.{label_in}
+use Rattle.g_lang.specs.Words.{has_label}
 use Rattle.g_lang.specs.declared.line.Cond.{Cond}
 use Rattle.g_lines.specs.Lines.{text_of}
 use Rattle.g_macro.specs.Questions.{cond_holds}
@@ -120,13 +120,6 @@ abbrev pub called : List (List ℕ) → List (List ℕ) → Stack → Stack
 called lines params s = record s { levels = level_of lines params ∷ s.levels }
 
 -- the first line of the level that has this label
-abbrev pub is_that_label : List ℕ → Option (List ℕ) → Bool
-is_that_label label None = false
-is_that_label label (Some other) = same_text other label
-
-abbrev pub has_label : List ℕ → List ℕ → Bool
-has_label label line = is_that_label label (label_in line)
-
 abbrev pub line_of_label : List ℕ → List (List ℕ) → Option ℕ
 line_of_label label [] = None
 line_of_label label (line ∷ lines) = if has_label label line then Some 0 else option_map (λ n. 1 + n) (line_of_label label lines)

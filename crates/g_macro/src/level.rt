@@ -17,7 +17,7 @@ use crate::entry::Entry;
 use crate::expansion::{Filled, fill_in, is_input};
 use crate::{MacroFault, Outcome};
 use g_base::NoMemory;
-use g_lang::{Cond, Label, Test, label_of};
+use g_lang::{Cond, Label, Test, has_label};
 use g_lines::{Cursor, Document, Lines, Texts};
 use g_name::Text;
 use std::alloc::Global;
@@ -303,16 +303,6 @@ fn place_of_label(text: &[u8], label: &Label) -> Option<LinePlace>
         bytes += line.len() + 1;
     }
     None
-}
-
-/// Whether a line has this label.
-fn has_label(line: &[u8], label: &Label) -> bool
-    ensures { result ≡ levels.has_label label.now line.now }
-{
-    match label_of(line) {
-        Some(other) => other.as_slice() == label.as_slice(),
-        None => false,
-    }
 }
 
 /// The place of the entry with this condition.

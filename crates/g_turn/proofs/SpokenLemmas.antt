@@ -1,18 +1,23 @@
 -- What lines say that were read, and what is done of a command behind conditions.
-use Rattle.std.proofs.Common.{◌≡◌, ◌∙◌, ℕ, Bool, true, List, [], ◌∷◌, Option, Some, None, Result, Ok, Err, IfSome, option_map, if◌then◌else◌, refl, sym, ap, subst}
+use Rattle.std.proofs.Common.{◌≡◌, ◌∙◌, ℕ, Bool, true, false, List, [], ◌∷◌, Option, Some, None, Result, Ok, Err, IfSome, option_map, if◌then◌else◌, refl, sym, ap, subst}
 use Rattle.std.proofs.lemmas.Bool.{false≢true}
 use Rattle.g_turn.specs.Commands.{command, done_if}
-use Rattle.g_turn.specs.LineMeaning.{IsSpoken, Met}
+use Rattle.g_turn.specs.LineMeaning.{IsReadWell, IsSpoken, Met, is_wanting, read_as}
 use Rattle.g_turn.specs.State.{Work}
 use Rattle.g_lang.specs.Lines.{IsReading, IsWritten, LineSaid, Said, SaidIf, WrittenGoto, WrittenIf, WrittenVerb, WrittenWhenever, Written, said_by}
-use Rattle.g_lang.specs.Meaning.{command_said, said_inside}
+use Rattle.g_lang.specs.LineReader.{reading}
+use Rattle.g_lang.specs.Meaning.{IsReadAs, Reads, command_said, line_said, said_inside}
+use Rattle.g_lang.specs.declared.fault.LangFault.{LangFault}
+use Rattle.g_lang.specs.declared.fault.LangFault.TheVariants as lang
 use Rattle.g_lang.specs.declared.line.Command.{Command}
 use Rattle.g_lang.specs.declared.line.Command.TheVariants.{Blank, Goto, If', Verb, Whenever}
 use Rattle.g_lang.specs.declared.line.Cond.{Cond}
+use Rattle.g_lang.specs.declared.line.Line.{Line}
 use Rattle.g_macro.specs.Levels.{holds}
 use Rattle.g_plain.specs.Programs.{Gives}
 use Rattle.g_verbs.specs.Verbs.{IsActionRead}
 use Rattle.g_verbs.specs.declared.action.Action.{Action}
+use Rattle.g_verbs.specs.declared.action.Action.TheVariants as action
 use Rattle.g_verbs.specs.declared.fault.VerbFault.{VerbFault}
 use Rattle.g_verbs.specs.declared.fault.VerbFault.TheVariants.{BadParameter}
 
@@ -31,6 +36,15 @@ option_spoken (Some w) is = spoken_of w is
 pub spoken_read : (text : List ℕ) (said : LineSaid) → IsReading text (Ok said) → IfSome said.command IsSpoken
 spoken_read text said (l, is, same_text, same) = subst (λ (s : LineSaid). IfSome s.command IsSpoken) (sym same) (option_spoken l.command is.command)
 
+pub read_said : (text : List ℕ) (r : Result Line LangFault) → IsReadAs (reading text) r → is_wanting r ≡ false → reading text ≡ read_as r
+read_said text (Ok line) is some = is
+read_said text (Err (lang.BadLine place)) is some = is
+read_said text (Err lang.NoMemory) is some = absurd (false≢true (sym some))
+
+pub read_well : (text : List ℕ) (r : Result Line LangFault) → Reads text r → IsReadWell r
+read_well text (Ok line) is = spoken_read text (line_said line) is
+read_well text (Err fault) is = tt
+
 -- a command behind a condition isn't blank
 not_blank : (inner : Command) → IsSpoken (said_inside inner) → (room : ℕ) (who : List ℕ) (by : Bool) (w : Work)
     → command room who by (said_inside inner) w ≡ done_if room who by (command_said inner) w
@@ -38,14 +52,14 @@ not_blank Blank is room who by w = absurd is
 not_blank (If' cond p inner) is room who by w = refl
 not_blank (Goto label) is room who by w = refl
 not_blank (Whenever cond text) is room who by w = refl
-not_blank (Verb name params rest) is room who by w = refl
+not_blank (Verb name rest) is room who by w = refl
 
 pub inner_spoken : (inner : Command) → IsSpoken (said_inside inner) → IfSome (command_said inner) IsSpoken
 inner_spoken Blank is = absurd is
 inner_spoken (If' cond p inner) is = is
 inner_spoken (Goto label) is = is
 inner_spoken (Whenever cond text) is = is
-inner_spoken (Verb name params rest) is = is
+inner_spoken (Verb name rest) is = is
 
 -- the condition holds
 pub met_holds : (whole : Command) (inner : Command) (cond : Cond) (w : Work) (r : Option Command) → command_said whole ≡ Some (SaidIf cond (said_inside inner))
@@ -60,6 +74,10 @@ met_holds whole inner cond w (Some other) is spoken on met = (
       ∙ ap (λ (b : Bool). if b then command room who by (said_inside inner) w else Gives w) on ∙ not_blank inner spoken room who by w ∙ met.1 room who by),
 )
 
--- the index that a refusal of a verb tells, however it is taken out
-pub index_read : (index : VerbFault → ℕ) → ((n : ℕ) → index (BadParameter n) ≡ n) → (asked : Result Action ℕ) (fault : VerbFault) → IsActionRead asked (Err fault) → asked ≡ Err (index fault)
-index_read index is asked (BadParameter n) read = read ∙ ap (λ (m : ℕ). let r : Result Action ℕ = Err m in r) (sym (is n))
+-- the index that a refusal of a verb tells
+pub index_read : (asked : Result Action ℕ) (fault : VerbFault) (index : ℕ) → fault ≡ BadParameter index → IsActionRead asked (Err fault) → asked ≡ Err index
+index_read asked fault index is read = subst (λ (f : VerbFault). IsActionRead asked (Err f)) is read
+
+-- the text that a DISPLAY was read to say
+pub text_read : (asked : Result Action ℕ) (a : Action) (text : List ℕ) → a ≡ action.Display text → IsActionRead asked (Ok a) → asked ≡ Ok (action.Display text)
+text_read asked a text is read = subst (λ (b : Action). IsActionRead asked (Ok b)) is read

@@ -34,6 +34,17 @@ is_one_call (action.Budget user kind amount) = true
 is_one_call (action.Retrieve file) = true
 is_one_call other = false
 
+-- a verb that names files and isn't one call alone
+abbrev pub is_of_files : Action → Bool
+is_of_files (action.Input file) = true
+is_of_files (action.Copy from to) = true
+is_of_files (action.Append from to) = true
+is_of_files (action.ListFile file) = true
+is_of_files (action.Load file) = true
+is_of_files (action.Plan from to) = true
+is_of_files (action.Assign unit file) = true
+is_of_files other = false
+
 -- `who` is the job's user, and `by` tells that a WHENEVER does it
 abbrev pub act : ℕ → List ℕ → Bool → Action → Work → Asks Work
 act room who by (action.Input file) w = input room file w

@@ -1,9 +1,11 @@
 -- What lines say that were read, and the command behind the conditions of a line.
-use Rattle.std.specs.Prelude.{Bool, Err, IfSome, List, None, Ok, Option, Result, Some, [], ℕ, ◌∷◌, ◌≡◌}
+use Rattle.std.specs.Prelude.{Bool, Err, IfSome, List, None, Ok, Option, Result, Some, [], false, true, ℕ, ◌∷◌, ◌≡◌}
 use Rattle.g_turn.specs.Commands.{done_if}
 use Rattle.g_turn.specs.State.{Work}
 use Rattle.g_lang.specs.Lines.{IsCommandText, Reading, Said, SaidGoto, SaidIf, SaidVerb, SaidWhenever}
 use Rattle.g_lang.specs.Meaning.{command_said, line_said}
+use Rattle.g_lang.specs.declared.fault.LangFault.{LangFault}
+use Rattle.g_lang.specs.declared.fault.LangFault.TheVariants.{BadLine, NoMemory}
 use Rattle.g_lang.specs.declared.line.Command.{Command}
 use Rattle.g_lang.specs.declared.line.Command.TheVariants.{Blank, If'}
 use Rattle.g_lang.specs.declared.line.Line.{Line}
@@ -17,14 +19,24 @@ IsSpoken (SaidWhenever cond command) = IsCommandText command
 IsSpoken (SaidVerb [] params rest) = ⊥
 IsSpoken (SaidVerb (letter ∷ name) params rest) = Unit {0}
 
--- the reading of a text, as the code has it: what its line says, or the place where it goes wrong
-abbrev pub read_as : Result Line ℕ → Reading
-read_as (Ok line) = Ok (line_said line)
-read_as (Err place) = Err place
+-- the place where a line goes wrong; where memory was wanting none is known
+abbrev pub place_of : LangFault → ℕ
+place_of (BadLine place) = place
+place_of NoMemory = 0
 
-abbrev pub IsReadWell : Result Line ℕ → Type 0
+-- the reading of a text, as the code has it: what its line says, or the place where it goes wrong
+abbrev pub read_as : Result Line LangFault → Reading
+read_as (Ok line) = Ok (line_said line)
+read_as (Err fault) = Err (place_of fault)
+
+-- memory was wanting, so nothing is known of the text
+abbrev pub is_wanting : Result Line LangFault → Bool
+is_wanting (Err NoMemory) = true
+is_wanting other = false
+
+abbrev pub IsReadWell : Result Line LangFault → Type 0
 IsReadWell (Ok line) = IfSome (command_said line.command) IsSpoken
-IsReadWell (Err place) = Unit {0}
+IsReadWell (Err fault) = Unit {0}
 
 -- a command that stands behind no condition
 abbrev pub IsBare : Command → Type 0

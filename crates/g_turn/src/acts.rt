@@ -1,5 +1,5 @@
 //! What each verb does.
-ghost use Rattle.std.specs.Prelude.{◌≡◌, ◌≤◌, ◌<◌, ◌+◌, ℕ, [], Bool, false, length, unwrap_or, IfErr, IfOk, OnErr, OnOk};
+ghost use Rattle.std.specs.Prelude.{◌≡◌, ◌≤◌, ◌<◌, ◌+◌, ℕ, [], Bool, false, true, length, unwrap_or, IfErr, IfOk, OnErr, OnOk};
 ghost use Rattle.g_turn.specs.Actions as actions;
 ghost use Rattle.g_turn.specs.Asking as asking;
 ghost use Rattle.g_turn.specs.Outcomes as said;
@@ -42,6 +42,22 @@ fn is_one_call(action: &Action) -> bool
             | Action::NewUser { .. }
             | Action::Budget { .. }
             | Action::Retrieve { .. }
+    )
+}
+
+/// Whether a verb names files and isn't one call alone.
+fn is_of_files(action: &Action) -> bool
+    ensures { result ≡ actions.is_of_files action.now }
+{
+    matches!(
+        action,
+        Action::Input { .. }
+            | Action::Copy { .. }
+            | Action::Append { .. }
+            | Action::ListFile { .. }
+            | Action::Load { .. }
+            | Action::Plan { .. }
+            | Action::Assign { .. }
     )
 }
 
@@ -117,9 +133,31 @@ impl Work {
         if !is_one_call(&action) {
             return self.act_in_several_calls(store, asker, by, action);
         }
+        self.act_in_one_call(store, asker, action)
+    }
+
+    /// Does what a verb asks for that is one call.
+    fn act_in_one_call<S: Filestore>(
+        &mut self,
+        store: &mut S,
+        asker: &Asker<'_>,
+        action: Action,
+    ) -> Result<(), NoMemory>
+        requires running { S.is_spent store.old ≡ false }
+        requires open { said.is_over self.old ≡ false }
+        requires sound { verbs.IsSound action }
+        requires kind { actions.is_one_call action ≡ true }
+        ensures ok { (by : Bool) → OnOk result (RanWell S.answers S.is_spent S.can_wait asker.now.who.now store.old
+            (actions.act asker.now.room asker.now.who.now by action self.old) self.new store.new) }
+        ensures err { (by : Bool) → OnErr result (RanInPart S.answers asker.now.who.now store.old
+            (actions.act asker.now.room asker.now.who.now by action self.old) store.new) }
+        ensures live { OnOk result (said.is_over self.new ≡ false → S.is_spent store.new ≡ false) }
+        ensures same_waits { (s : ℕ) → S.can_wait store.new s ≡ S.can_wait store.old s }
+        ensures blocks { OnOk result (self.new.blocks ≤ self.old.blocks + 2048) }
+    {
         match call_of(action, asker.who) {
             Ok(call) => self.one_call(store, asker, &call),
-            Err(action) => self.act_in_several_calls(store, asker, by, action),
+            Err(_) => unreachable!(),
         }
     }
 
@@ -145,6 +183,46 @@ impl Work {
         ensures same_waits { (s : ℕ) → S.can_wait store.new s ≡ S.can_wait store.old s }
         ensures blocks { OnOk result (self.new.blocks ≤ self.old.blocks + 2048) }
     {
+        // The names of files are large: so the other verbs are taken apart without them.
+        if is_of_files(&action) {
+            return self.act_on_files(store, asker, action);
+        }
+        match action {
+            Action::Enter { n } => self.enter(asker.alloc, asker.room, by, n as u8),
+            Action::Resume => self.resume(asker.alloc, asker.room, by),
+            Action::Release { unit } => self.release(store, asker, unit),
+            Action::Delete => self.delete(store, asker),
+            Action::SetParam { letter, text } => {
+                self.set_param(asker.alloc, letter, text);
+                Ok(())
+            }
+            Action::Display { text } => self.display(asker.alloc, asker.room, text.as_slice()),
+            Action::EndJob => self.end_job(store, asker),
+            Action::Macro { name, params } => { self.look_up(store, asker, &name, params) }
+            _ => unreachable!(),
+        }
+    }
+
+    /// Does what a verb asks for that names files and isn't one call alone.
+    fn act_on_files<S: Filestore>(
+        &mut self,
+        store: &mut S,
+        asker: &Asker<'_>,
+        action: Action,
+    ) -> Result<(), NoMemory>
+        requires running { S.is_spent store.old ≡ false }
+        requires open { said.is_over self.old ≡ false }
+        requires few { self.old.blocks ≤ 2048 }
+        requires level { 0 < length self.old.desk.levels.levels }
+        requires kind { actions.is_of_files action ≡ true }
+        ensures ok { (by : Bool) → OnOk result (RanWell S.answers S.is_spent S.can_wait asker.now.who.now store.old
+            (actions.act asker.now.room asker.now.who.now by action self.old) self.new store.new) }
+        ensures err { (by : Bool) → OnErr result (RanInPart S.answers asker.now.who.now store.old
+            (actions.act asker.now.room asker.now.who.now by action self.old) store.new) }
+        ensures live { OnOk result (said.is_over self.new ≡ false → S.is_spent store.new ≡ false) }
+        ensures same_waits { (s : ℕ) → S.can_wait store.new s ≡ S.can_wait store.old s }
+        ensures blocks { OnOk result (self.new.blocks ≤ self.old.blocks + 2048) }
+    {
         match action {
             Action::Input { file } => self.input(store, asker, file),
             Action::Copy { from, to } => {
@@ -158,18 +236,7 @@ impl Work {
             Action::Plan { from, to } => {
                 self.fetch(store, asker, (from, Mode::Read), Use::Assemble(to))
             }
-            Action::Enter { n } => self.enter(asker.alloc, asker.room, by, n as u8),
-            Action::Resume => self.resume(asker.alloc, asker.room, by),
             Action::Assign { unit, file } => self.assign(store, asker, unit, file),
-            Action::Release { unit } => self.release(store, asker, unit),
-            Action::Delete => self.delete(store, asker),
-            Action::SetParam { letter, text } => {
-                self.set_param(asker.alloc, letter, text);
-                Ok(())
-            }
-            Action::Display { text } => self.display(asker.alloc, asker.room, text.as_slice()),
-            Action::EndJob => self.end_job(store, asker),
-            Action::Macro { name, params } => { self.look_up(store, asker, &name, params) }
             _ => unreachable!(),
         }
     }
@@ -210,7 +277,12 @@ impl Work {
     }
 
     /// DISPLAY.
-    fn display(&mut self, alloc: Global, room: usize, text: &[u8]) -> Result<(), NoMemory>
+    pub(crate) fn display(
+        &mut self,
+        alloc: Global,
+        room: usize,
+        text: &[u8],
+    ) -> Result<(), NoMemory>
         ensures ok { OnOk result
             (self.new ≡ said.say room (marked mark.Displayed text.now) (said.done self.old)) }
         ensures blocks { OnOk result (self.new.blocks ≡ self.old.blocks) }

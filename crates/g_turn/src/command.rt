@@ -1,9 +1,10 @@
 //! One command of a line: GOTO, IF, WHENEVER, or a verb.
-ghost use Rattle.std.specs.Prelude.{◌≡◌, ◌≤◌, ◌+◌, ◌<◌, ℕ, false, length, IfSome, IsTrue, OnErr, OnOk};
+ghost use Rattle.std.specs.Prelude.{◌≡◌, ◌≤◌, ◌+◌, ◌<◌, ℕ, false, length, IfSome, OnErr, OnOk};
 ghost use Rattle.g_turn.specs.Commands as commands;
 ghost use Rattle.g_turn.specs.LineMeaning.{IsBare, IsSpoken, Met};
 ghost use Rattle.g_turn.specs.Outcomes as said;
 ghost use Rattle.g_turn.specs.Steps.{RanWell};
+ghost use Rattle.g_lang.specs.LineReader.{params_read};
 ghost use Rattle.g_lang.specs.Lines.{IsCommandText};
 ghost use Rattle.g_lang.specs.Meaning.{command_said};
 ghost use Rattle.g_macro.specs.Levels.{current, line_of_label};
@@ -15,30 +16,18 @@ use crate::asker::Asker;
 use crate::work::Work;
 use g_base::NoMemory;
 use g_lang::{Command, Cond, Label};
-use g_lines::Texts;
 use g_macro::MacroFault;
 use g_monitor::CommandError;
 use g_name::{Local, Text};
 use g_plain::Filestore;
-use g_verbs::{VerbFault, read_verb};
+use g_verbs::{Action, VerbFault, read_verb};
 use std::alloc::Global;
 
-/// A verb's line: its name, its parameters, and what stands behind them.
+/// A verb's line: its name, and the text in which its parameters stand.
 #[derive(Drop)]
 struct VerbLine {
     name: Local,
-    params: Texts,
     rest: Text,
-}
-
-/// Whether a command stands behind no condition.
-fn is_bare(command: &Command) -> bool
-    ensures { IsTrue result → IsBare command.now }
-{
-    match command {
-        Command::Goto(_) | Command::Whenever { .. } | Command::Verb { .. } => true,
-        Command::Blank | Command::If { .. } => false,
-    }
 }
 
 impl Work {
@@ -64,10 +53,35 @@ impl Work {
         ensures same_waits { (s : ℕ) → S.can_wait store.new s ≡ S.can_wait store.old s }
         ensures blocks { OnOk result (self.new.blocks ≤ self.old.blocks + 2048) }
     {
-        // A command is large: so it is moved on where it stands, unless a condition is before it.
-        if is_bare(&command) {
-            return self.command(store, asker, by, command);
+        // A command is large: so the parts of most are moved on by themselves.
+        match command {
+            Command::Verb { name, rest } => { self.verb(store, asker, by, VerbLine { name, rest }) }
+            Command::Goto(label) => self.go_to(asker.alloc, asker.room, &label),
+            other => self.do_behind_conditions(store, asker, by, other),
         }
+    }
+
+    /// Does the command behind the conditions of IF, where they all hold.
+    fn do_behind_conditions<S: Filestore>(
+        &mut self,
+        store: &mut S,
+        asker: &Asker<'_>,
+        by: bool,
+        command: Command,
+    ) -> Result<(), NoMemory>
+        requires running { S.is_spent store.old ≡ false }
+        requires open { said.is_over self.old ≡ false }
+        requires few { self.old.blocks ≤ 2048 }
+        requires level { 0 < length self.old.desk.levels.levels }
+        requires spoken { IfSome (command_said command) IsSpoken }
+        ensures ok { OnOk result (RanWell S.answers S.is_spent S.can_wait asker.now.who.now store.old
+            (commands.done_if asker.now.room asker.now.who.now by (command_said command) self.old) self.new store.new) }
+        ensures err { OnErr result (RanInPart S.answers asker.now.who.now store.old
+            (commands.done_if asker.now.room asker.now.who.now by (command_said command) self.old) store.new) }
+        ensures live { OnOk result (said.is_over self.new ≡ false → S.is_spent store.new ≡ false) }
+        ensures same_waits { (s : ℕ) → S.can_wait store.new s ≡ S.can_wait store.old s }
+        ensures blocks { OnOk result (self.new.blocks ≤ self.old.blocks + 2048) }
+    {
         match self.behind_conditions(command) {
             Some(command) => self.command(store, asker, by, command),
             None => Ok(()),
@@ -124,9 +138,7 @@ impl Work {
                 cond,
                 command,
             ),
-            Command::Verb { name, params, rest } => {
-                self.verb(store, asker, by, VerbLine { name, params, rest })
-            }
+            Command::Verb { name, rest } => { self.verb(store, asker, by, VerbLine { name, rest }) }
             Command::Blank | Command::If { .. } => Ok(()),
         }
     }
@@ -181,21 +193,26 @@ impl Work {
         requires few { self.old.blocks ≤ 2048 }
         requires level { 0 < length self.old.desk.levels.levels }
         ensures ok { OnOk result (RanWell S.answers S.is_spent S.can_wait asker.now.who.now store.old
-            (commands.acted asker.now.room asker.now.who.now by line.name (action_read line.name line.params line.rest) self.old)
+            (commands.acted asker.now.room asker.now.who.now by line.name (action_read line.name (params_read line.rest) line.rest) self.old)
             self.new store.new) }
         ensures err { OnErr result (RanInPart S.answers asker.now.who.now store.old
-            (commands.acted asker.now.room asker.now.who.now by line.name (action_read line.name line.params line.rest) self.old)
+            (commands.acted asker.now.room asker.now.who.now by line.name (action_read line.name (params_read line.rest) line.rest) self.old)
             store.new) }
         ensures live { OnOk result (said.is_over self.new ≡ false → S.is_spent store.new ≡ false) }
         ensures same_waits { (s : ℕ) → S.can_wait store.new s ≡ S.can_wait store.old s }
         ensures blocks { OnOk result (self.new.blocks ≤ self.old.blocks + 2048) }
     {
-        let VerbLine { name, params, rest } = line;
-        match read_verb(&name, params, rest) {
+        let VerbLine { name, rest } = line;
+        match read_verb(asker.alloc, &name, rest) {
+            // An action is large: so that of the most common verb isn't moved on.
+            Ok(Action::Display { text }) => {
+                self.display(asker.alloc, asker.room, text.as_slice())
+            }
             Ok(action) => self.act(store, asker, by, action),
             Err(VerbFault::BadParameter(index)) => {
                 self.bad_parameter(asker.alloc, asker.room, &name, index)
             }
+            Err(VerbFault::NoMemory) => Err(NoMemory),
         }
     }
 

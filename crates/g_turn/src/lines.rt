@@ -2,12 +2,13 @@
 ghost use Rattle.std.specs.Prelude.{◌≡◌, ◌≤◌, ◌+◌, ◌<◌, ℕ, false, length, IfOk, OnErr, OnOk};
 ghost use Rattle.g_turn.specs.LineWork.{FiredAs, IsReady};
 ghost use Rattle.g_turn.specs.Lines as lines;
-ghost use Rattle.g_turn.specs.LineMeaning.{IsReadWell, IsSpoken, read_as};
+ghost use Rattle.g_turn.specs.LineMeaning.{IsReadWell, IsSpoken, is_wanting, place_of, read_as};
 ghost use Rattle.g_turn.specs.Outcomes as said;
 ghost use Rattle.g_turn.specs.Steps.{RanWell};
 ghost use Rattle.g_lang.specs.LineReader.{reading};
 ghost use Rattle.g_lang.specs.Lines.{IsCommandText};
 ghost use Rattle.g_monitor.specs.JobLines.{marked};
+ghost use Rattle.g_monitor.specs.declared.errors.CommandError.TheVariants as errors;
 ghost use Rattle.g_monitor.specs.declared.job_lines.Mark.TheVariants as mark;
 ghost use Rattle.g_plain.specs.Programs.{Gives, RanInPart, and_then};
 
@@ -39,7 +40,10 @@ impl Work {
         ensures same_waits { (s : ℕ) → S.can_wait store.new s ≡ S.can_wait store.old s }
         ensures ready { OnOk result (IsReady self.new) }
     {
-        let read = read_line(asker.alloc, text.as_slice())?;
+        let read = read_line(asker.alloc, text.as_slice());
+        if is_wanting(&read) {
+            return Err(NoMemory);
+        }
         self.say_line(asker.alloc, asker.room, text)?;
         if self.is_over() {
             return Ok(());
@@ -65,7 +69,7 @@ impl Work {
         &mut self,
         store: &mut S,
         asker: &Asker<'_>,
-        read: Result<Line, usize>,
+        read: Result<Line, LangFault>,
     ) -> Result<(), NoMemory>
         requires running { S.is_spent store.old ≡ false }
         requires open { said.is_over self.old ≡ false }
@@ -92,7 +96,7 @@ impl Work {
         &mut self,
         store: &mut S,
         asker: &Asker<'_>,
-        read: Result<Line, usize>,
+        read: Result<Line, LangFault>,
     ) -> Result<(), NoMemory>
         requires running { S.is_spent store.old ≡ false }
         requires open { said.is_over self.old ≡ false }
@@ -111,7 +115,18 @@ impl Work {
     {
         match read {
             Ok(line) => self.do_command(store, asker, false, line.command),
-            Err(place) => self.in_error(asker.alloc, asker.room, CommandError::BadLine(place)),
+            Err(fault) => self.bad_line(asker.alloc, asker.room, fault),
+        }
+    }
+
+    /// The error of a line that isn't in the language.
+    fn bad_line(&mut self, alloc: Global, room: usize, fault: LangFault) -> Result<(), NoMemory>
+        ensures ok { OnOk result (self.new ≡ said.in_error room (errors.BadLine (place_of fault)) self.old) }
+        ensures blocks { OnOk result (self.new.blocks ≡ self.old.blocks) }
+    {
+        match fault {
+            LangFault::BadLine(place) => self.in_error(alloc, room, CommandError::BadLine(place)),
+            LangFault::NoMemory => Err(NoMemory),
         }
     }
 
@@ -239,7 +254,10 @@ impl Work {
         ensures same_waits { (s : ℕ) → S.can_wait store.new s ≡ S.can_wait store.old s }
         ensures ready { OnOk result (IsReady self.new) }
     {
-        let read = read_line(asker.alloc, text.as_slice())?;
+        let read = read_line(asker.alloc, text.as_slice());
+        if is_wanting(&read) {
+            return Err(NoMemory);
+        }
         self.keep_command(asker.alloc, text)?;
         self.run_kept_command(store, asker, read)
     }
@@ -263,7 +281,7 @@ impl Work {
         &mut self,
         store: &mut S,
         asker: &Asker<'_>,
-        read: Result<Line, usize>,
+        read: Result<Line, LangFault>,
     ) -> Result<(), NoMemory>
         requires running { S.is_spent store.old ≡ false }
         requires open { said.is_over self.old ≡ false }
@@ -285,14 +303,20 @@ impl Work {
     }
 }
 
-/// What a line says, or the place where it goes wrong.
-fn read_line(alloc: Global, text: &[u8]) -> Result<Result<Line, usize>, NoMemory>
-    ensures reading { IfOk result (λ read. reading text.now ≡ read_as read) }
-    ensures well { IfOk result IsReadWell }
+/// What a line says, or why it isn't read.
+fn read_line(alloc: Global, text: &[u8]) -> Result<Line, LangFault>
+    ensures reading { is_wanting result ≡ false → reading text.now ≡ read_as result }
+    ensures well { IsReadWell result }
 {
-    match parse_line(alloc, text) {
-        Ok(line) => Ok(Ok(line)),
-        Err(LangFault::BadLine(place)) => Ok(Err(place)),
-        Err(LangFault::NoMemory) => Err(NoMemory),
+    parse_line(alloc, text)
+}
+
+/// Whether a line wasn't read for want of memory.
+fn is_wanting(read: &Result<Line, LangFault>) -> bool
+    ensures { result ≡ is_wanting read.now }
+{
+    match read {
+        Err(LangFault::NoMemory) => true,
+        _ => false,
     }
 }

@@ -1,9 +1,11 @@
 -- What the values of the code say, and what its functions are handed.
-use Rattle.std.specs.Prelude.{List, length, true, ℕ, ◌<◌, ◌≡◌}
+use Rattle.std.specs.Prelude.{Bool, List, Option, Some, false, length, true, ℕ, ◌<◌, ◌≡◌}
 use Rattle.g_verbs.specs.Forms.{Forms}
 use Rattle.g_verbs.specs.VerbReader.{is_of, param}
 use Rattle.g_verbs.specs.declared.form.Form.{Form}
 use Rattle.g_verbs.specs.declared.form.Forms as code
+use Rattle.g_verbs.specs.declared.verb.Verb.{Verb}
+use Rattle.g_verbs.specs.declared.verb.Verb.TheVariants as verb
 
 abbrev pub forms_said : code.Forms → Forms
 forms_said f = record { all = f.all.now; least = f.least; any_more = f.any_more }
@@ -12,3 +14,29 @@ forms_said f = record { all = f.all.now; least = f.least; any_more = f.any_more 
 pub record IsThere (form : Form) (params : List (List ℕ)) (place : ℕ) : Type 0 where
   pub within : place < length params
   pub fits : is_of form (param params place) ≡ true
+
+-- the verb DISPLAY
+abbrev pub is_display : Option Verb → Bool
+is_display (Some verb.Display) = true
+is_display other = false
+
+-- a verb that takes one file and nothing else
+abbrev pub is_of_one_file : Option Verb → Bool
+is_of_one_file (Some verb.Input) = true
+is_of_one_file (Some verb.Erase) = true
+is_of_one_file (Some verb.ListFile) = true
+is_of_one_file (Some verb.Retrieve) = true
+is_of_one_file (Some verb.Load) = true
+is_of_one_file other = false
+
+-- a verb that takes two files and nothing else
+abbrev pub is_of_two_files : Option Verb → Bool
+is_of_two_files (Some verb.Copy) = true
+is_of_two_files (Some verb.Append) = true
+is_of_two_files (Some verb.Plan) = true
+is_of_two_files other = false
+
+-- the verb RENAME
+abbrev pub is_rename : Option Verb → Bool
+is_rename (Some verb.Rename) = true
+is_rename other = false

@@ -1,32 +1,149 @@
 //! From a verb and its parameters to what it asks for.
-ghost use Rattle.std.specs.Prelude.{◌≡◌, ◌∷◌, ℕ, [], List, IfOk, IfSome, IsTrue};
+ghost use Rattle.std.specs.Prelude.{◌≡◌, ◌∷◌, ℕ, [], true, List, IfOk, IfSome};
+ghost use Rattle.g_lang.specs.LineReader.{params_read};
 ghost use Rattle.g_verbs.specs.Forms.{AreGood, just};
 ghost use Rattle.g_verbs.specs.VerbReader as how;
-ghost use Rattle.g_verbs.specs.Tables.{forms_said};
+ghost use Rattle.g_verbs.specs.Tables.{forms_said, is_display, is_of_one_file, is_of_two_files, is_rename};
 ghost use Rattle.g_verbs.specs.Verbs as verbs;
 ghost use Rattle.g_verbs.specs.declared.form.Form.TheVariants as form;
+ghost use Rattle.g_verbs.specs.declared.verb.Verb.TheVariants as verb;
 
 use crate::verb::macro_forms;
 use crate::{Action, Forms, Verb, VerbFault, asked, parameter};
+use g_base::NoMemory;
+use g_lang::{only_param, read_params, two_params};
 use g_lines::Texts;
 use g_name::{Local, Path, Text};
+use std::alloc::Global;
 
-/// What a verb with its parameters asks for (`docs/DEFINITIONS.md`, "Verbs"). `rest` is what stands from the first
-/// parameter on, as it was written, which DISPLAY alone uses.
+/// What a verb asks for with the parameters that stand in a text (`docs/DEFINITIONS.md`, "Verbs"): as they were written,
+/// from the first one on.
 ///
 /// `BadParameter` comes exactly where a parameter is bad. A name that is no verb's is that of a macro, which isn't
-/// looked for here. It takes no memory.
-pub fn read_verb(name: &Local, params: Texts, rest: Text) -> Result<Action, VerbFault>
-    ensures grammar { verbs.Reads name.now params rest result }
-    ensures one { verbs.IsActionRead (how.action_read name.now params rest) result }
+/// looked for here. It takes memory for the parameters, but for DISPLAY, and for a good verb that takes one file, two files,
+/// or a file and its new name.
+pub fn read_verb(alloc: Global, name: &Local, rest: Text) -> Result<Action, VerbFault>
+    ensures grammar { verbs.Reads name.now (params_read rest) rest result }
+    ensures one { verbs.IsActionRead (how.action_read name.now (params_read rest) rest) result }
     ensures sound { IfOk result verbs.IsSound }
 {
     let verb = Verb::of(name.as_slice());
-    if is_of_one_file(verb) {
-        if let Some(action) = on_file(verb, params.rows()) {
-            return Ok(action);
-        }
+    read_known(alloc, verb, name, rest)
+}
+
+/// The same where the verb of the name is known. What is large is made in a function of its own: so no verb pays for
+/// what others make.
+fn read_known(
+    alloc: Global,
+    verb: Option<Verb>,
+    name: &Local,
+    rest: Text,
+) -> Result<Action, VerbFault>
+    requires { verb ≡ verbs.verb_of name.now }
+    ensures { verbs.IsActionRead (how.action_read name.now (params_read rest) rest) result }
+{
+    // It is known from here that the name is a word.
+    let _word = name.as_slice();
+    if is_display(verb) && !rest.as_slice().is_empty() {
+        return Ok(Action::Display { text: rest });
     }
+    if is_of_one_file(verb) {
+        return read_file(alloc, verb, name, rest);
+    }
+    if is_of_two_files(verb) {
+        return read_files(alloc, verb, name, rest);
+    }
+    if is_rename(verb) {
+        return read_rename(alloc, verb, name, rest);
+    }
+    read_listed(alloc, verb, name, rest)
+}
+
+/// The same of a verb that takes one file and nothing else.
+fn read_file(
+    alloc: Global,
+    verb: Option<Verb>,
+    name: &Local,
+    rest: Text,
+) -> Result<Action, VerbFault>
+    requires verb { verb ≡ verbs.verb_of name.now }
+    requires kind { is_of_one_file verb ≡ true }
+    ensures { verbs.IsActionRead (how.action_read name.now (params_read rest) rest) result }
+{
+    // The name is a word.
+    let _word = name.as_slice();
+    if let Some(file) = only_file(rest.as_slice()) {
+        return Ok(of_file(verb, file));
+    }
+    read_listed(alloc, verb, name, rest)
+}
+
+/// The same of a verb that takes two files and nothing else.
+fn read_files(
+    alloc: Global,
+    verb: Option<Verb>,
+    name: &Local,
+    rest: Text,
+) -> Result<Action, VerbFault>
+    requires verb { verb ≡ verbs.verb_of name.now }
+    requires kind { is_of_two_files verb ≡ true }
+    ensures { verbs.IsActionRead (how.action_read name.now (params_read rest) rest) result }
+{
+    // The name is a word.
+    let _word = name.as_slice();
+    if let Some(both) = two_files(rest.as_slice()) {
+        return Ok(of_two_files(verb, both));
+    }
+    read_listed(alloc, verb, name, rest)
+}
+
+/// The same of RENAME.
+fn read_rename(
+    alloc: Global,
+    verb: Option<Verb>,
+    name: &Local,
+    rest: Text,
+) -> Result<Action, VerbFault>
+    requires verb { verb ≡ verbs.verb_of name.now }
+    requires kind { is_rename verb ≡ true }
+    ensures { verbs.IsActionRead (how.action_read name.now (params_read rest) rest) result }
+{
+    // The name is a word.
+    let _word = name.as_slice();
+    if let Some(both) = file_and_local(rest.as_slice()) {
+        return Ok(rename(both));
+    }
+    read_listed(alloc, verb, name, rest)
+}
+
+/// The same from the list of the parameters.
+fn read_listed(
+    alloc: Global,
+    verb: Option<Verb>,
+    name: &Local,
+    rest: Text,
+) -> Result<Action, VerbFault>
+    requires { verb ≡ verbs.verb_of name.now }
+    ensures { verbs.IsActionRead (how.action_read name.now (params_read rest) rest) result }
+{
+    match read_params(alloc, rest.as_slice()) {
+        Ok(params) => read_from(verb, name, params, rest),
+        Err(NoMemory) => Err(VerbFault::NoMemory),
+    }
+}
+
+/// The same from the parameters, which it looks at one by one. `rest` is their text.
+fn read_from(
+    verb: Option<Verb>,
+    name: &Local,
+    params: Texts,
+    rest: Text,
+) -> Result<Action, VerbFault>
+    requires { verb ≡ verbs.verb_of name.now }
+    ensures { verbs.IsActionRead (how.action_read name.now params rest) result }
+{
+    // The name is a word.
+    let _word = name.as_slice();
     let forms = forms_of(verb);
     if let Some(index) = forms.first_wrong(params.rows()) {
         return Err(VerbFault::BadParameter(index));
@@ -34,9 +151,19 @@ pub fn read_verb(name: &Local, params: Texts, rest: Text) -> Result<Action, Verb
     Ok(asked_by(verb, name, params, rest))
 }
 
-/// Whether a verb takes one file and nothing else. The others don't pay for what `on_file` may answer, which is large.
+/// Whether a verb is DISPLAY.
+fn is_display(verb: Option<Verb>) -> bool
+    ensures { result ≡ is_display verb }
+{
+    match verb {
+        Some(Verb::Display) => true,
+        _ => false,
+    }
+}
+
+/// Whether a verb takes one file and nothing else.
 fn is_of_one_file(verb: Option<Verb>) -> bool
-    ensures { IsTrue result → verbs.forms_with verb ≡ just (form.File ∷ []) }
+    ensures { result ≡ is_of_one_file verb }
 {
     match verb {
         Some(Verb::Input | Verb::Erase | Verb::ListFile | Verb::Retrieve | Verb::Load) => true,
@@ -44,45 +171,111 @@ fn is_of_one_file(verb: Option<Verb>) -> bool
     }
 }
 
-/// What a verb of one file asks for, where this is its only parameter, which is read once then; `None` elsewhere.
-fn on_file(verb: Option<Verb>, params: &[Text]) -> Option<Action>
-    ensures { (name rest : List ℕ) → IfSome result (λ action. AreGood (verbs.forms_with verb) params.now
-        × (action ≡ how.asked verb name params.now rest)) }
+/// The file that the only parameter names, if it is the only one.
+fn only_file(rest: &[u8]) -> Option<Path>
+    ensures { IfSome result (λ path. AreGood (just (form.File ∷ [])) (params_read rest.now)
+        × (path ≡ how.file_of (how.param (params_read rest.now) 0))) }
 {
-    match verb {
-        Some(Verb::Input) => match only_file(params) {
-            Some(file) => Some(Action::Input { file }),
-            None => None,
-        },
-        Some(Verb::Erase) => match only_file(params) {
-            Some(file) => Some(Action::Erase { file }),
-            None => None,
-        },
-        Some(Verb::ListFile) => match only_file(params) {
-            Some(file) => Some(Action::ListFile { file }),
-            None => None,
-        },
-        Some(Verb::Retrieve) => match only_file(params) {
-            Some(file) => Some(Action::Retrieve { file }),
-            None => None,
-        },
-        Some(Verb::Load) => match only_file(params) {
-            Some(file) => Some(Action::Load { file }),
-            None => None,
-        },
-        _ => None,
+    match only_param(rest) {
+        Some(param) => parameter::file(param),
+        None => None,
     }
 }
 
-/// The file that the only parameter names, if it is the only one.
-fn only_file(params: &[Text]) -> Option<Path>
-    ensures { IfSome result (λ path. AreGood (just (form.File ∷ [])) params.now
-        × (path ≡ how.file_of (how.param params.now 0))) }
+/// What a verb of one file asks for with this file.
+fn of_file(verb: Option<Verb>, file: Path) -> Action
+    requires { is_of_one_file verb ≡ true }
+    ensures { (name rest : List ℕ) (params : List (List ℕ)) → file ≡ how.file_of (how.param params 0)
+        → result ≡ how.asked verb name params rest }
 {
-    match params {
-        [only] => parameter::file(only.as_slice()),
-        _ => None,
+    match verb {
+        Some(Verb::Input) => Action::Input { file },
+        Some(Verb::Erase) => Action::Erase { file },
+        Some(Verb::ListFile) => Action::ListFile { file },
+        Some(Verb::Retrieve) => Action::Retrieve { file },
+        Some(Verb::Load) => Action::Load { file },
+        _ => unreachable!(),
     }
+}
+
+/// Whether a verb takes two files and nothing else.
+fn is_of_two_files(verb: Option<Verb>) -> bool
+    ensures { result ≡ is_of_two_files verb }
+{
+    match verb {
+        Some(Verb::Copy | Verb::Append | Verb::Plan) => true,
+        _ => false,
+    }
+}
+
+/// The files that both parameters name, if there are two.
+fn two_files(rest: &[u8]) -> Option<(Path, Path)>
+    ensures { IfSome result (λ both. AreGood (just (form.File ∷ form.File ∷ [])) (params_read rest.now)
+        × (both.0 ≡ how.file_of (how.param (params_read rest.now) 0))
+        × (both.1 ≡ how.file_of (how.param (params_read rest.now) 1))) }
+{
+    match two_params(rest) {
+        Some(both) => match parameter::file(both.0) {
+            Some(from) => match parameter::file(both.1) {
+                Some(to) => Some((from, to)),
+                None => None,
+            },
+            None => None,
+        },
+        None => None,
+    }
+}
+
+/// What a verb of two files asks for with these files.
+fn of_two_files(verb: Option<Verb>, files: (Path, Path)) -> Action
+    requires { is_of_two_files verb ≡ true }
+    ensures { (name rest : List ℕ) (params : List (List ℕ)) → files.0 ≡ how.file_of (how.param params 0)
+        → files.1 ≡ how.file_of (how.param params 1) → result ≡ how.asked verb name params rest }
+{
+    let (from, to) = files;
+    match verb {
+        Some(Verb::Copy) => Action::Copy { from, to },
+        Some(Verb::Append) => Action::Append { from, to },
+        Some(Verb::Plan) => Action::Plan { from, to },
+        _ => unreachable!(),
+    }
+}
+
+/// Whether a verb is RENAME.
+fn is_rename(verb: Option<Verb>) -> bool
+    ensures { result ≡ is_rename verb }
+{
+    match verb {
+        Some(Verb::Rename) => true,
+        _ => false,
+    }
+}
+
+/// The file and the local name that both parameters name, if there are two.
+fn file_and_local(rest: &[u8]) -> Option<(Path, Local)>
+    ensures { IfSome result (λ both. AreGood (just (form.File ∷ form.Local ∷ [])) (params_read rest.now)
+        × (both.0 ≡ how.file_of (how.param (params_read rest.now) 0))
+        × (both.1 ≡ how.local_of (how.param (params_read rest.now) 1))) }
+{
+    match two_params(rest) {
+        Some(both) => match parameter::file(both.0) {
+            Some(file) => match parameter::local(both.1) {
+                Some(to) => Some((file, to)),
+                None => None,
+            },
+            None => None,
+        },
+        None => None,
+    }
+}
+
+/// RENAME with its file and the new name.
+fn rename(both: (Path, Local)) -> Action
+    ensures { (params : List (List ℕ)) → both.0 ≡ how.file_of (how.param params 0)
+        → both.1 ≡ how.local_of (how.param params 1) → result ≡ how.action_of verb.Rename params [] }
+{
+    let (file, to) = both;
+    Action::Rename { file, to }
 }
 
 /// The parameters that a verb takes, or a macro.

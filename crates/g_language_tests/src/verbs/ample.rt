@@ -1,23 +1,7 @@
 //! A verb with ample memory.
-use g_lines::Texts;
 use g_name::{Local, Text};
 use g_verbs::{Action, read_verb};
-use std::alloc::Global;
 use std::test::Fail;
-
-/// The parameters of a NEWUSER.
-fn four(alloc: Global) -> Result<Texts, Fail> {
-    let mut params = Texts::new(alloc);
-    for param in [
-        b":ANNE".as_slice(),
-        b"SPACE 65535",
-        b"TIME 0",
-        b"MONEY 1000000000",
-    ] {
-        params.push(Text::from_slice(alloc, param)?)?;
-    }
-    Ok(params)
-}
 
 /// Whether this is what they ask for.
 fn is_asked(action: &Action) -> bool {
@@ -37,12 +21,13 @@ fn is_asked(action: &Action) -> bool {
     }
 }
 
-/// A verb with four parameters, which takes no memory of its own.
+/// A verb with four parameters, with ample memory.
 #[test]
 fn ample(rt: HostRuntime) -> Result<(), Fail> {
-    let params = four(rt.alloc())?;
+    let params = b":ANNE,SPACE 65535,TIME 0,MONEY 1000000000";
+    let rest = Text::from_slice(rt.alloc(), params)?;
     let name = Local::new(b"NEWUSER").ok_or("no name")?;
-    let action = read_verb(&name, params, Text::new(rt.alloc()))?;
+    let action = read_verb(rt.alloc(), &name, rest)?;
     assert!(rt; is_asked(&action));
     Ok(())
 }

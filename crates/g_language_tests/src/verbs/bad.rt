@@ -9,11 +9,12 @@ use std::test::Fail;
 /// Which parameter of a line's verb is bad.
 fn bad_in(alloc: Global, line: &str) -> Result<Option<usize>, Fail> {
     let Line { label: _, command } = parse_line(alloc, line.as_bytes())?;
-    let Command::Verb { name, params, rest } = command else {
+    let Command::Verb { name, rest } = command else {
         return Err("no verb".into());
     };
-    match read_verb(&name, params, rest) {
+    match read_verb(alloc, &name, rest) {
         Err(VerbFault::BadParameter(index)) => Ok(Some(index)),
+        Err(fault) => Err(fault.into()),
         Ok(_) => Ok(None),
     }
 }

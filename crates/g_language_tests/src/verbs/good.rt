@@ -10,10 +10,10 @@ use std::test::Fail;
 /// What a line's verb asks for.
 fn asked(alloc: Global, line: &str) -> Result<Action, Fail> {
     let Line { label: _, command } = parse_line(alloc, line.as_bytes())?;
-    let Command::Verb { name, params, rest } = command else {
+    let Command::Verb { name, rest } = command else {
         return Err("no verb".into());
     };
-    let action = read_verb(&name, params, rest)?;
+    let action = read_verb(alloc, &name, rest)?;
     Ok(action)
 }
 
