@@ -9,6 +9,7 @@ mod fetching;
 mod lines;
 mod listing;
 mod macros;
+mod made;
 mod releases;
 mod room;
 mod runs;

@@ -46,8 +46,17 @@ impl Work {
         self.orders = 0;
         self.blocks = 0;
         self.sets = false;
-        self.again = None;
+        self.drop_again();
         self.stop = None;
+    }
+
+    /// Nothing is gone on with any more. The room of a line's text stays, for the next line.
+    fn drop_again(&mut self)
+        ensures { self.new ≡ record self.old { again = None } }
+    {
+        if let Some(Suspended::Line(text)) = self.again.take() {
+            self.line_room = text;
+        }
     }
 
     /// Takes back a text that was handed over, for its room alone: the next turn begins with it, and takes memory only
@@ -194,7 +203,7 @@ impl Work {
         }
     }
 
-    /// The next line of the levels.
+    /// The next line of the levels, made in the room of the last one.
     fn take_line(&mut self, alloc: Global) -> Result<Next, NoMemory>
         ensures taken { IfOk result (λ next.
             (next_line self.old.desk.levels).0 ≡ taken_as next) }
@@ -202,7 +211,8 @@ impl Work {
             (self.new ≡ with_levels (next_line self.old.desk.levels).1 self.old) }
         ensures level { IfOk result (λ next. HasLevel next self.new) }
     {
-        match self.levels.next_line(alloc) {
+        let room = mem::replace(&mut self.line_room, Text::new(alloc));
+        match self.levels.next_line(room) {
             Ok(Some(text)) => Ok(Next::Line(text)),
             Ok(None) => Ok(Next::Nothing),
             Err(MacroFault::TooLong(front)) => Ok(Next::TooLong(front)),
