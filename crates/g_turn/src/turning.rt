@@ -1,7 +1,7 @@
 //! The work of a turn: what waited, a run of the program that goes on, or the next line.
 ghost use Rattle.std.specs.Prelude.{◌≡◌, ◌≤◌, ◌<◌, ℕ, [], None, false, length, is_some, option_map, true, IfOk, IfSome, OnErr, OnOk};
 ghost use Rattle.g_turn.specs.LineWork.{IsAgain, IsReady};
-ghost use Rattle.g_turn.specs.Making.{FewBlocks, HasLevel, IsMade, taken_as};
+ghost use Rattle.g_turn.specs.Making.{FewBlocks, HasLevel, taken_as};
 ghost use Rattle.g_turn.specs.Outcomes as said;
 ghost use Rattle.g_turn.specs.Outcomes.{with_levels};
 ghost use Rattle.g_turn.specs.Steps.{RanWell};
@@ -13,7 +13,6 @@ ghost use Rattle.g_plain.specs.Programs.{RanInPart};
 use crate::asker::Asker;
 use crate::room::empty;
 use crate::suspended::Suspended;
-use crate::turn_work::TurnWork;
 use crate::work::Work;
 use g_base::NoMemory;
 use g_macro::MacroFault;
@@ -65,20 +64,6 @@ impl Work {
         ensures { self.new ≡ record self.old { text = text } }
     {
         self.text = text;
-    }
-
-    /// Hands over what the turn has made, all but the desk, which stays. It takes no memory.
-    pub fn take_made(&mut self, alloc: Global) -> TurnWork
-        ensures made { IsMade self.old.desk result self.old }
-        ensures desk { self.new.desk ≡ self.old.desk }
-    {
-        TurnWork {
-            text: mem::replace(&mut self.text, Text::new(alloc)),
-            orders: self.orders,
-            blocks: self.blocks,
-            again: self.again.take(),
-            stop: self.stop,
-        }
     }
 
     /// Does the work of a turn for the user `who`, whose monitoring file has room for so many bytes: goes on with what
