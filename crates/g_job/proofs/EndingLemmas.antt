@@ -1,5 +1,5 @@
 -- The end of a turn in the code: the job's rules, and that it is the end that is defined.
-use Rattle.std.proofs.Common.{◌≡◌, ℕ, ◌+◌, ◌≤◌, Bool, true, false, List, [], ◌∷◌, ◌++◌, append_assoc, length, length-append, Option, Some, None, IfSome, is_some, option_map, refl, sym, ap, ◌∙◌, subst, lit≤, le_trans, arith}
+use Rattle.std.proofs.Common.{◌≡◌, ℕ, ◌+◌, ◌<◌, ◌≤◌, Bool, true, false, List, [], ◌∷◌, ◌++◌, append_assoc, length, length-append, Option, Some, None, IfSome, is_some, option_map, refl, sym, ap, ◌∙◌, subst, lit≤, le_trans, arith}
 use Rattle.std.proofs.lemmas.Bool.{false≢true, true≢false}
 use Rattle.std.specs.Fn.{FnReturnsAt, Shared}
 use denote.Ref.{Bor}
@@ -8,14 +8,13 @@ use Rattle.g_budget.specs.declared.tariff.Charge.{Charge}
 use Rattle.g_budget.specs.declared.tariff.Usage.{Usage}
 use Rattle.g_job.specs.Beginning.{room_of}
 use Rattle.g_job.specs.Ending.{IsClear, IsWaiting, turn_by, with_last}
-use Rattle.g_job.specs.TurnEnd.{IsTurn, behind_turn, charged, charged_end, end_by, is_free, last_line, money_of, turn_of, units_of}
-use Rattle.g_turn.specs.Making.{IsMade}
-use Rattle.g_job.specs.Rules.{IsJob, IsPending, most_bytes}
+use Rattle.g_job.specs.TurnEnd.{IsTurn, behind_turn, charged, charged_end, end_by, is_free, last_line, money_of, turn_of, units_of, waited}
+use Rattle.g_turn.specs.Bounds.{HasMore, IsWithin}
+use Rattle.g_job.specs.Rules.{IsGoneOnWith, IsJob, IsPending, most_bytes}
 use Rattle.g_turn.specs.State.{Broken, Desk, Done, Full, Pending, Stop, Waits, Work}
 use Rattle.g_job.specs.State.{JobState}
-use Rattle.g_turn.specs.Values.{stop_of}
-use Rattle.g_turn.specs.declared.turn_work.TurnWork.{TurnWork}
 use Rattle.g_job.specs.declared.turn.Turn.{Turn}
+use Rattle.g_job.specs.declared.turn.Turn.TheVariants as turn
 use Rattle.g_job.proofs.KeepLemmas.{file_of, rules_kept}
 use Rattle.g_lines.specs.Lines.{ended}
 
@@ -39,6 +38,13 @@ wait_rules j again serial rules waiting = record {
   goes_on = waiting.1;
   level = λ there. waiting.2;
 }
+
+-- it may, with what a turn that waits is gone on with
+pub waiting_of : (j : JobState) (w : Work) (stop : Option Stop) (serial : ℕ) → IsWithin (room_of j) w → IsGoneOnWith j.monitor w → w.desk ≡ j.desk → stop ≡ w.stop → stop ≡ Some (Waits serial)
+    → IsWaiting j w.again
+waiting_of j w stop serial within gone desk es is =
+    let more : is_some w.again ≡ true = subst (λ (s : Option Stop). HasMore s w.again) (sym es ∙ is) within.waits in
+    (more, gone.pending, subst (λ (d : Desk). 0 < length d.levels.levels) desk (gone.level more))
 
 -- nothing waits any more
 pub clear_rules : (j : JobState) (desk : Desk) → IsJob j → IsJob (record j { desk = desk; pending = None; wants = None })
@@ -166,34 +172,62 @@ by_free (Some Done) free j w charge = refl
 by_free (Some (Waits serial)) free j w charge = absurd (true≢false free)
 by_free (Some Broken) free j w charge = absurd (true≢false free)
 
+-- a turn and a job come to such an end
+abbrev Comes : JobState → Charge → Option Stop → Work → ℕ → ℕ → Desk → List ℕ → Bool → Turn → Type 0
+Comes j charge stop w units money desk monitor over t =
+    let both : Turn × JobState = (t, record j { used = j.used + units; used_money = j.used_money + money; turns = j.turns + 1; desk = desk; monitor = monitor; over = over }) in
+    both ≡ charged_end stop j w charge
+
+module _ (j : JobState) (text : List ℕ) (charge : Charge) (stop : Option Stop) (last : Option (List ℕ)) (clear : IsClear j) (going : j.over ≡ false) where
+  -- as the code makes it
+  pub settle_end : (units money : ℕ) (desk : Desk) (monitor : List ℕ) (over : Bool) (t : Turn)
+      → ((w : Work) → last ≡ option_map ended (last_line stop j charge (charged j w charge)))
+      → units ≡ units_of j charge → money ≡ money_of j charge → desk ≡ j.desk → monitor ≡ with_last (j.monitor ++ text) last → over ≡ is_some last → t ≡ turn_by units money over
+      → (w : Work) → w.desk ≡ j.desk → w.text ≡ text
+      → Comes j charge stop w units money desk monitor over t
+  settle_end units money desk monitor over t is eu ep ed em eo et w there same =
+      subst (λ (x : Turn). Comes j charge stop w units money desk monitor over x) (sym et)
+      (subst (λ (b : Bool). Comes j charge stop w units money desk monitor b (turn_by units money b)) (sym eo)
+      (subst (λ (m : List ℕ). Comes j charge stop w units money desk m (is_some last) (turn_by units money (is_some last))) (sym em)
+      (subst (λ (d : Desk). Comes j charge stop w units money d (with_last (j.monitor ++ text) last) (is_some last) (turn_by units money (is_some last))) (sym ed)
+      (subst (λ (n : ℕ). Comes j charge stop w units n j.desk (with_last (j.monitor ++ text) last) (is_some last) (turn_by units n (is_some last))) (sym ep)
+      (subst (λ (n : ℕ). Comes j charge stop w n (money_of j charge) j.desk (with_last (j.monitor ++ text) last) (is_some last) (turn_by n (money_of j charge) (is_some last))) (sym eu)
+      (settled_end j text charge stop last clear going is w there same))))))
+
 module _ {F : Type 0} (calls : Shared F (Bor Usage × Unit {0}) Charge) (rule : F) where
-  pub charged_turn : (j : JobState) (made : TurnWork) (charge : Charge) (t : Turn) (new : JobState) → is_free (option_map stop_of made.stop) ≡ false
-      → FnReturnsAt calls rule (record { orders = made.orders; blocks = made.blocks }) charge
-      → ((w : Work) → w.desk ≡ j.desk → w.text ≡ made.text → (let both : Turn × JobState = (t, new) in both ≡ charged_end (option_map stop_of made.stop) j w charge))
-      → (w : Work) → IsMade j.desk made w → IsTurn calls rule j w t new
-  charged_turn j made charge t new free kept settle w is = (
+  pub charged_turn : (j : JobState) (w : Work) (orders blocks : ℕ) (stop : Option Stop) (charge : Charge) (t : Turn) (new : JobState)
+      → orders ≡ w.orders → blocks ≡ w.blocks → stop ≡ w.stop → w.desk ≡ j.desk → is_free stop ≡ false
+      → FnReturnsAt calls rule (record { orders = orders; blocks = blocks }) charge
+      → ((v : Work) → v.desk ≡ j.desk → v.text ≡ w.text → (let both : Turn × JobState = (t, new) in both ≡ charged_end stop j v charge))
+      → IsTurn calls rule j w t new
+  charged_turn j w orders blocks stop charge t new eo eb es desk free kept settle = (
     Some charge,
-    subst (λ (n : ℕ). FnReturnsAt calls rule (record { orders = n; blocks = w.blocks }) charge) (sym is.orders)
-        (subst (λ (n : ℕ). FnReturnsAt calls rule (record { orders = made.orders; blocks = n }) charge) (sym is.blocks) kept),
-    ap (λ (stop : Option Stop). end_by stop j w (Some charge)) is.stop ∙ by_free (option_map stop_of made.stop) free j w charge
-        ∙ ap (λ (both : Turn × JobState). let end : Option (Turn × JobState) = Some both in end) (sym (settle w is.desk is.text)),
+    subst (λ (n : ℕ). FnReturnsAt calls rule (record { orders = n; blocks = w.blocks }) charge) eo
+        (subst (λ (n : ℕ). FnReturnsAt calls rule (record { orders = orders; blocks = n }) charge) eb kept),
+    ap (λ (s : Option Stop). end_by s j w (Some charge)) (sym es) ∙ by_free stop free j w charge
+        ∙ ap (λ (both : Turn × JobState). let end : Option (Turn × JobState) = Some both in end) (sym (settle w desk refl)),
   )
 
--- the rules of the job behind a charge, as the code makes it
-pub settle_rules : (j job : JobState) → j ≡ job → (text : List ℕ) (charge : Charge) (stop : Option Stop) (last : Option (List ℕ)) (units money : ℕ) (monitor : List ℕ) (over : Bool)
-    → IsJob j → IsClear job → job.over ≡ false → length text ≤ room_of job → IsCharge charge → is_free stop ≡ false
-    → ((w : Work) → last ≡ option_map ended (last_line stop job charge (charged job w charge)))
-    → units ≡ units_of j charge → money ≡ money_of j charge → monitor ≡ with_last (j.monitor ++ text) last → over ≡ is_some last
-    → IsJob (record j { used = j.used + units; used_money = j.used_money + money; turns = j.turns + 1; monitor = monitor; over = over })
-settle_rules j job same text charge stop last units money monitor over rules clear going fits within free line eu em et eo =
-    let k : IsJob (settled j text charge last) =
-    settled_rules j text charge stop last (subst IsClear (sym same) clear) (subst (λ (x : JobState). x.over ≡ false) (sym same) going) rules within
-    (subst (λ (x : JobState). length text ≤ room_of x) (sym same) fits) free
-    (λ w. subst (λ (x : JobState). last ≡ option_map ended (last_line stop x charge (charged x w charge))) (sym same) (line w)) in
-    subst (λ (b : Bool). IsJob (record j { used = j.used + units; used_money = j.used_money + money; turns = j.turns + 1; monitor = monitor; over = b })) (sym eo)
-    (subst (λ (m : List ℕ). IsJob (record j { used = j.used + units; used_money = j.used_money + money; turns = j.turns + 1; monitor = m; over = is_some last })) (sym et)
-    (subst (λ (n : ℕ). IsJob (record j { used = j.used + units; used_money = j.used_money + n; turns = j.turns + 1; monitor = with_last (j.monitor ++ text) last; over = is_some last })) (sym em)
-    (subst (λ (n : ℕ). IsJob (record j { used = j.used + n; used_money = j.used_money + money_of j charge; turns = j.turns + 1; monitor = with_last (j.monitor ++ text) last; over = is_some last })) (sym eu) k)))
+  -- a turn that waits, and one that was stopped
+  pub waits_turn : (j : JobState) (w : Work) (stop : Option Stop) (serial : ℕ) (new : JobState) → stop ≡ w.stop → stop ≡ Some (Waits serial) → new ≡ waited j w serial
+      → IsTurn calls rule j w (turn.Wants serial) new
+  waits_turn j w stop serial new es is behind = (
+    None,
+    tt,
+    ap (λ (s : Option Stop). end_by s j w None) (sym es ∙ is)
+        ∙ ap (λ (k : JobState). let end : Option (Turn × JobState) = Some (turn.Wants serial, k) in end) (sym behind),
+  )
+
+  pub broken_turn : (j : JobState) (w : Work) (stop : Option Stop) (new : JobState) → stop ≡ w.stop → stop ≡ Some Broken → IsClear j → w.desk ≡ j.desk
+      → new ≡ record j { monitor = j.monitor ++ w.text; over = true } → IsTurn calls rule j w turn.Broken new
+  broken_turn j w stop new es is clear desk behind = (
+    None,
+    tt,
+    ap (λ (s : Option Stop). end_by s j w None) (sym es ∙ is)
+        ∙ ap (λ (d : Desk). let end : Option (Turn × JobState) = Some (turn.Broken, record j { desk = d; pending = None; wants = None; monitor = j.monitor ++ w.text; over = true }) in end) desk
+        ∙ ap (λ (k : JobState). let end : Option (Turn × JobState) = Some (turn.Broken, record k { monitor = j.monitor ++ w.text; over = true }) in end) (cleared j clear)
+        ∙ ap (λ (k : JobState). let end : Option (Turn × JobState) = Some (turn.Broken, k) in end) (sym behind),
+  )
 
 -- a last line behind a text that stands behind another
 pub behind_last : (before text : List ℕ) (last : Option (List ℕ)) → before ++ with_last text last ≡ with_last (before ++ text) last

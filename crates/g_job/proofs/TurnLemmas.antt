@@ -1,5 +1,5 @@
 -- A turn of the code is the turn that is defined.
-use Rattle.std.proofs.Common.{◌≡◌, ◌↔◌, ℕ, ◌+◌, ◌≤◌, Bool, false, List, length, Option, Some, None, Result, Ok, IfSome, is_some, refl, sym, ap, ◌∙◌, subst, arith}
+use Rattle.std.proofs.Common.{◌≡◌, ◌↔◌, ℕ, ◌+◌, ◌≤◌, Bool, false, List, length, Option, Some, None, Result, Ok, Err, IfOk, IfSome, OnErr, is_some, refl, sym, ap, ◌∙◌, subst, arith}
 use Rattle.std.proofs.lemmas.Bool.{false≢true}
 use Rattle.std.specs.Fn.{Shared}
 use denote.Ref.{Bor}
@@ -12,7 +12,7 @@ use Rattle.g_turn.specs.Bounds.{IsKeptWithin, IsWithin}
 use Rattle.g_turn.specs.Causes.{CauseOf, last_answer}
 use Rattle.g_job.specs.TurnEnd.{IsPriced, IsTurn, end_by, turn_end}
 use Rattle.g_turn.specs.LineWork.{IsAgain, IsReady}
-use Rattle.g_turn.specs.Making.{FewBlocks, IsMade}
+use Rattle.g_turn.specs.Making.{FewBlocks}
 use Rattle.g_job.specs.Making.{Makes}
 use Rattle.g_job.specs.Rules.{IsGoneOnWith, IsJob, IsPending}
 use Rattle.g_job.specs.Spending.{ComesTo, Spends, ToldAsBefore}
@@ -21,12 +21,12 @@ use Rattle.g_job.specs.State.{JobState}
 use Rattle.g_turn.specs.Steps.{RanWell}
 use Rattle.g_turn.specs.Turns.{begins}
 use Rattle.g_job.specs.Turns.{turn_work}
-use Rattle.g_turn.specs.declared.turn_work.TurnWork.{TurnWork}
 use Rattle.g_job.specs.declared.turn.Turn.{Turn}
 use Rattle.g_job.specs.declared.turn.Turn.TheVariants as turn
 use Rattle.g_job.proofs.CauseLemmas.{turn_cause}
 use Rattle.g_job.proofs.EndLemmas.{end_comes, end_spends}
-use Rattle.g_job.proofs.KeepLemmas.{file_of}
+use Rattle.g_job.proofs.EndingLemmas.{clear_rules}
+use Rattle.g_job.proofs.KeepLemmas.{file_of, rules_kept}
 use Rattle.g_job.proofs.WellLemmas.{turn_keeps, turn_ran}
 use Rattle.g_plain.proofs.RanByLemmas.{ran_by}
 use Rattle.g_plain.specs.Programs.{Answer}
@@ -65,13 +65,11 @@ gone_of j w rules going within ready =
 
 module _ {S : Type 0} (answers : S → List ℕ → StoreCall → Answer → S → Type 0) (is_spent : S → Bool) (can_wait : S → ℕ → Bool) where
   -- the work of a turn was done
-  pub makes : (j job : JobState) → j ≡ job → (old : S) (left : Desk) (handed : TurnWork) (w : Work) (new : S) → IsJob j → job.over ≡ false → length j.desk.units.writers ≤ 16
-      → RanWell answers is_spent can_wait j.user old (turn_work j) w new → IsReady w → IsMade left handed w → Makes answers is_spent can_wait job old left handed w new
-  makes j job same old left handed w new rules going few r ready made =
-      let goes : j.over ≡ false = ap (λ (x : JobState). x.over) same ∙ going in
+  pub makes : (j : JobState) (old : S) (w : Work) (new : S) → IsJob j → j.over ≡ false → length j.desk.units.writers ≤ 16
+      → RanWell answers is_spent can_wait j.user old (turn_work j) w new → IsReady w → Makes answers is_spent can_wait j old w new
+  makes j old w new rules going few r ready =
       let within : IsWithin (room_of j) w = turn_keeps answers is_spent can_wait j old w new rules few r in
-      subst (λ (x : JobState). Makes answers is_spent can_wait x old left handed w new) same
-      (record { rules = rules; made = made; ran = r; within = within; gone = gone_of j w rules goes within ready })
+      record { ran = r; within = within; gone = gone_of j w rules going within ready }
 
   -- the program of a turn, as the code begins it
   pub begun : (j : JobState) (room : ℕ) (pending : Option Pending) (start w : Work) (old new : S) → room ≡ room_of j → pending ≡ j.pending → start ≡ begin j
@@ -145,6 +143,19 @@ module _ {F : Type 0} (calls : Shared F (Bor Usage × Unit {0}) Charge) (rule : 
   spends_of tariff j w t new rules going within (charge, priced, end) =
       subst (λ (e : Option (Turn × JobState)). IfSome e (λ x. Spends j x.0 x.1)) end
       (end_spends j w charge rules going (charge_of tariff (room_of j) w charge within priced))
+
+  -- and the job keeps its rules
+  pub kept_of : IsTariff calls rule → (j : JobState) (w : Work) (t : Turn) (new : JobState) → IsJob j → j.over ≡ false → IsWithin (room_of j) w → IsGoneOnWith j.monitor w
+      → IsTurn calls rule j w t new → IsJob new
+  kept_of tariff j w t new rules going within gone (charge, priced, end) =
+      subst (λ (e : Option (Turn × JobState)). IfSome e (λ x. IsJob x.1)) end
+      (rules_kept j w charge rules going (charge_of tariff (room_of j) w charge within priced) within gone)
+
+  -- whether it has ended, or memory was wanting and it is as behind its work
+  pub rules_after : IsTariff calls rule → (j mid : JobState) (w : Work) (new : JobState) (r : Result Turn NoMemory) → IsJob j → j.over ≡ false → IsWithin (room_of j) w → IsGoneOnWith j.monitor w
+      → mid ≡ record j { desk = mid.desk; pending = None; wants = None } → IfOk r (λ t. IsTurn calls rule mid w t new) → OnErr r (new ≡ mid) → IsJob new
+  rules_after tariff j mid w new (Ok t) rules going within gone is ended kept = kept_of tariff j w t new rules going within gone (turn_before j mid w t new is ended)
+  rules_after tariff j mid w new (Err e) rules going within gone is ended kept = subst IsJob (sym (kept ∙ is)) (clear_rules j mid.desk rules)
 
 pub same_turn : (t u : Turn) → (let one : Result Turn NoMemory = Ok t in let other : Result Turn NoMemory = Ok u in one ≡ other) → t ≡ u
 same_turn t u is = cc

@@ -1,10 +1,8 @@
--- The work of a turn, done and handed over.
+-- The work of a turn, done.
 use Rattle.std.specs.Prelude.{Bool, List, ℕ}
 use Rattle.g_turn.specs.Bounds.{IsWithin}
-use Rattle.g_turn.specs.Making.{IsMade}
-use Rattle.g_turn.specs.State.{Desk, Work}
+use Rattle.g_turn.specs.State.{Work}
 use Rattle.g_turn.specs.Steps.{RanWell}
-use Rattle.g_turn.specs.declared.turn_work.TurnWork.{TurnWork}
 use Rattle.g_job.specs.Beginning.{room_of}
 use Rattle.g_job.specs.Rules.{IsGoneOnWith, IsJob}
 use Rattle.g_job.specs.State.{JobState}
@@ -13,10 +11,8 @@ use Rattle.g_plain.specs.Programs.{Answer}
 use Rattle.g_plain.specs.declared.calls.StoreCall.{StoreCall}
 
 module _ {S : Type 0} (answers : S → List ℕ → StoreCall → Answer → S → Type 0) (is_spent : S → Bool) (can_wait : S → ℕ → Bool) where
-  -- the work of a job's turn was done, from this store to that one, and handed over
-  pub record Makes (j : JobState) (old : S) (left : Desk) (handed : TurnWork) (w : Work) (new : S) : Type 0 where
-    pub rules : IsJob j
-    pub made : IsMade left handed w
+  -- the work of a job's turn was done, from this store to that one
+  pub record Makes (j : JobState) (old : S) (w : Work) (new : S) : Type 0 where
     pub ran : RanWell answers is_spent can_wait j.user old (turn_work j) w new
     pub within : IsWithin (room_of j) w
     pub gone : IsGoneOnWith j.monitor w

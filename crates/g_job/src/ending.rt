@@ -1,50 +1,77 @@
 //! The end of a turn: its charge, its last line, and what the job is then.
-ghost use Rattle.std.specs.Prelude.{◌≡◌, ◌≤◌, ◌+◌, ◌++◌, min, None, Some, false, length, option_map, true, IfOk, IfSome, OnErr, OnOk};
-ghost use Rattle.g_budget.specs.Tariff.{IsCharge, IsTariff};
+ghost use Rattle.std.specs.Prelude.{◌≡◌, ◌+◌, ◌++◌, min, None, Some, false, option_map, true, IfOk, OnErr, OnOk};
+ghost use Rattle.g_budget.specs.Tariff.{IsTariff};
 ghost use Rattle.g_job.specs.Beginning.{room_of};
 ghost use Rattle.g_turn.specs.Bounds.{IsWithin};
 ghost use Rattle.g_job.specs.TurnEnd as ends;
 ghost use Rattle.g_job.specs.Ending.{IsClear, IsWaiting, turn_by, up_text, with_last};
-ghost use Rattle.g_turn.specs.Making.{IsMade};
-ghost use Rattle.g_job.specs.Rules.{IsGoneOnWith};
+ghost use Rattle.g_job.specs.JobValue.{job_of};
+ghost use Rattle.g_job.specs.Rules.{IsGoneOnWith, IsJob};
+ghost use Rattle.g_job.specs.Terminal.{is_ready};
 ghost use Rattle.g_turn.specs.State.{Work};
-ghost use Rattle.g_turn.specs.Values.{pending_of, stop_of};
+ghost use Rattle.g_turn.specs.Values.{stop_of};
 ghost use Rattle.g_lines.specs.Lines.{ended};
 ghost use Rattle.g_monitor.specs.JobLines.{job_line};
 
 use crate::Turn;
-use crate::job::Job;
+use crate::parts::Parts;
 use g_base::NoMemory;
 use g_budget::{Charge, Tariff, Usage};
-use g_monitor::{JobLine, push_job_line};
+use g_monitor::JobLine;
 use g_name::Text;
-use g_turn::{Stop, Suspended, TurnWork};
+use g_turn::{Stop, Work};
 
-impl Job {
-    /// Ends a turn by what it has made.
+impl Parts {
+    /// Ends a turn by what its work has made, which lies where it was made.
     pub(crate) fn end<F: Fn(&Usage) -> Charge>(
         &mut self,
         tariff: &Tariff<F>,
-        made: TurnWork,
     ) -> Result<Turn, NoMemory>
         requires open { self.old.over ≡ false }
-        requires clear { IsClear self.old }
+        requires clear { IsClear (job_of self.old) }
+        requires rules { IsJob (job_of self.old) }
+        requires ready { self.old.ready ≡ is_ready (job_of self.old) }
         requires tariff { IsTariff F.Fn tariff.now }
-        requires well { (w : Work) × IsMade self.old.desk made w × IsWithin (room_of self.old) w
-            × IsGoneOnWith self.old.monitor w }
-        ensures ok { (w : Work) → IsMade self.old.desk made w
-            → IfOk result (λ turn. ends.IsTurn F.Fn tariff.now self.old w turn self.new) }
+        requires within { IsWithin (room_of (job_of self.old)) self.old.work }
+        requires gone { IsGoneOnWith self.old.monitor self.old.work }
+        ensures ok { IfOk result (λ turn.
+            ends.IsTurn F.Fn tariff.now (job_of self.old) self.old.work turn (job_of self.new)) }
+        ensures err { OnErr result (job_of self.new ≡ job_of self.old) }
+        ensures ready { self.new.ready ≡ is_ready (job_of self.new) }
     {
-        match made.stop {
+        let stop = self.work.stop();
+        self.end_by(tariff, stop)
+    }
+
+    /// Ends a turn whose work is over for this, or isn't.
+    fn end_by<F: Fn(&Usage) -> Charge>(
+        &mut self,
+        tariff: &Tariff<F>,
+        stop: Option<Stop>,
+    ) -> Result<Turn, NoMemory>
+        requires open { self.old.over ≡ false }
+        requires clear { IsClear (job_of self.old) }
+        requires rules { IsJob (job_of self.old) }
+        requires ready { self.old.ready ≡ is_ready (job_of self.old) }
+        requires tariff { IsTariff F.Fn tariff.now }
+        requires within { IsWithin (room_of (job_of self.old)) self.old.work }
+        requires gone { IsGoneOnWith self.old.monitor self.old.work }
+        requires stop { option_map stop_of stop ≡ self.old.work.stop }
+        ensures ok { IfOk result (λ turn.
+            ends.IsTurn F.Fn tariff.now (job_of self.old) self.old.work turn (job_of self.new)) }
+        ensures err { OnErr result (job_of self.new ≡ job_of self.old) }
+        ensures ready { self.new.ready ≡ is_ready (job_of self.new) }
+    {
+        match stop {
             Some(Stop::Waits(serial)) => {
-                self.wait_for(serial, made.again);
+                self.wait_for(serial);
                 Ok(Turn::Wants { serial })
             }
             Some(Stop::Broken) => {
-                self.break_off(&made.text)?;
+                self.break_off()?;
                 Ok(Turn::Broken)
             }
-            Some(Stop::Full | Stop::Done) | None => match self.charge(tariff, made) {
+            Some(Stop::Full | Stop::Done) | None => match self.charge(tariff, stop) {
                 Ok(turn) => Ok(turn),
                 Err(NoMemory) => Err(NoMemory),
             },
@@ -55,88 +82,77 @@ impl Job {
     fn charge<F: Fn(&Usage) -> Charge>(
         &mut self,
         tariff: &Tariff<F>,
-        made: TurnWork,
+        stop: Option<Stop>,
     ) -> Result<Turn, NoMemory>
         requires open { self.old.over ≡ false }
-        requires clear { IsClear self.old }
+        requires clear { IsClear (job_of self.old) }
+        requires rules { IsJob (job_of self.old) }
         requires tariff { IsTariff F.Fn tariff.now }
-        requires well { (w : Work) × IsMade self.old.desk made w × IsWithin (room_of self.old) w
-            × IsGoneOnWith self.old.monitor w }
-        requires charged { ends.is_free (option_map stop_of made.stop) ≡ false }
-        ensures ok { (w : Work) → IsMade self.old.desk made w
-            → IfOk result (λ turn. ends.IsTurn F.Fn tariff.now self.old w turn self.new) }
+        requires within { IsWithin (room_of (job_of self.old)) self.old.work }
+        requires stop { option_map stop_of stop ≡ self.old.work.stop }
+        requires charged { ends.is_free (option_map stop_of stop) ≡ false }
+        ensures ok { IfOk result (λ turn.
+            ends.IsTurn F.Fn tariff.now (job_of self.old) self.old.work turn (job_of self.new)) }
+        ensures err { OnErr result (job_of self.new ≡ job_of self.old) }
+        ensures ready { (self.new.ready ≡ self.old.ready)
+            × (is_ready (job_of self.new) ≡ is_ready (job_of self.old)) }
     {
         let usage = Usage {
-            orders: made.orders,
-            blocks: made.blocks,
+            orders: self.work.orders(),
+            blocks: self.work.blocks(),
         };
         let charge = tariff.charge(&usage);
-        let mut made = made;
-        match self.settle(&mut made.text, charge, made.stop) {
-            Ok(turn) => {
-                self.reuse_buffer(made.text);
-                Ok(turn)
-            }
+        match self.settle(charge, stop) {
+            Ok(turn) => Ok(turn),
             Err(NoMemory) => Err(NoMemory),
         }
     }
 
-    /// Takes back the text of a turn, for the room that the next one's has then. It has no more bytes than the
-    /// monitoring file, which keeps them.
-    fn reuse_buffer(&mut self, text: Text)
-        ensures { self.new ≡ self.old }
-    {
-        self.work.reuse_buffer(text);
-    }
-
-    /// The job waits for the reel of this serial, and goes on with this then.
-    fn wait_for(&mut self, serial: u32, again: Option<Suspended>)
-        requires { IsWaiting self.old (option_map pending_of again) }
-        ensures { self.new ≡ record self.old {
-          pending = option_map pending_of again;
+    /// The job waits for the reel of this serial, and goes on with what its work kept for that.
+    fn wait_for(&mut self, serial: u32)
+        requires { IsWaiting (job_of self.old) self.old.work.again }
+        ensures job { job_of self.new ≡ record (job_of self.old) {
+          pending = self.old.work.again;
           wants = Some serial;
         } }
+        ensures ready { self.new.ready ≡ is_ready (job_of self.new) }
     {
-        self.again = again;
+        self.again = self.work.take_again();
         self.wants = Some(serial);
         self.ready = true;
     }
 
     /// The job was stopped: it takes no turn any more.
-    fn break_off(&mut self, text: &Text) -> Result<(), NoMemory>
-        requires open { self.old.over ≡ false }
-        requires clear { IsClear self.old }
-        requires fits { length text.now ≤ room_of self.old }
-        ensures { OnOk result (self.new ≡ record self.old {
-          monitor = self.old.monitor ++ text.now;
+    fn break_off(&mut self) -> Result<(), NoMemory>
+        ensures ok { OnOk result (self.new ≡ record self.old {
+          monitor = self.old.monitor ++ self.old.work.text;
           over = true;
         }) }
+        ensures err { OnErr result (self.new ≡ self.old) }
     {
-        self.monitor.extend(text.as_slice())?;
+        self.monitor.extend(self.work.text().as_slice())?;
         self.over = true;
         Ok(())
     }
 
-    /// Charges a turn that added this text, of each kind no more than is left, and says the job's last line where it
-    /// ends, behind the text.
-    fn settle(
-        &mut self,
-        text: &mut Text,
-        charge: Charge,
-        stop: Option<Stop>,
-    ) -> Result<Turn, NoMemory>
+    /// Charges a turn, of each kind no more than is left, and says the job's last line where it ends, behind what the turn
+    /// adds.
+    fn settle(&mut self, charge: Charge, stop: Option<Stop>) -> Result<Turn, NoMemory>
         requires open { self.old.over ≡ false }
-        requires clear { IsClear self.old }
-        requires fits { length text.old ≤ room_of self.old }
-        requires charge { IsCharge charge }
+        requires clear { IsClear (job_of self.old) }
+        requires rules { IsJob (job_of self.old) }
         requires charged { ends.is_free (option_map stop_of stop) ≡ false }
-        ensures ok { (w : Work) → w.desk ≡ self.old.desk → w.text ≡ text.old → IfOk result (λ turn.
-            (turn, self.new) ≡ ends.charged_end (option_map stop_of stop) self.old w charge) }
+        ensures ok { (w : Work) → w.desk ≡ self.old.work.desk → w.text ≡ self.old.work.text
+            → IfOk result (λ turn. (turn, job_of self.new)
+            ≡ ends.charged_end (option_map stop_of stop) (job_of self.old) w charge) }
+        ensures err { OnErr result (job_of self.new ≡ job_of self.old) }
+        ensures ready { (self.new.ready ≡ self.old.ready)
+            × (is_ready (job_of self.new) ≡ is_ready (job_of self.old)) }
     {
         let last = self.last_line(stop, charge);
         let units = at_most_left(charge.units, self.allowance - self.used);
         let money = at_most_left(charge.money, self.money - self.used_money);
-        add(&mut self.monitor, text, last)?;
+        add(&mut self.monitor, &mut self.work, last)?;
         self.used += units;
         self.used_money += money;
         self.turns += 1;
@@ -146,9 +162,10 @@ impl Job {
 
     /// The last line of the job behind a turn of this charge, where the job ends.
     fn last_line(&self, stop: Option<Stop>, charge: Charge) -> Option<JobLine>
+        requires rules { IsJob (job_of self.now) }
         requires charged { ends.is_free (option_map stop_of stop) ≡ false }
         ensures line { (w : Work) → option_map job_line result
-            ≡ ends.last_line (option_map stop_of stop) self.now charge (ends.charged self.now w charge) }
+            ≡ ends.last_line (option_map stop_of stop) (job_of self.now) charge (ends.charged (job_of self.now) w charge) }
     {
         let used = self.used + at_most_left(charge.units, self.allowance - self.used);
         let used_money = self.used_money + at_most_left(charge.money, self.money - self.used_money);
@@ -184,25 +201,24 @@ fn up_line(time_up: bool, money_up: bool, used: u64, used_money: u64) -> Option<
     }
 }
 
-/// Puts a text behind a monitoring file, and behind both the last line, where there is one. It is put behind the text first, in
-/// whose room it is made. Where memory is wanting, the file is as it was.
-fn add(monitor: &mut Text, text: &mut Text, last: Option<JobLine>) -> Result<(), NoMemory>
-    ensures ok { OnOk result (monitor.new ≡ with_last (monitor.old ++ text.old) (option_map ended (option_map job_line last))) }
+/// Puts what a turn adds behind a monitoring file, and behind both the last line, where there is one. It is put behind what
+/// the turn adds first, in whose room it is made. Where memory is wanting, the file is as it was.
+fn add(monitor: &mut Text, work: &mut Work, last: Option<JobLine>) -> Result<(), NoMemory>
+    ensures ok { OnOk result (monitor.new ≡ with_last (monitor.old ++ work.old.text) (option_map ended (option_map job_line last))) }
     ensures err { OnErr result (monitor.new ≡ monitor.old) }
+    ensures desk { work.new.desk ≡ work.old.desk }
 {
-    push_last(text, last)?;
-    add_text(monitor, text)
+    push_last(work, last)?;
+    add_text(monitor, work.text())
 }
 
-/// Puts a last line with its byte 10 behind a text, where there is one.
-fn push_last(text: &mut Text, last: Option<JobLine>) -> Result<(), NoMemory>
-    ensures { OnOk result (text.new ≡ with_last text.old (option_map ended (option_map job_line last))) }
+/// Puts a last line with its byte 10 behind what a turn adds, where there is one.
+fn push_last(work: &mut Work, last: Option<JobLine>) -> Result<(), NoMemory>
+    ensures ok { OnOk result (work.new.text ≡ with_last work.old.text (option_map ended (option_map job_line last))) }
+    ensures desk { work.new.desk ≡ work.old.desk }
 {
     match last {
-        Some(line) => {
-            push_job_line(text, line)?;
-            text.push(b'\n')
-        }
+        Some(line) => work.push_last(line),
         None => Ok(()),
     }
 }

@@ -16,6 +16,7 @@ ghost use Rattle.g_plain.specs.Runs.{RanBy};
 ghost use Rattle.g_sched.specs.Rule.{IsInRange};
 
 use crate::new_job::NewJob;
+use crate::parts::Parts;
 use crate::turn::Turn;
 use g_base::NoMemory;
 use g_budget::{Charge, Tariff, Usage};
@@ -25,7 +26,7 @@ use g_name::{Local, Text, User};
 use g_peri::Units;
 use g_plain::Filestore;
 use g_sched::Standing;
-use g_turn::{Suspended, Work};
+use g_turn::Work;
 use std::alloc::Global;
 use std::marker::Model;
 
@@ -33,24 +34,7 @@ use std::marker::Model;
 /// monitoring file. Contracts see a `JobState` (`docs/DEFINITIONS.md`, "A job and its turn").
 #[derive(Debug, Drop)]
 pub struct Job {
-    pub(crate) number: u64,
-    pub(crate) name: Local,
-    pub(crate) user: User,
-    pub(crate) allowance: u64,
-    pub(crate) money: u64,
-    pub(crate) used: u64,
-    pub(crate) used_money: u64,
-    pub(crate) turns: u64,
-    pub(crate) work: Work,
-    /// What the next turn goes on with, where the last one waited.
-    pub(crate) again: Option<Suspended>,
-    pub(crate) wants: Option<u32>,
-    pub(crate) monitor: Text,
-    pub(crate) over: bool,
-    /// The terminal at which it is, if it is at one.
-    pub(crate) terminal: Option<u8>,
-    /// Whether it may go on, which is looked at once a turn and at each line that is typed.
-    pub(crate) ready: bool,
+    pub(crate) parts: Parts,
 }
 
 impl Model for Job {
@@ -67,9 +51,9 @@ impl Model for Job {
     ghost use Rattle.g_job.specs.Rules.{IsJob};
     ghost use Rattle.g_job.specs.Terminal.{is_ready};
 
-    ghost view = { job_of };
+    ghost view = { λ j. job_of j.parts };
 
-    ghost invariant = { λ j. IsJob (job_of j) × (j.ready ≡ is_ready (job_of j)) };
+    ghost invariant = { λ j. IsJob (job_of j.parts) × (j.parts.ready ≡ is_ready (job_of j.parts)) };
 }
 
 impl Job {
@@ -94,21 +78,23 @@ impl Job {
         let mut work = Work::new(alloc, levels, units);
         work.reuse_buffer(with_room(alloc)?);
         Ok(Job {
-            number,
-            name,
-            user,
-            allowance: time,
-            money,
-            used: 0,
-            used_money: 0,
-            turns: 0,
-            work,
-            again: None,
-            wants: None,
-            monitor,
-            over: false,
-            terminal: None,
-            ready: true,
+            parts: Parts {
+                number,
+                name,
+                user,
+                allowance: time,
+                money,
+                used: 0,
+                used_money: 0,
+                turns: 0,
+                work,
+                again: None,
+                wants: None,
+                monitor,
+                over: false,
+                terminal: None,
+                ready: true,
+            },
         })
     }
 
@@ -146,11 +132,8 @@ impl Job {
         ensures seat { IfOk result (λ turn. KeepsSeat self.old self.new) }
         ensures waited { (s : ℕ) → result ≡ Ok (Turn.Wants s) → ToldAsBefore self.old self.new }
     {
-        match self.make(alloc, store) {
-            Ok(made) => match self.end(tariff, made) {
-                Ok(turn) => Ok(turn),
-                Err(NoMemory) => Err(NoMemory),
-            },
+        match self.parts.make(alloc, store) {
+            Ok(()) => self.parts.end(tariff),
             Err(NoMemory) => Err(NoMemory),
         }
     }
@@ -161,35 +144,35 @@ impl Job {
         ensures bytes { result.now ≡ self.now.monitor }
         ensures most { length self.now.monitor ≤ most_bytes self.now.over }
     {
-        self.monitor.as_slice()
+        self.parts.monitor.as_slice()
     }
 
     /// The serial of the reel for which the last turn waits, if it does.
     pub fn wants(&self) -> Option<u32>
         ensures { result ≡ self.now.wants }
     {
-        self.wants
+        self.parts.wants
     }
 
     /// The user whose job it is.
     pub fn user(&self) -> &User
         ensures { result.now ≡ self.now.user }
     {
-        &self.user
+        &self.parts.user
     }
 
     /// Its allowance of MONEY, in units.
     pub fn money(&self) -> u64
         ensures { result ≡ self.now.money }
     {
-        self.money
+        self.parts.money
     }
 
     /// The units of MONEY charged so far.
     pub fn used_money(&self) -> u64
         ensures { result ≡ self.now.used_money }
     {
-        self.used_money
+        self.parts.used_money
     }
 
     /// Where the job stands, by which the next turn is chosen: its number, the units of TIME charged so far, its
@@ -199,10 +182,10 @@ impl Job {
         ensures in_range { IsInRange result }
     {
         Standing {
-            number: self.number,
-            used: self.used,
-            allowance: self.allowance,
-            turns: self.turns,
+            number: self.parts.number,
+            used: self.parts.used,
+            allowance: self.parts.allowance,
+            turns: self.parts.turns,
         }
     }
 }

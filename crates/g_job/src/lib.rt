@@ -7,6 +7,7 @@ mod job;
 mod laws;
 mod making;
 mod new_job;
+mod parts;
 mod terminal;
 mod turn;
 

@@ -1,34 +1,38 @@
 //! The work of a turn of a job, up to its end.
-ghost use Rattle.std.specs.Prelude.{◌≡◌, ℕ, None, false, IfOk, OnErr, OnOk};
+ghost use Rattle.std.specs.Prelude.{◌≡◌, ℕ, None, false, OnErr, OnOk};
+ghost use Rattle.g_job.specs.JobValue.{job_of};
 ghost use Rattle.g_job.specs.Making.{Makes};
-ghost use Rattle.g_turn.specs.State.{Work};
+ghost use Rattle.g_job.specs.Rules.{IsJob};
+ghost use Rattle.g_job.specs.Terminal.{is_ready};
 ghost use Rattle.g_job.specs.Turns.{turn_work};
 ghost use Rattle.g_plain.specs.Programs.{RanInPart};
 
-use crate::job::Job;
+use crate::parts::Parts;
 use g_base::NoMemory;
 use g_plain::Filestore;
-use g_turn::{Asker, Suspended, TurnWork};
+use g_turn::{Asker, Suspended};
 use std::alloc::Global;
 
 /// The most bytes of a monitoring file, before its last line.
 const MOST: usize = 1_048_576;
 
-impl Job {
-    /// Does the work of a turn, which takes what waited, and hands over what it has made.
+impl Parts {
+    /// Does the work of a turn, which takes what waited.
     pub(crate) fn make<S: Filestore>(
         &mut self,
         alloc: Global,
         store: &mut S,
-    ) -> Result<TurnWork, NoMemory>
+    ) -> Result<(), NoMemory>
         requires running { S.is_spent store.old ≡ false }
         requires open { self.old.over ≡ false }
-        ensures ok { IfOk result (λ made. (w : Work) × Makes S.answers S.is_spent S.can_wait
-            self.old store.old self.new.desk made w store.new) }
-        ensures job { OnOk result
-            (self.new ≡ record self.old { desk = self.new.desk; pending = None; wants = None }) }
+        requires rules { IsJob (job_of self.old) }
+        ensures ok { OnOk result (Makes S.answers S.is_spent S.can_wait
+            (job_of self.old) store.old self.new.work store.new) }
+        ensures job { job_of self.new
+            ≡ record (job_of self.old) { desk = self.new.work.desk; pending = None; wants = None } }
+        ensures ready { self.new.ready ≡ is_ready (job_of self.new) }
         ensures err { OnErr result
-            (RanInPart S.answers self.old.user store.old (turn_work self.old) store.new) }
+            (RanInPart S.answers self.old.user store.old (turn_work (job_of self.old)) store.new) }
         ensures same_waits { (s : ℕ) → S.can_wait store.new s ≡ S.can_wait store.old s }
     {
         let room = MOST - self.monitor.as_slice().len();
@@ -43,7 +47,7 @@ impl Job {
         match self.work.go(store, &asker, again) {
             Ok(()) => {
                 self.ready = self.work.ready();
-                Ok(self.work.take_made(alloc))
+                Ok(())
             }
             Err(NoMemory) => {
                 self.ready = self.work.ready();

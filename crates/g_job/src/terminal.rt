@@ -13,15 +13,15 @@ impl Job {
     pub fn hold(&mut self)
         ensures { self.new ≡ terminals.held self.old }
     {
-        self.work.hold();
-        self.ready = self.again.is_some() || self.work.ready();
+        self.parts.work.hold();
+        self.parts.ready = self.parts.again.is_some() || self.parts.work.ready();
     }
 
     /// The job is at this terminal.
     pub fn seat(&mut self, terminal: u8)
         ensures { self.new ≡ terminals.seated terminal self.old }
     {
-        self.terminal = Some(terminal);
+        self.parts.terminal = Some(terminal);
     }
 
     /// Puts a line behind those of the document; without memory nothing changes.
@@ -31,8 +31,8 @@ impl Job {
         ensures err { OnErr result (self.new ≡ self.old) }
     {
         let ready = self.ready_with(line.as_slice());
-        self.work.add_line(line)?;
-        self.ready = ready;
+        self.parts.work.add_line(line)?;
+        self.parts.ready = ready;
         Ok(())
     }
 
@@ -40,15 +40,15 @@ impl Job {
     fn ready_with(&self, line: &[u8]) -> bool
         ensures { result ≡ terminals.is_ready (terminals.typed_to line.now self.now) }
     {
-        self.ready || self.work.ready_with(line)
+        self.parts.ready || self.parts.work.ready_with(line)
     }
 
     /// No more lines are to come: the job ends as any other does.
     pub fn finish(&mut self)
         ensures { self.new ≡ terminals.logged_out self.old }
     {
-        self.work.finish();
-        self.ready = true;
+        self.parts.work.finish();
+        self.parts.ready = true;
     }
 
     /// Whether the job can go on before more lines come, be it that it waits for a reel or not: a run of its program isn't
@@ -57,20 +57,20 @@ impl Job {
     pub fn ready(&self) -> bool
         ensures { result ≡ terminals.is_ready self.now }
     {
-        self.ready
+        self.parts.ready
     }
 
     /// The terminal at which it is, if it is at one.
     pub fn terminal(&self) -> Option<u8>
         ensures { result ≡ self.now.terminal }
     {
-        self.terminal
+        self.parts.terminal
     }
 
     /// Whether its document is held open.
     pub fn held(&self) -> bool
         ensures { result ≡ self.now.desk.levels.held }
     {
-        self.work.is_held()
+        self.parts.work.is_held()
     }
 }

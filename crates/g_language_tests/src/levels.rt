@@ -67,7 +67,7 @@ fn begun(alloc: Global, document: &[u8]) -> Result<Levels, Fail>
 
 /// Whether the next line is this one.
 fn next_is(alloc: Global, levels: &mut Levels, line: &[u8]) -> Result<bool, Fail> {
-    match levels.next_line(alloc)? {
+    match levels.next_line(Text::new(alloc))? {
         Some(told) => Ok(told.as_slice() == line),
         None => Ok(false),
     }
@@ -75,7 +75,7 @@ fn next_is(alloc: Global, levels: &mut Levels, line: &[u8]) -> Result<bool, Fail
 
 /// Whether the next line is refused for its length, with this front.
 fn next_is_cut(alloc: Global, levels: &mut Levels, front: &[u8]) -> bool {
-    match levels.next_line(alloc) {
+    match levels.next_line(Text::new(alloc)) {
         Err(MacroFault::TooLong(told)) => told.as_slice() == front,
         _ => false,
     }
@@ -115,14 +115,14 @@ fn long_lines(rt: HostRuntime) -> Result<(), Fail> {
     assert!(rt; next_is(rt.alloc(), &mut levels, &long)?);
     assert!(rt; next_is_cut(rt.alloc(), &mut levels, &long));
     assert!(rt; next_is(rt.alloc(), &mut levels, b"END")?);
-    assert!(rt; levels.next_line(rt.alloc())?.is_none());
+    assert!(rt; levels.next_line(Text::new(rt.alloc()))?.is_none());
     Ok(())
 }
 
 /// Takes this line, and then goes to a label.
 fn go_behind(alloc: Global, levels: &mut Levels, line: &[u8], label: &[u8]) -> Result<(), Fail> {
     let label = Label::new(label).ok_or("no label")?;
-    let Some(told) = levels.next_line(alloc)? else {
+    let Some(told) = levels.next_line(Text::new(alloc))? else {
         return Err("no line".into());
     };
     if told.as_slice() != line {
@@ -217,7 +217,7 @@ fn let_wait_behind(
     let Command::Whenever { cond, command } = command else {
         return Err("another command".into());
     };
-    let Some(told) = levels.next_line(alloc)? else {
+    let Some(told) = levels.next_line(Text::new(alloc))? else {
         return Err("no line".into());
     };
     if told.as_slice() != next {

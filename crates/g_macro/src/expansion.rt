@@ -9,7 +9,6 @@ use arrayvec::ArrayVec;
 use g_base::NoMemory;
 use g_lang::{is_input_line, is_param_letter};
 use g_name::Text;
-use std::alloc::Global;
 
 /// The most bytes of a line.
 const MOST: usize = 240;
@@ -57,32 +56,43 @@ impl Front {
     }
 }
 
-/// A line once the parameters are put in. One that has no `%` is copied as it stands.
-pub(crate) fn fill_in(alloc: Global, params: &[Text], line: &[u8]) -> Result<Filled, NoMemory>
+/// A line once the parameters are put in, in the room of a text whose own bytes are dropped. One that has no `%` is copied
+/// as it stands.
+pub(crate) fn fill_in(room: Text, params: &[Text], line: &[u8]) -> Result<Filled, NoMemory>
     requires { length params.now ≡ 24 }
     ensures { IfOk result (IsFilled (expansion.substituted params.now line.now)) }
 {
     if line.len() <= MOST && !line.contains(&b'%') {
-        let text = Text::from_slice(alloc, line)?;
+        let text = refilled(room, line)?;
         return Ok(Filled {
             text,
             is_cut: false,
         });
     }
-    expanded(alloc, params, line)
+    expanded(room, params, line)
 }
 
 /// The same by way of a front. That is large, so a line that has no `%` doesn't make one.
-fn expanded(alloc: Global, params: &[Text], line: &[u8]) -> Result<Filled, NoMemory>
+fn expanded(room: Text, params: &[Text], line: &[u8]) -> Result<Filled, NoMemory>
     requires { length params.now ≡ 24 }
     ensures { IfOk result (IsFilled (expansion.substituted params.now line.now)) }
 {
     let front = expand(params, line);
-    let text = Text::from_slice(alloc, front.bytes.as_slice())?;
+    let text = refilled(room, front.bytes.as_slice())?;
     Ok(Filled {
         text,
         is_cut: front.is_cut,
     })
+}
+
+/// These bytes in the room of a text, whose own are dropped.
+fn refilled(room: Text, bytes: &[u8]) -> Result<Text, NoMemory>
+    ensures { IfOk result (λ text. text ≡ bytes.now) }
+{
+    let mut all = Vec::from(room);
+    all.clear();
+    all.extend_from_slice(bytes)?;
+    Ok(Text::from(all))
 }
 
 /// Whether the verb of a line is INPUT once the parameters are put in; a line that is longer than 240 bytes then is none.

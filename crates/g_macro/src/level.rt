@@ -86,11 +86,11 @@ impl Level {
         self.cursor.line()
     }
 
-    /// A line, with the parameters put in.
-    pub fn filled(&self, alloc: Global, line: &[u8]) -> Result<Filled, NoMemory>
+    /// A line, with the parameters put in, in the room of this text.
+    pub fn filled(&self, room: Text, line: &[u8]) -> Result<Filled, NoMemory>
         ensures { IfOk result (IsFilled (substituted self.now.params line.now)) }
     {
-        fill_in(alloc, self.params.as_slice(), line)
+        fill_in(room, self.params.as_slice(), line)
     }
 
     /// Counts the next line as taken, which has so many bytes with its byte 10.
@@ -220,7 +220,7 @@ fn filled_up(alloc: Global, params: Vec<Text>) -> Result<Vec<Text>, NoMemory>
     let mut all = params;
     all.reserve(PARAMS)?;
     for _ in all.len()..PARAMS {
-        all.push(Text::new(alloc))?;
+        all.push_reserved(Text::new(alloc));
     }
     Ok(all)
 }

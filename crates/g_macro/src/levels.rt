@@ -55,9 +55,10 @@ impl Levels {
     }
 
     /// Takes the next line, with the parameters of its level put in. Levels on top that have no line are dropped before.
+    /// It is made in the room of a text whose own bytes are dropped: that of the last line, as a rule.
     ///
     /// `None` where no level has a line. A line above 240 bytes is refused, and counts as taken.
-    pub fn next_line(&mut self, alloc: Global) -> Result<Option<Text>, MacroFault>
+    pub fn next_line(&mut self, room: Text) -> Result<Option<Text>, MacroFault>
         ensures line { replies.TakesLine self.old self.new result }
         ensures current { IfOk result (λ line. IsSome line → 0 < length self.new.levels) }
     {
@@ -69,7 +70,7 @@ impl Levels {
         let level = &self.levels[live - 1];
         let line = level.line();
         let bytes = line.len() + 1;
-        let filled = level.filled(alloc, line)?;
+        let filled = level.filled(room, line)?;
         self.levels.truncate(live);
         self.levels[live - 1].pass_line(bytes);
         if filled.is_cut {

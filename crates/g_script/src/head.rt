@@ -1,5 +1,5 @@
 //! The first line of an item: its turn, and what is asked for.
-ghost use Rattle.std.specs.Prelude.{◌≡◌, None, Some, IfOk, MatchOption};
+ghost use Rattle.std.specs.Prelude.{◌≡◌, None, Some, IfOk, IsTrue, MatchOption};
 ghost use Rattle.g_script.specs.HeadReader as how;
 ghost use Rattle.g_verbs.specs.VerbReader as verbs;
 
@@ -62,6 +62,9 @@ pub(crate) fn head_of(alloc: Global, line: &[u8]) -> Result<Option<Head>, NoMemo
 fn what_of(alloc: Global, text: &[u8]) -> Result<Option<What>, NoMemory>
     ensures { IfOk result (λ what. what ≡ how.what_read text.now) }
 {
+    if begins_as_job(text) {
+        return Ok(job(text));
+    }
     if let Some(operator) = word(text) {
         return Ok(Some(What::Bare(operator)));
     }
@@ -78,6 +81,16 @@ fn what_of(alloc: Global, text: &[u8]) -> Result<Option<What>, NoMemory>
         return Ok(Some(What::Bare(operator)));
     }
     Ok(job(text))
+}
+
+/// Whether a text begins as JOB does, and nothing else: its first byte tells it, and no other word is looked for.
+fn begins_as_job(text: &[u8]) -> bool
+    ensures { IsTrue result → how.what_read text.now ≡ how.job_read text.now }
+{
+    match text.split_first() {
+        Some((first, _)) => *first == b'J',
+        None => false,
+    }
 }
 
 /// An operator that is a word alone.

@@ -1,12 +1,12 @@
 -- Units that are released one after the other.
-use Rattle.std.proofs.Common.{◌≡◌, ℕ, suc, ◌+◌, ◌<◌, ◌≤◌, Bool, true, false, List, [], ◌∷◌, ◌++◌, length, nat_lt, drop, replicate, append_assoc, add-one, Option, Some, None, Ok, Err, if◌then◌else◌, refl, sym, ap, subst, ◌∙◌, arith}
+use Rattle.std.proofs.Common.{◌≡◌, ℕ, suc, zero, ◌+◌, ◌<◌, ◌≤◌, Bool, true, false, List, [], ◌∷◌, ◌++◌, length, nat_lt, drop, replicate, append_assoc, add-one, Option, Some, None, Ok, Err, if◌then◌else◌, refl, sym, ap, subst, ◌∙◌, arith}
 use Rattle.std.proofs.Math.Seq.{drop-cons, set-append_seam}
 use Rattle.std.proofs.Math.ListN.{drop_of_length-le}
 use Rattle.std.proofs.lemmas.List.{append-nil, drop-set-lt, length-append, length-drop, length-replicate, length-set, replicate-append-replicate}
 use Rattle.std.specs.Prelude.{slice_index_or, slice_set}
 use Rattle.g_turn.specs.Asking.{put, put_told}
 use Rattle.g_turn.specs.Bounds.{AlwaysGives, MayAnswer}
-use Rattle.g_turn.specs.Releases.{release_each, release_one, without_readers}
+use Rattle.g_turn.specs.Releases.{release_all, release_each, release_one, without_readers}
 use Rattle.g_turn.specs.Outcomes.{set_outcome, done, is_over, refused, say, stopped, with_bytes, with_units}
 use Rattle.g_turn.specs.State.{Full, Work}
 use Rattle.g_turn.specs.Steps.{RanWell}
@@ -19,8 +19,8 @@ use Rattle.g_monitor.specs.Refusals.{fault_line}
 use Rattle.g_monitor.specs.Replies.{last_line}
 use Rattle.g_monitor.specs.declared.job_lines.Mark.TheVariants as mark
 use Rattle.g_name.specs.declared.path.Path.{Path}
-use Rattle.g_peri.specs.JobUnits.{Held, at_place, with_reader, with_writer}
-use Rattle.g_plain.specs.Programs.{Answer, Asks, RanInPart}
+use Rattle.g_peri.specs.JobUnits.{Held, at_place, vacant, with_reader, with_writer}
+use Rattle.g_plain.specs.Programs.{Answer, Asks, Gives, RanInPart}
 use Rattle.g_plain.specs.declared.calls.StoreCall.{StoreCall}
 use Rattle.g_plain.specs.declared.calls.StoreCall.TheVariants as call
 use Rattle.g_plain.specs.declared.calls.StoreReply.TheVariants.{Made}
@@ -164,3 +164,19 @@ module _ {S : Type 0} (answers : S → List ℕ → StoreCall → Answer → S �
   none_left w s last =
       subst (λ (outputs : List (Option (Path × List ℕ))). RanWell answers is_spent can_wait who s (release_each room place outputs w) w s) (sym (drop_of_length-le w.desk.units.writers last))
       (refl, refl)
+
+-- where no unit was assigned none is released
+module _ {S : Type 0} (answers : S → List ℕ → StoreCall → Answer → S → Type 0) (is_spent : S → Bool) (can_wait : S → ℕ → Bool) (who : List ℕ) (room : ℕ) where
+  each_unused : (n place : ℕ) (w : Work) (s : S) → is_over w ≡ false
+      → RanWell answers is_spent can_wait who s (release_each room place (let none : Option (Path × List ℕ) = None in replicate n none) w) w s
+  each_unused zero place w s goes = (refl, refl)
+  each_unused (suc n) place w s goes =
+      let none : Option (Path × List ℕ) = None in
+      subst (λ (b : Bool). RanWell answers is_spent can_wait who s (if b then Gives w else release_each room (place + 1) (replicate n none) w) w s) (sym goes) (each_unused n (place + 1) w s goes)
+
+  pub all_unused : (w : Work) (s : S) → w.desk.units ≡ vacant → is_over w ≡ false → RanWell answers is_spent can_wait who s (release_all room w) w s
+  all_unused w s unused goes =
+      let none : Option (Path × List ℕ) = None in
+      let same : with_units vacant w ≡ w = ap (λ (u : Held). with_units u w) (sym unused) in
+      subst (λ (u : Held). RanWell answers is_spent can_wait who s (release_each room 0 u.writers (with_units (record u { readers = replicate 8 None }) w)) w s) (sym unused)
+      (subst (λ (v : Work). RanWell answers is_spent can_wait who s (release_each room 0 (replicate 16 none) v) w s) (sym same) (each_unused 16 0 w s goes))

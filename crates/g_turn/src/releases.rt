@@ -156,7 +156,8 @@ impl Work {
         }
     }
 
-    /// Releases all units, the readers, the printers, the punches, each by their numbers.
+    /// Releases all units, the readers, the printers, the punches, each by their numbers. Of a job that assigned none, as
+    /// most are, it looks at none.
     fn release_all<S: Filestore>(
         &mut self,
         store: &mut S,
@@ -173,6 +174,9 @@ impl Work {
         ensures same_waits { (s : ℕ) → S.can_wait store.new s ≡ S.can_wait store.old s }
         ensures blocks { OnOk result (self.new.blocks ≤ self.old.blocks + 2048) }
     {
+        if self.units.are_unused() {
+            return Ok(());
+        }
         self.release_readers();
         for place in 0..WRITERS {
             match self.release_place(store, asker, place) {

@@ -1,7 +1,7 @@
 //! The work of a turn: what waited, a run of the program that goes on, or the next line.
 ghost use Rattle.std.specs.Prelude.{◌≡◌, ◌≤◌, ◌<◌, ℕ, [], None, false, length, is_some, option_map, true, IfOk, IfSome, OnErr, OnOk};
 ghost use Rattle.g_turn.specs.LineWork.{IsAgain, IsReady};
-ghost use Rattle.g_turn.specs.Making.{FewBlocks, HasLevel, IsMade, taken_as};
+ghost use Rattle.g_turn.specs.Making.{FewBlocks, HasLevel, taken_as};
 ghost use Rattle.g_turn.specs.Outcomes as said;
 ghost use Rattle.g_turn.specs.Outcomes.{with_levels};
 ghost use Rattle.g_turn.specs.Steps.{RanWell};
@@ -13,7 +13,6 @@ ghost use Rattle.g_plain.specs.Programs.{RanInPart};
 use crate::asker::Asker;
 use crate::room::empty;
 use crate::suspended::Suspended;
-use crate::turn_work::TurnWork;
 use crate::work::Work;
 use g_base::NoMemory;
 use g_macro::MacroFault;
@@ -46,8 +45,17 @@ impl Work {
         self.orders = 0;
         self.blocks = 0;
         self.sets = false;
-        self.again = None;
+        self.drop_again();
         self.stop = None;
+    }
+
+    /// Nothing is gone on with any more. The room of a line's text stays, for the next line.
+    fn drop_again(&mut self)
+        ensures { self.new ≡ record self.old { again = None } }
+    {
+        if let Some(Suspended::Line(text)) = self.again.take() {
+            self.line_room = text;
+        }
     }
 
     /// Takes back a text that was handed over, for its room alone: the next turn begins with it, and takes memory only
@@ -56,20 +64,6 @@ impl Work {
         ensures { self.new ≡ record self.old { text = text } }
     {
         self.text = text;
-    }
-
-    /// Hands over what the turn has made, all but the desk, which stays. It takes no memory.
-    pub fn take_made(&mut self, alloc: Global) -> TurnWork
-        ensures made { IsMade self.old.desk result self.old }
-        ensures desk { self.new.desk ≡ self.old.desk }
-    {
-        TurnWork {
-            text: mem::replace(&mut self.text, Text::new(alloc)),
-            orders: self.orders,
-            blocks: self.blocks,
-            again: self.again.take(),
-            stop: self.stop,
-        }
     }
 
     /// Does the work of a turn for the user `who`, whose monitoring file has room for so many bytes: goes on with what
@@ -194,7 +188,7 @@ impl Work {
         }
     }
 
-    /// The next line of the levels.
+    /// The next line of the levels, made in the room of the last one.
     fn take_line(&mut self, alloc: Global) -> Result<Next, NoMemory>
         ensures taken { IfOk result (λ next.
             (next_line self.old.desk.levels).0 ≡ taken_as next) }
@@ -202,7 +196,8 @@ impl Work {
             (self.new ≡ with_levels (next_line self.old.desk.levels).1 self.old) }
         ensures level { IfOk result (λ next. HasLevel next self.new) }
     {
-        match self.levels.next_line(alloc) {
+        let room = mem::replace(&mut self.line_room, Text::new(alloc));
+        match self.levels.next_line(room) {
             Ok(Some(text)) => Ok(Next::Line(text)),
             Ok(None) => Ok(Next::Nothing),
             Err(MacroFault::TooLong(front)) => Ok(Next::TooLong(front)),

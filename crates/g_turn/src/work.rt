@@ -26,6 +26,8 @@ pub struct Work {
     pub(crate) sets: bool,
     pub(crate) again: Option<Suspended>,
     pub(crate) stop: Option<Stop>,
+    /// The room of the last line's text, in which the next one is made. Contracts don't see it.
+    pub(crate) line_room: Text,
 }
 
 impl Model for Work {
@@ -96,6 +98,7 @@ impl Work {
             sets: false,
             again: None,
             stop: None,
+            line_room: Text::new(alloc),
         }
     }
 }

@@ -1,64 +1,101 @@
-use Rattle.std.proofs.Common.{subst}
+use Rattle.std.proofs.Common.{IfOk, None, ap, subst, ◌∙◌}
+use Rattle.std.proofs.lemmas.Result.{IfOk-weaker}
+use Rattle.g_job.specs.JobValue.{job_of}
+use Rattle.g_job.specs.Making.{Makes}
+use Rattle.g_job.specs.Rules.{IsJob}
+use Rattle.g_job.specs.State.{JobState}
 use Rattle.g_job.specs.TurnEnd.{IsTurn}
 use Rattle.g_job.specs.Turns.{turn_work}
-use Rattle.g_job.specs.declared.turn.Turn.TheVariants as turn
 use Rattle.g_job.proofs.TerminalLemmas.{keeps_seat, turn_leaves}
-use Rattle.g_job.proofs.TurnLemmas.{same_turn, spends_of, stopped_of, told, told_before, turn_before, waits_of}
+use Rattle.g_job.proofs.TurnLemmas.{rules_after, spends_of, stopped_of, told, told_before, turn_before, waits_of}
 use Rattle.g_job.proofs.WellLemmas.{turn_spent, turn_waits}
+use Rattle.g_turn.proofs.ReadyLemmas.{on_err}
 use Rattle.g_turn.proofs.WellThen.{part_whole}
 use Rattle.g_job.proofs.job.Job.turn.Goals as goal
 
--- the end of the work that was made
-pub returns-in-Ok-end-clause-ok : goal.returns-in-Ok-end-clause-ok
-returns-in-Ok-end-clause-ok g c =
-    let answers = told g.S.Filestore.answers g.S.Filestore.is_spent g.S.Filestore.can_wait c.args.self.now c.args.store.now c.in-Ok.ensures.ok.0 c.make.new.store c.in-Ok.ensures.ok.1.ran in (
-      answers.0,
-      c.in-Ok.ensures.ok.0,
-      answers.1,
-      answers.2,
-      c.in-Ok.ensures.ok.1.within,
-      (turn_before g.F.Fn c.args.tariff.now c.args.self.now c.make.new.self c.in-Ok.ensures.ok.0 c.in-Ok-end.turn c.end.new.self c.in-Ok.ensures.job
-          (c.in-Ok-end.ensures.ok c.in-Ok.ensures.ok.0 c.in-Ok.ensures.ok.1.made)),
+-- the rules behind the end of the work that was made
+pub invariant_of-self : goal.invariant_of-self
+invariant_of-self g c =
+    let made : Makes g.S.Filestore.answers g.S.Filestore.is_spent g.S.Filestore.can_wait c.args.self.now c.args.store.now c.make.new.self.work c.make.new.store =
+    subst (λ (j : JobState). Makes g.S.Filestore.answers g.S.Filestore.is_spent g.S.Filestore.can_wait j c.args.store.now c.make.new.self.work c.make.new.store) c.self.view_is c.in-Ok.ensures.ok in
+    let rules : IsJob c.args.self.now = subst IsJob c.self.view_is c.self.invariant.0 in (
+      rules_after g.F.Fn c.args.tariff.now c.requires.tariff c.args.self.now (job_of c.make.new.self) c.make.new.self.work (job_of c.end.new.self) c.end.result rules c.requires.open made.within made.gone
+          (c.make.ensures.job ∙ ap (λ (j : JobState). record j { desk = c.make.new.self.work.desk; pending = None; wants = None }) c.self.view_is) c.end.ensures.ok c.end.ensures.err,
+      c.end.ensures.ready,
     )
 
-pub returns-in-Ok-end-clause-waits : goal.returns-in-Ok-end-clause-waits
-returns-in-Ok-end-clause-waits g c = λ serial is.
-    turn_waits g.S.Filestore.answers g.S.Filestore.is_spent g.S.Filestore.can_wait c.args.self.now c.args.store.now c.in-Ok.ensures.ok.0 c.make.new.store serial c.in-Ok.ensures.ok.1.ran
-    (waits_of g.F.Fn c.args.tariff.now c.args.self.now c.in-Ok.ensures.ok.0 serial c.end.new.self
-    (subst (λ given. IsTurn g.F.Fn c.args.tariff.now c.args.self.now c.in-Ok.ensures.ok.0 given c.end.new.self) (same_turn c.in-Ok-end.turn (turn.Wants serial) is)
-    (turn_before g.F.Fn c.args.tariff.now c.args.self.now c.make.new.self c.in-Ok.ensures.ok.0 c.in-Ok-end.turn c.end.new.self c.in-Ok.ensures.job
-    (c.in-Ok-end.ensures.ok c.in-Ok.ensures.ok.0 c.in-Ok.ensures.ok.1.made))))
+pub returns-in-Ok-clause-ok : goal.returns-in-Ok-clause-ok
+returns-in-Ok-clause-ok g c =
+    let made : Makes g.S.Filestore.answers g.S.Filestore.is_spent g.S.Filestore.can_wait c.args.self.now c.args.store.now c.make.new.self.work c.make.new.store =
+    subst (λ (j : JobState). Makes g.S.Filestore.answers g.S.Filestore.is_spent g.S.Filestore.can_wait j c.args.store.now c.make.new.self.work c.make.new.store) c.self.view_is c.in-Ok.ensures.ok in
+    let turned : IfOk c.end.result (λ turn. IsTurn g.F.Fn c.args.tariff.now c.args.self.now c.make.new.self.work turn (job_of c.end.new.self)) =
+    IfOk-weaker c.end.result _ _ (λ turn is. turn_before g.F.Fn c.args.tariff.now c.args.self.now (job_of c.make.new.self) c.make.new.self.work turn (job_of c.end.new.self)
+    (c.make.ensures.job ∙ ap (λ (j : JobState). record j { desk = c.make.new.self.work.desk; pending = None; wants = None }) c.self.view_is) is)
+    c.end.ensures.ok in
+    let answers = told g.S.Filestore.answers g.S.Filestore.is_spent g.S.Filestore.can_wait c.args.self.now c.args.store.now c.make.new.self.work c.make.new.store made.ran in
+    IfOk-weaker c.end.result _ _ (λ turn is. (answers.0, c.make.new.self.work, answers.1, answers.2, made.within, is)) turned
 
-pub returns-in-Ok-end-clause-stopped : goal.returns-in-Ok-end-clause-stopped
-returns-in-Ok-end-clause-stopped g c =
-    let spent = turn_spent g.S.Filestore.answers g.S.Filestore.is_spent g.S.Filestore.can_wait c.args.self.now c.args.store.now c.in-Ok.ensures.ok.0 c.make.new.store c.requires.spent c.in-Ok.ensures.ok.1.ran in
-    let stopped = stopped_of g.F.Fn c.args.tariff.now c.args.self.now c.in-Ok.ensures.ok.0 c.in-Ok-end.turn c.end.new.self
-    (turn_before g.F.Fn c.args.tariff.now c.args.self.now c.make.new.self c.in-Ok.ensures.ok.0 c.in-Ok-end.turn c.end.new.self c.in-Ok.ensures.job
-    (c.in-Ok-end.ensures.ok c.in-Ok.ensures.ok.0 c.in-Ok.ensures.ok.1.made)) in
-    ((λ is. stopped.0 (spent.0 is)), (λ is. spent.1 (stopped.1 is)))
+pub returns-in-Ok-clause-waits : goal.returns-in-Ok-clause-waits
+returns-in-Ok-clause-waits g c =
+    let made : Makes g.S.Filestore.answers g.S.Filestore.is_spent g.S.Filestore.can_wait c.args.self.now c.args.store.now c.make.new.self.work c.make.new.store =
+    subst (λ (j : JobState). Makes g.S.Filestore.answers g.S.Filestore.is_spent g.S.Filestore.can_wait j c.args.store.now c.make.new.self.work c.make.new.store) c.self.view_is c.in-Ok.ensures.ok in
+    let turned : IfOk c.end.result (λ turn. IsTurn g.F.Fn c.args.tariff.now c.args.self.now c.make.new.self.work turn (job_of c.end.new.self)) =
+    IfOk-weaker c.end.result _ _ (λ turn is. turn_before g.F.Fn c.args.tariff.now c.args.self.now (job_of c.make.new.self) c.make.new.self.work turn (job_of c.end.new.self)
+    (c.make.ensures.job ∙ ap (λ (j : JobState). record j { desk = c.make.new.self.work.desk; pending = None; wants = None }) c.self.view_is) is)
+    c.end.ensures.ok in
+    λ serial is.
+    turn_waits g.S.Filestore.answers g.S.Filestore.is_spent g.S.Filestore.can_wait c.args.self.now c.args.store.now c.make.new.self.work c.make.new.store serial made.ran
+    (waits_of g.F.Fn c.args.tariff.now c.args.self.now c.make.new.self.work serial (job_of c.end.new.self)
+    (subst (λ r. IfOk r (λ turn. IsTurn g.F.Fn c.args.tariff.now c.args.self.now c.make.new.self.work turn (job_of c.end.new.self))) is turned))
 
-pub returns-in-Ok-end-clause-spends : goal.returns-in-Ok-end-clause-spends
-returns-in-Ok-end-clause-spends g c =
-    spends_of g.F.Fn c.args.tariff.now c.requires.tariff c.args.self.now c.in-Ok.ensures.ok.0 c.in-Ok-end.turn c.end.new.self c.in-Ok.ensures.ok.1.rules c.requires.open
-    c.in-Ok.ensures.ok.1.within
-    (turn_before g.F.Fn c.args.tariff.now c.args.self.now c.make.new.self c.in-Ok.ensures.ok.0 c.in-Ok-end.turn c.end.new.self c.in-Ok.ensures.job
-    (c.in-Ok-end.ensures.ok c.in-Ok.ensures.ok.0 c.in-Ok.ensures.ok.1.made))
+pub returns-in-Ok-clause-stopped : goal.returns-in-Ok-clause-stopped
+returns-in-Ok-clause-stopped g c =
+    let made : Makes g.S.Filestore.answers g.S.Filestore.is_spent g.S.Filestore.can_wait c.args.self.now c.args.store.now c.make.new.self.work c.make.new.store =
+    subst (λ (j : JobState). Makes g.S.Filestore.answers g.S.Filestore.is_spent g.S.Filestore.can_wait j c.args.store.now c.make.new.self.work c.make.new.store) c.self.view_is c.in-Ok.ensures.ok in
+    let turned : IfOk c.end.result (λ turn. IsTurn g.F.Fn c.args.tariff.now c.args.self.now c.make.new.self.work turn (job_of c.end.new.self)) =
+    IfOk-weaker c.end.result _ _ (λ turn is. turn_before g.F.Fn c.args.tariff.now c.args.self.now (job_of c.make.new.self) c.make.new.self.work turn (job_of c.end.new.self)
+    (c.make.ensures.job ∙ ap (λ (j : JobState). record j { desk = c.make.new.self.work.desk; pending = None; wants = None }) c.self.view_is) is)
+    c.end.ensures.ok in
+    let spent = turn_spent g.S.Filestore.answers g.S.Filestore.is_spent g.S.Filestore.can_wait c.args.self.now c.args.store.now c.make.new.self.work c.make.new.store c.requires.spent made.ran in
+    IfOk-weaker c.end.result _ _
+    (λ turn is.
+    let stopped = stopped_of g.F.Fn c.args.tariff.now c.args.self.now c.make.new.self.work turn (job_of c.end.new.self) is in
+    ((λ was. stopped.0 (spent.0 was)), (λ was. spent.1 (stopped.1 was)))) turned
 
-pub returns-in-Ok-end-clause-waited : goal.returns-in-Ok-end-clause-waited
-returns-in-Ok-end-clause-waited g c = λ serial is.
-    told_before g.F.Fn c.args.tariff.now c.args.self.now c.in-Ok.ensures.ok.0 serial c.end.new.self
-    (subst (λ given. IsTurn g.F.Fn c.args.tariff.now c.args.self.now c.in-Ok.ensures.ok.0 given c.end.new.self) (same_turn c.in-Ok-end.turn (turn.Wants serial) is)
-    (turn_before g.F.Fn c.args.tariff.now c.args.self.now c.make.new.self c.in-Ok.ensures.ok.0 c.in-Ok-end.turn c.end.new.self c.in-Ok.ensures.job
-    (c.in-Ok-end.ensures.ok c.in-Ok.ensures.ok.0 c.in-Ok.ensures.ok.1.made)))
+pub returns-in-Ok-clause-spends : goal.returns-in-Ok-clause-spends
+returns-in-Ok-clause-spends g c =
+    let made : Makes g.S.Filestore.answers g.S.Filestore.is_spent g.S.Filestore.can_wait c.args.self.now c.args.store.now c.make.new.self.work c.make.new.store =
+    subst (λ (j : JobState). Makes g.S.Filestore.answers g.S.Filestore.is_spent g.S.Filestore.can_wait j c.args.store.now c.make.new.self.work c.make.new.store) c.self.view_is c.in-Ok.ensures.ok in
+    let turned : IfOk c.end.result (λ turn. IsTurn g.F.Fn c.args.tariff.now c.args.self.now c.make.new.self.work turn (job_of c.end.new.self)) =
+    IfOk-weaker c.end.result _ _ (λ turn is. turn_before g.F.Fn c.args.tariff.now c.args.self.now (job_of c.make.new.self) c.make.new.self.work turn (job_of c.end.new.self)
+    (c.make.ensures.job ∙ ap (λ (j : JobState). record j { desk = c.make.new.self.work.desk; pending = None; wants = None }) c.self.view_is) is)
+    c.end.ensures.ok in
+    let rules : IsJob c.args.self.now = subst IsJob c.self.view_is c.self.invariant.0 in
+    IfOk-weaker c.end.result _ _ (λ turn is. spends_of g.F.Fn c.args.tariff.now c.requires.tariff c.args.self.now c.make.new.self.work turn (job_of c.end.new.self) rules c.requires.open made.within is) turned
 
-pub returns-in-Err-end-clause-err : goal.returns-in-Err-end-clause-err
-returns-in-Err-end-clause-err g c =
-    part_whole g.S.Filestore.answers g.S.Filestore.is_spent g.S.Filestore.can_wait c.args.self.now.user (turn_work c.args.self.now) c.args.store.now c.in-Ok.ensures.ok.0 c.make.new.store c.in-Ok.ensures.ok.1.ran
+pub returns-in-Ok-clause-waited : goal.returns-in-Ok-clause-waited
+returns-in-Ok-clause-waited g c =
+    let turned : IfOk c.end.result (λ turn. IsTurn g.F.Fn c.args.tariff.now c.args.self.now c.make.new.self.work turn (job_of c.end.new.self)) =
+    IfOk-weaker c.end.result _ _ (λ turn is. turn_before g.F.Fn c.args.tariff.now c.args.self.now (job_of c.make.new.self) c.make.new.self.work turn (job_of c.end.new.self)
+    (c.make.ensures.job ∙ ap (λ (j : JobState). record j { desk = c.make.new.self.work.desk; pending = None; wants = None }) c.self.view_is) is)
+    c.end.ensures.ok in
+    λ serial is.
+    told_before g.F.Fn c.args.tariff.now c.args.self.now c.make.new.self.work serial (job_of c.end.new.self)
+    (subst (λ r. IfOk r (λ turn. IsTurn g.F.Fn c.args.tariff.now c.args.self.now c.make.new.self.work turn (job_of c.end.new.self))) is turned)
 
-pub returns-in-Ok-end-clause-seat : goal.returns-in-Ok-end-clause-seat
-returns-in-Ok-end-clause-seat g c =
-    keeps_seat g.F.Fn c.args.tariff.now c.args.self.now c.in-Ok.ensures.ok.0 c.in-Ok-end.turn c.end.new.self
-    (turn_leaves g.S.Filestore.answers g.S.Filestore.is_spent g.S.Filestore.can_wait c.args.self.now c.args.store.now c.in-Ok.ensures.ok.0 c.make.new.store c.in-Ok.ensures.ok.1.rules
-    c.in-Ok.ensures.ok.1.ran)
-    (turn_before g.F.Fn c.args.tariff.now c.args.self.now c.make.new.self c.in-Ok.ensures.ok.0 c.in-Ok-end.turn c.end.new.self c.in-Ok.ensures.job
-    (c.in-Ok-end.ensures.ok c.in-Ok.ensures.ok.0 c.in-Ok.ensures.ok.1.made))
+pub returns-in-Ok-clause-err : goal.returns-in-Ok-clause-err
+returns-in-Ok-clause-err g c =
+    let made : Makes g.S.Filestore.answers g.S.Filestore.is_spent g.S.Filestore.can_wait c.args.self.now c.args.store.now c.make.new.self.work c.make.new.store =
+    subst (λ (j : JobState). Makes g.S.Filestore.answers g.S.Filestore.is_spent g.S.Filestore.can_wait j c.args.store.now c.make.new.self.work c.make.new.store) c.self.view_is c.in-Ok.ensures.ok in
+    on_err c.end.result (part_whole g.S.Filestore.answers g.S.Filestore.is_spent g.S.Filestore.can_wait c.args.self.now.user (turn_work c.args.self.now) c.args.store.now c.make.new.self.work c.make.new.store made.ran)
+
+pub returns-in-Ok-clause-seat : goal.returns-in-Ok-clause-seat
+returns-in-Ok-clause-seat g c =
+    let made : Makes g.S.Filestore.answers g.S.Filestore.is_spent g.S.Filestore.can_wait c.args.self.now c.args.store.now c.make.new.self.work c.make.new.store =
+    subst (λ (j : JobState). Makes g.S.Filestore.answers g.S.Filestore.is_spent g.S.Filestore.can_wait j c.args.store.now c.make.new.self.work c.make.new.store) c.self.view_is c.in-Ok.ensures.ok in
+    let turned : IfOk c.end.result (λ turn. IsTurn g.F.Fn c.args.tariff.now c.args.self.now c.make.new.self.work turn (job_of c.end.new.self)) =
+    IfOk-weaker c.end.result _ _ (λ turn is. turn_before g.F.Fn c.args.tariff.now c.args.self.now (job_of c.make.new.self) c.make.new.self.work turn (job_of c.end.new.self)
+    (c.make.ensures.job ∙ ap (λ (j : JobState). record j { desk = c.make.new.self.work.desk; pending = None; wants = None }) c.self.view_is) is)
+    c.end.ensures.ok in
+    let rules : IsJob c.args.self.now = subst IsJob c.self.view_is c.self.invariant.0 in
+    IfOk-weaker c.end.result _ _ (λ turn is. keeps_seat g.F.Fn c.args.tariff.now c.args.self.now c.make.new.self.work turn (job_of c.end.new.self) (turn_leaves g.S.Filestore.answers g.S.Filestore.is_spent g.S.Filestore.can_wait c.args.self.now c.args.store.now c.make.new.self.work c.make.new.store rules made.ran) is) turned

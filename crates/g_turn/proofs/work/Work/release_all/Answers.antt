@@ -1,6 +1,11 @@
-use Rattle.std.proofs.Common.{◌∙◌, arith, sym}
-use Rattle.g_turn.proofs.UnitsLemmas.{each_first, each_long, each_on, each_over, each_part, none_left}
+use Rattle.std.proofs.Common.{◌∙◌, ap, arith, sym}
+use Rattle.g_turn.proofs.UnitsLemmas.{all_unused, each_first, each_long, each_on, each_over, each_part, none_left}
 use Rattle.g_turn.proofs.work.Work.release_all.Goals as goal
+
+pub returns-then-are_unused-clause-ok : goal.returns-then-are_unused-clause-ok
+returns-then-are_unused-clause-ok g c =
+    all_unused g.S.Filestore.answers g.S.Filestore.is_spent g.S.Filestore.can_wait c.args.asker.now.who.now c.args.asker.now.room c.args.self.now c.args.store.now
+    (ap (λ w. w.desk.units) (sym c.self.view_is) ∙ c.are_unused.ensures c.if-are_unused.true) c.requires.open
 
 pub returns-in-Err-clause-err : goal.returns-in-Err-clause-err
 returns-in-Err-clause-err g c =
