@@ -8,7 +8,7 @@ use Rattle.g_entry.specs.declared.file_rec.FileRec.{FileRec}
 use Rattle.g_entry.specs.declared.head.Head.{Head}
 use Rattle.g_entry.specs.declared.user_rec.UserRec.{UserRec}
 use Rattle.g_dirs.specs.Directory.{Directory, FileEntry, directory_of, entries_of}
-use Rattle.g_dirs.specs.Pages.{Remembered, marked}
+use Rattle.g_dirs.specs.Pages.{KeepsPages, Remembered, marked}
 use Rattle.g_tree.specs.Records.{IsRecords}
 use Rattle.g_tree.specs.State.{with_file}
 use Rattle.g_disc_contents.specs.Contents.{Contents, File, contents_of, file_of, set_rec, with_number}
@@ -16,10 +16,10 @@ use Rattle.g_disc_contents.specs.Facts.{OnlineFacts}
 use Rattle.g_online.specs.declared.change.Change.TheVariants.{SetFile}
 use Rattle.g_online.specs.AllowedChanges.{IsAllowed, IsSameVersion}
 use Rattle.g_online.specs.Change.{changed}
-use Rattle.g_online.specs.Invariant.{IsAgreed, IsKept, Memory, PinsAre, directory_in, facts_of, head_after}
+use Rattle.g_online.specs.Invariant.{CoversHead, IsAgreed, IsKept, Memory, PinsAre, directory_in, facts_of, head_after}
 use Rattle.g_online.proofs.ContentLemmas.{record_set}
 use Rattle.g_online.proofs.EntryLemmas.{put-set}
-use Rattle.g_online.proofs.MarkLemmas.{but_file, but_head}
+use Rattle.g_online.proofs.MarkLemmas.{but_file}
 use Rattle.g_online.proofs.NoteLemmas.{noted_then, pins_then, touched_then, touched_with}
 use Rattle.g_online.proofs.ReadyLemmas.{CoversBut, StillRemembers, allowed_here, allowed_live, make_ready, rules_then}
 use Rattle.g_online.proofs.RecordLemmas.{fits_still, keeps_marked, keeps_then, next_kept, recs_here}
@@ -136,9 +136,10 @@ is_there rec before m o is kept allowed =
     recs_entries (r ∷ files) online = ap (λ (rest : List FileRec). r ∷ rest) (recs_entries files online)
 
 file_set_ready : (rec : FileRec) (before : DiscState) (m : Memory) (first pages : Remembered) (o : OnlineFacts) → facts_of before m ≡ o → IsKept before m → IsAllowed (SetFile rec) o → IsThere rec before m
-    → first ≡ marked 0 m.pages → StillRemembers m.pages first → CoversBut 0 m.pages first → pages ≡ marked (64 + rec.number) first → StillRemembers first pages → CoversBut (64 + rec.number) first pages
+    → KeepsPages m.pages first → StillRemembers m.pages first → CoversHead m.head (head_after (is_some m.pins) m.head) m.pages first
+    → pages ≡ marked (64 + rec.number) first → StillRemembers first pages → CoversBut (64 + rec.number) first pages
     → IsReady (SetFile rec) before m (set_in (is_some m.pins) m rec (map (put_one rec) m.files) pages)
-file_set_ready rec before m first pages o is kept allowed there marks remembers covers marks' remembers' covers' =
+file_set_ready rec before m first pages o is kept allowed there keeps remembers covers marks' remembers' covers' =
     let h : Head = head_after (is_some m.pins) m.head in
     let files : List FileRec = map (put_one rec) m.files in
     let n : Memory = set_in (is_some m.pins) m rec files pages in
@@ -149,9 +150,9 @@ file_set_ready rec before m first pages o is kept allowed there marks remembers 
     let same : AllSame old new = entries_same rec m.files m.online there.version in
     let contents = subst (λ (fs : List FileRec). contents_files before.held fs m.online ≡ set_rec rec (contents_files before.held m.files m.online)) there.put there.contents in
     make_ready (SetFile rec) before m n o is kept allowed refl refl refl refl refl
-    (keeps_then m.pages first pages (keeps_marked 0 m.pages first marks) (keeps_marked (64 + rec.number) first pages marks'))
+    (keeps_then m.pages first pages keeps (keeps_marked (64 + rec.number) first pages marks'))
     (λ b r. remembers' b (remembers b r))
-    (λ s covered. covers' s mid (directory_in n) (covers s (directory_in m) mid covered (but_head (directory_in m) mid refl refl))
+    (λ s covered. covers' s mid (directory_in n) (covers s (directory_in m) mid covered refl refl refl refl)
     (but_file rec.number mid (directory_in n) refl refl (λ i other. others_put rec m.files m.online i other)))
     refl (touched_then before.held before.size m.head.next_stamp rec.owner old m.touched m.pins was.pins)
     (file_contents before.held (is_some m.pins) rec m files pages contents)
@@ -162,29 +163,28 @@ file_set_ready rec before m first pages o is kept allowed there marks remembers 
     (subst (λ (k : ℕ). PinsAre m.pins before.size k new (touched_with m.pins rec.owner m.touched)) (sym (next_kept (is_some m.pins) m.head))
     (pins_then before.size m.head.next_stamp rec.owner new m.touched m.pins (pins_same before.size m.head.next_stamp old new m.touched m.pins same was.pins)))
 
-pub file_ready : (rec copied : FileRec) (before : DiscState) (m : Memory) (pinned : Bool) (head : Head) (users : List UserRec) (files : List FileRec) (k : ℕ) (first pages : Remembered) (all touched : List ℕ) (o : OnlineFacts)
-    → copied ≡ rec → pinned ≡ is_some m.pins → head ≡ head_after pinned m.head → users ≡ m.users → files ≡ with_file copied m.files → k ≡ 64 + rec.number
+pub file_ready : (rec : FileRec) (before : DiscState) (m : Memory) (pinned : Bool) (head : Head) (users : List UserRec) (files : List FileRec) (k : ℕ) (first pages : Remembered) (all touched : List ℕ) (o : OnlineFacts)
+    → pinned ≡ is_some m.pins → head ≡ head_after pinned m.head → users ≡ m.users → files ≡ with_file rec m.files → k ≡ 64 + rec.number
     → all ≡ with_number rec.owner m.changed → touched ≡ (if pinned then with_number rec.owner m.touched else m.touched)
     → facts_of before m ≡ o → IsKept before m → IsAllowed (SetFile rec) o
-    → first ≡ marked 0 m.pages → StillRemembers m.pages first → CoversBut 0 m.pages first → pages ≡ marked k first → StillRemembers first pages → CoversBut k first pages
+    → KeepsPages m.pages first → StillRemembers m.pages first → CoversHead m.head head m.pages first → pages ≡ marked k first → StillRemembers first pages → CoversBut k first pages
     → IsReady (SetFile rec) before m (record m { head = head; users = users; files = files; pages = pages; changed = all; touched = touched })
-file_ready rec copied before m pinned head users files k first pages all touched o same pinned_is heads users_are put_is at changed_is touched_is is kept allowed marks remembers covers marks' remembers' covers' =
+file_ready rec before m pinned head users files k first pages all touched o pinned_is heads users_are put_is at changed_is touched_is is kept allowed keeps remembers covers marks' remembers' covers' =
     let there : IsThere rec before m = is_there rec before m o is kept allowed in
-    let them : files ≡ map (put_one rec) m.files = put_is ∙ ap (λ (r : FileRec). with_file r m.files) same ∙ there.put in
+    let them : files ≡ map (put_one rec) m.files = put_is ∙ there.put in
     let top : head ≡ head_after (is_some m.pins) m.head = heads ∙ ap (λ (b : Bool). head_after b m.head) pinned_is in
     let who : touched ≡ touched_with m.pins rec.owner m.touched = touched_is ∙ ap (λ (b : Bool). if b then with_number rec.owner m.touched else m.touched) pinned_is in
     subst (IsReady (SetFile rec) before m)
     (λ i. record m { head = (sym top) i; users = (sym users_are) i; files = (sym them) i; pages = pages; changed = (sym changed_is) i; touched = (sym who) i })
-    (file_set_ready rec before m first pages o is kept allowed there marks remembers covers
+    (file_set_ready rec before m first pages o is kept allowed there keeps remembers (subst (λ (h : Head). CoversHead m.head h m.pages first) top covers)
     (subst (λ (j : ℕ). pages ≡ marked j first) at marks') remembers' (subst (λ (j : ℕ). CoversBut j first pages) at covers'))
 
 -- what the tree asks for
-pub file_rules : (rec copied : FileRec) (before : DiscState) (m : Memory) (users : List UserRec) (files : List FileRec) (o : OnlineFacts) → copied ≡ rec → users ≡ m.users → files ≡ m.files
-    → facts_of before m ≡ o → IsKept before m → IsAllowed (SetFile rec) o → IsRecords users (with_file copied files)
-file_rules rec copied before m users files o same users_are files_are is kept allowed =
-    subst (λ (us : List UserRec). IsRecords us (with_file copied files)) (sym users_are)
-    (subst (λ (fs : List FileRec). IsRecords m.users (with_file copied fs)) (sym files_are)
-    (subst (λ (r : FileRec). IsRecords m.users (with_file r m.files)) (sym same) (is_there rec before m o is kept allowed).rules))
+pub file_rules : (rec : FileRec) (before : DiscState) (m : Memory) (users : List UserRec) (files : List FileRec) (o : OnlineFacts) → users ≡ m.users → files ≡ m.files
+    → facts_of before m ≡ o → IsKept before m → IsAllowed (SetFile rec) o → IsRecords users (with_file rec files)
+file_rules rec before m users files o users_are files_are is kept allowed =
+    subst (λ (us : List UserRec). IsRecords us (with_file rec files)) (sym users_are)
+    (subst (λ (fs : List FileRec). IsRecords m.users (with_file rec fs)) (sym files_are) (is_there rec before m o is kept allowed).rules)
 
 -- its numbers
 pub block_fits : (rec : FileRec) (before : DiscState) (m : Memory) (k : ℕ) (o : OnlineFacts) → k ≡ rec.number → facts_of before m ≡ o → IsKept before m → IsAllowed (SetFile rec) o → 64 + k < 1088

@@ -159,6 +159,10 @@ abbrev pub head_after : Bool → Head → Head
 head_after true h = h
 head_after false h = record h { intent = None }
 
+-- a directory whose changes were marked, but that its head became another, has its changes marked
+abbrev pub CoversHead : Head → Head → Remembered → Remembered → Type 0
+CoversHead before after old new = (side : Side) (d e : Directory) → Covers d side old → d.head ≡ before → e.head ≡ after → e.users ≡ d.users → e.files ≡ d.files → Covers e side new
+
 -- until a write fails
 pub record IsKept (disc : DiscState) (m : Memory) : Type 0 where
   pub size : 2177 < disc.size

@@ -18,8 +18,10 @@ impl<D: Disc> Online<D> {
         match change {
             Change::AddUser(user) => self.add_user(user),
             Change::SetUser(user) => self.set_user(user),
-            Change::PutFile { rec, bytes, unjam } => self.put_file(alloc, rec, bytes, unjam),
-            Change::SetFile(rec) => self.set_file(rec),
+            Change::PutFile { rec, bytes, unjam } => {
+                self.put_file(alloc, rec.copy(), bytes, unjam)
+            }
+            Change::SetFile(rec) => self.set_file(rec.copy()),
             Change::EraseFile(number) => self.erase_file(*number),
             Change::Unload(numbers) => self.unload(numbers),
             Change::Bring {

@@ -47,14 +47,15 @@ impl<D: Disc> Online<D> {
     pub fn put_file(
         &mut self,
         alloc: Global,
-        rec: &FileRec,
+        rec: FileRec,
         bytes: &Text,
         unjam: &NumberList,
     ) -> Result<(), OnlineFault>
-        requires allowed { IsAllowed (Change.PutFile rec.now bytes.now unjam.now) self.old }
-        ensures { IsApplied (Change.PutFile rec.now bytes.now unjam.now) self.old self.new result }
+        requires allowed { IsAllowed (Change.PutFile rec bytes.now unjam.now) self.old }
+        ensures { IsApplied (Change.PutFile rec bytes.now unjam.now) self.old self.new result }
     {
-        self.with_new_copy(alloc, rec.number, Some(rec.copy()), bytes, unjam)
+        let number = rec.number;
+        self.with_new_copy(alloc, number, Some(rec), bytes, unjam)
     }
 
     /// Puts bytes into blocks of their own and makes them those of the file of this number: of the version of this record,

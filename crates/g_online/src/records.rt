@@ -1,15 +1,17 @@
 //! The changes of records, which touch no bytes.
-ghost use Rattle.std.specs.Prelude.{◌≡◌, ◌<◌, if◌then◌else◌};
+ghost use Rattle.std.specs.Prelude.{◌≡◌, ◌<◌, ℕ, List, if◌then◌else◌};
+ghost use Rattle.g_dirs.specs.Pages.{KeepsPages, Remembers};
 ghost use Rattle.g_disc_contents.specs.Contents.{with_number};
 ghost use Rattle.g_online.specs.AllowedChanges.{IsAllowed};
 ghost use Rattle.g_online.specs.Outcomes.{IsApplied};
-ghost use Rattle.g_online.specs.Invariant.{head_after};
+ghost use Rattle.g_online.specs.Invariant.{CoversHead, head_after};
 
 use crate::change::Change;
 use crate::commit::commit;
 use crate::numbers::UserNumbers;
 use crate::{Online, OnlineFault};
 use g_base::FIRST_FILE_BLOCK;
+use g_dirs::Pages;
 use g_disc::Disc;
 use g_entry::{FileRec, Head, Intent, UserRec};
 
@@ -79,20 +81,21 @@ impl<D: Disc> Online<D> {
     }
 
     /// Replaces the record of a file, whose version stays: what `Change::SetFile` says.
-    pub fn set_file(&mut self, rec: &FileRec) -> Result<(), OnlineFault>
-        requires allowed { IsAllowed (Change.SetFile rec.now) self.old }
-        ensures { IsApplied (Change.SetFile rec.now) self.old self.new result }
+    pub fn set_file(&mut self, rec: FileRec) -> Result<(), OnlineFault>
+        requires allowed { IsAllowed (Change.SetFile rec) self.old }
+        ensures { IsApplied (Change.SetFile rec) self.old self.new result }
     {
+        let number = rec.number;
+        let owner = rec.owner;
         match self.tree.reserve() {
             Ok(()) => {}
             Err(_) => return Err(OnlineFault::NoMemory),
         }
         let pinned = self.pins.is_some();
-        self.head = kept_head(&self.head, pinned);
-        self.pages.changed(0);
-        self.tree.put(rec.copy());
-        self.pages.changed(FIRST_FILE_BLOCK + u32::from(rec.number));
-        mark_user_changed(&mut self.changed, &mut self.touched, pinned, rec.owner);
+        carry_head(&mut self.head, &mut self.pages, pinned);
+        self.tree.put(rec);
+        self.pages.changed(FIRST_FILE_BLOCK + u32::from(number));
+        mark_user_changed(&mut self.changed, &mut self.touched, pinned, owner);
         commit(
             &mut self.disc,
             &mut self.slots,
@@ -135,4 +138,22 @@ pub(crate) fn kept_head(head: &Head, pinned: bool) -> Head
             ..*head
         }
     }
+}
+
+/// Makes the head that of the next commit, which carries an intent only while versions are pinned. Its block is marked only
+/// where that changes it, so that a head that stays is neither encoded nor compared.
+fn carry_head(head: &mut Head, pages: &mut Pages, pinned: bool)
+    ensures head { head.new ≡ head_after pinned head.old }
+    ensures keeps { KeepsPages pages.old pages.new }
+    ensures remembers { (blocks : List (List ℕ)) → Remembers pages.old blocks → Remembers pages.new blocks }
+    ensures covers { CoversHead head.old head.new pages.old pages.new }
+{
+    if pinned {
+        return;
+    }
+    if head.intent.is_none() {
+        return;
+    }
+    head.intent = None;
+    pages.changed(0);
 }

@@ -1,7 +1,7 @@
 -- The answers of Fetch and Retrieve, whatever store disc and rack are in.
 use Rattle.std.proofs.Common.{◌≡◌, ℕ, ◌<◌, ◌≤◌, Bool, true, false, List, [], length, Option, Some, None, Result, Ok, Err, refl, sym, ◌∙◌, ap, arith, inl, inr, subst}
 use Rattle.std.specs.Prelude.{◌⊎◌, Contains}
-use Rattle.std.proofs.lemmas.Bool.{false≢true, true_from_ne_false}
+use Rattle.std.proofs.lemmas.Bool.{true_from_ne_false}
 use Rattle.std.proofs.lemmas.List.Elements.{All-contains}
 use Rattle.g_base.specs.Block.{blocks_for}
 use Rattle.g_disc.specs.Disc.{DiscState, ReadsByCause}

@@ -18,14 +18,14 @@ use Rattle.g_plain.specs.Replies.{IsReplyTo}
 use Rattle.g_tree.specs.AskedRecords.{IsGranted, zeros}
 use Rattle.g_tree.specs.declared.asked.Granted.{Granted}
 use Rattle.g_tree.specs.declared.asked.Granted.TheVariants.{Input, Nothing, Output}
-use Rattle.g_tree.specs.Records.{ForTree, IsRecords, full_of, name_of_file, number_of, tree_of}
+use Rattle.g_tree.specs.Records.{ForTree, name_of_file, number_of, tree_of}
 use Rattle.g_tree.proofs.NamedLemmas.{name_found, number_there}
 use Rattle.g_disc_contents.specs.Contents.{Contents, recs_in}
 use Rattle.g_disc_contents.specs.Facts.{IsTied, OnlineFacts}
 use Rattle.g_online.specs.declared.change.Change.{Change}
 use Rattle.g_migrate.proofs.MigrationLemmas.{rules_here}
 use Rattle.g_store_calls.specs.Answering.{AnswersIn}
-use Rattle.g_store_calls.specs.AppliedChange.{HasAnswered, answer_with}
+use Rattle.g_store_calls.specs.AppliedChange.{HasAnswered}
 use Rattle.g_store_calls.specs.GrantedCalls.{Grants, names_input, names_none, names_output}
 use Rattle.g_store_calls.specs.Kinds.{IsSettled}
 use Rattle.g_store_calls.specs.NewRecords.{GrantsFile, IsFileAt}

@@ -1,5 +1,5 @@
 -- ROOM ENOUGH: what a change needs is free, so its only refusals are a stop and want of memory.
-use Rattle.std.proofs.Common.{◌≡◌, ◌≢◌, ℕ, ◌+◌, ◌-◌, ◌<◌, ◌≤◌, List, ◌++◌, length, length-append, Result, Ok, Err, refl, sym, ◌∙◌, ap, arith, inl, inr, subst}
+use Rattle.std.proofs.Common.{◌≡◌, ℕ, ◌+◌, ◌-◌, ◌<◌, ◌≤◌, List, ◌++◌, length, length-append, Result, Err, refl, sym, ◌∙◌, ap, arith, inl, inr, subst}
 use Rattle.std.specs.Prelude.{◌⊎◌, ◌↔◌, IsErrOf}
 use Rattle.g_base.specs.Block.{blocks_for}
 use Rattle.g_disc.proofs.CallLemmas.{Causes-for}

@@ -12,13 +12,15 @@ ghost use Rattle.g_tree.specs.Records.{full_of};
 ghost use Rattle.g_disc_contents.specs.Contents.{File, taken_off};
 ghost use Rattle.g_disc_contents.specs.Facts.{IsTied, room_with};
 ghost use Rattle.g_migrate.specs.UnjamPlan.{IsRoomWithout};
+ghost use Rattle.g_online.specs.AllowedChanges.{IsAllowed};
+ghost use Rattle.g_online.specs.Change.{need_of};
+ghost use Rattle.g_online.specs.Outcomes.{room_for};
 ghost use Rattle.g_store_calls.specs.Appending.{HasAppended, version_of};
 ghost use Rattle.g_store_calls.specs.AppliedChange.{HasApplied};
 ghost use Rattle.g_store_calls.specs.Asking.{HasPlanned};
 ghost use Rattle.g_store_calls.specs.GrantedCalls.{AnswersGrantedOver, GrantsOne};
 ghost use Rattle.g_store_calls.specs.Kinds.{IsKind};
 
-use crate::changing::applied;
 use g_base::blocks_for;
 use g_disc::Disc;
 use g_entry::FileRec;
@@ -29,6 +31,7 @@ use g_online::{Change, Online};
 use g_plain::{StoreFault, StoreReply};
 use g_retrieve::{file_of, read_copy};
 use g_tape::Tapes;
+use g_tree::NumberList;
 use std::alloc::Global;
 
 /// The answer to `Append`: a new version of this file, which the path names, of its bytes and those of the call behind them, is
@@ -194,12 +197,26 @@ fn put_behind<D: Disc>(
     }
     let len = text.as_slice().len() as u32;
     let rec = next_version(file, online.head().next_stamp, len);
-    let change = Change::PutFile {
-        rec,
-        bytes: text,
-        unjam: plan.take,
-    };
-    applied(alloc, online, &change)
+    put_version(alloc, online, rec, &text, &plan.take)
+}
+
+/// Puts a new version of a file, for which there is room once these files are off the disc. `Stopped`, `NoMemory`.
+fn put_version<D: Disc>(
+    alloc: Global,
+    online: &mut Online<D>,
+    rec: FileRec,
+    bytes: &Text,
+    unjam: &NumberList,
+) -> Result<(), StoreFault>
+    requires allowed { IsAllowed (Change.PutFile rec bytes.now unjam.now) online.old }
+    requires roomy { need_of (Change.PutFile rec bytes.now unjam.now)
+        ≤ room_for (Change.PutFile rec bytes.now unjam.now) online.old }
+    ensures { HasApplied (Change.PutFile rec bytes.now unjam.now) online.old online.new result }
+{
+    match online.put_file(alloc, rec, bytes, unjam) {
+        Ok(()) => Ok(()),
+        Err(fault) => Err(StoreFault::from(fault)),
+    }
 }
 
 /// The record of a new version of a file, which has no copy on tape yet.

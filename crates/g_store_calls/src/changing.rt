@@ -16,7 +16,7 @@ ghost use Rattle.g_store_calls.specs.NewRecords.{IsNewUser};
 ghost use Rattle.g_store_calls.specs.Replies.{RefusesAs};
 
 use g_disc::Disc;
-use g_entry::UserRec;
+use g_entry::{FileRec, UserRec};
 use g_name::{Full, User};
 use g_online::{Change, Online};
 use g_plain::{StoreFault, StoreReply};
@@ -70,7 +70,6 @@ fn made_user(tree: &Tree, who: &User, user: &User, space: u32, time: u64, money:
 /// The answer to `Erase`: this file, which the path names, goes by one commit. `NoMemory`: nothing has changed. `Stopped`: a
 /// write of the disc failed; it holds what it held, or that without the file, and takes no further call.
 pub(crate) fn erase<D: Disc>(
-    alloc: Global,
     online: &mut Online<D>,
     number: u16,
     full: Full,
@@ -81,12 +80,21 @@ pub(crate) fn erase<D: Disc>(
     ensures answers { (path : Path) → AnswersGranted online.old (grant.Input number full) result online.new (call.Erase path) }
     ensures kind { (path : Path) → IsSettled (call.Erase path) result }
 {
-    changed(
-        alloc,
-        online,
-        &Change::EraseFile(number),
-        StoreReply::Erased(full),
-    )
+    match drop_record(online, number) {
+        Ok(()) => Ok(StoreReply::Erased(full)),
+        Err(fault) => Err(fault),
+    }
+}
+
+/// Takes the file of this number out. `Stopped`.
+fn drop_record<D: Disc>(online: &mut Online<D>, number: u16) -> Result<(), StoreFault>
+    requires allowed { IsAllowed (Change.EraseFile number) online.old }
+    ensures { HasApplied (Change.EraseFile number) online.old online.new result }
+{
+    match online.erase_file(number) {
+        Ok(()) => Ok(()),
+        Err(fault) => Err(StoreFault::from(fault)),
+    }
 }
 
 /// Makes the change, which needs no blocks, and answers this where it was made. `Stopped`, `NoMemory`.
@@ -106,8 +114,34 @@ pub(crate) fn changed<D: Disc>(
     }
 }
 
+/// Puts a file's record in the place of the one of its number, and answers this where that was done. `Stopped`, `NoMemory`.
+pub(crate) fn replaced<D: Disc>(
+    online: &mut Online<D>,
+    rec: FileRec,
+    reply: StoreReply,
+) -> Result<StoreReply, StoreFault>
+    requires allowed { IsAllowed (Change.SetFile rec) online.old }
+    ensures { HasAnswered (Change.SetFile rec) reply online.old online.new result }
+{
+    match put_record(online, rec) {
+        Ok(()) => Ok(reply),
+        Err(fault) => Err(fault),
+    }
+}
+
+/// Puts a file's record in the place of the one of its number. `Stopped`, `NoMemory`.
+fn put_record<D: Disc>(online: &mut Online<D>, rec: FileRec) -> Result<(), StoreFault>
+    requires allowed { IsAllowed (Change.SetFile rec) online.old }
+    ensures { HasApplied (Change.SetFile rec) online.old online.new result }
+{
+    match online.set_file(rec) {
+        Ok(()) => Ok(()),
+        Err(fault) => Err(StoreFault::from(fault)),
+    }
+}
+
 /// Makes the change, for which there is room. `Stopped`, `NoMemory`.
-pub(crate) fn applied<D: Disc>(
+fn applied<D: Disc>(
     alloc: Global,
     online: &mut Online<D>,
     change: &Change,

@@ -153,7 +153,7 @@ fn make_version<D: Disc>(
             room: plan.room,
         });
     }
-    match online.put_file(alloc, &rec, bytes, &plan.take) {
+    match online.put_file(alloc, rec, bytes, &plan.take) {
         Ok(()) => Ok(()),
         Err(fault) => Err(StoreFault::from(fault)),
     }

@@ -15,7 +15,7 @@ ghost use Rattle.g_store_calls.specs.Kinds.{IsSettled};
 ghost use Rattle.g_store_calls.specs.NewRecords.{GrantsFile, IsFileAt};
 ghost use Rattle.g_store_calls.specs.Replies.{RefusesAs};
 
-use crate::changing::changed;
+use crate::changing::{changed, replaced};
 use crate::telling::number_of_user;
 use g_disc::Disc;
 use g_entry::{FileRec, UserRec};
@@ -84,7 +84,6 @@ fn with_budget(user: &UserRec, kind: BudgetKind, amount: u64) -> UserRec
 /// changed. `Stopped`: a write of the disc failed; it holds what it held, or that with the file renamed, and takes no further
 /// call.
 pub(crate) fn rename<D: Disc>(
-    alloc: Global,
     online: &mut Online<D>,
     number: u16,
     full: Full,
@@ -96,52 +95,29 @@ pub(crate) fn rename<D: Disc>(
     ensures answers { (path : Path) → AnswersGranted online.old (grant.Input number full) result online.new (call.Rename path to.now) }
     ensures kind { (path : Path) → IsSettled (call.Rename path to.now) result }
 {
-    let (rec, name) = renamed_file(online.tree(), number, full, to);
-    changed(
-        alloc,
-        online,
-        &Change::SetFile(rec),
-        StoreReply::Renamed(name),
-    )
+    let mut name = full;
+    let rec = renamed_file(online.tree(), number, &mut name, to);
+    replaced(online, rec, StoreReply::Renamed(name))
 }
 
-/// The record of the file with another local name, and its full name then. The call isn't refused.
-fn renamed_file(tree: &Tree, number: u16, full: Full, to: &Local) -> (FileRec, Full)
-    requires granted { (who : List ℕ) × (path : Path) × GrantsFile tree.now.users tree.now.files who (call.Rename path to.now) path number full }
-    ensures { (who : List ℕ) (path : Path) → GrantsFile tree.now.users tree.now.files who (call.Rename path to.now) path number full
-        → IsRenamed tree.now.users tree.now.files who path to.now result.0 result.1 }
+/// The record of the file with another local name, which is put into its full name too. The call isn't refused.
+fn renamed_file(tree: &Tree, number: u16, full: &mut Full, to: &Local) -> FileRec
+    requires granted { (who : List ℕ) × (path : Path) × GrantsFile tree.now.users tree.now.files who (call.Rename path to.now) path number full.old }
+    ensures { (who : List ℕ) (path : Path) → GrantsFile tree.now.users tree.now.files who (call.Rename path to.now) path number full.old
+        → IsRenamed tree.now.users tree.now.files who path to.now result full.new }
 {
     // That the name is one is known from here.
     let _word = to.as_slice();
-    let old = file_of(tree, number);
-    (with_local(old, to), renamed(full, to))
-}
-
-/// The name with another local name.
-fn renamed(full: Full, local: &Local) -> Full
-    ensures { result ≡ record full { local = local.now } }
-{
-    Full {
-        local: local.copy(),
-        ..full
-    }
-}
-
-/// The record with another local name.
-fn with_local(file: FileRec, local: &Local) -> FileRec
-    ensures { result ≡ record file { local = local.now } }
-{
-    FileRec {
-        local: local.copy(),
-        ..file
-    }
+    let mut rec = file_of(tree, number);
+    rec.local = to.copy();
+    full.local = to.copy();
+    rec
 }
 
 /// The answer to `TrapGo`: this file, which the path names, opens modes to a user, by one commit. `NoMemory`: nothing has
 /// changed. `Stopped`: a write of the disc failed; it holds what it held, or that with the modes opened, and takes no further
 /// call.
 pub(crate) fn trap_go<D: Disc>(
-    alloc: Global,
     online: &mut Online<D>,
     number: u16,
     user: &User,
@@ -155,7 +131,7 @@ pub(crate) fn trap_go<D: Disc>(
     ensures kind { (path : Path) → IsSettled (call.TrapGo path user.now modes) result }
 {
     let rec = opened_file(online.tree(), number, user, modes);
-    changed(alloc, online, &Change::SetFile(rec), StoreReply::Done)
+    replaced(online, rec, StoreReply::Done)
 }
 
 /// The record of the file with modes opened to a user. The call isn't refused.
@@ -179,7 +155,6 @@ fn opened_file(tree: &Tree, number: u16, user: &User, modes: Modes) -> FileRec
 /// changed. `Stopped`: a write of the disc failed; it holds what it held, or that with the modes closed, and takes no further
 /// call.
 pub(crate) fn trap_stop<D: Disc>(
-    alloc: Global,
     online: &mut Online<D>,
     number: u16,
     user: &User,
@@ -193,7 +168,7 @@ pub(crate) fn trap_stop<D: Disc>(
     ensures kind { (path : Path) → IsSettled (call.TrapStop path user.now modes) result }
 {
     let rec = closed_file(online.tree(), number, user, modes);
-    changed(alloc, online, &Change::SetFile(rec), StoreReply::Done)
+    replaced(online, rec, StoreReply::Done)
 }
 
 /// The record of the file with modes closed to a user. The call isn't refused.

@@ -13,26 +13,25 @@ renamed_file-rec-requires g c =
     let (who, granted) = one in
     record { granted = (who, path, (granted_on c.args.online.now c.requires.live c.requires.tied who (Rename path c.args.to.now) path c.args.number c.args.full (λ t. refl) granted c.tree.result.now.users c.tree.result.now.files c.tree.ensures.users c.tree.ensures.files)) }
 
-pub changed-requires : goal.changed-requires
-changed-requires g c =
+pub replaced-requires : goal.replaced-requires
+replaced-requires g c =
     let (path, one) = c.requires.granted in
     let (who, granted) = one in
     record {
-      allowed = may_set_file c.args.online.now who path c.renamed_file-rec.result.0 c.requires.live c.requires.tied (renamed_on c.args.online.now c.tree.result.now.users c.tree.result.now.files who path c.args.to.now c.renamed_file-rec.result.0 c.renamed_file-rec.result.1 c.tree.ensures.users c.tree.ensures.files
+      allowed = may_set_file c.args.online.now who path c.renamed_file-rec.result c.requires.live c.requires.tied (renamed_on c.args.online.now c.tree.result.now.users c.tree.result.now.files who path c.args.to.now c.renamed_file-rec.result c.renamed_file-rec.new.full c.tree.ensures.users c.tree.ensures.files
           (c.renamed_file-rec.ensures who path
           (granted_on c.args.online.now c.requires.live c.requires.tied who (Rename path c.args.to.now) path c.args.number c.args.full (λ t. refl) granted c.tree.result.now.users c.tree.result.now.files c.tree.ensures.users c.tree.ensures.files))).set;
-      bare = refl;
     }
 
 pub returns-clause-answers : goal.returns-clause-answers
 returns-clause-answers g c = λ path who granted.
-    answered c.args.online.now c.changed.new.online who (Rename path c.args.to.now) (SetFile c.renamed_file-rec.result.0) _ _ (Renamed c.renamed_file-rec.result.1)
-    (renames c.args.online.now who path c.args.to.now c.renamed_file-rec.result.0 c.renamed_file-rec.result.1 c.requires.live c.requires.tied granted.allowed
-    (renamed_on c.args.online.now c.tree.result.now.users c.tree.result.now.files who path c.args.to.now c.renamed_file-rec.result.0 c.renamed_file-rec.result.1 c.tree.ensures.users c.tree.ensures.files
+    answered c.args.online.now c.replaced.new.online who (Rename path c.args.to.now) (SetFile c.renamed_file-rec.result) _ _ (Renamed c.renamed_file-rec.new.full)
+    (renames c.args.online.now who path c.args.to.now c.renamed_file-rec.result c.renamed_file-rec.new.full c.requires.live c.requires.tied granted.allowed
+    (renamed_on c.args.online.now c.tree.result.now.users c.tree.result.now.files who path c.args.to.now c.renamed_file-rec.result c.renamed_file-rec.new.full c.tree.ensures.users c.tree.ensures.files
     (c.renamed_file-rec.ensures who path
     (granted_on c.args.online.now c.requires.live c.requires.tied who (Rename path c.args.to.now) path c.args.number c.args.full (λ t. refl) granted c.tree.result.now.users c.tree.result.now.files c.tree.ensures.users c.tree.ensures.files))))
-    c.changed.result c.changed.ensures
+    c.replaced.result c.replaced.ensures
 
 pub returns-clause-kind : goal.returns-clause-kind
 returns-clause-kind g c = λ path.
-    settled (SetFile c.renamed_file-rec.result.0) c.args.online.now c.changed.new.online (Rename path c.args.to.now) (Renamed c.renamed_file-rec.result.1) tt c.changed.result c.changed.ensures
+    settled (SetFile c.renamed_file-rec.result) c.args.online.now c.replaced.new.online (Rename path c.args.to.now) (Renamed c.renamed_file-rec.new.full) tt c.replaced.result c.replaced.ensures

@@ -13,25 +13,24 @@ closed_file-rec-requires g c =
     let (who, granted) = one in
     record { granted = (who, path, full, (granted_on c.args.online.now c.requires.live c.requires.tied who (TrapStop path c.args.user.now c.args.modes) path c.args.number full (λ t. refl) granted c.tree.result.now.users c.tree.result.now.files c.tree.ensures.users c.tree.ensures.files)) }
 
-pub changed-requires : goal.changed-requires
-changed-requires g c =
+pub replaced-requires : goal.replaced-requires
+replaced-requires g c =
     let (path, full, one) = c.requires.granted in
     let (who, granted) = one in
     record {
       allowed = may_set_file c.args.online.now who path c.closed_file-rec.result c.requires.live c.requires.tied (trapped_on c.args.online.now c.tree.result.now.users c.tree.result.now.files who path c.args.user.now (TrapStop path c.args.user.now c.args.modes) c.closed_file-rec.result c.tree.ensures.users c.tree.ensures.files
           (c.closed_file-rec.ensures who path full
           (granted_on c.args.online.now c.requires.live c.requires.tied who (TrapStop path c.args.user.now c.args.modes) path c.args.number full (λ t. refl) granted c.tree.result.now.users c.tree.result.now.files c.tree.ensures.users c.tree.ensures.files))).set;
-      bare = refl;
     }
 
 pub returns-clause-answers : goal.returns-clause-answers
 returns-clause-answers g c = λ path full who granted.
-    answered c.args.online.now c.changed.new.online who (TrapStop path c.args.user.now c.args.modes) (SetFile c.closed_file-rec.result) _ _ Done
+    answered c.args.online.now c.replaced.new.online who (TrapStop path c.args.user.now c.args.modes) (SetFile c.closed_file-rec.result) _ _ Done
     (closes c.args.online.now who path c.args.user.now c.closed_file-rec.result c.requires.live c.requires.tied c.args.modes granted.allowed
     (trapped_on c.args.online.now c.tree.result.now.users c.tree.result.now.files who path c.args.user.now (TrapStop path c.args.user.now c.args.modes) c.closed_file-rec.result c.tree.ensures.users c.tree.ensures.files
     (c.closed_file-rec.ensures who path full
     (granted_on c.args.online.now c.requires.live c.requires.tied who (TrapStop path c.args.user.now c.args.modes) path c.args.number full (λ t. refl) granted c.tree.result.now.users c.tree.result.now.files c.tree.ensures.users c.tree.ensures.files))))
-    c.changed.result c.changed.ensures
+    c.replaced.result c.replaced.ensures
 
 pub returns-clause-kind : goal.returns-clause-kind
-returns-clause-kind g c = λ path. settled (SetFile c.closed_file-rec.result) c.args.online.now c.changed.new.online (TrapStop path c.args.user.now c.args.modes) Done tt c.changed.result c.changed.ensures
+returns-clause-kind g c = λ path. settled (SetFile c.closed_file-rec.result) c.args.online.now c.replaced.new.online (TrapStop path c.args.user.now c.args.modes) Done tt c.replaced.result c.replaced.ensures

@@ -1,7 +1,6 @@
 use Rattle.std.proofs.Common.{None, ap, refl}
 use Rattle.g_plain.specs.declared.calls.StoreCall.TheVariants.{TrapCheck}
 use Rattle.g_plain.specs.declared.calls.StoreReply.TheVariants.{Modes}
-use Rattle.g_migrate.proofs.MigrationLemmas.{rules_here}
 use Rattle.g_store_calls.proofs.GrantedLemmas.{granted_named, granted_on, granted_there}
 use Rattle.g_store_calls.proofs.KindLemmas.{settled_told}
 use Rattle.g_store_calls.proofs.TellLemmas.{checked_user, refuses_on, replies_of, told}

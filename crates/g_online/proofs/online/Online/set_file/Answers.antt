@@ -13,30 +13,29 @@ before g c =
     memory c.self.inside.slots c.self.inside.pages c.self.inside.pool c.self.inside.tree.users c.self.inside.tree.files c.self.inside.head
     c.self.inside.online.items c.self.inside.pins c.self.inside.changed c.self.inside.touched c.self.inside.live
 
-ready : (g : _) (c : After-mark_user_changed g) → IsReady (SetFile c.args.rec.now) (g.D.Disc.state c.self.inside.disc) (before g c) (record (before g c) {
-  head = c.kept_head-self-inside.result;
+ready : (g : _) (c : After-mark_user_changed g) → IsReady (SetFile c.args.rec) (g.D.Disc.state c.self.inside.disc) (before g c) (record (before g c) {
+  head = c.carry_head.new.head;
   users = c.put.new.self.users;
   files = c.put.new.self.files;
-  pages = c.changed-2.new.self;
+  pages = c.changed.new.self;
   changed = c.mark_user_changed.new.changed;
   touched = c.mark_user_changed.new.touched;
 })
 ready g c =
-    file_ready c.args.rec.now c.copy.result (g.D.Disc.state c.self.inside.disc) _ c.is_some-pinned.result c.kept_head-self-inside.result c.put.new.self.users
-    c.put.new.self.files
-    (64 + c.from.result) c.changed.new.self c.changed-2.new.self c.mark_user_changed.new.changed c.mark_user_changed.new.touched c.args.self.now c.copy.ensures
-    c.is_some-pinned.ensures c.kept_head-self-inside.ensures (c.put.ensures.users ∙ c.reserve.ensures.users)
-    (c.put.ensures.files ∙ ap (with_file c.copy.result) c.reserve.ensures.files) (ap (λ (n : ℕ). 64 + n) c.from.ensures) c.mark_user_changed.ensures.changed
+    file_ready c.args.rec (g.D.Disc.state c.self.inside.disc) _ c.is_some-pinned.result c.carry_head.new.head c.put.new.self.users c.put.new.self.files
+    (64 + c.from.result) c.carry_head.new.pages c.changed.new.self c.mark_user_changed.new.changed c.mark_user_changed.new.touched c.args.self.now
+    c.is_some-pinned.ensures c.carry_head.ensures.head (c.put.ensures.users ∙ c.reserve.ensures.users)
+    (c.put.ensures.files ∙ ap (with_file c.args.rec) c.reserve.ensures.files) (ap (λ (n : ℕ). 64 + n) c.from.ensures) c.mark_user_changed.ensures.changed
     c.mark_user_changed.ensures.touched
     c.self.view_is c.self.invariant c.requires.allowed
-    c.changed.ensures.marks c.changed.ensures.remembers c.changed.ensures.covers c.changed-2.ensures.marks c.changed-2.ensures.remembers
-    c.changed-2.ensures.covers
+    c.carry_head.ensures.keeps c.carry_head.ensures.remembers c.carry_head.ensures.covers c.changed.ensures.marks c.changed.ensures.remembers
+    c.changed.ensures.covers
 
 pub returns-in-Err : goal.returns-in-Err
 returns-in-Err g c =
     let m : Memory = memory c.self.inside.slots c.self.inside.pages c.self.inside.pool c.self.inside.tree.users c.self.inside.tree.files c.self.inside.head
     c.self.inside.online.items c.self.inside.pins c.self.inside.changed c.self.inside.touched c.self.inside.live in
-    not_applied (SetFile c.args.rec.now) (g.D.Disc.state c.self.inside.disc) m (record m {
+    not_applied (SetFile c.args.rec) (g.D.Disc.state c.self.inside.disc) m (record m {
       users = c.reserve.new.self.users;
       files = c.reserve.new.self.files;
     }) c.args.self.now
@@ -44,16 +43,16 @@ returns-in-Err g c =
 
 pub put-requires-clause-rules : goal.put-requires-clause-rules
 put-requires-clause-rules g c =
-    file_rules c.args.rec.now c.copy.result (g.D.Disc.state c.self.inside.disc) _ c.reserve.new.self.users c.reserve.new.self.files c.args.self.now
-    c.copy.ensures c.reserve.ensures.users c.reserve.ensures.files c.self.view_is c.self.invariant c.requires.allowed
+    file_rules c.args.rec (g.D.Disc.state c.self.inside.disc) _ c.reserve.new.self.users c.reserve.new.self.files c.args.self.now
+    c.reserve.ensures.users c.reserve.ensures.files c.self.view_is c.self.invariant c.requires.allowed
 
-pub changed-requires-2 : goal.changed-requires-2
-changed-requires-2 g c =
-    block_fits c.args.rec.now (g.D.Disc.state c.self.inside.disc) _ c.from.result c.args.self.now c.from.ensures c.self.view_is c.self.invariant
+pub changed-requires : goal.changed-requires
+changed-requires g c =
+    block_fits c.args.rec (g.D.Disc.state c.self.inside.disc) _ c.from.result c.args.self.now c.from.ensures c.self.view_is c.self.invariant
     c.requires.allowed
 
 pub mark_user_changed-requires : goal.mark_user_changed-requires
-mark_user_changed-requires g c = owner_fits c.args.rec.now (g.D.Disc.state c.self.inside.disc) _ c.args.self.now c.self.view_is c.self.invariant c.requires.allowed
+mark_user_changed-requires g c = owner_fits c.args.rec (g.D.Disc.state c.self.inside.disc) _ c.args.self.now c.self.view_is c.self.invariant c.requires.allowed
 
 pub commit-requires-clause-marked : goal.commit-requires-clause-marked
 commit-requires-clause-marked g c =
