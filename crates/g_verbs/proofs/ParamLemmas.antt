@@ -10,7 +10,7 @@ use Rattle.g_name.specs.declared.bad_name.BadName.{BadName}
 use Rattle.std.proofs.Math.Bridge.{le_prop}
 use Rattle.std.proofs.lemmas.Bool.{and_from, and_parts, cond_both, false≢true}
 use Rattle.std.proofs.lemmas.Option.{cond_some, option_and_then_some, same_Some, some_pair_parts}
-use Rattle.g_lang.proofs.ValueLemmas.{behind-append, behind-is, same_text-eq, same_text-refl}
+use Rattle.g_lang.proofs.ValueLemmas.{behind-append, behind-is, same_text-eq}
 use Rattle.g_lang.specs.Conditions.{is_param_letter}
 use Rattle.g_lang.specs.LineReader.{behind}
 use Rattle.g_lines.proofs.NumberLemmas.{number-complete, number-sound}
@@ -32,7 +32,7 @@ use Rattle.g_trap.specs.declared.mode_set.Mode.{Mode}
 use Rattle.g_trap.specs.declared.mode_set.Mode.TheVariants as mode
 use Rattle.g_verbs.specs.Ranges.{IsGeneration, clamped, clamped_range, path_with, unit_with}
 use Rattle.g_verbs.specs.Forms.{IsOf}
-use Rattle.g_verbs.specs.VerbReader.{all_modes, amount_read, budget_or, budget_read, digit_unit, file_read, fits, is_of, kind_front, letter_read, local_read, mode_read, unit_read, user_read, whole_path}
+use Rattle.g_verbs.specs.VerbReader.{all_modes, amount_read, budget_or, budget_read, digit_unit, file_read, is_of, kind_front, letter_read, local_read, mode_read, unit_read, user_read, whole_path}
 use Rattle.g_monitor.specs.Parts.{mode_word}
 use Rattle.g_verbs.specs.Parameters.{IsAmount, IsFile, IsLocal, IsUnit, IsUser, kind_word, most_of, unit_word}
 use Rattle.g_verbs.specs.declared.form.Form.{Form}
