@@ -1,5 +1,5 @@
 //! The crew.
-ghost use Rattle.std.specs.Prelude.{◌≡◌, ◌↔◌, ◌+◌, ◌<◌, ◌≤◌, ◌≢◌, ◌++◌, ℕ, [], ◌∷◌, Bool, true, false, not, List, Ok, Err, None, Some, IfOk, IfSome, OnErr, OnOk, length};
+ghost use Rattle.std.specs.Prelude.{◌≡◌, ◌↔◌, ◌+◌, ◌<◌, ◌≤◌, ◌≢◌, ◌++◌, ℕ, [], ◌∷◌, Bool, true, false, not, List, Ok, Err, None, Some, IfOk, IfSome, OnErr, OnOk, length, slice_index_or};
 ghost use Rattle.std.specs.List.{remove};
 ghost use Rattle.g_budget.specs.Tariff.{IsTariff};
 ghost use Rattle.g_job_table.specs.Accounts.{AreKept, HaveAccounts, HaveRows, KeepAccounts};
@@ -276,8 +276,7 @@ impl Crew {
         };
         charge(&mut self.accounts, &self.jobs[place]);
         get_up(&mut self.terminals, number);
-        // A job is large: so it is moved once.
-        Some(self.jobs.remove(place))
+        Some(take_job(&mut self.jobs, place))
     }
 
     /// The system is down: jobs and accounts are gone. Numbers of jobs go on.
@@ -305,6 +304,19 @@ fn file_before(job: &Job) -> Option<usize>
     match job.terminal() {
         Some(_) => Some(job.monitor().len()),
         None => None,
+    }
+}
+
+/// Takes the job at this place out, and hands it over. A job is large: of the last one, as it mostly is, no other is moved.
+fn take_job(jobs: &mut Vec<Job>, place: usize) -> Job
+    requires { place < length jobs.old.items }
+    ensures value { result ≡ slice_index_or jobs.old.items place result }
+    ensures items { jobs.new.items ≡ remove jobs.old.items place }
+{
+    if place + 1 == jobs.len() {
+        jobs.swap_remove(place)
+    } else {
+        jobs.remove(place)
     }
 }
 
