@@ -1,21 +1,19 @@
 -- The end of a turn in the code: the job's rules, and that it is the end that is defined.
-use Rattle.std.proofs.Common.{◌≡◌, ℕ, ◌+◌, ◌<◌, ◌≤◌, Bool, true, false, List, [], ◌∷◌, ◌++◌, append_assoc, length, length-append, Option, Some, None, IfSome, is_some, option_map, refl, sym, ap, ◌∙◌, subst, lit≤, le_trans, arith}
+use Rattle.std.proofs.Common.{◌≡◌, ℕ, ◌+◌, ◌<◌, Bool, true, false, List, ◌++◌, append_assoc, length, Option, Some, None, is_some, option_map, refl, sym, ap, ◌∙◌, subst}
 use Rattle.std.proofs.lemmas.Bool.{false≢true, true≢false}
 use Rattle.std.specs.Fn.{FnReturnsAt, Shared}
 use denote.Ref.{Bor}
-use Rattle.g_budget.specs.Tariff.{IsCharge}
 use Rattle.g_budget.specs.declared.tariff.Charge.{Charge}
 use Rattle.g_budget.specs.declared.tariff.Usage.{Usage}
 use Rattle.g_job.specs.Beginning.{room_of}
 use Rattle.g_job.specs.Ending.{IsClear, IsWaiting, turn_by, with_last}
 use Rattle.g_job.specs.TurnEnd.{IsTurn, behind_turn, charged, charged_end, end_by, is_free, last_line, money_of, turn_of, units_of, waited}
 use Rattle.g_turn.specs.Bounds.{HasMore, IsWithin}
-use Rattle.g_job.specs.Rules.{IsGoneOnWith, IsJob, IsPending, most_bytes}
+use Rattle.g_job.specs.Rules.{IsGoneOnWith, IsJob}
 use Rattle.g_turn.specs.State.{Broken, Desk, Done, Full, Pending, Stop, Waits, Work}
 use Rattle.g_job.specs.State.{JobState}
 use Rattle.g_job.specs.declared.turn.Turn.{Turn}
 use Rattle.g_job.specs.declared.turn.Turn.TheVariants as turn
-use Rattle.g_job.proofs.KeepLemmas.{file_of, rules_kept}
 use Rattle.g_lines.specs.Lines.{ended}
 
 -- a job with nothing that waits
@@ -23,23 +21,7 @@ cleared : (j : JobState) → IsClear j → record j { pending = None; wants = No
 cleared j clear =
     ap (λ (p : Option Pending). record j { pending = p; wants = None }) (sym clear.0) ∙ ap (λ (s : Option ℕ). record j { wants = s }) (sym clear.1)
 
--- it waits
-pub wait_rules : (j : JobState) (again : Option Pending) (serial : ℕ) → IsJob j → IsWaiting j again → IsJob (record j { pending = again; wants = Some serial })
-wait_rules j again serial rules waiting = record {
-  least = rules.least;
-  most = rules.most;
-  covered = rules.covered;
-  turned = rules.turned;
-  rich = rules.rich;
-  paid = rules.paid;
-  has_time = rules.has_time;
-  file = rules.file;
-  waits = sym waiting.0;
-  goes_on = waiting.1;
-  level = λ there. waiting.2;
-}
-
--- it may, with what a turn that waits is gone on with
+-- the job may wait, with what a turn that waits is gone on with
 pub waiting_of : (j : JobState) (w : Work) (stop : Option Stop) (serial : ℕ) → IsWithin (room_of j) w → IsGoneOnWith j.monitor w → w.desk ≡ j.desk → stop ≡ w.stop → stop ≡ Some (Waits serial)
     → IsWaiting j w.again
 waiting_of j w stop serial within gone desk es is =
@@ -62,49 +44,6 @@ clear_rules j desk rules = record {
   level = λ is. absurd (false≢true is);
 }
 
--- text was put behind its file
-fits_both : (j : JobState) (text : List ℕ) → IsJob j → j.over ≡ false → length text ≤ room_of j → length j.monitor + length text ≤ 1048576
-fits_both j text rules going fits = let file : length j.monitor ≤ 1048576 = file_of j rules going in omega (arith, file, fits)
-
-pub grown_rules : (j : JobState) (text monitor : List ℕ) → IsJob j → IsClear j → j.over ≡ false → length text ≤ room_of j → length monitor ≤ length j.monitor + length text
-    → IsJob (record j { monitor = monitor })
-grown_rules j text monitor rules clear going fits few = record {
-  least = rules.least;
-  most = rules.most;
-  covered = rules.covered;
-  turned = rules.turned;
-  rich = rules.rich;
-  paid = rules.paid;
-  has_time = rules.has_time;
-  file = subst (λ (over : Bool). length monitor ≤ most_bytes over) (sym going) (let both = fits_both j text rules going fits in le_trans few both);
-  waits = rules.waits;
-  goes_on = subst (λ (p : Option Pending). IfSome p (IsPending monitor)) (sym clear.0) tt;
-  level = rules.level;
-}
-
--- it was stopped
-pub broken_rules : (j : JobState) (text : List ℕ) → IsJob j → IsClear j → j.over ≡ false → length text ≤ room_of j → IsJob (record j { monitor = j.monitor ++ text; over = true })
-broken_rules j text rules clear going fits = record {
-  least = rules.least;
-  most = rules.most;
-  covered = rules.covered;
-  turned = rules.turned;
-  rich = rules.rich;
-  paid = rules.paid;
-  has_time = λ is. absurd (true≢false is);
-  file =
-      let both : length j.monitor + length text ≤ 1048576 = fits_both j text rules going fits in
-      let all : length (j.monitor ++ text) ≡ length j.monitor + length text = length-append j.monitor text in
-      omega (arith, both, all);
-  waits = rules.waits;
-  goes_on = subst (λ (p : Option Pending). IfSome p (IsPending (j.monitor ++ text))) (sym clear.0) tt;
-  level = rules.level;
-}
-
--- a work of such a text, which is over for this
-abbrev work_for : JobState → List ℕ → Option Stop → Work
-work_for j text stop = record { desk = j.desk; text = text; orders = 0; blocks = 0; sets = false; again = None; stop = stop }
-
 -- the job behind a turn that is charged, as the code makes it
 abbrev pub settled : JobState → List ℕ → Charge → Option (List ℕ) → JobState
 settled j text charge last = record j {
@@ -126,29 +65,7 @@ settled_is j w charge (Some last) clear going desk =
     ap (λ (k : JobState). record j { used = j.used + units_of j charge; used_money = j.used_money + money_of j charge; turns = j.turns + 1; monitor = (j.monitor ++ w.text) ++ ended last; pending = k.pending; wants = k.wants; over = true }) (sym (cleared j clear))
     ∙ ap (λ (d : Desk). record j { used = j.used + units_of j charge; used_money = j.used_money + money_of j charge; turns = j.turns + 1; desk = d; pending = None; wants = None; monitor = (j.monitor ++ w.text) ++ ended last; over = true }) (sym desk)
 
-end_rules : (j : JobState) (text : List ℕ) (charge : Charge) (stop : Option Stop) → IsJob j → j.over ≡ false → IsCharge charge → length text ≤ room_of j → is_free stop ≡ false
-    → IsJob (charged_end stop j (work_for j text stop) charge).1
-end_rules j text charge None rules going within fits free =
-    rules_kept j (work_for j text None) (Some charge) rules going within (record { text = fits; orders = lit≤ tt; blocks = lit≤ tt; kept = tt; waits = tt })
-    (record { pending = tt; level = λ is. absurd (false≢true is) })
-end_rules j text charge (Some Full) rules going within fits free =
-    rules_kept j (work_for j text (Some Full)) (Some charge) rules going within (record { text = fits; orders = lit≤ tt; blocks = lit≤ tt; kept = tt; waits = tt })
-    (record { pending = tt; level = λ is. absurd (false≢true is) })
-end_rules j text charge (Some Done) rules going within fits free =
-    rules_kept j (work_for j text (Some Done)) (Some charge) rules going within (record { text = fits; orders = lit≤ tt; blocks = lit≤ tt; kept = tt; waits = tt })
-    (record { pending = tt; level = λ is. absurd (false≢true is) })
-end_rules j text charge (Some (Waits serial)) rules going within fits free = absurd (true≢false free)
-end_rules j text charge (Some Broken) rules going within fits free = absurd (true≢false free)
-
 module _ (j : JobState) (text : List ℕ) (charge : Charge) (stop : Option Stop) (last : Option (List ℕ)) (clear : IsClear j) (going : j.over ≡ false) where
-  -- the last line is that of any such work
-  pub settled_rules : IsJob j → IsCharge charge → length text ≤ room_of j → is_free stop ≡ false
-      → ((w : Work) → last ≡ option_map ended (last_line stop j charge (charged j w charge))) → IsJob (settled j text charge last)
-  settled_rules rules within fits free is =
-      let w : Work = work_for j text stop in
-      subst (λ (l : Option (List ℕ)). IsJob (settled j text charge l)) (sym (is w))
-      (subst IsJob (sym (settled_is j w charge (last_line stop j charge (charged j w charge)) clear going refl)) (end_rules j text charge stop rules going within fits free))
-
   turn_is : (units money : ℕ) (line : Option (List ℕ)) → turn_by units money (is_some (option_map ended line)) ≡ turn_of units money line
   turn_is units money None = refl
   turn_is units money (Some line) = refl
@@ -233,10 +150,6 @@ module _ {F : Type 0} (calls : Shared F (Bor Usage × Unit {0}) Charge) (rule : 
 pub behind_last : (before text : List ℕ) (last : Option (List ℕ)) → before ++ with_last text last ≡ with_last (before ++ text) last
 behind_last before text None = refl
 behind_last before text (Some last) = sym (append_assoc before text last)
-
--- a line with its byte 10, put behind a text
-pub ended_behind : (text line : List ℕ) → (text ++ line) ++ 10 ∷ [] ≡ text ++ ended line
-ended_behind text line = append_assoc text line (10 ∷ [])
 
 pub is_last : {X : Type 0} (f : X → List ℕ) (line : Option X) → is_some line ≡ is_some (option_map ended (option_map f line))
 is_last f None = refl

@@ -156,6 +156,3 @@ module _ {F : Type 0} (calls : Shared F (Bor Usage × Unit {0}) Charge) (rule : 
       → mid ≡ record j { desk = mid.desk; pending = None; wants = None } → IfOk r (λ t. IsTurn calls rule mid w t new) → OnErr r (new ≡ mid) → IsJob new
   rules_after tariff j mid w new (Ok t) rules going within gone is ended kept = kept_of tariff j w t new rules going within gone (turn_before j mid w t new is ended)
   rules_after tariff j mid w new (Err e) rules going within gone is ended kept = subst IsJob (sym (kept ∙ is)) (clear_rules j mid.desk rules)
-
-pub same_turn : (t u : Turn) → (let one : Result Turn NoMemory = Ok t in let other : Result Turn NoMemory = Ok u in one ≡ other) → t ≡ u
-same_turn t u is = cc

@@ -105,10 +105,9 @@ pub(crate) fn turned_away<K: Sink>(
 pub(crate) fn came_in(alloc: Global, number: u64, name: &Local) -> Result<Text, NoMemory>
     ensures { IfOk result (λ text. text ≡ texts.job_text number (name.now ++ codes " IN")) }
 {
-    let mut how = Text::from(Vec::with_capacity(alloc, 16)?);
-    how.extend(name.as_slice())?;
-    how.extend(b" IN")?;
-    job_text(alloc, number, how.as_slice())
+    let mut text = job_text(alloc, number, name.as_slice())?;
+    text.extend(b" IN")?;
+    Ok(text)
 }
 
 /// What is told of a job that isn't taken in.
