@@ -29,19 +29,18 @@ use Rattle.g_job.specs.declared.new_job.NewJob.{NewJob}
 use Rattle.g_job_table.specs.declared.taking.NotTaken.{NotTaken}
 use Rattle.g_job_table.specs.declared.taking.NotTaken.TheVariants as why
 use Rattle.g_operator.specs.declared.progress.Failure.{Failure}
-use Rattle.g_operator.specs.declared.progress.Failure.TheVariants.{Memory}
 use Rattle.g_operator.specs.Jobs.{ComesIn, IsRefused, KnowsIn, TakesJob, TellsWhy, joined}
 use Rattle.g_operator.specs.Parts.{DidLine, DoesLine, IsReady, Matches, Seen, seen}
 use Rattle.g_operator.specs.Puts.{FaultCause, Puts}
 use Rattle.g_operator.specs.System.{Down, SystemFacts, Up, devices_in}
 use Rattle.g_operator.specs.Telling.{TellsFault, down_text, refusal_text, system_behind, without_jobs}
 use Rattle.g_operator.proofs.GrowLemmas.{grow_itself}
-use Rattle.g_operator.proofs.LeavesLemmas.{leaves_is, leaves_joined, leaves_none, leaves_same}
-use Rattle.g_operator.proofs.LineLemmas.{none_armed, refused_line, was_done, wasnt_done}
+use Rattle.g_operator.proofs.LeavesLemmas.{leaves_joined, leaves_none, leaves_same}
+use Rattle.g_operator.proofs.LineLemmas.{none_armed, nothing_done, quiet_line, refused_line, says_refused, was_done}
 use Rattle.g_operator.proofs.UpLemmas.{up_is}
 use Rattle.g_operator.proofs.UserLemmas.{user_known}
 use Rattle.g_operator.proofs.LabelLemmas.{same_itself}
-use Rattle.g_operator.proofs.PutLemmas.{puts_grown, same_grown}
+use Rattle.g_operator.proofs.PutLemmas.{puts_grown}
 
 -- it isn't taken in, and is told why
 pub turned_away_is : (known : Bool) (job : NewJob) (count : ℕ) (c : CrewState) (w : NotTaken) (failure : Option Failure) (c' : CrewState) (before after : Option (List ℕ)) (old new : ℕ)
@@ -104,25 +103,11 @@ module _ (job : NewJob) (s : StoreFacts) (known : Bool) (known_is : (u : State) 
     }
 
   -- it is refused
-  module _ (text : List ℕ) (refuses : (w : World) → IsCrewOf w c → knows_user w.store job.user ≡ known → job_refusal w job.user job.time job.money ≡ Some text) where
-    out_does : (w : World) → Matches w before → DoesLine (job_of_line job) w (Up s) (Up s) (operator_line count (codes "REFUSED " ++ text))
-    out_does w m = record {
-      outcome = Plain;
-      next = refusal text w;
-      gives = gives_up job w (refusal text w) (up_here w m)
-          (sym (ap (λ (o : Option (List ℕ)). job_line o (taken_in job.name job.user job.time job.money job.lines w) w) (refuses w m.crew (known_is w.store m.stands.stands))));
-      counted = event_none (devices_in (Up s));
-      stands = m.stands;
-      text = ap (λ (n : ℕ). w.text ++ operator_line n (codes "REFUSED " ++ text)) m.count;
-    }
-
-    out_matches : (w : World) (m : Matches w before) → Matches (out_does w m).next (seen (Up s) c count)
-    unfolding out_does
-    out_matches w m = record {
-      stands = m.stands;
-      crew = record { jobs = m.crew.jobs; accounts = m.crew.accounts; next_job = m.crew.next_job };
-      count = m.count;
-    }
+  out_gives : (text : List ℕ) → ((w : World) → IsCrewOf w c → knows_user w.store job.user ≡ known → job_refusal w job.user job.time job.money ≡ Some text) → (w : World) → Matches w before
+      → LineGives Plain (job_of_line job) w (refusal text w)
+  out_gives text refuses w m =
+      gives_up job w (refusal text w) (up_here w m)
+      (sym (ap (λ (o : Option (List ℕ)). job_line o (taken_in job.name job.user job.time job.money job.lines w) w) (refuses w m.crew (known_is w.store m.stands.stands))))
 
   abbrev Did : Option Failure → CrewState → Option (List ℕ) → Option (List ℕ) → ℕ → ℕ → Type 0
   Did failure c' before_text after faults faults' = DidLine (job_of_line job) before failure (seen (Up s) c' count) before_text after faults faults'
@@ -132,51 +117,12 @@ module _ (job : NewJob) (s : StoreFacts) (known : Bool) (known_is : (u : State) 
       → Did failure c' before_text after faults faults'
   taken_line failure c' before_text after faults faults' (inl comes) =
       subst (λ (k : CrewState). Did failure k before_text after faults faults') (sym comes.crew)
-      (record {
-        goes = was_done (job_of_line job) before (seen (Up s) (joined job c) count) failure (operator_line count (job_text c.next_job (job.name ++ codes " IN"))) before_text after
-            (in_does comes.granted) (λ w m e. in_matches comes.granted w m) comes.put.put;
-        ready = ready;
-        crew = λ none. leaves_joined job c;
-        arms = none_armed (job_of_line job) failure (devices_in (Up s)) (devices_in (Up s)) refl refl refl refl;
-        count = refl;
-        fuses = tt;
-        same = same_itself (devices_in (Up s));
-        belongs = λ is. is;
-        dumps = λ is. grow_itself s.rack;
-        cause = comes.put.cause;
-        grows = puts_grown comes.put;
-      })
+      (quiet_line (job_of_line job) refl refl (Up s) c (joined job c) count failure (operator_line count (job_text c.next_job (job.name ++ codes " IN"))) before_text after faults faults' ready
+      (in_does comes.granted) (λ w m e. in_matches comes.granted w m) (λ none. leaves_joined job c) comes.put)
   taken_line failure c' before_text after faults faults' (inr (inl refused)) =
       subst (λ (k : CrewState). Did failure k before_text after faults faults') (sym refused.crew)
-      (record {
-        goes = was_done (job_of_line job) before (seen (Up s) c count) failure (operator_line count (codes "REFUSED " ++ refused.text)) before_text after
-            (out_does refused.text refused.refuses) (λ w m e. out_matches refused.text refused.refuses w m) refused.put.put;
-        ready = ready;
-        crew = λ none. leaves_same c;
-        arms = none_armed (job_of_line job) failure (devices_in (Up s)) (devices_in (Up s)) refl refl refl refl;
-        count = refl;
-        fuses = tt;
-        same = same_itself (devices_in (Up s));
-        belongs = λ is. is;
-        dumps = λ is. grow_itself s.rack;
-        cause = refused.put.cause;
-        grows = puts_grown refused.put;
-      })
-  taken_line failure c' before_text after faults faults' (inr (inr (is, same, text, still))) =
-      subst (λ (f : Option Failure). Did f c' before_text after faults faults') (sym is)
-      (record {
-        goes = wasnt_done (job_of_line job) before (seen (Up s) c' count) before_text after (λ w m. record { counted = event_none (devices_in (Up s)); stands = m.stands; text = text });
-        ready = ready;
-        crew = λ none. leaves_is c c' same;
-        arms = none_armed (job_of_line job) (Some Memory) (devices_in (Up s)) (devices_in (Up s)) refl refl refl refl;
-        count = refl;
-        fuses = tt;
-        same = same_itself (devices_in (Up s));
-        belongs = λ was. was;
-        dumps = λ was. grow_itself s.rack;
-        cause = still;
-        grows = same_grown before_text after text;
-      })
+      (says_refused (job_of_line job) refl refl refused.text (Up s) c count (out_gives refused.text refused.refuses) failure before_text after faults faults' ready refused.put)
+  taken_line failure c' before_text after faults faults' (inr (inr nothing)) = nothing_done (job_of_line job) refl refl (Up s) c count ready failure c' before_text after faults faults' nothing
 
 -- a system that is down takes no job
 pub down_takes_none : (job : NewJob) (d : Devices) (c : CrewState) (count : ℕ) (failure : Option Failure) (before after : Option (List ℕ)) (faults faults' : ℕ) → IsReady (Down d) c

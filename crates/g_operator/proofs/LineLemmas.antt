@@ -11,7 +11,7 @@ use Rattle.g_store_model.specs.State.{State}
 use Rattle.g_store_model.specs.CallStep.{Outcome, Plain}
 use Rattle.g_script.specs.declared.operator.Operator.{Operator}
 use Rattle.g_run_model.specs.Devices.{Devices}
-use Rattle.g_run_model.specs.Lines.{LineGives, is_process, line_refused, tells}
+use Rattle.g_run_model.specs.Lines.{LineGives, is_process, line_refused, tells, refusal}
 use Rattle.g_run_model.specs.Moves.{EventCounted}
 use Rattle.g_run_model.specs.Texts.{broken_files, operator_line}
 use Rattle.g_run_model.specs.World.{World, system_stopped}
@@ -20,7 +20,7 @@ use Rattle.g_run_model.proofs.CountLemmas.{event_none}
 use Rattle.g_job_table.specs.Crew.{CrewState, IsCrewOf}
 use Rattle.g_operator.specs.declared.progress.Failure.{Failure}
 use Rattle.g_operator.specs.declared.progress.Failure.TheVariants.{Memory, Output}
-use Rattle.g_operator.specs.Parts.{ArmsBy, DidLine, DoesLine, DoesNothing, IsReady, CountedBy, LineGoes, Matches, Seen, disc_arms, seen, tape_arms}
+use Rattle.g_operator.specs.Parts.{ArmsBy, DidLine, DoesLine, DoesNothing, IsReady, CountedBy, LineGoes, Matches, Seen, disc_arms, seen, tape_arms, LeavesCrew}
 use Rattle.g_operator.specs.Puts.{FaultCause, Puts, PutsBy}
 use Rattle.g_operator.specs.System.{StandsAs, SystemBelongs, SystemFacts, devices_in}
 use Rattle.g_operator.specs.Telling.{TellsFault, down_text, refusal_text, without_jobs}
@@ -29,6 +29,7 @@ use Rattle.g_operator.proofs.GrowLemmas.{grow_itself}
 use Rattle.g_operator.proofs.LeavesLemmas.{leaves_same}
 use Rattle.g_operator.proofs.LabelLemmas.{no_fuse, same_itself}
 use Rattle.g_operator.proofs.PutLemmas.{puts_grown, same_grown}
+use Rattle.g_operator.specs.Terminals.{DidNothing}
 
 -- done, and its text put whole or in part
 pub was_done : (what : Operator) (old new : Seen) (failure : Option Failure) (added : List ℕ) (before after : Option (List ℕ))
@@ -56,38 +57,52 @@ none_armed what failure old new no_disc no_tape disc tape = record {
   tape_since = in_none old.rack.write_faults new.rack.write_faults old.rack.arms new.rack.arms tape;
 }
 
--- A REFUSAL before anything is asked: nothing changes but the text
-module _ (what : Operator) (no_disc : disc_arms what ≡ []) (no_tape : tape_arms what ≡ []) (fault : StoreFault) (f : SystemFacts) (c : CrewState) (count : ℕ)
-    (gives : (w : World) → Matches w (seen f c count) → LineGives Plain what w (line_refused fault w)) where
-  refused_does : (w : World) → Matches w (seen f c count) → DoesLine what w f f (refusal_text count fault)
+-- A LINE that leaves the system as it is, and tells something
+pub quiet_line : (what : Operator) → disc_arms what ≡ [] → tape_arms what ≡ [] → (f : SystemFacts) (c c' : CrewState) (count : ℕ) (failure : Option Failure) (added : List ℕ)
+    (before after : Option (List ℕ)) (faults faults' : ℕ) → IsReady f c' → (does : (w : World) → Matches w (seen f c count) → DoesLine what w f f added)
+    → ((w : World) (m : Matches w (seen f c count)) → failure ≡ None → Matches (does w m).next (seen f c' count)) → (failure ≡ None → LeavesCrew c c')
+    → Puts failure added before after faults faults' → DidLine what (seen f c count) failure (seen f c' count) before after faults faults'
+quiet_line what no_disc no_tape f c c' count failure added before after faults faults' ready does matches leaves puts = record {
+  goes = was_done what (seen f c count) (seen f c' count) failure added before after does matches puts.put;
+  ready = ready;
+  crew = leaves;
+  arms = none_armed what failure (devices_in f) (devices_in f) no_disc no_tape refl refl;
+  count = refl;
+  fuses = no_fuse what no_disc no_tape (devices_in f);
+  same = same_itself (devices_in f);
+  belongs = λ is. is;
+  dumps = λ is. grown_by (is_process what) (devices_in f).rack (devices_in f).rack (grow_itself (devices_in f).rack);
+  cause = puts.cause;
+  grows = puts_grown puts;
+}
+
+-- A REFUSAL, whatever it says: nothing changes but the text
+module _ (what : Operator) (no_disc : disc_arms what ≡ []) (no_tape : tape_arms what ≡ []) (text : List ℕ) (f : SystemFacts) (c : CrewState) (count : ℕ)
+    (gives : (w : World) → Matches w (seen f c count) → LineGives Plain what w (refusal text w)) where
+  refused_does : (w : World) → Matches w (seen f c count) → DoesLine what w f f (operator_line count (codes "REFUSED " ++ text))
   refused_does w m = record {
     outcome = Plain;
-    next = line_refused fault w;
+    next = refusal text w;
     gives = gives w m;
     counted = plain_counted what no_disc no_tape (devices_in f) (devices_in f) (event_none (devices_in f));
     stands = m.stands;
-    text = ap (λ (n : ℕ). w.text ++ operator_line n (codes "REFUSED " ++ fault_line fault)) m.count;
+    text = ap (λ (n : ℕ). w.text ++ operator_line n (codes "REFUSED " ++ text)) m.count;
   }
 
   refused_matches : (w : World) (m : Matches w (seen f c count)) → Matches (refused_does w m).next (seen f c count)
   unfolding refused_does
   refused_matches w m = record { stands = m.stands; crew = record { jobs = m.crew.jobs; accounts = m.crew.accounts; next_job = m.crew.next_job }; count = m.count }
 
-  pub refused_line : (failure : Option Failure) (before after : Option (List ℕ)) (faults faults' : ℕ) → IsReady f c → Puts failure (refusal_text count fault) before after faults faults'
+  pub says_refused : (failure : Option Failure) (before after : Option (List ℕ)) (faults faults' : ℕ) → IsReady f c → Puts failure (operator_line count (codes "REFUSED " ++ text)) before after faults faults'
       → DidLine what (seen f c count) failure (seen f c count) before after faults faults'
-  refused_line failure before after faults faults' ready puts = record {
-    goes = was_done what (seen f c count) (seen f c count) failure (refusal_text count fault) before after refused_does (λ w m e. refused_matches w m) puts.put;
-    ready = ready;
-    crew = λ none. leaves_same c;
-    arms = none_armed what failure (devices_in f) (devices_in f) no_disc no_tape refl refl;
-    count = refl;
-    fuses = no_fuse what no_disc no_tape (devices_in f);
-    same = same_itself (devices_in f);
-    belongs = λ is. is;
-    dumps = λ is. grown_by (is_process what) (devices_in f).rack (devices_in f).rack (grow_itself (devices_in f).rack);
-    cause = puts.cause;
-    grows = puts_grown puts;
-  }
+  says_refused failure before after faults faults' ready puts =
+      quiet_line what no_disc no_tape f c c count failure (operator_line count (codes "REFUSED " ++ text)) before after faults faults' ready refused_does (λ w m e. refused_matches w m) (λ none. leaves_same c) puts
+
+-- and by a fault, before anything is asked
+pub refused_line : (what : Operator) → disc_arms what ≡ [] → tape_arms what ≡ [] → (fault : StoreFault) (f : SystemFacts) (c : CrewState) (count : ℕ)
+    → ((w : World) → Matches w (seen f c count) → LineGives Plain what w (line_refused fault w)) → (failure : Option Failure) (before after : Option (List ℕ)) (faults faults' : ℕ) → IsReady f c
+    → Puts failure (refusal_text count fault) before after faults faults' → DidLine what (seen f c count) failure (seen f c count) before after faults faults'
+refused_line what no_disc no_tape fault = says_refused what no_disc no_tape (fault_line fault)
 
 -- NOTHING WAS TRIED, for want of memory
 pub untried_line : (what : Operator) → disc_arms what ≡ [] → tape_arms what ≡ [] → (old new : SystemFacts) (c : CrewState) (count : ℕ) → new ≡ old → IsReady old c → (failure : Option Failure) → failure ≡ Some Memory
@@ -110,6 +125,15 @@ untried_line what no_disc no_tape old new c count same ready failure is text fau
       cause = refl;
       grows = same_grown text text refl;
     }
+
+-- nothing was done, for want of memory
+pub nothing_done : (what : Operator) → disc_arms what ≡ [] → tape_arms what ≡ [] → (f : SystemFacts) (c : CrewState) (count : ℕ) → IsReady f c → (failure : Option Failure) (c' : CrewState) (before after : Option (List ℕ)) (faults faults' : ℕ)
+    → DidNothing c failure c' before after faults faults' → DidLine what (seen f c count) failure (seen f c' count) before after faults faults'
+nothing_done what no_disc no_tape f c count ready failure c' before after faults faults' (failed, same, text, still) =
+    subst (λ (k : CrewState). DidLine what (seen f c count) failure (seen f k count) before after faults faults') (sym same)
+    (subst (λ (t : Option (List ℕ)). DidLine what (seen f c count) failure (seen f c count) before t faults faults') (sym text)
+    (subst (λ (n : ℕ). DidLine what (seen f c count) failure (seen f c count) before before faults n) (sym still)
+    (untried_line what no_disc no_tape f f c count refl ready failure failed before faults)))
 
 -- WHAT A FAULT MAKES OF THE WORLD: a stop takes it down, and any other fault is a refusal
 abbrev pub told_of : StoreFault → State → World → World

@@ -42,27 +42,18 @@ use Rattle.g_operator.specs.Parts.{DidLine, DoesLine, IsReady, LeavesCrew, Match
 use Rattle.g_operator.specs.System.{Down, SystemFacts, Up, devices_in}
 use Rattle.g_operator.specs.Telling.{TellsFault, refusal_text, system_behind}
 use Rattle.g_operator.specs.Puts.{Puts}
-use Rattle.g_operator.specs.Terminals.{ChangesAt, DidNothing, SeatsJob, TellsSeat, is_up_in, login_text, seated_in}
+use Rattle.g_operator.specs.Terminals.{ChangesAt, SeatsJob, TellsSeat, is_up_in, login_text, seated_in}
 use Rattle.g_operator.proofs.ByLemmas.{grown_by, plain_counted}
 use Rattle.g_operator.proofs.GrowLemmas.{grow_itself}
 use Rattle.g_operator.proofs.LeavesLemmas.{leaves_same}
-use Rattle.g_operator.proofs.LineLemmas.{none_armed, refused_line, untried_line, was_done}
+use Rattle.g_operator.proofs.LineLemmas.{none_armed, nothing_done, quiet_line, refused_line, says_refused, was_done}
 use Rattle.g_operator.proofs.UpLemmas.{up_is}
 use Rattle.g_operator.proofs.LabelLemmas.{no_fuse, same_itself}
-use Rattle.g_operator.proofs.PutLemmas.{puts_grown, same_grown}
+use Rattle.g_operator.proofs.PutLemmas.{same_grown}
 
 more_none : (before : Option (List ℕ)) → before ≡ with_more before []
 more_none None = refl
 more_none (Some bytes) = ap (λ (l : List ℕ). let o : Option (List ℕ) = Some l in o) (sym (append-nil bytes))
-
--- nothing was done, for want of memory
-nothing_done : (what : Operator) → disc_arms what ≡ [] → tape_arms what ≡ [] → (f : SystemFacts) (c : CrewState) (count : ℕ) → IsReady f c → (failure : Option Failure) (c' : CrewState) (before after : Option (List ℕ)) (faults faults' : ℕ)
-    → DidNothing c failure c' before after faults faults' → DidLine what (seen f c count) failure (seen f c' count) before after faults faults'
-nothing_done what no_disc no_tape f c count ready failure c' before after faults faults' (failed, same, text, still) =
-    subst (λ (k : CrewState). DidLine what (seen f c count) failure (seen f k count) before after faults faults') (sym same)
-    (subst (λ (t : Option (List ℕ)). DidLine what (seen f c count) failure (seen f c count) before t faults faults') (sym text)
-    (subst (λ (n : ℕ). DidLine what (seen f c count) failure (seen f c count) before before faults n) (sym still)
-    (untried_line what no_disc no_tape f f c count refl ready failure failed before faults)))
 
 -- WHAT THE CREW ANSWERS: it isn't taken in, and is told why
 pub sent_away_is : (known : Bool) (login : NewLogin) (count : ℕ) (c : CrewState) (w : NotSeated) (failure : Option Failure) (c' : CrewState) (before after : Option (List ℕ)) (old new : ℕ)
@@ -145,24 +136,10 @@ module _ (login : NewLogin) (s : StoreFacts) (known : Bool) (known_is : (u : Sta
     }
 
   -- it is refused
-  module _ (text : List ℕ) (refuses : (w : World) → IsCrewOf w c → knows_user w.store login.user ≡ known → login_refusal w login.terminal login.user login.time ≡ Some text) where
-    away_does : (w : World) → Matches w before_login → DoesLine (login_of_line login) w (Up s) (Up s) (operator_line count (codes "REFUSED " ++ text))
-    away_does w m = record {
-      outcome = Plain;
-      next = refusal text w;
-      gives = gives_login login w (refusal text w) (up_here w m) (sym (ap (λ (o : Option (List ℕ)). job_line o (comes login w) w) (refuses w m.crew (known_is w.store m.stands.stands))));
-      counted = event_none (devices_in (Up s));
-      stands = m.stands;
-      text = ap (λ (n : ℕ). w.text ++ operator_line n (codes "REFUSED " ++ text)) m.count;
-    }
-
-    away_matches : (w : World) (m : Matches w before_login) → Matches (away_does w m).next (seen (Up s) c count)
-    unfolding away_does
-    away_matches w m = record {
-      stands = m.stands;
-      crew = record { jobs = m.crew.jobs; accounts = m.crew.accounts; next_job = m.crew.next_job };
-      count = m.count;
-    }
+  away_gives : (text : List ℕ) → ((w : World) → IsCrewOf w c → knows_user w.store login.user ≡ known → login_refusal w login.terminal login.user login.time ≡ Some text) → (w : World) → Matches w before_login
+      → LineGives Plain (login_of_line login) w (refusal text w)
+  away_gives text refuses w m =
+      gives_login login w (refusal text w) (up_here w m) (sym (ap (λ (o : Option (List ℕ)). job_line o (comes login w) w) (refuses w m.crew (known_is w.store m.stands.stands))))
 
   abbrev DidLogin : Option Failure → CrewState → Option (List ℕ) → Option (List ℕ) → ℕ → ℕ → Type 0
   DidLogin failure c' before after faults faults' = DidLine (login_of_line login) before_login failure (seen (Up s) c' count) before after faults faults'
@@ -171,36 +148,11 @@ module _ (login : NewLogin) (s : StoreFacts) (known : Bool) (known_is : (u : Sta
   pub seated_line : (failure : Option Failure) (c' : CrewState) (before after : Option (List ℕ)) (faults faults' : ℕ) → SeatsJob known login count c failure c' before after faults faults' → DidLogin failure c' before after faults faults'
   seated_line failure c' before after faults faults' (inl sits) =
       subst (λ (k : CrewState). DidLogin failure k before after faults faults') (sym sits.crew)
-      (record {
-        goes = was_done (login_of_line login) before_login (seen (Up s) (seated_in login c) count) failure (login_text count c.next_job login) before after
-            (sits_does sits.granted) (λ w m e. sits_matches sits.granted w m) sits.put.put;
-        ready = ready;
-        crew = λ none. leaves_seated login c;
-        arms = none_armed (login_of_line login) failure (devices_in (Up s)) (devices_in (Up s)) refl refl refl refl;
-        count = refl;
-        fuses = tt;
-        same = same_itself (devices_in (Up s));
-        belongs = λ is. is;
-        dumps = λ is. grow_itself s.rack;
-        cause = sits.put.cause;
-        grows = puts_grown sits.put;
-      })
+      (quiet_line (login_of_line login) refl refl (Up s) c (seated_in login c) count failure (login_text count c.next_job login) before after faults faults' ready (sits_does sits.granted)
+      (λ w m e. sits_matches sits.granted w m) (λ none. leaves_seated login c) sits.put)
   seated_line failure c' before after faults faults' (inr (inl away)) =
       subst (λ (k : CrewState). DidLogin failure k before after faults faults') (sym away.crew)
-      (record {
-        goes = was_done (login_of_line login) before_login (seen (Up s) c count) failure (operator_line count (codes "REFUSED " ++ away.text)) before after
-            (away_does away.text away.refuses) (λ w m e. away_matches away.text away.refuses w m) away.put.put;
-        ready = ready;
-        crew = λ none. leaves_same c;
-        arms = none_armed (login_of_line login) failure (devices_in (Up s)) (devices_in (Up s)) refl refl refl refl;
-        count = refl;
-        fuses = tt;
-        same = same_itself (devices_in (Up s));
-        belongs = λ is. is;
-        dumps = λ is. grow_itself s.rack;
-        cause = away.put.cause;
-        grows = puts_grown away.put;
-      })
+      (says_refused (login_of_line login) refl refl away.text (Up s) c count (away_gives away.text away.refuses) failure before after faults faults' ready away.put)
   seated_line failure c' before after faults faults' (inr (inr nothing)) = nothing_done (login_of_line login) refl refl (Up s) c count ready failure c' before after faults faults' nothing
 
 -- where the system knows the user or doesn't, or is down
@@ -314,25 +266,10 @@ module _ (t : ℕ) (change : JobState → JobState) (stays : (j : JobState) → 
     }
 
   -- there is none
-  module _ (none : open_at t c.jobs ≡ None) where
-    nowhere_does : (w : World) → Matches w before_it → DoesLine what w (Up s) (Up s) (operator_line count (codes "REFUSED " ++ none_text t))
-    nowhere_does w m = record {
-      outcome = Plain;
-      next = refusal (none_text t) w;
-      gives = gives w (refusal (none_text t) w) (is_up_here w m)
-          (sym (ap (λ (js : List JobState). changed_at t change (open_at t js) w) m.crew.jobs ∙ ap (λ (o : Option JobState). changed_at t change o w) none));
-      counted = plain_counted what no_disc no_tape (devices_in (Up s)) (devices_in (Up s)) (event_none (devices_in (Up s)));
-      stands = m.stands;
-      text = ap (λ (n : ℕ). w.text ++ operator_line n (codes "REFUSED " ++ none_text t)) m.count;
-    }
-
-    nowhere_matches : (w : World) (m : Matches w before_it) → Matches (nowhere_does w m).next before_it
-    unfolding nowhere_does
-    nowhere_matches w m = record {
-      stands = m.stands;
-      crew = record { jobs = m.crew.jobs; accounts = m.crew.accounts; next_job = m.crew.next_job };
-      count = m.count;
-    }
+  nowhere_gives : open_at t c.jobs ≡ None → (w : World) → Matches w before_it → LineGives Plain what w (refusal (none_text t) w)
+  nowhere_gives none w m =
+      gives w (refusal (none_text t) w) (is_up_here w m)
+      (sym (ap (λ (js : List JobState). changed_at t change (open_at t js) w) m.crew.jobs ∙ ap (λ (o : Option JobState). changed_at t change o w) none))
 
   abbrev DidIt : Option Failure → CrewState → Option (List ℕ) → Option (List ℕ) → ℕ → ℕ → Type 0
   DidIt failure c' before after faults faults' = DidLine what before_it failure (seen (Up s) c' count) before after faults faults'
@@ -361,20 +298,7 @@ module _ (t : ℕ) (change : JobState → JobState) (stays : (j : JobState) → 
       (subst (λ (n : ℕ). DidIt None (changed_crew changed.job) before before faults n) (sym still) (went_on changed.job changed.there before faults))))
   changed_line failure c' before after faults faults' (inr (inl nowhere)) =
       subst (λ (k : CrewState). DidIt failure k before after faults faults') (sym nowhere.crew)
-      (record {
-        goes = was_done what before_it before_it failure (operator_line count (codes "REFUSED " ++ none_text t)) before after
-            (nowhere_does nowhere.none) (λ w m e. nowhere_matches nowhere.none w m) nowhere.put.put;
-        ready = ready;
-        crew = λ none. leaves_same c;
-        arms = none_armed what failure (devices_in (Up s)) (devices_in (Up s)) no_disc no_tape refl refl;
-        count = refl;
-        fuses = no_fuse what no_disc no_tape (devices_in (Up s));
-        same = same_itself (devices_in (Up s));
-        belongs = λ is. is;
-        dumps = λ is. grown_by (is_process what) s.rack s.rack (grow_itself s.rack);
-        cause = nowhere.put.cause;
-        grows = puts_grown nowhere.put;
-      })
+      (says_refused what no_disc no_tape (none_text t) (Up s) c count (nowhere_gives nowhere.none) failure before after faults faults' ready nowhere.put)
   changed_line failure c' before after faults faults' (inr (inr nothing)) = nothing_done what no_disc no_tape (Up s) c count ready failure c' before after faults faults' nothing
 
 gives_typed : (t : ℕ) (text : List ℕ) (w next : World) → w.store.up ≡ true → next ≡ at_terminal t (typed_to text) w → LineGives Plain (line.Typed t text) w next

@@ -7,21 +7,26 @@ use Rattle.g_plain.specs.declared.faults.StoreFault.TheVariants.{Stopped}
 use Rattle.g_monitor.specs.Refusals.{fault_line}
 use Rattle.g_store_model.specs.State.{State}
 use Rattle.g_store_model.specs.CallStep.{Plain}
+use Rattle.g_store_model.specs.DumpSteps.{MountStep, UnmountStep}
 use Rattle.g_script.specs.declared.operator.Operator.{Operator}
+use Rattle.g_script.specs.declared.operator.Operator.TheVariants as line
 use Rattle.g_run_model.specs.Devices.{Devices}
 use Rattle.g_run_model.specs.Lines.{LineGives, is_process, line_refused, now_stands, tells}
 use Rattle.g_run_model.specs.Moves.{EventCounted}
-use Rattle.g_run_model.specs.Texts.{operator_line}
+use Rattle.g_run_model.specs.Texts.{operator_line, tape_text}
 use Rattle.g_run_model.specs.World.{World}
 use Rattle.g_run_model.proofs.CountLemmas.{happened_same}
 use Rattle.g_job_table.specs.Accounts.{AreKept}
 use Rattle.g_job_table.specs.Crew.{CrewState}
 use Rattle.g_operator.specs.declared.progress.Failure.{Failure}
-use Rattle.g_operator.specs.Parts.{DidLine, DoesLine, IsReady, CountedBy, Matches, disc_arms, seen, tape_arms}
+use Rattle.g_operator.specs.BeginningAnew.{IsBlank, WentAside, beside_new}
+use Rattle.g_operator.specs.Parts.{DidLine, DoesLine, IsReady, CountedBy, Matches, Seen, disc_arms, seen, tape_arms}
 use Rattle.g_operator.specs.Puts.{Puts}
 use Rattle.g_operator.specs.Reels.{StaysAsUp, StepsReels}
 use Rattle.g_operator.specs.System.{Down, StandsAs, SystemFacts, Up, devices_in}
 use Rattle.g_operator.specs.Telling.{refusal_text}
+use Rattle.g_operator.proofs.AnewLemmas.{ready_beside, same_aside}
+use Rattle.g_operator.proofs.DayLemmas.{same_line}
 use Rattle.g_operator.proofs.LeavesLemmas.{leaves_same}
 use Rattle.g_operator.proofs.ByLemmas.{grown_by, plain_counted}
 use Rattle.g_operator.proofs.LineLemmas.{none_armed, was_done}
@@ -47,6 +52,11 @@ ready_still (Down d) (Down e) c same (low, high, jobs, accounts) =
 told_refusal : (done : Unit {0} → State → World → World) (fault : StoreFault) (u : State) (w : World) → fault ≢ Stopped → tells done (Err fault) u w ≡ line_refused fault (record w { store = u })
 told_refusal done Stopped u w other = absurd (other refl)
 told_refusal done fault u w other = refl
+
+-- what is told of a reel
+abbrev pub added_by : List ℕ → ℕ → Result (Unit {0}) StoreFault → List ℕ
+added_by text count (Ok u) = operator_line count text
+added_by text count (Err fault) = refusal_text count fault
 
 module _ (what : Operator) (no_disc : disc_arms what ≡ []) (no_tape : tape_arms what ≡ []) (by : State → Result (Unit {0}) StoreFault → State → Type 0) (text : List ℕ)
     (lifts : (w next : World) (r : Result (Unit {0}) StoreFault) (s : State) → by w.store r s → next ≡ tells (λ x t v. now_stands text t v) r s w → LineGives Plain what w next)
@@ -89,11 +99,7 @@ module _ (what : Operator) (no_disc : disc_arms what ≡ []) (no_tape : tape_arm
       }
 
   -- A REEL'S LINE
-  abbrev added_by : Result (Unit {0}) StoreFault → List ℕ
-  added_by (Ok u) = operator_line count text
-  added_by (Err fault) = refusal_text count fault
-
-  does_by : (answer : Result (Unit {0}) StoreFault) → StepsReels by old answer new → (w : World) → Matches w (seen old c count) → DoesLine what w old new (added_by answer)
+  does_by : (answer : Result (Unit {0}) StoreFault) → StepsReels by old answer new → (w : World) → Matches w (seen old c count) → DoesLine what w old new (added_by text count answer)
   does_by (Ok u) is w m = turned_does is w m
   does_by (Err fault) is w m = refused_does fault is w m
 
@@ -103,9 +109,9 @@ module _ (what : Operator) (no_disc : disc_arms what ≡ []) (no_tape : tape_arm
   matches_by (Err fault) is w m = matches_here w (refused_does fault is w m).next m refl refl refl refl (refused_does fault is w m).stands
 
   pub reel_line : (answer : Result (Unit {0}) StoreFault) → StepsReels by old answer new → IsReady old c → (failure : Option Failure) (before after : Option (List ℕ)) (faults faults' : ℕ)
-      → Puts failure (added_by answer) before after faults faults' → DidLine what (seen old c count) failure (seen new c count) before after faults faults'
+      → Puts failure (added_by text count answer) before after faults faults' → DidLine what (seen old c count) failure (seen new c count) before after faults faults'
   reel_line answer is ready failure before after faults faults' puts = record {
-    goes = was_done what (seen old c count) (seen new c count) failure (added_by answer) before after (does_by answer is) (λ w m e. matches_by answer is w m) puts.put;
+    goes = was_done what (seen old c count) (seen new c count) failure (added_by text count answer) before after (does_by answer is) (λ w m e. matches_by answer is w m) puts.put;
     ready = ready_still old new c is.stays ready;
     crew = λ none. leaves_same c;
     arms = none_armed what failure (devices_in old) (devices_in new) no_disc no_tape (ap (λ (d : DiscState). d.arms) is.disc) is.arms;
@@ -118,3 +124,36 @@ module _ (what : Operator) (no_disc : disc_arms what ≡ []) (no_tape : tape_arm
     cause = puts.cause;
     grows = puts_grown puts;
   }
+
+-- A LINE THAT TURNS A REEL: the step that the store makes, and the text that tells it
+pub record Turns (what : Operator) (by : State → Result (Unit {0}) StoreFault → State → Type 0) (text : List ℕ) : Type 0 where
+  pub no_disc : disc_arms what ≡ []
+  pub no_tape : tape_arms what ≡ []
+  pub lifts : (w next : World) (r : Result (Unit {0}) StoreFault) (s : State) → by w.store r s → next ≡ tells (λ x t v. now_stands text t v) r s w → LineGives Plain what w next
+
+pub mounts_line : (serial : ℕ) → Turns (line.Mount serial) (λ s a u. MountStep s serial a u) (tape_text serial (codes "MOUNTED"))
+mounts_line serial = record { no_disc = refl; no_tape = refl; lifts = λ w next r s step is. (r, s, (refl, step), is) }
+
+pub unmounts_line : (serial : ℕ) → Turns (line.Unmount serial) (λ s a u. UnmountStep s serial a u) (tape_text serial (codes "UNMOUNTED"))
+unmounts_line serial = record { no_disc = refl; no_tape = refl; lifts = λ w next r s step is. (r, s, (refl, step), is) }
+
+-- as it is told to the day, and beside a new disc
+module _ {what : Operator} {by : State → Result (Unit {0}) StoreFault → State → Type 0} {text : List ℕ} (turns : Turns what by text) {old : SystemFacts} {c : CrewState} {count : ℕ} {day : Seen}
+    (day_is : seen old c count ≡ day) (ready : IsReady day.system day.crew) where
+  ready_here : IsReady old c
+  ready_here = subst (λ (s : Seen). IsReady s.system s.crew) (sym day_is) ready
+
+  pub day_line : {new : SystemFacts} {told : Result (Unit {0}) StoreFault} {failure : Option Failure} {before after : Option (List ℕ)} {faults faults' : ℕ} (answer : Result (Unit {0}) StoreFault) → told ≡ answer
+      → StepsReels by old told new → Puts failure (added_by text count answer) before after faults faults' → DidLine what day failure (seen new c count) before after faults faults'
+  day_line {new = new} answer is steps puts =
+      same_line day_is refl
+      (reel_line what turns.no_disc turns.no_tape by text turns.lifts old new c count answer (subst (λ (a : Result (Unit {0}) StoreFault). StepsReels by old a new) is steps) ready_here _ _ _ _ _ puts)
+
+  pub day_aside : {new : SystemFacts} {told : Result (Unit {0}) StoreFault} {failure : Option Failure} {before after : Option (List ℕ)} {faults faults' : ℕ} (answer : Result (Unit {0}) StoreFault) → told ≡ answer
+      → StepsReels by (beside_new old) told (beside_new new) → (IsBlank old → IsBlank new) → Puts failure (added_by text count answer) before after faults faults'
+      → WentAside what day failure (seen new c count) before after faults faults'
+  day_aside {new = new} answer is steps blank puts = same_aside day_is (record {
+    line = reel_line what turns.no_disc turns.no_tape by text turns.lifts (beside_new old) (beside_new new) c count answer
+        (subst (λ (a : Result (Unit {0}) StoreFault). StepsReels by (beside_new old) a (beside_new new)) is steps) (ready_beside old c ready_here) _ _ _ _ _ puts;
+    blank = blank;
+  })

@@ -1,17 +1,17 @@
 -- Behind each event a tree is dumped wherever a reel has a dump, if it was so before.
-use Rattle.std.proofs.Common.{◌≡◌, ◌==◌, ◌&&◌, ◌||◌, ℕ, Bool, true, false, List, [], ◌∷◌, Option, Some, None, option_map, Result, Ok, Err, MatchOption, refl, sym, ◌∙◌, ap, subst, inl, inr, if◌then◌else◌}
+use Rattle.std.proofs.Common.{◌≡◌, ◌==◌, ◌&&◌, ◌||◌, ℕ, Bool, true, false, List, [], ◌∷◌, Option, Some, None, option_map, Result, Ok, Err, refl, sym, ◌∙◌, ap, subst, inl, inr, if◌then◌else◌}
 use Rattle.std.specs.List.{list_all}
 use Rattle.g_name.specs.declared.full.Full.{Full}
 use Rattle.g_plain.specs.declared.calls.StoreCall.{StoreCall}
 use Rattle.g_plain.specs.declared.calls.StoreReply.{StoreReply}
 use Rattle.g_plain.specs.declared.faults.StoreFault.{StoreFault}
 use Rattle.g_plain.specs.declared.faults.StoreFault.TheVariants.{DiscReadFault, Stopped}
-use Rattle.g_store_model.specs.CallStep.{CallStep, Cut, DiscRead, Outcome, Plain, TapeRead, after_call, brings_now, commits, down, held_after, touched_by, writes}
+use Rattle.g_store_model.specs.CallStep.{CallStep, Outcome, Plain, after_call, brings_now, commits, down, held_after, touched_by, writes}
 use Rattle.g_store_model.specs.DumpSteps.{Completed, DumpStep, Event, Going, MigrateStep, MountStep, OpenStep, Stepped as DumpStepped, UnmountStep, with_mounted, with_used}
-use Rattle.g_store_model.specs.Rising.{FormatStep, RestoreStep, Restores, StartStep, Starts, has_none, restore_early}
-use Rattle.g_store_model.specs.State.{Dumped as DumpedTree, Holding, OpenDump, ReelRow, State, with_reel}
+use Rattle.g_store_model.specs.Rising.{FormatStep, RestoreStep, StartStep, has_none}
+use Rattle.g_store_model.specs.State.{Holding, OpenDump, ReelRow, State, with_reel, Dumped as DumpedTree}
 use Rattle.g_run_model.specs.Laws.{HasDumped}
-use Rattle.g_run_model.proofs.StepLemmas.{call_kept}
+use Rattle.g_run_model.proofs.StepLemmas.{call_kept, restore_kept, start_kept}
 
 -- what is dumped stays, and so do the reels' dumps
 abbrev pub KeepsDumps : State → State → Type 0
@@ -32,28 +32,11 @@ event_keeps (Some fault) reply s after r new keeps (err, is) = dumps_of s s new 
 pub format_keeps : (s : State) (o : Outcome) (r : Result (Unit {0}) StoreFault) (new : State) → FormatStep s o r new → KeepsDumps s new
 format_keeps s o r new event = event_keeps _ _ s _ r new (λ has. has) event
 
-starts_keep : (s : State) (h : Option Holding) (o : Outcome) (r : Result (Option ℕ) StoreFault) (new : State) → Starts s h o r new → KeepsDumps s new
-starts_keep s h DiscRead r new (err, is) = dumps_of s s new is (λ has. has)
-starts_keep s None Plain r new (err, is) = dumps_of s s new is (λ has. has)
-starts_keep s None TapeRead r new (err, is) = dumps_of s s new is (λ has. has)
-starts_keep s None Cut r new (err, is) = dumps_of s s new is (λ has. has)
-starts_keep s (Some k) Plain r new event = event_keeps _ _ s _ r new (λ has. has) event
-starts_keep s (Some k) TapeRead r new event = event_keeps _ _ s _ r new (λ has. has) event
-starts_keep s (Some k) Cut r new event = event_keeps _ _ s _ r new (λ has. has) event
-
 pub start_keeps : (s : State) (o : Outcome) (r : Result (Option ℕ) StoreFault) (new : State) → StartStep s o r new → KeepsDumps s new
-start_keeps s o r new step = starts_keep s s.holding o r new step
-
-restores_keep : (s : State) (d : Option DumpedTree) (o : Outcome) (r : Result ℕ StoreFault) (new : State) → Restores s d o r new → KeepsDumps s new
-restores_keep s None o r new (lost, is) = dumps_of s s new is (λ has. has)
-restores_keep s (Some d) o r new event = event_keeps _ _ s _ r new (λ has. has) event
-
-restored_keep : (s : State) (f : Option StoreFault) (o : Outcome) (r : Result ℕ StoreFault) (new : State) → MatchOption f (Restores s s.dumped o r new) (λ fault. (r ≡ Err fault) × (new ≡ s)) → KeepsDumps s new
-restored_keep s None o r new step = restores_keep s s.dumped o r new step
-restored_keep s (Some fault) o r new (err, is) = dumps_of s s new is (λ has. has)
+start_keeps s = start_kept (λ (x : State). KeepsDumps s x) s (λ has. has) (λ has. has) (λ k e has. has) (λ k e has. has)
 
 pub restore_keeps : (s : State) (o : Outcome) (r : Result ℕ StoreFault) (new : State) → RestoreStep s o r new → KeepsDumps s new
-restore_keeps s o r new step = restored_keep s (restore_early s o) o r new step
+restore_keeps s = restore_kept (λ (x : State). KeepsDumps s x) s (λ has. has) (λ has. has) (λ d e has. has) (λ d e has. has)
 
 pub open_keeps : (s : State) (k : Holding) (serial : ℕ) (o : Outcome) (r : Result ℕ StoreFault) (new : State) → OpenStep s k serial o r new → KeepsDumps s new
 open_keeps s k serial o r new (places, noted, event) = event_keeps _ _ s _ r new (λ has. has) event

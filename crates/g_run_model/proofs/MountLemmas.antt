@@ -1,6 +1,6 @@
 -- Which reels are mounted behind each event: none more than before, but for MOUNT. And a call that waits, waits for a reel
 -- that isn't mounted.
-use Rattle.std.proofs.Common.{◌≡◌, ◌==◌, ◌⊎◌, ◌&&◌, ℕ, Bool, true, false, not, List, [], ◌∷◌, Option, Some, None, Result, Ok, Err, MatchOption, option_map, is_some, unwrap_or, refl, sym, ◌∙◌, ap, subst, inl, inr, if◌then◌else◌, ◌||◌}
+use Rattle.std.proofs.Common.{◌≡◌, ◌==◌, ◌⊎◌, ◌&&◌, ℕ, Bool, true, false, not, List, [], ◌∷◌, Option, Some, None, Result, Ok, Err, option_map, is_some, unwrap_or, refl, sym, ◌∙◌, ap, subst, inl, inr, if◌then◌else◌, ◌||◌}
 use Rattle.std.proofs.lemmas.Bool.{false≢true}
 use Rattle.g_plain.proofs.StepAnswers.{own_fault}
 use Rattle.g_plain.specs.declared.calls.StoreCall.{StoreCall}
@@ -8,12 +8,12 @@ use Rattle.g_plain.specs.declared.calls.StoreReply.{StoreReply}
 use Rattle.g_plain.specs.declared.faults.StoreFault.{StoreFault}
 use Rattle.g_plain.specs.declared.faults.StoreFault.TheVariants.{DiscFull, DiscReadFault, Stopped, TapeReadFault, WaitTape}
 use Rattle.g_plain.specs.PlainStep.{fault_of, first_fault, reply_to}
-use Rattle.g_store_model.specs.CallStep.{CallStep, Cut, DiscRead, LeftByRefusal, Outcome, Plain, Planned, TapeRead, after_call, brings_now, commits, down, early, held_after, is_offline, is_tape_read, late, reel_of, touched_by, writes}
+use Rattle.g_store_model.specs.CallStep.{CallStep, LeftByRefusal, Outcome, Planned, after_call, brings_now, commits, down, early, held_after, is_offline, is_tape_read, late, reel_of, touched_by, writes}
 use Rattle.g_store_model.specs.DumpSteps.{Completed, DumpStep, Event, Going, MigrateStep, OpenStep, Stepped as DumpStepped, UnmountStep, UsedByCut, shelved, with_mounted, with_shelved, with_used}
-use Rattle.g_store_model.specs.Rising.{FormatStep, RestoreStep, Restores, StartStep, Starts, restore_early}
-use Rattle.g_store_model.specs.State.{Dumped as DumpedTree, Holding, OpenDump, ReelRow, State, is_mounted, mounted_in, reel_at, with_reel}
+use Rattle.g_store_model.specs.Rising.{FormatStep, RestoreStep, StartStep}
+use Rattle.g_store_model.specs.State.{Holding, OpenDump, ReelRow, State, is_mounted, mounted_in, reel_at, with_reel}
 use Rattle.g_name.specs.declared.full.Full.{Full}
-use Rattle.g_run_model.proofs.StepLemmas.{call_kept, refused}
+use Rattle.g_run_model.proofs.StepLemmas.{call_kept, refused, restore_kept, start_kept}
 
 -- every reel that is mounted was mounted
 abbrev pub NoMount : State → State → Type 0
@@ -36,28 +36,11 @@ event_mounts (Some fault) reply s after r new fewer (err, is) = no_mount_of s s 
 pub format_mounts : (s : State) (o : Outcome) (r : Result (Unit {0}) StoreFault) (new : State) → FormatStep s o r new → NoMount s new
 format_mounts s o r new event = event_mounts _ _ s _ r new (λ serial mounted. mounted) event
 
-starts_mounts : (s : State) (h : Option Holding) (o : Outcome) (r : Result (Option ℕ) StoreFault) (new : State) → Starts s h o r new → NoMount s new
-starts_mounts s h DiscRead r new (err, is) = no_mount_of s s new is (λ serial mounted. mounted)
-starts_mounts s None Plain r new (err, is) = no_mount_of s s new is (λ serial mounted. mounted)
-starts_mounts s None TapeRead r new (err, is) = no_mount_of s s new is (λ serial mounted. mounted)
-starts_mounts s None Cut r new (err, is) = no_mount_of s s new is (λ serial mounted. mounted)
-starts_mounts s (Some k) Plain r new event = event_mounts _ _ s _ r new (λ serial mounted. mounted) event
-starts_mounts s (Some k) TapeRead r new event = event_mounts _ _ s _ r new (λ serial mounted. mounted) event
-starts_mounts s (Some k) Cut r new event = event_mounts _ _ s _ r new (λ serial mounted. mounted) event
-
 pub start_mounts : (s : State) (o : Outcome) (r : Result (Option ℕ) StoreFault) (new : State) → StartStep s o r new → NoMount s new
-start_mounts s o r new step = starts_mounts s s.holding o r new step
-
-restores_mounts : (s : State) (d : Option DumpedTree) (o : Outcome) (r : Result ℕ StoreFault) (new : State) → Restores s d o r new → NoMount s new
-restores_mounts s None o r new (lost, is) = no_mount_of s s new is (λ serial mounted. mounted)
-restores_mounts s (Some d) o r new event = event_mounts _ _ s _ r new (λ serial mounted. mounted) event
-
-restored_mounts : (s : State) (f : Option StoreFault) (o : Outcome) (r : Result ℕ StoreFault) (new : State) → MatchOption f (Restores s s.dumped o r new) (λ fault. (r ≡ Err fault) × (new ≡ s)) → NoMount s new
-restored_mounts s None o r new step = restores_mounts s s.dumped o r new step
-restored_mounts s (Some fault) o r new (err, is) = no_mount_of s s new is (λ serial mounted. mounted)
+start_mounts s = start_kept (λ (x : State). NoMount s x) s (λ serial mounted. mounted) (λ serial mounted. mounted) (λ k e serial mounted. mounted) (λ k e serial mounted. mounted)
 
 pub restore_mounts : (s : State) (o : Outcome) (r : Result ℕ StoreFault) (new : State) → RestoreStep s o r new → NoMount s new
-restore_mounts s o r new step = restored_mounts s (restore_early s o) o r new step
+restore_mounts s = restore_kept (λ (x : State). NoMount s x) s (λ serial mounted. mounted) (λ serial mounted. mounted) (λ d e serial mounted. mounted) (λ d e serial mounted. mounted)
 
 -- lines of a system that is up
 pub open_mounts : (s : State) (k : Holding) (serial : ℕ) (o : Outcome) (r : Result ℕ StoreFault) (new : State) → OpenStep s k serial o r new → NoMount s new

@@ -1,24 +1,22 @@
-use Rattle.std.proofs.Common.{true, sym, ap, subst}
-use Rattle.std.specs.Prelude.{Result}
+use Rattle.std.proofs.Common.{true, sym, ap, refl, subst}
 use Rattle.g_tape.specs.Rack.{refuses_mount}
-use Rattle.g_plain.specs.declared.faults.StoreFault.{StoreFault}
 use Rattle.g_run_model.specs.Devices.{Devices}
 use Rattle.g_laws_runs.specs.BeginningAnew.{with_new_disc}
 use Rattle.g_operator.specs.BeginningAnew.{IsBlank, beside_new}
 use Rattle.g_operator.specs.Reels.{MountsOn}
 use Rattle.g_operator.specs.System.{Down, IsRunning, SystemFacts, Up, facts_of}
 use Rattle.g_operator.proofs.AnewLemmas.{blank_mounting}
-use Rattle.g_operator.proofs.ReelLemmas.{mounts_down, mounts_up}
+use Rattle.g_operator.proofs.ReelLemmas.{as_known, mounts_down, mounts_up}
 use Rattle.g_operator.proofs.reels.mount.Goals as goal
 
 pub returns-in-Up-clause-steps : goal.returns-in-Up-clause-steps
 returns-in-Up-clause-steps g c =
-    subst (λ (f : SystemFacts). MountsOn c.args.serial f c.mount.result (Up c.mount.new.self)) (sym (ap (facts_of g.D.Disc.state g.T.Tapes.rack) c.in-Up.is))
+    as_known (λ f a u. MountsOn c.args.serial f a u) _ _ _ _ _ (ap (facts_of g.D.Disc.state g.T.Tapes.rack) c.in-Up.is) refl
     (mounts_up c.args.serial c.in-Up.store c.mount.new.self (subst IsRunning (ap (facts_of g.D.Disc.state g.T.Tapes.rack) c.in-Up.is) c.requires.running) c.mount.result c.mount.ensures)
 
 pub returns-in-Up-clause-aside : goal.returns-in-Up-clause-aside
 returns-in-Up-clause-aside g c =
-    subst (λ (f : SystemFacts). MountsOn c.args.serial (beside_new f) c.mount.result (Up c.mount.new.self)) (sym (ap (facts_of g.D.Disc.state g.T.Tapes.rack) c.in-Up.is))
+    as_known (λ f a u. MountsOn c.args.serial (beside_new f) a u) _ _ _ _ _ (ap (facts_of g.D.Disc.state g.T.Tapes.rack) c.in-Up.is) refl
     (mounts_up c.args.serial c.in-Up.store c.mount.new.self (subst IsRunning (ap (facts_of g.D.Disc.state g.T.Tapes.rack) c.in-Up.is) c.requires.running) c.mount.result c.mount.ensures)
 
 pub returns-in-Up-clause-blank : goal.returns-in-Up-clause-blank
@@ -26,19 +24,13 @@ returns-in-Up-clause-blank g c = subst (λ (f : SystemFacts). IsBlank f → IsBl
 
 pub returns-in-Down-clause-steps : goal.returns-in-Down-clause-steps
 returns-in-Down-clause-steps g c =
-    let d : Devices = record { disc = g.D.Disc.state c.in-Down.field-0; rack = g.T.Tapes.rack c.in-Down.tapes } in
-    let e : Devices = record { disc = g.D.Disc.state c.in-Down.field-0; rack = g.T.Tapes.rack c.mount-in-Down.new.self } in
-    subst (λ (f : SystemFacts). MountsOn c.args.serial f c.rack_answer.result (Down e)) (sym (ap (facts_of g.D.Disc.state g.T.Tapes.rack) c.in-Down.is))
-    (subst (λ (a : Result (Unit {0}) StoreFault). MountsOn c.args.serial (Down d) a (Down e)) (sym c.rack_answer.ensures)
-    (mounts_down c.args.serial d c.mount-in-Down.result (g.T.Tapes.rack c.mount-in-Down.new.self) c.mount-in-Down.ensures))
+    as_known (λ f a u. MountsOn c.args.serial f a u) _ _ _ _ _ (ap (facts_of g.D.Disc.state g.T.Tapes.rack) c.in-Down.is) c.rack_answer.ensures
+    (mounts_down c.args.serial _ c.mount-in-Down.result (g.T.Tapes.rack c.mount-in-Down.new.self) c.mount-in-Down.ensures)
 
 pub returns-in-Down-clause-aside : goal.returns-in-Down-clause-aside
 returns-in-Down-clause-aside g c =
-    let d : Devices = record { disc = g.D.Disc.state c.in-Down.field-0; rack = g.T.Tapes.rack c.in-Down.tapes } in
-    let e : Devices = record { disc = g.D.Disc.state c.in-Down.field-0; rack = g.T.Tapes.rack c.mount-in-Down.new.self } in
-    subst (λ (f : SystemFacts). MountsOn c.args.serial (beside_new f) c.rack_answer.result (Down (with_new_disc e))) (sym (ap (facts_of g.D.Disc.state g.T.Tapes.rack) c.in-Down.is))
-    (subst (λ (a : Result (Unit {0}) StoreFault). MountsOn c.args.serial (Down (with_new_disc d)) a (Down (with_new_disc e))) (sym c.rack_answer.ensures)
-    (mounts_down c.args.serial (with_new_disc d) c.mount-in-Down.result (g.T.Tapes.rack c.mount-in-Down.new.self) c.mount-in-Down.ensures))
+    as_known (λ f a u. MountsOn c.args.serial (beside_new f) a u) _ _ _ _ _ (ap (facts_of g.D.Disc.state g.T.Tapes.rack) c.in-Down.is) c.rack_answer.ensures
+    (mounts_down c.args.serial _ c.mount-in-Down.result (g.T.Tapes.rack c.mount-in-Down.new.self) c.mount-in-Down.ensures)
 
 pub returns-in-Down-clause-blank : goal.returns-in-Down-clause-blank
 returns-in-Down-clause-blank g c =

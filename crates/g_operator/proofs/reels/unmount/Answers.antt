@@ -1,24 +1,22 @@
-use Rattle.std.proofs.Common.{false, sym, ap, subst}
-use Rattle.std.specs.Prelude.{Result}
+use Rattle.std.proofs.Common.{false, sym, ap, refl, subst}
 use Rattle.g_tape.specs.Rack.{refuses_unmount}
-use Rattle.g_plain.specs.declared.faults.StoreFault.{StoreFault}
 use Rattle.g_run_model.specs.Devices.{Devices}
 use Rattle.g_laws_runs.specs.BeginningAnew.{with_new_disc}
 use Rattle.g_operator.specs.BeginningAnew.{IsBlank, beside_new}
 use Rattle.g_operator.specs.Reels.{UnmountsOn}
 use Rattle.g_operator.specs.System.{Down, IsRunning, SystemFacts, Up, facts_of}
 use Rattle.g_operator.proofs.AnewLemmas.{blank_mounting}
-use Rattle.g_operator.proofs.ReelLemmas.{unmounts_down, unmounts_up}
+use Rattle.g_operator.proofs.ReelLemmas.{as_known, unmounts_down, unmounts_up}
 use Rattle.g_operator.proofs.reels.unmount.Goals as goal
 
 pub returns-in-Up-clause-steps : goal.returns-in-Up-clause-steps
 returns-in-Up-clause-steps g c =
-    subst (λ (f : SystemFacts). UnmountsOn c.args.serial f c.unmount.result (Up c.unmount.new.self)) (sym (ap (facts_of g.D.Disc.state g.T.Tapes.rack) c.in-Up.is))
+    as_known (λ f a u. UnmountsOn c.args.serial f a u) _ _ _ _ _ (ap (facts_of g.D.Disc.state g.T.Tapes.rack) c.in-Up.is) refl
     (unmounts_up c.args.serial c.in-Up.store c.unmount.new.self (subst IsRunning (ap (facts_of g.D.Disc.state g.T.Tapes.rack) c.in-Up.is) c.requires.running) c.unmount.result c.unmount.ensures)
 
 pub returns-in-Up-clause-aside : goal.returns-in-Up-clause-aside
 returns-in-Up-clause-aside g c =
-    subst (λ (f : SystemFacts). UnmountsOn c.args.serial (beside_new f) c.unmount.result (Up c.unmount.new.self)) (sym (ap (facts_of g.D.Disc.state g.T.Tapes.rack) c.in-Up.is))
+    as_known (λ f a u. UnmountsOn c.args.serial (beside_new f) a u) _ _ _ _ _ (ap (facts_of g.D.Disc.state g.T.Tapes.rack) c.in-Up.is) refl
     (unmounts_up c.args.serial c.in-Up.store c.unmount.new.self (subst IsRunning (ap (facts_of g.D.Disc.state g.T.Tapes.rack) c.in-Up.is) c.requires.running) c.unmount.result c.unmount.ensures)
 
 pub returns-in-Up-clause-blank : goal.returns-in-Up-clause-blank
@@ -26,19 +24,13 @@ returns-in-Up-clause-blank g c = subst (λ (f : SystemFacts). IsBlank f → IsBl
 
 pub returns-in-Down-clause-steps : goal.returns-in-Down-clause-steps
 returns-in-Down-clause-steps g c =
-    let d : Devices = record { disc = g.D.Disc.state c.in-Down.field-0; rack = g.T.Tapes.rack c.in-Down.tapes } in
-    let e : Devices = record { disc = g.D.Disc.state c.in-Down.field-0; rack = g.T.Tapes.rack c.unmount-in-Down.new.self } in
-    subst (λ (f : SystemFacts). UnmountsOn c.args.serial f c.rack_answer.result (Down e)) (sym (ap (facts_of g.D.Disc.state g.T.Tapes.rack) c.in-Down.is))
-    (subst (λ (a : Result (Unit {0}) StoreFault). UnmountsOn c.args.serial (Down d) a (Down e)) (sym c.rack_answer.ensures)
-    (unmounts_down c.args.serial d c.unmount-in-Down.result (g.T.Tapes.rack c.unmount-in-Down.new.self) c.unmount-in-Down.ensures))
+    as_known (λ f a u. UnmountsOn c.args.serial f a u) _ _ _ _ _ (ap (facts_of g.D.Disc.state g.T.Tapes.rack) c.in-Down.is) c.rack_answer.ensures
+    (unmounts_down c.args.serial _ c.unmount-in-Down.result (g.T.Tapes.rack c.unmount-in-Down.new.self) c.unmount-in-Down.ensures)
 
 pub returns-in-Down-clause-aside : goal.returns-in-Down-clause-aside
 returns-in-Down-clause-aside g c =
-    let d : Devices = record { disc = g.D.Disc.state c.in-Down.field-0; rack = g.T.Tapes.rack c.in-Down.tapes } in
-    let e : Devices = record { disc = g.D.Disc.state c.in-Down.field-0; rack = g.T.Tapes.rack c.unmount-in-Down.new.self } in
-    subst (λ (f : SystemFacts). UnmountsOn c.args.serial (beside_new f) c.rack_answer.result (Down (with_new_disc e))) (sym (ap (facts_of g.D.Disc.state g.T.Tapes.rack) c.in-Down.is))
-    (subst (λ (a : Result (Unit {0}) StoreFault). UnmountsOn c.args.serial (Down (with_new_disc d)) a (Down (with_new_disc e))) (sym c.rack_answer.ensures)
-    (unmounts_down c.args.serial (with_new_disc d) c.unmount-in-Down.result (g.T.Tapes.rack c.unmount-in-Down.new.self) c.unmount-in-Down.ensures))
+    as_known (λ f a u. UnmountsOn c.args.serial (beside_new f) a u) _ _ _ _ _ (ap (facts_of g.D.Disc.state g.T.Tapes.rack) c.in-Down.is) c.rack_answer.ensures
+    (unmounts_down c.args.serial _ c.unmount-in-Down.result (g.T.Tapes.rack c.unmount-in-Down.new.self) c.unmount-in-Down.ensures)
 
 pub returns-in-Down-clause-blank : goal.returns-in-Down-clause-blank
 returns-in-Down-clause-blank g c =
