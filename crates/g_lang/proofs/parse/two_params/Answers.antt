@@ -15,4 +15,4 @@ returns-in_default-Some-split_at_comma c =
     more-than-two text first rest second c.in_default-Some-split_at_comma.field-0-1.now
     (subst (λ (o : Option (Bor (List ℕ))). MatchOption o (parts_of 0 text ≡ first ∷ []) (λ more. parts_of 0 text ≡ first ∷ parts_of 0 more.now)) c.in_default-Some.is-1 c.split_at_comma.ensures.parts)
     (subst (λ (o : Option (Bor (List ℕ))). MatchOption o (parts_of 0 rest ≡ second ∷ []) (λ more. parts_of 0 rest ≡ second ∷ parts_of 0 more.now)) c.in_default-Some-split_at_comma.is-1
-      behind)
+    behind)
