@@ -32,8 +32,15 @@ pub fn label_of(text: &[u8]) -> Option<Label>
 pub fn has_label(text: &[u8], label: &Label) -> bool
     ensures { result ≡ has_label label.now text.now }
 {
-    let (word, _) = split_word(without_front(text));
-    word == label.as_slice()
+    let line = without_front(text);
+    // Most lines have no label: the first byte tells it.
+    match line.split_first() {
+        Some((first, _)) if is_digit(*first) => {
+            let (word, _) = split_word(line);
+            word == label.as_slice()
+        }
+        _ => false,
+    }
 }
 
 /// The label of a line without spaces in front, if it has one, and the command behind.

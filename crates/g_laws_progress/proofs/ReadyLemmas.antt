@@ -17,7 +17,7 @@ use Rattle.g_sched.specs.declared.rule.Standing.{Standing}
 use Rattle.g_script.specs.declared.operator.Timed.{Timed}
 use Rattle.g_store_model.specs.CallStep.{Cut, DiscRead, Outcome, Plain, TapeRead, down}
 use Rattle.g_store_model.specs.DumpSteps.{Completed, Event, Going, Stepped as DumpStepped}
-use Rattle.g_store_model.specs.Rising.{Restores, Starts, restore_early}
+use Rattle.g_store_model.specs.Rising.{Restores, Starts, restore_early, RestoreStep, StartStep}
 use Rattle.g_store_model.specs.State.{Dumped as DumpedTree, Holding, State}
 use Rattle.g_run_model.specs.Moves.{Answered, Begin, Dumped, Move, Over, Run, Step, TakeLine, Ticked, TurnOver, dump_told}
 use Rattle.g_run_model.specs.World.{Between, Phase, Stepped, Turned, World, can_step, is_due, job_of, start}
@@ -28,6 +28,7 @@ use Rattle.g_laws_runs.proofs.FilestoreLemmas.{dump_one, one_kept, one_move}
 use Rattle.g_laws_runs.proofs.WalkLemmas.{AreKept, IsQuiet, quiet_kept}
 use Rattle.g_laws_progress.proofs.ChoiceLemmas.{no_job, number_there}
 use Rattle.g_laws_progress.proofs.LineLemmas.{line_leaves}
+use Rattle.g_run_model.proofs.StepLemmas.{restore_kept, start_kept}
 
 -- a system that is up holds a filestore
 abbrev pub IsHeld : State → Type 0
@@ -45,30 +46,18 @@ event_held (Some Stopped) reply s after r new old done (err, inl is) = held_at (
 event_held (Some Stopped) reply s after r new old done (err, inr is) = held_at (down after) new is (λ up. absurd (false≢true up))
 event_held (Some fault) reply s after r new old done (err, is) = held_at s new is old
 
-start_held : (s : State) (h : Option Holding) (o : Outcome) (r : Result (Option ℕ) StoreFault) (new : State) → IsHeld s → Starts s h o r new → IsHeld new
-start_held s h DiscRead r new old (err, is) = held_at s new is old
-start_held s None Plain r new old (err, is) = held_at s new is old
-start_held s None TapeRead r new old (err, is) = held_at s new is old
-start_held s None Cut r new old (err, is) = held_at s new is old
-start_held s (Some k) Plain r new old event = event_held _ _ s _ r new old (λ up. refl) event
-start_held s (Some k) TapeRead r new old event = event_held _ _ s _ r new old (λ up. refl) event
-start_held s (Some k) Cut r new old event = event_held _ _ s _ r new old (λ up. refl) event
+start_held : (s : State) (o : Outcome) (r : Result (Option ℕ) StoreFault) (new : State) → IsHeld s → StartStep s o r new → IsHeld new
+start_held s o r new old step = start_kept (λ (x : State). IsHeld x) s old (λ up. absurd (false≢true up)) (λ k e up. refl) (λ k e up. absurd (false≢true up)) o r new step
 
-restores_held : (s : State) (t : Option DumpedTree) (o : Outcome) (r : Result ℕ StoreFault) (new : State) → IsHeld s → Restores s t o r new → IsHeld new
-restores_held s None o r new old (lost, is) = held_at s new is old
-restores_held s (Some t) o r new old event = event_held _ _ s _ r new old (λ up. refl) event
-
-restore_held : (s : State) (f : Option StoreFault) (o : Outcome) (r : Result ℕ StoreFault) (new : State) → IsHeld s
-    → MatchOption f (Restores s s.dumped o r new) (λ fault. (r ≡ Err fault) × (new ≡ s)) → IsHeld new
-restore_held s None o r new old step = restores_held s s.dumped o r new old step
-restore_held s (Some fault) o r new old (err, is) = held_at s new is old
+restore_held : (s : State) (o : Outcome) (r : Result ℕ StoreFault) (new : State) → IsHeld s → RestoreStep s o r new → IsHeld new
+restore_held s o r new old step = restore_kept (λ (x : State). IsHeld x) s old (λ up. absurd (false≢true up)) (λ d e up. refl) (λ d e up. absurd (false≢true up)) o r new step
 
 held_kept : AreKept KeepsHeld
 held_kept = record {
   itself = λ s old. old;
   format = λ s o r new low step so old. event_held _ _ s _ r new old (λ up. refl) step;
-  start = λ s o r new low step so old. start_held s s.holding o r new old step;
-  restore = λ s o r new low step so old. restore_held s (restore_early s o) o r new old step;
+  start = λ s o r new low step so old. start_held s o r new old step;
+  restore = λ s o r new low step so old. restore_held s o r new old step;
   shut = λ s none old up. absurd (false≢true up);
   mount = λ s serial r new step old. event_held _ _ s _ r new old old step;
   unmount = λ s serial r new step old. event_held _ _ s _ r new old old step;

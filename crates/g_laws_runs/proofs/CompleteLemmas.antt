@@ -16,11 +16,11 @@ use Rattle.g_plain.specs.declared.calls.StoreCall.{StoreCall}
 use Rattle.g_plain.specs.declared.calls.StoreReply.{StoreReply}
 use Rattle.g_plain.specs.declared.faults.StoreFault.{StoreFault}
 use Rattle.g_plain.specs.declared.faults.StoreFault.TheVariants.{DiscReadFault, NoTape, NotMounted, Stopped, TapeBusy, TapeReadFault}
-use Rattle.g_store_model.specs.CallStep.{CallStep, Cut, DiscRead, LeftByRefusal, Outcome, Plain, Planned, TapeRead, after_call, brings_now, commits, down, early, held_after, late, touched_by, writes, after_unjam}
+use Rattle.g_store_model.specs.CallStep.{CallStep, Cut, LeftByRefusal, Outcome, Plain, Planned, TapeRead, after_call, brings_now, commits, down, early, held_after, late, touched_by, writes, after_unjam}
 use Rattle.g_store_model.specs.DumpSteps.{Completed, DumpStep, Event, Going, MigrateStep, OpenStep, Stepped, completed, is_busy, open_refuses, opening, uses}
 use Rattle.g_store_model.specs.Process.{ProcessStep, Processes, moved, process_refuses, process_refuses_late, with_cut}
-use Rattle.g_store_model.specs.Rising.{Restores, Starts, restore_early}
-use Rattle.g_store_model.specs.State.{Dumped as DumpedTree, Holding, OpenDump, Place, State, lacks}
+use Rattle.g_store_model.specs.Rising.{RestoreStep, StartStep}
+use Rattle.g_store_model.specs.State.{Holding, OpenDump, Place, State, lacks, Dumped as DumpedTree}
 use Rattle.g_run_model.specs.Laws.{IsPlain}
 use Rattle.g_run_model.specs.Moves.{Answered, Begin, Dumped, Move, Over, Run, Step, TakeLine, Ticked, TurnOver, outcome_of}
 use Rattle.g_run_model.specs.World.{World, start}
@@ -32,7 +32,7 @@ use Rattle.g_laws_runs.specs.Dumps.{IsSameDump, dump_steps}
 use Rattle.g_laws_runs.proofs.DumpLemmas.{one_dump, open_refused}
 use Rattle.g_laws_runs.proofs.RefusedLemmas.{unstopped}
 use Rattle.g_laws_runs.proofs.WalkLemmas.{AreKept, IsQuiet, quiet_kept}
-use Rattle.g_run_model.proofs.StepLemmas.{call_kept}
+use Rattle.g_run_model.proofs.StepLemmas.{call_kept, restore_kept, start_kept}
 
 -- A DUMP IS OPEN only of a system that is up, and has a step left
 abbrev pub IsSound : State → Type 0
@@ -59,23 +59,11 @@ event_sound (Some Stopped) reply s after r new old done (err, inl is) = sound_no
 event_sound (Some Stopped) reply s after r new old done (err, inr is) = sound_none new (ap (λ (x : State). x.open_dump) is)
 event_sound (Some fault) reply s after r new old done (err, is) = sound_at s new is old
 
-start_sound : (s : State) (h : Option Holding) (o : Outcome) (r : Result (Option ℕ) StoreFault) (new : State) → IsSound s → Starts s h o r new → IsSound new
-start_sound s h DiscRead r new old (err, is) = sound_at s new is old
-start_sound s None Plain r new old (err, is) = sound_at s new is old
-start_sound s None TapeRead r new old (err, is) = sound_at s new is old
-start_sound s None Cut r new old (err, is) = sound_at s new is old
-start_sound s (Some k) Plain r new old event = event_sound _ _ s _ r new old (λ d is. no_dump d is) event
-start_sound s (Some k) TapeRead r new old event = event_sound _ _ s _ r new old (λ d is. no_dump d is) event
-start_sound s (Some k) Cut r new old event = event_sound _ _ s _ r new old (λ d is. no_dump d is) event
+start_sound : (s : State) (o : Outcome) (r : Result (Option ℕ) StoreFault) (new : State) → IsSound s → StartStep s o r new → IsSound new
+start_sound s o r new old step = start_kept (λ (x : State). IsSound x) s old (sound_none (down s) refl) (λ k e d is. no_dump d is) (λ k e d is. no_dump d is) o r new step
 
-restores_sound : (s : State) (t : Option DumpedTree) (o : Outcome) (r : Result ℕ StoreFault) (new : State) → IsSound s → Restores s t o r new → IsSound new
-restores_sound s None o r new old (lost, is) = sound_at s new is old
-restores_sound s (Some t) o r new old event = event_sound _ _ s _ r new old (λ d is. no_dump d is) event
-
-restore_sound : (s : State) (f : Option StoreFault) (o : Outcome) (r : Result ℕ StoreFault) (new : State) → IsSound s
-    → MatchOption f (Restores s s.dumped o r new) (λ fault. (r ≡ Err fault) × (new ≡ s)) → IsSound new
-restore_sound s None o r new old step = restores_sound s s.dumped o r new old step
-restore_sound s (Some fault) o r new old (err, is) = sound_at s new is old
+restore_sound : (s : State) (o : Outcome) (r : Result ℕ StoreFault) (new : State) → IsSound s → RestoreStep s o r new → IsSound new
+restore_sound s o r new old step = restore_kept (λ (x : State). IsSound x) s old (sound_none (down s) refl) (λ t e d is. no_dump d is) (λ t e d is. no_dump d is) o r new step
 
 two_more : (a b c : ℕ) → 0 < 2 + a + b + c
 two_more a b c = omega arith
@@ -124,8 +112,8 @@ sound_kept : AreKept KeepsSound
 sound_kept = record {
   itself = λ s old. old;
   format = λ s o r new low step so old. event_sound _ _ s _ r new old (λ d is. no_dump d is) step;
-  start = λ s o r new low step so old. start_sound s s.holding o r new old step;
-  restore = λ s o r new low step so old. restore_sound s (restore_early s o) o r new old step;
+  start = λ s o r new low step so old. start_sound s o r new old step;
+  restore = λ s o r new low step so old. restore_sound s o r new old step;
   shut = λ s none old. sound_none (down s) refl;
   mount = λ s serial r new step old. event_sound _ _ s _ r new old old step;
   unmount = λ s serial r new step old. event_sound _ _ s _ r new old old step;

@@ -1,6 +1,6 @@
 -- An open dump, move by move.
 use Rattle.std.proofs.Common.{◌≡◌, ℕ, ◌+◌, ◌≤◌, ◌<◌, List, [], ◌∷◌, Option, Some, None, refl, sym, ◌∙◌, ap, subst, inl, inr, arith}
-use Rattle.std.specs.Prelude.{◌⊎◌, ◌-◌, ◌^◌, ◌==◌, ◌||◌, Bool, true, false, not, nat_lt, Result, Err, MatchBool, MatchOption, if◌then◌else◌, is_some, option_map, sum_by, codes, ◌++◌}
+use Rattle.std.specs.Prelude.{◌⊎◌, ◌-◌, ◌^◌, ◌==◌, ◌||◌, Bool, true, false, not, nat_lt, Result, Err, MatchBool, if◌then◌else◌, is_some, option_map, sum_by, codes, ◌++◌}
 use Rattle.std.proofs.lemmas.List.Sums.{sum_by-cons}
 use Rattle.std.specs.Fmt.{decimal}
 use Rattle.std.specs.Fn.{Shared}
@@ -16,10 +16,10 @@ use Rattle.g_plain.specs.declared.faults.StoreFault.TheVariants.{CountersSpent, 
 use Rattle.g_plain.specs.PlainStep.{Checks, first_fault}
 use Rattle.g_script.specs.declared.operator.Operator.{Operator}
 use Rattle.g_script.specs.declared.operator.Operator.TheVariants as line
-use Rattle.g_store_model.specs.CallStep.{Cut, DiscRead, Outcome, Plain, TapeRead, after_call, brings_now, is_cut, is_tape_read, touched_by, writes, CallStep}
+use Rattle.g_store_model.specs.CallStep.{Outcome, Plain, after_call, brings_now, is_cut, is_tape_read, touched_by, writes, CallStep}
 use Rattle.g_store_model.specs.DumpSteps.{Event, dump_needs, open_number, open_refuses, tape_room}
-use Rattle.g_store_model.specs.Rising.{FormatStep, RestoreStep, Restores, StartStep, Starts, restore_early}
-use Rattle.g_store_model.specs.State.{Dumped as DumpedTree, Holding, OpenDump, State, is_mounted, lacks}
+use Rattle.g_store_model.specs.Rising.{FormatStep, RestoreStep, StartStep}
+use Rattle.g_store_model.specs.State.{Holding, OpenDump, State, is_mounted, lacks}
 use Rattle.g_run_model.specs.Events.{IsMigration, IsOpening, IsTold, IsProcessing}
 use Rattle.g_run_model.specs.Laws.{DumpsEnd}
 use Rattle.g_run_model.specs.Lines.{LineGives, shut_with, line_refused, now_stands, tells, up_with}
@@ -31,7 +31,7 @@ use Rattle.g_job.specs.Terminal.{logged_out, typed_to}
 use Rattle.g_laws_runs.specs.Dumps.{DumpsStay, DumpsTakeNeeds, IsSameDump, RunOpen, StaysOrGoes, dump_steps}
 use Rattle.g_run_model.proofs.ProcessedLemmas.{of_each}
 use Rattle.g_store_model.specs.Process.{ProcessStep}
-use Rattle.g_run_model.proofs.StepLemmas.{call_kept}
+use Rattle.g_run_model.proofs.StepLemmas.{call_kept, restore_kept, start_kept}
 
 pub one_dump : (a b : OpenDump) → (let one : Option OpenDump = Some a in one ≡ Some b) → a ≡ b
 one_dump a b e = cc
@@ -67,23 +67,11 @@ module _ (d : OpenDump) where
   event_stays (Some Stopped) reply s after r new opened done (err, inr is) = goes d new.open_dump (ap (λ (x : State). x.open_dump) is)
   event_stays (Some fault) reply s after r new opened done (err, is) = at_state s new is (stays d s.open_dump opened)
 
-  start_stays : (s : State) (h : Option Holding) (o : Outcome) (r : Result (Option ℕ) StoreFault) (new : State) → s.open_dump ≡ Some d → Starts s h o r new → StaysOrGoes d new.open_dump
-  start_stays s h DiscRead r new opened (err, is) = at_state s new is (stays d s.open_dump opened)
-  start_stays s None Plain r new opened (err, is) = at_state s new is (stays d s.open_dump opened)
-  start_stays s None TapeRead r new opened (err, is) = at_state s new is (stays d s.open_dump opened)
-  start_stays s None Cut r new opened (err, is) = at_state s new is (stays d s.open_dump opened)
-  start_stays s (Some k) Plain r new opened event = event_stays _ _ s _ r new opened (λ none. tt) event
-  start_stays s (Some k) TapeRead r new opened event = event_stays _ _ s _ r new opened (λ none. tt) event
-  start_stays s (Some k) Cut r new opened event = event_stays _ _ s _ r new opened (λ none. tt) event
+  start_stays : (s : State) (o : Outcome) (r : Result (Option ℕ) StoreFault) (new : State) → s.open_dump ≡ Some d → StartStep s o r new → StaysOrGoes d new.open_dump
+  start_stays s o r new opened step = start_kept (λ (x : State). StaysOrGoes d x.open_dump) s (stays d s.open_dump opened) (goes d None refl) (λ k e. tt) (λ k e. tt) o r new step
 
-  restores_stay : (s : State) (t : Option DumpedTree) (o : Outcome) (r : Result ℕ StoreFault) (new : State) → s.open_dump ≡ Some d → Restores s t o r new → StaysOrGoes d new.open_dump
-  restores_stay s None o r new opened (lost, is) = at_state s new is (stays d s.open_dump opened)
-  restores_stay s (Some t) o r new opened event = event_stays _ _ s _ r new opened (λ none. tt) event
-
-  restore_stays : (s : State) (f : Option StoreFault) (o : Outcome) (r : Result ℕ StoreFault) (new : State) → s.open_dump ≡ Some d
-      → MatchOption f (Restores s s.dumped o r new) (λ fault. (r ≡ Err fault) × (new ≡ s)) → StaysOrGoes d new.open_dump
-  restore_stays s None o r new opened step = restores_stay s s.dumped o r new opened step
-  restore_stays s (Some fault) o r new opened (err, is) = at_state s new is (stays d s.open_dump opened)
+  restore_stays : (s : State) (o : Outcome) (r : Result ℕ StoreFault) (new : State) → s.open_dump ≡ Some d → RestoreStep s o r new → StaysOrGoes d new.open_dump
+  restore_stays s o r new opened step = restore_kept (λ (x : State). StaysOrGoes d x.open_dump) s (stays d s.open_dump opened) (goes d None refl) (λ t e. tt) (λ t e. tt) o r new step
 
   -- an opening is refused while a dump is open
   third_true : {P : Type 0} (a b : Bool) (x y z : StoreFault) (rest : Checks) → first_fault ((a, x) ∷ (b, y) ∷ (true, z) ∷ rest) ≡ None → P
@@ -147,9 +135,9 @@ module _ (d : OpenDump) where
   -- A LINE
   line_stays : (o : Outcome) (what : Operator) (w new : World) → w.store.open_dump ≡ Some d → LineGives o what w new → StaysOrGoes d new.store.open_dump
   line_stays o line.Format w new opened gives = rises_stays FormatStep (λ r. codes "FORMATTED") o w new opened (λ r s does. event_stays _ _ w.store _ r s opened (λ none. tt) does) w.store.up gives
-  line_stays o line.Start w new opened gives = rises_stays StartStep started_text o w new opened (λ r s does. start_stays w.store w.store.holding o r s opened does) w.store.up gives
+  line_stays o line.Start w new opened gives = rises_stays StartStep started_text o w new opened (λ r s does. start_stays w.store o r s opened does) w.store.up gives
   line_stays o line.Restore w new opened gives =
-      rises_stays RestoreStep (λ n. codes "RESTORED FROM DUMP " ++ decimal n) o w new opened (λ r s does. restore_stays w.store (restore_early w.store o) o r s opened does) w.store.up gives
+      rises_stays RestoreStep (λ n. codes "RESTORED FROM DUMP " ++ decimal n) o w new opened (λ r s does. restore_stays w.store o r s opened does) w.store.up gives
   line_stays o line.Shut w new opened (plain, gives) = shut_by o w new w.store.up opened gives
   line_stays o (line.Job name user time money lines) w new opened (plain, is) = still w new _ opened is (job_by o name user time money lines w w.store.up)
   line_stays o (line.Mount serial) w new opened (r, s, (plain, does), is) =

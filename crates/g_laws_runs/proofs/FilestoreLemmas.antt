@@ -1,6 +1,6 @@
 -- What a store holds, event by event.
 use Rattle.std.proofs.Common.{◌≡◌, ℕ, List, [], ◌∷◌, Option, Some, None, refl, sym, ◌∙◌, ap, subst, inl, inr}
-use Rattle.std.specs.Prelude.{◌⊎◌, ◌||◌, Bool, true, false, Result, Ok, Err, MatchOption, option_map, is_some, if◌then◌else◌}
+use Rattle.std.specs.Prelude.{◌⊎◌, ◌||◌, Bool, true, false, Result, Ok, Err, option_map, is_some, if◌then◌else◌}
 use Rattle.std.proofs.lemmas.Bool.{false≢true}
 use Rattle.std.specs.FinMap.{FinMap}
 use Rattle.std.specs.Fn.{Shared}
@@ -16,11 +16,11 @@ use Rattle.g_plain.specs.declared.faults.StoreFault.{StoreFault}
 use Rattle.g_plain.specs.declared.faults.StoreFault.TheVariants.{DiscReadFault, Stopped}
 use Rattle.g_store_meaning.specs.Meaning.{told_reels}
 use Rattle.g_store_meaning.specs.Reading.{holding_of}
-use Rattle.g_store_model.specs.CallStep.{Cut, DiscRead, Outcome, Plain, TapeRead, after_call, brings_now, commits, down, held_after, no_longer_kept, touched_by, writes, CallStep}
+use Rattle.g_store_model.specs.CallStep.{Outcome, after_call, brings_now, commits, down, held_after, no_longer_kept, touched_by, writes, CallStep}
 use Rattle.g_store_model.specs.DumpSteps.{Completed, DumpStep, Event, Going, Stepped}
 use Rattle.g_store_model.specs.Process.{ProcessStep, moved, with_cut}
-use Rattle.g_store_model.specs.Rising.{Restores, Starts, restore_early}
-use Rattle.g_store_model.specs.State.{Dumped as DumpedTree, Holding, OpenDump, Place, State}
+use Rattle.g_store_model.specs.Rising.{RestoreStep, StartStep}
+use Rattle.g_store_model.specs.State.{Holding, OpenDump, Place, State, Dumped as DumpedTree}
 use Rattle.g_run_model.specs.Devices.{Devices, HoldsThis, StandFor}
 use Rattle.g_run_model.specs.Moves.{Dumped, Move, Step}
 use Rattle.g_run_model.specs.World.{World}
@@ -29,7 +29,7 @@ use Rattle.g_run_model.proofs.TreeLemmas.{dump_store}
 use Rattle.g_laws_runs.specs.Filestores.{DevicesKeepFilestores, FilestoresStay, HasFilestore, HoldsOne}
 use Rattle.g_laws_runs.proofs.CompleteLemmas.{kind}
 use Rattle.g_laws_runs.proofs.WalkLemmas.{AreKept, IsQuiet, quiet_kept}
-use Rattle.g_run_model.proofs.StepLemmas.{call_kept}
+use Rattle.g_run_model.proofs.StepLemmas.{call_kept, restore_kept, start_kept}
 
 abbrev pub KeepsOne : Outcome → State → State → Type 0
 KeepsOne o s new = HoldsOne s → HoldsOne new
@@ -50,23 +50,11 @@ event_one (Some Stopped) reply s after r new old done (err, inl is) = one_at (do
 event_one (Some Stopped) reply s after r new old done (err, inr is) = one_at (down after) new is (one_down after done)
 event_one (Some fault) reply s after r new old done (err, is) = one_at s new is old
 
-start_one : (s : State) (h : Option Holding) (o : Outcome) (r : Result (Option ℕ) StoreFault) (new : State) → HoldsOne s → Starts s h o r new → HoldsOne new
-start_one s h DiscRead r new old (err, is) = one_at s new is old
-start_one s None Plain r new old (err, is) = one_at s new is old
-start_one s None TapeRead r new old (err, is) = one_at s new is old
-start_one s None Cut r new old (err, is) = one_at s new is old
-start_one s (Some k) Plain r new old event = event_one _ _ s _ r new old refl event
-start_one s (Some k) TapeRead r new old event = event_one _ _ s _ r new old refl event
-start_one s (Some k) Cut r new old event = event_one _ _ s _ r new old refl event
+start_one : (s : State) (o : Outcome) (r : Result (Option ℕ) StoreFault) (new : State) → HoldsOne s → StartStep s o r new → HoldsOne new
+start_one s o r new old step = start_kept (λ (x : State). HoldsOne x) s old (one_down s old) (λ k e. refl) (λ k e. refl) o r new step
 
-restores_one : (s : State) (t : Option DumpedTree) (o : Outcome) (r : Result ℕ StoreFault) (new : State) → HoldsOne s → Restores s t o r new → HoldsOne new
-restores_one s None o r new old (lost, is) = one_at s new is old
-restores_one s (Some t) o r new old event = event_one _ _ s _ r new old refl event
-
-restore_one : (s : State) (f : Option StoreFault) (o : Outcome) (r : Result ℕ StoreFault) (new : State) → HoldsOne s
-    → MatchOption f (Restores s s.dumped o r new) (λ fault. (r ≡ Err fault) × (new ≡ s)) → HoldsOne new
-restore_one s None o r new old step = restores_one s s.dumped o r new old step
-restore_one s (Some fault) o r new old (err, is) = one_at s new is old
+restore_one : (s : State) (o : Outcome) (r : Result ℕ StoreFault) (new : State) → HoldsOne s → RestoreStep s o r new → HoldsOne new
+restore_one s o r new old step = restore_kept (λ (x : State). HoldsOne x) s old (one_down s old) (λ d e. refl) (λ d e. refl) o r new step
 
 either_one : (b : Bool) (t s : State) → HoldsOne t → HoldsOne s → HoldsOne (if b then t else s)
 either_one true t s one other = one
@@ -102,8 +90,8 @@ pub one_kept : AreKept KeepsOne
 one_kept = record {
   itself = λ s old. old;
   format = λ s o r new low step so old. event_one _ _ s _ r new old refl step;
-  start = λ s o r new low step so old. start_one s s.holding o r new old step;
-  restore = λ s o r new low step so old. restore_one s (restore_early s o) o r new old step;
+  start = λ s o r new low step so old. start_one s o r new old step;
+  restore = λ s o r new low step so old. restore_one s o r new old step;
   shut = λ s none old. one_down s old;
   mount = λ s serial r new step old. event_one _ _ s _ r new old old step;
   unmount = λ s serial r new step old. event_one _ _ s _ r new old old step;

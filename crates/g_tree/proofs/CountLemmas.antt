@@ -273,6 +273,9 @@ module _ (users : List UserRec) where
       newest_risen (take place files) (drop place files) file old new (subst (λ fs. AreNewest users fs old) (sym (take-append-drop place files)) are)
       (subst (λ f. HasNewest old new f (max (newest_in old f) (later f.generation))) named risen)
 
+pub none_newest : (m : FinMap full_cmp ℕ) (full : Full) → m ≡ empty → 0 ≡ newest_in m full
+none_newest m full e = sym (ap (λ n. newest_in n full) e ∙ ap (λ o. unwrap_or o 0) (get-empty full_cmp (versions_of full)))
+
 pub no_newest : (users : List UserRec) (m : FinMap full_cmp ℕ) → m ≡ empty → AreNewest users [] m
 no_newest users m e = λ q. ap (λ n. newest_in n q) e ∙ ap (λ o. unwrap_or o 0) (get-empty full_cmp (versions_of q))
 

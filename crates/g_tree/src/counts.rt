@@ -57,6 +57,9 @@ impl Counts {
     pub fn newest(&self, full: &Full) -> u16
         ensures { result ≡ newest_in self.now.generations.numbers full.now }
     {
+        if self.generations.is_empty() {
+            return 0;
+        }
         self.generations.find(&versions_of(full)).unwrap_or(0)
     }
 

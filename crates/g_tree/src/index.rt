@@ -41,6 +41,13 @@ impl Index {
         }
     }
 
+    /// Whether there is no name.
+    pub fn is_empty(&self) -> bool
+        ensures { result ≡ true → self.now.numbers ≡ finmap.empty }
+    {
+        self.numbers.is_empty()
+    }
+
     pub fn find(&self, full: &Full) -> Option<u16>
         ensures { result ≡ finmap.get self.now.numbers full.now }
     {
