@@ -1,17 +1,11 @@
 -- What a call of one level leaves.
-use Rattle.std.proofs.Common.{IfSome, List, None, Option, Some, [], ap, append_assoc, arith, cond, false, get_or, le-leb, length, nat_le, not, option_map, refl, replicate, set, suc, sym, true, zero, ℕ, ◌++◌, ◌+◌, ◌-◌, ◌<◌, ◌∙◌, ◌∷◌, ◌≡◌, ◌≤◌}
+use Rattle.std.proofs.Common.{IfSome, List, None, Option, Some, [], ap, arith, cond, false, get_or, le-leb, length, nat_le, not, option_map, refl, set, suc, sym, true, zero, ℕ, ◌++◌, ◌+◌, ◌<◌, ◌∙◌, ◌∷◌, ◌≡◌, ◌≤◌}
 use Rattle.std.proofs.lemmas.Bool.{and_from, and_left, and_right, cond_both, lt-leb, not_from_false, not_from_true, or_from, or_left, or_right}
 use Rattle.g_lang.specs.Conditions.{same_cond}
 use Rattle.g_lang.specs.declared.line.Cond.{Cond}
 use Rattle.g_macro.specs.LevelReplies.{is_full_in}
 use Rattle.g_macro.specs.Levels.{Level, has_cond, place_of_cond, with_entry}
 use Rattle.g_macro.specs.declared.entry.Entry.{Entry}
-
--- empty parameters behind the others
-pub fill-step : (all : List (List ℕ)) (n : ℕ) → n < 24 → (all ++ [] ∷ []) ++ replicate (24 - (n + 1)) [] ≡ all ++ replicate (24 - n) []
-fill-step all n more =
-    let e : 24 - n ≡ suc (24 - (n + 1)) = omega (arith, more) in
-    append_assoc all ([] ∷ []) (replicate (24 - (n + 1)) []) ∙ ap (λ (k : ℕ). all ++ replicate k []) (sym e)
 
 -- an entry with this condition, or none
 pub place-within : (cond : Cond) (entries : List Entry) (o : Option ℕ) → place_of_cond cond entries ≡ o → IfSome o (λ n. n < length entries)

@@ -2,6 +2,8 @@ pub mod FrontLemmas
 pub mod HoldingLemmas
 pub mod LabelLemmas
 pub mod LevelLemmas
+pub mod ParamLemmas
 pub mod PlaceLemmas
+pub mod QuietLemmas
 pub mod SpanLemmas
 pub mod StackLemmas

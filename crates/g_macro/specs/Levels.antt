@@ -1,5 +1,5 @@
 -- The levels of a job, and the lines that it takes of them.
-use Rattle.std.specs.Prelude.{All, Bool, List, None, Option, Some, [], codes, drop, false, find, if◌then◌else◌, length, nat_le, nat_lt, not, option_map, replicate, slice_index_or, slice_set, take, true, ℕ, ◌&&◌, ◌++◌, ◌+◌, ◌-◌, ◌||◌, ◌∷◌, ◌≡◌, ◌≤◌}
+use Rattle.std.specs.Prelude.{All, Bool, List, None, Option, Some, [], codes, drop, false, find, if◌then◌else◌, length, nat_le, nat_lt, not, option_map, replicate, slice_index_or, slice_set, take, true, ℕ, ◌&&◌, ◌==◌, ◌++◌, ◌+◌, ◌-◌, ◌||◌, ◌∷◌, ◌≡◌, ◌≤◌}
 use Rattle.g_lang.specs.Conditions.{same_cond}
 use Rattle.g_lang.specs.Lines.{IsCommandText}
 use Rattle.g_lang.specs.Words.{has_label}
@@ -157,6 +157,10 @@ with_param letter value s = with_current (param_set letter value) s
 
 abbrev pub holds : Stack → Cond → Outcome → Bool
 holds s cond outcome = cond_holds (current s).params outcome cond
+
+-- a command waits in the level
+abbrev pub has_entry : Level → Bool
+has_entry level = not (length level.entries == 0)
 
 -- the first entry that holds, in its level
 abbrev pub entry_that_holds : Level → Outcome → Option Entry

@@ -5,6 +5,7 @@ ghost use Rattle.g_macro.specs.Fronts.{Holds, IsFilled};
 ghost use Rattle.g_macro.specs.Holding.{takes_input};
 ghost use Rattle.g_macro.specs.Levels.{as_taken};
 
+use crate::params::Params;
 use arrayvec::ArrayVec;
 use g_base::NoMemory;
 use g_lang::{is_input_line, is_param_letter};
@@ -58,8 +59,7 @@ impl Front {
 
 /// A line once the parameters are put in, in the room of a text whose own bytes are dropped. One that has no `%` is copied
 /// as it stands.
-pub(crate) fn fill_in(room: Text, params: &[Text], line: &[u8]) -> Result<Filled, NoMemory>
-    requires { length params.now ≡ 24 }
+pub(crate) fn fill_in(room: Text, params: &Params, line: &[u8]) -> Result<Filled, NoMemory>
     ensures { IfOk result (IsFilled (expansion.substituted params.now line.now)) }
 {
     if line.len() <= MOST && !line.contains(&b'%') {
@@ -73,8 +73,7 @@ pub(crate) fn fill_in(room: Text, params: &[Text], line: &[u8]) -> Result<Filled
 }
 
 /// The same by way of a front. That is large, so a line that has no `%` doesn't make one.
-fn expanded(room: Text, params: &[Text], line: &[u8]) -> Result<Filled, NoMemory>
-    requires { length params.now ≡ 24 }
+fn expanded(room: Text, params: &Params, line: &[u8]) -> Result<Filled, NoMemory>
     ensures { IfOk result (IsFilled (expansion.substituted params.now line.now)) }
 {
     let front = expand(params, line);
@@ -97,8 +96,7 @@ fn refilled(room: Text, bytes: &[u8]) -> Result<Text, NoMemory>
 
 /// Whether the verb of a line is INPUT once the parameters are put in; a line that is longer than 240 bytes then is none.
 /// It takes no memory.
-pub(crate) fn is_input(params: &[Text], line: &[u8]) -> bool
-    requires { length params.now ≡ 24 }
+pub(crate) fn is_input(params: &Params, line: &[u8]) -> bool
     ensures { result ≡ takes_input (as_taken (expansion.substituted params.now line.now)) }
 {
     if line.len() <= MOST && !line.contains(&b'%') {
@@ -109,8 +107,7 @@ pub(crate) fn is_input(params: &[Text], line: &[u8]) -> bool
 }
 
 /// The front of a line once the parameters are put in. It takes no memory.
-fn expand(params: &[Text], line: &[u8]) -> Front
-    requires { length params.now ≡ 24 }
+fn expand(params: &Params, line: &[u8]) -> Front
     ensures { Holds (expansion.substituted params.now line.now) result }
 {
     let mut front = Front::new();
@@ -123,8 +120,7 @@ fn expand(params: &[Text], line: &[u8]) -> Front
 }
 
 /// Puts what stands at the front of the rest of a line behind the others, and tells how many bytes of the line it was.
-fn fill(front: &mut Front, params: &[Text], done: &[u8], rest: &[u8]) -> usize
-    requires params { length params.now ≡ 24 }
+fn fill(front: &mut Front, params: &Params, done: &[u8], rest: &[u8]) -> usize
     requires some { 1 ≤ length rest.now }
     ensures some { 1 ≤ result }
     ensures within { result ≤ length rest.now }
@@ -150,7 +146,7 @@ fn fill(front: &mut Front, params: &[Text], done: &[u8], rest: &[u8]) -> usize
         front.push(first);
         front.push(second);
     } else {
-        front.extend(params[(second - b'A') as usize].as_slice());
+        front.extend(params.get(second));
     }
     2
 }

@@ -4,7 +4,7 @@ ghost use Rattle.std.specs.Prelude.{◌≡◌, ◌++◌, ◌+◌, ◌-◌, ◌<�
 ghost use Rattle.g_lang.specs.Conditions.{IsLetter};
 ghost use Rattle.g_lang.specs.Lines.{IsCommandText};
 ghost use Rattle.g_macro.specs.Questions as asked;
-ghost use Rattle.g_macro.specs.Expansion.{substituted, param_of};
+ghost use Rattle.g_macro.specs.Expansion.{substituted};
 ghost use Rattle.g_macro.specs.Fronts.{IsFilled};
 ghost use Rattle.g_macro.specs.Holding as holding;
 ghost use Rattle.g_macro.specs.Levels as levels;
@@ -15,6 +15,7 @@ ghost use Rattle.g_macro.specs.Spans.{IsLinePlace, IsSpan};
 
 use crate::entry::Entry;
 use crate::expansion::{Filled, fill_in, is_input};
+use crate::params::Params;
 use crate::{MacroFault, Outcome};
 use g_base::NoMemory;
 use g_lang::{Cond, Label, Test, has_label};
@@ -23,9 +24,6 @@ use g_name::Text;
 use std::alloc::Global;
 use std::marker::Model;
 
-/// How many parameters a level has.
-const PARAMS: usize = 24;
-
 /// How many commands may wait in a level.
 const ENTRIES: usize = 16;
 
@@ -33,7 +31,7 @@ const ENTRIES: usize = 16;
 #[derive(Debug, Drop)]
 pub(crate) struct Level {
     cursor: Cursor,
-    params: Vec<Text>,
+    params: Params,
     entries: Vec<Entry>,
 }
 
@@ -44,14 +42,14 @@ impl Model for Level {
 
     ghost view = { λ l. record {
       lines = l.cursor.lines;
-      params = l.params.items;
+      params = l.params;
       taken = l.cursor.taken;
       entries = l.entries.items;
     } };
 
     ghost invariant = { λ l. levels.IsLevel (record {
       lines = l.cursor.lines;
-      params = l.params.items;
+      params = l.params;
       taken = l.cursor.taken;
       entries = l.entries.items;
     }) };
@@ -63,7 +61,7 @@ impl Level {
         requires { length params ≤ 24 }
         ensures { IfOk result (λ level. level ≡ levels.level_of lines params) }
     {
-        let params = filled_up(alloc, Vec::from(params))?;
+        let params = Params::new(alloc, params)?;
         Ok(Level {
             cursor: Cursor::new(lines),
             params,
@@ -90,7 +88,7 @@ impl Level {
     pub fn filled(&self, room: Text, line: &[u8]) -> Result<Filled, NoMemory>
         ensures { IfOk result (IsFilled (substituted self.now.params line.now)) }
     {
-        fill_in(room, self.params.as_slice(), line)
+        fill_in(room, &self.params, line)
     }
 
     /// Counts the next line as taken, which has so many bytes with its byte 10.
@@ -150,7 +148,7 @@ impl Level {
         if !self.cursor.has_line() {
             return false;
         }
-        !is_input(self.params.as_slice(), self.cursor.line()) || is_closed(self.cursor.left())
+        !is_input(&self.params, self.cursor.line()) || is_closed(self.cursor.left())
     }
 
     /// Whether a level that isn't ready is so with this line behind the others: it has no line left, and this one is no
@@ -162,7 +160,7 @@ impl Level {
         if self.cursor.has_line() {
             return line == b"////".as_slice();
         }
-        !is_input(self.params.as_slice(), line)
+        !is_input(&self.params, line)
     }
 
     /// Lets a command wait for a condition.
@@ -186,15 +184,22 @@ impl Level {
         requires { IsLetter letter }
         ensures { self.new ≡ levels.param_set letter value self.old }
     {
-        self.params[(letter - b'A') as usize] = value;
+        self.params.set(letter, value);
     }
 
     /// Whether a condition holds by the parameters of this level.
     pub fn holds(&self, cond: &Cond, outcome: &Outcome) -> bool
         ensures { result ≡ asked.cond_holds self.now.params outcome.now cond.now }
     {
-        let holds = test_holds(self.params.as_slice(), outcome, &cond.test);
+        let holds = test_holds(&self.params, outcome, &cond.test);
         if cond.negated { !holds } else { holds }
+    }
+
+    /// Whether a command waits.
+    pub fn has_entry(&self) -> bool
+        ensures { result ≡ levels.has_entry self.now }
+    {
+        !self.entries.is_empty()
     }
 
     /// The first entry whose condition holds.
@@ -210,19 +215,6 @@ impl Level {
         }
         None
     }
-}
-
-/// These parameters with empty ones behind, 24 in all.
-fn filled_up(alloc: Global, params: Vec<Text>) -> Result<Vec<Text>, NoMemory>
-    requires { length params.items ≤ 24 }
-    ensures { IfOk result (λ all. all.items ≡ levels.padded params.items) }
-{
-    let mut all = params;
-    all.reserve(PARAMS)?;
-    for _ in all.len()..PARAMS {
-        all.push_reserved(Text::new(alloc));
-    }
-    Ok(all)
 }
 
 /// How far a document goes.
@@ -318,8 +310,7 @@ fn place_of(entries: &[Entry], cond: &Cond) -> Option<usize>
 }
 
 /// Whether a test holds.
-fn test_holds(params: &[Text], outcome: &Outcome, test: &Test) -> bool
-    requires { length params.now ≡ 24 }
+fn test_holds(params: &Params, outcome: &Outcome, test: &Test) -> bool
     ensures { result ≡ asked.test_holds params.now outcome.now test.now }
 {
     match test {
@@ -327,18 +318,8 @@ fn test_holds(params: &[Text], outcome: &Outcome, test: &Test) -> bool
         Test::Failed => outcome.event.has_failed(),
         Test::Halted(text) => outcome.event.has_halted(text.as_slice()),
         Test::Deleted(text) => outcome.event.has_deleted(text.as_slice()),
-        Test::Present(letter) => !param(params, *letter).is_empty(),
-        Test::Absent(letter) => param(params, *letter).is_empty(),
-        Test::Equals { letter, text } => param(params, *letter) == text.as_slice(),
-    }
-}
-
-/// The parameter of a letter; of another byte the empty text.
-fn param(params: &[Text], letter: u8) -> &[u8]
-    ensures { result.now ≡ param_of params.now letter }
-{
-    match params.get(letter.saturating_sub(b'A') as usize) {
-        Some(text) => text.as_slice(),
-        None => &[],
+        Test::Present(letter) => !params.get(*letter).is_empty(),
+        Test::Absent(letter) => params.get(*letter).is_empty(),
+        Test::Equals { letter, text } => params.get(*letter) == text.as_slice(),
     }
 }

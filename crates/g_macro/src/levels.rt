@@ -7,6 +7,7 @@ ghost use Rattle.g_lines.specs.Documents.{IsOneLine};
 ghost use Rattle.g_macro.specs.Holding as holding;
 ghost use Rattle.g_macro.specs.Levels as levels;
 ghost use Rattle.g_macro.specs.Replies as replies;
+ghost use Rattle.g_macro.specs.declared.outcome.Outcome.{Outcome};
 
 use crate::entry::Entry;
 use crate::level::Level;
@@ -201,6 +202,13 @@ impl Levels {
         self.levels[self.levels.len() - 1].holds(cond, outcome)
     }
 
+    /// Whether a command waits in one of the levels: where none does, none fires.
+    pub fn have_entries(&self) -> bool
+        ensures { result ≡ false → (outcome : Outcome) → levels.fired outcome self.now.levels ≡ None }
+    {
+        some_wait(self.levels.as_slice())
+    }
+
     /// The command of the first entry that holds, of the current level and then of those below it. The levels above
     /// its own are dropped. It is the text of a command, so reading it again refuses nothing.
     pub fn fire(&mut self, alloc: Global, outcome: &Outcome) -> Result<Option<Text>, MacroFault>
@@ -248,6 +256,13 @@ fn have_line(all: &[Level]) -> bool
     ensures { result ≡ list_any levels.has_line all.now }
 {
     all.iter().any(|level| level.has_line())
+}
+
+/// Whether a command waits in one of these levels.
+fn some_wait(all: &[Level]) -> bool
+    ensures { result ≡ list_any levels.has_entry all.now }
+{
+    all.iter().any(|level| level.has_entry())
 }
 
 /// The first entry that holds, from the topmost level down, and how many levels stay.

@@ -8,6 +8,7 @@ mod fault;
 mod level;
 mod levels;
 mod outcome;
+mod params;
 
 pub use entry::Entry;
 pub use fault::MacroFault;

@@ -1,8 +1,7 @@
-use Rattle.std.proofs.Common.{◌≡◌, ◌∙◌, ◌++◌, ◌∷◌, [], ◌-◌, ◌<◌, ap, sym, subst, append_assoc, get_or, length, List, ℕ}
-use Rattle.std.proofs.lemmas.List.{get_or_default}
+use Rattle.std.proofs.Common.{◌≡◌, ◌∙◌, ◌++◌, ◌∷◌, [], ap, sym, subst, append_assoc, get_or, List, ℕ}
 use Rattle.g_macro.specs.Fronts.{Holds}
-use Rattle.g_macro.specs.Expansion.{param_of, first_filled}
-use Rattle.g_macro.proofs.FrontLemmas.{single-last, single-other, single-plain, asked-stays, put-in, letter-inside}
+use Rattle.g_macro.specs.Expansion.{first_filled}
+use Rattle.g_macro.proofs.FrontLemmas.{single-last, single-other, single-plain, asked-stays, put-in}
 use Rattle.g_macro.proofs.expansion.fill.Goals as goal
 use Rattle.g_macro.proofs.expansion.fill.Goals.{then-first-ne37-via-then-first-ne37, then-first-ne37-via-else-first-ne37+then-rest-lt2}
 
@@ -30,9 +29,5 @@ returns-then-is_asked-clause-filled c text holds =
 
 pub returns-else-is_asked-clause-filled : goal.returns-else-is_asked-clause-filled
 returns-else-is_asked-clause-filled c text holds =
-    let second = get_or c.args.rest.now 1 0 in
-    let inside : second - 65 < length c.args.params.now = letter-inside second (length c.args.params.now) (sym c.if-not-is_param_letter.ensures) c.requires.params in
-    let put : c.as_slice.result.now ≡ param_of c.args.params.now second =
-    c.as_slice.ensures ∙ c.index-params-second.is ∙ get_or_default c.args.params.now (second - 65) c.index-params-second.result [] inside in
     let same = put-in c.args.params.now c.args.done.now c.args.rest.now c.if-rest-lt2.false c.if-first-ne37.false c.if-second-eq37.false (sym c.if-not-is_param_letter.ensures) (sym c.if-is_asked.ensures) in
-    subst (λ (ts : List ℕ). Holds (text ++ ts) c.extend.new.self) (put ∙ sym same) (c.extend.ensures text holds)
+    subst (λ (ts : List ℕ). Holds (text ++ ts) c.extend.new.self) (c.get.ensures ∙ sym same) (c.extend.ensures text holds)

@@ -1,4 +1,4 @@
-use Rattle.std.proofs.Common.{IfOk, ◌≡◌, ◌∙◌, ap, subst, List, ℕ}
+use Rattle.std.proofs.Common.{IfOk, ap, subst, List, ℕ}
 use Rattle.g_macro.specs.Expansion.{substituted}
 use Rattle.g_macro.specs.Fronts.{IsFilled}
 use Rattle.g_macro.specs.Levels.{Level}
@@ -6,6 +6,4 @@ use Rattle.g_macro.proofs.level.Level.filled.Goals as goal
 
 pub returns : goal.returns
 returns c =
-    let l = c.args.self.now in
-    let params : c.as_slice.result.now ≡ l.params = c.as_slice.ensures.value ∙ ap (λ (level : Level). level.params) c.self.view_is in
-    subst (λ (ps : List (List ℕ)). IfOk c.fill_in.result (IsFilled (substituted ps c.args.line.now))) params c.fill_in.ensures
+    subst (λ (ps : List (List ℕ)). IfOk c.fill_in.result (IsFilled (substituted ps c.args.line.now))) (ap (λ (level : Level). level.params) c.self.view_is) c.fill_in.ensures

@@ -27,7 +27,7 @@ returns-in-Some c =
     ap (place_of_cond c.args.cond) (sym c.as_slice.ensures.value) ∙ sym c.place_of.ensures ∙ c.in-Some.is in
     let kept = kept-some c.args.cond c.args.command c.self.inside.entries.items c.in-Some.place c.index_mut.result.now at c.index_mut.ensures.value in (
       not-full c.args.cond c.args.self.now (ap (λ (l : Level). has_cond c.args.cond l.entries) (sym c.self.view_is) ∙ kept.0),
-      ap (λ (es : List Entry). let l : Level = record { lines = c.self.inside.cursor.lines; params = c.self.inside.params.items; taken = c.self.inside.cursor.taken; entries = es } in l) (sym kept.1)
+      ap (λ (es : List Entry). let l : Level = record { lines = c.self.inside.cursor.lines; params = c.self.inside.params; taken = c.self.inside.cursor.taken; entries = es } in l) (sym kept.1)
           ∙ ap (entry_kept c.args.cond c.args.command) c.self.view_is,
     )
 
@@ -63,6 +63,6 @@ returns c =
     let room : length c.args.self.now.entries < 16 =
     omega (arith, c.if-len-ge-ENTRIES.false, c.len.ensures, c.self.inside.entries.ok.0, ap (λ (l : Level). length l.entries) c.self.view_is) in (
       has-room c.args.cond c.args.self.now room,
-      ap (λ (es : List Entry). let l : Level = record { lines = c.self.inside.cursor.lines; params = c.self.inside.params.items; taken = c.self.inside.cursor.taken; entries = es } in l) (pushed ∙ sym kept.1)
+      ap (λ (es : List Entry). let l : Level = record { lines = c.self.inside.cursor.lines; params = c.self.inside.params; taken = c.self.inside.cursor.taken; entries = es } in l) (pushed ∙ sym kept.1)
           ∙ ap (entry_kept c.args.cond c.args.command) c.self.view_is,
     )

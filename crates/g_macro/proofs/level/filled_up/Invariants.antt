@@ -1,7 +1,0 @@
-use Rattle.std.proofs.Common.{◌≡◌, ◌≤◌, ◌++◌, ◌-◌, [], replicate}
-use Rattle.std.specs.Vec.{vec_capacity, vec_len}
-use Rattle.g_macro.specs.Levels.{padded}
-use Rattle.g_macro.proofs.level.filled_up.Given as goal
-
-abbrev pub invariant-loop : goal.invariant-loop
-invariant-loop l = (l.all.items ++ replicate (24 - l.counter) [] ≡ padded l.fn.params.items) × (vec_len l.all ≡ l.counter) × (24 ≤ vec_capacity l.all)
