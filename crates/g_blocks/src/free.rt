@@ -1,9 +1,9 @@
 //! The search for free blocks: one pass over the flags, from the least that may be free on.
 ghost use Rattle.g_blocks.specs.Flags.{AreFull, AreSetBefore};
 ghost use Rattle.g_blocks.specs.Pool.{AreLeastFree, free_count};
-ghost use Rattle.std.specs.Prelude.{◌≡◌, ◌⊎◌, ℕ, ◌+◌, ◌<◌, ◌≤◌, ◌^◌, true, false, Some, length, IfOk, slice_get, slice_index_or};
+ghost use Rattle.std.specs.Prelude.{◌≡◌, ◌⊎◌, ℕ, ◌+◌, ◌<◌, ◌≤◌, ◌^◌, true, false, Some, [], length, IfOk, slice_get, slice_index_or};
 
-use g_base::FIRST_COPY_BLOCK;
+use g_base::{BlockList, FIRST_COPY_BLOCK};
 use std::alloc::{AllocError, Global};
 
 /// The n least blocks whose flag isn't set, in rising order. None of them is before the place `low`.
@@ -28,6 +28,26 @@ pub(crate) fn least_free(
         }
     }
     Ok(blocks)
+}
+
+/// Puts the n least blocks whose flag isn't set, in rising order, into a list that has none yet. None of them is before the
+/// place `low`.
+pub(crate) fn put_least_free(taken: &[bool], low: usize, n: usize, blocks: &mut BlockList)
+    requires empty { blocks.old ≡ [] }
+    requires few { n ≤ 128 }
+    requires room { n ≤ free_count taken.now }
+    requires fits { 2177 + length taken.now < 2 ^ 32 }
+    requires low { AreSetBefore low taken.now }
+    ensures { AreLeastFree taken.now n blocks.new }
+{
+    for (place, is_taken) in taken[low..].iter().enumerate() {
+        if blocks.as_slice().len() == n {
+            return;
+        }
+        if !*is_taken {
+            blocks.push(FIRST_COPY_BLOCK + (low + place) as u32);
+        }
+    }
 }
 
 /// How many flags go by one note.

@@ -1,8 +1,8 @@
 //! The pool of copy blocks: a flag for each, how many are free, and where the search begins.
-ghost use Rattle.std.specs.Prelude.{◌≡◌, ◌≢◌, ◌+◌, ◌-◌, ◌<◌, ◌≤◌, ◌↔◌, ◌⊎◌, All, AllPairs, IfOk, IfErr, OnErr, IsErrOf, IsOkUnless, slice_set, replicate, length, true, false};
+ghost use Rattle.std.specs.Prelude.{◌≡◌, ◌≢◌, ◌+◌, ◌-◌, ◌<◌, ◌≤◌, ◌↔◌, ◌⊎◌, All, AllPairs, IfOk, IfErr, OnErr, IsErrOf, IsOkUnless, slice_set, replicate, [], length, true, false};
 
-use crate::free::{GROUP, first_free, least_free, note_full};
-use g_base::FIRST_COPY_BLOCK;
+use crate::free::{GROUP, first_free, least_free, note_full, put_least_free};
+use g_base::{BlockList, FIRST_COPY_BLOCK};
 use std::alloc::{AllocError, Global};
 use std::marker::Model;
 use thiserror::Error;
@@ -91,6 +91,20 @@ impl Pool {
         };
         self.mark_all_taken(&blocks);
         Ok(blocks)
+    }
+
+    /// Takes the n least free blocks, at most 128, and puts them in rising order into a list that has none yet. There are so
+    /// many free ones, and it takes no memory.
+    pub fn take_into(&mut self, n: u32, blocks: &mut BlockList)
+        requires empty { blocks.old ≡ [] }
+        requires few { n ≤ 128 }
+        requires room { n ≤ free_count self.old }
+        ensures least { AreLeastFree self.old n blocks.new }
+        ensures taken { HasTaken blocks.new self.old self.new }
+    {
+        self.skip_taken();
+        put_least_free(&self.taken, self.low, n as usize, blocks);
+        self.mark_all_taken(blocks.as_slice());
     }
 
     /// Gives blocks back.
