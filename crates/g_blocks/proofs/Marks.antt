@@ -211,6 +211,17 @@ IsFree-still blocks i old now taken apart free below =
     let is = free i 0 below in
     record { low = is.low; flag = flag-still blocks i old now taken.changes apart below is.low ∙ is.flag }
 
+-- and joins the first of the list
+pub HasGiven-next : (blocks : List ℕ) (i : ℕ) (old now after : List Bool) → HasGiven (take i blocks) old now → AllPairs (λ one other. one ≢ other) blocks → All (IsTaken old) blocks → i < length blocks
+    → after ≡ set now (get_or blocks i 0 - first_copy_block) false → HasGiven (take (i + 1) blocks) old after
+HasGiven-next blocks i old now after given apart taken below is =
+    subst (HasGiven (take (i + 1) blocks) old) (sym is) (HasGiven-more blocks i old now given below (IsTaken-still blocks i old now given apart taken below))
+
+pub HasTaken-next : (blocks : List ℕ) (i : ℕ) (old now after : List Bool) → HasTaken (take i blocks) old now → AllPairs (λ one other. one ≢ other) blocks → All (IsFree old) blocks → i < length blocks
+    → after ≡ set now (get_or blocks i 0 - first_copy_block) true → HasTaken (take (i + 1) blocks) old after
+HasTaken-next blocks i old now after taken apart free below is =
+    subst (HasTaken (take (i + 1) blocks) old) (sym is) (HasTaken-more blocks i old now taken below (IsFree-still blocks i old now taken apart free below))
+
 -- numbers that rise are apart
 pub apart-rising : (blocks : List ℕ) → IsStrictlyIncreasing blocks → AllPairs (λ one other. one ≢ other) blocks
 apart-rising blocks rising i j d before below same = absurd (omega (arith, AllPairs-from_increasing blocks rising i j d before below, same))

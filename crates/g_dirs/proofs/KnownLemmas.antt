@@ -4,7 +4,7 @@ use Rattle.std.specs.Str.{bytes_eq}
 use Rattle.std.proofs.lemmas.Bool.{cases_lt}
 use Rattle.std.proofs.lemmas.List.{get_or-replicate, get_or_past, length-replicate}
 use Rattle.std.proofs.lemmas.Option.{slice_get-get_or}
-use Rattle.g_copy.proofs.Blocks.{slice_get-set_other}
+use Rattle.g_blocks.proofs.Marks.{slice_get-set_other}
 use Rattle.g_dirs.specs.KnownBlocks.{seen}
 use Rattle.g_dirs.specs.Pages.{is_page}
 

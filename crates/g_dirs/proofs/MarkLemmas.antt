@@ -4,7 +4,7 @@ use Rattle.std.proofs.Math.ListN.{set}
 use Rattle.std.proofs.lemmas.Bool.{cases_eq, cases_lt}
 use Rattle.std.proofs.lemmas.List.{ext_get_or, get_or-drop, get_or-replicate, get_or-set_same, length-replicate, length-take-le, replicate-append-replicate, take-append-le, take_all}
 use Rattle.std.proofs.lemmas.Option.{get_or_from_slice_get, slice_get-get_or}
-use Rattle.g_copy.proofs.Blocks.{slice_get-set_other}
+use Rattle.g_blocks.proofs.Marks.{slice_get-set_other}
 use Rattle.g_dirs.specs.Marks.{AreNoted, AreOffBefore, IsBehind}
 
 -- no mark stands from `end` on, and those before are taken off

@@ -9,7 +9,8 @@ use Rattle.std.proofs.lemmas.Option.{unwrap_or-slice_get}
 use Rattle.g_base.specs.ToldContent.{Changes}
 use Rattle.g_base.proofs.ToldLemmas.{told_after}
 use Rattle.g_blocks.specs.Pool.{IsInArea}
-use Rattle.g_copy.proofs.Blocks.{blocks_at-OnlyAt, slice_get-set_other}
+use Rattle.g_blocks.proofs.Marks.{slice_get-set_other}
+use Rattle.g_copy.proofs.Blocks.{blocks_at-OnlyAt}
 use Rattle.g_copy.specs.declared.copy.DiscCopy.{DiscCopy}
 use Rattle.g_copy.specs.Copy.{Holds, OnlyAt, bytes_at}
 use Rattle.g_slots.proofs.OneWrite.{gate_side-set, keeps_current}

@@ -11,6 +11,7 @@ use Rattle.std.proofs.lemmas.List.Quantifiers.{all_pairs_push}
 use Rattle.std.proofs.lemmas.Option.{slice_get_past, slice_get_within, same_Some, get_or_from_slice_get}
 use Rattle.g_copy.specs.declared.copy.DiscCopy.{DiscCopy}
 use Rattle.g_disc.specs.Disc.{DiscState, ReadsByCause}
+use Rattle.g_disc.proofs.CallLemmas.{ReadsByCause-then}
 use Rattle.g_entry.specs.declared.file_rec.FileRec.{FileRec}
 use Rattle.g_entry.specs.declared.format.Format.{Format}
 use Rattle.g_entry.specs.declared.head.Head.{Head}
@@ -75,32 +76,6 @@ module _ (format : Format) (number : ℕ) (block : List ℕ) where
   file_unused_again is (Some (r, places)) holds = absurd (file_used format r places (sym holds.block_is ∙ is))
 
 -- READS, one after another
-
-pub reads_then : (P : Type 0) (before mid after : DiscState) → ReadsByCause ⊥ before mid → ReadsByCause P mid after → ReadsByCause P before after
-reads_then P before mid after first second =
-    let same = first.kept (λ h. h) in record {
-      held = second.held ∙ first.held;
-      size = second.size ∙ first.size;
-      write_faults = second.write_faults ∙ first.write_faults;
-      writes = second.writes ∙ first.writes;
-      fuse = second.fuse ∙ first.fuse;
-      arms = second.arms ∙ first.arms;
-      kept = λ h. second.kept h ∙ same;
-      rose = λ h. rw (← same) (second.rose h);
-    }
-
--- for a cause that says the same
-pub reads_for : (P Q : Type 0) (before after : DiscState) → (P → Q) → (Q → P) → ReadsByCause P before after → ReadsByCause Q before after
-reads_for P Q before after there back reads = record {
-  held = reads.held;
-  size = reads.size;
-  write_faults = reads.write_faults;
-  writes = reads.writes;
-  fuse = reads.fuse;
-  arms = reads.arms;
-  kept = λ h. reads.kept (λ p. h (there p));
-  rose = λ h. reads.rose (back h);
-}
 
 -- LISTS
 
@@ -192,7 +167,7 @@ module _ (format : Format) (n : ℕ) (block : List ℕ) (users : List UserRec) (
 
 module _ (format : Format) (n : ℕ) (users : List UserRec) (before mid : DiscState) where
   users_later : (after : DiscState) → UsersRead format n users before mid → ReadsByCause ⊥ mid after → UsersRead format n users before after
-  users_later after so counts = record { counts = reads_then ⊥ before mid after so.counts counts; few = so.few; in_order = so.in_order; limits = so.limits; here = so.here }
+  users_later after so counts = record { counts = ReadsByCause-then (λ none. none) so.counts counts; few = so.few; in_order = so.in_order; limits = so.limits; here = so.here }
 
   users_more_at : (block : List ℕ) (after : DiscState) (new : List UserRec) (cell : Option UserRec) → UsersRead format n users before after
       → ForSome before.held (λ blocks. slice_get (current blocks) (1 + n) ≡ Some block)
@@ -412,7 +387,7 @@ file_cell_of format n block (Some (rec, copy)) is here = record { file = (is.1, 
 module _ (format : Format) (n : ℕ) (files : List FileRec) (online : List (ℕ × DiscCopy)) (before mid : DiscState) where
   files_later : (after : DiscState) → FilesRead format n files online before mid → ReadsByCause ⊥ mid after → FilesRead format n files online before after
   files_later after so counts = record {
-    counts = reads_then ⊥ before mid after so.counts counts;
+    counts = ReadsByCause-then (λ none. none) so.counts counts;
     rising = so.rising;
     below = so.below;
     copies = so.copies;

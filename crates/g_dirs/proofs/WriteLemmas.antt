@@ -8,7 +8,7 @@ use Rattle.g_base.specs.Counts.{RoseBy}
 use Rattle.g_base.specs.ToldContent.{Changes}
 use Rattle.g_base.proofs.CountLemmas.{RoseBy-none, RoseBy-then}
 use Rattle.g_base.proofs.ToldLemmas.{Changes-none, Changes-then, Changes-weaken, told_after}
-use Rattle.g_copy.proofs.Blocks.{slice_get-set_other}
+use Rattle.g_blocks.proofs.Marks.{slice_get-set_other}
 use Rattle.g_disc.specs.Disc.{DiscState, WritesOnly}
 use Rattle.g_disc.proofs.CallLemmas.{stands_later, then_later}
 use Rattle.g_entry.specs.declared.format.Format.TheVariants.{Two}

@@ -28,7 +28,7 @@ serial_at old new i serial d only within is =
     sym (get_or-map (λ (r : Reel). r.serial) old.reels i d 0 within)
     ∙ get_or_from_slice_get (map (λ (r : Reel). r.serial) old.reels) i serial 0 (ap (λ (ns : List ℕ). slice_get ns i) (sym same) ∙ is)
 
-rises : (rs : List Reel) → IsStrictlyIncreasing (map (λ (r : Reel). r.serial) rs) → (k i : ℕ) (d e : Reel) → k < i → i < length rs → (get_or rs k d).serial < (get_or rs i e).serial
+pub rises : (rs : List Reel) → IsStrictlyIncreasing (map (λ (r : Reel). r.serial) rs) → (k i : ℕ) (d e : Reel) → k < i → i < length rs → (get_or rs k d).serial < (get_or rs i e).serial
 rises rs rising k i d e below within =
     let long = length-map rs (λ (r : Reel). r.serial) in
     let at_k = get_or-map (λ (r : Reel). r.serial) rs k d 0 (omega arith) in

@@ -144,11 +144,15 @@ noted_end serial ds notes items note row notes_are items_are is =
     end_at serial ds (slice_get ds (length ds - 1)) note row refl
     (is ∙ ap (λ (ns : List DumpNote). slice_get ns (length ns - 1)) (items_are ∙ notes_are) ∙ last-map ds)
 
-pub end_low : {A : Type 0} (serial : ℕ) (x : A) (dumps : List Dump) (old new : Rack) → AreReels old.reels → ReadsReel serial (Ok x) old new → AreRead serial dumps old new → end_of dumps ≤ 65536
-end_low serial x dumps old new are reads read =
+-- what a reel that was read holds has at most 65,536 blocks
+pub reel_low : {A : Type 0} (serial n : ℕ) (x : A) (old new : Rack) → AreReels old.reels → ReadsReel serial (Ok x) old new → ForSome (reel serial old.reels) (λ r. n ≤ r.len) → n ≤ 65536
+reel_low serial n x old new are reads fits =
     let (r, here) = there serial x old new reads in
     let is = is_reel serial old.reels r are.each here in
     let within = is.within in
     let most = is.sized_most in
-    let fits = read.fits r here in
+    let long = fits r here in
     omega arith
+
+pub end_low : {A : Type 0} (serial : ℕ) (x : A) (dumps : List Dump) (old new : Rack) → AreReels old.reels → ReadsReel serial (Ok x) old new → AreRead serial dumps old new → end_of dumps ≤ 65536
+end_low serial x dumps old new are reads read = reel_low serial (end_of dumps) x old new are reads read.fits

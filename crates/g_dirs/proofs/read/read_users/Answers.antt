@@ -1,5 +1,6 @@
 use Rattle.std.proofs.Common.{◌≡◌}
-use Rattle.g_dirs.proofs.ReadLemmas.{reads_for, users_more, users_stopped}
+use Rattle.g_disc.proofs.CallLemmas.{ReadsByCause-for}
+use Rattle.g_dirs.proofs.ReadLemmas.{users_more, users_stopped}
 use Rattle.g_dirs.specs.declared.fault.DirsFault.TheVariants.{NoFilestore}
 use Rattle.g_dirs.proofs.read.read_users.Goals as goal
 
@@ -7,7 +8,7 @@ pub loop-number-preserved : goal.loop-number-preserved
 loop-number-preserved g c =
     let read = rw c.from.ensures at c.in-Ok.ensures.ok in
     users_more c.args.format c.loop-number.number c.loop-number.users.items _ _ c.in-Ok.block _ _ c.loop-number.invariant
-    (reads_for _ _ _ _ (λ no_fault. cc) (λ never. absurd never) c.in-Ok.ensures.counts) read c.in-Ok-take_user.ensures.ok
+    (ReadsByCause-for (λ no_fault. cc) (λ never. absurd never) c.in-Ok.ensures.counts) read c.in-Ok-take_user.ensures.ok
 
 pub returns-in-Err-take_user-clause-none : goal.returns-in-Err-take_user-clause-none
 returns-in-Err-take_user-clause-none g c = λ stopped.

@@ -1,14 +1,9 @@
 -- A block that wasn't given back yet is still taken; the next one given back joins the first.
-use Rattle.std.proofs.Common.{sym, subst}
-use Rattle.g_blocks.specs.Pool.{HasGiven}
-use Rattle.g_blocks.proofs.Marks.{IsTaken-still, HasGiven-more}
+use Rattle.g_blocks.proofs.Marks.{IsTaken-still, HasGiven-next}
 use Rattle.g_blocks.proofs.pool.Pool.give.Goals as goal
 
 pub mark_free-requires : goal.mark_free-requires
 mark_free-requires c = IsTaken-still _ _ _ _ c.loop-block.invariant c.requires.apart c.requires.taken c.loop-block-test.true
 
 pub loop-block-preserved : goal.loop-block-preserved
-loop-block-preserved c =
-    subst (HasGiven _ _) (sym c.mark_free.ensures.flags)
-    (HasGiven-more _ _ _ _ c.loop-block.invariant c.loop-block-test.true
-    (IsTaken-still _ _ _ _ c.loop-block.invariant c.requires.apart c.requires.taken c.loop-block-test.true))
+loop-block-preserved c = HasGiven-next _ _ _ _ _ c.loop-block.invariant c.requires.apart c.requires.taken c.loop-block-test.true c.mark_free.ensures.flags

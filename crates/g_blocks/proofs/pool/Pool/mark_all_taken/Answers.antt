@@ -1,14 +1,9 @@
 -- A block that isn't marked yet is still free; the next one marked joins the first.
-use Rattle.std.proofs.Common.{sym, subst}
-use Rattle.g_blocks.specs.Pool.{HasTaken}
-use Rattle.g_blocks.proofs.Marks.{IsFree-still, HasTaken-more}
+use Rattle.g_blocks.proofs.Marks.{IsFree-still, HasTaken-next}
 use Rattle.g_blocks.proofs.pool.Pool.mark_all_taken.Goals as goal
 
 pub mark_taken-requires : goal.mark_taken-requires
 mark_taken-requires c = IsFree-still _ _ _ _ c.loop-block.invariant c.requires.apart c.requires.free c.loop-block-test.true
 
 pub loop-block-preserved : goal.loop-block-preserved
-loop-block-preserved c =
-    subst (HasTaken _ _) (sym c.mark_taken.ensures.flags)
-    (HasTaken-more _ _ _ _ c.loop-block.invariant c.loop-block-test.true
-    (IsFree-still _ _ _ _ c.loop-block.invariant c.requires.apart c.requires.free c.loop-block-test.true))
+loop-block-preserved c = HasTaken-next _ _ _ _ _ c.loop-block.invariant c.requires.apart c.requires.free c.loop-block-test.true c.mark_taken.ensures.flags
