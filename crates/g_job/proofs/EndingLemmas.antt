@@ -1,6 +1,6 @@
 -- The end of a turn in the code: the job's rules, and that it is the end that is defined.
 use Rattle.std.proofs.Common.{◌≡◌, ℕ, ◌+◌, ◌<◌, Bool, true, false, List, ◌++◌, append_assoc, length, Option, Some, None, is_some, option_map, refl, sym, ap, ◌∙◌, subst}
-use Rattle.std.proofs.lemmas.Bool.{false≢true, true≢false}
+use Rattle.std.proofs.lemmas.Bool.{true≢false}
 use Rattle.std.specs.Fn.{FnReturnsAt, Shared}
 use denote.Ref.{Bor}
 use Rattle.g_budget.specs.declared.tariff.Charge.{Charge}
@@ -15,6 +15,7 @@ use Rattle.g_job.specs.State.{JobState}
 use Rattle.g_job.specs.declared.turn.Turn.{Turn}
 use Rattle.g_job.specs.declared.turn.Turn.TheVariants as turn
 use Rattle.g_lines.specs.Lines.{ended}
+use Rattle.g_job.proofs.RulesLemmas.{rules_of_clear}
 
 -- a job with nothing that waits
 cleared : (j : JobState) → IsClear j → record j { pending = None; wants = None } ≡ j
@@ -30,19 +31,8 @@ waiting_of j w stop serial within gone desk es is =
 
 -- nothing waits any more
 pub clear_rules : (j : JobState) (desk : Desk) → IsJob j → IsJob (record j { desk = desk; pending = None; wants = None })
-clear_rules j desk rules = record {
-  least = rules.least;
-  most = rules.most;
-  covered = rules.covered;
-  turned = rules.turned;
-  rich = rules.rich;
-  paid = rules.paid;
-  has_time = rules.has_time;
-  file = rules.file;
-  waits = refl;
-  goes_on = tt;
-  level = λ is. absurd (false≢true is);
-}
+clear_rules j desk rules =
+    rules_of_clear j rules j.used j.used_money j.turns desk j.monitor j.over rules.covered rules.paid rules.turned rules.has_time rules.file
 
 -- the job behind a turn that is charged, as the code makes it
 abbrev pub settled : JobState → List ℕ → Charge → Option (List ℕ) → JobState

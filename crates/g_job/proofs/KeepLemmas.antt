@@ -12,6 +12,7 @@ use Rattle.g_job.specs.Rules.{IsGoneOnWith, IsJob, most_bytes}
 use Rattle.g_turn.specs.State.{Broken, Done, Full, Stop, Waits, Work}
 use Rattle.g_job.specs.State.{JobState}
 use Rattle.g_lines.specs.Lines.{ended}
+use Rattle.g_job.proofs.RulesLemmas.{rules_of_clear, rules_of_rest}
 use Rattle.g_monitor.specs.JobLines.{job_line}
 use Rattle.g_monitor.specs.declared.job_lines.JobLine.TheVariants as line
 
@@ -68,37 +69,20 @@ module _ (j : JobState) (w : Work) (charge : Charge) (rules : IsJob j) (going : 
   text_kept : length (j.monitor ++ w.text) ≤ 1048576
   text_kept = added_fits j w (file_of j rules going) fits
 
+  -- a job that is charged, with its file
+  charged_keeps : (monitor : List ℕ) (over : Bool) → (over ≡ false → j.used + units_of j charge < j.allowance) → length monitor ≤ most_bytes over
+      → IsJob (record j { used = j.used + units_of j charge; used_money = j.used_money + money_of j charge; turns = j.turns + 1; desk = w.desk; pending = None; wants = None; monitor = monitor; over = over })
+  charged_keeps monitor over time file =
+      rules_of_clear j rules (j.used + units_of j charge) (j.used_money + money_of j charge) (j.turns + 1) w.desk monitor over units_kept money_kept turns_kept time file
+
   -- a job that ends, with its last line
   ended_keeps : (last : List ℕ) → length (ended last) ≤ 23 → IsJob (behind_turn (charged j w charge) (Some last))
-  ended_keeps last short = record {
-    least = rules.least;
-    most = rules.most;
-    covered = units_kept;
-    turned = turns_kept;
-    rich = rules.rich;
-    paid = money_kept;
-    has_time = λ is. absurd (true≢false is);
-    file = last_fits (j.monitor ++ w.text) (ended last) text_kept short;
-    waits = refl;
-    goes_on = tt;
-    level = λ is. absurd (true≢false (sym is));
-  }
+  ended_keeps last short = charged_keeps ((j.monitor ++ w.text) ++ ended last) true (λ is. absurd (true≢false is)) (last_fits (j.monitor ++ w.text) (ended last) text_kept short)
 
   -- a job that goes on
   goes_keeps : is_time_up j charge ≡ false → IsJob (charged j w charge)
-  goes_keeps time = record {
-    least = rules.least;
-    most = rules.most;
-    covered = units_kept;
-    turned = turns_kept;
-    rich = rules.rich;
-    paid = money_kept;
-    has_time = λ is. below;
-    file = subst (λ (over : Bool). length (j.monitor ++ w.text) ≤ most_bytes over) (sym going) text_kept;
-    waits = refl;
-    goes_on = tt;
-    level = λ is. absurd (true≢false (sym is));
-  }
+  goes_keeps time =
+      charged_keeps (j.monitor ++ w.text) j.over (λ is. below) (subst (λ (over : Bool). length (j.monitor ++ w.text) ≤ most_bytes over) (sym going) text_kept)
     where
       below : j.used + units_of j charge < j.allowance
       below = let left : charge.units < j.allowance - j.used = leb-false (units_left j) charge.units time in omega (arith, left)
@@ -116,34 +100,13 @@ module _ (j : JobState) (w : Work) (charge : Charge) (rules : IsJob j) (going : 
 
 module _ (j : JobState) (w : Work) (rules : IsJob j) (going : j.over ≡ false) (fits : IsWithin (room_of j) w) (on : IsGoneOnWith j.monitor w) where
   waited_keeps : (serial : ℕ) → is_some w.again ≡ true → IsJob (waited j w serial)
-  waited_keeps serial there = record {
-    least = rules.least;
-    most = rules.most;
-    covered = rules.covered;
-    turned = rules.turned;
-    rich = rules.rich;
-    paid = rules.paid;
-    has_time = rules.has_time;
-    file = rules.file;
-    waits = sym there;
-    goes_on = on.pending;
-    level = on.level;
-  }
+  waited_keeps serial there = rules_of_rest j rules w.desk w.again (Some serial) j.terminal (sym there) on.pending on.level
 
   broken_keeps : IsJob (broken j w)
-  broken_keeps = record {
-    least = rules.least;
-    most = rules.most;
-    covered = rules.covered;
-    turned = rules.turned;
-    rich = rules.rich;
-    paid = rules.paid;
-    has_time = λ is. absurd (true≢false is);
-    file = let text = added_fits j w (file_of j rules going) fits.text in omega (arith, text);
-    waits = refl;
-    goes_on = tt;
-    level = λ is. absurd (true≢false (sym is));
-  }
+  broken_keeps =
+      let text = added_fits j w (file_of j rules going) fits.text in
+      let file : length (j.monitor ++ w.text) ≤ 1048599 = omega (arith, text) in
+      rules_of_clear j rules j.used j.used_money j.turns w.desk (j.monitor ++ w.text) true rules.covered rules.paid rules.turned (λ is. absurd (true≢false is)) file
 
   keeps_by : (stop : Option Stop) → w.stop ≡ stop → (charge : Option Charge) → IfSome charge IsCharge → IfSome (end_by stop j w charge) (λ end. IsJob end.1)
   keeps_by (Some (Waits serial)) is None within = waited_keeps serial (subst (λ (s : Option Stop). HasMore s w.again) is fits.waits)

@@ -4,6 +4,7 @@ pub mod EndingLemmas
 pub mod HeaderLemmas
 pub mod KeepLemmas
 pub mod LineLemmas
+pub mod RulesLemmas
 pub mod TerminalLemmas
 pub mod TurnBounds
 pub mod TurnLemmas

@@ -22,6 +22,8 @@ use Rattle.g_job.specs.declared.turn.Turn.{Turn}
 use Rattle.g_macro.proofs.HoldingLemmas.{are_ready_stays}
 use Rattle.g_macro.specs.Holding.{are_ready, line_added, with_document, with_typed}
 use Rattle.g_macro.specs.Levels.{Level, Stack}
+use Rattle.g_job.proofs.EndingLemmas.{clear_rules}
+use Rattle.g_job.proofs.RulesLemmas.{rules_of_rest}
 use Rattle.g_plain.specs.Programs.{Answer}
 use Rattle.g_plain.specs.declared.calls.StoreCall.{StoreCall}
 
@@ -69,20 +71,7 @@ looked_at {A} pending_of again desk left ready is same none =
 
 pub made_rules : (j : JobState) (desk : Desk) (pending : Option Pending) → pending ≡ None → IsJob j → IsJob (record j { desk = desk; pending = pending; wants = None })
 made_rules j desk pending none rules =
-    subst (λ (p : Option Pending). IsJob (record j { desk = desk; pending = p; wants = None })) (sym none)
-    (record {
-      least = rules.least;
-      most = rules.most;
-      covered = rules.covered;
-      turned = rules.turned;
-      rich = rules.rich;
-      paid = rules.paid;
-      has_time = rules.has_time;
-      file = rules.file;
-      waits = refl;
-      goes_on = tt;
-      level = λ there. absurd (false≢true there);
-    })
+    subst (λ (p : Option Pending). IsJob (record j { desk = desk; pending = p; wants = None })) (sym none) (clear_rules j desk rules)
 
 -- what waits is ready
 pub waits_ready : (j : JobState) → is_some j.pending ≡ true → true ≡ is_ready j
@@ -94,19 +83,8 @@ out_ready j = ap (λ (b : Bool). is_some j.desk.running || b) (or_true (is_some 
 
 -- THE RULES of a job stand where its levels change, and none of them goes
 pub rules_with : (change : Stack → Stack) (j : JobState) → (0 < length j.desk.levels.levels → 0 < length (change j.desk.levels).levels) → IsJob j → IsJob (with_stack change j)
-rules_with change j some rules = record {
-  least = rules.least;
-  most = rules.most;
-  covered = rules.covered;
-  turned = rules.turned;
-  rich = rules.rich;
-  paid = rules.paid;
-  has_time = rules.has_time;
-  file = rules.file;
-  waits = rules.waits;
-  goes_on = rules.goes_on;
-  level = λ there. some (rules.level there);
-}
+rules_with change j some rules =
+    rules_of_rest j rules (record j.desk { levels = change j.desk.levels }) j.pending j.wants j.terminal rules.waits rules.goes_on (λ there. some (rules.level there))
 
 document_there : (change : Level → Level) (levels : List Level) → 0 < length levels → 0 < length (with_document change levels)
 document_there change [] some = some
@@ -117,19 +95,7 @@ pub typed_rules : (line : List ℕ) (j : JobState) → IsJob j → IsJob (typed_
 typed_rules line j rules = rules_with (with_typed line) j (document_there (line_added line) j.desk.levels.levels) rules
 
 pub seated_rules : (t : ℕ) (j : JobState) → IsJob j → IsJob (seated t j)
-seated_rules t j rules = record {
-  least = rules.least;
-  most = rules.most;
-  covered = rules.covered;
-  turned = rules.turned;
-  rich = rules.rich;
-  paid = rules.paid;
-  has_time = rules.has_time;
-  file = rules.file;
-  waits = rules.waits;
-  goes_on = rules.goes_on;
-  level = rules.level;
-}
+seated_rules t j rules = rules_of_rest j rules j.desk j.pending j.wants (Some t) rules.waits rules.goes_on rules.level
 
 -- THE PROGRAM OF A TURN leaves the document
 pub leaves_document : (j : JobState) → IsJob j → AlwaysGives (LeavesDocument j) (turn_work j)

@@ -27,43 +27,24 @@ failures_then m n a b c was is = record {
   none = λ e. is.none (second_zero m n e) ∙ was.none (first_zero m n e);
 }
 
+-- the writes that failed, of calls and of dumps
+writes_failed : (calls of_disc of_rack : ℕ) (old new : Devices) → Failures (calls + of_disc) old.disc.write_faults new.disc.write_faults → Failures of_rack old.rack.write_faults new.rack.write_faults
+    → WritesFailed calls (of_disc + of_rack) old new
+writes_failed calls of_disc of_rack old new disc rack = record { of_disc = of_disc; of_rack = of_rack; together = refl; disc = disc; rack = rack }
+
 -- no write failed; one of the disc did; one of the rack did
 pub none_failed : (old new : Devices) → new.disc.write_faults ≡ old.disc.write_faults → new.rack.write_faults ≡ old.rack.write_faults → WritesFailed 0 0 old new
-none_failed old new disc rack = record {
-  of_disc = 0;
-  of_rack = 0;
-  together = refl;
-  disc = no_failure old.disc.write_faults new.disc.write_faults disc;
-  rack = no_failure old.rack.write_faults new.rack.write_faults rack;
-}
+none_failed old new disc rack = writes_failed 0 0 0 old new (no_failure old.disc.write_faults new.disc.write_faults disc) (no_failure old.rack.write_faults new.rack.write_faults rack)
 
 pub disc_failed : (old new : Devices) → Rose old.disc.write_faults new.disc.write_faults → new.rack.write_faults ≡ old.rack.write_faults → WritesFailed 1 0 old new
-disc_failed old new rose rack = record {
-  of_disc = 0;
-  of_rack = 0;
-  together = refl;
-  disc = a_failure old.disc.write_faults new.disc.write_faults rose;
-  rack = no_failure old.rack.write_faults new.rack.write_faults rack;
-}
+disc_failed old new rose rack = writes_failed 1 0 0 old new (a_failure old.disc.write_faults new.disc.write_faults rose) (no_failure old.rack.write_faults new.rack.write_faults rack)
 
 -- the same of a step of a dump
 pub dump_failed : (old new : Devices) → Rose old.disc.write_faults new.disc.write_faults → new.rack.write_faults ≡ old.rack.write_faults → WritesFailed 0 1 old new
-dump_failed old new rose rack = record {
-  of_disc = 1;
-  of_rack = 0;
-  together = refl;
-  disc = a_failure old.disc.write_faults new.disc.write_faults rose;
-  rack = no_failure old.rack.write_faults new.rack.write_faults rack;
-}
+dump_failed old new rose rack = writes_failed 0 1 0 old new (a_failure old.disc.write_faults new.disc.write_faults rose) (no_failure old.rack.write_faults new.rack.write_faults rack)
 
 pub rack_failed : (old new : Devices) → new.disc.write_faults ≡ old.disc.write_faults → Rose old.rack.write_faults new.rack.write_faults → WritesFailed 0 1 old new
-rack_failed old new disc rose = record {
-  of_disc = 0;
-  of_rack = 1;
-  together = refl;
-  disc = no_failure old.disc.write_faults new.disc.write_faults disc;
-  rack = a_failure old.rack.write_faults new.rack.write_faults rose;
-}
+rack_failed old new disc rose = writes_failed 0 0 1 old new (no_failure old.disc.write_faults new.disc.write_faults disc) (a_failure old.rack.write_faults new.rack.write_faults rose)
 
 -- devices that no event took part in, and devices that are alike but for what they hold
 pub happened_same : (old new : Devices) → new.disc.read_faults ≡ old.disc.read_faults → new.disc.write_faults ≡ old.disc.write_faults → new.disc.arms ≡ old.disc.arms

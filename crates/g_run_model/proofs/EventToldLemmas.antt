@@ -151,32 +151,23 @@ own_first (check ∷ checks) own = by check.0 refl own.0 (own_first checks own.1
 
 -- a check of the devices' own that holds, behind others
 module _ (f : Outcome → Option StoreFault) (front : Checks) (own : AreOwn front) (plain : (more : Checks) × (f Plain ≡ first_fault (front ++ more))) where
-  held_disc : (rest : Checks) → f DiscRead ≡ first_fault (front ++ (true, DiscReadFault) ∷ rest) → GoesWith f DiscRead
-  held_disc rest is = by (front_decides front own)
+  held_by : (o : Outcome) (fault : StoreFault) → (f o ≡ Some fault → GoesWith f o) → (rest : Checks) → f o ≡ first_fault (front ++ (true, fault) ∷ rest) → GoesWith f o
+  held_by o fault goes rest is = by (front_decides front own)
     where
-      by : FrontDecides front → GoesWith f DiscRead
+      by : FrontDecides front → GoesWith f o
       by (inl (g, own_g, all)) =
-          let here : f DiscRead ≡ Some g = is ∙ all ((true, DiscReadFault) ∷ rest) in
+          let here : f o ≡ Some g = is ∙ all ((true, fault) ∷ rest) in
           inl (plain.1 ∙ all plain.0 ∙ sym here, subst (λ (x : Option StoreFault). IsOwnOf x) (sym here) own_g)
-      by (inr all) = inr (inl (refl, is ∙ all ((true, DiscReadFault) ∷ rest)))
+      by (inr all) = goes (is ∙ all ((true, fault) ∷ rest))
+
+  held_disc : (rest : Checks) → f DiscRead ≡ first_fault (front ++ (true, DiscReadFault) ∷ rest) → GoesWith f DiscRead
+  held_disc rest is = held_by DiscRead DiscReadFault (λ here. inr (inl (refl, here))) rest is
 
   held_tape : (rest : Checks) → f TapeRead ≡ first_fault (front ++ (true, TapeReadFault) ∷ rest) → GoesWith f TapeRead
-  held_tape rest is = by (front_decides front own)
-    where
-      by : FrontDecides front → GoesWith f TapeRead
-      by (inl (g, own_g, all)) =
-          let here : f TapeRead ≡ Some g = is ∙ all ((true, TapeReadFault) ∷ rest) in
-          inl (plain.1 ∙ all plain.0 ∙ sym here, subst (λ (x : Option StoreFault). IsOwnOf x) (sym here) own_g)
-      by (inr all) = inr (inr (inl (refl, is ∙ all ((true, TapeReadFault) ∷ rest))))
+  held_tape rest is = held_by TapeRead TapeReadFault (λ here. inr (inr (inl (refl, here)))) rest is
 
   held_cut : (rest : Checks) → f Cut ≡ first_fault (front ++ (true, Stopped) ∷ rest) → GoesWith f Cut
-  held_cut rest is = by (front_decides front own)
-    where
-      by : FrontDecides front → GoesWith f Cut
-      by (inl (g, own_g, all)) =
-          let here : f Cut ≡ Some g = is ∙ all ((true, Stopped) ∷ rest) in
-          inl (plain.1 ∙ all plain.0 ∙ sym here, subst (λ (x : Option StoreFault). IsOwnOf x) (sym here) own_g)
-      by (inr all) = inr (inr (inr (refl, is ∙ all ((true, Stopped) ∷ rest))))
+  held_cut rest is = held_by Cut Stopped (λ here. inr (inr (inr (refl, here)))) rest is
 
 -- none holds that is the devices' own
 quiet : (f : Outcome → Option StoreFault) (o : Outcome) (checks : Checks) → AreOwn checks → f o ≡ first_fault checks → f Plain ≡ first_fault checks → GoesWith f o

@@ -31,13 +31,9 @@ is_below Less t = refl
 is_below Equal t = absurd t
 is_below Greater t = absurd t
 
-left_true : (a b : Bool) → T (a && b) → T a
-left_true true b t = tt
-left_true false b t = t
-
-right_true : (a b : Bool) → T (a && b) → T b
-right_true true b t = t
-right_true false b t = absurd t
+both_true : (a b : Bool) → T (a && b) → T a × T b
+both_true true b t = (tt, t)
+both_true false b t = absurd t
 
 -- EACH ENTRY of a map is what is found at its key
 module _ {K X : Type 0} (R : K → K → Ordering) (o : IsTotalOrder R) where
@@ -48,16 +44,16 @@ module _ {K X : Type 0} (R : K → K → Ordering) (o : IsTotalOrder R) where
   more_own : (e : K × X) (all es : List (K × X)) → T (below_all R e.0 es) → Own all es → Own (e ∷ all) es
   more_own e all [] b own = tt
   more_own e all (f ∷ fs) b own =
-      let less : R e.0 f.0 ≡ Less = is_below (R e.0 f.0) (left_true (is_lt (R e.0 f.0)) (below_all R e.0 fs) b) in
+      let less : R e.0 f.0 ≡ Less = is_below (R e.0 f.0) (both_true (is_lt (R e.0 f.0)) (below_all R e.0 fs) b).0 in
       let other : eq_by_cmp R f.0 e.0 ≡ false = ap is_eq (o.antisymm f.0 e.0 ∙ ap ordering_reverse less) in
-      (ap (λ (t : Bool). cond t (Some e.1) (find R f.0 all)) other ∙ own.0, more_own e all fs (right_true (is_lt (R e.0 f.0)) (below_all R e.0 fs) b) own.1)
+      (ap (λ (t : Bool). cond t (Some e.1) (find R f.0 all)) other ∙ own.0, more_own e all fs (both_true (is_lt (R e.0 f.0)) (below_all R e.0 fs) b).1 own.1)
 
   own_all : (es : List (K × X)) → T (is_sorted R es) → Own es es
   own_all [] sorted = tt
   own_all (e ∷ es) sorted =
       let alike : eq_by_cmp R e.0 e.0 ≡ true = ap is_eq (tied_itself o e.0) in (
         ap (λ (t : Bool). cond t (Some e.1) (find R e.0 es)) alike,
-        more_own e es es (left_true (below_all R e.0 es) (is_sorted R es) sorted) (own_all es (right_true (below_all R e.0 es) (is_sorted R es) sorted)),
+        more_own e es es (both_true (below_all R e.0 es) (is_sorted R es) sorted).0 (own_all es (both_true (below_all R e.0 es) (is_sorted R es) sorted).1),
       )
 
 some_file : (q : ℕ) (all es : List (Full × FileRow)) → Own full_cmp full_total all es → list_any (λ e. e.1.stamp == q) es ≡ true

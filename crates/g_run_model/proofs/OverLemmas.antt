@@ -22,7 +22,7 @@ use Rattle.g_store_model.specs.Rising.{FormatStep, StartStep, RestoreStep}
 use Rattle.g_script.specs.declared.operator.Operator.{Operator}
 use Rattle.g_script.specs.declared.operator.Operator.TheVariants as line
 use Rattle.g_script.specs.declared.operator.Timed.{Timed}
-use Rattle.g_run_model.specs.World.{World, Between, Stepped, Turned, start, able, can_step, is_dumping, has_none, closed, shows}
+use Rattle.g_run_model.specs.World.{World, Between, Stepped, Turned, start, able, can_step, is_due, is_dumping, has_none, closed, shows}
 use Rattle.g_run_model.specs.Texts.{started_text, tape_text, dump_text, processed_text}
 use Rattle.g_run_model.specs.Events.{IsTold, IsOpening, IsMigration, IsProcessing}
 use Rattle.g_run_model.specs.Lines.{LineGives, tells, up_with, now_stands, job_line, taken_in, job_refusal, line_refused, shut_with, at_terminal, changed_at, logged_in, login_refusal, open_at}
@@ -41,11 +41,22 @@ told_stands said (Ok x) s w = refl
 told_stands said (Err Stopped) s w = refl
 told_stands said (Err fault) s w = refl
 
+-- what a step of a dump leaves of a world: whether the run is over, the turn and what is due
+pub dump_leaves : (n : ℕ) (r : Result DumpStepped StoreFault) (s : State) (w : World)
+    → ((dump_told n r s w).over ≡ w.over) × ((dump_told n r s w).turn ≡ w.turn) × (is_due (dump_told n r s w) ≡ is_due w)
+dump_leaves n (Ok Going) s w = (refl, refl, refl)
+dump_leaves n (Ok (Completed m)) s w = (refl, refl, refl)
+dump_leaves n (Err Stopped) s w = (refl, refl, refl)
+dump_leaves n (Err fault) s w = (refl, refl, refl)
+
 dump_over : (n : ℕ) (r : Result DumpStepped StoreFault) (s : State) (w : World) → (dump_told n r s w).over ≡ w.over
-dump_over n (Ok Going) s w = refl
-dump_over n (Ok (Completed m)) s w = refl
-dump_over n (Err Stopped) s w = refl
-dump_over n (Err fault) s w = refl
+dump_over n r s w = (dump_leaves n r s w).0
+
+pub dump_turn : (n : ℕ) (r : Result DumpStepped StoreFault) (s : State) (w : World) → (dump_told n r s w).turn ≡ w.turn
+dump_turn n r s w = (dump_leaves n r s w).1
+
+pub dump_due : (n : ℕ) (r : Result DumpStepped StoreFault) (s : State) (w : World) → is_due (dump_told n r s w) ≡ is_due w
+dump_due n r s w = (dump_leaves n r s w).2
 
 turn_over : (j : JobState) (t : Turn) (w : World) → (turn_told j t w).over ≡ w.over
 turn_over j turns.Broken w = refl

@@ -119,20 +119,27 @@ module _ (n : ℕ) (u q : Bool) (a : ℕ) where
     pub born : q ≡ true → (u ≡ true) × (n < next) × (c ≤ a) × ((job : JobState) → numbered n jobs ≡ Some job → job.allowance ≡ a)
     pub taking : (p : Asks Work) → turn ≡ Some (n, p) → (f ≤ m) × IsCandid s p
 
-  -- what is said of the jobs stays, whatever becomes of the store and the turn
+  -- what is said of the number's job stays where that is the same one, whatever becomes of the others, of the store and of the turn
+  same_job : {f m c next : ℕ} {jobs : List JobState} {s : State} {t : Option (ℕ × Asks Work)} (m2 : ℕ) (new : State) (others : List JobState) (left : Option (ℕ × Asks Work)) → IsTaken f m c jobs next s t
+      → AreRising 0 others next → numbered n others ≡ numbered n jobs → f ≤ 1 + m2
+      → ((job : JobState) → numbered n jobs ≡ Some job → has_reel new job ≡ true → f ≤ m2) → ((p : Asks Work) → left ≡ Some (n, p) → (f ≤ m2) × IsCandid new p)
+      → IsTaken f m2 c others next new left
+  same_job m2 new others left h rising same free able taking = record {
+    rising = rising;
+    free = free;
+    able = λ x e can. able x (sym same ∙ e) can;
+    within = λ x e. h.within x (sym same ∙ e);
+    spent = λ on x e. h.spent on x (sym same ∙ e);
+    unborn = h.unborn;
+    born = λ on. let b = h.born on in (b.0, b.1, b.2, λ x e. b.3 x (sym same ∙ e));
+    taking = taking;
+  }
+
+  -- where all jobs are the same
   same_jobs : {f m c next : ℕ} {jobs : List JobState} {s : State} {t : Option (ℕ × Asks Work)} (m2 : ℕ) (new : State) (left : Option (ℕ × Asks Work)) → IsTaken f m c jobs next s t → f ≤ 1 + m2
       → ((job : JobState) → numbered n jobs ≡ Some job → has_reel new job ≡ true → f ≤ m2) → ((p : Asks Work) → left ≡ Some (n, p) → (f ≤ m2) × IsCandid new p)
       → IsTaken f m2 c jobs next new left
-  same_jobs m2 new left h free able taking = record {
-    rising = h.rising;
-    free = free;
-    able = able;
-    within = h.within;
-    spent = h.spent;
-    unborn = h.unborn;
-    born = h.born;
-    taking = taking;
-  }
+  same_jobs {f} {m} {c} {next} {jobs} m2 new left h free able taking = same_job m2 new jobs left h h.rising refl free able taking
 
   abbrev pub IsTakenIn : ℕ → ℕ → ℕ → World → Type 0
   IsTakenIn f m c w = IsTaken f m c w.jobs w.next_job w.store w.turn
@@ -295,34 +302,16 @@ module _ (n : ℕ) (u q : Bool) (a : ℕ) where
     below : number ≡ n → n < next
     below same = (number_of n 0 jobs next job h.rising (here same)).1
 
+    others_stay : (left : List JobState) → AreRising 0 left next → numbered n left ≡ numbered n jobs → IsTaken f m c left next s None
+    others_stay left rising same = same_job m s left None h rising same h.free h.able (λ x e. no_turn None (n, x) refl e)
+
     -- another number's job goes on, or is gone
     other_on : (after : JobState) → after.number ≡ number → (number == n) ≡ false → IsTaken f m c (with_job after jobs) next s None
-    other_on after is apart =
-        let same : numbered n (with_job after jobs) ≡ numbered n jobs = found_other after n (ap (λ (x : ℕ). x == n) is ∙ apart) jobs in
-        record {
-          rising = rising_with after 0 jobs next h.rising;
-          free = h.free;
-          able = λ x e can. h.able x (sym same ∙ e) can;
-          within = λ x e. h.within x (sym same ∙ e);
-          spent = λ on x e. h.spent on x (sym same ∙ e);
-          unborn = h.unborn;
-          born = λ on. let b = h.born on in (b.0, b.1, b.2, λ x e. b.3 x (sym same ∙ e));
-          taking = λ x e. no_turn None (n, x) refl e;
-        }
+    other_on after is apart = others_stay (with_job after jobs) (rising_with after 0 jobs next h.rising) (found_other after n (ap (λ (x : ℕ). x == n) is ∙ apart) jobs)
 
     other_gone : (gone : ℕ) → gone ≡ number → (number == n) ≡ false → IsTaken f m c (without_job gone jobs) next s None
     other_gone gone is apart =
-        let same : numbered n (without_job gone jobs) ≡ numbered n jobs = left_other gone n (ap (λ (x : ℕ). x == n) is ∙ apart) jobs in
-        record {
-          rising = rising_filter (λ (j : JobState). not (j.number == gone)) 0 jobs next h.rising;
-          free = h.free;
-          able = λ x e can. h.able x (sym same ∙ e) can;
-          within = λ x e. h.within x (sym same ∙ e);
-          spent = λ on x e. h.spent on x (sym same ∙ e);
-          unborn = h.unborn;
-          born = λ on. let b = h.born on in (b.0, b.1, b.2, λ x e. b.3 x (sym same ∙ e));
-          taking = λ x e. no_turn None (n, x) refl e;
-        }
+        others_stay (without_job gone jobs) (rising_filter (λ (j : JobState). not (j.number == gone)) 0 jobs next h.rising) (left_other gone n (ap (λ (x : ℕ). x == n) is ∙ apart) jobs)
 
     -- the number's own job goes on
     same_on : (free_turns charges : ℕ) (after : JobState) → after.number ≡ number → number ≡ n → free_turns ≤ 1 + m → (has_reel s after ≡ true → free_turns ≤ m)

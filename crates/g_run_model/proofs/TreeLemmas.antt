@@ -198,6 +198,15 @@ line_leaves o (line.Login t user time) w new (plain, is) = inl (stays w new _ is
 line_leaves o (line.Typed t text) w new (plain, is) = inl (stays w new _ is (typed_by t (typed_to text) w w.store.up))
 line_leaves o (line.Logout t) w new (plain, is) = inl (stays w new _ is (typed_by t logged_out w w.store.up))
 
+-- one of two trees: the first one, where the second is that too; and still one of them behind what leaves the tree
+pub either_first : (t u v : Option Tree) → (u ≡ t) ⊎ (u ≡ v) → v ≡ t → u ≡ t
+either_first t u v (inl e) same = e
+either_first t u v (inr e) same = e ∙ same
+
+pub either_still : (t u v x : Option Tree) → x ≡ u → (u ≡ t) ⊎ (u ≡ v) → (x ≡ t) ⊎ (x ≡ v)
+either_still t u v x same (inl e) = inl (same ∙ e)
+either_still t u v x same (inr e) = inr (same ∙ e)
+
 module _ {F U : Type 0} (tariffs : Shared F (Bor Usage × Unit {0}) Charge) (tariff : F) (rules : Shared U (Bor Standing × Unit {0}) ℕ) (rule : U)
     (plainly : AnswersPlainly) (keep : RefusalsKeep) (stops : StopsLeave) (dumps : DumpsKeepTree) where
   answered : (w new : World) (o : Outcome) (number : ℕ) (call : StoreCall) (job : JobState) (k : Holding) (after : Tree) (answer : Answer) → w.store.holding ≡ Some k → job_of w number ≡ Some job
@@ -233,21 +242,14 @@ module _ {F U : Type 0} (tariffs : Shared F (Bor Usage × Unit {0}) Charge) (tar
   all_or_nothing w new Ticked (idle, phase, is) = inl (stays w new _ is refl)
   all_or_nothing w new Over (between, idle, lines, nothing, over, is) = inl (stays w new _ is refl)
 
-  kept : (t u v : Option Tree) → (u ≡ t) ⊎ (u ≡ v) → v ≡ t → u ≡ t
-  kept t u v (inl e) same = e
-  kept t u v (inr e) same = e ∙ same
-
   leaving : (w : World) (moves : List Move) (new : World) → RunLeaving tariffs tariff rules rule w moves new → tree_in new.store ≡ tree_in w.store
   leaving w [] new run = ap (λ (x : World). tree_in x.store) run
-  leaving w (move ∷ moves) new (mid, quiet, step, run) = leaving mid moves new run ∙ kept (tree_in w.store) (tree_in mid.store) (tree_behind w move) (all_or_nothing w mid move step) quiet
+  leaving w (move ∷ moves) new (mid, quiet, step, run) = leaving mid moves new run ∙ either_first (tree_in w.store) (tree_in mid.store) (tree_behind w move) (all_or_nothing w mid move step) quiet
 
   -- THE HEADLINE'S SECOND PART
   pub start_has_the_tree : StartHasTheTree tariffs tariff rules rule
-  start_has_the_tree before cut up move moves was_up step is_down run = by (all_or_nothing before cut move step)
-    where
-      by : (tree_in cut.store ≡ tree_in before.store) ⊎ (tree_in cut.store ≡ tree_behind before move) → (tree_in up.store ≡ tree_in before.store) ⊎ (tree_in up.store ≡ tree_behind before move)
-      by (inl e) = inl (leaving cut moves up run ∙ e)
-      by (inr e) = inr (leaving cut moves up run ∙ e)
+  start_has_the_tree before cut up move moves was_up step is_down run =
+      either_still (tree_in before.store) (tree_in cut.store) (tree_behind before move) (tree_in up.store) (leaving cut moves up run) (all_or_nothing before cut move step)
 
 not_up : {P : Type 0} (s new : State) → s.up ≡ false → new ≡ s → new.up ≡ true → P
 not_up s new low is up = let both : true ≡ false = sym up ∙ ap (λ (x : State). x.up) is ∙ low in absurd (let no : ⊥ = cc in no)

@@ -66,22 +66,15 @@ stands_bare said (Ok x) s w = refl
 stands_bare said (Err Stopped) s w = refl
 stands_bare said (Err fault) s w = refl
 
-module _ {R : Type 0} (said : R → List ℕ) (w v new other : World) (alike : AreAlike w v) (a b : Result R StoreFault) (s t : State) where
-  ups_alike : AreSame a b s t → new ≡ tells (λ x u y. up_with (said x) u y) a s w → other ≡ tells (λ x u y. up_with (said x) u y) b t v → AreAlike new other
-  ups_alike same is is2 =
-      ap bare_world is ∙ up_bare said a s w
-      ∙ ap (λ (r : Result R StoreFault). tells (λ x u y. up_with (said x) u y) r (bare_state s) (bare_world w)) same.0
-      ∙ ap (λ (x : State). tells (λ z u y. up_with (said z) u y) b x (bare_world w)) same.1
-      ∙ ap (λ (x : World). tells (λ z u y. up_with (said z) u y) b (bare_state t) x) alike
-      ∙ sym (up_bare said b t v) ∙ sym (ap bare_world is2)
-
-  stands_alike : AreSame a b s t → new ≡ tells (λ x u y. now_stands (said x) u y) a s w → other ≡ tells (λ x u y. now_stands (said x) u y) b t v → AreAlike new other
-  stands_alike same is is2 =
-      ap bare_world is ∙ stands_bare said a s w
-      ∙ ap (λ (r : Result R StoreFault). tells (λ x u y. now_stands (said x) u y) r (bare_state s) (bare_world w)) same.0
-      ∙ ap (λ (x : State). tells (λ z u y. now_stands (said z) u y) b x (bare_world w)) same.1
-      ∙ ap (λ (x : World). tells (λ z u y. now_stands (said z) u y) b (bare_state t) x) alike
-      ∙ sym (stands_bare said b t v) ∙ sym (ap bare_world is2)
+-- events that are told alike, by words that go by the bare world
+told_alike : {R : Type 0} (told : R → State → World → World) → ((r : Result R StoreFault) (x : State) (y : World) → bare_world (tells told r x y) ≡ tells told r (bare_state x) (bare_world y))
+    → (w v new other : World) → AreAlike w v → (a b : Result R StoreFault) (s t : State) → AreSame a b s t → new ≡ tells told a s w → other ≡ tells told b t v → AreAlike new other
+told_alike {R} told bare w v new other alike a b s t same is is2 =
+    ap bare_world is ∙ bare a s w
+    ∙ ap (λ (r : Result R StoreFault). tells told r (bare_state s) (bare_world w)) same.0
+    ∙ ap (λ (x : State). tells told b x (bare_world w)) same.1
+    ∙ ap (λ (x : World). tells told b (bare_state t) x) alike
+    ∙ sym (bare b t v) ∙ sym (ap bare_world is2)
 
 refused_alike : (fault : StoreFault) (w v new other : World) → AreAlike w v → new ≡ line_refused fault w → other ≡ line_refused fault v → AreAlike new other
 refused_alike fault w v new other alike is is2 = ap bare_world is ∙ ap (λ (x : World). line_refused fault x) alike ∙ sym (ap bare_world is2)
@@ -98,7 +91,7 @@ rises_alike : {R : Type 0} (Does : State → Outcome → Result R StoreFault →
     → MatchBool (not upper) ((r : Result R StoreFault) × (s : State) × (Does v.store Plain r s × IsTold Plain r) × (other ≡ tells (λ x t y. up_with (said x) t y) r s v)) ((Plain ≡ Plain) × (other ≡ line_refused Running v))
     → AreAlike new other
 rises_alike Does said w v new other alike does true true e (plain, is) (plain2, is2) = refused_alike Running w v new other alike is is2
-rises_alike Does said w v new other alike does false false e (a, s, (one, so), is) (b, t, (two, so2), is2) = ups_alike said w v new other alike a b s t (does a b s t one two) is is2
+rises_alike Does said w v new other alike does false false e (a, s, (one, so), is) (b, t, (two, so2), is2) = told_alike (λ x u y. up_with (said x) u y) (up_bare said) w v new other alike a b s t (does a b s t one two) is is2
 rises_alike Does said w v new other alike does true false e one two = true_false e
 rises_alike Does said w v new other alike does false true e one two = false_true e
 
@@ -107,7 +100,7 @@ needs_alike : {R : Type 0} (Does Also : Result R StoreFault → State → Type 0
     → MatchBool up ((r : Result R StoreFault) × (s : State) × Does r s × (new ≡ tells (λ x t y. now_stands (said x) t y) r s w)) ((Plain ≡ Plain) × (new ≡ line_refused NotStarted w))
     → MatchBool upper ((r : Result R StoreFault) × (s : State) × Also r s × (other ≡ tells (λ x t y. now_stands (said x) t y) r s v)) ((Plain ≡ Plain) × (other ≡ line_refused NotStarted v))
     → AreAlike new other
-needs_alike Does Also said w v new other alike does true true e (a, s, one, is) (b, t, two, is2) = stands_alike said w v new other alike a b s t (does a b s t one two) is is2
+needs_alike Does Also said w v new other alike does true true e (a, s, one, is) (b, t, two, is2) = told_alike (λ x u y. now_stands (said x) u y) (stands_bare said) w v new other alike a b s t (does a b s t one two) is is2
 needs_alike Does Also said w v new other alike does false false e (plain, is) (plain2, is2) = refused_alike NotStarted w v new other alike is is2
 needs_alike Does Also said w v new other alike does true false e one two = true_false e
 needs_alike Does Also said w v new other alike does false true e one two = false_true e
@@ -137,10 +130,35 @@ shut_alike w v new other alike false false e is is2 = refused_alike NotStarted w
 shut_alike w v new other alike true false e one two = true_false e
 shut_alike w v new other alike false true e one two = false_true e
 
+-- a line that wants the system up, where what it makes of a bare world is the bare one of what it makes
+module _ (makes : World → World) (bare : (w : World) → bare_world (makes w) ≡ makes (bare_world w)) where
+  wanting_up : World → World
+  wanting_up w = if w.store.up then makes w else line_refused NotStarted w
+
+  wanting_bare : (w : World) → bare_world (wanting_up w) ≡ wanting_up (bare_world w)
+  unfolding wanting_up
+  wanting_bare w = by w.store.up
+    where
+      by : (b : Bool) → bare_world (if b then makes w else line_refused NotStarted w) ≡ (if b then makes (bare_world w) else line_refused NotStarted (bare_world w))
+      by true = bare w
+      by false = refl
+
+  made_alike : (w v new other : World) → AreAlike w v → new ≡ wanting_up w → other ≡ wanting_up v → AreAlike new other
+  made_alike w v new other alike is is2 = ap bare_world is ∙ wanting_bare w ∙ ap wanting_up alike ∙ sym (wanting_bare v) ∙ sym (ap bare_world is2)
+
+-- a job that comes in, or is refused
+line_bare : (taken : World → World) → ((w : World) → bare_world (taken w) ≡ taken (bare_world w)) → (refusal refused : Option (List ℕ)) (w : World) → refused ≡ refusal
+    → bare_world (job_line refusal (taken w) w) ≡ job_line refused (taken (bare_world w)) (bare_world w)
+line_bare taken bare refusal refused w same = by refusal ∙ ap (λ (r : Option (List ℕ)). job_line r (taken (bare_world w)) (bare_world w)) (sym same)
+  where
+    by : (r : Option (List ℕ)) → bare_world (job_line r (taken w) w) ≡ job_line r (taken (bare_world w)) (bare_world w)
+    by None = bare w
+    by (Some text) = refl
+
 -- JOB
 module _ (name user : List ℕ) (time money : ℕ) (lines : List (List ℕ)) where
-  job_world : World → World
-  job_world w = if w.store.up then job_line (job_refusal w user time money) (taken_in name user time money lines w) w else line_refused NotStarted w
+  abbrev job_made : World → World
+  job_made w = job_line (job_refusal w user time money) (taken_in name user time money lines w) w
 
   refusal_by : World → Bool → Option (List ℕ)
   refusal_by w known =
@@ -152,30 +170,15 @@ module _ (name user : List ℕ) (time money : ℕ) (lines : List (List ℕ)) whe
       ∷ (nat_lt (money_left a w.jobs) money, with_numbers (codes "42 NO MONEY ") money (money_left a w.jobs))
       ∷ [])
 
-  refusal_bare : (w : World) → job_refusal (bare_world w) user time money ≡ job_refusal w user time money
+  job_bare : (w : World) → bare_world (job_made w) ≡ job_made (bare_world w)
   unfolding refusal_by
-  refusal_bare w = ap (refusal_by w) (knows_bare w.store user)
-
-  line_bare : (refusal : Option (List ℕ)) (w : World) → bare_world (job_line refusal (taken_in name user time money lines w) w) ≡ job_line refusal (taken_in name user time money lines (bare_world w)) (bare_world w)
-  line_bare None w = refl
-  line_bare (Some text) w = refl
-
-  job_bare : (w : World) → bare_world (job_world w) ≡ job_world (bare_world w)
-  unfolding job_world
-  job_bare w = by w.store.up
-    where
-      by : (b : Bool) → bare_world (if b then job_line (job_refusal w user time money) (taken_in name user time money lines w) w else line_refused NotStarted w)
-          ≡ (if b then job_line (job_refusal (bare_world w) user time money) (taken_in name user time money lines (bare_world w)) (bare_world w) else line_refused NotStarted (bare_world w))
-      by true = line_bare (job_refusal w user time money) w ∙ ap (λ (r : Option (List ℕ)). job_line r (taken_in name user time money lines (bare_world w)) (bare_world w)) (sym (refusal_bare w))
-      by false = refl
-
-  jobs_alike : (w v new other : World) → AreAlike w v → new ≡ job_world w → other ≡ job_world v → AreAlike new other
-  jobs_alike w v new other alike is is2 = ap bare_world is ∙ job_bare w ∙ ap job_world alike ∙ sym (job_bare v) ∙ sym (ap bare_world is2)
+  job_bare w =
+      line_bare (taken_in name user time money lines) (λ v. refl) (job_refusal w user time money) (job_refusal (bare_world w) user time money) w (ap (refusal_by w) (knows_bare w.store user))
 
 -- LOGIN
 module _ (t : ℕ) (user : List ℕ) (time : ℕ) where
-  login_world : World → World
-  login_world w = if w.store.up then job_line (login_refusal w t user time) (logged_in t user time w) w else line_refused NotStarted w
+  abbrev login_made : World → World
+  login_made w = job_line (login_refusal w t user time) (logged_in t user time w) w
 
   login_refusal_by : World → Bool → Option (List ℕ)
   login_refusal_by w known =
@@ -188,49 +191,23 @@ module _ (t : ℕ) (user : List ℕ) (time : ℕ) where
       ∷ (nat_lt (money_left a w.jobs) 1000, with_numbers (codes "42 NO MONEY ") 1000 (money_left a w.jobs))
       ∷ [])
 
-  login_refusal_bare : (w : World) → login_refusal (bare_world w) t user time ≡ login_refusal w t user time
+  login_bare : (w : World) → bare_world (login_made w) ≡ login_made (bare_world w)
   unfolding login_refusal_by
-  login_refusal_bare w = ap (login_refusal_by w) (knows_bare w.store user)
-
-  login_line_bare : (refusal : Option (List ℕ)) (w : World) → bare_world (job_line refusal (logged_in t user time w) w) ≡ job_line refusal (logged_in t user time (bare_world w)) (bare_world w)
-  login_line_bare None w = refl
-  login_line_bare (Some text) w = refl
-
-  login_bare : (w : World) → bare_world (login_world w) ≡ login_world (bare_world w)
-  unfolding login_world
-  login_bare w = by w.store.up
-    where
-      by : (b : Bool) → bare_world (if b then job_line (login_refusal w t user time) (logged_in t user time w) w else line_refused NotStarted w)
-          ≡ (if b then job_line (login_refusal (bare_world w) t user time) (logged_in t user time (bare_world w)) (bare_world w) else line_refused NotStarted (bare_world w))
-      by true = login_line_bare (login_refusal w t user time) w ∙ ap (λ (r : Option (List ℕ)). job_line r (logged_in t user time (bare_world w)) (bare_world w)) (sym (login_refusal_bare w))
-      by false = refl
-
-  logins_alike : (w v new other : World) → AreAlike w v → new ≡ login_world w → other ≡ login_world v → AreAlike new other
-  logins_alike w v new other alike is is2 = ap bare_world is ∙ login_bare w ∙ ap login_world alike ∙ sym (login_bare v) ∙ sym (ap bare_world is2)
+  login_bare w =
+      line_bare (logged_in t user time) (λ v. refl) (login_refusal w t user time) (login_refusal (bare_world w) t user time) w (ap (login_refusal_by w) (knows_bare w.store user))
 
 -- TYPE and LOGOUT
 module _ (t : ℕ) (change : JobState → JobState) where
-  typed_world : World → World
-  typed_world w = if w.store.up then at_terminal t change w else line_refused NotStarted w
-
   changed_bare : (j : Option JobState) (w : World) → bare_world (changed_at t change j w) ≡ changed_at t change j (bare_world w)
   changed_bare None w = refl
   changed_bare (Some j) w = refl
 
-  typed_bare : (w : World) → bare_world (typed_world w) ≡ typed_world (bare_world w)
-  unfolding typed_world
-  typed_bare w = by w.store.up
-    where
-      by : (b : Bool) → bare_world (if b then at_terminal t change w else line_refused NotStarted w) ≡ (if b then at_terminal t change (bare_world w) else line_refused NotStarted (bare_world w))
-      by true = changed_bare (open_at t w.jobs) w
-      by false = refl
-
-  types_alike : (w v new other : World) → AreAlike w v → new ≡ typed_world w → other ≡ typed_world v → AreAlike new other
-  types_alike w v new other alike is is2 = ap bare_world is ∙ typed_bare w ∙ ap typed_world alike ∙ sym (typed_bare v) ∙ sym (ap bare_world is2)
+  typed_bare : (w : World) → bare_world (at_terminal t change w) ≡ at_terminal t change (bare_world w)
+  typed_bare w = changed_bare (open_at t w.jobs) w
 
 -- A LINE
 pub lines_alike : (what : Operator) (w v new other : World) → AreAlike w v → HasDumped w.store → LineGives Plain what w new → LineGives Plain what v other → AreAlike new other
-unfolding job_world login_world typed_world
+unfolding wanting_up
 lines_alike line.Format w v new other alike has one two =
     rises_alike FormatStep (λ r. codes "FORMATTED") w v new other alike (λ a b s t x y. formats_alike w.store v.store a b s t (ap (λ (x : World). x.store) alike) x y) w.store.up v.store.up (ap (λ (x : World). x.store.up) alike) one two
 lines_alike line.Start w v new other alike has one two =
@@ -239,11 +216,11 @@ lines_alike line.Restore w v new other alike has one two =
     rises_alike RestoreStep (λ n. codes "RESTORED FROM DUMP " ++ decimal n) w v new other alike (λ a b s t x y. restorings_alike w.store v.store a b s t (ap (λ (x : World). x.store) alike) has x y)
     w.store.up v.store.up (ap (λ (x : World). x.store.up) alike) one two
 lines_alike line.Shut w v new other alike has (plain, one) (plain2, two) = shut_alike w v new other alike w.store.up v.store.up (ap (λ (x : World). x.store.up) alike) one two
-lines_alike (line.Job name user time money lines) w v new other alike has (plain, is) (plain2, is2) = jobs_alike name user time money lines w v new other alike is is2
+lines_alike (line.Job name user time money lines) w v new other alike has (plain, is) (plain2, is2) = made_alike (job_made name user time money lines) (job_bare name user time money lines) w v new other alike is is2
 lines_alike (line.Mount serial) w v new other alike has (a, s, (plain, one), is) (b, t, (plain2, two), is2) =
-    stands_alike (λ _. tape_text serial (codes "MOUNTED")) w v new other alike a b s t (mountings_alike w.store v.store serial a b s t (ap (λ (x : World). x.store) alike) one two) is is2
+    told_alike (λ _ u y. now_stands (tape_text serial (codes "MOUNTED")) u y) (stands_bare (λ _. tape_text serial (codes "MOUNTED"))) w v new other alike a b s t (mountings_alike w.store v.store serial a b s t (ap (λ (x : World). x.store) alike) one two) is is2
 lines_alike (line.Unmount serial) w v new other alike has (a, s, (plain, one), is) (b, t, (plain2, two), is2) =
-    stands_alike (λ _. tape_text serial (codes "UNMOUNTED")) w v new other alike a b s t (unmountings_alike w.store v.store serial a b s t (ap (λ (x : World). x.store) alike) one two) is is2
+    told_alike (λ _ u y. now_stands (tape_text serial (codes "UNMOUNTED")) u y) (stands_bare (λ _. tape_text serial (codes "UNMOUNTED"))) w v new other alike a b s t (unmountings_alike w.store v.store serial a b s t (ap (λ (x : World). x.store) alike) one two) is is2
 lines_alike (line.Dump serial) w v new other alike has one two =
     needs_alike (λ r s. IsOpening w.store serial Plain r s) (λ r s. IsOpening v.store serial Plain r s) (λ n. dump_text n (codes "OPENED")) w v new other alike
     (λ a b s t x y. openings_alike w.store v.store serial a b s t (ap (λ (x : World). x.store) alike) x y) w.store.up v.store.up (ap (λ (x : World). x.store.up) alike) one two
@@ -257,9 +234,9 @@ lines_alike (line.StopDisc k) w v new other alike has (plain, is) (plain2, is2) 
     ap bare_world is ∙ ap (λ (x : World). says (codes "STOP SET") (record x { disc_stops = x.disc_stops ++ k ∷ [] })) alike ∙ sym (ap bare_world is2)
 lines_alike (line.StopTape k) w v new other alike has (plain, is) (plain2, is2) =
     ap bare_world is ∙ ap (λ (x : World). says (codes "STOP SET") (record x { tape_stops = x.tape_stops ++ k ∷ [] })) alike ∙ sym (ap bare_world is2)
-lines_alike (line.Login t user time) w v new other alike has (plain, is) (plain2, is2) = logins_alike t user time w v new other alike is is2
-lines_alike (line.Typed t text) w v new other alike has (plain, is) (plain2, is2) = types_alike t (typed_to text) w v new other alike is is2
-lines_alike (line.Logout t) w v new other alike has (plain, is) (plain2, is2) = types_alike t logged_out w v new other alike is is2
+lines_alike (line.Login t user time) w v new other alike has (plain, is) (plain2, is2) = made_alike (login_made t user time) (login_bare t user time) w v new other alike is is2
+lines_alike (line.Typed t text) w v new other alike has (plain, is) (plain2, is2) = made_alike (at_terminal t (typed_to text)) (typed_bare t (typed_to text)) w v new other alike is is2
+lines_alike (line.Logout t) w v new other alike has (plain, is) (plain2, is2) = made_alike (at_terminal t logged_out) (typed_bare t logged_out) w v new other alike is is2
 
 -- a step of the dump
 told_bare : (n : ℕ) (r : Result DumpStepped StoreFault) (s : State) (w : World) → bare_world (dump_told n r s w) ≡ dump_told n r (bare_state s) (bare_world w)

@@ -89,11 +89,8 @@ module _ {F U : Type 0} (tariffs : Shared F (Bor Usage × Unit {0}) Charge) (tar
 abbrev pub outcome_of : Move → Outcome
 outcome_of (TakeLine tape outcome) = outcome
 outcome_of (Dumped outcome) = outcome
-outcome_of (Begin number) = Plain
 outcome_of (Answered outcome) = outcome
-outcome_of (TurnOver number charge) = Plain
-outcome_of Ticked = Plain
-outcome_of Over = Plain
+outcome_of move = Plain
 
 abbrev pub disc_reads_in : Outcome → ℕ
 disc_reads_in Plain = 0
@@ -122,20 +119,12 @@ counted f (move ∷ moves) = f (outcome_of move) + counted f moves
 abbrev pub is_dump : Move → Bool
 is_dump (TakeLine tape outcome) = tape
 is_dump (Dumped outcome) = true
-is_dump (Begin number) = false
-is_dump (Answered outcome) = false
-is_dump (TurnOver number charge) = false
-is_dump Ticked = false
-is_dump Over = false
+is_dump move = false
 
 abbrev pub not_dump : Move → Bool
 not_dump (TakeLine tape outcome) = not tape
 not_dump (Dumped outcome) = false
-not_dump (Begin number) = true
-not_dump (Answered outcome) = true
-not_dump (TurnOver number charge) = true
-not_dump Ticked = true
-not_dump Over = true
+not_dump move = true
 
 -- the cuts of calls and lines, and those of steps of a dump and of PROCESS
 abbrev pub cuts_of_calls : List Move → ℕ
