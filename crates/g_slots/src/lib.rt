@@ -3,6 +3,7 @@
 #![tactic(auto)]
 
 mod fault;
+mod gate;
 mod side;
 mod slots;
 

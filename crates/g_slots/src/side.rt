@@ -1,7 +1,7 @@
 //! The names of the two slots, and how the gate gives them.
 
 ghost use Rattle.std.specs.Prelude.{◌≡◌, ◌==◌, ◌%◌, slice_index, if◌then◌else◌};
-ghost use Rattle.g_slots.specs.Layout.{byte_of, gate_block, other, start_of};
+ghost use Rattle.g_slots.specs.Layout.{byte_of, other, start_of};
 
 use g_base::Block;
 
@@ -45,16 +45,8 @@ impl Side {
         }
     }
 
-    /// The gate that names the slot, as a commit writes it.
-    pub(crate) fn gate(self) -> Block
-        ensures { result ≡ gate_block self }
-    {
-        let mut block = [0; 512];
-        block[0] = self.byte();
-        block
-    }
-
-    fn byte(self) -> u8
+    /// The first byte of the gate that names the slot.
+    pub(crate) fn byte(self) -> u8
         ensures { result ≡ byte_of self }
     {
         match self {

@@ -7,6 +7,7 @@ ghost use Rattle.g_disc.specs.Disc.{ReadsOnly, WritesOnly};
 ghost use Rattle.g_slots.specs.Layout.{GateNames, GateWritten, other, slot};
 ghost use Rattle.g_slots.specs.Commit.{Commits, CommitsOrNot, Fills, Flips, KeepsCurrent, Prepares, Tears};
 
+use crate::gate::Gate;
 use crate::{Side, SlotFault};
 use g_base::Block;
 use g_disc::Disc;
@@ -17,6 +18,7 @@ use std::marker::Model;
 #[derive(Debug, Drop)]
 pub struct Slots {
     current: Side,
+    gate: Gate,
 }
 
 impl Model for Slots {
@@ -39,6 +41,7 @@ impl Slots {
         disc.read(0, &mut gate)?;
         Ok(Slots {
             current: Side::named_by(&gate),
+            gate: Gate::new(),
         })
     }
 
@@ -97,7 +100,8 @@ impl Slots {
     {
         let next = self.current.other();
         let _size = disc.size();
-        disc.write(0, &next.gate())?;
+        self.gate.set(next);
+        disc.write(0, self.gate.block())?;
         self.current = next;
         Ok(())
     }

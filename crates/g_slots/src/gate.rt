@@ -1,0 +1,45 @@
+//! The gate, as a commit writes it.
+
+ghost use Rattle.std.specs.Prelude.{◌≡◌};
+ghost use Rattle.g_slots.specs.Layout.{gate_block};
+
+use crate::Side;
+use g_base::Block;
+use std::marker::Model;
+
+/// A gate that is kept from commit to commit, so that each writes one byte of it. Contracts see the block.
+#[derive(Debug, Drop)]
+pub(crate) struct Gate {
+    block: Block,
+}
+
+impl Model for Gate {
+    ghost use Rattle.std.specs.Prelude.{◌≡◌, ◌∷◌, ℕ, List, replicate};
+
+    ghost Value = { List ℕ };
+
+    ghost view = { λ g. g.block };
+
+    ghost invariant = { λ g. (first : ℕ) × (g.block ≡ first ∷ replicate 511 0) };
+}
+
+impl Gate {
+    /// A gate of zeros.
+    pub(crate) fn new() -> Gate {
+        Gate { block: [0; 512] }
+    }
+
+    /// Lets it name this slot.
+    pub(crate) fn set(&mut self, side: Side)
+        ensures { self.new ≡ gate_block side }
+    {
+        self.block[0] = side.byte();
+    }
+
+    /// The block.
+    pub(crate) fn block(&self) -> &Block
+        ensures { result.now ≡ self.now }
+    {
+        &self.block
+    }
+}
