@@ -20,99 +20,53 @@ then_later first second = omega (arith, first, second)
 
 -- READS
 
+-- nothing but the count of read faults changes
+abbrev IsUntouched : DiscState → DiscState → Type 0
+IsUntouched x y = (y.held ≡ x.held) × (y.size ≡ x.size) × (y.write_faults ≡ x.write_faults) × (y.writes ≡ x.writes) × (y.fuse ≡ x.fuse) × (y.arms ≡ x.arms)
+
+reads_by : {P : Type 0} {x y : DiscState} → IsUntouched x y → ((P → ⊥) → y.read_faults ≡ x.read_faults) → (P → Rose x.read_faults y.read_faults) → ReadsByCause P x y
+reads_by (held, size, write_faults, writes, fuse, arms) kept rose =
+    record { held = held; size = size; write_faults = write_faults; writes = writes; fuse = fuse; arms = arms; kept = kept; rose = rose }
+
 -- no call
 pub ReadsByCause-none : {P : Type 0} (state : DiscState) → (P → ⊥) → ReadsByCause P state state
-ReadsByCause-none state none = record {
-  held = refl;
-  size = refl;
-  write_faults = refl;
-  writes = refl;
-  fuse = refl;
-  arms = refl;
-  kept = λ no. refl;
-  rose = λ is. absurd (none is);
-}
+ReadsByCause-none state none = reads_by (refl, refl, refl, refl, refl, refl) (λ no. refl) (λ is. absurd (none is))
 
 -- one read, which went well or failed
+untouched_read : {T E : Type 0} {k : ℕ} {into : List ℕ} {x y : DiscState} {result : Result T E} → Reads k into x y result → IsUntouched x y
+untouched_read read = (read.held, read.size, read.write_faults, read.writes, read.fuse, read.arms)
+
 pub ReadsByCause-Reads_ok : {T E P : Type 0} {k : ℕ} {into : List ℕ} {x y : DiscState} {t : T} → (P → ⊥)
     → Reads {T = T} {E = E} k into x y (Ok t) → ReadsByCause P x y
-ReadsByCause-Reads_ok none read = record {
-  held = read.held;
-  size = read.size;
-  write_faults = read.write_faults;
-  writes = read.writes;
-  fuse = read.fuse;
-  arms = read.arms;
-  kept = λ no. read.kept;
-  rose = λ is. absurd (none is);
-}
+ReadsByCause-Reads_ok none read = reads_by (untouched_read read) (λ no. read.kept) (λ is. absurd (none is))
 
 pub ReadsByCause-Reads_err : {T E P : Type 0} {k : ℕ} {into : List ℕ} {x y : DiscState} {e : E} → P
     → Reads {T = T} {E = E} k into x y (Err e) → ReadsByCause P x y
-ReadsByCause-Reads_err is read = record {
-  held = read.held;
-  size = read.size;
-  write_faults = read.write_faults;
-  writes = read.writes;
-  fuse = read.fuse;
-  arms = read.arms;
-  kept = λ no. absurd (no is);
-  rose = λ p. read.rose;
-}
+ReadsByCause-Reads_err is read = reads_by (untouched_read read) (λ no. absurd (no is)) (λ p. read.rose)
 
 -- the same of calls that read and do nothing else
+untouched_only : {T E : Type 0} {x y : DiscState} {result : Result T E} → ReadsOnly x y result → IsUntouched x y
+untouched_only reads = (reads.held, reads.size, reads.write_faults, reads.writes, reads.fuse, reads.arms)
+
 pub ReadsByCause-ReadsOnly_ok : {T E P : Type 0} {x y : DiscState} {t : T} → (P → ⊥)
     → ReadsOnly {T = T} {E = E} x y (Ok t) → ReadsByCause P x y
-ReadsByCause-ReadsOnly_ok none reads = record {
-  held = reads.held;
-  size = reads.size;
-  write_faults = reads.write_faults;
-  writes = reads.writes;
-  fuse = reads.fuse;
-  arms = reads.arms;
-  kept = λ no. reads.kept;
-  rose = λ is. absurd (none is);
-}
+ReadsByCause-ReadsOnly_ok none reads = reads_by (untouched_only reads) (λ no. reads.kept) (λ is. absurd (none is))
 
 pub ReadsByCause-ReadsOnly_err : {T E P : Type 0} {x y : DiscState} {e : E} → P
     → ReadsOnly {T = T} {E = E} x y (Err e) → ReadsByCause P x y
-ReadsByCause-ReadsOnly_err is reads = record {
-  held = reads.held;
-  size = reads.size;
-  write_faults = reads.write_faults;
-  writes = reads.writes;
-  fuse = reads.fuse;
-  arms = reads.arms;
-  kept = λ no. absurd (no is);
-  rose = λ p. reads.rose;
-}
+ReadsByCause-ReadsOnly_err is reads = reads_by (untouched_only reads) (λ no. absurd (no is)) (λ p. reads.rose)
 
 -- two in a row, of which the first had no failed read
 pub ReadsByCause-then : {P Q : Type 0} {x y z : DiscState} → (P → ⊥)
     → ReadsByCause P x y → ReadsByCause Q y z → ReadsByCause Q x z
-ReadsByCause-then none first second = record {
-  held = second.held ∙ first.held;
-  size = second.size ∙ first.size;
-  write_faults = second.write_faults ∙ first.write_faults;
-  writes = second.writes ∙ first.writes;
-  fuse = second.fuse ∙ first.fuse;
-  arms = second.arms ∙ first.arms;
-  kept = λ no. second.kept no ∙ first.kept none;
-  rose = λ is. rose_then (first.kept none) (second.rose is);
-}
+ReadsByCause-then none first second =
+    reads_by (second.held ∙ first.held, second.size ∙ first.size, second.write_faults ∙ first.write_faults, second.writes ∙ first.writes, second.fuse ∙ first.fuse, second.arms ∙ first.arms)
+    (λ no. second.kept no ∙ first.kept none) (λ is. rose_then (first.kept none) (second.rose is))
 
 -- for an answer that is given in just the same cases
 pub ReadsByCause-for : {P Q : Type 0} {x y : DiscState} → (P → Q) → (Q → P) → ReadsByCause P x y → ReadsByCause Q x y
-ReadsByCause-for there back reads = record {
-  held = reads.held;
-  size = reads.size;
-  write_faults = reads.write_faults;
-  writes = reads.writes;
-  fuse = reads.fuse;
-  arms = reads.arms;
-  kept = λ no. reads.kept (λ p. no (there p));
-  rose = λ q. reads.rose (back q);
-}
+ReadsByCause-for there back reads =
+    reads_by (reads.held, reads.size, reads.write_faults, reads.writes, reads.fuse, reads.arms) (λ no. reads.kept (λ p. no (there p))) (λ q. reads.rose (back q))
 
 -- WRITES
 
@@ -187,29 +141,25 @@ Causes-ReadsByCause never reads = record {
 }
 
 -- a call that only writes, which went well or stopped
-pub Causes-WritesOnly_ok : {T E P Q : Type 0} {n : ℕ} {x y : DiscState} {t : T} → (P → ⊥)
-    → (Q → ⊥) → WritesOnly {T = T} {E = E} n x y (Ok t) → Causes P Q x y
-Causes-WritesOnly_ok not_read not_written writes = record {
+causes_by : {T E P Q : Type 0} {n : ℕ} {x y : DiscState} {result : Result T E} → WritesOnly n x y result → (P → ⊥) → ((Q → ⊥) → y.write_faults ≡ x.write_faults) → (Q → Rose x.write_faults y.write_faults)
+    → Causes P Q x y
+causes_by writes not_read kept rose = record {
   size = writes.size;
   arms = writes.arms;
   later = writes.later;
   reads_kept = λ no. writes.read_faults;
   reads_rose = λ is. absurd (not_read is);
-  writes_kept = λ no. writes.kept;
-  writes_rose = λ is. absurd (not_written is);
+  writes_kept = kept;
+  writes_rose = rose;
 }
+
+pub Causes-WritesOnly_ok : {T E P Q : Type 0} {n : ℕ} {x y : DiscState} {t : T} → (P → ⊥)
+    → (Q → ⊥) → WritesOnly {T = T} {E = E} n x y (Ok t) → Causes P Q x y
+Causes-WritesOnly_ok not_read not_written writes = causes_by writes not_read (λ no. writes.kept) (λ is. absurd (not_written is))
 
 pub Causes-WritesOnly_err : {T E P Q : Type 0} {n : ℕ} {x y : DiscState} {e : E} → (P → ⊥)
     → Q → WritesOnly {T = T} {E = E} n x y (Err e) → Causes P Q x y
-Causes-WritesOnly_err not_read stopped writes = record {
-  size = writes.size;
-  arms = writes.arms;
-  later = writes.later;
-  reads_kept = λ no. writes.read_faults;
-  reads_rose = λ is. absurd (not_read is);
-  writes_kept = λ no. absurd (no stopped);
-  writes_rose = λ is. writes.rose;
-}
+Causes-WritesOnly_err not_read stopped writes = causes_by writes not_read (λ no. absurd (no stopped)) (λ is. writes.rose)
 
 -- two in a row, of which the first had no fault
 pub Causes-then : {P Q R S : Type 0} {x y z : DiscState} → (P → ⊥) → (Q → ⊥)

@@ -20,7 +20,7 @@ use Rattle.g_plain.specs.Rules.{IsUserRow, IsFileRow, IsTree, IsWithinLimits, Is
 use Rattle.g_plain.proofs.TextMaps.{text_total, text_exact, full_exact}
 use Rattle.g_plain.proofs.Found.{some_of, inserted, removed, here, grows, len_more}
 use Rattle.g_plain.proofs.TreeLemmas.{newest-few}
-use Rattle.g_plain.proofs.TreeKept.{without_file, user_there, user_put, file_put, file_gone, owner_stays, others_stay, modes_stay, few_stay}
+use Rattle.g_plain.proofs.TreeKept.{without_file, user_there, user_put, file_put, file_gone, owner_stays, others_stay, modes_stay, few_stay, HasUsersOf, with_file}
 
 pub all_passed : (cs : Checks) → first_fault cs ≡ None → AllByRecursion (λ c. c.0 ≡ false) cs
 all_passed [] e = tt
@@ -98,24 +98,20 @@ version_traps t full is =
       | false ↦ λ _. first_traps t full
     ] refl
 
+-- the row of a file, by what its name, its bytes and its traps keep, in a tree with the same users
+row_by : (t u : Tree) (full : Full) (row : FileRow) → HasUsersOf t u → has_user t full.user ≡ true → is_word full.local ≡ true → (1 ≤ full.generation) × (full.generation ≤ 4095) → is_lang full.lang ≡ true
+    → length row.bytes ≤ 65536 → IsTraps t full row.traps → (1 ≤ row.stamp) × (row.stamp < u.next) → IsFileRow u full row
+row_by t u full row users owner local generation lang bytes traps stamp =
+    let others : (q : List ℕ) (k : ℕ) → get row.traps q ≡ Some k → q ≢ full.user → (has_user u q ≡ true) × (0 < k) = λ q k e apart. (users q (traps.others q k e apart).0, (traps.others q k e apart).1) in
+    record { owner = users full.user owner; local = local; generation = generation; lang = lang; bytes = bytes; owner_stands = traps.owner_stands; others = others; modes = traps.modes; few = traps.few; stamp = stamp }
+
 pub version_kept : (t : Tree) (full : Full) (bytes : List ℕ) → IsTree t → has_user t full.user ≡ true → is_word full.local ≡ true → (1 ≤ full.generation) × (full.generation ≤ 4095) → is_lang full.lang ≡ true → length bytes ≤ 65536
     → nat_le (2 ^ 62) t.next ≡ false → (has_file t full ≡ false → len t.files + 1 ≤ 1024) → IsTree (with_version t full bytes)
 version_kept t full bytes is owner local generation lang few left room =
-    let traps = version_traps t full is in
+    let row : FileRow = record { traps = cond (has_file t full) (file_row t full).traps (insert empty full.user 31); bytes = bytes; stamp = t.next } in
     let below : t.next + 1 ≤ 2 ^ 62 = below_by (2 ^ 62) t.next left in
-    file_put t full (record { traps = cond (has_file t full) (file_row t full).traps (insert empty full.user 31); bytes = bytes; stamp = t.next }) (t.next + 1) is (omega arith) below
-    (record {
-      owner = owner;
-      local = local;
-      generation = generation;
-      lang = lang;
-      bytes = few;
-      owner_stands = traps.owner_stands;
-      others = traps.others;
-      modes = traps.modes;
-      few = traps.few;
-      stamp = (is.next.0, omega arith);
-    })
+    file_put t full row (t.next + 1) is (omega arith) below
+    (row_by t (with_file t full row (t.next + 1)) full row (λ q h. h) owner local generation lang few (version_traps t full is) (is.next.0, omega arith))
     room (λ g s e same. absurd (let old = (is.files g s e).stamp.1 in omega (arith, same)))
 
 pub traps_kept : (t : Tree) (full : Full) (user : List ℕ) (m : ℕ) → IsTree t → has_file t full ≡ true → has_user t user ≡ true → m < 32
@@ -123,13 +119,10 @@ pub traps_kept : (t : Tree) (full : Full) (user : List ℕ) (m : ℕ) → IsTree
 traps_kept t full user m is there known set room =
     let r = file_rules t full is there in
     let row = file_row t full in
-    file_put t full (record row { traps = with_modes full user m row.traps }) t.next is (omega arith) is.next.1
+    let changed : FileRow = record row { traps = with_modes full user m row.traps } in
+    file_put t full changed t.next is (omega arith) is.next.1
+    (row_by t (with_file t full changed t.next) full changed (λ q h. h) r.owner r.local r.generation r.lang r.bytes
     (record {
-      owner = r.owner;
-      local = r.local;
-      generation = r.generation;
-      lang = r.lang;
-      bytes = r.bytes;
       owner_stands = owner_stays full user m row.traps r.owner_stands;
       others = λ q k e apart. elim (others_stay full user m row.traps q k e apart) as (λ _. (has_user t q ≡ true) × (0 < k)) [
         | inl (l, p) ↦ (ap (has_user t) l ∙ known, p)
@@ -137,8 +130,8 @@ traps_kept t full user m is there known set room =
       ];
       modes = λ q k e. elim (modes_stay full user m row.traps q k e) as (λ _. k < 32) [ inl v ↦ subst (λ j. j < 32) (sym v) set | inr old ↦ r.modes q k old ];
       few = few_stay full user m row.traps r.few r.owner_stands room;
-      stamp = r.stamp;
     })
+    r.stamp)
     (λ f. absurd (true≢false (sym there ∙ f))) (λ g s e same. is.stamps g full s row e (file_there t full there) same)
 
 one_less : (b : Bool) (n : ℕ) → n ≤ 1024 → b ≡ true → cond b (n - 1) n + 1 ≤ 1024
@@ -152,18 +145,8 @@ rename_kept t full to is there word =
     let row = file_row t full in
     let name : Full = record full { local = to } in
     file_put (without_file t full) name row t.next (file_gone t full is) (omega arith) is.next.1
-    (record {
-      owner = r.owner;
-      local = word;
-      generation = r.generation;
-      lang = r.lang;
-      bytes = r.bytes;
-      owner_stands = r.owner_stands;
-      others = r.others;
-      modes = r.modes;
-      few = r.few;
-      stamp = r.stamp;
-    })
+    (row_by (without_file t full) (with_file (without_file t full) name row t.next) name row (λ q h. h) r.owner word r.generation r.lang r.bytes
+    (record { owner_stands = r.owner_stands; others = r.others; modes = r.modes; few = r.few }) r.stamp)
     (λ _. rw (len-remove full_total t.files full) (one_less (has_file t full) (len t.files) is.few_files there))
     (λ g s e same. let old = removed full_total full_exact t.files full g s e in absurd (old.0 (is.stamps g full s row old.1 (file_there t full there) same)))
 

@@ -27,56 +27,34 @@ allowed-write k r is =
     let tests = passes r.mounted (nat_lt r.len k) (nat_lt k r.capacity) is in
     (ltb-false r.len k tests.0, ltb-true k r.capacity tests.1)
 
+-- a reel with another length, other blocks and other counts, where these agree
+reel_made : (len : ℕ) (mounted : Bool) (blocks : Option (List (List ℕ))) (times_read : Option (List ℕ)) (r : Reel) → IsReel r → len ≤ r.capacity
+    → ForSome blocks (λ bs. length bs ≡ len) → ForSome blocks (λ bs. All IsBlock bs) → ForSome times_read (λ ts. length ts ≡ r.capacity)
+    → IsReel (record r { len = len; mounted = mounted; blocks = blocks; times_read = times_read })
+reel_made len mounted blocks times_read r kept within told whole counted =
+    record { numbered = kept.numbered; numbered_most = kept.numbered_most; sized = kept.sized; sized_most = kept.sized_most; within = within; told = told; whole = whole; counted = counted }
+
 pub IsReel-mounted : (is : Bool) (r : Reel) → IsReel r → IsReel (with_mounted is r)
-IsReel-mounted is r kept = record {
-  numbered = kept.numbered;
-  numbered_most = kept.numbered_most;
-  sized = kept.sized;
-  sized_most = kept.sized_most;
-  within = kept.within;
-  told = kept.told;
-  whole = kept.whole;
-  counted = kept.counted;
-}
+IsReel-mounted is r kept = reel_made r.len is r.blocks r.times_read r kept kept.within kept.told kept.whole kept.counted
 
 pub IsReel-read_at : (k : ℕ) (r : Reel) → IsReel r → IsReel (read_at k r)
-IsReel-read_at k r kept = record {
-  numbered = kept.numbered;
-  numbered_most = kept.numbered_most;
-  sized = kept.sized;
-  sized_most = kept.sized_most;
-  within = kept.within;
-  told = kept.told;
-  whole = kept.whole;
-  counted = told-map _ (λ ts. length ts ≡ r.capacity) (λ ts. length ts ≡ r.capacity) r.times_read kept.counted (λ ts is. length-set ts k _ ∙ is);
-}
+IsReel-read_at k r kept =
+    reel_made r.len r.mounted r.blocks (read_at k r).times_read r kept kept.within kept.told kept.whole
+    (told-map _ (λ ts. length ts ≡ r.capacity) (λ ts. length ts ≡ r.capacity) r.times_read kept.counted (λ ts is. length-set ts k _ ∙ is))
 
 pub IsReel-cut_at : (k : ℕ) (r : Reel) → refuses_write k (Some r) ≡ None → IsReel r → IsReel (cut_at k r)
 IsReel-cut_at k r allowed kept =
     let (on, under) = allowed-write k r allowed in
-    record {
-      numbered = kept.numbered;
-      numbered_most = kept.numbered_most;
-      sized = kept.sized;
-      sized_most = kept.sized_most;
-      within = omega arith;
-      told = told-map (take k) (λ bs. length bs ≡ r.len) (λ bs. length bs ≡ k) r.blocks kept.told (λ bs is. length-take-le k bs (omega (arith, is)));
-      whole = told-map (take k) (All IsBlock) (All IsBlock) r.blocks kept.whole (All-take IsBlock k);
-      counted = kept.counted;
-    }
+    reel_made k r.mounted (cut_at k r).blocks r.times_read r kept (omega arith)
+    (told-map (take k) (λ bs. length bs ≡ r.len) (λ bs. length bs ≡ k) r.blocks kept.told (λ bs is. length-take-le k bs (omega (arith, is))))
+    (told-map (take k) (All IsBlock) (All IsBlock) r.blocks kept.whole (All-take IsBlock k)) kept.counted
 
 pub IsReel-ending : (k : ℕ) (block : List ℕ) (r : Reel) → refuses_write k (Some r) ≡ None → IsBlock block → IsReel r → IsReel (ending k block r)
 IsReel-ending k block r allowed is_block kept =
     let (on, under) = allowed-write k r allowed in
-    record {
-      numbered = kept.numbered;
-      numbered_most = kept.numbered_most;
-      sized = kept.sized;
-      sized_most = kept.sized_most;
-      within = omega arith;
-      told = told-map (λ bs. take k bs ++ block ∷ []) (λ bs. length bs ≡ r.len) (λ bs. length bs ≡ k + 1) r.blocks kept.told
-          (λ bs is. omega (arith, is, length-append (take k bs) (block ∷ []), length-take-le k bs (omega (arith, is))));
-      whole = told-map (λ bs. take k bs ++ block ∷ []) (All IsBlock) (All IsBlock) r.blocks kept.whole
-          (λ bs all. All-push IsBlock (take k bs) block (All-take IsBlock k bs all) is_block);
-      counted = kept.counted;
-    }
+    reel_made (k + 1) r.mounted (ending k block r).blocks r.times_read r kept (omega arith)
+    (told-map (λ bs. take k bs ++ block ∷ []) (λ bs. length bs ≡ r.len) (λ bs. length bs ≡ k + 1) r.blocks kept.told
+    (λ bs is. omega (arith, is, length-append (take k bs) (block ∷ []), length-take-le k bs (omega (arith, is)))))
+    (told-map (λ bs. take k bs ++ block ∷ []) (All IsBlock) (All IsBlock) r.blocks kept.whole
+    (λ bs all. All-push IsBlock (take k bs) block (All-take IsBlock k bs all) is_block))
+    kept.counted

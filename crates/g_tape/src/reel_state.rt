@@ -17,19 +17,11 @@ pub struct ReelState {
 }
 
 impl Model for ReelState {
-    ghost use Rattle.std.specs.Prelude.{None};
-    ghost use Rattle.g_tape.specs.Reel.{Reel};
+    ghost use Rattle.g_tape.specs.Reel.{Reel, untold_reel, with_mounted};
 
     ghost Value = { Reel };
 
-    ghost view = { λ r. record {
-      serial = r.serial;
-      capacity = r.capacity;
-      len = r.len;
-      mounted = r.mounted;
-      blocks = None;
-      times_read = None;
-    } };
+    ghost view = { λ r. with_mounted r.mounted (untold_reel r.serial r.capacity r.len) };
 }
 
 impl ReelState {

@@ -23,6 +23,7 @@ use Rattle.g_tree.specs.declared.asked.Granted.{Granted}
 use Rattle.g_tree.proofs.FaultLemmas.{fault_same}
 use Rattle.g_tree.proofs.NamedLemmas.{zeros_fit}
 use Rattle.g_tree.proofs.RecordLemmas.{file_there, newest_is}
+use Rattle.g_plain.proofs.Fronts.{granted_is}
 
 fault_is : {A : Type 0} (o : Option StoreFault) (v : A) (r : Result A StoreFault) → r ≡ fault_or o v → result_err r ≡ o
 fault_is (Some f) v r e = ap result_err e
@@ -31,10 +32,6 @@ fault_is None v r e = ap result_err e
 none_is : {A : Type 0} (o : Option StoreFault) (v x : A) → Ok x ≡ fault_or o v → o ≡ None
 none_is (Some f) v x e = absurd cc
 none_is None v x e = refl
-
-value_is : {A : Type 0} (o : Option StoreFault) (v x : A) → Ok x ≡ fault_or o v → x ≡ v
-value_is (Some f) v x e = absurd cc
-value_is None v x e = cc
 
 input_is : (a b : Full) → name.Input a ≡ name.Input b → a ≡ b
 input_is a b e = cc
@@ -90,7 +87,7 @@ module _ (users : List UserRec) (files : List FileRec) (is : IsRecords users fil
       none = none_is (fault_of t who call) (name_granted (number_of users files) (name_in t who call)) called e
 
       abbrev value : called ≡ name_granted (number_of users files) (name_in t who call)
-      value = value_is (fault_of t who call) (name_granted (number_of users files) (name_in t who call)) called e
+      value = granted_is ((not (has_user t who), NoUser) ∷ checks t who call) (name_granted (number_of users files) (name_in t who call)) called e
 
       pub allowed_as : (bytes : FileRec → List ℕ) → HasLengths files bytes → None ≡ fault_of (tree_of users files bytes next) who call
       allowed_as bytes lengths = sym none ∙ fault_same users files zeros bytes next is (zeros_fit files) lengths who call

@@ -1,17 +1,12 @@
 -- The file of the number has a full name, by which it is found.
-use Rattle.std.proofs.Common.{◌<◌, length, sym, ap, subst, ◌∙◌}
+use Rattle.std.proofs.Common.{sym, ap, ◌∙◌}
 use Rattle.g_plain.specs.PlainTree.{has_file}
 use Rattle.g_tree.specs.Records.{full_of, tree_of, number_of}
-use Rattle.g_tree.proofs.RightLemmas.{numbered_there, owner_used, number_found, numbered_file}
+use Rattle.g_tree.proofs.RightLemmas.{number_found, numbered_file, owner_within}
 use Rattle.g_tree.proofs.tree.Tree.full_name.Goals as goal
 
 pub full_of-requires : goal.full_of-requires
-full_of-requires c =
-    let users = c.args.self.now.users in
-    let files = c.args.self.now.files in
-    let is = c.in-Some.ensures.records in
-    subst (λ us. c.in-Some.file.now.owner < length us) (sym c.users.ensures.value)
-    (owner_used users files is c.in-Some.file.now (numbered_there users files is c.args.number c.in-Some.file.now (sym c.in-Some.ensures.value)).0)
+full_of-requires c = owner_within c.args.self.now.users c.args.self.now.files c.in-Some.ensures.records _ c.args.number c.in-Some.file.now c.users.ensures.value (sym c.in-Some.ensures.value)
 
 pub returns-in-Some-clause-number : goal.returns-in-Some-clause-number
 returns-in-Some-clause-number c =
