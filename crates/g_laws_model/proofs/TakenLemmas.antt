@@ -27,19 +27,15 @@ is_less true b t = refl
 is_less false true t = absurd t
 is_less false false t = absurd t
 
-first_of_two : (a b : Bool) → T (a && b) → T a
-first_of_two true b t = tt
-first_of_two false b t = t
-
-second_of_two : (a b : Bool) → T (a && b) → T b
-second_of_two true b t = t
-second_of_two false b t = absurd t
+both_true : (a b : Bool) → T (a && b) → T a × T b
+both_true true b t = (tt, t)
+both_true false b t = absurd t
 
 above_key : (n : ℕ) (es : List (ℕ × Place)) → T (below_all nat_cmp n es) → From (suc n) es
 above_key n [] t = tt
 above_key n (e ∷ es) t =
-    let less = ltb-true n e.0 (is_less (nat_lt n e.0) (n == e.0) (first_of_two (is_lt (nat_cmp n e.0)) (below_all nat_cmp n es) t)) in
-    (omega (arith, less), above_key n es (second_of_two (is_lt (nat_cmp n e.0)) (below_all nat_cmp n es) t))
+    let less = ltb-true n e.0 (is_less (nat_lt n e.0) (n == e.0) (both_true (is_lt (nat_cmp n e.0)) (below_all nat_cmp n es) t).0) in
+    (omega (arith, less), above_key n es (both_true (is_lt (nat_cmp n e.0)) (below_all nat_cmp n es) t).1)
 
 abbrev which_may : List (ℕ × Place) → List (ℕ × Place)
 which_may es = filter (λ e. is_candidate e.1) es
@@ -53,9 +49,9 @@ stamps_in es = keys_of (which_may es)
 rising : (low : ℕ) (es : List (ℕ × Place)) → From low es → T (is_sorted nat_cmp es) → Above low (stamps_in es)
 rising low [] from sorted = tt
 rising low (e ∷ es) from sorted =
-    let rest = second_of_two (below_all nat_cmp e.0 es) (is_sorted nat_cmp es) sorted in
+    let rest = (both_true (below_all nat_cmp e.0 es) (is_sorted nat_cmp es) sorted).1 in
     elim (is_candidate e.1) as (λ b. Above low (keys_of (cond b (e ∷ which_may es) (which_may es))))
-    [ true ↦ (from.0, rising (suc e.0) es (above_key e.0 es (first_of_two (below_all nat_cmp e.0 es) (is_sorted nat_cmp es) sorted)) rest) | false ↦ rising low es from.1 rest ]
+    [ true ↦ (from.0, rising (suc e.0) es (above_key e.0 es (both_true (below_all nat_cmp e.0 es) (is_sorted nat_cmp es) sorted).0) rest) | false ↦ rising low es from.1 rest ]
 
 pub candidates_rise : (k : Holding) → Above 0 (candidates k)
 candidates_rise k = rising 0 (entries k.places) (from_nothing (entries k.places)) (entries_sorted k.places)
@@ -83,7 +79,7 @@ among_found until stamp [] sorted = sym (and_right (nat_lt stamp until) false re
 among_found until stamp (e ∷ es) sorted = by (cases_Bool (stamp == e.0)) (among_found until stamp es rest_sorted)
   where
     rest_sorted : T (is_sorted nat_cmp es)
-    rest_sorted = second_of_two (below_all nat_cmp e.0 es) (is_sorted nat_cmp es) sorted
+    rest_sorted = (both_true (below_all nat_cmp e.0 es) (is_sorted nat_cmp es) sorted).1
 
     tied : (b : Bool) → (stamp == e.0) ≡ b → find nat_cmp stamp (e ∷ es) ≡ cond b (Some e.1) (find nat_cmp stamp es)
     tied b is = ap (λ (t : Bool). cond t (Some e.1) (find nat_cmp stamp es)) (unsigned_tied stamp e.0 ∙ is)
@@ -93,7 +89,7 @@ among_found until stamp (e ∷ es) sorted = by (cases_Bool (stamp == e.0)) (amon
     by (inl here) rest =
         let same = eqb-true stamp e.0 here in
         let none : is_among stamp (below until (stamps_in es)) ≡ false =
-        not_among until stamp es (subst (λ (n : ℕ). From (suc n) es) (sym same) (above_key e.0 es (first_of_two (below_all nat_cmp e.0 es) (is_sorted nat_cmp es) sorted))) in
+        not_among until stamp es (subst (λ (n : ℕ). From (suc n) es) (sym same) (above_key e.0 es (both_true (below_all nat_cmp e.0 es) (is_sorted nat_cmp es) sorted).0)) in
         let first : is_among stamp (e.0 ∷ below until (stamps_in es)) ≡ true = ap (λ (b : Bool). b || is_among stamp (below until (stamps_in es))) here in
         let is : (c : Bool) → is_among stamp (below until (keys_of (cond c (e ∷ which_may es) (which_may es)))) ≡ (nat_lt e.0 until && c) =
         λ c. elim c as (λ c. is_among stamp (below until (keys_of (cond c (e ∷ which_may es) (which_may es)))) ≡ (nat_lt e.0 until && c)) [
@@ -138,7 +134,7 @@ own_all [] sorted = tt
 own_all (e ∷ es) sorted =
     let alike : eq_by_cmp nat_cmp e.0 e.0 ≡ true = unsigned_tied e.0 e.0 ∙ eq-eqb e.0 e.0 refl in (
       ap (λ (t : Bool). cond t (Some e.1) (find nat_cmp e.0 es)) alike,
-      more_own e es es (above_key e.0 es (first_of_two (below_all nat_cmp e.0 es) (is_sorted nat_cmp es) sorted)) (own_all es (second_of_two (below_all nat_cmp e.0 es) (is_sorted nat_cmp es) sorted)),
+      more_own e es es (above_key e.0 es (both_true (below_all nat_cmp e.0 es) (is_sorted nat_cmp es) sorted).0) (own_all es (both_true (below_all nat_cmp e.0 es) (is_sorted nat_cmp es) sorted).1),
     )
 
 own_entries : (k : Holding) → AllOwn (entries k.places) (entries k.places)

@@ -1,6 +1,6 @@
 -- What holds of every world of a run, so that there is a next one.
 use Rattle.std.proofs.Common.{◌≡◌, ℕ, ◌==◌, List, [], ◌∷◌, Option, Some, None, refl, sym, ◌∙◌, ap, subst, inl, inr, find}
-use Rattle.std.specs.Prelude.{◌⊎◌, Bool, true, false, Result, Ok, Err, MatchOption, is_some}
+use Rattle.std.specs.Prelude.{◌⊎◌, Bool, true, false, Result, Ok, Err, is_some}
 use Rattle.std.proofs.lemmas.Bool.{false≢true}
 use Rattle.std.proofs.lemmas.Option.{some_pair_parts}
 use Rattle.std.specs.Fn.{Shared}
@@ -15,17 +15,17 @@ use Rattle.g_plain.specs.declared.faults.StoreFault.{StoreFault}
 use Rattle.g_plain.specs.declared.faults.StoreFault.TheVariants.{Stopped}
 use Rattle.g_sched.specs.declared.rule.Standing.{Standing}
 use Rattle.g_script.specs.declared.operator.Timed.{Timed}
-use Rattle.g_store_model.specs.CallStep.{Cut, DiscRead, Outcome, Plain, TapeRead, down}
+use Rattle.g_store_model.specs.CallStep.{Outcome, down}
 use Rattle.g_store_model.specs.DumpSteps.{Completed, Event, Going, Stepped as DumpStepped}
-use Rattle.g_store_model.specs.Rising.{Restores, Starts, restore_early, RestoreStep, StartStep}
-use Rattle.g_store_model.specs.State.{Dumped as DumpedTree, Holding, State}
+use Rattle.g_store_model.specs.Rising.{RestoreStep, StartStep}
+use Rattle.g_store_model.specs.State.{State}
 use Rattle.g_run_model.specs.Moves.{Answered, Begin, Dumped, Move, Over, Run, Step, TakeLine, Ticked, TurnOver, dump_told}
 use Rattle.g_run_model.specs.World.{Between, Phase, Stepped, Turned, World, can_step, is_due, job_of, start}
-use Rattle.g_run_model.proofs.TreeLemmas.{dump_store}
+use Rattle.g_run_model.proofs.OverLemmas.{dump_due, dump_turn}
 use Rattle.g_laws_runs.specs.Filestores.{HoldsOne}
-use Rattle.g_laws_runs.proofs.CompleteLemmas.{IsSound, kind, sound_move, sound_none}
+use Rattle.g_laws_runs.proofs.CompleteLemmas.{IsSound, sound_move, sound_none}
 use Rattle.g_laws_runs.proofs.FilestoreLemmas.{dump_one, one_kept, one_move}
-use Rattle.g_laws_runs.proofs.WalkLemmas.{AreKept, IsQuiet, quiet_kept}
+use Rattle.g_laws_runs.proofs.WalkLemmas.{AreKept, move_kept}
 use Rattle.g_laws_progress.proofs.ChoiceLemmas.{no_job, number_there}
 use Rattle.g_laws_progress.proofs.LineLemmas.{line_leaves}
 use Rattle.g_run_model.proofs.StepLemmas.{restore_kept, start_kept}
@@ -74,18 +74,6 @@ dump_jobs n (Ok (Completed m)) s w = inl refl
 dump_jobs n (Err Stopped) s w = inr refl
 dump_jobs n (Err fault) s w = inl refl
 
-dump_turn : (n : ℕ) (r : Result DumpStepped StoreFault) (s : State) (w : World) → (dump_told n r s w).turn ≡ w.turn
-dump_turn n (Ok Going) s w = refl
-dump_turn n (Ok (Completed m)) s w = refl
-dump_turn n (Err Stopped) s w = refl
-dump_turn n (Err fault) s w = refl
-
-dump_due : (n : ℕ) (r : Result DumpStepped StoreFault) (s : State) (w : World) → is_due (dump_told n r s w) ≡ is_due w
-dump_due n (Ok Going) s w = refl
-dump_due n (Ok (Completed m)) s w = refl
-dump_due n (Err Stopped) s w = refl
-dump_due n (Err fault) s w = refl
-
 -- A WORLD from which there is a next one, unless the run is over
 pub record IsReadyWorld (w : World) : Type 0 where
   pub sound : IsSound w.store
@@ -117,20 +105,15 @@ ready_start lines bad s low none = record {
 }
 
 module _ {F U : Type 0} (tariffs : Shared F (Bor Usage × Unit {0}) Charge) (tariff : F) (rules : Shared U (Bor Standing × Unit {0}) ℕ) (rule : U) where
-  held_move : (w new : World) (move : Move) → IsHeld w.store → Step tariffs tariff rules rule w move new → ((o : Outcome) × (move ≡ Dumped o)) ⊎ IsQuiet move → IsHeld new.store
-  held_move w new move has step (inl (o, is)) = by (subst (λ (m : Move). Step tariffs tariff rules rule w m new) is step)
-    where
-      by : Step tariffs tariff rules rule w (Dumped o) new → IsHeld new.store
-      by (between, idle, undue, dumping, (r, s, (k, d, holds, there, stepped, so), made)) =
-          held_at s new.store (ap (λ (x : World). x.store) made ∙ dump_store _ r s w) (λ up. dump_one w.store k d o r s (ap is_some holds) stepped)
-  held_move w new move has step (inr quiet) = quiet_kept KeepsHeld held_kept tariffs tariff rules rule w new move quiet step has
+  held_move : (w new : World) (move : Move) → IsHeld w.store → Step tariffs tariff rules rule w move new → IsHeld new.store
+  held_move w new move has step = move_kept KeepsHeld held_kept tariffs tariff rules rule (λ s k d o r after holds there stepped old up. dump_one s k d o r after (ap is_some holds) stepped) w new move step has
 
   -- no jobs come to a system that holds no filestore
   line_jobs : (w new : World) (tape : Bool) (o : Outcome) → IsReadyWorld w → w.jobs ≡ [] → Step tariffs tariff rules rule w (TakeLine tape o) new → (new.jobs ≡ w.jobs) ⊎ ((new.jobs ≡ []) ⊎ (w.store.up ≡ true))
       → HoldsOne new.store ⊎ (new.jobs ≡ [])
   line_jobs w new tape o ready none step (inl same) = inr (same ∙ none)
   line_jobs w new tape o ready none step (inr (inl gone)) = inr gone
-  line_jobs w new tape o ready none step (inr (inr up)) = inl (one_move tariffs tariff rules rule w new (TakeLine tape o) (ready.held up) step (kind (TakeLine tape o)))
+  line_jobs w new tape o ready none step (inr (inr up)) = inl (one_move tariffs tariff rules rule w new (TakeLine tape o) (ready.held up) step)
 
   dumped_jobs : (w new v : World) → w.jobs ≡ [] → new ≡ v → (v.jobs ≡ w.jobs) ⊎ (v.jobs ≡ []) → new.jobs ≡ []
   dumped_jobs w new v none is (inl same) = ap (λ (x : World). x.jobs) is ∙ same ∙ none
@@ -147,7 +130,7 @@ module _ {F U : Type 0} (tariffs : Shared F (Bor Usage × Unit {0}) Charge) (tar
   jobs_none w new Over ready none (between, idle, lines, nothing, over, is) = inr (ap (λ (x : World). x.jobs) is)
 
   jobs_by : (w new : World) (move : Move) → IsReadyWorld w → Step tariffs tariff rules rule w move new → HoldsOne w.store ⊎ (w.jobs ≡ []) → HoldsOne new.store ⊎ (new.jobs ≡ [])
-  jobs_by w new move ready step (inl one) = inl (one_move tariffs tariff rules rule w new move one step (kind move))
+  jobs_by w new move ready step (inl one) = inl (one_move tariffs tariff rules rule w new move one step)
   jobs_by w new move ready step (inr none) = jobs_none w new move ready none step
 
   abbrev HasTurn : World → Type 0
@@ -185,8 +168,8 @@ module _ {F U : Type 0} (tariffs : Shared F (Bor Usage × Unit {0}) Charge) (tar
 
   ready_step : (w new : World) (move : Move) → IsReadyWorld w → Step tariffs tariff rules rule w move new → IsReadyWorld new
   ready_step w new move ready step = record {
-    sound = sound_move tariffs tariff rules rule w new move ready.sound step (kind move);
-    held = held_move w new move ready.held step (kind move);
+    sound = sound_move tariffs tariff rules rule w new move ready.sound step;
+    held = held_move w new move ready.held step;
     jobs = jobs_by w new move ready step ready.jobs;
     turn = turn_goes w new move ready step;
     undue = undue_goes w new move ready step;

@@ -31,7 +31,7 @@ use Rattle.g_laws_runs.specs.Completion.{Completes, DumpsComplete, DumpsGoOn, Is
 use Rattle.g_laws_runs.specs.Dumps.{IsSameDump, dump_steps}
 use Rattle.g_laws_runs.proofs.DumpLemmas.{one_dump, open_refused}
 use Rattle.g_laws_runs.proofs.RefusedLemmas.{unstopped}
-use Rattle.g_laws_runs.proofs.WalkLemmas.{AreKept, IsQuiet, quiet_kept}
+use Rattle.g_laws_runs.proofs.WalkLemmas.{AreKept, IsQuiet, move_kept, quiet_kept}
 use Rattle.g_run_model.proofs.StepLemmas.{call_kept, restore_kept, start_kept}
 
 -- A DUMP IS OPEN only of a system that is up, and has a step left
@@ -262,17 +262,13 @@ sum_none m a b c none is = omega (arith, none, is)
 
 module _ {F U : Type 0} (tariffs : Shared F (Bor Usage × Unit {0}) Charge) (tariff : F) (rules : Shared U (Bor Standing × Unit {0}) ℕ) (rule : U) where
   -- a dump is open of a system that is up alone, all along a run
-  sound_dumped : (w new : World) (o : Outcome) → IsSound w.store → Step tariffs tariff rules rule w (Dumped o) new → IsSound new.store
-  sound_dumped w new o old (between, idle, undue, dumping, (r, s, (k, d, holds, there, step, so), is)) =
-      sound_at s new.store (ap (λ (x : World). x.store) is ∙ dump_store _ r s w) (dump_sound w.store k d o r s (old d there).0 step)
-
-  pub sound_move : (w new : World) (move : Move) → IsSound w.store → Step tariffs tariff rules rule w move new → ((o : Outcome) × (move ≡ Dumped o)) ⊎ IsQuiet move → IsSound new.store
-  sound_move w new move old step (inl (o, is)) = sound_dumped w new o old (subst (λ (m : Move). Step tariffs tariff rules rule w m new) is step)
-  sound_move w new move old step (inr quiet) = quiet_kept KeepsSound sound_kept tariffs tariff rules rule w new move quiet step old
+  pub sound_move : (w new : World) (move : Move) → IsSound w.store → Step tariffs tariff rules rule w move new → IsSound new.store
+  sound_move w new move sound step =
+      move_kept KeepsSound sound_kept tariffs tariff rules rule (λ s k d o r after holds there stepped old. dump_sound s k d o r after (old d there).0 stepped) w new move step sound
 
   pub sound_run : (w last : World) (moves : List Move) → IsSound w.store → Run tariffs tariff rules rule w moves last → IsSound last.store
   sound_run w last [] old run = sound_at w.store last.store (ap (λ (x : World). x.store) run) old
-  sound_run w last (move ∷ moves) old (mid, step, run) = sound_run mid last moves (sound_move w mid move old step (kind move)) run
+  sound_run w last (move ∷ moves) old (mid, step, run) = sound_run mid last moves (sound_move w mid move old step) run
 
   abbrev Ends : World → OpenDump → List Move → World → Type 0
   Ends w d moves last = IsOpenAt d (sum_by dump_steps moves + d.done) last.store ⊎ Completes tariffs tariff rules rule w d moves last

@@ -22,13 +22,11 @@ use Rattle.g_store_model.specs.Process.{ProcessStep, moved, with_cut}
 use Rattle.g_store_model.specs.Rising.{RestoreStep, StartStep}
 use Rattle.g_store_model.specs.State.{Holding, OpenDump, Place, State, Dumped as DumpedTree}
 use Rattle.g_run_model.specs.Devices.{Devices, HoldsThis, StandFor}
-use Rattle.g_run_model.specs.Moves.{Dumped, Move, Step}
+use Rattle.g_run_model.specs.Moves.{Move, Step}
 use Rattle.g_run_model.specs.World.{World}
 use Rattle.g_run_model.proofs.ProcessedLemmas.{of_each}
-use Rattle.g_run_model.proofs.TreeLemmas.{dump_store}
 use Rattle.g_laws_runs.specs.Filestores.{DevicesKeepFilestores, FilestoresStay, HasFilestore, HoldsOne}
-use Rattle.g_laws_runs.proofs.CompleteLemmas.{kind}
-use Rattle.g_laws_runs.proofs.WalkLemmas.{AreKept, IsQuiet, quiet_kept}
+use Rattle.g_laws_runs.proofs.WalkLemmas.{AreKept, move_kept}
 use Rattle.g_run_model.proofs.StepLemmas.{call_kept, restore_kept, start_kept}
 
 abbrev pub KeepsOne : Outcome → State → State → Type 0
@@ -128,17 +126,12 @@ devices_hold d s stand has = by stand.contents stand.disc (sym (ap (λ (x : Stat
     by (Some c) (blocks, held, holds, belongs) some = record { blocks = blocks; contents = c; held = held; holds = holds }
 
 module _ {F U : Type 0} (tariffs : Shared F (Bor Usage × Unit {0}) Charge) (tariff : F) (rules : Shared U (Bor Standing × Unit {0}) ℕ) (rule : U) where
-  pub one_move : (w new : World) (move : Move) → HoldsOne w.store → Step tariffs tariff rules rule w move new → ((o : Outcome) × (move ≡ Dumped o)) ⊎ IsQuiet move → HoldsOne new.store
-  one_move w new move has step (inl (o, is)) = by (subst (λ (m : Move). Step tariffs tariff rules rule w m new) is step)
-    where
-      by : Step tariffs tariff rules rule w (Dumped o) new → HoldsOne new.store
-      by (between, idle, undue, dumping, (r, s, (k, d, holds, there, stepped, so), made)) =
-          one_at s new.store (ap (λ (x : World). x.store) made ∙ dump_store _ r s w) (dump_one w.store k d o r s has stepped)
-  one_move w new move has step (inr quiet) = quiet_kept KeepsOne one_kept tariffs tariff rules rule w new move quiet step has
+  pub one_move : (w new : World) (move : Move) → HoldsOne w.store → Step tariffs tariff rules rule w move new → HoldsOne new.store
+  one_move w new move has step = move_kept KeepsOne one_kept tariffs tariff rules rule (λ s k d o r after holds there stepped old. dump_one s k d o r after old stepped) w new move step has
 
   pub filestores_stay : FilestoresStay tariffs tariff rules rule
   filestores_stay w last [] has run = one_at w.store last.store (ap (λ (x : World). x.store) run) has
-  filestores_stay w last (move ∷ moves) has (mid, step, run) = filestores_stay mid last moves (one_move w mid move has step (kind move)) run
+  filestores_stay w last (move ∷ moves) has (mid, step, run) = filestores_stay mid last moves (one_move w mid move has step) run
 
   pub devices_keep : DevicesKeepFilestores tariffs tariff rules rule
   devices_keep lines bad s old new moves last stand has run =

@@ -15,15 +15,13 @@ use Rattle.g_store_model.specs.DumpSteps.{Completed, DumpStep, Event, Going, Ste
 use Rattle.g_store_model.specs.Rising.{IsLost, Restores, fault_from, has_none, restore_early, restore_late}
 use Rattle.g_store_model.specs.State.{Dumped as DumpedTree, Holding, OpenDump, ReelRow, State, first_reel, with_reel}
 use Rattle.g_run_model.specs.Laws.{HasDumped}
-use Rattle.g_run_model.specs.Moves.{Dumped, Move, Run, Step}
+use Rattle.g_run_model.specs.Moves.{Move, Run, Step}
 use Rattle.g_run_model.specs.World.{World, start}
 use Rattle.g_run_model.proofs.DeviceDumpLemmas.{devices_dumped}
 use Rattle.g_run_model.proofs.KeptDumpLemmas.{call_keeps, dump_keeps, format_keeps, migrate_keeps, mount_keeps, open_keeps, restore_keeps, start_keeps, unmount_keeps}
 use Rattle.g_run_model.proofs.ProcessedLemmas.{process_keeps}
-use Rattle.g_run_model.proofs.TreeLemmas.{dump_store}
 use Rattle.g_laws_runs.specs.NoLoss.{NothingIsLost}
-use Rattle.g_laws_runs.proofs.CompleteLemmas.{kind}
-use Rattle.g_laws_runs.proofs.WalkLemmas.{AreKept, IsQuiet, quiet_kept}
+use Rattle.g_laws_runs.proofs.WalkLemmas.{AreKept, move_kept}
 
 abbrev pub KeepsDumped : Outcome → State → State → Type 0
 KeepsDumped o s new = HasDumped s → HasDumped new
@@ -99,17 +97,12 @@ restore_named s (Some fault) o answer new has early (err, is) lost =
     early_named (first_reel _ s.reels) (is_tape_read o) (list_all has_none s.reels) fault early (subst (λ (r : Result ℕ StoreFault). IsLost r) err lost)
 
 module _ {F U : Type 0} (tariffs : Shared F (Bor Usage × Unit {0}) Charge) (tariff : F) (rules : Shared U (Bor Standing × Unit {0}) ℕ) (rule : U) where
-  dumped_move : (w new : World) (move : Move) → HasDumped w.store → Step tariffs tariff rules rule w move new → ((o : Outcome) × (move ≡ Dumped o)) ⊎ IsQuiet move → HasDumped new.store
-  dumped_move w new move has step (inl (o, is)) = by (subst (λ (m : Move). Step tariffs tariff rules rule w m new) is step)
-    where
-      by : Step tariffs tariff rules rule w (Dumped o) new → HasDumped new.store
-      by (between, idle, undue, dumping, (r, s, (k, d, holds, there, stepped, so), made)) =
-          has_at s new.store (ap (λ (x : World). x.store) made ∙ dump_store _ r s w) (dump_has w.store k d o r s stepped has)
-  dumped_move w new move has step (inr quiet) = quiet_kept KeepsDumped dumped_kept tariffs tariff rules rule w new move quiet step has
+  dumped_move : (w new : World) (move : Move) → HasDumped w.store → Step tariffs tariff rules rule w move new → HasDumped new.store
+  dumped_move w new move has step = move_kept KeepsDumped dumped_kept tariffs tariff rules rule (λ s k d o r after holds there stepped old. dump_has s k d o r after stepped old) w new move step has
 
   dumped_run : (w last : World) (moves : List Move) → HasDumped w.store → Run tariffs tariff rules rule w moves last → HasDumped last.store
   dumped_run w last [] has run = has_at w.store last.store (ap (λ (x : World). x.store) run) has
-  dumped_run w last (move ∷ moves) has (mid, step, run) = dumped_run mid last moves (dumped_move w mid move has step (kind move)) run
+  dumped_run w last (move ∷ moves) has (mid, step, run) = dumped_run mid last moves (dumped_move w mid move has step) run
 
   pub nothing_is_lost : NothingIsLost tariffs tariff rules rule
   nothing_is_lost d lines bad s moves w stand run o answer new step lost =

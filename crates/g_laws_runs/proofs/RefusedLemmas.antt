@@ -9,7 +9,6 @@ use Rattle.g_budget.specs.declared.tariff.Usage.{Usage}
 use Rattle.g_sched.specs.declared.rule.Standing.{Standing}
 use Rattle.g_plain.specs.declared.faults.StoreFault.{StoreFault}
 use Rattle.g_plain.specs.declared.faults.StoreFault.TheVariants.{Running, Stopped}
-use Rattle.g_plain.specs.PlainTree.{Tree}
 use Rattle.g_script.specs.declared.operator.Operator.{Operator}
 use Rattle.g_script.specs.declared.operator.Operator.TheVariants as line
 use Rattle.g_script.specs.declared.operator.Timed.{Timed}
@@ -24,7 +23,7 @@ use Rattle.g_run_model.specs.Lines.{LineGives, line_refused, tells, up_with}
 use Rattle.g_run_model.specs.Moves.{Answered, Begin, Dumped, Move, Over, Step, TakeLine, Ticked, TurnOver}
 use Rattle.g_run_model.specs.World.{World}
 use Rattle.g_run_model.proofs.EventToldLemmas.{ToldBy, format_told, restore_told}
-use Rattle.g_run_model.proofs.TreeLemmas.{told_up}
+use Rattle.g_run_model.proofs.TreeLemmas.{either_first, either_still, told_up}
 use Rattle.g_laws_runs.specs.RefusedLines.{KeepsTree, RefusedLinesLeave, RunKeeping, StartStillHasTheTree}
 
 -- an answer that is told isn't a stop where no write failed
@@ -85,27 +84,20 @@ module _ {F U : Type 0} (tariffs : Shared F (Bor Usage × Unit {0}) Charge) (tar
       by (inl e) = inl e
       by (inr e) = inr (e ∙ behind)
 
-  left_by : (t u v : Option Tree) → (u ≡ t) ⊎ (u ≡ v) → v ≡ t → u ≡ t
-  left_by t u v (inl e) same = e
-  left_by t u v (inr e) same = e ∙ same
-
   one_keeps : (w : World) (move : Move) (mid : World) → KeepsTree w move mid → Step tariffs tariff rules rule w move mid → tree_in mid.store ≡ tree_in w.store
-  one_keeps w (TakeLine tape o) mid (inl quiet) step = left_by (tree_in w.store) (tree_in mid.store) (tree_behind w (TakeLine tape o)) (all w mid (TakeLine tape o) step) quiet
+  one_keeps w (TakeLine tape o) mid (inl quiet) step = either_first (tree_in w.store) (tree_in mid.store) (tree_behind w (TakeLine tape o)) (all w mid (TakeLine tape o) step) quiet
   one_keeps w (TakeLine tape o) mid (inr refused) step = refused_leave w mid tape o step refused
-  one_keeps w (Dumped o) mid quiet step = left_by (tree_in w.store) (tree_in mid.store) (tree_behind w (Dumped o)) (all w mid (Dumped o) step) quiet
-  one_keeps w (Begin number) mid quiet step = left_by (tree_in w.store) (tree_in mid.store) (tree_behind w (Begin number)) (all w mid (Begin number) step) quiet
-  one_keeps w (Answered o) mid quiet step = left_by (tree_in w.store) (tree_in mid.store) (tree_behind w (Answered o)) (all w mid (Answered o) step) quiet
-  one_keeps w (TurnOver number charge) mid quiet step = left_by (tree_in w.store) (tree_in mid.store) (tree_behind w (TurnOver number charge)) (all w mid (TurnOver number charge) step) quiet
-  one_keeps w Ticked mid quiet step = left_by (tree_in w.store) (tree_in mid.store) (tree_behind w Ticked) (all w mid Ticked step) quiet
-  one_keeps w Over mid quiet step = left_by (tree_in w.store) (tree_in mid.store) (tree_behind w Over) (all w mid Over step) quiet
+  one_keeps w (Dumped o) mid quiet step = either_first (tree_in w.store) (tree_in mid.store) (tree_behind w (Dumped o)) (all w mid (Dumped o) step) quiet
+  one_keeps w (Begin number) mid quiet step = either_first (tree_in w.store) (tree_in mid.store) (tree_behind w (Begin number)) (all w mid (Begin number) step) quiet
+  one_keeps w (Answered o) mid quiet step = either_first (tree_in w.store) (tree_in mid.store) (tree_behind w (Answered o)) (all w mid (Answered o) step) quiet
+  one_keeps w (TurnOver number charge) mid quiet step = either_first (tree_in w.store) (tree_in mid.store) (tree_behind w (TurnOver number charge)) (all w mid (TurnOver number charge) step) quiet
+  one_keeps w Ticked mid quiet step = either_first (tree_in w.store) (tree_in mid.store) (tree_behind w Ticked) (all w mid Ticked step) quiet
+  one_keeps w Over mid quiet step = either_first (tree_in w.store) (tree_in mid.store) (tree_behind w Over) (all w mid Over step) quiet
 
   pub keeping : (w : World) (moves : List Move) (new : World) → RunKeeping tariffs tariff rules rule w moves new → tree_in new.store ≡ tree_in w.store
   keeping w [] new run = ap (λ (x : World). tree_in x.store) run
   keeping w (move ∷ moves) new (mid, quiet, step, run) = keeping mid moves new run ∙ one_keeps w move mid quiet step
 
   pub still_has_the_tree : StartStillHasTheTree tariffs tariff rules rule
-  still_has_the_tree before cut up move moves was_up step is_down run = by (all before cut move step)
-    where
-      by : (tree_in cut.store ≡ tree_in before.store) ⊎ (tree_in cut.store ≡ tree_behind before move) → (tree_in up.store ≡ tree_in before.store) ⊎ (tree_in up.store ≡ tree_behind before move)
-      by (inl e) = inl (keeping cut moves up run ∙ e)
-      by (inr e) = inr (keeping cut moves up run ∙ e)
+  still_has_the_tree before cut up move moves was_up step is_down run =
+      either_still (tree_in before.store) (tree_in cut.store) (tree_behind before move) (tree_in up.store) (keeping cut moves up run) (all before cut move step)

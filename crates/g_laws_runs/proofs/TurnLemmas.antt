@@ -24,7 +24,7 @@ use Rattle.g_store_model.specs.State.{State}
 use Rattle.g_run_model.specs.Accounts.{tree_of}
 use Rattle.g_run_model.specs.Laws.{IsTimed}
 use Rattle.g_run_model.specs.Moves.{Answered, Begin, Dumped, Move, Over, Run, Step, TakeLine, Ticked, TurnOver, turn_told}
-use Rattle.g_run_model.specs.World.{Turned, World, can_step, job_of, shows, start}
+use Rattle.g_run_model.specs.World.{Phase, Stepped, Turned, World, can_step, job_of, shows, start}
 use Rattle.g_run_model.proofs.AnswerLemmas.{call_plain}
 use Rattle.g_run_model.proofs.CrewLemmas.{listed, one_job}
 use Rattle.g_run_model.proofs.EndsLemmas.{begun, run_goes}
@@ -38,20 +38,34 @@ one_tree a b e = cc
 idle_turn : {P : Type 0} (turn : Option (ℕ × Asks Work)) (x : ℕ × Asks Work) → turn ≡ Some x → turn ≡ None → P
 idle_turn turn x some none = let both : None ≡ Some x = sym none ∙ some in absurd (let no : ⊥ = cc in no)
 
+-- what isn't the store's stays where a turn begins, and where a call is answered
+behind_made : (w mid before : World) (s : State) (t : Option (ℕ × Asks Work)) (p : Phase) → mid ≡ record w { store = s; turn = t; phase = p } → IsBehindCalls mid before → IsBehindCalls w before
+behind_made w mid before s t p made kept = record {
+  lines = kept.lines ∙ ap (λ (x : World). x.lines) made;
+  jobs = kept.jobs ∙ ap (λ (x : World). x.jobs) made;
+  accounts = kept.accounts ∙ ap (λ (x : World). x.accounts) made;
+  text = kept.text ∙ ap (λ (x : World). x.text) made;
+  count = kept.count ∙ ap (λ (x : World). x.count) made;
+}
+
 module _ {F U : Type 0} (tariffs : Shared F (Bor Usage × Unit {0}) Charge) (tariff : F) (rules : Shared U (Bor Standing × Unit {0}) ℕ) (rule : U) where
+  -- a turn is over
+  record IsOver (job : JobState) (charge : Option Charge) (before new : World) : Type 0 where
+    work : Work
+    priced : IsPriced tariffs tariff work charge
+    turn : Turn
+    next : JobState
+    ends : turn_end job work charge ≡ Some (turn, next)
+    told : new ≡ record (turn_told next turn (shows job next before)) { turn = None; phase = Turned }
+    after : Tree
+    tree_is : tree_of new.store ≡ Some after
+
   -- what is left of a turn's program, from this world on
   record RestOf (job : JobState) (tree : Tree) (number : ℕ) (asks : Asks Work) (ended : ℕ) (charge : Option Charge) (w before new : World) : Type 0 where
     number_is : ended ≡ number
-    work : Work
-    after : Tree
-    turn : Turn
-    next : JobState
-    ran : RanPlainly job.user tree asks work after
-    priced : IsPriced tariffs tariff work charge
-    ends : turn_end job work charge ≡ Some (turn, next)
+    end : IsOver job charge before new
+    ran : RanPlainly job.user tree asks end.work end.after
     kept : IsBehindCalls w before
-    told : new ≡ record (turn_told next turn (shows job next before)) { turn = None; phase = Turned }
-    tree_is : tree_of new.store ≡ Some after
 
   -- the turn is over
   over : (job : JobState) (tree : Tree) (number : ℕ) (asks : Asks Work) (ended : ℕ) (charge : Option Charge) (w before new : World) → before ≡ w → w.turn ≡ Some (number, asks) → job_of w number ≡ Some job
@@ -63,22 +77,18 @@ module _ {F U : Type 0} (tariffs : Shared F (Bor Usage × Unit {0}) Charge) (tar
       let job_same : job' ≡ job = one_job job' job (sym found ∙ ap (λ (n : ℕ). job_of before n) number_is ∙ ap (λ (x : World). job_of x number) same ∙ here) in
       record {
         number_is = number_is;
-        work = work;
-        after = tree;
-        turn = turn;
-        next = next;
-        ran = subst (λ (p : Asks Work). RanPlainly job.user tree p work tree) (sym asks_is) (refl, refl);
-        priced = priced;
-        ends = subst (λ (j : JobState). turn_end j work charge ≡ Some (turn, next)) job_same ends;
-        kept = record {
-          lines = ap (λ (x : World). x.lines) same;
-          jobs = ap (λ (x : World). x.jobs) same;
-          accounts = ap (λ (x : World). x.accounts) same;
-          text = ap (λ (x : World). x.text) same;
-          count = ap (λ (x : World). x.count) same;
+        end = record {
+          work = work;
+          priced = priced;
+          turn = turn;
+          next = next;
+          ends = subst (λ (j : JobState). turn_end j work charge ≡ Some (turn, next)) job_same ends;
+          told = subst (λ (j : JobState). new ≡ record (turn_told next turn (shows j next before)) { turn = None; phase = Turned }) job_same told;
+          after = tree;
+          tree_is = ap (λ (x : World). tree_of x.store) told ∙ ap (λ (s : State). tree_of s) (turn_store next turn (shows job' next before)) ∙ ap (λ (x : World). tree_of x.store) same ∙ there;
         };
-        told = subst (λ (j : JobState). new ≡ record (turn_told next turn (shows j next before)) { turn = None; phase = Turned }) job_same told;
-        tree_is = ap (λ (x : World). tree_of x.store) told ∙ ap (λ (s : State). tree_of s) (turn_store next turn (shows job' next before)) ∙ ap (λ (x : World). tree_of x.store) same ∙ there;
+        ran = subst (λ (p : Asks Work). RanPlainly job.user tree p work tree) (sym asks_is) (refl, refl);
+        kept = subst (λ (x : World). IsBehindCalls w x) (sym same) (record { lines = refl; jobs = refl; accounts = refl; text = refl; count = refl });
       }
 
   module _ (plainly : AnswersPlainly) (keep : RefusalsKeep) (stops : StopsLeave) where
@@ -102,22 +112,9 @@ module _ {F U : Type 0} (tariffs : Shared F (Bor Usage × Unit {0}) Charge) (tar
         let r = rest done.0 (more answer) (ap (λ (x : World). x.turn) made ∙ ap (λ (n : ℕ). Some (n, more answer)) (sym number_is)) (ap (λ (x : World). job_of x number) made ∙ here) (ap (λ (x : World). tree_of x.store) made ∙ done.2) in
         record {
           number_is = r.number_is;
-          work = r.work;
-          after = r.after;
-          turn = r.turn;
-          next = r.next;
-          ran = subst (λ (p : Asks Work). RanPlainly job.user tree p r.work r.after) (sym asks_is) (answer, done.0, plain, real, r.ran);
-          priced = r.priced;
-          ends = r.ends;
-          kept = record {
-            lines = r.kept.lines ∙ ap (λ (x : World). x.lines) made;
-            jobs = r.kept.jobs ∙ ap (λ (x : World). x.jobs) made;
-            accounts = r.kept.accounts ∙ ap (λ (x : World). x.accounts) made;
-            text = r.kept.text ∙ ap (λ (x : World). x.text) made;
-            count = r.kept.count ∙ ap (λ (x : World). x.count) made;
-          };
-          told = r.told;
-          tree_is = r.tree_is;
+          end = r.end;
+          ran = subst (λ (p : Asks Work). RanPlainly job.user tree p r.end.work r.end.after) (sym asks_is) (answer, done.0, plain, real, r.ran);
+          kept = behind_made w mid before s (Some (asker, more answer)) w.phase made r.kept;
         }
 
     -- no other move comes within a turn
@@ -148,21 +145,15 @@ module _ {F U : Type 0} (tariffs : Shared F (Bor Usage × Unit {0}) Charge) (tar
           record {
             job = job;
             job_is = here;
-            work = r.work;
-            after = r.after;
-            turn = r.turn;
-            next = r.next;
+            work = r.end.work;
+            after = r.end.after;
+            turn = r.end.turn;
+            next = r.end.next;
             ran = r.ran;
-            priced = r.priced;
-            ends = r.ends;
-            kept = record {
-              lines = r.kept.lines ∙ ap (λ (x : World). x.lines) made;
-              jobs = r.kept.jobs ∙ ap (λ (x : World). x.jobs) made;
-              accounts = r.kept.accounts ∙ ap (λ (x : World). x.accounts) made;
-              text = r.kept.text ∙ ap (λ (x : World). x.text) made;
-              count = r.kept.count ∙ ap (λ (x : World). x.count) made;
-            };
-            told = r.told;
-            tree_is = r.tree_is;
+            priced = r.end.priced;
+            ends = r.end.ends;
+            kept = behind_made w mid before w.store (Some (job.number, turn_work job)) Stepped made r.kept;
+            told = r.end.told;
+            tree_is = r.end.tree_is;
           },
         )

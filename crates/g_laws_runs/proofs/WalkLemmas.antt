@@ -18,7 +18,7 @@ use Rattle.g_plain.specs.PlainTree.{input_name}
 use Rattle.g_script.specs.declared.operator.Operator.{Operator}
 use Rattle.g_script.specs.declared.operator.Operator.TheVariants as line
 use Rattle.g_store_model.specs.CallStep.{CallStep, Outcome, Plain, down}
-use Rattle.g_store_model.specs.DumpSteps.{MigrateStep, MountStep, OpenStep, UnmountStep}
+use Rattle.g_store_model.specs.DumpSteps.{DumpStep, MigrateStep, MountStep, OpenStep, Stepped, UnmountStep}
 use Rattle.g_store_model.specs.Process.{ProcessStep}
 use Rattle.g_store_model.specs.Rising.{FormatStep, RestoreStep, StartStep}
 use Rattle.g_store_model.specs.State.{Holding, OpenDump, State}
@@ -27,7 +27,7 @@ use Rattle.g_run_model.specs.Lines.{LineGives, shut_with, line_refused, now_stan
 use Rattle.g_run_model.specs.Moves.{Answered, Begin, Dumped, Move, Over, Step, TakeLine, Ticked, TurnOver, outcome_of}
 use Rattle.g_run_model.specs.Texts.{dump_text, processed_text, started_text, tape_text}
 use Rattle.g_run_model.specs.World.{World, shows}
-use Rattle.g_run_model.proofs.TreeLemmas.{job_by, login_by, told_stands, told_up, turn_store, typed_by}
+use Rattle.g_run_model.proofs.TreeLemmas.{dump_store, job_by, login_by, told_stands, told_up, turn_store, typed_by}
 
 -- what is kept between a state and the next, at each event but a step of the open dump
 pub record AreKept (K : Outcome → State → State → Type 0) : Type 0 where
@@ -119,3 +119,13 @@ module _ (K : Outcome → State → State → Type 0) (kept : AreKept K) where
     quiet_kept w new (TurnOver number charge) quiet (work, job, turn, after, asks, here, priced, ends, is) = still Plain w new _ refl is (turn_store after turn (shows job after w))
     quiet_kept w new Ticked quiet (idle, phase, is) = still Plain w new _ refl is refl
     quiet_kept w new Over quiet (between, idle, lines, nothing, over, is) = still Plain w new _ refl is refl
+
+    -- ANY MOVE, where a step of the open dump keeps it too
+    pub move_kept : ((s : State) (k : Holding) (d : OpenDump) (o : Outcome) (r : Result Stepped StoreFault) (new : State) → s.holding ≡ Some k → s.open_dump ≡ Some d → DumpStep s k d o r new → K o s new)
+        → (w new : World) (move : Move) → Step tariffs tariff rules rule w move new → K (outcome_of move) w.store new.store
+    move_kept dumped w new (Dumped o) step =
+        let (between, idle, undue, dumping, made) = step in
+        let (r, s, stepped, is) = made in
+        let (k, d, holds, there, one, so) = stepped in
+        told o w new _ s is (dump_store _ r s w) (dumped w.store k d o r s holds there one)
+    move_kept dumped w new move step = quiet_kept w new move tt step

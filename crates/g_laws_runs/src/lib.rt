@@ -147,6 +147,7 @@ pub fn tapes_cut_no_call()
 
 /// A device's fuse goes by the last STOP line that armed it, and by the writes made since; where there was none, by the old fuse and
 /// all writes. One that was armed in a call is spent only by the writes of that call.
+#[tactic(auto, using(crate::proofs::FuseLemmas::armings_go, crate::proofs::FuseLemmas::number_is_last, crate::proofs::FuseLemmas::unarmed_burns, crate::proofs::FuseLemmas::armed_burns, crate::proofs::FuseLemmas::racks_burn, crate::proofs::FuseLemmas::disc_spends, crate::proofs::FuseLemmas::rack_spends))]
 pub fn fuses_go_by_lines()
     ensures armings { ArmingsGo }
     ensures numbers { NumberIsLast }
