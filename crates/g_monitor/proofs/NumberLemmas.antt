@@ -13,6 +13,9 @@ use Rattle.g_monitor.specs.declared.errors.CommandError.TheVariants as error
 use Rattle.g_monitor.specs.Parts.{mode_word, with_number, with_numbers, with_copy}
 use Rattle.g_monitor.specs.Refusals.{IsPrinted, fault_line, error_line, error_number}
 
+pub only_digit : (n digit : ℕ) → n < 10 → digit ≡ 48 + n → decimal n ≡ digit ∷ []
+only_digit n digit small is = decimal_digit n small ∙ ap (λ (d : ℕ). d ∷ []) (sym is)
+
 -- the text is the number, a space and what stands behind
 abbrev Numbered : ℕ → List ℕ → Type 0
 Numbered number text = (rest : List ℕ) × (text ≡ decimal number ++ 32 ∷ rest)

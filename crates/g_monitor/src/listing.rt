@@ -3,7 +3,7 @@ ghost use Rattle.std.specs.Prelude.{◌≡◌, ◌++◌, map, IfOk, IsTrue, OnOk
 ghost use Rattle.g_lines.specs.Lines.{text_of};
 ghost use Rattle.g_monitor.specs.Listing.{shown, shown_line, listed_lines, row_line};
 
-use crate::parts::push_words;
+use crate::parts::{push_generation, push_words};
 use g_base::NoMemory;
 use g_lines::{Lines, push_decimal};
 use g_name::{Full, Text};
@@ -55,7 +55,7 @@ pub fn push_row(text: &mut Text, row: &(Full, u32)) -> Result<(), NoMemory>
     let (full, len) = row;
     push_words(text, b"| ", full.local.as_slice())?;
     text.extend(b"(")?;
-    push_decimal(text, u64::from(full.generation))?;
+    push_generation(text, full.generation)?;
     text.extend(b"/")?;
     text.extend(full.lang.as_slice())?;
     text.extend(b") ")?;

@@ -1,5 +1,6 @@
 //! The parts of lines: numbers, full names, modes and words of a program.
-ghost use Rattle.std.specs.Prelude.{◌≡◌, ◌++◌, OnOk};
+ghost use Rattle.std.specs.Fmt.{decimal};
+ghost use Rattle.std.specs.Prelude.{◌≡◌, ◌++◌, ◌∷◌, [], IfSome, OnOk};
 ghost use Rattle.g_word.specs.Octal.{octal_digits};
 ghost use Rattle.g_monitor.specs.Parts.{mode_word, full_text, shown_mode, modes_text, with_number, with_numbers, with_copy};
 
@@ -31,10 +32,32 @@ pub fn push_full(text: &mut Text, full: &Full) -> Result<(), NoMemory>
     text.push(b'.')?;
     text.extend(full.local.as_slice())?;
     text.push(b'(')?;
-    push_decimal(text, u64::from(full.generation))?;
+    push_generation(text, full.generation)?;
     text.push(b'/')?;
     text.extend(full.lang.as_slice())?;
     text.push(b')')
+}
+
+/// Puts the digits of a generation behind the text. Most generations have one.
+pub(crate) fn push_generation(text: &mut Text, generation: u16) -> Result<(), NoMemory>
+    ensures ok { OnOk result (text.new ≡ text.old ++ decimal generation) }
+{
+    match only_digit(generation) {
+        Some(digit) => text.push(digit),
+        None => push_decimal(text, u64::from(generation)),
+    }
+}
+
+/// The digit of a number that has one alone.
+#[tactic(auto, using(crate::proofs::NumberLemmas::only_digit))]
+fn only_digit(number: u16) -> Option<u8>
+    ensures { IfSome result (λ digit. decimal number ≡ digit ∷ []) }
+{
+    if number < 10 {
+        Some(b'0' + number as u8)
+    } else {
+        None
+    }
 }
 
 /// Puts some words and a number behind the text.
