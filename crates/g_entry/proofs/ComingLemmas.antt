@@ -58,15 +58,21 @@ length-copy (Some copy) =
     let first = length-number 4 copy.first in
     let both = length-append (number 4 copy.serial) (number 4 copy.first) in omega arith
 
+field_lengths : (r : FileRec) → IsFile r → (length (padded 12 r.local) ≡ 12) × (length (number 2 r.generation) ≡ 2) × (length (lang_field r.lang) ≡ 4) × (length (number 8 r.stamp) ≡ 8)
+    × (length (number 4 r.len) ≡ 4) × (length (pair_fields r.traps.others) ≡ 16) × (length (copy_fields r.tape) ≡ 9)
+field_lengths r is = (
+  length-padded 12 r.local (length-word r.local is.local),
+  length-number 2 r.generation,
+  length-lang_field r.lang (length-lang r.lang is.lang),
+  length-number 8 r.stamp,
+  length-number 4 r.len,
+  length-pair_fields r.traps.others is.others.few,
+  length-copy r.tape,
+)
+
 pub length-rec : (r : FileRec) → IsFile r → length (rec_fields r) ≡ 60
 length-rec r is =
-    let l0 = length-padded 12 r.local (length-word r.local is.local) in
-    let l1 = length-number 2 r.generation in
-    let l2 = length-lang_field r.lang (length-lang r.lang is.lang) in
-    let l3 = length-number 8 r.stamp in
-    let l4 = length-number 4 r.len in
-    let l5 = length-pair_fields r.traps.others is.others.few in
-    let l6 = length-copy r.tape in
+    let (l0, l1, l2, l3, l4, l5, l6) = field_lengths r is in
     let a0 = length-append (front_fields r) (back_fields r) in
     let a1 = length-append (padded 12 r.local) (number 2 r.generation ++ lang_field r.lang) in
     let a2 = length-append (number 2 r.generation) (lang_field r.lang) in
@@ -78,13 +84,7 @@ length-rec r is =
 block_long : (format : Format) (r : FileRec) (online : Option (List ℕ)) → IsFile r → length (online_fields format online) ≡ 1 → length (file_fields format r online) ≡ 61
 unfolding file_fields
 block_long format r online is one =
-    let l0 = length-padded 12 r.local (length-word r.local is.local) in
-    let l1 = length-number 2 r.generation in
-    let l2 = length-lang_field r.lang (length-lang r.lang is.lang) in
-    let l3 = length-number 8 r.stamp in
-    let l4 = length-number 4 r.len in
-    let l5 = length-pair_fields r.traps.others is.others.few in
-    let l6 = length-copy r.tape in
+    let (l0, l1, l2, l3, l4, l5, l6) = field_lengths r is in
     let q1 : List ℕ = padded 12 r.local in
     let q2 : List ℕ = q1 ++ number 2 r.generation in
     let q3 : List ℕ = q2 ++ lang_field r.lang in

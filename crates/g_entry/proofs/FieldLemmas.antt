@@ -73,6 +73,18 @@ word_taken old mid after field word rest len first bytes long few is =
     let front = same_byte len (length word) mid (padded 12 word ++ rest) (sym first ∙ is) in
     let both = same_bytes 12 field (padded 12 word) after rest long (length-padded 12 word few) (sym bytes ∙ front.1) in (front.0, both.0, both.1)
 
+-- and the name that is made of it
+pub word_again : (old mid after field front : List ℕ) (len : ℕ) (made : Option (List ℕ)) → old ≡ len ∷ mid → mid ≡ field ++ after → length field ≡ 12
+    → ((bytes : List ℕ) → length bytes ≤ length field → len ≡ length bytes → field ≡ padded (length field) bytes → front ≡ bytes)
+    → (is_word front ≡ true → IsSome made) → IfSome made (λ n. n ≡ front)
+    → (word rest : List ℕ) → is_word word ≡ true → old ≡ length word ∷ (padded 12 word ++ rest) → (made ≡ Some word) × (after ≡ rest)
+word_again old mid after field front len made first all long cut some value word rest is was =
+    let few = length-word word is in
+    let got = word_taken old mid after field word rest len first all long few was in
+    let within : length word ≤ length field = omega arith in
+    let here = cut word within got.0 (got.1 ∙ ap (λ (n : ℕ). padded n word) (sym long)) in
+    (made_as is_word made front word some value here is, got.2)
+
 -- what stands before the first space
 abbrev pub before_space : List ℕ → List ℕ
 before_space [] = []

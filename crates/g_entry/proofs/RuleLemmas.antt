@@ -1,12 +1,14 @@
 -- The rules of users and of files, from those one by one.
-use Rattle.std.proofs.Common.{◌≡◌, ◌≢◌, ⊎_elim, ℕ, ◌+◌, ◌^◌, ◌<◌, ◌≤◌, List, length, get_or, Option, Some, All, AllPairs, refl, ◌∙◌, ap, subst, arith, slice_get}
+use Rattle.std.proofs.Common.{◌≡◌, ◌≢◌, ⊎_elim, ℕ, ◌+◌, ◌^◌, ◌<◌, ◌≤◌, true, List, length, get_or, Option, Some, All, AllPairs, refl, ◌∙◌, ap, subst, arith, slice_get}
 use Rattle.std.specs.Prelude.{IfSome}
 use Rattle.std.proofs.lemmas.Bool.{cases_lt}
 use Rattle.std.proofs.lemmas.Option.{get_or_from_slice_get, slice_get_within}
 use Rattle.g_entry.specs.declared.file_rec.FileRec.{FileRec}
 use Rattle.g_entry.specs.declared.file_rec.TapeCopy.{TapeCopy}
 use Rattle.g_entry.specs.declared.user_rec.UserRec.{UserRec}
-use Rattle.g_entry.specs.FileFields.{IsCopy, IsFile}
+use Rattle.g_entry.specs.FileFields.{AreSets, IsCopy, IsFile, lacks}
+use Rattle.g_name.specs.Grammar.{is_word}
+use Rattle.g_trap.specs.TrapList.{IsOthers, TrapList}
 use Rattle.g_entry.specs.SingleRules.{KeepPlaces, KeepsAlone, KeepsPlace}
 use Rattle.g_entry.specs.Rules.{AreFiles, AreUsers, SameName}
 
@@ -62,18 +64,25 @@ files_from users files few alone names stamps = record {
 pub alone_in : (users : ℕ) (files : List FileRec) → AreFiles users files → All (KeepsAlone users) files
 alone_in users files are = λ k d inside. record { owner = are.owners k d inside; trapped = are.trapped k d inside; dated = are.dated k d inside; empty = are.empty k d inside }
 
--- A RECORD with another number, another version or another place on tape is one of a file where what is new may be so
-pub file_anew : (number stamp len : ℕ) (tape : Option TapeCopy) (r : FileRec) → IsFile r → stamp < 2 ^ 62 → len ≤ 65536 → IfSome tape IsCopy
-    → IsFile (record r { number = number; stamp = stamp; len = len; tape = tape })
-file_anew number stamp len tape r is early short copy = record {
-  local = is.local;
+-- A RECORD with another number, another local name, another version, other traps or another place on tape is one of a file where what is new may be so
+pub file_made : (number : ℕ) (local : List ℕ) (stamp len : ℕ) (traps : TrapList) (tape : Option TapeCopy) (r : FileRec) → IsFile r → is_word local ≡ true → stamp < 2 ^ 62 → len ≤ 65536
+    → IsOthers traps.others → AreSets traps → lacks r.owner traps.others ≡ true → IfSome tape IsCopy
+    → IsFile (record r { number = number; local = local; stamp = stamp; len = len; traps = traps; tape = tape })
+file_made number local stamp len traps tape r is word early short others sets no_owner copy = record {
+  local = word;
   least_generation = is.least_generation;
   most_generation = is.most_generation;
   lang = is.lang;
   stamp = early;
   len = short;
-  others = is.others;
-  sets = is.sets;
-  no_owner = is.no_owner;
+  others = others;
+  sets = sets;
+  no_owner = no_owner;
   tape = copy;
 }
+
+-- the same where name and traps stay
+pub file_anew : (number stamp len : ℕ) (tape : Option TapeCopy) (r : FileRec) → IsFile r → stamp < 2 ^ 62 → len ≤ 65536 → IfSome tape IsCopy
+    → IsFile (record r { number = number; stamp = stamp; len = len; tape = tape })
+file_anew number stamp len tape r is early short copy =
+    file_made number r.local stamp len r.traps tape r is is.local early short is.others is.sets is.no_owner copy

@@ -14,56 +14,6 @@ use crate::{FileRec, Format, TapeCopy};
 use g_base::{Block, BlockList, BlockReader, BlockWriter, blocks_for};
 use g_trap::{Modes, Traps};
 
-/// The block of a file. `online` are the block numbers of its bytes where the file is online.
-pub fn encode_file(r: &FileRec, online: Option<&BlockList>) -> Block
-    requires file { IsFile r.now }
-    requires places { IfSome (option_copied online) (ArePlaces Format.Two r.now.len) }
-    ensures { result ≡ file_block Format.Two r.now (option_copied online.entry) }
-{
-    encode_file_in(Format::Two, r, online)
-}
-
-/// The file of this number whose block it is, with its block numbers where it is online. None exactly where no file has
-/// that block.
-pub fn decode_file(b: &Block, number: u16) -> Option<(FileRec, Option<BlockList>)>
-    ensures number { IfSome result (λ found. found.0.number ≡ number) }
-    ensures file { IfSome result (λ found. IsFile found.0 × IfSome found.1 (ArePlaces Format.Two found.0.len)) }
-    ensures block { IfSome result (λ found. b.now ≡ file_block Format.Two found.0 found.1) }
-    ensures none { IfNone result ((r : FileRec) (online : Option (List ℕ)) → r.number ≡ number → IsFile r
-        → IfSome online (ArePlaces Format.Two r.len) → b.now ≡ file_block Format.Two r online → ⊥) }
-
-    // What was written is read back, so a file has one block.
-    ensures again { (r : FileRec) (online : Option (List ℕ)) → r.number ≡ number → IsFile r
-        → IfSome online (ArePlaces Format.Two r.len) → b.now ≡ file_block Format.Two r online → result ≡ Some (r, online) }
-{
-    decode_file_in(Format::Two, b, number)
-}
-
-/// The block of a file in the first format, whose block numbers are below 65,536.
-pub fn encode_file_1(r: &FileRec, online: Option<&BlockList>) -> Block
-    requires file { IsFile r.now }
-    requires places { IfSome (option_copied online) (ArePlaces Format.One r.now.len) }
-    ensures { result ≡ file_block Format.One r.now (option_copied online.entry) }
-{
-    encode_file_in(Format::One, r, online)
-}
-
-/// The file of this number whose block in the first format it is, with its block numbers where it is online. None
-/// exactly where no file has that block.
-pub fn decode_file_1(b: &Block, number: u16) -> Option<(FileRec, Option<BlockList>)>
-    ensures number { IfSome result (λ found. found.0.number ≡ number) }
-    ensures file { IfSome result (λ found. IsFile found.0 × IfSome found.1 (ArePlaces Format.One found.0.len)) }
-    ensures block { IfSome result (λ found. b.now ≡ file_block Format.One found.0 found.1) }
-    ensures none { IfNone result ((r : FileRec) (online : Option (List ℕ)) → r.number ≡ number → IsFile r
-        → IfSome online (ArePlaces Format.One r.len) → b.now ≡ file_block Format.One r online → ⊥) }
-
-    // What was written is read back, so a file has one block.
-    ensures again { (r : FileRec) (online : Option (List ℕ)) → r.number ≡ number → IsFile r
-        → IfSome online (ArePlaces Format.One r.len) → b.now ≡ file_block Format.One r online → result ≡ Some (r, online) }
-{
-    decode_file_in(Format::One, b, number)
-}
-
 /// The block of a file in a format.
 pub fn encode_file_in(format: Format, r: &FileRec, online: Option<&BlockList>) -> Block
     requires file { IsFile r.now }

@@ -7,44 +7,6 @@ use crate::take::take_intent;
 use crate::{Format, Head, Intent};
 use g_base::{Block, BlockReader, BlockWriter};
 
-/// The block of a head.
-pub fn encode_head(h: &Head) -> Block
-    requires { IsHead h.now }
-    ensures { result ≡ head_block Format.Two h.now }
-{
-    encode_head_in(Format::Two, h)
-}
-
-/// The head whose block it is. None exactly where no head has that block.
-pub fn decode_head(b: &Block) -> Option<Head>
-    ensures found { IfSome result (λ h. IsHead h × (b.now ≡ head_block Format.Two h)) }
-    ensures none { IfNone result ((h : Head) → IsHead h → b.now ≡ head_block Format.Two h → ⊥) }
-
-    // What was written is read back, so a head has one block.
-    ensures again { (h : Head) → IsHead h → b.now ≡ head_block Format.Two h → result ≡ Some h }
-{
-    decode_head_in(Format::Two, b)
-}
-
-/// The block of a head in the first format.
-pub fn encode_head_1(h: &Head) -> Block
-    requires { IsHead h.now }
-    ensures { result ≡ head_block Format.One h.now }
-{
-    encode_head_in(Format::One, h)
-}
-
-/// The head whose block in the first format it is. None exactly where no head has that block.
-pub fn decode_head_1(b: &Block) -> Option<Head>
-    ensures found { IfSome result (λ h. IsHead h × (b.now ≡ head_block Format.One h)) }
-    ensures none { IfNone result ((h : Head) → IsHead h → b.now ≡ head_block Format.One h → ⊥) }
-
-    // What was written is read back, so a head has one block.
-    ensures again { (h : Head) → IsHead h → b.now ≡ head_block Format.One h → result ≡ Some h }
-{
-    decode_head_in(Format::One, b)
-}
-
 /// The block of a head in a format.
 pub fn encode_head_in(format: Format, h: &Head) -> Block
     requires { IsHead h.now }

@@ -16,21 +16,14 @@ mod user_block;
 mod user_rec;
 
 pub use boxed_rec::{BoxedRec, boxed, place_of};
-pub use file_block::{
-    decode_file, decode_file_1, decode_file_in, decode_file_on_tape, encode_file, encode_file_1,
-    encode_file_in, put_file,
-};
+pub use file_block::{decode_file_in, decode_file_on_tape, encode_file_in, put_file};
 pub use file_rec::{FileRec, TapeCopy};
 pub use format::{Format, empty_block};
 pub use head::{Head, Intent};
-pub use head_block::{
-    decode_head, decode_head_1, decode_head_in, encode_head, encode_head_1, encode_head_in,
-    put_head,
-};
+pub use head_block::{decode_head_in, encode_head_in, put_head};
 pub use rules::{files_keep, stamps_are_below, users_keep};
 pub use same::is_same;
 pub use user_block::{
-    decode_user, decode_user_1, decode_user_held, decode_user_in, encode_user, encode_user_1,
-    encode_user_held, encode_user_in, put_user,
+    decode_user_held, decode_user_in, encode_user_held, encode_user_in, put_user,
 };
 pub use user_rec::UserRec;

@@ -9,51 +9,6 @@ use crate::take::{take_money, take_user};
 use crate::{Format, UserRec};
 use g_base::{Block, BlockReader, BlockWriter};
 
-/// The block of a user.
-pub fn encode_user(r: &UserRec) -> Block
-    requires { IsUser Format.Two r.now }
-    ensures { result ≡ user_block Format.Two 0 r.now }
-{
-    encode_user_in(Format::Two, r)
-}
-
-/// The user of this number whose block it is. None exactly where no user has that block.
-pub fn decode_user(b: &Block, number: u8) -> Option<UserRec>
-    ensures found { IfSome result (λ r. (r.number ≡ number) × IsUser Format.Two r
-        × (b.now ≡ user_block Format.Two 0 r)) }
-    ensures none { IfNone result ((r : UserRec) → r.number ≡ number → IsUser Format.Two r
-        → b.now ≡ user_block Format.Two 0 r → ⊥) }
-
-    // What was written is read back, so a user has one block.
-    ensures again { (r : UserRec) → r.number ≡ number → IsUser Format.Two r
-        → b.now ≡ user_block Format.Two 0 r → result ≡ Some r }
-{
-    decode_user_in(Format::Two, b, number)
-}
-
-/// The block of a user in the first format, which has no MONEY: it has to be 1,000,000.
-pub fn encode_user_1(r: &UserRec) -> Block
-    requires { IsUser Format.One r.now }
-    ensures { result ≡ user_block Format.One 0 r.now }
-{
-    encode_user_in(Format::One, r)
-}
-
-/// The user of this number whose block in the first format it is, with MONEY 1,000,000. None exactly where no user has
-/// that block.
-pub fn decode_user_1(b: &Block, number: u8) -> Option<UserRec>
-    ensures found { IfSome result (λ r. (r.number ≡ number) × IsUser Format.One r
-        × (b.now ≡ user_block Format.One 0 r)) }
-    ensures none { IfNone result ((r : UserRec) → r.number ≡ number → IsUser Format.One r
-        → b.now ≡ user_block Format.One 0 r → ⊥) }
-
-    // What was written is read back, so a user has one block.
-    ensures again { (r : UserRec) → r.number ≡ number → IsUser Format.One r
-        → b.now ≡ user_block Format.One 0 r → result ≡ Some r }
-{
-    decode_user_in(Format::One, b, number)
-}
-
 /// The block of a user on disc, in a format.
 pub fn encode_user_in(format: Format, r: &UserRec) -> Block
     requires { IsUser format r.now }

@@ -1,10 +1,9 @@
 //! One record of each kind in each format, against bytes that were written out by hand.
 use g_base::{Block, BlockList};
 use g_entry::{
-    FileRec, Format, Head, Intent, TapeCopy, UserRec, decode_file, decode_file_1, decode_head,
-    decode_head_1, decode_user, decode_user_1, decode_user_held, empty_block, encode_file,
-    encode_file_1, encode_head, encode_head_1, encode_user, encode_user_1, encode_user_held,
-    files_keep, users_keep,
+    FileRec, Format, Head, Intent, TapeCopy, UserRec, decode_file_in, decode_head_in,
+    decode_user_held, decode_user_in, empty_block, encode_file_in, encode_head_in,
+    encode_user_held, encode_user_in, files_keep, users_keep,
 };
 use g_name::{Lang, Local, User};
 use g_trap::{Modes, Traps};
@@ -61,7 +60,7 @@ static BAD_USERS: [(usize, u8); 10] = [
 #[test]
 fn users(rt: HostRuntime) {
     let block = block_of([&USER, b""]);
-    let user = decode_user(&block, 2).expect(&rt, "a user");
+    let user = decode_user_in(Format::Two, &block, 2).expect(&rt, "a user");
     let same = UserRec {
         number: 2,
         user: User::parse(b":AB").expect(&rt, "a name"),
@@ -71,19 +70,19 @@ fn users(rt: HostRuntime) {
         money: 1_000_000,
     };
     assert!(rt; user == same);
-    assert!(rt; encode_user(&user) == block);
+    assert!(rt; encode_user_in(Format::Two, &user) == block);
     let first = block_of([&USER[..28], b""]);
-    let user = decode_user_1(&first, 2).expect(&rt, "a user");
+    let user = decode_user_in(Format::One, &first, 2).expect(&rt, "a user");
     assert!(rt; user == same);
-    assert!(rt; encode_user_1(&user) == first);
+    assert!(rt; encode_user_in(Format::One, &user) == first);
     for (at, byte) in &BAD_USERS {
         assert!(rt;
-            decode_user(&with_byte(&block, *at, *byte), 2) == None,
+            decode_user_in(Format::Two, &with_byte(&block, *at, *byte), 2) == None,
             "byte {at} {byte}"
         );
     }
-    assert!(rt; decode_user_1(&block, 2) == None);
-    assert!(rt; decode_user(&empty_block(), 2) == None);
+    assert!(rt; decode_user_in(Format::One, &block, 2) == None);
+    assert!(rt; decode_user_in(Format::Two, &empty_block(), 2) == None);
 }
 
 #[test]
@@ -142,7 +141,7 @@ static BAD_FILES: [(usize, u8); 20] = [
 #[test]
 fn files(rt: HostRuntime) {
     let block = block_of([&FILE, b"\x00\x08\x81\x00\xff\xff"]);
-    let (file, online) = decode_file(&block, 5).expect(&rt, "a file");
+    let (file, online) = decode_file_in(Format::Two, &block, 5).expect(&rt, "a file");
     let read = Modes::from_bits(16).expect(&rt, "READ");
     let execute = Modes::from_bits(2).expect(&rt, "EXECUTE");
     let same = FileRec {
@@ -161,19 +160,19 @@ fn files(rt: HostRuntime) {
     };
     assert!(rt; file == same);
     assert!(rt; online == BlockList::from_slice(&[2_177, 65_535]));
-    assert!(rt; encode_file(&file, online.as_ref()) == block);
+    assert!(rt; encode_file_in(Format::Two, &file, online.as_ref()) == block);
     let first = block_of([&FILE, b"\x08\x81\xff\xff"]);
-    let (file, online) = decode_file_1(&first, 5).expect(&rt, "a file");
+    let (file, online) = decode_file_in(Format::One, &first, 5).expect(&rt, "a file");
     assert!(rt; file == same);
     assert!(rt; online == BlockList::from_slice(&[2_177, 65_535]));
-    assert!(rt; encode_file_1(&file, online.as_ref()) == first);
+    assert!(rt; encode_file_in(Format::One, &file, online.as_ref()) == first);
     for (at, byte) in &BAD_FILES {
         assert!(rt;
-            decode_file(&with_byte(&block, *at, *byte), 5).is_none(),
+            decode_file_in(Format::Two, &with_byte(&block, *at, *byte), 5).is_none(),
             "byte {at} {byte}"
         );
     }
-    assert!(rt; decode_file(&empty_block(), 5).is_none());
+    assert!(rt; decode_file_in(Format::Two, &empty_block(), 5).is_none());
 }
 
 /// The same of a head.
@@ -192,7 +191,7 @@ static BAD_HEADS: [(usize, u8); 9] = [
 #[test]
 fn heads(rt: HostRuntime) {
     let block = block_of([&HEAD, b""]);
-    let head = decode_head(&block).expect(&rt, "a head");
+    let head = decode_head_in(Format::Two, &block).expect(&rt, "a head");
     let same = Head {
         next_stamp: 0x0102_0304_0506_0708,
         last_dump: 7,
@@ -203,16 +202,16 @@ fn heads(rt: HostRuntime) {
         }),
     };
     assert!(rt; head == same);
-    assert!(rt; encode_head(&head) == block);
+    assert!(rt; encode_head_in(Format::Two, &head) == block);
     let first = with_byte(&block, 5, 1);
-    let head = decode_head_1(&first).expect(&rt, "a head");
+    let head = decode_head_in(Format::One, &first).expect(&rt, "a head");
     assert!(rt; head == same);
-    assert!(rt; encode_head_1(&head) == first);
-    assert!(rt; decode_head(&first) == None);
-    assert!(rt; decode_head_1(&block) == None);
+    assert!(rt; encode_head_in(Format::One, &head) == first);
+    assert!(rt; decode_head_in(Format::Two, &first) == None);
+    assert!(rt; decode_head_in(Format::One, &block) == None);
     for (at, byte) in &BAD_HEADS {
         assert!(rt;
-            decode_head(&with_byte(&block, *at, *byte)) == None,
+            decode_head_in(Format::Two, &with_byte(&block, *at, *byte)) == None,
             "byte {at} {byte}"
         );
     }
@@ -220,10 +219,10 @@ fn heads(rt: HostRuntime) {
 
 #[test]
 fn ample(rt: HostRuntime) {
-    let user = decode_user(&block_of([&USER, b""]), 3).expect(&rt, "a user");
+    let user = decode_user_in(Format::Two, &block_of([&USER, b""]), 3).expect(&rt, "a user");
     assert!(rt; user.copy() == user);
     let block = block_of([&FILE, b"\x00\x08\x81\x00\x08\x82"]);
-    let (file, _online) = decode_file(&block, 6).expect(&rt, "a file");
+    let (file, _online) = decode_file_in(Format::Two, &block, 6).expect(&rt, "a file");
     assert!(rt; file.copy() == file);
     let users = [first_user(0, User::master()), first_user(1, User::macros())];
     assert!(rt; users_keep(rt.alloc(), &users) == Ok(true));

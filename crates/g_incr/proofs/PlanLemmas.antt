@@ -5,12 +5,12 @@ use Rattle.std.proofs.lemmas.Bool.{and_from, and_parts, both_ways, cases_Bool, c
 use Rattle.std.proofs.lemmas.List.Sums.{sum_by-cons}
 use Rattle.std.proofs.lemmas.Option.{slice_get_within, get_or_from_slice_get}
 use Rattle.g_base.specs.Block.{blocks_for}
-use Rattle.g_name.specs.Grammar.{is_word, is_lang}
-use Rattle.g_trap.specs.TrapList.{IsOthers, TrapList}
+use Rattle.g_trap.specs.TrapList.{TrapList}
 use Rattle.g_entry.specs.declared.file_rec.FileRec.{FileRec}
 use Rattle.g_entry.specs.declared.file_rec.TapeCopy.{TapeCopy}
-use Rattle.g_entry.specs.FileFields.{AreSets, IsCopy, IsFile, lacks}
+use Rattle.g_entry.specs.FileFields.{IsCopy, IsFile}
 use Rattle.g_entry.specs.HeadFields.{IsSerial}
+use Rattle.g_entry.proofs.RuleLemmas.{file_anew}
 use Rattle.g_incr.specs.Layout.{FollowOn, content_at, holds, is_between}
 use Rattle.g_incr.specs.Plan.{ComesBefore, PlanGivesDump, blocks_of, content_blocks, dump_of, first_content, noted_files, noted_rec, numbered_from, waiting, waits, with_number}
 use Rattle.g_incr.proofs.NumberLemmas.{number_at}
@@ -27,21 +27,14 @@ pub record KeepsCopy (r s : FileRec) : Type 0 where
   pub waits : waits r ≡ false
   pub tape : s.tape ≡ r.tape
 
--- a record of the dump, beside the record that it was made of
+-- a record of the dump, beside the record that it was made of: that one with another number and place on tape
 pub record IsMade (serial from to : ℕ) (r s : FileRec) : Type 0 where
-  pub owner : s.owner ≡ r.owner
-  pub local : s.local ≡ r.local
-  pub generation : s.generation ≡ r.generation
-  pub lang : s.lang ≡ r.lang
-  pub stamp : s.stamp ≡ r.stamp
-  pub len : s.len ≡ r.len
-  pub traps : s.traps ≡ r.traps
+  pub same : s ≡ record r { number = s.number; tape = s.tape }
   pub copy : GetsCopy serial from to r s ⊎ KeepsCopy r s
 
--- a record is one of itself with another number and place on tape
 as_made : (serial from to n : ℕ) (r : FileRec) (tape : Option TapeCopy) → (let s : FileRec = record r { number = n; tape = tape } in GetsCopy serial from to r s ⊎ KeepsCopy r s)
     → IsMade serial from to r (record r { number = n; tape = tape })
-as_made serial from to n r tape copy = record { owner = refl; local = refl; generation = refl; lang = refl; stamp = refl; len = refl; traps = refl; copy = copy }
+as_made serial from to n r tape copy = record { same = refl; copy = copy }
 
 abbrev pub made : ℕ → ℕ → ℕ → List FileRec → List FileRec
 made serial n at rs = numbered_from n (noted_files serial at rs)
@@ -150,20 +143,12 @@ copy_there len (Some copy) is some = refl
 copy_there len None is some = let no : ⊥ = both_ways (nat_lt 0 len && true) is (and_from (nat_lt 0 len) true (lt-ltb 0 len (omega (arith, some))) refl) in absurd no
 
 -- ONE RECORD of a dump keeps what its record keeps
-module _ (serial from to : ℕ) (r s : FileRec) (same : IsMade serial from to r s) where
+module _ (serial from to : ℕ) (r s : FileRec) (beside : IsMade serial from to r s) where
+  len_is : s.len ≡ r.len
+  len_is = ap (λ (x : FileRec). x.len) beside.same
+
   pub file_keeps : IsSerial serial → to < 2 ^ 32 → IsFile r → IsFile s
-  file_keeps of_serial low is = record {
-    local = ap is_word same.local ∙ is.local;
-    least_generation = subst (λ (n : ℕ). 1 ≤ n) (sym same.generation) is.least_generation;
-    most_generation = subst (λ (n : ℕ). n ≤ 4095) (sym same.generation) is.most_generation;
-    lang = ap is_lang same.lang ∙ is.lang;
-    stamp = subst (λ (n : ℕ). n < 2 ^ 62) (sym same.stamp) is.stamp;
-    len = subst (λ (n : ℕ). n ≤ 65536) (sym same.len) is.len;
-    others = subst (λ (t : TrapList). IsOthers t.others) (sym same.traps) is.others;
-    sets = subst AreSets (sym same.traps) is.sets;
-    no_owner = ap (λ (n : ℕ). lacks n s.traps.others) same.owner ∙ ap (λ (t : TrapList). lacks r.owner t.others) same.traps ∙ is.no_owner;
-    tape = by_copy same.copy;
-  }
+  file_keeps of_serial low is = subst IsFile (sym beside.same) (file_anew s.number r.stamp r.len s.tape r is is.stamp is.len (by_copy beside.copy))
     where
       by_copy : GetsCopy serial from to r s ⊎ KeepsCopy r s → IfSome s.tape IsCopy
       by_copy (inl gets) =
@@ -172,18 +157,18 @@ module _ (serial from to : ℕ) (r s : FileRec) (same : IsMade serial from to r 
       by_copy (inr keeps) = subst (λ (t : Option TapeCopy). IfSome t IsCopy) (sym keeps.tape) is.tape
 
   copied_keeps : s.len ≢ 0 → is_some s.tape ≡ true
-  copied_keeps some = by_copy same.copy
+  copied_keeps some = by_copy beside.copy
     where
       by_copy : GetsCopy serial from to r s ⊎ KeepsCopy r s → is_some s.tape ≡ true
       by_copy (inl gets) = ap is_some gets.tape
-      by_copy (inr keeps) = ap is_some keeps.tape ∙ copy_there r.len r.tape keeps.waits (λ none. some (same.len ∙ none))
+      by_copy (inr keeps) = ap is_some keeps.tape ∙ copy_there r.len r.tape keeps.waits (λ none. some (len_is ∙ none))
 
   empty_keeps : (r.len ≡ 0 → r.tape ≡ None) → s.len ≡ 0 → s.tape ≡ None
-  empty_keeps was none = by_copy same.copy
+  empty_keeps was none = by_copy beside.copy
     where
       by_copy : GetsCopy serial from to r s ⊎ KeepsCopy r s → s.tape ≡ None
-      by_copy (inl gets) = let some = has_bytes r gets.waits in let len = same.len in let no : ⊥ = omega (arith, none) in absurd no
-      by_copy (inr keeps) = keeps.tape ∙ was (sym same.len ∙ none)
+      by_copy (inl gets) = let some = has_bytes r gets.waits in let len = len_is in let no : ⊥ = omega (arith, none) in absurd no
+      by_copy (inr keeps) = keeps.tape ∙ was (sym len_is ∙ none)
 
 owner_before : (r s : FileRec) (m n : ℕ) → m ≡ r.owner → n ≡ s.owner → ComesBefore r s → m ≤ n
 owner_before r s m n is_m is_n (inl below) = omega (arith, is_m, is_n, below)
@@ -215,29 +200,29 @@ plan_gives_dump p content plan away long blocks =
       held_users = plan.held_users;
       numbered = λ i r there. let within = slice_get_within files i r there in ap (λ (s : FileRec). s.number) (sym (get_or_from_slice_get files i r r there)) ∙ number_at 0 (noted_files p.serial c p.files) i r within ∙ (let sum : 0 + i ≡ i = omega arith in sum);
       each_file = λ i d within. file_keeps p.serial c to (get_or p.files i d) (get_or files i d) (is i d within) plan.serial low (plan.each_file i d (omega (arith, within)));
-      owners = λ i d within. ap (holds p.held) (is i d within).owner ∙ plan.owners i d (omega (arith, within));
+      owners = λ i d within. ap (λ (s : FileRec). holds p.held s.owner) (is i d within).same ∙ plan.owners i d (omega (arith, within));
       in_order = λ i j d before within.
           owner_before (get_or p.files i d) (get_or p.files j d) (get_or files i d).owner (get_or files j d).owner
-          (is i d (omega (arith, before, within))).owner (is j d within).owner (plan.in_order i j d before (omega (arith, within)));
+          (ap (λ (s : FileRec). s.owner) (is i d (omega (arith, before, within))).same) (ap (λ (s : FileRec). s.owner) (is j d within).same) (plan.in_order i j d before (omega (arith, within)));
       files = record {
         few = omega arith;
-        owners = λ i d within. subst (λ (n : ℕ). n < length p.users) (sym (is i d within).owner) (plan.files.owners i d (omega (arith, within)));
-        trapped = λ i d within. subst (λ (t : TrapList). All (λ pair. pair.0 < length p.users) t.others) (sym (is i d within).traps) (plan.files.trapped i d (omega (arith, within)));
+        owners = λ i d within. subst (λ (n : ℕ). n < length p.users) (sym (ap (λ (s : FileRec). s.owner) (is i d within).same)) (plan.files.owners i d (omega (arith, within)));
+        trapped = λ i d within. subst (λ (t : TrapList). All (λ pair. pair.0 < length p.users) t.others) (sym (ap (λ (s : FileRec). s.traps) (is i d within).same)) (plan.files.trapped i d (omega (arith, within)));
         names = λ i j d before within name.
-            let one = is i d (omega (arith, before, within)) in
-            let two = is j d within in
+            let one = (is i d (omega (arith, before, within))).same in
+            let two = (is j d within).same in
             plan.files.names i j d before (omega (arith, within)) (record {
-              owner = sym one.owner ∙ name.owner ∙ two.owner;
-              local = sym one.local ∙ name.local ∙ two.local;
-              generation = sym one.generation ∙ name.generation ∙ two.generation;
-              lang = sym one.lang ∙ name.lang ∙ two.lang;
+              owner = sym (ap (λ (s : FileRec). s.owner) one) ∙ name.owner ∙ ap (λ (s : FileRec). s.owner) two;
+              local = sym (ap (λ (s : FileRec). s.local) one) ∙ name.local ∙ ap (λ (s : FileRec). s.local) two;
+              generation = sym (ap (λ (s : FileRec). s.generation) one) ∙ name.generation ∙ ap (λ (s : FileRec). s.generation) two;
+              lang = sym (ap (λ (s : FileRec). s.lang) one) ∙ name.lang ∙ ap (λ (s : FileRec). s.lang) two;
             });
         stamps = λ i j d before within equal.
-            plan.files.stamps i j d before (omega (arith, within)) (sym (is i d (omega (arith, before, within))).stamp ∙ equal ∙ (is j d within).stamp);
-        dated = λ i d within. subst (λ (n : ℕ). 1 ≤ n) (sym (is i d within).stamp) (plan.files.dated i d (omega (arith, within)));
+            plan.files.stamps i j d before (omega (arith, within)) (sym (ap (λ (s : FileRec). s.stamp) (is i d (omega (arith, before, within))).same) ∙ equal ∙ ap (λ (s : FileRec). s.stamp) (is j d within).same);
+        dated = λ i d within. subst (λ (n : ℕ). 1 ≤ n) (sym (ap (λ (s : FileRec). s.stamp) (is i d within).same)) (plan.files.dated i d (omega (arith, within)));
         empty = λ i d within. empty_keeps p.serial c to (get_or p.files i d) (get_or files i d) (is i d within) (plan.files.empty i d (omega (arith, within)));
       };
-      dated = λ i d within. subst (λ (n : ℕ). n < p.next) (sym (is i d within).stamp) (plan.dated i d (omega (arith, within)));
+      dated = λ i d within. subst (λ (n : ℕ). n < p.next) (sym (ap (λ (s : FileRec). s.stamp) (is i d within).same)) (plan.dated i d (omega (arith, within)));
       copied = λ i d within. copied_keeps p.serial c to (get_or p.files i d) (get_or files i d) (is i d within);
       content = blocks;
       follow =

@@ -8,7 +8,7 @@ use crate::held::is_held;
 use crate::note::{DumpNote, Header};
 use crate::waiting::{Ahead, all_ahead, waits};
 use g_base::{Block, BlockList, NoMemory};
-use g_entry::{FileRec, Format, TapeCopy, UserRec, encode_file, encode_user_held};
+use g_entry::{FileRec, Format, TapeCopy, UserRec, encode_file_in, encode_user_held};
 use std::alloc::Global;
 use std::marker::Model;
 
@@ -175,9 +175,9 @@ impl Writer {
         let _files = self.files.len();
         let file = self.dumped(i);
         if file.len == 0 {
-            encode_file(&file, Some(&BlockList::new()))
+            encode_file_in(Format::Two, &file, Some(&BlockList::new()))
         } else {
-            encode_file(&file, None)
+            encode_file_in(Format::Two, &file, None)
         }
     }
 

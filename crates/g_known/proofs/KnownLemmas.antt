@@ -30,7 +30,7 @@ use Rattle.g_shelf.specs.HeldBlocks.{AreHeld}
 use Rattle.g_shelf.proofs.HeldLemmas.{held_in_row}
 use Rattle.g_shelf.proofs.QuietLemmas.{carried, within}
 use Rattle.g_shelf.proofs.RackLemmas.{reel_at}
-use Rattle.g_shelf.proofs.ReadLemmas.{len-unread, starved, there}
+use Rattle.g_shelf.proofs.ReadLemmas.{len-unread, starved, there, reel_low}
 use Rattle.g_shelf.proofs.RowLemmas.{end_then, in_row, row_end, row_then}
 use Rattle.g_shelf.proofs.WalkLemmas.{same_note}
 use Rattle.g_known.specs.ReelNotes.{AreFirst, AreFound, AreKnown, AreListed, Fills, GoesOn, HasForgotten, HasNone, HasReadOn, HasWritten, IsKnown, IsListed, IsNoted, IsPlaceIn, OthersStay, end_in, noted, number_in}
@@ -583,13 +583,7 @@ pub noted_end : (serial : ℕ) (rack : Rack) (notes : List DumpNote) (noted : Is
 noted_end serial rack notes noted = ap (end_in 0) noted.notes_are ∙ end_noted 0 noted.dumps
 
 pub found_low : {A : Type 0} (serial : ℕ) (x : A) (dumps : List Dump) (old new : Rack) → AreReels old.reels → ReadsReel serial (Ok x) old new → AreFound serial dumps old → end_of dumps ≤ 65536
-found_low serial x dumps old new reels reads found =
-    let (r, here) = there serial x old new reads in
-    let is = is_reel serial old.reels r reels.each here in
-    let within_is = is.within in
-    let most = is.sized_most in
-    let fits = found.fits r here in
-    omega arith
+found_low serial x dumps old new reels reads found = reel_low serial (end_of dumps) x old new reels reads found.fits
 
 -- THE REELS LISTED SO FAR
 noted_before : (serial : ℕ) (old mid : Rack) (notes : List DumpNote) → OnlyReads old mid → IsNoted serial mid notes → IsNoted serial old notes
