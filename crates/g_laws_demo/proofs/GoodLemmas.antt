@@ -183,12 +183,17 @@ good_round i state few =
     (good_behind (migration (4 * i) (drawn 20 (next (behind_three state)))) (dump (4 * i)) (i % 50 == 49) (i % 50 == 0)
     (good_migration (4 * i) (drawn 20 (next (behind_three state))) (omega (arith, few)) (below_20 (next (behind_three state)))) (good_dump (4 * i) (omega (arith, few))))
 
+-- what holds of each of 1,000 rounds, holds of all
+all_rounds : {X : Type 0} (P : X → Type 0) (rounds round : ℕ → List X) → rounds 0 ≡ [] → ((i : ℕ) → rounds (suc i) ≡ rounds i ++ round i) → ((i : ℕ) → suc i ≤ 1000 → All P (round i))
+    → (i : ℕ) → i ≤ 1000 → All P (rounds i)
+all_rounds P rounds round none more each zero few = subst (All P) (sym none) (All-nil P)
+all_rounds P rounds round none more each (suc i) few =
+    subst (All P) (sym (more i)) (All-append P (rounds i) (round i) (all_rounds P rounds round none more each i (omega (arith, few))) (each i few))
+
 good_rounds : (number i : ℕ) → i ≤ 1000 → All IsItem (rounds_items number i)
 unfolding rounds_items
-good_rounds number zero few = All-nil IsItem
-good_rounds number (suc i) few =
-    All-append IsItem (rounds_items number i) (round_items (suc i) (behind_rounds number i)) (good_rounds number i (omega (arith, few)))
-    (good_round (suc i) (behind_rounds number i) few)
+good_rounds number i few =
+    all_rounds IsItem (rounds_items number) (λ k. round_items (suc k) (behind_rounds number k)) refl (λ k. refl) (λ k less. good_round (suc k) (behind_rounds number k) less) i few
 
 good_last : IsItem last_job
 good_last = (
@@ -300,32 +305,22 @@ lines_of_rounds number (suc i) =
 decimal_0 : decimal 0 ≡ codes "0"
 decimal_0 = decimal_digit 0 (omega arith)
 
-decimal_10 : decimal 10 ≡ codes "10"
-decimal_10 = decimal_step 10 (omega arith) (omega arith) ∙ ap (λ (ds : List ℕ). ds ++ 48 ∷ []) decimal_1
+-- a number that is ten times another one, by the digits of that
+tenfold : (n q : ℕ) (ds : List ℕ) → decimal n ≡ decimal q ++ 48 ∷ [] → decimal q ≡ ds → decimal n ≡ ds ++ 48 ∷ []
+tenfold n q ds step is = step ∙ ap (λ (xs : List ℕ). xs ++ 48 ∷ []) is
 
 decimal_100 : decimal 100 ≡ codes "100"
-decimal_100 = decimal_step 100 (omega arith) (omega arith) ∙ ap (λ (ds : List ℕ). ds ++ 48 ∷ []) decimal_10
-
-decimal_1000 : decimal 1000 ≡ codes "1000"
-decimal_1000 = decimal_step 1000 (omega arith) (omega arith) ∙ ap (λ (ds : List ℕ). ds ++ 48 ∷ []) decimal_100
-
-decimal_10000 : decimal 10000 ≡ codes "10000"
-decimal_10000 = decimal_step 10000 (omega arith) (omega arith) ∙ ap (λ (ds : List ℕ). ds ++ 48 ∷ []) decimal_1000
-
-decimal_100000 : decimal 100000 ≡ codes "100000"
-decimal_100000 = decimal_step 100000 (omega arith) (omega arith) ∙ ap (λ (ds : List ℕ). ds ++ 48 ∷ []) decimal_10000
-
-decimal_1000000 : decimal 1000000 ≡ codes "1000000"
-decimal_1000000 = decimal_step 1000000 (omega arith) (omega arith) ∙ ap (λ (ds : List ℕ). ds ++ 48 ∷ []) decimal_100000
-
-decimal_10000000 : decimal 10000000 ≡ codes "10000000"
-decimal_10000000 = decimal_step 10000000 (omega arith) (omega arith) ∙ ap (λ (ds : List ℕ). ds ++ 48 ∷ []) decimal_1000000
-
-decimal_100000000 : decimal 100000000 ≡ codes "100000000"
-decimal_100000000 = decimal_step 100000000 (omega arith) (omega arith) ∙ ap (λ (ds : List ℕ). ds ++ 48 ∷ []) decimal_10000000
+decimal_100 = tenfold 100 10 (codes "10") (decimal_step 100 (omega arith) (omega arith)) (tenfold 10 1 (codes "1") (decimal_step 10 (omega arith) (omega arith)) decimal_1)
 
 decimal_1000000000 : decimal 1000000000 ≡ codes "1000000000"
-decimal_1000000000 = decimal_step 1000000000 (omega arith) (omega arith) ∙ ap (λ (ds : List ℕ). ds ++ 48 ∷ []) decimal_100000000
+decimal_1000000000 =
+    let four : decimal 1000 ≡ codes "1000" = tenfold 1000 100 (codes "100") (decimal_step 1000 (omega arith) (omega arith)) decimal_100 in
+    let five : decimal 10000 ≡ codes "10000" = tenfold 10000 1000 (codes "1000") (decimal_step 10000 (omega arith) (omega arith)) four in
+    let six : decimal 100000 ≡ codes "100000" = tenfold 100000 10000 (codes "10000") (decimal_step 100000 (omega arith) (omega arith)) five in
+    let seven : decimal 1000000 ≡ codes "1000000" = tenfold 1000000 100000 (codes "100000") (decimal_step 1000000 (omega arith) (omega arith)) six in
+    let eight : decimal 10000000 ≡ codes "10000000" = tenfold 10000000 1000000 (codes "1000000") (decimal_step 10000000 (omega arith) (omega arith)) seven in
+    let nine : decimal 100000000 ≡ codes "100000000" = tenfold 100000000 10000000 (codes "10000000") (decimal_step 100000000 (omega arith) (omega arith)) eight in
+    tenfold 1000000000 100000000 (codes "100000000") (decimal_step 1000000000 (omega arith) (omega arith)) nine
 
 lines_of_opening : lines_in opening_items ≡ opening
 lines_of_opening =
@@ -397,10 +392,8 @@ apart_round i state few =
 
 apart_rounds : (number i : ℕ) → i ≤ 1000 → All IsOneLine (rounds_lines number i)
 unfolding rounds_lines
-apart_rounds number zero few = All-nil IsOneLine
-apart_rounds number (suc i) few =
-    All-append IsOneLine (rounds_lines number i) (round_lines (suc i) (behind_rounds number i)) (apart_rounds number i (omega (arith, few)))
-    (apart_round (suc i) (behind_rounds number i) few)
+apart_rounds number i few =
+    all_rounds IsOneLine (rounds_lines number) (λ k. round_lines (suc k) (behind_rounds number k)) refl (λ k. refl) (λ k less. apart_round (suc k) (behind_rounds number k) less) i few
 
 abbrev ArePlain : List (List ℕ) → Type 0
 ArePlain lines = list_all (list_all is_plain) lines ≡ true

@@ -153,16 +153,26 @@ module _ (s : State) (k : Holding) (d : OpenDump) (who : List ℕ) (stand : Owns
       let grown : k.tree.next ≤ (plain_tree k.tree who call).next = plain_next call (fault_of k.tree who call) in
       stand.older stamp (omega (arith, grown, le))
 
-  call_stands : (call : StoreCall) (until : ℕ) (b : Bool) → (writes call || brings_now s k who call) ≡ b → s.holding ≡ Some k → s.open_dump ≡ Some d
-      → StandIn (after_call s k who call until)
-  call_stands call until true does holds is =
+  -- behind the call, where that stands which the test leaves
+  stands_behind : (call : StoreCall) (until : ℕ) (b : Bool) → (writes call || brings_now s k who call) ≡ b
+      → StandIn (if b then record (commits s (record (taken_offline until k) {
+        tree = plain_tree k.tree who call;
+        places = places_after k.tree who call (taken_offline until k).places;
+        kept = without_all (changes k.tree who call) k.kept;
+      })) { open_dump = option_map (touched_by s k who call) s.open_dump } else s) → StandIn (after_call s k who call until)
+  stands_behind call until b does stands =
       subst (λ (u : State). StandIn u)
       (sym (ap (λ (b : Bool). if b then record (commits s (record (taken_offline until k) {
         tree = plain_tree k.tree who call;
         places = places_after k.tree who call (taken_offline until k).places;
         kept = without_all (changes k.tree who call) k.kept;
       })) { open_dump = option_map (touched_by s k who call) s.open_dump } else s) does))
-      (record {
+      stands
+
+  call_stands : (call : StoreCall) (until : ℕ) (b : Bool) → (writes call || brings_now s k who call) ≡ b → s.holding ≡ Some k → s.open_dump ≡ Some d
+      → StandIn (after_call s k who call until)
+  call_stands call until true does holds is =
+      stands_behind call until true does (record {
         held = record (taken_offline until k) {
           tree = plain_tree k.tree who call;
           places = places_after k.tree who call (taken_offline until k).places;
@@ -177,14 +187,7 @@ module _ (s : State) (k : Holding) (d : OpenDump) (who : List ℕ) (stand : Owns
           older = call_later call;
         };
       })
-  call_stands call until false does holds is =
-      subst (λ (u : State). StandIn u)
-      (sym (ap (λ (b : Bool). if b then record (commits s (record (taken_offline until k) {
-        tree = plain_tree k.tree who call;
-        places = places_after k.tree who call (taken_offline until k).places;
-        kept = without_all (changes k.tree who call) k.kept;
-      })) { open_dump = option_map (touched_by s k who call) s.open_dump } else s) does))
-      (record { held = k; holds = holds; dump = d; is = is; stand = stand })
+  call_stands call until false does holds is = stands_behind call until false does (record { held = k; holds = holds; dump = d; is = is; stand = stand })
 
 -- a file that may be migrated has a copy
 migrates_there : (k : Holding) (user : Option (List ℕ)) (full : Full) (o : Outcome) → migrate_refuses k user full o ≡ None → (p : Place) × (get k.places (stamp_of k.tree full) ≡ Some p)
