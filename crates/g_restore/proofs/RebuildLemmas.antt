@@ -132,28 +132,21 @@ pub idle : (fault : StoreFault) (s : DiscState) → IsOfReels fault → Causes (
 idle fault s is = Causes-none s (λ wrong. subst IsOfReels wrong is) (λ wrong. subst IsOfReels wrong is)
 
 -- THE REFUSALS OF THE ONLINE FILESTORE, as the store has them
-read_back : (f : OnlineFault) → store_fault_of f ≡ DiscReadFault → f ≡ online.ReadFault
-read_back (online.DiscFull need room) is = cc
-read_back online.ReadFault is = refl
-read_back online.Stopped is = cc
-read_back online.NoFilestore is = cc
-read_back online.NoMemory is = cc
-
-stop_back : (f : OnlineFault) → store_fault_of f ≡ Stopped → f ≡ online.Stopped
-stop_back (online.DiscFull need room) is = cc
-stop_back online.ReadFault is = cc
-stop_back online.Stopped is = refl
-stop_back online.NoFilestore is = cc
-stop_back online.NoMemory is = cc
+fault_back : (f : OnlineFault) → (store_fault_of f ≡ DiscReadFault → f ≡ online.ReadFault) × (store_fault_of f ≡ Stopped → f ≡ online.Stopped)
+fault_back (online.DiscFull need room) = (λ is. cc, λ is. cc)
+fault_back online.ReadFault = (λ is. refl, λ is. cc)
+fault_back online.Stopped = (λ is. cc, λ is. refl)
+fault_back online.NoFilestore = (λ is. cc, λ is. cc)
+fault_back online.NoMemory = (λ is. cc, λ is. cc)
 
 pub stops : (f : OnlineFault) (P : Type 0) → (f ≡ online.Stopped → P) → store_fault_of f ≡ Stopped → P
-stops f P to is = to (stop_back f is)
+stops f P to is = to ((fault_back f).1 is)
 
 pub goes_on : (f : OnlineFault) (P : Type 0) → (f ≢ online.Stopped → P) → store_fault_of f ≢ Stopped → P
 goes_on f P to isnt = to (λ is. isnt (ap store_fault_of is))
 
 pub causes_by : (f : OnlineFault) (x y : DiscState) → Causes (f ≡ online.ReadFault) (f ≡ online.Stopped) x y → Causes (store_fault_of f ≡ DiscReadFault) (store_fault_of f ≡ Stopped) x y
-causes_by f x y is = Causes-for (λ e. ap store_fault_of e) (read_back f) (λ e. ap store_fault_of e) (stop_back f) is
+causes_by f x y is = Causes-for (λ e. ap store_fault_of e) (fault_back f).0 (λ e. ap store_fault_of e) (fault_back f).1 is
 
 pub one_of_disc : (f : OnlineFault) → (f ≡ online.ReadFault) ⊎ (f ≡ online.Stopped) ⊎ (f ≡ online.NoMemory) → IsOfDisc (store_fault_of f)
 one_of_disc f (inl is) = subst (λ (x : OnlineFault). IsOfDisc (store_fault_of x)) (sym is) tt

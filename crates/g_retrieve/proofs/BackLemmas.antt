@@ -8,7 +8,7 @@ use Rattle.std.proofs.lemmas.Option.{same_Some}
 use Rattle.g_base.specs.Block.{blocks_for}
 use Rattle.g_name.specs.declared.full.Full.{Full}
 use Rattle.g_disc.specs.Disc.{Causes, DiscState}
-use Rattle.g_disc.proofs.CallLemmas.{Causes-for, stands_later}
+use Rattle.g_disc.proofs.CallLemmas.{Causes-for, Causes-none}
 use Rattle.g_entry.specs.declared.file_rec.FileRec.{FileRec}
 use Rattle.g_entry.specs.declared.file_rec.TapeCopy.{TapeCopy}
 use Rattle.g_entry.specs.declared.user_rec.UserRec.{UserRec}
@@ -192,15 +192,7 @@ module _ (number : ℕ) (plan : Unjam) (o : OnlineFacts) (before after : Rack) (
     ok = tt;
     stopped = λ is. absurd (no_stop fault read.refusals is);
     same = λ _. refl;
-    causes = record {
-      size = refl;
-      arms = refl;
-      later = stands_later refl;
-      reads_kept = λ none. refl;
-      reads_rose = λ none. absurd none;
-      writes_kept = λ none. refl;
-      writes_rose = λ is. absurd (no_stop fault read.refusals is);
-    };
+    causes = Causes-none o.disc (λ none. none) (no_stop fault read.refusals);
     tapes = read.tapes;
     tied = tied;
     told = refl;
