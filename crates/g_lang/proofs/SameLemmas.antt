@@ -8,62 +8,18 @@ use Rattle.g_lang.specs.declared.line.Cond.{Cond}
 use Rattle.g_lang.specs.declared.line.Test.{Test}
 use Rattle.g_lang.specs.declared.line.Test.TheVariants.{Absent, CommandError, Deleted, Equals, Failed, Halted, Present}
 
-never : (a b : Test) → false ≡ true → a ≡ b
-never a b e = absurd (false≢true e)
-
 same_equals : (l m : ℕ) (t u : List ℕ) → l ≡ m → t ≡ u → Equals l t ≡ Equals m u
 same_equals l m t u letters texts = ap (λ (x : ℕ). Equals x t) letters ∙ ap (λ (x : List ℕ). Equals m x) texts
 
 test_equal : (a b : Test) → same_test a b ≡ true → a ≡ b
 test_equal CommandError CommandError e = refl
-test_equal CommandError Failed e = never CommandError Failed e
-test_equal CommandError (Halted u) e = never CommandError (Halted u) e
-test_equal CommandError (Deleted u) e = never CommandError (Deleted u) e
-test_equal CommandError (Present m) e = never CommandError (Present m) e
-test_equal CommandError (Absent m) e = never CommandError (Absent m) e
-test_equal CommandError (Equals m u) e = never CommandError (Equals m u) e
-test_equal Failed CommandError e = never Failed CommandError e
 test_equal Failed Failed e = refl
-test_equal Failed (Halted u) e = never Failed (Halted u) e
-test_equal Failed (Deleted u) e = never Failed (Deleted u) e
-test_equal Failed (Present m) e = never Failed (Present m) e
-test_equal Failed (Absent m) e = never Failed (Absent m) e
-test_equal Failed (Equals m u) e = never Failed (Equals m u) e
-test_equal (Halted t) CommandError e = never (Halted t) CommandError e
-test_equal (Halted t) Failed e = never (Halted t) Failed e
 test_equal (Halted t) (Halted u) e = ap Halted (same_text-eq t u e)
-test_equal (Halted t) (Deleted u) e = never (Halted t) (Deleted u) e
-test_equal (Halted t) (Present m) e = never (Halted t) (Present m) e
-test_equal (Halted t) (Absent m) e = never (Halted t) (Absent m) e
-test_equal (Halted t) (Equals m u) e = never (Halted t) (Equals m u) e
-test_equal (Deleted t) CommandError e = never (Deleted t) CommandError e
-test_equal (Deleted t) Failed e = never (Deleted t) Failed e
-test_equal (Deleted t) (Halted u) e = never (Deleted t) (Halted u) e
 test_equal (Deleted t) (Deleted u) e = ap Deleted (same_text-eq t u e)
-test_equal (Deleted t) (Present m) e = never (Deleted t) (Present m) e
-test_equal (Deleted t) (Absent m) e = never (Deleted t) (Absent m) e
-test_equal (Deleted t) (Equals m u) e = never (Deleted t) (Equals m u) e
-test_equal (Present l) CommandError e = never (Present l) CommandError e
-test_equal (Present l) Failed e = never (Present l) Failed e
-test_equal (Present l) (Halted u) e = never (Present l) (Halted u) e
-test_equal (Present l) (Deleted u) e = never (Present l) (Deleted u) e
 test_equal (Present l) (Present m) e = ap Present (eqb-true l m e)
-test_equal (Present l) (Absent m) e = never (Present l) (Absent m) e
-test_equal (Present l) (Equals m u) e = never (Present l) (Equals m u) e
-test_equal (Absent l) CommandError e = never (Absent l) CommandError e
-test_equal (Absent l) Failed e = never (Absent l) Failed e
-test_equal (Absent l) (Halted u) e = never (Absent l) (Halted u) e
-test_equal (Absent l) (Deleted u) e = never (Absent l) (Deleted u) e
-test_equal (Absent l) (Present m) e = never (Absent l) (Present m) e
 test_equal (Absent l) (Absent m) e = ap Absent (eqb-true l m e)
-test_equal (Absent l) (Equals m u) e = never (Absent l) (Equals m u) e
-test_equal (Equals l t) CommandError e = never (Equals l t) CommandError e
-test_equal (Equals l t) Failed e = never (Equals l t) Failed e
-test_equal (Equals l t) (Halted u) e = never (Equals l t) (Halted u) e
-test_equal (Equals l t) (Deleted u) e = never (Equals l t) (Deleted u) e
-test_equal (Equals l t) (Present m) e = never (Equals l t) (Present m) e
-test_equal (Equals l t) (Absent m) e = never (Equals l t) (Absent m) e
 test_equal (Equals l t) (Equals m u) e = same_equals l m t u (eqb-true l m (and_parts _ _ e).0) (same_text-eq t u (and_parts _ _ e).1)
+test_equal a b e = absurd (false≢true e)
 
 test_same : (a : Test) → same_test a a ≡ true
 test_same CommandError = refl

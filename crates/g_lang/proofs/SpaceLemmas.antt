@@ -32,36 +32,36 @@ names-no_space (c ∷ cs) all =
     let both = and_parts (is_name_char c) (list_all is_name_char cs) all in
     and_from _ _ (not_from_false _ (name_char-no_space c both.0)) (names-no_space cs both.1)
 
+-- nor has a word that begins with a character of some kind
+first-no_space : (is_first : ℕ → Bool) → ((c : ℕ) → is_first c ≡ true → is_name_char c ≡ true) → (c : ℕ) (cs : List ℕ) → (is_first c && nat_le (length cs) 11 && list_all is_name_char cs) ≡ true → no_space (c ∷ cs) ≡ true
+first-no_space is_first named c cs is =
+    let parts = and_parts (is_first c && nat_le (length cs) 11) (list_all is_name_char cs) is in
+    let first = and_parts (is_first c) (nat_le (length cs) 11) parts.0 in
+    names-no_space (c ∷ cs) (and_from _ _ (named c first.0) parts.1)
+
 pub word-no_space : (xs : List ℕ) → is_word xs ≡ true → no_space xs ≡ true
 word-no_space [] is = refl
-word-no_space (c ∷ cs) is =
-    let parts = and_parts (is_letter c && nat_le (length cs) 11) (list_all is_name_char cs) is in
-    let first = and_parts (is_letter c) (nat_le (length cs) 11) parts.0 in
-    names-no_space (c ∷ cs) (and_from _ _ (letter-name_char c first.0) parts.1)
+word-no_space (c ∷ cs) is = first-no_space is_letter letter-name_char c cs is
 
 pub label-no_space : (xs : List ℕ) → is_label xs ≡ true → no_space xs ≡ true
 label-no_space [] is = refl
-label-no_space (c ∷ cs) is =
-    let parts = and_parts (is_digit c && nat_le (length cs) 11) (list_all is_name_char cs) is in
-    let first = and_parts (is_digit c) (nat_le (length cs) 11) parts.0 in
-    names-no_space (c ∷ cs) (and_from _ _ (digit-name_char c first.0) parts.1)
+label-no_space (c ∷ cs) is = first-no_space is_digit digit-name_char c cs is
 
--- the word before what is empty or begins with a space
-pub word-front : (xs rest : List ℕ) → no_space xs ≡ true → at_space rest ≡ true → word_of (xs ++ rest) ≡ xs
-word-front [] [] none at = refl
-word-front [] (c ∷ rest) none at = rw at refl
-word-front (c ∷ cs) rest none at =
+-- the word before what is empty or begins with a space, and what stands behind it
+front-parts : (xs rest : List ℕ) → no_space xs ≡ true → at_space rest ≡ true → (word_of (xs ++ rest) ≡ xs) × (behind_word (xs ++ rest) ≡ without_front rest)
+front-parts [] [] none at = (refl, refl)
+front-parts [] (c ∷ rest) none at = (rw at refl, rw at refl)
+front-parts (c ∷ cs) rest none at =
     let both = and_parts (not (c == 32)) (no_space cs) none in
     let other : (c == 32) ≡ false = not-true _ both.0 in
-    rw (other, word-front cs rest both.1 at) refl
+    let (word, behind) = front-parts cs rest both.1 at in
+    (rw (other, word) refl, rw (other, behind) refl)
+
+pub word-front : (xs rest : List ℕ) → no_space xs ≡ true → at_space rest ≡ true → word_of (xs ++ rest) ≡ xs
+word-front xs rest none at = (front-parts xs rest none at).0
 
 pub behind-front : (xs rest : List ℕ) → no_space xs ≡ true → at_space rest ≡ true → behind_word (xs ++ rest) ≡ without_front rest
-behind-front [] [] none at = refl
-behind-front [] (c ∷ rest) none at = rw at refl
-behind-front (c ∷ cs) rest none at =
-    let both = and_parts (not (c == 32)) (no_space cs) none in
-    let other : (c == 32) ≡ false = not-true _ both.0 in
-    rw (other, behind-front cs rest both.1 at) refl
+behind-front xs rest none at = (front-parts xs rest none at).1
 
 -- spaces in front
 pub front-spaces : (n : ℕ) (t : List ℕ) → without_front (spaces n ++ t) ≡ without_front t

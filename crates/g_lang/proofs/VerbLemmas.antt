@@ -121,45 +121,59 @@ behind_on (first ∷ word) (c ∷ cs) at is space =
     ∙ ap (wrong_from (Params 0) at) cut.whole ∙ params_on cut.count at (without_front (c ∷ cs))
     ∙ from (Params 0) (without_front (c ∷ cs)) (at + cut.count) (at + (length (c ∷ cs) - length (without_front (c ∷ cs)))) (omega (arith, long, parts, spaces_long cut.count))
 
--- A LINE THAT BEGINS WITH A VERB
-pub verb_line : (text : List ℕ) → is_verb (word_of (without_front text)) ≡ true
-    → wrong_from Front 0 text ≡ wrong_from (Params 0) (length text - length (behind_word (without_front text))) (behind_word (without_front text))
-verb_line text is =
-    let line = without_front text in
-    let name = word_of line in
-    let front = front_cut text in
-    let cut = word_cut line in
-    let params = without_front cut.rest in
-    let n = front.count in
-    let word : is_word name ≡ true = (and_parts (is_word name) _ is).0 in
-    let a = ap length front.whole in
-    let b = length-append (spaces n) line in
-    let c = ap length cut.whole in
-    let d = length-append name cut.rest in
-    let e = spaces_long n in
-    let f = front_cut cut.rest in
-    let g = ap length f.whole in
-    let h = length-append (spaces f.count) params in
-    let place : 0 + n + length name + (length cut.rest - length params) ≡ length text - length params = omega (arith, a, b, c, d, e, g, h) in
-    ap (wrong_from Front 0) front.whole ∙ front_on n 0 line ∙ ap (wrong_from Front (0 + n)) cut.whole ∙ whole_on name cut.rest (0 + n) word
-    ∙ behind_on name cut.rest (0 + n + length name) is cut.space
-    ∙ from (Params 0) params (0 + n + length name + (length cut.rest - length params)) (length text - length params) place
-    ∙ ap (λ (ps : List ℕ). wrong_from (Params 0) (length text - length ps) ps) (sym cut.behind)
-
-pub behind_short : (text : List ℕ) → length (behind_word (without_front text)) ≤ length text
-behind_short text =
+-- how long the parts of a line are: the spaces before its first word, the word and what stands behind it, with the spaces that it begins with
+word_lengths : (text : List ℕ) → (let line = without_front text in let cut = word_cut line in
+    (length text ≡ (front_cut text).count + length (word_of line) + length cut.rest) × (length cut.rest ≡ (front_cut cut.rest).count + length (without_front cut.rest)))
+word_lengths text =
     let line = without_front text in
     let front = front_cut text in
     let cut = word_cut line in
-    let f = front_cut cut.rest in
+    let behind = front_cut cut.rest in
     let a = ap length front.whole in
     let b = length-append (spaces front.count) line in
     let c = ap length cut.whole in
     let d = length-append (word_of line) cut.rest in
-    let g = ap length f.whole in
-    let h = length-append (spaces f.count) (without_front cut.rest) in
-    let i = ap length cut.behind in
-    omega (arith, a, b, c, d, g, h, i)
+    let e = spaces_long front.count in
+    let g = ap length behind.whole in
+    let h = length-append (spaces behind.count) (without_front cut.rest) in
+    let i = spaces_long behind.count in
+    (omega (arith, a, b, c, d, e), omega (arith, g, h, i))
+
+-- where what stands behind the word begins
+word_place : (text : List ℕ) → (let line = without_front text in let cut = word_cut line in
+    0 + (front_cut text).count + length (word_of line) + (length cut.rest - length (without_front cut.rest)) ≡ length text - length (without_front cut.rest))
+word_place text = let (whole, rest) = word_lengths text in omega (arith, whole, rest)
+
+-- a line is read from its first word on, and what is read behind the word begins where that begins
+first_word : (text : List ℕ) → (let line = without_front text in wrong_from Front 0 text ≡ wrong_from Front (0 + (front_cut text).count) (word_of line ++ (word_cut line).rest))
+first_word text =
+    let front = front_cut text in
+    ap (wrong_from Front 0) front.whole ∙ front_on front.count 0 (without_front text) ∙ ap (wrong_from Front (0 + front.count)) (word_cut (without_front text)).whole
+
+behind_first : (text : List ℕ) (s : State) → (let line = without_front text in let cut = word_cut line in let params = without_front cut.rest in
+    wrong_from s (0 + (front_cut text).count + length (word_of line) + (length cut.rest - length params)) params ≡ wrong_from s (length text - length (behind_word line)) (behind_word line))
+behind_first text s =
+    let line = without_front text in
+    let cut = word_cut line in
+    let params = without_front cut.rest in
+    from s params (0 + (front_cut text).count + length (word_of line) + (length cut.rest - length params)) (length text - length params) (word_place text)
+    ∙ ap (λ (ps : List ℕ). wrong_from s (length text - length ps) ps) (sym cut.behind)
+
+-- A LINE THAT BEGINS WITH A VERB
+pub verb_line : (text : List ℕ) → is_verb (word_of (without_front text)) ≡ true
+    → wrong_from Front 0 text ≡ wrong_from (Params 0) (length text - length (behind_word (without_front text))) (behind_word (without_front text))
+verb_line text is =
+    let name = word_of (without_front text) in
+    let cut = word_cut (without_front text) in
+    let n = 0 + (front_cut text).count in
+    let word : is_word name ≡ true = (and_parts (is_word name) _ is).0 in
+    first_word text ∙ whole_on name cut.rest n word ∙ behind_on name cut.rest (n + length name) is cut.space ∙ behind_first text (Params 0)
+
+pub behind_short : (text : List ℕ) → length (behind_word (without_front text)) ≤ length text
+behind_short text =
+    let (whole, rest) = word_lengths text in
+    let behind = ap length (word_cut (without_front text)).behind in
+    omega (arith, whole, rest, behind)
 
 -- the characters of a label
 label_on : (xs t : List ℕ) (n at : ℕ) → list_all is_name_char xs ≡ true → n + length xs ≤ 12 → wrong_from (InLabel n) at (xs ++ t) ≡ wrong_from (InLabel (n + length xs)) (at + length xs) t
@@ -207,25 +221,10 @@ behind_label n (c ∷ cs) at space =
 label_line : (text : List ℕ) → is_label (word_of (without_front text)) ≡ true
     → wrong_from Front 0 text ≡ wrong_from Gap (length text - length (behind_word (without_front text))) (behind_word (without_front text))
 label_line text is =
-    let line = without_front text in
-    let label = word_of line in
-    let front = front_cut text in
-    let cut = word_cut line in
-    let command = without_front cut.rest in
-    let n = front.count in
-    let a = ap length front.whole in
-    let b = length-append (spaces n) line in
-    let c = ap length cut.whole in
-    let d = length-append label cut.rest in
-    let e = spaces_long n in
-    let f = front_cut cut.rest in
-    let g = ap length f.whole in
-    let h = length-append (spaces f.count) command in
-    let place : 0 + n + length label + (length cut.rest - length command) ≡ length text - length command = omega (arith, a, b, c, d, e, g, h) in
-    ap (wrong_from Front 0) front.whole ∙ front_on n 0 line ∙ ap (wrong_from Front (0 + n)) cut.whole ∙ whole_label label cut.rest (0 + n) is
-    ∙ behind_label (length label) cut.rest (0 + n + length label) cut.space
-    ∙ from Gap command (0 + n + length label + (length cut.rest - length command)) (length text - length command) place
-    ∙ ap (λ (ps : List ℕ). wrong_from Gap (length text - length ps) ps) (sym cut.behind)
+    let label = word_of (without_front text) in
+    let cut = word_cut (without_front text) in
+    let n = 0 + (front_cut text).count in
+    first_word text ∙ whole_label label cut.rest n is ∙ behind_label (length label) cut.rest (n + length label) cut.space ∙ behind_first text Gap
 
 -- a verb behind a label
 whole_gap : (name t : List ℕ) (at : ℕ) → is_word name ≡ true → wrong_from Gap at (name ++ t) ≡ wrong_from (Word name false) (at + length name) t

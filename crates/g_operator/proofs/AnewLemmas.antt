@@ -5,7 +5,7 @@ use Rattle.std.specs.Prelude.{All, Result, Ok, Err, IfOk, codes, replicate, if�
 use Rattle.std.specs.List.{AllByRecursion}
 use Rattle.std.proofs.lemmas.List.Elements.{All-from_recursion, All-map, All-weaker, recursion_from_All}
 use Rattle.std.proofs.lemmas.Option.{none-some}
-use Rattle.g_disc.specs.Disc.{DiscState}
+use Rattle.g_disc.specs.Disc.{Causes, DiscState}
 use Rattle.g_tape.specs.Rack.{Mounting, Rack, changed}
 use Rattle.g_tape.specs.Reads.{unread}
 use Rattle.g_tape.specs.Reel.{Reel, with_mounted}
@@ -50,6 +50,11 @@ use Rattle.g_operator.proofs.DownLemmas.{down_same}
 use Rattle.g_operator.proofs.LabelLemmas.{parts_with}
 use Rattle.g_operator.proofs.RiseLemmas.{CameUp, comes_up, format_down, not_made}
 use Rattle.g_operator.proofs.WayLemmas.{unrisen_line}
+
+-- what a disc counts has its causes, whatever it holds before and behind
+causes_beside : {P Q : Type 0} (old new : DiscState) (a b : Option (List (List ℕ))) → Causes P Q old new → Causes P Q (record old { held = a }) (record new { held = b })
+causes_beside old new a b is =
+    record { size = is.size; arms = is.arms; later = is.later; reads_kept = is.reads_kept; reads_rose = is.reads_rose; writes_kept = is.writes_kept; writes_rose = is.writes_rose }
 
 -- DEVICES TO BEGIN ANEW WITH stay so: a reel is turned, or a device armed
 blank_rack : (d : Devices) (rack : Rack) → rack ≡ d.rack → AreBlank d → (let e : Devices = record d { rack = rack } in AreBlank e)
@@ -135,15 +140,7 @@ module _ (d : Devices) (blank : AreBlank d) where
     came_anew = record {
       running = is.makes.running;
       keeps = is.makes.keeps;
-      causes = record {
-        size = is.makes.causes.size;
-        arms = is.makes.causes.arms;
-        later = is.makes.causes.later;
-        reads_kept = is.makes.causes.reads_kept;
-        reads_rose = is.makes.causes.reads_rose;
-        writes_kept = is.makes.causes.writes_kept;
-        writes_rose = is.makes.causes.writes_rose;
-      };
+      causes = causes_beside d.disc new.online.disc new_disc.held new.online.disc.held is.makes.causes;
       tapes = is.makes.tapes;
       tape_read = is.makes.tape_read;
       told = λ told. is.makes.told blank.told;
@@ -208,15 +205,7 @@ module _ (d e : Devices) (more : 2177 < d.disc.size) (blank : AreBlank d) where
 
   refuses_beside : (fault : StoreFault) → RefusesFormat d.disc d.rack fault e.disc e.rack → Refuses (Unit {0}) FormatStep (with_new_disc d).disc d.rack fault (with_new_disc e).disc e.rack
   refuses_beside fault is = record {
-    causes = record {
-      size = is.refuses.causes.size;
-      arms = is.refuses.causes.arms;
-      later = is.refuses.causes.later;
-      reads_kept = is.refuses.causes.reads_kept;
-      reads_rose = is.refuses.causes.reads_rose;
-      writes_kept = is.refuses.causes.writes_kept;
-      writes_rose = is.refuses.causes.writes_rose;
-    };
+    causes = causes_beside d.disc e.disc (with_new_disc d).disc.held (with_new_disc e).disc.held is.refuses.causes;
     tapes = is.refuses.tapes;
     tape_read = is.refuses.tape_read;
     tape_read_only = is.refuses.tape_read_only;

@@ -1,7 +1,6 @@
 -- A LINE THAT ASKS A STORE, on a system that is up or down.
 use Rattle.std.proofs.Common.{◌≡◌, ℕ, ◌++◌, List, [], Option, Some, refl, sym, subst}
 use Rattle.std.specs.Prelude.{Result, Ok, Err, codes}
-use Rattle.g_name.specs.declared.full.Full.{Full}
 use Rattle.g_name.specs.declared.path.Path.{Path}
 use Rattle.g_plain.specs.declared.faults.StoreFault.{StoreFault}
 use Rattle.g_plain.specs.declared.faults.StoreFault.TheVariants.{NotStarted}
@@ -24,8 +23,9 @@ use Rattle.g_operator.specs.declared.progress.Failure.{Failure}
 use Rattle.g_operator.specs.Asking.{AsksOf, Processed}
 use Rattle.g_operator.specs.Parts.{DidLine, IsReady, disc_arms, seen, tape_arms}
 use Rattle.g_operator.specs.Puts.{Puts}
+use Rattle.g_store_meaning.specs.StoreInvariant.{StoreFacts}
 use Rattle.g_operator.specs.System.{Down, SystemFacts, Up}
-use Rattle.g_operator.specs.Telling.{TellsFault, system_behind}
+use Rattle.g_operator.specs.Telling.{TellsFault, system_after, system_behind}
 use Rattle.g_operator.proofs.ProcessLemmas.{processed_line, unprocessed_line}
 use Rattle.g_operator.proofs.UpLemmas.{down_line, migrated_line, opened_line, unmigrated_line, unopened_line}
 
@@ -42,56 +42,52 @@ down_asked what by said lifts no_disc no_tape d e c c' count ready NotStarted is
     (down_line what by said lifts no_disc no_tape d c count ready failure before after faults faults' puts))
 down_asked what by said lifts no_disc no_tape d e c c' count ready fault is same failure before after faults faults' tells = let never : ⊥ = cc in absurd never
 
--- DUMP
-pub opened_on : (serial : ℕ) (old new : SystemFacts) (c : CrewState) (count : ℕ) → IsReady old c → (number : ℕ) → AsksOf (λ s answer t. Opens serial s answer t) old (Ok number) new
-    → (failure : Option Failure) (before after : Option (List ℕ)) (faults faults' : ℕ) → Puts failure (operator_line count (dump_text number (codes "OPENED"))) before after faults faults'
-    → DidLine (line.Dump serial) (seen old c count) failure (seen new c count) before after faults faults'
-opened_on serial (Up s) (Up t) c count ready number is failure before after faults faults' puts = opened_line serial s t c ready count number is failure before after faults faults' puts
-opened_on serial (Up s) (Down d) c count ready number is failure before after faults faults' puts = absurd is
-opened_on serial (Down d) (Up t) c count ready number is failure before after faults faults' puts = absurd is
-opened_on serial (Down d) (Down e) c count ready number (is, same) failure before after faults faults' puts = let never : ⊥ = cc in absurd never
+-- A LINE THAT ASKS, by what a store grants and refuses, and what is said of what is granted: what it does under a store, and under none
+pub record AsksBy {A : Type 0} (what : Operator) (asks : StoreFacts → Result A StoreFault → StoreFacts → Type 0) (said : A → List ℕ) : Type 0 where
+  pub granted : (s t : StoreFacts) (c : CrewState) → IsReady (Up s) c → (count : ℕ) (reply : A) → asks s (Ok reply) t → (failure : Option Failure) (before after : Option (List ℕ)) (faults faults' : ℕ)
+      → Puts failure (operator_line count (said reply)) before after faults faults' → DidLine what (seen (Up s) c count) failure (seen (Up t) c count) before after faults faults'
+  pub refused : (s t : StoreFacts) (c : CrewState) → IsReady (Up s) c → (count : ℕ) (fault : StoreFault) → asks s (Err fault) t → (failure : Option Failure) (c' : CrewState) (before after : Option (List ℕ)) (faults faults' : ℕ)
+      → TellsFault fault count c failure c' before after faults faults' → DidLine what (seen (Up s) c count) failure (seen (system_after fault t) c' count) before after faults faults'
+  pub down : (d e : Devices) (c c' : CrewState) (count : ℕ) → IsReady (Down d) c → (fault : StoreFault) → (let answer : Result A StoreFault = Err fault in answer ≡ Err NotStarted) → e ≡ d
+      → (failure : Option Failure) (before after : Option (List ℕ)) (faults faults' : ℕ) → TellsFault fault count c failure c' before after faults faults'
+      → DidLine what (seen (Down d) c count) failure (seen (Down e) c' count) before after faults faults'
 
-pub unopened_on : (serial : ℕ) (old new : SystemFacts) (c : CrewState) (count : ℕ) → IsReady old c → (fault : StoreFault) → AsksOf (λ s answer t. Opens serial s answer t) old (Err fault) new
-    → (failure : Option Failure) (c' : CrewState) (before after : Option (List ℕ)) (faults faults' : ℕ) → TellsFault fault count c failure c' before after faults faults'
-    → DidLine (line.Dump serial) (seen old c count) failure (seen (system_behind fault new) c' count) before after faults faults'
-unopened_on serial (Up s) (Up t) c count ready fault is failure c' before after faults faults' tells = unopened_line serial s t c ready count fault is failure c' before after faults faults' tells
-unopened_on serial (Up s) (Down d) c count ready fault is failure c' before after faults faults' tells = absurd is
-unopened_on serial (Down d) (Up t) c count ready fault is failure c' before after faults faults' tells = absurd is
-unopened_on serial (Down d) (Down e) c count ready fault (is, same) failure c' before after faults faults' tells =
-    down_asked (line.Dump serial) (λ s k o a n. OpenStep s k serial o a n) (λ n. dump_text n (codes "OPENED")) (λ o w next it. it) refl refl d e c c' count ready fault is same failure before after faults faults' tells
+-- on a system that is up or down: one that is down grants nothing
+pub granted_by : {A : Type 0} {what : Operator} {asks : StoreFacts → Result A StoreFault → StoreFacts → Type 0} {said : A → List ℕ} → AsksBy what asks said → (old new : SystemFacts) (c : CrewState) (count : ℕ) → IsReady old c → (reply : A)
+    → AsksOf asks old (Ok reply) new → (failure : Option Failure) (before after : Option (List ℕ)) (faults faults' : ℕ) → Puts failure (operator_line count (said reply)) before after faults faults'
+    → DidLine what (seen old c count) failure (seen new c count) before after faults faults'
+granted_by asked (Up s) (Up t) c count ready reply is failure before after faults faults' puts = asked.granted s t c ready count reply is failure before after faults faults' puts
+granted_by asked (Up s) (Down d) c count ready reply is failure before after faults faults' puts = absurd is
+granted_by asked (Down d) (Up t) c count ready reply is failure before after faults faults' puts = absurd is
+granted_by asked (Down d) (Down e) c count ready reply is failure before after faults faults' puts = let (err, same) = is in let never : ⊥ = cc in absurd never
 
--- PROCESS
-pub processed_on : (serial : ℕ) (old new : SystemFacts) (c : CrewState) (count : ℕ) → IsReady old c → (number : ℕ) → AsksOf (λ s answer t. Processed serial s answer t) old (Ok number) new
-    → (failure : Option Failure) (before after : Option (List ℕ)) (faults faults' : ℕ) → Puts failure (operator_line count (processed_text serial number)) before after faults faults'
-    → DidLine (line.Process serial) (seen old c count) failure (seen new c count) before after faults faults'
-processed_on serial (Up s) (Up t) c count ready number is failure before after faults faults' puts = processed_line serial s t c ready count number is failure before after faults faults' puts
-processed_on serial (Up s) (Down d) c count ready number is failure before after faults faults' puts = absurd is
-processed_on serial (Down d) (Up t) c count ready number is failure before after faults faults' puts = absurd is
-processed_on serial (Down d) (Down e) c count ready number (is, same) failure before after faults faults' puts = let never : ⊥ = cc in absurd never
+pub refused_by : {A : Type 0} {what : Operator} {asks : StoreFacts → Result A StoreFault → StoreFacts → Type 0} {said : A → List ℕ} → AsksBy what asks said → (old new : SystemFacts) (c : CrewState) (count : ℕ) → IsReady old c → (fault : StoreFault)
+    → AsksOf asks old (Err fault) new → (failure : Option Failure) (c' : CrewState) (before after : Option (List ℕ)) (faults faults' : ℕ) → TellsFault fault count c failure c' before after faults faults'
+    → DidLine what (seen old c count) failure (seen (system_behind fault new) c' count) before after faults faults'
+refused_by asked (Up s) (Up t) c count ready fault is failure c' before after faults faults' tells = asked.refused s t c ready count fault is failure c' before after faults faults' tells
+refused_by asked (Up s) (Down d) c count ready fault is failure c' before after faults faults' tells = absurd is
+refused_by asked (Down d) (Up t) c count ready fault is failure c' before after faults faults' tells = absurd is
+refused_by asked (Down d) (Down e) c count ready fault is failure c' before after faults faults' tells =
+    let (err, same) = is in asked.down d e c c' count ready fault err same failure before after faults faults' tells
 
-pub unprocessed_on : (serial : ℕ) (old new : SystemFacts) (c : CrewState) (count : ℕ) → IsReady old c → (fault : StoreFault) → AsksOf (λ s answer t. Processed serial s answer t) old (Err fault) new
-    → (failure : Option Failure) (c' : CrewState) (before after : Option (List ℕ)) (faults faults' : ℕ) → TellsFault fault count c failure c' before after faults faults'
-    → DidLine (line.Process serial) (seen old c count) failure (seen (system_behind fault new) c' count) before after faults faults'
-unprocessed_on serial (Up s) (Up t) c count ready fault is failure c' before after faults faults' tells = unprocessed_line serial s t c ready count fault is failure c' before after faults faults' tells
-unprocessed_on serial (Up s) (Down d) c count ready fault is failure c' before after faults faults' tells = absurd is
-unprocessed_on serial (Down d) (Up t) c count ready fault is failure c' before after faults faults' tells = absurd is
-unprocessed_on serial (Down d) (Down e) c count ready fault (is, same) failure c' before after faults faults' tells =
-    down_asked (line.Process serial) (λ s k o a n. ProcessStep s k serial o a n) (processed_text serial) (λ o w next it. it) refl refl d e c c' count ready fault is same failure before after faults faults' tells
+-- DUMP, PROCESS and MIGRATE
+pub opens_line : (serial : ℕ) → AsksBy (line.Dump serial) (λ s answer t. Opens serial s answer t) (λ n. dump_text n (codes "OPENED"))
+opens_line serial = record {
+  granted = λ s t c ready count. opened_line serial s t c ready count;
+  refused = λ s t c ready count. unopened_line serial s t c ready count;
+  down = down_asked (line.Dump serial) (λ s k o a n. OpenStep s k serial o a n) (λ n. dump_text n (codes "OPENED")) (λ o w next it. it) refl refl;
+}
 
--- MIGRATE
-pub migrated_on : (path : Path) (old new : SystemFacts) (c : CrewState) (count : ℕ) → IsReady old c → (full : Full) → AsksOf (λ s answer t. Migrates path s answer t) old (Ok full) new
-    → (failure : Option Failure) (before after : Option (List ℕ)) (faults faults' : ℕ) → Puts failure (operator_line count (codes "MIGRATED " ++ full_text full)) before after faults faults'
-    → DidLine (line.Migrate path) (seen old c count) failure (seen new c count) before after faults faults'
-migrated_on path (Up s) (Up t) c count ready full is failure before after faults faults' puts = migrated_line path s t c ready count full is failure before after faults faults' puts
-migrated_on path (Up s) (Down d) c count ready full is failure before after faults faults' puts = absurd is
-migrated_on path (Down d) (Up t) c count ready full is failure before after faults faults' puts = absurd is
-migrated_on path (Down d) (Down e) c count ready full (is, same) failure before after faults faults' puts = let never : ⊥ = cc in absurd never
+pub processes_line : (serial : ℕ) → AsksBy (line.Process serial) (λ s answer t. Processed serial s answer t) (processed_text serial)
+processes_line serial = record {
+  granted = λ s t c ready count. processed_line serial s t c ready count;
+  refused = λ s t c ready count. unprocessed_line serial s t c ready count;
+  down = down_asked (line.Process serial) (λ s k o a n. ProcessStep s k serial o a n) (processed_text serial) (λ o w next it. it) refl refl;
+}
 
-pub unmigrated_on : (path : Path) (old new : SystemFacts) (c : CrewState) (count : ℕ) → IsReady old c → (fault : StoreFault) → AsksOf (λ s answer t. Migrates path s answer t) old (Err fault) new
-    → (failure : Option Failure) (c' : CrewState) (before after : Option (List ℕ)) (faults faults' : ℕ) → TellsFault fault count c failure c' before after faults faults'
-    → DidLine (line.Migrate path) (seen old c count) failure (seen (system_behind fault new) c' count) before after faults faults'
-unmigrated_on path (Up s) (Up t) c count ready fault is failure c' before after faults faults' tells = unmigrated_line path s t c ready count fault is failure c' before after faults faults' tells
-unmigrated_on path (Up s) (Down d) c count ready fault is failure c' before after faults faults' tells = absurd is
-unmigrated_on path (Down d) (Up t) c count ready fault is failure c' before after faults faults' tells = absurd is
-unmigrated_on path (Down d) (Down e) c count ready fault (is, same) failure c' before after faults faults' tells =
-    down_asked (line.Migrate path) (λ s k o a n. MigrateStep s k path.user (input_name k.tree [] path) o a n) (λ f. codes "MIGRATED " ++ full_text f) (λ o w next it. it) refl refl d e c c' count ready fault is same failure before after faults faults' tells
+pub migrates_line : (path : Path) → AsksBy (line.Migrate path) (λ s answer t. Migrates path s answer t) (λ full. codes "MIGRATED " ++ full_text full)
+migrates_line path = record {
+  granted = λ s t c ready count. migrated_line path s t c ready count;
+  refused = λ s t c ready count. unmigrated_line path s t c ready count;
+  down = down_asked (line.Migrate path) (λ s k o a n. MigrateStep s k path.user (input_name k.tree [] path) o a n) (λ f. codes "MIGRATED " ++ full_text f) (λ o w next it. it) refl refl;
+}

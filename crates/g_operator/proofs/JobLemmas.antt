@@ -68,12 +68,19 @@ gives_up : (job : NewJob) (w next : World) → w.store.up ≡ true → next ≡ 
 gives_up job w next up is =
     (refl, is ∙ sym (ap (λ (b : Bool). if b then job_line (job_refusal w job.user job.time job.money) (taken_in job.name job.user job.time job.money job.lines w) w else line_refused NotStarted w) up))
 
+-- behind those that are there comes a job of the next number
+pub jobs_more : (born : ℕ → JobState) (w : World) (c : CrewState) → IsCrewOf w c → w.jobs ++ born w.next_job ∷ [] ≡ c.jobs ++ born c.next_job ∷ []
+jobs_more born w c crew = ap (λ (js : List JobState). js ++ born w.next_job ∷ []) crew.jobs ∙ ap (λ (n : ℕ). c.jobs ++ born n ∷ []) crew.next_job
+
+-- a system that knows whether it knows the user is up
+pub known_up : (P : SystemFacts → Type 0) (user : List ℕ) (f : SystemFacts) (known : Bool) → KnowsIn user f (Some known)
+    → ((s : StoreFacts) → ((u : State) → StandsForState s u → knows_user u user ≡ known) → P (Up s)) → P f
+known_up P user (Up s) known knows where_up = let (it, is, known_is) = knows in where_up s (λ u here. known_is u here ∙ sym (same_Some known it is))
+known_up P user (Down d) known is where_up = let never : ⊥ = cc in absurd never
+
 module _ (job : NewJob) (s : StoreFacts) (known : Bool) (known_is : (u : State) → StandsForState s u → knows_user u job.user ≡ known) (c : CrewState) (ready : IsReady (Up s) c) (count : ℕ) where
   abbrev before : Seen
   before = seen (Up s) c count
-
-  up_here : (w : World) → Matches w before → w.store.up ≡ true
-  up_here w m = up_is s w.store ready.0 m.stands.stands
 
   -- it comes in
   module _ (granted : (w : World) → IsCrewOf w c → knows_user w.store job.user ≡ known → job_refusal w job.user job.time job.money ≡ None) where
@@ -81,7 +88,7 @@ module _ (job : NewJob) (s : StoreFacts) (known : Bool) (known_is : (u : State) 
     in_does w m = record {
       outcome = Plain;
       next = taken_in job.name job.user job.time job.money job.lines w;
-      gives = gives_up job w (taken_in job.name job.user job.time job.money job.lines w) (up_here w m)
+      gives = gives_up job w (taken_in job.name job.user job.time job.money job.lines w) (up_is s w.store ready.0 m.stands.stands)
           (sym (ap (λ (o : Option (List ℕ)). job_line o (taken_in job.name job.user job.time job.money job.lines w) w) (granted w m.crew (known_is w.store m.stands.stands))));
       counted = event_none (devices_in (Up s));
       stands = m.stands;
@@ -93,12 +100,7 @@ module _ (job : NewJob) (s : StoreFacts) (known : Bool) (known_is : (u : State) 
     unfolding in_does
     in_matches w m = record {
       stands = m.stands;
-      crew = record {
-        jobs = ap (λ (js : List JobState). js ++ job_begun w.next_job job.name job.user job.time job.money job.lines ∷ []) m.crew.jobs
-            ∙ ap (λ (n : ℕ). c.jobs ++ job_begun n job.name job.user job.time job.money job.lines ∷ []) m.crew.next_job;
-        accounts = m.crew.accounts;
-        next_job = ap (λ (n : ℕ). n + 1) m.crew.next_job;
-      };
+      crew = record { jobs = jobs_more (λ n. job_begun n job.name job.user job.time job.money job.lines) w c m.crew; accounts = m.crew.accounts; next_job = ap (λ (n : ℕ). n + 1) m.crew.next_job };
       count = m.count;
     }
 
@@ -106,7 +108,7 @@ module _ (job : NewJob) (s : StoreFacts) (known : Bool) (known_is : (u : State) 
   out_gives : (text : List ℕ) → ((w : World) → IsCrewOf w c → knows_user w.store job.user ≡ known → job_refusal w job.user job.time job.money ≡ Some text) → (w : World) → Matches w before
       → LineGives Plain (job_of_line job) w (refusal text w)
   out_gives text refuses w m =
-      gives_up job w (refusal text w) (up_here w m)
+      gives_up job w (refusal text w) (up_is s w.store ready.0 m.stands.stands)
       (sym (ap (λ (o : Option (List ℕ)). job_line o (taken_in job.name job.user job.time job.money job.lines w) w) (refuses w m.crew (known_is w.store m.stands.stands))))
 
   abbrev Did : Option Failure → CrewState → Option (List ℕ) → Option (List ℕ) → ℕ → ℕ → Type 0
@@ -135,10 +137,9 @@ down_takes_none job d c count failure before after faults faults' ready puts =
 -- A JOB'S LINE, where the system knows its user or doesn't, or is down
 pub job_on : (job : NewJob) (f : SystemFacts) (known : Bool) → KnowsIn job.user f (Some known) → (c : CrewState) → IsReady f c → (count : ℕ) (failure : Option Failure) (c' : CrewState) (before after : Option (List ℕ)) (faults faults' : ℕ)
     → TakesJob known job count c failure c' before after faults faults' → DidLine (job_of_line job) (seen f c count) failure (seen f c' count) before after faults faults'
-job_on job (Up s) known knows c ready count failure c' before after faults faults' takes =
-    let (it, is, known_is) = knows in
-    taken_line job s known (λ u here. known_is u here ∙ sym (same_Some known it is)) c ready count failure c' before after faults faults' takes
-job_on job (Down d) known is c ready count failure c' before after faults faults' takes = let never : ⊥ = cc in absurd never
+job_on job f known knows c ready count failure c' before after faults faults' takes =
+    known_up (λ g. IsReady g c → DidLine (job_of_line job) (seen g c count) failure (seen g c' count) before after faults faults') job.user f known knows
+    (λ s known_is there. taken_line job s known known_is c there count failure c' before after faults faults' takes) ready
 
 pub no_job_on : (job : NewJob) (f : SystemFacts) → KnowsIn job.user f None → (c : CrewState) → IsReady f c → (count : ℕ) (failure : Option Failure) (c' : CrewState) (before after : Option (List ℕ)) (faults faults' : ℕ)
     → TellsFault NotStarted count c failure c' before after faults faults' → DidLine (job_of_line job) (seen f c count) failure (seen (system_behind NotStarted f) c' count) before after faults faults'

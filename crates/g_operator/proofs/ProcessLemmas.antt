@@ -17,7 +17,7 @@ use Rattle.g_store_model.specs.State.{Holding, State, capacity_in, end_of, first
 use Rattle.g_store_meaning.specs.StoreInvariant.{StoreFacts}
 use Rattle.g_script.specs.declared.operator.Operator.TheVariants as line
 use Rattle.g_run_model.specs.Devices.{Devices}
-use Rattle.g_run_model.specs.Moves.{DumpCounted, WritesFailed}
+use Rattle.g_run_model.specs.Moves.{DumpCounted, Failures, Happened, WritesFailed}
 use Rattle.g_run_model.specs.Texts.{operator_line, processed_text}
 use Rattle.g_run_model.proofs.CountLemmas.{a_failure, dump_failed, no_failure, none_failed, rack_failed}
 use Rattle.g_run_model.proofs.EventToldLemmas.{process_told, OutcomeTold}
@@ -48,44 +48,27 @@ module _ (old new : StoreFacts) (answer : Result ℕ StoreFault) (is : ProcessCa
   abbrev now : Devices
   now = devices_in (Up new)
 
+  reads_counted : (k m n : ℕ) → Failures k was.disc.read_faults now.disc.read_faults → Failures m was.rack.read_faults now.rack.read_faults → WritesFailed 0 n was now → Happened k m 0 n [] [] was now
+  reads_counted k m n disc tape cuts = record { disc_read = disc; tape_read = tape; cuts = cuts; disc_armed = is.disc_arms; tape_armed = is.tape_arms }
+
   pub process_counted : (o : Outcome) → OutcomeTold o answer → DumpCounted o was now
   process_counted Plain told =
       let disc = is.disc_read_only (λ e. let no : ◌≡◌ {A = Outcome} Plain DiscRead = told.disc_read e in cc) in
       let tape = is.tape_read_only (λ e. let no : ◌≡◌ {A = Outcome} Plain TapeRead = told.tape_read e in cc) in
-      let (disc_cut, tape_cut) = is.uncut (λ e. let no : ◌≡◌ {A = Outcome} Plain Cut = told.cut e in cc) in record {
-        disc_read = no_failure was.disc.read_faults now.disc.read_faults disc;
-        tape_read = no_failure was.rack.read_faults now.rack.read_faults tape;
-        cuts = none_failed was now disc_cut tape_cut;
-        disc_armed = is.disc_arms;
-        tape_armed = is.tape_arms;
-      }
+      let (disc_cut, tape_cut) = is.uncut (λ e. let no : ◌≡◌ {A = Outcome} Plain Cut = told.cut e in cc) in
+      reads_counted 0 0 0 (no_failure was.disc.read_faults now.disc.read_faults disc) (no_failure was.rack.read_faults now.rack.read_faults tape) (none_failed was now disc_cut tape_cut)
   process_counted DiscRead told =
       let tape = is.tape_read_only (λ e. let no : ◌≡◌ {A = Outcome} DiscRead TapeRead = told.tape_read e in cc) in
-      let (disc_cut, tape_cut) = is.uncut (λ e. let no : ◌≡◌ {A = Outcome} DiscRead Cut = told.cut e in cc) in record {
-        disc_read = a_failure was.disc.read_faults now.disc.read_faults (is.disc_read told.told);
-        tape_read = no_failure was.rack.read_faults now.rack.read_faults tape;
-        cuts = none_failed was now disc_cut tape_cut;
-        disc_armed = is.disc_arms;
-        tape_armed = is.tape_arms;
-      }
+      let (disc_cut, tape_cut) = is.uncut (λ e. let no : ◌≡◌ {A = Outcome} DiscRead Cut = told.cut e in cc) in
+      reads_counted 1 0 0 (a_failure was.disc.read_faults now.disc.read_faults (is.disc_read told.told)) (no_failure was.rack.read_faults now.rack.read_faults tape) (none_failed was now disc_cut tape_cut)
   process_counted TapeRead told =
       let disc = is.disc_read_only (λ e. let no : ◌≡◌ {A = Outcome} TapeRead DiscRead = told.disc_read e in cc) in
-      let (disc_cut, tape_cut) = is.uncut (λ e. let no : ◌≡◌ {A = Outcome} TapeRead Cut = told.cut e in cc) in record {
-        disc_read = no_failure was.disc.read_faults now.disc.read_faults disc;
-        tape_read = a_failure was.rack.read_faults now.rack.read_faults (is.tape_read told.told);
-        cuts = none_failed was now disc_cut tape_cut;
-        disc_armed = is.disc_arms;
-        tape_armed = is.tape_arms;
-      }
+      let (disc_cut, tape_cut) = is.uncut (λ e. let no : ◌≡◌ {A = Outcome} TapeRead Cut = told.cut e in cc) in
+      reads_counted 0 1 0 (no_failure was.disc.read_faults now.disc.read_faults disc) (a_failure was.rack.read_faults now.rack.read_faults (is.tape_read told.told)) (none_failed was now disc_cut tape_cut)
   process_counted Cut told =
       let disc = is.disc_read_only (λ e. let no : ◌≡◌ {A = Outcome} Cut DiscRead = told.disc_read e in cc) in
-      let tape = is.tape_read_only (λ e. let no : ◌≡◌ {A = Outcome} Cut TapeRead = told.tape_read e in cc) in record {
-        disc_read = no_failure was.disc.read_faults now.disc.read_faults disc;
-        tape_read = no_failure was.rack.read_faults now.rack.read_faults tape;
-        cuts = by (is.cut told.told);
-        disc_armed = is.disc_arms;
-        tape_armed = is.tape_arms;
-      }
+      let tape = is.tape_read_only (λ e. let no : ◌≡◌ {A = Outcome} Cut TapeRead = told.tape_read e in cc) in
+      reads_counted 0 0 1 (no_failure was.disc.read_faults now.disc.read_faults disc) (no_failure was.rack.read_faults now.rack.read_faults tape) (by (is.cut told.told))
     where
       by : (Rose was.disc.write_faults now.disc.write_faults × (now.rack.write_faults ≡ was.rack.write_faults))
           ⊎ (Rose was.rack.write_faults now.rack.write_faults × (now.disc.write_faults ≡ was.disc.write_faults)) → WritesFailed 0 1 was now

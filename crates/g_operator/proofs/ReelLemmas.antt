@@ -4,7 +4,7 @@ use Rattle.std.specs.Prelude.{◌⊎◌, ◌≢◌, All, Contains, IfSome, Resul
 use Rattle.std.proofs.lemmas.Option.{none-some, same_Some}
 use Rattle.g_entry.specs.declared.head.Intent.{Intent}
 use Rattle.g_tape.specs.Reel.{Reel, with_mounted}
-use Rattle.g_tape.specs.Rack.{Mounting, Rack, changed, is_mounted, reel, refuses_mount, refuses_unmount}
+use Rattle.g_tape.specs.Rack.{Mounting, Rack, changed, is_mounted, reel, refuses_mount, refuses_unmount, with_reel}
 use Rattle.g_tape.specs.declared.fault.TapeFault.{TapeFault}
 use Rattle.g_tape.specs.declared.fault.TapeFault.TheVariants as tape
 use Rattle.g_plain.specs.declared.faults.StoreFault.{StoreFault}
@@ -24,7 +24,7 @@ use Rattle.g_store.proofs.MountLemmas.{dumps_stay, lacks_by, mounted_by, rows_tu
 use Rattle.g_store.proofs.TurnLemmas.{files_view, rack_view}
 use Rattle.g_run_model.specs.Devices.{AreReadAs, Devices}
 use Rattle.g_operator.specs.Reels.{MountsOn, StepsReels, UnmountsOn}
-use Rattle.g_operator.specs.System.{BelongTogether, Down, DumpsGrow, Up, labels, SystemFacts}
+use Rattle.g_operator.specs.System.{BelongTogether, Down, DumpsGrow, StandsAs, Up, labels, SystemFacts}
 use Rattle.g_operator.proofs.GrowLemmas.{grow_itself, grow_turned}
 use Rattle.g_operator.proofs.UpLemmas.{leads_by}
 use Rattle.g_operator.proofs.LabelLemmas.{labels_with}
@@ -116,36 +116,31 @@ module _ (s : ℕ) (d : Devices) where
   abbrev here : Option Reel
   here = reel s d.rack.reels
 
+  -- of the rack other reels are made, with the same labels
+  steps_reels : (answer : Result (Unit {0}) StoreFault) (reels : List Reel) (by : state.State → Result (Unit {0}) StoreFault → state.State → Type 0) → ((fault : StoreFault) → answer ≡ Err fault → fault ≢ Stopped)
+      → labels reels ≡ labels d.rack.reels → (let e : Devices = record d { rack = record d.rack { reels = reels } } in BelongTogether d → BelongTogether e)
+      → (let k : Rack = record d.rack { reels = reels } in DumpsGrow d.rack k)
+      → (let e : Devices = record d { rack = record d.rack { reels = reels } } in (u : state.State) → StandsAs (Down d) u → (v : state.State) × StandsAs (Down e) v × by u answer v)
+      → (let e : Devices = record d { rack = record d.rack { reels = reels } } in StepsReels by (Down d) answer (Down e))
+  steps_reels answer reels by only same belongs dumps step =
+      record { stays = refl; only = only; disc = refl; read_faults = refl; write_faults = refl; arms = refl; reels = same; belongs = belongs; dumps = dumps; step = step }
+
   -- a reel is turned
   steps_turned : (is : Bool) (by : state.State → Result (Unit {0}) StoreFault → state.State → Type 0) → ((u : state.State) → AreReadAs d u → by u (Ok tt) (turned_state s is u))
       → StepsReels by (Down d) (Ok tt) (Down (turned_devices s is d))
-  steps_turned is by step = record {
-    stays = refl;
-    only = λ fault e. let no : ⊥ = cc in absurd no;
-    disc = refl;
-    read_faults = refl;
-    write_faults = refl;
-    arms = refl;
-    reels = labels_with s (with_mounted is) (λ r. refl) (λ r. refl) d.rack.reels;
-    belongs = same_belongs s is d;
-    dumps = grow_turned s is d.rack;
-    step = λ u stands. (turned_state s is u, (stands.0, stand_turned s is d u stands.1), step u stands.1);
-  }
+  steps_turned is by step =
+      steps_reels (Ok tt) (with_reel s (with_mounted is) d.rack.reels) by (λ fault e. let no : ⊥ = cc in absurd no) (labels_with s (with_mounted is) (λ r. refl) (λ r. refl) d.rack.reels)
+      (same_belongs s is d) (grow_turned s is d.rack) (λ u stands. (turned_state s is u, (stands.0, stand_turned s is d u stands.1), step u stands.1))
 
   -- or it isn't
   steps_none : (fault : StoreFault) → fault ≢ Stopped → (by : state.State → Result (Unit {0}) StoreFault → state.State → Type 0) → ((u : state.State) → AreReadAs d u → by u (Err fault) u) → StepsReels by (Down d) (Err fault) (Down d)
-  steps_none fault other by step = record {
-    stays = refl;
-    only = λ f e is. other (let same : fault ≡ f = cc in same ∙ is);
-    disc = refl;
-    read_faults = refl;
-    write_faults = refl;
-    arms = refl;
-    reels = refl;
-    belongs = λ was. was;
-    dumps = grow_itself d.rack;
-    step = λ u stands. (u, stands, step u stands.1);
-  }
+  steps_none fault other by step =
+      steps_reels (Err fault) d.rack.reels by (λ f e is. other (let same : fault ≡ f = cc in same ∙ is)) refl (λ was. was) (grow_itself d.rack) (λ u stands. (u, stands, step u stands.1))
+
+  -- a reel is turned that isn't refused
+  turned_down : (is : Bool) (by : state.State → Result (Unit {0}) StoreFault → state.State → Type 0) (rack : Rack) → rack ≡ changed s (with_mounted is) d.rack
+      → ((u : state.State) → AreReadAs d u → by u (Ok tt) (turned_state s is u)) → (let e : Devices = record d { rack = rack } in StepsReels by (Down d) (Ok tt) (Down e))
+  turned_down is by rack made step = subst (λ (k : Rack). let e : Devices = record d { rack = k } in StepsReels by (Down d) (Ok tt) (Down e)) (sym made) (steps_turned is by step)
 
   mount_first : (u : state.State) → AreReadAs d u → first_fault ((state.lacks u s, NoTape) ∷ []) ≡ first_fault ((is_none here, NoTape) ∷ [])
   mount_first u stand = ap (λ (b : Bool). first_fault ((b, NoTape) ∷ [])) (lacks_is s d u stand)
@@ -167,9 +162,8 @@ module _ (s : ℕ) (d : Devices) where
   -- MOUNTS
   pub mounts_down : (answer : Result (Unit {0}) TapeFault) (rack : Rack) → Mounting refuses_mount true s d.rack answer rack → (let e : Devices = record d { rack = rack } in MountsOn s (Down d) (rack_answer answer) (Down e))
   mounts_down (Ok u) rack (free, is) =
-      subst (λ (k : Rack). let e : Devices = record d { rack = k } in MountsOn s (Down d) (Ok tt) (Down e)) (sym is)
-      (steps_turned true (λ v a n. dumps.MountStep v s a n)
-      (λ v stand. subst (λ (o : Option StoreFault). dumps.Event o tt v (turned_state s true v) (Ok tt) (turned_state s true v)) (sym (mount_first v stand ∙ free_by here free)) (refl, refl)))
+      turned_down true (λ v a n. dumps.MountStep v s a n) rack is
+      (λ v stand. subst (λ (o : Option StoreFault). dumps.Event o tt v (turned_state s true v) (Ok tt) (turned_state s true v)) (sym (mount_first v stand ∙ free_by here free)) (refl, refl))
     where
       free_by : (r : Option Reel) → refuses_mount r ≡ None → first_fault ((is_none r, NoTape) ∷ []) ≡ None
       free_by None isnt = absurd (none-some tape.NoTape (sym isnt))
@@ -191,9 +185,8 @@ module _ (s : ℕ) (d : Devices) where
   -- and unmounts
   pub unmounts_down : (answer : Result (Unit {0}) TapeFault) (rack : Rack) → Mounting refuses_unmount false s d.rack answer rack → (let e : Devices = record d { rack = rack } in UnmountsOn s (Down d) (rack_answer answer) (Down e))
   unmounts_down (Ok u) rack (free, is) =
-      subst (λ (k : Rack). let e : Devices = record d { rack = k } in UnmountsOn s (Down d) (Ok tt) (Down e)) (sym is)
-      (steps_turned false (λ v a n. dumps.UnmountStep v s a n)
-      (λ v stand. subst (λ (o : Option StoreFault). dumps.Event o tt v (turned_state s false v) (Ok tt) (turned_state s false v)) (sym (unmount_first v stand ∙ free_by here free)) (refl, refl)))
+      turned_down false (λ v a n. dumps.UnmountStep v s a n) rack is
+      (λ v stand. subst (λ (o : Option StoreFault). dumps.Event o tt v (turned_state s false v) (Ok tt) (turned_state s false v)) (sym (unmount_first v stand ∙ free_by here free)) (refl, refl))
     where
       free_by : (r : Option Reel) → refuses_unmount r ≡ None → first_fault ((is_none r, NoTape) ∷ (not (is_mounted r), NotMounted) ∷ []) ≡ None
       free_by None isnt = absurd (none-some tape.NoTape (sym isnt))

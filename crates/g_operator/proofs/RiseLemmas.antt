@@ -42,7 +42,7 @@ use Rattle.g_operator.proofs.CauseLemmas.{OfDisc, counted_by, same_caused}
 use Rattle.g_operator.proofs.GrowLemmas.{grow_held}
 use Rattle.g_operator.proofs.LeavesLemmas.{leaves_opened, leaves_told}
 use Rattle.g_operator.proofs.LineLemmas.{FaultDone, Faulted, none_armed, refused_line, tells_fault, told_of, told_same, was_done}
-use Rattle.g_operator.proofs.UpLemmas.{up_is}
+use Rattle.g_operator.proofs.UpLemmas.{starved_told, up_is}
 use Rattle.g_operator.proofs.UserLemmas.{have_rows}
 use Rattle.g_operator.proofs.LabelLemmas.{labels_read, no_fuse, same_still, stands_still}
 use Rattle.g_operator.proofs.PutLemmas.{puts_grown, told_grown}
@@ -215,12 +215,7 @@ module _ {A : Type 0} (what : Operator) (given : Type 0) (by : State → Outcome
     nothing_done : fault ≡ NoMemory → (w : World) → Matches w before → EventCounted Plain [] [] old_devices new_devices × StandsAs (Down new_devices) w.store
     nothing_done is w m =
         let here = m.stands.1 in
-        let told : OutcomeTold {A = A} Plain (Err fault) = record {
-          told = tt;
-          disc_read = λ e. let no : ⊥ = cc in absurd no;
-          tape_read = λ e. let no : ⊥ = cc in absurd no;
-          cut = λ e. let no : ⊥ = cc in absurd no;
-        } in (
+        let told : OutcomeTold {A = A} Plain (Err fault) = starved_told fault is in (
           counted_by (Err fault) old_devices new_devices of_fault Plain told,
           stands_down w m w.store m.stands.0
               (subst (λ (f : StoreFault). StepsDown by w.store disc rack f disc' rack') is (refuses.step here.told (gives (record { told = here.told; belong = here.belong })) w.store here.reads)),

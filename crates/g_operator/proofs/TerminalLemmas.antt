@@ -46,6 +46,7 @@ use Rattle.g_operator.specs.Terminals.{ChangesAt, SeatsJob, TellsSeat, is_up_in,
 use Rattle.g_operator.proofs.ByLemmas.{grown_by, plain_counted}
 use Rattle.g_operator.proofs.GrowLemmas.{grow_itself}
 use Rattle.g_operator.proofs.LeavesLemmas.{leaves_same}
+use Rattle.g_operator.proofs.JobLemmas.{jobs_more, known_up}
 use Rattle.g_operator.proofs.LineLemmas.{none_armed, nothing_done, quiet_line, refused_line, says_refused, was_done}
 use Rattle.g_operator.proofs.UpLemmas.{up_is}
 use Rattle.g_operator.proofs.LabelLemmas.{no_fuse, same_itself}
@@ -105,16 +106,13 @@ module _ (login : NewLogin) (s : StoreFacts) (known : Bool) (known_is : (u : Sta
   abbrev before_login : Seen
   before_login = seen (Up s) c count
 
-  up_here : (w : World) → Matches w before_login → w.store.up ≡ true
-  up_here w m = up_is s w.store ready.0 m.stands.stands
-
   -- it comes in
   module _ (granted : (w : World) → IsCrewOf w c → knows_user w.store login.user ≡ known → login_refusal w login.terminal login.user login.time ≡ None) where
     sits_does : (w : World) → Matches w before_login → DoesLine (login_of_line login) w (Up s) (Up s) (login_text count c.next_job login)
     sits_does w m = record {
       outcome = Plain;
       next = comes login w;
-      gives = gives_login login w (comes login w) (up_here w m) (sym (ap (λ (o : Option (List ℕ)). job_line o (comes login w) w) (granted w m.crew (known_is w.store m.stands.stands))));
+      gives = gives_login login w (comes login w) (up_is s w.store ready.0 m.stands.stands) (sym (ap (λ (o : Option (List ℕ)). job_line o (comes login w) w) (granted w m.crew (known_is w.store m.stands.stands))));
       counted = event_none (devices_in (Up s));
       stands = m.stands;
       text = append_assoc w.text (operator_line w.count (job_text w.next_job (terminal_name login.terminal ++ codes " IN")))
@@ -126,12 +124,7 @@ module _ (login : NewLogin) (s : StoreFacts) (known : Bool) (known_is : (u : Sta
     unfolding sits_does
     sits_matches w m = record {
       stands = m.stands;
-      crew = record {
-        jobs = ap (λ (js : List JobState). js ++ terminal_job w.next_job login.terminal login.user login.time ∷ []) m.crew.jobs
-            ∙ ap (λ (n : ℕ). c.jobs ++ terminal_job n login.terminal login.user login.time ∷ []) m.crew.next_job;
-        accounts = m.crew.accounts;
-        next_job = ap (λ (n : ℕ). n + 1) m.crew.next_job;
-      };
+      crew = record { jobs = jobs_more (λ n. terminal_job n login.terminal login.user login.time) w c m.crew; accounts = m.crew.accounts; next_job = ap (λ (n : ℕ). n + 1) m.crew.next_job };
       count = m.count;
     }
 
@@ -139,7 +132,7 @@ module _ (login : NewLogin) (s : StoreFacts) (known : Bool) (known_is : (u : Sta
   away_gives : (text : List ℕ) → ((w : World) → IsCrewOf w c → knows_user w.store login.user ≡ known → login_refusal w login.terminal login.user login.time ≡ Some text) → (w : World) → Matches w before_login
       → LineGives Plain (login_of_line login) w (refusal text w)
   away_gives text refuses w m =
-      gives_login login w (refusal text w) (up_here w m) (sym (ap (λ (o : Option (List ℕ)). job_line o (comes login w) w) (refuses w m.crew (known_is w.store m.stands.stands))))
+      gives_login login w (refusal text w) (up_is s w.store ready.0 m.stands.stands) (sym (ap (λ (o : Option (List ℕ)). job_line o (comes login w) w) (refuses w m.crew (known_is w.store m.stands.stands))))
 
   abbrev DidLogin : Option Failure → CrewState → Option (List ℕ) → Option (List ℕ) → ℕ → ℕ → Type 0
   DidLogin failure c' before after faults faults' = DidLine (login_of_line login) before_login failure (seen (Up s) c' count) before after faults faults'
@@ -158,10 +151,9 @@ module _ (login : NewLogin) (s : StoreFacts) (known : Bool) (known_is : (u : Sta
 -- where the system knows the user or doesn't, or is down
 pub login_on : (login : NewLogin) (f : SystemFacts) (known : Bool) → KnowsIn login.user f (Some known) → (c : CrewState) → IsReady f c → (count : ℕ) (failure : Option Failure) (c' : CrewState) (before after : Option (List ℕ)) (faults faults' : ℕ)
     → SeatsJob known login count c failure c' before after faults faults' → DidLine (login_of_line login) (seen f c count) failure (seen f c' count) before after faults faults'
-login_on login (Up s) known knows c ready count failure c' before after faults faults' seats =
-    let (it, is, known_is) = knows in
-    seated_line login s known (λ u here. known_is u here ∙ sym (same_Some known it is)) c ready count failure c' before after faults faults' seats
-login_on login (Down d) known is c ready count failure c' before after faults faults' seats = let never : ⊥ = cc in absurd never
+login_on login f known knows c ready count failure c' before after faults faults' seats =
+    known_up (λ g. IsReady g c → DidLine (login_of_line login) (seen g c count) failure (seen g c' count) before after faults faults') login.user f known knows
+    (λ s known_is there. seated_line login s known known_is c there count failure c' before after faults faults' seats) ready
 
 -- a line that a system that is down refuses
 down_line : (what : Operator) → disc_arms what ≡ [] → tape_arms what ≡ [] → (d : Devices) (c : CrewState) (count : ℕ) → ((w : World) → w.store.up ≡ false → LineGives Plain what w (line_refused NotStarted w)) → IsReady (Down d) c

@@ -39,6 +39,10 @@ use Rattle.g_operator.proofs.LineLemmas.{FaultDone, none_armed, refused_line, te
 use Rattle.g_operator.proofs.LabelLemmas.{no_fuse}
 use Rattle.g_operator.proofs.PutLemmas.{puts_grown, told_grown}
 
+-- want of memory is an outcome of no device
+pub starved_told : {A : Type 0} (fault : StoreFault) → fault ≡ NoMemory → OutcomeTold {A = A} Plain (Err fault)
+starved_told fault is = record { told = tt; disc_read = λ e. let no : ⊥ = cc in absurd no; tape_read = λ e. let no : ⊥ = cc in absurd no; cut = λ e. let no : ⊥ = cc in absurd no }
+
 -- the state of a store that is up is up
 pub up_is : (s : StoreFacts) (u : State) → s.spent ≡ false → StandsForState s u → u.up ≡ true
 up_is s u unspent here = ap (λ (t : State). t.up) (seen_of s u unspent here).state_is
@@ -191,12 +195,7 @@ module _ {A : Type 0} (what : Operator) (by : State → Holding → Outcome → 
     nothing_done : fault ≡ NoMemory → (w : World) → Matches w before → EventCounted Plain [] [] (devices_in (Up old)) (devices_in system) × StandsAs system w.store
     nothing_done is w m =
         let here = m.stands in
-        let told : OutcomeTold {A = A} Plain (Err fault) = record {
-          told = tt;
-          disc_read = λ e. let no : ⊥ = cc in absurd no;
-          tape_read = λ e. let no : ⊥ = cc in absurd no;
-          cut = λ e. let no : ⊥ = cc in absurd no;
-        } in (
+        let told : OutcomeTold {A = A} Plain (Err fault) = starved_told fault is in (
           subst (λ (d : Devices). EventCounted Plain [] [] (devices_in (Up old)) d) (sym (same_devices fault new)) (cause.still told),
           stands_by fault refl w m w.store (λ e. let no : ⊥ = cc in absurd no)
               (subst (λ (f : StoreFault). StepsBy by w.store old (Err f) new) is (event.step here.told here.belongs w.store here.stands)),

@@ -1,10 +1,10 @@
-use Rattle.std.proofs.Common.{◌≡◌, refl, sym, subst}
+use Rattle.std.proofs.Common.{◌≡◌, refl, subst}
 use Rattle.g_operator.specs.BeginningAnew.{beside_new}
 use Rattle.g_operator.specs.Arming.{tape_armed}
-use Rattle.g_operator.specs.Parts.{IsReady, Seen}
+use Rattle.g_operator.specs.Parts.{Seen}
 use Rattle.g_operator.specs.System.{devices_in, facts_of}
 use Rattle.g_operator.proofs.AnewLemmas.{ready_beside, same_aside}
-use Rattle.g_operator.proofs.DayLemmas.{same_line}
+use Rattle.g_operator.proofs.DayLemmas.{ready_inside, same_line}
 use Rattle.g_operator.proofs.StopLemmas.{tape_stop}
 use Rattle.g_operator.proofs.arming.stop_tape_line.Goals as goal
 
@@ -16,11 +16,11 @@ pub returns-clause-line : goal.returns-clause-line
 returns-clause-line g c =
     same_line c.day.view_is refl
     (tape_stop c.args.k (facts_of g.D.Disc.state g.T.Tapes.rack c.day.inside.system) (facts_of g.D.Disc.state g.T.Tapes.rack c.arm_tape.new.system) c.day.inside.crew c.day.inside.count c.arm_tape.ensures.armed
-    (subst (λ (s : Seen). IsReady s.system s.crew) (sym c.day.view_is) c.requires.ready) c.say-failure.result _ _ _ _ c.say-failure.ensures)
+    (ready_inside c.day.view_is c.requires.ready) c.say-failure.result _ _ _ _ c.say-failure.ensures)
 
 pub returns-clause-anew : goal.returns-clause-anew
 returns-clause-anew g c = same_aside c.day.view_is (record {
   line = tape_stop c.args.k (beside_new (facts_of g.D.Disc.state g.T.Tapes.rack c.day.inside.system)) (beside_new (facts_of g.D.Disc.state g.T.Tapes.rack c.arm_tape.new.system)) c.day.inside.crew c.day.inside.count c.arm_tape.ensures.aside
-      (ready_beside (facts_of g.D.Disc.state g.T.Tapes.rack c.day.inside.system) c.day.inside.crew (subst (λ (s : Seen). IsReady s.system s.crew) (sym c.day.view_is) c.requires.ready)) c.say-failure.result _ _ _ _ c.say-failure.ensures;
+      (ready_beside (facts_of g.D.Disc.state g.T.Tapes.rack c.day.inside.system) c.day.inside.crew (ready_inside c.day.view_is c.requires.ready)) c.say-failure.result _ _ _ _ c.say-failure.ensures;
   blank = c.arm_tape.ensures.blank;
 })
