@@ -1,5 +1,5 @@
 -- A turn of the code is the turn that is defined.
-use Rattle.std.proofs.Common.{◌≡◌, ◌↔◌, ℕ, ◌+◌, ◌≤◌, Bool, false, List, length, Option, Some, None, Result, Ok, Err, IfOk, IfSome, OnErr, is_some, refl, sym, ap, ◌∙◌, subst, arith}
+use Rattle.std.proofs.Common.{◌≡◌, ◌↔◌, ℕ, ◌+◌, ◌≤◌, Bool, false, List, length, Option, Some, None, Result, Ok, Err, IfOk, IfSome, OnErr, OnOk, is_some, refl, sym, ap, ◌∙◌, subst, arith}
 use Rattle.std.proofs.lemmas.Bool.{false≢true}
 use Rattle.std.specs.Fn.{Shared}
 use denote.Ref.{Bor}
@@ -29,9 +29,14 @@ use Rattle.g_job.proofs.EndingLemmas.{clear_rules}
 use Rattle.g_job.proofs.KeepLemmas.{file_of, rules_kept}
 use Rattle.g_job.proofs.WellLemmas.{turn_keeps, turn_ran}
 use Rattle.g_plain.proofs.RanByLemmas.{ran_by}
-use Rattle.g_plain.specs.Programs.{Answer}
+use Rattle.g_plain.specs.Programs.{Answer, RanInPart}
 use Rattle.g_plain.specs.Runs.{RanBy}
 use Rattle.g_plain.specs.declared.calls.StoreCall.{StoreCall}
+
+-- two that are so where it went well
+pub both_ok : {T E A B C : Type 0} (r : Result T E) → (A → B → C) → OnOk r A → OnOk r B → OnOk r C
+both_ok (Ok x) follows a b = follows a b
+both_ok (Err e) follows a b = tt
 
 -- what a job waits with is within what a turn begins with
 few_of : (monitor : List ℕ) (p : Option Pending) → IfSome p (IsPending monitor) → IfSome p FewBlocks
@@ -78,6 +83,14 @@ module _ {S : Type 0} (answers : S → List ℕ → StoreCall → Answer → S �
       subst (λ (n : ℕ). RanWell answers is_spent can_wait j.user old (begins n j.user j.pending (begin j)) w new) er
       (subst (λ (p : Option Pending). RanWell answers is_spent can_wait j.user old (begins room j.user p (begin j)) w new) ep
       (subst (λ (x : Work). RanWell answers is_spent can_wait j.user old (begins room j.user pending x) w new) es r))
+
+  -- and where memory was wanting on its way
+  pub begun_part : (j : JobState) (room : ℕ) (pending : Option Pending) (start : Work) (old new : S) → room ≡ room_of j → pending ≡ j.pending → start ≡ begin j
+      → RanInPart answers j.user old (begins room j.user pending start) new → RanInPart answers j.user old (turn_work j) new
+  begun_part j room pending start old new er ep es r =
+      subst (λ (n : ℕ). RanInPart answers j.user old (begins n j.user j.pending (begin j)) new) er
+      (subst (λ (p : Option Pending). RanInPart answers j.user old (begins room j.user p (begin j)) new) ep
+      (subst (λ (x : Work). RanInPart answers j.user old (begins room j.user pending x) new) es r))
 
   -- what was told on its way, and why it is over
   pub told : (j : JobState) (old : S) (w : Work) (new : S) → RanWell answers is_spent can_wait j.user old (turn_work j) w new

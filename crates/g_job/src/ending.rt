@@ -20,11 +20,13 @@ use g_budget::{Charge, Tariff, Usage};
 use g_monitor::JobLine;
 use g_name::Text;
 use g_turn::{Stop, Work};
+use std::alloc::Global;
 
 impl Parts {
     /// Ends a turn by what its work has made, which lies where it was made.
     pub(crate) fn end<F: Fn(&Usage) -> Charge>(
         &mut self,
+        alloc: Global,
         tariff: &Tariff<F>,
     ) -> Result<Turn, NoMemory>
         requires open { self.old.over ≡ false }
@@ -40,12 +42,13 @@ impl Parts {
         ensures ready { self.new.ready ≡ is_ready (job_of self.new) }
     {
         let stop = self.work.stop();
-        self.end_by(tariff, stop)
+        self.end_by(alloc, tariff, stop)
     }
 
     /// Ends a turn whose work is over for this, or isn't.
     fn end_by<F: Fn(&Usage) -> Charge>(
         &mut self,
+        alloc: Global,
         tariff: &Tariff<F>,
         stop: Option<Stop>,
     ) -> Result<Turn, NoMemory>
@@ -64,7 +67,7 @@ impl Parts {
     {
         match stop {
             Some(Stop::Waits(serial)) => {
-                self.wait_for(serial);
+                self.wait_for(alloc, serial);
                 Ok(Turn::Wants { serial })
             }
             Some(Stop::Broken) => {
@@ -109,7 +112,7 @@ impl Parts {
     }
 
     /// The job waits for the reel of this serial, and goes on with what its work kept for that.
-    fn wait_for(&mut self, serial: u32)
+    fn wait_for(&mut self, alloc: Global, serial: u32)
         requires { IsWaiting (job_of self.old) self.old.work.again }
         ensures job { job_of self.new ≡ record (job_of self.old) {
           pending = self.old.work.again;
@@ -117,7 +120,7 @@ impl Parts {
         } }
         ensures ready { self.new.ready ≡ is_ready (job_of self.new) }
     {
-        self.again = self.work.take_again();
+        self.again = self.work.take_again(alloc);
         self.wants = Some(serial);
         self.ready = true;
     }

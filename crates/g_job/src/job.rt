@@ -133,7 +133,7 @@ impl Job {
         ensures waited { (s : ℕ) → result ≡ Ok (Turn.Wants s) → ToldAsBefore self.old self.new }
     {
         match self.parts.make(alloc, store) {
-            Ok(()) => self.parts.end(tariff),
+            Ok(()) => self.parts.end(alloc, tariff),
             Err(NoMemory) => Err(NoMemory),
         }
     }

@@ -10,14 +10,14 @@ ghost use Rattle.g_plain.specs.Programs.{RanInPart};
 use crate::parts::Parts;
 use g_base::NoMemory;
 use g_plain::Filestore;
-use g_turn::{Asker, Suspended};
+use g_turn::Asker;
 use std::alloc::Global;
 
 /// The most bytes of a monitoring file, before its last line.
 const MOST: usize = 1_048_576;
 
 impl Parts {
-    /// Does the work of a turn, which takes what waited.
+    /// Does the work of a turn, which takes what waited. Mostly nothing did.
     pub(crate) fn make<S: Filestore>(
         &mut self,
         alloc: Global,
@@ -35,8 +35,10 @@ impl Parts {
             (RanInPart S.answers self.old.user store.old (turn_work (job_of self.old)) store.new) }
         ensures same_waits { (s : ℕ) → S.can_wait store.new s ≡ S.can_wait store.old s }
     {
+        if self.again.is_some() {
+            return self.make_again(alloc, store);
+        }
         let room = MOST - self.monitor.as_slice().len();
-        let again = take_again(&mut self.again);
         self.wants = None;
         self.work.begin(alloc);
         let asker = Asker {
@@ -44,7 +46,7 @@ impl Parts {
             who: &self.user,
             room,
         };
-        match self.work.go(store, &asker, again) {
+        match self.work.run_or_take(store, &asker) {
             Ok(()) => {
                 self.ready = self.work.ready();
                 Ok(())
@@ -55,12 +57,34 @@ impl Parts {
             }
         }
     }
-}
 
-/// What the job waits with, which it does no more. It is large, and mostly nothing: so it is moved only where it is there.
-fn take_again(again: &mut Option<Suspended>) -> Option<Suspended>
-    ensures value { result ≡ again.old }
-    ensures none { again.new ≡ None }
-{
-    if again.is_some() { again.take() } else { None }
+    /// Does the work of a turn that goes on with what waited.
+    // What waits is large, and a turn seldom goes on with it: a function of its own keeps its room out of each.
+    #[inline(never)]
+    fn make_again<S: Filestore>(&mut self, alloc: Global, store: &mut S) -> Result<(), NoMemory>
+        requires running { S.is_spent store.old ≡ false }
+        requires open { self.old.over ≡ false }
+        requires rules { IsJob (job_of self.old) }
+        ensures ok { OnOk result (Makes S.answers S.is_spent S.can_wait
+            (job_of self.old) store.old self.new.work store.new) }
+        ensures job { job_of self.new
+            ≡ record (job_of self.old) { desk = self.new.work.desk; pending = None; wants = None } }
+        ensures ready { self.new.ready ≡ is_ready (job_of self.new) }
+        ensures err { OnErr result
+            (RanInPart S.answers self.old.user store.old (turn_work (job_of self.old)) store.new) }
+        ensures same_waits { (s : ℕ) → S.can_wait store.new s ≡ S.can_wait store.old s }
+    {
+        let room = MOST - self.monitor.as_slice().len();
+        let again = self.again.take();
+        self.wants = None;
+        self.work.begin(alloc);
+        let asker = Asker {
+            alloc,
+            who: &self.user,
+            room,
+        };
+        let done = self.work.go(store, &asker, again);
+        self.ready = self.work.ready();
+        done
+    }
 }

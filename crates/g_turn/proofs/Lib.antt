@@ -2,6 +2,7 @@ pub mod BoundLemmas
 pub mod CommandBounds
 pub mod CommandLemmas
 pub mod DocumentLemmas
+pub mod GotoLemmas
 pub mod HonestLemmas
 pub mod KeptLemmas
 pub mod OrderLemmas

@@ -4,6 +4,7 @@ use Rattle.std.proofs.lemmas.Bool.{false≢true}
 use Rattle.g_base.specs.declared.memory.NoMemory.{NoMemory}
 use Rattle.g_turn.specs.Commands.{done_if}
 use Rattle.g_turn.specs.LineWork.{FiredAs, IsAgain, IsReady}
+use Rattle.g_turn.specs.Lines.{fires, may_fire}
 use Rattle.g_turn.specs.Releases.{end_job}
 use Rattle.g_turn.specs.Runs.{goes_on}
 use Rattle.g_turn.specs.Outcomes.{say, stopped, with_levels}
@@ -18,7 +19,7 @@ use Rattle.g_macro.specs.Replies.{Fires}
 use Rattle.g_macro.specs.declared.entry.Entry.{Entry}
 use Rattle.g_macro.specs.declared.outcome.Outcome.{Outcome}
 use Rattle.g_plain.proofs.AskLemmas.{RanInPart-none}
-use Rattle.g_plain.specs.Programs.{Answer, Asks, RanInPart}
+use Rattle.g_plain.specs.Programs.{Answer, Asks, Gives, RanInPart}
 use Rattle.g_plain.specs.declared.calls.StoreCall.{StoreCall}
 use Rattle.std.specs.Prelude.{nat_lt, if◌then◌else◌, ◌++◌, ◌+◌}
 
@@ -26,6 +27,11 @@ use Rattle.std.specs.Prelude.{nat_lt, if◌then◌else◌, ◌++◌, ◌+◌}
 pub on_err : {T E P : Type 0} (r : Result T E) → P → OnErr r P
 on_err (Ok x) p = tt
 on_err (Err e) p = p
+
+-- where it isn't said that there is something, there is nothing
+pub nothing : {A : Type 0} (o : Option A) → is_some o ≡ false → o ≡ None
+nothing None is = refl
+nothing (Some x) is = absurd (false≢true (sym is))
 
 -- there are so many levels, also with another current one, and with a macro's on top
 abbrev AtLeast : ℕ → Stack → Type 0
@@ -54,6 +60,15 @@ module _ {S : Type 0} (answers : S → List ℕ → StoreCall → Answer → S �
   said_ready room by said w v old new ready level r =
       let k : Keeps w.again (AtLeast 1) v = well_gives answers is_spent can_wait who (Keeps w.again (AtLeast 1)) (done_if room who by said w) old v new (said_keeps w.again (AtLeast 1) room (on_change 1) (on_call 1) who by said w (refl, level)) r in
       record { command = subst (λ (a : Option Pending). IfSome a IsAgain) (sym k.0) ready.command; level = λ there. k.1 }
+
+  -- where no WHENEVER fires nothing is done
+  pub none_fires : (room : ℕ) (w : Work) (s : S) → fired w.desk.outcome w.desk.levels.levels ≡ None → RanWell answers is_spent can_wait who s (may_fire room who w) w s
+  none_fires room w s none =
+      subst (λ (o : Option (List ℕ × List Level)). RanWell answers is_spent can_wait who s (if w.sets then fires room who o w else Gives w) w s) (sym none) (by w.sets)
+    where
+      by : (b : Bool) → RanWell answers is_spent can_wait who s (if b then Gives w else Gives w) w s
+      by true = (refl, refl)
+      by false = (refl, refl)
 
   -- behind the release of all units at the job's end
   pub end_ready : (room : ℕ) (w v : Work) (old new : S) → w.again ≡ None → RanWell answers is_spent can_wait who old (end_job room w) v new → IsReady v

@@ -38,6 +38,11 @@ abbrev pub IsReadWell : Result Line LangFault → Type 0
 IsReadWell (Ok line) = IfSome (command_said line.command) IsSpoken
 IsReadWell (Err fault) = Unit {0}
 
+-- what was read says that the level goes on at this label
+abbrev pub SaysGoto : Result Line LangFault → List ℕ → Type 0
+SaysGoto (Ok line) label = command_said line.command ≡ Some (SaidGoto label)
+SaysGoto (Err fault) label = ⊥
+
 -- a command that stands behind no condition
 abbrev pub IsBare : Command → Type 0
 IsBare Blank = ⊥

@@ -1,6 +1,6 @@
 -- What the values of the code are: why a turn's work is over, what a turn that waits is gone on with, what a file's bytes
 -- are fetched for, and what an order came to.
-use Rattle.std.specs.Prelude.{Bool, None, Option, Some, false, true, ◌≡◌}
+use Rattle.std.specs.Prelude.{Bool, List, None, Option, Some, false, option_map, true, ℕ, ◌≡◌}
 use Rattle.g_turn.specs.Runs.{Ends, Goes, Order, behind_order}
 use Rattle.g_turn.specs.State.{AgainCommand, AgainLine, Broken, Done, Full, Pending, Stop, Waits, Work}
 use Rattle.g_turn.specs.Uses.{ToAppend, ToAssemble, ToAssign, ToList, ToLoad, ToPut, Use}
@@ -17,6 +17,11 @@ use Rattle.g_peri.specs.declared.ordered.OrderEvent.{OrderEvent}
 abbrev pub pending_of : Suspended → Pending
 pending_of (again.Line text) = AgainLine text
 pending_of (again.Command text orders blocks command) = AgainCommand text orders blocks command
+
+-- the last line, where that is said, else what was kept
+abbrev pub again_of : Bool → List ℕ → Option Suspended → Option Pending
+again_of true line kept = Some (AgainLine line)
+again_of false line kept = option_map pending_of kept
 
 abbrev pub stop_of : code.Stop → Stop
 stop_of stop.Full = Full

@@ -144,7 +144,12 @@ impl Work {
     }
 
     /// GOTO: the level goes on at its first line with the label.
-    fn go_to(&mut self, alloc: Global, room: usize, label: &Label) -> Result<(), NoMemory>
+    pub(crate) fn go_to(
+        &mut self,
+        alloc: Global,
+        room: usize,
+        label: &Label,
+    ) -> Result<(), NoMemory>
         requires level { 0 < length self.old.desk.levels.levels }
         ensures ok { OnOk result (self.new ≡ commands.gone room
             (line_of_label label.now (current self.old.desk.levels).lines) self.old) }

@@ -1,12 +1,14 @@
 //! One line, and the WHENEVER behind it.
-ghost use Rattle.std.specs.Prelude.{◌≡◌, ◌≤◌, ◌+◌, ◌<◌, ℕ, false, length, IfOk, OnErr, OnOk};
+ghost use Rattle.std.specs.Prelude.{◌≡◌, ◌≤◌, ◌+◌, ◌<◌, ℕ, false, length, IfOk, IfSome, OnErr, OnOk};
 ghost use Rattle.g_turn.specs.LineWork.{FiredAs, IsReady};
 ghost use Rattle.g_turn.specs.Lines as lines;
-ghost use Rattle.g_turn.specs.LineMeaning.{IsReadWell, IsSpoken, is_wanting, place_of, read_as};
+ghost use Rattle.g_turn.specs.Commands.{gone};
+ghost use Rattle.g_turn.specs.LineMeaning.{IsReadWell, IsSpoken, SaysGoto, is_wanting, place_of, read_as};
 ghost use Rattle.g_turn.specs.Outcomes as said;
 ghost use Rattle.g_turn.specs.Steps.{RanWell};
 ghost use Rattle.g_lang.specs.LineReader.{reading};
 ghost use Rattle.g_lang.specs.Lines.{IsCommandText};
+ghost use Rattle.g_macro.specs.Levels.{current, line_of_label};
 ghost use Rattle.g_monitor.specs.JobLines.{marked};
 ghost use Rattle.g_monitor.specs.declared.errors.CommandError.TheVariants as errors;
 ghost use Rattle.g_monitor.specs.declared.job_lines.Mark.TheVariants as mark;
@@ -16,11 +18,12 @@ use crate::asker::Asker;
 use crate::suspended::Suspended;
 use crate::work::Work;
 use g_base::NoMemory;
-use g_lang::{LangFault, Line, parse_line, trimmed};
+use g_lang::{Command, Label, LangFault, Line, parse_line, trimmed};
 use g_monitor::{CommandError, Mark};
 use g_name::Text;
 use g_plain::Filestore;
 use std::alloc::Global;
+use std::mem;
 
 impl Work {
     /// Does a line that was taken: its echo, its command, and the WHENEVER behind it.
@@ -48,7 +51,36 @@ impl Work {
         if self.is_over() {
             return Ok(());
         }
+        // A line is large: so the label of a GOTO is read where it lies.
+        if let Some(label) = label_to(&read) {
+            return self.goes(store, asker, label);
+        }
         self.behind_echo(store, asker, read)
+    }
+
+    /// Goes to a label, and does the WHENEVER behind that.
+    fn goes<S: Filestore>(
+        &mut self,
+        store: &mut S,
+        asker: &Asker<'_>,
+        label: &Label,
+    ) -> Result<(), NoMemory>
+        requires running { S.is_spent store.old ≡ false }
+        requires few { self.old.blocks ≤ 2048 }
+        requires level { 0 < length self.old.desk.levels.levels }
+        requires ready { IsReady self.old }
+        ensures ok { OnOk result (RanWell S.answers S.is_spent S.can_wait asker.now.who.now store.old
+            (and_then said.is_over (Gives (gone asker.now.room (line_of_label label.now (current self.old.desk.levels).lines) self.old)) (lines.may_fire asker.now.room asker.now.who.now)) self.new store.new) }
+        ensures err { OnErr result (RanInPart S.answers asker.now.who.now store.old
+            (and_then said.is_over (Gives (gone asker.now.room (line_of_label label.now (current self.old.desk.levels).lines) self.old)) (lines.may_fire asker.now.room asker.now.who.now)) store.new) }
+        ensures same_waits { (s : ℕ) → S.can_wait store.new s ≡ S.can_wait store.old s }
+        ensures ready { OnOk result (IsReady self.new) }
+    {
+        self.go_to(asker.alloc, asker.room, label)?;
+        if self.is_over() {
+            return Ok(());
+        }
+        self.may_fire(store, asker)
     }
 
     /// Says the echo of a line; where its command waits, the turn is gone on with at this line.
@@ -60,7 +92,9 @@ impl Work {
         ensures ready { OnOk result (IsReady self.new) }
     {
         self.say_marked(alloc, room, Mark::Taken, trimmed(text.as_slice()))?;
-        self.again = Some(Suspended::Line(text));
+        self.line_room = mem::replace(&mut self.line, Text::new(alloc));
+        self.line = text;
+        self.waits_with_line = true;
         Ok(())
     }
 
@@ -192,6 +226,9 @@ impl Work {
         if !self.sets {
             return Ok(());
         }
+        if !self.levels.have_entries() {
+            return Ok(());
+        }
         match self.take_fired(asker.alloc)? {
             Some(text) => self.fires(store, asker, text),
             None => Ok(()),
@@ -267,7 +304,8 @@ impl Work {
         ensures ok { OnOk result (self.new ≡ lines.to_go_on command self.old) }
     {
         let text = Text::from_slice(alloc, self.text.as_slice())?;
-        self.again = Some(Suspended::Command {
+        self.waits_with_line = false;
+        self.kept = Some(Suspended::Command {
             text,
             orders: self.orders,
             blocks: self.blocks,
@@ -309,6 +347,19 @@ fn read_line(alloc: Global, text: &[u8]) -> Result<Line, LangFault>
     ensures well { IsReadWell result }
 {
     parse_line(alloc, text)
+}
+
+/// The label at which the level goes on by a line that was read, if it is a GOTO that stands behind no condition.
+fn label_to(read: &Result<Line, LangFault>) -> Option<&Label>
+    ensures { IfSome result (λ label. SaysGoto read.now label.now) }
+{
+    match read {
+        Ok(line) => match &line.command {
+            Command::Goto(label) => Some(label),
+            _ => None,
+        },
+        Err(_) => None,
+    }
 }
 
 /// Whether a line wasn't read for want of memory.

@@ -10,6 +10,8 @@ use crate::work::Work;
 use g_base::NoMemory;
 use g_monitor::{JobLine, push_job_line};
 use g_name::Text;
+use std::alloc::Global;
+use std::mem;
 
 impl Work {
     /// What the turn adds to the job's monitoring file.
@@ -41,11 +43,17 @@ impl Work {
     }
 
     /// Takes what the turn is gone on with, where it waits.
-    pub fn take_again(&mut self) -> Option<Suspended>
+    pub fn take_again(&mut self, alloc: Global) -> Option<Suspended>
         ensures value { option_map pending_of result ≡ self.old.again }
         ensures none { self.new ≡ record self.old { again = None } }
     {
-        self.again.take()
+        let kept = self.kept.take();
+        if !self.waits_with_line {
+            return kept;
+        }
+        self.waits_with_line = false;
+        let line = mem::replace(&mut self.line, Text::new(alloc));
+        Some(Suspended::Line(line))
     }
 
     /// Puts a job's last line with its byte 10 behind what the turn adds to the monitoring file, whatever room that has. Where

@@ -49,13 +49,15 @@ impl Work {
         self.stop = None;
     }
 
-    /// Nothing is gone on with any more. The room of a line's text stays, for the next line.
+    /// Nothing is gone on with any more. Mostly nothing but a line was, whose text stays where it is.
     fn drop_again(&mut self)
         ensures { self.new ≡ record self.old { again = None } }
     {
-        if let Some(Suspended::Line(text)) = self.again.take() {
-            self.line_room = text;
+        self.waits_with_line = false;
+        if !self.kept.is_some() {
+            return;
         }
+        self.kept = None;
     }
 
     /// Takes back a text that was handed over, for its room alone: the next turn begins with it, and takes memory only
@@ -117,8 +119,9 @@ impl Work {
         self.blocks = blocks;
     }
 
-    /// Goes on with a run of the program that isn't over, else takes a line.
-    fn run_or_take<S: Filestore>(
+    /// Does the same where nothing waits: goes on with a run of the program that isn't over, else takes the next line. What
+    /// waits is large, so a turn without it doesn't pay for its moves.
+    pub fn run_or_take<S: Filestore>(
         &mut self,
         store: &mut S,
         asker: &Asker<'_>,

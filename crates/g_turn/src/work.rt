@@ -24,9 +24,12 @@ pub struct Work {
     pub(crate) blocks: u32,
     /// The turn's command set the outcome.
     pub(crate) sets: bool,
-    pub(crate) again: Option<Suspended>,
+    /// The line that was taken last. The turn is gone on with it, where it waits and that is said; else with what is kept.
+    pub(crate) line: Text,
+    pub(crate) waits_with_line: bool,
+    pub(crate) kept: Option<Suspended>,
     pub(crate) stop: Option<Stop>,
-    /// The room of the last line's text, in which the next one is made. Contracts don't see it.
+    /// The room of the text of the line before, in which the next one is made. Contracts don't see it.
     pub(crate) line_room: Text,
 }
 
@@ -35,7 +38,7 @@ impl Model for Work {
     ghost use Rattle.std.specs.Coded.{codes};
     ghost use Rattle.g_name.specs.contracts.path.Path as path;
     ghost use Rattle.g_turn.specs.State as state;
-    ghost use Rattle.g_turn.specs.Values.{pending_of, stop_of};
+    ghost use Rattle.g_turn.specs.Values.{again_of, stop_of};
 
     ghost Value = { state.Work };
 
@@ -54,7 +57,7 @@ impl Model for Work {
       orders = w.orders;
       blocks = w.blocks;
       sets = w.sets;
-      again = option_map pending_of w.again;
+      again = again_of w.waits_with_line w.line w.kept;
       stop = option_map stop_of w.stop;
     } };
 }
@@ -96,7 +99,9 @@ impl Work {
             orders: 0,
             blocks: 0,
             sets: false,
-            again: None,
+            line: Text::new(alloc),
+            waits_with_line: false,
+            kept: None,
             stop: None,
             line_room: Text::new(alloc),
         }
