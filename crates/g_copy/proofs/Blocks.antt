@@ -1,6 +1,6 @@
 -- Texts as blocks: block i of a text, and the blocks of given numbers after a write.
-use Rattle.std.proofs.Common.{◌≡◌, ◌≢◌, ℕ, zero, suc, ◌+◌, ◌-◌, ◌*◌, ◌<◌, ◌≤◌, min, List, [], ◌∷◌, ◌++◌, length, take, drop, replicate, get_or, refl, sym, ap, ◌∙◌, inl, inr, arith}
-use Rattle.std.specs.Prelude.{All, Contains, Option, slice_get, slice_index_or, unwrap_or}
+use Rattle.std.proofs.Common.{◌≡◌, ◌≢◌, ℕ, suc, ◌+◌, ◌-◌, ◌*◌, ◌<◌, ◌≤◌, min, List, [], ◌∷◌, ◌++◌, length, take, drop, replicate, get_or, refl, sym, ap, ◌∙◌, inl, inr, arith}
+use Rattle.std.specs.Prelude.{All, Contains, Option, slice_index_or, unwrap_or}
 use Rattle.std.specs.List.{flat_map}
 use Rattle.std.proofs.Math.ListN.{set}
 use Rattle.std.proofs.Math.Seq.{take-append-add, drop-append-add}
@@ -70,14 +70,6 @@ block-padded bytes n i within fits =
     ∙ sym (
     ap (take 512) (drop_padded bytes (512 * n - length bytes) (512 * i))
     ∙ take_padded (drop (512 * i) bytes) (512 * n - length bytes - (512 * i - length bytes)) (omega arith))
-
--- a write leaves every other block
-pub slice_get-set_other : {X : Type 0} (xs : List X) (i k : ℕ) (v : X) → k ≢ i → slice_get (set xs i v) k ≡ slice_get xs k
-slice_get-set_other [] i k v other = refl
-slice_get-set_other (x ∷ xs) zero zero v other = absurd (other refl)
-slice_get-set_other (x ∷ xs) zero (suc k) v other = refl
-slice_get-set_other (x ∷ xs) (suc i) zero v other = refl
-slice_get-set_other (x ∷ xs) (suc i) (suc k) v other = slice_get-set_other xs i k v (λ same. other (ap suc same))
 
 -- a write into a block of another number leaves what stands at these
 pub blocks_at-set_other : (places : List ℕ) (blocks : List (List ℕ)) (k : ℕ) (v : List ℕ) → All (λ p. p ≢ k) places → blocks_at places (set blocks k v) ≡ blocks_at places blocks

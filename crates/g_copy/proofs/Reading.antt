@@ -1,10 +1,10 @@
 -- Blocks that are read one behind the other from those of given numbers.
-use Rattle.std.proofs.Common.{◌≡◌, ℕ, ◌+◌, ◌-◌, ◌*◌, ◌<◌, ◌≤◌, min, List, [], ◌++◌, length, take, get_or, Some, Ok, Err, refl, subst, sym, ap, ◌∙◌, arith, length-append}
+use Rattle.std.proofs.Common.{◌≡◌, ℕ, ◌+◌, ◌-◌, ◌*◌, ◌<◌, ◌≤◌, min, List, [], ◌++◌, length, take, get_or, Some, Ok, Err, sym, ap, ◌∙◌, arith, length-append}
 use Rattle.std.specs.Prelude.{slice_index_or}
 use Rattle.std.proofs.lemmas.List.{length-take, take_all, take_min}
 use Rattle.std.proofs.lemmas.Option.{get_or_from_slice_get}
-use Rattle.g_base.specs.Counts.{Rose}
 use Rattle.g_disc.specs.Disc.{DiscState, Reads, ReadsByCause}
+use Rattle.g_disc.proofs.CallLemmas.{ReadsByCause-Reads_err, ReadsByCause-Reads_ok, ReadsByCause-for, ReadsByCause-none, ReadsByCause-then}
 use Rattle.g_copy.specs.Copy.{blocks_at, bytes_at}
 use Rattle.g_copy.proofs.Blocks.{take-append, blocks_at-more}
 
@@ -18,49 +18,18 @@ pub record HasRead (n : ℕ) (places : List ℕ) (len : ℕ) (bytes : List ℕ) 
 pub has_read_none : (places : List ℕ) (len : ℕ) (s : DiscState) → HasRead 0 places len [] s s
 unfolding blocks_at
 has_read_none places len s = record {
-  state = record { held = refl; size = refl; write_faults = refl; writes = refl; fuse = refl; arms = refl; kept = λ none. refl; rose = λ never. absurd never };
+  state = ReadsByCause-none s (λ never. never);
   long = omega arith;
   text = λ b told. sym (take_all len [] (omega arith));
 }
 
--- one read more
-reads_then : {T E : Type 0} (k : ℕ) (into : List ℕ) (before mid after : DiscState) (x : T) → ReadsByCause ⊥ before mid → Reads {T = T} {E = E} k into mid after (Ok x) → ReadsByCause ⊥ before after
-reads_then k into before mid after x was read = record {
-  held = read.held ∙ was.held;
-  size = read.size ∙ was.size;
-  write_faults = read.write_faults ∙ was.write_faults;
-  writes = read.writes ∙ was.writes;
-  fuse = read.fuse ∙ was.fuse;
-  arms = read.arms ∙ was.arms;
-  kept = λ none. read.kept ∙ was.kept none;
-  rose = λ never. absurd never;
-}
-
 -- one read more, which failed
 pub reads_failed : {T E : Type 0} (P : Type 0) (k : ℕ) (into : List ℕ) (before mid after : DiscState) (e : E) → P → ReadsByCause ⊥ before mid → Reads {T = T} {E = E} k into mid after (Err e) → ReadsByCause P before after
-reads_failed P k into before mid after e is was read = record {
-  held = read.held ∙ was.held;
-  size = read.size ∙ was.size;
-  write_faults = read.write_faults ∙ was.write_faults;
-  writes = read.writes ∙ was.writes;
-  fuse = read.fuse ∙ was.fuse;
-  arms = read.arms ∙ was.arms;
-  kept = λ none. absurd (none is);
-  rose = λ told. let same : mid.read_faults ≡ before.read_faults = was.kept (λ never. never) in subst (λ (n : ℕ). Rose n after.read_faults) same read.rose;
-}
+reads_failed P k into before mid after e is was read = ReadsByCause-then (λ never. never) was (ReadsByCause-Reads_err is read)
 
 -- no read failed, whatever the call answers
 pub reads_kept : (P : Type 0) (before after : DiscState) → (P → ⊥) → ReadsByCause ⊥ before after → ReadsByCause P before after
-reads_kept P before after none was = record {
-  held = was.held;
-  size = was.size;
-  write_faults = was.write_faults;
-  writes = was.writes;
-  fuse = was.fuse;
-  arms = was.arms;
-  kept = λ told. was.kept (λ never. never);
-  rose = λ is. absurd (none is);
-}
+reads_kept P before after none was = ReadsByCause-for (λ never. absurd never) none was
 
 -- the next block was read, as far as the text goes
 pub has_read_more : {T E : Type 0} (n : ℕ) (places : List ℕ) (len : ℕ) (bytes block : List ℕ) (before mid after : DiscState) (x : T) → n < length places → length block ≡ 512 → HasRead n places len bytes before mid
@@ -69,7 +38,7 @@ has_read_more n places len bytes block before mid after x within full was read =
     let part : ℕ = min (len - length bytes) 512 in
     let cut = length-take part block in
     record {
-      state = reads_then _ block before mid after x was.state read;
+      state = ReadsByCause-then (λ never. never) was.state (ReadsByCause-Reads_ok (λ never. never) read);
       long = let l = was.long in omega (arith, length-append bytes (take part block));
       text = λ b told.
           let at : List ℕ = blocks_at (take n places) b in

@@ -12,7 +12,8 @@ use Rattle.g_base.proofs.ToldLemmas.{Changes-none, Changes-then, Changes-with_bl
 use Rattle.g_disc.specs.Disc.{DiscState, Writes}
 use Rattle.g_disc.proofs.CallLemmas.{more_later, stands_later, then_later}
 use Rattle.g_copy.specs.Copy.{OnlyAt, Holds, blocks_at}
-use Rattle.g_copy.proofs.Blocks.{block-padded, slice_get-set_other, blocks_at-set_other, blocks_at-more}
+use Rattle.g_blocks.proofs.Marks.{slice_get-set_other}
+use Rattle.g_copy.proofs.Blocks.{block-padded, blocks_at-set_other, blocks_at-more}
 
 -- the first n of the blocks hold their part of the bytes, and nothing else changed
 pub record HoldsTo (n : ℕ) (places bytes : List ℕ) (before after : List (List ℕ)) : Type 0 where

@@ -26,21 +26,14 @@ abbrev behind_read : ℕ → ℕ → Answer → Rack → Rack
 behind_read s k (Ok u) p = changed s (read_at k) p
 behind_read s k (Err fault) p = p
 
-read_refuses : (s k : ℕ) (p p' : Rack) (r : Answer) (i : List ℕ) → Reading s k p r i p' → r ≢ Err ReadFailed → refuses_read k (reel s p.reels) ≡ refusal r
-read_refuses s k p p' (Ok u) i is not_failed = is.0
-read_refuses s k p p' (Err ReadFailed) i is not_failed = absurd (not_failed refl)
-read_refuses s k p p' (Err WriteFailed) i is not_failed = absurd is
-read_refuses s k p p' (Err NoTape) i is not_failed = is.0
-read_refuses s k p p' (Err NotMounted) i is not_failed = is.0
-read_refuses s k p p' (Err End) i is not_failed = is.0
-
-read_leaves : (s k : ℕ) (p p' : Rack) (r : Answer) (i : List ℕ) → Reading s k p r i p' → r ≢ Err ReadFailed → p' ≡ behind_read s k r p
-read_leaves s k p p' (Ok u) i is not_failed = is.2
-read_leaves s k p p' (Err ReadFailed) i is not_failed = absurd (not_failed refl)
-read_leaves s k p p' (Err WriteFailed) i is not_failed = absurd is
-read_leaves s k p p' (Err NoTape) i is not_failed = is.1
-read_leaves s k p p' (Err NotMounted) i is not_failed = is.1
-read_leaves s k p p' (Err End) i is not_failed = is.1
+-- what a read refuses, and what it leaves
+read_said : (s k : ℕ) (p p' : Rack) (r : Answer) (i : List ℕ) → Reading s k p r i p' → r ≢ Err ReadFailed → (refuses_read k (reel s p.reels) ≡ refusal r) × (p' ≡ behind_read s k r p)
+read_said s k p p' (Ok u) i is not_failed = (is.0, is.2)
+read_said s k p p' (Err ReadFailed) i is not_failed = absurd (not_failed refl)
+read_said s k p p' (Err WriteFailed) i is not_failed = absurd is
+read_said s k p p' (Err NoTape) i is not_failed = (is.0, is.1)
+read_said s k p p' (Err NotMounted) i is not_failed = (is.0, is.1)
+read_said s k p p' (Err End) i is not_failed = (is.0, is.1)
 
 -- what was read, where it is told
 read_gives : (s k : ℕ) (p p' : Rack) (u : Unit {0}) (i : List ℕ) (x : Reel) (bs : List (List ℕ)) → Reading s k p (Ok u) i p' → reel s p.reels ≡ Some x → x.blocks ≡ Some bs → slice_get bs k ≡ Some i
@@ -69,11 +62,12 @@ reads_alike : (s k : ℕ) (p q p' q' : Rack) (r r' : Answer) (i i' : List ℕ) �
     → r ≢ Err ReadFailed → r' ≢ Err ReadFailed → (r ≡ r') × Alike p' q' × (r ≡ Ok tt → ForSome (reel s p.reels) (λ x. is_some x.blocks ≡ true → i ≡ i'))
 reads_alike s k p q p' q' r r' i i' same one two well well' =
     let reels : reel s p.reels ≡ reel s q.reels = ap (λ (x : Rack). reel s x.reels) same in
-    let answers : r ≡ r' = refusal-one r r' (sym (read_refuses s k p p' r i one well) ∙ ap (refuses_read k) reels ∙ read_refuses s k q q' r' i' two well') in
-    let left = read_leaves s k p p' r i one well in
-    let right : q' ≡ behind_read s k r q = read_leaves s k q q' r' i' two well' ∙ ap (λ (x : Answer). behind_read s k x q) (sym answers) in (
+    let here = read_said s k p p' r i one well in
+    let there = read_said s k q q' r' i' two well' in
+    let answers : r ≡ r' = refusal-one r r' (sym here.0 ∙ ap (refuses_read k) reels ∙ there.0) in
+    let right : q' ≡ behind_read s k r q = there.1 ∙ ap (λ (x : Answer). behind_read s k x q) (sym answers) in (
       answers,
-      ap uncounted left ∙ alike_read s k r p q same ∙ sym (ap uncounted right),
+      ap uncounted here.1 ∙ alike_read s k r p q same ∙ sym (ap uncounted right),
       told_same s k p q p' q' r i i' same one (subst (λ (x : Answer). Reading s k q x i' q') (sym answers) two),
     )
 
@@ -81,21 +75,15 @@ abbrev behind_write : ℕ → ℕ → List ℕ → Answer → Rack → Rack
 behind_write s k block (Ok u) p = record (changed s (ending k block) p) { fuse = burnt p.fuse }
 behind_write s k block (Err fault) p = p
 
-write_refuses : (s k : ℕ) (block : List ℕ) (p p' : Rack) (r : Answer) → Writing s k block p r p' → r ≢ Err WriteFailed → refuses_write k (reel s p.reels) ≡ refusal r
-write_refuses s k block p p' (Ok u) is not_failed = is.0
-write_refuses s k block p p' (Err WriteFailed) is not_failed = absurd (not_failed refl)
-write_refuses s k block p p' (Err ReadFailed) is not_failed = absurd is
-write_refuses s k block p p' (Err NoTape) is not_failed = is.0
-write_refuses s k block p p' (Err NotMounted) is not_failed = is.0
-write_refuses s k block p p' (Err End) is not_failed = is.0
-
-write_leaves : (s k : ℕ) (block : List ℕ) (p p' : Rack) (r : Answer) → Writing s k block p r p' → r ≢ Err WriteFailed → p' ≡ behind_write s k block r p
-write_leaves s k block p p' (Ok u) is not_failed = is.2
-write_leaves s k block p p' (Err WriteFailed) is not_failed = absurd (not_failed refl)
-write_leaves s k block p p' (Err ReadFailed) is not_failed = absurd is
-write_leaves s k block p p' (Err NoTape) is not_failed = is.1
-write_leaves s k block p p' (Err NotMounted) is not_failed = is.1
-write_leaves s k block p p' (Err End) is not_failed = is.1
+-- what a write refuses, and what it leaves
+write_said : (s k : ℕ) (block : List ℕ) (p p' : Rack) (r : Answer) → Writing s k block p r p' → r ≢ Err WriteFailed
+    → (refuses_write k (reel s p.reels) ≡ refusal r) × (p' ≡ behind_write s k block r p)
+write_said s k block p p' (Ok u) is not_failed = (is.0, is.2)
+write_said s k block p p' (Err WriteFailed) is not_failed = absurd (not_failed refl)
+write_said s k block p p' (Err ReadFailed) is not_failed = absurd is
+write_said s k block p p' (Err NoTape) is not_failed = (is.0, is.1)
+write_said s k block p p' (Err NotMounted) is not_failed = (is.0, is.1)
+write_said s k block p p' (Err End) is not_failed = (is.0, is.1)
 
 alike_write : (s k : ℕ) (block : List ℕ) (r : Answer) (p q : Rack) → Alike p q → Alike (behind_write s k block r p) (behind_write s k block r q)
 alike_write s k block (Ok u) p q same = ap (λ (x : Rack). record (changed s (ending k block) x) { fuse = burnt x.fuse }) same
@@ -105,10 +93,11 @@ writes_alike : (s k : ℕ) (block : List ℕ) (p q p' q' : Rack) (r r' : Answer)
     → r ≢ Err WriteFailed → r' ≢ Err WriteFailed → (r ≡ r') × Alike p' q'
 writes_alike s k block p q p' q' r r' same one two well well' =
     let reels : reel s p.reels ≡ reel s q.reels = ap (λ (x : Rack). reel s x.reels) same in
-    let answers : r ≡ r' = refusal-one r r' (sym (write_refuses s k block p p' r one well) ∙ ap (refuses_write k) reels ∙ write_refuses s k block q q' r' two well') in
-    let left = write_leaves s k block p p' r one well in
-    let right : q' ≡ behind_write s k block r q = write_leaves s k block q q' r' two well' ∙ ap (λ (x : Answer). behind_write s k block x q) (sym answers) in
-    (answers, ap uncounted left ∙ alike_write s k block r p q same ∙ sym (ap uncounted right))
+    let here = write_said s k block p p' r one well in
+    let there = write_said s k block q q' r' two well' in
+    let answers : r ≡ r' = refusal-one r r' (sym here.0 ∙ ap (refuses_write k) reels ∙ there.0) in
+    let right : q' ≡ behind_write s k block r q = there.1 ∙ ap (λ (x : Answer). behind_write s k block x q) (sym answers) in
+    (answers, ap uncounted here.1 ∙ alike_write s k block r p q same ∙ sym (ap uncounted right))
 
 pub racks_answer_alike : AnswerAlike
 racks_answer_alike = record { reads = reads_alike; writes = writes_alike }

@@ -62,19 +62,21 @@ module _ (s : ℕ) (ts : List Standing) (xs ys : List Reel) (paired : ArePaired 
             ap (told_of (λ (r : Reel). r.capacity)) (seen_at s t a b ts xs ys paired at) ∙ sym (ap (told_of (λ (r : Reel). r.capacity)) there)
       ]
 
-  pub long_first : (t : Standing) → standing s xs ts ≡ Some t → ((a b : Reel) → of_leader t a b ≡ a)
-      → told_of (λ (r : Reel). r.len) (reel s (pair_reels ts xs ys)) ≡ told_of (λ (r : Reel). r.len) (reel s xs)
-  long_first t is leads =
+  -- the length that is seen is that of the rack that leads
+  long_by : (t : Standing) (rs : List Reel) (of : Reel → Reel → Reel) → standing s xs ts ≡ Some t → ((a b : Reel) → AreAt s t a b ts xs ys → reel s rs ≡ Some (of a b))
+      → ((a b : Reel) → of_leader t a b ≡ of a b) → told_of (λ (r : Reel). r.len) (reel s (pair_reels ts xs ys)) ≡ told_of (λ (r : Reel). r.len) (reel s rs)
+  long_by t rs of is there leads =
       let (a, b, twins, at) = at_standing s t ts xs ys paired is in
       ap (told_of (λ (r : Reel). r.len)) (seen_at s t a b ts xs ys paired at) ∙ ap (λ (r : Reel). let x : Result ℕ TapeFault = Ok r.len in x) (leads a b)
-      ∙ sym (ap (told_of (λ (r : Reel). r.len)) at.first)
+      ∙ sym (ap (told_of (λ (r : Reel). r.len)) (there a b at))
+
+  pub long_first : (t : Standing) → standing s xs ts ≡ Some t → ((a b : Reel) → of_leader t a b ≡ a)
+      → told_of (λ (r : Reel). r.len) (reel s (pair_reels ts xs ys)) ≡ told_of (λ (r : Reel). r.len) (reel s xs)
+  long_first t is leads = long_by t xs (λ a b. a) is (λ a b at. at.first) leads
 
   pub long_second : (t : Standing) → standing s xs ts ≡ Some t → ((a b : Reel) → of_leader t a b ≡ b)
       → told_of (λ (r : Reel). r.len) (reel s (pair_reels ts xs ys)) ≡ told_of (λ (r : Reel). r.len) (reel s ys)
-  long_second t is leads =
-      let (a, b, twins, at) = at_standing s t ts xs ys paired is in
-      ap (told_of (λ (r : Reel). r.len)) (seen_at s t a b ts xs ys paired at) ∙ ap (λ (r : Reel). let x : Result ℕ TapeFault = Ok r.len in x) (leads a b)
-      ∙ sym (ap (told_of (λ (r : Reel). r.len)) at.second)
+  long_second t is leads = long_by t ys (λ a b. b) is (λ a b at. at.second) leads
 
 -- MOUNTING
 seen_mounted : (is : Bool) (t : Standing) (a b : Reel) → pair_reel t (with_mounted is a) (with_mounted is b) ≡ with_mounted is (pair_reel t a b)

@@ -15,6 +15,11 @@ pub record AreAt (s : ℕ) (t : Standing) (a b : Reel) (ts : List Standing) (xs 
   pub first : reel s xs ≡ Some a
   pub second : reel s ys ≡ Some b
 
+-- and with a pair of another serial before them
+at_behind : (s : ℕ) (t u : Standing) (a b c d : Reel) (ts : List Standing) (xs ys : List Reel) → (s == c.serial) ≡ false → (s == d.serial) ≡ false
+    → AreAt s t a b ts xs ys → AreAt s t a b (u ∷ ts) (c ∷ xs) (d ∷ ys)
+at_behind s t u a b c d ts xs ys apart apart' at = record { standing = rw apart at.standing; first = rw apart at.first; second = rw apart' at.second }
+
 -- what is seen of a changed pair
 pub pair_changed : (s : ℕ) (g h f : Reel → Reel) (c : Standing → Standing) (ts : List Standing) (xs ys : List Reel) → ArePaired ts xs ys
     → ((t : Standing) (a b : Reel) → AreTwins t a b → AreAt s t a b ts xs ys → pair_reel (c t) (g a) (h b) ≡ f (pair_reel t a b))
@@ -33,11 +38,7 @@ pair_changed s g h f c (t ∷ ts) (a ∷ xs) (b ∷ ys) (twins, rest) each =
           rw (here.0, here', seen) refl
       | inr apart ↦
           let apart' : (s == b.serial) ≡ false = ne_eqb s b.serial (λ e. apart.1 (e ∙ sym twins.serial)) in
-          let others = pair_changed s g h f c ts xs ys rest (λ t' a' b' is at. each t' a' b' is (record {
-            standing = rw apart.0 at.standing;
-            first = rw apart.0 at.first;
-            second = rw apart' at.second;
-          })) in
+          let others = pair_changed s g h f c ts xs ys rest (λ t' a' b' is at. each t' a' b' is (at_behind s t' t a' b' a b ts xs ys apart.0 apart' at)) in
           rw (apart.0, apart', others) refl
     ]
 
@@ -78,7 +79,7 @@ at_of s a (u ∷ ts) (c ∷ xs) (d ∷ ys) (twins, rest) is =
       | inr apart ↦
           let apart' : (s == d.serial) ≡ false = ne_eqb s d.serial (λ e. apart.1 (e ∙ sym twins.serial)) in
           let (t, b, are, at) = at_of s a ts xs ys rest (rw apart.0 at is) in
-          (t, b, are, record { standing = rw apart.0 at.standing; first = rw apart.0 at.first; second = rw apart' at.second })
+          (t, b, are, at_behind s t u a b c d ts xs ys apart.0 apart' at)
     ]
 
 -- and so is one whose standing is known
@@ -110,11 +111,7 @@ paired_changed s g h c (t ∷ ts) (a ∷ xs) (b ∷ ys) (twins, rest) each =
           rw (here.0, here') (each t a b twins (record { standing = rw here.0 refl; first = rw here.0 refl; second = rw here' refl }), rest)
       | inr apart ↦
           let apart' : (s == b.serial) ≡ false = ne_eqb s b.serial (λ e. apart.1 (e ∙ sym twins.serial)) in
-          let others = paired_changed s g h c ts xs ys rest (λ t' a' b' is at. each t' a' b' is (record {
-            standing = rw apart.0 at.standing;
-            first = rw apart.0 at.first;
-            second = rw apart' at.second;
-          })) in
+          let others = paired_changed s g h c ts xs ys rest (λ t' a' b' is at. each t' a' b' is (at_behind s t' t a' b' a b ts xs ys apart.0 apart' at)) in
           rw (apart.0, apart') (twins, others)
     ]
 

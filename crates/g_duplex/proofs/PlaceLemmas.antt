@@ -38,36 +38,44 @@ first_within s ts xs ys i paired first =
     let long = long_standings ts xs ys paired in
     omega (arith, within, long)
 
+-- what holds of racks and standings at the place of a reel: it does where the reel is the first, and goes on behind a reel of another serial
+at_place : (s : ℕ) (P : List Reel → List Standing → ℕ → Type 0)
+    → ((r : Reel) (rs : List Reel) (t : Standing) (ts : List Standing) → (s == r.serial) ≡ true → P (r ∷ rs) (t ∷ ts) 0)
+    → ((r : Reel) (rs : List Reel) (t : Standing) (ts : List Standing) (i : ℕ) → (s == r.serial) ≡ false → P rs ts i → P (r ∷ rs) (t ∷ ts) (suc i))
+    → (xs : List Reel) (ts : List Standing) (i : ℕ) → i < length xs → ((e : Reel) → (get_or xs i e).serial ≡ s)
+    → ((k : ℕ) (e : Reel) → k < i → (get_or xs k e).serial ≡ s → ⊥) → length ts ≡ length xs → P xs ts i
+at_place s P now later [] ts i within here before long = elim within [ ]
+at_place s P now later (r ∷ rs) [] i within here before long = let never : ⊥ = omega (arith, long) in absurd never
+at_place s P now later (r ∷ rs) (t ∷ ts) zero within here before long = now r rs t ts (eq-eqb s r.serial (sym (here r)))
+at_place s P now later (r ∷ rs) (t ∷ ts) (suc i) within here before long =
+    later r rs t ts i (ne_eqb s r.serial (λ e. before 0 r (omega arith) (sym e)))
+    (at_place s P now later rs ts i (omega (arith, within)) here (λ k e h. before (suc k) e (omega (arith, h))) (omega (arith, long)))
+
 -- the standing at the place of a reel
-standing_there : (s : ℕ) (xs : List Reel) (ts : List Standing) (i : ℕ) (d : Standing) → i < length xs → ((e : Reel) → (get_or xs i e).serial ≡ s)
-    → ((k : ℕ) (e : Reel) → k < i → (get_or xs k e).serial ≡ s → ⊥) → length ts ≡ length xs → standing s xs ts ≡ Some (get_or ts i d)
-standing_there s [] ts i d within here before long = elim within [ ]
-standing_there s (r ∷ rs) [] i d within here before long = let never : ⊥ = omega (arith, long) in absurd never
-standing_there s (r ∷ rs) (t ∷ ts) zero d within here before long =
-    let same : (s == r.serial) ≡ true = eq-eqb s r.serial (sym (here r)) in
-    rw same refl
-standing_there s (r ∷ rs) (t ∷ ts) (suc i) d within here before long =
-    let differs : (s == r.serial) ≡ false = ne_eqb s r.serial (λ e. before 0 r (omega arith) (sym e)) in
-    rw differs (standing_there s rs ts i d (omega (arith, within)) here (λ k e h. before (suc k) e (omega (arith, h))) (omega (arith, long)))
+standing_now : (s : ℕ) (r : Reel) (rs : List Reel) (t : Standing) (ts : List Standing) → (s == r.serial) ≡ true → standing s (r ∷ rs) (t ∷ ts) ≡ Some t
+standing_now s r rs t ts same = rw same refl
+
+standing_later : (s : ℕ) (r : Reel) (rs : List Reel) (t : Standing) (ts : List Standing) (o : Option Standing) → (s == r.serial) ≡ false → standing s rs ts ≡ o → standing s (r ∷ rs) (t ∷ ts) ≡ o
+standing_later s r rs t ts o differs is = rw differs is
 
 pub standing-first : (s : ℕ) (xs : List Reel) (ts : List Standing) (i : ℕ) (t : Standing) → IsFirst s xs i → length ts ≡ length xs → slice_get ts i ≡ Some t → standing s xs ts ≡ Some t
 standing-first s xs ts i t first long is =
-    standing_there s xs ts i t first.within first.here first.before long ∙ ap (λ (u : Standing). Some u) (get_or_from_slice_get ts i t t is)
+    at_place s (λ (rs : List Reel) (us : List Standing) (k : ℕ). standing s rs us ≡ Some (get_or us k t)) (λ r rs u us same. standing_now s r rs u us same)
+    (λ r rs u us k differs rest. standing_later s r rs u us (Some (get_or us k t)) differs rest) xs ts i first.within first.here first.before long
+    ∙ ap (λ (u : Standing). Some u) (get_or_from_slice_get ts i t t is)
 
 -- the standing of a reel is changed at its place
-changed_there : (s : ℕ) (xs : List Reel) (ts : List Standing) (i : ℕ) (u : Standing) → i < length xs → ((e : Reel) → (get_or xs i e).serial ≡ s)
-    → ((k : ℕ) (e : Reel) → k < i → (get_or xs k e).serial ≡ s → ⊥) → length ts ≡ length xs → with_standing s (λ (t : Standing). u) xs ts ≡ set ts i u
-changed_there s [] ts i u within here before long = elim within [ ]
-changed_there s (r ∷ rs) [] i u within here before long = let never : ⊥ = omega (arith, long) in absurd never
-changed_there s (r ∷ rs) (t ∷ ts) zero u within here before long =
-    let same : (s == r.serial) ≡ true = eq-eqb s r.serial (sym (here r)) in
-    rw same refl
-changed_there s (r ∷ rs) (t ∷ ts) (suc i) u within here before long =
-    let differs : (s == r.serial) ≡ false = ne_eqb s r.serial (λ e. before 0 r (omega arith) (sym e)) in
-    rw differs (ap (λ (us : List Standing). t ∷ us) (changed_there s rs ts i u (omega (arith, within)) here (λ k e h. before (suc k) e (omega (arith, h))) (omega (arith, long))))
+changed_now : (s : ℕ) (u : Standing) (r : Reel) (rs : List Reel) (t : Standing) (ts : List Standing) → (s == r.serial) ≡ true → with_standing s (λ (v : Standing). u) (r ∷ rs) (t ∷ ts) ≡ set (t ∷ ts) 0 u
+changed_now s u r rs t ts same = rw same refl
+
+changed_later : (s : ℕ) (u : Standing) (r : Reel) (rs : List Reel) (t : Standing) (ts : List Standing) (i : ℕ) → (s == r.serial) ≡ false → with_standing s (λ (v : Standing). u) rs ts ≡ set ts i u
+    → with_standing s (λ (v : Standing). u) (r ∷ rs) (t ∷ ts) ≡ set (t ∷ ts) (suc i) u
+changed_later s u r rs t ts i differs is = rw differs (ap (λ (us : List Standing). t ∷ us) is)
 
 pub changed-first : (s : ℕ) (xs : List Reel) (ts : List Standing) (i : ℕ) (u : Standing) → IsFirst s xs i → length ts ≡ length xs → with_standing s (λ (t : Standing). u) xs ts ≡ set ts i u
-changed-first s xs ts i u first long = changed_there s xs ts i u first.within first.here first.before long
+changed-first s xs ts i u first long =
+    at_place s (λ (rs : List Reel) (us : List Standing) (k : ℕ). with_standing s (λ (t : Standing). u) rs us ≡ set us k u) (λ r rs t us same. changed_now s u r rs t us same)
+    (λ r rs t us k differs rest. changed_later s u r rs t us k differs rest) xs ts i first.within first.here first.before long
 
 -- a serial that isn't there has no standing, and no other way
 pub standing_none : (s : ℕ) (xs : List Reel) (ts : List Standing) → reel s xs ≡ None → standing s xs ts ≡ None

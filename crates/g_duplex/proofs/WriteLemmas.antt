@@ -163,19 +163,12 @@ module _ (s : ℕ) (t u : Standing) (a b : Reel) (g h f : Reel → Reel) (ts : L
       rw (← first, ← second) is))
 
 -- the changes of the racks by who leads
-pub first_changed : (s : ℕ) (t : Standing) (p : Pair) (f' g' : Rack) (g h : Reel → Reel) → (of_leader t f' g').reels ≡ with_reel s g (leading t p).reels
-    → (of_other t f' g').reels ≡ with_reel s h (behind t p).reels → f'.reels ≡ with_reel s (of_leader t g h) p.first.reels
-first_changed s Level p f' g' g h one two = one
-first_changed s (Apart k) p f' g' g h one two = one
-first_changed s (Lost First) p f' g' g h one two = two
-first_changed s (Lost Second) p f' g' g h one two = one
-
-pub second_changed : (s : ℕ) (t : Standing) (p : Pair) (f' g' : Rack) (g h : Reel → Reel) → (of_leader t f' g').reels ≡ with_reel s g (leading t p).reels
-    → (of_other t f' g').reels ≡ with_reel s h (behind t p).reels → g'.reels ≡ with_reel s (of_other t g h) p.second.reels
-second_changed s Level p f' g' g h one two = two
-second_changed s (Apart k) p f' g' g h one two = two
-second_changed s (Lost First) p f' g' g h one two = one
-second_changed s (Lost Second) p f' g' g h one two = two
+both_changed : (s : ℕ) (t : Standing) (p : Pair) (f' g' : Rack) (g h : Reel → Reel) → (of_leader t f' g').reels ≡ with_reel s g (leading t p).reels
+    → (of_other t f' g').reels ≡ with_reel s h (behind t p).reels → (f'.reels ≡ with_reel s (of_leader t g h) p.first.reels) × (g'.reels ≡ with_reel s (of_other t g h) p.second.reels)
+both_changed s Level p f' g' g h one two = (one, two)
+both_changed s (Apart k) p f' g' g h one two = (one, two)
+both_changed s (Lost First) p f' g' g h one two = (two, one)
+both_changed s (Lost Second) p f' g' g h one two = (one, two)
 
 -- TWINS after a write
 twins_left : (how : Remains) (k : ℕ) (t : Standing) (a b : Reel) → AreTwins t a b → IsReel a → nat_lt (of_leader t a b).len k ≡ false
@@ -316,9 +309,9 @@ module _ (s k : ℕ) (block : List ℕ) (p : Pair) (t : Standing) (a b : Reel) (
       → WriteDone s k block p (Ok tt) after first' second'
   follow true lost after apart lead (left, stands) =
       let other = stays (of_other t first' second') left in
+      let racks = both_changed s t p first' second' (ending k block) (λ (r : Reel). r) lead other in
       rw stands (well t (of_leader t (ending k block) (λ (r : Reel). r)) (of_other t (ending k block) (λ (r : Reel). r)) apart
-      (first_changed s t p first' second' (ending k block) (λ (r : Reel). r) lead other) (second_changed s t p first' second' (ending k block) (λ (r : Reel). r) lead other)
-      (seen_alone k block t a b lost) (twins_alone k block t a b lost twins))
+      racks.0 racks.1 (seen_alone k block t a b lost) (twins_alone k block t a b lost twins))
   follow false fine after apart lead (answer, writing, stands) =
       let first_is : of_leader t first' second' ≡ first' = (led_first t first' second' fine).0 in
       let second_is : of_other t first' second' ≡ second' = (led_first t first' second' fine).1 in
@@ -337,7 +330,8 @@ module _ (s k : ℕ) (block : List ℕ) (p : Pair) (t : Standing) (a b : Reel) (
   written (Err WriteFailed) result after (free', rose, (how, left)) (answered, other, stands) =
       let lead = lead_left (of_leader t first' second') how (of_leader t first' second').write_faults (burnt (armed_when (is_one p.fuse) (leading t p)).fuse) left in
       let still = stays (of_other t first' second') other in
-      rw (answered, stands) (badly how (first_changed s t p first' second' (left_by how k) (λ (r : Reel). r) lead still) (second_changed s t p first' second' (left_by how k) (λ (r : Reel). r) lead still))
+      let racks = both_changed s t p first' second' (left_by how k) (λ (r : Reel). r) lead still in
+      rw (answered, stands) (badly how racks.0 racks.1)
   written (Err ReadFailed) result after wrong on = absurd wrong
   written (Err NoTape) result after (refused, left) on = absurd (refused_never (reel s (armed_when (is_one p.fuse) (leading t p)).reels) NoTape lead_free refused)
   written (Err NotMounted) result after (refused, left) on = absurd (refused_never (reel s (armed_when (is_one p.fuse) (leading t p)).reels) NotMounted lead_free refused)

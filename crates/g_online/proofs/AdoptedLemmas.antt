@@ -1,6 +1,6 @@
 -- The copies of a dump of all versions are noted, and nobody counts as changed.
 use Rattle.std.proofs.Common.{◌≡◌, ◌≢◌, ◌⊎◌, ℕ, ◌<◌, ◌==◌, true, false, List, [], ◌∷◌, length, get_or, map, Option, Some, None, Result, Ok, Err, All, refl, sym, ◌∙◌, ap, subst, arith, inl, inr}
-use Rattle.std.specs.Prelude.{is_some}
+use Rattle.std.specs.Prelude.{is_some, OnOk}
 use Rattle.std.proofs.lemmas.Bool.{cases_Bool, cond-false, cond-true, eq-eqb}
 use Rattle.std.proofs.lemmas.List.Elements.{All-cons, All-head, All-tail}
 use Rattle.g_copy.specs.declared.copy.DiscCopy.{DiscCopy}
@@ -20,9 +20,9 @@ use Rattle.g_online.specs.declared.fault.OnlineFault.{OnlineFault}
 use Rattle.g_online.specs.declared.pinned.Pinned.{Pinned}
 use Rattle.g_online.specs.AllowedChanges.{IsAllowed, KeepsRules}
 use Rattle.g_online.specs.Invariant.{AreNoted, IsKept, Memory, PinsAre, WaitsFor, directory_in, facts_of, pins_of}
-use Rattle.g_online.specs.ReadyCopies.{CoverAll, IsAdopting, IsReadyFor, Readied, adopted, ready_with}
+use Rattle.g_online.specs.ReadyCopies.{CoverAll, IsAdopting, IsReadyFor, Readied, adopted, ready_with, HasAdopted}
 use Rattle.g_online.proofs.AdoptLemmas.{adopt_ready}
-use Rattle.g_online.proofs.NotedLemmas.{IsNotedBy, MayNote, adopted_is}
+use Rattle.g_online.proofs.NotedLemmas.{IsNotedBy, MayNote, adopted_is, HasNoted}
 use Rattle.g_online.proofs.PinLostLemmas.{no_numbers}
 use Rattle.g_online.proofs.ReadyLemmas.{StillRemembers}
 use Rattle.g_online.proofs.RecordLemmas.{recs_here}
@@ -149,26 +149,14 @@ module _ (last : ℕ) (copies : Tapes) (before : DiscState) (m : Memory) (users 
   }
 
 -- HOW IT IS ANSWERED
+adopted_ok : (last : ℕ) (copies : Tapes) (all : List ℕ) (old new : OnlineFacts) → all ≡ [] → (result : Result (Unit {0}) OnlineFault) → OnOk result (HasNoted last copies all old new) → OnOk result (HasAdopted last copies old new)
+adopted_ok last copies all old new all_is (Err e) noted = tt
+adopted_ok last copies all old new all_is (Ok u) noted =
+    record { live = noted.live; contents = noted.contents; pins = noted.pins; changed = noted.changed ∙ all_is; touched = noted.touched; blocks = noted.blocks; commits = noted.commits; writes = noted.writes }
+
 pub adopting_is : (last : ℕ) (copies : Tapes) (all : List ℕ) (old o new : OnlineFacts) (result : Result (Unit {0}) OnlineFault) → all ≡ [] → old ≡ o → IsNotedBy last copies all old new result → IsAdopting last copies o new result
-adopting_is last copies all old o new (Ok u) all_is is noted = subst (λ (p : OnlineFacts). IsAdopting last copies p new (Ok u)) is (record {
-  ok = record {
-    live = noted.ok.live;
-    contents = noted.ok.contents;
-    pins = noted.ok.pins;
-    changed = noted.ok.changed ∙ all_is;
-    touched = noted.ok.touched;
-    blocks = noted.ok.blocks;
-    commits = noted.ok.commits;
-    writes = noted.ok.writes;
-  };
-  stopped = tt;
-  causes = noted.causes;
-  tied = noted.tied;
-  told = noted.told;
-  only = tt;
-})
-adopting_is last copies all old o new (Err e) all_is is noted = subst (λ (p : OnlineFacts). IsAdopting last copies p new (Err e)) is (record {
-  ok = tt;
+adopting_is last copies all old o new result all_is is noted = subst (λ (p : OnlineFacts). IsAdopting last copies p new result) is (record {
+  ok = adopted_ok last copies all old new all_is result noted.ok;
   stopped = noted.stopped;
   causes = noted.causes;
   tied = noted.tied;

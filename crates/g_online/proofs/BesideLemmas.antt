@@ -40,7 +40,7 @@ contains_flat g [] x k (i, inside, is) there = let no : ⊥ = omega (arith, insi
 contains_flat g (y ∷ xs) x k (zero, inside, is) there = Contains-append_left (g y) (flat_map g xs) k (subst (λ z. Contains (g z) k) (sym is) there)
 contains_flat g (y ∷ xs) x k (suc i, inside, is) there = Contains-append_right (g y) (flat_map g xs) k (contains_flat g xs x k (i, omega (arith, inside), is) there)
 
-contains_filter : {X : Type 0} (p : X → Bool) (xs : List X) (x : X) → p x ≡ true → Contains xs x → Contains (filter p xs) x
+pub contains_filter : {X : Type 0} (p : X → Bool) (xs : List X) (x : X) → p x ≡ true → Contains xs x → Contains (filter p xs) x
 contains_filter p [] x passes (i, inside, is) = let no : ⊥ = omega (arith, inside) in absurd no
 contains_filter p (y ∷ xs) x passes (zero, inside, is) =
     subst (λ l. Contains l x) (sym (cond-true (p y) (y ∷ filter p xs) (filter p xs) (ap p is ∙ passes))) (0, omega arith, is)

@@ -265,8 +265,8 @@ module _ (size next : ℕ) (e : FileEntry) (files : List FileEntry) (rising : Al
       (use_gone (Some pins) touched true is are) (used size (Some pins) files old was)))
 
 -- what the tree asks for
-pub number_used : (number : ℕ) (before : DiscState) (m : Memory) (going : IsGoing number before m) → is_some (finmap.get (by_number m.files) number) ≡ true
-number_used number before m going =
+pub going_is : (number : ℕ) (before : DiscState) (m : Memory) (going : IsGoing number before m) → finmap.get (by_number m.files) number ≡ Some going.file
+going_is number before m going =
     let recs = recs-entries m.files m.online in
     let numbered : AreNumbered m.files = subst AreNumbered recs going.was.stored.rules.numbered in
     let k = going.there.0 in
@@ -275,7 +275,10 @@ number_used number before m going =
       within = within;
       has = λ d. ap (λ (r : FileRec). r.number) (get_or_default m.files k d going.file within ∙ going.there.2) ∙ going.number_is;
     } in
-    ap is_some (stands_found m.files numbered number k going.file at)
+    stands_found m.files numbered number k going.file at ∙ ap Some going.there.2
+
+pub number_used : (number : ℕ) (before : DiscState) (m : Memory) (going : IsGoing number before m) → is_some (finmap.get (by_number m.files) number) ≡ true
+number_used number before m going = ap is_some (going_is number before m going)
 
 erase_set_ready : (number : ℕ) (before : DiscState) (m : Memory) (pool : List Bool) (first pages : Remembered) (o : OnlineFacts) → facts_of before m ≡ o → IsKept before m → IsAllowed (EraseFile number) o
     → (going : IsGoing number before m) → IsPooled before.size m.pins (without_entry number (entries_of m.files m.online)) pool
@@ -310,18 +313,6 @@ erase_set_ready number before m pool first pages o is kept allowed going pooled_
     (subst (λ (fs : List FileEntry). PinsAre m.pins before.size h.next_stamp fs (touched_with m.pins owner m.touched)) all
     (subst (λ (k : ℕ). PinsAre m.pins before.size k (without_entry number old) (touched_with m.pins owner m.touched)) (sym (next_kept (is_some m.pins) m.head))
     (pins_then before.size m.head.next_stamp owner (without_entry number old) m.touched m.pins (pins_without before.size m.head.next_stamp number old m.touched m.pins was.pins))))
-
-pub going_is : (number : ℕ) (before : DiscState) (m : Memory) (going : IsGoing number before m) → finmap.get (by_number m.files) number ≡ Some going.file
-going_is number before m going =
-    let recs = recs-entries m.files m.online in
-    let numbered : AreNumbered m.files = subst AreNumbered recs going.was.stored.rules.numbered in
-    let k = going.there.0 in
-    let within = going.there.1 in
-    let at : StandsAt m.files number k = record {
-      within = within;
-      has = λ d. ap (λ (r : FileRec). r.number) (get_or_default m.files k d going.file within ∙ going.there.2) ∙ going.number_is;
-    } in
-    stands_found m.files numbered number k going.file at ∙ ap Some going.there.2
 
 same_file : (a b : FileRec) → (let one : Option FileRec = Some a in one ≡ Some b) → a ≡ b
 same_file a b e = cc

@@ -1,5 +1,5 @@
 -- What is in memory, from its parts in their order.
-use Rattle.std.proofs.Common.{ℕ, Bool, List, Option}
+use Rattle.std.proofs.Common.{◌≡◌, ℕ, Bool, true, List, length, Option}
 use Rattle.g_copy.specs.declared.copy.DiscCopy.{DiscCopy}
 use Rattle.g_entry.specs.declared.file_rec.FileRec.{FileRec}
 use Rattle.g_entry.specs.declared.head.Head.{Head}
@@ -7,7 +7,8 @@ use Rattle.g_entry.specs.declared.user_rec.UserRec.{UserRec}
 use Rattle.g_slots.specs.declared.side.Side.{Side}
 use Rattle.g_dirs.specs.Pages.{Remembered}
 use Rattle.g_online.specs.declared.pinned.Pinned.{Pinned}
-use Rattle.g_online.specs.Invariant.{Memory}
+use Rattle.g_online.specs.Invariant.{AreNoted, IsKept, IsPooled, Memory, PinsAre, directory_in}
+use Rattle.g_disc.specs.Disc.{DiscState}
 
 abbrev pub memory : Side → Remembered → List Bool → List UserRec → List FileRec → Head → List (ℕ × DiscCopy) → Option (List Pinned) → List ℕ → List ℕ → Bool → Memory
 memory side pages pool users files head online pins changed touched live = record {
@@ -22,4 +23,15 @@ memory side pages pool users files head online pins changed touched live = recor
   changed = changed;
   touched = touched;
   live = live;
+}
+
+-- IT IS KEPT with another pool, other pins and other notes, where these are right
+pub kept_anew : (disc : DiscState) (m : Memory) (pool : List Bool) (pins : Option (List Pinned)) (changed touched : List ℕ) → IsKept disc m
+    → (m.live ≡ true → IsPooled disc.size pins (directory_in m).files pool) → (m.live ≡ true → AreNoted (length m.users) (directory_in m).files changed touched)
+    → (m.live ≡ true → PinsAre pins disc.size m.head.next_stamp (directory_in m).files touched) → IsKept disc (record m { pool = pool; pins = pins; changed = changed; touched = touched })
+kept_anew disc m pool pins changed touched kept pooled noted pinned = record {
+  size = kept.size;
+  most = kept.most;
+  whole = kept.whole;
+  agreed = λ live. let was = kept.agreed live in record { stored = was.stored; copies = was.copies; pool = pooled live; noted = noted live; pins = pinned live };
 }

@@ -25,6 +25,7 @@ use Rattle.g_online.specs.Invariant.{AreNoted, AreWhole, IsKept, Memory, PinsAre
 use Rattle.g_online.specs.ReadyCopies.{StoppedAdopting, adopted}
 use Rattle.g_online.proofs.StepLemmas.{IsReady, applied, kept_behind}
 use Rattle.g_online.proofs.TieLemmas.{tied}
+use Rattle.g_online.proofs.MemoryLemmas.{kept_anew}
 
 -- the contents of the change
 pub adopted_is : (told : Bool) (last : ℕ) (copies : List (ℕ × TapeCopy)) (o : OnlineFacts) → o.pins ≡ None → changed told (is_some o.pins) (Adopt last copies) o.contents ≡ adopted last copies o.contents
@@ -36,20 +37,9 @@ abbrev pub counted : List ℕ → List ℕ → Memory → Memory
 counted all touched m = record m { changed = all; touched = touched }
 
 counted_kept : (disc : DiscState) (m : Memory) (all touched : List ℕ) → IsKept disc m → m.pins ≡ None → touched ≡ [] → (m.live ≡ true → AreNoted (length m.users) (directory_in m).files all touched) → IsKept disc (counted all touched m)
-counted_kept disc m all touched kept none nobody noted_are = record {
-  size = kept.size;
-  most = kept.most;
-  whole = kept.whole;
-  agreed = λ live.
-      let was = kept.agreed live in
-      record {
-        stored = was.stored;
-        copies = was.copies;
-        pool = was.pool;
-        noted = noted_are live;
-        pins = subst (λ (pins : Option (List Pinned)). PinsAre pins disc.size m.head.next_stamp (directory_in m).files touched) (sym none) nobody;
-      };
-}
+counted_kept disc m all touched kept none nobody noted_are =
+    kept_anew disc m m.pool m.pins all touched kept (λ live. (kept.agreed live).pool) noted_are
+    (λ live. subst (λ (pins : Option (List Pinned)). PinsAre pins disc.size m.head.next_stamp (directory_in m).files touched) (sym none) nobody)
 
 -- DONE: the copies are noted, and these users count as changed
 pub record HasNoted (last : ℕ) (copies : List (ℕ × TapeCopy)) (all : List ℕ) (old new : OnlineFacts) : Type 0 where

@@ -8,7 +8,7 @@ use Rattle.std.proofs.lemmas.List.Elements.{All-append, All-cons, All-head, All-
 use Rattle.std.proofs.lemmas.Option.{slice_get_within}
 use Rattle.g_blocks.specs.Pool.{HasGiven, IsTaken}
 use Rattle.g_copy.specs.declared.copy.DiscCopy.{DiscCopy}
-use Rattle.g_copy.proofs.Blocks.{slice_get-set_other}
+use Rattle.g_blocks.proofs.Marks.{slice_get-set_other}
 use Rattle.g_slots.specs.declared.side.Side.{Side}
 use Rattle.g_slots.specs.declared.side.Side.TheVariants.{A, B}
 use Rattle.g_dirs.specs.Directory.{copy_at}

@@ -27,6 +27,7 @@ use Rattle.g_online.proofs.CloseNoteLemmas.{pairs_map}
 use Rattle.g_online.proofs.PinWaitLemmas.{Before, Waits, all_below, every_below, from_below, order_below, stamps_below, waits_below}
 use Rattle.g_online.proofs.SameLemmas.{left_part, right_part}
 use Rattle.g_online.proofs.TieLemmas.{rec_of}
+use Rattle.g_online.proofs.MemoryLemmas.{kept_anew}
 
 abbrev Told : Type 0
 Told = Option (List (List ℕ))
@@ -317,19 +318,11 @@ module _ (disc : DiscState) (m : Memory) (o : OnlineFacts) (is : facts_of disc m
 
   -- the memory behind it
   pub pinned_kept : (serial first : ℕ) (listed : List Pinned) → listed ≡ pins_from serial first m.online (waiting_below 63 m.files) → IsKept disc (record m { pins = Some listed })
-  pinned_kept serial first listed pins_are = subst (λ (ps : List Pinned). IsKept disc (record m { pins = Some ps })) (sym pins_are) (record {
-    size = kept.size;
-    most = kept.most;
-    whole = kept.whole;
-    agreed = λ still. record {
-      stored = was.stored;
-      copies = was.copies;
-      pool = pool_pinned disc.size m.head.next_stamp serial first m.online m.files rising stamps owners laid m.pool
-          (subst (λ (ps : Option (List Pinned)). IsPooled disc.size ps (directory_in m).files m.pool) none was.pool);
-      noted = was.noted;
-      pins = are_pinned disc.size m.head.next_stamp serial first m.online m.files rising stamps owners laid m.touched;
-    };
-  })
+  pinned_kept serial first listed pins_are = subst (λ (ps : List Pinned). IsKept disc (record m { pins = Some ps })) (sym pins_are)
+      (kept_anew disc m m.pool (Some (pins_from serial first m.online (waiting_below 63 m.files))) m.changed m.touched kept
+      (λ still. pool_pinned disc.size m.head.next_stamp serial first m.online m.files rising stamps owners laid m.pool
+      (subst (λ (ps : Option (List Pinned)). IsPooled disc.size ps (directory_in m).files m.pool) none was.pool))
+      (λ still. was.noted) (λ still. are_pinned disc.size m.head.next_stamp serial first m.online m.files rising stamps owners laid m.touched))
 
   has_pinned : (serial first : ℕ) → HasPinned serial first (facts_of disc m) (facts_of disc (record m { pins = Some (pins_from serial first m.online (waiting_below 63 m.files)) }))
   has_pinned serial first = record {

@@ -13,6 +13,7 @@ use Rattle.g_online.specs.declared.pinned.Pinned.{Pinned}
 use Rattle.g_online.specs.DumpedVersions.{is_stamp_current, lost_places, pinned_in}
 use Rattle.g_online.specs.Invariant.{IsKept, IsPooled, Memory, directory_in, facts_of, is_current, orphans, used_places}
 use Rattle.g_online.proofs.UseLemmas.{IsUsed, may_give, same_swap, used_given, used_same}
+use Rattle.g_online.proofs.MemoryLemmas.{kept_anew}
 
 -- these are the blocks that no file has
 filed_is : (files : List FileRec) (online : List (ℕ × DiscCopy)) (s : ℕ) → is_current (entries_of files online) s ≡ is_stamp_current files s
@@ -73,23 +74,15 @@ module _ (disc : DiscState) (m : Memory) (kept : IsKept disc m) (live : m.live �
   pub gone_kept : (pool : List Bool) (touched : List ℕ) → HasGiven (lost_places files pins) m.pool pool → touched ≡ [] → IsKept disc (let_go pool touched m)
   gone_kept pool touched gives none =
       let was = kept.agreed live in
-      record {
-        size = kept.size;
-        most = kept.most;
-        whole = kept.whole;
-        agreed = λ still. record {
-          stored = was.stored;
-          copies = was.copies;
-          pool = pool_free disc.size m.pins (directory_in m).files m.pool pool was.pool (subst (λ (l : List ℕ). HasGiven l m.pool pool) lost_here gives);
-          noted = record {
-            changed_are = was.noted.changed_are;
-            touched_are = subst (AreNumbers (length m.users)) (sym none) (no_numbers (length m.users));
-            touched_changed = subst (All (λ n. has m.changed n ≡ true)) (sym none) (λ k d inside. (let no : ⊥ = omega (arith, inside) in absurd no));
-            waits = was.noted.waits;
-          };
-          pins = none;
-        };
-      }
+      kept_anew disc m pool None m.changed touched kept
+      (λ still. pool_free disc.size m.pins (directory_in m).files m.pool pool was.pool (subst (λ (l : List ℕ). HasGiven l m.pool pool) lost_here gives))
+      (λ still. record {
+        changed_are = was.noted.changed_are;
+        touched_are = subst (AreNumbers (length m.users)) (sym none) (no_numbers (length m.users));
+        touched_changed = subst (All (λ n. has m.changed n ≡ true)) (sym none) (λ k d inside. (let no : ⊥ = omega (arith, inside) in absurd no));
+        waits = was.noted.waits;
+      })
+      (λ still. none)
 
   pub gone_facts : (o : OnlineFacts) → facts_of disc m ≡ o → (pool : List Bool) (touched : List ℕ) → touched ≡ [] → facts_of disc (let_go pool touched m) ≡ record o { pins = None; touched = [] }
   gone_facts o is pool touched none =

@@ -1,7 +1,7 @@
 -- The versions that wait are all there, in the order of a dump, and no two of them have one stamp.
-use Rattle.std.proofs.Common.{◌≡◌, ◌≢◌, ◌⊎◌, ℕ, zero, suc, ◌<◌, ◌==◌, ◌&&◌, Bool, true, false, List, [], ◌∷◌, ◌++◌, get_or, filter, nat_lt, Option, Some, None, All, AllPairs, refl, sym, ◌∙◌, ap, subst, arith, inl, inr}
+use Rattle.std.proofs.Common.{◌≡◌, ◌≢◌, ◌⊎◌, ℕ, zero, suc, ◌<◌, ◌==◌, ◌&&◌, Bool, true, List, [], ◌∷◌, ◌++◌, get_or, nat_lt, Option, Some, None, All, AllPairs, refl, sym, ◌∙◌, ap, subst, arith, inl, inr}
 use Rattle.std.specs.Prelude.{Contains, is_none}
-use Rattle.std.proofs.lemmas.Bool.{and_from, and_parts, cases_Bool, cases_eq, cond-false, cond-true, eq-eqb, eqb-true, lt-ltb, ltb-true}
+use Rattle.std.proofs.lemmas.Bool.{and_from, and_parts, cases_eq, eq-eqb, eqb-true, lt-ltb, ltb-true}
 use Rattle.std.proofs.lemmas.List.Elements.{All-append, All-contains_itself, All-filter, All-head, All-tail, All-weaker, Contains-append_left, Contains-append_right, filter_passes}
 use Rattle.std.proofs.lemmas.List.Kept.{AllPairs-cons, AllPairs-filter}
 use Rattle.g_entry.specs.declared.file_rec.FileRec.{FileRec}
@@ -9,6 +9,7 @@ use Rattle.g_entry.specs.declared.file_rec.TapeCopy.{TapeCopy}
 use Rattle.g_tree.proofs.ListLemmas.{pairs_first, pairs_rest}
 use Rattle.g_tree.proofs.RuleLemmas.{one_of_key}
 use Rattle.g_online.specs.DumpedVersions.{is_waiting, waiting_below, waiting_of}
+use Rattle.g_online.proofs.BesideLemmas.{contains_filter}
 
 -- A RECORD WHOSE VERSION WAITS
 pub record Waits (r : FileRec) : Type 0 where
@@ -28,16 +29,6 @@ waits_then : (r : FileRec) → Waits r → is_waiting r ≡ true
 waits_then r waits = and_from (nat_lt 0 r.len) (is_none r.tape) (lt-ltb 0 r.len waits.filled) (ap (λ (t : Option TapeCopy). is_none t) waits.none)
 
 -- ELEMENTS of lists
-contains_filter : {A : Type 0} (p : A → Bool) (xs : List A) (x : A) → Contains xs x → p x ≡ true → Contains (filter p xs) x
-contains_filter p [] x (k, within, is) passes = (let no : ⊥ = omega (arith, within) in absurd no)
-contains_filter {A} p (y ∷ ys) x (zero, within, is) passes =
-    subst (λ (zs : List A). Contains zs x) (sym (cond-true (p y) (y ∷ filter p ys) (filter p ys) (ap p is ∙ passes))) (0, omega arith, is)
-contains_filter {A} p (y ∷ ys) x (suc k, within, is) passes = by_test (cases_Bool (p y)) (contains_filter p ys x (k, omega (arith, within), is) passes)
-  where
-    by_test : (p y ≡ true) ⊎ (p y ≡ false) → Contains (filter p ys) x → Contains (filter p (y ∷ ys)) x
-    by_test (inl is_in) rest = subst (λ (zs : List A). Contains zs x) (sym (cond-true (p y) (y ∷ filter p ys) (filter p ys) is_in)) (Contains-append_right (y ∷ []) (filter p ys) x rest)
-    by_test (inr isnt) rest = subst (λ (zs : List A). Contains zs x) (sym (cond-false (p y) (y ∷ filter p ys) (filter p ys) isnt)) rest
-
 pairs_append : {A : Type 0} (R : A → A → Type 0) (xs ys : List A) → AllPairs R xs → AllPairs R ys → All (λ x. All (R x) ys) xs → AllPairs R (xs ++ ys)
 pairs_append R [] ys first second across = second
 pairs_append R (x ∷ xs) ys first second across =
@@ -87,7 +78,7 @@ module _ (files : List FileRec) where
       by_owner : (r.owner ≡ n) ⊎ (r.owner ≡ n → ⊥) → (r.owner < n → Waits r → Contains (waiting_below n files) r) → Contains (waiting_below n files ++ waiting_of n files) r
       by_owner (inl same) rest =
           Contains-append_right (waiting_below n files) (waiting_of n files) r
-          (contains_filter (test_of n) files r there (and_from (r.owner == n) (is_waiting r) (eq-eqb r.owner n same) (waits_then r waits)))
+          (contains_filter (test_of n) files r (and_from (r.owner == n) (is_waiting r) (eq-eqb r.owner n same) (waits_then r waits)) there)
       by_owner (inr other) rest = Contains-append_left (waiting_below n files) (waiting_of n files) r (rest (omega (arith, below, other)) waits)
 
   pub order_below : (n : ℕ) → AllPairs (λ r s. r.number < s.number) files → AllPairs Before (waiting_below n files)

@@ -222,6 +222,20 @@ away_from : (s : ℕ) (pins : Option (List Pinned)) (P : ℕ → Type 0) → ((t
 away_from s None P each away = tt
 away_from s (Some pins) P each away = All-weaker (λ (p : Pinned). p.stamp ≢ s) (λ (p : Pinned). P p.stamp) (λ p other. each p.stamp (λ same. other (sym same))) pins away
 
+-- one file more is used, where the same pins are orphans
+used_more : (f : ℕ → ℕ) (pins : Option (List Pinned)) (e : FileEntry) (more others : List FileEntry) → orphans pins more ≡ orphans pins others
+    → sum_by f (all_places more) ≡ sum_by f (places_of e ++ all_places others) → sum_by f (used_places pins more) ≡ sum_by f (places_of e ++ used_places pins others)
+used_more f pins e more others lost split =
+    omega (
+      arith,
+      split,
+      ap (sum_by f) lost,
+      sum_by-append f (all_places more) (orphans pins more),
+      sum_by-append f (places_of e) (all_places others),
+      sum_by-append f (places_of e) (used_places pins others),
+      sum_by-append f (all_places others) (orphans pins others),
+    )
+
 -- A FILE THAT ISN'T PINNED GOES: its blocks are used no more
 pub used_without : (pins : Option (List Pinned)) (e : FileEntry) (files : List FileEntry) → RisingEntries files → Contains files e → NotPinned e.0.stamp pins
     → SameUse (used_places pins files) (places_of e ++ used_places pins (without_entry e.0.number files))
@@ -229,16 +243,7 @@ used_without pins e files rising there away f =
     let others = without_entry e.0.number files in
     let lost : orphans pins others ≡ orphans pins files =
     orphans_kept pins files others (away_from e.0.stamp pins (λ s. is_current others s ≡ is_current files s) (λ s other. current_without s e files rising there other) away) in
-    let split = places_split e files rising there f in
-    omega (
-      arith,
-      split,
-      ap (sum_by f) lost,
-      sum_by-append f (all_places files) (orphans pins files),
-      sum_by-append f (places_of e) (all_places others),
-      sum_by-append f (places_of e) (used_places pins others),
-      sum_by-append f (all_places others) (orphans pins others),
-    )
+    used_more f pins e files others (sym lost) (places_split e files rising there f)
 
 -- A FILE WITH A NEW VERSION COMES, in the place of one of its number
 pub used_with : (pins : Option (List Pinned)) (e : FileEntry) (files : List FileEntry) → NotPinned e.0.stamp pins
@@ -248,16 +253,7 @@ used_with pins e files away f =
     let new = with_entry e files in
     let lost : orphans pins new ≡ orphans pins others =
     orphans_kept pins others new (away_from e.0.stamp pins (λ s. is_current new s ≡ is_current others s) (λ s other. current_with s e files other) away) in
-    let split = places_with e files f in
-    omega (
-      arith,
-      split,
-      ap (sum_by f) lost,
-      sum_by-append f (all_places new) (orphans pins new),
-      sum_by-append f (places_of e) (all_places others),
-      sum_by-append f (places_of e) (used_places pins others),
-      sum_by-append f (all_places others) (orphans pins others),
-    )
+    used_more f pins e new others lost (places_with e files f)
 
 -- A FILE THAT IS PINNED GOES: its blocks stay used
 orphan-cons : (f : ℕ → ℕ) (p : Pinned) (pins : List Pinned) (files : List FileEntry)

@@ -71,28 +71,18 @@ lost_are size next held files touched None are = refl
 lost_are size next held files touched (Some pins) are = lost_all size next held files pins are.each
 
 -- THE ROOM
-pub room_is : (disc : DiscState) (m : Memory) → IsKept disc m → m.live ≡ true → free_count m.pool ≡ room_of (facts_of disc m)
-room_is disc m kept live =
+room_counts : (disc : DiscState) (m : Memory) → IsKept disc m → m.live ≡ true → (free_count m.pool ≡ room_of (facts_of disc m)) × FitsDisc (facts_of disc m)
+room_counts disc m kept live =
     let was = kept.agreed live in
     let files = (directory_in m).files in
     let count = was.pool.fresh.count in
-    omega (
-      arith,
-      count,
-      length-append (all_places files) (orphans m.pins files),
-      blocks_are disc.held files was.stored.rules.lies,
-      lost_are disc.size m.head.next_stamp disc.held files m.touched m.pins was.pins,
-    )
+    let both = length-append (all_places files) (orphans m.pins files) in
+    let blocks = blocks_are disc.held files was.stored.rules.lies in
+    let lost = lost_are disc.size m.head.next_stamp disc.held files m.touched m.pins was.pins in
+    (omega (arith, count, both, blocks, lost), omega (arith, count, both, blocks, lost))
+
+pub room_is : (disc : DiscState) (m : Memory) → IsKept disc m → m.live ≡ true → free_count m.pool ≡ room_of (facts_of disc m)
+room_is disc m kept live = (room_counts disc m kept live).0
 
 pub room_fits : (disc : DiscState) (m : Memory) → IsKept disc m → m.live ≡ true → FitsDisc (facts_of disc m)
-room_fits disc m kept live =
-    let was = kept.agreed live in
-    let files = (directory_in m).files in
-    let count = was.pool.fresh.count in
-    omega (
-      arith,
-      count,
-      length-append (all_places files) (orphans m.pins files),
-      blocks_are disc.held files was.stored.rules.lies,
-      lost_are disc.size m.head.next_stamp disc.held files m.touched m.pins was.pins,
-    )
+room_fits disc m kept live = (room_counts disc m kept live).1

@@ -21,6 +21,7 @@ use Rattle.g_online.specs.declared.fault.OnlineFault.TheVariants.{DiscFull, NoMe
 use Rattle.g_online.specs.AllowedChanges.{AreUnjammable, IsAllowed, KeepsRules}
 use Rattle.g_online.specs.Change.{changed, need_of, takes_memory, told_bytes, touches, unjammed, unjammed_by, with_all}
 use Rattle.g_online.specs.Outcomes.{AfterStop, HasChanged, IsApplied, commits_of, room_for}
+use Rattle.g_tree.specs.Records.{IsRecords}
 
 -- which answer it was
 pub stopped_is : (e : OnlineFault) → (let r : Result (Unit {0}) OnlineFault = Err e in r ≡ Err Stopped) → e ≡ Stopped
@@ -212,24 +213,18 @@ one_rec P f files all =
     All-contains (λ (g : File). P g.rec) (with_file f files) f (each_rec P (with_file f files) all)
     (Contains-append_right (filter (λ (g : File). nat_lt g.rec.number f.rec.number) files) (f ∷ filter (λ (g : File). nat_lt f.rec.number g.rec.number) files) f (0, omega arith, refl))
 
+new_of : (f : File) (files : List File) (users : List UserRec) → IsRecords users (map (λ (g : File). g.rec) (with_file f files)) → IsNew f.rec users
+new_of f files users records = record {
+  file = one_rec IsFile f files records.each_file;
+  number = one_rec (λ (r : FileRec). r.number < 1024) f files records.numbers.below;
+  owner = one_rec (λ (r : FileRec). r.owner < length users) f files records.among_files.owners;
+  few = records.among_users.few;
+}
+
 new_in : (told pinned : Bool) (rec : FileRec) (bytes unjam : List ℕ) (c : Contents) → KeepsRules (changed told pinned (PutFile rec bytes unjam) c) → IsNew rec c.users
 unfolding changed
-new_in told true rec bytes unjam c kept =
-    let f : File = record { rec = rec; online = true; bytes = told_bytes told bytes } in
-    record {
-      file = one_rec IsFile f (taken_off unjam c.files) kept.records.each_file;
-      number = one_rec (λ (r : FileRec). r.number < 1024) f (taken_off unjam c.files) kept.records.numbers.below;
-      owner = one_rec (λ (r : FileRec). r.owner < length c.users) f (taken_off unjam c.files) kept.records.among_files.owners;
-      few = kept.records.among_users.few;
-    }
-new_in told false rec bytes unjam c kept =
-    let f : File = record { rec = rec; online = true; bytes = told_bytes told bytes } in
-    record {
-      file = one_rec IsFile f (taken_off unjam c.files) kept.records.each_file;
-      number = one_rec (λ (r : FileRec). r.number < 1024) f (taken_off unjam c.files) kept.records.numbers.below;
-      owner = one_rec (λ (r : FileRec). r.owner < length c.users) f (taken_off unjam c.files) kept.records.among_files.owners;
-      few = kept.records.among_users.few;
-    }
+new_in told true rec bytes unjam c kept = new_of (record { rec = rec; online = true; bytes = told_bytes told bytes }) (taken_off unjam c.files) c.users kept.records
+new_in told false rec bytes unjam c kept = new_of (record { rec = rec; online = true; bytes = told_bytes told bytes }) (taken_off unjam c.files) c.users kept.records
 
 pub is_new : (rec : FileRec) (bytes unjam : List ℕ) (o : OnlineFacts) → IsAllowed (PutFile rec bytes unjam) o → IsNew rec o.contents.users
 is_new rec bytes unjam o allowed = new_in (is_some o.disc.held) (is_some o.pins) rec bytes unjam o.contents allowed.rules

@@ -52,6 +52,7 @@ use Rattle.g_online.proofs.StepLemmas.{IsReady, applied, beside_none, kept_behin
 use Rattle.g_online.proofs.TwoLemmas.{IsNeeding, Way, first_applied, not_done, stopped_is}
 use Rattle.g_online.proofs.UseLemmas.{same_length}
 use Rattle.g_online.proofs.UnloadLemmas.{IsCopied, IsUnloadable, copies_off, covers_off, entries_off, not_among, noted_off, off_entry, others_off, pins_off, pool_then, remembers_pages, unloadable}
+use Rattle.g_online.proofs.MemoryLemmas.{kept_anew}
 
 -- COPIES FORGOTTEN one by one, and their records marked
 pub record IsForgotten (numbers : List ℕ) (online next : Copies) (old new : Remembered) : Type 0 where
@@ -276,21 +277,10 @@ room_told unjam inner outer needing before m o is kept allowed =
 none_yet : (inner outer : Change) → IsNeeding [] inner outer → (before : DiscState) (m : Memory) (pool : List Bool) (o : OnlineFacts) → facts_of before m ≡ o → IsKept before m → IsAllowed outer o
     → HasGiven (places_off [] m.online) m.pool pool → IsUnjammed inner [] o before (memory_with m pool (parts_of m))
 none_yet inner outer needing before m pool o is kept allowed given = record {
-  kept = record {
-    size = kept.size;
-    most = kept.most;
-    whole = kept.whole;
-    agreed = λ live.
-        let was = kept.agreed live in
-        record {
-          stored = was.stored;
-          copies = was.copies;
-          pool = subst (λ (on : Copies). IsPooled before.size m.pins (entries_of m.files on) pool) (sym (no_filter m.online))
-              (pool_then [] before m pool (may_take_off [] inner outer needing before m o is kept allowed) given);
-          noted = was.noted;
-          pins = was.pins;
-        };
-  };
+  kept = kept_anew before m pool m.pins m.changed m.touched kept
+      (λ live. subst (λ (on : Copies). IsPooled before.size m.pins (entries_of m.files on) pool) (sym (no_filter m.online))
+      (pool_then [] before m pool (may_take_off [] inner outer needing before m o is kept allowed) given))
+      (λ live. (kept.agreed live).noted) (λ live. (kept.agreed live).pins);
   live = allowed_live outer before m o is allowed;
   allowed = subst (λ (c : Change). IsAllowed c (facts_of before m)) (sym (needing.same refl)) (allowed_here outer before m o is allowed);
   way = inl (refl, sym is);

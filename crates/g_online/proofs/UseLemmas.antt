@@ -5,7 +5,7 @@ use Rattle.std.proofs.lemmas.Bool.{cases_eq, cond-false, cond-true, eq-eqb, ne_e
 use Rattle.std.proofs.lemmas.List.Elements.{All-append, All-contains, Contains-append_left, Contains-append_right, Contains-append_cases, Contains-get_or, All-weaker, All-contains_itself}
 use Rattle.std.proofs.lemmas.List.Sums.{sum_by-append, sum_by-cons}
 use Rattle.std.proofs.lemmas.Option.{slice_get_within}
-use Rattle.g_blocks.specs.Pool.{IsInArea, IsFresh, IsFree, IsTaken, HasTaken, HasGiven, free_count}
+use Rattle.g_blocks.specs.Pool.{ChangesOnly, IsInArea, IsFresh, IsFree, IsTaken, HasTaken, HasGiven, free_count}
 use Rattle.g_base.specs.Limits.{first_copy_block}
 
 -- THE SAME NUMBERS, each as often, in whatever order
@@ -159,6 +159,13 @@ contains_or_not xs k =
       | inr some ↦ inl (times_contains k xs (omega (arith, some)))
     ]
 
+-- a block of none of these keeps its flag
+flag_away : (blocks : List ℕ) (old new : List Bool) → ChangesOnly blocks old new → (block : ℕ) → first_copy_block ≤ block → (Contains blocks block → ⊥)
+    → slice_get new (block - first_copy_block) ≡ slice_get old (block - first_copy_block)
+flag_away blocks old new changes block low away =
+    let number : first_copy_block + (block - first_copy_block) ≡ block = omega (arith, low) in
+    changes.others (block - first_copy_block) (λ there. away (subst (Contains blocks) number there))
+
 -- FREE BLOCKS ARE TAKEN
 pub used_taken : (size : ℕ) (blocks used : List ℕ) (old new : List Bool) → IsUsed size used old → AllPairs (λ j k. j ≢ k) blocks → All (IsFree old) blocks → HasTaken blocks old new
     → IsUsed size (blocks ++ used) new
@@ -168,18 +175,13 @@ used_taken size blocks used old new was apart free taken = record {
     taken = All-append (IsTaken new) blocks used taken.taken (All-weaker (Contains used) (IsTaken new) still used (All-contains_itself used));
     free = λ block area away.
         let f = was.fresh.free block area (λ there. away (Contains-append_right blocks used block there)) in
-        record { low = area.low; flag = others block area.low (λ there. away (Contains-append_left blocks used block there)) ∙ f.flag };
+        record { low = area.low; flag = flag_away blocks old new taken.changes block area.low (λ there. away (Contains-append_left blocks used block there)) ∙ f.flag };
     count = (let c = taken.count in let w = was.fresh.count in omega (arith, c, w, length-append blocks used));
   };
   area = All-append (IsInArea size) blocks used (All-weaker (IsFree old) (IsInArea size) inside blocks free) was.area;
   apart = both_apart blocks used apart was.apart away_from;
 }
   where
-    others : (block : ℕ) → first_copy_block ≤ block → (Contains blocks block → ⊥) → slice_get new (block - first_copy_block) ≡ slice_get old (block - first_copy_block)
-    others block low away =
-        let number : first_copy_block + (block - first_copy_block) ≡ block = omega (arith, low) in
-        taken.changes.others (block - first_copy_block) (λ there. away (subst (Contains blocks) number there))
-
     inside : (block : ℕ) → IsFree old block → IsInArea size block
     inside block is =
         let within = slice_get_within old (block - first_copy_block) false is.flag in
@@ -195,7 +197,7 @@ used_taken size blocks used old new was apart free taken = record {
     still : (k : ℕ) → Contains used k → IsTaken new k
     still k there =
         let t = All-contains (IsTaken old) used k was.fresh.taken there in
-        record { low = t.low; flag = others k t.low (λ one. away_from k one there) ∙ t.flag }
+        record { low = t.low; flag = flag_away blocks old new taken.changes k t.low (λ one. away_from k one there) ∙ t.flag }
 
 -- USED BLOCKS ARE GIVEN BACK
 pub used_given : (size : ℕ) (blocks used : List ℕ) (old new : List Bool) → IsUsed size (blocks ++ used) old → HasGiven blocks old new → IsUsed size used new
@@ -207,7 +209,7 @@ used_given size blocks used old new was given = record {
         (λ (there : Contains blocks block). All-contains (IsFree new) blocks block given.free there)
         (λ (not_there : Contains blocks block → ⊥).
         let f = was.fresh.free block area (λ there. ⊎_elim not_there away (Contains-append_cases blocks used block there)) in
-        record { low = area.low; flag = others block area.low not_there ∙ f.flag })
+        record { low = area.low; flag = flag_away blocks old new given.changes block area.low not_there ∙ f.flag })
         (contains_or_not blocks block);
     count = (let c = given.count in let w = was.fresh.count in omega (arith, c, w, length-append blocks used));
   };
@@ -215,15 +217,10 @@ used_given size blocks used old new was given = record {
   apart = right_apart blocks used was.apart;
 }
   where
-    others : (block : ℕ) → first_copy_block ≤ block → (Contains blocks block → ⊥) → slice_get new (block - first_copy_block) ≡ slice_get old (block - first_copy_block)
-    others block low away =
-        let number : first_copy_block + (block - first_copy_block) ≡ block = omega (arith, low) in
-        given.changes.others (block - first_copy_block) (λ there. away (subst (Contains blocks) number there))
-
     still : (k : ℕ) → Contains used k → IsTaken new k
     still k there =
         let t = All-contains (IsTaken old) (blocks ++ used) k was.fresh.taken (Contains-append_right blocks used k there) in
-        record { low = t.low; flag = others k t.low (λ one. parts_apart blocks used k was.apart one there) ∙ t.flag }
+        record { low = t.low; flag = flag_away blocks old new given.changes k t.low (λ one. parts_apart blocks used k was.apart one there) ∙ t.flag }
 
 -- what giving back asks for
 pub may_give : (size : ℕ) (blocks used : List ℕ) (pool : List Bool) → IsUsed size (blocks ++ used) pool → AllPairs (λ j k. j ≢ k) blocks × All (IsTaken pool) blocks

@@ -43,6 +43,7 @@ use Rattle.g_store_calls.proofs.MarkLemmas.{has_first, only_grow}
 use Rattle.g_store_calls.proofs.RecordLemmas.{IsRecorded}
 use Rattle.g_store_calls.proofs.TellLemmas.{AreOff, granted_off, not_not, user_any, below_of}
 use Rattle.g_online.proofs.UserLemmas.{slice_get-push}
+use Rattle.g_online.proofs.OffRuleLemmas.{committed_rules}
 
 slice_last : {X : Type 0} (xs : List X) (x : X) → slice_get (xs ++ x ∷ []) (length xs) ≡ Some x
 slice_last [] x = refl
@@ -147,15 +148,6 @@ add_is : (told pinned : Bool) (u : UserRec) (c : Contents) → changed told pinn
 unfolding changed
 add_is told pinned u c = ap (λ (b : Bool). committed b (record c { users = c.users ++ u ∷ [] })) (or_false pinned)
 
-pub rules_committed : (b : Bool) (c : Contents) → KeepsRules c → KeepsRules (committed b c)
-rules_committed true c is = is
-rules_committed false c is = record {
-  head = record { least_stamp = is.head.least_stamp; most_stamp = is.head.most_stamp; last_dump = is.head.last_dump; intent = tt };
-  records = is.records;
-  dated = is.dated;
-  lie = is.lie;
-}
-
 pub may_add : (o : OnlineFacts) (u : UserRec) → o.live ≡ true → IsTied o → IsRecords (o.contents.users ++ u ∷ []) (recs_in o.contents) → IsAllowed (AddUser u) o
 may_add o u live tied rules =
     let was = rules_here o live tied in
@@ -163,7 +155,7 @@ may_add o u live tied rules =
       live = live;
       fits = tt;
       rules = subst KeepsRules (sym (add_is (is_some o.disc.held) (is_some o.pins) u o.contents))
-          (rules_committed (is_some o.pins) (record o.contents { users = o.contents.users ++ u ∷ [] }) (record { head = was.head; records = rules; dated = was.dated; lie = was.lie }));
+          (committed_rules (is_some o.pins) (record o.contents { users = o.contents.users ++ u ∷ [] }) (record { head = was.head; records = rules; dated = was.dated; lie = was.lie }));
     }
 
 -- THE CALL is the step's

@@ -83,7 +83,7 @@ module _ (s : StoreFacts) (u : State) (sn : Seen s u) (not : Told s → ⊥) whe
   }
 
 -- WHERE THEY DO
-agree_with : (d : Dump) (a b : ℕ → List Dump) (reels : List Reel) → Agree a b reels → Agree (with_dump d a) (with_dump d b) reels
+pub agree_with : (d : Dump) (a b : ℕ → List Dump) (reels : List Reel) → Agree a b reels → Agree (with_dump d a) (with_dump d b) reels
 unfolding Agree
 agree_with d a b reels agree r there = ap (λ (ds : List Dump). let es : List Dump = if r.serial == d.serial then ds ++ d ∷ [] else ds in es) (agree r there)
 

@@ -6,6 +6,7 @@ use Rattle.std.proofs.lemmas.Bool.{false≢true}
 use Rattle.std.proofs.lemmas.List.Elements.{All-contains}
 use Rattle.g_base.specs.Block.{blocks_for}
 use Rattle.g_disc.specs.Disc.{ReadsByCause}
+use Rattle.g_disc.proofs.CallLemmas.{ReadsByCause-for}
 use Rattle.g_entry.specs.declared.file_rec.FileRec.{FileRec}
 use Rattle.g_entry.specs.declared.file_rec.TapeCopy.{TapeCopy}
 use Rattle.g_entry.specs.declared.user_rec.UserRec.{UserRec}
@@ -67,16 +68,7 @@ module _ (o : OnlineFacts) (live : o.live ≡ true) (tied : IsTied o) (file : Fi
           let asked : HasAsked (result ≡ Err online.ReadFault) ⊥ o new rack rack = disc_asked (result ≡ Err online.ReadFault) o new rack reads same_else tied_then in
           undisclosed f bytes o new rack plan
           (record {
-            disc = record {
-              held = reads.held;
-              size = reads.size;
-              write_faults = reads.write_faults;
-              writes = reads.writes;
-              fuse = reads.fuse;
-              arms = reads.arms;
-              kept = λ no. absurd (no tt);
-              rose = λ one. reads.rose is;
-            };
+            disc = ReadsByCause-for (λ e. tt) (λ one. is) reads;
             same = same_else;
             tied = tied_then;
             only = asked.only;

@@ -4,7 +4,7 @@ use Rattle.std.specs.Prelude.{◌⊎◌, Contains}
 use Rattle.std.proofs.lemmas.Bool.{cases_Bool}
 use Rattle.g_base.specs.Block.{blocks_for}
 use Rattle.g_disc.specs.Disc.{ReadsByCause}
-use Rattle.g_disc.proofs.CallLemmas.{Causes-none}
+use Rattle.g_disc.proofs.CallLemmas.{Causes-none, ReadsByCause-none}
 use Rattle.g_name.specs.declared.full.Full.{Full}
 use Rattle.g_entry.specs.declared.file_rec.FileRec.{FileRec}
 use Rattle.g_entry.specs.declared.file_rec.TapeCopy.{TapeCopy}
@@ -29,11 +29,12 @@ use Rattle.g_store_calls.specs.Asking.{HasAsked, HasPlanned}
 use Rattle.g_store_calls.specs.Versions.{IsNext}
 use Rattle.g_store_calls.proofs.MakeLemmas.{put_allowed}
 use Rattle.g_store_calls.proofs.NextLemmas.{next_version}
+use Rattle.g_store_calls.proofs.QuietLemmas.{asked_for}
 
 -- NOTHING was asked, and TAPES alone were read
 pub tapes_asked : {A : Type 0} (o : OnlineFacts) (before after : Rack) (result : Result A StoreFault) → IsTied o → ReadsTapes before after result → HasAsked ⊥ (result ≡ Err TapeReadFault) o o before after
 tapes_asked o before after result tied reads = record {
-  disc = record { held = refl; size = refl; write_faults = refl; writes = refl; fuse = refl; arms = refl; kept = λ no. refl; rose = λ no. absurd no };
+  disc = ReadsByCause-none o.disc (λ no. no);
   same = refl;
   tied = tied;
   only = reads.only;
@@ -43,7 +44,7 @@ tapes_asked o before after result tied reads = record {
 
 pub nothing_asked : (o : OnlineFacts) (rack : Rack) → IsTied o → HasAsked ⊥ ⊥ o o rack rack
 nothing_asked o rack tied = record {
-  disc = record { held = refl; size = refl; write_faults = refl; writes = refl; fuse = refl; arms = refl; kept = λ no. refl; rose = λ no. absurd no };
+  disc = ReadsByCause-none o.disc (λ no. no);
   same = refl;
   tied = tied;
   only = nothing_read rack;
@@ -57,23 +58,7 @@ disc_asked cause o new rack reads same tied = record { disc = reads; same = same
 
 -- no read has failed where it answered otherwise
 pub asked_none : {P Q : Type 0} (old new : OnlineFacts) (before after : Rack) → (P → ⊥) → (Q → ⊥) → HasAsked P Q old new before after → HasAsked ⊥ ⊥ old new before after
-asked_none old new before after no_disc no_tape asked = record {
-  disc = record {
-    held = asked.disc.held;
-    size = asked.disc.size;
-    write_faults = asked.disc.write_faults;
-    writes = asked.disc.writes;
-    fuse = asked.disc.fuse;
-    arms = asked.disc.arms;
-    kept = λ no. asked.disc.kept no_disc;
-    rose = λ no. absurd no;
-  };
-  same = asked.same;
-  tied = asked.tied;
-  only = asked.only;
-  kept = λ no. asked.kept no_tape;
-  rose = λ no. absurd no;
-}
+asked_none old new before after no_disc no_tape asked = asked_for no_disc (λ no. absurd no) no_tape (λ no. absurd no) asked
 
 module _ (f : File) (bytes : List ℕ) (o : OnlineFacts) where
   abbrev full : Full

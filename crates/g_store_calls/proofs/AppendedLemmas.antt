@@ -1,6 +1,6 @@
 -- How bytes that were put behind those of a file are answered: the new version is the step's, whether it was made or a write failed.
 use Rattle.std.proofs.Common.{◌≡◌, ℕ, ◌+◌, ◌<◌, ◌≤◌, Bool, true, false, List, ◌++◌, get_or, length, length-append, Option, Some, None, Ok, Err, is_some, refl, sym, ◌∙◌, ap, inl, inr, subst, true≢false, All}
-use Rattle.std.specs.Prelude.{◌⊎◌, Contains, IfSome, not}
+use Rattle.std.specs.Prelude.{◌⊎◌, Contains, IfSome, not, Result}
 use Rattle.std.specs.Option.{ForSome}
 use Rattle.std.proofs.lemmas.Bool.{false≢true}
 use Rattle.std.proofs.lemmas.List.Elements.{All-contains, All-map}
@@ -18,6 +18,7 @@ use Rattle.g_tape.specs.Reads.{HasRead, OnlyReads}
 use Rattle.g_tape.specs.Reel.{Reel}
 use Rattle.g_plain.specs.declared.calls.StoreCall.{StoreCall}
 use Rattle.g_plain.specs.declared.calls.StoreCall.TheVariants.{Append}
+use Rattle.g_plain.specs.declared.calls.StoreReply.{StoreReply}
 use Rattle.g_plain.specs.declared.calls.StoreReply.TheVariants.{Appended}
 use Rattle.g_plain.specs.declared.faults.StoreFault.TheVariants.{Stopped}
 use Rattle.g_plain.specs.PlainStep.{reply_to}
@@ -29,7 +30,7 @@ use Rattle.g_disc_contents.specs.Facts.{IsTied, OnlineFacts}
 use Rattle.g_incr.specs.Layout.{Dump}
 use Rattle.g_store_model.specs.State.{Holding, Place, State}
 use Rattle.g_store_model.specs.CallStep.{Plain, is_offline, len_of, place_of, version_read}
-use Rattle.g_store_meaning.specs.Answers.{Answers, Belongs, IsStore, ReadCopy, Told}
+use Rattle.g_store_meaning.specs.Answers.{Answers, Belongs, From, IsStore, ReadCopy, Steps, Told}
 use Rattle.g_store_meaning.specs.Meaning.{IsContent, told_reels}
 use Rattle.g_store_meaning.specs.Reading.{AllTold, HasText, IsView, ReelsTold, StandsForState, View, state_up}
 use Rattle.g_store_meaning.specs.StoreInvariant.{StoreFacts}
@@ -53,6 +54,7 @@ use Rattle.g_store_calls.proofs.AskedLemmas.{Met, met, no_bytes, prepared}
 use Rattle.g_store_calls.proofs.QuietLemmas.{online_is, read_online}
 use Rattle.g_store_calls.proofs.VersionLemmas.{IsMet, belongs_done, belongs_stopped, leads_done, leads_stopped, store_done}
 use Rattle.g_store_calls.proofs.WantLemmas.{Wants, len_in, place_in, row_in}
+use Rattle.g_plain.specs.declared.faults.StoreFault.{StoreFault}
 
 -- A CHANGE of what was only read before
 module _ (change : Change) (s : StoreFacts) (mid new : OnlineFacts) (after : Rack) (unspent : s.spent ≡ false) (store : IsStore s) (asked : HasAsked ⊥ ⊥ s.online mid s.rack after) where
@@ -234,6 +236,10 @@ module _ (s : StoreFacts) (new : OnlineFacts) (after : Rack) (unspent : s.spent 
             (subst (λ (n : ℕ). (i : ℕ) → c.first ≤ i → i < c.first + blocks_for n → HasRead c.serial i s.rack t.rack) (sym len_is)
             (subst (λ (r : Rack). (i : ℕ) → c.first ≤ i → i < c.first + blocks_for f.rec.len → HasRead c.serial i s.rack r) (sym is) copied.read))
 
+    -- from there
+    from_met : (answer : Result StoreReply StoreFault) (t : StoreFacts) → Steps up s who call answer t → From u s who call answer t
+    from_met answer t steps = record { before = up; stands = ahead_stands s up unspent ahead; told = λ all. m.asks.told all; steps = steps }
+
   -- MADE
   module _ (done : HasChanged change s.online new) (causes : Causes ⊥ ⊥ s.online.disc new.disc) where
     abbrev made : StoreFacts
@@ -241,13 +247,10 @@ module _ (s : StoreFacts) (new : OnlineFacts) (after : Rack) (unspent : s.spent 
 
     pub done_answers : Answers s who call (Ok (Appended full)) made
     done_answers = record {
-      step = λ belongs u here. record {
-        before = up belongs u here;
-        stands = ahead_stands s (up belongs u here) unspent (ahead belongs u here);
-        told = λ all. (m belongs u here).asks.told all;
-        steps = leads_done s new full whole rec take room unspent store keeps tied size tells version (sym long) roomy belongs (up belongs u here) (ahead belongs u here) who call (is_met belongs u here)
-            (makes belongs u here) refl done after only (Appended full) (replied belongs u here) (copy_read belongs u here made refl);
-      };
+      step = λ belongs u here.
+          from_met belongs u here (Ok (Appended full)) made
+          (leads_done s new full whole rec take room unspent store keeps tied size tells version (sym long) roomy belongs (up belongs u here) (ahead belongs u here) who call (is_met belongs u here)
+          (makes belongs u here) refl done after only (Appended full) (replied belongs u here) (copy_read belongs u here made refl));
       cause = record {
         disc = Causes-for (λ no. absurd no) (λ is. let no : ⊥ = cc in no) (λ no. absurd no) (λ is. let no : ⊥ = cc in no) causes;
         tapes = only;
@@ -272,13 +275,10 @@ module _ (s : StoreFacts) (new : OnlineFacts) (after : Rack) (unspent : s.spent 
 
     pub stopped_answers : Answers s who call (Err Stopped) spent
     stopped_answers = record {
-      step = λ belongs u here. record {
-        before = up belongs u here;
-        stands = ahead_stands s (up belongs u here) unspent (ahead belongs u here);
-        told = λ all. (m belongs u here).asks.told all;
-        steps = leads_stopped s new full whole rec take room unspent store keeps tied size tells version (sym long) roomy belongs (up belongs u here) (ahead belongs u here) who call (is_met belongs u here)
-            (makes belongs u here) refl stopped causes after only;
-      };
+      step = λ belongs u here.
+          from_met belongs u here (Err Stopped) spent
+          (leads_stopped s new full whole rec take room unspent store keeps tied size tells version (sym long) roomy belongs (up belongs u here) (ahead belongs u here) who call (is_met belongs u here)
+          (makes belongs u here) refl stopped causes after only);
       cause = record {
         disc = Causes-for (λ no. absurd no) (λ is. let no : ⊥ = cc in no) (λ one. refl) (λ is. tt) causes;
         tapes = only;

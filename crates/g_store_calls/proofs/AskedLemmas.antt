@@ -1,7 +1,7 @@
 -- What is known of a store where a call comes that takes or brings bytes, whether or not its devices tell what they hold. Where they do, disc
 -- and rack belong together, and the state is that of the store's own view; where they don't, any bytes of a version's length will do.
 use Rattle.std.proofs.Common.{◌≡◌, ◌≢◌, ℕ, Bool, true, false, List, [], ◌∷◌, get_or, length, Option, Some, None, refl, sym, ◌∙◌, ap, inl, inr, subst}
-use Rattle.std.specs.Prelude.{◌⊎◌, ◌==◌, ◌++◌, ◌≤◌, All, AllPairs, Contains, IfSome, is_some, if◌then◌else◌}
+use Rattle.std.specs.Prelude.{◌⊎◌, ◌==◌, ◌≤◌, All, AllPairs, Contains, IfSome, is_some, if◌then◌else◌}
 use Rattle.std.specs.Option.{ForSome}
 use Rattle.std.proofs.lemmas.Bool.{cases_Bool, cases_eq, cond-false, cond-true, eq-eqb, false≢true, ne_eqb, true≢false}
 use Rattle.std.proofs.lemmas.List.Elements.{All-cons, All-contains, All-head, All-map, All-nil, All-tail, All-weaker, Contains-get_or}
@@ -25,7 +25,7 @@ use Rattle.g_store_meaning.specs.Laws.{with_text}
 use Rattle.g_store_meaning.specs.Meaning.{DumpedDirectory, IsContent, told_reels}
 use Rattle.g_store_meaning.specs.Reading.{AllTold, HasText, IsOpenView, IsView, Opened, OpensTo, StandsForState, View, state_up}
 use Rattle.g_store_meaning.specs.StoreInvariant.{DumpFacts, IsOpen, IsReady, StoreFacts, content_in, with_dump}
-use Rattle.g_store_meaning.proofs.OneLemmas.{Agree, same_dumps, shelves_agree}
+use Rattle.g_store_meaning.proofs.OneLemmas.{same_dumps, shelves_agree}
 use Rattle.g_laws_calls.specs.Calls.{IsAsked}
 use Rattle.g_laws_store.proofs.PinLemmas.{OtherStamp}
 use Rattle.g_laws_memory.specs.Places.{AreDistinct}
@@ -36,6 +36,7 @@ use Rattle.g_laws_memory.proofs.RoomLemmas.{files_apart}
 use Rattle.g_migrate.proofs.MigrationLemmas.{rules_here}
 use Rattle.g_store_calls.specs.Answering.{KeepsPlan}
 use Rattle.g_store_calls.proofs.SeenLemmas.{Seen, seen}
+use Rattle.g_store_calls.proofs.AheadLemmas.{agree_with}
 
 -- WHETHER ALL IS TOLD
 abbrev Tells : Reel → Type 0
@@ -117,10 +118,6 @@ asked_by o dump reels v is right dumped opened = record {
 }
 
 -- ALL IS TOLD
-agree_with : (d : Dump) (a b : ℕ → List Dump) (reels : List Reel) → Agree a b reels → Agree (with_dump d a) (with_dump d b) reels
-unfolding Agree
-agree_with d a b reels agree r there = ap (λ (ds : List Dump). let es : List Dump = if r.serial == d.serial then ds ++ d ∷ [] else ds in es) (agree r there)
-
 dumped_below : (dumps : List Dump) (next : ℕ) → ((d : Dump) → Contains dumps d → d.next ≤ next) → (x : Option (DumpedDirectory dumps)) → IfSome x (λ t. t.last.next ≤ next)
 dumped_below dumps next below None = tt
 dumped_below dumps next below (Some t) = below t.last t.greatest.there

@@ -1,6 +1,6 @@
 -- The step of a call that reads a file: of one that isn't on the disc, at each of its exits, and where the disc's read failed.
-use Rattle.std.proofs.Common.{◌≡◌, ℕ, ◌<◌, ◌≤◌, Bool, true, false, List, [], ◌∷◌, Option, Some, None, Result, Ok, Err, refl, sym, ap, arith, subst}
-use Rattle.std.specs.Prelude.{◌||◌, ◌&&◌, MatchOption, is_some, nat_lt, not, unwrap_or}
+use Rattle.std.proofs.Common.{◌≡◌, ℕ, ◌<◌, ◌≤◌, Bool, true, false, List, [], ◌∷◌, Option, None, Result, Ok, Err, refl, sym, ap, subst}
+use Rattle.std.specs.Prelude.{◌&&◌, MatchOption, is_some, nat_lt, not, unwrap_or}
 use Rattle.std.proofs.lemmas.Bool.{le-ltb, lt-ltb, or_right}
 use Rattle.g_plain.specs.declared.calls.StoreCall.{StoreCall}
 use Rattle.g_plain.specs.declared.calls.StoreReply.{StoreReply}
@@ -10,6 +10,7 @@ use Rattle.g_plain.specs.PlainStep.{fault_of, first_fault, reply_to}
 use Rattle.g_store_model.specs.State.{Holding, State, is_mounted}
 use Rattle.g_store_model.specs.CallStep.{CallStep, Cut, DiscRead, IsUnjam, LeftByRefusal, Outcome, Plain, Planned, TapeRead, after_call, brings_now, early, is_cut, is_disc_read, is_offline, is_tape_read, late, len_of, need, reel_of, room_until, version_read, wants_bytes, writes}
 use Rattle.g_store_calls.proofs.CalmLemmas.{nothing_unjammed}
+use Rattle.g_store_calls.proofs.StepLemmas.{here_early, late_reads, none_lacks, step_late}
 
 module _ (u : State) (k : Holding) (who : List ℕ) (call : StoreCall) (granted : fault_of k.tree who call ≡ None) where
   abbrev serial : ℕ
@@ -78,29 +79,8 @@ module _ (u : State) (k : Holding) (who : List ℕ) (call : StoreCall) (granted 
 
   -- OF A FILE ON THE DISC, whose read failed
   module _ (on : is_offline u k who call ≡ false) (none : need u k who call ≡ 0) (wants : wants_bytes call ≡ true) (filled : 0 < len_of u k who call (version_read k.tree who call)) where
-    no_early : early u k who call DiscRead ≡ None
-    no_early = λ i. first_fault (
-        (is_some (granted i), unwrap_or (granted i) Stopped)
-        ∷ (on i && not (is_mounted u serial), WaitTape serial)
-        ∷ (false && on i, TapeReadFault)
-        ∷ [])
-
-    roomy : nat_lt (room_until u k who call 0) (need u k who call) ≡ false
-    roomy = le-ltb (room_until u k who call 0) (need u k who call) (omega (arith, none))
-
-    unread_late : late u k who call DiscRead 0 ≡ Some DiscReadFault
-    unread_late = λ i. first_fault (
-        (roomy i, DiscFull (need u k who call) (room_until u k who call 0))
-        ∷ (true && wants i && not (on i) && lt-ltb 0 (len_of u k who call (version_read k.tree who call)) filled i, DiscReadFault)
-        ∷ (false && (writes call || brings_now u k who call), Stopped)
-        ∷ [])
-
     pub step_unread_disc : CallStep u k who call DiscRead (Err DiscReadFault) u
     step_unread_disc =
-        subst (λ (e : Option StoreFault). MatchOption e (Planned u k who call DiscRead (Err DiscReadFault) u) (Stays (Err DiscReadFault))) (sym no_early)
-        (record {
-          until = 0;
-          unjam = nothing_unjammed u k who call on none;
-          step = subst (λ (e : Option StoreFault). MatchOption e ((◌≡◌ {A = Result StoreReply StoreFault} (Err DiscReadFault) (Ok (reply_to k.tree who call))) × (u ≡ after_call u k who call 0))
-              (λ g. (◌≡◌ {A = Result StoreReply StoreFault} (Err DiscReadFault) (Err g)) × LeftByRefusal u k who call DiscRead 0 g u)) (sym unread_late) (refl, refl);
-        })
+        step_late u k who call DiscRead DiscReadFault 0 u (here_early u k who call DiscRead granted on refl) (nothing_unjammed u k who call on none)
+        (late_reads u k who call DiscRead 0 (none_lacks u k who call DiscRead none)
+        (λ i. wants i && not (on i) && lt-ltb 0 (len_of u k who call (version_read k.tree who call)) filled i)) refl

@@ -41,7 +41,7 @@ files_seen held now reels v c same right = record {
 }
 
 -- FILES THAT ARE TAKEN OFF have their texts on tape, where the devices tell and belong together
-off : Bool → File → File
+unfoldable pub off : Bool → File → File
 off b g = if b then record g { online = false; bytes = None } else g
 
 some_of : {A : Type 0} (o : Option A) → is_some o ≡ true → (x : A) × (o ≡ Some x)
@@ -59,10 +59,10 @@ tells_one (Some blocks) (rec, Some copy) told online = refl
 tells_online : (held : Option (List (List ℕ))) (d : Directory) → is_some held ≡ true → All TellsOnline (contents_of held d).files
 tells_online held d told = All-map TellsOnline (file_of held) d.files (λ i e within. tells_one held (get_or d.files i e) told)
 
-abbrev CopyHolds : Type 0 → (ℕ → List ℕ) → List Dump → File → Type 0
+abbrev pub CopyHolds : Type 0 → (ℕ → List ℕ) → List Dump → File → Type 0
 CopyHolds all text dumps g = all → g.online ≡ true → IfSome g.rec.tape (λ place. IsContent dumps place (text g.rec.stamp))
 
-off_text : (all now : Type 0) (text : ℕ → List ℕ) (dumps : List Dump) (b : Bool) (g : File) → (now → all) → CopyHolds all text dumps g → HasText all (text g.rec.stamp) dumps g
+pub off_text : (all now : Type 0) (text : ℕ → List ℕ) (dumps : List Dump) (b : Bool) (g : File) → (now → all) → CopyHolds all text dumps g → HasText all (text g.rec.stamp) dumps g
     → (let h = off b g in HasText now (text h.rec.stamp) dumps h)
 unfolding off
 off_text all now text dumps false g back copy is = record { len = is.len; bytes = is.bytes; tape = λ told. is.tape (back told) }

@@ -1,6 +1,6 @@
 -- A file comes back to the disc from its copy on tape, with others taken off the disc for it: the answer of the store, done and stopped.
 use Rattle.std.proofs.Common.{◌≡◌, ℕ, ◌<◌, ◌≤◌, ◌+◌, Bool, true, false, List, [], get_or, length, Option, Some, None, Ok, Err, refl, sym, ◌∙◌, ap, arith, inl, inr, subst, true≢false}
-use Rattle.std.specs.Prelude.{◌⊎◌, ◌==◌, All, IfSome, is_some, map, nat_lt, not, if◌then◌else◌}
+use Rattle.std.specs.Prelude.{◌⊎◌, ◌==◌, All, IfSome, is_some, map, nat_lt, not, if◌then◌else◌, Result}
 use Rattle.std.specs.Option.{ForSome, option_map}
 use Rattle.std.proofs.lemmas.Bool.{eqb-true, false≢true, ltb-false, ltb-true, or_right}
 use Rattle.std.proofs.lemmas.List.Elements.{All-contains, All-map}
@@ -30,7 +30,7 @@ use Rattle.g_online.proofs.OffRuleLemmas.{rec_off}
 use Rattle.g_incr.specs.Layout.{Dump}
 use Rattle.g_store_model.specs.State.{Holding, OpenDump, State}
 use Rattle.g_store_model.specs.CallStep.{Cut, LeftByRefusal, Plain, after_call, after_unjam, brings, brings_now, down, is_offline, kept_intent, len_of, need, room_until, version_read, writes}
-use Rattle.g_store_meaning.specs.Answers.{Answers, AreCommits, Belongs, Did, From, IsStore, Leads, ReadCopy, Told}
+use Rattle.g_store_meaning.specs.Answers.{Answers, AreCommits, Belongs, Did, From, IsStore, Leads, ReadCopy, Steps, Told}
 use Rattle.g_store_meaning.specs.Meaning.{IsContent, told_reels}
 use Rattle.g_store_meaning.specs.Reading.{AllTold, DevicesStandFor, HasText, IsOpenView, IsRackView, IsView, StandsForState, View, holding_of, names_of, open_of, row_of, state_down, state_up, tree_by}
 use Rattle.g_store_meaning.specs.StoreInvariant.{DumpFacts, StoreFacts}
@@ -53,6 +53,7 @@ use Rattle.g_store_calls.proofs.BackLemmas.{step_back, step_cut}
 use Rattle.g_store_calls.proofs.SeenLemmas.{Seen, stands}
 use Rattle.g_store_calls.proofs.TapeLemmas.{are_here, brings_here, len_here, mounted_here, need_here, off_here, over_itself, plan_here, replanned, room_here, unjam_here}
 use Rattle.g_store_calls.proofs.WantLemmas.{Wants, granted_in, place_in, reads_is}
+use Rattle.g_plain.specs.declared.faults.StoreFault.{StoreFault}
 
 -- THE CONTENTS that come of it
 abbrev off_disc : List ℕ → Contents → Contents
@@ -243,6 +244,14 @@ module _ (s : StoreFacts) (new : OnlineFacts) (after : Rack) (who : List ℕ) (c
   stands_at : (v : View) → IsSeen v → IsOpenView reels v o s.dump → StandsForState s (up v)
   stands_at v right opens = stands s (up v) is.unspent (record { view = v; is = right; opens = opens; state_is = refl })
 
+  -- from the state that was met
+  from_met : (answer : Result StoreReply StoreFault) (t : StoreFacts) → (Told s → Belongs s) → (u : State) → StandsForState s u → ((m : MetAt u) → Steps (up m.asks.view) s who call answer t)
+      → From u s who call answer t
+  from_met answer t belongs u here steps =
+      let m = meets belongs u here in
+      let a = m.asks in
+      record { before = up a.view; stands = stands_at a.view a.is a.opens; told = a.told; steps = steps m }
+
   -- VIEWS behind it
   distinct : AreDistinct o.contents.files
   distinct = files_apart o.contents.files records.among_files.stamps
@@ -360,14 +369,7 @@ module _ (s : StoreFacts) (new : OnlineFacts) (after : Rack) (who : List ℕ) (c
 
     from_done : (Told s → Belongs s) → (u : State) → StandsForState s u → From u s who call (Ok (reply text)) then_
     from_done belongs u here =
-        let m = meets belongs u here in
-        let a = m.asks in
-        record {
-          before = up a.view;
-          stands = stands_at a.view a.is a.opens;
-          told = a.told;
-          steps = leads_done belongs a.view a.is a.opens a.known m.text_is;
-        }
+        from_met (Ok (reply text)) then_ belongs u here (λ (m : MetAt u). leads_done belongs m.asks.view m.asks.is m.asks.opens m.asks.known m.text_is)
 
     pub done_then : Answers s who call (Ok (reply text)) then_
     done_then = record {
@@ -445,16 +447,9 @@ module _ (s : StoreFacts) (new : OnlineFacts) (after : Rack) (who : List ℕ) (c
 
     from_stopped : (Told s → Belongs s) → (u : State) → StandsForState s u → From u s who call (Err Stopped) then_
     from_stopped belongs u here =
-        let m = meets belongs u here in
-        let a = m.asks in
-        record {
-          before = up a.view;
-          stands = stands_at a.view a.is a.opens;
-          told = a.told;
-          steps = λ told.
-              let (blocks, held_is) = some_of new.disc.held (is.tells ∙ told.disc) in
-              leads_one belongs a.view a.is a.known m.text_is blocks held_is (stopped.holds blocks held_is).one;
-        }
+        from_met (Err Stopped) then_ belongs u here (λ (m : MetAt u) told.
+        let (blocks, held_is) = some_of new.disc.held (is.tells ∙ told.disc) in
+        leads_one belongs m.asks.view m.asks.is m.asks.known m.text_is blocks held_is (stopped.holds blocks held_is).one)
 
     pub stopped_then : Answers s who call (Err Stopped) then_
     stopped_then = record {

@@ -38,10 +38,11 @@ use Rattle.g_online.specs.Change.{changed}
 use Rattle.g_migrate.proofs.MigrationLemmas.{rules_here}
 use Rattle.g_store_calls.specs.ReplacedRecords.{IsBudgeted, budgeted}
 use Rattle.g_store_calls.specs.Replies.{RefusesAs}
-use Rattle.g_store_calls.proofs.AddLemmas.{or_false, rules_committed}
+use Rattle.g_store_calls.proofs.AddLemmas.{or_false}
 use Rattle.g_store_calls.proofs.MarkLemmas.{only_grow}
 use Rattle.g_store_calls.proofs.RecordLemmas.{IsRecorded}
 use Rattle.g_store_calls.proofs.TellLemmas.{granted_off, not_not, user_any}
+use Rattle.g_online.proofs.OffRuleLemmas.{committed_rules}
 
 -- ANOTHER RECORD of a user, of the same number, name and superior: the records keep their rules
 module _ (users : List UserRec) (n : ℕ) (u old : UserRec) (at : slice_get users n ≡ Some old) where
@@ -224,7 +225,7 @@ module _ (o : OnlineFacts) (who user : List ℕ) (kind : BudgetKind) (amount : �
         live = live;
         fits = (there, name_is);
         rules = subst KeepsRules (sym (set_is (is_some o.disc.held) (is_some o.pins) u o.contents))
-            (rules_committed (is_some o.pins) (record o.contents { users = slice_set o.contents.users u.number u })
+            (committed_rules (is_some o.pins) (record o.contents { users = slice_set o.contents.users u.number u })
             (record { head = was.head; records = made.rules; dated = was.dated; lie = was.lie }));
       }
 

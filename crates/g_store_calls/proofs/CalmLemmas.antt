@@ -1,7 +1,7 @@
 -- An answer that changes nothing, whatever store the filestore is in.
 use Rattle.std.proofs.Common.{◌≡◌, ℕ, Bool, true, false, List, [], ◌∷◌, length, Option, Some, None, Result, Ok, Err, refl, sym, ◌∙◌, ap, arith, inl, subst, All}
-use Rattle.std.specs.Prelude.{◌||◌, ◌&&◌, not, nat_lt, if◌then◌else◌, MatchOption, OnOk, is_some, unwrap_or}
-use Rattle.std.proofs.lemmas.Bool.{false≢true, le-ltb}
+use Rattle.std.specs.Prelude.{◌&&◌, not, if◌then◌else◌, OnOk, is_some, unwrap_or}
+use Rattle.std.proofs.lemmas.Bool.{false≢true}
 use Rattle.std.proofs.lemmas.List.Elements.{All-contains, All-map, All-weaker}
 use Rattle.g_disc.proofs.CallLemmas.{Causes-none}
 use Rattle.g_entry.specs.declared.file_rec.FileRec.{FileRec}
@@ -10,7 +10,7 @@ use Rattle.g_plain.specs.declared.calls.StoreCall.{StoreCall}
 use Rattle.g_plain.specs.declared.calls.StoreCall.TheVariants.{NewUser, Budget, Put, Append, Fetch, Erase, Rename, List as ListFiles, TrapGo, TrapStop, TrapCheck, Retrieve}
 use Rattle.g_plain.specs.declared.calls.StoreReply.{StoreReply}
 use Rattle.g_plain.specs.declared.faults.StoreFault.{StoreFault}
-use Rattle.g_plain.specs.declared.faults.StoreFault.TheVariants.{DiscFull, DiscReadFault, NoCopy, NoMemory, NoUser, Stopped, TapeReadFault, WaitTape}
+use Rattle.g_plain.specs.declared.faults.StoreFault.TheVariants.{DiscReadFault, NoCopy, NoMemory, NoUser, Stopped, TapeReadFault, WaitTape}
 use Rattle.g_plain.specs.PlainStep.{Checks, checks, fault_of, first_fault, reply_to}
 use Rattle.g_plain.specs.PlainTree.{Tree, has_user}
 use Rattle.g_tree.specs.AskedRecords.{zeros}
@@ -19,7 +19,7 @@ use Rattle.g_tree.proofs.NamedLemmas.{zeros_fit}
 use Rattle.g_disc_contents.specs.Contents.{Contents, File, recs_in}
 use Rattle.g_disc_contents.specs.Facts.{OnlineFacts}
 use Rattle.g_store_model.specs.State.{Holding, State, is_mounted}
-use Rattle.g_store_model.specs.CallStep.{CallStep, Plain, Planned, IsUnjam, LeftByRefusal, after_call, brings_now, early, is_offline, late, len_of, need, reel_of, room_until, version_read, wants_bytes, writes}
+use Rattle.g_store_model.specs.CallStep.{CallStep, Plain, IsUnjam, after_call, is_offline, need, reel_of, writes}
 use Rattle.g_store_meaning.specs.Answers.{Answers, Did, IsStore, Leads, Steps}
 use Rattle.g_store_meaning.specs.Meaning.{told_reels}
 use Rattle.g_store_meaning.specs.Reading.{AllTold, HasText, IsView, StandsForState, View, state_up}
@@ -29,6 +29,7 @@ use Rattle.g_migrate.specs.Invariant.{with_online}
 use Rattle.g_store_calls.specs.Answering.{AnswersIn}
 use Rattle.g_store_calls.specs.Replies.{RefusesAs}
 use Rattle.g_store_calls.proofs.SeenLemmas.{seen}
+use Rattle.g_store_calls.proofs.StepLemmas.{here_early, no_late, none_lacks, step_early, step_made}
 
 -- THE FAULTS OF THE PLAIN STEP are none of devices and of memory
 abbrev pub IsPlain : StoreFault → Type 0
@@ -156,10 +157,9 @@ first_some f fault rest is = ap (λ (g : Option StoreFault). first_fault ((is_so
 
 step_refused : (u : State) (k : Holding) (who : List ℕ) (call : StoreCall) (fault : StoreFault) → fault_of k.tree who call ≡ Some fault → CallStep u k who call Plain (Err fault) u
 step_refused u k who call fault is =
-    subst (λ (e : Option StoreFault). MatchOption e (Planned u k who call Plain (Err fault) u) (λ g. (◌≡◌ {A = Result StoreReply StoreFault} (Err fault) (Err g)) × (u ≡ u)))
-    (sym (first_some (fault_of k.tree who call) fault
-    ((is_offline u k who call && not (is_mounted u (reel_of u k who call)), WaitTape (reel_of u k who call)) ∷ (false, TapeReadFault) ∷ []) is))
-    (refl, refl)
+    step_early u k who call Plain fault
+    (first_some (fault_of k.tree who call) fault
+    ((is_offline u k who call && not (is_mounted u (reel_of u k who call)), WaitTape (reel_of u k who call)) ∷ (false, TapeReadFault) ∷ []) is)
 
 steps_by : (u : State) (s t : StoreFacts) (who : List ℕ) (call : StoreCall) (fault : StoreFault) → IsPlain fault → Leads u s t who call (Err fault) → Steps u s who call (Err fault) t
 steps_by u s t who call NoMemory is leads = absurd is
@@ -169,36 +169,12 @@ steps_by u s t who call fault is leads = leads
 
 -- a reply of a call that doesn't write
 module _ (u : State) (k : Holding) (who : List ℕ) (call : StoreCall) (off : is_offline u k who call ≡ false) (none : need u k who call ≡ 0) where
-  no_early : fault_of k.tree who call ≡ None → early u k who call Plain ≡ None
-  no_early granted = λ i. first_fault (
-      (is_some (granted i), unwrap_or (granted i) Stopped)
-      ∷ (off i && not (is_mounted u (reel_of u k who call)), WaitTape (reel_of u k who call))
-      ∷ (false && off i, TapeReadFault)
-      ∷ [])
-
-  roomy : nat_lt (room_until u k who call 0) (need u k who call) ≡ false
-  roomy = le-ltb (room_until u k who call 0) (need u k who call) (omega (arith, none))
-
   pub nothing_unjammed : IsUnjam u k who call 0
   nothing_unjammed = record { enough = inl (omega (arith, none)); least = λ lower less. let no : ⊥ = omega (arith, less) in absurd no }
 
-  no_late : late u k who call Plain 0 ≡ None
-  no_late = ap (λ (b : Bool). first_fault (
-      (b, DiscFull (need u k who call) (room_until u k who call 0))
-      ∷ (false && wants_bytes call && not (is_offline u k who call) && nat_lt 0 (len_of u k who call (version_read k.tree who call)), DiscReadFault)
-      ∷ (false && (writes call || brings_now u k who call), Stopped)
-      ∷ [])) roomy
-
   pub step_done : (reply : StoreReply) (new : State) → fault_of k.tree who call ≡ None → reply ≡ reply_to k.tree who call → new ≡ after_call u k who call 0 → CallStep u k who call Plain (Ok reply) new
   step_done reply new granted replied after =
-      subst (λ (e : Option StoreFault). MatchOption e (Planned u k who call Plain (Ok reply) new) (λ g. (◌≡◌ {A = Result StoreReply StoreFault} (Ok reply) (Err g)) × (new ≡ u)))
-      (sym (no_early granted))
-      (record {
-        until = 0;
-        unjam = nothing_unjammed;
-        step = subst (λ (e : Option StoreFault). MatchOption e ((◌≡◌ {A = Result StoreReply StoreFault} (Ok reply) (Ok (reply_to k.tree who call))) × (new ≡ after_call u k who call 0))
-            (λ g. (◌≡◌ {A = Result StoreReply StoreFault} (Ok reply) (Err g)) × LeftByRefusal u k who call Plain 0 g new)) (sym no_late) (ap Ok replied, after);
-      })
+      step_made u k who call Plain reply 0 new (here_early u k who call Plain granted off refl) nothing_unjammed (no_late u k who call Plain 0 (none_lacks u k who call Plain none) refl refl) replied after
 
 -- THE ANSWERS that change nothing
 module _ (o : OnlineFacts) (who : List ℕ) (call : StoreCall) (live : o.live ≡ true) where

@@ -36,9 +36,10 @@ use Rattle.g_online.proofs.FewerLemmas.{all_fewer, records_fewer}
 use Rattle.g_migrate.proofs.MigrationLemmas.{rules_here}
 use Rattle.g_store_calls.specs.NewRecords.{IsFileAt}
 use Rattle.g_store_calls.specs.Replies.{RefusesAs}
-use Rattle.g_store_calls.proofs.AddLemmas.{or_false, rules_committed}
+use Rattle.g_store_calls.proofs.AddLemmas.{or_false}
 use Rattle.g_store_calls.proofs.MarkLemmas.{has_first, only_grow}
 use Rattle.g_store_calls.proofs.RecordLemmas.{IsRecorded}
+use Rattle.g_online.proofs.OffRuleLemmas.{committed_rules}
 
 -- THE FILE that a path names
 pub file_at : (users : List UserRec) (files : List FileRec) (who : List ℕ) (path : Path) (number : ℕ) (full : Full) → IsRecords users files → Some number ≡ number_of users files full
@@ -63,7 +64,7 @@ may_erase o who path number full live tied at =
       live = live;
       fits = (f, there, ap (λ (r : FileRec). r.number) rec ∙ at.number_is);
       rules = subst KeepsRules (sym (erase_is (is_some o.disc.held) (is_some o.pins) number o.contents))
-          (rules_committed (is_some o.pins) (record o.contents { files = without_file number o.contents.files })
+          (committed_rules (is_some o.pins) (record o.contents { files = without_file number o.contents.files })
           (record {
             head = was.head;
             records = records_fewer p o.contents.files o.contents.users was.records;

@@ -6,7 +6,6 @@ use Rattle.std.proofs.lemmas.Bool.{and_right, false≢true, or_from}
 use Rattle.std.proofs.lemmas.List.Elements.{All-contains}
 use Rattle.g_base.specs.Block.{blocks_for}
 use Rattle.g_base.specs.Counts.{Rose}
-use Rattle.g_disc.proofs.CallLemmas.{stands_later}
 use Rattle.g_tape.proofs.ReadLemmas.{nothing_read}
 use Rattle.g_plain.specs.declared.calls.StoreCall.{StoreCall}
 use Rattle.g_plain.specs.declared.calls.StoreReply.{StoreReply}
@@ -34,6 +33,7 @@ use Rattle.g_store_calls.proofs.SeenLemmas.{Seen, seen, stands}
 use Rattle.g_store_calls.proofs.TapeLemmas.{read_answers, stays}
 use Rattle.g_store_calls.proofs.WantLemmas.{Wants, granted_in, len_in, offline_in}
 use Rattle.g_laws_store.proofs.TiedLemmas.{moved}
+use Rattle.g_store_calls.proofs.QuietLemmas.{faults_cause}
 
 -- THE FILESTORE after a read of the disc that failed
 abbrev pub with_faults : OnlineFacts → ℕ → OnlineFacts
@@ -179,15 +179,7 @@ module _ (s : StoreFacts) (who : List ℕ) (call : StoreCall) (f : File) (unspen
     failed_here = record {
       step = λ belongs u here. record { before = u; stands = here; told = λ t. refl; steps = leads_failed u here };
       cause = record {
-        disc = record {
-          size = refl;
-          arms = refl;
-          later = stands_later refl;
-          reads_kept = λ isnt. absurd (isnt refl);
-          reads_rose = λ is. rose;
-          writes_kept = λ isnt. refl;
-          writes_rose = λ is. absurd (let no : ⊥ = cc in no);
-        };
+        disc = faults_cause o.disc n (λ isnt. absurd (isnt refl)) (λ is. rose) (λ is. let no : ⊥ = cc in no);
         tapes = nothing_read s.rack;
         tape_read = λ is. absurd (let no : ⊥ = cc in no);
         tape_read_only = λ isnt. refl;

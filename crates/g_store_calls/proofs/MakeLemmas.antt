@@ -26,7 +26,8 @@ use Rattle.g_laws_memory.proofs.UnjamLemmas.{any_found}
 use Rattle.g_laws_memory.proofs.WaitingLemmas.{mapped_there}
 use Rattle.g_migrate.proofs.MigrationLemmas.{rules_here}
 use Rattle.g_store_calls.specs.Versions.{HasMade, HasRoom, IsNext}
-use Rattle.g_store_calls.proofs.AddLemmas.{or_false, rules_committed}
+use Rattle.g_store_calls.proofs.AddLemmas.{or_false}
+use Rattle.g_online.proofs.OffRuleLemmas.{committed_rules}
 
 -- WHAT MAY GO OFF the disc
 four : (a b c d : Bool) → (a && (b && c && d)) ≡ true → (b ≡ true) × (c ≡ true) × (d ≡ true)
@@ -116,7 +117,7 @@ module _ (o : OnlineFacts) (bytes : List ℕ) (r : FileRec) (take : List ℕ) (l
 
   put_rules : (told pinned : Bool) → KeepsRules (changed told pinned (PutFile r bytes take) o.contents)
   unfolding changed
-  put_rules told pinned = subst (λ (b : Bool). KeepsRules (committed b (made told))) (sym (or_false pinned)) (rules_committed pinned (made told) (made_rules told))
+  put_rules told pinned = subst (λ (b : Bool). KeepsRules (committed b (made told))) (sym (or_false pinned)) (committed_rules pinned (made told) (made_rules told))
 
   pub may_put : IsAllowed (PutFile r bytes take) o
   may_put = record { live = live; fits = (next.stamp, next.tape, next.len, are); rules = put_rules (is_some o.disc.held) (is_some o.pins) }

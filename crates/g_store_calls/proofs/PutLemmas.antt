@@ -13,6 +13,7 @@ use Rattle.g_tape.specs.Rack.{Rack}
 use Rattle.g_tape.proofs.ReadLemmas.{nothing_read}
 use Rattle.g_plain.specs.declared.calls.StoreCall.{StoreCall}
 use Rattle.g_plain.specs.declared.calls.StoreCall.TheVariants.{Put}
+use Rattle.g_plain.specs.declared.calls.StoreReply.{StoreReply}
 use Rattle.g_plain.specs.declared.calls.StoreReply.TheVariants.{Made}
 use Rattle.g_plain.specs.declared.faults.StoreFault.{StoreFault}
 use Rattle.g_plain.specs.declared.faults.StoreFault.TheVariants.{DiscFull, NoMemory, NoUser, Stopped}
@@ -26,9 +27,9 @@ use Rattle.g_tree.proofs.RecordLemmas.{file_there, newest_few, newest_is}
 use Rattle.g_tree.proofs.RuleLemmas.{count_files}
 use Rattle.g_disc_contents.specs.Contents.{recs_in}
 use Rattle.g_disc_contents.specs.Facts.{IsTied, OnlineFacts}
-use Rattle.g_store_meaning.specs.Answers.{Answers, IsStore, Told}
+use Rattle.g_store_meaning.specs.Answers.{Answers, Belongs, From, IsStore, Steps, Told}
 use Rattle.g_store_meaning.specs.Meaning.{told_reels}
-use Rattle.g_store_meaning.specs.Reading.{AllTold, IsView, View}
+use Rattle.g_store_meaning.specs.Reading.{AllTold, IsView, View, StandsForState}
 use Rattle.g_store_meaning.specs.StoreInvariant.{StoreFacts}
 use Rattle.g_laws_calls.specs.Calls.{IsVersionOf, version_made}
 use Rattle.g_laws_memory.specs.Rooms.{held_in}
@@ -40,11 +41,12 @@ use Rattle.g_store_calls.specs.GrantedCalls.{GrantsOne}
 use Rattle.g_store_calls.specs.Kinds.{IsSettled}
 use Rattle.g_store_calls.specs.Replies.{RefusesAs}
 use Rattle.g_store_calls.specs.Versions.{HasMade, HasPut, HasStoppedPut, IsFull, IsNext}
-use Rattle.g_store_calls.proofs.AheadLemmas.{ahead_stands, before_of}
+use Rattle.g_store_calls.proofs.AheadLemmas.{Before, ahead_stands, before_of}
 use Rattle.g_store_calls.proofs.CalmLemmas.{calmly, same_store, texts_fit}
 use Rattle.g_store_calls.proofs.GrantedLemmas.{output_called, output_none, output_there}
 use Rattle.g_store_calls.proofs.TellLemmas.{AreOff, granted_off, not_not, user_any, user_missing, below_of, most_of}
 use Rattle.g_store_calls.proofs.VersionLemmas.{IsMet, belongs_done, belongs_stopped, leads_done, leads_full, leads_stopped, store_done}
+use Rattle.g_store_model.specs.State.{State}
 
 -- WHAT THE PLAIN STEP GRANTS
 both_on : (a b : Bool) → not (a && b) ≡ true → a ≡ true → not b ≡ true
@@ -155,6 +157,13 @@ module _ (s : StoreFacts) (new : OnlineFacts) (who : List ℕ) (path : Path) (by
   makes : (v : View) → version_made (held_in v s.online).tree who (Put path bytes) ≡ Some (full, bytes)
   makes v = ap (λ (f : Full). let x : Option (Full × List ℕ) = Some (f, bytes) in x) (sym (is.called (λ q. v.text q.stamp) s.online.contents.head.next_stamp))
 
+  -- from the state that it meets
+  from_before : (answer : Result StoreReply StoreFault) (t : StoreFacts) → (Told s → Belongs s) → (u : State) → StandsForState s u → ((b : Before s u) → Steps b.before s who (Put path bytes) answer t)
+      → From u s who (Put path bytes) answer t
+  from_before answer t belong u here steps =
+      let b = before_of s u unspent store belong here in
+      record { before = b.before; stands = ahead_stands s b.before unspent b.ahead; told = b.told; steps = steps b }
+
   module _ (tied : IsTied new) (tells : is_some new.disc.held ≡ is_some s.online.disc.held) where
     told_on : Told s → AllTold new.disc.held (told_reels s.rack)
     told_on all = record { disc = tells ∙ all.disc; each = all.each }
@@ -162,14 +171,9 @@ module _ (s : StoreFacts) (new : OnlineFacts) (who : List ℕ) (path : Path) (by
     done_answers : HasPut r bytes s.online new → Answers s who (Put path bytes) (Ok (Made full)) (record s { online = new; spent = false })
     done_answers p = record {
       step = λ belong u here.
-          let b = before_of s u unspent store belong here in
-          record {
-            before = b.before;
-            stands = ahead_stands s b.before unspent b.ahead;
-            told = b.told;
-            steps = leads_done s new full bytes r p.take p.room unspent store keeps tied p.causes.size tells is.version is.len p.roomy belong b.before b.ahead who (Put path bytes)
-                (met b.ahead.view b.ahead.is) (makes b.ahead.view) refl p.done s.rack (nothing_read s.rack) (Made full) (ap Made (is.called (λ q. b.ahead.view.text q.stamp) s.online.contents.head.next_stamp)) (λ off. absurd (false≢true off));
-          };
+          from_before (Ok (Made full)) (record s { online = new; spent = false }) belong u here (λ (b : Before s u).
+          leads_done s new full bytes r p.take p.room unspent store keeps tied p.causes.size tells is.version is.len p.roomy belong b.before b.ahead who (Put path bytes)
+          (met b.ahead.view b.ahead.is) (makes b.ahead.view) refl p.done s.rack (nothing_read s.rack) (Made full) (ap Made (is.called (λ q. b.ahead.view.text q.stamp) s.online.contents.head.next_stamp)) (λ off. absurd (false≢true off)));
       cause = record {
         disc = Causes-for (λ no. absurd no) (λ is_err. let no : ⊥ = cc in no) (λ no. absurd no) (λ is_err. let no : ⊥ = cc in no) p.causes;
         tapes = nothing_read s.rack;
@@ -189,14 +193,9 @@ module _ (s : StoreFacts) (new : OnlineFacts) (who : List ℕ) (path : Path) (by
     stopped_answers : HasStoppedPut r bytes s.online new → Answers s who (Put path bytes) (Err Stopped) (record s { online = new; spent = true })
     stopped_answers p = record {
       step = λ belong u here.
-          let b = before_of s u unspent store belong here in
-          record {
-            before = b.before;
-            stands = ahead_stands s b.before unspent b.ahead;
-            told = b.told;
-            steps = leads_stopped s new full bytes r p.take p.room unspent store keeps tied p.causes.size tells is.version is.len p.roomy belong b.before b.ahead who (Put path bytes)
-                (met b.ahead.view b.ahead.is) (makes b.ahead.view) refl p.stopped p.causes s.rack (nothing_read s.rack);
-          };
+          from_before (Err Stopped) (record s { online = new; spent = true }) belong u here (λ (b : Before s u).
+          leads_stopped s new full bytes r p.take p.room unspent store keeps tied p.causes.size tells is.version is.len p.roomy belong b.before b.ahead who (Put path bytes)
+          (met b.ahead.view b.ahead.is) (makes b.ahead.view) refl p.stopped p.causes s.rack (nothing_read s.rack));
       cause = record {
         disc = Causes-for (λ no. absurd no) (λ is_err. let no : ⊥ = cc in no) (λ one. refl) (λ is_err. tt) p.causes;
         tapes = nothing_read s.rack;

@@ -2,8 +2,9 @@
 use Rattle.std.proofs.Common.{◌≡◌, ℕ, Bool, true, false, List, Result, Err, refl, sym, ◌∙◌, ap, subst}
 use Rattle.std.specs.Prelude.{OnOk, not}
 use Rattle.std.proofs.lemmas.Bool.{false≢true}
-use Rattle.g_disc.specs.Disc.{DiscState}
-use Rattle.g_disc.proofs.CallLemmas.{stands_later}
+use Rattle.g_base.specs.Counts.{Rose}
+use Rattle.g_disc.specs.Disc.{Causes, DiscState}
+use Rattle.g_disc.proofs.CallLemmas.{ReadsByCause-for, stands_later}
 use Rattle.g_name.specs.declared.full.Full.{Full}
 use Rattle.g_tape.specs.Rack.{Rack}
 use Rattle.g_tape.specs.Reel.{Reel}
@@ -123,21 +124,24 @@ module _ (s : StoreFacts) (new : OnlineFacts) (after : Rack) (disc_fault tape_fa
 -- the same reads, for whom they failed
 pub asked_for : {P Q R S : Type 0} {old new : OnlineFacts} {before after : Rack} → (P → R) → (R → P) → (Q → S) → (S → Q) → HasAsked P Q old new before after → HasAsked R S old new before after
 asked_for there back there' back' asked = record {
-  disc = record {
-    held = asked.disc.held;
-    size = asked.disc.size;
-    write_faults = asked.disc.write_faults;
-    writes = asked.disc.writes;
-    fuse = asked.disc.fuse;
-    arms = asked.disc.arms;
-    kept = λ no. asked.disc.kept (λ p. no (there p));
-    rose = λ r. asked.disc.rose (back r);
-  };
+  disc = ReadsByCause-for there back asked.disc;
   same = asked.same;
   tied = asked.tied;
   only = asked.only;
   kept = λ no. asked.kept (λ q. no (there' q));
   rose = λ s. asked.rose (back' s);
+}
+
+-- the count of failed reads alone moves
+pub faults_cause : {P Q : Type 0} (x : DiscState) (n : ℕ) → ((P → ⊥) → n ≡ x.read_faults) → (P → Rose x.read_faults n) → (Q → ⊥) → Causes P Q x (record x { read_faults = n })
+faults_cause x n kept rose never = record {
+  size = refl;
+  arms = refl;
+  later = stands_later refl;
+  reads_kept = kept;
+  reads_rose = rose;
+  writes_kept = λ no. refl;
+  writes_rose = λ is. absurd (never is);
 }
 
 -- HOW IT IS ANSWERED where the devices were read and nothing was written
@@ -154,15 +158,7 @@ quietly s new after who call answer unspent store asked going steps lost never =
     (record {
       step = λ belong u here. record { before = u; stands = here; told = λ is. refl; steps = steps u here };
       cause = record {
-        disc = record {
-          size = refl;
-          arms = refl;
-          later = stands_later refl;
-          reads_kept = asked.disc.kept;
-          reads_rose = asked.disc.rose;
-          writes_kept = λ no. refl;
-          writes_rose = λ is. absurd (going is);
-        };
+        disc = faults_cause s.online.disc new.disc.read_faults asked.disc.kept asked.disc.rose going;
         tapes = asked.only;
         tape_read = asked.rose;
         tape_read_only = asked.kept;

@@ -1,6 +1,6 @@
 -- A call that changes records by one commit, whatever store the filestore is in.
 use Rattle.std.proofs.Common.{◌≡◌, ◌≢◌, ℕ, ◌<◌, ◌≤◌, ◌+◌, Bool, true, false, List, [], ◌∷◌, length, Option, Some, None, Result, Ok, Err, refl, sym, ◌∙◌, ap, arith, inl, inr, subst, true≢false, All}
-use Rattle.std.specs.Prelude.{◌⊎◌, ◌||◌, ◌&&◌, IfSome, MatchOption, if◌then◌else◌, is_some, nat_lt, not, unwrap_or, Contains}
+use Rattle.std.specs.Prelude.{◌⊎◌, ◌||◌, ◌&&◌, IfSome, if◌then◌else◌, is_some, nat_lt, not, Contains}
 use Rattle.std.proofs.lemmas.Bool.{false≢true, le-ltb}
 use Rattle.g_base.specs.Counts.{RoseBy}
 use Rattle.g_disc.specs.Disc.{Causes}
@@ -11,8 +11,8 @@ use Rattle.g_tape.proofs.ReadLemmas.{nothing_read}
 use Rattle.g_plain.specs.declared.calls.StoreCall.{StoreCall}
 use Rattle.g_plain.specs.declared.calls.StoreReply.{StoreReply}
 use Rattle.g_plain.specs.declared.faults.StoreFault.{StoreFault}
-use Rattle.g_plain.specs.declared.faults.StoreFault.TheVariants.{DiscFull, DiscReadFault, NoMemory, Stopped, TapeReadFault, WaitTape}
-use Rattle.g_plain.specs.PlainStep.{fault_of, first_fault, reply_to}
+use Rattle.g_plain.specs.declared.faults.StoreFault.TheVariants.{NoMemory, Stopped}
+use Rattle.g_plain.specs.PlainStep.{fault_of}
 use Rattle.g_tree.specs.Records.{IsRecords, ForTree, full_of}
 use Rattle.g_disc_contents.specs.Commits.{Commits}
 use Rattle.g_disc_contents.specs.Contents.{Contents, File, Holds, committed, recs_in, with_intent, with_number}
@@ -22,8 +22,8 @@ use Rattle.g_online.specs.declared.change.Change.{Change}
 use Rattle.g_online.specs.Change.{changed, need_of, touches, unjammed, unjammed_by, with_all}
 use Rattle.g_online.specs.Outcomes.{HasChanged, HasStopped, commits_of}
 use Rattle.g_incr.specs.Layout.{Dump}
-use Rattle.g_store_model.specs.State.{Holding, State, is_candidate, is_mounted, is_taken, place_at}
-use Rattle.g_store_model.specs.CallStep.{CallStep, Cut, IsUnjam, LeftByRefusal, Plain, Planned, after_call, brings_now, down, early, is_offline, late, len_of, need, reel_of, room_until, version_read, wants_bytes, writes}
+use Rattle.g_store_model.specs.State.{Holding, State, is_candidate, is_taken, place_at}
+use Rattle.g_store_model.specs.CallStep.{CallStep, Cut, IsUnjam, LeftByRefusal, Plain, after_call, brings_now, down, is_offline, need, writes}
 use Rattle.g_store_meaning.specs.Answers.{Answers, Belongs, Did, IsStore, Leads, Told}
 use Rattle.g_store_meaning.specs.Belonging.{DiscBelongs}
 use Rattle.g_store_meaning.specs.Laws.{IsQuiet}
@@ -44,6 +44,7 @@ use Rattle.g_store_calls.specs.AppliedChange.{HasApplied, answer_with}
 use Rattle.g_store_calls.specs.Replies.{RefusesAs}
 use Rattle.g_store_calls.proofs.CalmLemmas.{calmly, nothing_unjammed, same_store, step_done, texts_fit}
 use Rattle.g_store_calls.proofs.SeenLemmas.{Seen, seen, stands}
+use Rattle.g_store_calls.proofs.StepLemmas.{here_early, late_stops, none_lacks, step_late}
 use Rattle.g_store_calls.proofs.KindLemmas.{RepliesAs}
 use Rattle.g_entry.specs.declared.file_rec.FileRec.{FileRec}
 use Rattle.g_entry.specs.declared.user_rec.UserRec.{UserRec}
@@ -109,35 +110,24 @@ stands_spent : (o : OnlineFacts) (dump : Option DumpFacts) (u : State) (rack : R
 unfolding Stands
 stands_spent o dump u rack is = let devices : Stands true o dump u (told_reels rack) = is in back true o dump u rack devices
 
+-- what devices stand for whose disc holds these contents
+pub devices_hold : (size : ℕ) (held : Option (List (List ℕ))) (reels : List Reel) (u : State) (v : View) (c : Contents) (blocks : List (List ℕ)) → held ≡ Some blocks → Holds blocks c
+    → IsView held reels c v → u ≡ state_down v reels size (Some c) → DevicesStandFor size held reels u
+devices_hold size held reels u v c blocks has holds seen is = record {
+  view = v;
+  contents = Some c;
+  is = (blocks, has, holds, seen);
+  none = λ no. absurd (true≢false no);
+  rack = seen.rack;
+  state_is = is;
+}
+
 -- a step that was cut
 module _ (u : State) (k : Holding) (who : List ℕ) (call : StoreCall) (off : is_offline u k who call ≡ false) (none : need u k who call ≡ 0) (write : writes call ≡ true) where
-  no_early : fault_of k.tree who call ≡ None → early u k who call Cut ≡ None
-  no_early granted = λ i. first_fault (
-      (is_some (granted i), unwrap_or (granted i) Stopped)
-      ∷ (off i && not (is_mounted u (reel_of u k who call)), WaitTape (reel_of u k who call))
-      ∷ (false && off i, TapeReadFault)
-      ∷ [])
-
-  roomy : nat_lt (room_until u k who call 0) (need u k who call) ≡ false
-  roomy = le-ltb (room_until u k who call 0) (need u k who call) (omega (arith, none))
-
-  stopped_late : late u k who call Cut 0 ≡ Some Stopped
-  stopped_late = λ i. first_fault (
-      (roomy i, DiscFull (need u k who call) (room_until u k who call 0))
-      ∷ (false && wants_bytes call && not (is_offline u k who call) && nat_lt 0 (len_of u k who call (version_read k.tree who call)), DiscReadFault)
-      ∷ (true && (write i || brings_now u k who call), Stopped)
-      ∷ [])
-
   step_cut : (new : State) → fault_of k.tree who call ≡ None → LeftByRefusal u k who call Cut 0 Stopped new → CallStep u k who call Cut (Err Stopped) new
   step_cut new granted left =
-      subst (λ (e : Option StoreFault). MatchOption e (Planned u k who call Cut (Err Stopped) new) (λ g. (◌≡◌ {A = Result StoreReply StoreFault} (Err Stopped) (Err g)) × (new ≡ u)))
-      (sym (no_early granted))
-      (record {
-        until = 0;
-        unjam = nothing_unjammed u k who call off none;
-        step = subst (λ (e : Option StoreFault). MatchOption e ((◌≡◌ {A = Result StoreReply StoreFault} (Err Stopped) (Ok (reply_to k.tree who call))) × (new ≡ after_call u k who call 0))
-            (λ g. (◌≡◌ {A = Result StoreReply StoreFault} (Err Stopped) (Err g)) × LeftByRefusal u k who call Cut 0 g new)) (sym stopped_late) (refl, left);
-      })
+      step_late u k who call Cut Stopped 0 new (here_early u k who call Cut granted off refl) (nothing_unjammed u k who call off none)
+      (late_stops u k who call Cut 0 (none_lacks u k who call Cut none) refl (ap (λ (b : Bool). b || brings_now u k who call) write)) left
 
 -- THE CALL
 module _ (s : StoreFacts) (new : OnlineFacts) (who : List ℕ) (call : StoreCall) (change : Change) (e : Contents) (owners : List ℕ) (reply : StoreReply)
@@ -341,14 +331,7 @@ module _ (s : StoreFacts) (new : OnlineFacts) (who : List ℕ) (call : StoreCall
         let v = sn.view in
         let up = state_up v reels o s.dump in
         let end = state_down v reels new.disc.size (Some c) in
-        let devices : DevicesStandFor new.disc.size new.disc.held reels end = record {
-          view = v;
-          contents = Some c;
-          is = (blocks, held, holds, view);
-          none = λ no. absurd (true≢false no);
-          rack = view.rack;
-          state_is = refl;
-        } in
+        let devices = devices_hold new.disc.size new.disc.held reels end v c blocks held holds view refl in
         record {
           after = end;
           left = stands_spent new s.dump end s.rack devices;

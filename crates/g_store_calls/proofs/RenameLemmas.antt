@@ -7,6 +7,7 @@ use Rattle.std.proofs.lemmas.List.Elements.{All-contains}
 use Rattle.g_entry.specs.declared.file_rec.FileRec.{FileRec}
 use Rattle.g_entry.specs.declared.user_rec.UserRec.{UserRec}
 use Rattle.g_entry.specs.FileFields.{IsFile}
+use Rattle.g_entry.proofs.RuleLemmas.{file_made}
 use Rattle.g_name.specs.declared.full.Full.{Full}
 use Rattle.g_name.specs.declared.path.Path.{Path}
 use Rattle.g_name.specs.Grammar.{is_word}
@@ -25,7 +26,7 @@ use Rattle.g_online.specs.declared.change.Change.TheVariants.{SetFile}
 use Rattle.g_store_calls.specs.ReplacedRecords.{IsRenamed}
 use Rattle.g_store_calls.specs.Replies.{RefusesAs}
 use Rattle.g_store_calls.proofs.RecordLemmas.{IsRecorded, IsFileNamed}
-use Rattle.g_store_calls.proofs.SetLemmas.{found, named_in, record_of, records_set, sets}
+use Rattle.g_store_calls.proofs.SetLemmas.{found, named_in, record_of, set_file, sets}
 use Rattle.g_store_calls.proofs.TellLemmas.{granted_off}
 
 abbrev called : List ℕ → Full → Full
@@ -46,18 +47,7 @@ module _ (users : List UserRec) (files : List FileRec) (next : ℕ) (who : List 
     fits : IsFile r
     fits =
         let o = All-contains IsFile files old is.each_file at.there in
-        subst IsFile (sym made) (record {
-          local = word;
-          least_generation = o.least_generation;
-          most_generation = o.most_generation;
-          lang = o.lang;
-          stamp = o.stamp;
-          len = o.len;
-          others = o.others;
-          sets = o.sets;
-          no_owner = o.no_owner;
-          tape = o.tape;
-        })
+        subst IsFile (sym made) (file_made old.number to old.stamp old.len old.traps old.tape old o word o.stamp o.len o.others o.sets o.no_owner o.tape)
 
     trapped : All (λ pair. pair.0 < length users) r.traps.others
     trapped =
@@ -75,18 +65,8 @@ module _ (users : List UserRec) (files : List FileRec) (next : ℕ) (who : List 
 
     pub renamed_made : IsRenamed users files who path to r new
     renamed_made = record {
-      set = record {
-        old = old;
-        there = at.there;
-        named = λ bytes then_. at.name_is ∙ at.named bytes then_;
-        number = ap (λ (q : FileRec). q.number) made;
-        owner = ap (λ (q : FileRec). q.owner) made;
-        stamp = ap (λ (q : FileRec). q.stamp) made;
-        len = ap (λ (q : FileRec). q.len) made;
-        tape = ap (λ (q : FileRec). q.tape) made;
-        rules = records_set users files is r old at.there (ap (λ (q : FileRec). q.number) made) (ap (λ (q : FileRec). q.owner) made) (ap (λ (q : FileRec). q.stamp) made) (ap (λ (q : FileRec). q.len) made)
-            (ap (λ (q : FileRec). q.tape) made) fits trapped apart;
-      };
+      set = set_file users files who path old r full is at (ap (λ (q : FileRec). q.number) made) (ap (λ (q : FileRec). q.owner) made) (ap (λ (q : FileRec). q.stamp) made) (ap (λ (q : FileRec). q.len) made)
+          (ap (λ (q : FileRec). q.tape) made) fits trapped apart;
       traps = ap (λ (q : FileRec). q.traps) made;
       name_is = ap (full_of users) made ∙ ap (called to) at.name_is ∙ sym new_is;
       renamed = new_is ∙ ap (called to) (sym at.name_is);

@@ -44,10 +44,11 @@ use Rattle.g_online.proofs.EntryLemmas.{put-set, set_one}
 use Rattle.g_migrate.proofs.MigrationLemmas.{rules_here}
 use Rattle.g_store_calls.specs.ReplacedRecords.{IsSetFile}
 use Rattle.g_store_calls.specs.Replies.{RefusesAs}
-use Rattle.g_store_calls.proofs.AddLemmas.{or_false, rules_committed}
+use Rattle.g_store_calls.proofs.AddLemmas.{or_false}
 use Rattle.g_store_calls.proofs.MarkLemmas.{has_first, only_grow}
-use Rattle.g_store_calls.proofs.RecordLemmas.{IsRecorded}
+use Rattle.g_store_calls.proofs.RecordLemmas.{IsRecorded, IsFileNamed}
 use Rattle.g_store_calls.proofs.KindLemmas.{RepliesAs}
+use Rattle.g_online.proofs.OffRuleLemmas.{committed_rules}
 
 -- WITH ANOTHER RECORD in the place of one, of a name that no other file has, the records keep their rules
 module _ (users : List UserRec) (files : List FileRec) (is : IsRecords users files) (r old : FileRec) (there : Contains files old) (number : r.number ≡ old.number) where
@@ -135,6 +136,22 @@ module _ (users : List UserRec) (files : List FileRec) (is : IsRecords users fil
     records_set =
         subst (IsRecords users)
         (sym (put-set r files is.numbers.rising (subst (Contains (map (λ (q : FileRec). q.number) files)) (sym number) (mapped_there (λ (q : FileRec). q.number) files old there)))) records_after
+
+-- A RECORD THAT IS SET in the place of the one that a path names
+abbrev pub set_file : (users : List UserRec) (files : List FileRec) (who : List ℕ) (path : Path) (old r : FileRec) (full : Full) → IsRecords users files → IsFileNamed users files who path old full
+    → r.number ≡ old.number → r.owner ≡ old.owner → r.stamp ≡ old.stamp → r.len ≡ old.len → r.tape ≡ old.tape → IsFile r → All (λ pair. pair.0 < length users) r.traps.others
+    → ((q : FileRec) → Contains files q → (q.number ≡ r.number → ⊥) → full_of users r ≡ full_of users q → ⊥) → IsSetFile users files who path r
+set_file users files who path old r full is at number owner stamp len tape fits trapped apart = record {
+  old = old;
+  there = at.there;
+  named = λ bytes then_. at.name_is ∙ at.named bytes then_;
+  number = number;
+  owner = owner;
+  stamp = stamp;
+  len = len;
+  tape = tape;
+  rules = records_set users files is r old at.there number owner stamp len tape fits trapped apart;
+}
 
 -- AMONG FILES on the disc
 chosen_rec : (b : Bool) (r : FileRec) (g : File) → (if b then record g { rec = r } else g).rec ≡ (if b then r else g.rec)
@@ -232,7 +249,7 @@ module _ (o : OnlineFacts) (who : List ℕ) (path : Path) (r : FileRec) (live : 
           },
         );
         rules = subst KeepsRules (sym (file_is (is_some o.disc.held) (is_some o.pins) r o.contents))
-            (rules_committed (is_some o.pins) with_set
+            (committed_rules (is_some o.pins) with_set
             (record {
               head = was.head;
               records = subst (IsRecords o.contents.users) (sym recs_are) set.rules;

@@ -1,6 +1,7 @@
 -- The step of a call, from what its tests say: a refusal before room is looked for, one behind it, or the call is done.
-use Rattle.std.proofs.Common.{◌≡◌, ℕ, Bool, true, false, List, [], ◌∷◌, Option, Some, None, Result, Ok, Err, refl, sym, ap, subst}
+use Rattle.std.proofs.Common.{◌≡◌, ℕ, Bool, true, false, List, [], ◌∷◌, Option, Some, None, Result, Ok, Err, refl, sym, ap, arith, subst}
 use Rattle.std.specs.Prelude.{◌&&◌, ◌||◌, MatchOption, is_some, nat_lt, not, unwrap_or}
+use Rattle.std.proofs.lemmas.Bool.{le-ltb}
 use Rattle.g_plain.specs.declared.calls.StoreCall.{StoreCall}
 use Rattle.g_plain.specs.declared.calls.StoreReply.{StoreReply}
 use Rattle.g_plain.specs.declared.faults.StoreFault.{StoreFault}
@@ -34,6 +35,13 @@ module _ (u : State) (k : Holding) (who : List ℕ) (call : StoreCall) (o : Outc
 
   pub no_early : fault_of k.tree who call ≡ None → waits ≡ false → reads_tape ≡ false → early u k who call o ≡ None
   no_early granted going kept = λ i. earlier (granted i) (going i) (kept i)
+
+  -- of a file on the disc, by a call that wants no room
+  pub here_early : fault_of k.tree who call ≡ None → is_offline u k who call ≡ false → is_tape_read o ≡ false → early u k who call o ≡ None
+  here_early granted here kept = no_early granted (ap (λ (b : Bool). b && not (is_mounted u (reel_of u k who call))) here) (ap (λ (b : Bool). b && is_offline u k who call) kept)
+
+  pub none_lacks : need u k who call ≡ 0 → lacks_room 0 ≡ false
+  none_lacks none = le-ltb (room_until u k who call 0) (need u k who call) (omega (arith, none))
 
   pub early_waits : fault_of k.tree who call ≡ None → waits ≡ true → early u k who call o ≡ Some (WaitTape (reel_of u k who call))
   early_waits granted waiting = λ i. earlier (granted i) (waiting i) reads_tape

@@ -1,5 +1,5 @@
 -- A file's other traps.
-use Rattle.std.proofs.Common.{◌≡◌, ℕ, ◌<◌, ◌==◌, Bool, true, false, List, [], ◌∷◌, length, filter, None, is_none, nat_le, refl, sym, ◌∙◌, ap, arith, subst, All}
+use Rattle.std.proofs.Common.{◌≡◌, ℕ, ◌<◌, ◌==◌, Bool, true, false, List, [], ◌∷◌, length, filter, None, is_none, nat_le, refl, sym, ◌∙◌, ap, arith, subst, All, Some}
 use Rattle.std.specs.Prelude.{◌&&◌, Contains, if◌then◌else◌, not}
 use Rattle.std.specs.Ordering.{nat_cmp}
 use Rattle.std.specs.declared.cmp.Ordering.{Ordering}
@@ -13,6 +13,7 @@ use Rattle.std.proofs.lemmas.Option.{same_Some}
 use Rattle.g_entry.specs.declared.file_rec.FileRec.{FileRec}
 use Rattle.g_entry.specs.declared.user_rec.UserRec.{UserRec}
 use Rattle.g_entry.specs.FileFields.{IsFile, lacks}
+use Rattle.g_entry.proofs.RuleLemmas.{file_made}
 use Rattle.g_name.specs.declared.full.Full.{Full}
 use Rattle.g_name.specs.declared.path.Path.{Path}
 use Rattle.g_trap.specs.TrapList.{IsOthers, TrapList, is_ninth, modes_of, with_modes, with_other}
@@ -28,14 +29,17 @@ use Rattle.g_tree.proofs.TrapLemmas.{are_trapped, ninth_by_number}
 use Rattle.g_disc_contents.specs.Contents.{recs_in, set_rec}
 use Rattle.g_disc_contents.specs.Facts.{IsTied, OnlineFacts}
 use Rattle.g_store_meaning.specs.Reading.{View}
-use Rattle.g_laws_calls.specs.Calls.{modes_by}
+use Rattle.g_laws_calls.specs.Calls.{modes_by, trapped}
 use Rattle.g_laws_calls.proofs.CallLemmas.{calls_go_by_step}
 use Rattle.g_online.specs.declared.change.Change.TheVariants.{SetFile}
 use Rattle.g_store_calls.specs.ReplacedRecords.{IsTrapped}
 use Rattle.g_store_calls.specs.Replies.{RefusesAs}
 use Rattle.g_store_calls.proofs.RecordLemmas.{IsRecorded, IsFileNamed}
-use Rattle.g_store_calls.proofs.SetLemmas.{found, named_in, record_of, records_set, sets}
+use Rattle.g_store_calls.proofs.SetLemmas.{found, named_in, record_of, set_file, sets}
 use Rattle.g_store_calls.proofs.TellLemmas.{granted_off, not_not, user_any}
+use Rattle.g_store_model.specs.State.{Holding, State}
+use Rattle.g_store_model.specs.CallStep.{is_offline, need, writes}
+use Rattle.g_store_calls.proofs.KindLemmas.{RepliesAs}
 
 -- WHO STANDS IN THE TRAPS behind a change: who stood there, and the user
 abbrev Pairs : Type 0
@@ -85,20 +89,11 @@ module _ (users : List UserRec) (files : List FileRec) (who : List ℕ) (path : 
   fits : IsFile r
   fits =
       let o = All-contains IsFile files old is.each_file at.there in
-      subst IsFile (sym made) (record {
-        local = o.local;
-        least_generation = o.least_generation;
-        most_generation = o.most_generation;
-        lang = o.lang;
-        stamp = o.stamp;
-        len = o.len;
-        others = others;
-        sets = record { owner = sets_owner; others = others.sets };
-        no_owner = subst (λ (t : TrapList). lacks old.owner t.others ≡ true) (sym traps_are)
-            (lacks_all old.owner (with_modes old.traps old.owner number modes).others
-            (all_with (λ pair. not (pair.0 == old.owner) ≡ true) old.traps old.owner number modes (λ n m has. has) (λ other. ap not other) (lacks_each old.owner old.traps.others o.no_owner)));
-        tape = o.tape;
-      })
+      let no_owner : lacks old.owner traps.others ≡ true =
+      subst (λ (t : TrapList). lacks old.owner t.others ≡ true) (sym traps_are)
+      (lacks_all old.owner (with_modes old.traps old.owner number modes).others
+      (all_with (λ pair. not (pair.0 == old.owner) ≡ true) old.traps old.owner number modes (λ n m has. has) (λ other. ap not other) (lacks_each old.owner old.traps.others o.no_owner))) in
+      subst IsFile (sym made) (file_made old.number old.local old.stamp old.len traps old.tape old o o.local o.stamp o.len others (record { owner = sets_owner; others = others.sets }) no_owner o.tape)
 
   all_there : All (λ pair. pair.0 < length users) r.traps.others
   all_there =
@@ -117,18 +112,8 @@ module _ (users : List UserRec) (files : List FileRec) (who : List ℕ) (path : 
 
   pub trapped_made : IsTrapped users files who path user call r
   trapped_made = record {
-    set = record {
-      old = old;
-      there = at.there;
-      named = λ bytes then_. at.name_is ∙ at.named bytes then_;
-      number = ap (λ (q : FileRec). q.number) made;
-      owner = ap (λ (q : FileRec). q.owner) made;
-      stamp = ap (λ (q : FileRec). q.stamp) made;
-      len = ap (λ (q : FileRec). q.len) made;
-      tape = ap (λ (q : FileRec). q.tape) made;
-      rules = records_set users files is r old at.there (ap (λ (q : FileRec). q.number) made) (ap (λ (q : FileRec). q.owner) made) (ap (λ (q : FileRec). q.stamp) made) (ap (λ (q : FileRec). q.len) made)
-          (ap (λ (q : FileRec). q.tape) made) fits all_there apart;
-    };
+    set = set_file users files who path old r full is at (ap (λ (q : FileRec). q.number) made) (ap (λ (q : FileRec). q.owner) made) (ap (λ (q : FileRec). q.stamp) made) (ap (λ (q : FileRec). q.len) made)
+        (ap (λ (q : FileRec). q.tape) made) fits all_there apart;
     number = number;
     within = within;
     user_is = user_is;
@@ -177,27 +162,26 @@ module _ (o : OnlineFacts) (who : List ℕ) (path : Path) (user : List ℕ) (r :
       → full_of o.contents.users r ≡ input_name (tree_of o.contents.users (recs_in o.contents) (λ q. v.text q.stamp) o.contents.head.next_stamp) who path
   name_in call at v = at.name_is ∙ at.set.named (λ q. v.text q.stamp) o.contents.head.next_stamp
 
+  traps_by : (call : StoreCall) → writes call ≡ true → ((u : State) (k : Holding) → is_offline u k who call ≡ false) → ((u : State) (k : Holding) → need u k who call ≡ 0) → trapped call ≡ Some (path, user)
+      → RepliesAs o.contents.users (recs_in o.contents) o.contents.head.next_stamp who call Done → RefusesAs o.contents.users (recs_in o.contents) o.contents.head.next_stamp who call None
+      → IsTrapped o.contents.users (recs_in o.contents) who path user call r → IsRecorded o who call (SetFile r) (record o.contents { files = set_rec r o.contents.files }) (r.owner ∷ []) Done
+  traps_by call write off none is_call replied granted at =
+      let (f, there, rec) = found o who path r live tied at.set in
+      sets o who path r live tied at.set call Done write off none granted replied
+      (λ v reels new dump known free unjam behind.
+      calls_go_by_step.traps v reels o new dump who call path user at.number f r 0 known is_call there (named_in o who path r live tied at.set f rec v) at.user_is at.within
+      (record_of o who path r live tied at.set f rec) (name_in call at v)
+      (subst (λ (q : FileRec). r.traps ≡ with_modes q.traps q.owner at.number (modes_by call (modes_of q.traps q.owner at.number))) (sym rec) at.traps) free unjam behind)
+
   pub opens : (modes : ℕ) → RefusesAs o.contents.users (recs_in o.contents) o.contents.head.next_stamp who (TrapGo path user modes) None
       → IsTrapped o.contents.users (recs_in o.contents) who path user (TrapGo path user modes) r
       → IsRecorded o who (TrapGo path user modes) (SetFile r) (record o.contents { files = set_rec r o.contents.files }) (r.owner ∷ []) Done
-  opens modes granted at =
-      let (f, there, rec) = found o who path r live tied at.set in
-      sets o who path r live tied at.set (TrapGo path user modes) Done refl (λ u k. refl) (λ u k. refl) granted (λ bytes long. refl)
-      (λ v reels new dump known free unjam behind.
-      calls_go_by_step.traps v reels o new dump who (TrapGo path user modes) path user at.number f r 0 known refl there (named_in o who path r live tied at.set f rec v) at.user_is at.within
-      (record_of o who path r live tied at.set f rec) (name_in (TrapGo path user modes) at v)
-      (subst (λ (q : FileRec). r.traps ≡ with_modes q.traps q.owner at.number (modes_by (TrapGo path user modes) (modes_of q.traps q.owner at.number))) (sym rec) at.traps) free unjam behind)
+  opens modes = traps_by (TrapGo path user modes) refl (λ u k. refl) (λ u k. refl) refl (λ bytes long. refl)
 
   pub closes : (modes : ℕ) → RefusesAs o.contents.users (recs_in o.contents) o.contents.head.next_stamp who (TrapStop path user modes) None
       → IsTrapped o.contents.users (recs_in o.contents) who path user (TrapStop path user modes) r
       → IsRecorded o who (TrapStop path user modes) (SetFile r) (record o.contents { files = set_rec r o.contents.files }) (r.owner ∷ []) Done
-  closes modes granted at =
-      let (f, there, rec) = found o who path r live tied at.set in
-      sets o who path r live tied at.set (TrapStop path user modes) Done refl (λ u k. refl) (λ u k. refl) granted (λ bytes long. refl)
-      (λ v reels new dump known free unjam behind.
-      calls_go_by_step.traps v reels o new dump who (TrapStop path user modes) path user at.number f r 0 known refl there (named_in o who path r live tied at.set f rec v) at.user_is at.within
-      (record_of o who path r live tied at.set f rec) (name_in (TrapStop path user modes) at v)
-      (subst (λ (q : FileRec). r.traps ≡ with_modes q.traps q.owner at.number (modes_by (TrapStop path user modes) (modes_of q.traps q.owner at.number))) (sym rec) at.traps) free unjam behind)
+  closes modes = traps_by (TrapStop path user modes) refl (λ u k. refl) (λ u k. refl) refl (λ bytes long. refl)
 
 -- of the records of the filestore
 pub trapped_on : (o : OnlineFacts) (us : List UserRec) (fs : List FileRec) (who : List ℕ) (path : Path) (user : List ℕ) (call : StoreCall) (r : FileRec) → us ≡ o.contents.users → fs ≡ recs_in o.contents

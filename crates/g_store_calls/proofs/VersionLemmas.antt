@@ -66,6 +66,7 @@ use Rattle.g_store_calls.proofs.CalmLemmas.{leads_same}
 use Rattle.g_store_calls.proofs.MarkLemmas.{has_first, only_grow}
 use Rattle.g_store_calls.proofs.RoomSteps.{step_full, step_roomy, step_stopped}
 use Rattle.g_store_calls.proofs.SeenLemmas.{stands}
+use Rattle.g_store_calls.proofs.RecordLemmas.{devices_hold}
 
 -- WHAT A VIEW SAYS OF THE CALL: the plain step grants it, it needs so many blocks, and waits for no reel
 pub record IsMet (v : View) (reels : List Reel) (o : OnlineFacts) (dump : Option DumpFacts) (who : List ℕ) (call : StoreCall) (blocks : ℕ) : Type 0 where
@@ -391,14 +392,7 @@ module _ (s : StoreFacts) (new : OnlineFacts) (full : Full) (bytes : List ℕ) (
           → Leads u s (record s { online = new; rack = after; spent = true }) who call (Err Stopped)
       leads_by w x blocks held holds_x right left =
           let end = state_down w reels new.disc.size (Some x) in
-          let devices : DevicesStandFor new.disc.size new.disc.held reels end = record {
-            view = w;
-            contents = Some x;
-            is = (blocks, held, holds_x, right);
-            none = λ no. absurd (true≢false no);
-            rack = right.rack;
-            state_is = refl;
-          } in
+          let devices = devices_hold new.disc.size new.disc.held reels end w x blocks held holds_x right refl in
           record {
             after = end;
             left = reads_keep_state (record s { online = new; spent = true }) after end only (stands_spent new s.dump end s.rack devices);
